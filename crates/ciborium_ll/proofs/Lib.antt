@@ -1,0 +1,4 @@
+pub mod Empty
+pub mod Pulling
+pub mod Shortest
+pub mod TitleLaws

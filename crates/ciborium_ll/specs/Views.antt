@@ -1,0 +1,52 @@
+-- What a clause sees of a decoder, an encoder and the devices.
+use Rattle.std.specs.Prelude.{ℕ, ◌-◌, List, Option, length, take}
+use denote.MutBor.{MutBor}
+use Rattle.ciborium_ll.specs.declared.hdr.Header.{Header}
+use Rattle.ciborium_ll.specs.declared.dec.Decoder.{Decoder}
+use Rattle.ciborium_ll.specs.declared.enc.Encoder.{Encoder}
+use Rattle.ciborium_ll.specs.declared.mem.Mem.{Mem}
+use Rattle.ciborium_ll.specs.declared.adapters.Io.{Io}
+use Rattle.ciborium_ll.specs.Reading.{due, place}
+
+-- the bytes to come, with the shortest title of a header that waits
+abbrev pub left_of : {R : Type 0} → (R → Option (List ℕ)) → Decoder R → Option (List ℕ)
+left_of left d = due (left d.reader) d.waiting
+
+-- the place of the next title
+abbrev pub offset_of : {R : Type 0} → Decoder R → ℕ
+offset_of d = place d.read d.waiting
+
+-- the header that waits
+abbrev pub waiting_of : {R : Type 0} → Decoder R → Option Header
+waiting_of d = d.waiting
+
+abbrev pub reader_of : {R : Type 0} → Decoder R → R
+reader_of d = d.reader
+
+abbrev pub writer_of : {W : Type 0} → Encoder W → W
+writer_of e = e.writer
+
+-- the memory that is written to
+abbrev pub memory_of : {T : Type 0} → Mem T → T
+memory_of m = m.inner
+
+-- how many bytes of a slice were written
+abbrev pub taken_of : {T : Type 0} → Mem T → ℕ
+taken_of m = m.len
+
+abbrev pub memory_failures : {T : Type 0} → Mem T → ℕ
+memory_failures m = m.failed.total
+
+-- what was written of a slice, and how many bytes it has room for
+abbrev pub filled_of : Mem (MutBor (List ℕ)) → List ℕ
+filled_of m = take m.len m.inner.now
+
+abbrev pub room_of : Mem (MutBor (List ℕ)) → ℕ
+room_of m = length m.inner.now - m.len
+
+-- the reader or writer of std
+abbrev pub device_of : {T : Type 0} → Io T → T
+device_of d = d.inner
+
+abbrev pub device_failures : {T : Type 0} → Io T → ℕ
+device_failures d = d.failed.total

@@ -1,0 +1,250 @@
+//! Reads heads and bytes.
+ghost use Rattle.std.specs.Prelude.{◌≡◌, ◌≢◌, ◌<◌, ◌≤◌, ◌+◌, ◌-◌, ◌^◌, ◌∷◌, [], ℕ, List, ⊤, OnOk, OnErr, IfOk, IfErr, IfSome, IfNone, is_some, length, slice_index_or};
+ghost use Rattle.std.specs.Io.KnownBytes.{Consumes, Keeps, prepend_known};
+ghost use Rattle.ciborium_ll.specs.Device.{IsShort};
+ghost use Rattle.ciborium_ll.specs.declared.hdr.Error.TheVariants.{Waiting};
+ghost use Rattle.ciborium_ll.specs.Title.{Title, NumberAt, title_of, first_byte, bytes_after, IsBadFirst};
+ghost use Rattle.ciborium_ll.specs.Reading.{Takes, Tells, RawFault, Ends, IsBadByte, failures, waiting_title, due, place};
+
+use crate::hdr::{Error, Float, Header};
+use crate::laws::header_fits;
+use crate::read::Read;
+
+/// Reads headers and bytes from a reader, and keeps the offset: how many bytes it has taken.
+///
+/// A header that was pushed back waits for the next `pull`. It counts as its shortest title in front of the bytes to come.
+#[derive(Drop)]
+pub struct Decoder<R> {
+    reader: R,
+    read: usize,
+    waiting: Option<Header>,
+    ghost within: { length (waiting_title waiting) ≤ read },
+    ghost fits: { read < 2 ^ 64 },
+}
+
+impl<R> From<R> for Decoder<R> {
+    ghost use Rattle.std.specs.Prelude.{◌≡◌, None};
+    ghost use Rattle.ciborium_ll.specs.Views.{reader_of, offset_of, waiting_of};
+
+    ghost from_gives = { λ reader d. (reader_of d ≡ reader) × (offset_of d ≡ 0) × (waiting_of d ≡ None) };
+
+    fn from(reader: R) -> Decoder<R> {
+        Decoder {
+            reader,
+            read: 0,
+            waiting: None,
+        }
+    }
+}
+
+impl<R: Read> Decoder<R> {
+    ghost use Rattle.ciborium_ll.specs.Views.{left_of, offset_of, waiting_of, reader_of};
+
+    fn fill(&mut self, data: &mut [u8]) -> Result<(), Error<R::Error>>
+        requires { self.old.waiting ≡ None }
+        ensures ok { OnOk result (Consumes (R.left self.old.reader) (R.left self.new.reader) «data».new) }
+        ensures bytes { (i : ℕ) → slice_index_or «data».new i 0 < 256 }
+        ensures grown { OnOk result (self.new.read ≡ self.old.read + length «data».old) }
+        ensures fault { IfErr result (Tells R.ends (IsShort (R.left self.old.reader) (length «data».old)) (λ p. ⊥) (2 ^ 64 ≤ self.old.read + length «data».old)) }
+        ensures one { IfErr result (Tells R.ends (length «data».old ≡ 1 → Keeps (R.left self.old.reader) (R.left self.new.reader)) (λ p. ⊥) ⊤) }
+        ensures place { OnErr result (self.new.read ≡ self.old.read) }
+        ensures failed { R.failed self.new.reader ≡ failures R.ends result (R.failed self.old.reader) }
+        ensures kept { R.handle self.new.reader ≡ R.handle self.old.reader }
+        ensures fresh { self.new.waiting ≡ None }
+    {
+        if usize::MAX - self.read < data.len() {
+            return Err(Error::TooLong);
+        }
+        match self.reader.read_exact(data) {
+            Ok(()) => {
+                self.read += data.len();
+                Ok(())
+            }
+            Err(e) => Err(Error::Io(e)),
+        }
+    }
+
+    fn number(&mut self, info: u8) -> Result<u64, Error<R::Error>>
+        requires small { info < 28 }
+        requires fresh { self.old.waiting ≡ None }
+        ensures ok { IfOk result (λ n. Takes (R.left self.old.reader) (R.left self.new.reader) self.old.read self.new.read (λ bytes. NumberAt info bytes n)) }
+        ensures fault { IfErr result (Tells R.ends (IsShort (R.left self.old.reader) (bytes_after info)) (λ p. ⊥) (2 ^ 64 ≤ self.old.read + 8)) }
+        ensures place { OnErr result (self.new.read ≡ self.old.read) }
+        ensures failed { R.failed self.new.reader ≡ failures R.ends result (R.failed self.old.reader) }
+        ensures kept { R.handle self.new.reader ≡ R.handle self.old.reader }
+        ensures fresh { self.new.waiting ≡ None }
+    {
+        match info {
+            24 => {
+                let mut bytes = [0; 1];
+                self.fill(&mut bytes)?;
+                let [n] = bytes;
+                Ok(u64::from(n))
+            }
+            25 => {
+                let mut bytes = [0; 2];
+                self.fill(&mut bytes)?;
+                Ok(u64::from(u16::from_be_bytes(bytes)))
+            }
+            26 => {
+                let mut bytes = [0; 4];
+                self.fill(&mut bytes)?;
+                Ok(u64::from(u32::from_be_bytes(bytes)))
+            }
+            27 => {
+                let mut bytes = [0; 8];
+                self.fill(&mut bytes)?;
+                Ok(u64::from_be_bytes(bytes))
+            }
+            _ => Ok(u64::from(info)),
+        }
+    }
+
+    /// Takes the next title, and gives its header (RFC 8949, section 3).
+    ///
+    /// # Errors
+    /// `Syntax` where the byte at the offset begins no title; that byte is taken. `Io` for a fault of the reader, an end of
+    /// the bytes among them: it takes what there was of the title. `TooLong` where the offset could pass `usize::MAX`.
+    pub fn pull(&mut self) -> Result<Header, Error<R::Error>>
+        ensures ok { IfOk result (λ h. Takes (left_of R.left self.old) (left_of R.left self.new) (offset_of self.old) (offset_of self.new)
+            (λ b. Title b h)) }
+        ensures fault { IfErr result (Tells R.ends
+            (Ends (left_of R.left self.old) (left_of R.left self.new) (offset_of self.old) (offset_of self.new))
+            (λ p. (p ≡ offset_of self.old) × Takes (left_of R.left self.old) (left_of R.left self.new) (offset_of self.old) (offset_of self.new) IsBadByte)
+            (2 ^ 64 ≤ offset_of self.old + 9)) }
+        ensures fits { offset_of self.new < 2 ^ 64 }
+        ensures failed { R.failed (reader_of self.new) ≡ failures R.ends result (R.failed (reader_of self.old)) }
+        ensures kept { R.handle (reader_of self.new) ≡ R.handle (reader_of self.old) }
+        ensures fresh { waiting_of self.new ≡ None }
+    {
+        if let Some(header) = self.waiting.take() {
+            header_fits(header);
+            return Ok(header);
+        }
+        self.pull_title()
+    }
+
+    /// Fills the buffer with the next bytes, and takes them.
+    ///
+    /// # Errors
+    /// `Waiting` exactly where a header waits, and then nothing has changed. `TooLong` before a read whose end would pass
+    /// `usize::MAX`. `Io` for a fault of the reader; an end comes only where fewer bytes are left than the buffer holds.
+    pub fn read_exact(&mut self, data: &mut [u8]) -> Result<(), Error<R::Error>>
+        ensures ok { OnOk result (Consumes (left_of R.left self.old) (left_of R.left self.new) «data».new) }
+        ensures bytes { (i : ℕ) → slice_index_or «data».new i 0 < 256 }
+        ensures grown { OnOk result (offset_of self.new ≡ offset_of self.old + length «data».old) }
+        ensures fault { IfErr result (RawFault R.ends (IsShort (left_of R.left self.old) (length «data».old)) (2 ^ 64 ≤ offset_of self.old + length «data».old)
+            ((waiting_of self.old ≢ None) × (waiting_of self.new ≡ waiting_of self.old) × (reader_of self.new ≡ reader_of self.old) × («data».new ≡ «data».old))) }
+        ensures waiting { waiting_of self.old ≢ None → result ≡ Err Waiting }
+        ensures place { OnErr result (offset_of self.new ≡ offset_of self.old) }
+        ensures fits { offset_of self.new < 2 ^ 64 }
+        ensures failed { R.failed (reader_of self.new) ≡ failures R.ends result (R.failed (reader_of self.old)) }
+        ensures kept { R.handle (reader_of self.new) ≡ R.handle (reader_of self.old) }
+        ensures fresh { waiting_of self.old ≡ None → waiting_of self.new ≡ None }
+    {
+        if self.waiting.is_some() {
+            return Err(Error::Waiting);
+        }
+        self.fill(data)
+    }
+
+    /// Puts a header back; the next `pull` gives it. The offset goes back by its shortest title.
+    pub fn push(&mut self, header: Header)
+        requires fresh { waiting_of self.old ≡ None }
+        requires within { length (title_of header) ≤ offset_of self.old }
+        ensures waiting { waiting_of self.new ≡ Some header }
+        ensures reader { reader_of self.new ≡ reader_of self.old }
+        ensures left { left_of R.left self.new ≡ prepend_known (title_of header) (left_of R.left self.old) }
+        ensures offset { offset_of self.new + length (title_of header) ≡ offset_of self.old }
+    {
+        self.waiting = Some(header);
+    }
+
+    /// Whether a header waits.
+    pub fn is_waiting(&self) -> bool
+        ensures { result ≡ is_some (waiting_of self.now) }
+    {
+        self.waiting.is_some()
+    }
+
+    /// How many bytes were taken: the place of the next title.
+    pub fn offset(&self) -> usize
+        ensures { result ≡ offset_of self.now }
+    {
+        match self.waiting {
+            None => self.read,
+            Some(header) => self.read - header.title_len(),
+        }
+    }
+
+    fn pull_title(&mut self) -> Result<Header, Error<R::Error>>
+        requires { self.old.waiting ≡ None }
+        ensures ok { IfOk result (λ h. Takes (R.left self.old.reader) (R.left self.new.reader) self.old.read self.new.read (λ b. Title b h)) }
+        ensures fault { IfErr result (Tells R.ends
+            (Ends (R.left self.old.reader) (R.left self.new.reader) self.old.read self.new.read)
+            (λ p. (p ≡ self.old.read) × Takes (R.left self.old.reader) (R.left self.new.reader) self.old.read self.new.read IsBadByte)
+            (2 ^ 64 ≤ self.old.read + 9)) }
+        ensures failed { R.failed self.new.reader ≡ failures R.ends result (R.failed self.old.reader) }
+        ensures kept { R.handle self.new.reader ≡ R.handle self.old.reader }
+        ensures fresh { self.new.waiting ≡ None }
+    {
+        let start = self.read;
+        let mut first = [0; 1];
+        self.fill(&mut first)?;
+        let [first] = first;
+        let major = first / 32;
+        let info = first % 32;
+        if info > 27 {
+            return match without_number(major, info) {
+                Some(header) => Ok(header),
+                None => Err(Error::Syntax(start)),
+            };
+        }
+        let n = self.number(info)?;
+        Ok(with_number(major, info, n))
+    }
+}
+
+/// The header of a title with no number, where there is one.
+fn without_number(major: u8, info: u8) -> Option<Header>
+    requires major { major < 8 }
+    requires info { (28 ≤ info) × (info < 32) }
+    ensures some { IfSome result (λ h. Title (first_byte major info ∷ []) h) }
+    ensures none { IfNone result (IsBadFirst (first_byte major info)) }
+{
+    if info < 31 {
+        return None;
+    }
+    match major {
+        2 => Some(Header::Bytes(None)),
+        3 => Some(Header::Text(None)),
+        4 => Some(Header::Array(None)),
+        5 => Some(Header::Map(None)),
+        7 => Some(Header::Break),
+        _ => None,
+    }
+}
+
+/// The header of a title with a number.
+fn with_number(major: u8, info: u8, n: u64) -> Header
+    requires major { major < 8 }
+    requires info { info < 28 }
+    requires number { (bytes : List ℕ) × NumberAt info bytes n }
+    ensures { (bytes : List ℕ) → NumberAt info bytes n → Title (first_byte major info ∷ bytes) result }
+{
+    match major {
+        0 => Header::Positive(n),
+        1 => Header::Negative(n),
+        2 => Header::Bytes(Some(n as usize)),
+        3 => Header::Text(Some(n as usize)),
+        4 => Header::Array(Some(n as usize)),
+        5 => Header::Map(Some(n as usize)),
+        6 => Header::Tag(n),
+        _ => match info {
+            25 => Header::Float(Float::Half(n as u16)),
+            26 => Header::Float(Float::Single(n as u32)),
+            27 => Header::Float(Float::Double(n)),
+            _ => Header::Simple(n as u8),
+        },
+    }
+}

@@ -1,0 +1,52 @@
+//! Facts about values, for proofs. The calls do nothing at run time.
+ghost use Rattle.std.specs.Prelude.{◌≡◌, ◌++◌, ℕ, List};
+ghost use Rattle.ciborium_ll.specs.Title.{FitsHeader, FitsLen, Title, title_of, IsCut, StartsBad};
+ghost use Rattle.ciborium_ll.specs.declared.hdr.Header.{Header};
+
+use crate::hdr::{Float, Header};
+
+/// Each number of a header lies in its type's range.
+pub fn header_fits(header: Header)
+    ensures { FitsHeader header }
+{
+    match header {
+        Header::Positive(_n) => {}
+        Header::Negative(_n) => {}
+        Header::Bytes(len) => len_fits(len),
+        Header::Text(len) => len_fits(len),
+        Header::Array(len) => len_fits(len),
+        Header::Map(len) => len_fits(len),
+        Header::Tag(_n) => {}
+        Header::Simple(_n) => {}
+        Header::Float(Float::Half(_n)) => {}
+        Header::Float(Float::Single(_n)) => {}
+        Header::Float(Float::Double(_n)) => {}
+        Header::Break => {}
+    }
+}
+
+fn len_fits(len: Option<usize>)
+    ensures { FitsLen len }
+{
+    match len {
+        Some(_n) => {}
+        None => {}
+    }
+}
+
+/// No title begins another, and one title gives one header.
+pub fn one_title()
+    ensures { (a b x y : List ℕ) (h k : Header) → Title a h → Title b k → a ++ x ≡ b ++ y → (a ≡ b) × (h ≡ k) }
+{}
+
+/// Bytes that a title begins are not cut inside it, and do not begin badly.
+pub fn one_outcome()
+    ensures cut { (b rest : List ℕ) (h : Header) → Title b h → IsCut (b ++ rest) → ⊥ }
+    ensures bad { (b rest : List ℕ) (h : Header) → Title b h → StartsBad (b ++ rest) → ⊥ }
+{}
+
+/// The shortest title of a header is read as that header, whatever follows.
+pub fn read_again()
+    ensures title { (h : Header) → FitsHeader h → Title (title_of h) h }
+    ensures only { (h k : Header) (b x y : List ℕ) → FitsHeader h → Title b k → title_of h ++ x ≡ b ++ y → (k ≡ h) × (y ≡ x) }
+{}

@@ -1,0 +1,93 @@
+//! What bytes are read from.
+ghost use Rattle.std.specs.Prelude.{◌≡◌, ◌<◌, ℕ, List, length, Bool, true, Some, OnOk, IfErr, IsTrue};
+ghost use Rattle.std.specs.Io.KnownBytes.{Keeps, Consumes};
+ghost use Rattle.ciborium_ll.specs.Device.{IsShort, read_failures};
+ghost use Rattle.std.specs.declared.option.Option.{Option};
+
+/// A source of bytes.
+///
+/// `left` are the bytes to come; a file or a pipe doesn't tell them, and then the clauses that name them say nothing.
+/// `failed` counts the failures; it stands in contracts alone. An end of the bytes is no failure.
+pub trait Read {
+    /// Why bytes were not read.
+    type Error: Drop;
+
+    /// The bytes to come, where they are known.
+    ghost left: { Self → Option (List ℕ) };
+
+    /// How often it has failed.
+    ghost failed: { Self → ℕ };
+
+    /// Whether a fault is an end of the bytes.
+    ghost ends: { Self.Error → Bool };
+
+    /// Which reference it is, where it is one: a reader that is lent comes back as itself.
+    ghost handle: { Self → ℕ } = { λ _. 0 };
+
+    /// Fills the buffer with the next bytes, and takes them.
+    ///
+    /// # Errors
+    /// An end only where fewer bytes are left than the buffer holds; an end that a buffer of one byte meets takes nothing.
+    /// Any other fault is a failure of the device. After a fault it is open which bytes are left.
+    fn read_exact(&mut self, data: &mut [u8]) -> Result<(), Self::Error>
+        ensures ok { OnOk result (Consumes (left self.old) (left self.new) «data».new) }
+        ensures end { IfErr result (λ e. IsTrue (ends e) → IsShort (left self.old) (length «data».old)) }
+        ensures one { IfErr result (λ e. IsTrue (ends e) → length «data».old ≡ 1 → Keeps (left self.old) (left self.new)) }
+        ensures kept { handle self.new ≡ handle self.old }
+        ensures failed { failed self.new ≡ read_failures ends result (failed self.old) };
+
+    /// Whether the fault is an end of the bytes.
+    fn is_end(error: &Self::Error) -> bool
+        ensures { result ≡ ends error.now };
+}
+
+/// A slice has no more bytes.
+#[derive(Debug, Clone, Copy, PartialEq, Eq, Drop)]
+pub struct End;
+
+impl Read for &[u8] {
+    type Error = End;
+
+    ghost left = { λ s. Some s.now };
+
+    ghost failed = { λ _. 0 };
+
+    ghost ends = { λ _. true };
+
+    fn read_exact(&mut self, data: &mut [u8]) -> Result<(), End> {
+        let all: &[u8] = *self;
+        if all.len() < data.len() {
+            return Err(End);
+        }
+        let (front, rest) = all.split_at(data.len());
+        data.copy_from_slice(front);
+        *self = rest;
+        Ok(())
+    }
+
+    fn is_end(_error: &End) -> bool
+        ensures { result ≡ true }
+    {
+        true
+    }
+}
+
+impl<R: Read> Read for &mut R {
+    type Error = R::Error;
+
+    ghost left = { λ r. R.left r.now };
+
+    ghost failed = { λ r. R.failed r.now };
+
+    ghost ends = { R.ends };
+
+    ghost handle = { λ r. r.ghost_name };
+
+    fn read_exact(&mut self, data: &mut [u8]) -> Result<(), R::Error> {
+        (**self).read_exact(data)
+    }
+
+    fn is_end(error: &R::Error) -> bool {
+        R::is_end(error)
+    }
+}

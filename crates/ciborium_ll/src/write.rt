@@ -1,0 +1,60 @@
+//! What bytes are written to.
+ghost use Rattle.std.specs.Prelude.{◌≡◌, ℕ, List, OnOk, OnErr};
+ghost use Rattle.std.specs.Io.KnownBytes.{Keeps, Appends};
+ghost use Rattle.ciborium_ll.specs.Device.{AppendsFront, write_failures};
+ghost use Rattle.std.specs.declared.option.Option.{Option};
+
+/// A sink of bytes.
+///
+/// `written` are the bytes that it has taken; a file or a pipe doesn't tell them, and then the clauses that name them say
+/// nothing. `failed` counts the failures; it stands in contracts alone.
+pub trait Write {
+    /// Why bytes were not written.
+    type Error: Drop;
+
+    /// The bytes that were written, where they are known.
+    ghost written: { Self → Option (List ℕ) };
+
+    /// How often it has failed.
+    ghost failed: { Self → ℕ };
+
+    /// Which reference it is, where it is one: a writer that is lent comes back as itself.
+    ghost handle: { Self → ℕ } = { λ _. 0 };
+
+    /// Writes all of the data.
+    ///
+    /// # Errors
+    /// Each `Err` is a failure. A beginning of the data was written then.
+    fn write_all(&mut self, data: &[u8]) -> Result<(), Self::Error>
+        ensures ok { OnOk result (Appends (written self.old) (written self.new) «data».now) }
+        ensures err { OnErr result (AppendsFront (written self.old) (written self.new) «data».now) }
+        ensures kept { handle self.new ≡ handle self.old }
+        ensures failed { failed self.new ≡ write_failures result (failed self.old) };
+
+    /// Hands on what the writer holds back. What counts as written stays as it is.
+    ///
+    /// # Errors
+    /// Each `Err` is a failure.
+    fn flush(&mut self) -> Result<(), Self::Error>
+        ensures same { Keeps (written self.old) (written self.new) }
+        ensures kept { handle self.new ≡ handle self.old }
+        ensures failed { failed self.new ≡ write_failures result (failed self.old) };
+}
+
+impl<W: Write> Write for &mut W {
+    type Error = W::Error;
+
+    ghost written = { λ w. W.written w.now };
+
+    ghost failed = { λ w. W.failed w.now };
+
+    ghost handle = { λ w. w.ghost_name };
+
+    fn write_all(&mut self, data: &[u8]) -> Result<(), W::Error> {
+        (**self).write_all(data)
+    }
+
+    fn flush(&mut self) -> Result<(), W::Error> {
+        (**self).flush()
+    }
+}
