@@ -1,0 +1,4 @@
+pub mod Encoding
+pub mod Folding
+pub mod Tree
+pub mod View

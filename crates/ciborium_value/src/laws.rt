@@ -1,0 +1,1 @@
+//! Laws of the definitions, as contracts of calls that do nothing.

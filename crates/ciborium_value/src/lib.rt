@@ -1,0 +1,13 @@
+//! Values of CBOR (RFC 8949): items as users hold them, bignum tags folded.
+#![tactic(auto)]
+
+mod fold;
+mod integer;
+mod kind;
+pub mod laws;
+mod value;
+
+pub use crate::fold::fold_tag;
+pub use crate::integer::Integer;
+pub use crate::kind::Kind;
+pub use crate::value::Value;
