@@ -1,0 +1,184 @@
+-- Arrays, maps and tags that are read, and faults among their children.
+use Rattle.std.proofs.Common.{◌≡◌, ◌≢◌, ◌≤◌, ◌<◌, ◌+◌, ◌-◌, ◌*◌, ◌%◌, ◌^◌, ◌⊎◌, inl, inr, ℕ, suc, max, Bool, true, false, cond, List, [], ◌∷◌, ◌++◌, length, Option, None, Some, refl, sym, ap, subst, ◌∙◌, arith, append_assoc, nat_eq, ◌&&◌, ◌||◌, MatchBool}
+use Rattle.std.specs.Option.{option_map, option_and_then}
+use Rattle.std.proofs.lemmas.Bool.Decides.{nat_tests}
+use Rattle.std.proofs.lemmas.Bool.{false≢true}
+use Rattle.ciborium_ll.specs.Reading.{Takes}
+use Rattle.ciborium_ll.specs.declared.hdr.Header.{Header}
+use Rattle.ciborium_ll.specs.declared.hdr.Header.TheVariants.{Simple, Tag, Break, Bytes, Text, Array, Map}
+use Rattle.ciborium_ll.specs.Title.{Title, IsCut, StartsBad}
+use Rattle.ciborium_ll.proofs.TitleLaws.{not_cut, not_bad}
+use Rattle.ciborium.specs.declared.de.Error.{Error}
+use Rattle.ciborium.specs.declared.de.Error.TheVariants as code
+use Rattle.ciborium_value.specs.Tree.{Tree, array, bytes, tag, Trees, no_trees, one_more, Pairs, no_pairs, pair_more, flat, tree_count, pair_count, depth, depth_all, depth_pairs, opens_none}
+use Rattle.ciborium.specs.Spelling.{Spells, SpellsAll, SpellsPairs}
+use Rattle.ciborium_value.specs.Tree as spec
+use Rattle.ciborium.specs.Meaning.{meaning, meanings, pair_meanings}
+use Rattle.ciborium.specs.Damage.{Fault, end, deep, syntax, semantic, Damage, in_title, too_deep, in_child, TitleDamage, Due}
+use Rattle.ciborium.specs.Front.{Reads, ReadsAll, Fronts}
+use Rattle.ciborium_ll.specs.Title.{Begins}
+use Rattle.ciborium.specs.Reading.{Fails, EndPlace, IsLong, FailsAt, FailsBehind, Known, ReadsBehind, ChildrenBehind, ChildDamage, is_full, FitsIn}
+use Rattle.ciborium.proofs.Once.{append_nil, title_once, break_title}
+use Rattle.ciborium.proofs.Taking.{fails_as, fails_behind, takes_then, takes_as}
+use Rattle.ciborium.proofs.ReadLemmas.{meanings_parts, behind_rest, snoc}
+
+-- a fault behind a title that was taken, which it tells
+abbrev pub Begun : Header → (ℕ → List ℕ → Fault → Type 0) → ℕ → List ℕ → Fault → Type 0
+Begun h D stop b f = ((r : List ℕ) × Begins b h r) × D stop b f
+
+pub fails_begun : {E : Type 0} (ends : E → Bool) (l₀ l₁ : Option (List ℕ)) (o₀ o₁ o₂ : ℕ) (h : Header) (D : ℕ → List ℕ → Fault → Type 0) (e : Error E)
+    → Takes l₀ l₁ o₀ o₁ (λ (b : List ℕ). Title b h) → FailsBehind ends h o₀ o₁ l₁ o₂ D e → Known l₀ (λ b. FailsAt ends b o₀ o₂ (Begun h D) e)
+fails_begun ends None l₁ o₀ o₁ o₂ h D e t w = tt
+fails_begun ends (Some b) None o₀ o₁ o₂ h D e t w = absurd t.taken
+fails_begun ends (Some b) (Some rest) o₀ o₁ o₂ h D e t w =
+    fails_as ends (EndPlace b o₀ o₂) (EndPlace b o₀ o₂) (D (o₀ + length b) b) (Begun h D (o₀ + length b) b) (IsLong o₀ b) (IsLong o₀ b) e (λ q. q) (λ f d. ((rest, record { title = t.bytes; is_title = t.has; whole = t.taken }), d)) (λ l. l)
+    (subst (λ (z : List ℕ). FailsAt ends z o₀ o₂ D e) (sym t.taken) (w t.bytes t.has (sym t.grown)))
+
+title_no_break : (stop : ℕ) (rest : List ℕ) (f : Fault) → TitleDamage stop rest f → (r : List ℕ) → rest ≢ 255 ∷ r
+title_no_break stop rest end d r e = not_cut (255 ∷ []) r Break break_title (subst IsCut e d)
+title_no_break stop rest deep d r e = d
+title_no_break stop rest (syntax p) d r e = not_bad (255 ∷ []) r Break break_title (subst StartsBad e d.0)
+title_no_break stop rest (semantic k) d r e = d
+
+begun_no_break : (h : Header) (rest q : List ℕ) → Begins rest h q → h ≢ Break → (r : List ℕ) → rest ≢ 255 ∷ r
+begun_no_break h rest q s not r e = not (title_once s.title (255 ∷ []) q r h Break s.is_title break_title (sym s.whole ∙ e)).0
+
+child : (h : Header) (limit stop : ℕ) (x rest : List ℕ) (vs : Trees) (f : Fault) → ReadsAll x limit vs → Due h (tree_count vs) rest → Damage stop rest limit f → ChildDamage h limit stop (x ++ rest) f
+child h limit stop x rest vs f p due d = record { done = vs; rest = rest; fronts = record { spelling = x; whole = refl; reads = p }; due = due; damage = d }
+
+-- the next title is damaged
+pub child_title_fails : {E : Type 0} (ends : E → Bool) (l₀ l₁ : Option (List ℕ)) (o₀ o₁ o₂ limit : ℕ) (vs : Trees) (h : Header) (e : Error E) → Takes l₀ l₁ o₀ o₁ (λ (b : List ℕ). ReadsAll b limit vs)
+    → ((rest : List ℕ) → ((r : List ℕ) → rest ≢ 255 ∷ r) → Due h (tree_count vs) rest) → Known l₁ (λ b. FailsAt ends b o₁ o₂ TitleDamage e)
+    → Known l₀ (λ b. FailsAt ends b o₀ o₂ (ChildDamage h limit) e)
+child_title_fails ends l₀ l₁ o₀ o₁ o₂ limit vs h e t due w =
+    fails_behind ends l₀ l₁ o₀ o₁ o₂ _ TitleDamage (ChildDamage h limit) e t (λ stop x rest f p d. child h limit stop x rest vs f p (due rest (title_no_break stop rest f d)) (in_title rest limit f d)) w
+
+-- the next item is damaged
+pub child_item_fails : {E : Type 0} (ends : E → Bool) (l₀ l₁ l₂ : Option (List ℕ)) (o₀ o₁ o₂ o₃ limit at : ℕ) (vs : Trees) (h k : Header) (e : Error E) → Takes l₀ l₁ o₀ o₁ (λ (b : List ℕ). ReadsAll b limit vs)
+    → Takes l₁ l₂ o₁ o₂ (λ (b : List ℕ). Title b k) → at ≡ o₁ → ((rest : List ℕ) → ((r : List ℕ) → k ≢ Break → rest ≢ 255 ∷ r) → Due h (tree_count vs) rest)
+    → FailsBehind ends k at o₂ l₂ o₃ (λ stop b f. Damage stop b limit f) e → Known l₀ (λ b. FailsAt ends b o₀ o₃ (ChildDamage h limit) e)
+child_item_fails ends l₀ l₁ l₂ o₀ o₁ o₂ o₃ limit at vs h k e t u same due w =
+    fails_behind ends l₀ l₁ o₀ o₁ o₃ (λ (b : List ℕ). ReadsAll b limit vs) (Begun k (λ stop b f. Damage stop b limit f)) (ChildDamage h limit) e t (λ stop x rest f p d. child h limit stop x rest vs f p (due rest (λ r not. begun_no_break k rest d.0.0 d.0.1 not r)) d.1)
+    (fails_begun ends l₁ l₂ o₁ o₂ o₃ k (λ stop b f. Damage stop b limit f) e u (subst (λ (z : ℕ). FailsBehind ends k z o₂ l₂ o₃ (λ stop b f. Damage stop b limit f) e) same w))
+
+-- whether one more is due
+not_all : (n d : ℕ) → nat_eq n d ≡ false → d ≤ n → d < n
+not_all n d e l = grind (arith, nat_tests)
+
+pub array_due : (o : Option ℕ) (vs : Trees) (d : ℕ) (rest : List ℕ) → tree_count vs ≡ d → FitsIn o d → is_full o d ≡ false → (o ≡ None → (r : List ℕ) → rest ≢ 255 ∷ r) → Due (Array o) (tree_count vs) rest
+array_due (Some n) vs d rest c few full b = let l = not_all n d full few in omega arith
+array_due None vs d rest c few full b = b refl
+
+pub map_due : (o : Option ℕ) (vs : Trees) (d : ℕ) (rest : List ℕ) → tree_count vs ≡ 2 * d → FitsIn o d → is_full o d ≡ false → (o ≡ None → (r : List ℕ) → rest ≢ 255 ∷ r) → Due (Map o) (tree_count vs) rest
+map_due (Some n) vs d rest c few full b = let l = not_all n d full few in omega arith
+map_due None vs d rest c few full b = inr (b refl)
+
+pub value_due : (o : Option ℕ) (vs : Trees) (d : ℕ) (rest : List ℕ) → tree_count vs ≡ 2 * d + 1 → FitsIn o d → is_full o d ≡ false → Due (Map o) (tree_count vs) rest
+value_due (Some n) vs d rest c few full = let l = not_all n d full few in omega arith
+value_due None vs d rest c few full = inl (omega arith)
+
+pub fits_more : (o : Option ℕ) (d : ℕ) → FitsIn o d → is_full o d ≡ false → FitsIn o (d + 1)
+fits_more (Some n) d few full = let l = not_all n d full few in omega arith
+fits_more None d few full = tt
+
+pub fits_none : (o : Option ℕ) → FitsIn o 0
+fits_none (Some n) = omega arith
+fits_none None = tt
+
+-- all children are there
+all_is : (n d : ℕ) → nat_eq n d ≡ true → n ≡ d
+all_is n d e = grind (arith, nat_tests)
+
+pub children_full : (o : Option ℕ) (d limit : ℕ) (vs : Trees) (inner : List ℕ) → is_full o d ≡ true → ReadsAll inner limit vs → ChildrenBehind o d limit vs inner
+children_full (Some n) d limit vs inner e p = (all_is n d e, p)
+children_full None d limit vs inner e p = absurd (false≢true e)
+
+pub children_closed : (o : Option ℕ) (d limit : ℕ) (vs : Trees) (x y : List ℕ) (h : Header) → (o ≡ None) × (h ≡ Break) → ReadsAll x limit vs → Title y h → ChildrenBehind o d limit vs (x ++ y)
+children_closed (Some n) d limit vs x y h e p t = let f : Some n ≡ None = e.0 in cc
+children_closed None d limit vs x y h e p t = let s : Title y Break = subst (λ (z : Header). Title y z) e.1 t in (x, p, ap (λ z. x ++ z) s)
+
+-- an array from its children
+all_count : (ts vs : Trees) → meanings ts ≡ Some vs → tree_count ts ≡ tree_count vs
+all_count no_trees vs e = let f : no_trees ≡ vs = cc in ap tree_count f
+all_count (one_more t ts) vs e = let w = meanings_parts t ts vs e in let h = all_count ts w.1 w.3 in let k : tree_count vs ≡ 1 + tree_count w.1 = ap tree_count w.4 in omega arith
+
+pub array_read : (o : Option ℕ) (d limit : ℕ) (v : Tree) (vs : Trees) (inner : List ℕ) → v ≡ array vs → tree_count vs ≡ d → 0 < limit → ChildrenBehind o d (limit - 1) vs inner → ReadsBehind (Array o) limit v inner
+array_read (Some n) d limit v vs inner e c l p title t = record {
+  tree = array p.1.trees;
+  spells = inl (title, inner, subst (λ (z : ℕ). Title title (Array (Some z))) (p.0 ∙ sym c ∙ sym (all_count p.1.trees vs p.1.means)) t, p.1.spells, refl);
+  shallow = let h = p.1.shallow in omega arith;
+  means = ap (option_map array) p.1.means ∙ ap Some (sym e);
+}
+array_read None d limit v vs inner e c l p title t = record {
+  tree = array p.1.trees;
+  spells = inr (title, p.0, t, p.1.spells, ap (λ z. title ++ z) p.2);
+  shallow = let h = p.1.shallow in omega arith;
+  means = ap (option_map array) p.1.means ∙ ap Some (sym e);
+}
+
+-- pairs from their keys and values in order
+record Paired (ts : Trees) (ps : Pairs) : Type 0 where
+  pub pairs : Pairs
+  pub flat_is : ts ≡ flat pairs
+  pub means : pair_meanings pairs ≡ Some ps
+
+pub pairs_made : (k v a b : Tree) (qs ps : Pairs) → meaning k ≡ Some a → meaning v ≡ Some b → pair_meanings qs ≡ Some ps → pair_meanings (pair_more k v qs) ≡ Some (pair_more a b ps)
+pairs_made k v a b qs ps x y z =
+    ap (option_and_then (λ a. option_and_then (λ b. option_map (pair_more a b) (pair_meanings qs)) (meaning v))) x ∙ ap (option_and_then (λ b. option_map (pair_more a b) (pair_meanings qs))) y ∙ ap (option_map (pair_more a b)) z
+
+paired : (ts : Trees) (ps : Pairs) → meanings ts ≡ Some (flat ps) → Paired ts ps
+paired no_trees no_pairs e = record { pairs = no_pairs; flat_is = refl; means = refl }
+paired no_trees (pair_more k v ps) e = let f : no_trees ≡ one_more k (one_more v (flat ps)) = cc in cc
+paired (one_more t ts) no_pairs e = let w = meanings_parts t ts no_trees e in let f = w.4 in cc
+paired (one_more t no_trees) (pair_more k v ps) e =
+    let w = meanings_parts t no_trees (flat (pair_more k v ps)) e in
+    let f : no_trees ≡ w.1 = let g = w.3 in cc in let h : one_more k (one_more v (flat ps)) ≡ one_more w.0 w.1 = w.4 in cc
+paired (one_more t (one_more s ts)) (pair_more k v ps) e =
+    let w = meanings_parts t (one_more s ts) (flat (pair_more k v ps)) e in
+    let h : one_more k (one_more v (flat ps)) ≡ one_more w.0 w.1 = w.4 in
+    let h0 : w.0 ≡ k = cc in
+    let h1 : w.1 ≡ one_more v (flat ps) = cc in
+    let x = meanings_parts s ts w.1 w.3 in
+    let i : one_more v (flat ps) ≡ one_more x.0 x.1 = sym h1 ∙ x.4 in
+    let i0 : x.0 ≡ v = cc in
+    let i1 : x.1 ≡ flat ps = cc in
+    let r = paired ts ps (x.3 ∙ ap Some i1) in
+    record { pairs = pair_more t s r.pairs; flat_is = ap (λ z. one_more t (one_more s z)) r.flat_is; means = pairs_made t s k v r.pairs ps (w.2 ∙ ap Some h0) (x.2 ∙ ap Some i0) r.means }
+
+unflat_spells : (qs : Pairs) (b : List ℕ) → SpellsAll b (flat qs) → SpellsPairs b qs
+unflat_spells no_pairs b p = p
+unflat_spells (pair_more k v qs) b p =
+    (p.0, p.3.0, p.3.1, p.2, p.3.2, unflat_spells qs p.3.1 p.3.3, p.4 ∙ ap (λ z. p.0 ++ z) p.3.4)
+
+unflat_depth : (qs : Pairs) → depth_pairs qs ≡ depth_all (flat qs)
+unflat_depth no_pairs = refl
+unflat_depth (pair_more k v qs) = ap (λ z. max (depth k) (max (depth v) z)) (unflat_depth qs)
+
+flat_count : (qs : Pairs) → tree_count (flat qs) ≡ 2 * pair_count qs
+flat_count no_pairs = refl
+flat_count (pair_more k v qs) = let h = flat_count qs in omega arith
+
+pub map_read : (o : Option ℕ) (d limit : ℕ) (v : Tree) (ps : Pairs) (inner : List ℕ) → v ≡ spec.map ps → tree_count (flat ps) ≡ 2 * d → 0 < limit → ChildrenBehind o d (limit - 1) (flat ps) inner → ReadsBehind (Map o) limit v inner
+map_read (Some n) d limit v ps inner e c l p title t =
+    let q = paired p.1.trees ps p.1.means in
+    let count : n ≡ pair_count q.pairs = omega (arith, p.0, c, all_count p.1.trees (flat ps) p.1.means, ap tree_count q.flat_is, flat_count q.pairs) in
+    let deepest : depth_pairs q.pairs ≤ limit - 1 = omega (arith, p.1.shallow, ap depth_all q.flat_is, unflat_depth q.pairs) in
+    record {
+      tree = spec.map q.pairs;
+      spells = inl (title, inner, subst (λ (z : ℕ). Title title (Map (Some z))) count t, unflat_spells q.pairs inner (subst (λ (z : Trees). SpellsAll inner z) q.flat_is p.1.spells), refl);
+      shallow = omega arith;
+      means = ap (option_map spec.map) q.means ∙ ap Some (sym e);
+    }
+map_read None d limit v ps inner e c l p title t =
+    let q = paired p.1.trees ps p.1.means in
+    let deepest : depth_pairs q.pairs ≤ limit - 1 = omega (arith, p.1.shallow, ap depth_all q.flat_is, unflat_depth q.pairs) in
+    record {
+      tree = spec.map q.pairs;
+      spells = inr (title, p.0, t, unflat_spells q.pairs p.0 (subst (λ (z : Trees). SpellsAll p.0 z) q.flat_is p.1.spells), ap (λ z. title ++ z) p.2);
+      shallow = omega arith;
+      means = ap (option_map spec.map) q.means ∙ ap Some (sym e);
+    }
+
+pub children_fail : {E : Type 0} (ends : E → Bool) (h : Header) (at limit : ℕ) (l : Option (List ℕ)) (o o' : ℕ) (e : Error E) → 0 < limit
+    → Known l (λ b. FailsAt ends b o o' (ChildDamage h (limit - 1)) e) → FailsBehind ends h at o l o' (λ stop b f. Damage stop b limit f) e
+children_fail ends h at limit l o o' e low w = behind_rest ends h at l o o' (ChildDamage h (limit - 1)) _ e (λ stop b rest f s d. in_child b rest d.rest limit h d.done f s low d.fronts d.due d.damage) w

@@ -1,0 +1,150 @@
+-- Damaged bytes begin with no item.
+use Rattle.std.proofs.Common.{◌≡◌, ◌≢◌, ◌≤◌, ◌<◌, ◌+◌, ◌-◌, ◌*◌, ◌%◌, ◌⊎◌, inl, inr, ℕ, ℤ, suc, max, Bool, true, false, cond, List, [], ◌∷◌, ◌++◌, length, take, Option, None, Some, refl, sym, ap, subst, ◌∙◌, arith, append_assoc, length-append, nat_eq, ◌&&◌, ◌||◌}
+use Rattle.std.specs.Str.{IsUtf8}
+use Rattle.std.proofs.lemmas.List.{append_cancel_left}
+use Rattle.std.proofs.lemmas.Bool.Decides.{nat_tests}
+use Rattle.std.proofs.Math.Seq.{take-append_seam}
+use Rattle.ciborium_ll.specs.declared.hdr.Header.{Header}
+use Rattle.ciborium_ll.specs.declared.hdr.Header.TheVariants.{Simple, Tag, Break, Bytes, Text, Array, Map}
+use Rattle.ciborium_ll.specs.declared.hdr.Header.TheVariants as head
+use Rattle.ciborium_ll.specs.Title.{Title, IsCut, StartsBad}
+use Rattle.ciborium_ll.proofs.TitleLaws.{not_cut, not_bad}
+use Rattle.ciborium_value.specs.declared.kind.Kind.TheVariants as kind
+use Rattle.ciborium_value.specs.Tree.{Tree, integer, bytes, text, array, map, tag, simple, float, Trees, no_trees, one_more, Pairs, flat, tree_count, pair_count, depth, depth_all, depth_pairs, opens_none, is_bytes}
+use Rattle.ciborium_ll.specs.Framing.{joined, Frame, whole, cut, Frames, no_frames, frame_more, Any}
+use Rattle.ciborium.specs.Spelling.{Spells, SpellsAll, SpellsPairs}
+use Rattle.ciborium.specs.Meaning.{meaning, meanings, pair_meanings, simple_meaning}
+use Rattle.ciborium_value.specs.Folding.{tagged, fold_bytes}
+use Rattle.ciborium.specs.Damage.{Fault, end, deep, syntax, semantic, Never, Damage, in_title, in_bytes, in_text, unassigned, stray_break, too_negative, too_deep, in_child, in_tag, in_free, TitleDamage, ChunkDamage, OtherDamage, StringDamage, Due, IsFree, IsLevel, Opens}
+use Rattle.ciborium.specs.Front.{Reads, ReadsAll, Front, Fronts}
+use Rattle.ciborium_ll.specs.Title.{Begins}
+use Rattle.ciborium_ll.specs.Framing.{Opened, opened, deeper, Inside}
+use Rattle.ciborium.proofs.Once.{append_nil, title_once, break_title, split, regroup, first, once, frame_once, no_break, no_break_frame, head_kind, bytes_same, text_same, kind_0, kind_1}
+
+-- the frames that are left inside an open string
+record Closing (k : Option ℕ → Header) (P : List ℕ → Type 0) (rest : List ℕ) : Type 0 where
+  inner : List ℕ
+  behind : List ℕ
+  bodies : List (List ℕ)
+  frames : Frames k P inner bodies
+  is : rest ≡ inner ++ (255 ∷ behind)
+
+begins_once : (b r s : List ℕ) (h j : Header) → Begins b h r → Begins b j s → h ≡ j
+begins_once b r s h j p q = (title_once p.title q.title r s h j p.is_title q.is_title (sym p.whole ∙ q.whole)).0
+
+title_not : (stop : ℕ) (b r : List ℕ) (h : Header) (e : Fault) → Begins b h r → TitleDamage stop b e → ⊥
+title_not stop b r h end s d = not_cut s.title r h s.is_title (subst IsCut s.whole d)
+title_not stop b r h deep s d = d
+title_not stop b r h (syntax p) s d = not_bad s.title r h s.is_title (subst StartsBad s.whole d.0)
+title_not stop b r h (semantic j) s d = d
+
+module _ (k : Option ℕ → Header) (inj : (o p : Option ℕ) → k o ≡ k p → o ≡ p) (P : List ℕ → Type 0) (kind : ℕ) (kinds : (o : Option ℕ) → head_kind (k o) ≡ kind) (low : kind < 8) where
+  head_no : (o : Option ℕ) → head_kind (k o) ≡ head_kind Break → ⊥
+  unfolding head_kind
+  head_no o e = let h : head_kind (k o) ≡ kind = kinds o in omega arith
+
+  -- frames that were read are the first of those that are there
+  walk : (a b rest w : List ℕ) (xs ys : List (List ℕ)) → Frames k P a xs → Frames k P b ys → a ++ rest ≡ b ++ (255 ∷ w) → Closing k P rest
+  walk _ b rest w _ ys no_frames g e = record { inner = b; behind = w; bodies = ys; frames = g; is = e }
+  walk _ _ rest w _ _ (frame_more c d ps qs f fs) no_frames e = absurd (no_break_frame k inj P kind kinds low c (d ++ rest) w ps f (sym (append_assoc c d rest) ∙ e))
+  walk _ _ rest w _ _ (frame_more c d ps qs f fs) (frame_more c' d' ps' qs' g gs) e =
+      let e' : c ++ (d ++ rest) ≡ c' ++ (d' ++ (255 ∷ w)) = sym (append_assoc c d rest) ∙ e ∙ append_assoc c' d' (255 ∷ w) in
+      let h = frame_once k inj P kind kinds low c c' (d ++ rest) (d' ++ (255 ∷ w)) ps ps' f g e' in
+      walk d d' rest w qs qs' fs gs (append_cancel_left c (d ++ rest) (d' ++ (255 ∷ w)) (e' ∙ ap (λ z. z ++ (d' ++ (255 ∷ w))) (sym h.1)))
+
+  -- an open title begins a frame that is cut
+  into : (title inner rest b w : List ℕ) (xs ys : List (List ℕ)) → Title title (k None) → Frames k P inner xs → Frame k P b ys → title ++ (inner ++ rest) ≡ b ++ w → Closing k P rest
+  into title inner rest b w xs ys t fs (whole _ body s p has eb) e =
+      let v = split title b title s [] body (inner ++ rest) w (k None) (k (Some (length body))) t p (append_nil title) eb e in
+      let c : None ≡ Some (length body) = inj None (Some (length body)) v.heads in
+      cc
+  into title inner rest b w xs ys t fs (cut _ j s _ p gs eb) e =
+      let v = split title b title s [] (j ++ 255 ∷ []) (inner ++ rest) w (k None) (k None) t p (append_nil title) (eb ∙ append_assoc s j (255 ∷ [])) e in
+      walk inner j rest w xs ys fs gs (v.rests ∙ append_assoc j (255 ∷ []) w)
+
+  closing : (n : ℕ) (a rest b w : List ℕ) (xs ys : List (List ℕ)) → Opened k P n a xs → Frame k P b ys → a ++ rest ≡ b ++ w → Closing k P rest
+  closing _ _ rest b w _ ys (opened title inner xs t fs) g e = into title inner rest b w xs ys t fs g (sym (append_assoc title inner rest) ∙ e)
+  closing _ _ rest b w _ ys (deeper n a title inner xs zs o t fs) g e =
+      let c = closing n a (title ++ (inner ++ rest)) b w xs ys o g (ap (λ z. a ++ z) (sym (append_assoc title inner rest)) ∙ sym (append_assoc a (title ++ inner) rest) ∙ e) in
+      deepen title inner rest zs t fs c.inner c.behind c.bodies c.frames c.is
+    where
+      deepen : (title inner rest : List ℕ) (zs : List (List ℕ)) → Title title (k None) → Frames k P inner zs → (j u : List ℕ) (vs : List (List ℕ)) → Frames k P j vs → title ++ (inner ++ rest) ≡ j ++ (255 ∷ u) → Closing k P rest
+      deepen title inner rest zs t fs _ u _ no_frames e =
+          let v = split title (255 ∷ []) title (255 ∷ []) [] [] (inner ++ rest) u (k None) Break t break_title (append_nil title) refl e in
+          absurd (head_no None (ap head_kind v.heads))
+      deepen title inner rest zs t fs _ u _ (frame_more c d ps qs f gs) e = into title inner rest c (d ++ (255 ∷ u)) zs ps t fs f (e ∙ append_assoc c d (255 ∷ u))
+
+  -- what stands at a frame
+  begins_no_short : (b w rest : List ℕ) (n : ℕ) (ys : List (List ℕ)) → Frame k P b ys → Begins (b ++ w) (k (Some n)) rest → length rest < n → ⊥
+  begins_no_short b w rest n ys (whole _ body s p has eb) t l =
+      let v = split b (t.title ++ rest) s t.title body rest w [] (k (Some (length body))) (k (Some n)) p t.is_title eb refl (t.whole ∙ append_nil (t.title ++ rest)) in
+      let c : Some (length body) ≡ Some n = inj (Some (length body)) (Some n) v.heads in
+      let m : length body ≡ n = cc in
+      let r : body ++ w ≡ rest ++ [] = v.rests in
+      omega (arith, ap length r, length-append body w, length-append rest [])
+  begins_no_short b w rest n ys (cut _ j s _ p gs eb) t l =
+      let v = split b (t.title ++ rest) s t.title (j ++ 255 ∷ []) rest w [] (k None) (k (Some n)) p t.is_title (eb ∙ append_assoc s j (255 ∷ [])) refl (t.whole ∙ append_nil (t.title ++ rest)) in
+      let c : None ≡ Some n = inj None (Some n) v.heads in
+      cc
+
+  begins_no_never : (b w rest : List ℕ) (n : ℕ) (ys : List (List ℕ)) → Frame k P b ys → Begins (b ++ w) (k (Some n)) rest → Never P n rest → ⊥
+  begins_no_never b w rest n ys (whole _ body s p has eb) t never =
+      let v = split b (t.title ++ rest) s t.title body rest w [] (k (Some (length body))) (k (Some n)) p t.is_title eb refl (t.whole ∙ append_nil (t.title ++ rest)) in
+      let c : Some (length body) ≡ Some n = inj (Some (length body)) (Some n) v.heads in
+      let m : length body ≡ n = cc in
+      let r : rest ≡ body ++ w = append_nil rest ∙ sym v.rests in
+      let f : take n rest ++ [] ≡ body = sym (append_nil (take n rest)) ∙ ap (λ z. take z rest) (sym m) ∙ ap (take (length body)) r ∙ take-append_seam body w in
+      never [] (ap length f ∙ m) (subst P (sym f) has)
+  begins_no_never b w rest n ys (cut _ j s _ p gs eb) t never =
+      let v = split b (t.title ++ rest) s t.title (j ++ 255 ∷ []) rest w [] (k None) (k (Some n)) p t.is_title (eb ∙ append_assoc s j (255 ∷ [])) refl (t.whole ∙ append_nil (t.title ++ rest)) in
+      let c : None ≡ Some n = inj None (Some n) v.heads in
+      cc
+
+  frame_begins : (b w : List ℕ) (ys : List (List ℕ)) → Frame k P b ys → (o : Option ℕ) × (r : List ℕ) × Begins (b ++ w) (k o) r
+  frame_begins b w ys (whole _ body s p has eb) = (Some (length body), body ++ w, record { title = s; is_title = p; whole = regroup b s body w eb })
+  frame_begins b w ys (cut _ j s _ p gs eb) = (None, (j ++ 255 ∷ []) ++ w, record { title = s; is_title = p; whole = regroup b s (j ++ 255 ∷ []) w (eb ∙ append_assoc s j (255 ∷ [])) })
+
+  closing_begins : (rest : List ℕ) → Closing k P rest → ((r : List ℕ) × Begins rest Break r) ⊎ ((a u : List ℕ) × (ys : List (List ℕ)) × Frame k P a ys × (rest ≡ a ++ u))
+  closing_begins rest c = go c.inner c.bodies c.frames c.is
+    where
+      go : (j : List ℕ) (vs : List (List ℕ)) → Frames k P j vs → rest ≡ j ++ (255 ∷ c.behind) → ((r : List ℕ) × Begins rest Break r) ⊎ ((a u : List ℕ) × (ys : List (List ℕ)) × Frame k P a ys × (rest ≡ a ++ u))
+      go _ _ no_frames e = inl (c.behind, record { title = 255 ∷ []; is_title = break_title; whole = e })
+      go _ _ (frame_more a d ps qs f gs) e = inr (a, d ++ (255 ∷ c.behind), ps, f, e ∙ append_assoc a d (255 ∷ c.behind))
+
+  chunk_not : (stop : ℕ) (b w : List ℕ) (e : Fault) (ys : List (List ℕ)) → Frame k P b ys → ChunkDamage k P stop (b ++ w) e → ⊥
+  chunk_not stop b w end ys f d = begins_no_short b w d.1 d.0 ys f d.2 d.3
+  chunk_not stop b w deep ys f d = d
+  chunk_not stop b w (syntax p) ys f d = begins_no_never b w d.1 d.0 ys f d.2 d.3
+  chunk_not stop b w (semantic j) ys f d = d
+
+  chunk_no_break : (stop : ℕ) (b r : List ℕ) (e : Fault) → Begins b Break r → ChunkDamage k P stop b e → ⊥
+  chunk_no_break stop b r end s d = head_no (Some d.0) (ap head_kind (begins_once b d.1 r (k (Some d.0)) Break d.2 s))
+  chunk_no_break stop b r deep s d = d
+  chunk_no_break stop b r (syntax p) s d = head_no (Some d.0) (ap head_kind (begins_once b d.1 r (k (Some d.0)) Break d.2 s))
+  chunk_no_break stop b r (semantic j) s d = d
+
+  other_no_break : (stop : ℕ) (b r : List ℕ) (e : Fault) → Begins b Break r → OtherDamage k stop b e → ⊥
+  other_no_break stop b r end s d = d
+  other_no_break stop b r deep s d = d
+  other_no_break stop b r (syntax p) s d = d.3 (begins_once b d.1 r d.0 Break d.2 s)
+  other_no_break stop b r (semantic j) s d = d
+
+  other_not : (stop : ℕ) (b r : List ℕ) (o : Option ℕ) (e : Fault) → Begins b (k o) r → OtherDamage k stop b e → ⊥
+  other_not stop b r o end s d = d
+  other_not stop b r o deep s d = d
+  other_not stop b r o (syntax p) s d = d.4 o (begins_once b d.1 r d.0 (k o) d.2 s)
+  other_not stop b r o (semantic j) s d = d
+
+  -- damage of a string excludes its frame
+  pub string_not : (stop : ℕ) (b w : List ℕ) (e : Fault) (ys : List (List ℕ)) → Frame k P b ys → StringDamage k P stop (b ++ w) e → ⊥
+  string_not stop b w e ys f (inl d) = chunk_not stop b w e ys f d
+  string_not stop b w e ys f (inr (rest, i, d)) = go d (closing_begins rest (closing i.opens i.read rest b w i.bodies ys i.is f (sym i.whole)))
+    where
+      go : TitleDamage stop rest e ⊎ (ChunkDamage k P stop rest e ⊎ OtherDamage k stop rest e)
+          → ((r : List ℕ) × Begins rest Break r) ⊎ ((a u : List ℕ) × (ys : List (List ℕ)) × Frame k P a ys × (rest ≡ a ++ u)) → ⊥
+      go (inl d) (inl (r, s)) = title_not stop rest r Break e s d
+      go (inr (inl d)) (inl (r, s)) = chunk_no_break stop rest r e s d
+      go (inr (inr d)) (inl (r, s)) = other_no_break stop rest r e s d
+      go (inl d) (inr (a, u, zs, g, q)) = let m = frame_begins a u zs g in title_not stop (a ++ u) m.1 (k m.0) e m.2 (subst (λ (z : List ℕ). TitleDamage stop z e) q d)
+      go (inr (inl d)) (inr (a, u, zs, g, q)) = chunk_not stop a u e zs g (subst (λ (z : List ℕ). ChunkDamage k P stop z e) q d)
+      go (inr (inr d)) (inr (a, u, zs, g, q)) = let m = frame_begins a u zs g in other_not stop (a ++ u) m.1 m.0 e m.2 (subst (λ (z : List ℕ). OtherDamage k stop z e) q d)

@@ -1,0 +1,10 @@
+pub mod Once
+pub mod Taking
+pub mod StringLemmas
+pub mod ReadLemmas
+pub mod ChildLemmas
+pub mod TagLemmas
+pub mod Steps
+pub mod Texts
+pub mod Folded
+pub mod Exact

@@ -1,0 +1,180 @@
+-- The item behind a tag.
+use Rattle.std.proofs.Common.{◌≡◌, ◌≢◌, ◌≤◌, ◌<◌, ◌+◌, ◌-◌, ◌*◌, ◌^◌, ◌⊎◌, inl, inr, ℕ, suc, Bool, true, false, cond, List, [], ◌∷◌, ◌++◌, length, Option, None, Some, refl, sym, ap, subst, ◌∙◌, arith, append_assoc, nat_eq, nat_lt, nat_le, ◌&&◌, ◌||◌, ℤ}
+use Rattle.std.specs.Option.{option_map, option_and_then}
+use Rattle.std.proofs.lemmas.Bool.Decides.{nat_tests}
+use Rattle.ciborium_ll.specs.Reading.{Takes}
+use Rattle.ciborium_ll.specs.declared.hdr.Header.{Header}
+use Rattle.ciborium_ll.specs.declared.hdr.Header.TheVariants.{Tag, Bytes}
+use Rattle.ciborium_ll.specs.Title.{Title}
+use Rattle.ciborium.specs.declared.de.Error.{Error}
+use Rattle.ciborium.specs.declared.de.Error.TheVariants as code
+use Rattle.ciborium_value.specs.declared.kind.Kind.TheVariants as kind
+use Rattle.ciborium_value.specs.Tree.{Tree, integer, bytes, text, array, map, tag, simple, float, Trees, Pairs, depth, opens_none}
+use Rattle.ciborium_ll.specs.Framing.{Any, Frame, joined}
+use Rattle.ciborium.specs.Spelling.{Spells}
+use Rattle.ciborium.specs.Meaning.{meaning, meanings, pair_meanings, simple_meaning}
+use Rattle.ciborium_value.specs.Folding.{tagged, fold_bytes, fold_number, big_endian_from, without_zeros}
+use Rattle.ciborium.specs.Damage.{Fault, end, deep, syntax, semantic, Damage, in_title, in_bytes, too_negative, too_deep, in_tag, in_free, TitleDamage, StringDamage, IsFree, IsLevel}
+use Rattle.ciborium.specs.Front.{Reads}
+use Rattle.ciborium_ll.specs.Title.{Begins}
+use Rattle.ciborium.specs.Reading.{Fails, FailsAt, FailsBehind, Known, string_head, IsBody, StringBehind, ReadsBehind, TaggedBehind, TagDamage}
+use Rattle.ciborium_value.specs.Folding.{IsTooNegative}
+use Rattle.ciborium.proofs.Taking.{fails_as, takes_then}
+use Rattle.ciborium.proofs.ReadLemmas.{behind_rest}
+use Rattle.ciborium.proofs.ChildLemmas.{Begun, fails_begun}
+
+pub tag_read : (n limit : ℕ) (c v : Tree) (inner : List ℕ) → TaggedBehind n limit c inner → tagged n c ≡ Some v → ReadsBehind (Tag n) limit v inner
+tag_read n limit c v inner p e title t = record {
+  tree = tag n p.tree;
+  spells = (title, inner, t, p.spells, refl);
+  shallow = p.shallow;
+  means = ap (option_and_then (tagged n)) p.means ∙ e;
+}
+
+cond_below : (c : Bool) (a b n : ℕ) → a ≤ n → b ≤ n → cond c a b ≤ n
+cond_below true a b n p q = p
+cond_below false a b n p q = q
+
+pub tag_level : (n limit : ℕ) (v : Tree) (b : List ℕ) → 0 < limit → Reads b (limit - 1) v → TaggedBehind n limit v b
+tag_level n limit v b l r = record {
+  tree = r.tree;
+  spells = r.spells;
+  shallow = let h : depth r.tree ≤ limit - 1 = r.shallow in cond_below (opens_none n r.tree) 0 (suc (depth r.tree)) limit (omega arith) (omega arith);
+  means = r.means;
+}
+
+free_depth : (n limit : ℕ) (x : List ℕ) → (n ≡ 2) ⊎ (n ≡ 3) → depth (tag n (bytes x)) ≤ limit
+free_depth n limit x (inl e) = subst (λ (z : ℕ). depth (tag z (bytes x)) ≤ limit) (sym e) (omega arith)
+free_depth n limit x (inr e) = subst (λ (z : ℕ). depth (tag z (bytes x)) ≤ limit) (sym e) (omega arith)
+
+pub tag_bytes : (n limit : ℕ) (o : Option ℕ) (h : Header) (v : Tree) (items x y : List ℕ) → (n ≡ 2) ⊎ (n ≡ 3) → h ≡ Bytes o → v ≡ bytes items → Title x h → StringBehind false o items y → TaggedBehind n limit v (x ++ y)
+tag_bytes n limit o h v items x y which is e t s = record {
+  tree = bytes items;
+  spells = (s.bodies, s.frame x (subst (λ (z : Header). Title x z) is t), s.is);
+  shallow = free_depth n limit items which;
+  means = ap Some (sym e);
+}
+
+known_as : {E : Type 0} (ends : E → Bool) (l : Option (List ℕ)) (o o' : ℕ) (D D' : ℕ → List ℕ → Fault → Type 0) (e : Error E)
+    → ((stop : ℕ) (b : List ℕ) (f : Fault) → D stop b f → D' stop b f) → Known l (λ b. FailsAt ends b o o' D e) → Known l (λ b. FailsAt ends b o o' D' e)
+known_as ends None o o' D D' e step w = tt
+known_as ends (Some b) o o' D D' e step w = fails_as ends _ _ _ _ _ _ e (λ q. q) (step (o + length b) b) (λ l. l) w
+
+-- any other tag
+pub plain_deep : {E : Type 0} (ends : E → Bool) (n limit : ℕ) (l : Option (List ℕ)) (o : ℕ) → (n ≢ 2) × (n ≢ 3) → limit ≡ 0 → Known l (λ b. FailsAt {E = E} ends b o o (TagDamage n limit) code.RecursionLimitExceeded)
+plain_deep ends n limit None o p e = tt
+plain_deep ends n limit (Some b) o p e = inr (inl (inl p, e, refl))
+
+pub plain_title : {E : Type 0} (ends : E → Bool) (n limit : ℕ) (l : Option (List ℕ)) (o o' : ℕ) (e : Error E) → (n ≢ 2) × (n ≢ 3) → 0 < limit → Known l (λ b. FailsAt ends b o o' TitleDamage e) → Known l (λ b. FailsAt ends b o o' (TagDamage n limit) e)
+plain_title ends n limit l o o' e p low w = known_as ends l o o' TitleDamage (TagDamage n limit) e (λ stop b f d. inr (inr (inl p, low, in_title b (limit - 1) f d))) w
+
+pub plain_item : {E : Type 0} (ends : E → Bool) (n limit at : ℕ) (h : Header) (l₀ l₁ : Option (List ℕ)) (o₀ o₁ o₂ : ℕ) (e : Error E) → (n ≢ 2) × (n ≢ 3) → 0 < limit → Takes l₀ l₁ o₀ o₁ (λ (b : List ℕ). Title b h) → at ≡ o₀
+    → FailsBehind ends h at o₁ l₁ o₂ (λ stop b f. Damage stop b (limit - 1) f) e → Known l₀ (λ b. FailsAt ends b o₀ o₂ (TagDamage n limit) e)
+plain_item ends n limit at h l₀ l₁ o₀ o₁ o₂ e p low t same w =
+    known_as ends l₀ o₀ o₂ (Begun h (λ stop b f. Damage stop b (limit - 1) f)) (TagDamage n limit) e (λ stop b f d. inr (inr (inl p, low, d.1)))
+    (fails_begun ends l₀ l₁ o₀ o₁ o₂ h (λ stop b f. Damage stop b (limit - 1) f) e t (subst (λ (z : ℕ). FailsBehind ends h z o₁ l₁ o₂ (λ stop b f. Damage stop b (limit - 1) f) e) same w))
+
+-- a tag 2 or 3
+title_free : (n stop : ℕ) (b : List ℕ) (f : Fault) → (n ≡ 2) ⊎ (n ≡ 3) → TitleDamage stop b f → IsFree n b
+title_free n stop b end which d = (which, inr (inl d))
+title_free n stop b deep which d = absurd d
+title_free n stop b (syntax p) which d = (which, inr (inr d.0))
+title_free n stop b (semantic k) which d = absurd d
+
+pub free_title : {E : Type 0} (ends : E → Bool) (n limit : ℕ) (l : Option (List ℕ)) (o o' : ℕ) (e : Error E) → (n ≡ 2) ⊎ (n ≡ 3) → Known l (λ b. FailsAt ends b o o' TitleDamage e) → Known l (λ b. FailsAt ends b o o' (TagDamage n limit) e)
+free_title ends n limit l o o' e which w = known_as ends l o o' TitleDamage (TagDamage n limit) e (λ stop b f d. inl (title_free n stop b f which d, in_title b limit f d)) w
+
+pub free_string : {E : Type 0} (ends : E → Bool) (n limit at : ℕ) (k : Option ℕ) (h : Header) (l₀ l₁ : Option (List ℕ)) (o₀ o₁ o₂ : ℕ) (e : Error E) → (n ≡ 2) ⊎ (n ≡ 3) → h ≡ Bytes k → Takes l₀ l₁ o₀ o₁ (λ (b : List ℕ). Title b h) → at ≡ o₀
+    → FailsBehind ends (string_head false k) at o₁ l₁ o₂ (StringDamage (string_head false) (IsBody false)) e → Known l₀ (λ b. FailsAt ends b o₀ o₂ (TagDamage n limit) e)
+free_string ends n limit at k h l₀ l₁ o₀ o₁ o₂ e which is t same w =
+    known_as ends l₀ o₀ o₂ (Begun (Bytes k) (StringDamage (string_head false) (IsBody false))) (TagDamage n limit) e (λ stop b f d. inl ((which, inl (k, d.0.0, d.0.1)), in_bytes b limit f d.1))
+    (fails_begun ends l₀ l₁ o₀ o₁ o₂ (Bytes k) (StringDamage (string_head false) (IsBody false)) e (subst (λ (z : Header). Takes l₀ l₁ o₀ o₁ (λ (b : List ℕ). Title b z)) is t)
+    (subst (λ (z : ℕ). FailsBehind ends (Bytes k) z o₁ l₁ o₂ (StringDamage (string_head false) (IsBody false)) e) same w))
+
+pub level_deep : {E : Type 0} (ends : E → Bool) (n limit : ℕ) (h : Header) (l₀ l₁ : Option (List ℕ)) (o₀ o₁ : ℕ) → ((o : Option ℕ) → h ≢ Bytes o) → limit ≡ 0 → Takes l₀ l₁ o₀ o₁ (λ (b : List ℕ). Title b h)
+    → Known l₀ (λ b. FailsAt {E = E} ends b o₀ o₁ (TagDamage n limit) code.RecursionLimitExceeded)
+level_deep ends n limit h None l₁ o₀ o₁ not e t = tt
+level_deep ends n limit h (Some b) None o₀ o₁ not e t = absurd t.taken
+level_deep ends n limit h (Some b) (Some rest) o₀ o₁ not e t = inr (inl (inr (h, rest, record { title = t.bytes; is_title = t.has; whole = t.taken }, not), e, refl))
+
+pub level_item : {E : Type 0} (ends : E → Bool) (n limit at : ℕ) (h : Header) (l₀ l₁ : Option (List ℕ)) (o₀ o₁ o₂ : ℕ) (e : Error E) → ((o : Option ℕ) → h ≢ Bytes o) → 0 < limit → Takes l₀ l₁ o₀ o₁ (λ (b : List ℕ). Title b h) → at ≡ o₀
+    → FailsBehind ends h at o₁ l₁ o₂ (λ stop b f. Damage stop b (limit - 1) f) e → Known l₀ (λ b. FailsAt ends b o₀ o₂ (TagDamage n limit) e)
+level_item ends n limit at h l₀ l₁ o₀ o₁ o₂ e not low t same w =
+    known_as ends l₀ o₀ o₂ (Begun h (λ stop b f. Damage stop b (limit - 1) f)) (TagDamage n limit) e (λ stop b f d. inr (inr (inr (h, d.0.0, d.0.1, not), low, d.1)))
+    (fails_begun ends l₀ l₁ o₀ o₁ o₂ h (λ stop b f. Damage stop b (limit - 1) f) e t (subst (λ (z : ℕ). FailsBehind ends h z o₁ l₁ o₂ (λ stop b f. Damage stop b (limit - 1) f) e) same w))
+
+-- a fault behind the tag is one of the item
+tag_damage : (n limit stop : ℕ) (b rest : List ℕ) (f : Fault) → Begins b (Tag n) rest → TagDamage n limit stop rest f → Damage stop b limit f
+tag_damage n limit stop b rest f s (inl (free, d)) = in_free b rest limit n f s free d
+tag_damage n limit stop b rest f s (inr (inl (lv, e, g))) = subst (λ (z : Fault). Damage stop b limit z) (sym g) (subst (λ (z : ℕ). Damage stop b z deep) (sym e) (too_deep b rest (Tag n) s lv))
+tag_damage n limit stop b rest f s (inr (inr (lv, low, d))) = in_tag b rest limit n f s low lv d
+
+pub tag_fails : {E : Type 0} (ends : E → Bool) (n at limit : ℕ) (l : Option (List ℕ)) (o o' : ℕ) (e : Error E) → Known l (λ b. FailsAt ends b o o' (TagDamage n limit) e) → FailsBehind ends (Tag n) at o l o' (λ stop b f. Damage stop b limit f) e
+tag_fails ends n at limit l o o' e w = behind_rest ends (Tag n) at l o o' (TagDamage n limit) _ e (λ stop b rest f s d. tag_damage n limit stop b rest f s d) w
+
+-- only bytes mean bytes
+cond_not : (c : Bool) (x y z : Option Tree) → x ≢ z → y ≢ z → cond c x y ≢ z
+cond_not true x y z p q = p
+cond_not false x y z p q = q
+
+int_no : (i : ℤ) (x : List ℕ) → Some (integer i) ≢ Some (bytes x)
+int_no i x e = cc
+
+tag_no : (n : ℕ) (t : Tree) (x : List ℕ) → Some (tag n t) ≢ Some (bytes x)
+tag_no n t x e = cc
+
+none_no : (x : List ℕ) → None ≢ Some (bytes x)
+none_no x e = cc
+
+simple_no : (n : ℕ) (x : List ℕ) → Some (simple n) ≢ Some (bytes x)
+simple_no n x e = cc
+
+fold_not : (n : ℕ) (b x : List ℕ) → fold_bytes n b ≢ Some (bytes x)
+fold_not n b x = cond_not _ _ _ _ (cond_not _ _ _ _ (int_no _ x) (cond_not _ _ _ _ (none_no x) (tag_no _ _ x))) (tag_no _ _ x)
+
+tagged_not : (n : ℕ) (u : Tree) (x : List ℕ) → tagged n u ≢ Some (bytes x)
+tagged_not n (bytes b) x = cond_not _ _ _ _ (fold_not n b x) (tag_no _ _ x)
+tagged_not n (integer i) x = tag_no _ _ x
+tagged_not n (text b) x = tag_no _ _ x
+tagged_not n (array ts) x = tag_no _ _ x
+tagged_not n (map ps) x = tag_no _ _ x
+tagged_not n (tag m t) x = tag_no _ _ x
+tagged_not n (simple m) x = tag_no _ _ x
+tagged_not n (float f) x = tag_no _ _ x
+
+array_no : (a : Trees) (x : List ℕ) → array a ≢ bytes x
+array_no a x e = cc
+
+map_no : (a : Pairs) (x : List ℕ) → map a ≢ bytes x
+map_no a x e = cc
+
+map_not : {A : Type 0} (f : A → Tree) (m : Option A) (x : List ℕ) → ((a : A) → f a ≢ bytes x) → option_map f m ≢ Some (bytes x)
+map_not f None x p e = none_no x e
+map_not f (Some a) x p e = p a (let g : f a ≡ bytes x = cc in g)
+
+then_not : (n : ℕ) (m : Option Tree) (x : List ℕ) → option_and_then (tagged n) m ≢ Some (bytes x)
+then_not n None x = none_no x
+then_not n (Some u) x = tagged_not n u x
+
+bytes_meant : (t : Tree) (x : List ℕ) → meaning t ≡ Some (bytes x) → t ≡ bytes x
+bytes_meant (bytes b) x e = cc
+bytes_meant (integer i) x e = cc
+bytes_meant (text b) x e = cc
+bytes_meant (array ts) x e = absurd (map_not array (meanings ts) x (λ a f. array_no a x f) e)
+bytes_meant (map ps) x e = absurd (map_not map (pair_meanings ps) x (λ a f. map_no a x f) e)
+bytes_meant (tag n t) x e = absurd (then_not n (meaning t) x e)
+bytes_meant (simple n) x e = absurd (cond_not (nat_eq n 23) (Some (simple 22)) (cond (nat_le 20 n && nat_le n 22) (Some (simple n)) None) (Some (bytes x)) (simple_no _ x) (cond_not _ _ _ _ (simple_no _ x) (none_no x)) e)
+bytes_meant (float f) x e = cc
+
+pub negative_fails : {E : Type 0} (ends : E → Bool) (n at limit : ℕ) (c : Tree) (l₀ l₁ : Option (List ℕ)) (o₀ o₁ : ℕ) → IsTooNegative n c → Takes l₀ l₁ o₀ o₁ (λ (b : List ℕ). TaggedBehind n limit c b)
+    → FailsBehind {E = E} ends (Tag n) at o₀ l₀ o₁ (λ stop b f. Damage stop b limit f) (code.Semantic None kind.BigNegative)
+negative_fails ends n at limit c None l₁ o₀ o₁ w t title u g = tt
+negative_fails ends n at limit c (Some b) None o₀ o₁ w t title u g = absurd t.taken
+negative_fails ends n at limit c (Some b) (Some rest) o₀ o₁ (three, x, is, none) t title u g =
+    let p = t.has in
+    let e : p.tree ≡ bytes x = bytes_meant p.tree x (p.means ∙ ap Some is) in
+    let s : Spells t.bytes (bytes x) = subst (λ (z : Tree). Spells t.bytes z) e p.spells in (
+      refl,
+      too_negative (title ++ b) b t.bytes rest limit s.0 (record { title = title; is_title = subst (λ (z : ℕ). Title title (Tag z)) three u; whole = refl }) s.1 t.taken
+          (subst (λ (z : List ℕ). fold_bytes 3 z ≡ None) s.2 none),
+    )

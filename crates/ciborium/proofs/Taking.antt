@@ -1,0 +1,126 @@
+-- Parts that are taken one after another, and faults behind them.
+use Rattle.std.proofs.Common.{◌≡◌, ◌≤◌, ◌<◌, ◌+◌, ◌^◌, ℕ, Bool, true, false, List, [], ◌∷◌, ◌++◌, length, Option, None, Some, refl, sym, ap, subst, ◌∙◌, arith, append_assoc, length-append}
+use Rattle.std.specs.Prelude.{IsTrue, ⊤, min}
+use Rattle.std.specs.Io.KnownBytes.{Consumes, Keeps}
+use Rattle.std.proofs.KnownBytes.{Consumes-trans, Consumes-nil}
+use Rattle.ciborium_ll.specs.Reading.{Takes, Tells, Ends, IsBadByte}
+use Rattle.ciborium_ll.specs.Device.{IsShort}
+use Rattle.ciborium_ll.specs.declared.hdr.Header.{Header}
+use Rattle.ciborium_ll.specs.declared.hdr.Error.{Error as HeadError}
+use Rattle.ciborium_ll.specs.declared.hdr.Error.TheVariants as below
+use Rattle.ciborium_ll.specs.Title.{Title, IsCut, StartsBad, IsBadFirst}
+use Rattle.ciborium.specs.declared.de.Error.{Error}
+use Rattle.ciborium.specs.declared.de.Error.TheVariants as code
+use Rattle.ciborium.specs.Damage.{Fault, end, deep, syntax, semantic, TitleDamage}
+use Rattle.ciborium.specs.Reading.{Fails, FailsAt, FailsBehind, EndPlace, Known, IsLong, ShortBy, lifted}
+
+pub takes_then : (l₀ l₁ l₂ : Option (List ℕ)) (o₀ o₁ o₂ : ℕ) (P Q S : List ℕ → Type 0) → Takes l₀ l₁ o₀ o₁ P → Takes l₁ l₂ o₁ o₂ Q
+    → ((x y : List ℕ) → P x → Q y → S (x ++ y)) → Takes l₀ l₂ o₀ o₂ S
+takes_then l₀ l₁ l₂ o₀ o₁ o₂ P Q S p q f = record {
+  bytes = p.bytes ++ q.bytes;
+  has = f p.bytes q.bytes p.has q.has;
+  taken = Consumes-trans l₀ l₁ l₂ p.bytes q.bytes p.taken q.taken;
+  grown = omega (arith, p.grown, q.grown, length-append p.bytes q.bytes);
+}
+
+pub takes_as : (l₀ l₁ : Option (List ℕ)) (o₀ o₁ : ℕ) (P S : List ℕ → Type 0) → Takes l₀ l₁ o₀ o₁ P → ((x : List ℕ) → P x → S x) → Takes l₀ l₁ o₀ o₁ S
+takes_as l₀ l₁ o₀ o₁ P S p f = record { bytes = p.bytes; has = f p.bytes p.has; taken = p.taken; grown = p.grown }
+
+pub takes_none : (l : Option (List ℕ)) (o : ℕ) (P : List ℕ → Type 0) → P [] → Takes l l o o P
+takes_none l o P p = record { bytes = []; has = p; taken = go l; grown = omega arith }
+  where
+    go : (l : Option (List ℕ)) → Consumes l l []
+    go None = tt
+    go (Some xs) = refl
+
+pub fails_as : {E : Type 0} (ends : E → Bool) (Q Q' : Type 0) (D D' : Fault → Type 0) (long long' : Type 0) (e : Error E)
+    → (Q → Q') → ((f : Fault) → D f → D' f) → (long → long') → Fails ends Q D long e → Fails ends Q' D' long' e
+fails_as ends Q Q' D D' long long' (code.Io e) q d l p = λ t. let w = p t in (d end w.0, q w.1)
+fails_as ends Q Q' D D' long long' (code.Syntax p) q d l w = d (syntax p) w
+fails_as ends Q Q' D D' long long' (code.Semantic o k) q d l w = (w.0, d (semantic k) w.1)
+fails_as ends Q Q' D D' long long' code.RecursionLimitExceeded q d l w = d deep w
+fails_as ends Q Q' D D' long long' code.Memory q d l w = tt
+fails_as ends Q Q' D D' long long' code.TooLong q d l w = l w
+
+place_grown : (rest : List ℕ) (o₁ o₂ : ℕ) → EndPlace rest o₁ o₂ → o₁ ≤ o₂
+place_grown [] o₁ o₂ e = omega arith
+place_grown (x ∷ xs) o₁ o₂ e = omega arith
+
+place_behind : (x rest : List ℕ) (o₀ o₁ o₂ : ℕ) → o₁ ≡ o₀ + length x → EndPlace rest o₁ o₂ → EndPlace (x ++ rest) o₀ o₂
+place_behind [] [] o₀ o₁ o₂ g e = omega arith
+place_behind [] (y ∷ ys) o₀ o₁ o₂ g e = omega arith
+place_behind (x ∷ xs) rest o₀ o₁ o₂ g e = let h : o₁ ≤ o₂ = place_grown rest o₁ o₂ e in let k : o₁ ≡ o₀ + length (x ∷ xs) = g in omega arith
+
+stop_same : (x rest : List ℕ) (o₀ o₁ : ℕ) → o₁ ≡ o₀ + length x → o₁ + length rest ≡ o₀ + length (x ++ rest)
+stop_same x rest o₀ o₁ g = omega (arith, length-append x rest)
+
+pub fails_over : {E : Type 0} (ends : E → Bool) (x rest : List ℕ) (o₀ o₁ o₂ : ℕ) (D D' : ℕ → List ℕ → Fault → Type 0) (e : Error E) → o₁ ≡ o₀ + length x
+    → ((stop : ℕ) (f : Fault) → D stop rest f → D' stop (x ++ rest) f) → FailsAt ends rest o₁ o₂ D e → FailsAt ends (x ++ rest) o₀ o₂ D' e
+fails_over ends x rest o₀ o₁ o₂ D D' e g step w =
+    let s = stop_same x rest o₀ o₁ g in
+    fails_as ends _ _ _ _ _ _ e (place_behind x rest o₀ o₁ o₂ g) (λ f d. subst (λ (z : ℕ). D' z (x ++ rest) f) s (step (o₁ + length rest) f d)) (λ l. omega arith) w
+
+-- a fault behind what was taken is a fault of the whole
+pub fails_behind : {E : Type 0} (ends : E → Bool) (l₀ l₁ : Option (List ℕ)) (o₀ o₁ o₂ : ℕ) (P : List ℕ → Type 0) (D D' : ℕ → List ℕ → Fault → Type 0) (e : Error E)
+    → Takes l₀ l₁ o₀ o₁ P → ((stop : ℕ) (x rest : List ℕ) (f : Fault) → P x → D stop rest f → D' stop (x ++ rest) f)
+    → Known l₁ (λ b. FailsAt ends b o₁ o₂ D e) → Known l₀ (λ b. FailsAt ends b o₀ o₂ D' e)
+fails_behind ends None l₁ o₀ o₁ o₂ P D D' e t step w = tt
+fails_behind ends (Some b) None o₀ o₁ o₂ P D D' e t step w = absurd t.taken
+fails_behind ends (Some b) (Some rest) o₀ o₁ o₂ P D D' e t step w =
+    subst (λ (z : List ℕ). FailsAt ends z o₀ o₂ D' e) (sym t.taken) (fails_over ends t.bytes rest o₀ o₁ o₂ D D' e t.grown (λ stop f d. step stop t.bytes rest f t.has d) w)
+
+-- the same behind a title that was taken
+pub fails_titled : {E : Type 0} (ends : E → Bool) (l₀ l₁ : Option (List ℕ)) (o₀ o₁ o₂ : ℕ) (h : Header) (D : ℕ → List ℕ → Fault → Type 0) (e : Error E)
+    → Takes l₀ l₁ o₀ o₁ (λ (b : List ℕ). Title b h) → FailsBehind ends h o₀ o₁ l₁ o₂ D e → Known l₀ (λ b. FailsAt ends b o₀ o₂ D e)
+fails_titled ends None l₁ o₀ o₁ o₂ h D e t w = tt
+fails_titled ends (Some b) None o₀ o₁ o₂ h D e t w = absurd t.taken
+fails_titled ends (Some b) (Some rest) o₀ o₁ o₂ h D e t w =
+    subst (λ (z : List ℕ). FailsAt ends z o₀ o₂ D e) (sym t.taken) (w t.bytes t.has (sym t.grown))
+
+-- what a fault of `pull` tells
+pub fails_pull : {E : Type 0} (ends : E → Bool) (l₀ l₁ : Option (List ℕ)) (o₀ o₁ : ℕ) (e : HeadError E) (f : Error E) → f ≡ lifted e
+    → Tells ends (Ends l₀ l₁ o₀ o₁) (λ p. (p ≡ o₀) × Takes l₀ l₁ o₀ o₁ IsBadByte) (2 ^ 64 ≤ o₀ + 9) e → Known l₀ (λ b. FailsAt ends b o₀ o₁ TitleDamage f)
+fails_pull ends None l₁ o₀ o₁ e f i w = tt
+fails_pull ends (Some b) l₁ o₀ o₁ e f i w = subst (λ (z : Error _). FailsAt ends b o₀ o₁ TitleDamage z) (sym i) (go b l₁ e w)
+  where
+    ended : (b : List ℕ) (l₁ : Option (List ℕ)) → Ends (Some b) l₁ o₀ o₁ → IsCut b × EndPlace b o₀ o₁
+    ended [] l₁ w = (w.0, omega arith)
+    ended (x ∷ xs) l₁ w = let k : o₁ ≡ o₀ + min 1 (length (x ∷ xs)) = w.1 in (w.0, omega arith)
+
+    bad : (b : List ℕ) (l₁ : Option (List ℕ)) → Takes (Some b) l₁ o₀ o₁ IsBadByte → StartsBad b
+    bad b None t = absurd t.taken
+    bad b (Some r) t = let h = t.has in subst StartsBad (sym (t.taken ∙ ap (λ z. z ++ r) h.1)) h.2
+
+    go : (b : List ℕ) (l₁ : Option (List ℕ)) (e : HeadError _) → Tells ends (Ends (Some b) l₁ o₀ o₁) (λ p. (p ≡ o₀) × Takes (Some b) l₁ o₀ o₁ IsBadByte) (2 ^ 64 ≤ o₀ + 9) e → FailsAt ends b o₀ o₁ TitleDamage (lifted e)
+    go b l₁ (below.Io e) w = λ t. ended b l₁ (w t)
+    go b l₁ (below.Syntax p) w = (bad b l₁ w.1, ap (λ z. z + length b) w.0)
+    go b l₁ below.TooLong w = omega arith
+    go b l₁ below.Waiting w = absurd w
+
+-- too few bytes behind some that were taken
+pub short_behind : {E : Type 0} (ends : E → Bool) (l₀ l₁ l₂ : Option (List ℕ)) (o₀ o₁ o₂ n got m : ℕ) (P : List ℕ → Type 0) (e : HeadError E) (f : Error E) → f ≡ lifted e
+    → Takes l₀ l₁ o₀ o₁ P → ((x : List ℕ) → P x → length x ≡ got) → got + m ≤ n → m ≤ 4096 → o₂ ≡ o₁
+    → Tells ends (IsShort l₁ m) (λ p. ⊥) (2 ^ 64 ≤ o₁ + m) e → Known l₀ (λ b. Fails ends (o₀ ≤ o₂) (ShortBy n (o₀ + length b) b) (IsLong o₀ b) f)
+short_behind ends None l₁ l₂ o₀ o₁ o₂ n got m P e f i t len le few same w = tt
+short_behind ends (Some b) None l₂ o₀ o₁ o₂ n got m P e f i t len le few same w = absurd t.taken
+short_behind ends (Some b) (Some rest) l₂ o₀ o₁ o₂ n got m P e f i t len le few same w =
+    subst (λ (z : Error _). Fails ends (o₀ ≤ o₂) (ShortBy n (o₀ + length b) b) (IsLong o₀ b) z) (sym i) (go e w)
+  where
+    total : length b ≡ got + length rest
+    total = ap length t.taken ∙ length-append t.bytes rest ∙ ap (λ z. z + length rest) (len t.bytes t.has)
+
+    grew : o₁ ≡ o₀ + got
+    grew = t.grown ∙ ap (λ z. o₀ + z) (len t.bytes t.has)
+
+    go : (e : HeadError _) → Tells ends (IsShort (Some rest) m) (λ p. ⊥) (2 ^ 64 ≤ o₁ + m) e → Fails ends (o₀ ≤ o₂) (ShortBy n (o₀ + length b) b) (IsLong o₀ b) (lifted e)
+    go (below.Io e) w = λ t. let s : length rest < m = w t in let u = total in let v = grew in (omega arith, omega arith)
+    go (below.Syntax p) w = absurd w
+    go below.TooLong w = let u = total in let v = grew in omega arith
+    go below.Waiting w = absurd w
+
+-- the faults behind a title, from those of the whole with any such title in front
+pub behind_title : {E : Type 0} (ends : E → Bool) (h : Header) (at : ℕ) (l : Option (List ℕ)) (o o' : ℕ) (D : ℕ → List ℕ → Fault → Type 0) (e : Error E)
+    → ((title : List ℕ) → Title title h → Known l (λ b. FailsAt ends b o o' (λ stop b f. D stop (title ++ b) f) e)) → FailsBehind ends h at o l o' D e
+behind_title ends h at None o o' D e w title t g = tt
+behind_title ends h at (Some b) o o' D e w title t g =
+    fails_over ends title b at o o' (λ stop b f. D stop (title ++ b) f) D e (sym g) (λ stop f d. d) (w title t)

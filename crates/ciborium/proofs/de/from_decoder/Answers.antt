@@ -1,0 +1,11 @@
+use Rattle.std.proofs.lemmas.Result.{err_from_is_err_and}
+use Rattle.ciborium.proofs.ReadLemmas.{item_read, item_title_fails}
+use Rattle.ciborium.proofs.de.from_decoder.Goals as goal
+
+pub returns-in_err-at-clause-err : goal.returns-in_err-at-clause-err
+returns-in_err-at-clause-err g c =
+    let p = err_from_is_err_and c.from_residual.result c.from_residual.ensures.1 in
+    rw (p.1, p.2) (item_title_fails g.R.Read.ends _ _ _ _ _ c.in_err-at.ensures.err)
+
+pub returns-clause-ok : goal.returns-clause-ok
+returns-clause-ok g c = item_read _ _ _ _ _ _ _ _ _ c.in_ok-at.ensures.ok c.in_ok-value.ensures.ok

@@ -1,0 +1,8 @@
+use Rattle.std.proofs.Common.{◌≡◌, arith, rules, true, Some, drop, length, sym, ap, ◌∙◌, take, List, ℕ, ◌++◌, ◌-◌}
+use Rattle.ciborium.proofs.StringLemmas.{utf8_fails_at, utf8_no}
+use Rattle.ciborium.proofs.strings.read_chunk.Goals as goal
+
+pub returns-then-is_err-clause-err : goal.returns-then-is_err-clause-err
+returns-then-is_err-clause-err g c =
+    let e : c.len-start.result ≡ length c.args.into.now.items = omega (arith, c.len-start.ensures, c.args.into.now.ok.0) in
+    utf8_fails_at g.R.Read.ends _ _ _ _ _ _ _ _ _ _ _ c.if-text.true c.in_ok-read_bytes.ensures.ok e c.deref.ensures.value (utf8_no _ _ _ _ c.from_utf8.ensures.cases _ c.is_err.ensures.value c.if-is_err.true)

@@ -1,0 +1,41 @@
+use Rattle.std.proofs.Common.{◌≡◌, ◌+◌, arith, rules, refl}
+use Rattle.std.proofs.lemmas.Result.{err_from_is_err_and}
+use Rattle.ciborium.proofs.Taking.{takes_none}
+use Rattle.ciborium.proofs.StringLemmas.{open_start, title_grows, step_done, step_less, step_more, step_chunk, open_title_fails, open_chunk_fails, open_other_fails}
+use Rattle.ciborium.proofs.strings.read_open.Goals as goal
+
+pub parts-init : goal.parts-init
+parts-init g c = record { few = omega arith; taken = takes_none _ _ _ (open_start _ _ c.requires.empty); failed = refl; kept = refl; fresh = c.requires.fresh }
+
+pub returns-in_err-place-clause-err : goal.returns-in_err-place-clause-err
+returns-in_err-place-clause-err g c =
+    let p = err_from_is_err_and c.from_residual.result c.from_residual.ensures.1 in
+    rw (p.1, p.2) (open_title_fails _ _ _ _ _ _ _ _ _ _ _ c.parts.invariant.taken c.in_err-place.ensures.err)
+
+pub returns-then-inner-eq0-clause-ok : goal.returns-then-inner-eq0-clause-ok
+returns-then-inner-eq0-clause-ok g c = step_done _ _ _ _ _ _ _ _ _ _ c.parts.invariant.taken c.in_ok-place.ensures.ok c.in-Close.ensures (let e : c.parts.inner + 1 ≡ 1 = omega arith in e)
+
+pub parts-preserved-in-Close : goal.parts-preserved-in-Close
+parts-preserved-in-Close g c =
+    let m = title_grows _ _ _ _ _ c.in_ok-place.ensures.ok in
+    record { few = omega arith; taken = step_less _ (c.parts.inner + 1) _ _ _ _ _ _ _ _ _ c.parts.invariant.taken c.in_ok-place.ensures.ok c.in-Close.ensures (omega arith) (omega arith); failed = search rules; kept = search rules; fresh = search rules }
+
+pub parts-preserved-in-Open : goal.parts-preserved-in-Open
+parts-preserved-in-Open g c =
+    let m = title_grows _ _ _ _ _ c.in_ok-place.ensures.ok in
+    record { few = omega arith; taken = step_more _ (c.parts.inner + 1) _ _ _ _ _ _ _ _ c.parts.invariant.taken c.in_ok-place.ensures.ok c.in-Open.ensures; failed = search rules; kept = search rules; fresh = search rules }
+
+pub parts-preserved : goal.parts-preserved
+parts-preserved g c =
+    let m = title_grows _ _ _ _ _ c.in_ok-place.ensures.ok in
+    let k = c.in_ok-read_chunk-in-Chunk.ensures.ok.grown in
+    record { few = omega arith; taken = step_chunk _ (c.parts.inner + 1) _ _ _ _ _ _ _ _ _ _ _ _ c.parts.invariant.taken c.in_ok-place.ensures.ok c.in-Chunk.ensures c.in_ok-read_chunk-in-Chunk.ensures.ok; failed = search rules; kept = search rules; fresh = search rules }
+
+pub returns-in_err-read_chunk-in-Chunk-clause-err : goal.returns-in_err-read_chunk-in-Chunk-clause-err
+returns-in_err-read_chunk-in-Chunk-clause-err g c =
+    let p = err_from_is_err_and c.from_residual-in_err-read_chunk-in-Chunk.result c.from_residual-in_err-read_chunk-in-Chunk.ensures.1 in
+    rw (p.1, p.2) (open_chunk_fails _ _ _ _ _ _ _ _ _ _ _ _ _ _ _ _ c.parts.invariant.taken c.in_ok-place.ensures.ok c.in-Chunk.ensures c.in_ok-place.ensures.at c.in_err-read_chunk-in-Chunk.ensures.err)
+
+pub returns-in-Other-clause-err : goal.returns-in-Other-clause-err
+returns-in-Other-clause-err g c =
+    open_other_fails g.R.Read.ends _ _ _ _ _ _ _ _ _ _ _ _ c.parts.invariant.taken c.in_ok-place.ensures.ok c.in-Other.ensures c.in_ok-place.ensures.at

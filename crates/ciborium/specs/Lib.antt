@@ -1,0 +1,6 @@
+pub mod Damage
+pub mod Front
+pub mod Items
+pub mod Meaning
+pub mod Reading
+pub mod Spelling

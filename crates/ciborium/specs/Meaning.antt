@@ -1,0 +1,18 @@
+-- The value that a tree means, as a tree again, or none (RFC 8949, sections 3.3 and 3.4.3).
+use Rattle.std.specs.Prelude.{ℕ, Option, Some, None, if◌then◌else◌, nat_eq, nat_le, ◌&&◌}
+use Rattle.ciborium_value.specs.Tree.{Tree, simple, Trees, Pairs}
+use Rattle.ciborium_value.specs.Folding.{fold_by, fold_all_by, fold_pairs_by}
+
+-- false, true and null are themselves, undefined is null, and no other simple value is assigned
+abbrev pub simple_meaning : ℕ → Option Tree
+simple_meaning n = if nat_eq n 23 then Some (simple 22) else if nat_le 20 n && nat_le n 22 then Some (simple n) else None
+
+-- the tree with its bignums folded; none where a simple value is unassigned or a negative bignum too large, anywhere in it
+abbrev pub meaning : Tree → Option Tree
+meaning = fold_by simple_meaning
+
+abbrev pub meanings : Trees → Option Trees
+meanings = fold_all_by simple_meaning
+
+abbrev pub pair_meanings : Pairs → Option Pairs
+pair_meanings = fold_pairs_by simple_meaning

@@ -1,0 +1,160 @@
+-- What the contracts of the reader cite.
+use Rattle.std.specs.Prelude.{◌≡◌, ◌≢◌, ℕ, ◌+◌, ◌-◌, ◌^◌, ◌<◌, ◌≤◌, ◌⊎◌, nat_eq, List, [], ◌∷◌, ◌++◌, length, Option, Some, None, Bool, true, false, Result, Ok, Err, IsTrue, if◌then◌else◌}
+use Rattle.std.specs.Str.{IsUtf8}
+use Rattle.ciborium_ll.specs.declared.hdr.Header.{Header}
+use Rattle.ciborium_ll.specs.declared.hdr.Header.TheVariants.{Break, Bytes, Text}
+use Rattle.ciborium_ll.specs.declared.hdr.Error.{Error as HeadError}
+use Rattle.ciborium_ll.specs.declared.hdr.Error.TheVariants as below
+use Rattle.ciborium_ll.specs.Title.{Title}
+use Rattle.ciborium_value.specs.declared.kind.Kind.{Kind}
+use Rattle.ciborium_value.specs.declared.kind.Kind.TheVariants as kind
+use Rattle.ciborium.specs.declared.de.Error.{Error}
+use Rattle.ciborium.specs.declared.de.Error.TheVariants as code
+use Rattle.ciborium.specs.declared.strings.Part.{Part}
+use Rattle.ciborium.specs.declared.strings.Part.TheVariants as part
+use Rattle.ciborium_value.specs.Tree.{Tree, Trees, tree_count, depth, tag, bytes}
+use Rattle.ciborium_ll.specs.Framing.{Frame, joined}
+use Rattle.ciborium.specs.Spelling.{Spells}
+use Rattle.ciborium.specs.Meaning.{meaning}
+use Rattle.ciborium_value.specs.Folding.{fold_bytes}
+use Rattle.ciborium.specs.Damage.{Fault, end, deep, syntax, semantic, Damage, Due, IsFree, IsLevel}
+use Rattle.ciborium_ll.specs.Framing.{Opened}
+use Rattle.ciborium.specs.Front.{Reads, ReadsAll, Fronts}
+
+abbrev pub lifted : {E : Type 0} → HeadError E → Error E
+lifted (below.Io e) = code.Io e
+lifted (below.Syntax p) = code.Syntax p
+lifted below.TooLong = code.TooLong
+lifted below.Waiting = code.Semantic None kind.WrongType
+
+abbrev pub fault_failures : {E : Type 0} → (E → Bool) → Error E → ℕ → ℕ
+fault_failures ends (code.Io e) n = if ends e then n else n + 1
+fault_failures ends (code.Syntax p) n = n
+fault_failures ends (code.Semantic o k) n = n
+fault_failures ends code.RecursionLimitExceeded n = n
+fault_failures ends code.Memory n = n
+fault_failures ends code.TooLong n = n
+
+-- how often the reader has failed after this answer
+abbrev pub failures : {T E : Type 0} → (E → Bool) → Result T (Error E) → ℕ → ℕ
+failures ends (Ok x) n = n
+failures ends (Err e) n = fault_failures ends e n
+
+-- any fault but want of memory
+abbrev pub IsNoMemory : {E : Type 0} → Error E → Type 0
+IsNoMemory (code.Io e) = Unit {0}
+IsNoMemory (code.Syntax p) = Unit {0}
+IsNoMemory (code.Semantic o k) = Unit {0}
+IsNoMemory code.RecursionLimitExceeded = Unit {0}
+IsNoMemory code.Memory = ⊥
+IsNoMemory code.TooLong = Unit {0}
+
+-- what a fault tells: the fault of the bytes by D, at an end Q too, and that offsets grow too long
+abbrev pub Fails : {E : Type 0} → (E → Bool) → Type 0 → (Fault → Type 0) → Type 0 → Error E → Type 0
+Fails ends Q D long (code.Io e) = IsTrue (ends e) → D end × Q
+Fails ends Q D long (code.Syntax p) = D (syntax p)
+Fails ends Q D long (code.Semantic o k) = (o ≡ None) × D (semantic k)
+Fails ends Q D long code.RecursionLimitExceeded = D deep
+Fails ends Q D long code.Memory = Unit {0}
+Fails ends Q D long code.TooLong = long
+
+-- at an end the place is the one at the call exactly where no byte was left
+abbrev pub EndPlace : List ℕ → ℕ → ℕ → Type 0
+EndPlace [] at at' = at' ≡ at
+EndPlace (x ∷ xs) at at' = at < at'
+
+-- offsets pass what they can be
+abbrev pub IsLong : ℕ → List ℕ → Type 0
+IsLong at b = 2 ^ 64 ≤ at + length b + 4096
+
+-- bytes that are not known tell nothing
+abbrev pub Known : Option (List ℕ) → (List ℕ → Type 0) → Type 0
+Known None P = Unit {0}
+Known (Some b) P = P b
+
+-- the fault of an item that is due at the place `at`
+abbrev pub FailsAt : {E : Type 0} → (E → Bool) → List ℕ → ℕ → ℕ → (ℕ → List ℕ → Fault → Type 0) → Error E → Type 0
+FailsAt ends b at at' D e = Fails ends (EndPlace b at at') (D (at + length b) b) (IsLong at b) e
+
+-- the kinds of strings
+abbrev pub string_head : Bool → Option ℕ → Header
+string_head false o = Bytes o
+string_head true o = Text o
+
+abbrev pub IsBody : Bool → List ℕ → Type 0
+IsBody false b = Unit {0}
+IsBody true b = IsUtf8 b
+
+-- fewer than n bytes are left
+abbrev pub ShortBy : ℕ → ℕ → List ℕ → Fault → Type 0
+ShortBy n stop b end = length b < n
+ShortBy n stop b deep = ⊥
+ShortBy n stop b (syntax p) = ⊥
+ShortBy n stop b (semantic k) = ⊥
+
+-- the bytes behind the head of a string
+pub record StringBehind (text : Bool) (o : Option ℕ) (items inner : List ℕ) : Type 0 where
+  pub bodies : List (List ℕ)
+  pub frame : (title : List ℕ) → Title title (string_head text o) → Frame (string_head text) (IsBody text) (title ++ inner) bodies
+  pub is : items ≡ joined bodies
+
+-- the bytes behind the head of an open string, in which n opens are due a break
+pub record OpenBehind (text : Bool) (n : ℕ) (items inner : List ℕ) : Type 0 where
+  pub bodies : List (List ℕ)
+  pub begun : (title : List ℕ) → Title title (string_head text None) → Opened (string_head text) (IsBody text) n (title ++ inner) bodies
+  pub is : items ≡ joined bodies
+
+pub record ChunkBody (text : Bool) (n : ℕ) (old new body : List ℕ) : Type 0 where
+  pub has : IsBody text body
+  pub len : length body ≡ n
+  pub is : new ≡ old ++ body
+
+-- the faults behind a title of h that begins at the place `at`
+abbrev pub FailsBehind : {E : Type 0} → (E → Bool) → Header → ℕ → ℕ → Option (List ℕ) → ℕ → (ℕ → List ℕ → Fault → Type 0) → Error E → Type 0
+FailsBehind ends h at place left place' D e =
+    (title : List ℕ) → Title title h → at + length title ≡ place → Known left (λ rest. FailsAt ends (title ++ rest) at place' D e)
+
+-- what a header is inside a string
+abbrev pub IsPart : Bool → Header → Part → Type 0
+IsPart text h part.Close = h ≡ Break
+IsPart text h part.Open = h ≡ string_head text None
+IsPart text h (part.Chunk n) = h ≡ string_head text (Some n)
+IsPart text h part.Other = (h ≢ Break) × ((o : Option ℕ) → h ≢ string_head text o)
+
+-- the bytes behind a title of h
+abbrev pub ReadsBehind : Header → ℕ → Tree → List ℕ → Type 0
+ReadsBehind h limit v inner = (title : List ℕ) → Title title h → Reads (title ++ inner) limit v
+
+-- the children of an array or a map whose head has the length o, and their break
+abbrev pub ChildrenBehind : Option ℕ → ℕ → ℕ → Trees → List ℕ → Type 0
+ChildrenBehind (Some n) count limit vs inner = (n ≡ count) × ReadsAll inner limit vs
+ChildrenBehind None count limit vs inner = (body : List ℕ) × ReadsAll body limit vs × (inner ≡ body ++ 255 ∷ [])
+
+-- some children are there, and the next is damaged
+pub record ChildDamage (h : Header) (limit stop : ℕ) (b : List ℕ) (f : Fault) : Type 0 where
+  pub done : Trees
+  pub rest : List ℕ
+  pub fronts : Fronts b limit done rest
+  pub due : Due h (tree_count done) rest
+  pub damage : Damage stop rest limit f
+
+abbrev pub is_full : Option ℕ → ℕ → Bool
+is_full (Some n) done = nat_eq n done
+is_full None done = false
+
+abbrev pub FitsIn : Option ℕ → ℕ → Type 0
+FitsIn (Some n) done = done ≤ n
+FitsIn None done = Unit {0}
+
+-- the item behind a tag
+pub record TaggedBehind (n limit : ℕ) (v : Tree) (inner : List ℕ) : Type 0 where
+  pub tree : Tree
+  pub spells : Spells inner tree
+  pub shallow : depth (tag n tree) ≤ limit
+  pub means : meaning tree ≡ Some v
+
+abbrev pub TagDamage : ℕ → ℕ → ℕ → List ℕ → Fault → Type 0
+TagDamage n limit stop b f =
+    (IsFree n b × Damage stop b limit f)
+    ⊎ ((IsLevel n b × (limit ≡ 0) × (f ≡ deep))
+    ⊎ (IsLevel n b × (0 < limit) × Damage stop b (limit - 1) f))

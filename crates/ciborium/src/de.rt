@@ -1,0 +1,86 @@
+//! Reads items.
+ghost use Rattle.std.specs.Prelude.{◌≡◌, IfOk, IfErr, Some, []};
+ghost use Rattle.ciborium_ll.specs.Reading.{Takes};
+ghost use Rattle.ciborium_ll.specs.Views.{left_of, offset_of, waiting_of, reader_of};
+ghost use Rattle.ciborium_value.specs.View.{view};
+ghost use Rattle.ciborium.specs.Front.{Reads};
+ghost use Rattle.ciborium.specs.Damage.{Damage};
+ghost use Rattle.ciborium.specs.Reading.{FailsAt, Known, IsNoMemory, failures};
+
+use crate::reader::read_item;
+use crate::strings::next_title;
+use crate::value::{Kind, Value};
+use ciborium_ll::{Decoder, Read};
+use std::alloc::{AllocError, AllocFailed, Global};
+
+/// Why no value was read.
+#[derive(Debug, Clone, Copy, PartialEq, Eq, Drop)]
+pub enum Error<T> {
+    /// The reader's fault, an end of the bytes among them.
+    Io(T),
+    /// The bytes at this offset spell no item.
+    Syntax(usize),
+    /// An item that means no value. The offset is always `None`.
+    Semantic(Option<usize>, Kind),
+    /// The item nests deeper than the limit.
+    RecursionLimitExceeded,
+    /// Memory was refused.
+    Memory,
+    /// The offset would pass `usize::MAX`.
+    TooLong,
+}
+
+impl<T> Error<T> {
+    /// The fault of an item that means no value.
+    pub fn semantic(offset: Option<usize>, kind: Kind) -> Error<T>
+        ensures { result ≡ Error.Semantic offset kind }
+    {
+        Error::Semantic(offset, kind)
+    }
+}
+
+impl<T> From<T> for Error<T> {
+    ghost use Rattle.std.specs.Prelude.{◌≡◌};
+    ghost use Rattle.ciborium.specs.declared.de.Error.TheVariants.{Io};
+
+    ghost from_gives = { λ e error. error ≡ Io e };
+
+    fn from(e: T) -> Error<T> {
+        Error::Io(e)
+    }
+}
+
+impl<T> From<ciborium_ll::Error<T>> for Error<T> {
+    ghost use Rattle.ciborium.specs.Reading.{lifted};
+
+    ghost from_gives = { λ e f. f ≡ lifted e };
+
+    fn from(error: ciborium_ll::Error<T>) -> Error<T> {
+        match error {
+            ciborium_ll::Error::Io(e) => Error::Io(e),
+            ciborium_ll::Error::Syntax(p) => Error::Syntax(p),
+            ciborium_ll::Error::TooLong => Error::TooLong,
+            ciborium_ll::Error::Waiting => Error::Semantic(None, Kind::WrongType),
+        }
+    }
+}
+
+/// Reads the item at the front of the bytes to come, and leaves what follows it.
+pub fn from_decoder<R: Read>(
+    alloc: Global,
+    decoder: &mut Decoder<R>,
+    limit: usize,
+) -> Result<Value, Error<R::Error>>
+    ensures ok { IfOk result (λ v. Takes (left_of R.left decoder.old) (left_of R.left decoder.new) (offset_of decoder.old) (offset_of decoder.new)
+        (λ b. Reads b limit (view v))) }
+    ensures err { IfErr result (λ e. Known (left_of R.left decoder.old) (λ b. FailsAt R.ends b (offset_of decoder.old) (offset_of decoder.new)
+        (λ stop b f. Damage stop b limit f) e)) }
+    ensures nothing { left_of R.left decoder.old ≡ Some [] → IfErr result IsNoMemory }
+    ensures failed { R.failed (reader_of decoder.new) ≡ failures R.ends result (R.failed (reader_of decoder.old)) }
+    ensures kept { R.handle (reader_of decoder.new) ≡ R.handle (reader_of decoder.old) }
+    ensures fresh { waiting_of decoder.new ≡ None }
+{
+    let (at, header) = next_title(decoder)?;
+    let value = read_item(alloc, decoder, header, at, limit)?;
+    Ok(value)
+}

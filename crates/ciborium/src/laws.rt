@@ -1,0 +1,15 @@
+//! Laws of the definitions.
+ghost use Rattle.std.specs.Prelude.{◌≡◌, List, ℕ, ◌++◌, ◌+◌, ◌<◌, ◌≢◌, length, Some};
+ghost use Rattle.ciborium_value.specs.Tree.{Tree};
+ghost use Rattle.ciborium.specs.Spelling.{Spells};
+ghost use Rattle.ciborium.specs.Meaning.{meaning};
+
+/// No spelling begins another, and one list spells at most one tree.
+pub fn one_spelling()
+    ensures { (t s : Tree) (a b u v : List ℕ) → Spells a t → Spells b s → a ++ u ≡ b ++ v → (t ≡ s) × (a ≡ b) }
+{}
+
+/// A meaning means itself.
+pub fn meanings_are_folded()
+    ensures { (t v : Tree) → meaning t ≡ Some v → meaning v ≡ Some v }
+{}

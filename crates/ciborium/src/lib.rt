@@ -1,0 +1,11 @@
+//! CBOR items read and written (RFC 8949).
+#![tactic(auto)]
+
+pub mod de;
+pub mod laws;
+mod reader;
+pub mod ser;
+mod strings;
+pub mod value;
+
+pub use crate::value::Value;

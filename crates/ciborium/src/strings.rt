@@ -1,0 +1,193 @@
+//! Reads titles and strings.
+ghost use Rattle.std.specs.Prelude.{◌≡◌, ◌≤◌, ◌<◌, ◌+◌, ◌++◌, ◌^◌, ℕ, List, None, Some, OnOk, IfOk, IfErr, length, Bool, []};
+ghost use Rattle.std.specs.Io.KnownBytes.{Consumes};
+ghost use Rattle.ciborium_ll.specs.Title.{Title};
+ghost use Rattle.ciborium_ll.specs.Reading.{Takes};
+ghost use Rattle.ciborium_ll.specs.Views.{left_of, offset_of, waiting_of, reader_of};
+ghost use Rattle.ciborium.specs.Damage.{TitleDamage, ChunkDamage, StringDamage};
+ghost use Rattle.ciborium.specs.Reading.{Fails, FailsAt, FailsBehind, Known, IsLong, ShortBy, IsNoMemory, failures, string_head, IsBody, StringBehind, ChunkBody, IsPart};
+
+use crate::de::Error;
+use ciborium_ll::{Decoder, Header, Read};
+use std::alloc::Global;
+
+/// The next title, and its place.
+pub fn next_title<R: Read>(decoder: &mut Decoder<R>) -> Result<(usize, Header), Error<R::Error>>
+    ensures ok { IfOk result (λ r. Takes (left_of R.left decoder.old) (left_of R.left decoder.new) (offset_of decoder.old) (offset_of decoder.new) (λ b. Title b r.1)) }
+    ensures at { IfOk result (λ r. r.0 ≡ offset_of decoder.old) }
+    ensures fits { offset_of decoder.new < 2 ^ 64 }
+    ensures nothing { left_of R.left decoder.old ≡ Some [] → OnOk result ⊥ }
+    ensures memory { IfErr result IsNoMemory }
+    ensures err { IfErr result (λ e. Known (left_of R.left decoder.old) (λ b. FailsAt R.ends b (offset_of decoder.old) (offset_of decoder.new) TitleDamage e)) }
+    ensures failed { R.failed (reader_of decoder.new) ≡ failures R.ends result (R.failed (reader_of decoder.old)) }
+    ensures kept { R.handle (reader_of decoder.new) ≡ R.handle (reader_of decoder.old) }
+    ensures fresh { waiting_of decoder.new ≡ None }
+{
+    let at = decoder.offset();
+    let header = decoder.pull()?;
+    Ok((at, header))
+}
+
+/// The next n bytes, in pieces of at most 4,096.
+fn read_bytes<R: Read>(
+    decoder: &mut Decoder<R>,
+    n: usize,
+    into: &mut Vec<u8>,
+) -> Result<(), Error<R::Error>>
+    requires fresh { waiting_of decoder.old ≡ None }
+    ensures ok { OnOk result (Takes (left_of R.left decoder.old) (left_of R.left decoder.new) (offset_of decoder.old) (offset_of decoder.new)
+        (λ b. (length b ≡ n) × (into.new.items ≡ into.old.items ++ b))) }
+    ensures err { IfErr result (λ e. Known (left_of R.left decoder.old) (λ b. Fails R.ends (offset_of decoder.old ≤ offset_of decoder.new)
+        (ShortBy n (offset_of decoder.old + length b) b) (IsLong (offset_of decoder.old) b) e)) }
+    ensures failed { R.failed (reader_of decoder.new) ≡ failures R.ends result (R.failed (reader_of decoder.old)) }
+    ensures kept { R.handle (reader_of decoder.new) ≡ R.handle (reader_of decoder.old) }
+    ensures fresh { waiting_of decoder.new ≡ None }
+{
+    let mut buffer = [0; 4096];
+    let mut got = 0;
+    'pieces: while got < n {
+        let size = if n - got < 4096 { n - got } else { 4096 };
+        let piece = &mut buffer[..size];
+        decoder.read_exact(piece)?;
+        let Ok(()) = into.extend_from_slice(piece) else {
+            return Err(Error::Memory);
+        };
+        got += size;
+    }
+    Ok(())
+}
+
+/// The body of a definite string whose title begins at the place `at`.
+fn read_chunk<R: Read>(
+    decoder: &mut Decoder<R>,
+    text: bool,
+    n: usize,
+    at: usize,
+    into: &mut Vec<u8>,
+) -> Result<(), Error<R::Error>>
+    requires fresh { waiting_of decoder.old ≡ None }
+    ensures ok { OnOk result (Takes (left_of R.left decoder.old) (left_of R.left decoder.new) (offset_of decoder.old) (offset_of decoder.new)
+        (λ b. ChunkBody text n into.old.items into.new.items b)) }
+    ensures err { IfErr result (λ e. FailsBehind R.ends (string_head text (Some n)) at (offset_of decoder.old) (left_of R.left decoder.old) (offset_of decoder.new)
+        (ChunkDamage (string_head text) (IsBody text)) e) }
+    ensures failed { R.failed (reader_of decoder.new) ≡ failures R.ends result (R.failed (reader_of decoder.old)) }
+    ensures kept { R.handle (reader_of decoder.new) ≡ R.handle (reader_of decoder.old) }
+    ensures fresh { waiting_of decoder.new ≡ None }
+{
+    let start = into.len();
+    read_bytes(decoder, n, into)?;
+    if text && std::str::from_utf8(&into[start..]).is_err() {
+        return Err(Error::Syntax(at));
+    }
+    Ok(())
+}
+
+/// What a header is inside an open string.
+pub enum Part {
+    Close,
+    Open,
+    Chunk(usize),
+    Other,
+}
+
+fn part_of(text: bool, header: Header) -> Part
+    ensures { IsPart text header result }
+{
+    match header {
+        Header::Break => Part::Close,
+        Header::Bytes(length) => {
+            if text {
+                Part::Other
+            } else {
+                sized_part(length)
+            }
+        }
+        Header::Text(length) => {
+            if text {
+                sized_part(length)
+            } else {
+                Part::Other
+            }
+        }
+        Header::Positive(_) => Part::Other,
+        Header::Negative(_) => Part::Other,
+        Header::Float(_) => Part::Other,
+        Header::Simple(_) => Part::Other,
+        Header::Tag(_) => Part::Other,
+        Header::Array(_) => Part::Other,
+        Header::Map(_) => Part::Other,
+    }
+}
+
+fn sized_part(length: Option<usize>) -> Part
+    ensures { (text : Bool) → IsPart text (string_head text length) result }
+{
+    match length {
+        Some(n) => Part::Chunk(n),
+        None => Part::Open,
+    }
+}
+
+/// The bytes of a string whose title, with the length given, begins at the place `at`.
+pub fn read_string<R: Read>(
+    alloc: Global,
+    decoder: &mut Decoder<R>,
+    text: bool,
+    length: Option<usize>,
+    at: usize,
+) -> Result<Vec<u8>, Error<R::Error>>
+    requires fresh { waiting_of decoder.old ≡ None }
+    ensures ok { IfOk result (λ v. Takes (left_of R.left decoder.old) (left_of R.left decoder.new) (offset_of decoder.old) (offset_of decoder.new)
+        (λ b. StringBehind text length v.items b)) }
+    ensures err { IfErr result (λ e. FailsBehind R.ends (string_head text length) at (offset_of decoder.old) (left_of R.left decoder.old) (offset_of decoder.new)
+        (StringDamage (string_head text) (IsBody text)) e) }
+    ensures failed { R.failed (reader_of decoder.new) ≡ failures R.ends result (R.failed (reader_of decoder.old)) }
+    ensures kept { R.handle (reader_of decoder.new) ≡ R.handle (reader_of decoder.old) }
+    ensures fresh { waiting_of decoder.new ≡ None }
+{
+    let mut bytes = Vec::new(alloc);
+    match length {
+        Some(n) => {
+            read_chunk(decoder, text, n, at, &mut bytes)?;
+            Ok(bytes)
+        }
+        None => {
+            read_open(decoder, text, at, &mut bytes)?;
+            Ok(bytes)
+        }
+    }
+}
+
+/// The bodies of an open string up to its break.
+fn read_open<R: Read>(
+    decoder: &mut Decoder<R>,
+    text: bool,
+    at: usize,
+    into: &mut Vec<u8>,
+) -> Result<(), Error<R::Error>>
+    requires fresh { waiting_of decoder.old ≡ None }
+    requires empty { into.old.items ≡ [] }
+    ensures ok { OnOk result (Takes (left_of R.left decoder.old) (left_of R.left decoder.new) (offset_of decoder.old) (offset_of decoder.new)
+        (λ b. StringBehind text None into.new.items b)) }
+    ensures err { IfErr result (λ e. FailsBehind R.ends (string_head text None) at (offset_of decoder.old) (left_of R.left decoder.old) (offset_of decoder.new)
+        (StringDamage (string_head text) (IsBody text)) e) }
+    ensures failed { R.failed (reader_of decoder.new) ≡ failures R.ends result (R.failed (reader_of decoder.old)) }
+    ensures kept { R.handle (reader_of decoder.new) ≡ R.handle (reader_of decoder.old) }
+    ensures fresh { waiting_of decoder.new ≡ None }
+{
+    let mut inner: usize = 0;
+    'parts: loop {
+        let (place, header) = next_title(decoder)?;
+        match part_of(text, header) {
+            Part::Close => {
+                if inner == 0 {
+                    return Ok(());
+                }
+                inner -= 1;
+            }
+            Part::Open => inner += 1,
+            Part::Chunk(n) => read_chunk(decoder, text, n, place, into)?,
+            Part::Other => return Err(Error::Syntax(place)),
+        }
+    }
+}

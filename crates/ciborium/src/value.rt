@@ -1,0 +1,2 @@
+//! Values of CBOR.
+pub use ciborium_value::{Integer, Kind, Value};
