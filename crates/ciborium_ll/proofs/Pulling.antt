@@ -1,6 +1,6 @@
 -- Lemmas on a title that is read byte by byte.
-use Rattle.std.proofs.Common.{◌≡◌, ◌≤◌, ◌+◌, ◌/◌, ◌%◌, ◌^◌, ℕ, Bool, List, [], ◌∷◌, ◌++◌, length, Option, None, Some, refl, ap, subst, arith, get_or}
-use Rattle.std.specs.Prelude.{⊤}
+use Rattle.std.proofs.Common.{◌≡◌, ◌≤◌, ◌+◌, ◌/◌, ◌%◌, ◌^◌, ℕ, Bool, List, [], ◌∷◌, ◌++◌, length, Option, None, Some, Result, Ok, Err, refl, ap, subst, arith, get_or}
+use Rattle.std.specs.Prelude.{⊤, IfOk}
 use Rattle.std.specs.Io.KnownBytes.{Consumes, Keeps}
 use Rattle.std.proofs.KnownBytes.{Consumes-trans}
 use Rattle.ciborium_ll.specs.Device.{IsShort}
@@ -8,7 +8,7 @@ use Rattle.ciborium_ll.specs.declared.hdr.Header.{Header}
 use Rattle.ciborium_ll.specs.declared.hdr.Error.{Error}
 use Rattle.ciborium_ll.specs.declared.hdr.Error.TheVariants.{Io, Syntax, TooLong, Waiting}
 use Rattle.ciborium_ll.specs.Title.{Title, NumberAt, first_byte, title_of, FitsHeader}
-use Rattle.ciborium_ll.proofs.Shortest.{title_of_is}
+use Rattle.ciborium_ll.proofs.Shortest.{title_of_is, shortest_first}
 use Rattle.ciborium_ll.specs.Reading.{Takes, Tells, Ends, due, place, waiting_title}
 
 -- the end before a title
@@ -65,3 +65,15 @@ pub waiting_taken : (left : Option (List ℕ)) (read : ℕ) (waiting after : Opt
 waiting_taken left read waiting after h is none within fits =
     let within' : length (title_of h) ≤ read = rw is at within in
     rw (is, none) (waits left read h within' fits)
+
+-- the place behind a title lies at least a shortest title in
+pub title_within : (left left' : Option (List ℕ)) (place place' : ℕ) (h : Header) → Takes left left' place place' (λ b. Title b h) → length (title_of h) ≤ place'
+title_within left left' place place' h t =
+    let short = shortest_first t.bytes h t.has in
+    let grown = t.grown in
+    omega arith
+
+pub pulled_within : {E : Type 0} (r : Result Header E) (left left' : Option (List ℕ)) (start read : ℕ) (waiting : Option Header) → waiting ≡ None
+    → IfOk r (λ h. Takes left left' start read (λ b. Title b h)) → IfOk r (λ h. length (title_of h) ≤ place read waiting)
+pulled_within (Ok h) left left' start read waiting none t = let w = title_within left left' start read h t in rw none (omega arith)
+pulled_within (Err e) left left' start read waiting none t = tt

@@ -112,6 +112,7 @@ impl<R: Read> Decoder<R> {
             (Ends (left_of R.left self.old) (left_of R.left self.new) (offset_of self.old) (offset_of self.new))
             (λ p. (p ≡ offset_of self.old) × Takes (left_of R.left self.old) (left_of R.left self.new) (offset_of self.old) (offset_of self.new) IsBadByte)
             (2 ^ 64 ≤ offset_of self.old + 9)) }
+        ensures within { IfOk result (λ h. length (title_of h) ≤ offset_of self.new) }
         ensures fits { offset_of self.new < 2 ^ 64 }
         ensures failed { R.failed (reader_of self.new) ≡ failures R.ends result (R.failed (reader_of self.old)) }
         ensures kept { R.handle (reader_of self.new) ≡ R.handle (reader_of self.old) }
@@ -142,7 +143,7 @@ impl<R: Read> Decoder<R> {
         ensures kept { R.handle (reader_of self.new) ≡ R.handle (reader_of self.old) }
         ensures fresh { waiting_of self.old ≡ None → waiting_of self.new ≡ None }
     {
-        if self.waiting.is_some() {
+        if self.is_waiting() {
             return Err(Error::Waiting);
         }
         self.fill(data)

@@ -1,5 +1,5 @@
 //! Facts about values, for proofs. The calls do nothing at run time.
-ghost use Rattle.std.specs.Prelude.{◌≡◌, ◌++◌, ℕ, List};
+ghost use Rattle.std.specs.Prelude.{◌≡◌, ◌≤◌, ◌++◌, ℕ, List, length};
 ghost use Rattle.ciborium_ll.specs.Title.{FitsHeader, FitsLen, Title, title_of, IsCut, StartsBad};
 ghost use Rattle.ciborium_ll.specs.declared.hdr.Header.{Header};
 
@@ -45,8 +45,9 @@ pub fn one_outcome()
     ensures bad { (b rest : List ℕ) (h : Header) → Title b h → StartsBad (b ++ rest) → ⊥ }
 {}
 
-/// The shortest title of a header is read as that header, whatever follows.
+/// The shortest title of a header is read as that header, whatever follows, and no title of that header is shorter.
 pub fn read_again()
+    ensures shortest { (h : Header) (b : List ℕ) → Title b h → length (title_of h) ≤ length b }
     ensures title { (h : Header) → FitsHeader h → Title (title_of h) h }
     ensures only { (h k : Header) (b x y : List ℕ) → FitsHeader h → Title b k → title_of h ++ x ≡ b ++ y → (k ≡ h) × (y ≡ x) }
 {}

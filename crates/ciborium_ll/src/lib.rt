@@ -14,6 +14,8 @@ pub mod laws;
 pub mod log;
 mod mem;
 mod read;
+#[cfg(test)]
+mod tests;
 mod write;
 
 pub use crate::adapters::{Io, IoFault};
