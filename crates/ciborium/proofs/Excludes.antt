@@ -1,17 +1,17 @@
 -- Damage and a front exclude each other: bytes that begin a readable item have no fault there.
-use Rattle.std.proofs.Common.{◌≡◌, ◌≢◌, ◌≤◌, ◌<◌, ◌+◌, ◌-◌, ◌⊎◌, inl, inr, ℕ, suc, List, [], ◌∷◌, ◌++◌, Option, None, Some, refl, sym, ap, subst, ◌∙◌, arith, append_assoc}
+use Rattle.std.proofs.Common.{◌≡◌, ◌-◌, inl, inr, ℕ, List, ◌++◌, Option, None, Some, refl, sym, ap, subst, ◌∙◌, arith, append_assoc}
 use Rattle.std.specs.Str.{IsUtf8}
 use Rattle.ciborium_ll.specs.declared.hdr.Header.{Header}
 use Rattle.ciborium_ll.specs.declared.hdr.Header.TheVariants.{Simple, Tag, Break, Bytes, Text, Array, Map}
-use Rattle.ciborium_ll.specs.Title.{Title, Begins, IsCut, StartsBad}
-use Rattle.ciborium_ll.specs.Framing.{joined, Frame, Any, Opened, opened, deeper, Inside}
-use Rattle.ciborium_ll.proofs.TitleLaws.{not_cut, not_bad}
-use Rattle.ciborium_value.specs.Tree.{Tree, bytes, text, array, map, tag, simple, Trees, tree_count, depth}
+use Rattle.ciborium_ll.specs.Title.{Begins, StartsBad}
+use Rattle.ciborium_ll.specs.Framing.{joined, Frame, Any, Opened, opened, deeper}
+use Rattle.ciborium_ll.proofs.TitleLaws.{not_bad}
+use Rattle.ciborium_value.specs.Tree.{Tree, bytes, text, tag}
 use Rattle.ciborium_value.specs.Folding.{fold_bytes}
 use Rattle.ciborium.specs.Meaning.{meaning, simple_meaning}
-use Rattle.ciborium.specs.Damage.{Fault, end, deep, syntax, semantic, Damage, in_title, in_bytes, in_text, unassigned, stray_break, too_negative, too_deep, in_child, in_tag, in_free, TitleDamage, ChunkDamage, StringDamage, Due, IsFree, IsLevel, Opens}
-use Rattle.ciborium.specs.Front.{Reads, Front, Fronts}
-use Rattle.ciborium.proofs.Once.{once, no_break, head_kind, tree_kind, bytes_same, text_same, kind_0, kind_1}
+use Rattle.ciborium.specs.Damage.{Fault, end, deep, syntax, semantic, Damage, in_title, in_bytes, in_text, unassigned, stray_break, too_negative, too_deep, in_child, in_tag, in_free, ChunkDamage, StringDamage, Opens}
+use Rattle.ciborium.specs.Front.{Front}
+use Rattle.ciborium.proofs.Once.{once, no_break, tree_kind, bytes_same, text_same, kind_0, kind_1}
 use Rattle.ciborium.proofs.Exact.{title_not, string_not}
 use Rattle.ciborium.proofs.Parts.{Stands, stands, stands_begins, kind_at, simple_part, tag_parts, array_children, map_children, child_front, tag_front, free_front}
 

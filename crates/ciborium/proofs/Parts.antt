@@ -4,15 +4,14 @@ use Rattle.std.specs.Option.{option_map, option_and_then}
 use Rattle.std.proofs.lemmas.List.{append_cancel_left}
 use Rattle.std.proofs.lemmas.Bool.Decides.{nat_tests}
 use Rattle.ciborium_ll.specs.declared.hdr.Header.{Header}
-use Rattle.ciborium_ll.specs.declared.hdr.Header.TheVariants.{Positive, Negative, Simple, Tag, Break, Bytes, Text, Array, Map}
-use Rattle.ciborium_ll.specs.declared.hdr.Header.TheVariants as head
+use Rattle.ciborium_ll.specs.declared.hdr.Header.TheVariants.{Simple, Tag, Bytes, Array, Map}
 use Rattle.ciborium_ll.specs.Title.{Title, Begins}
-use Rattle.ciborium_value.specs.Tree.{Tree, integer, bytes, text, array, map, tag, simple, float, Trees, no_trees, one_more, Pairs, no_pairs, pair_more, flat, tree_count, pair_count, depth, depth_all, depth_pairs, opens_none, is_bytes}
+use Rattle.ciborium_value.specs.Tree.{Tree, bytes, array, map, tag, simple, Trees, no_trees, one_more, Pairs, no_pairs, pair_more, flat, tree_count, pair_count, depth, depth_all, depth_pairs, opens_none, is_bytes}
 use Rattle.ciborium_value.specs.Folding.{tagged}
 use Rattle.ciborium.specs.Spelling.{Around, Spells, SpellsAll, SpellsPairs}
-use Rattle.ciborium.specs.Meaning.{meaning, meanings, pair_meanings, simple_meaning}
+use Rattle.ciborium.specs.Meaning.{meaning, meanings, pair_meanings}
 use Rattle.ciborium.specs.Damage.{Due, IsLevel}
-use Rattle.ciborium.specs.Front.{Reads, Front, Fronts}
+use Rattle.ciborium.specs.Front.{Front, Fronts}
 use Rattle.ciborium.proofs.Once.{append_nil, regroup, first, split, once, no_break, head_kind, tree_kind, array_same, map_same}
 use Rattle.ciborium.proofs.ReadLemmas.{meanings_parts, meanings_made}
 use Rattle.ciborium.proofs.ChildLemmas.{all_count, unflat_depth, flat_count}
