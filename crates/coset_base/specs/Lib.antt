@@ -1,0 +1,7 @@
+pub mod Contexts
+pub mod Faults
+pub mod Fields
+pub mod Headers
+pub mod Structure
+pub mod View
+pub mod Wrong

@@ -1,0 +1,13 @@
+//! What all COSE messages share (RFC 9052): errors, labels, headers and the structures that signatures cover.
+#![tactic(auto)]
+
+mod error;
+mod header;
+mod label;
+mod structure;
+
+pub use crate::error::{CoseError, EndOfFile};
+pub use crate::header::{Header, ProtectedHeader};
+pub use crate::label::{Algorithm, Label, RegisteredLabelWithPrivate};
+pub use crate::structure::SignatureContext;
+pub use cose_iana as iana;
