@@ -8,3 +8,5 @@ pub mod Steps
 pub mod Texts
 pub mod Folded
 pub mod Exact
+pub mod Written
+pub mod Lent
