@@ -10,3 +10,4 @@ pub mod Folded
 pub mod Exact
 pub mod Written
 pub mod Lent
+pub mod Encoded
