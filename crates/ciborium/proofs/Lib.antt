@@ -8,3 +8,4 @@ pub mod Steps
 pub mod Texts
 pub mod Folded
 pub mod Exact
+pub mod Sequence

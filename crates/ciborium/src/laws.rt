@@ -3,6 +3,7 @@ ghost use Rattle.std.specs.Prelude.{◌≡◌, List, ℕ, ◌++◌, ◌+◌, ◌
 ghost use Rattle.ciborium_value.specs.Tree.{Tree};
 ghost use Rattle.ciborium.specs.Spelling.{Spells};
 ghost use Rattle.ciborium.specs.Meaning.{meaning};
+ghost use Rattle.ciborium.specs.Items.{Item, Items};
 
 /// No spelling begins another, and one list spells at most one tree.
 pub fn one_spelling()
@@ -12,4 +13,9 @@ pub fn one_spelling()
 /// A meaning means itself.
 pub fn meanings_are_folded()
     ensures { (t v : Tree) → meaning t ≡ Some v → meaning v ≡ Some v }
+{}
+
+/// The items of an input and its rest are determined.
+pub fn items_are_one()
+    ensures { (at : ℕ) (b : List ℕ) (is js : List Item) (rest more : List ℕ) → Items at b is rest → Items at b js more → (is ≡ js) × (rest ≡ more) }
 {}
