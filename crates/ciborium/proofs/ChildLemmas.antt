@@ -98,7 +98,7 @@ children_closed (Some n) d limit vs x y h e p t = let f : Some n ≡ None = e.0 
 children_closed None d limit vs x y h e p t = let s : Title y Break = subst (λ (z : Header). Title y z) e.1 t in (x, p, ap (λ z. x ++ z) s)
 
 -- an array from its children
-all_count : (ts vs : Trees) → meanings ts ≡ Some vs → tree_count ts ≡ tree_count vs
+pub all_count : (ts vs : Trees) → meanings ts ≡ Some vs → tree_count ts ≡ tree_count vs
 all_count no_trees vs e = let f : no_trees ≡ vs = cc in ap tree_count f
 all_count (one_more t ts) vs e = let w = meanings_parts t ts vs e in let h = all_count ts w.1 w.3 in let k : tree_count vs ≡ 1 + tree_count w.1 = ap tree_count w.4 in omega arith
 
@@ -150,11 +150,11 @@ unflat_spells no_pairs b p = p
 unflat_spells (pair_more k v qs) b p =
     (p.0, p.3.0, p.3.1, p.2, p.3.2, unflat_spells qs p.3.1 p.3.3, p.4 ∙ ap (λ z. p.0 ++ z) p.3.4)
 
-unflat_depth : (qs : Pairs) → depth_pairs qs ≡ depth_all (flat qs)
+pub unflat_depth : (qs : Pairs) → depth_pairs qs ≡ depth_all (flat qs)
 unflat_depth no_pairs = refl
 unflat_depth (pair_more k v qs) = ap (λ z. max (depth k) (max (depth v) z)) (unflat_depth qs)
 
-flat_count : (qs : Pairs) → tree_count (flat qs) ≡ 2 * pair_count qs
+pub flat_count : (qs : Pairs) → tree_count (flat qs) ≡ 2 * pair_count qs
 flat_count no_pairs = refl
 flat_count (pair_more k v qs) = let h = flat_count qs in omega arith
 

@@ -32,7 +32,7 @@ record Closing (k : Option ℕ → Header) (P : List ℕ → Type 0) (rest : Lis
 begins_once : (b r s : List ℕ) (h j : Header) → Begins b h r → Begins b j s → h ≡ j
 begins_once b r s h j p q = (title_once p.title q.title r s h j p.is_title q.is_title (sym p.whole ∙ q.whole)).0
 
-title_not : (stop : ℕ) (b r : List ℕ) (h : Header) (e : Fault) → Begins b h r → TitleDamage stop b e → ⊥
+pub title_not : (stop : ℕ) (b r : List ℕ) (h : Header) (e : Fault) → Begins b h r → TitleDamage stop b e → ⊥
 title_not stop b r h end s d = not_cut s.title r h s.is_title (subst IsCut s.whole d)
 title_not stop b r h deep s d = d
 title_not stop b r h (syntax p) s d = not_bad s.title r h s.is_title (subst StartsBad s.whole d.0)

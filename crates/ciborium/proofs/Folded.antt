@@ -98,7 +98,7 @@ tag_again n (map ps) v m e = let f : tag n (map ps) ≡ v = cc in subst (λ (w :
 tag_again n (tag k t) v m e = let f : tag n (tag k t) ≡ v = cc in subst (λ (w : Tree). meaning w ≡ Some w) f (ap (option_and_then (tagged n)) m)
 tag_again n (simple k) v m e = let f : tag n (simple k) ≡ v = cc in subst (λ (w : Tree). meaning w ≡ Some w) f (ap (option_and_then (tagged n)) m)
 
-pairs_parts : (k v : Tree) (ps qs : Pairs) → pair_meanings (pair_more k v ps) ≡ Some qs → (a b : Tree) × (rs : Pairs) × (meaning k ≡ Some a) × (meaning v ≡ Some b) × (pair_meanings ps ≡ Some rs) × (qs ≡ pair_more a b rs)
+pub pairs_parts : (k v : Tree) (ps qs : Pairs) → pair_meanings (pair_more k v ps) ≡ Some qs → (a b : Tree) × (rs : Pairs) × (meaning k ≡ Some a) × (meaning v ≡ Some b) × (pair_meanings ps ≡ Some rs) × (qs ≡ pair_more a b rs)
 pairs_parts k v ps qs e = go (meaning k) (meaning v) (pair_meanings ps) refl refl refl e
   where
     go : (m n : Option Tree) (r : Option Pairs) → meaning k ≡ m → meaning v ≡ n → pair_meanings ps ≡ r → option_and_then (λ a. option_and_then (λ b. option_map (pair_more a b) r) n) m ≡ Some qs

@@ -8,4 +8,6 @@ pub mod Steps
 pub mod Texts
 pub mod Folded
 pub mod Exact
+pub mod Parts
+pub mod Excludes
 pub mod Sequence

@@ -202,10 +202,10 @@ bytes_same o p e = cc
 pub text_same : (o p : Option ℕ) → Text o ≡ Text p → o ≡ p
 text_same o p e = cc
 
-array_same : (o p : Option ℕ) → Array o ≡ Array p → o ≡ p
+pub array_same : (o p : Option ℕ) → Array o ≡ Array p → o ≡ p
 array_same o p e = cc
 
-map_same : (o p : Option ℕ) → Map o ≡ Map p → o ≡ p
+pub map_same : (o p : Option ℕ) → Map o ≡ Map p → o ≡ p
 map_same o p e = cc
 
 int_same : (i j : ℤ) → int_head i ≡ int_head j → i ≡ j

@@ -3,6 +3,8 @@ ghost use Rattle.std.specs.Prelude.{◌≡◌, List, ℕ, ◌++◌, ◌+◌, ◌
 ghost use Rattle.ciborium_value.specs.Tree.{Tree};
 ghost use Rattle.ciborium.specs.Spelling.{Spells};
 ghost use Rattle.ciborium.specs.Meaning.{meaning};
+ghost use Rattle.ciborium.specs.Damage.{Fault, Damage};
+ghost use Rattle.ciborium.specs.Front.{Front};
 ghost use Rattle.ciborium.specs.Items.{Item, Items};
 
 /// No spelling begins another, and one list spells at most one tree.
@@ -13,6 +15,11 @@ pub fn one_spelling()
 /// A meaning means itself.
 pub fn meanings_are_folded()
     ensures { (t v : Tree) → meaning t ≡ Some v → meaning v ≡ Some v }
+{}
+
+/// Damage and a front exclude each other: bytes that begin a readable item have no fault there.
+pub fn damage_is_no_front()
+    ensures { (stop limit : ℕ) (b rest : List ℕ) (e : Fault) (v : Tree) → Damage stop b limit e → Front b limit v rest → ⊥ }
 {}
 
 /// The items of an input and its rest are determined.

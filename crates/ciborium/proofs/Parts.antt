@@ -1,0 +1,284 @@
+-- The parts of an item that stands at the front of some bytes, behind its title.
+use Rattle.std.proofs.Common.{◌≡◌, ◌≢◌, ◌≤◌, ◌<◌, ◌+◌, ◌-◌, ◌*◌, ◌%◌, ◌⊎◌, inl, inr, ℕ, suc, Bool, true, false, cond, List, [], ◌∷◌, ◌++◌, Option, None, Some, refl, sym, ap, subst, ◌∙◌, arith, append_assoc, nat_eq, ◌&&◌, ◌||◌}
+use Rattle.std.specs.Option.{option_map, option_and_then}
+use Rattle.std.proofs.lemmas.List.{append_cancel_left}
+use Rattle.std.proofs.lemmas.Bool.Decides.{nat_tests}
+use Rattle.ciborium_ll.specs.declared.hdr.Header.{Header}
+use Rattle.ciborium_ll.specs.declared.hdr.Header.TheVariants.{Positive, Negative, Simple, Tag, Break, Bytes, Text, Array, Map}
+use Rattle.ciborium_ll.specs.declared.hdr.Header.TheVariants as head
+use Rattle.ciborium_ll.specs.Title.{Title, Begins}
+use Rattle.ciborium_value.specs.Tree.{Tree, integer, bytes, text, array, map, tag, simple, float, Trees, no_trees, one_more, Pairs, no_pairs, pair_more, flat, tree_count, pair_count, depth, depth_all, depth_pairs, opens_none, is_bytes}
+use Rattle.ciborium_value.specs.Folding.{tagged}
+use Rattle.ciborium.specs.Spelling.{Around, Spells, SpellsAll, SpellsPairs}
+use Rattle.ciborium.specs.Meaning.{meaning, meanings, pair_meanings, simple_meaning}
+use Rattle.ciborium.specs.Damage.{Due, IsLevel}
+use Rattle.ciborium.specs.Front.{Reads, Front, Fronts}
+use Rattle.ciborium.proofs.Once.{append_nil, regroup, first, split, once, no_break, head_kind, tree_kind, array_same, map_same}
+use Rattle.ciborium.proofs.ReadLemmas.{meanings_parts, meanings_made}
+use Rattle.ciborium.proofs.ChildLemmas.{all_count, unflat_depth, flat_count}
+use Rattle.ciborium.proofs.Folded.{pairs_parts}
+
+-- the tree t stands at the front, whatever it means
+pub record Stands (b : List ℕ) (t : Tree) (rest : List ℕ) : Type 0 where
+  pub spelling : List ℕ
+  pub whole : b ≡ spelling ++ rest
+  pub spells : Spells spelling t
+
+pub stands : (b : List ℕ) (limit : ℕ) (v : Tree) (rest : List ℕ) (f : Front b limit v rest) → Stands b f.reads.tree rest
+stands b limit v rest f = record { spelling = f.spelling; whole = f.whole; spells = f.reads.spells }
+
+-- two titles at one place
+meets : (b title tail spelling inside rest : List ℕ) (h k : Header) → Title title h → spelling ≡ title ++ tail → b ≡ spelling ++ rest → Begins b k inside → (h ≡ k) × (inside ≡ tail ++ rest)
+meets b title tail spelling inside rest h k t e w s =
+    let v = split spelling (s.title ++ inside) title s.title tail inside rest [] h k t s.is_title e refl (sym w ∙ s.whole ∙ append_nil (s.title ++ inside)) in
+    (v.heads, append_nil inside ∙ sym v.rests)
+
+-- an item has the kind of the title that it begins with
+pub kind_at : (b r rest : List ℕ) (h : Header) (t : Tree) → Begins b h r → Stands b t rest → head_kind h ≡ tree_kind t
+kind_at b r rest h t s f =
+    let p = first t f.spelling f.spells in
+    let m = meets b p.title p.rest f.spelling r rest p.head h p.is_title p.whole_is f.whole s in
+    sym (ap head_kind m.0) ∙ p.kind_is
+
+pub stands_begins : (b rest : List ℕ) (t : Tree) → Stands b t rest → (h : Header) × (r : List ℕ) × Begins b h r
+stands_begins b rest t f =
+    let p = first t f.spelling f.spells in
+    (p.head, p.rest ++ rest, record { title = p.title; is_title = p.is_title; whole = f.whole ∙ regroup f.spelling p.title p.rest rest p.whole_is })
+
+kind_bytes : (o : Option ℕ) → head_kind (Bytes o) ≡ 1
+unfolding head_kind
+kind_bytes o = refl
+
+kind_array : (o : Option ℕ) → head_kind (Array o) ≡ 3
+unfolding head_kind
+kind_array o = refl
+
+kind_map : (o : Option ℕ) → head_kind (Map o) ≡ 4
+unfolding head_kind
+kind_map o = refl
+
+kind_tag : (n : ℕ) → head_kind (Tag n) ≡ 5
+unfolding head_kind
+kind_tag n = refl
+
+kind_simple : (n : ℕ) → head_kind (Simple n) ≡ 6
+unfolding head_kind
+kind_simple n = refl
+
+-- a simple value
+pub simple_part : (b r rest : List ℕ) (n : ℕ) (t : Tree) → Begins b (Simple n) r → Stands b t rest → t ≡ simple n
+simple_part b r rest n (simple m) s f =
+    let w = meets b f.spelling [] f.spelling r rest (Simple m) (Simple n) f.spells (append_nil f.spelling) f.whole s in
+    let h : Simple m ≡ Simple n = w.0 in
+    cc
+simple_part b r rest n t s f = absurd (let k : 6 ≡ tree_kind t = sym (kind_simple n) ∙ kind_at b r rest (Simple n) t s f in omega arith)
+
+-- a tag and what it stands over
+pub record Tagged (n : ℕ) (t : Tree) (inside rest : List ℕ) : Type 0 where
+  pub under : Tree
+  pub is : t ≡ tag n under
+  pub at : Stands inside under rest
+
+pub tag_parts : (b inside rest : List ℕ) (n : ℕ) (t : Tree) → Begins b (Tag n) inside → Stands b t rest → Tagged n t inside rest
+tag_parts b inside rest n (tag m c) s f =
+    let p = f.spells in
+    let w = meets b p.0 p.1 f.spelling inside rest (Tag m) (Tag n) p.2 p.4 f.whole s in
+    let h : Tag m ≡ Tag n = w.0 in
+    let k : m ≡ n = cc in
+    record { under = c; is = ap (λ z. tag z c) k; at = record { spelling = p.1; whole = w.1; spells = p.3 } }
+tag_parts b inside rest n t s f = absurd (let k : 5 ≡ tree_kind t = sym (kind_tag n) ∙ kind_at b inside rest (Tag n) t s f in omega arith)
+
+-- the bytes behind a title that says o, around `inner` and before `rest`
+abbrev Held : Option ℕ → ℕ → List ℕ → List ℕ → List ℕ → Type 0
+Held o n inner inside rest = ((o ≡ Some n) × (inside ≡ inner ++ rest)) ⊎ ((o ≡ None) × (inside ≡ inner ++ (255 ∷ rest)))
+
+around_parts : (k : Option ℕ → Header) → ((o p : Option ℕ) → k o ≡ k p → o ≡ p) → (b spelling inside rest : List ℕ) (o : Option ℕ) (n : ℕ) (P : List ℕ → Type 0)
+    → Around k n spelling P → b ≡ spelling ++ rest → Begins b (k o) inside → (inner : List ℕ) × P inner × Held o n inner inside rest
+around_parts k inj b spelling inside rest o n P (inl (title, inner, p, has, e)) w s =
+    let m = meets b title inner spelling inside rest (k (Some n)) (k o) p e w s in
+    (inner, has, inl (sym (inj (Some n) o m.0), m.1))
+around_parts k inj b spelling inside rest o n P (inr (title, inner, p, has, e)) w s =
+    let m = meets b title (inner ++ 255 ∷ []) spelling inside rest (k None) (k o) p e w s in
+    (inner, has, inr (sym (inj None o m.0), m.1 ∙ append_assoc inner (255 ∷ []) rest))
+
+-- an option that is mapped to something
+map_some : {A B : Type 0} (f : A → B) (o : Option A) (v : B) → option_map f o ≡ Some v → (u : A) × (o ≡ Some u)
+map_some f None v e = cc
+map_some f (Some u) v e = (u, refl)
+
+then_some : {A B : Type 0} (f : A → Option B) (o : Option A) (v : B) → option_and_then f o ≡ Some v → (u : A) × (o ≡ Some u)
+then_some f None v e = cc
+then_some f (Some u) v e = (u, refl)
+
+-- keys and values in order
+flat_spells : (ps : Pairs) (b : List ℕ) → SpellsPairs b ps → SpellsAll b (flat ps)
+flat_spells no_pairs b p = p
+flat_spells (pair_more k v ps) b p = (p.0, p.1 ++ p.2, p.3, (p.1, p.2, p.4, flat_spells ps p.2 p.5, refl), p.6)
+
+flat_means : (ps qs : Pairs) → pair_meanings ps ≡ Some qs → (us : Trees) × (meanings (flat ps) ≡ Some us)
+flat_means no_pairs qs e = (no_trees, refl)
+flat_means (pair_more k v ps) qs e =
+    let w = pairs_parts k v ps qs e in
+    let r = flat_means ps w.2 w.5 in
+    (one_more w.0 (one_more w.1 r.0), meanings_made k (one_more v (flat ps)) w.0 (one_more w.1 r.0) w.3 (meanings_made v (flat ps) w.1 r.0 w.4 r.1))
+
+-- the children of an array or a map whose title says o; `total` is how many a length stands for
+pub record Children (total : ℕ → ℕ) (o : Option ℕ) (limit : ℕ) (inside rest : List ℕ) : Type 0 where
+  pub trees : Trees
+  pub length : ℕ
+  pub inner : List ℕ
+  pub spells : SpellsAll inner trees
+  pub deep : depth_all trees < limit
+  pub meant : Trees
+  pub means : meanings trees ≡ Some meant
+  pub count : tree_count trees ≡ total length
+  pub held : Held o length inner inside rest
+
+pub array_children : (b inside rest : List ℕ) (o : Option ℕ) (limit : ℕ) (v t : Tree) → Begins b (Array o) inside → Stands b t rest → depth t ≤ limit → meaning t ≡ Some v → Children (λ n. n) o limit inside rest
+array_children b inside rest o limit v (array ts) s f d e =
+    let p = around_parts Array array_same b f.spelling inside rest o (tree_count ts) (λ inner. SpellsAll inner ts) f.spells f.whole s in
+    let m = map_some array (meanings ts) v e in
+    record { trees = ts; length = tree_count ts; inner = p.0; spells = p.1; deep = omega arith; meant = m.0; means = m.1; count = refl; held = p.2 }
+array_children b inside rest o limit v t s f d e = absurd (let k : 3 ≡ tree_kind t = sym (kind_array o) ∙ kind_at b inside rest (Array o) t s f in omega arith)
+
+pub map_children : (b inside rest : List ℕ) (o : Option ℕ) (limit : ℕ) (v t : Tree) → Begins b (Map o) inside → Stands b t rest → depth t ≤ limit → meaning t ≡ Some v → Children (λ n. 2 * n) o limit inside rest
+map_children b inside rest o limit v (map ps) s f d e =
+    let p = around_parts Map map_same b f.spelling inside rest o (pair_count ps) (λ inner. SpellsPairs inner ps) f.spells f.whole s in
+    let m = map_some map (pair_meanings ps) v e in
+    let q = flat_means ps m.0 m.1 in
+    let l : depth_pairs ps ≡ depth_all (flat ps) = unflat_depth ps in
+    record { trees = flat ps; length = pair_count ps; inner = p.0; spells = flat_spells ps p.0 p.1; deep = omega arith; meant = q.0; means = q.1; count = flat_count ps; held = p.2 }
+map_children b inside rest o limit v t s f d e = absurd (let k : 4 ≡ tree_kind t = sym (kind_map o) ∙ kind_at b inside rest (Map o) t s f in omega arith)
+
+-- one more child than `done` stands at `at`, where all of them are n and `behind` follows them
+More : ℕ → ℕ → List ℕ → List ℕ → Type 0
+More done n at behind = (done < n) ⊎ (((done ≢ n) ⊎ ((r : List ℕ) → at ≢ 255 ∷ r)) × ((w : List ℕ) × (behind ≡ 255 ∷ w)))
+
+fewer_more : (n m : ℕ) (at behind : List ℕ) → More (1 + n) (1 + m) at behind → More n m at behind
+unfolding More
+fewer_more n m at behind (inl l) = inl (omega arith)
+fewer_more n m at behind (inr (inl ne, w)) = inr (inl (λ e. ne (ap (λ z. 1 + z) e)), w)
+fewer_more n m at behind (inr (inr not, w)) = inr (inr not, w)
+
+-- the child behind those that were read
+next_child : (done ts us : Trees) (a at inner behind : List ℕ) (limit : ℕ) → SpellsAll a done → SpellsAll inner ts → a ++ at ≡ inner ++ behind
+    → More (tree_count done) (tree_count ts) at behind → depth_all ts ≤ limit → meanings ts ≡ Some us → (v : Tree) × (rest : List ℕ) × Front at limit v rest
+unfolding More
+next_child no_trees no_trees us a at inner behind limit p q e (inl l) d m = absurd (omega arith)
+next_child no_trees no_trees us a at inner behind limit p q e (inr (inl ne, w)) d m = absurd (ne refl)
+next_child no_trees no_trees us a at inner behind limit p q e (inr (inr not, (w, f))) d m = absurd (not w (ap (λ z. z ++ at) (sym p) ∙ e ∙ ap (λ z. z ++ behind) q ∙ f))
+next_child no_trees (one_more t ts) us a at inner behind limit p q e more d m =
+    let w = meanings_parts t ts us m in (
+      w.0,
+      q.1 ++ behind,
+      record {
+        spelling = q.0;
+        whole = ap (λ z. z ++ at) (sym p) ∙ e ∙ regroup inner q.0 q.1 behind q.4;
+        reads = record { tree = t; spells = q.2; shallow = omega arith; means = w.2 };
+      },
+    )
+next_child (one_more x xs) no_trees us a at inner behind limit p q e (inl l) d m = absurd (omega arith)
+next_child (one_more x xs) no_trees us a at inner behind limit p q e (inr (not, (w, f))) d m =
+    absurd (no_break x p.0 (p.1 ++ at) w p.2 (sym (regroup a p.0 p.1 at p.4) ∙ e ∙ ap (λ z. z ++ behind) q ∙ f))
+next_child (one_more x xs) (one_more t ts) us a at inner behind limit p q e more d m =
+    let e' : p.0 ++ (p.1 ++ at) ≡ q.0 ++ (q.1 ++ behind) = sym (regroup a p.0 p.1 at p.4) ∙ e ∙ regroup inner q.0 q.1 behind q.4 in
+    let h = once x t p.0 q.0 (p.1 ++ at) (q.1 ++ behind) p.2 q.2 e' in
+    let e'' : p.1 ++ at ≡ q.1 ++ behind = append_cancel_left p.0 (p.1 ++ at) (q.1 ++ behind) (e' ∙ ap (λ z. z ++ (q.1 ++ behind)) (sym h.1)) in
+    let w = meanings_parts t ts us m in
+    next_child xs ts w.1 p.1 at q.1 behind limit p.3 q.3 e'' (fewer_more (tree_count xs) (tree_count ts) at behind more) (omega arith) w.3
+
+-- one more child is due behind d of them
+abbrev Wanted : (ℕ → ℕ) → Option ℕ → ℕ → List ℕ → Type 0
+Wanted total (Some n) d at = d < total n
+Wanted total None d at = ((m : ℕ) → d ≢ total m) ⊎ ((r : List ℕ) → at ≢ 255 ∷ r)
+
+wanted_more : (total : ℕ → ℕ) (o : Option ℕ) (n m d : ℕ) (at inner inside rest : List ℕ) → m ≡ total n → Held o n inner inside rest → Wanted total o d at
+    → (behind : List ℕ) × (inside ≡ inner ++ behind) × More d m at behind
+unfolding More
+wanted_more total (Some k) n m d at inner inside rest c (inl (e, w)) l =
+    let f : k ≡ n = cc in
+    (rest, w, inl (subst (λ (z : ℕ). d < z) (ap total f ∙ sym c) l))
+wanted_more total (Some k) n m d at inner inside rest c (inr (e, w)) l = absurd (cc)
+wanted_more total None n m d at inner inside rest c (inl (e, w)) l = absurd (cc)
+wanted_more total None n m d at inner inside rest c (inr (e, w)) (inl odd) = (255 ∷ rest, w, inr (inl (λ f. odd n (f ∙ c)), (rest, refl)))
+wanted_more total None n m d at inner inside rest c (inr (e, w)) (inr not) = (255 ∷ rest, w, inr (inr not, (rest, refl)))
+
+due_child : (total : ℕ → ℕ) (o : Option ℕ) (limit : ℕ) (inside at rest : List ℕ) (done : Trees) → Children total o limit inside rest → Fronts inside (limit - 1) done at → Wanted total o (tree_count done) at
+    → (v : Tree) × (r : List ℕ) × Front at (limit - 1) v r
+due_child total o limit inside at rest done c f w =
+    let p = f.reads in
+    let n : tree_count p.trees ≡ tree_count done = all_count p.trees done p.means in
+    let m = wanted_more total o c.length (tree_count c.trees) (tree_count p.trees) at c.inner inside rest c.count c.held (subst (λ (z : ℕ). Wanted total o z at) (sym n) w) in
+    let d : depth_all c.trees < limit = c.deep in
+    next_child p.trees c.trees c.meant f.spelling at c.inner m.0 (limit - 1) p.spells c.spells (sym f.whole ∙ m.1) m.2 (omega arith) c.means
+
+odd_no : (d m : ℕ) → d % 2 ≡ 1 → d ≢ 2 * m
+odd_no d m e f = omega arith
+
+map_wanted : (d : ℕ) (at : List ℕ) → (d % 2 ≡ 1) ⊎ ((r : List ℕ) → at ≢ 255 ∷ r) → ((m : ℕ) → d ≢ 2 * m) ⊎ ((r : List ℕ) → at ≢ 255 ∷ r)
+map_wanted d at (inl e) = inl (λ m. odd_no d m e)
+map_wanted d at (inr not) = inr not
+
+-- where an item stands, each child that is due stands too
+pub child_front : (b inside at rest : List ℕ) (limit : ℕ) (h : Header) (done : Trees) (v : Tree) → Begins b h inside → Fronts inside (limit - 1) done at → Due h (tree_count done) at → Front b limit v rest
+    → (w : Tree) × (r : List ℕ) × Front at (limit - 1) w r
+child_front b inside at rest limit (Array (Some n)) done v s fs due f =
+    due_child (λ n. n) (Some n) limit inside at rest done (array_children b inside rest (Some n) limit v f.reads.tree s (stands b limit v rest f) f.reads.shallow f.reads.means) fs due
+child_front b inside at rest limit (Array None) done v s fs due f =
+    due_child (λ n. n) None limit inside at rest done (array_children b inside rest None limit v f.reads.tree s (stands b limit v rest f) f.reads.shallow f.reads.means) fs (inr due)
+child_front b inside at rest limit (Map (Some n)) done v s fs due f =
+    due_child (λ n. 2 * n) (Some n) limit inside at rest done (map_children b inside rest (Some n) limit v f.reads.tree s (stands b limit v rest f) f.reads.shallow f.reads.means) fs due
+child_front b inside at rest limit (Map None) done v s fs due f =
+    due_child (λ n. 2 * n) None limit inside at rest done (map_children b inside rest None limit v f.reads.tree s (stands b limit v rest f) f.reads.shallow f.reads.means) fs (map_wanted (tree_count done) at due)
+child_front b inside at rest limit h done v s fs due f = absurd due
+
+-- which tags open a level
+bytes_kind : (t : Tree) → is_bytes t ≡ true → tree_kind t ≡ 1
+bytes_kind (bytes b) e = refl
+bytes_kind t e = absurd (cc)
+
+bytes_flat : (t : Tree) → tree_kind t ≡ 1 → depth t ≡ 0
+bytes_flat (bytes b) e = refl
+bytes_flat t e = absurd (omega arith)
+
+both : (a b : Bool) → (a && b) ≡ true → (a ≡ true) × (b ≡ true)
+both true b e = (refl, e)
+both false b e = absurd (cc)
+
+either : (n : ℕ) → (nat_eq n 2 || nat_eq n 3) ≡ true → (n ≢ 2) × (n ≢ 3) → ⊥
+either n e d = grind (arith, nat_tests, d.0, d.1)
+
+head_bytes : (h : Header) → head_kind h ≡ 1 → (o : Option ℕ) × (h ≡ Bytes o)
+unfolding head_kind
+head_bytes (Bytes o) e = (o, refl)
+head_bytes h e = absurd (omega arith)
+
+level_not : (n : ℕ) (inside rest : List ℕ) (t : Tree) → IsLevel n inside → opens_none n t ≡ true → Stands inside t rest → ⊥
+level_not n inside rest t (inl d) e f = either n (both (nat_eq n 2 || nat_eq n 3) (is_bytes t) e).0 d
+level_not n inside rest t (inr (h, r, s, not)) e f =
+    let w = head_bytes h (kind_at inside r rest h t s f ∙ bytes_kind t (both (nat_eq n 2 || nat_eq n 3) (is_bytes t) e).1) in
+    not w.0 w.1
+
+level_deep : (n limit : ℕ) (inside rest : List ℕ) (t : Tree) → IsLevel n inside → Stands inside t rest → depth (tag n t) ≤ limit → suc (depth t) ≤ limit
+level_deep n limit inside rest t l f d = go (opens_none n t) refl d
+  where
+    go : (c : Bool) → opens_none n t ≡ c → cond c 0 (suc (depth t)) ≤ limit → suc (depth t) ≤ limit
+    go true e d = absurd (level_not n inside rest t l e f)
+    go false e d = d
+
+-- a tag that opens a level is over an item of fewer
+pub tag_front : (b inside rest : List ℕ) (n limit : ℕ) (v : Tree) → Begins b (Tag n) inside → IsLevel n inside → Front b limit v rest → (0 < limit) × ((w : Tree) × Front inside (limit - 1) w rest)
+tag_front b inside rest n limit v s l f =
+    let p = tag_parts b inside rest n f.reads.tree s (stands b limit v rest f) in
+    let deep : suc (depth p.under) ≤ limit = level_deep n limit inside rest p.under l p.at (subst (λ (z : Tree). depth z ≤ limit) p.is f.reads.shallow) in
+    let m = then_some (tagged n) (meaning p.under) v (sym (ap meaning p.is) ∙ f.reads.means) in
+    (omega arith, (m.0, record { spelling = p.at.spelling; whole = p.at.whole; reads = record { tree = p.under; spells = p.at.spells; shallow = omega arith; means = m.1 } }))
+
+-- a tag over a byte string
+pub free_front : (b inside r rest : List ℕ) (n limit : ℕ) (o : Option ℕ) (v : Tree) → Begins b (Tag n) inside → Begins inside (Bytes o) r → Front b limit v rest → (w : Tree) × Front inside limit w rest
+free_front b inside r rest n limit o v s bs f =
+    let p = tag_parts b inside rest n f.reads.tree s (stands b limit v rest f) in
+    let k : tree_kind p.under ≡ 1 = sym (kind_at inside r rest (Bytes o) p.under bs p.at) ∙ kind_bytes o in
+    let flat : depth p.under ≡ 0 = bytes_flat p.under k in
+    let m = then_some (tagged n) (meaning p.under) v (sym (ap meaning p.is) ∙ f.reads.means) in
+    (m.0, record { spelling = p.at.spelling; whole = p.at.whole; reads = record { tree = p.under; spells = p.at.spells; shallow = omega arith; means = m.1 } })
