@@ -10,4 +10,5 @@ pub mod Folded
 pub mod Exact
 pub mod Parts
 pub mod Excludes
+pub mod StringCases
 pub mod Sequence
