@@ -11,4 +11,5 @@ pub mod Exact
 pub mod Parts
 pub mod Excludes
 pub mod StringCases
+pub mod ChildCases
 pub mod Sequence

@@ -143,7 +143,7 @@ other_kind : (k : Option ℕ → Header) (n m : ℕ) (h : Header) → ((o : Opti
 unfolding head_kind
 other_kind k n m h kinds e p l = other (λ f. let g : m ≡ 8 = sym e ∙ ap head_kind f in omega arith) (λ o f. p (sym e ∙ ap head_kind f ∙ kinds o))
 
-bytes_part : (h : Header) → PartCase Bytes h
+pub bytes_part : (h : Header) → PartCase Bytes h
 unfolding head_kind
 bytes_part Break = closes refl
 bytes_part (Bytes o) = of_kind o refl

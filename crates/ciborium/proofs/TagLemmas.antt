@@ -156,7 +156,7 @@ then_not : (n : ℕ) (m : Option Tree) (x : List ℕ) → option_and_then (tagge
 then_not n None x = none_no x
 then_not n (Some u) x = tagged_not n u x
 
-bytes_meant : (t : Tree) (x : List ℕ) → meaning t ≡ Some (bytes x) → t ≡ bytes x
+pub bytes_meant : (t : Tree) (x : List ℕ) → meaning t ≡ Some (bytes x) → t ≡ bytes x
 bytes_meant (bytes b) x e = cc
 bytes_meant (integer i) x e = cc
 bytes_meant (text b) x e = cc
