@@ -12,4 +12,5 @@ pub mod Parts
 pub mod Excludes
 pub mod StringCases
 pub mod ChildCases
+pub mod ItemCases
 pub mod Sequence

@@ -43,7 +43,7 @@ tag_level n limit v b l r = record {
   means = r.means;
 }
 
-free_depth : (n limit : ℕ) (x : List ℕ) → (n ≡ 2) ⊎ (n ≡ 3) → depth (tag n (bytes x)) ≤ limit
+pub free_depth : (n limit : ℕ) (x : List ℕ) → (n ≡ 2) ⊎ (n ≡ 3) → depth (tag n (bytes x)) ≤ limit
 free_depth n limit x (inl e) = subst (λ (z : ℕ). depth (tag z (bytes x)) ≤ limit) (sym e) (omega arith)
 free_depth n limit x (inr e) = subst (λ (z : ℕ). depth (tag z (bytes x)) ≤ limit) (sym e) (omega arith)
 

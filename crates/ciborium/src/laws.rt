@@ -1,5 +1,5 @@
 //! Laws of the definitions.
-ghost use Rattle.std.specs.Prelude.{◌≡◌, List, ℕ, ◌++◌, ◌+◌, ◌<◌, ◌≢◌, length, Some};
+ghost use Rattle.std.specs.Prelude.{◌≡◌, List, ℕ, ◌++◌, ◌+◌, ◌<◌, ◌≤◌, ◌≢◌, ◌⊎◌, length, Some, All};
 ghost use Rattle.ciborium_value.specs.Tree.{Tree};
 ghost use Rattle.ciborium.specs.Spelling.{Spells};
 ghost use Rattle.ciborium.specs.Meaning.{meaning};
@@ -22,7 +22,18 @@ pub fn damage_is_no_front()
     ensures { (stop limit : ℕ) (b rest : List ℕ) (e : Fault) (v : Tree) → Damage stop b limit e → Front b limit v rest → ⊥ }
 {}
 
-/// The items of an input and its rest are determined.
+/// Bytes begin a readable item, or have a fault there. The premise on `stop` is that no byte stands before the place 0.
+pub fn front_or_damage()
+    ensures { (stop limit : ℕ) (b : List ℕ) → All (λ x. x < 256) b → length b ≤ stop
+        → ((v : Tree) × (rest : List ℕ) × Front b limit v rest) ⊎ ((e : Fault) × Damage stop b limit e) }
+{}
+
+/// Each input is a list of readable items and then a rest, where nothing is left or no readable item begins.
+pub fn items_exist()
+    ensures { (at : ℕ) (b : List ℕ) → All (λ x. x < 256) b → (is : List Item) × (rest : List ℕ) × Items at b is rest }
+{}
+
+/// The items of an input are one list, and so is its rest.
 pub fn items_are_one()
     ensures { (at : ℕ) (b : List ℕ) (is js : List Item) (rest more : List ℕ) → Items at b is rest → Items at b js more → (is ≡ js) × (rest ≡ more) }
 {}
