@@ -1,17 +1,17 @@
 -- The children of an array or a map are there, or one of them is damaged.
-use Rattle.std.proofs.Common.{◌≡◌, ◌≢◌, ◌≤◌, ◌<◌, ◌+◌, ◌-◌, ◌*◌, ◌⊎◌, inl, inr, ℕ, zero, suc, Bool, true, false, List, [], ◌∷◌, ◌++◌, length, Option, None, Some, refl, sym, ap, subst, ◌∙◌, arith, append_assoc, length-append}
+use Rattle.std.proofs.Common.{◌≡◌, ◌≢◌, ◌≤◌, ◌<◌, ◌+◌, ◌*◌, ◌⊎◌, inl, inr, ℕ, zero, suc, true, false, List, [], ◌∷◌, ◌++◌, length, Option, None, Some, refl, sym, ap, subst, ◌∙◌, arith, append_assoc, length-append}
 use Rattle.std.specs.List.{All}
 use Rattle.std.proofs.lemmas.Bool.{cases_Bool, cases_eq}
 use Rattle.ciborium_ll.specs.declared.hdr.Header.TheVariants.{Break, Array, Map}
 use Rattle.ciborium_value.specs.Tree.{Tree, Trees, no_trees, one_more, Pairs, no_pairs, pair_more, flat, tree_count}
-use Rattle.ciborium.specs.Damage.{Fault, Damage, Due}
-use Rattle.ciborium.specs.Front.{Reads, ReadsAll, Front, Fronts}
+use Rattle.ciborium.specs.Damage.{Fault, Damage}
+use Rattle.ciborium.specs.Front.{ReadsAll, Front}
 use Rattle.ciborium.specs.Reading.{ChildrenBehind, ChildDamage, is_full, FitsIn}
-use Rattle.ciborium.proofs.Once.{append_nil, break_title, first}
+use Rattle.ciborium.proofs.Once.{break_title, first}
 use Rattle.ciborium.proofs.StringLemmas.{title_some}
 use Rattle.ciborium.proofs.ReadLemmas.{snoc, snoc_count, all_none, all_more}
 use Rattle.ciborium.proofs.ChildLemmas.{array_due, map_due, value_due, fits_more, fits_none, children_full, children_closed}
-use Rattle.ciborium.proofs.StringCases.{bytes_behind, shorter, no_longer}
+use Rattle.ciborium.proofs.StringCases.{bytes_behind, shorter}
 
 -- a readable item in front of the bytes, or a fault of theirs
 pub data ItemCase (stop limit : ℕ) (b : List ℕ) : Type 0 where

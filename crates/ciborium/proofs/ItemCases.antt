@@ -1,28 +1,28 @@
 -- Bytes begin a readable item, or have a fault there.
-use Rattle.std.proofs.Common.{◌≡◌, ◌≢◌, ◌≤◌, ◌<◌, ◌+◌, ◌-◌, ◌*◌, ◌⊎◌, inl, inr, ℕ, zero, suc, ℤ, pos, negsuc, Bool, true, false, cond, List, [], ◌∷◌, ◌++◌, length, Option, None, Some, refl, sym, ap, subst, ◌∙◌, arith, append_assoc, nat_eq, nat_lt, nat_le, ◌&&◌, ◌||◌}
+use Rattle.std.proofs.Common.{◌≡◌, ◌≤◌, ◌<◌, ◌-◌, ◌⊎◌, inl, inr, ℕ, zero, suc, pos, negsuc, Bool, true, false, cond, List, ◌++◌, length, Option, None, Some, refl, sym, ap, subst, ◌∙◌, arith, append_assoc, nat_eq, nat_lt, nat_le, ◌&&◌, ◌||◌}
 use Rattle.std.specs.List.{All}
 use Rattle.std.specs.Str.{IsUtf8}
-use Rattle.std.proofs.lemmas.Bool.{cases_eq, cases_Bool}
+use Rattle.std.proofs.lemmas.Bool.{cases_eq}
 use Rattle.std.proofs.lemmas.Bool.Decides.{nat_tests}
 use Rattle.ciborium_ll.specs.declared.hdr.Header.{Header}
 use Rattle.ciborium_ll.specs.declared.hdr.Header.TheVariants.{Positive, Negative, Simple, Tag, Break, Bytes, Text, Array, Map}
 use Rattle.ciborium_ll.specs.declared.hdr.Header.TheVariants as head
-use Rattle.ciborium_ll.specs.Title.{Title, Begins}
-use Rattle.ciborium_ll.specs.Framing.{Frame, Any, joined}
+use Rattle.ciborium_ll.specs.Title.{Begins}
+use Rattle.ciborium_ll.specs.Framing.{Any, joined}
 use Rattle.ciborium_ll.proofs.Titled.{TitleCase, begins, is_cut, starts_bad, title_case}
 use Rattle.ciborium_value.specs.declared.kind.Kind.TheVariants as kind
-use Rattle.ciborium_value.specs.Tree.{Tree, integer, bytes, text, array, map, tag, simple, float, Trees, depth, flat}
-use Rattle.ciborium_value.specs.Folding.{tagged, fold_bytes, fold_number, big_endian_from, without_zeros, IsTooNegative}
+use Rattle.ciborium_value.specs.Tree.{Tree, integer, bytes, text, array, map, tag, simple, float, depth}
+use Rattle.ciborium_value.specs.Folding.{tagged, fold_bytes, big_endian_from, without_zeros, IsTooNegative}
 use Rattle.ciborium.specs.Spelling.{Spells}
 use Rattle.ciborium.specs.Meaning.{meaning, simple_meaning}
 use Rattle.ciborium.specs.Damage.{Fault, end, deep, syntax, semantic, Damage, in_title, in_bytes, in_text, unassigned, stray_break, too_negative, too_deep, in_child, in_tag, in_free, IsLevel, Opens}
-use Rattle.ciborium.specs.Front.{Reads, Front}
-use Rattle.ciborium.specs.Reading.{ChildDamage, TaggedBehind, ReadsBehind}
+use Rattle.ciborium.specs.Front.{Front}
+use Rattle.ciborium.specs.Reading.{TaggedBehind, ReadsBehind}
 use Rattle.ciborium.proofs.StringLemmas.{title_some}
 use Rattle.ciborium.proofs.ChildLemmas.{array_read, map_read}
 use Rattle.ciborium.proofs.TagLemmas.{tag_read, tag_level, free_depth, bytes_meant}
-use Rattle.ciborium.proofs.StringCases.{PartCase, closes, of_kind, other, bytes_part, StringCase, string_front, string_fault, StringFront, bytes_case, text_case, bytes_behind, shorter, no_longer}
-use Rattle.ciborium.proofs.ChildCases.{ItemCase, readable, damaged, Decided, ArrayCase, array_front, array_fault, ArrayFront, array_case, MapCase, map_front, map_fault, MapFront, map_case}
+use Rattle.ciborium.proofs.StringCases.{PartCase, closes, of_kind, other, bytes_part, StringCase, string_front, string_fault, bytes_case, text_case, bytes_behind, shorter}
+use Rattle.ciborium.proofs.ChildCases.{ItemCase, readable, damaged, Decided, ArrayCase, array_front, array_fault, array_case, MapCase, map_front, map_fault, map_case}
 
 -- a fold that is none is of tag 3
 fold_three : (n : ℕ) (b : List ℕ) → (n ≡ 3 → ⊥) → fold_bytes n b ≡ None → ⊥

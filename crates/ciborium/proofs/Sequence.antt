@@ -1,11 +1,11 @@
 -- The items of an input: there is one list of them, and it is there.
-use Rattle.std.proofs.Common.{◌≡◌, ◌<◌, ◌≤◌, ℕ, zero, suc, ◌+◌, List, [], ◌∷◌, ◌++◌, length, Some, refl, sym, ap, subst, ◌∙◌, arith}
+use Rattle.std.proofs.Common.{◌≡◌, ◌<◌, ℕ, zero, suc, ◌+◌, List, [], ◌∷◌, ◌++◌, length, Some, refl, sym, ap, subst, ◌∙◌, arith}
 use Rattle.std.specs.List.{All}
 use Rattle.std.proofs.lemmas.List.{append_cancel_left}
 use Rattle.ciborium_value.specs.Tree.{Tree}
 use Rattle.ciborium.specs.Meaning.{meaning}
 use Rattle.ciborium.specs.Front.{Reads, Front}
-use Rattle.ciborium.specs.Items.{Item, Items, IsUnreadable, nesting}
+use Rattle.ciborium.specs.Items.{Item, Items, nesting}
 use Rattle.ciborium.proofs.Once.{once}
 use Rattle.ciborium.proofs.Excludes.{excludes}
 use Rattle.ciborium.proofs.StringCases.{bytes_behind, shorter}

@@ -1,5 +1,5 @@
 -- Bytes that begin with the head of a string begin with the string, or have a fault of it.
-use Rattle.std.proofs.Common.{◌≡◌, ◌≢◌, ◌≤◌, ◌<◌, ◌+◌, ◌-◌, ◌⊎◌, inl, inr, ℕ, zero, suc, Bool, true, false, List, [], ◌∷◌, ◌++◌, length, take, drop, Option, None, Some, refl, sym, ap, subst, ◌∙◌, arith, append_assoc, length-append}
+use Rattle.std.proofs.Common.{◌≡◌, ◌≢◌, ◌≤◌, ◌<◌, ◌+◌, ◌-◌, ◌⊎◌, inl, inr, ℕ, zero, suc, true, false, List, [], ◌∷◌, ◌++◌, length, take, drop, Option, None, Some, refl, sym, ap, subst, ◌∙◌, arith, append_assoc, length-append}
 use Rattle.std.specs.List.{All}
 use Rattle.std.specs.Str.{IsUtf8, is_utf8}
 use Rattle.std.proofs.lemmas.Str.{IsUtf8-from_is_utf8, is_utf8-from_IsUtf8}
@@ -11,7 +11,7 @@ use Rattle.ciborium_ll.specs.declared.hdr.Header.{Header}
 use Rattle.ciborium_ll.specs.declared.hdr.Header.TheVariants.{Positive, Negative, Float, Simple, Tag, Break, Bytes, Text, Array, Map}
 use Rattle.ciborium_ll.specs.Title.{Title, Begins}
 use Rattle.ciborium_ll.proofs.Titled.{TitleCase, begins, is_cut, starts_bad, title_case}
-use Rattle.ciborium_ll.specs.Framing.{Frame, whole, cut, Frames, no_frames, Any, Opened, opened, Inside}
+use Rattle.ciborium_ll.specs.Framing.{Frame, whole, cut, no_frames, Any, Opened, opened, Inside}
 use Rattle.ciborium.specs.Damage.{Fault, end, syntax, Never, ChunkDamage, StringDamage}
 use Rattle.ciborium.proofs.Once.{append_nil, head_kind, kind_0, kind_1}
 use Rattle.ciborium.proofs.StringLemmas.{opened_then, opened_more, closed, title_some}
