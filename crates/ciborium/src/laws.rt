@@ -22,7 +22,7 @@ pub fn damage_is_no_front()
     ensures { (stop limit : ℕ) (b rest : List ℕ) (e : Fault) (v : Tree) → Damage stop b limit e → Front b limit v rest → ⊥ }
 {}
 
-/// Bytes begin a readable item, or have a fault there. The premise on `stop` is that no byte stands before the place 0.
+/// Bytes begin a readable item, or have a fault there. The place behind the last of them is `stop`.
 pub fn front_or_damage()
     ensures { (stop limit : ℕ) (b : List ℕ) → All (λ x. x < 256) b → length b ≤ stop
         → ((v : Tree) × (rest : List ℕ) × Front b limit v rest) ⊎ ((e : Fault) × Damage stop b limit e) }

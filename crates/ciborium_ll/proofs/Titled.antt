@@ -46,7 +46,6 @@ after i = cond (nat_eq i 24) 1 (cond (nat_eq i 25) 2 (cond (nat_eq i 26) 4 (cond
 
 number_two : (info : ℕ) (xs : List ℕ) → All (λ x. x < 256) xs → 2 ≤ length xs → info ≡ 25 → Number info xs
 number_two info xs low len is =
-    let bs = take 2 xs in
     let each = small (take 2 xs) (All-take (λ x. x < 256) 2 xs low) in
     let fits : from_be_bytes w16 (take 2 xs) < 2 ^ 16 = below_2 (take 2 xs) each in
     record {
