@@ -13,3 +13,7 @@ pub mod Excludes
 pub mod Written
 pub mod Lent
 pub mod Encoded
+pub mod StringCases
+pub mod ChildCases
+pub mod ItemCases
+pub mod Sequence
