@@ -34,7 +34,7 @@ impl<T> From<T> for Error<T> {
     }
 }
 
-/// A writer that is lent. It comes back as the same reference, and what it points to as the same writer.
+/// A writer that is lent: it comes back as the same reference, to the same writer. A plain `&mut W` tells only the first.
 #[derive(Drop)]
 struct Lent<'a, W> {
     writer: &'a mut W,
@@ -107,6 +107,7 @@ fn write_integer<W: Write>(encoder: &mut Encoder<W>, number: Integer) -> Result<
     }
 }
 
+/// The text of a value.
 fn write_value<W: Write>(encoder: &mut Encoder<W>, value: &Value) -> Result<(), W::Error>
     ensures ok { OnOk result (Appends (W.written (writer_of encoder.old)) (W.written (writer_of encoder.new)) (enc (view value.now))) }
     ensures err { OnErr result (AppendsFront (W.written (writer_of encoder.old)) (W.written (writer_of encoder.new)) (enc (view value.now))) }
