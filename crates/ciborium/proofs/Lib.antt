@@ -11,7 +11,6 @@ pub mod Exact
 pub mod Parts
 pub mod Excludes
 pub mod Written
-pub mod Lent
 pub mod Encoded
 pub mod StringCases
 pub mod ChildCases
