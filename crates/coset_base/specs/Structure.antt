@@ -3,7 +3,11 @@ use Rattle.std.specs.Prelude.{ℕ, ℤ, pos, List, [], ◌∷◌, ◌++◌, Bool
 use Rattle.ciborium_value.specs.Tree.{Tree, integer, bytes, text, array, map as map_tree}
 use Rattle.ciborium_value.specs.View.{trees, pairs}
 use Rattle.ciborium_value.specs.Encoding.{enc}
-use Rattle.coset_base.specs.Fields.{Named, private_use, assigned, named, HeaderFields, ProtectedFields}
+use Rattle.coset_base.specs.Fields.{LabelFields, number, words, Named, private_use, assigned, named, HeaderFields, ProtectedFields}
+
+abbrev pub label_tree : LabelFields → Tree
+label_tree (number i) = integer i
+label_tree (words b) = text b
 
 abbrev pub named_tree : Named → Tree
 named_tree (private_use i) = integer i

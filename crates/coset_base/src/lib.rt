@@ -5,9 +5,13 @@ mod error;
 mod header;
 mod label;
 mod structure;
+mod traits;
+mod util;
 
-pub use crate::error::{CoseError, EndOfFile};
+pub use crate::error::{CoseError, EndOfFile, Result};
 pub use crate::header::{Header, ProtectedHeader};
 pub use crate::label::{Algorithm, Label, RegisteredLabelWithPrivate};
 pub use crate::structure::SignatureContext;
+pub use crate::traits::AsCborValue;
+pub use crate::util::ValueTryAs;
 pub use cose_iana as iana;
