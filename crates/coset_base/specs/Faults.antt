@@ -1,11 +1,10 @@
 -- What a CoseError says, without its texts.
-use Rattle.std.specs.Prelude.{◌≡◌, ℕ, ◌⊎◌}
+use Rattle.std.specs.Prelude.{◌≡◌, ◌⊎◌}
 use Rattle.ciborium.specs.declared.de.Error.{Error}
 use Rattle.ciborium.specs.declared.de.Error.TheVariants as de
 use Rattle.ciborium.specs.declared.ser.Error.{Error as WriteError}
 use Rattle.ciborium.specs.declared.ser.Error.TheVariants as ser
 use Rattle.ciborium.specs.Damage.{Fault, end, deep, syntax, semantic}
-use Rattle.coset_base.specs.declared.error.EndOfFile.{EndOfFile}
 use Rattle.coset_base.specs.declared.error.CoseError.{CoseError}
 use Rattle.coset_base.specs.declared.error.CoseError.TheVariants as code
 

@@ -1,5 +1,5 @@
 -- What headers are written as, and which bytes a signature covers (RFC 9052, sections 3 and 4.4).
-use Rattle.std.specs.Prelude.{ℕ, ℤ, pos, List, [], ◌∷◌, ◌++◌, Bool, true, false, if◌then◌else◌, Option, Some, None}
+use Rattle.std.specs.Prelude.{ℕ, pos, List, [], ◌∷◌, ◌++◌, Bool, true, false, if◌then◌else◌, Option, Some, None}
 use Rattle.ciborium_value.specs.Tree.{Tree, integer, bytes, text, array, map as map_tree}
 use Rattle.ciborium_value.specs.View.{trees, pairs}
 use Rattle.ciborium_value.specs.Encoding.{enc}
