@@ -7,6 +7,8 @@ mod header;
 mod label;
 mod reader;
 mod structure;
+#[cfg(test)]
+mod tests;
 mod traits;
 mod util;
 
