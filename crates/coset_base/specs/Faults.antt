@@ -1,9 +1,10 @@
 -- What a CoseError says, without its texts.
-use Rattle.std.specs.Prelude.{ℕ}
+use Rattle.std.specs.Prelude.{◌≡◌, ◌⊎◌}
 use Rattle.ciborium.specs.declared.de.Error.{Error}
 use Rattle.ciborium.specs.declared.de.Error.TheVariants as de
+use Rattle.ciborium.specs.declared.ser.Error.{Error as WriteError}
+use Rattle.ciborium.specs.declared.ser.Error.TheVariants as ser
 use Rattle.ciborium.specs.Damage.{Fault, end, deep, syntax, semantic}
-use Rattle.coset_base.specs.declared.error.EndOfFile.{EndOfFile}
 use Rattle.coset_base.specs.declared.error.CoseError.{CoseError}
 use Rattle.coset_base.specs.declared.error.CoseError.TheVariants as code
 
@@ -31,3 +32,22 @@ fault_of code.UnregisteredIanaValue = unregistered
 fault_of code.UnregisteredIanaNonPrivateValue = unregistered_private
 fault_of code.Memory = no_memory
 fault_of code.TooManyLayers = too_many_layers
+
+-- the error that a fault of reading one item becomes: each fault of a reader is an end of the bytes
+abbrev pub lifted : {T : Type 0} → Error T → CoseError
+lifted (de.Io e) = code.DecodeFailed (de.Io (record {}))
+lifted (de.Syntax p) = code.DecodeFailed (de.Syntax p)
+lifted (de.Semantic o k) = code.DecodeFailed (de.Semantic o k)
+lifted de.RecursionLimitExceeded = code.DecodeFailed de.RecursionLimitExceeded
+lifted de.Memory = code.Memory
+lifted de.TooLong = code.DecodeFailed de.TooLong
+
+-- the error that a fault of writing one item becomes
+abbrev pub unwritten : {T : Type 0} → WriteError T → CoseError
+unwritten (ser.Io e) = code.EncodeFailed
+unwritten (ser.Value k) = code.EncodeFailed
+unwritten ser.Memory = code.Memory
+
+-- memory was refused, or the fault is wrong there
+abbrev pub OrMemory : (CoseFault → Type 0) → CoseError → Type 0
+OrMemory Wrong e = (e ≡ code.Memory) ⊎ Wrong (fault_of e)

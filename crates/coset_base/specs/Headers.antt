@@ -1,6 +1,6 @@
 -- Which fields a value has as a header, and as a protected header (RFC 9052, sections 3 and 3.1). Labels 1 (algorithm) and 4 (key id)
 -- are known; the algorithm is a registered number or a text.
-use Rattle.std.specs.Prelude.{◌≡◌, ◌≢◌, ℕ, ℤ, pos, negsuc, ◌⊎◌, List, [], ◌∷◌, Bool, true, false, if◌then◌else◌, nat_eq, nat_lt, Option, Some, None, option_map, option_and_then}
+use Rattle.std.specs.Prelude.{◌≡◌, ◌≢◌, ℕ, ℤ, pos, negsuc, ◌⊎◌, List, [], ◌∷◌, Bool, false, if◌then◌else◌, nat_eq, nat_lt, Option, Some, None, option_map, option_and_then}
 use Rattle.cose_iana.specs.Algorithms.{is_algorithm}
 use Rattle.ciborium_value.specs.Tree.{Tree, integer, bytes, text, map as map_tree, Pairs, no_pairs, pair_more}
 use Rattle.ciborium.specs.Front.{Reads}

@@ -1,4 +1,5 @@
 pub mod Contexts
+pub mod Entries
 pub mod Faults
 pub mod Fields
 pub mod Headers

@@ -1,9 +1,13 @@
 -- What headers are written as, and which bytes a signature covers (RFC 9052, sections 3 and 4.4).
-use Rattle.std.specs.Prelude.{ℕ, ℤ, pos, List, [], ◌∷◌, ◌++◌, Bool, true, false, if◌then◌else◌, Option, Some, None}
+use Rattle.std.specs.Prelude.{ℕ, pos, List, [], ◌∷◌, ◌++◌, Bool, true, false, if◌then◌else◌, Option, Some, None}
 use Rattle.ciborium_value.specs.Tree.{Tree, integer, bytes, text, array, map as map_tree}
 use Rattle.ciborium_value.specs.View.{trees, pairs}
 use Rattle.ciborium_value.specs.Encoding.{enc}
-use Rattle.coset_base.specs.Fields.{Named, private_use, assigned, named, HeaderFields, ProtectedFields}
+use Rattle.coset_base.specs.Fields.{LabelFields, number, words, Named, private_use, assigned, named, HeaderFields, ProtectedFields}
+
+abbrev pub label_tree : LabelFields → Tree
+label_tree (number i) = integer i
+label_tree (words b) = text b
 
 abbrev pub named_tree : Named → Tree
 named_tree (private_use i) = integer i

@@ -1,5 +1,5 @@
 -- The fields that labels and headers of the code stand for.
-use Rattle.std.specs.Prelude.{ℕ, ℤ, List, Option, option_map, string_bytes}
+use Rattle.std.specs.Prelude.{ℤ, option_map, string_bytes}
 use Rattle.cose_iana.specs.Algorithms.{algorithm_number}
 use Rattle.coset_base.specs.Fields.{LabelFields, number, words, Named, private_use, assigned, named, HeaderFields, ProtectedFields}
 use Rattle.coset_base.specs.declared.label.Label.{Label}

@@ -26,3 +26,8 @@ optional_tree (Some b) = bytes b
 -- the value that a COSE_Sign1 is written as
 abbrev pub sign1_tree : Sign1Fields → Tree
 sign1_tree m = array (trees (bytes (shown m.protected) ∷ header_tree m.unprotected ∷ optional_tree m.payload ∷ bytes m.signature ∷ []))
+
+-- the payload that a signature covers: none counts as empty
+abbrev pub payload_bytes : Option (List ℕ) → List ℕ
+payload_bytes None = []
+payload_bytes (Some b) = b

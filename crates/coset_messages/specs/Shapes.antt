@@ -1,5 +1,5 @@
 -- Which fields a value has as a message (RFC 9052, section 4.2).
-use Rattle.std.specs.Prelude.{◌≡◌, ℕ, List, [], ◌∷◌}
+use Rattle.std.specs.Prelude.{◌≡◌, [], ◌∷◌}
 use Rattle.ciborium_value.specs.Tree.{Tree, bytes, array}
 use Rattle.ciborium_value.specs.View.{trees}
 use Rattle.coset_base.specs.Headers.{HasHeader, HasProtected}

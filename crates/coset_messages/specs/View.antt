@@ -1,5 +1,5 @@
 -- The fields that messages and recipients of the code stand for.
-use Rattle.std.specs.Prelude.{ℕ, List, Option, option_map}
+use Rattle.std.specs.Prelude.{option_map}
 use Rattle.coset_base.specs.View.{header_view, protected_view}
 use Rattle.coset_messages.specs.Messages.{Sign1Fields, RecipientFields}
 use Rattle.coset_messages.specs.declared.sign.CoseSign1.{CoseSign1}

@@ -1,6 +1,6 @@
 -- Which fault a value has as a message (RFC 9052, section 4.2). A value may have several.
-use Rattle.std.specs.Prelude.{◌≡◌, ◌≢◌, ℕ, List, [], ◌∷◌, Bool, true, false, Option}
-use Rattle.ciborium_value.specs.Tree.{Tree, bytes, array, is_bytes, Trees, tree_count}
+use Rattle.std.specs.Prelude.{◌≡◌, ◌≢◌, ℕ, List, [], ◌∷◌, false, Option}
+use Rattle.ciborium_value.specs.Tree.{Tree, array, is_bytes, Trees, tree_count}
 use Rattle.ciborium_value.specs.View.{trees}
 use Rattle.coset_base.specs.Faults.{CoseFault, unexpected}
 use Rattle.coset_base.specs.Wrong.{is_array, WrongHeader, WrongProtected}
