@@ -1,4 +1,5 @@
 pub mod Items
 pub mod Nothing
 pub mod Outcomes
+pub mod Programs
 pub mod Reach

@@ -281,10 +281,6 @@ nothing_fails ends p p' de.RecursionLimitExceeded d m small = (let z : deep ≡ 
 nothing_fails ends p p' de.Memory d m small = absurd m
 nothing_fails ends p p' de.TooLong d m small = absurd (let l : 2 ^ 64 ≤ p + 0 + 4096 = d in omega arith)
 
-pub known_by : (l : Option (List ℕ)) (P : List ℕ → Type 0) → ((b : List ℕ) → l ≡ Some b → P b) → Known l P
-known_by None P f = tt
-known_by (Some b) P f = f b refl
-
 -- an entry with this number and offset
 pub same_entry : (n m o p : ℕ) (v : Verdict) → n ≡ m → o ≡ p → (let e : Entry = record { number = n; offset = o; verdict = v } in e) ≡ entry_at m p v
 unfolding entry_at

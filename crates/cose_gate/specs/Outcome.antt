@@ -93,6 +93,10 @@ Outcome ends rules old new at b (Err (Decode e)) = Stopped ends rules old new at
 Outcome ends rules old new at b (Err Write) = Torn rules old new at b
 Outcome ends rules old new at b (Err Memory) = Cut rules old new at b
 
+-- where the bytes to come are known, the answer has its outcome over them; where they are not, it tells nothing of them
+pub record Answers {T S E : Type 0} (ends : E → Bool) (rules : Rules T S) (old new : Seen T S) (at : ℕ) (left : Option (List ℕ)) (r : Result Counts (GateFault E)) : Type 0 where
+  pub outcome : (input : List ℕ) → left ≡ Some input → Outcome ends rules old new at input r
+
 -- how often the reader and the writer have failed in the call
 abbrev pub reader_failures : {E : Type 0} → (E → Bool) → Result Counts (GateFault E) → ℕ
 reader_failures ends (Ok counts) = 0

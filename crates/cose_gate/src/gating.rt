@@ -1,8 +1,7 @@
 //! The gate.
 ghost use Rattle.std.specs.Prelude.{◌≡◌, ◌+◌, ◌<◌, ◌^◌, [], Some, not, IsOk, if◌then◌else◌, ℕ, List};
 ghost use Rattle.ciborium_ll.specs.Views.{left_of, offset_of, waiting_of, reader_of};
-ghost use Rattle.ciborium.specs.Reading.{Known};
-ghost use Rattle.cose_gate.specs.Outcome.{Outcome, reader_failures, writer_failures};
+ghost use Rattle.cose_gate.specs.Outcome.{Answers, reader_failures, writer_failures};
 ghost use Rattle.cose_gate.specs.Passing.{at_end, fault_by};
 ghost use Rattle.cose_gate.specs.Run.{has_passed};
 
@@ -98,11 +97,11 @@ pub fn gate<R: Read, W: Write, P: Report, J: Judge>(
     aad: &[u8],
     judge: &mut J,
 ) -> Result<Counts, GateFault<R::Error>>
-    ensures ran { Known (left_of R.left decoder.old) (λ input. Outcome R.ends
+    ensures ran { Answers R.ends
         (record { decided = J.decided; folded = P.folded; allows = J.yes (J.who judge.old); aad = aad.now })
         (record { told = J.told judge.old; state = P.state report.old; written = W.written out.old })
         (record { told = J.told judge.new; state = P.state report.new; written = W.written out.new })
-        (offset_of decoder.old) input result) }
+        (offset_of decoder.old) (left_of R.left decoder.old) result }
     ensures nothing { left_of R.left decoder.old ≡ Some [] → R.failed (reader_of decoder.new) ≡ R.failed (reader_of decoder.old)
         → offset_of decoder.old + 4096 < 2 ^ 64 → IsOk result }
     ensures reader { R.failed (reader_of decoder.new) ≡ R.failed (reader_of decoder.old) + reader_failures R.ends result }

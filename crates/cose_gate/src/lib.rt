@@ -7,11 +7,13 @@ mod asking;
 mod gating;
 mod judge;
 mod passing;
+mod program;
 mod recorder;
 mod report;
 
 pub use crate::about::{About, Kind};
 pub use crate::gating::{Counts, GateFault};
 pub use crate::judge::Judge;
+pub use crate::program::run_first;
 pub use crate::recorder::{Asked, Recorder};
 pub use crate::report::{Entry, Refusal, Report, Silent, Verdict};
