@@ -1,0 +1,36 @@
+//! `cose-gate`: reads a CBOR sequence from standard input, and writes the signed messages that passed to standard output.
+#![tactic(auto)]
+
+use ciborium_ll::Io;
+use cose_gate::run_first;
+use std::io::{BufReader, BufWriter};
+use std::process::ExitCode;
+
+/// Bytes are read and written in blocks of this length.
+const BLOCK: usize = 65536;
+
+/// The status where memory is refused before the gate begins.
+const STOPPED: u8 = 4;
+
+fn main(rt: HostRuntime) -> ExitCode {
+    let mut err = Io::new(rt.stderr());
+    let Ok(input) = BufReader::with_capacity(rt.alloc(), BLOCK, rt.stdin()) else {
+        return no_memory(&mut err);
+    };
+    let Ok(output) = BufWriter::with_capacity(rt.alloc(), BLOCK, rt.stdout()) else {
+        return no_memory(&mut err);
+    };
+    let status = run_first(
+        rt.alloc(),
+        &mut Io::new(input),
+        &mut Io::new(output),
+        &mut err,
+    );
+    ExitCode::from(status)
+}
+
+/// Says that memory was refused.
+fn no_memory<E: ciborium_ll::Write>(err: &mut E) -> ExitCode {
+    let _ = err.write_all(b"stopped: memory\n");
+    ExitCode::from(STOPPED)
+}
