@@ -1,3 +1,4 @@
 pub mod Inside
 pub mod Loops
 pub mod Steps
+pub mod Unique

@@ -56,7 +56,7 @@ at_old : (n : ℕ) (es : List (LabelFields × Tree)) (m : LabelFields) (v : Tree
 at_old n [] m v e = ap (λ b. cond {A = Option Tree} b (Some v) None) e
 at_old n (x ∷ es) m v e = ap (λ z. cond (is_at n x.0) (Some x.1) z) (at_old n es m v e)
 
-cond_none : (b : Bool) (x : Tree) (y z : Option Tree) → cond b (Some x) y ≡ None → (y ≡ None) × (cond b (Some x) z ≡ z)
+pub cond_none : (b : Bool) (x : Tree) (y z : Option Tree) → cond b (Some x) y ≡ None → (y ≡ None) × (cond b (Some x) z ≡ z)
 cond_none true x y z e = let h : Some x ≡ None = e in cc
 cond_none false x y z e = (e, refl)
 
@@ -113,7 +113,8 @@ not_there : {A : Type 0} (f : Tree → Option A) (absent : A) (o : Option Tree) 
 not_there f absent None x g h n = refl
 not_there f absent (Some c) x g h n = absurd (g c (h ∙ ap Some n))
 
-abbrev alg_of : Tree → Option (Option Named)
+-- the field of an algorithm
+abbrev pub alg_of : Tree → Option (Option Named)
 alg_of v = option_map Some (named_of is_algorithm v)
 
 some_alg : (o : Option Named) → option_map Some o ≢ Some None

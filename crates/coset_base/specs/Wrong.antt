@@ -61,3 +61,8 @@ pub data WrongInside (b : List ℕ) : CoseFault → Type 0 where
 abbrev pub WrongProtected : Tree → CoseFault → Type 0
 WrongProtected (bytes b) e = WrongInside b e
 WrongProtected _ e = e ≡ unexpected
+
+-- a byte string longer than offsets can count
+abbrev pub IsOverlong : Tree → Type 0
+IsOverlong (bytes b) = 2 ^ 64 ≤ length b + 4096
+IsOverlong _ = ⊥

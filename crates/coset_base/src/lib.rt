@@ -5,6 +5,7 @@ mod encode;
 mod error;
 mod header;
 mod label;
+pub mod laws;
 mod reader;
 mod structure;
 #[cfg(test)]

@@ -1,5 +1,5 @@
 //! What a signature covers.
-ghost use Rattle.std.specs.Prelude.{◌≡◌, ◌++◌, OnOk, MatchResult, option_map};
+ghost use Rattle.std.specs.Prelude.{◌≡◌, ◌++◌, IfOk, IfErr, MatchResult, option_map};
 ghost use Rattle.ciborium_ll.specs.Views.{memory_of};
 ghost use Rattle.ciborium_value.specs.Tree as spec;
 ghost use Rattle.ciborium_value.specs.Encoding.{enc};
@@ -51,9 +51,9 @@ pub fn sig_structure_data(
     aad: &[u8],
     payload: &[u8],
 ) -> Result<Vec<u8>, CoseError>
-    ensures { MatchResult result
-        (λ v. v.items ≡ structure (context_text context) (protected_view body.now) (option_map (λ p. protected_view p.now) sign.entry) aad.now payload.now)
-        (λ e. e ≡ Memory) }
+    ensures ok { IfOk result (λ v. v.items ≡ structure (context_text context) (protected_view body.now) (option_map (λ p. protected_view p.now) sign.entry)
+        aad.now payload.now) }
+    ensures err { IfErr result (λ e. e ≡ Memory) }
 {
     let mut out = Mem::new(Vec::new(alloc));
     match sign {

@@ -1,9 +1,12 @@
 //! COSE messages and recipients (RFC 9052, sections 4 to 6).
 #![tactic(auto)]
 
+pub mod laws;
 mod parts;
 mod recipient;
 mod sign;
+#[cfg(test)]
+mod tests;
 
 pub use crate::recipient::CoseRecipient;
 pub use crate::sign::CoseSign1;

@@ -1,7 +1,5 @@
 //! Signed messages.
-ghost use Rattle.std.specs.Prelude.{◌≡◌, ◌≢◌, List, ℕ, None, IfOk, MatchOption, MatchResult, codes, option_map};
-ghost use Rattle.ciborium_value.specs.Tree.{tree_count};
-ghost use Rattle.ciborium_value.specs.View.{view, views, trees};
+ghost use Rattle.std.specs.Prelude.{◌≡◌, None, IfOk, IfErr, codes, option_map};
 ghost use Rattle.coset_base.specs.Structure.{structure};
 ghost use Rattle.coset_base.specs.View.{protected_view};
 ghost use Rattle.coset_base.specs.declared.error.CoseError.TheVariants.{Memory};
@@ -56,9 +54,9 @@ impl CoseSign1 {
     /// # Errors
     /// Only where memory is refused.
     pub fn tbs_data(&self, alloc: Global, aad: &[u8]) -> Result<Vec<u8>, CoseError>
-        ensures { MatchResult result
-            (λ v. v.items ≡ structure (codes "Signature1") (protected_view self.now.protected) None aad.now (payload_bytes (option_map (λ p. p.items) self.now.payload)))
-            (λ e. e ≡ Memory) }
+        ensures ok { IfOk result (λ v. v.items ≡ structure (codes "Signature1") (protected_view self.now.protected) None aad.now
+            (payload_bytes (option_map (λ p. p.items) self.now.payload))) }
+        ensures err { IfErr result (λ e. e ≡ Memory) }
     {
         let payload = match &self.payload {
             Some(payload) => payload.as_slice(),
