@@ -9,6 +9,8 @@ mod judge;
 mod passing;
 mod recorder;
 mod report;
+#[cfg(test)]
+mod tests;
 
 pub use crate::about::{About, Kind};
 pub use crate::gating::{Counts, GateFault};
