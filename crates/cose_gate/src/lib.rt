@@ -10,6 +10,8 @@ mod passing;
 mod program;
 mod recorder;
 mod report;
+#[cfg(test)]
+mod tests;
 
 pub use crate::about::{About, Kind};
 pub use crate::gating::{Counts, GateFault};
