@@ -3,3 +3,4 @@ pub mod Nothing
 pub mod Outcomes
 pub mod Programs
 pub mod Reach
+pub mod Unique

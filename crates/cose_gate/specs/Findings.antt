@@ -5,7 +5,7 @@ use Rattle.coset_base.specs.Faults.{CoseFault, fault_of}
 use Rattle.coset_base.specs.declared.error.CoseError.{CoseError}
 use Rattle.coset_messages.specs.Messages.{Sign1Fields}
 use Rattle.coset_messages.specs.Shapes.{HasSign1}
-use Rattle.coset_messages.specs.WrongShapes.{WrongSign1}
+use Rattle.coset_messages.specs.WrongShapes.{WrongSign1, BeginsOverlong}
 use Rattle.cose_gate.specs.Questions.{MessageFields, sign1}
 
 -- why an item is not judged
@@ -45,3 +45,7 @@ IsBarred t no_signature = ⊥
 abbrev pub Finds : Tree → Finding → Type 0
 Finds t (judged m) = IsJudged t m
 Finds t (barred r) = IsBarred t r
+
+-- a message whose protected header has more bytes than offsets can count
+abbrev pub IsOverlongMessage : Tree → Type 0
+IsOverlongMessage t = (u : Tree) × (t ≡ tag 18 u) × BeginsOverlong u

@@ -7,7 +7,7 @@ use Rattle.coset_base.specs.Faults.{fault_of}
 use Rattle.coset_base.specs.declared.error.CoseError.{CoseError}
 use Rattle.cose_gate.specs.Questions.{Question, MessageFields, questions, tagged_tree}
 use Rattle.cose_gate.specs.Asked.{asked, first_no}
-use Rattle.cose_gate.specs.Findings.{Reason, not_tagged, encrypted, other_tag, shape, detached, no_signature, Finding, judged, barred, Finds, IsMisshapen}
+use Rattle.cose_gate.specs.Findings.{Reason, not_tagged, encrypted, other_tag, shape, detached, no_signature, Finding, judged, barred, Finds, IsMisshapen, IsOverlongMessage}
 use Rattle.cose_gate.specs.declared.report.Entry.{Entry}
 use Rattle.cose_gate.specs.declared.report.Verdict.{Verdict}
 use Rattle.cose_gate.specs.declared.report.Verdict.TheVariants.{Passed, Refused}
@@ -88,3 +88,8 @@ pub record Course (allows : Question → Bool) (aad : List ℕ) (at : ℕ) (b : 
 pub record Run (allows : Question → Bool) (aad : List ℕ) (at : ℕ) (b : List ℕ) (ss : List Step) (rest : List ℕ) : Type 0 where
   pub items : Items at b (map (λ s. s.item) ss) rest
   pub steps : Steps allows aad 1 ss
+
+-- no item of these steps is a message with an overlong protected header
+abbrev pub NoneOverlong : List Step → Type 0
+NoneOverlong [] = Unit {0}
+NoneOverlong (s ∷ ss) = (IsOverlongMessage s.item.value → ⊥) × NoneOverlong ss

@@ -6,6 +6,7 @@ mod about;
 mod asking;
 mod gating;
 mod judge;
+pub mod laws;
 mod passing;
 mod program;
 mod recorder;
