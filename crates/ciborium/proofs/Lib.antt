@@ -10,3 +10,6 @@ pub mod Folded
 pub mod Exact
 pub mod Parts
 pub mod Excludes
+pub mod Written
+pub mod Lent
+pub mod Encoded

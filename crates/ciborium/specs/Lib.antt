@@ -4,3 +4,4 @@ pub mod Items
 pub mod Meaning
 pub mod Reading
 pub mod Spelling
+pub mod Writing

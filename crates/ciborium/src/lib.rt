@@ -8,4 +8,5 @@ pub mod ser;
 mod strings;
 pub mod value;
 
+pub use crate::ser::into_writer;
 pub use crate::value::Value;
