@@ -182,24 +182,19 @@ fn takes_one_item_and_leaves_what_follows(rt: HostRuntime) -> Result<(), Fail> {
 #[test]
 fn nests_up_to_the_limit(rt: HostRuntime) -> Result<(), Fail> {
     let alloc = rt.alloc();
-    // so many of a byte and then another, and whether that is shallow enough
+    // so many of a byte and then another
     let rows = [
-        (0x81, 256, 0x00, true),
-        (0x81, 257, 0x00, false),
-        (0xc2, 257, 0x40, true),
-        (0xc2, 258, 0x40, false),
+        (0x81, 256, 0x00, Ok(())),
+        (0x81, 257, 0x00, Err(Error::RecursionLimitExceeded)),
+        (0xc2, 257, 0x40, Ok(())),
+        (0xc2, 258, 0x40, Err(Error::RecursionLimitExceeded)),
     ];
-    for (opens, count, last, is_shallow) in rows {
+    for (opens, count, last, want) in rows {
         let mut text = vec![in alloc; opens; count]?;
         text.push(last)?;
         let mut decoder = Decoder::from(text.as_slice());
-        match from_decoder(alloc, &mut decoder, LIMIT) {
-            Ok(_) => assert!(rt; is_shallow, "{count} of {opens}"),
-            Err(e) => {
-                assert!(rt; !is_shallow, "{count} of {opens}");
-                assert_eq!(rt; e, Error::RecursionLimitExceeded);
-            }
-        }
+        let answer = from_decoder(alloc, &mut decoder, LIMIT).map(|_| ());
+        assert_eq!(rt; answer, want, "{count} of {opens}");
     }
     Ok(())
 }
