@@ -11,5 +11,8 @@ pub mod Exact
 pub mod Parts
 pub mod Excludes
 pub mod Written
-pub mod Lent
 pub mod Encoded
+pub mod StringCases
+pub mod ChildCases
+pub mod ItemCases
+pub mod Sequence

@@ -207,7 +207,7 @@ utf8_fails ends n at (Some b) (Some rest) o o' old new bad t same not title u g 
 some_cons : (b : List ℕ) (x : ℕ) (xs : List ℕ) → b ≡ x ∷ xs → 0 < length b
 some_cons b x xs e = let f : length b ≡ length (x ∷ xs) = ap length e in omega arith
 
-title_some : (b : List ℕ) (h : Header) → Title b h → 0 < length b
+pub title_some : (b : List ℕ) (h : Header) → Title b h → 0 < length b
 title_some b (all.Positive n) t = some_cons _ _ _ t.1.1
 title_some b (all.Negative n) t = some_cons _ _ _ t.1.1
 title_some b (all.Bytes None) t = some_cons _ _ _ t

@@ -43,7 +43,7 @@ tag_level n limit v b l r = record {
   means = r.means;
 }
 
-free_depth : (n limit : ℕ) (x : List ℕ) → (n ≡ 2) ⊎ (n ≡ 3) → depth (tag n (bytes x)) ≤ limit
+pub free_depth : (n limit : ℕ) (x : List ℕ) → (n ≡ 2) ⊎ (n ≡ 3) → depth (tag n (bytes x)) ≤ limit
 free_depth n limit x (inl e) = subst (λ (z : ℕ). depth (tag z (bytes x)) ≤ limit) (sym e) (omega arith)
 free_depth n limit x (inr e) = subst (λ (z : ℕ). depth (tag z (bytes x)) ≤ limit) (sym e) (omega arith)
 
@@ -156,7 +156,7 @@ then_not : (n : ℕ) (m : Option Tree) (x : List ℕ) → option_and_then (tagge
 then_not n None x = none_no x
 then_not n (Some u) x = tagged_not n u x
 
-bytes_meant : (t : Tree) (x : List ℕ) → meaning t ≡ Some (bytes x) → t ≡ bytes x
+pub bytes_meant : (t : Tree) (x : List ℕ) → meaning t ≡ Some (bytes x) → t ≡ bytes x
 bytes_meant (bytes b) x e = cc
 bytes_meant (integer i) x e = cc
 bytes_meant (text b) x e = cc

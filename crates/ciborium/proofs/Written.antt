@@ -1,5 +1,5 @@
 -- Texts one after another at the end of what was written.
-use Rattle.std.proofs.Common.{◌≡◌, ℕ, zero, suc, ◌+◌, ◌<◌, ◌≤◌, List, [], ◌∷◌, ◌++◌, length, take, drop, get_or, Option, Some, Result, Ok, Err, OnOk, OnErr, refl, sym, ap, subst, ◌∙◌, append_assoc, arith, Vec, Box, Global}
+use Rattle.std.proofs.Common.{◌≡◌, ℕ, zero, suc, ◌+◌, ◌<◌, ◌≤◌, List, [], ◌∷◌, ◌++◌, length, take, drop, get_or, Option, Some, Result, Ok, Err, OnOk, OnErr, refl, sym, ap, subst, ◌∙◌, append_assoc, Vec, Box, Global}
 use Rattle.std.specs.List.{flat_map}
 use Rattle.std.specs.Io.KnownBytes.{Appends}
 use Rattle.std.proofs.KnownBytes.{Appends-trans}
@@ -14,6 +14,7 @@ use Rattle.ciborium_value.specs.View.{view, views, view_pairs}
 use Rattle.ciborium_value.specs.Encoding.{enc, enc_all, enc_pairs}
 use Rattle.ciborium_value.specs.declared.value.Value.{Value}
 use Rattle.ciborium_value.specs.declared.value.Value.TheVariants as code
+use Rattle.ciborium_value.proofs.Fitting.{count_items, count_entries}
 use Rattle.ciborium_value.proofs.Views.{view_array, view_map, view_tag}
 
 -- a beginning of the first part is a beginning of the whole
@@ -67,14 +68,6 @@ items_text (v ∷ vs) = ap (λ z. item_text v ++ z) (items_text vs)
 entries_text : (ps : List (Value × Value)) → enc_pairs (view_pairs ps) ≡ flat_map entry_text ps
 entries_text [] = refl
 entries_text (p ∷ ps) = ap (λ z. enc (view p.0) ++ (enc (view p.1) ++ z)) (entries_text ps) ∙ sym (append_assoc (enc (view p.0)) (enc (view p.1)) (flat_map entry_text ps))
-
-pub count_items : (vs : List Value) → tree_count (views vs) ≡ length vs
-count_items [] = refl
-count_items (v ∷ vs) = let h : tree_count (views vs) ≡ length vs = count_items vs in omega arith
-
-pub count_entries : (ps : List (Value × Value)) → pair_count (view_pairs ps) ≡ length ps
-count_entries [] = refl
-count_entries (p ∷ ps) = let h : pair_count (view_pairs ps) ≡ length ps = count_entries ps in omega arith
 
 -- the text of an array, of a map and of a tag, in parts
 pub array_text : (a : Value) (v : Vec Value Global) (xs : List Value) (n : ℕ) → a ≡ code.Array v → xs ≡ v.items → n ≡ length xs → title_of (Array (Some n)) ++ flat_map item_text xs ≡ enc (view a)

@@ -13,11 +13,16 @@ pub record Item : Type 0 where
 abbrev pub nesting : ℕ
 nesting = 256
 
--- no readable item begins here
+-- no readable item begins here; nothing is left is one such case
 abbrev pub IsUnreadable : List ℕ → Type 0
 IsUnreadable b = (v : Tree) (rest : List ℕ) → Front b nesting v rest → ⊥
 
--- `b`, which begins at the offset `at`, is these items one after another and then `rest`, where nothing is left or no readable item begins
-abbrev pub Items : ℕ → List ℕ → List Item → List ℕ → Type 0
-Items at b [] rest = (b ≡ rest) × IsUnreadable rest
-Items at b (i ∷ is) rest = (i.offset ≡ at) × Reads i.bytes nesting i.value × ((more : List ℕ) × (b ≡ i.bytes ++ more) × Items (at + length i.bytes) more is rest)
+-- `b`, which begins at the offset `at`, is these readable items one after another, and then `more`
+abbrev pub Sequence : ℕ → List ℕ → List Item → List ℕ → Type 0
+Sequence at b [] more = b ≡ more
+Sequence at b (i ∷ is) more = (i.offset ≡ at) × Reads i.bytes nesting i.value × ((behind : List ℕ) × (b ≡ i.bytes ++ behind) × Sequence (at + length i.bytes) behind is more)
+
+-- these are all items of `b`: in the rest nothing is left, or no readable item begins
+pub record Items (at : ℕ) (b : List ℕ) (is : List Item) (rest : List ℕ) : Type 0 where
+  pub sequence : Sequence at b is rest
+  pub ends : IsUnreadable rest

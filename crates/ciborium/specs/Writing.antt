@@ -1,5 +1,4 @@
 -- What the contracts of the writer cite.
-use Rattle.std.specs.Prelude.{ℕ, ◌+◌, ◌*◌}
 use Rattle.ciborium.specs.declared.ser.Error.{Error}
 use Rattle.ciborium.specs.declared.ser.Error.TheVariants.{Io, Value, Memory}
 
@@ -8,7 +7,3 @@ abbrev pub IsIo : {T : Type 0} → Error T → Type 0
 IsIo (Io e) = Unit {0}
 IsIo (Value k) = ⊥
 IsIo Memory = ⊥
-
--- two numbers as one, from which both can be told
-unfoldable pub both : ℕ → ℕ → ℕ
-both a b = (a + b) * (a + b) + a

@@ -1,5 +1,5 @@
 //! Reads items.
-ghost use Rattle.std.specs.Prelude.{◌≡◌, IfOk, IfErr, Some, []};
+ghost use Rattle.std.specs.Prelude.{◌≡◌, ◌<◌, ◌^◌, IfOk, IfErr, Some, []};
 ghost use Rattle.ciborium_ll.specs.Reading.{Takes};
 ghost use Rattle.ciborium_ll.specs.Views.{left_of, offset_of, waiting_of, reader_of};
 ghost use Rattle.ciborium_value.specs.View.{view};
@@ -78,6 +78,7 @@ pub fn from_decoder<R: Read>(
     ensures nothing { left_of R.left decoder.old ≡ Some [] → IfErr result IsNoMemory }
     ensures failed { R.failed (reader_of decoder.new) ≡ failures R.ends result (R.failed (reader_of decoder.old)) }
     ensures kept { R.handle (reader_of decoder.new) ≡ R.handle (reader_of decoder.old) }
+    ensures fits { offset_of decoder.new < 2 ^ 64 }
     ensures fresh { waiting_of decoder.new ≡ None }
 {
     let (at, header) = next_title(decoder)?;

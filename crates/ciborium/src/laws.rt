@@ -1,11 +1,12 @@
 //! Laws of the definitions.
-ghost use Rattle.std.specs.Prelude.{◌≡◌, List, ℕ, ◌++◌, ◌+◌, ◌<◌, ◌≢◌, length, Some};
+ghost use Rattle.std.specs.Prelude.{◌≡◌, List, ℕ, ◌++◌, ◌+◌, ◌<◌, ◌≤◌, ◌≢◌, ◌⊎◌, length, Some, All};
 ghost use Rattle.ciborium_value.specs.Encoding.{enc, Fits};
 ghost use Rattle.ciborium_value.specs.Tree.{Tree};
 ghost use Rattle.ciborium.specs.Spelling.{Spells};
 ghost use Rattle.ciborium.specs.Meaning.{meaning};
 ghost use Rattle.ciborium.specs.Damage.{Fault, Damage};
 ghost use Rattle.ciborium.specs.Front.{Front};
+ghost use Rattle.ciborium.specs.Items.{Item, Items};
 
 /// No spelling begins another, and one list spells at most one tree.
 pub fn one_spelling()
@@ -27,4 +28,20 @@ pub fn encoding_spells()
     ensures spells { (t : Tree) → Fits t → Spells (enc t) t }
     ensures once { (t s : Tree) → Fits t → Fits s → enc t ≡ enc s → t ≡ s }
     ensures prefix { (t s : Tree) (u v : List ℕ) → Fits t → Fits s → enc t ++ u ≡ enc s ++ v → (t ≡ s) × (u ≡ v) }
+{}
+
+/// Bytes begin a readable item, or have a fault there. The place behind the last of them is `stop`.
+pub fn front_or_damage()
+    ensures { (stop limit : ℕ) (b : List ℕ) → All (λ x. x < 256) b → length b ≤ stop
+        → ((v : Tree) × (rest : List ℕ) × Front b limit v rest) ⊎ ((e : Fault) × Damage stop b limit e) }
+{}
+
+/// Each input is a list of readable items and then a rest, where nothing is left or no readable item begins.
+pub fn items_exist()
+    ensures { (at : ℕ) (b : List ℕ) → All (λ x. x < 256) b → (is : List Item) × (rest : List ℕ) × Items at b is rest }
+{}
+
+/// The items of an input are one list, and so is its rest.
+pub fn items_are_one()
+    ensures { (at : ℕ) (b : List ℕ) (is js : List Item) (rest more : List ℕ) → Items at b is rest → Items at b js more → (is ≡ js) × (rest ≡ more) }
 {}

@@ -34,37 +34,10 @@ impl<T> From<T> for Error<T> {
     }
 }
 
-/// A writer that is lent. It comes back as the same reference, and what it points to as the same writer.
-#[derive(Drop)]
-struct Lent<'a, W> {
-    writer: &'a mut W,
-}
-
-impl<'a, W: Write> Write for Lent<'a, W> {
-    type Error = W::Error;
-
-    ghost use Rattle.ciborium.specs.Writing.{both};
-
-    ghost written = { λ l. W.written l.writer.now };
-
-    ghost failed = { λ l. W.failed l.writer.now };
-
-    ghost handle = { λ l. both l.writer.ghost_name (W.handle l.writer.now) };
-
-    fn write_all(&mut self, data: &[u8]) -> Result<(), W::Error> {
-        self.writer.write_all(data)
-    }
-
-    fn flush(&mut self) -> Result<(), W::Error> {
-        self.writer.flush()
-    }
-}
-
 /// Writes the one shortest definite text of the value (RFC 8949, section 4.1). It takes no memory.
 ///
 /// # Errors
 /// The writer's, as `Io`; a beginning of the text was written then.
-#[tactic(auto, using(crate::proofs::Lent::both_same))]
 pub fn into_writer<W: Write>(value: &Value, writer: &mut W) -> Result<(), Error<W::Error>>
     ensures ok { OnOk result (Appends (W.written writer.old) (W.written writer.new) (enc (view value.now))) }
     ensures err { OnErr result (AppendsFront (W.written writer.old) (W.written writer.new) (enc (view value.now))) }
@@ -72,7 +45,7 @@ pub fn into_writer<W: Write>(value: &Value, writer: &mut W) -> Result<(), Error<
     ensures kept { W.handle writer.new ≡ W.handle writer.old }
     ensures failed { W.failed writer.new ≡ write_failures result (W.failed writer.old) }
 {
-    let mut encoder = Encoder::from(Lent { writer });
+    let mut encoder = Encoder::from(writer);
     write_value(&mut encoder, value)?;
     Ok(())
 }
@@ -107,6 +80,7 @@ fn write_integer<W: Write>(encoder: &mut Encoder<W>, number: Integer) -> Result<
     }
 }
 
+/// The text of a value.
 fn write_value<W: Write>(encoder: &mut Encoder<W>, value: &Value) -> Result<(), W::Error>
     ensures ok { OnOk result (Appends (W.written (writer_of encoder.old)) (W.written (writer_of encoder.new)) (enc (view value.now))) }
     ensures err { OnErr result (AppendsFront (W.written (writer_of encoder.old)) (W.written (writer_of encoder.new)) (enc (view value.now))) }

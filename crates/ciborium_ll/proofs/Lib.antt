@@ -2,3 +2,4 @@ pub mod Empty
 pub mod Pulling
 pub mod Shortest
 pub mod TitleLaws
+pub mod Titled

@@ -1,5 +1,5 @@
 //! What bytes are read from.
-ghost use Rattle.std.specs.Prelude.{◌≡◌, ◌<◌, ℕ, List, length, Bool, true, Some, OnOk, IfErr, IsTrue};
+ghost use Rattle.std.specs.Prelude.{◌≡◌, ◌<◌, ◌∷◌, [], ℕ, List, length, Bool, true, Some, OnOk, IfErr, IsTrue};
 ghost use Rattle.std.specs.Io.KnownBytes.{Keeps, Consumes};
 ghost use Rattle.ciborium_ll.specs.Device.{IsShort, read_failures};
 ghost use Rattle.std.specs.declared.option.Option.{Option};
@@ -21,8 +21,8 @@ pub trait Read {
     /// Whether a fault is an end of the bytes.
     ghost ends: { Self.Error → Bool };
 
-    /// Which reference it is, where it is one: a reader that is lent comes back as itself.
-    ghost handle: { Self → ℕ } = { λ _. 0 };
+    /// Which references it goes through, the outermost first: a reader that is lent comes back as itself.
+    ghost handle: { Self → List ℕ } = { λ _. [] };
 
     /// Fills the buffer with the next bytes, and takes them.
     ///
@@ -81,7 +81,7 @@ impl<R: Read> Read for &mut R {
 
     ghost ends = { R.ends };
 
-    ghost handle = { λ r. r.ghost_name };
+    ghost handle = { λ r. r.ghost_name ∷ R.handle r.now };
 
     fn read_exact(&mut self, data: &mut [u8]) -> Result<(), R::Error> {
         (**self).read_exact(data)

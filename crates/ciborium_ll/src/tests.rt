@@ -24,6 +24,20 @@ impl<'a> io::Read for Broken<'a> {
     }
 }
 
+/// A writer of std that takes all, and whose flush fails.
+#[derive(Drop)]
+struct Unflushed;
+
+impl io::Write for Unflushed {
+    fn write(&mut self, buf: &[u8]) -> io::Result<usize> {
+        Ok(buf.len())
+    }
+
+    fn flush(&mut self) -> io::Result<()> {
+        Err(io::Error::from(io::ErrorKind::Other))
+    }
+}
+
 /// Headers with their shortest titles.
 const TITLES: [(Header, &[u8]); 22] = [
     (Header::Positive(23), &[0x17]),
@@ -200,6 +214,18 @@ fn a_vector_and_a_writer_of_std_take_all(rt: HostRuntime) -> Result<(), Fail> {
     full.write_all(&[5])?;
     match full.write_all(&[6]) {
         Err(IoFault::End) => {}
+        _ => assert!(rt; false),
+    }
+    Ok(())
+}
+
+#[test]
+fn a_flush_reaches_the_writer_of_std(rt: HostRuntime) -> Result<(), Fail> {
+    let mut out = Io::new(Unflushed);
+    let mut encoder = Encoder::from(&mut out);
+    encoder.push(Header::Break)?;
+    match encoder.flush() {
+        Err(IoFault::Io(_)) => {}
         _ => assert!(rt; false),
     }
     Ok(())

@@ -1,5 +1,5 @@
 //! What bytes are written to.
-ghost use Rattle.std.specs.Prelude.{◌≡◌, ℕ, List, OnOk, OnErr};
+ghost use Rattle.std.specs.Prelude.{◌≡◌, ◌∷◌, [], ℕ, List, OnOk, OnErr};
 ghost use Rattle.std.specs.Io.KnownBytes.{Keeps, Appends};
 ghost use Rattle.ciborium_ll.specs.Device.{AppendsFront, write_failures};
 ghost use Rattle.std.specs.declared.option.Option.{Option};
@@ -18,8 +18,8 @@ pub trait Write {
     /// How often it has failed.
     ghost failed: { Self → ℕ };
 
-    /// Which reference it is, where it is one: a writer that is lent comes back as itself.
-    ghost handle: { Self → ℕ } = { λ _. 0 };
+    /// Which references it goes through, the outermost first: a writer that is lent comes back as itself.
+    ghost handle: { Self → List ℕ } = { λ _. [] };
 
     /// Writes all of the data.
     ///
@@ -48,7 +48,7 @@ impl<W: Write> Write for &mut W {
 
     ghost failed = { λ w. W.failed w.now };
 
-    ghost handle = { λ w. w.ghost_name };
+    ghost handle = { λ w. w.ghost_name ∷ W.handle w.now };
 
     fn write_all(&mut self, data: &[u8]) -> Result<(), W::Error> {
         (**self).write_all(data)

@@ -1,0 +1,62 @@
+-- The items of an input: there is one list of them, and it is there.
+use Rattle.std.proofs.Common.{◌≡◌, ◌<◌, ℕ, zero, suc, ◌+◌, List, [], ◌∷◌, ◌++◌, length, Some, refl, sym, ap, subst, ◌∙◌, arith}
+use Rattle.std.specs.List.{All}
+use Rattle.std.proofs.lemmas.List.{append_cancel_left}
+use Rattle.ciborium_value.specs.Tree.{Tree}
+use Rattle.ciborium.specs.Meaning.{meaning}
+use Rattle.ciborium.specs.Front.{Reads, Front}
+use Rattle.ciborium.specs.Items.{Item, Items, Sequence, IsUnreadable, nesting}
+use Rattle.ciborium.proofs.Once.{once}
+use Rattle.ciborium.proofs.Excludes.{excludes}
+use Rattle.ciborium.proofs.StringCases.{bytes_behind, shorter}
+use Rattle.ciborium.proofs.ChildCases.{ItemCase, readable, damaged, front_some}
+use Rattle.ciborium.proofs.ItemCases.{item_case}
+
+-- two readable items in front of one list are one item
+reads_once : (a b u w : List ℕ) (limit : ℕ) (x y : Tree) → Reads a limit x → Reads b limit y → a ++ u ≡ b ++ w → (x ≡ y) × (a ≡ b)
+reads_once a b u w limit x y p q e =
+    let o = once p.tree q.tree a b u w p.spells q.spells e in
+    let m : meaning p.tree ≡ Some x = p.means in
+    let n : meaning q.tree ≡ Some y = q.means in
+    let t : p.tree ≡ q.tree = o.0 in
+    (cc, o.1)
+
+abbrev item_of : ℕ → List ℕ → Tree → Item
+item_of o b v = record { offset = o; bytes = b; value = v }
+
+same_item : (i j : Item) → i.offset ≡ j.offset → i.bytes ≡ j.bytes → i.value ≡ j.value → i ≡ j
+same_item i j o b v = ap (λ z. item_of z i.bytes i.value) o ∙ ap (λ z. item_of j.offset z i.value) b ∙ ap (item_of j.offset j.bytes) v
+
+front_of : (b : List ℕ) (i : Item) (more : List ℕ) → Reads i.bytes nesting i.value → b ≡ i.bytes ++ more → Front b nesting i.value more
+front_of b i more r e = record { spelling = i.bytes; whole = e; reads = r }
+
+once_by : (at : ℕ) (b : List ℕ) (is js : List Item) (rest more : List ℕ) → IsUnreadable rest → IsUnreadable more → Sequence at b is rest → Sequence at b js more → (is ≡ js) × (rest ≡ more)
+once_by at b [] [] rest more x y p q = (refl, sym p ∙ q)
+once_by at b [] (j ∷ js) rest more x y p q = absurd (x j.value q.2.0 (front_of rest j q.2.0 q.1 (sym p ∙ q.2.1)))
+once_by at b (i ∷ is) [] rest more x y p q = absurd (y i.value p.2.0 (front_of more i p.2.0 p.1 (sym q ∙ p.2.1)))
+once_by at b (i ∷ is) (j ∷ js) rest more x y p q =
+    let e : i.bytes ++ p.2.0 ≡ j.bytes ++ q.2.0 = sym p.2.1 ∙ q.2.1 in
+    let o = reads_once i.bytes j.bytes p.2.0 q.2.0 nesting i.value j.value p.1 q.1 e in
+    let tails : p.2.0 ≡ q.2.0 = append_cancel_left i.bytes p.2.0 q.2.0 (e ∙ ap (λ z. z ++ q.2.0) (sym o.1)) in
+    let there : Sequence (at + length i.bytes) p.2.0 js more =
+    subst (λ (z : List ℕ). Sequence (at + length i.bytes) z js more) (sym tails) (subst (λ (z : List ℕ). Sequence (at + length z) q.2.0 js more) (sym o.1) q.2.2) in
+    let r = once_by (at + length i.bytes) p.2.0 is js rest more x y p.2.2 there in
+    let same : i ≡ j = same_item i j (p.0 ∙ sym q.0) o.1 o.0 in
+    (ap (λ z. z ∷ is) same ∙ ap (λ z. j ∷ z) r.0, r.1)
+
+pub items_once : (at : ℕ) (b : List ℕ) (is js : List Item) (rest more : List ℕ) → Items at b is rest → Items at b js more → (is ≡ js) × (rest ≡ more)
+items_once at b is js rest more p q = once_by at b is js rest more p.ends q.ends p.sequence q.sequence
+
+items_below : (m at : ℕ) (b : List ℕ) → length b < m → All (λ x. x < 256) b → (is : List Item) × (rest : List ℕ) × Items at b is rest
+items_below zero at b few low = absurd (omega arith)
+items_below (suc m) at b few low = by_item (item_case (length b) nesting b (omega arith) low) (λ o r l low'. items_below m o r (omega arith) low')
+  where
+    by_item : ItemCase (length b) nesting b → ((o : ℕ) (r : List ℕ) → length r < length b → All (λ x. x < 256) r → (is : List Item) × (rest : List ℕ) × Items o r is rest)
+        → (is : List Item) × (rest : List ℕ) × Items at b is rest
+    by_item (damaged e d) again = ([], b, record { sequence = refl; ends = λ v rest f. excludes (length b) b nesting e d v rest f })
+    by_item (readable v r f) again =
+        let p = again (at + length f.spelling) r (shorter b f.spelling r f.whole (front_some b r nesting v f)) (bytes_behind b f.spelling r f.whole low) in
+        (item_of at f.spelling v ∷ p.0, p.1, record { sequence = (refl, f.reads, (r, f.whole, p.2.sequence)); ends = p.2.ends })
+
+pub items_there : (at : ℕ) (b : List ℕ) → All (λ x. x < 256) b → (is : List Item) × (rest : List ℕ) × Items at b is rest
+items_there at b low = items_below (suc (length b)) at b (omega arith) low

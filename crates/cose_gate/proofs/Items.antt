@@ -1,0 +1,96 @@
+-- One item: what is found of it, and what stands after it.
+use Rattle.std.proofs.Common.{◌≡◌, ◌≢◌, ℕ, ◌+◌, ◌⊎◌, inl, inr, List, [], ◌∷◌, ◌++◌, Option, None, Some, Bool, true, false, cond, refl, sym, ap, subst, ◌∙◌, arith, take, drop}
+use Rattle.std.specs.Prelude.{is_none, IfErr, Result, Ok, Err}
+use Rattle.std.specs.Io.KnownBytes.{Appends}
+use Rattle.std.proofs.KnownBytes.{Appends-nil}
+use Rattle.std.proofs.lemmas.List.{take-append-drop}
+use Rattle.ciborium_value.specs.Tree.{Tree, tag}
+use Rattle.ciborium_value.specs.Encoding.{enc}
+use Rattle.coset_base.specs.Faults.{fault_of}
+use Rattle.cose_gate.specs.Questions.{Question, MessageFields, questions, tagged_tree}
+use Rattle.cose_gate.specs.Asked.{asked, first_no, folded_over, IsFront}
+use Rattle.cose_gate.specs.Findings.{Reason, not_tagged, encrypted, other_tag, shape, detached, no_signature, Finding, judged, barred, IsJudged, IsBarred}
+use Rattle.cose_gate.specs.Run.{IsVerdict, judged_by, passes, written_of, asked_of}
+use Rattle.cose_gate.specs.Passing.{IsRefused, Taken, Half, HalfWritten}
+use Rattle.cose_gate.specs.declared.report.Refusal.{Refusal}
+use Rattle.cose_gate.specs.declared.report.Refusal.TheVariants as refusal
+use Rattle.cose_gate.specs.declared.report.Verdict.TheVariants.{Passed, Refused}
+
+pub is_encrypted : (t u : Tree) (n : ℕ) → t ≡ tag n u → (n ≡ 16) ⊎ (n ≡ 96) → IsBarred t encrypted
+is_encrypted t u n e k = (n, u, e, k)
+
+pub is_other_tag : (t u : Tree) (n : ℕ) → t ≡ tag n u → n ≢ 16 → n ≢ 96 → n ≢ 18 → IsBarred t (other_tag n)
+is_other_tag t u n e a b c = (u, e, (λ w. not w), c)
+  where
+    not : (n ≡ 16) ⊎ (n ≡ 96) → ⊥
+    not (inl x) = a x
+    not (inr x) = b x
+
+module _ {T : Type 0} (decided : T → Question → T) (allows : Question → Bool) (aad : List ℕ) where
+  barred_as : (t : Tree) (told : T) (w : Option (List ℕ)) (r : Reason) (v : Refusal) → IsBarred t r
+      → IsVerdict allows aad t (barred r) (Refused v) → Taken decided allows aad t told told w w (Refused v)
+  barred_as t told w r v is says = record { finding = barred r; finds = is; verdict = says; tells = refl; writes = Appends-nil w }
+
+  -- a refusal before any question
+  pub taken_barred : (t : Tree) (told : T) (w : Option (List ℕ)) (r : Refusal) → IsRefused t r → Taken decided allows aad t told told w w (Refused r)
+  taken_barred t told w refusal.NotTagged is = barred_as t told w not_tagged refusal.NotTagged is refl
+  taken_barred t told w (refusal.OtherTag n) is = barred_as t told w (other_tag n) (refusal.OtherTag n) is refl
+  taken_barred t told w refusal.Encrypted is = barred_as t told w encrypted refusal.Encrypted is refl
+  taken_barred t told w (refusal.Shape e) is = barred_as t told w shape (refusal.Shape e) (fault_of e, is) (e, refl, is)
+  taken_barred t told w refusal.Detached is = barred_as t told w detached refusal.Detached is refl
+  taken_barred t told w refusal.NoSignature is = absurd is
+  taken_barred t told w (refusal.Judged n) is = absurd is
+
+  written_no : (m : MessageFields) (i : ℕ) → Some i ≡ first_no allows (questions m aad) → written_of allows aad (judged m) ≡ []
+  written_no m i e = ap (λ o. cond (is_none o) (enc (tagged_tree m)) []) (sym e)
+
+  written_yes : (m : MessageFields) → None ≡ first_no allows (questions m aad) → written_of allows aad (judged m) ≡ enc (tagged_tree m)
+  written_yes m e = ap (λ o. cond (is_none o) (enc (tagged_tree m)) []) (sym e)
+
+  -- the judge said no
+  pub taken_no : (t : Tree) (told told' : T) (w : Option (List ℕ)) (m : MessageFields) (i : ℕ) → IsJudged t m → Some i ≡ first_no allows (questions m aad)
+      → told' ≡ folded_over decided told (asked allows (questions m aad)) → Taken decided allows aad t told told' w w (Refused (refusal.Judged i))
+  taken_no t told told' w m i is said tells = record {
+    finding = judged m;
+    finds = is;
+    verdict = ap judged_by said;
+    tells = tells;
+    writes = subst (λ (x : List ℕ). Appends w w x) (sym (written_no m i said)) (Appends-nil w);
+  }
+
+  -- the judge said yes, and the text was written
+  pub taken_yes : (t u : Tree) (told told' : T) (w w' : Option (List ℕ)) (m : MessageFields) → IsJudged t m → None ≡ first_no allows (questions m aad)
+      → told' ≡ folded_over decided told (asked allows (questions m aad)) → u ≡ tagged_tree m → Appends w w' (enc u) → Taken decided allows aad t told told' w w' Passed
+  taken_yes t u told told' w w' m is said tells same writes = record {
+    finding = judged m;
+    finds = is;
+    verdict = ap judged_by said;
+    tells = tells;
+    writes = subst (λ (x : List ℕ). Appends w w' x) (ap enc same ∙ sym (written_yes m said)) writes;
+  }
+
+  -- the text was written in part
+  pub half_written : (t u : Tree) (told told' : T) (w w' : Option (List ℕ)) (m : MessageFields) (n : ℕ) → IsJudged t m → None ≡ first_no allows (questions m aad)
+      → told' ≡ folded_over decided told (asked allows (questions m aad)) → u ≡ tagged_tree m → Appends w w' (take n (enc u)) → HalfWritten decided allows aad t told told' w w'
+  half_written t u told told' w w' m n is said tells same writes = record {
+    message = m;
+    is = is;
+    tells = tells;
+    front = take n (enc u);
+    front_is = record { more = drop n (enc u); whole = written_yes m said ∙ sym (ap enc same) ∙ sym (take-append-drop n (enc u)) };
+    writes = writes;
+  }
+
+  -- all was asked, and nothing written
+  pub half_asked : (t : Tree) (told told' : T) (m : MessageFields) → IsJudged t m → told' ≡ folded_over decided told (asked allows (questions m aad)) → Half decided allows aad t told told'
+  half_asked t told told' m is tells = record {
+    message = m;
+    is = is;
+    asked = asked allows (questions m aad);
+    asked_front = record { more = []; whole = nil (asked allows (questions m aad)) };
+    tells = tells;
+  }
+    where
+      nil : {A : Type 0} (xs : List A) → xs ≡ xs ++ []
+      nil [] = refl
+      nil (x ∷ xs) = ap (λ z. x ∷ z) (nil xs)

@@ -1,0 +1,4 @@
+pub mod Items
+pub mod Nothing
+pub mod Outcomes
+pub mod Reach

@@ -1,0 +1,9 @@
+pub mod Asked
+pub mod Findings
+pub mod Lent
+pub mod Outcome
+pub mod Passing
+pub mod Questions
+pub mod Recorded
+pub mod Recorder
+pub mod Run

@@ -1,0 +1,89 @@
+-- What one item's way through the gate shows.
+use Rattle.std.specs.Prelude.{◌≡◌, ◌≢◌, ℕ, ◌⊎◌, List, Option, Bool, true, false, Result, Ok, Err, if◌then◌else◌}
+use Rattle.std.specs.Io.KnownBytes.{Appends}
+use Rattle.ciborium_value.specs.Tree.{Tree}
+use Rattle.coset_base.specs.Faults.{fault_of}
+use Rattle.coset_base.specs.declared.error.CoseError.{CoseError}
+use Rattle.coset_messages.specs.View.{sign1_view}
+use Rattle.ciborium.specs.declared.de.Error.{Error}
+use Rattle.ciborium.specs.declared.de.Error.TheVariants as de
+use Rattle.cose_gate.specs.Questions.{Question, MessageFields, sign1}
+use Rattle.cose_gate.specs.Asked.{folded_over, IsFront}
+use Rattle.cose_gate.specs.Findings.{Reason, not_tagged, encrypted, other_tag, shape, detached, no_signature, Finding, judged, IsJudged, IsBarred, IsMisshapen, Finds}
+use Rattle.cose_gate.specs.Run.{IsVerdict, asked_of, written_of}
+use Rattle.cose_gate.specs.declared.report.Refusal.{Refusal}
+use Rattle.cose_gate.specs.declared.report.Refusal.TheVariants as refusal
+use Rattle.cose_gate.specs.declared.report.Verdict.{Verdict}
+use Rattle.cose_gate.specs.declared.passing.Found.{Found}
+use Rattle.cose_gate.specs.declared.passing.Found.TheVariants as found
+use Rattle.cose_gate.specs.declared.passing.ItemFault.{ItemFault}
+use Rattle.cose_gate.specs.declared.passing.ItemFault.TheVariants as fault
+use Rattle.cose_gate.specs.declared.gating.GateFault.{GateFault}
+use Rattle.cose_gate.specs.declared.gating.GateFault.TheVariants as gating
+
+-- a refusal that is made before the judge is asked
+abbrev pub IsRefused : Tree → Refusal → Type 0
+IsRefused t refusal.NotTagged = IsBarred t not_tagged
+IsRefused t (refusal.OtherTag n) = IsBarred t (other_tag n)
+IsRefused t refusal.Encrypted = IsBarred t encrypted
+IsRefused t (refusal.Shape e) = IsMisshapen t (fault_of e)
+IsRefused t refusal.Detached = IsBarred t detached
+IsRefused t refusal.NoSignature = ⊥
+IsRefused t (refusal.Judged n) = ⊥
+
+abbrev pub IsFound : Tree → Found → Type 0
+IsFound t (found.Judged m) = IsJudged t (sign1 (sign1_view m))
+IsFound t (found.Barred r) = IsRefused t r
+
+-- the item went through: what was found, told and written
+pub record Taken {T : Type 0} (decided : T → Question → T) (allows : Question → Bool) (aad : List ℕ) (t : Tree) (told told' : T) (written written' : Option (List ℕ)) (v : Verdict) : Type 0 where
+  pub finding : Finding
+  pub finds : Finds t finding
+  pub verdict : IsVerdict allows aad t finding v
+  pub tells : told' ≡ folded_over decided told (asked_of allows aad finding)
+  pub writes : Appends written written' (written_of allows aad finding)
+
+-- the item is a message, and the judge was told a beginning of the questions about it
+pub record Half {T : Type 0} (decided : T → Question → T) (allows : Question → Bool) (aad : List ℕ) (t : Tree) (told told' : T) : Type 0 where
+  pub message : MessageFields
+  pub is : IsJudged t message
+  pub asked : List Question
+  pub asked_front : IsFront asked (asked_of allows aad (judged message))
+  pub tells : told' ≡ folded_over decided told asked
+
+-- the item is a message, the judge was told all questions about it, and a beginning of its text was written
+pub record HalfWritten {T : Type 0} (decided : T → Question → T) (allows : Question → Bool) (aad : List ℕ) (t : Tree) (told told' : T) (written written' : Option (List ℕ)) : Type 0 where
+  pub message : MessageFields
+  pub is : IsJudged t message
+  pub tells : told' ≡ folded_over decided told (asked_of allows aad (judged message))
+  pub front : List ℕ
+  pub front_is : IsFront front (written_of allows aad (judged message))
+  pub writes : Appends written written' front
+
+abbrev pub ItemFails : {T : Type 0} → (T → Question → T) → (Question → Bool) → List ℕ → Tree → T → T → Option (List ℕ) → Option (List ℕ) → ItemFault → Type 0
+ItemFails decided allows aad t told told' written written' fault.Write = HalfWritten decided allows aad t told told' written written'
+ItemFails decided allows aad t told told' written written' fault.Memory = (written' ≡ written) × ((told' ≡ told) ⊎ Half decided allows aad t told told')
+
+-- how often the writer has failed
+abbrev pub item_failures : {T : Type 0} → Result T ItemFault → ℕ
+item_failures (Ok v) = 0
+item_failures (Err fault.Write) = 1
+item_failures (Err fault.Memory) = 0
+
+-- whether a fault is an end of the bytes
+abbrev pub at_end : {E : Type 0} → (E → Bool) → Error E → Bool
+at_end ends (de.Io e) = ends e
+at_end ends (de.Syntax p) = false
+at_end ends (de.Semantic o k) = false
+at_end ends de.RecursionLimitExceeded = false
+at_end ends de.Memory = false
+at_end ends de.TooLong = false
+
+-- what stops the gate where no item was read
+abbrev pub fault_by : {E : Type 0} → Error E → GateFault E
+fault_by (de.Io e) = gating.Decode (de.Io e)
+fault_by (de.Syntax p) = gating.Decode (de.Syntax p)
+fault_by (de.Semantic o k) = gating.Decode (de.Semantic o k)
+fault_by de.RecursionLimitExceeded = gating.Decode de.RecursionLimitExceeded
+fault_by de.Memory = gating.Memory
+fault_by de.TooLong = gating.Decode de.TooLong

@@ -1,0 +1,163 @@
+//! One item on its way through the gate.
+ghost use Rattle.std.specs.Prelude.{◌≡◌, ◌≢◌, ◌+◌, MatchBool, IfOk, IfErr, ℕ};
+ghost use Rattle.ciborium_value.specs.Tree.{tag};
+ghost use Rattle.ciborium_value.specs.View.{view};
+ghost use Rattle.coset_messages.specs.View.{sign1_view};
+ghost use Rattle.cose_gate.specs.Questions.{sign1, tagged_tree};
+ghost use Rattle.coset_base.specs.declared.error.CoseError.TheVariants.{Memory};
+ghost use Rattle.cose_gate.specs.Passing.{IsFound, Taken, ItemFails, item_failures};
+
+use crate::asking::ask_sign1;
+use crate::judge::Judge;
+use crate::report::{Refusal, Verdict};
+use ciborium::{Value, into_writer};
+use ciborium_ll::Write;
+use coset_base::{AsCborValue, CoseError};
+use coset_messages::CoseSign1;
+use std::alloc::{AllocError, AllocFailed, Global};
+
+/// What is found of an item before a judge is asked.
+#[derive(Drop)]
+pub enum Found {
+    /// A message that is judged.
+    Judged(CoseSign1),
+    /// Why it is none.
+    Barred(Refusal),
+}
+
+/// What stopped an item.
+#[derive(Debug, Clone, Copy, PartialEq, Eq)]
+pub enum ItemFault {
+    /// The writer failed.
+    Write,
+    /// Memory was refused.
+    Memory,
+}
+
+impl From<AllocError> for ItemFault {
+    ghost use Rattle.cose_gate.specs.declared.passing.ItemFault.TheVariants as fault;
+
+    ghost from_gives = { λ _ e. e ≡ fault.Memory };
+
+    fn from(_: AllocError) -> ItemFault {
+        ItemFault::Memory
+    }
+}
+
+impl<V: Drop> From<AllocFailed<V>> for ItemFault {
+    ghost use Rattle.cose_gate.specs.declared.passing.ItemFault.TheVariants as fault;
+
+    ghost from_gives = { λ _ e. e ≡ fault.Memory };
+
+    fn from(_: AllocFailed<V>) -> ItemFault {
+        ItemFault::Memory
+    }
+}
+
+fn is_memory(error: &CoseError) -> bool
+    ensures { MatchBool result (error.now ≡ Memory) (error.now ≢ Memory) }
+{
+    match error {
+        CoseError::Memory => true,
+        CoseError::DecodeFailed(_) => false,
+        CoseError::DuplicateMapKey => false,
+        CoseError::EncodeFailed => false,
+        CoseError::ExtraneousData => false,
+        CoseError::OutOfRangeIntegerValue => false,
+        CoseError::UnexpectedItem(_, _) => false,
+        CoseError::UnregisteredIanaValue => false,
+        CoseError::UnregisteredIanaNonPrivateValue => false,
+        CoseError::TooManyLayers => false,
+    }
+}
+
+/// The message under the tag of a Sign1.
+fn find_sign1(alloc: Global, content: Value) -> Result<Found, AllocError>
+    ensures { IfOk result (IsFound (tag 18 (view content))) }
+{
+    match CoseSign1::from_cbor_value(alloc, content) {
+        Ok(message) => {
+            if message.payload.is_none() {
+                return Ok(Found::Barred(Refusal::Detached));
+            }
+            Ok(Found::Judged(message))
+        }
+        Err(error) => {
+            if is_memory(&error) {
+                return Err(AllocError);
+            }
+            Ok(Found::Barred(Refusal::Shape(error)))
+        }
+    }
+}
+
+/// The message that an item is, or why it is none that is judged.
+fn find(alloc: Global, value: Value) -> Result<Found, AllocError>
+    ensures { IfOk result (IsFound (view value)) }
+{
+    match value {
+        Value::Tag(number, content) => {
+            if number == 16 {
+                return Ok(Found::Barred(Refusal::Encrypted));
+            }
+            if number == 96 {
+                return Ok(Found::Barred(Refusal::Encrypted));
+            }
+            if number != 18 {
+                return Ok(Found::Barred(Refusal::OtherTag(number)));
+            }
+            find_sign1(alloc, Box::into_inner(content))
+        }
+        Value::Integer(_) => Ok(Found::Barred(Refusal::NotTagged)),
+        Value::Bytes(_) => Ok(Found::Barred(Refusal::NotTagged)),
+        Value::Float(_) => Ok(Found::Barred(Refusal::NotTagged)),
+        Value::Text(_) => Ok(Found::Barred(Refusal::NotTagged)),
+        Value::Bool(_) => Ok(Found::Barred(Refusal::NotTagged)),
+        Value::Null => Ok(Found::Barred(Refusal::NotTagged)),
+        Value::Array(_) => Ok(Found::Barred(Refusal::NotTagged)),
+        Value::Map(_) => Ok(Found::Barred(Refusal::NotTagged)),
+    }
+}
+
+/// The value that a message is written as, with its tag (RFC 9052, section 2).
+fn tagged(alloc: Global, message: CoseSign1) -> Result<Value, AllocError>
+    ensures { IfOk result (λ v. view v ≡ tagged_tree (sign1 (sign1_view message))) }
+{
+    let Ok(content) = message.to_cbor_value(alloc) else {
+        return Err(AllocError);
+    };
+    let content = Box::new(alloc, content)?;
+    Ok(Value::Tag(18, content))
+}
+
+/// Tests an item, asks the judge about it, and writes it where it has passed.
+pub fn pass<W: Write, J: Judge>(
+    alloc: Global,
+    value: Value,
+    out: &mut W,
+    aad: &[u8],
+    judge: &mut J,
+) -> Result<Verdict, ItemFault>
+    ensures ok { IfOk result (Taken J.decided (J.yes (J.who judge.old)) aad.now (view value) (J.told judge.old) (J.told judge.new) (W.written out.old) (W.written out.new)) }
+    ensures err { IfErr result (ItemFails J.decided (J.yes (J.who judge.old)) aad.now (view value) (J.told judge.old) (J.told judge.new) (W.written out.old) (W.written out.new)) }
+    ensures who { J.who judge.new ≡ J.who judge.old }
+    ensures kept { W.handle out.new ≡ W.handle out.old }
+    ensures failed { W.failed out.new ≡ W.failed out.old + item_failures result }
+{
+    let found = find(alloc, value)?;
+    let message = match found {
+        Found::Judged(message) => message,
+        Found::Barred(refusal) => return Ok(Verdict::Refused(refusal)),
+    };
+    let no = ask_sign1(alloc, &message, aad, judge)?;
+    match no {
+        Some(index) => Ok(Verdict::Refused(Refusal::Judged(index))),
+        None => {
+            let text = tagged(alloc, message)?;
+            match into_writer(&text, out) {
+                Ok(()) => Ok(Verdict::Passed),
+                Err(_) => Err(ItemFault::Write),
+            }
+        }
+    }
+}

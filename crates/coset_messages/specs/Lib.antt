@@ -1,0 +1,4 @@
+pub mod Messages
+pub mod Shapes
+pub mod View
+pub mod WrongShapes
