@@ -2,11 +2,11 @@
 mod examples;
 
 use crate::de::{Error, from_decoder};
-use crate::into_writer;
 use crate::tests::examples::{Example, NOT_WELL_FORMED, VALUES};
 use crate::value::{Integer, Kind, Value};
+use crate::{into_writer, ser};
 use ciborium_ll::count::Count;
-use ciborium_ll::{Decoder, End, Float, Io, IoFault, Mem, Read};
+use ciborium_ll::{Decoder, End, Float, Full, Io, IoFault, Mem, Read};
 use std::alloc::{AllocError, Global};
 use std::io;
 use std::process::Abort;
@@ -56,6 +56,17 @@ fn reads_all(rt: &impl Abort, alloc: Global, examples: &[Example]) -> Result<(),
 fn reads_the_examples(rt: HostRuntime) -> Result<(), Fail> {
     reads_all(&rt, rt.alloc(), &VALUES)?;
     reads_all(&rt, rt.alloc(), &NOT_WELL_FORMED)
+}
+
+#[test]
+fn a_full_writer_is_the_answer(rt: HostRuntime) -> Result<(), Fail> {
+    let value = bytes(rt.alloc(), &[1, 2, 3])?;
+    let mut room = [0u8; 3];
+    let mut out = Mem::new(&mut room[..]);
+    assert_eq!(rt; into_writer(&value, &mut out), Err(ser::Error::Io(Full)));
+    assert!(rt; [0x43u8, 1, 2, 3].starts_with(out.as_written()));
+    assert_eq!(rt; ser::Error::<Full>::from(Full), ser::Error::Io(Full));
+    Ok(())
 }
 
 fn bytes(alloc: Global, bytes: &[u8]) -> Result<Value, AllocError> {

@@ -1,4 +1,5 @@
 //! What no clause says: that calls succeed, and foldings counted by hand.
+use crate::laws::value_fits;
 use crate::{Integer, Kind, Value, fold_tag};
 use ciborium_ll::Float;
 use std::alloc::{AllocError, Global};
@@ -122,6 +123,7 @@ fn a_copy_is_equal(rt: HostRuntime) -> Result<(), Fail> {
     let alloc = rt.alloc();
     let value = tag(alloc, 98, each_variant(alloc)?)?;
     let copy = value.clone(alloc)?;
+    value_fits(&copy);
     assert_eq!(rt; copy, value);
     assert_ne!(rt; copy, tag(alloc, 97, each_variant(alloc)?)?);
     let Value::Array(items) = each_variant(alloc)? else {
@@ -134,14 +136,31 @@ fn a_copy_is_equal(rt: HostRuntime) -> Result<(), Fail> {
 #[test]
 fn integers_are_numbers(rt: HostRuntime) {
     let rows = [
-        (Integer::negative(u64::MAX), -0x1_0000_0000_0000_0000),
-        (Integer::negative(1), -2),
-        (Integer::negative(0), -1),
-        (Integer::from(0), 0),
-        (Integer::from(1), 1),
-        (Integer::from(u64::MAX), 0xffff_ffff_ffff_ffff),
+        (Integer::negative(u64::MAX), -0x1_0000_0000_0000_0000, None),
+        (
+            Integer::from(i64::MIN),
+            -0x8000_0000_0000_0000,
+            Some(i64::MIN),
+        ),
+        (Integer::negative(1), -2, Some(-2)),
+        (Integer::negative(0), -1, Some(-1)),
+        (Integer::from(-1i64), -1, Some(-1)),
+        (Integer::from(0u64), 0, Some(0)),
+        (Integer::from(1u64), 1, Some(1)),
+        (
+            Integer::from(i64::MAX),
+            0x7fff_ffff_ffff_ffff,
+            Some(i64::MAX),
+        ),
+        (
+            Integer::from(0x8000_0000_0000_0000u64),
+            0x8000_0000_0000_0000,
+            None,
+        ),
+        (Integer::from(u64::MAX), 0xffff_ffff_ffff_ffff, None),
     ];
-    for (integer, number) in rows {
+    for (integer, number, short) in rows {
         assert_eq!(rt; i128::from(integer), number);
+        assert_eq!(rt; i64::try_from(integer).ok(), short);
     }
 }
