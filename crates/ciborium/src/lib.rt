@@ -6,6 +6,8 @@ pub mod laws;
 mod reader;
 pub mod ser;
 mod strings;
+#[cfg(test)]
+mod tests;
 pub mod value;
 
 pub use crate::ser::into_writer;

@@ -5,6 +5,8 @@ mod fold;
 mod integer;
 mod kind;
 pub mod laws;
+#[cfg(test)]
+mod tests;
 mod value;
 
 pub use crate::fold::fold_tag;
