@@ -34,60 +34,64 @@ pub(crate) fn cbor_type_error(value: &Value, want: &'static str) -> CoseError
 
 /// What a value holds, where it is of the kind that is asked for. Nothing is copied.
 pub trait ValueTryAs {
+    /// The tree that a value is.
+    ghost tree: { Self → Tree };
+
     /// The items of an array.
     ///
     /// # Errors
     /// `UnexpectedItem` for a value of another kind.
-    fn try_as_array(self) -> Result<Vec<Value>, CoseError>;
+    fn try_as_array(self) -> Result<Vec<Value>, CoseError>
+        ensures { MatchResult result (λ v. tree self ≡ spec.array (views v.items)) (λ e. (fault_of e ≡ unexpected) × (is_array (tree self) ≡ false)) };
 
     /// The bytes of a byte string.
     ///
     /// # Errors
     /// `UnexpectedItem` for a value of another kind.
-    fn try_as_bytes(self) -> Result<Vec<u8>, CoseError>;
+    fn try_as_bytes(self) -> Result<Vec<u8>, CoseError>
+        ensures { MatchResult result (λ b. tree self ≡ spec.bytes b.items) (λ e. (fault_of e ≡ unexpected) × (is_bytes (tree self) ≡ false)) };
 
     /// The bytes of a byte string, or none for null.
     ///
     /// # Errors
     /// `UnexpectedItem` for a value of another kind.
-    fn try_as_bytes_or_nil(self) -> Result<Option<Vec<u8>>, CoseError>;
+    fn try_as_bytes_or_nil(self) -> Result<Option<Vec<u8>>, CoseError>
+        ensures { MatchResult result (λ o. MatchOption o (tree self ≡ spec.simple 22) (λ b. tree self ≡ spec.bytes b.items))
+            (λ e. (fault_of e ≡ unexpected) × (is_bytes (tree self) ≡ false) × (tree self ≢ spec.simple 22)) };
 
     /// The bytes of a byte string that is not empty.
     ///
     /// # Errors
     /// `UnexpectedItem` for an empty byte string, and for a value of another kind.
-    fn try_as_nonempty_bytes(self) -> Result<Vec<u8>, CoseError>;
+    fn try_as_nonempty_bytes(self) -> Result<Vec<u8>, CoseError>
+        ensures { MatchResult result (λ b. some_bytes (tree self) ≡ Some b.items) (λ e. WrongBytes (tree self) (fault_of e)) };
 
     /// The entries of a map, in their order.
     ///
     /// # Errors
     /// `UnexpectedItem` for a value of another kind.
-    fn try_as_map(self) -> Result<Vec<(Value, Value)>, CoseError>;
+    fn try_as_map(self) -> Result<Vec<(Value, Value)>, CoseError>
+        ensures { MatchResult result (λ m. tree self ≡ spec.map (view_pairs m.items)) (λ e. (fault_of e ≡ unexpected) × (is_map (tree self) ≡ false)) };
 }
 
 impl ValueTryAs for Value {
-    fn try_as_array(self) -> Result<Vec<Value>, CoseError>
-        ensures { MatchResult result (λ v. view self ≡ spec.array (views v.items)) (λ e. (fault_of e ≡ unexpected) × (is_array (view self) ≡ false)) }
-    {
+    ghost tree = { view };
+
+    fn try_as_array(self) -> Result<Vec<Value>, CoseError> {
         match self {
             Value::Array(items) => Ok(items),
             other => Err(cbor_type_error(&other, "array")),
         }
     }
 
-    fn try_as_bytes(self) -> Result<Vec<u8>, CoseError>
-        ensures { MatchResult result (λ b. view self ≡ spec.bytes b.items) (λ e. (fault_of e ≡ unexpected) × (is_bytes (view self) ≡ false)) }
-    {
+    fn try_as_bytes(self) -> Result<Vec<u8>, CoseError> {
         match self {
             Value::Bytes(bytes) => Ok(bytes),
             other => Err(cbor_type_error(&other, "bstr")),
         }
     }
 
-    fn try_as_bytes_or_nil(self) -> Result<Option<Vec<u8>>, CoseError>
-        ensures { MatchResult result (λ o. MatchOption o (view self ≡ spec.simple 22) (λ b. view self ≡ spec.bytes b.items))
-            (λ e. (fault_of e ≡ unexpected) × (is_bytes (view self) ≡ false) × (view self ≢ spec.simple 22)) }
-    {
+    fn try_as_bytes_or_nil(self) -> Result<Option<Vec<u8>>, CoseError> {
         match self {
             Value::Bytes(bytes) => Ok(Some(bytes)),
             Value::Null => Ok(None),
@@ -95,9 +99,7 @@ impl ValueTryAs for Value {
         }
     }
 
-    fn try_as_nonempty_bytes(self) -> Result<Vec<u8>, CoseError>
-        ensures { MatchResult result (λ b. some_bytes (view self) ≡ Some b.items) (λ e. WrongBytes (view self) (fault_of e)) }
-    {
+    fn try_as_nonempty_bytes(self) -> Result<Vec<u8>, CoseError> {
         let bytes = self.try_as_bytes()?;
         if bytes.is_empty() {
             return Err(CoseError::UnexpectedItem("empty bstr", "non-empty bstr"));
@@ -105,9 +107,7 @@ impl ValueTryAs for Value {
         Ok(bytes)
     }
 
-    fn try_as_map(self) -> Result<Vec<(Value, Value)>, CoseError>
-        ensures { MatchResult result (λ m. view self ≡ spec.map (view_pairs m.items)) (λ e. (fault_of e ≡ unexpected) × (is_map (view self) ≡ false)) }
-    {
+    fn try_as_map(self) -> Result<Vec<(Value, Value)>, CoseError> {
         match self {
             Value::Map(entries) => Ok(entries),
             other => Err(cbor_type_error(&other, "map")),

@@ -1,10 +1,10 @@
 -- One value has at most one message, and no message where it has a fault.
-use Rattle.std.proofs.Common.{◌≡◌, ◌≢◌, ℕ, List, [], ◌∷◌, Bool, true, false, Option, None, Some, refl, sym, ap, subst, ◌∙◌}
-use Rattle.ciborium_value.specs.Tree.{Tree, bytes, array, simple, is_bytes, Trees, tree_count}
+use Rattle.std.proofs.Common.{◌≡◌, ℕ, List, [], ◌∷◌, true, false, Option, None, Some, refl, sym, ap, subst, ◌∙◌}
+use Rattle.ciborium_value.specs.Tree.{Tree, bytes, array, simple, is_bytes, tree_count}
 use Rattle.ciborium_value.specs.View.{trees}
 use Rattle.coset_base.specs.Faults.{CoseFault, too_long}
 use Rattle.coset_base.specs.Headers.{HasHeader, HasProtected}
-use Rattle.coset_base.specs.Wrong.{is_array, WrongProtected, IsOverlong}
+use Rattle.coset_base.specs.Wrong.{is_array}
 use Rattle.coset_base.proofs.Unique.{header_once, header_not, protected_once, protected_not}
 use Rattle.coset_messages.specs.Messages.{Sign1Fields, optional_tree}
 use Rattle.coset_messages.specs.Shapes.{HasSign1}
