@@ -1,26 +1,25 @@
 -- Arrays, maps and tags that are read, and faults among their children.
-use Rattle.std.proofs.Common.{◌≡◌, ◌≢◌, ◌≤◌, ◌<◌, ◌+◌, ◌-◌, ◌*◌, ◌%◌, ◌^◌, ◌⊎◌, inl, inr, ℕ, suc, max, Bool, true, false, cond, List, [], ◌∷◌, ◌++◌, length, Option, None, Some, refl, sym, ap, subst, ◌∙◌, arith, append_assoc, nat_eq, ◌&&◌, ◌||◌, MatchBool}
+use Rattle.std.proofs.Common.{◌≡◌, ◌≢◌, ◌≤◌, ◌<◌, ◌+◌, ◌-◌, ◌*◌, inl, inr, ℕ, max, Bool, true, false, List, [], ◌∷◌, ◌++◌, length, Option, None, Some, refl, sym, ap, subst, ◌∙◌, arith, nat_eq}
 use Rattle.std.specs.Option.{option_map, option_and_then}
 use Rattle.std.proofs.lemmas.Bool.Decides.{nat_tests}
 use Rattle.std.proofs.lemmas.Bool.{false≢true}
 use Rattle.ciborium_ll.specs.Reading.{Takes}
 use Rattle.ciborium_ll.specs.declared.hdr.Header.{Header}
-use Rattle.ciborium_ll.specs.declared.hdr.Header.TheVariants.{Simple, Tag, Break, Bytes, Text, Array, Map}
+use Rattle.ciborium_ll.specs.declared.hdr.Header.TheVariants.{Break, Array, Map}
 use Rattle.ciborium_ll.specs.Title.{Title, IsCut, StartsBad}
 use Rattle.ciborium_ll.proofs.TitleLaws.{not_cut, not_bad}
 use Rattle.ciborium.specs.declared.de.Error.{Error}
-use Rattle.ciborium.specs.declared.de.Error.TheVariants as code
 use Rattle.ciborium_value.specs.Tree.{Tree, array, bytes, tag, Trees, no_trees, one_more, Pairs, no_pairs, pair_more, flat, tree_count, pair_count, depth, depth_all, depth_pairs, opens_none}
-use Rattle.ciborium.specs.Spelling.{Spells, SpellsAll, SpellsPairs}
+use Rattle.ciborium.specs.Spelling.{SpellsAll, SpellsPairs}
 use Rattle.ciborium_value.specs.Tree as spec
 use Rattle.ciborium.specs.Meaning.{meaning, meanings, pair_meanings}
-use Rattle.ciborium.specs.Damage.{Fault, end, deep, syntax, semantic, Damage, in_title, too_deep, in_child, TitleDamage, Due}
-use Rattle.ciborium.specs.Front.{Reads, ReadsAll, Fronts}
+use Rattle.ciborium.specs.Damage.{Fault, end, deep, syntax, semantic, Damage, in_title, in_child, TitleDamage, Due}
+use Rattle.ciborium.specs.Front.{ReadsAll}
 use Rattle.ciborium_ll.specs.Title.{Begins}
-use Rattle.ciborium.specs.Reading.{Fails, EndPlace, IsLong, FailsAt, FailsBehind, Known, ReadsBehind, ChildrenBehind, ChildDamage, is_full, FitsIn}
-use Rattle.ciborium.proofs.Once.{append_nil, title_once, break_title}
-use Rattle.ciborium.proofs.Taking.{fails_as, fails_behind, takes_then, takes_as}
-use Rattle.ciborium.proofs.ReadLemmas.{meanings_parts, behind_rest, snoc}
+use Rattle.ciborium.specs.Reading.{EndPlace, IsLong, FailsAt, FailsBehind, Known, ReadsBehind, ChildrenBehind, ChildDamage, is_full, FitsIn}
+use Rattle.ciborium.proofs.Once.{title_once, break_title}
+use Rattle.ciborium.proofs.Taking.{fails_as, fails_behind}
+use Rattle.ciborium.proofs.ReadLemmas.{meanings_parts, behind_rest}
 
 -- a fault behind a title that was taken, which it tells
 abbrev pub Begun : Header → (ℕ → List ℕ → Fault → Type 0) → ℕ → List ℕ → Fault → Type 0

@@ -1,25 +1,16 @@
 -- Damaged bytes begin with no item.
-use Rattle.std.proofs.Common.{◌≡◌, ◌≢◌, ◌≤◌, ◌<◌, ◌+◌, ◌-◌, ◌*◌, ◌%◌, ◌⊎◌, inl, inr, ℕ, ℤ, suc, max, Bool, true, false, cond, List, [], ◌∷◌, ◌++◌, length, take, Option, None, Some, refl, sym, ap, subst, ◌∙◌, arith, append_assoc, length-append, nat_eq, ◌&&◌, ◌||◌}
-use Rattle.std.specs.Str.{IsUtf8}
+use Rattle.std.proofs.Common.{◌≡◌, ◌<◌, ◌⊎◌, inl, inr, ℕ, List, [], ◌∷◌, ◌++◌, length, take, Option, None, Some, refl, sym, ap, subst, ◌∙◌, arith, append_assoc, length-append}
 use Rattle.std.proofs.lemmas.List.{append_cancel_left}
-use Rattle.std.proofs.lemmas.Bool.Decides.{nat_tests}
 use Rattle.std.proofs.Math.Seq.{take-append_seam}
 use Rattle.ciborium_ll.specs.declared.hdr.Header.{Header}
-use Rattle.ciborium_ll.specs.declared.hdr.Header.TheVariants.{Simple, Tag, Break, Bytes, Text, Array, Map}
-use Rattle.ciborium_ll.specs.declared.hdr.Header.TheVariants as head
+use Rattle.ciborium_ll.specs.declared.hdr.Header.TheVariants.{Break}
 use Rattle.ciborium_ll.specs.Title.{Title, IsCut, StartsBad}
 use Rattle.ciborium_ll.proofs.TitleLaws.{not_cut, not_bad}
-use Rattle.ciborium_value.specs.declared.kind.Kind.TheVariants as kind
-use Rattle.ciborium_value.specs.Tree.{Tree, integer, bytes, text, array, map, tag, simple, float, Trees, no_trees, one_more, Pairs, flat, tree_count, pair_count, depth, depth_all, depth_pairs, opens_none, is_bytes}
-use Rattle.ciborium_ll.specs.Framing.{joined, Frame, whole, cut, Frames, no_frames, frame_more, Any}
-use Rattle.ciborium.specs.Spelling.{Spells, SpellsAll, SpellsPairs}
-use Rattle.ciborium.specs.Meaning.{meaning, meanings, pair_meanings, simple_meaning}
-use Rattle.ciborium_value.specs.Folding.{tagged, fold_bytes}
-use Rattle.ciborium.specs.Damage.{Fault, end, deep, syntax, semantic, Never, Damage, in_title, in_bytes, in_text, unassigned, stray_break, too_negative, too_deep, in_child, in_tag, in_free, TitleDamage, ChunkDamage, OtherDamage, StringDamage, Due, IsFree, IsLevel, Opens}
-use Rattle.ciborium.specs.Front.{Reads, ReadsAll, Front, Fronts}
+use Rattle.ciborium_ll.specs.Framing.{Frame, whole, cut, Frames, no_frames, frame_more}
+use Rattle.ciborium.specs.Damage.{Fault, end, deep, syntax, semantic, Never, TitleDamage, ChunkDamage, OtherDamage, StringDamage}
 use Rattle.ciborium_ll.specs.Title.{Begins}
-use Rattle.ciborium_ll.specs.Framing.{Opened, opened, deeper, Inside}
-use Rattle.ciborium.proofs.Once.{append_nil, title_once, break_title, split, regroup, first, once, frame_once, no_break, no_break_frame, head_kind, bytes_same, text_same, kind_0, kind_1}
+use Rattle.ciborium_ll.specs.Framing.{Opened, opened, deeper}
+use Rattle.ciborium.proofs.Once.{append_nil, title_once, break_title, split, regroup, frame_once, no_break_frame, head_kind}
 
 -- the frames that are left inside an open string
 record Closing (k : Option ℕ → Header) (P : List ℕ → Type 0) (rest : List ℕ) : Type 0 where

@@ -1,30 +1,23 @@
 -- Items that are read, from their parts.
-use Rattle.std.proofs.Common.{◌≡◌, ◌≢◌, ◌≤◌, ◌<◌, ◌+◌, ◌-◌, ◌*◌, ◌%◌, ◌^◌, ◌⊎◌, inl, inr, ℕ, ℤ, pos, negsuc, suc, max, Bool, true, false, cond, List, [], ◌∷◌, ◌++◌, length, map, Option, None, Some, refl, sym, ap, subst, ◌∙◌, arith, append_assoc, length-append, nat_eq, ◌&&◌, ◌||◌}
+use Rattle.std.proofs.Common.{◌≡◌, ◌≤◌, ◌+◌, ◌*◌, ℕ, Bool, true, false, List, [], ◌∷◌, ◌++◌, length, map, Option, None, Some, refl, sym, ap, subst, ◌∙◌, arith, append_assoc}
 use Rattle.std.specs.Option.{option_map, option_and_then}
-use Rattle.std.specs.Str.{IsUtf8}
-use Rattle.std.proofs.lemmas.Bool.Decides.{nat_tests}
 use Rattle.ciborium_ll.specs.Reading.{Takes}
 use Rattle.ciborium_ll.specs.declared.hdr.Header.{Header}
-use Rattle.ciborium_ll.specs.declared.hdr.Header.TheVariants.{Positive, Negative, Simple, Tag, Break, Bytes, Text, Array, Map}
+use Rattle.ciborium_ll.specs.declared.hdr.Header.TheVariants.{Simple, Break, Bytes, Text}
 use Rattle.ciborium_ll.specs.Title.{Title}
-use Rattle.ciborium_ll.proofs.TitleLaws.{not_cut, not_bad}
 use Rattle.ciborium.specs.declared.de.Error.{Error}
 use Rattle.ciborium.specs.declared.de.Error.TheVariants as code
 use Rattle.ciborium_value.specs.declared.kind.Kind.TheVariants as kind
-use Rattle.ciborium_value.specs.Tree.{Tree, integer, bytes, text, array, map as map_tree, tag, simple, float, Trees, no_trees, one_more, Pairs, no_pairs, pair_more, flat, tree_count, pair_count, depth, depth_all, depth_pairs, opens_none}
-use Rattle.ciborium_ll.specs.Framing.{joined, Frame, Any}
-use Rattle.ciborium.specs.Spelling.{Spells, SpellsAll, SpellsPairs}
-use Rattle.ciborium_value.specs.Encoding.{int_head}
-use Rattle.ciborium.specs.Meaning.{meaning, meanings, pair_meanings, simple_meaning}
-use Rattle.ciborium_value.specs.Folding.{tagged, fold_bytes}
+use Rattle.ciborium_value.specs.Tree.{Tree, bytes, text, Trees, no_trees, one_more, flat, tree_count, depth, depth_all}
+use Rattle.ciborium.specs.Spelling.{Spells, SpellsAll}
+use Rattle.ciborium.specs.Meaning.{meaning, meanings, simple_meaning}
 use Rattle.ciborium_value.specs.View.{trees, pairs}
-use Rattle.ciborium.specs.Damage.{Fault, end, deep, syntax, semantic, Damage, in_title, in_bytes, in_text, unassigned, stray_break, too_negative, too_deep, in_child, in_tag, in_free, TitleDamage, StringDamage, Due, IsFree, IsLevel, Opens}
-use Rattle.ciborium.specs.Front.{Reads, ReadsAll, Fronts}
+use Rattle.ciborium.specs.Damage.{Fault, deep, semantic, Damage, in_title, unassigned, stray_break, too_deep, TitleDamage, Opens}
+use Rattle.ciborium.specs.Front.{Reads, ReadsAll}
 use Rattle.ciborium_ll.specs.Title.{Begins}
-use Rattle.ciborium.specs.Reading.{Fails, EndPlace, IsLong, FailsAt, FailsBehind, Known, string_head, IsBody, StringBehind, ReadsBehind, ChildrenBehind, ChildDamage, TaggedBehind, TagDamage, is_full, FitsIn}
-use Rattle.ciborium_value.specs.Folding.{IsTooNegative}
-use Rattle.ciborium.proofs.Once.{append_nil, title_once, break_title}
-use Rattle.ciborium.proofs.Taking.{fails_as, fails_behind, fails_titled, behind_title, takes_then, takes_as, takes_none}
+use Rattle.ciborium.specs.Reading.{Fails, EndPlace, IsLong, FailsAt, FailsBehind, Known, StringBehind, ReadsBehind}
+use Rattle.ciborium.proofs.Once.{append_nil}
+use Rattle.ciborium.proofs.Taking.{fails_as, behind_title, takes_then, takes_none}
 
 -- leaves
 pub leaf : (h : Header) (tree v : Tree) (limit : ℕ) (l : Option (List ℕ)) (o : ℕ) → ((title : List ℕ) → Title title h → Spells title tree) → depth tree ≤ limit → meaning tree ≡ Some v

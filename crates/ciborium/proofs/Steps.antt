@@ -1,17 +1,17 @@
 -- The steps of the reader's loops.
-use Rattle.std.proofs.Common.{◌≡◌, ◌≢◌, ◌≤◌, ◌<◌, ◌+◌, ◌-◌, ◌*◌, ℕ, Bool, true, false, List, [], ◌∷◌, ◌++◌, length, map, Option, None, Some, refl, sym, ap, subst, ◌∙◌, arith, length-append}
+use Rattle.std.proofs.Common.{◌≡◌, ◌+◌, ◌*◌, ℕ, Bool, false, List, [], ◌∷◌, ◌++◌, length, map, Option, None, sym, ap, subst, ◌∙◌, arith, length-append}
 use Rattle.std.specs.Str.{IsUtf8}
 use Rattle.ciborium_ll.specs.Reading.{Takes}
 use Rattle.ciborium_ll.specs.declared.hdr.Header.{Header}
-use Rattle.ciborium_ll.specs.declared.hdr.Header.TheVariants.{Bytes, Text, Array, Map, Break}
+use Rattle.ciborium_ll.specs.declared.hdr.Header.TheVariants.{Bytes, Text, Break}
 use Rattle.ciborium_ll.specs.Title.{Title}
 use Rattle.ciborium.specs.declared.de.Error.{Error}
-use Rattle.ciborium_value.specs.Tree.{Tree, Trees, no_trees, flat, tree_count}
+use Rattle.ciborium_value.specs.Tree.{Tree, Trees, flat, tree_count}
 use Rattle.ciborium_value.specs.View.{trees, pairs}
-use Rattle.ciborium.specs.Damage.{Fault, Damage, in_bytes, in_text, StringDamage}
-use Rattle.ciborium.specs.Front.{ReadsAll, Reads}
+use Rattle.ciborium.specs.Damage.{Damage, in_bytes, in_text, StringDamage}
+use Rattle.ciborium.specs.Front.{ReadsAll}
 use Rattle.ciborium.specs.Reading.{FailsBehind, string_head, IsBody, ReadsBehind, ChildrenBehind, FitsIn, is_full}
-use Rattle.ciborium.proofs.Taking.{takes_then, takes_as}
+use Rattle.ciborium.proofs.Taking.{takes_then}
 use Rattle.ciborium.proofs.ReadLemmas.{snoc, snoc_count, behind_as, step_item, pushed, pushed_pair, all_none, count_flat}
 use Rattle.ciborium.proofs.ChildLemmas.{fits_none, fits_more, children_closed}
 

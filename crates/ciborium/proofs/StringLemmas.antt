@@ -1,9 +1,8 @@
 -- Strings that are read part by part.
-use Rattle.std.proofs.Common.{◌≡◌, ◌≢◌, ◌≤◌, ◌<◌, ◌+◌, ◌-◌, ◌^◌, ◌⊎◌, inl, inr, ℕ, Bool, true, false, List, [], ◌∷◌, ◌++◌, length, take, Option, None, Some, refl, sym, ap, subst, ◌∙◌, arith, append_assoc, length-append, Result, Ok, Err, is_err, MatchResult, drop}
+use Rattle.std.proofs.Common.{◌≡◌, ◌≢◌, ◌≤◌, ◌<◌, ◌+◌, ◌-◌, ◌⊎◌, inl, inr, ℕ, Bool, true, false, List, [], ◌∷◌, ◌++◌, length, take, Option, None, Some, refl, sym, ap, subst, ◌∙◌, arith, append_assoc, length-append, Result, Ok, Err, is_err, MatchResult, drop}
 use Rattle.std.proofs.lemmas.Bool.{false≢true}
 use Rattle.std.proofs.Math.Seq.{take-append_seam, drop-append_seam, take-length}
 use Rattle.std.specs.Str.{IsUtf8}
-use Rattle.std.specs.Io.KnownBytes.{Consumes}
 use Rattle.ciborium_ll.specs.Reading.{Takes}
 use Rattle.ciborium_ll.specs.declared.hdr.Header.{Header}
 use Rattle.ciborium_ll.specs.declared.hdr.Header.TheVariants.{Break, Bytes, Text}
@@ -13,10 +12,9 @@ use Rattle.ciborium_ll.specs.Title.{Title}
 use Rattle.ciborium.specs.declared.de.Error.{Error}
 use Rattle.ciborium.specs.declared.de.Error.TheVariants as code
 use Rattle.ciborium_ll.specs.Framing.{joined, Frame, whole, cut, Frames, no_frames, frame_more}
-use Rattle.ciborium.specs.Damage.{Fault, end, deep, syntax, semantic, Never, TitleDamage, ChunkDamage, OtherDamage, StringDamage}
-use Rattle.ciborium_ll.specs.Title.{Begins}
-use Rattle.ciborium_ll.specs.Framing.{Opened, opened, deeper, Inside}
-use Rattle.ciborium.specs.Reading.{Fails, FailsAt, FailsBehind, Known, string_head, IsBody, StringBehind, OpenBehind, ChunkBody}
+use Rattle.ciborium.specs.Damage.{Fault, Never, TitleDamage, ChunkDamage, OtherDamage, StringDamage}
+use Rattle.ciborium_ll.specs.Framing.{Opened, opened, deeper}
+use Rattle.ciborium.specs.Reading.{FailsAt, FailsBehind, Known, string_head, IsBody, StringBehind, OpenBehind, ChunkBody}
 use Rattle.ciborium.proofs.Once.{append_nil}
 use Rattle.ciborium.proofs.Taking.{fails_as, fails_behind, fails_titled, behind_title, takes_then}
 

@@ -1,7 +1,6 @@
 -- The item behind a tag.
-use Rattle.std.proofs.Common.{◌≡◌, ◌≢◌, ◌≤◌, ◌<◌, ◌+◌, ◌-◌, ◌*◌, ◌^◌, ◌⊎◌, inl, inr, ℕ, suc, Bool, true, false, cond, List, [], ◌∷◌, ◌++◌, length, Option, None, Some, refl, sym, ap, subst, ◌∙◌, arith, append_assoc, nat_eq, nat_lt, nat_le, ◌&&◌, ◌||◌, ℤ}
+use Rattle.std.proofs.Common.{◌≡◌, ◌≢◌, ◌≤◌, ◌<◌, ◌+◌, ◌-◌, ◌⊎◌, inl, inr, ℕ, suc, Bool, true, false, cond, List, ◌++◌, length, Option, None, Some, refl, sym, ap, subst, ◌∙◌, arith, nat_eq, nat_le, ◌&&◌, ℤ}
 use Rattle.std.specs.Option.{option_map, option_and_then}
-use Rattle.std.proofs.lemmas.Bool.Decides.{nat_tests}
 use Rattle.ciborium_ll.specs.Reading.{Takes}
 use Rattle.ciborium_ll.specs.declared.hdr.Header.{Header}
 use Rattle.ciborium_ll.specs.declared.hdr.Header.TheVariants.{Tag, Bytes}
@@ -10,16 +9,15 @@ use Rattle.ciborium.specs.declared.de.Error.{Error}
 use Rattle.ciborium.specs.declared.de.Error.TheVariants as code
 use Rattle.ciborium_value.specs.declared.kind.Kind.TheVariants as kind
 use Rattle.ciborium_value.specs.Tree.{Tree, integer, bytes, text, array, map, tag, simple, float, Trees, Pairs, depth, opens_none}
-use Rattle.ciborium_ll.specs.Framing.{Any, Frame, joined}
 use Rattle.ciborium.specs.Spelling.{Spells}
-use Rattle.ciborium.specs.Meaning.{meaning, meanings, pair_meanings, simple_meaning}
-use Rattle.ciborium_value.specs.Folding.{tagged, fold_bytes, fold_number, big_endian_from, without_zeros}
-use Rattle.ciborium.specs.Damage.{Fault, end, deep, syntax, semantic, Damage, in_title, in_bytes, too_negative, too_deep, in_tag, in_free, TitleDamage, StringDamage, IsFree, IsLevel}
+use Rattle.ciborium.specs.Meaning.{meaning, meanings, pair_meanings}
+use Rattle.ciborium_value.specs.Folding.{tagged, fold_bytes}
+use Rattle.ciborium.specs.Damage.{Fault, end, deep, syntax, semantic, Damage, in_title, in_bytes, too_negative, too_deep, in_tag, in_free, TitleDamage, StringDamage, IsFree}
 use Rattle.ciborium.specs.Front.{Reads}
 use Rattle.ciborium_ll.specs.Title.{Begins}
-use Rattle.ciborium.specs.Reading.{Fails, FailsAt, FailsBehind, Known, string_head, IsBody, StringBehind, ReadsBehind, TaggedBehind, TagDamage}
+use Rattle.ciborium.specs.Reading.{FailsAt, FailsBehind, Known, string_head, IsBody, StringBehind, ReadsBehind, TaggedBehind, TagDamage}
 use Rattle.ciborium_value.specs.Folding.{IsTooNegative}
-use Rattle.ciborium.proofs.Taking.{fails_as, takes_then}
+use Rattle.ciborium.proofs.Taking.{fails_as}
 use Rattle.ciborium.proofs.ReadLemmas.{behind_rest}
 use Rattle.ciborium.proofs.ChildLemmas.{Begun, fails_begun}
 

@@ -1,12 +1,12 @@
 -- The bodies of a text are UTF-8 together.
-use Rattle.std.proofs.Common.{◌≡◌, ℕ, List, [], ◌∷◌, ◌++◌, length, Option, None, Some, refl, sym, ap, subst, ◌∙◌, true}
+use Rattle.std.proofs.Common.{ℕ, List, ◌++◌, Option, sym, subst, true}
 use Rattle.std.specs.Str.{IsUtf8}
 use Rattle.std.proofs.lemmas.Str.{IsUtf8-append, IsUtf8-nil}
 use Rattle.ciborium_ll.specs.declared.hdr.Header.TheVariants.{Text}
 use Rattle.ciborium_ll.specs.declared.hdr.Header.{Header}
 use Rattle.ciborium_ll.specs.Title.{Title}
 use Rattle.ciborium_ll.specs.Framing.{joined, Frame, whole, cut, Frames, no_frames, frame_more}
-use Rattle.ciborium.specs.Reading.{StringBehind, string_head, IsBody}
+use Rattle.ciborium.specs.Reading.{StringBehind}
 use Rattle.ciborium.proofs.Once.{append_nil}
 use Rattle.ciborium.proofs.StringLemmas.{joined_append}
 

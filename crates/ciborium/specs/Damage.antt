@@ -1,9 +1,9 @@
 -- An item at the front of some bytes, and why there is none.
-use Rattle.std.specs.Prelude.{◌≡◌, ◌≢◌, ℕ, ◌+◌, ◌-◌, ◌*◌, ◌%◌, ◌<◌, ◌≤◌, ◌⊎◌, List, [], ◌∷◌, ◌++◌, length, take, Option, Some, None, Bool, true, false}
+use Rattle.std.specs.Prelude.{◌≡◌, ◌≢◌, ℕ, ◌+◌, ◌-◌, ◌*◌, ◌%◌, ◌<◌, ◌⊎◌, List, ◌∷◌, ◌++◌, length, take, Option, Some, None}
 use Rattle.std.specs.Str.{IsUtf8}
 use Rattle.ciborium_ll.specs.declared.hdr.Header.{Header}
 use Rattle.ciborium_ll.specs.declared.hdr.Header.TheVariants.{Positive, Negative, Float, Simple, Tag, Break, Bytes, Text, Array, Map}
-use Rattle.ciborium_ll.specs.Title.{Title, Begins, IsCut, StartsBad}
+use Rattle.ciborium_ll.specs.Title.{Begins, IsCut, StartsBad}
 use Rattle.ciborium_value.specs.declared.kind.Kind.{Kind}
 use Rattle.ciborium_value.specs.declared.kind.Kind.TheVariants as kind
 use Rattle.ciborium_value.specs.Tree.{Trees, tree_count}

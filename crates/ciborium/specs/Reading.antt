@@ -6,17 +6,15 @@ use Rattle.ciborium_ll.specs.declared.hdr.Header.TheVariants.{Break, Bytes, Text
 use Rattle.ciborium_ll.specs.declared.hdr.Error.{Error as HeadError}
 use Rattle.ciborium_ll.specs.declared.hdr.Error.TheVariants as below
 use Rattle.ciborium_ll.specs.Title.{Title}
-use Rattle.ciborium_value.specs.declared.kind.Kind.{Kind}
 use Rattle.ciborium_value.specs.declared.kind.Kind.TheVariants as kind
 use Rattle.ciborium.specs.declared.de.Error.{Error}
 use Rattle.ciborium.specs.declared.de.Error.TheVariants as code
 use Rattle.ciborium.specs.declared.strings.Part.{Part}
 use Rattle.ciborium.specs.declared.strings.Part.TheVariants as part
-use Rattle.ciborium_value.specs.Tree.{Tree, Trees, tree_count, depth, tag, bytes}
+use Rattle.ciborium_value.specs.Tree.{Tree, Trees, tree_count, depth, tag}
 use Rattle.ciborium_ll.specs.Framing.{Frame, joined}
 use Rattle.ciborium.specs.Spelling.{Spells}
 use Rattle.ciborium.specs.Meaning.{meaning}
-use Rattle.ciborium_value.specs.Folding.{fold_bytes}
 use Rattle.ciborium.specs.Damage.{Fault, end, deep, syntax, semantic, Damage, Due, IsFree, IsLevel}
 use Rattle.ciborium_ll.specs.Framing.{Opened}
 use Rattle.ciborium.specs.Front.{Reads, ReadsAll, Fronts}

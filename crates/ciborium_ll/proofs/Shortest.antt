@@ -1,5 +1,5 @@
 -- The shortest title is a title.
-use Rattle.std.proofs.Common.{◌≡◌, ◌<◌, ◌≤◌, ◌+◌, ◌^◌, ℕ, List, [], ◌∷◌, length, Option, None, Some, refl, ap, ◌∙◌, arith, nat_lt}
+use Rattle.std.proofs.Common.{◌≡◌, ◌<◌, ◌≤◌, ◌+◌, ◌^◌, ℕ, List, [], ◌∷◌, length, Option, None, Some, refl, ap, arith, nat_lt}
 use Rattle.std.proofs.lemmas.Bool.{cond_both, ltb-true, ltb-false}
 use Rattle.std.specs.Int.{w16, w32, w64, to_be_bytes}
 use Rattle.ciborium_ll.specs.declared.hdr.Header.{Header}

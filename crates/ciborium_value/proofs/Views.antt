@@ -1,5 +1,5 @@
 -- The view of a value made of its parts.
-use Rattle.std.proofs.Common.{◌≡◌, ℕ, rules, map, refl, ap, sym, ◌∙◌, Box, Vec, Global, String, string_bytes}
+use Rattle.std.proofs.Common.{◌≡◌, ℕ, ap, sym, ◌∙◌, Box, Vec, Global, String, string_bytes}
 use Rattle.ciborium_value.specs.Tree as spec
 use Rattle.ciborium_value.specs.Tree.{Tree}
 use Rattle.ciborium_value.specs.View.{view, views, view_step, view_pairs}

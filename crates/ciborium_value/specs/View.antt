@@ -1,5 +1,5 @@
 -- The tree that a value of the code stands for.
-use Rattle.std.specs.Prelude.{◌≡◌, ℕ, ℤ, List, [], ◌∷◌, map, Bool, true, false, string_bytes}
+use Rattle.std.specs.Prelude.{ℤ, List, [], ◌∷◌, map, Bool, true, false, string_bytes}
 use Rattle.ciborium_value.specs.Tree as spec
 use Rattle.ciborium_value.specs.Tree.{Tree, Trees, no_trees, one_more, Pairs, no_pairs, pair_more}
 use Rattle.ciborium_value.specs.declared.integer.Integer.{Integer}

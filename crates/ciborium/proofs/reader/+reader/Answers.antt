@@ -1,10 +1,9 @@
-use Rattle.std.proofs.Common.{rules, ◌≡◌, ◌≢◌, ◌≤◌, ◌<◌, ◌+◌, ◌-◌, ◌++◌, ℕ, List, length, arith, ap, sym, ◌∙◌, refl, subst, Some, None, pos, negsuc, false, true}
+use Rattle.std.proofs.Common.{rules, ◌≡◌, length, arith, ap, sym, ◌∙◌, refl, Some, pos, negsuc}
 use Rattle.std.proofs.lemmas.Result.{err_from_is_err_and}
 use Rattle.ciborium_ll.specs.declared.hdr.Header.TheVariants.{Positive, Negative, Simple, Tag, Break, Bytes, Text, Array, Map}
 use Rattle.ciborium_ll.specs.declared.hdr.Header.TheVariants as head
 use Rattle.ciborium_value.specs.Tree as spec
 use Rattle.ciborium_value.specs.View.{view, view_pair}
-use Rattle.ciborium.specs.Reading.{is_full}
 use Rattle.ciborium_value.proofs.Views.{view_integer, view_float, view_bytes, view_text, view_array, view_map}
 use Rattle.ciborium.proofs.Taking.{takes_as, takes_then, takes_none}
 use Rattle.ciborium.proofs.ReadLemmas.{leaf, bytes_read, text_read, simple_fails, break_fails, deep_fails, step_item, item_read, count_views, count_flat}

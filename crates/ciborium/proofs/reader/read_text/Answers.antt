@@ -1,4 +1,3 @@
-use Rattle.std.proofs.Common.{List, ℕ}
 use Rattle.std.proofs.lemmas.Bool.{false≢true}
 use Rattle.ciborium.proofs.Texts.{string_utf8}
 use Rattle.ciborium.proofs.reader.read_text.Goals as goal

@@ -1,4 +1,4 @@
-use Rattle.std.proofs.Common.{◌≡◌, arith, rules, true, Some, drop, length, sym, ap, ◌∙◌, take, List, ℕ, ◌++◌, ◌-◌}
+use Rattle.std.proofs.Common.{◌≡◌, arith, length}
 use Rattle.ciborium.proofs.StringLemmas.{utf8_fails_at, utf8_no}
 use Rattle.ciborium.proofs.strings.read_chunk.Goals as goal
 

@@ -1,4 +1,4 @@
-use Rattle.std.proofs.Common.{◌≡◌, ◌≤◌, ◌-◌, ◌^◌, ◌++◌, ◌+◌, ℕ, List, None, length}
+use Rattle.std.proofs.Common.{◌≡◌, ◌≤◌, ◌-◌, ◌^◌, ◌+◌, ℕ, List, None}
 use Rattle.ciborium_ll.specs.Reading.{Takes}
 use Rattle.ciborium_ll.specs.Views.{left_of, offset_of, waiting_of, reader_of}
 use Rattle.ciborium.specs.Reading.{OpenBehind}

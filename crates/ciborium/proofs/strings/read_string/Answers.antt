@@ -1,6 +1,3 @@
-use Rattle.std.proofs.Common.{◌≡◌, List, ℕ, Option, Some, sym, subst}
-use Rattle.ciborium_ll.specs.Reading.{Takes}
-use Rattle.ciborium.specs.Reading.{StringBehind}
 use Rattle.ciborium.proofs.Taking.{takes_as}
 use Rattle.ciborium.proofs.StringLemmas.{chunk_done}
 use Rattle.ciborium.proofs.strings.read_string.Goals as goal

@@ -1,4 +1,4 @@
-use Rattle.std.proofs.Common.{arith, length, ◌<◌}
+use Rattle.std.proofs.Common.{arith}
 use Rattle.ciborium_value.proofs.Numbers.{number_step, small_step, below}
 use Rattle.ciborium_value.proofs.fold.number.Goals as goal
 

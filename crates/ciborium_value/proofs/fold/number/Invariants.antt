@@ -1,4 +1,4 @@
-use Rattle.std.proofs.Common.{◌≡◌, ◌<◌, ◌+◌, ◌*◌, ◌^◌, take}
+use Rattle.std.proofs.Common.{◌≡◌, ◌<◌, ◌^◌, take}
 use Rattle.ciborium_value.specs.Folding.{big_endian_from}
 use Rattle.ciborium_value.proofs.fold.number.Given as goal
 
