@@ -79,6 +79,7 @@ fn clone_alg(alloc: Global, alg: &Option<Algorithm>) -> Result<Option<Algorithm>
     }
 }
 
+/// The entries are read in their order: of each first its label, then whether it is known, whether it stood before, and its value.
 impl AsCborValue for Header {
     ghost Fields = { HeaderFields };
 

@@ -73,6 +73,7 @@ impl CoseSign1 {
     }
 }
 
+/// The elements are read from the last to the first.
 impl AsCborValue for CoseSign1 {
     ghost Fields = { Sign1Fields };
 
