@@ -1,6 +1,6 @@
 -- One item: what is found of it, and what stands after it.
-use Rattle.std.proofs.Common.{◌≡◌, ◌≢◌, ℕ, ◌+◌, ◌⊎◌, inl, inr, List, [], ◌∷◌, ◌++◌, Option, None, Some, Bool, true, false, cond, refl, sym, ap, subst, ◌∙◌, arith, take, drop}
-use Rattle.std.specs.Prelude.{is_none, IfErr, Result, Ok, Err}
+use Rattle.std.proofs.Common.{◌≡◌, ◌≢◌, ℕ, ◌⊎◌, inl, inr, List, [], ◌∷◌, ◌++◌, Option, None, Some, Bool, cond, refl, sym, ap, subst, ◌∙◌, take, drop}
+use Rattle.std.specs.Prelude.{is_none}
 use Rattle.std.specs.Io.KnownBytes.{Appends}
 use Rattle.std.proofs.KnownBytes.{Appends-nil}
 use Rattle.std.proofs.lemmas.List.{take-append-drop}
@@ -8,9 +8,9 @@ use Rattle.ciborium_value.specs.Tree.{Tree, tag}
 use Rattle.ciborium_value.specs.Encoding.{enc}
 use Rattle.coset_base.specs.Faults.{fault_of}
 use Rattle.cose_gate.specs.Questions.{Question, MessageFields, questions, tagged_tree}
-use Rattle.cose_gate.specs.Asked.{asked, first_no, folded_over, IsFront}
-use Rattle.cose_gate.specs.Findings.{Reason, not_tagged, encrypted, other_tag, shape, detached, no_signature, Finding, judged, barred, IsJudged, IsBarred}
-use Rattle.cose_gate.specs.Run.{IsVerdict, judged_by, passes, written_of, asked_of}
+use Rattle.cose_gate.specs.Asked.{asked, first_no, folded_over}
+use Rattle.cose_gate.specs.Findings.{Reason, not_tagged, encrypted, other_tag, shape, detached, judged, barred, IsJudged, IsBarred}
+use Rattle.cose_gate.specs.Run.{IsVerdict, judged_by, written_of}
 use Rattle.cose_gate.specs.Passing.{IsRefused, Taken, Half, HalfWritten}
 use Rattle.cose_gate.specs.declared.report.Refusal.{Refusal}
 use Rattle.cose_gate.specs.declared.report.Refusal.TheVariants as refusal

@@ -1,9 +1,9 @@
 -- No byte is left: the one fault that is due is an end.
-use Rattle.std.proofs.Common.{◌≡◌, ◌≢◌, ◌⊎◌, inl, inr, ℕ, ◌+◌, ◌<◌, List, [], ◌∷◌, ◌++◌, length, Option, None, Some, refl, sym, ap, subst, ◌∙◌, arith, length-append}
+use Rattle.std.proofs.Common.{◌≡◌, inl, inr, ℕ, ◌+◌, ◌<◌, List, [], ◌++◌, length, Option, None, Some, refl, ap, subst, ◌∙◌, arith, length-append}
 use Rattle.std.specs.Str.{IsUtf8}
 use Rattle.ciborium_ll.specs.declared.hdr.Header.{Header}
 use Rattle.ciborium_ll.specs.declared.hdr.Header.TheVariants.{Bytes, Text}
-use Rattle.ciborium_ll.specs.Title.{Title, Begins, StartsBad}
+use Rattle.ciborium_ll.specs.Title.{Begins, StartsBad}
 use Rattle.ciborium_ll.specs.Framing.{Any, Opened, opened, deeper}
 use Rattle.ciborium.specs.Damage.{Fault, end, deep, syntax, semantic, Damage, in_title, in_bytes, in_text, unassigned, stray_break, too_negative, too_deep, in_child, in_tag, in_free, TitleDamage, ChunkDamage, StringDamage}
 use Rattle.ciborium.proofs.StringLemmas.{title_some}

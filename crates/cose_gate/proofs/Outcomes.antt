@@ -1,30 +1,27 @@
 -- What is answered, from how far the gate has come.
-use Rattle.std.proofs.Common.{◌≡◌, ◌≢◌, ◌⊎◌, inl, inr, ℕ, suc, ◌+◌, ◌*◌, ◌^◌, ◌<◌, ◌≤◌, List, [], ◌∷◌, ◌++◌, length, map, Option, None, Some, Bool, true, false, not, cond, refl, sym, ap, subst, ◌∙◌, arith, append_assoc, length-append}
-use Rattle.std.specs.Prelude.{IsTrue, IsOk, Result, Ok, Err}
+use Rattle.std.proofs.Common.{◌≡◌, ◌≢◌, ◌⊎◌, inl, inr, ℕ, ◌+◌, ◌^◌, ◌<◌, ◌≤◌, List, [], ◌∷◌, ◌++◌, length, map, Option, None, Some, Bool, true, false, not, cond, refl, sym, ap, subst, ◌∙◌, arith, append_assoc, length-append}
+use Rattle.std.specs.Prelude.{Err}
 use Rattle.std.specs.Io.KnownBytes.{Consumes, Appends}
 use Rattle.std.proofs.KnownBytes.{Appends-trans}
 use Rattle.ciborium_ll.specs.Reading.{Takes}
 use Rattle.ciborium_value.specs.Tree.{Tree}
 use Rattle.ciborium.specs.Front.{Reads}
-use Rattle.ciborium.specs.Items.{Item, Sequence}
+use Rattle.ciborium.specs.Items.{Sequence}
 use Rattle.ciborium.specs.Damage.{Fault, end, deep, syntax, semantic, Damage}
-use Rattle.ciborium.specs.Reading.{Known, FailsAt, EndPlace, IsLong, IsNoMemory, fault_failures}
+use Rattle.ciborium.specs.Reading.{Known, FailsAt, EndPlace, IsNoMemory, fault_failures}
 use Rattle.ciborium.specs.declared.de.Error.{Error}
 use Rattle.ciborium.specs.declared.de.Error.TheVariants as de
-use Rattle.ciborium.proofs.Once.{append_nil}
 use Rattle.cose_gate.specs.declared.report.Entry.{Entry}
 use Rattle.cose_gate.specs.declared.report.Verdict.{Verdict}
 use Rattle.cose_gate.specs.declared.gating.Counts.{Counts}
-use Rattle.cose_gate.specs.declared.gating.GateFault.{GateFault}
-use Rattle.cose_gate.specs.declared.gating.GateFault.TheVariants as gating
-use Rattle.cose_gate.specs.Questions.{Question, MessageFields, questions}
+use Rattle.cose_gate.specs.Questions.{MessageFields, questions}
 use Rattle.cose_gate.specs.Asked.{first_no, folded_over, IsFront}
-use Rattle.cose_gate.specs.Findings.{Finding, judged, Finds}
-use Rattle.cose_gate.specs.Run.{Step, Steps, IsVerdict, judged_by, has_passed, passes, asked_of, written_of, questions_of, output_of, entries_of, passed_count, refused_count, Course}
-use Rattle.cose_gate.specs.Outcome.{Rules, Seen, Made, Begun, Told, Whole, Stopped, Torn, Cut, Outcome}
+use Rattle.cose_gate.specs.Findings.{judged}
+use Rattle.cose_gate.specs.Run.{Step, Steps, judged_by, has_passed, passes, asked_of, written_of, questions_of, output_of, entries_of, passed_count, refused_count, Course}
+use Rattle.cose_gate.specs.Outcome.{Rules, Seen, Made, Told, Whole, Stopped, Torn, Cut, Outcome}
 use Rattle.cose_gate.specs.Passing.{Taken, Half, HalfWritten, at_end, fault_by}
 use Rattle.cose_gate.proofs.Nothing.{empty_damage}
-use Rattle.cose_gate.proofs.Reach.{reads_some, Reached, Further, further, step_at, entry_at, told_then, questions_then, output_then, entries_then, verdict_passes, count_then, folded_append, sequence_more}
+use Rattle.cose_gate.proofs.Reach.{reads_some, Reached, further, step_at, entry_at, told_then, questions_then, output_then, entries_then, verdict_passes, count_then, folded_append, sequence_more}
 
 -- a list is a beginning of itself, and of itself and more
 pub whole_front : {A : Type 0} (xs : List A) → IsFront xs xs

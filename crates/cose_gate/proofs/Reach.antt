@@ -1,9 +1,8 @@
 -- How far the gate has come.
-use Rattle.std.proofs.Common.{◌≡◌, ◌≢◌, ◌⊎◌, inl, inr, ℕ, suc, ◌+◌, ◌*◌, ◌^◌, ◌<◌, ◌≤◌, List, [], ◌∷◌, ◌++◌, length, map, Option, None, Some, Bool, true, false, not, cond, refl, sym, ap, subst, ◌∙◌, arith, append_assoc, length-append, add_assoc}
-use Rattle.std.specs.Prelude.{is_none, IsTrue, IsOk, Result, Ok, Err}
+use Rattle.std.proofs.Common.{◌≡◌, ℕ, ◌+◌, ◌<◌, List, [], ◌∷◌, ◌++◌, length, map, Option, None, Some, Bool, true, false, not, cond, refl, sym, ap, subst, ◌∙◌, arith, append_assoc, length-append}
+use Rattle.std.specs.Prelude.{is_none}
 use Rattle.std.specs.List.{flat_map, count_by}
-use Rattle.std.specs.Io.KnownBytes.{Consumes, Appends}
-use Rattle.std.proofs.KnownBytes.{Consumes-nil, Consumes-trans, Appends-nil, Appends-trans}
+use Rattle.std.proofs.KnownBytes.{Consumes-nil, Consumes-trans, Appends-nil}
 use Rattle.std.proofs.lemmas.Grind.{flat_map-append}
 use Rattle.std.proofs.lemmas.List.Sums.{sum_by-append, sum_by-cons}
 use Rattle.std.proofs.lemmas.List.{map-append}
@@ -11,24 +10,15 @@ use Rattle.ciborium_ll.specs.Reading.{Takes}
 use Rattle.ciborium_value.specs.Tree.{Tree}
 use Rattle.ciborium.specs.Front.{Reads}
 use Rattle.ciborium.specs.Items.{Item, Sequence}
-use Rattle.ciborium.specs.Damage.{Fault, end, Damage}
-use Rattle.ciborium.specs.Reading.{Known, FailsAt}
-use Rattle.ciborium.specs.declared.de.Error.{Error}
-use Rattle.ciborium.specs.declared.de.Error.TheVariants as de
 use Rattle.ciborium.proofs.Once.{append_nil}
 use Rattle.ciborium.proofs.ChildCases.{front_some}
 use Rattle.cose_gate.specs.declared.report.Entry.{Entry}
 use Rattle.cose_gate.specs.declared.report.Verdict.{Verdict}
-use Rattle.cose_gate.specs.declared.report.Verdict.TheVariants.{Passed, Refused}
-use Rattle.cose_gate.specs.declared.gating.Counts.{Counts}
-use Rattle.cose_gate.specs.declared.gating.GateFault.{GateFault}
-use Rattle.cose_gate.specs.declared.gating.GateFault.TheVariants as gating
-use Rattle.cose_gate.specs.Questions.{Question, MessageFields, questions}
-use Rattle.cose_gate.specs.Asked.{asked, first_no, folded_over, IsFront}
-use Rattle.cose_gate.specs.Findings.{Finding, judged, barred, not_tagged, encrypted, other_tag, shape, detached, no_signature, Finds, IsJudged}
-use Rattle.cose_gate.specs.Run.{Step, Steps, IsVerdict, judged_by, has_passed, passes, asked_of, written_of, questions_of, output_of, entries_of, passed_count, refused_count, Course}
-use Rattle.cose_gate.specs.Outcome.{Rules, Seen, Made, Begun, Told, Whole, Stopped, Torn, Cut, Outcome}
-use Rattle.cose_gate.specs.Passing.{Taken, Half, HalfWritten, ItemFails, at_end, fault_by}
+use Rattle.cose_gate.specs.Questions.{Question, questions}
+use Rattle.cose_gate.specs.Asked.{first_no, folded_over}
+use Rattle.cose_gate.specs.Findings.{Finding, judged, barred, not_tagged, encrypted, other_tag, shape, detached, no_signature, Finds}
+use Rattle.cose_gate.specs.Run.{Step, Steps, IsVerdict, judged_by, has_passed, passes, asked_of, written_of, questions_of, output_of, entries_of, passed_count, refused_count}
+use Rattle.cose_gate.specs.Outcome.{Rules, Seen, Made}
 
 -- lists
 pub folded_append : {S X : Type 0} (step : S → X → S) (s : S) (xs ys : List X) → folded_over step s (xs ++ ys) ≡ folded_over step (folded_over step s xs) ys

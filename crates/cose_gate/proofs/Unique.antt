@@ -1,15 +1,13 @@
 -- What is found of a value is one, and so is what is asked and written for an input.
-use Rattle.std.proofs.Common.{◌≡◌, ◌≢◌, ◌⊎◌, inl, inr, ℕ, List, [], ◌∷◌, ◌++◌, map, Bool, true, false, Option, None, Some, refl, sym, ap, subst, ◌∙◌, ◌+◌, arith}
-use Rattle.std.specs.List.{flat_map}
+use Rattle.std.proofs.Common.{◌≡◌, ◌≢◌, ◌⊎◌, inl, inr, ℕ, List, [], ◌∷◌, ◌++◌, map, Bool, None, Some, refl, sym, ap, subst, ◌∙◌, ◌+◌, arith}
 use Rattle.ciborium_value.specs.Tree.{Tree, tag}
-use Rattle.ciborium.specs.Items.{Item, Items}
 use Rattle.ciborium.proofs.Sequence.{items_once}
-use Rattle.coset_base.specs.Faults.{CoseFault, too_long}
+use Rattle.coset_base.specs.Faults.{CoseFault}
 use Rattle.coset_messages.specs.Messages.{Sign1Fields}
 use Rattle.coset_messages.specs.Shapes.{HasSign1}
-use Rattle.coset_messages.specs.WrongShapes.{WrongSign1, BeginsOverlong}
+use Rattle.coset_messages.specs.WrongShapes.{WrongSign1}
 use Rattle.coset_messages.proofs.Unique.{sign1_once, sign1_not}
-use Rattle.cose_gate.specs.Questions.{Question, MessageFields, sign1}
+use Rattle.cose_gate.specs.Questions.{Question, sign1}
 use Rattle.cose_gate.specs.Findings.{Finding, judged, barred, not_tagged, encrypted, other_tag, shape, detached, no_signature, Finds, IsMessageTag, IsEncryptedTag, IsOverlongMessage}
 use Rattle.cose_gate.specs.Run.{Step, Steps, Run, NoneOverlong, asked_of, written_of, questions_of, output_of}
 
@@ -34,12 +32,12 @@ InGroup t message = (u : Tree) × (t ≡ tag 18 u)
 InGroup t (other n) = (u : Tree) × (t ≡ tag n u) × (IsEncryptedTag n → ⊥) × (IsMessageTag n → ⊥)
 
 in_group : (t : Tree) (f : Finding) → Finds t f → InGroup t (group f)
-in_group t (judged (sign1 m)) (u , e , h , p) = (u , e)
+in_group t (judged (sign1 m)) (u, e, h, p) = (u, e)
 in_group t (barred not_tagged) h = h
 in_group t (barred encrypted) h = h
 in_group t (barred (other_tag n)) h = h
-in_group t (barred shape) (f , (u , e , w)) = (u , e)
-in_group t (barred detached) (u , m , e , h , p) = (u , e)
+in_group t (barred shape) (f, (u, e, w)) = (u, e)
+in_group t (barred detached) (u, m, e, h, p) = (u, e)
 in_group t (barred no_signature) h = absurd h
 
 same_tag : (t : Tree) (n k : ℕ) (u v : Tree) → t ≡ tag n u → t ≡ tag k v → n ≡ k
@@ -54,21 +52,21 @@ no_message n (inr a) b = let h : 96 ≡ 18 = sym a ∙ b in omega arith
 
 group_once : (t : Tree) (x y : Group) → InGroup t x → InGroup t y → x ≡ y
 group_once t bare bare a b = refl
-group_once t bare secret a (n , u , e , s) = absurd (a n u e)
-group_once t bare message a (u , e) = absurd (a 18 u e)
-group_once t bare (other n) a (u , e , p , q) = absurd (a n u e)
-group_once t secret bare (n , u , e , s) b = absurd (b n u e)
+group_once t bare secret a (n, u, e, s) = absurd (a n u e)
+group_once t bare message a (u, e) = absurd (a 18 u e)
+group_once t bare (other n) a (u, e, p, q) = absurd (a n u e)
+group_once t secret bare (n, u, e, s) b = absurd (b n u e)
 group_once t secret secret a b = refl
-group_once t secret message (n , u , e , s) (v , d) = absurd (no_message n s (same_tag t n 18 u v e d))
-group_once t secret (other k) (n , u , e , s) (v , d , p , q) = absurd (p (subst IsEncryptedTag (same_tag t n k u v e d) s))
-group_once t message bare (u , e) b = absurd (b 18 u e)
-group_once t message secret (u , e) (n , v , d , s) = absurd (no_message n s (same_tag t n 18 v u d e))
+group_once t secret message (n, u, e, s) (v, d) = absurd (no_message n s (same_tag t n 18 u v e d))
+group_once t secret (other k) (n, u, e, s) (v, d, p, q) = absurd (p (subst IsEncryptedTag (same_tag t n k u v e d) s))
+group_once t message bare (u, e) b = absurd (b 18 u e)
+group_once t message secret (u, e) (n, v, d, s) = absurd (no_message n s (same_tag t n 18 v u d e))
 group_once t message message a b = refl
-group_once t message (other k) (u , e) (v , d , p , q) = absurd (q (same_tag t k 18 v u d e))
-group_once t (other n) bare (u , e , p , q) b = absurd (b n u e)
-group_once t (other k) secret (v , d , p , q) (n , u , e , s) = absurd (p (subst IsEncryptedTag (same_tag t n k u v e d) s))
-group_once t (other k) message (v , d , p , q) (u , e) = absurd (q (same_tag t k 18 v u d e))
-group_once t (other n) (other k) (u , e , s , r) (v , d , p , q) = ap other (same_tag t n k u v e d)
+group_once t message (other k) (u, e) (v, d, p, q) = absurd (q (same_tag t k 18 v u d e))
+group_once t (other n) bare (u, e, p, q) b = absurd (b n u e)
+group_once t (other k) secret (v, d, p, q) (n, u, e, s) = absurd (p (subst IsEncryptedTag (same_tag t n k u v e d) s))
+group_once t (other k) message (v, d, p, q) (u, e) = absurd (q (same_tag t k 18 v u d e))
+group_once t (other n) (other k) (u, e, s, r) (v, d, p, q) = ap other (same_tag t n k u v e d)
 
 -- the finding of a group that has one
 abbrev name : Group → Finding
@@ -93,12 +91,12 @@ data Body (t : Tree) (f : Finding) : Type 0 where
   wrong : (u : Tree) (e : CoseFault) → t ≡ tag 18 u → f ≡ barred shape → WrongSign1 u e → Body t f
 
 body : (t : Tree) (f : Finding) → Finds t f → group f ≡ message → Body t f
-body t (judged (sign1 m)) (u , e , h , (p , s)) g = carried u m p e refl h s
+body t (judged (sign1 m)) (u, e, h, (p, s)) g = carried u m p e refl h s
 body t (barred not_tagged) h g = cc
 body t (barred encrypted) h g = cc
 body t (barred (other_tag n)) h g = cc
-body t (barred shape) (f , (u , e , w)) g = wrong u f e refl w
-body t (barred detached) (u , m , e , h , n) g = apart u m e refl h n
+body t (barred shape) (f, (u, e, w)) g = wrong u f e refl w
+body t (barred detached) (u, m, e, h, n) g = apart u m e refl h n
 body t (barred no_signature) h g = absurd h
 
 same_fields : (t u v : Tree) (m n : Sign1Fields) → t ≡ tag 18 u → t ≡ tag 18 v → HasSign1 u m → HasSign1 v n → m ≡ n
@@ -107,7 +105,7 @@ same_fields t u v m n a b h k = sign1_once u m n h (subst (λ z. HasSign1 z n) (
 overlong : (t u v : Tree) (m : Sign1Fields) (e : CoseFault) → t ≡ tag 18 u → t ≡ tag 18 v → HasSign1 u m → WrongSign1 v e → IsOverlongMessage t
 overlong t u v m e a b h w =
     let x = sign1_not v e m w (subst (λ z. HasSign1 z m) (same_body t 18 18 u v a b) h) in
-    (v , b , x.1)
+    (v, b, x.1)
 
 body_once : (t : Tree) (f g : Finding) → Body t f → Body t g → (f ≡ g) ⊎ IsOverlongMessage t
 body_once t f g (carried u m p a c h s) (carried v n q b d k r) = inl (c ∙ ap (λ z. judged (sign1 z)) (same_fields t u v m n a b h k) ∙ sym d)
@@ -132,6 +130,7 @@ finding_once t f g a b = by_name (named f) (named g)
   where
     one : group f ≡ group g
     one = group_once t (group f) (group g) (in_group t f a) (in_group t g b)
+
     by_name : (f ≡ name (group f)) ⊎ (group f ≡ message) → (g ≡ name (group g)) ⊎ (group g ≡ message) → (f ≡ g) ⊎ IsOverlongMessage t
     by_name (inl p) (inl q) = inl (p ∙ ap name one ∙ sym q)
     by_name (inl p) (inr q) = absurd (unnamed t f a (p ∙ ap name (one ∙ q)))
@@ -144,7 +143,7 @@ Same allows aad ss rs = (questions_of allows aad ss ≡ questions_of allows aad 
 
 steps_once : (allows : Question → Bool) (aad : List ℕ) (n : ℕ) (ss rs : List Step) → map (λ s. s.item) ss ≡ map (λ s. s.item) rs
     → Steps allows aad n ss → Steps allows aad n rs → NoneOverlong ss → Same allows aad ss rs
-steps_once allows aad n [] [] e a b o = (refl , refl)
+steps_once allows aad n [] [] e a b o = (refl, refl)
 steps_once allows aad n [] (r ∷ rs) e a b o = let h : [] ≡ r.item ∷ map (λ s. s.item) rs = e in cc
 steps_once allows aad n (s ∷ ss) [] e a b o = let h : s.item ∷ map (λ s. s.item) ss ≡ [] = e in cc
 steps_once allows aad n (s ∷ ss) (r ∷ rs) e a b o =
@@ -159,9 +158,10 @@ steps_once allows aad n (s ∷ ss) (r ∷ rs) e a b o =
     found head more (inl f) =
         let q : asked_of allows aad s.finding ≡ asked_of allows aad r.finding = ap (asked_of allows aad) f in
         let w : written_of allows aad s.finding ≡ written_of allows aad r.finding = ap (written_of allows aad) f in
-        let p = more.0 in let v = more.1 in
-        ( ap (λ x. x ++ questions_of allows aad ss) q ∙ ap (λ x. asked_of allows aad r.finding ++ x) p
-        , ap (λ x. x ++ output_of allows aad ss) w ∙ ap (λ x. written_of allows aad r.finding ++ x) v )
+        let p = more.0 in let v = more.1 in (
+          ap (λ x. x ++ questions_of allows aad ss) q ∙ ap (λ x. asked_of allows aad r.finding ++ x) p,
+          ap (λ x. x ++ output_of allows aad ss) w ∙ ap (λ x. written_of allows aad r.finding ++ x) v,
+        )
 
 pub run_once : (allows : Question → Bool) (aad : List ℕ) (at : ℕ) (b : List ℕ) (ss rs : List Step) (rest more : List ℕ)
     → Run allows aad at b ss rest → Run allows aad at b rs more → NoneOverlong ss
@@ -169,4 +169,4 @@ pub run_once : (allows : Question → Bool) (aad : List ℕ) (at : ℕ) (b : Lis
 run_once allows aad at b ss rs rest more a c o =
     let i = items_once at b _ _ rest more a.items c.items in
     let s = steps_once allows aad 1 ss rs i.0 a.steps c.steps o in
-    (s.0 , s.1 , i.1)
+    (s.0, s.1, i.1)

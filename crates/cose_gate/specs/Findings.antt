@@ -1,8 +1,7 @@
 -- What is found of an item before a judge is asked: a message that is judged, or why it is none (RFC 9052, section 2, has the tags).
-use Rattle.std.specs.Prelude.{◌≡◌, ◌≢◌, ℕ, ◌⊎◌, List, Option, Some, None}
+use Rattle.std.specs.Prelude.{◌≡◌, ◌≢◌, ℕ, ◌⊎◌, List, Some, None}
 use Rattle.ciborium_value.specs.Tree.{Tree, tag}
-use Rattle.coset_base.specs.Faults.{CoseFault, fault_of}
-use Rattle.coset_base.specs.declared.error.CoseError.{CoseError}
+use Rattle.coset_base.specs.Faults.{CoseFault}
 use Rattle.coset_messages.specs.Messages.{Sign1Fields}
 use Rattle.coset_messages.specs.Shapes.{HasSign1}
 use Rattle.coset_messages.specs.WrongShapes.{WrongSign1, BeginsOverlong}

@@ -1,15 +1,14 @@
 -- What one item's way through the gate shows.
-use Rattle.std.specs.Prelude.{◌≡◌, ◌≢◌, ℕ, ◌⊎◌, List, Option, Bool, true, false, Result, Ok, Err, if◌then◌else◌}
+use Rattle.std.specs.Prelude.{◌≡◌, ℕ, ◌⊎◌, List, Option, Bool, false, Result, Ok, Err}
 use Rattle.std.specs.Io.KnownBytes.{Appends}
 use Rattle.ciborium_value.specs.Tree.{Tree}
 use Rattle.coset_base.specs.Faults.{fault_of}
-use Rattle.coset_base.specs.declared.error.CoseError.{CoseError}
 use Rattle.coset_messages.specs.View.{sign1_view}
 use Rattle.ciborium.specs.declared.de.Error.{Error}
 use Rattle.ciborium.specs.declared.de.Error.TheVariants as de
 use Rattle.cose_gate.specs.Questions.{Question, MessageFields, sign1}
 use Rattle.cose_gate.specs.Asked.{folded_over, IsFront}
-use Rattle.cose_gate.specs.Findings.{Reason, not_tagged, encrypted, other_tag, shape, detached, no_signature, Finding, judged, IsJudged, IsBarred, IsMisshapen, Finds}
+use Rattle.cose_gate.specs.Findings.{not_tagged, encrypted, other_tag, detached, Finding, judged, IsJudged, IsBarred, IsMisshapen, Finds}
 use Rattle.cose_gate.specs.Run.{IsVerdict, asked_of, written_of}
 use Rattle.cose_gate.specs.declared.report.Refusal.{Refusal}
 use Rattle.cose_gate.specs.declared.report.Refusal.TheVariants as refusal

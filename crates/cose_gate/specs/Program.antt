@@ -1,5 +1,5 @@
 -- What the program does with a whole input.
-use Rattle.std.specs.Prelude.{◌≡◌, ◌⊎◌, ℕ, List, [], Option, None, Bool, true, Result, Ok, Err, if◌then◌else◌, nat_eq}
+use Rattle.std.specs.Prelude.{◌≡◌, ◌⊎◌, ℕ, List, [], Option, None, Bool, Result, Ok, Err, if◌then◌else◌, nat_eq}
 use Rattle.std.specs.Io.KnownBytes.{Appends}
 use Rattle.cose_gate.specs.Questions.{Question}
 use Rattle.cose_gate.specs.Asked.{IsFront}

@@ -1,6 +1,6 @@
 -- What a recorder keeps of a question, without where it lies in memory.
 use Rattle.std.specs.Global.{Vec}
-use Rattle.std.specs.Prelude.{ℕ, List, [], ◌∷◌, ◌++◌, ◌-◌, Option, Some, None, Bool, true, not, length, take, replicate}
+use Rattle.std.specs.Prelude.{ℕ, List, ◌++◌, ◌-◌, Option, Some, None, Bool, true, not, length, take, replicate}
 use Rattle.std.specs.Cmp.Lexicographic.{pointwise}
 use Rattle.std.specs.Bool.{nat_eq}
 use Rattle.cose_gate.specs.declared.about.Kind.{Kind}

@@ -1,13 +1,13 @@
 -- What a gate does with a whole input: the items in order, with what is found, asked, written and noted of each.
-use Rattle.std.specs.Prelude.{◌≡◌, ℕ, ◌+◌, List, [], ◌∷◌, ◌++◌, map, flat_map, Option, Some, None, Bool, true, false, not, if◌then◌else◌, is_none, count_by}
+use Rattle.std.specs.Prelude.{◌≡◌, ℕ, ◌+◌, List, [], ◌∷◌, map, flat_map, Option, Some, None, Bool, true, false, not, if◌then◌else◌, is_none, count_by}
 use Rattle.ciborium_value.specs.Tree.{Tree}
 use Rattle.ciborium_value.specs.Encoding.{enc}
 use Rattle.ciborium.specs.Items.{Item, Sequence, Items}
 use Rattle.coset_base.specs.Faults.{fault_of}
 use Rattle.coset_base.specs.declared.error.CoseError.{CoseError}
-use Rattle.cose_gate.specs.Questions.{Question, MessageFields, questions, tagged_tree}
+use Rattle.cose_gate.specs.Questions.{Question, questions, tagged_tree}
 use Rattle.cose_gate.specs.Asked.{asked, first_no}
-use Rattle.cose_gate.specs.Findings.{Reason, not_tagged, encrypted, other_tag, shape, detached, no_signature, Finding, judged, barred, Finds, IsMisshapen, IsOverlongMessage}
+use Rattle.cose_gate.specs.Findings.{not_tagged, encrypted, other_tag, shape, detached, no_signature, Finding, judged, barred, Finds, IsMisshapen, IsOverlongMessage}
 use Rattle.cose_gate.specs.declared.report.Entry.{Entry}
 use Rattle.cose_gate.specs.declared.report.Verdict.{Verdict}
 use Rattle.cose_gate.specs.declared.report.Verdict.TheVariants.{Passed, Refused}

@@ -1,7 +1,7 @@
-use Rattle.std.proofs.Common.{◌≡◌, ◌+◌, ◌^◌, ◌<◌, ℕ, List, Some, refl, sym, ap, ◌∙◌, arith, rules}
+use Rattle.std.proofs.Common.{◌+◌, ◌^◌, ◌<◌, refl, sym, ◌∙◌, arith, rules}
 use Rattle.ciborium_ll.specs.Views.{offset_of}
 use Rattle.cose_gate.proofs.Reach.{reached_start, item_grows}
-use Rattle.cose_gate.proofs.Outcomes.{reached_step, cut_item, cut_noting, same_entry, torn_in, whole_at, decode_at, nothing_taken, nothing_fails, nothing_answer, nothing_read}
+use Rattle.cose_gate.proofs.Outcomes.{reached_step, cut_item, cut_noting, same_entry, torn_in, decode_at, nothing_taken, nothing_fails, nothing_answer, nothing_read}
 use Rattle.cose_gate.proofs.gating.gate.Goals as goal
 use Rattle.cose_gate.proofs.gating.gate.Goals.{else-is_end-via-then-is_end+else-offset, else-is_end-via-else-is_end}
 

@@ -1,6 +1,5 @@
-use Rattle.std.proofs.Common.{◌≡◌, ℕ, ◌+◌, ◌-◌, ◌≤◌, ◌^◌, List, None}
-use Rattle.ciborium_ll.specs.Views.{left_of, offset_of, waiting_of, reader_of}
-use Rattle.cose_gate.specs.Outcome.{Rules, Seen}
+use Rattle.std.proofs.Common.{◌≡◌, ◌+◌, ◌-◌, ◌≤◌, ◌^◌}
+use Rattle.ciborium_ll.specs.Views.{left_of, offset_of, reader_of}
 use Rattle.cose_gate.proofs.Reach.{Reached}
 use Rattle.cose_gate.proofs.gating.gate.Given as goal
 

@@ -1,8 +1,7 @@
-use Rattle.std.proofs.Common.{◌∙◌, sym, refl, rules, inl, inr, None, Some}
+use Rattle.std.proofs.Common.{refl, inr}
 use Rattle.std.proofs.lemmas.Result.{err_from_is_err_and}
 use Rattle.coset_messages.specs.View.{sign1_view}
 use Rattle.cose_gate.specs.Questions.{sign1}
-use Rattle.cose_gate.specs.Passing.{IsFound}
 use Rattle.cose_gate.proofs.Items.{taken_barred, taken_no, taken_yes, half_written, half_asked}
 use Rattle.cose_gate.proofs.passing.pass.Goals as goal
 

@@ -1,4 +1,3 @@
-use Rattle.std.proofs.Common.{sym, ◌∙◌}
 use Rattle.cose_gate.proofs.Programs.{ran_some, none_refused}
 use Rattle.cose_gate.proofs.program.run_first.Goals as goal
 
