@@ -569,3 +569,83 @@ fn refused_memory_is_the_answer(rt: HostRuntime) -> Result<(), Fail> {
     }
     Ok(())
 }
+
+/// Two messages with an integer between them.
+const INPUT: &[u8] = &[
+    0xd2, 0x84, 0x43, 0xa1, 1, 0x26, 0xa0, 0x42, 0x68, 0x69, 0x43, 1, 2, 3, 1, 0xd2, 0x84, 0x43,
+    0xa1, 1, 0x26, 0xa0, 0x42, 0x68, 0x69, 0x43, 1, 2, 3,
+];
+
+/// What the signature of each covers.
+const STRUCTURE: &[u8] = &[
+    0x84, 0x6a, 0x53, 0x69, 0x67, 0x6e, 0x61, 0x74, 0x75, 0x72, 0x65, 0x31, 0x43, 0xa1, 1, 0x26,
+    0x40, 0x42, 0x68, 0x69,
+];
+
+/// All memory here is asked for by the run. So this holds also where one allocation is refused, whichever it is.
+#[test]
+fn a_refused_allocation_is_the_answer(rt: HostRuntime) {
+    let alloc = rt.alloc();
+    let mut memory = [0u8; 28];
+    let mut out = Mem::new(&mut memory[..]);
+    let mut entries = Vec::new(alloc);
+    let mut recorder = Recorder::new(alloc, None);
+    let mut decoder = Decoder::from(INPUT);
+    let answer = gate(
+        alloc,
+        &mut decoder,
+        &mut out,
+        &mut entries,
+        &[],
+        &mut recorder,
+    );
+    let asked = recorder.asked().len();
+    let written = out.as_written();
+    let noted = entries.len();
+    match ending_of(answer) {
+        Ending::Whole(counts) => {
+            assert_eq!(rt;
+                counts,
+                Counts {
+                    passed: 2,
+                    refused: 1
+                }
+            );
+            assert_eq!(rt; (asked, written.len(), noted), (2, 28, 3));
+        }
+        ending => {
+            assert_eq!(rt; ending, Ending::Memory);
+            // how far the run came: questions, bytes and entries
+            let places = [
+                (0, 0, 0),
+                (1, 0, 0),
+                (1, 14, 0),
+                (1, 14, 1),
+                (1, 14, 2),
+                (2, 14, 2),
+                (2, 28, 2),
+            ];
+            assert!(rt; places.contains(&(asked, written.len(), noted)));
+        }
+    }
+    for question in recorder.asked() {
+        assert!(rt; question.structure.as_slice() == STRUCTURE);
+        assert_eq!(rt;
+            (question.tag_len, question.tag),
+            (3, [1, 2, 3, 0, 0, 0, 0, 0])
+        );
+    }
+    for (at, byte) in written.iter().enumerate() {
+        assert_eq!(rt; Some(byte), INPUT.get(if at < 14 { at } else { at + 1 }));
+    }
+    let verdicts = [
+        (0, Verdict::Passed),
+        (14, Verdict::Refused(Refusal::NotTagged)),
+        (15, Verdict::Passed),
+    ];
+    for (index, (entry, (offset, verdict))) in entries.iter().zip(&verdicts).enumerate() {
+        assert_eq!(rt; entry.number, index + 1);
+        assert_eq!(rt; entry.offset, *offset);
+        assert_eq!(rt; entry.verdict, *verdict);
+    }
+}
