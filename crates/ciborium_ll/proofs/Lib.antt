@@ -1,5 +1,7 @@
+pub mod Closings
 pub mod Empty
 pub mod Pulling
 pub mod Shortest
 pub mod TitleLaws
 pub mod Titled
+pub mod Walk

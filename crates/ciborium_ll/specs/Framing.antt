@@ -1,7 +1,8 @@
 -- Strings of definite and of indefinite length, and the bodies that they hold (RFC 8949, section 3.2.3).
 -- An open string may stand inside an open string of its kind, to any depth.
-use Rattle.std.specs.Prelude.{◌≡◌, ℕ, ◌+◌, List, [], ◌∷◌, ◌++◌, length, Option, None, Some}
+use Rattle.std.specs.Prelude.{◌≡◌, ◌≢◌, ℕ, zero, suc, ◌+◌, List, [], ◌∷◌, ◌++◌, length, Option, None, Some}
 use Rattle.ciborium_ll.specs.declared.hdr.Header.{Header}
+use Rattle.ciborium_ll.specs.declared.hdr.Header.TheVariants.{Bytes, Text, Break}
 use Rattle.ciborium_ll.specs.Title.{Title}
 
 -- the bodies one after another
@@ -25,6 +26,13 @@ mutual
     no_frames : Frames k P [] []
     frame_more : (a b : List ℕ) (xs ys : List (List ℕ)) → Frame k P a xs → Frames k P b ys → Frames k P (a ++ b) (xs ++ ys)
 
+-- what is left of n open strings, each inside the next: the innermost has strings of its kind up to its break, and so on
+abbrev pub Closing : (Option ℕ → Header) → (List ℕ → Type 0) → ℕ → List ℕ → List (List ℕ) → Type 0
+Closing k P zero b bodies = (b ≡ []) × (bodies ≡ [])
+Closing k P (suc n) b bodies =
+    (inner : List ℕ) × (after : List ℕ) × (xs : List (List ℕ)) × (ys : List (List ℕ))
+    × Frames k P inner xs × Closing k P n after ys × (b ≡ inner ++ 255 ∷ after) × (bodies ≡ xs ++ ys)
+
 -- the beginning of an open string of the kind `k`, in which n opens are due a break
 pub data Opened (k : Option ℕ → Header) (P : List ℕ → Type 0) : ℕ → List ℕ → List (List ℕ) → Type 0 where
   opened : (title inner : List ℕ) (xs : List (List ℕ)) → Title title (k None) → Frames k P inner xs → Opened k P 1 (title ++ inner) xs
@@ -38,3 +46,16 @@ pub record Inside (k : Option ℕ → Header) (P : List ℕ → Type 0) (b rest 
   pub bodies : List (List ℕ)
   pub is : Opened k P opens read bodies
   pub whole : b ≡ read ++ rest
+
+-- a string's head tells its length, and is no break
+pub bytes_same : (o p : Option ℕ) → Bytes o ≡ Bytes p → o ≡ p
+bytes_same o p e = cc
+
+pub bytes_unbroken : (o : Option ℕ) → Bytes o ≢ Break
+bytes_unbroken o e = cc
+
+pub text_same : (o p : Option ℕ) → Text o ≡ Text p → o ≡ p
+text_same o p e = cc
+
+pub text_unbroken : (o : Option ℕ) → Text o ≢ Break
+text_unbroken o e = cc

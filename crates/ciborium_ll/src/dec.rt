@@ -113,6 +113,7 @@ impl<R: Read> Decoder<R> {
             (λ p. (p ≡ offset_of self.old) × Takes (left_of R.left self.old) (left_of R.left self.new) (offset_of self.old) (offset_of self.new) IsBadByte)
             (2 ^ 64 ≤ offset_of self.old + 9)) }
         ensures within { IfOk result (λ h. length (title_of h) ≤ offset_of self.new) }
+        ensures grows { offset_of self.old ≤ offset_of self.new }
         ensures fits { offset_of self.new < 2 ^ 64 }
         ensures failed { R.failed (reader_of self.new) ≡ failures R.ends result (R.failed (reader_of self.old)) }
         ensures kept { R.handle (reader_of self.new) ≡ R.handle (reader_of self.old) }
@@ -185,6 +186,7 @@ impl<R: Read> Decoder<R> {
             (Ends (R.left self.old.reader) (R.left self.new.reader) self.old.read self.new.read)
             (λ p. (p ≡ self.old.read) × Takes (R.left self.old.reader) (R.left self.new.reader) self.old.read self.new.read IsBadByte)
             (2 ^ 64 ≤ self.old.read + 9)) }
+        ensures grows { self.old.read ≤ self.new.read }
         ensures failed { R.failed self.new.reader ≡ failures R.ends result (R.failed self.old.reader) }
         ensures kept { R.handle self.new.reader ≡ R.handle self.old.reader }
         ensures fresh { self.new.waiting ≡ None }

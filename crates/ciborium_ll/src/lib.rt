@@ -6,22 +6,27 @@
 #![tactic(auto)]
 
 mod adapters;
+mod body;
 pub mod count;
 mod dec;
 mod enc;
 mod hdr;
+mod kind;
 pub mod laws;
 pub mod log;
 mod mem;
 mod read;
+mod stage;
 #[cfg(test)]
 mod tests;
 mod write;
 
 pub use crate::adapters::{Io, IoFault};
+pub use crate::body::Body;
 pub use crate::dec::Decoder;
 pub use crate::enc::Encoder;
 pub use crate::hdr::{Error, Float, Header};
+pub use crate::kind::{Bytes, StringKind, Text};
 pub use crate::mem::{Full, Mem};
 pub use crate::read::{End, Read};
 pub use crate::write::Write;

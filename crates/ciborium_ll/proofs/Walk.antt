@@ -1,0 +1,146 @@
+-- A string that is read head by head.
+use Rattle.std.proofs.Common.{◌≡◌, ◌≢◌, ◌≤◌, ◌<◌, ◌+◌, ◌-◌, ◌^◌, ◌↔◌, ℕ, zero, suc, List, [], Bool, inl, inr, ◌∷◌, ◌++◌, length, Option, None, Some, refl, ap, sym, ◌∙◌, subst, arith, append_assoc, append-nil, length-append}
+use Rattle.std.specs.Io.KnownBytes.{Consumes}
+use Rattle.std.proofs.KnownBytes.{Consumes-trans, Consumes-nil}
+use Rattle.ciborium_ll.specs.declared.hdr.Header.{Header}
+use Rattle.ciborium_ll.specs.declared.hdr.Header.TheVariants.{Break}
+use Rattle.ciborium_ll.specs.declared.hdr.Error.{Error}
+use Rattle.ciborium_ll.specs.declared.hdr.Error.TheVariants.{Io, Syntax, TooLong, Waiting}
+use Rattle.ciborium_ll.specs.declared.stage.Stage.{Stage}
+use Rattle.ciborium_ll.specs.declared.stage.Stage.TheVariants.{One, Inside, Stuck}
+use Rattle.ciborium_ll.specs.Title.{Title, IsCut}
+use Rattle.ciborium_ll.specs.Reading.{Takes, Tells, Ends, IsBadByte}
+use Rattle.ciborium_ll.specs.Framing.{Closing}
+use Rattle.ciborium_ll.specs.Stages.{Rest, Parted, Passes, Reaches, StartsAt, IsStray, Strays, EndsInside, StageTells, stage_after, opens, ahead}
+use Rattle.ciborium_ll.proofs.Closings.{body_step, body_back, open_step, open_back, close_step, close_back}
+use Rattle.ciborium_ll.proofs.TitleLaws.{not_cut}
+
+-- two runs, one after the other
+pub takes_then : {P Q S : List ℕ → Type 0} (l m r : Option (List ℕ)) (i j n : ℕ) → Takes l m i j P → Takes m r j n Q
+    → ((a b : List ℕ) → P a → Q b → S (a ++ b)) → Takes l r i n S
+takes_then l m r i j n p q f = record {
+  bytes = p.bytes ++ q.bytes;
+  has = f p.bytes q.bytes p.has q.has;
+  taken = Consumes-trans l m r p.bytes q.bytes p.taken q.taken;
+  grown = omega (arith, p.grown, q.grown, length-append p.bytes q.bytes);
+}
+
+pub takes_nothing : {P : List ℕ → Type 0} (l : Option (List ℕ)) (i : ℕ) → P [] → Takes l l i i P
+takes_nothing l i p = record { bytes = []; has = p; taken = Consumes-nil l; grown = omega arith }
+
+-- a rest through equal lists
+moved : (k : Option ℕ → Header) (P : List ℕ → Type 0) (s : Stage) (a b : List ℕ) (bodies : List (List ℕ)) → a ≡ b → Rest k P s a bodies → Rest k P s b bodies
+moved k P s a b bodies e h = subst (λ z. Rest k P s z bodies) e h
+
+module _ (k : Option ℕ → Header) (same : (o p : Option ℕ) → k o ≡ k p → o ≡ p) (unbroken : (o : Option ℕ) → k o ≢ Break) (P : List ℕ → Type 0) (old : Stage) where
+  pub passes_open : (front title : List ℕ) (n : ℕ) → Passes k P old (Inside (suc n)) front → Title title (k None) → Passes k P old (Inside (suc (suc n))) (front ++ title)
+  passes_open front title n p t b bodies =
+      let w = p (title ++ b) bodies in
+      ((λ h. open_back k same unbroken P n title b bodies t (w.0 (moved k P old _ _ bodies (append_assoc front title b) h))),
+       (λ h. moved k P old _ _ bodies (sym (append_assoc front title b)) (w.1 (open_step k same unbroken P n title b bodies t h))))
+
+  pub passes_close : (front title : List ℕ) (n : ℕ) → Passes k P old (Inside (suc n)) front → Title title Break → Passes k P old (Inside n) (front ++ title)
+  passes_close front title n p t b bodies =
+      let w = p (255 ∷ b) bodies in
+      let e : (front ++ title) ++ b ≡ front ++ 255 ∷ b = append_assoc front title b ∙ ap (λ z. front ++ (z ++ b)) t in
+      ((λ h. close_back k same unbroken P n b bodies (w.0 (moved k P old _ _ bodies e h))),
+       (λ h. moved k P old _ _ bodies (sym e) (w.1 (close_step k same unbroken P n b bodies h))))
+
+  pub reaches : (front title : List ℕ) (n len : ℕ) → Passes k P old (Inside (suc n)) front → Title title (k (Some len)) → Reaches k P old len (Inside (suc n)) (front ++ title)
+  reaches front title n len p t b bodies =
+      let w = p (title ++ b) bodies in
+      ((λ h. body_back k same unbroken P n len title b bodies t (w.0 (moved k P old _ _ bodies (append_assoc front title b) h))),
+       (λ h. moved k P old _ _ bodies (sym (append_assoc front title b)) (w.1 (body_step k same unbroken P n len title b bodies t h))))
+
+pub suc_of : (n : ℕ) → 0 < n → suc (n - 1) ≡ n
+suc_of n h = omega arith
+
+-- the body of a definite string is due at once
+pub one_due : (k : Option ℕ → Header) (P : List ℕ → Type 0) (len : ℕ) → Reaches k P (One len) len (Inside 0) []
+one_due k P len b bodies = (there, back)
+  where
+    there : Rest k P (One len) b bodies → Parted k P len (Inside 0) b bodies
+    there h = record { body = b; rest = []; more = []; full = h.0; allowed = h.1; goes = (refl, refl); whole = sym (append-nil b); all = h.2 }
+    back : Parted k P len (Inside 0) b bodies → Rest k P (One len) b bodies
+    back q =
+        let g : (q.rest ≡ []) × (q.more ≡ []) = q.goes in
+        let e : b ≡ q.body = q.whole ∙ ap (λ z. q.body ++ z) g.0 ∙ append-nil q.body in
+        (ap length e ∙ q.full, subst P (sym e) q.allowed, q.all ∙ rw (g.1, e) refl)
+
+module _ (k : Option ℕ → Header) (same : (o p : Option ℕ) → k o ≡ k p → o ≡ p) (unbroken : (o : Option ℕ) → k o ≢ Break) (P : List ℕ → Type 0)
+    (old : Stage) (left mid left' : Option (List ℕ)) (place pm place' depth : ℕ) (some : 0 < depth)
+    (run : Takes left mid place pm (Passes k P old (Inside depth))) where
+  at : (f : List ℕ) → Passes k P old (Inside depth) f → Passes k P old (Inside (suc (depth - 1))) f
+  at f p = subst (λ (n : ℕ). Passes k P old (Inside n) f) (sym (suc_of depth some)) p
+
+  ends_inside : Ends mid left' pm place' → EndsInside k P old left
+  ends_inside = go left mid run.taken
+    where
+      go : (l m : Option (List ℕ)) → Consumes l m run.bytes → Ends m left' pm place' → EndsInside k P old l
+      go None m t e = tt
+      go (Some xs) None t e = absurd t
+      go (Some xs) (Some ys) t e = (run.bytes, ys, depth, some, run.has, e.0, t)
+
+  strays : Takes mid left' pm place' (IsStray k) → Takes left left' place place' (Strays k P old place pm)
+  strays s = record {
+    bytes = run.bytes ++ s.bytes;
+    has = (run.bytes, s.bytes, depth, some, run.has, s.has, refl, run.grown);
+    taken = Consumes-trans left mid left' run.bytes s.bytes run.taken s.taken;
+    grown = omega (arith, run.grown, s.grown, length-append run.bytes s.bytes);
+  }
+
+  bad_byte : Takes mid left' pm place' IsBadByte → Takes mid left' pm place' (IsStray k)
+  bad_byte s = record { bytes = s.bytes; has = inl s.has; taken = s.taken; grown = s.grown }
+
+  pub stage_tells : {E : Type 0} (ends : E → Bool) (e : Error E) → pm ≤ place'
+      → Tells ends (Ends mid left' pm place') (λ p. (p ≡ pm) × Takes mid left' pm place' IsBadByte) (2 ^ 64 ≤ pm + 9) e
+      → StageTells ends k P old (stage_after depth e) left left' place place' e
+  stage_tells ends (Io e) g h = λ t. ends_inside (h t)
+  stage_tells ends (Syntax p) g h = (refl, inr (rw h.0 (strays (bad_byte h.1))))
+  stage_tells ends TooLong g h = omega arith
+  stage_tells ends Waiting g h = h
+
+  pub break_taken : (h : Header) → Takes mid left' pm place' (λ b. Title b h) → h ≡ Break → Takes left left' place place' (Passes k P old (Inside (depth - 1)))
+  break_taken h s e = takes_then left mid left' place pm place' run s
+      (λ a b p q. let q' : Title b Break = rw e at q in passes_close k same unbroken P old a b (depth - 1) (at a p) q')
+
+  pub open_taken : (h : Header) → Takes mid left' pm place' (λ b. Title b h) → h ≡ k None → Takes left left' place place' (Passes k P old (Inside (depth + 1)))
+  open_taken h s e = takes_then left mid left' place pm place' run s
+      (λ a b p q. let q' : Title b (k None) = rw e at q in
+          let r : Passes k P old (Inside (suc (suc (depth - 1)))) (a ++ b) = passes_open k same unbroken P old a b (depth - 1) (at a p) q' in
+          let d : suc (suc (depth - 1)) ≡ depth + 1 = omega (arith, suc_of depth some) in
+          subst (λ (n : ℕ). Passes k P old (Inside n) (a ++ b)) d r)
+
+  pub body_taken : (h : Header) (len : ℕ) → Takes mid left' pm place' (λ b. Title b h) → h ≡ k (Some len)
+      → Takes left left' place place' (λ front. Reaches k P old len (Inside depth) front × StartsAt k place len pm front)
+  body_taken h len s e = takes_then left mid left' place pm place' (record { bytes = run.bytes; has = (run.has, refl); taken = run.taken; grown = run.grown }) s
+      (λ (a b : List ℕ) (p : Passes k P old (Inside depth) a × (a ≡ run.bytes)) (q : Title b h).
+          let q' : Title b (k (Some len)) = rw e at q in
+          let r : Reaches k P old len (Inside (suc (depth - 1))) (a ++ b) = reaches k same unbroken P old a b (depth - 1) len (at a p.0) q' in
+          (subst (λ (n : ℕ). Reaches k P old len (Inside n) (a ++ b)) (suc_of depth some) r,
+           inr (a, b, q', refl, run.grown ∙ ap (λ z. place + length z) (sym p.1))))
+
+  pub stray_taken : (h : Header) → Takes mid left' pm place' (λ b. Title b h) → h ≢ Break → ((o : Option ℕ) → h ≢ k o) → Takes left left' place place' (Strays k P old place pm)
+  stray_taken h s b n = strays (record { bytes = s.bytes; has = inr (h, s.has, b, n); taken = s.taken; grown = s.grown })
+
+pub end_taken : (k : Option ℕ → Header) (P : List ℕ → Type 0) (old : Stage) (left left' : Option (List ℕ)) (place place' depth : ℕ) → depth ≡ 0
+    → Takes left left' place place' (Passes k P old (Inside depth)) → Takes left left' place place' (λ b. Rest k P old b [])
+end_taken k P old left left' place place' depth e run = record {
+  bytes = run.bytes;
+  has = let p : Passes k P old (Inside 0) run.bytes = subst (λ n. Passes k P old (Inside n) run.bytes) e run.has in
+      moved k P old (run.bytes ++ []) run.bytes [] (append-nil run.bytes) ((p [] []).1 (refl, refl));
+  taken = run.taken;
+  grown = run.grown;
+}
+
+-- a title has a byte
+pub title_some : (h : Header) (b : List ℕ) → Title b h → 0 < length b
+title_some h [] t = absurd (not_cut [] [] h t tt)
+title_some h (x ∷ b) t = omega arith
+
+pub moved_on : {P : List ℕ → Type 0} (left mid left' : Option (List ℕ)) (place pm place' : ℕ) → Takes left mid place pm P → (h : Header)
+    → Takes mid left' pm place' (λ b. Title b h) → (old : Stage) (depth q : ℕ) → q ≡ pm → q < 2 ^ 64 → old ≡ Inside depth
+    → 2 ^ 64 - place' < ahead old place
+moved_on left mid left' place pm place' run h s old depth q same fits e =
+    let n = title_some h s.bytes s.has in
+    rw e (omega (arith, run.grown, s.grown))

@@ -1,0 +1,56 @@
+-- What a clause sees of a body that is read in pieces.
+use Rattle.std.specs.Prelude.{◌≡◌, ◌⊎◌, ℕ, ◌+◌, ◌≤◌, ◌^◌, min, ◌-◌, List, [], ◌∷◌, ◌++◌, length, Bool, IsTrue, Option}
+use Rattle.std.specs.Str.{IsUtf8}
+use Rattle.ciborium_ll.specs.Device.{IsShort}
+use Rattle.ciborium_ll.specs.Reading.{Takes}
+use Rattle.ciborium_ll.specs.declared.hdr.Error.{Error}
+use Rattle.ciborium_ll.specs.declared.hdr.Error.TheVariants.{Io, Syntax, TooLong, Waiting}
+use Rattle.ciborium_ll.specs.declared.stage.Stage.{Stage}
+use Rattle.ciborium_ll.specs.declared.stage.Stage.TheVariants.{Stuck}
+use Rattle.ciborium_ll.specs.declared.body.Saved.{Saved}
+use Rattle.ciborium_ll.specs.declared.body.Saved.TheVariants.{No, One, Two, Three}
+use Rattle.ciborium_ll.specs.declared.body.Body.{Body}
+
+-- the bytes of a character that is cut between two pieces
+abbrev pub saved_bytes : Saved → List ℕ
+saved_bytes No = []
+saved_bytes (One a) = a ∷ []
+saved_bytes (Two a b) = a ∷ b ∷ []
+saved_bytes (Three a b c) = a ∷ b ∷ c ∷ []
+
+-- how many bytes the decoder has still to take
+abbrev pub unread_of : Body → ℕ
+unread_of b = b.unread
+
+-- the bytes that were taken and not given yet
+abbrev pub saved_of : Body → List ℕ
+saved_of b = saved_bytes b.saved
+
+-- where the segment begins
+abbrev pub start_of : Body → ℕ
+start_of b = b.place
+
+-- how many bytes are still to be given
+abbrev pub bytes_of : Body → ℕ
+bytes_of b = unread_of b + length (saved_of b)
+
+-- `b` was taken; with the saved bytes before it, it is the piece and the bytes that are saved now
+abbrev pub IsPart : Body → Body → List ℕ → List ℕ → Type 0
+IsPart old new piece b = (saved_of old ++ b ≡ piece ++ saved_of new) × (unread_of new + length b ≡ unread_of old)
+
+-- `b` was taken, and whatever the rest of the body is, what was left of it is no UTF-8
+abbrev pub IsDamaged : Body → List ℕ → Type 0
+IsDamaged old b = (length b ≤ unread_of old) × ((r : List ℕ) → length b + length r ≡ unread_of old → ¬ IsUtf8 ((saved_of old ++ b) ++ r))
+
+-- how many bytes a piece of a text takes
+abbrev pub more_of : Body → ℕ → ℕ
+more_of old room = min (unread_of old) (room - length (saved_of old))
+
+-- what a fault in a text's body tells: an end; a text that is no UTF-8, whose segment's place stays; an offset that would grow
+-- too large
+abbrev pub TextTells : {E : Type 0} → (E → Bool) → Body → ℕ → Stage → Stage → Option (List ℕ) → Option (List ℕ) → ℕ → ℕ → Type 0 → Error E → Type 0
+TextTells ends old room stage stage' left left' place place' waits (Io e) = IsTrue (ends e) → IsShort left (more_of old room)
+TextTells ends old room stage stage' left left' place place' waits (Syntax p) =
+    (stage' ≡ Stuck p) × ((stage ≡ Stuck p) ⊎ ((p ≡ start_of old) × Takes left left' place place' (IsDamaged old)))
+TextTells ends old room stage stage' left left' place place' waits TooLong = 2 ^ 64 ≤ place + more_of old room
+TextTells ends old room stage stage' left left' place place' waits Waiting = waits

@@ -1,0 +1,89 @@
+-- Strings that are read in pieces (RFC 8949, section 3.2.3): how far one has been read, and what its rest may be.
+use Rattle.std.specs.Prelude.{◌≡◌, ◌≢◌, ◌⊎◌, ◌↔◌, ℕ, ◌+◌, ◌-◌, ◌<◌, ◌≤◌, ◌^◌, Bool, IsTrue, List, [], ◌∷◌, ◌++◌, length, Option, None, Some}
+use Rattle.ciborium_ll.specs.Title.{Title, IsCut}
+use Rattle.ciborium_ll.specs.Framing.{Closing}
+use Rattle.ciborium_ll.specs.Reading.{IsBadByte, Takes}
+use Rattle.ciborium_ll.specs.declared.hdr.Error.{Error}
+use Rattle.ciborium_ll.specs.declared.hdr.Error.TheVariants.{Io, Syntax, TooLong, Waiting}
+use Rattle.ciborium_ll.specs.declared.hdr.Header.{Header}
+use Rattle.ciborium_ll.specs.declared.hdr.Header.TheVariants.{Break}
+use Rattle.ciborium_ll.specs.declared.stage.Stage.{Stage}
+use Rattle.ciborium_ll.specs.declared.stage.Stage.TheVariants.{One, Inside, Stuck}
+
+-- the stage behind the head of a string
+abbrev pub stage_of : Option ℕ → Stage
+stage_of None = Inside 1
+stage_of (Some n) = One n
+
+-- `b` is the rest of a string, with its bodies: one body of n bytes, what closes n open strings, or nothing where a fault was met
+abbrev pub Rest : (Option ℕ → Header) → (List ℕ → Type 0) → Stage → List ℕ → List (List ℕ) → Type 0
+Rest k P (One n) b bodies = (length b ≡ n) × P b × (bodies ≡ b ∷ [])
+Rest k P (Inside n) b bodies = Closing k P n b bodies
+Rest k P (Stuck p) b bodies = ⊥
+
+-- `front` opens and closes strings, and has no body: it stands before the new stage's rests in the old one's, and before no other
+abbrev pub Passes : (Option ℕ → Header) → (List ℕ → Type 0) → Stage → Stage → List ℕ → Type 0
+Passes k P old new front = (b : List ℕ) (bodies : List (List ℕ)) → Rest k P old (front ++ b) bodies ↔ Rest k P new b bodies
+
+-- a body of `len` bytes, and then the rest of the string
+pub record Parted (k : Option ℕ → Header) (P : List ℕ → Type 0) (len : ℕ) (new : Stage) (b : List ℕ) (bodies : List (List ℕ)) : Type 0 where
+  pub body : List ℕ
+  pub rest : List ℕ
+  pub more : List (List ℕ)
+  pub full : length body ≡ len
+  pub allowed : P body
+  pub goes : Rest k P new rest more
+  pub whole : b ≡ body ++ rest
+  pub all : bodies ≡ body ∷ more
+
+-- behind `front` a body of `len` bytes is due
+abbrev pub Reaches : (Option ℕ → Header) → (List ℕ → Type 0) → Stage → ℕ → Stage → List ℕ → Type 0
+Reaches k P old len new front = (b : List ℕ) (bodies : List (List ℕ)) → Rest k P old (front ++ b) bodies ↔ Parted k P len new b bodies
+
+-- the segment of that body begins at `start`: with its head, or where a definite string's body does
+abbrev pub StartsAt : (Option ℕ → Header) → ℕ → ℕ → ℕ → List ℕ → Type 0
+StartsAt k place len start front =
+    ((front ≡ []) × (start ≡ place))
+    ⊎ ((before : List ℕ) × (title : List ℕ) × Title title (k (Some len)) × (front ≡ before ++ title) × (start ≡ place + length before))
+
+-- a head that no open string of the kind `k` holds, or a byte that begins none
+abbrev pub IsStray : (Option ℕ → Header) → List ℕ → Type 0
+IsStray k b = IsBadByte b ⊎ ((h : Header) × Title b h × (h ≢ Break) × ((o : Option ℕ) → h ≢ k o))
+
+-- the bytes go up to the end of a stray head, which stands at p
+abbrev pub Strays : (Option ℕ → Header) → (List ℕ → Type 0) → Stage → ℕ → ℕ → List ℕ → Type 0
+Strays k P old place p b =
+    (front : List ℕ) × (title : List ℕ) × (n : ℕ) × (0 < n) × Passes k P old (Inside n) front × IsStray k title × (b ≡ front ++ title)
+    × (p ≡ place + length front)
+
+-- the bytes end before a head, or in one, where a string is open
+abbrev pub EndsInside : (Option ℕ → Header) → (List ℕ → Type 0) → Stage → Option (List ℕ) → Type 0
+EndsInside k P old None = Unit {0}
+EndsInside k P old (Some xs) = (front : List ℕ) × (last : List ℕ) × (n : ℕ) × (0 < n) × Passes k P old (Inside n) front × IsCut last × (xs ≡ front ++ last)
+
+-- how many strings are open
+abbrev pub opens : Stage → ℕ
+opens (One n) = 0
+opens (Inside n) = n
+opens (Stuck p) = 0
+
+-- the stage after a fault of the decoder
+abbrev pub stage_after : {E : Type 0} → ℕ → Error E → Stage
+stage_after depth (Io e) = Inside depth
+stage_after depth (Syntax p) = Stuck p
+stage_after depth TooLong = Inside depth
+stage_after depth Waiting = Inside depth
+
+-- what a fault on the way to a body tells: an end inside an open string; a stray head, whose place stays; an offset that would
+-- grow too large, counting the strings that are open
+abbrev pub StageTells : {E : Type 0} → (E → Bool) → (Option ℕ → Header) → (List ℕ → Type 0) → Stage → Stage → Option (List ℕ) → Option (List ℕ) → ℕ → ℕ → Error E → Type 0
+StageTells ends k P old new left left' place place' (Io e) = IsTrue (ends e) → EndsInside k P old left
+StageTells ends k P old new left left' place place' (Syntax p) = (new ≡ Stuck p) × ((old ≡ Stuck p) ⊎ Takes left left' place place' (Strays k P old place p))
+StageTells ends k P old new left left' place place' TooLong = 2 ^ 64 ≤ opens old + place' + 9
+StageTells ends k P old new left left' place place' Waiting = ⊥
+
+-- a number that falls with each body
+abbrev pub ahead : Stage → ℕ → ℕ
+ahead (One n) place = 2 ^ 64 + 1
+ahead (Inside n) place = 2 ^ 64 - place
+ahead (Stuck p) place = 0
