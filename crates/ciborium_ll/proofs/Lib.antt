@@ -4,4 +4,5 @@ pub mod Pulling
 pub mod Shortest
 pub mod TitleLaws
 pub mod Titled
+pub mod Utf8
 pub mod Walk

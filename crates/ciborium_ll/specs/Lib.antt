@@ -3,6 +3,7 @@ pub mod Device
 pub mod Fault
 pub mod Framing
 pub mod Reading
+pub mod Segments
 pub mod Stages
 pub mod Title
 pub mod Views

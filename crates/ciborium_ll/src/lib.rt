@@ -16,9 +16,11 @@ pub mod laws;
 pub mod log;
 mod mem;
 mod read;
+mod segments;
 mod stage;
 #[cfg(test)]
 mod tests;
+mod text;
 mod write;
 
 pub use crate::adapters::{Io, IoFault};
@@ -29,4 +31,5 @@ pub use crate::hdr::{Error, Float, Header};
 pub use crate::kind::{Bytes, StringKind, Text};
 pub use crate::mem::{Full, Mem};
 pub use crate::read::{End, Read};
+pub use crate::segments::{Segment, Segments};
 pub use crate::write::Write;

@@ -1,0 +1,56 @@
+//! The pieces of a text.
+ghost use Rattle.std.specs.Prelude.{◌≡◌, ◌+◌, ◌≤◌, ◌<◌, ◌^◌, ◌-◌, ◌≢◌, ◌++◌, [], ℕ, List, min, length, take, IfOk, IfErr, OnErr, IfSome, IfNone, IsUtf8};
+ghost use Rattle.ciborium_ll.specs.Reading.{Takes, failures, RawFault};
+ghost use Rattle.ciborium_ll.specs.Device.{IsShort};
+ghost use Rattle.ciborium_ll.specs.Views.{left_of, offset_of, waiting_of, reader_of};
+ghost use Rattle.ciborium_ll.specs.Bodies.{saved_bytes, unread_of, saved_of, start_of, more_of};
+
+use crate::body::{Body, Saved};
+use crate::dec::Decoder;
+use crate::hdr::Error;
+use crate::read::Read;
+use std::str;
+
+/// Puts the saved bytes and as many new ones as fit to the front of the buffer, and gives their count.
+pub(crate) fn fill<R: Read>(decoder: &mut Decoder<R>, body: &mut Body, buffer: &mut [u8]) -> Result<usize, Error<R::Error>>
+    requires { 4 ≤ length buffer.old }
+    ensures count { IfOk result (λ n. n ≡ min (length buffer.old) (length (saved_of body.old) + unread_of body.old)) }
+    ensures saved { IfOk result (λ n. saved_of body.new ≡ []) }
+    ensures ok { IfOk result (λ n. Takes (left_of R.left decoder.old) (left_of R.left decoder.new) (offset_of decoder.old) (offset_of decoder.new)
+        (λ b. (saved_of body.old ++ b ≡ take n buffer.new) × (unread_of body.new + length b ≡ unread_of body.old))) }
+    ensures start { start_of body.new ≡ start_of body.old }
+    ensures fault { IfErr result (RawFault R.ends (IsShort (left_of R.left decoder.old) (more_of body.old (length buffer.old)))
+        (2 ^ 64 ≤ offset_of decoder.old + more_of body.old (length buffer.old)) ((waiting_of decoder.old ≢ None) × (waiting_of decoder.new ≡ waiting_of decoder.old) × (reader_of decoder.new ≡ reader_of decoder.old))) }
+    ensures err { OnErr result ((body.new ≡ body.old) × (offset_of decoder.new ≡ offset_of decoder.old)) }
+    ensures failed { R.failed (reader_of decoder.new) ≡ failures R.ends result (R.failed (reader_of decoder.old)) }
+    ensures kept { R.handle (reader_of decoder.new) ≡ R.handle (reader_of decoder.old) }
+{
+    body.saved.put(buffer);
+    let held = body.saved.len();
+    let more = body.unread.min(buffer.len() - held);
+    decoder.read_exact(&mut buffer[held..held + more])?;
+    body.unread -= more;
+    body.saved = Saved::No;
+    Ok(held + more)
+}
+
+/// The text at the front of the bytes, and up to three bytes of a character that the rest of the body may complete.
+pub(crate) fn cut(bytes: &[u8], unread: usize) -> Option<(&str, Saved)>
+    ensures whole { IfSome result (λ r. bytes.now ≡ r.0.now ++ saved_bytes r.1) }
+    ensures last { IfSome result (λ r. unread ≡ 0 → saved_bytes r.1 ≡ []) }
+    ensures short { IfSome result (λ r. length (saved_bytes r.1) ≤ 3) }
+    ensures none { IfNone result ((r : List ℕ) → length r ≡ unread → ¬ IsUtf8 (bytes.now ++ r)) }
+{
+    let valid = match str::from_utf8(bytes) {
+        Ok(text) => return Some((text, Saved::No)),
+        Err(e) => e.valid_up_to(),
+    };
+    if unread == 0 || bytes.len() - valid > 3 {
+        return None;
+    }
+    let (front, rest) = bytes.split_at(valid);
+    match str::from_utf8(front) {
+        Ok(text) => Some((text, Saved::keep(rest))),
+        Err(_) => unreachable!(),
+    }
+}
