@@ -1,3 +1,4 @@
+pub mod Appending
 pub mod Closings
 pub mod Empty
 pub mod Pulling
@@ -6,3 +7,4 @@ pub mod TitleLaws
 pub mod Titled
 pub mod Utf8
 pub mod Walk
+pub mod Writing

@@ -2,6 +2,7 @@ pub mod Bodies
 pub mod Device
 pub mod Fault
 pub mod Framing
+pub mod Pieces
 pub mod Reading
 pub mod Segments
 pub mod Stages

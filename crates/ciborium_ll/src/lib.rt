@@ -18,6 +18,7 @@ mod mem;
 mod read;
 mod segments;
 mod stage;
+mod strings;
 #[cfg(test)]
 mod tests;
 mod text;
