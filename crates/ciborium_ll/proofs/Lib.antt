@@ -1,5 +1,6 @@
 pub mod Appending
 pub mod Closings
+pub mod Copying
 pub mod Empty
 pub mod Pulling
 pub mod Shortest

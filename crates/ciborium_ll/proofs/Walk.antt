@@ -1,5 +1,5 @@
 -- A string that is read head by head.
-use Rattle.std.proofs.Common.{◌≡◌, ◌≢◌, ◌≤◌, ◌<◌, ◌+◌, ◌-◌, ◌^◌, ◌↔◌, ℕ, zero, suc, List, [], Bool, inl, inr, ◌∷◌, ◌++◌, length, Option, None, Some, refl, ap, sym, ◌∙◌, subst, arith, append_assoc, append-nil, length-append}
+use Rattle.std.proofs.Common.{◌≡◌, ◌≢◌, ◌≤◌, ◌<◌, ◌+◌, ◌-◌, ◌^◌, ℕ, zero, suc, List, [], Bool, inl, inr, ◌∷◌, ◌++◌, length, Option, None, Some, refl, ap, sym, ◌∙◌, subst, arith, append_assoc, append-nil, length-append}
 use Rattle.std.specs.Io.KnownBytes.{Consumes}
 use Rattle.std.proofs.KnownBytes.{Consumes-trans, Consumes-nil}
 use Rattle.ciborium_ll.specs.declared.hdr.Header.{Header}
@@ -12,7 +12,7 @@ use Rattle.ciborium_ll.specs.Title.{Title, IsCut}
 use Rattle.ciborium_ll.specs.Reading.{Takes, Tells, Ends, IsBadByte}
 use Rattle.ciborium_ll.specs.Framing.{Closing}
 use Rattle.ciborium_ll.specs.Stages.{Rest, Parted, Passes, Reaches, StartsAt, IsStray, Strays, EndsInside, StageTells, stage_after, opens, ahead}
-use Rattle.ciborium_ll.proofs.Closings.{body_step, body_back, open_step, open_back, close_step, close_back}
+use Rattle.ciborium_ll.proofs.Closings.{leads_then, body_due, open_leads, close_leads}
 use Rattle.ciborium_ll.proofs.TitleLaws.{not_cut}
 
 -- two runs, one after the other
@@ -28,44 +28,18 @@ takes_then l m r i j n p q f = record {
 pub takes_nothing : {P : List ℕ → Type 0} (l : Option (List ℕ)) (i : ℕ) → P [] → Takes l l i i P
 takes_nothing l i p = record { bytes = []; has = p; taken = Consumes-nil l; grown = omega arith }
 
--- a rest through equal lists
-moved : (k : Option ℕ → Header) (P : List ℕ → Type 0) (s : Stage) (a b : List ℕ) (bodies : List (List ℕ)) → a ≡ b → Rest k P s a bodies → Rest k P s b bodies
-moved k P s a b bodies e h = subst (λ z. Rest k P s z bodies) e h
-
 module _ (k : Option ℕ → Header) (same : (o p : Option ℕ) → k o ≡ k p → o ≡ p) (unbroken : (o : Option ℕ) → k o ≢ Break) (P : List ℕ → Type 0) (old : Stage) where
   pub passes_open : (front title : List ℕ) (n : ℕ) → Passes k P old (Inside (suc n)) front → Title title (k None) → Passes k P old (Inside (suc (suc n))) (front ++ title)
-  passes_open front title n p t b bodies =
-      let w = p (title ++ b) bodies in
-      ((λ h. open_back k same unbroken P n title b bodies t (w.0 (moved k P old _ _ bodies (append_assoc front title b) h))),
-       (λ h. moved k P old _ _ bodies (sym (append_assoc front title b)) (w.1 (open_step k same unbroken P n title b bodies t h))))
+  passes_open front title n p t = leads_then _ _ _ front title [] [] p (open_leads k same unbroken P n title t)
 
   pub passes_close : (front title : List ℕ) (n : ℕ) → Passes k P old (Inside (suc n)) front → Title title Break → Passes k P old (Inside n) (front ++ title)
-  passes_close front title n p t b bodies =
-      let w = p (255 ∷ b) bodies in
-      let e : (front ++ title) ++ b ≡ front ++ 255 ∷ b = append_assoc front title b ∙ ap (λ z. front ++ (z ++ b)) t in
-      ((λ h. close_back k same unbroken P n b bodies (w.0 (moved k P old _ _ bodies e h))),
-       (λ h. moved k P old _ _ bodies (sym e) (w.1 (close_step k same unbroken P n b bodies h))))
+  passes_close front title n p t = rw t (leads_then _ _ _ front (255 ∷ []) [] [] p (close_leads k same unbroken P n))
 
   pub reaches : (front title : List ℕ) (n len : ℕ) → Passes k P old (Inside (suc n)) front → Title title (k (Some len)) → Reaches k P old len (Inside (suc n)) (front ++ title)
-  reaches front title n len p t b bodies =
-      let w = p (title ++ b) bodies in
-      ((λ h. body_back k same unbroken P n len title b bodies t (w.0 (moved k P old _ _ bodies (append_assoc front title b) h))),
-       (λ h. moved k P old _ _ bodies (sym (append_assoc front title b)) (w.1 (body_step k same unbroken P n len title b bodies t h))))
+  reaches front title n len p t = leads_then _ _ _ front title [] [] p (body_due k same unbroken P n len title t)
 
 pub suc_of : (n : ℕ) → 0 < n → suc (n - 1) ≡ n
 suc_of n h = omega arith
-
--- the body of a definite string is due at once
-pub one_due : (k : Option ℕ → Header) (P : List ℕ → Type 0) (len : ℕ) → Reaches k P (One len) len (Inside 0) []
-one_due k P len b bodies = (there, back)
-  where
-    there : Rest k P (One len) b bodies → Parted k P len (Inside 0) b bodies
-    there h = record { body = b; rest = []; more = []; full = h.0; allowed = h.1; goes = (refl, refl); whole = sym (append-nil b); all = h.2 }
-    back : Parted k P len (Inside 0) b bodies → Rest k P (One len) b bodies
-    back q =
-        let g : (q.rest ≡ []) × (q.more ≡ []) = q.goes in
-        let e : b ≡ q.body = q.whole ∙ ap (λ z. q.body ++ z) g.0 ∙ append-nil q.body in
-        (ap length e ∙ q.full, subst P (sym e) q.allowed, q.all ∙ rw (g.1, e) refl)
 
 module _ (k : Option ℕ → Header) (same : (o p : Option ℕ) → k o ≡ k p → o ≡ p) (unbroken : (o : Option ℕ) → k o ≢ Break) (P : List ℕ → Type 0)
     (old : Stage) (left mid left' : Option (List ℕ)) (place pm place' depth : ℕ) (some : 0 < depth)
@@ -97,7 +71,7 @@ module _ (k : Option ℕ → Header) (same : (o p : Option ℕ) → k o ≡ k p 
       → StageTells ends k P old (stage_after depth e) left left' place place' e
   stage_tells ends (Io e) g h = λ t. ends_inside (h t)
   stage_tells ends (Syntax p) g h = (refl, inr (rw h.0 (strays (bad_byte h.1))))
-  stage_tells ends TooLong g h = omega arith
+  stage_tells ends TooLong g h = inl (omega arith)
   stage_tells ends Waiting g h = h
 
   pub break_taken : (h : Header) → Takes mid left' pm place' (λ b. Title b h) → h ≡ Break → Takes left left' place place' (Passes k P old (Inside (depth - 1)))
@@ -128,7 +102,7 @@ pub end_taken : (k : Option ℕ → Header) (P : List ℕ → Type 0) (old : Sta
 end_taken k P old left left' place place' depth e run = record {
   bytes = run.bytes;
   has = let p : Passes k P old (Inside 0) run.bytes = subst (λ n. Passes k P old (Inside n) run.bytes) e run.has in
-      moved k P old (run.bytes ++ []) run.bytes [] (append-nil run.bytes) ((p [] []).1 (refl, refl));
+      subst (λ z. Rest k P old z []) (append-nil run.bytes) (p.there [] [] (refl, refl));
   taken = run.taken;
   grown = run.grown;
 }

@@ -4,9 +4,8 @@ use Rattle.std.specs.Prelude.{IsUtf8}
 use lib.Utf8.{encodes}
 use Rattle.std.specs.Str.{IsCharBoundary}
 use Rattle.std.specs.Char.{len_utf8}
-use Rattle.std.proofs.lemmas.List.{take-append-drop, append_cancel_left}
+use Rattle.std.proofs.lemmas.List.{take-append-drop}
 use Rattle.std.proofs.lemmas.Str.{IsCharBoundary-past_char, len_utf8_bounds}
-use Rattle.std.proofs.Math.Seq.{take-append_seam}
 use Rattle.std.specs.Io.KnownBytes.{Appends}
 use Rattle.std.proofs.KnownBytes.{Appends-trans}
 use Rattle.ciborium_ll.specs.Device.{AppendsFront}
@@ -14,6 +13,7 @@ use Rattle.ciborium_ll.specs.Title.{title_of}
 use Rattle.ciborium_ll.specs.declared.hdr.Header.{Header}
 use Rattle.ciborium_ll.specs.Framing.{joined}
 use Rattle.ciborium_ll.specs.Pieces.{Pieces, no_piece, piece_more, enc_pieces, enc_whole, enc_open, IsString, at_least}
+use Rattle.ciborium_ll.proofs.Closings.{same_fronts}
 use Rattle.ciborium_ll.proofs.Appending.{front_then, then_front, front_as}
 
 pub enc_pieces-append : (k : Option ℕ → Header) (xs ys : List (List ℕ)) → enc_pieces k (xs ++ ys) ≡ enc_pieces k xs ++ enc_pieces k ys
@@ -23,11 +23,6 @@ enc_pieces-append k (x ∷ xs) ys = rw (enc_pieces-append k xs ys) (sym (append_
 nothing : (xs : List ℕ) → length xs ≤ 0 → xs ≡ []
 nothing [] h = refl
 nothing (x ∷ xs) h = absurd (omega arith)
-
-same_fronts : (x y u v : List ℕ) → length x ≡ length y → x ++ u ≡ y ++ v → (x ≡ y) × (u ≡ v)
-same_fronts x y u v l e =
-    let f : x ≡ y = sym (take-append_seam x u) ∙ ap (λ n. take n (x ++ u)) l ∙ ap (take (length y)) e ∙ take-append_seam y v in
-    (f, append_cancel_left y u v (ap (λ z. z ++ u) (sym f) ∙ e))
 
 module _ (Fit : List ℕ → ℕ → Type 0) (most : ℕ) where
   -- a value's pieces begin with the longest that fits

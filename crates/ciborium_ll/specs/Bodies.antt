@@ -46,11 +46,15 @@ IsDamaged old b = (length b ≤ unread_of old) × ((r : List ℕ) → length b +
 abbrev pub more_of : Body → ℕ → ℕ
 more_of old room = min (unread_of old) (room - length (saved_of old))
 
+-- nothing of a body was taken
+abbrev pub Stays : Body → Body → ℕ → ℕ → Type 0
+Stays old new place place' = (new ≡ old) × (place' ≡ place)
+
 -- what a fault in a text's body tells: an end; a text that is no UTF-8, whose segment's place stays; an offset that would grow
--- too large
-abbrev pub TextTells : {E : Type 0} → (E → Bool) → Body → ℕ → Stage → Stage → Option (List ℕ) → Option (List ℕ) → ℕ → ℕ → Type 0 → Error E → Type 0
-TextTells ends old room stage stage' left left' place place' waits (Io e) = IsTrue (ends e) → IsShort left (more_of old room)
-TextTells ends old room stage stage' left left' place place' waits (Syntax p) =
+-- too large; a header that waits
+abbrev pub TextTells : {E : Type 0} → (E → Bool) → Body → Body → ℕ → Stage → Stage → Option (List ℕ) → Option (List ℕ) → ℕ → ℕ → Type 0 → Error E → Type 0
+TextTells ends old new room stage stage' left left' place place' waits (Io e) = (IsTrue (ends e) → IsShort left (more_of old room)) × Stays old new place place'
+TextTells ends old new room stage stage' left left' place place' waits (Syntax p) =
     (stage' ≡ Stuck p) × ((stage ≡ Stuck p) ⊎ ((p ≡ start_of old) × Takes left left' place place' (IsDamaged old)))
-TextTells ends old room stage stage' left left' place place' waits TooLong = 2 ^ 64 ≤ place + more_of old room
-TextTells ends old room stage stage' left left' place place' waits Waiting = waits
+TextTells ends old new room stage stage' left left' place place' waits TooLong = (2 ^ 64 ≤ place + more_of old room) × Stays old new place place'
+TextTells ends old new room stage stage' left left' place place' waits Waiting = waits × Stays old new place place'

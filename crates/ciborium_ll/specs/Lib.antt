@@ -1,4 +1,5 @@
 pub mod Bodies
+pub mod Copies
 pub mod Device
 pub mod Fault
 pub mod Framing

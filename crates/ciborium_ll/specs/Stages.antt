@@ -1,5 +1,5 @@
 -- Strings that are read in pieces (RFC 8949, section 3.2.3): how far one has been read, and what its rest may be.
-use Rattle.std.specs.Prelude.{◌≡◌, ◌≢◌, ◌⊎◌, ◌↔◌, ℕ, ◌+◌, ◌-◌, ◌<◌, ◌≤◌, ◌^◌, Bool, IsTrue, List, [], ◌∷◌, ◌++◌, length, Option, None, Some}
+use Rattle.std.specs.Prelude.{◌≡◌, ◌≢◌, ◌⊎◌, ℕ, ◌+◌, ◌-◌, ◌<◌, ◌≤◌, ◌^◌, Bool, IsTrue, List, [], ◌∷◌, ◌++◌, length, Option, None, Some}
 use Rattle.ciborium_ll.specs.Title.{Title, IsCut}
 use Rattle.ciborium_ll.specs.Framing.{Closing}
 use Rattle.ciborium_ll.specs.Reading.{IsBadByte, Takes}
@@ -21,10 +21,6 @@ Rest k P (One n) b bodies = (length b ≡ n) × P b × (bodies ≡ b ∷ [])
 Rest k P (Inside n) b bodies = Closing k P n b bodies
 Rest k P (Stuck p) b bodies = ⊥
 
--- `front` opens and closes strings, and has no body: it stands before the new stage's rests in the old one's, and before no other
-abbrev pub Passes : (Option ℕ → Header) → (List ℕ → Type 0) → Stage → Stage → List ℕ → Type 0
-Passes k P old new front = (b : List ℕ) (bodies : List (List ℕ)) → Rest k P old (front ++ b) bodies ↔ Rest k P new b bodies
-
 -- a body of `len` bytes, and then the rest of the string
 pub record Parted (k : Option ℕ → Header) (P : List ℕ → Type 0) (len : ℕ) (new : Stage) (b : List ℕ) (bodies : List (List ℕ)) : Type 0 where
   pub body : List ℕ
@@ -36,9 +32,27 @@ pub record Parted (k : Option ℕ → Header) (P : List ℕ → Type 0) (len : �
   pub whole : b ≡ body ++ rest
   pub all : bodies ≡ body ∷ more
 
--- behind `front` a body of `len` bytes is due
+-- `b` is `front` and then bytes that are New, with which `l` begins too; `given` are the bodies up to there
+pub record Behind (New : List ℕ → List (List ℕ) → Type 0) (front : List ℕ) (given : List (List ℕ)) (l b after : List ℕ) (bodies : List (List ℕ)) : Type 0 where
+  pub rest : List ℕ
+  pub more : List (List ℕ)
+  pub has : New rest more
+  pub whole : b ≡ front ++ rest
+  pub left : l ≡ rest ++ after
+  pub all : bodies ≡ given ++ more
+
+-- `front`, with the bodies `given` in it, leads from Old to New: it makes what is New Old, and what is Old and goes on as `front`
+-- does is `front` and then what is New
+pub record Leads (Old New : List ℕ → List (List ℕ) → Type 0) (front : List ℕ) (given : List (List ℕ)) : Type 0 where
+  pub there : (b : List ℕ) (more : List (List ℕ)) → New b more → Old (front ++ b) (given ++ more)
+  pub back : (l b after : List ℕ) (bodies : List (List ℕ)) → Old b bodies → front ++ l ≡ b ++ after → Behind New front given l b after bodies
+
+-- `front` goes on from one stage to another over no body, or up to a body of `len` bytes
+abbrev pub Passes : (Option ℕ → Header) → (List ℕ → Type 0) → Stage → Stage → List ℕ → Type 0
+Passes k P old new front = Leads (Rest k P old) (Rest k P new) front []
+
 abbrev pub Reaches : (Option ℕ → Header) → (List ℕ → Type 0) → Stage → ℕ → Stage → List ℕ → Type 0
-Reaches k P old len new front = (b : List ℕ) (bodies : List (List ℕ)) → Rest k P old (front ++ b) bodies ↔ Parted k P len new b bodies
+Reaches k P old len new front = Leads (Rest k P old) (Parted k P len new) front []
 
 -- the segment of that body begins at `start`: with its head, or where a definite string's body does
 abbrev pub StartsAt : (Option ℕ → Header) → ℕ → ℕ → ℕ → List ℕ → Type 0
@@ -75,11 +89,11 @@ stage_after depth TooLong = Inside depth
 stage_after depth Waiting = Inside depth
 
 -- what a fault on the way to a body tells: an end inside an open string; a stray head, whose place stays; an offset that would
--- grow too large, counting the strings that are open
+-- grow too large, or more open strings than `usize` counts
 abbrev pub StageTells : {E : Type 0} → (E → Bool) → (Option ℕ → Header) → (List ℕ → Type 0) → Stage → Stage → Option (List ℕ) → Option (List ℕ) → ℕ → ℕ → Error E → Type 0
 StageTells ends k P old new left left' place place' (Io e) = IsTrue (ends e) → EndsInside k P old left
 StageTells ends k P old new left left' place place' (Syntax p) = (new ≡ Stuck p) × ((old ≡ Stuck p) ⊎ Takes left left' place place' (Strays k P old place p))
-StageTells ends k P old new left left' place place' TooLong = 2 ^ 64 ≤ opens old + place' + 9
+StageTells ends k P old new left left' place place' TooLong = (2 ^ 64 ≤ place' + 9) ⊎ (2 ^ 64 + place ≤ opens old + place' + 1)
 StageTells ends k P old new left left' place place' Waiting = ⊥
 
 -- a number that falls with each body

@@ -42,11 +42,7 @@ impl<R: Read> Decoder<R> {
         ensures decoder { result.decoder.now ≡ self.old }
         ensures stage { result.stage ≡ stage_of len }
     {
-        Segments {
-            decoder: self,
-            stage: Stage::behind(len),
-            kind: PhantomData,
-        }
+        Segments::behind(self, len)
     }
 
     /// The text behind a head with this length, where `None` is an indefinite one.
@@ -55,8 +51,19 @@ impl<R: Read> Decoder<R> {
         ensures decoder { result.decoder.now ≡ self.old }
         ensures stage { result.stage ≡ stage_of len }
     {
+        Segments::behind(self, len)
+    }
+}
+
+impl<'r, R, P> Segments<'r, R, P> {
+    /// The string behind a head with this length.
+    pub(crate) fn behind(decoder: &'r mut Decoder<R>, len: Option<usize>) -> Segments<'r, R, P>
+        ensures same_reference { result.decoder.ghost_name ≡ decoder.entry.ghost_name }
+        ensures decoder { result.decoder.now ≡ decoder.old }
+        ensures stage { result.stage ≡ stage_of len }
+    {
         Segments {
-            decoder: self,
+            decoder,
             stage: Stage::behind(len),
             kind: PhantomData,
         }
@@ -66,6 +73,7 @@ impl<R: Read> Decoder<R> {
 impl<'r, R: Read, P: StringKind> Segments<'r, R, P> {
     ghost use Rattle.ciborium_ll.specs.Segments.{decoder_of, name_of, stage_at, left_at, place_at, failed_at, handle_at, IfSegment, IfNoSegment, IfFault};
     ghost use Rattle.ciborium_ll.specs.Bodies.{unread_of, saved_of, start_of};
+    ghost use Rattle.ciborium_ll.specs.Views.{waiting_of};
 
     /// Goes on to the next body, or gives none at the end of the string, and then always.
     ///
@@ -81,10 +89,12 @@ impl<'r, R: Read, P: StringKind> Segments<'r, R, P> {
             (λ b. Rest P.titled P.allows (stage_at self.old) b []))) }
         ensures fault { IfErr result (StageTells R.ends P.titled P.allows (stage_at self.old) (stage_at self.new) (left_at R.left self.old) (left_at R.left self.new) (place_at self.old) (place_at self.new)) }
         ensures moved { IfOk result (λ o. IfSome o (λ body. ahead (stage_at self.new) (place_at self.new) < ahead (stage_at self.old) (place_at self.old))) }
+        ensures unstuck { IfOk result (λ o. IfSome o (λ body. (p : ℕ) → stage_at self.new ≢ Stuck p)) }
         ensures room { opens (stage_at self.new) + place_at self.old ≤ opens (stage_at self.old) + place_at self.new }
         ensures done { stage_at self.old ≡ Inside 0 → (result ≡ Ok None) × (stage_at self.new ≡ stage_at self.old) × (decoder_of self.new ≡ decoder_of self.old) }
         ensures stuck { (p : ℕ) → stage_at self.old ≡ Stuck p → (result ≡ Err (Syntax p)) × (stage_at self.new ≡ stage_at self.old) × (decoder_of self.new ≡ decoder_of self.old) }
         ensures failed { failed_at R.failed self.new ≡ failures R.ends result (failed_at R.failed self.old) }
+        ensures fresh { waiting_of (decoder_of self.old) ≡ None → waiting_of (decoder_of self.new) ≡ None }
         ensures kept { handle_at R.handle self.new ≡ handle_at R.handle self.old }
     {
         next_body::<R, P>(self.decoder, &mut self.stage)
@@ -138,6 +148,7 @@ impl<'r, R: Read> Segments<'r, R, Bytes> {
             (2 ^ 64 ≤ place_at self.old + min (length buffer.old) (unread_of body.old)) ((waiting_of (decoder_of self.old) ≢ None) × (left_at R.left self.new ≡ left_at R.left self.old))) }
         ensures err { OnErr result ((body.new ≡ body.old) × (place_at self.new ≡ place_at self.old)) }
         ensures failed { failed_at R.failed self.new ≡ failures R.ends result (failed_at R.failed self.old) }
+        ensures fresh { waiting_of (decoder_of self.old) ≡ None → waiting_of (decoder_of self.new) ≡ None }
         ensures kept { handle_at R.handle self.new ≡ handle_at R.handle self.old }
     {
         if body.unread == 0 {
@@ -209,10 +220,11 @@ impl<'r, R: Read> Segments<'r, R, Text> {
             (IsPart body.old body.new piece.now))) }
         ensures long { IfOk result (λ o. IfSome o (λ piece. 4 ≤ length buffer.old → (0 < length piece.now) × (min (length buffer.old) (bytes_of body.old) ≤ length piece.now + 3))) }
         ensures none { IfOk result (λ o. IfNone o ((bytes_of body.old ≡ 0) × (body.new ≡ body.old) × (self.new ≡ self.old))) }
-        ensures fault { IfErr result (TextTells R.ends body.old (length buffer.old) (stage_at self.old) (stage_at self.new) (left_at R.left self.old) (left_at R.left self.new) (place_at self.old) (place_at self.new)
+        ensures fault { IfErr result (TextTells R.ends body.old body.new (length buffer.old) (stage_at self.old) (stage_at self.new) (left_at R.left self.old) (left_at R.left self.new) (place_at self.old) (place_at self.new)
             ((waiting_of (decoder_of self.old) ≢ None) × (left_at R.left self.new ≡ left_at R.left self.old))) }
         ensures stuck { (p : ℕ) → stage_at self.old ≡ Stuck p → (result ≡ Err (Syntax p)) × (body.new ≡ body.old) × (stage_at self.new ≡ stage_at self.old) × (decoder_of self.new ≡ decoder_of self.old) }
         ensures failed { failed_at R.failed self.new ≡ failures R.ends result (failed_at R.failed self.old) }
+        ensures fresh { waiting_of (decoder_of self.old) ≡ None → waiting_of (decoder_of self.new) ≡ None }
         ensures kept { handle_at R.handle self.new ≡ handle_at R.handle self.old }
     {
         if let Stage::Stuck(place) = self.stage {
@@ -259,7 +271,7 @@ impl<'s, 'r, R: Read> Segment<'s, 'r, R, Text> {
                 (IsPart self.old.body self.new.body piece.now))) }
         ensures long { IfOk result (λ o. IfSome o (λ piece. 4 ≤ length buffer.old → (0 < length piece.now) × (min (length buffer.old) (bytes_of self.old.body) ≤ length piece.now + 3))) }
         ensures none { IfOk result (λ o. IfNone o ((bytes_of self.old.body ≡ 0) × (self.new ≡ self.old))) }
-        ensures fault { IfErr result (TextTells R.ends self.old.body (length buffer.old) (stage_at self.old.segments.now) (stage_at self.new.segments.now)
+        ensures fault { IfErr result (TextTells R.ends self.old.body self.new.body (length buffer.old) (stage_at self.old.segments.now) (stage_at self.new.segments.now)
             (left_at R.left self.old.segments.now) (left_at R.left self.new.segments.now) (place_at self.old.segments.now) (place_at self.new.segments.now)
             ((waiting_of (decoder_of self.old.segments.now) ≢ None) × (left_at R.left self.new.segments.now ≡ left_at R.left self.old.segments.now))) }
         ensures failed { failed_at R.failed self.new.segments.now ≡ failures R.ends result (failed_at R.failed self.old.segments.now) }

@@ -1,5 +1,5 @@
 //! How far a string has been read.
-ghost use Rattle.std.specs.Prelude.{ℕ, ◌≡◌, ◌+◌, ◌<◌, ◌≤◌, ◌^◌, ◌⊎◌, [], IfOk, IfErr, IfSome, IfNone};
+ghost use Rattle.std.specs.Prelude.{ℕ, ◌≡◌, ◌≢◌, ◌+◌, ◌<◌, ◌≤◌, ◌^◌, ◌⊎◌, [], IfOk, IfErr, IfSome, IfNone};
 ghost use Rattle.ciborium_ll.specs.Reading.{Takes, failures};
 ghost use Rattle.ciborium_ll.specs.Stages.{Rest, Reaches, StartsAt, StageTells, stage_after, stage_of, opens, ahead};
 ghost use Rattle.ciborium_ll.specs.Bodies.{unread_of, saved_of, start_of};
@@ -44,10 +44,12 @@ pub(crate) fn next_body<R: Read, P: StringKind>(decoder: &mut Decoder<R>, stage:
         (λ b. Rest P.titled P.allows stage.old b []))) }
     ensures fault { IfErr result (StageTells R.ends P.titled P.allows stage.old stage.new (left_of R.left decoder.old) (left_of R.left decoder.new) (offset_of decoder.old) (offset_of decoder.new)) }
     ensures moved { IfOk result (λ o. IfSome o (λ body. ahead stage.new (offset_of decoder.new) < ahead stage.old (offset_of decoder.old))) }
+    ensures unstuck { IfOk result (λ o. IfSome o (λ body. (p : ℕ) → stage.new ≢ Stuck p)) }
     ensures room { opens stage.new + offset_of decoder.old ≤ opens stage.old + offset_of decoder.new }
     ensures done { stage.old ≡ Inside 0 → (result ≡ Ok None) × (stage.new ≡ stage.old) × (decoder.new ≡ decoder.old) }
     ensures stuck { (p : ℕ) → stage.old ≡ Stuck p → (result ≡ Err (Syntax p)) × (stage.new ≡ stage.old) × (decoder.new ≡ decoder.old) }
     ensures failed { R.failed (reader_of decoder.new) ≡ failures R.ends result (R.failed (reader_of decoder.old)) }
+    ensures fresh { waiting_of decoder.old ≡ None → waiting_of decoder.new ≡ None }
     ensures kept { R.handle (reader_of decoder.new) ≡ R.handle (reader_of decoder.old) }
 {
     match *stage {
@@ -75,8 +77,10 @@ fn find_body<R: Read, P: StringKind>(decoder: &mut Decoder<R>, stage: &mut Stage
         (λ b. Rest P.titled P.allows stage.old b []))) }
     ensures fault { IfErr result (StageTells R.ends P.titled P.allows stage.old stage.new (left_of R.left decoder.old) (left_of R.left decoder.new) (offset_of decoder.old) (offset_of decoder.new)) }
     ensures moved { IfOk result (λ o. IfSome o (λ body. ahead stage.new (offset_of decoder.new) < ahead stage.old (offset_of decoder.old))) }
+    ensures unstuck { IfOk result (λ o. IfSome o (λ body. (p : ℕ) → stage.new ≢ Stuck p)) }
     ensures room { opens stage.new + offset_of decoder.old ≤ opens stage.old + offset_of decoder.new }
     ensures failed { R.failed (reader_of decoder.new) ≡ failures R.ends result (R.failed (reader_of decoder.old)) }
+    ensures fresh { waiting_of decoder.old ≡ None → waiting_of decoder.new ≡ None }
     ensures kept { R.handle (reader_of decoder.new) ≡ R.handle (reader_of decoder.old) }
 {
     let mut depth = depth;

@@ -23,6 +23,7 @@ pub(crate) fn fill<R: Read>(decoder: &mut Decoder<R>, body: &mut Body, buffer: &
         (2 ^ 64 ≤ offset_of decoder.old + more_of body.old (length buffer.old)) ((waiting_of decoder.old ≢ None) × (waiting_of decoder.new ≡ waiting_of decoder.old) × (reader_of decoder.new ≡ reader_of decoder.old))) }
     ensures err { OnErr result ((body.new ≡ body.old) × (offset_of decoder.new ≡ offset_of decoder.old)) }
     ensures failed { R.failed (reader_of decoder.new) ≡ failures R.ends result (R.failed (reader_of decoder.old)) }
+    ensures fresh { waiting_of decoder.old ≡ None → waiting_of decoder.new ≡ None }
     ensures kept { R.handle (reader_of decoder.new) ≡ R.handle (reader_of decoder.old) }
 {
     body.saved.put(buffer);

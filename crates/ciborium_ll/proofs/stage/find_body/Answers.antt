@@ -11,6 +11,7 @@ loop-depth-preserved-in-Break g c = record {
   took = break_taken _ g.P.StringKind.same g.P.StringKind.unbroken _ _ _ _ _ _ _ _ _ c.loop-depth-test.true c.loop-depth.invariant.took _ c.in-Ok.ensures.ok c.in-Break.is;
   room = search rules;
   failed = search rules;
+  fresh = search rules;
   kept = search rules;
 }
 
@@ -19,6 +20,7 @@ loop-depth-preserved g c = record {
   took = open_taken _ g.P.StringKind.same g.P.StringKind.unbroken _ _ _ _ _ _ _ _ _ c.loop-depth-test.true c.loop-depth.invariant.took _ c.in-Ok.ensures.ok (c.in-Some-None.ensures.some ∙ ap g.P.StringKind.titled c.in-Some-None.field-0-is);
   room = search rules;
   failed = search rules;
+  fresh = search rules;
   kept = search rules;
 }
 
@@ -31,8 +33,10 @@ returns-in-None g c = record {
   none = tt;
   fault = (refl, inr (rw c.offset-place.ensures (stray_taken _ g.P.StringKind.same g.P.StringKind.unbroken _ _ _ _ _ _ _ _ _ c.loop-depth-test.true c.loop-depth.invariant.took _ c.in-Ok.ensures.ok c.in_default.not-Break c.in-None.ensures.none)));
   moved = tt;
+  unstuck = tt;
   room = omega (arith, c.loop-depth.invariant.took.grown, c.in-Ok.ensures.grows);
   failed = search rules;
+  fresh = search rules;
   kept = search rules;
 }
 
@@ -43,7 +47,9 @@ returns-in-Some-Some g c = record {
   none = tt;
   fault = tt;
   moved = moved_on _ _ _ _ _ _ c.loop-depth.invariant.took _ c.in-Ok.ensures.ok _ _ c.offset-place.result c.offset-place.ensures (search rules) c.requires.inside;
+  unstuck = λ p e. cc;
   room = omega (arith, c.loop-depth.invariant.room, c.in-Ok.ensures.grows);
   failed = search rules;
+  fresh = search rules;
   kept = search rules;
 }

@@ -1,6 +1,6 @@
-use Rattle.std.proofs.Common.{◌≡◌, ◌≤◌, ◌+◌, ◌-◌, ◌^◌, ℕ}
+use Rattle.std.proofs.Common.{◌≡◌, ◌≤◌, ◌+◌, ◌-◌, ◌^◌, ℕ, None}
 use Rattle.ciborium_ll.specs.Reading.{Takes}
-use Rattle.ciborium_ll.specs.Views.{left_of, offset_of, reader_of}
+use Rattle.ciborium_ll.specs.Views.{left_of, offset_of, waiting_of, reader_of}
 use Rattle.ciborium_ll.specs.Stages.{Passes, opens}
 use Rattle.ciborium_ll.specs.declared.stage.Stage.TheVariants.{Inside}
 use Rattle.ciborium_ll.proofs.stage.find_body.Given as goal
@@ -11,6 +11,7 @@ invariant-loop-depth g l = record {
       (Passes g.P.StringKind.titled g.P.StringKind.allows l.fn.stage (Inside l.depth));
   room : l.depth + offset_of l.fn.decoder ≤ opens l.fn.stage + offset_of l.decoder;
   failed : g.R.Read.failed (reader_of l.decoder) ≡ g.R.Read.failed (reader_of l.fn.decoder);
+  fresh : waiting_of l.fn.decoder ≡ None → waiting_of l.decoder ≡ None;
   kept : g.R.Read.handle (reader_of l.decoder) ≡ g.R.Read.handle (reader_of l.fn.decoder);
 }
 

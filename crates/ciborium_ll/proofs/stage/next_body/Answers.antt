@@ -1,5 +1,6 @@
 use Rattle.std.proofs.Common.{rules, ◌≡◌, refl, inl}
-use Rattle.ciborium_ll.proofs.Walk.{one_due, takes_nothing}
+use Rattle.ciborium_ll.proofs.Closings.{one_due}
+use Rattle.ciborium_ll.proofs.Walk.{takes_nothing}
 use Rattle.ciborium_ll.proofs.stage.next_body.Goals as goal
 
 pub returns-in-One-clause-some : goal.returns-in-One-clause-some
