@@ -9,7 +9,7 @@ use Rattle.std.proofs.Math.Seq.{take-append_seam}
 use Rattle.ciborium_ll.specs.Device.{IsShort, AppendsFront}
 use Rattle.ciborium_ll.specs.declared.hdr.Error.{Error}
 use Rattle.ciborium_ll.specs.declared.hdr.Error.TheVariants.{Io, Syntax, TooLong, Waiting}
-use Rattle.ciborium_ll.specs.declared.recode.RecodeError.TheVariants.{Read, Write}
+use Rattle.ciborium_ll.specs.declared.recoding.RecodeError.TheVariants.{Read, Write}
 use Rattle.ciborium_ll.specs.Reading.{Takes, RawFault}
 use Rattle.ciborium_ll.specs.declared.body.Body.{Body}
 use Rattle.ciborium_ll.specs.declared.stage.Stage.{Stage}

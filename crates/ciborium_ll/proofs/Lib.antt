@@ -2,7 +2,10 @@ pub mod Appending
 pub mod Closings
 pub mod Copying
 pub mod Empty
+pub mod Framed
+pub mod Opened
 pub mod Pulling
+pub mod Recoded
 pub mod Shortest
 pub mod TitleLaws
 pub mod Titled

@@ -28,6 +28,9 @@ takes_then l m r i j n p q f = record {
 pub takes_nothing : {P : List ℕ → Type 0} (l : Option (List ℕ)) (i : ℕ) → P [] → Takes l l i i P
 takes_nothing l i p = record { bytes = []; has = p; taken = Consumes-nil l; grown = omega arith }
 
+pub takes_as : {P Q : List ℕ → Type 0} (l m : Option (List ℕ)) (i j : ℕ) → Takes l m i j P → ((a : List ℕ) → P a → Q a) → Takes l m i j Q
+takes_as l m i j p f = record { bytes = p.bytes; has = f p.bytes p.has; taken = p.taken; grown = p.grown }
+
 module _ (k : Option ℕ → Header) (same : (o p : Option ℕ) → k o ≡ k p → o ≡ p) (unbroken : (o : Option ℕ) → k o ≢ Break) (P : List ℕ → Type 0) (old : Stage) where
   pub passes_open : (front title : List ℕ) (n : ℕ) → Passes k P old (Inside (suc n)) front → Title title (k None) → Passes k P old (Inside (suc (suc n))) (front ++ title)
   passes_open front title n p t = leads_then _ _ _ front title [] [] p (open_leads k same unbroken P n title t)

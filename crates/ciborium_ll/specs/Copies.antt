@@ -1,23 +1,32 @@
 -- Heads and strings that are copied to shortest titles.
 use Rattle.std.specs.Prelude.{◌≡◌, ◌≢◌, ℕ, suc, ◌+◌, List, [], ◌∷◌, ◌++◌, length, Option, None, Some, Bool, IsTrue, Result, Ok, Err}
 use Rattle.std.specs.Str.{IsUtf8}
+use Rattle.std.specs.Io.KnownBytes.{Consumes, Appends}
 use Rattle.ciborium_ll.specs.Device.{AppendsFront}
 use Rattle.ciborium_ll.specs.Title.{Title, title_of}
 use Rattle.ciborium_ll.specs.declared.hdr.Header.{Header}
 use Rattle.ciborium_ll.specs.declared.hdr.Header.TheVariants.{Bytes, Text}
 use Rattle.ciborium_ll.specs.declared.hdr.Error.{Error}
 use Rattle.ciborium_ll.specs.declared.hdr.Error.TheVariants.{Io, Syntax, TooLong, Waiting}
-use Rattle.ciborium_ll.specs.declared.recode.RecodeError.{RecodeError}
-use Rattle.ciborium_ll.specs.declared.recode.RecodeError.TheVariants.{Read, Write}
-use Rattle.ciborium_ll.specs.Framing.{Frames, Any}
-use Rattle.ciborium_ll.specs.Pieces.{enc_open, enc_whole}
+use Rattle.ciborium_ll.specs.declared.recoding.RecodeError.{RecodeError}
+use Rattle.ciborium_ll.specs.declared.recoding.RecodeError.TheVariants.{Read, Write}
+use Rattle.ciborium_ll.specs.Framing.{Closing, Any}
+use Rattle.ciborium_ll.specs.Pieces.{enc_open, enc_pieces, enc_whole}
 use Rattle.ciborium_ll.specs.Reading.{fault_failures}
 
--- a string and its copy: a definite one stays definite, and an open one becomes open with one definite string for each body
-pub data StringCopy (k : Option ℕ → Header) (P : List ℕ → Type 0) : List ℕ → List ℕ → Type 0 where
-  definite : (title body : List ℕ) → Title title (k (Some (length body))) → P body → StringCopy k P (title ++ body) (enc_whole k body)
-  opened : (title inner : List ℕ) (bodies : List (List ℕ)) → Title title (k None) → Frames k P inner bodies
-      → StringCopy k P (title ++ (inner ++ 255 ∷ [])) (enc_open k bodies)
+-- what stands behind an open string's head, and a copy of it
+abbrev pub BodiesCopy : (Option ℕ → Header) → (List ℕ → Type 0) → List ℕ → List ℕ → Type 0
+BodiesCopy k P b x = (bodies : List (List ℕ)) × Closing k P 1 b bodies × (x ≡ enc_pieces k bodies ++ 255 ∷ [])
+
+-- what stands behind a string's head, and the copy of the whole: a definite string stays definite, and an open one is open with
+-- one definite string for each body
+abbrev pub RestCopy : (Option ℕ → Header) → (List ℕ → Type 0) → Option ℕ → List ℕ → List ℕ → Type 0
+RestCopy k P (Some n) b x = (length b ≡ n) × P b × (x ≡ enc_whole k b)
+RestCopy k P None b x = (bodies : List (List ℕ)) × Closing k P 1 b bodies × (x ≡ enc_open k bodies)
+
+-- a string and its copy
+abbrev pub StringCopy : (Option ℕ → Header) → (List ℕ → Type 0) → List ℕ → List ℕ → Type 0
+StringCopy k P a x = (len : Option ℕ) × (title : List ℕ) × (b : List ℕ) × Title title (k len) × RestCopy k P len b x × (a ≡ title ++ b)
 
 -- one head, or one string with its whole framing, and its copy
 pub data Copy : List ℕ → List ℕ → Type 0 where
@@ -33,6 +42,15 @@ pub data Copies : ℕ → List ℕ → List ℕ → Type 0 where
 -- a body that has P, and its copy
 abbrev pub BodyCopy : (List ℕ → Type 0) → ℕ → List ℕ → List ℕ → Type 0
 BodyCopy P len b x = (length b ≡ len) × P b × (x ≡ b)
+
+-- bytes that have such a copy were taken, and the copy was written
+pub record Makes (Q : List ℕ → List ℕ → Type 0) (left left' : Option (List ℕ)) (place place' : ℕ) (w w' : Option (List ℕ)) : Type 0 where
+  pub bytes : List ℕ
+  pub copy : List ℕ
+  pub is : Q bytes copy
+  pub taken : Consumes left left' bytes
+  pub grown : place' ≡ place + length bytes
+  pub wrote : Appends w w' copy
 
 -- what is left doesn't begin with bytes that have such a copy; this says nothing where it isn't known
 abbrev pub Unlike : Option (List ℕ) → (List ℕ → List ℕ → Type 0) → Type 0

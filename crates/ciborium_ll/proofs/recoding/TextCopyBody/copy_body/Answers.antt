@@ -5,7 +5,7 @@ use Rattle.std.proofs.lemmas.Str.{IsUtf8-append}
 use Rattle.ciborium_ll.proofs.Appending.{then_front, appends_as, front_as}
 use Rattle.ciborium_ll.proofs.Walk.{takes_then}
 use Rattle.ciborium_ll.proofs.Copying.{text_more, text_less, text_seam, text_tell, begun_body, whole_front}
-use Rattle.ciborium_ll.proofs.recode.TextCopyBody.copy_body.Goals as goal
+use Rattle.ciborium_ll.proofs.recoding.TextCopyBody.copy_body.Goals as goal
 
 pub loop-piece-preserved : goal.loop-piece-preserved
 loop-piece-preserved g c =

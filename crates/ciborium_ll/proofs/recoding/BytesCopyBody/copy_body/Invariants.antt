@@ -4,7 +4,7 @@ use Rattle.ciborium_ll.specs.Reading.{Takes}
 use Rattle.ciborium_ll.specs.Views.{waiting_of, writer_of}
 use Rattle.ciborium_ll.specs.Segments.{decoder_of, name_of, stage_at, left_at, place_at, failed_at, handle_at}
 use Rattle.ciborium_ll.specs.Bodies.{unread_of}
-use Rattle.ciborium_ll.proofs.recode.BytesCopyBody.copy_body.Given as goal
+use Rattle.ciborium_ll.proofs.recoding.BytesCopyBody.copy_body.Given as goal
 
 abbrev pub invariant-loop-piece : goal.invariant-loop-piece
 invariant-loop-piece g l = record {

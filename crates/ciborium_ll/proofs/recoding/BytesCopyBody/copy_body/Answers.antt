@@ -4,7 +4,7 @@ use Rattle.ciborium_ll.proofs.Walk.{takes_then}
 use Rattle.ciborium_ll.specs.Framing.{Any}
 use Rattle.ciborium_ll.proofs.Appending.{then_front}
 use Rattle.ciborium_ll.proofs.Copying.{begun_all, bytes_tell, whole_front}
-use Rattle.ciborium_ll.proofs.recode.BytesCopyBody.copy_body.Goals as goal
+use Rattle.ciborium_ll.proofs.recoding.BytesCopyBody.copy_body.Goals as goal
 
 pub loop-piece-preserved : goal.loop-piece-preserved
 loop-piece-preserved g c =
