@@ -1,7 +1,14 @@
 //! Facts about values, for proofs. The calls do nothing at run time.
-ghost use Rattle.std.specs.Prelude.{◌≡◌, ◌≤◌, ◌++◌, ℕ, List, length};
+ghost use Rattle.std.specs.Prelude.{◌≡◌, ◌≤◌, ◌<◌, ◌^◌, ◌++◌, ℕ, List, length, Option, Some};
+ghost use Rattle.std.specs.Str.{IsUtf8, IsCharBoundary};
 ghost use Rattle.ciborium_ll.specs.Title.{FitsHeader, Title, title_of, IsCut, StartsBad};
+ghost use Rattle.ciborium_ll.specs.Framing.{Frame, Any, joined};
+ghost use Rattle.ciborium_ll.specs.Stages.{Rest, Strays, EndsInside, stage_of};
+ghost use Rattle.ciborium_ll.specs.Pieces.{IsString, FitBytes};
+ghost use Rattle.ciborium_ll.specs.Copies.{Copies};
 ghost use Rattle.ciborium_ll.specs.declared.hdr.Header.{Header};
+ghost use Rattle.ciborium_ll.specs.declared.hdr.Header.TheVariants.{Bytes, Text};
+ghost use Rattle.ciborium_ll.specs.declared.stage.Stage.{Stage};
 
 use crate::hdr::Header;
 
@@ -26,4 +33,39 @@ pub fn read_again()
     ensures shortest { (h : Header) (b : List ℕ) → Title b h → length (title_of h) ≤ length b }
     ensures title { (h : Header) → FitsHeader h → Title (title_of h) h }
     ensures only { (h k : Header) (b x y : List ℕ) → FitsHeader h → Title b k → title_of h ++ x ≡ b ++ y → (k ≡ h) × (y ≡ x) }
+{}
+
+/// No string begins another, and a string has one list of bodies.
+pub fn one_framing()
+    ensures bytes { (a b x y : List ℕ) (xs ys : List (List ℕ)) → Frame Bytes Any a xs → Frame Bytes Any b ys → a ++ x ≡ b ++ y → (a ≡ b) × (xs ≡ ys) }
+    ensures text { (a b x y : List ℕ) (xs ys : List (List ℕ)) → Frame Text IsUtf8 a xs → Frame Text IsUtf8 b ys → a ++ x ≡ b ++ y → (a ≡ b) × (xs ≡ ys) }
+{}
+
+/// A head and the rest of its string are a string with these bodies, so what `Segments` reads behind a head is one.
+pub fn rests_are_framed()
+    ensures bytes { (len : Option ℕ) (title b : List ℕ) (bodies : List (List ℕ)) → Title title (Bytes len) → Rest Bytes Any (stage_of len) b bodies → Frame Bytes Any (title ++ b) bodies }
+    ensures text { (len : Option ℕ) (title b : List ℕ) (bodies : List (List ℕ)) → Title title (Text len) → Rest Text IsUtf8 (stage_of len) b bodies → Frame Text IsUtf8 (title ++ b) bodies }
+{}
+
+/// Where a stray head was met, or an end inside an open string, no string of that kind goes on.
+pub fn no_rest()
+    ensures stray { (stage : Stage) (place p : ℕ) (a l b after : List ℕ) (bodies : List (List ℕ)) → Strays Bytes Any stage place p a → Rest Bytes Any stage b bodies → a ++ l ≡ b ++ after → ⊥ }
+    ensures stray_text { (stage : Stage) (place p : ℕ) (a l b after : List ℕ) (bodies : List (List ℕ)) → Strays Text IsUtf8 stage place p a → Rest Text IsUtf8 stage b bodies → a ++ l ≡ b ++ after → ⊥ }
+    ensures end { (stage : Stage) (l b after : List ℕ) (bodies : List (List ℕ)) → EndsInside Bytes Any stage (Some l) → Rest Bytes Any stage b bodies → l ≡ b ++ after → ⊥ }
+    ensures end_text { (stage : Stage) (l b after : List ℕ) (bodies : List (List ℕ)) → EndsInside Text IsUtf8 stage (Some l) → Rest Text IsUtf8 stage b bodies → l ≡ b ++ after → ⊥ }
+{}
+
+/// What an encoder writes of a byte string or a text is one, and its bodies join to the value.
+pub fn strings_are_framed()
+    ensures bytes { (limit : Option ℕ) (value xs : List ℕ) → length value < 2 ^ 64 → IsString Bytes FitBytes limit value xs
+        → (bodies : List (List ℕ)) × Frame Bytes Any xs bodies × (joined bodies ≡ value) }
+    ensures once { (limit : Option ℕ) (value xs ys : List ℕ) → IsString Bytes FitBytes limit value xs → IsString Bytes FitBytes limit value ys → xs ≡ ys }
+    ensures once_text { (limit : Option ℕ) (value xs ys : List ℕ) → IsString Text IsCharBoundary limit value xs → IsString Text IsCharBoundary limit value ys → xs ≡ ys }
+{}
+
+/// A copy is its own copy and has no other, so that recoding it changes nothing; and it is never longer than what was copied.
+pub fn copies_stay()
+    ensures again { (n : ℕ) (a x : List ℕ) → Copies n a x → Copies n x x }
+    ensures once { (n : ℕ) (a b u v x y : List ℕ) → Copies n a x → Copies n b y → a ++ u ≡ b ++ v → (a ≡ b) × (x ≡ y) }
+    ensures shorter { (n : ℕ) (a x : List ℕ) → Copies n a x → length x ≤ length a }
 {}
