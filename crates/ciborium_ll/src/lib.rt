@@ -18,8 +18,10 @@ mod mem;
 mod read;
 mod recoding;
 mod segments;
+pub mod simple;
 mod stage;
 mod strings;
+pub mod tag;
 #[cfg(test)]
 mod tests;
 mod text;

@@ -1,11 +1,16 @@
 //! What no clause says: that calls succeed, how each first byte is taken, and devices that fail in mid-stream.
-use crate::{Decoder, Encoder, End, Error, Float, Full, Header, Io, IoFault, Mem, Read, Write};
+mod segments;
+mod strings;
+
+use crate::{
+    Decoder, Encoder, End, Error, Float, Full, Header, Io, IoFault, Mem, Read, Write, simple, tag,
+};
 use std::io;
 use std::test::Fail;
 
 /// A reader of std that gives one byte a call, and then an error.
 #[derive(Drop)]
-struct Broken<'a>(&'a [u8]);
+pub struct Broken<'a>(pub &'a [u8]);
 
 impl<'a> io::Read for Broken<'a> {
     fn read(&mut self, buf: &mut [u8]) -> io::Result<usize> {
@@ -100,17 +105,19 @@ fn writes_the_shortest_title_and_reads_it_again(rt: HostRuntime) -> Result<(), F
     Ok(())
 }
 
-/// The 27 bytes that begin no title.
-fn is_bad(first: u8) -> bool {
-    let info = first % 32;
-    (28..31).contains(&info) || [0x1f, 0x3f, 0xdf].contains(&first)
-}
+/// The 27 bytes that begin no title (RFC 8949, section 3).
+const BAD: [u8; 27] = [
+    0x1c, 0x1d, 0x1e, 0x1f, 0x3c, 0x3d, 0x3e, 0x3f, 0x5c, 0x5d, 0x5e, 0x7c, 0x7d, 0x7e, 0x9c, 0x9d,
+    0x9e, 0xbc, 0xbd, 0xbe, 0xdc, 0xdd, 0xde, 0xdf, 0xfc, 0xfd, 0xfe,
+];
 
 #[test]
-fn takes_each_first_byte(rt: HostRuntime) {
+fn takes_each_first_byte(rt: HostRuntime) -> Result<(), Fail> {
     for first in 0..=255u8 {
-        let bytes = [first, 1, 2, 3, 4, 5, 6, 7, 8];
+        let bytes = [0, first, 1, 2, 3, 4, 5, 6, 7, 8];
         let mut decoder = Decoder::from(&bytes[..]);
+        decoder.pull()?;
+        let is_bad = BAD.contains(&first);
         let want = match first % 32 {
             24 => 2,
             25 => 3,
@@ -119,17 +126,34 @@ fn takes_each_first_byte(rt: HostRuntime) {
             _ => 1,
         };
         match decoder.pull() {
-            Ok(_) => assert!(rt; !is_bad(first)),
-            Err(e) => assert!(rt; is_bad(first) && e == Error::Syntax(0)),
+            Ok(_) => assert!(rt; !is_bad, "at {first}"),
+            Err(e) => assert!(rt; is_bad && e == Error::Syntax(1), "at {first}"),
         }
-        assert_eq!(rt; decoder.offset(), want, "at {first}");
+        assert_eq!(rt; decoder.offset(), 1 + want, "at {first}");
         // one byte fewer is an end inside the title
         if want > 1 {
-            let mut cut = Decoder::from(&bytes[..want - 1]);
-            assert!(rt; cut.pull() == Err(Error::Io(End)));
-            assert_eq!(rt; cut.offset(), 1);
+            let mut cut = Decoder::from(&bytes[1..want]);
+            assert!(rt; cut.pull() == Err(Error::Io(End)), "at {first}");
+            assert_eq!(rt; cut.offset(), 1, "at {first}");
         }
     }
+    Ok(())
+}
+
+#[test]
+fn constants_name_simple_values_and_tags(rt: HostRuntime) -> Result<(), Fail> {
+    for (first, header) in [
+        (0xf4u8, Header::Simple(simple::FALSE)),
+        (0xf5, Header::Simple(simple::TRUE)),
+        (0xf6, Header::Simple(simple::NULL)),
+        (0xf7, Header::Simple(simple::UNDEFINED)),
+        (0xc2, Header::Tag(tag::BIGPOS)),
+        (0xc3, Header::Tag(tag::BIGNEG)),
+    ] {
+        let bytes = [first];
+        assert_eq!(rt; Decoder::from(&bytes[..]).pull()?, header);
+    }
+    Ok(())
 }
 
 #[test]
