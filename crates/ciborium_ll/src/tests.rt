@@ -1,4 +1,5 @@
 //! What no clause says: that calls succeed, how each first byte is taken, and devices that fail in mid-stream.
+mod recoding;
 mod segments;
 mod strings;
 
