@@ -1,4 +1,4 @@
--- Algorithms. Each table stands in src/algorithm.rt.
+-- Algorithms. The table stands in src/algorithm.rt.
 use Rattle.std.specs.Prelude.{◌≡◌, refl, ℤ, negsuc, Bool, true, false}
 use Rattle.cose_iana.specs.declared.algorithm.Algorithm.{Algorithm}
 use Rattle.cose_iana.specs.contracts.algorithm.Algorithm.{the_type as algorithms_type}
@@ -8,15 +8,15 @@ use Rattle.cose_iana.specs.Table.{registry, InOrder, in_order, not_below}
 
 -- Algorithms: the registry "COSE Algorithms" (RFC 9053).
 unfoldable pub algorithms : Registry Algorithm
-algorithms = registry algorithms_type tt ALGORITHMS refl
+algorithms = registry algorithms_type tt ALGORITHMS.now refl
 
-pub algorithms_in_order : InOrder algorithms_type ALGORITHMS algorithms
+pub algorithms_in_order : InOrder algorithms_type ALGORITHMS.now algorithms
 unfolding algorithms
-algorithms_in_order = in_order algorithms_type tt ALGORITHMS refl
+algorithms_in_order = in_order algorithms_type tt ALGORITHMS.now refl
 
 pub algorithms_not_private : (i : ℤ) → is_private_use i ≡ true → algorithms.is_registered i ≡ false
 unfolding algorithms
-algorithms_not_private = not_below (negsuc 65535) ALGORITHMS refl
+algorithms_not_private = not_below (negsuc 65535) ALGORITHMS.now refl
 
 abbrev pub algorithm_number : Algorithm → ℤ
 algorithm_number = algorithms.number

@@ -1,4 +1,4 @@
--- Labels of keys of one type. Each table stands in src/key_parameters.rt.
+-- Labels of keys of one type. The tables stand in src/key_parameters.rt.
 use Rattle.std.specs.Prelude.{◌≡◌, refl}
 use Rattle.std.specs.Ordering.{int_cmp}
 use Rattle.std.specs.declared.cmp.Ordering.TheVariants.{Equal}
@@ -24,31 +24,31 @@ use Rattle.cose_iana.specs.Table.{registry, InOrder, in_order}
 
 -- Labels of keys of the type OKP, from the registry "COSE Key Type Parameters" (RFC 9053, section 7.2).
 unfoldable pub okp_key_parameters : Registry OkpKeyParameter
-okp_key_parameters = registry okp_key_parameters_type tt OKP_KEY_PARAMETERS refl
+okp_key_parameters = registry okp_key_parameters_type tt OKP_KEY_PARAMETERS.now refl
 
-pub okp_key_parameters_in_order : InOrder okp_key_parameters_type OKP_KEY_PARAMETERS okp_key_parameters
+pub okp_key_parameters_in_order : InOrder okp_key_parameters_type OKP_KEY_PARAMETERS.now okp_key_parameters
 unfolding okp_key_parameters
-okp_key_parameters_in_order = in_order okp_key_parameters_type tt OKP_KEY_PARAMETERS refl
+okp_key_parameters_in_order = in_order okp_key_parameters_type tt OKP_KEY_PARAMETERS.now refl
 
 -- Labels of keys of the type EC2, from the registry "COSE Key Type Parameters" (RFC 9053, section 7.1.1).
 unfoldable pub ec2_key_parameters : Registry Ec2KeyParameter
-ec2_key_parameters = registry ec2_key_parameters_type tt EC2_KEY_PARAMETERS refl
+ec2_key_parameters = registry ec2_key_parameters_type tt EC2_KEY_PARAMETERS.now refl
 
-pub ec2_key_parameters_in_order : InOrder ec2_key_parameters_type EC2_KEY_PARAMETERS ec2_key_parameters
+pub ec2_key_parameters_in_order : InOrder ec2_key_parameters_type EC2_KEY_PARAMETERS.now ec2_key_parameters
 unfolding ec2_key_parameters
-ec2_key_parameters_in_order = in_order ec2_key_parameters_type tt EC2_KEY_PARAMETERS refl
+ec2_key_parameters_in_order = in_order ec2_key_parameters_type tt EC2_KEY_PARAMETERS.now refl
 
 -- Labels of keys of the type RSA, from the registry "COSE Key Type Parameters" (RFC 8230).
 unfoldable pub rsa_key_parameters : Registry RsaKeyParameter
-rsa_key_parameters = registry rsa_key_parameters_type tt RSA_KEY_PARAMETERS refl
+rsa_key_parameters = registry rsa_key_parameters_type tt RSA_KEY_PARAMETERS.now refl
 
-pub rsa_key_parameters_in_order : InOrder rsa_key_parameters_type RSA_KEY_PARAMETERS rsa_key_parameters
+pub rsa_key_parameters_in_order : InOrder rsa_key_parameters_type RSA_KEY_PARAMETERS.now rsa_key_parameters
 unfolding rsa_key_parameters
-rsa_key_parameters_in_order = in_order rsa_key_parameters_type tt RSA_KEY_PARAMETERS refl
+rsa_key_parameters_in_order = in_order rsa_key_parameters_type tt RSA_KEY_PARAMETERS.now refl
 
 -- Labels of symmetric keys, from the registry "COSE Key Type Parameters" (RFC 9053, section 7.3).
 unfoldable pub symmetric_key_parameters : Registry SymmetricKeyParameter
-symmetric_key_parameters = registry symmetric_key_parameters_type tt SYMMETRIC_KEY_PARAMETERS refl
+symmetric_key_parameters = registry symmetric_key_parameters_type tt SYMMETRIC_KEY_PARAMETERS.now refl
 
 -- of one entry the order is that it equals itself
 pub symmetric_key_parameters_in_order : (x y : SymmetricKeyParameter) → Equal ≡ int_cmp (symmetric_key_parameters.number x) (symmetric_key_parameters.number y)
@@ -57,7 +57,7 @@ symmetric_key_parameters_in_order symmetric_key_parameters_entry.K symmetric_key
 
 -- Labels of keys of the type HSS-LMS, from the registry "COSE Key Type Parameters" (RFC 8778).
 unfoldable pub hss_lms_key_parameters : Registry HssLmsKeyParameter
-hss_lms_key_parameters = registry hss_lms_key_parameters_type tt HSS_LMS_KEY_PARAMETERS refl
+hss_lms_key_parameters = registry hss_lms_key_parameters_type tt HSS_LMS_KEY_PARAMETERS.now refl
 
 -- of one entry the order is that it equals itself
 pub hss_lms_key_parameters_in_order : (x y : HssLmsKeyParameter) → Equal ≡ int_cmp (hss_lms_key_parameters.number x) (hss_lms_key_parameters.number y)
@@ -66,16 +66,16 @@ hss_lms_key_parameters_in_order hss_lms_key_parameters_entry.Pub hss_lms_key_par
 
 -- Labels of keys of the type WalnutDSA, from the registry "COSE Key Type Parameters" (RFC 9021).
 unfoldable pub walnut_dsa_key_parameters : Registry WalnutDsaKeyParameter
-walnut_dsa_key_parameters = registry walnut_dsa_key_parameters_type tt WALNUT_DSA_KEY_PARAMETERS refl
+walnut_dsa_key_parameters = registry walnut_dsa_key_parameters_type tt WALNUT_DSA_KEY_PARAMETERS.now refl
 
-pub walnut_dsa_key_parameters_in_order : InOrder walnut_dsa_key_parameters_type WALNUT_DSA_KEY_PARAMETERS walnut_dsa_key_parameters
+pub walnut_dsa_key_parameters_in_order : InOrder walnut_dsa_key_parameters_type WALNUT_DSA_KEY_PARAMETERS.now walnut_dsa_key_parameters
 unfolding walnut_dsa_key_parameters
-walnut_dsa_key_parameters_in_order = in_order walnut_dsa_key_parameters_type tt WALNUT_DSA_KEY_PARAMETERS refl
+walnut_dsa_key_parameters_in_order = in_order walnut_dsa_key_parameters_type tt WALNUT_DSA_KEY_PARAMETERS.now refl
 
 -- Labels of keys of the type AKP, from the registry "COSE Key Type Parameters".
 unfoldable pub akp_key_parameters : Registry AkpKeyParameter
-akp_key_parameters = registry akp_key_parameters_type tt AKP_KEY_PARAMETERS refl
+akp_key_parameters = registry akp_key_parameters_type tt AKP_KEY_PARAMETERS.now refl
 
-pub akp_key_parameters_in_order : InOrder akp_key_parameters_type AKP_KEY_PARAMETERS akp_key_parameters
+pub akp_key_parameters_in_order : InOrder akp_key_parameters_type AKP_KEY_PARAMETERS.now akp_key_parameters
 unfolding akp_key_parameters
-akp_key_parameters_in_order = in_order akp_key_parameters_type tt AKP_KEY_PARAMETERS refl
+akp_key_parameters_in_order = in_order akp_key_parameters_type tt AKP_KEY_PARAMETERS.now refl

@@ -1,5 +1,5 @@
 -- A registry of IANA as data: a table whose rows are a number and its entry.
-use Rattle.std.specs.Prelude.{◌≡◌, ℤ, pos, negsuc, Bool, false, List, [], ◌∷◌, Option, Some, if◌then◌else◌, option_map, MatchOption, true, int_lt}
+use Rattle.std.specs.Prelude.{◌≡◌, ℤ, pos, negsuc, Bool, true, false, List, [], ◌∷◌, Option, Some, if◌then◌else◌, option_map, MatchOption, int_lt}
 use Rattle.std.specs.List.{list_any, find}
 use Rattle.std.specs.Ordering.{int_eq}
 
@@ -24,6 +24,6 @@ pub record Registry (E : Type 0) : Type 0 where
   pub there_and_back : (x : E) → entry (number x) ≡ Some x
   pub back_and_there : (i : ℤ) → MatchOption (entry i) (is_registered i ≡ false) (λ x. (number x ≡ i) × (is_registered i ≡ true))
 
--- numbers below -65536 are for private use (RFC 9053, section 11; RFC 8392, section 9.1)
+-- numbers below -65536 are for private use (RFC 8152, section 16; RFC 8392, section 9.1)
 abbrev pub is_private_use : ℤ → Bool
 is_private_use i = int_lt i (negsuc 65535)

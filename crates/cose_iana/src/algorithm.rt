@@ -179,7 +179,7 @@ pub enum Algorithm {
 }
 
 /// Each entry with its number.
-static ALGORITHMS: [(i64, Algorithm); 83] = [
+static ALGORITHMS: &[(i64, Algorithm)] = &[
     (-65535, Algorithm::RS1),
     (-65534, Algorithm::AesCtr128),
     (-65533, Algorithm::AesCtr192),
@@ -279,7 +279,7 @@ impl EnumI64 for Algorithm {
     ghost in_order = { algorithms_in_order };
 
     fn from_i64(i: i64) -> Option<Algorithm> {
-        entry_with(&ALGORITHMS, i)
+        entry_with(ALGORITHMS, i)
     }
 
     #[tactic(auto, unfolding(crate::specs::Algorithms::algorithms, crate::specs::Registry::number_of, crate::specs::Registry::has_number))]

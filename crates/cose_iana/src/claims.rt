@@ -153,7 +153,7 @@ pub enum CwtClaimName {
 }
 
 /// Each entry with its number.
-static CWT_CLAIM_NAMES: [(i64, CwtClaimName); 70] = [
+static CWT_CLAIM_NAMES: &[(i64, CwtClaimName)] = &[
     (-261, CwtClaimName::GlobalPlatformComponents),
     (-260, CwtClaimName::Hcert),
     (-259, CwtClaimName::EuphNonce),
@@ -240,7 +240,7 @@ impl EnumI64 for CwtClaimName {
     ghost in_order = { cwt_claim_names_in_order };
 
     fn from_i64(i: i64) -> Option<CwtClaimName> {
-        entry_with(&CWT_CLAIM_NAMES, i)
+        entry_with(CWT_CLAIM_NAMES, i)
     }
 
     #[tactic(auto, unfolding(crate::specs::Claims::cwt_claim_names, crate::specs::Registry::number_of, crate::specs::Registry::has_number))]

@@ -168,7 +168,7 @@ pub enum CoapContentFormat {
 }
 
 /// Each entry with its number.
-static COAP_CONTENT_FORMATS: [(i64, CoapContentFormat); 79] = [
+static COAP_CONTENT_FORMATS: &[(i64, CoapContentFormat)] = &[
     (0, CoapContentFormat::TextPlainUtf8),
     (16, CoapContentFormat::CoseEncrypt0),
     (17, CoapContentFormat::CoseMac0),
@@ -264,7 +264,7 @@ impl EnumI64 for CoapContentFormat {
     ghost in_order = { coap_content_formats_in_order };
 
     fn from_i64(i: i64) -> Option<CoapContentFormat> {
-        entry_with(&COAP_CONTENT_FORMATS, i)
+        entry_with(COAP_CONTENT_FORMATS, i)
     }
 
     #[tactic(auto, unfolding(crate::specs::Formats::coap_content_formats, crate::specs::Registry::number_of, crate::specs::Registry::has_number))]

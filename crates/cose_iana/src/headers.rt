@@ -57,7 +57,7 @@ pub enum HeaderParameter {
 }
 
 /// Each entry with its number.
-static HEADER_PARAMETERS: [(i64, HeaderParameter); 22] = [
+static HEADER_PARAMETERS: &[(i64, HeaderParameter)] = &[
     (0, HeaderParameter::Reserved),
     (1, HeaderParameter::Alg),
     (2, HeaderParameter::Crit),
@@ -96,7 +96,7 @@ impl EnumI64 for HeaderParameter {
     ghost in_order = { header_parameters_in_order };
 
     fn from_i64(i: i64) -> Option<HeaderParameter> {
-        entry_with(&HEADER_PARAMETERS, i)
+        entry_with(HEADER_PARAMETERS, i)
     }
 
     #[tactic(auto, unfolding(crate::specs::Headers::header_parameters, crate::specs::Registry::number_of, crate::specs::Registry::has_number))]
@@ -148,7 +148,7 @@ pub enum HeaderAlgorithmParameter {
 }
 
 /// Each entry with its number.
-static HEADER_ALGORITHM_PARAMETERS: [(i64, HeaderAlgorithmParameter); 13] = [
+static HEADER_ALGORITHM_PARAMETERS: &[(i64, HeaderAlgorithmParameter)] = &[
     (-29, HeaderAlgorithmParameter::X5ChainSender),
     (-28, HeaderAlgorithmParameter::X5USender),
     (-27, HeaderAlgorithmParameter::X5TSender),
@@ -178,7 +178,7 @@ impl EnumI64 for HeaderAlgorithmParameter {
     ghost in_order = { header_algorithm_parameters_in_order };
 
     fn from_i64(i: i64) -> Option<HeaderAlgorithmParameter> {
-        entry_with(&HEADER_ALGORITHM_PARAMETERS, i)
+        entry_with(HEADER_ALGORITHM_PARAMETERS, i)
     }
 
     #[tactic(auto, unfolding(crate::specs::Headers::header_algorithm_parameters, crate::specs::Registry::number_of, crate::specs::Registry::has_number))]

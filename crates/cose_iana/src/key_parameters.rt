@@ -16,7 +16,7 @@ pub enum OkpKeyParameter {
 }
 
 /// Each entry with its number.
-static OKP_KEY_PARAMETERS: [(i64, OkpKeyParameter); 3] = [
+static OKP_KEY_PARAMETERS: &[(i64, OkpKeyParameter)] = &[
     (-4, OkpKeyParameter::D),
     (-2, OkpKeyParameter::X),
     (-1, OkpKeyParameter::Crv),
@@ -36,7 +36,7 @@ impl EnumI64 for OkpKeyParameter {
     ghost in_order = { okp_key_parameters_in_order };
 
     fn from_i64(i: i64) -> Option<OkpKeyParameter> {
-        entry_with(&OKP_KEY_PARAMETERS, i)
+        entry_with(OKP_KEY_PARAMETERS, i)
     }
 
     #[tactic(auto, unfolding(crate::specs::KeyParameters::okp_key_parameters, crate::specs::Registry::number_of, crate::specs::Registry::has_number))]
@@ -60,7 +60,7 @@ pub enum Ec2KeyParameter {
 }
 
 /// Each entry with its number.
-static EC2_KEY_PARAMETERS: [(i64, Ec2KeyParameter); 4] = [
+static EC2_KEY_PARAMETERS: &[(i64, Ec2KeyParameter)] = &[
     (-4, Ec2KeyParameter::D),
     (-3, Ec2KeyParameter::Y),
     (-2, Ec2KeyParameter::X),
@@ -81,7 +81,7 @@ impl EnumI64 for Ec2KeyParameter {
     ghost in_order = { ec2_key_parameters_in_order };
 
     fn from_i64(i: i64) -> Option<Ec2KeyParameter> {
-        entry_with(&EC2_KEY_PARAMETERS, i)
+        entry_with(EC2_KEY_PARAMETERS, i)
     }
 
     #[tactic(auto, unfolding(crate::specs::KeyParameters::ec2_key_parameters, crate::specs::Registry::number_of, crate::specs::Registry::has_number))]
@@ -120,7 +120,7 @@ pub enum RsaKeyParameter {
 }
 
 /// Each entry with its number.
-static RSA_KEY_PARAMETERS: [(i64, RsaKeyParameter); 12] = [
+static RSA_KEY_PARAMETERS: &[(i64, RsaKeyParameter)] = &[
     (-12, RsaKeyParameter::TI),
     (-11, RsaKeyParameter::DI),
     (-10, RsaKeyParameter::RI),
@@ -149,7 +149,7 @@ impl EnumI64 for RsaKeyParameter {
     ghost in_order = { rsa_key_parameters_in_order };
 
     fn from_i64(i: i64) -> Option<RsaKeyParameter> {
-        entry_with(&RSA_KEY_PARAMETERS, i)
+        entry_with(RSA_KEY_PARAMETERS, i)
     }
 
     #[tactic(auto, unfolding(crate::specs::KeyParameters::rsa_key_parameters, crate::specs::Registry::number_of, crate::specs::Registry::has_number))]
@@ -166,7 +166,7 @@ pub enum SymmetricKeyParameter {
 }
 
 /// Each entry with its number.
-static SYMMETRIC_KEY_PARAMETERS: [(i64, SymmetricKeyParameter); 1] = [(
+static SYMMETRIC_KEY_PARAMETERS: &[(i64, SymmetricKeyParameter)] = &[(
     -1,
     SymmetricKeyParameter::K,
 )];
@@ -185,7 +185,7 @@ impl EnumI64 for SymmetricKeyParameter {
     ghost in_order = { symmetric_key_parameters_in_order };
 
     fn from_i64(i: i64) -> Option<SymmetricKeyParameter> {
-        entry_with(&SYMMETRIC_KEY_PARAMETERS, i)
+        entry_with(SYMMETRIC_KEY_PARAMETERS, i)
     }
 
     #[tactic(auto, unfolding(crate::specs::KeyParameters::symmetric_key_parameters, crate::specs::Registry::number_of, crate::specs::Registry::has_number))]
@@ -202,7 +202,7 @@ pub enum HssLmsKeyParameter {
 }
 
 /// Each entry with its number.
-static HSS_LMS_KEY_PARAMETERS: [(i64, HssLmsKeyParameter); 1] = [(-1, HssLmsKeyParameter::Pub)];
+static HSS_LMS_KEY_PARAMETERS: &[(i64, HssLmsKeyParameter)] = &[(-1, HssLmsKeyParameter::Pub)];
 
 impl EnumI64 for HssLmsKeyParameter {
     ghost number = { hss_lms_key_parameters.number };
@@ -218,7 +218,7 @@ impl EnumI64 for HssLmsKeyParameter {
     ghost in_order = { hss_lms_key_parameters_in_order };
 
     fn from_i64(i: i64) -> Option<HssLmsKeyParameter> {
-        entry_with(&HSS_LMS_KEY_PARAMETERS, i)
+        entry_with(HSS_LMS_KEY_PARAMETERS, i)
     }
 
     #[tactic(auto, unfolding(crate::specs::KeyParameters::hss_lms_key_parameters, crate::specs::Registry::number_of, crate::specs::Registry::has_number))]
@@ -245,7 +245,7 @@ pub enum WalnutDsaKeyParameter {
 }
 
 /// Each entry with its number.
-static WALNUT_DSA_KEY_PARAMETERS: [(i64, WalnutDsaKeyParameter); 6] = [
+static WALNUT_DSA_KEY_PARAMETERS: &[(i64, WalnutDsaKeyParameter)] = &[
     (-6, WalnutDsaKeyParameter::Matrix2),
     (-5, WalnutDsaKeyParameter::Permutation1),
     (-4, WalnutDsaKeyParameter::Matrix1),
@@ -268,7 +268,7 @@ impl EnumI64 for WalnutDsaKeyParameter {
     ghost in_order = { walnut_dsa_key_parameters_in_order };
 
     fn from_i64(i: i64) -> Option<WalnutDsaKeyParameter> {
-        entry_with(&WALNUT_DSA_KEY_PARAMETERS, i)
+        entry_with(WALNUT_DSA_KEY_PARAMETERS, i)
     }
 
     #[tactic(auto, unfolding(crate::specs::KeyParameters::walnut_dsa_key_parameters, crate::specs::Registry::number_of, crate::specs::Registry::has_number))]
@@ -287,7 +287,7 @@ pub enum AkpKeyParameter {
 }
 
 /// Each entry with its number.
-static AKP_KEY_PARAMETERS: [(i64, AkpKeyParameter); 2] = [
+static AKP_KEY_PARAMETERS: &[(i64, AkpKeyParameter)] = &[
     (-2, AkpKeyParameter::Priv),
     (-1, AkpKeyParameter::Pub),
 ];
@@ -306,7 +306,7 @@ impl EnumI64 for AkpKeyParameter {
     ghost in_order = { akp_key_parameters_in_order };
 
     fn from_i64(i: i64) -> Option<AkpKeyParameter> {
-        entry_with(&AKP_KEY_PARAMETERS, i)
+        entry_with(AKP_KEY_PARAMETERS, i)
     }
 
     #[tactic(auto, unfolding(crate::specs::KeyParameters::akp_key_parameters, crate::specs::Registry::number_of, crate::specs::Registry::has_number))]

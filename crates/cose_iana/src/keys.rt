@@ -22,7 +22,7 @@ pub enum KeyParameter {
 }
 
 /// Each entry with its number.
-static KEY_PARAMETERS: [(i64, KeyParameter); 6] = [
+static KEY_PARAMETERS: &[(i64, KeyParameter)] = &[
     (0, KeyParameter::Reserved),
     (1, KeyParameter::Kty),
     (2, KeyParameter::Kid),
@@ -45,7 +45,7 @@ impl EnumI64 for KeyParameter {
     ghost in_order = { key_parameters_in_order };
 
     fn from_i64(i: i64) -> Option<KeyParameter> {
-        entry_with(&KEY_PARAMETERS, i)
+        entry_with(KEY_PARAMETERS, i)
     }
 
     #[tactic(auto, unfolding(crate::specs::Keys::key_parameters, crate::specs::Registry::number_of, crate::specs::Registry::has_number))]
@@ -76,7 +76,7 @@ pub enum KeyType {
 }
 
 /// Each entry with its number.
-static KEY_TYPES: [(i64, KeyType); 8] = [
+static KEY_TYPES: &[(i64, KeyType)] = &[
     (0, KeyType::Reserved),
     (1, KeyType::OKP),
     (2, KeyType::EC2),
@@ -101,7 +101,7 @@ impl EnumI64 for KeyType {
     ghost in_order = { key_types_in_order };
 
     fn from_i64(i: i64) -> Option<KeyType> {
-        entry_with(&KEY_TYPES, i)
+        entry_with(KEY_TYPES, i)
     }
 
     #[tactic(auto, unfolding(crate::specs::Keys::key_types, crate::specs::Registry::number_of, crate::specs::Registry::has_number))]
@@ -145,7 +145,7 @@ pub enum EllipticCurve {
 }
 
 /// Each entry with its number.
-static ELLIPTIC_CURVES: [(i64, EllipticCurve); 13] = [
+static ELLIPTIC_CURVES: &[(i64, EllipticCurve)] = &[
     (0, EllipticCurve::Reserved),
     (1, EllipticCurve::P_256),
     (2, EllipticCurve::P_384),
@@ -175,7 +175,7 @@ impl EnumI64 for EllipticCurve {
     ghost in_order = { elliptic_curves_in_order };
 
     fn from_i64(i: i64) -> Option<EllipticCurve> {
-        entry_with(&ELLIPTIC_CURVES, i)
+        entry_with(ELLIPTIC_CURVES, i)
     }
 
     #[tactic(auto, unfolding(crate::specs::Keys::elliptic_curves, crate::specs::Registry::number_of, crate::specs::Registry::has_number))]
@@ -220,7 +220,7 @@ pub enum KeyOperation {
 }
 
 /// Each entry with its number.
-static KEY_OPERATIONS: [(i64, KeyOperation); 10] = [
+static KEY_OPERATIONS: &[(i64, KeyOperation)] = &[
     (1, KeyOperation::Sign),
     (2, KeyOperation::Verify),
     (3, KeyOperation::Encrypt),
@@ -247,7 +247,7 @@ impl EnumI64 for KeyOperation {
     ghost in_order = { key_operations_in_order };
 
     fn from_i64(i: i64) -> Option<KeyOperation> {
-        entry_with(&KEY_OPERATIONS, i)
+        entry_with(KEY_OPERATIONS, i)
     }
 
     #[tactic(auto, unfolding(crate::specs::Keys::key_operations, crate::specs::Registry::number_of, crate::specs::Registry::has_number))]

@@ -1,7 +1,8 @@
 //! Registries of IANA for COSE: enums whose entries have the registered numbers.
 //!
-//! Each registry is an enum with its numbers and a table of them. `EnumI64` says that both agree, that no number stands twice, and that
-//! the entries are ordered by their numbers. The tables are this project's profile: they decide where a registry says otherwise.
+//! Each registry is an enum with the numbers of its entries, and a table with a row for each entry. It is proved that the two agree, that
+//! no number stands twice, and that the entries are ordered by their numbers (`EnumI64`). A new entry is its line in the enum and its row
+//! in the table, each in the place of its number. The tables decide where a registry of IANA says otherwise.
 #![tactic(auto)]
 
 mod algorithm;

@@ -25,7 +25,7 @@ pub enum CborTag {
 }
 
 /// Each entry with its number.
-static CBOR_TAGS: [(i64, CborTag); 8] = [
+static CBOR_TAGS: &[(i64, CborTag)] = &[
     (16, CborTag::CoseEncrypt0),
     (17, CborTag::CoseMac0),
     (18, CborTag::CoseSign1),
@@ -50,7 +50,7 @@ impl EnumI64 for CborTag {
     ghost in_order = { cbor_tags_in_order };
 
     fn from_i64(i: i64) -> Option<CborTag> {
-        entry_with(&CBOR_TAGS, i)
+        entry_with(CBOR_TAGS, i)
     }
 
     #[tactic(auto, unfolding(crate::specs::Tags::cbor_tags, crate::specs::Registry::number_of, crate::specs::Registry::has_number))]

@@ -5,8 +5,8 @@ use Rattle.cose_iana.proofs.algorithm.AlgorithmEnumI64.from_i64.Goals as goal
 
 pub returns-clause-entry : goal.returns-clause-entry
 unfolding algorithms
-returns-clause-entry c = searched ALGORITHMS _ _ c.ranges.i c.entry_with.ensures
+returns-clause-entry c = searched ALGORITHMS.now _ _ c.ranges.i c.entry_with.ensures
 
 pub returns-clause-found : goal.returns-clause-found
 unfolding algorithms
-returns-clause-found c = found algorithms _ _ (searched ALGORITHMS _ _ c.ranges.i c.entry_with.ensures)
+returns-clause-found c = found algorithms _ _ (searched ALGORITHMS.now _ _ c.ranges.i c.entry_with.ensures)

@@ -5,8 +5,8 @@ use Rattle.cose_iana.proofs.headers.HeaderParameterEnumI64.from_i64.Goals as goa
 
 pub returns-clause-entry : goal.returns-clause-entry
 unfolding header_parameters
-returns-clause-entry c = searched HEADER_PARAMETERS _ _ c.ranges.i c.entry_with.ensures
+returns-clause-entry c = searched HEADER_PARAMETERS.now _ _ c.ranges.i c.entry_with.ensures
 
 pub returns-clause-found : goal.returns-clause-found
 unfolding header_parameters
-returns-clause-found c = found header_parameters _ _ (searched HEADER_PARAMETERS _ _ c.ranges.i c.entry_with.ensures)
+returns-clause-found c = found header_parameters _ _ (searched HEADER_PARAMETERS.now _ _ c.ranges.i c.entry_with.ensures)

@@ -5,8 +5,8 @@ use Rattle.cose_iana.proofs.key_parameters.OkpKeyParameterEnumI64.from_i64.Goals
 
 pub returns-clause-entry : goal.returns-clause-entry
 unfolding okp_key_parameters
-returns-clause-entry c = searched OKP_KEY_PARAMETERS _ _ c.ranges.i c.entry_with.ensures
+returns-clause-entry c = searched OKP_KEY_PARAMETERS.now _ _ c.ranges.i c.entry_with.ensures
 
 pub returns-clause-found : goal.returns-clause-found
 unfolding okp_key_parameters
-returns-clause-found c = found okp_key_parameters _ _ (searched OKP_KEY_PARAMETERS _ _ c.ranges.i c.entry_with.ensures)
+returns-clause-found c = found okp_key_parameters _ _ (searched OKP_KEY_PARAMETERS.now _ _ c.ranges.i c.entry_with.ensures)

@@ -5,8 +5,8 @@ use Rattle.cose_iana.proofs.key_parameters.WalnutDsaKeyParameterEnumI64.from_i64
 
 pub returns-clause-entry : goal.returns-clause-entry
 unfolding walnut_dsa_key_parameters
-returns-clause-entry c = searched WALNUT_DSA_KEY_PARAMETERS _ _ c.ranges.i c.entry_with.ensures
+returns-clause-entry c = searched WALNUT_DSA_KEY_PARAMETERS.now _ _ c.ranges.i c.entry_with.ensures
 
 pub returns-clause-found : goal.returns-clause-found
 unfolding walnut_dsa_key_parameters
-returns-clause-found c = found walnut_dsa_key_parameters _ _ (searched WALNUT_DSA_KEY_PARAMETERS _ _ c.ranges.i c.entry_with.ensures)
+returns-clause-found c = found walnut_dsa_key_parameters _ _ (searched WALNUT_DSA_KEY_PARAMETERS.now _ _ c.ranges.i c.entry_with.ensures)

@@ -5,8 +5,8 @@ use Rattle.cose_iana.proofs.keys.EllipticCurveEnumI64.from_i64.Goals as goal
 
 pub returns-clause-entry : goal.returns-clause-entry
 unfolding elliptic_curves
-returns-clause-entry c = searched ELLIPTIC_CURVES _ _ c.ranges.i c.entry_with.ensures
+returns-clause-entry c = searched ELLIPTIC_CURVES.now _ _ c.ranges.i c.entry_with.ensures
 
 pub returns-clause-found : goal.returns-clause-found
 unfolding elliptic_curves
-returns-clause-found c = found elliptic_curves _ _ (searched ELLIPTIC_CURVES _ _ c.ranges.i c.entry_with.ensures)
+returns-clause-found c = found elliptic_curves _ _ (searched ELLIPTIC_CURVES.now _ _ c.ranges.i c.entry_with.ensures)

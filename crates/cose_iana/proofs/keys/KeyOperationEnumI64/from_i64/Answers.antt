@@ -5,8 +5,8 @@ use Rattle.cose_iana.proofs.keys.KeyOperationEnumI64.from_i64.Goals as goal
 
 pub returns-clause-entry : goal.returns-clause-entry
 unfolding key_operations
-returns-clause-entry c = searched KEY_OPERATIONS _ _ c.ranges.i c.entry_with.ensures
+returns-clause-entry c = searched KEY_OPERATIONS.now _ _ c.ranges.i c.entry_with.ensures
 
 pub returns-clause-found : goal.returns-clause-found
 unfolding key_operations
-returns-clause-found c = found key_operations _ _ (searched KEY_OPERATIONS _ _ c.ranges.i c.entry_with.ensures)
+returns-clause-found c = found key_operations _ _ (searched KEY_OPERATIONS.now _ _ c.ranges.i c.entry_with.ensures)

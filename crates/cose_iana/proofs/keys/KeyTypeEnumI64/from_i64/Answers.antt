@@ -5,8 +5,8 @@ use Rattle.cose_iana.proofs.keys.KeyTypeEnumI64.from_i64.Goals as goal
 
 pub returns-clause-entry : goal.returns-clause-entry
 unfolding key_types
-returns-clause-entry c = searched KEY_TYPES _ _ c.ranges.i c.entry_with.ensures
+returns-clause-entry c = searched KEY_TYPES.now _ _ c.ranges.i c.entry_with.ensures
 
 pub returns-clause-found : goal.returns-clause-found
 unfolding key_types
-returns-clause-found c = found key_types _ _ (searched KEY_TYPES _ _ c.ranges.i c.entry_with.ensures)
+returns-clause-found c = found key_types _ _ (searched KEY_TYPES.now _ _ c.ranges.i c.entry_with.ensures)

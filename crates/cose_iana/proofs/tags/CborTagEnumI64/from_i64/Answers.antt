@@ -5,8 +5,8 @@ use Rattle.cose_iana.proofs.tags.CborTagEnumI64.from_i64.Goals as goal
 
 pub returns-clause-entry : goal.returns-clause-entry
 unfolding cbor_tags
-returns-clause-entry c = searched CBOR_TAGS _ _ c.ranges.i c.entry_with.ensures
+returns-clause-entry c = searched CBOR_TAGS.now _ _ c.ranges.i c.entry_with.ensures
 
 pub returns-clause-found : goal.returns-clause-found
 unfolding cbor_tags
-returns-clause-found c = found cbor_tags _ _ (searched CBOR_TAGS _ _ c.ranges.i c.entry_with.ensures)
+returns-clause-found c = found cbor_tags _ _ (searched CBOR_TAGS.now _ _ c.ranges.i c.entry_with.ensures)
