@@ -1,3 +1,4 @@
 pub mod Numbers
 pub mod Views
 pub mod Fitting
+pub mod Signs
