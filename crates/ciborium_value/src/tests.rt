@@ -192,7 +192,10 @@ fn integers_have_bounds(rt: HostRuntime) {
             assert_eq!(rt; i128::from(integer), number);
         }
     }
-    assert_eq!(rt; Integer::try_from(0xffff_ffff_ffff_ffffu128), Ok(Integer::from(u64::MAX)));
+    assert_eq!(rt;
+        Integer::try_from(0xffff_ffff_ffff_ffffu128),
+        Ok(Integer::from(u64::MAX))
+    );
     assert!(rt; Integer::try_from(0x1_0000_0000_0000_0000u128).is_err());
 }
 
@@ -222,7 +225,10 @@ fn integers_of_each_width(rt: HostRuntime) {
     assert_eq!(rt; u64::try_from(Integer::from(u64::MAX)), Ok(u64::MAX));
     assert!(rt; u64::try_from(Integer::negative(0)).is_err());
     assert_eq!(rt; usize::try_from(Integer::from(u64::MAX)), Ok(usize::MAX));
-    assert_eq!(rt; u128::try_from(Integer::from(u64::MAX)), Ok(0xffff_ffff_ffff_ffff));
+    assert_eq!(rt;
+        u128::try_from(Integer::from(u64::MAX)),
+        Ok(0xffff_ffff_ffff_ffff)
+    );
     assert!(rt; u128::try_from(Integer::negative(0)).is_err());
     assert_eq!(rt; i8::try_from(Integer::negative(127)), Ok(-128));
     assert!(rt; i8::try_from(Integer::negative(128)).is_err());
@@ -234,23 +240,65 @@ fn integers_of_each_width(rt: HostRuntime) {
     assert!(rt; isize::try_from(Integer::negative(u64::MAX)).is_err());
 }
 
+/// Numbers as values (RFC 8949, section 3.4.3): the bounds of integers, and the ends of `i128`.
+const NUMBERS: [(i128, Folded); 7] = [
+    (0, Folded::Integer(0)),
+    (-1, Folded::Integer(-1)),
+    (
+        0xffff_ffff_ffff_ffff,
+        Folded::Integer(0xffff_ffff_ffff_ffff),
+    ),
+    (
+        -0x1_0000_0000_0000_0000,
+        Folded::Integer(-0x1_0000_0000_0000_0000),
+    ),
+    (
+        0x1_0000_0000_0000_0000,
+        Folded::Tag(&[1, 0, 0, 0, 0, 0, 0, 0, 0]),
+    ),
+    (
+        -0x1_0000_0000_0000_0001,
+        Folded::Tag(&[1, 0, 0, 0, 0, 0, 0, 0, 0]),
+    ),
+    (
+        i128::MIN,
+        Folded::Tag(&[
+            0x7f, 0xff, 0xff, 0xff, 0xff, 0xff, 0xff, 0xff, 0xff, 0xff, 0xff, 0xff, 0xff, 0xff,
+            0xff, 0xff,
+        ]),
+    ),
+];
+
 #[test]
-fn numbers_become_values(rt: HostRuntime) -> Result<(), Fail> {
+fn signed_numbers_become_values(rt: HostRuntime) -> Result<(), Fail> {
     let alloc = rt.alloc();
-    let long = tag(alloc, 2, bytes(alloc, &[1, 0, 0, 0, 0, 0, 0, 0, 0])?)?;
-    let below = tag(alloc, 3, bytes(alloc, &[1, 0, 0, 0, 0, 0, 0, 0, 0])?)?;
-    assert_eq!(rt; Value::from_u128(alloc, 0xffff_ffff_ffff_ffff)?, integer(u64::MAX));
-    assert_eq!(rt; Value::from_u128(alloc, 0x1_0000_0000_0000_0000)?, long);
-    assert_eq!(rt; Value::from_u128(alloc, u128::MAX)?, tag(alloc, 2, bytes(alloc, &[0xff; 16])?)?);
-    assert_eq!(rt; Value::from_i128(alloc, 0x1_0000_0000_0000_0000)?, long);
-    assert_eq!(rt; Value::from_i128(alloc, -0x1_0000_0000_0000_0000)?, Value::Integer(Integer::negative(u64::MAX)));
-    assert_eq!(rt; Value::from_i128(alloc, -0x1_0000_0000_0000_0001)?, below);
-    assert_eq!(rt; Value::from_i128(alloc, -1)?, Value::from(-1i8));
-    let lowest = [
-        0x7f, 0xff, 0xff, 0xff, 0xff, 0xff, 0xff, 0xff, 0xff, 0xff, 0xff, 0xff, 0xff, 0xff, 0xff, 0xff,
-    ];
-    assert_eq!(rt; Value::from_i128(alloc, i128::MIN)?, tag(alloc, 3, bytes(alloc, &lowest)?)?);
-    let seven = [
+    for (n, want) in NUMBERS {
+        let value = Value::from_i128(alloc, n)?;
+        match want {
+            Folded::Integer(i) => assert_eq!(rt; number(Some(value)), Some(i)),
+            Folded::Tag(rest) => {
+                let sign = if n < 0 { 3 } else { 2 };
+                assert_eq!(rt; value, tag(alloc, sign, bytes(alloc, rest)?)?)
+            }
+            Folded::Nothing => {}
+        }
+    }
+    Ok(())
+}
+
+#[test]
+fn unsigned_numbers_become_values(rt: HostRuntime) -> Result<(), Fail> {
+    let alloc = rt.alloc();
+    let top = Value::from_u128(alloc, 0xffff_ffff_ffff_ffff)?;
+    assert_eq!(rt; top, integer(u64::MAX));
+    let highest = Value::from_u128(alloc, u128::MAX)?;
+    assert_eq!(rt; highest, tag(alloc, 2, bytes(alloc, &[0xff; 16])?)?);
+    Ok(())
+}
+
+#[test]
+fn short_numbers_become_values(rt: HostRuntime) {
+    let sevens = [
         Value::from(7u8),
         Value::from(7u16),
         Value::from(7u32),
@@ -263,27 +311,35 @@ fn numbers_become_values(rt: HostRuntime) -> Result<(), Fail> {
         Value::from(7isize),
         Value::from(Integer::from(7u8)),
     ];
-    for value in seven {
-        assert_eq!(rt; value, integer(7));
+    for value in sevens {
+        assert_eq!(rt; number(Some(value)), Some(7));
     }
-    Ok(())
 }
 
 #[test]
 fn texts_and_bytes_become_values(rt: HostRuntime) -> Result<(), Fail> {
     let alloc = rt.alloc();
-    assert_eq!(rt; Value::from_str(alloc, "Zürich")?, text(alloc, "Zürich")?);
-    assert_eq!(rt; Value::from_char(alloc, '水')?, text(alloc, "水")?);
-    assert_eq!(rt; Value::from_byte_slice(alloc, &[1, 2, 3])?, bytes(alloc, &[1, 2, 3])?);
-    assert_eq!(rt; Value::from([1u8, 2].as_slice().to_vec(alloc)?), bytes(alloc, &[1, 2])?);
-    assert_eq!(rt; Value::from(String::from_str(alloc, "a")?), text(alloc, "a")?);
-    assert_eq!(rt; Value::from(Float::Half(0x3c00)), Value::Float(Float::Half(0x3c00)));
-    assert_eq!(rt; Value::from(true), Value::Bool(true));
-    let items: Vec<Value> = Vec::new(alloc);
-    assert_eq!(rt; Value::from(items), Value::Array(Vec::new(alloc)));
-    let entries: Vec<(Value, Value)> = Vec::new(alloc);
-    assert_eq!(rt; Value::from(entries), Value::Map(Vec::new(alloc)));
+    let place = Value::from_str(alloc, "Zürich")?;
+    assert_eq!(rt; place.as_text(), Some("Zürich"));
+    let water = Value::from_char(alloc, '水')?;
+    assert_eq!(rt; water.as_text(), Some("水"));
+    let octets = Value::from_byte_slice(alloc, &[1, 2, 3])?;
+    assert_eq!(rt; octets, bytes(alloc, &[1, 2, 3])?);
     Ok(())
+}
+
+#[test]
+fn moves_become_values(rt: HostRuntime) {
+    let alloc = rt.alloc();
+    assert!(rt; Value::from(Float::Half(0x3c00)).is_float());
+    assert_eq!(rt; Value::from(true).as_bool(), Some(true));
+    let octets: Vec<u8> = Vec::new(alloc);
+    assert!(rt; Value::from(octets).is_bytes());
+    assert!(rt; Value::from(String::new(alloc)).is_text());
+    let items: Vec<Value> = Vec::new(alloc);
+    assert!(rt; Value::from(items).is_array());
+    let entries: Vec<(Value, Value)> = Vec::new(alloc);
+    assert!(rt; Value::from(entries).is_map());
 }
 
 /// Which kinds a value has, in the order of the variants.
@@ -304,7 +360,8 @@ fn kinds(value: &Value) -> [bool; 9] {
 #[test]
 fn each_value_has_one_kind(rt: HostRuntime) -> Result<(), Fail> {
     let alloc = rt.alloc();
-    let Ok(items) = each_variant(alloc)?.into_array() else {
+    let value = each_variant(alloc)?;
+    let Some(items) = value.as_array() else {
         return Err(Fail::from(Kind::WrongType));
     };
     for (i, item) in items.iter().enumerate() {
@@ -316,52 +373,103 @@ fn each_value_has_one_kind(rt: HostRuntime) -> Result<(), Fail> {
 }
 
 #[test]
-fn parts_are_shown(rt: HostRuntime) -> Result<(), Fail> {
+fn plain_parts_are_shown(rt: HostRuntime) {
+    assert_eq!(rt; integer(4).as_integer(), Some(Integer::from(4u64)));
+    assert_eq!(rt; Value::Null.as_integer(), None);
+    assert_eq!(rt;
+        Value::Float(Float::Half(0x7e00)).as_float(),
+        Some(Float::Half(0x7e00))
+    );
+    assert_eq!(rt; integer(4).as_float(), None);
+    assert_eq!(rt; Value::Bool(false).as_bool(), Some(false));
+    assert_eq!(rt; Value::Null.as_bool(), None);
+}
+
+#[test]
+fn strings_are_shown(rt: HostRuntime) -> Result<(), Fail> {
     let alloc = rt.alloc();
-    let value = tag(alloc, 98, each_variant(alloc)?)?;
-    assert_eq!(rt; value.as_array(), None);
-    let Some((98, content)) = value.as_tag() else {
-        return Err(Fail::from(Kind::Tag));
-    };
-    assert!(rt; content.as_tag().is_none());
-    let Some([number, octets, float, words, truth, null, _, inner, entries]) = content.as_array().map(|items| items.as_slice()) else {
-        return Err(Fail::from(Kind::Length));
-    };
-    assert_eq!(rt; number.as_integer(), Some(Integer::negative(4)));
-    assert_eq!(rt; null.as_integer(), None);
-    assert_eq!(rt; octets.as_bytes().map(|b| b.as_slice()), Some([1, 2, 3].as_slice()));
-    assert_eq!(rt; words.as_bytes(), None);
-    assert_eq!(rt; float.as_float(), Some(Float::Half(0x7e00)));
-    assert_eq!(rt; number.as_float(), None);
-    assert_eq!(rt; words.as_text(), Some(""));
-    assert_eq!(rt; octets.as_text(), None);
-    assert_eq!(rt; truth.as_bool(), Some(false));
-    assert_eq!(rt; null.as_bool(), None);
-    assert_eq!(rt; inner.as_array().map(|items| items.len()), Some(0));
-    assert_eq!(rt; entries.as_map().map(|entries| entries.len()), Some(2));
-    assert_eq!(rt; inner.as_map(), None);
+    let octets = bytes(alloc, &[1, 2])?;
+    let words = text(alloc, "a")?;
+    assert_eq!(rt;
+        octets.as_bytes(),
+        Some(&[1u8, 2].as_slice().to_vec(alloc)?)
+    );
+    assert!(rt; words.as_bytes().is_none());
+    assert_eq!(rt; words.as_text(), Some("a"));
+    assert!(rt; octets.as_text().is_none());
     Ok(())
 }
 
 #[test]
-fn parts_are_given(rt: HostRuntime) -> Result<(), Fail> {
+fn nested_values_are_shown(rt: HostRuntime) -> Result<(), Fail> {
     let alloc = rt.alloc();
+    let array = Value::Array(Vec::new(alloc));
+    let map = Value::Map(Vec::new(alloc));
+    assert!(rt; array.as_map().is_none());
+    assert!(rt; map.as_map().is_some());
+    assert!(rt; map.as_array().is_none());
+    assert!(rt; map.as_tag().is_none());
+    let tagged = tag(alloc, 98, array)?;
+    match tagged.as_tag() {
+        Some((number, content)) => {
+            assert_eq!(rt; number, 98);
+            assert!(rt; content.as_array().is_some());
+        }
+        None => return Err(Fail::from(Kind::Tag)),
+    }
+    Ok(())
+}
+
+#[test]
+fn plain_parts_are_given(rt: HostRuntime) {
     assert_eq!(rt; integer(3).into_integer(), Ok(Integer::from(3u64)));
     assert_eq!(rt; Value::Null.into_integer(), Err(Value::Null));
-    assert_eq!(rt; bytes(alloc, &[7])?.into_bytes(), Ok([7u8].as_slice().to_vec(alloc)?));
-    assert_eq!(rt; text(alloc, "7")?.into_bytes(), Err(text(alloc, "7")?));
-    assert_eq!(rt; Value::Float(Float::Single(1)).into_float(), Ok(Float::Single(1)));
+    assert_eq!(rt;
+        Value::Float(Float::Single(1)).into_float(),
+        Ok(Float::Single(1))
+    );
     assert_eq!(rt; integer(3).into_float(), Err(integer(3)));
-    assert_eq!(rt; text(alloc, "a")?.into_text(), Ok(String::from_str(alloc, "a")?));
-    assert_eq!(rt; bytes(alloc, &[7])?.into_text(), Err(bytes(alloc, &[7])?));
     assert_eq!(rt; Value::Bool(true).into_bool(), Ok(true));
     assert_eq!(rt; Value::Null.into_bool(), Err(Value::Null));
-    assert_eq!(rt; tag(alloc, 18, integer(3))?.into_tag(), Ok((18, Box::new(alloc, integer(3))?)));
-    assert_eq!(rt; integer(3).into_tag(), Err(integer(3)));
-    assert_eq!(rt; Value::Map(Vec::new(alloc)).into_array(), Err(Value::Map(Vec::new(alloc))));
-    assert_eq!(rt; Value::Array(Vec::new(alloc)).into_map(), Err(Value::Array(Vec::new(alloc))));
-    assert_eq!(rt; Value::Map(Vec::new(alloc)).into_map(), Ok(Vec::new(alloc)));
+}
+
+#[test]
+fn strings_are_given(rt: HostRuntime) -> Result<(), Fail> {
+    let alloc = rt.alloc();
+    let octets = bytes(alloc, &[7])?.into_bytes();
+    assert_eq!(rt; octets, Ok([7u8].as_slice().to_vec(alloc)?));
+    let refused = text(alloc, "7")?.into_bytes();
+    assert_eq!(rt; refused, Err(text(alloc, "7")?));
     Ok(())
+}
+
+#[test]
+fn texts_are_given(rt: HostRuntime) -> Result<(), Fail> {
+    let alloc = rt.alloc();
+    let words = text(alloc, "a")?.into_text();
+    assert_eq!(rt; words, Ok(String::from_str(alloc, "a")?));
+    let refused = bytes(alloc, &[7])?.into_text();
+    assert_eq!(rt; refused, Err(bytes(alloc, &[7])?));
+    Ok(())
+}
+
+#[test]
+fn nested_values_are_given(rt: HostRuntime) -> Result<(), Fail> {
+    let alloc = rt.alloc();
+    let content = Box::new(alloc, integer(3))?;
+    let tagged = tag(alloc, 18, integer(3))?.into_tag();
+    assert_eq!(rt; tagged, Ok((18, content)));
+    assert_eq!(rt; integer(3).into_tag(), Err(integer(3)));
+    assert_eq!(rt; integer(3).into_array(), Err(integer(3)));
+    assert_eq!(rt; Value::Null.into_map(), Err(Value::Null));
+    Ok(())
+}
+
+#[test]
+fn items_are_given(rt: HostRuntime) {
+    let alloc = rt.alloc();
+    assert!(rt; Value::Array(Vec::new(alloc)).into_array().is_ok());
+    assert!(rt; Value::Map(Vec::new(alloc)).into_map().is_ok());
 }
 
 /// What is written through a part stands in the value: an array is emptied, and no other value changes.
@@ -385,34 +493,46 @@ fn empty_bytes(value: &mut Value)
 }
 
 #[test]
-fn parts_are_changed(rt: HostRuntime) -> Result<(), Fail> {
+fn containers_are_emptied(rt: HostRuntime) -> Result<(), Fail> {
     let alloc = rt.alloc();
-    let mut value = each_variant(alloc)?;
-    empty_bytes(&mut value);
-    assert_eq!(rt; value, each_variant(alloc)?);
-    empty_array(&mut value);
-    assert_eq!(rt; value, Value::Array(Vec::new(alloc)));
-    assert!(rt; value.as_map_mut().is_none());
     let mut octets = bytes(alloc, &[1, 2])?;
+    empty_array(&mut octets);
+    assert_eq!(rt; octets, bytes(alloc, &[1, 2])?);
     empty_bytes(&mut octets);
     assert_eq!(rt; octets, bytes(alloc, &[])?);
-    assert!(rt; octets.as_text_mut().is_none());
-    assert!(rt; octets.as_tag_mut().is_none());
+    let mut value = each_variant(alloc)?;
+    empty_array(&mut value);
+    assert_eq!(rt; value, Value::Array(Vec::new(alloc)));
+    Ok(())
+}
+
+#[test]
+fn parts_are_changed(rt: HostRuntime) -> Result<(), Fail> {
+    let alloc = rt.alloc();
     let mut words = text(alloc, "a")?;
+    assert!(rt; words.as_map_mut().is_none());
     if let Some(content) = words.as_text_mut() {
         content.push('b')?;
     }
-    assert_eq!(rt; words, text(alloc, "ab")?);
+    assert_eq!(rt; words.as_text(), Some("ab"));
     let mut pairs = Value::Map(Vec::new(alloc));
+    assert!(rt; pairs.as_text_mut().is_none());
     if let Some(entries) = pairs.as_map_mut() {
         entries.push((integer(1), Value::Null))?;
     }
-    assert_eq!(rt; pairs.as_map().map(|entries| entries.len()), Some(1));
+    assert_ne!(rt; pairs, Value::Map(Vec::new(alloc)));
+    Ok(())
+}
+
+#[test]
+fn tags_are_changed(rt: HostRuntime) -> Result<(), Fail> {
+    let alloc = rt.alloc();
     let mut tagged = tag(alloc, 18, Value::Null)?;
     if let Some((number, content)) = tagged.as_tag_mut() {
         *number = 98;
         *content = integer(5);
     }
     assert_eq!(rt; tagged, tag(alloc, 98, integer(5))?);
+    assert!(rt; integer(5).as_tag_mut().is_none());
     Ok(())
 }
