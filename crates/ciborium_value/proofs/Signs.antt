@@ -1,5 +1,5 @@
 -- Numbers by their sign and size.
-use Rattle.std.proofs.Common.{◌≡◌, ℕ, ℤ, pos, negsuc, suc, ◌-◌, unsigned_abs, int_lt, true, ap, arith}
+use Rattle.std.proofs.Common.{◌≡◌, ℤ, pos, negsuc, suc, ◌-◌, unsigned_abs, int_lt, true, ap, arith}
 use Rattle.std.proofs.lemmas.Bool.{ltb-true}
 
 pub below_zero : (n : ℤ) → int_lt n (pos 0) ≡ true → negsuc (unsigned_abs n - 1) ≡ n

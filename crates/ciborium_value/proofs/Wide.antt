@@ -1,8 +1,8 @@
 -- Numbers of 128 bits, their fewest bytes, and their values.
-use Rattle.std.proofs.Common.{◌≡◌, ℕ, ℤ, zero, suc, pos, negsuc, ◌+◌, ◌*◌, ◌/◌, ◌%◌, ◌^◌, ◌<◌, ◌≤◌, List, [], ◌∷◌, length, Option, Some, None, Bool, true, false, cond, ◌&&◌, nat_eq, nat_lt, nat_le, refl, sym, ap, ◌∙◌, arith}
+use Rattle.std.proofs.Common.{◌≡◌, ℕ, ℤ, zero, suc, pos, negsuc, ◌+◌, ◌*◌, ◌/◌, ◌%◌, ◌^◌, ◌<◌, ◌≤◌, List, [], ◌∷◌, length, Option, Some, true, false, cond, ◌&&◌, nat_eq, nat_lt, nat_le, refl, sym, ap, ◌∙◌, arith}
 use Rattle.std.specs.Int.{w128, to_be_bytes, bytes_high_first, byte_at}
 use Rattle.std.proofs.Math.Arith.{mod-mul}
-use Rattle.std.proofs.Math.Nat.{pow-suc, mul_assoc, mul_comm, add-mul, mod-eq_of_lt, mod-one, div-one, one-le-pow}
+use Rattle.std.proofs.Math.Nat.{pow-suc, mul_assoc, mul_comm, add-mul, mod-eq_of_lt, div-one, one-le-pow}
 use Rattle.std.proofs.lemmas.Bool.{cond_both, false_from_ne_true, eqb-true, ltb-true, ltb-false, leb-true}
 use Rattle.std.proofs.lemmas.Nat.{mod_below}
 use Rattle.ciborium_value.specs.Tree.{Tree, integer, bytes, tag}

@@ -1,7 +1,7 @@
 -- The values of whole numbers (RFC 8949, sections 3.1 and 3.4.3).
 use Rattle.std.specs.Prelude.{ℕ, ℤ, pos, negsuc, ◌≤ℤ◌, ◌<◌, ◌^◌, List, Option, Some, None, if◌then◌else◌, nat_eq, nat_lt}
 use Rattle.std.specs.Int.{w128, to_be_bytes}
-use Rattle.ciborium_value.specs.Tree.{Tree, integer, bytes, text, array, map, tag, simple, float}
+use Rattle.ciborium_value.specs.Tree.{Tree, integer, bytes, tag}
 use Rattle.ciborium_value.specs.Folding.{big_endian_from, without_zeros}
 
 -- from -2^64 to 2^64 - 1, what an integer's head can say
