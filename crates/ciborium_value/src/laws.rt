@@ -1,6 +1,9 @@
 //! Facts about values, for proofs. The calls change nothing.
+ghost use Rattle.std.specs.Prelude.{◌≡◌, ℤ, Some};
 ghost use Rattle.ciborium_value.specs.Tree.{integer, bytes, text};
 ghost use Rattle.ciborium_value.specs.Encoding.{Fits};
+ghost use Rattle.ciborium_value.specs.Folding.{fold};
+ghost use Rattle.ciborium_value.specs.Numbers.{IsWide, number_tree, tree_number};
 ghost use Rattle.ciborium_value.specs.View.{view, number_of};
 
 use crate::integer::Integer;
@@ -55,3 +58,9 @@ fn text_fits(content: &str)
 {
     let _len = content.len();
 }
+
+/// The value of a number of 128 bits stands for that number, and is folded.
+pub fn numbers_are_kept()
+    ensures number { (i : ℤ) → IsWide i → tree_number (number_tree i) ≡ Some i }
+    ensures folded { (i : ℤ) → IsWide i → fold (number_tree i) ≡ Some (number_tree i) }
+{}

@@ -1,6 +1,9 @@
 //! Values of CBOR (RFC 8949): items as users hold them, bignum tags folded.
 #![tactic(auto)]
 
+mod access;
+mod access_mut;
+mod convert;
 mod fold;
 mod integer;
 mod kind;
