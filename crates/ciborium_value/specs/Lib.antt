@@ -1,4 +1,6 @@
+pub mod Canonical
 pub mod Encoding
 pub mod Folding
+pub mod Order
 pub mod Tree
 pub mod View

@@ -5,6 +5,8 @@ mod fold;
 mod integer;
 mod kind;
 pub mod laws;
+mod length;
+mod order;
 #[cfg(test)]
 mod tests;
 mod value;
@@ -12,4 +14,5 @@ mod value;
 pub use crate::fold::fold_tag;
 pub use crate::integer::Integer;
 pub use crate::kind::Kind;
+pub use crate::order::cmp_value;
 pub use crate::value::Value;
