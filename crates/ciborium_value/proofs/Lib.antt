@@ -1,12 +1,8 @@
 pub mod Numbers
 pub mod Views
 pub mod Fitting
-pub mod Orders
 pub mod TextOrder
-pub mod TextTotal
-pub mod TextTies
-pub mod TreeTotal
-pub mod Ties
-pub mod Derived
 pub mod ValueOrder
 pub mod Lengths
+pub mod Folded
+pub mod OneEncoding

@@ -15,7 +15,7 @@ use Rattle.ciborium_ll.specs.declared.hdr.Float.TheVariants.{Half, Single, Doubl
 use Rattle.ciborium_value.specs.Tree.{Tree, integer, bytes, text, array, map, tag, simple, float, Trees, no_trees, one_more, Pairs, no_pairs, pair_more, tree_count, pair_count}
 use Rattle.ciborium_value.specs.Encoding.{enc, enc_all, enc_pairs, Fits, FitAll, FitPairs}
 use Rattle.ciborium_value.specs.Canonical.{place, number, head_cmp, text_cmp, all_cmp, each_cmp, Sized, SizedAll, SizedPairs, bytewise, canonical, canonical_cmp, counted}
-use Rattle.ciborium_value.proofs.Orders.{bytes_cmp, assoc, then_equal, where_equal, apart, same_long, append_nil, places}
+use Rattle.ciborium_value.specs.Facts.Orders.{bytes_cmp, assoc, then_equal, where_equal, apart, same_long, append_nil, places}
 
 -- ---- numbers by their bytes, the highest first
 

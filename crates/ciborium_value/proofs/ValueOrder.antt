@@ -12,7 +12,7 @@ use Rattle.ciborium_value.specs.declared.value.Value.{Value}
 use Rattle.ciborium_value.specs.declared.value.Value.TheVariants as code
 use Rattle.ciborium_value.proofs.Views.{view_array, view_map}
 use Rattle.ciborium_value.proofs.Fitting.{count_items, count_entries}
-use Rattle.ciborium_value.proofs.Orders.{assoc}
+use Rattle.ciborium_value.specs.Facts.Orders.{assoc}
 use Rattle.ciborium_value.proofs.TextOrder.{text_order}
 
 pub array_number : (value : Value) (v : Vec Value Global) → value ≡ code.Array v → v.len ≡ number (view value)

@@ -1,6 +1,7 @@
 //! Values of CBOR (RFC 8949): items as users hold them, bignum tags folded.
 #![tactic(auto)]
 
+mod canonical;
 mod fold;
 mod integer;
 mod kind;
@@ -11,6 +12,7 @@ mod order;
 mod tests;
 mod value;
 
+pub use crate::canonical::CanonicalValue;
 pub use crate::fold::fold_tag;
 pub use crate::integer::Integer;
 pub use crate::kind::Kind;

@@ -5,7 +5,7 @@ use Rattle.std.specs.declared.cmp.Ordering.TheVariants.{Equal}
 use Rattle.std.specs.Ordering.{ordering_then, nat_cmp, is_eq}
 use Rattle.ciborium_value.specs.Tree.{Tree, integer, bytes, text, array, map, tag, simple, float, Trees, no_trees, one_more, Pairs, no_pairs, pair_more}
 use Rattle.ciborium_value.specs.Order.{kind, width, pattern, tree_cmp, trees_cmp, pairs_cmp}
-use Rattle.ciborium_value.proofs.Orders.{nat_tied, int_tied, list_tied, then_tied, float_tied}
+use Rattle.ciborium_value.specs.Facts.Orders.{nat_tied, int_tied, list_tied, then_tied, float_tied}
 
 mutual
   pub tied : (t s : Tree) → tree_cmp t s ≡ Equal → t ≡ s

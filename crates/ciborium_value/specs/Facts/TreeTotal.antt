@@ -9,7 +9,7 @@ use Rattle.std.specs.declared.cmp.Ordering.TheVariants.{Less, Equal, Greater}
 use Rattle.std.specs.Ordering.{ordering_then, nat_cmp, int_cmp, MatchOrdering}
 use Rattle.ciborium_value.specs.Tree.{Tree, integer, bytes, text, array, map, tag, simple, float, Trees, no_trees, one_more, Pairs, no_pairs, pair_more}
 use Rattle.ciborium_value.specs.Order.{width, pattern, tree_cmp, trees_cmp, pairs_cmp}
-use Rattle.ciborium_value.proofs.Orders.{bytes_cmp, assoc, then_equal}
+use Rattle.ciborium_value.specs.Facts.Orders.{bytes_cmp, assoc, then_equal}
 
 -- a 1 before each element, and a 0 at the end
 abbrev ended : List ℕ → List ℤ

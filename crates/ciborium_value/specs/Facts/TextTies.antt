@@ -8,8 +8,8 @@ use Rattle.ciborium_value.specs.Tree.{Tree, integer, bytes, text, array, map, ta
 use Rattle.ciborium_value.specs.Encoding.{enc}
 use Rattle.ciborium_value.specs.Order.{width, pattern}
 use Rattle.ciborium_value.specs.Canonical.{int_place, place, number, counted, text_cmp, all_cmp, each_cmp, canonical_cmp}
-use Rattle.ciborium_value.proofs.Orders.{bytes_cmp, nat_tied, list_tied, then_tied, float_tied, equal_of, places}
-use Rattle.ciborium_value.proofs.TextTotal.{canonical_total}
+use Rattle.ciborium_value.specs.Facts.Orders.{bytes_cmp, nat_tied, list_tied, then_tied, float_tied, equal_of, places}
+use Rattle.ciborium_value.specs.Facts.TextTotal.{canonical_total}
 
 int_ties : (i j : ℤ) → int_place i ≡ int_place j → text_cmp (integer i) (integer j) ≡ Equal → i ≡ j
 int_ties (pos n) (pos m) e h = ap pos (nat_tied n m h)

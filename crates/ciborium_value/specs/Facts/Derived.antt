@@ -24,9 +24,9 @@ use Rattle.ciborium_value.specs.contracts.value.ValueOrd.TheImpl.Laws as order_l
 use Rattle.ciborium_value.specs.contracts.value.ValuePartialEq.TheImpl as equality
 use Rattle.ciborium_value.specs.contracts.value.ValueHash.TheImpl as hashes
 use Rattle.ciborium_value.specs.contracts.value.ValueHash.TheImpl.Laws as hash_laws
-use Rattle.ciborium_value.proofs.Orders.{equal_of}
-use Rattle.ciborium_value.proofs.TreeTotal.{tree_total}
-use Rattle.ciborium_value.proofs.Ties.{tied}
+use Rattle.ciborium_value.specs.Facts.Orders.{equal_of}
+use Rattle.ciborium_value.specs.Facts.TreeTotal.{tree_total}
+use Rattle.ciborium_value.specs.Facts.Ties.{tied}
 use denote.Enum.Compared.{Each, by}
 use denote.Hole.Compared.{compared_is}
 use denote.Hole.Carrier as carrier

@@ -6,7 +6,7 @@ use Rattle.std.specs.Ordering.{ordering_then, nat_cmp}
 use Rattle.ciborium_value.specs.Tree.{Tree, integer, bytes, text, array, map, tag, simple, float, Trees, no_trees, one_more, Pairs, no_pairs, pair_more, tree_count, pair_count}
 use Rattle.ciborium_value.specs.Encoding.{enc}
 use Rattle.ciborium_value.specs.Canonical.{place, number, text_cmp, all_cmp, each_cmp, counted, canonical_cmp}
-use Rattle.ciborium_value.proofs.Orders.{bytes_cmp, assoc, then_equal, where_equal, apart, same_long, append_nil, places}
+use Rattle.ciborium_value.specs.Facts.Orders.{bytes_cmp, assoc, then_equal, where_equal, apart, same_long, append_nil, places}
 
 -- the place and number of the head, whatever their ranges, and then the contents
 abbrev mutual
