@@ -2,7 +2,7 @@
 use Rattle.std.proofs.Common.{◌≡◌, ℕ, zero, suc, ◌+◌, ◌<◌, ◌≤◌, ◌^◌, min, List, [], ◌∷◌, ◌++◌, length, drop, take, get_or, length-append, refl, ap, sym, subst, ◌∙◌, Vec, Global, arith}
 use Rattle.std.proofs.lemmas.List.{take_all}
 use Rattle.ciborium_ll.specs.Title.{shortest}
-use Rattle.ciborium_value.specs.Tree.{Tree, tree_count, pair_count}
+use Rattle.ciborium_value.specs.Tree.{tree_count, pair_count}
 use Rattle.ciborium_value.specs.Encoding.{enc, enc_all, enc_pairs}
 use Rattle.ciborium_value.specs.View.{view, views, view_pairs}
 use Rattle.ciborium_value.specs.Canonical.{counted, Sized, SizedAll, SizedPairs}

@@ -1,12 +1,11 @@
 -- The order of encodings is that of the trees.
-use Rattle.std.proofs.Common.{◌≡◌, ◌≢◌, ℕ, pos, negsuc, ◌+◌, ◌*◌, ◌/◌, ◌%◌, ◌^◌, ◌<◌, ◌≤◌, List, [], ◌∷◌, ◌++◌, length, Bool, true, false, cond, nat_lt, Some, refl, sym, ap, subst, ◌∙◌, arith, append_assoc}
+use Rattle.std.proofs.Common.{◌≡◌, ℕ, pos, negsuc, ◌+◌, ◌*◌, ◌/◌, ◌%◌, ◌^◌, ◌<◌, ◌≤◌, List, [], ◌∷◌, ◌++◌, length, Bool, true, false, cond, nat_lt, refl, sym, ap, subst, ◌∙◌, arith, append_assoc}
 use Rattle.std.proofs.lemmas.Bool.{ltb-true, ltb-false}
 use Rattle.std.proofs.lemmas.Cmp.{ranked, by_ranked}
 use Rattle.std.proofs.lemmas.Nat.{mul-add-lt}
 use Rattle.std.proofs.Math.Nat.{div-div-eq-div-mul}
 use Rattle.std.specs.Int.{w16, w32, w64, to_be_bytes}
 use Rattle.std.specs.Cmp.{nat_cmp_is}
-use Rattle.std.specs.Cmp.Lexicographic.{slice_cmp}
 use Rattle.std.specs.declared.cmp.Ordering.{Ordering}
 use Rattle.std.specs.declared.cmp.Ordering.TheVariants.{Less, Equal, Greater}
 use Rattle.std.specs.Ordering.{ordering_then, nat_cmp, MatchOrdering}
@@ -14,7 +13,7 @@ use Rattle.ciborium_ll.specs.Title.{shortest}
 use Rattle.ciborium_ll.specs.declared.hdr.Float.TheVariants.{Half, Single, Double}
 use Rattle.ciborium_value.specs.Tree.{Tree, integer, bytes, text, array, map, tag, simple, float, Trees, no_trees, one_more, Pairs, no_pairs, pair_more, tree_count, pair_count}
 use Rattle.ciborium_value.specs.Encoding.{enc, enc_all, enc_pairs, Fits, FitAll, FitPairs}
-use Rattle.ciborium_value.specs.Canonical.{place, number, head_cmp, text_cmp, all_cmp, each_cmp, Sized, SizedAll, SizedPairs, bytewise, canonical, canonical_cmp, counted}
+use Rattle.ciborium_value.specs.Canonical.{place, number, text_cmp, all_cmp, each_cmp, Sized, SizedAll, SizedPairs, bytewise, canonical, canonical_cmp, counted}
 use Rattle.ciborium_value.specs.Facts.Orders.{bytes_cmp, assoc, then_equal, where_equal, apart, same_long, append_nil, places}
 
 -- ---- numbers by their bytes, the highest first

@@ -91,8 +91,9 @@ pub fn canonical_values_compare(a: &CanonicalValue, b: &CanonicalValue)
     value_fits(&b.0);
 }
 
-/// The orders of trees are total, and tie no two trees.
+/// The orders of numbers and of trees are total, and those of trees tie no two trees.
 pub fn orders_are_total()
+    ensures numbers { IsTotalOrder int_cmp }
     ensures trees { IsTotalOrder tree_cmp }
     ensures texts { IsTotalOrder text_cmp }
     ensures canonical { IsTotalOrder canonical_cmp }

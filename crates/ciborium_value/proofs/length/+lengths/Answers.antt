@@ -1,4 +1,4 @@
-use Rattle.std.proofs.Common.{◌≡◌, ◌<◌, ◌^◌, ◌∙◌, ap, sym, subst, arith}
+use Rattle.std.proofs.Common.{◌<◌, ◌^◌, ◌∙◌, ap, subst, arith}
 use Rattle.ciborium_value.specs.Encoding.{enc_all, enc_pairs}
 use Rattle.ciborium_value.specs.View.{views, view_pairs}
 use Rattle.ciborium_value.specs.Canonical.{counted, SizedAll, SizedPairs}

@@ -1,4 +1,4 @@
-use Rattle.std.proofs.Common.{◌∙◌, ap}
+use Rattle.std.proofs.Common.{◌∙◌}
 use Rattle.ciborium_value.specs.View.{view_pairs}
 use Rattle.ciborium_value.specs.Canonical.{each_cmp}
 use Rattle.ciborium_value.proofs.ValueOrder.{map_texts}
