@@ -3,3 +3,8 @@ pub mod Views
 pub mod Fitting
 pub mod Signs
 pub mod Wide
+pub mod TextOrder
+pub mod ValueOrder
+pub mod Lengths
+pub mod Folded
+pub mod OneEncoding
