@@ -1,3 +1,10 @@
 pub mod Numbers
 pub mod Views
 pub mod Fitting
+pub mod Signs
+pub mod Wide
+pub mod TextOrder
+pub mod ValueOrder
+pub mod Lengths
+pub mod Folded
+pub mod OneEncoding

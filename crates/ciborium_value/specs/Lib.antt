@@ -1,4 +1,10 @@
+pub mod Canonical
 pub mod Encoding
+pub mod Facts
 pub mod Folding
+pub mod Kinds
+pub mod Numbers
+pub mod Rows
+pub mod Order
 pub mod Tree
 pub mod View

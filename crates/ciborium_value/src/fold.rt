@@ -20,7 +20,7 @@ fn number(bytes: &[u8]) -> u128
 }
 
 /// The bytes without the zeros in front.
-fn stripped(alloc: Global, bytes: &[u8]) -> Result<Vec<u8>, AllocError>
+pub(crate) fn stripped(alloc: Global, bytes: &[u8]) -> Result<Vec<u8>, AllocError>
     ensures { IfOk result (λ v. v.items ≡ without_zeros bytes.now) }
 {
     let mut rest = bytes;

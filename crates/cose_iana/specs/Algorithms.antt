@@ -1,13 +1,25 @@
--- The registry "COSE Algorithms" (RFC 9053), as far as it is known here.
-use Rattle.std.specs.Prelude.{ℤ, pos, negsuc, Bool, nat_eq}
+-- Algorithms. The table stands in src/algorithm.rt.
+use Rattle.std.specs.Prelude.{◌≡◌, refl, ℤ, negsuc, Bool, true, false}
 use Rattle.cose_iana.specs.declared.algorithm.Algorithm.{Algorithm}
-use Rattle.cose_iana.specs.declared.algorithm.Algorithm.TheVariants.{ES256, HMAC_256_256}
+use Rattle.cose_iana.specs.contracts.algorithm.Algorithm.{the_type as algorithms_type}
+use Rattle.cose_iana.specs.declared.algorithm.TheConstants.{ALGORITHMS}
+use Rattle.cose_iana.specs.Registry.{Registry, is_private_use}
+use Rattle.cose_iana.specs.Table.{registry, InOrder, in_order, not_below}
+
+-- Algorithms: the registry "COSE Algorithms" (RFC 9053).
+unfoldable pub algorithms : Registry Algorithm
+algorithms = registry algorithms_type tt ALGORITHMS.now refl
+
+pub algorithms_in_order : InOrder algorithms_type ALGORITHMS.now algorithms
+unfolding algorithms
+algorithms_in_order = in_order algorithms_type tt ALGORITHMS.now refl
+
+pub algorithms_not_private : (i : ℤ) → is_private_use i ≡ true → algorithms.is_registered i ≡ false
+unfolding algorithms
+algorithms_not_private = not_below (negsuc 65535) ALGORITHMS.now refl
 
 abbrev pub algorithm_number : Algorithm → ℤ
-algorithm_number ES256 = negsuc 6
-algorithm_number HMAC_256_256 = pos 5
+algorithm_number = algorithms.number
 
--- -7 and 5
 abbrev pub is_algorithm : ℤ → Bool
-is_algorithm (pos n) = nat_eq n 5
-is_algorithm (negsuc n) = nat_eq n 6
+is_algorithm = algorithms.is_registered

@@ -1,1 +1,9 @@
+pub mod Registry
+pub mod Table
+pub mod Headers
 pub mod Algorithms
+pub mod Keys
+pub mod KeyParameters
+pub mod Tags
+pub mod Formats
+pub mod Claims

@@ -1,20 +1,56 @@
 //! Entries and their numbers.
-ghost use Rattle.std.specs.Prelude.{◌≡◌, ℤ, Bool, true, false, MatchOption};
+ghost use Rattle.std.specs.Ordering.{int_cmp};
+ghost use Rattle.std.specs.Prelude.{◌≡◌, ℤ, Bool, true, false, Option, Some, MatchOption};
+ghost use Rattle.cose_iana.specs.Registry.{entry_of};
 
-/// An entry of a registry has a number, and each number of the registry is that of one entry.
-pub trait EnumI64: Copy {
+/// A registry: each entry has a number, each number of the registry is that of one entry, and the entries are ordered by their numbers.
+pub trait EnumI64: Copy + Ord {
     /// The number of an entry.
     ghost number: { Self → ℤ };
 
     /// Whether the registry has the number.
     ghost is_registered: { ℤ → Bool };
 
+    /// The entry with a number, if the registry has it.
+    ghost entry: { ℤ → Option Self };
+
     /// The entry with this number, or none where the registry has no such number.
     fn from_i64(i: i64) -> Option<Self>
-        ensures { MatchOption result (is_registered i ≡ false) (λ x. (number x ≡ i) × (is_registered i ≡ true)) };
+        ensures entry { result ≡ entry i }
+        ensures found { MatchOption result (is_registered i ≡ false) (λ x. (number x ≡ i) × (is_registered i ≡ true)) };
 
     /// The number of this entry.
     fn to_i64(self) -> i64
         ensures number { result ≡ number self }
         ensures registered { is_registered result ≡ true };
+
+    /// The entry with the number of an entry is that entry.
+    ghost there_and_back: { (x : Self) → entry (number x) ≡ Some x };
+
+    /// The entry with a number has that number, and there is none exactly where the registry has no such number.
+    ghost back_and_there: { (i : ℤ) → MatchOption (entry i) (is_registered i ≡ false) (λ x. (number x ≡ i) × (is_registered i ≡ true)) };
+
+    /// The order is that of the numbers.
+    ghost in_order: { (x y : Self) → Self.cmp x y ≡ int_cmp (number x) (number y) };
+}
+
+/// A registry that leaves a range of numbers for private use.
+pub trait WithPrivateRange: EnumI64 {
+    /// Whether a number is for private use.
+    ghost is_private_number: { ℤ → Bool };
+
+    /// Whether this number is for private use.
+    fn is_private(i: i64) -> bool
+        ensures { result ≡ is_private_number i };
+
+    /// No entry of the registry has a number for private use.
+    ghost no_entry_is_private: { (i : ℤ) → is_private_number i ≡ true → Self.is_registered i ≡ false };
+}
+
+/// The entry in the row with this number.
+#[tactic(auto, unfolding(crate::specs::Registry::entry_of))]
+pub(crate) fn entry_with<E: Copy>(table: &[(i64, E)], i: i64) -> Option<E>
+    ensures { result ≡ entry_of table.now i }
+{
+    table.iter().find(|row| row.0 == i).map(|row| row.1)
 }
