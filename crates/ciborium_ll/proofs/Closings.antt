@@ -37,6 +37,7 @@ leads_then A B C f g xs ys p q = record { there = there; back = back }
   where
     there : (b : List ℕ) (more : List (List ℕ)) → C b more → A ((f ++ g) ++ b) ((xs ++ ys) ++ more)
     there b more h = rw (append_assoc f g b, append_assoc xs ys more) (p.there (g ++ b) (ys ++ more) (q.there b more h))
+
     back : (l b after : List ℕ) (bodies : List (List ℕ)) → A b bodies → (f ++ g) ++ l ≡ b ++ after → Behind C (f ++ g) (xs ++ ys) l b after bodies
     back l b after bodies h e =
         let u = p.back (g ++ l) b after bodies h (sym (append_assoc f g l) ∙ e) in
@@ -60,6 +61,7 @@ module _ (k : Option ℕ → Header) (P : List ℕ → Type 0) where
     where
       there : (b : List ℕ) (more : List (List ℕ)) → Rest k P new b more → Parted k P len new (xs ++ b) (xs ∷ more)
       there b more h = record { body = xs; rest = b; more = more; full = full; allowed = allowed; goes = h; whole = refl; all = refl }
+
       back : (l b after : List ℕ) (bodies : List (List ℕ)) → Parted k P len new b bodies → xs ++ l ≡ b ++ after → Behind (Rest k P new) xs (xs ∷ []) l b after bodies
       back l b after bodies q e =
           let e' : xs ++ l ≡ q.body ++ (q.rest ++ after) = e ∙ rw q.whole (append_assoc q.body q.rest after) in
@@ -72,6 +74,7 @@ module _ (k : Option ℕ → Header) (P : List ℕ → Type 0) where
     where
       part : (b : List ℕ) (bodies : List (List ℕ)) → Rest k P (One len) b bodies → Parted k P len (Inside 0) b bodies
       part b bodies h = record { body = b; rest = []; more = []; full = h.0; allowed = h.1; goes = (refl, refl); whole = sym (append-nil b); all = h.2 }
+
       there : (b : List ℕ) (more : List (List ℕ)) → Parted k P len (Inside 0) b more → Rest k P (One len) b more
       there b more q =
           let g : (q.rest ≡ []) × (q.more ≡ []) = q.goes in
@@ -87,9 +90,17 @@ module _ (k : Option ℕ → Header) (same : (o p : Option ℕ) → k o ≡ k p 
       there b bodies q =
           let h : Closing k P (suc n) q.rest q.more = q.goes in
           let t' : Title title (k (Some (length q.body))) = subst (λ (m : ℕ). Title title (k (Some m))) (sym q.full) t in
-          let f : Frame k P (title ++ q.body) (q.body ∷ []) = whole (title ++ q.body) q.body title t' q.allowed refl in
-          ((title ++ q.body) ++ h.0, h.1, (q.body ∷ []) ++ h.2, h.3, frame_more (title ++ q.body) h.0 (q.body ∷ []) h.2 f h.4, h.5,
-           rw (q.whole, h.6) (simp append_assoc), rw (q.all, h.7) refl)
+          let f : Frame k P (title ++ q.body) (q.body ∷ []) = whole (title ++ q.body) q.body title t' q.allowed refl in (
+            (title ++ q.body) ++ h.0,
+            h.1,
+            (q.body ∷ []) ++ h.2,
+            h.3,
+            frame_more (title ++ q.body) h.0 (q.body ∷ []) h.2 f h.4,
+            h.5,
+            rw (q.whole, h.6) (simp append_assoc),
+            rw (q.all, h.7) refl,
+          )
+
       go : (l b more : List ℕ) (bodies : List (List ℕ)) (inner after : List ℕ) (xs ys : List (List ℕ)) → Frames k P inner xs → Closing k P n after ys
           → b ≡ inner ++ 255 ∷ after → bodies ≡ xs ++ ys → title ++ l ≡ b ++ more → Behind (Parted k P len (Inside (suc n))) title [] l b more bodies
       go l b more bodies _ after _ ys no_frames c e f all =
@@ -121,9 +132,17 @@ module _ (k : Option ℕ → Header) (same : (o p : Option ℕ) → k o ≡ k p 
       there : (b : List ℕ) (bodies : List (List ℕ)) → Closing k P (suc (suc n)) b bodies → Closing k P (suc n) (title ++ b) bodies
       there b bodies h =
           let g : Closing k P (suc n) h.1 h.3 = h.5 in
-          let a = (title ++ h.0) ++ 255 ∷ [] in
-          (a ++ g.0, g.1, h.2 ++ g.2, g.3, frame_more a g.0 h.2 g.2 (cut a h.0 title h.2 t h.4 refl) g.4, g.5,
-           rw (h.6, g.6) (simp append_assoc), rw (h.7, g.7) (sym (append_assoc h.2 g.2 g.3)))
+          let a = (title ++ h.0) ++ 255 ∷ [] in (
+            a ++ g.0,
+            g.1,
+            h.2 ++ g.2,
+            g.3,
+            frame_more a g.0 h.2 g.2 (cut a h.0 title h.2 t h.4 refl) g.4,
+            g.5,
+            rw (h.6, g.6) (simp append_assoc),
+            rw (h.7, g.7) (sym (append_assoc h.2 g.2 g.3)),
+          )
+
       go : (l b more : List ℕ) (bodies : List (List ℕ)) (inner after : List ℕ) (xs ys : List (List ℕ)) → Frames k P inner xs → Closing k P n after ys
           → b ≡ inner ++ 255 ∷ after → bodies ≡ xs ++ ys → title ++ l ≡ b ++ more → Behind (Closing k P (suc (suc n))) title [] l b more bodies
       go l b more bodies _ after _ ys no_frames c e f all =

@@ -74,7 +74,7 @@ utf8_rest xs ys u v =
 pub text_more : (old new : Body) (given piece x : List ℕ) (total : ℕ) → IsPart old new piece x → bytes_of old + length given ≡ total → bytes_of new + length (given ++ piece) ≡ total
 text_more old new given piece x total p g =
     let e : length (saved_of old) + length x ≡ length piece + length (saved_of new)
-        = sym (length-append (saved_of old) x) ∙ ap length p.0 ∙ length-append piece (saved_of new) in
+    = sym (length-append (saved_of old) x) ∙ ap length p.0 ∙ length-append piece (saved_of new) in
     omega (arith, e, p.1, g, length-append given piece)
 
 pub text_less : (old new : Body) (piece x : List ℕ) → IsPart old new piece x → 0 < length piece → bytes_of new < bytes_of old
@@ -92,8 +92,8 @@ damaged_body old (Some ys) (Some zs) None i j j' given total t d u g = absurd d.
 damaged_body old (Some ys) (Some zs) (Some us) i j j' given total t d u g = λ b x rest q e.
     let front = given ++ (saved_of old ++ d.bytes) in
     let whole : front ++ us ≡ b ++ rest
-        = append_assoc given (saved_of old ++ d.bytes) us ∙ ap (λ z. given ++ z) (append_assoc (saved_of old) d.bytes us) ∙ sym (append_assoc given (saved_of old) (d.bytes ++ us))
-          ∙ ap (λ z. z ++ (d.bytes ++ us)) (sym t.has) ∙ ap (λ z. t.bytes ++ z) (sym d.taken) ∙ sym t.taken ∙ e in
+    = append_assoc given (saved_of old ++ d.bytes) us ∙ ap (λ z. given ++ z) (append_assoc (saved_of old) d.bytes us) ∙ sym (append_assoc given (saved_of old) (d.bytes ++ us))
+    ∙ ap (λ z. z ++ (d.bytes ++ us)) (sym t.has) ∙ ap (λ z. t.bytes ++ z) (sym d.taken) ∙ sym t.taken ∙ e in
     let n = length-append given (saved_of old ++ d.bytes) in
     let m = length-append (saved_of old) d.bytes in
     let c = longer front b us rest (omega (arith, n, m, d.has.0, g, q.0)) whole in

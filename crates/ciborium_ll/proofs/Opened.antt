@@ -106,6 +106,7 @@ module _ (k : Option ℕ → Header) (same : (o p : Option ℕ) → k o ≡ k p 
       stuck : (stage : Stage) (l : Option (List ℕ)) → stage ≡ Stuck p → No l (Rest k P stage)
       stuck stage None e = tt
       stuck stage (Some zs) e = λ b after bodies r f. let q : Rest k P (Stuck p) b bodies = subst (λ z. Rest k P z b bodies) e r in q
+
       go : (stage ≡ Stuck p) ⊎ Takes l l' j j' (Strays k P stage j p) → No l (Rest k P stage)
       go (inl e) = stuck stage l e
       go (inr s) = stage_no_stray stage l l' j j' p s
@@ -119,17 +120,17 @@ module _ (k : Option ℕ → Header) (same : (o p : Option ℕ) → k o ≡ k p 
       → Held l l' i i' stage' (bodies ++ (bytes ∷ []))
   held_more stage stage' l m r l' i j n i' bodies bytes len held reached full allowed read =
       takes_then l m l' i j i' held (takes_then m r l' j n i' reached read
-        (λ (a b : List ℕ) (p : Reaches k P stage len stage' a) (q : b ≡ bytes).
-          subst (λ z. Leads (Rest k P stage) (Rest k P stage') (a ++ z) (bytes ∷ [])) (sym q) (leads_then _ _ _ a bytes [] (bytes ∷ []) p (body_leads k P len stage' bytes full allowed))))
-        (λ (a b : List ℕ) (p : Leads (Closing k P 1) (Rest k P stage) a bodies) (q : Leads (Rest k P stage) (Rest k P stage') b (bytes ∷ [])).
-          leads_then _ _ _ a b bodies (bytes ∷ []) p q)
+      (λ (a b : List ℕ) (p : Reaches k P stage len stage' a) (q : b ≡ bytes).
+      subst (λ z. Leads (Rest k P stage) (Rest k P stage') (a ++ z) (bytes ∷ [])) (sym q) (leads_then _ _ _ a bytes [] (bytes ∷ []) p (body_leads k P len stage' bytes full allowed))))
+      (λ (a b : List ℕ) (p : Leads (Closing k P 1) (Rest k P stage) a bodies) (q : Leads (Rest k P stage) (Rest k P stage') b (bytes ∷ [])).
+      leads_then _ _ _ a b bodies (bytes ∷ []) p q)
 
   pub wrote_body : (bodies : List (List ℕ)) (bytes : List ℕ) (len : ℕ) (w w₁ w₂ w₃ : Option (List ℕ)) → length bytes ≡ len
       → Appends w w₁ (enc_pieces k bodies) → Appends w₁ w₂ (title_of (k (Some len))) → Appends w₂ w₃ bytes → Appends w w₃ (enc_pieces k (bodies ++ (bytes ∷ [])))
   wrote_body bodies bytes len w w₁ w₂ w₃ e a b c =
       let b' : Appends w₁ w₂ (title_of (k (Some (length bytes)))) = subst (λ z. Appends w₁ w₂ (title_of (k (Some z)))) (sym e) b in
       rw (enc_pieces-append k bodies (bytes ∷ []), append-nil (enc_whole k bytes))
-        (Appends-trans w w₁ w₃ (enc_pieces k bodies) (enc_whole k bytes) a (Appends-trans w₁ w₂ w₃ (title_of (k (Some (length bytes)))) bytes b' c))
+      (Appends-trans w w₁ w₃ (enc_pieces k bodies) (enc_whole k bytes) a (Appends-trans w₁ w₂ w₃ (title_of (k (Some (length bytes)))) bytes b' c))
 
   whole_closing : (l m r : Option (List ℕ)) (i j n : ℕ) (stage : Stage) (bodies : List (List ℕ)) → (h : Held l m i j stage bodies) → (t : Takes m r j n (λ b. Rest k P stage b []))
       → Closing k P 1 (h.bytes ++ t.bytes) bodies
@@ -154,8 +155,8 @@ module _ (k : Option ℕ → Header) (same : (o p : Option ℕ) → k o ≡ k p 
       → enc_pieces k more ++ 255 ∷ [] ≡ front ++ tail → AppendsFront w w' (enc_pieces k (given ++ more) ++ 255 ∷ [])
   more_front given more front tail w w' a e =
       let s : (enc_pieces k given ++ front) ++ tail ≡ enc_pieces k (given ++ more) ++ 255 ∷ []
-          = append_assoc (enc_pieces k given) front tail ∙ ap (λ z. enc_pieces k given ++ z) (sym e) ∙ sym (append_assoc (enc_pieces k given) (enc_pieces k more) (255 ∷ []))
-            ∙ ap (λ z. z ++ 255 ∷ []) (sym (enc_pieces-append k given more)) in
+      = append_assoc (enc_pieces k given) front tail ∙ ap (λ z. enc_pieces k given ++ z) (sym e) ∙ sym (append_assoc (enc_pieces k given) (enc_pieces k more) (255 ∷ []))
+      ∙ ap (λ z. z ++ 255 ∷ []) (sym (enc_pieces-append k given more)) in
       front_as w w' _ _ s (front_then w w' (enc_pieces k given ++ front) tail a)
 
   -- what was written up to a fault on the way to a body
@@ -180,8 +181,8 @@ module _ (k : Option ℕ → Header) (same : (o p : Option ℕ) → k o ≡ k p 
       go (Some zs) = λ b after more q e.
           let f' : AppendsFront w₁ w' (title_of (k (Some (length q.body)))) = subst (λ z. AppendsFront w₁ w' (title_of (k (Some z)))) (sym q.full) f in
           subst (λ z. AppendsFront w w' (enc_pieces k (bodies ++ z) ++ 255 ∷ [])) (sym q.all)
-            (more_front bodies (q.body ∷ q.more) (title_of (k (Some (length q.body)))) (q.body ++ (enc_pieces k q.more ++ 255 ∷ [])) w w'
-              (then_front w w₁ w' (enc_pieces k bodies) (title_of (k (Some (length q.body)))) a f') (simp append_assoc))
+          (more_front bodies (q.body ∷ q.more) (title_of (k (Some (length q.body)))) (q.body ++ (enc_pieces k q.more ++ 255 ∷ [])) w w'
+          (then_front w w₁ w' (enc_pieces k bodies) (title_of (k (Some (length q.body)))) a f') (simp append_assoc))
 
   -- up to a fault in the next body
   pub body_begun : (l₀ l l' : Option (List ℕ)) (i j n : ℕ) (stage stage' : Stage) (bodies : List (List ℕ)) (len : ℕ) (w w₁ w₂ w' : Option (List ℕ)) → Held l₀ l i j stage bodies
@@ -196,8 +197,8 @@ module _ (k : Option ℕ → Header) (same : (o p : Option ℕ) → k o ≡ k p 
           let f' : Appends w₁ w₂ (title_of (k (Some (length q.body)))) = subst (λ z. Appends w₁ w₂ (title_of (k (Some z)))) (sym q.full) f in
           let d : AppendsFront w₂ w' q.body = c q.body q.body (q.rest ++ after) (q.full, q.allowed, refl) (e ∙ ap (λ z. z ++ after) q.whole ∙ append_assoc q.body q.rest after) in
           subst (λ z. AppendsFront w w' (enc_pieces k (bodies ++ z) ++ 255 ∷ [])) (sym q.all)
-            (more_front bodies (q.body ∷ q.more) (enc_whole k q.body) (enc_pieces k q.more ++ 255 ∷ []) w w'
-              (then_front w w₁ w' (enc_pieces k bodies) (enc_whole k q.body) a (then_front w₁ w₂ w' (title_of (k (Some (length q.body)))) q.body f' d)) (append_assoc (enc_whole k q.body) (enc_pieces k q.more) (255 ∷ [])))
+          (more_front bodies (q.body ∷ q.more) (enc_whole k q.body) (enc_pieces k q.more ++ 255 ∷ []) w w'
+          (then_front w w₁ w' (enc_pieces k bodies) (enc_whole k q.body) a (then_front w₁ w₂ w' (title_of (k (Some (length q.body)))) q.body f' d)) (append_assoc (enc_whole k q.body) (enc_pieces k q.more) (255 ∷ [])))
 
   -- what a fault in the next body tells
   pub body_no : (l₀ l l' : Option (List ℕ)) (i j n : ℕ) (stage stage' : Stage) (bodies : List (List ℕ)) (len : ℕ) → Held l₀ l i j stage bodies

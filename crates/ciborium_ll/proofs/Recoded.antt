@@ -279,7 +279,7 @@ one_last _ _ b _ y no_copies q =
     subst (λ z. Copies 1 z y) (append-nil b) (subst (λ z. Copies 1 (b ++ []) z) (append-nil y) (copy_more 0 b [] y [] q no_copies))
 one_last _ _ b _ y (copy_more n c d s t p ps) q =
     subst (λ z. Copies (suc (suc n)) z ((s ++ t) ++ y)) (sym (append_assoc c d b))
-      (subst (λ z. Copies (suc (suc n)) (c ++ (d ++ b)) z) (sym (append_assoc s t y)) (copy_more (suc n) c (d ++ b) s (t ++ y) p (one_last n d b t y ps q)))
+    (subst (λ z. Copies (suc (suc n)) (c ++ (d ++ b)) z) (sym (append_assoc s t y)) (copy_more (suc n) c (d ++ b) s (t ++ y) p (one_last n d b t y ps q)))
 
 -- one more
 pub more_made : (n m : ℕ) → m ≡ suc n → (l l' l'' : Option (List ℕ)) (i j k : ℕ) (w w' w'' : Option (List ℕ)) → Makes (Copies n) l l' i j w w' → Makes Copy l' l'' j k w' w'' → Makes (Copies m) l l'' i k w w''

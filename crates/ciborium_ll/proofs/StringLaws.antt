@@ -42,8 +42,8 @@ pieces_framed : (most : ℕ) (value : List ℕ) (pieces : List (List ℕ)) → l
 pieces_framed most _ _ l no_piece = no_frames
 pieces_framed most _ _ l (piece_more p rest ps s m f g h) =
     frame_more (enc_whole Bytes p) (enc_pieces Bytes ps) (p ∷ []) ps
-      (whole (enc_whole Bytes p) p (title_of (Bytes (Some (length p)))) (title_of_is (Bytes (Some (length p))) (omega (arith, l, length-append p rest))) tt refl)
-      (pieces_framed most rest ps (omega (arith, l, length-append p rest)) h)
+    (whole (enc_whole Bytes p) p (title_of (Bytes (Some (length p)))) (title_of_is (Bytes (Some (length p))) (omega (arith, l, length-append p rest))) tt refl)
+    (pieces_framed most rest ps (omega (arith, l, length-append p rest)) h)
 
 whole_framed : (value : List ℕ) → length value < 2 ^ 64 → Frame Bytes Any (enc_whole Bytes value) (value ∷ [])
 whole_framed value l = whole (enc_whole Bytes value) value (title_of (Bytes (Some (length value)))) (title_of_is (Bytes (Some (length value))) l) tt refl
@@ -51,9 +51,12 @@ whole_framed value l = whole (enc_whole Bytes value) value (title_of (Bytes (Som
 pub bytes_framed : (limit : Option ℕ) (value xs : List ℕ) → length value < 2 ^ 64 → IsString Bytes FitBytes limit value xs → (bodies : List (List ℕ)) × Frame Bytes Any xs bodies × (joined bodies ≡ value)
 bytes_framed None value xs l e = (value ∷ [], subst (λ z. Frame Bytes Any z (value ∷ [])) (sym e) (whole_framed value l), append-nil value)
 bytes_framed (Some most) value xs l (inl (s, e)) = (value ∷ [], subst (λ z. Frame Bytes Any z (value ∷ [])) (sym e) (whole_framed value l), append-nil value)
-bytes_framed (Some most) value xs l (inr (s, (pieces, p, e))) =
-    (pieces, cut xs (enc_pieces Bytes pieces) (title_of (Bytes None)) pieces (title_of_is (Bytes None) tt) (pieces_framed most value pieces l p)
-      (e ∙ sym (append_assoc (title_of (Bytes None)) (enc_pieces Bytes pieces) (255 ∷ []))), pieces_joined FitBytes most value pieces p)
+bytes_framed (Some most) value xs l (inr (s, (pieces, p, e))) = (
+  pieces,
+  cut xs (enc_pieces Bytes pieces) (title_of (Bytes None)) pieces (title_of_is (Bytes None) tt) (pieces_framed most value pieces l p)
+      (e ∙ sym (append_assoc (title_of (Bytes None)) (enc_pieces Bytes pieces) (255 ∷ []))),
+  pieces_joined FitBytes most value pieces p,
+)
 
 pub string_once : (k : Option ℕ → Header) (Fit : List ℕ → ℕ → Type 0) (limit : Option ℕ) (value xs ys : List ℕ) → IsString k Fit limit value xs → IsString k Fit limit value ys → xs ≡ ys
 string_once k Fit None value xs ys p q = p ∙ sym q
@@ -134,17 +137,32 @@ module _ (k : Option ℕ → Header) (P : List ℕ → Type 0) where
   string_again a x (Some n, title, b, t, (l, p, e), f) =
       (Some n, title_of (k (Some n)), b, shortest_title (k (Some n)) title t, (l, p, e), e ∙ ap (λ (z : ℕ). title_of (k (Some z)) ++ b) l)
   string_again a x (None, title, b, t, (bodies, c, e), f) =
-      let w = closing_frames b bodies c in
-      (None, title_of (k None), enc_pieces k bodies ++ 255 ∷ [], shortest_title (k None) title t,
-       (bodies, (enc_pieces k bodies, [], bodies, [], frames_again w.0 bodies w.1, (refl, refl), refl, sym (append-nil bodies)), e), e)
+      let w = closing_frames b bodies c in (
+        None,
+        title_of (k None),
+        enc_pieces k bodies ++ 255 ∷ [],
+        shortest_title (k None) title t,
+        (bodies, (enc_pieces k bodies, [], bodies, [], frames_again w.0 bodies w.1, (refl, refl), refl, sym (append-nil bodies)), e),
+        e,
+      )
 
   string_least : (a x : List ℕ) → StringCopy k P a x → length x ≤ length a
   string_least a x (Some n, title, b, t, (l, p, e), f) =
       omega (arith, ap length e, ap length f, length-append title b, length-append (title_of (k (Some (length b)))) b, shortest_first title (k (Some (length b))) (subst (λ (z : ℕ). Title title (k (Some z))) (sym l) t))
   string_least a x (None, title, b, t, (bodies, c, e), f) =
       let w = closing_frames b bodies c in
-      omega (arith, ap length e, ap length f, ap length w.2, length-append title b, length-append w.0 (255 ∷ []), length-append (title_of (k None)) (enc_pieces k bodies ++ 255 ∷ []),
-        length-append (enc_pieces k bodies) (255 ∷ []), shortest_first title (k None) t, frames_least w.0 bodies w.1)
+      omega (
+        arith,
+        ap length e,
+        ap length f,
+        ap length w.2,
+        length-append title b,
+        length-append w.0 (255 ∷ []),
+        length-append (title_of (k None)) (enc_pieces k bodies ++ 255 ∷ []),
+        length-append (enc_pieces k bodies) (255 ∷ []),
+        shortest_first title (k None) t,
+        frames_least w.0 bodies w.1,
+      )
 
 copy_again : (a x : List ℕ) → Copy a x → Copy x x
 copy_again _ _ (one_head title h t f g) = one_head (title_of h) h (shortest_title h title t) f g

@@ -84,18 +84,19 @@ module _ (k : Option ℕ → Header) (same : (o p : Option ℕ) → k o ≡ k p 
   pub open_taken : (h : Header) → Takes mid left' pm place' (λ b. Title b h) → h ≡ k None → Takes left left' place place' (Passes k P old (Inside (depth + 1)))
   open_taken h s e = takes_then left mid left' place pm place' run s
       (λ a b p q. let q' : Title b (k None) = rw e at q in
-          let r : Passes k P old (Inside (suc (suc (depth - 1)))) (a ++ b) = passes_open k same unbroken P old a b (depth - 1) (at a p) q' in
-          let d : suc (suc (depth - 1)) ≡ depth + 1 = omega (arith, suc_of depth some) in
-          subst (λ (n : ℕ). Passes k P old (Inside n) (a ++ b)) d r)
+      let r : Passes k P old (Inside (suc (suc (depth - 1)))) (a ++ b) = passes_open k same unbroken P old a b (depth - 1) (at a p) q' in
+      let d : suc (suc (depth - 1)) ≡ depth + 1 = omega (arith, suc_of depth some) in
+      subst (λ (n : ℕ). Passes k P old (Inside n) (a ++ b)) d r)
 
   pub body_taken : (h : Header) (len : ℕ) → Takes mid left' pm place' (λ b. Title b h) → h ≡ k (Some len)
       → Takes left left' place place' (λ front. Reaches k P old len (Inside depth) front × StartsAt k place len pm front)
   body_taken h len s e = takes_then left mid left' place pm place' (record { bytes = run.bytes; has = (run.has, refl); taken = run.taken; grown = run.grown }) s
       (λ (a b : List ℕ) (p : Passes k P old (Inside depth) a × (a ≡ run.bytes)) (q : Title b h).
-          let q' : Title b (k (Some len)) = rw e at q in
-          let r : Reaches k P old len (Inside (suc (depth - 1))) (a ++ b) = reaches k same unbroken P old a b (depth - 1) len (at a p.0) q' in
-          (subst (λ (n : ℕ). Reaches k P old len (Inside n) (a ++ b)) (suc_of depth some) r,
-           inr (a, b, q', refl, run.grown ∙ ap (λ z. place + length z) (sym p.1))))
+      let q' : Title b (k (Some len)) = rw e at q in
+      let r : Reaches k P old len (Inside (suc (depth - 1))) (a ++ b) = reaches k same unbroken P old a b (depth - 1) len (at a p.0) q' in (
+        subst (λ (n : ℕ). Reaches k P old len (Inside n) (a ++ b)) (suc_of depth some) r,
+        inr (a, b, q', refl, run.grown ∙ ap (λ z. place + length z) (sym p.1)),
+      ))
 
   pub stray_taken : (h : Header) → Takes mid left' pm place' (λ b. Title b h) → h ≢ Break → ((o : Option ℕ) → h ≢ k o) → Takes left left' place place' (Strays k P old place pm)
   stray_taken h s b n = strays (record { bytes = s.bytes; has = inr (h, s.has, b, n); taken = s.taken; grown = s.grown })

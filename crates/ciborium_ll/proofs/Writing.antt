@@ -73,8 +73,10 @@ module _ (Fit : List ℕ → ℕ → Type 0) (most : ℕ) (k : Option ℕ → He
     where
       fit' : Fit (front ++ back) (length front)
       fit' = subst (λ (z : List ℕ). Fit z (length front)) e fit
+
       long' : (i : ℕ) → Fit (front ++ back) i → i ≤ most → i ≤ length front
       long' i f = long i (subst (λ (z : List ℕ). Fit z i) (sym e) f)
+
       next : (more : List (List ℕ)) → Pieces Fit most back more → Pieces Fit most rest (front ∷ more)
       next more p = subst (λ (z : List ℕ). Pieces Fit most z (front ∷ more)) (sym e) (piece_more front back more some small fit' long' p)
 
@@ -93,7 +95,7 @@ module _ (Fit : List ℕ → ℕ → Type 0) (most : ℕ) (k : Option ℕ → He
       let q = d.back all p in
       let r = next_piece Fit most rest front back q.0 (greedy rest front back e some small fit long) q.2 in
       let same : enc_pieces k d.done ++ (enc_whole k front ++ enc_pieces k r.0) ≡ enc_pieces k all
-          = sym (enc_pieces-append k d.done (front ∷ r.0)) ∙ ap (λ z. enc_pieces k (d.done ++ z)) (sym r.1) ∙ ap (enc_pieces k) (sym q.1) in
+      = sym (enc_pieces-append k d.done (front ∷ r.0)) ∙ ap (λ z. enc_pieces k (d.done ++ z)) (sym r.1) ∙ ap (enc_pieces k) (sym q.1) in
       front_as w w'' _ _ same (then_front w w' w'' (enc_pieces k d.done) (enc_whole k front ++ enc_pieces k r.0) d.wrote (front_then w' w'' (enc_whole k front) (enc_pieces k r.0) wrote))
 
   -- a limit that is there
@@ -104,9 +106,11 @@ module _ (Fit : List ℕ → ℕ → Type 0) (most : ℕ) (k : Option ℕ → He
       → (value : List ℕ) (w w' w'' w''' : Option (List ℕ)) → most < length value → Appends w w' (title_of (k None))
       → (all : (all : List (List ℕ)) × Pieces Fit most value all × Appends w' w'' (enc_pieces k all)) → Appends w'' w''' (255 ∷ [])
       → (xs : List ℕ) × IsString k Fit (at_least least limit) value xs × Appends w w''' xs
-  open_done limit least l is e value w w' w'' w''' long t all b =
-      (enc_open k all.0, subst (λ (z : Option ℕ). IsString k Fit z value (enc_open k all.0)) (sym (set limit least l is e)) (inr (long, (all.0, all.1, refl))),
-       Appends-trans w w' w''' (title_of (k None)) (enc_pieces k all.0 ++ (255 ∷ [])) t (Appends-trans w' w'' w''' (enc_pieces k all.0) (255 ∷ []) all.2 b))
+  open_done limit least l is e value w w' w'' w''' long t all b = (
+    enc_open k all.0,
+    subst (λ (z : Option ℕ). IsString k Fit z value (enc_open k all.0)) (sym (set limit least l is e)) (inr (long, (all.0, all.1, refl))),
+    Appends-trans w w' w''' (title_of (k None)) (enc_pieces k all.0 ++ (255 ∷ [])) t (Appends-trans w' w'' w''' (enc_pieces k all.0) (255 ∷ []) all.2 b),
+  )
 
   -- a beginning of an open string is one of each list that the value may be
   pub open_front : (limit : Option ℕ) (least l : ℕ) → limit ≡ Some l → most ≡ max l least

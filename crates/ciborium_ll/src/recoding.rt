@@ -32,7 +32,12 @@ pub enum RecodeError<E, F> {
 /// A kind of string whose bodies can be copied.
 trait CopyBody: StringKind {
     /// Copies a body of which nothing is read yet.
-    fn copy_body<R: Read, W: Write>(segments: &mut Segments<'_, R, Self>, body: &mut Body, encoder: &mut Encoder<W>, buffer: &mut [u8]) -> Result<(), RecodeError<R::Error, W::Error>>
+    fn copy_body<R: Read, W: Write>(
+        segments: &mut Segments<'_, R, Self>,
+        body: &mut Body,
+        encoder: &mut Encoder<W>,
+        buffer: &mut [u8],
+    ) -> Result<(), RecodeError<R::Error, W::Error>>
         requires room { 4 ≤ length buffer.old }
         requires fresh { waiting_of (decoder_of segments.old) ≡ None }
         requires unstuck { (p : ℕ) → stage_at segments.old ≢ Stuck p }
@@ -53,7 +58,12 @@ trait CopyBody: StringKind {
 impl CopyBody for Bytes {
     ghost use Rattle.ciborium_ll.specs.Framing.{Any};
 
-    fn copy_body<R: Read, W: Write>(segments: &mut Segments<'_, R, Bytes>, body: &mut Body, encoder: &mut Encoder<W>, buffer: &mut [u8]) -> Result<(), RecodeError<R::Error, W::Error>> {
+    fn copy_body<R: Read, W: Write>(
+        segments: &mut Segments<'_, R, Bytes>,
+        body: &mut Body,
+        encoder: &mut Encoder<W>,
+        buffer: &mut [u8],
+    ) -> Result<(), RecodeError<R::Error, W::Error>> {
         loop {
             match segments.piece(body, buffer) {
                 Ok(Some(piece)) => match encoder.write_all(piece) {
@@ -70,7 +80,12 @@ impl CopyBody for Bytes {
 impl CopyBody for Text {
     ghost use Rattle.std.specs.Str.{IsUtf8};
 
-    fn copy_body<R: Read, W: Write>(segments: &mut Segments<'_, R, Text>, body: &mut Body, encoder: &mut Encoder<W>, buffer: &mut [u8]) -> Result<(), RecodeError<R::Error, W::Error>> {
+    fn copy_body<R: Read, W: Write>(
+        segments: &mut Segments<'_, R, Text>,
+        body: &mut Body,
+        encoder: &mut Encoder<W>,
+        buffer: &mut [u8],
+    ) -> Result<(), RecodeError<R::Error, W::Error>> {
         loop {
             match segments.piece(body, buffer) {
                 Ok(Some(piece)) => match encoder.write_all(piece.as_bytes()) {
@@ -92,7 +107,12 @@ impl CopyBody for Text {
 /// # Errors
 /// `Read` with an end or `Syntax` only where what is left doesn't begin with so many heads and strings; `TooLong` where the
 /// offset could pass `usize::MAX`. `Write` with the writer's fault. A beginning of the copy was written then.
-pub fn recode<R: Read, W: Write>(decoder: &mut Decoder<R>, encoder: &mut Encoder<W>, count: usize, buffer: &mut [u8]) -> Result<(), RecodeError<R::Error, W::Error>>
+pub fn recode<R: Read, W: Write>(
+    decoder: &mut Decoder<R>,
+    encoder: &mut Encoder<W>,
+    count: usize,
+    buffer: &mut [u8],
+) -> Result<(), RecodeError<R::Error, W::Error>>
     requires room { 4 ≤ length buffer.old }
     ensures ok { OnOk result (Makes (Copies count) (left_of R.left decoder.old) (left_of R.left decoder.new) (offset_of decoder.old) (offset_of decoder.new)
         (W.written (writer_of encoder.old)) (W.written (writer_of encoder.new))) }
@@ -113,7 +133,11 @@ pub fn recode<R: Read, W: Write>(decoder: &mut Decoder<R>, encoder: &mut Encoder
 }
 
 /// Copies one head, or one string.
-fn copy_one<R: Read, W: Write>(decoder: &mut Decoder<R>, encoder: &mut Encoder<W>, buffer: &mut [u8]) -> Result<(), RecodeError<R::Error, W::Error>>
+fn copy_one<R: Read, W: Write>(
+    decoder: &mut Decoder<R>,
+    encoder: &mut Encoder<W>,
+    buffer: &mut [u8],
+) -> Result<(), RecodeError<R::Error, W::Error>>
     requires room { 4 ≤ length buffer.old }
     ensures ok { OnOk result (Makes Copy (left_of R.left decoder.old) (left_of R.left decoder.new) (offset_of decoder.old) (offset_of decoder.new)
         (W.written (writer_of encoder.old)) (W.written (writer_of encoder.new))) }
@@ -139,7 +163,12 @@ fn copy_one<R: Read, W: Write>(decoder: &mut Decoder<R>, encoder: &mut Encoder<W
 }
 
 /// Copies a string behind its head.
-fn copy_string<R: Read, W: Write, P: CopyBody>(decoder: &mut Decoder<R>, encoder: &mut Encoder<W>, len: Option<usize>, buffer: &mut [u8]) -> Result<(), RecodeError<R::Error, W::Error>>
+fn copy_string<R: Read, W: Write, P: CopyBody>(
+    decoder: &mut Decoder<R>,
+    encoder: &mut Encoder<W>,
+    len: Option<usize>,
+    buffer: &mut [u8],
+) -> Result<(), RecodeError<R::Error, W::Error>>
     requires room { 4 ≤ length buffer.old }
     requires fresh { waiting_of decoder.old ≡ None }
     ensures ok { OnOk result (Makes (RestCopy P.titled P.allows len) (left_of R.left decoder.old) (left_of R.left decoder.new) (offset_of decoder.old) (offset_of decoder.new)
@@ -162,7 +191,12 @@ fn copy_string<R: Read, W: Write, P: CopyBody>(decoder: &mut Decoder<R>, encoder
 }
 
 /// Copies the body of a definite string.
-fn copy_whole<R: Read, W: Write, P: CopyBody>(decoder: &mut Decoder<R>, encoder: &mut Encoder<W>, len: usize, buffer: &mut [u8]) -> Result<(), RecodeError<R::Error, W::Error>>
+fn copy_whole<R: Read, W: Write, P: CopyBody>(
+    decoder: &mut Decoder<R>,
+    encoder: &mut Encoder<W>,
+    len: usize,
+    buffer: &mut [u8],
+) -> Result<(), RecodeError<R::Error, W::Error>>
     requires room { 4 ≤ length buffer.old }
     requires fresh { waiting_of decoder.old ≡ None }
     ensures ok { OnOk result (Makes (BodyCopy P.allows len) (left_of R.left decoder.old) (left_of R.left decoder.new) (offset_of decoder.old) (offset_of decoder.new)
@@ -180,7 +214,11 @@ fn copy_whole<R: Read, W: Write, P: CopyBody>(decoder: &mut Decoder<R>, encoder:
 }
 
 /// Copies the bodies of an open string, and its break.
-fn copy_opened<R: Read, W: Write, P: CopyBody>(decoder: &mut Decoder<R>, encoder: &mut Encoder<W>, buffer: &mut [u8]) -> Result<(), RecodeError<R::Error, W::Error>>
+fn copy_opened<R: Read, W: Write, P: CopyBody>(
+    decoder: &mut Decoder<R>,
+    encoder: &mut Encoder<W>,
+    buffer: &mut [u8],
+) -> Result<(), RecodeError<R::Error, W::Error>>
     requires room { 4 ≤ length buffer.old }
     requires fresh { waiting_of decoder.old ≡ None }
     ensures ok { OnOk result (Makes (BodiesCopy P.titled P.allows) (left_of R.left decoder.old) (left_of R.left decoder.new) (offset_of decoder.old) (offset_of decoder.new)

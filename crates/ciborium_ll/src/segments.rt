@@ -84,7 +84,7 @@ impl<'r, R: Read, P: StringKind> Segments<'r, R, P> {
         ensures same_reference { name_of self.new ≡ name_of self.old }
         ensures some { IfOk result (λ o. IfSome o (λ body. (saved_of body ≡ []) × Takes (left_at R.left self.old) (left_at R.left self.new) (place_at self.old) (place_at self.new)
             (λ front. Reaches P.titled P.allows (stage_at self.old) (unread_of body) (stage_at self.new) front
-                × StartsAt P.titled (place_at self.old) (unread_of body) (start_of body) front))) }
+            × StartsAt P.titled (place_at self.old) (unread_of body) (start_of body) front))) }
         ensures none { IfOk result (λ o. IfNone o ((stage_at self.new ≡ Inside 0) × Takes (left_at R.left self.old) (left_at R.left self.new) (place_at self.old) (place_at self.new)
             (λ b. Rest P.titled P.allows (stage_at self.old) b []))) }
         ensures fault { IfErr result (StageTells R.ends P.titled P.allows (stage_at self.old) (stage_at self.new) (left_at R.left self.old) (left_at R.left self.new) (place_at self.old) (place_at self.new)) }
@@ -108,7 +108,7 @@ impl<'r, R: Read, P: StringKind> Segments<'r, R, P> {
         ensures same_reference { IfSegment result (λ s. (s.segments.ghost_name ≡ self.entry.ghost_name) × (name_of s.segments.now ≡ name_of self.old)) }
         ensures some { IfSegment result (λ s. (saved_of s.body ≡ []) × Takes (left_at R.left self.old) (left_at R.left s.segments.now) (place_at self.old) (place_at s.segments.now)
             (λ front. Reaches P.titled P.allows (stage_at self.old) (unread_of s.body) (stage_at s.segments.now) front
-                × StartsAt P.titled (place_at self.old) (unread_of s.body) (start_of s.body) front)) }
+            × StartsAt P.titled (place_at self.old) (unread_of s.body) (start_of s.body) front)) }
         ensures none { IfNoSegment result ((left : Option (List ℕ)) × (place : ℕ) × Takes (left_at R.left self.old) left (place_at self.old) place
             (λ b. Rest P.titled P.allows (stage_at self.old) b [])) }
         ensures fault { IfFault result (λ e. (stage : Stage) × (left : Option (List ℕ)) × (place : ℕ)
@@ -137,7 +137,11 @@ impl<'r, R: Read> Segments<'r, R, Bytes> {
     ///
     /// # Errors
     /// Those of `Decoder::read_exact`; the body stays as it is.
-    pub fn piece<'a>(&mut self, body: &mut Body, buffer: &'a mut [u8]) -> Result<Option<&'a [u8]>, Error<R::Error>>
+    pub fn piece<'a>(
+        &mut self,
+        body: &mut Body,
+        buffer: &'a mut [u8],
+    ) -> Result<Option<&'a [u8]>, Error<R::Error>>
         ensures same_decoder { name_of self.new ≡ name_of self.old }
         ensures stage { stage_at self.new ≡ stage_at self.old }
         ensures some { IfOk result (λ o. IfSome o (λ piece. (0 < unread_of body.old) × (length piece.now ≡ min (length buffer.old) (unread_of body.old))
@@ -213,7 +217,11 @@ impl<'r, R: Read> Segments<'r, R, Text> {
     /// # Errors
     /// `Syntax` with the segment's place where the body is no UTF-8, and then always. Those of `Decoder::read_exact`; the
     /// body stays as it is then.
-    pub fn piece<'a>(&mut self, body: &mut Body, buffer: &'a mut [u8]) -> Result<Option<&'a str>, Error<R::Error>>
+    pub fn piece<'a>(
+        &mut self,
+        body: &mut Body,
+        buffer: &'a mut [u8],
+    ) -> Result<Option<&'a str>, Error<R::Error>>
         ensures same_decoder { name_of self.new ≡ name_of self.old }
         ensures start { start_of body.new ≡ start_of body.old }
         ensures some { IfOk result (λ o. IfSome o (λ piece. (stage_at self.new ≡ stage_at self.old) × Takes (left_at R.left self.old) (left_at R.left self.new) (place_at self.old) (place_at self.new)
@@ -268,7 +276,7 @@ impl<'s, 'r, R: Read> Segment<'s, 'r, R, Text> {
         ensures start { start_of self.new.body ≡ start_of self.old.body }
         ensures some { IfOk result (λ o. IfSome o (λ piece. (stage_at self.new.segments.now ≡ stage_at self.old.segments.now)
             × Takes (left_at R.left self.old.segments.now) (left_at R.left self.new.segments.now) (place_at self.old.segments.now) (place_at self.new.segments.now)
-                (IsPart self.old.body self.new.body piece.now))) }
+            (IsPart self.old.body self.new.body piece.now))) }
         ensures long { IfOk result (λ o. IfSome o (λ piece. 4 ≤ length buffer.old → (0 < length piece.now) × (min (length buffer.old) (bytes_of self.old.body) ≤ length piece.now + 3))) }
         ensures none { IfOk result (λ o. IfNone o ((bytes_of self.old.body ≡ 0) × (self.new ≡ self.old))) }
         ensures fault { IfErr result (TextTells R.ends self.old.body self.new.body (length buffer.old) (stage_at self.old.segments.now) (stage_at self.new.segments.now)

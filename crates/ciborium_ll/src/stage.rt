@@ -37,7 +37,10 @@ impl Stage {
 }
 
 /// Goes on to the next body.
-pub(crate) fn next_body<R: Read, P: StringKind>(decoder: &mut Decoder<R>, stage: &mut Stage) -> Result<Option<Body>, Error<R::Error>>
+pub(crate) fn next_body<R: Read, P: StringKind>(
+    decoder: &mut Decoder<R>,
+    stage: &mut Stage,
+) -> Result<Option<Body>, Error<R::Error>>
     ensures some { IfOk result (λ o. IfSome o (λ body. (saved_of body ≡ []) × Takes (left_of R.left decoder.old) (left_of R.left decoder.new) (offset_of decoder.old) (offset_of decoder.new)
         (λ front. Reaches P.titled P.allows stage.old (unread_of body) stage.new front × StartsAt P.titled (offset_of decoder.old) (unread_of body) (start_of body) front))) }
     ensures none { IfOk result (λ o. IfNone o ((stage.new ≡ Inside 0) × Takes (left_of R.left decoder.old) (left_of R.left decoder.new) (offset_of decoder.old) (offset_of decoder.new)
@@ -68,7 +71,11 @@ pub(crate) fn next_body<R: Read, P: StringKind>(decoder: &mut Decoder<R>, stage:
 }
 
 /// Goes through heads up to the next body.
-fn find_body<R: Read, P: StringKind>(decoder: &mut Decoder<R>, stage: &mut Stage, depth: usize) -> Result<Option<Body>, Error<R::Error>>
+fn find_body<R: Read, P: StringKind>(
+    decoder: &mut Decoder<R>,
+    stage: &mut Stage,
+    depth: usize,
+) -> Result<Option<Body>, Error<R::Error>>
     requires some { 0 < depth }
     requires inside { stage.old ≡ Inside depth }
     ensures some { IfOk result (λ o. IfSome o (λ body. (saved_of body ≡ []) × Takes (left_of R.left decoder.old) (left_of R.left decoder.new) (offset_of decoder.old) (offset_of decoder.new)

@@ -12,7 +12,11 @@ use crate::read::Read;
 use std::str;
 
 /// Puts the saved bytes and as many new ones as fit to the front of the buffer, and gives their count.
-pub(crate) fn fill<R: Read>(decoder: &mut Decoder<R>, body: &mut Body, buffer: &mut [u8]) -> Result<usize, Error<R::Error>>
+pub(crate) fn fill<R: Read>(
+    decoder: &mut Decoder<R>,
+    body: &mut Body,
+    buffer: &mut [u8],
+) -> Result<usize, Error<R::Error>>
     requires { 4 ≤ length buffer.old }
     ensures count { IfOk result (λ n. n ≡ min (length buffer.old) (length (saved_of body.old) + unread_of body.old)) }
     ensures saved { IfOk result (λ n. saved_of body.new ≡ []) }

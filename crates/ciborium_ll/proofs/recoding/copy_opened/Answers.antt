@@ -48,9 +48,11 @@ loop-body-preserved g c =
     record {
       same_decoder = search rules;
       fresh = search rules;
-      held = (h.0 ++ (b.0 ∷ []),
-          rw c.in-Ok-copy_body.ensures.stage (held_more g.P.StringKind.titled g.P.StringKind.same g.P.StringKind.unbroken g.P.StringKind.allows _ _ _ _ _ _ _ _ _ _ h.0 b.0 _ h.1 (takes_as _ _ _ _ t (λ x p. p.0)) b.1 b.2 b.3),
-          wrote_body g.P.StringKind.titled g.P.StringKind.same g.P.StringKind.unbroken g.P.StringKind.allows h.0 b.0 (unread_of c.in-Ok-Some.body) _ _ _ _ b.1 h.2 (rw c.header.ensures at c.in-Ok.ensures.ok) b.4);
+      held = (
+        h.0 ++ (b.0 ∷ []),
+        rw c.in-Ok-copy_body.ensures.stage (held_more g.P.StringKind.titled g.P.StringKind.same g.P.StringKind.unbroken g.P.StringKind.allows _ _ _ _ _ _ _ _ _ _ h.0 b.0 _ h.1 (takes_as _ _ _ _ t (λ x p. p.0)) b.1 b.2 b.3),
+        wrote_body g.P.StringKind.titled g.P.StringKind.same g.P.StringKind.unbroken g.P.StringKind.allows h.0 b.0 (unread_of c.in-Ok-Some.body) _ _ _ _ b.1 h.2 (rw c.header.ensures at c.in-Ok.ensures.ok) b.4,
+      );
       room = rw c.in-Ok-copy_body.ensures.stage (omega (arith, c.loop-body.invariant.room, c.advance.ensures.room, b.3.grown));
       reader = search rules;
       writer = search rules;

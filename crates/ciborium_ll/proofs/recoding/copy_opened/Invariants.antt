@@ -14,7 +14,7 @@ invariant-loop-body g l = record {
   fresh : waiting_of (decoder_of l.segments) ≡ None;
   held : (bodies : List (List ℕ))
       × Takes (left_of g.R.Read.left l.fn.decoder) (left_at g.R.Read.left l.segments) (offset_of l.fn.decoder) (place_at l.segments)
-          (λ front. Leads (Closing g.P.StringKind.titled g.P.StringKind.allows 1) (Rest g.P.StringKind.titled g.P.StringKind.allows (stage_at l.segments)) front bodies)
+      (λ front. Leads (Closing g.P.StringKind.titled g.P.StringKind.allows 1) (Rest g.P.StringKind.titled g.P.StringKind.allows (stage_at l.segments)) front bodies)
       × Appends (g.W.Write.written (writer_of l.fn.encoder)) (g.W.Write.written (writer_of l.encoder)) (enc_pieces g.P.StringKind.titled bodies);
   room : opens (stage_at l.segments) + offset_of l.fn.decoder ≤ 1 + place_at l.segments;
   reader : failed_at g.R.Read.failed l.segments ≡ g.R.Read.failed (reader_of l.fn.decoder);

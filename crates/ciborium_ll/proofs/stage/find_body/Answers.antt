@@ -42,8 +42,11 @@ returns-in-None g c = record {
 
 pub returns-in-Some-Some : goal.returns-in-Some-Some
 returns-in-Some-Some g c = record {
-  some = (c.new.ensures.saved, rw (c.new.ensures.unread, c.new.ensures.start, c.offset-place.ensures)
-      (body_taken _ g.P.StringKind.same g.P.StringKind.unbroken _ _ _ _ _ _ _ _ _ c.loop-depth-test.true c.loop-depth.invariant.took _ _ c.in-Ok.ensures.ok (c.in-Some-Some.ensures.some ∙ ap g.P.StringKind.titled c.in-Some-Some.field-0-is)));
+  some = (
+    c.new.ensures.saved,
+    rw (c.new.ensures.unread, c.new.ensures.start, c.offset-place.ensures)
+        (body_taken _ g.P.StringKind.same g.P.StringKind.unbroken _ _ _ _ _ _ _ _ _ c.loop-depth-test.true c.loop-depth.invariant.took _ _ c.in-Ok.ensures.ok (c.in-Some-Some.ensures.some ∙ ap g.P.StringKind.titled c.in-Some-Some.field-0-is)),
+  );
   none = tt;
   fault = tt;
   moved = moved_on _ _ _ _ _ _ c.loop-depth.invariant.took _ c.in-Ok.ensures.ok _ _ c.offset-place.result c.offset-place.ensures (search rules) c.requires.inside;

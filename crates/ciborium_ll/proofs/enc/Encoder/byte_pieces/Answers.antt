@@ -22,8 +22,8 @@ returns-in_err-whole_bytes-clause-err g c =
     let front = c.split_at.result.0.now in
     let e : length front ≡ c.min.result = search rules in
     at_err _ _ (done_front FitBytes c.args.most Bytes _ _ front _ _ _ _ c.loop-rest.invariant.done c.split_at.ensures.by_index.0
-        (omega (arith, c.min.ensures, c.loop-rest-test.true)) (omega (arith, c.min.ensures)) (omega (arith, c.min.ensures))
-        (λ i f m. omega (arith, c.min.ensures)) c.in_err-whole_bytes.ensures.err)
+    (omega (arith, c.min.ensures, c.loop-rest-test.true)) (omega (arith, c.min.ensures)) (omega (arith, c.min.ensures))
+    (λ i f m. omega (arith, c.min.ensures)) c.in_err-whole_bytes.ensures.err)
 
 pub returns-clause-ok : goal.returns-clause-ok
 returns-clause-ok g c = all_done FitBytes c.args.most Bytes _ _ _ _ c.loop-rest-test.false c.loop-rest.invariant.done

@@ -24,7 +24,7 @@ returns-in_err-whole_text-clause-err g c =
     let e : length front ≡ c.first_len.result = search rules in
     let n = c.first_len.ensures in
     at_err _ _ (done_front IsCharBoundary c.args.most Text _ _ front _ _ _ _ c.loop-rest.invariant.done (split_seam _ _ _ _ c.split_at.ensures.front c.split_at.ensures.back)
-        (omega (arith, n.some)) (omega (arith, n.within)) (rw e n.boundary) (λ i f m. rw e (n.longest i f m)) c.in_err-whole_text.ensures.err)
+    (omega (arith, n.some)) (omega (arith, n.within)) (rw e n.boundary) (λ i f m. rw e (n.longest i f m)) c.in_err-whole_text.ensures.err)
 
 pub returns-clause-ok : goal.returns-clause-ok
 returns-clause-ok g c = all_done IsCharBoundary c.args.most Text _ _ _ _ c.loop-rest-test.false c.loop-rest.invariant.done

@@ -15,8 +15,12 @@ loop-piece-preserved g c =
       same_decoder = search rules;
       fresh = search rules;
       stage = search rules;
-      body = (b.0 ++ piece, omega (arith, s.2, b.1, length-append b.0 piece), takes_then _ _ _ _ _ _ b.2 s.3 (λ x y p q. rw (p, q) refl),
-          Appends-trans _ _ _ _ _ b.3 c.in-Ok.ensures.ok);
+      body = (
+        b.0 ++ piece,
+        omega (arith, s.2, b.1, length-append b.0 piece),
+        takes_then _ _ _ _ _ _ b.2 s.3 (λ x y p q. rw (p, q) refl),
+        Appends-trans _ _ _ _ _ b.3 c.in-Ok.ensures.ok,
+      );
       reader = search rules;
       writer = search rules;
       kept = search rules;
@@ -28,7 +32,7 @@ returns-in-Err-write_all-clause-begun g c =
     let b = c.loop-piece.invariant.body in
     let piece = c.in-Ok-Some.piece.now in
     begun_all Any _ _ _ _ _ (b.0 ++ piece) _ _ (takes_then _ _ _ _ _ _ b.2 s.3 (λ x y p q. rw (p, q) refl))
-      (omega (arith, s.2, b.1, length-append b.0 piece)) (then_front _ _ _ b.0 piece b.3 c.in-Err-write_all.ensures.err)
+    (omega (arith, s.2, b.1, length-append b.0 piece)) (then_front _ _ _ b.0 piece b.3 c.in-Err-write_all.ensures.err)
 
 pub returns-in-Err-clause-fault : goal.returns-in-Err-clause-fault
 returns-in-Err-clause-fault g c =

@@ -17,9 +17,13 @@ loop-piece-preserved g c =
       same_decoder = search rules;
       fresh = search rules;
       stage = search rules;
-      body = (b.0 ++ piece, IsUtf8-append b.0 piece b.1 (subst IsUtf8 same c.as_bytes.ensures.utf8), text_more c.loop-piece.body c.piece.new.body b.0 piece _ _ s.1.has b.2,
-          takes_then _ _ _ _ _ _ b.3 s.1 (λ x y p q. text_seam c.loop-piece.body c.piece.new.body b.0 piece x y p q),
-          Appends-trans _ _ _ _ _ b.4 (appends_as _ _ _ _ same c.in-Ok.ensures.ok));
+      body = (
+        b.0 ++ piece,
+        IsUtf8-append b.0 piece b.1 (subst IsUtf8 same c.as_bytes.ensures.utf8),
+        text_more c.loop-piece.body c.piece.new.body b.0 piece _ _ s.1.has b.2,
+        takes_then _ _ _ _ _ _ b.3 s.1 (λ x y p q. text_seam c.loop-piece.body c.piece.new.body b.0 piece x y p q),
+        Appends-trans _ _ _ _ _ b.4 (appends_as _ _ _ _ same c.in-Ok.ensures.ok),
+      );
       reader = search rules;
       writer = search rules;
       kept = search rules;
@@ -38,13 +42,13 @@ returns-in-Err-write_all-clause-begun g c =
     let piece = c.in-Ok-Some.piece.now in
     let n = text_more c.loop-piece.body c.piece.new.body b.0 piece _ _ s.1.has b.2 in
     begun_body IsUtf8 _ _ _ _ _ (b.0 ++ piece) _ _ _ (takes_then _ _ _ _ _ _ b.3 s.1 (λ x y p q. text_seam c.loop-piece.body c.piece.new.body b.0 piece x y p q))
-      (omega (arith, n)) (then_front _ _ _ b.0 piece b.4 (front_as _ _ _ _ c.as_bytes.ensures.value c.in-Err-write_all.ensures.err))
+    (omega (arith, n)) (then_front _ _ _ b.0 piece b.4 (front_as _ _ _ _ c.as_bytes.ensures.value c.in-Err-write_all.ensures.err))
 
 pub returns-in-Err-clause-fault : goal.returns-in-Err-clause-fault
 returns-in-Err-clause-fault g c =
     let b = c.loop-piece.invariant.body in
     text_tell g.row.W-Error.Denot g.R.Read.ends c.in-Err.e _ _ _ _ _ _ _ _ _ _ _ _ _ b.0 _ b.3 b.1 b.2 c.loop-piece.auto.buffer (λ w. w.0 c.loop-piece.invariant.fresh)
-      (λ p e. c.requires.unstuck p (sym c.loop-piece.invariant.stage ∙ e)) c.in-Err.ensures.fault
+    (λ p e. c.requires.unstuck p (sym c.loop-piece.invariant.stage ∙ e)) c.in-Err.ensures.fault
 
 pub returns-in-Err-clause-begun : goal.returns-in-Err-clause-begun
 returns-in-Err-clause-begun g c =
