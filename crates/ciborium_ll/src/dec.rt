@@ -2,6 +2,7 @@
 ghost use Rattle.std.specs.Prelude.{◌≡◌, ◌≢◌, ◌<◌, ◌≤◌, ◌+◌, ◌-◌, ◌^◌, ◌∷◌, [], ℕ, List, ⊤, OnOk, OnErr, IfOk, IfErr, IfSome, IfNone, is_some, length, slice_index_or};
 ghost use Rattle.std.specs.Io.KnownBytes.{Consumes, Keeps, prepend_known};
 ghost use Rattle.ciborium_ll.specs.Device.{IsShort};
+ghost use Rattle.ciborium_ll.specs.declared.hdr.Header.{Header};
 ghost use Rattle.ciborium_ll.specs.declared.hdr.Error.TheVariants.{Waiting};
 ghost use Rattle.ciborium_ll.specs.Title.{Title, NumberAt, title_of, first_byte, bytes_after, IsBadFirst};
 ghost use Rattle.ciborium_ll.specs.Reading.{Takes, Tells, RawFault, Ends, IsBadByte, failures, waiting_title, due, place};
@@ -114,6 +115,7 @@ impl<R: Read> Decoder<R> {
             (2 ^ 64 ≤ offset_of self.old + 9)) }
         ensures within { IfOk result (λ h. length (title_of h) ≤ offset_of self.new) }
         ensures grows { offset_of self.old ≤ offset_of self.new }
+        ensures waited { (h : Header) → waiting_of self.old ≡ Some h → (result ≡ Ok h) × (reader_of self.new ≡ reader_of self.old) × (offset_of self.new ≡ offset_of self.old + length (title_of h)) }
         ensures fits { offset_of self.new < 2 ^ 64 }
         ensures failed { R.failed (reader_of self.new) ≡ failures R.ends result (R.failed (reader_of self.old)) }
         ensures kept { R.handle (reader_of self.new) ≡ R.handle (reader_of self.old) }
