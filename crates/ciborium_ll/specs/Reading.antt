@@ -27,6 +27,14 @@ RawFault ends short long waits (Syntax p) = ⊥
 RawFault ends short long waits TooLong = long
 RawFault ends short long waits Waiting = waits
 
+-- Q holds where the answer is that the offset would grow too large
+abbrev pub IfTooLong : {T E : Type 0} → Result T (Error E) → Type 0 → Type 0
+IfTooLong (Ok x) Q = Unit {0}
+IfTooLong (Err (Io e)) Q = Unit {0}
+IfTooLong (Err (Syntax p)) Q = Unit {0}
+IfTooLong (Err TooLong) Q = Q
+IfTooLong (Err Waiting) Q = Unit {0}
+
 -- how often the reader has failed after this answer
 abbrev pub fault_failures : {E : Type 0} → (E → Bool) → Error E → ℕ → ℕ
 fault_failures ends (Io e) n = if ends e then n else n + 1

@@ -5,7 +5,7 @@ ghost use Rattle.ciborium_ll.specs.Device.{IsShort};
 ghost use Rattle.ciborium_ll.specs.declared.hdr.Header.{Header};
 ghost use Rattle.ciborium_ll.specs.declared.hdr.Error.TheVariants.{Waiting};
 ghost use Rattle.ciborium_ll.specs.Title.{Title, NumberAt, title_of, first_byte, bytes_after, IsBadFirst};
-ghost use Rattle.ciborium_ll.specs.Reading.{Takes, Tells, RawFault, Ends, IsBadByte, failures, waiting_title, due, place};
+ghost use Rattle.ciborium_ll.specs.Reading.{Takes, Tells, RawFault, IfTooLong, Ends, IsBadByte, failures, waiting_title, due, place};
 
 use crate::hdr::{Error, Float, Header};
 use crate::laws::header_fits;
@@ -49,6 +49,7 @@ impl<R: Read> Decoder<R> {
         ensures fault { IfErr result (Tells R.ends (IsShort (R.left self.old.reader) (length «data».old)) (λ p. ⊥) (2 ^ 64 ≤ self.old.read + length «data».old)) }
         ensures one { IfErr result (Tells R.ends (length «data».old ≡ 1 → Keeps (R.left self.old.reader) (R.left self.new.reader)) (λ p. ⊥) ⊤) }
         ensures place { OnErr result (self.new.read ≡ self.old.read) }
+        ensures untouched { IfTooLong result (self.new.reader ≡ self.old.reader) }
         ensures failed { R.failed self.new.reader ≡ failures R.ends result (R.failed self.old.reader) }
         ensures kept { R.handle self.new.reader ≡ R.handle self.old.reader }
         ensures fresh { self.new.waiting ≡ None }
@@ -141,6 +142,7 @@ impl<R: Read> Decoder<R> {
             ((waiting_of self.old ≢ None) × (waiting_of self.new ≡ waiting_of self.old) × (reader_of self.new ≡ reader_of self.old) × («data».new ≡ «data».old))) }
         ensures waiting { waiting_of self.old ≢ None → result ≡ Err Waiting }
         ensures place { OnErr result (offset_of self.new ≡ offset_of self.old) }
+        ensures untouched { IfTooLong result (reader_of self.new ≡ reader_of self.old) }
         ensures fits { offset_of self.new < 2 ^ 64 }
         ensures failed { R.failed (reader_of self.new) ≡ failures R.ends result (R.failed (reader_of self.old)) }
         ensures kept { R.handle (reader_of self.new) ≡ R.handle (reader_of self.old) }
