@@ -7,6 +7,7 @@ use Rattle.std.proofs.lemmas.Grind.{flat_map-append}
 use Rattle.std.proofs.lemmas.List.{take-append-drop, take_all}
 use Rattle.std.proofs.Math.Seq.{take-append-add, drop-cons}
 use Rattle.ciborium_ll.specs.Device.{AppendsFront}
+use Rattle.ciborium_ll.proofs.Appending.{front_then, then_front, front_as, appends_as, on_err_then, on_err_as}
 use Rattle.ciborium_ll.specs.declared.hdr.Header.TheVariants.{Array, Map, Tag}
 use Rattle.ciborium_ll.specs.Title.{title_of}
 use Rattle.ciborium_value.specs.Tree.{tree_count, pair_count}
@@ -16,26 +17,6 @@ use Rattle.ciborium_value.specs.declared.value.Value.{Value}
 use Rattle.ciborium_value.specs.declared.value.Value.TheVariants as code
 use Rattle.ciborium_value.proofs.Fitting.{count_items, count_entries}
 use Rattle.ciborium_value.proofs.Views.{view_array, view_map, view_tag}
-
--- a beginning of the first part is a beginning of the whole
-front_of : (n : ℕ) (a b : List ℕ) → (m : ℕ) × (take n a ≡ take m (a ++ b))
-front_of zero a b = (0, refl)
-front_of (suc n) [] b = (0, refl)
-front_of (suc n) (x ∷ a) b = let r = front_of n a b in (suc r.0, ap (λ z. x ∷ z) r.1)
-
-pub front_then : (old new : Option (List ℕ)) (a b : List ℕ) → AppendsFront old new a → AppendsFront old new (a ++ b)
-front_then old new a b p = let r = front_of p.0 a b in (r.0, subst (λ z. Appends old new z) r.1 p.1)
-
--- the whole first part, and a beginning of the second
-pub then_front : (old mid new : Option (List ℕ)) (a b : List ℕ) → Appends old mid a → AppendsFront mid new b → AppendsFront old new (a ++ b)
-then_front old mid new a b p q =
-    (length a + q.0, subst (λ z. Appends old new z) (sym (take-append-add a b q.0)) (Appends-trans old mid new a (take q.0 b) p q.1))
-
-pub appends_as : (old new : Option (List ℕ)) (a b : List ℕ) → a ≡ b → Appends old new a → Appends old new b
-appends_as old new a b e p = subst (λ z. Appends old new z) e p
-
-pub front_as : (old new : Option (List ℕ)) (a b : List ℕ) → a ≡ b → AppendsFront old new a → AppendsFront old new b
-front_as old new a b e p = subst (λ z. AppendsFront old new z) e p
 
 -- a beginning of one more part
 pub part_begun : {V : Type 0} (f : V → List ℕ) (old mid new : Option (List ℕ)) (head : List ℕ) (xs : List V) (i : ℕ) (v : V) → i < length xs → v ≡ get_or xs i v
@@ -92,15 +73,8 @@ pub on_ok_then : {T E : Type 0} (r : Result T E) (old mid new : Option (List ℕ
 on_ok_then (Ok v) old mid new a b p q = Appends-trans old mid new a b p q
 on_ok_then (Err e) old mid new a b p q = tt
 
-pub on_err_then : {T E : Type 0} (r : Result T E) (old mid new : Option (List ℕ)) (a b : List ℕ) → Appends old mid a → OnErr r (AppendsFront mid new b) → OnErr r (AppendsFront old new (a ++ b))
-on_err_then (Ok v) old mid new a b p q = tt
-on_err_then (Err e) old mid new a b p q = then_front old mid new a b p q
-
 pub on_ok_as : {T E : Type 0} (r : Result T E) (old new : Option (List ℕ)) (a b : List ℕ) → a ≡ b → OnOk r (Appends old new a) → OnOk r (Appends old new b)
 on_ok_as r old new a b e p = subst (λ z. OnOk r (Appends old new z)) e p
-
-pub on_err_as : {T E : Type 0} (r : Result T E) (old new : Option (List ℕ)) (a b : List ℕ) → a ≡ b → OnErr r (AppendsFront old new a) → OnErr r (AppendsFront old new b)
-on_err_as r old new a b e p = subst (λ z. OnErr r (AppendsFront old new z)) e p
 
 pub tag_text : (a : Value) (n : ℕ) (b : Box Value Global) (v : Value) → a ≡ code.Tag n b → v ≡ b.value → title_of (Tag n) ++ enc (view v) ≡ enc (view a)
 tag_text a n b v e l = ap (λ z. title_of (Tag n) ++ enc (view z)) l ∙ sym (ap enc (ap view e ∙ view_tag n b))

@@ -165,11 +165,6 @@ module _ (k : Option ℕ → Header) (same : (o p : Option ℕ) → k o ≡ k p 
   advance_begun l₀ l i j stage bodies w w' h a = where_begun l₀ w w' (where_through _ _ l₀ l i j bodies _ h (where_all l _ _
       (λ more. more_front bodies more [] (enc_pieces k more ++ 255 ∷ []) w w' (front_as w w' _ _ (sym (append-nil (enc_pieces k bodies))) (whole_front w w' (enc_pieces k bodies) a)) refl)))
 
-  -- where a body is due
-  body_where : (l : Option (List ℕ)) (len : ℕ) (stage : Stage) (T : List (List ℕ) → Type 0)
-      → Where l (Parted k P len stage) T → Where l (Parted k P len stage) T
-  body_where l len stage T f = f
-
   -- up to a fault in the head of the next body
   pub head_begun : (l₀ l l' : Option (List ℕ)) (i j n : ℕ) (stage stage' : Stage) (bodies : List (List ℕ)) (len : ℕ) (w w₁ w' : Option (List ℕ)) → Held l₀ l i j stage bodies
       → Takes l l' j n (Reaches k P stage len stage') → Appends w w₁ (enc_pieces k bodies) → AppendsFront w₁ w' (title_of (k (Some len))) → Begun l₀ (BodiesCopy k P) w w'

@@ -54,9 +54,6 @@ module _ (Fit : List ℕ → ℕ → Type 0) (most : ℕ) (k : Option ℕ → He
     pub back : (all : List (List ℕ)) → Pieces Fit most value all → (more : List (List ℕ)) × (all ≡ done ++ more) × Pieces Fit most rest more
     pub wrote : Appends w w' (enc_pieces k done)
 
-  pub done_none : (value : List ℕ) (w : Option (List ℕ)) → Appends w w [] → Done value value w w
-  done_none value w a = record { done = []; there = λ more p. p; back = λ all p. (all, refl, p); wrote = a }
-
   greedy : (rest front back : List ℕ) → rest ≡ front ++ back → 0 < length front → length front ≤ most
       → Fit rest (length front) → ((i : ℕ) → Fit rest i → i ≤ most → i ≤ length front) → Greedy Fit most rest front back
   greedy rest front back e some small fit long = record { seam = e; some = some; small = small; fits = fit; long = long }

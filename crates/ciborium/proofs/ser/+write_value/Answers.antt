@@ -1,6 +1,7 @@
 use Rattle.std.proofs.Common.{length, refl, arith, rules}
 use Rattle.std.proofs.lemmas.Result.{err_from_is_err_and}
-use Rattle.ciborium.proofs.Written.{item_text, entry_text, front_then, then_front, front_as, appends_as, on_ok_then, on_err_then, part_begun, parts_written, array_text, map_text, tag_text, on_ok_as, on_err_as}
+use Rattle.ciborium_ll.proofs.Appending.{front_then, then_front, front_as, appends_as, on_err_then, on_err_as}
+use Rattle.ciborium.proofs.Written.{item_text, entry_text, on_ok_then, part_begun, parts_written, array_text, map_text, tag_text, on_ok_as}
 use Rattle.ciborium.proofs.ser.+write_value.Goals as goal
 
 pub returns-in_err-push-in-Tag-clause-err : goal.returns-in_err-push-in-Tag-clause-err

@@ -1,5 +1,5 @@
 use Rattle.std.proofs.lemmas.Result.{err_from_is_err_and}
-use Rattle.ciborium.proofs.Written.{front_then, on_err_then}
+use Rattle.ciborium_ll.proofs.Appending.{front_then, on_err_then}
 use Rattle.ciborium.proofs.ser.write_string.Goals as goal
 
 pub returns-in_err-push-clause-err : goal.returns-in_err-push-clause-err
