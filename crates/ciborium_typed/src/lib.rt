@@ -3,6 +3,7 @@
 
 pub mod de;
 mod error;
+pub mod laws;
 pub mod ser;
 mod simple;
 mod untagged;
