@@ -16,7 +16,10 @@ use crate::strings::{next_title, read_string};
 use crate::value::{Integer, Kind, Value};
 use ciborium_ll::{Decoder, Header, Read};
 use ciborium_value::fold_tag;
-use std::alloc::Global;
+use std::alloc::{AllocError, Global};
+
+/// A list begins with room for no more parts than this.
+const ROOM: usize = 8;
 
 /// The value of a simple value, where it is assigned (RFC 8949, section 3.3).
 fn simple(n: u8) -> Option<Value>
@@ -144,6 +147,18 @@ fn closes(count: Option<usize>, header: Header) -> bool
     }
 }
 
+/// An empty list with room for the first of the parts that a head claims. What it claims beyond that is not reserved.
+fn with_room<T>(alloc: Global, count: Option<usize>) -> Result<Vec<T>, AllocError>
+    ensures { IfOk result (λ v. v.items ≡ []) }
+{
+    let room = match count {
+        Some(n) if n < ROOM => n,
+        Some(_) => ROOM,
+        None => 0,
+    };
+    Vec::with_capacity(alloc, room)
+}
+
 /// The items of an array whose head has that length.
 #[cycle(reader)]
 fn read_items<R: Read>(
@@ -160,7 +175,9 @@ fn read_items<R: Read>(
     ensures kept { R.handle (reader_of decoder.new) ≡ R.handle (reader_of decoder.old) }
     ensures fresh { waiting_of decoder.new ≡ None }
 {
-    let mut items = Vec::new(alloc);
+    let Ok(mut items) = with_room(alloc, count) else {
+        return Err(Error::Memory);
+    };
     'items: loop {
         if all_read(count, items.len()) {
             return Ok(items);
@@ -192,7 +209,9 @@ fn read_pairs<R: Read>(
     ensures kept { R.handle (reader_of decoder.new) ≡ R.handle (reader_of decoder.old) }
     ensures fresh { waiting_of decoder.new ≡ None }
 {
-    let mut entries = Vec::new(alloc);
+    let Ok(mut entries) = with_room(alloc, count) else {
+        return Err(Error::Memory);
+    };
     'entries: loop {
         if all_read(count, entries.len()) {
             return Ok(entries);

@@ -28,7 +28,34 @@ pub fn next_title<R: Read>(decoder: &mut Decoder<R>) -> Result<(usize, Header), 
     Ok((at, header))
 }
 
-/// The next n bytes, in pieces of at most 4,096.
+/// So many bytes are asked for at a time, and no more of a length that a head claims is reserved.
+const PIECE: usize = 4096;
+
+/// The next bytes, so many, in one piece.
+fn read_piece<R: Read>(
+    decoder: &mut Decoder<R>,
+    size: usize,
+    into: &mut Vec<u8>,
+) -> Result<(), Error<R::Error>>
+    requires fresh { waiting_of decoder.old ≡ None }
+    requires small { size ≤ 4096 }
+    ensures ok { OnOk result (Takes (left_of R.left decoder.old) (left_of R.left decoder.new) (offset_of decoder.old) (offset_of decoder.new)
+        (λ b. (length b ≡ size) × (into.new.items ≡ into.old.items ++ b))) }
+    ensures err { IfErr result (λ e. Known (left_of R.left decoder.old) (λ b. Fails R.ends (offset_of decoder.old ≤ offset_of decoder.new)
+        (ShortBy size (offset_of decoder.old + length b) b) (IsLong (offset_of decoder.old) b) e)) }
+    ensures failed { R.failed (reader_of decoder.new) ≡ failures R.ends result (R.failed (reader_of decoder.old)) }
+    ensures kept { R.handle (reader_of decoder.new) ≡ R.handle (reader_of decoder.old) }
+    ensures fresh { waiting_of decoder.new ≡ None }
+{
+    let at = into.len();
+    let Ok(()) = into.resize(at + size, 0) else {
+        return Err(Error::Memory);
+    };
+    decoder.read_exact(&mut into[at..])?;
+    Ok(())
+}
+
+/// The next n bytes, in pieces.
 fn read_bytes<R: Read>(
     decoder: &mut Decoder<R>,
     n: usize,
@@ -43,15 +70,10 @@ fn read_bytes<R: Read>(
     ensures kept { R.handle (reader_of decoder.new) ≡ R.handle (reader_of decoder.old) }
     ensures fresh { waiting_of decoder.new ≡ None }
 {
-    let mut buffer = [0; 4096];
     let mut got = 0;
     'pieces: while got < n {
-        let size = if n - got < 4096 { n - got } else { 4096 };
-        let piece = &mut buffer[..size];
-        decoder.read_exact(piece)?;
-        let Ok(()) = into.extend_from_slice(piece) else {
-            return Err(Error::Memory);
-        };
+        let size = if n - got < PIECE { n - got } else { PIECE };
+        read_piece(decoder, size, into)?;
         got += size;
     }
     Ok(())

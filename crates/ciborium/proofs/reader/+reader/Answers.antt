@@ -80,7 +80,7 @@ pub read_item-returns-in-None-folded-clause-err : goal.read_item-returns-in-None
 read_item-returns-in-None-folded-clause-err g t c = rw c.in-Tag.is (negative_fails g.R.Read.ends c.in-Tag.n c.args.at c.args.limit _ _ _ _ _ (rw c.in-None-folded.is at c.in-Ok.ensures) c.in_ok-content-in-Tag.ensures.ok)
 
 pub read_items-items-init : goal.read_items-items-init
-read_items-items-init g t c = record { few = fits_start _ _ c.new-items.ensures.items; taken = takes_none _ _ _ (all_start view _ _ c.new-items.ensures.items); failed = refl; kept = refl; fresh = c.requires.fresh }
+read_items-items-init g t c = record { few = fits_start _ _ c.in-Ok.ensures; taken = takes_none _ _ _ (all_start view _ _ c.in-Ok.ensures); failed = refl; kept = refl; fresh = c.requires.fresh }
 
 pub read_items-returns-in_err-at-clause-err : goal.read_items-returns-in_err-at-clause-err
 read_items-returns-in_err-at-clause-err g t c =
@@ -99,7 +99,7 @@ read_items-returns-in_err-item-clause-err g t c =
     rw (p.1, p.2) (child_item_fails g.R.Read.ends _ _ _ _ _ _ _ _ _ _ (Array c.args.count) _ _ c.items.invariant.taken c.in_ok-at.ensures.ok c.in_ok-at.ensures.at (λ rest no. array_due _ _ _ rest (count_views view _) c.items.invariant.few full (λ n. λ r. no r (stays n))) c.in_err-item.ensures.err)
 
 pub read_pairs-entries-init : goal.read_pairs-entries-init
-read_pairs-entries-init g t c = record { few = fits_start _ _ c.new-entries.ensures.items; taken = takes_none _ _ _ (pairs_start view_pair _ _ c.new-entries.ensures.items); failed = refl; kept = refl; fresh = c.requires.fresh }
+read_pairs-entries-init g t c = record { few = fits_start _ _ c.in-Ok.ensures; taken = takes_none _ _ _ (pairs_start view_pair _ _ c.in-Ok.ensures); failed = refl; kept = refl; fresh = c.requires.fresh }
 
 pub read_pairs-returns-in_err-at-clause-err : goal.read_pairs-returns-in_err-at-clause-err
 read_pairs-returns-in_err-at-clause-err g t c =
@@ -120,7 +120,7 @@ read_pairs-returns-in_err-key-clause-err g t c =
 pub read_items-items-preserved : goal.read_items-items-preserved
 read_items-items-preserved g t c =
     let full = not_full _ _ _ _ (let k : c.len.result ≡ length c.items.items.items = omega (arith, c.len.ensures, c.items.items.ok.0) in k) c.all_read.ensures c.if-all_read.false in
-    record { few = fits_pushed _ _ _ _ c.in-Ok.ensures.items c.items.invariant.few full; taken = step_pushed view _ _ _ _ _ _ _ _ _ _ _ _ _ c.in-Ok.ensures.items c.items.invariant.taken c.in_ok-at.ensures.ok c.in_ok-item.ensures.ok; failed = search rules; kept = search rules; fresh = search rules }
+    record { few = fits_pushed _ _ _ _ c.in-Ok-push.ensures.items c.items.invariant.few full; taken = step_pushed view _ _ _ _ _ _ _ _ _ _ _ _ _ c.in-Ok-push.ensures.items c.items.invariant.taken c.in_ok-at.ensures.ok c.in_ok-item.ensures.ok; failed = search rules; kept = search rules; fresh = search rules }
 
 pub read_pairs-returns-in_err-place-clause-err : goal.read_pairs-returns-in_err-place-clause-err
 read_pairs-returns-in_err-place-clause-err g t c =
@@ -137,7 +137,7 @@ read_pairs-returns-in_err-value-clause-err g t c =
 pub read_pairs-entries-preserved : goal.read_pairs-entries-preserved
 read_pairs-entries-preserved g t c =
     let full = not_full _ _ _ _ (let k : c.len.result ≡ length c.entries.entries.items = omega (arith, c.len.ensures, c.entries.entries.ok.0) in k) c.all_read.ensures c.if-all_read.false in
-    record { few = fits_pushed _ _ _ _ c.in-Ok.ensures.items c.entries.invariant.few full; taken = pair_pushed view_pair _ _ _ _ _ _ _ _ c.in-Ok.ensures.items (step_item _ _ _ _ _ _ _ _ _ _ _ _ (step_item _ _ _ _ _ _ _ _ _ _ _ _ c.entries.invariant.taken c.in_ok-at.ensures.ok c.in_ok-key.ensures.ok) c.in_ok-place.ensures.ok c.in_ok-value.ensures.ok); failed = search rules; kept = search rules; fresh = search rules }
+    record { few = fits_pushed _ _ _ _ c.in-Ok-push.ensures.items c.entries.invariant.few full; taken = pair_pushed view_pair _ _ _ _ _ _ _ _ c.in-Ok-push.ensures.items (step_item _ _ _ _ _ _ _ _ _ _ _ _ (step_item _ _ _ _ _ _ _ _ _ _ _ _ c.entries.invariant.taken c.in_ok-at.ensures.ok c.in_ok-key.ensures.ok) c.in_ok-place.ensures.ok c.in_ok-value.ensures.ok); failed = search rules; kept = search rules; fresh = search rules }
 
 pub read_tagged-returns-in_err-at-clause-err : goal.read_tagged-returns-in_err-at-clause-err
 read_tagged-returns-in_err-at-clause-err g t c =

@@ -6,7 +6,6 @@ use Rattle.ciborium.proofs.strings.read_bytes.Given as goal
 abbrev pub invariant-pieces : goal.invariant-pieces
 invariant-pieces g l = record {
   within : l.got ≤ l.n;
-  size : length l.buffer ≡ 4096;
   taken : Takes (left_of g.R.Read.left l.fn.decoder) (left_of g.R.Read.left l.decoder) (offset_of l.fn.decoder) (offset_of l.decoder)
       (λ (b : List ℕ). (length b ≡ l.got) × (l.into.items ≡ l.fn.into.items ++ b));
   failed : g.R.Read.failed (reader_of l.decoder) ≡ g.R.Read.failed (reader_of l.fn.decoder);
