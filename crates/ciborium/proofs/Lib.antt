@@ -10,9 +10,9 @@ pub mod Folded
 pub mod Exact
 pub mod Parts
 pub mod Excludes
-pub mod Written
 pub mod Encoded
 pub mod StringCases
 pub mod ChildCases
 pub mod ItemCases
 pub mod Sequence
+pub mod Written

@@ -1,80 +1,104 @@
--- Texts one after another at the end of what was written.
-use Rattle.std.proofs.Common.{◌≡◌, ℕ, zero, suc, ◌+◌, ◌<◌, ◌≤◌, List, [], ◌∷◌, ◌++◌, length, take, drop, get_or, Option, Some, Result, Ok, Err, OnOk, OnErr, refl, sym, ap, subst, ◌∙◌, append_assoc, Vec, Box, Global}
-use Rattle.std.specs.List.{flat_map}
+-- What a sink of bytes wrote: the texts of the events that it took, one after another.
+use Rattle.std.proofs.Common.{◌≡◌, ℕ, ◌+◌, List, [], ◌∷◌, ◌++◌, ◌⊎◌, inl, inr, Option, None, Some, Result, Ok, Err, OnOk, OnErr, refl, sym, ap, subst, ◌∙◌, append_assoc, append-nil}
 use Rattle.std.specs.Io.KnownBytes.{Appends}
 use Rattle.std.proofs.KnownBytes.{Appends-trans}
-use Rattle.std.proofs.lemmas.Grind.{flat_map-append}
-use Rattle.std.proofs.lemmas.List.{take-append-drop, take_all}
-use Rattle.std.proofs.Math.Seq.{take-append-add, drop-cons}
-use Rattle.ciborium_ll.specs.Device.{AppendsFront}
-use Rattle.ciborium_ll.proofs.Appending.{front_then, then_front, front_as, appends_as, on_err_then, on_err_as}
-use Rattle.ciborium_ll.specs.declared.hdr.Header.TheVariants.{Array, Map, Tag}
+use Rattle.ciborium_ll.specs.Device.{AppendsFront, write_failures}
+use Rattle.ciborium_ll.proofs.Appending.{front_then, then_front, front_as, appends_as}
 use Rattle.ciborium_ll.specs.Title.{title_of}
-use Rattle.ciborium_value.specs.Tree.{tree_count, pair_count}
-use Rattle.ciborium_value.specs.View.{view, views, view_pairs}
+use Rattle.ciborium_ll.specs.declared.hdr.Header.TheVariants.{Tag, Array, Map}
+use Rattle.ciborium_value.specs.Tree as tree
+use Rattle.ciborium_value.specs.Tree.{Tree, Trees, no_trees, one_more, Pairs, no_pairs, pair_more, tree_count, pair_count}
 use Rattle.ciborium_value.specs.Encoding.{enc, enc_all, enc_pairs}
-use Rattle.ciborium_value.specs.declared.value.Value.{Value}
-use Rattle.ciborium_value.specs.declared.value.Value.TheVariants as code
-use Rattle.ciborium_value.proofs.Fitting.{count_items, count_entries}
-use Rattle.ciborium_value.proofs.Views.{view_array, view_map, view_tag}
+use Rattle.ciborium_typed.specs.Events.{Event, events, events_all, events_pairs, AllAdded, Stopped}
+use Rattle.ciborium.specs.Writing.{event_text, IsWritten, IsTorn}
 
--- a beginning of one more part
-pub part_begun : {V : Type 0} (f : V → List ℕ) (old mid new : Option (List ℕ)) (head : List ℕ) (xs : List V) (i : ℕ) (v : V) → i < length xs → v ≡ get_or xs i v
-    → Appends old mid (head ++ flat_map f (take i xs)) → AppendsFront mid new (f v) → AppendsFront old new (head ++ flat_map f xs)
-part_begun f old mid new head xs i v l e p q =
-    let done = flat_map f (take i xs) in
-    let rest = flat_map f (drop (suc i) xs) in
-    let split : drop i xs ≡ v ∷ drop (suc i) xs = drop-cons xs i v l ∙ ap (λ z. z ∷ drop (suc i) xs) (sym e) in
-    let whole : flat_map f xs ≡ done ++ (f v ++ rest) =
-    ap (flat_map f) (sym (take-append-drop i xs)) ∙ flat_map-append f (take i xs) (drop i xs) ∙ ap (λ z. done ++ flat_map f z) split in
-    front_as old new ((head ++ done) ++ (f v ++ rest)) (head ++ flat_map f xs) (append_assoc head done (f v ++ rest) ∙ ap (λ z. head ++ z) (sym whole))
-    (then_front old mid new (head ++ done) (f v ++ rest) p (front_then mid new (f v) rest q))
+-- the texts of events, one after another
+abbrev pub event_texts : List Event → List ℕ
+event_texts [] = []
+event_texts (e ∷ es) = event_text e ++ event_texts es
 
--- no part is left
-pub parts_written : {V : Type 0} (f : V → List ℕ) (old new : Option (List ℕ)) (head : List ℕ) (xs : List V) (i : ℕ) → length xs ≤ i
-    → Appends old new (head ++ flat_map f (take i xs)) → Appends old new (head ++ flat_map f xs)
-parts_written f old new head xs i l p = appends_as old new (head ++ flat_map f (take i xs)) (head ++ flat_map f xs) (ap (λ z. head ++ flat_map f z) (take_all i xs l)) p
+texts_joined : (es fs : List Event) → event_texts (es ++ fs) ≡ event_texts es ++ event_texts fs
+texts_joined [] fs = refl
+texts_joined (e ∷ es) fs = ap (λ z. event_text e ++ z) (texts_joined es fs) ∙ sym (append_assoc (event_text e) (event_texts es) (event_texts fs))
 
--- the texts of items and of entries, one after another
-abbrev pub item_text : Value → List ℕ
-item_text v = enc (view v)
+two : (es fs : List Event) (a b : List ℕ) → event_texts es ≡ a → event_texts fs ≡ b → event_texts (es ++ fs) ≡ a ++ b
+two es fs a b p q = texts_joined es fs ∙ ap (λ z. z ++ event_texts fs) p ∙ ap (λ z. a ++ z) q
 
-abbrev pub entry_text : Value × Value → List ℕ
-entry_text p = enc (view p.0) ++ enc (view p.1)
+-- the events of an item are its encoding
+mutual
+  pub texts_of : (t : Tree) → event_texts (events t) ≡ enc t
+  texts_of (tree.integer i) = append-nil (enc (tree.integer i))
+  texts_of (tree.bytes b) = append-nil (enc (tree.bytes b))
+  texts_of (tree.text b) = append-nil (enc (tree.text b))
+  texts_of (tree.array ts) = ap (λ z. title_of (Array (Some (tree_count ts))) ++ z) (texts_of_all ts)
+  texts_of (tree.map ps) = ap (λ z. title_of (Map (Some (pair_count ps))) ++ z) (texts_of_pairs ps)
+  texts_of (tree.tag n t) = ap (λ z. title_of (Tag n) ++ z) (texts_of t)
+  texts_of (tree.simple n) = append-nil (enc (tree.simple n))
+  texts_of (tree.float f) = append-nil (enc (tree.float f))
 
-items_text : (vs : List Value) → enc_all (views vs) ≡ flat_map item_text vs
-items_text [] = refl
-items_text (v ∷ vs) = ap (λ z. item_text v ++ z) (items_text vs)
+  texts_of_all : (ts : Trees) → event_texts (events_all ts) ≡ enc_all ts
+  texts_of_all no_trees = refl
+  texts_of_all (one_more t ts) = two (events t) (events_all ts) (enc t) (enc_all ts) (texts_of t) (texts_of_all ts)
 
-entries_text : (ps : List (Value × Value)) → enc_pairs (view_pairs ps) ≡ flat_map entry_text ps
-entries_text [] = refl
-entries_text (p ∷ ps) = ap (λ z. enc (view p.0) ++ (enc (view p.1) ++ z)) (entries_text ps) ∙ sym (append_assoc (enc (view p.0)) (enc (view p.1)) (flat_map entry_text ps))
+  texts_of_pairs : (ps : Pairs) → event_texts (events_pairs ps) ≡ enc_pairs ps
+  texts_of_pairs no_pairs = refl
+  texts_of_pairs (pair_more k v ps) =
+      two (events k) (events v ++ events_pairs ps) (enc k) (enc v ++ enc_pairs ps) (texts_of k)
+        (two (events v) (events_pairs ps) (enc v) (enc_pairs ps) (texts_of v) (texts_of_pairs ps))
 
--- the text of an array, of a map and of a tag, in parts
-pub array_text : (a : Value) (v : Vec Value Global) (xs : List Value) (n : ℕ) → a ≡ code.Array v → xs ≡ v.items → n ≡ length xs → title_of (Array (Some n)) ++ flat_map item_text xs ≡ enc (view a)
-array_text a v xs n e l m =
-    let count : n ≡ tree_count (views v.items) = m ∙ ap length l ∙ sym (count_items v.items) in
-    ap (λ z. title_of (Array (Some n)) ++ flat_map item_text z) l
-    ∙ ap (λ z. title_of (Array (Some z)) ++ flat_map item_text v.items) count
-    ∙ ap (λ z. title_of (Array (Some (tree_count (views v.items)))) ++ z) (sym (items_text v.items))
-    ∙ sym (ap enc (ap view e ∙ view_array v))
+nothing_more : (o : Option (List ℕ)) → Appends o o []
+nothing_more None = tt
+nothing_more (Some xs) = sym (append-nil xs)
 
-pub map_text : (a : Value) (v : Vec (Value × Value) Global) (xs : List (Value × Value)) (n : ℕ) → a ≡ code.Map v → xs ≡ v.items → n ≡ length xs
-    → title_of (Map (Some n)) ++ flat_map entry_text xs ≡ enc (view a)
-map_text a v xs n e l m =
-    let count : n ≡ pair_count (view_pairs v.items) = m ∙ ap length l ∙ sym (count_entries v.items) in
-    ap (λ z. title_of (Map (Some n)) ++ flat_map entry_text z) l
-    ∙ ap (λ z. title_of (Map (Some z)) ++ flat_map entry_text v.items) count
-    ∙ ap (λ z. title_of (Map (Some (pair_count (view_pairs v.items)))) ++ z) (sym (entries_text v.items))
-    ∙ sym (ap enc (ap view e ∙ view_map v))
+-- a sink s over the writer `of s`
+module _ {S W : Type 0} (of : S → W) (written : W → Option (List ℕ)) (handle : W → List ℕ) (failed : W → ℕ) where
+  abbrev Writes : S → Event → S → Type 0
+  Writes s e t = IsWritten written handle failed (of s) e (of t)
 
--- the first part, and what a call made of the second
-pub on_ok_then : {T E : Type 0} (r : Result T E) (old mid new : Option (List ℕ)) (a b : List ℕ) → Appends old mid a → OnOk r (Appends mid new b) → OnOk r (Appends old new (a ++ b))
-on_ok_then (Ok v) old mid new a b p q = Appends-trans old mid new a b p q
-on_ok_then (Err e) old mid new a b p q = tt
+  abbrev Tears : S → Event → S → Type 0
+  Tears s e t = IsTorn written handle failed (of s) e (of t)
 
-pub on_ok_as : {T E : Type 0} (r : Result T E) (old new : Option (List ℕ)) (a b : List ℕ) → a ≡ b → OnOk r (Appends old new a) → OnOk r (Appends old new b)
-on_ok_as r old new a b e p = subst (λ z. OnOk r (Appends old new z)) e p
+  all_written : (es : List Event) (s t : S) → AllAdded Writes s es t
+      → Appends (written (of s)) (written (of t)) (event_texts es) × (handle (of t) ≡ handle (of s)) × (failed (of t) ≡ failed (of s))
+  all_written [] s t p = subst (λ z. Appends (written (of s)) (written (of z)) [] × (handle (of z) ≡ handle (of s)) × (failed (of z) ≡ failed (of s))) (sym p) (nothing_more (written (of s)), refl, refl)
+  all_written (e ∷ es) s t (m, p, q) =
+      let r = all_written es m t q in
+      (Appends-trans (written (of s)) (written (of m)) (written (of t)) (event_text e) (event_texts es) p.0 r.0, r.1 ∙ p.1, r.2 ∙ p.2)
 
-pub tag_text : (a : Value) (n : ℕ) (b : Box Value Global) (v : Value) → a ≡ code.Tag n b → v ≡ b.value → title_of (Tag n) ++ enc (view v) ≡ enc (view a)
-tag_text a n b v e l = ap (λ z. title_of (Tag n) ++ enc (view z)) l ∙ sym (ap enc (ap view e ∙ view_tag n b))
+  part_written : (es : List Event) (s t : S) → Stopped Writes Tears s es t
+      → AppendsFront (written (of s)) (written (of t)) (event_texts es) × (handle (of t) ≡ handle (of s)) × (failed (of t) ≡ failed (of s) + 1)
+  part_written [] s t p = absurd p
+  part_written (e ∷ es) s t (inl p) = (front_then (written (of s)) (written (of t)) (event_text e) (event_texts es) p.0, p.1, p.2)
+  part_written (e ∷ es) s t (inr (m, p, q)) =
+      let r = part_written es m t q in
+      (then_front (written (of s)) (written (of m)) (written (of t)) (event_text e) (event_texts es) p.0 r.0, r.1 ∙ p.1, r.2 ∙ ap (λ n. n + 1) p.2)
+
+  item_written : (t : Tree) (s u : S) → AllAdded Writes s (events t) u
+      → Appends (written (of s)) (written (of u)) (enc t) × (handle (of u) ≡ handle (of s)) × (failed (of u) ≡ failed (of s))
+  item_written t s u p =
+      let r = all_written (events t) s u p in
+      (appends_as (written (of s)) (written (of u)) (event_texts (events t)) (enc t) (texts_of t) r.0, r.1, r.2)
+
+  item_torn : (t : Tree) (s u : S) → Stopped Writes Tears s (events t) u
+      → AppendsFront (written (of s)) (written (of u)) (enc t) × (handle (of u) ≡ handle (of s)) × (failed (of u) ≡ failed (of s) + 1)
+  item_torn t s u p =
+      let r = part_written (events t) s u p in
+      (front_as (written (of s)) (written (of u)) (event_texts (events t)) (enc t) (texts_of t) r.0, r.1, r.2)
+
+  -- what an answer says of the writer
+  pub on_ok : {T E : Type 0} (r : Result T E) (t : Tree) (s u : S) → OnOk r (AllAdded Writes s (events t) u) → OnOk r (Appends (written (of s)) (written (of u)) (enc t))
+  on_ok (Ok x) t s u p = (item_written t s u p).0
+  on_ok (Err e) t s u p = tt
+
+  pub on_err : {T E : Type 0} (r : Result T E) (t : Tree) (s u : S) → OnErr r (Stopped Writes Tears s (events t) u) → OnErr r (AppendsFront (written (of s)) (written (of u)) (enc t))
+  on_err (Ok x) t s u p = tt
+  on_err (Err e) t s u p = (item_torn t s u p).0
+
+  pub as_lent : {T E : Type 0} (r : Result T E) (t : Tree) (s u : S) → OnOk r (AllAdded Writes s (events t) u) → OnErr r (Stopped Writes Tears s (events t) u) → handle (of u) ≡ handle (of s)
+  as_lent (Ok x) t s u p q = (item_written t s u p).1
+  as_lent (Err e) t s u p q = (item_torn t s u q).1
+
+  pub failures : {T E : Type 0} (r : Result T E) (t : Tree) (s u : S) → OnOk r (AllAdded Writes s (events t) u) → OnErr r (Stopped Writes Tears s (events t) u)
+      → failed (of u) ≡ write_failures r (failed (of s))
+  failures (Ok x) t s u p q = (item_written t s u p).2
+  failures (Err e) t s u p q = (item_torn t s u q).2

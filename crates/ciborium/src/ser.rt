@@ -5,12 +5,13 @@ ghost use Rattle.ciborium_ll.specs.Device.{AppendsFront, write_failures};
 ghost use Rattle.ciborium_ll.specs.Title.{title_of};
 ghost use Rattle.ciborium_ll.specs.Views.{writer_of};
 ghost use Rattle.ciborium_value.specs.Encoding.{enc};
-ghost use Rattle.ciborium_value.specs.View.{view, number_of};
+ghost use Rattle.ciborium_value.specs.View.{number_of};
 ghost use Rattle.ciborium_value.specs.Tree.{integer};
-ghost use Rattle.ciborium.specs.Writing.{IsIo};
+ghost use Rattle.ciborium.specs.Writing.{IsIo, IsWritten, IsTorn};
 
-use crate::value::{Integer, Kind, Value};
-use ciborium_ll::{Encoder, Header, Write};
+use crate::value::{Integer, Kind};
+use ciborium_ll::{Encoder, Float, Header, Write};
+use ciborium_typed::{Serialize, Sink};
 
 /// Why a value was not written.
 #[derive(Debug, Clone, Copy, PartialEq, Eq, Drop)]
@@ -34,20 +35,100 @@ impl<T> From<T> for Error<T> {
     }
 }
 
-/// Writes the one shortest definite text of the value (RFC 8949, section 4.1). It takes no memory.
+/// A sink that writes each event at once, as its shortest text. It takes no memory.
+#[derive(Drop)]
+pub struct Serializer<W> {
+    encoder: Encoder<W>,
+}
+
+impl<W> From<Encoder<W>> for Serializer<W> {
+    ghost use Rattle.std.specs.Prelude.{◌≡◌};
+
+    ghost from_gives = { λ encoder s. s.encoder ≡ encoder };
+
+    fn from(encoder: Encoder<W>) -> Serializer<W> {
+        Serializer { encoder }
+    }
+}
+
+impl<W: Write> Sink for Serializer<W> {
+    type Error = W::Error;
+
+    ghost adds = { λ s event t. IsWritten W.written W.handle W.failed (writer_of s.encoder) event (writer_of t.encoder) };
+
+    ghost refuses = { λ s event t. IsTorn W.written W.handle W.failed (writer_of s.encoder) event (writer_of t.encoder) };
+
+    fn integer(&mut self, number: Integer) -> Result<(), W::Error> {
+        let n = i128::from(number);
+        if n < 0 {
+            self.encoder.push(Header::Negative((-1 - n) as u64))
+        } else {
+            self.encoder.push(Header::Positive(n as u64))
+        }
+    }
+
+    fn bytes(&mut self, bytes: &[u8]) -> Result<(), W::Error> {
+        write_string(&mut self.encoder, Header::Bytes(Some(bytes.len())), bytes)
+    }
+
+    fn float(&mut self, float: Float) -> Result<(), W::Error> {
+        self.encoder.push(Header::Float(float))
+    }
+
+    fn text(&mut self, text: &str) -> Result<(), W::Error> {
+        write_string(
+            &mut self.encoder,
+            Header::Text(Some(text.len())),
+            text.as_bytes(),
+        )
+    }
+
+    fn boolean(&mut self, value: bool) -> Result<(), W::Error> {
+        self.encoder
+            .push(Header::Simple(if value { 21 } else { 20 }))
+    }
+
+    fn null(&mut self) -> Result<(), W::Error> {
+        self.encoder.push(Header::Simple(22))
+    }
+
+    fn tag(&mut self, tag: u64) -> Result<(), W::Error> {
+        self.encoder.push(Header::Tag(tag))
+    }
+
+    fn array(&mut self, len: usize) -> Result<(), W::Error> {
+        self.encoder.push(Header::Array(Some(len)))
+    }
+
+    fn map(&mut self, len: usize) -> Result<(), W::Error> {
+        self.encoder.push(Header::Map(Some(len)))
+    }
+}
+
+/// Writes the one shortest definite text of the item that the value is written as (RFC 8949, section 4.1). A `Value` takes no memory.
 ///
 /// # Errors
 /// The writer's, as `Io`; a beginning of the text was written then.
-pub fn into_writer<W: Write>(value: &Value, writer: &mut W) -> Result<(), Error<W::Error>>
-    ensures ok { OnOk result (Appends (W.written writer.old) (W.written writer.new) (enc (view value.now))) }
-    ensures err { OnErr result (AppendsFront (W.written writer.old) (W.written writer.new) (enc (view value.now))) }
+pub fn into_writer<T: Serialize, W: Write>(value: &T, writer: &mut W) -> Result<(), Error<W::Error>>
+    ensures ok { OnOk result (Appends (W.written writer.old) (W.written writer.new) (enc (T.put value.now))) }
+    ensures err { OnErr result (AppendsFront (W.written writer.old) (W.written writer.new) (enc (T.put value.now))) }
     ensures io { IfErr result IsIo }
     ensures kept { W.handle writer.new ≡ W.handle writer.old }
     ensures failed { W.failed writer.new ≡ write_failures result (W.failed writer.old) }
 {
-    let mut encoder = Encoder::from(writer);
-    write_value(&mut encoder, value)?;
+    let mut sink = Serializer::from(Encoder::from(writer));
+    write_item(&mut sink, value)?;
     Ok(())
+}
+
+/// The text of the item that a value is written as.
+fn write_item<T: Serialize, W: Write>(sink: &mut Serializer<W>, value: &T) -> Result<(), W::Error>
+    ensures ok { OnOk result (Appends (W.written (writer_of sink.old.encoder)) (W.written (writer_of sink.new.encoder)) (enc (T.put value.now))) }
+    ensures err { OnErr result (AppendsFront (W.written (writer_of sink.old.encoder)) (W.written (writer_of sink.new.encoder)) (enc (T.put value.now))) }
+    ensures kept { W.handle (writer_of sink.new.encoder) ≡ W.handle (writer_of sink.old.encoder) }
+    ensures failed { W.failed (writer_of sink.new.encoder) ≡ write_failures result (W.failed (writer_of sink.old.encoder)) }
+{
+    value.serialize(sink)
 }
 
 /// A head, and bytes after it.
@@ -63,61 +144,4 @@ fn write_string<W: Write>(
 {
     encoder.push(header)?;
     encoder.write_all(bytes)
-}
-
-/// The head of an integer.
-fn write_integer<W: Write>(encoder: &mut Encoder<W>, number: Integer) -> Result<(), W::Error>
-    ensures ok { OnOk result (Appends (W.written (writer_of encoder.old)) (W.written (writer_of encoder.new)) (enc (integer (number_of number)))) }
-    ensures err { OnErr result (AppendsFront (W.written (writer_of encoder.old)) (W.written (writer_of encoder.new)) (enc (integer (number_of number)))) }
-    ensures kept { W.handle (writer_of encoder.new) ≡ W.handle (writer_of encoder.old) }
-    ensures failed { W.failed (writer_of encoder.new) ≡ write_failures result (W.failed (writer_of encoder.old)) }
-{
-    let n = i128::from(number);
-    if n < 0 {
-        encoder.push(Header::Negative((-1 - n) as u64))
-    } else {
-        encoder.push(Header::Positive(n as u64))
-    }
-}
-
-/// The text of a value.
-fn write_value<W: Write>(encoder: &mut Encoder<W>, value: &Value) -> Result<(), W::Error>
-    ensures ok { OnOk result (Appends (W.written (writer_of encoder.old)) (W.written (writer_of encoder.new)) (enc (view value.now))) }
-    ensures err { OnErr result (AppendsFront (W.written (writer_of encoder.old)) (W.written (writer_of encoder.new)) (enc (view value.now))) }
-    ensures kept { W.handle (writer_of encoder.new) ≡ W.handle (writer_of encoder.old) }
-    ensures failed { W.failed (writer_of encoder.new) ≡ write_failures result (W.failed (writer_of encoder.old)) }
-{
-    match value {
-        Value::Integer(number) => write_integer(encoder, *number),
-        Value::Bytes(bytes) => {
-            write_string(encoder, Header::Bytes(Some(bytes.len())), bytes.as_slice())
-        }
-        Value::Float(float) => encoder.push(Header::Float(*float)),
-        Value::Text(text) => {
-            let text = text.as_str();
-            write_string(encoder, Header::Text(Some(text.len())), text.as_bytes())
-        }
-        Value::Bool(false) => encoder.push(Header::Simple(20)),
-        Value::Bool(true) => encoder.push(Header::Simple(21)),
-        Value::Null => encoder.push(Header::Simple(22)),
-        Value::Tag(tag, content) => {
-            encoder.push(Header::Tag(*tag))?;
-            write_value(encoder, content)
-        }
-        Value::Array(items) => {
-            encoder.push(Header::Array(Some(items.len())))?;
-            'items: for item in items {
-                write_value(encoder, item)?;
-            }
-            Ok(())
-        }
-        Value::Map(entries) => {
-            encoder.push(Header::Map(Some(entries.len())))?;
-            'entries: for entry in entries {
-                write_value(encoder, &entry.0)?;
-                write_value(encoder, &entry.1)?;
-            }
-            Ok(())
-        }
-    }
 }
