@@ -7,6 +7,7 @@ pub mod laws;
 pub mod ser;
 mod simple;
 mod untagged;
+mod values;
 
 pub use crate::de::{Deserialize, Source};
 pub use crate::error::Error;
