@@ -3,12 +3,15 @@
 
 pub mod de;
 mod error;
+mod folded;
 pub mod laws;
 pub mod ser;
 mod simple;
+pub mod typed;
 mod untagged;
 mod values;
 
 pub use crate::de::{Deserialize, Source};
 pub use crate::error::Error;
 pub use crate::ser::{Serialize, Sink};
+pub use crate::typed::ValueTyped;
