@@ -1,0 +1,2 @@
+pub mod Foldings
+pub mod Joined

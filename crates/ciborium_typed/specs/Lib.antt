@@ -1,3 +1,5 @@
 pub mod Back
 pub mod Events
 pub mod Reading
+pub mod Stacks
+pub mod Unfolded

@@ -3,11 +3,17 @@
 
 pub mod de;
 mod error;
+mod folded;
 pub mod laws;
 pub mod ser;
 mod simple;
+pub mod typed;
 mod untagged;
+mod value_sink;
+mod values;
 
 pub use crate::de::{Deserialize, Source};
 pub use crate::error::Error;
 pub use crate::ser::{Serialize, Sink};
+pub use crate::typed::ValueTyped;
+pub use crate::value_sink::ValueSink;
