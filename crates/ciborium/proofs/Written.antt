@@ -44,7 +44,7 @@ mutual
   texts_of_pairs no_pairs = refl
   texts_of_pairs (pair_more k v ps) =
       two (events k) (events v ++ events_pairs ps) (enc k) (enc v ++ enc_pairs ps) (texts_of k)
-        (two (events v) (events_pairs ps) (enc v) (enc_pairs ps) (texts_of v) (texts_of_pairs ps))
+      (two (events v) (events_pairs ps) (enc v) (enc_pairs ps) (texts_of v) (texts_of_pairs ps))
 
 nothing_more : (o : Option (List ℕ)) → Appends o o []
 nothing_more None = tt

@@ -1,17 +1,23 @@
 //! Reads items.
-ghost use Rattle.std.specs.Prelude.{◌≡◌, ◌<◌, ◌^◌, IfOk, IfErr, Some, []};
+ghost use Rattle.std.specs.Prelude.{◌≡◌, ◌<◌, ◌^◌, IfOk, IfErr, OnOk, Some, []};
 ghost use Rattle.ciborium_ll.specs.Reading.{Takes};
 ghost use Rattle.ciborium_ll.specs.Views.{left_of, offset_of, waiting_of, reader_of};
 ghost use Rattle.ciborium_value.specs.View.{view};
 ghost use Rattle.ciborium.specs.Front.{Reads};
 ghost use Rattle.ciborium.specs.Damage.{Damage};
 ghost use Rattle.ciborium.specs.Reading.{FailsAt, Known, IsNoMemory, failures};
+ghost use Rattle.ciborium.specs.Typed.{ReadsAs, Took, IsUnread};
 
 use crate::reader::read_item;
 use crate::strings::next_title;
+use crate::typed::typed_item;
 use crate::value::{Kind, Value};
 use ciborium_ll::{Decoder, Read};
+use ciborium_typed::Deserialize;
 use std::alloc::{AllocError, AllocFailed, Global};
+
+/// An item that is read without a limit of the caller's nests at most so many levels.
+const RECURSION_LIMIT: usize = 256;
 
 /// Why no value was read.
 #[derive(Debug, Clone, Copy, PartialEq, Eq, Drop)]
@@ -76,6 +82,7 @@ pub fn from_decoder<R: Read>(
     ensures err { IfErr result (λ e. Known (left_of R.left decoder.old) (λ b. FailsAt R.ends b (offset_of decoder.old) (offset_of decoder.new)
         (λ stop b f. Damage stop b limit f) e)) }
     ensures nothing { left_of R.left decoder.old ≡ Some [] → IfErr result IsNoMemory }
+    ensures some { left_of R.left decoder.old ≡ Some [] → OnOk result ⊥ }
     ensures failed { R.failed (reader_of decoder.new) ≡ failures R.ends result (R.failed (reader_of decoder.old)) }
     ensures kept { R.handle (reader_of decoder.new) ≡ R.handle (reader_of decoder.old) }
     ensures fits { offset_of decoder.new < 2 ^ 64 }
@@ -84,4 +91,55 @@ pub fn from_decoder<R: Read>(
     let (at, header) = next_title(decoder)?;
     let value = read_item(alloc, decoder, header, at, limit)?;
     Ok(value)
+}
+
+/// Reads the item at the front of the bytes to come as a value of the type, and leaves what follows it. The item may nest 256 levels.
+///
+/// # Errors
+/// The fault of the bytes or of the reader; `Semantic` with the type's fault where the item is none of it, and it was taken then;
+/// `Memory`, but never where no byte is left.
+pub fn from_reader<T: Deserialize, R: Read>(
+    alloc: Global,
+    reader: &mut R,
+) -> Result<T, Error<R::Error>>
+    ensures ok { IfOk result (λ x. Took (R.left reader.old) (R.left reader.new) (ReadsAs T.refusal T.takes 256 x)) }
+    ensures err { IfErr result (IsUnread R.ends T.refusal 256 (R.left reader.old) (R.left reader.new)) }
+    ensures nothing { R.left reader.old ≡ Some [] → IfErr result IsNoMemory }
+    ensures failed { R.failed reader.new ≡ failures R.ends result (R.failed reader.old) }
+    ensures kept { R.handle reader.new ≡ R.handle reader.old }
+{
+    from_reader_with_recursion_limit(alloc, reader, RECURSION_LIMIT)
+}
+
+/// As `from_reader`. The buffer, of any length, is not needed and stays as it is.
+pub fn from_reader_with_buffer<T: Deserialize, R: Read>(
+    alloc: Global,
+    reader: &mut R,
+    scratch_buffer: &mut [u8],
+) -> Result<T, Error<R::Error>>
+    ensures ok { IfOk result (λ x. Took (R.left reader.old) (R.left reader.new) (ReadsAs T.refusal T.takes 256 x)) }
+    ensures err { IfErr result (IsUnread R.ends T.refusal 256 (R.left reader.old) (R.left reader.new)) }
+    ensures nothing { R.left reader.old ≡ Some [] → IfErr result IsNoMemory }
+    ensures failed { R.failed reader.new ≡ failures R.ends result (R.failed reader.old) }
+    ensures kept { R.handle reader.new ≡ R.handle reader.old }
+    ensures scratch { scratch_buffer.new ≡ scratch_buffer.old }
+{
+    let _length = scratch_buffer.len();
+    from_reader(alloc, reader)
+}
+
+/// As `from_reader`, with another limit of levels.
+pub fn from_reader_with_recursion_limit<T: Deserialize, R: Read>(
+    alloc: Global,
+    reader: &mut R,
+    recursion_limit: usize,
+) -> Result<T, Error<R::Error>>
+    ensures ok { IfOk result (λ x. Took (R.left reader.old) (R.left reader.new) (ReadsAs T.refusal T.takes recursion_limit x)) }
+    ensures err { IfErr result (IsUnread R.ends T.refusal recursion_limit (R.left reader.old) (R.left reader.new)) }
+    ensures nothing { R.left reader.old ≡ Some [] → IfErr result IsNoMemory }
+    ensures failed { R.failed reader.new ≡ failures R.ends result (R.failed reader.old) }
+    ensures kept { R.handle reader.new ≡ R.handle reader.old }
+{
+    let mut decoder = Decoder::from(reader);
+    typed_item(alloc, &mut decoder, recursion_limit)
 }

@@ -5,10 +5,13 @@ pub mod de;
 pub mod laws;
 mod reader;
 pub mod ser;
+pub mod source;
 mod strings;
 #[cfg(test)]
 mod tests;
+mod typed;
 pub mod value;
 
+pub use crate::de::{from_reader, from_reader_with_buffer};
 pub use crate::ser::into_writer;
 pub use crate::value::Value;

@@ -1,2 +1,3 @@
-//! Values of CBOR.
-pub use ciborium_value::{Integer, Kind, Value};
+//! Values of CBOR, and typed values.
+pub use ciborium_typed::{Error, ValueTyped};
+pub use ciborium_value::{CanonicalValue, Integer, Kind, Value};

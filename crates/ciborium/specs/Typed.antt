@@ -1,0 +1,49 @@
+-- What reading as a type gives.
+use Rattle.std.specs.Prelude.{◌≡◌, ℕ, ◌⊎◌, List, length, Option, Some, None, Bool}
+use Rattle.std.specs.Io.KnownBytes.{Consumes}
+use Rattle.ciborium_value.specs.declared.kind.Kind.{Kind}
+use Rattle.ciborium_value.specs.Tree.{Tree}
+use Rattle.ciborium_typed.specs.declared.error.Error.{Error as ValueError}
+use Rattle.ciborium_typed.specs.declared.error.Error.TheVariants as value
+use Rattle.ciborium.specs.declared.de.Error.{Error}
+use Rattle.ciborium.specs.declared.de.Error.TheVariants as code
+use Rattle.ciborium.specs.Front.{Reads}
+use Rattle.ciborium.specs.Damage.{Damage}
+use Rattle.ciborium.specs.Reading.{Fails, Known, IsLong}
+
+-- the error for an item that a type does not take
+abbrev pub refusing : {E : Type 0} → ValueError → Error E
+refusing (value.Kind k) = code.Semantic None k
+refusing value.Memory = code.Memory
+
+-- an error says why a type does not take an item, or that memory was refused
+abbrev pub IsTypeFault : {E : Type 0} → Option Kind → Error E → Type 0
+IsTypeFault why (code.Semantic o k) = (o ≡ None) × (why ≡ Some k)
+IsTypeFault why code.Memory = Unit {0}
+IsTypeFault why (code.Io e) = ⊥
+IsTypeFault why (code.Syntax p) = ⊥
+IsTypeFault why code.RecursionLimitExceeded = ⊥
+IsTypeFault why code.TooLong = ⊥
+
+-- `b` is an item of at most `limit` levels, and x is taken of what it means
+pub record ReadsAs {T : Type 0} (refusal : Tree → Option Kind) (takes : Tree → T → Type 0) (limit : ℕ) (x : T) (b : List ℕ) : Type 0 where
+  pub item : Tree
+  pub reads : Reads b limit item
+  pub is_one : refusal item ≡ None
+  pub taken : takes item x
+
+-- `b` is an item of at most `limit` levels, and the error says why the type does not take what it means
+pub record IsRefused {E : Type 0} (refusal : Tree → Option Kind) (limit : ℕ) (e : Error E) (b : List ℕ) : Type 0 where
+  pub item : Tree
+  pub reads : Reads b limit item
+  pub why : IsTypeFault (refusal item) e
+
+-- bytes that have P were taken of those to come
+abbrev pub Took : Option (List ℕ) → Option (List ℕ) → (List ℕ → Type 0) → Type 0
+Took old new P = (b : List ℕ) × Consumes old new b × P b
+
+-- the error for the bytes to come: the fault of the item that is due at their front, with places counted from their beginning, or
+-- the type's fault where the item there was taken
+abbrev pub IsUnread : {E : Type 0} → (E → Bool) → (Tree → Option Kind) → ℕ → Option (List ℕ) → Option (List ℕ) → Error E → Type 0
+IsUnread ends refusal limit old new e =
+    Known old (λ b. Fails ends (Unit {0}) (λ f. Damage (length b) b limit f) (IsLong 0 b) e) ⊎ Took old new (IsRefused refusal limit e)
