@@ -1,8 +1,10 @@
 //! CBOR items read and written (RFC 8949).
 #![tactic(auto)]
 
+pub mod build;
 pub mod de;
 pub mod laws;
+mod macros;
 mod reader;
 pub mod ser;
 pub mod source;
