@@ -1,18 +1,18 @@
 -- Algorithms. The table stands in src/algorithm.rt.
 use Rattle.std.specs.Prelude.{◌≡◌, refl, ℤ, negsuc, Bool, true, false}
 use Rattle.cose_iana.specs.declared.algorithm.Algorithm.{Algorithm}
-use Rattle.cose_iana.specs.contracts.algorithm.Algorithm.{the_type as algorithms_type}
+use Rattle.cose_iana.specs.contracts.algorithm.Algorithm.{enum as algorithms_enum}
 use Rattle.cose_iana.specs.declared.algorithm.TheConstants.{ALGORITHMS}
 use Rattle.cose_iana.specs.Registry.{Registry, is_private_use}
 use Rattle.cose_iana.specs.Table.{registry, InOrder, in_order, not_below}
 
 -- Algorithms: the registry "COSE Algorithms" (RFC 9053).
 unfoldable pub algorithms : Registry Algorithm
-algorithms = registry algorithms_type tt ALGORITHMS.now refl
+algorithms = registry algorithms_enum tt ALGORITHMS.now refl
 
-pub algorithms_in_order : InOrder algorithms_type ALGORITHMS.now algorithms
+pub algorithms_in_order : InOrder algorithms_enum algorithms
 unfolding algorithms
-algorithms_in_order = in_order algorithms_type tt ALGORITHMS.now refl
+algorithms_in_order = in_order algorithms_enum tt ALGORITHMS.now refl
 
 pub algorithms_not_private : (i : ℤ) → is_private_use i ≡ true → algorithms.is_registered i ≡ false
 unfolding algorithms

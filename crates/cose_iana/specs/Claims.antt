@@ -1,18 +1,18 @@
 -- Names of claims. The table stands in src/claims.rt.
 use Rattle.std.specs.Prelude.{◌≡◌, refl, ℤ, negsuc, true, false}
 use Rattle.cose_iana.specs.declared.claims.CwtClaimName.{CwtClaimName}
-use Rattle.cose_iana.specs.contracts.claims.CwtClaimName.{the_type as cwt_claim_names_type}
+use Rattle.cose_iana.specs.contracts.claims.CwtClaimName.{enum as cwt_claim_names_enum}
 use Rattle.cose_iana.specs.declared.claims.TheConstants.{CWT_CLAIM_NAMES}
 use Rattle.cose_iana.specs.Registry.{Registry, is_private_use}
 use Rattle.cose_iana.specs.Table.{registry, InOrder, in_order, not_below}
 
 -- Names of claims: the registry "CBOR Web Token (CWT) Claims" (RFC 8392, section 9.1).
 unfoldable pub cwt_claim_names : Registry CwtClaimName
-cwt_claim_names = registry cwt_claim_names_type tt CWT_CLAIM_NAMES.now refl
+cwt_claim_names = registry cwt_claim_names_enum tt CWT_CLAIM_NAMES.now refl
 
-pub cwt_claim_names_in_order : InOrder cwt_claim_names_type CWT_CLAIM_NAMES.now cwt_claim_names
+pub cwt_claim_names_in_order : InOrder cwt_claim_names_enum cwt_claim_names
 unfolding cwt_claim_names
-cwt_claim_names_in_order = in_order cwt_claim_names_type tt CWT_CLAIM_NAMES.now refl
+cwt_claim_names_in_order = in_order cwt_claim_names_enum tt CWT_CLAIM_NAMES.now refl
 
 pub cwt_claim_names_not_private : (i : ℤ) → is_private_use i ≡ true → cwt_claim_names.is_registered i ≡ false
 unfolding cwt_claim_names

@@ -3,12 +3,15 @@ use Rattle.std.proofs.Common.{◌≡◌, ℕ, zero, suc, ◌+◌, ◌<◌, ◌�
 use Rattle.std.specs.List.{list_any, find}
 use Rattle.std.specs.Prelude.{int_lt}
 use Rattle.std.specs.Ordering.{int_eq, int_cmp, is_eq}
+use Rattle.std.specs.declared.cmp.Ordering.{Ordering}
 use Rattle.std.specs.declared.cmp.Ordering.TheVariants.{Less, Equal, Greater}
 use Rattle.std.proofs.lemmas.Bool.{and_parts, cases_Bool, true≢false, eqb-true, eq-eqb, ne_eqb}
 use Rattle.std.proofs.lemmas.Bool.Decides.{Decides-int_eq}
 use Rattle.std.proofs.lemmas.Int.{ints}
-use denote.Enum.Enum.{tag_below}
-use denote.Enum.Declared.{Declared, variants, tag_of}
+use denote.Struct.Field.{Field}
+use denote.Enum.Enum.{tag, tag_below}
+use denote.Enum.Declared.{Record, Declared, Choice, declared, rowss, intoss, variants, tag_of}
+use denote.Enum.Compared.{Each, by}
 use denote.Enum.Bare.{Bare, sameb, tag_one}
 use Rattle.cose_iana.specs.Registry.{number_of, has_number, entry_of, Registry}
 
@@ -78,9 +81,58 @@ not_below low (row ∷ rows) n i h =
       | inr e ↦ ap (λ b. b || (list_any (λ r. int_eq r.0 i) rows)) e ∙ not_below low rows parts.1 i h
     ]
 
--- an enum's own order, by the numbers at the places of its entries, is that of the registry's numbers
-abbrev pub InOrder : (D : Declared) → List (ℤ × D.D) → Registry D.D → Type 0
-InOrder D table r = (x y : D.D) → int_cmp (get_or (map (λ row. row.0) table) (tag_of D x) (pos 0)) (get_or (map (λ row. row.0) table) (tag_of D y) (pos 0)) ≡ int_cmp (r.number x) (r.number y)
+-- the numbers in the rows
+abbrev pub numbers_of : {E : Type 0} → List (ℤ × E) → List ℤ
+numbers_of table = map (λ row. row.0) table
+
+above : {E : Type 0} (z : ℤ) (table : List (ℤ × E)) (j : ℕ) → rises z table ≡ true → j < length table → int_lt z (get_or (numbers_of table) j (pos 0)) ≡ true
+above z [] j r l = absurd (omega arith)
+above z (row ∷ rows) zero r l = (and_parts (int_lt z row.0) (rises row.0 rows) r).0
+above z (row ∷ rows) (suc j) r l =
+    let up = and_parts (int_lt z row.0) (rises row.0 rows) r in
+    lt_through z row.0 (get_or (numbers_of rows) j (pos 0)) up.0 (above row.0 rows j up.1 (omega arith))
+
+cmp_less : (a b : ℤ) → int_lt a b ≡ true → int_cmp a b ≡ Less
+cmp_less a b h = ap (λ s. cond s Less (cond (int_lt b a) Greater Equal)) h
+
+cmp_greater : (a b : ℤ) → int_lt a b ≡ true → int_cmp b a ≡ Greater
+cmp_greater a b h =
+    let n : int_lt b a ≡ false = grind (arith, ints) in
+    ap (λ s. cond s Less (cond (int_lt a b) Greater Equal)) n ∙ ap (λ s. cond s Greater Equal) h
+
+cmp_same : (a : ℤ) → int_cmp a a ≡ Equal
+cmp_same a =
+    let n : int_lt a a ≡ false = grind (arith, ints) in
+    ap (λ s. cond s Less (cond s Greater Equal)) n
+
+-- two entries of one name are equal
+abbrev pub same_entry : (Fss : List (List Field)) → Each Ordering Fss
+same_entry [] = tt
+same_entry (Fs ∷ Fss) = (λ x y. Equal, same_entry Fss)
+
+-- which of the names of an enum comes first
+abbrev pub by_place : (Fss : List (List Field)) → Choice Fss → Choice Fss → Ordering
+by_place Fss = by Less Greater Fss (same_entry Fss)
+
+abbrev place : (Fss : List (List Field)) → Choice Fss → ℕ
+place Fss c = tag (rowss Fss) (intoss Fss c)
+
+-- where the numbers rise, the order of the names is that of their numbers
+by_number : {E : Type 0} (Fss : List (List Field)) (table : List (ℤ × E)) → length table ≡ length (rowss Fss) → rising table ≡ true → (c d : Choice Fss) → by_place Fss c d ≡ int_cmp (get_or (numbers_of table) (place Fss c) (pos 0)) (get_or (numbers_of table) (place Fss d) (pos 0))
+by_number [] table l r c d = absurd c
+by_number (Fs ∷ Fss) [] l r c d = absurd (omega (arith, l))
+by_number (Fs ∷ Fss) (row ∷ rows) l r (inl x) (inl y) = sym (cmp_same row.0)
+by_number (Fs ∷ Fss) (row ∷ rows) l r (inl x) (inr y) =
+    let b : place Fss y < length (rowss Fss) = tag_below (rowss Fss) (intoss Fss y) in
+    sym (cmp_less row.0 (get_or (numbers_of rows) (place Fss y) (pos 0)) (above row.0 rows (place Fss y) r (omega arith)))
+by_number (Fs ∷ Fss) (row ∷ rows) l r (inr x) (inl y) =
+    let b : place Fss x < length (rowss Fss) = tag_below (rowss Fss) (intoss Fss x) in
+    sym (cmp_greater row.0 (get_or (numbers_of rows) (place Fss x) (pos 0)) (above row.0 rows (place Fss x) r (omega arith)))
+by_number (Fs ∷ Fss) (row ∷ rows) l r (inr x) (inr y) = by_number Fss rows (omega arith) (rises_rising row.0 rows r) x y
+
+-- an enum's own order is that of the registry's numbers
+abbrev pub InOrder : (N : Record) → Registry N.D → Type 0
+InOrder N r = (x y : N.D) → by_place N.parts (N.as_values x) (N.as_values y) ≡ int_cmp (r.number x) (r.number y)
 
 module _ (D : Declared) (bare : Bare D.parts) where
   number_here : (row : ℤ × D.D) (rows : List (ℤ × D.D)) (x : D.D) → tag_of D row.1 ≡ tag_of D x → number_of (sameb D) (row ∷ rows) x ≡ row.0
@@ -104,7 +156,7 @@ module _ (D : Declared) (bare : Bare D.parts) where
       omega arith
 
   -- the number of the entry at place j + k stands in row j
-  number_at : (table : List (ℤ × D.D)) (k j : ℕ) (x : D.D) → placed D k table ≡ true → tag_of D x ≡ j + k → j < length table → number_of (sameb D) table x ≡ get_or (map (λ row. row.0) table) j (pos 0)
+  number_at : (table : List (ℤ × D.D)) (k j : ℕ) (x : D.D) → placed D k table ≡ true → tag_of D x ≡ j + k → j < length table → number_of (sameb D) table x ≡ get_or (numbers_of table) j (pos 0)
   number_at [] k j x h e l = absurd (omega arith)
   number_at (row ∷ rows) k zero x h e l =
       let f : tag_of D row.1 ≡ k = first_tag k row rows h in
@@ -114,15 +166,7 @@ module _ (D : Declared) (bare : Bare D.parts) where
       number_later row rows x (λ q. omega arith) ∙ number_at rows (suc k) j x (later_placed k row rows h) (omega arith) (omega arith)
 
   number_above : (table : List (ℤ × D.D)) (z : ℤ) (k j : ℕ) (x : D.D) → placed D k table ≡ true → rises z table ≡ true → tag_of D x ≡ j + k → j < length table → int_lt z (number_of (sameb D) table x) ≡ true
-  number_above [] z k j x h r e l = absurd (omega arith)
-  number_above (row ∷ rows) z k zero x h r e l =
-      let f : tag_of D row.1 ≡ k = first_tag k row rows h in
-      ap (int_lt z) (number_here row rows x (omega arith)) ∙ (and_parts (int_lt z row.0) (rises row.0 rows) r).0
-  number_above (row ∷ rows) z k (suc j) x h r e l =
-      let f : tag_of D row.1 ≡ k = first_tag k row rows h in
-      let up = and_parts (int_lt z row.0) (rises row.0 rows) r in
-      ap (int_lt z) (number_later row rows x (λ q. omega arith))
-      ∙ lt_through z row.0 (number_of (sameb D) rows x) up.0 (number_above rows row.0 (suc k) j x (later_placed k row rows h) up.1 (omega arith) (omega arith))
+  number_above table z k j x h r e l = ap (int_lt z) (number_at table k j x h e l) ∙ above z table j r l
 
   entry_back : (table : List (ℤ × D.D)) (k j : ℕ) (x : D.D) → placed D k table ≡ true → rising table ≡ true → tag_of D x ≡ j + k → j < length table → entry_of table (number_of (sameb D) table x) ≡ Some x
   entry_back [] k j x h r e l = absurd (omega arith)
@@ -155,38 +199,52 @@ module _ (D : Declared) (bare : Bare D.parts) where
             (mapped (entry_of rows i) later (λ n. has_later row rows i e ∙ n) (λ x w. (number_later row rows x (λ q. omega (arith, w.2)) ∙ w.0, has_later row rows i e ∙ w.1, omega (arith, w.2))))
       ]
 
-  module _ (table : List (ℤ × D.D)) (whole : is_table D table ≡ true) where
-    in_place : placed D 0 table ≡ true
-    in_place = (and_parts (placed D 0 table) (rising table) whole).0
+-- what the whole table of an enum with no fields says
+module _ (N : Record) (bare : Bare N.parts) (table : List (ℤ × N.D)) (whole : is_table (declared N) table ≡ true) where
+  abbrev D : Declared
+  D = declared N
 
-    in_table : (x : D.D) → tag_of D x < length table
-    in_table x =
-        let n : length table + 0 ≡ length (variants D) = whole_length table 0 in_place in
-        let b : tag_of D x < length (variants D) = tag_below (variants D) (D.to x) in
-        omega arith
+  in_place : placed D 0 table ≡ true
+  in_place = (and_parts (placed D 0 table) (rising table) whole).0
 
-    place_is : (x : D.D) → tag_of D x ≡ tag_of D x + 0
-    place_is x = omega arith
+  in_rise : rising table ≡ true
+  in_rise = (and_parts (placed D 0 table) (rising table) whole).1
 
-    pub there : (x : D.D) → entry_of table (number_of (sameb D) table x) ≡ Some x
-    there x = entry_back table 0 (tag_of D x) x in_place (and_parts (placed D 0 table) (rising table) whole).1 (place_is x) (in_table x)
+  as_long : length table ≡ length (variants D)
+  as_long =
+      let n : length table + 0 ≡ length (variants D) = whole_length D bare table 0 in_place in
+      omega arith
 
-    pub back : (i : ℤ) → MatchOption (entry_of table i) (has_number table i ≡ false) (λ x. (number_of (sameb D) table x ≡ i) × (has_number table i ≡ true))
-    back i = mapped (entry_of table i) (found table 0 i in_place) (λ n. n) (λ x w. (w.0, w.1))
+  in_table : (x : N.D) → tag_of D x < length table
+  in_table x =
+      let b : tag_of D x < length (variants D) = tag_below (variants D) (D.to x) in
+      omega (arith, as_long)
 
-    -- the registry that the table says
-    abbrev pub registry : Registry D.D
-    registry = record {
-      number = number_of (sameb D) table;
-      is_registered = has_number table;
-      entry = entry_of table;
-      there_and_back = there;
-      back_and_there = back;
-    }
+  place_is : (x : N.D) → tag_of D x ≡ tag_of D x + 0
+  place_is x = omega arith
 
-    -- numbers by the place of the entry are those of the table
-    pub numbers : (x : D.D) → get_or (map (λ row. row.0) table) (tag_of D x) (pos 0) ≡ number_of (sameb D) table x
-    numbers x = sym (number_at table 0 (tag_of D x) x in_place (place_is x) (in_table x))
+  pub there : (x : N.D) → entry_of table (number_of (sameb D) table x) ≡ Some x
+  there x = entry_back D bare table 0 (tag_of D x) x in_place in_rise (place_is x) (in_table x)
 
-    pub in_order : InOrder D table registry
-    in_order x y = ap (λ z. int_cmp z (get_or (map (λ row. row.0) table) (tag_of D y) (pos 0))) (numbers x) ∙ ap (int_cmp (number_of (sameb D) table x)) (numbers y)
+  pub back : (i : ℤ) → MatchOption (entry_of table i) (has_number table i ≡ false) (λ x. (number_of (sameb D) table x ≡ i) × (has_number table i ≡ true))
+  back i = mapped (entry_of table i) (found D bare table 0 i in_place) (λ n. n) (λ x w. (w.0, w.1))
+
+  -- the registry that the table says
+  abbrev pub registry : Registry N.D
+  registry = record {
+    number = number_of (sameb D) table;
+    is_registered = has_number table;
+    entry = entry_of table;
+    there_and_back = there;
+    back_and_there = back;
+  }
+
+  -- numbers by the place of the entry are those of the table
+  pub numbers : (x : N.D) → get_or (numbers_of table) (tag_of D x) (pos 0) ≡ number_of (sameb D) table x
+  numbers x = sym (number_at D bare table 0 (tag_of D x) x in_place (place_is x) (in_table x))
+
+  pub in_order : InOrder N registry
+  in_order x y =
+      by_number N.parts table as_long in_rise (N.as_values x) (N.as_values y)
+      ∙ ap (λ z. int_cmp z (get_or (numbers_of table) (tag_of D y) (pos 0))) (numbers x)
+      ∙ ap (int_cmp (number_of (sameb D) table x)) (numbers y)

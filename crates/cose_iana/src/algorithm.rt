@@ -2,7 +2,7 @@
 ghost use Rattle.cose_iana.specs.Registry.{is_private_use};
 ghost use Rattle.cose_iana.specs.Algorithms.{algorithms, algorithms_in_order, algorithms_not_private};
 
-use crate::number::{EnumI64, WithPrivateRange, entry_with};
+use crate::number::{EnumI64, WithPrivateRange, entry_with, number_at};
 
 /// The numbers below this one are for private use.
 pub const ALGORITHM_PRIVATE_USE_MAX: i64 = -65536;
@@ -11,174 +11,174 @@ pub const ALGORITHM_PRIVATE_USE_MAX: i64 = -65536;
 #[derive(Debug, Clone, Copy, PartialEq, Eq, PartialOrd, Ord, Hash)]
 pub enum Algorithm {
     /// RSASSA-PKCS1-v1_5 with SHA-1.
-    RS1 = -65535,
+    RS1,
     /// AES-CTR with a 128-bit key.
-    AesCtr128 = -65534,
+    AesCtr128,
     /// AES-CTR with a 192-bit key.
-    AesCtr192 = -65533,
+    AesCtr192,
     /// AES-CTR with a 256-bit key.
-    AesCtr256 = -65532,
+    AesCtr256,
     /// AES-CBC with a 128-bit key.
-    AesCbc128 = -65531,
+    AesCbc128,
     /// AES-CBC with a 192-bit key.
-    AesCbc192 = -65530,
+    AesCbc192,
     /// AES-CBC with a 256-bit key.
-    AesCbc256 = -65529,
+    AesCbc256,
     /// ECDSA over brainpoolP512r1 with SHA-512.
-    ESB512 = -268,
+    ESB512,
     /// ECDSA over brainpoolP384r1 with SHA-384.
-    ESB384 = -267,
+    ESB384,
     /// ECDSA over brainpoolP320r1 with SHA-384.
-    ESB320 = -266,
+    ESB320,
     /// ECDSA over brainpoolP256r1 with SHA-256.
-    ESB256 = -265,
+    ESB256,
     /// WalnutDSA.
-    WalnutDSA = -260,
+    WalnutDSA,
     /// RSASSA-PKCS1-v1_5 with SHA-512.
-    RS512 = -259,
+    RS512,
     /// RSASSA-PKCS1-v1_5 with SHA-384.
-    RS384 = -258,
+    RS384,
     /// RSASSA-PKCS1-v1_5 with SHA-256.
-    RS256 = -257,
+    RS256,
     /// EdDSA over Ed448.
-    Ed448 = -53,
+    Ed448,
     /// ECDSA over P-521 with SHA-512.
-    ESP512 = -52,
+    ESP512,
     /// ECDSA over P-384 with SHA-384.
-    ESP384 = -51,
+    ESP384,
     /// ML-DSA-87.
-    ML_DSA_87 = -50,
+    ML_DSA_87,
     /// ML-DSA-65.
-    ML_DSA_65 = -49,
+    ML_DSA_65,
     /// ML-DSA-44.
-    ML_DSA_44 = -48,
+    ML_DSA_44,
     /// ECDSA over secp256k1 with SHA-256.
-    ES256K = -47,
+    ES256K,
     /// HSS/LMS, a hash-based signature.
-    HSS_LMS = -46,
+    HSS_LMS,
     /// SHAKE256 with 512 bits of output.
-    SHAKE256 = -45,
+    SHAKE256,
     /// SHA-512.
-    SHA_512 = -44,
+    SHA_512,
     /// SHA-384.
-    SHA_384 = -43,
+    SHA_384,
     /// RSAES-OAEP with SHA-512.
-    RSAES_OAEP_SHA_512 = -42,
+    RSAES_OAEP_SHA_512,
     /// RSAES-OAEP with SHA-256.
-    RSAES_OAEP_SHA_256 = -41,
+    RSAES_OAEP_SHA_256,
     /// RSAES-OAEP with the default parameters of RFC 8017.
-    RSAES_OAEP_RFC_8017_default = -40,
+    RSAES_OAEP_RFC_8017_default,
     /// RSASSA-PSS with SHA-512.
-    PS512 = -39,
+    PS512,
     /// RSASSA-PSS with SHA-384.
-    PS384 = -38,
+    PS384,
     /// RSASSA-PSS with SHA-256.
-    PS256 = -37,
+    PS256,
     /// ECDSA with SHA-512.
-    ES512 = -36,
+    ES512,
     /// ECDSA with SHA-384.
-    ES384 = -35,
+    ES384,
     /// ECDH of two static keys, and AES key wrap with a 256-bit key.
-    ECDH_SS_A256KW = -34,
+    ECDH_SS_A256KW,
     /// ECDH of two static keys, and AES key wrap with a 192-bit key.
-    ECDH_SS_A192KW = -33,
+    ECDH_SS_A192KW,
     /// ECDH of two static keys, and AES key wrap with a 128-bit key.
-    ECDH_SS_A128KW = -32,
+    ECDH_SS_A128KW,
     /// ECDH with an ephemeral key, and AES key wrap with a 256-bit key.
-    ECDH_ES_A256KW = -31,
+    ECDH_ES_A256KW,
     /// ECDH with an ephemeral key, and AES key wrap with a 192-bit key.
-    ECDH_ES_A192KW = -30,
+    ECDH_ES_A192KW,
     /// ECDH with an ephemeral key, and AES key wrap with a 128-bit key.
-    ECDH_ES_A128KW = -29,
+    ECDH_ES_A128KW,
     /// ECDH of two static keys, with HKDF over SHA-512.
-    ECDH_SS_HKDF_512 = -28,
+    ECDH_SS_HKDF_512,
     /// ECDH of two static keys, with HKDF over SHA-256.
-    ECDH_SS_HKDF_256 = -27,
+    ECDH_SS_HKDF_256,
     /// ECDH with an ephemeral key, with HKDF over SHA-512.
-    ECDH_ES_HKDF_512 = -26,
+    ECDH_ES_HKDF_512,
     /// ECDH with an ephemeral key, with HKDF over SHA-256.
-    ECDH_ES_HKDF_256 = -25,
+    ECDH_ES_HKDF_256,
     /// EdDSA over Ed25519.
-    Ed25519 = -19,
+    Ed25519,
     /// SHAKE128 with 256 bits of output.
-    SHAKE128 = -18,
+    SHAKE128,
     /// SHA-512, cut to 256 bits.
-    SHA_512_256 = -17,
+    SHA_512_256,
     /// SHA-256.
-    SHA_256 = -16,
+    SHA_256,
     /// SHA-256, cut to 64 bits.
-    SHA_256_64 = -15,
+    SHA_256_64,
     /// SHA-1.
-    SHA_1 = -14,
+    SHA_1,
     /// A shared secret with HKDF over AES-MAC, with a 256-bit key.
-    Direct_HKDF_AES_256 = -13,
+    Direct_HKDF_AES_256,
     /// A shared secret with HKDF over AES-MAC, with a 128-bit key.
-    Direct_HKDF_AES_128 = -12,
+    Direct_HKDF_AES_128,
     /// A shared secret with HKDF over SHA-512.
-    Direct_HKDF_SHA_512 = -11,
+    Direct_HKDF_SHA_512,
     /// A shared secret with HKDF over SHA-256.
-    Direct_HKDF_SHA_256 = -10,
+    Direct_HKDF_SHA_256,
     /// ECDSA over P-256 with SHA-256.
-    ESP256 = -9,
+    ESP256,
     /// EdDSA.
-    EdDSA = -8,
+    EdDSA,
     /// ECDSA with SHA-256.
-    ES256 = -7,
+    ES256,
     /// The shared key encrypts the content directly.
-    Direct = -6,
+    Direct,
     /// AES key wrap with a 256-bit key.
-    A256KW = -5,
+    A256KW,
     /// AES key wrap with a 192-bit key.
-    A192KW = -4,
+    A192KW,
     /// AES key wrap with a 128-bit key.
-    A128KW = -3,
+    A128KW,
     /// Reserved.
-    Reserved = 0,
+    Reserved,
     /// AES-GCM with a 128-bit key and a 128-bit tag.
-    A128GCM = 1,
+    A128GCM,
     /// AES-GCM with a 192-bit key and a 128-bit tag.
-    A192GCM = 2,
+    A192GCM,
     /// AES-GCM with a 256-bit key and a 128-bit tag.
-    A256GCM = 3,
+    A256GCM,
     /// HMAC with SHA-256, the tag cut to 64 bits.
-    HMAC_256_64 = 4,
+    HMAC_256_64,
     /// HMAC with SHA-256.
-    HMAC_256_256 = 5,
+    HMAC_256_256,
     /// HMAC with SHA-384.
-    HMAC_384_384 = 6,
+    HMAC_384_384,
     /// HMAC with SHA-512.
-    HMAC_512_512 = 7,
+    HMAC_512_512,
     /// AES-CCM with a 128-bit key, a 64-bit tag and a 13-byte nonce.
-    AES_CCM_16_64_128 = 10,
+    AES_CCM_16_64_128,
     /// AES-CCM with a 256-bit key, a 64-bit tag and a 13-byte nonce.
-    AES_CCM_16_64_256 = 11,
+    AES_CCM_16_64_256,
     /// AES-CCM with a 128-bit key, a 64-bit tag and a 7-byte nonce.
-    AES_CCM_64_64_128 = 12,
+    AES_CCM_64_64_128,
     /// AES-CCM with a 256-bit key, a 64-bit tag and a 7-byte nonce.
-    AES_CCM_64_64_256 = 13,
+    AES_CCM_64_64_256,
     /// AES-MAC with a 128-bit key and a 64-bit tag.
-    AES_MAC_128_64 = 14,
+    AES_MAC_128_64,
     /// AES-MAC with a 256-bit key and a 64-bit tag.
-    AES_MAC_256_64 = 15,
+    AES_MAC_256_64,
     /// ChaCha20 and Poly1305 with a 256-bit key and a 128-bit tag.
-    ChaCha20Poly1305 = 24,
+    ChaCha20Poly1305,
     /// AES-MAC with a 128-bit key and a 128-bit tag.
-    AES_MAC_128_128 = 25,
+    AES_MAC_128_128,
     /// AES-MAC with a 256-bit key and a 128-bit tag.
-    AES_MAC_256_128 = 26,
+    AES_MAC_256_128,
     /// AES-CCM with a 128-bit key, a 128-bit tag and a 13-byte nonce.
-    AES_CCM_16_128_128 = 30,
+    AES_CCM_16_128_128,
     /// AES-CCM with a 256-bit key, a 128-bit tag and a 13-byte nonce.
-    AES_CCM_16_128_256 = 31,
+    AES_CCM_16_128_256,
     /// AES-CCM with a 128-bit key, a 128-bit tag and a 7-byte nonce.
-    AES_CCM_64_128_128 = 32,
+    AES_CCM_64_128_128,
     /// AES-CCM with a 256-bit key, a 128-bit tag and a 7-byte nonce.
-    AES_CCM_64_128_256 = 33,
+    AES_CCM_64_128_256,
     /// Generation of initialization vectors.
-    IV_GENERATION = 34,
+    IV_GENERATION,
 }
 
-/// Each entry with its number.
+/// Each entry with its number, by rising numbers.
 static ALGORITHMS: &[(i64, Algorithm)] = &[
     (-65535, Algorithm::RS1),
     (-65534, Algorithm::AesCtr128),
@@ -282,9 +282,8 @@ impl EnumI64 for Algorithm {
         entry_with(ALGORITHMS, i)
     }
 
-    #[tactic(auto, unfolding(crate::specs::Algorithms::algorithms, crate::specs::Registry::number_of, crate::specs::Registry::has_number))]
     fn to_i64(self) -> i64 {
-        self as i64
+        number_at(ALGORITHMS, self as usize)
     }
 }
 

@@ -2,7 +2,7 @@
 ghost use Rattle.cose_iana.specs.Registry.{is_private_use};
 ghost use Rattle.cose_iana.specs.Claims.{cwt_claim_names, cwt_claim_names_in_order, cwt_claim_names_not_private};
 
-use crate::number::{EnumI64, WithPrivateRange, entry_with};
+use crate::number::{EnumI64, WithPrivateRange, entry_with, number_at};
 
 /// The numbers below this one are for private use.
 pub const CWT_CLAIM_PRIVATE_USE_MAX: i64 = -65536;
@@ -11,148 +11,148 @@ pub const CWT_CLAIM_PRIVATE_USE_MAX: i64 = -65536;
 #[derive(Debug, Clone, Copy, PartialEq, Eq, PartialOrd, Ord, Hash)]
 pub enum CwtClaimName {
     /// Components in the sense of GlobalPlatform.
-    GlobalPlatformComponents = -261,
+    GlobalPlatformComponents,
     /// A health certificate.
-    Hcert = -260,
+    Hcert,
     /// A nonce of FIDO Device Onboard.
-    EuphNonce = -259,
+    EuphNonce,
     /// A prefix of what FIDO Device Onboard signs.
-    EatMaroePrefix = -258,
+    EatMaroePrefix,
     /// Data of FIDO Device Onboard.
-    EatFido = -257,
+    EatFido,
     /// Reserved.
-    Reserved = 0,
+    Reserved,
     /// The issuer (RFC 8392).
-    Iss = 1,
+    Iss,
     /// The subject (RFC 8392).
-    Sub = 2,
+    Sub,
     /// The audience (RFC 8392).
-    Aud = 3,
+    Aud,
     /// The time from which the token is no longer accepted (RFC 8392).
-    Exp = 4,
+    Exp,
     /// The time before which the token is not accepted (RFC 8392).
-    Nbf = 5,
+    Nbf,
     /// The time at which the token was issued (RFC 8392).
-    Iat = 6,
+    Iat,
     /// The identifier of the token (RFC 8392).
-    Cti = 7,
+    Cti,
     /// The key of which possession is confirmed (RFC 8747).
-    Cnf = 8,
+    Cnf,
     /// The scope of an access token (RFC 9200).
-    Scope = 9,
+    Scope,
     /// A nonce (RFC 9711).
-    Nonce = 10,
+    Nonce,
     /// The profile of ACE to use (RFC 9200).
-    AceProfile = 38,
+    AceProfile,
     /// The client's nonce (RFC 9200).
-    CNonce = 39,
+    CNonce,
     /// For how many seconds the token holds from its receipt on (RFC 9200).
-    Exi = 40,
+    Exi,
     /// The universal identifier of the entity (RFC 9711).
-    UEID = 256,
+    UEID,
     /// Further universal identifiers of the entity (RFC 9711).
-    SUEIDs = 257,
+    SUEIDs,
     /// The maker of the hardware (RFC 9711).
-    HardwareOemid = 258,
+    HardwareOemid,
     /// The model of the hardware (RFC 9711).
-    HardwareModel = 259,
+    HardwareModel,
     /// The version of the hardware (RFC 9711).
-    HardwareVersion = 260,
+    HardwareVersion,
     /// The seconds since the last boot (RFC 9711).
-    Uptime = 261,
+    Uptime,
     /// Whether the boot was authorized by the maker (RFC 9711).
-    OemAuthorizedBoot = 262,
+    OemAuthorizedBoot,
     /// The state of the debugging facilities (RFC 9711).
-    DebugStatus = 263,
+    DebugStatus,
     /// The geographic location (RFC 9711).
-    Location = 264,
+    Location,
     /// The profile that the token follows (RFC 9711).
-    EatProfile = 265,
+    EatProfile,
     /// The section of submodules (RFC 9711).
-    SubmodulesSection = 266,
+    SubmodulesSection,
     /// How often the entity has booted (RFC 9711).
-    BootCount = 267,
+    BootCount,
     /// A value that stands for one boot (RFC 9711).
-    BootSeed = 268,
+    BootSeed,
     /// Certifications by digital letters of approval (RFC 9711).
-    DLoAs = 269,
+    DLoAs,
     /// The name of the software (RFC 9711).
-    SoftwareName = 270,
+    SoftwareName,
     /// The version of the software (RFC 9711).
-    SoftwareVersion = 271,
+    SoftwareVersion,
     /// Manifests of the software (RFC 9711).
-    SoftwareManifests = 272,
+    SoftwareManifests,
     /// Measurements of the software or its configuration (RFC 9711).
-    Measurements = 273,
+    Measurements,
     /// Results of comparing measurements with reference values (RFC 9711).
-    SoftwareMeasurementResults = 274,
+    SoftwareMeasurementResults,
     /// What the token is meant for (RFC 9711).
-    IntendedUse = 275,
+    IntendedUse,
     /// A geohash.
-    Geohash = 282,
+    Geohash,
     /// The version of a watermarking token.
-    WmVersion = 300,
+    WmVersion,
     /// The vendor of the watermark.
-    WmVendor = 301,
+    WmVendor,
     /// The length of the watermark's pattern.
-    WmPatternLen = 302,
+    WmPatternLen,
     /// The duration of a watermarked segment.
-    WmSegmentDuration = 303,
+    WmSegmentDuration,
     /// The watermark's pattern.
-    WmPattern = 304,
+    WmPattern,
     /// An input from which the pattern of the watermark is derived.
-    WmId = 305,
+    WmId,
     /// A further input from which the pattern of the watermark is derived.
-    WmOpId = 306,
+    WmOpId,
     /// The key by which the pattern of the watermark is derived.
-    WmKeyVer = 307,
+    WmKeyVer,
     /// Replay of a Common Access Token.
-    CatReplay = 308,
+    CatReplay,
     /// Probability of rejection of a Common Access Token.
-    CatPor = 309,
+    CatPor,
     /// The version of a Common Access Token.
-    CatVersion = 310,
+    CatVersion,
     /// Network addresses of a Common Access Token.
-    CatNetworkIp = 311,
+    CatNetworkIp,
     /// The URI of a Common Access Token.
-    CatUri = 312,
+    CatUri,
     /// The HTTP methods of a Common Access Token.
-    CatMethod = 313,
+    CatMethod,
     /// The ALPN of a Common Access Token.
-    CatAlpn = 314,
+    CatAlpn,
     /// The HTTP headers of a Common Access Token.
-    CatHeader = 315,
+    CatHeader,
     /// The countries and regions of a Common Access Token.
-    CatGeoIso3166 = 316,
+    CatGeoIso3166,
     /// The geographic coordinates of a Common Access Token.
-    CatGeoCoord = 317,
+    CatGeoCoord,
     /// The altitude of a Common Access Token.
-    CatGeoAlt = 318,
+    CatGeoAlt,
     /// The TLS public key of a Common Access Token.
-    CatTlsPublicKey = 319,
+    CatTlsPublicKey,
     /// Data for the conditions of a Common Access Token.
-    CatIfData = 320,
+    CatIfData,
     /// Proof of possession in a Common Access Token.
-    CatDPoP = 321,
+    CatDPoP,
     /// The conditions of a Common Access Token.
-    CatIf = 322,
+    CatIf,
     /// The renewal of a Common Access Token.
-    CatRenewal = 323,
+    CatRenewal,
     /// The client of a PSA token (RFC 9783).
-    PsaClientId = 2394,
+    PsaClientId,
     /// The security lifecycle in a PSA token (RFC 9783).
-    PsaSecurityLifecycle = 2395,
+    PsaSecurityLifecycle,
     /// The implementation in a PSA token (RFC 9783).
-    PsaImplementationId = 2396,
+    PsaImplementationId,
     /// The certification reference in a PSA token (RFC 9783).
-    PsaCertificationReference = 2398,
+    PsaCertificationReference,
     /// The software components in a PSA token (RFC 9783).
-    PsaSoftwareComponents = 2399,
+    PsaSoftwareComponents,
     /// The verification service of a PSA token (RFC 9783).
-    PsaVerificationServiceIndicator = 2400,
+    PsaVerificationServiceIndicator,
 }
 
-/// Each entry with its number.
+/// Each entry with its number, by rising numbers.
 static CWT_CLAIM_NAMES: &[(i64, CwtClaimName)] = &[
     (-261, CwtClaimName::GlobalPlatformComponents),
     (-260, CwtClaimName::Hcert),
@@ -243,9 +243,8 @@ impl EnumI64 for CwtClaimName {
         entry_with(CWT_CLAIM_NAMES, i)
     }
 
-    #[tactic(auto, unfolding(crate::specs::Claims::cwt_claim_names, crate::specs::Registry::number_of, crate::specs::Registry::has_number))]
     fn to_i64(self) -> i64 {
-        self as i64
+        number_at(CWT_CLAIM_NAMES, self as usize)
     }
 }
 

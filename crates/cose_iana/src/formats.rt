@@ -1,173 +1,173 @@
 //! Types of contents.
 ghost use Rattle.cose_iana.specs.Formats.{coap_content_formats, coap_content_formats_in_order};
 
-use crate::number::{EnumI64, entry_with};
+use crate::number::{EnumI64, entry_with, number_at};
 
 /// Types of contents: the registry "CoAP Content-Formats" (RFC 7252, section 12.3). These are names;
 /// nothing is read or compressed in them.
 #[derive(Debug, Clone, Copy, PartialEq, Eq, PartialOrd, Ord, Hash)]
 pub enum CoapContentFormat {
     /// `text/plain; charset=utf-8`.
-    TextPlainUtf8 = 0,
+    TextPlainUtf8,
     /// `application/cose; cose-type="cose-encrypt0"`.
-    CoseEncrypt0 = 16,
+    CoseEncrypt0,
     /// `application/cose; cose-type="cose-mac0"`.
-    CoseMac0 = 17,
+    CoseMac0,
     /// `application/cose; cose-type="cose-sign1"`.
-    CoseSign1 = 18,
+    CoseSign1,
     /// `application/ace+cbor`.
-    AceCbor = 19,
+    AceCbor,
     /// `image/gif`.
-    ImageGif = 21,
+    ImageGif,
     /// `image/jpeg`.
-    ImageJpeg = 22,
+    ImageJpeg,
     /// `image/png`.
-    ImagePng = 23,
+    ImagePng,
     /// `application/link-format`.
-    LinkFormat = 40,
+    LinkFormat,
     /// `application/xml`.
-    Xml = 41,
+    Xml,
     /// `application/octet-stream`.
-    OctetStream = 42,
+    OctetStream,
     /// `application/exi`.
-    Exi = 47,
+    Exi,
     /// `application/json`.
-    Json = 50,
+    Json,
     /// `application/json-patch+json`.
-    JsonPatchJson = 51,
+    JsonPatchJson,
     /// `application/merge-patch+json`.
-    MergePatchJson = 52,
+    MergePatchJson,
     /// `application/cbor`.
-    Cbor = 60,
+    Cbor,
     /// `application/cwt`.
-    Cwt = 61,
+    Cwt,
     /// `application/multipart-core`.
-    MultipartCore = 62,
+    MultipartCore,
     /// `application/cbor-seq`.
-    CborSeq = 63,
+    CborSeq,
     /// `application/edhoc+cbor-seq`.
-    EdhocCborSeq = 64,
+    EdhocCborSeq,
     /// `application/cid-edhoc+cbor-seq`.
-    CidEdhocCborSeq = 65,
+    CidEdhocCborSeq,
     /// `application/cose; cose-type="cose-encrypt"`.
-    CoseEncrypt = 96,
+    CoseEncrypt,
     /// `application/cose; cose-type="cose-mac"`.
-    CoseMac = 97,
+    CoseMac,
     /// `application/cose; cose-type="cose-sign"`.
-    CoseSign = 98,
+    CoseSign,
     /// `application/cose-key`.
-    CoseKey = 101,
+    CoseKey,
     /// `application/cose-key-set`.
-    CoseKeySet = 102,
+    CoseKeySet,
     /// `application/senml+json`.
-    SenmlJson = 110,
+    SenmlJson,
     /// `application/sensml+json`.
-    SensmlJson = 111,
+    SensmlJson,
     /// `application/senml+cbor`.
-    SenmlCbor = 112,
+    SenmlCbor,
     /// `application/sensml+cbor`.
-    SensmlCbor = 113,
+    SensmlCbor,
     /// `application/senml-exi`.
-    SenmlExi = 114,
+    SenmlExi,
     /// `application/sensml-exi`.
-    SensmlExi = 115,
+    SensmlExi,
     /// `application/yang-data+cbor; id=sid`.
-    YangData = 140,
+    YangData,
     /// `application/coap-group+json`.
-    CoapGroupJson = 256,
+    CoapGroupJson,
     /// `application/concise-problem-details+cbor`.
-    ConciseProblemDetailsCbor = 257,
+    ConciseProblemDetailsCbor,
     /// `application/swid+cbor`.
-    SwidCbor = 258,
+    SwidCbor,
     /// `application/pkixcmp`.
-    PkixCmp = 259,
+    PkixCmp,
     /// `application/yang-sid+json`.
-    YangSidJson = 260,
+    YangSidJson,
     /// `application/ace-groupcomm+cbor`.
-    AceGroupcommCbor = 261,
+    AceGroupcommCbor,
     /// `application/ace-trl+cbor`.
-    AceTrlCbor = 262,
+    AceTrlCbor,
     /// `application/eat+cwt`.
-    EatCwt = 263,
+    EatCwt,
     /// `application/eat+jwt`.
-    EatJwt = 264,
+    EatJwt,
     /// `application/eat-bun+cbor`.
-    EatBunCbor = 265,
+    EatBunCbor,
     /// `application/eat-bun+json`.
-    EatBunJson = 266,
+    EatBunJson,
     /// `application/eat-ucs+cbor`.
-    EatUcsCbor = 267,
+    EatUcsCbor,
     /// `application/eat-ucs+json`.
-    EatUcsJson = 268,
+    EatUcsJson,
     /// `application/dots+cbor`.
-    DotsCbor = 271,
+    DotsCbor,
     /// `application/missing-blocks+cbor-seq`.
-    MissingBlocksCborSeq = 272,
+    MissingBlocksCborSeq,
     /// `application/pkcs7-mime; smime-type=server-generated-key`.
-    Pkcs7MimeSmimeTypeServerGeneratedKey = 280,
+    Pkcs7MimeSmimeTypeServerGeneratedKey,
     /// `application/pkcs7-mime; smime-type=certs-only`.
-    Pkcs7MimeSmimeTypeCertsOnly = 281,
+    Pkcs7MimeSmimeTypeCertsOnly,
     /// `application/pkcs7-mime; smime-type=CMC-Request`.
-    Pkcs7MimeSmimeTypeCmcRequest = 282,
+    Pkcs7MimeSmimeTypeCmcRequest,
     /// `application/pkcs7-mime; smime-type=CMC-Response`.
-    Pkcs7MimeSmimeTypeCmcResponse = 283,
+    Pkcs7MimeSmimeTypeCmcResponse,
     /// `application/pkcs8`.
-    Pkcs8 = 284,
+    Pkcs8,
     /// `application/csrattrs`.
-    Csrattrs = 285,
+    Csrattrs,
     /// `application/pkcs10`.
-    Pkcs10 = 286,
+    Pkcs10,
     /// `application/pkix-cert`.
-    PkixCert = 287,
+    PkixCert,
     /// `application/aif+cbor`.
-    AifCbor = 290,
+    AifCbor,
     /// `application/aif+json`.
-    AifJson = 291,
+    AifJson,
     /// `application/senml+xml`.
-    SenmlXml = 310,
+    SenmlXml,
     /// `application/sensml+xml`.
-    SensmlXml = 311,
+    SensmlXml,
     /// `application/senml-etch+json`.
-    SenmlEtchJson = 320,
+    SenmlEtchJson,
     /// `application/senml-etch+cbor`.
-    SenmlEtchCbor = 322,
+    SenmlEtchCbor,
     /// `application/yang-data+cbor`.
-    YangDataCbor = 340,
+    YangDataCbor,
     /// `application/yang-data+cbor; id=name`.
-    YangDataCborName = 341,
+    YangDataCborName,
     /// `application/td+json`.
-    TdJson = 432,
+    TdJson,
     /// `application/tm+json`.
-    TmJson = 433,
+    TmJson,
     /// `application/uccs+cbor`.
-    UccsCbor = 601,
+    UccsCbor,
     /// `application/vnd.ocf+cbor`.
-    VndOcfCbor = 10000,
+    VndOcfCbor,
     /// `application/oscore`.
-    Oscore = 10001,
+    Oscore,
     /// `application/javascript`.
-    Javascript = 10002,
+    Javascript,
     /// `application/eat+cwt` in the profile of PSA.
-    EatCwtTfm = 10003,
+    EatCwtTfm,
     /// `application/eat+cwt` in the earlier profile of PSA.
-    EatCwtLegacy = 10004,
+    EatCwtLegacy,
     /// `application/json`, compressed by deflate.
-    JsonDeflate = 11050,
+    JsonDeflate,
     /// `application/cbor`, compressed by deflate.
-    CborDeflate = 11060,
+    CborDeflate,
     /// `application/vnd.oma.lwm2m+tlv`.
-    VndOmaLwm2mTlv = 11542,
+    VndOmaLwm2mTlv,
     /// `application/vnd.oma.lwm2m+json`.
-    VndOmaLwm2mJson = 11543,
+    VndOmaLwm2mJson,
     /// `application/vnd.oma.lwm2m+cbor`.
-    VndOmaLwm2mCbor = 11544,
+    VndOmaLwm2mCbor,
     /// `text/css`.
-    TextCss = 20000,
+    TextCss,
     /// `image/svg+xml`.
-    ImageSvgXml = 30000,
+    ImageSvgXml,
 }
 
-/// Each entry with its number.
+/// Each entry with its number, by rising numbers.
 static COAP_CONTENT_FORMATS: &[(i64, CoapContentFormat)] = &[
     (0, CoapContentFormat::TextPlainUtf8),
     (16, CoapContentFormat::CoseEncrypt0),
@@ -267,8 +267,7 @@ impl EnumI64 for CoapContentFormat {
         entry_with(COAP_CONTENT_FORMATS, i)
     }
 
-    #[tactic(auto, unfolding(crate::specs::Formats::coap_content_formats, crate::specs::Registry::number_of, crate::specs::Registry::has_number))]
     fn to_i64(self) -> i64 {
-        self as i64
+        number_at(COAP_CONTENT_FORMATS, self as usize)
     }
 }

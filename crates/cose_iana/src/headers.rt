@@ -2,7 +2,7 @@
 ghost use Rattle.cose_iana.specs.Registry.{is_private_use};
 ghost use Rattle.cose_iana.specs.Headers.{header_parameters, header_parameters_in_order, header_parameters_not_private, header_algorithm_parameters, header_algorithm_parameters_in_order};
 
-use crate::number::{EnumI64, WithPrivateRange, entry_with};
+use crate::number::{EnumI64, WithPrivateRange, entry_with, number_at};
 
 /// The numbers below this one are for private use.
 pub const HEADER_PARAMETER_PRIVATE_USE_MAX: i64 = -65536;
@@ -11,52 +11,52 @@ pub const HEADER_PARAMETER_PRIVATE_USE_MAX: i64 = -65536;
 #[derive(Debug, Clone, Copy, PartialEq, Eq, PartialOrd, Ord, Hash)]
 pub enum HeaderParameter {
     /// Reserved.
-    Reserved = 0,
+    Reserved,
     /// The algorithm of the message (RFC 9052).
-    Alg = 1,
+    Alg,
     /// Labels that a receiver has to understand (RFC 9052).
-    Crit = 2,
+    Crit,
     /// The type of the content (RFC 9052).
-    ContentType = 3,
+    ContentType,
     /// The identifier of the key (RFC 9052).
-    Kid = 4,
+    Kid,
     /// The whole initialization vector (RFC 9052).
-    Iv = 5,
+    Iv,
     /// A part of the initialization vector (RFC 9052).
-    PartialIv = 6,
+    PartialIv,
     /// A counter signature in its first version (RFC 8152).
-    CounterSignature = 7,
+    CounterSignature,
     /// An abbreviated counter signature in its first version (RFC 8152).
-    CounterSignature0 = 9,
+    CounterSignature0,
     /// The context of the key identifier (RFC 8613).
-    KidContext = 10,
+    KidContext,
     /// A counter signature (RFC 9338).
-    CounterSignatureV2 = 11,
+    CounterSignatureV2,
     /// An abbreviated counter signature (RFC 9338).
-    CounterSignature0V2 = 12,
+    CounterSignature0V2,
     /// A CWT that holds a key (RFC 9528).
-    KeyCwt = 13,
+    KeyCwt,
     /// A CWT claims set that holds a key (RFC 9528).
-    KeyCwtClaimsSet = 14,
+    KeyCwtClaimsSet,
     /// Claims of a CWT in a header (RFC 9597).
-    CwtClaims = 15,
+    CwtClaims,
     /// The type of the whole COSE object (RFC 9596).
-    ObjectContentType = 16,
+    ObjectContentType,
     /// Certificates in no order (RFC 9360).
-    X5Bag = 32,
+    X5Bag,
     /// Certificates that form a chain, in order (RFC 9360).
-    X5Chain = 33,
+    X5Chain,
     /// The hash of a certificate (RFC 9360).
-    X5T = 34,
+    X5T,
     /// The address of a certificate (RFC 9360).
-    X5U = 35,
+    X5U,
     /// A nonce of FIDO Device Onboard.
-    CuphNonce = 256,
+    CuphNonce,
     /// The owner's public key in FIDO Device Onboard.
-    CuphOwnerPubKey = 257,
+    CuphOwnerPubKey,
 }
 
-/// Each entry with its number.
+/// Each entry with its number, by rising numbers.
 static HEADER_PARAMETERS: &[(i64, HeaderParameter)] = &[
     (0, HeaderParameter::Reserved),
     (1, HeaderParameter::Alg),
@@ -99,9 +99,8 @@ impl EnumI64 for HeaderParameter {
         entry_with(HEADER_PARAMETERS, i)
     }
 
-    #[tactic(auto, unfolding(crate::specs::Headers::header_parameters, crate::specs::Registry::number_of, crate::specs::Registry::has_number))]
     fn to_i64(self) -> i64 {
-        self as i64
+        number_at(HEADER_PARAMETERS, self as usize)
     }
 }
 
@@ -120,34 +119,34 @@ impl WithPrivateRange for HeaderParameter {
 #[derive(Debug, Clone, Copy, PartialEq, Eq, PartialOrd, Ord, Hash)]
 pub enum HeaderAlgorithmParameter {
     /// The sender's certificates in order (RFC 9360).
-    X5ChainSender = -29,
+    X5ChainSender,
     /// The address of the sender's certificate (RFC 9360).
-    X5USender = -28,
+    X5USender,
     /// The hash of the sender's certificate (RFC 9360).
-    X5TSender = -27,
+    X5TSender,
     /// Other information of party V (RFC 9053).
-    PartyVOther = -26,
+    PartyVOther,
     /// The nonce of party V (RFC 9053).
-    PartyVNonce = -25,
+    PartyVNonce,
     /// The identity of party V (RFC 9053).
-    PartyVIdentity = -24,
+    PartyVIdentity,
     /// Other information of party U (RFC 9053).
-    PartyUOther = -23,
+    PartyUOther,
     /// The nonce of party U (RFC 9053).
-    PartyUNonce = -22,
+    PartyUNonce,
     /// The identity of party U (RFC 9053).
-    PartyUIdentity = -21,
+    PartyUIdentity,
     /// A salt for key derivation (RFC 9053).
-    Salt = -20,
+    Salt,
     /// The identifier of the sender's static key (RFC 9053).
-    StaticKeyId = -3,
+    StaticKeyId,
     /// The sender's static key (RFC 9053).
-    StaticKey = -2,
+    StaticKey,
     /// The sender's ephemeral key (RFC 9053).
-    EphemeralKey = -1,
+    EphemeralKey,
 }
 
-/// Each entry with its number.
+/// Each entry with its number, by rising numbers.
 static HEADER_ALGORITHM_PARAMETERS: &[(i64, HeaderAlgorithmParameter)] = &[
     (-29, HeaderAlgorithmParameter::X5ChainSender),
     (-28, HeaderAlgorithmParameter::X5USender),
@@ -181,8 +180,7 @@ impl EnumI64 for HeaderAlgorithmParameter {
         entry_with(HEADER_ALGORITHM_PARAMETERS, i)
     }
 
-    #[tactic(auto, unfolding(crate::specs::Headers::header_algorithm_parameters, crate::specs::Registry::number_of, crate::specs::Registry::has_number))]
     fn to_i64(self) -> i64 {
-        self as i64
+        number_at(HEADER_ALGORITHM_PARAMETERS, self as usize)
     }
 }

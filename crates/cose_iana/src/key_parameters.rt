@@ -1,21 +1,21 @@
 //! Labels of keys of one type.
 ghost use Rattle.cose_iana.specs.KeyParameters.{okp_key_parameters, okp_key_parameters_in_order, ec2_key_parameters, ec2_key_parameters_in_order, rsa_key_parameters, rsa_key_parameters_in_order, symmetric_key_parameters, symmetric_key_parameters_in_order, hss_lms_key_parameters, hss_lms_key_parameters_in_order, walnut_dsa_key_parameters, walnut_dsa_key_parameters_in_order, akp_key_parameters, akp_key_parameters_in_order};
 
-use crate::number::{EnumI64, entry_with};
+use crate::number::{EnumI64, entry_with, number_at};
 
 /// Labels of keys of the type OKP, from the registry "COSE Key Type Parameters" (RFC 9053, section
 /// 7.2).
 #[derive(Debug, Clone, Copy, PartialEq, Eq, PartialOrd, Ord, Hash)]
 pub enum OkpKeyParameter {
     /// The private key.
-    D = -4,
+    D,
     /// The public key.
-    X = -2,
+    X,
     /// The curve.
-    Crv = -1,
+    Crv,
 }
 
-/// Each entry with its number.
+/// Each entry with its number, by rising numbers.
 static OKP_KEY_PARAMETERS: &[(i64, OkpKeyParameter)] = &[
     (-4, OkpKeyParameter::D),
     (-2, OkpKeyParameter::X),
@@ -39,9 +39,8 @@ impl EnumI64 for OkpKeyParameter {
         entry_with(OKP_KEY_PARAMETERS, i)
     }
 
-    #[tactic(auto, unfolding(crate::specs::KeyParameters::okp_key_parameters, crate::specs::Registry::number_of, crate::specs::Registry::has_number))]
     fn to_i64(self) -> i64 {
-        self as i64
+        number_at(OKP_KEY_PARAMETERS, self as usize)
     }
 }
 
@@ -50,16 +49,16 @@ impl EnumI64 for OkpKeyParameter {
 #[derive(Debug, Clone, Copy, PartialEq, Eq, PartialOrd, Ord, Hash)]
 pub enum Ec2KeyParameter {
     /// The private key.
-    D = -4,
+    D,
     /// The y-coordinate, or its sign.
-    Y = -3,
+    Y,
     /// The x-coordinate.
-    X = -2,
+    X,
     /// The curve.
-    Crv = -1,
+    Crv,
 }
 
-/// Each entry with its number.
+/// Each entry with its number, by rising numbers.
 static EC2_KEY_PARAMETERS: &[(i64, Ec2KeyParameter)] = &[
     (-4, Ec2KeyParameter::D),
     (-3, Ec2KeyParameter::Y),
@@ -84,9 +83,8 @@ impl EnumI64 for Ec2KeyParameter {
         entry_with(EC2_KEY_PARAMETERS, i)
     }
 
-    #[tactic(auto, unfolding(crate::specs::KeyParameters::ec2_key_parameters, crate::specs::Registry::number_of, crate::specs::Registry::has_number))]
     fn to_i64(self) -> i64 {
-        self as i64
+        number_at(EC2_KEY_PARAMETERS, self as usize)
     }
 }
 
@@ -94,32 +92,32 @@ impl EnumI64 for Ec2KeyParameter {
 #[derive(Debug, Clone, Copy, PartialEq, Eq, PartialOrd, Ord, Hash)]
 pub enum RsaKeyParameter {
     /// The CRT coefficient of another prime.
-    TI = -12,
+    TI,
     /// The CRT exponent of another prime.
-    DI = -11,
+    DI,
     /// Another prime.
-    RI = -10,
+    RI,
     /// The other primes, with their exponents and coefficients.
-    Other = -9,
+    Other,
     /// The first CRT coefficient.
-    QInv = -8,
+    QInv,
     /// The CRT exponent of the second prime.
-    DQ = -7,
+    DQ,
     /// The CRT exponent of the first prime.
-    DP = -6,
+    DP,
     /// The second prime.
-    Q = -5,
+    Q,
     /// The first prime.
-    P = -4,
+    P,
     /// The private exponent.
-    D = -3,
+    D,
     /// The public exponent.
-    E = -2,
+    E,
     /// The modulus.
-    N = -1,
+    N,
 }
 
-/// Each entry with its number.
+/// Each entry with its number, by rising numbers.
 static RSA_KEY_PARAMETERS: &[(i64, RsaKeyParameter)] = &[
     (-12, RsaKeyParameter::TI),
     (-11, RsaKeyParameter::DI),
@@ -152,9 +150,8 @@ impl EnumI64 for RsaKeyParameter {
         entry_with(RSA_KEY_PARAMETERS, i)
     }
 
-    #[tactic(auto, unfolding(crate::specs::KeyParameters::rsa_key_parameters, crate::specs::Registry::number_of, crate::specs::Registry::has_number))]
     fn to_i64(self) -> i64 {
-        self as i64
+        number_at(RSA_KEY_PARAMETERS, self as usize)
     }
 }
 
@@ -162,10 +159,10 @@ impl EnumI64 for RsaKeyParameter {
 #[derive(Debug, Clone, Copy, PartialEq, Eq, PartialOrd, Ord, Hash)]
 pub enum SymmetricKeyParameter {
     /// The key.
-    K = -1,
+    K,
 }
 
-/// Each entry with its number.
+/// Each entry with its number, by rising numbers.
 static SYMMETRIC_KEY_PARAMETERS: &[(i64, SymmetricKeyParameter)] = &[(
     -1,
     SymmetricKeyParameter::K,
@@ -188,9 +185,8 @@ impl EnumI64 for SymmetricKeyParameter {
         entry_with(SYMMETRIC_KEY_PARAMETERS, i)
     }
 
-    #[tactic(auto, unfolding(crate::specs::KeyParameters::symmetric_key_parameters, crate::specs::Registry::number_of, crate::specs::Registry::has_number))]
     fn to_i64(self) -> i64 {
-        self as i64
+        number_at(SYMMETRIC_KEY_PARAMETERS, self as usize)
     }
 }
 
@@ -198,10 +194,10 @@ impl EnumI64 for SymmetricKeyParameter {
 #[derive(Debug, Clone, Copy, PartialEq, Eq, PartialOrd, Ord, Hash)]
 pub enum HssLmsKeyParameter {
     /// The public key.
-    Pub = -1,
+    Pub,
 }
 
-/// Each entry with its number.
+/// Each entry with its number, by rising numbers.
 static HSS_LMS_KEY_PARAMETERS: &[(i64, HssLmsKeyParameter)] = &[(-1, HssLmsKeyParameter::Pub)];
 
 impl EnumI64 for HssLmsKeyParameter {
@@ -221,9 +217,8 @@ impl EnumI64 for HssLmsKeyParameter {
         entry_with(HSS_LMS_KEY_PARAMETERS, i)
     }
 
-    #[tactic(auto, unfolding(crate::specs::KeyParameters::hss_lms_key_parameters, crate::specs::Registry::number_of, crate::specs::Registry::has_number))]
     fn to_i64(self) -> i64 {
-        self as i64
+        number_at(HSS_LMS_KEY_PARAMETERS, self as usize)
     }
 }
 
@@ -231,20 +226,20 @@ impl EnumI64 for HssLmsKeyParameter {
 #[derive(Debug, Clone, Copy, PartialEq, Eq, PartialOrd, Ord, Hash)]
 pub enum WalnutDsaKeyParameter {
     /// The second matrix.
-    Matrix2 = -6,
+    Matrix2,
     /// The permutation that belongs to the first matrix.
-    Permutation1 = -5,
+    Permutation1,
     /// The first matrix.
-    Matrix1 = -4,
+    Matrix1,
     /// The T-values.
-    TValues = -3,
+    TValues,
     /// The size of the field.
-    Q = -2,
+    Q,
     /// The size of the group and of the matrices.
-    N = -1,
+    N,
 }
 
-/// Each entry with its number.
+/// Each entry with its number, by rising numbers.
 static WALNUT_DSA_KEY_PARAMETERS: &[(i64, WalnutDsaKeyParameter)] = &[
     (-6, WalnutDsaKeyParameter::Matrix2),
     (-5, WalnutDsaKeyParameter::Permutation1),
@@ -271,9 +266,8 @@ impl EnumI64 for WalnutDsaKeyParameter {
         entry_with(WALNUT_DSA_KEY_PARAMETERS, i)
     }
 
-    #[tactic(auto, unfolding(crate::specs::KeyParameters::walnut_dsa_key_parameters, crate::specs::Registry::number_of, crate::specs::Registry::has_number))]
     fn to_i64(self) -> i64 {
-        self as i64
+        number_at(WALNUT_DSA_KEY_PARAMETERS, self as usize)
     }
 }
 
@@ -281,12 +275,12 @@ impl EnumI64 for WalnutDsaKeyParameter {
 #[derive(Debug, Clone, Copy, PartialEq, Eq, PartialOrd, Ord, Hash)]
 pub enum AkpKeyParameter {
     /// The private key.
-    Priv = -2,
+    Priv,
     /// The public key.
-    Pub = -1,
+    Pub,
 }
 
-/// Each entry with its number.
+/// Each entry with its number, by rising numbers.
 static AKP_KEY_PARAMETERS: &[(i64, AkpKeyParameter)] = &[
     (-2, AkpKeyParameter::Priv),
     (-1, AkpKeyParameter::Pub),
@@ -309,8 +303,7 @@ impl EnumI64 for AkpKeyParameter {
         entry_with(AKP_KEY_PARAMETERS, i)
     }
 
-    #[tactic(auto, unfolding(crate::specs::KeyParameters::akp_key_parameters, crate::specs::Registry::number_of, crate::specs::Registry::has_number))]
     fn to_i64(self) -> i64 {
-        self as i64
+        number_at(AKP_KEY_PARAMETERS, self as usize)
     }
 }

@@ -2,26 +2,26 @@
 ghost use Rattle.cose_iana.specs.Registry.{is_private_use};
 ghost use Rattle.cose_iana.specs.Keys.{key_parameters, key_parameters_in_order, key_types, key_types_in_order, elliptic_curves, elliptic_curves_in_order, elliptic_curves_not_private, key_operations, key_operations_in_order};
 
-use crate::number::{EnumI64, WithPrivateRange, entry_with};
+use crate::number::{EnumI64, WithPrivateRange, entry_with, number_at};
 
 /// Labels of keys of every type: the registry "COSE Key Common Parameters" (RFC 9052, section 7.1).
 #[derive(Debug, Clone, Copy, PartialEq, Eq, PartialOrd, Ord, Hash)]
 pub enum KeyParameter {
     /// Reserved.
-    Reserved = 0,
+    Reserved,
     /// The type of the key.
-    Kty = 1,
+    Kty,
     /// The identifier of the key.
-    Kid = 2,
+    Kid,
     /// The algorithm that the key is for.
-    Alg = 3,
+    Alg,
     /// The operations that the key is for.
-    KeyOps = 4,
+    KeyOps,
     /// The base of initialization vectors.
-    BaseIv = 5,
+    BaseIv,
 }
 
-/// Each entry with its number.
+/// Each entry with its number, by rising numbers.
 static KEY_PARAMETERS: &[(i64, KeyParameter)] = &[
     (0, KeyParameter::Reserved),
     (1, KeyParameter::Kty),
@@ -48,9 +48,8 @@ impl EnumI64 for KeyParameter {
         entry_with(KEY_PARAMETERS, i)
     }
 
-    #[tactic(auto, unfolding(crate::specs::Keys::key_parameters, crate::specs::Registry::number_of, crate::specs::Registry::has_number))]
     fn to_i64(self) -> i64 {
-        self as i64
+        number_at(KEY_PARAMETERS, self as usize)
     }
 }
 
@@ -58,24 +57,24 @@ impl EnumI64 for KeyParameter {
 #[derive(Debug, Clone, Copy, PartialEq, Eq, PartialOrd, Ord, Hash)]
 pub enum KeyType {
     /// Reserved.
-    Reserved = 0,
+    Reserved,
     /// An octet key pair.
-    OKP = 1,
+    OKP,
     /// A key over an elliptic curve, with an x- and a y-coordinate.
-    EC2 = 2,
+    EC2,
     /// An RSA key.
-    RSA = 3,
+    RSA,
     /// A symmetric key.
-    Symmetric = 4,
+    Symmetric,
     /// A public key of HSS/LMS.
-    HSS_LMS = 5,
+    HSS_LMS,
     /// A public key of WalnutDSA.
-    WalnutDSA = 6,
+    WalnutDSA,
     /// A key pair of one algorithm.
-    AKP = 7,
+    AKP,
 }
 
-/// Each entry with its number.
+/// Each entry with its number, by rising numbers.
 static KEY_TYPES: &[(i64, KeyType)] = &[
     (0, KeyType::Reserved),
     (1, KeyType::OKP),
@@ -104,9 +103,8 @@ impl EnumI64 for KeyType {
         entry_with(KEY_TYPES, i)
     }
 
-    #[tactic(auto, unfolding(crate::specs::Keys::key_types, crate::specs::Registry::number_of, crate::specs::Registry::has_number))]
     fn to_i64(self) -> i64 {
-        self as i64
+        number_at(KEY_TYPES, self as usize)
     }
 }
 
@@ -117,34 +115,34 @@ pub const ELLIPTIC_CURVE_PRIVATE_USE_MAX: i64 = -65536;
 #[derive(Debug, Clone, Copy, PartialEq, Eq, PartialOrd, Ord, Hash)]
 pub enum EllipticCurve {
     /// Reserved.
-    Reserved = 0,
+    Reserved,
     /// NIST's P-256, secp256r1.
-    P_256 = 1,
+    P_256,
     /// NIST's P-384, secp384r1.
-    P_384 = 2,
+    P_384,
     /// NIST's P-521, secp521r1.
-    P_521 = 3,
+    P_521,
     /// X25519, for ECDH alone.
-    X25519 = 4,
+    X25519,
     /// X448, for ECDH alone.
-    X448 = 5,
+    X448,
     /// Ed25519, for EdDSA alone.
-    Ed25519 = 6,
+    Ed25519,
     /// Ed448, for EdDSA alone.
-    Ed448 = 7,
+    Ed448,
     /// Secp256k1.
-    Secp256k1 = 8,
+    Secp256k1,
     /// The curve brainpoolP256r1.
-    BrainpoolP256R1 = 256,
+    BrainpoolP256R1,
     /// The curve brainpoolP320r1.
-    BrainpoolP320R1 = 257,
+    BrainpoolP320R1,
     /// The curve brainpoolP384r1.
-    BrainpoolP384R1 = 258,
+    BrainpoolP384R1,
     /// The curve brainpoolP512r1.
-    BrainpoolP512R1 = 259,
+    BrainpoolP512R1,
 }
 
-/// Each entry with its number.
+/// Each entry with its number, by rising numbers.
 static ELLIPTIC_CURVES: &[(i64, EllipticCurve)] = &[
     (0, EllipticCurve::Reserved),
     (1, EllipticCurve::P_256),
@@ -178,9 +176,8 @@ impl EnumI64 for EllipticCurve {
         entry_with(ELLIPTIC_CURVES, i)
     }
 
-    #[tactic(auto, unfolding(crate::specs::Keys::elliptic_curves, crate::specs::Registry::number_of, crate::specs::Registry::has_number))]
     fn to_i64(self) -> i64 {
-        self as i64
+        number_at(ELLIPTIC_CURVES, self as usize)
     }
 }
 
@@ -198,28 +195,28 @@ impl WithPrivateRange for EllipticCurve {
 #[derive(Debug, Clone, Copy, PartialEq, Eq, PartialOrd, Ord, Hash)]
 pub enum KeyOperation {
     /// To make signatures.
-    Sign = 1,
+    Sign,
     /// To verify signatures.
-    Verify = 2,
+    Verify,
     /// To encrypt content.
-    Encrypt = 3,
+    Encrypt,
     /// To decrypt content.
-    Decrypt = 4,
+    Decrypt,
     /// To encrypt keys.
-    WrapKey = 5,
+    WrapKey,
     /// To decrypt keys.
-    UnwrapKey = 6,
+    UnwrapKey,
     /// To derive keys.
-    DeriveKey = 7,
+    DeriveKey,
     /// To derive bits that are no key.
-    DeriveBits = 8,
+    DeriveBits,
     /// To make authentication tags.
-    MacCreate = 9,
+    MacCreate,
     /// To verify authentication tags.
-    MacVerify = 10,
+    MacVerify,
 }
 
-/// Each entry with its number.
+/// Each entry with its number, by rising numbers.
 static KEY_OPERATIONS: &[(i64, KeyOperation)] = &[
     (1, KeyOperation::Sign),
     (2, KeyOperation::Verify),
@@ -250,8 +247,7 @@ impl EnumI64 for KeyOperation {
         entry_with(KEY_OPERATIONS, i)
     }
 
-    #[tactic(auto, unfolding(crate::specs::Keys::key_operations, crate::specs::Registry::number_of, crate::specs::Registry::has_number))]
     fn to_i64(self) -> i64 {
-        self as i64
+        number_at(KEY_OPERATIONS, self as usize)
     }
 }

@@ -1,6 +1,6 @@
 //! Entries and their numbers.
 ghost use Rattle.std.specs.Ordering.{int_cmp};
-ghost use Rattle.std.specs.Prelude.{◌≡◌, ℤ, Bool, true, false, Option, Some, MatchOption};
+ghost use Rattle.std.specs.Prelude.{◌≡◌, ◌<◌, ℤ, pos, Bool, true, false, length, map, get_or, Option, Some, MatchOption};
 ghost use Rattle.cose_iana.specs.Registry.{entry_of};
 
 /// A registry: each entry has a number, each number of the registry is that of one entry, and the entries are ordered by their numbers.
@@ -53,4 +53,12 @@ pub(crate) fn entry_with<E: Copy>(table: &[(i64, E)], i: i64) -> Option<E>
     ensures { result ≡ entry_of table.now i }
 {
     table.iter().find(|row| row.0 == i).map(|row| row.1)
+}
+
+/// The number in the row at this place: that of the entry there, since rows stand in the order of the enum.
+pub(crate) fn number_at<E: Copy>(table: &[(i64, E)], place: usize) -> i64
+    requires { place < length table.now }
+    ensures { result ≡ get_or (map (λ row. row.0) table.now) place (pos 0) }
+{
+    table[place].0
 }

@@ -1,30 +1,30 @@
 //! Tags.
 ghost use Rattle.cose_iana.specs.Tags.{cbor_tags, cbor_tags_in_order};
 
-use crate::number::{EnumI64, entry_with};
+use crate::number::{EnumI64, entry_with, number_at};
 
 /// Tags of COSE and of CBOR Web Tokens, from the registry "CBOR Tags" (RFC 8949, section 9.2).
 #[derive(Debug, Clone, Copy, PartialEq, Eq, PartialOrd, Ord, Hash)]
 pub enum CborTag {
     /// A COSE_Encrypt0 (RFC 9052).
-    CoseEncrypt0 = 16,
+    CoseEncrypt0,
     /// A COSE_Mac0 (RFC 9052).
-    CoseMac0 = 17,
+    CoseMac0,
     /// A COSE_Sign1 (RFC 9052).
-    CoseSign1 = 18,
+    CoseSign1,
     /// A counter signature that stands alone (RFC 9338).
-    CoseCountersignature = 19,
+    CoseCountersignature,
     /// A CBOR Web Token (RFC 8392).
-    Cwt = 61,
+    Cwt,
     /// A COSE_Encrypt (RFC 9052).
-    CoseEncrypt = 96,
+    CoseEncrypt,
     /// A COSE_Mac (RFC 9052).
-    CoseMac = 97,
+    CoseMac,
     /// A COSE_Sign (RFC 9052).
-    CoseSign = 98,
+    CoseSign,
 }
 
-/// Each entry with its number.
+/// Each entry with its number, by rising numbers.
 static CBOR_TAGS: &[(i64, CborTag)] = &[
     (16, CborTag::CoseEncrypt0),
     (17, CborTag::CoseMac0),
@@ -53,8 +53,7 @@ impl EnumI64 for CborTag {
         entry_with(CBOR_TAGS, i)
     }
 
-    #[tactic(auto, unfolding(crate::specs::Tags::cbor_tags, crate::specs::Registry::number_of, crate::specs::Registry::has_number))]
     fn to_i64(self) -> i64 {
-        self as i64
+        number_at(CBOR_TAGS, self as usize)
     }
 }
