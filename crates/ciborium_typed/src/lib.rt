@@ -10,6 +10,7 @@ mod simple;
 pub mod typed;
 mod untagged;
 mod value_sink;
+mod value_source;
 mod values;
 
 pub use crate::de::{Deserialize, Source};
@@ -17,3 +18,4 @@ pub use crate::error::Error;
 pub use crate::ser::{Serialize, Sink};
 pub use crate::typed::ValueTyped;
 pub use crate::value_sink::ValueSink;
+pub use crate::value_source::ValueSource;
