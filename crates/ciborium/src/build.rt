@@ -5,7 +5,7 @@ ghost use Rattle.ciborium_value.specs.View.{view, views, view_pairs};
 ghost use Rattle.ciborium_typed.specs.declared.error.Error.TheVariants as error;
 
 use crate::value::{Error, Value};
-use ciborium_typed::{Serialize, ValueSink};
+use ciborium_typed::{Serialize, ValueTyped};
 use std::alloc::Global;
 
 /// The item that a value is written as.
