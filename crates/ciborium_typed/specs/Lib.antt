@@ -1,3 +1,4 @@
 pub mod Back
 pub mod Events
+pub mod Ranges
 pub mod Reading

@@ -4,10 +4,13 @@
 pub mod de;
 mod error;
 pub mod laws;
+mod numbers;
 pub mod ser;
 mod simple;
+mod texts;
 mod untagged;
 
 pub use crate::de::{Deserialize, Source};
 pub use crate::error::Error;
 pub use crate::ser::{Serialize, Sink};
+pub use crate::texts::ByteBuf;
