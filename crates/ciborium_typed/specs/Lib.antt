@@ -2,3 +2,5 @@ pub mod Back
 pub mod Events
 pub mod Ranges
 pub mod Reading
+pub mod Texts
+pub mod Wide

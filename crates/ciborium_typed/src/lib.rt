@@ -9,6 +9,7 @@ pub mod ser;
 mod simple;
 mod texts;
 mod untagged;
+mod wide;
 
 pub use crate::de::{Deserialize, Source};
 pub use crate::error::Error;

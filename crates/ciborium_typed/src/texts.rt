@@ -4,6 +4,7 @@ ghost use Rattle.ciborium_value.specs.Kinds.{is_text};
 ghost use Rattle.ciborium_value.specs.Tree as spec;
 ghost use Rattle.ciborium_value.specs.Tree.{is_bytes};
 ghost use Rattle.ciborium_typed.specs.Reading.{bare, unless};
+ghost use Rattle.ciborium_typed.specs.Texts.{is_character};
 
 use crate::de::Deserialize;
 use crate::error::Error;
@@ -11,6 +12,30 @@ use crate::ser::{Serialize, Sink};
 use crate::untagged::bare;
 use ciborium_value::{Kind, Value};
 use std::alloc::Global;
+
+impl Serialize for char {
+    ghost put = { λ c. spec.text (encode_utf8 c) };
+
+    fn serialize<S: Sink>(&self, sink: &mut S) -> Result<(), S::Error> {
+        let mut buffer = [0; 4];
+        sink.text((*self).encode_utf8(&mut buffer))
+    }
+}
+
+impl Deserialize for char {
+    ghost refusal = { λ t. unless (is_character (bare t)) };
+
+    ghost takes = { λ t c. bare t ≡ spec.text (encode_utf8 c) };
+
+    fn take(_alloc: Global, value: Value) -> Result<char, Error> {
+        if let Value::Text(text) = bare(value) {
+            if let Ok(character) = text.as_str().parse::<char>() {
+                return Ok(character);
+            }
+        }
+        Err(Error::Kind(Kind::WrongType))
+    }
+}
 
 /// The content of a byte string. A `Vec<u8>` is an array of numbers.
 #[derive(Debug, PartialEq, Eq, PartialOrd, Ord, Hash, Drop)]
