@@ -34,6 +34,12 @@ pub fn numbers_are_taken_back()
     ensures isize { (x : ℤ) → FitsSigned w64 x → IsTakenBack ⟦<isize as Serialize>⟧.put ⟦<isize as Deserialize>⟧.refusal ⟦<isize as Deserialize>⟧.takes x }
 {}
 
+/// Numbers of 128 bits are taken back.
+pub fn wide_numbers_are_taken_back()
+    ensures u128 { (x : ℕ) → x < 2 ^ 128 → IsTakenBack ⟦<u128 as Serialize>⟧.put ⟦<u128 as Deserialize>⟧.refusal ⟦<u128 as Deserialize>⟧.takes x }
+    ensures i128 { (x : ℤ) → FitsSigned w128 x → IsTakenBack ⟦<i128 as Serialize>⟧.put ⟦<i128 as Deserialize>⟧.refusal ⟦<i128 as Deserialize>⟧.takes x }
+{}
+
 /// A character is taken back.
 pub fn characters_are_taken_back()
     ensures { (x : ℕ) → IsScalar x → IsTakenBack ⟦<char as Serialize>⟧.put ⟦<char as Deserialize>⟧.refusal ⟦<char as Deserialize>⟧.takes x }

@@ -7,6 +7,8 @@ pub mod laws;
 mod numbers;
 pub mod ser;
 mod simple;
+#[cfg(test)]
+mod tests;
 mod texts;
 mod untagged;
 mod wide;
