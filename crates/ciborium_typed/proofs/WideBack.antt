@@ -1,8 +1,7 @@
 -- Numbers of 128 bits are taken back.
-use Rattle.std.proofs.Common.{◌≡◌, ℕ, ℤ, suc, pos, negsuc, ◌<◌, ◌≤◌, ◌^◌, List, [], ◌∷◌, length, Bool, true, Option, Some, None, cond, nat_eq, nat_lt, nat_le, FitsSigned, refl, ap, ◌∙◌, arith}
+use Rattle.std.proofs.Common.{◌≡◌, ℕ, ℤ, pos, negsuc, ◌<◌, ◌≤◌, ◌^◌, List, [], ◌∷◌, length, Bool, true, Some, None, cond, nat_eq, nat_lt, nat_le, FitsSigned, refl, ap, ◌∙◌, arith}
 use Rattle.std.specs.Int.{w128, to_be_bytes}
 use Rattle.std.proofs.lemmas.Bool.{cond_both, lt-ltb, le-leb}
-use Rattle.ciborium_value.specs.declared.kind.Kind.{Kind}
 use Rattle.ciborium_value.specs.declared.kind.Kind.TheVariants.{Range}
 use Rattle.ciborium_value.specs.Folding.{without_zeros}
 use Rattle.ciborium_value.specs.Numbers.{IsWide, fewest_bytes, number_tree, tree_number}

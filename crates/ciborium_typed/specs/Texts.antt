@@ -1,5 +1,5 @@
 -- Texts of one character.
-use Rattle.std.specs.Prelude.{List, ℕ, Bool, false, ◌&&◌, length, chars, nat_eq}
+use Rattle.std.specs.Prelude.{Bool, false, ◌&&◌, length, chars, nat_eq}
 use Rattle.std.specs.Str.{is_utf8}
 use Rattle.ciborium_value.specs.Tree.{Tree, text}
 
