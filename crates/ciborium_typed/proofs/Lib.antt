@@ -1,3 +1,5 @@
 pub mod Built
+pub mod Characters
 pub mod Foldings
 pub mod Joined
+pub mod WideBack

@@ -1,11 +1,56 @@
 //! Facts about what is written and taken, for proofs. The calls change nothing.
-ghost use Rattle.std.specs.Prelude.{Bool};
+ghost use Rattle.std.specs.Prelude.{◌<◌, ◌^◌, ℕ, ℤ, Bool, FitsSigned, String};
+ghost use Rattle.std.specs.Int.{w8, w16, w32, w64, w128};
+ghost use Rattle.std.specs.Char.{IsScalar};
+ghost use Rattle.std.specs.Global.{Global};
+ghost use Rattle.ciborium_typed.specs.declared.texts.ByteBuf.{ByteBuf as ByteBufOf};
 ghost use Rattle.ciborium_typed.specs.Back.{IsTakenBack};
 
 use crate::de::Deserialize;
 use crate::ser::Serialize;
+use crate::texts::ByteBuf;
 
 /// A boolean is taken back.
 pub fn booleans_are_taken_back()
     ensures { (x : Bool) → IsTakenBack ⟦<bool as Serialize>⟧.put ⟦<bool as Deserialize>⟧.refusal ⟦<bool as Deserialize>⟧.takes x }
+{}
+
+/// Null is taken back.
+pub fn null_is_taken_back()
+    ensures { IsTakenBack ⟦<() as Serialize>⟧.put ⟦<() as Deserialize>⟧.refusal ⟦<() as Deserialize>⟧.takes tt }
+{}
+
+/// Numbers of up to 64 bits are taken back.
+pub fn numbers_are_taken_back()
+    ensures u8 { (x : ℕ) → x < 2 ^ 8 → IsTakenBack ⟦<u8 as Serialize>⟧.put ⟦<u8 as Deserialize>⟧.refusal ⟦<u8 as Deserialize>⟧.takes x }
+    ensures u16 { (x : ℕ) → x < 2 ^ 16 → IsTakenBack ⟦<u16 as Serialize>⟧.put ⟦<u16 as Deserialize>⟧.refusal ⟦<u16 as Deserialize>⟧.takes x }
+    ensures u32 { (x : ℕ) → x < 2 ^ 32 → IsTakenBack ⟦<u32 as Serialize>⟧.put ⟦<u32 as Deserialize>⟧.refusal ⟦<u32 as Deserialize>⟧.takes x }
+    ensures u64 { (x : ℕ) → x < 2 ^ 64 → IsTakenBack ⟦<u64 as Serialize>⟧.put ⟦<u64 as Deserialize>⟧.refusal ⟦<u64 as Deserialize>⟧.takes x }
+    ensures usize { (x : ℕ) → x < 2 ^ 64 → IsTakenBack ⟦<usize as Serialize>⟧.put ⟦<usize as Deserialize>⟧.refusal ⟦<usize as Deserialize>⟧.takes x }
+    ensures i8 { (x : ℤ) → FitsSigned w8 x → IsTakenBack ⟦<i8 as Serialize>⟧.put ⟦<i8 as Deserialize>⟧.refusal ⟦<i8 as Deserialize>⟧.takes x }
+    ensures i16 { (x : ℤ) → FitsSigned w16 x → IsTakenBack ⟦<i16 as Serialize>⟧.put ⟦<i16 as Deserialize>⟧.refusal ⟦<i16 as Deserialize>⟧.takes x }
+    ensures i32 { (x : ℤ) → FitsSigned w32 x → IsTakenBack ⟦<i32 as Serialize>⟧.put ⟦<i32 as Deserialize>⟧.refusal ⟦<i32 as Deserialize>⟧.takes x }
+    ensures i64 { (x : ℤ) → FitsSigned w64 x → IsTakenBack ⟦<i64 as Serialize>⟧.put ⟦<i64 as Deserialize>⟧.refusal ⟦<i64 as Deserialize>⟧.takes x }
+    ensures isize { (x : ℤ) → FitsSigned w64 x → IsTakenBack ⟦<isize as Serialize>⟧.put ⟦<isize as Deserialize>⟧.refusal ⟦<isize as Deserialize>⟧.takes x }
+{}
+
+/// Numbers of 128 bits are taken back.
+pub fn wide_numbers_are_taken_back()
+    ensures u128 { (x : ℕ) → x < 2 ^ 128 → IsTakenBack ⟦<u128 as Serialize>⟧.put ⟦<u128 as Deserialize>⟧.refusal ⟦<u128 as Deserialize>⟧.takes x }
+    ensures i128 { (x : ℤ) → FitsSigned w128 x → IsTakenBack ⟦<i128 as Serialize>⟧.put ⟦<i128 as Deserialize>⟧.refusal ⟦<i128 as Deserialize>⟧.takes x }
+{}
+
+/// A character is taken back.
+pub fn characters_are_taken_back()
+    ensures { (x : ℕ) → IsScalar x → IsTakenBack ⟦<char as Serialize>⟧.put ⟦<char as Deserialize>⟧.refusal ⟦<char as Deserialize>⟧.takes x }
+{}
+
+/// A text is taken back.
+pub fn texts_are_taken_back()
+    ensures { (x : String Global) → IsTakenBack ⟦<String as Serialize>⟧.put ⟦<String as Deserialize>⟧.refusal ⟦<String as Deserialize>⟧.takes x }
+{}
+
+/// A byte string is taken back.
+pub fn byte_strings_are_taken_back()
+    ensures { (x : ByteBufOf) → IsTakenBack ⟦<ByteBuf as Serialize>⟧.put ⟦<ByteBuf as Deserialize>⟧.refusal ⟦<ByteBuf as Deserialize>⟧.takes x }
 {}

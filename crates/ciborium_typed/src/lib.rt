@@ -5,17 +5,23 @@ pub mod de;
 mod error;
 mod folded;
 pub mod laws;
+mod numbers;
 pub mod ser;
 mod simple;
+#[cfg(test)]
+mod tests;
+mod texts;
 pub mod typed;
 mod untagged;
 mod value_sink;
 mod value_source;
 mod values;
+mod wide;
 
 pub use crate::de::{Deserialize, Source};
 pub use crate::error::Error;
 pub use crate::ser::{Serialize, Sink};
+pub use crate::texts::ByteBuf;
 pub use crate::typed::ValueTyped;
 pub use crate::value_sink::ValueSink;
 pub use crate::value_source::ValueSource;

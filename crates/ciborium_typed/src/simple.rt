@@ -1,6 +1,7 @@
-//! Booleans.
+//! Booleans and null.
 ghost use Rattle.std.specs.Prelude.{◌≡◌, None, Some};
-ghost use Rattle.ciborium_value.specs.Kinds.{is_bool};
+ghost use Rattle.ciborium_value.specs.Kinds.{is_bool, is_null};
+ghost use Rattle.ciborium_value.specs.Tree as spec;
 ghost use Rattle.ciborium_value.specs.View.{bool_tree};
 ghost use Rattle.ciborium_typed.specs.Reading.{bare, unless};
 
@@ -27,6 +28,27 @@ impl Deserialize for bool {
     fn take(_alloc: Global, value: Value) -> Result<bool, Error> {
         match bare(value) {
             Value::Bool(b) => Ok(b),
+            _ => Err(Error::Kind(Kind::WrongType)),
+        }
+    }
+}
+
+impl Serialize for () {
+    ghost put = { λ _. spec.simple 22 };
+
+    fn serialize<S: Sink>(&self, sink: &mut S) -> Result<(), S::Error> {
+        sink.null()
+    }
+}
+
+impl Deserialize for () {
+    ghost refusal = { λ t. unless (is_null (bare t)) };
+
+    ghost takes = { λ t _. bare t ≡ spec.simple 22 };
+
+    fn take(_alloc: Global, value: Value) -> Result<(), Error> {
+        match bare(value) {
+            Value::Null => Ok(()),
             _ => Err(Error::Kind(Kind::WrongType)),
         }
     }
