@@ -1,5 +1,6 @@
 //! What no clause says: that calls succeed, the examples of RFC 8949, and readers that end or fail in mid-stream.
 mod examples;
+mod typed;
 
 use crate::de::{Error, from_decoder};
 use crate::tests::examples::{Example, NOT_WELL_FORMED, VALUES};
