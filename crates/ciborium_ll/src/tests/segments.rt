@@ -24,7 +24,7 @@ fn next<'s, 'r, R: Read, P: StringKind>(
 ) -> Segment<'s, 'r, R, P> {
     match segments.pull() {
         Ok(Some(segment)) => {
-            assert_eq!(rt; segment.left(), left);
+            assert!(rt; segment.left() == left);
             segment
         }
         _ => panic!(rt; "no segment"),
@@ -57,7 +57,7 @@ fn gives_bytes(
 ) {
     for (want, left) in pulls {
         assert!(rt; segment.pull(buffer) == *want);
-        assert_eq!(rt; segment.left(), *left);
+        assert!(rt; segment.left() == *left);
     }
 }
 
@@ -70,7 +70,7 @@ fn gives_text(
 ) {
     for (want, left) in pulls {
         assert!(rt; segment.pull(buffer) == *want);
-        assert_eq!(rt; segment.left(), *left);
+        assert!(rt; segment.left() == *left);
     }
 }
 
@@ -149,79 +149,36 @@ fn a_text_comes_in_pieces(rt: HostRuntime) {
     is_at(&rt, &mut decoder, 14, Err(Error::Io(End)));
 }
 
-/// A text of so many bytes is one segment, and its pulls into a buffer with this room answer these.
-fn comes_in(rt: &impl Abort, text: &str, len: usize, room: usize, pulls: &[(Piece<&str>, usize)]) {
+/// A text comes in these pieces by a buffer with this room, and in no more.
+fn comes_in(rt: &impl Abort, text: &str, room: usize, pieces: &[&str]) {
     let mut decoder = Decoder::from(text.as_bytes());
-    let mut segments = decoder.text(Some(len));
-    let mut buffer = [0u8; 5];
-    gives_text(
-        rt,
-        &mut next(rt, &mut segments, len),
-        &mut buffer[..room.min(5)],
-        pulls,
-    );
+    let mut segments = decoder.text(Some(text.len()));
+    let mut left = text.len();
+    let mut segment = next(rt, &mut segments, left);
+    let mut bytes = [0u8; 5];
+    let buffer = &mut bytes[..room.min(5)];
+    for piece in pieces {
+        left = left.saturating_sub(piece.len());
+        gives_text(rt, &mut segment, buffer, &[(Ok(Some(piece)), left)]);
+    }
+    gives_text(rt, &mut segment, buffer, &[(Ok(None), 0); 4]);
     ends(rt, &mut segments);
-    assert_eq!(rt; decoder.offset(), len);
+    assert!(rt; decoder.offset() == text.len());
 }
 
-/// Texts with their lengths, the room of the buffer, and what four pulls answer, with so many bytes left then.
-const PIECES: [(&str, usize, usize, [(Piece<&str>, usize); 4]); 5] = [
-    (
-        "é日😀",
-        9,
-        4,
-        [
-            (Ok(Some("é")), 7),
-            (Ok(Some("日")), 4),
-            (Ok(Some("😀")), 0),
-            (Ok(None), 0),
-        ],
-    ),
-    (
-        "é日😀",
-        9,
-        5,
-        [
-            (Ok(Some("é日")), 4),
-            (Ok(Some("😀")), 0),
-            (Ok(None), 0),
-            (Ok(None), 0),
-        ],
-    ),
-    (
-        "a😀",
-        5,
-        4,
-        [
-            (Ok(Some("a")), 4),
-            (Ok(Some("😀")), 0),
-            (Ok(None), 0),
-            (Ok(None), 0),
-        ],
-    ),
-    (
-        "日é",
-        5,
-        4,
-        [
-            (Ok(Some("日")), 2),
-            (Ok(Some("é")), 0),
-            (Ok(None), 0),
-            (Ok(None), 0),
-        ],
-    ),
-    (
-        "",
-        0,
-        4,
-        [(Ok(None), 0), (Ok(None), 0), (Ok(None), 0), (Ok(None), 0)],
-    ),
+/// Texts, the room of the buffer, and the pieces.
+const PIECES: [(&str, usize, &[&str]); 5] = [
+    ("é日😀", 4, &["é", "日", "😀"]),
+    ("é日😀", 5, &["é日", "😀"]),
+    ("a😀", 4, &["a", "😀"]),
+    ("日é", 4, &["日", "é"]),
+    ("", 4, &[]),
 ];
 
 #[test]
 fn a_piece_is_never_cut_inside_a_character(rt: HostRuntime) {
-    for (text, len, room, pulls) in PIECES {
-        comes_in(&rt, text, len, room, &pulls);
+    for (text, room, pieces) in PIECES {
+        comes_in(&rt, text, room, pieces);
     }
 }
 
@@ -233,7 +190,7 @@ fn a_buffer_that_is_too_small_gives_an_empty_piece(rt: HostRuntime) {
     let mut small = [7u8; 3];
     let mut buffer = [0u8; 4];
     gives_text(&rt, &mut segment, &mut small, &[(Ok(Some("")), 1)]);
-    assert_eq!(rt; small, [7, 7, 7]);
+    assert!(rt; small == [7, 7, 7]);
     gives_text(&rt, &mut segment, &mut buffer, &[(Ok(Some("a")), 0)]);
     gives_text(&rt, &mut segment, &mut small, &[(Ok(None), 0)]);
 }
@@ -245,7 +202,7 @@ fn an_open_string_holds_strings_of_its_kind_alone(rt: HostRuntime) {
         let bytes = [0x5f, first];
         let mut decoder = behind(&rt, &bytes, Header::Bytes(None));
         fails(&rt, &mut decoder.bytes(None), Error::Syntax(1));
-        assert_eq!(rt; decoder.offset(), 2);
+        assert!(rt; decoder.offset() == 2);
     }
 }
 
@@ -291,7 +248,7 @@ fn a_device_that_fails_inside_a_segment_is_told(rt: HostRuntime) {
     let mut buffer = [0u8; 4];
     for _ in 0..2 {
         assert!(rt; matches!(segment.pull(&mut buffer), Err(Error::Io(IoFault::Io(_)))));
-        assert_eq!(rt; segment.left(), 2);
+        assert!(rt; segment.left() == 2);
     }
 }
 
@@ -338,7 +295,7 @@ fn next_body<P: StringKind>(
 ) -> Body {
     match segments.advance() {
         Ok(Some(body)) => {
-            assert_eq!(rt; body.left(), left);
+            assert!(rt; body.left() == left);
             body
         }
         _ => panic!(rt; "no body"),
@@ -355,7 +312,7 @@ fn bodies_of_bytes_are_read_without_borrowing_segments(rt: HostRuntime) {
     let pieces: [Piece<&[u8]>; 2] = [Ok(Some(&[1, 2])), Ok(None)];
     for want in pieces {
         assert!(rt; segments.piece(&mut body, &mut buffer) == want);
-        assert_eq!(rt; body.left(), 0);
+        assert!(rt; body.left() == 0);
     }
     assert!(rt; matches!(segments.advance(), Ok(None)));
 }
@@ -374,7 +331,7 @@ fn bodies_of_text_are_read_without_borrowing_segments(rt: HostRuntime) {
     ];
     for (want, left) in pieces {
         assert!(rt; segments.piece(&mut body, &mut buffer) == want);
-        assert_eq!(rt; body.left(), left);
+        assert!(rt; body.left() == left);
     }
     assert!(rt; matches!(segments.advance(), Ok(None)));
 }

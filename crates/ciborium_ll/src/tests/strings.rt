@@ -15,8 +15,8 @@ fn a_byte_string_is_written_in_pieces(rt: HostRuntime) {
     for (limit, want) in BYTES {
         let mut out = Mem::new(Vec::new(rt.alloc()));
         let mut encoder = Encoder::from(&mut out);
-        assert!(rt; encoder.bytes(&[1, 2, 3], limit).is_ok(), "at {limit:?}");
-        assert_eq!(rt; out.as_written(), want, "at {limit:?}");
+        let is_ok = encoder.bytes(&[1, 2, 3], limit).is_ok();
+        assert!(rt; is_ok && out.as_written() == want, "at {limit:?}");
     }
 }
 
@@ -37,8 +37,8 @@ fn a_text_is_written_in_pieces(rt: HostRuntime) {
     ] {
         let mut out = Mem::new(Vec::new(rt.alloc()));
         let mut encoder = Encoder::from(&mut out);
-        assert!(rt; encoder.text("aé日", limit).is_ok(), "at {limit:?}");
-        assert_eq!(rt; out.as_written(), want, "at {limit:?}");
+        let is_ok = encoder.text("aé日", limit).is_ok();
+        assert!(rt; is_ok && out.as_written() == want, "at {limit:?}");
     }
 }
 
