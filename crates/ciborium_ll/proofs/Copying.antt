@@ -1,23 +1,21 @@
 -- Bodies that are copied piece by piece.
 use Rattle.std.proofs.Common.{◌≡◌, ◌≢◌, ◌≤◌, ◌<◌, ◌+◌, ◌^◌, ℕ, Bool, List, [], ◌∷◌, ◌++◌, ◌⊎◌, inl, inr, length, take, drop, min, Option, None, Some, refl, ap, sym, ◌∙◌, subst, arith, append_assoc, append-nil, length-append}
 use Rattle.std.specs.Str.{IsUtf8}
-use Rattle.std.specs.Io.KnownBytes.{Consumes, Appends}
-use Rattle.std.proofs.KnownBytes.{Appends-trans}
-use Rattle.std.proofs.lemmas.List.{append_cancel_left, take_all}
-use Rattle.std.proofs.lemmas.Str.{IsUtf8-append, IsUtf8-drop, IsCharBoundary-from_take}
+use Rattle.std.specs.Io.KnownBytes.{Appends}
+use Rattle.std.proofs.lemmas.List.{take_all}
+use Rattle.std.proofs.lemmas.Str.{IsUtf8-drop, IsCharBoundary-from_take}
 use Rattle.std.proofs.Math.Seq.{take-append_seam}
 use Rattle.ciborium_ll.specs.Device.{IsShort, AppendsFront}
 use Rattle.ciborium_ll.specs.declared.hdr.Error.{Error}
 use Rattle.ciborium_ll.specs.declared.hdr.Error.TheVariants.{Io, Syntax, TooLong, Waiting}
-use Rattle.ciborium_ll.specs.declared.recoding.RecodeError.TheVariants.{Read, Write}
+use Rattle.ciborium_ll.specs.declared.recoding.RecodeError.TheVariants.{Read}
 use Rattle.ciborium_ll.specs.Reading.{Takes, RawFault}
 use Rattle.ciborium_ll.specs.declared.body.Body.{Body}
 use Rattle.ciborium_ll.specs.declared.stage.Stage.{Stage}
 use Rattle.ciborium_ll.specs.declared.stage.Stage.TheVariants.{Stuck}
-use Rattle.ciborium_ll.specs.Bodies.{unread_of, saved_of, start_of, bytes_of, more_of, IsPart, IsDamaged, TextTells}
+use Rattle.ciborium_ll.specs.Bodies.{saved_of, start_of, bytes_of, more_of, IsPart, IsDamaged, TextTells}
 use Rattle.ciborium_ll.specs.Copies.{BodyCopy, Unlike, Begun, CopyTells}
-use Rattle.ciborium_ll.proofs.Closings.{same_fronts}
-use Rattle.ciborium_ll.proofs.Appending.{front_then, then_front, front_as}
+use Rattle.ciborium_ll.proofs.Appending.{front_then, front_as}
 
 -- a list that goes on as a shorter one does
 pub longer : (x b u v : List ℕ) → length x ≤ length b → x ++ u ≡ b ++ v → (c : List ℕ) × (b ≡ x ++ c) × (u ≡ c ++ v)

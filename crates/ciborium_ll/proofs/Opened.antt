@@ -1,6 +1,5 @@
 -- Open strings that are copied body by body.
-use Rattle.std.proofs.Common.{◌≡◌, ◌≢◌, ◌≤◌, ◌<◌, ◌+◌, ◌-◌, ◌^◌, ℕ, suc, Bool, List, [], ◌∷◌, ◌++◌, ◌⊎◌, inl, inr, length, Option, None, Some, refl, ap, sym, ◌∙◌, subst, arith, append_assoc, append-nil, length-append}
-use Rattle.std.specs.Prelude.{IsTrue}
+use Rattle.std.proofs.Common.{◌≡◌, ◌≢◌, ◌≤◌, ◌+◌, ◌-◌, ◌^◌, ℕ, suc, Bool, List, [], ◌∷◌, ◌++◌, ◌⊎◌, inl, inr, length, Option, None, Some, refl, ap, sym, ◌∙◌, subst, arith, append_assoc, append-nil, length-append}
 use Rattle.std.specs.Io.KnownBytes.{Consumes, Appends}
 use Rattle.std.proofs.KnownBytes.{Appends-trans, Consumes-trans}
 use Rattle.ciborium_ll.specs.Device.{AppendsFront}
@@ -11,12 +10,12 @@ use Rattle.ciborium_ll.specs.declared.hdr.Error.TheVariants.{Io, Syntax, TooLong
 use Rattle.ciborium_ll.specs.declared.recoding.RecodeError.{RecodeError}
 use Rattle.ciborium_ll.specs.declared.recoding.RecodeError.TheVariants.{Read, Write}
 use Rattle.ciborium_ll.specs.declared.stage.Stage.{Stage}
-use Rattle.ciborium_ll.specs.declared.stage.Stage.TheVariants.{Inside, Stuck}
-use Rattle.ciborium_ll.specs.Title.{Title, title_of}
+use Rattle.ciborium_ll.specs.declared.stage.Stage.TheVariants.{Stuck}
+use Rattle.ciborium_ll.specs.Title.{title_of}
 use Rattle.ciborium_ll.specs.Reading.{Takes}
 use Rattle.ciborium_ll.specs.Framing.{Closing}
 use Rattle.ciborium_ll.specs.Pieces.{enc_pieces, enc_whole}
-use Rattle.ciborium_ll.specs.Stages.{Rest, Parted, Leads, Behind, Passes, Reaches, StageTells, EndsInside, Strays, opens}
+use Rattle.ciborium_ll.specs.Stages.{Rest, Parted, Leads, Reaches, StageTells, EndsInside, Strays, opens}
 use Rattle.ciborium_ll.specs.Copies.{BodyCopy, BodiesCopy, Makes, Unlike, Begun, CopyTells}
 use Rattle.ciborium_ll.proofs.Appending.{front_then, then_front, front_as}
 use Rattle.ciborium_ll.proofs.Closings.{leads_then, body_leads, not_stray, not_ended}

@@ -1,8 +1,8 @@
 -- Heads and strings that are copied one after another.
-use Rattle.std.proofs.Common.{◌≡◌, ◌≢◌, ◌≤◌, ◌<◌, ◌+◌, ◌-◌, ◌^◌, ℕ, zero, suc, Bool, List, [], ◌∷◌, ◌++◌, ◌⊎◌, inl, inr, length, Option, None, Some, Result, Ok, Err, OnOk, OnErr, IfErr, refl, ap, sym, ◌∙◌, subst, arith, append_assoc, append-nil, length-append}
+use Rattle.std.proofs.Common.{◌≡◌, ◌≢◌, ◌≤◌, ◌<◌, ◌+◌, ◌-◌, ◌^◌, ℕ, suc, Bool, List, [], ◌∷◌, ◌++◌, length, Option, None, Some, Result, Ok, Err, OnErr, IfErr, refl, ap, sym, ◌∙◌, subst, arith, append_assoc, append-nil, length-append}
 use Rattle.std.proofs.lemmas.List.{append_cancel_left}
 use Rattle.std.specs.Str.{IsUtf8}
-use Rattle.std.specs.Io.KnownBytes.{Consumes, Appends}
+use Rattle.std.specs.Io.KnownBytes.{Appends}
 use Rattle.std.proofs.KnownBytes.{Appends-trans, Appends-nil, Consumes-trans, Consumes-nil}
 use Rattle.ciborium_ll.specs.Device.{AppendsFront}
 use Rattle.ciborium_ll.specs.declared.hdr.Header.{Header}
@@ -13,9 +13,9 @@ use Rattle.ciborium_ll.specs.declared.recoding.RecodeError.{RecodeError}
 use Rattle.ciborium_ll.specs.declared.recoding.RecodeError.TheVariants.{Read, Write}
 use Rattle.ciborium_ll.specs.Title.{Title, title_of}
 use Rattle.ciborium_ll.specs.Reading.{Takes, Tells, Ends, IsBadByte}
-use Rattle.ciborium_ll.specs.Framing.{Closing, Any, bytes_same, bytes_unbroken, text_same, text_unbroken}
+use Rattle.ciborium_ll.specs.Framing.{Any, bytes_same, bytes_unbroken, text_same, text_unbroken}
 use Rattle.ciborium_ll.specs.Pieces.{enc_pieces, enc_whole}
-use Rattle.ciborium_ll.specs.Copies.{BodyCopy, BodiesCopy, RestCopy, StringCopy, Copy, one_head, byte_string, text_string, Copies, no_copies, copy_more, Makes, Unlike, Begun, CopyTells}
+use Rattle.ciborium_ll.specs.Copies.{BodyCopy, BodiesCopy, RestCopy, Copy, one_head, byte_string, text_string, Copies, no_copies, copy_more, Makes, Unlike, Begun, CopyTells}
 use Rattle.ciborium_ll.proofs.Appending.{front_then, then_front, front_as, appends_as}
 use Rattle.ciborium_ll.proofs.Closings.{same_fronts, split_heads}
 use Rattle.ciborium_ll.proofs.Framed.{closing_once}

@@ -1,16 +1,15 @@
 -- Laws of strings and of copies.
-use Rattle.std.proofs.Common.{◌≡◌, ◌≢◌, ◌≤◌, ◌<◌, ◌+◌, ◌-◌, ◌^◌, ℕ, zero, suc, List, [], ◌∷◌, ◌++◌, ◌⊎◌, inl, inr, length, Option, None, Some, refl, ap, sym, ◌∙◌, subst, arith, append_assoc, append-nil, length-append}
+use Rattle.std.proofs.Common.{◌≡◌, ◌≢◌, ◌≤◌, ◌<◌, ◌-◌, ◌^◌, ℕ, suc, List, [], ◌∷◌, ◌++◌, inl, inr, length, Option, None, Some, refl, ap, sym, ◌∙◌, subst, arith, append_assoc, append-nil, length-append}
 use Rattle.std.specs.Str.{IsUtf8}
 use Rattle.ciborium_ll.specs.declared.hdr.Header.{Header}
 use Rattle.ciborium_ll.specs.declared.hdr.Header.TheVariants.{Positive, Negative, Float, Simple, Tag, Break, Bytes, Text, Array, Map}
 use Rattle.ciborium_ll.specs.declared.hdr.Float.TheVariants.{Half, Single, Double}
 use Rattle.ciborium_ll.specs.declared.stage.Stage.{Stage}
-use Rattle.ciborium_ll.specs.declared.stage.Stage.TheVariants.{Inside}
 use Rattle.ciborium_ll.specs.Title.{Title, Sized, NumberAt, direct, one, two, four, eight, title_of, FitsHeader, FitsLen}
-use Rattle.ciborium_ll.specs.Framing.{Frame, whole, cut, Frames, no_frames, frame_more, Closing, Any, joined, bytes_same, bytes_unbroken, text_same, text_unbroken}
+use Rattle.ciborium_ll.specs.Framing.{Frame, whole, cut, Frames, no_frames, frame_more, Closing, Any, joined}
 use Rattle.ciborium_ll.specs.Stages.{Rest, Strays, EndsInside, stage_of}
 use Rattle.ciborium_ll.specs.Pieces.{Pieces, no_piece, piece_more, IsString, FitBytes, enc_pieces, enc_open, enc_whole}
-use Rattle.ciborium_ll.specs.Copies.{RestCopy, StringCopy, Copy, one_head, byte_string, text_string, Copies, no_copies, copy_more}
+use Rattle.ciborium_ll.specs.Copies.{StringCopy, Copy, one_head, byte_string, text_string, Copies, no_copies, copy_more}
 use Rattle.ciborium_ll.proofs.Closings.{not_stray, not_ended}
 use Rattle.ciborium_ll.proofs.Shortest.{title_of_is, shortest_first}
 use Rattle.ciborium_ll.proofs.Walk.{suc_of}

@@ -1,5 +1,5 @@
 -- A string that is read head by head.
-use Rattle.std.proofs.Common.{◌≡◌, ◌≢◌, ◌≤◌, ◌<◌, ◌+◌, ◌-◌, ◌^◌, ℕ, zero, suc, List, [], Bool, inl, inr, ◌∷◌, ◌++◌, length, Option, None, Some, refl, ap, sym, ◌∙◌, subst, arith, append_assoc, append-nil, length-append}
+use Rattle.std.proofs.Common.{◌≡◌, ◌≢◌, ◌≤◌, ◌<◌, ◌+◌, ◌-◌, ◌^◌, ℕ, suc, List, [], Bool, inl, inr, ◌∷◌, ◌++◌, length, Option, None, Some, refl, ap, sym, ◌∙◌, subst, arith, append-nil, length-append}
 use Rattle.std.specs.Io.KnownBytes.{Consumes}
 use Rattle.std.proofs.KnownBytes.{Consumes-trans, Consumes-nil}
 use Rattle.ciborium_ll.specs.declared.hdr.Header.{Header}
@@ -7,11 +7,10 @@ use Rattle.ciborium_ll.specs.declared.hdr.Header.TheVariants.{Break}
 use Rattle.ciborium_ll.specs.declared.hdr.Error.{Error}
 use Rattle.ciborium_ll.specs.declared.hdr.Error.TheVariants.{Io, Syntax, TooLong, Waiting}
 use Rattle.ciborium_ll.specs.declared.stage.Stage.{Stage}
-use Rattle.ciborium_ll.specs.declared.stage.Stage.TheVariants.{One, Inside, Stuck}
-use Rattle.ciborium_ll.specs.Title.{Title, IsCut}
+use Rattle.ciborium_ll.specs.declared.stage.Stage.TheVariants.{Inside}
+use Rattle.ciborium_ll.specs.Title.{Title}
 use Rattle.ciborium_ll.specs.Reading.{Takes, Tells, Ends, IsBadByte}
-use Rattle.ciborium_ll.specs.Framing.{Closing}
-use Rattle.ciborium_ll.specs.Stages.{Rest, Parted, Passes, Reaches, StartsAt, IsStray, Strays, EndsInside, StageTells, stage_after, opens, ahead}
+use Rattle.ciborium_ll.specs.Stages.{Rest, Passes, Reaches, StartsAt, IsStray, Strays, EndsInside, StageTells, stage_after, ahead}
 use Rattle.ciborium_ll.proofs.Closings.{leads_then, body_due, open_leads, close_leads}
 use Rattle.ciborium_ll.proofs.TitleLaws.{not_cut}
 

@@ -6,7 +6,9 @@ mod strings;
 use crate::{
     Decoder, Encoder, End, Error, Float, Full, Header, Io, IoFault, Mem, Read, Write, simple, tag,
 };
+use std::alloc::Global;
 use std::io;
+use std::process::Abort;
 use std::test::Fail;
 
 /// A reader of std that gives one byte a call, and then an error.
@@ -85,25 +87,49 @@ const TITLES: [(Header, &[u8]); 22] = [
     (Header::Break, &[0xff]),
 ];
 
+/// The decoder is at this place, and its next pull answers this.
+pub fn is_at(
+    rt: &impl Abort,
+    decoder: &mut Decoder<&[u8]>,
+    offset: usize,
+    next: Result<Header, Error<End>>,
+) {
+    assert!(rt; decoder.offset() == offset);
+    assert!(rt; decoder.pull() == next);
+}
+
+/// The header is written as this title, which is then flushed.
+fn is_written(rt: &impl Abort, header: Header, title: &[u8]) {
+    let mut bytes = [0u8; 9];
+    let mut out = Mem::new(&mut bytes[..]);
+    let mut encoder = Encoder::from(&mut out);
+    assert!(rt; encoder.push(header) == Ok(()));
+    assert!(rt; encoder.flush() == Ok(()));
+    assert!(rt; out.as_written() == title);
+    assert!(rt; header.title_len() == title.len());
+}
+
+/// This title, alone, is read as the header.
+fn is_read(rt: &impl Abort, header: Header, title: &[u8]) {
+    let mut decoder = Decoder::from(title);
+    is_at(rt, &mut decoder, 0, Ok(header));
+    is_at(rt, &mut decoder, title.len(), Err(Error::Io(End)));
+    assert!(rt; decoder.offset() == title.len());
+}
+
+/// A vector takes the header's title.
+fn is_appended(rt: &impl Abort, alloc: Global, header: Header) {
+    let mut encoder = Encoder::from(Mem::new(Vec::new(alloc)));
+    assert!(rt; encoder.push(header).is_ok());
+}
+
 #[test]
-fn writes_the_shortest_title_and_reads_it_again(rt: HostRuntime) -> Result<(), Fail> {
+fn writes_the_shortest_title_and_reads_it_again(rt: HostRuntime) {
     for (header, title) in TITLES {
-        let mut encoder = Encoder::from(Mem::new(Vec::new(rt.alloc())));
-        encoder.push(header)?;
-        let mut bytes = [0u8; 9];
-        let mut out = Mem::new(&mut bytes[..]);
-        let mut lent = Encoder::from(&mut out);
-        lent.push(header)?;
-        lent.flush()?;
-        assert_eq!(rt; out.as_written(), title);
-        assert_eq!(rt; header.title_len(), title.len());
-        let mut decoder = Decoder::from(title);
-        assert!(rt; decoder.pull() == Ok(header));
-        assert_eq!(rt; decoder.offset(), title.len());
-        assert!(rt; decoder.pull() == Err(Error::Io(End)));
-        assert_eq!(rt; decoder.offset(), title.len());
+        is_appended(&rt, rt.alloc(), header);
+        is_written(&rt, header, title);
+        is_read(&rt, header, title);
     }
-    Ok(())
 }
 
 /// The 27 bytes that begin no title (RFC 8949, section 3).
@@ -112,37 +138,46 @@ const BAD: [u8; 27] = [
     0x9e, 0xbc, 0xbd, 0xbe, 0xdc, 0xdd, 0xde, 0xdf, 0xfc, 0xfd, 0xfe,
 ];
 
+/// A title with this first byte, at 1, is taken up to this end, and is bad or not.
+fn is_taken(rt: &impl Abort, first: u8, end: usize, is_bad: bool) {
+    let bytes = [0, first, 1, 2, 3, 4, 5, 6, 7, 8];
+    let mut decoder = Decoder::from(&bytes[..]);
+    is_at(rt, &mut decoder, 0, Ok(Header::Positive(0)));
+    let is_told = match decoder.pull() {
+        Ok(_) => !is_bad,
+        Err(e) => is_bad && e == Error::Syntax(1),
+    };
+    assert!(rt; is_told && decoder.offset() == end, "at {first}");
+}
+
+/// Of these bytes, whose title is longer, none but the first is taken.
+fn is_cut(rt: &impl Abort, bytes: &[u8]) {
+    let mut decoder = Decoder::from(bytes);
+    is_at(rt, &mut decoder, 0, Err(Error::Io(End)));
+    assert!(rt; decoder.offset() == 1);
+}
+
 #[test]
-fn takes_each_first_byte(rt: HostRuntime) -> Result<(), Fail> {
+fn takes_each_first_byte(rt: HostRuntime) {
     for first in 0..=255u8 {
-        let bytes = [0, first, 1, 2, 3, 4, 5, 6, 7, 8];
-        let mut decoder = Decoder::from(&bytes[..]);
-        decoder.pull()?;
         let is_bad = BAD.contains(&first);
-        let want = match first % 32 {
+        let len = match first % 32 {
             24 => 2,
             25 => 3,
             26 => 5,
             27 => 9,
             _ => 1,
         };
-        match decoder.pull() {
-            Ok(_) => assert!(rt; !is_bad, "at {first}"),
-            Err(e) => assert!(rt; is_bad && e == Error::Syntax(1), "at {first}"),
-        }
-        assert_eq!(rt; decoder.offset(), 1 + want, "at {first}");
+        is_taken(&rt, first, 1 + len, is_bad);
         // one byte fewer is an end inside the title
-        if want > 1 {
-            let mut cut = Decoder::from(&bytes[1..want]);
-            assert!(rt; cut.pull() == Err(Error::Io(End)), "at {first}");
-            assert_eq!(rt; cut.offset(), 1, "at {first}");
+        if len > 1 {
+            is_cut(&rt, &[first, 1, 2, 3, 4, 5, 6, 7][..len - 1]);
         }
     }
-    Ok(())
 }
 
 #[test]
-fn constants_name_simple_values_and_tags(rt: HostRuntime) -> Result<(), Fail> {
+fn constants_name_simple_values_and_tags(rt: HostRuntime) {
     for (first, header) in [
         (0xf4u8, Header::Simple(simple::FALSE)),
         (0xf5, Header::Simple(simple::TRUE)),
@@ -151,107 +186,135 @@ fn constants_name_simple_values_and_tags(rt: HostRuntime) -> Result<(), Fail> {
         (0xc2, Header::Tag(tag::BIGPOS)),
         (0xc3, Header::Tag(tag::BIGNEG)),
     ] {
-        let bytes = [first];
-        assert_eq!(rt; Decoder::from(&bytes[..]).pull()?, header);
+        is_read(&rt, header, &[first]);
     }
-    Ok(())
+}
+
+/// The decoder is at this place, and a header waits or not.
+fn stands(rt: &impl Abort, decoder: &Decoder<&[u8]>, offset: usize, is_waiting: bool) {
+    assert!(rt; decoder.offset() == offset);
+    assert!(rt; decoder.is_waiting() == is_waiting);
+}
+
+/// Reading a byte into a buffer that holds 7 answers this, and leaves this byte there.
+fn reads_a_byte(
+    rt: &impl Abort,
+    decoder: &mut Decoder<&[u8]>,
+    answer: Result<(), Error<End>>,
+    byte: u8,
+) {
+    let mut buffer = [7u8; 1];
+    assert!(rt; decoder.read_exact(&mut buffer) == answer);
+    assert!(rt; buffer == [byte]);
 }
 
 #[test]
-fn a_header_that_was_pushed_back_waits(rt: HostRuntime) -> Result<(), Fail> {
+fn a_header_that_was_pushed_back_waits(rt: HostRuntime) {
     let bytes = [0x18, 1, 0x40];
     let mut decoder = Decoder::from(&bytes[..]);
-    let header = decoder.pull()?;
-    assert_eq!(rt; decoder.offset(), 2);
-    assert!(rt; !decoder.is_waiting());
-    if header != Header::Positive(1) {
-        return Err(Fail::from("another header"));
+    if decoder.pull() != Ok(Header::Positive(1)) {
+        panic!(rt; "another header");
     }
+    stands(&rt, &decoder, 2, false);
     decoder.push(Header::Positive(1));
-    assert_eq!(rt; decoder.offset(), 1);
-    assert!(rt; decoder.is_waiting());
-    let mut buffer = [7u8; 1];
-    assert!(rt; decoder.read_exact(&mut buffer) == Err(Error::Waiting));
-    assert_eq!(rt; buffer, [7]);
-    assert_eq!(rt; decoder.offset(), 1);
-    assert!(rt; decoder.pull() == Ok(Header::Positive(1)));
-    assert_eq!(rt; decoder.offset(), 2);
-    decoder.read_exact(&mut buffer)?;
-    assert_eq!(rt; buffer, [0x40]);
-    Ok(())
+    stands(&rt, &decoder, 1, true);
+    reads_a_byte(&rt, &mut decoder, Err(Error::Waiting), 7);
+    is_at(&rt, &mut decoder, 1, Ok(Header::Positive(1)));
+    stands(&rt, &decoder, 2, false);
+    reads_a_byte(&rt, &mut decoder, Ok(()), 0x40);
 }
 
-#[test]
-fn a_reader_of_std_gives_bytes_an_end_and_failures(rt: HostRuntime) -> Result<(), Fail> {
-    let bytes: [u8; 4] = [0x19, 1, 0, 0x58];
-    let mut decoder = Decoder::from(Io::new(&bytes[..]));
-    assert_eq!(rt; decoder.pull()?, Header::Positive(256));
+/// A fault of std prints like this.
+fn prints(rt: &impl Abort, alloc: Global, fault: &IoFault, text: &str) {
+    let printed = format!(in alloc; "{fault}").expect(rt, "memory");
+    assert_eq!(rt; printed.as_str(), text);
+}
+
+/// The reader gives a head of 256, and then has a fault, which prints like this.
+fn meets<R: io::Read>(
+    rt: &impl Abort,
+    alloc: Global,
+    decoder: &mut Decoder<Io<R>>,
+    is_end: bool,
+    text: &str,
+) {
+    assert!(rt; matches!(decoder.pull(), Ok(Header::Positive(256))));
     match decoder.pull() {
         Err(Error::Io(e)) => {
-            assert!(rt; Io::<&[u8]>::is_end(&e));
-            assert_eq!(rt; format!(in rt.alloc(); "{e}")?.as_str(), "end");
+            assert!(rt; Io::<R>::is_end(&e) == is_end);
+            prints(rt, alloc, &e, text);
         }
-        _ => assert!(rt; false),
+        _ => panic!(rt; "no fault"),
     }
-    assert_eq!(rt; decoder.offset(), 4);
-    let mut broken = Decoder::from(Io::new(Broken(&bytes)));
-    assert_eq!(rt; broken.pull()?, Header::Positive(256));
-    match broken.pull() {
-        Err(Error::Io(e)) => {
-            assert!(rt; !Io::<Broken>::is_end(&e));
-            assert_eq!(rt; format!(in rt.alloc(); "{e}")?.as_str(), "device");
-        }
-        _ => assert!(rt; false),
-    }
-    Ok(())
+}
+
+/// A head of 256, and a beginning of another.
+const CUT: [u8; 4] = [0x19, 1, 0, 0x58];
+
+#[test]
+fn a_reader_of_std_gives_bytes_and_an_end(rt: HostRuntime) {
+    let bytes = CUT;
+    let mut decoder = Decoder::from(Io::new(&bytes[..]));
+    meets(&rt, rt.alloc(), &mut decoder, true, "end");
+    assert!(rt; decoder.offset() == 4);
 }
 
 #[test]
-fn a_slice_takes_what_it_has_room_for(rt: HostRuntime) -> Result<(), Fail> {
+fn a_reader_of_std_gives_bytes_and_failures(rt: HostRuntime) {
+    let bytes = CUT;
+    let mut decoder = Decoder::from(Io::new(Broken(&bytes)));
+    meets(&rt, rt.alloc(), &mut decoder, false, "device");
+}
+
+#[test]
+fn a_slice_takes_what_it_has_room_for(rt: HostRuntime) {
     let mut room = [0u8; 3];
     let mut out = Mem::new(&mut room[..]);
-    out.write_all(&[1, 2])?;
-    assert!(rt; out.write_all(&[3, 4]) == Err(Full));
-    assert_eq!(rt; out.as_written(), [1u8, 2].as_slice());
-    out.write_all(&[3])?;
-    assert!(rt; out.write_all(&[4]) == Err(Full));
-    out.write_all(&[])?;
-    assert_eq!(rt; out.as_written(), [1u8, 2, 3].as_slice());
+    let writes: [(&[u8], Result<(), Full>, &[u8]); 5] = [
+        (&[1, 2], Ok(()), &[1, 2]),
+        (&[3, 4], Err(Full), &[1, 2]),
+        (&[3], Ok(()), &[1, 2, 3]),
+        (&[4], Err(Full), &[1, 2, 3]),
+        (&[], Ok(()), &[1, 2, 3]),
+    ];
+    for (data, answer, written) in writes {
+        assert!(rt; out.write_all(data) == answer);
+        assert!(rt; out.as_written() == written);
+    }
+}
+
+#[test]
+fn a_vector_takes_all(rt: HostRuntime) -> Result<(), Fail> {
+    let mut out = Mem::new([9u8].to_vec(rt.alloc())?);
+    assert!(rt; out.write_all(&[1, 2]).is_ok());
+    assert!(rt; out.flush().is_ok());
+    assert_eq!(rt; out.as_written(), [9u8, 1, 2].as_slice());
+    assert!(rt; out.into_inner().len() == 3);
     Ok(())
 }
 
 #[test]
-fn a_vector_and_a_writer_of_std_take_all(rt: HostRuntime) -> Result<(), Fail> {
-    let mut out = Mem::new([9u8].to_vec(rt.alloc())?);
-    out.write_all(&[1, 2])?;
-    out.flush()?;
-    assert_eq!(rt; out.as_written(), [9u8, 1, 2].as_slice());
-    let bytes = out.into_inner();
-    assert_eq!(rt; bytes.len(), 3);
+fn a_writer_of_std_takes_all(rt: HostRuntime) {
     let mut sink = Vec::new(rt.alloc());
     let mut encoder = Encoder::from(Io::new(&mut sink));
-    encoder.push(Header::Tag(18))?;
-    encoder.write_all(&[0x80])?;
-    encoder.flush()?;
+    assert!(rt; encoder.push(Header::Tag(18)).is_ok());
+    assert!(rt; encoder.write_all(&[0x80]).is_ok());
+    assert!(rt; encoder.flush().is_ok());
     assert_eq!(rt; sink.as_slice(), [0xd2u8, 0x80].as_slice());
-    let mut none = [0u8; 1];
-    let mut full = Io::new(&mut none[..]);
-    full.write_all(&[5])?;
-    match full.write_all(&[6]) {
-        Err(IoFault::End) => {}
-        _ => assert!(rt; false),
-    }
-    Ok(())
 }
 
 #[test]
-fn a_flush_reaches_the_writer_of_std(rt: HostRuntime) -> Result<(), Fail> {
+fn a_writer_of_std_that_is_full_is_told(rt: HostRuntime) {
+    let mut none = [0u8; 1];
+    let mut full = Io::new(&mut none[..]);
+    assert!(rt; full.write_all(&[5]).is_ok());
+    assert!(rt; matches!(full.write_all(&[6]), Err(IoFault::End)));
+}
+
+#[test]
+fn a_flush_reaches_the_writer_of_std(rt: HostRuntime) {
     let mut out = Io::new(Unflushed);
     let mut encoder = Encoder::from(&mut out);
-    encoder.push(Header::Break)?;
-    match encoder.flush() {
-        Err(IoFault::Io(_)) => {}
-        _ => assert!(rt; false),
-    }
-    Ok(())
+    assert!(rt; encoder.push(Header::Break).is_ok());
+    assert!(rt; matches!(encoder.flush(), Err(IoFault::Io(_))));
 }

@@ -1,11 +1,8 @@
-use Rattle.std.proofs.Common.{rules, ◌≡◌, ◌++◌, ◌∷◌, [], List, ℕ, arith, refl, ◌∙◌, sym, Some, length}
-use Rattle.std.specs.Io.KnownBytes.{Appends}
+use Rattle.std.proofs.Common.{rules, ◌≡◌, ◌++◌, ◌∷◌, [], arith, length}
 use Rattle.std.proofs.KnownBytes.{Appends-nil}
-use Rattle.ciborium_ll.specs.Title.{title_of}
 use Rattle.ciborium_ll.specs.Bodies.{unread_of}
 use Rattle.ciborium_ll.specs.Segments.{place_at}
-use Rattle.ciborium_ll.specs.Device.{AppendsFront}
-use Rattle.ciborium_ll.specs.Views.{writer_of, left_of}
+use Rattle.ciborium_ll.specs.Views.{left_of}
 use Rattle.ciborium_ll.specs.Copies.{BodiesCopy}
 use Rattle.ciborium_ll.specs.declared.recoding.RecodeError.TheVariants.{Read}
 use Rattle.ciborium_ll.proofs.Closings.{leads_nothing}

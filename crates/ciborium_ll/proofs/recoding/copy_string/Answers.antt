@@ -1,7 +1,6 @@
-use Rattle.std.proofs.Common.{rules}
 use Rattle.ciborium_ll.proofs.Appending.{ok_then}
 use Rattle.ciborium_ll.proofs.Opened.{tells_as}
-use Rattle.ciborium_ll.proofs.Recoded.{if_err_then, on_err_map, rest_begun, whole_made, whole_begun, whole_unlike, opened_made, opened_begun, opened_unlike}
+use Rattle.ciborium_ll.proofs.Recoded.{if_err_then, on_err_map, rest_begun, whole_made, whole_begun, opened_made, opened_begun, opened_unlike}
 use Rattle.ciborium_ll.proofs.recoding.copy_string.Goals as goal
 
 pub returns-in-Err-clause-begun : goal.returns-in-Err-clause-begun

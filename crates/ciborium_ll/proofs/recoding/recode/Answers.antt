@@ -1,4 +1,4 @@
-use Rattle.std.proofs.Common.{rules, arith, ◌<◌, ◌≡◌}
+use Rattle.std.proofs.Common.{rules, arith}
 use Rattle.ciborium_ll.proofs.Recoded.{none_made, more_made, next_tells, next_begun}
 use Rattle.ciborium_ll.proofs.recoding.recode.Goals as goal
 

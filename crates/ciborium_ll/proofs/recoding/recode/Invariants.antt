@@ -1,4 +1,4 @@
-use Rattle.std.proofs.Common.{◌≡◌, ◌≤◌, None}
+use Rattle.std.proofs.Common.{◌≡◌, None}
 use Rattle.ciborium_ll.specs.Views.{left_of, offset_of, waiting_of, reader_of, writer_of}
 use Rattle.ciborium_ll.specs.Copies.{Copies, Makes}
 use Rattle.ciborium_ll.proofs.recoding.recode.Given as goal

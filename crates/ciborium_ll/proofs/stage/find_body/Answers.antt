@@ -1,4 +1,4 @@
-use Rattle.std.proofs.Common.{rules, ◌≡◌, ◌+◌, ◌<◌, ◌≤◌, ℕ, suc, sym, arith, refl, List, inr, ◌∙◌, ap}
+use Rattle.std.proofs.Common.{rules, arith, refl, inr, ◌∙◌, ap}
 use Rattle.ciborium_ll.proofs.Walk.{break_taken, open_taken, body_taken, stray_taken, end_taken, stage_tells, moved_on}
 use Rattle.ciborium_ll.proofs.stage.find_body.Goals as goal
 

@@ -1,4 +1,4 @@
-use Rattle.std.proofs.Common.{rules, ◌≡◌, refl, inl}
+use Rattle.std.proofs.Common.{refl, inl}
 use Rattle.ciborium_ll.proofs.Closings.{one_due}
 use Rattle.ciborium_ll.proofs.Walk.{takes_nothing}
 use Rattle.ciborium_ll.proofs.stage.next_body.Goals as goal

@@ -1,4 +1,4 @@
-use Rattle.std.proofs.Common.{rules, ◌≡◌, ◌≤◌, ◌<◌, ℕ, arith}
+use Rattle.std.proofs.Common.{◌≤◌, ◌<◌, ℕ, arith}
 use Rattle.ciborium_ll.proofs.Writing.{first_char}
 use Rattle.ciborium_ll.proofs.strings.first_len.Goals as goal
 

@@ -1,4 +1,4 @@
-use Rattle.std.proofs.Common.{rules, ◌≡◌, ◌++◌, length, List, ℕ, arith, ◌∙◌}
+use Rattle.std.proofs.Common.{arith, ◌∙◌}
 use Rattle.ciborium_ll.proofs.Utf8.{not_mended, not_extended}
 use Rattle.ciborium_ll.proofs.text.cut.Goals.{then-unread-eq0-via-then-unread-eq0, then-unread-eq0-via-else-unread-eq0+then-bytes-valid-gt3}
 use Rattle.ciborium_ll.proofs.text.cut.Goals as goal

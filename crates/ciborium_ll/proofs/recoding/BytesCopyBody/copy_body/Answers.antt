@@ -1,4 +1,4 @@
-use Rattle.std.proofs.Common.{rules, ◌≡◌, ◌++◌, List, ℕ, length, arith, refl, length-append}
+use Rattle.std.proofs.Common.{rules, ◌++◌, arith, refl, length-append}
 use Rattle.std.proofs.KnownBytes.{Appends-trans}
 use Rattle.ciborium_ll.proofs.Walk.{takes_then}
 use Rattle.ciborium_ll.specs.Framing.{Any}

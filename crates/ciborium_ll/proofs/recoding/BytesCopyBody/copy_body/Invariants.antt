@@ -1,4 +1,4 @@
-use Rattle.std.proofs.Common.{◌≡◌, ◌+◌, ◌++◌, List, ℕ, length, None}
+use Rattle.std.proofs.Common.{◌≡◌, ◌+◌, List, ℕ, length, None}
 use Rattle.std.specs.Io.KnownBytes.{Appends}
 use Rattle.ciborium_ll.specs.Reading.{Takes}
 use Rattle.ciborium_ll.specs.Views.{waiting_of, writer_of}

@@ -1,4 +1,4 @@
-use Rattle.std.proofs.Common.{rules, ◌≡◌, ◌++◌, List, ℕ, length, arith, refl, length-append, subst, sym, ◌∙◌}
+use Rattle.std.proofs.Common.{rules, ◌++◌, arith, subst, sym, ◌∙◌}
 use Rattle.std.specs.Str.{IsUtf8}
 use Rattle.std.proofs.KnownBytes.{Appends-trans}
 use Rattle.std.proofs.lemmas.Str.{IsUtf8-append}

@@ -1,4 +1,4 @@
-use Rattle.std.proofs.Common.{rules, ◌≡◌, ◌<◌, ◌+◌, ◌++◌, length, List, ℕ, arith, length-take-le}
+use Rattle.std.proofs.Common.{rules, ◌<◌, ◌+◌, length, arith}
 use Rattle.ciborium_ll.specs.Bodies.{unread_of, saved_of}
 use Rattle.ciborium_ll.proofs.Utf8.{long_piece}
 use Rattle.ciborium_ll.proofs.segments.Segments+R+Text.piece.Goals.{else-body-eq0-via-then-body-eq0+else-len-eq0, else-body-eq0-via-else-body-eq0}

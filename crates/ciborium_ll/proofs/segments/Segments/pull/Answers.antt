@@ -1,4 +1,3 @@
-use Rattle.std.proofs.Common.{rules}
 use Rattle.ciborium_ll.proofs.segments.Segments.pull.Goals as goal
 
 pub returns-in-None-clause-none : goal.returns-in-None-clause-none
