@@ -16,6 +16,7 @@ wide_number (integer i) = Some i
 wide_number (tag n t) = if is_bignum n t then tree_number (tag n t) else wide_number t
 wide_number _ = None
 
+-- the number that a value of the code is
 abbrev pub whole : Whole → ℤ
 whole (Positive n) = pos n
 whole (Negative n) = negsuc n

@@ -22,6 +22,7 @@ enum Whole {
     Negative(u128),
 }
 
+/// A signed number by its sign.
 fn whole_of(n: i128) -> Whole
     ensures { whole result ≡ n }
 {
