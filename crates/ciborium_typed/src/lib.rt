@@ -7,6 +7,8 @@ mod folded;
 pub mod laws;
 pub mod ser;
 mod simple;
+#[cfg(test)]
+mod tests;
 pub mod typed;
 mod untagged;
 mod value_sink;
