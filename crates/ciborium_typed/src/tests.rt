@@ -1,2 +1,3 @@
 //! What no clause says: that calls succeed, and rows counted by hand.
 mod scalars;
+mod values;
