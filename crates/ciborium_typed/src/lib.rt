@@ -9,7 +9,7 @@ pub mod ser;
 mod simple;
 #[cfg(test)]
 mod tests;
-pub mod typed;
+mod typed;
 mod untagged;
 mod value_sink;
 mod value_source;
