@@ -1,10 +1,10 @@
 -- The foldings of arrays, maps and tags by those of their parts.
-use Rattle.std.proofs.Common.{◌≡◌, ◌⊎◌, inl, inr, ◌<◌, ℕ, zero, suc, Bool, true, false, cond, List, [], ◌∷◌, length, get_or, map, take, Option, None, Some, refl, sym, ap, subst, ◌∙◌, arith, nat_eq, ◌||◌, Vec, Box, Global}
+use Rattle.std.proofs.Common.{◌≡◌, ◌⊎◌, inl, inr, ◌<◌, ℕ, zero, suc, List, [], ◌∷◌, length, get_or, map, take, Option, None, Some, refl, sym, ap, ◌∙◌, arith, Vec, Box, Global}
 use Rattle.std.specs.Option.{option_map, option_and_then}
 use Rattle.ciborium_value.specs.Tree as spec
 use Rattle.ciborium_value.specs.Tree.{Tree, Trees, Pairs}
 use Rattle.ciborium_value.specs.View.{view, views, view_pairs}
-use Rattle.ciborium_value.specs.Folding.{fold, fold_by, fold_all_by, fold_pairs_by, tagged, fold_bytes, IsTooNegative}
+use Rattle.ciborium_value.specs.Folding.{fold, fold_all_by, fold_pairs_by, tagged, IsTooNegative}
 use Rattle.ciborium_value.specs.declared.value.Value.{Value}
 use Rattle.ciborium_value.specs.declared.value.Value.TheVariants as code
 use Rattle.ciborium_value.proofs.Views.{view_array, view_map, view_tag}

@@ -1,6 +1,4 @@
-use Rattle.std.proofs.Common.{◌≡◌, None, ◌⊎◌, inl, inr, length, take_all, arith}
-use Rattle.ciborium_value.specs.Folding.{fold}
-use Rattle.ciborium_value.specs.View.{view}
+use Rattle.std.proofs.Common.{inl, inr, take_all, arith}
 use Rattle.ciborium_typed.proofs.Foldings.{array_none, array_folded, map_none, map_folded}
 use Rattle.ciborium_typed.proofs.folded.+folded.Goals as goal
 

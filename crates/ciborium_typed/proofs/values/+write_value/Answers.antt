@@ -1,4 +1,4 @@
-use Rattle.std.proofs.Common.{[], ◌∷◌, length, refl, inl, suc, ◌+◌, ◌≡◌, arith, rules}
+use Rattle.std.proofs.Common.{[], ◌∷◌, length, refl, inl, ◌+◌, arith, rules}
 use Rattle.ciborium_typed.specs.Events.{array, map, events}
 use Rattle.ciborium_value.specs.View.{view}
 use Rattle.ciborium_typed.proofs.Joined.{item_events, entry_events, stopped_as, stopped_then, then_stopped, added_then, added_as, part_stopped, parts_more, parts_added, array_events, map_events}

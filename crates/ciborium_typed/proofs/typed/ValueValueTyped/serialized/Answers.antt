@@ -1,5 +1,4 @@
-use Rattle.std.proofs.Common.{◌≡◌, length, map, ◌∷◌, [], rules, arith}
-use Rattle.ciborium_value.specs.View.{view}
+use Rattle.std.proofs.Common.{◌≡◌, length, rules, arith}
 use Rattle.ciborium_typed.proofs.Built.{only_item, one_item, that_item}
 use Rattle.ciborium_typed.proofs.typed.ValueValueTyped.serialized.Goals as goal
 

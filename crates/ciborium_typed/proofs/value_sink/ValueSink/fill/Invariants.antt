@@ -1,6 +1,6 @@
 use Rattle.std.proofs.Common.{◌≡◌, length}
 use Rattle.ciborium_value.specs.View.{view}
-use Rattle.ciborium_typed.specs.Stacks.{state_of, added, emptied}
+use Rattle.ciborium_typed.specs.Stacks.{state_of, added}
 use Rattle.ciborium_typed.proofs.value_sink.ValueSink.fill.Given as goal
 
 abbrev pub invariant-levels : goal.invariant-levels
