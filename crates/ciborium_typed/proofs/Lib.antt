@@ -1,0 +1,4 @@
+pub mod Items
+pub mod Joined
+pub mod Tagged
+pub mod Written

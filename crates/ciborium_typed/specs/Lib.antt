@@ -1,3 +1,5 @@
 pub mod Back
 pub mod Events
+pub mod Lists
 pub mod Reading
+pub mod Tags

@@ -4,10 +4,18 @@
 pub mod de;
 mod error;
 pub mod laws;
+mod list;
+mod map;
+mod option;
 pub mod ser;
 mod simple;
+pub mod tag;
+mod tuples;
 mod untagged;
 
 pub use crate::de::{Deserialize, Source};
 pub use crate::error::Error;
 pub use crate::ser::{Serialize, Sink};
+
+#[cfg(test)]
+mod tests;

@@ -1,0 +1,2 @@
+//! What no clause says: that calls succeed, and rows counted by hand.
+mod composites;
