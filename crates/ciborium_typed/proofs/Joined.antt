@@ -1,5 +1,5 @@
 -- Events added one part after another.
-use Rattle.std.proofs.Common.{◌≡◌, List, [], ◌∷◌, ◌++◌, ◌⊎◌, inl, inr, Result, Ok, Err, OnOk, OnErr, refl, subst}
+use Rattle.std.proofs.Common.{List, [], ◌∷◌, ◌++◌, inl, inr, Result, Ok, Err, OnOk, OnErr, refl, subst}
 use Rattle.ciborium_typed.specs.Events.{Event, AllAdded, Stopped}
 
 module _ {S : Type 0} (adds refuses : S → Event → S → Type 0) where

@@ -1,3 +1,4 @@
+pub mod Backs
 pub mod Items
 pub mod Joined
 pub mod Tagged

@@ -1,4 +1,5 @@
 pub mod Back
+pub mod Compared
 pub mod Events
 pub mod Lists
 pub mod Reading

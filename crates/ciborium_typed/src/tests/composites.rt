@@ -2,6 +2,12 @@ ghost use Rattle.std.specs.Prelude.{⊤};
 
 use crate::de::Deserialize;
 use crate::error::Error;
+use crate::laws::{
+    accepted_values_are_taken_back, accepted_values_compare, captured_values_are_taken_back,
+    captured_values_compare, lists_are_taken_back, maps_are_taken_back, options_are_taken_back,
+    required_values_are_taken_back, required_values_compare, tuples_of_four_are_taken_back,
+    tuples_of_one_are_taken_back, tuples_of_three_are_taken_back, tuples_of_two_are_taken_back,
+};
 use crate::ser::{Serialize, Sink};
 use crate::tag::{Accepted, Captured, Required};
 use ciborium_ll::Float;
@@ -128,6 +134,7 @@ fn options(rt: HostRuntime) -> Result<(), Fail> {
     let tagged = tag(alloc, 1, Value::Null)?;
     assert_eq!(rt; taken::<Option<bool>>(alloc, tagged), Err(WRONG_TYPE));
     assert!(rt; gives(alloc, &Some(true), &[YES])?);
+    options_are_taken_back(&true);
     assert!(rt; gives::<Option<bool>>(alloc, &None, &[Given::Null])?);
     Ok(())
 }
@@ -138,6 +145,7 @@ fn lists(rt: HostRuntime) -> Result<(), Fail> {
     let list = taken::<Vec<bool>>(alloc, tag(alloc, 1, array(alloc, 1)?)?)?;
     assert_eq!(rt; list.as_slice(), [false, true].as_slice());
     assert!(rt; gives(alloc, &list, &[Given::Array(2), NO, YES])?);
+    lists_are_taken_back(&list);
     let bytes = Value::from_byte_slice(alloc, &[1])?;
     assert_eq!(rt; taken::<Vec<bool>>(alloc, bytes), Err(WRONG_TYPE));
     assert_eq!(rt;
@@ -153,15 +161,19 @@ fn tuples(rt: HostRuntime) -> Result<(), Fail> {
     let one = taken::<(bool,)>(alloc, array(alloc, 0)?)?;
     assert_eq!(rt; one, (true,));
     assert!(rt; gives(alloc, &one, &[Given::Array(1), YES])?);
+    tuples_of_one_are_taken_back(&one);
     let two = taken::<(bool, bool)>(alloc, array(alloc, 1)?)?;
     assert_eq!(rt; two, (false, true));
     assert!(rt; gives(alloc, &two, &[Given::Array(2), NO, YES])?);
+    tuples_of_two_are_taken_back(&two);
     let three = taken::<(bool, bool, bool)>(alloc, array(alloc, 2)?)?;
     assert_eq!(rt; three, (false, false, true));
     assert!(rt; gives(alloc, &three, &[Given::Array(3), NO, NO, YES])?);
+    tuples_of_three_are_taken_back(&three);
     let four = taken::<(bool, bool, bool, bool)>(alloc, array(alloc, 3)?)?;
     assert_eq!(rt; four, (false, false, false, true));
     assert!(rt; gives(alloc, &four, &[Given::Array(4), NO, NO, NO, YES])?);
+    tuples_of_four_are_taken_back(&four);
     assert_eq!(rt; taken::<(bool, bool)>(alloc, array(alloc, 0)?), Err(LENGTH));
     assert_eq!(rt; taken::<(bool, bool)>(alloc, yes()), Err(WRONG_TYPE));
     Ok(())
@@ -175,6 +187,7 @@ fn maps(rt: HostRuntime) -> Result<(), Fail> {
     assert_eq!(rt; taken_map.len(), 2);
     assert_eq!(rt; taken_map.get(&true).copied(), Some(false));
     assert!(rt; gives(alloc, &taken_map, &[Given::Map(2), NO, NO, YES, NO])?);
+    maps_are_taken_back(&taken_map);
     match taken::<BTreeMap<bool, bool>>(alloc, array(alloc, 0)?) {
         Ok(_read) => return Err(Fail::from(Kind::Length)),
         Err(error) => assert_eq!(rt; error, WRONG_TYPE),
@@ -195,10 +208,14 @@ fn tags(rt: HostRuntime) -> Result<(), Fail> {
         Captured(None, true)
     );
     assert!(rt; gives(alloc, &five, &[Given::Tag(5), YES])?);
+    captured_values_are_taken_back(&five);
+    captured_values_compare(&five, &five);
     assert!(rt; gives(alloc, &Captured(None, true), &[YES])?);
     let required = taken::<Required<bool, 5>>(alloc, tag(alloc, 5, yes())?)?;
     assert!(rt; required.0);
     assert!(rt; gives(alloc, &required, &[Given::Tag(5), YES])?);
+    required_values_are_taken_back(&required);
+    required_values_compare(&required, &required);
     assert_eq!(rt;
         taken::<Required<bool, 5>>(alloc, tag(alloc, 6, yes())?),
         Err(TAG)
@@ -207,6 +224,8 @@ fn tags(rt: HostRuntime) -> Result<(), Fail> {
     let accepted = taken::<Accepted<bool, 5>>(alloc, tag(alloc, 5, yes())?)?;
     assert!(rt; accepted.0);
     assert!(rt; gives(alloc, &accepted, &[Given::Tag(5), YES])?);
+    accepted_values_are_taken_back(&accepted);
+    accepted_values_compare(&accepted, &accepted);
     assert_eq!(rt;
         taken::<Accepted<bool, 5>>(alloc, yes()),
         Ok(Accepted(true))

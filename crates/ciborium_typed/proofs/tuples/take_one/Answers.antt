@@ -1,8 +1,8 @@
-use Rattle.std.proofs.Common.{◌≡◌, [], ◌∷◌, sym, ap, ◌∙◌, arith}
+use Rattle.std.proofs.Common.{◌≡◌, [], ◌∷◌, sym, ap, ◌∙◌}
 use Rattle.ciborium_value.specs.Tree.{tree_count}
 use Rattle.ciborium_value.specs.View.{views}
 use Rattle.ciborium_typed.specs.Lists.{first_in_turn}
-use Rattle.ciborium_typed.proofs.Items.{same_refusal, turn_taken, turn_refused, tuple_of_length, tuple_of_other_length, views_counted}
+use Rattle.ciborium_typed.proofs.Items.{same_refusal, turn_refused, tuple_of_length, tuple_of_other_length, views_counted}
 use Rattle.ciborium_typed.proofs.tuples.take_one.Goals as goal
 
 pub returns-then-len-ne1-clause-err : goal.returns-then-len-ne1-clause-err

@@ -1,4 +1,4 @@
-use Rattle.std.proofs.Common.{◌≡◌, [], ◌∷◌, sym, ap, ◌∙◌, arith}
+use Rattle.std.proofs.Common.{◌≡◌, [], ◌∷◌, sym, ap, ◌∙◌}
 use Rattle.ciborium_value.specs.Tree.{tree_count}
 use Rattle.ciborium_value.specs.View.{views}
 use Rattle.ciborium_typed.specs.Lists.{first_in_turn}
