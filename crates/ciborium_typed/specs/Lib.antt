@@ -1,8 +1,11 @@
 pub mod Back
+pub mod Compared
 pub mod Events
+pub mod Lists
 pub mod Ranges
 pub mod Reading
 pub mod Stacks
+pub mod Tags
 pub mod Texts
 pub mod Unfolded
 pub mod Wide

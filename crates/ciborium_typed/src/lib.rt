@@ -5,12 +5,17 @@ pub mod de;
 mod error;
 mod folded;
 pub mod laws;
+mod list;
+mod map;
 mod numbers;
+mod option;
 pub mod ser;
 mod simple;
+pub mod tag;
 #[cfg(test)]
 mod tests;
 mod texts;
+mod tuples;
 pub mod typed;
 mod untagged;
 mod value_sink;
