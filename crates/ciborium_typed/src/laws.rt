@@ -25,7 +25,6 @@ use ciborium_value::{CanonicalValue, Value};
 use std::collections::BTreeMap;
 use std::hash::Hash;
 
-
 /// A boolean is taken back.
 pub fn booleans_are_taken_back()
     ensures { (x : Bool) → IsTakenBack ⟦<bool as Serialize>⟧.put ⟦<bool as Deserialize>⟧.refusal ⟦<bool as Deserialize>⟧.takes x }

@@ -1,4 +1,5 @@
 //! What no clause says: that calls succeed, and rows counted by hand.
 mod composites;
+mod rows;
 mod scalars;
 mod values;
