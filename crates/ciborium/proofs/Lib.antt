@@ -11,6 +11,7 @@ pub mod Exact
 pub mod Parts
 pub mod Excludes
 pub mod Encoded
+pub mod OtherTitles
 pub mod StringCases
 pub mod ChildCases
 pub mod ItemCases

@@ -1,9 +1,12 @@
 //! Laws of the definitions.
 ghost use Rattle.std.specs.Prelude.{◌≡◌, List, ℕ, ◌++◌, ◌+◌, ◌<◌, ◌≤◌, ◌≢◌, ◌⊎◌, length, Some, All};
+ghost use Rattle.ciborium_ll.specs.declared.hdr.Header.{Header};
+ghost use Rattle.ciborium_ll.specs.Title.{Title};
 ghost use Rattle.ciborium_value.specs.Encoding.{enc, Fits};
+ghost use Rattle.ciborium_value.specs.Folding.{fold};
 ghost use Rattle.ciborium_value.specs.Tree.{Tree};
 ghost use Rattle.ciborium.specs.Spelling.{Spells};
-ghost use Rattle.ciborium.specs.Meaning.{meaning};
+ghost use Rattle.ciborium.specs.Meaning.{meaning, Assigned};
 ghost use Rattle.ciborium.specs.Damage.{Fault, Damage};
 ghost use Rattle.ciborium.specs.Front.{Front};
 ghost use Rattle.ciborium.specs.Items.{Item, Items};
@@ -13,9 +16,17 @@ pub fn one_spelling()
     ensures { (t s : Tree) (a b u v : List ℕ) → Spells a t → Spells b s → a ++ u ≡ b ++ v → (t ≡ s) × (a ≡ b) }
 {}
 
-/// A meaning means itself.
+/// Another title of the same header in the first place spells the same tree: a head may be wider than it has to be (RFC 8949,
+/// section 3).
+pub fn other_titles_spell()
+    ensures { (h : Header) (a b rest : List ℕ) (t : Tree) → Title a h → Title b h → Spells (a ++ rest) t → Spells (b ++ rest) t }
+{}
+
+/// A meaning means itself. It is folded, and each simple value in it is false, true or null.
 pub fn meanings_are_folded()
-    ensures { (t v : Tree) → meaning t ≡ Some v → meaning v ≡ Some v }
+    ensures means { (t v : Tree) → meaning t ≡ Some v → meaning v ≡ Some v }
+    ensures folded { (t v : Tree) → meaning t ≡ Some v → fold v ≡ Some v }
+    ensures assigned { (t v : Tree) → meaning t ≡ Some v → Assigned v }
 {}
 
 /// Damage and a front exclude each other: bytes that begin a readable item have no fault there.
