@@ -1,15 +1,19 @@
 //! Laws of the definitions.
-ghost use Rattle.std.specs.Prelude.{◌≡◌, List, ℕ, ◌++◌, ◌+◌, ◌<◌, ◌≤◌, ◌≢◌, ◌⊎◌, length, Some, All};
+ghost use Rattle.std.specs.Prelude.{◌≡◌, List, ℕ, ◌++◌, ◌+◌, ◌<◌, ◌≤◌, ◌≢◌, ◌⊎◌, length, Some, None, All};
 ghost use Rattle.ciborium_ll.specs.declared.hdr.Header.{Header};
 ghost use Rattle.ciborium_ll.specs.Title.{Title};
+ghost use Rattle.ciborium_value.specs.declared.kind.Kind.TheVariants.{BigNegative};
 ghost use Rattle.ciborium_value.specs.Encoding.{enc, Fits};
 ghost use Rattle.ciborium_value.specs.Folding.{fold};
-ghost use Rattle.ciborium_value.specs.Tree.{Tree};
+ghost use Rattle.ciborium_value.specs.Tree.{Tree, depth};
+ghost use Rattle.ciborium_value.specs.View.{view};
 ghost use Rattle.ciborium.specs.Spelling.{Spells};
 ghost use Rattle.ciborium.specs.Meaning.{meaning, Assigned};
-ghost use Rattle.ciborium.specs.Damage.{Fault, Damage};
+ghost use Rattle.ciborium.specs.Damage.{Fault, semantic, Damage};
 ghost use Rattle.ciborium.specs.Front.{Front};
 ghost use Rattle.ciborium.specs.Items.{Item, Items};
+
+use crate::value::Value;
 
 /// No spelling begins another, and one list spells at most one tree.
 pub fn one_spelling()
@@ -55,4 +59,48 @@ pub fn items_exist()
 /// The items of an input are one list, and so is its rest.
 pub fn items_are_one()
     ensures { (at : ℕ) (b : List ℕ) (is js : List Item) (rest more : List ℕ) → Items at b is rest → Items at b js more → (is ≡ js) × (rest ≡ more) }
+{}
+
+/// Each simple value in a value is false, true or null.
+pub fn values_are_assigned(value: &Value)
+    ensures { Assigned (view value.now) }
+{
+    match value {
+        Value::Integer(_) => {}
+        Value::Bytes(_) => {}
+        Value::Float(_) => {}
+        Value::Text(_) => {}
+        Value::Bool(false) => {}
+        Value::Bool(true) => {}
+        Value::Null => {}
+        Value::Tag(_, content) => values_are_assigned(content),
+        Value::Array(items) => {
+            'items: for item in items {
+                values_are_assigned(item);
+            }
+        }
+        Value::Map(entries) => {
+            'entries: for entry in entries {
+                values_are_assigned(&entry.0);
+                values_are_assigned(&entry.1);
+            }
+        }
+    }
+}
+
+/// The encoding of a tree spells it, and where the tree folds it means the folded tree. A tree that does not fold means nothing.
+pub fn encodings_mean()
+    ensures folded { (t u : Tree) → Fits t → Assigned t → fold t ≡ Some u → Spells (enc t) t × (meaning t ≡ Some u) }
+    ensures negative { (t : Tree) → Assigned t → fold t ≡ None → meaning t ≡ None }
+{}
+
+/// Reading the encoding of a tree and folding the tree agree, if it nests no deeper than the limit: where the tree folds, the
+/// folded tree is read and the bytes behind it are left. Else nothing is read, and the fault is a negative number that is too large.
+pub fn reading_agrees()
+    ensures folded { (limit : ℕ) (rest : List ℕ) (t u : Tree) → Fits t → Assigned t → depth t ≤ limit → fold t ≡ Some u → Front (enc t ++ rest) limit u rest }
+    ensures unread { (limit : ℕ) (rest more : List ℕ) (t v : Tree) → Fits t → Assigned t → fold t ≡ None → Front (enc t ++ rest) limit v more → ⊥ }
+    ensures fault { (stop limit : ℕ) (rest : List ℕ) (t : Tree) (e : Fault) → Fits t → Assigned t → depth t ≤ limit
+        → Damage stop (enc t ++ rest) limit e → e ≡ semantic BigNegative }
+    ensures negative { (stop limit : ℕ) (rest : List ℕ) (t : Tree) → Fits t → Assigned t → depth t ≤ limit → fold t ≡ None
+        → All (λ x. x < 256) (enc t ++ rest) → length (enc t ++ rest) ≤ stop → Damage stop (enc t ++ rest) limit (semantic BigNegative) }
 {}
