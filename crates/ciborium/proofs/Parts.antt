@@ -183,7 +183,7 @@ level_not n inside rest t (inr (h, r, s, not)) e f =
     let w = head_bytes h (kind_at inside r rest h t s f ∙ bytes_kind t (both (nat_eq n 2 || nat_eq n 3) (is_bytes t) e).1) in
     not w.0 w.1
 
-level_deep : (n limit : ℕ) (inside rest : List ℕ) (t : Tree) → IsLevel n inside → Stands inside t rest → depth (tag n t) ≤ limit → suc (depth t) ≤ limit
+pub level_deep : (n limit : ℕ) (inside rest : List ℕ) (t : Tree) → IsLevel n inside → Stands inside t rest → depth (tag n t) ≤ limit → suc (depth t) ≤ limit
 level_deep n limit inside rest t l f d = go (opens_none n t) refl d
   where
     go : (c : Bool) → opens_none n t ≡ c → cond c 0 (suc (depth t)) ≤ limit → suc (depth t) ≤ limit

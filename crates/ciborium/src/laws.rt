@@ -102,5 +102,5 @@ pub fn reading_agrees()
     ensures fault { (stop limit : ℕ) (rest : List ℕ) (t : Tree) (e : Fault) → Fits t → Assigned t → depth t ≤ limit
         → Damage stop (enc t ++ rest) limit e → e ≡ semantic BigNegative }
     ensures negative { (stop limit : ℕ) (rest : List ℕ) (t : Tree) → Fits t → Assigned t → depth t ≤ limit → fold t ≡ None
-        → All (λ x. x < 256) (enc t ++ rest) → length (enc t ++ rest) ≤ stop → Damage stop (enc t ++ rest) limit (semantic BigNegative) }
+        → Damage stop (enc t ++ rest) limit (semantic BigNegative) }
 {}
