@@ -6,7 +6,7 @@ use Rattle.std.specs.Str.{IsUtf8}
 use Rattle.ciborium_ll.specs.declared.hdr.Header.{Header}
 use Rattle.ciborium_ll.specs.declared.hdr.Header.TheVariants.{Simple, Tag, Break, Bytes, Text, Array, Map}
 use Rattle.ciborium_ll.specs.Title.{Begins, IsCut, StartsBad}
-use Rattle.ciborium_ll.specs.Framing.{joined, Frame, Any, Opened, opened, deeper}
+use Rattle.ciborium_ll.specs.Framing.{joined, Frame, Any, Opened, opened, deeper, bytes_same, bytes_unbroken, text_same, text_unbroken}
 use Rattle.ciborium_ll.proofs.TitleLaws.{not_bad}
 use Rattle.ciborium_value.specs.declared.kind.Kind.TheVariants as kind
 use Rattle.ciborium_value.specs.Tree.{Tree, bytes, text, array, map, tag, simple, Trees, no_trees, one_more, Pairs, no_pairs, pair_more, flat, depth}
@@ -14,7 +14,7 @@ use Rattle.ciborium_value.specs.Folding.{tagged, fold_bytes}
 use Rattle.ciborium.specs.Meaning.{meaning, meanings, pair_meanings, simple_meaning, Assigned, AllAssigned, PairsAssigned}
 use Rattle.ciborium.specs.Damage.{Fault, end, deep, syntax, semantic, Damage, in_title, in_bytes, in_text, unassigned, stray_break, too_negative, too_deep, in_child, in_tag, in_free, ChunkDamage, StringDamage, Opens}
 use Rattle.ciborium.specs.Front.{Front}
-use Rattle.ciborium.proofs.Once.{once, no_break, tree_kind, bytes_same, text_same, kind_0, kind_1}
+use Rattle.ciborium.proofs.Once.{once, no_break, tree_kind, kind_0, kind_1}
 use Rattle.ciborium.proofs.Exact.{title_not, string_not}
 use Rattle.ciborium.proofs.Parts.{Stands, Inherited, stands_begins, kind_at, simple_part, tag_parts, array_deep, map_deep, child_there, level_there, free_there}
 use Rattle.ciborium.proofs.ReadLemmas.{meanings_parts, meanings_made}
@@ -42,12 +42,12 @@ module _ (k : Option ℕ → Header) (P : List ℕ → Type 0) where
 
 bytes_not : (stop : ℕ) (b rest : List ℕ) (e : Fault) (t : Tree) → StringDamage Bytes Any stop b e → Stands b t rest → ⊥
 bytes_not stop b rest e (bytes x) d f =
-    string_not Bytes bytes_same Any 1 kind_0 (omega arith) stop f.spelling rest e f.spells.0 f.spells.1 (subst (λ (z : List ℕ). StringDamage Bytes Any stop z e) f.whole d)
+    string_not Bytes bytes_same bytes_unbroken Any stop f.spelling rest e f.spells.0 f.spells.1 (subst (λ (z : List ℕ). StringDamage Bytes Any stop z e) f.whole d)
 bytes_not stop b rest e t d f = absurd (let w = string_begins Bytes Any stop b e d in let k : 1 ≡ tree_kind t = sym (kind_0 w.0) ∙ kind_at b w.1 rest (Bytes w.0) t w.2 f in omega arith)
 
 text_not : (stop : ℕ) (b rest : List ℕ) (e : Fault) (t : Tree) → StringDamage Text IsUtf8 stop b e → Stands b t rest → ⊥
 text_not stop b rest e (text x) d f =
-    string_not Text text_same IsUtf8 2 kind_1 (omega arith) stop f.spelling rest e f.spells.0 f.spells.1 (subst (λ (z : List ℕ). StringDamage Text IsUtf8 stop z e) f.whole d)
+    string_not Text text_same text_unbroken IsUtf8 stop f.spelling rest e f.spells.0 f.spells.1 (subst (λ (z : List ℕ). StringDamage Text IsUtf8 stop z e) f.whole d)
 text_not stop b rest e t d f = absurd (let w = string_begins Text IsUtf8 stop b e d in let k : 2 ≡ tree_kind t = sym (kind_1 w.0) ∙ kind_at b w.1 rest (Text w.0) t w.2 f in omega arith)
 
 -- where an item of at most `limit` levels stands and has P, each fault there has R

@@ -1,27 +1,22 @@
 -- Another title of the same header in the first place spells the same tree.
 use Rattle.std.proofs.Common.{◌≡◌, ℕ, inl, inr, List, [], ◌∷◌, ◌++◌, length, Option, None, Some, refl, sym, ap, subst, ◌∙◌, append_assoc}
-use Rattle.std.proofs.lemmas.List.{append_cancel_left}
 use Rattle.std.specs.Str.{IsUtf8}
 use Rattle.ciborium_ll.specs.declared.hdr.Header.{Header}
 use Rattle.ciborium_ll.specs.declared.hdr.Header.TheVariants.{Simple, Tag, Bytes, Text, Array, Map, Float}
 use Rattle.ciborium_ll.specs.Title.{Title}
 use Rattle.ciborium_ll.specs.Framing.{Frame, whole, cut, Any}
+use Rattle.ciborium_ll.proofs.Closings.{split_heads}
 use Rattle.ciborium_value.specs.Tree.{Tree, integer, bytes, text, array, map, tag, simple, float, tree_count, pair_count}
 use Rattle.ciborium_value.specs.Encoding.{int_head}
 use Rattle.ciborium.specs.Spelling.{Around, Spells, SpellsAll, SpellsPairs}
-use Rattle.ciborium.proofs.Once.{append_nil, title_once}
+use Rattle.ciborium.proofs.Once.{append_nil}
 
 module _ (h : Header) (a b rest : List ℕ) (p : Title a h) (q : Title b h) where
-  -- two titles at the front of one list
-  meets : (title tail : List ℕ) (k : Header) → Title title k → a ++ rest ≡ title ++ tail → (h ≡ k) × (rest ≡ tail)
-  meets title tail k r e =
-      let w = title_once a title rest tail h k p r e in
-      (w.0, append_cancel_left a rest tail (e ∙ ap (λ z. z ++ tail) (sym w.1)))
-
+  -- the other title in front of what follows
   other_title : (title tail : List ℕ) (k : Header) → Title title k → a ++ rest ≡ title ++ tail → Title b k × (b ++ rest ≡ b ++ tail)
   other_title title tail k r e =
-      let w = meets title tail k r e in
-      (subst (λ (z : Header). Title b z) w.0 q, ap (λ z. b ++ z) w.1)
+      let w = split_heads a title rest tail h k p r e in
+      (subst (λ (z : Header). Title b z) w.heads q, ap (λ z. b ++ z) w.rests)
 
   title_alone : (k : Header) → Title (a ++ rest) k → Title (b ++ rest) k
   title_alone k r =

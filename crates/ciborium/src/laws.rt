@@ -88,14 +88,15 @@ pub fn values_are_assigned(value: &Value)
     }
 }
 
-/// The encoding of a tree spells it, and where the tree folds it means the folded tree. A tree that does not fold means nothing.
+/// A tree with no simple value but false, true and null: its encoding spells it, and where it folds it means the folded tree. If it
+/// does not fold, it means nothing.
 pub fn encodings_mean()
     ensures folded { (t u : Tree) → Fits t → Assigned t → fold t ≡ Some u → Spells (enc t) t × (meaning t ≡ Some u) }
     ensures negative { (t : Tree) → Assigned t → fold t ≡ None → meaning t ≡ None }
 {}
 
-/// Reading the encoding of a tree and folding the tree agree, if it nests no deeper than the limit: where the tree folds, the
-/// folded tree is read and the bytes behind it are left. Else nothing is read, and the fault is a negative number that is too large.
+/// Reading the encoding of such a tree and folding it agree, if it nests no deeper than the limit: where it folds, the folded tree is
+/// read and the bytes behind it are left. Else nothing is read, and the one fault is a negative number that is too large.
 pub fn reading_agrees()
     ensures folded { (limit : ℕ) (rest : List ℕ) (t u : Tree) → Fits t → Assigned t → depth t ≤ limit → fold t ≡ Some u → Front (enc t ++ rest) limit u rest }
     ensures unread { (limit : ℕ) (rest more : List ℕ) (t v : Tree) → Fits t → Assigned t → fold t ≡ None → Front (enc t ++ rest) limit v more → ⊥ }
