@@ -7,7 +7,8 @@ use Rattle.ciborium_value.specs.Tree.{Tree, Trees, no_trees, one_more, Pairs, no
 use Rattle.ciborium.specs.Damage.{Fault, Damage}
 use Rattle.ciborium.specs.Front.{ReadsAll, Front}
 use Rattle.ciborium.specs.Reading.{ChildrenBehind, ChildDamage, is_full, FitsIn}
-use Rattle.ciborium.proofs.Once.{break_title, first}
+use Rattle.ciborium_ll.proofs.Closings.{break_title}
+use Rattle.ciborium.proofs.Once.{first}
 use Rattle.ciborium.proofs.StringLemmas.{title_some}
 use Rattle.ciborium.proofs.ReadLemmas.{snoc, snoc_count, all_none, all_more}
 use Rattle.ciborium.proofs.ChildLemmas.{array_due, map_due, value_due, fits_more, fits_none, children_full, children_closed}

@@ -17,7 +17,8 @@ use Rattle.ciborium.specs.Damage.{Fault, end, deep, syntax, semantic, Damage, in
 use Rattle.ciborium.specs.Front.{ReadsAll}
 use Rattle.ciborium_ll.specs.Title.{Begins}
 use Rattle.ciborium.specs.Reading.{EndPlace, IsLong, FailsAt, FailsBehind, Known, ReadsBehind, ChildrenBehind, ChildDamage, is_full, FitsIn}
-use Rattle.ciborium.proofs.Once.{title_once, break_title}
+use Rattle.ciborium_ll.proofs.Closings.{break_title}
+use Rattle.ciborium.proofs.Once.{title_once}
 use Rattle.ciborium.proofs.Taking.{fails_as, fails_behind}
 use Rattle.ciborium.proofs.ReadLemmas.{meanings_parts, behind_rest}
 

@@ -1,5 +1,5 @@
 -- Damaged bytes begin with no item.
-use Rattle.std.proofs.Common.{◌≡◌, ◌<◌, ◌⊎◌, inl, inr, ℕ, List, [], ◌∷◌, ◌++◌, length, take, Option, None, Some, refl, sym, ap, subst, ◌∙◌, arith, append_assoc, length-append}
+use Rattle.std.proofs.Common.{◌≡◌, ◌≢◌, ◌<◌, ◌⊎◌, inl, inr, ℕ, List, [], ◌∷◌, ◌++◌, length, take, Option, None, Some, refl, sym, ap, subst, ◌∙◌, arith, append_assoc, length-append}
 use Rattle.std.proofs.lemmas.List.{append_cancel_left}
 use Rattle.std.proofs.Math.Seq.{take-append_seam}
 use Rattle.ciborium_ll.specs.declared.hdr.Header.{Header}
@@ -10,7 +10,9 @@ use Rattle.ciborium_ll.specs.Framing.{Frame, whole, cut, Frames, no_frames, fram
 use Rattle.ciborium.specs.Damage.{Fault, end, deep, syntax, semantic, Never, TitleDamage, ChunkDamage, OtherDamage, StringDamage}
 use Rattle.ciborium_ll.specs.Title.{Begins}
 use Rattle.ciborium_ll.specs.Framing.{Opened, opened, deeper}
-use Rattle.ciborium.proofs.Once.{append_nil, title_once, break_title, split, regroup, frame_once, no_break_frame, head_kind}
+use Rattle.ciborium_ll.proofs.Closings.{break_title}
+use Rattle.ciborium_ll.proofs.Framed.{frame_once}
+use Rattle.ciborium.proofs.Once.{append_nil, title_once, split, regroup}
 
 -- the frames that are left inside an open string
 record Closing (k : Option ℕ → Header) (P : List ℕ → Type 0) (rest : List ℕ) : Type 0 where
@@ -29,18 +31,23 @@ title_not stop b r h deep s d = d
 title_not stop b r h (syntax p) s d = not_bad s.title r h s.is_title (subst StartsBad s.whole d.0)
 title_not stop b r h (semantic j) s d = d
 
-module _ (k : Option ℕ → Header) (inj : (o p : Option ℕ) → k o ≡ k p → o ≡ p) (P : List ℕ → Type 0) (kind : ℕ) (kinds : (o : Option ℕ) → head_kind (k o) ≡ kind) (low : kind < 8) where
-  head_no : (o : Option ℕ) → head_kind (k o) ≡ head_kind Break → ⊥
-  unfolding head_kind
-  head_no o e = let h : head_kind (k o) ≡ kind = kinds o in omega arith
+module _ (k : Option ℕ → Header) (inj : (o p : Option ℕ) → k o ≡ k p → o ≡ p) (unbroken : (o : Option ℕ) → k o ≢ Break) (P : List ℕ → Type 0) where
+  frame_begins : (b w : List ℕ) (ys : List (List ℕ)) → Frame k P b ys → (o : Option ℕ) × (r : List ℕ) × Begins (b ++ w) (k o) r
+  frame_begins b w ys (whole _ body s p has eb) = (Some (length body), body ++ w, record { title = s; is_title = p; whole = regroup b s body w eb })
+  frame_begins b w ys (cut _ j s _ p gs eb) = (None, (j ++ 255 ∷ []) ++ w, record { title = s; is_title = p; whole = regroup b s (j ++ 255 ∷ []) w (eb ∙ append_assoc s j (255 ∷ [])) })
+
+  no_break_frame : (b u v : List ℕ) (ys : List (List ℕ)) → Frame k P b ys → b ++ u ≡ 255 ∷ v → ⊥
+  no_break_frame b u v ys f e =
+      let m = frame_begins b u ys f in
+      unbroken m.0 (begins_once (b ++ u) m.1 v (k m.0) Break m.2 (record { title = 255 ∷ []; is_title = break_title; whole = e }))
 
   -- frames that were read are the first of those that are there
   walk : (a b rest w : List ℕ) (xs ys : List (List ℕ)) → Frames k P a xs → Frames k P b ys → a ++ rest ≡ b ++ (255 ∷ w) → Closing k P rest
   walk _ b rest w _ ys no_frames g e = record { inner = b; behind = w; bodies = ys; frames = g; is = e }
-  walk _ _ rest w _ _ (frame_more c d ps qs f fs) no_frames e = absurd (no_break_frame k inj P kind kinds low c (d ++ rest) w ps f (sym (append_assoc c d rest) ∙ e))
+  walk _ _ rest w _ _ (frame_more c d ps qs f fs) no_frames e = absurd (no_break_frame c (d ++ rest) w ps f (sym (append_assoc c d rest) ∙ e))
   walk _ _ rest w _ _ (frame_more c d ps qs f fs) (frame_more c' d' ps' qs' g gs) e =
       let e' : c ++ (d ++ rest) ≡ c' ++ (d' ++ (255 ∷ w)) = sym (append_assoc c d rest) ∙ e ∙ append_assoc c' d' (255 ∷ w) in
-      let h = frame_once k inj P kind kinds low c c' (d ++ rest) (d' ++ (255 ∷ w)) ps ps' f g e' in
+      let h = frame_once k inj unbroken P c c' (d ++ rest) (d' ++ (255 ∷ w)) ps ps' f g e' in
       walk d d' rest w qs qs' fs gs (append_cancel_left c (d ++ rest) (d' ++ (255 ∷ w)) (e' ∙ ap (λ z. z ++ (d' ++ (255 ∷ w))) (sym h.1)))
 
   -- an open title begins a frame that is cut
@@ -62,7 +69,7 @@ module _ (k : Option ℕ → Header) (inj : (o p : Option ℕ) → k o ≡ k p �
       deepen : (title inner rest : List ℕ) (zs : List (List ℕ)) → Title title (k None) → Frames k P inner zs → (j u : List ℕ) (vs : List (List ℕ)) → Frames k P j vs → title ++ (inner ++ rest) ≡ j ++ (255 ∷ u) → Closing k P rest
       deepen title inner rest zs t fs _ u _ no_frames e =
           let v = split title (255 ∷ []) title (255 ∷ []) [] [] (inner ++ rest) u (k None) Break t break_title (append_nil title) refl e in
-          absurd (head_no None (ap head_kind v.heads))
+          absurd (unbroken None v.heads)
       deepen title inner rest zs t fs _ u _ (frame_more c d ps qs f gs) e = into title inner rest c (d ++ (255 ∷ u)) zs ps t fs f (e ∙ append_assoc c d (255 ∷ u))
 
   -- what stands at a frame
@@ -91,10 +98,6 @@ module _ (k : Option ℕ → Header) (inj : (o p : Option ℕ) → k o ≡ k p �
       let c : None ≡ Some n = inj None (Some n) v.heads in
       cc
 
-  frame_begins : (b w : List ℕ) (ys : List (List ℕ)) → Frame k P b ys → (o : Option ℕ) × (r : List ℕ) × Begins (b ++ w) (k o) r
-  frame_begins b w ys (whole _ body s p has eb) = (Some (length body), body ++ w, record { title = s; is_title = p; whole = regroup b s body w eb })
-  frame_begins b w ys (cut _ j s _ p gs eb) = (None, (j ++ 255 ∷ []) ++ w, record { title = s; is_title = p; whole = regroup b s (j ++ 255 ∷ []) w (eb ∙ append_assoc s j (255 ∷ [])) })
-
   closing_begins : (rest : List ℕ) → Closing k P rest → ((r : List ℕ) × Begins rest Break r) ⊎ ((a u : List ℕ) × (ys : List (List ℕ)) × Frame k P a ys × (rest ≡ a ++ u))
   closing_begins rest c = go c.inner c.bodies c.frames c.is
     where
@@ -109,9 +112,9 @@ module _ (k : Option ℕ → Header) (inj : (o p : Option ℕ) → k o ≡ k p �
   chunk_not stop b w (semantic j) ys f d = d
 
   chunk_no_break : (stop : ℕ) (b r : List ℕ) (e : Fault) → Begins b Break r → ChunkDamage k P stop b e → ⊥
-  chunk_no_break stop b r end s d = head_no (Some d.0) (ap head_kind (begins_once b d.1 r (k (Some d.0)) Break d.2 s))
+  chunk_no_break stop b r end s d = unbroken (Some d.0) (begins_once b d.1 r (k (Some d.0)) Break d.2 s)
   chunk_no_break stop b r deep s d = d
-  chunk_no_break stop b r (syntax p) s d = head_no (Some d.0) (ap head_kind (begins_once b d.1 r (k (Some d.0)) Break d.2 s))
+  chunk_no_break stop b r (syntax p) s d = unbroken (Some d.0) (begins_once b d.1 r (k (Some d.0)) Break d.2 s)
   chunk_no_break stop b r (semantic j) s d = d
 
   other_no_break : (stop : ℕ) (b r : List ℕ) (e : Fault) → Begins b Break r → OtherDamage k stop b e → ⊥

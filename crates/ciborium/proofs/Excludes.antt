@@ -1,19 +1,24 @@
--- Damage and a front exclude each other: bytes that begin a readable item have no fault there.
-use Rattle.std.proofs.Common.{◌≡◌, ◌-◌, inl, inr, ℕ, List, ◌++◌, Option, None, Some, refl, sym, ap, subst, ◌∙◌, arith, append_assoc}
+-- The faults where an item stands. Damage and a front exclude each other: bytes that begin a readable item have no fault there. An
+-- item with assigned simple values has no fault but a negative number that is too large.
+use Rattle.std.proofs.Common.{◌≡◌, ◌≤◌, ◌-◌, inl, inr, ℕ, List, ◌++◌, Option, None, Some, refl, sym, ap, subst, ◌∙◌, arith, append_assoc}
+use Rattle.std.specs.Option.{option_map, option_and_then}
 use Rattle.std.specs.Str.{IsUtf8}
 use Rattle.ciborium_ll.specs.declared.hdr.Header.{Header}
 use Rattle.ciborium_ll.specs.declared.hdr.Header.TheVariants.{Simple, Tag, Break, Bytes, Text, Array, Map}
-use Rattle.ciborium_ll.specs.Title.{Begins, StartsBad}
-use Rattle.ciborium_ll.specs.Framing.{joined, Frame, Any, Opened, opened, deeper}
+use Rattle.ciborium_ll.specs.Title.{Begins, IsCut, StartsBad}
+use Rattle.ciborium_ll.specs.Framing.{joined, Frame, Any, Opened, opened, deeper, bytes_same, bytes_unbroken, text_same, text_unbroken}
 use Rattle.ciborium_ll.proofs.TitleLaws.{not_bad}
-use Rattle.ciborium_value.specs.Tree.{Tree, bytes, text, tag}
-use Rattle.ciborium_value.specs.Folding.{fold_bytes}
-use Rattle.ciborium.specs.Meaning.{meaning, simple_meaning}
+use Rattle.ciborium_value.specs.declared.kind.Kind.TheVariants as kind
+use Rattle.ciborium_value.specs.Tree.{Tree, bytes, text, array, map, tag, simple, Trees, no_trees, one_more, Pairs, no_pairs, pair_more, flat, depth}
+use Rattle.ciborium_value.specs.Folding.{tagged, fold_bytes}
+use Rattle.ciborium.specs.Meaning.{meaning, meanings, pair_meanings, simple_meaning, Assigned, AllAssigned, PairsAssigned}
 use Rattle.ciborium.specs.Damage.{Fault, end, deep, syntax, semantic, Damage, in_title, in_bytes, in_text, unassigned, stray_break, too_negative, too_deep, in_child, in_tag, in_free, ChunkDamage, StringDamage, Opens}
 use Rattle.ciborium.specs.Front.{Front}
-use Rattle.ciborium.proofs.Once.{once, no_break, tree_kind, bytes_same, text_same, kind_0, kind_1}
+use Rattle.ciborium.proofs.Once.{once, no_break, tree_kind, kind_0, kind_1}
 use Rattle.ciborium.proofs.Exact.{title_not, string_not}
-use Rattle.ciborium.proofs.Parts.{Stands, stands, stands_begins, kind_at, simple_part, tag_parts, array_children, map_children, child_front, tag_front, free_front}
+use Rattle.ciborium.proofs.Parts.{Stands, Inherited, stands_begins, kind_at, simple_part, tag_parts, array_deep, map_deep, child_there, level_there, free_there}
+use Rattle.ciborium.proofs.ReadLemmas.{meanings_parts, meanings_made}
+use Rattle.ciborium.proofs.Folded.{pairs_parts, assigned_simple}
 
 -- damage of a string begins with a title of its kind
 module _ (k : Option ℕ → Header) (P : List ℕ → Type 0) where
@@ -37,62 +42,123 @@ module _ (k : Option ℕ → Header) (P : List ℕ → Type 0) where
 
 bytes_not : (stop : ℕ) (b rest : List ℕ) (e : Fault) (t : Tree) → StringDamage Bytes Any stop b e → Stands b t rest → ⊥
 bytes_not stop b rest e (bytes x) d f =
-    string_not Bytes bytes_same Any 1 kind_0 (omega arith) stop f.spelling rest e f.spells.0 f.spells.1 (subst (λ (z : List ℕ). StringDamage Bytes Any stop z e) f.whole d)
+    string_not Bytes bytes_same bytes_unbroken Any stop f.spelling rest e f.spells.0 f.spells.1 (subst (λ (z : List ℕ). StringDamage Bytes Any stop z e) f.whole d)
 bytes_not stop b rest e t d f = absurd (let w = string_begins Bytes Any stop b e d in let k : 1 ≡ tree_kind t = sym (kind_0 w.0) ∙ kind_at b w.1 rest (Bytes w.0) t w.2 f in omega arith)
 
 text_not : (stop : ℕ) (b rest : List ℕ) (e : Fault) (t : Tree) → StringDamage Text IsUtf8 stop b e → Stands b t rest → ⊥
 text_not stop b rest e (text x) d f =
-    string_not Text text_same IsUtf8 2 kind_1 (omega arith) stop f.spelling rest e f.spells.0 f.spells.1 (subst (λ (z : List ℕ). StringDamage Text IsUtf8 stop z e) f.whole d)
+    string_not Text text_same text_unbroken IsUtf8 stop f.spelling rest e f.spells.0 f.spells.1 (subst (λ (z : List ℕ). StringDamage Text IsUtf8 stop z e) f.whole d)
 text_not stop b rest e t d f = absurd (let w = string_begins Text IsUtf8 stop b e d in let k : 2 ≡ tree_kind t = sym (kind_1 w.0) ∙ kind_at b w.1 rest (Text w.0) t w.2 f in omega arith)
 
-unassigned_not : (b r rest : List ℕ) (limit n : ℕ) (v : Tree) → Begins b (Simple n) r → simple_meaning n ≡ None → Front b limit v rest → ⊥
-unassigned_not b r rest limit n v s e f =
-    let t = simple_part b r rest n f.reads.tree s (stands b limit v rest f) in
-    let g : None ≡ Some v = sym e ∙ sym (ap meaning t) ∙ f.reads.means in
-    cc
+-- where an item of at most `limit` levels stands and has P, each fault there has R
+module _ (P : Tree → Type 0) (Q : Trees → Type 0) (inherited : Inherited P Q) (R : Fault → Type 0) (bare : (n : ℕ) → P (simple n) → simple_meaning n ≡ None → R (semantic kind.Simple))
+    (negative : (x : List ℕ) → P (tag 3 (bytes x)) → fold_bytes 3 x ≡ None → R (semantic kind.BigNegative)) where
+  unassigned_there : (b r rest : List ℕ) (n : ℕ) (t : Tree) → Begins b (Simple n) r → simple_meaning n ≡ None → Stands b t rest → P t → R (semantic kind.Simple)
+  unassigned_there b r rest n t s e f p = bare n (subst P (simple_part b r rest n t s f) p) e
 
-break_not : (b r rest : List ℕ) (limit : ℕ) (v : Tree) → Begins b Break r → Front b limit v rest → ⊥
-break_not b r rest limit v s f =
-    no_break f.reads.tree f.spelling rest r f.reads.spells (sym f.whole ∙ s.whole ∙ ap (λ z. z ++ r) s.is_title)
+  break_not : (b r rest : List ℕ) (t : Tree) → Begins b Break r → Stands b t rest → ⊥
+  break_not b r rest t s f = no_break t f.spelling rest r f.spells (sym f.whole ∙ s.whole ∙ ap (λ z. z ++ r) s.is_title)
 
-negative_not : (b inside inner r rest : List ℕ) (limit : ℕ) (bodies : List (List ℕ)) (v : Tree) → Begins b (Tag 3) inside → Frame Bytes Any inner bodies → inside ≡ inner ++ r → fold_bytes 3 (joined bodies) ≡ None
-    → Front b limit v rest → ⊥
-negative_not b inside inner r rest limit bodies v s g w e f =
-    let p = tag_parts b inside rest 3 f.reads.tree s (stands b limit v rest f) in
-    let u : p.under ≡ bytes (joined bodies) = (once p.under (bytes (joined bodies)) p.at.spelling inner rest r p.at.spells (bodies, g, refl) (sym p.at.whole ∙ w)).0 in
-    let h : fold_bytes 3 (joined bodies) ≡ Some v = sym (ap meaning (p.is ∙ ap (tag 3) u)) ∙ f.reads.means in
-    let c : None ≡ Some v = sym e ∙ h in
-    cc
+  negative_there : (b inside inner r rest : List ℕ) (bodies : List (List ℕ)) (t : Tree) → Begins b (Tag 3) inside → Frame Bytes Any inner bodies → inside ≡ inner ++ r → fold_bytes 3 (joined bodies) ≡ None
+      → Stands b t rest → P t → R (semantic kind.BigNegative)
+  negative_there b inside inner r rest bodies t s g w e f p =
+      let c = tag_parts b inside rest 3 t s f in
+      let u : c.under ≡ bytes (joined bodies) = (once c.under (bytes (joined bodies)) c.at.spelling inner rest r c.at.spells (bodies, g, refl) (sym c.at.whole ∙ w)).0 in
+      negative (joined bodies) (subst P (c.is ∙ ap (tag 3) u) p) e
 
-deep_not : (b r rest : List ℕ) (h : Header) (v : Tree) → Begins b h r → Opens h r → Front b 0 v rest → ⊥
-deep_not b r rest (Array o) v s l f = let p = array_children b r rest o 0 v f.reads.tree s (stands b 0 v rest f) f.reads.shallow f.reads.means in omega (arith, p.deep)
-deep_not b r rest (Map o) v s l f = let p = map_children b r rest o 0 v f.reads.tree s (stands b 0 v rest f) f.reads.shallow f.reads.means in omega (arith, p.deep)
-deep_not b r rest (Tag n) v s l f = let p = tag_front b r rest n 0 v s l f in omega (arith, p.0)
-deep_not b r rest h v s l f = l
+  deep_not : (b r rest : List ℕ) (h : Header) (t : Tree) → Begins b h r → Opens h r → Stands b t rest → depth t ≤ 0 → P t → ⊥
+  deep_not b r rest (Array o) t s l f d p = let q = array_deep P Q inherited b r rest o 0 t s f d p in omega arith
+  deep_not b r rest (Map o) t s l f d p = let q = map_deep P Q inherited b r rest o 0 t s f d p in omega arith
+  deep_not b r rest (Tag n) t s l f d p = let q = (level_there P Q inherited b r rest n 0 t s l f d p).0 in omega arith
+  deep_not b r rest h t s l f d p = l
+
+  cut_not : (stop : ℕ) (inside rest : List ℕ) (t : Tree) → Stands inside t rest → IsCut inside → ⊥
+  cut_not stop inside rest t f c = let h = stands_begins inside rest t f in title_not stop inside h.1 h.0 end h.2 c
+
+  bad_not : (inside rest : List ℕ) (t : Tree) → Stands inside t rest → StartsBad inside → ⊥
+  bad_not inside rest t f c =
+      let h = stands_begins inside rest t f in
+      let g = h.2 in
+      not_bad g.title h.1 h.0 g.is_title (subst StartsBad g.whole c)
+
+  pub fault_there : (stop : ℕ) (b : List ℕ) (limit : ℕ) (e : Fault) → Damage stop b limit e → (t : Tree) (rest : List ℕ) → Stands b t rest → depth t ≤ limit → P t → R e
+  fault_there stop b limit e (in_title _ _ _ d) t rest f low p = let h = stands_begins b rest t f in absurd (title_not stop b h.1 h.0 e h.2 d)
+  fault_there stop b limit e (in_bytes _ _ _ d) t rest f low p = absurd (bytes_not stop b rest e t d f)
+  fault_there stop b limit e (in_text _ _ _ d) t rest f low p = absurd (text_not stop b rest e t d f)
+  fault_there stop b limit _ (unassigned _ r _ n s m) t rest f low p = unassigned_there b r rest n t s m f p
+  fault_there stop b limit _ (stray_break _ r _ s) t rest f low p = absurd (break_not b r rest t s f)
+  fault_there stop b limit _ (too_negative _ inside inner r _ bodies s g w m) t rest f low p = negative_there b inside inner r rest bodies t s g w m f p
+  fault_there stop b _ _ (too_deep _ r h s l) t rest f low p = absurd (deep_not b r rest h t s l f low p)
+  fault_there stop b limit e (in_child _ inside at _ h done _ s l fs due d) t rest f low p =
+      let w = child_there P Q inherited b inside at rest limit h done t s fs due f low p in
+      fault_there stop at (limit - 1) e d w.tree w.rest w.there w.shallow w.has
+  fault_there stop b limit e (in_tag _ inside _ n _ s l lv d) t rest f low p =
+      let w = (level_there P Q inherited b inside rest n limit t s lv f low p).1 in
+      fault_there stop inside (limit - 1) e d w.tree w.rest w.there w.shallow w.has
+  fault_there stop b limit e (in_free _ inside _ n _ s (which, inl (o, r, bs)) d) t rest f low p =
+      let w = free_there P Q inherited b inside r rest n limit o t s bs f p in
+      fault_there stop inside limit e d w.tree w.rest w.there w.shallow w.has
+  fault_there stop b limit e (in_free _ inside _ n _ s (which, inr (inl c)) d) t rest f low p =
+      let w = tag_parts b inside rest n t s f in
+      absurd (cut_not stop inside rest w.under w.at c)
+  fault_there stop b limit e (in_free _ inside _ n _ s (which, inr (inr c)) d) t rest f low p =
+      let w = tag_parts b inside rest n t s f in
+      absurd (bad_not inside rest w.under w.at c)
+
+-- an item that means something
+abbrev Means : Tree → Type 0
+Means t = (v : Tree) × (meaning t ≡ Some v)
+
+abbrev AllMean : Trees → Type 0
+AllMean ts = (vs : Trees) × (meanings ts ≡ Some vs)
+
+map_some : {A B : Type 0} (f : A → B) (o : Option A) (v : B) → option_map f o ≡ Some v → (u : A) × (o ≡ Some u)
+map_some f None v e = cc
+map_some f (Some u) v e = (u, refl)
+
+then_some : {A B : Type 0} (f : A → Option B) (o : Option A) (v : B) → option_and_then f o ≡ Some v → (u : A) × (o ≡ Some u)
+then_some f None v e = cc
+then_some f (Some u) v e = (u, refl)
+
+flat_means : (ps qs : Pairs) → pair_meanings ps ≡ Some qs → AllMean (flat ps)
+flat_means no_pairs qs e = (no_trees, refl)
+flat_means (pair_more k v ps) qs e =
+    let w = pairs_parts k v ps qs e in
+    let r = flat_means ps w.2 w.5 in
+    (one_more w.0 (one_more w.1 r.0), meanings_made k (one_more v (flat ps)) w.0 (one_more w.1 r.0) w.3 (meanings_made v (flat ps) w.1 r.0 w.4 r.1))
+
+items_mean : (t : Tree) (ts : Trees) → AllMean (one_more t ts) → Means t × AllMean ts
+items_mean t ts p = let w = meanings_parts t ts p.0 p.1 in ((w.0, w.2), (w.1, w.3))
+
+parts_mean : Inherited Means AllMean
+parts_mean = record {
+  of_array = λ ts p. map_some array (meanings ts) p.0 p.1;
+  of_map = λ ps p. let m = map_some map (pair_meanings ps) p.0 p.1 in flat_means ps m.0 m.1;
+  of_tag = λ n t p. then_some (tagged n) (meaning t) p.0 p.1;
+  of_items = items_mean;
+}
+
+bare_means : (n : ℕ) → Means (simple n) → simple_meaning n ≡ None → ⊥
+bare_means n p e = let f : simple_meaning n ≡ Some p.0 = p.1 in cc
+
+negative_means : (x : List ℕ) → Means (tag 3 (bytes x)) → fold_bytes 3 x ≡ None → ⊥
+negative_means x p e = let f : fold_bytes 3 x ≡ Some p.0 = p.1 in cc
 
 pub excludes : (stop : ℕ) (b : List ℕ) (limit : ℕ) (e : Fault) → Damage stop b limit e → (v : Tree) (rest : List ℕ) → Front b limit v rest → ⊥
-excludes stop b limit e (in_title _ _ _ d) v rest f = let h = stands_begins b rest f.reads.tree (stands b limit v rest f) in title_not stop b h.1 h.0 e h.2 d
-excludes stop b limit e (in_bytes _ _ _ d) v rest f = bytes_not stop b rest e f.reads.tree d (stands b limit v rest f)
-excludes stop b limit e (in_text _ _ _ d) v rest f = text_not stop b rest e f.reads.tree d (stands b limit v rest f)
-excludes stop b limit e (unassigned _ r _ n s m) v rest f = unassigned_not b r rest limit n v s m f
-excludes stop b limit e (stray_break _ r _ s) v rest f = break_not b r rest limit v s f
-excludes stop b limit e (too_negative _ inside inner r _ bodies s g w m) v rest f = negative_not b inside inner r rest limit bodies v s g w m f
-excludes stop b limit e (too_deep _ r h s l) v rest f = deep_not b r rest h v s l f
-excludes stop b limit e (in_child _ inside at _ h done _ s l fs due d) v rest f =
-    let w = child_front b inside at rest limit h done v s fs due f in
-    excludes stop at (limit - 1) e d w.0 w.1 w.2
-excludes stop b limit e (in_tag _ inside _ n _ s l lv d) v rest f =
-    let w = tag_front b inside rest n limit v s lv f in
-    excludes stop inside (limit - 1) e d w.1.0 rest w.1.1
-excludes stop b limit e (in_free _ inside _ n _ s (which, inl (o, r, bs)) d) v rest f =
-    let w = free_front b inside r rest n limit o v s bs f in
-    excludes stop inside limit e d w.0 rest w.1
-excludes stop b limit e (in_free _ inside _ n _ s (which, inr (inl c)) d) v rest f =
-    let p = tag_parts b inside rest n f.reads.tree s (stands b limit v rest f) in
-    let h = stands_begins inside rest p.under p.at in
-    title_not stop inside h.1 h.0 end h.2 c
-excludes stop b limit e (in_free _ inside _ n _ s (which, inr (inr c)) d) v rest f =
-    let p = tag_parts b inside rest n f.reads.tree s (stands b limit v rest f) in
-    let h = stands_begins inside rest p.under p.at in
-    let g = h.2 in
-    not_bad g.title h.1 h.0 g.is_title (subst StartsBad g.whole c)
+excludes stop b limit e d v rest f =
+    fault_there Means AllMean parts_mean (λ e. ⊥) bare_means negative_means stop b limit e d f.reads.tree rest (record { spelling = f.spelling; whole = f.whole; spells = f.reads.spells }) f.reads.shallow (v, f.reads.means)
+
+-- an item with assigned simple values
+flat_assigned : (ps : Pairs) → PairsAssigned ps → AllAssigned (flat ps)
+flat_assigned no_pairs a = a
+flat_assigned (pair_more k v ps) a = (a.0, (a.1, flat_assigned ps a.2))
+
+parts_assigned : Inherited Assigned AllAssigned
+parts_assigned = record { of_array = λ ts a. a; of_map = flat_assigned; of_tag = λ n t a. a; of_items = λ t ts a. a }
+
+bare_assigned : (n : ℕ) → Assigned (simple n) → simple_meaning n ≡ None → semantic kind.Simple ≡ semantic kind.BigNegative
+bare_assigned n a e = absurd (let f : simple_meaning n ≡ Some (simple n) = assigned_simple n a in cc)
+
+pub fault_negative : (stop : ℕ) (b : List ℕ) (limit : ℕ) (e : Fault) → Damage stop b limit e → (t : Tree) (rest : List ℕ) → Stands b t rest → depth t ≤ limit → Assigned t → e ≡ semantic kind.BigNegative
+fault_negative stop b limit e d t rest f low a =
+    fault_there Assigned AllAssigned parts_assigned (λ e. e ≡ semantic kind.BigNegative) bare_assigned (λ x p m. refl) stop b limit e d t rest f low a

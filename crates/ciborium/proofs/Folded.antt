@@ -1,76 +1,14 @@
--- A meaning is folded: it means itself.
-use Rattle.std.proofs.Common.{◌≡◌, ◌≤◌, ◌+◌, ◌*◌, ◌⊎◌, inl, inr, ℕ, ℤ, Bool, true, false, cond, List, [], ◌∷◌, length, Option, None, Some, refl, sym, ap, subst, ◌∙◌, arith, nat_eq, nat_lt, nat_le, ◌&&◌, ◌||◌, pos, negsuc}
+-- A meaning is folded, means itself, and has assigned simple values alone. Where simple values are assigned, a meaning is a folding.
+use Rattle.std.proofs.Common.{◌≡◌, ◌≤◌, ℕ, pos, negsuc, Bool, true, false, cond, List, length, Option, None, Some, refl, sym, ap, subst, ◌∙◌, arith, nat_eq, nat_lt, nat_le, ◌&&◌, ◌||◌}
 use Rattle.std.specs.Option.{option_map, option_and_then}
 use Rattle.std.proofs.lemmas.Bool.Decides.{nat_tests}
 use Rattle.ciborium_value.specs.Tree.{Tree, integer, bytes, text, array, map, tag, simple, float, Trees, no_trees, one_more, Pairs, no_pairs, pair_more}
-use Rattle.ciborium.specs.Meaning.{meaning, meanings, pair_meanings, simple_meaning}
-use Rattle.ciborium_value.specs.Folding.{tagged, fold_bytes, fold_number, big_endian_from, without_zeros}
-use Rattle.ciborium.proofs.ReadLemmas.{meanings_parts, meanings_made}
-use Rattle.ciborium.proofs.ChildLemmas.{pairs_made}
+use Rattle.ciborium_value.specs.Folding.{tagged, fold_bytes, fold_number, big_endian_from, without_zeros, fold, fold_all_by, fold_pairs_by}
+use Rattle.ciborium_value.proofs.Folded.{folded}
+use Rattle.ciborium.specs.Meaning.{meaning, meanings, pair_meanings, simple_meaning, Assigned, AllAssigned, PairsAssigned}
+use Rattle.ciborium.proofs.ReadLemmas.{meanings_parts}
 
-is_zero : (x : ℕ) → nat_eq x 0 ≡ true → x ≡ 0
-is_zero x e = grind (arith, nat_tests)
-
-strip_number : (b : List ℕ) → big_endian_from 0 (without_zeros b) ≡ big_endian_from 0 b
-strip_number [] = refl
-strip_number (x ∷ xs) = choose (nat_eq x 0) refl (strip_number xs)
-  where
-    choose : (v : Bool) → nat_eq x 0 ≡ v → big_endian_from 0 (without_zeros xs) ≡ big_endian_from 0 xs → big_endian_from 0 (cond v (without_zeros xs) (x ∷ xs)) ≡ big_endian_from 0 (x ∷ xs)
-    choose true e h = let z : x ≡ 0 = is_zero x e in h ∙ ap (λ n. big_endian_from n xs) (let k : 0 ≡ 256 * 0 + x = omega arith in k)
-    choose false e h = refl
-
-strip_again : (b : List ℕ) → without_zeros (without_zeros b) ≡ without_zeros b
-strip_again [] = refl
-strip_again (x ∷ xs) = choose (nat_eq x 0) refl (strip_again xs)
-  where
-    choose : (v : Bool) → nat_eq x 0 ≡ v → without_zeros (without_zeros xs) ≡ without_zeros xs → without_zeros (cond v (without_zeros xs) (x ∷ xs)) ≡ cond v (without_zeros xs) (x ∷ xs)
-    choose true e h = h
-    choose false e h = ap (λ v. cond v (without_zeros xs) (x ∷ xs)) e
-
-strip_short : (b : List ℕ) → length (without_zeros b) ≤ length b
-strip_short [] = omega arith
-strip_short (x ∷ xs) = choose (nat_eq x 0) refl (strip_short xs)
-  where
-    choose : (v : Bool) → nat_eq x 0 ≡ v → length (without_zeros xs) ≤ length xs → length (cond v (without_zeros xs) (x ∷ xs)) ≤ length (x ∷ xs)
-    choose true e h = omega arith
-    choose false e h = omega arith
-
-short_test : (n m : ℕ) → n ≤ m → nat_le m 16 ≡ true → nat_le n 16 ≡ true
-short_test n m l e = grind (arith, nat_tests)
-
--- a fold that keeps the tag keeps it again
-number_again : (n m : ℕ) (b c : List ℕ) (v : Tree) → without_zeros c ≡ c → c ≡ without_zeros b → fold_number n m b ≡ Some v
-    → ((z : ℤ) × (v ≡ integer z)) ⊎ ((v ≡ tag n (bytes c)) × (fold_number n m c ≡ Some v))
-number_again n m b c v again is e = go (nat_lt m 18446744073709551616) (nat_eq n 3 && nat_le 170141183460469231731687303715884105728 m) e
-  where
-    go : (p q : Bool) → cond p (Some (integer (cond (nat_eq n 2) (pos m) (negsuc m)))) (cond q None (Some (tag n (bytes (without_zeros b))))) ≡ Some v
-        → ((z : ℤ) × (v ≡ integer z)) ⊎ ((v ≡ tag n (bytes c)) × (cond p (Some (integer (cond (nat_eq n 2) (pos m) (negsuc m)))) (cond q None (Some (tag n (bytes (without_zeros c))))) ≡ Some v))
-    go true q e = inl (_, (let f : v ≡ integer (cond (nat_eq n 2) (pos m) (negsuc m)) = cc in f))
-    go false true e = cc
-    go false false e =
-        let f : tag n (bytes (without_zeros b)) ≡ v = cc in
-        inr (sym f ∙ ap (λ z. tag n (bytes z)) (sym is), ap (λ z. Some (tag n (bytes z))) (again ∙ is) ∙ ap Some f)
-
-fold_again : (n : ℕ) (b : List ℕ) (v : Tree) → fold_bytes n b ≡ Some v → ((z : ℤ) × (v ≡ integer z)) ⊎ ((c : List ℕ) × (v ≡ tag n (bytes c)) × (fold_bytes n c ≡ Some v))
-fold_again n b v e = go (nat_le (length b) 16) refl e
-  where
-    kept : (nat_le (length b) 16 ≡ true) → ((z : ℤ) × (v ≡ integer z)) ⊎ ((v ≡ tag n (bytes (without_zeros b))) × (fold_number n (big_endian_from 0 b) (without_zeros b) ≡ Some v))
-        → ((z : ℤ) × (v ≡ integer z)) ⊎ ((c : List ℕ) × (v ≡ tag n (bytes c)) × (fold_bytes n c ≡ Some v))
-    kept t (inl w) = inl w
-    kept t (inr w) =
-        let c = without_zeros b in
-        inr (
-          without_zeros b,
-          w.0,
-          ap (λ z. cond z (fold_number n (big_endian_from 0 (without_zeros b)) (without_zeros b)) (Some (tag n (bytes (without_zeros b))))) (short_test _ _ (strip_short b) t)
-              ∙ ap (λ z. fold_number n z (without_zeros b)) (strip_number b) ∙ w.1,
-        )
-
-    go : (t : Bool) → nat_le (length b) 16 ≡ t → cond t (fold_number n (big_endian_from 0 b) b) (Some (tag n (bytes b))) ≡ Some v
-        → ((z : ℤ) × (v ≡ integer z)) ⊎ ((c : List ℕ) × (v ≡ tag n (bytes c)) × (fold_bytes n c ≡ Some v))
-    go true t e = kept t (number_again n (big_endian_from 0 b) b (without_zeros b) v (strip_again b) refl e)
-    go false t e = inr (b, sym (let f : tag n (bytes b) ≡ v = cc in f), ap (λ z. cond z (fold_number n (big_endian_from 0 b) b) (Some (tag n (bytes b)))) t ∙ e)
-
+-- what a simple value means
 simple_again : (n : ℕ) (v : Tree) → simple_meaning n ≡ Some v → meaning v ≡ Some v
 simple_again n v e = go (nat_eq n 23) (nat_le 20 n && nat_le n 22) refl refl e
   where
@@ -79,25 +17,27 @@ simple_again n v e = go (nat_eq n 23) (nat_le 20 n && nat_le n 22) refl refl e
     go false true a b e = let f : simple n ≡ v = cc in subst (λ (z : Tree). meaning z ≡ Some z) f (ap (λ z. cond z (Some (simple 22)) (cond (nat_le 20 n && nat_le n 22) (Some (simple n)) None)) a ∙ ap (λ z. cond z (Some (simple n)) None) b)
     go false false a b e = cc
 
--- a tag over a folded tree
-tag_again : (n : ℕ) (u v : Tree) → meaning u ≡ Some u → tagged n u ≡ Some v → meaning v ≡ Some v
-tag_again n (bytes b) v m e = go (nat_eq n 2 || nat_eq n 3) refl e
+pub means_again : (t v : Tree) → meaning t ≡ Some v → meaning v ≡ Some v
+means_again = folded simple_meaning simple_again
+
+in_range : (n : ℕ) → (nat_le 20 n && nat_le n 22) ≡ true → (20 ≤ n) × (n ≤ 22)
+in_range n e = grind (arith, nat_tests)
+
+simple_assigned : (n : ℕ) (v : Tree) → simple_meaning n ≡ Some v → Assigned v
+simple_assigned n v e = go (nat_eq n 23) (nat_le 20 n && nat_le n 22) refl e
   where
-    done : (nat_eq n 2 || nat_eq n 3) ≡ true → ((z : ℤ) × (v ≡ integer z)) ⊎ ((c : List ℕ) × (v ≡ tag n (bytes c)) × (fold_bytes n c ≡ Some v)) → meaning v ≡ Some v
-    done t (inl (z, f)) = subst (λ (w : Tree). meaning w ≡ Some w) (sym f) refl
-    done t (inr (c, f, g)) = ap meaning f ∙ ap (λ z. cond z (fold_bytes n c) (Some (tag n (bytes c)))) t ∙ g
+    go : (p q : Bool) → (nat_le 20 n && nat_le n 22) ≡ q → cond p (Some (simple 22)) (cond q (Some (simple n)) None) ≡ Some v → Assigned v
+    go true q b e = let f : simple 22 ≡ v = cc in subst Assigned f (omega arith, omega arith)
+    go false true b e = let f : simple n ≡ v = cc in subst Assigned f (in_range n b)
+    go false false b e = cc
 
-    go : (t : Bool) → (nat_eq n 2 || nat_eq n 3) ≡ t → cond t (fold_bytes n b) (Some (tag n (bytes b))) ≡ Some v → meaning v ≡ Some v
-    go true t e = done t (fold_again n b v e)
-    go false t e = let f : tag n (bytes b) ≡ v = cc in subst (λ (w : Tree). meaning w ≡ Some w) f (ap (λ z. cond z (fold_bytes n b) (Some (tag n (bytes b)))) t)
-tag_again n (integer i) v m e = let f : tag n (integer i) ≡ v = cc in subst (λ (w : Tree). meaning w ≡ Some w) f refl
-tag_again n (text b) v m e = let f : tag n (text b) ≡ v = cc in subst (λ (w : Tree). meaning w ≡ Some w) f refl
-tag_again n (float x) v m e = let f : tag n (float x) ≡ v = cc in subst (λ (w : Tree). meaning w ≡ Some w) f refl
-tag_again n (array ts) v m e = let f : tag n (array ts) ≡ v = cc in subst (λ (w : Tree). meaning w ≡ Some w) f (ap (option_and_then (tagged n)) m)
-tag_again n (map ps) v m e = let f : tag n (map ps) ≡ v = cc in subst (λ (w : Tree). meaning w ≡ Some w) f (ap (option_and_then (tagged n)) m)
-tag_again n (tag k t) v m e = let f : tag n (tag k t) ≡ v = cc in subst (λ (w : Tree). meaning w ≡ Some w) f (ap (option_and_then (tagged n)) m)
-tag_again n (simple k) v m e = let f : tag n (simple k) ≡ v = cc in subst (λ (w : Tree). meaning w ≡ Some w) f (ap (option_and_then (tagged n)) m)
+pub assigned_simple : (n : ℕ) → (20 ≤ n) × (n ≤ 22) → simple_meaning n ≡ Some (simple n)
+assigned_simple n p =
+    let a : nat_eq n 23 ≡ false = grind (arith, nat_tests, p.0, p.1) in
+    let b : (nat_le 20 n && nat_le n 22) ≡ true = grind (arith, nat_tests, p.0, p.1) in
+    ap (λ z. cond z (Some (simple 22)) (cond (nat_le 20 n && nat_le n 22) (Some (simple n)) None)) a ∙ ap (λ z. cond z (Some (simple n)) None) b
 
+-- the parts of a map that means something
 pub pairs_parts : (k v : Tree) (ps qs : Pairs) → pair_meanings (pair_more k v ps) ≡ Some qs → (a b : Tree) × (rs : Pairs) × (meaning k ≡ Some a) × (meaning v ≡ Some b) × (pair_meanings ps ≡ Some rs) × (qs ≡ pair_more a b rs)
 pairs_parts k v ps qs e = go (meaning k) (meaning v) (pair_meanings ps) refl refl refl e
   where
@@ -108,37 +48,100 @@ pairs_parts k v ps qs e = go (meaning k) (meaning v) (pair_meanings ps) refl ref
     go (Some a) (Some b) None x y z e = cc
     go (Some a) (Some b) (Some rs) x y z e = (a, b, rs, x, y, z, cc)
 
-array_made : (m : Option Trees) (v : Tree) → ((us : Trees) → m ≡ Some us → meanings us ≡ Some us) → option_map array m ≡ Some v → meaning v ≡ Some v
-array_made None v h e = cc
-array_made (Some us) v h e = let f : array us ≡ v = cc in subst (λ (w : Tree). meaning w ≡ Some w) f (ap (option_map array) (h us refl))
+-- a tag over assigned simple values
+number_assigned : (n m : ℕ) (b : List ℕ) (v : Tree) → fold_number n m b ≡ Some v → Assigned v
+number_assigned n m b v e = go (nat_lt m 18446744073709551616) (nat_eq n 3 && nat_le 170141183460469231731687303715884105728 m) e
+  where
+    go : (p q : Bool) → cond p (Some (integer (cond (nat_eq n 2) (pos m) (negsuc m)))) (cond q None (Some (tag n (bytes (without_zeros b))))) ≡ Some v → Assigned v
+    go true q e = let f : integer (cond (nat_eq n 2) (pos m) (negsuc m)) ≡ v = cc in subst Assigned f tt
+    go false true e = cc
+    go false false e = let f : tag n (bytes (without_zeros b)) ≡ v = cc in subst Assigned f tt
 
-map_made : (m : Option Pairs) (v : Tree) → ((us : Pairs) → m ≡ Some us → pair_meanings us ≡ Some us) → option_map map m ≡ Some v → meaning v ≡ Some v
-map_made None v h e = cc
-map_made (Some us) v h e = let f : map us ≡ v = cc in subst (λ (w : Tree). meaning w ≡ Some w) f (ap (option_map map) (h us refl))
+bignum_assigned : (n : ℕ) (b : List ℕ) (v : Tree) → fold_bytes n b ≡ Some v → Assigned v
+bignum_assigned n b v e = go (nat_le (length b) 16) e
+  where
+    go : (t : Bool) → cond t (fold_number n (big_endian_from 0 b) b) (Some (tag n (bytes b))) ≡ Some v → Assigned v
+    go true e = number_assigned n (big_endian_from 0 b) b v e
+    go false e = let f : tag n (bytes b) ≡ v = cc in subst Assigned f tt
 
-tag_made : (n : ℕ) (m : Option Tree) (v : Tree) → ((u : Tree) → m ≡ Some u → meaning u ≡ Some u) → option_and_then (tagged n) m ≡ Some v → meaning v ≡ Some v
-tag_made n None v h e = cc
-tag_made n (Some u) v h e = tag_again n u v (h u refl) e
+tag_assigned : (n : ℕ) (u v : Tree) → Assigned u → tagged n u ≡ Some v → Assigned v
+tag_assigned n (bytes b) v a e = go (nat_eq n 2 || nat_eq n 3) e
+  where
+    go : (t : Bool) → cond t (fold_bytes n b) (Some (tag n (bytes b))) ≡ Some v → Assigned v
+    go true e = bignum_assigned n b v e
+    go false e = let f : tag n (bytes b) ≡ v = cc in subst Assigned f tt
+tag_assigned n (integer i) v a e = let f : tag n (integer i) ≡ v = cc in subst Assigned f tt
+tag_assigned n (text b) v a e = let f : tag n (text b) ≡ v = cc in subst Assigned f tt
+tag_assigned n (float x) v a e = let f : tag n (float x) ≡ v = cc in subst Assigned f tt
+tag_assigned n (array ts) v a e = let f : tag n (array ts) ≡ v = cc in subst Assigned f a
+tag_assigned n (map ps) v a e = let f : tag n (map ps) ≡ v = cc in subst Assigned f a
+tag_assigned n (tag k t) v a e = let f : tag n (tag k t) ≡ v = cc in subst Assigned f a
+tag_assigned n (simple k) v a e = let f : tag n (simple k) ≡ v = cc in subst Assigned f a
+
+array_assigned : (m : Option Trees) (v : Tree) → ((us : Trees) → m ≡ Some us → AllAssigned us) → option_map array m ≡ Some v → Assigned v
+array_assigned None v h e = cc
+array_assigned (Some us) v h e = let f : array us ≡ v = cc in subst Assigned f (h us refl)
+
+map_assigned : (m : Option Pairs) (v : Tree) → ((us : Pairs) → m ≡ Some us → PairsAssigned us) → option_map map m ≡ Some v → Assigned v
+map_assigned None v h e = cc
+map_assigned (Some us) v h e = let f : map us ≡ v = cc in subst Assigned f (h us refl)
+
+then_assigned : (n : ℕ) (m : Option Tree) (v : Tree) → ((u : Tree) → m ≡ Some u → Assigned u) → option_and_then (tagged n) m ≡ Some v → Assigned v
+then_assigned n None v h e = cc
+then_assigned n (Some u) v h e = tag_assigned n u v (h u refl) e
 
 mutual
-  pub folded : (t v : Tree) → meaning t ≡ Some v → meaning v ≡ Some v
-  folded (integer i) v e = let f : integer i ≡ v = cc in subst (λ (w : Tree). meaning w ≡ Some w) f refl
-  folded (bytes b) v e = let f : bytes b ≡ v = cc in subst (λ (w : Tree). meaning w ≡ Some w) f refl
-  folded (text b) v e = let f : text b ≡ v = cc in subst (λ (w : Tree). meaning w ≡ Some w) f refl
-  folded (float x) v e = let f : float x ≡ v = cc in subst (λ (w : Tree). meaning w ≡ Some w) f refl
-  folded (simple n) v e = simple_again n v e
-  folded (array ts) v e = array_made (meanings ts) v (λ us x. folded_all ts us x) e
-  folded (map ps) v e = map_made (pair_meanings ps) v (λ us x. folded_pairs ps us x) e
-  folded (tag n t) v e = tag_made n (meaning t) v (λ u x. folded t u x) e
+  pub is_assigned : (t v : Tree) → meaning t ≡ Some v → Assigned v
+  is_assigned (integer i) v e = let f : integer i ≡ v = cc in subst Assigned f tt
+  is_assigned (bytes b) v e = let f : bytes b ≡ v = cc in subst Assigned f tt
+  is_assigned (text b) v e = let f : text b ≡ v = cc in subst Assigned f tt
+  is_assigned (float x) v e = let f : float x ≡ v = cc in subst Assigned f tt
+  is_assigned (simple n) v e = simple_assigned n v e
+  is_assigned (array ts) v e = array_assigned (meanings ts) v (λ us x. all_assigned ts us x) e
+  is_assigned (map ps) v e = map_assigned (pair_meanings ps) v (λ us x. pairs_assigned ps us x) e
+  is_assigned (tag n t) v e = then_assigned n (meaning t) v (λ u x. is_assigned t u x) e
 
-  folded_all : (ts us : Trees) → meanings ts ≡ Some us → meanings us ≡ Some us
-  folded_all no_trees us e = let f : no_trees ≡ us = cc in subst (λ (w : Trees). meanings w ≡ Some w) f refl
-  folded_all (one_more t ts) us e =
+  all_assigned : (ts us : Trees) → meanings ts ≡ Some us → AllAssigned us
+  all_assigned no_trees us e = let f : no_trees ≡ us = cc in subst AllAssigned f tt
+  all_assigned (one_more t ts) us e =
       let w = meanings_parts t ts us e in
-      subst (λ (z : Trees). meanings z ≡ Some z) (sym w.4) (meanings_made w.0 w.1 w.0 w.1 (folded t w.0 w.2) (folded_all ts w.1 w.3))
+      subst AllAssigned (sym w.4) (is_assigned t w.0 w.2, all_assigned ts w.1 w.3)
 
-  folded_pairs : (ps us : Pairs) → pair_meanings ps ≡ Some us → pair_meanings us ≡ Some us
-  folded_pairs no_pairs us e = let f : no_pairs ≡ us = cc in subst (λ (w : Pairs). pair_meanings w ≡ Some w) f refl
-  folded_pairs (pair_more k v ps) us e =
+  pairs_assigned : (ps us : Pairs) → pair_meanings ps ≡ Some us → PairsAssigned us
+  pairs_assigned no_pairs us e = let f : no_pairs ≡ us = cc in subst PairsAssigned f tt
+  pairs_assigned (pair_more k v ps) us e =
       let w = pairs_parts k v ps us e in
-      subst (λ (z : Pairs). pair_meanings z ≡ Some z) (sym w.6) (pairs_made w.0 w.1 w.0 w.1 w.2 w.2 (folded k w.0 w.3) (folded v w.1 w.4) (folded_pairs ps w.2 w.5))
+      subst PairsAssigned (sym w.6) (is_assigned k w.0 w.3, is_assigned v w.1 w.4, pairs_assigned ps w.2 w.5)
+
+abbrev folds : Trees → Option Trees
+folds = fold_all_by (λ n. Some (simple n))
+
+abbrev folds_pairs : Pairs → Option Pairs
+folds_pairs = fold_pairs_by (λ n. Some (simple n))
+
+-- over assigned simple values
+mutual
+  pub means_folding : (t : Tree) → Assigned t → meaning t ≡ fold t
+  means_folding (integer i) a = refl
+  means_folding (bytes b) a = refl
+  means_folding (text b) a = refl
+  means_folding (float x) a = refl
+  means_folding (simple n) a = assigned_simple n a
+  means_folding (array ts) a = ap (option_map array) (all_folding ts a)
+  means_folding (map ps) a = ap (option_map map) (pairs_folding ps a)
+  means_folding (tag n t) a = ap (option_and_then (tagged n)) (means_folding t a)
+
+  all_folding : (ts : Trees) → AllAssigned ts → meanings ts ≡ folds ts
+  all_folding no_trees a = refl
+  all_folding (one_more t ts) a =
+      ap (option_and_then (λ u. option_map (one_more u) (meanings ts))) (means_folding t a.0) ∙ ap (λ z. option_and_then (λ u. option_map (one_more u) z) (fold t)) (all_folding ts a.1)
+
+  pairs_folding : (ps : Pairs) → PairsAssigned ps → pair_meanings ps ≡ folds_pairs ps
+  pairs_folding no_pairs a = refl
+  pairs_folding (pair_more k v ps) a =
+      ap (option_and_then (λ x. option_and_then (λ y. option_map (pair_more x y) (pair_meanings ps)) (meaning v))) (means_folding k a.0)
+      ∙ ap (λ z. option_and_then (λ x. option_and_then (λ y. option_map (pair_more x y) (pair_meanings ps)) z) (fold k)) (means_folding v a.1)
+      ∙ ap (λ z. option_and_then (λ x. option_and_then (λ y. option_map (pair_more x y) z) (fold v)) (fold k)) (pairs_folding ps a.2)
+
+pub folded_again : (t v : Tree) → meaning t ≡ Some v → fold v ≡ Some v
+folded_again t v e = sym (means_folding v (is_assigned t v e)) ∙ means_again t v e

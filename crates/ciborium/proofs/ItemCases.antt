@@ -38,7 +38,7 @@ fold_three n b not e = go (nat_le (length b) 16) (nat_lt (big_endian_from 0 b) 1
     go true false false f e = cc
     go false q t f e = cc
 
-none_negative : (n : ℕ) (c : Tree) → tagged n c ≡ None → IsTooNegative n c
+pub none_negative : (n : ℕ) (c : Tree) → tagged n c ≡ None → IsTooNegative n c
 none_negative n (bytes b) e = by_tag (nat_eq n 2 || nat_eq n 3) e
   where
     by_three : (n ≡ 3) ⊎ (n ≡ 3 → ⊥) → fold_bytes n b ≡ None → IsTooNegative n (bytes b)

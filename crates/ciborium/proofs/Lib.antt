@@ -11,8 +11,11 @@ pub mod Exact
 pub mod Parts
 pub mod Excludes
 pub mod Encoded
+pub mod OtherTitles
+pub mod AssignedValues
 pub mod StringCases
 pub mod ChildCases
 pub mod ItemCases
+pub mod Agreeing
 pub mod Sequence
 pub mod Written

@@ -1,21 +1,17 @@
 -- No spelling begins another, and one list spells at most one tree.
-use Rattle.std.proofs.Common.{◌≡◌, ℕ, ℤ, pos, negsuc, ◌+◌, ◌<◌, ◌⊎◌, inl, inr, List, [], ◌∷◌, ◌++◌, length, take, Option, Some, None, refl, sym, ap, ◌∙◌, arith, append_assoc}
+use Rattle.std.proofs.Common.{◌≡◌, ℕ, ℤ, pos, negsuc, ◌+◌, ◌<◌, ◌⊎◌, inl, inr, List, [], ◌∷◌, ◌++◌, Option, Some, None, refl, sym, ap, ◌∙◌, arith, append_assoc}
 use Rattle.std.proofs.lemmas.List.{append_cancel_left}
-use Rattle.std.proofs.Math.Seq.{take-append_seam}
 use Rattle.std.specs.Str.{IsUtf8}
 use Rattle.ciborium_ll.specs.declared.hdr.Header.{Header}
 use Rattle.ciborium_ll.specs.declared.hdr.Header.TheVariants.{Positive, Negative, Simple, Tag, Break, Bytes, Text, Array, Map, Float}
 use Rattle.ciborium_ll.specs.Title.{Title}
 use Rattle.ciborium_ll.proofs.TitleLaws.{one_title}
 use Rattle.ciborium_value.specs.Tree.{Tree, integer, bytes, text, array, map, tag, simple, float, Trees, no_trees, one_more, Pairs, no_pairs, pair_more, tree_count, pair_count}
-use Rattle.ciborium_ll.specs.Framing.{joined, Frame, whole, cut, Frames, no_frames, frame_more, Any}
+use Rattle.ciborium_ll.specs.Framing.{joined, Frame, whole, cut, Any, bytes_same, bytes_unbroken, text_same, text_unbroken}
+use Rattle.ciborium_ll.proofs.Closings.{Same, split_heads, break_title}
+use Rattle.ciborium_ll.proofs.Framed.{frame_once}
 use Rattle.ciborium_value.specs.Encoding.{int_head}
 use Rattle.ciborium.specs.Spelling.{Around, Spells, SpellsAll, SpellsPairs}
-
-same_fronts : (x y u v : List ℕ) → length x ≡ length y → x ++ u ≡ y ++ v → (x ≡ y) × (u ≡ v)
-same_fronts x y u v l e =
-    let f : x ≡ y = sym (take-append_seam x u) ∙ ap (λ n. take n (x ++ u)) l ∙ ap (take (length y)) e ∙ take-append_seam y v in
-    (f, append_cancel_left y u v (ap (λ z. z ++ u) (sym f) ∙ e))
 
 pub title_once : (a b u v : List ℕ) (h k : Header) → Title a h → Title b k → a ++ u ≡ b ++ v → (h ≡ k) × (a ≡ b)
 title_once a b u v h k p q e = let w = one_title a b u v h k p q e in (w.1, w.0)
@@ -24,20 +20,8 @@ pub regroup : (a t r u : List ℕ) → a ≡ t ++ r → a ++ u ≡ t ++ (r ++ u)
 regroup a t r u e = ap (λ z. z ++ u) e ∙ append_assoc t r u
 
 -- two lists that begin with heads, and go on to one list
-pub record Split (h k : Header) (s t : List ℕ) (l r : List ℕ) : Type 0 where
-  pub heads : h ≡ k
-  pub titles : s ≡ t
-  pub rests : l ≡ r
-
-pub split : (a b s t l r u v : List ℕ) (h k : Header) → Title s h → Title t k → a ≡ s ++ l → b ≡ t ++ r → a ++ u ≡ b ++ v → Split h k s t (l ++ u) (r ++ v)
-split a b s t l r u v h k p q ea eb e =
-    let e' : s ++ (l ++ u) ≡ t ++ (r ++ v) = sym (regroup a s l u ea) ∙ e ∙ regroup b t r v eb in
-    let w = title_once s t (l ++ u) (r ++ v) h k p q e' in
-    let tt' : s ≡ t = w.1 in
-    record { heads = w.0; titles = w.1; rests = append_cancel_left s (l ++ u) (r ++ v) (e' ∙ ap (λ z. z ++ (r ++ v)) (sym tt')) }
-
-pub break_title : Title (255 ∷ []) Break
-break_title = refl
+pub split : (a b s t l r u v : List ℕ) (h k : Header) → Title s h → Title t k → a ≡ s ++ l → b ≡ t ++ r → a ++ u ≡ b ++ v → Same s t h k (l ++ u) (r ++ v)
+split a b s t l r u v h k p q ea eb e = split_heads s t (l ++ u) (r ++ v) h k p q (sym (regroup a s l u ea) ∙ e ∙ regroup b t r v eb)
 
 unfoldable pub head_kind : Header → ℕ
 head_kind (Positive n) = 0
@@ -127,9 +111,6 @@ no_break t b u v s e =
 abbrev Ends : ℕ → ℕ → List ℕ → List ℕ → Type 0
 Ends n m u v = (n ≡ m) ⊎ ((x y : List ℕ) × (u ≡ 255 ∷ x) × (v ≡ 255 ∷ y))
 
-joins : {X : Type 0} (x y : X) (a b s t l r : List ℕ) → s ≡ t → l ≡ r → a ≡ s ++ l → b ≡ t ++ r → a ≡ b
-joins x y a b s t l r p q e f = cc
-
 module _ (k : Option ℕ → Header) (inj : (o p : Option ℕ) → k o ≡ k p → o ≡ p) where
   around_once : {A : Type 0} (x y : A) (n m : ℕ) (a b u v : List ℕ) (P Q : List ℕ → Type 0)
       → ((i j u v : List ℕ) → P i → Q j → i ++ u ≡ j ++ v → Ends n m u v → (x ≡ y) × (i ≡ j))
@@ -151,55 +132,6 @@ module _ (k : Option ℕ → Header) (inj : (o p : Option ℕ) → k o ≡ k p �
       let w = split a b s t (i ++ 255 ∷ []) (j ++ 255 ∷ []) u v (k None) (k None) p q ea eb e in
       let r = each i j (255 ∷ u) (255 ∷ v) pi qj (sym (append_assoc i (255 ∷ []) u) ∙ w.rests ∙ append_assoc j (255 ∷ []) v) (inr (u, v, refl, refl)) in
       (r.0, ea ∙ ap (λ z. z ++ (i ++ 255 ∷ [])) w.titles ∙ ap (λ z. t ++ (z ++ 255 ∷ [])) r.1 ∙ sym eb)
-
-  module _ (P : List ℕ → Type 0) (kind : ℕ) (kinds : (o : Option ℕ) → head_kind (k o) ≡ kind) (low : kind < 8) where
-    pub no_break_frame : (b u v : List ℕ) (xs : List (List ℕ)) → Frame k P b xs → b ++ u ≡ 255 ∷ v → ⊥
-    unfolding head_kind
-    no_break_frame b u v xs s e =
-        let p = frame_first k P kind kinds b xs s in
-        let w = split b (255 ∷ []) p.title (255 ∷ []) p.rest [] u v p.head Break p.is_title break_title p.whole_is refl e in
-        let c : kind ≡ 8 = sym p.kind_is ∙ ap head_kind w.heads in
-        omega arith
-
-    mutual
-      pub frame_once : (a b u v : List ℕ) (xs ys : List (List ℕ)) → Frame k P a xs → Frame k P b ys → a ++ u ≡ b ++ v → (xs ≡ ys) × (a ≡ b)
-      frame_once a b u v xs ys (whole _ x s p _ ea) (whole _ y t q _ eb) e =
-          let w = split a b s t x y u v (k (Some (length x))) (k (Some (length y))) p q ea eb e in
-          let c : Some (length x) ≡ Some (length y) = inj (Some (length x)) (Some (length y)) w.heads in
-          let l : length x ≡ length y = cc in
-          let r = same_fronts x y u v l w.rests in
-          (ap (λ z. z ∷ []) r.0, ea ∙ ap (λ z. z ++ x) w.titles ∙ ap (λ z. t ++ z) r.0 ∙ sym eb)
-      frame_once a b u v xs ys (whole _ x s p _ ea) (cut _ j t _ q fs eb) e =
-          let w = split a b s t x (j ++ 255 ∷ []) u v (k (Some (length x))) (k None) p q ea (eb ∙ append_assoc t j (255 ∷ [])) e in
-          let c : Some (length x) ≡ None = inj (Some (length x)) None w.heads in
-          cc
-      frame_once a b u v xs ys (cut _ i s _ p es ea) (whole _ y t q _ eb) e =
-          let w = split a b s t (i ++ 255 ∷ []) y u v (k None) (k (Some (length y))) p q (ea ∙ append_assoc s i (255 ∷ [])) eb e in
-          let c : None ≡ Some (length y) = inj None (Some (length y)) w.heads in
-          cc
-      frame_once a b u v xs ys (cut _ i s _ p es ea) (cut _ j t _ q fs eb) e =
-          let w = split a b s t (i ++ 255 ∷ []) (j ++ 255 ∷ []) u v (k None) (k None) p q (ea ∙ append_assoc s i (255 ∷ [])) (eb ∙ append_assoc t j (255 ∷ [])) e in
-          let r = frames_once i j u v xs ys es fs (sym (append_assoc i (255 ∷ []) u) ∙ w.rests ∙ append_assoc j (255 ∷ []) v) in
-          (r.0, ea ∙ ap (λ z. z ++ i ++ 255 ∷ []) w.titles ∙ ap (λ z. t ++ z ++ 255 ∷ []) r.1 ∙ sym eb)
-
-      pub frames_once : (a b u v : List ℕ) (xs ys : List (List ℕ)) → Frames k P a xs → Frames k P b ys → a ++ (255 ∷ u) ≡ b ++ (255 ∷ v) → (xs ≡ ys) × (a ≡ b)
-      frames_once a b u v xs ys no_frames no_frames e = (refl, refl)
-      frames_once a b u v xs ys no_frames (frame_more c d ps qs f fs) e =
-          absurd (no_break_frame c (d ++ 255 ∷ v) u ps f (sym (e ∙ append_assoc c d (255 ∷ v))))
-      frames_once a b u v xs ys (frame_more c d ps qs f fs) no_frames e =
-          absurd (no_break_frame c (d ++ 255 ∷ u) v ps f (sym (append_assoc c d (255 ∷ u)) ∙ e))
-      frames_once a b u v xs ys (frame_more c d ps qs f fs) (frame_more c' d' ps' qs' g gs) e =
-          let e' : c ++ (d ++ 255 ∷ u) ≡ c' ++ (d' ++ 255 ∷ v) = sym (append_assoc c d (255 ∷ u)) ∙ e ∙ append_assoc c' d' (255 ∷ v) in
-          let h = frame_once c c' (d ++ 255 ∷ u) (d' ++ 255 ∷ v) ps ps' f g e' in
-          let e'' : d ++ (255 ∷ u) ≡ d' ++ (255 ∷ v) = append_cancel_left c (d ++ 255 ∷ u) (d' ++ 255 ∷ v) (e' ∙ ap (λ z. z ++ (d' ++ 255 ∷ v)) (sym h.1)) in
-          let r = frames_once d d' u v qs qs' fs gs e'' in
-          (ap (λ z. z ++ qs) h.0 ∙ ap (λ z. ps' ++ z) r.0, ap (λ z. z ++ d) h.1 ∙ ap (λ z. c' ++ z) r.1)
-
-pub bytes_same : (o p : Option ℕ) → Bytes o ≡ Bytes p → o ≡ p
-bytes_same o p e = cc
-
-pub text_same : (o p : Option ℕ) → Text o ≡ Text p → o ≡ p
-text_same o p e = cc
 
 pub array_same : (o p : Option ℕ) → Array o ≡ Array p → o ≡ p
 array_same o p e = cc
@@ -234,10 +166,10 @@ mutual
       let w = title_once a b u v (int_head i) (int_head j) p q e in
       (ap integer (int_same i j w.0), w.1)
   once (bytes x) (bytes y) a b u v p q e =
-      let w = frame_once Bytes bytes_same Any 1 kind_0 (omega arith) a b u v p.0 q.0 p.1 q.1 e in
+      let w = frame_once Bytes bytes_same bytes_unbroken Any a b u v p.0 q.0 p.1 q.1 e in
       (ap bytes (p.2 ∙ ap joined w.0 ∙ sym q.2), w.1)
   once (text x) (text y) a b u v p q e =
-      let w = frame_once Text text_same IsUtf8 2 kind_1 (omega arith) a b u v p.0 q.0 p.1 q.1 e in
+      let w = frame_once Text text_same text_unbroken IsUtf8 a b u v p.0 q.0 p.1 q.1 e in
       (ap text (p.2 ∙ ap joined w.0 ∙ sym q.2), w.1)
   once (array ts) (array ss) a b u v p q e =
       let w = around_once Array array_same ts ss (tree_count ts) (tree_count ss) a b u v (λ inner. SpellsAll inner ts) (λ inner. SpellsAll inner ss)
@@ -297,9 +229,3 @@ mutual
         ap (λ z. pair_more z t ts) h.0 ∙ ap (λ z. pair_more l z ts) h'.0 ∙ ap (λ z. pair_more l s z) r.0,
         p.6 ∙ ap (λ z. z ++ (p.1 ++ p.2)) h.1 ∙ ap (λ z. q.0 ++ (z ++ p.2)) h'.1 ∙ ap (λ z. q.0 ++ (q.1 ++ z)) r.1 ∙ sym q.6,
       )
-
--- no spelling is a proper beginning of another
-pub prefix_free : (t s : Tree) (a more : List ℕ) → Spells a t → Spells (a ++ more) s → more ≡ []
-prefix_free t s a more p q =
-    let w = once t s a (a ++ more) more [] p q (append_nil (a ++ more)) in
-    append_cancel_left a more [] (sym w.1 ∙ append_nil a)

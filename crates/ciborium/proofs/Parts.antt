@@ -1,30 +1,22 @@
 -- The parts of an item that stands at the front of some bytes, behind its title.
 use Rattle.std.proofs.Common.{◌≡◌, ◌≢◌, ◌≤◌, ◌<◌, ◌+◌, ◌-◌, ◌*◌, ◌%◌, ◌⊎◌, inl, inr, ℕ, suc, Bool, true, false, cond, List, [], ◌∷◌, ◌++◌, Option, None, Some, refl, sym, ap, subst, ◌∙◌, arith, append_assoc, nat_eq, ◌&&◌, ◌||◌}
-use Rattle.std.specs.Option.{option_map, option_and_then}
 use Rattle.std.proofs.lemmas.List.{append_cancel_left}
 use Rattle.std.proofs.lemmas.Bool.Decides.{nat_tests}
 use Rattle.ciborium_ll.specs.declared.hdr.Header.{Header}
 use Rattle.ciborium_ll.specs.declared.hdr.Header.TheVariants.{Simple, Tag, Bytes, Array, Map}
 use Rattle.ciborium_ll.specs.Title.{Title, Begins}
 use Rattle.ciborium_value.specs.Tree.{Tree, bytes, array, map, tag, simple, Trees, no_trees, one_more, Pairs, no_pairs, pair_more, flat, tree_count, pair_count, depth, depth_all, depth_pairs, opens_none, is_bytes}
-use Rattle.ciborium_value.specs.Folding.{tagged}
 use Rattle.ciborium.specs.Spelling.{Around, Spells, SpellsAll, SpellsPairs}
-use Rattle.ciborium.specs.Meaning.{meaning, meanings, pair_meanings}
 use Rattle.ciborium.specs.Damage.{Due, IsLevel}
-use Rattle.ciborium.specs.Front.{Front, Fronts}
+use Rattle.ciborium.specs.Front.{Fronts}
 use Rattle.ciborium.proofs.Once.{append_nil, regroup, first, split, once, no_break, head_kind, tree_kind, array_same, map_same}
-use Rattle.ciborium.proofs.ReadLemmas.{meanings_parts, meanings_made}
 use Rattle.ciborium.proofs.ChildLemmas.{all_count, unflat_depth, flat_count}
-use Rattle.ciborium.proofs.Folded.{pairs_parts}
 
 -- the tree t stands at the front, whatever it means
 pub record Stands (b : List ℕ) (t : Tree) (rest : List ℕ) : Type 0 where
   pub spelling : List ℕ
   pub whole : b ≡ spelling ++ rest
   pub spells : Spells spelling t
-
-pub stands : (b : List ℕ) (limit : ℕ) (v : Tree) (rest : List ℕ) (f : Front b limit v rest) → Stands b f.reads.tree rest
-stands b limit v rest f = record { spelling = f.spelling; whole = f.whole; spells = f.reads.spells }
 
 -- two titles at one place
 meets : (b title tail spelling inside rest : List ℕ) (h k : Header) → Title title h → spelling ≡ title ++ tail → b ≡ spelling ++ rest → Begins b k inside → (h ≡ k) × (inside ≡ tail ++ rest)
@@ -100,54 +92,36 @@ around_parts k inj b spelling inside rest o n P (inr (title, inner, p, has, e)) 
     let m = meets b title (inner ++ 255 ∷ []) spelling inside rest (k None) (k o) p e w s in
     (inner, has, inr (sym (inj None o m.0), m.1 ∙ append_assoc inner (255 ∷ []) rest))
 
--- an option that is mapped to something
-map_some : {A B : Type 0} (f : A → B) (o : Option A) (v : B) → option_map f o ≡ Some v → (u : A) × (o ≡ Some u)
-map_some f None v e = cc
-map_some f (Some u) v e = (u, refl)
-
-then_some : {A B : Type 0} (f : A → Option B) (o : Option A) (v : B) → option_and_then f o ≡ Some v → (u : A) × (o ≡ Some u)
-then_some f None v e = cc
-then_some f (Some u) v e = (u, refl)
-
 -- keys and values in order
 flat_spells : (ps : Pairs) (b : List ℕ) → SpellsPairs b ps → SpellsAll b (flat ps)
 flat_spells no_pairs b p = p
 flat_spells (pair_more k v ps) b p = (p.0, p.1 ++ p.2, p.3, (p.1, p.2, p.4, flat_spells ps p.2 p.5, refl), p.6)
 
-flat_means : (ps qs : Pairs) → pair_meanings ps ≡ Some qs → (us : Trees) × (meanings (flat ps) ≡ Some us)
-flat_means no_pairs qs e = (no_trees, refl)
-flat_means (pair_more k v ps) qs e =
-    let w = pairs_parts k v ps qs e in
-    let r = flat_means ps w.2 w.5 in
-    (one_more w.0 (one_more w.1 r.0), meanings_made k (one_more v (flat ps)) w.0 (one_more w.1 r.0) w.3 (meanings_made v (flat ps) w.1 r.0 w.4 r.1))
+-- what holds of an item, and of those inside it
+pub record Inherited (P : Tree → Type 0) (Q : Trees → Type 0) : Type 0 where
+  pub of_array : (ts : Trees) → P (array ts) → Q ts
+  pub of_map : (ps : Pairs) → P (map ps) → Q (flat ps)
+  pub of_tag : (n : ℕ) (t : Tree) → P (tag n t) → P t
+  pub of_items : (t : Tree) (ts : Trees) → Q (one_more t ts) → P t × Q ts
+
+-- an item of at most `limit` levels that stands at `at`, and has P
+pub record Standing (P : Tree → Type 0) (at : List ℕ) (limit : ℕ) : Type 0 where
+  pub tree : Tree
+  pub rest : List ℕ
+  pub there : Stands at tree rest
+  pub shallow : depth tree ≤ limit
+  pub has : P tree
 
 -- the children of an array or a map whose title says o; `total` is how many a length stands for
-pub record Children (total : ℕ → ℕ) (o : Option ℕ) (limit : ℕ) (inside rest : List ℕ) : Type 0 where
+record Children (Q : Trees → Type 0) (total : ℕ → ℕ) (o : Option ℕ) (limit : ℕ) (inside rest : List ℕ) : Type 0 where
   pub trees : Trees
   pub length : ℕ
   pub inner : List ℕ
   pub spells : SpellsAll inner trees
   pub deep : depth_all trees < limit
-  pub meant : Trees
-  pub means : meanings trees ≡ Some meant
+  pub have : Q trees
   pub count : tree_count trees ≡ total length
   pub held : Held o length inner inside rest
-
-pub array_children : (b inside rest : List ℕ) (o : Option ℕ) (limit : ℕ) (v t : Tree) → Begins b (Array o) inside → Stands b t rest → depth t ≤ limit → meaning t ≡ Some v → Children (λ n. n) o limit inside rest
-array_children b inside rest o limit v (array ts) s f d e =
-    let p = around_parts Array array_same b f.spelling inside rest o (tree_count ts) (λ inner. SpellsAll inner ts) f.spells f.whole s in
-    let m = map_some array (meanings ts) v e in
-    record { trees = ts; length = tree_count ts; inner = p.0; spells = p.1; deep = omega arith; meant = m.0; means = m.1; count = refl; held = p.2 }
-array_children b inside rest o limit v t s f d e = absurd (let k : 3 ≡ tree_kind t = sym (kind_array o) ∙ kind_at b inside rest (Array o) t s f in omega arith)
-
-pub map_children : (b inside rest : List ℕ) (o : Option ℕ) (limit : ℕ) (v t : Tree) → Begins b (Map o) inside → Stands b t rest → depth t ≤ limit → meaning t ≡ Some v → Children (λ n. 2 * n) o limit inside rest
-map_children b inside rest o limit v (map ps) s f d e =
-    let p = around_parts Map map_same b f.spelling inside rest o (pair_count ps) (λ inner. SpellsPairs inner ps) f.spells f.whole s in
-    let m = map_some map (pair_meanings ps) v e in
-    let q = flat_means ps m.0 m.1 in
-    let l : depth_pairs ps ≡ depth_all (flat ps) = unflat_depth ps in
-    record { trees = flat ps; length = pair_count ps; inner = p.0; spells = flat_spells ps p.0 p.1; deep = omega arith; meant = q.0; means = q.1; count = flat_count ps; held = p.2 }
-map_children b inside rest o limit v t s f d e = absurd (let k : 4 ≡ tree_kind t = sym (kind_map o) ∙ kind_at b inside rest (Map o) t s f in omega arith)
 
 -- one more child than `done` stands at `at`, where all of them are n and `behind` follows them
 More : ℕ → ℕ → List ℕ → List ℕ → Type 0
@@ -158,33 +132,6 @@ unfolding More
 fewer_more n m at behind (inl l) = inl (omega arith)
 fewer_more n m at behind (inr (inl ne, w)) = inr (inl (λ e. ne (ap (λ z. 1 + z) e)), w)
 fewer_more n m at behind (inr (inr not, w)) = inr (inr not, w)
-
--- the child behind those that were read
-next_child : (done ts us : Trees) (a at inner behind : List ℕ) (limit : ℕ) → SpellsAll a done → SpellsAll inner ts → a ++ at ≡ inner ++ behind
-    → More (tree_count done) (tree_count ts) at behind → depth_all ts ≤ limit → meanings ts ≡ Some us → (v : Tree) × (rest : List ℕ) × Front at limit v rest
-unfolding More
-next_child no_trees no_trees us a at inner behind limit p q e (inl l) d m = absurd (omega arith)
-next_child no_trees no_trees us a at inner behind limit p q e (inr (inl ne, w)) d m = absurd (ne refl)
-next_child no_trees no_trees us a at inner behind limit p q e (inr (inr not, (w, f))) d m = absurd (not w (ap (λ z. z ++ at) (sym p) ∙ e ∙ ap (λ z. z ++ behind) q ∙ f))
-next_child no_trees (one_more t ts) us a at inner behind limit p q e more d m =
-    let w = meanings_parts t ts us m in (
-      w.0,
-      q.1 ++ behind,
-      record {
-        spelling = q.0;
-        whole = ap (λ z. z ++ at) (sym p) ∙ e ∙ regroup inner q.0 q.1 behind q.4;
-        reads = record { tree = t; spells = q.2; shallow = omega arith; means = w.2 };
-      },
-    )
-next_child (one_more x xs) no_trees us a at inner behind limit p q e (inl l) d m = absurd (omega arith)
-next_child (one_more x xs) no_trees us a at inner behind limit p q e (inr (not, (w, f))) d m =
-    absurd (no_break x p.0 (p.1 ++ at) w p.2 (sym (regroup a p.0 p.1 at p.4) ∙ e ∙ ap (λ z. z ++ behind) q ∙ f))
-next_child (one_more x xs) (one_more t ts) us a at inner behind limit p q e more d m =
-    let e' : p.0 ++ (p.1 ++ at) ≡ q.0 ++ (q.1 ++ behind) = sym (regroup a p.0 p.1 at p.4) ∙ e ∙ regroup inner q.0 q.1 behind q.4 in
-    let h = once x t p.0 q.0 (p.1 ++ at) (q.1 ++ behind) p.2 q.2 e' in
-    let e'' : p.1 ++ at ≡ q.1 ++ behind = append_cancel_left p.0 (p.1 ++ at) (q.1 ++ behind) (e' ∙ ap (λ z. z ++ (q.1 ++ behind)) (sym h.1)) in
-    let w = meanings_parts t ts us m in
-    next_child xs ts w.1 p.1 at q.1 behind limit p.3 q.3 e'' (fewer_more (tree_count xs) (tree_count ts) at behind more) (omega arith) w.3
 
 -- one more child is due behind d of them
 abbrev Wanted : (ℕ → ℕ) → Option ℕ → ℕ → List ℕ → Type 0
@@ -202,34 +149,12 @@ wanted_more total None n m d at inner inside rest c (inl (e, w)) l = absurd (cc)
 wanted_more total None n m d at inner inside rest c (inr (e, w)) (inl odd) = (255 ∷ rest, w, inr (inl (λ f. odd n (f ∙ c)), (rest, refl)))
 wanted_more total None n m d at inner inside rest c (inr (e, w)) (inr not) = (255 ∷ rest, w, inr (inr not, (rest, refl)))
 
-due_child : (total : ℕ → ℕ) (o : Option ℕ) (limit : ℕ) (inside at rest : List ℕ) (done : Trees) → Children total o limit inside rest → Fronts inside (limit - 1) done at → Wanted total o (tree_count done) at
-    → (v : Tree) × (r : List ℕ) × Front at (limit - 1) v r
-due_child total o limit inside at rest done c f w =
-    let p = f.reads in
-    let n : tree_count p.trees ≡ tree_count done = all_count p.trees done p.means in
-    let m = wanted_more total o c.length (tree_count c.trees) (tree_count p.trees) at c.inner inside rest c.count c.held (subst (λ (z : ℕ). Wanted total o z at) (sym n) w) in
-    let d : depth_all c.trees < limit = c.deep in
-    next_child p.trees c.trees c.meant f.spelling at c.inner m.0 (limit - 1) p.spells c.spells (sym f.whole ∙ m.1) m.2 (omega arith) c.means
-
 odd_no : (d m : ℕ) → d % 2 ≡ 1 → d ≢ 2 * m
 odd_no d m e f = omega arith
 
 map_wanted : (d : ℕ) (at : List ℕ) → (d % 2 ≡ 1) ⊎ ((r : List ℕ) → at ≢ 255 ∷ r) → ((m : ℕ) → d ≢ 2 * m) ⊎ ((r : List ℕ) → at ≢ 255 ∷ r)
 map_wanted d at (inl e) = inl (λ m. odd_no d m e)
 map_wanted d at (inr not) = inr not
-
--- where an item stands, each child that is due stands too
-pub child_front : (b inside at rest : List ℕ) (limit : ℕ) (h : Header) (done : Trees) (v : Tree) → Begins b h inside → Fronts inside (limit - 1) done at → Due h (tree_count done) at → Front b limit v rest
-    → (w : Tree) × (r : List ℕ) × Front at (limit - 1) w r
-child_front b inside at rest limit (Array (Some n)) done v s fs due f =
-    due_child (λ n. n) (Some n) limit inside at rest done (array_children b inside rest (Some n) limit v f.reads.tree s (stands b limit v rest f) f.reads.shallow f.reads.means) fs due
-child_front b inside at rest limit (Array None) done v s fs due f =
-    due_child (λ n. n) None limit inside at rest done (array_children b inside rest None limit v f.reads.tree s (stands b limit v rest f) f.reads.shallow f.reads.means) fs (inr due)
-child_front b inside at rest limit (Map (Some n)) done v s fs due f =
-    due_child (λ n. 2 * n) (Some n) limit inside at rest done (map_children b inside rest (Some n) limit v f.reads.tree s (stands b limit v rest f) f.reads.shallow f.reads.means) fs due
-child_front b inside at rest limit (Map None) done v s fs due f =
-    due_child (λ n. 2 * n) None limit inside at rest done (map_children b inside rest None limit v f.reads.tree s (stands b limit v rest f) f.reads.shallow f.reads.means) fs (map_wanted (tree_count done) at due)
-child_front b inside at rest limit h done v s fs due f = absurd due
 
 -- which tags open a level
 bytes_kind : (t : Tree) → is_bytes t ≡ true → tree_kind t ≡ 1
@@ -258,26 +183,88 @@ level_not n inside rest t (inr (h, r, s, not)) e f =
     let w = head_bytes h (kind_at inside r rest h t s f ∙ bytes_kind t (both (nat_eq n 2 || nat_eq n 3) (is_bytes t) e).1) in
     not w.0 w.1
 
-level_deep : (n limit : ℕ) (inside rest : List ℕ) (t : Tree) → IsLevel n inside → Stands inside t rest → depth (tag n t) ≤ limit → suc (depth t) ≤ limit
+pub level_deep : (n limit : ℕ) (inside rest : List ℕ) (t : Tree) → IsLevel n inside → Stands inside t rest → depth (tag n t) ≤ limit → suc (depth t) ≤ limit
 level_deep n limit inside rest t l f d = go (opens_none n t) refl d
   where
     go : (c : Bool) → opens_none n t ≡ c → cond c 0 (suc (depth t)) ≤ limit → suc (depth t) ≤ limit
     go true e d = absurd (level_not n inside rest t l e f)
     go false e d = d
 
--- a tag that opens a level is over an item of fewer
-pub tag_front : (b inside rest : List ℕ) (n limit : ℕ) (v : Tree) → Begins b (Tag n) inside → IsLevel n inside → Front b limit v rest → (0 < limit) × ((w : Tree) × Front inside (limit - 1) w rest)
-tag_front b inside rest n limit v s l f =
-    let p = tag_parts b inside rest n f.reads.tree s (stands b limit v rest f) in
-    let deep : suc (depth p.under) ≤ limit = level_deep n limit inside rest p.under l p.at (subst (λ (z : Tree). depth z ≤ limit) p.is f.reads.shallow) in
-    let m = then_some (tagged n) (meaning p.under) v (sym (ap meaning p.is) ∙ f.reads.means) in
-    (omega arith, (m.0, record { spelling = p.at.spelling; whole = p.at.whole; reads = record { tree = p.under; spells = p.at.spells; shallow = omega arith; means = m.1 } }))
+-- P goes from an item to those inside it
+module _ (P : Tree → Type 0) (Q : Trees → Type 0) (inherited : Inherited P Q) where
+  array_children : (b inside rest : List ℕ) (o : Option ℕ) (limit : ℕ) (t : Tree) → Begins b (Array o) inside → Stands b t rest → depth t ≤ limit → P t → Children Q (λ n. n) o limit inside rest
+  array_children b inside rest o limit (array ts) s f d p =
+      let w = around_parts Array array_same b f.spelling inside rest o (tree_count ts) (λ inner. SpellsAll inner ts) f.spells f.whole s in
+      record { trees = ts; length = tree_count ts; inner = w.0; spells = w.1; deep = omega arith; have = inherited.of_array ts p; count = refl; held = w.2 }
+  array_children b inside rest o limit t s f d p = absurd (let k : 3 ≡ tree_kind t = sym (kind_array o) ∙ kind_at b inside rest (Array o) t s f in omega arith)
 
--- a tag over a byte string
-pub free_front : (b inside r rest : List ℕ) (n limit : ℕ) (o : Option ℕ) (v : Tree) → Begins b (Tag n) inside → Begins inside (Bytes o) r → Front b limit v rest → (w : Tree) × Front inside limit w rest
-free_front b inside r rest n limit o v s bs f =
-    let p = tag_parts b inside rest n f.reads.tree s (stands b limit v rest f) in
-    let k : tree_kind p.under ≡ 1 = sym (kind_at inside r rest (Bytes o) p.under bs p.at) ∙ kind_bytes o in
-    let flat : depth p.under ≡ 0 = bytes_flat p.under k in
-    let m = then_some (tagged n) (meaning p.under) v (sym (ap meaning p.is) ∙ f.reads.means) in
-    (m.0, record { spelling = p.at.spelling; whole = p.at.whole; reads = record { tree = p.under; spells = p.at.spells; shallow = omega arith; means = m.1 } })
+  map_children : (b inside rest : List ℕ) (o : Option ℕ) (limit : ℕ) (t : Tree) → Begins b (Map o) inside → Stands b t rest → depth t ≤ limit → P t → Children Q (λ n. 2 * n) o limit inside rest
+  map_children b inside rest o limit (map ps) s f d p =
+      let w = around_parts Map map_same b f.spelling inside rest o (pair_count ps) (λ inner. SpellsPairs inner ps) f.spells f.whole s in
+      let l : depth_pairs ps ≡ depth_all (flat ps) = unflat_depth ps in
+      record { trees = flat ps; length = pair_count ps; inner = w.0; spells = flat_spells ps w.0 w.1; deep = omega arith; have = inherited.of_map ps p; count = flat_count ps; held = w.2 }
+  map_children b inside rest o limit t s f d p = absurd (let k : 4 ≡ tree_kind t = sym (kind_map o) ∙ kind_at b inside rest (Map o) t s f in omega arith)
+
+  -- what holds of all children holds of the one behind those that were read
+  next_child : (done ts : Trees) (a at inner behind : List ℕ) (limit : ℕ) → SpellsAll a done → SpellsAll inner ts → a ++ at ≡ inner ++ behind
+      → More (tree_count done) (tree_count ts) at behind → depth_all ts ≤ limit → Q ts → Standing P at limit
+  unfolding More
+  next_child no_trees no_trees a at inner behind limit p q e (inl l) d m = absurd (omega arith)
+  next_child no_trees no_trees a at inner behind limit p q e (inr (inl ne, w)) d m = absurd (ne refl)
+  next_child no_trees no_trees a at inner behind limit p q e (inr (inr not, (w, f))) d m = absurd (not w (ap (λ z. z ++ at) (sym p) ∙ e ∙ ap (λ z. z ++ behind) q ∙ f))
+  next_child no_trees (one_more t ts) a at inner behind limit p q e more d m = record {
+    tree = t;
+    rest = q.1 ++ behind;
+    there = record { spelling = q.0; whole = ap (λ z. z ++ at) (sym p) ∙ e ∙ regroup inner q.0 q.1 behind q.4; spells = q.2 };
+    shallow = omega arith;
+    has = (inherited.of_items t ts m).0;
+  }
+  next_child (one_more x xs) no_trees a at inner behind limit p q e (inl l) d m = absurd (omega arith)
+  next_child (one_more x xs) no_trees a at inner behind limit p q e (inr (not, (w, f))) d m =
+      absurd (no_break x p.0 (p.1 ++ at) w p.2 (sym (regroup a p.0 p.1 at p.4) ∙ e ∙ ap (λ z. z ++ behind) q ∙ f))
+  next_child (one_more x xs) (one_more t ts) a at inner behind limit p q e more d m =
+      let e' : p.0 ++ (p.1 ++ at) ≡ q.0 ++ (q.1 ++ behind) = sym (regroup a p.0 p.1 at p.4) ∙ e ∙ regroup inner q.0 q.1 behind q.4 in
+      let h = once x t p.0 q.0 (p.1 ++ at) (q.1 ++ behind) p.2 q.2 e' in
+      let e'' : p.1 ++ at ≡ q.1 ++ behind = append_cancel_left p.0 (p.1 ++ at) (q.1 ++ behind) (e' ∙ ap (λ z. z ++ (q.1 ++ behind)) (sym h.1)) in
+      next_child xs ts p.1 at q.1 behind limit p.3 q.3 e'' (fewer_more (tree_count xs) (tree_count ts) at behind more) (omega arith) (inherited.of_items t ts m).1
+
+  due_child : (total : ℕ → ℕ) (o : Option ℕ) (limit : ℕ) (inside at rest : List ℕ) (done : Trees) → Children Q total o limit inside rest → Fronts inside (limit - 1) done at → Wanted total o (tree_count done) at
+      → Standing P at (limit - 1)
+  due_child total o limit inside at rest done c f w =
+      let p = f.reads in
+      let n : tree_count p.trees ≡ tree_count done = all_count p.trees done p.means in
+      let m = wanted_more total o c.length (tree_count c.trees) (tree_count p.trees) at c.inner inside rest c.count c.held (subst (λ (z : ℕ). Wanted total o z at) (sym n) w) in
+      let d : depth_all c.trees < limit = c.deep in
+      next_child p.trees c.trees f.spelling at c.inner m.0 (limit - 1) p.spells c.spells (sym f.whole ∙ m.1) m.2 (omega arith) c.have
+
+  -- where an item stands, each child that is due stands too
+  pub child_there : (b inside at rest : List ℕ) (limit : ℕ) (h : Header) (done : Trees) (t : Tree) → Begins b h inside → Fronts inside (limit - 1) done at → Due h (tree_count done) at → Stands b t rest → depth t ≤ limit → P t
+      → Standing P at (limit - 1)
+  child_there b inside at rest limit (Array (Some n)) done t s fs due f d p = due_child (λ n. n) (Some n) limit inside at rest done (array_children b inside rest (Some n) limit t s f d p) fs due
+  child_there b inside at rest limit (Array None) done t s fs due f d p = due_child (λ n. n) None limit inside at rest done (array_children b inside rest None limit t s f d p) fs (inr due)
+  child_there b inside at rest limit (Map (Some n)) done t s fs due f d p = due_child (λ n. 2 * n) (Some n) limit inside at rest done (map_children b inside rest (Some n) limit t s f d p) fs due
+  child_there b inside at rest limit (Map None) done t s fs due f d p =
+      due_child (λ n. 2 * n) None limit inside at rest done (map_children b inside rest None limit t s f d p) fs (map_wanted (tree_count done) at due)
+  child_there b inside at rest limit h done t s fs due f d p = absurd due
+
+  -- a tag that opens a level is over an item of fewer
+  pub level_there : (b inside rest : List ℕ) (n limit : ℕ) (t : Tree) → Begins b (Tag n) inside → IsLevel n inside → Stands b t rest → depth t ≤ limit → P t → (0 < limit) × Standing P inside (limit - 1)
+  level_there b inside rest n limit t s l f d p =
+      let w = tag_parts b inside rest n t s f in
+      let deep : suc (depth w.under) ≤ limit = level_deep n limit inside rest w.under l w.at (subst (λ (z : Tree). depth z ≤ limit) w.is d) in
+      (omega arith, record { tree = w.under; rest = rest; there = w.at; shallow = omega arith; has = inherited.of_tag n w.under (subst P w.is p) })
+
+  -- a tag over a byte string
+  pub free_there : (b inside r rest : List ℕ) (n limit : ℕ) (o : Option ℕ) (t : Tree) → Begins b (Tag n) inside → Begins inside (Bytes o) r → Stands b t rest → P t → Standing P inside limit
+  free_there b inside r rest n limit o t s bs f p =
+      let w = tag_parts b inside rest n t s f in
+      let k : tree_kind w.under ≡ 1 = sym (kind_at inside r rest (Bytes o) w.under bs w.at) ∙ kind_bytes o in
+      let none : depth w.under ≡ 0 = bytes_flat w.under k in
+      record { tree = w.under; rest = rest; there = w.at; shallow = omega arith; has = inherited.of_tag n w.under (subst P w.is p) }
+
+  -- an array or a map that is there has a level
+  pub array_deep : (b r rest : List ℕ) (o : Option ℕ) (limit : ℕ) (t : Tree) → Begins b (Array o) r → Stands b t rest → depth t ≤ limit → P t → 0 < limit
+  array_deep b r rest o limit t s f d p = let c = array_children b r rest o limit t s f d p in omega (arith, c.deep)
+
+  pub map_deep : (b r rest : List ℕ) (o : Option ℕ) (limit : ℕ) (t : Tree) → Begins b (Map o) r → Stands b t rest → depth t ≤ limit → P t → 0 < limit
+  map_deep b r rest o limit t s f d p = let c = map_children b r rest o limit t s f d p in omega (arith, c.deep)
