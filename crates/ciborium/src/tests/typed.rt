@@ -6,6 +6,7 @@ use crate::{cbor, from_reader, from_reader_with_buffer, into_writer};
 use ciborium_ll::{Decoder, End, Mem};
 use ciborium_typed::{ByteBuf, Deserialize, Serialize, ValueTyped};
 use std::alloc::Global;
+use std::collections::BTreeMap;
 use std::test::Fail;
 
 /// What reading an item from these bytes answers, and how many follow it.
@@ -30,6 +31,9 @@ fn items_are_read_as_types(rt: HostRuntime) -> Result<(), Fail> {
     assert_eq!(rt; read(alloc, "5f42010243030405ff")?, (Ok(joined), 0));
     assert_eq!(rt; read::<bool>(alloc, "f5f4")?, (Ok(true), 1));
     assert_eq!(rt; read::<u8>(alloc, "c2420001")?, (Ok(1), 0));
+    let (pairs, rest) = read::<BTreeMap<u8, u8>>(alloc, "a201020103")?;
+    let pairs = pairs?;
+    assert!(rt; pairs.len() == 1 && pairs.get(&1) == Some(&3) && rest == 0);
     assert_eq!(rt;
         read::<i128>(alloc, "c349010000000000000000")?,
         (Ok(-18446744073709551617), 0)
