@@ -9,12 +9,13 @@ ghost use Rattle.ciborium.specs.Reading.{FailsAt, Known, IsNoMemory, failures};
 ghost use Rattle.ciborium.specs.Typed.{ReadsAs, Took, IsUnread};
 
 use crate::reader::read_item;
+pub use crate::source::Deserializer;
 use crate::strings::next_title;
 use crate::typed::typed_item;
 use crate::value::{Kind, Value};
 use ciborium_ll::{Decoder, Read};
-use ciborium_typed::Deserialize;
-use std::alloc::{AllocError, AllocFailed, Global};
+pub use ciborium_typed::{Deserialize, Source};
+use std::alloc::Global;
 
 /// An item that is read without a limit of the caller's nests at most so many levels.
 const RECURSION_LIMIT: usize = 256;

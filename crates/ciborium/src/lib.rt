@@ -7,8 +7,9 @@ pub mod laws;
 mod macros;
 mod reader;
 pub mod ser;
-pub mod source;
+mod source;
 mod strings;
+pub mod tag;
 #[cfg(test)]
 mod tests;
 mod typed;

@@ -11,7 +11,7 @@ ghost use Rattle.ciborium.specs.Writing.{IsIo, IsWritten, IsTorn};
 
 use crate::value::{Integer, Kind};
 use ciborium_ll::{Encoder, Float, Header, Write};
-use ciborium_typed::{Serialize, Sink};
+pub use ciborium_typed::{Serialize, Sink};
 
 /// Why a value was not written.
 #[derive(Debug, Clone, Copy, PartialEq, Eq, Drop)]

@@ -1,3 +1,3 @@
 //! Values of CBOR, and typed values.
-pub use ciborium_typed::{Error, ValueTyped};
-pub use ciborium_value::{CanonicalValue, Integer, Kind, Value};
+pub use ciborium_typed::{ByteBuf, Error, ValueTyped};
+pub use ciborium_value::{CanonicalValue, Integer, Kind, Value, cmp_value};

@@ -1,10 +1,10 @@
 //! Items read as types, and types written.
-use crate::de::{Error, from_reader_with_recursion_limit};
-use crate::source::Deserializer;
-use crate::value::{Kind, Value};
+use crate::de::{Deserialize, Deserializer, Error, from_reader_with_recursion_limit};
+use crate::ser::Serialize;
+use crate::tag::Accepted;
+use crate::value::{ByteBuf, Kind, Value, ValueTyped};
 use crate::{cbor, from_reader, from_reader_with_buffer, into_writer};
 use ciborium_ll::{Decoder, End, Mem};
-use ciborium_typed::{ByteBuf, Deserialize, Serialize, ValueTyped};
 use std::alloc::Global;
 use std::collections::BTreeMap;
 use std::test::Fail;

@@ -1,0 +1,2 @@
+//! Values in tags.
+pub use ciborium_typed::tag::{Accepted, Captured, Required};
