@@ -24,14 +24,6 @@ use Rattle.ciborium_typed.specs.Lists.{first_refusal, first_refusal_of_pairs, fi
 use Rattle.ciborium_typed.specs.Tags.{tagged_tree, outer_tag, inside, required_refusal, accepted_refusal, AcceptedTaken}
 use Rattle.ciborium_typed.proofs.Items.{none_first}
 
-pub equal_ties : (e : Bool) (o : Ordering) → e ≡ is_eq o → IsTrue e ↔ (o ≡ Equal)
-equal_ties e o h = (λ t. tied o (sym h ∙ t), λ t. h ∙ ap is_eq t)
-  where
-    tied : (p : Ordering) → is_eq p ≡ true → p ≡ Equal
-    tied Less k = absurd (false≢true k)
-    tied Equal k = refl
-    tied Greater k = absurd (false≢true k)
-
 abbrev folds : Trees → Option Trees
 folds = fold_all_by (λ n. Some (spec.simple n))
 

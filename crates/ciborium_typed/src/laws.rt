@@ -153,17 +153,10 @@ pub fn accepted_values_are_taken_back<V: Serialize + Deserialize, const TAG: u64
     ensures { IsTakenBack V.put V.refusal V.takes accepted.now.0 → opens_none TAG (V.put accepted.now.0) ≡ false → IsTakenBack ⟦<Accepted<V, TAG> as Serialize>⟧.put ⟦<Accepted<V, TAG> as Deserialize>⟧.refusal ⟦<Accepted<V, TAG> as Deserialize>⟧.takes accepted.now }
 {}
 
-/// Equality, order and hash of a type agree.
-fn agree<T: Ord + Hash>(a: &T, b: &T)
-    ensures { Agree T.eq T.cmp T.partial_cmp T.hash_input a.now b.now }
-{}
-
 /// Equality, order and hash of captured values agree.
 pub fn captured_values_compare<V: Ord + Hash>(a: &Captured<V>, b: &Captured<V>)
     ensures { Agree ⟦<Captured<V> as std::cmp::PartialEq>⟧.eq ⟦<Captured<V> as std::cmp::Ord>⟧.cmp ⟦<Captured<V> as std::cmp::PartialOrd>⟧.partial_cmp ⟦<Captured<V> as std::hash::Hash>⟧.hash_input a.now b.now }
-{
-    agree(a, b);
-}
+{}
 
 /// Equality, order and hash of required values agree.
 pub fn required_values_compare<V: Ord + Hash, const TAG: u64>(
@@ -171,9 +164,7 @@ pub fn required_values_compare<V: Ord + Hash, const TAG: u64>(
     b: &Required<V, TAG>,
 )
     ensures { Agree ⟦<Required<V, TAG> as std::cmp::PartialEq>⟧.eq ⟦<Required<V, TAG> as std::cmp::Ord>⟧.cmp ⟦<Required<V, TAG> as std::cmp::PartialOrd>⟧.partial_cmp ⟦<Required<V, TAG> as std::hash::Hash>⟧.hash_input a.now b.now }
-{
-    agree(a, b);
-}
+{}
 
 /// Equality, order and hash of accepted values agree.
 pub fn accepted_values_compare<V: Ord + Hash, const TAG: u64>(
@@ -181,6 +172,4 @@ pub fn accepted_values_compare<V: Ord + Hash, const TAG: u64>(
     b: &Accepted<V, TAG>,
 )
     ensures { Agree ⟦<Accepted<V, TAG> as std::cmp::PartialEq>⟧.eq ⟦<Accepted<V, TAG> as std::cmp::Ord>⟧.cmp ⟦<Accepted<V, TAG> as std::cmp::PartialOrd>⟧.partial_cmp ⟦<Accepted<V, TAG> as std::hash::Hash>⟧.hash_input a.now b.now }
-{
-    agree(a, b);
-}
+{}
