@@ -8,8 +8,6 @@ mod label;
 pub mod laws;
 mod reader;
 mod structure;
-#[cfg(test)]
-mod tests;
 mod traits;
 mod util;
 

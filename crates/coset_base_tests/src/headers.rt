@@ -1,5 +1,5 @@
 //! What no clause says: the texts of errors, and that calls succeed. Expected bytes are written out by hand.
-use crate::{
+use coset_base::{
     Algorithm, AsCborValue, CoseError, EndOfFile, Header, Label, ProtectedHeader, SignatureContext,
     iana, sig_structure_data,
 };
