@@ -1,5 +1,5 @@
 //! Characters, texts and byte strings.
-ghost use Rattle.std.specs.Prelude.{◌≡◌, None, string_bytes, encode_utf8};
+ghost use Rattle.std.specs.Prelude.{◌≡◌, None, IfOk, string_bytes, encode_utf8};
 ghost use Rattle.ciborium_value.specs.Kinds.{is_text};
 ghost use Rattle.ciborium_value.specs.Tree as spec;
 ghost use Rattle.ciborium_value.specs.Tree.{is_bytes};
@@ -11,7 +11,7 @@ use crate::error::Error;
 use crate::ser::{Serialize, Sink};
 use crate::untagged::bare;
 use ciborium_value::{Kind, Value};
-use std::alloc::Global;
+use std::alloc::{AllocError, Global};
 
 impl Serialize for char {
     ghost put = { λ c. spec.text (encode_utf8 c) };
@@ -40,6 +40,18 @@ impl Deserialize for char {
 /// The content of a byte string. A `Vec<u8>` is an array of numbers.
 #[derive(Debug, PartialEq, Eq, PartialOrd, Ord, Hash, Drop)]
 pub struct ByteBuf(pub Vec<u8>);
+
+impl ByteBuf {
+    /// A byte string with this content.
+    ///
+    /// # Errors
+    /// Only where memory is refused.
+    pub fn clone(&self, alloc: Global) -> Result<ByteBuf, AllocError>
+        ensures { IfOk result (λ copy. copy.0.items ≡ self.now.0.items) }
+    {
+        Ok(ByteBuf(self.0.as_slice().to_vec(alloc)?))
+    }
+}
 
 impl From<Vec<u8>> for ByteBuf {
     ghost from_gives = { λ content b. b.0 ≡ content };
