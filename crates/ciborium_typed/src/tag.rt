@@ -76,6 +76,8 @@ impl<V: Deserialize> Deserialize for Captured<V> {
 
     ghost takes = { λ t c. (c.0 ≡ outer_tag t) × V.takes (inside t) c.1 };
 
+    ghost grows = { V.grows };
+
     fn take(alloc: Global, value: Value) -> Result<Captured<V>, Error> {
         match value {
             Value::Tag(tag, content) => match V::take(alloc, Box::into_inner(content)) {
@@ -102,6 +104,8 @@ impl<V: Deserialize, const TAG: u64> Deserialize for Required<V, TAG> {
     ghost refusal = { required_refusal TAG V.refusal };
 
     ghost takes = { λ t r. (x : Tree) × (t ≡ spec.tag TAG x) × V.takes x r.0 };
+
+    ghost grows = { V.grows };
 
     fn take(alloc: Global, value: Value) -> Result<Required<V, TAG>, Error> {
         match value {
@@ -131,6 +135,8 @@ impl<V: Deserialize, const TAG: u64> Deserialize for Accepted<V, TAG> {
     ghost refusal = { accepted_refusal TAG V.refusal };
 
     ghost takes = { λ t a. AcceptedTaken TAG V.takes t a.0 };
+
+    ghost grows = { V.grows };
 
     fn take(alloc: Global, value: Value) -> Result<Accepted<V, TAG>, Error> {
         match value {

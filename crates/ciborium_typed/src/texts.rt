@@ -1,5 +1,5 @@
 //! Characters, texts and byte strings.
-ghost use Rattle.std.specs.Prelude.{◌≡◌, None, IfOk, string_bytes, encode_utf8};
+ghost use Rattle.std.specs.Prelude.{◌≡◌, None, IfOk, string_bytes, encode_utf8, false};
 ghost use Rattle.ciborium_value.specs.Kinds.{is_text};
 ghost use Rattle.ciborium_value.specs.Tree as spec;
 ghost use Rattle.ciborium_value.specs.Tree.{is_bytes};
@@ -26,6 +26,8 @@ impl Deserialize for char {
     ghost refusal = { λ t. unless (is_character (bare t)) };
 
     ghost takes = { λ t c. bare t ≡ spec.text (encode_utf8 c) };
+
+    ghost grows = { false };
 
     fn take(_alloc: Global, value: Value) -> Result<char, Error> {
         if let Value::Text(text) = bare(value) {
@@ -82,6 +84,8 @@ impl Deserialize for ByteBuf {
 
     ghost takes = { λ t b. bare t ≡ spec.bytes b.0.items };
 
+    ghost grows = { false };
+
     fn take(_alloc: Global, value: Value) -> Result<ByteBuf, Error> {
         match bare(value) {
             Value::Bytes(content) => Ok(ByteBuf(content)),
@@ -110,6 +114,8 @@ impl Deserialize for String {
     ghost refusal = { λ t. unless (is_text (bare t)) };
 
     ghost takes = { λ t s. bare t ≡ spec.text (string_bytes s) };
+
+    ghost grows = { false };
 
     fn take(_alloc: Global, value: Value) -> Result<String, Error> {
         match bare(value) {
