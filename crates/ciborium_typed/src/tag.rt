@@ -1,14 +1,14 @@
 //! Values with a tag around them (RFC 8949, section 3.4).
-ghost use Rattle.std.specs.Prelude.{◌≡◌, IfOk, OnOk, OnErr};
+ghost use Rattle.std.specs.Prelude.{◌≡◌, false, IfOk, OnOk, OnErr, MatchOption};
 ghost use Rattle.ciborium_value.specs.Tree as spec;
-ghost use Rattle.ciborium_value.specs.Tree.{Tree};
+ghost use Rattle.ciborium_value.specs.Kinds.{is_tag};
+ghost use Rattle.ciborium_value.specs.Tree.{Tree, opens_none};
 ghost use Rattle.ciborium_value.specs.View.{view};
-ghost use Rattle.ciborium_typed.specs.Events.{events, AllAdded, Stopped};
+ghost use Rattle.ciborium_traits.specs.Events.{events, AllAdded, Stopped};
+ghost use Rattle.ciborium_typed.specs.Facts.Tags.{captured_back, required_back, accepted_back, captured_once, required_once, accepted_once};
 ghost use Rattle.ciborium_typed.specs.Tags.{tagged_tree, outer_tag, inside, required_refusal, accepted_refusal, AcceptedTaken};
 
-use crate::de::Deserialize;
-use crate::error::Error;
-use crate::ser::{Serialize, Sink};
+use ciborium_traits::{Deserialize, Error, RoundTrip, Serialize, Sink};
 use ciborium_value::{Kind, Value};
 use std::alloc::{AllocError, Global};
 
@@ -155,6 +155,30 @@ impl<V: Deserialize, const TAG: u64> Deserialize for Accepted<V, TAG> {
             },
         }
     }
+}
+
+impl<V: RoundTrip> RoundTrip for Captured<V> {
+    ghost kept = { λ c. V.kept c.1 × MatchOption c.0 (is_tag (V.put c.1) ≡ false) (λ n. opens_none n (V.put c.1) ≡ false) };
+
+    ghost taken_back = { λ c h. captured_back V.put V.refusal V.takes c.0 c.1 (V.taken_back c.1 h.0) h.1 };
+
+    ghost takes_one = { λ t x y. captured_once V.put V.takes V.takes_one t x.0 y.0 x.1 y.1 };
+}
+
+impl<V: RoundTrip, const TAG: u64> RoundTrip for Required<V, TAG> {
+    ghost kept = { λ r. V.kept r.0 × (opens_none TAG (V.put r.0) ≡ false) };
+
+    ghost taken_back = { λ r h. required_back V.put V.refusal V.takes TAG r.0 (V.taken_back r.0 h.0) h.1 };
+
+    ghost takes_one = { λ t x y. required_once V.put V.takes V.takes_one TAG t x.0 y.0 };
+}
+
+impl<V: RoundTrip, const TAG: u64> RoundTrip for Accepted<V, TAG> {
+    ghost kept = { λ a. V.kept a.0 × (opens_none TAG (V.put a.0) ≡ false) };
+
+    ghost taken_back = { λ a h. accepted_back V.put V.refusal V.takes TAG a.0 (V.taken_back a.0 h.0) h.1 };
+
+    ghost takes_one = { λ t x y. accepted_once V.put V.takes V.takes_one TAG t x.0 y.0 };
 }
 
 /// Writes the value inside the tag.

@@ -3,15 +3,13 @@ ghost use Rattle.std.specs.Prelude.{◌≡◌, true, Some, None, IfOk, IfErr};
 ghost use Rattle.ciborium_value.specs.Folding.{fold};
 ghost use Rattle.ciborium_value.specs.Tree.{Tree};
 ghost use Rattle.ciborium_value.specs.View.{view};
-ghost use Rattle.ciborium_typed.specs.declared.error.Error.TheVariants.{Memory};
-ghost use Rattle.ciborium_typed.specs.Reading.{IsRefusal};
+ghost use Rattle.ciborium_traits.specs.declared.error.Error.TheVariants.{Memory};
+ghost use Rattle.ciborium_traits.specs.Reading.{IsRefusal};
 ghost use Rattle.ciborium_typed.specs.Unfolded.{unread};
 
-use crate::de::Deserialize;
-use crate::error::Error;
 use crate::folded::folded;
-use crate::ser::Serialize;
 use crate::value_sink::ValueSink;
+use ciborium_traits::{Deserialize, Error, Serialize};
 use ciborium_value::{Kind, Value};
 use std::alloc::Global;
 

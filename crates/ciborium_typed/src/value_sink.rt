@@ -3,8 +3,8 @@ ghost use Rattle.std.specs.Prelude.{◌≡◌, [], ◌∷◌, map, IfOk, OnOk, O
 ghost use Rattle.ciborium_value.specs.View.{view};
 ghost use Rattle.ciborium_typed.specs.Stacks.{state_of, added, begun, emptied, after, container_of};
 
-use crate::ser::Sink;
 use ciborium_ll::Float;
+use ciborium_traits::Sink;
 use ciborium_value::{Integer, Value};
 use std::alloc::{AllocError, Global};
 

@@ -3,12 +3,11 @@ ghost use Rattle.std.specs.Prelude.{◌≡◌, true, None, Some};
 ghost use Rattle.ciborium_value.specs.Folding.{fold};
 ghost use Rattle.ciborium_value.specs.View.{view};
 ghost use Rattle.ciborium_value.specs.declared.value.Value.{Value as ValueOf};
-ghost use Rattle.ciborium_typed.specs.Reading.{IsRefusal};
+ghost use Rattle.ciborium_traits.specs.Reading.{IsRefusal};
 ghost use Rattle.ciborium_typed.specs.Unfolded.{missing};
 
-use crate::de::Source;
-use crate::error::Error;
 use crate::folded::folded;
+use ciborium_traits::{Error, Source};
 use ciborium_value::{Kind, Value};
 use std::alloc::Global;
 

@@ -1,6 +1,6 @@
 use Rattle.std.proofs.Common.{arith}
 use Rattle.ciborium_value.specs.View.{view}
-use Rattle.ciborium_typed.proofs.Items.{same_refusal}
+use Rattle.ciborium_traits.proofs.Items.{same_refusal}
 use Rattle.ciborium_typed.proofs.Tagged.{accepted_at, accepted_other, untagged_seen}
 use Rattle.ciborium_typed.proofs.tag.AcceptedDeserialize.take.Goals as goal
 

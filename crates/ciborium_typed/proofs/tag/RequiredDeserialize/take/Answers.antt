@@ -1,5 +1,5 @@
 use Rattle.std.proofs.Common.{arith}
-use Rattle.ciborium_typed.proofs.Items.{same_refusal}
+use Rattle.ciborium_traits.proofs.Items.{same_refusal}
 use Rattle.ciborium_typed.proofs.Tagged.{required_at}
 use Rattle.ciborium_typed.proofs.tag.RequiredDeserialize.take.Goals as goal
 
