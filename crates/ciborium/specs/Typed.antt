@@ -3,8 +3,8 @@ use Rattle.std.specs.Prelude.{◌≡◌, ℕ, ◌⊎◌, List, length, Option, S
 use Rattle.std.specs.Io.KnownBytes.{Consumes}
 use Rattle.ciborium_value.specs.declared.kind.Kind.{Kind}
 use Rattle.ciborium_value.specs.Tree.{Tree}
-use Rattle.ciborium_typed.specs.declared.error.Error.{Error as ValueError}
-use Rattle.ciborium_typed.specs.declared.error.Error.TheVariants as value
+use Rattle.ciborium_traits.specs.declared.error.Error.{Error as ValueError}
+use Rattle.ciborium_traits.specs.declared.error.Error.TheVariants as value
 use Rattle.ciborium.specs.declared.de.Error.{Error}
 use Rattle.ciborium.specs.declared.de.Error.TheVariants as code
 use Rattle.ciborium.specs.Front.{Reads}

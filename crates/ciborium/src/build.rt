@@ -2,7 +2,7 @@
 ghost use Rattle.std.specs.Prelude.{◌≡◌, ◌++◌, ◌∷◌, [], Err, IfOk, IfErr, OnOk, OnErr};
 ghost use Rattle.ciborium_value.specs.Tree as tree;
 ghost use Rattle.ciborium_value.specs.View.{view, views, view_pairs};
-ghost use Rattle.ciborium_typed.specs.declared.error.Error.TheVariants as error;
+ghost use Rattle.ciborium_traits.specs.declared.error.Error.TheVariants as error;
 
 use crate::value::{Error, Value};
 use ciborium_typed::{Serialize, ValueTyped};

@@ -4,8 +4,8 @@ use Rattle.ciborium_value.specs.Tree as tree
 use Rattle.ciborium_value.specs.Tree.{Tree, Trees, no_trees, one_more, Pairs, no_pairs, pair_more, tree_count, pair_count}
 use Rattle.ciborium_value.specs.View.{trees, pairs, view}
 use Rattle.ciborium_value.specs.declared.value.Value.{Value}
-use Rattle.ciborium_typed.specs.Events as event
-use Rattle.ciborium_typed.specs.Events.{Event, events, events_all, events_pairs, AllAdded}
+use Rattle.ciborium_traits.specs.Events as event
+use Rattle.ciborium_traits.specs.Events.{Event, events, events_all, events_pairs, AllAdded}
 use Rattle.ciborium_typed.specs.Stacks as stack
 use Rattle.ciborium_typed.specs.Stacks.{Stack, filled, added, begun, after, state_of}
 use Rattle.ciborium_typed.specs.declared.value_sink.ValueSink.{ValueSink}

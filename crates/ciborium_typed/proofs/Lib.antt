@@ -1,10 +1,3 @@
-pub mod Backs
 pub mod Built
-pub mod Characters
 pub mod Foldings
-pub mod Items
-pub mod Joined
-pub mod Remaining
 pub mod Tagged
-pub mod WideBack
-pub mod Written

@@ -4,8 +4,8 @@ use Rattle.std.specs.Prelude as std
 use Rattle.ciborium_value.specs.Tree as tree
 use Rattle.ciborium_value.specs.Tree.{Tree, no_trees, no_pairs}
 use Rattle.ciborium_value.specs.View.{trees, pairs, view, view_pair}
-use Rattle.ciborium_typed.specs.Events.{Event}
-use Rattle.ciborium_typed.specs.Events as event
+use Rattle.ciborium_traits.specs.Events.{Event}
+use Rattle.ciborium_traits.specs.Events as event
 use Rattle.ciborium_typed.specs.declared.value_sink.Level.{Level}
 use Rattle.ciborium_typed.specs.declared.value_sink.Level.TheVariants as level
 use Rattle.ciborium_typed.specs.declared.value_sink.ValueSink.{ValueSink}

@@ -1,4 +1,4 @@
-use Rattle.ciborium_typed.proofs.Backs.{accepted_back}
+use Rattle.ciborium_typed.specs.Facts.Tags.{accepted_back}
 use Rattle.ciborium_typed.proofs.laws.accepted_values_are_taken_back.Goals as goal
 
 pub returns : goal.returns

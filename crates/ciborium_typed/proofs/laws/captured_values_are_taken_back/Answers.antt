@@ -1,4 +1,4 @@
-use Rattle.ciborium_typed.proofs.Backs.{captured_back}
+use Rattle.ciborium_typed.specs.Facts.Tags.{captured_back}
 use Rattle.ciborium_typed.proofs.laws.captured_values_are_taken_back.Goals as goal
 
 pub returns : goal.returns

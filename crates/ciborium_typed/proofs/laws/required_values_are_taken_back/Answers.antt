@@ -1,4 +1,4 @@
-use Rattle.ciborium_typed.proofs.Backs.{required_back}
+use Rattle.ciborium_typed.specs.Facts.Tags.{required_back}
 use Rattle.ciborium_typed.proofs.laws.required_values_are_taken_back.Goals as goal
 
 pub returns : goal.returns
