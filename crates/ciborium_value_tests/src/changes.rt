@@ -5,7 +5,7 @@ ghost use Rattle.ciborium_value.specs.Tree.{is_bytes, no_trees};
 ghost use Rattle.ciborium_value.specs.Kinds.{is_array};
 ghost use Rattle.ciborium_value.specs.View.{view};
 
-use crate::made::{bytes, each_variant, integer, tag, text};
+use crate::made::{bytes, each_variant, integer, tag};
 use ciborium_value::{Kind, Value};
 use std::test::Fail;
 
@@ -40,24 +40,6 @@ fn containers_are_emptied(rt: HostRuntime) -> Result<(), Fail> {
     let mut value = each_variant(alloc)?;
     empty_array(&mut value);
     assert_eq!(rt; value, Value::Array(Vec::new(alloc)));
-    Ok(())
-}
-
-#[test]
-fn parts_are_changed(rt: HostRuntime) -> Result<(), Fail> {
-    let alloc = rt.alloc();
-    let mut words = text(alloc, "a")?;
-    assert!(rt; words.as_map_mut().is_none());
-    if let Some(content) = words.as_text_mut() {
-        content.push('b')?;
-    }
-    assert_eq!(rt; words.as_text(), Some("ab"));
-    let mut pairs = Value::Map(Vec::new(alloc));
-    assert!(rt; pairs.as_text_mut().is_none());
-    if let Some(entries) = pairs.as_map_mut() {
-        entries.push((integer(1), Value::Null))?;
-    }
-    assert_ne!(rt; pairs, Value::Map(Vec::new(alloc)));
     Ok(())
 }
 

@@ -1,8 +1,7 @@
 //! Numbers, texts and bytes as values.
 use crate::folding::{Folded, number};
 use crate::made::{bytes, integer, tag};
-use ciborium_ll::Float;
-use ciborium_value::{Integer, Value};
+use ciborium_value::Value;
 use std::test::Fail;
 
 /// Numbers as values (RFC 8949, section 3.4.3): the bounds of integers, and the ends of `i128`.
@@ -62,26 +61,6 @@ fn unsigned_numbers_become_values(rt: HostRuntime) -> Result<(), Fail> {
 }
 
 #[test]
-fn short_numbers_become_values(rt: HostRuntime) {
-    let sevens = [
-        Value::from(7u8),
-        Value::from(7u16),
-        Value::from(7u32),
-        Value::from(7u64),
-        Value::from(7usize),
-        Value::from(7i8),
-        Value::from(7i16),
-        Value::from(7i32),
-        Value::from(7i64),
-        Value::from(7isize),
-        Value::from(Integer::from(7u8)),
-    ];
-    for value in sevens {
-        assert_eq!(rt; number(Some(value)), Some(7));
-    }
-}
-
-#[test]
 fn texts_and_bytes_become_values(rt: HostRuntime) -> Result<(), Fail> {
     let alloc = rt.alloc();
     let place = Value::from_str(alloc, "Zürich")?;
@@ -91,18 +70,4 @@ fn texts_and_bytes_become_values(rt: HostRuntime) -> Result<(), Fail> {
     let octets = Value::from_byte_slice(alloc, &[1, 2, 3])?;
     assert_eq!(rt; octets, bytes(alloc, &[1, 2, 3])?);
     Ok(())
-}
-
-#[test]
-fn moves_become_values(rt: HostRuntime) {
-    let alloc = rt.alloc();
-    assert!(rt; Value::from(Float::Half(0x3c00)).is_float());
-    assert_eq!(rt; Value::from(true).as_bool(), Some(true));
-    let octets: Vec<u8> = Vec::new(alloc);
-    assert!(rt; Value::from(octets).is_bytes());
-    assert!(rt; Value::from(String::new(alloc)).is_text());
-    let items: Vec<Value> = Vec::new(alloc);
-    assert!(rt; Value::from(items).is_array());
-    let entries: Vec<(Value, Value)> = Vec::new(alloc);
-    assert!(rt; Value::from(entries).is_map());
 }
