@@ -20,7 +20,8 @@ pub(crate) fn tag_over(alloc: Global, tag: u64, content: Value) -> Result<Value,
 /// The value of tag 2 or 3 over bytes, or none where it is too negative.
 fn fold_number(alloc: Global, tag: u64, bytes: Vec<u8>) -> Result<Option<Value>, AllocError>
     requires { (tag ≡ 2) ⊎ (tag ≡ 3) }
-    ensures { IfOk result (λ o. MatchOption o ((tag ≡ 3) × (fold_bytes 3 bytes.items ≡ None)) (λ v. fold_bytes tag bytes.items ≡ Some (view v))) }
+    ensures { IfOk result (λ o. MatchOption o ((tag ≡ 3) × (fold_bytes 3 bytes.items ≡ None))
+        (λ v. fold_bytes tag bytes.items ≡ Some (view v))) }
 {
     let Some(n) = bignum::number(&bytes) else {
         return Ok(Some(tag_over(alloc, tag, Value::Bytes(bytes))?));
