@@ -3,34 +3,8 @@ use Rattle.std.proofs.Common.{◌≡◌, ◌≤◌, ◌+◌, ◌*◌, ◌⊎◌,
 use Rattle.std.proofs.lemmas.Bool.Decides.{nat_tests}
 use Rattle.std.specs.Option.{option_map, option_and_then}
 use Rattle.ciborium_value.specs.Tree.{Tree, integer, bytes, text, array, map, tag, simple, float, Trees, no_trees, one_more, Pairs, no_pairs, pair_more}
+use Rattle.ciborium_value.proofs.Stripped.{strip_number, strip_again, strip_short}
 use Rattle.ciborium_value.specs.Folding.{tagged, fold_bytes, fold_number, big_endian_from, without_zeros, fold_by, fold_all_by, fold_pairs_by, fold}
-
-is_zero : (x : ℕ) → nat_eq x 0 ≡ true → x ≡ 0
-is_zero x e = grind (arith, nat_tests)
-
-strip_number : (b : List ℕ) → big_endian_from 0 (without_zeros b) ≡ big_endian_from 0 b
-strip_number [] = refl
-strip_number (x ∷ xs) = choose (nat_eq x 0) refl (strip_number xs)
-  where
-    choose : (v : Bool) → nat_eq x 0 ≡ v → big_endian_from 0 (without_zeros xs) ≡ big_endian_from 0 xs → big_endian_from 0 (cond v (without_zeros xs) (x ∷ xs)) ≡ big_endian_from 0 (x ∷ xs)
-    choose true e h = let z : x ≡ 0 = is_zero x e in h ∙ ap (λ n. big_endian_from n xs) (let k : 0 ≡ 256 * 0 + x = omega arith in k)
-    choose false e h = refl
-
-strip_again : (b : List ℕ) → without_zeros (without_zeros b) ≡ without_zeros b
-strip_again [] = refl
-strip_again (x ∷ xs) = choose (nat_eq x 0) refl (strip_again xs)
-  where
-    choose : (v : Bool) → nat_eq x 0 ≡ v → without_zeros (without_zeros xs) ≡ without_zeros xs → without_zeros (cond v (without_zeros xs) (x ∷ xs)) ≡ cond v (without_zeros xs) (x ∷ xs)
-    choose true e h = h
-    choose false e h = ap (λ v. cond v (without_zeros xs) (x ∷ xs)) e
-
-strip_short : (b : List ℕ) → length (without_zeros b) ≤ length b
-strip_short [] = omega arith
-strip_short (x ∷ xs) = choose (nat_eq x 0) refl (strip_short xs)
-  where
-    choose : (v : Bool) → nat_eq x 0 ≡ v → length (without_zeros xs) ≤ length xs → length (cond v (without_zeros xs) (x ∷ xs)) ≤ length (x ∷ xs)
-    choose true e h = omega arith
-    choose false e h = omega arith
 
 short_test : (n m : ℕ) → n ≤ m → nat_le m 16 ≡ true → nat_le n 16 ≡ true
 short_test n m l e = grind (arith, nat_tests)

@@ -1,4 +1,5 @@
 pub mod Numbers
+pub mod Stripped
 pub mod Views
 pub mod Fitting
 pub mod Signs

@@ -1,12 +1,13 @@
 -- Trees with one encoding are one, and no encoding begins another: the order ties them.
 use Rattle.std.proofs.Common.{◌≡◌, ℕ, List, [], ◌++◌, ◌<◌, ◌^◌, length, ap, sym, ◌∙◌, arith}
 use Rattle.std.proofs.lemmas.Cmp.{nat_list_cmp_total, tied_itself}
+use Rattle.std.proofs.lemmas.Map.Lookups.{exact_bytes}
 use Rattle.std.specs.declared.cmp.Ordering.TheVariants.{Equal}
 use Rattle.std.specs.Ordering.{ordering_then, nat_cmp}
 use Rattle.ciborium_value.specs.Tree.{Tree}
 use Rattle.ciborium_value.specs.Encoding.{enc, Fits}
 use Rattle.ciborium_value.specs.Canonical.{text_cmp, Sized, counted, bytewise, canonical, length_first}
-use Rattle.ciborium_value.specs.Facts.Orders.{bytes_cmp, then_tied, list_tied}
+use Rattle.ciborium_value.specs.Facts.Orders.{bytes_cmp, then_tied}
 use Rattle.ciborium_value.specs.Facts.TextTies.{text_tied}
 use Rattle.ciborium_value.proofs.TextOrder.{text_is, fits_sized}
 
@@ -14,7 +15,7 @@ sized_prefix : (t s : Tree) (u v : List ℕ) → Sized t → Sized s → enc t +
 sized_prefix t s u v f g e =
     let same : bytes_cmp (enc t ++ u) (enc s ++ v) ≡ Equal = ap (λ z. bytes_cmp z (enc s ++ v)) e ∙ tied_itself nat_list_cmp_total (enc s ++ v) in
     let h = then_tied (text_cmp t s) (bytes_cmp u v) (sym (text_is t s f g u v) ∙ same) in
-    (text_tied t s h.0, list_tied u v h.1)
+    (text_tied t s h.0, exact_bytes u v h.1)
 
 pub enc_prefix : (t s : Tree) (u v : List ℕ) → Fits t → Fits s → enc t ++ u ≡ enc s ++ v → (t ≡ s) × (u ≡ v)
 enc_prefix t s u v f g = sized_prefix t s u v (fits_sized t f) (fits_sized s g)

@@ -1,5 +1,5 @@
 -- The order of encodings is that of the trees.
-use Rattle.std.proofs.Common.{◌≡◌, ℕ, pos, negsuc, ◌+◌, ◌*◌, ◌/◌, ◌%◌, ◌^◌, ◌<◌, ◌≤◌, List, [], ◌∷◌, ◌++◌, length, Bool, true, false, cond, nat_lt, refl, sym, ap, subst, ◌∙◌, arith, append_assoc}
+use Rattle.std.proofs.Common.{◌≡◌, ℕ, pos, negsuc, ◌+◌, ◌*◌, ◌/◌, ◌%◌, ◌^◌, ◌<◌, ◌≤◌, List, [], ◌∷◌, ◌++◌, length, Bool, true, false, cond, nat_lt, refl, sym, ap, subst, ◌∙◌, arith, append_assoc, append-nil}
 use Rattle.std.proofs.lemmas.Bool.{ltb-true, ltb-false}
 use Rattle.std.proofs.lemmas.Cmp.{ranked, by_ranked}
 use Rattle.std.proofs.lemmas.Nat.{mul-add-lt}
@@ -14,7 +14,7 @@ use Rattle.ciborium_ll.specs.declared.hdr.Float.TheVariants.{Half, Single, Doubl
 use Rattle.ciborium_value.specs.Tree.{Tree, integer, bytes, text, array, map, tag, simple, float, Trees, no_trees, one_more, Pairs, no_pairs, pair_more, tree_count, pair_count}
 use Rattle.ciborium_value.specs.Encoding.{enc, enc_all, enc_pairs, Fits, FitAll, FitPairs}
 use Rattle.ciborium_value.specs.Canonical.{place, number, text_cmp, all_cmp, each_cmp, Sized, SizedAll, SizedPairs, bytewise, canonical, canonical_cmp, counted}
-use Rattle.ciborium_value.specs.Facts.Orders.{bytes_cmp, assoc, then_equal, where_equal, apart, same_long, append_nil, places}
+use Rattle.ciborium_value.specs.Facts.Orders.{bytes_cmp, assoc, then_equal, where_equal, apart, same_long, places}
 
 -- ---- numbers by their bytes, the highest first
 
@@ -212,8 +212,8 @@ headed t m n b l h e k g = record {
 }
 
 begun : (t : Tree) → Sized t → Begun t
-begun (integer (pos n)) f = headed (integer (pos n)) 0 n (shortest 0 n) (omega arith) (formed 0 n f) refl refl (append_nil (shortest 0 n))
-begun (integer (negsuc n)) f = headed (integer (negsuc n)) 1 n (shortest 1 n) (omega arith) (formed 1 n f) refl refl (append_nil (shortest 1 n))
+begun (integer (pos n)) f = headed (integer (pos n)) 0 n (shortest 0 n) (omega arith) (formed 0 n f) refl refl (sym (append-nil (shortest 0 n)))
+begun (integer (negsuc n)) f = headed (integer (negsuc n)) 1 n (shortest 1 n) (omega arith) (formed 1 n f) refl refl (sym (append-nil (shortest 1 n)))
 begun (bytes b) f = headed (bytes b) 2 (length b) (shortest 2 (length b)) (omega arith) (formed 2 (length b) f) refl refl refl
 begun (text b) f = headed (text b) 3 (length b) (shortest 3 (length b)) (omega arith) (formed 3 (length b) f) refl refl refl
 begun (array ts) f = headed (array ts) 4 (tree_count ts) (shortest 4 (tree_count ts)) (omega arith) (formed 4 (tree_count ts) f.0) refl refl refl
@@ -221,10 +221,10 @@ begun (map ps) f = headed (map ps) 5 (pair_count ps) (shortest 5 (pair_count ps)
 begun (tag n t) f = headed (tag n t) 6 n (shortest 6 n) (omega arith) (formed 6 n f.0) refl refl refl
 begun (simple n) f =
     let h = formed 7 n (omega arith) in
-    record { byte = 32 * 7 + h.info; more = h.more; lead = plain h.info h.more f h.form; is = h.is ∙ append_nil _ }
-begun (float (Half n)) f = record { byte = 249; more = to_be_bytes w16 n; lead = in_half f; is = append_nil _ }
-begun (float (Single n)) f = record { byte = 250; more = to_be_bytes w32 n; lead = in_single f; is = append_nil _ }
-begun (float (Double n)) f = record { byte = 251; more = to_be_bytes w64 n; lead = in_double f; is = append_nil _ }
+    record { byte = 32 * 7 + h.info; more = h.more; lead = plain h.info h.more f h.form; is = h.is ∙ sym (append-nil _) }
+begun (float (Half n)) f = record { byte = 249; more = to_be_bytes w16 n; lead = in_half f; is = sym (append-nil _) }
+begun (float (Single n)) f = record { byte = 250; more = to_be_bytes w32 n; lead = in_single f; is = sym (append-nil _) }
+begun (float (Double n)) f = record { byte = 251; more = to_be_bytes w64 n; lead = in_double f; is = sym (append-nil _) }
 
 head_is : (t s : Tree) → Sized t → Sized s → (u v : List ℕ)
     → bytes_cmp (enc t ++ u) (enc s ++ v) ≡ ordering_then (nat_cmp (place t) (place s)) (ordering_then (nat_cmp (number t) (number s)) (bytes_cmp (inner t ++ u) (inner s ++ v)))
@@ -301,7 +301,7 @@ mutual
 
 -- the order of encodings is that of the trees
 pub text_order : (t s : Tree) → Sized t → Sized s → bytewise t s ≡ text_cmp t s
-text_order t s f g = (λ i. bytes_cmp (append_nil (enc t) i) (append_nil (enc s) i)) ∙ text_is t s f g [] [] ∙ then_equal (text_cmp t s)
+text_order t s f g = (λ i. bytes_cmp (sym (append-nil (enc t)) i) (sym (append-nil (enc s)) i)) ∙ text_is t s f g [] [] ∙ then_equal (text_cmp t s)
 
 pub canonical_order : (t s : Tree) → Sized t → Sized s → canonical t s ≡ canonical_cmp t s
 canonical_order t s f g = ap (ordering_then (nat_cmp (counted (enc t)) (counted (enc s)))) (text_order t s f g)

@@ -7,21 +7,8 @@ use Rattle.std.proofs.lemmas.Bool.{cond_both, false_from_ne_true, eqb-true, ltb-
 use Rattle.std.proofs.lemmas.Nat.{mod_below}
 use Rattle.ciborium_value.specs.Tree.{Tree, integer, bytes, tag}
 use Rattle.ciborium_value.specs.Folding.{big_endian_from, without_zeros, fold_bytes, fold_number, fold}
+use Rattle.ciborium_value.proofs.Stripped.{strip_number, strip_again}
 use Rattle.ciborium_value.specs.Numbers.{IsWide, fewest_bytes, number_tree, tree_number}
-
--- zeros in front change no number
-strip_number : (b : List ℕ) → big_endian_from 0 (without_zeros b) ≡ big_endian_from 0 b
-strip_number [] = refl
-strip_number (x ∷ xs) =
-    let P : List ℕ → Type 0 = λ z. big_endian_from 0 z ≡ big_endian_from 0 (x ∷ xs) in
-    cond_both (nat_eq x 0) (without_zeros xs) (x ∷ xs) P (λ e. let z : x ≡ 0 = eqb-true x 0 e in let k : 0 ≡ 256 * 0 + x = omega arith in strip_number xs ∙ ap (λ n. big_endian_from n xs) k) (λ _. refl)
-
--- no zero is left in front
-strip_again : (b : List ℕ) → without_zeros (without_zeros b) ≡ without_zeros b
-strip_again [] = refl
-strip_again (x ∷ xs) =
-    let P : List ℕ → Type 0 = λ z. without_zeros z ≡ z in
-    cond_both (nat_eq x 0) (without_zeros xs) (x ∷ xs) P (λ _. strip_again xs) (λ e. ap (λ v. cond v (without_zeros xs) (x ∷ xs)) e)
 
 byte_is : (k n : ℕ) → byte_at k n ≡ n / 256 ^ k % 256
 byte_is zero n = ap (λ m. m % 256) (sym (div-one n))

@@ -33,7 +33,8 @@ impl Value {
     /// # Errors
     /// A value of another kind is given back.
     pub fn into_integer(self) -> Result<Integer, Value>
-        ensures { MatchResult result (λ i. view self ≡ spec.integer (number_of i)) (λ back. (view back ≡ view self) × (is_integer (view self) ≡ false)) }
+        ensures { MatchResult result (λ i. view self ≡ spec.integer (number_of i))
+            (λ back. (view back ≡ view self) × (is_integer (view self) ≡ false)) }
     {
         match self {
             Value::Integer(number) => Ok(number),
@@ -63,7 +64,8 @@ impl Value {
     /// # Errors
     /// A value of another kind is given back.
     pub fn into_bytes(self) -> Result<Vec<u8>, Value>
-        ensures { MatchResult result (λ v. view self ≡ spec.bytes v.items) (λ back. (view back ≡ view self) × (is_bytes (view self) ≡ false)) }
+        ensures { MatchResult result (λ v. view self ≡ spec.bytes v.items)
+            (λ back. (view back ≡ view self) × (is_bytes (view self) ≡ false)) }
     {
         match self {
             Value::Bytes(content) => Ok(content),
@@ -123,7 +125,8 @@ impl Value {
     /// # Errors
     /// A value of another kind is given back.
     pub fn into_text(self) -> Result<String, Value>
-        ensures { MatchResult result (λ s. view self ≡ spec.text (string_bytes s)) (λ back. (view back ≡ view self) × (is_text (view self) ≡ false)) }
+        ensures { MatchResult result (λ s. view self ≡ spec.text (string_bytes s))
+            (λ back. (view back ≡ view self) × (is_text (view self) ≡ false)) }
     {
         match self {
             Value::Text(content) => Ok(content),
@@ -190,7 +193,8 @@ impl Value {
     /// # Errors
     /// A value of another kind is given back.
     pub fn into_tag(self) -> Result<(u64, Box<Value>), Value>
-        ensures { MatchResult result (λ p. view self ≡ spec.tag p.0 (view p.1.value)) (λ back. (view back ≡ view self) × (is_tag (view self) ≡ false)) }
+        ensures { MatchResult result (λ p. view self ≡ spec.tag p.0 (view p.1.value))
+            (λ back. (view back ≡ view self) × (is_tag (view self) ≡ false)) }
     {
         match self {
             Value::Tag(tag, content) => Ok((tag, content)),
@@ -220,7 +224,8 @@ impl Value {
     /// # Errors
     /// A value of another kind is given back.
     pub fn into_array(self) -> Result<Vec<Value>, Value>
-        ensures { MatchResult result (λ v. view self ≡ spec.array (views v.items)) (λ back. (view back ≡ view self) × (is_array (view self) ≡ false)) }
+        ensures { MatchResult result (λ v. view self ≡ spec.array (views v.items))
+            (λ back. (view back ≡ view self) × (is_array (view self) ≡ false)) }
     {
         match self {
             Value::Array(items) => Ok(items),
@@ -250,7 +255,8 @@ impl Value {
     /// # Errors
     /// A value of another kind is given back.
     pub fn into_map(self) -> Result<Vec<(Value, Value)>, Value>
-        ensures { MatchResult result (λ v. view self ≡ spec.map (view_pairs v.items)) (λ back. (view back ≡ view self) × (is_map (view self) ≡ false)) }
+        ensures { MatchResult result (λ v. view self ≡ spec.map (view_pairs v.items))
+            (λ back. (view back ≡ view self) × (is_map (view self) ≡ false)) }
     {
         match self {
             Value::Map(entries) => Ok(entries),

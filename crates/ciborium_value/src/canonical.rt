@@ -62,7 +62,8 @@ impl Ord for CanonicalValue {
 impl PartialOrd for CanonicalValue {
     ghost partial_cmp = { as_partial_cmp (on (λ v. view v.0) canonical_cmp) };
 
-    ghost laws = { partial_order_from_agreeing_total (on (λ v. view v.0) canonical_cmp) (on_total (λ v. view v.0) canonical_total) (λ a b. refl) (λ a b. refl) };
+    ghost laws = { partial_order_from_agreeing_total (on (λ v. view v.0) canonical_cmp)
+        (on_total (λ v. view v.0) canonical_total) (λ a b. refl) (λ a b. refl) };
 
     fn partial_cmp(&self, other: &CanonicalValue) -> Option<Ordering> {
         Some(self.cmp(other))

@@ -5,6 +5,7 @@ ghost use Rattle.ciborium_value.specs.Numbers.{number_tree, fewest_bytes};
 ghost use Rattle.ciborium_value.specs.View.{view, number_of, views, view_pairs, bool_tree};
 
 use crate::bignum;
+use crate::fold::tag_over;
 use crate::integer::Integer;
 use crate::value::Value;
 use ciborium_ll::{Float, tag};
@@ -86,7 +87,7 @@ fn bignum_of(alloc: Global, tag: u64, n: u128) -> Result<Value, AllocError>
     ensures { IfOk result (λ v. view v ≡ spec.tag tag (spec.bytes (fewest_bytes n))) }
 {
     let bytes = bignum::stripped(&n.to_be_bytes()).to_vec(alloc)?;
-    Ok(Value::Tag(tag, Box::new(alloc, Value::Bytes(bytes))?))
+    tag_over(alloc, tag, Value::Bytes(bytes))
 }
 
 impl From<u8> for Value {

@@ -1,6 +1,7 @@
 //! What bignum tags fold to.
 ghost use Rattle.std.specs.Prelude.{◌≡◌, ◌⊎◌, Some, None, IfOk, MatchOption};
 ghost use Rattle.ciborium_value.specs.Folding.{tagged, IsTooNegative, fold_bytes};
+ghost use Rattle.ciborium_value.specs.Tree as spec;
 ghost use Rattle.ciborium_value.specs.View.{view};
 
 use crate::bignum;
@@ -9,13 +10,21 @@ use crate::value::Value;
 use ciborium_ll::tag;
 use std::alloc::{AllocError, Global};
 
+/// A tag over a value.
+pub(crate) fn tag_over(alloc: Global, tag: u64, content: Value) -> Result<Value, AllocError>
+    ensures { IfOk result (λ v. view v ≡ spec.tag tag (view content)) }
+{
+    Ok(Value::Tag(tag, Box::new(alloc, content)?))
+}
+
 /// The value of tag 2 or 3 over bytes, or none where it is too negative.
 fn fold_number(alloc: Global, tag: u64, bytes: Vec<u8>) -> Result<Option<Value>, AllocError>
     requires { (tag ≡ 2) ⊎ (tag ≡ 3) }
-    ensures { IfOk result (λ o. MatchOption o ((tag ≡ 3) × (fold_bytes 3 bytes.items ≡ None)) (λ v. fold_bytes tag bytes.items ≡ Some (view v))) }
+    ensures { IfOk result (λ o. MatchOption o ((tag ≡ 3) × (fold_bytes 3 bytes.items ≡ None))
+        (λ v. fold_bytes tag bytes.items ≡ Some (view v))) }
 {
     let Some(n) = bignum::number(&bytes) else {
-        return Ok(Some(Value::Tag(tag, Box::new(alloc, Value::Bytes(bytes))?)));
+        return Ok(Some(tag_over(alloc, tag, Value::Bytes(bytes))?));
     };
     if n < 18446744073709551616 {
         if tag == tag::BIGPOS {
@@ -29,7 +38,7 @@ fn fold_number(alloc: Global, tag: u64, bytes: Vec<u8>) -> Result<Option<Value>,
         }
     }
     let rest = bignum::stripped(&bytes).to_vec(alloc)?;
-    Ok(Some(Value::Tag(tag, Box::new(alloc, Value::Bytes(rest))?)))
+    Ok(Some(tag_over(alloc, tag, Value::Bytes(rest))?))
 }
 
 /// The value of a tag over a value that is folded: tags 2 and 3 over at most 16 bytes fold (RFC 8949, section 3.4.3). None where
@@ -40,20 +49,13 @@ fn fold_number(alloc: Global, tag: u64, bytes: Vec<u8>) -> Result<Option<Value>,
 pub fn fold_tag(alloc: Global, tag: u64, content: Value) -> Result<Option<Value>, AllocError>
     ensures { IfOk result (λ o. MatchOption o (IsTooNegative tag (view content)) (λ v. tagged tag (view content) ≡ Some (view v))) }
 {
-    match content {
-        Value::Bytes(bytes) => {
+    match content.into_bytes() {
+        Ok(bytes) => {
             if tag == tag::BIGPOS || tag == tag::BIGNEG {
                 return fold_number(alloc, tag, bytes);
             }
-            Ok(Some(Value::Tag(tag, Box::new(alloc, Value::Bytes(bytes))?)))
+            Ok(Some(tag_over(alloc, tag, Value::Bytes(bytes))?))
         }
-        Value::Integer(i) => Ok(Some(Value::Tag(tag, Box::new(alloc, Value::Integer(i))?))),
-        Value::Float(f) => Ok(Some(Value::Tag(tag, Box::new(alloc, Value::Float(f))?))),
-        Value::Text(t) => Ok(Some(Value::Tag(tag, Box::new(alloc, Value::Text(t))?))),
-        Value::Bool(b) => Ok(Some(Value::Tag(tag, Box::new(alloc, Value::Bool(b))?))),
-        Value::Null => Ok(Some(Value::Tag(tag, Box::new(alloc, Value::Null)?))),
-        Value::Tag(m, v) => Ok(Some(Value::Tag(tag, Box::new(alloc, Value::Tag(m, v))?))),
-        Value::Array(v) => Ok(Some(Value::Tag(tag, Box::new(alloc, Value::Array(v))?))),
-        Value::Map(v) => Ok(Some(Value::Tag(tag, Box::new(alloc, Value::Map(v))?))),
+        Err(other) => Ok(Some(tag_over(alloc, tag, other)?)),
     }
 }

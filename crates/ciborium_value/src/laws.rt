@@ -84,7 +84,8 @@ pub fn integers_compare(a: &Integer, b: &Integer)
     ensures equality { IsTrue (⟦<Integer as std::cmp::PartialEq>⟧.eq a.now b.now) ↔ (number_of a.now ≡ number_of b.now) }
     ensures order { ⟦<Integer as std::cmp::Ord>⟧.cmp a.now b.now ≡ int_cmp (number_of a.now) (number_of b.now) }
     ensures partial { ⟦<Integer as std::cmp::PartialOrd>⟧.partial_cmp a.now b.now ≡ Some (int_cmp (number_of a.now) (number_of b.now)) }
-    ensures hash { number_of a.now ≡ number_of b.now → ⟦<Integer as std::hash::Hash>⟧.hash_input a.now ≡ ⟦<Integer as std::hash::Hash>⟧.hash_input b.now }
+    ensures hash { number_of a.now ≡ number_of b.now
+        → ⟦<Integer as std::hash::Hash>⟧.hash_input a.now ≡ ⟦<Integer as std::hash::Hash>⟧.hash_input b.now }
 {}
 
 /// Canonical values are equal where their trees are, their order is that of their encodings, and equal ones hash alike.
@@ -92,7 +93,8 @@ pub fn canonical_values_compare(a: &CanonicalValue, b: &CanonicalValue)
     ensures equality { IsTrue (⟦<CanonicalValue as std::cmp::PartialEq>⟧.eq a.now b.now) ↔ (view a.now.0 ≡ view b.now.0) }
     ensures order { ⟦<CanonicalValue as std::cmp::Ord>⟧.cmp a.now b.now ≡ canonical (view a.now.0) (view b.now.0) }
     ensures partial { ⟦<CanonicalValue as std::cmp::PartialOrd>⟧.partial_cmp a.now b.now ≡ Some (canonical (view a.now.0) (view b.now.0)) }
-    ensures hash { view a.now.0 ≡ view b.now.0 → ⟦<CanonicalValue as std::hash::Hash>⟧.hash_input a.now ≡ ⟦<CanonicalValue as std::hash::Hash>⟧.hash_input b.now }
+    ensures hash { view a.now.0 ≡ view b.now.0
+        → ⟦<CanonicalValue as std::hash::Hash>⟧.hash_input a.now ≡ ⟦<CanonicalValue as std::hash::Hash>⟧.hash_input b.now }
 {
     value_fits(&a.0);
     value_fits(&b.0);

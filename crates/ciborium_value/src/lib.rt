@@ -12,8 +12,6 @@ mod kind;
 pub mod laws;
 mod length;
 mod order;
-#[cfg(test)]
-mod tests;
 mod value;
 
 pub use crate::canonical::CanonicalValue;

@@ -11,9 +11,6 @@ use crate::value::Value;
 use ciborium_ll::{Float, simple};
 use std::cmp::Ordering;
 
-#[cfg(test)]
-mod tests;
-
 /// The place of an integer's head among heads, and its number.
 fn integer_title(integer: Integer) -> (u8, u64)
     ensures place { result.0 ≡ int_place (number_of integer) }

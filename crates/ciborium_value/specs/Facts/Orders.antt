@@ -1,7 +1,7 @@
 -- Orders one behind the other, and the places of heads.
 use Rattle.std.proofs.Common.{◌≡◌, ◌≢◌, ℕ, ℤ, pos, negsuc, ◌<◌, ◌≤◌, ◌<ℤ◌, List, [], ◌∷◌, ◌++◌, length, true, refl, ap, subst, ◌∙◌, arith}
 use Rattle.std.proofs.lemmas.Bool.{false≢true}
-use Rattle.std.proofs.lemmas.Cmp.{ranked, int_ranked}
+use Rattle.std.proofs.lemmas.Map.Lookups.{exact_unsigned}
 use Rattle.std.specs.Cmp.Lexicographic.{slice_cmp}
 use Rattle.std.specs.declared.cmp.Ordering.{Ordering}
 use Rattle.std.specs.declared.cmp.Ordering.TheVariants.{Less, Equal, Greater}
@@ -30,12 +30,6 @@ equal_of Less e = absurd (false≢true e)
 equal_of Equal e = refl
 equal_of Greater e = absurd (false≢true e)
 
-pub nat_tied : (n m : ℕ) → nat_cmp n m ≡ Equal → n ≡ m
-nat_tied n m e = subst (λ o. MatchOrdering o (n < m) (n ≡ m) (m < n)) e (ranked n m (nat_cmp n m) refl)
-
-pub int_tied : (n m : ℤ) → int_cmp n m ≡ Equal → n ≡ m
-int_tied n m e = subst (λ o. MatchOrdering o (n <ℤ m) (n ≡ m) (m <ℤ n)) e (int_ranked n m (int_cmp n m) refl)
-
 pub then_tied : (o p : Ordering) → ordering_then o p ≡ Equal → (o ≡ Equal) × (p ≡ Equal)
 then_tied Less p e = absurd (false≢true (ap is_eq e))
 then_tied Equal p e = (refl, e)
@@ -43,14 +37,6 @@ then_tied Greater p e = absurd (false≢true (ap is_eq e))
 
 pub both_equal : {o p : Ordering} → o ≡ Equal → p ≡ Equal → ordering_then o p ≡ Equal
 both_equal e f = λ i. ordering_then (e i) (f i)
-
-pub list_tied : (xs ys : List ℕ) → bytes_cmp xs ys ≡ Equal → xs ≡ ys
-list_tied [] [] e = refl
-list_tied [] (y ∷ ys) e = absurd (false≢true (ap is_eq e))
-list_tied (x ∷ xs) [] e = absurd (false≢true (ap is_eq e))
-list_tied (x ∷ xs) (y ∷ ys) e =
-    let h = then_tied (nat_cmp x y) (bytes_cmp xs ys) e in
-    λ i. nat_tied x y h.0 i ∷ list_tied xs ys h.1 i
 
 pub float_tied : (f g : FloatBits) → width f ≡ width g → pattern f ≡ pattern g → f ≡ g
 float_tied (Half n) (Half m) e h = ap Half h
@@ -76,7 +62,7 @@ where_equal n m X Y S f = at (nat_cmp n m) refl
   where
     at : (o : Ordering) → nat_cmp n m ≡ o → ordering_then o X ≡ ordering_then (ordering_then o Y) S
     at Less e = refl
-    at Equal e = f (nat_tied n m e)
+    at Equal e = f (exact_unsigned n m e)
     at Greater e = refl
 
 pub apart : (r q : ℕ) (X Y : Ordering) → r ≢ q → ordering_then (nat_cmp r q) X ≡ ordering_then (nat_cmp r q) Y
@@ -84,12 +70,8 @@ apart r q X Y n = at (nat_cmp r q) refl
   where
     at : (o : Ordering) → nat_cmp r q ≡ o → ordering_then o X ≡ ordering_then o Y
     at Less e = refl
-    at Equal e = absurd (n (nat_tied r q e))
+    at Equal e = absurd (n (exact_unsigned r q e))
     at Greater e = refl
-
-pub append_nil : (b : List ℕ) → b ≡ b ++ []
-append_nil [] = refl
-append_nil (x ∷ xs) = ap (λ z. x ∷ z) (append_nil xs)
 
 -- trees with one place are of one kind
 abbrev pub from_place : Tree → ℕ

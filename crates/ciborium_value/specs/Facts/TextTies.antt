@@ -1,6 +1,7 @@
 -- The orders by encodings tie equal trees alone.
 use Rattle.std.proofs.Common.{◌≡◌, ℤ, pos, negsuc, length, Bool, ap, ◌∙◌, sym, refl, arith}
 use Rattle.std.proofs.lemmas.Cmp.{tied_itself}
+use Rattle.std.proofs.lemmas.Map.Lookups.{exact_unsigned, exact_bytes}
 use Rattle.std.specs.Prelude.{◌↔◌, IsTrue}
 use Rattle.std.specs.declared.cmp.Ordering.TheVariants.{Equal}
 use Rattle.std.specs.Ordering.{ordering_then, nat_cmp, is_eq}
@@ -8,38 +9,38 @@ use Rattle.ciborium_value.specs.Tree.{Tree, integer, bytes, text, array, map, ta
 use Rattle.ciborium_value.specs.Encoding.{enc}
 use Rattle.ciborium_value.specs.Order.{width, pattern}
 use Rattle.ciborium_value.specs.Canonical.{int_place, place, number, counted, text_cmp, all_cmp, each_cmp, canonical_cmp}
-use Rattle.ciborium_value.specs.Facts.Orders.{bytes_cmp, nat_tied, list_tied, then_tied, float_tied, equal_of, places}
+use Rattle.ciborium_value.specs.Facts.Orders.{bytes_cmp, then_tied, float_tied, equal_of, places}
 use Rattle.ciborium_value.specs.Facts.TextTotal.{canonical_total}
 
 int_ties : (i j : ℤ) → int_place i ≡ int_place j → text_cmp (integer i) (integer j) ≡ Equal → i ≡ j
-int_ties (pos n) (pos m) e h = ap pos (nat_tied n m h)
-int_ties (negsuc n) (negsuc m) e h = ap negsuc (nat_tied n m h)
+int_ties (pos n) (pos m) e h = ap pos (exact_unsigned n m h)
+int_ties (negsuc n) (negsuc m) e h = ap negsuc (exact_unsigned n m h)
 int_ties (pos n) (negsuc m) e h = absurd (omega (arith, e))
 int_ties (negsuc n) (pos m) e h = absurd (omega (arith, e))
 
 same_place : (t s : Tree) → ordering_then (nat_cmp (place t) (place s)) (nat_cmp (number t) (number s)) ≡ Equal → place t ≡ place s
-same_place t s e = nat_tied (place t) (place s) (then_tied (nat_cmp (place t) (place s)) (nat_cmp (number t) (number s)) e).0
+same_place t s e = exact_unsigned (place t) (place s) (then_tied (nat_cmp (place t) (place s)) (nat_cmp (number t) (number s)) e).0
 
 mutual
   pub text_tied : (t s : Tree) → text_cmp t s ≡ Equal → t ≡ s
-  text_tied (bytes a) (bytes b) e = ap bytes (list_tied a b (then_tied (nat_cmp (length a) (length b)) (bytes_cmp a b) e).1)
-  text_tied (text a) (text b) e = ap text (list_tied a b (then_tied (nat_cmp (length a) (length b)) (bytes_cmp a b) e).1)
+  text_tied (bytes a) (bytes b) e = ap bytes (exact_bytes a b (then_tied (nat_cmp (length a) (length b)) (bytes_cmp a b) e).1)
+  text_tied (text a) (text b) e = ap text (exact_bytes a b (then_tied (nat_cmp (length a) (length b)) (bytes_cmp a b) e).1)
   text_tied (array ts) (array ss) e =
       let h = then_tied (nat_cmp (tree_count ts) (tree_count ss)) (all_cmp ts ss) e in
-      ap array (all_tied ts ss (nat_tied (tree_count ts) (tree_count ss) h.0) h.1)
+      ap array (all_tied ts ss (exact_unsigned (tree_count ts) (tree_count ss) h.0) h.1)
   text_tied (map ps) (map qs) e =
       let h = then_tied (nat_cmp (pair_count ps) (pair_count qs)) (each_cmp ps qs) e in
-      ap map (each_tied ps qs (nat_tied (pair_count ps) (pair_count qs) h.0) h.1)
+      ap map (each_tied ps qs (exact_unsigned (pair_count ps) (pair_count qs) h.0) h.1)
   text_tied (tag n t) (tag m s) e =
       let h = then_tied (nat_cmp n m) (text_cmp t s) e in
-      λ i. tag (nat_tied n m h.0 i) (text_tied t s h.1 i)
+      λ i. tag (exact_unsigned n m h.0 i) (text_tied t s h.1 i)
   text_tied (integer i) (integer j) e = ap integer (int_ties i j (same_place (integer i) (integer j) e) e)
-  text_tied (simple n) (simple m) e = ap simple (nat_tied n m e)
+  text_tied (simple n) (simple m) e = ap simple (exact_unsigned n m e)
   text_tied (float f) (float g) e =
       let h = then_tied (nat_cmp (place (float f)) (place (float g))) (nat_cmp (pattern f) (pattern g)) e in
-      let p : place (float f) ≡ place (float g) = nat_tied (place (float f)) (place (float g)) h.0 in
+      let p : place (float f) ≡ place (float g) = exact_unsigned (place (float f)) (place (float g)) h.0 in
       let w : width f ≡ width g = omega (arith, p) in
-      ap float (float_tied f g w (nat_tied (pattern f) (pattern g) h.1))
+      ap float (float_tied f g w (exact_unsigned (pattern f) (pattern g) h.1))
   text_tied t s e =
       let h : place t ≡ place s = same_place t s e in
       absurd (let k = places t in let l = places s in omega (arith, k.0, k.1, l.0, l.1, h))

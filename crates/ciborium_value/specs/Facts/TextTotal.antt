@@ -1,12 +1,12 @@
 -- The orders of trees by their encodings are total: each tree has a list of numbers whose order is that of the trees.
-use Rattle.std.proofs.Common.{◌≡◌, ℕ, List, [], ◌∷◌, ◌++◌, length, refl, ap, subst, ◌∙◌, arith, append_assoc}
+use Rattle.std.proofs.Common.{◌≡◌, ℕ, List, [], ◌∷◌, ◌++◌, length, refl, sym, ap, subst, ◌∙◌, arith, append_assoc, append-nil}
 use Rattle.std.specs.Cmp.{IsTotalOrder, nat_cmp_total, on_total, then_total}
 use Rattle.std.specs.Cmp.Lexicographic.{nat_list_cmp_total}
 use Rattle.std.specs.Ordering.{ordering_then, nat_cmp}
 use Rattle.ciborium_value.specs.Tree.{Tree, integer, bytes, text, array, map, tag, simple, float, Trees, no_trees, one_more, Pairs, no_pairs, pair_more, tree_count, pair_count}
 use Rattle.ciborium_value.specs.Encoding.{enc}
 use Rattle.ciborium_value.specs.Canonical.{place, number, text_cmp, all_cmp, each_cmp, counted, canonical_cmp}
-use Rattle.ciborium_value.specs.Facts.Orders.{bytes_cmp, assoc, then_equal, where_equal, apart, same_long, append_nil, places}
+use Rattle.ciborium_value.specs.Facts.Orders.{bytes_cmp, assoc, then_equal, where_equal, apart, same_long, places}
 
 -- the place and number of the head, whatever their ranges, and then the contents
 abbrev mutual
@@ -90,7 +90,7 @@ mutual
       ∙ assoc (ordering_then (text_cmp k l) (text_cmp x y)) (each_cmp ps qs) (bytes_cmp u v)
 
 code_order : (t s : Tree) → bytes_cmp (code t) (code s) ≡ text_cmp t s
-code_order t s = (λ i. bytes_cmp (append_nil (code t) i) (append_nil (code s) i)) ∙ code_is t s [] [] ∙ then_equal (text_cmp t s)
+code_order t s = (λ i. bytes_cmp (sym (append-nil (code t)) i) (sym (append-nil (code s)) i)) ∙ code_is t s [] [] ∙ then_equal (text_cmp t s)
 
 pub text_total : IsTotalOrder text_cmp
 text_total = subst IsTotalOrder (λ i t s. code_order t s i) (on_total code nat_list_cmp_total)

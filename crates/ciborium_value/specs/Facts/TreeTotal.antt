@@ -1,5 +1,5 @@
 -- The order of trees by kind is total: each tree has a list of numbers whose order is that of the trees.
-use Rattle.std.proofs.Common.{◌≡◌, ℕ, ℤ, pos, ◌<◌, ◌<ℤ◌, arith, List, [], ◌∷◌, ◌++◌, refl, ap, subst, ◌∙◌, append_assoc}
+use Rattle.std.proofs.Common.{◌≡◌, ℕ, ℤ, pos, ◌<◌, ◌<ℤ◌, arith, List, [], ◌∷◌, ◌++◌, refl, sym, ap, subst, ◌∙◌, append_assoc, append-nil}
 use Rattle.std.specs.Cmp.{IsTotalOrder, on_total, nat_cmp_is}
 use Rattle.std.proofs.lemmas.Int.{ints}
 use Rattle.std.proofs.lemmas.Cmp.{int_ranked, int_cmp_total, lists_total}
@@ -91,12 +91,8 @@ mutual
       ∙ assoc (tree_cmp k l) (tree_cmp x y) (ordering_then (pairs_cmp ps qs) (ints_cmp u v))
       ∙ assoc (ordering_then (tree_cmp k l) (tree_cmp x y)) (pairs_cmp ps qs) (ints_cmp u v)
 
-append_none : (b : List ℤ) → b ≡ b ++ []
-append_none [] = refl
-append_none (x ∷ xs) = ap (λ z. x ∷ z) (append_none xs)
-
 code_order : (t s : Tree) → ints_cmp (code t) (code s) ≡ tree_cmp t s
-code_order t s = (λ i. ints_cmp (append_none (code t) i) (append_none (code s) i)) ∙ code_is t s [] [] ∙ then_equal (tree_cmp t s)
+code_order t s = (λ i. ints_cmp (sym (append-nil (code t)) i) (sym (append-nil (code s)) i)) ∙ code_is t s [] [] ∙ then_equal (tree_cmp t s)
 
 pub tree_total : IsTotalOrder tree_cmp
 tree_total = subst IsTotalOrder (λ i t s. code_order t s i) (on_total code (lists_total int_cmp_total))

@@ -1,14 +1,11 @@
 //! The examples of RFC 8949, section 4.2.3, and others counted by hand.
-use crate::{CanonicalValue, Integer, Value, cmp_value};
+use crate::made::{tag, text};
 use ciborium_ll::Float;
+use ciborium_value::{CanonicalValue, Integer, Value, cmp_value};
 use std::alloc::{AllocError, Global};
 use std::cmp::Ordering;
 use std::hash::{DefaultHasher, Hash, Hasher};
 use std::test::Fail;
-
-fn text(alloc: Global, text: &str) -> Result<Value, AllocError> {
-    Ok(Value::Text(String::from_str(alloc, text)?))
-}
 
 fn integer(n: i64) -> Value {
     Value::Integer(Integer::from(n))
@@ -24,10 +21,6 @@ fn map_of(alloc: Global, key: Value, value: Value) -> Result<Value, AllocError> 
     let mut entries = Vec::new(alloc);
     entries.push((key, value))?;
     Ok(Value::Map(entries))
-}
-
-fn tag(alloc: Global, tag: u64, content: Value) -> Result<Value, AllocError> {
-    Ok(Value::Tag(tag, Box::new(alloc, content)?))
 }
 
 fn hash_of(value: &CanonicalValue) -> u64 {
@@ -88,20 +81,6 @@ fn orders_as_encodings(rt: HostRuntime) -> Result<(), Fail> {
             assert_eq!(rt; hash_of(&x) == hash_of(&y), i == j);
         }
     }
-    Ok(())
-}
-
-#[test]
-fn canonical_values_are_values(rt: HostRuntime) -> Result<(), Fail> {
-    let alloc = rt.alloc();
-    let value = text(alloc, "z")?;
-    let canonical = CanonicalValue::from(value.clone(alloc)?);
-    assert_eq!(rt; canonical.0, value);
-    assert_eq!(rt;
-        format!(in alloc; "{canonical:?}")?.as_str(),
-        "CanonicalValue(Text(\"z\"))"
-    );
-    assert_eq!(rt; Value::from(canonical), value);
     Ok(())
 }
 
