@@ -4,6 +4,8 @@ ghost use Rattle.std.specs.Io.KnownBytes.{Keeps, Consumes};
 ghost use Rattle.ciborium_ll.specs.Device.{IsShort, read_failures};
 ghost use Rattle.std.specs.declared.option.Option.{Option};
 
+use thiserror::Error;
+
 /// A source of bytes.
 ///
 /// `left` are the bytes to come; a file or a pipe doesn't tell them, and then the clauses that name them say nothing.
@@ -42,7 +44,8 @@ pub trait Read {
 }
 
 /// A slice has no more bytes.
-#[derive(Debug, Clone, Copy, PartialEq, Eq, Drop)]
+#[derive(Debug, Clone, Copy, PartialEq, Eq, Drop, Error)]
+#[error("end")]
 pub struct End;
 
 impl Read for &[u8] {

@@ -19,13 +19,17 @@ use crate::kind::{Bytes, StringKind, Text};
 use crate::read::Read;
 use crate::segments::Segments;
 use crate::write::Write;
+use std::fmt::Display;
 
 /// Why a copy stopped.
-#[derive(Debug, Clone, Copy, PartialEq, Eq, Drop)]
+#[derive(Debug, Clone, Copy, PartialEq, Eq, Drop, thiserror::Error)]
+#[error_bound(E: Display, F: Display)]
 pub enum RecodeError<E, F> {
-    /// A fault while reading.
+    /// A fault while reading, with its text.
+    #[error("{0}")]
     Read(Error<E>),
-    /// The writer's fault.
+    /// The writer's fault, with its text.
+    #[error("{0}")]
     Write(F),
 }
 

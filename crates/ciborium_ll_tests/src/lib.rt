@@ -12,3 +12,5 @@ mod recoding;
 mod segments;
 #[cfg(test)]
 mod strings;
+#[cfg(test)]
+mod texts;
