@@ -7,6 +7,7 @@ pub mod Pieces
 pub mod Reading
 pub mod Seen
 pub mod Segments
+pub mod Sent
 pub mod Stages
 pub mod Title
 pub mod Views
