@@ -1,5 +1,5 @@
 -- A string that is read head by head.
-use Rattle.std.proofs.Common.{◌≡◌, ◌≢◌, ◌≤◌, ◌<◌, ◌+◌, ◌-◌, ◌^◌, ℕ, suc, List, [], Bool, inl, inr, ◌∷◌, ◌++◌, length, Option, None, Some, refl, ap, sym, ◌∙◌, subst, arith, append-nil, length-append}
+use Rattle.std.proofs.Common.{◌≡◌, ◌≢◌, ◌≤◌, ◌<◌, ◌+◌, ◌-◌, ◌^◌, ℕ, suc, List, [], Bool, inl, inr, ◌∷◌, ◌++◌, length, Option, None, Some, refl, ap, sym, ◌∙◌, subst, arith, append-nil, append_assoc, length-append}
 use Rattle.std.specs.Io.KnownBytes.{Consumes}
 use Rattle.std.proofs.KnownBytes.{Consumes-trans, Consumes-nil}
 use Rattle.ciborium_ll.specs.declared.hdr.Header.{Header}
@@ -9,8 +9,8 @@ use Rattle.ciborium_ll.specs.declared.hdr.Error.TheVariants.{Io, Syntax, TooLong
 use Rattle.ciborium_ll.specs.declared.stage.Stage.{Stage}
 use Rattle.ciborium_ll.specs.declared.stage.Stage.TheVariants.{Inside}
 use Rattle.ciborium_ll.specs.Title.{Title}
-use Rattle.ciborium_ll.specs.Reading.{Moves, Tells, Ends, IsBadByte}
-use Rattle.ciborium_ll.specs.Stages.{Rest, Passes, Reaches, StartsAt, IsStray, Strays, EndsInside, StageFault, stage_after, ahead}
+use Rattle.ciborium_ll.specs.Reading.{Moves, Stops, Starts, Tells, TitleHalt, Ends, IsBadByte}
+use Rattle.ciborium_ll.specs.Stages.{Rest, Passes, Reaches, StartsAt, IsStray, Strays, EndsInside, StaysOpen, StageFault, StageHalt, stage_after, ahead}
 use Rattle.ciborium_ll.proofs.Closings.{leads_then, body_due, open_leads, close_leads}
 use Rattle.ciborium_ll.proofs.TitleLaws.{not_cut}
 
@@ -76,6 +76,27 @@ module _ (k : Option ℕ → Header) (same : (o p : Option ℕ) → k o ≡ k p 
   stage_tells ends TooLong g h = inl (omega arith)
   stage_tells ends Waiting g h = h
 
+  starts_then : (l m : Option (List ℕ)) (a b : List ℕ) → Consumes l m a → Starts m b → Starts l (a ++ b)
+  starts_then None m a b t h = tt
+  starts_then (Some xs) None a b t h = absurd t
+  starts_then (Some xs) (Some ys) a b t (rest, e) = (rest, t ∙ ap (λ z. a ++ z) e ∙ sym (append_assoc a b rest))
+
+  pub stage_halts : {E : Type 0} (e : Error E) → TitleHalt mid left' pm place' e → StageHalt k P old (stage_after depth e) left left' place place' e
+  stage_halts (Io e) t = record {
+    bytes = run.bytes ++ t.bytes;
+    has = (run.bytes, t.bytes, depth, some, refl, run.has, t.has, refl);
+    there = starts_then left mid run.bytes t.bytes run.taken t.there;
+    grown = omega (arith, run.grown, t.grown, length-append run.bytes t.bytes);
+  }
+  stage_halts (Syntax p) t = tt
+  stage_halts TooLong t = record {
+    bytes = run.bytes ++ t.bytes;
+    has = (run.bytes, t.bytes, depth, some, refl, run.has, t.has, refl);
+    taken = Consumes-trans left mid left' run.bytes t.bytes run.taken t.taken;
+    grown = omega (arith, run.grown, t.grown, length-append run.bytes t.bytes);
+  }
+  stage_halts Waiting t = t
+
   pub break_taken : (h : Header) → Moves mid left' pm place' (λ b. Title b h) → h ≡ Break → Moves left left' place place' (Passes k P old (Inside (depth - 1)))
   break_taken h s e = takes_then left mid left' place pm place' run s
       (λ a b p q. let q' : Title b Break = rw e at q in passes_close k same unbroken P old a b (depth - 1) (at a p) q')
@@ -99,6 +120,15 @@ module _ (k : Option ℕ → Header) (same : (o p : Option ℕ) → k o ≡ k p 
 
   pub stray_taken : (h : Header) → Moves mid left' pm place' (λ b. Title b h) → h ≢ Break → ((o : Option ℕ) → h ≢ k o) → Moves left left' place place' (Strays k P old place pm)
   stray_taken h s b n = strays (record { bytes = s.bytes; has = inr (h, s.has, b, n); taken = s.taken; grown = s.grown })
+
+pub full_halts : (k : Option ℕ → Header) (P : List ℕ → Type 0) (old : Stage) (left left' : Option (List ℕ)) (place place' depth : ℕ) → 0 < depth
+    → Moves left left' place place' (Passes k P old (Inside depth)) → Moves left left' place place' (StaysOpen k P old (Inside depth))
+full_halts k P old left left' place place' depth some run = record {
+  bytes = run.bytes;
+  has = (run.bytes, [], depth, some, refl, run.has, tt, sym (append-nil run.bytes));
+  taken = run.taken;
+  grown = run.grown;
+}
 
 pub end_taken : (k : Option ℕ → Header) (P : List ℕ → Type 0) (old : Stage) (left left' : Option (List ℕ)) (place place' depth : ℕ) → depth ≡ 0
     → Moves left left' place place' (Passes k P old (Inside depth)) → Moves left left' place place' (λ b. Rest k P old b [])

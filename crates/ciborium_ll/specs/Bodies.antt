@@ -88,3 +88,11 @@ abbrev pub TextTells : {E : Type 0} → (E → Bool) → Body → Body → ℕ �
 TextTells ends body body' room old new =
     TextFault ends body body' room old.stage new.stage old.decoder.left new.decoder.left old.decoder.offset new.decoder.offset
     ((old.decoder.waiting ≢ None) × (new.decoder ≡ old.decoder))
+
+-- where that fault leaves the string and the body: as they were, but that a text that is no UTF-8 makes the string stuck
+abbrev pub TextStops : {E : Type 0} → Body → Body → Progress → Progress → Error E → Type 0
+TextStops body body' old new (Io e) = new.stage ≡ old.stage
+TextStops body body' old new (Syntax p) =
+    (old.stage ≡ Stuck p) ⊎ ((saved_of body' ≡ []) × (unread_of body' + new.decoder.offset ≡ unread_of body + old.decoder.offset))
+TextStops body body' old new TooLong = new ≡ old
+TextStops body body' old new Waiting = new ≡ old

@@ -3,7 +3,7 @@ use Rattle.std.specs.Prelude.{◌≡◌, ◌≢◌, ℕ, ◌+◌, ◌≤◌, ◌
 use Rattle.ciborium_ll.specs.Device.{IsShort}
 use Rattle.ciborium_ll.specs.declared.hdr.Header.{Header}
 use Rattle.ciborium_ll.specs.declared.hdr.Error.{Error}
-use Rattle.ciborium_ll.specs.Reading.{Moves, Tells, RawFault, Ends, IsBadByte, failures}
+use Rattle.ciborium_ll.specs.Reading.{Moves, Tells, RawFault, TitleHalt, Ends, IsBadByte, failures}
 
 -- what is seen of a decoder: the bytes to come, with the shortest title of a header that waits; the place of the next title; how
 -- often the reader has failed; which references it goes through; the header that waits
@@ -28,6 +28,10 @@ pub record Steady {T E : Type 0} (ends : E → Bool) (answer : Result T (Error E
 abbrev pub TitleTells : {E : Type 0} → (E → Bool) → Seen → Seen → Error E → Type 0
 TitleTells ends old new =
     Tells ends (Ends old.left new.left old.offset new.offset) (λ p. (p ≡ old.offset) × Takes old new IsBadByte) (2 ^ 64 ≤ old.offset + 9)
+
+-- where that fault leaves the decoder
+abbrev pub TitleStops : {E : Type 0} → Seen → Seen → Error E → Type 0
+TitleStops old new = TitleHalt old.left new.left old.offset new.offset
 
 -- what a fault tells where n bytes were to come
 abbrev pub ReadTells : {E : Type 0} → (E → Bool) → ℕ → Seen → Seen → Error E → Type 0

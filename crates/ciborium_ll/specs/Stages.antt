@@ -2,7 +2,7 @@
 use Rattle.std.specs.Prelude.{◌≡◌, ◌≢◌, ◌⊎◌, ℕ, ◌+◌, ◌-◌, ◌<◌, ◌≤◌, ◌^◌, Bool, IsTrue, List, [], ◌∷◌, ◌++◌, length, Option, None, Some}
 use Rattle.ciborium_ll.specs.Title.{Title, IsCut}
 use Rattle.ciborium_ll.specs.Framing.{Closing}
-use Rattle.ciborium_ll.specs.Reading.{IsBadByte, Moves}
+use Rattle.ciborium_ll.specs.Reading.{IsBadByte, IsTitleStart, Moves, Stops}
 use Rattle.ciborium_ll.specs.Seen.{Seen, Takes}
 use Rattle.ciborium_ll.specs.declared.hdr.Error.{Error}
 use Rattle.ciborium_ll.specs.declared.hdr.Error.TheVariants.{Io, Syntax, TooLong, Waiting}
@@ -113,6 +113,24 @@ StageFault ends k P old new left left' place place' Waiting = ⊥
 abbrev pub StageTells : {E : Type 0} → (E → Bool) → (Option ℕ → Header) → (List ℕ → Type 0) → Progress → Progress → Error E → Type 0
 StageTells ends k P old new =
     StageFault ends k P old.stage new.stage old.decoder.left new.decoder.left old.decoder.offset new.decoder.offset
+
+-- `b` are titles behind which a string is open, as many as `new` says, and then no more than the beginning of a title
+abbrev pub StaysOpen : (Option ℕ → Header) → (List ℕ → Type 0) → Stage → Stage → List ℕ → Type 0
+StaysOpen k P old new b =
+    (front : List ℕ) × (last : List ℕ) × (n : ℕ) × (0 < n) × (new ≡ Inside n) × Passes k P old (Inside n) front
+    × IsTitleStart last × (b ≡ front ++ last)
+
+-- where a fault leaves a string that was on the way to a body: as far open as the titles say that were taken
+abbrev pub StageHalt : {E : Type 0} → (Option ℕ → Header) → (List ℕ → Type 0) → Stage → Stage
+    → Option (List ℕ) → Option (List ℕ) → ℕ → ℕ → Error E → Type 0
+StageHalt k P old new left left' place place' (Io e) = Stops left place place' (StaysOpen k P old new)
+StageHalt k P old new left left' place place' (Syntax p) = Unit {0}
+StageHalt k P old new left left' place place' TooLong = Moves left left' place place' (StaysOpen k P old new)
+StageHalt k P old new left left' place place' Waiting = ⊥
+
+abbrev pub StageStops : {E : Type 0} → (Option ℕ → Header) → (List ℕ → Type 0) → Progress → Progress → Error E → Type 0
+StageStops k P old new =
+    StageHalt k P old.stage new.stage old.decoder.left new.decoder.left old.decoder.offset new.decoder.offset
 
 -- the string has ended
 abbrev pub FindsEnd : (Option ℕ → Header) → (List ℕ → Type 0) → Progress → Progress → Type 0

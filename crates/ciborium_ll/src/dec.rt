@@ -4,9 +4,9 @@ ghost use Rattle.std.specs.Prelude.{is_some, length, slice_index_or};
 ghost use Rattle.std.specs.Io.KnownBytes.{Consumes, Keeps, prepend_known};
 ghost use Rattle.ciborium_ll.specs.Device.{IsShort};
 ghost use Rattle.ciborium_ll.specs.declared.hdr.Header.{Header};
-ghost use Rattle.ciborium_ll.specs.declared.hdr.Error.TheVariants.{Waiting};
+ghost use Rattle.ciborium_ll.specs.declared.hdr.Error.TheVariants.{TooLong, Waiting};
 ghost use Rattle.ciborium_ll.specs.Title.{Title, NumberAt, title_of, first_byte, bytes_after, IsBadFirst};
-ghost use Rattle.ciborium_ll.specs.Reading.{Tells, IfRefused, waiting_title, place};
+ghost use Rattle.ciborium_ll.specs.Reading.{Tells, RawFault, IfRefused, waiting_title, place};
 
 use crate::hdr::{Error, Float, Header};
 use crate::laws::header_fits;
@@ -40,7 +40,7 @@ impl<R> From<R> for Decoder<R> {
 }
 
 impl<R: Read> Decoder<R> {
-    ghost use Rattle.ciborium_ll.specs.Seen.{Takes, Steady, TitleTells, ReadTells};
+    ghost use Rattle.ciborium_ll.specs.Seen.{Takes, Steady, TitleTells, TitleStops, ReadTells};
     ghost use Rattle.ciborium_ll.specs.Views.{left_of, offset_of, waiting_of, reader_of, seen, raw};
 
     fn fill(&mut self, data: &mut [u8]) -> Result<(), Error<R::Error>>
@@ -50,6 +50,7 @@ impl<R: Read> Decoder<R> {
         ensures grown { OnOk result (self.new.read ≡ self.old.read + length «data».old) }
         ensures fault { IfErr result (Tells R.ends (IsShort (R.left self.old.reader) (length «data».old)) (λ p. ⊥)
             (2 ^ 64 ≤ self.old.read + length «data».old)) }
+        ensures long { 2 ^ 64 ≤ self.old.read + length «data».old → result ≡ Err TooLong }
         ensures one { IfErr result (Tells R.ends
             (length «data».old ≡ 1 → Keeps (R.left self.old.reader) (R.left self.new.reader)) (λ p. ⊥) ⊤) }
         ensures place { OnErr result (self.new.read ≡ self.old.read) }
@@ -75,7 +76,9 @@ impl<R: Read> Decoder<R> {
         ensures ok { IfOk result (λ n. Takes (raw R.Read self.old) (raw R.Read self.new) (λ bytes. NumberAt info bytes n)) }
         ensures fault { IfErr result (Tells R.ends (IsShort (R.left self.old.reader) (bytes_after info)) (λ p. ⊥)
             (2 ^ 64 ≤ self.old.read + 8)) }
+        ensures wide { OnErr result (0 < bytes_after info) }
         ensures place { OnErr result (self.new.read ≡ self.old.read) }
+        ensures untouched { IfRefused result (self.new ≡ self.old) }
         ensures steady { Steady R.ends result (raw R.Read self.old) (raw R.Read self.new) }
         ensures fresh { self.new.waiting ≡ None }
     {
@@ -109,10 +112,12 @@ impl<R: Read> Decoder<R> {
     ///
     /// # Errors
     /// `Syntax` where the byte at the offset begins no title; that byte is taken. `Io` for a fault of the reader, an end of
-    /// the bytes among them: it takes what there was of the title. `TooLong` where the offset could pass `usize::MAX`.
+    /// the bytes among them; `TooLong` where the offset could pass `usize::MAX`. At both the offset stays, or it has grown by
+    /// one, for the first byte of a title whose others did not come.
     pub fn pull(&mut self) -> Result<Header, Error<R::Error>>
         ensures ok { IfOk result (λ h. Takes (seen R.Read self.old) (seen R.Read self.new) (λ b. Title b h)) }
         ensures fault { IfErr result (TitleTells R.ends (seen R.Read self.old) (seen R.Read self.new)) }
+        ensures stops { IfErr result (TitleStops (seen R.Read self.old) (seen R.Read self.new)) }
         ensures within { IfOk result (λ h. length (title_of h) ≤ offset_of self.new) }
         ensures grows { offset_of self.old ≤ offset_of self.new }
         ensures waited { (h : Header) → waiting_of self.old ≡ Some h
@@ -132,14 +137,18 @@ impl<R: Read> Decoder<R> {
     /// Fills the buffer with the next bytes, and takes them.
     ///
     /// # Errors
-    /// `Waiting` exactly where a header waits, and then nothing has changed. `TooLong` before a read whose end would pass
-    /// `usize::MAX`. `Io` for a fault of the reader; an end comes only where fewer bytes are left than the buffer holds.
+    /// `Waiting` exactly where a header waits, and `TooLong` exactly before a read whose end would pass `usize::MAX`; then
+    /// nothing has changed. `Io` for a fault of the reader; an end comes only where fewer bytes are left than the buffer
+    /// holds. The offset stays at each of them.
     pub fn read_exact(&mut self, data: &mut [u8]) -> Result<(), Error<R::Error>>
         ensures ok { OnOk result (Consumes (left_of R.left self.old) (left_of R.left self.new) «data».new) }
         ensures bytes { (i : ℕ) → slice_index_or «data».new i 0 < 256 }
         ensures grown { OnOk result (offset_of self.new ≡ offset_of self.old + length «data».old) }
         ensures fault { IfErr result (ReadTells R.ends (length «data».old) (seen R.Read self.old) (seen R.Read self.new)) }
+        ensures one { IfErr result (RawFault R.ends
+            (length «data».old ≡ 1 → Keeps (left_of R.left self.old) (left_of R.left self.new)) ⊤ ⊤) }
         ensures waiting { waiting_of self.old ≢ None → result ≡ Err Waiting }
+        ensures long { waiting_of self.old ≡ None → 2 ^ 64 ≤ offset_of self.old + length «data».old → result ≡ Err TooLong }
         ensures place { OnErr result (offset_of self.new ≡ offset_of self.old) }
         ensures untouched { IfRefused result ((self.new ≡ self.old) × («data».new ≡ «data».old)) }
         ensures fits { offset_of self.new < 2 ^ 64 }
@@ -184,6 +193,7 @@ impl<R: Read> Decoder<R> {
         requires { self.old.waiting ≡ None }
         ensures ok { IfOk result (λ h. Takes (raw R.Read self.old) (raw R.Read self.new) (λ b. Title b h)) }
         ensures fault { IfErr result (TitleTells R.ends (raw R.Read self.old) (raw R.Read self.new)) }
+        ensures stops { IfErr result (TitleStops (raw R.Read self.old) (raw R.Read self.new)) }
         ensures grows { self.old.read ≤ self.new.read }
         ensures steady { Steady R.ends result (raw R.Read self.old) (raw R.Read self.new) }
         ensures fresh { self.new.waiting ≡ None }

@@ -1,9 +1,10 @@
 //! Strings that are read in pieces (RFC 8949, section 3.2.3).
-ghost use Rattle.std.specs.Prelude.{◌≡◌, ◌≢◌, ◌-◌, ◌^◌, ℕ, min, length, OnErr, IfOk, IfErr, IfSome, IfNone};
+ghost use Rattle.std.specs.Prelude.{◌≡◌, ◌≢◌, ◌<◌, ◌≤◌, ◌-◌, ◌^◌, ℕ, min, length, [], OnErr, IfOk, IfErr, IfSome, IfNone};
+ghost use Rattle.ciborium_ll.specs.Reading.{IfRefused};
 ghost use Rattle.ciborium_ll.specs.Seen.{Takes, Steady, ReadTells};
-ghost use Rattle.ciborium_ll.specs.Stages.{Progress, StageTells, FindsEnd, Nears, HasRoom, stage_of};
+ghost use Rattle.ciborium_ll.specs.Stages.{Progress, StageTells, StageStops, FindsEnd, Nears, HasRoom, stage_of};
 ghost use Rattle.ciborium_ll.specs.declared.stage.Stage.TheVariants.{Inside, Stuck};
-ghost use Rattle.ciborium_ll.specs.declared.hdr.Error.TheVariants.{Syntax};
+ghost use Rattle.ciborium_ll.specs.declared.hdr.Error.TheVariants.{Syntax, Waiting};
 
 use crate::body::Body;
 use crate::dec::Decoder;
@@ -73,7 +74,7 @@ impl<'r, R, P> Segments<'r, R, P> {
 }
 
 impl<'r, R: Read, P: StringKind> Segments<'r, R, P> {
-    ghost use Rattle.ciborium_ll.specs.Segments.{decoder_of, name_of, stage_at, failed_at, seen_in, progress, string_of, lent_name, body_of};
+    ghost use Rattle.ciborium_ll.specs.Segments.{decoder_of, name_of, stage_at, seen_in, progress, string_of, lent_name, body_of};
     ghost use Rattle.ciborium_ll.specs.Segments.{IfSegment, IfNoSegment, IfFault};
     ghost use Rattle.ciborium_ll.specs.Bodies.{FindsBody};
 
@@ -81,12 +82,14 @@ impl<'r, R: Read, P: StringKind> Segments<'r, R, P> {
     ///
     /// # Errors
     /// `Syntax` with the place of a head that the string can't hold, and then always. `Io` for a fault of the reader, an end
-    /// of the bytes among them. `TooLong` where the offset could pass `usize::MAX`.
+    /// of the bytes among them. `TooLong` where the offset could pass `usize::MAX`. After these two the string is as far open
+    /// as the heads say that were taken, so it can't be taken for whole.
     pub fn advance(&mut self) -> Result<Option<Body>, Error<R::Error>>
         ensures same_reference { name_of self.new ≡ name_of self.old }
         ensures some { IfOk result (λ o. IfSome o (FindsBody P.titled P.allows (progress R.Read self.old) (progress R.Read self.new))) }
         ensures none { IfOk result (λ o. IfNone o (FindsEnd P.titled P.allows (progress R.Read self.old) (progress R.Read self.new))) }
         ensures fault { IfErr result (StageTells R.ends P.titled P.allows (progress R.Read self.old) (progress R.Read self.new)) }
+        ensures stops { IfErr result (StageStops P.titled P.allows (progress R.Read self.old) (progress R.Read self.new)) }
         ensures moved { IfOk result (λ o. IfSome o (λ body. Nears (progress R.Read self.old) (progress R.Read self.new))) }
         ensures unstuck { IfOk result (λ o. IfSome o (λ body. (p : ℕ) → stage_at self.new ≢ Stuck p)) }
         ensures room { HasRoom (progress R.Read self.old) (progress R.Read self.new) }
@@ -109,11 +112,14 @@ impl<'r, R: Read, P: StringKind> Segments<'r, R, P> {
         ensures some { IfSegment result (λ s.
             FindsBody P.titled P.allows (progress R.Read self.old) (progress R.Read (string_of s)) (body_of s)) }
         ensures none { IfNoSegment result ((new : Progress) × FindsEnd P.titled P.allows (progress R.Read self.old) new) }
-        ensures fault { IfFault result (λ e. (new : Progress) × StageTells R.ends P.titled P.allows (progress R.Read self.old) new e) }
+        ensures fault { IfFault result (λ e. (new : Progress) × StageTells R.ends P.titled P.allows (progress R.Read self.old) new e
+            × StageStops P.titled P.allows (progress R.Read self.old) new e) }
         ensures done { stage_at self.old ≡ Inside 0 → IfSegment result (λ s. ⊥) × IfFault result (λ e. ⊥) }
         ensures stuck { (p : ℕ) → stage_at self.old ≡ Stuck p
             → IfSegment result (λ s. ⊥) × IfNoSegment result ⊥ × IfFault result (λ e. e ≡ Syntax p) }
-        ensures failed { IfSegment result (λ s. failed_at R.failed (string_of s) ≡ failed_at R.failed self.old) }
+        ensures moved { IfSegment result (λ s. Nears (progress R.Read self.old) (progress R.Read (string_of s))) }
+        ensures unstuck { IfSegment result (λ s. (p : ℕ) → stage_at (string_of s) ≢ Stuck p) }
+        ensures steady { IfSegment result (λ s. Steady R.ends result (seen_in R.Read self.old) (seen_in R.Read (string_of s))) }
     {
         match self.advance()? {
             Some(body) => Ok(Some(Segment {
@@ -126,8 +132,9 @@ impl<'r, R: Read, P: StringKind> Segments<'r, R, P> {
 }
 
 impl<'r, R: Read> Segments<'r, R, Bytes> {
-    ghost use Rattle.ciborium_ll.specs.Segments.{name_of, stage_at, place_at, seen_in};
-    ghost use Rattle.ciborium_ll.specs.Bodies.{unread_of, piece_len, TakesBytes};
+    ghost use Rattle.ciborium_ll.specs.Segments.{decoder_of, name_of, stage_at, place_at, seen_in};
+    ghost use Rattle.ciborium_ll.specs.Bodies.{unread_of, saved_of, piece_len, TakesBytes};
+    ghost use Rattle.ciborium_ll.specs.Views.{waiting_of};
 
     /// The next piece of the body, at the front of the buffer: as many bytes as the buffer holds or the body has left. None
     /// at the end of the body.
@@ -147,6 +154,9 @@ impl<'r, R: Read> Segments<'r, R, Bytes> {
         ensures fault { IfErr result (ReadTells R.ends (piece_len body.old (length buffer.old))
             (seen_in R.Read self.old) (seen_in R.Read self.new)) }
         ensures err { OnErr result ((body.new ≡ body.old) × (place_at self.new ≡ place_at self.old)) }
+        ensures untouched { IfRefused result (self.new ≡ self.old) }
+        ensures waiting { waiting_of (decoder_of self.old) ≢ None → 0 < unread_of body.old → result ≡ Err Waiting }
+        ensures saved { saved_of body.new ≡ saved_of body.old }
         ensures steady { Steady R.ends result (seen_in R.Read self.old) (seen_in R.Read self.new) }
     {
         if body.unread == 0 {
@@ -161,8 +171,9 @@ impl<'r, R: Read> Segments<'r, R, Bytes> {
 }
 
 impl<'s, 'r, R: Read> Segment<'s, 'r, R, Bytes> {
-    ghost use Rattle.ciborium_ll.specs.Segments.{name_of, stage_at, place_at, seen_in, string_of, lent_name, body_of};
-    ghost use Rattle.ciborium_ll.specs.Bodies.{unread_of, piece_len, TakesBytes};
+    ghost use Rattle.ciborium_ll.specs.Segments.{decoder_of, name_of, stage_at, place_at, seen_in, string_of, lent_name, body_of};
+    ghost use Rattle.ciborium_ll.specs.Bodies.{unread_of, saved_of, piece_len, TakesBytes};
+    ghost use Rattle.ciborium_ll.specs.Views.{waiting_of};
 
     /// The next piece of the segment, at the front of the buffer: as many bytes as the buffer holds or the segment has left.
     /// None at the end of the segment.
@@ -180,6 +191,9 @@ impl<'s, 'r, R: Read> Segment<'s, 'r, R, Bytes> {
             (seen_in R.Read (string_of self.old)) (seen_in R.Read (string_of self.new))) }
         ensures err { OnErr result
             ((body_of self.new ≡ body_of self.old) × (place_at (string_of self.new) ≡ place_at (string_of self.old))) }
+        ensures untouched { IfRefused result (string_of self.new ≡ string_of self.old) }
+        ensures waiting { waiting_of (decoder_of (string_of self.old)) ≢ None → 0 < unread_of (body_of self.old) → result ≡ Err Waiting }
+        ensures saved { saved_of (body_of self.new) ≡ saved_of (body_of self.old) }
         ensures steady { Steady R.ends result (seen_in R.Read (string_of self.old)) (seen_in R.Read (string_of self.new)) }
     {
         self.segments.piece(&mut self.body, buffer)
@@ -200,7 +214,8 @@ impl<'s, 'r, R: Read, P: StringKind> Segment<'s, 'r, R, P> {
 
 impl<'r, R: Read> Segments<'r, R, Text> {
     ghost use Rattle.ciborium_ll.specs.Segments.{decoder_of, name_of, stage_at, seen_in, progress};
-    ghost use Rattle.ciborium_ll.specs.Bodies.{start_of, bytes_of, IsPiece, Fills, TextTells};
+    ghost use Rattle.ciborium_ll.specs.Bodies.{start_of, bytes_of, IsPiece, Fills, TextTells, TextStops};
+    ghost use Rattle.ciborium_ll.specs.Views.{waiting_of};
 
     /// The next piece of the body, at the front of the buffer: whole characters, so up to three bytes fewer than the buffer
     /// holds or the body has left. None at the end of the body. In a buffer of fewer than 4 bytes the piece is empty.
@@ -221,8 +236,13 @@ impl<'r, R: Read> Segments<'r, R, Text> {
         ensures none { IfOk result (λ o. IfNone o ((bytes_of body.old ≡ 0) × (body.new ≡ body.old) × (self.new ≡ self.old))) }
         ensures fault { IfErr result (TextTells R.ends body.old body.new (length buffer.old)
             (progress R.Read self.old) (progress R.Read self.new)) }
-        ensures stuck { (p : ℕ) → stage_at self.old ≡ Stuck p → (result ≡ Err (Syntax p)) × (body.new ≡ body.old)
-            × (stage_at self.new ≡ stage_at self.old) × (decoder_of self.new ≡ decoder_of self.old) }
+        ensures stops { IfErr result (TextStops body.old body.new (progress R.Read self.old) (progress R.Read self.new)) }
+        ensures small { length buffer.old < 4 → (self.new ≡ self.old) × (body.new ≡ body.old)
+            × IfOk result (λ o. IfSome o (λ piece. piece.now ≡ [])) × IfErr result (λ e. (p : ℕ) × (e ≡ Syntax p) × (stage_at self.old ≡ Stuck p)) }
+        ensures waiting { waiting_of (decoder_of self.old) ≢ None → 0 < bytes_of body.old → 4 ≤ length buffer.old
+            → ((p : ℕ) → stage_at self.old ≢ Stuck p) → result ≡ Err Waiting }
+        ensures stuck { (p : ℕ) → stage_at self.old ≡ Stuck p
+            → (result ≡ Err (Syntax p)) × (body.new ≡ body.old) × (self.new ≡ self.old) }
         ensures steady { Steady R.ends result (seen_in R.Read self.old) (seen_in R.Read self.new) }
     {
         if let Stage::Stuck(place) = self.stage {
@@ -249,8 +269,9 @@ impl<'r, R: Read> Segments<'r, R, Text> {
 }
 
 impl<'s, 'r, R: Read> Segment<'s, 'r, R, Text> {
-    ghost use Rattle.ciborium_ll.specs.Segments.{name_of, stage_at, seen_in, progress, string_of, lent_name, body_of};
-    ghost use Rattle.ciborium_ll.specs.Bodies.{start_of, bytes_of, IsPiece, Fills, TextTells};
+    ghost use Rattle.ciborium_ll.specs.Segments.{decoder_of, name_of, stage_at, seen_in, progress, string_of, lent_name, body_of};
+    ghost use Rattle.ciborium_ll.specs.Bodies.{start_of, bytes_of, IsPiece, Fills, TextTells, TextStops};
+    ghost use Rattle.ciborium_ll.specs.Views.{waiting_of};
 
     /// The next piece of the segment, at the front of the buffer: whole characters, so up to three bytes fewer than the
     /// buffer holds or the segment has left. None at the end of the segment. In a buffer of fewer than 4 bytes the piece is
@@ -270,6 +291,13 @@ impl<'s, 'r, R: Read> Segment<'s, 'r, R, Text> {
         ensures none { IfOk result (λ o. IfNone o ((bytes_of (body_of self.old) ≡ 0) × (self.new ≡ self.old))) }
         ensures fault { IfErr result (TextTells R.ends (body_of self.old) (body_of self.new) (length buffer.old)
             (progress R.Read (string_of self.old)) (progress R.Read (string_of self.new))) }
+        ensures stops { IfErr result (TextStops (body_of self.old) (body_of self.new)
+            (progress R.Read (string_of self.old)) (progress R.Read (string_of self.new))) }
+        ensures small { length buffer.old < 4 → (self.new ≡ self.old) × IfOk result (λ o. IfSome o (λ piece. piece.now ≡ []))
+            × IfErr result (λ e. (p : ℕ) × (e ≡ Syntax p) × (stage_at (string_of self.old) ≡ Stuck p)) }
+        ensures waiting { waiting_of (decoder_of (string_of self.old)) ≢ None → 0 < bytes_of (body_of self.old) → 4 ≤ length buffer.old
+            → ((p : ℕ) → stage_at (string_of self.old) ≢ Stuck p) → result ≡ Err Waiting }
+        ensures stuck { (p : ℕ) → stage_at (string_of self.old) ≡ Stuck p → (result ≡ Err (Syntax p)) × (self.new ≡ self.old) }
         ensures steady { Steady R.ends result (seen_in R.Read (string_of self.old)) (seen_in R.Read (string_of self.new)) }
     {
         self.segments.piece(&mut self.body, buffer)

@@ -1,7 +1,7 @@
 //! How far a string has been read.
 ghost use Rattle.std.specs.Prelude.{ℕ, ◌≡◌, ◌≢◌, ◌<◌, IfOk, IfErr, IfSome, IfNone};
 ghost use Rattle.ciborium_ll.specs.Seen.{Steady};
-ghost use Rattle.ciborium_ll.specs.Stages.{StageTells, FindsEnd, Nears, HasRoom, at, stage_after, stage_of};
+ghost use Rattle.ciborium_ll.specs.Stages.{StageTells, StageStops, FindsEnd, Nears, HasRoom, at, stage_after, stage_of};
 ghost use Rattle.ciborium_ll.specs.Bodies.{unread_of, saved_of, start_of, FindsBody};
 ghost use Rattle.ciborium_ll.specs.declared.stage.Stage.TheVariants.{Inside, Stuck};
 ghost use Rattle.ciborium_ll.specs.declared.hdr.Error.TheVariants.{Syntax};
@@ -47,6 +47,8 @@ pub(crate) fn next_body<R: Read, P: StringKind>(
         (at (seen R.Read decoder.old) stage.old) (at (seen R.Read decoder.new) stage.new))) }
     ensures fault { IfErr result (StageTells R.ends P.titled P.allows
         (at (seen R.Read decoder.old) stage.old) (at (seen R.Read decoder.new) stage.new)) }
+    ensures stops { IfErr result (StageStops P.titled P.allows
+        (at (seen R.Read decoder.old) stage.old) (at (seen R.Read decoder.new) stage.new)) }
     ensures moved { IfOk result (λ o. IfSome o (λ body.
         Nears (at (seen R.Read decoder.old) stage.old) (at (seen R.Read decoder.new) stage.new))) }
     ensures unstuck { IfOk result (λ o. IfSome o (λ body. (p : ℕ) → stage.new ≢ Stuck p)) }
@@ -84,6 +86,8 @@ fn find_body<R: Read, P: StringKind>(
         (at (seen R.Read decoder.old) stage.old) (at (seen R.Read decoder.new) stage.new))) }
     ensures fault { IfErr result (StageTells R.ends P.titled P.allows
         (at (seen R.Read decoder.old) stage.old) (at (seen R.Read decoder.new) stage.new)) }
+    ensures stops { IfErr result (StageStops P.titled P.allows
+        (at (seen R.Read decoder.old) stage.old) (at (seen R.Read decoder.new) stage.new)) }
     ensures moved { IfOk result (λ o. IfSome o (λ body.
         Nears (at (seen R.Read decoder.old) stage.old) (at (seen R.Read decoder.new) stage.new))) }
     ensures unstuck { IfOk result (λ o. IfSome o (λ body. (p : ℕ) → stage.new ≢ Stuck p)) }
@@ -92,6 +96,10 @@ fn find_body<R: Read, P: StringKind>(
 {
     let mut depth = depth;
     while depth > 0 {
+        if depth == usize::MAX {
+            *stage = Stage::Inside(depth);
+            return Err(Error::TooLong);
+        }
         let place = decoder.offset();
         let header = match decoder.pull() {
             Ok(header) => header,
@@ -109,13 +117,7 @@ fn find_body<R: Read, P: StringKind>(
                 *stage = Stage::Stuck(place);
                 return Err(Error::Syntax(place));
             }
-            Some(None) => {
-                if depth == usize::MAX {
-                    *stage = Stage::Inside(depth);
-                    return Err(Error::TooLong);
-                }
-                depth += 1;
-            }
+            Some(None) => depth += 1,
             Some(Some(len)) => {
                 *stage = Stage::Inside(depth);
                 return Ok(Some(Body::new(len, place)));

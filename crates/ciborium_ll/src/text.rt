@@ -1,7 +1,9 @@
 //! The pieces of a text.
-ghost use Rattle.std.specs.Prelude.{◌≡◌, ◌+◌, ◌≤◌, ◌-◌, ◌++◌, [], ℕ, List, min, length, take, IfOk, IfErr, OnErr, IfSome, IfNone, IsUtf8};
+ghost use Rattle.std.specs.Prelude.{◌≡◌, ◌≢◌, ◌+◌, ◌≤◌, ◌-◌, ◌++◌, [], ℕ, List, min, length, take, IfOk, IfErr, OnErr, IfSome, IfNone, IsUtf8};
+ghost use Rattle.ciborium_ll.specs.declared.hdr.Error.TheVariants.{Waiting};
+ghost use Rattle.ciborium_ll.specs.Reading.{IfRefused};
 ghost use Rattle.ciborium_ll.specs.Seen.{Takes, Steady, ReadTells};
-ghost use Rattle.ciborium_ll.specs.Views.{offset_of, seen};
+ghost use Rattle.ciborium_ll.specs.Views.{offset_of, waiting_of, seen};
 ghost use Rattle.ciborium_ll.specs.Bodies.{saved_bytes, unread_of, saved_of, start_of, more_of};
 
 use crate::body::{Body, Saved};
@@ -25,6 +27,8 @@ pub(crate) fn fill<R: Read>(
     ensures fault { IfErr result (ReadTells R.ends (more_of body.old (length buffer.old))
         (seen R.Read decoder.old) (seen R.Read decoder.new)) }
     ensures err { OnErr result ((body.new ≡ body.old) × (offset_of decoder.new ≡ offset_of decoder.old)) }
+    ensures untouched { IfRefused result (decoder.new ≡ decoder.old) }
+    ensures waiting { waiting_of decoder.old ≢ None → result ≡ Err Waiting }
     ensures steady { Steady R.ends result (seen R.Read decoder.old) (seen R.Read decoder.new) }
 {
     body.saved.put(buffer);
