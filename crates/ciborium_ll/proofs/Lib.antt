@@ -3,6 +3,9 @@ pub mod Closings
 pub mod Copying
 pub mod Empty
 pub mod Framed
+pub mod Halted
+pub mod Halting
+pub mod Moved
 pub mod StringLaws
 pub mod Opened
 pub mod Pulling

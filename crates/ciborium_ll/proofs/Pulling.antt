@@ -1,15 +1,15 @@
 -- Lemmas on a title that is read byte by byte.
-use Rattle.std.proofs.Common.{◌≡◌, ◌≤◌, ◌+◌, ◌/◌, ◌%◌, ◌^◌, ℕ, Bool, List, [], ◌∷◌, ◌++◌, length, Option, None, Some, Result, Ok, Err, refl, ap, subst, arith, get_or}
+use Rattle.std.proofs.Common.{◌≡◌, ◌≤◌, ◌+◌, ◌/◌, ◌%◌, ◌^◌, ◌<◌, ℕ, Bool, List, [], ◌∷◌, ◌++◌, length, Option, None, Some, Result, Ok, Err, refl, ap, subst, arith, get_or}
 use Rattle.std.specs.Prelude.{⊤, IfOk}
 use Rattle.std.specs.Io.KnownBytes.{Consumes, Keeps}
-use Rattle.std.proofs.KnownBytes.{Consumes-trans}
+use Rattle.std.proofs.KnownBytes.{Consumes-trans, Consumes-nil}
 use Rattle.ciborium_ll.specs.Device.{IsShort}
 use Rattle.ciborium_ll.specs.declared.hdr.Header.{Header}
 use Rattle.ciborium_ll.specs.declared.hdr.Error.{Error}
 use Rattle.ciborium_ll.specs.declared.hdr.Error.TheVariants.{Io, Syntax, TooLong, Waiting}
-use Rattle.ciborium_ll.specs.Title.{Title, NumberAt, first_byte, title_of, FitsHeader}
+use Rattle.ciborium_ll.specs.Title.{Title, NumberAt, first_byte, bytes_after, title_of, FitsHeader}
 use Rattle.ciborium_ll.proofs.Shortest.{title_of_is, shortest_first}
-use Rattle.ciborium_ll.specs.Reading.{Takes, Tells, Ends, due, place, waiting_title}
+use Rattle.ciborium_ll.specs.Reading.{Moves, Stops, Starts, Tells, Refuses, Ends, TitleHalt, IsTitleStart, due, place, waiting_title}
 
 -- the end before a title
 ends_before : (left left' : Option (List ℕ)) (read read' : ℕ) → IsShort left 1 → (◌≡◌ {A = ℕ} 1 1 → Keeps left left') → read' ≡ read → Ends left left' read read'
@@ -28,9 +28,9 @@ tells_before ends left left' read read' P Waiting short keeps same = absurd shor
 
 pub title_taken : (left left₁ left₂ : Option (List ℕ)) (read read₁ read₂ first n : ℕ) (bytes : List ℕ) (h : Header)
     → bytes ≡ first ∷ [] → Consumes left left₁ bytes → read₁ ≡ read + 1
-    → Takes left₁ left₂ read₁ read₂ (λ bytes. NumberAt (first % 32) bytes n)
+    → Moves left₁ left₂ read₁ read₂ (λ bytes. NumberAt (first % 32) bytes n)
     → ((bytes : List ℕ) → NumberAt (first % 32) bytes n → Title (first_byte (first / 32) (first % 32) ∷ bytes) h)
-    → Takes left left₂ read read₂ (λ b. Title b h)
+    → Moves left left₂ read read₂ (λ b. Title b h)
 title_taken left left₁ left₂ read read₁ read₂ first n bytes h one taken grown number title =
     let whole : first_byte (first / 32) (first % 32) ≡ first = omega arith in
     let both : Consumes left left₂ (bytes ++ number.bytes) = Consumes-trans left left₁ left₂ bytes number.bytes taken number.taken in
@@ -48,7 +48,7 @@ one_cell (x ∷ y ∷ ys) h = absurd (omega arith)
 
 -- the title of a header that waits is the next
 waits : (left : Option (List ℕ)) (read : ℕ) (h : Header) → length (title_of h) ≤ read → FitsHeader h
-    → Takes (due left (Some h)) (due left None) (place read (Some h)) (place read None) (λ b. Title b h)
+    → Moves (due left (Some h)) (due left None) (place read (Some h)) (place read None) (λ b. Title b h)
 waits left read h within fits = record {
   bytes = title_of h;
   has = title_of_is h fits;
@@ -61,19 +61,58 @@ waits left read h within fits = record {
     go (Some xs) = refl
 
 pub waiting_taken : (left : Option (List ℕ)) (read : ℕ) (waiting after : Option Header) (h : Header) → waiting ≡ Some h → after ≡ None
-    → length (waiting_title waiting) ≤ read → FitsHeader h → Takes (due left waiting) (due left after) (place read waiting) (place read after) (λ b. Title b h)
+    → length (waiting_title waiting) ≤ read → FitsHeader h → Moves (due left waiting) (due left after) (place read waiting) (place read after) (λ b. Title b h)
 waiting_taken left read waiting after h is none within fits =
     let within' : length (title_of h) ≤ read = rw is at within in
     rw (is, none) (waits left read h within' fits)
 
 -- the place behind a title lies at least a shortest title in
-pub title_within : (left left' : Option (List ℕ)) (place place' : ℕ) (h : Header) → Takes left left' place place' (λ b. Title b h) → length (title_of h) ≤ place'
+pub title_within : (left left' : Option (List ℕ)) (place place' : ℕ) (h : Header) → Moves left left' place place' (λ b. Title b h) → length (title_of h) ≤ place'
 title_within left left' place place' h t =
     let short = shortest_first t.bytes h t.has in
     let grown = t.grown in
     omega arith
 
 pub pulled_within : {E : Type 0} (r : Result Header E) (left left' : Option (List ℕ)) (start read : ℕ) (waiting : Option Header) → waiting ≡ None
-    → IfOk r (λ h. Takes left left' start read (λ b. Title b h)) → IfOk r (λ h. length (title_of h) ≤ place read waiting)
+    → IfOk r (λ h. Moves left left' start read (λ b. Title b h)) → IfOk r (λ h. length (title_of h) ≤ place read waiting)
 pulled_within (Ok h) left left' start read waiting none t = let w = title_within left left' start read h t in rw none (omega arith)
 pulled_within (Err e) left left' start read waiting none t = tt
+
+-- what is known to be left begins with what was taken
+starts_with : (left left' : Option (List ℕ)) (bytes : List ℕ) → Consumes left left' bytes → Starts left bytes
+starts_with None left' bytes t = tt
+starts_with (Some xs) None bytes t = absurd t
+starts_with (Some xs) (Some ys) bytes t = (ys, t)
+
+-- a fault before the first byte of a title
+pub halts_before : {E : Type 0} (ends : E → Bool) (left left' : Option (List ℕ)) (read read' : ℕ) (short long Q : Type 0) (e : Error E)
+    → Tells ends short (λ p. ⊥) long e → Refuses e Q → (Q → left' ≡ left) → read' ≡ read → TitleHalt left left' read read' e
+halts_before ends left left' read read' short long Q (Io e) t r f same = stops left
+  where
+    stops : (left : Option (List ℕ)) → Stops left read read' IsTitleStart
+    stops None = record { bytes = []; has = tt; there = tt; grown = omega arith }
+    stops (Some xs) = record { bytes = []; has = tt; there = (xs, refl); grown = omega arith }
+halts_before ends left left' read read' short long Q (Syntax p) t r f same = tt
+halts_before ends left left' read read' short long Q TooLong t r f same = rw (f r, same) (record { bytes = []; has = tt; taken = Consumes-nil left; grown = omega arith })
+halts_before ends left left' read read' short long Q Waiting t r f same = t
+
+rem_twice : (first : ℕ) → bytes_after (first % 32) ≡ bytes_after first
+rem_twice first = let e : (first % 32) % 32 ≡ first % 32 = omega arith in rw e refl
+
+-- a fault behind it
+pub halts_behind : {E : Type 0} (ends : E → Bool) (left left₁ left₂ : Option (List ℕ)) (read read₁ read₂ first : ℕ) (bytes : List ℕ) (short long Q : Type 0) (e : Error E)
+    → bytes ≡ first ∷ [] → Consumes left left₁ bytes → read₁ ≡ read + 1 → 0 < bytes_after (first % 32)
+    → Tells ends short (λ p. ⊥) long e → Refuses e Q → (Q → left₂ ≡ left₁) → read₂ ≡ read₁ → TitleHalt left left₂ read read₂ e
+halts_behind ends left left₁ left₂ read read₁ read₂ first bytes short long Q e one taken grown wide t r f same = go e t r
+  where
+    wide' : 0 < bytes_after first
+    wide' = subst (λ (n : ℕ). 0 < n) (rem_twice first) wide
+
+    taken' : Consumes left left₁ (first ∷ [])
+    taken' = subst (λ (xs : List ℕ). Consumes left left₁ xs) one taken
+
+    go : (e : Error _) → Tells ends short (λ p. ⊥) long e → Refuses e Q → TitleHalt left left₂ read read₂ e
+    go (Io e) t r = record { bytes = first ∷ []; has = wide'; there = starts_with left left₁ (first ∷ []) taken'; grown = omega arith }
+    go (Syntax p) t r = tt
+    go TooLong t r = rw (f r) (record { bytes = first ∷ []; has = wide'; taken = taken'; grown = omega arith })
+    go Waiting t r = t

@@ -4,39 +4,22 @@ use Rattle.std.proofs.lemmas.List.{append_cancel_left}
 use Rattle.std.specs.Str.{IsUtf8}
 use Rattle.std.specs.Io.KnownBytes.{Appends}
 use Rattle.std.proofs.KnownBytes.{Appends-trans, Appends-nil, Consumes-trans, Consumes-nil}
-use Rattle.ciborium_ll.specs.Device.{AppendsFront}
 use Rattle.ciborium_ll.specs.declared.hdr.Header.{Header}
 use Rattle.ciborium_ll.specs.declared.hdr.Header.TheVariants.{Break, Bytes, Text}
-use Rattle.ciborium_ll.specs.declared.hdr.Error.{Error}
-use Rattle.ciborium_ll.specs.declared.hdr.Error.TheVariants.{Io, Syntax, TooLong, Waiting}
-use Rattle.ciborium_ll.specs.declared.recoding.RecodeError.{RecodeError}
-use Rattle.ciborium_ll.specs.declared.recoding.RecodeError.TheVariants.{Read, Write}
 use Rattle.ciborium_ll.specs.Title.{Title, title_of}
-use Rattle.ciborium_ll.specs.Reading.{Takes, Tells, Ends, IsBadByte}
+use Rattle.ciborium_ll.specs.Reading.{Moves}
 use Rattle.ciborium_ll.specs.Framing.{Any, bytes_same, bytes_unbroken, text_same, text_unbroken}
 use Rattle.ciborium_ll.specs.Pieces.{enc_pieces, enc_whole}
-use Rattle.ciborium_ll.specs.Copies.{BodyCopy, BodiesCopy, RestCopy, Copy, one_head, byte_string, text_string, Copies, no_copies, copy_more, Makes, Unlike, Begun, CopyTells}
-use Rattle.ciborium_ll.proofs.Appending.{front_then, then_front, front_as, appends_as}
+use Rattle.ciborium_ll.specs.Copies.{BodyCopy, BodiesCopy, RestCopy, Copy, one_head, byte_string, text_string, Copies, no_copies, copy_more, Makes}
+use Rattle.ciborium_ll.proofs.Appending.{appends_as}
 use Rattle.ciborium_ll.proofs.Closings.{same_fronts, split_heads}
 use Rattle.ciborium_ll.proofs.Framed.{closing_once}
-use Rattle.ciborium_ll.proofs.TitleLaws.{not_cut, not_bad}
 
 pub if_err_then : {T E : Type 0} (r : Result T E) (A B : E → Type 0) → ((e : E) → A e → B e) → IfErr r A → IfErr r B
 if_err_then (Ok x) A B f a = tt
 if_err_then (Err e) A B f a = f e a
 
-pub on_err_map : {T E : Type 0} (r : Result T E) (A B : Type 0) → (A → B) → OnErr r A → OnErr r B
-on_err_map (Ok x) A B f a = tt
-on_err_map (Err e) A B f a = f a
-
 module _ (k : Option ℕ → Header) (P : List ℕ → Type 0) where
-  -- a fault in the head of a copy
-  pub rest_begun : (l : Option (List ℕ)) (len : Option ℕ) (w w' : Option (List ℕ)) → AppendsFront w w' (title_of (k len)) → Begun l (RestCopy k P len) w w'
-  rest_begun None len w w' a = tt
-  rest_begun (Some ys) None w w' a = λ b x rest q e. front_as w w' _ x (sym q.2) (front_then w w' (title_of (k None)) (enc_pieces k q.0 ++ 255 ∷ []) a)
-  rest_begun (Some ys) (Some n) w w' a = λ b x rest q e.
-      front_as w w' _ x (ap (λ z. title_of (k (Some z)) ++ b) (sym q.0) ∙ sym q.2) (front_then w w' (title_of (k (Some n))) b a)
-
   pub whole_made : (len : Option ℕ) (n : ℕ) → len ≡ Some n → (l l' : Option (List ℕ)) (i j : ℕ) (w w₁ w' : Option (List ℕ)) → Appends w w₁ (title_of (k len))
       → Makes (BodyCopy P n) l l' i j w₁ w' → Makes (RestCopy k P len) l l' i j w w'
   whole_made len n e l l' i j w w₁ w' a m = subst (λ z. Appends w w₁ (title_of (k z)) → Makes (RestCopy k P z) l l' i j w w') (sym e) go a
@@ -66,71 +49,25 @@ module _ (k : Option ℕ → Header) (P : List ℕ → Type 0) where
         wrote = Appends-trans w w₁ w' (title_of (k None)) m.copy a m.wrote;
       }
 
-  pub whole_begun : (len : Option ℕ) (n : ℕ) → len ≡ Some n → (l : Option (List ℕ)) (w w₁ w' : Option (List ℕ)) → Appends w w₁ (title_of (k len))
-      → Begun l (BodyCopy P n) w₁ w' → Begun l (RestCopy k P len) w w'
-  whole_begun len n e None w w₁ w' a m = tt
-  whole_begun len n e (Some ys) w w₁ w' a m = subst (λ z. Appends w w₁ (title_of (k z)) → Begun (Some ys) (RestCopy k P z) w w') (sym e) go a
-    where
-      go : Appends w w₁ (title_of (k (Some n))) → Begun (Some ys) (RestCopy k P (Some n)) w w'
-      go a = λ b x rest q f. front_as w w' _ x (ap (λ z. title_of (k (Some z)) ++ b) (sym q.0) ∙ sym q.2)
-          (then_front w w₁ w' (title_of (k (Some n))) b a (m b b rest (q.0, q.1, refl) f))
-
-  pub opened_begun : (len : Option ℕ) → len ≡ None → (l : Option (List ℕ)) (w w₁ w' : Option (List ℕ)) → Appends w w₁ (title_of (k len))
-      → Begun l (BodiesCopy k P) w₁ w' → Begun l (RestCopy k P len) w w'
-  opened_begun len e None w w₁ w' a m = tt
-  opened_begun len e (Some ys) w w₁ w' a m = subst (λ z. Appends w w₁ (title_of (k z)) → Begun (Some ys) (RestCopy k P z) w w') (sym e) go a
-    where
-      go : Appends w w₁ (title_of (k None)) → Begun (Some ys) (RestCopy k P None) w w'
-      go a = λ b x rest q f. front_as w w' _ x (sym q.2) (then_front w w₁ w' (title_of (k None)) (enc_pieces k q.0 ++ 255 ∷ []) a (m b _ rest (q.0, q.1, refl) f))
-
-  pub whole_unlike : (len : Option ℕ) (n : ℕ) → len ≡ Some n → (l : Option (List ℕ)) → Unlike l (BodyCopy P n) → Unlike l (RestCopy k P len)
-  whole_unlike len n e None u = tt
-  whole_unlike len n e (Some ys) u = λ b x rest q f. let q' : RestCopy k P (Some n) b x = subst (λ z. RestCopy k P z b x) e q in u b b rest (q'.0, q'.1, refl) f
-
-  pub opened_unlike : (len : Option ℕ) → len ≡ None → (l : Option (List ℕ)) → Unlike l (BodiesCopy k P) → Unlike l (RestCopy k P len)
-  opened_unlike len e None u = tt
-  opened_unlike len e (Some ys) u = λ b x rest q f. let q' : RestCopy k P None b x = subst (λ z. RestCopy k P z b x) e q in u b _ rest (q'.0, q'.1, refl) f
-
 -- the head that a copied thing begins with
-record Starts (b : List ℕ) : Type 0 where
-  title : List ℕ
-  rest : List ℕ
-  head : Header
-  is : Title title head
-  whole_is : b ≡ title ++ rest
+pub record Starts (b : List ℕ) : Type 0 where
+  pub title : List ℕ
+  pub rest : List ℕ
+  pub head : Header
+  pub is : Title title head
+  pub whole_is : b ≡ title ++ rest
 
-starts : (b x : List ℕ) → Copy b x → Starts b
+pub starts : (b x : List ℕ) → Copy b x → Starts b
 starts b _ (one_head _ h t u v) = record { title = b; rest = []; head = h; is = t; whole_is = sym (append-nil b) }
 starts b x (byte_string _ _ (len, title, r, t, c, e)) = record { title = title; rest = r; head = Bytes len; is = t; whole_is = e }
 starts b x (text_string _ _ (len, title, r, t, c, e)) = record { title = title; rest = r; head = Text len; is = t; whole_is = e }
 
-cut_unlike : (l l' : Option (List ℕ)) (i j : ℕ) → Ends l l' i j → Unlike l Copy
-cut_unlike None l' i j h = tt
-cut_unlike (Some xs) l' i j h = λ b x rest q e.
-    let s = starts b x q in
-    not_cut s.title (s.rest ++ rest) s.head s.is (rw (e ∙ ap (λ z. z ++ rest) s.whole_is ∙ append_assoc s.title s.rest rest) at h.0)
-
-bad_unlike : (l l' : Option (List ℕ)) (i j : ℕ) → Takes l l' i j IsBadByte → Unlike l Copy
-bad_unlike None l' i j t = tt
-bad_unlike (Some xs) None i j t = absurd t.taken
-bad_unlike (Some xs) (Some ys) i j t = λ b x rest q e.
-    let s = starts b x q in
-    let f : t.has.0 ∷ ys ≡ s.title ++ (s.rest ++ rest) = ap (λ z. z ++ ys) (sym t.has.1) ∙ sym t.taken ∙ e ∙ ap (λ z. z ++ rest) s.whole_is ∙ append_assoc s.title s.rest rest in
-    not_bad s.title (s.rest ++ rest) s.head s.is (rw (sym f) t.has.2)
-
-pub pull_tells : {E : Type 0} (F : Type 0) (ends : E → Bool) (e : Error E) (l l' : Option (List ℕ)) (i j room : ℕ) → i ≤ j
-    → Tells ends (Ends l l' i j) (λ p. (p ≡ i) × Takes l l' i j IsBadByte) (2 ^ 64 ≤ i + 9) e → CopyTells {F = F} ends l Copy (2 ^ 64 ≤ j + 9 + room) (Read e)
-pull_tells F ends (Io e) l l' i j room g t = λ h. cut_unlike l l' i j (t h)
-pull_tells F ends (Syntax p) l l' i j room g t = bad_unlike l l' i j t.1
-pull_tells F ends TooLong l l' i j room g t = omega arith
-pull_tells F ends Waiting l l' i j room g t = t
-
 -- what a copied thing is behind a head
 pub record Rest (Q : List ℕ → List ℕ → Type 0) (title l b x rest : List ℕ) : Type 0 where
-  back : List ℕ
-  has : Q back x
-  whole_is : b ≡ title ++ back
-  left : l ≡ back ++ rest
+  pub back : List ℕ
+  pub has : Q back x
+  pub whole_is : b ≡ title ++ back
+  pub left : l ≡ back ++ rest
 
 pub bytes_behind : (len : Option ℕ) (title l b x rest : List ℕ) → Title title (Bytes len) → Copy b x → title ++ l ≡ b ++ rest → Rest (RestCopy Bytes Any len) title l b x rest
 bytes_behind len title l b _ rest t (one_head _ h u f g) e = absurd (f len (sym (split_heads title b l rest (Bytes len) h t u e).heads))
@@ -148,33 +85,14 @@ text_behind len title l b x rest t (text_string _ _ (o, s, r, u, c, f)) e =
 text_behind len title l b x rest t (byte_string _ _ (o, s, r, u, c, f)) e =
     absurd (let w = split_heads title s l (r ++ rest) (Text len) (Bytes o) t u (e ∙ ap (λ z. z ++ rest) f ∙ append_assoc s r rest) in let h : Text len ≡ Bytes o = w.heads in cc)
 
-head_behind : (h : Header) (title l b x rest : List ℕ) → Title title h → ((o : Option ℕ) → h ≢ Bytes o) → ((o : Option ℕ) → h ≢ Text o) → Copy b x → title ++ l ≡ b ++ rest → x ≡ title_of h
+pub head_behind : (h : Header) (title l b x rest : List ℕ) → Title title h → ((o : Option ℕ) → h ≢ Bytes o) → ((o : Option ℕ) → h ≢ Text o) → Copy b x → title ++ l ≡ b ++ rest → x ≡ title_of h
 head_behind h title l b _ rest t f g (one_head _ h' u f' g') e = ap title_of (sym (split_heads title b l rest h h' t u e).heads)
 head_behind h title l b x rest t f g (byte_string _ _ (o, s, r, u, c, k)) e = absurd (f o (split_heads title s l (r ++ rest) h (Bytes o) t u (e ∙ ap (λ z. z ++ rest) k ∙ append_assoc s r rest)).heads)
 head_behind h title l b x rest t f g (text_string _ _ (o, s, r, u, c, k)) e = absurd (g o (split_heads title s l (r ++ rest) h (Text o) t u (e ∙ ap (λ z. z ++ rest) k ∙ append_assoc s r rest)).heads)
 
 -- a string behind its head
-module _ (Q : List ℕ → List ℕ → Type 0) (T : List ℕ → Type 0)
-    (behind : (title l b x rest : List ℕ) → T title → Copy b x → title ++ l ≡ b ++ rest → Rest Q title l b x rest)
-    (joined : (title b x : List ℕ) → T title → Q b x → Copy (title ++ b) x) where
-  unlike_behind : (l l' : Option (List ℕ)) (i j : ℕ) → Takes l l' i j T → Unlike l' Q → Unlike l Copy
-  unlike_behind None l' i j t u = tt
-  unlike_behind (Some xs) None i j t u = absurd t.taken
-  unlike_behind (Some xs) (Some ys) i j t u = λ b x rest q e. let w = behind t.bytes ys b x rest t.has q (sym t.taken ∙ e) in u w.back x rest w.has w.left
-
-  pub tells_behind : {E F : Type 0} (ends : E → Bool) (l l' : Option (List ℕ)) (i j : ℕ) (long : Type 0) (e : RecodeError E F) → Takes l l' i j T → CopyTells {E = E} {F = F} ends l' Q long e → CopyTells {E = E} {F = F} ends l Copy long e
-  tells_behind ends l l' i j long (Read (Io e)) t f = λ h. unlike_behind l l' i j t (f h)
-  tells_behind ends l l' i j long (Read (Syntax p)) t f = unlike_behind l l' i j t f
-  tells_behind ends l l' i j long (Read TooLong) t f = f
-  tells_behind ends l l' i j long (Read Waiting) t f = f
-  tells_behind ends l l' i j long (Write e) t f = tt
-
-  pub begun_behind : (l l' : Option (List ℕ)) (i j : ℕ) (w w' : Option (List ℕ)) → Takes l l' i j T → Begun l' Q w w' → Begun l Copy w w'
-  begun_behind None l' i j w w' t u = tt
-  begun_behind (Some xs) None i j w w' t u = absurd t.taken
-  begun_behind (Some xs) (Some ys) i j w w' t u = λ b x rest q e. let v = behind t.bytes ys b x rest t.has q (sym t.taken ∙ e) in u v.back x rest v.has v.left
-
-  pub made_behind : (l l' l'' : Option (List ℕ)) (i j n : ℕ) (w w' : Option (List ℕ)) → Takes l l' i j T → Makes Q l' l'' j n w w' → Makes Copy l l'' i n w w'
+module _ (Q : List ℕ → List ℕ → Type 0) (T : List ℕ → Type 0) (joined : (title b x : List ℕ) → T title → Q b x → Copy (title ++ b) x) where
+  pub made_behind : (l l' l'' : Option (List ℕ)) (i j n : ℕ) (w w' : Option (List ℕ)) → Moves l l' i j T → Makes Q l' l'' j n w w' → Makes Copy l l'' i n w w'
   made_behind l l' l'' i j n w w' t m = record {
     bytes = t.bytes ++ m.bytes;
     copy = m.copy;
@@ -191,19 +109,13 @@ pub text_joined : (len : Option ℕ) (title b x : List ℕ) → Title title (Tex
 text_joined len title b x t c = text_string (title ++ b) x (len, title, b, t, c, refl)
 
 -- the head that was pulled
-pub took_as : (l l' : Option (List ℕ)) (i j : ℕ) (h h' : Header) → Takes l l' i j (λ b. Title b h) → h ≡ h' → Takes l l' i j (λ b. Title b h')
+pub took_as : (l l' : Option (List ℕ)) (i j : ℕ) (h h' : Header) → Moves l l' i j (λ b. Title b h) → h ≡ h' → Moves l l' i j (λ b. Title b h')
 took_as l l' i j h h' t e = record { bytes = t.bytes; has = subst (λ z. Title t.bytes z) e t.has; taken = t.taken; grown = t.grown }
 
 -- a head that is copied
-pub head_made : (l l' : Option (List ℕ)) (i j : ℕ) (w w' : Option (List ℕ)) (h : Header) → Takes l l' i j (λ b. Title b h) → ((o : Option ℕ) → h ≢ Bytes o) → ((o : Option ℕ) → h ≢ Text o)
+pub head_made : (l l' : Option (List ℕ)) (i j : ℕ) (w w' : Option (List ℕ)) (h : Header) → Moves l l' i j (λ b. Title b h) → ((o : Option ℕ) → h ≢ Bytes o) → ((o : Option ℕ) → h ≢ Text o)
     → Appends w w' (title_of h) → Makes Copy l l' i j w w'
 head_made l l' i j w w' h t f g a = record { bytes = t.bytes; copy = title_of h; is = one_head t.bytes h t.has f g; taken = t.taken; grown = t.grown; wrote = a }
-
-pub head_begun : (l l' : Option (List ℕ)) (i j : ℕ) (w w' : Option (List ℕ)) (h : Header) → Takes l l' i j (λ b. Title b h) → ((o : Option ℕ) → h ≢ Bytes o) → ((o : Option ℕ) → h ≢ Text o)
-    → AppendsFront w w' (title_of h) → Begun l Copy w w'
-head_begun None l' i j w w' h t f g a = tt
-head_begun (Some xs) None i j w w' h t f g a = absurd t.taken
-head_begun (Some xs) (Some ys) i j w w' h t f g a = λ b x rest q e. front_as w w' _ x (sym (head_behind h t.bytes ys b x rest t.has f g q (sym t.taken ∙ e))) a
 
 -- no copied thing begins another, and it has one copy
 rest_once : (k : Option ℕ → Header) (same : (o p : Option ℕ) → k o ≡ k p → o ≡ p) (unbroken : (o : Option ℕ) → k o ≢ Break) (P : List ℕ → Type 0) (len : Option ℕ) (a b u v x y : List ℕ)
@@ -302,7 +214,7 @@ pub record Next (b y rest l : List ℕ) (x : List ℕ) : Type 0 where
   pub left : l ≡ first ++ (after ++ rest)
   pub copy_is : y ≡ x ++ (copy ++ more)
 
-next : (i n : ℕ) → i < n → (a x l b y rest : List ℕ) → Copies i a x → Copies n b y → a ++ l ≡ b ++ rest → Next b y rest l x
+pub next : (i n : ℕ) → i < n → (a x l b y rest : List ℕ) → Copies i a x → Copies n b y → a ++ l ≡ b ++ rest → Next b y rest l x
 next i n lt a x l b y rest p q e =
     let q' : Copies (i + suc (n - i - 1)) b y = subst (λ z. Copies z b y) (omega arith) q in
     let w = copies_split i (suc (n - i - 1)) a x l b y rest p q' e in
@@ -310,25 +222,3 @@ next i n lt a x l b y rest p q e =
   where
     go : (m : ℕ) (back copies : List ℕ) → Copies (suc m) back copies → l ≡ back ++ rest → y ≡ x ++ copies → Next b y rest l x
     go m _ _ (copy_more _ c d s t h hs) f g = record { first = c; copy = s; after = d; more = t; has = h; left = f ∙ append_assoc c d rest; copy_is = g }
-
-next_unlike : (i n : ℕ) → i < n → (l l' : Option (List ℕ)) (j k : ℕ) (w w' : Option (List ℕ)) → Makes (Copies i) l l' j k w w' → Unlike l' Copy → Unlike l (Copies n)
-next_unlike i n lt None l' j k w w' m u = tt
-next_unlike i n lt (Some xs) None j k w w' m u = absurd m.taken
-next_unlike i n lt (Some xs) (Some ys) j k w w' m u = λ b y rest q e.
-    let z = next i n lt m.bytes m.copy ys b y rest m.is q (sym m.taken ∙ e) in
-    u z.first z.copy (z.after ++ rest) z.has z.left
-
-pub next_tells : {E F : Type 0} (ends : E → Bool) (i n : ℕ) → i < n → (l l' : Option (List ℕ)) (j k : ℕ) (w w' : Option (List ℕ)) (long : Type 0) (e : RecodeError E F) → Makes (Copies i) l l' j k w w'
-    → CopyTells ends l' Copy long e → CopyTells ends l (Copies n) long e
-next_tells ends i n lt l l' j k w w' long (Read (Io e)) m t = λ h. next_unlike i n lt l l' j k w w' m (t h)
-next_tells ends i n lt l l' j k w w' long (Read (Syntax p)) m t = next_unlike i n lt l l' j k w w' m t
-next_tells ends i n lt l l' j k w w' long (Read TooLong) m t = t
-next_tells ends i n lt l l' j k w w' long (Read Waiting) m t = t
-next_tells ends i n lt l l' j k w w' long (Write e) m t = tt
-
-pub next_begun : (i n : ℕ) → i < n → (l l' : Option (List ℕ)) (j k : ℕ) (w w' w'' : Option (List ℕ)) → Makes (Copies i) l l' j k w w' → Begun l' Copy w' w'' → Begun l (Copies n) w w''
-next_begun i n lt None l' j k w w' w'' m u = tt
-next_begun i n lt (Some xs) None j k w w' w'' m u = absurd m.taken
-next_begun i n lt (Some xs) (Some ys) j k w w' w'' m u = λ b y rest q e.
-    let z = next i n lt m.bytes m.copy ys b y rest m.is q (sym m.taken ∙ e) in
-    front_as w w'' _ y (sym z.copy_is) (then_front w w' w'' m.copy (z.copy ++ z.more) m.wrote (front_then w' w'' z.copy z.more (u z.first z.copy (z.after ++ rest) z.has z.left)))

@@ -1,6 +1,8 @@
 -- Laws of strings and of copies.
 use Rattle.std.proofs.Common.{◌≡◌, ◌≢◌, ◌≤◌, ◌<◌, ◌-◌, ◌^◌, ℕ, suc, List, [], ◌∷◌, ◌++◌, inl, inr, length, Option, None, Some, refl, ap, sym, ◌∙◌, subst, arith, append_assoc, append-nil, length-append}
-use Rattle.std.specs.Str.{IsUtf8}
+use Rattle.std.specs.Str.{IsUtf8, IsCharBoundary}
+use Rattle.std.proofs.lemmas.Str.{IsUtf8-take, IsUtf8-drop}
+use Rattle.std.proofs.Math.Seq.{take-append_seam, drop-append_seam}
 use Rattle.ciborium_ll.specs.declared.hdr.Header.{Header}
 use Rattle.ciborium_ll.specs.declared.hdr.Header.TheVariants.{Positive, Negative, Float, Simple, Tag, Break, Bytes, Text, Array, Map}
 use Rattle.ciborium_ll.specs.declared.hdr.Float.TheVariants.{Half, Single, Double}
@@ -10,7 +12,7 @@ use Rattle.ciborium_ll.specs.Framing.{Frame, whole, cut, Frames, no_frames, fram
 use Rattle.ciborium_ll.specs.Stages.{Rest, Strays, EndsInside, stage_of}
 use Rattle.ciborium_ll.specs.Pieces.{Pieces, no_piece, piece_more, IsString, FitBytes, enc_pieces, enc_open, enc_whole}
 use Rattle.ciborium_ll.specs.Copies.{StringCopy, Copy, one_head, byte_string, text_string, Copies, no_copies, copy_more}
-use Rattle.ciborium_ll.proofs.Closings.{not_stray, not_ended}
+use Rattle.ciborium_ll.proofs.Closings.{not_stray, not_ended, split_heads}
 use Rattle.ciborium_ll.proofs.Shortest.{title_of_is, shortest_first}
 use Rattle.ciborium_ll.proofs.Walk.{suc_of}
 use Rattle.ciborium_ll.proofs.Writing.{pieces_once, pieces_joined, enc_pieces-append}
@@ -23,6 +25,17 @@ rest_framed k P None title b bodies t r =
     let e : (r.1 ≡ []) × (r.3 ≡ []) = r.5 in
     let f : bodies ≡ r.2 = r.7 ∙ ap (λ z. r.2 ++ z) e.1 ∙ append-nil r.2 in
     subst (Frame k P (title ++ b)) (sym f) (cut (title ++ b) r.0 title r.2 t r.4 (ap (λ z. title ++ z) (r.6 ∙ ap (λ z. r.0 ++ 255 ∷ z) e.0) ∙ sym (append_assoc title r.0 (255 ∷ []))))
+
+-- and back: what follows a head up to a string's end is what may follow it
+pub framed_rest : (k : Option ℕ → Header) (same : (o p : Option ℕ) → k o ≡ k p → o ≡ p) (P : List ℕ → Type 0) (len : Option ℕ) (title b : List ℕ) (bodies : List (List ℕ))
+    → Title title (k len) → Frame k P (title ++ b) bodies → Rest k P (stage_of len) b bodies
+framed_rest k same P len title b _ t (whole _ body s p allowed e) =
+    let w = split_heads title s b body (k len) (k (Some (length body))) t p e in
+    subst (λ z. Rest k P (stage_of z) b (body ∷ [])) (sym (same len (Some (length body)) w.heads))
+    (ap length w.rests, subst P (sym w.rests) allowed, ap (λ z. z ∷ []) (sym w.rests))
+framed_rest k same P len title b xs t (cut _ inner s _ p frames e) =
+    let w = split_heads title s b (inner ++ 255 ∷ []) (k len) (k None) t p (e ∙ append_assoc s inner (255 ∷ [])) in
+    subst (λ z. Rest k P (stage_of z) b xs) (sym (same len None w.heads)) (inner, [], xs, [], frames, (refl, refl), w.rests, sym (append-nil xs))
 
 module _ (k : Option ℕ → Header) (same : (o p : Option ℕ) → k o ≡ k p → o ≡ p) (unbroken : (o : Option ℕ) → k o ≢ Break) (P : List ℕ → Type 0) where
   pub stray_no_rest : (stage : Stage) (place p : ℕ) (a l b after : List ℕ) (bodies : List (List ℕ)) → Strays k P stage place p a → Rest k P stage b bodies → a ++ l ≡ b ++ after → ⊥
@@ -37,25 +50,41 @@ module _ (k : Option ℕ → Header) (same : (o p : Option ℕ) → k o ≡ k p 
       let c : Closing k P (suc (n - 1)) w.rest w.more = subst (λ (m : ℕ). Closing k P m w.rest w.more) (sym (suc_of n some)) w.has in
       not_ended k same unbroken P (n - 1) last w.rest after w.more short c w.left
 
-pieces_framed : (most : ℕ) (value : List ℕ) (pieces : List (List ℕ)) → length value < 2 ^ 64 → Pieces FitBytes most value pieces → Frames Bytes Any (enc_pieces Bytes pieces) pieces
-pieces_framed most _ _ l no_piece = no_frames
-pieces_framed most _ _ l (piece_more p rest ps s m f g h) =
-    frame_more (enc_whole Bytes p) (enc_pieces Bytes ps) (p ∷ []) ps
-    (whole (enc_whole Bytes p) p (title_of (Bytes (Some (length p)))) (title_of_is (Bytes (Some (length p))) (omega (arith, l, length-append p rest))) tt refl)
-    (pieces_framed most rest ps (omega (arith, l, length-append p rest)) h)
+-- what is written of a value that has P, where its pieces have P
+module _ (k : Option ℕ → Header) (P : List ℕ → Type 0) (Fit : List ℕ → ℕ → Type 0) (definite : (n : ℕ) → n < 2 ^ 64 → Title (title_of (k (Some n))) (k (Some n)))
+    (open_head : Title (title_of (k None)) (k None)) (parts : (piece rest : List ℕ) → P (piece ++ rest) → Fit (piece ++ rest) (length piece) → P piece × P rest) where
+  pieces_framed : (most : ℕ) (value : List ℕ) (pieces : List (List ℕ)) → length value < 2 ^ 64 → P value → Pieces Fit most value pieces → Frames k P (enc_pieces k pieces) pieces
+  pieces_framed most _ _ l u no_piece = no_frames
+  pieces_framed most _ _ l u (piece_more p rest ps s m f g h) =
+      let w = parts p rest u f in
+      frame_more (enc_whole k p) (enc_pieces k ps) (p ∷ []) ps
+      (whole (enc_whole k p) p (title_of (k (Some (length p)))) (definite (length p) (omega (arith, l, length-append p rest))) w.0 refl)
+      (pieces_framed most rest ps (omega (arith, l, length-append p rest)) w.1 h)
 
-whole_framed : (value : List ℕ) → length value < 2 ^ 64 → Frame Bytes Any (enc_whole Bytes value) (value ∷ [])
-whole_framed value l = whole (enc_whole Bytes value) value (title_of (Bytes (Some (length value)))) (title_of_is (Bytes (Some (length value))) l) tt refl
+  whole_framed : (value : List ℕ) → length value < 2 ^ 64 → P value → Frame k P (enc_whole k value) (value ∷ [])
+  whole_framed value l u = whole (enc_whole k value) value (title_of (k (Some (length value)))) (definite (length value) l) u refl
+
+  pub string_framed : (limit : Option ℕ) (value xs : List ℕ) → length value < 2 ^ 64 → P value → IsString k Fit limit value xs → (bodies : List (List ℕ)) × Frame k P xs bodies × (joined bodies ≡ value)
+  string_framed None value xs l u e = (value ∷ [], subst (λ z. Frame k P z (value ∷ [])) (sym e) (whole_framed value l u), append-nil value)
+  string_framed (Some most) value xs l u (inl (s, e)) = (value ∷ [], subst (λ z. Frame k P z (value ∷ [])) (sym e) (whole_framed value l u), append-nil value)
+  string_framed (Some most) value xs l u (inr (s, (pieces, p, e))) = (
+    pieces,
+    cut xs (enc_pieces k pieces) (title_of (k None)) pieces open_head (pieces_framed most value pieces l u p) (e ∙ sym (append_assoc (title_of (k None)) (enc_pieces k pieces) (255 ∷ []))),
+    pieces_joined Fit most value pieces p,
+  )
 
 pub bytes_framed : (limit : Option ℕ) (value xs : List ℕ) → length value < 2 ^ 64 → IsString Bytes FitBytes limit value xs → (bodies : List (List ℕ)) × Frame Bytes Any xs bodies × (joined bodies ≡ value)
-bytes_framed None value xs l e = (value ∷ [], subst (λ z. Frame Bytes Any z (value ∷ [])) (sym e) (whole_framed value l), append-nil value)
-bytes_framed (Some most) value xs l (inl (s, e)) = (value ∷ [], subst (λ z. Frame Bytes Any z (value ∷ [])) (sym e) (whole_framed value l), append-nil value)
-bytes_framed (Some most) value xs l (inr (s, (pieces, p, e))) = (
-  pieces,
-  cut xs (enc_pieces Bytes pieces) (title_of (Bytes None)) pieces (title_of_is (Bytes None) tt) (pieces_framed most value pieces l p)
-      (e ∙ sym (append_assoc (title_of (Bytes None)) (enc_pieces Bytes pieces) (255 ∷ []))),
-  pieces_joined FitBytes most value pieces p,
-)
+bytes_framed limit value xs l e =
+    string_framed Bytes Any FitBytes (λ n h. title_of_is (Bytes (Some n)) h) (title_of_is (Bytes None) tt) (λ p rest u f. (tt, tt)) limit value xs l tt e
+
+pub text_framed : (limit : Option ℕ) (value xs : List ℕ) → length value < 2 ^ 64 → IsUtf8 value → IsString Text IsCharBoundary limit value xs
+    → (bodies : List (List ℕ)) × Frame Text IsUtf8 xs bodies × (joined bodies ≡ value)
+text_framed limit value xs l u e =
+    string_framed Text IsUtf8 IsCharBoundary (λ n h. title_of_is (Text (Some n)) h) (title_of_is (Text None) tt)
+    (λ p rest v f. (
+      subst IsUtf8 (take-append_seam p rest) (IsUtf8-take (p ++ rest) (length p) v f),
+      subst IsUtf8 (drop-append_seam p rest) (IsUtf8-drop (p ++ rest) (length p) v f),
+    )) limit value xs l u e
 
 pub string_once : (k : Option ℕ → Header) (Fit : List ℕ → ℕ → Type 0) (limit : Option ℕ) (value xs ys : List ℕ) → IsString k Fit limit value xs → IsString k Fit limit value ys → xs ≡ ys
 string_once k Fit None value xs ys p q = p ∙ sym q

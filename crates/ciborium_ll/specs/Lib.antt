@@ -5,7 +5,9 @@ pub mod Fault
 pub mod Framing
 pub mod Pieces
 pub mod Reading
+pub mod Seen
 pub mod Segments
+pub mod Sent
 pub mod Stages
 pub mod Title
 pub mod Views

@@ -1,17 +1,34 @@
 -- What the contracts of the decoder cite.
-use Rattle.std.specs.Prelude.{◌≡◌, ℕ, ◌+◌, ◌-◌, List, [], ◌∷◌, length, min, Bool, Option, None, Some, Result, Ok, Err, IsTrue, if◌then◌else◌}
+use Rattle.std.specs.Prelude.{◌≡◌, ℕ, ◌+◌, ◌-◌, List, [], ◌∷◌, ◌++◌, ◌<◌, length, min, Bool, Option, None, Some, Result, Ok, Err, IsTrue}
+use Rattle.std.specs.Prelude.{if◌then◌else◌}
 use Rattle.std.specs.Io.KnownBytes.{Consumes, prepend_known}
 use Rattle.ciborium_ll.specs.declared.hdr.Header.{Header}
 use Rattle.ciborium_ll.specs.declared.hdr.Error.{Error}
 use Rattle.ciborium_ll.specs.declared.hdr.Error.TheVariants.{Io, Syntax, TooLong, Waiting}
-use Rattle.ciborium_ll.specs.Title.{title_of, IsCut, IsBadFirst}
+use Rattle.ciborium_ll.specs.Title.{title_of, IsCut, IsBadFirst, bytes_after}
 
 -- bytes that have P were taken, and the place has grown by their count
-pub record Takes (old new : Option (List ℕ)) (place place' : ℕ) (P : List ℕ → Type 0) : Type 0 where
+pub record Moves (old new : Option (List ℕ)) (place place' : ℕ) (P : List ℕ → Type 0) : Type 0 where
   pub bytes : List ℕ
   pub has : P bytes
   pub taken : Consumes old new bytes
   pub grown : place' ≡ place + length bytes
+
+-- what is left begins with these bytes; this says nothing where it isn't known
+abbrev pub Starts : Option (List ℕ) → List ℕ → Type 0
+Starts None bytes = Unit {0}
+Starts (Some xs) bytes = (rest : List ℕ) × (xs ≡ bytes ++ rest)
+
+-- the reads that gave something gave bytes that have P, and the place has grown by their count; a fault came then, and it is open
+-- what is left behind it
+pub record Stops (left : Option (List ℕ)) (place place' : ℕ) (P : List ℕ → Type 0) : Type 0 where
+  pub bytes : List ℕ
+  pub has : P bytes
+  pub there : Starts left bytes
+  pub grown : place' ≡ place + length bytes
+
+abbrev pub Takes : Option (List ℕ) → Option (List ℕ) → ℕ → ℕ → (List ℕ → Type 0) → Type 0
+Takes old new place place' P = Moves old new place place' P
 
 -- what a fault of the decoder tells: an end, a syntax fault at a place, and an offset that would grow too large
 abbrev pub Tells : {E : Type 0} → (E → Bool) → Type 0 → (ℕ → Type 0) → Type 0 → Error E → Type 0
@@ -27,13 +44,16 @@ RawFault ends short long waits (Syntax p) = ⊥
 RawFault ends short long waits TooLong = long
 RawFault ends short long waits Waiting = waits
 
--- Q holds where the answer is that the offset would grow too large
-abbrev pub IfTooLong : {T E : Type 0} → Result T (Error E) → Type 0 → Type 0
-IfTooLong (Ok x) Q = Unit {0}
-IfTooLong (Err (Io e)) Q = Unit {0}
-IfTooLong (Err (Syntax p)) Q = Unit {0}
-IfTooLong (Err TooLong) Q = Q
-IfTooLong (Err Waiting) Q = Unit {0}
+-- Q holds where the answer is a refusal before any read: the offset would grow too large, or a header waits
+abbrev pub Refuses : {E : Type 0} → Error E → Type 0 → Type 0
+Refuses (Io e) Q = Unit {0}
+Refuses (Syntax p) Q = Unit {0}
+Refuses TooLong Q = Q
+Refuses Waiting Q = Q
+
+abbrev pub IfRefused : {T E : Type 0} → Result T (Error E) → Type 0 → Type 0
+IfRefused (Ok x) Q = Unit {0}
+IfRefused (Err e) Q = Refuses e Q
 
 -- how often the reader has failed after this answer
 abbrev pub fault_failures : {E : Type 0} → (E → Bool) → Error E → ℕ → ℕ
@@ -59,7 +79,8 @@ due left waiting = prepend_known (waiting_title waiting) left
 abbrev pub place : ℕ → Option Header → ℕ
 place read waiting = read - length (waiting_title waiting)
 
--- what an end of the bytes tells of those that were to come: it came inside a title or before it, and the place has grown where one was left
+-- what an end of the bytes tells of those that were to come: it came inside a title or before it, and the place has grown where one
+-- was left
 abbrev pub Ends : Option (List ℕ) → Option (List ℕ) → ℕ → ℕ → Type 0
 Ends None new place place' = Unit {0}
 Ends (Some xs) new place place' = IsCut xs × (place' ≡ place + min 1 (length xs)) × (xs ≡ [] → new ≡ Some [])
@@ -67,3 +88,17 @@ Ends (Some xs) new place place' = IsCut xs × (place' ≡ place + min 1 (length 
 -- one byte that begins no title
 abbrev pub IsBadByte : List ℕ → Type 0
 IsBadByte b = (first : ℕ) × (b ≡ first ∷ []) × IsBadFirst first
+
+-- no byte of a title, or its first one, which says that more follow
+abbrev pub IsTitleStart : List ℕ → Type 0
+IsTitleStart [] = Unit {0}
+IsTitleStart (first ∷ []) = 0 < bytes_after first
+IsTitleStart (first ∷ second ∷ rest) = ⊥
+
+-- where a fault leaves a decoder that was to take a title: it took no more than the beginning of one, and where it refused to read
+-- on it lost nothing
+abbrev pub TitleHalt : {E : Type 0} → Option (List ℕ) → Option (List ℕ) → ℕ → ℕ → Error E → Type 0
+TitleHalt left left' place place' (Io e) = Stops left place place' IsTitleStart
+TitleHalt left left' place place' (Syntax p) = Unit {0}
+TitleHalt left left' place place' TooLong = Moves left left' place place' IsTitleStart
+TitleHalt left left' place place' Waiting = ⊥

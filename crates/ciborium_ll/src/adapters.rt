@@ -1,6 +1,7 @@
 //! Readers and writers of std.
-ghost use Rattle.std.specs.Prelude.{◌≡◌};
-ghost use Rattle.ciborium_ll.specs.Fault.{is_end_fault};
+ghost use Rattle.std.specs.Prelude.{◌≡◌, ◌+◌, ℕ, Result};
+ghost use Rattle.ciborium_ll.specs.Device.{read_failures};
+ghost use Rattle.ciborium_ll.specs.Fault.{is_end_fault, moved_of};
 
 use crate::count::Count;
 use crate::read::Read;
@@ -39,6 +40,47 @@ impl<T> Io<T> {
             failed: Count::new(),
         }
     }
+
+    /// The reader or writer of std.
+    pub fn into_inner(self) -> T
+        ensures { result ≡ device_of self }
+    {
+        let Io { inner, failed: _ } = self;
+        inner
+    }
+
+    /// Counts a fault of the reader as a failure, where it is no end of the bytes.
+    fn read_fault(&mut self, fault: IoFault) -> IoFault
+        ensures fault { result ≡ fault }
+        ensures device { device_of self.new ≡ device_of self.old }
+        ensures failed { device_failures self.new ≡ read_failures {T = ℕ} is_end_fault (Err fault) (device_failures self.old) }
+    {
+        if let IoFault::Io(_) = fault {
+            self.failed = self.failed.and_one();
+        }
+        fault
+    }
+
+    /// Counts a fault of the writer as a failure.
+    fn write_fault(&mut self, fault: IoFault) -> IoFault
+        ensures fault { result ≡ fault }
+        ensures device { device_of self.new ≡ device_of self.old }
+        ensures failed { device_failures self.new ≡ device_failures self.old + 1 }
+    {
+        self.failed = self.failed.and_one();
+        fault
+    }
+}
+
+/// What one answer of std's reader or writer means: it moved so many bytes, none at all, or it failed.
+fn moved(answer: io::Result<usize>) -> Result<usize, IoFault>
+    ensures { result ≡ moved_of answer }
+{
+    match answer {
+        Ok(0) => Err(IoFault::End),
+        Ok(n) => Ok(n),
+        Err(e) => Err(IoFault::Io(e)),
+    }
 }
 
 impl<R: io::Read> Read for Io<R> {
@@ -53,13 +95,9 @@ impl<R: io::Read> Read for Io<R> {
     fn read_exact(&mut self, data: &mut [u8]) -> Result<(), IoFault> {
         let mut at = 0;
         while at < data.len() {
-            match self.inner.read(&mut data[at..]) {
-                Ok(0) => return Err(IoFault::End),
+            match moved(self.inner.read(&mut data[at..])) {
                 Ok(n) => at += n,
-                Err(e) => {
-                    self.failed = self.failed.and_one();
-                    return Err(IoFault::Io(e));
-                }
+                Err(e) => return Err(self.read_fault(e)),
             }
         }
         Ok(())
@@ -82,16 +120,9 @@ impl<W: io::Write> Write for Io<W> {
     fn write_all(&mut self, data: &[u8]) -> Result<(), IoFault> {
         let mut at = 0;
         while at < data.len() {
-            match self.inner.write(&data[at..]) {
-                Ok(0) => {
-                    self.failed = self.failed.and_one();
-                    return Err(IoFault::End);
-                }
+            match moved(self.inner.write(&data[at..])) {
                 Ok(n) => at += n,
-                Err(e) => {
-                    self.failed = self.failed.and_one();
-                    return Err(IoFault::Io(e));
-                }
+                Err(e) => return Err(self.write_fault(e)),
             }
         }
         Ok(())
@@ -100,10 +131,7 @@ impl<W: io::Write> Write for Io<W> {
     fn flush(&mut self) -> Result<(), IoFault> {
         match self.inner.flush() {
             Ok(()) => Ok(()),
-            Err(e) => {
-                self.failed = self.failed.and_one();
-                Err(IoFault::Io(e))
-            }
+            Err(e) => Err(self.write_fault(IoFault::Io(e))),
         }
     }
 }

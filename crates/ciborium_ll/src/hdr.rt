@@ -3,6 +3,8 @@ ghost use Rattle.std.specs.Prelude.{◌≡◌, ℕ, length};
 ghost use Rattle.ciborium_ll.specs.declared.hdr.Error.TheVariants.{Io};
 ghost use Rattle.ciborium_ll.specs.Title.{title_of, shortest, shortest_sized};
 
+use std::fmt::Display;
+
 /// A float by its width and its bits (RFC 8949, section 3.3). It is never read as a number.
 #[derive(Debug, Clone, Copy, PartialEq, Eq, PartialOrd, Ord, Hash)]
 pub enum Float {
@@ -40,15 +42,20 @@ pub enum Header {
 }
 
 /// Why a header or bytes were not read.
-#[derive(Debug, Clone, Copy, PartialEq, Eq, Drop)]
+#[derive(Debug, Clone, Copy, PartialEq, Eq, Drop, thiserror::Error)]
+#[error_bound(T: Display)]
 pub enum Error<T> {
-    /// The reader's fault, an end of the bytes among them.
+    /// The reader's fault, an end of the bytes among them. It has the reader's own text.
+    #[error("{0}")]
     Io(T),
     /// No title stands at this offset.
+    #[error("Syntax({0})")]
     Syntax(usize),
     /// The offset would pass `usize::MAX`. Nothing was read past it.
+    #[error("TooLong")]
     TooLong,
     /// Bytes were asked for while a header waits. Nothing has changed.
+    #[error("Waiting")]
     Waiting,
 }
 

@@ -22,8 +22,6 @@ pub mod simple;
 mod stage;
 mod strings;
 pub mod tag;
-#[cfg(test)]
-mod tests;
 mod text;
 mod write;
 

@@ -6,6 +6,7 @@ ghost use Rattle.ciborium_ll.specs.Device.{AppendsFront, write_failures};
 use crate::count::Count;
 use crate::write::Write;
 use std::alloc::AllocError;
+use thiserror::Error;
 
 /// A writer over memory: over a `Vec<u8>`, at whose end it writes, or over a `&mut [u8]`, which it fills from the front.
 #[derive(Drop)]
@@ -16,7 +17,8 @@ pub struct Mem<T> {
 }
 
 /// The data is longer than the room that is left in a slice.
-#[derive(Debug, Clone, Copy, PartialEq, Eq, Drop)]
+#[derive(Debug, Clone, Copy, PartialEq, Eq, Drop, Error)]
+#[error("full")]
 pub struct Full;
 
 impl<T> Mem<T> {

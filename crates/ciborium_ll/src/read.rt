@@ -1,8 +1,10 @@
 //! What bytes are read from.
-ghost use Rattle.std.specs.Prelude.{◌≡◌, ◌<◌, ◌∷◌, [], ℕ, List, length, Bool, true, Some, OnOk, IfErr, IsTrue};
+ghost use Rattle.std.specs.Prelude.{◌≡◌, ◌<◌, ◌∷◌, [], ℕ, List, length, Bool, true, Some, OnOk, OnErr, IfErr, IsTrue};
 ghost use Rattle.std.specs.Io.KnownBytes.{Keeps, Consumes};
 ghost use Rattle.ciborium_ll.specs.Device.{IsShort, read_failures};
 ghost use Rattle.std.specs.declared.option.Option.{Option};
+
+use thiserror::Error;
 
 /// A source of bytes.
 ///
@@ -42,7 +44,8 @@ pub trait Read {
 }
 
 /// A slice has no more bytes.
-#[derive(Debug, Clone, Copy, PartialEq, Eq, Drop)]
+#[derive(Debug, Clone, Copy, PartialEq, Eq, Drop, Error)]
+#[error("end")]
 pub struct End;
 
 impl Read for &[u8] {
@@ -54,7 +57,13 @@ impl Read for &[u8] {
 
     ghost ends = { λ _. true };
 
-    fn read_exact(&mut self, data: &mut [u8]) -> Result<(), End> {
+    fn read_exact(&mut self, data: &mut [u8]) -> Result<(), End>
+        ensures ok { OnOk result (Consumes (Some self.old.now) (Some self.new.now) «data».new) }
+        ensures end { IfErr result (λ e. IsTrue true → IsShort (Some self.old.now) (length «data».old)) }
+        ensures one { IfErr result (λ e. IsTrue true → length «data».old ≡ 1 → Keeps (Some self.old.now) (Some self.new.now)) }
+        ensures failed { 0 ≡ read_failures (λ _. true) result 0 }
+        ensures err { OnErr result ((self.new ≡ self.old) × («data».new ≡ «data».old)) }
+    {
         let all: &[u8] = *self;
         if all.len() < data.len() {
             return Err(End);

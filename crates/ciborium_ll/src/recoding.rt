@@ -1,15 +1,11 @@
 //! Copies heads and strings to shortest titles.
-ghost use Rattle.std.specs.Prelude.{◌≡◌, ◌≢◌, ◌<◌, ◌≤◌, ◌^◌, ◌+◌, ◌++◌, ◌∷◌, [], List, ℕ, length, OnOk, IfErr, OnErr, Some, None};
-ghost use Rattle.std.specs.Io.KnownBytes.{Appends};
-ghost use Rattle.ciborium_ll.specs.Reading.{Takes};
-ghost use Rattle.ciborium_ll.specs.Views.{left_of, offset_of, waiting_of, reader_of, writer_of};
-ghost use Rattle.ciborium_ll.specs.Title.{title_of};
-ghost use Rattle.ciborium_ll.specs.declared.stage.Stage.TheVariants.{Inside, Stuck};
-ghost use Rattle.ciborium_ll.specs.Stages.{Rest};
-ghost use Rattle.ciborium_ll.specs.Pieces.{enc_pieces};
-ghost use Rattle.ciborium_ll.specs.Segments.{decoder_of, name_of, stage_at, left_at, place_at, failed_at, handle_at};
-ghost use Rattle.ciborium_ll.specs.Bodies.{unread_of, saved_of};
-ghost use Rattle.ciborium_ll.specs.Copies.{Copy, Copies, Makes, BodyCopy, BodiesCopy, RestCopy, CopyTells, Begun, reader_failures, writer_failures};
+ghost use Rattle.std.specs.Prelude.{◌≡◌, ◌≢◌, ◌≤◌, ◌+◌, [], ℕ, length, OnOk, IfErr, None};
+ghost use Rattle.ciborium_ll.specs.Views.{waiting_of};
+ghost use Rattle.ciborium_ll.specs.Sent.{sides, sides_in};
+ghost use Rattle.ciborium_ll.specs.declared.stage.Stage.TheVariants.{Stuck};
+ghost use Rattle.ciborium_ll.specs.Segments.{decoder_of, name_of, stage_at};
+ghost use Rattle.ciborium_ll.specs.Bodies.{unread_of, saved_of, start_of};
+ghost use Rattle.ciborium_ll.specs.Copies.{Copy, Copies, BodyCopy, BodiesCopy, RestCopy, CopyHalt, CopiesHalt, BodyHalt, OpenHalt, RestHalt, Copied, Halted, HaltedAt, CopySteady};
 
 use crate::body::Body;
 use crate::dec::Decoder;
@@ -19,18 +15,25 @@ use crate::kind::{Bytes, StringKind, Text};
 use crate::read::Read;
 use crate::segments::Segments;
 use crate::write::Write;
+use std::fmt::Display;
 
 /// Why a copy stopped.
-#[derive(Debug, Clone, Copy, PartialEq, Eq, Drop)]
+#[derive(Debug, Clone, Copy, PartialEq, Eq, Drop, thiserror::Error)]
+#[error_bound(E: Display, F: Display)]
 pub enum RecodeError<E, F> {
-    /// A fault while reading.
+    /// A fault while reading, with its text.
+    #[error("{0}")]
     Read(Error<E>),
-    /// The writer's fault.
+    /// The writer's fault, with its text.
+    #[error("{0}")]
     Write(F),
 }
 
 /// A kind of string whose bodies can be copied.
 trait CopyBody: StringKind {
+    /// How many bytes of a body may have been read and not written.
+    ghost keeps: { ℕ };
+
     /// Copies a body of which nothing is read yet.
     fn copy_body<R: Read, W: Write>(
         segments: &mut Segments<'_, R, Self>,
@@ -43,20 +46,18 @@ trait CopyBody: StringKind {
         requires unstuck { (p : ℕ) → stage_at segments.old ≢ Stuck p }
         requires none_saved { saved_of body.old ≡ [] }
         ensures same_decoder { name_of segments.new ≡ name_of segments.old }
-        ensures fresh { OnOk result (waiting_of (decoder_of segments.new) ≡ None) }
         ensures stage { OnOk result (stage_at segments.new ≡ stage_at segments.old) }
-        ensures body { OnOk result ((bytes : List ℕ) × (length bytes ≡ unread_of body.old) × Self.allows bytes
-            × Takes (left_at R.left segments.old) (left_at R.left segments.new) (place_at segments.old) (place_at segments.new) (λ b. b ≡ bytes)
-            × Appends (W.written (writer_of encoder.old)) (W.written (writer_of encoder.new)) bytes) }
-        ensures fault { IfErr result (CopyTells R.ends (left_at R.left segments.old) (BodyCopy Self.allows (unread_of body.old)) (2 ^ 64 ≤ place_at segments.new + length buffer.old)) }
-        ensures begun { OnErr result (Begun (left_at R.left segments.old) (BodyCopy Self.allows (unread_of body.old)) (W.written (writer_of encoder.old)) (W.written (writer_of encoder.new))) }
-        ensures reader { failed_at R.failed segments.new ≡ reader_failures R.ends result (failed_at R.failed segments.old) }
-        ensures writer { W.failed (writer_of encoder.new) ≡ writer_failures result (W.failed (writer_of encoder.old)) }
-        ensures kept { (handle_at R.handle segments.new ≡ handle_at R.handle segments.old) × (W.handle (writer_of encoder.new) ≡ W.handle (writer_of encoder.old)) };
+        ensures ok { OnOk result (Copied (BodyCopy Self.allows (unread_of body.old))
+            (sides_in R.Read W.Write segments.old encoder.old) (sides_in R.Read W.Write segments.new encoder.new)) }
+        ensures fault { IfErr result (HaltedAt R.ends (BodyHalt Self.allows keeps (unread_of body.old)) (length buffer.old) (start_of body.old)
+            (sides_in R.Read W.Write segments.old encoder.old) (sides_in R.Read W.Write segments.new encoder.new)) }
+        ensures steady { CopySteady R.ends result (sides_in R.Read W.Write segments.old encoder.old) (sides_in R.Read W.Write segments.new encoder.new) };
 }
 
 impl CopyBody for Bytes {
     ghost use Rattle.ciborium_ll.specs.Framing.{Any};
+
+    ghost keeps = { 0 };
 
     fn copy_body<R: Read, W: Write>(
         segments: &mut Segments<'_, R, Bytes>,
@@ -79,6 +80,8 @@ impl CopyBody for Bytes {
 
 impl CopyBody for Text {
     ghost use Rattle.std.specs.Str.{IsUtf8};
+
+    ghost keeps = { 3 };
 
     fn copy_body<R: Read, W: Write>(
         segments: &mut Segments<'_, R, Text>,
@@ -105,8 +108,10 @@ impl CopyBody for Text {
 /// The buffer is any of at least 4 bytes; a body goes through it in pieces.
 ///
 /// # Errors
-/// `Read` with an end or `Syntax` only where what is left doesn't begin with so many heads and strings; `TooLong` where the
-/// offset could pass `usize::MAX`. `Write` with the writer's fault. A beginning of the copy was written then.
+/// At each, so many whole heads and strings were copied, and then a beginning of the next one. `Read` with an end where the
+/// bytes end before a head or body that is due, or in one; `Read` with `Syntax` and the place of a byte that begins no title, of
+/// a head that the open string can't hold, or of a body that is no UTF-8; `TooLong` where the offset could pass `usize::MAX`.
+/// `Write` with the writer's fault, behind a beginning of the head, piece or break that was due.
 pub fn recode<R: Read, W: Write>(
     decoder: &mut Decoder<R>,
     encoder: &mut Encoder<W>,
@@ -114,14 +119,10 @@ pub fn recode<R: Read, W: Write>(
     buffer: &mut [u8],
 ) -> Result<(), RecodeError<R::Error, W::Error>>
     requires room { 4 ≤ length buffer.old }
-    ensures ok { OnOk result (Makes (Copies count) (left_of R.left decoder.old) (left_of R.left decoder.new) (offset_of decoder.old) (offset_of decoder.new)
-        (W.written (writer_of encoder.old)) (W.written (writer_of encoder.new))) }
-    ensures fault { IfErr result (CopyTells R.ends (left_of R.left decoder.old) (Copies count) (2 ^ 64 ≤ offset_of decoder.new + 9 + length buffer.old)) }
-    ensures begun { OnErr result (Begun (left_of R.left decoder.old) (Copies count) (W.written (writer_of encoder.old)) (W.written (writer_of encoder.new))) }
-    ensures reader { R.failed (reader_of decoder.new) ≡ reader_failures R.ends result (R.failed (reader_of decoder.old)) }
-    ensures writer { W.failed (writer_of encoder.new) ≡ writer_failures result (W.failed (writer_of encoder.old)) }
-    ensures fresh { OnOk result (waiting_of decoder.old ≡ None → waiting_of decoder.new ≡ None) }
-    ensures kept { (R.handle (reader_of decoder.new) ≡ R.handle (reader_of decoder.old)) × (W.handle (writer_of encoder.new) ≡ W.handle (writer_of encoder.old)) }
+    ensures ok { OnOk result (Copied (Copies count) (sides R.Read W.Write decoder.old encoder.old) (sides R.Read W.Write decoder.new encoder.new)) }
+    ensures fault { IfErr result (Halted R.ends (CopiesHalt count) (9 + length buffer.old)
+        (sides R.Read W.Write decoder.old encoder.old) (sides R.Read W.Write decoder.new encoder.new)) }
+    ensures steady { CopySteady R.ends result (sides R.Read W.Write decoder.old encoder.old) (sides R.Read W.Write decoder.new encoder.new) }
 {
     for _ in 0..count {
         match copy_one(decoder, encoder, buffer) {
@@ -139,14 +140,11 @@ fn copy_one<R: Read, W: Write>(
     buffer: &mut [u8],
 ) -> Result<(), RecodeError<R::Error, W::Error>>
     requires room { 4 ≤ length buffer.old }
-    ensures ok { OnOk result (Makes Copy (left_of R.left decoder.old) (left_of R.left decoder.new) (offset_of decoder.old) (offset_of decoder.new)
-        (W.written (writer_of encoder.old)) (W.written (writer_of encoder.new))) }
-    ensures fault { IfErr result (CopyTells R.ends (left_of R.left decoder.old) Copy (2 ^ 64 ≤ offset_of decoder.new + 9 + length buffer.old)) }
-    ensures begun { OnErr result (Begun (left_of R.left decoder.old) Copy (W.written (writer_of encoder.old)) (W.written (writer_of encoder.new))) }
-    ensures reader { R.failed (reader_of decoder.new) ≡ reader_failures R.ends result (R.failed (reader_of decoder.old)) }
-    ensures writer { W.failed (writer_of encoder.new) ≡ writer_failures result (W.failed (writer_of encoder.old)) }
-    ensures fresh { OnOk result (waiting_of decoder.new ≡ None) }
-    ensures kept { (R.handle (reader_of decoder.new) ≡ R.handle (reader_of decoder.old)) × (W.handle (writer_of encoder.new) ≡ W.handle (writer_of encoder.old)) }
+    ensures ok { OnOk result (Copied Copy (sides R.Read W.Write decoder.old encoder.old) (sides R.Read W.Write decoder.new encoder.new)) }
+    ensures fault { IfErr result (Halted R.ends CopyHalt (9 + length buffer.old)
+        (sides R.Read W.Write decoder.old encoder.old) (sides R.Read W.Write decoder.new encoder.new)) }
+    ensures steady { CopySteady R.ends result (sides R.Read W.Write decoder.old encoder.old) (sides R.Read W.Write decoder.new encoder.new) }
+    ensures fresh { waiting_of decoder.new ≡ None }
 {
     let header = match decoder.pull() {
         Ok(header) => header,
@@ -171,14 +169,10 @@ fn copy_string<R: Read, W: Write, P: CopyBody>(
 ) -> Result<(), RecodeError<R::Error, W::Error>>
     requires room { 4 ≤ length buffer.old }
     requires fresh { waiting_of decoder.old ≡ None }
-    ensures ok { OnOk result (Makes (RestCopy P.titled P.allows len) (left_of R.left decoder.old) (left_of R.left decoder.new) (offset_of decoder.old) (offset_of decoder.new)
-        (W.written (writer_of encoder.old)) (W.written (writer_of encoder.new))) }
-    ensures fault { IfErr result (CopyTells R.ends (left_of R.left decoder.old) (RestCopy P.titled P.allows len) (2 ^ 64 ≤ offset_of decoder.new + 9 + length buffer.old)) }
-    ensures begun { OnErr result (Begun (left_of R.left decoder.old) (RestCopy P.titled P.allows len) (W.written (writer_of encoder.old)) (W.written (writer_of encoder.new))) }
-    ensures reader { R.failed (reader_of decoder.new) ≡ reader_failures R.ends result (R.failed (reader_of decoder.old)) }
-    ensures writer { W.failed (writer_of encoder.new) ≡ writer_failures result (W.failed (writer_of encoder.old)) }
-    ensures fresh { OnOk result (waiting_of decoder.new ≡ None) }
-    ensures kept { (R.handle (reader_of decoder.new) ≡ R.handle (reader_of decoder.old)) × (W.handle (writer_of encoder.new) ≡ W.handle (writer_of encoder.old)) }
+    ensures ok { OnOk result (Copied (RestCopy P.titled P.allows len) (sides R.Read W.Write decoder.old encoder.old) (sides R.Read W.Write decoder.new encoder.new)) }
+    ensures fault { IfErr result (Halted R.ends (RestHalt P.titled P.allows P.keeps len) (9 + length buffer.old)
+        (sides R.Read W.Write decoder.old encoder.old) (sides R.Read W.Write decoder.new encoder.new)) }
+    ensures steady { CopySteady R.ends result (sides R.Read W.Write decoder.old encoder.old) (sides R.Read W.Write decoder.new encoder.new) }
 {
     match encoder.push(P::header(len)) {
         Ok(()) => {}
@@ -199,14 +193,10 @@ fn copy_whole<R: Read, W: Write, P: CopyBody>(
 ) -> Result<(), RecodeError<R::Error, W::Error>>
     requires room { 4 ≤ length buffer.old }
     requires fresh { waiting_of decoder.old ≡ None }
-    ensures ok { OnOk result (Makes (BodyCopy P.allows len) (left_of R.left decoder.old) (left_of R.left decoder.new) (offset_of decoder.old) (offset_of decoder.new)
-        (W.written (writer_of encoder.old)) (W.written (writer_of encoder.new))) }
-    ensures fault { IfErr result (CopyTells R.ends (left_of R.left decoder.old) (BodyCopy P.allows len) (2 ^ 64 ≤ offset_of decoder.new + 9 + length buffer.old)) }
-    ensures begun { OnErr result (Begun (left_of R.left decoder.old) (BodyCopy P.allows len) (W.written (writer_of encoder.old)) (W.written (writer_of encoder.new))) }
-    ensures reader { R.failed (reader_of decoder.new) ≡ reader_failures R.ends result (R.failed (reader_of decoder.old)) }
-    ensures writer { W.failed (writer_of encoder.new) ≡ writer_failures result (W.failed (writer_of encoder.old)) }
-    ensures fresh { OnOk result (waiting_of decoder.new ≡ None) }
-    ensures kept { (R.handle (reader_of decoder.new) ≡ R.handle (reader_of decoder.old)) × (W.handle (writer_of encoder.new) ≡ W.handle (writer_of encoder.old)) }
+    ensures ok { OnOk result (Copied (BodyCopy P.allows len) (sides R.Read W.Write decoder.old encoder.old) (sides R.Read W.Write decoder.new encoder.new)) }
+    ensures fault { IfErr result (Halted R.ends (BodyHalt P.allows P.keeps len) (9 + length buffer.old)
+        (sides R.Read W.Write decoder.old encoder.old) (sides R.Read W.Write decoder.new encoder.new)) }
+    ensures steady { CopySteady R.ends result (sides R.Read W.Write decoder.old encoder.old) (sides R.Read W.Write decoder.new encoder.new) }
 {
     let mut body = Body::new(len, decoder.offset());
     let mut segments = Segments::<R, P>::behind(decoder, Some(len));
@@ -221,14 +211,10 @@ fn copy_opened<R: Read, W: Write, P: CopyBody>(
 ) -> Result<(), RecodeError<R::Error, W::Error>>
     requires room { 4 ≤ length buffer.old }
     requires fresh { waiting_of decoder.old ≡ None }
-    ensures ok { OnOk result (Makes (BodiesCopy P.titled P.allows) (left_of R.left decoder.old) (left_of R.left decoder.new) (offset_of decoder.old) (offset_of decoder.new)
-        (W.written (writer_of encoder.old)) (W.written (writer_of encoder.new))) }
-    ensures fault { IfErr result (CopyTells R.ends (left_of R.left decoder.old) (BodiesCopy P.titled P.allows) (2 ^ 64 ≤ offset_of decoder.new + 9 + length buffer.old)) }
-    ensures begun { OnErr result (Begun (left_of R.left decoder.old) (BodiesCopy P.titled P.allows) (W.written (writer_of encoder.old)) (W.written (writer_of encoder.new))) }
-    ensures reader { R.failed (reader_of decoder.new) ≡ reader_failures R.ends result (R.failed (reader_of decoder.old)) }
-    ensures writer { W.failed (writer_of encoder.new) ≡ writer_failures result (W.failed (writer_of encoder.old)) }
-    ensures fresh { OnOk result (waiting_of decoder.new ≡ None) }
-    ensures kept { (R.handle (reader_of decoder.new) ≡ R.handle (reader_of decoder.old)) × (W.handle (writer_of encoder.new) ≡ W.handle (writer_of encoder.old)) }
+    ensures ok { OnOk result (Copied (BodiesCopy P.titled P.allows) (sides R.Read W.Write decoder.old encoder.old) (sides R.Read W.Write decoder.new encoder.new)) }
+    ensures fault { IfErr result (Halted R.ends (OpenHalt P.titled P.allows P.keeps) (9 + length buffer.old)
+        (sides R.Read W.Write decoder.old encoder.old) (sides R.Read W.Write decoder.new encoder.new)) }
+    ensures steady { CopySteady R.ends result (sides R.Read W.Write decoder.old encoder.old) (sides R.Read W.Write decoder.new encoder.new) }
 {
     let mut segments = Segments::<R, P>::behind(decoder, None);
     loop {

@@ -3,6 +3,7 @@ use Rattle.std.specs.Io.KnownBytes.{Appends}
 use Rattle.ciborium_ll.specs.Reading.{Takes}
 use Rattle.ciborium_ll.specs.Framing.{Closing}
 use Rattle.ciborium_ll.specs.Views.{left_of, offset_of, waiting_of, reader_of, writer_of}
+use Rattle.ciborium_ll.specs.declared.stage.Stage.TheVariants.{Inside}
 use Rattle.ciborium_ll.specs.Stages.{Rest, Leads, opens, ahead}
 use Rattle.ciborium_ll.specs.Pieces.{enc_pieces}
 use Rattle.ciborium_ll.specs.Segments.{decoder_of, name_of, stage_at, left_at, place_at, failed_at, handle_at}
@@ -12,6 +13,7 @@ abbrev pub invariant-loop-body : goal.invariant-loop-body
 invariant-loop-body g l = record {
   same_decoder : name_of l.segments ≡ name_of l.initial.segments;
   fresh : waiting_of (decoder_of l.segments) ≡ None;
+  inside : (n : ℕ) × (stage_at l.segments ≡ Inside n);
   held : (bodies : List (List ℕ))
       × Takes (left_of g.R.Read.left l.fn.decoder) (left_at g.R.Read.left l.segments) (offset_of l.fn.decoder) (place_at l.segments)
       (λ front. Leads (Closing g.P.StringKind.titled g.P.StringKind.allows 1) (Rest g.P.StringKind.titled g.P.StringKind.allows (stage_at l.segments)) front bodies)

@@ -1,5 +1,6 @@
 use Rattle.std.proofs.Common.{rules, arith}
-use Rattle.ciborium_ll.proofs.Recoded.{none_made, more_made, next_tells, next_begun}
+use Rattle.ciborium_ll.proofs.Recoded.{none_made, more_made}
+use Rattle.ciborium_ll.proofs.Halting.{copies_halt}
 use Rattle.ciborium_ll.proofs.recoding.recode.Goals as goal
 
 pub loop-init : goal.loop-init
@@ -7,10 +8,7 @@ loop-init g c = record { made = none_made _ _ _; fresh = λ e. e; reader = searc
 
 pub returns-in-Err-clause-fault : goal.returns-in-Err-clause-fault
 returns-in-Err-clause-fault g c =
-    next_tells g.R.Read.ends _ _ c.loop-test.true _ _ _ _ _ _ _ c.in-Err.e c.loop.invariant.made (rw c.loop.auto.buffer at c.in-Err.ensures.fault)
-
-pub returns-in-Err-clause-begun : goal.returns-in-Err-clause-begun
-returns-in-Err-clause-begun g c = next_begun _ _ c.loop-test.true _ _ _ _ _ _ _ c.loop.invariant.made c.in-Err.ensures.begun
+    copies_halt g.R.Read.ends c.in-Err.e _ _ c.loop-test.true _ _ _ _ _ _ _ _ _ _ _ c.loop.invariant.made (λ z. z) (rw c.loop.auto.buffer at c.in-Err.ensures.fault)
 
 pub loop-preserved : goal.loop-preserved
 loop-preserved g c = record {

@@ -1,10 +1,17 @@
 use Rattle.std.proofs.Common.{rules, arith, refl, inr, ◌∙◌, ap}
-use Rattle.ciborium_ll.proofs.Walk.{break_taken, open_taken, body_taken, stray_taken, end_taken, stage_tells, moved_on}
+use Rattle.ciborium_ll.proofs.Walk.{break_taken, open_taken, body_taken, stray_taken, end_taken, stage_tells, stage_halts, full_halts, moved_on}
 use Rattle.ciborium_ll.proofs.stage.find_body.Goals as goal
 
 pub returns-in-Err-clause-fault : goal.returns-in-Err-clause-fault
 returns-in-Err-clause-fault g c =
     rw c.after_fault.ensures (stage_tells _ g.P.StringKind.same g.P.StringKind.unbroken _ _ _ _ _ _ _ _ _ c.loop-depth-test.true c.loop-depth.invariant.took _ _ c.pull.ensures.grows c.in-Err.ensures.fault)
+
+pub returns-in-Err-clause-stops : goal.returns-in-Err-clause-stops
+returns-in-Err-clause-stops g c =
+    rw c.after_fault.ensures (stage_halts _ g.P.StringKind.same g.P.StringKind.unbroken _ _ _ _ _ _ _ _ _ c.loop-depth-test.true c.loop-depth.invariant.took _ c.in-Err.ensures.stops)
+
+pub returns-then-depth-clause-stops : goal.returns-then-depth-clause-stops
+returns-then-depth-clause-stops g c = full_halts _ _ _ _ _ _ _ _ c.loop-depth-test.true c.loop-depth.invariant.took
 
 pub loop-depth-preserved-in-Break : goal.loop-depth-preserved-in-Break
 loop-depth-preserved-in-Break g c = record {
@@ -32,12 +39,11 @@ returns-in-None g c = record {
   some = tt;
   none = tt;
   fault = (refl, inr (rw c.offset-place.ensures (stray_taken _ g.P.StringKind.same g.P.StringKind.unbroken _ _ _ _ _ _ _ _ _ c.loop-depth-test.true c.loop-depth.invariant.took _ c.in-Ok.ensures.ok c.in_default.not-Break c.in-None.ensures.none)));
+  stops = tt;
   moved = tt;
   unstuck = tt;
   room = omega (arith, c.loop-depth.invariant.took.grown, c.in-Ok.ensures.grows);
-  failed = search rules;
-  fresh = search rules;
-  kept = search rules;
+  steady = record { failed = search rules; handle = search rules; waiting = search rules };
 }
 
 pub returns-in-Some-Some : goal.returns-in-Some-Some
@@ -49,10 +55,9 @@ returns-in-Some-Some g c = record {
   );
   none = tt;
   fault = tt;
+  stops = tt;
   moved = moved_on _ _ _ _ _ _ c.loop-depth.invariant.took _ c.in-Ok.ensures.ok _ _ c.offset-place.result c.offset-place.ensures (search rules) c.requires.inside;
   unstuck = λ p e. cc;
   room = omega (arith, c.loop-depth.invariant.room, c.in-Ok.ensures.grows);
-  failed = search rules;
-  fresh = search rules;
-  kept = search rules;
+  steady = record { failed = search rules; handle = search rules; waiting = search rules };
 }

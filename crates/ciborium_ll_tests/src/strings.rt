@@ -1,5 +1,5 @@
 //! Strings that are written, whole or in pieces.
-use crate::{Encoder, Full, Mem};
+use ciborium_ll::{Encoder, Full, Mem};
 
 /// Limits, and the byte string 1, 2, 3 as it is written then.
 const BYTES: [(Option<usize>, &[u8]); 5] = [

@@ -1,5 +1,5 @@
 //! Copies to shortest titles.
-use crate::{Decoder, Encoder, End, Error, Full, Mem, RecodeError, recode};
+use ciborium_ll::{Decoder, Encoder, End, Error, Full, Mem, RecodeError, recode};
 use std::alloc::Global;
 use std::process::Abort;
 

@@ -1,6 +1,7 @@
 //! Strings that are read in pieces.
-use crate::tests::{Broken, is_at};
-use crate::{
+use crate::devices::Broken;
+use crate::heads::is_at;
+use ciborium_ll::{
     Body, Bytes, Decoder, End, Error, Header, Io, IoFault, Read, Segment, Segments, StringKind,
     Text,
 };
