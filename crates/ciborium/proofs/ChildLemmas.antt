@@ -34,13 +34,13 @@ fails_begun ends (Some b) (Some rest) o₀ o₁ o₂ h D e t w =
     fails_as ends (EndPlace b o₀ o₂) (EndPlace b o₀ o₂) (D (o₀ + length b) b) (Begun h D (o₀ + length b) b) (IsLong o₀ b) (IsLong o₀ b) e (λ q. q) (λ f d. ((rest, record { title = t.bytes; is_title = t.has; whole = t.taken }), d)) (λ l. l)
     (subst (λ (z : List ℕ). FailsAt ends z o₀ o₂ D e) (sym t.taken) (w t.bytes t.has (sym t.grown)))
 
-title_no_break : (stop : ℕ) (rest : List ℕ) (f : Fault) → TitleDamage stop rest f → (r : List ℕ) → rest ≢ 255 ∷ r
+pub title_no_break : (stop : ℕ) (rest : List ℕ) (f : Fault) → TitleDamage stop rest f → (r : List ℕ) → rest ≢ 255 ∷ r
 title_no_break stop rest end d r e = not_cut (255 ∷ []) r Break break_title (subst IsCut e d)
 title_no_break stop rest deep d r e = d
 title_no_break stop rest (syntax p) d r e = not_bad (255 ∷ []) r Break break_title (subst StartsBad e d.0)
 title_no_break stop rest (semantic k) d r e = d
 
-begun_no_break : (h : Header) (rest q : List ℕ) → Begins rest h q → h ≢ Break → (r : List ℕ) → rest ≢ 255 ∷ r
+pub begun_no_break : (h : Header) (rest q : List ℕ) → Begins rest h q → h ≢ Break → (r : List ℕ) → rest ≢ 255 ∷ r
 begun_no_break h rest q s not r e = not (title_once s.title (255 ∷ []) q r h Break s.is_title break_title (sym s.whole ∙ e)).0
 
 child : (h : Header) (limit stop : ℕ) (x rest : List ℕ) (vs : Trees) (f : Fault) → ReadsAll x limit vs → Due h (tree_count vs) rest → Damage stop rest limit f → ChildDamage h limit stop (x ++ rest) f

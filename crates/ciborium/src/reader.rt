@@ -14,7 +14,7 @@ ghost use Rattle.ciborium.specs.Reading.{FailsAt, FailsBehind, Known, failures, 
 use crate::de::Error;
 use crate::strings::{next_title, read_string};
 use crate::value::{Integer, Kind, Value};
-use ciborium_ll::{Decoder, Header, Read};
+use ciborium_ll::{Decoder, Header, Read, simple, tag};
 use ciborium_value::fold_tag;
 use std::alloc::{AllocError, Global};
 
@@ -22,14 +22,14 @@ use std::alloc::{AllocError, Global};
 const ROOM: usize = 8;
 
 /// The value of a simple value, where it is assigned (RFC 8949, section 3.3).
-fn simple(n: u8) -> Option<Value>
+fn simple_value(n: u8) -> Option<Value>
     ensures { MatchOption result (simple_meaning n ≡ None) (λ v. simple_meaning n ≡ Some (view v)) }
 {
     match n {
-        20 => Some(Value::Bool(false)),
-        21 => Some(Value::Bool(true)),
-        22 => Some(Value::Null),
-        23 => Some(Value::Null),
+        simple::FALSE => Some(Value::Bool(false)),
+        simple::TRUE => Some(Value::Bool(true)),
+        simple::NULL => Some(Value::Null),
+        simple::UNDEFINED => Some(Value::Null),
         _ => None,
     }
 }
@@ -77,7 +77,7 @@ pub fn read_item<R: Read>(
         Header::Positive(n) => Ok(Value::Integer(Integer::from(n))),
         Header::Negative(n) => Ok(Value::Integer(Integer::negative(n))),
         Header::Float(f) => Ok(Value::Float(f)),
-        Header::Simple(n) => match simple(n) {
+        Header::Simple(n) => match simple_value(n) {
             Some(v) => Ok(v),
             None => Err(Error::Semantic(None, Kind::Simple)),
         },
@@ -232,10 +232,10 @@ fn read_pairs<R: Read>(
 fn is_plain(tag: u64) -> bool
     ensures { MatchBool result ((tag ≢ 2) × (tag ≢ 3)) ((tag ≡ 2) ⊎ (tag ≡ 3)) }
 {
-    if tag == 2 {
+    if tag == tag::BIGPOS {
         return false;
     }
-    if tag == 3 {
+    if tag == tag::BIGNEG {
         return false;
     }
     true

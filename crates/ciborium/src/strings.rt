@@ -1,7 +1,8 @@
 //! Reads titles and strings.
 ghost use Rattle.std.specs.Prelude.{◌≡◌, ◌≤◌, ◌<◌, ◌+◌, ◌++◌, ◌^◌, ℕ, List, None, Some, OnOk, IfOk, IfErr, length, Bool, []};
 ghost use Rattle.std.specs.Io.KnownBytes.{Consumes};
-ghost use Rattle.ciborium_ll.specs.Title.{Title};
+ghost use Rattle.ciborium_ll.specs.Title.{Title, title_of};
+ghost use Rattle.ciborium_ll.specs.declared.hdr.Header.{Header};
 ghost use Rattle.ciborium_ll.specs.Reading.{Takes};
 ghost use Rattle.ciborium_ll.specs.Views.{left_of, offset_of, waiting_of, reader_of};
 ghost use Rattle.ciborium.specs.Damage.{TitleDamage, ChunkDamage, StringDamage};
@@ -17,6 +18,8 @@ pub fn next_title<R: Read>(decoder: &mut Decoder<R>) -> Result<(usize, Header), 
     ensures at { IfOk result (λ r. r.0 ≡ offset_of decoder.old) }
     ensures fits { offset_of decoder.new < 2 ^ 64 }
     ensures nothing { left_of R.left decoder.old ≡ Some [] → OnOk result ⊥ }
+    ensures waited { (h : Header) → waiting_of decoder.old ≡ Some h → (result ≡ Ok (offset_of decoder.old, h))
+        × (reader_of decoder.new ≡ reader_of decoder.old) × (offset_of decoder.new ≡ offset_of decoder.old + length (title_of h)) }
     ensures memory { IfErr result IsNoMemory }
     ensures err { IfErr result (λ e. Known (left_of R.left decoder.old) (λ b. FailsAt R.ends b (offset_of decoder.old) (offset_of decoder.new) TitleDamage e)) }
     ensures failed { R.failed (reader_of decoder.new) ≡ failures R.ends result (R.failed (reader_of decoder.old)) }

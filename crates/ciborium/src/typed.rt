@@ -28,10 +28,7 @@ pub fn typed_item<T: Deserialize, R: Read>(
     ensures kept { R.handle (reader_of decoder.new) ≡ R.handle (reader_of decoder.old) }
     ensures fresh { waiting_of decoder.new ≡ None }
 {
-    let value = match from_decoder(alloc, decoder, limit) {
-        Ok(value) => value,
-        Err(e) => return Err(e),
-    };
+    let value = from_decoder(alloc, decoder, limit)?;
     match T::take(alloc, value) {
         Ok(x) => Ok(x),
         Err(value::Error::Kind(kind)) => Err(Error::Semantic(None, kind)),
