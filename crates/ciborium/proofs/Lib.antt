@@ -1,3 +1,4 @@
+pub mod Building
 pub mod Once
 pub mod Taking
 pub mod StringLemmas

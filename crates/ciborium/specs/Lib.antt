@@ -1,3 +1,4 @@
+pub mod Building
 pub mod Damage
 pub mod Front
 pub mod Items

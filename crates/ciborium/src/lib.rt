@@ -13,8 +13,6 @@ pub mod ser;
 mod source;
 mod strings;
 pub mod tag;
-#[cfg(test)]
-mod tests;
 mod typed;
 pub mod value;
 

@@ -1,20 +1,16 @@
-//! What no clause says: that calls succeed, the examples of RFC 8949, and readers that end or fail in mid-stream.
-mod examples;
-mod typed;
-
-use crate::de::{Error, from_decoder};
-use crate::tests::examples::{Example, NOT_WELL_FORMED, VALUES};
-use crate::value::{Integer, Kind, Value};
-use crate::{into_writer, ser};
-use ciborium_ll::count::Count;
-use ciborium_ll::{Decoder, End, Float, Full, Io, IoFault, Mem, Read};
+//! Items read and written: the examples of RFC 8949, and readers that end or fail in mid-stream.
+use crate::examples::{Example, NOT_WELL_FORMED, VALUES};
+use ciborium::de::{Error, RECURSION_LIMIT, from_decoder};
+use ciborium::ll::count::Count;
+use ciborium::value::{Integer, Kind};
+use ciborium::{Decoder, End, Float, Full, Io, IoFault, Mem, Read, Value, into_writer, ll, ser};
 use std::alloc::{AllocError, Global};
 use std::io;
 use std::process::Abort;
 use std::test::Fail;
 
 /// The nesting limit where a row names none.
-const LIMIT: usize = 256;
+const LIMIT: usize = RECURSION_LIMIT;
 
 /// A tagged array of 14 bytes: 18([h'a10126', {}, 'hi', h'010203']).
 const MESSAGE: &str = "d28443a10126a042686943010203";
@@ -158,7 +154,7 @@ fn names_faults(rt: HostRuntime) -> Result<(), Fail> {
     );
     assert_eq!(rt; Error::<End>::from(End), Error::Io(End));
     assert_eq!(rt;
-        Error::<End>::from(ciborium_ll::Error::<End>::Syntax(3)),
+        Error::<End>::from(ll::Error::<End>::Syntax(3)),
         Error::Syntax(3)
     );
     Ok(())

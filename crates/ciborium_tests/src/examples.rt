@@ -1,7 +1,7 @@
 //! The examples of RFC 8949: Appendix A, and the items of Appendix F that are not well-formed.
-use crate::de::Error;
-use crate::value::Kind;
-use ciborium_ll::End;
+use ciborium::End;
+use ciborium::de::Error;
+use ciborium::value::Kind;
 
 /// An example in hex, and what reading one item of it answers: all of it is read and the value's shortest text is this,
 /// or the fault.
