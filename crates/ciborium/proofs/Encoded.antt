@@ -14,7 +14,7 @@ use Rattle.ciborium.proofs.Once.{append_nil, once}
 mutual
   pub enc_spells : (t : Tree) → Fits t → Spells (enc t) t
   enc_spells (integer i) f = title_of_is (int_head i) f
-  enc_spells (bytes b) f = (b ∷ [], whole _ b (title_of (Bytes (Some (length b)))) (title_of_is (Bytes (Some (length b))) f) tt refl, append_nil b)
+  enc_spells (bytes b) f = (b ∷ [], whole _ b (title_of (Bytes (Some (length b)))) (title_of_is (Bytes (Some (length b))) f.0) tt refl, append_nil b)
   enc_spells (text b) f = (b ∷ [], whole _ b (title_of (Text (Some (length b)))) (title_of_is (Text (Some (length b))) f.0) f.1 refl, append_nil b)
   enc_spells (array ts) f = inl (title_of (Array (Some (tree_count ts))), enc_all ts, title_of_is (Array (Some (tree_count ts))) f.0, all_spells ts f.1, refl)
   enc_spells (map ps) f = inl (title_of (Map (Some (pair_count ps))), enc_pairs ps, title_of_is (Map (Some (pair_count ps))) f.0, pairs_spell ps f.1, refl)

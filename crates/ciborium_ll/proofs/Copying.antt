@@ -13,7 +13,7 @@ use Rattle.ciborium_ll.specs.Reading.{Takes, RawFault}
 use Rattle.ciborium_ll.specs.declared.body.Body.{Body}
 use Rattle.ciborium_ll.specs.declared.stage.Stage.{Stage}
 use Rattle.ciborium_ll.specs.declared.stage.Stage.TheVariants.{Stuck}
-use Rattle.ciborium_ll.specs.Bodies.{saved_of, start_of, bytes_of, more_of, IsPart, IsDamaged, TextTells}
+use Rattle.ciborium_ll.specs.Bodies.{saved_of, start_of, bytes_of, more_of, IsPiece, IsDamaged, TextFault}
 use Rattle.ciborium_ll.specs.Copies.{BodyCopy, Unlike, Begun, CopyTells}
 use Rattle.ciborium_ll.proofs.Appending.{front_then, front_as}
 
@@ -69,16 +69,16 @@ utf8_rest xs ys u v =
     drop-seam (x ∷ xs) ys = drop-seam xs ys
 
 -- one piece more of a text
-pub text_more : (old new : Body) (given piece x : List ℕ) (total : ℕ) → IsPart old new piece x → bytes_of old + length given ≡ total → bytes_of new + length (given ++ piece) ≡ total
+pub text_more : (old new : Body) (given piece x : List ℕ) (total : ℕ) → IsPiece old new piece x → bytes_of old + length given ≡ total → bytes_of new + length (given ++ piece) ≡ total
 text_more old new given piece x total p g =
     let e : length (saved_of old) + length x ≡ length piece + length (saved_of new)
     = sym (length-append (saved_of old) x) ∙ ap length p.0 ∙ length-append piece (saved_of new) in
     omega (arith, e, p.1, g, length-append given piece)
 
-pub text_less : (old new : Body) (piece x : List ℕ) → IsPart old new piece x → 0 < length piece → bytes_of new < bytes_of old
+pub text_less : (old new : Body) (piece x : List ℕ) → IsPiece old new piece x → 0 < length piece → bytes_of new < bytes_of old
 text_less old new piece x p some = omega (arith, text_more old new [] piece x (bytes_of old) p (omega arith), some)
 
-pub text_seam : (old new : Body) (given piece x y : List ℕ) → x ≡ given ++ saved_of old → IsPart old new piece y → x ++ y ≡ (given ++ piece) ++ saved_of new
+pub text_seam : (old new : Body) (given piece x y : List ℕ) → x ≡ given ++ saved_of old → IsPiece old new piece y → x ++ y ≡ (given ++ piece) ++ saved_of new
 text_seam old new given piece x y e p =
     ap (λ z. z ++ y) e ∙ append_assoc given (saved_of old) y ∙ ap (λ z. given ++ z) p.0 ∙ sym (append_assoc given piece (saved_of new))
 
@@ -102,7 +102,7 @@ damaged_body old (Some ys) (Some zs) (Some us) i j j' given total t d u g = λ b
 -- what a fault in a text's body tells
 pub text_tell : {E : Type 0} (F : Type 0) (ends : E → Bool) (e : Error E) (old new : Body) (stage stage' : Stage) (l l' l'' : Option (List ℕ)) (i j j' room room' total : ℕ) (given : List ℕ) (W : Type 0)
     → Takes l l' i j (λ b. b ≡ given ++ saved_of old) → IsUtf8 given → bytes_of old + length given ≡ total → room ≡ room' → (W → ⊥) → ((p : ℕ) → stage ≢ Stuck p)
-    → TextTells ends old new room stage stage' l' l'' j j' W e → CopyTells {F = F} ends l (BodyCopy IsUtf8 total) (2 ^ 64 ≤ j' + room') (Read e)
+    → TextFault ends old new room stage stage' l' l'' j j' W e → CopyTells {F = F} ends l (BodyCopy IsUtf8 total) (2 ^ 64 ≤ j' + room') (Read e)
 text_tell F ends (Io e) old new stage stage' l l' l'' i j j' room room' total given W t u g roomy fresh free f =
     λ h. short_body IsUtf8 total l l' i j (given ++ saved_of old) (more_of old room) t (f.0 h) (omega (arith, g, length-append given (saved_of old)))
 text_tell F ends (Syntax p) old new stage stage' l l' l'' i j j' room room' total given W t u g roomy fresh free f = go f.1

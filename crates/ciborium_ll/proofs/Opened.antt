@@ -15,7 +15,7 @@ use Rattle.ciborium_ll.specs.Title.{title_of}
 use Rattle.ciborium_ll.specs.Reading.{Takes}
 use Rattle.ciborium_ll.specs.Framing.{Closing}
 use Rattle.ciborium_ll.specs.Pieces.{enc_pieces, enc_whole}
-use Rattle.ciborium_ll.specs.Stages.{Rest, Parted, Leads, Reaches, StageTells, EndsInside, Strays, opens}
+use Rattle.ciborium_ll.specs.Stages.{Rest, Parted, Leads, Reaches, StageFault, EndsInside, Strays, opens}
 use Rattle.ciborium_ll.specs.Copies.{BodyCopy, BodiesCopy, Makes, Unlike, Begun, CopyTells}
 use Rattle.ciborium_ll.proofs.Appending.{front_then, then_front, front_as}
 use Rattle.ciborium_ll.proofs.Closings.{leads_then, body_leads, not_stray, not_ended}
@@ -97,7 +97,7 @@ module _ (k : Option ℕ → Header) (same : (o p : Option ℕ) → k o ≡ k p 
           not_stray k same unbroken P (n - 1) title zs w.rest after w.more stray c w.left
 
   pub advance_tells : {E : Type 0} (F : Type 0) (ends : E → Bool) (e : Error E) (stage stage' : Stage) (l₀ l l' : Option (List ℕ)) (i j j' room : ℕ) (bodies : List (List ℕ))
-      → Held l₀ l i j stage bodies → opens stage + i ≤ 1 + j → StageTells ends k P stage stage' l l' j j' e
+      → Held l₀ l i j stage bodies → opens stage + i ≤ 1 + j → StageFault ends k P stage stage' l l' j j' e
       → CopyTells {F = F} ends l₀ (BodiesCopy k P) (2 ^ 64 ≤ j' + 9 + room) (Read e)
   advance_tells F ends (Io e) stage stage' l₀ l l' i j j' room bodies h o t = λ x. no_unlike l₀ (no_through _ _ l₀ l i j bodies h (stage_no_end stage l (t x)))
   advance_tells F ends (Syntax p) stage stage' l₀ l l' i j j' room bodies h o t = no_unlike l₀ (no_through _ _ l₀ l i j bodies h (go t.1))

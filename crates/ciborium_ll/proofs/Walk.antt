@@ -9,14 +9,14 @@ use Rattle.ciborium_ll.specs.declared.hdr.Error.TheVariants.{Io, Syntax, TooLong
 use Rattle.ciborium_ll.specs.declared.stage.Stage.{Stage}
 use Rattle.ciborium_ll.specs.declared.stage.Stage.TheVariants.{Inside}
 use Rattle.ciborium_ll.specs.Title.{Title}
-use Rattle.ciborium_ll.specs.Reading.{Takes, Tells, Ends, IsBadByte}
-use Rattle.ciborium_ll.specs.Stages.{Rest, Passes, Reaches, StartsAt, IsStray, Strays, EndsInside, StageTells, stage_after, ahead}
+use Rattle.ciborium_ll.specs.Reading.{Moves, Tells, Ends, IsBadByte}
+use Rattle.ciborium_ll.specs.Stages.{Rest, Passes, Reaches, StartsAt, IsStray, Strays, EndsInside, StageFault, stage_after, ahead}
 use Rattle.ciborium_ll.proofs.Closings.{leads_then, body_due, open_leads, close_leads}
 use Rattle.ciborium_ll.proofs.TitleLaws.{not_cut}
 
 -- two runs, one after the other
-pub takes_then : {P Q S : List ℕ → Type 0} (l m r : Option (List ℕ)) (i j n : ℕ) → Takes l m i j P → Takes m r j n Q
-    → ((a b : List ℕ) → P a → Q b → S (a ++ b)) → Takes l r i n S
+pub takes_then : {P Q S : List ℕ → Type 0} (l m r : Option (List ℕ)) (i j n : ℕ) → Moves l m i j P → Moves m r j n Q
+    → ((a b : List ℕ) → P a → Q b → S (a ++ b)) → Moves l r i n S
 takes_then l m r i j n p q f = record {
   bytes = p.bytes ++ q.bytes;
   has = f p.bytes q.bytes p.has q.has;
@@ -24,10 +24,10 @@ takes_then l m r i j n p q f = record {
   grown = omega (arith, p.grown, q.grown, length-append p.bytes q.bytes);
 }
 
-pub takes_nothing : {P : List ℕ → Type 0} (l : Option (List ℕ)) (i : ℕ) → P [] → Takes l l i i P
+pub takes_nothing : {P : List ℕ → Type 0} (l : Option (List ℕ)) (i : ℕ) → P [] → Moves l l i i P
 takes_nothing l i p = record { bytes = []; has = p; taken = Consumes-nil l; grown = omega arith }
 
-pub takes_as : {P Q : List ℕ → Type 0} (l m : Option (List ℕ)) (i j : ℕ) → Takes l m i j P → ((a : List ℕ) → P a → Q a) → Takes l m i j Q
+pub takes_as : {P Q : List ℕ → Type 0} (l m : Option (List ℕ)) (i j : ℕ) → Moves l m i j P → ((a : List ℕ) → P a → Q a) → Moves l m i j Q
 takes_as l m i j p f = record { bytes = p.bytes; has = f p.bytes p.has; taken = p.taken; grown = p.grown }
 
 module _ (k : Option ℕ → Header) (same : (o p : Option ℕ) → k o ≡ k p → o ≡ p) (unbroken : (o : Option ℕ) → k o ≢ Break) (P : List ℕ → Type 0) (old : Stage) where
@@ -45,7 +45,7 @@ suc_of n h = omega arith
 
 module _ (k : Option ℕ → Header) (same : (o p : Option ℕ) → k o ≡ k p → o ≡ p) (unbroken : (o : Option ℕ) → k o ≢ Break) (P : List ℕ → Type 0)
     (old : Stage) (left mid left' : Option (List ℕ)) (place pm place' depth : ℕ) (some : 0 < depth)
-    (run : Takes left mid place pm (Passes k P old (Inside depth))) where
+    (run : Moves left mid place pm (Passes k P old (Inside depth))) where
   at : (f : List ℕ) → Passes k P old (Inside depth) f → Passes k P old (Inside (suc (depth - 1))) f
   at f p = subst (λ (n : ℕ). Passes k P old (Inside n) f) (sym (suc_of depth some)) p
 
@@ -57,7 +57,7 @@ module _ (k : Option ℕ → Header) (same : (o p : Option ℕ) → k o ≡ k p 
       go (Some xs) None t e = absurd t
       go (Some xs) (Some ys) t e = (run.bytes, ys, depth, some, run.has, e.0, t)
 
-  strays : Takes mid left' pm place' (IsStray k) → Takes left left' place place' (Strays k P old place pm)
+  strays : Moves mid left' pm place' (IsStray k) → Moves left left' place place' (Strays k P old place pm)
   strays s = record {
     bytes = run.bytes ++ s.bytes;
     has = (run.bytes, s.bytes, depth, some, run.has, s.has, refl, run.grown);
@@ -65,30 +65,30 @@ module _ (k : Option ℕ → Header) (same : (o p : Option ℕ) → k o ≡ k p 
     grown = omega (arith, run.grown, s.grown, length-append run.bytes s.bytes);
   }
 
-  bad_byte : Takes mid left' pm place' IsBadByte → Takes mid left' pm place' (IsStray k)
+  bad_byte : Moves mid left' pm place' IsBadByte → Moves mid left' pm place' (IsStray k)
   bad_byte s = record { bytes = s.bytes; has = inl s.has; taken = s.taken; grown = s.grown }
 
   pub stage_tells : {E : Type 0} (ends : E → Bool) (e : Error E) → pm ≤ place'
-      → Tells ends (Ends mid left' pm place') (λ p. (p ≡ pm) × Takes mid left' pm place' IsBadByte) (2 ^ 64 ≤ pm + 9) e
-      → StageTells ends k P old (stage_after depth e) left left' place place' e
+      → Tells ends (Ends mid left' pm place') (λ p. (p ≡ pm) × Moves mid left' pm place' IsBadByte) (2 ^ 64 ≤ pm + 9) e
+      → StageFault ends k P old (stage_after depth e) left left' place place' e
   stage_tells ends (Io e) g h = λ t. ends_inside (h t)
   stage_tells ends (Syntax p) g h = (refl, inr (rw h.0 (strays (bad_byte h.1))))
   stage_tells ends TooLong g h = inl (omega arith)
   stage_tells ends Waiting g h = h
 
-  pub break_taken : (h : Header) → Takes mid left' pm place' (λ b. Title b h) → h ≡ Break → Takes left left' place place' (Passes k P old (Inside (depth - 1)))
+  pub break_taken : (h : Header) → Moves mid left' pm place' (λ b. Title b h) → h ≡ Break → Moves left left' place place' (Passes k P old (Inside (depth - 1)))
   break_taken h s e = takes_then left mid left' place pm place' run s
       (λ a b p q. let q' : Title b Break = rw e at q in passes_close k same unbroken P old a b (depth - 1) (at a p) q')
 
-  pub open_taken : (h : Header) → Takes mid left' pm place' (λ b. Title b h) → h ≡ k None → Takes left left' place place' (Passes k P old (Inside (depth + 1)))
+  pub open_taken : (h : Header) → Moves mid left' pm place' (λ b. Title b h) → h ≡ k None → Moves left left' place place' (Passes k P old (Inside (depth + 1)))
   open_taken h s e = takes_then left mid left' place pm place' run s
       (λ a b p q. let q' : Title b (k None) = rw e at q in
       let r : Passes k P old (Inside (suc (suc (depth - 1)))) (a ++ b) = passes_open k same unbroken P old a b (depth - 1) (at a p) q' in
       let d : suc (suc (depth - 1)) ≡ depth + 1 = omega (arith, suc_of depth some) in
       subst (λ (n : ℕ). Passes k P old (Inside n) (a ++ b)) d r)
 
-  pub body_taken : (h : Header) (len : ℕ) → Takes mid left' pm place' (λ b. Title b h) → h ≡ k (Some len)
-      → Takes left left' place place' (λ front. Reaches k P old len (Inside depth) front × StartsAt k place len pm front)
+  pub body_taken : (h : Header) (len : ℕ) → Moves mid left' pm place' (λ b. Title b h) → h ≡ k (Some len)
+      → Moves left left' place place' (λ front. Reaches k P old len (Inside depth) front × StartsAt k place len pm front)
   body_taken h len s e = takes_then left mid left' place pm place' (record { bytes = run.bytes; has = (run.has, refl); taken = run.taken; grown = run.grown }) s
       (λ (a b : List ℕ) (p : Passes k P old (Inside depth) a × (a ≡ run.bytes)) (q : Title b h).
       let q' : Title b (k (Some len)) = rw e at q in
@@ -97,11 +97,11 @@ module _ (k : Option ℕ → Header) (same : (o p : Option ℕ) → k o ≡ k p 
         inr (a, b, q', refl, run.grown ∙ ap (λ z. place + length z) (sym p.1)),
       ))
 
-  pub stray_taken : (h : Header) → Takes mid left' pm place' (λ b. Title b h) → h ≢ Break → ((o : Option ℕ) → h ≢ k o) → Takes left left' place place' (Strays k P old place pm)
+  pub stray_taken : (h : Header) → Moves mid left' pm place' (λ b. Title b h) → h ≢ Break → ((o : Option ℕ) → h ≢ k o) → Moves left left' place place' (Strays k P old place pm)
   stray_taken h s b n = strays (record { bytes = s.bytes; has = inr (h, s.has, b, n); taken = s.taken; grown = s.grown })
 
 pub end_taken : (k : Option ℕ → Header) (P : List ℕ → Type 0) (old : Stage) (left left' : Option (List ℕ)) (place place' depth : ℕ) → depth ≡ 0
-    → Takes left left' place place' (Passes k P old (Inside depth)) → Takes left left' place place' (λ b. Rest k P old b [])
+    → Moves left left' place place' (Passes k P old (Inside depth)) → Moves left left' place place' (λ b. Rest k P old b [])
 end_taken k P old left left' place place' depth e run = record {
   bytes = run.bytes;
   has = let p : Passes k P old (Inside 0) run.bytes = subst (λ n. Passes k P old (Inside n) run.bytes) e run.has in
@@ -115,8 +115,8 @@ pub title_some : (h : Header) (b : List ℕ) → Title b h → 0 < length b
 title_some h [] t = absurd (not_cut [] [] h t tt)
 title_some h (x ∷ b) t = omega arith
 
-pub moved_on : {P : List ℕ → Type 0} (left mid left' : Option (List ℕ)) (place pm place' : ℕ) → Takes left mid place pm P → (h : Header)
-    → Takes mid left' pm place' (λ b. Title b h) → (old : Stage) (depth q : ℕ) → q ≡ pm → q < 2 ^ 64 → old ≡ Inside depth
+pub moved_on : {P : List ℕ → Type 0} (left mid left' : Option (List ℕ)) (place pm place' : ℕ) → Moves left mid place pm P → (h : Header)
+    → Moves mid left' pm place' (λ b. Title b h) → (old : Stage) (depth q : ℕ) → q ≡ pm → q < 2 ^ 64 → old ≡ Inside depth
     → 2 ^ 64 - place' < ahead old place
 moved_on left mid left' place pm place' run h s old depth q same fits e =
     let n = title_some h s.bytes s.has in

@@ -1,8 +1,11 @@
 -- What a clause sees of a body that is read in pieces.
-use Rattle.std.specs.Prelude.{◌≡◌, ◌⊎◌, ℕ, ◌+◌, ◌≤◌, ◌^◌, min, ◌-◌, List, [], ◌∷◌, ◌++◌, length, Bool, IsTrue, Option}
+use Rattle.std.specs.Prelude.{◌≡◌, ◌≢◌, ◌⊎◌, ℕ, ◌+◌, ◌<◌, ◌≤◌, ◌^◌, min, ◌-◌, List, [], ◌∷◌, ◌++◌, length, Bool, IsTrue, Option, None}
 use Rattle.std.specs.Str.{IsUtf8}
 use Rattle.ciborium_ll.specs.Device.{IsShort}
-use Rattle.ciborium_ll.specs.Reading.{Takes}
+use Rattle.ciborium_ll.specs.Reading.{Moves}
+use Rattle.ciborium_ll.specs.Seen.{Seen, Takes}
+use Rattle.ciborium_ll.specs.Stages.{Progress, Reaches, StartsAt}
+use Rattle.ciborium_ll.specs.declared.hdr.Header.{Header}
 use Rattle.ciborium_ll.specs.declared.hdr.Error.{Error}
 use Rattle.ciborium_ll.specs.declared.hdr.Error.TheVariants.{Io, Syntax, TooLong, Waiting}
 use Rattle.ciborium_ll.specs.declared.stage.Stage.{Stage}
@@ -35,8 +38,8 @@ abbrev pub bytes_of : Body → ℕ
 bytes_of b = unread_of b + length (saved_of b)
 
 -- `b` was taken; with the saved bytes before it, it is the piece and the bytes that are saved now
-abbrev pub IsPart : Body → Body → List ℕ → List ℕ → Type 0
-IsPart old new piece b = (saved_of old ++ b ≡ piece ++ saved_of new) × (unread_of new + length b ≡ unread_of old)
+abbrev pub IsPiece : Body → Body → List ℕ → List ℕ → Type 0
+IsPiece old new piece b = (saved_of old ++ b ≡ piece ++ saved_of new) × (unread_of new + length b ≡ unread_of old)
 
 -- `b` was taken, and whatever the rest of the body is, what was left of it is no UTF-8
 abbrev pub IsDamaged : Body → List ℕ → Type 0
@@ -46,15 +49,42 @@ IsDamaged old b = (length b ≤ unread_of old) × ((r : List ℕ) → length b +
 abbrev pub more_of : Body → ℕ → ℕ
 more_of old room = min (unread_of old) (room - length (saved_of old))
 
+-- a body was found of which nothing is read yet
+abbrev pub FindsBody : (Option ℕ → Header) → (List ℕ → Type 0) → Progress → Progress → Body → Type 0
+FindsBody k P old new body = (saved_of body ≡ []) × Takes old.decoder new.decoder
+    (λ front. Reaches k P old.stage (unread_of body) new.stage front × StartsAt k old.decoder.offset (unread_of body) (start_of body) front)
+
+-- how many bytes a piece of a byte string has
+abbrev pub piece_len : Body → ℕ → ℕ
+piece_len old room = min room (unread_of old)
+
+-- a piece of a byte string was taken, and is what the body has fewer
+abbrev pub TakesBytes : Body → Body → ℕ → Seen → Seen → List ℕ → Type 0
+TakesBytes old new room seen seen' piece =
+    (0 < unread_of old) × (length piece ≡ piece_len old room) × (unread_of new + length piece ≡ unread_of old)
+    × Takes seen seen' (λ b. b ≡ piece)
+
+-- a piece of a text is as long as buffer and body let whole characters be
+abbrev pub Fills : Body → ℕ → List ℕ → Type 0
+Fills old room piece = 4 ≤ room → (0 < length piece) × (min room (bytes_of old) ≤ length piece + 3)
+
 -- nothing of a body was taken
 abbrev pub Stays : Body → Body → ℕ → ℕ → Type 0
 Stays old new place place' = (new ≡ old) × (place' ≡ place)
 
 -- what a fault in a text's body tells: an end; a text that is no UTF-8, whose segment's place stays; an offset that would grow
 -- too large; a header that waits
-abbrev pub TextTells : {E : Type 0} → (E → Bool) → Body → Body → ℕ → Stage → Stage → Option (List ℕ) → Option (List ℕ) → ℕ → ℕ → Type 0 → Error E → Type 0
-TextTells ends old new room stage stage' left left' place place' waits (Io e) = (IsTrue (ends e) → IsShort left (more_of old room)) × Stays old new place place'
-TextTells ends old new room stage stage' left left' place place' waits (Syntax p) =
-    (stage' ≡ Stuck p) × ((stage ≡ Stuck p) ⊎ ((p ≡ start_of old) × Takes left left' place place' (IsDamaged old)))
-TextTells ends old new room stage stage' left left' place place' waits TooLong = (2 ^ 64 ≤ place + more_of old room) × Stays old new place place'
-TextTells ends old new room stage stage' left left' place place' waits Waiting = waits × Stays old new place place'
+abbrev pub TextFault : {E : Type 0} → (E → Bool) → Body → Body → ℕ → Stage → Stage
+    → Option (List ℕ) → Option (List ℕ) → ℕ → ℕ → Type 0 → Error E → Type 0
+TextFault ends old new room stage stage' left left' place place' waits (Io e) =
+    (IsTrue (ends e) → IsShort left (more_of old room)) × Stays old new place place'
+TextFault ends old new room stage stage' left left' place place' waits (Syntax p) =
+    (stage' ≡ Stuck p) × ((stage ≡ Stuck p) ⊎ ((p ≡ start_of old) × Moves left left' place place' (IsDamaged old)))
+TextFault ends old new room stage stage' left left' place place' waits TooLong =
+    (2 ^ 64 ≤ place + more_of old room) × Stays old new place place'
+TextFault ends old new room stage stage' left left' place place' waits Waiting = waits × Stays old new place place'
+
+abbrev pub TextTells : {E : Type 0} → (E → Bool) → Body → Body → ℕ → Progress → Progress → Error E → Type 0
+TextTells ends body body' room old new =
+    TextFault ends body body' room old.stage new.stage old.decoder.left new.decoder.left old.decoder.offset new.decoder.offset
+    ((old.decoder.waiting ≢ None) × (new.decoder ≡ old.decoder))

@@ -5,6 +5,7 @@ pub mod Fault
 pub mod Framing
 pub mod Pieces
 pub mod Reading
+pub mod Seen
 pub mod Segments
 pub mod Stages
 pub mod Title

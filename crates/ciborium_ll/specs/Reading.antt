@@ -1,5 +1,6 @@
 -- What the contracts of the decoder cite.
-use Rattle.std.specs.Prelude.{◌≡◌, ℕ, ◌+◌, ◌-◌, List, [], ◌∷◌, length, min, Bool, Option, None, Some, Result, Ok, Err, IsTrue, if◌then◌else◌}
+use Rattle.std.specs.Prelude.{◌≡◌, ℕ, ◌+◌, ◌-◌, List, [], ◌∷◌, length, min, Bool, Option, None, Some, Result, Ok, Err, IsTrue}
+use Rattle.std.specs.Prelude.{if◌then◌else◌}
 use Rattle.std.specs.Io.KnownBytes.{Consumes, prepend_known}
 use Rattle.ciborium_ll.specs.declared.hdr.Header.{Header}
 use Rattle.ciborium_ll.specs.declared.hdr.Error.{Error}
@@ -7,11 +8,14 @@ use Rattle.ciborium_ll.specs.declared.hdr.Error.TheVariants.{Io, Syntax, TooLong
 use Rattle.ciborium_ll.specs.Title.{title_of, IsCut, IsBadFirst}
 
 -- bytes that have P were taken, and the place has grown by their count
-pub record Takes (old new : Option (List ℕ)) (place place' : ℕ) (P : List ℕ → Type 0) : Type 0 where
+pub record Moves (old new : Option (List ℕ)) (place place' : ℕ) (P : List ℕ → Type 0) : Type 0 where
   pub bytes : List ℕ
   pub has : P bytes
   pub taken : Consumes old new bytes
   pub grown : place' ≡ place + length bytes
+
+abbrev pub Takes : Option (List ℕ) → Option (List ℕ) → ℕ → ℕ → (List ℕ → Type 0) → Type 0
+Takes old new place place' P = Moves old new place place' P
 
 -- what a fault of the decoder tells: an end, a syntax fault at a place, and an offset that would grow too large
 abbrev pub Tells : {E : Type 0} → (E → Bool) → Type 0 → (ℕ → Type 0) → Type 0 → Error E → Type 0
@@ -27,13 +31,13 @@ RawFault ends short long waits (Syntax p) = ⊥
 RawFault ends short long waits TooLong = long
 RawFault ends short long waits Waiting = waits
 
--- Q holds where the answer is that the offset would grow too large
-abbrev pub IfTooLong : {T E : Type 0} → Result T (Error E) → Type 0 → Type 0
-IfTooLong (Ok x) Q = Unit {0}
-IfTooLong (Err (Io e)) Q = Unit {0}
-IfTooLong (Err (Syntax p)) Q = Unit {0}
-IfTooLong (Err TooLong) Q = Q
-IfTooLong (Err Waiting) Q = Unit {0}
+-- Q holds where the answer is a refusal before any read: the offset would grow too large, or a header waits
+abbrev pub IfRefused : {T E : Type 0} → Result T (Error E) → Type 0 → Type 0
+IfRefused (Ok x) Q = Unit {0}
+IfRefused (Err (Io e)) Q = Unit {0}
+IfRefused (Err (Syntax p)) Q = Unit {0}
+IfRefused (Err TooLong) Q = Q
+IfRefused (Err Waiting) Q = Q
 
 -- how often the reader has failed after this answer
 abbrev pub fault_failures : {E : Type 0} → (E → Bool) → Error E → ℕ → ℕ
@@ -59,7 +63,8 @@ due left waiting = prepend_known (waiting_title waiting) left
 abbrev pub place : ℕ → Option Header → ℕ
 place read waiting = read - length (waiting_title waiting)
 
--- what an end of the bytes tells of those that were to come: it came inside a title or before it, and the place has grown where one was left
+-- what an end of the bytes tells of those that were to come: it came inside a title or before it, and the place has grown where one
+-- was left
 abbrev pub Ends : Option (List ℕ) → Option (List ℕ) → ℕ → ℕ → Type 0
 Ends None new place place' = Unit {0}
 Ends (Some xs) new place place' = IsCut xs × (place' ≡ place + min 1 (length xs)) × (xs ≡ [] → new ≡ Some [])

@@ -2,13 +2,22 @@
 use Rattle.std.specs.Prelude.{◌≡◌, ◌≢◌, ◌⊎◌, ℕ, ◌+◌, ◌-◌, ◌<◌, ◌≤◌, ◌^◌, Bool, IsTrue, List, [], ◌∷◌, ◌++◌, length, Option, None, Some}
 use Rattle.ciborium_ll.specs.Title.{Title, IsCut}
 use Rattle.ciborium_ll.specs.Framing.{Closing}
-use Rattle.ciborium_ll.specs.Reading.{IsBadByte, Takes}
+use Rattle.ciborium_ll.specs.Reading.{IsBadByte, Moves}
+use Rattle.ciborium_ll.specs.Seen.{Seen, Takes}
 use Rattle.ciborium_ll.specs.declared.hdr.Error.{Error}
 use Rattle.ciborium_ll.specs.declared.hdr.Error.TheVariants.{Io, Syntax, TooLong, Waiting}
 use Rattle.ciborium_ll.specs.declared.hdr.Header.{Header}
 use Rattle.ciborium_ll.specs.declared.hdr.Header.TheVariants.{Break}
 use Rattle.ciborium_ll.specs.declared.stage.Stage.{Stage}
 use Rattle.ciborium_ll.specs.declared.stage.Stage.TheVariants.{One, Inside, Stuck}
+
+-- how far a string has been read: what is seen of its decoder, and the stage
+pub record Progress : Type 0 where
+  pub decoder : Seen
+  pub stage : Stage
+
+abbrev pub at : Seen → Stage → Progress
+at seen stage = record { decoder = seen; stage = stage }
 
 -- the stage behind the head of a string
 abbrev pub stage_of : Option ℕ → Stage
@@ -33,7 +42,8 @@ pub record Parted (k : Option ℕ → Header) (P : List ℕ → Type 0) (len : �
   pub all : bodies ≡ body ∷ more
 
 -- `b` is `front` and then bytes that are New, with which `l` begins too; `given` are the bodies up to there
-pub record Behind (New : List ℕ → List (List ℕ) → Type 0) (front : List ℕ) (given : List (List ℕ)) (l b after : List ℕ) (bodies : List (List ℕ)) : Type 0 where
+pub record Behind (New : List ℕ → List (List ℕ) → Type 0) (front : List ℕ)
+    (given : List (List ℕ)) (l b after : List ℕ) (bodies : List (List ℕ)) : Type 0 where
   pub rest : List ℕ
   pub more : List (List ℕ)
   pub has : New rest more
@@ -45,7 +55,8 @@ pub record Behind (New : List ℕ → List (List ℕ) → Type 0) (front : List 
 -- does is `front` and then what is New
 pub record Leads (Old New : List ℕ → List (List ℕ) → Type 0) (front : List ℕ) (given : List (List ℕ)) : Type 0 where
   pub there : (b : List ℕ) (more : List (List ℕ)) → New b more → Old (front ++ b) (given ++ more)
-  pub back : (l b after : List ℕ) (bodies : List (List ℕ)) → Old b bodies → front ++ l ≡ b ++ after → Behind New front given l b after bodies
+  pub back : (l b after : List ℕ) (bodies : List (List ℕ))
+      → Old b bodies → front ++ l ≡ b ++ after → Behind New front given l b after bodies
 
 -- `front` goes on from one stage to another over no body, or up to a body of `len` bytes
 abbrev pub Passes : (Option ℕ → Header) → (List ℕ → Type 0) → Stage → Stage → List ℕ → Type 0
@@ -73,7 +84,8 @@ Strays k P old place p b =
 -- the bytes end before a head, or in one, where a string is open
 abbrev pub EndsInside : (Option ℕ → Header) → (List ℕ → Type 0) → Stage → Option (List ℕ) → Type 0
 EndsInside k P old None = Unit {0}
-EndsInside k P old (Some xs) = (front : List ℕ) × (last : List ℕ) × (n : ℕ) × (0 < n) × Passes k P old (Inside n) front × IsCut last × (xs ≡ front ++ last)
+EndsInside k P old (Some xs) =
+    (front : List ℕ) × (last : List ℕ) × (n : ℕ) × (0 < n) × Passes k P old (Inside n) front × IsCut last × (xs ≡ front ++ last)
 
 -- how many strings are open
 abbrev pub opens : Stage → ℕ
@@ -90,14 +102,32 @@ stage_after depth Waiting = Inside depth
 
 -- what a fault on the way to a body tells: an end inside an open string; a stray head, whose place stays; an offset that would
 -- grow too large, or more open strings than `usize` counts
-abbrev pub StageTells : {E : Type 0} → (E → Bool) → (Option ℕ → Header) → (List ℕ → Type 0) → Stage → Stage → Option (List ℕ) → Option (List ℕ) → ℕ → ℕ → Error E → Type 0
-StageTells ends k P old new left left' place place' (Io e) = IsTrue (ends e) → EndsInside k P old left
-StageTells ends k P old new left left' place place' (Syntax p) = (new ≡ Stuck p) × ((old ≡ Stuck p) ⊎ Takes left left' place place' (Strays k P old place p))
-StageTells ends k P old new left left' place place' TooLong = (2 ^ 64 ≤ place' + 9) ⊎ (2 ^ 64 + place ≤ opens old + place' + 1)
-StageTells ends k P old new left left' place place' Waiting = ⊥
+abbrev pub StageFault : {E : Type 0} → (E → Bool) → (Option ℕ → Header) → (List ℕ → Type 0) → Stage → Stage
+    → Option (List ℕ) → Option (List ℕ) → ℕ → ℕ → Error E → Type 0
+StageFault ends k P old new left left' place place' (Io e) = IsTrue (ends e) → EndsInside k P old left
+StageFault ends k P old new left left' place place' (Syntax p) =
+    (new ≡ Stuck p) × ((old ≡ Stuck p) ⊎ Moves left left' place place' (Strays k P old place p))
+StageFault ends k P old new left left' place place' TooLong = (2 ^ 64 ≤ place' + 9) ⊎ (2 ^ 64 + place ≤ opens old + place' + 1)
+StageFault ends k P old new left left' place place' Waiting = ⊥
+
+abbrev pub StageTells : {E : Type 0} → (E → Bool) → (Option ℕ → Header) → (List ℕ → Type 0) → Progress → Progress → Error E → Type 0
+StageTells ends k P old new =
+    StageFault ends k P old.stage new.stage old.decoder.left new.decoder.left old.decoder.offset new.decoder.offset
+
+-- the string has ended
+abbrev pub FindsEnd : (Option ℕ → Header) → (List ℕ → Type 0) → Progress → Progress → Type 0
+FindsEnd k P old new = (new.stage ≡ Inside 0) × Takes old.decoder new.decoder (λ b. Rest k P old.stage b [])
 
 -- a number that falls with each body
 abbrev pub ahead : Stage → ℕ → ℕ
 ahead (One n) place = 2 ^ 64 + 1
 ahead (Inside n) place = 2 ^ 64 - place
 ahead (Stuck p) place = 0
+
+-- a body makes it fall
+abbrev pub Nears : Progress → Progress → Type 0
+Nears old new = ahead new.stage new.decoder.offset < ahead old.stage old.decoder.offset
+
+-- no more strings are open than bytes were taken
+abbrev pub HasRoom : Progress → Progress → Type 0
+HasRoom old new = opens new.stage + old.decoder.offset ≤ opens old.stage + new.decoder.offset

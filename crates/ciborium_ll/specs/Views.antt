@@ -7,6 +7,22 @@ use Rattle.ciborium_ll.specs.declared.enc.Encoder.{Encoder}
 use Rattle.ciborium_ll.specs.declared.mem.Mem.{Mem}
 use Rattle.ciborium_ll.specs.declared.adapters.Io.{Io}
 use Rattle.ciborium_ll.specs.Reading.{due, place}
+use Rattle.ciborium_ll.specs.declared.read.Read.{Ghosts}
+use Rattle.ciborium_ll.specs.Seen.{Seen}
+
+-- what is seen of a decoder; `R.Read` are the words that its reader's bound brings
+abbrev pub seen : {R E : Type 0} → Ghosts R E → Decoder R → Seen
+seen r d = record {
+  left = due (r.left d.reader) d.waiting;
+  offset = place d.read d.waiting;
+  failed = r.failed d.reader;
+  handle = r.handle d.reader;
+  waiting = d.waiting;
+}
+
+-- the same, past a header that waits
+abbrev pub raw : {R E : Type 0} → Ghosts R E → Decoder R → Seen
+raw r d = record { left = r.left d.reader; offset = d.read; failed = r.failed d.reader; handle = r.handle d.reader; waiting = d.waiting }
 
 -- the bytes to come, with the shortest title of a header that waits
 abbrev pub left_of : {R : Type 0} → (R → Option (List ℕ)) → Decoder R → Option (List ℕ)

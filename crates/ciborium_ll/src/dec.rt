@@ -1,11 +1,12 @@
 //! Reads heads and bytes.
-ghost use Rattle.std.specs.Prelude.{◌≡◌, ◌≢◌, ◌<◌, ◌≤◌, ◌+◌, ◌-◌, ◌^◌, ◌∷◌, [], ℕ, List, ⊤, OnOk, OnErr, IfOk, IfErr, IfSome, IfNone, is_some, length, slice_index_or};
+ghost use Rattle.std.specs.Prelude.{◌≡◌, ◌≢◌, ◌<◌, ◌≤◌, ◌+◌, ◌-◌, ◌^◌, ◌∷◌, [], ℕ, List, ⊤, OnOk, OnErr, IfOk, IfErr, IfSome, IfNone};
+ghost use Rattle.std.specs.Prelude.{is_some, length, slice_index_or};
 ghost use Rattle.std.specs.Io.KnownBytes.{Consumes, Keeps, prepend_known};
 ghost use Rattle.ciborium_ll.specs.Device.{IsShort};
 ghost use Rattle.ciborium_ll.specs.declared.hdr.Header.{Header};
 ghost use Rattle.ciborium_ll.specs.declared.hdr.Error.TheVariants.{Waiting};
 ghost use Rattle.ciborium_ll.specs.Title.{Title, NumberAt, title_of, first_byte, bytes_after, IsBadFirst};
-ghost use Rattle.ciborium_ll.specs.Reading.{Takes, Tells, RawFault, IfTooLong, Ends, IsBadByte, failures, waiting_title, due, place};
+ghost use Rattle.ciborium_ll.specs.Reading.{Tells, IfRefused, waiting_title, place};
 
 use crate::hdr::{Error, Float, Header};
 use crate::laws::header_fits;
@@ -39,19 +40,21 @@ impl<R> From<R> for Decoder<R> {
 }
 
 impl<R: Read> Decoder<R> {
-    ghost use Rattle.ciborium_ll.specs.Views.{left_of, offset_of, waiting_of, reader_of};
+    ghost use Rattle.ciborium_ll.specs.Seen.{Takes, Steady, TitleTells, ReadTells};
+    ghost use Rattle.ciborium_ll.specs.Views.{left_of, offset_of, waiting_of, reader_of, seen, raw};
 
     fn fill(&mut self, data: &mut [u8]) -> Result<(), Error<R::Error>>
         requires { self.old.waiting ≡ None }
         ensures ok { OnOk result (Consumes (R.left self.old.reader) (R.left self.new.reader) «data».new) }
         ensures bytes { (i : ℕ) → slice_index_or «data».new i 0 < 256 }
         ensures grown { OnOk result (self.new.read ≡ self.old.read + length «data».old) }
-        ensures fault { IfErr result (Tells R.ends (IsShort (R.left self.old.reader) (length «data».old)) (λ p. ⊥) (2 ^ 64 ≤ self.old.read + length «data».old)) }
-        ensures one { IfErr result (Tells R.ends (length «data».old ≡ 1 → Keeps (R.left self.old.reader) (R.left self.new.reader)) (λ p. ⊥) ⊤) }
+        ensures fault { IfErr result (Tells R.ends (IsShort (R.left self.old.reader) (length «data».old)) (λ p. ⊥)
+            (2 ^ 64 ≤ self.old.read + length «data».old)) }
+        ensures one { IfErr result (Tells R.ends
+            (length «data».old ≡ 1 → Keeps (R.left self.old.reader) (R.left self.new.reader)) (λ p. ⊥) ⊤) }
         ensures place { OnErr result (self.new.read ≡ self.old.read) }
-        ensures untouched { IfTooLong result (self.new.reader ≡ self.old.reader) }
-        ensures failed { R.failed self.new.reader ≡ failures R.ends result (R.failed self.old.reader) }
-        ensures kept { R.handle self.new.reader ≡ R.handle self.old.reader }
+        ensures untouched { IfRefused result ((self.new ≡ self.old) × («data».new ≡ «data».old)) }
+        ensures steady { Steady R.ends result (raw R.Read self.old) (raw R.Read self.new) }
         ensures fresh { self.new.waiting ≡ None }
     {
         if usize::MAX - self.read < data.len() {
@@ -69,11 +72,11 @@ impl<R: Read> Decoder<R> {
     fn number(&mut self, info: u8) -> Result<u64, Error<R::Error>>
         requires small { info < 28 }
         requires fresh { self.old.waiting ≡ None }
-        ensures ok { IfOk result (λ n. Takes (R.left self.old.reader) (R.left self.new.reader) self.old.read self.new.read (λ bytes. NumberAt info bytes n)) }
-        ensures fault { IfErr result (Tells R.ends (IsShort (R.left self.old.reader) (bytes_after info)) (λ p. ⊥) (2 ^ 64 ≤ self.old.read + 8)) }
+        ensures ok { IfOk result (λ n. Takes (raw R.Read self.old) (raw R.Read self.new) (λ bytes. NumberAt info bytes n)) }
+        ensures fault { IfErr result (Tells R.ends (IsShort (R.left self.old.reader) (bytes_after info)) (λ p. ⊥)
+            (2 ^ 64 ≤ self.old.read + 8)) }
         ensures place { OnErr result (self.new.read ≡ self.old.read) }
-        ensures failed { R.failed self.new.reader ≡ failures R.ends result (R.failed self.old.reader) }
-        ensures kept { R.handle self.new.reader ≡ R.handle self.old.reader }
+        ensures steady { Steady R.ends result (raw R.Read self.old) (raw R.Read self.new) }
         ensures fresh { self.new.waiting ≡ None }
     {
         match info {
@@ -108,18 +111,15 @@ impl<R: Read> Decoder<R> {
     /// `Syntax` where the byte at the offset begins no title; that byte is taken. `Io` for a fault of the reader, an end of
     /// the bytes among them: it takes what there was of the title. `TooLong` where the offset could pass `usize::MAX`.
     pub fn pull(&mut self) -> Result<Header, Error<R::Error>>
-        ensures ok { IfOk result (λ h. Takes (left_of R.left self.old) (left_of R.left self.new) (offset_of self.old) (offset_of self.new)
-            (λ b. Title b h)) }
-        ensures fault { IfErr result (Tells R.ends
-            (Ends (left_of R.left self.old) (left_of R.left self.new) (offset_of self.old) (offset_of self.new))
-            (λ p. (p ≡ offset_of self.old) × Takes (left_of R.left self.old) (left_of R.left self.new) (offset_of self.old) (offset_of self.new) IsBadByte)
-            (2 ^ 64 ≤ offset_of self.old + 9)) }
+        ensures ok { IfOk result (λ h. Takes (seen R.Read self.old) (seen R.Read self.new) (λ b. Title b h)) }
+        ensures fault { IfErr result (TitleTells R.ends (seen R.Read self.old) (seen R.Read self.new)) }
         ensures within { IfOk result (λ h. length (title_of h) ≤ offset_of self.new) }
         ensures grows { offset_of self.old ≤ offset_of self.new }
-        ensures waited { (h : Header) → waiting_of self.old ≡ Some h → (result ≡ Ok h) × (reader_of self.new ≡ reader_of self.old) × (offset_of self.new ≡ offset_of self.old + length (title_of h)) }
+        ensures waited { (h : Header) → waiting_of self.old ≡ Some h
+            → (result ≡ Ok h) × (reader_of self.new ≡ reader_of self.old)
+            × (offset_of self.new ≡ offset_of self.old + length (title_of h)) }
         ensures fits { offset_of self.new < 2 ^ 64 }
-        ensures failed { R.failed (reader_of self.new) ≡ failures R.ends result (R.failed (reader_of self.old)) }
-        ensures kept { R.handle (reader_of self.new) ≡ R.handle (reader_of self.old) }
+        ensures steady { Steady R.ends result (seen R.Read self.old) (seen R.Read self.new) }
         ensures fresh { waiting_of self.new ≡ None }
     {
         if let Some(header) = self.waiting.take() {
@@ -138,15 +138,12 @@ impl<R: Read> Decoder<R> {
         ensures ok { OnOk result (Consumes (left_of R.left self.old) (left_of R.left self.new) «data».new) }
         ensures bytes { (i : ℕ) → slice_index_or «data».new i 0 < 256 }
         ensures grown { OnOk result (offset_of self.new ≡ offset_of self.old + length «data».old) }
-        ensures fault { IfErr result (RawFault R.ends (IsShort (left_of R.left self.old) (length «data».old)) (2 ^ 64 ≤ offset_of self.old + length «data».old)
-            ((waiting_of self.old ≢ None) × (waiting_of self.new ≡ waiting_of self.old) × (reader_of self.new ≡ reader_of self.old) × («data».new ≡ «data».old))) }
+        ensures fault { IfErr result (ReadTells R.ends (length «data».old) (seen R.Read self.old) (seen R.Read self.new)) }
         ensures waiting { waiting_of self.old ≢ None → result ≡ Err Waiting }
         ensures place { OnErr result (offset_of self.new ≡ offset_of self.old) }
-        ensures untouched { IfTooLong result (reader_of self.new ≡ reader_of self.old) }
+        ensures untouched { IfRefused result ((self.new ≡ self.old) × («data».new ≡ «data».old)) }
         ensures fits { offset_of self.new < 2 ^ 64 }
-        ensures failed { R.failed (reader_of self.new) ≡ failures R.ends result (R.failed (reader_of self.old)) }
-        ensures kept { R.handle (reader_of self.new) ≡ R.handle (reader_of self.old) }
-        ensures fresh { waiting_of self.old ≡ None → waiting_of self.new ≡ None }
+        ensures steady { Steady R.ends result (seen R.Read self.old) (seen R.Read self.new) }
     {
         if self.is_waiting() {
             return Err(Error::Waiting);
@@ -185,14 +182,10 @@ impl<R: Read> Decoder<R> {
 
     fn pull_title(&mut self) -> Result<Header, Error<R::Error>>
         requires { self.old.waiting ≡ None }
-        ensures ok { IfOk result (λ h. Takes (R.left self.old.reader) (R.left self.new.reader) self.old.read self.new.read (λ b. Title b h)) }
-        ensures fault { IfErr result (Tells R.ends
-            (Ends (R.left self.old.reader) (R.left self.new.reader) self.old.read self.new.read)
-            (λ p. (p ≡ self.old.read) × Takes (R.left self.old.reader) (R.left self.new.reader) self.old.read self.new.read IsBadByte)
-            (2 ^ 64 ≤ self.old.read + 9)) }
+        ensures ok { IfOk result (λ h. Takes (raw R.Read self.old) (raw R.Read self.new) (λ b. Title b h)) }
+        ensures fault { IfErr result (TitleTells R.ends (raw R.Read self.old) (raw R.Read self.new)) }
         ensures grows { self.old.read ≤ self.new.read }
-        ensures failed { R.failed self.new.reader ≡ failures R.ends result (R.failed self.old.reader) }
-        ensures kept { R.handle self.new.reader ≡ R.handle self.old.reader }
+        ensures steady { Steady R.ends result (raw R.Read self.old) (raw R.Read self.new) }
         ensures fresh { self.new.waiting ≡ None }
     {
         let start = self.read;

@@ -1,11 +1,11 @@
 //! How far a string has been read.
-ghost use Rattle.std.specs.Prelude.{ℕ, ◌≡◌, ◌≢◌, ◌+◌, ◌<◌, ◌≤◌, ◌^◌, ◌⊎◌, [], IfOk, IfErr, IfSome, IfNone};
-ghost use Rattle.ciborium_ll.specs.Reading.{Takes, failures};
-ghost use Rattle.ciborium_ll.specs.Stages.{Rest, Reaches, StartsAt, StageTells, stage_after, stage_of, opens, ahead};
-ghost use Rattle.ciborium_ll.specs.Bodies.{unread_of, saved_of, start_of};
+ghost use Rattle.std.specs.Prelude.{ℕ, ◌≡◌, ◌≢◌, ◌<◌, IfOk, IfErr, IfSome, IfNone};
+ghost use Rattle.ciborium_ll.specs.Seen.{Steady};
+ghost use Rattle.ciborium_ll.specs.Stages.{StageTells, FindsEnd, Nears, HasRoom, at, stage_after, stage_of};
+ghost use Rattle.ciborium_ll.specs.Bodies.{unread_of, saved_of, start_of, FindsBody};
 ghost use Rattle.ciborium_ll.specs.declared.stage.Stage.TheVariants.{Inside, Stuck};
 ghost use Rattle.ciborium_ll.specs.declared.hdr.Error.TheVariants.{Syntax};
-ghost use Rattle.ciborium_ll.specs.Views.{left_of, offset_of, waiting_of, reader_of};
+ghost use Rattle.ciborium_ll.specs.Views.{seen};
 
 use crate::body::Body;
 use crate::dec::Decoder;
@@ -41,19 +41,19 @@ pub(crate) fn next_body<R: Read, P: StringKind>(
     decoder: &mut Decoder<R>,
     stage: &mut Stage,
 ) -> Result<Option<Body>, Error<R::Error>>
-    ensures some { IfOk result (λ o. IfSome o (λ body. (saved_of body ≡ []) × Takes (left_of R.left decoder.old) (left_of R.left decoder.new) (offset_of decoder.old) (offset_of decoder.new)
-        (λ front. Reaches P.titled P.allows stage.old (unread_of body) stage.new front × StartsAt P.titled (offset_of decoder.old) (unread_of body) (start_of body) front))) }
-    ensures none { IfOk result (λ o. IfNone o ((stage.new ≡ Inside 0) × Takes (left_of R.left decoder.old) (left_of R.left decoder.new) (offset_of decoder.old) (offset_of decoder.new)
-        (λ b. Rest P.titled P.allows stage.old b []))) }
-    ensures fault { IfErr result (StageTells R.ends P.titled P.allows stage.old stage.new (left_of R.left decoder.old) (left_of R.left decoder.new) (offset_of decoder.old) (offset_of decoder.new)) }
-    ensures moved { IfOk result (λ o. IfSome o (λ body. ahead stage.new (offset_of decoder.new) < ahead stage.old (offset_of decoder.old))) }
+    ensures some { IfOk result (λ o. IfSome o (FindsBody P.titled P.allows
+        (at (seen R.Read decoder.old) stage.old) (at (seen R.Read decoder.new) stage.new))) }
+    ensures none { IfOk result (λ o. IfNone o (FindsEnd P.titled P.allows
+        (at (seen R.Read decoder.old) stage.old) (at (seen R.Read decoder.new) stage.new))) }
+    ensures fault { IfErr result (StageTells R.ends P.titled P.allows
+        (at (seen R.Read decoder.old) stage.old) (at (seen R.Read decoder.new) stage.new)) }
+    ensures moved { IfOk result (λ o. IfSome o (λ body.
+        Nears (at (seen R.Read decoder.old) stage.old) (at (seen R.Read decoder.new) stage.new))) }
     ensures unstuck { IfOk result (λ o. IfSome o (λ body. (p : ℕ) → stage.new ≢ Stuck p)) }
-    ensures room { opens stage.new + offset_of decoder.old ≤ opens stage.old + offset_of decoder.new }
+    ensures room { HasRoom (at (seen R.Read decoder.old) stage.old) (at (seen R.Read decoder.new) stage.new) }
     ensures done { stage.old ≡ Inside 0 → (result ≡ Ok None) × (stage.new ≡ stage.old) × (decoder.new ≡ decoder.old) }
     ensures stuck { (p : ℕ) → stage.old ≡ Stuck p → (result ≡ Err (Syntax p)) × (stage.new ≡ stage.old) × (decoder.new ≡ decoder.old) }
-    ensures failed { R.failed (reader_of decoder.new) ≡ failures R.ends result (R.failed (reader_of decoder.old)) }
-    ensures fresh { waiting_of decoder.old ≡ None → waiting_of decoder.new ≡ None }
-    ensures kept { R.handle (reader_of decoder.new) ≡ R.handle (reader_of decoder.old) }
+    ensures steady { Steady R.ends result (seen R.Read decoder.old) (seen R.Read decoder.new) }
 {
     match *stage {
         Stage::One(len) => {
@@ -78,17 +78,17 @@ fn find_body<R: Read, P: StringKind>(
 ) -> Result<Option<Body>, Error<R::Error>>
     requires some { 0 < depth }
     requires inside { stage.old ≡ Inside depth }
-    ensures some { IfOk result (λ o. IfSome o (λ body. (saved_of body ≡ []) × Takes (left_of R.left decoder.old) (left_of R.left decoder.new) (offset_of decoder.old) (offset_of decoder.new)
-        (λ front. Reaches P.titled P.allows stage.old (unread_of body) stage.new front × StartsAt P.titled (offset_of decoder.old) (unread_of body) (start_of body) front))) }
-    ensures none { IfOk result (λ o. IfNone o ((stage.new ≡ Inside 0) × Takes (left_of R.left decoder.old) (left_of R.left decoder.new) (offset_of decoder.old) (offset_of decoder.new)
-        (λ b. Rest P.titled P.allows stage.old b []))) }
-    ensures fault { IfErr result (StageTells R.ends P.titled P.allows stage.old stage.new (left_of R.left decoder.old) (left_of R.left decoder.new) (offset_of decoder.old) (offset_of decoder.new)) }
-    ensures moved { IfOk result (λ o. IfSome o (λ body. ahead stage.new (offset_of decoder.new) < ahead stage.old (offset_of decoder.old))) }
+    ensures some { IfOk result (λ o. IfSome o (FindsBody P.titled P.allows
+        (at (seen R.Read decoder.old) stage.old) (at (seen R.Read decoder.new) stage.new))) }
+    ensures none { IfOk result (λ o. IfNone o (FindsEnd P.titled P.allows
+        (at (seen R.Read decoder.old) stage.old) (at (seen R.Read decoder.new) stage.new))) }
+    ensures fault { IfErr result (StageTells R.ends P.titled P.allows
+        (at (seen R.Read decoder.old) stage.old) (at (seen R.Read decoder.new) stage.new)) }
+    ensures moved { IfOk result (λ o. IfSome o (λ body.
+        Nears (at (seen R.Read decoder.old) stage.old) (at (seen R.Read decoder.new) stage.new))) }
     ensures unstuck { IfOk result (λ o. IfSome o (λ body. (p : ℕ) → stage.new ≢ Stuck p)) }
-    ensures room { opens stage.new + offset_of decoder.old ≤ opens stage.old + offset_of decoder.new }
-    ensures failed { R.failed (reader_of decoder.new) ≡ failures R.ends result (R.failed (reader_of decoder.old)) }
-    ensures fresh { waiting_of decoder.old ≡ None → waiting_of decoder.new ≡ None }
-    ensures kept { R.handle (reader_of decoder.new) ≡ R.handle (reader_of decoder.old) }
+    ensures room { HasRoom (at (seen R.Read decoder.old) stage.old) (at (seen R.Read decoder.new) stage.new) }
+    ensures steady { Steady R.ends result (seen R.Read decoder.old) (seen R.Read decoder.new) }
 {
     let mut depth = depth;
     while depth > 0 {

@@ -1,8 +1,7 @@
 //! The pieces of a text.
-ghost use Rattle.std.specs.Prelude.{◌≡◌, ◌+◌, ◌≤◌, ◌<◌, ◌^◌, ◌-◌, ◌≢◌, ◌++◌, [], ℕ, List, min, length, take, IfOk, IfErr, OnErr, IfSome, IfNone, IsUtf8};
-ghost use Rattle.ciborium_ll.specs.Reading.{Takes, failures, RawFault};
-ghost use Rattle.ciborium_ll.specs.Device.{IsShort};
-ghost use Rattle.ciborium_ll.specs.Views.{left_of, offset_of, waiting_of, reader_of};
+ghost use Rattle.std.specs.Prelude.{◌≡◌, ◌+◌, ◌≤◌, ◌-◌, ◌++◌, [], ℕ, List, min, length, take, IfOk, IfErr, OnErr, IfSome, IfNone, IsUtf8};
+ghost use Rattle.ciborium_ll.specs.Seen.{Takes, Steady, ReadTells};
+ghost use Rattle.ciborium_ll.specs.Views.{offset_of, seen};
 ghost use Rattle.ciborium_ll.specs.Bodies.{saved_bytes, unread_of, saved_of, start_of, more_of};
 
 use crate::body::{Body, Saved};
@@ -20,15 +19,13 @@ pub(crate) fn fill<R: Read>(
     requires { 4 ≤ length buffer.old }
     ensures count { IfOk result (λ n. n ≡ min (length buffer.old) (length (saved_of body.old) + unread_of body.old)) }
     ensures saved { IfOk result (λ n. saved_of body.new ≡ []) }
-    ensures ok { IfOk result (λ n. Takes (left_of R.left decoder.old) (left_of R.left decoder.new) (offset_of decoder.old) (offset_of decoder.new)
+    ensures ok { IfOk result (λ n. Takes (seen R.Read decoder.old) (seen R.Read decoder.new)
         (λ b. (saved_of body.old ++ b ≡ take n buffer.new) × (unread_of body.new + length b ≡ unread_of body.old))) }
     ensures start { start_of body.new ≡ start_of body.old }
-    ensures fault { IfErr result (RawFault R.ends (IsShort (left_of R.left decoder.old) (more_of body.old (length buffer.old)))
-        (2 ^ 64 ≤ offset_of decoder.old + more_of body.old (length buffer.old)) ((waiting_of decoder.old ≢ None) × (waiting_of decoder.new ≡ waiting_of decoder.old) × (reader_of decoder.new ≡ reader_of decoder.old))) }
+    ensures fault { IfErr result (ReadTells R.ends (more_of body.old (length buffer.old))
+        (seen R.Read decoder.old) (seen R.Read decoder.new)) }
     ensures err { OnErr result ((body.new ≡ body.old) × (offset_of decoder.new ≡ offset_of decoder.old)) }
-    ensures failed { R.failed (reader_of decoder.new) ≡ failures R.ends result (R.failed (reader_of decoder.old)) }
-    ensures fresh { waiting_of decoder.old ≡ None → waiting_of decoder.new ≡ None }
-    ensures kept { R.handle (reader_of decoder.new) ≡ R.handle (reader_of decoder.old) }
+    ensures steady { Steady R.ends result (seen R.Read decoder.old) (seen R.Read decoder.new) }
 {
     body.saved.put(buffer);
     let held = body.saved.len();

@@ -8,3 +8,4 @@ pub mod ValueOrder
 pub mod Lengths
 pub mod Folded
 pub mod OneEncoding
+pub mod EncodedBytes

@@ -283,7 +283,7 @@ mutual
 mutual
   pub fits_sized : (t : Tree) → Fits t → Sized t
   fits_sized (integer i) f = f
-  fits_sized (bytes b) f = f
+  fits_sized (bytes b) f = f.0
   fits_sized (text b) f = f.0
   fits_sized (array ts) f = (f.0, all_sized ts f.1)
   fits_sized (map ps) f = (f.0, pairs_sized ps f.1)

@@ -1,6 +1,6 @@
 -- The one shortest definite text of a tree (RFC 8949, section 4.1): shortest heads, definite lengths, entries in their order,
 -- floats in their width.
-use Rattle.std.specs.Prelude.{ℕ, ℤ, pos, negsuc, ◌^◌, ◌<◌, List, [], ◌++◌, length, Some}
+use Rattle.std.specs.Prelude.{ℕ, ℤ, pos, negsuc, ◌^◌, ◌<◌, List, [], ◌++◌, length, All, Some}
 use Rattle.std.specs.Str.{IsUtf8}
 use Rattle.ciborium_ll.specs.declared.hdr.Header.{Header}
 use Rattle.ciborium_ll.specs.declared.hdr.Header.TheVariants.{Positive, Negative, Simple, Tag, Bytes, Text, Array, Map}
@@ -32,11 +32,11 @@ abbrev mutual
   enc_pairs no_pairs = []
   enc_pairs (pair_more k v ps) = enc k ++ (enc v ++ enc_pairs ps)
 
--- each number lies in its range, each text is UTF-8, and each length is one that a head can have
+-- each number lies in its range, a byte string is bytes, each text is UTF-8, and each length is one that a head can have
 abbrev mutual
   pub Fits : Tree → Type 0
   Fits (integer i) = FitsHeader (int_head i)
-  Fits (bytes b) = length b < 2 ^ 64
+  Fits (bytes b) = (length b < 2 ^ 64) × All (λ x. x < 256) b
   Fits (text b) = (length b < 2 ^ 64) × IsUtf8 b
   Fits (array ts) = (tree_count ts < 2 ^ 64) × FitAll ts
   Fits (map ps) = (pair_count ps < 2 ^ 64) × FitPairs ps

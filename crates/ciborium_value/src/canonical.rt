@@ -9,12 +9,27 @@ ghost use Rattle.ciborium_value.specs.Facts.CanonicalHash.{hashed_by_canonical};
 
 use crate::order::cmp_value;
 use crate::value::Value;
+use std::alloc::{AllocError, Global};
 use std::cmp::Ordering;
 use std::hash::{Hash, Hasher};
 
 /// A value that is compared by its encoding, as `cmp_value` does (RFC 8949, section 4.2.3).
 #[derive(Debug, Drop)]
 pub struct CanonicalValue(pub Value);
+
+impl CanonicalValue {
+    ghost use Rattle.std.specs.Prelude.{◌≡◌, IfOk};
+
+    /// A value equal to this one.
+    ///
+    /// # Errors
+    /// Only where memory is refused.
+    pub fn clone(&self, alloc: Global) -> Result<CanonicalValue, AllocError>
+        ensures { IfOk result (λ copy. view copy.0 ≡ view self.now.0) }
+    {
+        Ok(CanonicalValue(self.0.clone(alloc)?))
+    }
+}
 
 impl PartialEq for CanonicalValue {
     ghost eq = { on (λ v. view v.0) (eq_by_cmp canonical_cmp) };

@@ -4,10 +4,10 @@ ghost use Rattle.ciborium_value.specs.Tree as spec;
 ghost use Rattle.ciborium_value.specs.Numbers.{number_tree, fewest_bytes};
 ghost use Rattle.ciborium_value.specs.View.{view, number_of, views, view_pairs, bool_tree};
 
-use crate::fold::stripped;
+use crate::bignum;
 use crate::integer::Integer;
 use crate::value::Value;
-use ciborium_ll::Float;
+use ciborium_ll::{Float, tag};
 use std::alloc::{AllocError, Global};
 
 impl Value {
@@ -20,7 +20,7 @@ impl Value {
     {
         match u64::try_from(n) {
             Ok(short) => Ok(Value::Integer(Integer::from(short))),
-            Err(_) => bignum(alloc, 2, n),
+            Err(_) => bignum_of(alloc, tag::BIGPOS, n),
         }
     }
 
@@ -77,15 +77,15 @@ fn below_zero(alloc: Global, n: u128) -> Result<Value, AllocError>
 {
     match u64::try_from(n) {
         Ok(short) => Ok(Value::Integer(Integer::negative(short))),
-        Err(_) => bignum(alloc, 3, n),
+        Err(_) => bignum_of(alloc, tag::BIGNEG, n),
     }
 }
 
 /// A tag over the fewest bytes of a number, the highest first.
-fn bignum(alloc: Global, tag: u64, n: u128) -> Result<Value, AllocError>
+fn bignum_of(alloc: Global, tag: u64, n: u128) -> Result<Value, AllocError>
     ensures { IfOk result (λ v. view v ≡ spec.tag tag (spec.bytes (fewest_bytes n))) }
 {
-    let bytes = stripped(alloc, &n.to_be_bytes())?;
+    let bytes = bignum::stripped(&n.to_be_bytes()).to_vec(alloc)?;
     Ok(Value::Tag(tag, Box::new(alloc, Value::Bytes(bytes))?))
 }
 

@@ -1,56 +1,34 @@
 //! What bignum tags fold to.
-ghost use Rattle.std.specs.Prelude.{◌≡◌, ◌⊎◌, ◌<◌, ℕ, List, length, Some, None, IfOk, MatchOption};
-ghost use Rattle.ciborium_value.specs.Folding.{tagged, IsTooNegative, fold_bytes, big_endian_from, without_zeros};
+ghost use Rattle.std.specs.Prelude.{◌≡◌, ◌⊎◌, Some, None, IfOk, MatchOption};
+ghost use Rattle.ciborium_value.specs.Folding.{tagged, IsTooNegative, fold_bytes};
 ghost use Rattle.ciborium_value.specs.View.{view};
 
+use crate::bignum;
 use crate::integer::Integer;
 use crate::value::Value;
+use ciborium_ll::tag;
 use std::alloc::{AllocError, Global};
-
-/// The number of at most 16 bytes, the highest first.
-fn number(bytes: &[u8]) -> u128
-    requires { length bytes.now < 17 }
-    ensures { result ≡ big_endian_from 0 bytes.now }
-{
-    let mut n = 0;
-    for x in bytes {
-        n = n * 256 + u128::from(*x);
-    }
-    n
-}
-
-/// The bytes without the zeros in front.
-pub(crate) fn stripped(alloc: Global, bytes: &[u8]) -> Result<Vec<u8>, AllocError>
-    ensures { IfOk result (λ v. v.items ≡ without_zeros bytes.now) }
-{
-    let mut rest = bytes;
-    'zeros: while let [0, more @ ..] = rest {
-        rest = more;
-    }
-    rest.to_vec(alloc)
-}
 
 /// The value of tag 2 or 3 over bytes, or none where it is too negative.
 fn fold_number(alloc: Global, tag: u64, bytes: Vec<u8>) -> Result<Option<Value>, AllocError>
     requires { (tag ≡ 2) ⊎ (tag ≡ 3) }
     ensures { IfOk result (λ o. MatchOption o ((tag ≡ 3) × (fold_bytes 3 bytes.items ≡ None)) (λ v. fold_bytes tag bytes.items ≡ Some (view v))) }
 {
-    if bytes.len() > 16 {
+    let Some(n) = bignum::number(&bytes) else {
         return Ok(Some(Value::Tag(tag, Box::new(alloc, Value::Bytes(bytes))?)));
-    }
-    let n = number(&bytes);
+    };
     if n < 18446744073709551616 {
-        if tag == 2 {
+        if tag == tag::BIGPOS {
             return Ok(Some(Value::Integer(Integer::from(n as u64))));
         }
         return Ok(Some(Value::Integer(Integer::negative(n as u64))));
     }
-    if tag == 3 {
+    if tag == tag::BIGNEG {
         if n >= 170141183460469231731687303715884105728 {
             return Ok(None);
         }
     }
-    let rest = stripped(alloc, &bytes)?;
+    let rest = bignum::stripped(&bytes).to_vec(alloc)?;
     Ok(Some(Value::Tag(tag, Box::new(alloc, Value::Bytes(rest))?)))
 }
 
@@ -64,10 +42,7 @@ pub fn fold_tag(alloc: Global, tag: u64, content: Value) -> Result<Option<Value>
 {
     match content {
         Value::Bytes(bytes) => {
-            if tag == 2 {
-                return fold_number(alloc, tag, bytes);
-            }
-            if tag == 3 {
+            if tag == tag::BIGPOS || tag == tag::BIGNEG {
                 return fold_number(alloc, tag, bytes);
             }
             Ok(Some(Value::Tag(tag, Box::new(alloc, Value::Bytes(bytes))?)))

@@ -1,5 +1,5 @@
 //! Facts about values, for proofs. The calls change nothing.
-ghost use Rattle.std.specs.Prelude.{◌≡◌, ◌↔◌, ◌++◌, ◌<◌, ◌^◌, IsTrue, ℕ, ℤ, List, Some, length};
+ghost use Rattle.std.specs.Prelude.{◌≡◌, ◌↔◌, ◌++◌, ◌<◌, ◌^◌, IsTrue, ℕ, ℤ, List, Some, length, All};
 ghost use Rattle.std.specs.Cmp.{IsTotalOrder};
 ghost use Rattle.std.specs.Ordering.{int_cmp};
 ghost use Rattle.std.specs.declared.cmp.Ordering.TheVariants.{Equal};
@@ -17,7 +17,7 @@ use crate::value::Value;
 use ciborium_ll::Header;
 use ciborium_ll::laws::header_fits;
 
-/// Each number of a value lies in its range, each text is UTF-8, and each length is one that a head can have.
+/// Each number of a value lies in its range, a byte string is bytes, each text is UTF-8, and each length is one that a head can have.
 pub fn value_fits(value: &Value)
     ensures { Fits (view value.now) }
 {
@@ -121,6 +121,11 @@ pub fn orders_of_encodings()
 pub fn one_encoding()
     ensures once { (t s : Tree) → Fits t → Fits s → enc t ≡ enc s → t ≡ s }
     ensures prefix { (t s : Tree) (u v : List ℕ) → Fits t → Fits s → enc t ++ u ≡ enc s ++ v → (t ≡ s) × (u ≡ v) }
+{}
+
+/// The encoding of a tree that fits is bytes.
+pub fn encodings_are_bytes()
+    ensures { (t : Tree) → Fits t → All (λ x. x < 256) (enc t) }
 {}
 
 /// A folded tree folds to itself.

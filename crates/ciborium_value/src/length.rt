@@ -6,8 +6,8 @@ ghost use Rattle.ciborium_value.specs.View.{number_of, view, views, view_pairs};
 
 use crate::integer::Integer;
 use crate::value::Value;
-use ciborium_ll::Header;
 use ciborium_ll::laws::header_fits;
+use ciborium_ll::{Header, simple};
 
 /// The head of an integer.
 pub(crate) fn integer_header(integer: Integer) -> Header
@@ -43,9 +43,9 @@ pub(crate) fn encoded_len(value: &Value) -> usize
         Value::Text(content) => Header::Text(Some(content.len()))
             .title_len()
             .saturating_add(content.len()),
-        Value::Bool(false) => Header::Simple(20).title_len(),
-        Value::Bool(true) => Header::Simple(21).title_len(),
-        Value::Null => Header::Simple(22).title_len(),
+        Value::Bool(false) => Header::Simple(simple::FALSE).title_len(),
+        Value::Bool(true) => Header::Simple(simple::TRUE).title_len(),
+        Value::Null => Header::Simple(simple::NULL).title_len(),
         Value::Tag(tag, content) => Header::Tag(*tag)
             .title_len()
             .saturating_add(encoded_len(content)),

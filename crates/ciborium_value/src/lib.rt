@@ -3,6 +3,7 @@
 
 mod access;
 mod access_mut;
+pub mod bignum;
 mod canonical;
 mod convert;
 mod fold;

@@ -8,7 +8,7 @@ ghost use Rattle.ciborium_value.specs.View.{number_of, view, views, view_pairs};
 use crate::integer::Integer;
 use crate::length::{encoded_len, integer_header};
 use crate::value::Value;
-use ciborium_ll::Float;
+use ciborium_ll::{Float, simple};
 use std::cmp::Ordering;
 
 #[cfg(test)]
@@ -39,9 +39,9 @@ fn title(value: &Value) -> (u8, u64)
         Value::Array(items) => (4, items.len() as u64),
         Value::Map(entries) => (5, entries.len() as u64),
         Value::Tag(tag, _) => (6, *tag),
-        Value::Bool(false) => (7, 20),
-        Value::Bool(true) => (7, 21),
-        Value::Null => (7, 22),
+        Value::Bool(false) => (7, u64::from(simple::FALSE)),
+        Value::Bool(true) => (7, u64::from(simple::TRUE)),
+        Value::Null => (7, u64::from(simple::NULL)),
         Value::Float(Float::Half(bits)) => (8, *bits as u64),
         Value::Float(Float::Single(bits)) => (9, *bits as u64),
         Value::Float(Float::Double(bits)) => (10, *bits),

@@ -35,9 +35,7 @@ returns-in-None g c = record {
   moved = tt;
   unstuck = tt;
   room = omega (arith, c.loop-depth.invariant.took.grown, c.in-Ok.ensures.grows);
-  failed = search rules;
-  fresh = search rules;
-  kept = search rules;
+  steady = record { failed = search rules; handle = search rules; waiting = search rules };
 }
 
 pub returns-in-Some-Some : goal.returns-in-Some-Some
@@ -52,7 +50,5 @@ returns-in-Some-Some g c = record {
   moved = moved_on _ _ _ _ _ _ c.loop-depth.invariant.took _ c.in-Ok.ensures.ok _ _ c.offset-place.result c.offset-place.ensures (search rules) c.requires.inside;
   unstuck = λ p e. cc;
   room = omega (arith, c.loop-depth.invariant.room, c.in-Ok.ensures.grows);
-  failed = search rules;
-  fresh = search rules;
-  kept = search rules;
+  steady = record { failed = search rules; handle = search rules; waiting = search rules };
 }

@@ -1,6 +1,6 @@
 use Rattle.std.proofs.Common.{arith}
 use Rattle.ciborium_value.proofs.Numbers.{number_step, small_step, below}
-use Rattle.ciborium_value.proofs.fold.number.Goals as goal
+use Rattle.ciborium_value.proofs.bignum.number.Goals as goal
 
 pub overflow_mul-n : goal.overflow_mul-n
 overflow_mul-n c = let b = below c.loop-x.n c.loop-x.x-index c.loop-x.invariant.small (omega arith) in omega arith
