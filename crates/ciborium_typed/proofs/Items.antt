@@ -1,5 +1,5 @@
 -- Items taken one after another.
-use Rattle.std.proofs.Common.{◌≡◌, ◌≢◌, ℕ, true, false, cond, nat_eq, List, [], ◌∷◌, ◌++◌, length, Option, Some, None, Result, Ok, Err, IfErr, refl, sym, ap, subst, ◌∙◌, append_assoc, arith}
+use Rattle.std.proofs.Common.{◌≡◌, ◌≢◌, ℕ, Bool, ◌||◌, IsTrue, true, false, cond, nat_eq, List, [], ◌∷◌, ◌++◌, length, Option, Some, None, Result, Ok, Err, IfErr, refl, sym, ap, subst, ◌∙◌, append_assoc, arith}
 use Rattle.std.proofs.lemmas.Bool.Decides.{nat_tests}
 use Rattle.std.specs.Option.{option_or}
 use Rattle.std.specs.List.{fold}
@@ -22,9 +22,20 @@ none_length (x ∷ xs) e = absurd (omega (arith, e))
 pub none_first : (p q : Option Kind) → p ≡ None → option_or p q ≡ q
 none_first p q e = ap (λ z. option_or z q) e
 
-pub refused_first : (p q : Option Kind) (e : Error) → IsRefusal p e → IsRefusal (option_or p q) e
-refused_first p q (error.Kind k) h = ap (λ z. option_or z q) h
-refused_first p q error.Memory h = tt
+-- the refusal of a part is one of the whole, which grows where the part does
+pub refused_first : (g h : Bool) (p q : Option Kind) (e : Error) → (IsTrue g → IsTrue h) → IsRefusal g p e → IsRefusal h (option_or p q) e
+refused_first g h p q (error.Kind k) w r = ap (λ z. option_or z q) r
+refused_first g h p q error.Memory w r = w r
+
+grown : (g : Bool) → IsTrue g → IsTrue true
+grown g h = refl
+
+pub grows_first : (g h : Bool) → IsTrue g → IsTrue (g || h)
+grows_first g h e = ap (λ z. z || h) e
+
+pub grows_then : (g h : Bool) → IsTrue h → IsTrue (g || h)
+grows_then true h e = refl
+grows_then false h e = e
 
 module _ {T : Type 0} (refusal : Tree → Option Kind) (takes : Tree → T → Type 0) where
   -- the values xs are taken of the items all up to those that are left
@@ -41,9 +52,9 @@ module _ {T : Type 0} (refusal : Tree → Option Kind) (takes : Tree → T → T
     each = λ zs k. subst (λ (z : List T). EachTaken takes (views all) z) (sym (ap (λ (z : List T). z ++ zs) f ∙ append_assoc xs (x ∷ []) zs)) (t.each (x ∷ zs) (subst (λ (z : List Value). EachTaken takes (views z) (x ∷ zs)) (sym e) (h, k)));
   }
 
-  pub taken_refused : (all left rest : List Value) (xs : List T) (v : Value) (e : Error) → left ≡ v ∷ rest → IsRefusal (refusal (view v)) e → TakenTo all left xs → IsRefusal (first_refusal refusal (views all)) e
-  taken_refused all left rest xs v e f h t =
-      subst (λ (z : Option Kind). IsRefusal z e) (sym (ap (λ z. first_refusal refusal (views z)) f) ∙ t.refusals) (refused_first (refusal (view v)) (first_refusal refusal (views rest)) e h)
+  pub taken_refused : (all left rest : List Value) (xs : List T) (v : Value) (g : Bool) (e : Error) → left ≡ v ∷ rest → IsRefusal g (refusal (view v)) e → TakenTo all left xs → IsRefusal true (first_refusal refusal (views all)) e
+  taken_refused all left rest xs v g e f h t =
+      subst (λ (z : Option Kind). IsRefusal true z e) (sym (ap (λ z. first_refusal refusal (views z)) f) ∙ t.refusals) (refused_first g true (refusal (view v)) (first_refusal refusal (views rest)) e (grown g) h)
 
   pub taken_all : (all left : List Value) (xs : List T) → length left ≡ 0 → TakenTo all left xs → (first_refusal refusal (views all) ≡ None) × EachTaken takes (views all) xs
   taken_all all left xs e t =
@@ -85,18 +96,18 @@ module _ {K V : Type 0} (cmp : K → K → Ordering) (of_key of_value : Tree →
         (w.0, w.1, ap (λ (y : List (K × V)). insert_all y zs) f ∙ w.2);
   }
 
-  pub key_refused : (all left rest : List (Value × Value)) (m : List (K × V)) (p : Value × Value) (e : Error) → left ≡ p ∷ rest → IsRefusal (of_key (view p.0)) e → InsertedTo all left m
-      → IsRefusal (first_refusal_of_pairs of_key of_value (view_pairs all)) e
-  key_refused all left rest m p e f h t =
-      subst (λ (z : Option Kind). IsRefusal z e) (sym (ap (λ z. first_refusal_of_pairs of_key of_value (view_pairs z)) f) ∙ t.refusals)
-      (refused_first (of_key (view p.0)) (option_or (of_value (view p.1)) (first_refusal_of_pairs of_key of_value (view_pairs rest))) e h)
+  pub key_refused : (all left rest : List (Value × Value)) (m : List (K × V)) (p : Value × Value) (g : Bool) (e : Error) → left ≡ p ∷ rest → IsRefusal g (of_key (view p.0)) e → InsertedTo all left m
+      → IsRefusal true (first_refusal_of_pairs of_key of_value (view_pairs all)) e
+  key_refused all left rest m p g e f h t =
+      subst (λ (z : Option Kind). IsRefusal true z e) (sym (ap (λ z. first_refusal_of_pairs of_key of_value (view_pairs z)) f) ∙ t.refusals)
+      (refused_first g true (of_key (view p.0)) (option_or (of_value (view p.1)) (first_refusal_of_pairs of_key of_value (view_pairs rest))) e (grown g) h)
 
-  pub value_refused : (all left rest : List (Value × Value)) (m : List (K × V)) (p : Value × Value) (e : Error) → left ≡ p ∷ rest → of_key (view p.0) ≡ None → IsRefusal (of_value (view p.1)) e → InsertedTo all left m
-      → IsRefusal (first_refusal_of_pairs of_key of_value (view_pairs all)) e
-  value_refused all left rest m p e f a h t =
-      subst (λ (z : Option Kind). IsRefusal z e)
+  pub value_refused : (all left rest : List (Value × Value)) (m : List (K × V)) (p : Value × Value) (g : Bool) (e : Error) → left ≡ p ∷ rest → of_key (view p.0) ≡ None → IsRefusal g (of_value (view p.1)) e → InsertedTo all left m
+      → IsRefusal true (first_refusal_of_pairs of_key of_value (view_pairs all)) e
+  value_refused all left rest m p g e f a h t =
+      subst (λ (z : Option Kind). IsRefusal true z e)
       (sym (ap (λ z. first_refusal_of_pairs of_key of_value (view_pairs z)) f ∙ none_first (of_key (view p.0)) (option_or (of_value (view p.1)) (first_refusal_of_pairs of_key of_value (view_pairs rest))) a) ∙ t.refusals)
-      (refused_first (of_value (view p.1)) (first_refusal_of_pairs of_key of_value (view_pairs rest)) e h)
+      (refused_first g true (of_value (view p.1)) (first_refusal_of_pairs of_key of_value (view_pairs rest)) e (grown g) h)
 
   pub inserted_all : (all left : List (Value × Value)) (m : List (K × V)) → length left ≡ 0 → InsertedTo all left m
       → (first_refusal_of_pairs of_key of_value (view_pairs all) ≡ None) × ((es : List (K × V)) × EachPairTaken takes_key takes_value (view_pairs all) es × (m ≡ inserted cmp es))
@@ -110,11 +121,12 @@ module _ {K V : Type 0} (cmp : K → K → Ordering) (of_key of_value : Tree →
 pub turn_taken : (r : Tree → Option Kind) (rs : List (Tree → Option Kind)) (ts us : Trees) (t : Tree) → ts ≡ one_more t us → r t ≡ None → first_in_turn (r ∷ rs) ts ≡ first_in_turn rs us
 turn_taken r rs ts us t e n = ap (first_in_turn (r ∷ rs)) e ∙ none_first (r t) (first_in_turn rs us) n
 
-pub turn_refused : (r : Tree → Option Kind) (rs : List (Tree → Option Kind)) (ts us : Trees) (t : Tree) (e : Error) → ts ≡ one_more t us → IsRefusal (r t) e → IsRefusal (first_in_turn (r ∷ rs) ts) e
-turn_refused r rs ts us t e f h = subst (λ (z : Trees). IsRefusal (first_in_turn (r ∷ rs) z) e) (sym f) (refused_first (r t) (first_in_turn rs us) e h)
+pub turn_refused : (g h : Bool) (r : Tree → Option Kind) (rs : List (Tree → Option Kind)) (ts us : Trees) (t : Tree) (e : Error) → (IsTrue g → IsTrue h) → ts ≡ one_more t us → IsRefusal g (r t) e
+    → IsRefusal h (first_in_turn (r ∷ rs) ts) e
+turn_refused g h r rs ts us t e w f i = subst (λ (z : Trees). IsRefusal h (first_in_turn (r ∷ rs) z) e) (sym f) (refused_first g h (r t) (first_in_turn rs us) e w i)
 
-pub same_refusal : (p q : Option Kind) (e : Error) → p ≡ q → IsRefusal q e → IsRefusal p e
-same_refusal p q e f h = subst (λ (z : Option Kind). IsRefusal z e) (sym f) h
+pub same_refusal : (g : Bool) (p q : Option Kind) (e : Error) → p ≡ q → IsRefusal g q e → IsRefusal g p e
+same_refusal g p q e f h = subst (λ (z : Option Kind). IsRefusal g z e) (sym f) h
 
 pub views_counted : (vs : List Value) → tree_count (views vs) ≡ length vs
 views_counted [] = refl

@@ -1,5 +1,5 @@
 //! What values are read from, and what can be read.
-ghost use Rattle.std.specs.Prelude.{◌≡◌, ◌⊎◌, IfOk, IfErr, Option, None};
+ghost use Rattle.std.specs.Prelude.{◌≡◌, ◌⊎◌, Bool, IfOk, IfErr, Option, None};
 ghost use Rattle.ciborium_value.specs.Tree.{Tree};
 ghost use Rattle.ciborium_value.specs.View.{view};
 ghost use Rattle.ciborium_value.specs.declared.kind.Kind.{Kind as KindOf};
@@ -45,13 +45,16 @@ pub trait Deserialize: Drop {
     /// This value is taken of the item.
     ghost takes: { Tree → Self → Type 0 };
 
+    /// Whether taking may need memory: a type that only moves what the item holds is never refused any.
+    ghost grows: { Bool };
+
     /// Takes the value, whose bignums are folded.
     ///
     /// # Errors
-    /// The value's fault, or `Memory`.
+    /// The value's fault where it is none of this type, or `Memory` where the type grows.
     fn take(alloc: Global, value: Value) -> Result<Self, Error>
         ensures ok { IfOk result (λ x. (refusal (view value) ≡ None) × takes (view value) x) }
-        ensures err { IfErr result (λ e. IsRefusal (refusal (view value)) e) };
+        ensures err { IfErr result (λ e. IsRefusal grows (refusal (view value)) e) };
 
     /// Takes the next item of the source.
     ///
@@ -60,7 +63,7 @@ pub trait Deserialize: Drop {
     fn deserialize<S: Source>(alloc: Global, source: &mut S) -> Result<Self, S::Error>
         ensures ok { IfOk result (λ x. (t : Tree) × S.gives source.old t source.new × (refusal t ≡ None) × takes t x) }
         ensures err { IfErr result (λ e. S.fails source.old e source.new
-            ⊎ ((t : Tree) × (f : ErrorOf) × S.gives source.old t source.new × IsRefusal (refusal t) f × (e ≡ S.refused f))) }
+            ⊎ ((t : Tree) × (f : ErrorOf) × S.gives source.old t source.new × IsRefusal grows (refusal t) f × (e ≡ S.refused f))) }
     {
         let value = source.item()?;
         match Self::take(alloc, value) {

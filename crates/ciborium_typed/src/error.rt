@@ -1,13 +1,15 @@
 //! Why a value is not read as a type.
 use ciborium_value::Kind;
-use std::alloc::AllocError;
+use std::alloc::{AllocError, AllocFailed};
 
 /// Why a value was not read as a type, or not made.
-#[derive(Debug, Clone, Copy, PartialEq, Eq)]
+#[derive(Debug, Clone, Copy, PartialEq, Eq, thiserror::Error)]
 pub enum Error {
     /// The value is none of the type.
+    #[error("{0:?}")]
     Kind(Kind),
     /// Memory was refused.
+    #[error("out of memory")]
     Memory,
 }
 
@@ -29,6 +31,17 @@ impl From<AllocError> for Error {
     ghost from_gives = { λ _ e. e ≡ error.Memory };
 
     fn from(_error: AllocError) -> Error {
+        Error::Memory
+    }
+}
+
+impl<V: Drop> From<AllocFailed<V>> for Error {
+    ghost use Rattle.std.specs.Prelude.{◌≡◌};
+    ghost use Rattle.ciborium_typed.specs.declared.error.Error.TheVariants as error;
+
+    ghost from_gives = { λ _ e. e ≡ error.Memory };
+
+    fn from(_refused: AllocFailed<V>) -> Error {
         Error::Memory
     }
 }

@@ -1,5 +1,8 @@
 //! Facts about what is written and taken, for proofs. The calls change nothing.
-ghost use Rattle.std.specs.Prelude.{◌≡◌, ◌<◌, ◌^◌, ℕ, ℤ, Bool, false, FitsSigned, All, None, Some, MatchOption, String};
+ghost use Rattle.std.specs.Prelude.{◌≡◌, ◌↔◌, ◌++◌, ◌<◌, ◌^◌, ℕ, ℤ, Bool, IsTrue, false, FitsSigned, All, None, Some, MatchOption, String};
+ghost use Rattle.std.specs.Cmp.{IsTotalOrder};
+ghost use Rattle.std.specs.Cmp.Lexicographic.{slice_cmp};
+ghost use Rattle.std.specs.Ordering.{nat_cmp, ordering_then};
 ghost use Rattle.std.specs.Int.{w8, w16, w32, w64, w128};
 ghost use Rattle.std.specs.Char.{IsScalar};
 ghost use Rattle.std.specs.Global.{Global};
@@ -153,23 +156,60 @@ pub fn accepted_values_are_taken_back<V: Serialize + Deserialize, const TAG: u64
     ensures { IsTakenBack V.put V.refusal V.takes accepted.now.0 → opens_none TAG (V.put accepted.now.0) ≡ false → IsTakenBack ⟦<Accepted<V, TAG> as Serialize>⟧.put ⟦<Accepted<V, TAG> as Deserialize>⟧.refusal ⟦<Accepted<V, TAG> as Deserialize>⟧.takes accepted.now }
 {}
 
-/// Equality, order and hash of captured values agree.
+/// Captured values are equal where their tags are and their values are. Their order is total and goes by the tag, none before any,
+/// and then by the value, and they are hashed in that order.
 pub fn captured_values_compare<V: Ord + Hash>(a: &Captured<V>, b: &Captured<V>)
-    ensures { Agree ⟦<Captured<V> as std::cmp::PartialEq>⟧.eq ⟦<Captured<V> as std::cmp::Ord>⟧.cmp ⟦<Captured<V> as std::cmp::PartialOrd>⟧.partial_cmp ⟦<Captured<V> as std::hash::Hash>⟧.hash_input a.now b.now }
+    ensures equality { IsTrue (⟦<Captured<V> as std::cmp::PartialEq>⟧.eq a.now b.now) ↔ ((a.now.0 ≡ b.now.0) × IsTrue (V.eq a.now.1 b.now.1)) }
+    ensures order { ⟦<Captured<V> as std::cmp::Ord>⟧.cmp a.now b.now
+        ≡ ordering_then (⟦<Option<u64> as std::cmp::Ord>⟧.cmp a.now.0 b.now.0) (V.cmp a.now.1 b.now.1) }
+    ensures total { IsTotalOrder ⟦<Captured<V> as std::cmp::Ord>⟧.cmp }
+    ensures hash { ⟦<Captured<V> as std::hash::Hash>⟧.hash_input a.now
+        ≡ ⟦<Option<u64> as std::hash::Hash>⟧.hash_input a.now.0 ++ V.hash_input a.now.1 }
+    ensures agree { Agree ⟦<Captured<V> as std::cmp::PartialEq>⟧.eq ⟦<Captured<V> as std::cmp::Ord>⟧.cmp
+        ⟦<Captured<V> as std::cmp::PartialOrd>⟧.partial_cmp ⟦<Captured<V> as std::hash::Hash>⟧.hash_input a.now b.now }
 {}
 
-/// Equality, order and hash of required values agree.
+/// Required values are compared and hashed as the values in their tag are, and their order is total.
 pub fn required_values_compare<V: Ord + Hash, const TAG: u64>(
     a: &Required<V, TAG>,
     b: &Required<V, TAG>,
 )
-    ensures { Agree ⟦<Required<V, TAG> as std::cmp::PartialEq>⟧.eq ⟦<Required<V, TAG> as std::cmp::Ord>⟧.cmp ⟦<Required<V, TAG> as std::cmp::PartialOrd>⟧.partial_cmp ⟦<Required<V, TAG> as std::hash::Hash>⟧.hash_input a.now b.now }
+    ensures equality { IsTrue (⟦<Required<V, TAG> as std::cmp::PartialEq>⟧.eq a.now b.now) ↔ IsTrue (V.eq a.now.0 b.now.0) }
+    ensures order { ⟦<Required<V, TAG> as std::cmp::Ord>⟧.cmp a.now b.now ≡ V.cmp a.now.0 b.now.0 }
+    ensures total { IsTotalOrder ⟦<Required<V, TAG> as std::cmp::Ord>⟧.cmp }
+    ensures hash { ⟦<Required<V, TAG> as std::hash::Hash>⟧.hash_input a.now ≡ V.hash_input a.now.0 }
+    ensures agree { Agree ⟦<Required<V, TAG> as std::cmp::PartialEq>⟧.eq ⟦<Required<V, TAG> as std::cmp::Ord>⟧.cmp
+        ⟦<Required<V, TAG> as std::cmp::PartialOrd>⟧.partial_cmp ⟦<Required<V, TAG> as std::hash::Hash>⟧.hash_input a.now b.now }
 {}
 
-/// Equality, order and hash of accepted values agree.
+/// Accepted values are compared and hashed as the values in their tag are, and their order is total.
 pub fn accepted_values_compare<V: Ord + Hash, const TAG: u64>(
     a: &Accepted<V, TAG>,
     b: &Accepted<V, TAG>,
 )
-    ensures { Agree ⟦<Accepted<V, TAG> as std::cmp::PartialEq>⟧.eq ⟦<Accepted<V, TAG> as std::cmp::Ord>⟧.cmp ⟦<Accepted<V, TAG> as std::cmp::PartialOrd>⟧.partial_cmp ⟦<Accepted<V, TAG> as std::hash::Hash>⟧.hash_input a.now b.now }
+    ensures equality { IsTrue (⟦<Accepted<V, TAG> as std::cmp::PartialEq>⟧.eq a.now b.now) ↔ IsTrue (V.eq a.now.0 b.now.0) }
+    ensures order { ⟦<Accepted<V, TAG> as std::cmp::Ord>⟧.cmp a.now b.now ≡ V.cmp a.now.0 b.now.0 }
+    ensures total { IsTotalOrder ⟦<Accepted<V, TAG> as std::cmp::Ord>⟧.cmp }
+    ensures hash { ⟦<Accepted<V, TAG> as std::hash::Hash>⟧.hash_input a.now ≡ V.hash_input a.now.0 }
+    ensures agree { Agree ⟦<Accepted<V, TAG> as std::cmp::PartialEq>⟧.eq ⟦<Accepted<V, TAG> as std::cmp::Ord>⟧.cmp
+        ⟦<Accepted<V, TAG> as std::cmp::PartialOrd>⟧.partial_cmp ⟦<Accepted<V, TAG> as std::hash::Hash>⟧.hash_input a.now b.now }
 {}
+
+/// Equality, order and hash of a type agree, and its order is total.
+fn comparisons_agree<T: Ord + Hash>(a: &T, b: &T)
+    ensures total { IsTotalOrder T.cmp }
+    ensures agree { Agree T.eq T.cmp T.partial_cmp T.hash_input a.now b.now }
+{}
+
+/// Byte strings are equal where their bytes are. Their order is total and goes byte by byte, a beginning before the whole, and they
+/// are hashed as their content is.
+pub fn byte_strings_compare(a: &ByteBuf, b: &ByteBuf)
+    ensures equality { IsTrue (⟦<ByteBuf as std::cmp::PartialEq>⟧.eq a.now b.now) ↔ (a.now.0.items ≡ b.now.0.items) }
+    ensures order { ⟦<ByteBuf as std::cmp::Ord>⟧.cmp a.now b.now ≡ slice_cmp nat_cmp a.now.0.items b.now.0.items }
+    ensures total { IsTotalOrder ⟦<ByteBuf as std::cmp::Ord>⟧.cmp }
+    ensures hash { ⟦<ByteBuf as std::hash::Hash>⟧.hash_input a.now ≡ ⟦<Vec<u8> as std::hash::Hash>⟧.hash_input a.now.0 }
+    ensures agree { Agree ⟦<ByteBuf as std::cmp::PartialEq>⟧.eq ⟦<ByteBuf as std::cmp::Ord>⟧.cmp
+        ⟦<ByteBuf as std::cmp::PartialOrd>⟧.partial_cmp ⟦<ByteBuf as std::hash::Hash>⟧.hash_input a.now b.now }
+{
+    comparisons_agree(a, b);
+}

@@ -1,5 +1,5 @@
 //! Lists.
-ghost use Rattle.std.specs.Prelude.{◌≡◌, None, IfOk, IfErr, map};
+ghost use Rattle.std.specs.Prelude.{◌≡◌, None, IfOk, IfErr, map, true};
 ghost use Rattle.ciborium_value.specs.Tree as spec;
 ghost use Rattle.ciborium_value.specs.Tree.{Trees};
 ghost use Rattle.ciborium_value.specs.View.{views, trees};
@@ -36,6 +36,8 @@ impl<T: Deserialize> Deserialize for Vec<T> {
 
     ghost takes = { λ t v. (ts : Trees) × (bare t ≡ spec.array ts) × EachTaken T.takes ts v.items };
 
+    ghost grows = { true };
+
     fn take(alloc: Global, value: Value) -> Result<Vec<T>, Error> {
         match bare(value) {
             Value::Array(items) => take_items(alloc, items),
@@ -47,7 +49,7 @@ impl<T: Deserialize> Deserialize for Vec<T> {
 /// The values that are taken of the items.
 fn take_items<T: Deserialize>(alloc: Global, items: Vec<Value>) -> Result<Vec<T>, Error>
     ensures ok { IfOk result (λ v. (first_refusal T.refusal (views items.items) ≡ None) × EachTaken T.takes (views items.items) v.items) }
-    ensures err { IfErr result (λ e. IsRefusal (first_refusal T.refusal (views items.items)) e) }
+    ensures err { IfErr result (λ e. IsRefusal true (first_refusal T.refusal (views items.items)) e) }
 {
     let mut taken = Vec::new(alloc);
     for item in items {

@@ -1,5 +1,5 @@
 //! Maps.
-ghost use Rattle.std.specs.Prelude.{◌≡◌, None, List, IfOk, IfErr, map};
+ghost use Rattle.std.specs.Prelude.{◌≡◌, None, List, IfOk, IfErr, map, true};
 ghost use Rattle.ciborium_value.specs.Tree as spec;
 ghost use Rattle.ciborium_value.specs.Tree.{Pairs};
 ghost use Rattle.ciborium_value.specs.View.{pairs, view_pairs};
@@ -41,6 +41,8 @@ impl<K: Deserialize + Ord, V: Deserialize> Deserialize for BTreeMap<K, V> {
 
     ghost takes = { λ t m. (ps : Pairs) × (es : List (K × V)) × (bare t ≡ spec.map ps) × EachPairTaken K.takes V.takes ps es × (m.entries ≡ inserted K.cmp es) };
 
+    ghost grows = { true };
+
     fn take(alloc: Global, value: Value) -> Result<BTreeMap<K, V>, Error> {
         match bare(value) {
             Value::Map(entries) => take_entries(alloc, entries),
@@ -56,7 +58,7 @@ fn take_entries<K: Deserialize + Ord, V: Deserialize>(
 ) -> Result<BTreeMap<K, V>, Error>
     ensures ok { IfOk result (λ m. (first_refusal_of_pairs K.refusal V.refusal (view_pairs entries.items) ≡ None)
         × ((es : List (K × V)) × EachPairTaken K.takes V.takes (view_pairs entries.items) es × (m.entries ≡ inserted K.cmp es))) }
-    ensures err { IfErr result (λ e. IsRefusal (first_refusal_of_pairs K.refusal V.refusal (view_pairs entries.items)) e) }
+    ensures err { IfErr result (λ e. IsRefusal true (first_refusal_of_pairs K.refusal V.refusal (view_pairs entries.items)) e) }
 {
     let mut taken = BTreeMap::new(alloc);
     'entries: for entry in entries {

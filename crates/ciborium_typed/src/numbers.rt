@@ -1,5 +1,5 @@
 //! Whole numbers of up to 64 bits.
-ghost use Rattle.std.specs.Prelude.{◌≡◌, pos, None, MatchResult};
+ghost use Rattle.std.specs.Prelude.{◌≡◌, pos, None, MatchResult, false};
 ghost use Rattle.ciborium_value.specs.Tree.{integer as integer_tree};
 ghost use Rattle.ciborium_value.specs.View.{view, number_of};
 ghost use Rattle.ciborium_value.specs.declared.kind.Kind.TheVariants as kind;
@@ -37,6 +37,8 @@ impl Deserialize for u8 {
 
     ghost takes = { λ t n. bare t ≡ integer_tree (pos n) };
 
+    ghost grows = { false };
+
     fn take(_alloc: Global, value: Value) -> Result<u8, Error> {
         match u8::try_from(integer(value)?) {
             Ok(n) => Ok(n),
@@ -57,6 +59,8 @@ impl Deserialize for u16 {
     ghost refusal = { number_refusal (fits_unsigned 16) };
 
     ghost takes = { λ t n. bare t ≡ integer_tree (pos n) };
+
+    ghost grows = { false };
 
     fn take(_alloc: Global, value: Value) -> Result<u16, Error> {
         match u16::try_from(integer(value)?) {
@@ -79,6 +83,8 @@ impl Deserialize for u32 {
 
     ghost takes = { λ t n. bare t ≡ integer_tree (pos n) };
 
+    ghost grows = { false };
+
     fn take(_alloc: Global, value: Value) -> Result<u32, Error> {
         match u32::try_from(integer(value)?) {
             Ok(n) => Ok(n),
@@ -99,6 +105,8 @@ impl Deserialize for u64 {
     ghost refusal = { number_refusal (fits_unsigned 64) };
 
     ghost takes = { λ t n. bare t ≡ integer_tree (pos n) };
+
+    ghost grows = { false };
 
     fn take(_alloc: Global, value: Value) -> Result<u64, Error> {
         match u64::try_from(integer(value)?) {
@@ -121,6 +129,8 @@ impl Deserialize for usize {
 
     ghost takes = { λ t n. bare t ≡ integer_tree (pos n) };
 
+    ghost grows = { false };
+
     fn take(_alloc: Global, value: Value) -> Result<usize, Error> {
         match usize::try_from(integer(value)?) {
             Ok(n) => Ok(n),
@@ -141,6 +151,8 @@ impl Deserialize for i8 {
     ghost refusal = { number_refusal (fits_signed 8) };
 
     ghost takes = { λ t n. bare t ≡ integer_tree n };
+
+    ghost grows = { false };
 
     fn take(_alloc: Global, value: Value) -> Result<i8, Error> {
         match i8::try_from(integer(value)?) {
@@ -163,6 +175,8 @@ impl Deserialize for i16 {
 
     ghost takes = { λ t n. bare t ≡ integer_tree n };
 
+    ghost grows = { false };
+
     fn take(_alloc: Global, value: Value) -> Result<i16, Error> {
         match i16::try_from(integer(value)?) {
             Ok(n) => Ok(n),
@@ -183,6 +197,8 @@ impl Deserialize for i32 {
     ghost refusal = { number_refusal (fits_signed 32) };
 
     ghost takes = { λ t n. bare t ≡ integer_tree n };
+
+    ghost grows = { false };
 
     fn take(_alloc: Global, value: Value) -> Result<i32, Error> {
         match i32::try_from(integer(value)?) {
@@ -205,6 +221,8 @@ impl Deserialize for i64 {
 
     ghost takes = { λ t n. bare t ≡ integer_tree n };
 
+    ghost grows = { false };
+
     fn take(_alloc: Global, value: Value) -> Result<i64, Error> {
         match i64::try_from(integer(value)?) {
             Ok(n) => Ok(n),
@@ -225,6 +243,8 @@ impl Deserialize for isize {
     ghost refusal = { number_refusal (fits_signed 64) };
 
     ghost takes = { λ t n. bare t ≡ integer_tree n };
+
+    ghost grows = { false };
 
     fn take(_alloc: Global, value: Value) -> Result<isize, Error> {
         match isize::try_from(integer(value)?) {

@@ -23,6 +23,8 @@ impl<T: Deserialize> Deserialize for Option<T> {
 
     ghost takes = { OptionalTaken T.takes };
 
+    ghost grows = { T.grows };
+
     fn take(alloc: Global, value: Value) -> Result<Option<T>, Error> {
         match value {
             Value::Null => Ok(None),

@@ -1,5 +1,5 @@
 //! Booleans and null.
-ghost use Rattle.std.specs.Prelude.{◌≡◌, None, Some};
+ghost use Rattle.std.specs.Prelude.{◌≡◌, None, Some, false};
 ghost use Rattle.ciborium_value.specs.Kinds.{is_bool, is_null};
 ghost use Rattle.ciborium_value.specs.Tree as spec;
 ghost use Rattle.ciborium_value.specs.View.{bool_tree};
@@ -25,6 +25,8 @@ impl Deserialize for bool {
 
     ghost takes = { λ t b. bare t ≡ bool_tree b };
 
+    ghost grows = { false };
+
     fn take(_alloc: Global, value: Value) -> Result<bool, Error> {
         match bare(value) {
             Value::Bool(b) => Ok(b),
@@ -45,6 +47,8 @@ impl Deserialize for () {
     ghost refusal = { λ t. unless (is_null (bare t)) };
 
     ghost takes = { λ t _. bare t ≡ spec.simple 22 };
+
+    ghost grows = { false };
 
     fn take(_alloc: Global, value: Value) -> Result<(), Error> {
         match bare(value) {

@@ -1,5 +1,5 @@
 //! Characters, texts and byte strings.
-ghost use Rattle.std.specs.Prelude.{◌≡◌, None, string_bytes, encode_utf8};
+ghost use Rattle.std.specs.Prelude.{◌≡◌, None, IfOk, string_bytes, encode_utf8, false};
 ghost use Rattle.ciborium_value.specs.Kinds.{is_text};
 ghost use Rattle.ciborium_value.specs.Tree as spec;
 ghost use Rattle.ciborium_value.specs.Tree.{is_bytes};
@@ -11,7 +11,7 @@ use crate::error::Error;
 use crate::ser::{Serialize, Sink};
 use crate::untagged::bare;
 use ciborium_value::{Kind, Value};
-use std::alloc::Global;
+use std::alloc::{AllocError, Global};
 
 impl Serialize for char {
     ghost put = { λ c. spec.text (encode_utf8 c) };
@@ -27,6 +27,8 @@ impl Deserialize for char {
 
     ghost takes = { λ t c. bare t ≡ spec.text (encode_utf8 c) };
 
+    ghost grows = { false };
+
     fn take(_alloc: Global, value: Value) -> Result<char, Error> {
         if let Value::Text(text) = bare(value) {
             if let Ok(character) = text.as_str().parse::<char>() {
@@ -40,6 +42,18 @@ impl Deserialize for char {
 /// The content of a byte string. A `Vec<u8>` is an array of numbers.
 #[derive(Debug, PartialEq, Eq, PartialOrd, Ord, Hash, Drop)]
 pub struct ByteBuf(pub Vec<u8>);
+
+impl ByteBuf {
+    /// A byte string with this content.
+    ///
+    /// # Errors
+    /// Only where memory is refused.
+    pub fn clone(&self, alloc: Global) -> Result<ByteBuf, AllocError>
+        ensures { IfOk result (λ copy. copy.0.items ≡ self.now.0.items) }
+    {
+        Ok(ByteBuf(self.0.as_slice().to_vec(alloc)?))
+    }
+}
 
 impl From<Vec<u8>> for ByteBuf {
     ghost from_gives = { λ content b. b.0 ≡ content };
@@ -70,6 +84,8 @@ impl Deserialize for ByteBuf {
 
     ghost takes = { λ t b. bare t ≡ spec.bytes b.0.items };
 
+    ghost grows = { false };
+
     fn take(_alloc: Global, value: Value) -> Result<ByteBuf, Error> {
         match bare(value) {
             Value::Bytes(content) => Ok(ByteBuf(content)),
@@ -98,6 +114,8 @@ impl Deserialize for String {
     ghost refusal = { λ t. unless (is_text (bare t)) };
 
     ghost takes = { λ t s. bare t ≡ spec.text (string_bytes s) };
+
+    ghost grows = { false };
 
     fn take(_alloc: Global, value: Value) -> Result<String, Error> {
         match bare(value) {

@@ -1,5 +1,5 @@
 //! Tuples of one to four: arrays of that length.
-ghost use Rattle.std.specs.Prelude.{◌≡◌, ◌+◌, ◌<◌, [], ◌∷◌, None, IfOk, IfErr};
+ghost use Rattle.std.specs.Prelude.{◌≡◌, ◌+◌, ◌<◌, [], ◌∷◌, ◌||◌, None, IfOk, IfErr};
 ghost use Rattle.std.specs.Vec.Iter.{into_iter_items, into_iter_len};
 ghost use Rattle.ciborium_value.specs.Tree as spec;
 ghost use Rattle.ciborium_value.specs.Tree.{Tree, Trees, one_more};
@@ -19,7 +19,7 @@ use std::vec::IntoIter;
 fn take_next<T: Deserialize>(alloc: Global, items: &mut IntoIter<Value>) -> Result<T, Error>
     requires { 0 < into_iter_len items.old }
     ensures ok { IfOk result (λ x. (t : Tree) × (views (into_iter_items items.old) ≡ one_more t (views (into_iter_items items.new))) × (T.refusal t ≡ None) × T.takes t x) }
-    ensures err { IfErr result (λ e. (t : Tree) × (ts : Trees) × (views (into_iter_items items.old) ≡ one_more t ts) × IsRefusal (T.refusal t) e) }
+    ensures err { IfErr result (λ e. (t : Tree) × (ts : Trees) × (views (into_iter_items items.old) ≡ one_more t ts) × IsRefusal T.grows (T.refusal t) e) }
     ensures len { into_iter_len items.new + 1 ≡ into_iter_len items.old }
 {
     match items.next() {
@@ -45,6 +45,8 @@ impl<A: Deserialize> Deserialize for (A,) {
 
     ghost takes = { λ t p. (a : Tree) × (bare t ≡ spec.array (trees (a ∷ []))) × A.takes a p.0 };
 
+    ghost grows = { A.grows };
+
     fn take(alloc: Global, value: Value) -> Result<(A,), Error> {
         match bare(value) {
             Value::Array(items) => take_one(alloc, items),
@@ -57,7 +59,7 @@ impl<A: Deserialize> Deserialize for (A,) {
 fn take_one<A: Deserialize>(alloc: Global, items: Vec<Value>) -> Result<(A,), Error>
     ensures ok { IfOk result (λ p. (tuple_refusal (A.refusal ∷ []) (views items.items) ≡ None)
         × ((a : Tree) × (views items.items ≡ trees (a ∷ [])) × A.takes a p.0)) }
-    ensures err { IfErr result (λ e. IsRefusal (tuple_refusal (A.refusal ∷ []) (views items.items)) e) }
+    ensures err { IfErr result (λ e. IsRefusal A.grows (tuple_refusal (A.refusal ∷ []) (views items.items)) e) }
 {
     if items.len() != 1 {
         return Err(Error::Kind(Kind::Length));
@@ -91,6 +93,8 @@ impl<A: Deserialize, B: Deserialize> Deserialize for (A, B) {
 
     ghost takes = { λ t p. (a b : Tree) × (bare t ≡ spec.array (trees (a ∷ b ∷ []))) × A.takes a p.0 × B.takes b p.1 };
 
+    ghost grows = { A.grows || B.grows };
+
     fn take(alloc: Global, value: Value) -> Result<(A, B), Error> {
         match bare(value) {
             Value::Array(items) => take_two(alloc, items),
@@ -106,7 +110,7 @@ fn take_two<A: Deserialize, B: Deserialize>(
 ) -> Result<(A, B), Error>
     ensures ok { IfOk result (λ p. (tuple_refusal (A.refusal ∷ B.refusal ∷ []) (views items.items) ≡ None)
         × ((a b : Tree) × (views items.items ≡ trees (a ∷ b ∷ [])) × A.takes a p.0 × B.takes b p.1)) }
-    ensures err { IfErr result (λ e. IsRefusal (tuple_refusal (A.refusal ∷ B.refusal ∷ []) (views items.items)) e) }
+    ensures err { IfErr result (λ e. IsRefusal (A.grows || B.grows) (tuple_refusal (A.refusal ∷ B.refusal ∷ []) (views items.items)) e) }
 {
     if items.len() != 2 {
         return Err(Error::Kind(Kind::Length));
@@ -148,6 +152,8 @@ impl<A: Deserialize, B: Deserialize, C: Deserialize> Deserialize for (A, B, C) {
 
     ghost takes = { λ t p. (a b c : Tree) × (bare t ≡ spec.array (trees (a ∷ b ∷ c ∷ []))) × A.takes a p.0 × B.takes b p.1 × C.takes c p.2 };
 
+    ghost grows = { A.grows || (B.grows || C.grows) };
+
     fn take(alloc: Global, value: Value) -> Result<(A, B, C), Error> {
         match bare(value) {
             Value::Array(items) => take_three(alloc, items),
@@ -163,7 +169,7 @@ fn take_three<A: Deserialize, B: Deserialize, C: Deserialize>(
 ) -> Result<(A, B, C), Error>
     ensures ok { IfOk result (λ p. (tuple_refusal (A.refusal ∷ B.refusal ∷ C.refusal ∷ []) (views items.items) ≡ None)
         × ((a b c : Tree) × (views items.items ≡ trees (a ∷ b ∷ c ∷ [])) × A.takes a p.0 × B.takes b p.1 × C.takes c p.2)) }
-    ensures err { IfErr result (λ e. IsRefusal (tuple_refusal (A.refusal ∷ B.refusal ∷ C.refusal ∷ []) (views items.items)) e) }
+    ensures err { IfErr result (λ e. IsRefusal (A.grows || (B.grows || C.grows)) (tuple_refusal (A.refusal ∷ B.refusal ∷ C.refusal ∷ []) (views items.items)) e) }
 {
     if items.len() != 3 {
         return Err(Error::Kind(Kind::Length));
@@ -213,6 +219,8 @@ impl<A: Deserialize, B: Deserialize, C: Deserialize, D: Deserialize> Deserialize
 
     ghost takes = { λ t p. (a b c d : Tree) × (bare t ≡ spec.array (trees (a ∷ b ∷ c ∷ d ∷ []))) × A.takes a p.0 × B.takes b p.1 × C.takes c p.2 × D.takes d p.3 };
 
+    ghost grows = { A.grows || (B.grows || (C.grows || D.grows)) };
+
     fn take(alloc: Global, value: Value) -> Result<(A, B, C, D), Error> {
         match bare(value) {
             Value::Array(items) => take_four(alloc, items),
@@ -228,7 +236,7 @@ fn take_four<A: Deserialize, B: Deserialize, C: Deserialize, D: Deserialize>(
 ) -> Result<(A, B, C, D), Error>
     ensures ok { IfOk result (λ p. (tuple_refusal (A.refusal ∷ B.refusal ∷ C.refusal ∷ D.refusal ∷ []) (views items.items) ≡ None)
         × ((a b c d : Tree) × (views items.items ≡ trees (a ∷ b ∷ c ∷ d ∷ [])) × A.takes a p.0 × B.takes b p.1 × C.takes c p.2 × D.takes d p.3)) }
-    ensures err { IfErr result (λ e. IsRefusal (tuple_refusal (A.refusal ∷ B.refusal ∷ C.refusal ∷ D.refusal ∷ []) (views items.items)) e) }
+    ensures err { IfErr result (λ e. IsRefusal (A.grows || (B.grows || (C.grows || D.grows))) (tuple_refusal (A.refusal ∷ B.refusal ∷ C.refusal ∷ D.refusal ∷ []) (views items.items)) e) }
 {
     if items.len() != 4 {
         return Err(Error::Kind(Kind::Length));

@@ -1,5 +1,5 @@
 //! Values made of typed values, and typed values taken of values.
-ghost use Rattle.std.specs.Prelude.{◌≡◌, Some, None, IfOk, IfErr};
+ghost use Rattle.std.specs.Prelude.{◌≡◌, true, Some, None, IfOk, IfErr};
 ghost use Rattle.ciborium_value.specs.Folding.{fold};
 ghost use Rattle.ciborium_value.specs.Tree.{Tree};
 ghost use Rattle.ciborium_value.specs.View.{view};
@@ -34,7 +34,7 @@ pub trait ValueTyped {
     /// Why the type doesn't take it, `BigNegative` where it holds a negative bignum below -2^127, or `Memory`.
     fn deserialized<T: Deserialize>(&self, alloc: Global) -> Result<T, Error>
         ensures ok { IfOk result (λ x. (u : Tree) × (fold (tree self.now) ≡ Some u) × (T.refusal u ≡ None) × T.takes u x) }
-        ensures err { IfErr result (λ e. IsRefusal (unread T.refusal (fold (tree self.now))) e) };
+        ensures err { IfErr result (λ e. IsRefusal true (unread T.refusal (fold (tree self.now))) e) };
 }
 
 impl ValueTyped for Value {
@@ -42,10 +42,7 @@ impl ValueTyped for Value {
 
     fn serialized<T: Serialize>(alloc: Global, value: &T) -> Result<Value, Error> {
         let mut sink = ValueSink::new(alloc);
-        match value.serialize(&mut sink) {
-            Ok(()) => {}
-            Err(_) => return Err(Error::Memory),
-        }
+        value.serialize(&mut sink)?;
         match sink.into_items().pop() {
             Some(item) => Ok(item),
             None => unreachable!(),

@@ -3,7 +3,6 @@ ghost use Rattle.std.specs.Prelude.{◌≡◌, [], ◌∷◌, map, IfOk, OnOk, O
 ghost use Rattle.ciborium_value.specs.View.{view};
 ghost use Rattle.ciborium_typed.specs.Stacks.{state_of, added, begun, emptied, after, container_of};
 
-use crate::error::Error;
 use crate::ser::Sink;
 use ciborium_ll::Float;
 use ciborium_value::{Integer, Value};
@@ -88,15 +87,15 @@ impl ValueSink {
     }
 
     /// Drops what is not whole.
-    fn give_up(&mut self) -> Error
+    fn give_up(&mut self) -> AllocError
         ensures { state_of self.new ≡ emptied (state_of self.old) }
     {
         self.levels.clear();
-        Error::Memory
+        AllocError
     }
 
     /// Adds an item.
-    fn add(&mut self, item: Value) -> Result<(), Error>
+    fn add(&mut self, item: Value) -> Result<(), AllocError>
         ensures ok { OnOk result (state_of self.new ≡ added (view item) (state_of self.old)) }
         ensures err { OnErr result (state_of self.new ≡ emptied (state_of self.old)) }
     {
@@ -107,7 +106,7 @@ impl ValueSink {
     }
 
     /// Begins a tag, an array or a map.
-    fn begin(&mut self, level: Level) -> Result<(), Error>
+    fn begin(&mut self, level: Level) -> Result<(), AllocError>
         ensures ok { OnOk result (state_of self.new ≡ begun (container_of level) (state_of self.old)) }
         ensures err { OnErr result (state_of self.new ≡ emptied (state_of self.old)) }
     {
@@ -119,54 +118,54 @@ impl ValueSink {
 }
 
 impl Sink for ValueSink {
-    type Error = Error;
+    type Error = AllocError;
 
     ghost adds = { λ s e s2. state_of s2 ≡ after (state_of s) e };
 
     ghost refuses = { λ s e s2. state_of s2 ≡ emptied (state_of s) };
 
-    fn integer(&mut self, number: Integer) -> Result<(), Error> {
+    fn integer(&mut self, number: Integer) -> Result<(), AllocError> {
         self.add(Value::Integer(number))
     }
 
-    fn bytes(&mut self, bytes: &[u8]) -> Result<(), Error> {
+    fn bytes(&mut self, bytes: &[u8]) -> Result<(), AllocError> {
         match bytes.to_vec(self.alloc) {
             Ok(copy) => self.add(Value::Bytes(copy)),
             Err(_) => Err(self.give_up()),
         }
     }
 
-    fn float(&mut self, float: Float) -> Result<(), Error> {
+    fn float(&mut self, float: Float) -> Result<(), AllocError> {
         self.add(Value::Float(float))
     }
 
-    fn text(&mut self, text: &str) -> Result<(), Error> {
+    fn text(&mut self, text: &str) -> Result<(), AllocError> {
         match String::from_str(self.alloc, text) {
             Ok(copy) => self.add(Value::Text(copy)),
             Err(_) => Err(self.give_up()),
         }
     }
 
-    fn boolean(&mut self, value: bool) -> Result<(), Error> {
+    fn boolean(&mut self, value: bool) -> Result<(), AllocError> {
         self.add(Value::Bool(value))
     }
 
-    fn null(&mut self) -> Result<(), Error> {
+    fn null(&mut self) -> Result<(), AllocError> {
         self.add(Value::Null)
     }
 
-    fn tag(&mut self, tag: u64) -> Result<(), Error> {
+    fn tag(&mut self, tag: u64) -> Result<(), AllocError> {
         self.begin(Level::Tag(tag))
     }
 
-    fn array(&mut self, len: usize) -> Result<(), Error> {
+    fn array(&mut self, len: usize) -> Result<(), AllocError> {
         if len == 0 {
             return self.add(Value::Array(Vec::new(self.alloc)));
         }
         self.begin(Level::Array(Vec::new(self.alloc), len - 1))
     }
 
-    fn map(&mut self, len: usize) -> Result<(), Error> {
+    fn map(&mut self, len: usize) -> Result<(), AllocError> {
         if len == 0 {
             return self.add(Value::Map(Vec::new(self.alloc)));
         }

@@ -1,5 +1,5 @@
 //! One value as a source.
-ghost use Rattle.std.specs.Prelude.{◌≡◌, None, Some};
+ghost use Rattle.std.specs.Prelude.{◌≡◌, true, None, Some};
 ghost use Rattle.ciborium_value.specs.Folding.{fold};
 ghost use Rattle.ciborium_value.specs.View.{view};
 ghost use Rattle.ciborium_value.specs.declared.value.Value.{Value as ValueOf};
@@ -38,7 +38,7 @@ impl Source for ValueSource {
 
     ghost gives = { λ s t s2. (v : ValueOf) × (s.item ≡ Some v) × (fold (view v) ≡ Some t) × (s2.item ≡ None) };
 
-    ghost fails = { λ s e s2. IsRefusal (missing s.item) e × (s2.item ≡ s.item) };
+    ghost fails = { λ s e s2. IsRefusal true (missing s.item) e × (s2.item ≡ s.item) };
 
     ghost refused = { λ e. e };
 

@@ -1,5 +1,5 @@
 //! Values as they stand.
-ghost use Rattle.std.specs.Prelude.{◌≡◌, None, OnOk, OnErr};
+ghost use Rattle.std.specs.Prelude.{◌≡◌, None, OnOk, OnErr, false};
 ghost use Rattle.ciborium_value.specs.View.{view};
 ghost use Rattle.ciborium_typed.specs.Events.{events, AllAdded, Stopped};
 
@@ -74,6 +74,8 @@ impl Deserialize for Value {
 
     ghost takes = { λ t v. view v ≡ t };
 
+    ghost grows = { false };
+
     fn take(_alloc: Global, value: Value) -> Result<Value, Error> {
         Ok(value)
     }
@@ -91,6 +93,8 @@ impl Deserialize for CanonicalValue {
     ghost refusal = { λ t. None };
 
     ghost takes = { λ t c. view c.0 ≡ t };
+
+    ghost grows = { false };
 
     fn take(_alloc: Global, value: Value) -> Result<CanonicalValue, Error> {
         Ok(CanonicalValue(value))

@@ -1,5 +1,5 @@
 //! Whole numbers of 128 bits. Writing them takes no memory.
-ghost use Rattle.std.specs.Prelude.{◌≡◌, ◌<◌, pos, length, OnOk, OnErr, Some, option_map};
+ghost use Rattle.std.specs.Prelude.{◌≡◌, ◌<◌, pos, length, OnOk, OnErr, Some, option_map, false};
 ghost use Rattle.ciborium_value.specs.Folding.{big_endian_from, without_zeros};
 ghost use Rattle.ciborium_value.specs.Numbers.{number_tree, fewest_bytes};
 ghost use Rattle.ciborium_value.specs.Tree as spec;
@@ -130,6 +130,8 @@ impl Deserialize for u128 {
 
     ghost takes = { λ t n. wide_number t ≡ Some (pos n) };
 
+    ghost grows = { false };
+
     fn take(_alloc: Global, value: Value) -> Result<u128, Error> {
         match whole_number(value) {
             Some(Whole::Positive(n)) => Ok(n),
@@ -151,6 +153,8 @@ impl Deserialize for i128 {
     ghost refusal = { λ t. within (fits_signed 128) (wide_number t) };
 
     ghost takes = { λ t n. wide_number t ≡ Some n };
+
+    ghost grows = { false };
 
     fn take(_alloc: Global, value: Value) -> Result<i128, Error> {
         match whole_number(value) {

@@ -12,7 +12,7 @@ loop-item-preserved g c =
     taken_one g.T.Deserialize.refusal g.T.Deserialize.takes _ _ _ _ _ c.in-Some.item c.in-Ok.x c.in-Some.ensures.steps.0 c.in-Ok-push.ensures.items c.in-Ok.ensures.ok.0 c.in-Ok.ensures.ok.1 c.loop-item.invariant
 
 pub returns-in-Err-clause-err : goal.returns-in-Err-clause-err
-returns-in-Err-clause-err g c = taken_refused g.T.Deserialize.refusal g.T.Deserialize.takes _ _ _ _ c.in-Some.item c.in-Err.error c.in-Some.ensures.steps.0 c.in-Err.ensures.err c.loop-item.invariant
+returns-in-Err-clause-err g c = taken_refused g.T.Deserialize.refusal g.T.Deserialize.takes _ _ _ _ c.in-Some.item g.T.Deserialize.grows c.in-Err.error c.in-Some.ensures.steps.0 c.in-Err.ensures.err c.loop-item.invariant
 
 pub returns-clause-ok : goal.returns-clause-ok
 returns-clause-ok g c = taken_all g.T.Deserialize.refusal g.T.Deserialize.takes _ _ _ (sym c.loop-item.item-iterator.rest.ok.0 ∙ c.in-None.ensures.steps.0) c.loop-item.invariant

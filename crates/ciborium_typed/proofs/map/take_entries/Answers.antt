@@ -18,11 +18,11 @@ entries-preserved-in-Ok-insert g c =
 
 pub returns-in-Err-clause-err : goal.returns-in-Err-clause-err
 returns-in-Err-clause-err g c =
-    key_refused g.K.Ord.cmp g.K.Deserialize.refusal g.V.Deserialize.refusal g.K.Deserialize.takes g.V.Deserialize.takes _ _ _ _ c.in-Some.entry c.in-Err.error c.in-Some.ensures.steps.0 c.in-Err.ensures.err c.entries.invariant
+    key_refused g.K.Ord.cmp g.K.Deserialize.refusal g.V.Deserialize.refusal g.K.Deserialize.takes g.V.Deserialize.takes _ _ _ _ c.in-Some.entry g.K.Deserialize.grows c.in-Err.error c.in-Some.ensures.steps.0 c.in-Err.ensures.err c.entries.invariant
 
 pub returns-in-Err-take-clause-err : goal.returns-in-Err-take-clause-err
 returns-in-Err-take-clause-err g c =
-    value_refused g.K.Ord.cmp g.K.Deserialize.refusal g.V.Deserialize.refusal g.K.Deserialize.takes g.V.Deserialize.takes _ _ _ _ c.in-Some.entry c.in-Err-take.error c.in-Some.ensures.steps.0 c.in-Ok.ensures.ok.0 c.in-Err-take.ensures.err
+    value_refused g.K.Ord.cmp g.K.Deserialize.refusal g.V.Deserialize.refusal g.K.Deserialize.takes g.V.Deserialize.takes _ _ _ _ c.in-Some.entry g.V.Deserialize.grows c.in-Err-take.error c.in-Some.ensures.steps.0 c.in-Ok.ensures.ok.0 c.in-Err-take.ensures.err
     c.entries.invariant
 
 pub returns-clause-ok : goal.returns-clause-ok

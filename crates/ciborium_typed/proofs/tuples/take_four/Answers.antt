@@ -1,8 +1,8 @@
-use Rattle.std.proofs.Common.{◌≡◌, [], ◌∷◌, sym, ap, ◌∙◌}
+use Rattle.std.proofs.Common.{◌≡◌, ◌||◌, [], ◌∷◌, sym, ap, ◌∙◌}
 use Rattle.ciborium_value.specs.Tree.{tree_count}
 use Rattle.ciborium_value.specs.View.{views}
 use Rattle.ciborium_typed.specs.Lists.{first_in_turn}
-use Rattle.ciborium_typed.proofs.Items.{same_refusal, turn_taken, turn_refused, tuple_of_length, tuple_of_other_length, views_counted}
+use Rattle.ciborium_typed.proofs.Items.{grows_first, grows_then, same_refusal, turn_taken, turn_refused, tuple_of_length, tuple_of_other_length, views_counted}
 use Rattle.ciborium_typed.proofs.tuples.take_four.Goals as goal
 
 pub returns-then-len-ne4-clause-err : goal.returns-then-len-ne4-clause-err
@@ -15,7 +15,7 @@ returns-in-Err-clause-err g c =
     let e0 = ap views c.into_iter-items.ensures.rest in
     let r0 = tuple_of_length (g.A.Deserialize.refusal ∷ g.B.Deserialize.refusal ∷ g.C.Deserialize.refusal ∷ g.D.Deserialize.refusal ∷ []) (views c.args.items.items) n ∙ ap (first_in_turn (g.A.Deserialize.refusal ∷ g.B.Deserialize.refusal ∷ g.C.Deserialize.refusal ∷ g.D.Deserialize.refusal ∷ [])) (sym e0) in
     let f = c.in-Err.ensures.err in
-    same_refusal _ _ c.in-Err.error r0 (turn_refused g.A.Deserialize.refusal (g.B.Deserialize.refusal ∷ g.C.Deserialize.refusal ∷ g.D.Deserialize.refusal ∷ []) _ f.1 f.0 c.in-Err.error f.2 f.3)
+    same_refusal (g.A.Deserialize.grows || (g.B.Deserialize.grows || (g.C.Deserialize.grows || g.D.Deserialize.grows))) _ _ c.in-Err.error r0 (turn_refused g.A.Deserialize.grows (g.A.Deserialize.grows || (g.B.Deserialize.grows || (g.C.Deserialize.grows || g.D.Deserialize.grows))) g.A.Deserialize.refusal (g.B.Deserialize.refusal ∷ g.C.Deserialize.refusal ∷ g.D.Deserialize.refusal ∷ []) _ f.1 f.0 c.in-Err.error (λ h. (grows_first g.A.Deserialize.grows (g.B.Deserialize.grows || (g.C.Deserialize.grows || g.D.Deserialize.grows)) h)) f.2 f.3)
 
 pub returns-in-Err-take_next-clause-err : goal.returns-in-Err-take_next-clause-err
 returns-in-Err-take_next-clause-err g c =
@@ -25,7 +25,7 @@ returns-in-Err-take_next-clause-err g c =
     let o1 = c.in-Ok.ensures.ok in
     let r1 = r0 ∙ turn_taken g.A.Deserialize.refusal (g.B.Deserialize.refusal ∷ g.C.Deserialize.refusal ∷ g.D.Deserialize.refusal ∷ []) _ _ o1.0 o1.1 o1.2 in
     let f = c.in-Err-take_next.ensures.err in
-    same_refusal _ _ c.in-Err-take_next.error r1 (turn_refused g.B.Deserialize.refusal (g.C.Deserialize.refusal ∷ g.D.Deserialize.refusal ∷ []) _ f.1 f.0 c.in-Err-take_next.error f.2 f.3)
+    same_refusal (g.A.Deserialize.grows || (g.B.Deserialize.grows || (g.C.Deserialize.grows || g.D.Deserialize.grows))) _ _ c.in-Err-take_next.error r1 (turn_refused g.B.Deserialize.grows (g.A.Deserialize.grows || (g.B.Deserialize.grows || (g.C.Deserialize.grows || g.D.Deserialize.grows))) g.B.Deserialize.refusal (g.C.Deserialize.refusal ∷ g.D.Deserialize.refusal ∷ []) _ f.1 f.0 c.in-Err-take_next.error (λ h. (grows_then g.A.Deserialize.grows (g.B.Deserialize.grows || (g.C.Deserialize.grows || g.D.Deserialize.grows)) (grows_first g.B.Deserialize.grows (g.C.Deserialize.grows || g.D.Deserialize.grows) h))) f.2 f.3)
 
 pub returns-in-Err-take_next-2-clause-err : goal.returns-in-Err-take_next-2-clause-err
 returns-in-Err-take_next-2-clause-err g c =
@@ -37,7 +37,7 @@ returns-in-Err-take_next-2-clause-err g c =
     let o2 = c.in-Ok-take_next.ensures.ok in
     let r2 = r1 ∙ turn_taken g.B.Deserialize.refusal (g.C.Deserialize.refusal ∷ g.D.Deserialize.refusal ∷ []) _ _ o2.0 o2.1 o2.2 in
     let f = c.in-Err-take_next-2.ensures.err in
-    same_refusal _ _ c.in-Err-take_next-2.error r2 (turn_refused g.C.Deserialize.refusal (g.D.Deserialize.refusal ∷ []) _ f.1 f.0 c.in-Err-take_next-2.error f.2 f.3)
+    same_refusal (g.A.Deserialize.grows || (g.B.Deserialize.grows || (g.C.Deserialize.grows || g.D.Deserialize.grows))) _ _ c.in-Err-take_next-2.error r2 (turn_refused g.C.Deserialize.grows (g.A.Deserialize.grows || (g.B.Deserialize.grows || (g.C.Deserialize.grows || g.D.Deserialize.grows))) g.C.Deserialize.refusal (g.D.Deserialize.refusal ∷ []) _ f.1 f.0 c.in-Err-take_next-2.error (λ h. (grows_then g.A.Deserialize.grows (g.B.Deserialize.grows || (g.C.Deserialize.grows || g.D.Deserialize.grows)) (grows_then g.B.Deserialize.grows (g.C.Deserialize.grows || g.D.Deserialize.grows) (grows_first g.C.Deserialize.grows g.D.Deserialize.grows h)))) f.2 f.3)
 
 pub returns-in-Err-take_next-3-clause-err : goal.returns-in-Err-take_next-3-clause-err
 returns-in-Err-take_next-3-clause-err g c =
@@ -51,4 +51,4 @@ returns-in-Err-take_next-3-clause-err g c =
     let o3 = c.in-Ok-take_next-2.ensures.ok in
     let r3 = r2 ∙ turn_taken g.C.Deserialize.refusal (g.D.Deserialize.refusal ∷ []) _ _ o3.0 o3.1 o3.2 in
     let f = c.in-Err-take_next-3.ensures.err in
-    same_refusal _ _ c.in-Err-take_next-3.error r3 (turn_refused g.D.Deserialize.refusal ([]) _ f.1 f.0 c.in-Err-take_next-3.error f.2 f.3)
+    same_refusal (g.A.Deserialize.grows || (g.B.Deserialize.grows || (g.C.Deserialize.grows || g.D.Deserialize.grows))) _ _ c.in-Err-take_next-3.error r3 (turn_refused g.D.Deserialize.grows (g.A.Deserialize.grows || (g.B.Deserialize.grows || (g.C.Deserialize.grows || g.D.Deserialize.grows))) g.D.Deserialize.refusal ([]) _ f.1 f.0 c.in-Err-take_next-3.error (λ h. (grows_then g.A.Deserialize.grows (g.B.Deserialize.grows || (g.C.Deserialize.grows || g.D.Deserialize.grows)) (grows_then g.B.Deserialize.grows (g.C.Deserialize.grows || g.D.Deserialize.grows) (grows_then g.C.Deserialize.grows g.D.Deserialize.grows h)))) f.2 f.3)

@@ -15,4 +15,4 @@ returns-in-Err-clause-err g c =
     let e0 = ap views c.into_iter-items.ensures.rest in
     let r0 = tuple_of_length (g.A.Deserialize.refusal ∷ []) (views c.args.items.items) n ∙ ap (first_in_turn (g.A.Deserialize.refusal ∷ [])) (sym e0) in
     let f = c.in-Err.ensures.err in
-    same_refusal _ _ c.in-Err.error r0 (turn_refused g.A.Deserialize.refusal ([]) _ f.1 f.0 c.in-Err.error f.2 f.3)
+    same_refusal g.A.Deserialize.grows _ _ c.in-Err.error r0 (turn_refused g.A.Deserialize.grows g.A.Deserialize.grows g.A.Deserialize.refusal ([]) _ f.1 f.0 c.in-Err.error (λ h. h) f.2 f.3)
