@@ -3,6 +3,7 @@ pub mod Once
 pub mod Taking
 pub mod StringLemmas
 pub mod ReadLemmas
+pub mod ReaderLemmas
 pub mod ChildLemmas
 pub mod TagLemmas
 pub mod Steps

@@ -1,17 +1,18 @@
 //! Reads items.
 ghost use Rattle.std.specs.Prelude.{◌≡◌, ◌<◌, ◌+◌, ◌^◌, IfOk, IfErr, OnOk, Some, [], length};
-ghost use Rattle.ciborium_ll.specs.Reading.{Takes};
+ghost use Rattle.ciborium_ll.specs.Reading.{Moves};
+ghost use Rattle.ciborium_ll.specs.Seen.{Takes};
 ghost use Rattle.ciborium_ll.specs.Title.{title_of};
 ghost use Rattle.ciborium_ll.specs.declared.hdr.Header.{Header};
-ghost use Rattle.ciborium_ll.specs.Views.{left_of, offset_of, waiting_of, reader_of};
+ghost use Rattle.ciborium_ll.specs.Views.{left_of, offset_of, waiting_of, reader_of, seen};
 ghost use Rattle.ciborium_value.specs.View.{view};
 ghost use Rattle.ciborium.specs.Front.{Reads};
 ghost use Rattle.ciborium.specs.Damage.{Damage};
 ghost use Rattle.ciborium.specs.Items.{nesting};
-ghost use Rattle.ciborium.specs.Reading.{FailsAt, Known, IsNoMemory, ReadsBehind, failures};
-ghost use Rattle.ciborium.specs.Typed.{ReadsAs, Took, IsUnread};
+ghost use Rattle.ciborium.specs.Reading.{NamesFault, Steady, IsNoMemory, ReadsBehind, failures};
+ghost use Rattle.ciborium.specs.Typed.{ReadsAs, Gives, IsUnread};
 
-use crate::reader::read_item;
+use crate::reader::{ROOM, read_item};
 pub use crate::source::Deserializer;
 use crate::strings::next_title;
 use crate::typed::typed_item;
@@ -89,23 +90,20 @@ pub fn from_decoder<R: Read>(
     decoder: &mut Decoder<R>,
     limit: usize,
 ) -> Result<Value, Error<R::Error>>
-    ensures ok { IfOk result (λ v. Takes (left_of R.left decoder.old) (left_of R.left decoder.new) (offset_of decoder.old) (offset_of decoder.new)
-        (λ b. Reads b limit (view v))) }
-    ensures err { IfErr result (λ e. Known (left_of R.left decoder.old) (λ b. FailsAt R.ends b (offset_of decoder.old) (offset_of decoder.new)
-        (λ stop b f. Damage stop b limit f) e)) }
+    ensures ok { IfOk result (λ v. Takes (seen R.Read decoder.old) (seen R.Read decoder.new) (λ b. Reads b limit (view v))) }
+    ensures err { IfErr result (NamesFault R.ends (λ stop b f. Damage stop b limit f)
+        (seen R.Read decoder.old) (seen R.Read decoder.new)) }
     ensures nothing { left_of R.left decoder.old ≡ Some [] → IfErr result IsNoMemory }
     ensures some { left_of R.left decoder.old ≡ Some [] → OnOk result ⊥ }
-    ensures failed { R.failed (reader_of decoder.new) ≡ failures R.ends result (R.failed (reader_of decoder.old)) }
-    ensures kept { R.handle (reader_of decoder.new) ≡ R.handle (reader_of decoder.old) }
+    ensures steady { Steady R.ends result (seen R.Read decoder.old) (seen R.Read decoder.new) }
     ensures fits { offset_of decoder.new < 2 ^ 64 }
 
     // A header that waits is the item's: its content is taken of the reader.
-    ensures waited { (h : Header) → waiting_of decoder.old ≡ Some h → IfOk result (λ v. Takes (R.left (reader_of decoder.old))
+    ensures waited { (h : Header) → waiting_of decoder.old ≡ Some h → IfOk result (λ v. Moves (R.left (reader_of decoder.old))
         (left_of R.left decoder.new) (offset_of decoder.old + length (title_of h)) (offset_of decoder.new) (ReadsBehind h limit (view v))) }
-    ensures fresh { waiting_of decoder.new ≡ None }
 {
     let (at, header) = next_title(decoder)?;
-    let value = read_item(alloc, decoder, header, at, limit)?;
+    let value = read_item(alloc, decoder, header, at, limit, ROOM)?;
     Ok(value)
 }
 
@@ -119,7 +117,7 @@ pub fn from_reader<T: Deserialize, R: Read>(
     alloc: Global,
     reader: &mut R,
 ) -> Result<T, Error<R::Error>>
-    ensures ok { IfOk result (λ x. Took (R.left reader.old) (R.left reader.new) (ReadsAs T.refusal T.takes nesting x)) }
+    ensures ok { IfOk result (λ x. Gives (R.left reader.old) (R.left reader.new) (ReadsAs T.refusal T.takes nesting x)) }
     ensures err { IfErr result (IsUnread R.ends T.refusal nesting (R.left reader.old) (R.left reader.new)) }
     ensures nothing { R.left reader.old ≡ Some [] → IfErr result IsNoMemory }
     ensures failed { R.failed reader.new ≡ failures R.ends result (R.failed reader.old) }
@@ -134,7 +132,7 @@ pub fn from_reader_with_buffer<T: Deserialize, R: Read>(
     reader: &mut R,
     scratch_buffer: &mut [u8],
 ) -> Result<T, Error<R::Error>>
-    ensures ok { IfOk result (λ x. Took (R.left reader.old) (R.left reader.new) (ReadsAs T.refusal T.takes nesting x)) }
+    ensures ok { IfOk result (λ x. Gives (R.left reader.old) (R.left reader.new) (ReadsAs T.refusal T.takes nesting x)) }
     ensures err { IfErr result (IsUnread R.ends T.refusal nesting (R.left reader.old) (R.left reader.new)) }
     ensures nothing { R.left reader.old ≡ Some [] → IfErr result IsNoMemory }
     ensures failed { R.failed reader.new ≡ failures R.ends result (R.failed reader.old) }
@@ -151,7 +149,7 @@ pub fn from_reader_with_recursion_limit<T: Deserialize, R: Read>(
     reader: &mut R,
     recursion_limit: usize,
 ) -> Result<T, Error<R::Error>>
-    ensures ok { IfOk result (λ x. Took (R.left reader.old) (R.left reader.new) (ReadsAs T.refusal T.takes recursion_limit x)) }
+    ensures ok { IfOk result (λ x. Gives (R.left reader.old) (R.left reader.new) (ReadsAs T.refusal T.takes recursion_limit x)) }
     ensures err { IfErr result (IsUnread R.ends T.refusal recursion_limit (R.left reader.old) (R.left reader.new)) }
     ensures nothing { R.left reader.old ≡ Some [] → IfErr result IsNoMemory }
     ensures failed { R.failed reader.new ≡ failures R.ends result (R.failed reader.old) }

@@ -1,10 +1,10 @@
 //! Items of a decoder, one after another.
 ghost use Rattle.std.specs.Prelude.{◌≡◌};
-ghost use Rattle.ciborium_ll.specs.Views.{left_of, offset_of, waiting_of, reader_of};
+ghost use Rattle.ciborium_ll.specs.Seen.{Takes};
+ghost use Rattle.ciborium_ll.specs.Views.{reader_of, seen};
 ghost use Rattle.ciborium.specs.Front.{Reads};
 ghost use Rattle.ciborium.specs.Damage.{Damage};
-ghost use Rattle.ciborium.specs.Reading.{FailsAt, Known, fault_failures};
-ghost use Rattle.ciborium_ll.specs.Reading.{Takes};
+ghost use Rattle.ciborium.specs.Reading.{NamesFault, fault_failures};
 ghost use Rattle.ciborium.specs.Typed.{refusing};
 
 use crate::de::{Error, from_decoder};
@@ -49,13 +49,11 @@ impl<R: Read> Source for Deserializer<R> {
 
     ghost use Rattle.ciborium.specs.Streams.{decoder_of, limit_of};
 
-    ghost gives = { λ s item t. Takes (left_of R.left (decoder_of s)) (left_of R.left (decoder_of t)) (offset_of (decoder_of s))
-        (offset_of (decoder_of t)) (λ b. Reads b (limit_of s) item)
+    ghost gives = { λ s item t. Takes (seen R.Read (decoder_of s)) (seen R.Read (decoder_of t)) (λ b. Reads b (limit_of s) item)
         × (limit_of t ≡ limit_of s) × (R.failed (reader_of (decoder_of t)) ≡ R.failed (reader_of (decoder_of s)))
         × (R.handle (reader_of (decoder_of t)) ≡ R.handle (reader_of (decoder_of s))) };
 
-    ghost fails = { λ s e t. Known (left_of R.left (decoder_of s)) (λ b. FailsAt R.ends b (offset_of (decoder_of s))
-        (offset_of (decoder_of t)) (λ stop c f. Damage stop c (limit_of s) f) e)
+    ghost fails = { λ s e t. NamesFault R.ends (λ stop b f. Damage stop b (limit_of s) f) (seen R.Read (decoder_of s)) (seen R.Read (decoder_of t)) e
         × (limit_of t ≡ limit_of s)
         × (R.failed (reader_of (decoder_of t)) ≡ fault_failures R.ends e (R.failed (reader_of (decoder_of s))))
         × (R.handle (reader_of (decoder_of t)) ≡ R.handle (reader_of (decoder_of s))) };
