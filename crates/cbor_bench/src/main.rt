@@ -1,7 +1,7 @@
 //! `cbor_bench`: prints how many seconds a CBOR document takes to be decoded as one value, or that value to be written.
 #![tactic(auto)]
 
-use ciborium::de::from_decoder;
+use ciborium::de::{RECURSION_LIMIT, from_decoder};
 use ciborium::{Value, into_writer};
 use ciborium_ll::{Decoder, Mem};
 use std::io::{self, Write};
@@ -16,9 +16,6 @@ const MISUSED: u8 = 2;
 
 /// The status where the file can't be read or decoded.
 const FAILED: u8 = 1;
-
-/// Nesting up to this many levels is decoded.
-const LIMIT: usize = 256;
 
 fn main(rt: HostRuntime) -> ExitCode {
     match run(&rt) {
@@ -60,9 +57,10 @@ fn decode(rt: &HostRuntime, bytes: &[u8], rounds: u32) -> io::Result<u8> {
     for _ in 0..rounds {
         let mut decoder = Decoder::from(bytes);
         let start = Instant::now(rt)?;
-        let read = from_decoder(rt.alloc(), &mut decoder, LIMIT);
+        let read = from_decoder(rt.alloc(), &mut decoder, RECURSION_LIMIT);
         print_seconds(rt, start)?;
-        if read.is_err() {
+        if let Err(e) = read {
+            eprintln!(rt; "{e:?}")?;
             return Ok(FAILED);
         }
     }
@@ -72,7 +70,7 @@ fn decode(rt: &HostRuntime, bytes: &[u8], rounds: u32) -> io::Result<u8> {
 /// Decodes the document once and writes it so many times.
 fn encode(rt: &HostRuntime, bytes: &[u8], rounds: u32) -> io::Result<u8> {
     let mut decoder = Decoder::from(bytes);
-    let Ok(value) = from_decoder(rt.alloc(), &mut decoder, LIMIT) else {
+    let Ok(value) = from_decoder(rt.alloc(), &mut decoder, RECURSION_LIMIT) else {
         return Ok(FAILED);
     };
     for _ in 0..rounds {

@@ -3,7 +3,7 @@ use Rattle.std.proofs.Common.{◌≡◌, ◌≢◌, ◌≤◌, ◌<◌, ◌+◌,
 use Rattle.std.specs.Option.{option_map, option_and_then}
 use Rattle.std.proofs.lemmas.Bool.Decides.{nat_tests}
 use Rattle.std.proofs.lemmas.Bool.{false≢true}
-use Rattle.ciborium_ll.specs.Reading.{Takes}
+use Rattle.ciborium_ll.specs.Reading.{Moves}
 use Rattle.ciborium_ll.specs.declared.hdr.Header.{Header}
 use Rattle.ciborium_ll.specs.declared.hdr.Header.TheVariants.{Break, Array, Map}
 use Rattle.ciborium_ll.specs.Title.{Title, IsCut, StartsBad}
@@ -16,7 +16,7 @@ use Rattle.ciborium.specs.Meaning.{meaning, meanings, pair_meanings}
 use Rattle.ciborium.specs.Damage.{Fault, end, deep, syntax, semantic, Damage, in_title, in_child, TitleDamage, Due}
 use Rattle.ciborium.specs.Front.{ReadsAll}
 use Rattle.ciborium_ll.specs.Title.{Begins}
-use Rattle.ciborium.specs.Reading.{EndPlace, IsLong, FailsAt, FailsBehind, Known, ReadsBehind, ChildrenBehind, ChildDamage, is_full, FitsIn}
+use Rattle.ciborium.specs.Reading.{EndPlace, IsLong, FailsAt, FailsBehind, IfKnown, ReadsBehind, ChildrenBehind, ChildDamage, is_full, FitsIn}
 use Rattle.ciborium_ll.proofs.Closings.{break_title}
 use Rattle.ciborium.proofs.Once.{title_once}
 use Rattle.ciborium.proofs.Taking.{fails_as, fails_behind}
@@ -27,36 +27,36 @@ abbrev pub Begun : Header → (ℕ → List ℕ → Fault → Type 0) → ℕ �
 Begun h D stop b f = ((r : List ℕ) × Begins b h r) × D stop b f
 
 pub fails_begun : {E : Type 0} (ends : E → Bool) (l₀ l₁ : Option (List ℕ)) (o₀ o₁ o₂ : ℕ) (h : Header) (D : ℕ → List ℕ → Fault → Type 0) (e : Error E)
-    → Takes l₀ l₁ o₀ o₁ (λ (b : List ℕ). Title b h) → FailsBehind ends h o₀ o₁ l₁ o₂ D e → Known l₀ (λ b. FailsAt ends b o₀ o₂ (Begun h D) e)
+    → Moves l₀ l₁ o₀ o₁ (λ (b : List ℕ). Title b h) → FailsBehind ends h o₀ o₁ l₁ o₂ D e → IfKnown l₀ (λ b. FailsAt ends b o₀ o₂ (Begun h D) e)
 fails_begun ends None l₁ o₀ o₁ o₂ h D e t w = tt
 fails_begun ends (Some b) None o₀ o₁ o₂ h D e t w = absurd t.taken
 fails_begun ends (Some b) (Some rest) o₀ o₁ o₂ h D e t w =
     fails_as ends (EndPlace b o₀ o₂) (EndPlace b o₀ o₂) (D (o₀ + length b) b) (Begun h D (o₀ + length b) b) (IsLong o₀ b) (IsLong o₀ b) e (λ q. q) (λ f d. ((rest, record { title = t.bytes; is_title = t.has; whole = t.taken }), d)) (λ l. l)
     (subst (λ (z : List ℕ). FailsAt ends z o₀ o₂ D e) (sym t.taken) (w t.bytes t.has (sym t.grown)))
 
-title_no_break : (stop : ℕ) (rest : List ℕ) (f : Fault) → TitleDamage stop rest f → (r : List ℕ) → rest ≢ 255 ∷ r
+pub title_no_break : (stop : ℕ) (rest : List ℕ) (f : Fault) → TitleDamage stop rest f → (r : List ℕ) → rest ≢ 255 ∷ r
 title_no_break stop rest end d r e = not_cut (255 ∷ []) r Break break_title (subst IsCut e d)
 title_no_break stop rest deep d r e = d
 title_no_break stop rest (syntax p) d r e = not_bad (255 ∷ []) r Break break_title (subst StartsBad e d.0)
 title_no_break stop rest (semantic k) d r e = d
 
-begun_no_break : (h : Header) (rest q : List ℕ) → Begins rest h q → h ≢ Break → (r : List ℕ) → rest ≢ 255 ∷ r
+pub begun_no_break : (h : Header) (rest q : List ℕ) → Begins rest h q → h ≢ Break → (r : List ℕ) → rest ≢ 255 ∷ r
 begun_no_break h rest q s not r e = not (title_once s.title (255 ∷ []) q r h Break s.is_title break_title (sym s.whole ∙ e)).0
 
 child : (h : Header) (limit stop : ℕ) (x rest : List ℕ) (vs : Trees) (f : Fault) → ReadsAll x limit vs → Due h (tree_count vs) rest → Damage stop rest limit f → ChildDamage h limit stop (x ++ rest) f
 child h limit stop x rest vs f p due d = record { done = vs; rest = rest; fronts = record { spelling = x; whole = refl; reads = p }; due = due; damage = d }
 
 -- the next title is damaged
-pub child_title_fails : {E : Type 0} (ends : E → Bool) (l₀ l₁ : Option (List ℕ)) (o₀ o₁ o₂ limit : ℕ) (vs : Trees) (h : Header) (e : Error E) → Takes l₀ l₁ o₀ o₁ (λ (b : List ℕ). ReadsAll b limit vs)
-    → ((rest : List ℕ) → ((r : List ℕ) → rest ≢ 255 ∷ r) → Due h (tree_count vs) rest) → Known l₁ (λ b. FailsAt ends b o₁ o₂ TitleDamage e)
-    → Known l₀ (λ b. FailsAt ends b o₀ o₂ (ChildDamage h limit) e)
+pub child_title_fails : {E : Type 0} (ends : E → Bool) (l₀ l₁ : Option (List ℕ)) (o₀ o₁ o₂ limit : ℕ) (vs : Trees) (h : Header) (e : Error E) → Moves l₀ l₁ o₀ o₁ (λ (b : List ℕ). ReadsAll b limit vs)
+    → ((rest : List ℕ) → ((r : List ℕ) → rest ≢ 255 ∷ r) → Due h (tree_count vs) rest) → IfKnown l₁ (λ b. FailsAt ends b o₁ o₂ TitleDamage e)
+    → IfKnown l₀ (λ b. FailsAt ends b o₀ o₂ (ChildDamage h limit) e)
 child_title_fails ends l₀ l₁ o₀ o₁ o₂ limit vs h e t due w =
     fails_behind ends l₀ l₁ o₀ o₁ o₂ _ TitleDamage (ChildDamage h limit) e t (λ stop x rest f p d. child h limit stop x rest vs f p (due rest (title_no_break stop rest f d)) (in_title rest limit f d)) w
 
 -- the next item is damaged
-pub child_item_fails : {E : Type 0} (ends : E → Bool) (l₀ l₁ l₂ : Option (List ℕ)) (o₀ o₁ o₂ o₃ limit at : ℕ) (vs : Trees) (h k : Header) (e : Error E) → Takes l₀ l₁ o₀ o₁ (λ (b : List ℕ). ReadsAll b limit vs)
-    → Takes l₁ l₂ o₁ o₂ (λ (b : List ℕ). Title b k) → at ≡ o₁ → ((rest : List ℕ) → ((r : List ℕ) → k ≢ Break → rest ≢ 255 ∷ r) → Due h (tree_count vs) rest)
-    → FailsBehind ends k at o₂ l₂ o₃ (λ stop b f. Damage stop b limit f) e → Known l₀ (λ b. FailsAt ends b o₀ o₃ (ChildDamage h limit) e)
+pub child_item_fails : {E : Type 0} (ends : E → Bool) (l₀ l₁ l₂ : Option (List ℕ)) (o₀ o₁ o₂ o₃ limit at : ℕ) (vs : Trees) (h k : Header) (e : Error E) → Moves l₀ l₁ o₀ o₁ (λ (b : List ℕ). ReadsAll b limit vs)
+    → Moves l₁ l₂ o₁ o₂ (λ (b : List ℕ). Title b k) → at ≡ o₁ → ((rest : List ℕ) → ((r : List ℕ) → k ≢ Break → rest ≢ 255 ∷ r) → Due h (tree_count vs) rest)
+    → FailsBehind ends k at o₂ l₂ o₃ (λ stop b f. Damage stop b limit f) e → IfKnown l₀ (λ b. FailsAt ends b o₀ o₃ (ChildDamage h limit) e)
 child_item_fails ends l₀ l₁ l₂ o₀ o₁ o₂ o₃ limit at vs h k e t u same due w =
     fails_behind ends l₀ l₁ o₀ o₁ o₃ (λ (b : List ℕ). ReadsAll b limit vs) (Begun k (λ stop b f. Damage stop b limit f)) (ChildDamage h limit) e t (λ stop x rest f p d. child h limit stop x rest vs f p (due rest (λ r not. begun_no_break k rest d.0.0 d.0.1 not r)) d.1)
     (fails_begun ends l₁ l₂ o₁ o₂ o₃ k (λ stop b f. Damage stop b limit f) e u (subst (λ (z : ℕ). FailsBehind ends k z o₂ l₂ o₃ (λ stop b f. Damage stop b limit f) e) same w))
@@ -180,5 +180,5 @@ map_read None d limit v ps inner e c l p title t =
     }
 
 pub children_fail : {E : Type 0} (ends : E → Bool) (h : Header) (at limit : ℕ) (l : Option (List ℕ)) (o o' : ℕ) (e : Error E) → 0 < limit
-    → Known l (λ b. FailsAt ends b o o' (ChildDamage h (limit - 1)) e) → FailsBehind ends h at o l o' (λ stop b f. Damage stop b limit f) e
+    → IfKnown l (λ b. FailsAt ends b o o' (ChildDamage h (limit - 1)) e) → FailsBehind ends h at o l o' (λ stop b f. Damage stop b limit f) e
 children_fail ends h at limit l o o' e low w = behind_rest ends h at l o o' (ChildDamage h (limit - 1)) _ e (λ stop b rest f s d. in_child b rest d.rest limit h d.done f s low d.fronts d.due d.damage) w

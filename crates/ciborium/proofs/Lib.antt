@@ -1,7 +1,9 @@
+pub mod Building
 pub mod Once
 pub mod Taking
 pub mod StringLemmas
 pub mod ReadLemmas
+pub mod ReaderLemmas
 pub mod ChildLemmas
 pub mod TagLemmas
 pub mod Steps

@@ -36,11 +36,11 @@ stands_begins b rest t f =
     let p = first t f.spelling f.spells in
     (p.head, p.rest ++ rest, record { title = p.title; is_title = p.is_title; whole = f.whole ∙ regroup f.spelling p.title p.rest rest p.whole_is })
 
-kind_bytes : (o : Option ℕ) → head_kind (Bytes o) ≡ 1
+pub kind_bytes : (o : Option ℕ) → head_kind (Bytes o) ≡ 1
 unfolding head_kind
 kind_bytes o = refl
 
-kind_array : (o : Option ℕ) → head_kind (Array o) ≡ 3
+pub kind_array : (o : Option ℕ) → head_kind (Array o) ≡ 3
 unfolding head_kind
 kind_array o = refl
 
@@ -80,10 +80,10 @@ tag_parts b inside rest n (tag m c) s f =
 tag_parts b inside rest n t s f = absurd (let k : 5 ≡ tree_kind t = sym (kind_tag n) ∙ kind_at b inside rest (Tag n) t s f in omega arith)
 
 -- the bytes behind a title that says o, around `inner` and before `rest`
-abbrev Held : Option ℕ → ℕ → List ℕ → List ℕ → List ℕ → Type 0
+abbrev pub Held : Option ℕ → ℕ → List ℕ → List ℕ → List ℕ → Type 0
 Held o n inner inside rest = ((o ≡ Some n) × (inside ≡ inner ++ rest)) ⊎ ((o ≡ None) × (inside ≡ inner ++ (255 ∷ rest)))
 
-around_parts : (k : Option ℕ → Header) → ((o p : Option ℕ) → k o ≡ k p → o ≡ p) → (b spelling inside rest : List ℕ) (o : Option ℕ) (n : ℕ) (P : List ℕ → Type 0)
+pub around_parts : (k : Option ℕ → Header) → ((o p : Option ℕ) → k o ≡ k p → o ≡ p) → (b spelling inside rest : List ℕ) (o : Option ℕ) (n : ℕ) (P : List ℕ → Type 0)
     → Around k n spelling P → b ≡ spelling ++ rest → Begins b (k o) inside → (inner : List ℕ) × P inner × Held o n inner inside rest
 around_parts k inj b spelling inside rest o n P (inl (title, inner, p, has, e)) w s =
     let m = meets b title inner spelling inside rest (k (Some n)) (k o) p e w s in
@@ -172,7 +172,7 @@ both false b e = absurd (cc)
 either : (n : ℕ) → (nat_eq n 2 || nat_eq n 3) ≡ true → (n ≢ 2) × (n ≢ 3) → ⊥
 either n e d = grind (arith, nat_tests, d.0, d.1)
 
-head_bytes : (h : Header) → head_kind h ≡ 1 → (o : Option ℕ) × (h ≡ Bytes o)
+pub head_bytes : (h : Header) → head_kind h ≡ 1 → (o : Option ℕ) × (h ≡ Bytes o)
 unfolding head_kind
 head_bytes (Bytes o) e = (o, refl)
 head_bytes h e = absurd (omega arith)

@@ -1,7 +1,7 @@
 -- Items that are read, from their parts.
 use Rattle.std.proofs.Common.{◌≡◌, ◌≤◌, ◌+◌, ◌*◌, ℕ, Bool, true, false, List, [], ◌∷◌, ◌++◌, length, map, Option, None, Some, refl, sym, ap, subst, ◌∙◌, arith, append_assoc}
 use Rattle.std.specs.Option.{option_map, option_and_then}
-use Rattle.ciborium_ll.specs.Reading.{Takes}
+use Rattle.ciborium_ll.specs.Reading.{Moves}
 use Rattle.ciborium_ll.specs.declared.hdr.Header.{Header}
 use Rattle.ciborium_ll.specs.declared.hdr.Header.TheVariants.{Simple, Break, Bytes, Text}
 use Rattle.ciborium_ll.specs.Title.{Title}
@@ -15,14 +15,15 @@ use Rattle.ciborium_value.specs.View.{trees, pairs}
 use Rattle.ciborium.specs.Damage.{Fault, deep, semantic, Damage, in_title, unassigned, stray_break, too_deep, TitleDamage, Opens}
 use Rattle.ciborium.specs.Front.{Reads, ReadsAll}
 use Rattle.ciborium_ll.specs.Title.{Begins}
-use Rattle.ciborium.specs.Reading.{Fails, EndPlace, IsLong, FailsAt, FailsBehind, Known, StringBehind, ReadsBehind}
+use Rattle.ciborium.specs.Reading.{Fails, EndPlace, IsLong, FailsAt, FailsBehind, IfKnown, StringBehind, ReadsBehind}
 use Rattle.ciborium.proofs.Once.{append_nil}
 use Rattle.ciborium.proofs.Taking.{fails_as, behind_title, takes_then, takes_none}
 
 -- leaves
-pub leaf : (h : Header) (tree v : Tree) (limit : ℕ) (l : Option (List ℕ)) (o : ℕ) → ((title : List ℕ) → Title title h → Spells title tree) → depth tree ≤ limit → meaning tree ≡ Some v
-    → Takes l l o o (λ (b : List ℕ). ReadsBehind h limit v b)
-leaf h tree v limit l o spells low means = takes_none l o _ (λ title t. record { tree = tree; spells = subst (λ (z : List ℕ). Spells z tree) (append_nil title) (spells title t); shallow = low; means = means })
+pub leaf : (h : Header) (tree v : Tree) (l : Option (List ℕ)) (o : ℕ) → ((title : List ℕ) → Title title h → Spells title tree) → depth tree ≤ 0 → meaning tree ≡ Some v
+    → Moves l l o o (λ (b : List ℕ). (limit : ℕ) → ReadsBehind h limit v b)
+leaf h tree v l o spells low means =
+    takes_none l o _ (λ limit title t. record { tree = tree; spells = subst (λ (z : List ℕ). Spells z tree) (append_nil title) (spells title t); shallow = omega arith; means = means })
 
 -- strings
 pub bytes_read : (o : Option ℕ) (limit : ℕ) (v : Tree) (items inner : List ℕ) → v ≡ bytes items → StringBehind false o items inner → ReadsBehind (Bytes o) limit v inner
@@ -49,10 +50,10 @@ behind_as ends h at (Some b) o o' D D' e step w title t g = fails_as ends _ _ _ 
 
 -- from the faults of what is behind
 pub behind_rest : {E : Type 0} (ends : E → Bool) (h : Header) (at : ℕ) (l : Option (List ℕ)) (o o' : ℕ) (D D' : ℕ → List ℕ → Fault → Type 0) (e : Error E)
-    → ((stop : ℕ) (b rest : List ℕ) (f : Fault) → Begins b h rest → D stop rest f → D' stop b f) → Known l (λ b. FailsAt ends b o o' D e) → FailsBehind ends h at o l o' D' e
+    → ((stop : ℕ) (b rest : List ℕ) (f : Fault) → Begins b h rest → D stop rest f → D' stop b f) → IfKnown l (λ b. FailsAt ends b o o' D e) → FailsBehind ends h at o l o' D' e
 behind_rest ends h at l o o' D D' e step w = behind_title ends h at l o o' D' e (λ title t. go title t l w)
   where
-    go : (title : List ℕ) → Title title h → (l : Option (List ℕ)) → Known l (λ b. FailsAt ends b o o' D e) → Known l (λ b. FailsAt ends b o o' (λ stop b f. D' stop (title ++ b) f) e)
+    go : (title : List ℕ) → Title title h → (l : Option (List ℕ)) → IfKnown l (λ b. FailsAt ends b o o' D e) → IfKnown l (λ b. FailsAt ends b o o' (λ stop b f. D' stop (title ++ b) f) e)
     go title t None w = tt
     go title t (Some b) w = fails_as ends _ _ _ _ _ _ e (λ q. q) (λ f d. step (o + length b) (title ++ b) b f (record { title = title; is_title = t; whole = refl }) d) (λ l. l) w
 
@@ -122,17 +123,17 @@ all_more a b limit vs v p q = record {
 }
 
 -- an item behind those that were read, with its title
-pub step_item : (l₀ l₁ l₂ l₃ : Option (List ℕ)) (o₀ o₁ o₂ o₃ limit : ℕ) (vs : Trees) (v : Tree) (h : Header) → Takes l₀ l₁ o₀ o₁ (λ (b : List ℕ). ReadsAll b limit vs)
-    → Takes l₁ l₂ o₁ o₂ (λ (b : List ℕ). Title b h) → Takes l₂ l₃ o₂ o₃ (λ (b : List ℕ). ReadsBehind h limit v b) → Takes l₀ l₃ o₀ o₃ (λ (b : List ℕ). ReadsAll b limit (snoc vs v))
+pub step_item : (l₀ l₁ l₂ l₃ : Option (List ℕ)) (o₀ o₁ o₂ o₃ limit : ℕ) (vs : Trees) (v : Tree) (h : Header) → Moves l₀ l₁ o₀ o₁ (λ (b : List ℕ). ReadsAll b limit vs)
+    → Moves l₁ l₂ o₁ o₂ (λ (b : List ℕ). Title b h) → Moves l₂ l₃ o₂ o₃ (λ (b : List ℕ). ReadsBehind h limit v b) → Moves l₀ l₃ o₀ o₃ (λ (b : List ℕ). ReadsAll b limit (snoc vs v))
 step_item l₀ l₁ l₂ l₃ o₀ o₁ o₂ o₃ limit vs v h p t q =
     takes_then l₀ l₁ l₃ o₀ o₁ o₃ _ (λ z. Reads z limit v) _ p (takes_then l₁ l₂ l₃ o₁ o₂ o₃ _ _ _ t q (λ x y a b. b x a)) (λ x y a b. all_more x y limit vs v a b)
 
 pub item_read : (l₁ l₂ l₃ : Option (List ℕ)) (o₁ o₂ o₃ limit : ℕ) (v : Tree) (h : Header)
-    → Takes l₁ l₂ o₁ o₂ (λ (b : List ℕ). Title b h) → Takes l₂ l₃ o₂ o₃ (λ (b : List ℕ). ReadsBehind h limit v b) → Takes l₁ l₃ o₁ o₃ (λ (b : List ℕ). Reads b limit v)
+    → Moves l₁ l₂ o₁ o₂ (λ (b : List ℕ). Title b h) → Moves l₂ l₃ o₂ o₃ (λ (b : List ℕ). ReadsBehind h limit v b) → Moves l₁ l₃ o₁ o₃ (λ (b : List ℕ). Reads b limit v)
 item_read l₁ l₂ l₃ o₁ o₂ o₃ limit v h t q = takes_then l₁ l₂ l₃ o₁ o₂ o₃ _ _ _ t q (λ x y a b. b x a)
 
 pub item_title_fails : {E : Type 0} (ends : E → Bool) (l : Option (List ℕ)) (o o' limit : ℕ) (e : Error E)
-    → Known l (λ b. FailsAt ends b o o' TitleDamage e) → Known l (λ b. FailsAt ends b o o' (λ stop b f. Damage stop b limit f) e)
+    → IfKnown l (λ b. FailsAt ends b o o' TitleDamage e) → IfKnown l (λ b. FailsAt ends b o o' (λ stop b f. Damage stop b limit f) e)
 item_title_fails ends None o o' limit e w = tt
 item_title_fails ends (Some b) o o' limit e w = fails_as ends (EndPlace b o o') (EndPlace b o o') (TitleDamage (o + length b) b) (λ f. Damage (o + length b) b limit f) (IsLong o b) (IsLong o b) e (λ q. q) (λ f d. in_title b limit f d) (λ l. l) w
 

@@ -1,7 +1,7 @@
 -- The steps of the reader's loops.
 use Rattle.std.proofs.Common.{◌≡◌, ◌+◌, ◌*◌, ℕ, Bool, false, List, [], ◌∷◌, ◌++◌, length, map, Option, None, sym, ap, subst, ◌∙◌, arith, length-append}
 use Rattle.std.specs.Str.{IsUtf8}
-use Rattle.ciborium_ll.specs.Reading.{Takes}
+use Rattle.ciborium_ll.specs.Reading.{Moves}
 use Rattle.ciborium_ll.specs.declared.hdr.Header.{Header}
 use Rattle.ciborium_ll.specs.declared.hdr.Header.TheVariants.{Bytes, Text, Break}
 use Rattle.ciborium_ll.specs.Title.{Title}
@@ -38,17 +38,17 @@ fits_pushed o xs ys x e few full =
     subst (λ (z : ℕ). FitsIn o z) n (fits_more o (length xs) few full)
 
 pub step_pushed : {V : Type 0} (f : V → Tree) (l₀ l₁ l₂ l₃ : Option (List ℕ)) (o₀ o₁ o₂ o₃ limit : ℕ) (vs ws : List V) (v : V) (h : Header) → ws ≡ vs ++ v ∷ []
-    → Takes l₀ l₁ o₀ o₁ (λ (b : List ℕ). ReadsAll b limit (trees (map f vs))) → Takes l₁ l₂ o₁ o₂ (λ (b : List ℕ). Title b h) → Takes l₂ l₃ o₂ o₃ (λ (b : List ℕ). ReadsBehind h limit (f v) b)
-    → Takes l₀ l₃ o₀ o₃ (λ (b : List ℕ). ReadsAll b limit (trees (map f ws)))
+    → Moves l₀ l₁ o₀ o₁ (λ (b : List ℕ). ReadsAll b limit (trees (map f vs))) → Moves l₁ l₂ o₁ o₂ (λ (b : List ℕ). Title b h) → Moves l₂ l₃ o₂ o₃ (λ (b : List ℕ). ReadsBehind h limit (f v) b)
+    → Moves l₀ l₃ o₀ o₃ (λ (b : List ℕ). ReadsAll b limit (trees (map f ws)))
 step_pushed f l₀ l₁ l₂ l₃ o₀ o₁ o₂ o₃ limit vs ws v h e p t q =
-    subst (λ (z : Trees). Takes l₀ l₃ o₀ o₃ (λ (b : List ℕ). ReadsAll b limit z)) (pushed f vs ws v e) (step_item l₀ l₁ l₂ l₃ o₀ o₁ o₂ o₃ limit (trees (map f vs)) (f v) h p t q)
+    subst (λ (z : Trees). Moves l₀ l₃ o₀ o₃ (λ (b : List ℕ). ReadsAll b limit z)) (pushed f vs ws v e) (step_item l₀ l₁ l₂ l₃ o₀ o₁ o₂ o₃ limit (trees (map f vs)) (f v) h p t q)
 
 pub pair_pushed : {V : Type 0} (f : V → Tree × Tree) (l₀ l₃ : Option (List ℕ)) (o₀ o₃ limit : ℕ) (vs ws : List V) (v : V) → ws ≡ vs ++ v ∷ []
-    → Takes l₀ l₃ o₀ o₃ (λ (b : List ℕ). ReadsAll b limit (snoc (snoc (flat (pairs (map f vs))) (f v).0) (f v).1)) → Takes l₀ l₃ o₀ o₃ (λ (b : List ℕ). ReadsAll b limit (flat (pairs (map f ws))))
-pair_pushed f l₀ l₃ o₀ o₃ limit vs ws v e p = subst (λ (z : Trees). Takes l₀ l₃ o₀ o₃ (λ (b : List ℕ). ReadsAll b limit z)) (pushed_pair f vs ws v e) p
+    → Moves l₀ l₃ o₀ o₃ (λ (b : List ℕ). ReadsAll b limit (snoc (snoc (flat (pairs (map f vs))) (f v).0) (f v).1)) → Moves l₀ l₃ o₀ o₃ (λ (b : List ℕ). ReadsAll b limit (flat (pairs (map f ws))))
+pair_pushed f l₀ l₃ o₀ o₃ limit vs ws v e p = subst (λ (z : Trees). Moves l₀ l₃ o₀ o₃ (λ (b : List ℕ). ReadsAll b limit z)) (pushed_pair f vs ws v e) p
 
-pub step_closed : (l₀ l₁ l₂ : Option (List ℕ)) (o₀ o₁ o₂ limit d : ℕ) (vs : Trees) (o : Option ℕ) (h : Header) → (o ≡ None) × (h ≡ Break) → Takes l₀ l₁ o₀ o₁ (λ (b : List ℕ). ReadsAll b limit vs) → Takes l₁ l₂ o₁ o₂ (λ (b : List ℕ). Title b h)
-    → Takes l₀ l₂ o₀ o₂ (λ (b : List ℕ). ChildrenBehind o d limit vs b)
+pub step_closed : (l₀ l₁ l₂ : Option (List ℕ)) (o₀ o₁ o₂ limit d : ℕ) (vs : Trees) (o : Option ℕ) (h : Header) → (o ≡ None) × (h ≡ Break) → Moves l₀ l₁ o₀ o₁ (λ (b : List ℕ). ReadsAll b limit vs) → Moves l₁ l₂ o₁ o₂ (λ (b : List ℕ). Title b h)
+    → Moves l₀ l₂ o₀ o₂ (λ (b : List ℕ). ChildrenBehind o d limit vs b)
 step_closed l₀ l₁ l₂ o₀ o₁ o₂ limit d vs o h e p t = takes_then l₀ l₁ l₂ o₀ o₁ o₂ _ _ _ p t (λ x y a b. children_closed o d limit vs x y h e a b)
 
 pub key_count : {V : Type 0} (f : V → Tree × Tree) (vs : List V) (k : Tree) → tree_count (snoc (flat (pairs (map f vs))) k) ≡ 2 * length vs + 1

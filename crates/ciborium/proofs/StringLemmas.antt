@@ -3,7 +3,7 @@ use Rattle.std.proofs.Common.{◌≡◌, ◌≢◌, ◌≤◌, ◌<◌, ◌+◌,
 use Rattle.std.proofs.lemmas.Bool.{false≢true}
 use Rattle.std.proofs.Math.Seq.{take-append_seam, drop-append_seam, take-length}
 use Rattle.std.specs.Str.{IsUtf8}
-use Rattle.ciborium_ll.specs.Reading.{Takes}
+use Rattle.ciborium_ll.specs.Reading.{Moves}
 use Rattle.ciborium_ll.specs.declared.hdr.Header.{Header}
 use Rattle.ciborium_ll.specs.declared.hdr.Header.TheVariants.{Break, Bytes, Text}
 use Rattle.ciborium_ll.specs.declared.hdr.Header.TheVariants as all
@@ -14,8 +14,9 @@ use Rattle.ciborium.specs.declared.de.Error.TheVariants as code
 use Rattle.ciborium_ll.specs.Framing.{joined, Frame, whole, cut, Frames, no_frames, frame_more}
 use Rattle.ciborium.specs.Damage.{Fault, Never, TitleDamage, ChunkDamage, OtherDamage, StringDamage}
 use Rattle.ciborium_ll.specs.Framing.{Opened, opened, deeper}
-use Rattle.ciborium.specs.Reading.{FailsAt, FailsBehind, Known, string_head, IsBody, StringBehind, OpenBehind, ChunkBody}
+use Rattle.ciborium.specs.Reading.{FailsAt, FailsBehind, IfKnown, string_head, IsBody, StringBehind, OpenBehind, ChunkBody}
 use Rattle.ciborium.proofs.Once.{append_nil}
+use Rattle.ciborium.proofs.ReadLemmas.{behind_as}
 use Rattle.ciborium.proofs.Taking.{fails_as, fails_behind, fails_titled, behind_title, takes_then}
 
 pub joined_append : (xs ys : List (List ℕ)) → joined (xs ++ ys) ≡ joined xs ++ joined ys
@@ -137,7 +138,7 @@ PartDamage text stop rest f = TitleDamage stop rest f ⊎ (ChunkDamage (string_h
 
 -- a fault at a part of an open string is one of the string
 fails_part : {E : Type 0} (ends : E → Bool) (text : Bool) (n at : ℕ) (items : List ℕ) (l₀ l₁ : Option (List ℕ)) (o₀ o₁ o₂ : ℕ) (e : Error E)
-    → Takes l₀ l₁ o₀ o₁ (λ (b : List ℕ). OpenBehind text n items b) → Known l₁ (λ b. FailsAt ends b o₁ o₂ (PartDamage text) e)
+    → Moves l₀ l₁ o₀ o₁ (λ (b : List ℕ). OpenBehind text n items b) → IfKnown l₁ (λ b. FailsAt ends b o₁ o₂ (PartDamage text) e)
     → FailsBehind ends (string_head text None) at o₀ l₀ o₂ (StringDamage (string_head text) (IsBody text)) e
 fails_part ends text n at items l₀ l₁ o₀ o₁ o₂ e t w =
     behind_title ends (string_head text None) at l₀ o₀ o₂ (StringDamage (string_head text) (IsBody text)) e (λ title u.
@@ -145,40 +146,40 @@ fails_part ends text n at items l₀ l₁ o₀ o₁ o₂ e t w =
     (λ stop x rest f p d. inr (rest, record { opens = n; read = title ++ x; bodies = p.bodies; is = p.begun title u; whole = sym (append_assoc title x rest) }, d)) w)
 
 known_as : {E : Type 0} (ends : E → Bool) (l : Option (List ℕ)) (o o' : ℕ) (D D' : ℕ → List ℕ → Fault → Type 0) (e : Error E)
-    → ((stop : ℕ) (b : List ℕ) (f : Fault) → D stop b f → D' stop b f) → Known l (λ b. FailsAt ends b o o' D e) → Known l (λ b. FailsAt ends b o o' D' e)
+    → ((stop : ℕ) (b : List ℕ) (f : Fault) → D stop b f → D' stop b f) → IfKnown l (λ b. FailsAt ends b o o' D e) → IfKnown l (λ b. FailsAt ends b o o' D' e)
 known_as ends None o o' D D' e step w = tt
 known_as ends (Some b) o o' D D' e step w = fails_as ends _ _ _ _ _ _ e (λ q. q) (step (o + length b) b) (λ l. l) w
 
 pub open_title_fails : {E : Type 0} (ends : E → Bool) (text : Bool) (n at : ℕ) (items : List ℕ) (l₀ l₁ : Option (List ℕ)) (o₀ o₁ o₂ : ℕ) (e : Error E)
-    → Takes l₀ l₁ o₀ o₁ (λ (b : List ℕ). OpenBehind text n items b) → Known l₁ (λ b. FailsAt ends b o₁ o₂ TitleDamage e)
+    → Moves l₀ l₁ o₀ o₁ (λ (b : List ℕ). OpenBehind text n items b) → IfKnown l₁ (λ b. FailsAt ends b o₁ o₂ TitleDamage e)
     → FailsBehind ends (string_head text None) at o₀ l₀ o₂ (StringDamage (string_head text) (IsBody text)) e
 open_title_fails ends text n at items l₀ l₁ o₀ o₁ o₂ e t w =
     fails_part ends text n at items l₀ l₁ o₀ o₁ o₂ e t (known_as ends l₁ o₁ o₂ TitleDamage (PartDamage text) e (λ stop b f d. inl d) w)
 
 pub open_chunk_fails : {E : Type 0} (ends : E → Bool) (text : Bool) (n m at place : ℕ) (items : List ℕ) (l₀ l₁ l₂ : Option (List ℕ)) (o₀ o₁ o₂ o₃ : ℕ) (h : Header) (e : Error E)
-    → Takes l₀ l₁ o₀ o₁ (λ (b : List ℕ). OpenBehind text n items b) → Takes l₁ l₂ o₁ o₂ (λ (b : List ℕ). Title b h) → h ≡ string_head text (Some m) → place ≡ o₁
+    → Moves l₀ l₁ o₀ o₁ (λ (b : List ℕ). OpenBehind text n items b) → Moves l₁ l₂ o₁ o₂ (λ (b : List ℕ). Title b h) → h ≡ string_head text (Some m) → place ≡ o₁
     → FailsBehind ends (string_head text (Some m)) place o₂ l₂ o₃ (ChunkDamage (string_head text) (IsBody text)) e
     → FailsBehind ends (string_head text None) at o₀ l₀ o₃ (StringDamage (string_head text) (IsBody text)) e
 open_chunk_fails ends text n m at place items l₀ l₁ l₂ o₀ o₁ o₂ o₃ h e t u is same w =
     fails_part ends text n at items l₀ l₁ o₀ o₁ o₃ e t (known_as ends l₁ o₁ o₃ (ChunkDamage (string_head text) (IsBody text)) (PartDamage text) e (λ stop b f d. inr (inl d))
     (fails_titled ends l₁ l₂ o₁ o₂ o₃ (string_head text (Some m)) (ChunkDamage (string_head text) (IsBody text)) e
-    (subst (λ (z : Header). Takes l₁ l₂ o₁ o₂ (λ (b : List ℕ). Title b z)) is u)
+    (subst (λ (z : Header). Moves l₁ l₂ o₁ o₂ (λ (b : List ℕ). Title b z)) is u)
     (subst (λ (z : ℕ). FailsBehind ends (string_head text (Some m)) z o₂ l₂ o₃ (ChunkDamage (string_head text) (IsBody text)) e) same w)))
 
 pub open_other_fails : {E : Type 0} (ends : E → Bool) (text : Bool) (n at place : ℕ) (items : List ℕ) (l₀ l₁ l₂ : Option (List ℕ)) (o₀ o₁ o₂ : ℕ) (h : Header)
-    → Takes l₀ l₁ o₀ o₁ (λ (b : List ℕ). OpenBehind text n items b) → Takes l₁ l₂ o₁ o₂ (λ (b : List ℕ). Title b h) → (h ≢ Break) × ((o : Option ℕ) → h ≢ string_head text o) → place ≡ o₁
+    → Moves l₀ l₁ o₀ o₁ (λ (b : List ℕ). OpenBehind text n items b) → Moves l₁ l₂ o₁ o₂ (λ (b : List ℕ). Title b h) → (h ≢ Break) × ((o : Option ℕ) → h ≢ string_head text o) → place ≡ o₁
     → FailsBehind {E = E} ends (string_head text None) at o₀ l₀ o₂ (StringDamage (string_head text) (IsBody text)) (code.Syntax place)
 open_other_fails ends text n at place items l₀ l₁ l₂ o₀ o₁ o₂ h t u other same =
     fails_part ends text n at items l₀ l₁ o₀ o₁ o₂ (code.Syntax place) t (go l₁ l₂ u)
   where
-    go : (l₁ l₂ : Option (List ℕ)) → Takes l₁ l₂ o₁ o₂ (λ (b : List ℕ). Title b h) → Known l₁ (λ b. FailsAt ends b o₁ o₂ (PartDamage text) (code.Syntax place))
+    go : (l₁ l₂ : Option (List ℕ)) → Moves l₁ l₂ o₁ o₂ (λ (b : List ℕ). Title b h) → IfKnown l₁ (λ b. FailsAt ends b o₁ o₂ (PartDamage text) (code.Syntax place))
     go None l₂ u = tt
     go (Some b) None u = absurd u.taken
     go (Some b) (Some rest) u = inr (inr (h, rest, record { title = u.bytes; is_title = u.has; whole = u.taken }, other.0, other.1, ap (λ z. z + length b) same))
 
 -- a definite text that is no UTF-8
 pub utf8_fails : {E : Type 0} (ends : E → Bool) (n at : ℕ) (l l' : Option (List ℕ)) (o o' : ℕ) (old new : List ℕ) (bad : List ℕ)
-    → Takes l l' o o' (λ (b : List ℕ). (length b ≡ n) × (new ≡ old ++ b)) → ((b : List ℕ) → new ≡ old ++ b → b ≡ bad) → (IsUtf8 bad → ⊥)
+    → Moves l l' o o' (λ (b : List ℕ). (length b ≡ n) × (new ≡ old ++ b)) → ((b : List ℕ) → new ≡ old ++ b → b ≡ bad) → (IsUtf8 bad → ⊥)
     → FailsBehind {E = E} ends (Text (Some n)) at o l o' (ChunkDamage Text IsUtf8) (code.Syntax at)
 utf8_fails ends n at None l' o o' old new bad t same not title u g = tt
 utf8_fails ends n at (Some b) None o o' old new bad t same not title u g = absurd t.taken
@@ -223,25 +224,25 @@ title_some b (all.Float (width.Single n)) t = some_cons _ _ _ t.1
 title_some b (all.Float (width.Double n)) t = some_cons _ _ _ t.1
 title_some b all.Break t = some_cons _ _ _ t
 
-pub title_grows : (l₁ l₂ : Option (List ℕ)) (o₁ o₂ : ℕ) (h : Header) → Takes l₁ l₂ o₁ o₂ (λ (b : List ℕ). Title b h) → o₁ < o₂
+pub title_grows : (l₁ l₂ : Option (List ℕ)) (o₁ o₂ : ℕ) (h : Header) → Moves l₁ l₂ o₁ o₂ (λ (b : List ℕ). Title b h) → o₁ < o₂
 title_grows l₁ l₂ o₁ o₂ h t = let s = title_some t.bytes h t.has in let g = t.grown in omega arith
 
-pub step_done : (text : Bool) (n : ℕ) (items : List ℕ) (h : Header) (l₀ l₁ l₂ : Option (List ℕ)) (o₀ o₁ o₂ : ℕ) → Takes l₀ l₁ o₀ o₁ (λ (b : List ℕ). OpenBehind text n items b)
-    → Takes l₁ l₂ o₁ o₂ (λ (b : List ℕ). Title b h) → h ≡ Break → n ≡ 1 → Takes l₀ l₂ o₀ o₂ (λ (b : List ℕ). StringBehind text None items b)
+pub step_done : (text : Bool) (n : ℕ) (items : List ℕ) (h : Header) (l₀ l₁ l₂ : Option (List ℕ)) (o₀ o₁ o₂ : ℕ) → Moves l₀ l₁ o₀ o₁ (λ (b : List ℕ). OpenBehind text n items b)
+    → Moves l₁ l₂ o₁ o₂ (λ (b : List ℕ). Title b h) → h ≡ Break → n ≡ 1 → Moves l₀ l₂ o₀ o₂ (λ (b : List ℕ). StringBehind text None items b)
 step_done text n items h l₀ l₁ l₂ o₀ o₁ o₂ t u e one = takes_then l₀ l₁ l₂ o₀ o₁ o₂ _ _ _ t u (λ x y p q. open_done text n items x y p (subst (λ (z : Header). Title y z) e q) one)
 
-pub step_less : (text : Bool) (n m : ℕ) (items : List ℕ) (h : Header) (l₀ l₁ l₂ : Option (List ℕ)) (o₀ o₁ o₂ : ℕ) → Takes l₀ l₁ o₀ o₁ (λ (b : List ℕ). OpenBehind text n items b)
-    → Takes l₁ l₂ o₁ o₂ (λ (b : List ℕ). Title b h) → h ≡ Break → n ≢ 1 → n - 1 ≡ m → Takes l₀ l₂ o₀ o₂ (λ (b : List ℕ). OpenBehind text m items b)
+pub step_less : (text : Bool) (n m : ℕ) (items : List ℕ) (h : Header) (l₀ l₁ l₂ : Option (List ℕ)) (o₀ o₁ o₂ : ℕ) → Moves l₀ l₁ o₀ o₁ (λ (b : List ℕ). OpenBehind text n items b)
+    → Moves l₁ l₂ o₁ o₂ (λ (b : List ℕ). Title b h) → h ≡ Break → n ≢ 1 → n - 1 ≡ m → Moves l₀ l₂ o₀ o₂ (λ (b : List ℕ). OpenBehind text m items b)
 step_less text n m items h l₀ l₁ l₂ o₀ o₁ o₂ t u e not is = takes_then l₀ l₁ l₂ o₀ o₁ o₂ _ _ _ t u (λ x y p q.
     subst (λ (k : ℕ). OpenBehind text k items (x ++ y)) is (open_less text n items x y p (subst (λ (z : Header). Title y z) e q) not))
 
-pub step_more : (text : Bool) (n : ℕ) (items : List ℕ) (h : Header) (l₀ l₁ l₂ : Option (List ℕ)) (o₀ o₁ o₂ : ℕ) → Takes l₀ l₁ o₀ o₁ (λ (b : List ℕ). OpenBehind text n items b)
-    → Takes l₁ l₂ o₁ o₂ (λ (b : List ℕ). Title b h) → h ≡ string_head text None → Takes l₀ l₂ o₀ o₂ (λ (b : List ℕ). OpenBehind text (n + 1) items b)
+pub step_more : (text : Bool) (n : ℕ) (items : List ℕ) (h : Header) (l₀ l₁ l₂ : Option (List ℕ)) (o₀ o₁ o₂ : ℕ) → Moves l₀ l₁ o₀ o₁ (λ (b : List ℕ). OpenBehind text n items b)
+    → Moves l₁ l₂ o₁ o₂ (λ (b : List ℕ). Title b h) → h ≡ string_head text None → Moves l₀ l₂ o₀ o₂ (λ (b : List ℕ). OpenBehind text (n + 1) items b)
 step_more text n items h l₀ l₁ l₂ o₀ o₁ o₂ t u e = takes_then l₀ l₁ l₂ o₀ o₁ o₂ _ _ _ t u (λ x y p q. open_more text n items x y p (subst (λ (z : Header). Title y z) e q))
 
-pub step_chunk : (text : Bool) (n m : ℕ) (items items' : List ℕ) (h : Header) (l₀ l₁ l₂ l₃ : Option (List ℕ)) (o₀ o₁ o₂ o₃ : ℕ) → Takes l₀ l₁ o₀ o₁ (λ (b : List ℕ). OpenBehind text n items b)
-    → Takes l₁ l₂ o₁ o₂ (λ (b : List ℕ). Title b h) → h ≡ string_head text (Some m) → Takes l₂ l₃ o₂ o₃ (λ (b : List ℕ). ChunkBody text m items items' b)
-    → Takes l₀ l₃ o₀ o₃ (λ (b : List ℕ). OpenBehind text n items' b)
+pub step_chunk : (text : Bool) (n m : ℕ) (items items' : List ℕ) (h : Header) (l₀ l₁ l₂ l₃ : Option (List ℕ)) (o₀ o₁ o₂ o₃ : ℕ) → Moves l₀ l₁ o₀ o₁ (λ (b : List ℕ). OpenBehind text n items b)
+    → Moves l₁ l₂ o₁ o₂ (λ (b : List ℕ). Title b h) → h ≡ string_head text (Some m) → Moves l₂ l₃ o₂ o₃ (λ (b : List ℕ). ChunkBody text m items items' b)
+    → Moves l₀ l₃ o₀ o₃ (λ (b : List ℕ). OpenBehind text n items' b)
 step_chunk text n m items items' h l₀ l₁ l₂ l₃ o₀ o₁ o₂ o₃ t u e w =
     takes_then l₀ l₁ l₃ o₀ o₁ o₃ _ (λ z. (x y : List ℕ) × Title x h × ChunkBody text m items items' y × (z ≡ x ++ y)) _ t
     (takes_then l₁ l₂ l₃ o₁ o₂ o₃ _ _ _ u w (λ x y p q. (x, y, p, q, refl)))
@@ -252,7 +253,7 @@ utf8_no (Ok x) P Q bad w v e f = let k : false ≡ true = sym e ∙ f in λ u. a
 utf8_no (Err x) P Q bad w v e f = w.0
 
 pub utf8_fails_at : {E : Type 0} (ends : E → Bool) (text : Bool) (n at start : ℕ) (l l' : Option (List ℕ)) (o o' : ℕ) (old new d : List ℕ) → text ≡ true
-    → Takes l l' o o' (λ (b : List ℕ). (length b ≡ n) × (new ≡ old ++ b)) → start ≡ length old → d ≡ new → (IsUtf8 (take (length d - start) (drop start d)) → ⊥)
+    → Moves l l' o o' (λ (b : List ℕ). (length b ≡ n) × (new ≡ old ++ b)) → start ≡ length old → d ≡ new → (IsUtf8 (take (length d - start) (drop start d)) → ⊥)
     → FailsBehind {E = E} ends (string_head text (Some n)) at o l o' (ChunkDamage (string_head text) (IsBody text)) (code.Syntax at)
 utf8_fails_at ends true n at start l l' o o' old new d is t same e not =
     utf8_fails ends n at l l' o o' old new (take (length d - start) (drop start d)) t go not
@@ -264,3 +265,18 @@ utf8_fails_at ends true n at start l l' o o' old new d is t same e not =
         let len : length d - start ≡ length b = omega (arith, ap length g, length-append old b, same) in
         sym (ap (λ z. take z (drop start d)) len ∙ ap (take (length b)) h ∙ take-length b)
 utf8_fails_at ends false n at start l l' o o' old new d is t same e not = absurd (false≢true is)
+
+-- a fault of a definite text is one of the string
+pub chunk_is : {E : Type 0} (ends : E → Bool) (n at : ℕ) (l : Option (List ℕ)) (o o' : ℕ) (e : Error E) → FailsBehind ends (Text (Some n)) at o l o' (ChunkDamage Text IsUtf8) e
+    → FailsBehind ends (Text (Some n)) at o l o' (StringDamage Text IsUtf8) e
+chunk_is ends n at l o o' e w = behind_as ends (Text (Some n)) at l o o' (ChunkDamage Text IsUtf8) (StringDamage Text IsUtf8) e (λ stop b f d. inl d) w
+
+-- a definite text
+pub whole_text : (n : ℕ) (items old new body : List ℕ) → old ≡ [] → items ≡ new → (length body ≡ n) × (new ≡ old ++ body) → IsUtf8 items → StringBehind true (Some n) items body
+whole_text n items old new body e f p u =
+    let g : items ≡ body = f ∙ p.1 ∙ ap (λ z. z ++ body) e in
+    chunk_done true n old items body e (record { has = subst IsUtf8 g u; len = p.0; is = f ∙ p.1 })
+
+pub whole_text_fails : {E : Type 0} (ends : E → Bool) (n at : ℕ) (l l' : Option (List ℕ)) (o o' : ℕ) (old new : List ℕ) → old ≡ []
+    → Moves l l' o o' (λ (b : List ℕ). (length b ≡ n) × (new ≡ old ++ b)) → (IsUtf8 new → ⊥) → FailsBehind {E = E} ends (Text (Some n)) at o l o' (StringDamage Text IsUtf8) (code.Syntax at)
+whole_text_fails ends n at l l' o o' old new e t not = chunk_is ends n at l o o' (code.Syntax at) (utf8_fails ends n at l l' o o' old new new t (λ b f. sym (f ∙ ap (λ z. z ++ b) e)) not)

@@ -1,7 +1,7 @@
 -- The item behind a tag.
 use Rattle.std.proofs.Common.{◌≡◌, ◌≢◌, ◌≤◌, ◌<◌, ◌+◌, ◌-◌, ◌⊎◌, inl, inr, ℕ, suc, Bool, true, false, cond, List, ◌++◌, length, Option, None, Some, refl, sym, ap, subst, ◌∙◌, arith, nat_eq, nat_le, ◌&&◌, ℤ}
 use Rattle.std.specs.Option.{option_map, option_and_then}
-use Rattle.ciborium_ll.specs.Reading.{Takes}
+use Rattle.ciborium_ll.specs.Reading.{Moves}
 use Rattle.ciborium_ll.specs.declared.hdr.Header.{Header}
 use Rattle.ciborium_ll.specs.declared.hdr.Header.TheVariants.{Tag, Bytes}
 use Rattle.ciborium_ll.specs.Title.{Title}
@@ -12,10 +12,10 @@ use Rattle.ciborium_value.specs.Tree.{Tree, integer, bytes, text, array, map, ta
 use Rattle.ciborium.specs.Spelling.{Spells}
 use Rattle.ciborium.specs.Meaning.{meaning, meanings, pair_meanings}
 use Rattle.ciborium_value.specs.Folding.{tagged, fold_bytes}
-use Rattle.ciborium.specs.Damage.{Fault, end, deep, syntax, semantic, Damage, in_title, in_bytes, too_negative, too_deep, in_tag, in_free, TitleDamage, StringDamage, IsFree}
+use Rattle.ciborium.specs.Damage.{Fault, end, deep, syntax, semantic, Damage, in_title, in_bytes, too_negative, too_deep, in_tag, in_free, TitleDamage, StringDamage, IsFree, IsLevel}
 use Rattle.ciborium.specs.Front.{Reads}
 use Rattle.ciborium_ll.specs.Title.{Begins}
-use Rattle.ciborium.specs.Reading.{FailsAt, FailsBehind, Known, string_head, IsBody, StringBehind, ReadsBehind, TaggedBehind, TagDamage}
+use Rattle.ciborium.specs.Reading.{FailsAt, FailsBehind, IfKnown, string_head, IsBody, StringBehind, ReadsBehind, TaggedBehind, TagDamage, OpensOver}
 use Rattle.ciborium_value.specs.Folding.{IsTooNegative}
 use Rattle.ciborium.proofs.Taking.{fails_as}
 use Rattle.ciborium.proofs.ReadLemmas.{behind_rest}
@@ -54,20 +54,20 @@ tag_bytes n limit o h v items x y which is e t s = record {
 }
 
 known_as : {E : Type 0} (ends : E → Bool) (l : Option (List ℕ)) (o o' : ℕ) (D D' : ℕ → List ℕ → Fault → Type 0) (e : Error E)
-    → ((stop : ℕ) (b : List ℕ) (f : Fault) → D stop b f → D' stop b f) → Known l (λ b. FailsAt ends b o o' D e) → Known l (λ b. FailsAt ends b o o' D' e)
+    → ((stop : ℕ) (b : List ℕ) (f : Fault) → D stop b f → D' stop b f) → IfKnown l (λ b. FailsAt ends b o o' D e) → IfKnown l (λ b. FailsAt ends b o o' D' e)
 known_as ends None o o' D D' e step w = tt
 known_as ends (Some b) o o' D D' e step w = fails_as ends _ _ _ _ _ _ e (λ q. q) (step (o + length b) b) (λ l. l) w
 
 -- any other tag
-pub plain_deep : {E : Type 0} (ends : E → Bool) (n limit : ℕ) (l : Option (List ℕ)) (o : ℕ) → (n ≢ 2) × (n ≢ 3) → limit ≡ 0 → Known l (λ b. FailsAt {E = E} ends b o o (TagDamage n limit) code.RecursionLimitExceeded)
+pub plain_deep : {E : Type 0} (ends : E → Bool) (n limit : ℕ) (l : Option (List ℕ)) (o : ℕ) → (n ≢ 2) × (n ≢ 3) → limit ≡ 0 → IfKnown l (λ b. FailsAt {E = E} ends b o o (TagDamage n limit) code.RecursionLimitExceeded)
 plain_deep ends n limit None o p e = tt
 plain_deep ends n limit (Some b) o p e = inr (inl (inl p, e, refl))
 
-pub plain_title : {E : Type 0} (ends : E → Bool) (n limit : ℕ) (l : Option (List ℕ)) (o o' : ℕ) (e : Error E) → (n ≢ 2) × (n ≢ 3) → 0 < limit → Known l (λ b. FailsAt ends b o o' TitleDamage e) → Known l (λ b. FailsAt ends b o o' (TagDamage n limit) e)
+pub plain_title : {E : Type 0} (ends : E → Bool) (n limit : ℕ) (l : Option (List ℕ)) (o o' : ℕ) (e : Error E) → (n ≢ 2) × (n ≢ 3) → 0 < limit → IfKnown l (λ b. FailsAt ends b o o' TitleDamage e) → IfKnown l (λ b. FailsAt ends b o o' (TagDamage n limit) e)
 plain_title ends n limit l o o' e p low w = known_as ends l o o' TitleDamage (TagDamage n limit) e (λ stop b f d. inr (inr (inl p, low, in_title b (limit - 1) f d))) w
 
-pub plain_item : {E : Type 0} (ends : E → Bool) (n limit at : ℕ) (h : Header) (l₀ l₁ : Option (List ℕ)) (o₀ o₁ o₂ : ℕ) (e : Error E) → (n ≢ 2) × (n ≢ 3) → 0 < limit → Takes l₀ l₁ o₀ o₁ (λ (b : List ℕ). Title b h) → at ≡ o₀
-    → FailsBehind ends h at o₁ l₁ o₂ (λ stop b f. Damage stop b (limit - 1) f) e → Known l₀ (λ b. FailsAt ends b o₀ o₂ (TagDamage n limit) e)
+pub plain_item : {E : Type 0} (ends : E → Bool) (n limit at : ℕ) (h : Header) (l₀ l₁ : Option (List ℕ)) (o₀ o₁ o₂ : ℕ) (e : Error E) → (n ≢ 2) × (n ≢ 3) → 0 < limit → Moves l₀ l₁ o₀ o₁ (λ (b : List ℕ). Title b h) → at ≡ o₀
+    → FailsBehind ends h at o₁ l₁ o₂ (λ stop b f. Damage stop b (limit - 1) f) e → IfKnown l₀ (λ b. FailsAt ends b o₀ o₂ (TagDamage n limit) e)
 plain_item ends n limit at h l₀ l₁ o₀ o₁ o₂ e p low t same w =
     known_as ends l₀ o₀ o₂ (Begun h (λ stop b f. Damage stop b (limit - 1) f)) (TagDamage n limit) e (λ stop b f d. inr (inr (inl p, low, d.1)))
     (fails_begun ends l₀ l₁ o₀ o₁ o₂ h (λ stop b f. Damage stop b (limit - 1) f) e t (subst (λ (z : ℕ). FailsBehind ends h z o₁ l₁ o₂ (λ stop b f. Damage stop b (limit - 1) f) e) same w))
@@ -79,26 +79,30 @@ title_free n stop b deep which d = absurd d
 title_free n stop b (syntax p) which d = (which, inr (inr d.0))
 title_free n stop b (semantic k) which d = absurd d
 
-pub free_title : {E : Type 0} (ends : E → Bool) (n limit : ℕ) (l : Option (List ℕ)) (o o' : ℕ) (e : Error E) → (n ≡ 2) ⊎ (n ≡ 3) → Known l (λ b. FailsAt ends b o o' TitleDamage e) → Known l (λ b. FailsAt ends b o o' (TagDamage n limit) e)
+pub free_title : {E : Type 0} (ends : E → Bool) (n limit : ℕ) (l : Option (List ℕ)) (o o' : ℕ) (e : Error E) → (n ≡ 2) ⊎ (n ≡ 3) → IfKnown l (λ b. FailsAt ends b o o' TitleDamage e) → IfKnown l (λ b. FailsAt ends b o o' (TagDamage n limit) e)
 free_title ends n limit l o o' e which w = known_as ends l o o' TitleDamage (TagDamage n limit) e (λ stop b f d. inl (title_free n stop b f which d, in_title b limit f d)) w
 
-pub free_string : {E : Type 0} (ends : E → Bool) (n limit at : ℕ) (k : Option ℕ) (h : Header) (l₀ l₁ : Option (List ℕ)) (o₀ o₁ o₂ : ℕ) (e : Error E) → (n ≡ 2) ⊎ (n ≡ 3) → h ≡ Bytes k → Takes l₀ l₁ o₀ o₁ (λ (b : List ℕ). Title b h) → at ≡ o₀
-    → FailsBehind ends (string_head false k) at o₁ l₁ o₂ (StringDamage (string_head false) (IsBody false)) e → Known l₀ (λ b. FailsAt ends b o₀ o₂ (TagDamage n limit) e)
+pub free_string : {E : Type 0} (ends : E → Bool) (n limit at : ℕ) (k : Option ℕ) (h : Header) (l₀ l₁ : Option (List ℕ)) (o₀ o₁ o₂ : ℕ) (e : Error E) → (n ≡ 2) ⊎ (n ≡ 3) → h ≡ Bytes k → Moves l₀ l₁ o₀ o₁ (λ (b : List ℕ). Title b h) → at ≡ o₀
+    → FailsBehind ends (string_head false k) at o₁ l₁ o₂ (StringDamage (string_head false) (IsBody false)) e → IfKnown l₀ (λ b. FailsAt ends b o₀ o₂ (TagDamage n limit) e)
 free_string ends n limit at k h l₀ l₁ o₀ o₁ o₂ e which is t same w =
     known_as ends l₀ o₀ o₂ (Begun (Bytes k) (StringDamage (string_head false) (IsBody false))) (TagDamage n limit) e (λ stop b f d. inl ((which, inl (k, d.0.0, d.0.1)), in_bytes b limit f d.1))
-    (fails_begun ends l₀ l₁ o₀ o₁ o₂ (Bytes k) (StringDamage (string_head false) (IsBody false)) e (subst (λ (z : Header). Takes l₀ l₁ o₀ o₁ (λ (b : List ℕ). Title b z)) is t)
+    (fails_begun ends l₀ l₁ o₀ o₁ o₂ (Bytes k) (StringDamage (string_head false) (IsBody false)) e (subst (λ (z : Header). Moves l₀ l₁ o₀ o₁ (λ (b : List ℕ). Title b z)) is t)
     (subst (λ (z : ℕ). FailsBehind ends (Bytes k) z o₁ l₁ o₂ (StringDamage (string_head false) (IsBody false)) e) same w))
 
-pub level_deep : {E : Type 0} (ends : E → Bool) (n limit : ℕ) (h : Header) (l₀ l₁ : Option (List ℕ)) (o₀ o₁ : ℕ) → ((o : Option ℕ) → h ≢ Bytes o) → limit ≡ 0 → Takes l₀ l₁ o₀ o₁ (λ (b : List ℕ). Title b h)
-    → Known l₀ (λ b. FailsAt {E = E} ends b o₀ o₁ (TagDamage n limit) code.RecursionLimitExceeded)
-level_deep ends n limit h None l₁ o₀ o₁ not e t = tt
-level_deep ends n limit h (Some b) None o₀ o₁ not e t = absurd t.taken
-level_deep ends n limit h (Some b) (Some rest) o₀ o₁ not e t = inr (inl (inr (h, rest, record { title = t.bytes; is_title = t.has; whole = t.taken }, not), e, refl))
+opens_level : (n : ℕ) (h : Header) (b : List ℕ) → OpensOver n h → (rest : List ℕ) → Begins b h rest → IsLevel n b
+opens_level n h b (inl plain) rest s = inl plain
+opens_level n h b (inr not) rest s = inr (h, rest, s, not)
 
-pub level_item : {E : Type 0} (ends : E → Bool) (n limit at : ℕ) (h : Header) (l₀ l₁ : Option (List ℕ)) (o₀ o₁ o₂ : ℕ) (e : Error E) → ((o : Option ℕ) → h ≢ Bytes o) → 0 < limit → Takes l₀ l₁ o₀ o₁ (λ (b : List ℕ). Title b h) → at ≡ o₀
-    → FailsBehind ends h at o₁ l₁ o₂ (λ stop b f. Damage stop b (limit - 1) f) e → Known l₀ (λ b. FailsAt ends b o₀ o₂ (TagDamage n limit) e)
-level_item ends n limit at h l₀ l₁ o₀ o₁ o₂ e not low t same w =
-    known_as ends l₀ o₀ o₂ (Begun h (λ stop b f. Damage stop b (limit - 1) f)) (TagDamage n limit) e (λ stop b f d. inr (inr (inr (h, d.0.0, d.0.1, not), low, d.1)))
+pub level_deep : {E : Type 0} (ends : E → Bool) (n limit : ℕ) (h : Header) (l₀ l₁ : Option (List ℕ)) (o₀ o₁ : ℕ) → OpensOver n h → limit ≡ 0 → Moves l₀ l₁ o₀ o₁ (λ (b : List ℕ). Title b h)
+    → IfKnown l₀ (λ b. FailsAt {E = E} ends b o₀ o₁ (TagDamage n limit) code.RecursionLimitExceeded)
+level_deep ends n limit h None l₁ o₀ o₁ over e t = tt
+level_deep ends n limit h (Some b) None o₀ o₁ over e t = absurd t.taken
+level_deep ends n limit h (Some b) (Some rest) o₀ o₁ over e t = inr (inl (opens_level n h b over rest (record { title = t.bytes; is_title = t.has; whole = t.taken }), e, refl))
+
+pub level_item : {E : Type 0} (ends : E → Bool) (n limit at : ℕ) (h : Header) (l₀ l₁ : Option (List ℕ)) (o₀ o₁ o₂ : ℕ) (e : Error E) → OpensOver n h → 0 < limit → Moves l₀ l₁ o₀ o₁ (λ (b : List ℕ). Title b h) → at ≡ o₀
+    → FailsBehind ends h at o₁ l₁ o₂ (λ stop b f. Damage stop b (limit - 1) f) e → IfKnown l₀ (λ b. FailsAt ends b o₀ o₂ (TagDamage n limit) e)
+level_item ends n limit at h l₀ l₁ o₀ o₁ o₂ e over low t same w =
+    known_as ends l₀ o₀ o₂ (Begun h (λ stop b f. Damage stop b (limit - 1) f)) (TagDamage n limit) e (λ stop b f d. inr (inr (opens_level n h b over d.0.0 d.0.1, low, d.1)))
     (fails_begun ends l₀ l₁ o₀ o₁ o₂ h (λ stop b f. Damage stop b (limit - 1) f) e t (subst (λ (z : ℕ). FailsBehind ends h z o₁ l₁ o₂ (λ stop b f. Damage stop b (limit - 1) f) e) same w))
 
 -- a fault behind the tag is one of the item
@@ -107,7 +111,7 @@ tag_damage n limit stop b rest f s (inl (free, d)) = in_free b rest limit n f s 
 tag_damage n limit stop b rest f s (inr (inl (lv, e, g))) = subst (λ (z : Fault). Damage stop b limit z) (sym g) (subst (λ (z : ℕ). Damage stop b z deep) (sym e) (too_deep b rest (Tag n) s lv))
 tag_damage n limit stop b rest f s (inr (inr (lv, low, d))) = in_tag b rest limit n f s low lv d
 
-pub tag_fails : {E : Type 0} (ends : E → Bool) (n at limit : ℕ) (l : Option (List ℕ)) (o o' : ℕ) (e : Error E) → Known l (λ b. FailsAt ends b o o' (TagDamage n limit) e) → FailsBehind ends (Tag n) at o l o' (λ stop b f. Damage stop b limit f) e
+pub tag_fails : {E : Type 0} (ends : E → Bool) (n at limit : ℕ) (l : Option (List ℕ)) (o o' : ℕ) (e : Error E) → IfKnown l (λ b. FailsAt ends b o o' (TagDamage n limit) e) → FailsBehind ends (Tag n) at o l o' (λ stop b f. Damage stop b limit f) e
 tag_fails ends n at limit l o o' e w = behind_rest ends (Tag n) at l o o' (TagDamage n limit) _ e (λ stop b rest f s d. tag_damage n limit stop b rest f s d) w
 
 -- only bytes mean bytes
@@ -164,7 +168,7 @@ bytes_meant (tag n t) x e = absurd (then_not n (meaning t) x e)
 bytes_meant (simple n) x e = absurd (cond_not (nat_eq n 23) (Some (simple 22)) (cond (nat_le 20 n && nat_le n 22) (Some (simple n)) None) (Some (bytes x)) (simple_no _ x) (cond_not _ _ _ _ (simple_no _ x) (none_no x)) e)
 bytes_meant (float f) x e = cc
 
-pub negative_fails : {E : Type 0} (ends : E → Bool) (n at limit : ℕ) (c : Tree) (l₀ l₁ : Option (List ℕ)) (o₀ o₁ : ℕ) → IsTooNegative n c → Takes l₀ l₁ o₀ o₁ (λ (b : List ℕ). TaggedBehind n limit c b)
+pub negative_fails : {E : Type 0} (ends : E → Bool) (n at limit : ℕ) (c : Tree) (l₀ l₁ : Option (List ℕ)) (o₀ o₁ : ℕ) → IsTooNegative n c → Moves l₀ l₁ o₀ o₁ (λ (b : List ℕ). TaggedBehind n limit c b)
     → FailsBehind {E = E} ends (Tag n) at o₀ l₀ o₁ (λ stop b f. Damage stop b limit f) (code.Semantic None kind.BigNegative)
 negative_fails ends n at limit c None l₁ o₀ o₁ w t title u g = tt
 negative_fails ends n at limit c (Some b) None o₀ o₁ w t title u g = absurd t.taken

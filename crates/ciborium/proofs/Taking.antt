@@ -3,7 +3,7 @@ use Rattle.std.proofs.Common.{◌≡◌, ◌≤◌, ◌<◌, ◌+◌, ◌^◌, �
 use Rattle.std.specs.Prelude.{min}
 use Rattle.std.specs.Io.KnownBytes.{Consumes}
 use Rattle.std.proofs.KnownBytes.{Consumes-trans}
-use Rattle.ciborium_ll.specs.Reading.{Takes, Tells, Ends, IsBadByte}
+use Rattle.ciborium_ll.specs.Reading.{Moves, Tells, Ends, IsBadByte}
 use Rattle.ciborium_ll.specs.Device.{IsShort}
 use Rattle.ciborium_ll.specs.declared.hdr.Header.{Header}
 use Rattle.ciborium_ll.specs.declared.hdr.Error.{Error as HeadError}
@@ -12,10 +12,10 @@ use Rattle.ciborium_ll.specs.Title.{Title, IsCut, StartsBad}
 use Rattle.ciborium.specs.declared.de.Error.{Error}
 use Rattle.ciborium.specs.declared.de.Error.TheVariants as code
 use Rattle.ciborium.specs.Damage.{Fault, end, deep, syntax, semantic, TitleDamage}
-use Rattle.ciborium.specs.Reading.{Fails, FailsAt, FailsBehind, EndPlace, Known, IsLong, ShortBy, lifted}
+use Rattle.ciborium.specs.Reading.{Fails, FailsAt, FailsBehind, EndPlace, IfKnown, IsLong, ShortBy, lifted}
 
-pub takes_then : (l₀ l₁ l₂ : Option (List ℕ)) (o₀ o₁ o₂ : ℕ) (P Q S : List ℕ → Type 0) → Takes l₀ l₁ o₀ o₁ P → Takes l₁ l₂ o₁ o₂ Q
-    → ((x y : List ℕ) → P x → Q y → S (x ++ y)) → Takes l₀ l₂ o₀ o₂ S
+pub takes_then : (l₀ l₁ l₂ : Option (List ℕ)) (o₀ o₁ o₂ : ℕ) (P Q S : List ℕ → Type 0) → Moves l₀ l₁ o₀ o₁ P → Moves l₁ l₂ o₁ o₂ Q
+    → ((x y : List ℕ) → P x → Q y → S (x ++ y)) → Moves l₀ l₂ o₀ o₂ S
 takes_then l₀ l₁ l₂ o₀ o₁ o₂ P Q S p q f = record {
   bytes = p.bytes ++ q.bytes;
   has = f p.bytes q.bytes p.has q.has;
@@ -23,10 +23,10 @@ takes_then l₀ l₁ l₂ o₀ o₁ o₂ P Q S p q f = record {
   grown = omega (arith, p.grown, q.grown, length-append p.bytes q.bytes);
 }
 
-pub takes_as : (l₀ l₁ : Option (List ℕ)) (o₀ o₁ : ℕ) (P S : List ℕ → Type 0) → Takes l₀ l₁ o₀ o₁ P → ((x : List ℕ) → P x → S x) → Takes l₀ l₁ o₀ o₁ S
+pub takes_as : (l₀ l₁ : Option (List ℕ)) (o₀ o₁ : ℕ) (P S : List ℕ → Type 0) → Moves l₀ l₁ o₀ o₁ P → ((x : List ℕ) → P x → S x) → Moves l₀ l₁ o₀ o₁ S
 takes_as l₀ l₁ o₀ o₁ P S p f = record { bytes = p.bytes; has = f p.bytes p.has; taken = p.taken; grown = p.grown }
 
-pub takes_none : (l : Option (List ℕ)) (o : ℕ) (P : List ℕ → Type 0) → P [] → Takes l l o o P
+pub takes_none : (l : Option (List ℕ)) (o : ℕ) (P : List ℕ → Type 0) → P [] → Moves l l o o P
 takes_none l o P p = record { bytes = []; has = p; taken = go l; grown = omega arith }
   where
     go : (l : Option (List ℕ)) → Consumes l l []
@@ -62,8 +62,8 @@ fails_over ends x rest o₀ o₁ o₂ D D' e g step w =
 
 -- a fault behind what was taken is a fault of the whole
 pub fails_behind : {E : Type 0} (ends : E → Bool) (l₀ l₁ : Option (List ℕ)) (o₀ o₁ o₂ : ℕ) (P : List ℕ → Type 0) (D D' : ℕ → List ℕ → Fault → Type 0) (e : Error E)
-    → Takes l₀ l₁ o₀ o₁ P → ((stop : ℕ) (x rest : List ℕ) (f : Fault) → P x → D stop rest f → D' stop (x ++ rest) f)
-    → Known l₁ (λ b. FailsAt ends b o₁ o₂ D e) → Known l₀ (λ b. FailsAt ends b o₀ o₂ D' e)
+    → Moves l₀ l₁ o₀ o₁ P → ((stop : ℕ) (x rest : List ℕ) (f : Fault) → P x → D stop rest f → D' stop (x ++ rest) f)
+    → IfKnown l₁ (λ b. FailsAt ends b o₁ o₂ D e) → IfKnown l₀ (λ b. FailsAt ends b o₀ o₂ D' e)
 fails_behind ends None l₁ o₀ o₁ o₂ P D D' e t step w = tt
 fails_behind ends (Some b) None o₀ o₁ o₂ P D D' e t step w = absurd t.taken
 fails_behind ends (Some b) (Some rest) o₀ o₁ o₂ P D D' e t step w =
@@ -71,7 +71,7 @@ fails_behind ends (Some b) (Some rest) o₀ o₁ o₂ P D D' e t step w =
 
 -- the same behind a title that was taken
 pub fails_titled : {E : Type 0} (ends : E → Bool) (l₀ l₁ : Option (List ℕ)) (o₀ o₁ o₂ : ℕ) (h : Header) (D : ℕ → List ℕ → Fault → Type 0) (e : Error E)
-    → Takes l₀ l₁ o₀ o₁ (λ (b : List ℕ). Title b h) → FailsBehind ends h o₀ o₁ l₁ o₂ D e → Known l₀ (λ b. FailsAt ends b o₀ o₂ D e)
+    → Moves l₀ l₁ o₀ o₁ (λ (b : List ℕ). Title b h) → FailsBehind ends h o₀ o₁ l₁ o₂ D e → IfKnown l₀ (λ b. FailsAt ends b o₀ o₂ D e)
 fails_titled ends None l₁ o₀ o₁ o₂ h D e t w = tt
 fails_titled ends (Some b) None o₀ o₁ o₂ h D e t w = absurd t.taken
 fails_titled ends (Some b) (Some rest) o₀ o₁ o₂ h D e t w =
@@ -79,7 +79,7 @@ fails_titled ends (Some b) (Some rest) o₀ o₁ o₂ h D e t w =
 
 -- what a fault of `pull` tells
 pub fails_pull : {E : Type 0} (ends : E → Bool) (l₀ l₁ : Option (List ℕ)) (o₀ o₁ : ℕ) (e : HeadError E) (f : Error E) → f ≡ lifted e
-    → Tells ends (Ends l₀ l₁ o₀ o₁) (λ p. (p ≡ o₀) × Takes l₀ l₁ o₀ o₁ IsBadByte) (2 ^ 64 ≤ o₀ + 9) e → Known l₀ (λ b. FailsAt ends b o₀ o₁ TitleDamage f)
+    → Tells ends (Ends l₀ l₁ o₀ o₁) (λ p. (p ≡ o₀) × Moves l₀ l₁ o₀ o₁ IsBadByte) (2 ^ 64 ≤ o₀ + 9) e → IfKnown l₀ (λ b. FailsAt ends b o₀ o₁ TitleDamage f)
 fails_pull ends None l₁ o₀ o₁ e f i w = tt
 fails_pull ends (Some b) l₁ o₀ o₁ e f i w = subst (λ (z : Error _). FailsAt ends b o₀ o₁ TitleDamage z) (sym i) (go b l₁ e w)
   where
@@ -87,11 +87,11 @@ fails_pull ends (Some b) l₁ o₀ o₁ e f i w = subst (λ (z : Error _). Fails
     ended [] l₁ w = (w.0, omega arith)
     ended (x ∷ xs) l₁ w = let k : o₁ ≡ o₀ + min 1 (length (x ∷ xs)) = w.1 in (w.0, omega arith)
 
-    bad : (b : List ℕ) (l₁ : Option (List ℕ)) → Takes (Some b) l₁ o₀ o₁ IsBadByte → StartsBad b
+    bad : (b : List ℕ) (l₁ : Option (List ℕ)) → Moves (Some b) l₁ o₀ o₁ IsBadByte → StartsBad b
     bad b None t = absurd t.taken
     bad b (Some r) t = let h = t.has in subst StartsBad (sym (t.taken ∙ ap (λ z. z ++ r) h.1)) h.2
 
-    go : (b : List ℕ) (l₁ : Option (List ℕ)) (e : HeadError _) → Tells ends (Ends (Some b) l₁ o₀ o₁) (λ p. (p ≡ o₀) × Takes (Some b) l₁ o₀ o₁ IsBadByte) (2 ^ 64 ≤ o₀ + 9) e → FailsAt ends b o₀ o₁ TitleDamage (lifted e)
+    go : (b : List ℕ) (l₁ : Option (List ℕ)) (e : HeadError _) → Tells ends (Ends (Some b) l₁ o₀ o₁) (λ p. (p ≡ o₀) × Moves (Some b) l₁ o₀ o₁ IsBadByte) (2 ^ 64 ≤ o₀ + 9) e → FailsAt ends b o₀ o₁ TitleDamage (lifted e)
     go b l₁ (below.Io e) w = λ t. ended b l₁ (w t)
     go b l₁ (below.Syntax p) w = (bad b l₁ w.1, ap (λ z. z + length b) w.0)
     go b l₁ below.TooLong w = omega arith
@@ -99,8 +99,8 @@ fails_pull ends (Some b) l₁ o₀ o₁ e f i w = subst (λ (z : Error _). Fails
 
 -- too few bytes behind some that were taken
 pub short_behind : {E : Type 0} (ends : E → Bool) (l₀ l₁ l₂ : Option (List ℕ)) (o₀ o₁ o₂ n got m : ℕ) (P : List ℕ → Type 0) (e : HeadError E) (f : Error E) → f ≡ lifted e
-    → Takes l₀ l₁ o₀ o₁ P → ((x : List ℕ) → P x → length x ≡ got) → got + m ≤ n → m ≤ 4096 → o₂ ≡ o₁
-    → Tells ends (IsShort l₁ m) (λ p. ⊥) (2 ^ 64 ≤ o₁ + m) e → Known l₀ (λ b. Fails ends (o₀ ≤ o₂) (ShortBy n (o₀ + length b) b) (IsLong o₀ b) f)
+    → Moves l₀ l₁ o₀ o₁ P → ((x : List ℕ) → P x → length x ≡ got) → got + m ≤ n → m ≤ 4096 → o₂ ≡ o₁
+    → Tells ends (IsShort l₁ m) (λ p. ⊥) (2 ^ 64 ≤ o₁ + m) e → IfKnown l₀ (λ b. Fails ends (o₀ ≤ o₂) (ShortBy n (o₀ + length b) b) (IsLong o₀ b) f)
 short_behind ends None l₁ l₂ o₀ o₁ o₂ n got m P e f i t len le few same w = tt
 short_behind ends (Some b) None l₂ o₀ o₁ o₂ n got m P e f i t len le few same w = absurd t.taken
 short_behind ends (Some b) (Some rest) l₂ o₀ o₁ o₂ n got m P e f i t len le few same w =
@@ -120,7 +120,7 @@ short_behind ends (Some b) (Some rest) l₂ o₀ o₁ o₂ n got m P e f i t len
 
 -- the faults behind a title, from those of the whole with any such title in front
 pub behind_title : {E : Type 0} (ends : E → Bool) (h : Header) (at : ℕ) (l : Option (List ℕ)) (o o' : ℕ) (D : ℕ → List ℕ → Fault → Type 0) (e : Error E)
-    → ((title : List ℕ) → Title title h → Known l (λ b. FailsAt ends b o o' (λ stop b f. D stop (title ++ b) f) e)) → FailsBehind ends h at o l o' D e
+    → ((title : List ℕ) → Title title h → IfKnown l (λ b. FailsAt ends b o o' (λ stop b f. D stop (title ++ b) f) e)) → FailsBehind ends h at o l o' D e
 behind_title ends h at None o o' D e w title t g = tt
 behind_title ends h at (Some b) o o' D e w title t g =
     fails_over ends title b at o o' (λ stop b f. D stop (title ++ b) f) D e (sym g) (λ stop f d. d) (w title t)

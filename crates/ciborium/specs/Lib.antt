@@ -1,8 +1,20 @@
+pub mod Building
 pub mod Damage
 pub mod Front
 pub mod Items
 pub mod Meaning
 pub mod Reading
 pub mod Spelling
+pub mod Streams
 pub mod Writing
 pub mod Typed
+pub use Rattle.ciborium_ll.specs.Device
+pub use Rattle.ciborium_ll.specs.Framing
+pub use Rattle.ciborium_ll.specs.Reading as HeadReading
+pub use Rattle.ciborium_ll.specs.Title
+pub use Rattle.ciborium_ll.specs.Views
+pub use Rattle.ciborium_value.specs.Encoding
+pub use Rattle.ciborium_value.specs.Folding
+pub use Rattle.ciborium_value.specs.Tree
+pub use Rattle.ciborium_value.specs.View
+pub use Rattle.ciborium_typed.specs.Events

@@ -2,9 +2,10 @@
 use Rattle.std.specs.Prelude.{◌≡◌, ◌≢◌, ℕ, ◌+◌, ◌-◌, ◌^◌, ◌<◌, ◌≤◌, ◌⊎◌, nat_eq, List, [], ◌∷◌, ◌++◌, length, Option, Some, None, Bool, true, false, Result, Ok, Err, IsTrue, if◌then◌else◌}
 use Rattle.std.specs.Str.{IsUtf8}
 use Rattle.ciborium_ll.specs.declared.hdr.Header.{Header}
-use Rattle.ciborium_ll.specs.declared.hdr.Header.TheVariants.{Break, Bytes, Text}
+use Rattle.ciborium_ll.specs.declared.hdr.Header.TheVariants.{Positive, Negative, Float, Simple, Tag, Break, Bytes, Text, Array, Map}
 use Rattle.ciborium_ll.specs.declared.hdr.Error.{Error as HeadError}
 use Rattle.ciborium_ll.specs.declared.hdr.Error.TheVariants as below
+use Rattle.ciborium_ll.specs.Seen.{Seen}
 use Rattle.ciborium_ll.specs.Title.{Title}
 use Rattle.ciborium_value.specs.declared.kind.Kind.TheVariants as kind
 use Rattle.ciborium.specs.declared.de.Error.{Error}
@@ -12,6 +13,7 @@ use Rattle.ciborium.specs.declared.de.Error.TheVariants as code
 use Rattle.ciborium.specs.declared.strings.Part.{Part}
 use Rattle.ciborium.specs.declared.strings.Part.TheVariants as part
 use Rattle.ciborium_value.specs.Tree.{Tree, Trees, tree_count, depth, tag}
+use Rattle.ciborium_value.specs.Folding.{IsTooNegative}
 use Rattle.ciborium_ll.specs.Framing.{Frame, joined}
 use Rattle.ciborium.specs.Spelling.{Spells}
 use Rattle.ciborium.specs.Meaning.{meaning}
@@ -37,6 +39,12 @@ fault_failures ends code.TooLong n = n
 abbrev pub failures : {T E : Type 0} → (E → Bool) → Result T (Error E) → ℕ → ℕ
 failures ends (Ok x) n = n
 failures ends (Err e) n = fault_failures ends e n
+
+-- every call on a decoder: a failure is counted exactly where the answer is one, the reader stays the same, and no header waits then
+pub record Steady {T E : Type 0} (ends : E → Bool) (answer : Result T (Error E)) (old new : Seen) : Type 0 where
+  pub failed : new.failed ≡ failures ends answer old.failed
+  pub handle : new.handle ≡ old.handle
+  pub waiting : new.waiting ≡ None
 
 -- any fault but want of memory
 abbrev pub IsNoMemory : {E : Type 0} → Error E → Type 0
@@ -65,14 +73,21 @@ EndPlace (x ∷ xs) at at' = at < at'
 abbrev pub IsLong : ℕ → List ℕ → Type 0
 IsLong at b = 2 ^ 64 ≤ at + length b + 4096
 
--- bytes that are not known tell nothing
+-- P holds of the bytes, where they are known
+abbrev pub IfKnown : Option (List ℕ) → (List ℕ → Type 0) → Type 0
+IfKnown None P = Unit {0}
+IfKnown (Some b) P = P b
+
 abbrev pub Known : Option (List ℕ) → (List ℕ → Type 0) → Type 0
-Known None P = Unit {0}
-Known (Some b) P = P b
+Known b P = IfKnown b P
 
 -- the fault of an item that is due at the place `at`
 abbrev pub FailsAt : {E : Type 0} → (E → Bool) → List ℕ → ℕ → ℕ → (ℕ → List ℕ → Fault → Type 0) → Error E → Type 0
 FailsAt ends b at at' D e = Fails ends (EndPlace b at at') (D (at + length b) b) (IsLong at b) e
+
+-- an error names the fault that is due, where the bytes to come are known
+abbrev pub NamesFault : {E : Type 0} → (E → Bool) → (ℕ → List ℕ → Fault → Type 0) → Seen → Seen → Error E → Type 0
+NamesFault ends D old new e = IfKnown old.left (λ b. FailsAt ends b old.offset new.offset D e)
 
 -- the kinds of strings
 abbrev pub string_head : Bool → Option ℕ → Header
@@ -110,7 +125,29 @@ pub record ChunkBody (text : Bool) (n : ℕ) (old new body : List ℕ) : Type 0 
 -- the faults behind a title of h that begins at the place `at`
 abbrev pub FailsBehind : {E : Type 0} → (E → Bool) → Header → ℕ → ℕ → Option (List ℕ) → ℕ → (ℕ → List ℕ → Fault → Type 0) → Error E → Type 0
 FailsBehind ends h at place left place' D e =
-    (title : List ℕ) → Title title h → at + length title ≡ place → Known left (λ rest. FailsAt ends (title ++ rest) at place' D e)
+    (title : List ℕ) → Title title h → at + length title ≡ place → IfKnown left (λ rest. FailsAt ends (title ++ rest) at place' D e)
+
+-- an error names the fault of an item whose title, one of h, begins at the place `at`
+abbrev pub NamesFaultBehind : {E : Type 0} → (E → Bool) → Header → ℕ → (ℕ → List ℕ → Fault → Type 0) → Seen → Seen → Error E → Type 0
+NamesFaultBehind ends h at D old new e = FailsBehind ends h at old.offset old.left new.offset D e
+
+-- an error where n bytes are due
+abbrev pub NamesShort : {E : Type 0} → (E → Bool) → ℕ → Seen → Seen → Error E → Type 0
+NamesShort ends n old new e =
+    IfKnown old.left (λ b. Fails ends (old.offset ≤ new.offset) (ShortBy n (old.offset + length b) b) (IsLong old.offset b) e)
+
+-- a header that no items follow
+abbrev pub IsLeaf : Header → Type 0
+IsLeaf (Positive n) = Unit {0}
+IsLeaf (Negative n) = Unit {0}
+IsLeaf (Float f) = Unit {0}
+IsLeaf (Simple n) = Unit {0}
+IsLeaf (Tag n) = ⊥
+IsLeaf Break = Unit {0}
+IsLeaf (Bytes o) = Unit {0}
+IsLeaf (Text o) = Unit {0}
+IsLeaf (Array o) = ⊥
+IsLeaf (Map o) = ⊥
 
 -- what a header is inside a string
 abbrev pub IsPart : Bool → Header → Part → Type 0
@@ -128,6 +165,21 @@ abbrev pub ChildrenBehind : Option ℕ → ℕ → ℕ → Trees → List ℕ �
 ChildrenBehind (Some n) count limit vs inner = (n ≡ count) × ReadsAll inner limit vs
 ChildrenBehind None count limit vs inner = (body : List ℕ) × ReadsAll body limit vs × (inner ≡ body ++ 255 ∷ [])
 
+-- as many children were read as a length says
+abbrev pub is_full : Option ℕ → ℕ → Bool
+is_full (Some n) done = nat_eq n done
+is_full None done = false
+
+-- all children were read, and their break is taken where they are open
+abbrev pub Closes : Option ℕ → ℕ → List ℕ → Type 0
+Closes (Some n) done b = (n ≡ done) × (b ≡ [])
+Closes None done b = b ≡ 255 ∷ []
+
+-- one more child is due: its title is one of h
+pub record IsNext (o : Option ℕ) (done : ℕ) (h : Header) : Type 0 where
+  pub due : is_full o done ≡ false
+  pub stays : o ≡ None → h ≢ Break
+
 -- some children are there, and the next is damaged
 pub record ChildDamage (h : Header) (limit stop : ℕ) (b : List ℕ) (f : Fault) : Type 0 where
   pub done : Trees
@@ -136,13 +188,22 @@ pub record ChildDamage (h : Header) (limit stop : ℕ) (b : List ℕ) (f : Fault
   pub due : Due h (tree_count done) rest
   pub damage : Damage stop rest limit f
 
-abbrev pub is_full : Option ℕ → ℕ → Bool
-is_full (Some n) done = nat_eq n done
-is_full None done = false
-
 abbrev pub FitsIn : Option ℕ → ℕ → Type 0
 FitsIn (Some n) done = done ≤ n
 FitsIn None done = Unit {0}
+
+-- a tag that opens a level over an item with this header
+abbrev pub OpensOver : ℕ → Header → Type 0
+OpensOver n h = ((n ≢ 2) × (n ≢ 3)) ⊎ ((o : Option ℕ) → h ≢ Bytes o)
+
+-- memory was refused, or the number is too negative
+abbrev pub IsFoldFault : {E : Type 0} → ℕ → Tree → Error E → Type 0
+IsFoldFault n t (code.Io e) = ⊥
+IsFoldFault n t (code.Syntax p) = ⊥
+IsFoldFault n t (code.Semantic o k) = (o ≡ None) × (k ≡ kind.BigNegative) × IsTooNegative n t
+IsFoldFault n t code.RecursionLimitExceeded = ⊥
+IsFoldFault n t code.Memory = Unit {0}
+IsFoldFault n t code.TooLong = ⊥
 
 -- the item behind a tag
 pub record TaggedBehind (n limit : ℕ) (v : Tree) (inner : List ℕ) : Type 0 where

@@ -9,7 +9,7 @@ use Rattle.ciborium.specs.declared.de.Error.{Error}
 use Rattle.ciborium.specs.declared.de.Error.TheVariants as code
 use Rattle.ciborium.specs.Front.{Reads}
 use Rattle.ciborium.specs.Damage.{Damage}
-use Rattle.ciborium.specs.Reading.{Fails, Known, IsLong}
+use Rattle.ciborium.specs.Reading.{Fails, IfKnown, IsLong}
 
 -- the error for an item that a type does not take
 abbrev pub refusing : {E : Type 0} → ValueError → Error E
@@ -38,12 +38,12 @@ pub record IsRefused {E : Type 0} (refusal : Tree → Option Kind) (limit : ℕ)
   pub reads : Reads b limit item
   pub why : IsTypeFault (refusal item) e
 
--- bytes that have P were taken of those to come
-abbrev pub Took : Option (List ℕ) → Option (List ℕ) → (List ℕ → Type 0) → Type 0
-Took old new P = (b : List ℕ) × Consumes old new b × P b
+-- a reader gave bytes that have P
+abbrev pub Gives : Option (List ℕ) → Option (List ℕ) → (List ℕ → Type 0) → Type 0
+Gives old new P = (b : List ℕ) × Consumes old new b × P b
 
 -- the error for the bytes to come: the fault of the item that is due at their front, with places counted from their beginning, or
 -- the type's fault where the item there was taken
 abbrev pub IsUnread : {E : Type 0} → (E → Bool) → (Tree → Option Kind) → ℕ → Option (List ℕ) → Option (List ℕ) → Error E → Type 0
 IsUnread ends refusal limit old new e =
-    Known old (λ b. Fails ends (Unit {0}) (λ f. Damage (length b) b limit f) (IsLong 0 b) e) ⊎ Took old new (IsRefused refusal limit e)
+    IfKnown old (λ b. Fails ends (Unit {0}) (λ f. Damage (length b) b limit f) (IsLong 0 b) e) ⊎ Gives old new (IsRefused refusal limit e)

@@ -1,8 +1,10 @@
 //! What `cbor!` is made of: each call gives a part, or hands on the first error.
-ghost use Rattle.std.specs.Prelude.{◌≡◌, ◌++◌, ◌∷◌, [], Err, IfOk, IfErr, OnOk, OnErr};
+ghost use Rattle.std.specs.Prelude.{◌≡◌, IfOk, IfErr, OnOk, OnErr, Err};
 ghost use Rattle.ciborium_value.specs.Tree as tree;
+ghost use Rattle.ciborium_value.specs.Tree.{Tree, Trees, Pairs, no_trees, no_pairs};
 ghost use Rattle.ciborium_value.specs.View.{view, views, view_pairs};
 ghost use Rattle.ciborium_traits.specs.declared.error.Error.TheVariants as error;
+ghost use Rattle.ciborium.specs.Building.{Adds, entry_of, one_last, pair_last};
 
 use crate::value::{Error, Value};
 use ciborium_typed::{Serialize, ValueTyped};
@@ -26,20 +28,23 @@ pub fn null() -> Result<Value, Error>
 
 /// No items yet.
 pub fn no_items(alloc: Global) -> Result<Vec<Value>, Error>
-    ensures ok { IfOk result (λ v. v.items ≡ []) }
+    ensures ok { IfOk result (λ v. views v.items ≡ no_trees) }
     ensures made { OnErr result ⊥ }
 {
     Ok(Vec::new(alloc))
 }
 
 /// One more item.
+///
+/// # Errors
+/// The first of the list's and the item's; `Memory` where both are there and memory is refused.
 pub fn with_item(
     items: Result<Vec<Value>, Error>,
     item: Result<Value, Error>,
 ) -> Result<Vec<Value>, Error>
-    ensures ok { IfOk result (λ v. IfOk items (λ xs. IfOk item (λ x. v.items ≡ xs.items ++ (x ∷ [])))) }
-    ensures list { IfErr items (λ e. result ≡ Err e) }
-    ensures part { IfOk items (λ xs. IfErr item (λ e. result ≡ Err e)) }
+    ensures adds { Adds (λ v. v.items) items item result }
+    ensures view { (ts : Trees) (t : Tree) → IfOk items (λ v. views v.items ≡ ts) → IfOk item (λ v. view v ≡ t)
+        → IfOk result (λ v. views v.items ≡ one_last ts t) }
 {
     let mut items = items?;
     let item = item?;
@@ -51,7 +56,7 @@ pub fn with_item(
 
 /// The array of the items.
 pub fn array(items: Result<Vec<Value>, Error>) -> Result<Value, Error>
-    ensures ok { IfOk result (λ v. IfOk items (λ xs. view v ≡ tree.array (views xs.items))) }
+    ensures ok { (ts : Trees) → IfOk items (λ v. views v.items ≡ ts) → IfOk result (λ v. view v ≡ tree.array ts) }
     ensures err { IfErr items (λ e. result ≡ Err e) }
     ensures made { OnOk items (OnErr result ⊥) }
 {
@@ -60,22 +65,24 @@ pub fn array(items: Result<Vec<Value>, Error>) -> Result<Value, Error>
 
 /// No entries yet.
 pub fn no_entries(alloc: Global) -> Result<Vec<(Value, Value)>, Error>
-    ensures ok { IfOk result (λ v. v.items ≡ []) }
+    ensures ok { IfOk result (λ v. view_pairs v.items ≡ no_pairs) }
     ensures made { OnErr result ⊥ }
 {
     Ok(Vec::new(alloc))
 }
 
 /// One more entry.
+///
+/// # Errors
+/// The first of the entries', the key's and the value's; `Memory` where all are there and memory is refused.
 pub fn with_entry(
     entries: Result<Vec<(Value, Value)>, Error>,
     key: Result<Value, Error>,
     value: Result<Value, Error>,
 ) -> Result<Vec<(Value, Value)>, Error>
-    ensures ok { IfOk result (λ v. IfOk entries (λ xs. IfOk key (λ k. IfOk value (λ x. v.items ≡ xs.items ++ ((k, x) ∷ []))))) }
-    ensures list { IfErr entries (λ e. result ≡ Err e) }
-    ensures key { IfOk entries (λ xs. IfErr key (λ e. result ≡ Err e)) }
-    ensures value { IfOk entries (λ xs. IfOk key (λ k. IfErr value (λ e. result ≡ Err e))) }
+    ensures adds { Adds (λ v. v.items) entries (entry_of key value) result }
+    ensures view { (ps : Pairs) (k : Tree) (t : Tree) → IfOk entries (λ v. view_pairs v.items ≡ ps) → IfOk key (λ v. view v ≡ k)
+        → IfOk value (λ v. view v ≡ t) → IfOk result (λ v. view_pairs v.items ≡ pair_last ps k t) }
 {
     let mut entries = entries?;
     let key = key?;
@@ -88,7 +95,7 @@ pub fn with_entry(
 
 /// The map of the entries.
 pub fn map(entries: Result<Vec<(Value, Value)>, Error>) -> Result<Value, Error>
-    ensures ok { IfOk result (λ v. IfOk entries (λ xs. view v ≡ tree.map (view_pairs xs.items))) }
+    ensures ok { (ps : Pairs) → IfOk entries (λ v. view_pairs v.items ≡ ps) → IfOk result (λ v. view v ≡ tree.map ps) }
     ensures err { IfErr entries (λ e. result ≡ Err e) }
     ensures made { OnOk entries (OnErr result ⊥) }
 {

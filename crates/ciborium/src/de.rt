@@ -1,14 +1,18 @@
 //! Reads items.
-ghost use Rattle.std.specs.Prelude.{◌≡◌, ◌<◌, ◌^◌, IfOk, IfErr, OnOk, Some, []};
-ghost use Rattle.ciborium_ll.specs.Reading.{Takes};
-ghost use Rattle.ciborium_ll.specs.Views.{left_of, offset_of, waiting_of, reader_of};
+ghost use Rattle.std.specs.Prelude.{◌≡◌, ◌<◌, ◌+◌, ◌^◌, IfOk, IfErr, OnOk, Some, [], length};
+ghost use Rattle.ciborium_ll.specs.Reading.{Moves};
+ghost use Rattle.ciborium_ll.specs.Seen.{Takes};
+ghost use Rattle.ciborium_ll.specs.Title.{title_of};
+ghost use Rattle.ciborium_ll.specs.declared.hdr.Header.{Header};
+ghost use Rattle.ciborium_ll.specs.Views.{left_of, offset_of, waiting_of, reader_of, seen};
 ghost use Rattle.ciborium_value.specs.View.{view};
 ghost use Rattle.ciborium.specs.Front.{Reads};
 ghost use Rattle.ciborium.specs.Damage.{Damage};
-ghost use Rattle.ciborium.specs.Reading.{FailsAt, Known, IsNoMemory, failures};
-ghost use Rattle.ciborium.specs.Typed.{ReadsAs, Took, IsUnread};
+ghost use Rattle.ciborium.specs.Items.{nesting};
+ghost use Rattle.ciborium.specs.Reading.{NamesFault, Steady, IsNoMemory, ReadsBehind, failures};
+ghost use Rattle.ciborium.specs.Typed.{ReadsAs, Gives, IsUnread};
 
-use crate::reader::read_item;
+use crate::reader::{ROOM, read_item};
 pub use crate::source::Deserializer;
 use crate::strings::next_title;
 use crate::typed::typed_item;
@@ -16,24 +20,32 @@ use crate::value::{Kind, Value};
 use ciborium_ll::{Decoder, Read};
 pub use ciborium_typed::{Deserialize, Source};
 use std::alloc::Global;
+use std::fmt;
 
 /// An item that is read without a limit of the caller's nests at most so many levels.
-const RECURSION_LIMIT: usize = 256;
+pub const RECURSION_LIMIT: usize = 256;
 
-/// Why no value was read.
-#[derive(Debug, Clone, Copy, PartialEq, Eq, Drop)]
+/// Why no value was read. Its text is the fault's name, with the reader's text, the place or the kind in parentheses.
+#[derive(Debug, Clone, Copy, PartialEq, Eq, Drop, thiserror::Error)]
+#[error_bound(T: fmt::Display)]
 pub enum Error<T> {
     /// The reader's fault, an end of the bytes among them.
+    #[error("Io({0})")]
     Io(T),
     /// The bytes at this offset spell no item.
+    #[error("Syntax({0})")]
     Syntax(usize),
     /// An item that means no value. The offset is always `None`.
+    #[error("Semantic({1:?})")]
     Semantic(Option<usize>, Kind),
     /// The item nests deeper than the limit.
+    #[error("RecursionLimitExceeded")]
     RecursionLimitExceeded,
     /// Memory was refused.
+    #[error("Memory")]
     Memory,
     /// The offset would pass `usize::MAX`.
+    #[error("TooLong")]
     TooLong,
 }
 
@@ -78,23 +90,25 @@ pub fn from_decoder<R: Read>(
     decoder: &mut Decoder<R>,
     limit: usize,
 ) -> Result<Value, Error<R::Error>>
-    ensures ok { IfOk result (λ v. Takes (left_of R.left decoder.old) (left_of R.left decoder.new) (offset_of decoder.old) (offset_of decoder.new)
-        (λ b. Reads b limit (view v))) }
-    ensures err { IfErr result (λ e. Known (left_of R.left decoder.old) (λ b. FailsAt R.ends b (offset_of decoder.old) (offset_of decoder.new)
-        (λ stop b f. Damage stop b limit f) e)) }
+    ensures ok { IfOk result (λ v. Takes (seen R.Read decoder.old) (seen R.Read decoder.new) (λ b. Reads b limit (view v))) }
+    ensures err { IfErr result (NamesFault R.ends (λ stop b f. Damage stop b limit f)
+        (seen R.Read decoder.old) (seen R.Read decoder.new)) }
     ensures nothing { left_of R.left decoder.old ≡ Some [] → IfErr result IsNoMemory }
     ensures some { left_of R.left decoder.old ≡ Some [] → OnOk result ⊥ }
-    ensures failed { R.failed (reader_of decoder.new) ≡ failures R.ends result (R.failed (reader_of decoder.old)) }
-    ensures kept { R.handle (reader_of decoder.new) ≡ R.handle (reader_of decoder.old) }
+    ensures steady { Steady R.ends result (seen R.Read decoder.old) (seen R.Read decoder.new) }
     ensures fits { offset_of decoder.new < 2 ^ 64 }
-    ensures fresh { waiting_of decoder.new ≡ None }
+
+    // A header that waits is the item's: its content is taken of the reader.
+    ensures waited { (h : Header) → waiting_of decoder.old ≡ Some h → IfOk result (λ v. Moves (R.left (reader_of decoder.old))
+        (left_of R.left decoder.new) (offset_of decoder.old + length (title_of h)) (offset_of decoder.new) (ReadsBehind h limit (view v))) }
 {
     let (at, header) = next_title(decoder)?;
-    let value = read_item(alloc, decoder, header, at, limit)?;
+    let value = read_item(alloc, decoder, header, at, limit, ROOM)?;
     Ok(value)
 }
 
-/// Reads the item at the front of the bytes to come as a value of the type, and leaves what follows it. The item may nest 256 levels.
+/// Reads the item at the front of the bytes to come as a value of the type, and leaves what follows it. The item may nest
+/// `RECURSION_LIMIT` levels.
 ///
 /// # Errors
 /// The fault of the bytes or of the reader; `Semantic` with the type's fault where the item is none of it, and it was taken then;
@@ -103,8 +117,8 @@ pub fn from_reader<T: Deserialize, R: Read>(
     alloc: Global,
     reader: &mut R,
 ) -> Result<T, Error<R::Error>>
-    ensures ok { IfOk result (λ x. Took (R.left reader.old) (R.left reader.new) (ReadsAs T.refusal T.takes 256 x)) }
-    ensures err { IfErr result (IsUnread R.ends T.refusal 256 (R.left reader.old) (R.left reader.new)) }
+    ensures ok { IfOk result (λ x. Gives (R.left reader.old) (R.left reader.new) (ReadsAs T.refusal T.takes nesting x)) }
+    ensures err { IfErr result (IsUnread R.ends T.refusal nesting (R.left reader.old) (R.left reader.new)) }
     ensures nothing { R.left reader.old ≡ Some [] → IfErr result IsNoMemory }
     ensures failed { R.failed reader.new ≡ failures R.ends result (R.failed reader.old) }
     ensures kept { R.handle reader.new ≡ R.handle reader.old }
@@ -118,8 +132,8 @@ pub fn from_reader_with_buffer<T: Deserialize, R: Read>(
     reader: &mut R,
     scratch_buffer: &mut [u8],
 ) -> Result<T, Error<R::Error>>
-    ensures ok { IfOk result (λ x. Took (R.left reader.old) (R.left reader.new) (ReadsAs T.refusal T.takes 256 x)) }
-    ensures err { IfErr result (IsUnread R.ends T.refusal 256 (R.left reader.old) (R.left reader.new)) }
+    ensures ok { IfOk result (λ x. Gives (R.left reader.old) (R.left reader.new) (ReadsAs T.refusal T.takes nesting x)) }
+    ensures err { IfErr result (IsUnread R.ends T.refusal nesting (R.left reader.old) (R.left reader.new)) }
     ensures nothing { R.left reader.old ≡ Some [] → IfErr result IsNoMemory }
     ensures failed { R.failed reader.new ≡ failures R.ends result (R.failed reader.old) }
     ensures kept { R.handle reader.new ≡ R.handle reader.old }
@@ -135,7 +149,7 @@ pub fn from_reader_with_recursion_limit<T: Deserialize, R: Read>(
     reader: &mut R,
     recursion_limit: usize,
 ) -> Result<T, Error<R::Error>>
-    ensures ok { IfOk result (λ x. Took (R.left reader.old) (R.left reader.new) (ReadsAs T.refusal T.takes recursion_limit x)) }
+    ensures ok { IfOk result (λ x. Gives (R.left reader.old) (R.left reader.new) (ReadsAs T.refusal T.takes recursion_limit x)) }
     ensures err { IfErr result (IsUnread R.ends T.refusal recursion_limit (R.left reader.old) (R.left reader.new)) }
     ensures nothing { R.left reader.old ≡ Some [] → IfErr result IsNoMemory }
     ensures failed { R.failed reader.new ≡ failures R.ends result (R.failed reader.old) }

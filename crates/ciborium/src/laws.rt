@@ -14,6 +14,8 @@ ghost use Rattle.ciborium.specs.Front.{Front};
 ghost use Rattle.ciborium.specs.Items.{Item, Items};
 
 use crate::value::Value;
+pub use ciborium_typed::laws as typed;
+pub use ciborium_value::laws as values;
 
 /// No spelling begins another, and one list spells at most one tree.
 pub fn one_spelling()

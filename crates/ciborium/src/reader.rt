@@ -1,83 +1,61 @@
 //! Reads values.
-ghost use Rattle.std.specs.Prelude.{◌≡◌, ◌≢◌, ◌≤◌, ◌<◌, ◌+◌, ◌++◌, ◌^◌, ◌⊎◌, ℕ, List, None, Some, OnOk, IfOk, IfErr, length, Bool, [], MatchOption, MatchBool, string_bytes, true, Option};
-ghost use Rattle.std.specs.Str.{IsUtf8};
+ghost use Rattle.std.specs.Prelude.{◌≡◌, ◌≢◌, ◌⊎◌, ℕ, None, Some, Option, false, length};
+ghost use Rattle.std.specs.Prelude.{IfOk, IfErr, OnErr, IfSome, IfNone, MatchOption, MatchBool};
+ghost use Rattle.ciborium_ll.specs.Seen.{Takes};
 ghost use Rattle.ciborium_ll.specs.Title.{Title};
-ghost use Rattle.ciborium_ll.specs.Reading.{Takes};
-ghost use Rattle.ciborium_ll.specs.Views.{left_of, offset_of, waiting_of, reader_of};
-ghost use Rattle.ciborium_ll.specs.declared.hdr.Header.TheVariants.{Bytes, Break, Text, Array, Map};
+ghost use Rattle.ciborium_ll.specs.Views.{offset_of, waiting_of, seen};
+ghost use Rattle.ciborium_ll.specs.declared.hdr.Header.TheVariants.{Bytes, Break, Array, Map};
+ghost use Rattle.ciborium_value.specs.Folding.{tagged};
 ghost use Rattle.ciborium_value.specs.Tree.{flat};
 ghost use Rattle.ciborium_value.specs.View.{view, views, view_pairs};
 ghost use Rattle.ciborium.specs.Meaning.{simple_meaning};
-ghost use Rattle.ciborium.specs.Damage.{Damage, StringDamage};
-ghost use Rattle.ciborium.specs.Reading.{FailsAt, FailsBehind, Known, failures, StringBehind, ReadsBehind, ChildrenBehind, ChildDamage, TaggedBehind, TagDamage, is_full};
+ghost use Rattle.ciborium.specs.Damage.{Damage, TitleDamage};
+ghost use Rattle.ciborium.specs.Reading.{NamesFault, NamesFaultBehind, Steady, ReadsBehind, ChildrenBehind, ChildDamage};
+ghost use Rattle.ciborium.specs.Reading.{TaggedBehind, TagDamage, is_full, IsLeaf, Closes, IsNext, OpensOver, IsFoldFault};
 
 use crate::de::Error;
-use crate::strings::{next_title, read_string};
+use crate::strings::{next_title, read_string, read_text};
 use crate::value::{Integer, Kind, Value};
-use ciborium_ll::{Decoder, Header, Read};
+use ciborium_ll::{Decoder, Header, Read, simple, tag};
 use ciborium_value::fold_tag;
-use std::alloc::{AllocError, Global};
+use std::alloc::Global;
 
-/// A list begins with room for no more parts than this.
-const ROOM: usize = 8;
+/// Room for so many items may be reserved before they come, over all arrays and maps that are open: 4,096 bytes.
+pub const ROOM: usize = 128;
 
 /// The value of a simple value, where it is assigned (RFC 8949, section 3.3).
-fn simple(n: u8) -> Option<Value>
+fn simple_value(n: u8) -> Option<Value>
     ensures { MatchOption result (simple_meaning n ≡ None) (λ v. simple_meaning n ≡ Some (view v)) }
 {
     match n {
-        20 => Some(Value::Bool(false)),
-        21 => Some(Value::Bool(true)),
-        22 => Some(Value::Null),
-        23 => Some(Value::Null),
+        simple::FALSE => Some(Value::Bool(false)),
+        simple::TRUE => Some(Value::Bool(true)),
+        simple::NULL => Some(Value::Null),
+        simple::UNDEFINED => Some(Value::Null),
         _ => None,
     }
 }
 
-/// The text of a string whose title, with the length given, begins at the place `at`.
-fn read_text<R: Read>(
-    alloc: Global,
-    decoder: &mut Decoder<R>,
-    length: Option<usize>,
-    at: usize,
-) -> Result<String, Error<R::Error>>
-    requires fresh { waiting_of decoder.old ≡ None }
-    ensures ok { IfOk result (λ v. Takes (left_of R.left decoder.old) (left_of R.left decoder.new) (offset_of decoder.old) (offset_of decoder.new)
-        (λ b. StringBehind true length (string_bytes v) b)) }
-    ensures err { IfErr result (λ e. FailsBehind R.ends (Text length) at (offset_of decoder.old) (left_of R.left decoder.old) (offset_of decoder.new)
-        (StringDamage Text IsUtf8) e) }
-    ensures failed { R.failed (reader_of decoder.new) ≡ failures R.ends result (R.failed (reader_of decoder.old)) }
-    ensures kept { R.handle (reader_of decoder.new) ≡ R.handle (reader_of decoder.old) }
-    ensures fresh { waiting_of decoder.new ≡ None }
-{
-    let bytes = read_string(alloc, decoder, true, length, at)?;
-    match String::from_utf8(bytes) {
-        Ok(text) => Ok(text),
-        Err(_) => Err(Error::Syntax(at)),
-    }
-}
-
-/// The item behind the title of `header`, which begins at the place `at`.
-#[cycle(reader)]
-pub fn read_item<R: Read>(
+/// The item behind the title of `header`, which begins at the place `at`, where no items follow in it.
+fn read_leaf<R: Read>(
     alloc: Global,
     decoder: &mut Decoder<R>,
     header: Header,
     at: usize,
-    limit: usize,
 ) -> Result<Value, Error<R::Error>>
     requires fresh { waiting_of decoder.old ≡ None }
-    ensures ok { IfOk result (λ v. Takes (left_of R.left decoder.old) (left_of R.left decoder.new) (offset_of decoder.old) (offset_of decoder.new) (λ b. ReadsBehind header limit (view v) b)) }
-    ensures err { IfErr result (λ e. FailsBehind R.ends header at (offset_of decoder.old) (left_of R.left decoder.old) (offset_of decoder.new) (λ stop b f. Damage stop b limit f) e) }
-    ensures failed { R.failed (reader_of decoder.new) ≡ failures R.ends result (R.failed (reader_of decoder.old)) }
-    ensures kept { R.handle (reader_of decoder.new) ≡ R.handle (reader_of decoder.old) }
-    ensures fresh { waiting_of decoder.new ≡ None }
+    requires leaf { IsLeaf header }
+    ensures ok { IfOk result (λ v. Takes (seen R.Read decoder.old) (seen R.Read decoder.new)
+        (λ b. (limit : ℕ) → ReadsBehind header limit (view v) b)) }
+    ensures err { IfErr result (λ e. (limit : ℕ) → NamesFaultBehind R.ends header at (λ stop b f. Damage stop b limit f)
+        (seen R.Read decoder.old) (seen R.Read decoder.new) e) }
+    ensures steady { Steady R.ends result (seen R.Read decoder.old) (seen R.Read decoder.new) }
 {
     match header {
         Header::Positive(n) => Ok(Value::Integer(Integer::from(n))),
         Header::Negative(n) => Ok(Value::Integer(Integer::negative(n))),
         Header::Float(f) => Ok(Value::Float(f)),
-        Header::Simple(n) => match simple(n) {
+        Header::Simple(n) => match simple_value(n) {
             Some(v) => Ok(v),
             None => Err(Error::Semantic(None, Kind::Simple)),
         },
@@ -90,29 +68,65 @@ pub fn read_item<R: Read>(
             let text = read_text(alloc, decoder, length, at)?;
             Ok(Value::Text(text))
         }
+        Header::Array(_) => unreachable!(),
+        Header::Map(_) => unreachable!(),
+        Header::Tag(_) => unreachable!(),
+    }
+}
+
+/// The value of a tag over its content: bignums are folded.
+fn folded<E>(alloc: Global, tag: u64, content: Value) -> Result<Value, Error<E>>
+    ensures ok { IfOk result (λ v. tagged tag (view content) ≡ Some (view v)) }
+    ensures err { IfErr result (IsFoldFault tag (view content)) }
+{
+    let Ok(folded) = fold_tag(alloc, tag, content) else {
+        return Err(Error::Memory);
+    };
+    match folded {
+        Some(v) => Ok(v),
+        None => Err(Error::Semantic(None, Kind::BigNegative)),
+    }
+}
+
+/// The item behind the title of `header`, which begins at the place `at`. Room for so many items may be reserved before they come.
+#[cycle(reader)]
+pub fn read_item<R: Read>(
+    alloc: Global,
+    decoder: &mut Decoder<R>,
+    header: Header,
+    at: usize,
+    limit: usize,
+    room: usize,
+) -> Result<Value, Error<R::Error>>
+    requires fresh { waiting_of decoder.old ≡ None }
+    ensures ok { IfOk result (λ v. Takes (seen R.Read decoder.old) (seen R.Read decoder.new) (λ b. ReadsBehind header limit (view v) b)) }
+    ensures err { IfErr result (NamesFaultBehind R.ends header at (λ stop b f. Damage stop b limit f)
+        (seen R.Read decoder.old) (seen R.Read decoder.new)) }
+    ensures steady { Steady R.ends result (seen R.Read decoder.old) (seen R.Read decoder.new) }
+{
+    match header {
         Header::Array(count) => {
             if limit == 0 {
                 return Err(Error::RecursionLimitExceeded);
             }
-            let items = read_items(alloc, decoder, count, limit - 1)?;
+            let items = read_items(alloc, decoder, count, limit - 1, room)?;
             Ok(Value::Array(items))
         }
         Header::Map(count) => {
             if limit == 0 {
                 return Err(Error::RecursionLimitExceeded);
             }
-            let entries = read_pairs(alloc, decoder, count, limit - 1)?;
+            let entries = read_pairs(alloc, decoder, count, limit - 1, room)?;
             Ok(Value::Map(entries))
         }
         Header::Tag(n) => {
-            let content = read_tagged(alloc, decoder, n, limit)?;
-            let Ok(folded) = fold_tag(alloc, n, content) else {
-                return Err(Error::Memory);
-            };
-            match folded {
-                Some(v) => Ok(v),
-                None => Err(Error::Semantic(None, Kind::BigNegative)),
-            }
+            let content = read_tagged(alloc, decoder, n, limit, room)?;
+            let value = folded(alloc, n, content)?;
+            Ok(value)
+        }
+        _ => {
+            let value = read_leaf(alloc, decoder, header, at)?;
+            Ok(value)
         }
     }
 }
@@ -147,16 +161,42 @@ fn closes(count: Option<usize>, header: Header) -> bool
     }
 }
 
-/// An empty list with room for the first of the parts that a head claims. What it claims beyond that is not reserved.
-fn with_room<T>(alloc: Global, count: Option<usize>) -> Result<Vec<T>, AllocError>
-    ensures { IfOk result (λ v. v.items ≡ []) }
+/// The next title in an array or a map whose head has that length, and its place; none where all parts were read.
+fn next_part<R: Read>(
+    decoder: &mut Decoder<R>,
+    count: Option<usize>,
+    done: usize,
+) -> Result<Option<(usize, Header)>, Error<R::Error>>
+    requires fresh { waiting_of decoder.old ≡ None }
+    ensures none { IfOk result (λ o. IfNone o (Takes (seen R.Read decoder.old) (seen R.Read decoder.new) (Closes count done))) }
+    ensures some { IfOk result (λ o. IfSome o (λ r. Takes (seen R.Read decoder.old) (seen R.Read decoder.new) (λ b. Title b r.1))) }
+    ensures at { IfOk result (λ o. IfSome o (λ r. r.0 ≡ offset_of decoder.old)) }
+    ensures next { IfOk result (λ o. IfSome o (λ r. IsNext count done r.1)) }
+    ensures err { IfErr result (NamesFault R.ends TitleDamage (seen R.Read decoder.old) (seen R.Read decoder.new)) }
+    ensures due { OnErr result (is_full count done ≡ false) }
+    ensures steady { Steady R.ends result (seen R.Read decoder.old) (seen R.Read decoder.new) }
 {
-    let room = match count {
-        Some(n) if n < ROOM => n,
-        Some(_) => ROOM,
+    if all_read(count, done) {
+        return Ok(None);
+    }
+    let (at, header) = next_title(decoder)?;
+    if closes(count, header) {
+        return Ok(None);
+    }
+    Ok(Some((at, header)))
+}
+
+/// How many parts room is reserved for, of those that a head claims.
+fn reserved(count: Option<usize>, room: usize) -> usize {
+    match count {
+        Some(n) => n.min(room),
         None => 0,
-    };
-    Vec::with_capacity(alloc, room)
+    }
+}
+
+/// The room that is left where so many parts of that many items each are held and so many have come.
+fn room_left(room: usize, held: usize, come: usize, size: usize) -> usize {
+    room.saturating_sub(held.saturating_sub(come).saturating_mul(size))
 }
 
 /// The items of an array whose head has that length.
@@ -166,76 +206,77 @@ fn read_items<R: Read>(
     decoder: &mut Decoder<R>,
     count: Option<usize>,
     limit: usize,
+    room: usize,
 ) -> Result<Vec<Value>, Error<R::Error>>
     requires fresh { waiting_of decoder.old ≡ None }
-    ensures ok { IfOk result (λ items. Takes (left_of R.left decoder.old) (left_of R.left decoder.new) (offset_of decoder.old) (offset_of decoder.new)
+    ensures ok { IfOk result (λ items. Takes (seen R.Read decoder.old) (seen R.Read decoder.new)
         (λ b. ChildrenBehind count (length items.items) limit (views items.items) b)) }
-    ensures err { IfErr result (λ e. Known (left_of R.left decoder.old) (λ b. FailsAt R.ends b (offset_of decoder.old) (offset_of decoder.new) (ChildDamage (Array count) limit) e)) }
-    ensures failed { R.failed (reader_of decoder.new) ≡ failures R.ends result (R.failed (reader_of decoder.old)) }
-    ensures kept { R.handle (reader_of decoder.new) ≡ R.handle (reader_of decoder.old) }
-    ensures fresh { waiting_of decoder.new ≡ None }
+    ensures err { IfErr result (NamesFault R.ends (ChildDamage (Array count) limit) (seen R.Read decoder.old) (seen R.Read decoder.new)) }
+    ensures steady { Steady R.ends result (seen R.Read decoder.old) (seen R.Read decoder.new) }
 {
-    let Ok(mut items) = with_room(alloc, count) else {
+    let held = reserved(count, room / 2);
+    let Ok(mut items) = Vec::with_capacity(alloc, held) else {
         return Err(Error::Memory);
     };
     'items: loop {
-        if all_read(count, items.len()) {
-            return Ok(items);
+        let part = next_part(decoder, count, items.len())?;
+        match part {
+            None => return Ok(items),
+            Some(title) => {
+                let left = room_left(room, held, items.len(), 1);
+                let item = read_item(alloc, decoder, title.1, title.0, limit, left)?;
+                let Ok(()) = items.push(item) else {
+                    return Err(Error::Memory);
+                };
+            }
         }
-        let (at, header) = next_title(decoder)?;
-        if closes(count, header) {
-            return Ok(items);
-        }
-        let item = read_item(alloc, decoder, header, at, limit)?;
-        let Ok(()) = items.push(item) else {
-            return Err(Error::Memory);
-        };
     }
 }
 
-/// The entries of a map whose head has that length.
+/// The entries of a map whose head has that length. An entry takes the room of two items.
 #[cycle(reader)]
 fn read_pairs<R: Read>(
     alloc: Global,
     decoder: &mut Decoder<R>,
     count: Option<usize>,
     limit: usize,
+    room: usize,
 ) -> Result<Vec<(Value, Value)>, Error<R::Error>>
     requires fresh { waiting_of decoder.old ≡ None }
-    ensures ok { IfOk result (λ entries. Takes (left_of R.left decoder.old) (left_of R.left decoder.new) (offset_of decoder.old) (offset_of decoder.new)
+    ensures ok { IfOk result (λ entries. Takes (seen R.Read decoder.old) (seen R.Read decoder.new)
         (λ b. ChildrenBehind count (length entries.items) limit (flat (view_pairs entries.items)) b)) }
-    ensures err { IfErr result (λ e. Known (left_of R.left decoder.old) (λ b. FailsAt R.ends b (offset_of decoder.old) (offset_of decoder.new) (ChildDamage (Map count) limit) e)) }
-    ensures failed { R.failed (reader_of decoder.new) ≡ failures R.ends result (R.failed (reader_of decoder.old)) }
-    ensures kept { R.handle (reader_of decoder.new) ≡ R.handle (reader_of decoder.old) }
-    ensures fresh { waiting_of decoder.new ≡ None }
+    ensures err { IfErr result (NamesFault R.ends (ChildDamage (Map count) limit) (seen R.Read decoder.old) (seen R.Read decoder.new)) }
+    ensures steady { Steady R.ends result (seen R.Read decoder.old) (seen R.Read decoder.new) }
 {
-    let Ok(mut entries) = with_room(alloc, count) else {
+    let held = reserved(count, room / 4);
+    let Ok(mut entries) = Vec::with_capacity(alloc, held) else {
         return Err(Error::Memory);
     };
     'entries: loop {
-        if all_read(count, entries.len()) {
-            return Ok(entries);
+        let part = next_part(decoder, count, entries.len())?;
+        match part {
+            None => return Ok(entries),
+            Some(title) => {
+                let left = room_left(room, held, entries.len(), 2);
+                let key = read_item(alloc, decoder, title.1, title.0, limit, left)?;
+                let (place, header) = next_title(decoder)?;
+                let value = read_item(alloc, decoder, header, place, limit, left)?;
+                let Ok(()) = entries.push((key, value)) else {
+                    return Err(Error::Memory);
+                };
+            }
         }
-        let (at, header) = next_title(decoder)?;
-        if closes(count, header) {
-            return Ok(entries);
-        }
-        let key = read_item(alloc, decoder, header, at, limit)?;
-        let (place, title) = next_title(decoder)?;
-        let value = read_item(alloc, decoder, title, place, limit)?;
-        let Ok(()) = entries.push((key, value)) else {
-            return Err(Error::Memory);
-        };
     }
 }
 
+/// Whether the tag is none of the bignums' (RFC 8949, section 3.4.3).
 fn is_plain(tag: u64) -> bool
     ensures { MatchBool result ((tag ≢ 2) × (tag ≢ 3)) ((tag ≡ 2) ⊎ (tag ≡ 3)) }
 {
-    if tag == 2 {
+    if tag == tag::BIGPOS {
         return false;
     }
-    if tag == 3 {
+    if tag == tag::BIGNEG {
         return false;
     }
     true
@@ -259,6 +300,39 @@ fn byte_string(header: Header) -> Option<Option<usize>>
     }
 }
 
+/// The length of the byte string that a bignum's tag stands over; none where the tag opens a level.
+fn bignum(tag: u64, header: Header) -> Option<Option<usize>>
+    ensures { MatchOption result (OpensOver tag header) (λ o. ((tag ≡ 2) ⊎ (tag ≡ 3)) × (header ≡ Bytes o)) }
+{
+    if is_plain(tag) {
+        return None;
+    }
+    byte_string(header)
+}
+
+/// The title behind a tag, and its place. A tag that is none of the bignums' opens a level whatever follows it.
+fn tagged_title<R: Read>(
+    decoder: &mut Decoder<R>,
+    tag: u64,
+    limit: usize,
+) -> Result<(usize, Header), Error<R::Error>>
+    requires fresh { waiting_of decoder.old ≡ None }
+    ensures ok { IfOk result (λ r. Takes (seen R.Read decoder.old) (seen R.Read decoder.new) (λ b. Title b r.1)) }
+    ensures at { IfOk result (λ r. r.0 ≡ offset_of decoder.old) }
+    ensures err { IfErr result (NamesFault R.ends (TagDamage tag limit) (seen R.Read decoder.old) (seen R.Read decoder.new)) }
+    ensures steady { Steady R.ends result (seen R.Read decoder.old) (seen R.Read decoder.new) }
+{
+    if is_plain(tag) {
+        if limit == 0 {
+            return Err(Error::RecursionLimitExceeded);
+        }
+        let title = next_title(decoder)?;
+        return Ok(title);
+    }
+    let title = next_title(decoder)?;
+    Ok(title)
+}
+
 /// The item behind a tag.
 #[cycle(reader)]
 fn read_tagged<R: Read>(
@@ -266,24 +340,15 @@ fn read_tagged<R: Read>(
     decoder: &mut Decoder<R>,
     tag: u64,
     limit: usize,
+    room: usize,
 ) -> Result<Value, Error<R::Error>>
     requires fresh { waiting_of decoder.old ≡ None }
-    ensures ok { IfOk result (λ v. Takes (left_of R.left decoder.old) (left_of R.left decoder.new) (offset_of decoder.old) (offset_of decoder.new) (λ b. TaggedBehind tag limit (view v) b)) }
-    ensures err { IfErr result (λ e. Known (left_of R.left decoder.old) (λ b. FailsAt R.ends b (offset_of decoder.old) (offset_of decoder.new) (TagDamage tag limit) e)) }
-    ensures failed { R.failed (reader_of decoder.new) ≡ failures R.ends result (R.failed (reader_of decoder.old)) }
-    ensures kept { R.handle (reader_of decoder.new) ≡ R.handle (reader_of decoder.old) }
-    ensures fresh { waiting_of decoder.new ≡ None }
+    ensures ok { IfOk result (λ v. Takes (seen R.Read decoder.old) (seen R.Read decoder.new) (λ b. TaggedBehind tag limit (view v) b)) }
+    ensures err { IfErr result (NamesFault R.ends (TagDamage tag limit) (seen R.Read decoder.old) (seen R.Read decoder.new)) }
+    ensures steady { Steady R.ends result (seen R.Read decoder.old) (seen R.Read decoder.new) }
 {
-    if is_plain(tag) {
-        if limit == 0 {
-            return Err(Error::RecursionLimitExceeded);
-        }
-        let (at, header) = next_title(decoder)?;
-        let item = read_item(alloc, decoder, header, at, limit - 1)?;
-        return Ok(item);
-    }
-    let (at, header) = next_title(decoder)?;
-    match byte_string(header) {
+    let (at, header) = tagged_title(decoder, tag, limit)?;
+    match bignum(tag, header) {
         Some(length) => {
             let bytes = read_string(alloc, decoder, false, length, at)?;
             Ok(Value::Bytes(bytes))
@@ -292,7 +357,7 @@ fn read_tagged<R: Read>(
             if limit == 0 {
                 return Err(Error::RecursionLimitExceeded);
             }
-            let item = read_item(alloc, decoder, header, at, limit - 1)?;
+            let item = read_item(alloc, decoder, header, at, limit - 1, room)?;
             Ok(item)
         }
     }

@@ -10,17 +10,22 @@ ghost use Rattle.ciborium_value.specs.Tree.{integer};
 ghost use Rattle.ciborium.specs.Writing.{IsIo, IsWritten, IsTorn};
 
 use crate::value::{Integer, Kind};
-use ciborium_ll::{Encoder, Float, Header, Write};
+use ciborium_ll::{Encoder, Float, Header, Write, simple};
 pub use ciborium_typed::{Serialize, Sink};
+use std::fmt;
 
-/// Why a value was not written.
-#[derive(Debug, Clone, Copy, PartialEq, Eq, Drop)]
+/// Why a value was not written. Its text is the fault's name, with the writer's text or the kind in parentheses.
+#[derive(Debug, Clone, Copy, PartialEq, Eq, Drop, thiserror::Error)]
+#[error_bound(T: fmt::Display)]
 pub enum Error<T> {
     /// The writer's fault.
+    #[error("Io({0})")]
     Io(T),
     /// A value that can't be written.
+    #[error("Value({0:?})")]
     Value(Kind),
     /// Memory was refused.
+    #[error("Memory")]
     Memory,
 }
 
@@ -43,8 +48,9 @@ pub struct Serializer<W> {
 
 impl<W> From<Encoder<W>> for Serializer<W> {
     ghost use Rattle.std.specs.Prelude.{◌≡◌};
+    ghost use Rattle.ciborium.specs.Streams.{encoder_of};
 
-    ghost from_gives = { λ encoder s. s.encoder ≡ encoder };
+    ghost from_gives = { λ encoder s. encoder_of s ≡ encoder };
 
     fn from(encoder: Encoder<W>) -> Serializer<W> {
         Serializer { encoder }
@@ -54,9 +60,11 @@ impl<W> From<Encoder<W>> for Serializer<W> {
 impl<W: Write> Sink for Serializer<W> {
     type Error = W::Error;
 
-    ghost adds = { λ s event t. IsWritten W.written W.handle W.failed (writer_of s.encoder) event (writer_of t.encoder) };
+    ghost use Rattle.ciborium.specs.Streams.{encoder_of};
 
-    ghost refuses = { λ s event t. IsTorn W.written W.handle W.failed (writer_of s.encoder) event (writer_of t.encoder) };
+    ghost adds = { λ s event t. IsWritten W.written W.handle W.failed (writer_of (encoder_of s)) event (writer_of (encoder_of t)) };
+
+    ghost refuses = { λ s event t. IsTorn W.written W.handle W.failed (writer_of (encoder_of s)) event (writer_of (encoder_of t)) };
 
     fn integer(&mut self, number: Integer) -> Result<(), W::Error> {
         let n = i128::from(number);
@@ -84,12 +92,12 @@ impl<W: Write> Sink for Serializer<W> {
     }
 
     fn boolean(&mut self, value: bool) -> Result<(), W::Error> {
-        self.encoder
-            .push(Header::Simple(if value { 21 } else { 20 }))
+        let simple = if value { simple::TRUE } else { simple::FALSE };
+        self.encoder.push(Header::Simple(simple))
     }
 
     fn null(&mut self) -> Result<(), W::Error> {
-        self.encoder.push(Header::Simple(22))
+        self.encoder.push(Header::Simple(simple::NULL))
     }
 
     fn tag(&mut self, tag: u64) -> Result<(), W::Error> {

@@ -1,10 +1,10 @@
 //! Items of a decoder, one after another.
 ghost use Rattle.std.specs.Prelude.{◌≡◌};
-ghost use Rattle.ciborium_ll.specs.Views.{left_of, offset_of, waiting_of, reader_of};
+ghost use Rattle.ciborium_ll.specs.Seen.{Takes};
+ghost use Rattle.ciborium_ll.specs.Views.{reader_of, seen};
 ghost use Rattle.ciborium.specs.Front.{Reads};
 ghost use Rattle.ciborium.specs.Damage.{Damage};
-ghost use Rattle.ciborium.specs.Reading.{FailsAt, Known, fault_failures};
-ghost use Rattle.ciborium_ll.specs.Reading.{Takes};
+ghost use Rattle.ciborium.specs.Reading.{NamesFault, fault_failures};
 ghost use Rattle.ciborium.specs.Typed.{refusing};
 
 use crate::de::{Error, from_decoder};
@@ -22,10 +22,12 @@ pub struct Deserializer<R> {
 }
 
 impl<R: Read> Deserializer<R> {
+    ghost use Rattle.ciborium.specs.Streams.{decoder_of, limit_of};
+
     /// The items of the bytes that the decoder has to come.
     pub fn new(alloc: Global, decoder: Decoder<R>, recursion_limit: usize) -> Deserializer<R>
-        ensures decoder { result.decoder ≡ decoder }
-        ensures limit { result.recursion_limit ≡ recursion_limit }
+        ensures decoder { decoder_of result ≡ decoder }
+        ensures limit { limit_of result ≡ recursion_limit }
     {
         Deserializer {
             alloc,
@@ -36,7 +38,7 @@ impl<R: Read> Deserializer<R> {
 
     /// The decoder, to go on with.
     pub fn into_decoder(self) -> Decoder<R>
-        ensures { result ≡ self.decoder }
+        ensures { result ≡ decoder_of self }
     {
         self.decoder
     }
@@ -45,11 +47,16 @@ impl<R: Read> Deserializer<R> {
 impl<R: Read> Source for Deserializer<R> {
     type Error = Error<R::Error>;
 
-    ghost gives = { λ s item t. Takes (left_of R.left s.decoder) (left_of R.left t.decoder) (offset_of s.decoder) (offset_of t.decoder) (λ b. Reads b s.recursion_limit item)
-        × (t.recursion_limit ≡ s.recursion_limit) × (R.failed (reader_of t.decoder) ≡ R.failed (reader_of s.decoder)) × (R.handle (reader_of t.decoder) ≡ R.handle (reader_of s.decoder)) };
+    ghost use Rattle.ciborium.specs.Streams.{decoder_of, limit_of};
 
-    ghost fails = { λ s e t. Known (left_of R.left s.decoder) (λ b. FailsAt R.ends b (offset_of s.decoder) (offset_of t.decoder) (λ stop c f. Damage stop c s.recursion_limit f) e)
-        × (t.recursion_limit ≡ s.recursion_limit) × (R.failed (reader_of t.decoder) ≡ fault_failures R.ends e (R.failed (reader_of s.decoder))) × (R.handle (reader_of t.decoder) ≡ R.handle (reader_of s.decoder)) };
+    ghost gives = { λ s item t. Takes (seen R.Read (decoder_of s)) (seen R.Read (decoder_of t)) (λ b. Reads b (limit_of s) item)
+        × (limit_of t ≡ limit_of s) × (R.failed (reader_of (decoder_of t)) ≡ R.failed (reader_of (decoder_of s)))
+        × (R.handle (reader_of (decoder_of t)) ≡ R.handle (reader_of (decoder_of s))) };
+
+    ghost fails = { λ s e t. NamesFault R.ends (λ stop b f. Damage stop b (limit_of s) f) (seen R.Read (decoder_of s)) (seen R.Read (decoder_of t)) e
+        × (limit_of t ≡ limit_of s)
+        × (R.failed (reader_of (decoder_of t)) ≡ fault_failures R.ends e (R.failed (reader_of (decoder_of s))))
+        × (R.handle (reader_of (decoder_of t)) ≡ R.handle (reader_of (decoder_of s))) };
 
     ghost refused = { refusing };
 

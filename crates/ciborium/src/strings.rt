@@ -1,11 +1,13 @@
 //! Reads titles and strings.
-ghost use Rattle.std.specs.Prelude.{◌≡◌, ◌≤◌, ◌<◌, ◌+◌, ◌++◌, ◌^◌, ℕ, List, None, Some, OnOk, IfOk, IfErr, length, Bool, []};
-ghost use Rattle.std.specs.Io.KnownBytes.{Consumes};
-ghost use Rattle.ciborium_ll.specs.Title.{Title};
-ghost use Rattle.ciborium_ll.specs.Reading.{Takes};
-ghost use Rattle.ciborium_ll.specs.Views.{left_of, offset_of, waiting_of, reader_of};
+ghost use Rattle.std.specs.Prelude.{◌≡◌, ◌≤◌, ◌<◌, ◌+◌, ◌++◌, ◌^◌, ℕ, None, Some, OnOk, IfOk, IfErr, length, Bool, true, [], string_bytes};
+ghost use Rattle.std.specs.Str.{IsUtf8};
+ghost use Rattle.ciborium_ll.specs.Title.{Title, title_of};
+ghost use Rattle.ciborium_ll.specs.declared.hdr.Header.{Header};
+ghost use Rattle.ciborium_ll.specs.declared.hdr.Header.TheVariants.{Text};
+ghost use Rattle.ciborium_ll.specs.Seen.{Takes};
+ghost use Rattle.ciborium_ll.specs.Views.{left_of, offset_of, waiting_of, reader_of, seen};
 ghost use Rattle.ciborium.specs.Damage.{TitleDamage, ChunkDamage, StringDamage};
-ghost use Rattle.ciborium.specs.Reading.{Fails, FailsAt, FailsBehind, Known, IsLong, ShortBy, IsNoMemory, failures, string_head, IsBody, StringBehind, ChunkBody, IsPart};
+ghost use Rattle.ciborium.specs.Reading.{NamesFault, NamesFaultBehind, NamesShort, Steady, IsNoMemory, string_head, IsBody, StringBehind, ChunkBody, IsPart};
 
 use crate::de::Error;
 use ciborium_ll::{Decoder, Header, Read};
@@ -13,15 +15,15 @@ use std::alloc::Global;
 
 /// The next title, and its place.
 pub fn next_title<R: Read>(decoder: &mut Decoder<R>) -> Result<(usize, Header), Error<R::Error>>
-    ensures ok { IfOk result (λ r. Takes (left_of R.left decoder.old) (left_of R.left decoder.new) (offset_of decoder.old) (offset_of decoder.new) (λ b. Title b r.1)) }
+    ensures ok { IfOk result (λ r. Takes (seen R.Read decoder.old) (seen R.Read decoder.new) (λ b. Title b r.1)) }
     ensures at { IfOk result (λ r. r.0 ≡ offset_of decoder.old) }
     ensures fits { offset_of decoder.new < 2 ^ 64 }
     ensures nothing { left_of R.left decoder.old ≡ Some [] → OnOk result ⊥ }
+    ensures waited { (h : Header) → waiting_of decoder.old ≡ Some h → (result ≡ Ok (offset_of decoder.old, h))
+        × (reader_of decoder.new ≡ reader_of decoder.old) × (offset_of decoder.new ≡ offset_of decoder.old + length (title_of h)) }
     ensures memory { IfErr result IsNoMemory }
-    ensures err { IfErr result (λ e. Known (left_of R.left decoder.old) (λ b. FailsAt R.ends b (offset_of decoder.old) (offset_of decoder.new) TitleDamage e)) }
-    ensures failed { R.failed (reader_of decoder.new) ≡ failures R.ends result (R.failed (reader_of decoder.old)) }
-    ensures kept { R.handle (reader_of decoder.new) ≡ R.handle (reader_of decoder.old) }
-    ensures fresh { waiting_of decoder.new ≡ None }
+    ensures err { IfErr result (NamesFault R.ends TitleDamage (seen R.Read decoder.old) (seen R.Read decoder.new)) }
+    ensures steady { Steady R.ends result (seen R.Read decoder.old) (seen R.Read decoder.new) }
 {
     let at = decoder.offset();
     let header = decoder.pull()?;
@@ -39,13 +41,10 @@ fn read_piece<R: Read>(
 ) -> Result<(), Error<R::Error>>
     requires fresh { waiting_of decoder.old ≡ None }
     requires small { size ≤ 4096 }
-    ensures ok { OnOk result (Takes (left_of R.left decoder.old) (left_of R.left decoder.new) (offset_of decoder.old) (offset_of decoder.new)
+    ensures ok { OnOk result (Takes (seen R.Read decoder.old) (seen R.Read decoder.new)
         (λ b. (length b ≡ size) × (into.new.items ≡ into.old.items ++ b))) }
-    ensures err { IfErr result (λ e. Known (left_of R.left decoder.old) (λ b. Fails R.ends (offset_of decoder.old ≤ offset_of decoder.new)
-        (ShortBy size (offset_of decoder.old + length b) b) (IsLong (offset_of decoder.old) b) e)) }
-    ensures failed { R.failed (reader_of decoder.new) ≡ failures R.ends result (R.failed (reader_of decoder.old)) }
-    ensures kept { R.handle (reader_of decoder.new) ≡ R.handle (reader_of decoder.old) }
-    ensures fresh { waiting_of decoder.new ≡ None }
+    ensures err { IfErr result (NamesShort R.ends size (seen R.Read decoder.old) (seen R.Read decoder.new)) }
+    ensures steady { Steady R.ends result (seen R.Read decoder.old) (seen R.Read decoder.new) }
 {
     let at = into.len();
     let Ok(()) = into.resize(at + size, 0) else {
@@ -62,13 +61,10 @@ fn read_bytes<R: Read>(
     into: &mut Vec<u8>,
 ) -> Result<(), Error<R::Error>>
     requires fresh { waiting_of decoder.old ≡ None }
-    ensures ok { OnOk result (Takes (left_of R.left decoder.old) (left_of R.left decoder.new) (offset_of decoder.old) (offset_of decoder.new)
+    ensures ok { OnOk result (Takes (seen R.Read decoder.old) (seen R.Read decoder.new)
         (λ b. (length b ≡ n) × (into.new.items ≡ into.old.items ++ b))) }
-    ensures err { IfErr result (λ e. Known (left_of R.left decoder.old) (λ b. Fails R.ends (offset_of decoder.old ≤ offset_of decoder.new)
-        (ShortBy n (offset_of decoder.old + length b) b) (IsLong (offset_of decoder.old) b) e)) }
-    ensures failed { R.failed (reader_of decoder.new) ≡ failures R.ends result (R.failed (reader_of decoder.old)) }
-    ensures kept { R.handle (reader_of decoder.new) ≡ R.handle (reader_of decoder.old) }
-    ensures fresh { waiting_of decoder.new ≡ None }
+    ensures err { IfErr result (NamesShort R.ends n (seen R.Read decoder.old) (seen R.Read decoder.new)) }
+    ensures steady { Steady R.ends result (seen R.Read decoder.old) (seen R.Read decoder.new) }
 {
     let mut got = 0;
     'pieces: while got < n {
@@ -88,13 +84,11 @@ fn read_chunk<R: Read>(
     into: &mut Vec<u8>,
 ) -> Result<(), Error<R::Error>>
     requires fresh { waiting_of decoder.old ≡ None }
-    ensures ok { OnOk result (Takes (left_of R.left decoder.old) (left_of R.left decoder.new) (offset_of decoder.old) (offset_of decoder.new)
+    ensures ok { OnOk result (Takes (seen R.Read decoder.old) (seen R.Read decoder.new)
         (λ b. ChunkBody text n into.old.items into.new.items b)) }
-    ensures err { IfErr result (λ e. FailsBehind R.ends (string_head text (Some n)) at (offset_of decoder.old) (left_of R.left decoder.old) (offset_of decoder.new)
-        (ChunkDamage (string_head text) (IsBody text)) e) }
-    ensures failed { R.failed (reader_of decoder.new) ≡ failures R.ends result (R.failed (reader_of decoder.old)) }
-    ensures kept { R.handle (reader_of decoder.new) ≡ R.handle (reader_of decoder.old) }
-    ensures fresh { waiting_of decoder.new ≡ None }
+    ensures err { IfErr result (NamesFaultBehind R.ends (string_head text (Some n)) at (ChunkDamage (string_head text) (IsBody text))
+        (seen R.Read decoder.old) (seen R.Read decoder.new)) }
+    ensures steady { Steady R.ends result (seen R.Read decoder.old) (seen R.Read decoder.new) }
 {
     let start = into.len();
     read_bytes(decoder, n, into)?;
@@ -159,13 +153,11 @@ pub fn read_string<R: Read>(
     at: usize,
 ) -> Result<Vec<u8>, Error<R::Error>>
     requires fresh { waiting_of decoder.old ≡ None }
-    ensures ok { IfOk result (λ v. Takes (left_of R.left decoder.old) (left_of R.left decoder.new) (offset_of decoder.old) (offset_of decoder.new)
+    ensures ok { IfOk result (λ v. Takes (seen R.Read decoder.old) (seen R.Read decoder.new)
         (λ b. StringBehind text length v.items b)) }
-    ensures err { IfErr result (λ e. FailsBehind R.ends (string_head text length) at (offset_of decoder.old) (left_of R.left decoder.old) (offset_of decoder.new)
-        (StringDamage (string_head text) (IsBody text)) e) }
-    ensures failed { R.failed (reader_of decoder.new) ≡ failures R.ends result (R.failed (reader_of decoder.old)) }
-    ensures kept { R.handle (reader_of decoder.new) ≡ R.handle (reader_of decoder.old) }
-    ensures fresh { waiting_of decoder.new ≡ None }
+    ensures err { IfErr result (NamesFaultBehind R.ends (string_head text length) at (StringDamage (string_head text) (IsBody text))
+        (seen R.Read decoder.old) (seen R.Read decoder.new)) }
+    ensures steady { Steady R.ends result (seen R.Read decoder.old) (seen R.Read decoder.new) }
 {
     let mut bytes = Vec::new(alloc);
     match length {
@@ -189,13 +181,11 @@ fn read_open<R: Read>(
 ) -> Result<(), Error<R::Error>>
     requires fresh { waiting_of decoder.old ≡ None }
     requires empty { into.old.items ≡ [] }
-    ensures ok { OnOk result (Takes (left_of R.left decoder.old) (left_of R.left decoder.new) (offset_of decoder.old) (offset_of decoder.new)
+    ensures ok { OnOk result (Takes (seen R.Read decoder.old) (seen R.Read decoder.new)
         (λ b. StringBehind text None into.new.items b)) }
-    ensures err { IfErr result (λ e. FailsBehind R.ends (string_head text None) at (offset_of decoder.old) (left_of R.left decoder.old) (offset_of decoder.new)
-        (StringDamage (string_head text) (IsBody text)) e) }
-    ensures failed { R.failed (reader_of decoder.new) ≡ failures R.ends result (R.failed (reader_of decoder.old)) }
-    ensures kept { R.handle (reader_of decoder.new) ≡ R.handle (reader_of decoder.old) }
-    ensures fresh { waiting_of decoder.new ≡ None }
+    ensures err { IfErr result (NamesFaultBehind R.ends (string_head text None) at (StringDamage (string_head text) (IsBody text))
+        (seen R.Read decoder.old) (seen R.Read decoder.new)) }
+    ensures steady { Steady R.ends result (seen R.Read decoder.old) (seen R.Read decoder.new) }
 {
     let mut inner: usize = 0;
     'parts: loop {
@@ -211,5 +201,70 @@ fn read_open<R: Read>(
             Part::Chunk(n) => read_chunk(decoder, text, n, place, into)?,
             Part::Other => return Err(Error::Syntax(place)),
         }
+    }
+}
+
+/// The text of a string whose title, with the length given, begins at the place `at`.
+pub fn read_text<R: Read>(
+    alloc: Global,
+    decoder: &mut Decoder<R>,
+    length: Option<usize>,
+    at: usize,
+) -> Result<String, Error<R::Error>>
+    requires fresh { waiting_of decoder.old ≡ None }
+    ensures ok { IfOk result (λ v. Takes (seen R.Read decoder.old) (seen R.Read decoder.new)
+        (λ b. StringBehind true length (string_bytes v) b)) }
+    ensures err { IfErr result (NamesFaultBehind R.ends (Text length) at (StringDamage Text IsUtf8)
+        (seen R.Read decoder.old) (seen R.Read decoder.new)) }
+    ensures steady { Steady R.ends result (seen R.Read decoder.old) (seen R.Read decoder.new) }
+{
+    match length {
+        Some(n) => read_whole_text(alloc, decoder, n, at),
+        None => read_cut_text(alloc, decoder, at),
+    }
+}
+
+/// The text of a definite string. It is tested once.
+fn read_whole_text<R: Read>(
+    alloc: Global,
+    decoder: &mut Decoder<R>,
+    n: usize,
+    at: usize,
+) -> Result<String, Error<R::Error>>
+    requires fresh { waiting_of decoder.old ≡ None }
+    ensures ok { IfOk result (λ v. Takes (seen R.Read decoder.old) (seen R.Read decoder.new)
+        (λ b. StringBehind true (Some n) (string_bytes v) b)) }
+    ensures err { IfErr result (NamesFaultBehind R.ends (Text (Some n)) at (StringDamage Text IsUtf8)
+        (seen R.Read decoder.old) (seen R.Read decoder.new)) }
+    ensures steady { Steady R.ends result (seen R.Read decoder.old) (seen R.Read decoder.new) }
+{
+    let mut bytes = Vec::new(alloc);
+    read_bytes(decoder, n, &mut bytes)?;
+    match String::from_utf8(bytes) {
+        Ok(text) => {
+            let _valid = text.as_str();
+            Ok(text)
+        }
+        Err(_) => Err(Error::Syntax(at)),
+    }
+}
+
+/// The text of an open string, each of whose bodies is a text.
+fn read_cut_text<R: Read>(
+    alloc: Global,
+    decoder: &mut Decoder<R>,
+    at: usize,
+) -> Result<String, Error<R::Error>>
+    requires fresh { waiting_of decoder.old ≡ None }
+    ensures ok { IfOk result (λ v. Takes (seen R.Read decoder.old) (seen R.Read decoder.new)
+        (λ b. StringBehind true None (string_bytes v) b)) }
+    ensures err { IfErr result (NamesFaultBehind R.ends (Text None) at (StringDamage Text IsUtf8)
+        (seen R.Read decoder.old) (seen R.Read decoder.new)) }
+    ensures steady { Steady R.ends result (seen R.Read decoder.old) (seen R.Read decoder.new) }
+{
+    let bytes = read_string(alloc, decoder, true, None, at)?;
+    match String::from_utf8(bytes) {
+        Ok(text) => Ok(text),
+        Err(_) => Err(Error::Syntax(at)),
     }
 }

@@ -1,9 +1,9 @@
 //! Reads items as types.
-ghost use Rattle.std.specs.Prelude.{◌≡◌, ◌⊎◌, ◌<◌, ◌^◌, ℕ, List, None, Some, IfOk, IfErr, []};
-ghost use Rattle.ciborium_ll.specs.Reading.{Takes};
-ghost use Rattle.ciborium_ll.specs.Views.{left_of, offset_of, waiting_of, reader_of};
+ghost use Rattle.std.specs.Prelude.{◌≡◌, ◌⊎◌, Some, IfOk, IfErr, []};
+ghost use Rattle.ciborium_ll.specs.Seen.{Takes};
+ghost use Rattle.ciborium_ll.specs.Views.{left_of, seen};
 ghost use Rattle.ciborium.specs.Damage.{Damage};
-ghost use Rattle.ciborium.specs.Reading.{FailsAt, Known, IsNoMemory, failures};
+ghost use Rattle.ciborium.specs.Reading.{NamesFault, Steady, IsNoMemory};
 ghost use Rattle.ciborium.specs.Typed.{ReadsAs, IsRefused};
 
 use crate::de::{Error, from_decoder};
@@ -18,20 +18,13 @@ pub fn typed_item<T: Deserialize, R: Read>(
     decoder: &mut Decoder<R>,
     limit: usize,
 ) -> Result<T, Error<R::Error>>
-    ensures ok { IfOk result (λ x. Takes (left_of R.left decoder.old) (left_of R.left decoder.new) (offset_of decoder.old) (offset_of decoder.new)
-        (ReadsAs T.refusal T.takes limit x)) }
-    ensures err { IfErr result (λ e. Known (left_of R.left decoder.old) (λ b. FailsAt R.ends b (offset_of decoder.old) (offset_of decoder.new)
-        (λ stop b f. Damage stop b limit f) e)
-        ⊎ Takes (left_of R.left decoder.old) (left_of R.left decoder.new) (offset_of decoder.old) (offset_of decoder.new) (IsRefused T.refusal limit e)) }
+    ensures ok { IfOk result (λ x. Takes (seen R.Read decoder.old) (seen R.Read decoder.new) (ReadsAs T.refusal T.takes limit x)) }
+    ensures err { IfErr result (λ e. NamesFault R.ends (λ stop b f. Damage stop b limit f) (seen R.Read decoder.old) (seen R.Read decoder.new) e
+        ⊎ Takes (seen R.Read decoder.old) (seen R.Read decoder.new) (IsRefused T.refusal limit e)) }
     ensures nothing { left_of R.left decoder.old ≡ Some [] → IfErr result IsNoMemory }
-    ensures failed { R.failed (reader_of decoder.new) ≡ failures R.ends result (R.failed (reader_of decoder.old)) }
-    ensures kept { R.handle (reader_of decoder.new) ≡ R.handle (reader_of decoder.old) }
-    ensures fresh { waiting_of decoder.new ≡ None }
+    ensures steady { Steady R.ends result (seen R.Read decoder.old) (seen R.Read decoder.new) }
 {
-    let value = match from_decoder(alloc, decoder, limit) {
-        Ok(value) => value,
-        Err(e) => return Err(e),
-    };
+    let value = from_decoder(alloc, decoder, limit)?;
     match T::take(alloc, value) {
         Ok(x) => Ok(x),
         Err(value::Error::Kind(kind)) => Err(Error::Semantic(None, kind)),

@@ -1,5 +1,5 @@
 use Rattle.std.proofs.Common.{◌≡◌, ◌-◌, ◌+◌, ◌*◌, ◌^◌, ℕ, List, None, length}
-use Rattle.ciborium_ll.specs.Reading.{Takes}
+use Rattle.ciborium_ll.specs.Reading.{Moves}
 use Rattle.ciborium_ll.specs.Views.{left_of, offset_of, waiting_of, reader_of}
 use Rattle.ciborium_value.specs.Tree.{flat}
 use Rattle.ciborium_value.specs.View.{views, view_pairs}
@@ -22,7 +22,7 @@ decreases-read_tagged g l = 3 * l.limit
 abbrev pub invariant-read_items-items : goal.invariant-read_items-items
 invariant-read_items-items g l = record {
   few : FitsIn l.count (length l.items.items);
-  taken : Takes (left_of g.R.Read.left l.fn.decoder) (left_of g.R.Read.left l.decoder) (offset_of l.fn.decoder) (offset_of l.decoder)
+  taken : Moves (left_of g.R.Read.left l.fn.decoder) (left_of g.R.Read.left l.decoder) (offset_of l.fn.decoder) (offset_of l.decoder)
       (λ (b : List ℕ). ReadsAll b l.limit (views l.items.items));
   failed : g.R.Read.failed (reader_of l.decoder) ≡ g.R.Read.failed (reader_of l.fn.decoder);
   kept : g.R.Read.handle (reader_of l.decoder) ≡ g.R.Read.handle (reader_of l.fn.decoder);
@@ -35,7 +35,7 @@ decreases-read_items-items g l = 2 ^ 64 - offset_of l.decoder
 abbrev pub invariant-read_pairs-entries : goal.invariant-read_pairs-entries
 invariant-read_pairs-entries g l = record {
   few : FitsIn l.count (length l.entries.items);
-  taken : Takes (left_of g.R.Read.left l.fn.decoder) (left_of g.R.Read.left l.decoder) (offset_of l.fn.decoder) (offset_of l.decoder)
+  taken : Moves (left_of g.R.Read.left l.fn.decoder) (left_of g.R.Read.left l.decoder) (offset_of l.fn.decoder) (offset_of l.decoder)
       (λ (b : List ℕ). ReadsAll b l.limit (flat (view_pairs l.entries.items)));
   failed : g.R.Read.failed (reader_of l.decoder) ≡ g.R.Read.failed (reader_of l.fn.decoder);
   kept : g.R.Read.handle (reader_of l.decoder) ≡ g.R.Read.handle (reader_of l.fn.decoder);

@@ -1,12 +1,12 @@
 use Rattle.std.proofs.Common.{◌≡◌, ◌≤◌, ◌-◌, ◌++◌, ℕ, List, None, length}
-use Rattle.ciborium_ll.specs.Reading.{Takes}
+use Rattle.ciborium_ll.specs.Reading.{Moves}
 use Rattle.ciborium_ll.specs.Views.{left_of, offset_of, waiting_of, reader_of}
 use Rattle.ciborium.proofs.strings.read_bytes.Given as goal
 
 abbrev pub invariant-pieces : goal.invariant-pieces
 invariant-pieces g l = record {
   within : l.got ≤ l.n;
-  taken : Takes (left_of g.R.Read.left l.fn.decoder) (left_of g.R.Read.left l.decoder) (offset_of l.fn.decoder) (offset_of l.decoder)
+  taken : Moves (left_of g.R.Read.left l.fn.decoder) (left_of g.R.Read.left l.decoder) (offset_of l.fn.decoder) (offset_of l.decoder)
       (λ (b : List ℕ). (length b ≡ l.got) × (l.into.items ≡ l.fn.into.items ++ b));
   failed : g.R.Read.failed (reader_of l.decoder) ≡ g.R.Read.failed (reader_of l.fn.decoder);
   kept : g.R.Read.handle (reader_of l.decoder) ≡ g.R.Read.handle (reader_of l.fn.decoder);

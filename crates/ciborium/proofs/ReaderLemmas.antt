@@ -1,0 +1,55 @@
+-- The reader's parts outside its cycle.
+use Rattle.std.proofs.Common.{◌≡◌, ◌≢◌, ℕ, Bool, false, List, ◌++◌, Option, None, Some, refl, sym, ap, subst, ◌∙◌}
+use Rattle.ciborium_ll.specs.Reading.{Moves}
+use Rattle.ciborium_ll.specs.declared.hdr.Header.{Header}
+use Rattle.ciborium_ll.specs.declared.hdr.Header.TheVariants.{Positive, Negative, Float, Simple, Tag, Break, Bytes, Text, Array, Map}
+use Rattle.ciborium_value.specs.Tree.{Tree, Trees}
+use Rattle.ciborium.specs.declared.de.Error.{Error}
+use Rattle.ciborium.specs.declared.de.Error.TheVariants as code
+use Rattle.ciborium.specs.Damage.{Fault, Damage}
+use Rattle.ciborium.specs.Front.{ReadsAll}
+use Rattle.ciborium.specs.Reading.{FailsAt, IfKnown, FailsBehind, IsLeaf, IsFoldFault, TaggedBehind, ChildrenBehind, Closes, is_full}
+use Rattle.ciborium.proofs.Once.{append_nil}
+use Rattle.ciborium.proofs.Taking.{takes_then}
+use Rattle.ciborium.proofs.TagLemmas.{negative_fails}
+
+-- a header of no array, map or tag
+pub leaf_else : (h : Header) → ((o : Option ℕ) → h ≢ Array o) → ((o : Option ℕ) → h ≢ Map o) → ((n : ℕ) → h ≢ Tag n) → IsLeaf h
+leaf_else (Positive n) a m t = tt
+leaf_else (Negative n) a m t = tt
+leaf_else (Float f) a m t = tt
+leaf_else (Simple n) a m t = tt
+leaf_else (Tag n) a m t = t n refl
+leaf_else Break a m t = tt
+leaf_else (Bytes o) a m t = tt
+leaf_else (Text o) a m t = tt
+leaf_else (Array o) a m t = a o refl
+leaf_else (Map o) a m t = m o refl
+
+memory_known : {E : Type 0} (ends : E → Bool) (k : List ℕ → List ℕ) (o at : ℕ) (l : Option (List ℕ)) (D : ℕ → List ℕ → Fault → Type 0) → IfKnown l (λ b. FailsAt {E = E} ends (k b) at o D code.Memory)
+memory_known ends k o at None D = tt
+memory_known ends k o at (Some b) D = tt
+
+-- a number that does not fold
+pub fold_fails : {E : Type 0} (ends : E → Bool) (n at limit : ℕ) (c : Tree) (l₀ l₁ : Option (List ℕ)) (o₀ o₁ : ℕ) (e : Error E) → IsFoldFault n c e
+    → Moves l₀ l₁ o₀ o₁ (λ (b : List ℕ). TaggedBehind n limit c b) → FailsBehind ends (Tag n) at o₀ l₀ o₁ (λ stop b f. Damage stop b limit f) e
+fold_fails ends n at limit c l₀ l₁ o₀ o₁ (code.Io e) w t = absurd w
+fold_fails ends n at limit c l₀ l₁ o₀ o₁ (code.Syntax p) w t = absurd w
+fold_fails ends n at limit c l₀ l₁ o₀ o₁ (code.Semantic o k) w t =
+    subst (λ z. FailsBehind ends (Tag n) at o₀ l₀ o₁ (λ stop b f. Damage stop b limit f) (code.Semantic z k)) (sym w.0)
+    (subst (λ z. FailsBehind ends (Tag n) at o₀ l₀ o₁ (λ stop b f. Damage stop b limit f) (code.Semantic None z)) (sym w.1) (negative_fails ends n at limit c l₀ l₁ o₀ o₁ w.2 t))
+fold_fails ends n at limit c l₀ l₁ o₀ o₁ code.RecursionLimitExceeded w t = absurd w
+fold_fails ends n at limit c l₀ l₁ o₀ o₁ code.Memory w t = λ title u g. memory_known ends (λ b. title ++ b) o₁ at l₀ (λ stop b f. Damage stop b limit f)
+fold_fails ends n at limit c l₀ l₁ o₀ o₁ code.TooLong w t = absurd w
+
+-- the end of an array or a map
+closed : (o : Option ℕ) (done limit : ℕ) (vs : Trees) (x y : List ℕ) → ReadsAll x limit vs → Closes o done y → ChildrenBehind o done limit vs (x ++ y)
+closed (Some n) done limit vs x y p c = (c.0, subst (λ (z : List ℕ). ReadsAll z limit vs) (append_nil x ∙ ap (λ z. x ++ z) (sym c.1)) p)
+closed None done limit vs x y p c = (x, p, ap (λ z. x ++ z) c)
+
+pub part_none : (l₀ l₁ l₂ : Option (List ℕ)) (o₀ o₁ o₂ : ℕ) (o : Option ℕ) (n done limit : ℕ) (vs : Trees) → n ≡ done → Moves l₀ l₁ o₀ o₁ (λ (b : List ℕ). ReadsAll b limit vs) → Moves l₁ l₂ o₁ o₂ (λ b. Closes o n b)
+    → Moves l₀ l₂ o₀ o₂ (λ (b : List ℕ). ChildrenBehind o done limit vs b)
+part_none l₀ l₁ l₂ o₀ o₁ o₂ o n done limit vs e p t = takes_then l₀ l₁ l₂ o₀ o₁ o₂ _ _ _ p t (λ x y a b. closed o done limit vs x y a (subst (λ (z : ℕ). Closes o z y) e b))
+
+pub due_at : (o : Option ℕ) (n done : ℕ) → n ≡ done → is_full o n ≡ false → is_full o done ≡ false
+due_at o n done e f = ap (is_full o) (sym e) ∙ f

@@ -1,0 +1,46 @@
+#!/bin/sh
+# capped.sh [BINARY]: heads that claim more than follows them, read by cbor_bench under a capped heap.
+#
+# Each input must end as bytes that are cut off, and not as refused memory, where the process may hold little more than for an empty
+# array. Where valgrind is there, it also counts the bytes that reading asks of the heap: at most 4,096 over those of the empty array,
+# beside the input itself.
+set -u
+here=$(cd "$(dirname "$0")/.." && pwd)
+bench=${1:-$here/crates/cbor_bench/out/cbor_bench}
+[ -x "$bench" ] || { echo "capped.sh: no $bench; run 'rt run' in crates/cbor_bench first" >&2; exit 2; }
+folder=$(mktemp -d) && trap 'rm -rf "$folder"' EXIT || exit 2
+levels() { i=0; while [ $i -lt "$1" ]; do printf "$2"; i=$((i + 1)); done; }
+
+printf '\200' > "$folder/empty"
+printf '\233\377\377\377\377\377\377\377\377' > "$folder/9b"
+printf '\273\377\377\377\377\377\377\377\377' > "$folder/bb"
+levels 256 '\250' > "$folder/a8-256"
+levels 256 '\233\377\377\377\377\377\377\377\377' > "$folder/9b-256"
+
+# the least number of KiB that reading the empty array needs
+reads() { (ulimit -v "$1"; "$bench" decode "$2" 1) > "$folder/out" 2> "$folder/err"; }
+low=0 high=1048576
+reads $high "$folder/empty" || { echo "capped.sh: an empty array is not read" >&2; exit 1; }
+while [ $((high - low)) -gt 4 ]; do
+  middle=$(((low + high) / 2))
+  if reads $middle "$folder/empty"; then high=$middle; else low=$middle; fi
+done
+cap=$((high + 64))
+
+heap() { valgrind "$bench" decode "$1" 1 2>&1 | sed -n 's/.*frees, \([0-9,]*\) bytes allocated.*/\1/p' | tr -d ,; }
+bad=0
+command -v valgrind > /dev/null && base=$(heap "$folder/empty") || base=
+for name in 9b bb a8-256 9b-256; do
+  reads $cap "$folder/$name"
+  answer=$(cat "$folder/err")
+  more=
+  if [ -n "$base" ]; then
+    size=$(wc -c < "$folder/$name")
+    more=$(($(heap "$folder/$name") - base))
+    # the input is read into a buffer that may double as it grows
+    [ $more -le $((4096 + 4 * size)) ] || bad=1
+  fi
+  echo "$name: $answer under $cap KiB${more:+; $more bytes more of the heap than an empty array}"
+  case $answer in *"Io(End)"*) ;; *) bad=1 ;; esac
+done
+[ $bad = 0 ] && echo 'capped.sh: all within' || { echo 'capped.sh: too much' >&2; exit 1; }
