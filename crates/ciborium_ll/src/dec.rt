@@ -80,7 +80,6 @@ impl<R: Read> Decoder<R> {
         ensures place { OnErr result (self.new.read ≡ self.old.read) }
         ensures untouched { IfRefused result (self.new ≡ self.old) }
         ensures steady { Steady R.ends result (raw R.Read self.old) (raw R.Read self.new) }
-        ensures fresh { self.new.waiting ≡ None }
     {
         match info {
             24 => {

@@ -238,7 +238,8 @@ impl<'r, R: Read> Segments<'r, R, Text> {
             (progress R.Read self.old) (progress R.Read self.new)) }
         ensures stops { IfErr result (TextStops body.old body.new (progress R.Read self.old) (progress R.Read self.new)) }
         ensures small { length buffer.old < 4 → (self.new ≡ self.old) × (body.new ≡ body.old)
-            × IfOk result (λ o. IfSome o (λ piece. piece.now ≡ [])) × IfErr result (λ e. (p : ℕ) × (e ≡ Syntax p) × (stage_at self.old ≡ Stuck p)) }
+            × IfOk result (λ o. IfSome o (λ piece. piece.now ≡ []))
+            × IfErr result (λ e. (p : ℕ) × (e ≡ Syntax p) × (stage_at self.old ≡ Stuck p)) }
         ensures waiting { waiting_of (decoder_of self.old) ≢ None → 0 < bytes_of body.old → 4 ≤ length buffer.old
             → ((p : ℕ) → stage_at self.old ≢ Stuck p) → result ≡ Err Waiting }
         ensures stuck { (p : ℕ) → stage_at self.old ≡ Stuck p

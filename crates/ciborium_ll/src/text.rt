@@ -1,5 +1,5 @@
 //! The pieces of a text.
-ghost use Rattle.std.specs.Prelude.{◌≡◌, ◌≢◌, ◌+◌, ◌≤◌, ◌-◌, ◌++◌, [], ℕ, List, min, length, take, IfOk, IfErr, OnErr, IfSome, IfNone, IsUtf8};
+ghost use Rattle.std.specs.Prelude.{◌≡◌, ◌≢◌, ◌+◌, ◌≤◌, ◌++◌, [], ℕ, List, min, length, take, IfOk, IfErr, OnErr, IfSome, IfNone, IsUtf8};
 ghost use Rattle.ciborium_ll.specs.declared.hdr.Error.TheVariants.{Waiting};
 ghost use Rattle.ciborium_ll.specs.Reading.{IfRefused};
 ghost use Rattle.ciborium_ll.specs.Seen.{Takes, Steady, ReadTells};

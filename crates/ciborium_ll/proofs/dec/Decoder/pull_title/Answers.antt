@@ -1,6 +1,8 @@
-use Rattle.std.proofs.Common.{rules}
+use Rattle.std.proofs.Common.{rules, ap}
 use Rattle.std.proofs.lemmas.Result.{err_from_is_err_and}
-use Rattle.ciborium_ll.proofs.Pulling.{tells_before, title_taken, one_cell}
+use Rattle.ciborium_ll.proofs.Pulling.{tells_before, title_taken, one_cell, halts_before, halts_behind}
+use Rattle.ciborium_ll.specs.declared.dec.Decoder.{Decoder}
+use Rattle.ciborium_ll.specs.Views.{raw}
 use Rattle.ciborium_ll.proofs.dec.Decoder.pull_title.Goals as goal
 
 pub returns-in_err-fill-clause-fault : goal.returns-in_err-fill-clause-fault
@@ -11,3 +13,15 @@ returns-in_err-fill-clause-fault g c =
 pub returns-clause-ok : goal.returns-clause-ok
 returns-clause-ok g c =
     title_taken _ _ _ _ _ _ _ _ c.fill.new.«data» _ (one_cell c.fill.new.«data» (search rules)) c.in_ok-fill.ensures.ok c.in_ok-fill.ensures.grown c.in_ok-n.ensures.ok (c.with_number.ensures)
+
+pub returns-in_err-fill-clause-stops : goal.returns-in_err-fill-clause-stops
+returns-in_err-fill-clause-stops g c =
+    let p = err_from_is_err_and c.from_residual.result c.from_residual.ensures.1 in
+    rw (p.1, p.2) (halts_before g.R.Read.ends _ _ _ _ _ _ _ _ c.in_err-fill.ensures.fault c.in_err-fill.ensures.untouched
+    (λ h. ap (λ (d : Decoder g.row.R.Denot). (raw g.R.Read d).left) h.0) c.in_err-fill.ensures.place)
+
+pub returns-in_err-n-clause-stops : goal.returns-in_err-n-clause-stops
+returns-in_err-n-clause-stops g c =
+    let p = err_from_is_err_and c.from_residual-in_err-n.result c.from_residual-in_err-n.ensures.1 in
+    rw (p.1, p.2) (halts_behind g.R.Read.ends _ _ _ _ _ _ _ c.fill.new.«data» _ _ _ _ (one_cell c.fill.new.«data» (search rules)) c.in_ok-fill.ensures.ok c.in_ok-fill.ensures.grown
+    c.in_err-n.ensures.wide c.in_err-n.ensures.fault c.in_err-n.ensures.untouched (λ h. ap (λ (d : Decoder g.row.R.Denot). (raw g.R.Read d).left) h) c.in_err-n.ensures.place)
