@@ -16,24 +16,40 @@ use Rattle.ciborium_ll.specs.declared.body.Body.{Body}
 use Rattle.ciborium_ll.specs.declared.body.Saved.{Saved}
 use Rattle.ciborium_ll.specs.declared.body.Saved.TheVariants.{No, One as SavedOne, Two, Three}
 use Rattle.ciborium_ll.specs.Title.{Title, title_of}
-use Rattle.ciborium_ll.specs.Reading.{Moves, Tells, RawFault, Ends, IsBadByte}
+use Rattle.ciborium_ll.specs.Reading.{Moves, Tells, RawFault, Ends, IsBadByte, IsTitleStart, Starts, TitleHalt}
 use Rattle.ciborium_ll.specs.Framing.{Closing, Any}
 use Rattle.ciborium_ll.specs.Pieces.{enc_pieces}
-use Rattle.ciborium_ll.specs.Stages.{Rest, Parted, Leads, Passes, Reaches, StartsAt, StageFault, EndsInside, Strays, ahead, opens}
+use Rattle.ciborium_ll.specs.Stages.{Rest, Parted, Leads, Passes, Reaches, StartsAt, StageFault, StageHalt, StaysOpen, EndsInside, Strays, ahead, opens}
 use Rattle.ciborium_ll.specs.Bodies.{saved_bytes, saved_of, start_of, unread_of, bytes_of, more_of, IsDamaged, TextFault}
 use Rattle.ciborium_ll.specs.Copies.{Copies, Makes, Halt, paused, ended, damaged, refused, behind, BodyHalt, Between, BodyDue, InBody, OpenHalt, HeadHalt, RestHalt, StringHalt, CopyHalt, CopiesHalt, Stopped, Stood, Ended, Halts}
 use Rattle.ciborium_ll.proofs.Closings.{leads_then}
 use Rattle.ciborium_ll.proofs.Copying.{utf8_rest}
 
+starts_then : (l m : Option (List ℕ)) (a b : List ℕ) → Consumes l m a → Starts m b → Starts l (a ++ b)
+starts_then None m a b c s = tt
+starts_then (Some xs) None a b c s = absurd c
+starts_then (Some xs) (Some ys) a b c (rest, e) = (rest, c ∙ ap (λ z. a ++ z) e ∙ sym (append_assoc a b rest))
+
+starts_nothing : (l : Option (List ℕ)) → Starts l []
+starts_nothing None = tt
+starts_nothing (Some xs) = (xs, refl)
+
+starts_taken : (l m : Option (List ℕ)) (a : List ℕ) → Consumes l m a → Starts l a
+starts_taken None m a c = tt
+starts_taken (Some xs) None a c = absurd c
+starts_taken (Some xs) (Some ys) a c = (ys, c)
+
 -- what halts behind a part that was copied whole
 module _ (S S' : Halt → List ℕ → List ℕ → Type 0) (a y : List ℕ) (d : ℕ) (f : (h : Halt) (b x : List ℕ) → S h b x → S' (behind d h) (a ++ b) (y ++ x)) where
-  stood_then : (l m w w₁ w' : Option (List ℕ)) → Consumes l m a → Appends w w₁ y → Stood S m w₁ w' → Stood S' l w w'
-  stood_then l m w w₁ w' c p s = record {
+  stood_then : (l m : Option (List ℕ)) (i i' j : ℕ) (w w₁ w' : Option (List ℕ)) → Consumes l m a → i' ≡ i + length a → Appends w w₁ y → Stood S m i' j w₁ w' → Stood S' l i j w w'
+  stood_then l m i i' j w w₁ w' c g p s = record {
     bytes = a ++ s.bytes;
     text = y ++ s.text;
     is = f paused s.bytes s.text s.is;
-    mid = s.mid;
-    taken = Consumes-trans l m s.mid a s.bytes c s.taken;
+    begun = s.begun;
+    begins = s.begins;
+    there = subst (Starts l) (sym (append_assoc a s.bytes s.begun)) (starts_then l m a (s.bytes ++ s.begun) c s.there);
+    grown = omega (arith, g, s.grown, length-append (a ++ s.bytes) s.begun, length-append a s.bytes, length-append s.bytes s.begun);
     wrote = Appends-trans w w₁ w' y s.text p s.wrote;
   }
 
@@ -57,24 +73,26 @@ module _ (S S' : Halt → List ℕ → List ℕ → Type 0) (a y : List ℕ) (d 
   pub halts_then : {E F : Type 0} (ends : E → Bool) (e : RecodeError E F) (l m l' : Option (List ℕ)) (i i' j start start' : ℕ) (w w₁ w' : Option (List ℕ)) (long long' : Type 0)
       → Consumes l m a → i' ≡ i + length a → start' ≡ start + d → Appends w w₁ y → (long → long')
       → Halts ends S long start' m l' i' j w₁ w' e → Halts ends S' long' start l l' i j w w' e
-  halts_then ends (Read (Io e)) l m l' i i' j start start' w w₁ w' long long' c g s p k h = (stood_then l m w w₁ w' c p h.0, λ t. ended_then l m w w₁ w' c p (h.1 t))
+  halts_then ends (Read (Io e)) l m l' i i' j start start' w w₁ w' long long' c g s p k h = (stood_then l m i i' j w w₁ w' c g p h.0, λ t. ended_then l m w w₁ w' c p (h.1 t))
   halts_then ends (Read (Syntax q)) l m l' i i' j start start' w w₁ w' long long' c g s p k (r, e, h) =
       (d + r, omega (arith, e, s), stopped_then (damaged r) l m l' i i' j w w₁ w' c g p h)
-  halts_then ends (Read TooLong) l m l' i i' j start start' w w₁ w' long long' c g s p k h = (k h.0, stood_then l m w w₁ w' c p h.1)
+  halts_then ends (Read TooLong) l m l' i i' j start start' w w₁ w' long long' c g s p k h = (k h.0, stood_then l m i i' j w w₁ w' c g p h.1)
   halts_then ends (Read Waiting) l m l' i i' j start start' w w₁ w' long long' c g s p k h = h
   halts_then ends (Write e) l m l' i i' j start start' w w₁ w' long long' c g s p k (last, mid, h, v) =
       (last, mid, stopped_then (refused last) l m l' i i' j w w₁ mid c g p h, v)
 
 -- in a body, of which `given` was written and `saved` is kept
 module _ (P : List ℕ → Type 0) (kept total : ℕ) (given saved : List ℕ) (few : length saved ≤ kept) where
-  body_stood : (l m : Option (List ℕ)) (i j : ℕ) (w w' : Option (List ℕ)) → Moves l m i j (λ b. b ≡ given ++ saved) → length given + length saved ≤ total → Appends w w' given
-      → Stood (BodyHalt P kept total) l w w'
-  body_stood l m i j w w' t g p = record {
+  body_stood : (l m : Option (List ℕ)) (i j j' : ℕ) (w w' : Option (List ℕ)) → Moves l m i j (λ b. b ≡ given ++ saved) → length given + length saved ≤ total → Appends w w' given → j' ≡ j
+      → Stood (BodyHalt P kept total) l i j' w w'
+  body_stood l m i j j' w w' t g p same = record {
     bytes = given ++ saved;
     text = given;
     is = (omega (arith, g, length-append given saved), (saved, refl, few));
-    mid = m;
-    taken = subst (Consumes l m) t.has t.taken;
+    begun = [];
+    begins = tt;
+    there = starts_then l m (given ++ saved) [] (subst (Consumes l m) t.has t.taken) (starts_nothing m);
+    grown = omega (arith, same, t.grown, ap length t.has, length-append (given ++ saved) []);
     wrote = p;
   }
 
@@ -100,8 +118,8 @@ bytes_halt {E} F ends e l m l' i j j' room room' unread total start xs w w' W t 
     run : Moves l m i j (λ b. b ≡ xs ++ [])
     run = record { bytes = t.bytes; has = t.has ∙ sym (append-nil xs); taken = t.taken; grown = t.grown }
 
-    stood : Stood (BodyHalt Any 0 total) l w w'
-    stood = body_stood Any 0 total xs [] (omega arith) l m i j w w' run (omega (arith, g)) p
+    stood : Stood (BodyHalt Any 0 total) l i j' w w'
+    stood = body_stood Any 0 total xs [] (omega arith) l m i j j' w w' run (omega (arith, g)) p same
 
     go : (e : Error E) → RawFault ends (IsShort m (min room unread)) (2 ^ 64 ≤ j + min room unread) W e → Halts {F = F} ends (BodyHalt Any 0 total) (2 ^ 64 ≤ j' + room') start l l' i j' w w' (Read e)
     go (Io e) f = (stood, λ h. body_ended Any 0 total xs [] (omega arith) l m i j (min room unread) w w' run (omega (arith, g)) p (f h))
@@ -124,8 +142,8 @@ text_halt {E} F ends e old new stage stage' l m l' i j j' room room' total start
     few : length (saved_of old) ≤ 3
     few = saved_few old.saved
 
-    stood : Stood (BodyHalt IsUtf8 3 total) l w w'
-    stood = body_stood IsUtf8 3 total given (saved_of old) few l m i j w w' t (omega (arith, g)) p
+    stood : j' ≡ j → Stood (BodyHalt IsUtf8 3 total) l i j' w w'
+    stood same = body_stood IsUtf8 3 total given (saved_of old) few l m i j j' w w' t (omega (arith, g)) p same
 
     bad : (d : Moves m l' j j' (IsDamaged old)) → Stopped (BodyHalt IsUtf8 3 total) (damaged 0) l l' i j' w w'
     bad d = record {
@@ -145,10 +163,10 @@ text_halt {E} F ends e old new stage stage' l m l' i j j' room room' total start
     }
 
     go : (e : Error E) → TextFault ends old new room stage stage' m l' j j' W e → Halts {F = F} ends (BodyHalt IsUtf8 3 total) (2 ^ 64 ≤ j' + room') start l l' i j' w w' (Read e)
-    go (Io e) f = (stood, λ h. body_ended IsUtf8 3 total given (saved_of old) few l m i j (more_of old room) w w' t (omega (arith, g)) p (f.0 h))
+    go (Io e) f = (stood f.1.1, λ h. body_ended IsUtf8 3 total given (saved_of old) few l m i j (more_of old room) w w' t (omega (arith, g)) p (f.0 h))
     go (Syntax q) (s, inl e) = absurd (free q e)
     go (Syntax q) (s, inr (e, d)) = (0, omega (arith, e, at), bad d)
-    go TooLong f = (omega (arith, f.0, f.1.1, roomy), stood)
+    go TooLong f = (omega (arith, f.0, f.1.1, roomy), stood f.1.1)
     go Waiting f = fresh f.0
 
 -- a piece of a body that was refused
@@ -194,13 +212,22 @@ module _ (k : Option ℕ → Header) (P : List ℕ → Type 0) (kept : ℕ) wher
   -- a fault on the way to a body
   pub advance_halts : {E : Type 0} (F : Type 0) (ends : E → Bool) (e : Error E) (n : ℕ) (stage stage' : Stage) (l m l' : Option (List ℕ)) (i j j' room : ℕ) (bodies : List (List ℕ)) (w w' : Option (List ℕ))
       → stage ≡ Inside n → 0 < n → Moves l m i j (λ f. Leads (Closing k P 1) (Rest k P stage) f bodies) → Appends w w' (enc_pieces k bodies) → opens stage + i ≤ 1 + j
-      → StageFault ends k P stage stage' m l' j j' e → Halts {F = F} ends (OpenHalt k P kept) (2 ^ 64 ≤ j' + (9 + room)) i l l' i j' w w' (Read e)
+      → StageFault ends k P stage stage' m l' j j' e → StageHalt k P stage stage' m l' j j' e → Halts {F = F} ends (OpenHalt k P kept) (2 ^ 64 ≤ j' + (9 + room)) i l l' i j' w w' (Read e)
   advance_halts {E} F ends e n stage stage' l m l' i j j' room bodies w w' inside some run p o =
-      subst (λ z. Moves l m i j (λ f. Leads (Closing k P 1) (Rest k P z) f bodies) → opens z + i ≤ 1 + j → StageFault ends k P z stage' m l' j j' e → Halts {F = F} ends (OpenHalt k P kept) (2 ^ 64 ≤ j' + (9 + room)) i l l' i j' w w' (Read e))
+      subst (λ z. Moves l m i j (λ f. Leads (Closing k P 1) (Rest k P z) f bodies) → opens z + i ≤ 1 + j → StageFault ends k P z stage' m l' j j' e → StageHalt k P z stage' m l' j j' e → Halts {F = F} ends (OpenHalt k P kept) (2 ^ 64 ≤ j' + (9 + room)) i l l' i j' w w' (Read e))
       (sym inside) (λ r o. go r o e) run o
     where
-      stood : Run l m i j n bodies → Stood (OpenHalt k P kept) l w w'
-      stood r = record { bytes = r.bytes; text = enc_pieces k bodies; is = inl (between n some bodies r.bytes r.has); mid = m; taken = r.taken; wrote = p }
+      stood : Run l m i j n bodies → (b : List ℕ) → StaysOpen k P (Inside n) stage' b → Starts m b → j' ≡ j + length b → Stood (OpenHalt k P kept) l i j' w w'
+      stood r b (front, last, o, has, same, q, begins, e) there grown = record {
+        bytes = r.bytes ++ front;
+        text = enc_pieces k bodies;
+        is = inl (between o has bodies (r.bytes ++ front) (leads_on _ _ _ r.bytes front bodies r.has q));
+        begun = last;
+        begins = begins;
+        there = subst (Starts l) (ap (λ z. r.bytes ++ z) e ∙ sym (append_assoc r.bytes front last)) (starts_then l m r.bytes b r.taken there);
+        grown = omega (arith, grown, r.grown, ap length e, length-append (r.bytes ++ front) last, length-append r.bytes front, length-append front last);
+        wrote = p;
+      }
 
       finish : (l m : Option (List ℕ)) → Run l m i j n bodies → EndsInside k P (Inside n) m → Ended (OpenHalt k P kept) l w w'
       finish None m r h = tt
@@ -236,13 +263,14 @@ module _ (k : Option ℕ → Header) (P : List ℕ → Type 0) (kept : ℕ) wher
         },
       )
 
-      go : Run l m i j n bodies → n + i ≤ 1 + j → (e : Error E) → StageFault ends k P (Inside n) stage' m l' j j' e → Halts {F = F} ends (OpenHalt k P kept) (2 ^ 64 ≤ j' + (9 + room)) i l l' i j' w w' (Read e)
-      go r o (Io e) f = (stood r, λ h. finish l m r (f h))
-      go r o (Syntax q) (s, inl f) = absurd (cc)
-      go r o (Syntax q) (s, inr f) = astray q r f f.has
-      go r o TooLong (inl f) = (omega (arith, f), stood r)
-      go r o TooLong (inr f) = (omega (arith, f, o), stood r)
-      go r o Waiting f = absurd f
+      go : Run l m i j n bodies → n + i ≤ 1 + j → (e : Error E) → StageFault ends k P (Inside n) stage' m l' j j' e → StageHalt k P (Inside n) stage' m l' j j' e
+          → Halts {F = F} ends (OpenHalt k P kept) (2 ^ 64 ≤ j' + (9 + room)) i l l' i j' w w' (Read e)
+      go r o (Io e) f s = (stood r s.bytes s.has s.there s.grown, λ h. finish l m r (f h))
+      go r o (Syntax q) (s, inl f) x = absurd (cc)
+      go r o (Syntax q) (s, inr f) x = astray q r f f.has
+      go r o TooLong (inl f) s = (omega (arith, f), stood r s.bytes s.has (starts_taken m l' s.bytes s.taken) s.grown)
+      go r o TooLong (inr f) s = (omega (arith, f, o), stood r s.bytes s.has (starts_taken m l' s.bytes s.taken) s.grown)
+      go r o Waiting f s = absurd f
 
   -- the body that was found
   pub record Found (len start i j : ℕ) (l l' : Option (List ℕ)) (x : List ℕ) : Type 0 where
@@ -411,21 +439,23 @@ text_halts ends e len h same l m l' i i' j w w' long t s =
 
 -- a fault where a head was to come
 pub pull_halts : {E : Type 0} (F : Type 0) (ends : E → Bool) (e : Error E) (l l' : Option (List ℕ)) (i j room : ℕ) (w : Option (List ℕ)) → i ≤ j
-    → Tells ends (Ends l l' i j) (λ p. (p ≡ i) × Moves l l' i j IsBadByte) (2 ^ 64 ≤ i + 9) e → Halts {F = F} ends CopyHalt (2 ^ 64 ≤ j + (9 + room)) i l l' i j w w (Read e)
+    → Tells ends (Ends l l' i j) (λ p. (p ≡ i) × Moves l l' i j IsBadByte) (2 ^ 64 ≤ i + 9) e → TitleHalt l l' i j e
+    → Halts {F = F} ends CopyHalt (2 ^ 64 ≤ j + (9 + room)) i l l' i j w w (Read e)
 pull_halts {E} F ends e l l' i j room w g = go e
   where
-    stood : Stood CopyHalt l w w
-    stood = record { bytes = []; text = []; is = inl (refl, refl); mid = l; taken = Consumes-nil l; wrote = Appends-nil w }
+    stood : (b : List ℕ) → IsTitleStart b → Starts l b → j ≡ i + length b → Stood CopyHalt l i j w w
+    stood b begins there grown = record { bytes = []; text = []; is = inl (refl, refl); begun = b; begins = begins; there = there; grown = grown; wrote = Appends-nil w }
 
     finish : (l : Option (List ℕ)) → Ends l l' i j → Ended CopyHalt l w w
     finish None h = tt
     finish (Some xs) h = ([], [], xs, inl (refl, refl, h.0), refl, Appends-nil w)
 
-    go : (e : Error E) → Tells ends (Ends l l' i j) (λ p. (p ≡ i) × Moves l l' i j IsBadByte) (2 ^ 64 ≤ i + 9) e → Halts {F = F} ends CopyHalt (2 ^ 64 ≤ j + (9 + room)) i l l' i j w w (Read e)
-    go (Io e) f = (stood, λ h. finish l (f h))
-    go (Syntax p) (e, t) = (0, omega (arith, e), record { bytes = t.bytes; text = []; is = inl (t.has, refl, refl); taken = t.taken; grown = t.grown; wrote = Appends-nil w })
-    go TooLong f = (omega (arith, f, g), stood)
-    go Waiting f = f
+    go : (e : Error E) → Tells ends (Ends l l' i j) (λ p. (p ≡ i) × Moves l l' i j IsBadByte) (2 ^ 64 ≤ i + 9) e → TitleHalt l l' i j e
+        → Halts {F = F} ends CopyHalt (2 ^ 64 ≤ j + (9 + room)) i l l' i j w w (Read e)
+    go (Io e) f s = (stood s.bytes s.has s.there s.grown, λ h. finish l (f h))
+    go (Syntax p) (e, t) s = (0, omega (arith, e), record { bytes = t.bytes; text = []; is = inl (t.has, refl, refl); taken = t.taken; grown = t.grown; wrote = Appends-nil w })
+    go TooLong f s = (omega (arith, f, g), stood s.bytes s.has (starts_taken l l' s.bytes s.taken) s.grown)
+    go Waiting f s = f
 
 -- where a head that is no string's was refused
 pub one_refused : {E F : Type 0} (ends : E → Bool) (e : F) (h : Header) (l l' : Option (List ℕ)) (i j : ℕ) (w w' : Option (List ℕ)) (long : Type 0)

@@ -11,7 +11,7 @@ use Rattle.ciborium_ll.specs.declared.recoding.RecodeError.{RecodeError}
 use Rattle.ciborium_ll.specs.declared.recoding.RecodeError.TheVariants.{Read, Write}
 use Rattle.ciborium_ll.specs.Framing.{Closing, Any}
 use Rattle.ciborium_ll.specs.Pieces.{enc_open, enc_pieces, enc_whole}
-use Rattle.ciborium_ll.specs.Reading.{fault_failures, IsBadByte}
+use Rattle.ciborium_ll.specs.Reading.{fault_failures, IsBadByte, IsTitleStart, Starts}
 use Rattle.ciborium_ll.specs.Sent.{Sides}
 use Rattle.ciborium_ll.specs.Stages.{Leads, Parted, IsStray}
 use Rattle.ciborium_ll.specs.declared.stage.Stage.TheVariants.{Inside}
@@ -202,13 +202,15 @@ pub record Stopped (S : Halt → List ℕ → List ℕ → Type 0) (h : Halt) (l
   pub grown : place' ≡ place + length bytes
   pub wrote : Appends w w' text
 
--- the same, before a read that failed: what that read took isn't known
-pub record Stood (S : Halt → List ℕ → List ℕ → Type 0) (left w w' : Option (List ℕ)) : Type 0 where
+-- the same, before a read that failed, behind no more than the first byte of a title; what that read took isn't known
+pub record Stood (S : Halt → List ℕ → List ℕ → Type 0) (left : Option (List ℕ)) (place place' : ℕ) (w w' : Option (List ℕ)) : Type 0 where
   pub bytes : List ℕ
   pub text : List ℕ
   pub is : S paused bytes text
-  pub mid : Option (List ℕ)
-  pub taken : Consumes left mid bytes
+  pub begun : List ℕ
+  pub begins : IsTitleStart begun
+  pub there : Starts left (bytes ++ begun)
+  pub grown : place' ≡ place + length (bytes ++ begun)
   pub wrote : Appends w w' text
 
 -- the same, before a read that met the end of the bytes
@@ -219,9 +221,9 @@ Ended S (Some xs) w w' = (bytes : List ℕ) × (text : List ℕ) × (rest : List
 -- what a fault tells of a copy, whose places count from `start`
 abbrev pub Halts : {E F : Type 0} → (E → Bool) → (Halt → List ℕ → List ℕ → Type 0) → Type 0 → ℕ → Option (List ℕ) → Option (List ℕ) → ℕ → ℕ
     → Option (List ℕ) → Option (List ℕ) → RecodeError E F → Type 0
-Halts ends S long start left left' place place' w w' (Read (Io e)) = Stood S left w w' × (IsTrue (ends e) → Ended S left w w')
+Halts ends S long start left left' place place' w w' (Read (Io e)) = Stood S left place place' w w' × (IsTrue (ends e) → Ended S left w w')
 Halts ends S long start left left' place place' w w' (Read (Syntax p)) = (q : ℕ) × (p ≡ start + q) × Stopped S (damaged q) left left' place place' w w'
-Halts ends S long start left left' place place' w w' (Read TooLong) = long × Stood S left w w'
+Halts ends S long start left left' place place' w w' (Read TooLong) = long × Stood S left place place' w w'
 Halts ends S long start left left' place place' w w' (Read Waiting) = ⊥
 Halts ends S long start left left' place place' w w' (Write f) =
     (last : List ℕ) × (mid : Option (List ℕ)) × Stopped S (refused last) left left' place place' w mid × AppendsFront mid w' last

@@ -61,6 +61,7 @@ impl<W: Write> Encoder<W> {
         }
     }
 
+    #[inline]
     fn sized(&mut self, major: u8, len: Option<usize>) -> Result<(), W::Error>
         requires { major < 8 }
         ensures ok { OnOk result (Appends (W.written (writer_of self.old)) (W.written (writer_of self.new)) (shortest_sized major len)) }
@@ -74,6 +75,7 @@ impl<W: Write> Encoder<W> {
         }
     }
 
+    #[inline]
     #[tactic(auto, unfolding(crate::specs::Title::shortest))]
     fn number(&mut self, major: u8, n: u64) -> Result<(), W::Error>
         requires { major < 8 }

@@ -20,10 +20,10 @@ mod recoding;
 mod segments;
 pub mod simple;
 mod stage;
-mod strings;
 pub mod tag;
 mod text;
 mod write;
+mod write_strings;
 
 pub use crate::adapters::{Io, IoFault};
 pub use crate::body::Body;

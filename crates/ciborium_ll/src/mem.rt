@@ -109,13 +109,14 @@ impl Write for Mem<&mut [u8]> {
 
     ghost failed = { λ m. m.failed.total };
 
-    ghost use Rattle.ciborium_ll.specs.Views.{filled_of, room_of, memory_failures};
+    ghost use Rattle.ciborium_ll.specs.Views.{memory_of, taken_of, filled_of, room_of, memory_failures};
 
     /// Writes all of the data, or nothing where it is longer than the room that is left.
     fn write_all(&mut self, data: &[u8]) -> Result<(), Full>
         ensures ok { OnOk result (filled_of self.new ≡ filled_of self.old ++ «data».now) }
         ensures err { OnErr result (AppendsFront (Some (filled_of self.old)) (Some (filled_of self.new)) «data».now) }
         ensures kept { OnErr result (filled_of self.new ≡ filled_of self.old) }
+        ensures untouched { OnErr result (((memory_of self.new).now ≡ (memory_of self.old).now) × (taken_of self.new ≡ taken_of self.old)) }
         ensures full { OnErr result (room_of self.old < length «data».now) }
         ensures room { OnOk result (room_of self.new ≡ room_of self.old - length «data».now) }
         ensures failed { memory_failures self.new ≡ write_failures result (memory_failures self.old) }

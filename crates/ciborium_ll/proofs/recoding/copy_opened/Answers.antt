@@ -28,7 +28,7 @@ returns-in-Err-clause-fault g c =
     let v = c.loop-body.invariant in
     let some = some_of v.inside.0 (λ z. let d = (c.in-Err.ensures.done (v.inside.1 ∙ ap Inside z)).0 in cc) in
     halts_seen {F = g.row.W-Error.Denot} g.R.Read.ends (OpenHalt g.P.StringKind.titled g.P.StringKind.allows g.P.CopyBody.keeps) (9 + length c.args.buffer.now) _ (Read c.in-Err.e) _ (left_at g.R.Read.left c.advance.new.self) _ _ (place_at c.advance.new.self) _ _ _ (search rules) (search rules)
-    (advance_halts g.P.StringKind.titled g.P.StringKind.allows g.P.CopyBody.keeps g.row.W-Error.Denot g.R.Read.ends c.in-Err.e v.inside.0 _ _ _ _ _ _ _ _ _ v.held.0 _ _ v.inside.1 some v.held.1 v.held.2 v.room c.in-Err.ensures.fault)
+    (advance_halts g.P.StringKind.titled g.P.StringKind.allows g.P.CopyBody.keeps g.row.W-Error.Denot g.R.Read.ends c.in-Err.e v.inside.0 _ _ _ _ _ _ _ _ _ v.held.0 _ _ v.inside.1 some v.held.1 v.held.2 v.room c.in-Err.ensures.fault c.in-Err.ensures.stops)
 
 pub returns-in-Err-push-clause-fault : goal.returns-in-Err-push-clause-fault
 returns-in-Err-push-clause-fault g c =
