@@ -1,12 +1,16 @@
 -- The items of an input: there is one list of them, and it is there.
-use Rattle.std.proofs.Common.{◌≡◌, ◌<◌, ℕ, zero, suc, ◌+◌, List, [], ◌∷◌, ◌++◌, length, Some, refl, sym, ap, subst, ◌∙◌, arith}
+use Rattle.std.proofs.Common.{◌≡◌, ◌<◌, ℕ, zero, suc, ◌+◌, ◌≤◌, List, [], ◌∷◌, ◌++◌, length, Some, refl, sym, ap, subst, ◌∙◌, arith}
 use Rattle.std.specs.List.{All}
 use Rattle.std.proofs.lemmas.List.{append_cancel_left}
-use Rattle.ciborium_value.specs.Tree.{Tree}
-use Rattle.ciborium.specs.Meaning.{meaning}
+use Rattle.ciborium_value.specs.Encoding.{enc, Fits}
+use Rattle.ciborium_value.specs.Folding.{fold}
+use Rattle.ciborium_value.specs.Tree.{Tree, depth}
+use Rattle.ciborium.specs.Damage.{end, in_title}
+use Rattle.ciborium.specs.Meaning.{meaning, Assigned}
 use Rattle.ciborium.specs.Front.{Reads, Front}
-use Rattle.ciborium.specs.Items.{Item, Items, Sequence, IsUnreadable, nesting}
-use Rattle.ciborium.proofs.Once.{once}
+use Rattle.ciborium.specs.Items.{Item, Items, Sequence, IsUnreadable, nesting, item_at}
+use Rattle.ciborium.proofs.Agreeing.{encoding_means}
+use Rattle.ciborium.proofs.Once.{once, append_nil}
 use Rattle.ciborium.proofs.Excludes.{excludes}
 use Rattle.ciborium.proofs.StringCases.{bytes_behind, shorter}
 use Rattle.ciborium.proofs.ChildCases.{ItemCase, readable, damaged, front_some}
@@ -21,11 +25,8 @@ reads_once a b u w limit x y p q e =
     let t : p.tree ≡ q.tree = o.0 in
     (cc, o.1)
 
-abbrev item_of : ℕ → List ℕ → Tree → Item
-item_of o b v = record { offset = o; bytes = b; value = v }
-
 same_item : (i j : Item) → i.offset ≡ j.offset → i.bytes ≡ j.bytes → i.value ≡ j.value → i ≡ j
-same_item i j o b v = ap (λ z. item_of z i.bytes i.value) o ∙ ap (λ z. item_of j.offset z i.value) b ∙ ap (item_of j.offset j.bytes) v
+same_item i j o b v = ap (λ z. item_at z i.bytes i.value) o ∙ ap (λ z. item_at j.offset z i.value) b ∙ ap (item_at j.offset j.bytes) v
 
 front_of : (b : List ℕ) (i : Item) (more : List ℕ) → Reads i.bytes nesting i.value → b ≡ i.bytes ++ more → Front b nesting i.value more
 front_of b i more r e = record { spelling = i.bytes; whole = e; reads = r }
@@ -56,7 +57,16 @@ items_below (suc m) at b few low = by_item (item_case (length b) nesting b (omeg
     by_item (damaged e d) again = ([], b, record { sequence = refl; ends = λ v rest f. excludes (length b) b nesting e d v rest f })
     by_item (readable v r f) again =
         let p = again (at + length f.spelling) r (shorter b f.spelling r f.whole (front_some b r nesting v f)) (bytes_behind b f.spelling r f.whole low) in
-        (item_of at f.spelling v ∷ p.0, p.1, record { sequence = (refl, f.reads, (r, f.whole, p.2.sequence)); ends = p.2.ends })
+        (item_at at f.spelling v ∷ p.0, p.1, record { sequence = (refl, f.reads, (r, f.whole, p.2.sequence)); ends = p.2.ends })
 
 pub items_there : (at : ℕ) (b : List ℕ) → All (λ x. x < 256) b → (is : List Item) × (rest : List ℕ) × Items at b is rest
 items_there at b low = items_below (suc (length b)) at b (omega arith) low
+
+-- an encoding is one item and nothing else
+pub encoding_item : (at : ℕ) (t u : Tree) → Fits t → Assigned t → depth t ≤ nesting → fold t ≡ Some u → Items at (enc t) (item_at at (enc t) u ∷ []) []
+encoding_item at t u fits assigned shallow e =
+    let m = encoding_means t u fits assigned e in
+    record {
+      sequence = (refl, record { tree = t; spells = m.0; shallow = shallow; means = m.1 }, ([], append_nil (enc t), refl));
+      ends = λ v rest f. excludes 0 [] nesting end (in_title [] nesting end tt) v rest f;
+    }

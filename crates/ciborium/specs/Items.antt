@@ -9,6 +9,9 @@ pub record Item : Type 0 where
   pub bytes : List ℕ
   pub value : Tree
 
+abbrev pub item_at : ℕ → List ℕ → Tree → Item
+item_at at b v = record { offset = at; bytes = b; value = v }
+
 -- the nesting limit of an item
 abbrev pub nesting : ℕ
 nesting = 256

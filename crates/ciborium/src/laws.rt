@@ -1,5 +1,5 @@
 //! Laws of the definitions.
-ghost use Rattle.std.specs.Prelude.{◌≡◌, List, ℕ, ◌++◌, ◌+◌, ◌<◌, ◌≤◌, ◌≢◌, ◌⊎◌, length, Some, None, All};
+ghost use Rattle.std.specs.Prelude.{◌≡◌, ◌≢◌, ◌⊎◌, ℕ, ◌+◌, ◌<◌, ◌≤◌, List, [], ◌∷◌, ◌++◌, length, Some, None, All};
 ghost use Rattle.ciborium_ll.specs.declared.hdr.Header.{Header};
 ghost use Rattle.ciborium_ll.specs.Title.{Title};
 ghost use Rattle.ciborium_value.specs.declared.kind.Kind.TheVariants.{BigNegative};
@@ -11,7 +11,7 @@ ghost use Rattle.ciborium.specs.Spelling.{Spells};
 ghost use Rattle.ciborium.specs.Meaning.{meaning, Assigned};
 ghost use Rattle.ciborium.specs.Damage.{Fault, semantic, Damage};
 ghost use Rattle.ciborium.specs.Front.{Front};
-ghost use Rattle.ciborium.specs.Items.{Item, Items};
+ghost use Rattle.ciborium.specs.Items.{Item, Items, item_at, nesting};
 
 use crate::value::Value;
 pub use ciborium_typed::laws as typed;
@@ -60,7 +60,15 @@ pub fn items_exist()
 
 /// The items of an input are one list, and so is its rest.
 pub fn items_are_one()
-    ensures { (at : ℕ) (b : List ℕ) (is js : List Item) (rest more : List ℕ) → Items at b is rest → Items at b js more → (is ≡ js) × (rest ≡ more) }
+    ensures { (at : ℕ) (b : List ℕ) (is js : List Item) (rest more : List ℕ) → Items at b is rest → Items at b js more
+        → (is ≡ js) × (rest ≡ more) }
+{}
+
+/// The encoding of a tree with no simple value but false, true and null is an input of one item, if it folds and nests no deeper than
+/// the limit. Nothing is asked of the bytes: an encoding is bytes (`values::encodings_are_bytes`).
+pub fn encodings_are_items()
+    ensures { (at : ℕ) (t u : Tree) → Fits t → Assigned t → depth t ≤ nesting → fold t ≡ Some u
+        → Items at (enc t) (item_at at (enc t) u ∷ []) [] }
 {}
 
 /// Each simple value in a value is false, true or null.
@@ -100,8 +108,10 @@ pub fn encodings_mean()
 /// Reading the encoding of such a tree and folding it agree, if it nests no deeper than the limit: where it folds, the folded tree is
 /// read and the bytes behind it are left. Else nothing is read, and the one fault is a negative number that is too large.
 pub fn reading_agrees()
-    ensures folded { (limit : ℕ) (rest : List ℕ) (t u : Tree) → Fits t → Assigned t → depth t ≤ limit → fold t ≡ Some u → Front (enc t ++ rest) limit u rest }
-    ensures unread { (limit : ℕ) (rest more : List ℕ) (t v : Tree) → Fits t → Assigned t → fold t ≡ None → Front (enc t ++ rest) limit v more → ⊥ }
+    ensures folded { (limit : ℕ) (rest : List ℕ) (t u : Tree) → Fits t → Assigned t → depth t ≤ limit → fold t ≡ Some u
+        → Front (enc t ++ rest) limit u rest }
+    ensures unread { (limit : ℕ) (rest more : List ℕ) (t v : Tree) → Fits t → Assigned t → fold t ≡ None
+        → Front (enc t ++ rest) limit v more → ⊥ }
     ensures fault { (stop limit : ℕ) (rest : List ℕ) (t : Tree) (e : Fault) → Fits t → Assigned t → depth t ≤ limit
         → Damage stop (enc t ++ rest) limit e → e ≡ semantic BigNegative }
     ensures negative { (stop limit : ℕ) (rest : List ℕ) (t : Tree) → Fits t → Assigned t → depth t ≤ limit → fold t ≡ None

@@ -37,6 +37,7 @@ fn simple_value(n: u8) -> Option<Value>
 }
 
 /// The item behind the title of `header`, which begins at the place `at`, where no items follow in it.
+#[inline]
 fn read_leaf<R: Read>(
     alloc: Global,
     decoder: &mut Decoder<R>,
@@ -90,6 +91,7 @@ fn folded<E>(alloc: Global, tag: u64, content: Value) -> Result<Value, Error<E>>
 
 /// The item behind the title of `header`, which begins at the place `at`. Room for so many items may be reserved before they come.
 #[cycle(reader)]
+#[inline]
 pub fn read_item<R: Read>(
     alloc: Global,
     decoder: &mut Decoder<R>,
@@ -162,6 +164,7 @@ fn closes(count: Option<usize>, header: Header) -> bool
 }
 
 /// The next title in an array or a map whose head has that length, and its place; none where all parts were read.
+#[inline]
 fn next_part<R: Read>(
     decoder: &mut Decoder<R>,
     count: Option<usize>,
@@ -201,6 +204,7 @@ fn room_left(room: usize, held: usize, come: usize, size: usize) -> usize {
 
 /// The items of an array whose head has that length.
 #[cycle(reader)]
+#[inline(never)]
 fn read_items<R: Read>(
     alloc: Global,
     decoder: &mut Decoder<R>,
@@ -235,6 +239,7 @@ fn read_items<R: Read>(
 
 /// The entries of a map whose head has that length. An entry takes the room of two items.
 #[cycle(reader)]
+#[inline(never)]
 fn read_pairs<R: Read>(
     alloc: Global,
     decoder: &mut Decoder<R>,
@@ -335,6 +340,7 @@ fn tagged_title<R: Read>(
 
 /// The item behind a tag.
 #[cycle(reader)]
+#[inline(never)]
 fn read_tagged<R: Read>(
     alloc: Global,
     decoder: &mut Decoder<R>,

@@ -7,6 +7,7 @@ ghost use Rattle.ciborium_ll.specs.Views.{writer_of};
 ghost use Rattle.ciborium_value.specs.Encoding.{enc};
 ghost use Rattle.ciborium_value.specs.View.{number_of};
 ghost use Rattle.ciborium_value.specs.Tree.{integer};
+ghost use Rattle.ciborium.specs.Streams.{encoder_of};
 ghost use Rattle.ciborium.specs.Writing.{IsIo, IsWritten, IsTorn};
 
 use crate::value::{Integer, Kind};
@@ -48,7 +49,6 @@ pub struct Serializer<W> {
 
 impl<W> From<Encoder<W>> for Serializer<W> {
     ghost use Rattle.std.specs.Prelude.{◌≡◌};
-    ghost use Rattle.ciborium.specs.Streams.{encoder_of};
 
     ghost from_gives = { λ encoder s. encoder_of s ≡ encoder };
 
@@ -59,8 +59,6 @@ impl<W> From<Encoder<W>> for Serializer<W> {
 
 impl<W: Write> Sink for Serializer<W> {
     type Error = W::Error;
-
-    ghost use Rattle.ciborium.specs.Streams.{encoder_of};
 
     ghost adds = { λ s event t. IsWritten W.written W.handle W.failed (writer_of (encoder_of s)) event (writer_of (encoder_of t)) };
 
@@ -131,10 +129,12 @@ pub fn into_writer<T: Serialize, W: Write>(value: &T, writer: &mut W) -> Result<
 
 /// The text of the item that a value is written as.
 fn write_item<T: Serialize, W: Write>(sink: &mut Serializer<W>, value: &T) -> Result<(), W::Error>
-    ensures ok { OnOk result (Appends (W.written (writer_of sink.old.encoder)) (W.written (writer_of sink.new.encoder)) (enc (T.put value.now))) }
-    ensures err { OnErr result (AppendsFront (W.written (writer_of sink.old.encoder)) (W.written (writer_of sink.new.encoder)) (enc (T.put value.now))) }
-    ensures kept { W.handle (writer_of sink.new.encoder) ≡ W.handle (writer_of sink.old.encoder) }
-    ensures failed { W.failed (writer_of sink.new.encoder) ≡ write_failures result (W.failed (writer_of sink.old.encoder)) }
+    ensures ok { OnOk result (Appends (W.written (writer_of (encoder_of sink.old)))
+        (W.written (writer_of (encoder_of sink.new))) (enc (T.put value.now))) }
+    ensures err { OnErr result (AppendsFront (W.written (writer_of (encoder_of sink.old)))
+        (W.written (writer_of (encoder_of sink.new))) (enc (T.put value.now))) }
+    ensures kept { W.handle (writer_of (encoder_of sink.new)) ≡ W.handle (writer_of (encoder_of sink.old)) }
+    ensures failed { W.failed (writer_of (encoder_of sink.new)) ≡ write_failures result (W.failed (writer_of (encoder_of sink.old))) }
 {
     value.serialize(sink)
 }
@@ -145,8 +145,10 @@ fn write_string<W: Write>(
     header: Header,
     bytes: &[u8],
 ) -> Result<(), W::Error>
-    ensures ok { OnOk result (Appends (W.written (writer_of encoder.old)) (W.written (writer_of encoder.new)) (title_of header ++ bytes.now)) }
-    ensures err { OnErr result (AppendsFront (W.written (writer_of encoder.old)) (W.written (writer_of encoder.new)) (title_of header ++ bytes.now)) }
+    ensures ok { OnOk result (Appends (W.written (writer_of encoder.old))
+        (W.written (writer_of encoder.new)) (title_of header ++ bytes.now)) }
+    ensures err { OnErr result (AppendsFront (W.written (writer_of encoder.old))
+        (W.written (writer_of encoder.new)) (title_of header ++ bytes.now)) }
     ensures kept { W.handle (writer_of encoder.new) ≡ W.handle (writer_of encoder.old) }
     ensures failed { W.failed (writer_of encoder.new) ≡ write_failures result (W.failed (writer_of encoder.old)) }
 {

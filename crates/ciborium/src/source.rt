@@ -53,7 +53,8 @@ impl<R: Read> Source for Deserializer<R> {
         × (limit_of t ≡ limit_of s) × (R.failed (reader_of (decoder_of t)) ≡ R.failed (reader_of (decoder_of s)))
         × (R.handle (reader_of (decoder_of t)) ≡ R.handle (reader_of (decoder_of s))) };
 
-    ghost fails = { λ s e t. NamesFault R.ends (λ stop b f. Damage stop b (limit_of s) f) (seen R.Read (decoder_of s)) (seen R.Read (decoder_of t)) e
+    ghost fails = { λ s e t. NamesFault R.ends (λ stop b f. Damage stop b (limit_of s) f)
+        (seen R.Read (decoder_of s)) (seen R.Read (decoder_of t)) e
         × (limit_of t ≡ limit_of s)
         × (R.failed (reader_of (decoder_of t)) ≡ fault_failures R.ends e (R.failed (reader_of (decoder_of s))))
         × (R.handle (reader_of (decoder_of t)) ≡ R.handle (reader_of (decoder_of s))) };

@@ -7,7 +7,8 @@ ghost use Rattle.ciborium_ll.specs.declared.hdr.Header.TheVariants.{Text};
 ghost use Rattle.ciborium_ll.specs.Seen.{Takes};
 ghost use Rattle.ciborium_ll.specs.Views.{left_of, offset_of, waiting_of, reader_of, seen};
 ghost use Rattle.ciborium.specs.Damage.{TitleDamage, ChunkDamage, StringDamage};
-ghost use Rattle.ciborium.specs.Reading.{NamesFault, NamesFaultBehind, NamesShort, Steady, IsNoMemory, string_head, IsBody, StringBehind, ChunkBody, IsPart};
+ghost use Rattle.ciborium.specs.Reading.{NamesFault, NamesFaultBehind, NamesShort, Steady, IsNoMemory};
+ghost use Rattle.ciborium.specs.Reading.{string_head, IsBody, StringBehind, ChunkBody, IsPart};
 
 use crate::de::Error;
 use ciborium_ll::{Decoder, Header, Read};

@@ -19,7 +19,8 @@ pub fn typed_item<T: Deserialize, R: Read>(
     limit: usize,
 ) -> Result<T, Error<R::Error>>
     ensures ok { IfOk result (λ x. Takes (seen R.Read decoder.old) (seen R.Read decoder.new) (ReadsAs T.refusal T.takes limit x)) }
-    ensures err { IfErr result (λ e. NamesFault R.ends (λ stop b f. Damage stop b limit f) (seen R.Read decoder.old) (seen R.Read decoder.new) e
+    ensures err { IfErr result (λ e. NamesFault R.ends (λ stop b f. Damage stop b limit f)
+        (seen R.Read decoder.old) (seen R.Read decoder.new) e
         ⊎ Takes (seen R.Read decoder.old) (seen R.Read decoder.new) (IsRefused T.refusal limit e)) }
     ensures nothing { left_of R.left decoder.old ≡ Some [] → IfErr result IsNoMemory }
     ensures steady { Steady R.ends result (seen R.Read decoder.old) (seen R.Read decoder.new) }
