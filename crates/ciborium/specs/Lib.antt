@@ -18,3 +18,15 @@ pub use Rattle.ciborium_value.specs.Folding
 pub use Rattle.ciborium_value.specs.Tree
 pub use Rattle.ciborium_value.specs.View
 pub use Rattle.ciborium_typed.specs.Events
+pub use Rattle.ciborium_ll.specs.Copies
+pub use Rattle.ciborium_ll.specs.Seen
+pub use Rattle.ciborium_value.specs.Kinds
+pub use Rattle.ciborium_value.specs.Numbers
+pub use Rattle.ciborium_typed.specs.Back
+pub use Rattle.ciborium_typed.specs.Lists
+pub use Rattle.ciborium_typed.specs.Ranges
+pub use Rattle.ciborium_typed.specs.Reading as TypeReading
+pub use Rattle.ciborium_typed.specs.Tags
+pub use Rattle.ciborium_typed.specs.Texts
+pub use Rattle.ciborium_typed.specs.Unfolded
+pub use Rattle.ciborium_typed.specs.Wide

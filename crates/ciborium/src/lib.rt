@@ -1,7 +1,7 @@
 //! CBOR items read and written (RFC 8949).
 //!
 //! A user names this crate alone: `ll` is the crate of heads, whose readers and writers stand here too, `value` has the values and
-//! typed values, `de` and `ser` reading and writing.
+//! typed values, `de` and `ser` reading and writing. `values`, `traits` and `types` are the crates below, whole.
 #![tactic(auto)]
 
 pub mod build;
@@ -21,3 +21,6 @@ pub use crate::ser::into_writer;
 pub use crate::value::Value;
 pub use ciborium_ll as ll;
 pub use ciborium_ll::{Decoder, Encoder, End, Float, Full, Header, Io, IoFault, Mem, Read, Write};
+pub use ciborium_traits as traits;
+pub use ciborium_typed as types;
+pub use ciborium_value as values;
