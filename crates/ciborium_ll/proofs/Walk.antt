@@ -9,7 +9,7 @@ use Rattle.ciborium_ll.specs.declared.hdr.Error.TheVariants.{Io, Syntax, TooLong
 use Rattle.ciborium_ll.specs.declared.stage.Stage.{Stage}
 use Rattle.ciborium_ll.specs.declared.stage.Stage.TheVariants.{Inside}
 use Rattle.ciborium_ll.specs.Title.{Title}
-use Rattle.ciborium_ll.specs.Reading.{Moves, Stops, Starts, Tells, TitleHalt, Ends, IsBadByte}
+use Rattle.ciborium_ll.specs.Reading.{Moves, Starts, Tells, TitleHalt, Ends, IsBadByte}
 use Rattle.ciborium_ll.specs.Stages.{Rest, Passes, Reaches, StartsAt, IsStray, Strays, EndsInside, StaysOpen, StageFault, StageHalt, stage_after, ahead}
 use Rattle.ciborium_ll.proofs.Closings.{leads_then, body_due, open_leads, close_leads}
 use Rattle.ciborium_ll.proofs.TitleLaws.{not_cut}
