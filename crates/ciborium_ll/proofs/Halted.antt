@@ -1,14 +1,11 @@
 -- What halted copies tell of all that begins so.
-use Rattle.std.proofs.Common.{◌≡◌, ◌≢◌, ◌≤◌, ◌<◌, ◌+◌, ◌-◌, ℕ, suc, List, [], ◌∷◌, ◌++◌, ◌⊎◌, inl, inr, length, Option, None, Some, refl, ap, sym, ◌∙◌, subst, arith, append_assoc, append-nil, length-append}
+use Rattle.std.proofs.Common.{◌≡◌, ◌≢◌, ◌≤◌, ◌<◌, ◌-◌, ℕ, suc, List, [], ◌∷◌, ◌++◌, ◌⊎◌, inl, inr, length, Option, None, Some, refl, ap, sym, ◌∙◌, subst, arith, append_assoc, append-nil, length-append}
 use Rattle.std.specs.Str.{IsUtf8}
 use Rattle.ciborium_ll.specs.declared.hdr.Header.{Header}
 use Rattle.ciborium_ll.specs.declared.hdr.Header.TheVariants.{Break, Bytes, Text}
-use Rattle.ciborium_ll.specs.declared.stage.Stage.TheVariants.{Inside}
 use Rattle.ciborium_ll.specs.Title.{Title, title_of, IsCut, StartsBad}
-use Rattle.ciborium_ll.specs.Reading.{IsBadByte}
 use Rattle.ciborium_ll.specs.Framing.{Closing, Any, bytes_same, bytes_unbroken, text_same, text_unbroken}
 use Rattle.ciborium_ll.specs.Pieces.{enc_pieces, enc_whole}
-use Rattle.ciborium_ll.specs.Stages.{Parted, Leads, Behind, IsStray}
 use Rattle.ciborium_ll.specs.Copies.{Copy, Copies, BodiesCopy, RestCopy, Halt, paused, ended, damaged, refused, behind, BodyHalt, Between, BodyDue, InBody, OpenHalt, RestHalt, StringHalt, CopyHalt, CopiesHalt}
 use Rattle.ciborium_ll.proofs.Closings.{not_stray, not_ended}
 use Rattle.ciborium_ll.proofs.Framed.{closing_once}

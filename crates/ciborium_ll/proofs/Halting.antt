@@ -1,11 +1,11 @@
 -- Where copies halt, part by part.
-use Rattle.std.proofs.Common.{◌≡◌, ◌≢◌, ◌≤◌, ◌<◌, ◌+◌, ◌-◌, ◌^◌, ℕ, zero, suc, Bool, List, [], ◌∷◌, ◌++◌, ◌⊎◌, inl, inr, length, min, IsTrue, Option, None, Some, Result, Ok, Err, IfErr, refl, ap, sym, ◌∙◌, subst, arith, append_assoc, append-nil, length-append}
+use Rattle.std.proofs.Common.{◌≡◌, ◌≢◌, ◌≤◌, ◌<◌, ◌+◌, ◌^◌, ℕ, zero, suc, Bool, List, [], ◌∷◌, ◌++◌, inl, inr, length, min, Option, None, Some, refl, ap, sym, ◌∙◌, subst, arith, append_assoc, append-nil, length-append}
 use Rattle.std.specs.Str.{IsUtf8}
 use Rattle.std.specs.Io.KnownBytes.{Consumes, Appends}
 use Rattle.std.proofs.KnownBytes.{Appends-trans, Appends-nil, Consumes-trans, Consumes-nil}
 use Rattle.ciborium_ll.specs.Device.{IsShort, AppendsFront}
 use Rattle.ciborium_ll.specs.declared.hdr.Header.{Header}
-use Rattle.ciborium_ll.specs.declared.hdr.Header.TheVariants.{Break, Bytes, Text}
+use Rattle.ciborium_ll.specs.declared.hdr.Header.TheVariants.{Bytes, Text}
 use Rattle.ciborium_ll.specs.declared.hdr.Error.{Error}
 use Rattle.ciborium_ll.specs.declared.hdr.Error.TheVariants.{Io, Syntax, TooLong, Waiting}
 use Rattle.ciborium_ll.specs.declared.recoding.RecodeError.{RecodeError}
@@ -19,9 +19,9 @@ use Rattle.ciborium_ll.specs.Title.{Title, title_of}
 use Rattle.ciborium_ll.specs.Reading.{Moves, Tells, RawFault, Ends, IsBadByte, IsTitleStart, Starts, TitleHalt}
 use Rattle.ciborium_ll.specs.Framing.{Closing, Any}
 use Rattle.ciborium_ll.specs.Pieces.{enc_pieces}
-use Rattle.ciborium_ll.specs.Stages.{Rest, Parted, Leads, Passes, Reaches, StartsAt, StageFault, StageHalt, StaysOpen, EndsInside, Strays, ahead, opens}
-use Rattle.ciborium_ll.specs.Bodies.{saved_bytes, saved_of, start_of, unread_of, bytes_of, more_of, IsDamaged, TextFault}
-use Rattle.ciborium_ll.specs.Copies.{Copies, Makes, Halt, paused, ended, damaged, refused, behind, BodyHalt, Between, BodyDue, InBody, OpenHalt, HeadHalt, RestHalt, StringHalt, CopyHalt, CopiesHalt, Stopped, Stood, Ended, Halts}
+use Rattle.ciborium_ll.specs.Stages.{Rest, Parted, Leads, Reaches, StartsAt, StageFault, StageHalt, StaysOpen, EndsInside, Strays, ahead, opens}
+use Rattle.ciborium_ll.specs.Bodies.{saved_bytes, saved_of, start_of, bytes_of, more_of, IsDamaged, TextFault}
+use Rattle.ciborium_ll.specs.Copies.{Copies, Makes, Halt, paused, ended, damaged, refused, behind, BodyHalt, Between, BodyDue, InBody, OpenHalt, RestHalt, StringHalt, CopyHalt, CopiesHalt, Stopped, Stood, Ended, Halts}
 use Rattle.ciborium_ll.proofs.Closings.{leads_then}
 use Rattle.ciborium_ll.proofs.Copying.{utf8_rest}
 

@@ -1,7 +1,6 @@
 -- What an answer of std that moved some bytes was.
 use Rattle.std.proofs.Common.{◌≡◌, ◌<◌, ℕ, zero, suc, Result, Ok, Err, arith, refl}
 use Rattle.std.specs.declared.io.Error.{Error}
-use Rattle.ciborium_ll.specs.declared.adapters.IoFault.TheVariants.{End, Io}
 use Rattle.ciborium_ll.specs.Fault.{moved_of}
 
 pub moved_ok : (r : Result ℕ Error) (n : ℕ) → Ok n ≡ moved_of r → r ≡ Ok n
