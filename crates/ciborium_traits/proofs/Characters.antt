@@ -1,9 +1,9 @@
 -- Texts of one character.
 use Rattle.std.proofs.Common.{◌≡◌, ◌≢◌, ℕ, suc, List, [], ◌∷◌, length, true, false, ◌&&◌, nat_eq, arith, None, Some, refl, sym, ap, ◌∙◌, append-nil}
 use Rattle.std.specs.Char.{IsScalar, encode_utf8}
-use Rattle.std.specs.Str.{IsUtf8, chars, is_utf8, encode_utf8_all, all_scalars}
+use Rattle.std.specs.Str.{IsUtf8, chars, encode_utf8_all, all_scalars}
 use Rattle.std.proofs.lemmas.Bool.{and_parts, eqb-true, false_from_ne_true}
-use Rattle.std.proofs.lemmas.Str.{IsUtf8-encode, chars_past_char, chars-nil, encodes-chars, scalars-chars, is_utf8-from_IsUtf8}
+use Rattle.std.proofs.lemmas.Str.{encodes-chars, scalars-chars, is_utf8-from_IsUtf8}
 use Rattle.ciborium_value.specs.declared.kind.Kind.TheVariants.{WrongType}
 use Rattle.ciborium_value.specs.Tree.{Tree, text}
 use Rattle.ciborium_traits.specs.Reading.{unless}

@@ -1,5 +1,5 @@
 -- Which events are left, as parts are added one after another.
-use Rattle.std.proofs.Common.{List, [], ◌∷◌, ◌++◌, inl, inr, Result, Ok, Err, OnOk, OnErr, refl, subst}
+use Rattle.std.proofs.Common.{List, [], ◌∷◌, ◌++◌, inr, Result, Ok, Err, OnOk, OnErr, refl}
 use Rattle.ciborium_traits.specs.Events.{Event, AllAdded, Stopped}
 use Rattle.ciborium_traits.proofs.Joined.{added_then, stopped_then, then_stopped}
 

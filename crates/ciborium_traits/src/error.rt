@@ -1,6 +1,7 @@
 //! Why a value is not read as a type.
 use ciborium_value::Kind;
 use std::alloc::{AllocError, AllocFailed};
+use std::num::TryFromIntError;
 
 /// Why a value was not read as a type, or not made.
 #[derive(Debug, Clone, Copy, PartialEq, Eq, thiserror::Error)]
@@ -21,6 +22,18 @@ impl From<Kind> for Error {
 
     fn from(kind: Kind) -> Error {
         Error::Kind(kind)
+    }
+}
+
+impl From<TryFromIntError> for Error {
+    ghost use Rattle.std.specs.Prelude.{◌≡◌};
+    ghost use Rattle.ciborium_value.specs.declared.kind.Kind.TheVariants as kind;
+    ghost use Rattle.ciborium_traits.specs.declared.error.Error.TheVariants as error;
+
+    ghost from_gives = { λ _ e. e ≡ error.Kind kind.Range };
+
+    fn from(_error: TryFromIntError) -> Error {
+        Error::Kind(Kind::Range)
     }
 }
 

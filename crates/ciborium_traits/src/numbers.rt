@@ -40,10 +40,7 @@ impl Deserialize for u8 {
     ghost grows = { false };
 
     fn take(_alloc: Global, value: Value) -> Result<u8, Error> {
-        match u8::try_from(integer(value)?) {
-            Ok(n) => Ok(n),
-            Err(_) => Err(Error::Kind(Kind::Range)),
-        }
+        Ok(u8::try_from(integer(value)?)?)
     }
 }
 
@@ -63,10 +60,7 @@ impl Deserialize for u16 {
     ghost grows = { false };
 
     fn take(_alloc: Global, value: Value) -> Result<u16, Error> {
-        match u16::try_from(integer(value)?) {
-            Ok(n) => Ok(n),
-            Err(_) => Err(Error::Kind(Kind::Range)),
-        }
+        Ok(u16::try_from(integer(value)?)?)
     }
 }
 
@@ -86,10 +80,7 @@ impl Deserialize for u32 {
     ghost grows = { false };
 
     fn take(_alloc: Global, value: Value) -> Result<u32, Error> {
-        match u32::try_from(integer(value)?) {
-            Ok(n) => Ok(n),
-            Err(_) => Err(Error::Kind(Kind::Range)),
-        }
+        Ok(u32::try_from(integer(value)?)?)
     }
 }
 
@@ -109,10 +100,7 @@ impl Deserialize for u64 {
     ghost grows = { false };
 
     fn take(_alloc: Global, value: Value) -> Result<u64, Error> {
-        match u64::try_from(integer(value)?) {
-            Ok(n) => Ok(n),
-            Err(_) => Err(Error::Kind(Kind::Range)),
-        }
+        Ok(u64::try_from(integer(value)?)?)
     }
 }
 
@@ -132,10 +120,7 @@ impl Deserialize for usize {
     ghost grows = { false };
 
     fn take(_alloc: Global, value: Value) -> Result<usize, Error> {
-        match usize::try_from(integer(value)?) {
-            Ok(n) => Ok(n),
-            Err(_) => Err(Error::Kind(Kind::Range)),
-        }
+        Ok(usize::try_from(integer(value)?)?)
     }
 }
 
@@ -155,10 +140,7 @@ impl Deserialize for i8 {
     ghost grows = { false };
 
     fn take(_alloc: Global, value: Value) -> Result<i8, Error> {
-        match i8::try_from(integer(value)?) {
-            Ok(n) => Ok(n),
-            Err(_) => Err(Error::Kind(Kind::Range)),
-        }
+        Ok(i8::try_from(integer(value)?)?)
     }
 }
 
@@ -178,10 +160,7 @@ impl Deserialize for i16 {
     ghost grows = { false };
 
     fn take(_alloc: Global, value: Value) -> Result<i16, Error> {
-        match i16::try_from(integer(value)?) {
-            Ok(n) => Ok(n),
-            Err(_) => Err(Error::Kind(Kind::Range)),
-        }
+        Ok(i16::try_from(integer(value)?)?)
     }
 }
 
@@ -201,10 +180,7 @@ impl Deserialize for i32 {
     ghost grows = { false };
 
     fn take(_alloc: Global, value: Value) -> Result<i32, Error> {
-        match i32::try_from(integer(value)?) {
-            Ok(n) => Ok(n),
-            Err(_) => Err(Error::Kind(Kind::Range)),
-        }
+        Ok(i32::try_from(integer(value)?)?)
     }
 }
 
@@ -224,10 +200,7 @@ impl Deserialize for i64 {
     ghost grows = { false };
 
     fn take(_alloc: Global, value: Value) -> Result<i64, Error> {
-        match i64::try_from(integer(value)?) {
-            Ok(n) => Ok(n),
-            Err(_) => Err(Error::Kind(Kind::Range)),
-        }
+        Ok(i64::try_from(integer(value)?)?)
     }
 }
 
@@ -247,9 +220,6 @@ impl Deserialize for isize {
     ghost grows = { false };
 
     fn take(_alloc: Global, value: Value) -> Result<isize, Error> {
-        match isize::try_from(integer(value)?) {
-            Ok(n) => Ok(n),
-            Err(_) => Err(Error::Kind(Kind::Range)),
-        }
+        Ok(isize::try_from(integer(value)?)?)
     }
 }

@@ -28,10 +28,7 @@ impl<T: Deserialize> Deserialize for Option<T> {
     fn take(alloc: Global, value: Value) -> Result<Option<T>, Error> {
         match value {
             Value::Null => Ok(None),
-            other => match T::take(alloc, other) {
-                Ok(x) => Ok(Some(x)),
-                Err(error) => Err(error),
-            },
+            other => Ok(Some(T::take(alloc, other)?)),
         }
     }
 }

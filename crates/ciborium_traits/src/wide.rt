@@ -133,14 +133,8 @@ impl Deserialize for i128 {
 
     fn take(_alloc: Global, value: Value) -> Result<i128, Error> {
         match whole_number(value) {
-            Some(Whole::Positive(n)) => match i128::try_from(n) {
-                Ok(m) => Ok(m),
-                Err(_) => Err(Error::Kind(Kind::Range)),
-            },
-            Some(Whole::Negative(n)) => match i128::try_from(n) {
-                Ok(m) => Ok(-1 - m),
-                Err(_) => Err(Error::Kind(Kind::Range)),
-            },
+            Some(Whole::Positive(n)) => Ok(i128::try_from(n)?),
+            Some(Whole::Negative(n)) => Ok(-1 - i128::try_from(n)?),
             None => Err(Error::Kind(Kind::WrongType)),
         }
     }

@@ -1,5 +1,5 @@
 -- Options and lists are taken back.
-use Rattle.std.proofs.Common.{◌≡◌, suc, true, false, cond, List, [], ◌∷◌, map, Option, Some, None, All, MatchOption, refl, ap, ◌∙◌, arith}
+use Rattle.std.proofs.Common.{◌≡◌, suc, false, cond, List, [], ◌∷◌, map, Option, Some, None, All, MatchOption, refl, ap, ◌∙◌, arith}
 use Rattle.std.specs.Prelude.{⊤}
 use Rattle.std.specs.Option.{option_map, option_and_then, option_or}
 use Rattle.ciborium_value.specs.declared.kind.Kind.{Kind}

@@ -1,5 +1,5 @@
 -- Characters, texts and booleans are taken back, and those that are written alike are equal.
-use Rattle.std.proofs.Common.{◌≡◌, ℕ, Bool, true, false, List, [], ◌∷◌, length, ◌&&◌, nat_eq, None, refl, sym, ap, ◌∙◌, append-nil}
+use Rattle.std.proofs.Common.{◌≡◌, ℕ, Bool, true, false, List, [], ◌∷◌, length, ◌&&◌, nat_eq, refl, sym, ap, ◌∙◌, append-nil}
 use Rattle.std.specs.Prelude.{⊤}
 use Rattle.std.specs.Ordering.{bool_cmp, nat_cmp}
 use Rattle.std.specs.Char.{IsScalar, encode_utf8}
