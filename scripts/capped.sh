@@ -2,7 +2,7 @@
 # capped.sh [BINARY]: heads that claim more than follows them, read by cbor_bench under a capped heap.
 #
 # Each input must end as bytes that are cut off, and not as refused memory, where the process may hold little more than for an empty
-# array. Where valgrind is there, it also counts the bytes that reading asks of the heap: at most 4,096 over those of the empty array,
+# array or, 256 levels deep, for maps of one entry each. Where valgrind is there, it also counts the bytes that reading asks of the heap: at most 4,096 over those of the empty array,
 # beside the input itself.
 set -u
 here=$(cd "$(dirname "$0")/.." && pwd)
@@ -14,23 +14,29 @@ levels() { i=0; while [ $i -lt "$1" ]; do printf "$2"; i=$((i + 1)); done; }
 printf '\200' > "$folder/empty"
 printf '\233\377\377\377\377\377\377\377\377' > "$folder/9b"
 printf '\273\377\377\377\377\377\377\377\377' > "$folder/bb"
+{ levels 256 '\241\000'; printf '\000'; } > "$folder/deep"
 levels 256 '\250' > "$folder/a8-256"
 levels 256 '\233\377\377\377\377\377\377\377\377' > "$folder/9b-256"
 
-# the least number of KiB that reading the empty array needs
 reads() { (ulimit -v "$1"; "$bench" decode "$2" 1) > "$folder/out" 2> "$folder/err"; }
-low=0 high=1048576
-reads $high "$folder/empty" || { echo "capped.sh: an empty array is not read" >&2; exit 1; }
-while [ $((high - low)) -gt 4 ]; do
-  middle=$(((low + high) / 2))
-  if reads $middle "$folder/empty"; then high=$middle; else low=$middle; fi
-done
-cap=$((high + 64))
+
+# the least number of KiB under which this input is read, and 64 more
+cap_of() {
+  low=0 high=1048576
+  reads $high "$1" || { echo "capped.sh: $1 is not read" >&2; exit 1; }
+  while [ $((high - low)) -gt 4 ]; do
+    middle=$(((low + high) / 2))
+    if reads $middle "$1" 2> /dev/null; then high=$middle; else low=$middle; fi
+  done
+  cap=$((high + 64))
+}
 
 heap() { valgrind "$bench" decode "$1" 1 2>&1 | sed -n 's/.*frees, \([0-9,]*\) bytes allocated.*/\1/p' | tr -d ,; }
 bad=0
 command -v valgrind > /dev/null && base=$(heap "$folder/empty") || base=
 for name in 9b bb a8-256 9b-256; do
+  # what is 256 levels deep may have the stack of a map that is read at that depth
+  case $name in *-256) cap_of "$folder/deep" ;; *) cap_of "$folder/empty" ;; esac
   reads $cap "$folder/$name"
   answer=$(cat "$folder/err")
   more=

@@ -37,7 +37,7 @@ fn simple_value(n: u8) -> Option<Value>
 }
 
 /// The item behind the title of `header`, which begins at the place `at`, where no items follow in it.
-#[inline]
+#[inline(always)]
 fn read_leaf<R: Read>(
     alloc: Global,
     decoder: &mut Decoder<R>,
@@ -91,7 +91,7 @@ fn folded<E>(alloc: Global, tag: u64, content: Value) -> Result<Value, Error<E>>
 
 /// The item behind the title of `header`, which begins at the place `at`. Room for so many items may be reserved before they come.
 #[cycle(reader)]
-#[inline]
+#[inline(always)]
 pub fn read_item<R: Read>(
     alloc: Global,
     decoder: &mut Decoder<R>,
@@ -164,7 +164,7 @@ fn closes(count: Option<usize>, header: Header) -> bool
 }
 
 /// The next title in an array or a map whose head has that length, and its place; none where all parts were read.
-#[inline]
+#[inline(always)]
 fn next_part<R: Read>(
     decoder: &mut Decoder<R>,
     count: Option<usize>,

@@ -15,6 +15,7 @@ use ciborium_ll::{Decoder, Header, Read};
 use std::alloc::Global;
 
 /// The next title, and its place.
+#[inline(always)]
 pub fn next_title<R: Read>(decoder: &mut Decoder<R>) -> Result<(usize, Header), Error<R::Error>>
     ensures ok { IfOk result (λ r. Takes (seen R.Read decoder.old) (seen R.Read decoder.new) (λ b. Title b r.1)) }
     ensures at { IfOk result (λ r. r.0 ≡ offset_of decoder.old) }
@@ -206,6 +207,7 @@ fn read_open<R: Read>(
 }
 
 /// The text of a string whose title, with the length given, begins at the place `at`.
+#[inline]
 pub fn read_text<R: Read>(
     alloc: Global,
     decoder: &mut Decoder<R>,
@@ -226,6 +228,7 @@ pub fn read_text<R: Read>(
 }
 
 /// The text of a definite string. It is tested once.
+#[inline]
 fn read_whole_text<R: Read>(
     alloc: Global,
     decoder: &mut Decoder<R>,
