@@ -8,3 +8,32 @@ pub mod Questions
 pub mod Recorded
 pub mod Recorder
 pub mod Run
+pub use Rattle.ciborium_ll.specs.Fault as DeviceFault
+pub use Rattle.ciborium_ll.specs.Framing
+pub use Rattle.ciborium_ll.specs.Title
+pub use Rattle.ciborium_ll.specs.Views
+pub use Rattle.ciborium_ll.specs.declared.hdr.Header as Head
+pub use Rattle.ciborium_value.specs.Encoding
+pub use Rattle.ciborium_value.specs.Tree
+pub use Rattle.ciborium_value.specs.declared.kind.Kind as SemanticKind
+pub use Rattle.ciborium.specs.Damage
+pub use Rattle.ciborium.specs.Front
+pub use Rattle.ciborium.specs.Items
+pub use Rattle.ciborium.specs.Meaning
+pub use Rattle.ciborium.specs.Reading
+pub use Rattle.ciborium.specs.Spelling
+pub use Rattle.ciborium.specs.declared.de.Error as ReadError
+pub use Rattle.coset_base.specs.Faults
+pub use Rattle.coset_base.specs.Fields
+pub use Rattle.coset_base.specs.Headers
+pub use Rattle.coset_base.specs.Structure
+pub use Rattle.coset_base.specs.View as HeaderView
+pub use Rattle.coset_base.specs.Wrong
+pub use Rattle.coset_base.specs.declared.error.CoseError
+pub use Rattle.coset_base.specs.declared.header.Header
+pub use Rattle.coset_base.specs.declared.header.ProtectedHeader
+pub use Rattle.coset_messages.specs.Messages
+pub use Rattle.coset_messages.specs.Shapes
+pub use Rattle.coset_messages.specs.View as MessageView
+pub use Rattle.coset_messages.specs.WrongShapes
+pub use Rattle.coset_messages.specs.declared.recipient.CoseRecipient

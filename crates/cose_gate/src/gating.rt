@@ -11,6 +11,8 @@ use crate::report::{Entry, Report, Verdict};
 use ciborium::de;
 use ciborium_ll::{Decoder, Read, Write};
 use std::alloc::Global;
+use std::error::Error;
+use std::fmt;
 
 /// How many items passed, and how many were refused.
 #[derive(Debug, Clone, Copy, PartialEq, Eq)]
@@ -22,7 +24,7 @@ pub struct Counts {
 }
 
 /// What stopped the gate.
-#[derive(Debug, Drop)]
+#[derive(Debug, PartialEq, Eq, Drop)]
 pub enum GateFault<E> {
     /// No readable item begins here, or the reader failed. It never holds `Memory`.
     Decode(de::Error<E>),
@@ -31,6 +33,34 @@ pub enum GateFault<E> {
     /// Memory was refused, to the judge or the report too.
     Memory,
 }
+
+/// `decode: WORD`, `write` or `memory`.
+impl<E: fmt::Display> fmt::Display for GateFault<E> {
+    fn fmt<W: fmt::Write>(&self, f: &mut fmt::Formatter<W>) -> fmt::Result {
+        match self {
+            GateFault::Decode(error) => fmt_decode_fault(error, f),
+            GateFault::Write => f.write_str("write"),
+            GateFault::Memory => f.write_str("memory"),
+        }
+    }
+}
+
+fn fmt_decode_fault<E: fmt::Display, W: fmt::Write>(
+    error: &de::Error<E>,
+    f: &mut fmt::Formatter<W>,
+) -> fmt::Result {
+    f.write_str("decode: ")?;
+    match error {
+        de::Error::Io(e) => write!(f, "Io({e})"),
+        de::Error::Syntax(offset) => write!(f, "Syntax({offset})"),
+        de::Error::Semantic(_, kind) => write!(f, "Semantic({kind:?})"),
+        de::Error::RecursionLimitExceeded => f.write_str("RecursionLimitExceeded"),
+        de::Error::Memory => f.write_str("Memory"),
+        de::Error::TooLong => f.write_str("TooLong"),
+    }
+}
+
+impl<E: fmt::Debug + fmt::Display + Drop> Error for GateFault<E> {}
 
 /// Whether the fault is an end of the bytes.
 fn is_end<R: Read>(error: &de::Error<R::Error>) -> bool

@@ -15,8 +15,12 @@ mod report;
 mod tests;
 
 pub use crate::about::{About, Kind};
-pub use crate::gating::{Counts, GateFault};
+pub use crate::gating::{Counts, GateFault, gate};
 pub use crate::judge::Judge;
 pub use crate::program::run_first;
 pub use crate::recorder::{Asked, Recorder};
 pub use crate::report::{Entry, Refusal, Report, Silent, Verdict};
+pub use ciborium_ll::log::Log;
+pub use ciborium_ll::{Decoder, Io, Mem, Read, Write};
+pub use coset_base::{CoseError, Header, ProtectedHeader};
+pub use coset_messages::CoseRecipient;

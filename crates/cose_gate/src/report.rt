@@ -4,32 +4,42 @@ ghost use Rattle.cose_gate.specs.declared.report.Entry.{Entry};
 
 use coset_base::CoseError;
 use std::alloc::AllocError;
+use thiserror::Error;
 
-/// Why an item was refused. The reasons are tested in this order.
-#[derive(Debug, Clone, Copy, PartialEq, Eq)]
+/// Why an item was refused. The reasons are tested in this order. Its text is its name, and of a shape the fault's text too.
+#[derive(Debug, Clone, Copy, PartialEq, Eq, Error)]
 pub enum Refusal {
     /// The item has no tag.
+    #[error("NotTagged")]
     NotTagged,
     /// The item has a tag of no message that is judged.
+    #[error("OtherTag")]
     OtherTag(u64),
     /// The item has the tag of an encrypted message, 16 or 96.
+    #[error("Encrypted")]
     Encrypted,
     /// The item is no message of its tag.
+    #[error("Shape: {0}")]
     Shape(CoseError),
     /// The message doesn't carry its payload.
+    #[error("Detached")]
     Detached,
     /// The message has no signature.
+    #[error("NoSignature")]
     NoSignature,
     /// The judge said no to the question with this index, counted from 0.
+    #[error("Judged")]
     Judged(usize),
 }
 
-/// What became of an item.
-#[derive(Debug, Clone, Copy, PartialEq, Eq)]
+/// What became of an item: `passed`, or `refused: ` and why.
+#[derive(Debug, Clone, Copy, PartialEq, Eq, Error)]
 pub enum Verdict {
     /// It was written.
+    #[error("passed")]
     Passed,
     /// It was left out.
+    #[error("refused: {0}")]
     Refused(Refusal),
 }
 
