@@ -2,6 +2,8 @@
 //! that its contracts are of use.
 #![tactic(auto)]
 
+pub mod heads;
+pub mod items;
 pub mod judging;
 pub mod relaying;
 pub mod tally;
