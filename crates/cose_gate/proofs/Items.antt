@@ -1,5 +1,5 @@
 -- One item: what is found of it, and what stands after it.
-use Rattle.std.proofs.Common.{◌≡◌, ◌≢◌, ℕ, ◌⊎◌, inl, inr, List, [], ◌∷◌, ◌++◌, Option, None, Some, Bool, cond, refl, sym, ap, subst, ◌∙◌, take, drop}
+use Rattle.std.proofs.Common.{◌≡◌, ◌≢◌, ℕ, ◌⊎◌, inl, inr, List, [], Option, None, Some, Bool, cond, refl, sym, ap, subst, ◌∙◌, take, drop, append-nil}
 use Rattle.std.specs.Prelude.{is_none}
 use Rattle.std.specs.Io.KnownBytes.{Appends}
 use Rattle.std.proofs.KnownBytes.{Appends-nil}
@@ -11,7 +11,9 @@ use Rattle.cose_gate.specs.Questions.{Question, MessageFields, questions, tagged
 use Rattle.cose_gate.specs.Asked.{asked, first_no, folded_over}
 use Rattle.cose_gate.specs.Findings.{Reason, not_tagged, encrypted, other_tag, shape, detached, judged, barred, IsJudged, IsBarred}
 use Rattle.cose_gate.specs.Run.{IsVerdict, judged_by, written_of}
-use Rattle.cose_gate.specs.Passing.{IsRefused, Taken, Half, HalfWritten}
+use Rattle.cose_gate.specs.Passing.{IsRefused, WentThrough, Half, IsWriteFault, ItemFails}
+use Rattle.cose_gate.specs.declared.passing.ItemFault.{ItemFault}
+use Rattle.cose_gate.specs.declared.passing.ItemFault.TheVariants as fault
 use Rattle.cose_gate.specs.declared.report.Refusal.{Refusal}
 use Rattle.cose_gate.specs.declared.report.Refusal.TheVariants as refusal
 use Rattle.cose_gate.specs.declared.report.Verdict.TheVariants.{Passed, Refused}
@@ -28,11 +30,11 @@ is_other_tag t u n e a b c = (u, e, (λ w. not w), c)
 
 module _ {T : Type 0} (decided : T → Question → T) (allows : Question → Bool) (aad : List ℕ) where
   barred_as : (t : Tree) (told : T) (w : Option (List ℕ)) (r : Reason) (v : Refusal) → IsBarred t r
-      → IsVerdict allows aad t (barred r) (Refused v) → Taken decided allows aad t told told w w (Refused v)
+      → IsVerdict allows aad t (barred r) (Refused v) → WentThrough decided allows aad t told told w w (Refused v)
   barred_as t told w r v is says = record { finding = barred r; finds = is; verdict = says; tells = refl; writes = Appends-nil w }
 
   -- a refusal before any question
-  pub taken_barred : (t : Tree) (told : T) (w : Option (List ℕ)) (r : Refusal) → IsRefused t r → Taken decided allows aad t told told w w (Refused r)
+  pub taken_barred : (t : Tree) (told : T) (w : Option (List ℕ)) (r : Refusal) → IsRefused t r → WentThrough decided allows aad t told told w w (Refused r)
   taken_barred t told w refusal.NotTagged is = barred_as t told w not_tagged refusal.NotTagged is refl
   taken_barred t told w (refusal.OtherTag n) is = barred_as t told w (other_tag n) (refusal.OtherTag n) is refl
   taken_barred t told w refusal.Encrypted is = barred_as t told w encrypted refusal.Encrypted is refl
@@ -49,7 +51,7 @@ module _ {T : Type 0} (decided : T → Question → T) (allows : Question → Bo
 
   -- the judge said no
   pub taken_no : (t : Tree) (told told' : T) (w : Option (List ℕ)) (m : MessageFields) (i : ℕ) → IsJudged t m → Some i ≡ first_no allows (questions m aad)
-      → told' ≡ folded_over decided told (asked allows (questions m aad)) → Taken decided allows aad t told told' w w (Refused (refusal.Judged i))
+      → told' ≡ folded_over decided told (asked allows (questions m aad)) → WentThrough decided allows aad t told told' w w (Refused (refusal.Judged i))
   taken_no t told told' w m i is said tells = record {
     finding = judged m;
     finds = is;
@@ -59,38 +61,35 @@ module _ {T : Type 0} (decided : T → Question → T) (allows : Question → Bo
   }
 
   -- the judge said yes, and the text was written
-  pub taken_yes : (t u : Tree) (told told' : T) (w w' : Option (List ℕ)) (m : MessageFields) → IsJudged t m → None ≡ first_no allows (questions m aad)
-      → told' ≡ folded_over decided told (asked allows (questions m aad)) → u ≡ tagged_tree m → Appends w w' (enc u) → Taken decided allows aad t told told' w w' Passed
-  taken_yes t u told told' w w' m is said tells same writes = record {
+  pub taken_yes : (t : Tree) (told told' : T) (w w' : Option (List ℕ)) (m : MessageFields) → IsJudged t m → None ≡ first_no allows (questions m aad)
+      → told' ≡ folded_over decided told (asked allows (questions m aad)) → Appends w w' (enc (tagged_tree m)) → WentThrough decided allows aad t told told' w w' Passed
+  taken_yes t told told' w w' m is said tells writes = record {
     finding = judged m;
     finds = is;
     verdict = ap judged_by said;
     tells = tells;
-    writes = subst (λ (x : List ℕ). Appends w w' x) (ap enc same ∙ sym (written_yes m said)) writes;
-  }
-
-  -- the text was written in part
-  pub half_written : (t u : Tree) (told told' : T) (w w' : Option (List ℕ)) (m : MessageFields) (n : ℕ) → IsJudged t m → None ≡ first_no allows (questions m aad)
-      → told' ≡ folded_over decided told (asked allows (questions m aad)) → u ≡ tagged_tree m → Appends w w' (take n (enc u)) → HalfWritten decided allows aad t told told' w w'
-  half_written t u told told' w w' m n is said tells same writes = record {
-    message = m;
-    is = is;
-    tells = tells;
-    front = take n (enc u);
-    front_is = record { more = drop n (enc u); whole = written_yes m said ∙ sym (ap enc same) ∙ sym (take-append-drop n (enc u)) };
-    writes = writes;
+    writes = subst (λ (x : List ℕ). Appends w w' x) (sym (written_yes m said)) writes;
   }
 
   -- all was asked, and nothing written
-  pub half_asked : (t : Tree) (told told' : T) (m : MessageFields) → IsJudged t m → told' ≡ folded_over decided told (asked allows (questions m aad)) → Half decided allows aad t told told'
+  half_asked : (t : Tree) (told told' : T) (m : MessageFields) → IsJudged t m → told' ≡ folded_over decided told (asked allows (questions m aad)) → Half decided allows aad t told told'
   half_asked t told told' m is tells = record {
     message = m;
     is = is;
     asked = asked allows (questions m aad);
-    asked_front = record { more = []; whole = nil (asked allows (questions m aad)) };
+    asked_front = record { more = []; whole = sym (append-nil (asked allows (questions m aad))) };
     tells = tells;
   }
-    where
-      nil : {A : Type 0} (xs : List A) → xs ≡ xs ++ []
-      nil [] = refl
-      nil (x ∷ xs) = ap (λ z. x ∷ z) (nil xs)
+
+  -- writing the text failed
+  pub half_written : (t : Tree) (told told' : T) (w w' : Option (List ℕ)) (m : MessageFields) (f : ItemFault) → IsJudged t m → None ≡ first_no allows (questions m aad)
+      → told' ≡ folded_over decided told (asked allows (questions m aad)) → IsWriteFault w w' (enc (tagged_tree m)) f → ItemFails decided allows aad t told told' w w' f
+  half_written t told told' w w' m fault.Write is said tells writes = record {
+    message = m;
+    is = is;
+    tells = tells;
+    front = take writes.0 (enc (tagged_tree m));
+    front_is = record { more = drop writes.0 (enc (tagged_tree m)); whole = written_yes m said ∙ sym (take-append-drop writes.0 (enc (tagged_tree m))) };
+    writes = writes.1;
+  }
+  half_written t told told' w w' m fault.Memory is said tells writes = (writes, inr (half_asked t told told' m is tells))

@@ -1,5 +1,5 @@
 -- How far the gate has come.
-use Rattle.std.proofs.Common.{◌≡◌, ℕ, ◌+◌, ◌<◌, List, [], ◌∷◌, ◌++◌, length, map, Option, None, Some, Bool, true, false, not, cond, refl, sym, ap, subst, ◌∙◌, arith, append_assoc, length-append}
+use Rattle.std.proofs.Common.{◌≡◌, ℕ, ◌+◌, ◌<◌, List, [], ◌∷◌, ◌++◌, length, map, Option, None, Some, Bool, true, false, not, cond, refl, sym, ap, subst, ◌∙◌, arith, append_assoc, append-nil, length-append}
 use Rattle.std.specs.Prelude.{is_none}
 use Rattle.std.specs.List.{flat_map, count_by}
 use Rattle.std.proofs.KnownBytes.{Consumes-nil, Consumes-trans, Appends-nil}
@@ -10,7 +10,6 @@ use Rattle.ciborium_ll.specs.Reading.{Takes}
 use Rattle.ciborium_value.specs.Tree.{Tree}
 use Rattle.ciborium.specs.Front.{Reads}
 use Rattle.ciborium.specs.Items.{Item, Sequence}
-use Rattle.ciborium.proofs.Once.{append_nil}
 use Rattle.ciborium.proofs.ChildCases.{front_some}
 use Rattle.cose_gate.specs.declared.report.Entry.{Entry}
 use Rattle.cose_gate.specs.declared.report.Verdict.{Verdict}
@@ -45,11 +44,7 @@ both_counts p (x ∷ xs) =
     each false = refl
 
 flat_then : {X A : Type 0} (f : X → List A) (xs : List X) (x : X) → flat_map f (xs ++ x ∷ []) ≡ flat_map f xs ++ f x
-flat_then f xs x = flat_map-append f xs (x ∷ []) ∙ ap (λ z. flat_map f xs ++ z) (sym (nil (f x)))
-  where
-    nil : {A : Type 0} (ys : List A) → ys ≡ ys ++ []
-    nil [] = refl
-    nil (y ∷ ys) = ap (λ z. y ∷ z) (nil ys)
+flat_then f xs x = flat_map-append f xs (x ∷ []) ∙ ap (λ z. flat_map f xs ++ z) (append-nil (f x))
 
 -- one item more behind a sequence
 unfoldable pub item_at : ℕ → List ℕ → Tree → Item
@@ -59,7 +54,7 @@ sequence_then : (at o : ℕ) (b x : List ℕ) (is : List Item) (v : Tree) → o 
 unfolding item_at
 sequence_then at o b x [] v e s r =
     let l : length b ≡ 0 = ap length s in
-    (omega arith, r, ([], ap (λ z. z ++ x) s ∙ append_nil x, refl))
+    (omega arith, r, ([], ap (λ z. z ++ x) s ∙ sym (append-nil x), refl))
 sequence_then at o b x (i ∷ is) v e s r =
     let l : length b ≡ length i.bytes + length s.2.0 = ap length s.2.1 ∙ length-append i.bytes s.2.0 in
     (s.0, s.1, (s.2.0 ++ x, ap (λ z. z ++ x) s.2.1 ∙ append_assoc i.bytes s.2.0 x, sequence_then (at + length i.bytes) o s.2.0 x is v (omega arith) s.2.2 r))
@@ -71,7 +66,7 @@ sequence_more at b more (i ∷ is) s = (s.0, s.1, (s.2.0 ++ more, ap (λ z. z ++
 
 -- an item takes bytes
 pub reads_some : (x : List ℕ) (v : Tree) → Reads x 256 v → 0 < length x
-reads_some x v r = front_some x [] 256 v (record { spelling = x; whole = append_nil x; reads = r })
+reads_some x v r = front_some x [] 256 v (record { spelling = x; whole = sym (append-nil x); reads = r })
 
 pub item_grows : (l l' : Option (List ℕ)) (p p' : ℕ) (v : Tree) → Takes l l' p p' (λ (b : List ℕ). Reads b 256 v) → p < p'
 item_grows l l' p p' v t = let s = reads_some t.bytes v t.has in let g = t.grown in omega arith
@@ -97,18 +92,18 @@ module _ (allows : Question → Bool) (aad : List ℕ) where
   steps_then n (x ∷ xs) s a f e o v = (a.0, a.1, a.2, a.3, steps_then (n + 1) xs s a.4 f (omega arith) o v)
 
 -- some steps were made; they took the bytes of their items
-pub record Reached {T S : Type 0} (rules : Rules T S) (old new : Seen T S) (left left' : Option (List ℕ)) (place place' passed refused : ℕ) : Type 0 where
+pub record Reached {T S : Type 0} (rules : Rules T S) (old new : Seen T S) (passed refused : ℕ) : Type 0 where
   pub done : List Step
-  pub taken : Takes left left' place place' (λ (b : List ℕ). Sequence place b (map (λ s. s.item) done) [])
+  pub taken : Takes old.left new.left old.offset new.offset (λ (b : List ℕ). Sequence old.offset b (map (λ s. s.item) done) [])
   pub steps : Steps rules.allows rules.aad 1 done
   pub made : Made rules old new done
   pub passed_is : passed ≡ passed_count rules.allows rules.aad done
   pub refused_is : refused ≡ refused_count rules.allows rules.aad done
 
-pub reached_start : {T S : Type 0} (rules : Rules T S) (seen : Seen T S) (left : Option (List ℕ)) (place : ℕ) → Reached rules seen seen left left place place 0 0
-reached_start rules seen left place = record {
+pub reached_start : {T S : Type 0} (rules : Rules T S) (seen : Seen T S) → Reached rules seen seen 0 0
+reached_start rules seen = record {
   done = [];
-  taken = record { bytes = []; has = refl; taken = Consumes-nil left; grown = omega arith };
+  taken = record { bytes = []; has = refl; taken = Consumes-nil seen.left; grown = omega arith };
   steps = tt;
   made = record { told = refl; state = refl; written = Appends-nil seen.written };
   passed_is = refl;
@@ -144,16 +139,16 @@ module _ {T S : Type 0} (rules : Rules T S) where
       ∙ ap (folded_over rules.decided old) (sym (questions_then ss s))
 
   -- where the steps so far and one more item have come
-  pub record Further (left left' : Option (List ℕ)) (place place' : ℕ) (done : List Step) (s : Step) : Type 0 where
-    pub taken : Takes left left' place place' (λ (b : List ℕ). Sequence place b (map (λ s. s.item) (done ++ s ∷ [])) [])
+  pub record Further (old newer : Seen T S) (done : List Step) (s : Step) : Type 0 where
+    pub taken : Takes old.left newer.left old.offset newer.offset (λ (b : List ℕ). Sequence old.offset b (map (λ s. s.item) (done ++ s ∷ [])) [])
     pub steps : Steps rules.allows rules.aad 1 (done ++ s ∷ [])
 
-  pub further : (old new : Seen T S) (l₀ l₁ l₂ : Option (List ℕ)) (p₀ p₁ p₂ passed refused : ℕ) (r : Reached rules old new l₀ l₁ p₀ p₁ passed refused)
-      (v : Tree) (t : Takes l₁ l₂ p₁ p₂ (λ (b : List ℕ). Reads b 256 v)) (f : Finding) (verdict : Verdict) → Finds v f → IsVerdict rules.allows rules.aad v f verdict
-      → Further l₀ l₂ p₀ p₂ r.done (step_at p₁ t.bytes v f (entry_at (passed + refused + 1) p₁ verdict))
+  pub further : (old new newer : Seen T S) (passed refused : ℕ) (r : Reached rules old new passed refused)
+      (v : Tree) (t : Takes new.left newer.left new.offset newer.offset (λ (b : List ℕ). Reads b 256 v)) (f : Finding) (verdict : Verdict) → Finds v f → IsVerdict rules.allows rules.aad v f verdict
+      → Further old newer r.done (step_at new.offset t.bytes v f (entry_at (passed + refused + 1) new.offset verdict))
   unfolding step_at entry_at item_at
-  further old new l₀ l₁ l₂ p₀ p₁ p₂ passed refused r v t f verdict finds says =
-      let s = step_at p₁ t.bytes v f (entry_at (passed + refused + 1) p₁ verdict) in
+  further old new newer passed refused r v t f verdict finds says =
+      let s = step_at new.offset t.bytes v f (entry_at (passed + refused + 1) new.offset verdict) in
       let a = r.taken.grown in
       let b = t.grown in
       let count = both_counts (λ s. passes rules.allows rules.aad s.finding) r.done in
@@ -162,8 +157,8 @@ module _ {T S : Type 0} (rules : Rules T S) where
       record {
         taken = record {
           bytes = r.taken.bytes ++ t.bytes;
-          has = subst (λ (z : List Item). Sequence p₀ (r.taken.bytes ++ t.bytes) z []) (sym (items_then r.done s)) (sequence_then p₀ p₁ r.taken.bytes t.bytes (map (λ s. s.item) r.done) v a r.taken.has t.has);
-          taken = Consumes-trans l₀ l₁ l₂ r.taken.bytes t.bytes r.taken.taken t.taken;
+          has = subst (λ (z : List Item). Sequence old.offset (r.taken.bytes ++ t.bytes) z []) (sym (items_then r.done s)) (sequence_then old.offset new.offset r.taken.bytes t.bytes (map (λ s. s.item) r.done) v a r.taken.has t.has);
+          taken = Consumes-trans old.left new.left newer.left r.taken.bytes t.bytes r.taken.taken t.taken;
           grown = omega (arith, length-append r.taken.bytes t.bytes);
         };
         steps = steps_then rules.allows rules.aad 1 r.done s r.steps finds (omega arith) refl says;

@@ -6,7 +6,6 @@ pub mod Passing
 pub mod Program
 pub mod Questions
 pub mod Recorded
-pub mod Recorder
 pub mod Run
 pub use Rattle.ciborium_ll.specs.Fault as DeviceFault
 pub use Rattle.ciborium_ll.specs.Framing

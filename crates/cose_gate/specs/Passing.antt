@@ -1,6 +1,7 @@
 -- What one item's way through the gate shows.
 use Rattle.std.specs.Prelude.{◌≡◌, ℕ, ◌⊎◌, List, Option, Bool, false, Result, Ok, Err}
 use Rattle.std.specs.Io.KnownBytes.{Appends}
+use Rattle.ciborium_ll.specs.Device.{AppendsFront}
 use Rattle.ciborium_value.specs.Tree.{Tree}
 use Rattle.coset_base.specs.Faults.{fault_of}
 use Rattle.coset_messages.specs.View.{sign1_view}
@@ -35,7 +36,7 @@ IsFound t (found.Judged m) = IsJudged t (sign1 (sign1_view m))
 IsFound t (found.Barred r) = IsRefused t r
 
 -- the item went through: what was found, told and written
-pub record Taken {T : Type 0} (decided : T → Question → T) (allows : Question → Bool) (aad : List ℕ) (t : Tree) (told told' : T) (written written' : Option (List ℕ)) (v : Verdict) : Type 0 where
+pub record WentThrough {T : Type 0} (decided : T → Question → T) (allows : Question → Bool) (aad : List ℕ) (t : Tree) (told told' : T) (written written' : Option (List ℕ)) (v : Verdict) : Type 0 where
   pub finding : Finding
   pub finds : Finds t finding
   pub verdict : IsVerdict allows aad t finding v
@@ -63,6 +64,11 @@ abbrev pub ItemFails : {T : Type 0} → (T → Question → T) → (Question →
 ItemFails decided allows aad t told told' written written' fault.Write = HalfWritten decided allows aad t told told' written written'
 ItemFails decided allows aad t told told' written written' fault.Memory = (written' ≡ written) × ((told' ≡ told) ⊎ Half decided allows aad t told told')
 
+-- what a fault of writing a text leaves: a beginning of it, and for want of memory nothing
+abbrev pub IsWriteFault : Option (List ℕ) → Option (List ℕ) → List ℕ → ItemFault → Type 0
+IsWriteFault written written' text fault.Write = AppendsFront written written' text
+IsWriteFault written written' text fault.Memory = written' ≡ written
+
 -- how often the writer has failed
 abbrev pub item_failures : {T : Type 0} → Result T ItemFault → ℕ
 item_failures (Ok v) = 0
@@ -86,3 +92,8 @@ fault_by (de.Semantic o k) = gating.Decode (de.Semantic o k)
 fault_by de.RecursionLimitExceeded = gating.Decode de.RecursionLimitExceeded
 fault_by de.Memory = gating.Memory
 fault_by de.TooLong = gating.Decode de.TooLong
+
+-- what stops the gate in an item
+abbrev pub stopped_by : {E : Type 0} → ItemFault → GateFault E
+stopped_by fault.Write = gating.Write
+stopped_by fault.Memory = gating.Memory

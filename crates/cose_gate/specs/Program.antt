@@ -1,6 +1,7 @@
 -- What the program does with a whole input.
 use Rattle.std.specs.Prelude.{◌≡◌, ◌⊎◌, ℕ, List, [], Option, None, Bool, Result, Ok, Err, if◌then◌else◌, nat_eq}
 use Rattle.std.specs.Io.KnownBytes.{Appends}
+use Rattle.ciborium.specs.Reading.{Known}
 use Rattle.cose_gate.specs.Questions.{Question}
 use Rattle.cose_gate.specs.Asked.{IsFront}
 use Rattle.cose_gate.specs.Recorded.{is_other}
@@ -28,12 +29,24 @@ pub record InPart (written written' : Option (List ℕ)) (b : List ℕ) : Type 0
   pub front_is : IsFront front (output_of allows_all [] steps)
   pub writes : Appends written written' front
 
-abbrev pub Gated : {E : Type 0} → Option (List ℕ) → Option (List ℕ) → List ℕ → Result Counts (GateFault E) → Type 0
-Gated written written' b (Ok counts) = Through written written' b counts.refused
-Gated written written' b (Err fault) = InPart written written' b
+abbrev pub GatedOver : {E : Type 0} → Option (List ℕ) → Option (List ℕ) → List ℕ → Result Counts (GateFault E) → Type 0
+GatedOver written written' b (Ok counts) = Through written written' b counts.refused
+GatedOver written written' b (Err fault) = InPart written written' b
+
+-- some bytes were there, those to come where these are known, and the gate went over them
+pub record Gated {E : Type 0} (left written written' : Option (List ℕ)) (r : Result Counts (GateFault E)) : Type 0 where
+  pub input : List ℕ
+  pub is : Known left (λ b. b ≡ input)
+  pub over : GatedOver written written' input r
 
 -- the status: 0 where none is refused, 1 where some are, 4 where it stopped
-abbrev pub Ran : Option (List ℕ) → Option (List ℕ) → List ℕ → ℕ → Type 0
-Ran written written' b status =
+abbrev pub RanOver : Option (List ℕ) → Option (List ℕ) → List ℕ → ℕ → Type 0
+RanOver written written' b status =
     ((refused : ℕ) × Through written written' b refused × (status ≡ (if nat_eq refused 0 then 0 else 1)))
     ⊎ (InPart written written' b × (status ≡ 4))
+
+-- some bytes were there, those to come where these are known, and the program went over them
+pub record Ran (left written written' : Option (List ℕ)) (status : ℕ) : Type 0 where
+  pub input : List ℕ
+  pub is : Known left (λ b. b ≡ input)
+  pub over : RanOver written written' input status

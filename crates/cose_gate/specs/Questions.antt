@@ -1,9 +1,9 @@
 -- What a judge is asked about a message (RFC 9052, section 4.4), as values that hold no memory.
-use Rattle.std.specs.Prelude.{ℕ, List, [], ◌∷◌, Option, Some, None, codes}
+use Rattle.std.specs.Prelude.{ℕ, List, [], ◌∷◌, Option, None, codes}
 use Rattle.ciborium_value.specs.Tree.{Tree, tag}
 use Rattle.coset_base.specs.Fields.{HeaderFields, ProtectedFields}
 use Rattle.coset_base.specs.Structure.{structure}
-use Rattle.coset_messages.specs.Messages.{Sign1Fields, RecipientFields, sign1_tree}
+use Rattle.coset_messages.specs.Messages.{Sign1Fields, RecipientFields, sign1_tree, payload_bytes}
 use Rattle.cose_gate.specs.declared.about.Kind.{Kind}
 use Rattle.cose_gate.specs.declared.about.Kind.TheVariants as kind
 
@@ -25,11 +25,6 @@ pub record Question : Type 0 where
 pub data MessageFields : Type 0 where
   sign1 : Sign1Fields → MessageFields
 
--- the payload's bytes; one that is not there counts as empty
-abbrev pub payload_of : Option (List ℕ) → List ℕ
-payload_of None = []
-payload_of (Some b) = b
-
 abbrev pub sign1_subject : Sign1Fields → Subject
 sign1_subject m = record { kind = kind.Sign1; protected = m.protected; unprotected = m.unprotected; signer = None; recipients = [] }
 
@@ -37,7 +32,7 @@ sign1_subject m = record { kind = kind.Sign1; protected = m.protected; unprotect
 abbrev pub questions : MessageFields → List ℕ → List Question
 questions (sign1 m) aad = record {
   subject = sign1_subject m;
-  covered = structure (codes "Signature1") m.protected None aad (payload_of m.payload);
+  covered = structure (codes "Signature1") m.protected None aad (payload_bytes m.payload);
   signature = m.signature;
 } ∷ []
 

@@ -1,10 +1,11 @@
 -- What a recorder keeps of a question, without where it lies in memory.
 use Rattle.std.specs.Global.{Vec}
-use Rattle.std.specs.Prelude.{ℕ, List, ◌++◌, ◌-◌, Option, Some, None, Bool, true, not, length, take, replicate}
+use Rattle.std.specs.Prelude.{ℕ, List, ◌++◌, ◌-◌, Option, Some, None, Bool, true, not, length, map, take, replicate}
 use Rattle.std.specs.Cmp.Lexicographic.{pointwise}
 use Rattle.std.specs.Bool.{nat_eq}
 use Rattle.cose_gate.specs.declared.about.Kind.{Kind}
 use Rattle.cose_gate.specs.declared.recorder.Asked.{Asked}
+use Rattle.cose_gate.specs.declared.recorder.Recorder.{Recorder}
 use Rattle.cose_gate.specs.Questions.{Question}
 
 pub record AskedFields : Type 0 where
@@ -33,3 +34,11 @@ is_other (Some refused) signature = not (pointwise nat_eq refused signature)
 abbrev pub bytes_of : Option (Vec ℕ) → Option (List ℕ)
 bytes_of None = None
 bytes_of (Some v) = Some v.items
+
+-- the questions that a recorder was asked, in order
+abbrev pub asked_of : Recorder → List AskedFields
+asked_of r = map asked_view r.asked.items
+
+-- the signature that it says no to
+abbrev pub refused_of : Recorder → Option (List ℕ)
+refused_of r = bytes_of r.no

@@ -1,14 +1,43 @@
 //! Asks a judge about one message.
-ghost use Rattle.std.specs.Prelude.{◌≡◌, OnOk, OnErr, IfOk, List};
+ghost use Rattle.std.specs.Prelude.{◌≡◌, OnOk, OnErr, IfOk, [], ◌∷◌, length};
+ghost use Rattle.coset_base.specs.declared.error.CoseError.TheVariants.{Memory};
 ghost use Rattle.coset_messages.specs.View.{sign1_view};
+ghost use Rattle.cose_gate.specs.Lent.{subject_of};
 ghost use Rattle.cose_gate.specs.Questions.{Question, questions, sign1};
-ghost use Rattle.cose_gate.specs.Asked.{asked, first_no, folded_over, IsFront};
+ghost use Rattle.cose_gate.specs.Asked.{asked, first_no, folded_over};
 
 use crate::about::{About, Kind};
 use crate::judge::Judge;
-use coset_base::{CoseError, SignatureContext, sig_structure_data};
+use coset_base::CoseError;
 use coset_messages::CoseSign1;
 use std::alloc::{AllocError, Global};
+
+/// The fault of a call that fails for want of memory alone.
+pub fn want_of_memory(_error: CoseError) -> AllocError
+    requires { _error ≡ Memory }
+{
+    AllocError
+}
+
+/// Asks one question.
+fn ask<J: Judge>(
+    judge: &mut J,
+    about: &About,
+    covered: &[u8],
+    signature: &[u8],
+) -> Result<bool, AllocError>
+    ensures answer { IfOk result (λ yes. yes ≡ J.yes (J.who judge.old)
+        (record { subject = subject_of about.now; covered = covered.now; signature = signature.now })) }
+    ensures told { OnOk result (J.told judge.new ≡ J.decided (J.told judge.old)
+        (record { subject = subject_of about.now; covered = covered.now; signature = signature.now })) }
+    ensures pieces { OnOk result (J.pieces judge.new ≡ length covered.now ∷ []) }
+    ensures err { OnErr result (J.told judge.new ≡ J.told judge.old) }
+    ensures who { J.who judge.new ≡ J.who judge.old }
+{
+    judge.begin(about)?;
+    judge.feed(covered)?;
+    Ok(judge.decide(signature))
+}
 
 /// Asks about the one signature of the message. The index of the first no, where there is one.
 pub fn ask_sign1<J: Judge>(
@@ -23,24 +52,12 @@ pub fn ask_sign1<J: Judge>(
     ensures err { OnErr result (J.told judge.new ≡ J.told judge.old) }
     ensures who { J.who judge.new ≡ J.who judge.old }
 {
-    let payload: &[u8] = match &message.payload {
-        Some(payload) => payload.as_slice(),
-        None => &[],
-    };
-    let Ok(covered) = sig_structure_data(
-        alloc,
-        SignatureContext::CoseSign1,
-        &message.protected,
-        None,
-        aad,
-        payload,
-    ) else {
-        return Err(AllocError);
+    let covered = match message.tbs_data(alloc, aad) {
+        Ok(covered) => covered,
+        Err(error) => return Err(want_of_memory(error)),
     };
     let about = About::alone(Kind::Sign1, &message.protected, &message.unprotected);
-    judge.begin(&about)?;
-    judge.feed(&covered)?;
-    if judge.decide(&message.signature) {
+    if ask(judge, &about, &covered, &message.signature)? {
         Ok(None)
     } else {
         Ok(Some(0))

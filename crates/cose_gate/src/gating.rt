@@ -1,14 +1,14 @@
 //! The gate.
-ghost use Rattle.std.specs.Prelude.{◌≡◌, ◌+◌, ◌<◌, ◌^◌, [], Some, not, IsOk, if◌then◌else◌, ℕ, List};
+ghost use Rattle.std.specs.Prelude.{◌≡◌, ◌+◌, ◌<◌, ◌^◌, [], Some, None, Ok, IsOk, IfOk, IfErr, not, if◌then◌else◌, ℕ, List};
 ghost use Rattle.ciborium_ll.specs.Views.{left_of, offset_of, waiting_of, reader_of};
-ghost use Rattle.cose_gate.specs.Outcome.{Answers, reader_failures, writer_failures};
-ghost use Rattle.cose_gate.specs.Passing.{at_end, fault_by};
+ghost use Rattle.cose_gate.specs.Outcome.{Answers, IsNext, IsReadFault, reader_failures, writer_failures};
+ghost use Rattle.cose_gate.specs.Passing.{at_end, fault_by, stopped_by};
 ghost use Rattle.cose_gate.specs.Run.{has_passed};
 
 use crate::judge::Judge;
 use crate::passing::{ItemFault, pass};
 use crate::report::{Entry, Report, Verdict};
-use ciborium::de;
+use ciborium::{Value, de};
 use ciborium_ll::{Decoder, Read, Write};
 use std::alloc::Global;
 use std::error::Error;
@@ -90,6 +90,43 @@ fn fault_of<E>(error: de::Error<E>) -> GateFault<E>
     }
 }
 
+/// What stops the gate in an item.
+fn stop_of<E>(fault: ItemFault) -> GateFault<E>
+    ensures { result ≡ stopped_by fault }
+{
+    match fault {
+        ItemFault::Write => GateFault::Write,
+        ItemFault::Memory => GateFault::Memory,
+    }
+}
+
+/// The next item, or `None` where no byte is left.
+fn next_item<R: Read>(
+    alloc: Global,
+    decoder: &mut Decoder<R>,
+) -> Result<Option<Value>, GateFault<R::Error>>
+    ensures next { IfOk result (IsNext (left_of R.left decoder.old) (left_of R.left decoder.new)
+        (offset_of decoder.old) (offset_of decoder.new)) }
+    ensures err { IfErr result (IsReadFault R.ends (left_of R.left decoder.old) (offset_of decoder.old)) }
+    ensures nothing { left_of R.left decoder.old ≡ Some [] → R.failed (reader_of decoder.new) ≡ R.failed (reader_of decoder.old)
+        → offset_of decoder.old + 4096 < 2 ^ 64 → result ≡ Ok None }
+    ensures failed { R.failed (reader_of decoder.new) ≡ R.failed (reader_of decoder.old) + reader_failures R.ends result }
+    ensures kept { R.handle (reader_of decoder.new) ≡ R.handle (reader_of decoder.old) }
+    ensures fits { offset_of decoder.new < 2 ^ 64 }
+    ensures fresh { waiting_of decoder.new ≡ None }
+{
+    let offset = decoder.offset();
+    match de::from_decoder(alloc, decoder, 256) {
+        Ok(value) => Ok(Some(value)),
+        Err(error) => {
+            if is_end::<R>(&error) && decoder.offset() == offset {
+                return Ok(None);
+            }
+            Err(fault_of(error))
+        }
+    }
+}
+
 /// One item more.
 fn counted(counts: Counts, verdict: Verdict) -> Counts
     requires { counts.passed + counts.refused + 1 < 2 ^ 64 }
@@ -109,16 +146,31 @@ fn counted(counts: Counts, verdict: Verdict) -> Counts
     }
 }
 
+/// The entry of the last item that is counted.
+fn entry_of(counts: Counts, offset: usize, verdict: Verdict) -> Entry
+    requires { counts.passed + counts.refused < 2 ^ 64 }
+    ensures { result ≡ record { number = counts.passed + counts.refused; offset = offset; verdict = verdict } }
+{
+    Entry {
+        number: counts.passed + counts.refused,
+        offset,
+        verdict,
+    }
+}
+
 /// Asks the judge about each tagged COSE_Sign1 of a CBOR sequence that carries its payload, over exactly the bytes that its signature
 /// covers, with `aad` as external data, and writes those that passed, each as its one shortest text. Every item is noted in the report;
 /// one that is no such message is refused there, and the gate goes on. It doesn't flush.
 ///
-/// It ends with `Ok` where nothing is left behind an item.
+/// It ends with `Ok` where nothing is left behind an item: the offset has grown by all bytes then. No header waits after any answer.
+/// What the clause `ran` says holds of the bytes that were there, also over a reader that doesn't tell which are to come; where they are
+/// known, it holds of those.
 ///
 /// # Errors
-/// `Decode` where no readable item begins, or the reader failed; `Write` where the writer failed, and then a beginning of the output was
-/// written; `Memory` where memory was refused, and then whole texts were written. After any of them the judge was told a beginning of the
-/// questions.
+/// `Decode` where no readable item begins, or the reader failed: all items before it were asked about, noted and written. `Write` where
+/// the writer failed: a beginning of the text of a message was written behind the output before it, and the reader stands behind that
+/// message. `Memory` where memory was refused: whole texts were written, and of the questions about the item at hand a beginning was
+/// asked.
 pub fn gate<R: Read, W: Write, P: Report, J: Judge>(
     alloc: Global,
     decoder: &mut Decoder<R>,
@@ -129,9 +181,21 @@ pub fn gate<R: Read, W: Write, P: Report, J: Judge>(
 ) -> Result<Counts, GateFault<R::Error>>
     ensures ran { Answers R.ends
         (record { decided = J.decided; folded = P.folded; allows = J.yes (J.who judge.old); aad = aad.now })
-        (record { told = J.told judge.old; state = P.state report.old; written = W.written out.old })
-        (record { told = J.told judge.new; state = P.state report.new; written = W.written out.new })
-        (offset_of decoder.old) (left_of R.left decoder.old) result }
+        (record {
+          told = J.told judge.old;
+          state = P.state report.old;
+          written = W.written out.old;
+          offset = offset_of decoder.old;
+          left = left_of R.left decoder.old;
+        })
+        (record {
+          told = J.told judge.new;
+          state = P.state report.new;
+          written = W.written out.new;
+          offset = offset_of decoder.new;
+          left = left_of R.left decoder.new;
+        })
+        result }
     ensures nothing { left_of R.left decoder.old ≡ Some [] → R.failed (reader_of decoder.new) ≡ R.failed (reader_of decoder.old)
         → offset_of decoder.old + 4096 < 2 ^ 64 → IsOk result }
     ensures reader { R.failed (reader_of decoder.new) ≡ R.failed (reader_of decoder.old) + reader_failures R.ends result }
@@ -139,6 +203,8 @@ pub fn gate<R: Read, W: Write, P: Report, J: Judge>(
     ensures who { J.who judge.new ≡ J.who judge.old }
     ensures kept { R.handle (reader_of decoder.new) ≡ R.handle (reader_of decoder.old) }
     ensures lent { W.handle out.new ≡ W.handle out.old }
+    ensures fits { offset_of decoder.new < 2 ^ 64 }
+    ensures fresh { waiting_of decoder.new ≡ None }
 {
     let mut counts = Counts {
         passed: 0,
@@ -146,27 +212,17 @@ pub fn gate<R: Read, W: Write, P: Report, J: Judge>(
     };
     'items: loop {
         let offset = decoder.offset();
-        let value = match de::from_decoder(alloc, decoder, 256) {
-            Ok(value) => value,
-            Err(error) => {
-                if is_end::<R>(&error) && decoder.offset() == offset {
-                    return Ok(counts);
-                }
-                return Err(fault_of(error));
-            }
+        let value = match next_item(alloc, decoder) {
+            Ok(Some(value)) => value,
+            Ok(None) => return Ok(counts),
+            Err(fault) => return Err(fault),
         };
         let verdict = match pass(alloc, value, out, aad, judge) {
             Ok(verdict) => verdict,
-            Err(ItemFault::Write) => return Err(GateFault::Write),
-            Err(ItemFault::Memory) => return Err(GateFault::Memory),
+            Err(fault) => return Err(stop_of(fault)),
         };
         counts = counted(counts, verdict);
-        let entry = Entry {
-            number: counts.passed + counts.refused,
-            offset,
-            verdict,
-        };
-        match report.note(&entry) {
+        match report.note(&entry_of(counts, offset, verdict)) {
             Ok(()) => {}
             Err(_) => return Err(GateFault::Memory),
         }

@@ -52,7 +52,8 @@ pub trait Judge {
     /// # Errors
     /// Only where memory is refused.
     fn feed(&mut self, piece: &[u8]) -> Result<(), AllocError>
-        ensures holds { OnOk result ((subject : Subject) (bytes : List ℕ) → holds self.old subject bytes → holds self.new subject (bytes ++ piece.now)) }
+        ensures holds { OnOk result ((subject : Subject) (bytes : List ℕ) → holds self.old subject bytes
+            → holds self.new subject (bytes ++ piece.now)) }
         ensures pieces { OnOk result (pieces self.new ≡ pieces self.old ++ length piece.now ∷ []) }
         ensures refused { OnErr result (pieces self.new ≡ pieces self.old) }
         ensures told { told self.new ≡ told self.old }

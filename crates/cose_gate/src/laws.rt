@@ -15,5 +15,6 @@ pub fn one_finding()
 pub fn one_run()
     ensures { (allows : Question → Bool) (aad : List ℕ) (at : ℕ) (b : List ℕ) (ss rs : List Step) (rest more : List ℕ)
         → Run allows aad at b ss rest → Run allows aad at b rs more → NoneOverlong ss
-        → (questions_of allows aad ss ≡ questions_of allows aad rs) × (output_of allows aad ss ≡ output_of allows aad rs) × (rest ≡ more) }
+        → (questions_of allows aad ss ≡ questions_of allows aad rs) × (output_of allows aad ss ≡ output_of allows aad rs)
+        × (rest ≡ more) }
 {}

@@ -11,8 +11,6 @@ mod passing;
 mod program;
 mod recorder;
 mod report;
-#[cfg(test)]
-mod tests;
 
 pub use crate::about::{About, Kind};
 pub use crate::gating::{Counts, GateFault, gate};

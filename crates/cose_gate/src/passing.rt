@@ -1,13 +1,15 @@
 //! One item on its way through the gate.
-ghost use Rattle.std.specs.Prelude.{◌≡◌, ◌≢◌, ◌+◌, MatchBool, IfOk, IfErr, ℕ};
+ghost use Rattle.std.specs.Prelude.{◌≡◌, ◌≢◌, ◌+◌, MatchBool, IfOk, IfErr, OnOk};
+ghost use Rattle.std.specs.Io.KnownBytes.{Appends};
+ghost use Rattle.ciborium_value.specs.Encoding.{enc};
 ghost use Rattle.ciborium_value.specs.Tree.{tag};
 ghost use Rattle.ciborium_value.specs.View.{view};
 ghost use Rattle.coset_messages.specs.View.{sign1_view};
 ghost use Rattle.cose_gate.specs.Questions.{sign1, tagged_tree};
 ghost use Rattle.coset_base.specs.declared.error.CoseError.TheVariants.{Memory};
-ghost use Rattle.cose_gate.specs.Passing.{IsFound, Taken, ItemFails, item_failures};
+ghost use Rattle.cose_gate.specs.Passing.{IsFound, WentThrough, ItemFails, IsWriteFault, item_failures};
 
-use crate::asking::ask_sign1;
+use crate::asking::{ask_sign1, want_of_memory};
 use crate::judge::Judge;
 use crate::report::{Refusal, Verdict};
 use ciborium::{Value, into_writer};
@@ -123,11 +125,26 @@ fn find(alloc: Global, value: Value) -> Result<Found, AllocError>
 fn tagged(alloc: Global, message: CoseSign1) -> Result<Value, AllocError>
     ensures { IfOk result (λ v. view v ≡ tagged_tree (sign1 (sign1_view message))) }
 {
-    let Ok(content) = message.to_cbor_value(alloc) else {
-        return Err(AllocError);
+    let content = match message.to_cbor_value(alloc) {
+        Ok(content) => content,
+        Err(error) => return Err(want_of_memory(error)),
     };
     let content = Box::new(alloc, content)?;
     Ok(Value::Tag(18, content))
+}
+
+/// Writes the one shortest text of a message with its tag.
+fn write_message<W: Write>(alloc: Global, message: CoseSign1, out: &mut W) -> Result<(), ItemFault>
+    ensures ok { OnOk result (Appends (W.written out.old) (W.written out.new) (enc (tagged_tree (sign1 (sign1_view message))))) }
+    ensures err { IfErr result (IsWriteFault (W.written out.old) (W.written out.new) (enc (tagged_tree (sign1 (sign1_view message))))) }
+    ensures kept { W.handle out.new ≡ W.handle out.old }
+    ensures failed { W.failed out.new ≡ W.failed out.old + item_failures result }
+{
+    let text = tagged(alloc, message)?;
+    match into_writer(&text, out) {
+        Ok(()) => Ok(()),
+        Err(_) => Err(ItemFault::Write),
+    }
 }
 
 /// Tests an item, asks the judge about it, and writes it where it has passed.
@@ -138,8 +155,10 @@ pub fn pass<W: Write, J: Judge>(
     aad: &[u8],
     judge: &mut J,
 ) -> Result<Verdict, ItemFault>
-    ensures ok { IfOk result (Taken J.decided (J.yes (J.who judge.old)) aad.now (view value) (J.told judge.old) (J.told judge.new) (W.written out.old) (W.written out.new)) }
-    ensures err { IfErr result (ItemFails J.decided (J.yes (J.who judge.old)) aad.now (view value) (J.told judge.old) (J.told judge.new) (W.written out.old) (W.written out.new)) }
+    ensures ok { IfOk result (WentThrough J.decided (J.yes (J.who judge.old)) aad.now (view value)
+        (J.told judge.old) (J.told judge.new) (W.written out.old) (W.written out.new)) }
+    ensures err { IfErr result (ItemFails J.decided (J.yes (J.who judge.old)) aad.now (view value)
+        (J.told judge.old) (J.told judge.new) (W.written out.old) (W.written out.new)) }
     ensures who { J.who judge.new ≡ J.who judge.old }
     ensures kept { W.handle out.new ≡ W.handle out.old }
     ensures failed { W.failed out.new ≡ W.failed out.old + item_failures result }
@@ -152,12 +171,9 @@ pub fn pass<W: Write, J: Judge>(
     let no = ask_sign1(alloc, &message, aad, judge)?;
     match no {
         Some(index) => Ok(Verdict::Refused(Refusal::Judged(index))),
-        None => {
-            let text = tagged(alloc, message)?;
-            match into_writer(&text, out) {
-                Ok(()) => Ok(Verdict::Passed),
-                Err(_) => Err(ItemFault::Write),
-            }
-        }
+        None => match write_message(alloc, message, out) {
+            Ok(()) => Ok(Verdict::Passed),
+            Err(fault) => Err(fault),
+        },
     }
 }

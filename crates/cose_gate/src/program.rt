@@ -1,6 +1,5 @@
 //! The program: the gate over one input, with a line that says how it ended.
 ghost use Rattle.std.specs.Prelude.{◌≡◌, ◌<◌, [], Some, IsOk, OnOk};
-ghost use Rattle.ciborium.specs.Reading.{Known};
 ghost use Rattle.cose_gate.specs.Program.{Gated, Ran};
 
 use crate::gating::{Counts, GateFault, gate};
@@ -33,7 +32,7 @@ fn gate_all<R: Read, W: Write>(
     input: &mut R,
     out: &mut W,
 ) -> Result<Counts, GateFault<R::Error>>
-    ensures ran { Known (R.left input.old) (λ b. Gated (W.written out.old) (W.written out.new) b result) }
+    ensures ran { Gated (R.left input.old) (W.written out.old) (W.written out.new) result }
     ensures nothing { R.left input.old ≡ Some [] → R.failed input.new ≡ R.failed input.old → IsOk result }
     ensures reader { OnOk result (R.failed input.new ≡ R.failed input.old) }
     ensures writer { OnOk result (W.failed out.new ≡ W.failed out.old) }
@@ -91,8 +90,9 @@ pub fn run_first<R: Read, W: Write, E: Write>(
     out: &mut W,
     err: &mut E,
 ) -> u8
-    ensures ran { Known (R.left input.old) (λ b. Ran (W.written out.old) (W.written out.new) b result) }
-    ensures nothing { R.left input.old ≡ Some [] → R.failed input.new ≡ R.failed input.old → W.failed out.new ≡ W.failed out.old → result ≡ 0 }
+    ensures ran { Ran (R.left input.old) (W.written out.old) (W.written out.new) result }
+    ensures nothing { R.left input.old ≡ Some [] → R.failed input.new ≡ R.failed input.old → W.failed out.new ≡ W.failed out.old
+        → result ≡ 0 }
     ensures steady { result < 2 → (R.failed input.new ≡ R.failed input.old) × (W.failed out.new ≡ W.failed out.old) }
 {
     let gated = gate_all(alloc, input, out);

@@ -42,7 +42,7 @@ fn front(signature: &[u8]) -> [u8; 8]
 }
 
 impl Recorder {
-    ghost use Rattle.cose_gate.specs.Recorder.{asked_of, refused_of};
+    ghost use Rattle.cose_gate.specs.Recorded.{asked_of, refused_of};
 
     /// A recorder with no question yet, that says no to the signature `no`, where there is one, and yes to any other.
     pub fn new(alloc: Global, no: Option<Vec<u8>>) -> Recorder
@@ -67,7 +67,7 @@ impl Recorder {
 }
 
 impl Judge for Recorder {
-    ghost use Rattle.cose_gate.specs.Recorder.{asked_of, refused_of};
+    ghost use Rattle.cose_gate.specs.Recorded.{asked_of, refused_of};
 
     ghost Who = { Option (List ℕ) };
 
@@ -77,7 +77,8 @@ impl Judge for Recorder {
 
     ghost told = { asked_of };
 
-    ghost holds = { λ s subject bytes. (s.kind ≡ subject.kind) × (s.structure.items ≡ bytes) × (vec_len s.asked < vec_capacity s.asked) };
+    ghost holds = { λ s subject bytes.
+        (s.kind ≡ subject.kind) × (s.structure.items ≡ bytes) × (vec_len s.asked < vec_capacity s.asked) };
 
     ghost pieces = { λ s. s.pieces.items };
 
@@ -86,8 +87,8 @@ impl Judge for Recorder {
     ghost decided = { λ told q. told ++ kept_of q ∷ [] };
 
     fn begin(&mut self, about: &About) -> Result<(), AllocError> {
-        self.structure.clear();
         self.asked.reserve(1)?;
+        self.structure.clear();
         self.kind = about.kind;
         self.pieces = Log::new();
         Ok(())

@@ -18,8 +18,6 @@ mod key_parameters;
 mod keys;
 mod number;
 mod tags;
-#[cfg(test)]
-mod tests;
 
 pub use crate::algorithm::{ALGORITHM_PRIVATE_USE_MAX, Algorithm};
 pub use crate::claims::{CWT_CLAIM_PRIVATE_USE_MAX, CwtClaimName};

@@ -5,8 +5,6 @@ pub mod laws;
 mod parts;
 mod recipient;
 mod sign;
-#[cfg(test)]
-mod tests;
 
 pub use crate::recipient::CoseRecipient;
 pub use crate::sign::CoseSign1;

@@ -18,9 +18,9 @@ invariant-items g l =
       room : l.counts.passed + l.counts.refused + offset_of l.fn.decoder ≤ offset_of l.decoder;
       reached : Reached
           (record { decided = j.decided; folded = p.folded; allows = j.yes (j.who l.fn.judge); aad = l.aad })
-          (record { told = j.told l.fn.judge; state = p.state l.fn.report; written = w.written l.fn.out })
-          (record { told = j.told l.judge; state = p.state l.report; written = w.written l.out })
-          (left_of r.left l.fn.decoder) (left_of r.left l.decoder) (offset_of l.fn.decoder) (offset_of l.decoder) l.counts.passed l.counts.refused;
+          (record { told = j.told l.fn.judge; state = p.state l.fn.report; written = w.written l.fn.out; offset = offset_of l.fn.decoder; left = left_of r.left l.fn.decoder })
+          (record { told = j.told l.judge; state = p.state l.report; written = w.written l.out; offset = offset_of l.decoder; left = left_of r.left l.decoder })
+          l.counts.passed l.counts.refused;
     }
 
 abbrev pub decreases-items : goal.decreases-items

@@ -1,0 +1,14 @@
+//! Tests of `cose_gate`, by its public names alone: what no clause says, as that runs succeed, texts, statuses, and readers, writers,
+//! judges and reports that fail in mid-stream.
+#![tactic(auto)]
+
+#[cfg(test)]
+mod devices;
+#[cfg(test)]
+mod examples;
+#[cfg(test)]
+mod program;
+#[cfg(test)]
+mod runs;
+#[cfg(test)]
+mod texts;
