@@ -1,11 +1,13 @@
 -- What the gate's answer says of a relay.
-use Rattle.std.proofs.Common.{◌≡◌, ℕ, List, [], ◌∷◌, ◌++◌, length, Option, Some, Bool, refl, subst, sym, ◌∙◌, append_assoc, append-nil, zero-add}
+use Rattle.std.proofs.Common.{◌≡◌, ℕ, ◌+◌, List, [], ◌∷◌, ◌++◌, length, Option, Some, Bool, refl, ap, subst, sym, ◌∙◌, append_assoc, append-nil, zero-add}
+use Rattle.std.proofs.lemmas.Grind.{flat_map-append}
 use Rattle.std.specs.Prelude.{Result, Err}
 use Rattle.std.specs.Io.KnownBytes.{Appends}
+use Rattle.cose_gate.specs.Reading.{Known}
 use Rattle.cose_gate.specs.Questions.{Question}
 use Rattle.cose_gate.specs.Asked.{folded_over}
-use Rattle.cose_gate.specs.Run.{questions_of, entries_of}
-use Rattle.cose_gate.specs.Outcome.{Rules, Seen, Told, Whole, Outcome, Answers}
+use Rattle.cose_gate.specs.Run.{Step, Course, asked_of, questions_of}
+use Rattle.cose_gate.specs.Outcome.{Rules, Seen, IsFaultOf, Whole, Outcome, Answers}
 use Rattle.cose_gate.specs.declared.gating.Counts.{Counts}
 use Rattle.cose_gate.specs.declared.gating.GateFault.{GateFault}
 use Rattle.cose_gate.specs.declared.gating.GateFault.TheVariants as gating
@@ -27,11 +29,11 @@ abbrev sides : Seen (List (List ℕ)) Tallied → Sides
 sides s = record { asked = s.told; tally = s.state }
 
 module _ (ids : List (List ℕ)) (aad input : List ℕ) (old new : Seen (List (List ℕ)) Tallied) where
-  pub whole : (output : List ℕ) (counts : Counts) → old.written ≡ Some [] → new.written ≡ Some output → Whole (by ids aad) old new 0 input counts
+  pub whole : (output : List ℕ) (counts : Counts) → old.offset ≡ 0 → old.written ≡ Some [] → new.written ≡ Some output → Whole (by ids aad) old new input counts
       → Relayed ids aad input (sides old) (sides new) output counts
-  whole output counts none out w = record {
+  whole output counts start none out w = record {
     steps = w.steps;
-    course = w.course;
+    course = subst (λ (n : ℕ). Course (allows ids) aad n input w.steps []) start w.course;
     output_is = written none out w.made.written;
     passed = w.passed;
     refused = w.refused;
@@ -43,46 +45,49 @@ module _ (ids : List (List ℕ)) (aad input : List ℕ) (old new : Seen (List (L
       written {xs} a b p = let q = subst (λ (z : Option (List ℕ)). Appends z new.written xs) a p in
           let r = subst (λ (z : Option (List ℕ)). Appends (Some []) z xs) b q in r
 
-module _ {E : Type 0} (ends : E → Bool) (ids : List (List ℕ)) (aad input : List ℕ) (old new : Seen (List (List ℕ)) Tallied) where
-  -- the bytes to come are the input
-  pub over : (at : ℕ) (left : Option (List ℕ)) (r : Result Counts (GateFault E)) → at ≡ 0 → left ≡ Some input
-      → Answers ends (by ids aad) old new at left r → Outcome ends (by ids aad) old new 0 input r
-  over at left r z is a = subst (λ (n : ℕ). Outcome ends (by ids aad) old new n input r) z (a.outcome input is)
+  module _ {E : Type 0} (ends : E → Bool) where
+    -- the bytes to come are the input
+    pub over : (r : Result Counts (GateFault E)) → old.left ≡ Some input → Answers ends (by ids aad) old new r → Outcome ends (by ids aad) old new input r
+    over r is a = let e : input ≡ a.input = subst (λ (l : Option (List ℕ)). Known l (λ b. b ≡ a.input)) is a.is in
+        subst (λ (i : List ℕ). Outcome ends (by ids aad) old new i r) (sym e) a.outcome
 
-  pub halted : (fault : GateFault E) → Outcome ends (by ids aad) old new 0 input (Err fault) → Halted ends ids aad input (sides old) (sides new) fault
-  halted (gating.Decode e) w = record {
-    steps = w.steps;
-    more = w.more;
-    course = w.course;
-    questions = questions_of (allows ids) aad w.steps;
-    questions_front = record { more = []; whole = sym (append-nil (questions_of (allows ids) aad w.steps)) };
-    asked = w.made.told ∙ told_all old.told (questions_of (allows ids) aad w.steps);
-    noted = entries_of w.steps;
-    noted_front = record { more = []; whole = sym (append-nil (entries_of w.steps)) };
-    tally = w.made.state;
-    due = ((refl, refl), subst (λ (n : ℕ). Told ends n w.more e) (zero-add (length input)) w.fault);
-  }
-  halted gating.Write w = record {
-    steps = w.steps;
-    more = w.more;
-    course = w.course;
-    questions = w.begun.asked;
-    questions_front = w.begun.asked_front;
-    asked = w.begun.told ∙ told_all old.told w.begun.asked;
-    noted = w.begun.noted;
-    noted_front = w.begun.noted_front;
-    tally = w.begun.state;
-    due = tt;
-  }
-  halted gating.Memory w = record {
-    steps = w.steps;
-    more = w.more;
-    course = w.course;
-    questions = w.begun.asked;
-    questions_front = w.begun.asked_front;
-    asked = w.begun.told ∙ told_all old.told w.begun.asked;
-    noted = w.begun.noted;
-    noted_front = w.begun.noted_front;
-    tally = w.begun.state;
-    due = tt;
-  }
+    pub halted : (fault : GateFault E) → old.offset ≡ 0 → old.left ≡ Some input → Outcome ends (by ids aad) old new input (Err fault)
+        → Halted ends ids aad input (sides old) (sides new) fault
+    halted (gating.Decode e) start is w = record {
+      done = w.steps;
+      last = [];
+      more = w.more;
+      course = subst (λ (ss : List Step). Course (allows ids) aad 0 input ss w.more) (sym (append-nil w.steps)) (subst (λ (n : ℕ). Course (allows ids) aad n input w.steps w.more) start w.course);
+      asked = [];
+      asked_front = record { more = []; whole = refl };
+      told = w.made.told ∙ (told_all old.told (questions_of (allows ids) aad w.steps)
+          ∙ ap (λ qs. old.told ++ key_ids_of qs) (sym (append-nil (questions_of (allows ids) aad w.steps))));
+      tally = w.made.state;
+      due = (refl, fault_at (subst (λ (l : Option (List ℕ)). Known l (λ b. IsFaultOf ends (old.offset + length b) w.more e)) is w.fault));
+    }
+      where
+        fault_at : IsFaultOf ends (old.offset + length input) w.more e → IsFaultOf ends (length input) w.more e
+        fault_at f = subst (λ (n : ℕ). IsFaultOf ends n w.more e) (ap (λ n. n + length input) start ∙ zero-add (length input)) f
+    halted gating.Write start is w = record {
+      done = w.done;
+      last = w.last ∷ [];
+      more = w.more;
+      course = subst (λ (n : ℕ). Course (allows ids) aad n input (w.done ++ w.last ∷ []) w.more) start w.course;
+      asked = questions_of (allows ids) aad (w.last ∷ []);
+      asked_front = record { more = []; whole = sym (append-nil (questions_of (allows ids) aad (w.last ∷ []))) };
+      told = w.told ∙ (told_all old.told (questions_of (allows ids) aad (w.done ++ w.last ∷ []))
+          ∙ ap (λ qs. old.told ++ key_ids_of qs) (flat_map-append (λ s. asked_of (allows ids) aad s.finding) w.done (w.last ∷ [])));
+      tally = w.state;
+      due = tt;
+    }
+    halted gating.Memory start is w = record {
+      done = w.done;
+      last = w.last;
+      more = w.more;
+      course = subst (λ (n : ℕ). Course (allows ids) aad n input (w.done ++ w.last) w.more) start w.course;
+      asked = w.asked;
+      asked_front = w.asked_front;
+      told = w.told ∙ told_all old.told (questions_of (allows ids) aad w.done ++ w.asked);
+      tally = w.state;
+      due = tt;
+    }

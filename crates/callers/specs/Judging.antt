@@ -5,8 +5,7 @@ use Rattle.std.specs.Str.{bytes_eq}
 use Rattle.cose_gate.specs.Questions.{Subject, Question}
 use Rattle.cose_gate.specs.Asked.{IsFront, folded_over}
 use Rattle.cose_gate.specs.Run.{Step, Course, questions_of, output_of, entries_of, passed_count, refused_count}
-use Rattle.cose_gate.specs.Outcome.{Told}
-use Rattle.cose_gate.specs.declared.report.Entry.{Entry}
+use Rattle.cose_gate.specs.Outcome.{IsFaultOf}
 use Rattle.cose_gate.specs.declared.gating.Counts.{Counts}
 use Rattle.cose_gate.specs.declared.gating.GateFault.{GateFault}
 use Rattle.cose_gate.specs.declared.gating.GateFault.TheVariants.{Decode, Write, Memory}
@@ -51,22 +50,21 @@ pub record Relayed (ids : List (List ℕ)) (aad input : List ℕ) (old new : Sid
   pub asked : new.asked ≡ old.asked ++ key_ids_of (questions_of (allows ids) aad steps)
   pub tally : new.tally ≡ folded_over tallied old.tally (entries_of steps)
 
--- the fault of the bytes that no item was read of, before which all steps were made
-abbrev pub IsDue : {E : Type 0} → (E → Bool) → ℕ → List ℕ → Type 0 → GateFault E → Type 0
-IsDue ends stop more all (Decode e) = all × Told ends stop more e
-IsDue ends stop more all Write = Unit {0}
-IsDue ends stop more all Memory = Unit {0}
+-- of a fault of the bytes: no item was read of the next, and it is theirs
+abbrev pub IsDue : {E : Type 0} → (E → Bool) → ℕ → List ℕ → List Step → GateFault E → Type 0
+IsDue ends stop more last (Decode e) = (last ≡ []) × IsFaultOf ends stop more e
+IsDue ends stop more last Write = Unit {0}
+IsDue ends stop more last Memory = Unit {0}
 
--- the input was gone through up to some place: the judge was asked a beginning of the questions, and the tally counts a beginning of
--- the entries
+-- the input was gone through up to some place: the judge was asked the questions of the steps that are done and a beginning of those
+-- of the last, and the tally counts the steps that are done
 pub record Halted {E : Type 0} (ends : E → Bool) (ids : List (List ℕ)) (aad input : List ℕ) (old new : Sides) (fault : GateFault E) : Type 0 where
-  pub steps : List Step
+  pub done : List Step
+  pub last : List Step
   pub more : List ℕ
-  pub course : Course (allows ids) aad 0 input steps more
-  pub questions : List Question
-  pub questions_front : IsFront questions (questions_of (allows ids) aad steps)
-  pub asked : new.asked ≡ old.asked ++ key_ids_of questions
-  pub noted : List Entry
-  pub noted_front : IsFront noted (entries_of steps)
-  pub tally : new.tally ≡ folded_over tallied old.tally noted
-  pub due : IsDue ends (length input) more ((questions ≡ questions_of (allows ids) aad steps) × (noted ≡ entries_of steps)) fault
+  pub course : Course (allows ids) aad 0 input (done ++ last) more
+  pub asked : List Question
+  pub asked_front : IsFront asked (questions_of (allows ids) aad last)
+  pub told : new.asked ≡ old.asked ++ key_ids_of (questions_of (allows ids) aad done ++ asked)
+  pub tally : new.tally ≡ folded_over tallied old.tally (entries_of done)
+  pub due : IsDue ends (length input) more last fault

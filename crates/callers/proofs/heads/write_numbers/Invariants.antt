@@ -1,4 +1,4 @@
-use Rattle.std.proofs.Common.{◌≡◌, ◌++◌, ℕ, List, length, take, Some}
+use Rattle.std.proofs.Common.{◌≡◌, ◌++◌, length, take, Some}
 use Rattle.std.specs.Prelude.{flat_map}
 use Rattle.ciborium_ll.specs.Title.{title_of}
 use Rattle.ciborium_ll.specs.Views.{memory_of, writer_of}
