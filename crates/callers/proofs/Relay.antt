@@ -1,0 +1,93 @@
+-- What the gate's answer says of a relay.
+use Rattle.std.proofs.Common.{◌≡◌, ℕ, ◌+◌, List, [], ◌∷◌, ◌++◌, length, Option, Some, Bool, refl, ap, subst, sym, ◌∙◌, append_assoc, append-nil, zero-add}
+use Rattle.std.proofs.lemmas.Grind.{flat_map-append}
+use Rattle.std.specs.Prelude.{Result, Err}
+use Rattle.std.specs.Io.KnownBytes.{Appends}
+use Rattle.cose_gate.specs.Reading.{Known}
+use Rattle.cose_gate.specs.Questions.{Question}
+use Rattle.cose_gate.specs.Asked.{folded_over}
+use Rattle.cose_gate.specs.Run.{Step, Course, asked_of, questions_of}
+use Rattle.cose_gate.specs.Outcome.{Rules, Seen, IsFaultOf, Whole, Outcome, Answers}
+use Rattle.cose_gate.specs.declared.gating.Counts.{Counts}
+use Rattle.cose_gate.specs.declared.gating.GateFault.{GateFault}
+use Rattle.cose_gate.specs.declared.gating.GateFault.TheVariants as gating
+use Rattle.callers.specs.Judging.{key_id_of, key_ids_of, allows, Sides, Relayed, Halted}
+use Rattle.callers.specs.Tallies.{Tallied, tallied}
+
+abbrev pub decided : List (List ℕ) → Question → List (List ℕ)
+decided told q = told ++ key_id_of q.subject ∷ []
+
+-- questions that are told one after another stand one after another
+told_all : (told : List (List ℕ)) (qs : List Question) → folded_over decided told qs ≡ told ++ key_ids_of qs
+told_all told [] = sym (append-nil told)
+told_all told (q ∷ qs) = told_all (told ++ key_id_of q.subject ∷ []) qs ∙ append_assoc told (key_id_of q.subject ∷ []) (key_ids_of qs)
+
+abbrev pub by : List (List ℕ) → List ℕ → Rules (List (List ℕ)) Tallied
+by ids aad = record { decided = decided; folded = tallied; allows = allows ids; aad = aad }
+
+abbrev sides : Seen (List (List ℕ)) Tallied → Sides
+sides s = record { asked = s.told; tally = s.state }
+
+module _ (ids : List (List ℕ)) (aad input : List ℕ) (old new : Seen (List (List ℕ)) Tallied) where
+  pub whole : (output : List ℕ) (counts : Counts) → old.offset ≡ 0 → old.written ≡ Some [] → new.written ≡ Some output → Whole (by ids aad) old new input counts
+      → Relayed ids aad input (sides old) (sides new) output counts
+  whole output counts start none out w = record {
+    steps = w.steps;
+    course = subst (λ (n : ℕ). Course (allows ids) aad n input w.steps []) start w.course;
+    output_is = written none out w.made.written;
+    passed = w.passed;
+    refused = w.refused;
+    asked = w.made.told ∙ told_all old.told (questions_of (allows ids) aad w.steps);
+    tally = w.made.state;
+  }
+    where
+      written : {xs : List ℕ} → old.written ≡ Some [] → new.written ≡ Some output → Appends old.written new.written xs → output ≡ xs
+      written {xs} a b p = let q = subst (λ (z : Option (List ℕ)). Appends z new.written xs) a p in
+          let r = subst (λ (z : Option (List ℕ)). Appends (Some []) z xs) b q in r
+
+  module _ {E : Type 0} (ends : E → Bool) where
+    -- the bytes to come are the input
+    pub over : (r : Result Counts (GateFault E)) → old.left ≡ Some input → Answers ends (by ids aad) old new r → Outcome ends (by ids aad) old new input r
+    over r is a = let e : input ≡ a.input = subst (λ (l : Option (List ℕ)). Known l (λ b. b ≡ a.input)) is a.is in
+        subst (λ (i : List ℕ). Outcome ends (by ids aad) old new i r) (sym e) a.outcome
+
+    pub halted : (fault : GateFault E) → old.offset ≡ 0 → old.left ≡ Some input → Outcome ends (by ids aad) old new input (Err fault)
+        → Halted ends ids aad input (sides old) (sides new) fault
+    halted (gating.Decode e) start is w = record {
+      done = w.steps;
+      last = [];
+      more = w.more;
+      course = subst (λ (ss : List Step). Course (allows ids) aad 0 input ss w.more) (sym (append-nil w.steps)) (subst (λ (n : ℕ). Course (allows ids) aad n input w.steps w.more) start w.course);
+      asked = [];
+      asked_front = record { more = []; whole = refl };
+      told = w.made.told ∙ (told_all old.told (questions_of (allows ids) aad w.steps)
+          ∙ ap (λ qs. old.told ++ key_ids_of qs) (sym (append-nil (questions_of (allows ids) aad w.steps))));
+      tally = w.made.state;
+      due = (refl, fault_at (subst (λ (l : Option (List ℕ)). Known l (λ b. IsFaultOf ends (old.offset + length b) w.more e)) is w.fault));
+    }
+      where
+        fault_at : IsFaultOf ends (old.offset + length input) w.more e → IsFaultOf ends (length input) w.more e
+        fault_at f = subst (λ (n : ℕ). IsFaultOf ends n w.more e) (ap (λ n. n + length input) start ∙ zero-add (length input)) f
+    halted gating.Write start is w = record {
+      done = w.done;
+      last = w.last ∷ [];
+      more = w.more;
+      course = subst (λ (n : ℕ). Course (allows ids) aad n input (w.done ++ w.last ∷ []) w.more) start w.course;
+      asked = questions_of (allows ids) aad (w.last ∷ []);
+      asked_front = record { more = []; whole = sym (append-nil (questions_of (allows ids) aad (w.last ∷ []))) };
+      told = w.told ∙ (told_all old.told (questions_of (allows ids) aad (w.done ++ w.last ∷ []))
+          ∙ ap (λ qs. old.told ++ key_ids_of qs) (flat_map-append (λ s. asked_of (allows ids) aad s.finding) w.done (w.last ∷ [])));
+      tally = w.state;
+      due = tt;
+    }
+    halted gating.Memory start is w = record {
+      done = w.done;
+      last = w.last;
+      more = w.more;
+      course = subst (λ (n : ℕ). Course (allows ids) aad n input (w.done ++ w.last) w.more) start w.course;
+      asked = w.asked;
+      asked_front = w.asked_front;
+      told = w.told ∙ told_all old.told (questions_of (allows ids) aad w.done ++ w.asked);
+      tally = w.state;
+      due = tt;
+    }

@@ -1,0 +1,4 @@
+pub mod Heads
+pub mod Judging
+pub mod Sides
+pub mod Tallies

@@ -1,0 +1,173 @@
+//! Items read and written. `ciborium` is the one crate that it names.
+ghost use Rattle.std.specs.Prelude.{◌≡◌, ◌≢◌, ◌++◌, ℕ, List, [], Option, None, Some, IfOk, IfErr, IfSome, IfNone, OnOk, MatchOption, pos, string_bytes, codes};
+ghost use Rattle.ciborium.specs.Tree as tree;
+ghost use Rattle.ciborium.specs.View.{view};
+ghost use Rattle.ciborium.specs.Items.{nesting};
+ghost use Rattle.ciborium.specs.Typed.{ReadsAs};
+ghost use Rattle.ciborium.specs.Encoding.{enc};
+
+use ciborium::de::{self, Deserialize};
+use ciborium::ser::Serialize;
+use ciborium::tag::{Captured, Required};
+use ciborium::value::{Error, Value, ValueTyped};
+use ciborium::{End, Mem, cbor, from_reader, into_writer};
+use std::alloc::{AllocError, Global};
+use std::collections::BTreeMap;
+
+/// The value that the whole input is an item of, or none where bytes follow the item.
+pub fn read_whole<T: Deserialize>(alloc: Global, input: &[u8]) -> Result<Option<T>, de::Error<End>>
+    ensures { IfOk result (λ o. IfSome o (λ x. ReadsAs T.refusal T.takes nesting x input.now)) }
+{
+    let mut rest = input;
+    let value = from_reader(alloc, &mut rest)?;
+    if rest.is_empty() {
+        Ok(Some(value))
+    } else {
+        Ok(None)
+    }
+}
+
+/// The text of the item that a value is written as.
+///
+/// # Errors
+/// Only where memory is refused.
+pub fn text_of<T: Serialize>(alloc: Global, value: &T) -> Result<Vec<u8>, AllocError>
+    ensures { IfOk result (λ text. text.items ≡ enc (T.put value.now)) }
+{
+    let mut out = Mem::new(Vec::new(alloc));
+    match into_writer(value, &mut out) {
+        Ok(()) => Ok(out.into_inner()),
+        Err(_) => Err(AllocError),
+    }
+}
+
+/// A map of a name.
+///
+/// # Errors
+/// Only where memory is refused.
+pub fn named(alloc: Global, name: &str) -> Result<Value, Error>
+    ensures { IfOk result (λ v. view v ≡ tree.map (tree.pair_more (tree.integer (pos 1)) (tree.text name.now) tree.no_pairs)) }
+{
+    cbor!(alloc, {1u8 => name})
+}
+
+/// The number of an integer value that is 0 or more.
+pub fn natural(value: &Value) -> Option<u64>
+    ensures { IfSome result (λ n. view value.now ≡ tree.integer (pos n)) }
+{
+    match value.as_integer() {
+        Some(number) => u64::try_from(number).ok(),
+        None => None,
+    }
+}
+
+/// The text of a value, or the value where it is none.
+pub fn text_or_back(value: Value) -> Result<String, Value>
+    ensures ok { IfOk result (λ s. view value ≡ tree.text (string_bytes s)) }
+    ensures err { IfErr result (λ back. view back ≡ view value) }
+{
+    value.into_text()
+}
+
+/// A value made of a typed value.
+pub fn value_of<T: Serialize>(alloc: Global, x: &T) -> Result<Value, Error>
+    ensures { IfOk result (λ v. view v ≡ T.put x.now) }
+{
+    Value::serialized(alloc, x)
+}
+
+/// The points of a name in a map at the front of the input, which goes on behind it.
+///
+/// # Errors
+/// The fault of the bytes, or `Semantic` where the item is no such map.
+pub fn points_of(
+    alloc: Global,
+    input: &mut &[u8],
+    name: &str,
+) -> Result<Option<u64>, de::Error<End>> {
+    let points: BTreeMap<String, u64> = from_reader(alloc, input)?;
+    Ok(points.get(name).copied())
+}
+
+/// The first number of a list that is there in seconds, which tag 1 says (RFC 8949, section 3.4.2).
+pub fn first_time(alloc: Global, input: &mut &[u8]) -> Result<Option<u64>, de::Error<End>> {
+    let times: Vec<Option<Required<u64, 1>>> = from_reader(alloc, input)?;
+    for time in times {
+        if let Some(Required(seconds)) = time {
+            return Ok(Some(seconds));
+        }
+    }
+    Ok(None)
+}
+
+/// A pair of a text and a number, whatever tag stands around it.
+///
+/// # Errors
+/// The fault of the bytes, or `Semantic` where the item is no such pair.
+pub fn labelled(alloc: Global, input: &mut &[u8]) -> Result<Captured<(String, u64)>, de::Error<End>>
+    ensures { IfOk result (λ c. (front : List ℕ) × (input.old.now ≡ front ++ input.new.now)
+        × ReadsAs ⟦<Captured<(String, u64)> as Deserialize>⟧.refusal ⟦<Captured<(String, u64)> as Deserialize>⟧.takes nesting c front) }
+{
+    from_reader(alloc, input)
+}
+
+/// Puts a value into the array that another is, and says whether that one is an array.
+pub fn push_into(array: &mut Value, item: Value) -> Result<bool, AllocError> {
+    match array.as_array_mut() {
+        Some(items) => {
+            items.push(item)?;
+            Ok(true)
+        }
+        None => Ok(false),
+    }
+}
+
+#[cfg(test)]
+mod tests {
+    use super::{
+        first_time, labelled, named, natural, points_of, push_into, read_whole, text_of, value_of,
+    };
+    use ciborium::cbor;
+    use ciborium::tag::Captured;
+    use ciborium::value::{Value, ValueTyped};
+    use std::test::Fail;
+
+    #[test]
+    fn maps_and_tags_are_read(rt: HostRuntime) -> Result<(), Fail> {
+        let alloc = rt.alloc();
+        let bytes = [0xa2, 0x61, 0x61, 0x01, 0x61, 0x62, 0x18, 0x64, 0x00];
+        let mut input = &bytes[..];
+        assert_eq!(rt; points_of(alloc, &mut input, "b")?, Some(100));
+        assert_eq!(rt; input.len(), 1);
+        let bytes = [0x82, 0xf6, 0xc1, 0x07];
+        let mut input = &bytes[..];
+        assert_eq!(rt; first_time(alloc, &mut input)?, Some(7));
+        let bytes = [0xd8, 0x20, 0x82, 0x61, 0x61, 0x05];
+        let mut input = &bytes[..];
+        let Captured(tag, (text, n)) = labelled(alloc, &mut input)?;
+        assert_eq!(rt; tag, Some(32));
+        assert_eq!(rt; text.as_str(), "a");
+        assert_eq!(rt; n, 5);
+        assert_eq!(rt; read_whole::<u8>(alloc, &[0x00, 0x00])?, None);
+        Ok(())
+    }
+
+    #[test]
+    fn values_are_made_and_written(rt: HostRuntime) -> Result<(), Fail> {
+        let alloc = rt.alloc();
+        let mut list = cbor!(alloc, [named(alloc, "a")?, 7])?;
+        assert!(rt; push_into(&mut list, value_of(alloc, &true)?)?);
+        let text = text_of(alloc, &list)?;
+        assert_eq!(rt;
+            text.as_slice(),
+            [0x83, 0xa1, 0x01, 0x61, 0x61, 0x07, 0xf5].as_slice()
+        );
+        assert_eq!(rt; read_whole::<Value>(alloc, &text)?, Some(list));
+        assert_eq!(rt; natural(&cbor!(alloc, 7)?), Some(7));
+        assert_eq!(rt;
+            cbor!(alloc, [1, 2])?.deserialized::<(u8, u8)>(alloc)?,
+            (1, 2)
+        );
+        Ok(())
+    }
+}
