@@ -7,7 +7,7 @@ use Rattle.cose_gate.specs.Reading.{Known}
 use Rattle.cose_gate.specs.Questions.{Question}
 use Rattle.cose_gate.specs.Asked.{folded_over}
 use Rattle.cose_gate.specs.Run.{Step, Course, asked_of, questions_of}
-use Rattle.cose_gate.specs.Outcome.{Rules, Seen, IsFaultOf, Whole, Outcome, Answers}
+use Rattle.cose_gate.specs.Outcome.{Rules, Sight, IsFaultOf, Whole, Outcome, Answers}
 use Rattle.cose_gate.specs.declared.gating.Counts.{Counts}
 use Rattle.cose_gate.specs.declared.gating.GateFault.{GateFault}
 use Rattle.cose_gate.specs.declared.gating.GateFault.TheVariants as gating
@@ -25,10 +25,10 @@ told_all told (q ∷ qs) = told_all (told ++ key_id_of q.subject ∷ []) qs ∙ 
 abbrev pub by : List (List ℕ) → List ℕ → Rules (List (List ℕ)) Tallied
 by ids aad = record { decided = decided; folded = tallied; allows = allows ids; aad = aad }
 
-abbrev sides : Seen (List (List ℕ)) Tallied → Sides
+abbrev sides : Sight (List (List ℕ)) Tallied → Sides
 sides s = record { asked = s.told; tally = s.state }
 
-module _ (ids : List (List ℕ)) (aad input : List ℕ) (old new : Seen (List (List ℕ)) Tallied) where
+module _ (ids : List (List ℕ)) (aad input : List ℕ) (old new : Sight (List (List ℕ)) Tallied) where
   pub whole : (output : List ℕ) (counts : Counts) → old.offset ≡ 0 → old.written ≡ Some [] → new.written ≡ Some output → Whole (by ids aad) old new input counts
       → Relayed ids aad input (sides old) (sides new) output counts
   whole output counts start none out w = record {

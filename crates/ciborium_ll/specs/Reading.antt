@@ -27,9 +27,6 @@ pub record Stops (left : Option (List ℕ)) (place place' : ℕ) (P : List ℕ �
   pub there : Starts left bytes
   pub grown : place' ≡ place + length bytes
 
-abbrev pub Takes : Option (List ℕ) → Option (List ℕ) → ℕ → ℕ → (List ℕ → Type 0) → Type 0
-Takes old new place place' P = Moves old new place place' P
-
 -- what a fault of the decoder tells: an end, a syntax fault at a place, and an offset that would grow too large
 abbrev pub Tells : {E : Type 0} → (E → Bool) → Type 0 → (ℕ → Type 0) → Type 0 → Error E → Type 0
 Tells ends cut syntax long (Io e) = IsTrue (ends e) → cut

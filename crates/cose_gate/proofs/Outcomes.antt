@@ -4,7 +4,7 @@ use Rattle.std.specs.Prelude.{Ok, Err}
 use Rattle.std.specs.Io.KnownBytes.{Consumes, Appends}
 use Rattle.std.proofs.KnownBytes.{Appends-trans}
 use Rattle.std.proofs.lemmas.Grind.{flat_map-append}
-use Rattle.ciborium_ll.specs.Reading.{Takes}
+use Rattle.ciborium_ll.specs.Reading.{Moves}
 use Rattle.ciborium_value.specs.Tree.{Tree}
 use Rattle.ciborium.specs.Front.{Reads}
 use Rattle.ciborium.specs.Items.{Sequence}
@@ -23,7 +23,7 @@ use Rattle.cose_gate.specs.Questions.{Question, MessageFields, questions}
 use Rattle.cose_gate.specs.Asked.{first_no, folded_over, IsFront}
 use Rattle.cose_gate.specs.Findings.{judged}
 use Rattle.cose_gate.specs.Run.{Step, Steps, judged_by, has_passed, passes, asked_of, written_of, questions_of, output_of, entries_of, passed_count, refused_count, Course}
-use Rattle.cose_gate.specs.Outcome.{Rules, Seen, Made, IsFaultOf, IsNext, IsReadFault, Answers}
+use Rattle.cose_gate.specs.Outcome.{Rules, Sight, Made, IsFaultOf, IsNext, IsReadFault, Answers}
 use Rattle.cose_gate.specs.Passing.{WentThrough, Half, HalfWritten, ItemFails, at_end, stopped_by}
 use Rattle.cose_gate.proofs.Nothing.{empty_damage}
 use Rattle.cose_gate.proofs.Reach.{reads_some, Reached, further, step_at, entry_at, told_then, questions_then, output_then, entries_then, verdict_passes, count_then, folded_append, sequence_more}
@@ -67,13 +67,13 @@ fault_from ends (Some a) (Some r) b p p' e c g k =
     subst (λ (n : ℕ). IsFaultOf ends n r e) s k
 
 module _ {T S : Type 0} (rules : Rules T S) where
-  written_then : (old new newer : Seen T S) (ss : List Step) (s : Step) → Appends old.written new.written (output_of rules.allows rules.aad ss)
+  written_then : (old new newer : Sight T S) (ss : List Step) (s : Step) → Appends old.written new.written (output_of rules.allows rules.aad ss)
       → Appends new.written newer.written (written_of rules.allows rules.aad s.finding) → Appends old.written newer.written (output_of rules.allows rules.aad (ss ++ s ∷ []))
   written_then old new newer ss s a b = subst (λ (z : List ℕ). Appends old.written newer.written z) (sym (output_then rules ss s))
       (Appends-trans old.written new.written newer.written (output_of rules.allows rules.aad ss) (written_of rules.allows rules.aad s.finding) a b)
 
   -- what was made stays made
-  still : (old new newer : Seen T S) (ss : List Step) → newer.told ≡ new.told → newer.state ≡ new.state → newer.written ≡ new.written → Made rules old new ss → Made rules old newer ss
+  still : (old new newer : Sight T S) (ss : List Step) → newer.told ≡ new.told → newer.state ≡ new.state → newer.written ≡ new.written → Made rules old new ss → Made rules old newer ss
   still old new newer ss told state writes m = record {
     told = told ∙ m.told;
     state = state ∙ m.state;
@@ -81,8 +81,8 @@ module _ {T S : Type 0} (rules : Rules T S) where
   }
 
   -- the item went through, and its entry was noted
-  pub reached_step : (old new newer : Seen T S) (passed refused passed' refused' : ℕ) → Reached rules old new passed refused
-      → (v : Tree) → Takes new.left newer.left new.offset newer.offset (λ (b : List ℕ). Reads b 256 v) → (verdict : Verdict)
+  pub reached_step : (old new newer : Sight T S) (passed refused passed' refused' : ℕ) → Reached rules old new passed refused
+      → (v : Tree) → Moves new.left newer.left new.offset newer.offset (λ (b : List ℕ). Reads b 256 v) → (verdict : Verdict)
       → WentThrough rules.decided rules.allows rules.aad v new.told newer.told new.written newer.written verdict
       → (e : Entry) → e ≡ entry_at (passed + refused + 1) new.offset verdict → newer.state ≡ rules.folded new.state e
       → passed' ≡ passed + cond (has_passed verdict) 1 0 → refused' ≡ refused + cond (not (has_passed verdict)) 1 0
@@ -109,14 +109,14 @@ module _ {T S : Type 0} (rules : Rules T S) where
       }
 
   -- the bytes that were there, and what is left of them
-  record Left (old new : Seen T S) (steps : List Step) (more : List ℕ) : Type 0 where
+  record Left (old new : Sight T S) (steps : List Step) (more : List ℕ) : Type 0 where
     pub input : List ℕ
     pub is : Known old.left (λ b. b ≡ input)
     pub behind : Known new.left (λ b. b ≡ more)
     pub course : Course rules.allows rules.aad old.offset input steps more
     pub stop : new.offset + length more ≡ old.offset + length input
 
-  left_after : (old new : Seen T S) (steps : List Step) → Takes old.left new.left old.offset new.offset (λ (b : List ℕ). Sequence old.offset b (map (λ s. s.item) steps) [])
+  left_after : (old new : Sight T S) (steps : List Step) → Moves old.left new.left old.offset new.offset (λ (b : List ℕ). Sequence old.offset b (map (λ s. s.item) steps) [])
       → Steps rules.allows rules.aad 1 steps → (more : List ℕ) → rest_of new.left ≡ more → Left old new steps more
   left_after old new steps t s more e =
       let g = t.grown in
@@ -134,7 +134,7 @@ module _ {T S : Type 0} (rules : Rules T S) where
   judged_step n o x v m = step_at o x v (judged m) (entry_at n o (judged_by (first_no rules.allows (questions m rules.aad))))
 
   -- Ok: no byte is left
-  pub answer_whole : {E : Type 0} (ends : E → Bool) (old new newer : Seen T S) (counts : Counts) → Reached rules old new counts.passed counts.refused
+  pub answer_whole : {E : Type 0} (ends : E → Bool) (old new newer : Sight T S) (counts : Counts) → Reached rules old new counts.passed counts.refused
       → newer.told ≡ new.told → newer.state ≡ new.state → newer.written ≡ new.written → IsNext new.left newer.left new.offset newer.offset None → Answers ends rules old newer (Ok counts)
   answer_whole ends old new newer counts r told state writes (none, stays) =
       let w = left_after old new r.done r.taken r.steps [] (rest_none new.left none) in
@@ -152,7 +152,7 @@ module _ {T S : Type 0} (rules : Rules T S) where
       }
 
   -- Memory, where all steps so far are made
-  memory_between : {E : Type 0} (ends : E → Bool) (old new newer : Seen T S) (passed refused : ℕ) → Reached rules old new passed refused
+  memory_between : {E : Type 0} (ends : E → Bool) (old new newer : Sight T S) (passed refused : ℕ) → Reached rules old new passed refused
       → newer.told ≡ new.told → newer.state ≡ new.state → newer.written ≡ new.written → Answers ends rules old newer (Err Memory)
   memory_between ends old new newer passed refused r told state writes =
       let w = left_after old new r.done r.taken r.steps (rest_of new.left) refl in
@@ -177,7 +177,7 @@ module _ {T S : Type 0} (rules : Rules T S) where
       }
 
   -- the fault of the bytes, or Memory of the reader
-  pub answer_read : {E : Type 0} (ends : E → Bool) (old new newer : Seen T S) (passed refused : ℕ) → Reached rules old new passed refused
+  pub answer_read : {E : Type 0} (ends : E → Bool) (old new newer : Sight T S) (passed refused : ℕ) → Reached rules old new passed refused
       → newer.told ≡ new.told → newer.state ≡ new.state → newer.written ≡ new.written → (f : GateFault E) → IsReadFault ends new.left new.offset f → Answers ends rules old newer (Err f)
   answer_read ends old new newer passed refused r told state writes (Decode e) d =
       let w = left_after old new r.done r.taken r.steps (rest_of new.left) refl in
@@ -197,8 +197,8 @@ module _ {T S : Type 0} (rules : Rules T S) where
   answer_read ends old new newer passed refused r told state writes Memory d = memory_between ends old new newer passed refused r told state writes
 
   -- Memory, where the judge was told a beginning of the questions about one more message
-  memory_asking : {E : Type 0} (ends : E → Bool) (old new newer : Seen T S) (passed refused : ℕ) → Reached rules old new passed refused
-      → (v : Tree) → Takes new.left newer.left new.offset newer.offset (λ (b : List ℕ). Reads b 256 v) → Half rules.decided rules.allows rules.aad v new.told newer.told
+  memory_asking : {E : Type 0} (ends : E → Bool) (old new newer : Sight T S) (passed refused : ℕ) → Reached rules old new passed refused
+      → (v : Tree) → Moves new.left newer.left new.offset newer.offset (λ (b : List ℕ). Reads b 256 v) → Half rules.decided rules.allows rules.aad v new.told newer.told
       → newer.state ≡ new.state → newer.written ≡ new.written → Answers ends rules old newer (Err Memory)
   unfolding judged_step step_at
   memory_asking ends old new newer passed refused r v t h state writes =
@@ -225,8 +225,8 @@ module _ {T S : Type 0} (rules : Rules T S) where
       }
 
   -- Write, in the text of one more message
-  write_within : {E : Type 0} (ends : E → Bool) (old new newer : Seen T S) (passed refused : ℕ) → Reached rules old new passed refused
-      → (v : Tree) → Takes new.left newer.left new.offset newer.offset (λ (b : List ℕ). Reads b 256 v) → HalfWritten rules.decided rules.allows rules.aad v new.told newer.told new.written newer.written
+  write_within : {E : Type 0} (ends : E → Bool) (old new newer : Sight T S) (passed refused : ℕ) → Reached rules old new passed refused
+      → (v : Tree) → Moves new.left newer.left new.offset newer.offset (λ (b : List ℕ). Reads b 256 v) → HalfWritten rules.decided rules.allows rules.aad v new.told newer.told new.written newer.written
       → newer.state ≡ new.state → Answers ends rules old newer (Err Write)
   unfolding judged_step step_at
   write_within ends old new newer passed refused r v t h state =
@@ -252,16 +252,16 @@ module _ {T S : Type 0} (rules : Rules T S) where
       }
 
   -- the item failed
-  pub answer_item : {E : Type 0} (ends : E → Bool) (old new newer : Seen T S) (passed refused : ℕ) → Reached rules old new passed refused
-      → (v : Tree) → Takes new.left newer.left new.offset newer.offset (λ (b : List ℕ). Reads b 256 v) → (f : ItemFault)
+  pub answer_item : {E : Type 0} (ends : E → Bool) (old new newer : Sight T S) (passed refused : ℕ) → Reached rules old new passed refused
+      → (v : Tree) → Moves new.left newer.left new.offset newer.offset (λ (b : List ℕ). Reads b 256 v) → (f : ItemFault)
       → ItemFails rules.decided rules.allows rules.aad v new.told newer.told new.written newer.written f → newer.state ≡ new.state → Answers ends rules old newer (Err (stopped_by f))
   answer_item ends old new newer passed refused r v t fault.Write h state = write_within ends old new newer passed refused r v t h state
   answer_item ends old new newer passed refused r v t fault.Memory (writes, inl told) state = memory_between ends old new newer passed refused r told state writes
   answer_item ends old new newer passed refused r v t fault.Memory (writes, inr half) state = memory_asking ends old new newer passed refused r v t half state writes
 
   -- Memory, where the item went through and the report refused its entry
-  pub answer_noting : {E : Type 0} (ends : E → Bool) (old new newer : Seen T S) (passed refused : ℕ) → Reached rules old new passed refused
-      → (v : Tree) → Takes new.left newer.left new.offset newer.offset (λ (b : List ℕ). Reads b 256 v) → (verdict : Verdict)
+  pub answer_noting : {E : Type 0} (ends : E → Bool) (old new newer : Sight T S) (passed refused : ℕ) → Reached rules old new passed refused
+      → (v : Tree) → Moves new.left newer.left new.offset newer.offset (λ (b : List ℕ). Reads b 256 v) → (verdict : Verdict)
       → WentThrough rules.decided rules.allows rules.aad v new.told newer.told new.written newer.written verdict → newer.state ≡ new.state → Answers ends rules old newer (Err Memory)
   unfolding step_at
   answer_noting ends old new newer passed refused r v t verdict k state =
@@ -308,7 +308,7 @@ unfolding entry_at
 same_entry n m o p v a b = rw (a, b) refl
 
 -- where no byte is left at the call, none was taken
-pub nothing_taken : {T S : Type 0} (rules : Rules T S) (old new : Seen T S) (n : ℕ) {m : ℕ} → Reached rules old new n m → old.left ≡ Some [] → (new.left ≡ Some []) × (new.offset ≡ old.offset)
+pub nothing_taken : {T S : Type 0} (rules : Rules T S) (old new : Sight T S) (n : ℕ) {m : ℕ} → Reached rules old new n m → old.left ≡ Some [] → (new.left ≡ Some []) × (new.offset ≡ old.offset)
 nothing_taken rules old new n r e = go new.left r.taken.bytes (subst (λ (l : Option (List ℕ)). Consumes l new.left r.taken.bytes) e r.taken.taken) r.taken.grown
   where
     go : (l : Option (List ℕ)) (b : List ℕ) → Consumes (Some []) l b → new.offset ≡ old.offset + length b → (l ≡ Some []) × (new.offset ≡ old.offset)
@@ -322,7 +322,7 @@ nothing_taken rules old new n r e = go new.left r.taken.bytes (subst (λ (l : Op
         empty (x ∷ xs) e = absurd (omega arith)
 
 -- no item is read of nothing
-pub nothing_read : (l₁ l₂ : Option (List ℕ)) (p₁ p₂ : ℕ) (v : Tree) → l₁ ≡ Some [] → Takes l₁ l₂ p₁ p₂ (λ (b : List ℕ). Reads b 256 v) → ⊥
+pub nothing_read : (l₁ l₂ : Option (List ℕ)) (p₁ p₂ : ℕ) (v : Tree) → l₁ ≡ Some [] → Moves l₁ l₂ p₁ p₂ (λ (b : List ℕ). Reads b 256 v) → ⊥
 nothing_read l₁ l₂ p₁ p₂ v e t = go l₂ (subst (λ (l : Option (List ℕ)). Consumes l l₂ t.bytes) e t.taken)
   where
     go : (l : Option (List ℕ)) → Consumes (Some []) l t.bytes → ⊥

@@ -11,7 +11,7 @@ use Rattle.cose_gate.specs.Questions.{Question}
 use Rattle.cose_gate.specs.Asked.{IsFront}
 use Rattle.cose_gate.specs.Recorded.{is_other}
 use Rattle.cose_gate.specs.Run.{Step, Course, written_of, output_of, refused_count}
-use Rattle.cose_gate.specs.Outcome.{Rules, Seen, Outcome, Answers}
+use Rattle.cose_gate.specs.Outcome.{Rules, Sight, Outcome, Answers}
 use Rattle.cose_gate.specs.Program.{allows_all, GatedOver, Gated, Through, InPart, Ran}
 use Rattle.cose_gate.specs.declared.report.Entry.{Entry}
 use Rattle.cose_gate.specs.declared.gating.Counts.{Counts}
@@ -35,7 +35,7 @@ due_none (Some b) = refl
 from_place : (at : ℕ) (b : List ℕ) (steps : List Step) (more : List ℕ) → at ≡ 0 → Course allows_all [] at b steps more → Course allows_all [] 0 b steps more
 from_place at b steps more z c = subst (λ (n : ℕ). Course allows_all [] n b steps more) z c
 
-module _ {T S E : Type 0} (ends : E → Bool) (decided : T → Question → T) (folded : S → Entry → S) (old new : Seen T S) where
+module _ {T S E : Type 0} (ends : E → Bool) (decided : T → Question → T) (folded : S → Entry → S) (old new : Sight T S) where
   abbrev by : Option (List ℕ) → Rules T S
   by refused = record { decided = decided; folded = folded; allows = λ q. is_other refused q.signature; aad = [] }
 

@@ -6,7 +6,7 @@ use Rattle.std.proofs.KnownBytes.{Consumes-nil, Consumes-trans, Appends-nil}
 use Rattle.std.proofs.lemmas.Grind.{flat_map-append}
 use Rattle.std.proofs.lemmas.List.Sums.{sum_by-append, sum_by-cons}
 use Rattle.std.proofs.lemmas.List.{map-append}
-use Rattle.ciborium_ll.specs.Reading.{Takes}
+use Rattle.ciborium_ll.specs.Reading.{Moves}
 use Rattle.ciborium_value.specs.Tree.{Tree}
 use Rattle.ciborium.specs.Front.{Reads}
 use Rattle.ciborium.specs.Items.{Item, Sequence}
@@ -17,7 +17,7 @@ use Rattle.cose_gate.specs.Questions.{Question, questions}
 use Rattle.cose_gate.specs.Asked.{first_no, folded_over}
 use Rattle.cose_gate.specs.Findings.{Finding, judged, barred, not_tagged, encrypted, other_tag, shape, detached, no_signature, Finds}
 use Rattle.cose_gate.specs.Run.{Step, Steps, IsVerdict, judged_by, has_passed, passes, asked_of, written_of, questions_of, output_of, entries_of, passed_count, refused_count}
-use Rattle.cose_gate.specs.Outcome.{Rules, Seen, Made}
+use Rattle.cose_gate.specs.Outcome.{Rules, Sight, Made}
 
 -- lists
 pub folded_append : {S X : Type 0} (step : S → X → S) (s : S) (xs ys : List X) → folded_over step s (xs ++ ys) ≡ folded_over step (folded_over step s xs) ys
@@ -68,7 +68,7 @@ sequence_more at b more (i ∷ is) s = (s.0, s.1, (s.2.0 ++ more, ap (λ z. z ++
 pub reads_some : (x : List ℕ) (v : Tree) → Reads x 256 v → 0 < length x
 reads_some x v r = front_some x [] 256 v (record { spelling = x; whole = sym (append-nil x); reads = r })
 
-pub item_grows : (l l' : Option (List ℕ)) (p p' : ℕ) (v : Tree) → Takes l l' p p' (λ (b : List ℕ). Reads b 256 v) → p < p'
+pub item_grows : (l l' : Option (List ℕ)) (p p' : ℕ) (v : Tree) → Moves l l' p p' (λ (b : List ℕ). Reads b 256 v) → p < p'
 item_grows l l' p p' v t = let s = reads_some t.bytes v t.has in let g = t.grown in omega arith
 
 module _ (allows : Question → Bool) (aad : List ℕ) where
@@ -92,15 +92,15 @@ module _ (allows : Question → Bool) (aad : List ℕ) where
   steps_then n (x ∷ xs) s a f e o v = (a.0, a.1, a.2, a.3, steps_then (n + 1) xs s a.4 f (omega arith) o v)
 
 -- some steps were made; they took the bytes of their items
-pub record Reached {T S : Type 0} (rules : Rules T S) (old new : Seen T S) (passed refused : ℕ) : Type 0 where
+pub record Reached {T S : Type 0} (rules : Rules T S) (old new : Sight T S) (passed refused : ℕ) : Type 0 where
   pub done : List Step
-  pub taken : Takes old.left new.left old.offset new.offset (λ (b : List ℕ). Sequence old.offset b (map (λ s. s.item) done) [])
+  pub taken : Moves old.left new.left old.offset new.offset (λ (b : List ℕ). Sequence old.offset b (map (λ s. s.item) done) [])
   pub steps : Steps rules.allows rules.aad 1 done
   pub made : Made rules old new done
   pub passed_is : passed ≡ passed_count rules.allows rules.aad done
   pub refused_is : refused ≡ refused_count rules.allows rules.aad done
 
-pub reached_start : {T S : Type 0} (rules : Rules T S) (seen : Seen T S) → Reached rules seen seen 0 0
+pub reached_start : {T S : Type 0} (rules : Rules T S) (seen : Sight T S) → Reached rules seen seen 0 0
 reached_start rules seen = record {
   done = [];
   taken = record { bytes = []; has = refl; taken = Consumes-nil seen.left; grown = omega arith };
@@ -139,12 +139,12 @@ module _ {T S : Type 0} (rules : Rules T S) where
       ∙ ap (folded_over rules.decided old) (sym (questions_then ss s))
 
   -- where the steps so far and one more item have come
-  pub record Further (old newer : Seen T S) (done : List Step) (s : Step) : Type 0 where
-    pub taken : Takes old.left newer.left old.offset newer.offset (λ (b : List ℕ). Sequence old.offset b (map (λ s. s.item) (done ++ s ∷ [])) [])
+  pub record Further (old newer : Sight T S) (done : List Step) (s : Step) : Type 0 where
+    pub taken : Moves old.left newer.left old.offset newer.offset (λ (b : List ℕ). Sequence old.offset b (map (λ s. s.item) (done ++ s ∷ [])) [])
     pub steps : Steps rules.allows rules.aad 1 (done ++ s ∷ [])
 
-  pub further : (old new newer : Seen T S) (passed refused : ℕ) (r : Reached rules old new passed refused)
-      (v : Tree) (t : Takes new.left newer.left new.offset newer.offset (λ (b : List ℕ). Reads b 256 v)) (f : Finding) (verdict : Verdict) → Finds v f → IsVerdict rules.allows rules.aad v f verdict
+  pub further : (old new newer : Sight T S) (passed refused : ℕ) (r : Reached rules old new passed refused)
+      (v : Tree) (t : Moves new.left newer.left new.offset newer.offset (λ (b : List ℕ). Reads b 256 v)) (f : Finding) (verdict : Verdict) → Finds v f → IsVerdict rules.allows rules.aad v f verdict
       → Further old newer r.done (step_at new.offset t.bytes v f (entry_at (passed + refused + 1) new.offset verdict))
   unfolding step_at entry_at item_at
   further old new newer passed refused r v t f verdict finds says =

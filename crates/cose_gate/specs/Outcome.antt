@@ -1,7 +1,7 @@
 -- What the contract of `gate` says of each answer.
 use Rattle.std.specs.Prelude.{◌≡◌, ◌≢◌, ℕ, ◌+◌, ◌^◌, ◌≤◌, ◌⊎◌, List, [], ◌∷◌, ◌++◌, length, Option, Some, None, Bool, IsTrue, Result, Ok, Err, if◌then◌else◌}
 use Rattle.std.specs.Io.KnownBytes.{Appends}
-use Rattle.ciborium_ll.specs.Reading.{Takes}
+use Rattle.ciborium_ll.specs.Reading.{Moves}
 use Rattle.ciborium_value.specs.declared.value.Value.{Value}
 use Rattle.ciborium_value.specs.View.{view}
 use Rattle.ciborium.specs.Damage.{end, deep, syntax, semantic, Damage}
@@ -26,7 +26,7 @@ pub record Rules (T S : Type 0) : Type 0 where
   pub aad : List ℕ
 
 -- what the judge was told, what the report was told, what was written, the offset, and the bytes to come
-pub record Seen (T S : Type 0) : Type 0 where
+pub record Sight (T S : Type 0) : Type 0 where
   pub told : T
   pub state : S
   pub written : Option (List ℕ)
@@ -34,7 +34,7 @@ pub record Seen (T S : Type 0) : Type 0 where
   pub left : Option (List ℕ)
 
 -- all of these steps were made: their questions asked, their entries noted, their output written
-pub record Made {T S : Type 0} (rules : Rules T S) (old new : Seen T S) (ss : List Step) : Type 0 where
+pub record Made {T S : Type 0} (rules : Rules T S) (old new : Sight T S) (ss : List Step) : Type 0 where
   pub told : new.told ≡ folded_over rules.decided old.told (questions_of rules.allows rules.aad ss)
   pub state : new.state ≡ folded_over rules.folded old.state (entries_of ss)
   pub written : Appends old.written new.written (output_of rules.allows rules.aad ss)
@@ -52,7 +52,7 @@ IsFaultOf ends stop more de.TooLong = 2 ^ 64 ≤ stop + 4096
 -- what reading the next item gives: it was taken, or no byte was left
 abbrev pub IsNext : Option (List ℕ) → Option (List ℕ) → ℕ → ℕ → Option Value → Type 0
 IsNext left left' at at' None = Known left (λ b. b ≡ []) × (at' ≡ at)
-IsNext left left' at at' (Some v) = Takes left left' at at' (λ b. Reads b nesting (view v))
+IsNext left left' at at' (Some v) = Moves left left' at at' (λ b. Reads b nesting (view v))
 
 -- what reading the next item ends with: a fault of the bytes that were to come, where they are known, or want of memory
 abbrev pub IsReadFault : {E : Type 0} → (E → Bool) → Option (List ℕ) → ℕ → GateFault E → Type 0
@@ -61,7 +61,7 @@ IsReadFault ends left at Write = ⊥
 IsReadFault ends left at Memory = Unit {0}
 
 -- Ok: the steps go through the whole input, all of them were made, and the offset has grown by all bytes
-pub record Whole {T S : Type 0} (rules : Rules T S) (old new : Seen T S) (input : List ℕ) (counts : Counts) : Type 0 where
+pub record Whole {T S : Type 0} (rules : Rules T S) (old new : Sight T S) (input : List ℕ) (counts : Counts) : Type 0 where
   pub steps : List Step
   pub course : Course rules.allows rules.aad old.offset input steps []
   pub made : Made rules old new steps
@@ -70,7 +70,7 @@ pub record Whole {T S : Type 0} (rules : Rules T S) (old new : Seen T S) (input 
   pub grown : new.offset ≡ old.offset + length input
 
 -- Decode: the steps go up to where the fault stands, and all of them were made
-pub record IfDecodeFailed {T S E : Type 0} (ends : E → Bool) (rules : Rules T S) (old new : Seen T S) (input : List ℕ) (e : Error E) : Type 0 where
+pub record IfDecodeFailed {T S E : Type 0} (ends : E → Bool) (rules : Rules T S) (old new : Sight T S) (input : List ℕ) (e : Error E) : Type 0 where
   pub steps : List Step
   pub more : List ℕ
   pub course : Course rules.allows rules.aad old.offset input steps more
@@ -80,7 +80,7 @@ pub record IfDecodeFailed {T S E : Type 0} (ends : E → Bool) (rules : Rules T 
 
 -- Write: `done` were made; all was asked about the message of the next step, and a beginning of its text was written. The offset is
 -- the one behind its item, and `more` is to come.
-pub record IfWriteFailed {T S : Type 0} (rules : Rules T S) (old new : Seen T S) (input : List ℕ) : Type 0 where
+pub record IfWriteFailed {T S : Type 0} (rules : Rules T S) (old new : Sight T S) (input : List ℕ) : Type 0 where
   pub done : List Step
   pub last : Step
   pub more : List ℕ
@@ -94,7 +94,7 @@ pub record IfWriteFailed {T S : Type 0} (rules : Rules T S) (old new : Seen T S)
   pub behind : Known new.left (λ b. b ≡ more)
 
 -- Memory: `done` were made; of the questions of the next step a beginning was asked, and its text was written whole or not at all
-pub record IfMemoryRefused {T S : Type 0} (rules : Rules T S) (old new : Seen T S) (input : List ℕ) : Type 0 where
+pub record IfMemoryRefused {T S : Type 0} (rules : Rules T S) (old new : Sight T S) (input : List ℕ) : Type 0 where
   pub done : List Step
   pub last : List Step
   pub one : length last ≤ 1
@@ -108,14 +108,14 @@ pub record IfMemoryRefused {T S : Type 0} (rules : Rules T S) (old new : Seen T 
   pub texts_are : (texts ≡ done) ⊎ ((texts ≡ done ++ last) × (asked ≡ questions_of rules.allows rules.aad last))
   pub written : Appends old.written new.written (output_of rules.allows rules.aad texts)
 
-abbrev pub Outcome : {T S E : Type 0} → (E → Bool) → Rules T S → Seen T S → Seen T S → List ℕ → Result Counts (GateFault E) → Type 0
+abbrev pub Outcome : {T S E : Type 0} → (E → Bool) → Rules T S → Sight T S → Sight T S → List ℕ → Result Counts (GateFault E) → Type 0
 Outcome ends rules old new input (Ok counts) = Whole rules old new input counts
 Outcome ends rules old new input (Err (Decode e)) = IfDecodeFailed ends rules old new input e
 Outcome ends rules old new input (Err Write) = IfWriteFailed rules old new input
 Outcome ends rules old new input (Err Memory) = IfMemoryRefused rules old new input
 
 -- some bytes were there, those to come where these are known, and the answer has its outcome over them
-pub record Answers {T S E : Type 0} (ends : E → Bool) (rules : Rules T S) (old new : Seen T S) (r : Result Counts (GateFault E)) : Type 0 where
+pub record Answers {T S E : Type 0} (ends : E → Bool) (rules : Rules T S) (old new : Sight T S) (r : Result Counts (GateFault E)) : Type 0 where
   pub input : List ℕ
   pub is : Known old.left (λ b. b ≡ input)
   pub outcome : Outcome ends rules old new input r

@@ -3,7 +3,7 @@ use Rattle.std.proofs.Common.{◌≡◌, ◌≢◌, ℕ, ◌+◌, ◌<◌, inl, 
 use Rattle.std.specs.Prelude.{IsTrue, MatchResult, false, nat_eq}
 use Rattle.std.specs.Io.KnownBytes.{Consumes}
 use Rattle.ciborium_ll.specs.declared.dec.Decoder.{Decoder}
-use Rattle.ciborium_ll.specs.Reading.{Takes, due}
+use Rattle.ciborium_ll.specs.Reading.{Moves, due}
 use Rattle.ciborium_ll.specs.Views.{left_of, waiting_of, reader_of}
 use Rattle.ciborium_value.specs.Tree.{Tree, map as map_tree, Pairs}
 use Rattle.ciborium.specs.declared.de.Error.{Error}
@@ -55,7 +55,7 @@ behind_known (Some rest) b x n v r t g h = goes_on v rest (record { spelling = x
     let z : length rest ≡ 0 = ap length e in
     absurd (omega arith))
 
-pub behind : (l m : Option (List ℕ)) (b : List ℕ) (o o' n : ℕ) (v : Tree) → l ≡ Some b → o ≡ 0 → Takes l m o o' (λ b. Reads b 256 v) → n ≡ o' → n < length b → OrMemory (NotReadable b) code.ExtraneousData
+pub behind : (l m : Option (List ℕ)) (b : List ℕ) (o o' n : ℕ) (v : Tree) → l ≡ Some b → o ≡ 0 → Moves l m o o' (λ b. Reads b 256 v) → n ≡ o' → n < length b → OrMemory (NotReadable b) code.ExtraneousData
 behind l m b o o' n v p q t r h =
     inr (behind_known m b t.bytes n v t.has (subst (λ z. Consumes z m t.bytes) p t.taken) (r ∙ t.grown ∙ ap (λ z. z + length t.bytes) q) h)
 

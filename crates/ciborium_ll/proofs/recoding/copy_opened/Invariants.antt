@@ -1,6 +1,6 @@
 use Rattle.std.proofs.Common.{◌≡◌, ◌≤◌, ◌+◌, List, ℕ, None}
 use Rattle.std.specs.Io.KnownBytes.{Appends}
-use Rattle.ciborium_ll.specs.Reading.{Takes}
+use Rattle.ciborium_ll.specs.Reading.{Moves}
 use Rattle.ciborium_ll.specs.Framing.{Closing}
 use Rattle.ciborium_ll.specs.Views.{left_of, offset_of, waiting_of, reader_of, writer_of}
 use Rattle.ciborium_ll.specs.declared.stage.Stage.TheVariants.{Inside}
@@ -15,7 +15,7 @@ invariant-loop-body g l = record {
   fresh : waiting_of (decoder_of l.segments) ≡ None;
   inside : (n : ℕ) × (stage_at l.segments ≡ Inside n);
   held : (bodies : List (List ℕ))
-      × Takes (left_of g.R.Read.left l.fn.decoder) (left_at g.R.Read.left l.segments) (offset_of l.fn.decoder) (place_at l.segments)
+      × Moves (left_of g.R.Read.left l.fn.decoder) (left_at g.R.Read.left l.segments) (offset_of l.fn.decoder) (place_at l.segments)
       (λ front. Leads (Closing g.P.StringKind.titled g.P.StringKind.allows 1) (Rest g.P.StringKind.titled g.P.StringKind.allows (stage_at l.segments)) front bodies)
       × Appends (g.W.Write.written (writer_of l.fn.encoder)) (g.W.Write.written (writer_of l.encoder)) (enc_pieces g.P.StringKind.titled bodies);
   room : opens (stage_at l.segments) + offset_of l.fn.decoder ≤ 1 + place_at l.segments;
