@@ -6,8 +6,7 @@ ghost use Rattle.callers.specs.Tallies.{tally_of};
 
 use crate::judging::KeyIds;
 use crate::tally::Tally;
-use ciborium_ll::End;
-use cose_gate::{Counts, Decoder, GateFault, Mem, gate};
+use cose_gate::{Counts, Decoder, End, GateFault, Mem, gate};
 use std::alloc::Global;
 
 /// The messages of the input whose key ids are known, each as its one shortest text, and how many passed and were refused.
