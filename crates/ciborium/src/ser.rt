@@ -140,6 +140,7 @@ fn write_item<T: Serialize, W: Write>(sink: &mut Serializer<W>, value: &T) -> Re
 }
 
 /// A head, and bytes after it.
+#[inline(always)]
 fn write_string<W: Write>(
     encoder: &mut Encoder<W>,
     header: Header,

@@ -30,6 +30,7 @@ impl<W: Write> Encoder<W> {
     ///
     /// # Errors
     /// The writer's; a beginning of the title was written then.
+    #[inline(always)]
     pub fn push(&mut self, header: Header) -> Result<(), W::Error>
         ensures ok { OnOk result (Appends (W.written (writer_of self.old)) (W.written (writer_of self.new)) (title_of header)) }
         ensures err { OnErr result (AppendsFront (W.written (writer_of self.old)) (W.written (writer_of self.new)) (title_of header)) }
