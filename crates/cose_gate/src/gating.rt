@@ -116,7 +116,7 @@ fn next_item<R: Read>(
     ensures fresh { waiting_of decoder.new ≡ None }
 {
     let offset = decoder.offset();
-    match de::from_decoder(alloc, decoder, 256) {
+    match de::from_decoder(alloc, decoder, de::RECURSION_LIMIT) {
         Ok(value) => Ok(Some(value)),
         Err(error) => {
             if is_end::<R>(&error) && decoder.offset() == offset {
