@@ -3,7 +3,7 @@ use Rattle.std.proofs.Common.{◌≡◌, ℕ, ◌+◌, List, [], ◌∷◌, ◌+
 use Rattle.std.proofs.lemmas.Grind.{flat_map-append}
 use Rattle.std.specs.Prelude.{Result, Err}
 use Rattle.std.specs.Io.KnownBytes.{Appends}
-use Rattle.cose_gate.specs.Reading.{Known}
+use Rattle.cose_gate.specs.Reading.{IfKnown}
 use Rattle.cose_gate.specs.Questions.{Question}
 use Rattle.cose_gate.specs.Asked.{folded_over}
 use Rattle.cose_gate.specs.Run.{Step, Course, asked_of, questions_of}
@@ -48,7 +48,7 @@ module _ (ids : List (List ℕ)) (aad input : List ℕ) (old new : Sight (List (
   module _ {E : Type 0} (ends : E → Bool) where
     -- the bytes to come are the input
     pub over : (r : Result Counts (GateFault E)) → old.left ≡ Some input → Answers ends (by ids aad) old new r → Outcome ends (by ids aad) old new input r
-    over r is a = let e : input ≡ a.input = subst (λ (l : Option (List ℕ)). Known l (λ b. b ≡ a.input)) is a.is in
+    over r is a = let e : input ≡ a.input = subst (λ (l : Option (List ℕ)). IfKnown l (λ b. b ≡ a.input)) is a.is in
         subst (λ (i : List ℕ). Outcome ends (by ids aad) old new i r) (sym e) a.outcome
 
     pub halted : (fault : GateFault E) → old.offset ≡ 0 → old.left ≡ Some input → Outcome ends (by ids aad) old new input (Err fault)
@@ -63,7 +63,7 @@ module _ (ids : List (List ℕ)) (aad input : List ℕ) (old new : Sight (List (
       told = w.made.told ∙ (told_all old.told (questions_of (allows ids) aad w.steps)
           ∙ ap (λ qs. old.told ++ key_ids_of qs) (sym (append-nil (questions_of (allows ids) aad w.steps))));
       tally = w.made.state;
-      due = (refl, fault_at (subst (λ (l : Option (List ℕ)). Known l (λ b. IsFaultOf ends (old.offset + length b) w.more e)) is w.fault));
+      due = (refl, fault_at (subst (λ (l : Option (List ℕ)). IfKnown l (λ b. IsFaultOf ends (old.offset + length b) w.more e)) is w.fault));
     }
       where
         fault_at : IsFaultOf ends (old.offset + length input) w.more e → IsFaultOf ends (length input) w.more e

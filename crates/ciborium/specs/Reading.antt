@@ -78,9 +78,6 @@ abbrev pub IfKnown : Option (List ℕ) → (List ℕ → Type 0) → Type 0
 IfKnown None P = Unit {0}
 IfKnown (Some b) P = P b
 
-abbrev pub Known : Option (List ℕ) → (List ℕ → Type 0) → Type 0
-Known b P = IfKnown b P
-
 -- the fault of an item that is due at the place `at`
 abbrev pub FailsAt : {E : Type 0} → (E → Bool) → List ℕ → ℕ → ℕ → (ℕ → List ℕ → Fault → Type 0) → Error E → Type 0
 FailsAt ends b at at' D e = Fails ends (EndPlace b at at') (D (at + length b) b) (IsLong at b) e

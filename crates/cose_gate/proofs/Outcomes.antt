@@ -9,7 +9,7 @@ use Rattle.ciborium_value.specs.Tree.{Tree}
 use Rattle.ciborium.specs.Front.{Reads}
 use Rattle.ciborium.specs.Items.{Sequence}
 use Rattle.ciborium.specs.Damage.{end, deep, syntax, semantic, Damage}
-use Rattle.ciborium.specs.Reading.{Known, FailsAt, IsNoMemory, fault_failures}
+use Rattle.ciborium.specs.Reading.{IfKnown, FailsAt, IsNoMemory, fault_failures}
 use Rattle.ciborium.specs.declared.de.Error.{Error}
 use Rattle.ciborium.specs.declared.de.Error.TheVariants as de
 use Rattle.cose_gate.specs.declared.report.Entry.{Entry}
@@ -43,22 +43,22 @@ abbrev rest_of : Option (List ℕ) → List ℕ
 rest_of None = []
 rest_of (Some b) = b
 
-rest_known : (l : Option (List ℕ)) → Known l (λ b. b ≡ rest_of l)
+rest_known : (l : Option (List ℕ)) → IfKnown l (λ b. b ≡ rest_of l)
 rest_known None = tt
 rest_known (Some b) = refl
 
-rest_none : (l : Option (List ℕ)) → Known l (λ b. b ≡ []) → rest_of l ≡ []
+rest_none : (l : Option (List ℕ)) → IfKnown l (λ b. b ≡ []) → rest_of l ≡ []
 rest_none None k = refl
 rest_none (Some b) k = k
 
-consumed : (l l' : Option (List ℕ)) (b : List ℕ) → Consumes l l' b → Known l (λ a. a ≡ b ++ rest_of l')
+consumed : (l l' : Option (List ℕ)) (b : List ℕ) → Consumes l l' b → IfKnown l (λ a. a ≡ b ++ rest_of l')
 consumed None l' b c = tt
 consumed (Some a) None b c = absurd c
 consumed (Some a) (Some r) b c = c
 
 -- a fault of the bytes to come, seen from where the bytes began
 fault_from : {E : Type 0} (ends : E → Bool) (l l' : Option (List ℕ)) (b : List ℕ) (p p' : ℕ) (e : Error E) → Consumes l l' b → p' ≡ p + length b
-    → Known l' (λ r. IsFaultOf ends (p' + length r) r e) → Known l (λ a. IsFaultOf ends (p + length a) (rest_of l') e)
+    → IfKnown l' (λ r. IsFaultOf ends (p' + length r) r e) → IfKnown l (λ a. IsFaultOf ends (p + length a) (rest_of l') e)
 fault_from ends None l' b p p' e c g k = tt
 fault_from ends (Some a) None b p p' e c g k = absurd c
 fault_from ends (Some a) (Some r) b p p' e c g k =
@@ -111,8 +111,8 @@ module _ {T S : Type 0} (rules : Rules T S) where
   -- the bytes that were there, and what is left of them
   record Left (old new : Sight T S) (steps : List Step) (more : List ℕ) : Type 0 where
     pub input : List ℕ
-    pub is : Known old.left (λ b. b ≡ input)
-    pub behind : Known new.left (λ b. b ≡ more)
+    pub is : IfKnown old.left (λ b. b ≡ input)
+    pub behind : IfKnown new.left (λ b. b ≡ more)
     pub course : Course rules.allows rules.aad old.offset input steps more
     pub stop : new.offset + length more ≡ old.offset + length input
 
@@ -123,8 +123,8 @@ module _ {T S : Type 0} (rules : Rules T S) where
       let l : length (t.bytes ++ more) ≡ length t.bytes + length more = length-append t.bytes more in
       record {
         input = t.bytes ++ more;
-        is = subst (λ (m : List ℕ). Known old.left (λ a. a ≡ t.bytes ++ m)) e (consumed old.left new.left t.bytes t.taken);
-        behind = subst (λ (m : List ℕ). Known new.left (λ a. a ≡ m)) e (rest_known new.left);
+        is = subst (λ (m : List ℕ). IfKnown old.left (λ a. a ≡ t.bytes ++ m)) e (consumed old.left new.left t.bytes t.taken);
+        behind = subst (λ (m : List ℕ). IfKnown new.left (λ a. a ≡ m)) e (rest_known new.left);
         course = record { sequence = sequence_more old.offset t.bytes more (map (λ s. s.item) steps) t.has; steps = s };
         stop = omega arith;
       }

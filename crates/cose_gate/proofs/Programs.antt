@@ -6,7 +6,7 @@ use Rattle.std.specs.Io.KnownBytes.{Appends, Keeps}
 use Rattle.std.proofs.lemmas.Grind.{flat_map-append}
 use Rattle.ciborium_ll.specs.declared.hdr.Header.{Header}
 use Rattle.ciborium_ll.specs.Reading.{due}
-use Rattle.ciborium.specs.Reading.{Known}
+use Rattle.ciborium.specs.Reading.{IfKnown}
 use Rattle.cose_gate.specs.Questions.{Question}
 use Rattle.cose_gate.specs.Asked.{IsFront}
 use Rattle.cose_gate.specs.Recorded.{is_other}
@@ -76,7 +76,7 @@ module _ {T S E : Type 0} (ends : E → Bool) (decided : T → Question → T) (
       → Answers ends (by refused) old new r → Gated l old.written new.written r
   gated refused waiting l r e z w is a = record {
     input = a.input;
-    is = subst (λ (o : Option (List ℕ)). Known o (λ b. b ≡ a.input)) (is ∙ ap (due l) w ∙ due_none l) a.is;
+    is = subst (λ (o : Option (List ℕ)). IfKnown o (λ b. b ≡ a.input)) (is ∙ ap (due l) w ∙ due_none l) a.is;
     over = gated_yes a.input r (subst (λ (o : Option (List ℕ)). Outcome ends (by o) old new a.input r) e a.outcome) z;
   }
 
@@ -124,7 +124,7 @@ ran_stopped l w w' w'' {E = E} r keeps g = record { input = g.input; is = g.is; 
 
 -- of nothing no item is refused
 pub none_refused : (l w w' : Option (List ℕ)) (counts : Counts) {E : Type 0} → l ≡ Some [] → (let r : Result Counts (GateFault E) = Ok counts in Gated l w w' r) → counts.refused ≡ 0
-none_refused l w w' counts e g = of (subst (λ (z : List ℕ). Through w w' z counts.refused) (sym (subst (λ (z : Option (List ℕ)). Known z (λ b. b ≡ g.input)) e g.is)) g.over)
+none_refused l w w' counts e g = of (subst (λ (z : List ℕ). Through w w' z counts.refused) (sym (subst (λ (z : Option (List ℕ)). IfKnown z (λ b. b ≡ g.input)) e g.is)) g.over)
   where
     empty : (ss : List Step) → Sequence 0 [] (map (λ s. s.item) ss) [] → refused_count allows_all [] ss ≡ 0
     empty [] s = refl

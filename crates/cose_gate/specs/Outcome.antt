@@ -6,7 +6,7 @@ use Rattle.ciborium_value.specs.declared.value.Value.{Value}
 use Rattle.ciborium_value.specs.View.{view}
 use Rattle.ciborium.specs.Damage.{end, deep, syntax, semantic, Damage}
 use Rattle.ciborium.specs.Front.{Reads}
-use Rattle.ciborium.specs.Reading.{Known, IsNoMemory}
+use Rattle.ciborium.specs.Reading.{IfKnown, IsNoMemory}
 use Rattle.ciborium.specs.declared.de.Error.{Error}
 use Rattle.ciborium.specs.declared.de.Error.TheVariants as de
 use Rattle.ciborium.specs.Items.{nesting}
@@ -51,12 +51,12 @@ IsFaultOf ends stop more de.TooLong = 2 ^ 64 ≤ stop + 4096
 
 -- what reading the next item gives: it was taken, or no byte was left
 abbrev pub IsNext : Option (List ℕ) → Option (List ℕ) → ℕ → ℕ → Option Value → Type 0
-IsNext left left' at at' None = Known left (λ b. b ≡ []) × (at' ≡ at)
+IsNext left left' at at' None = IfKnown left (λ b. b ≡ []) × (at' ≡ at)
 IsNext left left' at at' (Some v) = Moves left left' at at' (λ b. Reads b nesting (view v))
 
 -- what reading the next item ends with: a fault of the bytes that were to come, where they are known, or want of memory
 abbrev pub IsReadFault : {E : Type 0} → (E → Bool) → Option (List ℕ) → ℕ → GateFault E → Type 0
-IsReadFault ends left at (Decode e) = IsNoMemory e × Known left (λ b. IsFaultOf ends (at + length b) b e)
+IsReadFault ends left at (Decode e) = IsNoMemory e × IfKnown left (λ b. IsFaultOf ends (at + length b) b e)
 IsReadFault ends left at Write = ⊥
 IsReadFault ends left at Memory = Unit {0}
 
@@ -76,7 +76,7 @@ pub record IfDecodeFailed {T S E : Type 0} (ends : E → Bool) (rules : Rules T 
   pub course : Course rules.allows rules.aad old.offset input steps more
   pub made : Made rules old new steps
   pub no_memory : IsNoMemory e
-  pub fault : Known old.left (λ b. IsFaultOf ends (old.offset + length b) more e)
+  pub fault : IfKnown old.left (λ b. IsFaultOf ends (old.offset + length b) more e)
 
 -- Write: `done` were made; all was asked about the message of the next step, and a beginning of its text was written. The offset is
 -- the one behind its item, and `more` is to come.
@@ -91,7 +91,7 @@ pub record IfWriteFailed {T S : Type 0} (rules : Rules T S) (old new : Sight T S
   pub front_is : IsFront front (written_of rules.allows rules.aad last.finding)
   pub written : Appends old.written new.written (output_of rules.allows rules.aad done ++ front)
   pub stands : new.offset + length more ≡ old.offset + length input
-  pub behind : Known new.left (λ b. b ≡ more)
+  pub behind : IfKnown new.left (λ b. b ≡ more)
 
 -- Memory: `done` were made; of the questions of the next step a beginning was asked, and its text was written whole or not at all
 pub record IfMemoryRefused {T S : Type 0} (rules : Rules T S) (old new : Sight T S) (input : List ℕ) : Type 0 where
@@ -117,7 +117,7 @@ Outcome ends rules old new input (Err Memory) = IfMemoryRefused rules old new in
 -- some bytes were there, those to come where these are known, and the answer has its outcome over them
 pub record Answers {T S E : Type 0} (ends : E → Bool) (rules : Rules T S) (old new : Sight T S) (r : Result Counts (GateFault E)) : Type 0 where
   pub input : List ℕ
-  pub is : Known old.left (λ b. b ≡ input)
+  pub is : IfKnown old.left (λ b. b ≡ input)
   pub outcome : Outcome ends rules old new input r
 
 -- how often the reader and the writer have failed in the call

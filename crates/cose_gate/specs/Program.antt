@@ -1,7 +1,7 @@
 -- What the program does with a whole input.
 use Rattle.std.specs.Prelude.{◌≡◌, ◌⊎◌, ℕ, List, [], Option, None, Bool, Result, Ok, Err, if◌then◌else◌, nat_eq}
 use Rattle.std.specs.Io.KnownBytes.{Appends}
-use Rattle.ciborium.specs.Reading.{Known}
+use Rattle.ciborium.specs.Reading.{IfKnown}
 use Rattle.cose_gate.specs.Questions.{Question}
 use Rattle.cose_gate.specs.Asked.{IsFront}
 use Rattle.cose_gate.specs.Recorded.{is_other}
@@ -36,7 +36,7 @@ GatedOver written written' b (Err fault) = InPart written written' b
 -- some bytes were there, those to come where these are known, and the gate went over them
 pub record Gated {E : Type 0} (left written written' : Option (List ℕ)) (r : Result Counts (GateFault E)) : Type 0 where
   pub input : List ℕ
-  pub is : Known left (λ b. b ≡ input)
+  pub is : IfKnown left (λ b. b ≡ input)
   pub over : GatedOver written written' input r
 
 -- the status: 0 where none is refused, 1 where some are, 4 where it stopped
@@ -48,5 +48,5 @@ RanOver written written' b status =
 -- some bytes were there, those to come where these are known, and the program went over them
 pub record Ran (left written written' : Option (List ℕ)) (status : ℕ) : Type 0 where
   pub input : List ℕ
-  pub is : Known left (λ b. b ≡ input)
+  pub is : IfKnown left (λ b. b ≡ input)
   pub over : RanOver written written' input status

@@ -10,7 +10,7 @@ use Rattle.ciborium.specs.declared.de.Error.{Error}
 use Rattle.ciborium.specs.declared.de.Error.TheVariants as de
 use Rattle.ciborium.specs.Front.{Reads}
 use Rattle.ciborium.specs.Damage.{Fault, Damage, end, syntax, semantic, deep}
-use Rattle.ciborium.specs.Reading.{FailsAt, Known}
+use Rattle.ciborium.specs.Reading.{FailsAt, IfKnown}
 use Rattle.coset_base.specs.Fields.{HeaderFields}
 use Rattle.coset_base.specs.Headers.{HasHeader, HasInside}
 use Rattle.coset_base.specs.Faults.{CoseFault, OrMemory, lifted, unexpected, fault_of}
@@ -43,9 +43,9 @@ not_read_at ends b o de.Memory t w = inl refl
 not_read_at ends b o de.TooLong t w = inr (longer (omega (arith, w)))
 
 pub not_read : {E : Type 0} (ends : E → Bool) (l : Option (List ℕ)) (b : List ℕ) (o o' : ℕ) (e : Error E) → l ≡ Some b → o ≡ 0 → ((x : E) → IsTrue (ends x))
-    → Known l (λ b. FailsAt ends b o o' (λ stop b f. Damage stop b 256 f) e) → OrMemory (NotReadable b) (lifted e)
+    → IfKnown l (λ b. FailsAt ends b o o' (λ stop b f. Damage stop b 256 f) e) → OrMemory (NotReadable b) (lifted e)
 not_read ends l b o o' e p q t w =
-    not_read_at ends b o' e t (subst (λ z. FailsAt ends b z o' (λ stop b f. Damage stop b 256 f) e) q (subst (λ z. Known z (λ b. FailsAt ends b o o' (λ stop b f. Damage stop b 256 f) e)) p w))
+    not_read_at ends b o' e t (subst (λ z. FailsAt ends b z o' (λ stop b f. Damage stop b 256 f) e) q (subst (λ z. IfKnown z (λ b. FailsAt ends b o o' (λ stop b f. Damage stop b 256 f) e)) p w))
 
 behind_known : (m : Option (List ℕ)) (b x : List ℕ) (n : ℕ) (v : Tree) → Reads x 256 v → Consumes (Some b) m x → n ≡ 0 + length x → n < length b → NotReadable b (fault_of code.ExtraneousData)
 behind_known None b x n v r t g h = absurd t
