@@ -14,7 +14,7 @@ pub use crate::error::{CoseError, EndOfFile, Fault, Result};
 pub use crate::kinds::{ValueTryAs, cbor_type_error};
 pub use crate::label::Label;
 pub use crate::order::CborOrdering;
-pub use crate::reading::read_to_value;
+pub use crate::reading::{read_to_value, write_to_vec};
 pub use crate::registered::{
     Algorithm, ContentType, KeyType, RegisteredLabel, RegisteredLabelWithPrivate,
 };

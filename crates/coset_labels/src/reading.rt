@@ -37,8 +37,11 @@ fn is_short(bytes: &[u8])
     let _len = bytes.len();
 }
 
-/// The encoded value.
-pub(crate) fn write_to_vec(alloc: Global, value: &Value) -> Result<Vec<u8>, CoseError>
+/// The encoded value (RFC 8949, section 4.1).
+///
+/// # Errors
+/// Only where memory is refused.
+pub fn write_to_vec(alloc: Global, value: &Value) -> Result<Vec<u8>, CoseError>
     ensures { MatchResult result (λ b. b.items ≡ enc (view value.now)) (λ e. e ≡ Memory) }
 {
     let mut out = Mem::new(Vec::new(alloc));
