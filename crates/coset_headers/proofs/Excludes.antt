@@ -1,0 +1,328 @@
+-- A value with a fault has no fields.
+use Rattle.std.proofs.Common.{◌≡◌, ◌≢◌, ℕ, ℤ, ◌+◌, ◌-◌, ◌<◌, ◌⊎◌, pos, inl, inr, List, [], ◌∷◌, ◌++◌, length, Bool, true, false, cond, Option, Some, None, option_map, option_and_then, refl, sym, ap, subst, ◌∙◌, arith, append-nil}
+use Rattle.std.proofs.lemmas.List.{append_cancel_left}
+use Rattle.cose_iana.specs.Registry.{is_private_use}
+use Rattle.ciborium_value.specs.Tree as spec
+use Rattle.ciborium_value.specs.Tree.{Tree, integer, bytes, text, array, map as map_tree, tag, simple, float, Trees, no_trees, one_more, tree_count, is_bytes}
+use Rattle.ciborium_value.specs.View.{trees, pairs}
+use Rattle.ciborium.specs.Front.{Reads}
+use Rattle.ciborium.proofs.Excludes.{excludes}
+use Rattle.coset_labels.specs.Fields.{LabelFields, number, Named, private_use, assigned, named}
+use Rattle.coset_labels.specs.Faults.{CoseFault}
+use Rattle.coset_labels.specs.Kinds.{is_map, is_array, some_bytes, WrongBytes}
+use Rattle.coset_labels.specs.Labels.{is_i64, label_of, named_of, registered_of, WrongLabel, WrongNamed, WrongRegistered}
+use Rattle.coset_labels.specs.Reading.{NotReadable, damaged, goes_on}
+use Rattle.coset_headers.specs.Fields.{Plain, HeaderFields, header, ProtectedFields, protected, SignatureFields, signature, Signatures, no_signatures, signature_more, no_header}
+use Rattle.coset_headers.specs.Headers.{is_at, alg_of, parameter_of, parameters_of, crit_of, format_of, IsContentType, HasContentType, entries, at, IsIn, Distinct, IsField, IsPlain, IsBare, IsList, list_of_three, HasHeader, HasProtected, HasSignature, HasSigned, HasSignatures}
+use Rattle.coset_headers.specs.Wrong.{WrongCrit, no_crit_list, empty_crit, bad_crit, WrongContentType, no_content_type, empty_text, white_space, no_one_slash, WrongField, wrong_alg, wrong_crit, wrong_content_type, wrong_key_id, wrong_iv, wrong_partial_iv, NoSignature, WrongHeader, no_map, at_entry, WrongEntry, bad_label, label_again, bad_field, two_ivs, bad_signatures, WrongSigned, no_list, no_first, in_bare, in_list, WrongSignature, no_array, not_three, in_protected, in_unprotected, no_bytes, WrongProtected, no_string, too_deep, unreadable, inside}
+use Rattle.coset_headers.proofs.Entered.{is_at_is, cond_none, bool_cases, at_none}
+use Rattle.coset_headers.proofs.Unique.{reads_once}
+
+-- ---- the entry behind others in a map whose keys are labels
+record Splits (l v : Tree) (es all : List (LabelFields × Tree)) : Type 0 where
+  label : LabelFields
+  behind : List (LabelFields × Tree)
+  is : label_of l ≡ Some label
+  whole : all ≡ es ++ (label, v) ∷ behind
+
+record First (o : Option LabelFields) (w : Option (List (LabelFields × Tree))) (v : Tree) (all : List (LabelFields × Tree)) : Type 0 where
+  label : LabelFields
+  rest : List (LabelFields × Tree)
+  is : o ≡ Some label
+  others : w ≡ Some rest
+  whole : all ≡ (label, v) ∷ rest
+
+first : (o : Option LabelFields) (w : Option (List (LabelFields × Tree))) (v : Tree) (all : List (LabelFields × Tree)) → option_and_then (λ m. option_map (λ es. (m, v) ∷ es) w) o ≡ Some all → First o w v all
+first None w v all e = let h : None ≡ Some all = e in cc
+first (Some m) None v all e = let h : None ≡ Some all = e in cc
+first (Some m) (Some es) v all e = let h : Some ((m, v) ∷ es) ≡ Some all = e in record { label = m; rest = es; is = refl; others = refl; whole = cc }
+
+splits : (before after : List (Tree × Tree)) (l v : Tree) (es all : List (LabelFields × Tree)) → entries (pairs before) ≡ Some es → entries (pairs (before ++ (l, v) ∷ after)) ≡ Some all → Splits l v es all
+splits [] after l v es all e f =
+    let n : Some [] ≡ Some es = e in
+    let none : [] ≡ es = cc in
+    let w = first (label_of l) (entries (pairs after)) v all f in
+    record { label = w.label; behind = w.rest; is = w.is; whole = w.whole ∙ ap (λ z. z ++ (w.label, v) ∷ w.rest) none }
+splits (b ∷ before) after l v es all e f =
+    let x = first (label_of b.0) (entries (pairs before)) b.1 es e in
+    let y = first (label_of b.0) (entries (pairs (before ++ (l, v) ∷ after))) b.1 all f in
+    let w = splits before after l v x.rest y.rest x.others y.others in
+    let both : Some x.label ≡ Some y.label = sym x.is ∙ y.is in
+    let same : y.label ≡ x.label = cc in
+    record {
+      label = w.label;
+      behind = w.behind;
+      is = w.is;
+      whole = y.whole ∙ ap (λ z. (y.label, b.1) ∷ z) w.whole ∙ ap (λ z. (z, b.1) ∷ (x.rest ++ (w.label, v) ∷ w.behind)) same ∙ ap (λ z. z ++ (w.label, v) ∷ w.behind) (sym x.whole);
+    }
+
+in_middle : (es : List (LabelFields × Tree)) (m : LabelFields) (v : Tree) (fs : List (LabelFields × Tree)) → IsIn m (es ++ (m, v) ∷ fs)
+in_middle [] m v fs = inl refl
+in_middle (e ∷ es) m v fs = inr (in_middle es m v fs)
+
+not_before : (es : List (LabelFields × Tree)) (m : LabelFields) (v : Tree) (fs : List (LabelFields × Tree)) → Distinct (es ++ (m, v) ∷ fs) → IsIn m es → ⊥
+not_before [] m v fs d i = i
+not_before (e ∷ es) m v fs d (inl q) = d.0 (subst (λ z. IsIn z (es ++ (m, v) ∷ fs)) q (in_middle es m v fs))
+not_before (e ∷ es) m v fs d (inr i) = not_before es m v fs d.1 i
+
+at_middle : (n : ℕ) (es : List (LabelFields × Tree)) (m : LabelFields) (v : Tree) (fs : List (LabelFields × Tree)) → is_at n m ≡ true → at n es ≡ None → at n (es ++ (m, v) ∷ fs) ≡ Some v
+at_middle n [] m v fs e h = ap (λ b. cond b (Some v) (at n fs)) e
+at_middle n (x ∷ es) m v fs e h = let c = cond_none (is_at n x.0) x.1 (at n es) (at n (es ++ (m, v) ∷ fs)) h in c.1 ∙ at_middle n es m v fs e c.0
+
+-- what stands at a number in front stands there in the whole
+front_step : (b : Bool) (x : Tree) (y z : Option Tree) (t : Tree) → (y ≡ Some t → z ≡ Some t) → cond b (Some x) y ≡ Some t → cond b (Some x) z ≡ Some t
+front_step true x y z t f e = e
+front_step false x y z t f e = f e
+
+at_front : (n : ℕ) (es fs : List (LabelFields × Tree)) (t : Tree) → at n es ≡ Some t → at n (es ++ fs) ≡ Some t
+at_front n [] fs t e = let h : None ≡ Some t = e in cc
+at_front n (x ∷ es) fs t e = front_step (is_at n x.0) x.1 (at n es) (at n (es ++ fs)) t (at_front n es fs t) e
+
+snoc_front : (es fs : List (LabelFields × Tree)) (x : LabelFields × Tree) → es ++ x ∷ fs ≡ (es ++ x ∷ []) ++ fs
+snoc_front [] fs x = refl
+snoc_front (e ∷ es) fs x = ap (λ z. e ∷ z) (snoc_front es fs x)
+
+-- ---- values of single fields that have a fault
+no_label : (l : Tree) (e : CoseFault) → WrongLabel l e → label_of l ≡ None
+no_label (integer i) e w = ap (λ b. cond {A = Option LabelFields} b (Some (number i)) None) w.0
+no_label (text b) e w = absurd w
+no_label (bytes b) e w = refl
+no_label (array ts) e w = refl
+no_label (map_tree ps) e w = refl
+no_label (tag n t) e w = refl
+no_label (simple n) e w = refl
+no_label (float f) e w = refl
+
+abbrev number_if : Bool → Bool → Bool → ℤ → Option Named
+number_if small registered private i = cond small (cond registered (Some (assigned i)) (cond private (Some (private_use i)) None)) None
+
+no_named : (r p : ℤ → Bool) (v : Tree) (e : CoseFault) → WrongNamed r p v e → named_of r p v ≡ None
+no_named r p (integer i) e (inl w) = ap (λ b. number_if b (r i) (p i) i) w.0
+no_named r p (integer i) e (inr w) = ap (λ b. number_if b (r i) (p i) i) w.0 ∙ ap (λ b. number_if true b (p i) i) w.1 ∙ ap (λ b. number_if true false b i) w.2
+no_named r p (text b) e w = absurd w
+no_named r p (bytes b) e w = refl
+no_named r p (array ts) e w = refl
+no_named r p (map_tree ps) e w = refl
+no_named r p (tag n t) e w = refl
+no_named r p (simple n) e w = refl
+no_named r p (float f) e w = refl
+
+abbrev registered_if : Bool → Bool → ℤ → Option Named
+registered_if small registered i = cond small (cond registered (Some (assigned i)) None) None
+
+no_registered : (r : ℤ → Bool) (v : Tree) (e : CoseFault) → WrongRegistered r v e → registered_of r v ≡ None
+no_registered r (integer i) e (inl w) = ap (λ b. registered_if b (r i) i) w.0
+no_registered r (integer i) e (inr w) = ap (λ b. registered_if b (r i) i) w.0 ∙ ap (λ b. registered_if true b i) w.1
+no_registered r (text b) e w = absurd w
+no_registered r (bytes b) e w = refl
+no_registered r (array ts) e w = refl
+no_registered r (map_tree ps) e w = refl
+no_registered r (tag n t) e w = refl
+no_registered r (simple n) e w = refl
+no_registered r (float f) e w = refl
+
+no_string_there : (v : Tree) (e : CoseFault) → WrongBytes v e → some_bytes v ≡ None
+no_string_there (bytes []) e w = refl
+no_string_there (bytes (x ∷ xs)) e w = let h : x ∷ xs ≡ [] = w.0 in cc
+no_string_there (integer i) e w = refl
+no_string_there (text b) e w = refl
+no_string_there (array ts) e w = refl
+no_string_there (map_tree ps) e w = refl
+no_string_there (tag n t) e w = refl
+no_string_there (simple n) e w = refl
+no_string_there (float f) e w = refl
+
+no_more : (o : Option (List Named)) (p : Option Named) → p ≡ None → option_and_then (λ n. option_map (λ ns. n ∷ ns) o) p ≡ None
+no_more o p e = ap (λ q. option_and_then (λ n. option_map (λ ns. n ∷ ns) o) q) e
+
+no_rest : (o : Option (List Named)) (p : Option Named) → o ≡ None → option_and_then (λ n. option_map (λ ns. n ∷ ns) o) p ≡ None
+no_rest o None e = refl
+no_rest o (Some n) e = ap (option_map (λ ns. n ∷ ns)) e
+
+no_parameters : (before after : List Tree) (t : Tree) → parameter_of t ≡ None → parameters_of (trees (before ++ t ∷ after)) ≡ None
+no_parameters [] after t e = no_more (parameters_of (trees after)) (parameter_of t) e
+no_parameters (b ∷ bs) after t e = no_rest (parameters_of (trees (bs ++ t ∷ after))) (parameter_of b) (no_parameters bs after t e)
+
+crit_list : (ts : Trees) → parameters_of ts ≡ None → crit_of (array ts) ≡ None
+crit_list no_trees e = refl
+crit_list (one_more t ts) e = e
+
+no_crit_kind : (v : Tree) → is_array v ≡ false → crit_of v ≡ None
+no_crit_kind (array ts) e = let h : true ≡ false = e in cc
+no_crit_kind (integer i) e = refl
+no_crit_kind (bytes b) e = refl
+no_crit_kind (text b) e = refl
+no_crit_kind (map_tree ps) e = refl
+no_crit_kind (tag n t) e = refl
+no_crit_kind (simple n) e = refl
+no_crit_kind (float f) e = refl
+
+no_crit : (v : Tree) (e : CoseFault) → WrongCrit v e → crit_of v ≡ None
+no_crit v e (no_crit_list _ k) = no_crit_kind v k
+no_crit v e empty_crit = refl
+no_crit v e (bad_crit before after t _ w) = crit_list (trees (before ++ t ∷ after)) (no_parameters before after t (no_named _ is_private_use t e w))
+
+text_content : (b : List ℕ) (c : Option Named) → HasContentType (Some (text b)) c → IsContentType (named b)
+text_content b c h = let e : Some (named b) ≡ Some h.0 = h.1 in let s : h.0 ≡ named b = cc in subst IsContentType s h.2
+
+no_type : (v : Tree) (e : CoseFault) (c : Option Named) → WrongContentType v e → HasContentType (Some v) c → ⊥
+no_type v e c (no_content_type _ _ w) h = let x : None ≡ Some h.0 = sym (no_registered _ v e w) ∙ h.1 in cc
+no_type v e c empty_text h = (text_content [] c h).0 refl
+no_type v e c (white_space b w) h = w (text_content b c h).1
+no_type v e c (no_one_slash b w) h = w (text_content b c h).2
+
+-- ---- the field at a number whose value has a fault
+module _ (es all : List (LabelFields × Tree)) (l v : Tree) (s : Splits l v es all) (d : Distinct all) where
+  there_at : (n : ℕ) (m : LabelFields) → label_of l ≡ Some m → is_at n m ≡ true → at n all ≡ Some v
+  there_at n m q t =
+      let both : Some s.label ≡ Some m = sym s.is ∙ q in
+      let same : s.label ≡ m = cc in
+      let parts : all ≡ es ++ (m, v) ∷ s.behind = s.whole ∙ ap (λ z. es ++ (z, v) ∷ s.behind) same in
+      let fresh : IsIn m es → ⊥ = not_before es m v s.behind (subst Distinct parts d) in
+      ap (at n) parts ∙ at_middle n es m v s.behind t (at_none n es m t fresh)
+
+  field_not : {A : Type 0} (f : Tree → Option A) (absent : A) (n : ℕ) (m : LabelFields) (x : A) → label_of l ≡ Some m → is_at n m ≡ true → IsField f absent (at n all) x → f v ≡ None → ⊥
+  field_not f absent n m x q t w z =
+      let has : f v ≡ Some x = subst (λ o. IsField f absent o x) (there_at n m q t) w in
+      let h : None ≡ Some x = sym z ∙ has in
+      cc
+
+  again_not : (m : LabelFields) → label_of l ≡ Some m → IsIn m es → ⊥
+  again_not m q i =
+      let both : Some m ≡ Some s.label = sym q ∙ s.is in
+      let same : m ≡ s.label = cc in
+      not_before es s.label v s.behind (subst Distinct s.whole d) (subst (λ z. IsIn z es) same i)
+
+  value_not : (m : LabelFields) (e : CoseFault) (p : Plain) → label_of l ≡ Some m → WrongField v m e → IsPlain all p → ⊥
+  value_not m e p q (wrong_alg _ w) a = field_not alg_of None 1 (number (pos 1)) p.alg q refl a.alg (ap (option_map Some) (no_named _ is_private_use v e w))
+  value_not m e p q (wrong_crit _ w) a = field_not crit_of [] 2 (number (pos 2)) p.crit q refl a.crit (no_crit v e w)
+  value_not m e p q (wrong_content_type _ w) a = no_type v e p.content_type w (subst (λ o. HasContentType o p.content_type) (there_at 3 (number (pos 3)) q refl) a.content_type)
+  value_not m e p q (wrong_key_id _ w) a = field_not some_bytes [] 4 (number (pos 4)) p.key_id q refl a.key_id (no_string_there v e w)
+  value_not m e p q (wrong_iv _ w) a = field_not some_bytes [] 5 (number (pos 5)) p.iv q refl a.iv (no_string_there v e w)
+  value_not m e p q (wrong_partial_iv _ w) a = field_not some_bytes [] 6 (number (pos 6)) p.partial_iv q refl a.partial_iv (no_string_there v e w)
+
+some_full : (t : Tree) (x : List ℕ) → some_bytes t ≡ Some x → x ≡ [] → ⊥
+some_full (bytes []) x e q = let h : None ≡ Some x = e in cc
+some_full (bytes (y ∷ ys)) x e q = let h : Some (y ∷ ys) ≡ Some x = e in let k : y ∷ ys ≡ x = cc in let z : y ∷ ys ≡ [] = k ∙ q in cc
+some_full (integer i) x e q = let h : None ≡ Some x = e in cc
+some_full (text b) x e q = let h : None ≡ Some x = e in cc
+some_full (array ts) x e q = let h : None ≡ Some x = e in cc
+some_full (map_tree ps) x e q = let h : None ≡ Some x = e in cc
+some_full (tag n t) x e q = let h : None ≡ Some x = e in cc
+some_full (simple n) x e q = let h : None ≡ Some x = e in cc
+some_full (float f) x e q = let h : None ≡ Some x = e in cc
+
+one_only : (p q : List ℕ) → (p ≡ []) ⊎ (q ≡ []) → (p ≡ [] → ⊥) → (q ≡ [] → ⊥) → ⊥
+one_only p q (inl e) f g = f e
+one_only p q (inr e) f g = g e
+
+ivs_not : (es all : List (LabelFields × Tree)) (l v b c : Tree) (m : LabelFields) (p : Plain) → Splits l v es all → label_of l ≡ Some m → at 5 (es ++ (m, v) ∷ []) ≡ Some b → at 6 (es ++ (m, v) ∷ []) ≡ Some c → IsPlain all p → ⊥
+ivs_not es all l v b c m p s q x y a =
+    let both : Some s.label ≡ Some m = sym s.is ∙ q in
+    let same : s.label ≡ m = cc in
+    let parts : (es ++ (m, v) ∷ []) ++ s.behind ≡ all = sym (snoc_front es s.behind (m, v)) ∙ ap (λ z. es ++ (z, v) ∷ s.behind) (sym same) ∙ sym s.whole in
+    let five : at 5 all ≡ Some b = ap (at 5) (sym parts) ∙ at_front 5 (es ++ (m, v) ∷ []) s.behind b x in
+    let six : at 6 all ≡ Some c = ap (at 6) (sym parts) ∙ at_front 6 (es ++ (m, v) ∷ []) s.behind c y in
+    one_only p.iv p.partial_iv a.one_iv (some_full b p.iv (subst (λ o. IsField some_bytes [] o p.iv) five a.iv)) (some_full c p.partial_iv (subst (λ o. IsField some_bytes [] o p.partial_iv) six a.partial_iv))
+
+-- ---- bytes that are no item, and lists
+unreadable_not : (n : ℕ) (b : List ℕ) (e : CoseFault) (v : Tree) → NotReadable b n e → Reads b n v → ⊥
+unreadable_not n b e v (damaged f d) r = excludes (length b) b n f d v [] (record { spelling = b; whole = sym (append-nil b); reads = r })
+unreadable_not n b e v (goes_on w rest f m) r =
+    let o = reads_once f.spelling b rest [] n w v f.reads r (sym f.whole ∙ sym (append-nil b)) in
+    m (append_cancel_left b rest [] (ap (λ z. z ++ rest) (sym o.1) ∙ sym f.whole ∙ sym (append-nil b)))
+
+inside_by : (n k : ℕ) (b : List ℕ) (h : HeaderFields) (P : Type 0) → b ≢ [] → ((v : Tree) → Reads b n v → HasHeader n v h k → P) → (((b ≡ []) × (h ≡ no_header)) ⊎ ((b ≢ []) × ((v : Tree) × Reads b n v × HasHeader n v h k))) → P
+inside_by n k b h P m f (inl x) = absurd (m x.0)
+inside_by n k b h P m f (inr (y, (v, r, z))) = f v r z
+
+bare_no_list : (ts : Trees) → IsBare ts → IsList ts → ⊥
+bare_no_list ts a b = let e : one_more (bytes a.0) a.1 ≡ one_more (array b.0) b.1 = sym a.2 ∙ b.2 in cc
+
+first_not : (ts us : Trees) → ts ≡ us → NoSignature ts → IsBare us → ⊥
+first_not no_trees us e n b = let h : no_trees ≡ one_more (bytes b.0) b.1 = e ∙ b.2 in cc
+first_not (one_more t ts) us e n b = let h : one_more t ts ≡ one_more (bytes b.0) b.1 = e ∙ b.2 in let s : t ≡ bytes b.0 = cc in let x : true ≡ false = sym (ap is_bytes s) ∙ n.0 in cc
+
+first_not_list : (ts us : Trees) → ts ≡ us → NoSignature ts → IsList us → ⊥
+first_not_list no_trees us e n b = let h : no_trees ≡ one_more (array b.0) b.1 = e ∙ b.2 in cc
+first_not_list (one_more t ts) us e n b = let h : one_more t ts ≡ one_more (array b.0) b.1 = e ∙ b.2 in let s : t ≡ array b.0 = cc in let x : true ≡ false = sym (ap is_array s) ∙ n.1 in cc
+
+-- each of a list of signatures has fields
+sigs_at : (n k : ℕ) (before after : List Tree) (t : Tree) (ss : Signatures) → HasSignatures n (trees (before ++ t ∷ after)) ss k → (s : SignatureFields) × HasSignature n t s k
+sigs_at n k [] after t no_signatures w = let e : one_more t (trees after) ≡ no_trees = w in cc
+sigs_at n k [] after t (signature_more s ss) w = let e : one_more t (trees after) ≡ one_more w.0 w.1 = w.2 in let x : w.0 ≡ t = cc in (s, subst (λ z. HasSignature n z s k) x w.3)
+sigs_at n k (b ∷ bs) after t no_signatures w = let e : one_more b (trees (bs ++ t ∷ after)) ≡ no_trees = w in cc
+sigs_at n k (b ∷ bs) after t (signature_more s ss) w =
+    let e : one_more b (trees (bs ++ t ∷ after)) ≡ one_more w.0 w.1 = w.2 in
+    let x : w.1 ≡ trees (bs ++ t ∷ after) = cc in
+    sigs_at n k bs after t ss (subst (λ z. HasSignatures n z ss k) x w.4)
+
+-- what counter signatures are: one by itself or a list
+record Signs (n : ℕ) (t : Tree) (k : ℕ) : Type 0 where
+  list : Trees
+  is : t ≡ array list
+  kind : (IsBare list × ((s : SignatureFields) × HasSignature n (array list) s k)) ⊎ (IsList list × ((ss : Signatures) × HasSignatures n list ss k))
+
+signs_by : (n : ℕ) (t : Tree) (ss : Signatures) (k : ℕ) → HasSigned n (Some t) ss k → Signs n t k
+signs_by n t no_signatures k w = let e : Some t ≡ None = w in cc
+signs_by n t (signature_more s ss) k (ts, q, inl (b, r, w)) = let e : Some t ≡ Some (array ts) = q in record { list = ts; is = cc; kind = inl (b, (s, w)) }
+signs_by n t (signature_more s ss) k (ts, q, inr (b, w)) = let e : Some t ≡ Some (array ts) = q in record { list = ts; is = cc; kind = inr (b, (signature_more s ss, w)) }
+
+by_kind : {A B : Type 0} → A ⊎ B → (A → ⊥) → (B → ⊥) → ⊥
+by_kind (inl a) f g = f a
+by_kind (inr b) f g = g b
+
+mutual
+  pub header_not : (n : ℕ) (t : Tree) (k : ℕ) (e : CoseFault) → WrongHeader n t k e → (h : HeaderFields) → HasHeader n t h k → ⊥
+  header_not n t k e (no_map _ _ x) (header p ss) a = let c : true ≡ false = sym (ap is_map a.2) ∙ x in cc
+  header_not n t k e (at_entry before after l v es _ _ r w) (header p ss) a =
+      let maps : map_tree (pairs (before ++ (l, v) ∷ after)) ≡ map_tree a.0 = a.2 in
+      let same : pairs (before ++ (l, v) ∷ after) ≡ a.0 = cc in
+      entry_not n es l v k e w a.1 p ss (splits before after l v es a.1 r (ap entries same ∙ a.3)) a.4 a.5 a.6
+
+  entry_not : (n : ℕ) (es : List (LabelFields × Tree)) (l v : Tree) (k : ℕ) (e : CoseFault) → WrongEntry n es l v k e
+      → (all : List (LabelFields × Tree)) (p : Plain) (ss : Signatures) → Splits l v es all → Distinct all → IsPlain all p → HasSigned n (at 7 all) ss k → ⊥
+  entry_not n es l v k e (bad_label _ _ _ _ _ w) all p ss s d a g = let x : Some s.label ≡ None = sym s.is ∙ no_label l e w in cc
+  entry_not n es l v k e (label_again _ _ _ _ m q i) all p ss s d a g = again_not es all l v s d m q i
+  entry_not n es l v k e (bad_field _ _ _ _ m _ q w) all p ss s d a g = value_not es all l v s d m e p q w a
+  entry_not n es l v k e (two_ivs _ _ _ b c _ m q x y) all p ss s d a g = ivs_not es all l v b c m p s q x y a
+  entry_not n es l v k e (bad_signatures _ _ _ _ m _ q r w) all p ss s d a g =
+      signed_not n v k e w (signs_by n v ss k (subst (λ o. HasSigned n o ss k) (there_at es all l v s d 7 m q r) g))
+
+  signed_not : (n : ℕ) (t : Tree) (k : ℕ) (e : CoseFault) → WrongSigned n t k e → Signs n t k → ⊥
+  signed_not n t k e (no_list _ _ x) a = let c : true ≡ false = sym (ap is_array a.is) ∙ x in cc
+  signed_not n t k e (no_first ts _ x) a =
+      let h : array ts ≡ array a.list = a.is in let q : ts ≡ a.list = cc in
+      by_kind a.kind (λ y. first_not ts a.list q x y.0) (λ y. first_not_list ts a.list q x y.0)
+  signed_not n t k e (in_bare ts _ _ b w) a =
+      let h : array ts ≡ array a.list = a.is in let q : a.list ≡ ts = cc in
+      by_kind a.kind (λ y. sig_not n (array ts) k e w y.1.0 (subst (λ z. HasSignature n (array z) y.1.0 k) q y.1.1)) (λ y. bare_no_list ts b (subst IsList q y.0))
+  signed_not n t k e (in_list before after u _ _ b w) a =
+      let h : array (trees (before ++ u ∷ after)) ≡ array a.list = a.is in let q : a.list ≡ trees (before ++ u ∷ after) = cc in
+      by_kind a.kind (λ y. bare_no_list (trees (before ++ u ∷ after)) (subst IsBare q y.0) b)
+      (λ y. let z = sigs_at n k before after u y.1.0 (subst (λ z. HasSignatures n z y.1.0 k) q y.1.1) in sig_not n u k e w z.0 z.1)
+
+  pub sig_not : (n : ℕ) (t : Tree) (k : ℕ) (e : CoseFault) → WrongSignature n t k e → (s : SignatureFields) → HasSignature n t s k → ⊥
+  sig_not n t k e (no_array _ _ x) (signature p h c) a = let d : true ≡ false = sym (ap is_array a.2) ∙ x in cc
+  sig_not n t k e (not_three ts _ x) (signature p h c) a =
+      let q : array ts ≡ array (list_of_three a.0 a.1 (bytes c)) = a.2 in let r : ts ≡ list_of_three a.0 a.1 (bytes c) = cc in x (ap tree_count r)
+  sig_not n t k e (in_protected x y z _ _ w) (signature p h c) a =
+      let q : array (list_of_three x y z) ≡ array (list_of_three a.0 a.1 (bytes c)) = a.2 in let r : a.0 ≡ x = cc in
+      prot_not n x k e w p (subst (λ u. HasProtected n u p k) r a.3)
+  sig_not n t k e (in_unprotected x y z _ _ w) (signature p h c) a =
+      let q : array (list_of_three x y z) ≡ array (list_of_three a.0 a.1 (bytes c)) = a.2 in let r : a.1 ≡ y = cc in
+      header_not n y k e w h (subst (λ u. HasHeader n u h k) r a.4)
+  sig_not n t k e (no_bytes x y z _ w) (signature p h c) a =
+      let q : array (list_of_three x y z) ≡ array (list_of_three a.0 a.1 (bytes c)) = a.2 in let r : z ≡ bytes c = cc in
+      let d : true ≡ false = sym (ap is_bytes r) ∙ w in cc
+
+  pub prot_not : (n : ℕ) (t : Tree) (k : ℕ) (e : CoseFault) → WrongProtected n t k e → (p : ProtectedFields) → HasProtected n t p k → ⊥
+  prot_not n t k e (no_string _ _ x) (protected o h) a = let d : true ≡ false = sym (ap is_bytes a.1) ∙ x in cc
+  prot_not n t k e (too_deep b) (protected o h) a = let z : 0 < 0 = a.3 in absurd (omega (arith, z))
+  prot_not n t k e (unreadable b _ _ z m w) (protected o h) a =
+      let q : bytes b ≡ bytes a.0 = a.1 in let r : b ≡ a.0 = cc in
+      inside_by n (k - 1) a.0 h ⊥ (λ y. m (r ∙ y)) (λ v u y. unreadable_not n b e v w (subst (λ c. Reads c n v) (sym r) u)) a.4
+  prot_not n t k e (inside b v _ _ z m u w) (protected o h) a =
+      let q : bytes b ≡ bytes a.0 = a.1 in let r : b ≡ a.0 = cc in
+      inside_by n (k - 1) a.0 h ⊥ (λ y. m (r ∙ y))
+      (λ x y g. header_not n v (k - 1) e w h (subst (λ c. HasHeader n c h (k - 1)) (reads_once a.0 b [] [] n x v y u (ap (λ c. c ++ []) (sym r))).0 g)) a.4

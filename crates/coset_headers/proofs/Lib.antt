@@ -1,0 +1,13 @@
+pub mod Alike
+pub mod Empty
+pub mod Entered
+pub mod Excludes
+pub mod Marks
+pub mod Names
+pub mod Pushed
+pub mod Signed
+pub mod Steps
+pub mod Unique
+pub mod Unset
+pub mod Weights
+pub mod Written

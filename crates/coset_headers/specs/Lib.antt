@@ -1,0 +1,13 @@
+pub mod Alone
+pub mod Builders
+pub mod Contexts
+pub mod Fields
+pub mod Headers
+pub mod Parts
+pub mod Places
+pub mod Structure
+pub mod View
+pub mod Walks
+pub mod Weight
+pub mod Written
+pub mod Wrong

@@ -1,0 +1,22 @@
+//! Headers of COSE, protected ones and counter signatures in them, and the structures that signatures, tags and encryptions cover
+//! (RFC 9052, sections 3, 4.4, 5.3 and 6.3).
+#![tactic(auto)]
+
+mod builder;
+mod context;
+mod copies;
+mod entries;
+mod header;
+pub mod laws;
+mod parts;
+mod reader;
+mod seen;
+mod serial;
+mod structure;
+mod values;
+mod writer;
+
+pub use crate::builder::{CoseSignatureBuilder, HeaderBuilder};
+pub use crate::context::{EncryptionContext, MacContext, SignatureContext};
+pub use crate::header::{CoseSignature, Header, ProtectedHeader};
+pub use crate::structure::{enc_structure_data, mac_structure_data, sig_structure_data};

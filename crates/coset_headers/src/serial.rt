@@ -1,0 +1,154 @@
+//! Headers and signatures as values and bytes.
+ghost use Rattle.std.specs.Prelude.{◌≡◌, Some, None, MatchResult, option_map};
+ghost use Rattle.ciborium_value.specs.Tree as spec;
+ghost use Rattle.ciborium_value.specs.View.{view};
+ghost use Rattle.coset_labels.specs.Faults.{OrMemory, CantWrite};
+ghost use Rattle.coset_headers.specs.Alone.{HasUnsent, unsent_tree, is_unset};
+ghost use Rattle.coset_headers.specs.Fields.{HeaderFields, ProtectedFields, SignatureFields, protected, no_header};
+ghost use Rattle.coset_headers.specs.Headers.{HasHeader, HasProtected, HasSignature};
+ghost use Rattle.coset_headers.specs.View.{header_view, protected_view, signature_view};
+ghost use Rattle.coset_headers.specs.Written.{header_tree, signature_tree, shown};
+ghost use Rattle.coset_headers.specs.Wrong.{WrongHeader, WrongProtected, WrongSignature};
+
+use crate::header::{CoseSignature, Header, ProtectedHeader};
+use crate::parts::Parts;
+use crate::reader::{read_header, read_protected, read_signature};
+use crate::writer::{show_protected, write_header, write_signature};
+use ciborium_value::Value;
+use coset_labels::{AsCborValue, CborSerializable, CoseError};
+use std::alloc::Global;
+
+/// How deep a protected header may nest.
+const NESTING: usize = 256;
+
+/// How many protected headers may lie inside one another, by counter signatures.
+const LAYERS: usize = 16;
+
+impl Header {
+    /// A header with no field. It takes no memory.
+    pub fn new(alloc: Global) -> Header
+        ensures { header_view result ≡ no_header }
+    {
+        Parts::new(alloc).header()
+    }
+}
+
+/// A header is read from its map, its entries in their order: of each first its label, then whether it stood before, its value, and IV
+/// against partial IV.
+impl AsCborValue for Header {
+    ghost Fields = { HeaderFields };
+
+    ghost fields = { header_view };
+
+    ghost shape = { λ t h. HasHeader 256 t h 16 };
+
+    ghost wrong = { λ t e. WrongHeader 256 t 16 e };
+
+    ghost written = { header_tree };
+
+    fn from_cbor_value(alloc: Global, value: Value) -> Result<Header, CoseError> {
+        read_header(alloc, value, NESTING, LAYERS)
+    }
+
+    fn to_cbor_value(self, alloc: Global) -> Result<Value, CoseError> {
+        write_header(alloc, self)
+    }
+}
+
+impl CborSerializable for Header {}
+
+/// As a header map, without received bytes.
+impl AsCborValue for ProtectedHeader {
+    ghost Fields = { ProtectedFields };
+
+    ghost fields = { protected_view };
+
+    ghost shape = { λ t p. HasUnsent 256 t p 16 };
+
+    ghost wrong = { λ t e. WrongHeader 256 t 16 e };
+
+    ghost written = { unsent_tree };
+
+    fn from_cbor_value(alloc: Global, value: Value) -> Result<ProtectedHeader, CoseError> {
+        let header = read_header(alloc, value, NESTING, LAYERS)?;
+        Ok(ProtectedHeader {
+            original_data: None,
+            header,
+        })
+    }
+
+    fn to_cbor_value(self, alloc: Global) -> Result<Value, CoseError> {
+        let ProtectedHeader {
+            original_data: _,
+            header,
+        } = self;
+        write_header(alloc, header)
+    }
+}
+
+impl CborSerializable for ProtectedHeader {}
+
+/// The elements are read from the last to the first.
+impl AsCborValue for CoseSignature {
+    ghost Fields = { SignatureFields };
+
+    ghost fields = { signature_view };
+
+    ghost shape = { λ t s. HasSignature 256 t s 16 };
+
+    ghost wrong = { λ t e. WrongSignature 256 t 16 e };
+
+    ghost written = { signature_tree };
+
+    fn from_cbor_value(alloc: Global, value: Value) -> Result<CoseSignature, CoseError> {
+        read_signature(alloc, value, NESTING, LAYERS)
+    }
+
+    fn to_cbor_value(self, alloc: Global) -> Result<Value, CoseError> {
+        write_signature(alloc, self)
+    }
+}
+
+impl CborSerializable for CoseSignature {}
+
+impl ProtectedHeader {
+    /// A header with no field and no bytes received. It takes no memory.
+    pub fn new(alloc: Global) -> ProtectedHeader
+        ensures { protected_view result ≡ protected None no_header }
+    {
+        ProtectedHeader {
+            original_data: None,
+            header: Header::new(alloc),
+        }
+    }
+
+    /// Whether no field is set.
+    pub fn is_empty(&self) -> bool
+        ensures { result ≡ is_unset (protected_view self.now) }
+    {
+        self.header.is_empty()
+    }
+
+    /// Reads the byte string that a protected header is, and keeps its bytes (RFC 9052, section 3). At most 16 protected headers may lie
+    /// inside one another.
+    ///
+    /// # Errors
+    /// A fault that the value has, or `Memory`. `ExtraneousData` where bytes go on behind the header.
+    pub fn from_cbor_bstr(alloc: Global, value: Value) -> Result<ProtectedHeader, CoseError>
+        ensures { MatchResult result (λ p. HasProtected 256 (view value) (protected_view p) 16) (λ e. OrMemory (WrongProtected 256 (view value) 16) e) }
+    {
+        read_protected(alloc, value, NESTING, LAYERS)
+    }
+
+    /// The byte string that stands for this header: the bytes that were received; else an empty string for an empty header, and the
+    /// encoded map for another.
+    ///
+    /// # Errors
+    /// `DuplicateMapKey` exactly where a label stands twice in a header that has to be encoded, or `Memory`.
+    pub fn cbor_bstr(self, alloc: Global) -> Result<Value, CoseError>
+        ensures { MatchResult result (λ v. option_map spec.bytes (shown (protected_view self)) ≡ Some (view v)) (λ e. CantWrite (option_map spec.bytes (shown (protected_view self))) e) }
+    {
+        let bytes = show_protected(alloc, self)?;
+        Ok(Value::Bytes(bytes))
+    }
+}

@@ -1,0 +1,4 @@
+pub mod Arrays
+pub mod Items
+pub mod Loops
+pub mod Orders

@@ -1,0 +1,9 @@
+pub mod Arrays
+pub mod Faults
+pub mod Fields
+pub mod Kinds
+pub mod Labels
+pub mod Names
+pub mod Orders
+pub mod Reading
+pub mod View

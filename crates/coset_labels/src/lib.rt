@@ -1,0 +1,22 @@
+//! Labels of COSE and the errors of all its crates (RFC 9052).
+#![tactic(auto)]
+
+mod error;
+mod kinds;
+mod label;
+pub mod laws;
+mod order;
+mod reading;
+mod registered;
+mod traits;
+
+pub use crate::error::{CoseError, EndOfFile, Fault, Result};
+pub use crate::kinds::{ValueTryAs, cbor_type_error};
+pub use crate::label::Label;
+pub use crate::order::CborOrdering;
+pub use crate::reading::{read_to_value, write_to_vec};
+pub use crate::registered::{
+    Algorithm, ContentType, KeyType, RegisteredLabel, RegisteredLabelWithPrivate,
+};
+pub use crate::traits::{AsCborValue, CborSerializable, TaggedCborSerializable, to_cbor_array};
+pub use cose_iana as iana;
