@@ -3,14 +3,14 @@ use Rattle.std.proofs.Common.{◌≡◌, ◌≢◌, ℕ, ◌+◌, ◌^◌, ◌<�
 use Rattle.std.specs.Prelude.{IsTrue, MatchResult, false}
 use Rattle.std.specs.Io.KnownBytes.{Consumes}
 use Rattle.ciborium_ll.specs.declared.dec.Decoder.{Decoder}
-use Rattle.ciborium_ll.specs.Reading.{Takes, due}
+use Rattle.ciborium_ll.specs.Reading.{Moves, due}
 use Rattle.ciborium_ll.specs.Views.{left_of, waiting_of, reader_of}
 use Rattle.ciborium_value.specs.Tree.{Tree, tag}
 use Rattle.ciborium.specs.declared.de.Error.{Error}
 use Rattle.ciborium.specs.declared.de.Error.TheVariants as de
 use Rattle.ciborium.specs.Front.{Reads}
 use Rattle.ciborium.specs.Damage.{Fault, Damage, end, syntax, semantic, deep}
-use Rattle.ciborium.specs.Reading.{FailsAt, Known}
+use Rattle.ciborium.specs.Reading.{FailsAt, IfKnown}
 use Rattle.coset_labels.specs.Faults.{CoseFault, OrMemory, lifted, fault_of, unexpected}
 use Rattle.coset_labels.specs.Kinds.{is_tag}
 use Rattle.coset_labels.specs.Reading.{NotReadable, damaged, goes_on, HasItem, WrongItem, inside, Tagged, WrongTagged, no_tag, other_tag, under_tag}
@@ -42,10 +42,10 @@ not_read_at ends b limit o de.Memory s t w = inl refl
 not_read_at ends b limit o de.TooLong s t w = absurd (omega (arith, w, s))
 
 pub not_read : {E : Type 0} (ends : E → Bool) (l : Option (List ℕ)) (b : List ℕ) (limit o o' : ℕ) (e : Error E) → length b + 4096 < 2 ^ 64 → l ≡ Some b → o ≡ 0 → ((x : E) → IsTrue (ends x))
-    → Known l (λ b. FailsAt ends b o o' (λ stop b f. Damage stop b limit f) e) → OrMemory (NotReadable b limit) (lifted e)
+    → IfKnown l (λ b. FailsAt ends b o o' (λ stop b f. Damage stop b limit f) e) → OrMemory (NotReadable b limit) (lifted e)
 not_read ends l b limit o o' e s p q t w =
     not_read_at ends b limit o' e s t
-    (subst (λ z. FailsAt ends b z o' (λ stop b f. Damage stop b limit f) e) q (subst (λ z. Known z (λ b. FailsAt ends b o o' (λ stop b f. Damage stop b limit f) e)) p w))
+    (subst (λ z. FailsAt ends b z o' (λ stop b f. Damage stop b limit f) e) q (subst (λ z. IfKnown z (λ b. FailsAt ends b o o' (λ stop b f. Damage stop b limit f) e)) p w))
 
 behind_known : (m : Option (List ℕ)) (b x : List ℕ) (limit n : ℕ) (v : Tree) → Reads x limit v → Consumes (Some b) m x → n ≡ 0 + length x → n < length b → NotReadable b limit (fault_of code.ExtraneousData)
 behind_known None b x limit n v r t g h = absurd t
@@ -55,7 +55,7 @@ behind_known (Some rest) b x limit n v r t g h = goes_on v rest (record { spelli
     let z : length rest ≡ 0 = ap length e in
     absurd (omega arith))
 
-pub behind : (l m : Option (List ℕ)) (b : List ℕ) (limit o o' n : ℕ) (v : Tree) → l ≡ Some b → o ≡ 0 → Takes l m o o' (λ b. Reads b limit v) → n ≡ o' → n < length b → OrMemory (NotReadable b limit) code.ExtraneousData
+pub behind : (l m : Option (List ℕ)) (b : List ℕ) (limit o o' n : ℕ) (v : Tree) → l ≡ Some b → o ≡ 0 → Moves l m o o' (λ b. Reads b limit v) → n ≡ o' → n < length b → OrMemory (NotReadable b limit) code.ExtraneousData
 behind l m b limit o o' n v p q t r h =
     inr (behind_known m b t.bytes limit n v t.has (subst (λ z. Consumes z m t.bytes) p t.taken) (r ∙ t.grown ∙ ap (λ z. z + length t.bytes) q) h)
 

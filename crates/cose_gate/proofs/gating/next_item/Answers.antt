@@ -10,4 +10,4 @@ returns-else-is_end-clause-nothing g c = λ none same small.
       | else-is_end-via-then-is_end+else-offset w ↦ w.if-offset.false (w.offset.ensures ∙ stays ∙ sym c.offset-offset.ensures)
       | else-is_end-via-else-is_end w ↦ (cc (c.is_end.ensures, at_end, w.if-is_end.false))
     ])
-    c.in-Err.ensures.failed same
+    c.in-Err.ensures.steady.failed same
