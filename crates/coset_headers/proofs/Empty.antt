@@ -1,5 +1,5 @@
 -- A list by its test for emptiness.
-use Rattle.std.proofs.Common.{◌≡◌, ◌≢◌, ℕ, List, [], ◌∷◌, length, Bool, true, false, sym, ap, refl, ◌∙◌, arith, vec_len, Vec, Global}
+use Rattle.std.proofs.Common.{◌≡◌, ◌≢◌, List, [], ◌∷◌, length, Bool, true, false, sym, ap, refl, ◌∙◌, arith, vec_len, Vec, Global}
 use Rattle.std.specs.Prelude.{◌==◌}
 use borrow.Author.Tests.{eqb-true}
 

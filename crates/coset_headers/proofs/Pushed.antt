@@ -1,5 +1,5 @@
 -- Entries that are appended to a map.
-use Rattle.std.proofs.Common.{◌≡◌, ◌≢◌, ℕ, pos, inl, inr, false, cond, Vec, Global, List, [], ◌∷◌, ◌++◌, map, Option, Some, None, option_map, option_and_then, refl, sym, ap, ◌∙◌, append-nil, append_assoc}
+use Rattle.std.proofs.Common.{◌≡◌, ◌≢◌, pos, inl, inr, false, cond, Vec, Global, List, [], ◌∷◌, ◌++◌, map, Some, None, option_map, refl, sym, ap, ◌∙◌, append-nil, append_assoc}
 use Rattle.std.proofs.lemmas.List.{map-append}
 use Rattle.ciborium_value.specs.Tree.{Tree, integer, array, map as map_tree, Trees}
 use Rattle.ciborium_value.specs.View.{trees, pairs, view, view_pair}

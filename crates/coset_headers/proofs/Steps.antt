@@ -1,26 +1,24 @@
 -- What one step of the reader shows, over plain variables.
-use Rattle.std.proofs.Common.{◌≡◌, ◌≢◌, ℕ, ℤ, pos, cond, ◌+◌, ◌-◌, ◌<◌, ◌⊎◌, inl, inr, List, [], ◌∷◌, ◌++◌, length, map, Bool, true, false, Option, Some, None, refl, sym, ap, subst, ◌∙◌, arith, vec_len, Vec, Global}
-use Rattle.std.specs.Prelude.{◌==◌, slice_get}
+use Rattle.std.proofs.Common.{◌≡◌, ◌≢◌, ℕ, ℤ, pos, cond, ◌-◌, ◌<◌, inl, inr, List, [], ◌∷◌, ◌++◌, length, map, Bool, true, false, Option, Some, None, refl, sym, ap, subst, ◌∙◌, arith}
+use Rattle.std.specs.Prelude.{slice_get}
 use Rattle.std.proofs.lemmas.List.{map-append}
-use borrow.Author.Tests.{eqb-true}
-use Rattle.ciborium_value.specs.Tree as spec
 use Rattle.ciborium_value.specs.Tree.{Tree, integer, bytes, text, array, map as map_tree, tag, simple, float, Trees, no_trees, one_more, Pairs, tree_count, is_bytes}
 use Rattle.ciborium_value.specs.View.{trees, pairs, view, views, view_pair, view_pairs}
 use Rattle.ciborium_value.specs.declared.value.Value.{Value}
 use Rattle.ciborium.specs.Front.{Reads}
 use Rattle.coset_labels.specs.Fields.{LabelFields, number, Named, assigned, named}
-use Rattle.coset_labels.specs.Faults.{CoseFault, OrMemory, fault_of, unexpected, duplicate_key}
+use Rattle.coset_labels.specs.Faults.{CoseFault, OrMemory, fault_of, unexpected}
 use Rattle.coset_labels.specs.Kinds.{is_map, is_array, some_bytes}
 use Rattle.coset_labels.specs.Labels.{is_i64, label_of, registered_of, WrongLabel}
 use Rattle.coset_labels.specs.Reading.{NotReadable}
 use Rattle.coset_labels.specs.declared.error.CoseError.{CoseError}
 use Rattle.coset_labels.specs.declared.error.CoseError.TheVariants as code
 use Rattle.coset_headers.specs.Fields.{Plain, HeaderFields, header, no_plain, no_header, SignatureFields, signatures, Signatures, no_signatures, signature_more}
-use Rattle.coset_headers.specs.Headers.{is_at, entries, at, IsIn, IsPlain, IsBare, IsList, list_of_three, HasHeader, HasProtected, HasSignature, HasSigned, HasSignatures}
+use Rattle.coset_headers.specs.Headers.{is_at, entries, at, IsIn, IsPlain, IsBare, IsList, list_of_three, HasHeader, HasSignature, HasSigned, HasSignatures}
 use Rattle.coset_headers.specs.Parts.{plain_of, signs_of, Sees, Known, KnownIn, Added, Filled}
 use Rattle.coset_headers.specs.View.{signature_view, signatures_view}
-use Rattle.coset_headers.specs.Walks.{WrongFill, field_wrong, iv_second, partial_iv_second, Inside, WrongInside, is_unreadable, is_wrong, HasEntries, WrongEntries, WrongSignatures}
-use Rattle.coset_headers.specs.Wrong.{WrongField, WrongHeader, no_map, at_entry, WrongEntry, bad_label, label_again, bad_field, two_ivs, bad_signatures, WrongSigned, no_list, no_first, in_bare, in_list, NoSignature, WrongSignature, no_array, not_three, in_protected, in_unprotected, no_bytes, WrongProtected, no_string, too_deep, unreadable, inside}
+use Rattle.coset_headers.specs.Walks.{WrongFill, field_wrong, iv_second, partial_iv_second, WrongInside, is_unreadable, is_wrong, HasEntries, WrongEntries, WrongSignatures}
+use Rattle.coset_headers.specs.Wrong.{WrongField, WrongHeader, no_map, at_entry, WrongEntry, bad_label, bad_field, two_ivs, bad_signatures, WrongSigned, no_list, no_first, in_bare, in_list, NoSignature, WrongSignature, no_array, not_three, in_protected, in_unprotected, no_bytes, WrongProtected, no_string, too_deep, unreadable, inside}
 use Rattle.coset_headers.specs.declared.header.CoseSignature.{CoseSignature}
 use Rattle.coset_headers.specs.declared.parts.Parts.{Parts}
 use Rattle.coset_headers.specs.declared.seen.Seen.{Seen}

@@ -1,10 +1,10 @@
 -- What writing a header shows.
-use Rattle.std.proofs.Common.{◌≡◌, ℕ, zero, suc, ◌+◌, ◌<◌, ◌⊎◌, inl, inr, ⊎_elim, List, [], ◌∷◌, ◌++◌, length, map, take, get_or, Bool, true, false, Option, Some, None, option_map, option_and_then, refl, sym, ap, subst, ◌∙◌, arith, append_assoc, append-nil}
+use Rattle.std.proofs.Common.{◌≡◌, ℕ, zero, suc, ◌+◌, ◌<◌, inl, inr, List, [], ◌∷◌, ◌++◌, length, map, take, get_or, Bool, true, false, Option, Some, None, option_map, option_and_then, refl, sym, ap, subst, ◌∙◌, arith}
 use Rattle.std.specs.Prelude.{◌||◌, ◌==◌}
 use borrow.Author.Tests.{eqb-true}
 use Rattle.std.specs.Ordering.{is_eq}
 use Rattle.std.proofs.lemmas.List.{map-append, take_more}
-use Rattle.ciborium_value.specs.Tree.{Tree, bytes, array, Trees, no_trees, one_more}
+use Rattle.ciborium_value.specs.Tree.{Tree, Trees, one_more}
 use Rattle.ciborium_value.specs.View.{trees, view, views}
 use Rattle.ciborium_value.specs.declared.value.Value.{Value}
 use Rattle.coset_labels.specs.Arrays.{all_written}
@@ -15,7 +15,7 @@ use Rattle.coset_labels.specs.View.{label_view}
 use Rattle.coset_labels.specs.declared.error.CoseError.{CoseError}
 use Rattle.coset_labels.specs.declared.label.Label.{Label}
 use Rattle.coset_labels.proofs.Arrays.{written_none}
-use Rattle.coset_headers.specs.Fields.{HeaderFields, SignatureFields, signatures, Signatures}
+use Rattle.coset_headers.specs.Fields.{SignatureFields, signatures}
 use Rattle.coset_headers.specs.Headers.{IsIn, Distinct}
 use Rattle.coset_headers.specs.Parts.{Sees}
 use Rattle.coset_headers.specs.View.{entry_view, signature_view, signatures_view}

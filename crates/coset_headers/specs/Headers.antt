@@ -1,13 +1,13 @@
 -- Which fields a value has as a header, a protected header, a signature (RFC 9052, sections 3, 3.1 and 4.1). Each definition has the
 -- nesting limit `n` of protected bytes, and how many protected byte strings may still lie inside one another, `k`.
-use Rattle.std.specs.Prelude.{◌≡◌, ◌≢◌, ℕ, ℤ, pos, negsuc, ◌-◌, ◌<◌, ◌⊎◌, List, [], ◌∷◌, Bool, true, false, ◌||◌, ◌&&◌, ◌==◌, if◌then◌else◌, nat_eq, Option, Some, None, option_map, option_and_then}
+use Rattle.std.specs.Prelude.{◌≡◌, ◌≢◌, ℕ, ℤ, pos, negsuc, ◌-◌, ◌<◌, ◌⊎◌, List, [], ◌∷◌, Bool, false, ◌||◌, if◌then◌else◌, nat_eq, Option, Some, None, option_map, option_and_then}
 use Rattle.std.specs.Str.{trim}
 use Rattle.std.specs.List.{count_by}
 use Rattle.cose_iana.specs.Algorithms.{is_algorithm}
 use Rattle.cose_iana.specs.Formats.{coap_content_formats}
 use Rattle.cose_iana.specs.Headers.{header_parameters}
 use Rattle.cose_iana.specs.Registry.{is_private_use}
-use Rattle.ciborium_value.specs.Tree.{Tree, integer, bytes, text, array, map as map_tree, Trees, no_trees, one_more, Pairs, no_pairs, pair_more}
+use Rattle.ciborium_value.specs.Tree.{Tree, bytes, array, map as map_tree, Trees, no_trees, one_more, Pairs, no_pairs, pair_more}
 use Rattle.ciborium.specs.Front.{Reads}
 use Rattle.coset_labels.specs.Fields.{LabelFields, number, words, Named, named}
 use Rattle.coset_labels.specs.Kinds.{some_bytes}

@@ -1,5 +1,5 @@
 -- The fields that the entries of a header that are read so far have given.
-use Rattle.std.specs.Prelude.{◌≡◌, ℕ, pos, List, [], ◌∷◌, ◌++◌, map, Bool, true, false, IsTrue, false, Some, option_map}
+use Rattle.std.specs.Prelude.{◌≡◌, ℕ, pos, List, [], ◌∷◌, ◌++◌, map, Bool, true, false, false, Some, option_map}
 use Rattle.std.specs.BTreeSet.{contains}
 use Rattle.std.specs.Ordering.{on}
 use Rattle.cose_iana.specs.Algorithms.{algorithm_number}
@@ -13,7 +13,7 @@ use Rattle.coset_labels.specs.Orders.{label_cmp}
 use Rattle.coset_labels.specs.View.{label_view, registered_view, named_view}
 use Rattle.coset_labels.specs.declared.label.Label.{Label}
 use Rattle.coset_headers.specs.Fields.{Plain, Signatures}
-use Rattle.coset_headers.specs.Headers.{is_at, is_core, alg_of, crit_of, HasContentType, at, IsIn, Distinct, IsPlain, HasSigned}
+use Rattle.coset_headers.specs.Headers.{is_core, alg_of, crit_of, HasContentType, at, IsIn, Distinct, IsPlain, HasSigned}
 use Rattle.coset_headers.specs.View.{entry_view, signatures_view}
 use Rattle.coset_headers.specs.declared.parts.Parts.{Parts}
 use Rattle.coset_headers.specs.declared.seen.Seen.{Seen}

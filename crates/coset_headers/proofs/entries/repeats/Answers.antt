@@ -1,4 +1,4 @@
-use Rattle.std.proofs.Common.{List, [], ◌∷◌, ◌++◌, ◌≡◌, map, take, false, refl, sym, subst, take_all}
+use Rattle.std.proofs.Common.{[], ◌∷◌, ◌++◌, ◌≡◌, map, take, false, sym, subst, take_all}
 use Rattle.std.proofs.lemmas.Result.{err_from_is_err_and}
 use Rattle.ciborium_value.specs.Tree.{Tree}
 use Rattle.coset_labels.specs.View.{label_view}

@@ -7,15 +7,14 @@ use Rattle.coset_labels.specs.Faults.{OrMemory, fault_of, unexpected}
 use Rattle.coset_labels.specs.View.{label_view}
 use Rattle.coset_labels.proofs.Items.{match_map}
 use Rattle.coset_labels.proofs.Loops.{vec_yields, turned, moved}
-use Rattle.coset_headers.specs.Headers.{IsBare, IsList, HasSignature}
+use Rattle.coset_headers.specs.Headers.{IsBare, IsList}
 use Rattle.coset_headers.specs.Parts.{plain_of}
-use Rattle.coset_headers.specs.View.{signature_view}
 use Rattle.coset_headers.specs.Walks.{WrongFill, WrongInside}
-use Rattle.coset_headers.specs.Weight.{weight, weight_all, weight_pairs}
+use Rattle.coset_headers.specs.Weight.{weight_all, weight_pairs}
 use Rattle.coset_headers.specs.Wrong.{NoSignature, WrongEntry, WrongSignature, label_again}
 use Rattle.coset_headers.proofs.Empty.{full_by, empty_by}
 use Rattle.coset_headers.proofs.Weights.{reads_long, weight_pos, weight_among, weight_pair_among}
-use Rattle.coset_headers.proofs.Steps.{passed_on, header_kind, header_inside, header_has, entry_label, entry_signatures, entry_filled, known_filled, known_signed, entries_at_fault, entries_pushed, header_none, signed_kind, signed_first, signed_bare, signed_list, signed_one, signed_all, sigs_pushed, sigs_at_fault, sig_kind, sig_count, sig_bytes, sig_unprotected, sig_protected, prot_kind, prot_deep, prot_inside, inside_unreadable, inside_wrong}
+use Rattle.coset_headers.proofs.Steps.{passed_on, header_kind, header_inside, header_has, entry_label, entry_signatures, entry_filled, known_filled, known_signed, entries_at_fault, entries_pushed, header_none, signed_kind, signed_first, signed_bare, signed_list, signed_all, sigs_pushed, sigs_at_fault, sig_kind, sig_count, sig_bytes, sig_unprotected, sig_protected, prot_kind, prot_deep, prot_inside, inside_unreadable, inside_wrong}
 use Rattle.coset_headers.proofs.reader.+reader.Goals as goal
 
 pub read_header-returns-in_err-entries : goal.read_header-returns-in_err-entries

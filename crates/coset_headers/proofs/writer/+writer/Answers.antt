@@ -1,4 +1,4 @@
-use Rattle.std.proofs.Common.{refl, sym, ap, map, Some, ◌∙◌}
+use Rattle.std.proofs.Common.{refl, sym, ap, map, Some}
 use Rattle.std.proofs.lemmas.Iterator.Consumers.{YieldsList-turn}
 use Rattle.std.proofs.lemmas.Result.{err_from_is_err_and}
 use Rattle.ciborium_value.specs.View.{view, views}
