@@ -21,3 +21,5 @@ pub mod ItemCases
 pub mod Agreeing
 pub mod Sequence
 pub mod Written
+pub mod Fitting
+pub mod ReadBack

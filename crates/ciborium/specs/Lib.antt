@@ -1,5 +1,6 @@
 pub mod Building
 pub mod Damage
+pub mod Fitting
 pub mod Front
 pub mod Items
 pub mod Meaning

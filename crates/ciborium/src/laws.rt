@@ -10,12 +10,18 @@ ghost use Rattle.ciborium_value.specs.View.{view};
 ghost use Rattle.ciborium.specs.Spelling.{Spells};
 ghost use Rattle.ciborium.specs.Meaning.{meaning, Assigned};
 ghost use Rattle.ciborium.specs.Damage.{Fault, semantic, Damage};
-ghost use Rattle.ciborium.specs.Front.{Front};
+ghost use Rattle.ciborium.specs.Front.{Front, Reads};
 ghost use Rattle.ciborium.specs.Items.{Item, Items, item_at, nesting};
+ghost use Rattle.ciborium.specs.Fitting.{FitsEvent};
+ghost use Rattle.ciborium.specs.Typed.{ReadsAs};
 
-use crate::value::Value;
+use crate::value::{Integer, Value};
+use ciborium_ll::laws::header_fits;
+use ciborium_ll::{Float, Header};
 pub use ciborium_typed::laws as typed;
+use ciborium_typed::{Deserialize, RoundTrip, Serialize, Sink};
 pub use ciborium_value::laws as values;
+use std::convert::Infallible;
 
 /// No spelling begins another, and one list spells at most one tree.
 pub fn one_spelling()
@@ -117,3 +123,116 @@ pub fn reading_agrees()
     ensures negative { (stop limit : ℕ) (rest : List ℕ) (t : Tree) → Fits t → Assigned t → depth t ≤ limit → fold t ≡ None
         → Damage stop (enc t ++ rest) limit (semantic BigNegative) }
 {}
+
+/// A sink that takes each event, and keeps none.
+#[derive(Drop)]
+struct Watcher;
+
+impl Sink for Watcher {
+    type Error = Infallible;
+
+    ghost adds = { λ s event t. FitsEvent event };
+
+    ghost refuses = { λ s event t. ⊥ };
+
+    fn integer(&mut self, number: Integer) -> Result<(), Infallible> {
+        let _number = i128::from(number);
+        Ok(())
+    }
+
+    fn bytes(&mut self, bytes: &[u8]) -> Result<(), Infallible> {
+        let _len = bytes.len();
+        Ok(())
+    }
+
+    fn float(&mut self, float: Float) -> Result<(), Infallible> {
+        header_fits(Header::Float(float));
+        Ok(())
+    }
+
+    fn text(&mut self, text: &str) -> Result<(), Infallible> {
+        let _len = text.len();
+        Ok(())
+    }
+
+    fn boolean(&mut self, value: bool) -> Result<(), Infallible> {
+        match value {
+            true => Ok(()),
+            false => Ok(()),
+        }
+    }
+
+    fn null(&mut self) -> Result<(), Infallible> {
+        Ok(())
+    }
+
+    fn tag(&mut self, tag: u64) -> Result<(), Infallible> {
+        header_fits(Header::Tag(tag));
+        Ok(())
+    }
+
+    fn array(&mut self, len: usize) -> Result<(), Infallible> {
+        header_fits(Header::Array(Some(len)));
+        Ok(())
+    }
+
+    fn map(&mut self, len: usize) -> Result<(), Infallible> {
+        header_fits(Header::Map(Some(len)));
+        Ok(())
+    }
+}
+
+/// The item that a value is written as fits, and each simple value in it is false, true or null, whatever its type.
+pub fn written_fits<T: Serialize>(value: &T)
+    ensures fits { Fits (T.put value.now) }
+    ensures assigned { Assigned (T.put value.now) }
+{
+    match value.serialize(&mut Watcher) {
+        Ok(()) => {}
+        Err(never) => match never {},
+    }
+}
+
+/// A kept value is read of the bytes that it is written as, whatever follows them, if it nests no deeper than the limit. Whatever else
+/// is read of them is written alike, and leaves what follows.
+pub fn written_is_read<T: RoundTrip>(value: &T)
+    ensures read { T.kept value.now → (limit : ℕ) → depth (T.put value.now) ≤ limit
+        → ReadsAs T.refusal T.takes limit value.now (enc (T.put value.now)) }
+    ensures front { T.kept value.now → (limit : ℕ) (rest : List ℕ) → depth (T.put value.now) ≤ limit
+        → Front (enc (T.put value.now) ++ rest) limit (T.put value.now) rest }
+
+    // The bytes have no fault, and the type refuses no item that is read of them.
+    ensures whole { T.kept value.now → (stop limit : ℕ) (rest : List ℕ) (e : Fault) → depth (T.put value.now) ≤ limit
+        → Damage stop (enc (T.put value.now) ++ rest) limit e → ⊥ }
+    ensures item { T.kept value.now → (limit : ℕ) (b rest more : List ℕ) (t : Tree) → enc (T.put value.now) ++ rest ≡ b ++ more
+        → Reads b limit t → (t ≡ T.put value.now) × (T.refusal t ≡ None) }
+    ensures alike { T.kept value.now → (limit : ℕ) (b rest more : List ℕ) (y : T) → enc (T.put value.now) ++ rest ≡ b ++ more
+        → ReadsAs T.refusal T.takes limit y b → (T.put y ≡ T.put value.now) × (b ≡ enc (T.put value.now)) × (more ≡ rest) }
+{
+    written_fits(value);
+}
+
+/// Values that are read at the front of one list of bytes are written alike, whatever the limits, and were read of the same bytes. A
+/// value that is read of an encoding is written as one that is taken of the folded tree.
+pub fn readings_agree<T: RoundTrip>()
+    ensures read { (n m : ℕ) (b : List ℕ) (x y : T) → ReadsAs T.refusal T.takes n x b → ReadsAs T.refusal T.takes m y b
+        → T.put x ≡ T.put y }
+    ensures front { (n m : ℕ) (b c u v : List ℕ) (x y : T) → b ++ u ≡ c ++ v → ReadsAs T.refusal T.takes n x b
+        → ReadsAs T.refusal T.takes m y c → (T.put x ≡ T.put y) × (b ≡ c) × (u ≡ v) }
+    ensures taken { (limit : ℕ) (t u : Tree) (x y : T) → Fits t → Assigned t → fold t ≡ Some u → T.takes u x
+        → ReadsAs T.refusal T.takes limit y (enc t) → T.put x ≡ T.put y }
+{}
+
+/// What a type takes of a folded value is what is read of the value's encoding, if it nests no deeper than the limit.
+pub fn reading_takes<T: Deserialize>(value: &Value)
+    ensures taken { (limit : ℕ) (u : Tree) (x : T) → depth (view value.now) ≤ limit → fold (view value.now) ≡ Some u
+        → T.refusal u ≡ None → T.takes u x → ReadsAs T.refusal T.takes limit x (enc (view value.now)) }
+    ensures read { (limit : ℕ) (x : T) → ReadsAs T.refusal T.takes limit x (enc (view value.now))
+        → (u : Tree) × (fold (view value.now) ≡ Some u) × (T.refusal u ≡ None) × T.takes u x }
+
+    // So is an item that the type refuses.
+    ensures item { (limit : ℕ) (t : Tree) → Reads (enc (view value.now)) limit t → fold (view value.now) ≡ Some t }
+{
+    values::value_fits(value);
+    values_are_assigned(value);
+}
