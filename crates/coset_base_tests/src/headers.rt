@@ -1,11 +1,11 @@
 //! What no clause says: the texts of errors, and that calls succeed. Expected bytes are written out by hand.
+use ciborium::de;
+use ciborium_ll::{Decoder, Mem};
+use ciborium_value::{Kind, Value};
 use coset_base::{
     Algorithm, AsCborValue, CoseError, EndOfFile, Header, Label, ProtectedHeader, SignatureContext,
     iana, sig_structure_data,
 };
-use ciborium::de;
-use ciborium_ll::{Decoder, Mem};
-use ciborium_value::{Kind, Value};
 use std::alloc::Global;
 use std::test::Fail;
 
