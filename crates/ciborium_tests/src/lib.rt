@@ -9,4 +9,6 @@ mod examples;
 #[cfg(test)]
 mod reading;
 #[cfg(test)]
+mod round_trips;
+#[cfg(test)]
 mod typed;
