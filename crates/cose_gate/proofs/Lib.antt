@@ -4,3 +4,4 @@ pub mod Outcomes
 pub mod Programs
 pub mod Reach
 pub mod Unique
+pub mod TagNumbers

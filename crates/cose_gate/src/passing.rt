@@ -1,9 +1,10 @@
 //! One item on its way through the gate.
-ghost use Rattle.std.specs.Prelude.{◌≡◌, ◌≢◌, ◌+◌, MatchBool, IfOk, IfErr, OnOk};
+ghost use Rattle.std.specs.Prelude.{◌≡◌, ◌≢◌, ◌+◌, pos, MatchBool, IfOk, IfErr, OnOk};
 ghost use Rattle.std.specs.Io.KnownBytes.{Appends};
 ghost use Rattle.ciborium_value.specs.Encoding.{enc};
 ghost use Rattle.ciborium_value.specs.Tree.{tag};
 ghost use Rattle.ciborium_value.specs.View.{view};
+ghost use Rattle.cose_iana.specs.Tags.{cbor_tags};
 ghost use Rattle.coset_messages.specs.View.{sign1_view};
 ghost use Rattle.cose_gate.specs.Questions.{sign1, tagged_tree};
 ghost use Rattle.coset_base.specs.declared.error.CoseError.TheVariants.{Memory};
@@ -14,6 +15,7 @@ use crate::judge::Judge;
 use crate::report::{Refusal, Verdict};
 use ciborium::{Value, into_writer};
 use ciborium_ll::Write;
+use coset_base::iana::{CborTag, EnumI64};
 use coset_base::{AsCborValue, CoseError};
 use coset_messages::CoseSign1;
 use std::alloc::{AllocError, AllocFailed, Global};
@@ -93,19 +95,26 @@ fn find_sign1(alloc: Global, content: Value) -> Result<Found, AllocError>
     }
 }
 
+/// Whether this is the tag's number in the registry (RFC 9052, section 2).
+fn is_tag(number: u64, tag: CborTag) -> bool
+    ensures { MatchBool result (pos number ≡ cbor_tags.number tag) (pos number ≢ cbor_tags.number tag) }
+{
+    i128::from(number) == i128::from(tag.to_i64())
+}
+
 /// The message that an item is, or why it is none that is judged.
 fn find(alloc: Global, value: Value) -> Result<Found, AllocError>
     ensures { IfOk result (IsFound (view value)) }
 {
     match value {
         Value::Tag(number, content) => {
-            if number == 16 {
+            if is_tag(number, CborTag::CoseEncrypt0) {
                 return Ok(Found::Barred(Refusal::Encrypted));
             }
-            if number == 96 {
+            if is_tag(number, CborTag::CoseEncrypt) {
                 return Ok(Found::Barred(Refusal::Encrypted));
             }
-            if number != 18 {
+            if !is_tag(number, CborTag::CoseSign1) {
                 return Ok(Found::Barred(Refusal::OtherTag(number)));
             }
             find_sign1(alloc, Box::into_inner(content))

@@ -1,0 +1,35 @@
+-- The numbers of the tags that the gate tells apart.
+use Rattle.std.proofs.Common.{◌≡◌, ◌≢◌, ℕ, pos, refl, sym, ap, ◌∙◌}
+use Rattle.cose_iana.specs.Registry.{number_of}
+use Rattle.cose_iana.specs.Tags.{cbor_tags}
+use Rattle.cose_iana.specs.declared.tags.CborTag.TheVariants.{CoseEncrypt0, CoseEncrypt, CoseSign1}
+
+encrypt0_number : cbor_tags.number CoseEncrypt0 ≡ pos 16
+unfolding cbor_tags number_of
+encrypt0_number = refl
+
+encrypt_number : cbor_tags.number CoseEncrypt ≡ pos 96
+unfolding cbor_tags number_of
+encrypt_number = refl
+
+sign1_number : cbor_tags.number CoseSign1 ≡ pos 18
+unfolding cbor_tags number_of
+sign1_number = refl
+
+pub encrypt0_is : (n : ℕ) → pos n ≡ cbor_tags.number CoseEncrypt0 → n ≡ 16
+encrypt0_is n e = let q : pos n ≡ pos 16 = e ∙ encrypt0_number in cc
+
+pub encrypt_is : (n : ℕ) → pos n ≡ cbor_tags.number CoseEncrypt → n ≡ 96
+encrypt_is n e = let q : pos n ≡ pos 96 = e ∙ encrypt_number in cc
+
+pub sign1_is : (n : ℕ) → pos n ≡ cbor_tags.number CoseSign1 → n ≡ 18
+sign1_is n e = let q : pos n ≡ pos 18 = e ∙ sign1_number in cc
+
+pub not_encrypt0 : (n : ℕ) → pos n ≢ cbor_tags.number CoseEncrypt0 → n ≢ 16
+not_encrypt0 n other e = other (ap pos e ∙ sym encrypt0_number)
+
+pub not_encrypt : (n : ℕ) → pos n ≢ cbor_tags.number CoseEncrypt → n ≢ 96
+not_encrypt n other e = other (ap pos e ∙ sym encrypt_number)
+
+pub not_sign1 : (n : ℕ) → pos n ≢ cbor_tags.number CoseSign1 → n ≢ 18
+not_sign1 n other e = other (ap pos e ∙ sym sign1_number)
