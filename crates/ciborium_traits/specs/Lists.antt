@@ -1,5 +1,5 @@
 -- What is taken of arrays and maps, and which of their refusals comes first.
-use Rattle.std.specs.Prelude.{◌≡◌, true, false, Option, Some, None, List, [], ◌∷◌, length, fold, ⊤, if◌then◌else◌, nat_eq}
+use Rattle.std.specs.Prelude.{◌≡◌, ℕ, true, false, Option, Some, None, List, [], ◌∷◌, length, fold, ⊤, if◌then◌else◌, nat_eq}
 use Rattle.std.specs.Option.{option_or}
 use Rattle.std.specs.declared.cmp.Ordering.{Ordering}
 use Rattle.std.specs.BTreeMap.{insert_entry}
@@ -48,6 +48,10 @@ abbrev pub first_in_turn : List (Tree → Option Kind) → Trees → Option Kind
 first_in_turn [] ts = None
 first_in_turn (refusal ∷ rs) no_trees = None
 first_in_turn (refusal ∷ rs) (one_more t ts) = option_or (refusal t) (first_in_turn rs ts)
+
+-- the refusal of an array that has not so many items
+abbrev pub other_length : ℕ → Trees → Option Kind
+other_length n ts = if nat_eq (tree_count ts) n then None else Some Length
 
 -- a tuple's refusal: so many items, and each of its type
 abbrev pub tuple_refusal : List (Tree → Option Kind) → Trees → Option Kind

@@ -17,15 +17,9 @@ impl<T: Serialize> Serialize for Vec<T> {
     ghost put = { λ v. spec.array (trees (map T.put v.items)) };
 
     fn serialize<S: Sink>(&self, sink: &mut S) -> Result<(), S::Error> {
-        match sink.array(self.len()) {
-            Ok(()) => {}
-            Err(error) => return Err(error),
-        }
+        sink.array(self.len())?;
         for item in self {
-            match item.serialize(sink) {
-                Ok(()) => {}
-                Err(error) => return Err(error),
-            }
+            item.serialize(sink)?;
         }
         Ok(())
     }
@@ -53,15 +47,8 @@ fn take_items<T: Deserialize>(alloc: Global, items: Vec<Value>) -> Result<Vec<T>
 {
     let mut taken = Vec::new(alloc);
     for item in items {
-        match T::take(alloc, item) {
-            Ok(x) => {
-                match taken.push(x) {
-                    Ok(()) => {}
-                    Err(_refused) => return Err(Error::Memory),
-                }
-            }
-            Err(error) => return Err(error),
-        }
+        let x = T::take(alloc, item)?;
+        taken.push(x)?;
     }
     Ok(taken)
 }
