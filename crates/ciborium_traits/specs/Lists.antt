@@ -24,14 +24,16 @@ EachTaken takes (one_more t ts) (x ∷ xs) = takes t x × EachTaken takes ts xs
 -- the first refusal among the entries, of each the key's before the value's
 abbrev pub first_refusal_of_pairs : (Tree → Option Kind) → (Tree → Option Kind) → Pairs → Option Kind
 first_refusal_of_pairs of_key of_value no_pairs = None
-first_refusal_of_pairs of_key of_value (pair_more k v ps) = option_or (of_key k) (option_or (of_value v) (first_refusal_of_pairs of_key of_value ps))
+first_refusal_of_pairs of_key of_value (pair_more k v ps) =
+    option_or (of_key k) (option_or (of_value v) (first_refusal_of_pairs of_key of_value ps))
 
 -- keys and values are taken of the entries, one of each
 abbrev pub EachPairTaken : {K V : Type 0} → (Tree → K → Type 0) → (Tree → V → Type 0) → Pairs → List (K × V) → Type 0
 EachPairTaken takes_key takes_value no_pairs [] = ⊤
 EachPairTaken takes_key takes_value no_pairs (e ∷ es) = ⊥
 EachPairTaken takes_key takes_value (pair_more k v ps) [] = ⊥
-EachPairTaken takes_key takes_value (pair_more k v ps) (e ∷ es) = takes_key k e.0 × takes_value v e.1 × EachPairTaken takes_key takes_value ps es
+EachPairTaken takes_key takes_value (pair_more k v ps) (e ∷ es) =
+    takes_key k e.0 × takes_value v e.1 × EachPairTaken takes_key takes_value ps es
 
 -- an array's refusal by that of its items; what is no array is of another type
 abbrev pub array_refusal : (Trees → Option Kind) → Tree → Option Kind

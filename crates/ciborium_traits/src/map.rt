@@ -30,7 +30,8 @@ impl<K: Serialize + Ord, V: Serialize> Serialize for BTreeMap<K, V> {
 impl<K: Deserialize + Ord, V: Deserialize> Deserialize for BTreeMap<K, V> {
     ghost refusal = { λ t. map_refusal (first_refusal_of_pairs K.refusal V.refusal) (bare t) };
 
-    ghost takes = { λ t m. (ps : Pairs) × (es : List (K × V)) × (bare t ≡ spec.map ps) × EachPairTaken K.takes V.takes ps es × (m.entries ≡ inserted K.cmp es) };
+    ghost takes = { λ t m. (ps : Pairs) × (es : List (K × V)) × (bare t ≡ spec.map ps)
+        × EachPairTaken K.takes V.takes ps es × (m.entries ≡ inserted K.cmp es) };
 
     ghost grows = { true };
 
