@@ -6,6 +6,7 @@ pub mod Headers
 pub mod Parts
 pub mod Places
 pub mod Structure
+pub mod Titles
 pub mod View
 pub mod Walks
 pub mod Weight

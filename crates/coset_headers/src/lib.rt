@@ -9,10 +9,12 @@ mod entries;
 mod header;
 pub mod laws;
 mod parts;
+mod prefix;
 mod reader;
 mod seen;
 mod serial;
 mod structure;
+mod title;
 mod values;
 mod writer;
 
@@ -20,3 +22,4 @@ pub use crate::builder::{CoseSignatureBuilder, HeaderBuilder};
 pub use crate::context::{EncryptionContext, MacContext, SignatureContext};
 pub use crate::header::{CoseSignature, Header, ProtectedHeader};
 pub use crate::structure::{enc_structure_data, mac_structure_data, sig_structure_data};
+pub use crate::title::{BytesTitle, bytes_title};
