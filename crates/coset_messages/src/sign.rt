@@ -110,6 +110,12 @@ impl AsCborValue for CoseSign1 {
         } = self;
         let protected = protected.cbor_bstr(alloc)?;
         let unprotected = unprotected.to_cbor_value(alloc)?;
-        four_items(alloc, protected, unprotected, optional_value(payload), signature)
+        four_items(
+            alloc,
+            protected,
+            unprotected,
+            optional_value(payload),
+            signature,
+        )
     }
 }
