@@ -3,17 +3,19 @@ pub use Rattle.ciborium.specs.Front
 pub use Rattle.ciborium_value.specs.Encoding
 pub use Rattle.ciborium_value.specs.Tree
 pub use Rattle.ciborium_value.specs.View as ValueView
+pub use Rattle.coset_builders.specs.Builders
+pub use Rattle.coset_builders.specs.declared.header.HeaderBuilder
+pub use Rattle.coset_builders.specs.declared.signature.CoseSignatureBuilder
 pub use Rattle.coset_headers.specs.Alone
-pub use Rattle.coset_headers.specs.Builders
 pub use Rattle.coset_headers.specs.Contexts
 pub use Rattle.coset_headers.specs.Fields
 pub use Rattle.coset_headers.specs.Headers
+pub use Rattle.coset_headers.specs.Short
 pub use Rattle.coset_headers.specs.Structure
+pub use Rattle.coset_headers.specs.Titles
 pub use Rattle.coset_headers.specs.View
 pub use Rattle.coset_headers.specs.Written
 pub use Rattle.coset_headers.specs.Wrong
-pub use Rattle.coset_headers.specs.declared.builder.CoseSignatureBuilder
-pub use Rattle.coset_headers.specs.declared.builder.HeaderBuilder
 pub use Rattle.coset_headers.specs.declared.context.EncryptionContext
 pub use Rattle.coset_headers.specs.declared.context.MacContext
 pub use Rattle.coset_headers.specs.declared.context.SignatureContext

@@ -6,9 +6,10 @@
 pub mod laws;
 
 pub use cose_iana as iana;
+pub use coset_builders::{CoseSignatureBuilder, HeaderBuilder};
 pub use coset_headers::{
-    CoseSignature, CoseSignatureBuilder, EncryptionContext, Header, HeaderBuilder, MacContext,
-    ProtectedHeader, SignatureContext, enc_structure_data, mac_structure_data, sig_structure_data,
+    BytesTitle, CoseSignature, EncryptionContext, Header, MacContext, ProtectedHeader,
+    SignatureContext, bytes_title, enc_structure_data, mac_structure_data, sig_structure_data,
 };
 pub use coset_labels::{
     Algorithm, AsCborValue, CborOrdering, CborSerializable, ContentType, CoseError, EndOfFile,

@@ -24,7 +24,8 @@ fn clone_content_type(
     alloc: Global,
     content_type: &Option<ContentType>,
 ) -> Result<Option<ContentType>, AllocError>
-    ensures { IfOk result (λ copy. option_map (registered_view coap_content_formats.number) copy ≡ option_map (registered_view coap_content_formats.number) content_type.now) }
+    ensures { IfOk result (λ copy. option_map (registered_view coap_content_formats.number) copy
+        ≡ option_map (registered_view coap_content_formats.number) content_type.now) }
 {
     match content_type {
         Some(content_type) => Ok(Some(content_type.clone(alloc)?)),
@@ -36,7 +37,8 @@ fn clone_crit(
     alloc: Global,
     crit: &[RegisteredLabelWithPrivate<iana::HeaderParameter>],
 ) -> Result<Vec<RegisteredLabelWithPrivate<iana::HeaderParameter>>, AllocError>
-    ensures { IfOk result (λ copies. map (named_view header_parameters.number) copies.items ≡ map (named_view header_parameters.number) crit.now) }
+    ensures { IfOk result (λ copies. map (named_view header_parameters.number) copies.items
+        ≡ map (named_view header_parameters.number) crit.now) }
 {
     let mut copies = Vec::new(alloc);
     for name in crit {

@@ -2,10 +2,10 @@
 //! (RFC 9052, sections 3, 4.4, 5.3 and 6.3).
 #![tactic(auto)]
 
-mod builder;
 mod context;
 mod copies;
 mod entries;
+mod fits;
 mod header;
 pub mod laws;
 mod parts;
@@ -18,7 +18,6 @@ mod title;
 mod values;
 mod writer;
 
-pub use crate::builder::{CoseSignatureBuilder, HeaderBuilder};
 pub use crate::context::{EncryptionContext, MacContext, SignatureContext};
 pub use crate::header::{CoseSignature, Header, ProtectedHeader};
 pub use crate::structure::{enc_structure_data, mac_structure_data, sig_structure_data};

@@ -29,7 +29,8 @@ impl Seen {
     /// Adds a copy of the label, and tells whether it is new.
     pub(crate) fn add(&mut self, alloc: Global, label: &Label) -> Result<bool, CoseError>
         ensures { (es : List (LabelFields × Tree)) → Sees self.old es → MatchResult result
-            (λ fresh. MatchBool fresh ((IsIn (label_view label.now) es → ⊥) × ((v : Tree) → Sees self.new (es ++ (label_view label.now, v) ∷ []))) (IsIn (label_view label.now) es))
+            (λ fresh. MatchBool fresh ((IsIn (label_view label.now) es → ⊥)
+            × ((v : Tree) → Sees self.new (es ++ (label_view label.now, v) ∷ []))) (IsIn (label_view label.now) es))
             (λ e. e ≡ Memory) }
     {
         let copy = label.clone(alloc)?;
