@@ -1,5 +1,8 @@
+pub mod Again
 pub mod Entered
+pub mod Equal
 pub mod Excludes
+pub mod Fitting
 pub mod Marks
 pub mod Pushed
 pub mod Steps

@@ -3,6 +3,7 @@
 use Rattle.std.specs.Prelude.{ℕ, pos, List, [], ◌∷◌, ◌++◌, map, Option, Some, None}
 use Rattle.ciborium_value.specs.Tree.{Tree, integer, bytes, text, float, map as map_tree}
 use Rattle.ciborium_value.specs.View.{pairs}
+use Rattle.ciborium_value.specs.Encoding.{Fits}
 use Rattle.coset_labels.specs.Fields.{Named, assigned}
 use Rattle.coset_labels.specs.Labels.{named_tree}
 use Rattle.coset_claims.specs.Fields.{TimeFields, whole_seconds, fractional_seconds, ClaimsFields}
@@ -27,3 +28,8 @@ entry_tree e = (named_tree e.0, e.1)
 
 abbrev pub claims_tree : ClaimsFields → Tree
 claims_tree c = map_tree (pairs (map entry_tree (written_entries c)))
+
+-- a field that is set can be written
+abbrev pub FieldFits : {A : Type 0} → (A → Tree) → Option A → Type 0
+FieldFits f None = Unit {0}
+FieldFits f (Some x) = Fits (f x)
