@@ -1,5 +1,7 @@
 -- The fields of a KDF context and its parts, as values that hold no memory (RFC 9053, section 5.2).
-use Rattle.std.specs.Prelude.{ℕ, ℤ, List, [], Option, None, pos}
+use Rattle.std.specs.Prelude.{ℕ, ℤ, List, [], Option, None}
+use Rattle.cose_iana.specs.Algorithms.{algorithm_number}
+use Rattle.cose_iana.specs.declared.algorithm.Algorithm.TheVariants.{Reserved}
 use Rattle.coset_labels.specs.Fields.{Named, assigned}
 use Rattle.coset_headers.specs.Fields.{ProtectedFields, protected, no_header}
 
@@ -32,4 +34,4 @@ no_public = record { key_data_length = 0; protected_header = protected None no_h
 
 -- the algorithm is the reserved one
 abbrev pub no_context : ContextFields
-no_context = record { algorithm = assigned (pos 0); party_u = no_party; party_v = no_party; public = no_public; privates = [] }
+no_context = record { algorithm = assigned (algorithm_number Reserved); party_u = no_party; party_v = no_party; public = no_public; privates = [] }

@@ -1,5 +1,6 @@
 pub mod Builders
 pub mod Contexts
+pub mod Equality
 pub mod Fields
 pub mod Steps
 pub mod View
