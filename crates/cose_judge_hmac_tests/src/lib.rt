@@ -1,0 +1,5 @@
+//! Tests of tags under keys, by their public names.
+#![tactic(auto)]
+
+#[cfg(test)]
+mod tags;
