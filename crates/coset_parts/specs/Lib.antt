@@ -1,0 +1,4 @@
+pub mod Calls
+pub mod Shapes
+pub mod Written
+pub mod Wrong

@@ -1,0 +1,12 @@
+-- The parts that a message and a recipient begin with: a protected header, an unprotected one, and bytes or null (RFC 9052, sections 4.2,
+-- 5.1 and 6.1). The nesting limit `n` and the layers `k` are those of headers.
+use Rattle.std.specs.Prelude.{◌≡◌, ℕ, List, Option}
+use Rattle.ciborium_value.specs.Tree.{Tree}
+use Rattle.coset_headers.specs.Fields.{HeaderFields, ProtectedFields}
+use Rattle.coset_headers.specs.Headers.{HasHeader, HasProtected}
+use Rattle.coset_parts.specs.Written.{optional_tree}
+
+pub record HasParts (n : ℕ) (first second third : Tree) (p : ProtectedFields) (u : HeaderFields) (c : Option (List ℕ)) (k : ℕ) : Type 0 where
+  pub protected : HasProtected n first p k
+  pub unprotected : HasHeader n second u k
+  pub content : third ≡ optional_tree c

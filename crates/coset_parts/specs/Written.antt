@@ -1,0 +1,18 @@
+-- The values that the parts are written as (RFC 9052, sections 4.2, 5.1 and 6.1); none where a header can't be written.
+use Rattle.std.specs.Prelude.{ℕ, List, [], ◌∷◌, Option, Some, None, option_map, option_and_then}
+use Rattle.ciborium_value.specs.Tree.{Tree, bytes, simple}
+use Rattle.coset_headers.specs.Fields.{HeaderFields, ProtectedFields}
+use Rattle.coset_headers.specs.Written.{header_tree, shown}
+
+-- bytes, or null for what is not there
+abbrev pub optional_tree : Option (List ℕ) → Tree
+optional_tree None = simple 22
+optional_tree (Some b) = bytes b
+
+abbrev pub parts_trees : ProtectedFields → HeaderFields → Option (List ℕ) → Option (List Tree)
+parts_trees p u c = option_and_then (λ b. option_map (λ t. bytes b ∷ t ∷ optional_tree c ∷ []) (header_tree u)) (shown p)
+
+-- what is covered where nothing is carried counts as empty
+abbrev pub content_bytes : Option (List ℕ) → List ℕ
+content_bytes None = []
+content_bytes (Some b) = b
