@@ -43,12 +43,12 @@ MadeWhere g f o given P (Ok b) = IsSomeAnd o (λ y. FnOnceReturnsAt g f y (Ok (g
 MadeWhere g f o given P (Err (fault.Caller e)) = IsSomeAnd o (λ y. FnOnceReturnsAt g f y (Err e))
 MadeWhere g f o given P (Err (fault.Cose c)) = CantWrite o c
 
--- alike, of an f that is asked at x and the bytes of o
-abbrev pub BuiltPairWhere : {F T A B : Type 0} → Once F (Bor T × (Bor T × Unit {0})) A → F → T → Option T → (B → A) → (B → Type 0) → Result B CoseError → Type 0
-BuiltPairWhere g f x o given P (Ok b) = IsSomeAnd o (λ y. FnOnceReturnsAtPair g f x y (given b)) × P b
+-- alike, of an f that is asked at x and the bytes of o, and of what is built where `given` has it
+abbrev pub BuiltPairWhere : {F T A B : Type 0} → Once F (Bor T × (Bor T × Unit {0})) A → F → T → Option T → (B → Option A) → (B → Type 0) → Result B CoseError → Type 0
+BuiltPairWhere g f x o given P (Ok b) = IsSomeAnd o (λ y. IsSomeAnd (given b) (λ a. FnOnceReturnsAtPair g f x y a)) × P b
 BuiltPairWhere g f x o given P (Err c) = CantWrite o c
 
-abbrev pub MadePairWhere : {F T A B E : Type 0} → Once F (Bor T × (Bor T × Unit {0})) (Result A E) → F → T → Option T → (B → A) → (B → Type 0) → Result B (Fault E) → Type 0
-MadePairWhere g f x o given P (Ok b) = IsSomeAnd o (λ y. FnOnceReturnsAtPair g f x y (Ok (given b))) × P b
+abbrev pub MadePairWhere : {F T A B E : Type 0} → Once F (Bor T × (Bor T × Unit {0})) (Result A E) → F → T → Option T → (B → Option A) → (B → Type 0) → Result B (Fault E) → Type 0
+MadePairWhere g f x o given P (Ok b) = IsSomeAnd o (λ y. IsSomeAnd (given b) (λ a. FnOnceReturnsAtPair g f x y (Ok a))) × P b
 MadePairWhere g f x o given P (Err (fault.Caller e)) = IsSomeAnd o (λ y. FnOnceReturnsAtPair g f x y (Err e))
 MadePairWhere g f x o given P (Err (fault.Cose c)) = CantWrite o c
