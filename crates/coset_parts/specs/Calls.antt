@@ -1,6 +1,6 @@
 -- What calls that ask a caller's code answer. The code is asked at most once, and only at the bytes that a structure has: where there is
 -- none, since a header can't be written, it can't be asked.
-use Rattle.std.specs.Prelude.{◌≡◌, ℕ, List, Option, Some, None, Result, Ok, Err, IfSome, IsSomeAnd}
+use Rattle.std.specs.Prelude.{◌≡◌, Option, Result, Ok, Err, IfSome, IsSomeAnd}
 use denote.Ref.{Bor}
 use Rattle.std.specs.Fn.{Once, FnOnceReturnsAt, FnOnceReturnsAtPair, FnOnceTakesAt}
 use Rattle.coset_labels.specs.Faults.{CantWrite}
