@@ -4,6 +4,7 @@ pub mod Empty
 pub mod Entered
 pub mod Excludes
 pub mod Fit
+pub mod Items
 pub mod Marks
 pub mod Names
 pub mod Pushed
