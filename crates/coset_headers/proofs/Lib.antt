@@ -6,8 +6,10 @@ pub mod Excludes
 pub mod Fit
 pub mod Items
 pub mod Marks
+pub mod Meant
 pub mod Names
 pub mod Pushed
+pub mod Restored
 pub mod Signed
 pub mod Sound
 pub mod Steps
