@@ -29,6 +29,8 @@ pub fn read_can_be_written()
     ensures protected { (n k : ℕ) (t : Tree) (p : ProtectedFields) → HasProtected n t p k → shown p ≢ None }
     ensures signature { (n k : ℕ) (t : Tree) (s : SignatureFields) → HasSignature n t s k → signature_tree s ≢ None }
     ensures structures { (context aad payload : List ℕ) (p : ProtectedFields) → shown p ≢ None
-        → (sig_structure context p None aad payload ≢ None) × (mac_structure context p aad payload ≢ None) × (encryption_structure context p aad ≢ None) }
-    ensures signer { (context aad payload : List ℕ) (p q : ProtectedFields) → shown p ≢ None → shown q ≢ None → sig_structure context p (Some q) aad payload ≢ None }
+        → (sig_structure context p None aad payload ≢ None) × (mac_structure context p aad payload ≢ None)
+        × (encryption_structure context p aad ≢ None) }
+    ensures signer { (context aad payload : List ℕ) (p q : ProtectedFields) → shown p ≢ None → shown q ≢ None
+        → sig_structure context p (Some q) aad payload ≢ None }
 {}
