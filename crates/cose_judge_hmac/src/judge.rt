@@ -107,7 +107,8 @@ impl Judge for HmacJudge<'_> {
 
     fn feed(&mut self, piece: &[u8]) -> Result<(), AllocError>
         ensures ready { IsOk result }
-        ensures holds { OnOk result ((subject : Subject) (covered : List ℕ) → Makes self.old.mac (spec.secret_about (keys_of self.old) subject) covered
+        ensures holds { OnOk result ((subject : Subject) (covered : List ℕ)
+            → Makes self.old.mac (spec.secret_about (keys_of self.old) subject) covered
             → Makes self.new.mac (spec.secret_about (keys_of self.new) subject) (covered ++ piece.now)) }
         ensures pieces { OnOk result (self.new.pieces.items ≡ self.old.pieces.items ++ length piece.now ∷ []) }
         ensures refused { OnErr result (self.new.pieces.items ≡ self.old.pieces.items) }
