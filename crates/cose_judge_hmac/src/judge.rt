@@ -1,8 +1,9 @@
 //! A judge by HMAC.
-ghost use Rattle.std.specs.Prelude.{◌≡◌, ℕ, List, [], ◌++◌, Option, option_copied};
+ghost use Rattle.std.specs.Prelude.{◌≡◌, ℕ, List, [], ◌∷◌, ◌++◌, length, Option, option_copied, IsOk, OnOk, OnErr};
 ghost use Rattle.coset_keys.specs.Fields.{KeyFields};
 ghost use Rattle.coset_keys.specs.View.{key_set_view};
 ghost use Rattle.cose_gate.specs.Lent.{subject_of};
+ghost use Rattle.cose_gate.specs.Questions.{Subject};
 ghost use Rattle.cose_judge_hmac.specs.Judge as spec;
 ghost use Rattle.cose_judge_hmac.specs.Judge.{Makes, says_yes};
 ghost use Rattle.cose_judge_hmac.specs.Judging.{is_tag_under};
@@ -93,13 +94,26 @@ impl Judge for HmacJudge<'_> {
 
     ghost decided = { λ told _. told };
 
-    fn begin(&mut self, about: &About) -> Result<(), AllocError> {
+    fn begin(&mut self, about: &About) -> Result<(), AllocError>
+        ensures ready { IsOk result }
+        ensures holds { OnOk result (Makes self.new.mac (spec.secret_about (keys_of self.new) (subject_of about.now)) []) }
+        ensures pieces { OnOk result (self.new.pieces.items ≡ []) }
+        ensures who { keys_of self.new ≡ keys_of self.old }
+    {
         self.mac = begun(secret_about(self.keys, about));
         self.pieces = Log::new();
         Ok(())
     }
 
-    fn feed(&mut self, piece: &[u8]) -> Result<(), AllocError> {
+    fn feed(&mut self, piece: &[u8]) -> Result<(), AllocError>
+        ensures ready { IsOk result }
+        ensures holds { OnOk result ((subject : Subject) (covered : List ℕ)
+            → Makes self.old.mac (spec.secret_about (keys_of self.old) subject) covered
+            → Makes self.new.mac (spec.secret_about (keys_of self.new) subject) (covered ++ piece.now)) }
+        ensures pieces { OnOk result (self.new.pieces.items ≡ self.old.pieces.items ++ length piece.now ∷ []) }
+        ensures refused { OnErr result (self.new.pieces.items ≡ self.old.pieces.items) }
+        ensures who { keys_of self.new ≡ keys_of self.old }
+    {
         feed_into(&mut self.mac, piece);
         self.pieces = self.pieces.and(&piece.len());
         Ok(())
