@@ -2,7 +2,8 @@
 use ciborium_value::Value;
 use cose_hmac::hmac_sha256;
 use cose_judge_hmac::is_good_tag;
-use coset_headers::{Header, HeaderBuilder, MacContext, ProtectedHeader, mac_structure_data};
+use coset_builders::HeaderBuilder;
+use coset_headers::{Header, MacContext, ProtectedHeader, mac_structure_data};
 use coset_keys::{CoseKey, CoseKeySet};
 use coset_labels::{KeyType, Label, iana};
 use std::alloc::Global;

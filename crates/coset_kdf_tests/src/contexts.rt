@@ -1,5 +1,5 @@
 //! KDF contexts from bytes and back. Expected bytes and texts are written out by hand.
-use coset_headers::HeaderBuilder;
+use coset_builders::HeaderBuilder;
 use coset_kdf::{
     CoseKdfContext, CoseKdfContextBuilder, Nonce, PartyInfo, PartyInfoBuilder, SuppPubInfo,
     SuppPubInfoBuilder,
