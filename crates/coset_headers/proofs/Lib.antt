@@ -10,4 +10,5 @@ pub mod Steps
 pub mod Unique
 pub mod Unset
 pub mod Weights
+pub mod Writable
 pub mod Written
