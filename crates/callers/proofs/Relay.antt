@@ -4,6 +4,7 @@ use Rattle.std.proofs.lemmas.Grind.{flat_map-append}
 use Rattle.std.specs.Prelude.{Result, Err}
 use Rattle.std.specs.Io.KnownBytes.{Appends}
 use Rattle.cose_gate.specs.Reading.{IfKnown}
+use Rattle.cose_gate.specs.Findings.{usual}
 use Rattle.cose_gate.specs.Questions.{Question}
 use Rattle.cose_gate.specs.Asked.{folded_over}
 use Rattle.cose_gate.specs.Run.{Step, Course, asked_of, questions_of}
@@ -23,7 +24,7 @@ told_all told [] = sym (append-nil told)
 told_all told (q ∷ qs) = told_all (told ++ key_id_of q.subject ∷ []) qs ∙ append_assoc told (key_id_of q.subject ∷ []) (key_ids_of qs)
 
 abbrev pub by : List (List ℕ) → List ℕ → Rules (List (List ℕ)) Tallied
-by ids aad = record { decided = decided; folded = tallied; allows = allows ids; aad = aad }
+by ids aad = record { limits = usual; decided = decided; folded = tallied; allows = allows ids; aad = aad }
 
 abbrev sides : Sight (List (List ℕ)) Tallied → Sides
 sides s = record { asked = s.told; tally = s.state }
@@ -33,7 +34,7 @@ module _ (ids : List (List ℕ)) (aad input : List ℕ) (old new : Sight (List (
       → Relayed ids aad input (sides old) (sides new) output counts
   whole output counts start none out w = record {
     steps = w.steps;
-    course = subst (λ (n : ℕ). Course (allows ids) aad n input w.steps []) start w.course;
+    course = subst (λ (n : ℕ). Course usual (allows ids) aad n input w.steps []) start w.course;
     output_is = written none out w.made.written;
     passed = w.passed;
     refused = w.refused;
@@ -57,7 +58,7 @@ module _ (ids : List (List ℕ)) (aad input : List ℕ) (old new : Sight (List (
       done = w.steps;
       last = [];
       more = w.more;
-      course = subst (λ (ss : List Step). Course (allows ids) aad 0 input ss w.more) (sym (append-nil w.steps)) (subst (λ (n : ℕ). Course (allows ids) aad n input w.steps w.more) start w.course);
+      course = subst (λ (ss : List Step). Course usual (allows ids) aad 0 input ss w.more) (sym (append-nil w.steps)) (subst (λ (n : ℕ). Course usual (allows ids) aad n input w.steps w.more) start w.course);
       asked = [];
       asked_front = record { more = []; whole = refl };
       told = w.made.told ∙ (told_all old.told (questions_of (allows ids) aad w.steps)
@@ -72,7 +73,7 @@ module _ (ids : List (List ℕ)) (aad input : List ℕ) (old new : Sight (List (
       done = w.done;
       last = w.last ∷ [];
       more = w.more;
-      course = subst (λ (n : ℕ). Course (allows ids) aad n input (w.done ++ w.last ∷ []) w.more) start w.course;
+      course = subst (λ (n : ℕ). Course usual (allows ids) aad n input (w.done ++ w.last ∷ []) w.more) start w.course;
       asked = questions_of (allows ids) aad (w.last ∷ []);
       asked_front = record { more = []; whole = sym (append-nil (questions_of (allows ids) aad (w.last ∷ []))) };
       told = w.told ∙ (told_all old.told (questions_of (allows ids) aad (w.done ++ w.last ∷ []))
@@ -84,7 +85,7 @@ module _ (ids : List (List ℕ)) (aad input : List ℕ) (old new : Sight (List (
       done = w.done;
       last = w.last;
       more = w.more;
-      course = subst (λ (n : ℕ). Course (allows ids) aad n input (w.done ++ w.last) w.more) start w.course;
+      course = subst (λ (n : ℕ). Course usual (allows ids) aad n input (w.done ++ w.last) w.more) start w.course;
       asked = w.asked;
       asked_front = w.asked_front;
       told = w.told ∙ told_all old.told (questions_of (allows ids) aad w.done ++ w.asked);

@@ -2,6 +2,8 @@
 use Rattle.std.specs.Prelude.{◌≡◌, ℕ, List, [], ◌∷◌, ◌++◌, length, map, Bool, not, ◌&&◌, ◌==◌}
 use Rattle.std.specs.List.{list_any}
 use Rattle.std.specs.Str.{bytes_eq}
+use Rattle.cose_gate.specs.Fields.{HeaderFields, header, ProtectedFields, protected}
+use Rattle.cose_gate.specs.Findings.{usual}
 use Rattle.cose_gate.specs.Questions.{Subject, Question}
 use Rattle.cose_gate.specs.Asked.{IsFront, folded_over}
 use Rattle.cose_gate.specs.Run.{Step, Course, questions_of, output_of, entries_of, passed_count, refused_count}
@@ -16,8 +18,14 @@ abbrev pub id_or : List ℕ → List ℕ → List ℕ
 id_or [] other = other
 id_or (b ∷ bs) other = b ∷ bs
 
+abbrev pub header_key_id : HeaderFields → List ℕ
+header_key_id (header p ss) = p.key_id
+
+abbrev pub protected_key_id : ProtectedFields → List ℕ
+protected_key_id (protected o h) = header_key_id h
+
 abbrev pub key_id_of : Subject → List ℕ
-key_id_of s = id_or s.protected.header.key_id s.unprotected.key_id
+key_id_of s = id_or (protected_key_id s.protected) (header_key_id s.unprotected)
 
 abbrev pub has_bytes : List ℕ → Bool
 has_bytes id = not (length id == 0)
@@ -43,7 +51,7 @@ key_ids_of qs = map (λ q. key_id_of q.subject) qs
 -- their questions, and the tally counts them
 pub record Relayed (ids : List (List ℕ)) (aad input : List ℕ) (old new : Sides) (output : List ℕ) (counts : Counts) : Type 0 where
   pub steps : List Step
-  pub course : Course (allows ids) aad 0 input steps []
+  pub course : Course usual (allows ids) aad 0 input steps []
   pub output_is : output ≡ output_of (allows ids) aad steps
   pub passed : counts.passed ≡ passed_count (allows ids) aad steps
   pub refused : counts.refused ≡ refused_count (allows ids) aad steps
@@ -62,7 +70,7 @@ pub record Halted {E : Type 0} (ends : E → Bool) (ids : List (List ℕ)) (aad 
   pub done : List Step
   pub last : List Step
   pub more : List ℕ
-  pub course : Course (allows ids) aad 0 input (done ++ last) more
+  pub course : Course usual (allows ids) aad 0 input (done ++ last) more
   pub asked : List Question
   pub asked_front : IsFront asked (questions_of (allows ids) aad last)
   pub told : new.asked ≡ old.asked ++ key_ids_of (questions_of (allows ids) aad done ++ asked)

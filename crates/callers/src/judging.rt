@@ -2,9 +2,11 @@
 ghost use Rattle.std.specs.Prelude.{◌≡◌, ℕ, List, [], ◌∷◌, ◌++◌, ◌<◌, map, vec_len, vec_capacity};
 ghost use Rattle.std.specs.List.{list_any};
 ghost use Rattle.std.specs.Str.{bytes_eq};
-ghost use Rattle.callers.specs.Judging.{key_id_of, id_or, knows, allows};
+ghost use Rattle.cose_gate.specs.HeaderView.{header_view, protected_view};
+ghost use Rattle.cose_gate.specs.Lent.{subject_of};
+ghost use Rattle.callers.specs.Judging.{header_key_id, protected_key_id, key_id_of, knows, allows};
 
-use cose_gate::{About, Judge, Log};
+use cose_gate::{About, Header, Judge, Log, ProtectedHeader};
 use std::alloc::{AllocError, Global};
 use std::mem;
 
@@ -31,13 +33,27 @@ fn is_known(ids: &[&[u8]], id: &[u8]) -> bool
     !id.is_empty() && is_listed(ids, id)
 }
 
+/// The key id of a header; an empty one is none.
+fn id_of(header: &Header) -> &[u8]
+    ensures { result.now ≡ header_key_id (header_view header.now) }
+{
+    header.key_id.as_slice()
+}
+
+/// The key id of a protected header; an empty one is none.
+fn protected_id_of(protected: &ProtectedHeader) -> &[u8]
+    ensures { result.now ≡ protected_key_id (protected_view protected.now) }
+{
+    id_of(&protected.header)
+}
+
 /// The key id of a message: the protected one where there is one, else the other.
 fn key_id<'a>(about: &About<'a>) -> &'a [u8]
-    ensures { result.now ≡ id_or about.now.protected.now.header.key_id.items about.now.unprotected.now.key_id.items }
+    ensures { result.now ≡ key_id_of (subject_of about.now) }
 {
-    let protected = about.protected.header.key_id.as_slice();
+    let protected = protected_id_of(about.protected);
     if protected.is_empty() {
-        about.unprotected.key_id.as_slice()
+        id_of(about.unprotected)
     } else {
         protected
     }

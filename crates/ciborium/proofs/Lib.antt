@@ -13,6 +13,7 @@ pub mod Exact
 pub mod Parts
 pub mod Excludes
 pub mod Encoded
+pub mod OtherDamage
 pub mod OtherTitles
 pub mod AssignedValues
 pub mod StringCases

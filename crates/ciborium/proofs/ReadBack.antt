@@ -5,7 +5,7 @@ use Rattle.ciborium_value.specs.declared.kind.Kind.{Kind}
 use Rattle.ciborium_value.specs.Tree.{Tree, depth}
 use Rattle.ciborium_value.specs.Folding.{fold}
 use Rattle.ciborium_value.specs.Encoding.{enc, Fits}
-use Rattle.ciborium_traits.specs.Back.{IsTakenBack, TakesOne}
+use Rattle.ciborium_traits.specs.Back.{TakenBackBy, TakesOne}
 use Rattle.ciborium.specs.Meaning.{meaning, Assigned}
 use Rattle.ciborium.specs.Damage.{Fault, Damage}
 use Rattle.ciborium.specs.Front.{Front, Reads}
@@ -35,7 +35,7 @@ folding_read limit t u f a r =
     sym (means_folding t a) ∙ sym (ap meaning same) ∙ r.means
 
 module _ {T : Type 0} (put : T → Tree) (refusal : Tree → Option Kind) (takes : Tree → T → Type 0) where
-  module _ (x : T) (f : Fits (put x)) (a : Assigned (put x)) (k : IsTakenBack put refusal takes x) where
+  module _ (x : T) (f : Fits (put x)) (a : Assigned (put x)) (k : TakenBackBy put refusal takes x) where
     pub back_read : (limit : ℕ) → depth (put x) ≤ limit → ReadsAs refusal takes limit x (enc (put x))
     back_read limit low = record { item = put x; reads = encoding_reads limit (put x) (put x) f a low k.0; is_one = k.1; taken = k.2 }
 

@@ -1,5 +1,6 @@
 pub mod Building
 pub mod Damage
+pub mod Damaged
 pub mod Fitting
 pub mod Front
 pub mod Items

@@ -10,6 +10,7 @@ ghost use Rattle.ciborium_value.specs.View.{view};
 ghost use Rattle.ciborium.specs.Spelling.{Spells};
 ghost use Rattle.ciborium.specs.Meaning.{meaning, Assigned};
 ghost use Rattle.ciborium.specs.Damage.{Fault, semantic, Damage};
+ghost use Rattle.ciborium.specs.Damaged.{Damaged};
 ghost use Rattle.ciborium.specs.Front.{Front, Reads};
 ghost use Rattle.ciborium.specs.Items.{Item, Items, item_at, nesting};
 ghost use Rattle.ciborium.specs.Fitting.{FitsEvent};
@@ -32,6 +33,12 @@ pub fn one_spelling()
 /// section 3).
 pub fn other_titles_spell()
     ensures { (h : Header) (a b rest : List ℕ) (t : Tree) → Title a h → Title b h → Spells (a ++ rest) t → Spells (b ++ rest) t }
+{}
+
+/// Another title of the same header in the first place has the same faults, the place in `Syntax` aside.
+pub fn other_titles_fail()
+    ensures { (h : Header) (a b rest : List ℕ) (stop limit : ℕ) (f : Fault) → Title a h → Title b h → length (b ++ rest) ≤ stop
+        → Damage stop (a ++ rest) limit f → Damaged stop (b ++ rest) limit f }
 {}
 
 /// A meaning means itself. It is folded, and each simple value in it is false, true or null.

@@ -8,11 +8,12 @@ use Rattle.std.specs.BTreeMap.{insert_entry}
 use Rattle.ciborium_value.specs.declared.kind.Kind.{Kind}
 use Rattle.ciborium_value.specs.declared.kind.Kind.TheVariants.{Length}
 use Rattle.ciborium_value.specs.declared.value.Value.{Value}
+use Rattle.ciborium_value.specs.Tree as spec
 use Rattle.ciborium_value.specs.Tree.{Tree, Trees, no_trees, one_more, tree_count}
 use Rattle.ciborium_value.specs.View.{view, views, view_pairs}
 use Rattle.ciborium_traits.specs.declared.error.Error.{Error}
 use Rattle.ciborium_traits.specs.declared.error.Error.TheVariants as error
-use Rattle.ciborium_traits.specs.Lists.{first_refusal, first_in_turn, tuple_refusal, first_refusal_of_pairs, EachTaken, EachPairTaken, inserted}
+use Rattle.ciborium_traits.specs.Lists.{array_refusal, first_refusal, first_in_turn, other_length, tuple_refusal, first_refusal_of_pairs, EachTaken, EachPairTaken, inserted}
 use Rattle.ciborium_traits.specs.Reading.{IsRefusal}
 use Rattle.ciborium_traits.specs.Facts.Lists.{none_first}
 
@@ -122,7 +123,7 @@ turn_refused g h r rs ts us t e w f i = subst (λ (z : Trees). IsRefusal h (firs
 pub same_refusal : (g : Bool) (p q : Option Kind) (e : Error) → p ≡ q → IsRefusal g q e → IsRefusal g p e
 same_refusal g p q e f h = subst (λ (z : Option Kind). IsRefusal g z e) (sym f) h
 
-pub views_counted : (vs : List Value) → tree_count (views vs) ≡ length vs
+views_counted : (vs : List Value) → tree_count (views vs) ≡ length vs
 views_counted [] = refl
 views_counted (v ∷ vs) = let h : tree_count (views vs) ≡ length vs = views_counted vs in omega arith
 
@@ -132,11 +133,18 @@ counts_same n m e = grind (arith, nat_tests)
 counts_differ : (n m : ℕ) → n ≢ m → nat_eq n m ≡ false
 counts_differ n m e = grind (arith, nat_tests)
 
-pub tuple_of_length : (rs : List (Tree → Option Kind)) (ts : Trees) → tree_count ts ≡ length rs → tuple_refusal rs ts ≡ first_in_turn rs ts
-tuple_of_length rs ts e = ap (λ z. cond z (first_in_turn rs ts) (Some Length)) (counts_same (tree_count ts) (length rs) e)
+-- the items of an array, as many as the tuple has values
+pub tuple_begun : (rs : List (Tree → Option Kind)) (t : Tree) (vs : List Value) → t ≡ spec.array (views vs) → length vs ≡ length rs
+    → array_refusal (tuple_refusal rs) t ≡ first_in_turn rs (views vs)
+tuple_begun rs t vs e n =
+    ap (array_refusal (tuple_refusal rs)) e
+    ∙ ap (λ z. cond z (first_in_turn rs (views vs)) (Some Length)) (counts_same (tree_count (views vs)) (length rs) (views_counted vs ∙ n))
 
-pub tuple_of_other_length : (rs : List (Tree → Option Kind)) (ts : Trees) → tree_count ts ≢ length rs → tuple_refusal rs ts ≡ Some Length
-tuple_of_other_length rs ts e = ap (λ z. cond z (first_in_turn rs ts) (Some Length)) (counts_differ (tree_count ts) (length rs) e)
+-- an array of another length
+pub not_so_many : (n : ℕ) (t : Tree) (vs : List Value) → t ≡ spec.array (views vs) → length vs ≢ n → array_refusal (other_length n) t ≡ Some Length
+not_so_many n t vs e d =
+    ap (array_refusal (other_length n)) e
+    ∙ ap (λ z. cond z None (Some Length)) (counts_differ (tree_count (views vs)) n (λ h. d (sym (views_counted vs) ∙ h)))
 
 pub none_counted : (ts : Trees) → tree_count ts ≡ 0 → ts ≡ no_trees
 none_counted no_trees e = refl

@@ -31,6 +31,11 @@ added_as adds s s2 xs ys e p = subst (λ z. AllAdded adds s z s2) e p
 pub stopped_as : {S : Type 0} (adds refuses : S → Event → S → Type 0) (s s2 : S) (xs ys : List Event) → xs ≡ ys → Stopped adds refuses s xs s2 → Stopped adds refuses s ys s2
 stopped_as adds refuses s s2 xs ys e p = subst (λ z. Stopped adds refuses s z s2) e p
 
+-- what holds is said of an error too
+pub of_err : {T E P : Type 0} (r : Result T E) → P → OnErr r P
+of_err (Ok v) p = tt
+of_err (Err v) p = p
+
 -- the first event, and what a call made of the others
 pub on_ok_after : {S T E : Type 0} (r : Result T E) (adds : S → Event → S → Type 0) (s m s2 : S) (e : Event) (es whole : List Event) → e ∷ es ≡ whole
     → adds s e m → OnOk r (AllAdded adds m es s2) → OnOk r (AllAdded adds s whole s2)

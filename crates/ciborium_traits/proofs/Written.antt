@@ -1,7 +1,7 @@
 -- Items written one after another.
 use Rattle.std.proofs.Common.{◌≡◌, ℕ, zero, suc, ◌+◌, ◌<◌, ◌≤◌, List, [], ◌∷◌, ◌++◌, length, drop, get_or, map, refl, sym, ap, subst, ◌∙◌, arith}
 use Rattle.ciborium_value.specs.Tree as spec
-use Rattle.ciborium_value.specs.Tree.{Tree, tree_count, pair_count}
+use Rattle.ciborium_value.specs.Tree.{Tree, Trees, one_more, tree_count, pair_count}
 use Rattle.ciborium_value.specs.View.{trees, pairs}
 use Rattle.ciborium_traits.specs.Events as event
 use Rattle.ciborium_traits.specs.Events.{Event, events, events_all, events_pairs, AllAdded, Stopped}
@@ -27,6 +27,17 @@ drop_none (a ∷ xs) zero l = absurd (omega (arith, l))
 drop_none (a ∷ xs) (suc i) l = drop_none xs i (omega (arith, l))
 
 module _ {S : Type 0} (adds refuses : S → Event → S → Type 0) where
+  pub items_begun : (s m : S) (ts : Trees) → adds s (event.array (tree_count ts)) m → Left adds refuses s (events (spec.array ts)) m (events_all ts)
+  items_begun s m ts h = left_first adds refuses s m (event.array (tree_count ts)) (events_all ts) h
+
+  -- one more of the items ts
+  module _ (s m : S) (es : List Event) (t : Tree) (ts : Trees) (l : Left adds refuses s es m (events_all (one_more t ts))) where
+    pub one_added : (n : S) → AllAdded adds m (events t) n → Left adds refuses s es n (events_all ts)
+    one_added n h = left_part adds refuses s m n es (events t) (events_all ts) l h
+
+    pub one_stopped : (n : S) → Stopped adds refuses m (events t) n → Stopped adds refuses s es n
+    one_stopped n h = left_stopped adds refuses s m n es (events t) (events_all ts) l h
+
   module _ {T : Type 0} (put : T → Tree) (xs : List T) where
     abbrev whole : List Event
     whole = events (spec.array (trees (map put xs)))

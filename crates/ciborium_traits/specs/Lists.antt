@@ -1,5 +1,5 @@
 -- What is taken of arrays and maps, and which of their refusals comes first.
-use Rattle.std.specs.Prelude.{◌≡◌, true, false, Option, Some, None, List, [], ◌∷◌, length, fold, ⊤, if◌then◌else◌, nat_eq}
+use Rattle.std.specs.Prelude.{◌≡◌, ℕ, true, false, Option, Some, None, List, [], ◌∷◌, length, fold, ⊤, if◌then◌else◌, nat_eq}
 use Rattle.std.specs.Option.{option_or}
 use Rattle.std.specs.declared.cmp.Ordering.{Ordering}
 use Rattle.std.specs.BTreeMap.{insert_entry}
@@ -24,14 +24,16 @@ EachTaken takes (one_more t ts) (x ∷ xs) = takes t x × EachTaken takes ts xs
 -- the first refusal among the entries, of each the key's before the value's
 abbrev pub first_refusal_of_pairs : (Tree → Option Kind) → (Tree → Option Kind) → Pairs → Option Kind
 first_refusal_of_pairs of_key of_value no_pairs = None
-first_refusal_of_pairs of_key of_value (pair_more k v ps) = option_or (of_key k) (option_or (of_value v) (first_refusal_of_pairs of_key of_value ps))
+first_refusal_of_pairs of_key of_value (pair_more k v ps) =
+    option_or (of_key k) (option_or (of_value v) (first_refusal_of_pairs of_key of_value ps))
 
 -- keys and values are taken of the entries, one of each
 abbrev pub EachPairTaken : {K V : Type 0} → (Tree → K → Type 0) → (Tree → V → Type 0) → Pairs → List (K × V) → Type 0
 EachPairTaken takes_key takes_value no_pairs [] = ⊤
 EachPairTaken takes_key takes_value no_pairs (e ∷ es) = ⊥
 EachPairTaken takes_key takes_value (pair_more k v ps) [] = ⊥
-EachPairTaken takes_key takes_value (pair_more k v ps) (e ∷ es) = takes_key k e.0 × takes_value v e.1 × EachPairTaken takes_key takes_value ps es
+EachPairTaken takes_key takes_value (pair_more k v ps) (e ∷ es) =
+    takes_key k e.0 × takes_value v e.1 × EachPairTaken takes_key takes_value ps es
 
 -- an array's refusal by that of its items; what is no array is of another type
 abbrev pub array_refusal : (Trees → Option Kind) → Tree → Option Kind
@@ -48,6 +50,10 @@ abbrev pub first_in_turn : List (Tree → Option Kind) → Trees → Option Kind
 first_in_turn [] ts = None
 first_in_turn (refusal ∷ rs) no_trees = None
 first_in_turn (refusal ∷ rs) (one_more t ts) = option_or (refusal t) (first_in_turn rs ts)
+
+-- the refusal of an array that has not so many items
+abbrev pub other_length : ℕ → Trees → Option Kind
+other_length n ts = if nat_eq (tree_count ts) n then None else Some Length
 
 -- a tuple's refusal: so many items, and each of its type
 abbrev pub tuple_refusal : List (Tree → Option Kind) → Trees → Option Kind

@@ -17,63 +17,69 @@ use std::collections::BTreeMap;
 
 /// Booleans and null are taken back.
 pub fn simple_values_are_taken_back()
-    ensures booleans { (x : Bool) → IsTakenBack ⟦<bool as Serialize>⟧.put ⟦<bool as Deserialize>⟧.refusal ⟦<bool as Deserialize>⟧.takes x }
-    ensures null { IsTakenBack ⟦<() as Serialize>⟧.put ⟦<() as Deserialize>⟧.refusal ⟦<() as Deserialize>⟧.takes tt }
+    ensures booleans { (x : Bool) → IsTakenBack ⟦<bool as Serialize>⟧ ⟦<bool as Deserialize>⟧ x }
+    ensures null { IsTakenBack ⟦<() as Serialize>⟧ ⟦<() as Deserialize>⟧ tt }
 {}
 
 /// Numbers of up to 64 bits are taken back.
 pub fn numbers_are_taken_back()
-    ensures u8 { (x : ℕ) → x < 2 ^ 8 → IsTakenBack ⟦<u8 as Serialize>⟧.put ⟦<u8 as Deserialize>⟧.refusal ⟦<u8 as Deserialize>⟧.takes x }
-    ensures u16 { (x : ℕ) → x < 2 ^ 16 → IsTakenBack ⟦<u16 as Serialize>⟧.put ⟦<u16 as Deserialize>⟧.refusal ⟦<u16 as Deserialize>⟧.takes x }
-    ensures u32 { (x : ℕ) → x < 2 ^ 32 → IsTakenBack ⟦<u32 as Serialize>⟧.put ⟦<u32 as Deserialize>⟧.refusal ⟦<u32 as Deserialize>⟧.takes x }
-    ensures u64 { (x : ℕ) → x < 2 ^ 64 → IsTakenBack ⟦<u64 as Serialize>⟧.put ⟦<u64 as Deserialize>⟧.refusal ⟦<u64 as Deserialize>⟧.takes x }
-    ensures usize { (x : ℕ) → x < 2 ^ 64 → IsTakenBack ⟦<usize as Serialize>⟧.put ⟦<usize as Deserialize>⟧.refusal ⟦<usize as Deserialize>⟧.takes x }
-    ensures i8 { (x : ℤ) → FitsSigned w8 x → IsTakenBack ⟦<i8 as Serialize>⟧.put ⟦<i8 as Deserialize>⟧.refusal ⟦<i8 as Deserialize>⟧.takes x }
-    ensures i16 { (x : ℤ) → FitsSigned w16 x → IsTakenBack ⟦<i16 as Serialize>⟧.put ⟦<i16 as Deserialize>⟧.refusal ⟦<i16 as Deserialize>⟧.takes x }
-    ensures i32 { (x : ℤ) → FitsSigned w32 x → IsTakenBack ⟦<i32 as Serialize>⟧.put ⟦<i32 as Deserialize>⟧.refusal ⟦<i32 as Deserialize>⟧.takes x }
-    ensures i64 { (x : ℤ) → FitsSigned w64 x → IsTakenBack ⟦<i64 as Serialize>⟧.put ⟦<i64 as Deserialize>⟧.refusal ⟦<i64 as Deserialize>⟧.takes x }
-    ensures isize { (x : ℤ) → FitsSigned w64 x → IsTakenBack ⟦<isize as Serialize>⟧.put ⟦<isize as Deserialize>⟧.refusal ⟦<isize as Deserialize>⟧.takes x }
+    ensures u8 { (x : ℕ) → x < 2 ^ 8 → IsTakenBack ⟦<u8 as Serialize>⟧ ⟦<u8 as Deserialize>⟧ x }
+    ensures u16 { (x : ℕ) → x < 2 ^ 16 → IsTakenBack ⟦<u16 as Serialize>⟧ ⟦<u16 as Deserialize>⟧ x }
+    ensures u32 { (x : ℕ) → x < 2 ^ 32 → IsTakenBack ⟦<u32 as Serialize>⟧ ⟦<u32 as Deserialize>⟧ x }
+    ensures u64 { (x : ℕ) → x < 2 ^ 64 → IsTakenBack ⟦<u64 as Serialize>⟧ ⟦<u64 as Deserialize>⟧ x }
+    ensures usize { (x : ℕ) → x < 2 ^ 64 → IsTakenBack ⟦<usize as Serialize>⟧ ⟦<usize as Deserialize>⟧ x }
+    ensures i8 { (x : ℤ) → FitsSigned w8 x → IsTakenBack ⟦<i8 as Serialize>⟧ ⟦<i8 as Deserialize>⟧ x }
+    ensures i16 { (x : ℤ) → FitsSigned w16 x → IsTakenBack ⟦<i16 as Serialize>⟧ ⟦<i16 as Deserialize>⟧ x }
+    ensures i32 { (x : ℤ) → FitsSigned w32 x → IsTakenBack ⟦<i32 as Serialize>⟧ ⟦<i32 as Deserialize>⟧ x }
+    ensures i64 { (x : ℤ) → FitsSigned w64 x → IsTakenBack ⟦<i64 as Serialize>⟧ ⟦<i64 as Deserialize>⟧ x }
+    ensures isize { (x : ℤ) → FitsSigned w64 x → IsTakenBack ⟦<isize as Serialize>⟧ ⟦<isize as Deserialize>⟧ x }
 {}
 
 /// Numbers of 128 bits are taken back.
 pub fn wide_numbers_are_taken_back()
-    ensures u128 { (x : ℕ) → x < 2 ^ 128 → IsTakenBack ⟦<u128 as Serialize>⟧.put ⟦<u128 as Deserialize>⟧.refusal ⟦<u128 as Deserialize>⟧.takes x }
-    ensures i128 { (x : ℤ) → FitsSigned w128 x → IsTakenBack ⟦<i128 as Serialize>⟧.put ⟦<i128 as Deserialize>⟧.refusal ⟦<i128 as Deserialize>⟧.takes x }
+    ensures u128 { (x : ℕ) → x < 2 ^ 128 → IsTakenBack ⟦<u128 as Serialize>⟧ ⟦<u128 as Deserialize>⟧ x }
+    ensures i128 { (x : ℤ) → FitsSigned w128 x → IsTakenBack ⟦<i128 as Serialize>⟧ ⟦<i128 as Deserialize>⟧ x }
 {}
 
 /// Characters and texts are taken back.
 pub fn texts_are_taken_back()
-    ensures characters { (x : ℕ) → IsScalar x → IsTakenBack ⟦<char as Serialize>⟧.put ⟦<char as Deserialize>⟧.refusal ⟦<char as Deserialize>⟧.takes x }
-    ensures texts { (x : String Global) → IsTakenBack ⟦<String as Serialize>⟧.put ⟦<String as Deserialize>⟧.refusal ⟦<String as Deserialize>⟧.takes x }
+    ensures characters { (x : ℕ) → IsScalar x → IsTakenBack ⟦<char as Serialize>⟧ ⟦<char as Deserialize>⟧ x }
+    ensures texts { (x : String Global) → IsTakenBack ⟦<String as Serialize>⟧ ⟦<String as Deserialize>⟧ x }
 {}
 
 /// A folded value is taken back.
 pub fn values_are_taken_back()
-    ensures value { (v : ValueOf) → fold (view v) ≡ Some (view v) → IsTakenBack ⟦<Value as Serialize>⟧.put ⟦<Value as Deserialize>⟧.refusal ⟦<Value as Deserialize>⟧.takes v }
-    ensures canonical { (v : CanonicalOf) → fold (view v.0) ≡ Some (view v.0) → IsTakenBack ⟦<CanonicalValue as Serialize>⟧.put ⟦<CanonicalValue as Deserialize>⟧.refusal ⟦<CanonicalValue as Deserialize>⟧.takes v }
+    ensures value { (v : ValueOf) → fold (view v) ≡ Some (view v)
+        → IsTakenBack ⟦<Value as Serialize>⟧ ⟦<Value as Deserialize>⟧ v }
+    ensures canonical { (v : CanonicalOf) → fold (view v.0) ≡ Some (view v.0)
+        → IsTakenBack ⟦<CanonicalValue as Serialize>⟧ ⟦<CanonicalValue as Deserialize>⟧ v }
 {}
 
 /// No value is taken back, and a value is where its own type takes it back and its item is not null.
 pub fn options_are_taken_back<T: Serialize + Deserialize>(value: &T)
-    ensures none { IsTakenBack ⟦<Option<T> as Serialize>⟧.put ⟦<Option<T> as Deserialize>⟧.refusal ⟦<Option<T> as Deserialize>⟧.takes None }
-    ensures some { IsTakenBack T.put T.refusal T.takes value.now → is_null (T.put value.now) ≡ false → IsTakenBack ⟦<Option<T> as Serialize>⟧.put ⟦<Option<T> as Deserialize>⟧.refusal ⟦<Option<T> as Deserialize>⟧.takes (Some value.now) }
+    ensures none { IsTakenBack ⟦<Option<T> as Serialize>⟧ ⟦<Option<T> as Deserialize>⟧ None }
+    ensures some { IsTakenBack T.Serialize T.Deserialize value.now → is_null (T.put value.now) ≡ false
+        → IsTakenBack ⟦<Option<T> as Serialize>⟧ ⟦<Option<T> as Deserialize>⟧ (Some value.now) }
 {}
 
 /// A list is taken back where each of its values is.
 pub fn lists_are_taken_back<T: Serialize + Deserialize>(list: &Vec<T>)
-    ensures { All (λ x. IsTakenBack T.put T.refusal T.takes x) list.now.items → IsTakenBack ⟦<Vec<T> as Serialize>⟧.put ⟦<Vec<T> as Deserialize>⟧.refusal ⟦<Vec<T> as Deserialize>⟧.takes list.now }
+    ensures { All (λ x. IsTakenBack T.Serialize T.Deserialize x) list.now.items
+        → IsTakenBack ⟦<Vec<T> as Serialize>⟧ ⟦<Vec<T> as Deserialize>⟧ list.now }
 {}
 
 /// A tuple of one is taken back where its value is.
 pub fn tuples_of_one_are_taken_back<A: Serialize + Deserialize>(tuple: &(A,))
-    ensures { IsTakenBack A.put A.refusal A.takes tuple.now.0 → IsTakenBack ⟦<(A,) as Serialize>⟧.put ⟦<(A,) as Deserialize>⟧.refusal ⟦<(A,) as Deserialize>⟧.takes tuple.now }
+    ensures { IsTakenBack A.Serialize A.Deserialize tuple.now.0
+        → IsTakenBack ⟦<(A,) as Serialize>⟧ ⟦<(A,) as Deserialize>⟧ tuple.now }
 {}
 
 /// A tuple of two is taken back where each of its values is.
 pub fn tuples_of_two_are_taken_back<A: Serialize + Deserialize, B: Serialize + Deserialize>(
     tuple: &(A, B),
 )
-    ensures { IsTakenBack A.put A.refusal A.takes tuple.now.0 → IsTakenBack B.put B.refusal B.takes tuple.now.1 → IsTakenBack ⟦<(A, B) as Serialize>⟧.put ⟦<(A, B) as Deserialize>⟧.refusal ⟦<(A, B) as Deserialize>⟧.takes tuple.now }
+    ensures { IsTakenBack A.Serialize A.Deserialize tuple.now.0 → IsTakenBack B.Serialize B.Deserialize tuple.now.1
+        → IsTakenBack ⟦<(A, B) as Serialize>⟧ ⟦<(A, B) as Deserialize>⟧ tuple.now }
 {}
 
 /// A tuple of three is taken back where each of its values is.
@@ -82,7 +88,9 @@ pub fn tuples_of_three_are_taken_back<
     B: Serialize + Deserialize,
     C: Serialize + Deserialize,
 >(tuple: &(A, B, C))
-    ensures { IsTakenBack A.put A.refusal A.takes tuple.now.0 → IsTakenBack B.put B.refusal B.takes tuple.now.1 → IsTakenBack C.put C.refusal C.takes tuple.now.2 → IsTakenBack ⟦<(A, B, C) as Serialize>⟧.put ⟦<(A, B, C) as Deserialize>⟧.refusal ⟦<(A, B, C) as Deserialize>⟧.takes tuple.now }
+    ensures { IsTakenBack A.Serialize A.Deserialize tuple.now.0 → IsTakenBack B.Serialize B.Deserialize tuple.now.1
+        → IsTakenBack C.Serialize C.Deserialize tuple.now.2
+        → IsTakenBack ⟦<(A, B, C) as Serialize>⟧ ⟦<(A, B, C) as Deserialize>⟧ tuple.now }
 {}
 
 /// A tuple of four is taken back where each of its values is.
@@ -92,14 +100,17 @@ pub fn tuples_of_four_are_taken_back<
     C: Serialize + Deserialize,
     D: Serialize + Deserialize,
 >(tuple: &(A, B, C, D))
-    ensures { IsTakenBack A.put A.refusal A.takes tuple.now.0 → IsTakenBack B.put B.refusal B.takes tuple.now.1 → IsTakenBack C.put C.refusal C.takes tuple.now.2 → IsTakenBack D.put D.refusal D.takes tuple.now.3 → IsTakenBack ⟦<(A, B, C, D) as Serialize>⟧.put ⟦<(A, B, C, D) as Deserialize>⟧.refusal ⟦<(A, B, C, D) as Deserialize>⟧.takes tuple.now }
+    ensures { IsTakenBack A.Serialize A.Deserialize tuple.now.0 → IsTakenBack B.Serialize B.Deserialize tuple.now.1
+        → IsTakenBack C.Serialize C.Deserialize tuple.now.2 → IsTakenBack D.Serialize D.Deserialize tuple.now.3
+        → IsTakenBack ⟦<(A, B, C, D) as Serialize>⟧ ⟦<(A, B, C, D) as Deserialize>⟧ tuple.now }
 {}
 
 /// A map is taken back where each of its keys and values is.
 pub fn maps_are_taken_back<K: Serialize + Deserialize + Ord, V: Serialize + Deserialize>(
     map: &BTreeMap<K, V>,
 )
-    ensures { All (λ e. IsTakenBack K.put K.refusal K.takes e.0 × IsTakenBack V.put V.refusal V.takes e.1) map.now.entries → IsTakenBack ⟦<BTreeMap<K, V> as Serialize>⟧.put ⟦<BTreeMap<K, V> as Deserialize>⟧.refusal ⟦<BTreeMap<K, V> as Deserialize>⟧.takes map.now }
+    ensures { All (λ e. IsTakenBack K.Serialize K.Deserialize e.0 × IsTakenBack V.Serialize V.Deserialize e.1) map.now.entries
+        → IsTakenBack ⟦<BTreeMap<K, V> as Serialize>⟧ ⟦<BTreeMap<K, V> as Deserialize>⟧ map.now }
 {
     let _len = map.len();
 }

@@ -17,15 +17,9 @@ impl<T: Serialize> Serialize for Vec<T> {
     ghost put = { λ v. spec.array (trees (map T.put v.items)) };
 
     fn serialize<S: Sink>(&self, sink: &mut S) -> Result<(), S::Error> {
-        match sink.array(self.len()) {
-            Ok(()) => {}
-            Err(error) => return Err(error),
-        }
+        sink.array(self.len())?;
         for item in self {
-            match item.serialize(sink) {
-                Ok(()) => {}
-                Err(error) => return Err(error),
-            }
+            item.serialize(sink)?;
         }
         Ok(())
     }
@@ -48,20 +42,14 @@ impl<T: Deserialize> Deserialize for Vec<T> {
 
 /// The values that are taken of the items.
 fn take_items<T: Deserialize>(alloc: Global, items: Vec<Value>) -> Result<Vec<T>, Error>
-    ensures ok { IfOk result (λ v. (first_refusal T.refusal (views items.items) ≡ None) × EachTaken T.takes (views items.items) v.items) }
+    ensures ok { IfOk result (λ v. (first_refusal T.refusal (views items.items) ≡ None)
+        × EachTaken T.takes (views items.items) v.items) }
     ensures err { IfErr result (λ e. IsRefusal true (first_refusal T.refusal (views items.items)) e) }
 {
     let mut taken = Vec::new(alloc);
     for item in items {
-        match T::take(alloc, item) {
-            Ok(x) => {
-                match taken.push(x) {
-                    Ok(()) => {}
-                    Err(_refused) => return Err(Error::Memory),
-                }
-            }
-            Err(error) => return Err(error),
-        }
+        let x = T::take(alloc, item)?;
+        taken.push(x)?;
     }
     Ok(taken)
 }

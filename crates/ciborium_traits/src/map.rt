@@ -18,19 +18,10 @@ impl<K: Serialize + Ord, V: Serialize> Serialize for BTreeMap<K, V> {
     ghost put = { λ m. spec.map (pairs (map (λ e. (K.put e.0, V.put e.1)) m.entries)) };
 
     fn serialize<S: Sink>(&self, sink: &mut S) -> Result<(), S::Error> {
-        match sink.map(self.len()) {
-            Ok(()) => {}
-            Err(error) => return Err(error),
-        }
+        sink.map(self.len())?;
         'entries: for (key, value) in self {
-            match key.serialize(sink) {
-                Ok(()) => {}
-                Err(error) => return Err(error),
-            }
-            match value.serialize(sink) {
-                Ok(()) => {}
-                Err(error) => return Err(error),
-            }
+            key.serialize(sink)?;
+            value.serialize(sink)?;
         }
         Ok(())
     }
@@ -39,7 +30,8 @@ impl<K: Serialize + Ord, V: Serialize> Serialize for BTreeMap<K, V> {
 impl<K: Deserialize + Ord, V: Deserialize> Deserialize for BTreeMap<K, V> {
     ghost refusal = { λ t. map_refusal (first_refusal_of_pairs K.refusal V.refusal) (bare t) };
 
-    ghost takes = { λ t m. (ps : Pairs) × (es : List (K × V)) × (bare t ≡ spec.map ps) × EachPairTaken K.takes V.takes ps es × (m.entries ≡ inserted K.cmp es) };
+    ghost takes = { λ t m. (ps : Pairs) × (es : List (K × V)) × (bare t ≡ spec.map ps)
+        × EachPairTaken K.takes V.takes ps es × (m.entries ≡ inserted K.cmp es) };
 
     ghost grows = { true };
 
@@ -62,18 +54,9 @@ fn take_entries<K: Deserialize + Ord, V: Deserialize>(
 {
     let mut taken = BTreeMap::new(alloc);
     'entries: for entry in entries {
-        let key = match K::take(alloc, entry.0) {
-            Ok(key) => key,
-            Err(error) => return Err(error),
-        };
-        let value = match V::take(alloc, entry.1) {
-            Ok(value) => value,
-            Err(error) => return Err(error),
-        };
-        match taken.insert(key, value) {
-            Ok(_old) => {}
-            Err(_refused) => return Err(Error::Memory),
-        }
+        let key = K::take(alloc, entry.0)?;
+        let value = V::take(alloc, entry.1)?;
+        taken.insert(key, value)?;
     }
     Ok(taken)
 }

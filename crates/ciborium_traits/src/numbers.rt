@@ -16,7 +16,8 @@ use std::alloc::Global;
 
 /// The integer without the tags around it.
 fn integer(value: Value) -> Result<Integer, Error>
-    ensures { MatchResult result (λ i. bare (view value) ≡ integer_tree (number_of i)) (λ e. (integer_number (bare (view value)) ≡ None) × (e ≡ error.Kind kind.WrongType)) }
+    ensures { MatchResult result (λ i. bare (view value) ≡ integer_tree (number_of i))
+        (λ e. (integer_number (bare (view value)) ≡ None) × (e ≡ error.Kind kind.WrongType)) }
 {
     match bare(value) {
         Value::Integer(number) => Ok(number),

@@ -22,39 +22,21 @@ fn write_value<S: Sink>(sink: &mut S, value: &Value) -> Result<(), S::Error>
         Value::Bool(b) => sink.boolean(*b),
         Value::Null => sink.null(),
         Value::Tag(tag, content) => {
-            match sink.tag(*tag) {
-                Ok(()) => {}
-                Err(e) => return Err(e),
-            }
+            sink.tag(*tag)?;
             write_value(sink, content)
         }
         Value::Array(items) => {
-            match sink.array(items.len()) {
-                Ok(()) => {}
-                Err(e) => return Err(e),
-            }
+            sink.array(items.len())?;
             'items: for item in items {
-                match write_value(sink, item) {
-                    Ok(()) => {}
-                    Err(e) => return Err(e),
-                }
+                write_value(sink, item)?;
             }
             Ok(())
         }
         Value::Map(entries) => {
-            match sink.map(entries.len()) {
-                Ok(()) => {}
-                Err(e) => return Err(e),
-            }
+            sink.map(entries.len())?;
             'entries: for entry in entries {
-                match write_value(sink, &entry.0) {
-                    Ok(()) => {}
-                    Err(e) => return Err(e),
-                }
-                match write_value(sink, &entry.1) {
-                    Ok(()) => {}
-                    Err(e) => return Err(e),
-                }
+                write_value(sink, &entry.0)?;
+                write_value(sink, &entry.1)?;
             }
             Ok(())
         }

@@ -26,39 +26,44 @@ use std::hash::Hash;
 
 /// A byte string is taken back.
 pub fn byte_strings_are_taken_back()
-    ensures { (x : ByteBufOf) → IsTakenBack ⟦<ByteBuf as Serialize>⟧.put ⟦<ByteBuf as Deserialize>⟧.refusal ⟦<ByteBuf as Deserialize>⟧.takes x }
+    ensures { (x : ByteBufOf) → IsTakenBack ⟦<ByteBuf as Serialize>⟧ ⟦<ByteBuf as Deserialize>⟧ x }
 {}
 
 /// A value sink that took the events of an item has this item more, wherever it was awaited.
 pub fn items_are_built()
-    ensures { (t : Tree) (s s2 : SinkOf) → AllAdded ⟦<ValueSink as Sink>⟧.adds s (events t) s2 → state_of s2 ≡ added t (state_of s) }
+    ensures { (t : Tree) (s s2 : SinkOf) → AllAdded ⟦<ValueSink as Sink>⟧.adds s (events t) s2
+        → state_of s2 ≡ added t (state_of s) }
 {}
 
 /// A value with the tag around it is taken back where the value is, and the tag is no bignum's over its bytes. With no tag it is
 /// where the value's item is no tag.
 pub fn captured_values_are_taken_back<V: Serialize + Deserialize>(captured: &Captured<V>)
-    ensures { IsTakenBack V.put V.refusal V.takes captured.now.1 → MatchOption captured.now.0 (is_tag (V.put captured.now.1) ≡ false) (λ n. opens_none n (V.put captured.now.1) ≡ false)
-        → IsTakenBack ⟦<Captured<V> as Serialize>⟧.put ⟦<Captured<V> as Deserialize>⟧.refusal ⟦<Captured<V> as Deserialize>⟧.takes captured.now }
+    ensures { IsTakenBack V.Serialize V.Deserialize captured.now.1
+        → MatchOption captured.now.0 (is_tag (V.put captured.now.1) ≡ false) (λ n. opens_none n (V.put captured.now.1) ≡ false)
+        → IsTakenBack ⟦<Captured<V> as Serialize>⟧ ⟦<Captured<V> as Deserialize>⟧ captured.now }
 {}
 
 /// A value that must have a tag is taken back where the value is, and the tag is no bignum's over its bytes.
 pub fn required_values_are_taken_back<V: Serialize + Deserialize, const TAG: u64>(
     required: &Required<V, TAG>,
 )
-    ensures { IsTakenBack V.put V.refusal V.takes required.now.0 → opens_none TAG (V.put required.now.0) ≡ false → IsTakenBack ⟦<Required<V, TAG> as Serialize>⟧.put ⟦<Required<V, TAG> as Deserialize>⟧.refusal ⟦<Required<V, TAG> as Deserialize>⟧.takes required.now }
+    ensures { IsTakenBack V.Serialize V.Deserialize required.now.0 → opens_none TAG (V.put required.now.0) ≡ false
+        → IsTakenBack ⟦<Required<V, TAG> as Serialize>⟧ ⟦<Required<V, TAG> as Deserialize>⟧ required.now }
 {}
 
 /// A value that may have a tag is taken back where the value is, and the tag is no bignum's over its bytes.
 pub fn accepted_values_are_taken_back<V: Serialize + Deserialize, const TAG: u64>(
     accepted: &Accepted<V, TAG>,
 )
-    ensures { IsTakenBack V.put V.refusal V.takes accepted.now.0 → opens_none TAG (V.put accepted.now.0) ≡ false → IsTakenBack ⟦<Accepted<V, TAG> as Serialize>⟧.put ⟦<Accepted<V, TAG> as Deserialize>⟧.refusal ⟦<Accepted<V, TAG> as Deserialize>⟧.takes accepted.now }
+    ensures { IsTakenBack V.Serialize V.Deserialize accepted.now.0 → opens_none TAG (V.put accepted.now.0) ≡ false
+        → IsTakenBack ⟦<Accepted<V, TAG> as Serialize>⟧ ⟦<Accepted<V, TAG> as Deserialize>⟧ accepted.now }
 {}
 
 /// Captured values are equal where their tags are and their values are. Their order is total and goes by the tag, none before any,
 /// and then by the value, and they are hashed in that order.
 pub fn captured_values_compare<V: Ord + Hash>(a: &Captured<V>, b: &Captured<V>)
-    ensures equality { IsTrue (⟦<Captured<V> as std::cmp::PartialEq>⟧.eq a.now b.now) ↔ ((a.now.0 ≡ b.now.0) × IsTrue (V.eq a.now.1 b.now.1)) }
+    ensures equality { IsTrue (⟦<Captured<V> as std::cmp::PartialEq>⟧.eq a.now b.now)
+        ↔ ((a.now.0 ≡ b.now.0) × IsTrue (V.eq a.now.1 b.now.1)) }
     ensures order { ⟦<Captured<V> as std::cmp::Ord>⟧.cmp a.now b.now
         ≡ ordering_then (⟦<Option<u64> as std::cmp::Ord>⟧.cmp a.now.0 b.now.0) (V.cmp a.now.1 b.now.1) }
     ensures total { IsTotalOrder ⟦<Captured<V> as std::cmp::Ord>⟧.cmp }

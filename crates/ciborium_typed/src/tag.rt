@@ -80,14 +80,11 @@ impl<V: Deserialize> Deserialize for Captured<V> {
 
     fn take(alloc: Global, value: Value) -> Result<Captured<V>, Error> {
         match value {
-            Value::Tag(tag, content) => match V::take(alloc, Box::into_inner(content)) {
-                Ok(x) => Ok(Captured(Some(tag), x)),
-                Err(error) => Err(error),
-            },
-            other => match V::take(alloc, other) {
-                Ok(x) => Ok(Captured(None, x)),
-                Err(error) => Err(error),
-            },
+            Value::Tag(tag, content) => {
+                let x = V::take(alloc, Box::into_inner(content))?;
+                Ok(Captured(Some(tag), x))
+            }
+            other => Ok(Captured(None, V::take(alloc, other)?)),
         }
     }
 }
@@ -113,10 +110,7 @@ impl<V: Deserialize, const TAG: u64> Deserialize for Required<V, TAG> {
                 if tag != TAG {
                     return Err(Error::Kind(Kind::Tag));
                 }
-                match V::take(alloc, Box::into_inner(content)) {
-                    Ok(x) => Ok(Required(x)),
-                    Err(error) => Err(error),
-                }
+                Ok(Required(V::take(alloc, Box::into_inner(content))?))
             }
             _ => Err(Error::Kind(Kind::Tag)),
         }
@@ -144,15 +138,9 @@ impl<V: Deserialize, const TAG: u64> Deserialize for Accepted<V, TAG> {
                 if tag != TAG {
                     return Err(Error::Kind(Kind::Tag));
                 }
-                match V::take(alloc, Box::into_inner(content)) {
-                    Ok(x) => Ok(Accepted(x)),
-                    Err(error) => Err(error),
-                }
+                Ok(Accepted(V::take(alloc, Box::into_inner(content))?))
             }
-            other => match V::take(alloc, other) {
-                Ok(x) => Ok(Accepted(x)),
-                Err(error) => Err(error),
-            },
+            other => Ok(Accepted(V::take(alloc, other)?)),
         }
     }
 }
@@ -190,8 +178,6 @@ fn serialize_tagged<V: Serialize, S: Sink>(
     ensures ok { OnOk result (AllAdded S.adds sink.old (events (spec.tag tag (V.put value.now))) sink.new) }
     ensures err { OnErr result (Stopped S.adds S.refuses sink.old (events (spec.tag tag (V.put value.now))) sink.new) }
 {
-    match sink.tag(tag) {
-        Ok(()) => value.serialize(sink),
-        Err(error) => Err(error),
-    }
+    sink.tag(tag)?;
+    value.serialize(sink)
 }

@@ -5,11 +5,10 @@ use Rattle.std.specs.Io.KnownBytes.{Appends}
 use Rattle.std.proofs.KnownBytes.{Appends-nil}
 use Rattle.std.proofs.lemmas.List.{take-append-drop}
 use Rattle.ciborium_value.specs.Tree.{Tree, tag}
-use Rattle.ciborium_value.specs.Encoding.{enc}
 use Rattle.coset_base.specs.Faults.{fault_of}
-use Rattle.cose_gate.specs.Questions.{Question, MessageFields, questions, tagged_tree}
+use Rattle.cose_gate.specs.Questions.{Question, MessageFields, questions, message_text}
 use Rattle.cose_gate.specs.Asked.{asked, first_no, folded_over}
-use Rattle.cose_gate.specs.Findings.{Reason, not_tagged, encrypted, other_tag, shape, detached, judged, barred, IsJudged, IsBarred}
+use Rattle.cose_gate.specs.Findings.{Reason, not_tagged, encrypted, other_tag, shape, detached, judged, barred, Limits, IsJudged, IsBarred}
 use Rattle.cose_gate.specs.Run.{IsVerdict, judged_by, written_of}
 use Rattle.cose_gate.specs.Passing.{IsRefused, WentThrough, Half, IsWriteFault, ItemFails}
 use Rattle.cose_gate.specs.declared.passing.ItemFault.{ItemFault}
@@ -18,23 +17,23 @@ use Rattle.cose_gate.specs.declared.report.Refusal.{Refusal}
 use Rattle.cose_gate.specs.declared.report.Refusal.TheVariants as refusal
 use Rattle.cose_gate.specs.declared.report.Verdict.TheVariants.{Passed, Refused}
 
-pub is_encrypted : (t u : Tree) (n : ℕ) → t ≡ tag n u → (n ≡ 16) ⊎ (n ≡ 96) → IsBarred t encrypted
-is_encrypted t u n e k = (n, u, e, k)
+pub is_encrypted : (limits : Limits) (t u : Tree) (n : ℕ) → t ≡ tag n u → (n ≡ 16) ⊎ (n ≡ 96) → IsBarred limits t encrypted
+is_encrypted limits t u n e k = (n, u, e, k)
 
-pub is_other_tag : (t u : Tree) (n : ℕ) → t ≡ tag n u → n ≢ 16 → n ≢ 96 → n ≢ 18 → IsBarred t (other_tag n)
-is_other_tag t u n e a b c = (u, e, (λ w. not w), c)
+pub is_other_tag : (limits : Limits) (t u : Tree) (n : ℕ) → t ≡ tag n u → n ≢ 16 → n ≢ 96 → n ≢ 18 → IsBarred limits t (other_tag n)
+is_other_tag limits t u n e a b c = (u, e, (λ w. not w), c)
   where
     not : (n ≡ 16) ⊎ (n ≡ 96) → ⊥
     not (inl x) = a x
     not (inr x) = b x
 
-module _ {T : Type 0} (decided : T → Question → T) (allows : Question → Bool) (aad : List ℕ) where
-  barred_as : (t : Tree) (told : T) (w : Option (List ℕ)) (r : Reason) (v : Refusal) → IsBarred t r
-      → IsVerdict allows aad t (barred r) (Refused v) → WentThrough decided allows aad t told told w w (Refused v)
+module _ {T : Type 0} (limits : Limits) (decided : T → Question → T) (allows : Question → Bool) (aad : List ℕ) where
+  barred_as : (t : Tree) (told : T) (w : Option (List ℕ)) (r : Reason) (v : Refusal) → IsBarred limits t r
+      → IsVerdict limits allows aad t (barred r) (Refused v) → WentThrough limits decided allows aad t told told w w (Refused v)
   barred_as t told w r v is says = record { finding = barred r; finds = is; verdict = says; tells = refl; writes = Appends-nil w }
 
   -- a refusal before any question
-  pub taken_barred : (t : Tree) (told : T) (w : Option (List ℕ)) (r : Refusal) → IsRefused t r → WentThrough decided allows aad t told told w w (Refused r)
+  pub taken_barred : (t : Tree) (told : T) (w : Option (List ℕ)) (r : Refusal) → IsRefused limits t r → WentThrough limits decided allows aad t told told w w (Refused r)
   taken_barred t told w refusal.NotTagged is = barred_as t told w not_tagged refusal.NotTagged is refl
   taken_barred t told w (refusal.OtherTag n) is = barred_as t told w (other_tag n) (refusal.OtherTag n) is refl
   taken_barred t told w refusal.Encrypted is = barred_as t told w encrypted refusal.Encrypted is refl
@@ -44,14 +43,14 @@ module _ {T : Type 0} (decided : T → Question → T) (allows : Question → Bo
   taken_barred t told w (refusal.Judged n) is = absurd is
 
   written_no : (m : MessageFields) (i : ℕ) → Some i ≡ first_no allows (questions m aad) → written_of allows aad (judged m) ≡ []
-  written_no m i e = ap (λ o. cond (is_none o) (enc (tagged_tree m)) []) (sym e)
+  written_no m i e = ap (λ o. cond (is_none o) (message_text m) []) (sym e)
 
-  written_yes : (m : MessageFields) → None ≡ first_no allows (questions m aad) → written_of allows aad (judged m) ≡ enc (tagged_tree m)
-  written_yes m e = ap (λ o. cond (is_none o) (enc (tagged_tree m)) []) (sym e)
+  written_yes : (m : MessageFields) → None ≡ first_no allows (questions m aad) → written_of allows aad (judged m) ≡ message_text m
+  written_yes m e = ap (λ o. cond (is_none o) (message_text m) []) (sym e)
 
   -- the judge said no
-  pub taken_no : (t : Tree) (told told' : T) (w : Option (List ℕ)) (m : MessageFields) (i : ℕ) → IsJudged t m → Some i ≡ first_no allows (questions m aad)
-      → told' ≡ folded_over decided told (asked allows (questions m aad)) → WentThrough decided allows aad t told told' w w (Refused (refusal.Judged i))
+  pub taken_no : (t : Tree) (told told' : T) (w : Option (List ℕ)) (m : MessageFields) (i : ℕ) → IsJudged limits t m → Some i ≡ first_no allows (questions m aad)
+      → told' ≡ folded_over decided told (asked allows (questions m aad)) → WentThrough limits decided allows aad t told told' w w (Refused (refusal.Judged i))
   taken_no t told told' w m i is said tells = record {
     finding = judged m;
     finds = is;
@@ -61,8 +60,8 @@ module _ {T : Type 0} (decided : T → Question → T) (allows : Question → Bo
   }
 
   -- the judge said yes, and the text was written
-  pub taken_yes : (t : Tree) (told told' : T) (w w' : Option (List ℕ)) (m : MessageFields) → IsJudged t m → None ≡ first_no allows (questions m aad)
-      → told' ≡ folded_over decided told (asked allows (questions m aad)) → Appends w w' (enc (tagged_tree m)) → WentThrough decided allows aad t told told' w w' Passed
+  pub taken_yes : (t : Tree) (told told' : T) (w w' : Option (List ℕ)) (m : MessageFields) → IsJudged limits t m → None ≡ first_no allows (questions m aad)
+      → told' ≡ folded_over decided told (asked allows (questions m aad)) → Appends w w' (message_text m) → WentThrough limits decided allows aad t told told' w w' Passed
   taken_yes t told told' w w' m is said tells writes = record {
     finding = judged m;
     finds = is;
@@ -72,7 +71,7 @@ module _ {T : Type 0} (decided : T → Question → T) (allows : Question → Bo
   }
 
   -- all was asked, and nothing written
-  half_asked : (t : Tree) (told told' : T) (m : MessageFields) → IsJudged t m → told' ≡ folded_over decided told (asked allows (questions m aad)) → Half decided allows aad t told told'
+  half_asked : (t : Tree) (told told' : T) (m : MessageFields) → IsJudged limits t m → told' ≡ folded_over decided told (asked allows (questions m aad)) → Half limits decided allows aad t told told'
   half_asked t told told' m is tells = record {
     message = m;
     is = is;
@@ -82,14 +81,14 @@ module _ {T : Type 0} (decided : T → Question → T) (allows : Question → Bo
   }
 
   -- writing the text failed
-  pub half_written : (t : Tree) (told told' : T) (w w' : Option (List ℕ)) (m : MessageFields) (f : ItemFault) → IsJudged t m → None ≡ first_no allows (questions m aad)
-      → told' ≡ folded_over decided told (asked allows (questions m aad)) → IsWriteFault w w' (enc (tagged_tree m)) f → ItemFails decided allows aad t told told' w w' f
+  pub half_written : (t : Tree) (told told' : T) (w w' : Option (List ℕ)) (m : MessageFields) (f : ItemFault) → IsJudged limits t m → None ≡ first_no allows (questions m aad)
+      → told' ≡ folded_over decided told (asked allows (questions m aad)) → IsWriteFault w w' (message_text m) f → ItemFails limits decided allows aad t told told' w w' f
   half_written t told told' w w' m fault.Write is said tells writes = record {
     message = m;
     is = is;
     tells = tells;
-    front = take writes.0 (enc (tagged_tree m));
-    front_is = record { more = drop writes.0 (enc (tagged_tree m)); whole = written_yes m said ∙ sym (take-append-drop writes.0 (enc (tagged_tree m))) };
+    front = take writes.0 (message_text m);
+    front_is = record { more = drop writes.0 (message_text m); whole = written_yes m said ∙ sym (take-append-drop writes.0 (message_text m)) };
     writes = writes.1;
   }
   half_written t told told' w w' m fault.Memory is said tells writes = (writes, inr (half_asked t told told' m is tells))

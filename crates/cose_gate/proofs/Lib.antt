@@ -5,3 +5,4 @@ pub mod Programs
 pub mod Reach
 pub mod Unique
 pub mod TagNumbers
+pub mod Written

@@ -83,7 +83,7 @@ module _ {T S : Type 0} (rules : Rules T S) where
   -- the item went through, and its entry was noted
   pub reached_step : (old new newer : Sight T S) (passed refused passed' refused' : ℕ) → Reached rules old new passed refused
       → (v : Tree) → Moves new.left newer.left new.offset newer.offset (λ (b : List ℕ). Reads b 256 v) → (verdict : Verdict)
-      → WentThrough rules.decided rules.allows rules.aad v new.told newer.told new.written newer.written verdict
+      → WentThrough rules.limits rules.decided rules.allows rules.aad v new.told newer.told new.written newer.written verdict
       → (e : Entry) → e ≡ entry_at (passed + refused + 1) new.offset verdict → newer.state ≡ rules.folded new.state e
       → passed' ≡ passed + cond (has_passed verdict) 1 0 → refused' ≡ refused + cond (not (has_passed verdict)) 1 0
       → Reached rules old newer passed' refused'
@@ -91,7 +91,7 @@ module _ {T S : Type 0} (rules : Rules T S) where
   reached_step old new newer passed refused passed' refused' r v t verdict k e same state more less =
       let s = step_at new.offset t.bytes v k.finding (entry_at (passed + refused + 1) new.offset verdict) in
       let w = further rules old new newer passed refused r v t k.finding verdict k.finds k.verdict in
-      let q = verdict_passes rules.allows rules.aad v k.finding verdict k.verdict in
+      let q = verdict_passes rules.limits rules.allows rules.aad v k.finding verdict k.verdict in
       record {
         done = r.done ++ s ∷ [];
         taken = w.taken;
@@ -113,11 +113,11 @@ module _ {T S : Type 0} (rules : Rules T S) where
     pub input : List ℕ
     pub is : IfKnown old.left (λ b. b ≡ input)
     pub behind : IfKnown new.left (λ b. b ≡ more)
-    pub course : Course rules.allows rules.aad old.offset input steps more
+    pub course : Course rules.limits rules.allows rules.aad old.offset input steps more
     pub stop : new.offset + length more ≡ old.offset + length input
 
   left_after : (old new : Sight T S) (steps : List Step) → Moves old.left new.left old.offset new.offset (λ (b : List ℕ). Sequence old.offset b (map (λ s. s.item) steps) [])
-      → Steps rules.allows rules.aad 1 steps → (more : List ℕ) → rest_of new.left ≡ more → Left old new steps more
+      → Steps rules.limits rules.allows rules.aad 1 steps → (more : List ℕ) → rest_of new.left ≡ more → Left old new steps more
   left_after old new steps t s more e =
       let g = t.grown in
       let l : length (t.bytes ++ more) ≡ length t.bytes + length more = length-append t.bytes more in
@@ -165,7 +165,7 @@ module _ {T S : Type 0} (rules : Rules T S) where
           last = [];
           one = omega arith;
           more = rest_of new.left;
-          course = subst (λ (ss : List Step). Course rules.allows rules.aad old.offset w.input ss (rest_of new.left)) (sym (append-nil r.done)) w.course;
+          course = subst (λ (ss : List Step). Course rules.limits rules.allows rules.aad old.offset w.input ss (rest_of new.left)) (sym (append-nil r.done)) w.course;
           asked = [];
           asked_front = front_then [] (questions_of rules.allows rules.aad []) (questions_of rules.allows rules.aad []) refl;
           told = m.told ∙ ap (folded_over rules.decided old.told) (sym (append-nil (questions_of rules.allows rules.aad r.done)));
@@ -198,7 +198,7 @@ module _ {T S : Type 0} (rules : Rules T S) where
 
   -- Memory, where the judge was told a beginning of the questions about one more message
   memory_asking : {E : Type 0} (ends : E → Bool) (old new newer : Sight T S) (passed refused : ℕ) → Reached rules old new passed refused
-      → (v : Tree) → Moves new.left newer.left new.offset newer.offset (λ (b : List ℕ). Reads b 256 v) → Half rules.decided rules.allows rules.aad v new.told newer.told
+      → (v : Tree) → Moves new.left newer.left new.offset newer.offset (λ (b : List ℕ). Reads b 256 v) → Half rules.limits rules.decided rules.allows rules.aad v new.told newer.told
       → newer.state ≡ new.state → newer.written ≡ new.written → Answers ends rules old newer (Err Memory)
   unfolding judged_step step_at
   memory_asking ends old new newer passed refused r v t h state writes =
@@ -226,7 +226,7 @@ module _ {T S : Type 0} (rules : Rules T S) where
 
   -- Write, in the text of one more message
   write_within : {E : Type 0} (ends : E → Bool) (old new newer : Sight T S) (passed refused : ℕ) → Reached rules old new passed refused
-      → (v : Tree) → Moves new.left newer.left new.offset newer.offset (λ (b : List ℕ). Reads b 256 v) → HalfWritten rules.decided rules.allows rules.aad v new.told newer.told new.written newer.written
+      → (v : Tree) → Moves new.left newer.left new.offset newer.offset (λ (b : List ℕ). Reads b 256 v) → HalfWritten rules.limits rules.decided rules.allows rules.aad v new.told newer.told new.written newer.written
       → newer.state ≡ new.state → Answers ends rules old newer (Err Write)
   unfolding judged_step step_at
   write_within ends old new newer passed refused r v t h state =
@@ -254,7 +254,7 @@ module _ {T S : Type 0} (rules : Rules T S) where
   -- the item failed
   pub answer_item : {E : Type 0} (ends : E → Bool) (old new newer : Sight T S) (passed refused : ℕ) → Reached rules old new passed refused
       → (v : Tree) → Moves new.left newer.left new.offset newer.offset (λ (b : List ℕ). Reads b 256 v) → (f : ItemFault)
-      → ItemFails rules.decided rules.allows rules.aad v new.told newer.told new.written newer.written f → newer.state ≡ new.state → Answers ends rules old newer (Err (stopped_by f))
+      → ItemFails rules.limits rules.decided rules.allows rules.aad v new.told newer.told new.written newer.written f → newer.state ≡ new.state → Answers ends rules old newer (Err (stopped_by f))
   answer_item ends old new newer passed refused r v t fault.Write h state = write_within ends old new newer passed refused r v t h state
   answer_item ends old new newer passed refused r v t fault.Memory (writes, inl told) state = memory_between ends old new newer passed refused r told state writes
   answer_item ends old new newer passed refused r v t fault.Memory (writes, inr half) state = memory_asking ends old new newer passed refused r v t half state writes
@@ -262,7 +262,7 @@ module _ {T S : Type 0} (rules : Rules T S) where
   -- Memory, where the item went through and the report refused its entry
   pub answer_noting : {E : Type 0} (ends : E → Bool) (old new newer : Sight T S) (passed refused : ℕ) → Reached rules old new passed refused
       → (v : Tree) → Moves new.left newer.left new.offset newer.offset (λ (b : List ℕ). Reads b 256 v) → (verdict : Verdict)
-      → WentThrough rules.decided rules.allows rules.aad v new.told newer.told new.written newer.written verdict → newer.state ≡ new.state → Answers ends rules old newer (Err Memory)
+      → WentThrough rules.limits rules.decided rules.allows rules.aad v new.told newer.told new.written newer.written verdict → newer.state ≡ new.state → Answers ends rules old newer (Err Memory)
   unfolding step_at
   answer_noting ends old new newer passed refused r v t verdict k state =
       let s = step_at new.offset t.bytes v k.finding (entry_at (passed + refused + 1) new.offset verdict) in

@@ -9,6 +9,7 @@ use Rattle.ciborium_ll.specs.Reading.{due}
 use Rattle.ciborium.specs.Reading.{IfKnown}
 use Rattle.cose_gate.specs.Questions.{Question}
 use Rattle.cose_gate.specs.Asked.{IsFront}
+use Rattle.cose_gate.specs.Findings.{usual}
 use Rattle.cose_gate.specs.Recorded.{is_other}
 use Rattle.cose_gate.specs.Run.{Step, Course, written_of, output_of, refused_count}
 use Rattle.cose_gate.specs.Outcome.{Rules, Sight, Outcome, Answers}
@@ -32,14 +33,14 @@ due_none : (l : Option (List ℕ)) → due l None ≡ l
 due_none None = refl
 due_none (Some b) = refl
 
-from_place : (at : ℕ) (b : List ℕ) (steps : List Step) (more : List ℕ) → at ≡ 0 → Course allows_all [] at b steps more → Course allows_all [] 0 b steps more
-from_place at b steps more z c = subst (λ (n : ℕ). Course allows_all [] n b steps more) z c
+from_place : (at : ℕ) (b : List ℕ) (steps : List Step) (more : List ℕ) → at ≡ 0 → Course usual allows_all [] at b steps more → Course usual allows_all [] 0 b steps more
+from_place at b steps more z c = subst (λ (n : ℕ). Course usual allows_all [] n b steps more) z c
 
 module _ {T S E : Type 0} (ends : E → Bool) (decided : T → Question → T) (folded : S → Entry → S) (old new : Sight T S) where
   abbrev by : Option (List ℕ) → Rules T S
-  by refused = record { decided = decided; folded = folded; allows = λ q. is_other refused q.signature; aad = [] }
+  by refused = record { limits = usual; decided = decided; folded = folded; allows = λ q. is_other refused q.signature; aad = [] }
 
-  from_start : (b : List ℕ) (steps : List Step) (more : List ℕ) → old.offset ≡ 0 → Course allows_all [] old.offset b steps more → Course allows_all [] 0 b steps more
+  from_start : (b : List ℕ) (steps : List Step) (more : List ℕ) → old.offset ≡ 0 → Course usual allows_all [] old.offset b steps more → Course usual allows_all [] 0 b steps more
   from_start = from_place old.offset
 
   gated_yes : (b : List ℕ) (r : Result Counts (GateFault E)) → Outcome ends (by None) old new b r → old.offset ≡ 0 → GatedOver old.written new.written b r

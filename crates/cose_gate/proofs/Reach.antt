@@ -15,7 +15,7 @@ use Rattle.cose_gate.specs.declared.report.Entry.{Entry}
 use Rattle.cose_gate.specs.declared.report.Verdict.{Verdict}
 use Rattle.cose_gate.specs.Questions.{Question, questions}
 use Rattle.cose_gate.specs.Asked.{first_no, folded_over}
-use Rattle.cose_gate.specs.Findings.{Finding, judged, barred, not_tagged, encrypted, other_tag, shape, detached, no_signature, Finds}
+use Rattle.cose_gate.specs.Findings.{Finding, judged, barred, not_tagged, encrypted, other_tag, shape, detached, no_signature, Limits, Finds}
 use Rattle.cose_gate.specs.Run.{Step, Steps, IsVerdict, judged_by, has_passed, passes, asked_of, written_of, questions_of, output_of, entries_of, passed_count, refused_count}
 use Rattle.cose_gate.specs.Outcome.{Rules, Sight, Made}
 
@@ -71,9 +71,9 @@ reads_some x v r = front_some x [] 256 v (record { spelling = x; whole = sym (ap
 pub item_grows : (l l' : Option (List ℕ)) (p p' : ℕ) (v : Tree) → Moves l l' p p' (λ (b : List ℕ). Reads b 256 v) → p < p'
 item_grows l l' p p' v t = let s = reads_some t.bytes v t.has in let g = t.grown in omega arith
 
-module _ (allows : Question → Bool) (aad : List ℕ) where
+module _ (limits : Limits) (allows : Question → Bool) (aad : List ℕ) where
   -- a verdict has passed exactly where what is found passes
-  pub verdict_passes : (t : Tree) (f : Finding) (v : Verdict) → IsVerdict allows aad t f v → has_passed v ≡ passes allows aad f
+  pub verdict_passes : (t : Tree) (f : Finding) (v : Verdict) → IsVerdict limits allows aad t f v → has_passed v ≡ passes allows aad f
   verdict_passes t (judged m) v e = ap has_passed e ∙ each (first_no allows (questions m aad))
     where
       each : (o : Option ℕ) → has_passed (judged_by o) ≡ is_none o
@@ -86,8 +86,8 @@ module _ (allows : Question → Bool) (aad : List ℕ) where
   verdict_passes t (barred detached) v e = ap has_passed e
   verdict_passes t (barred no_signature) v e = ap has_passed e
 
-  steps_then : (n : ℕ) (ss : List Step) (s : Step) → Steps allows aad n ss → Finds s.item.value s.finding → s.entry.number ≡ n + length ss → s.entry.offset ≡ s.item.offset
-      → IsVerdict allows aad s.item.value s.finding s.entry.verdict → Steps allows aad n (ss ++ s ∷ [])
+  steps_then : (n : ℕ) (ss : List Step) (s : Step) → Steps limits allows aad n ss → Finds limits s.item.value s.finding → s.entry.number ≡ n + length ss → s.entry.offset ≡ s.item.offset
+      → IsVerdict limits allows aad s.item.value s.finding s.entry.verdict → Steps limits allows aad n (ss ++ s ∷ [])
   steps_then n [] s a f e o v = (f, omega arith, o, v, tt)
   steps_then n (x ∷ xs) s a f e o v = (a.0, a.1, a.2, a.3, steps_then (n + 1) xs s a.4 f (omega arith) o v)
 
@@ -95,7 +95,7 @@ module _ (allows : Question → Bool) (aad : List ℕ) where
 pub record Reached {T S : Type 0} (rules : Rules T S) (old new : Sight T S) (passed refused : ℕ) : Type 0 where
   pub done : List Step
   pub taken : Moves old.left new.left old.offset new.offset (λ (b : List ℕ). Sequence old.offset b (map (λ s. s.item) done) [])
-  pub steps : Steps rules.allows rules.aad 1 done
+  pub steps : Steps rules.limits rules.allows rules.aad 1 done
   pub made : Made rules old new done
   pub passed_is : passed ≡ passed_count rules.allows rules.aad done
   pub refused_is : refused ≡ refused_count rules.allows rules.aad done
@@ -141,10 +141,10 @@ module _ {T S : Type 0} (rules : Rules T S) where
   -- where the steps so far and one more item have come
   pub record Further (old newer : Sight T S) (done : List Step) (s : Step) : Type 0 where
     pub taken : Moves old.left newer.left old.offset newer.offset (λ (b : List ℕ). Sequence old.offset b (map (λ s. s.item) (done ++ s ∷ [])) [])
-    pub steps : Steps rules.allows rules.aad 1 (done ++ s ∷ [])
+    pub steps : Steps rules.limits rules.allows rules.aad 1 (done ++ s ∷ [])
 
   pub further : (old new newer : Sight T S) (passed refused : ℕ) (r : Reached rules old new passed refused)
-      (v : Tree) (t : Moves new.left newer.left new.offset newer.offset (λ (b : List ℕ). Reads b 256 v)) (f : Finding) (verdict : Verdict) → Finds v f → IsVerdict rules.allows rules.aad v f verdict
+      (v : Tree) (t : Moves new.left newer.left new.offset newer.offset (λ (b : List ℕ). Reads b 256 v)) (f : Finding) (verdict : Verdict) → Finds rules.limits v f → IsVerdict rules.limits rules.allows rules.aad v f verdict
       → Further old newer r.done (step_at new.offset t.bytes v f (entry_at (passed + refused + 1) new.offset verdict))
   unfolding step_at entry_at item_at
   further old new newer passed refused r v t f verdict finds says =
@@ -161,5 +161,5 @@ module _ {T S : Type 0} (rules : Rules T S) where
           taken = Consumes-trans old.left new.left newer.left r.taken.bytes t.bytes r.taken.taken t.taken;
           grown = omega (arith, length-append r.taken.bytes t.bytes);
         };
-        steps = steps_then rules.allows rules.aad 1 r.done s r.steps finds (omega arith) refl says;
+        steps = steps_then rules.limits rules.allows rules.aad 1 r.done s r.steps finds (omega arith) refl says;
       }

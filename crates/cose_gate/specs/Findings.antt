@@ -4,7 +4,7 @@ use Rattle.ciborium_value.specs.Tree.{Tree, tag}
 use Rattle.coset_base.specs.Faults.{CoseFault}
 use Rattle.coset_messages.specs.Messages.{Sign1Fields}
 use Rattle.coset_messages.specs.Shapes.{HasSign1}
-use Rattle.coset_messages.specs.WrongShapes.{WrongSign1, BeginsOverlong}
+use Rattle.coset_messages.specs.WrongShapes.{WrongSign1}
 use Rattle.cose_gate.specs.Questions.{MessageFields, sign1}
 
 -- why an item is not judged
@@ -24,27 +24,31 @@ IsMessageTag n = n ≡ 18
 abbrev pub IsEncryptedTag : ℕ → Type 0
 IsEncryptedTag n = (n ≡ 16) ⊎ (n ≡ 96)
 
+-- how deep a protected header may nest, and how many may lie inside one another
+pub record Limits : Type 0 where
+  pub nesting : ℕ
+  pub layers : ℕ
+
+abbrev pub usual : Limits
+usual = record { nesting = 256; layers = 16 }
+
 -- a tagged message that carries its payload
-abbrev pub IsJudged : Tree → MessageFields → Type 0
-IsJudged t (sign1 m) = (u : Tree) × (t ≡ tag 18 u) × HasSign1 u m × ((p : List ℕ) × (m.payload ≡ Some p))
+abbrev pub IsJudged : Limits → Tree → MessageFields → Type 0
+IsJudged limits t (sign1 m) = (u : Tree) × (t ≡ tag 18 u) × HasSign1 limits.nesting u m limits.layers × ((p : List ℕ) × (m.payload ≡ Some p))
 
 -- a value under the tag of a Sign1 that has this fault as one
-abbrev pub IsMisshapen : Tree → CoseFault → Type 0
-IsMisshapen t f = (u : Tree) × (t ≡ tag 18 u) × WrongSign1 u f
+abbrev pub IsMisshapen : Limits → Tree → CoseFault → Type 0
+IsMisshapen limits t f = (u : Tree) × (t ≡ tag 18 u) × WrongSign1 limits.nesting u limits.layers f
 
-abbrev pub IsBarred : Tree → Reason → Type 0
-IsBarred t not_tagged = (n : ℕ) (u : Tree) → t ≢ tag n u
-IsBarred t encrypted = (n : ℕ) × (u : Tree) × (t ≡ tag n u) × IsEncryptedTag n
-IsBarred t (other_tag n) = (u : Tree) × (t ≡ tag n u) × (IsEncryptedTag n → ⊥) × (IsMessageTag n → ⊥)
-IsBarred t shape = (f : CoseFault) × IsMisshapen t f
-IsBarred t detached = (u : Tree) × (m : Sign1Fields) × (t ≡ tag 18 u) × HasSign1 u m × (m.payload ≡ None)
-IsBarred t no_signature = ⊥
+abbrev pub IsBarred : Limits → Tree → Reason → Type 0
+IsBarred limits t not_tagged = (n : ℕ) (u : Tree) → t ≢ tag n u
+IsBarred limits t encrypted = (n : ℕ) × (u : Tree) × (t ≡ tag n u) × IsEncryptedTag n
+IsBarred limits t (other_tag n) = (u : Tree) × (t ≡ tag n u) × (IsEncryptedTag n → ⊥) × (IsMessageTag n → ⊥)
+IsBarred limits t shape = (f : CoseFault) × IsMisshapen limits t f
+IsBarred limits t detached = (u : Tree) × (m : Sign1Fields) × (t ≡ tag 18 u) × HasSign1 limits.nesting u m limits.layers × (m.payload ≡ None)
+IsBarred limits t no_signature = ⊥
 
 -- what is found of the value t
-abbrev pub Finds : Tree → Finding → Type 0
-Finds t (judged m) = IsJudged t m
-Finds t (barred r) = IsBarred t r
-
--- a message whose protected header has more bytes than offsets can count
-abbrev pub IsOverlongMessage : Tree → Type 0
-IsOverlongMessage t = (u : Tree) × (t ≡ tag 18 u) × BeginsOverlong u
+abbrev pub Finds : Limits → Tree → Finding → Type 0
+Finds limits t (judged m) = IsJudged limits t m
+Finds limits t (barred r) = IsBarred limits t r

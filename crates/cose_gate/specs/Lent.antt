@@ -3,8 +3,8 @@ use Rattle.std.specs.Prelude.{Option, Some, None, map}
 use denote.Bor.{Bor}
 use Rattle.coset_base.specs.Fields.{HeaderFields, ProtectedFields}
 use Rattle.coset_base.specs.View.{header_view, protected_view}
-use Rattle.coset_base.specs.declared.header.Header.{Header}
-use Rattle.coset_base.specs.declared.header.ProtectedHeader.{ProtectedHeader}
+use Rattle.coset_headers.specs.declared.header.Header.{Header}
+use Rattle.coset_headers.specs.declared.header.ProtectedHeader.{ProtectedHeader}
 use Rattle.coset_messages.specs.View.{recipient_view}
 use Rattle.cose_gate.specs.declared.about.About.{About}
 use Rattle.cose_gate.specs.Questions.{Subject}

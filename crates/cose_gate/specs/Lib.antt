@@ -24,13 +24,18 @@ pub use Rattle.ciborium.specs.Spelling
 pub use Rattle.ciborium.specs.declared.de.Error as ReadError
 pub use Rattle.coset_base.specs.Faults
 pub use Rattle.coset_base.specs.Fields
+pub use Rattle.coset_base.specs.LabelFields
 pub use Rattle.coset_base.specs.Headers
 pub use Rattle.coset_base.specs.Structure
+pub use Rattle.coset_base.specs.Kinds
+pub use Rattle.coset_base.specs.Labels
+pub use Rattle.coset_base.specs.LabelView
 pub use Rattle.coset_base.specs.View as HeaderView
+pub use Rattle.coset_base.specs.Written
 pub use Rattle.coset_base.specs.Wrong
-pub use Rattle.coset_base.specs.declared.error.CoseError
-pub use Rattle.coset_base.specs.declared.header.Header
-pub use Rattle.coset_base.specs.declared.header.ProtectedHeader
+pub use Rattle.coset_base.specs.CoseError
+pub use Rattle.coset_base.specs.Header
+pub use Rattle.coset_base.specs.ProtectedHeader
 pub use Rattle.coset_messages.specs.Messages
 pub use Rattle.coset_messages.specs.Shapes
 pub use Rattle.coset_messages.specs.View as MessageView

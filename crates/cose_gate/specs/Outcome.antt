@@ -12,14 +12,16 @@ use Rattle.ciborium.specs.declared.de.Error.TheVariants as de
 use Rattle.ciborium.specs.Items.{nesting}
 use Rattle.cose_gate.specs.Questions.{Question}
 use Rattle.cose_gate.specs.Asked.{folded_over, IsFront}
+use Rattle.cose_gate.specs.Findings.{Limits}
 use Rattle.cose_gate.specs.Run.{Step, Course, questions_of, output_of, written_of, entries_of, passed_count, refused_count}
 use Rattle.cose_gate.specs.declared.report.Entry.{Entry}
 use Rattle.cose_gate.specs.declared.gating.Counts.{Counts}
 use Rattle.cose_gate.specs.declared.gating.GateFault.{GateFault}
 use Rattle.cose_gate.specs.declared.gating.GateFault.TheVariants.{Decode, Write, Memory}
 
--- how a judge's and a report's states go on, what the judge allows, and the external data
+-- the limits, how a judge's and a report's states go on, what the judge allows, and the external data
 pub record Rules (T S : Type 0) : Type 0 where
+  pub limits : Limits
   pub decided : T → Question → T
   pub folded : S → Entry → S
   pub allows : Question → Bool
@@ -63,7 +65,7 @@ IsReadFault ends left at Memory = Unit {0}
 -- Ok: the steps go through the whole input, all of them were made, and the offset has grown by all bytes
 pub record Whole {T S : Type 0} (rules : Rules T S) (old new : Sight T S) (input : List ℕ) (counts : Counts) : Type 0 where
   pub steps : List Step
-  pub course : Course rules.allows rules.aad old.offset input steps []
+  pub course : Course rules.limits rules.allows rules.aad old.offset input steps []
   pub made : Made rules old new steps
   pub passed : counts.passed ≡ passed_count rules.allows rules.aad steps
   pub refused : counts.refused ≡ refused_count rules.allows rules.aad steps
@@ -73,7 +75,7 @@ pub record Whole {T S : Type 0} (rules : Rules T S) (old new : Sight T S) (input
 pub record IfDecodeFailed {T S E : Type 0} (ends : E → Bool) (rules : Rules T S) (old new : Sight T S) (input : List ℕ) (e : Error E) : Type 0 where
   pub steps : List Step
   pub more : List ℕ
-  pub course : Course rules.allows rules.aad old.offset input steps more
+  pub course : Course rules.limits rules.allows rules.aad old.offset input steps more
   pub made : Made rules old new steps
   pub no_memory : IsNoMemory e
   pub fault : IfKnown old.left (λ b. IsFaultOf ends (old.offset + length b) more e)
@@ -84,7 +86,7 @@ pub record IfWriteFailed {T S : Type 0} (rules : Rules T S) (old new : Sight T S
   pub done : List Step
   pub last : Step
   pub more : List ℕ
-  pub course : Course rules.allows rules.aad old.offset input (done ++ last ∷ []) more
+  pub course : Course rules.limits rules.allows rules.aad old.offset input (done ++ last ∷ []) more
   pub told : new.told ≡ folded_over rules.decided old.told (questions_of rules.allows rules.aad (done ++ last ∷ []))
   pub state : new.state ≡ folded_over rules.folded old.state (entries_of done)
   pub front : List ℕ
@@ -99,7 +101,7 @@ pub record IfMemoryRefused {T S : Type 0} (rules : Rules T S) (old new : Sight T
   pub last : List Step
   pub one : length last ≤ 1
   pub more : List ℕ
-  pub course : Course rules.allows rules.aad old.offset input (done ++ last) more
+  pub course : Course rules.limits rules.allows rules.aad old.offset input (done ++ last) more
   pub asked : List Question
   pub asked_front : IsFront asked (questions_of rules.allows rules.aad last)
   pub told : new.told ≡ folded_over rules.decided old.told (questions_of rules.allows rules.aad done ++ asked)

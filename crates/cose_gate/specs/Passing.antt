@@ -9,7 +9,7 @@ use Rattle.ciborium.specs.declared.de.Error.{Error}
 use Rattle.ciborium.specs.declared.de.Error.TheVariants as de
 use Rattle.cose_gate.specs.Questions.{Question, MessageFields, sign1}
 use Rattle.cose_gate.specs.Asked.{folded_over, IsFront}
-use Rattle.cose_gate.specs.Findings.{not_tagged, encrypted, other_tag, detached, Finding, judged, IsJudged, IsBarred, IsMisshapen, Finds}
+use Rattle.cose_gate.specs.Findings.{not_tagged, encrypted, other_tag, detached, Finding, judged, Limits, IsJudged, IsBarred, IsMisshapen, Finds}
 use Rattle.cose_gate.specs.Run.{IsVerdict, asked_of, written_of}
 use Rattle.cose_gate.specs.declared.report.Refusal.{Refusal}
 use Rattle.cose_gate.specs.declared.report.Refusal.TheVariants as refusal
@@ -22,47 +22,47 @@ use Rattle.cose_gate.specs.declared.gating.GateFault.{GateFault}
 use Rattle.cose_gate.specs.declared.gating.GateFault.TheVariants as gating
 
 -- a refusal that is made before the judge is asked
-abbrev pub IsRefused : Tree → Refusal → Type 0
-IsRefused t refusal.NotTagged = IsBarred t not_tagged
-IsRefused t (refusal.OtherTag n) = IsBarred t (other_tag n)
-IsRefused t refusal.Encrypted = IsBarred t encrypted
-IsRefused t (refusal.Shape e) = IsMisshapen t (fault_of e)
-IsRefused t refusal.Detached = IsBarred t detached
-IsRefused t refusal.NoSignature = ⊥
-IsRefused t (refusal.Judged n) = ⊥
+abbrev pub IsRefused : Limits → Tree → Refusal → Type 0
+IsRefused limits t refusal.NotTagged = IsBarred limits t not_tagged
+IsRefused limits t (refusal.OtherTag n) = IsBarred limits t (other_tag n)
+IsRefused limits t refusal.Encrypted = IsBarred limits t encrypted
+IsRefused limits t (refusal.Shape e) = IsMisshapen limits t (fault_of e)
+IsRefused limits t refusal.Detached = IsBarred limits t detached
+IsRefused limits t refusal.NoSignature = ⊥
+IsRefused limits t (refusal.Judged n) = ⊥
 
-abbrev pub IsFound : Tree → Found → Type 0
-IsFound t (found.Judged m) = IsJudged t (sign1 (sign1_view m))
-IsFound t (found.Barred r) = IsRefused t r
+abbrev pub IsFound : Limits → Tree → Found → Type 0
+IsFound limits t (found.Judged m) = IsJudged limits t (sign1 (sign1_view m))
+IsFound limits t (found.Barred r) = IsRefused limits t r
 
 -- the item went through: what was found, told and written
-pub record WentThrough {T : Type 0} (decided : T → Question → T) (allows : Question → Bool) (aad : List ℕ) (t : Tree) (told told' : T) (written written' : Option (List ℕ)) (v : Verdict) : Type 0 where
+pub record WentThrough {T : Type 0} (limits : Limits) (decided : T → Question → T) (allows : Question → Bool) (aad : List ℕ) (t : Tree) (told told' : T) (written written' : Option (List ℕ)) (v : Verdict) : Type 0 where
   pub finding : Finding
-  pub finds : Finds t finding
-  pub verdict : IsVerdict allows aad t finding v
+  pub finds : Finds limits t finding
+  pub verdict : IsVerdict limits allows aad t finding v
   pub tells : told' ≡ folded_over decided told (asked_of allows aad finding)
   pub writes : Appends written written' (written_of allows aad finding)
 
 -- the item is a message, and the judge was told a beginning of the questions about it
-pub record Half {T : Type 0} (decided : T → Question → T) (allows : Question → Bool) (aad : List ℕ) (t : Tree) (told told' : T) : Type 0 where
+pub record Half {T : Type 0} (limits : Limits) (decided : T → Question → T) (allows : Question → Bool) (aad : List ℕ) (t : Tree) (told told' : T) : Type 0 where
   pub message : MessageFields
-  pub is : IsJudged t message
+  pub is : IsJudged limits t message
   pub asked : List Question
   pub asked_front : IsFront asked (asked_of allows aad (judged message))
   pub tells : told' ≡ folded_over decided told asked
 
 -- the item is a message, the judge was told all questions about it, and a beginning of its text was written
-pub record HalfWritten {T : Type 0} (decided : T → Question → T) (allows : Question → Bool) (aad : List ℕ) (t : Tree) (told told' : T) (written written' : Option (List ℕ)) : Type 0 where
+pub record HalfWritten {T : Type 0} (limits : Limits) (decided : T → Question → T) (allows : Question → Bool) (aad : List ℕ) (t : Tree) (told told' : T) (written written' : Option (List ℕ)) : Type 0 where
   pub message : MessageFields
-  pub is : IsJudged t message
+  pub is : IsJudged limits t message
   pub tells : told' ≡ folded_over decided told (asked_of allows aad (judged message))
   pub front : List ℕ
   pub front_is : IsFront front (written_of allows aad (judged message))
   pub writes : Appends written written' front
 
-abbrev pub ItemFails : {T : Type 0} → (T → Question → T) → (Question → Bool) → List ℕ → Tree → T → T → Option (List ℕ) → Option (List ℕ) → ItemFault → Type 0
-ItemFails decided allows aad t told told' written written' fault.Write = HalfWritten decided allows aad t told told' written written'
-ItemFails decided allows aad t told told' written written' fault.Memory = (written' ≡ written) × ((told' ≡ told) ⊎ Half decided allows aad t told told')
+abbrev pub ItemFails : {T : Type 0} → Limits → (T → Question → T) → (Question → Bool) → List ℕ → Tree → T → T → Option (List ℕ) → Option (List ℕ) → ItemFault → Type 0
+ItemFails limits decided allows aad t told told' written written' fault.Write = HalfWritten limits decided allows aad t told told' written written'
+ItemFails limits decided allows aad t told told' written written' fault.Memory = (written' ≡ written) × ((told' ≡ told) ⊎ Half limits decided allows aad t told told')
 
 -- what a fault of writing a text leaves: a beginning of it, and for want of memory nothing
 abbrev pub IsWriteFault : Option (List ℕ) → Option (List ℕ) → List ℕ → ItemFault → Type 0

@@ -4,6 +4,7 @@ use Rattle.std.specs.Io.KnownBytes.{Appends}
 use Rattle.ciborium.specs.Reading.{IfKnown}
 use Rattle.cose_gate.specs.Questions.{Question}
 use Rattle.cose_gate.specs.Asked.{IsFront}
+use Rattle.cose_gate.specs.Findings.{usual}
 use Rattle.cose_gate.specs.Recorded.{is_other}
 use Rattle.cose_gate.specs.Run.{Step, Course, output_of, refused_count}
 use Rattle.cose_gate.specs.declared.gating.Counts.{Counts}
@@ -16,7 +17,7 @@ allows_all q = is_other None q.signature
 -- the whole input was gone through, with no external data, and all that passed was written
 pub record Through (written written' : Option (List ℕ)) (b : List ℕ) (refused : ℕ) : Type 0 where
   pub steps : List Step
-  pub course : Course allows_all [] 0 b steps []
+  pub course : Course usual allows_all [] 0 b steps []
   pub writes : Appends written written' (output_of allows_all [] steps)
   pub refused_is : refused ≡ refused_count allows_all [] steps
 
@@ -24,7 +25,7 @@ pub record Through (written written' : Option (List ℕ)) (b : List ℕ) (refuse
 pub record InPart (written written' : Option (List ℕ)) (b : List ℕ) : Type 0 where
   pub steps : List Step
   pub more : List ℕ
-  pub course : Course allows_all [] 0 b steps more
+  pub course : Course usual allows_all [] 0 b steps more
   pub front : List ℕ
   pub front_is : IsFront front (output_of allows_all [] steps)
   pub writes : Appends written written' front

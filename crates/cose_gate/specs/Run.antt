@@ -1,13 +1,12 @@
 -- What a gate does with a whole input: the items in order, with what is found, asked, written and noted of each.
 use Rattle.std.specs.Prelude.{◌≡◌, ℕ, ◌+◌, List, [], ◌∷◌, map, flat_map, Option, Some, None, Bool, true, false, not, if◌then◌else◌, is_none, count_by}
 use Rattle.ciborium_value.specs.Tree.{Tree}
-use Rattle.ciborium_value.specs.Encoding.{enc}
 use Rattle.ciborium.specs.Items.{Item, Sequence, Items}
 use Rattle.coset_base.specs.Faults.{fault_of}
-use Rattle.coset_base.specs.declared.error.CoseError.{CoseError}
-use Rattle.cose_gate.specs.Questions.{Question, questions, tagged_tree}
+use Rattle.coset_labels.specs.declared.error.CoseError.{CoseError}
+use Rattle.cose_gate.specs.Questions.{Question, questions, message_text}
 use Rattle.cose_gate.specs.Asked.{asked, first_no}
-use Rattle.cose_gate.specs.Findings.{not_tagged, encrypted, other_tag, shape, detached, no_signature, Finding, judged, barred, Finds, IsMisshapen, IsOverlongMessage}
+use Rattle.cose_gate.specs.Findings.{not_tagged, encrypted, other_tag, shape, detached, no_signature, Finding, judged, barred, Limits, Finds, IsMisshapen}
 use Rattle.cose_gate.specs.declared.report.Entry.{Entry}
 use Rattle.cose_gate.specs.declared.report.Verdict.{Verdict}
 use Rattle.cose_gate.specs.declared.report.Verdict.TheVariants.{Passed, Refused}
@@ -29,21 +28,21 @@ has_passed Passed = true
 has_passed (Refused r) = false
 
 -- which verdict stands for what is found; of a shape's fault it is open which of the value's faults is named
-abbrev pub IsVerdict : (Question → Bool) → List ℕ → Tree → Finding → Verdict → Type 0
-IsVerdict allows aad t (judged m) v = v ≡ judged_by (first_no allows (questions m aad))
-IsVerdict allows aad t (barred not_tagged) v = v ≡ Refused refusal.NotTagged
-IsVerdict allows aad t (barred encrypted) v = v ≡ Refused refusal.Encrypted
-IsVerdict allows aad t (barred (other_tag n)) v = v ≡ Refused (refusal.OtherTag n)
-IsVerdict allows aad t (barred shape) v = (e : CoseError) × (v ≡ Refused (refusal.Shape e)) × IsMisshapen t (fault_of e)
-IsVerdict allows aad t (barred detached) v = v ≡ Refused refusal.Detached
-IsVerdict allows aad t (barred no_signature) v = v ≡ Refused refusal.NoSignature
+abbrev pub IsVerdict : Limits → (Question → Bool) → List ℕ → Tree → Finding → Verdict → Type 0
+IsVerdict limits allows aad t (judged m) v = v ≡ judged_by (first_no allows (questions m aad))
+IsVerdict limits allows aad t (barred not_tagged) v = v ≡ Refused refusal.NotTagged
+IsVerdict limits allows aad t (barred encrypted) v = v ≡ Refused refusal.Encrypted
+IsVerdict limits allows aad t (barred (other_tag n)) v = v ≡ Refused (refusal.OtherTag n)
+IsVerdict limits allows aad t (barred shape) v = (e : CoseError) × (v ≡ Refused (refusal.Shape e)) × IsMisshapen limits t (fault_of e)
+IsVerdict limits allows aad t (barred detached) v = v ≡ Refused refusal.Detached
+IsVerdict limits allows aad t (barred no_signature) v = v ≡ Refused refusal.NoSignature
 
 -- the steps from number n on: each finds what is there, and its entry says so
-abbrev pub Steps : (Question → Bool) → List ℕ → ℕ → List Step → Type 0
-Steps allows aad n [] = Unit {0}
-Steps allows aad n (s ∷ ss) =
-    Finds s.item.value s.finding × (s.entry.number ≡ n) × (s.entry.offset ≡ s.item.offset)
-    × IsVerdict allows aad s.item.value s.finding s.entry.verdict × Steps allows aad (n + 1) ss
+abbrev pub Steps : Limits → (Question → Bool) → List ℕ → ℕ → List Step → Type 0
+Steps limits allows aad n [] = Unit {0}
+Steps limits allows aad n (s ∷ ss) =
+    Finds limits s.item.value s.finding × (s.entry.number ≡ n) × (s.entry.offset ≡ s.item.offset)
+    × IsVerdict limits allows aad s.item.value s.finding s.entry.verdict × Steps limits allows aad (n + 1) ss
 
 -- the questions that are asked of one finding, up to the first no
 abbrev pub asked_of : (Question → Bool) → List ℕ → Finding → List Question
@@ -56,7 +55,7 @@ passes allows aad (judged m) = is_none (first_no allows (questions m aad))
 passes allows aad (barred r) = false
 
 abbrev pub text_of : Finding → List ℕ
-text_of (judged m) = enc (tagged_tree m)
+text_of (judged m) = message_text m
 text_of (barred r) = []
 
 -- what is written of it: where it passes its one shortest definite text
@@ -80,16 +79,11 @@ abbrev pub refused_count : (Question → Bool) → List ℕ → List Step → �
 refused_count allows aad ss = count_by (λ s. not (passes allows aad s.finding)) ss
 
 -- the input b, which begins at the offset `at`, is gone through by these steps, up to `more`
-pub record Course (allows : Question → Bool) (aad : List ℕ) (at : ℕ) (b : List ℕ) (ss : List Step) (more : List ℕ) : Type 0 where
+pub record Course (limits : Limits) (allows : Question → Bool) (aad : List ℕ) (at : ℕ) (b : List ℕ) (ss : List Step) (more : List ℕ) : Type 0 where
   pub sequence : Sequence at b (map (λ s. s.item) ss) more
-  pub steps : Steps allows aad 1 ss
+  pub steps : Steps limits allows aad 1 ss
 
 -- the whole run over b: the steps over all its items
-pub record Run (allows : Question → Bool) (aad : List ℕ) (at : ℕ) (b : List ℕ) (ss : List Step) (rest : List ℕ) : Type 0 where
+pub record Run (limits : Limits) (allows : Question → Bool) (aad : List ℕ) (at : ℕ) (b : List ℕ) (ss : List Step) (rest : List ℕ) : Type 0 where
   pub items : Items at b (map (λ s. s.item) ss) rest
-  pub steps : Steps allows aad 1 ss
-
--- no item of these steps is a message with an overlong protected header
-abbrev pub NoneOverlong : List Step → Type 0
-NoneOverlong [] = Unit {0}
-NoneOverlong (s ∷ ss) = (IsOverlongMessage s.item.value → ⊥) × NoneOverlong ss
+  pub steps : Steps limits allows aad 1 ss

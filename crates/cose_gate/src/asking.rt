@@ -1,6 +1,7 @@
 //! Asks a judge about one message.
-ghost use Rattle.std.specs.Prelude.{◌≡◌, OnOk, OnErr, IfOk, [], ◌∷◌, length};
-ghost use Rattle.coset_base.specs.declared.error.CoseError.TheVariants.{Memory};
+ghost use Rattle.std.specs.Prelude.{◌≡◌, ◌≢◌, OnOk, OnErr, IfOk, [], ◌∷◌, None, length};
+ghost use Rattle.coset_labels.specs.declared.error.CoseError.TheVariants.{Memory};
+ghost use Rattle.coset_messages.specs.Messages.{sign1_covered};
 ghost use Rattle.coset_messages.specs.View.{sign1_view};
 ghost use Rattle.cose_gate.specs.Lent.{subject_of};
 ghost use Rattle.cose_gate.specs.Questions.{Question, questions, sign1};
@@ -39,13 +40,14 @@ fn ask<J: Judge>(
     Ok(judge.decide(signature))
 }
 
-/// Asks about the one signature of the message. The index of the first no, where there is one.
+/// Asks about the one signature of a message that can be written, as any that was read. The index of the first no, where there is one.
 pub fn ask_sign1<J: Judge>(
     alloc: Global,
     message: &CoseSign1,
     aad: &[u8],
     judge: &mut J,
 ) -> Result<Option<usize>, AllocError>
+    requires { sign1_covered (sign1_view message.now) aad.now ≢ None }
     ensures answer { IfOk result (λ no. no ≡ first_no (J.yes (J.who judge.old)) (questions (sign1 (sign1_view message.now)) aad.now)) }
     ensures told { OnOk result (J.told judge.new ≡ folded_over J.decided (J.told judge.old)
         (asked (J.yes (J.who judge.old)) (questions (sign1 (sign1_view message.now)) aad.now))) }

@@ -1,6 +1,7 @@
 //! The gate.
 ghost use Rattle.std.specs.Prelude.{◌≡◌, ◌+◌, ◌<◌, ◌^◌, [], Some, None, Ok, IsOk, IfOk, IfErr, not, if◌then◌else◌, ℕ, List};
 ghost use Rattle.ciborium_ll.specs.Views.{left_of, offset_of, waiting_of, reader_of};
+ghost use Rattle.cose_gate.specs.Findings.{usual};
 ghost use Rattle.cose_gate.specs.Outcome.{Answers, IsNext, IsReadFault, reader_failures, writer_failures};
 ghost use Rattle.cose_gate.specs.Passing.{at_end, fault_by, stopped_by};
 ghost use Rattle.cose_gate.specs.Run.{has_passed};
@@ -180,7 +181,7 @@ pub fn gate<R: Read, W: Write, P: Report, J: Judge>(
     judge: &mut J,
 ) -> Result<Counts, GateFault<R::Error>>
     ensures ran { Answers R.ends
-        (record { decided = J.decided; folded = P.folded; allows = J.yes (J.who judge.old); aad = aad.now })
+        (record { limits = usual; decided = J.decided; folded = P.folded; allows = J.yes (J.who judge.old); aad = aad.now })
         (record {
           told = J.told judge.old;
           state = P.state report.old;

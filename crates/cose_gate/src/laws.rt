@@ -1,20 +1,29 @@
 //! Laws of the definitions.
-ghost use Rattle.std.specs.Prelude.{◌≡◌, ◌⊎◌, ℕ, List, Bool, map};
+ghost use Rattle.std.specs.Prelude.{◌≡◌, ℕ, List, Bool, Some, option_map};
+ghost use Rattle.ciborium_value.specs.Encoding.{enc};
 ghost use Rattle.ciborium_value.specs.Tree.{Tree};
-ghost use Rattle.cose_gate.specs.Questions.{Question};
-ghost use Rattle.cose_gate.specs.Findings.{Finding, Finds, IsOverlongMessage};
-ghost use Rattle.cose_gate.specs.Run.{Step, Run, NoneOverlong, questions_of, output_of};
+ghost use Rattle.cose_gate.specs.Questions.{Question, MessageFields, all_questions, questions, tagged_tree, message_text};
+ghost use Rattle.cose_gate.specs.Findings.{Limits, Finding, IsJudged, Finds};
+ghost use Rattle.cose_gate.specs.Run.{Step, Run, questions_of, output_of};
 
-/// What is found of a value is one. The one exception is a message whose protected header has more bytes than offsets can count.
+/// What is found of a value is one.
 pub fn one_finding()
-    ensures { (t : Tree) (f g : Finding) → Finds t f → Finds t g → (f ≡ g) ⊎ IsOverlongMessage t }
+    ensures { (limits : Limits) (t : Tree) (f g : Finding) → Finds limits t f → Finds limits t g → f ≡ g }
+{}
+
+/// A message that was read has all its questions, and a text to be written.
+pub fn judged_can_be_written()
+    ensures questions { (limits : Limits) (t : Tree) (m : MessageFields) (aad : List ℕ) → IsJudged limits t m
+        → all_questions m aad ≡ Some (questions m aad) }
+    ensures text { (limits : Limits) (t : Tree) (m : MessageFields) → IsJudged limits t m
+        → option_map enc (tagged_tree m) ≡ Some (message_text m) }
 {}
 
 /// What is asked and written for one input is one: all runs over it ask the same questions in the same order, and write the same
-/// bytes, where no item is a message whose protected header has more bytes than offsets can count.
+/// bytes.
 pub fn one_run()
-    ensures { (allows : Question → Bool) (aad : List ℕ) (at : ℕ) (b : List ℕ) (ss rs : List Step) (rest more : List ℕ)
-        → Run allows aad at b ss rest → Run allows aad at b rs more → NoneOverlong ss
+    ensures { (limits : Limits) (allows : Question → Bool) (aad : List ℕ) (at : ℕ) (b : List ℕ) (ss rs : List Step) (rest more : List ℕ)
+        → Run limits allows aad at b ss rest → Run limits allows aad at b rs more
         → (questions_of allows aad ss ≡ questions_of allows aad rs) × (output_of allows aad ss ≡ output_of allows aad rs)
         × (rest ≡ more) }
 {}

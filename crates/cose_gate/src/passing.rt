@@ -1,13 +1,14 @@
 //! One item on its way through the gate.
-ghost use Rattle.std.specs.Prelude.{◌≡◌, ◌≢◌, ◌+◌, pos, MatchBool, IfOk, IfErr, OnOk};
+ghost use Rattle.std.specs.Prelude.{◌≡◌, ◌≢◌, ◌+◌, pos, Some, None, MatchBool, IfOk, IfErr, OnOk};
 ghost use Rattle.std.specs.Io.KnownBytes.{Appends};
-ghost use Rattle.ciborium_value.specs.Encoding.{enc};
 ghost use Rattle.ciborium_value.specs.Tree.{tag};
 ghost use Rattle.ciborium_value.specs.View.{view};
 ghost use Rattle.cose_iana.specs.Tags.{cbor_tags};
 ghost use Rattle.coset_messages.specs.View.{sign1_view};
-ghost use Rattle.cose_gate.specs.Questions.{sign1, tagged_tree};
-ghost use Rattle.coset_base.specs.declared.error.CoseError.TheVariants.{Memory};
+ghost use Rattle.coset_messages.specs.Messages.{sign1_tree};
+ghost use Rattle.cose_gate.specs.Findings.{usual};
+ghost use Rattle.cose_gate.specs.Questions.{sign1, tagged_tree, message_text};
+ghost use Rattle.coset_labels.specs.declared.error.CoseError.TheVariants.{Memory};
 ghost use Rattle.cose_gate.specs.Passing.{IsFound, WentThrough, ItemFails, IsWriteFault, item_failures};
 
 use crate::asking::{ask_sign1, want_of_memory};
@@ -77,7 +78,7 @@ fn is_memory(error: &CoseError) -> bool
 
 /// The message under the tag of a Sign1.
 fn find_sign1(alloc: Global, content: Value) -> Result<Found, AllocError>
-    ensures { IfOk result (IsFound (tag 18 (view content))) }
+    ensures { IfOk result (IsFound usual (tag 18 (view content))) }
 {
     match CoseSign1::from_cbor_value(alloc, content) {
         Ok(message) => {
@@ -104,7 +105,7 @@ fn is_tag(number: u64, tag: CborTag) -> bool
 
 /// The message that an item is, or why it is none that is judged.
 fn find(alloc: Global, value: Value) -> Result<Found, AllocError>
-    ensures { IfOk result (IsFound (view value)) }
+    ensures { IfOk result (IsFound usual (view value)) }
 {
     match value {
         Value::Tag(number, content) => {
@@ -132,7 +133,8 @@ fn find(alloc: Global, value: Value) -> Result<Found, AllocError>
 
 /// The value that a message is written as, with its tag (RFC 9052, section 2).
 fn tagged(alloc: Global, message: CoseSign1) -> Result<Value, AllocError>
-    ensures { IfOk result (λ v. view v ≡ tagged_tree (sign1 (sign1_view message))) }
+    requires { sign1_tree (sign1_view message) ≢ None }
+    ensures { IfOk result (λ v. tagged_tree (sign1 (sign1_view message)) ≡ Some (view v)) }
 {
     let content = match message.to_cbor_value(alloc) {
         Ok(content) => content,
@@ -144,8 +146,9 @@ fn tagged(alloc: Global, message: CoseSign1) -> Result<Value, AllocError>
 
 /// Writes the one shortest text of a message with its tag.
 fn write_message<W: Write>(alloc: Global, message: CoseSign1, out: &mut W) -> Result<(), ItemFault>
-    ensures ok { OnOk result (Appends (W.written out.old) (W.written out.new) (enc (tagged_tree (sign1 (sign1_view message))))) }
-    ensures err { IfErr result (IsWriteFault (W.written out.old) (W.written out.new) (enc (tagged_tree (sign1 (sign1_view message))))) }
+    requires { sign1_tree (sign1_view message) ≢ None }
+    ensures ok { OnOk result (Appends (W.written out.old) (W.written out.new) (message_text (sign1 (sign1_view message)))) }
+    ensures err { IfErr result (IsWriteFault (W.written out.old) (W.written out.new) (message_text (sign1 (sign1_view message)))) }
     ensures kept { W.handle out.new ≡ W.handle out.old }
     ensures failed { W.failed out.new ≡ W.failed out.old + item_failures result }
 {
@@ -164,9 +167,9 @@ pub fn pass<W: Write, J: Judge>(
     aad: &[u8],
     judge: &mut J,
 ) -> Result<Verdict, ItemFault>
-    ensures ok { IfOk result (WentThrough J.decided (J.yes (J.who judge.old)) aad.now (view value)
+    ensures ok { IfOk result (WentThrough usual J.decided (J.yes (J.who judge.old)) aad.now (view value)
         (J.told judge.old) (J.told judge.new) (W.written out.old) (W.written out.new)) }
-    ensures err { IfErr result (ItemFails J.decided (J.yes (J.who judge.old)) aad.now (view value)
+    ensures err { IfErr result (ItemFails usual J.decided (J.yes (J.who judge.old)) aad.now (view value)
         (J.told judge.old) (J.told judge.new) (W.written out.old) (W.written out.new)) }
     ensures who { J.who judge.new ≡ J.who judge.old }
     ensures kept { W.handle out.new ≡ W.handle out.old }

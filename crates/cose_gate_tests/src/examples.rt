@@ -27,7 +27,7 @@ pub struct Row {
     pub ending: Ending<End>,
 }
 
-pub const ROWS: [Row; 16] = [
+pub const ROWS: [Row; 20] = [
     Row {
         input: "",
         asked: &[],
@@ -86,6 +86,50 @@ pub const ROWS: [Row; 16] = [
         input: "d28441a0a04040",
         asked: &[("846a5369676e61747572653141a04040", 0, [0; 8])],
         output: "d28441a0a04040",
+        noted: &[(0, Verdict::Passed)],
+        ending: Ending::Whole(Counts {
+            passed: 1,
+            refused: 0,
+        }),
+    },
+    Row {
+        // a label of an unprotected header that has no field, and a number in pieces behind it
+        input: "d28440a11863c25f4101ff4040",
+        asked: &[("846a5369676e617475726531404040", 0, [0; 8])],
+        output: "d28440a11863014040",
+        noted: &[(0, Verdict::Passed)],
+        ending: Ending::Whole(Counts {
+            passed: 1,
+            refused: 0,
+        }),
+    },
+    Row {
+        // false in two bytes
+        input: "d28440a11863f8144040",
+        asked: &[("846a5369676e617475726531404040", 0, [0; 8])],
+        output: "d28440a11863f44040",
+        noted: &[(0, Verdict::Passed)],
+        ending: Ending::Whole(Counts {
+            passed: 1,
+            refused: 0,
+        }),
+    },
+    Row {
+        // undefined counts as null
+        input: "d28440a11863f74040",
+        asked: &[("846a5369676e617475726531404040", 0, [0; 8])],
+        output: "d28440a11863f64040",
+        noted: &[(0, Verdict::Passed)],
+        ending: Ending::Whole(Counts {
+            passed: 1,
+            refused: 0,
+        }),
+    },
+    Row {
+        // a list of one counter signature
+        input: "d28440a107818340a041014040",
+        asked: &[("846a5369676e617475726531404040", 0, [0; 8])],
+        output: "d28440a1078340a041014040",
         noted: &[(0, Verdict::Passed)],
         ending: Ending::Whole(Counts {
             passed: 1,

@@ -104,6 +104,34 @@ fn runs_over_the_examples(rt: HostRuntime) -> Result<(), Fail> {
     Ok(())
 }
 
+/// A message in hex whose unprotected header holds this many arrays inside one another.
+fn nested(alloc: Global, count: usize) -> Result<String, Fail> {
+    let mut text = String::from_str(alloc, "d28440a11863")?;
+    for _ in 0..count {
+        text.push_str("81")?;
+    }
+    text.push_str("004040")?;
+    Ok(text)
+}
+
+#[test]
+fn values_nest_as_deep_as_items_may(rt: HostRuntime) -> Result<(), Fail> {
+    let alloc = rt.alloc();
+    let input = nested(alloc, 253)?;
+    let seen = run(alloc, input.as_str(), &[], Recorder::new(alloc, None))?;
+    assert_eq!(rt; seen.output.as_str(), input.as_str());
+    let counts = Counts {
+        passed: 1,
+        refused: 0,
+    };
+    assert_eq!(rt; seen.ending, Ending::Whole(counts));
+    let input = nested(alloc, 254)?;
+    let seen = run(alloc, input.as_str(), &[], Recorder::new(alloc, None))?;
+    let ending = Ending::Decode(de::Error::RecursionLimitExceeded);
+    assert_eq!(rt; seen.ending, ending);
+    Ok(())
+}
+
 #[test]
 fn the_judge_may_say_no(rt: HostRuntime) -> Result<(), Fail> {
     let alloc = rt.alloc();

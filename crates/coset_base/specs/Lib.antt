@@ -1,8 +1,39 @@
-pub mod Contexts
-pub mod Entries
-pub mod Faults
-pub mod Fields
-pub mod Headers
-pub mod Structure
-pub mod View
-pub mod Wrong
+pub use Rattle.ciborium.specs.Damage
+pub use Rattle.ciborium.specs.Front
+pub use Rattle.ciborium_value.specs.Encoding
+pub use Rattle.ciborium_value.specs.Tree
+pub use Rattle.ciborium_value.specs.View as ValueView
+pub use Rattle.coset_builders.specs.Builders
+pub use Rattle.coset_builders.specs.declared.header.HeaderBuilder
+pub use Rattle.coset_builders.specs.declared.signature.CoseSignatureBuilder
+pub use Rattle.coset_headers.specs.Alone
+pub use Rattle.coset_headers.specs.Contexts
+pub use Rattle.coset_headers.specs.Fields
+pub use Rattle.coset_headers.specs.Headers
+pub use Rattle.coset_headers.specs.Short
+pub use Rattle.coset_headers.specs.Structure
+pub use Rattle.coset_headers.specs.Titles
+pub use Rattle.coset_headers.specs.View
+pub use Rattle.coset_headers.specs.Written
+pub use Rattle.coset_headers.specs.Wrong
+pub use Rattle.coset_headers.specs.declared.context.EncryptionContext
+pub use Rattle.coset_headers.specs.declared.context.MacContext
+pub use Rattle.coset_headers.specs.declared.context.SignatureContext
+pub use Rattle.coset_headers.specs.declared.header.CoseSignature
+pub use Rattle.coset_headers.specs.declared.header.Header
+pub use Rattle.coset_headers.specs.declared.header.ProtectedHeader
+pub use Rattle.coset_labels.specs.Arrays
+pub use Rattle.coset_labels.specs.Faults
+pub use Rattle.coset_labels.specs.Fields as LabelFields
+pub use Rattle.coset_labels.specs.Kinds
+pub use Rattle.coset_labels.specs.Labels
+pub use Rattle.coset_labels.specs.Names
+pub use Rattle.coset_labels.specs.Orders
+pub use Rattle.coset_labels.specs.Reading
+pub use Rattle.coset_labels.specs.View as LabelView
+pub use Rattle.coset_labels.specs.declared.error.CoseError
+pub use Rattle.coset_labels.specs.declared.error.EndOfFile
+pub use Rattle.coset_labels.specs.declared.error.Fault as CallerFault
+pub use Rattle.coset_labels.specs.declared.label.Label
+pub use Rattle.coset_labels.specs.declared.registered.RegisteredLabel
+pub use Rattle.coset_labels.specs.declared.registered.RegisteredLabelWithPrivate

@@ -1,20 +1,19 @@
-//! What all COSE messages share (RFC 9052): errors, labels, headers and the structures that signatures cover.
+//! What all COSE messages share (RFC 9052): errors, labels, headers and the structures that signatures, tags and encryptions cover.
+//!
+//! A user names this crate alone: what stands in the crates below it is here under the same names, and `iana` has the registries.
 #![tactic(auto)]
 
-mod encode;
-mod error;
-mod header;
-mod label;
 pub mod laws;
-mod reader;
-mod structure;
-mod traits;
-mod util;
 
-pub use crate::error::{CoseError, EndOfFile, Result};
-pub use crate::header::{Header, ProtectedHeader};
-pub use crate::label::{Algorithm, Label, RegisteredLabelWithPrivate};
-pub use crate::structure::{SignatureContext, sig_structure_data};
-pub use crate::traits::AsCborValue;
-pub use crate::util::ValueTryAs;
 pub use cose_iana as iana;
+pub use coset_builders::{CoseSignatureBuilder, HeaderBuilder};
+pub use coset_headers::{
+    BytesTitle, CoseSignature, EncryptionContext, Header, MacContext, ProtectedHeader,
+    SignatureContext, bytes_title, enc_structure_data, mac_structure_data, sig_structure_data,
+};
+pub use coset_labels::{
+    Algorithm, AsCborValue, CborOrdering, CborSerializable, ContentType, CoseError, EndOfFile,
+    Fault, KeyType, Label, RegisteredLabel, RegisteredLabelWithPrivate, Result,
+    TaggedCborSerializable, ValueTryAs, cbor_type_error, read_to_value, to_cbor_array,
+    write_to_vec,
+};

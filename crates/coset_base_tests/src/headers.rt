@@ -3,8 +3,8 @@ use ciborium::de;
 use ciborium_ll::{Decoder, Mem};
 use ciborium_value::{Kind, Value};
 use coset_base::{
-    Algorithm, AsCborValue, CoseError, EndOfFile, Header, Label, ProtectedHeader, SignatureContext,
-    iana, sig_structure_data,
+    AsCborValue, CoseError, EndOfFile, Header, HeaderBuilder, Label, ProtectedHeader,
+    SignatureContext, iana, sig_structure_data,
 };
 use std::alloc::Global;
 use std::test::Fail;
@@ -141,20 +141,12 @@ fn headers_are_refused_in_order(rt: HostRuntime) -> Result<(), Fail> {
         ("a1d8204000", "got tag, expected int/tstr"),
         ("a11b800000000000000026", "out of range integer value"),
         ("a13b800000000000000026", "out of range integer value"),
-        ("a10540", "got label, expected 1 or 4"),
-        ("a1616140", "got label, expected 1 or 4"),
-        ("a2054001a0", "got label, expected 1 or 4"),
         ("a3012604410a0126", "duplicate map key"),
         ("a301260126a000", "duplicate map key"),
-        ("a3012605000126", "got label, expected 1 or 4"),
         ("a20441010440", "duplicate map key"),
         ("a10440", "got empty bstr, expected non-empty bstr"),
         ("a1046130", "got tstr, expected bstr"),
         ("a10108", "expected value in IANA or private use range"),
-        (
-            "a1013a000fffff",
-            "expected value in IANA or private use range",
-        ),
         ("a1011b8000000000000000", "out of range integer value"),
         ("a10140", "got bstr, expected int/tstr"),
         ("a20440a000", "got empty bstr, expected non-empty bstr"),
@@ -216,10 +208,10 @@ fn structures_show_received_bytes(rt: HostRuntime) -> Result<(), Fail> {
     let none = ProtectedHeader::new(alloc);
     let hs256 = ProtectedHeader {
         original_data: None,
-        header: Header {
-            alg: Some(Algorithm::Assigned(iana::Algorithm::HMAC_256_256)),
-            key_id: hex::decode(alloc, "0a")?,
-        },
+        header: HeaderBuilder::new(alloc)
+            .algorithm(iana::Algorithm::HMAC_256_256)
+            .key_id(hex::decode(alloc, "0a")?)
+            .build(),
     };
     let one = SignatureContext::CoseSign1;
     for (context, body, sign, aad, payload, want) in [

@@ -12,7 +12,7 @@ use Rattle.coset_headers.specs.View.{header_view, signatures_view, entry_view, s
 use Rattle.coset_headers.specs.Written.{is_absent, is_nil, is_unsigned, is_empty}
 use Rattle.coset_headers.specs.declared.header.Header.{Header, out-Header, roll-out-Header, fold-roll-Header}
 
-header_is : (h : Header) → header_view h ≡ header (record {
+pub header_is : (h : Header) → header_view h ≡ header (record {
   alg = option_map (named_view algorithm_number) (out-Header h).alg;
   crit = map (named_view header_parameters.number) (out-Header h).crit.items;
   content_type = option_map (registered_view coap_content_formats.number) (out-Header h).content_type;

@@ -1,11 +1,13 @@
 pub mod Alone
-pub mod Builders
 pub mod Contexts
+pub mod Entries
 pub mod Fields
 pub mod Headers
 pub mod Parts
 pub mod Places
+pub mod Short
 pub mod Structure
+pub mod Titles
 pub mod View
 pub mod Walks
 pub mod Weight

@@ -1,5 +1,5 @@
 -- The bytes that signatures, tags and encryptions cover (RFC 9052, sections 4.4, 5.3 and 6.3).
-use Rattle.std.specs.Prelude.{ℕ, List, [], ◌∷◌, Option, Some, None, option_map, option_and_then}
+use Rattle.std.specs.Prelude.{ℕ, List, [], ◌∷◌, ◌++◌, Option, Some, None, option_map, option_and_then}
 use Rattle.ciborium_value.specs.Tree.{bytes, text, array}
 use Rattle.ciborium_value.specs.View.{trees}
 use Rattle.ciborium_value.specs.Encoding.{enc}
@@ -33,3 +33,12 @@ mac_structure context body aad payload = option_map (λ b. structure context b N
 
 abbrev pub encryption_structure : List ℕ → ProtectedFields → List ℕ → Option (List ℕ)
 encryption_structure context body aad = option_map (λ b. enc_structure context b aad) (shown body)
+
+-- what follows a structure's title and context: the byte strings of the body's protected header, of the signer's where there is a signer,
+-- of the external data and of the payload
+abbrev pub behind_prefix : List ℕ → Option (List ℕ) → List ℕ → List ℕ → List ℕ
+behind_prefix body None aad payload = enc (bytes body) ++ (enc (bytes aad) ++ enc (bytes payload))
+behind_prefix body (Some b) aad payload = enc (bytes body) ++ (enc (bytes b) ++ (enc (bytes aad) ++ enc (bytes payload)))
+
+abbrev pub behind_enc_prefix : List ℕ → List ℕ → List ℕ
+behind_enc_prefix body aad = enc (bytes body) ++ enc (bytes aad)

@@ -11,7 +11,11 @@ use ciborium_value::Value;
 use coset_labels::{Algorithm, ContentType, Label, RegisteredLabelWithPrivate, iana};
 use std::alloc::{AllocError, Global};
 
-fn clone_alg(alloc: Global, alg: &Option<Algorithm>) -> Result<Option<Algorithm>, AllocError>
+/// A copy of an algorithm, if there is one.
+///
+/// # Errors
+/// Only where memory is refused.
+pub fn clone_alg(alloc: Global, alg: &Option<Algorithm>) -> Result<Option<Algorithm>, AllocError>
     ensures { IfOk result (λ copy. option_map (named_view algorithm_number) copy ≡ option_map (named_view algorithm_number) alg.now) }
 {
     match alg {
@@ -24,7 +28,8 @@ fn clone_content_type(
     alloc: Global,
     content_type: &Option<ContentType>,
 ) -> Result<Option<ContentType>, AllocError>
-    ensures { IfOk result (λ copy. option_map (registered_view coap_content_formats.number) copy ≡ option_map (registered_view coap_content_formats.number) content_type.now) }
+    ensures { IfOk result (λ copy. option_map (registered_view coap_content_formats.number) copy
+        ≡ option_map (registered_view coap_content_formats.number) content_type.now) }
 {
     match content_type {
         Some(content_type) => Ok(Some(content_type.clone(alloc)?)),
@@ -36,7 +41,8 @@ fn clone_crit(
     alloc: Global,
     crit: &[RegisteredLabelWithPrivate<iana::HeaderParameter>],
 ) -> Result<Vec<RegisteredLabelWithPrivate<iana::HeaderParameter>>, AllocError>
-    ensures { IfOk result (λ copies. map (named_view header_parameters.number) copies.items ≡ map (named_view header_parameters.number) crit.now) }
+    ensures { IfOk result (λ copies. map (named_view header_parameters.number) copies.items
+        ≡ map (named_view header_parameters.number) crit.now) }
 {
     let mut copies = Vec::new(alloc);
     for name in crit {
@@ -45,7 +51,11 @@ fn clone_crit(
     Ok(copies)
 }
 
-fn clone_rest(alloc: Global, rest: &[(Label, Value)]) -> Result<Vec<(Label, Value)>, AllocError>
+/// A copy of entries that have labels.
+///
+/// # Errors
+/// Only where memory is refused.
+pub fn clone_rest(alloc: Global, rest: &[(Label, Value)]) -> Result<Vec<(Label, Value)>, AllocError>
     ensures { IfOk result (λ copies. map entry_view copies.items ≡ map entry_view rest.now) }
 {
     let mut copies = Vec::new(alloc);

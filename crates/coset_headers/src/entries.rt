@@ -1,15 +1,16 @@
 //! Writes the entries of a header in their fixed order (RFC 9052, section 3.1).
-ghost use Rattle.std.specs.Prelude.{◌≡◌, ℕ, List, Some, ◌++◌, map, option_map, MatchResult};
+ghost use Rattle.std.specs.Prelude.{◌≡◌, ℕ, List, Some, map, option_map, MatchResult};
 ghost use Rattle.cose_iana.specs.Algorithms.{algorithm_number};
 ghost use Rattle.cose_iana.specs.Formats.{coap_content_formats};
 ghost use Rattle.cose_iana.specs.Headers.{header_parameters};
-ghost use Rattle.ciborium_value.specs.View.{view, views, view_pair};
+ghost use Rattle.ciborium_value.specs.View.{view, views};
 ghost use Rattle.coset_labels.specs.Faults.{CantWrite};
 ghost use Rattle.coset_labels.specs.View.{registered_view, named_view};
 ghost use Rattle.coset_labels.specs.declared.error.CoseError.TheVariants.{Memory};
+ghost use Rattle.coset_headers.specs.Entries.{Appends};
 ghost use Rattle.coset_headers.specs.Parts.{plain_of};
 ghost use Rattle.coset_headers.specs.View.{entry_view};
-ghost use Rattle.coset_headers.specs.Written.{name_entry, crit_entry, bytes_entry, signs_entry, bare_or_list, entry_tree, header_of, twice};
+ghost use Rattle.coset_headers.specs.Written.{name_entry, crit_entry, bytes_entry, signs_entry, bare_or_list, header_of, twice};
 
 use crate::parts::Parts;
 use crate::seen::Seen;
@@ -25,7 +26,8 @@ type Entries = Vec<(Value, Value)>;
 impl Parts {
     /// The map of these fields and of the counter signatures' values.
     pub(crate) fn write(self, alloc: Global, signatures: Vec<Value>) -> Result<Value, CoseError>
-        ensures { MatchResult result (λ v. header_of (plain_of self) (views signatures.items) ≡ Some (view v)) (λ e. CantWrite (header_of (plain_of self) (views signatures.items)) e) }
+        ensures { MatchResult result (λ v. header_of (plain_of self) (views signatures.items) ≡ Some (view v))
+            (λ e. CantWrite (header_of (plain_of self) (views signatures.items)) e) }
     {
         if repeats(alloc, &self.rest)? {
             return Err(CoseError::DuplicateMapKey);
@@ -44,7 +46,10 @@ impl Parts {
 }
 
 /// Whether a label stands twice.
-fn repeats(alloc: Global, entries: &[(Label, Value)]) -> Result<bool, CoseError>
+///
+/// # Errors
+/// Only where memory is refused.
+pub fn repeats(alloc: Global, entries: &[(Label, Value)]) -> Result<bool, CoseError>
     ensures { MatchResult result (λ r. r ≡ twice (map entry_view entries.now)) (λ e. e ≡ Memory) }
 {
     let mut seen = Seen::new(alloc);
@@ -58,7 +63,9 @@ fn repeats(alloc: Global, entries: &[(Label, Value)]) -> Result<bool, CoseError>
 }
 
 fn push_alg(alloc: Global, entries: &mut Entries, alg: Option<Algorithm>) -> Result<(), CoseError>
-    ensures { MatchResult result (λ _. map view_pair entries.new.items ≡ map view_pair entries.old.items ++ map entry_tree (name_entry 1 (option_map (named_view algorithm_number) alg))) (λ e. e ≡ Memory) }
+    ensures { MatchResult result (λ _. Appends entries.old.items entries.new.items
+        (name_entry 1 (option_map (named_view algorithm_number) alg)))
+        (λ e. e ≡ Memory) }
 {
     if let Some(alg) = alg {
         let alg = alg.to_cbor_value(alloc)?;
@@ -72,7 +79,9 @@ fn push_crit(
     entries: &mut Entries,
     crit: Vec<RegisteredLabelWithPrivate<iana::HeaderParameter>>,
 ) -> Result<(), CoseError>
-    ensures { MatchResult result (λ _. map view_pair entries.new.items ≡ map view_pair entries.old.items ++ map entry_tree (crit_entry (map (named_view header_parameters.number) crit.items))) (λ e. e ≡ Memory) }
+    ensures { MatchResult result (λ _. Appends entries.old.items entries.new.items
+        (crit_entry (map (named_view header_parameters.number) crit.items)))
+        (λ e. e ≡ Memory) }
 {
     if crit.is_empty() {
         return Ok(());
@@ -87,7 +96,9 @@ fn push_content_type(
     entries: &mut Entries,
     content_type: Option<ContentType>,
 ) -> Result<(), CoseError>
-    ensures { MatchResult result (λ _. map view_pair entries.new.items ≡ map view_pair entries.old.items ++ map entry_tree (name_entry 3 (option_map (registered_view coap_content_formats.number) content_type))) (λ e. e ≡ Memory) }
+    ensures { MatchResult result (λ _. Appends entries.old.items entries.new.items
+        (name_entry 3 (option_map (registered_view coap_content_formats.number) content_type)))
+        (λ e. e ≡ Memory) }
 {
     if let Some(content_type) = content_type {
         let content_type = content_type.to_cbor_value(alloc)?;
@@ -96,8 +107,12 @@ fn push_content_type(
     Ok(())
 }
 
-fn push_bytes(entries: &mut Entries, label: u64, bytes: Vec<u8>) -> Result<(), CoseError>
-    ensures { MatchResult result (λ _. map view_pair entries.new.items ≡ map view_pair entries.old.items ++ map entry_tree (bytes_entry label bytes.items)) (λ e. e ≡ Memory) }
+/// Appends the entry of a byte string, or none where it is empty.
+///
+/// # Errors
+/// Only where memory is refused.
+pub fn push_bytes(entries: &mut Entries, label: u64, bytes: Vec<u8>) -> Result<(), CoseError>
+    ensures { MatchResult result (λ _. Appends entries.old.items entries.new.items (bytes_entry label bytes.items)) (λ e. e ≡ Memory) }
 {
     if !bytes.is_empty() {
         entries.push((Value::Integer(Integer::from(label)), Value::Bytes(bytes)))?;
@@ -107,7 +122,8 @@ fn push_bytes(entries: &mut Entries, label: u64, bytes: Vec<u8>) -> Result<(), C
 
 /// One counter signature stands by itself, and several in a list.
 fn push_signatures(entries: &mut Entries, signatures: Vec<Value>) -> Result<(), CoseError>
-    ensures { MatchResult result (λ _. map view_pair entries.new.items ≡ map view_pair entries.old.items ++ map entry_tree (signs_entry (bare_or_list (views signatures.items)))) (λ e. e ≡ Memory) }
+    ensures { MatchResult result (λ _. Appends entries.old.items entries.new.items (signs_entry (bare_or_list (views signatures.items))))
+        (λ e. e ≡ Memory) }
 {
     if let Some(signatures) = one_or_list(signatures) {
         entries.push((Value::Integer(Integer::from(7i64)), signatures))?;
@@ -125,12 +141,16 @@ fn one_or_list(signatures: Vec<Value>) -> Option<Value>
     signatures.pop()
 }
 
-fn push_rest(
+/// Appends entries that have labels.
+///
+/// # Errors
+/// Only where memory is refused.
+pub fn push_rest(
     alloc: Global,
     entries: &mut Entries,
     rest: Vec<(Label, Value)>,
 ) -> Result<(), CoseError>
-    ensures { MatchResult result (λ _. map view_pair entries.new.items ≡ map view_pair entries.old.items ++ map entry_tree (map entry_view rest.items)) (λ e. e ≡ Memory) }
+    ensures { MatchResult result (λ _. Appends entries.old.items entries.new.items (map entry_view rest.items)) (λ e. e ≡ Memory) }
 {
     'rest: for entry in rest {
         let label = entry.0.to_cbor_value(alloc)?;

@@ -1,25 +1,41 @@
 //! Laws of the definitions.
 ghost use Rattle.std.specs.Prelude.{◌≡◌, ◌≢◌, ℕ, List, Some, None};
-ghost use Rattle.ciborium_value.specs.Tree.{Tree};
+ghost use Rattle.ciborium.specs.Front.{Reads};
+ghost use Rattle.ciborium_value.specs.Encoding.{enc, Fits};
+ghost use Rattle.ciborium_value.specs.Tree.{Tree, bytes};
 ghost use Rattle.coset_labels.specs.Faults.{CoseFault};
+ghost use Rattle.coset_labels.specs.Reading.{HasItem, WrongItem};
 ghost use Rattle.coset_headers.specs.Fields.{HeaderFields, ProtectedFields, SignatureFields};
 ghost use Rattle.coset_headers.specs.Headers.{HasHeader, HasProtected, HasSignature};
+ghost use Rattle.coset_headers.specs.Short.{IsShort, ShowsShort, SignatureShort};
 ghost use Rattle.coset_headers.specs.Structure.{sig_structure, mac_structure, encryption_structure};
+ghost use Rattle.coset_headers.specs.View.{header_view, signature_view};
 ghost use Rattle.coset_headers.specs.Written.{header_tree, shown, signature_tree};
 ghost use Rattle.coset_headers.specs.Wrong.{WrongHeader, WrongProtected, WrongSignature};
 
-/// A value has the fields of at most one header, one protected header, one signature.
+pub use crate::fits::{header_fits, protected_fits, signature_fits};
+use crate::header::{CoseSignature, Header};
+
+/// A value has the fields of at most one header, one protected header, one signature. So have the bytes of one item.
 pub fn one_header()
     ensures header { (n k : ℕ) (t : Tree) (h g : HeaderFields) → HasHeader n t h k → HasHeader n t g k → h ≡ g }
     ensures protected { (n k : ℕ) (t : Tree) (p q : ProtectedFields) → HasProtected n t p k → HasProtected n t q k → p ≡ q }
     ensures signature { (n k : ℕ) (t : Tree) (s u : SignatureFields) → HasSignature n t s k → HasSignature n t u k → s ≡ u }
+    ensures header_item { (b : List ℕ) (h g : HeaderFields) → HasItem (λ t h. HasHeader 256 t h 16) b h
+        → HasItem (λ t h. HasHeader 256 t h 16) b g → h ≡ g }
+    ensures signature_item { (b : List ℕ) (s u : SignatureFields) → HasItem (λ t s. HasSignature 256 t s 16) b s
+        → HasItem (λ t s. HasSignature 256 t s 16) b u → s ≡ u }
 {}
 
-/// A value with a fault has no fields.
+/// A value with a fault has no fields. Nor have bytes that are not one readable item, or whose item has a fault.
 pub fn wrong_has_none()
     ensures header { (n k : ℕ) (t : Tree) (e : CoseFault) (h : HeaderFields) → WrongHeader n t k e → HasHeader n t h k → ⊥ }
     ensures protected { (n k : ℕ) (t : Tree) (e : CoseFault) (p : ProtectedFields) → WrongProtected n t k e → HasProtected n t p k → ⊥ }
     ensures signature { (n k : ℕ) (t : Tree) (e : CoseFault) (s : SignatureFields) → WrongSignature n t k e → HasSignature n t s k → ⊥ }
+    ensures header_item { (b : List ℕ) (e : CoseFault) (h : HeaderFields) → WrongItem (λ t e. WrongHeader 256 t 16 e) b e
+        → HasItem (λ t h. HasHeader 256 t h 16) b h → ⊥ }
+    ensures signature_item { (b : List ℕ) (e : CoseFault) (s : SignatureFields) → WrongItem (λ t e. WrongSignature 256 t 16 e) b e
+        → HasItem (λ t s. HasSignature 256 t s 16) b s → ⊥ }
 {}
 
 /// A header that was read can be written, and so can a signature. The bytes that a protected one shows, and the structures over it, are
@@ -29,6 +45,53 @@ pub fn read_can_be_written()
     ensures protected { (n k : ℕ) (t : Tree) (p : ProtectedFields) → HasProtected n t p k → shown p ≢ None }
     ensures signature { (n k : ℕ) (t : Tree) (s : SignatureFields) → HasSignature n t s k → signature_tree s ≢ None }
     ensures structures { (context aad payload : List ℕ) (p : ProtectedFields) → shown p ≢ None
-        → (sig_structure context p None aad payload ≢ None) × (mac_structure context p aad payload ≢ None) × (encryption_structure context p aad ≢ None) }
-    ensures signer { (context aad payload : List ℕ) (p q : ProtectedFields) → shown p ≢ None → shown q ≢ None → sig_structure context p (Some q) aad payload ≢ None }
+        → (sig_structure context p None aad payload ≢ None) × (mac_structure context p aad payload ≢ None)
+        × (encryption_structure context p aad ≢ None) }
+    ensures signer { (context aad payload : List ℕ) (p q : ProtectedFields) → shown p ≢ None → shown q ≢ None
+        → sig_structure context p (Some q) aad payload ≢ None }
 {}
+
+/// What is written of a header or a signature that was read has its fields again, received bytes included. A protected one shows the very
+/// bytes that it was read of.
+pub fn written_has_same()
+    ensures header { (n k : ℕ) (t u : Tree) (h : HeaderFields) → HasHeader n t h k → header_tree h ≡ Some u → HasHeader n u h k }
+    ensures protected { (n k : ℕ) (t : Tree) (b : List ℕ) (p : ProtectedFields) → HasProtected n t p k → shown p ≡ Some b → t ≡ bytes b }
+    ensures signature { (n k : ℕ) (t u : Tree) (s : SignatureFields) → HasSignature n t s k
+        → signature_tree s ≡ Some u → HasSignature n u s k }
+{}
+
+/// So are the bytes: the encoding of what is written nests no deeper than what was read, and is read again with the same fields.
+pub fn written_reads_same()
+    ensures header { (n k limit : ℕ) (b : List ℕ) (t u : Tree) (h : HeaderFields) → Reads b limit t → HasHeader n t h k
+        → header_tree h ≡ Some u → Fits u → Reads (enc u) limit u × HasHeader n u h k }
+    ensures signature { (n k limit : ℕ) (b : List ℕ) (t u : Tree) (s : SignatureFields) → Reads b limit t → HasSignature n t s k
+        → signature_tree s ≡ Some u → Fits u → Reads (enc u) limit u × HasSignature n u s k }
+{}
+
+/// What was read has its received bytes, as `header_fits` and its like ask.
+pub fn read_is_short()
+    ensures header { (n k : ℕ) (t : Tree) (h : HeaderFields) → HasHeader n t h k → IsShort h }
+    ensures protected { (n k : ℕ) (t : Tree) (p : ProtectedFields) → HasProtected n t p k → ShowsShort p }
+    ensures signature { (n k : ℕ) (t : Tree) (s : SignatureFields) → HasSignature n t s k → SignatureShort s }
+{}
+
+/// A header that was read from bytes is read again of the bytes that it is written as, the same, received bytes included.
+pub fn header_reads_again(header: &Header)
+    ensures { (b : List ℕ) (u : Tree) → HasItem (λ t h. HasHeader 256 t h 16) b (header_view header.now)
+        → header_tree (header_view header.now) ≡ Some u → HasItem (λ t h. HasHeader 256 t h 16) (enc u) (header_view header.now) }
+{
+    header_fits(header);
+    written_reads_same();
+    read_is_short();
+}
+
+/// As `header_reads_again`, of a signature.
+pub fn signature_reads_again(signature: &CoseSignature)
+    ensures { (b : List ℕ) (u : Tree) → HasItem (λ t s. HasSignature 256 t s 16) b (signature_view signature.now)
+        → signature_tree (signature_view signature.now) ≡ Some u
+        → HasItem (λ t s. HasSignature 256 t s 16) (enc u) (signature_view signature.now) }
+{
+    signature_fits(signature);
+    written_reads_same();
+    read_is_short();
+}

@@ -118,7 +118,8 @@ impl Parts {
         value: Value,
     ) -> Result<(), CoseError>
         requires { is_at 7 (label_view label) ≡ false }
-        ensures { MatchResult result (λ _. Filled (label_view label) (view value) self.old self.new) (λ e. OrMemory (WrongFill (label_view label) (view value) (plain_of self.old)) e) }
+        ensures { MatchResult result (λ _. Filled (label_view label) (view value) self.old self.new)
+            (λ e. OrMemory (WrongFill (label_view label) (view value) (plain_of self.old)) e) }
     {
         match place_of(&label) {
             Place::Alg => {

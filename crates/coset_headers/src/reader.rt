@@ -26,7 +26,8 @@ pub(crate) fn read_header(
     nesting: usize,
     layers: usize,
 ) -> Result<Header, CoseError>
-    ensures { MatchResult result (λ h. HasHeader nesting (view value) (header_view h) layers) (λ e. OrMemory (WrongHeader nesting (view value) layers) e) }
+    ensures { MatchResult result (λ h. HasHeader nesting (view value) (header_view h) layers)
+        (λ e. OrMemory (WrongHeader nesting (view value) layers) e) }
 {
     let entries = value.try_as_map()?;
     let parts = read_entries(alloc, entries, nesting, layers)?;
@@ -40,7 +41,8 @@ fn read_entries(
     nesting: usize,
     layers: usize,
 ) -> Result<Parts, CoseError>
-    ensures { MatchResult result (λ p. HasEntries nesting (view_pairs entries.items) (plain_of p) (signs_of p) layers) (λ e. OrMemory (WrongEntries nesting (view_pairs entries.items) layers) e) }
+    ensures { MatchResult result (λ p. HasEntries nesting (view_pairs entries.items) (plain_of p) (signs_of p) layers)
+        (λ e. OrMemory (WrongEntries nesting (view_pairs entries.items) layers) e) }
 {
     let mut seen = Seen::new(alloc);
     let mut parts = Parts::new(alloc);
@@ -64,7 +66,8 @@ fn read_entry(
     layers: usize,
 ) -> Result<(), CoseError>
     ensures { (es : List (LabelFields × Tree)) → KnownIn nesting es seen.old parts.old layers
-        → MatchResult result (λ _. Added nesting es (view key) (view value) seen.new parts.new layers) (λ e. OrMemory (WrongEntry nesting es (view key) (view value) layers) e) }
+        → MatchResult result (λ _. Added nesting es (view key) (view value) seen.new parts.new layers)
+        (λ e. OrMemory (WrongEntry nesting es (view key) (view value) layers) e) }
 {
     let label = Label::from_cbor_value(alloc, key)?;
     let fresh = seen.add(alloc, &label)?;
@@ -87,7 +90,8 @@ fn read_signatures(
     nesting: usize,
     layers: usize,
 ) -> Result<Vec<CoseSignature>, CoseError>
-    ensures { MatchResult result (λ v. HasSigned nesting (Some (view value)) (signatures_view v.items) layers) (λ e. OrMemory (WrongSigned nesting (view value) layers) e) }
+    ensures { MatchResult result (λ v. HasSigned nesting (Some (view value)) (signatures_view v.items) layers)
+        (λ e. OrMemory (WrongSigned nesting (view value) layers) e) }
 {
     let items = value.try_as_array()?;
     if is_bare(&items)? {
@@ -107,7 +111,8 @@ fn read_list(
     nesting: usize,
     layers: usize,
 ) -> Result<Vec<CoseSignature>, CoseError>
-    ensures { MatchResult result (λ v. HasSignatures nesting (views items.items) (signatures_view v.items) layers) (λ e. OrMemory (WrongSignatures nesting (views items.items) layers) e) }
+    ensures { MatchResult result (λ v. HasSignatures nesting (views items.items) (signatures_view v.items) layers)
+        (λ e. OrMemory (WrongSignatures nesting (views items.items) layers) e) }
 {
     let mut signatures = Vec::new(alloc);
     'list: for item in items {
@@ -125,7 +130,8 @@ pub(crate) fn read_signature(
     nesting: usize,
     layers: usize,
 ) -> Result<CoseSignature, CoseError>
-    ensures { MatchResult result (λ s. HasSignature nesting (view value) (signature_view s) layers) (λ e. OrMemory (WrongSignature nesting (view value) layers) e) }
+    ensures { MatchResult result (λ s. HasSignature nesting (view value) (signature_view s) layers)
+        (λ e. OrMemory (WrongSignature nesting (view value) layers) e) }
 {
     let items = value.try_as_array()?;
     match three(items) {
@@ -151,7 +157,8 @@ pub(crate) fn read_protected(
     nesting: usize,
     layers: usize,
 ) -> Result<ProtectedHeader, CoseError>
-    ensures { MatchResult result (λ p. HasProtected nesting (view value) (protected_view p) layers) (λ e. OrMemory (WrongProtected nesting (view value) layers) e) }
+    ensures { MatchResult result (λ p. HasProtected nesting (view value) (protected_view p) layers)
+        (λ e. OrMemory (WrongProtected nesting (view value) layers) e) }
 {
     let bytes = value.try_as_bytes()?;
     if layers == 0 {
@@ -172,7 +179,8 @@ fn read_inside(
     nesting: usize,
     layers: usize,
 ) -> Result<Header, CoseError>
-    ensures { MatchResult result (λ h. Inside nesting (header_view h) bytes.now layers) (λ e. OrMemory (WrongInside nesting bytes.now layers) e) }
+    ensures { MatchResult result (λ h. Inside nesting (header_view h) bytes.now layers)
+        (λ e. OrMemory (WrongInside nesting bytes.now layers) e) }
 {
     if bytes.is_empty() {
         return Ok(Parts::new(alloc).header());

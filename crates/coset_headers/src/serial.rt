@@ -135,7 +135,8 @@ impl ProtectedHeader {
     /// # Errors
     /// A fault that the value has, or `Memory`. `ExtraneousData` where bytes go on behind the header.
     pub fn from_cbor_bstr(alloc: Global, value: Value) -> Result<ProtectedHeader, CoseError>
-        ensures { MatchResult result (λ p. HasProtected 256 (view value) (protected_view p) 16) (λ e. OrMemory (WrongProtected 256 (view value) 16) e) }
+        ensures { MatchResult result (λ p. HasProtected 256 (view value) (protected_view p) 16)
+            (λ e. OrMemory (WrongProtected 256 (view value) 16) e) }
     {
         read_protected(alloc, value, NESTING, LAYERS)
     }
@@ -146,7 +147,8 @@ impl ProtectedHeader {
     /// # Errors
     /// `DuplicateMapKey` exactly where a label stands twice in a header that has to be encoded, or `Memory`.
     pub fn cbor_bstr(self, alloc: Global) -> Result<Value, CoseError>
-        ensures { MatchResult result (λ v. option_map spec.bytes (shown (protected_view self)) ≡ Some (view v)) (λ e. CantWrite (option_map spec.bytes (shown (protected_view self))) e) }
+        ensures { MatchResult result (λ v. option_map spec.bytes (shown (protected_view self)) ≡ Some (view v))
+            (λ e. CantWrite (option_map spec.bytes (shown (protected_view self))) e) }
     {
         let bytes = show_protected(alloc, self)?;
         Ok(Value::Bytes(bytes))

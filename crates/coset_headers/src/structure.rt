@@ -32,8 +32,10 @@ pub fn sig_structure_data(
     payload: &[u8],
 ) -> Result<Vec<u8>, CoseError>
     ensures { MatchResult result
-        (λ v. sig_structure (signature_text context) (protected_view body.now) (option_map (λ p. protected_view p.now) sign.entry) aad.now payload.now ≡ Some v.items)
-        (λ e. CantWrite (sig_structure (signature_text context) (protected_view body.now) (option_map (λ p. protected_view p.now) sign.entry) aad.now payload.now) e) }
+        (λ v. sig_structure (signature_text context) (protected_view body.now)
+        (option_map (λ p. protected_view p.now) sign.entry) aad.now payload.now ≡ Some v.items)
+        (λ e. CantWrite (sig_structure (signature_text context) (protected_view body.now)
+        (option_map (λ p. protected_view p.now) sign.entry) aad.now payload.now) e) }
 {
     let body = show(alloc, body)?;
     let signer = show_signer(alloc, sign)?;
@@ -79,7 +81,8 @@ pub fn enc_structure_data(
 
 /// A copy of the bytes that are shown for a protected header.
 fn show(alloc: Global, protected: &ProtectedHeader) -> Result<Vec<u8>, CoseError>
-    ensures { MatchResult result (λ b. shown (protected_view protected.now) ≡ Some b.items) (λ e. CantWrite (shown (protected_view protected.now)) e) }
+    ensures { MatchResult result (λ b. shown (protected_view protected.now) ≡ Some b.items)
+        (λ e. CantWrite (shown (protected_view protected.now)) e) }
 {
     let copy = protected.clone(alloc)?;
     show_protected(alloc, copy)
@@ -89,7 +92,8 @@ fn show_signer(
     alloc: Global,
     signer: Option<&ProtectedHeader>,
 ) -> Result<Option<Vec<u8>>, CoseError>
-    ensures { MatchResult result (λ o. shown_signer (option_map (λ p. protected_view p.now) signer.entry) ≡ Some (option_map (λ b. b.items) o))
+    ensures { MatchResult result (λ o. shown_signer (option_map (λ p. protected_view p.now) signer.entry)
+        ≡ Some (option_map (λ b. b.items) o))
         (λ e. CantWrite (shown_signer (option_map (λ p. protected_view p.now) signer.entry)) e) }
 {
     match signer {
@@ -109,7 +113,8 @@ fn covered(
     aad: &[u8],
     payload: &[u8],
 ) -> Result<Vec<u8>, CoseError>
-    ensures { MatchResult result (λ v. v.items ≡ structure context.now body.now (option_map (λ b. b.items) signer.now) aad.now payload.now) (λ e. e ≡ Memory) }
+    ensures { MatchResult result (λ v. v.items ≡ structure context.now body.now (option_map (λ b. b.items) signer.now) aad.now payload.now)
+        (λ e. e ≡ Memory) }
 {
     let mut out = Mem::new(Vec::new(alloc));
     match signer {

@@ -24,7 +24,8 @@ type Parameter = RegisteredLabelWithPrivate<iana::HeaderParameter>;
 
 /// The labels that have to be understood: a list that is not empty.
 pub(crate) fn read_crit(alloc: Global, value: Value) -> Result<Vec<Parameter>, CoseError>
-    ensures { MatchResult result (λ v. crit_of (view value) ≡ Some (map (named_view header_parameters.number) v.items)) (λ e. OrMemory (WrongCrit (view value)) e) }
+    ensures { MatchResult result (λ v. crit_of (view value) ≡ Some (map (named_view header_parameters.number) v.items))
+        (λ e. OrMemory (WrongCrit (view value)) e) }
 {
     let items = array_or(value, "array value")?;
     if items.is_empty() {
@@ -35,7 +36,8 @@ pub(crate) fn read_crit(alloc: Global, value: Value) -> Result<Vec<Parameter>, C
 
 /// The items of an array; the error of another value has this text.
 fn array_or(value: Value, want: &'static str) -> Result<Vec<Value>, CoseError>
-    ensures { MatchResult result (λ v. view value ≡ spec.array (views v.items)) (λ e. (fault_of e ≡ unexpected) × (is_array (view value) ≡ false)) }
+    ensures { MatchResult result (λ v. view value ≡ spec.array (views v.items))
+        (λ e. (fault_of e ≡ unexpected) × (is_array (view value) ≡ false)) }
 {
     match value {
         Value::Array(items) => Ok(items),
@@ -45,7 +47,8 @@ fn array_or(value: Value, want: &'static str) -> Result<Vec<Value>, CoseError>
 
 fn read_parameters(alloc: Global, items: Vec<Value>) -> Result<Vec<Parameter>, CoseError>
     requires { items.items ≢ [] }
-    ensures { MatchResult result (λ v. crit_of (spec.array (views items.items)) ≡ Some (map (named_view header_parameters.number) v.items)) (λ e. OrMemory (WrongCrit (spec.array (views items.items))) e) }
+    ensures { MatchResult result (λ v. crit_of (spec.array (views items.items)) ≡ Some (map (named_view header_parameters.number) v.items))
+        (λ e. OrMemory (WrongCrit (spec.array (views items.items))) e) }
 {
     let mut names = Vec::new(alloc);
     'names: for item in items {
@@ -57,7 +60,8 @@ fn read_parameters(alloc: Global, items: Vec<Value>) -> Result<Vec<Parameter>, C
 
 /// The type of the content.
 pub(crate) fn read_content_type(alloc: Global, value: Value) -> Result<ContentType, CoseError>
-    ensures { MatchResult result (λ c. HasContentType (Some (view value)) (Some (registered_view coap_content_formats.number c))) (λ e. OrMemory (WrongContentType (view value)) e) }
+    ensures { MatchResult result (λ c. HasContentType (Some (view value)) (Some (registered_view coap_content_formats.number c)))
+        (λ e. OrMemory (WrongContentType (view value)) e) }
 {
     let content_type = ContentType::from_cbor_value(alloc, value)?;
     match content_type {

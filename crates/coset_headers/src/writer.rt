@@ -53,7 +53,8 @@ fn is_unsigned(signatures: &[CoseSignature]) -> bool
 /// The map that stands for a header.
 #[cycle(writer)]
 pub(crate) fn write_header(alloc: Global, header: Header) -> Result<Value, CoseError>
-    ensures { MatchResult result (λ v. header_tree (header_view header) ≡ Some (view v)) (λ e. CantWrite (header_tree (header_view header)) e) }
+    ensures { MatchResult result (λ v. header_tree (header_view header) ≡ Some (view v))
+        (λ e. CantWrite (header_tree (header_view header)) e) }
 {
     let Header {
         alg,
@@ -81,7 +82,8 @@ pub(crate) fn write_header(alloc: Global, header: Header) -> Result<Value, CoseE
 
 #[cycle(writer)]
 fn write_signatures(alloc: Global, signatures: Vec<CoseSignature>) -> Result<Vec<Value>, CoseError>
-    ensures { MatchResult result (λ v. signature_trees (signatures_view signatures.items) ≡ Some (views v.items)) (λ e. CantWrite (signature_trees (signatures_view signatures.items)) e) }
+    ensures { MatchResult result (λ v. signature_trees (signatures_view signatures.items) ≡ Some (views v.items))
+        (λ e. CantWrite (signature_trees (signatures_view signatures.items)) e) }
 {
     let mut values = Vec::new(alloc);
     'signatures: for signature in signatures {
@@ -94,7 +96,8 @@ fn write_signatures(alloc: Global, signatures: Vec<CoseSignature>) -> Result<Vec
 /// The array that stands for a signature.
 #[cycle(writer)]
 pub(crate) fn write_signature(alloc: Global, signature: CoseSignature) -> Result<Value, CoseError>
-    ensures { MatchResult result (λ v. signature_tree (signature_view signature) ≡ Some (view v)) (λ e. CantWrite (signature_tree (signature_view signature)) e) }
+    ensures { MatchResult result (λ v. signature_tree (signature_view signature) ≡ Some (view v))
+        (λ e. CantWrite (signature_tree (signature_view signature)) e) }
 {
     let CoseSignature {
         protected,
@@ -112,7 +115,8 @@ fn three_items(
     unprotected: Value,
     signature: Vec<u8>,
 ) -> Result<Value, CoseError>
-    ensures { MatchResult result (λ v. view v ≡ spec.array (list_of_three (spec.bytes protected.items) (view unprotected) (spec.bytes signature.items))) (λ e. e ≡ Memory) }
+    ensures { MatchResult result (λ v. view v ≡ spec.array (list_of_three (spec.bytes protected.items) (view unprotected)
+        (spec.bytes signature.items))) (λ e. e ≡ Memory) }
 {
     let mut items = Vec::new(alloc);
     items.push(Value::Bytes(protected))?;
@@ -128,7 +132,8 @@ pub(crate) fn show_protected(
     alloc: Global,
     protected: ProtectedHeader,
 ) -> Result<Vec<u8>, CoseError>
-    ensures { MatchResult result (λ b. shown (protected_view protected) ≡ Some b.items) (λ e. CantWrite (shown (protected_view protected)) e) }
+    ensures { MatchResult result (λ b. shown (protected_view protected) ≡ Some b.items)
+        (λ e. CantWrite (shown (protected_view protected)) e) }
 {
     let ProtectedHeader {
         original_data,

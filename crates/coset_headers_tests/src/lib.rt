@@ -1,7 +1,9 @@
-//! Tests of labels, headers and structures, by their public names.
+//! Tests of headers, signatures and structures, by their public names.
 #![tactic(auto)]
 
 #[cfg(test)]
+mod faults;
+#[cfg(test)]
 mod headers;
 #[cfg(test)]
-mod labels;
+mod signatures;

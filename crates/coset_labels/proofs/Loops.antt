@@ -1,5 +1,11 @@
 -- Loops that take the items of a vector one after another.
-use Rattle.std.proofs.Common.{◌≡◌, ◌+◌, ◌<◌, List, [], ◌∷◌, ◌++◌, length, get_or, refl, sym, ap, ◌∙◌, arith, append_assoc, length-append, vec_len, Vec, Global}
+use Rattle.std.proofs.Common.{◌≡◌, ◌+◌, ◌<◌, List, [], ◌∷◌, ◌++◌, length, get_or, refl, sym, ap, ◌∙◌, arith, append_assoc, length-append, vec_len, Vec, Global, subst, ◌⊎◌, inl, inr, Result, Ok, Err}
+use Rattle.std.specs.Prelude.{MatchResult}
+use Rattle.ciborium_value.specs.Tree.{Tree, array}
+use Rattle.ciborium_value.specs.View.{views}
+use Rattle.ciborium_value.specs.declared.value.Value.{Value}
+use Rattle.coset_labels.specs.Converting.{GivesAll, FailsFirst, Converts, CantConvert, item_fails}
+use Rattle.coset_labels.specs.declared.error.CoseError.{CoseError}
 use Rattle.std.specs.declared.vec.IntoIter.{IntoIter}
 use Rattle.std.specs.Vec.Iter.{into_iter_items, into_iter_len, into_iter_steps}
 use Rattle.std.proofs.lemmas.Iterator.{YieldsList}
@@ -28,3 +34,19 @@ turned all xs x (after, e) h = turned_by all xs after x e h
 
 pub moved : {A : Type 0} (all xs : List A) (x : A) → ((ys : List A) × (all ≡ xs ++ x ∷ ys)) → (ys : List A) × (all ≡ (xs ++ x ∷ []) ++ ys)
 moved all xs x (ys, e) = (ys, e ∙ sym (append_assoc xs (x ∷ []) ys))
+
+-- the result of one more item
+gives_more : {A B E : Type 0} (R : A → Result B E → Type 0) (xs : List A) (ys : List B) (x : A) (y : B) → GivesAll R xs ys → R x (Ok y) → GivesAll R (xs ++ x ∷ []) (ys ++ y ∷ [])
+gives_more R [] [] x y g h = (h, tt)
+gives_more R [] (w ∷ ws) x y g h = absurd g
+gives_more R (z ∷ zs) [] x y g h = absurd g
+gives_more R (z ∷ zs) (w ∷ ws) x y g h = (g.0, gives_more R zs ws x y g.1 h)
+
+pub gives_pushed : {A B E : Type 0} (R : A → Result B E → Type 0) (xs : List A) (ys zs : List B) (x : A) (y : B) → zs ≡ ys ++ y ∷ [] → GivesAll R xs ys → R x (Ok y) → GivesAll R (xs ++ x ∷ []) zs
+gives_pushed R xs ys zs x y e g h = subst (GivesAll R (xs ++ x ∷ [])) (sym e) (gives_more R xs ys x y g h)
+
+pub all_converted : {B E : Type 0} (R : Value → Result B E → Type 0) (From : CoseError → E → Type 0) (M : E → Type 0) (t : Tree) (v : Vec Value Global) (r : Result (Vec B Global) E) → t ≡ array (views v.items)
+    → MatchResult r (λ w. GivesAll R v.items w.items) (λ e. M e ⊎ FailsFirst R v.items e) → MatchResult r (λ w. Converts R t w.items) (λ e. M e ⊎ CantConvert R From t e)
+all_converted R From M t v (Ok w) q h = record { values = v.items; is = q; given = h }
+all_converted R From M t v (Err e) q (inl m) = inl m
+all_converted R From M t v (Err e) q (inr w) = inr (item_fails v.items q w)

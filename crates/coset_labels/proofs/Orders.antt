@@ -1,7 +1,9 @@
 -- The orders of labels and names are those of encodings.
-use Rattle.std.proofs.Common.{◌≡◌, ℤ, Bool, false, refl, sym, ap, ◌∙◌}
+use Rattle.std.proofs.Common.{◌≡◌, ℕ, ◌^◌, ◌≤◌, List, [], ◌∷◌, length, ℤ, Bool, true, false, cond, nat_lt, Some, refl, sym, ap, ◌∙◌, arith, w16, w32, w64}
+use Rattle.std.specs.Int.{to_be_bytes}
+use Rattle.ciborium_ll.specs.Title.{shortest, first_byte, title_of}
+use Rattle.ciborium_ll.specs.declared.hdr.Header.TheVariants.{Text}
 use Rattle.std.specs.Ordering.{ordering_then, bool_cmp}
-use Rattle.ciborium_value.specs.Tree.{Tree}
 use Rattle.ciborium_value.specs.Canonical.{bytewise, text_cmp}
 use Rattle.ciborium_value.specs.Facts.Orders.{then_equal}
 use Rattle.coset_labels.specs.Fields.{Named}
@@ -25,3 +27,19 @@ pub registered_by : {T : Type 0} (number_of : T → ℤ) (a b : RegisteredLabel 
 registered_by number_of a b e =
     (λ i. ordering_then (text_cmp (named_tree (registered_view number_of a)) (named_tree (registered_view number_of b))) (bool_cmp (none_own number_of a i) (none_own number_of b i)))
     ∙ then_equal (text_cmp (named_tree (registered_view number_of a)) (named_tree (registered_view number_of b))) ∙ sym e
+
+-- the head of a text is at most nine bytes long
+shortest_short : (n : ℕ) → length (shortest 3 n) ≤ 9
+unfolding shortest
+shortest_short n = go (nat_lt n 24) (nat_lt n (2 ^ 8)) (nat_lt n (2 ^ 16)) (nat_lt n (2 ^ 32))
+  where
+    go : (a b c d : Bool)
+        → length (cond a (first_byte 3 n ∷ []) (cond b (first_byte 3 24 ∷ n ∷ []) (cond c (first_byte 3 25 ∷ to_be_bytes w16 n) (cond d (first_byte 3 26 ∷ to_be_bytes w32 n) (first_byte 3 27 ∷ to_be_bytes w64 n))))) ≤ 9
+    go true b c d = omega arith
+    go false true c d = omega arith
+    go false false true d = omega arith
+    go false false false true = omega arith
+    go false false false false = omega arith
+
+pub title_short : (b : List ℕ) → length (title_of (Text (Some (length b)))) ≤ 9
+title_short b = shortest_short (length b)

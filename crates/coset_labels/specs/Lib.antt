@@ -1,4 +1,5 @@
 pub mod Arrays
+pub mod Converting
 pub mod Faults
 pub mod Fields
 pub mod Kinds

@@ -1,14 +1,16 @@
 -- The orders of labels and names: those of their encodings (RFC 8949, section 4.2). Of two names with one encoding that of the registry
 -- is before that for private use.
-use Rattle.std.specs.Prelude.{◌≡◌, ◌↔◌, Bool, true, false, IsTrue}
+use Rattle.std.specs.Prelude.{◌≡◌, ◌↔◌, Bool, true, false, IsTrue, length}
 use Rattle.std.proofs.Common.{ap, ◌∙◌}
 use Rattle.std.proofs.lemmas.Cmp.{tied_itself}
-use Rattle.std.specs.Cmp.{IsTotalOrder, on_total, then_total, bool_cmp_total}
+use Rattle.std.specs.Cmp.{IsTotalOrder, on_total, then_total, bool_cmp_total, nat_cmp_total}
+use Rattle.std.specs.Cmp.Lexicographic.{nat_list_cmp_total}
 use Rattle.std.specs.Ordering.{ordering_then, bool_cmp, is_eq}
 use Rattle.std.specs.declared.cmp.Ordering.{Ordering}
 use Rattle.std.specs.declared.cmp.Ordering.TheVariants.{Equal}
 use Rattle.ciborium_value.specs.Tree.{integer, text}
-use Rattle.ciborium_value.specs.Canonical.{text_cmp}
+use Rattle.ciborium_value.specs.Canonical.{text_cmp, length_first}
+use Rattle.ciborium_value.specs.Encoding.{enc}
 use Rattle.ciborium_value.specs.Facts.Orders.{equal_of, then_tied}
 use Rattle.ciborium_value.specs.Facts.TextTies.{text_tied}
 use Rattle.ciborium_value.specs.Facts.TextTotal.{text_total}
@@ -18,6 +20,10 @@ use Rattle.coset_labels.specs.Labels.{label_tree, named_tree}
 abbrev pub label_cmp : LabelFields → LabelFields → Ordering
 label_cmp l m = text_cmp (label_tree l) (label_tree m)
 
+-- the shorter encoding first (RFC 8949, section 4.2.3)
+abbrev pub label_length_first : LabelFields → LabelFields → Ordering
+label_length_first l m = length_first (label_tree l) (label_tree m)
+
 abbrev pub is_own_number : Named → Bool
 is_own_number (private_use i) = true
 is_own_number (assigned i) = false
@@ -26,9 +32,12 @@ is_own_number (named b) = false
 abbrev pub named_cmp : Named → Named → Ordering
 named_cmp n m = ordering_then (text_cmp (named_tree n) (named_tree m)) (bool_cmp (is_own_number n) (is_own_number m))
 
--- Both are total, and tie what is equal alone. It is proved here: nothing of it has to be believed.
+-- They are total, and those by heads tie what is equal alone. It is proved here: nothing of it has to be believed.
 pub label_total : IsTotalOrder label_cmp
 label_total = on_total label_tree text_total
+
+pub length_first_total : IsTotalOrder label_length_first
+length_first_total = on_total label_tree (then_total (on_total (λ t. length (enc t)) nat_cmp_total) (on_total enc nat_list_cmp_total))
 
 pub named_total : IsTotalOrder named_cmp
 named_total = then_total (on_total named_tree text_total) (on_total is_own_number bool_cmp_total)

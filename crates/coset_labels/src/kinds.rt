@@ -1,13 +1,16 @@
 //! Values of CBOR taken by kind.
-ghost use Rattle.std.specs.Prelude.{◌≡◌, ◌≢◌, MatchResult, MatchOption, Some, false, string_bytes};
+ghost use Rattle.std.specs.Prelude.{◌≡◌, ◌≢◌, ◌⊎◌, MatchResult, MatchOption, Some, false, string_bytes};
 ghost use Rattle.ciborium_value.specs.Tree as spec;
 ghost use Rattle.ciborium_value.specs.Tree.{Tree, is_bytes};
 ghost use Rattle.ciborium_value.specs.View.{view, views, view_pairs, number_of};
+ghost use Rattle.coset_labels.specs.Converting.{GivesAll, FailsFirst, Converts, CantConvert};
 ghost use Rattle.coset_labels.specs.Faults.{fault_of, unexpected};
 ghost use Rattle.coset_labels.specs.Kinds.{is_integer, is_text, is_map, is_array, is_tag, some_bytes, WrongBytes};
+ghost use Rattle.coset_labels.specs.declared.error.CoseError.TheVariants.{Memory};
 
 use crate::error::CoseError;
 use ciborium_value::{Integer, Value};
+use std::alloc::Global;
 
 /// The name of a value's kind in an error.
 fn cbor_type_name(value: &Value) -> &'static str {
@@ -41,14 +44,16 @@ pub trait ValueTryAs {
     /// # Errors
     /// `UnexpectedItem` for a value of another kind.
     fn try_as_integer(self) -> Result<Integer, CoseError>
-        ensures { MatchResult result (λ i. tree self ≡ spec.integer (number_of i)) (λ e. (fault_of e ≡ unexpected) × (is_integer (tree self) ≡ false)) };
+        ensures { MatchResult result (λ i. tree self ≡ spec.integer (number_of i))
+            (λ e. (fault_of e ≡ unexpected) × (is_integer (tree self) ≡ false)) };
 
     /// The bytes of a byte string.
     ///
     /// # Errors
     /// `UnexpectedItem` for a value of another kind.
     fn try_as_bytes(self) -> Result<Vec<u8>, CoseError>
-        ensures { MatchResult result (λ b. tree self ≡ spec.bytes b.items) (λ e. (fault_of e ≡ unexpected) × (is_bytes (tree self) ≡ false)) };
+        ensures { MatchResult result (λ b. tree self ≡ spec.bytes b.items)
+            (λ e. (fault_of e ≡ unexpected) × (is_bytes (tree self) ≡ false)) };
 
     /// The bytes of a byte string that is not empty.
     ///
@@ -70,28 +75,68 @@ pub trait ValueTryAs {
     /// # Errors
     /// `UnexpectedItem` for a value of another kind.
     fn try_as_array(self) -> Result<Vec<Value>, CoseError>
-        ensures { MatchResult result (λ v. tree self ≡ spec.array (views v.items)) (λ e. (fault_of e ≡ unexpected) × (is_array (tree self) ≡ false)) };
+        ensures { MatchResult result (λ v. tree self ≡ spec.array (views v.items))
+            (λ e. (fault_of e ≡ unexpected) × (is_array (tree self) ≡ false)) };
+
+    /// The items of an array, converted by the caller's function, the first item first.
+    ///
+    /// # Errors
+    /// `UnexpectedItem` for a value of another kind, the first error of the function, or `Memory`.
+    fn try_as_array_then_convert<T: Drop, E: Drop + From<CoseError>, F: Fn(Value) -> Result<T, E>>(
+        self,
+        alloc: Global,
+        f: F,
+    ) -> Result<Vec<T>, E>
+        requires { F.IsAlwaysCallable f }
+        ensures { MatchResult result (λ v. Converts (F.post f) (tree self) v.items)
+            (λ e. E.from_gives Memory e ⊎ CantConvert (F.post f) E.from_gives (tree self) e) };
 
     /// The entries of a map, in their order.
     ///
     /// # Errors
     /// `UnexpectedItem` for a value of another kind.
     fn try_as_map(self) -> Result<Vec<(Value, Value)>, CoseError>
-        ensures { MatchResult result (λ m. tree self ≡ spec.map (view_pairs m.items)) (λ e. (fault_of e ≡ unexpected) × (is_map (tree self) ≡ false)) };
+        ensures { MatchResult result (λ m. tree self ≡ spec.map (view_pairs m.items))
+            (λ e. (fault_of e ≡ unexpected) × (is_map (tree self) ≡ false)) };
 
     /// A tag's number and its content.
     ///
     /// # Errors
     /// `UnexpectedItem` for a value of another kind.
     fn try_as_tag(self) -> Result<(u64, Box<Value>), CoseError>
-        ensures { MatchResult result (λ t. tree self ≡ spec.tag t.0 (view t.1.value)) (λ e. (fault_of e ≡ unexpected) × (is_tag (tree self) ≡ false)) };
+        ensures { MatchResult result (λ t. tree self ≡ spec.tag t.0 (view t.1.value))
+            (λ e. (fault_of e ≡ unexpected) × (is_tag (tree self) ≡ false)) };
 
     /// A text.
     ///
     /// # Errors
     /// `UnexpectedItem` for a value of another kind.
     fn try_as_string(self) -> Result<String, CoseError>
-        ensures { MatchResult result (λ s. tree self ≡ spec.text (string_bytes s)) (λ e. (fault_of e ≡ unexpected) × (is_text (tree self) ≡ false)) };
+        ensures { MatchResult result (λ s. tree self ≡ spec.text (string_bytes s))
+            (λ e. (fault_of e ≡ unexpected) × (is_text (tree self) ≡ false)) };
+}
+
+/// What the function gives for each item, the first item first.
+fn convert_all<T: Drop, E: Drop + From<CoseError>, F: Fn(Value) -> Result<T, E>>(
+    alloc: Global,
+    items: Vec<Value>,
+    f: F,
+) -> Result<Vec<T>, E>
+    requires { F.IsAlwaysCallable f }
+    ensures { MatchResult result (λ v. GivesAll (F.post f) items.items v.items)
+        (λ e. E.from_gives Memory e ⊎ FailsFirst (F.post f) items.items e) }
+{
+    let mut converted = Vec::new(alloc);
+    'items: for item in items {
+        match f(item) {
+            Ok(result) => match converted.push(result) {
+                Ok(()) => {}
+                Err(_) => return Err(E::from(CoseError::Memory)),
+            },
+            Err(error) => return Err(error),
+        }
+    }
+    Ok(converted)
 }
 
 impl ValueTryAs for Value {
@@ -131,6 +176,17 @@ impl ValueTryAs for Value {
         match self {
             Value::Array(items) => Ok(items),
             other => Err(cbor_type_error(&other, "array")),
+        }
+    }
+
+    fn try_as_array_then_convert<T: Drop, E: Drop + From<CoseError>, F: Fn(Value) -> Result<T, E>>(
+        self,
+        alloc: Global,
+        f: F,
+    ) -> Result<Vec<T>, E> {
+        match self.try_as_array() {
+            Ok(items) => convert_all(alloc, items, f),
+            Err(error) => Err(E::from(error)),
         }
     }
 

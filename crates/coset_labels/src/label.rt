@@ -1,11 +1,12 @@
 //! Labels of headers and keys.
-ghost use Rattle.std.specs.Prelude.{◌≡◌, refl, Some, IfOk};
+ghost use Rattle.std.specs.Prelude.{◌≡◌, refl, Some, IfOk, length};
 ghost use Rattle.std.specs.Cmp.{partial_equiv_from_equiv, on_equiv, eq_by_cmp_equiv, on_total, partial_order_from_agreeing_total};
 ghost use Rattle.std.specs.Ordering.{on, eq_by_cmp, as_partial_cmp};
-ghost use Rattle.ciborium_value.specs.Canonical.{length_first};
+ghost use Rattle.ciborium_value.specs.Encoding.{enc};
+ghost use Rattle.ciborium_value.specs.Tree.{integer, text};
 ghost use Rattle.coset_labels.specs.Fields.{LabelFields};
 ghost use Rattle.coset_labels.specs.Labels.{label_of, label_tree, WrongLabel};
-ghost use Rattle.coset_labels.specs.Orders.{label_cmp, label_total};
+ghost use Rattle.coset_labels.specs.Orders.{label_cmp, label_length_first, label_total};
 ghost use Rattle.coset_labels.specs.View.{label_view};
 
 use crate::error::CoseError;
@@ -14,6 +15,7 @@ use crate::laws::label_fits;
 use crate::order::{cmp_integer_text, cmp_integers, cmp_text_integer, cmp_texts};
 use crate::traits::{AsCborValue, CborSerializable};
 use ciborium_ll::Header as Head;
+use ciborium_value::laws::orders_of_encodings;
 use ciborium_value::{Integer, Value};
 use std::alloc::{AllocError, Global};
 use std::cmp::Ordering;
@@ -40,6 +42,43 @@ impl Label {
             Label::Text(s) => Ok(Label::Text(String::from_str(alloc, s.as_str())?)),
         }
     }
+
+    /// The other order: the shorter encoding first, and then byte by byte (RFC 8949, section 4.2.3). It takes no memory.
+    pub fn cmp_canonical(&self, other: &Label) -> Ordering
+        ensures { result ≡ label_length_first (label_view self.now) (label_view other.now) }
+    {
+        label_fits(self);
+        label_fits(other);
+        orders_of_encodings();
+        let lengths = self.encoded_len().cmp(&other.encoded_len());
+        lengths.then(self.cmp(other))
+    }
+
+    /// The length of the encoding in bytes.
+    fn encoded_len(&self) -> usize
+        ensures { result ≡ length (enc (label_tree (label_view self.now))) }
+    {
+        match self {
+            Label::Int(i) => integer_len(*i),
+            Label::Text(s) => text_len(s.as_str()),
+        }
+    }
+}
+
+fn integer_len(i: i64) -> usize
+    ensures { result ≡ length (enc (integer i)) }
+{
+    if i < 0 {
+        Head::Negative((-1 - i) as u64).title_len()
+    } else {
+        Head::Positive(i as u64).title_len()
+    }
+}
+
+fn text_len(s: &str) -> usize
+    ensures { result ≡ length (enc (text s.now)) }
+{
+    Head::Text(Some(s.len())).title_len() + s.len()
 }
 
 impl PartialEq for Label {
@@ -82,7 +121,8 @@ impl Ord for Label {
 impl PartialOrd for Label {
     ghost partial_cmp = { as_partial_cmp (on label_view label_cmp) };
 
-    ghost laws = { partial_order_from_agreeing_total (on label_view label_cmp) (on_total label_view label_total) (λ a b. refl) (λ a b. refl) };
+    ghost laws = { partial_order_from_agreeing_total (on label_view label_cmp)
+        (on_total label_view label_total) (λ a b. refl) (λ a b. refl) };
 
     fn partial_cmp(&self, other: &Label) -> Option<Ordering> {
         Some(self.cmp(other))

@@ -8,7 +8,7 @@ ghost use Rattle.ciborium_value.specs.Encoding.{Fits};
 ghost use Rattle.ciborium_value.specs.Canonical.{bytewise};
 ghost use Rattle.coset_labels.specs.Labels.{label_tree, named_tree};
 ghost use Rattle.coset_labels.specs.Fields.{LabelFields, Named};
-ghost use Rattle.coset_labels.specs.Orders.{label_cmp, is_own_number, named_cmp};
+ghost use Rattle.coset_labels.specs.Orders.{label_cmp, label_length_first, is_own_number, named_cmp};
 ghost use Rattle.coset_labels.specs.View.{label_view, registered_view, named_view};
 
 use crate::label::Label;
@@ -60,10 +60,11 @@ pub fn name_fits<T: EnumI64>(label: &RegisteredLabelWithPrivate<T>)
     }
 }
 
-/// Labels are equal where they say the same, and their order is that of their encodings.
+/// Labels are equal where they say the same, and their order is that of their encodings. The length-first order ties equal ones alone.
 pub fn labels_compare(a: &Label, b: &Label)
     ensures equality { IsTrue (⟦<Label as std::cmp::PartialEq>⟧.eq a.now b.now) ↔ (label_view a.now ≡ label_view b.now) }
     ensures order { ⟦<Label as std::cmp::Ord>⟧.cmp a.now b.now ≡ bytewise (label_tree (label_view a.now)) (label_tree (label_view b.now)) }
+    ensures length_first { (label_length_first (label_view a.now) (label_view b.now) ≡ Equal) ↔ (label_view a.now ≡ label_view b.now) }
 {
     label_fits(a);
     label_fits(b);
@@ -72,8 +73,10 @@ pub fn labels_compare(a: &Label, b: &Label)
 
 /// Registered names are equal where they say the same, and their order is that of their encodings.
 pub fn registered_compare<T: EnumI64>(a: &RegisteredLabel<T>, b: &RegisteredLabel<T>)
-    ensures equality { IsTrue (⟦<RegisteredLabel<T> as std::cmp::PartialEq>⟧.eq a.now b.now) ↔ (registered_view T.number a.now ≡ registered_view T.number b.now) }
-    ensures order { ⟦<RegisteredLabel<T> as std::cmp::Ord>⟧.cmp a.now b.now ≡ bytewise (named_tree (registered_view T.number a.now)) (named_tree (registered_view T.number b.now)) }
+    ensures equality { IsTrue (⟦<RegisteredLabel<T> as std::cmp::PartialEq>⟧.eq a.now b.now)
+        ↔ (registered_view T.number a.now ≡ registered_view T.number b.now) }
+    ensures order { ⟦<RegisteredLabel<T> as std::cmp::Ord>⟧.cmp a.now b.now
+        ≡ bytewise (named_tree (registered_view T.number a.now)) (named_tree (registered_view T.number b.now)) }
 {
     registered_fits(a);
     registered_fits(b);
@@ -86,18 +89,21 @@ pub fn names_compare<T: EnumI64>(
     a: &RegisteredLabelWithPrivate<T>,
     b: &RegisteredLabelWithPrivate<T>,
 )
-    ensures equality { IsTrue (⟦<RegisteredLabelWithPrivate<T> as std::cmp::PartialEq>⟧.eq a.now b.now) ↔ (named_view T.number a.now ≡ named_view T.number b.now) }
+    ensures equality { IsTrue (⟦<RegisteredLabelWithPrivate<T> as std::cmp::PartialEq>⟧.eq a.now b.now)
+        ↔ (named_view T.number a.now ≡ named_view T.number b.now) }
     ensures order { ⟦<RegisteredLabelWithPrivate<T> as std::cmp::Ord>⟧.cmp a.now b.now
-        ≡ ordering_then (bytewise (named_tree (named_view T.number a.now)) (named_tree (named_view T.number b.now))) (bool_cmp (is_own_number (named_view T.number a.now)) (is_own_number (named_view T.number b.now))) }
+        ≡ ordering_then (bytewise (named_tree (named_view T.number a.now)) (named_tree (named_view T.number b.now)))
+        (bool_cmp (is_own_number (named_view T.number a.now)) (is_own_number (named_view T.number b.now))) }
 {
     name_fits(a);
     name_fits(b);
     orders_of_encodings();
 }
 
-/// The orders of labels and of names are total, and tie what is equal alone.
+/// The orders of labels and of names are total, and those by heads tie what is equal alone.
 pub fn orders_are_total()
     ensures labels { IsTotalOrder label_cmp }
+    ensures length_first { IsTotalOrder label_length_first }
     ensures names { IsTotalOrder named_cmp }
     ensures labels_tie { (l m : LabelFields) → label_cmp l m ≡ Equal → l ≡ m }
     ensures names_tie { (n m : Named) → named_cmp n m ≡ Equal → n ≡ m }

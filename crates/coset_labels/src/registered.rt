@@ -120,7 +120,8 @@ impl<T: EnumI64> Ord for RegisteredLabel<T> {
 impl<T: EnumI64> PartialOrd for RegisteredLabel<T> {
     ghost partial_cmp = { as_partial_cmp (on (registered_view T.number) named_cmp) };
 
-    ghost laws = { partial_order_from_agreeing_total (on (registered_view T.number) named_cmp) (on_total (registered_view T.number) named_total) (λ a b. refl) (λ a b. refl) };
+    ghost laws = { partial_order_from_agreeing_total (on (registered_view T.number) named_cmp)
+        (on_total (registered_view T.number) named_total) (λ a b. refl) (λ a b. refl) };
 
     fn partial_cmp(&self, other: &RegisteredLabel<T>) -> Option<Ordering> {
         Some(self.cmp(other))
@@ -158,7 +159,8 @@ impl<T: EnumI64> Ord for RegisteredLabelWithPrivate<T> {
 impl<T: EnumI64> PartialOrd for RegisteredLabelWithPrivate<T> {
     ghost partial_cmp = { as_partial_cmp (on (named_view T.number) named_cmp) };
 
-    ghost laws = { partial_order_from_agreeing_total (on (named_view T.number) named_cmp) (on_total (named_view T.number) named_total) (λ a b. refl) (λ a b. refl) };
+    ghost laws = { partial_order_from_agreeing_total (on (named_view T.number) named_cmp)
+        (on_total (named_view T.number) named_total) (λ a b. refl) (λ a b. refl) };
 
     fn partial_cmp(&self, other: &RegisteredLabelWithPrivate<T>) -> Option<Ordering> {
         Some(self.cmp(other))

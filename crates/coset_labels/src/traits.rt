@@ -56,7 +56,8 @@ pub trait CborSerializable: AsCborValue {
     /// `DecodeFailed` with the damage of the bytes, `ExtraneousData` where they go on behind their item, a fault that the item has, or
     /// `Memory`.
     fn from_slice(alloc: Global, slice: &[u8]) -> Result<Self, CoseError>
-        ensures { MatchResult result (λ x. HasItem Self.shape slice.now (Self.fields x)) (λ e. OrMemory (WrongItem Self.wrong slice.now) e) }
+        ensures { MatchResult result (λ x. HasItem Self.shape slice.now (Self.fields x))
+            (λ e. OrMemory (WrongItem Self.wrong slice.now) e) }
     {
         let value = read_to_value(alloc, slice, NESTING)?;
         Self::from_cbor_value(alloc, value)
@@ -67,7 +68,8 @@ pub trait CborSerializable: AsCborValue {
     /// # Errors
     /// `DuplicateMapKey` exactly where a label would be written twice in one map, or `Memory`.
     fn to_vec(self, alloc: Global) -> Result<Vec<u8>, CoseError>
-        ensures { MatchResult result (λ b. option_map enc (Self.written (Self.fields self)) ≡ Some b.items) (λ e. CantWrite (Self.written (Self.fields self)) e) }
+        ensures { MatchResult result (λ b. option_map enc (Self.written (Self.fields self)) ≡ Some b.items)
+            (λ e. CantWrite (Self.written (Self.fields self)) e) }
     {
         let value = self.to_cbor_value(alloc)?;
         write_to_vec(alloc, &value)
@@ -110,7 +112,8 @@ pub trait TaggedCborSerializable: AsCborValue {
     /// # Errors
     /// As `from_slice`; `UnexpectedItem` for an item without the tag.
     fn from_tagged_slice(alloc: Global, slice: &[u8]) -> Result<Self, CoseError>
-        ensures { MatchResult result (λ x. HasItem (Tagged TAG Self.shape) slice.now (Self.fields x)) (λ e. OrMemory (WrongItem (WrongTagged TAG Self.wrong) slice.now) e) }
+        ensures { MatchResult result (λ x. HasItem (Tagged TAG Self.shape) slice.now (Self.fields x))
+            (λ e. OrMemory (WrongItem (WrongTagged TAG Self.wrong) slice.now) e) }
     {
         let value = read_to_value(alloc, slice, NESTING)?;
         let (tag, content) = value.try_as_tag()?;
@@ -125,7 +128,8 @@ pub trait TaggedCborSerializable: AsCborValue {
     /// # Errors
     /// `DuplicateMapKey` exactly where a label would be written twice in one map, or `Memory`.
     fn to_tagged_vec(self, alloc: Global) -> Result<Vec<u8>, CoseError>
-        ensures { MatchResult result (λ b. option_map (λ t. enc (tag TAG t)) (Self.written (Self.fields self)) ≡ Some b.items) (λ e. CantWrite (Self.written (Self.fields self)) e) }
+        ensures { MatchResult result (λ b. option_map (λ t. enc (tag TAG t)) (Self.written (Self.fields self)) ≡ Some b.items)
+            (λ e. CantWrite (Self.written (Self.fields self)) e) }
     {
         let content = self.to_cbor_value(alloc)?;
         let value = Value::Tag(Self::TAG, Box::new(alloc, content)?);
@@ -138,7 +142,8 @@ pub trait TaggedCborSerializable: AsCborValue {
 /// # Errors
 /// `DuplicateMapKey` exactly where a label would be written twice in one map of an item, or `Memory`.
 pub fn to_cbor_array<T: AsCborValue>(alloc: Global, items: Vec<T>) -> Result<Value, CoseError>
-    ensures { MatchResult result (λ v. array_of T.written (map T.fields items.items) ≡ Some (view v)) (λ e. CantWrite (array_of T.written (map T.fields items.items)) e) }
+    ensures { MatchResult result (λ v. array_of T.written (map T.fields items.items) ≡ Some (view v))
+        (λ e. CantWrite (array_of T.written (map T.fields items.items)) e) }
 {
     let mut values = Vec::new(alloc);
     'items: for item in items {

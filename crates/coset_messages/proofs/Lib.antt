@@ -1,2 +1,3 @@
 pub mod Four
 pub mod Unique
+pub mod Writable

@@ -1,10 +1,13 @@
 //! Parts that messages share.
-ghost use Rattle.std.specs.Prelude.{◌≡◌, ◌≢◌, [], ◌∷◌, IfOk, MatchOption, option_map};
+ghost use Rattle.std.specs.Prelude.{◌≡◌, ◌≢◌, [], ◌∷◌, IfOk, MatchOption, MatchResult, option_map};
+ghost use Rattle.ciborium_value.specs.Tree as spec;
 ghost use Rattle.ciborium_value.specs.Tree.{tree_count};
 ghost use Rattle.ciborium_value.specs.View.{view, views, trees};
+ghost use Rattle.coset_labels.specs.declared.error.CoseError.TheVariants.{Memory};
 ghost use Rattle.coset_messages.specs.Messages.{optional_tree};
 
 use ciborium_value::Value;
+use coset_base::CoseError;
 use std::alloc::{AllocError, Global};
 
 /// The four items of a list of four. Nothing is copied.
@@ -24,6 +27,25 @@ pub(crate) fn four(items: Vec<Value>) -> Option<(Value, Value, Value, Value)>
         (Some(a), Some(b), Some(c), Some(d)) => Some((a, b, c, d)),
         _ => None,
     }
+}
+
+/// The array of four items.
+pub(crate) fn four_items(
+    alloc: Global,
+    first: Value,
+    second: Value,
+    third: Value,
+    fourth: Vec<u8>,
+) -> Result<Value, CoseError>
+    ensures { MatchResult result (λ v. view v ≡ spec.array (trees (view first ∷ view second ∷ view third ∷ spec.bytes fourth.items ∷ [])))
+        (λ e. e ≡ Memory) }
+{
+    let mut items = Vec::new(alloc);
+    items.push(first)?;
+    items.push(second)?;
+    items.push(third)?;
+    items.push(Value::Bytes(fourth))?;
+    Ok(Value::Array(items))
 }
 
 /// The value of bytes, or null where there are none.

@@ -1,14 +1,12 @@
 //! Signed messages.
-ghost use Rattle.std.specs.Prelude.{◌≡◌, None, IfOk, IfErr, codes, option_map};
-ghost use Rattle.coset_base.specs.Structure.{structure};
-ghost use Rattle.coset_base.specs.View.{protected_view};
-ghost use Rattle.coset_base.specs.declared.error.CoseError.TheVariants.{Memory};
-ghost use Rattle.coset_messages.specs.Messages.{Sign1Fields, sign1_tree, payload_bytes};
+ghost use Rattle.std.specs.Prelude.{◌≡◌, Some, IfOk, MatchResult};
+ghost use Rattle.coset_base.specs.Faults.{CantWrite};
+ghost use Rattle.coset_messages.specs.Messages.{Sign1Fields, sign1_tree, sign1_covered};
 ghost use Rattle.coset_messages.specs.Shapes.{HasSign1};
 ghost use Rattle.coset_messages.specs.View.{sign1_view};
 ghost use Rattle.coset_messages.specs.WrongShapes.{WrongSign1};
 
-use crate::parts::{clone_bytes, four, optional_value};
+use crate::parts::{clone_bytes, four, four_items, optional_value};
 use ciborium_value::Value;
 use coset_base::{
     AsCborValue, CoseError, Header, ProtectedHeader, SignatureContext, ValueTryAs,
@@ -52,11 +50,10 @@ impl CoseSign1 {
     /// The bytes that the signature covers (RFC 9052, section 4.4). A payload that is carried elsewhere counts as empty.
     ///
     /// # Errors
-    /// Only where memory is refused.
+    /// `DuplicateMapKey` exactly where a label stands twice in a protected header that has to be encoded, or `Memory`.
     pub fn tbs_data(&self, alloc: Global, aad: &[u8]) -> Result<Vec<u8>, CoseError>
-        ensures ok { IfOk result (λ v. v.items ≡ structure (codes "Signature1") (protected_view self.now.protected) None aad.now
-            (payload_bytes (option_map (λ p. p.items) self.now.payload))) }
-        ensures err { IfErr result (λ e. e ≡ Memory) }
+        ensures { MatchResult result (λ v. sign1_covered (sign1_view self.now) aad.now ≡ Some v.items)
+            (λ e. CantWrite (sign1_covered (sign1_view self.now) aad.now) e) }
     {
         let payload = match &self.payload {
             Some(payload) => payload.as_slice(),
@@ -79,9 +76,9 @@ impl AsCborValue for CoseSign1 {
 
     ghost fields = { sign1_view };
 
-    ghost shape = { HasSign1 };
+    ghost shape = { λ t m. HasSign1 256 t m 16 };
 
-    ghost wrong = { WrongSign1 };
+    ghost wrong = { λ t e. WrongSign1 256 t 16 e };
 
     ghost written = { sign1_tree };
 
@@ -90,7 +87,7 @@ impl AsCborValue for CoseSign1 {
         match four(items) {
             Some((protected, unprotected, payload, signature)) => {
                 let signature = signature.try_as_bytes()?;
-                let payload = payload.try_as_bytes_or_nil()?;
+                let payload = payload.try_as_bytes_or_nil("bstr or nil")?;
                 let unprotected = Header::from_cbor_value(alloc, unprotected)?;
                 let protected = ProtectedHeader::from_cbor_bstr(alloc, protected)?;
                 Ok(CoseSign1 {
@@ -111,11 +108,14 @@ impl AsCborValue for CoseSign1 {
             payload,
             signature,
         } = self;
-        let mut items = Vec::new(alloc);
-        items.push(protected.cbor_bstr(alloc)?)?;
-        items.push(unprotected.to_cbor_value(alloc)?)?;
-        items.push(optional_value(payload))?;
-        items.push(Value::Bytes(signature))?;
-        Ok(Value::Array(items))
+        let protected = protected.cbor_bstr(alloc)?;
+        let unprotected = unprotected.to_cbor_value(alloc)?;
+        four_items(
+            alloc,
+            protected,
+            unprotected,
+            optional_value(payload),
+            signature,
+        )
     }
 }

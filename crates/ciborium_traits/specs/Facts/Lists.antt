@@ -8,7 +8,7 @@ use Rattle.ciborium_value.specs.Kinds.{is_null}
 use Rattle.ciborium_value.specs.Tree as spec
 use Rattle.ciborium_value.specs.Tree.{Tree, Trees, one_more, Pairs, pair_more}
 use Rattle.ciborium_value.specs.View.{trees}
-use Rattle.ciborium_traits.specs.Back.{IsTakenBack}
+use Rattle.ciborium_traits.specs.Back.{TakenBackBy}
 use Rattle.ciborium_traits.specs.Lists.{first_refusal, first_in_turn, EachTaken, OptionalTaken, optional_refusal, optional_tree}
 
 pub none_first : (p q : Option Kind) → p ≡ None → option_or p q ≡ q
@@ -38,7 +38,7 @@ all_others P x xs h = λ k d l. h (suc k) d (omega (arith, l))
 
 module _ {T : Type 0} (put : T → Tree) (refusal : Tree → Option Kind) (takes : Tree → T → Type 0) where
   abbrev Back : T → Type 0
-  Back x = IsTakenBack put refusal takes x
+  Back x = TakenBackBy put refusal takes x
 
   pub option_back : (x : T) → Back x → is_null (put x) ≡ false → (fold (put x) ≡ Some (put x)) × (optional_refusal refusal (put x) ≡ None) × ((is_null (put x) ≡ false) × takes (put x) x)
   option_back x h e = (h.0, ap (λ z. cond z None (refusal (put x))) e ∙ h.1, (e, h.2))
@@ -56,8 +56,8 @@ module _ {T : Type 0} (put : T → Tree) (refusal : Tree → Option Kind) (takes
       × ((ts : Trees) × (spec.array (trees (map put xs)) ≡ spec.array ts) × EachTaken takes ts xs)
   list_back xs h = let r = items_back xs h in (ap (option_map spec.array) r.0, r.1, (trees (map put xs), refl, r.2))
 
-module _ {T : Type 0} (put : T → Tree) (refusal : Tree → Option Kind) (takes : Tree → T → Type 0) (kept : T → Type 0) (back : (x : T) → kept x → IsTakenBack put refusal takes x) where
-  pub option_kept : (o : Option T) → MatchOption o ⊤ (λ x. kept x × (is_null (put x) ≡ false)) → IsTakenBack (optional_tree put) (optional_refusal refusal) (OptionalTaken takes) o
+module _ {T : Type 0} (put : T → Tree) (refusal : Tree → Option Kind) (takes : Tree → T → Type 0) (kept : T → Type 0) (back : (x : T) → kept x → TakenBackBy put refusal takes x) where
+  pub option_kept : (o : Option T) → MatchOption o ⊤ (λ x. kept x × (is_null (put x) ≡ false)) → TakenBackBy (optional_tree put) (optional_refusal refusal) (OptionalTaken takes) o
   option_kept None h = (refl, refl, refl)
   option_kept (Some x) h = option_back put refusal takes x (back x h.0) h.1
 

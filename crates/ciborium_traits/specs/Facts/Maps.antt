@@ -14,7 +14,7 @@ use Rattle.ciborium_value.specs.Folding.{fold}
 use Rattle.ciborium_value.specs.Tree as spec
 use Rattle.ciborium_value.specs.Tree.{Tree, Pairs, no_pairs, pair_more}
 use Rattle.ciborium_value.specs.View.{pairs}
-use Rattle.ciborium_traits.specs.Back.{IsTakenBack, TakesOne}
+use Rattle.ciborium_traits.specs.Back.{TakenBackBy, TakesOne}
 use Rattle.ciborium_traits.specs.Lists.{first_refusal_of_pairs, EachPairTaken, inserted}
 use Rattle.ciborium_traits.specs.Facts.Lists.{none_first, folds_pairs, entry_folded, all_first, all_others}
 
@@ -41,7 +41,7 @@ module _ {K V : Type 0} (cmp : K → K → Ordering) (total : IsTotalOrder cmp) 
 
   module _ (put_key : K → Tree) (of_key : Tree → Option Kind) (takes_key : Tree → K → Type 0) (put_value : V → Tree) (of_value : Tree → Option Kind) (takes_value : Tree → V → Type 0) where
     abbrev BackEntry : K × V → Type 0
-    BackEntry e = IsTakenBack put_key of_key takes_key e.0 × IsTakenBack put_value of_value takes_value e.1
+    BackEntry e = TakenBackBy put_key of_key takes_key e.0 × TakenBackBy put_value of_value takes_value e.1
 
     abbrev written : List (K × V) → Pairs
     written es = pairs (map (λ e. (put_key e.0, put_value e.1)) es)
@@ -68,7 +68,7 @@ module _ {K V : Type 0} (cmp : K → K → Ordering) (total : IsTotalOrder cmp) 
         (ap (option_map spec.map) r.0, r.1, (written es, es, refl, r.2, sym (insert_rest [] es sorted)))
 
   module _ (put_key : K → Tree) (of_key : Tree → Option Kind) (takes_key : Tree → K → Type 0) (put_value : V → Tree) (of_value : Tree → Option Kind) (takes_value : Tree → V → Type 0)
-      (kept_key : K → Type 0) (kept_value : V → Type 0) (back_key : (x : K) → kept_key x → IsTakenBack put_key of_key takes_key x) (back_value : (x : V) → kept_value x → IsTakenBack put_value of_value takes_value x) where
+      (kept_key : K → Type 0) (kept_value : V → Type 0) (back_key : (x : K) → kept_key x → TakenBackBy put_key of_key takes_key x) (back_value : (x : V) → kept_value x → TakenBackBy put_value of_value takes_value x) where
     pub map_kept : (es : List (K × V)) → IsStrictlySortedBy cmp (keys_of es) → All (λ e. kept_key e.0 × kept_value e.1) es
         → (fold (spec.map (written put_key of_key takes_key put_value of_value takes_value es)) ≡ Some (spec.map (written put_key of_key takes_key put_value of_value takes_value es))) × (first_refusal_of_pairs of_key of_value (written put_key of_key takes_key put_value of_value takes_value es) ≡ None)
         × ((ps : Pairs) × (fs : List (K × V)) × (spec.map (written put_key of_key takes_key put_value of_value takes_value es) ≡ spec.map ps) × EachPairTaken takes_key takes_value ps fs × (es ≡ inserted cmp fs))

@@ -11,11 +11,11 @@ use Rattle.std.proofs.lemmas.Str.{IsUtf8-encode, chars_past_char, chars-nil, is_
 use Rattle.ciborium_value.specs.Kinds.{is_bool}
 use Rattle.ciborium_value.specs.Tree.{text, bytes}
 use Rattle.ciborium_value.specs.View.{bool_tree}
-use Rattle.ciborium_traits.specs.Back.{IsTakenBack}
+use Rattle.ciborium_traits.specs.Back.{TakenBackBy}
 use Rattle.ciborium_traits.specs.Reading.{bare, unless}
 use Rattle.ciborium_traits.specs.Texts.{is_character}
 
-pub bool_kept : (x : Bool) → ⊤ → IsTakenBack bool_tree (λ t. unless (is_bool (bare t))) (λ t x. bare t ≡ bool_tree x) x
+pub bool_kept : (x : Bool) → ⊤ → TakenBackBy bool_tree (λ t. unless (is_bool (bare t))) (λ t x. bare t ≡ bool_tree x) x
 bool_kept true h = (refl, refl, refl)
 bool_kept false h = (refl, refl, refl)
 
@@ -25,7 +25,7 @@ one_character b c u e =
     let a : is_utf8 b ≡ true = is_utf8-from_IsUtf8 b u in
     ap (λ v. v && nat_eq (length (chars b)) 1) a ∙ ap (λ l. nat_eq (length l) 1) k
 
-pub character_kept : (c : ℕ) → IsScalar c → IsTakenBack (λ c. text (encode_utf8 c)) (λ t. unless (is_character (bare t))) (λ t c. bare t ≡ text (encode_utf8 c)) c
+pub character_kept : (c : ℕ) → IsScalar c → TakenBackBy (λ c. text (encode_utf8 c)) (λ t. unless (is_character (bare t))) (λ t c. bare t ≡ text (encode_utf8 c)) c
 character_kept c s = (refl, ap unless (one_character (encode_utf8 c) c (IsUtf8-encode c s) refl), refl)
 
 pub tied_text : (x y : List ℕ) → text x ≡ text y → slice_cmp nat_cmp x y ≡ Equal

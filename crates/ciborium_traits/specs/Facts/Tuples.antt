@@ -8,7 +8,7 @@ use Rattle.ciborium_value.specs.Folding.{fold}
 use Rattle.ciborium_value.specs.Tree as spec
 use Rattle.ciborium_value.specs.Tree.{Tree, Trees, no_trees, one_more, tree_count}
 use Rattle.ciborium_value.specs.View.{trees}
-use Rattle.ciborium_traits.specs.Back.{IsTakenBack, TakesOne}
+use Rattle.ciborium_traits.specs.Back.{TakenBackBy, TakesOne}
 use Rattle.ciborium_traits.specs.Lists.{first_in_turn, tuple_refusal}
 use Rattle.ciborium_traits.specs.Facts.Lists.{none_first, folds, item_folded}
 
@@ -38,7 +38,7 @@ part_once : {A : Type 0} (put : A → Tree) (takes : Tree → A → Type 0) (one
 part_once put takes one s t x y e a b = one t x y (subst (λ (z : Tree). takes z x) e a) b
 
 module _ {A : Type 0} (put_a : A → Tree) (refusal_a : Tree → Option Kind) (takes_a : Tree → A → Type 0) where
-  pub one_back : (x_a : A) → IsTakenBack put_a refusal_a takes_a x_a
+  pub one_back : (x_a : A) → TakenBackBy put_a refusal_a takes_a x_a
       → (fold (spec.array (trees (put_a x_a ∷ []))) ≡ Some (spec.array (trees (put_a x_a ∷ [])))) × (tuple_refusal (refusal_a ∷ []) (trees (put_a x_a ∷ [])) ≡ None) × ((a : Tree) × (spec.array (trees (put_a x_a ∷ [])) ≡ spec.array (trees (a ∷ []))) × takes_a a x_a)
   one_back x_a h_a =
       let p = whole (refusal_a ∷ []) (trees (put_a x_a ∷ [])) (part_more refusal_a [] (put_a x_a) no_trees h_a.0 h_a.1 no_parts) in
@@ -53,7 +53,7 @@ module _ {A : Type 0} (put_a : A → Tree) (takes_a : Tree → A → Type 0) (on
       ap (λ (z : Tree). spec.array (trees (z ∷ []))) (part_once put_a takes_a one_a h.0 i.0 x_a y_a e_a h.2 i.2)
 
 module _ {A : Type 0} {B : Type 0} (put_a : A → Tree) (refusal_a : Tree → Option Kind) (takes_a : Tree → A → Type 0) (put_b : B → Tree) (refusal_b : Tree → Option Kind) (takes_b : Tree → B → Type 0) where
-  pub two_back : (x_a : A) (x_b : B) → IsTakenBack put_a refusal_a takes_a x_a → IsTakenBack put_b refusal_b takes_b x_b
+  pub two_back : (x_a : A) (x_b : B) → TakenBackBy put_a refusal_a takes_a x_a → TakenBackBy put_b refusal_b takes_b x_b
       → (fold (spec.array (trees (put_a x_a ∷ put_b x_b ∷ []))) ≡ Some (spec.array (trees (put_a x_a ∷ put_b x_b ∷ [])))) × (tuple_refusal (refusal_a ∷ refusal_b ∷ []) (trees (put_a x_a ∷ put_b x_b ∷ [])) ≡ None) × ((a b : Tree) × (spec.array (trees (put_a x_a ∷ put_b x_b ∷ [])) ≡ spec.array (trees (a ∷ b ∷ []))) × takes_a a x_a × takes_b b x_b)
   two_back x_a x_b h_a h_b =
       let p = whole (refusal_a ∷ refusal_b ∷ []) (trees (put_a x_a ∷ put_b x_b ∷ [])) (part_more refusal_a (refusal_b ∷ []) (put_a x_a) (trees (put_b x_b ∷ [])) h_a.0 h_a.1 (part_more refusal_b [] (put_b x_b) no_trees h_b.0 h_b.1 no_parts)) in
@@ -70,7 +70,7 @@ module _ {A : Type 0} {B : Type 0} (put_a : A → Tree) (takes_a : Tree → A �
       ∙ ap (λ (z : Tree). spec.array (trees (put_a y_a ∷ z ∷ []))) (part_once put_b takes_b one_b h.1 i.1 x_b y_b e_b h.4 i.4)
 
 module _ {A : Type 0} {B : Type 0} {C : Type 0} (put_a : A → Tree) (refusal_a : Tree → Option Kind) (takes_a : Tree → A → Type 0) (put_b : B → Tree) (refusal_b : Tree → Option Kind) (takes_b : Tree → B → Type 0) (put_c : C → Tree) (refusal_c : Tree → Option Kind) (takes_c : Tree → C → Type 0) where
-  pub three_back : (x_a : A) (x_b : B) (x_c : C) → IsTakenBack put_a refusal_a takes_a x_a → IsTakenBack put_b refusal_b takes_b x_b → IsTakenBack put_c refusal_c takes_c x_c
+  pub three_back : (x_a : A) (x_b : B) (x_c : C) → TakenBackBy put_a refusal_a takes_a x_a → TakenBackBy put_b refusal_b takes_b x_b → TakenBackBy put_c refusal_c takes_c x_c
       → (fold (spec.array (trees (put_a x_a ∷ put_b x_b ∷ put_c x_c ∷ []))) ≡ Some (spec.array (trees (put_a x_a ∷ put_b x_b ∷ put_c x_c ∷ [])))) × (tuple_refusal (refusal_a ∷ refusal_b ∷ refusal_c ∷ []) (trees (put_a x_a ∷ put_b x_b ∷ put_c x_c ∷ [])) ≡ None) × ((a b c : Tree) × (spec.array (trees (put_a x_a ∷ put_b x_b ∷ put_c x_c ∷ [])) ≡ spec.array (trees (a ∷ b ∷ c ∷ []))) × takes_a a x_a × takes_b b x_b × takes_c c x_c)
   three_back x_a x_b x_c h_a h_b h_c =
       let p = whole (refusal_a ∷ refusal_b ∷ refusal_c ∷ []) (trees (put_a x_a ∷ put_b x_b ∷ put_c x_c ∷ [])) (part_more refusal_a (refusal_b ∷ refusal_c ∷ []) (put_a x_a) (trees (put_b x_b ∷ put_c x_c ∷ [])) h_a.0 h_a.1 (part_more refusal_b (refusal_c ∷ []) (put_b x_b) (trees (put_c x_c ∷ [])) h_b.0 h_b.1 (part_more refusal_c [] (put_c x_c) no_trees h_c.0 h_c.1 no_parts))) in
@@ -89,7 +89,7 @@ module _ {A : Type 0} {B : Type 0} {C : Type 0} (put_a : A → Tree) (takes_a : 
       ∙ ap (λ (z : Tree). spec.array (trees (put_a y_a ∷ put_b y_b ∷ z ∷ []))) (part_once put_c takes_c one_c h.2 i.2 x_c y_c e_c h.6 i.6)
 
 module _ {A : Type 0} {B : Type 0} {C : Type 0} {D : Type 0} (put_a : A → Tree) (refusal_a : Tree → Option Kind) (takes_a : Tree → A → Type 0) (put_b : B → Tree) (refusal_b : Tree → Option Kind) (takes_b : Tree → B → Type 0) (put_c : C → Tree) (refusal_c : Tree → Option Kind) (takes_c : Tree → C → Type 0) (put_d : D → Tree) (refusal_d : Tree → Option Kind) (takes_d : Tree → D → Type 0) where
-  pub four_back : (x_a : A) (x_b : B) (x_c : C) (x_d : D) → IsTakenBack put_a refusal_a takes_a x_a → IsTakenBack put_b refusal_b takes_b x_b → IsTakenBack put_c refusal_c takes_c x_c → IsTakenBack put_d refusal_d takes_d x_d
+  pub four_back : (x_a : A) (x_b : B) (x_c : C) (x_d : D) → TakenBackBy put_a refusal_a takes_a x_a → TakenBackBy put_b refusal_b takes_b x_b → TakenBackBy put_c refusal_c takes_c x_c → TakenBackBy put_d refusal_d takes_d x_d
       → (fold (spec.array (trees (put_a x_a ∷ put_b x_b ∷ put_c x_c ∷ put_d x_d ∷ []))) ≡ Some (spec.array (trees (put_a x_a ∷ put_b x_b ∷ put_c x_c ∷ put_d x_d ∷ [])))) × (tuple_refusal (refusal_a ∷ refusal_b ∷ refusal_c ∷ refusal_d ∷ []) (trees (put_a x_a ∷ put_b x_b ∷ put_c x_c ∷ put_d x_d ∷ [])) ≡ None) × ((a b c d : Tree) × (spec.array (trees (put_a x_a ∷ put_b x_b ∷ put_c x_c ∷ put_d x_d ∷ [])) ≡ spec.array (trees (a ∷ b ∷ c ∷ d ∷ []))) × takes_a a x_a × takes_b b x_b × takes_c c x_c × takes_d d x_d)
   four_back x_a x_b x_c x_d h_a h_b h_c h_d =
       let p = whole (refusal_a ∷ refusal_b ∷ refusal_c ∷ refusal_d ∷ []) (trees (put_a x_a ∷ put_b x_b ∷ put_c x_c ∷ put_d x_d ∷ [])) (part_more refusal_a (refusal_b ∷ refusal_c ∷ refusal_d ∷ []) (put_a x_a) (trees (put_b x_b ∷ put_c x_c ∷ put_d x_d ∷ [])) h_a.0 h_a.1 (part_more refusal_b (refusal_c ∷ refusal_d ∷ []) (put_b x_b) (trees (put_c x_c ∷ put_d x_d ∷ [])) h_b.0 h_b.1 (part_more refusal_c (refusal_d ∷ []) (put_c x_c) (trees (put_d x_d ∷ [])) h_c.0 h_c.1 (part_more refusal_d [] (put_d x_d) no_trees h_d.0 h_d.1 no_parts)))) in

@@ -9,7 +9,7 @@ use Rattle.ciborium_value.specs.Folding.{fold, tagged, fold_bytes}
 use Rattle.ciborium_value.specs.Kinds.{is_tag}
 use Rattle.ciborium_value.specs.Tree as spec
 use Rattle.ciborium_value.specs.Tree.{Tree, opens_none}
-use Rattle.ciborium_traits.specs.Back.{IsTakenBack, TakesOne}
+use Rattle.ciborium_traits.specs.Back.{TakenBackBy, TakesOne}
 use Rattle.ciborium_typed.specs.Tags.{tagged_tree, outer_tag, inside, required_refusal, accepted_refusal, AcceptedTaken}
 
 -- a tag that opens a level is folded as it stands
@@ -55,7 +55,7 @@ same_tag n = grind (arith, nat_tests)
 
 module _ {T : Type 0} (put : T → Tree) (refusal : Tree → Option Kind) (takes : Tree → T → Type 0) where
   abbrev Back : T → Type 0
-  Back x = IsTakenBack put refusal takes x
+  Back x = TakenBackBy put refusal takes x
 
   pub captured_back : (o : Option ℕ) (x : T) → Back x → MatchOption o (is_tag (put x) ≡ false) (λ n. opens_none n (put x) ≡ false)
       → (fold (tagged_tree o (put x)) ≡ Some (tagged_tree o (put x))) × (refusal (inside (tagged_tree o (put x))) ≡ None)

@@ -1,5 +1,6 @@
 use Rattle.std.proofs.Common.{◌≡◌, ◌+◌, ◌-◌, ◌≤◌, ◌^◌}
 use Rattle.ciborium_ll.specs.Views.{left_of, offset_of, reader_of}
+use Rattle.cose_gate.specs.Findings.{usual}
 use Rattle.cose_gate.proofs.Reach.{Reached}
 use Rattle.cose_gate.proofs.gating.gate.Given as goal
 
@@ -17,7 +18,7 @@ invariant-items g l =
       lent : w.handle l.out ≡ w.handle l.fn.out;
       room : l.counts.passed + l.counts.refused + offset_of l.fn.decoder ≤ offset_of l.decoder;
       reached : Reached
-          (record { decided = j.decided; folded = p.folded; allows = j.yes (j.who l.fn.judge); aad = l.aad })
+          (record { limits = usual; decided = j.decided; folded = p.folded; allows = j.yes (j.who l.fn.judge); aad = l.aad })
           (record { told = j.told l.fn.judge; state = p.state l.fn.report; written = w.written l.fn.out; offset = offset_of l.fn.decoder; left = left_of r.left l.fn.decoder })
           (record { told = j.told l.judge; state = p.state l.report; written = w.written l.out; offset = offset_of l.decoder; left = left_of r.left l.decoder })
           l.counts.passed l.counts.refused;

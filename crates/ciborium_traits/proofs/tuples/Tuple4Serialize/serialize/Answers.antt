@@ -1,22 +1,40 @@
 use Rattle.std.proofs.Common.{[], ◌∷◌}
-use Rattle.ciborium_value.specs.Tree as spec
 use Rattle.ciborium_value.specs.View.{trees}
-use Rattle.ciborium_traits.specs.Events as event
-use Rattle.ciborium_traits.specs.Events.{events, events_all}
-use Rattle.ciborium_traits.proofs.Remaining.{left_first, left_part, left_stopped, left_none, on_ok, on_err}
+use Rattle.ciborium_traits.proofs.Joined.{of_err}
+use Rattle.ciborium_traits.proofs.Remaining.{left_none, on_ok, on_err}
+use Rattle.ciborium_traits.proofs.Written.{items_begun, one_added, one_stopped}
 use Rattle.ciborium_traits.proofs.tuples.Tuple4Serialize.serialize.Goals as goal
 
-pub returns-in-Err-serialize-clause-err : goal.returns-in-Err-serialize-clause-err
-returns-in-Err-serialize-clause-err g c = left_stopped g.S.Sink.adds g.S.Sink.refuses c.args.sink.now _ _ (events (spec.array (trees (g.A.Serialize.put c.args.self.now.0 ∷ g.B.Serialize.put c.args.self.now.1 ∷ g.C.Serialize.put c.args.self.now.2 ∷ g.D.Serialize.put c.args.self.now.3 ∷ [])))) (events (g.A.Serialize.put c.args.self.now.0)) (events_all (trees (g.B.Serialize.put c.args.self.now.1 ∷ g.C.Serialize.put c.args.self.now.2 ∷ g.D.Serialize.put c.args.self.now.3 ∷ []))) (left_first g.S.Sink.adds g.S.Sink.refuses c.args.sink.now _ (event.array 4) (events_all (trees (g.A.Serialize.put c.args.self.now.0 ∷ g.B.Serialize.put c.args.self.now.1 ∷ g.C.Serialize.put c.args.self.now.2 ∷ g.D.Serialize.put c.args.self.now.3 ∷ []))) c.in-Ok.ensures.ok) c.in-Err-serialize.ensures.err
+pub returns-in_err-serialize-clause-err : goal.returns-in_err-serialize-clause-err
+returns-in_err-serialize-clause-err g c =
+    let l0 = items_begun g.S.Sink.adds g.S.Sink.refuses _ _ (trees (g.A.Serialize.put c.args.self.now.0 ∷ g.B.Serialize.put c.args.self.now.1 ∷ g.C.Serialize.put c.args.self.now.2 ∷ g.D.Serialize.put c.args.self.now.3 ∷ [])) c.in_ok-array.ensures.ok in
+    of_err c.from_residual-in_err-serialize.result (one_stopped g.S.Sink.adds g.S.Sink.refuses _ _ _ (g.A.Serialize.put c.args.self.now.0) (trees (g.B.Serialize.put c.args.self.now.1 ∷ g.C.Serialize.put c.args.self.now.2 ∷ g.D.Serialize.put c.args.self.now.3 ∷ [])) l0 _ c.in_err-serialize.ensures.err)
 
-pub returns-in-Err-serialize-2-clause-err : goal.returns-in-Err-serialize-2-clause-err
-returns-in-Err-serialize-2-clause-err g c = left_stopped g.S.Sink.adds g.S.Sink.refuses c.args.sink.now _ _ (events (spec.array (trees (g.A.Serialize.put c.args.self.now.0 ∷ g.B.Serialize.put c.args.self.now.1 ∷ g.C.Serialize.put c.args.self.now.2 ∷ g.D.Serialize.put c.args.self.now.3 ∷ [])))) (events (g.B.Serialize.put c.args.self.now.1)) (events_all (trees (g.C.Serialize.put c.args.self.now.2 ∷ g.D.Serialize.put c.args.self.now.3 ∷ []))) (left_part g.S.Sink.adds g.S.Sink.refuses c.args.sink.now _ _ (events (spec.array (trees (g.A.Serialize.put c.args.self.now.0 ∷ g.B.Serialize.put c.args.self.now.1 ∷ g.C.Serialize.put c.args.self.now.2 ∷ g.D.Serialize.put c.args.self.now.3 ∷ [])))) (events (g.A.Serialize.put c.args.self.now.0)) (events_all (trees (g.B.Serialize.put c.args.self.now.1 ∷ g.C.Serialize.put c.args.self.now.2 ∷ g.D.Serialize.put c.args.self.now.3 ∷ []))) (left_first g.S.Sink.adds g.S.Sink.refuses c.args.sink.now _ (event.array 4) (events_all (trees (g.A.Serialize.put c.args.self.now.0 ∷ g.B.Serialize.put c.args.self.now.1 ∷ g.C.Serialize.put c.args.self.now.2 ∷ g.D.Serialize.put c.args.self.now.3 ∷ []))) c.in-Ok.ensures.ok) c.in-Ok-serialize.ensures.ok) c.in-Err-serialize-2.ensures.err
+pub returns-in_err-serialize-2-clause-err : goal.returns-in_err-serialize-2-clause-err
+returns-in_err-serialize-2-clause-err g c =
+    let l0 = items_begun g.S.Sink.adds g.S.Sink.refuses _ _ (trees (g.A.Serialize.put c.args.self.now.0 ∷ g.B.Serialize.put c.args.self.now.1 ∷ g.C.Serialize.put c.args.self.now.2 ∷ g.D.Serialize.put c.args.self.now.3 ∷ [])) c.in_ok-array.ensures.ok in
+    let l1 = one_added g.S.Sink.adds g.S.Sink.refuses _ _ _ (g.A.Serialize.put c.args.self.now.0) (trees (g.B.Serialize.put c.args.self.now.1 ∷ g.C.Serialize.put c.args.self.now.2 ∷ g.D.Serialize.put c.args.self.now.3 ∷ [])) l0 _ c.in_ok-serialize.ensures.ok in
+    of_err c.from_residual-in_err-serialize-2.result (one_stopped g.S.Sink.adds g.S.Sink.refuses _ _ _ (g.B.Serialize.put c.args.self.now.1) (trees (g.C.Serialize.put c.args.self.now.2 ∷ g.D.Serialize.put c.args.self.now.3 ∷ [])) l1 _ c.in_err-serialize-2.ensures.err)
 
-pub returns-in-Err-serialize-3-clause-err : goal.returns-in-Err-serialize-3-clause-err
-returns-in-Err-serialize-3-clause-err g c = left_stopped g.S.Sink.adds g.S.Sink.refuses c.args.sink.now _ _ (events (spec.array (trees (g.A.Serialize.put c.args.self.now.0 ∷ g.B.Serialize.put c.args.self.now.1 ∷ g.C.Serialize.put c.args.self.now.2 ∷ g.D.Serialize.put c.args.self.now.3 ∷ [])))) (events (g.C.Serialize.put c.args.self.now.2)) (events_all (trees (g.D.Serialize.put c.args.self.now.3 ∷ []))) (left_part g.S.Sink.adds g.S.Sink.refuses c.args.sink.now _ _ (events (spec.array (trees (g.A.Serialize.put c.args.self.now.0 ∷ g.B.Serialize.put c.args.self.now.1 ∷ g.C.Serialize.put c.args.self.now.2 ∷ g.D.Serialize.put c.args.self.now.3 ∷ [])))) (events (g.B.Serialize.put c.args.self.now.1)) (events_all (trees (g.C.Serialize.put c.args.self.now.2 ∷ g.D.Serialize.put c.args.self.now.3 ∷ []))) (left_part g.S.Sink.adds g.S.Sink.refuses c.args.sink.now _ _ (events (spec.array (trees (g.A.Serialize.put c.args.self.now.0 ∷ g.B.Serialize.put c.args.self.now.1 ∷ g.C.Serialize.put c.args.self.now.2 ∷ g.D.Serialize.put c.args.self.now.3 ∷ [])))) (events (g.A.Serialize.put c.args.self.now.0)) (events_all (trees (g.B.Serialize.put c.args.self.now.1 ∷ g.C.Serialize.put c.args.self.now.2 ∷ g.D.Serialize.put c.args.self.now.3 ∷ []))) (left_first g.S.Sink.adds g.S.Sink.refuses c.args.sink.now _ (event.array 4) (events_all (trees (g.A.Serialize.put c.args.self.now.0 ∷ g.B.Serialize.put c.args.self.now.1 ∷ g.C.Serialize.put c.args.self.now.2 ∷ g.D.Serialize.put c.args.self.now.3 ∷ []))) c.in-Ok.ensures.ok) c.in-Ok-serialize.ensures.ok) c.in-Ok-serialize-2.ensures.ok) c.in-Err-serialize-3.ensures.err
+pub returns-in_err-serialize-3-clause-err : goal.returns-in_err-serialize-3-clause-err
+returns-in_err-serialize-3-clause-err g c =
+    let l0 = items_begun g.S.Sink.adds g.S.Sink.refuses _ _ (trees (g.A.Serialize.put c.args.self.now.0 ∷ g.B.Serialize.put c.args.self.now.1 ∷ g.C.Serialize.put c.args.self.now.2 ∷ g.D.Serialize.put c.args.self.now.3 ∷ [])) c.in_ok-array.ensures.ok in
+    let l1 = one_added g.S.Sink.adds g.S.Sink.refuses _ _ _ (g.A.Serialize.put c.args.self.now.0) (trees (g.B.Serialize.put c.args.self.now.1 ∷ g.C.Serialize.put c.args.self.now.2 ∷ g.D.Serialize.put c.args.self.now.3 ∷ [])) l0 _ c.in_ok-serialize.ensures.ok in
+    let l2 = one_added g.S.Sink.adds g.S.Sink.refuses _ _ _ (g.B.Serialize.put c.args.self.now.1) (trees (g.C.Serialize.put c.args.self.now.2 ∷ g.D.Serialize.put c.args.self.now.3 ∷ [])) l1 _ c.in_ok-serialize-2.ensures.ok in
+    of_err c.from_residual-in_err-serialize-3.result (one_stopped g.S.Sink.adds g.S.Sink.refuses _ _ _ (g.C.Serialize.put c.args.self.now.2) (trees (g.D.Serialize.put c.args.self.now.3 ∷ [])) l2 _ c.in_err-serialize-3.ensures.err)
 
 pub returns-clause-ok : goal.returns-clause-ok
-returns-clause-ok g c = on_ok c.serialize-4.result (λ a. left_none g.S.Sink.adds g.S.Sink.refuses c.args.sink.now _ (events (spec.array (trees (g.A.Serialize.put c.args.self.now.0 ∷ g.B.Serialize.put c.args.self.now.1 ∷ g.C.Serialize.put c.args.self.now.2 ∷ g.D.Serialize.put c.args.self.now.3 ∷ [])))) (left_part g.S.Sink.adds g.S.Sink.refuses c.args.sink.now _ _ (events (spec.array (trees (g.A.Serialize.put c.args.self.now.0 ∷ g.B.Serialize.put c.args.self.now.1 ∷ g.C.Serialize.put c.args.self.now.2 ∷ g.D.Serialize.put c.args.self.now.3 ∷ [])))) (events (g.D.Serialize.put c.args.self.now.3)) (events_all (trees [])) (left_part g.S.Sink.adds g.S.Sink.refuses c.args.sink.now _ _ (events (spec.array (trees (g.A.Serialize.put c.args.self.now.0 ∷ g.B.Serialize.put c.args.self.now.1 ∷ g.C.Serialize.put c.args.self.now.2 ∷ g.D.Serialize.put c.args.self.now.3 ∷ [])))) (events (g.C.Serialize.put c.args.self.now.2)) (events_all (trees (g.D.Serialize.put c.args.self.now.3 ∷ []))) (left_part g.S.Sink.adds g.S.Sink.refuses c.args.sink.now _ _ (events (spec.array (trees (g.A.Serialize.put c.args.self.now.0 ∷ g.B.Serialize.put c.args.self.now.1 ∷ g.C.Serialize.put c.args.self.now.2 ∷ g.D.Serialize.put c.args.self.now.3 ∷ [])))) (events (g.B.Serialize.put c.args.self.now.1)) (events_all (trees (g.C.Serialize.put c.args.self.now.2 ∷ g.D.Serialize.put c.args.self.now.3 ∷ []))) (left_part g.S.Sink.adds g.S.Sink.refuses c.args.sink.now _ _ (events (spec.array (trees (g.A.Serialize.put c.args.self.now.0 ∷ g.B.Serialize.put c.args.self.now.1 ∷ g.C.Serialize.put c.args.self.now.2 ∷ g.D.Serialize.put c.args.self.now.3 ∷ [])))) (events (g.A.Serialize.put c.args.self.now.0)) (events_all (trees (g.B.Serialize.put c.args.self.now.1 ∷ g.C.Serialize.put c.args.self.now.2 ∷ g.D.Serialize.put c.args.self.now.3 ∷ []))) (left_first g.S.Sink.adds g.S.Sink.refuses c.args.sink.now _ (event.array 4) (events_all (trees (g.A.Serialize.put c.args.self.now.0 ∷ g.B.Serialize.put c.args.self.now.1 ∷ g.C.Serialize.put c.args.self.now.2 ∷ g.D.Serialize.put c.args.self.now.3 ∷ []))) c.in-Ok.ensures.ok) c.in-Ok-serialize.ensures.ok) c.in-Ok-serialize-2.ensures.ok) c.in-Ok-serialize-3.ensures.ok) a)) c.serialize-4.ensures.ok
+returns-clause-ok g c =
+    let l0 = items_begun g.S.Sink.adds g.S.Sink.refuses _ _ (trees (g.A.Serialize.put c.args.self.now.0 ∷ g.B.Serialize.put c.args.self.now.1 ∷ g.C.Serialize.put c.args.self.now.2 ∷ g.D.Serialize.put c.args.self.now.3 ∷ [])) c.in_ok-array.ensures.ok in
+    let l1 = one_added g.S.Sink.adds g.S.Sink.refuses _ _ _ (g.A.Serialize.put c.args.self.now.0) (trees (g.B.Serialize.put c.args.self.now.1 ∷ g.C.Serialize.put c.args.self.now.2 ∷ g.D.Serialize.put c.args.self.now.3 ∷ [])) l0 _ c.in_ok-serialize.ensures.ok in
+    let l2 = one_added g.S.Sink.adds g.S.Sink.refuses _ _ _ (g.B.Serialize.put c.args.self.now.1) (trees (g.C.Serialize.put c.args.self.now.2 ∷ g.D.Serialize.put c.args.self.now.3 ∷ [])) l1 _ c.in_ok-serialize-2.ensures.ok in
+    let l3 = one_added g.S.Sink.adds g.S.Sink.refuses _ _ _ (g.C.Serialize.put c.args.self.now.2) (trees (g.D.Serialize.put c.args.self.now.3 ∷ [])) l2 _ c.in_ok-serialize-3.ensures.ok in
+    on_ok c.serialize-4.result (λ a. left_none g.S.Sink.adds g.S.Sink.refuses _ _ _ (one_added g.S.Sink.adds g.S.Sink.refuses _ _ _ (g.D.Serialize.put c.args.self.now.3) (trees ([])) l3 _ a)) c.serialize-4.ensures.ok
 
 pub returns-clause-err : goal.returns-clause-err
-returns-clause-err g c = on_err c.serialize-4.result (λ a. left_stopped g.S.Sink.adds g.S.Sink.refuses c.args.sink.now _ _ (events (spec.array (trees (g.A.Serialize.put c.args.self.now.0 ∷ g.B.Serialize.put c.args.self.now.1 ∷ g.C.Serialize.put c.args.self.now.2 ∷ g.D.Serialize.put c.args.self.now.3 ∷ [])))) (events (g.D.Serialize.put c.args.self.now.3)) (events_all (trees [])) (left_part g.S.Sink.adds g.S.Sink.refuses c.args.sink.now _ _ (events (spec.array (trees (g.A.Serialize.put c.args.self.now.0 ∷ g.B.Serialize.put c.args.self.now.1 ∷ g.C.Serialize.put c.args.self.now.2 ∷ g.D.Serialize.put c.args.self.now.3 ∷ [])))) (events (g.C.Serialize.put c.args.self.now.2)) (events_all (trees (g.D.Serialize.put c.args.self.now.3 ∷ []))) (left_part g.S.Sink.adds g.S.Sink.refuses c.args.sink.now _ _ (events (spec.array (trees (g.A.Serialize.put c.args.self.now.0 ∷ g.B.Serialize.put c.args.self.now.1 ∷ g.C.Serialize.put c.args.self.now.2 ∷ g.D.Serialize.put c.args.self.now.3 ∷ [])))) (events (g.B.Serialize.put c.args.self.now.1)) (events_all (trees (g.C.Serialize.put c.args.self.now.2 ∷ g.D.Serialize.put c.args.self.now.3 ∷ []))) (left_part g.S.Sink.adds g.S.Sink.refuses c.args.sink.now _ _ (events (spec.array (trees (g.A.Serialize.put c.args.self.now.0 ∷ g.B.Serialize.put c.args.self.now.1 ∷ g.C.Serialize.put c.args.self.now.2 ∷ g.D.Serialize.put c.args.self.now.3 ∷ [])))) (events (g.A.Serialize.put c.args.self.now.0)) (events_all (trees (g.B.Serialize.put c.args.self.now.1 ∷ g.C.Serialize.put c.args.self.now.2 ∷ g.D.Serialize.put c.args.self.now.3 ∷ []))) (left_first g.S.Sink.adds g.S.Sink.refuses c.args.sink.now _ (event.array 4) (events_all (trees (g.A.Serialize.put c.args.self.now.0 ∷ g.B.Serialize.put c.args.self.now.1 ∷ g.C.Serialize.put c.args.self.now.2 ∷ g.D.Serialize.put c.args.self.now.3 ∷ []))) c.in-Ok.ensures.ok) c.in-Ok-serialize.ensures.ok) c.in-Ok-serialize-2.ensures.ok) c.in-Ok-serialize-3.ensures.ok) a) c.serialize-4.ensures.err
+returns-clause-err g c =
+    let l0 = items_begun g.S.Sink.adds g.S.Sink.refuses _ _ (trees (g.A.Serialize.put c.args.self.now.0 ∷ g.B.Serialize.put c.args.self.now.1 ∷ g.C.Serialize.put c.args.self.now.2 ∷ g.D.Serialize.put c.args.self.now.3 ∷ [])) c.in_ok-array.ensures.ok in
+    let l1 = one_added g.S.Sink.adds g.S.Sink.refuses _ _ _ (g.A.Serialize.put c.args.self.now.0) (trees (g.B.Serialize.put c.args.self.now.1 ∷ g.C.Serialize.put c.args.self.now.2 ∷ g.D.Serialize.put c.args.self.now.3 ∷ [])) l0 _ c.in_ok-serialize.ensures.ok in
+    let l2 = one_added g.S.Sink.adds g.S.Sink.refuses _ _ _ (g.B.Serialize.put c.args.self.now.1) (trees (g.C.Serialize.put c.args.self.now.2 ∷ g.D.Serialize.put c.args.self.now.3 ∷ [])) l1 _ c.in_ok-serialize-2.ensures.ok in
+    let l3 = one_added g.S.Sink.adds g.S.Sink.refuses _ _ _ (g.C.Serialize.put c.args.self.now.2) (trees (g.D.Serialize.put c.args.self.now.3 ∷ [])) l2 _ c.in_ok-serialize-3.ensures.ok in
+    on_err c.serialize-4.result (λ a. one_stopped g.S.Sink.adds g.S.Sink.refuses _ _ _ (g.D.Serialize.put c.args.self.now.3) (trees ([])) l3 _ a) c.serialize-4.ensures.err

@@ -1,0 +1,7 @@
+use Rattle.std.proofs.Common.{map, ap, ◌∙◌}
+use Rattle.coset_headers.specs.View.{entry_view}
+use Rattle.cose_judge_hmac.specs.Secrets.{secret_in}
+use Rattle.cose_judge_hmac.proofs.keys.secret_of.Goals as goal
+
+pub returns : goal.returns
+returns c = c.secret_in.ensures ∙ ap (λ z. secret_in (map entry_view z)) c.deref.ensures.value

@@ -1,0 +1,7 @@
+//! Tests of tags under keys, by their public names.
+#![tactic(auto)]
+
+#[cfg(test)]
+mod judge;
+#[cfg(test)]
+mod tags;

@@ -1,4 +1,0 @@
-pub mod Inside
-pub mod Loops
-pub mod Steps
-pub mod Unique

@@ -1,0 +1,10 @@
+pub mod Again
+pub mod Entered
+pub mod Equal
+pub mod Excludes
+pub mod Fitting
+pub mod Marks
+pub mod Pushed
+pub mod Sound
+pub mod Steps
+pub mod Unique

@@ -1,0 +1,5 @@
+use Rattle.coset_claims.proofs.Unique.{claims_once}
+use Rattle.coset_claims.proofs.laws.one_claims_set.Goals as goal
+
+pub returns : goal.returns
+returns c = claims_once

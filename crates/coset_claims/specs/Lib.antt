@@ -1,0 +1,8 @@
+pub mod Builder
+pub mod Claims
+pub mod Fields
+pub mod Seen
+pub mod Steps
+pub mod View
+pub mod Written
+pub mod Wrong

@@ -1,0 +1,70 @@
+-- What the parts of the reader show.
+use Rattle.std.specs.Prelude.{◌≡◌, ℕ, pos, List, [], ◌∷◌, ◌++◌, false, Some}
+use Rattle.ciborium_value.specs.Tree.{Tree, Pairs}
+use Rattle.ciborium_value.specs.View.{pairs}
+use Rattle.coset_labels.specs.Faults.{CoseFault}
+use Rattle.coset_labels.specs.Fields.{Named, assigned}
+use Rattle.coset_claims.specs.Claims.{is_core, text_of, time_of, bytes_of, name_of, entries, Distinct, IsClaims}
+use Rattle.coset_claims.specs.Fields.{TimeFields, ClaimsFields}
+use Rattle.coset_claims.specs.Seen.{Sees}
+use Rattle.coset_claims.specs.View.{claims_view}
+use Rattle.coset_claims.specs.Wrong.{WrongEntry}
+use Rattle.coset_claims.specs.declared.cwt.ClaimsSet.{ClaimsSet}
+use Rattle.coset_claims.specs.declared.seen.Seen.{Seen}
+use Rattle.coset_claims.specs.declared.reader.Place.{Place}
+use Rattle.coset_claims.specs.declared.reader.Place.TheVariants as place
+
+-- the place in claims that a name names
+abbrev pub Names : Place → Named → Type 0
+Names place.Issuer m = m ≡ assigned (pos 1)
+Names place.Subject m = m ≡ assigned (pos 2)
+Names place.Audience m = m ≡ assigned (pos 3)
+Names place.ExpirationTime m = m ≡ assigned (pos 4)
+Names place.NotBefore m = m ≡ assigned (pos 5)
+Names place.IssuedAt m = m ≡ assigned (pos 6)
+Names place.CwtId m = m ≡ assigned (pos 7)
+Names place.Rest m = is_core m ≡ false
+
+-- the entry gives one field, and the others stay
+pub data Fills (m : Named) (v : Tree) (p q : ClaimsFields) : Type 0 where
+  fills_issuer : (b : List ℕ) → m ≡ assigned (pos 1) → text_of v ≡ Some b → q ≡ record p { issuer = Some b } → Fills m v p q
+  fills_subject : (b : List ℕ) → m ≡ assigned (pos 2) → text_of v ≡ Some b → q ≡ record p { subject = Some b } → Fills m v p q
+  fills_audience : (b : List ℕ) → m ≡ assigned (pos 3) → text_of v ≡ Some b → q ≡ record p { audience = Some b } → Fills m v p q
+  fills_expiration_time : (s : TimeFields) → m ≡ assigned (pos 4) → time_of v ≡ Some s → q ≡ record p { expiration_time = Some s } → Fills m v p q
+  fills_not_before : (s : TimeFields) → m ≡ assigned (pos 5) → time_of v ≡ Some s → q ≡ record p { not_before = Some s } → Fills m v p q
+  fills_issued_at : (s : TimeFields) → m ≡ assigned (pos 6) → time_of v ≡ Some s → q ≡ record p { issued_at = Some s } → Fills m v p q
+  fills_cwt_id : (b : List ℕ) → m ≡ assigned (pos 7) → bytes_of v ≡ Some b → q ≡ record p { cwt_id = Some b } → Fills m v p q
+  fills_rest : is_core m ≡ false → q ≡ record p { rest = p.rest ++ (m, v) ∷ [] } → Fills m v p q
+
+-- the fields are those of these entries
+pub record Known (es : List (Named × Tree)) (c : ClaimsFields) : Type 0 where
+  pub distinct : Distinct es
+  pub claims : IsClaims es c
+
+-- and so are the names that were seen
+pub record KnownIn (es : List (Named × Tree)) (s : Seen) (c : ClaimsSet) : Type 0 where
+  pub sees : Sees s es
+  pub known : Known es (claims_view c)
+
+-- one more entry is read
+pub record Added (es : List (Named × Tree)) (l v : Tree) (s : Seen) (c : ClaimsSet) : Type 0 where
+  pub name : Named
+  pub is : name_of l ≡ Some name
+  pub known : KnownIn (es ++ (name, v) ∷ []) s c
+
+-- the fields of all entries of a map
+pub record HasEntries (ps : Pairs) (c : ClaimsFields) : Type 0 where
+  pub es : List (Named × Tree)
+  pub entries_are : entries ps ≡ Some es
+  pub known : Known es c
+
+-- one of the entries has a fault, and those before it have names
+pub record WrongEntries (ps : Pairs) (e : CoseFault) : Type 0 where
+  pub before : List (Tree × Tree)
+  pub after : List (Tree × Tree)
+  pub key : Tree
+  pub value : Tree
+  pub es : List (Named × Tree)
+  pub are : ps ≡ pairs (before ++ (key, value) ∷ after)
+  pub read : entries (pairs before) ≡ Some es
+  pub wrong : WrongEntry es key value e

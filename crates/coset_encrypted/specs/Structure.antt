@@ -1,0 +1,12 @@
+-- What the ciphertext of an encrypted message covers (RFC 9052, section 5.3); none where the protected header can't be written.
+use Rattle.std.specs.Prelude.{ℕ, List, Option}
+use Rattle.coset_headers.specs.Contexts.{encryption_text}
+use Rattle.coset_headers.specs.Structure.{encryption_structure}
+use Rattle.coset_headers.specs.declared.context.EncryptionContext.TheVariants.{CoseEncrypt, CoseEncrypt0}
+use Rattle.coset_encrypted.specs.Fields.{Encrypt0Fields, EncryptFields}
+
+abbrev pub encrypt0_structure : Encrypt0Fields → List ℕ → Option (List ℕ)
+encrypt0_structure m aad = encryption_structure (encryption_text CoseEncrypt0) m.protected aad
+
+abbrev pub encrypt_structure : EncryptFields → List ℕ → Option (List ℕ)
+encrypt_structure m aad = encryption_structure (encryption_text CoseEncrypt) m.protected aad

@@ -1,0 +1,111 @@
+//! The COSE_Encrypt message.
+ghost use Rattle.std.specs.Prelude.{◌≡◌, IsSome, IfSome, IfNone, IsSomeAnd, IfOk, MatchOption};
+ghost use Rattle.coset_parts.specs.Calls.{TakesPairWhere, AnswersWhere, AnswersMissing};
+ghost use Rattle.coset_encrypted.specs.Fields.{no_encrypt};
+ghost use Rattle.coset_encrypted.specs.Structure.{encrypt_structure};
+ghost use Rattle.coset_encrypted.specs.View.{encrypt_view};
+
+use coset_headers::{EncryptionContext, Header, ProtectedHeader, enc_structure_data};
+use coset_labels::Fault;
+use coset_parts::clone_bytes;
+use coset_recipients::{CoseRecipient, clone_recipients};
+use std::alloc::{AllocError, Global};
+
+/// A message that is encrypted under a key that its recipients find (RFC 9052, section 5.1).
+#[derive(Debug, PartialEq, Eq, Drop)]
+pub struct CoseEncrypt {
+    /// The protected header.
+    pub protected: ProtectedHeader,
+    /// The unprotected header.
+    pub unprotected: Header,
+    /// The ciphertext; `None` where it is carried elsewhere.
+    pub ciphertext: Option<Vec<u8>>,
+    /// The recipients who can find the key.
+    pub recipients: Vec<CoseRecipient>,
+}
+
+impl CoseEncrypt {
+    /// A message with no field. It takes no memory.
+    pub fn new(alloc: Global) -> CoseEncrypt
+        ensures { encrypt_view result ≡ no_encrypt }
+    {
+        CoseEncrypt {
+            protected: ProtectedHeader::new(alloc),
+            unprotected: Header::new(alloc),
+            ciphertext: None,
+            recipients: Vec::new(alloc),
+        }
+    }
+
+    /// A message equal to this one.
+    ///
+    /// # Errors
+    /// Only where memory is refused.
+    pub fn clone(&self, alloc: Global) -> Result<CoseEncrypt, AllocError>
+        ensures { IfOk result (λ copy. encrypt_view copy ≡ encrypt_view self.now) }
+    {
+        let protected = self.protected.clone(alloc)?;
+        let unprotected = self.unprotected.clone(alloc)?;
+        let ciphertext = clone_bytes(alloc, &self.ciphertext)?;
+        let recipients = clone_recipients(alloc, &self.recipients)?;
+        Ok(CoseEncrypt {
+            protected,
+            unprotected,
+            ciphertext,
+            recipients,
+        })
+    }
+
+    /// Asks the cipher for the plaintext (RFC 9052, section 5.3). The cipher is handed the ciphertext and the Enc_structure of the
+    /// protected header and the external data.
+    ///
+    /// # Errors
+    /// `Caller` with the cipher's error. `Cose`, before the cipher is asked, with `DuplicateMapKey` exactly where a label stands twice in
+    /// a protected header that has to be encoded, or with `Memory`.
+    pub fn decrypt<E, C: FnOnce(&[u8], &[u8]) -> Result<Vec<u8>, E>>(
+        &self,
+        alloc: Global,
+        aad: &[u8],
+        cipher: C,
+    ) -> Result<Vec<u8>, Fault<E>>
+        requires present { IsSome self.now.ciphertext }
+        requires cipher { IfSome self.now.ciphertext
+            (λ b. TakesPairWhere C.FnOnce cipher b.items (encrypt_structure (encrypt_view self.now) aad.now)) }
+        ensures { IsSomeAnd self.now.ciphertext
+            (λ b. AnswersWhere C.FnOnce cipher b.items (encrypt_structure (encrypt_view self.now) aad.now) result) }
+    {
+        let ciphertext = match &self.ciphertext {
+            Some(ciphertext) => ciphertext.as_slice(),
+            None => &[],
+        };
+        let data = enc_structure_data(alloc, EncryptionContext::CoseEncrypt, &self.protected, aad)?;
+        cipher(ciphertext, data.as_slice()).map_err(Fault::Caller)
+    }
+
+    /// As `decrypt`, also where no ciphertext is carried.
+    ///
+    /// # Errors
+    /// `Caller` with the error of a missing ciphertext, before anything else; else as of `decrypt`.
+    pub fn decrypt_ciphertext<E, M: FnOnce() -> E, C: FnOnce(&[u8], &[u8]) -> Result<Vec<u8>, E>>(
+        &self,
+        alloc: Global,
+        aad: &[u8],
+        missing: M,
+        cipher: C,
+    ) -> Result<Vec<u8>, Fault<E>>
+        requires missing { IfNone self.now.ciphertext (M.IsAlwaysCallable missing) }
+        requires cipher { IfSome self.now.ciphertext
+            (λ b. TakesPairWhere C.FnOnce cipher b.items (encrypt_structure (encrypt_view self.now) aad.now)) }
+        ensures { MatchOption self.now.ciphertext (AnswersMissing M.FnOnce missing result)
+            (λ b. AnswersWhere C.FnOnce cipher b.items (encrypt_structure (encrypt_view self.now) aad.now) result) }
+    {
+        match &self.ciphertext {
+            None => Err(Fault::Caller(missing())),
+            Some(ciphertext) => {
+                let context = EncryptionContext::CoseEncrypt;
+                let covered = enc_structure_data(alloc, context, &self.protected, aad)?;
+                cipher(ciphertext.as_slice(), covered.as_slice()).map_err(Fault::Caller)
+            }
+        }
+    }
+}

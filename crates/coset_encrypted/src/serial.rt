@@ -1,0 +1,125 @@
+//! Encrypted messages as values and bytes.
+ghost use Rattle.coset_encrypted.specs.Fields.{Encrypt0Fields, EncryptFields};
+ghost use Rattle.coset_encrypted.specs.Shapes.{HasEncrypt0, HasEncrypt};
+ghost use Rattle.coset_encrypted.specs.View.{encrypt0_view, encrypt_view};
+ghost use Rattle.coset_encrypted.specs.Written.{encrypt0_tree, encrypt_tree};
+ghost use Rattle.coset_encrypted.specs.Wrong.{WrongEncrypt0, WrongEncrypt};
+
+use crate::encrypt::CoseEncrypt;
+use crate::encrypt0::CoseEncrypt0;
+use ciborium_value::Value;
+use coset_labels::{AsCborValue, CborSerializable, CoseError, TaggedCborSerializable, ValueTryAs};
+use coset_parts::{Parts, four, read_parts, three, write_parts};
+use coset_recipients::{read_recipients, write_recipients};
+use std::alloc::Global;
+
+/// The elements are read from the last to the first.
+impl AsCborValue for CoseEncrypt0 {
+    ghost Fields = { Encrypt0Fields };
+
+    ghost fields = { encrypt0_view };
+
+    ghost shape = { λ t m. HasEncrypt0 256 t m 16 };
+
+    ghost wrong = { λ t e. WrongEncrypt0 256 t 16 e };
+
+    ghost written = { encrypt0_tree };
+
+    fn from_cbor_value(alloc: Global, value: Value) -> Result<CoseEncrypt0, CoseError> {
+        let items = value.try_as_array()?;
+        match three(items) {
+            Some((protected, unprotected, ciphertext)) => {
+                let parts = read_parts(alloc, protected, unprotected, ciphertext, "bstr")?;
+                Ok(CoseEncrypt0 {
+                    protected: parts.protected,
+                    unprotected: parts.unprotected,
+                    ciphertext: parts.content,
+                })
+            }
+            None => Err(CoseError::UnexpectedItem("array", "array with 3 items")),
+        }
+    }
+
+    fn to_cbor_value(self, alloc: Global) -> Result<Value, CoseError> {
+        let CoseEncrypt0 {
+            protected,
+            unprotected,
+            ciphertext,
+        } = self;
+        let items = write_parts(
+            alloc,
+            Parts {
+                protected,
+                unprotected,
+                content: ciphertext,
+            },
+        )?;
+        Ok(Value::Array(items))
+    }
+}
+
+impl CborSerializable for CoseEncrypt0 {}
+
+impl TaggedCborSerializable for CoseEncrypt0 {
+    ghost TAG = { 16 };
+
+    const TAG: u64 = 16;
+}
+
+/// The elements are read from the last to the first, and the recipients from the first to the last.
+impl AsCborValue for CoseEncrypt {
+    ghost Fields = { EncryptFields };
+
+    ghost fields = { encrypt_view };
+
+    ghost shape = { λ t m. HasEncrypt 256 t m 16 };
+
+    ghost wrong = { λ t e. WrongEncrypt 256 t 16 e };
+
+    ghost written = { encrypt_tree };
+
+    fn from_cbor_value(alloc: Global, value: Value) -> Result<CoseEncrypt, CoseError> {
+        let items = value.try_as_array()?;
+        match four(items) {
+            Some((protected, unprotected, ciphertext, list)) => {
+                let recipients = read_recipients(alloc, list)?;
+                let parts = read_parts(alloc, protected, unprotected, ciphertext, "bstr")?;
+                Ok(CoseEncrypt {
+                    protected: parts.protected,
+                    unprotected: parts.unprotected,
+                    ciphertext: parts.content,
+                    recipients,
+                })
+            }
+            None => Err(CoseError::UnexpectedItem("array", "array with 4 items")),
+        }
+    }
+
+    fn to_cbor_value(self, alloc: Global) -> Result<Value, CoseError> {
+        let CoseEncrypt {
+            protected,
+            unprotected,
+            ciphertext,
+            recipients,
+        } = self;
+        let mut items = write_parts(
+            alloc,
+            Parts {
+                protected,
+                unprotected,
+                content: ciphertext,
+            },
+        )?;
+        let list = write_recipients(alloc, recipients)?;
+        items.push(list)?;
+        Ok(Value::Array(items))
+    }
+}
+
+impl CborSerializable for CoseEncrypt {}
+
+impl TaggedCborSerializable for CoseEncrypt {
+    ghost TAG = { 96 };
+
+    const TAG: u64 = 96;
+}

@@ -1,5 +1,0 @@
-use Rattle.coset_headers.proofs.Signed.{signed_last}
-use Rattle.coset_headers.proofs.builder.HeaderBuilder.add_counter_signature.Goals as goal
-
-pub returns : goal.returns
-returns c = signed_last _ _ _ c.args.signature c.in_ok-push.ensures.items

@@ -1,0 +1,6 @@
+pub mod Back
+pub mod Equal
+pub mod Excludes
+pub mod Pushed
+pub mod Steps
+pub mod Unique

@@ -1,0 +1,8 @@
+pub mod Builders
+pub mod Contexts
+pub mod Equality
+pub mod Fields
+pub mod Steps
+pub mod View
+pub mod Written
+pub mod Wrong

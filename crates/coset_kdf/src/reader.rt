@@ -1,0 +1,118 @@
+//! Reads KDF contexts and their parts, elements from the last to the first.
+ghost use Rattle.std.specs.Prelude.{◌≡◌, ◌≤◌, map, option_map, Some, MatchResult};
+ghost use Rattle.ciborium_value.specs.View.{view};
+ghost use Rattle.coset_labels.specs.Faults.{OrMemory, fault_of};
+ghost use Rattle.coset_kdf.specs.Contexts.{HasContext, HasParty, HasPublic, length_of, nonce_of};
+ghost use Rattle.coset_kdf.specs.Steps.{HasTwo, WrongTwo};
+ghost use Rattle.coset_kdf.specs.View.{context_view, nonce_view, party_view, public_view};
+ghost use Rattle.coset_kdf.specs.Wrong.{WrongContext, WrongLength, WrongNonce, WrongParty, WrongPublic};
+
+use crate::context::{CoseKdfContext, Nonce, PartyInfo, SuppPubInfo};
+use crate::items::{four, pop_private, three, two};
+use ciborium_value::Value;
+use coset_headers::ProtectedHeader;
+use coset_labels::{Algorithm, AsCborValue, CoseError, ValueTryAs, cbor_type_error};
+use std::alloc::Global;
+
+/// Reads what a party brings.
+pub(crate) fn read_party(value: Value) -> Result<PartyInfo, CoseError>
+    ensures { MatchResult result (λ p. HasParty (view value) (party_view p)) (λ e. WrongParty (view value) (fault_of e)) }
+{
+    let items = value.try_as_array()?;
+    if items.len() != 3 {
+        return Err(CoseError::UnexpectedItem("array", "array with 3 items"));
+    }
+    let (first, second, third) = three(items);
+    let other = third.try_as_bytes_or_nil("bstr / nil")?;
+    let nonce = read_nonce(second)?;
+    let identity = first.try_as_bytes_or_nil("bstr / nil")?;
+    Ok(PartyInfo {
+        identity,
+        nonce,
+        other,
+    })
+}
+
+fn read_nonce(value: Value) -> Result<Option<Nonce>, CoseError>
+    ensures { MatchResult result (λ n. nonce_of (view value) ≡ Some (option_map nonce_view n)) (λ e. WrongNonce (view value) (fault_of e)) }
+{
+    match value {
+        Value::Bytes(bytes) => Ok(Some(Nonce::Bytes(bytes))),
+        Value::Integer(i) => match i64::try_from(i) {
+            Ok(n) => Ok(Some(Nonce::Integer(n))),
+            Err(_) => Err(CoseError::OutOfRangeIntegerValue),
+        },
+        Value::Null => Ok(None),
+        other => Err(cbor_type_error(&other, "bstr / int / nil")),
+    }
+}
+
+/// Reads what both parties know.
+pub(crate) fn read_public(alloc: Global, value: Value) -> Result<SuppPubInfo, CoseError>
+    ensures { MatchResult result (λ s. HasPublic 256 (view value) (public_view s) 16) (λ e. OrMemory (WrongPublic 256 (view value) 16) e) }
+{
+    let items = value.try_as_array()?;
+    if items.len() == 3 {
+        let (first, second, third) = three(items);
+        let other = third.try_as_bytes()?;
+        return read_two(alloc, first, second, Some(other));
+    }
+    if items.len() != 2 {
+        return Err(CoseError::UnexpectedItem("array", "array with 2 or 3 items"));
+    }
+    let (first, second) = two(items);
+    read_two(alloc, first, second, None)
+}
+
+/// Reads the first two elements of what both parties know.
+fn read_two(
+    alloc: Global,
+    first: Value,
+    second: Value,
+    other: Option<Vec<u8>>,
+) -> Result<SuppPubInfo, CoseError>
+    ensures { MatchResult result (λ s. HasTwo (view first) (view second) (option_map (λ v. v.items) other) (public_view s)) (λ e. OrMemory (WrongTwo (view first) (view second)) e) }
+{
+    let protected = ProtectedHeader::from_cbor_bstr(alloc, second)?;
+    let key_data_length = read_length(first)?;
+    Ok(SuppPubInfo {
+        key_data_length,
+        protected,
+        other,
+    })
+}
+
+fn read_length(value: Value) -> Result<u64, CoseError>
+    ensures { MatchResult result (λ n. length_of (view value) ≡ Some n) (λ e. WrongLength (view value) (fault_of e)) }
+{
+    match value {
+        Value::Integer(i) => match u64::try_from(i) {
+            Ok(n) => Ok(n),
+            Err(_) => Err(CoseError::OutOfRangeIntegerValue),
+        },
+        other => Err(cbor_type_error(&other, "int")),
+    }
+}
+
+/// Reads a context.
+pub(crate) fn read_context(alloc: Global, value: Value) -> Result<CoseKdfContext, CoseError>
+    ensures { MatchResult result (λ c. HasContext 256 (view value) (context_view c) 16) (λ e. OrMemory (WrongContext 256 (view value) 16) e) }
+{
+    let mut items = value.try_as_array()?;
+    if items.len() < 4 {
+        return Err(CoseError::UnexpectedItem("array", "array with at least 4 items"));
+    }
+    let supp_priv_info = pop_private(alloc, &mut items)?;
+    let (first, second, third, fourth) = four(items);
+    let supp_pub_info = read_public(alloc, fourth)?;
+    let party_v_info = read_party(third)?;
+    let party_u_info = read_party(second)?;
+    let algorithm_id = Algorithm::from_cbor_value(alloc, first)?;
+    Ok(CoseKdfContext {
+        algorithm_id,
+        party_u_info,
+        party_v_info,
+        supp_pub_info,
+        supp_priv_info,
+    })
+}

@@ -1,0 +1,88 @@
+-- What writing recipients shows.
+use Rattle.std.proofs.Common.{◌≡◌, ◌≢◌, inr, inl, List, [], ◌∷◌, ◌++◌, map, Option, Some, None, option_map, option_and_then, refl, sym, ap, ◌∙◌, Vec, Global}
+use Rattle.std.proofs.lemmas.List.{map-append}
+use Rattle.ciborium_value.specs.Tree.{Tree, array, Trees, one_more}
+use Rattle.ciborium_value.specs.View.{trees, view, views}
+use Rattle.ciborium_value.specs.declared.value.Value.{Value}
+use Rattle.ciborium_value.specs.declared.value.Value.TheVariants as code
+use Rattle.ciborium_value.proofs.Views.{view_array}
+use Rattle.coset_labels.specs.Arrays.{all_written}
+use Rattle.coset_labels.specs.Faults.{CantWrite}
+use Rattle.coset_labels.specs.declared.error.CoseError.{CoseError}
+use Rattle.coset_labels.proofs.Arrays.{written_none}
+use Rattle.coset_headers.specs.View.{header_view, protected_view}
+use Rattle.coset_parts.specs.Written.{parts_trees}
+use Rattle.coset_recipients.specs.Fields.{RecipientFields, recipients}
+use Rattle.coset_recipients.specs.View.{recipient_view, recipients_view}
+use Rattle.coset_recipients.specs.Written.{fourth, whole, recipient_tree, recipients_trees, list_tree}
+use Rattle.coset_recipients.specs.declared.recipient.CoseRecipient.{CoseRecipient, out-CoseRecipient}
+use Rattle.coset_recipients.proofs.Parts.{recipient_out}
+
+-- ---- lists
+pub recipient_list : (rs : List RecipientFields) → recipients_trees (recipients rs) ≡ option_map trees (all_written recipient_tree rs)
+recipient_list [] = refl
+recipient_list (r ∷ rs) = go (recipient_tree r) (recipients_trees (recipients rs)) (all_written recipient_tree rs) (recipient_list rs) where
+  go : (o : Option Tree) (p : Option Trees) (q : Option (List Tree)) → p ≡ option_map trees q
+      → option_and_then (λ t. option_map (λ ts. one_more t ts) p) o ≡ option_map trees (option_and_then (λ t. option_map (λ ts. t ∷ ts) q) o)
+  go None p q e = refl
+  go (Some t) p None e = ap (option_map (λ ts. one_more t ts)) e
+  go (Some t) p (Some ts) e = ap (option_map (λ ts. one_more t ts)) e
+
+pub recipients_done : (all : List CoseRecipient) (vs : List Value) → all_written recipient_tree (map recipient_view all) ≡ Some (map view vs) → recipients_trees (recipients_view all) ≡ Some (views vs)
+recipients_done all vs e = recipient_list (map recipient_view all) ∙ ap (option_map trees) e
+
+pub recipients_fault : (all xs ys : List CoseRecipient) (x : CoseRecipient) (e : CoseError) → all ≡ xs ++ x ∷ ys → CantWrite (recipient_tree (recipient_view x)) e → CantWrite (recipients_trees (recipients_view all)) e
+recipients_fault all xs ys x e q (inl m) = inl m
+recipients_fault all xs ys x e q (inr (d, n)) =
+    inr (
+      d,
+      recipient_list (map recipient_view all)
+          ∙ ap (option_map trees) (ap (all_written recipient_tree) (ap (map recipient_view) q ∙ map-append recipient_view xs (x ∷ ys)) ∙ written_none recipient_tree (map recipient_view xs) (map recipient_view ys) (recipient_view x) n),
+    )
+
+-- ---- one recipient
+none_inside : {A B C : Type 0} (f : A → B → C) (o : Option A) (p : Option B) → p ≡ None → option_and_then (λ a. option_map (λ b. f a b) p) o ≡ None
+none_inside f None p e = refl
+none_inside f (Some a) p e = ap (option_map (λ b. f a b)) e
+
+abbrev parts_of : CoseRecipient → Option (List Tree)
+parts_of r = parts_trees (protected_view (out-CoseRecipient r).protected) (header_view (out-CoseRecipient r).unprotected) (option_map (λ v. v.items) (out-CoseRecipient r).ciphertext)
+
+abbrev inner_of : CoseRecipient → Option Trees
+inner_of r = recipients_trees (recipients_view (out-CoseRecipient r).recipients.items)
+
+tree_out : (r : CoseRecipient) → recipient_tree (recipient_view r) ≡ option_and_then (λ parts. option_map (λ ts. whole parts ts) (inner_of r)) (parts_of r)
+tree_out r = ap recipient_tree (recipient_out r)
+
+pub inner_fault : (r : CoseRecipient) (e : CoseError) → CantWrite (inner_of r) e → CantWrite (recipient_tree (recipient_view r)) e
+inner_fault r e (inl m) = inl m
+inner_fault r e (inr (d, n)) = inr (d, tree_out r ∙ none_inside whole (parts_of r) (inner_of r) n)
+
+pub parts_fault : (r : CoseRecipient) (e : CoseError) → CantWrite (parts_of r) e → CantWrite (recipient_tree (recipient_view r)) e
+parts_fault r e (inl m) = inl m
+parts_fault r e (inr (d, n)) = inr (d, tree_out r ∙ ap (option_and_then (λ parts. option_map (λ ts. whole parts ts) (inner_of r))) n)
+
+wrote : (r : CoseRecipient) (ps : List Tree) (ts : Trees) → parts_of r ≡ Some ps → inner_of r ≡ Some ts → recipient_tree (recipient_view r) ≡ Some (whole ps ts)
+wrote r ps ts p q =
+    tree_out r ∙ ap (option_and_then (λ parts. option_map (λ us. whole parts us) (inner_of r))) p ∙ ap (option_map (λ us. whole ps us)) q
+
+pub append_nil : {A : Type 0} (xs : List A) → xs ++ [] ≡ xs
+append_nil [] = refl
+append_nil (x ∷ xs) = ap (λ z. x ∷ z) (append_nil xs)
+
+pub wrote_three : (r : CoseRecipient) (v w : Vec Value Global) → parts_of r ≡ Some (map view v.items) → inner_of r ≡ Some (views w.items) → w.items ≡ [] → recipient_tree (recipient_view r) ≡ Some (view (code.Array v))
+wrote_three r v w p q e =
+    wrote r (map view v.items) (views w.items) p q ∙ ap (λ z. Some (array (trees (map view v.items ++ fourth (views z))))) e
+    ∙ ap (λ z. Some (array (trees z))) (append_nil (map view v.items)) ∙ ap Some (sym (view_array v))
+
+some_fourth : (xs : List Value) (w : Vec Value Global) → xs ≡ w.items → xs ≢ [] → fourth (views xs) ≡ view (code.Array w) ∷ []
+some_fourth [] w e n = absurd (n refl)
+some_fourth (x ∷ xs) w e n = ap (λ z. array (views z) ∷ []) e ∙ ap (λ z. z ∷ []) (sym (view_array w))
+
+pub wrote_four : (r : CoseRecipient) (u v w : Vec Value Global) → parts_of r ≡ Some (map view u.items) → inner_of r ≡ Some (views w.items) → w.items ≢ [] → v.items ≡ u.items ++ code.Array w ∷ [] → recipient_tree (recipient_view r) ≡ Some (view (code.Array v))
+wrote_four r u v w p q n e =
+    wrote r (map view u.items) (views w.items) p q ∙ ap (λ z. Some (array (trees (map view u.items ++ z)))) (some_fourth w.items w refl n)
+    ∙ ap (λ z. Some (array (trees z))) (sym (map-append view u.items (code.Array w ∷ []))) ∙ ap (λ z. Some (array (views z))) (sym e) ∙ ap Some (sym (view_array v))
+
+pub list_wrote : (rs : List CoseRecipient) (v : Vec Value Global) → recipients_trees (recipients_view rs) ≡ Some (views v.items) → list_tree (recipients_view rs) ≡ Some (view (code.Array v))
+list_wrote rs v e = ap (option_map array) e ∙ ap Some (sym (view_array v))

@@ -1,0 +1,8 @@
+pub mod Builders
+pub mod Fields
+pub mod Shapes
+pub mod Structure
+pub mod View
+pub mod Walks
+pub mod Written
+pub mod Wrong

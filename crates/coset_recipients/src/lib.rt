@@ -1,0 +1,17 @@
+//! Recipients of encrypted and authenticated messages of COSE (RFC 9052, sections 5.1 and 5.3).
+#![tactic(auto)]
+
+mod builder;
+mod calls;
+mod copies;
+pub mod laws;
+mod reader;
+mod recipient;
+mod serial;
+mod writer;
+
+pub use crate::builder::CoseRecipientBuilder;
+pub use crate::copies::clone_recipients;
+pub use crate::reader::read_recipients;
+pub use crate::recipient::CoseRecipient;
+pub use crate::writer::write_recipients;

@@ -1,0 +1,103 @@
+//! Reads recipients. No byte string of a value is copied.
+ghost use Rattle.std.specs.Prelude.{◌≡◌, ◌≢◌, MatchOption, MatchResult, option_map};
+ghost use Rattle.ciborium_value.specs.Tree.{tree_count};
+ghost use Rattle.ciborium_value.specs.View.{view, views};
+ghost use Rattle.coset_labels.specs.Faults.{OrMemory};
+ghost use Rattle.coset_recipients.specs.Shapes.{three_or_four, HasRecipient, HasRecipients, HasInner, HasList};
+ghost use Rattle.coset_recipients.specs.View.{recipient_view, recipients_view};
+ghost use Rattle.coset_recipients.specs.Walks.{WrongRecipients, WrongInner};
+ghost use Rattle.coset_recipients.specs.Wrong.{WrongRecipient, WrongList};
+
+use crate::recipient::CoseRecipient;
+use ciborium_value::Value;
+use coset_labels::{CoseError, ValueTryAs};
+use coset_parts::read_parts;
+use std::alloc::Global;
+
+/// The items of a list of three or four; none where it has another length. Nothing is copied.
+fn split(items: Vec<Value>) -> Option<(Value, Value, Value, Option<Value>)>
+    ensures { MatchOption result ((tree_count (views items.items) ≢ 3) × (tree_count (views items.items) ≢ 4))
+        (λ t. views items.items ≡ three_or_four (view t.0) (view t.1) (view t.2) (option_map view t.3)) }
+{
+    let mut rest = items;
+    if rest.len() == 4 {
+        let fourth = rest.pop();
+        let third = rest.pop();
+        let second = rest.pop();
+        let first = rest.pop();
+        return match (first, second, third, fourth) {
+            (Some(a), Some(b), Some(c), Some(d)) => Some((a, b, c, Some(d))),
+            _ => None,
+        };
+    }
+    if rest.len() != 3 {
+        return None;
+    }
+    let third = rest.pop();
+    let second = rest.pop();
+    let first = rest.pop();
+    match (first, second, third) {
+        (Some(a), Some(b), Some(c)) => Some((a, b, c, None)),
+        _ => None,
+    }
+}
+
+/// Reads a recipient, its elements from the last to the first.
+#[cycle(reader)]
+pub(crate) fn read_recipient(alloc: Global, value: Value) -> Result<CoseRecipient, CoseError>
+    ensures { MatchResult result (λ r. HasRecipient 256 (view value) (recipient_view r) 16)
+        (λ e. OrMemory (WrongRecipient 256 (view value) 16) e) }
+{
+    let items = value.try_as_array()?;
+    match split(items) {
+        Some((protected, unprotected, ciphertext, inner)) => {
+            let recipients = read_inner(alloc, inner)?;
+            let parts = read_parts(alloc, protected, unprotected, ciphertext, "bstr / null")?;
+            Ok(CoseRecipient {
+                protected: parts.protected,
+                unprotected: parts.unprotected,
+                ciphertext: parts.content,
+                recipients,
+            })
+        }
+        None => Err(CoseError::UnexpectedItem("array", "array with 3 or 4 items")),
+    }
+}
+
+/// Reads the recipients of a fourth element; none where there isn't one.
+#[cycle(reader)]
+fn read_inner(alloc: Global, inner: Option<Value>) -> Result<Vec<CoseRecipient>, CoseError>
+    ensures { MatchResult result (λ rs. HasInner 256 (option_map view inner) (recipients_view rs.items) 16)
+        (λ e. OrMemory (WrongInner 256 (option_map view inner) 16) e) }
+{
+    match inner {
+        Some(list) => read_recipients(alloc, list),
+        None => Ok(Vec::new(alloc)),
+    }
+}
+
+/// Reads an array of recipients, from the first to the last.
+///
+/// # Errors
+/// A fault that the value has, or `Memory`.
+#[cycle(reader)]
+pub fn read_recipients(alloc: Global, value: Value) -> Result<Vec<CoseRecipient>, CoseError>
+    ensures { MatchResult result (λ rs. HasList 256 (view value) (recipients_view rs.items) 16)
+        (λ e. OrMemory (WrongList 256 (view value) 16) e) }
+{
+    let items = value.try_as_array()?;
+    read_items(alloc, items)
+}
+
+#[cycle(reader)]
+fn read_items(alloc: Global, items: Vec<Value>) -> Result<Vec<CoseRecipient>, CoseError>
+    ensures { MatchResult result (λ rs. HasRecipients 256 (views items.items) (recipients_view rs.items) 16)
+        (λ e. OrMemory (WrongRecipients 256 (views items.items) 16) e) }
+{
+    let mut recipients = Vec::new(alloc);
+    'items: for item in items {
+        let recipient = read_recipient(alloc, item)?;
+        recipients.push(recipient)?;
+    }
+    Ok(recipients)
+}
