@@ -1,4 +1,5 @@
 pub mod Adding
+pub mod Again
 pub mod Excludes
 pub mod Steps
 pub mod Unique

@@ -1,5 +1,5 @@
 //! Laws of the definitions.
-ghost use Rattle.std.specs.Prelude.{◌≡◌, ◌≢◌, ℕ, List, None};
+ghost use Rattle.std.specs.Prelude.{◌≡◌, ◌≢◌, ℕ, List, Some, None};
 ghost use Rattle.ciborium_value.specs.Tree.{Tree};
 ghost use Rattle.coset_labels.specs.Faults.{CoseFault};
 ghost use Rattle.coset_headers.specs.Fields.{SignatureFields};
@@ -29,4 +29,10 @@ pub fn read_can_be_written()
     ensures sign1_covers { (n k : ℕ) (t : Tree) (m : Sign1Fields) (payload aad : List ℕ) → HasSign1 n t m k → sign1_structure m payload aad ≢ None }
     ensures sign_covers { (n k : ℕ) (t u : Tree) (m : SignFields) (s : SignatureFields) (payload aad : List ℕ) → HasSign n t m k → HasSignature n u s k
         → sign_structure m s payload aad ≢ None }
+{}
+
+/// What is written of a message that was read has its fields again, received bytes included.
+pub fn written_has_same()
+    ensures sign1 { (n k : ℕ) (t u : Tree) (m : Sign1Fields) → HasSign1 n t m k → sign1_tree m ≡ Some u → HasSign1 n u m k }
+    ensures sign { (n k : ℕ) (t u : Tree) (m : SignFields) → HasSign n t m k → sign_tree m ≡ Some u → HasSign n u m k }
 {}
