@@ -1,7 +1,7 @@
 -- Contexts whose parts fit.
 use Rattle.std.proofs.Common.{◌≡◌, ℕ, pos, ◌+◌, ◌<◌, ◌^◌, List, [], ◌∷◌, ◌++◌, map, length, take, get_or, Vec, Global, Option, Some, None, option_map, refl, sym, ap, subst, ◌∙◌, arith}
-use Rattle.std.proofs.lemmas.List.{take_more, length-map}
-use Rattle.ciborium_value.specs.Tree.{Tree, integer, bytes, array, Trees, one_more, tree_count}
+use Rattle.std.proofs.lemmas.List.{take_more}
+use Rattle.ciborium_value.specs.Tree.{Tree, integer, bytes, array, tree_count}
 use Rattle.ciborium_value.specs.Encoding.{Fits, FitAll}
 use Rattle.ciborium_value.specs.View.{trees}
 use Rattle.coset_labels.specs.Labels.{named_tree}
@@ -48,9 +48,9 @@ some_of : (o : Option Tree) (f : Tree → Tree) (t : Tree) → option_map f o �
 some_of None f t e = let h : None ≡ Some t = e in absurd (let g : ⊥ = cc in g)
 some_of (Some s) f t e = (s, refl, (let h : Some (f s) ≡ Some t = e in cc))
 
-pub context_whole : (c : ContextFields) (b : List ℕ) (t : Tree) → Fits (named_tree c.algorithm) → Fits (party_tree c.party_u) → Fits (party_tree c.party_v)
+pub context_whole : (c : ContextFields) (t : Tree) → Fits (named_tree c.algorithm) → Fits (party_tree c.party_u) → Fits (party_tree c.party_v)
     → ((s : Tree) → public_tree c.public ≡ Some s → Fits s) → FitAll (trees (map bytes c.privates)) → length c.privates + 4 < 2 ^ 64 → context_tree c ≡ Some t → Fits t
-context_whole c b t f g h s p l q =
+context_whole c t f g h s p l q =
     let w = some_of (public_tree c.public) (λ s. array (four_and (named_tree c.algorithm) (party_tree c.party_u) (party_tree c.party_v) s (trees (map bytes c.privates)))) t q in
     let n = count c.privates in
     subst Fits w.2 (omega (arith, n, l), (f, (g, (h, (s w.0 w.1, p)))))

@@ -1,3 +1,4 @@
+pub mod Again
 pub mod Back
 pub mod Equal
 pub mod Excludes
