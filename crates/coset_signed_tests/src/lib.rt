@@ -1,0 +1,9 @@
+//! Tests of signed messages, by their public names: outside vectors, texts, the order of several faults, and that each call succeeds.
+#![tactic(auto)]
+
+#[cfg(test)]
+mod manifest;
+#[cfg(test)]
+mod sign;
+#[cfg(test)]
+mod sign1;

@@ -1,0 +1,104 @@
+//! A firmware manifest: a message with one signature, which covers an image that is carried elsewhere.
+use coset_builders::HeaderBuilder;
+use coset_labels::{Fault, TaggedCborSerializable, iana};
+use coset_signed::{CoseSign1, CoseSign1Builder};
+use std::alloc::Global;
+use std::test::Fail;
+
+/// Why an image is not installed.
+#[derive(Debug, Clone, Copy, PartialEq, Eq)]
+enum Refused {
+    /// The manifest carries an image of its own.
+    Attached,
+    /// The manifest names another key.
+    OtherKey,
+    /// The signature is not the maker's.
+    Signature,
+}
+
+/// Who may sign firmware. The key stands for a real one: a signature is the byte that makes all bytes come out even.
+#[derive(Drop)]
+struct Maker {
+    key_id: Vec<u8>,
+    key: u8,
+}
+
+impl Maker {
+    fn sign(&self, data: &[u8]) -> u8 {
+        let mut sum = self.key;
+        for byte in data {
+            sum ^= *byte;
+        }
+        sum
+    }
+
+    fn signed(&self, signature: &[u8], data: &[u8]) -> bool {
+        signature == [self.sign(data)].as_slice()
+    }
+}
+
+/// What the signature covers beside the image.
+const PURPOSE: &[u8] = b"firmware";
+
+/// Checks an image against its manifest. The closure captures one reference, `maker`, and calls a method of it.
+fn check_image(
+    alloc: Global,
+    manifest: &[u8],
+    image: &[u8],
+    maker: &Maker,
+) -> Result<(), Fault<Refused>> {
+    let message = CoseSign1::from_tagged_slice(alloc, manifest)?;
+    if message.payload.is_some() {
+        return Err(Fault::Caller(Refused::Attached));
+    }
+    if message.protected.header.key_id.as_slice() != maker.key_id.as_slice() {
+        return Err(Fault::Caller(Refused::OtherKey));
+    }
+    message.verify_detached_signature(alloc, image, PURPOSE, move |signature, data| {
+        if maker.signed(signature, data) {
+            Ok(())
+        } else {
+            Err(Refused::Signature)
+        }
+    })
+}
+
+#[test]
+fn an_image_is_checked_against_its_manifest(rt: HostRuntime) -> Result<(), Fail> {
+    let alloc = rt.alloc();
+    let maker = Maker {
+        key_id: b"maker".to_vec(alloc)?,
+        key: 0x5a,
+    };
+    let other = Maker {
+        key_id: b"other".to_vec(alloc)?,
+        key: 0x5a,
+    };
+    let header = HeaderBuilder::new(alloc)
+        .algorithm(iana::Algorithm::ES256)
+        .key_id(b"maker".to_vec(alloc)?)
+        .build();
+    let signer = &maker;
+    let manifest = CoseSign1Builder::new(alloc)
+        .protected(header)
+        .try_create_detached_signature(
+            alloc,
+            b"image 1",
+            PURPOSE,
+            move |data| [signer.sign(data)].to_vec(alloc),
+        )?
+        .build()
+        .to_tagged_vec(alloc)?;
+    assert!(rt; check_image(alloc, &manifest, b"image 1", &maker) == Ok(()));
+    assert!(rt;
+        check_image(alloc, &manifest, b"image 2", &maker) == Err(Fault::Caller(Refused::Signature))
+    );
+    assert!(rt;
+        check_image(alloc, &manifest, b"image 1", &other) == Err(Fault::Caller(Refused::OtherKey))
+    );
+    let attached = hex::decode(alloc, "d28440a04040")?;
+    assert!(rt;
+        check_image(alloc, &attached, b"image 1", &maker) == Err(Fault::Caller(Refused::Attached))
+    );
+    Ok(())
+}
