@@ -1,0 +1,137 @@
+//! The COSE_Mac0 message.
+ghost use Rattle.std.specs.Prelude.{◌≡◌, IsSome, IfSome, IfNone, IsSomeAnd, IfOk, MatchOption, MatchResult, Some};
+ghost use Rattle.coset_labels.specs.Faults.{CantWrite};
+ghost use Rattle.coset_parts.specs.Calls.{TakesPairWhere, AnswersWhere, AnswersMissing};
+ghost use Rattle.coset_parts.specs.Written.{content_bytes};
+ghost use Rattle.coset_maced.specs.Fields.{no_mac0};
+ghost use Rattle.coset_maced.specs.Structure.{mac0_covered};
+ghost use Rattle.coset_maced.specs.View.{mac0_view};
+
+use coset_headers::{Header, MacContext, ProtectedHeader, mac_structure_data};
+use coset_labels::{CoseError, Fault};
+use coset_parts::clone_bytes;
+use std::alloc::{AllocError, Global};
+
+/// A message with a tag under a key that its receiver knows (RFC 9052, section 6.2).
+#[derive(Debug, PartialEq, Eq, Drop)]
+pub struct CoseMac0 {
+    /// The protected header.
+    pub protected: ProtectedHeader,
+    /// The unprotected header.
+    pub unprotected: Header,
+    /// What the tag covers; `None` where it is carried elsewhere.
+    pub payload: Option<Vec<u8>>,
+    /// The tag.
+    pub tag: Vec<u8>,
+}
+
+impl CoseMac0 {
+    /// A message with no field. It takes no memory.
+    pub fn new(alloc: Global) -> CoseMac0
+        ensures { mac0_view result ≡ no_mac0 }
+    {
+        CoseMac0 {
+            protected: ProtectedHeader::new(alloc),
+            unprotected: Header::new(alloc),
+            payload: None,
+            tag: Vec::new(alloc),
+        }
+    }
+
+    /// A message equal to this one.
+    ///
+    /// # Errors
+    /// Only where memory is refused.
+    pub fn clone(&self, alloc: Global) -> Result<CoseMac0, AllocError>
+        ensures { IfOk result (λ copy. mac0_view copy ≡ mac0_view self.now) }
+    {
+        let protected = self.protected.clone(alloc)?;
+        let unprotected = self.unprotected.clone(alloc)?;
+        let payload = clone_bytes(alloc, &self.payload)?;
+        let tag = self.tag.as_slice().to_vec(alloc)?;
+        Ok(CoseMac0 {
+            protected,
+            unprotected,
+            payload,
+            tag,
+        })
+    }
+
+    /// The MAC_structure of the protected header, external data and a payload.
+    pub(crate) fn covered(
+        &self,
+        alloc: Global,
+        aad: &[u8],
+        payload: &[u8],
+    ) -> Result<Vec<u8>, CoseError>
+        ensures { MatchResult result (λ v. mac0_covered (mac0_view self.now) aad.now payload.now ≡ Some v.items)
+            (λ e. CantWrite (mac0_covered (mac0_view self.now) aad.now payload.now) e) }
+    {
+        mac_structure_data(alloc, MacContext::CoseMac0, &self.protected, aad, payload)
+    }
+
+    /// The MAC_structure of the protected header, external data and the payload. A payload that isn't there counts as empty.
+    pub(crate) fn carried(&self, alloc: Global, aad: &[u8]) -> Result<Vec<u8>, CoseError>
+        ensures { MatchResult result
+            (λ v. mac0_covered (mac0_view self.now) aad.now (content_bytes (mac0_view self.now).payload) ≡ Some v.items)
+            (λ e. CantWrite (mac0_covered (mac0_view self.now) aad.now (content_bytes (mac0_view self.now).payload)) e) }
+    {
+        let payload = match &self.payload {
+            Some(payload) => payload.as_slice(),
+            None => &[],
+        };
+        self.covered(alloc, aad, payload)
+    }
+
+    /// Asks the verifier about the tag (RFC 9052, section 6.3). The verifier is handed the tag and the MAC_structure of the protected
+    /// header, the external data and the payload.
+    ///
+    /// # Errors
+    /// `Caller` with the verifier's error. `Cose`, before the verifier is asked, with `DuplicateMapKey` exactly where a label stands twice
+    /// in a protected header that has to be encoded, or with `Memory`.
+    pub fn verify_tag<E, V: FnOnce(&[u8], &[u8]) -> Result<(), E>>(
+        &self,
+        alloc: Global,
+        aad: &[u8],
+        verifier: V,
+    ) -> Result<(), Fault<E>>
+        requires present { IsSome self.now.payload }
+        requires verifier { IfSome self.now.payload
+            (λ b. TakesPairWhere V.FnOnce verifier self.now.tag.items (mac0_covered (mac0_view self.now) aad.now b.items)) }
+        ensures { IsSomeAnd self.now.payload
+            (λ b. AnswersWhere V.FnOnce verifier self.now.tag.items (mac0_covered (mac0_view self.now) aad.now b.items) result) }
+    {
+        let payload = match &self.payload {
+            Some(payload) => payload.as_slice(),
+            None => &[],
+        };
+        let data = self.covered(alloc, aad, payload)?;
+        verifier(self.tag.as_slice(), data.as_slice()).map_err(Fault::Caller)
+    }
+
+    /// As `verify_tag`, also where no payload is carried.
+    ///
+    /// # Errors
+    /// `Caller` with the error of a missing payload, before anything else; else as of `verify_tag`.
+    pub fn verify_payload_tag<E, M: FnOnce() -> E, V: FnOnce(&[u8], &[u8]) -> Result<(), E>>(
+        &self,
+        alloc: Global,
+        aad: &[u8],
+        missing: M,
+        verifier: V,
+    ) -> Result<(), Fault<E>>
+        requires missing { IfNone self.now.payload (M.IsAlwaysCallable missing) }
+        requires verifier { IfSome self.now.payload
+            (λ b. TakesPairWhere V.FnOnce verifier self.now.tag.items (mac0_covered (mac0_view self.now) aad.now b.items)) }
+        ensures { MatchOption self.now.payload (AnswersMissing M.FnOnce missing result)
+            (λ b. AnswersWhere V.FnOnce verifier self.now.tag.items (mac0_covered (mac0_view self.now) aad.now b.items) result) }
+    {
+        match &self.payload {
+            None => Err(Fault::Caller(missing())),
+            Some(payload) => {
+                let covered = self.covered(alloc, aad, payload.as_slice())?;
+                verifier(self.tag.as_slice(), covered.as_slice()).map_err(Fault::Caller)
+            }
+        }
+    }
+}

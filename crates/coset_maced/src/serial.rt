@@ -1,0 +1,133 @@
+//! Authenticated messages as values and bytes.
+ghost use Rattle.coset_maced.specs.Fields.{Mac0Fields, MacFields};
+ghost use Rattle.coset_maced.specs.Shapes.{HasMac0, HasMac};
+ghost use Rattle.coset_maced.specs.View.{mac0_view, mac_view};
+ghost use Rattle.coset_maced.specs.Written.{mac0_tree, mac_tree};
+ghost use Rattle.coset_maced.specs.Wrong.{WrongMac0, WrongMac};
+
+use crate::mac::CoseMac;
+use crate::mac0::CoseMac0;
+use ciborium_value::Value;
+use coset_labels::{AsCborValue, CborSerializable, CoseError, TaggedCborSerializable, ValueTryAs};
+use coset_parts::{Parts, five, four, read_parts, write_parts};
+use coset_recipients::{read_recipients, write_recipients};
+use std::alloc::Global;
+
+/// The elements are read from the last to the first.
+impl AsCborValue for CoseMac0 {
+    ghost Fields = { Mac0Fields };
+
+    ghost fields = { mac0_view };
+
+    ghost shape = { λ t m. HasMac0 256 t m 16 };
+
+    ghost wrong = { λ t e. WrongMac0 256 t 16 e };
+
+    ghost written = { mac0_tree };
+
+    fn from_cbor_value(alloc: Global, value: Value) -> Result<CoseMac0, CoseError> {
+        let items = value.try_as_array()?;
+        match four(items) {
+            Some((protected, unprotected, payload, tag)) => {
+                let tag = tag.try_as_bytes()?;
+                let parts = read_parts(alloc, protected, unprotected, payload, "bstr")?;
+                Ok(CoseMac0 {
+                    protected: parts.protected,
+                    unprotected: parts.unprotected,
+                    payload: parts.content,
+                    tag,
+                })
+            }
+            None => Err(CoseError::UnexpectedItem("array", "array with 4 items")),
+        }
+    }
+
+    fn to_cbor_value(self, alloc: Global) -> Result<Value, CoseError> {
+        let CoseMac0 {
+            protected,
+            unprotected,
+            payload,
+            tag,
+        } = self;
+        let mut items = write_parts(
+            alloc,
+            Parts {
+                protected,
+                unprotected,
+                content: payload,
+            },
+        )?;
+        items.push(Value::Bytes(tag))?;
+        Ok(Value::Array(items))
+    }
+}
+
+impl CborSerializable for CoseMac0 {}
+
+impl TaggedCborSerializable for CoseMac0 {
+    ghost TAG = { 17 };
+
+    const TAG: u64 = 17;
+}
+
+/// The elements are read from the last to the first, and the recipients from the first to the last.
+impl AsCborValue for CoseMac {
+    ghost Fields = { MacFields };
+
+    ghost fields = { mac_view };
+
+    ghost shape = { λ t m. HasMac 256 t m 16 };
+
+    ghost wrong = { λ t e. WrongMac 256 t 16 e };
+
+    ghost written = { mac_tree };
+
+    fn from_cbor_value(alloc: Global, value: Value) -> Result<CoseMac, CoseError> {
+        let items = value.try_as_array()?;
+        match five(items) {
+            Some((protected, unprotected, payload, tag, list)) => {
+                let recipients = read_recipients(alloc, list)?;
+                let tag = tag.try_as_bytes()?;
+                let parts = read_parts(alloc, protected, unprotected, payload, "bstr")?;
+                Ok(CoseMac {
+                    protected: parts.protected,
+                    unprotected: parts.unprotected,
+                    payload: parts.content,
+                    tag,
+                    recipients,
+                })
+            }
+            None => Err(CoseError::UnexpectedItem("array", "array with 5 items")),
+        }
+    }
+
+    fn to_cbor_value(self, alloc: Global) -> Result<Value, CoseError> {
+        let CoseMac {
+            protected,
+            unprotected,
+            payload,
+            tag,
+            recipients,
+        } = self;
+        let mut items = write_parts(
+            alloc,
+            Parts {
+                protected,
+                unprotected,
+                content: payload,
+            },
+        )?;
+        let list = write_recipients(alloc, recipients)?;
+        items.push(Value::Bytes(tag))?;
+        items.push(list)?;
+        Ok(Value::Array(items))
+    }
+}
+
+impl CborSerializable for CoseMac {}
+
+impl TaggedCborSerializable for CoseMac {
+    ghost TAG = { 97 };
+
+    const TAG: u64 = 97;
+}
