@@ -13,8 +13,10 @@ pub fn one_finding()
 
 /// A message that was read has all its questions, and a text to be written.
 pub fn judged_can_be_written()
-    ensures questions { (limits : Limits) (t : Tree) (m : MessageFields) (aad : List ℕ) → IsJudged limits t m → all_questions m aad ≡ Some (questions m aad) }
-    ensures text { (limits : Limits) (t : Tree) (m : MessageFields) → IsJudged limits t m → option_map enc (tagged_tree m) ≡ Some (message_text m) }
+    ensures questions { (limits : Limits) (t : Tree) (m : MessageFields) (aad : List ℕ) → IsJudged limits t m
+        → all_questions m aad ≡ Some (questions m aad) }
+    ensures text { (limits : Limits) (t : Tree) (m : MessageFields) → IsJudged limits t m
+        → option_map enc (tagged_tree m) ≡ Some (message_text m) }
 {}
 
 /// What is asked and written for one input is one: all runs over it ask the same questions in the same order, and write the same

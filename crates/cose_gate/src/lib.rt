@@ -22,5 +22,8 @@ pub use ciborium::de;
 pub use ciborium_ll::log::Log;
 pub use ciborium_ll::{Decoder, End, Full, Io, IoFault, Mem, Read, Write};
 pub use ciborium_value::Kind as SemanticKind;
-pub use coset_base::{CoseError, CoseSignature, Header, Label, ProtectedHeader};
+pub use coset_base::{
+    Algorithm, ContentType, CoseError, CoseSignature, Header, Label, ProtectedHeader,
+    RegisteredLabel, RegisteredLabelWithPrivate, iana,
+};
 pub use coset_messages::CoseRecipient;

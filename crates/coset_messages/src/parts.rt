@@ -37,7 +37,8 @@ pub(crate) fn four_items(
     third: Value,
     fourth: Vec<u8>,
 ) -> Result<Value, CoseError>
-    ensures { MatchResult result (λ v. view v ≡ spec.array (trees (view first ∷ view second ∷ view third ∷ spec.bytes fourth.items ∷ []))) (λ e. e ≡ Memory) }
+    ensures { MatchResult result (λ v. view v ≡ spec.array (trees (view first ∷ view second ∷ view third ∷ spec.bytes fourth.items ∷ [])))
+        (λ e. e ≡ Memory) }
 {
     let mut items = Vec::new(alloc);
     items.push(first)?;
