@@ -1,4 +1,6 @@
+pub mod Judge
 pub mod Judging
+pub mod Keeps
 pub mod Keys
 pub mod Messages
 pub mod Names

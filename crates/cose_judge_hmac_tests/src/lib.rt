@@ -2,4 +2,6 @@
 #![tactic(auto)]
 
 #[cfg(test)]
+mod judge;
+#[cfg(test)]
 mod tags;

@@ -2,7 +2,8 @@
 use ciborium_value::Value;
 use cose_hmac::hmac_sha256;
 use cose_judge_hmac::is_good_tag;
-use coset_headers::{Header, HeaderBuilder, MacContext, ProtectedHeader, mac_structure_data};
+use coset_builders::HeaderBuilder;
+use coset_headers::{Header, MacContext, ProtectedHeader, mac_structure_data};
 use coset_keys::{CoseKey, CoseKeySet};
 use coset_labels::{KeyType, Label, iana};
 use std::alloc::Global;
@@ -10,7 +11,7 @@ use std::collections::BTreeSet;
 use std::test::Fail;
 
 /// A symmetric key for anything.
-fn key(alloc: Global, id: &[u8], secret: &[u8]) -> Result<CoseKey, Fail> {
+pub(crate) fn key(alloc: Global, id: &[u8], secret: &[u8]) -> Result<CoseKey, Fail> {
     let mut params = Vec::new(alloc);
     params.push((Label::Int(-1), Value::Bytes(secret.to_vec(alloc)?)))?;
     Ok(CoseKey {
@@ -23,7 +24,8 @@ fn key(alloc: Global, id: &[u8], secret: &[u8]) -> Result<CoseKey, Fail> {
     })
 }
 
-fn protected(alloc: Global, text: &str) -> Result<ProtectedHeader, Fail> {
+/// The protected header whose bytes in hex are these.
+pub(crate) fn protected(alloc: Global, text: &str) -> Result<ProtectedHeader, Fail> {
     let bytes = hex::decode(alloc, text)?;
     Ok(ProtectedHeader::from_cbor_bstr(alloc, Value::Bytes(bytes))?)
 }

@@ -5,5 +5,6 @@ pub mod Excludes
 pub mod Fitting
 pub mod Marks
 pub mod Pushed
+pub mod Sound
 pub mod Steps
 pub mod Unique

@@ -104,7 +104,8 @@ impl ClaimsSetBuilder {
         value: Value,
     ) -> Result<ClaimsSetBuilder, CoseError>
         requires { is_core (assigned (cwt_claim_names.number name)) ≡ false }
-        ensures { MatchResult result (λ b. so_far b ≡ also (assigned (cwt_claim_names.number name), view value) (so_far self)) (λ e. e ≡ Memory) }
+        ensures { MatchResult result (λ b. so_far b ≡ also (assigned (cwt_claim_names.number name), view value) (so_far self))
+            (λ e. e ≡ Memory) }
     {
         self.claims.rest.push((ClaimName::Assigned(name), value))?;
         Ok(self)

@@ -30,7 +30,9 @@ pub(crate) fn write_claims(alloc: Global, claims: ClaimsSet) -> Result<Value, Co
 }
 
 fn push_text(entries: &mut Entries, name: u64, content: Option<String>) -> Result<(), CoseError>
-    ensures { MatchResult result (λ _. map view_pair entries.new.items ≡ map view_pair entries.old.items ++ map entry_tree (field_entry text name (option_map string_bytes content))) (λ e. e ≡ Memory) }
+    ensures { MatchResult result (λ _. map view_pair entries.new.items
+        ≡ map view_pair entries.old.items ++ map entry_tree (field_entry text name (option_map string_bytes content)))
+        (λ e. e ≡ Memory) }
 {
     if let Some(content) = content {
         entries.push((Value::Integer(Integer::from(name)), Value::Text(content)))?;
@@ -44,7 +46,9 @@ fn push_time(
     name: u64,
     time: Option<Timestamp>,
 ) -> Result<(), CoseError>
-    ensures { MatchResult result (λ _. map view_pair entries.new.items ≡ map view_pair entries.old.items ++ map entry_tree (field_entry time_tree name (option_map time_view time))) (λ e. e ≡ Memory) }
+    ensures { MatchResult result (λ _. map view_pair entries.new.items
+        ≡ map view_pair entries.old.items ++ map entry_tree (field_entry time_tree name (option_map time_view time)))
+        (λ e. e ≡ Memory) }
 {
     if let Some(time) = time {
         let time = time.to_cbor_value(alloc)?;
@@ -54,7 +58,9 @@ fn push_time(
 }
 
 fn push_bytes(entries: &mut Entries, name: u64, content: Option<Vec<u8>>) -> Result<(), CoseError>
-    ensures { MatchResult result (λ _. map view_pair entries.new.items ≡ map view_pair entries.old.items ++ map entry_tree (field_entry bytes name (option_map (λ v. v.items) content))) (λ e. e ≡ Memory) }
+    ensures { MatchResult result (λ _. map view_pair entries.new.items
+        ≡ map view_pair entries.old.items ++ map entry_tree (field_entry bytes name (option_map (λ v. v.items) content)))
+        (λ e. e ≡ Memory) }
 {
     if let Some(content) = content {
         entries.push((Value::Integer(Integer::from(name)), Value::Bytes(content)))?;
@@ -67,7 +73,9 @@ fn push_rest(
     entries: &mut Entries,
     rest: Vec<(ClaimName, Value)>,
 ) -> Result<(), CoseError>
-    ensures { MatchResult result (λ _. map view_pair entries.new.items ≡ map view_pair entries.old.items ++ map entry_tree (map entry_view rest.items)) (λ e. e ≡ Memory) }
+    ensures { MatchResult result (λ _. map view_pair entries.new.items
+        ≡ map view_pair entries.old.items ++ map entry_tree (map entry_view rest.items))
+        (λ e. e ≡ Memory) }
 {
     'rest: for entry in rest {
         let name = entry.0.to_cbor_value(alloc)?;

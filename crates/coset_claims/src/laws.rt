@@ -1,9 +1,10 @@
 //! Laws of the definitions.
-ghost use Rattle.std.specs.Prelude.{◌≡◌, ◌↔◌, ◌+◌, ◌^◌, ◌<◌, IsTrue, length, map, option_map, string_bytes};
+ghost use Rattle.std.specs.Prelude.{◌≡◌, ◌↔◌, ◌+◌, ◌^◌, ◌<◌, IsTrue, ℕ, List, length, map, option_map, string_bytes};
 ghost use Rattle.ciborium_value.specs.Tree.{Tree, bytes, text};
-ghost use Rattle.ciborium_value.specs.Encoding.{Fits, FitPairs};
+ghost use Rattle.ciborium_value.specs.Encoding.{enc, Fits, FitPairs};
 ghost use Rattle.ciborium_value.specs.View.{pairs};
 ghost use Rattle.coset_labels.specs.Faults.{CoseFault};
+ghost use Rattle.coset_labels.specs.Reading.{HasItem};
 ghost use Rattle.coset_claims.specs.Claims.{HasClaims};
 ghost use Rattle.coset_claims.specs.Fields.{ClaimsFields};
 ghost use Rattle.coset_claims.specs.View.{claims_view, entry_view, time_view};
@@ -112,4 +113,12 @@ pub fn claims_fit(claims: &ClaimsSet)
     maybe_time_fits(&claims.issued_at);
     maybe_bytes_fit(&claims.cwt_id);
     rest_fits(&claims.rest);
+}
+
+/// Claims that were read from bytes are read again of the bytes that they are written as, the same.
+pub fn claims_reads_again(claims: &ClaimsSet)
+    ensures { (b : List ℕ) → HasItem HasClaims b (claims_view claims.now)
+        → HasItem HasClaims (enc (claims_tree (claims_view claims.now))) (claims_view claims.now) }
+{
+    claims_fit(claims);
 }

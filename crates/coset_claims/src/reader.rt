@@ -65,7 +65,8 @@ pub(crate) fn read_claims(alloc: Global, value: Value) -> Result<ClaimsSet, Cose
 }
 
 fn read_entries(alloc: Global, entries: Vec<(Value, Value)>) -> Result<ClaimsSet, CoseError>
-    ensures { MatchResult result (λ c. HasEntries (view_pairs entries.items) (claims_view c)) (λ e. OrMemory (WrongEntries (view_pairs entries.items)) e) }
+    ensures { MatchResult result (λ c. HasEntries (view_pairs entries.items) (claims_view c))
+        (λ e. OrMemory (WrongEntries (view_pairs entries.items)) e) }
 {
     let mut seen = Seen::new(alloc);
     let mut claims = ClaimsSet::new(alloc);
@@ -84,7 +85,8 @@ fn read_entry(
     value: Value,
 ) -> Result<(), CoseError>
     ensures { (es : List (Named × Tree)) → KnownIn es seen.old claims.old
-        → MatchResult result (λ _. Added es (view key) (view value) seen.new claims.new) (λ e. OrMemory (WrongEntry es (view key) (view value)) e) }
+        → MatchResult result (λ _. Added es (view key) (view value) seen.new claims.new)
+        (λ e. OrMemory (WrongEntry es (view key) (view value)) e) }
 {
     let name = ClaimName::from_cbor_value(alloc, key)?;
     let fresh = seen.add(alloc, &name)?;
@@ -101,7 +103,8 @@ fn fill(
     name: ClaimName,
     value: Value,
 ) -> Result<(), CoseError>
-    ensures { MatchResult result (λ _. Fills (name_view name) (view value) (claims_view claims.old) (claims_view claims.new)) (λ e. OrMemory (WrongField (view value) (name_view name)) e) }
+    ensures { MatchResult result (λ _. Fills (name_view name) (view value) (claims_view claims.old) (claims_view claims.new))
+        (λ e. OrMemory (WrongField (view value) (name_view name)) e) }
 {
     match place_of(&name) {
         Place::Issuer => {

@@ -30,7 +30,8 @@ impl Seen {
     /// Adds a copy of the name, and tells whether it is new.
     pub(crate) fn add(&mut self, alloc: Global, name: &ClaimName) -> Result<bool, CoseError>
         ensures { (es : List (Named × Tree)) → Sees self.old es → MatchResult result
-            (λ fresh. MatchBool fresh ((IsIn (name_view name.now) es → ⊥) × ((v : Tree) → Sees self.new (es ++ (name_view name.now, v) ∷ []))) (IsIn (name_view name.now) es))
+            (λ fresh. MatchBool fresh ((IsIn (name_view name.now) es → ⊥)
+            × ((v : Tree) → Sees self.new (es ++ (name_view name.now, v) ∷ []))) (IsIn (name_view name.now) es))
             (λ e. e ≡ Memory) }
     {
         let copy = name.clone(alloc)?;

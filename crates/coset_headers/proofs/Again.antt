@@ -1,10 +1,9 @@
 -- What is written of a header that was read has its fields again.
 use Rattle.std.proofs.Common.{◌≡◌, ℕ, inl, inr, List, map, Bool, true, false, cond, Option, Some, None, option_map, option_and_then, refl, sym, ap, subst, ◌∙◌}
-use Rattle.ciborium_value.specs.Tree.{Tree, bytes, array, map as map_tree, Trees, no_trees, one_more}
+use Rattle.ciborium_value.specs.Tree.{Tree, bytes, array, Trees, no_trees, one_more}
 use Rattle.ciborium_value.specs.View.{pairs}
-use Rattle.coset_labels.specs.Fields.{LabelFields}
 use Rattle.coset_headers.specs.Fields.{Plain, HeaderFields, header, ProtectedFields, protected, SignatureFields, signature, Signatures, no_signatures, signature_more}
-use Rattle.coset_headers.specs.Headers.{at, others, Distinct, IsBare, IsList, list_of_three, HasHeader, HasProtected, HasSignature, HasSigned, HasSignatures}
+use Rattle.coset_headers.specs.Headers.{at, Distinct, IsBare, list_of_three, HasHeader, HasProtected, HasSignature, HasSigned, HasSignatures}
 use Rattle.coset_headers.specs.Written.{twice, entry_tree, tree_of, written_entries, bare_or_list, header_of, header_tree, shown, signature_tree, signature_trees}
 use Rattle.coset_headers.proofs.Writable.{distinct_others}
 use Rattle.coset_headers.proofs.Wrote.{NoneCore, others_none, AllLabels, read_labels, other_labels, entries_again, wrote_at, wrote_distinct, wrote_labels, wrote_plain}

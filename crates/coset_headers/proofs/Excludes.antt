@@ -225,7 +225,7 @@ ivs_not es all l v b c m p s q x y a =
     one_only p.iv p.partial_iv a.one_iv (some_full b p.iv (subst (λ o. IsField some_bytes [] o p.iv) five a.iv)) (some_full c p.partial_iv (subst (λ o. IsField some_bytes [] o p.partial_iv) six a.partial_iv))
 
 -- ---- bytes that are no item, and lists
-unreadable_not : (n : ℕ) (b : List ℕ) (e : CoseFault) (v : Tree) → NotReadable b n e → Reads b n v → ⊥
+pub unreadable_not : (n : ℕ) (b : List ℕ) (e : CoseFault) (v : Tree) → NotReadable b n e → Reads b n v → ⊥
 unreadable_not n b e v (damaged f d) r = excludes (length b) b n f d v [] (record { spelling = b; whole = sym (append-nil b); reads = r })
 unreadable_not n b e v (goes_on w rest f m) r =
     let o = reads_once f.spelling b rest [] n w v f.reads r (sym f.whole ∙ sym (append-nil b)) in

@@ -1,5 +1,5 @@
 -- What is written of a header fits heads where its parts do.
-use Rattle.std.proofs.Common.{◌≡◌, ℕ, pos, ◌+◌, ◌^◌, ◌<◌, ◌≤◌, inl, inr, List, [], ◌∷◌, ◌++◌, length, map, Bool, true, false, cond, Option, Some, None, option_map, refl, sym, ap, subst, ◌∙◌, arith, length-append}
+use Rattle.std.proofs.Common.{◌≡◌, ℕ, ◌+◌, ◌^◌, ◌<◌, ◌≤◌, inl, inr, List, [], ◌∷◌, ◌++◌, length, map, Bool, true, false, cond, Option, Some, None, option_map, refl, sym, ap, subst, ◌∙◌, arith, length-append}
 use Rattle.std.specs.Prelude.{All}
 use Rattle.std.proofs.Common.{take, get_or}
 use Rattle.std.proofs.lemmas.List.{take_more}
@@ -7,7 +7,7 @@ use Rattle.cose_iana.specs.declared.headers.HeaderParameter.{HeaderParameter}
 use Rattle.cose_iana.specs.Algorithms.{algorithm_number}
 use Rattle.cose_iana.specs.Formats.{coap_content_formats}
 use Rattle.cose_iana.specs.Headers.{header_parameters}
-use Rattle.ciborium_value.specs.Tree.{Tree, integer, bytes, array, map as map_tree, Trees, no_trees, one_more, tree_count, pair_count}
+use Rattle.ciborium_value.specs.Tree.{Tree, bytes, array, Trees, no_trees, one_more, tree_count, pair_count}
 use Rattle.ciborium_value.specs.View.{trees, pairs, view}
 use Rattle.ciborium_value.specs.Encoding.{enc, Fits, FitAll, FitPairs}
 use Rattle.ciborium_value.proofs.EncodedBytes.{enc_low}
@@ -19,7 +19,7 @@ use Rattle.coset_labels.specs.declared.registered.RegisteredLabelWithPrivate.{Re
 use Rattle.coset_labels.specs.declared.label.Label.{Label}
 use Rattle.coset_headers.specs.Entries.{AllFit}
 use Rattle.coset_headers.specs.Fields.{Plain, HeaderFields, header, protected, ProtectedFields, SignatureFields, signature, Signatures, no_signatures, signature_more}
-use Rattle.coset_headers.specs.Headers.{at, list_of_three, HasHeader, HasProtected, HasSignature, HasSigned, HasSignatures}
+use Rattle.coset_headers.specs.Headers.{at, HasHeader, HasProtected, HasSignature, HasSigned, HasSignatures}
 use Rattle.coset_headers.specs.Short.{IsShort, ShowsShort, SignatureShort, AllShort}
 use Rattle.coset_headers.specs.View.{header_view, protected_view, signature_view, signatures_view, entry_view, signature_step, header_step, protected_step}
 use Rattle.coset_headers.specs.Written.{name_entry, crit_entry, bytes_entry, signs_entry, written_entries, entry_tree, bare_or_list, header_tree, shown, signature_tree, signature_trees, is_empty}

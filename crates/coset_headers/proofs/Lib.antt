@@ -4,9 +4,12 @@ pub mod Empty
 pub mod Entered
 pub mod Excludes
 pub mod Fit
+pub mod Items
 pub mod Marks
+pub mod Meant
 pub mod Names
 pub mod Pushed
+pub mod Restored
 pub mod Signed
 pub mod Sound
 pub mod Steps

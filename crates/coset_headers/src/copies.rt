@@ -11,7 +11,11 @@ use ciborium_value::Value;
 use coset_labels::{Algorithm, ContentType, Label, RegisteredLabelWithPrivate, iana};
 use std::alloc::{AllocError, Global};
 
-fn clone_alg(alloc: Global, alg: &Option<Algorithm>) -> Result<Option<Algorithm>, AllocError>
+/// A copy of an algorithm, if there is one.
+///
+/// # Errors
+/// Only where memory is refused.
+pub fn clone_alg(alloc: Global, alg: &Option<Algorithm>) -> Result<Option<Algorithm>, AllocError>
     ensures { IfOk result (λ copy. option_map (named_view algorithm_number) copy ≡ option_map (named_view algorithm_number) alg.now) }
 {
     match alg {
@@ -47,7 +51,11 @@ fn clone_crit(
     Ok(copies)
 }
 
-fn clone_rest(alloc: Global, rest: &[(Label, Value)]) -> Result<Vec<(Label, Value)>, AllocError>
+/// A copy of entries that have labels.
+///
+/// # Errors
+/// Only where memory is refused.
+pub fn clone_rest(alloc: Global, rest: &[(Label, Value)]) -> Result<Vec<(Label, Value)>, AllocError>
     ensures { IfOk result (λ copies. map entry_view copies.items ≡ map entry_view rest.now) }
 {
     let mut copies = Vec::new(alloc);

@@ -46,7 +46,10 @@ impl Parts {
 }
 
 /// Whether a label stands twice.
-fn repeats(alloc: Global, entries: &[(Label, Value)]) -> Result<bool, CoseError>
+///
+/// # Errors
+/// Only where memory is refused.
+pub fn repeats(alloc: Global, entries: &[(Label, Value)]) -> Result<bool, CoseError>
     ensures { MatchResult result (λ r. r ≡ twice (map entry_view entries.now)) (λ e. e ≡ Memory) }
 {
     let mut seen = Seen::new(alloc);
@@ -104,7 +107,11 @@ fn push_content_type(
     Ok(())
 }
 
-fn push_bytes(entries: &mut Entries, label: u64, bytes: Vec<u8>) -> Result<(), CoseError>
+/// Appends the entry of a byte string, or none where it is empty.
+///
+/// # Errors
+/// Only where memory is refused.
+pub fn push_bytes(entries: &mut Entries, label: u64, bytes: Vec<u8>) -> Result<(), CoseError>
     ensures { MatchResult result (λ _. Appends entries.old.items entries.new.items (bytes_entry label bytes.items)) (λ e. e ≡ Memory) }
 {
     if !bytes.is_empty() {
@@ -134,7 +141,11 @@ fn one_or_list(signatures: Vec<Value>) -> Option<Value>
     signatures.pop()
 }
 
-fn push_rest(
+/// Appends entries that have labels.
+///
+/// # Errors
+/// Only where memory is refused.
+pub fn push_rest(
     alloc: Global,
     entries: &mut Entries,
     rest: Vec<(Label, Value)>,

@@ -4,7 +4,7 @@ ghost use Rattle.ciborium.specs.Front.{Reads};
 ghost use Rattle.ciborium_value.specs.Encoding.{enc, Fits};
 ghost use Rattle.ciborium_value.specs.Tree.{Tree, bytes};
 ghost use Rattle.coset_labels.specs.Faults.{CoseFault};
-ghost use Rattle.coset_labels.specs.Reading.{HasItem};
+ghost use Rattle.coset_labels.specs.Reading.{HasItem, WrongItem};
 ghost use Rattle.coset_headers.specs.Fields.{HeaderFields, ProtectedFields, SignatureFields};
 ghost use Rattle.coset_headers.specs.Headers.{HasHeader, HasProtected, HasSignature};
 ghost use Rattle.coset_headers.specs.Short.{IsShort, ShowsShort, SignatureShort};
@@ -16,18 +16,26 @@ ghost use Rattle.coset_headers.specs.Wrong.{WrongHeader, WrongProtected, WrongSi
 pub use crate::fits::{header_fits, protected_fits, signature_fits};
 use crate::header::{CoseSignature, Header};
 
-/// A value has the fields of at most one header, one protected header, one signature.
+/// A value has the fields of at most one header, one protected header, one signature. So have the bytes of one item.
 pub fn one_header()
     ensures header { (n k : ℕ) (t : Tree) (h g : HeaderFields) → HasHeader n t h k → HasHeader n t g k → h ≡ g }
     ensures protected { (n k : ℕ) (t : Tree) (p q : ProtectedFields) → HasProtected n t p k → HasProtected n t q k → p ≡ q }
     ensures signature { (n k : ℕ) (t : Tree) (s u : SignatureFields) → HasSignature n t s k → HasSignature n t u k → s ≡ u }
+    ensures header_item { (b : List ℕ) (h g : HeaderFields) → HasItem (λ t h. HasHeader 256 t h 16) b h
+        → HasItem (λ t h. HasHeader 256 t h 16) b g → h ≡ g }
+    ensures signature_item { (b : List ℕ) (s u : SignatureFields) → HasItem (λ t s. HasSignature 256 t s 16) b s
+        → HasItem (λ t s. HasSignature 256 t s 16) b u → s ≡ u }
 {}
 
-/// A value with a fault has no fields.
+/// A value with a fault has no fields. Nor have bytes that are not one readable item, or whose item has a fault.
 pub fn wrong_has_none()
     ensures header { (n k : ℕ) (t : Tree) (e : CoseFault) (h : HeaderFields) → WrongHeader n t k e → HasHeader n t h k → ⊥ }
     ensures protected { (n k : ℕ) (t : Tree) (e : CoseFault) (p : ProtectedFields) → WrongProtected n t k e → HasProtected n t p k → ⊥ }
     ensures signature { (n k : ℕ) (t : Tree) (e : CoseFault) (s : SignatureFields) → WrongSignature n t k e → HasSignature n t s k → ⊥ }
+    ensures header_item { (b : List ℕ) (e : CoseFault) (h : HeaderFields) → WrongItem (λ t e. WrongHeader 256 t 16 e) b e
+        → HasItem (λ t h. HasHeader 256 t h 16) b h → ⊥ }
+    ensures signature_item { (b : List ℕ) (e : CoseFault) (s : SignatureFields) → WrongItem (λ t e. WrongSignature 256 t 16 e) b e
+        → HasItem (λ t s. HasSignature 256 t s 16) b s → ⊥ }
 {}
 
 /// A header that was read can be written, and so can a signature. The bytes that a protected one shows, and the structures over it, are

@@ -19,6 +19,9 @@ mod values;
 mod writer;
 
 pub use crate::context::{EncryptionContext, MacContext, SignatureContext};
+pub use crate::copies::{clone_alg, clone_rest};
+pub use crate::entries::{push_bytes, push_rest, repeats};
 pub use crate::header::{CoseSignature, Header, ProtectedHeader};
+pub use crate::seen::Seen;
 pub use crate::structure::{enc_structure_data, mac_structure_data, sig_structure_data};
 pub use crate::title::{BytesTitle, bytes_title};

@@ -13,12 +13,13 @@ use std::collections::BTreeSet;
 
 /// The labels of some entries. A label is found among them in as many steps as their number has digits.
 #[derive(Drop)]
-pub(crate) struct Seen {
+pub struct Seen {
     pub(crate) labels: BTreeSet<Label>,
 }
 
 impl Seen {
-    pub(crate) fn new(alloc: Global) -> Seen
+    /// No label. It takes no memory.
+    pub fn new(alloc: Global) -> Seen
         ensures { Sees result [] }
     {
         Seen {
@@ -27,7 +28,10 @@ impl Seen {
     }
 
     /// Adds a copy of the label, and tells whether it is new.
-    pub(crate) fn add(&mut self, alloc: Global, label: &Label) -> Result<bool, CoseError>
+    ///
+    /// # Errors
+    /// Only where memory is refused.
+    pub fn add(&mut self, alloc: Global, label: &Label) -> Result<bool, CoseError>
         ensures { (es : List (LabelFields × Tree)) → Sees self.old es → MatchResult result
             (λ fresh. MatchBool fresh ((IsIn (label_view label.now) es → ⊥)
             × ((v : Tree) → Sees self.new (es ++ (label_view label.now, v) ∷ []))) (IsIn (label_view label.now) es))

@@ -11,7 +11,7 @@ use Rattle.coset_labels.specs.Labels.{is_i64, named_of, named_tree}
 use Rattle.coset_headers.specs.Fields.{ProtectedFields, protected}
 use Rattle.coset_headers.specs.Headers.{HasProtected, list_of_three}
 use Rattle.coset_headers.specs.Written.{shown}
-use Rattle.coset_kdf.specs.Contexts.{bytes_or_nil, nonce_of, HasParty, is_u64, magnitude, length_of, maybe_bytes, HasPublic, four_and, HasContext}
+use Rattle.coset_kdf.specs.Contexts.{bytes_or_nil, nonce_of, HasParty, length_of, maybe_bytes, HasPublic, four_and, HasContext}
 use Rattle.coset_kdf.specs.Fields.{NonceFields, nonce_bytes, nonce_integer, PartyFields, PublicFields, ContextFields}
 use Rattle.coset_kdf.specs.Written.{bytes_or_nil_tree, nonce_tree, party_tree, public_tree, context_tree}
 
@@ -83,7 +83,7 @@ length_back (tag n t) m e = let h : None ≡ Some m = e in cc
 length_back (simple n) m e = let h : None ≡ Some m = e in cc
 length_back (float f) m e = let h : None ≡ Some m = e in cc
 
-prot_back : (n : ℕ) (p : ProtectedFields) (t : Tree) (k : ℕ) → HasProtected n t p k → (b : List ℕ) × (t ≡ bytes b) × (shown p ≡ Some b)
+pub prot_back : (n : ℕ) (p : ProtectedFields) (t : Tree) (k : ℕ) → HasProtected n t p k → (b : List ℕ) × (t ≡ bytes b) × (shown p ≡ Some b)
 prot_back n (protected o h) t k a = (a.0, a.1, ap (λ z. shown (protected z h)) a.2)
 
 pub public_back : (n k : ℕ) (t : Tree) (s : PublicFields) → HasPublic n t s k → public_tree s ≡ Some t

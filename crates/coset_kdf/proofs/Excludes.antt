@@ -1,19 +1,19 @@
 -- A value with a fault has no fields.
-use Rattle.std.proofs.Common.{◌≡◌, ◌≢◌, ℕ, ℤ, ◌+◌, ◌<◌, inl, inr, ◌⊎◌, List, [], ◌∷◌, ◌++◌, map, length, Bool, true, false, cond, Option, Some, None, refl, sym, ap, subst, ◌∙◌, arith}
+use Rattle.std.proofs.Common.{◌≡◌, ◌≢◌, ℕ, ℤ, ◌+◌, inl, inr, ◌⊎◌, List, [], ◌∷◌, ◌++◌, map, Bool, true, false, cond, Option, Some, None, refl, sym, ap, subst, ◌∙◌, arith}
 use Rattle.std.specs.Prelude.{nat_eq}
 use borrow.Author.Tests.{eqb-true}
 use Rattle.cose_iana.specs.Algorithms.{is_algorithm}
 use Rattle.cose_iana.specs.Registry.{is_private_use}
-use Rattle.ciborium_value.specs.Tree.{Tree, integer, bytes, text, array, map as map_tree, tag, simple, float, Trees, no_trees, one_more, tree_count, is_bytes}
+use Rattle.ciborium_value.specs.Tree.{Tree, integer, bytes, text, array, map as map_tree, tag, simple, float, no_trees, one_more, tree_count, is_bytes}
 use Rattle.ciborium_value.specs.View.{trees}
-use Rattle.coset_labels.specs.Fields.{Named, private_use, assigned, named}
+use Rattle.coset_labels.specs.Fields.{Named, private_use, assigned}
 use Rattle.coset_labels.specs.Faults.{CoseFault}
 use Rattle.coset_labels.specs.Kinds.{is_array}
-use Rattle.coset_labels.specs.Labels.{is_i64, named_of, WrongNamed}
+use Rattle.coset_labels.specs.Labels.{named_of, WrongNamed}
 use Rattle.coset_headers.specs.Headers.{HasProtected, list_of_three}
 use Rattle.coset_headers.proofs.Excludes.{prot_not}
-use Rattle.coset_kdf.specs.Contexts.{bytes_or_nil, nonce_of, HasParty, is_u64, magnitude, length_of, maybe_bytes, HasPublic, four_and, HasContext}
-use Rattle.coset_kdf.specs.Fields.{NonceFields, nonce_bytes, nonce_integer, PartyFields, PublicFields, ContextFields}
+use Rattle.coset_kdf.specs.Contexts.{bytes_or_nil, nonce_of, HasParty, magnitude, length_of, maybe_bytes, HasPublic, four_and, HasContext}
+use Rattle.coset_kdf.specs.Fields.{NonceFields, nonce_integer, PartyFields, PublicFields, ContextFields}
 use Rattle.coset_kdf.specs.Wrong.{NoBytesOrNil, WrongNonce, WrongParty, no_array, not_three, wrong_identity, wrong_nonce, wrong_other, WrongLength, WrongPublic, no_list, not_two_or_three, wrong_length, in_protected, no_bytes, WrongContext, not_list, too_few, wrong_algorithm, in_party_u, in_party_v, in_public, in_private}
 use Rattle.coset_kdf.proofs.Unique.{three_same, two_same, four_same}
 

@@ -1,5 +1,5 @@
 -- What one step of the reader shows, over plain variables.
-use Rattle.std.proofs.Common.{◌≡◌, ◌≢◌, ℕ, ◌+◌, ◌<◌, ◌≤◌, inl, inr, ◌⊎◌, List, [], ◌∷◌, ◌++◌, map, length, reverse, Vec, Global, false, Option, Some, None, refl, sym, ap, subst, ◌∙◌, arith, append_assoc, append-nil, length-append}
+use Rattle.std.proofs.Common.{◌≡◌, ◌≢◌, ℕ, ◌+◌, ◌<◌, ◌≤◌, inl, inr, List, [], ◌∷◌, ◌++◌, map, length, reverse, Vec, Global, false, Option, Some, refl, sym, ap, subst, ◌∙◌, arith, append_assoc, length-append}
 use Rattle.std.proofs.lemmas.List.{map-append, length-map, reverse-append}
 use Rattle.cose_iana.specs.Algorithms.{is_algorithm}
 use Rattle.cose_iana.specs.Registry.{is_private_use}
@@ -14,7 +14,7 @@ use Rattle.coset_headers.specs.Headers.{list_of_three}
 use Rattle.coset_kdf.specs.Contexts.{HasPublic, maybe_bytes, four_and}
 use Rattle.coset_kdf.specs.Fields.{PublicFields}
 use Rattle.coset_kdf.specs.Steps.{HasTwo, WrongTwo, Popped, WrongPopped}
-use Rattle.coset_kdf.specs.Wrong.{NoBytesOrNil, WrongNonce, WrongParty, no_array, not_three, wrong_identity, wrong_nonce, wrong_other, WrongPublic, no_list, not_two_or_three, wrong_length, in_protected, no_bytes, WrongContext, not_list, too_few, wrong_algorithm, in_party_u, in_party_v, in_public, in_private}
+use Rattle.coset_kdf.specs.Wrong.{WrongNonce, WrongParty, no_array, not_three, wrong_identity, wrong_nonce, wrong_other, WrongPublic, no_list, not_two_or_three, wrong_length, in_protected, no_bytes, WrongContext, not_list, too_few, wrong_algorithm, in_party_u, in_party_v, in_public, in_private}
 
 pub passed_on : (P Q : CoseFault → Type 0) (e : CoseError) → (P (fault_of e) → Q (fault_of e)) → OrMemory P e → OrMemory Q e
 passed_on P Q e f (inl m) = inl m

@@ -3,7 +3,7 @@
 use Rattle.std.specs.Prelude.{◌≡◌, ℕ, ℤ, pos, negsuc, List, [], ◌∷◌, Bool, false, if◌then◌else◌, nat_eq, nat_lt, Option, Some, None, map}
 use Rattle.cose_iana.specs.Algorithms.{is_algorithm}
 use Rattle.cose_iana.specs.Registry.{is_private_use}
-use Rattle.ciborium_value.specs.Tree.{Tree, integer, bytes, array, simple, Trees, no_trees, one_more}
+use Rattle.ciborium_value.specs.Tree.{Tree, integer, bytes, array, simple, Trees, one_more}
 use Rattle.ciborium_value.specs.View.{trees}
 use Rattle.coset_labels.specs.Labels.{is_i64, named_of}
 use Rattle.coset_headers.specs.Headers.{HasProtected, list_of_three}

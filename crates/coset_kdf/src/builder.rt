@@ -1,11 +1,11 @@
 //! Builders of KDF contexts and their parts.
-ghost use Rattle.std.specs.Prelude.{◌≡◌, ◌++◌, ◌∷◌, [], Some, None, MatchResult};
+ghost use Rattle.std.specs.Prelude.{◌≡◌, Some, None, MatchResult};
 ghost use Rattle.cose_iana.specs.Algorithms.{algorithm_number};
 ghost use Rattle.coset_labels.specs.Fields.{assigned};
 ghost use Rattle.coset_labels.specs.declared.error.CoseError.TheVariants.{Memory};
 ghost use Rattle.coset_headers.specs.Fields.{protected};
 ghost use Rattle.coset_headers.specs.View.{header_view};
-ghost use Rattle.coset_kdf.specs.Builders.{context_so_far, party_so_far, public_so_far};
+ghost use Rattle.coset_kdf.specs.Builders.{context_so_far, party_so_far, public_so_far, with_private};
 ghost use Rattle.coset_kdf.specs.Fields.{no_context, no_party, no_public};
 ghost use Rattle.coset_kdf.specs.View.{context_view, nonce_view, party_view, public_view};
 
@@ -173,7 +173,7 @@ impl CoseKdfContextBuilder {
     /// # Errors
     /// Only where memory is refused.
     pub fn add_supp_priv_info(mut self, info: Vec<u8>) -> Result<CoseKdfContextBuilder, CoseError>
-        ensures { MatchResult result (λ b. context_so_far b ≡ (let c = context_so_far self in record c { privates = c.privates ++ info.items ∷ [] })) (λ e. e ≡ Memory) }
+        ensures { MatchResult result (λ b. context_so_far b ≡ with_private info.items (context_so_far self)) (λ e. e ≡ Memory) }
     {
         self.context.supp_priv_info.push(info)?;
         Ok(self)

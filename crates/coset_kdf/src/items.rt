@@ -55,7 +55,8 @@ pub(crate) fn four(mut items: Vec<Value>) -> (Value, Value, Value, Value)
 /// Takes the items behind the fourth, which have to be byte strings, from the last to the first, and gives them in their order.
 pub(crate) fn pop_private(alloc: Global, items: &mut Vec<Value>) -> Result<Vec<Vec<u8>>, CoseError>
     requires { 4 ≤ length items.old.items }
-    ensures { MatchResult result (λ v. Popped (map view items.old.items) (map view items.new.items) (map (λ b. b.items) v.items)) (λ e. OrMemory (WrongPopped (map view items.old.items)) e) }
+    ensures { MatchResult result (λ v. Popped (map view items.old.items) (map view items.new.items) (map (λ b. b.items) v.items))
+        (λ e. OrMemory (WrongPopped (map view items.old.items)) e) }
 {
     let mut private = Vec::new(alloc);
     while items.len() > 4 {

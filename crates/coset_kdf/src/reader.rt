@@ -71,7 +71,8 @@ fn read_two(
     second: Value,
     other: Option<Vec<u8>>,
 ) -> Result<SuppPubInfo, CoseError>
-    ensures { MatchResult result (λ s. HasTwo (view first) (view second) (option_map (λ v. v.items) other) (public_view s)) (λ e. OrMemory (WrongTwo (view first) (view second)) e) }
+    ensures { MatchResult result (λ s. HasTwo (view first) (view second) (option_map (λ v. v.items) other) (public_view s))
+        (λ e. OrMemory (WrongTwo (view first) (view second)) e) }
 {
     let protected = ProtectedHeader::from_cbor_bstr(alloc, second)?;
     let key_data_length = read_length(first)?;
@@ -96,7 +97,8 @@ fn read_length(value: Value) -> Result<u64, CoseError>
 
 /// Reads a context.
 pub(crate) fn read_context(alloc: Global, value: Value) -> Result<CoseKdfContext, CoseError>
-    ensures { MatchResult result (λ c. HasContext 256 (view value) (context_view c) 16) (λ e. OrMemory (WrongContext 256 (view value) 16) e) }
+    ensures { MatchResult result (λ c. HasContext 256 (view value) (context_view c) 16)
+        (λ e. OrMemory (WrongContext 256 (view value) 16) e) }
 {
     let mut items = value.try_as_array()?;
     if items.len() < 4 {

@@ -58,7 +58,8 @@ pub(crate) fn write_public(alloc: Global, info: SuppPubInfo) -> Result<Value, Co
 
 /// The array that stands for a context.
 pub(crate) fn write_context(alloc: Global, context: CoseKdfContext) -> Result<Value, CoseError>
-    ensures { MatchResult result (λ v. context_tree (context_view context) ≡ Some (view v)) (λ e. CantWrite (context_tree (context_view context)) e) }
+    ensures { MatchResult result (λ v. context_tree (context_view context) ≡ Some (view v))
+        (λ e. CantWrite (context_tree (context_view context)) e) }
 {
     let algorithm = context.algorithm_id.to_cbor_value(alloc)?;
     let party_u = write_party(alloc, context.party_u_info)?;
@@ -74,7 +75,8 @@ pub(crate) fn write_context(alloc: Global, context: CoseKdfContext) -> Result<Va
 }
 
 fn push_private(items: &mut Vec<Value>, private: Vec<Vec<u8>>) -> Result<(), CoseError>
-    ensures { MatchResult result (λ _. map view items.new.items ≡ map view items.old.items ++ map bytes (map (λ v. v.items) private.items)) (λ e. e ≡ Memory) }
+    ensures { MatchResult result (λ _. map view items.new.items ≡ map view items.old.items ++ map bytes (map (λ v. v.items) private.items))
+        (λ e. e ≡ Memory) }
 {
     'private: for bytes in private {
         items.push(Value::Bytes(bytes))?;

@@ -4,7 +4,6 @@ use Rattle.std.specs.Int.{to_be_bytes}
 use Rattle.ciborium_ll.specs.Title.{shortest, first_byte, title_of}
 use Rattle.ciborium_ll.specs.declared.hdr.Header.TheVariants.{Text}
 use Rattle.std.specs.Ordering.{ordering_then, bool_cmp}
-use Rattle.ciborium_value.specs.Tree.{Tree}
 use Rattle.ciborium_value.specs.Canonical.{bytewise, text_cmp}
 use Rattle.ciborium_value.specs.Facts.Orders.{then_equal}
 use Rattle.coset_labels.specs.Fields.{Named}

@@ -1,4 +1,4 @@
-use Rattle.std.proofs.Common.{subst, take_all, arith}
+use Rattle.std.proofs.Common.{subst, take_all}
 use Rattle.coset_headers.proofs.Fit.{Each, NameFits, each_taken, names_all}
 use Rattle.coset_headers.proofs.fits.crit_fits.Goals as goal
 

@@ -1,4 +1,4 @@
-use Rattle.std.proofs.Common.{◌∙◌, sym, arith}
+use Rattle.std.proofs.Common.{arith}
 use Rattle.std.proofs.lemmas.Result.{err_from_is_err_and}
 use Rattle.coset_kdf.proofs.Steps.{party_kind, party_count, party_other, party_nonce, party_identity}
 use Rattle.coset_kdf.proofs.reader.read_party.Goals as goal

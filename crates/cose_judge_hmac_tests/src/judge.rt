@@ -1,0 +1,28 @@
+//! The judge by HMAC, as the gate asks it.
+use crate::tags::{key, protected};
+use cose_gate::{About, Judge, Kind};
+use cose_hmac::hmac_sha256;
+use cose_judge_hmac::HmacJudge;
+use coset_headers::Header;
+use coset_keys::CoseKeySet;
+use std::test::Fail;
+
+#[test]
+fn pieces_are_judged(rt: HostRuntime) -> Result<(), Fail> {
+    let alloc = rt.alloc();
+    let mut keys = Vec::new(alloc);
+    keys.push(key(alloc, b"", &[0])?)?;
+    let keys = CoseKeySet(keys);
+    let protected = protected(alloc, "a10105")?;
+    let unprotected = Header::new(alloc);
+    let tag = hmac_sha256(&[0], b"text");
+    let mut judge = HmacJudge::new(&keys);
+    judge.begin(&About::alone(Kind::Mac0, &protected, &unprotected))?;
+    judge.feed(b"te")?;
+    judge.feed(b"xt")?;
+    assert!(rt; judge.decide(&tag));
+    judge.begin(&About::alone(Kind::Sign1, &protected, &unprotected))?;
+    judge.feed(b"text")?;
+    assert!(rt; !judge.decide(&tag));
+    Ok(())
+}

@@ -1,0 +1,5 @@
+//! Tests of claims, by their public names.
+#![tactic(auto)]
+
+#[cfg(test)]
+mod claims;

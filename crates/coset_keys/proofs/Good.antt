@@ -1,0 +1,196 @@
+-- The fields of a key that was read.
+use Rattle.std.proofs.Common.{◌≡◌, ◌≢◌, ℕ, ℤ, pos, ◌⊎◌, inl, inr, ⊎_elim, List, [], ◌∷◌, ◌++◌, map, Bool, true, false, cond, Option, Some, None, option_map, option_and_then, refl, sym, ap, subst, ◌∙◌}
+use Rattle.std.specs.Prelude.{◌||◌, ◌↔◌}
+use Rattle.std.specs.Cmp.{IsEquivalence}
+use Rattle.std.specs.List.{Contains, IsDistinct, AllByRecursion}
+use Rattle.std.specs.List.Sorted.{IsPermutation, IsStrictlySortedBy}
+use Rattle.std.specs.Ordering.{is_eq}
+use Rattle.std.proofs.lemmas.Cmp.{eq_by_cmp_equiv}
+use Rattle.std.proofs.lemmas.List.Sorted.{Contains-permutation, IsPermutation-sym}
+use Rattle.std.proofs.lemmas.Map.Keys.{IsDistinct-from_sorted, IsDistinct-head, IsDistinct-tail, IsDistinct-cons, IsDistinct-IsPermutation}
+use Rattle.cose_iana.specs.Algorithms.{is_algorithm}
+use Rattle.cose_iana.specs.Keys.{key_types, key_operations}
+use Rattle.cose_iana.specs.Registry.{is_private_use}
+use Rattle.ciborium_value.specs.Tree.{Tree, integer, bytes, text, array, map as map_tree, tag, simple, float, Trees, no_trees, one_more, Pairs, no_pairs, pair_more}
+use Rattle.ciborium_value.specs.View.{trees, pairs}
+use Rattle.coset_labels.specs.Fields.{LabelFields, number, words, Named, private_use, assigned, named}
+use Rattle.coset_labels.specs.Kinds.{some_bytes}
+use Rattle.coset_labels.specs.Labels.{is_i64, label_of, label_tree, registered_of, named_of, named_tree}
+use Rattle.coset_labels.specs.Orders.{label_cmp, label_total, labels_same, named_cmp}
+use Rattle.coset_headers.specs.Headers.{is_at, alg_of, entries, at, IsIn, Distinct, IsField}
+use Rattle.coset_headers.specs.Written.{name_entry, bytes_entry, entry_tree, tree_of, twice}
+use Rattle.coset_headers.proofs.Entered.{bool_cases, at_none}
+use Rattle.coset_headers.proofs.Written.{once_only}
+use Rattle.coset_keys.specs.Fields.{KeyFields, reserved}
+use Rattle.coset_keys.specs.Keys.{is_own, type_of, operation_of, operations_of, Rises, HasOperations, HasKeyOps, params_of, AreFields, HasKey}
+use Rattle.coset_keys.specs.Sorted.{SameButOrder}
+use Rattle.coset_keys.specs.Written.{ops_entry, key_entries, key_tree}
+use Rattle.coset_keys.proofs.Rising.{contains_head, contains_tail, contains_cases, contains_none}
+
+-- ---- a label, a name: the tree that it was read from stands for it
+label_if : (b : Bool) (i : ℤ) (l : LabelFields) → cond b (Some (number i)) None ≡ Some l → label_tree l ≡ integer i
+label_if true i l e = let h : Some (number i) ≡ Some l = e in let s : l ≡ number i = cc in ap label_tree s
+label_if false i l e = let h : None ≡ Some l = e in cc
+
+label_back : (t : Tree) (l : LabelFields) → label_of t ≡ Some l → label_tree l ≡ t
+label_back (integer i) l e = label_if (is_i64 i) i l e
+label_back (text b) l e = let h : Some (words b) ≡ Some l = e in let s : l ≡ words b = cc in ap label_tree s
+label_back (bytes b) l e = let h : None ≡ Some l = e in cc
+label_back (array ts) l e = let h : None ≡ Some l = e in cc
+label_back (map_tree ps) l e = let h : None ≡ Some l = e in cc
+label_back (tag n t) l e = let h : None ≡ Some l = e in cc
+label_back (simple n) l e = let h : None ≡ Some l = e in cc
+label_back (float f) l e = let h : None ≡ Some l = e in cc
+
+registered_if : (a b : Bool) (i : ℤ) (n : Named) → cond a (cond b (Some (assigned i)) None) None ≡ Some n → named_tree n ≡ integer i
+registered_if true true i n e = let h : Some (assigned i) ≡ Some n = e in let s : n ≡ assigned i = cc in ap named_tree s
+registered_if true false i n e = let h : None ≡ Some n = e in cc
+registered_if false b i n e = let h : None ≡ Some n = e in cc
+
+registered_back : (r : ℤ → Bool) (t : Tree) (n : Named) → registered_of r t ≡ Some n → named_tree n ≡ t
+registered_back r (integer i) n e = registered_if (is_i64 i) (r i) i n e
+registered_back r (text b) n e = let h : Some (named b) ≡ Some n = e in let s : n ≡ named b = cc in ap named_tree s
+registered_back r (bytes b) n e = let h : None ≡ Some n = e in cc
+registered_back r (array ts) n e = let h : None ≡ Some n = e in cc
+registered_back r (map_tree ps) n e = let h : None ≡ Some n = e in cc
+registered_back r (tag m t) n e = let h : None ≡ Some n = e in cc
+registered_back r (simple m) n e = let h : None ≡ Some n = e in cc
+registered_back r (float f) n e = let h : None ≡ Some n = e in cc
+
+named_if : (a b c : Bool) (i : ℤ) (n : Named) → cond a (cond b (Some (assigned i)) (cond c (Some (private_use i)) None)) None ≡ Some n → named_tree n ≡ integer i
+named_if true true c i n e = let h : Some (assigned i) ≡ Some n = e in let s : n ≡ assigned i = cc in ap named_tree s
+named_if true false true i n e = let h : Some (private_use i) ≡ Some n = e in let s : n ≡ private_use i = cc in ap named_tree s
+named_if true false false i n e = let h : None ≡ Some n = e in cc
+named_if false b c i n e = let h : None ≡ Some n = e in cc
+
+named_back : (r p : ℤ → Bool) (t : Tree) (n : Named) → named_of r p t ≡ Some n → named_tree n ≡ t
+named_back r p (integer i) n e = named_if (is_i64 i) (r i) (p i) i n e
+named_back r p (text b) n e = let h : Some (named b) ≡ Some n = e in let s : n ≡ named b = cc in ap named_tree s
+named_back r p (bytes b) n e = let h : None ≡ Some n = e in cc
+named_back r p (array ts) n e = let h : None ≡ Some n = e in cc
+named_back r p (map_tree ps) n e = let h : None ≡ Some n = e in cc
+named_back r p (tag m t) n e = let h : None ≡ Some n = e in cc
+named_back r p (simple m) n e = let h : None ≡ Some n = e in cc
+named_back r p (float f) n e = let h : None ≡ Some n = e in cc
+
+-- ---- what the fields of a key that was read are
+pub record GoodEntry (e : LabelFields × Tree) : Type 0 where
+  pub label : label_of (label_tree e.0) ≡ Some e.0
+  pub other : is_own e.0 ≡ false
+
+pub record IsKey (k : KeyFields) : Type 0 where
+  pub kty : type_of (named_tree k.kty) ≡ Some k.kty
+  pub typed : k.kty ≢ reserved
+  pub alg : (a : Named) → k.alg ≡ Some a → named_of is_algorithm is_private_use (named_tree a) ≡ Some a
+  pub operations : (n : Named) → Contains k.key_ops n → operation_of (named_tree n) ≡ Some n
+  pub rising : IsStrictlySortedBy named_cmp k.key_ops
+  pub params : (e : LabelFields × Tree) → Contains k.params e → GoodEntry e
+  pub distinct : Distinct k.params
+
+type_good : (o : Option Tree) (n : Named) → IsField type_of reserved o n → n ≢ reserved → type_of (named_tree n) ≡ Some n
+type_good None n f d = absurd (d f)
+type_good (Some t) n f d = ap type_of (registered_back key_types.is_registered t n f) ∙ f
+
+alg_some : (o : Option Named) (a : Named) → option_map Some o ≡ Some (Some a) → o ≡ Some a
+alg_some None a e = let h : None ≡ Some (Some a) = e in cc
+alg_some (Some n) a e = let h : Some (Some n) ≡ Some (Some a) = e in cc
+
+alg_good : (o : Option Tree) (x : Option Named) → IsField alg_of None o x → (a : Named) → x ≡ Some a → named_of is_algorithm is_private_use (named_tree a) ≡ Some a
+alg_good None x f a e = let h : None ≡ Some a = sym f ∙ e in cc
+alg_good (Some t) x f a e =
+    let is : named_of is_algorithm is_private_use t ≡ Some a = alg_some (named_of is_algorithm is_private_use t) a (f ∙ ap Some e) in
+    ap (named_of is_algorithm is_private_use) (named_back is_algorithm is_private_use t a is) ∙ is
+
+record FirstOf (o : Option Named) (w : Option (List Named)) (all : List Named) : Type 0 where
+  name : Named
+  rest : List Named
+  is : o ≡ Some name
+  others : w ≡ Some rest
+  whole : all ≡ name ∷ rest
+
+first_of : (o : Option Named) (w : Option (List Named)) (all : List Named) → option_and_then (λ n. option_map (λ ns. n ∷ ns) w) o ≡ Some all → FirstOf o w all
+first_of None w all e = let h : None ≡ Some all = e in cc
+first_of (Some n) None all e = let h : None ≡ Some all = e in cc
+first_of (Some n) (Some ns) all e = let h : Some (n ∷ ns) ≡ Some all = e in record { name = n; rest = ns; is = refl; others = refl; whole = cc }
+
+listed_good : (ts : Trees) (ms : List Named) → operations_of ts ≡ Some ms → (n : Named) → Contains ms n → operation_of (named_tree n) ≡ Some n
+listed_good no_trees ms e n c = let h : Some [] ≡ Some ms = e in let s : ms ≡ [] = cc in absurd (contains_none n (subst (λ z. Contains z n) s c))
+listed_good (one_more t ts) ms e n c =
+    let w = first_of (operation_of t) (operations_of ts) ms e in
+    ⊎_elim
+    (λ q. let is : operation_of t ≡ Some n = w.is ∙ ap Some q in ap operation_of (registered_back key_operations.is_registered t n is) ∙ is)
+    (λ d. listed_good ts w.rest w.others n d)
+    (contains_cases w.name w.rest n (subst (λ z. Contains z n) w.whole c))
+
+ops_good : (o : Option Tree) (ns : List Named) → HasKeyOps o ns → (n : Named) → Contains ns n → operation_of (named_tree n) ≡ Some n
+ops_good None ns a n c = absurd (contains_none n (subst (λ z. Contains z n) a c))
+ops_good (Some t) ns a n c = listed_good a.items a.listed a.read n ((a.rises.same n).1 c)
+
+none_rise : IsStrictlySortedBy named_cmp []
+unfolding IsStrictlySortedBy
+none_rise = tt
+
+ops_rise : (o : Option Tree) (ns : List Named) → HasKeyOps o ns → IsStrictlySortedBy named_cmp ns
+ops_rise None ns a = subst (IsStrictlySortedBy named_cmp) (sym a) none_rise
+ops_rise (Some t) ns a = a.rises.ordered
+
+-- the entries of a map have labels
+record FirstEntry (o : Option LabelFields) (w : Option (List (LabelFields × Tree))) (v : Tree) (all : List (LabelFields × Tree)) : Type 0 where
+  label : LabelFields
+  rest : List (LabelFields × Tree)
+  is : o ≡ Some label
+  others : w ≡ Some rest
+  whole : all ≡ (label, v) ∷ rest
+
+first_entry : (o : Option LabelFields) (w : Option (List (LabelFields × Tree))) (v : Tree) (all : List (LabelFields × Tree)) → option_and_then (λ m. option_map (λ es. (m, v) ∷ es) w) o ≡ Some all → FirstEntry o w v all
+first_entry None w v all e = let h : None ≡ Some all = e in cc
+first_entry (Some m) None v all e = let h : None ≡ Some all = e in cc
+first_entry (Some m) (Some es) v all e = let h : Some ((m, v) ∷ es) ≡ Some all = e in record { label = m; rest = es; is = refl; others = refl; whole = cc }
+
+labels_good : (ps : Pairs) (es : List (LabelFields × Tree)) → entries ps ≡ Some es → (e : LabelFields × Tree) → Contains es e → label_of (label_tree e.0) ≡ Some e.0
+labels_good no_pairs es q e c = let h : Some [] ≡ Some es = q in let s : es ≡ [] = cc in absurd (contains_none e (subst (λ z. Contains z e) s c))
+labels_good (pair_more l v ps) es q e c =
+    let w = first_entry (label_of l) (entries ps) v es q in
+    ⊎_elim
+    (λ r. let is : label_of l ≡ Some e.0 = w.is ∙ ap (λ z. Some z.0) r in ap label_of (label_back l e.0 is) ∙ is)
+    (λ d. labels_good ps w.rest w.others e d)
+    (contains_cases (w.label, v) w.rest e (subst (λ z. Contains z e) w.whole c))
+
+kept_by : (b : Bool) (x : LabelFields × Tree) (es zs : List (LabelFields × Tree)) (e : LabelFields × Tree) → is_own x.0 ≡ b → (Contains zs e → Contains es e × (is_own e.0 ≡ false)) → Contains (cond b zs (x ∷ zs)) e → Contains (x ∷ es) e × (is_own e.0 ≡ false)
+kept_by true x es zs e o f c = let r = f c in (contains_tail x es e r.0, r.1)
+kept_by false x es zs e o f c = ⊎_elim
+    (λ q. (subst (λ z. Contains (x ∷ es) z) q (contains_head x es), subst (λ z. is_own z.0 ≡ false) q o))
+    (λ d. let r = f d in (contains_tail x es e r.0, r.1))
+    (contains_cases x zs e c)
+
+in_params : (es : List (LabelFields × Tree)) (e : LabelFields × Tree) → Contains (params_of es) e → Contains es e × (is_own e.0 ≡ false)
+in_params [] e c = absurd (contains_none e c)
+in_params (x ∷ es) e c = kept_by (is_own x.0) x es (params_of es) e refl (in_params es e) c
+
+in_kept : (b : Bool) (l : LabelFields) (e : LabelFields × Tree) (es zs : List (LabelFields × Tree)) → (IsIn l zs → IsIn l es) → IsIn l (cond b zs (e ∷ zs)) → IsIn l (e ∷ es)
+in_kept true l e es zs f i = inr (f i)
+in_kept false l e es zs f (inl q) = inl q
+in_kept false l e es zs f (inr i) = inr (f i)
+
+in_others : (l : LabelFields) (es : List (LabelFields × Tree)) → IsIn l (params_of es) → IsIn l es
+in_others l [] i = i
+in_others l (e ∷ es) i = in_kept (is_own e.0) l e es (params_of es) (in_others l es) i
+
+distinct_kept : (b : Bool) (e : LabelFields × Tree) (zs : List (LabelFields × Tree)) → Distinct zs → (IsIn e.0 zs → ⊥) → Distinct (cond b zs (e ∷ zs))
+distinct_kept true e zs d n = d
+distinct_kept false e zs d n = (n, d)
+
+distinct_params : (es : List (LabelFields × Tree)) → Distinct es → Distinct (params_of es)
+distinct_params [] d = tt
+distinct_params (e ∷ es) d = distinct_kept (is_own e.0) e (params_of es) (distinct_params es d.1) (λ i. d.0 (in_others e.0 es i))
+
+pub is_key : (t : Tree) (k : KeyFields) → HasKey t k → IsKey k
+is_key t k a = record {
+  kty = type_good (at 1 a.es) k.kty a.fields.kty a.typed;
+  typed = a.typed;
+  alg = alg_good (at 3 a.es) k.alg a.fields.alg;
+  operations = ops_good (at 4 a.es) k.key_ops a.fields.key_ops;
+  rising = ops_rise (at 4 a.es) k.key_ops a.fields.key_ops;
+  params = λ e c. let r = in_params a.es e (subst (λ z. Contains z e) a.fields.params c) in record { label = labels_good a.pairs a.es a.labels e r.0; other = r.1 };
+  distinct = subst Distinct (sym a.fields.params) (distinct_params a.es a.distinct);
+}

@@ -1,0 +1,12 @@
+pub mod Builders
+pub mod Fields
+pub mod Fitting
+pub mod Keys
+pub mod MlDsa
+pub mod Parts
+pub mod Places
+pub mod Points
+pub mod Sorted
+pub mod View
+pub mod Written
+pub mod Wrong

@@ -1,0 +1,44 @@
+-- The fields that the entries of a key that are read so far have given.
+use Rattle.std.specs.Prelude.{◌≡◌, ℕ, pos, [], ◌∷◌, ◌++◌, List, false, Some}
+use Rattle.ciborium_value.specs.Tree.{Tree, Pairs}
+use Rattle.coset_labels.specs.Fields.{LabelFields, number, Named}
+use Rattle.coset_labels.specs.Kinds.{some_bytes}
+use Rattle.coset_labels.specs.Labels.{label_of}
+use Rattle.coset_headers.specs.Headers.{alg_of, Distinct, entries}
+use Rattle.coset_headers.specs.Parts.{Sees}
+use Rattle.coset_headers.specs.declared.seen.Seen.{Seen}
+use Rattle.coset_keys.specs.Fields.{KeyFields}
+use Rattle.coset_keys.specs.Keys.{is_own, type_of, HasOperations, AreFields}
+use Rattle.coset_keys.specs.View.{key_view}
+use Rattle.coset_keys.specs.declared.key.CoseKey.{CoseKey}
+
+-- the entry gives one field, and the others stay
+pub data Fills (l : LabelFields) (v : Tree) (p q : KeyFields) : Type 0 where
+  fills_kty : (n : Named) → l ≡ number (pos 1) → type_of v ≡ Some n → q ≡ record p { kty = n } → Fills l v p q
+  fills_key_id : (b : List ℕ) → l ≡ number (pos 2) → some_bytes v ≡ Some b → q ≡ record p { key_id = b } → Fills l v p q
+  fills_alg : (a : Named) → l ≡ number (pos 3) → alg_of v ≡ Some (Some a) → q ≡ record p { alg = Some a } → Fills l v p q
+  fills_key_ops : (ns : List Named) → l ≡ number (pos 4) → HasOperations v ns → q ≡ record p { key_ops = ns } → Fills l v p q
+  fills_base_iv : (b : List ℕ) → l ≡ number (pos 5) → some_bytes v ≡ Some b → q ≡ record p { base_iv = b } → Fills l v p q
+  fills_param : is_own l ≡ false → q ≡ record p { params = p.params ++ (l, v) ∷ [] } → Fills l v p q
+
+-- the fields are those of these entries, whose labels differ
+pub record Known (es : List (LabelFields × Tree)) (k : KeyFields) : Type 0 where
+  pub distinct : Distinct es
+  pub fields : AreFields es k
+
+-- and so are the labels that were seen
+pub record KnownIn (es : List (LabelFields × Tree)) (s : Seen) (k : CoseKey) : Type 0 where
+  pub sees : Sees s es
+  pub known : Known es (key_view k)
+
+-- one more entry is read
+pub record Added (es : List (LabelFields × Tree)) (l v : Tree) (s : Seen) (k : CoseKey) : Type 0 where
+  pub label : LabelFields
+  pub is : label_of l ≡ Some label
+  pub known : KnownIn (es ++ (label, v) ∷ []) s k
+
+-- the fields of all entries of a map
+pub record HasEntries (ps : Pairs) (k : KeyFields) : Type 0 where
+  pub es : List (LabelFields × Tree)
+  pub entries_are : entries ps ≡ Some es
+  pub known : Known es k

@@ -1,0 +1,6 @@
+pub mod Adding
+pub mod Again
+pub mod Excludes
+pub mod Steps
+pub mod Unique
+pub mod Writable

@@ -1,0 +1,7 @@
+pub mod Added
+pub mod Fields
+pub mod Shapes
+pub mod Structure
+pub mod View
+pub mod Written
+pub mod Wrong

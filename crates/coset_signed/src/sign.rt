@@ -1,0 +1,183 @@
+//! Messages with several signatures.
+ghost use Rattle.std.specs.Prelude.{◌≡◌, ◌<◌, None, Some, IfOk, IfSome, IsSomeAnd, MatchResult, length, map};
+ghost use Rattle.std.specs.List.{slice_get};
+ghost use Rattle.coset_headers.specs.View.{signature_view};
+ghost use Rattle.coset_labels.specs.Faults.{CantWrite};
+ghost use Rattle.coset_parts.specs.Calls.{TakesPairWhere, AnswersWhere};
+ghost use Rattle.coset_signed.specs.Fields.{no_sign, signature_bytes};
+ghost use Rattle.coset_signed.specs.Structure.{sign_structure, sign_covered};
+ghost use Rattle.coset_signed.specs.View.{sign_view};
+
+use crate::payload::payload_bytes;
+use coset_headers::{CoseSignature, Header, ProtectedHeader, SignatureContext, sig_structure_data};
+use coset_labels::{CoseError, Fault};
+use coset_parts::clone_bytes;
+use std::alloc::{AllocError, Global};
+
+/// A message with signatures, a COSE_Sign (RFC 9052, section 4.1).
+#[derive(Debug, PartialEq, Eq, Drop)]
+pub struct CoseSign {
+    /// The header that each signature covers.
+    pub protected: ProtectedHeader,
+    /// The header that none covers.
+    pub unprotected: Header,
+    /// What is signed; `None` where it is carried elsewhere.
+    pub payload: Option<Vec<u8>>,
+    /// The signatures, each with headers of its own. There may be none.
+    pub signatures: Vec<CoseSignature>,
+}
+
+impl CoseSign {
+    /// A message with no field. It takes no memory.
+    pub fn new(alloc: Global) -> CoseSign
+        ensures { sign_view result ≡ no_sign }
+    {
+        CoseSign {
+            protected: ProtectedHeader::new(alloc),
+            unprotected: Header::new(alloc),
+            payload: None,
+            signatures: Vec::new(alloc),
+        }
+    }
+
+    /// A message equal to this one.
+    ///
+    /// # Errors
+    /// Only where memory is refused.
+    pub fn clone(&self, alloc: Global) -> Result<CoseSign, AllocError>
+        ensures { IfOk result (λ copy. sign_view copy ≡ sign_view self.now) }
+    {
+        let protected = self.protected.clone(alloc)?;
+        let unprotected = self.unprotected.clone(alloc)?;
+        let payload = clone_bytes(alloc, &self.payload)?;
+        let signatures = clone_signatures(alloc, &self.signatures)?;
+        Ok(CoseSign {
+            protected,
+            unprotected,
+            payload,
+            signatures,
+        })
+    }
+
+    /// The bytes that a signature with the headers of this one covers (RFC 9052, section 4.4). A payload that is carried elsewhere
+    /// counts as empty.
+    ///
+    /// # Errors
+    /// `DuplicateMapKey` exactly where one of the protected headers can't be written, or `Memory`.
+    pub fn tbs_data(
+        &self,
+        alloc: Global,
+        aad: &[u8],
+        signature: &CoseSignature,
+    ) -> Result<Vec<u8>, CoseError>
+        ensures { MatchResult result (λ v. sign_covered (sign_view self.now) (signature_view signature.now) aad.now ≡ Some v.items)
+            (λ e. CantWrite (sign_covered (sign_view self.now) (signature_view signature.now) aad.now) e) }
+    {
+        self.covered(alloc, payload_bytes(&self.payload), aad, signature)
+    }
+
+    /// The bytes that a signature with the headers of this one covers where the payload is carried elsewhere: this payload (RFC 9052,
+    /// section 4.4).
+    ///
+    /// # Errors
+    /// As of `tbs_data`.
+    pub fn tbs_detached_data(
+        &self,
+        alloc: Global,
+        payload: &[u8],
+        aad: &[u8],
+        signature: &CoseSignature,
+    ) -> Result<Vec<u8>, CoseError>
+        requires { self.now.payload ≡ None }
+        ensures { MatchResult result (λ v. sign_structure (sign_view self.now) (signature_view signature.now) payload.now aad.now ≡ Some v.items)
+            (λ e. CantWrite (sign_structure (sign_view self.now) (signature_view signature.now) payload.now aad.now) e) }
+    {
+        self.covered(alloc, payload, aad, signature)
+    }
+
+    fn covered(
+        &self,
+        alloc: Global,
+        payload: &[u8],
+        aad: &[u8],
+        signature: &CoseSignature,
+    ) -> Result<Vec<u8>, CoseError>
+        ensures { MatchResult result (λ v. sign_structure (sign_view self.now) (signature_view signature.now) payload.now aad.now ≡ Some v.items)
+            (λ e. CantWrite (sign_structure (sign_view self.now) (signature_view signature.now) payload.now aad.now) e) }
+    {
+        sig_structure_data(
+            alloc,
+            SignatureContext::CoseSignature,
+            &self.protected,
+            Some(&signature.protected),
+            aad,
+            payload,
+        )
+    }
+
+    /// Asks the verifier about one of the signatures and the bytes that it covers. It is called at most once.
+    ///
+    /// # Errors
+    /// `Caller` with the verifier's error. `Cose` with `DuplicateMapKey` exactly where one of the protected headers can't be written, or
+    /// with `Memory`; both are met before the verifier is called.
+    pub fn verify_signature<E, V: FnOnce(&[u8], &[u8]) -> Result<(), E>>(
+        &self,
+        alloc: Global,
+        which: usize,
+        aad: &[u8],
+        verifier: V,
+    ) -> Result<(), Fault<E>>
+        requires which { which < length self.now.signatures.items }
+        requires verifier { IfSome (slice_get self.now.signatures.items which) (λ s. TakesPairWhere V.FnOnce verifier (signature_bytes (signature_view s))
+            (sign_covered (sign_view self.now) (signature_view s) aad.now)) }
+        ensures { IsSomeAnd (slice_get self.now.signatures.items which) (λ s. AnswersWhere V.FnOnce verifier (signature_bytes (signature_view s))
+            (sign_covered (sign_view self.now) (signature_view s) aad.now) result) }
+    {
+        let signature = &self.signatures[which];
+        let data = self.tbs_data(alloc, aad, signature)?;
+        verifier(signature_bytes(signature), data.as_slice()).map_err(Fault::Caller)
+    }
+
+    /// As `verify_signature`, of a payload that is carried elsewhere.
+    ///
+    /// # Errors
+    /// As of `verify_signature`.
+    pub fn verify_detached_signature<E, V: FnOnce(&[u8], &[u8]) -> Result<(), E>>(
+        &self,
+        alloc: Global,
+        which: usize,
+        payload: &[u8],
+        aad: &[u8],
+        verifier: V,
+    ) -> Result<(), Fault<E>>
+        requires which { which < length self.now.signatures.items }
+        requires detached { self.now.payload ≡ None }
+        requires verifier { IfSome (slice_get self.now.signatures.items which) (λ s. TakesPairWhere V.FnOnce verifier (signature_bytes (signature_view s))
+            (sign_structure (sign_view self.now) (signature_view s) payload.now aad.now)) }
+        ensures { IsSomeAnd (slice_get self.now.signatures.items which) (λ s. AnswersWhere V.FnOnce verifier (signature_bytes (signature_view s))
+            (sign_structure (sign_view self.now) (signature_view s) payload.now aad.now) result) }
+    {
+        let signature = &self.signatures[which];
+        let data = self.tbs_detached_data(alloc, payload, aad, signature)?;
+        verifier(signature_bytes(signature), data.as_slice()).map_err(Fault::Caller)
+    }
+}
+
+fn signature_bytes(signature: &CoseSignature) -> &[u8]
+    ensures { result.now ≡ signature_bytes (signature_view signature.now) }
+{
+    signature.signature.as_slice()
+}
+
+fn clone_signatures(
+    alloc: Global,
+    signatures: &[CoseSignature],
+) -> Result<Vec<CoseSignature>, AllocError>
+    ensures { IfOk result (λ copies. map signature_view copies.items ≡ map signature_view signatures.now) }
+{
+    let mut copies = Vec::new(alloc);
+    for signature in signatures {
+        copies.push(signature.clone(alloc)?)?;
+    }
+    Ok(copies)
+}

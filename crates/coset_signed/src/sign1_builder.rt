@@ -1,0 +1,152 @@
+//! Builders of messages with one signature.
+ghost use Rattle.std.specs.Prelude.{◌≡◌, None, Some};
+ghost use Rattle.coset_headers.specs.Fields.{protected};
+ghost use Rattle.coset_headers.specs.View.{header_view};
+ghost use Rattle.coset_parts.specs.Calls.{TakesWhere, BuiltWhere, MadeWhere};
+ghost use Rattle.coset_signed.specs.Fields.{no_sign1};
+ghost use Rattle.coset_signed.specs.Structure.{sign1_structure, sign1_covered};
+ghost use Rattle.coset_signed.specs.View.{sign1_view, sign1_built};
+
+use crate::sign1::CoseSign1;
+use coset_headers::{Header, ProtectedHeader};
+use coset_labels::{CoseError, Fault};
+use std::alloc::Global;
+
+/// A message with one signature while it is built. Calls that sign take memory; the others take none.
+#[derive(Drop)]
+pub struct CoseSign1Builder {
+    message: CoseSign1,
+}
+
+impl CoseSign1Builder {
+    /// A builder of a message with no field.
+    pub fn new(alloc: Global) -> CoseSign1Builder
+        ensures { sign1_built result ≡ no_sign1 }
+    {
+        CoseSign1Builder {
+            message: CoseSign1::new(alloc),
+        }
+    }
+
+    /// The message.
+    pub fn build(self) -> CoseSign1
+        ensures { sign1_view result ≡ sign1_built self }
+    {
+        self.message
+    }
+
+    /// Sets the protected header. It has no received bytes.
+    pub fn protected(mut self, header: Header) -> CoseSign1Builder
+        ensures { sign1_built result ≡ record (sign1_built self) { protected = protected None (header_view header) } }
+    {
+        self.message.protected = ProtectedHeader {
+            original_data: None,
+            header,
+        };
+        self
+    }
+
+    /// Sets the unprotected header.
+    pub fn unprotected(mut self, header: Header) -> CoseSign1Builder
+        ensures { sign1_built result ≡ record (sign1_built self) { unprotected = header_view header } }
+    {
+        self.message.unprotected = header;
+        self
+    }
+
+    /// Sets the payload.
+    pub fn payload(mut self, payload: Vec<u8>) -> CoseSign1Builder
+        ensures { sign1_built result ≡ record (sign1_built self) { payload = Some payload.items } }
+    {
+        self.message.payload = Some(payload);
+        self
+    }
+
+    /// Sets the signature.
+    pub fn signature(mut self, signature: Vec<u8>) -> CoseSign1Builder
+        ensures { result.message ≡ record self.message { signature = signature } }
+    {
+        self.message.signature = signature;
+        self
+    }
+
+    /// Sets the signature that the signer gives over the bytes that it covers. Header and payload are set before.
+    ///
+    /// # Errors
+    /// `DuplicateMapKey` exactly where the protected header can't be written, or `Memory`; then the signer isn't called.
+    pub fn create_signature<S: FnOnce(&[u8]) -> Vec<u8>>(
+        self,
+        alloc: Global,
+        aad: &[u8],
+        signer: S,
+    ) -> Result<CoseSign1Builder, CoseError>
+        requires { TakesWhere S.FnOnce signer (sign1_covered (sign1_built self) aad.now) }
+        ensures { BuiltWhere S.FnOnce signer (sign1_covered (sign1_built self) aad.now)
+            (λ b. b.message.signature) (λ b. b.message ≡ record self.message { signature = b.message.signature }) result }
+    {
+        let data = self.message.tbs_data(alloc, aad)?;
+        let signature = signer(data.as_slice());
+        Ok(self.signature(signature))
+    }
+
+    /// As `create_signature`, with a signer that may fail.
+    ///
+    /// # Errors
+    /// `Caller` with the signer's error. `Cose` with what `create_signature` answers.
+    pub fn try_create_signature<E, S: FnOnce(&[u8]) -> Result<Vec<u8>, E>>(
+        self,
+        alloc: Global,
+        aad: &[u8],
+        signer: S,
+    ) -> Result<CoseSign1Builder, Fault<E>>
+        requires { TakesWhere S.FnOnce signer (sign1_covered (sign1_built self) aad.now) }
+        ensures { MadeWhere S.FnOnce signer (sign1_covered (sign1_built self) aad.now)
+            (λ b. b.message.signature) (λ b. b.message ≡ record self.message { signature = b.message.signature }) result }
+    {
+        let data = self.message.tbs_data(alloc, aad)?;
+        let signature = signer(data.as_slice()).map_err(Fault::Caller)?;
+        Ok(self.signature(signature))
+    }
+
+    /// As `create_signature`, of a payload that is carried elsewhere.
+    ///
+    /// # Errors
+    /// As of `create_signature`.
+    pub fn create_detached_signature<S: FnOnce(&[u8]) -> Vec<u8>>(
+        self,
+        alloc: Global,
+        payload: &[u8],
+        aad: &[u8],
+        signer: S,
+    ) -> Result<CoseSign1Builder, CoseError>
+        requires detached { (sign1_built self).payload ≡ None }
+        requires signer { TakesWhere S.FnOnce signer (sign1_structure (sign1_built self) payload.now aad.now) }
+        ensures { BuiltWhere S.FnOnce signer (sign1_structure (sign1_built self) payload.now aad.now)
+            (λ b. b.message.signature) (λ b. b.message ≡ record self.message { signature = b.message.signature }) result }
+    {
+        let data = self.message.tbs_detached_data(alloc, payload, aad)?;
+        let signature = signer(data.as_slice());
+        Ok(self.signature(signature))
+    }
+
+    /// As `create_detached_signature`, with a signer that may fail.
+    ///
+    /// # Errors
+    /// `Caller` with the signer's error. `Cose` with what `create_detached_signature` answers.
+    pub fn try_create_detached_signature<E, S: FnOnce(&[u8]) -> Result<Vec<u8>, E>>(
+        self,
+        alloc: Global,
+        payload: &[u8],
+        aad: &[u8],
+        signer: S,
+    ) -> Result<CoseSign1Builder, Fault<E>>
+        requires detached { (sign1_built self).payload ≡ None }
+        requires signer { TakesWhere S.FnOnce signer (sign1_structure (sign1_built self) payload.now aad.now) }
+        ensures { MadeWhere S.FnOnce signer (sign1_structure (sign1_built self) payload.now aad.now)
+            (λ b. b.message.signature) (λ b. b.message ≡ record self.message { signature = b.message.signature }) result }
+    {
+        let data = self.message.tbs_detached_data(alloc, payload, aad)?;
+        let signature = signer(data.as_slice()).map_err(Fault::Caller)?;
+        Ok(self.signature(signature))
+    }
+}

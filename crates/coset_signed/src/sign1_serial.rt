@@ -1,0 +1,64 @@
+//! Messages with one signature as values and bytes.
+ghost use Rattle.coset_signed.specs.Fields.{Sign1Fields};
+ghost use Rattle.coset_signed.specs.Shapes.{HasSign1};
+ghost use Rattle.coset_signed.specs.View.{sign1_view};
+ghost use Rattle.coset_signed.specs.Written.{sign1_tree};
+ghost use Rattle.coset_signed.specs.Wrong.{WrongSign1};
+
+use crate::four::four_items;
+use crate::sign1::CoseSign1;
+use ciborium_value::Value;
+use coset_labels::{AsCborValue, CborSerializable, CoseError, TaggedCborSerializable, ValueTryAs};
+use coset_parts::{Parts, read_parts, write_parts};
+use std::alloc::Global;
+
+/// The elements are read from the last to the first.
+impl AsCborValue for CoseSign1 {
+    ghost Fields = { Sign1Fields };
+
+    ghost fields = { sign1_view };
+
+    ghost shape = { λ t m. HasSign1 256 t m 16 };
+
+    ghost wrong = { λ t e. WrongSign1 256 t 16 e };
+
+    ghost written = { sign1_tree };
+
+    fn from_cbor_value(alloc: Global, value: Value) -> Result<CoseSign1, CoseError> {
+        let (protected, unprotected, payload, signature) = four_items(value)?;
+        let signature = signature.try_as_bytes()?;
+        let parts = read_parts(alloc, protected, unprotected, payload, "bstr or nil")?;
+        Ok(CoseSign1 {
+            protected: parts.protected,
+            unprotected: parts.unprotected,
+            payload: parts.content,
+            signature,
+        })
+    }
+
+    fn to_cbor_value(self, alloc: Global) -> Result<Value, CoseError> {
+        let CoseSign1 {
+            protected,
+            unprotected,
+            payload,
+            signature,
+        } = self;
+        let parts = Parts {
+            protected,
+            unprotected,
+            content: payload,
+        };
+        let mut items = write_parts(alloc, parts)?;
+        items.push(Value::Bytes(signature))?;
+        Ok(Value::Array(items))
+    }
+}
+
+impl CborSerializable for CoseSign1 {}
+
+/// A COSE_Sign1 has tag 18 (RFC 9052, section 4.2).
+impl TaggedCborSerializable for CoseSign1 {
+    ghost TAG = { 18 };
+
+    const TAG: u64 = 18;
+}

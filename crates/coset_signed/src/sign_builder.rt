@@ -1,0 +1,197 @@
+//! Builders of messages with several signatures.
+ghost use Rattle.std.specs.Prelude.{◌≡◌, None, Some, MatchResult};
+ghost use Rattle.coset_headers.specs.Fields.{protected};
+ghost use Rattle.coset_headers.specs.View.{header_view, signature_view};
+ghost use Rattle.coset_labels.specs.declared.error.CoseError.TheVariants.{Memory};
+ghost use Rattle.coset_parts.specs.Calls.{TakesWhere};
+ghost use Rattle.coset_signed.specs.Added.{AddsWhere, TriesToAddWhere};
+ghost use Rattle.coset_signed.specs.Fields.{no_sign, signed_by, also_signed};
+ghost use Rattle.coset_signed.specs.Structure.{sign_structure, sign_covered};
+ghost use Rattle.coset_signed.specs.View.{sign_view, sign_built};
+
+use crate::sign::CoseSign;
+use coset_headers::{CoseSignature, Header, ProtectedHeader};
+use coset_labels::{CoseError, Fault};
+use std::alloc::Global;
+
+/// A message with several signatures while it is built. Calls that add a signature take memory; the others take none.
+#[derive(Drop)]
+pub struct CoseSignBuilder {
+    message: CoseSign,
+}
+
+impl CoseSignBuilder {
+    /// A builder of a message with no field.
+    pub fn new(alloc: Global) -> CoseSignBuilder
+        ensures { sign_built result ≡ no_sign }
+    {
+        CoseSignBuilder {
+            message: CoseSign::new(alloc),
+        }
+    }
+
+    /// The message.
+    pub fn build(self) -> CoseSign
+        ensures { sign_view result ≡ sign_built self }
+    {
+        self.message
+    }
+
+    /// Sets the protected header. It has no received bytes.
+    pub fn protected(mut self, header: Header) -> CoseSignBuilder
+        ensures { sign_built result ≡ record (sign_built self) { protected = protected None (header_view header) } }
+    {
+        self.message.protected = ProtectedHeader {
+            original_data: None,
+            header,
+        };
+        self
+    }
+
+    /// Sets the unprotected header.
+    pub fn unprotected(mut self, header: Header) -> CoseSignBuilder
+        ensures { sign_built result ≡ record (sign_built self) { unprotected = header_view header } }
+    {
+        self.message.unprotected = header;
+        self
+    }
+
+    /// Sets the payload.
+    pub fn payload(mut self, payload: Vec<u8>) -> CoseSignBuilder
+        ensures { sign_built result ≡ record (sign_built self) { payload = Some payload.items } }
+    {
+        self.message.payload = Some(payload);
+        self
+    }
+
+    /// Appends a signature.
+    ///
+    /// # Errors
+    /// Only where memory is refused.
+    pub fn add_signature(mut self, signature: CoseSignature) -> Result<CoseSignBuilder, CoseError>
+        ensures { MatchResult result (λ b. sign_built b ≡ also_signed (sign_built self) (signature_view signature)) (λ e. e ≡ Memory) }
+    {
+        self.message.signatures.push(signature)?;
+        Ok(self)
+    }
+
+    /// Makes room for a signature, so that none is made in vain.
+    fn with_room(mut self) -> Result<CoseSignBuilder, CoseError>
+        ensures { MatchResult result (λ b. sign_built b ≡ sign_built self) (λ e. e ≡ Memory) }
+    {
+        self.message.signatures.reserve(1)?;
+        Ok(self)
+    }
+
+    /// Appends this signature with the bytes that the signer gives over what it covers. Headers and payload are set before.
+    ///
+    /// # Errors
+    /// `DuplicateMapKey` exactly where one of the protected headers can't be written, or `Memory`; then the signer isn't called.
+    pub fn add_created_signature<S: FnOnce(&[u8]) -> Vec<u8>>(
+        self,
+        alloc: Global,
+        signature: CoseSignature,
+        aad: &[u8],
+        signer: S,
+    ) -> Result<CoseSignBuilder, CoseError>
+        requires { TakesWhere S.FnOnce signer (sign_covered (sign_built self) (signature_view signature) aad.now) }
+        ensures { AddsWhere S.FnOnce signer (sign_covered (sign_built self) (signature_view signature) aad.now)
+            (λ v b. sign_built b ≡ also_signed (sign_built self) (signed_by (signature_view signature) v.items)) result }
+    {
+        let data = self.message.tbs_data(alloc, aad, &signature)?;
+        let builder = self.with_room()?;
+        let made = signer(data.as_slice());
+        builder.add_signature(signed_by(signature, made))
+    }
+
+    /// As `add_created_signature`, with a signer that may fail.
+    ///
+    /// # Errors
+    /// `Caller` with the signer's error. `Cose` with what `add_created_signature` answers.
+    pub fn try_add_created_signature<E, S: FnOnce(&[u8]) -> Result<Vec<u8>, E>>(
+        self,
+        alloc: Global,
+        signature: CoseSignature,
+        aad: &[u8],
+        signer: S,
+    ) -> Result<CoseSignBuilder, Fault<E>>
+        requires { TakesWhere S.FnOnce signer (sign_covered (sign_built self) (signature_view signature) aad.now) }
+        ensures { TriesToAddWhere S.FnOnce signer (sign_covered (sign_built self) (signature_view signature) aad.now)
+            (λ v b. sign_built b ≡ also_signed (sign_built self) (signed_by (signature_view signature) v.items)) result }
+    {
+        let data = self.message.tbs_data(alloc, aad, &signature)?;
+        let builder = self.with_room()?;
+        match signer(data.as_slice()) {
+            Ok(made) => Ok(builder.add_signature(signed_by(signature, made))?),
+            Err(error) => Err(Fault::Caller(error)),
+        }
+    }
+
+    /// As `add_created_signature`, of a payload that is carried elsewhere.
+    ///
+    /// # Errors
+    /// As of `add_created_signature`.
+    pub fn add_detached_signature<S: FnOnce(&[u8]) -> Vec<u8>>(
+        self,
+        alloc: Global,
+        signature: CoseSignature,
+        payload: &[u8],
+        aad: &[u8],
+        signer: S,
+    ) -> Result<CoseSignBuilder, CoseError>
+        requires detached { (sign_built self).payload ≡ None }
+        requires signer { TakesWhere S.FnOnce signer (sign_structure (sign_built self) (signature_view signature) payload.now aad.now) }
+        ensures { AddsWhere S.FnOnce signer (sign_structure (sign_built self) (signature_view signature) payload.now aad.now)
+            (λ v b. sign_built b ≡ also_signed (sign_built self) (signed_by (signature_view signature) v.items)) result }
+    {
+        let data = self
+            .message
+            .tbs_detached_data(alloc, payload, aad, &signature)?;
+        let builder = self.with_room()?;
+        let made = signer(data.as_slice());
+        builder.add_signature(signed_by(signature, made))
+    }
+
+    /// As `add_detached_signature`, with a signer that may fail.
+    ///
+    /// # Errors
+    /// `Caller` with the signer's error. `Cose` with what `add_detached_signature` answers.
+    pub fn try_add_detached_signature<E, S: FnOnce(&[u8]) -> Result<Vec<u8>, E>>(
+        self,
+        alloc: Global,
+        signature: CoseSignature,
+        payload: &[u8],
+        aad: &[u8],
+        signer: S,
+    ) -> Result<CoseSignBuilder, Fault<E>>
+        requires detached { (sign_built self).payload ≡ None }
+        requires signer { TakesWhere S.FnOnce signer (sign_structure (sign_built self) (signature_view signature) payload.now aad.now) }
+        ensures { TriesToAddWhere S.FnOnce signer (sign_structure (sign_built self) (signature_view signature) payload.now aad.now)
+            (λ v b. sign_built b ≡ also_signed (sign_built self) (signed_by (signature_view signature) v.items)) result }
+    {
+        let data = self
+            .message
+            .tbs_detached_data(alloc, payload, aad, &signature)?;
+        let builder = self.with_room()?;
+        match signer(data.as_slice()) {
+            Ok(made) => Ok(builder.add_signature(signed_by(signature, made))?),
+            Err(error) => Err(Fault::Caller(error)),
+        }
+    }
+}
+
+/// The signature with these bytes.
+fn signed_by(signature: CoseSignature, bytes: Vec<u8>) -> CoseSignature
+    ensures { signature_view result ≡ signed_by (signature_view signature) bytes.items }
+{
+    let CoseSignature {
+        protected,
+        unprotected,
+        signature: _,
+    } = signature;
+    CoseSignature {
+        protected,
+        unprotected,
+        signature: bytes,
+    }
+}

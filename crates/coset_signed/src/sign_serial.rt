@@ -1,0 +1,110 @@
+//! Messages with several signatures as values and bytes.
+ghost use Rattle.std.specs.Prelude.{◌≡◌, MatchResult, map};
+ghost use Rattle.ciborium_value.specs.View.{view, views};
+ghost use Rattle.coset_labels.specs.Faults.{OrMemory};
+ghost use Rattle.coset_headers.specs.Headers.{HasSignature, HasSignatures};
+ghost use Rattle.coset_headers.specs.View.{signature_view, signatures_view};
+ghost use Rattle.coset_signed.specs.Fields.{SignFields};
+ghost use Rattle.coset_signed.specs.Shapes.{IsSignatureList, HasSign};
+ghost use Rattle.coset_signed.specs.View.{sign_view};
+ghost use Rattle.coset_signed.specs.Written.{sign_tree};
+ghost use Rattle.coset_signed.specs.Wrong.{Hides, IsNoSignature, HasNoSignature, WrongSignatureList, WrongSign};
+
+use crate::four::four_items;
+use crate::sign::CoseSign;
+use ciborium_value::Value;
+use coset_headers::CoseSignature;
+use coset_labels::{
+    AsCborValue, CborSerializable, CoseError, TaggedCborSerializable, ValueTryAs, to_cbor_array,
+};
+use coset_parts::{Parts, read_parts, write_parts};
+use std::alloc::Global;
+
+/// The elements are read from the last to the first, and the signatures from the first to the last.
+impl AsCborValue for CoseSign {
+    ghost Fields = { SignFields };
+
+    ghost fields = { sign_view };
+
+    ghost shape = { λ t m. HasSign 256 t m 16 };
+
+    ghost wrong = { λ t e. WrongSign 256 t 16 e };
+
+    ghost written = { sign_tree };
+
+    fn from_cbor_value(alloc: Global, value: Value) -> Result<CoseSign, CoseError> {
+        let (protected, unprotected, payload, signatures) = four_items(value)?;
+        let signatures = read_signatures(alloc, signatures)?;
+        let parts = read_parts(alloc, protected, unprotected, payload, "bstr or nil")?;
+        Ok(CoseSign {
+            protected: parts.protected,
+            unprotected: parts.unprotected,
+            payload: parts.content,
+            signatures,
+        })
+    }
+
+    fn to_cbor_value(self, alloc: Global) -> Result<Value, CoseError> {
+        let CoseSign {
+            protected,
+            unprotected,
+            payload,
+            signatures,
+        } = self;
+        let parts = Parts {
+            protected,
+            unprotected,
+            content: payload,
+        };
+        let mut items = write_parts(alloc, parts)?;
+        let signatures = to_cbor_array(alloc, signatures)?;
+        items.push(signatures)?;
+        Ok(Value::Array(items))
+    }
+}
+
+impl CborSerializable for CoseSign {}
+
+/// A COSE_Sign has tag 98 (RFC 9052, section 4.1).
+impl TaggedCborSerializable for CoseSign {
+    ghost TAG = { 98 };
+
+    const TAG: u64 = 98;
+}
+
+fn read_signatures(alloc: Global, value: Value) -> Result<Vec<CoseSignature>, CoseError>
+    ensures { MatchResult result (λ v. IsSignatureList 256 (view value) (map signature_view v.items) 16) (λ e. OrMemory (WrongSignatureList 256 (view value) 16) e) }
+{
+    let items = value.try_as_array()?;
+    read_list(alloc, items)
+}
+
+fn read_list(alloc: Global, items: Vec<Value>) -> Result<Vec<CoseSignature>, CoseError>
+    ensures { MatchResult result (λ v. HasSignatures 256 (views items.items) (signatures_view v.items) 16) (λ e. OrMemory (HasNoSignature 256 (views items.items) 16) e) }
+{
+    let mut signatures = Vec::new(alloc);
+    'items: for item in items {
+        let signature = read_signature(alloc, item)?;
+        signatures.push(signature)?;
+    }
+    Ok(signatures)
+}
+
+fn read_signature(alloc: Global, value: Value) -> Result<CoseSignature, CoseError>
+    ensures { MatchResult result (λ s. HasSignature 256 (view value) (signature_view s) 16) (λ e. OrMemory (IsNoSignature 256 (view value) 16) e) }
+{
+    match CoseSignature::from_cbor_value(alloc, value) {
+        Ok(signature) => Ok(signature),
+        Err(error) => Err(hide(error)),
+    }
+}
+
+/// What is wrong in a signature is not told, but for want of memory.
+fn hide(error: CoseError) -> CoseError
+    ensures { Hides error result }
+{
+    match error {
+        CoseError::Memory => CoseError::Memory,
+        _ => CoseError::UnexpectedItem("non-signature", "map for COSE_Signature"),
+    }
+}
