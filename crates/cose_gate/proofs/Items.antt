@@ -1,14 +1,14 @@
 -- One item: what is found of it, and what stands after it.
-use Rattle.std.proofs.Common.{◌≡◌, ◌≢◌, ℕ, ◌⊎◌, inl, inr, List, [], Option, None, Some, Bool, cond, refl, sym, ap, subst, ◌∙◌, take, drop, append-nil}
-use Rattle.std.specs.Prelude.{is_none}
+use Rattle.std.proofs.Common.{◌≡◌, ◌≢◌, ℕ, ◌⊎◌, inl, inr, List, [], Option, None, Some, option_map, Bool, true, false, cond, refl, sym, ap, subst, ◌∙◌, take, drop, append-nil}
+use Rattle.std.specs.Prelude.{is_none, is_some}
 use Rattle.std.specs.Io.KnownBytes.{Appends}
 use Rattle.std.proofs.KnownBytes.{Appends-nil}
 use Rattle.std.proofs.lemmas.List.{take-append-drop}
 use Rattle.ciborium_value.specs.Tree.{Tree, tag}
 use Rattle.coset_base.specs.Faults.{fault_of}
-use Rattle.cose_gate.specs.Questions.{Question, MessageFields, questions, message_text}
+use Rattle.cose_gate.specs.Questions.{Question, MessageFields, tag_of, payload_of, questions, message_text}
 use Rattle.cose_gate.specs.Asked.{asked, first_no, folded_over}
-use Rattle.cose_gate.specs.Findings.{Reason, not_tagged, encrypted, other_tag, shape, detached, judged, barred, Limits, IsJudged, IsBarred}
+use Rattle.cose_gate.specs.Findings.{Reason, not_tagged, encrypted, other_tag, shape, detached, judged, barred, Limits, HasMessage, IsJudged, IsBarred}
 use Rattle.cose_gate.specs.Run.{IsVerdict, judged_by, written_of}
 use Rattle.cose_gate.specs.Passing.{IsRefused, WentThrough, Half, IsWriteFault, ItemFails}
 use Rattle.cose_gate.specs.declared.passing.ItemFault.{ItemFault}
@@ -20,12 +20,26 @@ use Rattle.cose_gate.specs.declared.report.Verdict.TheVariants.{Passed, Refused}
 pub is_encrypted : (limits : Limits) (t u : Tree) (n : ℕ) → t ≡ tag n u → (n ≡ 16) ⊎ (n ≡ 96) → IsBarred limits t encrypted
 is_encrypted limits t u n e k = (n, u, e, k)
 
-pub is_other_tag : (limits : Limits) (t u : Tree) (n : ℕ) → t ≡ tag n u → n ≢ 16 → n ≢ 96 → n ≢ 18 → IsBarred limits t (other_tag n)
-is_other_tag limits t u n e a b c = (u, e, (λ w. not w), c)
+-- what is none stays none
+pub none_of : {A B : Type 0} (f : A → B) (o : Option A) → is_some o ≡ false → option_map f o ≡ None
+none_of f None e = refl
+none_of f (Some x) e = let h : true ≡ false = e in cc
+
+-- a message that doesn't carry its payload
+pub is_detached : (limits : Limits) (u : Tree) (m : MessageFields) → HasMessage limits u m → payload_of m ≡ None → IsBarred limits (tag (tag_of m) u) detached
+is_detached limits u m h n = (m, (u, refl, h), n)
+
+pub is_other_tag : (limits : Limits) (t u : Tree) (n : ℕ) → t ≡ tag n u → n ≢ 16 → n ≢ 96 → n ≢ 18 → n ≢ 17 → n ≢ 97 → IsBarred limits t (other_tag n)
+is_other_tag limits t u n e a b c d f = (u, e, (λ w. not w), λ w. none w)
   where
     not : (n ≡ 16) ⊎ (n ≡ 96) → ⊥
     not (inl x) = a x
     not (inr x) = b x
+
+    none : (n ≡ 17) ⊎ (n ≡ 18) ⊎ (n ≡ 97) → ⊥
+    none (inl x) = d x
+    none (inr (inl x)) = c x
+    none (inr (inr x)) = f x
 
 module _ {T : Type 0} (limits : Limits) (decided : T → Question → T) (allows : Question → Bool) (aad : List ℕ) where
   barred_as : (t : Tree) (told : T) (w : Option (List ℕ)) (r : Reason) (v : Refusal) → IsBarred limits t r

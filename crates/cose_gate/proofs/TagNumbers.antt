@@ -2,7 +2,7 @@
 use Rattle.std.proofs.Common.{◌≡◌, ◌≢◌, ℕ, pos, refl, sym, ap, ◌∙◌}
 use Rattle.cose_iana.specs.Registry.{number_of}
 use Rattle.cose_iana.specs.Tags.{cbor_tags}
-use Rattle.cose_iana.specs.declared.tags.CborTag.TheVariants.{CoseEncrypt0, CoseEncrypt, CoseSign1}
+use Rattle.cose_iana.specs.declared.tags.CborTag.TheVariants.{CoseEncrypt0, CoseEncrypt, CoseSign1, CoseMac0, CoseMac}
 
 encrypt0_number : cbor_tags.number CoseEncrypt0 ≡ pos 16
 unfolding cbor_tags number_of
@@ -33,3 +33,23 @@ not_encrypt n other e = other (ap pos e ∙ sym encrypt_number)
 
 pub not_sign1 : (n : ℕ) → pos n ≢ cbor_tags.number CoseSign1 → n ≢ 18
 not_sign1 n other e = other (ap pos e ∙ sym sign1_number)
+
+mac0_number : cbor_tags.number CoseMac0 ≡ pos 17
+unfolding cbor_tags number_of
+mac0_number = refl
+
+pub mac0_is : (n : ℕ) → pos n ≡ cbor_tags.number CoseMac0 → n ≡ 17
+mac0_is n e = let q : pos n ≡ pos 17 = e ∙ mac0_number in cc
+
+pub not_mac0 : (n : ℕ) → pos n ≢ cbor_tags.number CoseMac0 → n ≢ 17
+not_mac0 n other e = other (ap pos e ∙ sym mac0_number)
+
+mac_number : cbor_tags.number CoseMac ≡ pos 97
+unfolding cbor_tags number_of
+mac_number = refl
+
+pub mac_is : (n : ℕ) → pos n ≡ cbor_tags.number CoseMac → n ≡ 97
+mac_is n e = let q : pos n ≡ pos 97 = e ∙ mac_number in cc
+
+pub not_mac : (n : ℕ) → pos n ≢ cbor_tags.number CoseMac → n ≢ 97
+not_mac n other e = other (ap pos e ∙ sym mac_number)

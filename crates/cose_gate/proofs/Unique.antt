@@ -3,12 +3,10 @@ use Rattle.std.proofs.Common.{◌≡◌, ◌≢◌, ◌⊎◌, inl, inr, ℕ, Li
 use Rattle.ciborium_value.specs.Tree.{Tree, tag}
 use Rattle.ciborium.proofs.Sequence.{items_once}
 use Rattle.coset_base.specs.Faults.{CoseFault}
-use Rattle.coset_messages.specs.Messages.{Sign1Fields}
-use Rattle.coset_messages.specs.Shapes.{HasSign1}
-use Rattle.coset_messages.specs.WrongShapes.{WrongSign1}
 use Rattle.coset_messages.proofs.Unique.{sign1_once, sign1_not}
-use Rattle.cose_gate.specs.Questions.{Question, sign1}
-use Rattle.cose_gate.specs.Findings.{Finding, judged, barred, not_tagged, encrypted, other_tag, shape, detached, no_signature, Finds, IsMessageTag, IsEncryptedTag, Limits}
+use Rattle.coset_maced.proofs.Unique.{mac0_once, mac0_not, mac_once, mac_not}
+use Rattle.cose_gate.specs.Questions.{Question, MessageFields, sign1, mac0, mac, tag_of, payload_of}
+use Rattle.cose_gate.specs.Findings.{Finding, judged, barred, not_tagged, encrypted, other_tag, shape, detached, no_signature, Finds, IsMessageTag, IsEncryptedTag, Limits, HasMessage, WrongMessage, IsMessage}
 use Rattle.cose_gate.specs.Run.{Step, Steps, Run, asked_of, written_of, questions_of, output_of}
 
 -- the findings by the tag of the value
@@ -28,16 +26,26 @@ group (barred no_signature) = message
 abbrev InGroup : Tree → Group → Type 0
 InGroup t bare = (n : ℕ) (u : Tree) → t ≢ tag n u
 InGroup t secret = (n : ℕ) × (u : Tree) × (t ≡ tag n u) × IsEncryptedTag n
-InGroup t message = (u : Tree) × (t ≡ tag 18 u)
+InGroup t message = (n : ℕ) × (u : Tree) × (t ≡ tag n u) × IsMessageTag n
 InGroup t (other n) = (u : Tree) × (t ≡ tag n u) × (IsEncryptedTag n → ⊥) × (IsMessageTag n → ⊥)
 
+tag_is : (m : MessageFields) → IsMessageTag (tag_of m)
+tag_is (sign1 m) = inr (inl refl)
+tag_is (mac0 m) = inl refl
+tag_is (mac m) = inr (inr refl)
+
+wrong_tag : (l : Limits) (n : ℕ) (u : Tree) (f : CoseFault) → WrongMessage l n u f → IsMessageTag n
+wrong_tag l n u f (inl (e, w)) = inr (inl e)
+wrong_tag l n u f (inr (inl (e, w))) = inl e
+wrong_tag l n u f (inr (inr (e, w))) = inr (inr e)
+
 in_group : (l : Limits) (t : Tree) (f : Finding) → Finds l t f → InGroup t (group f)
-in_group l t (judged (sign1 m)) (u, e, h, p) = (u, e)
+in_group l t (judged m) ((u, e, h), p) = (tag_of m, u, e, tag_is m)
 in_group l t (barred not_tagged) h = h
 in_group l t (barred encrypted) h = h
 in_group l t (barred (other_tag n)) h = h
-in_group l t (barred shape) (f, (u, e, w)) = (u, e)
-in_group l t (barred detached) (u, m, e, h, p) = (u, e)
+in_group l t (barred shape) (f, (n, u, e, w)) = (n, u, e, wrong_tag l n u f w)
+in_group l t (barred detached) (m, (u, e, h), p) = (tag_of m, u, e, tag_is m)
 in_group l t (barred no_signature) h = absurd h
 
 same_tag : (t : Tree) (n k : ℕ) (u v : Tree) → t ≡ tag n u → t ≡ tag k v → n ≡ k
@@ -46,26 +54,30 @@ same_tag t n k u v a b = cc
 same_body : (t : Tree) (n k : ℕ) (u v : Tree) → t ≡ tag n u → t ≡ tag k v → u ≡ v
 same_body t n k u v a b = cc
 
-no_message : (n : ℕ) → IsEncryptedTag n → n ≢ 18
-no_message n (inl a) b = let h : 16 ≡ 18 = sym a ∙ b in omega arith
-no_message n (inr a) b = let h : 96 ≡ 18 = sym a ∙ b in omega arith
+no_message : (n : ℕ) → IsEncryptedTag n → IsMessageTag n → ⊥
+no_message n (inl a) (inl b) = let h : 16 ≡ 17 = sym a ∙ b in omega arith
+no_message n (inl a) (inr (inl b)) = let h : 16 ≡ 18 = sym a ∙ b in omega arith
+no_message n (inl a) (inr (inr b)) = let h : 16 ≡ 97 = sym a ∙ b in omega arith
+no_message n (inr a) (inl b) = let h : 96 ≡ 17 = sym a ∙ b in omega arith
+no_message n (inr a) (inr (inl b)) = let h : 96 ≡ 18 = sym a ∙ b in omega arith
+no_message n (inr a) (inr (inr b)) = let h : 96 ≡ 97 = sym a ∙ b in omega arith
 
 group_once : (t : Tree) (x y : Group) → InGroup t x → InGroup t y → x ≡ y
 group_once t bare bare a b = refl
 group_once t bare secret a (n, u, e, s) = absurd (a n u e)
-group_once t bare message a (u, e) = absurd (a 18 u e)
+group_once t bare message a (n, u, e, s) = absurd (a n u e)
 group_once t bare (other n) a (u, e, p, q) = absurd (a n u e)
 group_once t secret bare (n, u, e, s) b = absurd (b n u e)
 group_once t secret secret a b = refl
-group_once t secret message (n, u, e, s) (v, d) = absurd (no_message n s (same_tag t n 18 u v e d))
+group_once t secret message (n, u, e, s) (k, v, d, r) = absurd (no_message n s (subst IsMessageTag (same_tag t k n v u d e) r))
 group_once t secret (other k) (n, u, e, s) (v, d, p, q) = absurd (p (subst IsEncryptedTag (same_tag t n k u v e d) s))
-group_once t message bare (u, e) b = absurd (b 18 u e)
-group_once t message secret (u, e) (n, v, d, s) = absurd (no_message n s (same_tag t n 18 v u d e))
+group_once t message bare (n, u, e, s) b = absurd (b n u e)
+group_once t message secret (k, v, d, r) (n, u, e, s) = absurd (no_message n s (subst IsMessageTag (same_tag t k n v u d e) r))
 group_once t message message a b = refl
-group_once t message (other k) (u, e) (v, d, p, q) = absurd (q (same_tag t k 18 v u d e))
+group_once t message (other k) (n, u, e, s) (v, d, p, q) = absurd (q (subst IsMessageTag (same_tag t n k u v e d) s))
 group_once t (other n) bare (u, e, p, q) b = absurd (b n u e)
 group_once t (other k) secret (v, d, p, q) (n, u, e, s) = absurd (p (subst IsEncryptedTag (same_tag t n k u v e d) s))
-group_once t (other k) message (v, d, p, q) (u, e) = absurd (q (same_tag t k 18 v u d e))
+group_once t (other k) message (v, d, p, q) (n, u, e, s) = absurd (q (subst IsMessageTag (same_tag t n k u v e d) s))
 group_once t (other n) (other k) (u, e, s, r) (v, d, p, q) = ap other (same_tag t n k u v e d)
 
 -- the finding of a group that has one
@@ -84,42 +96,64 @@ named (barred shape) = inr refl
 named (barred detached) = inr refl
 named (barred no_signature) = inr refl
 
+-- a value has the fields of one message of each tag, and no fault as that message
+same_message : (l : Limits) (u : Tree) (a b : MessageFields) → tag_of a ≡ tag_of b → HasMessage l u a → HasMessage l u b → a ≡ b
+same_message l u (sign1 a) (sign1 b) e h g = ap sign1 (sign1_once l.nesting l.layers u a b h g)
+same_message l u (sign1 a) (mac0 b) e h g = let n : 18 ≡ 17 = e in absurd (omega arith)
+same_message l u (sign1 a) (mac b) e h g = let n : 18 ≡ 97 = e in absurd (omega arith)
+same_message l u (mac0 a) (sign1 b) e h g = let n : 17 ≡ 18 = e in absurd (omega arith)
+same_message l u (mac0 a) (mac0 b) e h g = ap mac0 (mac0_once l.nesting a b u l.layers h g)
+same_message l u (mac0 a) (mac b) e h g = let n : 17 ≡ 97 = e in absurd (omega arith)
+same_message l u (mac a) (sign1 b) e h g = let n : 97 ≡ 18 = e in absurd (omega arith)
+same_message l u (mac a) (mac0 b) e h g = let n : 97 ≡ 17 = e in absurd (omega arith)
+same_message l u (mac a) (mac b) e h g = ap mac (mac_once l.nesting a b u l.layers h g)
+
+no_fault : (l : Limits) (u : Tree) (m : MessageFields) (n : ℕ) (f : CoseFault) → n ≡ tag_of m → HasMessage l u m → WrongMessage l n u f → ⊥
+no_fault l u (sign1 m) n f e h (inl (d, w)) = sign1_not l.nesting l.layers u f m w h
+no_fault l u (sign1 m) n f e h (inr (inl (d, w))) = let p : 18 ≡ 17 = sym e ∙ d in absurd (omega arith)
+no_fault l u (sign1 m) n f e h (inr (inr (d, w))) = let p : 18 ≡ 97 = sym e ∙ d in absurd (omega arith)
+no_fault l u (mac0 m) n f e h (inl (d, w)) = let p : 17 ≡ 18 = sym e ∙ d in absurd (omega arith)
+no_fault l u (mac0 m) n f e h (inr (inl (d, w))) = mac0_not l.nesting u l.layers f w m h
+no_fault l u (mac0 m) n f e h (inr (inr (d, w))) = let p : 17 ≡ 97 = sym e ∙ d in absurd (omega arith)
+no_fault l u (mac m) n f e h (inl (d, w)) = let p : 97 ≡ 18 = sym e ∙ d in absurd (omega arith)
+no_fault l u (mac m) n f e h (inr (inl (d, w))) = let p : 97 ≡ 17 = sym e ∙ d in absurd (omega arith)
+no_fault l u (mac m) n f e h (inr (inr (d, w))) = mac_not l.nesting u l.layers f w m h
+
 -- what is found under the tag of a message
 data Body (l : Limits) (t : Tree) (f : Finding) : Type 0 where
-  carried : (u : Tree) (m : Sign1Fields) (p : List ℕ) → t ≡ tag 18 u → f ≡ judged (sign1 m) → HasSign1 l.nesting u m l.layers → m.payload ≡ Some p → Body l t f
-  apart : (u : Tree) (m : Sign1Fields) → t ≡ tag 18 u → f ≡ barred detached → HasSign1 l.nesting u m l.layers → m.payload ≡ None → Body l t f
-  wrong : (u : Tree) (e : CoseFault) → t ≡ tag 18 u → f ≡ barred shape → WrongSign1 l.nesting u l.layers e → Body l t f
+  carried : (m : MessageFields) (p : List ℕ) → f ≡ judged m → IsMessage l t m → payload_of m ≡ Some p → Body l t f
+  apart : (m : MessageFields) → f ≡ barred detached → IsMessage l t m → payload_of m ≡ None → Body l t f
+  wrong : (n : ℕ) (u : Tree) (e : CoseFault) → t ≡ tag n u → f ≡ barred shape → WrongMessage l n u e → Body l t f
 
 body : (l : Limits) (t : Tree) (f : Finding) → Finds l t f → group f ≡ message → Body l t f
-body l t (judged (sign1 m)) (u, e, h, (p, s)) g = carried u m p e refl h s
+body l t (judged m) (i, (p, s)) g = carried m p refl i s
 body l t (barred not_tagged) h g = cc
 body l t (barred encrypted) h g = cc
 body l t (barred (other_tag n)) h g = cc
-body l t (barred shape) (f, (u, e, w)) g = wrong u f e refl w
-body l t (barred detached) (u, m, e, h, n) g = apart u m e refl h n
+body l t (barred shape) (f, (n, u, e, w)) g = wrong n u f e refl w
+body l t (barred detached) (m, i, s) g = apart m refl i s
 body l t (barred no_signature) h g = absurd h
 
-module _ (n k : ℕ) where
-  same_fields : (t u v : Tree) (a b : Sign1Fields) → t ≡ tag 18 u → t ≡ tag 18 v → HasSign1 n u a k → HasSign1 n v b k → a ≡ b
-  same_fields t u v a b p q h g = sign1_once n k u a b h (subst (λ z. HasSign1 n z b k) (sym (same_body t 18 18 u v p q)) g)
+module _ (l : Limits) (t : Tree) where
+  same_fields : (a b : MessageFields) → IsMessage l t a → IsMessage l t b → a ≡ b
+  same_fields a b (u, p, h) (v, q, g) =
+      same_message l u a b (same_tag t (tag_of a) (tag_of b) u v p q) h (subst (λ z. HasMessage l z b) (sym (same_body t (tag_of a) (tag_of b) u v p q)) g)
 
-  not_both : (t u v : Tree) (m : Sign1Fields) (e : CoseFault) → t ≡ tag 18 u → t ≡ tag 18 v → HasSign1 n u m k → WrongSign1 n v k e → ⊥
-  not_both t u v m e p q h w = sign1_not n k v e m w (subst (λ z. HasSign1 n z m k) (same_body t 18 18 u v p q) h)
+  not_both : (m : MessageFields) (n : ℕ) (v : Tree) (e : CoseFault) → IsMessage l t m → t ≡ tag n v → WrongMessage l n v e → ⊥
+  not_both m n v e (u, p, h) q w = no_fault l v m n e (same_tag t n (tag_of m) v u q p) (subst (λ z. HasMessage l z m) (same_body t (tag_of m) n u v p q) h) w
 
 body_once : (l : Limits) (t : Tree) (f g : Finding) → Body l t f → Body l t g → f ≡ g
-body_once l t f g (carried u m p a c h s) (carried v n q b d k r) = c ∙ ap (λ z. judged (sign1 z)) (same_fields l.nesting l.layers t u v m n a b h k) ∙ sym d
-body_once l t f g (carried u m p a c h s) (apart v n b d k r) =
-    let e : m ≡ n = same_fields l.nesting l.layers t u v m n a b h k in
-    let x : Some p ≡ None = sym s ∙ ap (λ z. z.payload) e ∙ r in cc
-body_once l t f g (carried u m p a c h s) (wrong v e b d w) = absurd (not_both l.nesting l.layers t u v m e a b h w)
-body_once l t f g (apart u m a c h s) (carried v n q b d k r) =
-    let e : m ≡ n = same_fields l.nesting l.layers t u v m n a b h k in
-    let x : Some q ≡ None = sym r ∙ ap (λ z. z.payload) (sym e) ∙ s in cc
-body_once l t f g (apart u m a c h s) (apart v n b d k r) = c ∙ sym d
-body_once l t f g (apart u m a c h s) (wrong v e b d w) = absurd (not_both l.nesting l.layers t u v m e a b h w)
-body_once l t f g (wrong u e a c w) (carried v n q b d k r) = absurd (not_both l.nesting l.layers t v u n e b a k w)
-body_once l t f g (wrong u e a c w) (apart v n b d k r) = absurd (not_both l.nesting l.layers t v u n e b a k w)
-body_once l t f g (wrong u e a c w) (wrong v x b d y) = c ∙ sym d
+body_once l t f g (carried m p c h s) (carried n q d k r) = c ∙ ap judged (same_fields l t m n h k) ∙ sym d
+body_once l t f g (carried m p c h s) (apart n d k r) =
+    let x : Some p ≡ None = sym s ∙ ap payload_of (same_fields l t m n h k) ∙ r in cc
+body_once l t f g (carried m p c h s) (wrong n v e b d w) = absurd (not_both l t m n v e h b w)
+body_once l t f g (apart m c h s) (carried n q d k r) =
+    let x : Some q ≡ None = sym r ∙ ap payload_of (same_fields l t n m k h) ∙ s in cc
+body_once l t f g (apart m c h s) (apart n d k r) = c ∙ sym d
+body_once l t f g (apart m c h s) (wrong n v e b d w) = absurd (not_both l t m n v e h b w)
+body_once l t f g (wrong n u e a c w) (carried m q d k r) = absurd (not_both l t m n u e k a w)
+body_once l t f g (wrong n u e a c w) (apart m d k r) = absurd (not_both l t m n u e k a w)
+body_once l t f g (wrong n u e a c w) (wrong k v x b d y) = c ∙ sym d
 
 unnamed : (l : Limits) (t : Tree) (f : Finding) → Finds l t f → f ≡ barred no_signature → ⊥
 unnamed l t f h e = subst (Finds l t) e h

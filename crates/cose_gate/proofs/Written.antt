@@ -1,36 +1,51 @@
 -- A message that was read can be written.
-use Rattle.std.proofs.Common.{◌≡◌, ◌≢◌, ℕ, List, Option, Some, None, option_map, refl, ap}
+use Rattle.std.proofs.Common.{◌≡◌, ◌≢◌, ℕ, List, [], ◌∷◌, Option, Some, None, option_map, refl, sym, ap, ◌∙◌}
 use Rattle.ciborium_value.specs.Encoding.{enc}
 use Rattle.ciborium_value.specs.Tree.{Tree, tag}
-use Rattle.coset_messages.specs.Messages.{Sign1Fields, sign1_tree, sign1_covered}
+use Rattle.coset_parts.specs.Written.{content_bytes}
+use Rattle.coset_messages.specs.Messages.{sign1_covered}
 use Rattle.coset_messages.proofs.Writable.{sign1_some, covered_some}
-use Rattle.cose_gate.specs.Findings.{Limits, IsJudged}
-use Rattle.cose_gate.specs.Questions.{MessageFields, sign1, all_questions, questions, tagged_tree, message_text, or_nothing}
-
-pub judged_covered : (limits : Limits) (t : Tree) (m : Sign1Fields) (aad : List ℕ) → IsJudged limits t (sign1 m) → sign1_covered m aad ≢ None
-judged_covered limits t m aad (u, e, h, p) = covered_some limits.nesting limits.layers u m aad h
-
-pub judged_tree : (limits : Limits) (t : Tree) (m : Sign1Fields) → IsJudged limits t (sign1 m) → sign1_tree m ≢ None
-judged_tree limits t m (u, e, h, p) = sign1_some limits.nesting limits.layers u m h
+use Rattle.coset_maced.proofs.Writable.{mac0_some, mac0_covers, mac_some, mac_covers}
+use Rattle.cose_gate.specs.Findings.{Limits, HasMessage, IsJudged}
+use Rattle.cose_gate.specs.Questions.{Question, MessageFields, sign1, mac0, mac, sign1_question, mac0_question, mac_question, mac0_own, mac_own, all_questions, questions, message_tree, tag_of, tagged_tree, message_text, or_nothing}
 
 there : {A : Type 0} (o : Option (List A)) → o ≢ None → o ≡ Some (or_nothing o)
 there None n = absurd (n refl)
 there (Some xs) n = refl
 
-map_there : {A B : Type 0} (f : A → List B) (o : Option A) → o ≢ None → option_map f o ≡ Some (or_nothing (option_map f o))
-map_there f None n = absurd (n refl)
-map_there f (Some x) n = refl
+mapped : {A B : Type 0} (f : A → B) (o : Option A) → o ≢ None → option_map f o ≢ None
+mapped f None n e = n refl
+mapped f (Some x) n e = let h : Some (f x) ≡ None = e in cc
 
-twice_there : {A B C : Type 0} (f : B → List C) (g : A → B) (o : Option A) → o ≢ None → option_map f (option_map g o) ≡ Some (or_nothing (option_map f (option_map g o)))
-twice_there f g None n = absurd (n refl)
-twice_there f g (Some x) n = refl
+pub unmapped : {A B : Type 0} (f : A → B) (o : Option A) → option_map f o ≢ None → o ≢ None
+unmapped f o n e = n (ap (option_map f) e)
 
-pub judged_questions : (limits : Limits) (t : Tree) (m : MessageFields) (aad : List ℕ) → IsJudged limits t m → all_questions m aad ≡ Some (questions m aad)
-judged_questions limits t (sign1 m) aad j = map_there _ (sign1_covered m aad) (judged_covered limits t m aad j)
+has_questions : (l : Limits) (u : Tree) (m : MessageFields) (aad : List ℕ) → HasMessage l u m → all_questions m aad ≢ None
+has_questions l u (sign1 m) aad h = mapped (λ c. sign1_question m c ∷ []) (sign1_covered m aad) (covered_some l.nesting l.layers u m aad h)
+has_questions l u (mac0 m) aad h = mapped (λ c. mac0_question m c ∷ []) (mac0_own m aad) (mac0_covers l.nesting m u l.layers aad (content_bytes m.payload) h)
+has_questions l u (mac m) aad h = mapped (λ c. mac_question m c ∷ []) (mac_own m aad) (mac_covers l.nesting m u l.layers aad (content_bytes m.payload) h)
 
-pub judged_text : (limits : Limits) (t : Tree) (m : MessageFields) → IsJudged limits t m → option_map enc (tagged_tree m) ≡ Some (message_text m)
-judged_text limits t (sign1 m) j = twice_there enc (λ t. tag 18 t) (sign1_tree m) (judged_tree limits t m j)
+has_tree : (l : Limits) (u : Tree) (m : MessageFields) → HasMessage l u m → message_tree m ≢ None
+has_tree l u (sign1 m) h = sign1_some l.nesting l.layers u m h
+has_tree l u (mac0 m) h = mac0_some l.nesting m u l.layers h
+has_tree l u (mac m) h = mac_some l.nesting m u l.layers h
+
+pub judged_asked : (l : Limits) (t : Tree) (m : MessageFields) (aad : List ℕ) → IsJudged l t m → all_questions m aad ≢ None
+judged_asked l t m aad ((u, e, h), p) = has_questions l u m aad h
+
+pub judged_tree : (l : Limits) (t : Tree) (m : MessageFields) → IsJudged l t m → tagged_tree m ≢ None
+judged_tree l t m ((u, e, h), p) = mapped (λ t. tag (tag_of m) t) (message_tree m) (has_tree l u m h)
+
+pub judged_questions : (l : Limits) (t : Tree) (m : MessageFields) (aad : List ℕ) → IsJudged l t m → all_questions m aad ≡ Some (questions m aad)
+judged_questions l t m aad j = there (all_questions m aad) (judged_asked l t m aad j)
+
+pub judged_text : (l : Limits) (t : Tree) (m : MessageFields) → IsJudged l t m → option_map enc (tagged_tree m) ≡ Some (message_text m)
+judged_text l t m j = there (option_map enc (tagged_tree m)) (mapped enc (tagged_tree m) (judged_tree l t m j))
 
 -- the text of a message whose value is known
 pub text_is : (m : MessageFields) (t : Tree) → tagged_tree m ≡ Some t → message_text m ≡ enc t
 text_is m t e = ap (λ o. or_nothing (option_map enc o)) e
+
+-- the value under its tag
+pub tagged_is : (m : MessageFields) (t v : Tree) → message_tree m ≡ Some t → v ≡ tag (tag_of m) t → tagged_tree m ≡ Some v
+tagged_is m t v a b = ap (option_map (λ u. tag (tag_of m) u)) a ∙ ap Some (sym b)

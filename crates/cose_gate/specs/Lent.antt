@@ -1,11 +1,11 @@
 -- What is lent to a judge, by its values.
-use Rattle.std.specs.Prelude.{Option, Some, None, map}
+use Rattle.std.specs.Prelude.{Option, Some, None}
 use denote.Bor.{Bor}
 use Rattle.coset_base.specs.Fields.{HeaderFields, ProtectedFields}
 use Rattle.coset_base.specs.View.{header_view, protected_view}
 use Rattle.coset_headers.specs.declared.header.Header.{Header}
 use Rattle.coset_headers.specs.declared.header.ProtectedHeader.{ProtectedHeader}
-use Rattle.coset_messages.specs.View.{recipient_view}
+use Rattle.coset_recipients.specs.View.{recipients_view}
 use Rattle.cose_gate.specs.declared.about.About.{About}
 use Rattle.cose_gate.specs.Questions.{Subject}
 
@@ -19,5 +19,5 @@ subject_of a = record {
   protected = protected_view a.protected.now;
   unprotected = header_view a.unprotected.now;
   signer = signer_of a.signer;
-  recipients = map recipient_view a.recipients.now;
+  recipients = recipients_view a.recipients.now;
 }

@@ -7,6 +7,7 @@ pub mod Program
 pub mod Questions
 pub mod Recorded
 pub mod Run
+pub mod View
 pub use Rattle.ciborium_ll.specs.Fault as DeviceFault
 pub use Rattle.ciborium_ll.specs.Framing
 pub use Rattle.ciborium_ll.specs.Title
@@ -40,4 +41,18 @@ pub use Rattle.coset_messages.specs.Messages
 pub use Rattle.coset_messages.specs.Shapes
 pub use Rattle.coset_messages.specs.View as MessageView
 pub use Rattle.coset_messages.specs.WrongShapes
-pub use Rattle.coset_messages.specs.declared.recipient.CoseRecipient
+pub use Rattle.coset_parts.specs.Shapes as PartShapes
+pub use Rattle.coset_parts.specs.Written as PartsWritten
+pub use Rattle.coset_parts.specs.Wrong as WrongParts
+pub use Rattle.coset_recipients.specs.Fields as RecipientFields
+pub use Rattle.coset_recipients.specs.Shapes as RecipientShapes
+pub use Rattle.coset_recipients.specs.View as RecipientView
+pub use Rattle.coset_recipients.specs.Written as RecipientsWritten
+pub use Rattle.coset_recipients.specs.Wrong as WrongRecipients
+pub use Rattle.coset_recipients.specs.declared.recipient.CoseRecipient
+pub use Rattle.coset_maced.specs.Fields as MacedFields
+pub use Rattle.coset_maced.specs.Shapes as MacedShapes
+pub use Rattle.coset_maced.specs.Structure as MacedStructure
+pub use Rattle.coset_maced.specs.View as MacedView
+pub use Rattle.coset_maced.specs.Written as MacedWritten
+pub use Rattle.coset_maced.specs.Wrong as WrongMaced

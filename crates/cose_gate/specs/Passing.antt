@@ -4,10 +4,10 @@ use Rattle.std.specs.Io.KnownBytes.{Appends}
 use Rattle.ciborium_ll.specs.Device.{AppendsFront}
 use Rattle.ciborium_value.specs.Tree.{Tree}
 use Rattle.coset_base.specs.Faults.{fault_of}
-use Rattle.coset_messages.specs.View.{sign1_view}
 use Rattle.ciborium.specs.declared.de.Error.{Error}
 use Rattle.ciborium.specs.declared.de.Error.TheVariants as de
-use Rattle.cose_gate.specs.Questions.{Question, MessageFields, sign1}
+use Rattle.cose_gate.specs.Questions.{Question, MessageFields}
+use Rattle.cose_gate.specs.View.{message_view}
 use Rattle.cose_gate.specs.Asked.{folded_over, IsFront}
 use Rattle.cose_gate.specs.Findings.{not_tagged, encrypted, other_tag, detached, Finding, judged, Limits, IsJudged, IsBarred, IsMisshapen, Finds}
 use Rattle.cose_gate.specs.Run.{IsVerdict, asked_of, written_of}
@@ -32,7 +32,7 @@ IsRefused limits t refusal.NoSignature = ⊥
 IsRefused limits t (refusal.Judged n) = ⊥
 
 abbrev pub IsFound : Limits → Tree → Found → Type 0
-IsFound limits t (found.Judged m) = IsJudged limits t (sign1 (sign1_view m))
+IsFound limits t (found.Judged m) = IsJudged limits t (message_view m)
 IsFound limits t (found.Barred r) = IsRefused limits t r
 
 -- the item went through: what was found, told and written

@@ -1,9 +1,14 @@
--- What a judge is asked about a message (RFC 9052, section 4.4), as values that hold no memory.
+-- What a judge is asked about a message (RFC 9052, sections 4.4 and 6.3), as values that hold no memory.
 use Rattle.std.specs.Prelude.{ℕ, List, [], ◌∷◌, Option, Some, None, option_map}
 use Rattle.ciborium_value.specs.Tree.{Tree, tag}
 use Rattle.ciborium_value.specs.Encoding.{enc}
 use Rattle.coset_base.specs.Fields.{HeaderFields, ProtectedFields}
-use Rattle.coset_messages.specs.Messages.{Sign1Fields, RecipientFields, sign1_tree, sign1_covered}
+use Rattle.coset_parts.specs.Written.{content_bytes}
+use Rattle.coset_messages.specs.Messages.{Sign1Fields, sign1_tree, sign1_covered}
+use Rattle.coset_maced.specs.Fields.{Mac0Fields, MacFields}
+use Rattle.coset_maced.specs.Structure.{mac0_covered, mac_covered}
+use Rattle.coset_maced.specs.Written.{mac0_tree, mac_tree}
+use Rattle.coset_recipients.specs.Fields.{RecipientsFields, no_recipients}
 use Rattle.cose_gate.specs.declared.about.Kind.{Kind}
 use Rattle.cose_gate.specs.declared.about.Kind.TheVariants as kind
 
@@ -13,7 +18,7 @@ pub record Subject : Type 0 where
   pub protected : ProtectedFields
   pub unprotected : HeaderFields
   pub signer : Option (ProtectedFields × HeaderFields)
-  pub recipients : List RecipientFields
+  pub recipients : RecipientsFields
 
 -- a question: what it is about, the bytes that are covered, and the signature or tag over them
 pub record Question : Type 0 where
@@ -24,22 +29,59 @@ pub record Question : Type 0 where
 -- a message of one of the kinds that are judged
 pub data MessageFields : Type 0 where
   sign1 : Sign1Fields → MessageFields
+  mac0 : Mac0Fields → MessageFields
+  mac : MacFields → MessageFields
 
-abbrev pub sign1_subject : Sign1Fields → Subject
-sign1_subject m = record { kind = kind.Sign1; protected = m.protected; unprotected = m.unprotected; signer = None; recipients = [] }
+-- the tag of a message (RFC 9052, section 2)
+abbrev pub tag_of : MessageFields → ℕ
+tag_of (sign1 m) = 18
+tag_of (mac0 m) = 17
+tag_of (mac m) = 97
 
--- the question over the covered bytes
+abbrev pub payload_of : MessageFields → Option (List ℕ)
+payload_of (sign1 m) = m.payload
+payload_of (mac0 m) = m.payload
+payload_of (mac m) = m.payload
+
+-- a message with neither signers of its own nor recipients
+abbrev pub alone : Kind → ProtectedFields → HeaderFields → Subject
+alone k p u = record { kind = k; protected = p; unprotected = u; signer = None; recipients = no_recipients }
+
+abbrev pub mac_subject : MacFields → Subject
+mac_subject m = record { kind = kind.Mac; protected = m.protected; unprotected = m.unprotected; signer = None; recipients = m.recipients }
+
+-- the questions over the covered bytes
 abbrev pub sign1_question : Sign1Fields → List ℕ → Question
-sign1_question m covered = record { subject = sign1_subject m; covered = covered; signature = m.signature }
+sign1_question m covered = record { subject = alone kind.Sign1 m.protected m.unprotected; covered = covered; signature = m.signature }
 
--- the questions about a message, in order: for a COSE_Sign1 its one signature over the structure with the protected bytes as received;
--- none where a structure can't be written
+abbrev pub mac0_question : Mac0Fields → List ℕ → Question
+mac0_question m covered = record { subject = alone kind.Mac0 m.protected m.unprotected; covered = covered; signature = m.tag }
+
+abbrev pub mac_question : MacFields → List ℕ → Question
+mac_question m covered = record { subject = mac_subject m; covered = covered; signature = m.tag }
+
+-- what the tag of a message covers, with its own payload
+abbrev pub mac0_own : Mac0Fields → List ℕ → Option (List ℕ)
+mac0_own m aad = mac0_covered m aad (content_bytes m.payload)
+
+abbrev pub mac_own : MacFields → List ℕ → Option (List ℕ)
+mac_own m aad = mac_covered m aad (content_bytes m.payload)
+
+-- the questions about a message, in order: one over the structure with the protected bytes as received, about the signature of a
+-- COSE_Sign1 or the tag of a COSE_Mac0 or COSE_Mac; none where a structure can't be written
 abbrev pub all_questions : MessageFields → List ℕ → Option (List Question)
 all_questions (sign1 m) aad = option_map (λ covered. sign1_question m covered ∷ []) (sign1_covered m aad)
+all_questions (mac0 m) aad = option_map (λ covered. mac0_question m covered ∷ []) (mac0_own m aad)
+all_questions (mac m) aad = option_map (λ covered. mac_question m covered ∷ []) (mac_own m aad)
 
--- the tagged value that a message is written as; none where a header of it can't be written
+-- the value that a message is written as, and with its tag; none where a header of it can't be written
+abbrev pub message_tree : MessageFields → Option Tree
+message_tree (sign1 m) = sign1_tree m
+message_tree (mac0 m) = mac0_tree m
+message_tree (mac m) = mac_tree m
+
 abbrev pub tagged_tree : MessageFields → Option Tree
-tagged_tree (sign1 m) = option_map (λ t. tag 18 t) (sign1_tree m)
+tagged_tree m = option_map (λ t. tag (tag_of m) t) (message_tree m)
 
 abbrev pub or_nothing : {A : Type 0} → Option (List A) → List A
 or_nothing None = []

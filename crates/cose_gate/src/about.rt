@@ -2,7 +2,7 @@
 ghost use Rattle.std.specs.Prelude.{◌≡◌, [], None};
 
 use coset_base::{Header, ProtectedHeader};
-use coset_messages::CoseRecipient;
+use coset_recipients::CoseRecipient;
 
 /// Which kind of message it is (RFC 9052, section 2).
 #[derive(Debug, Clone, Copy, PartialEq, Eq)]
@@ -47,6 +47,27 @@ impl<'a> About<'a> {
             unprotected,
             signer: None,
             recipients: &[],
+        }
+    }
+    /// About a message that has recipients and no signers of its own.
+    pub fn with_recipients(
+        kind: Kind,
+        protected: &'a ProtectedHeader,
+        unprotected: &'a Header,
+        recipients: &'a [CoseRecipient],
+    ) -> About<'a>
+        ensures kind { result.kind ≡ kind }
+        ensures protected { result.protected.now ≡ protected.now }
+        ensures unprotected { result.unprotected.now ≡ unprotected.now }
+        ensures signer { result.signer ≡ None }
+        ensures recipients { result.recipients.now ≡ recipients.now }
+    {
+        About {
+            kind,
+            protected,
+            unprotected,
+            signer: None,
+            recipients,
         }
     }
 }

@@ -1,15 +1,19 @@
 //! Asks a judge about one message.
-ghost use Rattle.std.specs.Prelude.{◌≡◌, ◌≢◌, OnOk, OnErr, IfOk, [], ◌∷◌, None, length};
+ghost use Rattle.std.specs.Prelude.{◌≡◌, ◌≢◌, OnOk, OnErr, IfOk, [], ◌∷◌, Some, None, length};
 ghost use Rattle.coset_labels.specs.declared.error.CoseError.TheVariants.{Memory};
+ghost use Rattle.coset_maced.specs.View.{mac0_view, mac_view};
 ghost use Rattle.coset_messages.specs.Messages.{sign1_covered};
 ghost use Rattle.coset_messages.specs.View.{sign1_view};
 ghost use Rattle.cose_gate.specs.Lent.{subject_of};
-ghost use Rattle.cose_gate.specs.Questions.{Question, questions, sign1};
+ghost use Rattle.cose_gate.specs.Questions.{Question, all_questions, questions, sign1, mac0, mac, mac0_own, mac_own};
+ghost use Rattle.cose_gate.specs.View.{message_view};
 ghost use Rattle.cose_gate.specs.Asked.{asked, first_no, folded_over};
 
 use crate::about::{About, Kind};
 use crate::judge::Judge;
-use coset_base::CoseError;
+use crate::message::Message;
+use coset_base::{CoseError, MacContext, mac_structure_data};
+use coset_maced::{CoseMac, CoseMac0};
 use coset_messages::CoseSign1;
 use std::alloc::{AllocError, Global};
 
@@ -41,7 +45,7 @@ fn ask<J: Judge>(
 }
 
 /// Asks about the one signature of a message that can be written, as any that was read. The index of the first no, where there is one.
-pub fn ask_sign1<J: Judge>(
+fn ask_sign1<J: Judge>(
     alloc: Global,
     message: &CoseSign1,
     aad: &[u8],
@@ -63,5 +67,113 @@ pub fn ask_sign1<J: Judge>(
         Ok(None)
     } else {
         Ok(Some(0))
+    }
+}
+
+/// What the tag of a message covers (RFC 9052, section 6.3).
+fn mac0_bytes(alloc: Global, message: &CoseMac0, aad: &[u8]) -> Result<Vec<u8>, AllocError>
+    requires { mac0_own (mac0_view message.now) aad.now ≢ None }
+    ensures { IfOk result (λ v. mac0_own (mac0_view message.now) aad.now ≡ Some v.items) }
+{
+    let payload = match &message.payload {
+        Some(payload) => payload.as_slice(),
+        None => &[],
+    };
+    match mac_structure_data(
+        alloc,
+        MacContext::CoseMac0,
+        &message.protected,
+        aad,
+        payload,
+    ) {
+        Ok(covered) => Ok(covered),
+        Err(error) => Err(want_of_memory(error)),
+    }
+}
+
+/// Asks about the one tag of a COSE_Mac0 that can be written, as any that was read. The index of the first no, where there is one.
+fn ask_mac0<J: Judge>(
+    alloc: Global,
+    message: &CoseMac0,
+    aad: &[u8],
+    judge: &mut J,
+) -> Result<Option<usize>, AllocError>
+    requires { mac0_own (mac0_view message.now) aad.now ≢ None }
+    ensures answer { IfOk result (λ no. no ≡ first_no (J.yes (J.who judge.old)) (questions (mac0 (mac0_view message.now)) aad.now)) }
+    ensures told { OnOk result (J.told judge.new ≡ folded_over J.decided (J.told judge.old)
+        (asked (J.yes (J.who judge.old)) (questions (mac0 (mac0_view message.now)) aad.now))) }
+    ensures err { OnErr result (J.told judge.new ≡ J.told judge.old) }
+    ensures who { J.who judge.new ≡ J.who judge.old }
+{
+    let covered = mac0_bytes(alloc, message, aad)?;
+    let about = About::alone(Kind::Mac0, &message.protected, &message.unprotected);
+    if ask(judge, &about, &covered, &message.tag)? {
+        Ok(None)
+    } else {
+        Ok(Some(0))
+    }
+}
+
+/// What the tag of a message covers (RFC 9052, section 6.3).
+fn mac_bytes(alloc: Global, message: &CoseMac, aad: &[u8]) -> Result<Vec<u8>, AllocError>
+    requires { mac_own (mac_view message.now) aad.now ≢ None }
+    ensures { IfOk result (λ v. mac_own (mac_view message.now) aad.now ≡ Some v.items) }
+{
+    let payload = match &message.payload {
+        Some(payload) => payload.as_slice(),
+        None => &[],
+    };
+    match mac_structure_data(alloc, MacContext::CoseMac, &message.protected, aad, payload) {
+        Ok(covered) => Ok(covered),
+        Err(error) => Err(want_of_memory(error)),
+    }
+}
+
+/// Asks about the one tag of a COSE_Mac that can be written, as any that was read. The index of the first no, where there is one.
+fn ask_mac<J: Judge>(
+    alloc: Global,
+    message: &CoseMac,
+    aad: &[u8],
+    judge: &mut J,
+) -> Result<Option<usize>, AllocError>
+    requires { mac_own (mac_view message.now) aad.now ≢ None }
+    ensures answer { IfOk result (λ no. no ≡ first_no (J.yes (J.who judge.old)) (questions (mac (mac_view message.now)) aad.now)) }
+    ensures told { OnOk result (J.told judge.new ≡ folded_over J.decided (J.told judge.old)
+        (asked (J.yes (J.who judge.old)) (questions (mac (mac_view message.now)) aad.now))) }
+    ensures err { OnErr result (J.told judge.new ≡ J.told judge.old) }
+    ensures who { J.who judge.new ≡ J.who judge.old }
+{
+    let covered = mac_bytes(alloc, message, aad)?;
+    let about = About::with_recipients(
+        Kind::Mac,
+        &message.protected,
+        &message.unprotected,
+        &message.recipients,
+    );
+    if ask(judge, &about, &covered, &message.tag)? {
+        Ok(None)
+    } else {
+        Ok(Some(0))
+    }
+}
+
+/// Asks about a message that can be written, up to the first no. The index of that no, where there is one.
+pub fn ask_message<J: Judge>(
+    alloc: Global,
+    message: &Message,
+    aad: &[u8],
+    judge: &mut J,
+) -> Result<Option<usize>, AllocError>
+    requires { all_questions (message_view message.now) aad.now ≢ None }
+    ensures answer { IfOk result (λ no. no ≡ first_no (J.yes (J.who judge.old)) (questions (message_view message.now) aad.now)) }
+    ensures told { OnOk result (J.told judge.new ≡ folded_over J.decided (J.told judge.old)
+        (asked (J.yes (J.who judge.old)) (questions (message_view message.now) aad.now))) }
+    ensures err { OnErr result (J.told judge.new ≡ J.told judge.old) }
+    ensures who { J.who judge.new ≡ J.who judge.old }
+{
+    match message {
+        Message::Sign1(message) => ask_sign1(alloc, message, aad, judge),
+        Message::Mac0(message) => ask_mac0(alloc, message, aad, judge),
+        Message::Mac(message) => ask_mac(alloc, message, aad, judge),
     }
 }

@@ -159,9 +159,9 @@ fn entry_of(counts: Counts, offset: usize, verdict: Verdict) -> Entry
     }
 }
 
-/// Asks the judge about each tagged COSE_Sign1 of a CBOR sequence that carries its payload, over exactly the bytes that its signature
-/// covers, with `aad` as external data, and writes those that passed, each as its one shortest text. Every item is noted in the report;
-/// one that is no such message is refused there, and the gate goes on. It doesn't flush.
+/// Asks the judge about each tagged COSE_Sign1, COSE_Mac0 and COSE_Mac of a CBOR sequence that carries its payload, over exactly the
+/// bytes that its signature or tag covers, with `aad` as external data, and writes those that passed, each as its one shortest text.
+/// Every item is noted in the report; one that is no such message is refused there, and the gate goes on. It doesn't flush.
 ///
 /// It ends with `Ok` where nothing is left behind an item: the offset has grown by all bytes then. No header waits after any answer.
 /// What the clause `ran` says holds of the bytes that were there, also over a reader that doesn't tell which are to come; where they are

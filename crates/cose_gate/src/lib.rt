@@ -1,5 +1,5 @@
-//! The gate: a CBOR sequence goes in, a judge is asked about each signed message in it, and those that passed come out, each as
-//! its one shortest text (RFC 8742, RFC 9052).
+//! The gate: a CBOR sequence goes in, a judge is asked about each message with a signature or a tag in it, and those that passed come
+//! out, each as its one shortest text (RFC 8742, RFC 9052).
 #![tactic(auto)]
 
 mod about;
@@ -7,6 +7,7 @@ mod asking;
 mod gating;
 mod judge;
 pub mod laws;
+mod message;
 mod passing;
 mod program;
 mod recorder;
@@ -26,4 +27,4 @@ pub use coset_base::{
     Algorithm, ContentType, CoseError, CoseSignature, Header, Label, ProtectedHeader,
     RegisteredLabel, RegisteredLabelWithPrivate, iana,
 };
-pub use coset_messages::CoseRecipient;
+pub use coset_recipients::CoseRecipient;

@@ -4,20 +4,23 @@ ghost use Rattle.std.specs.Io.KnownBytes.{Appends};
 ghost use Rattle.ciborium_value.specs.Tree.{tag};
 ghost use Rattle.ciborium_value.specs.View.{view};
 ghost use Rattle.cose_iana.specs.Tags.{cbor_tags};
-ghost use Rattle.coset_messages.specs.View.{sign1_view};
-ghost use Rattle.coset_messages.specs.Messages.{sign1_tree};
 ghost use Rattle.cose_gate.specs.Findings.{usual};
-ghost use Rattle.cose_gate.specs.Questions.{sign1, tagged_tree, message_text};
+ghost use Rattle.cose_gate.specs.Questions.{tagged_tree, message_text};
+ghost use Rattle.cose_gate.specs.View.{message_view};
 ghost use Rattle.coset_labels.specs.declared.error.CoseError.TheVariants.{Memory};
+ghost use Rattle.cose_gate.specs.declared.passing.Found.TheVariants.{Barred};
+ghost use Rattle.cose_gate.specs.declared.report.Refusal.TheVariants.{Shape};
 ghost use Rattle.cose_gate.specs.Passing.{IsFound, WentThrough, ItemFails, IsWriteFault, item_failures};
 
-use crate::asking::{ask_sign1, want_of_memory};
+use crate::asking::{ask_message, want_of_memory};
 use crate::judge::Judge;
+use crate::message::Message;
 use crate::report::{Refusal, Verdict};
 use ciborium::{Value, into_writer};
 use ciborium_ll::Write;
 use coset_base::iana::{CborTag, EnumI64};
 use coset_base::{AsCborValue, CoseError};
+use coset_maced::{CoseMac, CoseMac0};
 use coset_messages::CoseSign1;
 use std::alloc::{AllocError, AllocFailed, Global};
 
@@ -25,7 +28,7 @@ use std::alloc::{AllocError, AllocFailed, Global};
 #[derive(Drop)]
 pub enum Found {
     /// A message that is judged.
-    Judged(CoseSign1),
+    Judged(Message),
     /// Why it is none.
     Barred(Refusal),
 }
@@ -76,6 +79,16 @@ fn is_memory(error: &CoseError) -> bool
     }
 }
 
+/// The refusal of a value that can't be read as a message of its tag.
+fn misshapen(error: CoseError) -> Result<Found, AllocError>
+    ensures ok { IfOk result (λ found. (found ≡ Barred (Shape error)) × (error ≢ Memory)) }
+{
+    if is_memory(&error) {
+        return Err(AllocError);
+    }
+    Ok(Found::Barred(Refusal::Shape(error)))
+}
+
 /// The message under the tag of a Sign1.
 fn find_sign1(alloc: Global, content: Value) -> Result<Found, AllocError>
     ensures { IfOk result (IsFound usual (tag 18 (view content))) }
@@ -85,14 +98,39 @@ fn find_sign1(alloc: Global, content: Value) -> Result<Found, AllocError>
             if message.payload.is_none() {
                 return Ok(Found::Barred(Refusal::Detached));
             }
-            Ok(Found::Judged(message))
+            Ok(Found::Judged(Message::Sign1(message)))
         }
-        Err(error) => {
-            if is_memory(&error) {
-                return Err(AllocError);
+        Err(error) => misshapen(error),
+    }
+}
+
+/// The message under the tag of a Mac0.
+fn find_mac0(alloc: Global, content: Value) -> Result<Found, AllocError>
+    ensures { IfOk result (IsFound usual (tag 17 (view content))) }
+{
+    match CoseMac0::from_cbor_value(alloc, content) {
+        Ok(message) => {
+            if message.payload.is_none() {
+                return Ok(Found::Barred(Refusal::Detached));
             }
-            Ok(Found::Barred(Refusal::Shape(error)))
+            Ok(Found::Judged(Message::Mac0(message)))
         }
+        Err(error) => misshapen(error),
+    }
+}
+
+/// The message under the tag of a Mac.
+fn find_mac(alloc: Global, content: Value) -> Result<Found, AllocError>
+    ensures { IfOk result (IsFound usual (tag 97 (view content))) }
+{
+    match CoseMac::from_cbor_value(alloc, content) {
+        Ok(message) => {
+            if message.payload.is_none() {
+                return Ok(Found::Barred(Refusal::Detached));
+            }
+            Ok(Found::Judged(Message::Mac(message)))
+        }
+        Err(error) => misshapen(error),
     }
 }
 
@@ -103,23 +141,34 @@ fn is_tag(number: u64, tag: CborTag) -> bool
     i128::from(number) == i128::from(tag.to_i64())
 }
 
+/// What is found under a tag.
+fn find_tagged(alloc: Global, number: u64, content: Value) -> Result<Found, AllocError>
+    ensures { IfOk result (IsFound usual (tag number (view content))) }
+{
+    if is_tag(number, CborTag::CoseEncrypt0) {
+        return Ok(Found::Barred(Refusal::Encrypted));
+    }
+    if is_tag(number, CborTag::CoseEncrypt) {
+        return Ok(Found::Barred(Refusal::Encrypted));
+    }
+    if is_tag(number, CborTag::CoseSign1) {
+        return find_sign1(alloc, content);
+    }
+    if is_tag(number, CborTag::CoseMac0) {
+        return find_mac0(alloc, content);
+    }
+    if is_tag(number, CborTag::CoseMac) {
+        return find_mac(alloc, content);
+    }
+    Ok(Found::Barred(Refusal::OtherTag(number)))
+}
+
 /// The message that an item is, or why it is none that is judged.
 fn find(alloc: Global, value: Value) -> Result<Found, AllocError>
     ensures { IfOk result (IsFound usual (view value)) }
 {
     match value {
-        Value::Tag(number, content) => {
-            if is_tag(number, CborTag::CoseEncrypt0) {
-                return Ok(Found::Barred(Refusal::Encrypted));
-            }
-            if is_tag(number, CborTag::CoseEncrypt) {
-                return Ok(Found::Barred(Refusal::Encrypted));
-            }
-            if !is_tag(number, CborTag::CoseSign1) {
-                return Ok(Found::Barred(Refusal::OtherTag(number)));
-            }
-            find_sign1(alloc, Box::into_inner(content))
-        }
+        Value::Tag(number, content) => find_tagged(alloc, number, Box::into_inner(content)),
         Value::Integer(_) => Ok(Found::Barred(Refusal::NotTagged)),
         Value::Bytes(_) => Ok(Found::Barred(Refusal::NotTagged)),
         Value::Float(_) => Ok(Found::Barred(Refusal::NotTagged)),
@@ -131,24 +180,51 @@ fn find(alloc: Global, value: Value) -> Result<Found, AllocError>
     }
 }
 
-/// The value that a message is written as, with its tag (RFC 9052, section 2).
-fn tagged(alloc: Global, message: CoseSign1) -> Result<Value, AllocError>
-    requires { sign1_tree (sign1_view message) ≢ None }
-    ensures { IfOk result (λ v. tagged_tree (sign1 (sign1_view message)) ≡ Some (view v)) }
+/// The value that a message is written as.
+fn written<M: AsCborValue>(alloc: Global, message: M) -> Result<Value, AllocError>
+    requires { M.written (M.fields message) ≢ None }
+    ensures { IfOk result (λ v. M.written (M.fields message) ≡ Some (view v)) }
 {
-    let content = match message.to_cbor_value(alloc) {
-        Ok(content) => content,
-        Err(error) => return Err(want_of_memory(error)),
-    };
+    match message.to_cbor_value(alloc) {
+        Ok(content) => Ok(content),
+        Err(error) => Err(want_of_memory(error)),
+    }
+}
+
+/// A value under a tag.
+fn with_tag(alloc: Global, number: u64, content: Value) -> Result<Value, AllocError>
+    ensures { IfOk result (λ v. view v ≡ tag number (view content)) }
+{
     let content = Box::new(alloc, content)?;
-    Ok(Value::Tag(18, content))
+    Ok(Value::Tag(number, content))
+}
+
+/// The value that a message is written as, with its tag (RFC 9052, section 2).
+fn tagged(alloc: Global, message: Message) -> Result<Value, AllocError>
+    requires { tagged_tree (message_view message) ≢ None }
+    ensures { IfOk result (λ v. tagged_tree (message_view message) ≡ Some (view v)) }
+{
+    match message {
+        Message::Sign1(message) => {
+            let content = written(alloc, message)?;
+            with_tag(alloc, 18, content)
+        }
+        Message::Mac0(message) => {
+            let content = written(alloc, message)?;
+            with_tag(alloc, 17, content)
+        }
+        Message::Mac(message) => {
+            let content = written(alloc, message)?;
+            with_tag(alloc, 97, content)
+        }
+    }
 }
 
 /// Writes the one shortest text of a message with its tag.
-fn write_message<W: Write>(alloc: Global, message: CoseSign1, out: &mut W) -> Result<(), ItemFault>
-    requires { sign1_tree (sign1_view message) ≢ None }
-    ensures ok { OnOk result (Appends (W.written out.old) (W.written out.new) (message_text (sign1 (sign1_view message)))) }
-    ensures err { IfErr result (IsWriteFault (W.written out.old) (W.written out.new) (message_text (sign1 (sign1_view message)))) }
+fn write_message<W: Write>(alloc: Global, message: Message, out: &mut W) -> Result<(), ItemFault>
+    requires { tagged_tree (message_view message) ≢ None }
+    ensures ok { OnOk result (Appends (W.written out.old) (W.written out.new) (message_text (message_view message))) }
+    ensures err { IfErr result (IsWriteFault (W.written out.old) (W.written out.new) (message_text (message_view message))) }
     ensures kept { W.handle out.new ≡ W.handle out.old }
     ensures failed { W.failed out.new ≡ W.failed out.old + item_failures result }
 {
@@ -180,7 +256,7 @@ pub fn pass<W: Write, J: Judge>(
         Found::Judged(message) => message,
         Found::Barred(refusal) => return Ok(Verdict::Refused(refusal)),
     };
-    let no = ask_sign1(alloc, &message, aad, judge)?;
+    let no = ask_message(alloc, &message, aad, judge)?;
     match no {
         Some(index) => Ok(Verdict::Refused(Refusal::Judged(index))),
         None => match write_message(alloc, message, out) {

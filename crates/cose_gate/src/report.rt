@@ -6,7 +6,8 @@ use coset_base::CoseError;
 use std::alloc::AllocError;
 use thiserror::Error;
 
-/// Why an item was refused. The reasons are tested in this order. Its text is its name, and of a shape the fault's text too.
+/// Why an item was refused. The reasons are tested in the order `NotTagged`, `Encrypted`, `OtherTag`, `Shape`, `Detached`,
+/// `NoSignature`, `Judged`. Its text is its name, and of a shape the fault's text too.
 #[derive(Debug, Clone, Copy, PartialEq, Eq, Error)]
 pub enum Refusal {
     /// The item has no tag.
@@ -24,7 +25,7 @@ pub enum Refusal {
     /// The message doesn't carry its payload.
     #[error("Detached")]
     Detached,
-    /// The message has no signature.
+    /// The message has no signature. No item is refused so as yet.
     #[error("NoSignature")]
     NoSignature,
     /// The judge said no to the question with this index, counted from 0.

@@ -7,6 +7,8 @@ mod devices;
 #[cfg(test)]
 mod examples;
 #[cfg(test)]
+mod macs;
+#[cfg(test)]
 mod program;
 #[cfg(test)]
 mod runs;

@@ -1,6 +1,5 @@
-use Rattle.coset_messages.specs.View.{sign1_view}
-use Rattle.cose_gate.specs.Questions.{sign1}
-use Rattle.cose_gate.proofs.Written.{judged_covered, judged_tree}
+use Rattle.cose_gate.specs.View.{message_view}
+use Rattle.cose_gate.proofs.Written.{judged_asked, judged_tree}
 use Rattle.cose_gate.proofs.Items.{taken_barred, taken_no, taken_yes, half_written}
 use Rattle.cose_gate.proofs.passing.pass.Goals as goal
 
@@ -11,22 +10,22 @@ pub returns-in-Some-clause-ok : goal.returns-in-Some-clause-ok
 returns-in-Some-clause-ok g c =
     let found = rw c.in-Judged.is at c.in_ok-found.ensures in
     let answer = rw c.in-Some.is at c.in_ok-no.ensures.answer in
-    taken_no _ _ _ _ _ _ _ _ (sign1 (sign1_view c.in-Judged.message)) _ found answer c.in_ok-no.ensures.told
+    taken_no _ _ _ _ _ _ _ _ (message_view c.in-Judged.message) _ found answer c.in_ok-no.ensures.told
 
 pub returns-in-Ok-clause-ok : goal.returns-in-Ok-clause-ok
 returns-in-Ok-clause-ok g c =
     let found = rw c.in-Judged.is at c.in_ok-found.ensures in
     let answer = rw c.in-None.is at c.in_ok-no.ensures.answer in
-    taken_yes _ _ _ _ _ _ _ _ _ (sign1 (sign1_view c.in-Judged.message)) found answer c.in_ok-no.ensures.told c.in-Ok.ensures.ok
+    taken_yes _ _ _ _ _ _ _ _ _ (message_view c.in-Judged.message) found answer c.in_ok-no.ensures.told c.in-Ok.ensures.ok
 
 pub returns-in-Err-clause-err : goal.returns-in-Err-clause-err
 returns-in-Err-clause-err g c =
     let found = rw c.in-Judged.is at c.in_ok-found.ensures in
     let answer = rw c.in-None.is at c.in_ok-no.ensures.answer in
-    half_written _ _ _ _ _ _ _ _ _ (sign1 (sign1_view c.in-Judged.message)) _ found answer c.in_ok-no.ensures.told c.in-Err.ensures.err
+    half_written _ _ _ _ _ _ _ _ _ (message_view c.in-Judged.message) _ found answer c.in_ok-no.ensures.told c.in-Err.ensures.err
 
-pub ask_sign1-requires : goal.ask_sign1-requires
-ask_sign1-requires g c = judged_covered _ _ _ _ (rw c.in-Judged.is at c.in_ok-found.ensures)
+pub ask_message-requires : goal.ask_message-requires
+ask_message-requires g c = judged_asked _ _ _ _ (rw c.in-Judged.is at c.in_ok-found.ensures)
 
 pub write_message-requires : goal.write_message-requires
 write_message-requires g c = judged_tree _ _ _ (rw c.in-Judged.is at c.in_ok-found.ensures)
