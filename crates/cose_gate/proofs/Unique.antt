@@ -3,7 +3,8 @@ use Rattle.std.proofs.Common.{◌≡◌, ◌≢◌, ◌⊎◌, inl, inr, ℕ, Li
 use Rattle.ciborium_value.specs.Tree.{Tree, tag}
 use Rattle.ciborium.proofs.Sequence.{items_once}
 use Rattle.coset_base.specs.Faults.{CoseFault}
-use Rattle.coset_messages.proofs.Unique.{sign1_once, sign1_not}
+use Rattle.coset_signed.proofs.Excludes.{sign1_not}
+use Rattle.coset_signed.proofs.Unique.{sign1_once}
 use Rattle.coset_maced.proofs.Unique.{mac0_once, mac0_not, mac_once, mac_not}
 use Rattle.cose_gate.specs.Questions.{Question, MessageFields, sign1, mac0, mac, tag_of, payload_of}
 use Rattle.cose_gate.specs.Findings.{Finding, judged, barred, not_tagged, encrypted, other_tag, shape, detached, no_signature, Finds, IsMessageTag, IsEncryptedTag, Limits, HasMessage, WrongMessage, IsMessage}

@@ -1,13 +1,13 @@
 -- A message that was read can be written.
-use Rattle.std.proofs.Common.{◌≡◌, ◌≢◌, ℕ, List, [], ◌∷◌, Option, Some, None, option_map, refl, sym, ap, ◌∙◌}
+use Rattle.std.proofs.Common.{◌≡◌, ◌≢◌, ℕ, List, [], ◌∷◌, Option, Some, None, option_map, refl}
 use Rattle.ciborium_value.specs.Encoding.{enc}
 use Rattle.ciborium_value.specs.Tree.{Tree, tag}
 use Rattle.coset_parts.specs.Written.{content_bytes}
-use Rattle.coset_messages.specs.Messages.{sign1_covered}
-use Rattle.coset_messages.proofs.Writable.{sign1_some, covered_some}
+use Rattle.coset_signed.specs.Structure.{sign1_covered}
+use Rattle.coset_signed.proofs.Writable.{sign1_some, sign1_covers}
 use Rattle.coset_maced.proofs.Writable.{mac0_some, mac0_covers, mac_some, mac_covers}
 use Rattle.cose_gate.specs.Findings.{Limits, HasMessage, IsJudged}
-use Rattle.cose_gate.specs.Questions.{Question, MessageFields, sign1, mac0, mac, sign1_question, mac0_question, mac_question, mac0_own, mac_own, all_questions, questions, message_tree, tag_of, tagged_tree, message_text, or_nothing}
+use Rattle.cose_gate.specs.Questions.{MessageFields, sign1, mac0, mac, sign1_question, mac0_question, mac_question, mac0_own, mac_own, all_questions, questions, message_tree, tag_of, tagged_tree, message_text, or_nothing}
 
 there : {A : Type 0} (o : Option (List A)) → o ≢ None → o ≡ Some (or_nothing o)
 there None n = absurd (n refl)
@@ -17,11 +17,8 @@ mapped : {A B : Type 0} (f : A → B) (o : Option A) → o ≢ None → option_m
 mapped f None n e = n refl
 mapped f (Some x) n e = let h : Some (f x) ≡ None = e in cc
 
-pub unmapped : {A B : Type 0} (f : A → B) (o : Option A) → option_map f o ≢ None → o ≢ None
-unmapped f o n e = n (ap (option_map f) e)
-
 has_questions : (l : Limits) (u : Tree) (m : MessageFields) (aad : List ℕ) → HasMessage l u m → all_questions m aad ≢ None
-has_questions l u (sign1 m) aad h = mapped (λ c. sign1_question m c ∷ []) (sign1_covered m aad) (covered_some l.nesting l.layers u m aad h)
+has_questions l u (sign1 m) aad h = mapped (λ c. sign1_question m c ∷ []) (sign1_covered m aad) (sign1_covers l.nesting l.layers u m (content_bytes m.payload) aad h)
 has_questions l u (mac0 m) aad h = mapped (λ c. mac0_question m c ∷ []) (mac0_own m aad) (mac0_covers l.nesting m u l.layers aad (content_bytes m.payload) h)
 has_questions l u (mac m) aad h = mapped (λ c. mac_question m c ∷ []) (mac_own m aad) (mac_covers l.nesting m u l.layers aad (content_bytes m.payload) h)
 
@@ -41,11 +38,3 @@ judged_questions l t m aad j = there (all_questions m aad) (judged_asked l t m a
 
 pub judged_text : (l : Limits) (t : Tree) (m : MessageFields) → IsJudged l t m → option_map enc (tagged_tree m) ≡ Some (message_text m)
 judged_text l t m j = there (option_map enc (tagged_tree m)) (mapped enc (tagged_tree m) (judged_tree l t m j))
-
--- the text of a message whose value is known
-pub text_is : (m : MessageFields) (t : Tree) → tagged_tree m ≡ Some t → message_text m ≡ enc t
-text_is m t e = ap (λ o. or_nothing (option_map enc o)) e
-
--- the value under its tag
-pub tagged_is : (m : MessageFields) (t v : Tree) → message_tree m ≡ Some t → v ≡ tag (tag_of m) t → tagged_tree m ≡ Some v
-tagged_is m t v a b = ap (option_map (λ u. tag (tag_of m) u)) a ∙ ap Some (sym b)

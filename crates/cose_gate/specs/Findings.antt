@@ -2,8 +2,8 @@
 use Rattle.std.specs.Prelude.{◌≡◌, ◌≢◌, ℕ, ◌⊎◌, List, Some, None}
 use Rattle.ciborium_value.specs.Tree.{Tree, tag}
 use Rattle.coset_base.specs.Faults.{CoseFault}
-use Rattle.coset_messages.specs.Shapes.{HasSign1}
-use Rattle.coset_messages.specs.WrongShapes.{WrongSign1}
+use Rattle.coset_signed.specs.Shapes.{HasSign1}
+use Rattle.coset_signed.specs.Wrong.{WrongSign1}
 use Rattle.coset_maced.specs.Shapes.{HasMac0, HasMac}
 use Rattle.coset_maced.specs.Wrong.{WrongMac0, WrongMac}
 use Rattle.cose_gate.specs.Questions.{MessageFields, sign1, mac0, mac, tag_of, payload_of}

@@ -37,10 +37,6 @@ pub use Rattle.coset_base.specs.Wrong
 pub use Rattle.coset_base.specs.CoseError
 pub use Rattle.coset_base.specs.Header
 pub use Rattle.coset_base.specs.ProtectedHeader
-pub use Rattle.coset_messages.specs.Messages
-pub use Rattle.coset_messages.specs.Shapes
-pub use Rattle.coset_messages.specs.View as MessageView
-pub use Rattle.coset_messages.specs.WrongShapes
 pub use Rattle.coset_parts.specs.Shapes as PartShapes
 pub use Rattle.coset_parts.specs.Written as PartsWritten
 pub use Rattle.coset_parts.specs.Wrong as WrongParts
@@ -56,3 +52,9 @@ pub use Rattle.coset_maced.specs.Structure as MacedStructure
 pub use Rattle.coset_maced.specs.View as MacedView
 pub use Rattle.coset_maced.specs.Written as MacedWritten
 pub use Rattle.coset_maced.specs.Wrong as WrongMaced
+pub use Rattle.coset_signed.specs.Fields as SignedFields
+pub use Rattle.coset_signed.specs.Shapes as SignedShapes
+pub use Rattle.coset_signed.specs.Structure as SignedStructure
+pub use Rattle.coset_signed.specs.View as SignedView
+pub use Rattle.coset_signed.specs.Written as SignedWritten
+pub use Rattle.coset_signed.specs.Wrong as WrongSigned

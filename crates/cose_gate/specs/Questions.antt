@@ -4,7 +4,9 @@ use Rattle.ciborium_value.specs.Tree.{Tree, tag}
 use Rattle.ciborium_value.specs.Encoding.{enc}
 use Rattle.coset_base.specs.Fields.{HeaderFields, ProtectedFields}
 use Rattle.coset_parts.specs.Written.{content_bytes}
-use Rattle.coset_messages.specs.Messages.{Sign1Fields, sign1_tree, sign1_covered}
+use Rattle.coset_signed.specs.Fields.{Sign1Fields}
+use Rattle.coset_signed.specs.Structure.{sign1_covered}
+use Rattle.coset_signed.specs.Written.{sign1_tree}
 use Rattle.coset_maced.specs.Fields.{Mac0Fields, MacFields}
 use Rattle.coset_maced.specs.Structure.{mac0_covered, mac_covered}
 use Rattle.coset_maced.specs.Written.{mac0_tree, mac_tree}

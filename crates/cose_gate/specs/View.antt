@@ -1,5 +1,5 @@
 -- The fields that messages of the code have.
-use Rattle.coset_messages.specs.View.{sign1_view}
+use Rattle.coset_signed.specs.View.{sign1_view}
 use Rattle.coset_maced.specs.View.{mac0_view, mac_view}
 use Rattle.cose_gate.specs.Questions.{MessageFields, sign1, mac0, mac}
 use Rattle.cose_gate.specs.declared.message.Message.{Message}

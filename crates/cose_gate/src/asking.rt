@@ -2,8 +2,8 @@
 ghost use Rattle.std.specs.Prelude.{◌≡◌, ◌≢◌, OnOk, OnErr, IfOk, [], ◌∷◌, Some, None, length};
 ghost use Rattle.coset_labels.specs.declared.error.CoseError.TheVariants.{Memory};
 ghost use Rattle.coset_maced.specs.View.{mac0_view, mac_view};
-ghost use Rattle.coset_messages.specs.Messages.{sign1_covered};
-ghost use Rattle.coset_messages.specs.View.{sign1_view};
+ghost use Rattle.coset_signed.specs.Structure.{sign1_covered};
+ghost use Rattle.coset_signed.specs.View.{sign1_view};
 ghost use Rattle.cose_gate.specs.Lent.{subject_of};
 ghost use Rattle.cose_gate.specs.Questions.{Question, all_questions, questions, sign1, mac0, mac, mac0_own, mac_own};
 ghost use Rattle.cose_gate.specs.View.{message_view};
@@ -14,7 +14,7 @@ use crate::judge::Judge;
 use crate::message::Message;
 use coset_base::{CoseError, MacContext, mac_structure_data};
 use coset_maced::{CoseMac, CoseMac0};
-use coset_messages::CoseSign1;
+use coset_signed::CoseSign1;
 use std::alloc::{AllocError, Global};
 
 /// The fault of a call that fails for want of memory alone.

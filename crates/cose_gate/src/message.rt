@@ -1,7 +1,7 @@
 //! Messages of the kinds that are judged.
 
 use coset_maced::{CoseMac, CoseMac0};
-use coset_messages::CoseSign1;
+use coset_signed::CoseSign1;
 
 /// A message that is judged (RFC 9052, section 2).
 #[derive(Drop)]

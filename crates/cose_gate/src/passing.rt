@@ -21,7 +21,7 @@ use ciborium_ll::Write;
 use coset_base::iana::{CborTag, EnumI64};
 use coset_base::{AsCborValue, CoseError};
 use coset_maced::{CoseMac, CoseMac0};
-use coset_messages::CoseSign1;
+use coset_signed::CoseSign1;
 use std::alloc::{AllocError, AllocFailed, Global};
 
 /// What is found of an item before a judge is asked.

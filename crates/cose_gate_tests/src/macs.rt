@@ -1,7 +1,5 @@
 //! Messages with a tag: what is asked about them, and why one is none. Expected bytes are written out by hand.
-use cose_gate::{
-    CoseError, Decoder, Entry, Kind, Mem, Recorder, Refusal, Silent, Verdict, gate,
-};
+use cose_gate::{CoseError, Decoder, Entry, Kind, Mem, Recorder, Refusal, Silent, Verdict, gate};
 use std::test::Fail;
 
 #[test]

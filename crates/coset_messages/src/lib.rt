@@ -1,10 +1,19 @@
-//! COSE messages and recipients (RFC 9052, sections 4 to 6).
+//! The messages of COSE and their recipients (RFC 9052, sections 4 to 6).
+//!
+//! A user names this crate alone: what stands in the crates below it is here under the same names, and `iana` has the registries.
 #![tactic(auto)]
 
 pub mod laws;
-mod parts;
-mod recipient;
-mod sign;
 
-pub use crate::recipient::CoseRecipient;
-pub use crate::sign::CoseSign1;
+pub use coset_base::{
+    Algorithm, AsCborValue, BytesTitle, CborOrdering, CborSerializable, ContentType, CoseError,
+    CoseSignature, CoseSignatureBuilder, EncryptionContext, EndOfFile, Fault, Header,
+    HeaderBuilder, KeyType, Label, MacContext, ProtectedHeader, RegisteredLabel,
+    RegisteredLabelWithPrivate, Result, SignatureContext, TaggedCborSerializable, ValueTryAs,
+    bytes_title, cbor_type_error, enc_structure_data, iana, mac_structure_data, read_to_value,
+    sig_structure_data, to_cbor_array, write_to_vec,
+};
+pub use coset_encrypted::{CoseEncrypt, CoseEncrypt0, CoseEncrypt0Builder, CoseEncryptBuilder};
+pub use coset_maced::{CoseMac, CoseMac0, CoseMac0Builder, CoseMacBuilder};
+pub use coset_recipients::{CoseRecipient, CoseRecipientBuilder};
+pub use coset_signed::{CoseSign, CoseSign1, CoseSign1Builder, CoseSignBuilder};

@@ -2,8 +2,7 @@
 use ciborium::de;
 use ciborium_ll::{Decoder, Mem};
 use ciborium_value::Value;
-use coset_base::{AsCborValue, Header, ProtectedHeader};
-use coset_messages::{CoseRecipient, CoseSign1};
+use coset_messages::{AsCborValue, CoseRecipient, CoseSign1, Header, ProtectedHeader};
 use std::alloc::Global;
 use std::test::Fail;
 
@@ -85,6 +84,7 @@ fn recipients_are_copied(rt: HostRuntime) -> Result<(), Fail> {
         protected: ProtectedHeader::new(alloc),
         unprotected: Header::from_cbor_value(alloc, item(alloc, "a1044131")?)?,
         ciphertext: Some(hex::decode(alloc, "010203")?),
+        recipients: Vec::new(alloc),
     };
     let copy = recipient.clone(alloc)?;
     assert!(rt; copy == recipient);

@@ -1,4 +1,4 @@
-use Rattle.coset_messages.specs.View.{sign1_view}
+use Rattle.coset_signed.specs.View.{sign1_view}
 use Rattle.cose_gate.specs.Findings.{usual}
 use Rattle.cose_gate.specs.Questions.{sign1}
 use Rattle.cose_gate.proofs.Items.{none_of, is_detached}

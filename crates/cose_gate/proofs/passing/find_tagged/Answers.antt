@@ -1,4 +1,4 @@
-use Rattle.std.proofs.Common.{◌≡◌, ℕ, inl, inr, refl, subst, sym, IfOk}
+use Rattle.std.proofs.Common.{ℕ, inl, inr, refl, subst, sym, IfOk}
 use Rattle.ciborium_value.specs.Tree.{tag}
 use Rattle.ciborium_value.specs.View.{view}
 use Rattle.cose_gate.specs.Findings.{usual}

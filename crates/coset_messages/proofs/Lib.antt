@@ -1,3 +1,0 @@
-pub mod Four
-pub mod Unique
-pub mod Writable
