@@ -165,15 +165,21 @@ fn protected_headers_keep_their_bytes(rt: HostRuntime) -> Result<(), Fail> {
     for text in ["", "a0", "a10126", "bf0126ff", "a2044131011805"] {
         let header = protected(alloc, text)??;
         let copy = header.clone(alloc)?;
-        assert!(rt; copy == header, "copy of {text}");
-        assert_eq!(rt; header.is_empty(), text.len() < 3, "{text}");
+        assert!(rt; copy == header);
+        assert_eq!(rt; header.is_empty(), text.len() < 3);
         match header.cbor_bstr(alloc)? {
             Value::Bytes(bytes) => {
                 assert_eq!(rt; hex::encode(alloc, bytes.as_slice())?.as_str(), text)
             }
-            _ => assert!(rt; false, "{text} is no byte string"),
+            _ => assert!(rt; false),
         }
     }
+    Ok(())
+}
+
+#[test]
+fn protected_headers_are_refused(rt: HostRuntime) -> Result<(), Fail> {
+    let alloc = rt.alloc();
     for (text, want) in [
         ("a1012600", "extraneous data in CBOR input"),
         ("a101", "decode CBOR failure: Io(EndOfFile)"),
