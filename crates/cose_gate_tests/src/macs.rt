@@ -32,20 +32,15 @@ fn tags_are_asked_about(rt: HostRuntime) -> Result<(), Fail> {
         let mut judge = Recorder::new(alloc, None);
         assert!(rt; gate(alloc, &mut decoder, &mut out, &mut Silent, &aad, &mut judge).is_ok());
         let asked = judge.asked();
-        assert_eq!(rt; asked.len(), 1, "questions at {text}");
-        assert!(rt; asked[0].kind == kind, "kind at {text}");
+        assert_eq!(rt; asked.len(), 1);
+        assert!(rt; asked[0].kind == kind);
         assert_eq!(rt;
             hex::encode(alloc, asked[0].structure.as_slice())?.as_str(),
-            covered,
-            "at {text}"
+            covered
         );
-        assert_eq!(rt; asked[0].tag_len, 1, "at {text}");
-        assert_eq!(rt; asked[0].tag, [0xaa, 0, 0, 0, 0, 0, 0, 0], "at {text}");
-        assert_eq!(rt;
-            hex::encode(alloc, out.as_written())?.as_str(),
-            text,
-            "output"
-        );
+        assert_eq!(rt; asked[0].tag_len, 1);
+        assert_eq!(rt; asked[0].tag, [0xaa, 0, 0, 0, 0, 0, 0, 0]);
+        assert_eq!(rt; hex::encode(alloc, out.as_written())?.as_str(), text);
     }
     Ok(())
 }
@@ -69,9 +64,9 @@ fn tags_may_be_refused(rt: HostRuntime) -> Result<(), Fail> {
         let no = [0xaau8].to_vec(alloc)?;
         let mut judge = Recorder::new(alloc, Some(no));
         assert!(rt; gate(alloc, &mut decoder, &mut out, &mut entries, &[], &mut judge).is_ok());
-        assert_eq!(rt; entries.len(), 1, "entries of {text}");
-        assert_eq!(rt; entries[0].verdict, Verdict::Refused(refusal), "at {text}");
-        assert!(rt; out.as_written().is_empty(), "output of {text}");
+        assert_eq!(rt; entries.len(), 1);
+        assert_eq!(rt; entries[0].verdict, Verdict::Refused(refusal));
+        assert!(rt; out.as_written().is_empty());
     }
     Ok(())
 }
