@@ -1,0 +1,11 @@
+//! Tests of recipients and of encrypted and authenticated messages, by their public names.
+#![tactic(auto)]
+
+#[cfg(test)]
+mod encrypted;
+#[cfg(test)]
+mod maced;
+#[cfg(test)]
+mod recipients;
+#[cfg(test)]
+mod tools;
