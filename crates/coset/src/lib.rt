@@ -1,0 +1,28 @@
+//! COSE (RFC 9052): messages, keys and their sets, contexts of key derivation (RFC 9053), and the claims of CBOR web tokens (RFC 8392).
+//!
+//! A user names this crate alone: what stands in the crates below it is here under the same names. `cbor` reads and writes CBOR, `iana`
+//! has the registries.
+#![tactic(auto)]
+
+pub mod cwt;
+pub mod laws;
+
+pub use ciborium as cbor;
+pub use coset_kdf::{
+    CoseKdfContext, CoseKdfContextBuilder, Nonce, PartyInfo, PartyInfoBuilder, SuppPubInfo,
+    SuppPubInfoBuilder,
+};
+pub use coset_keys::{
+    CoseKey, CoseKeyBuilder, CoseKeySet, KeyOperation, MlDsaVariant, ParseSec1OctetStringError,
+    ToSec1OctetStringError,
+};
+pub use coset_messages::{
+    Algorithm, AsCborValue, BytesTitle, CborOrdering, CborSerializable, ContentType, CoseEncrypt,
+    CoseEncrypt0, CoseEncrypt0Builder, CoseEncryptBuilder, CoseError, CoseMac, CoseMac0,
+    CoseMac0Builder, CoseMacBuilder, CoseRecipient, CoseRecipientBuilder, CoseSign, CoseSign1,
+    CoseSign1Builder, CoseSignBuilder, CoseSignature, CoseSignatureBuilder, EncryptionContext,
+    EndOfFile, Fault, Header, HeaderBuilder, KeyType, Label, MacContext, ProtectedHeader,
+    RegisteredLabel, RegisteredLabelWithPrivate, Result, SignatureContext, TaggedCborSerializable,
+    ValueTryAs, bytes_title, cbor_type_error, enc_structure_data, iana, mac_structure_data,
+    read_to_value, sig_structure_data, to_cbor_array, write_to_vec,
+};
