@@ -9,9 +9,9 @@ use Rattle.cose_gate.specs.Questions.{Question}
 use Rattle.cose_gate.specs.Asked.{folded_over}
 use Rattle.cose_gate.specs.Run.{Step, Course, asked_of, questions_of}
 use Rattle.cose_gate.specs.Outcome.{Rules, Sight, IsFaultOf, Whole, Outcome, Answers}
-use Rattle.cose_gate.specs.declared.gating.Counts.{Counts}
-use Rattle.cose_gate.specs.declared.gating.GateFault.{GateFault}
-use Rattle.cose_gate.specs.declared.gating.GateFault.TheVariants as gating
+use Rattle.cose_gate_core.specs.declared.gating.Counts.{Counts}
+use Rattle.cose_gate_core.specs.declared.gating.GateFault.{GateFault}
+use Rattle.cose_gate_core.specs.declared.gating.GateFault.TheVariants as gating
 use Rattle.callers.specs.Judging.{key_id_of, key_ids_of, allows, Sides, Relayed, Halted}
 use Rattle.callers.specs.Tallies.{Tallied, tallied}
 

@@ -1,13 +1,16 @@
-pub mod Asked
-pub mod Findings
-pub mod Lent
-pub mod Outcome
-pub mod Passing
-pub mod Program
-pub mod Questions
-pub mod Recorded
-pub mod Run
-pub mod View
+pub use Rattle.cose_gate_core.specs.Asked
+pub use Rattle.cose_gate_core.specs.Findings
+pub use Rattle.cose_gate_core.specs.Lent
+pub use Rattle.cose_gate_core.specs.Outcome
+pub use Rattle.cose_gate_core.specs.Passing
+pub use Rattle.cose_gate_core.specs.Program
+pub use Rattle.cose_gate_core.specs.Questions
+pub use Rattle.cose_gate_core.specs.Recorded
+pub use Rattle.cose_gate_core.specs.Run
+pub use Rattle.cose_gate_core.specs.View
+pub use Rattle.cose_gate_laws.specs.Anew
+pub use Rattle.cose_gate_laws.specs.Narrow
+pub use Rattle.cose_gate_laws.specs.Output
 pub use Rattle.ciborium_ll.specs.Fault as DeviceFault
 pub use Rattle.ciborium_ll.specs.Framing
 pub use Rattle.ciborium_ll.specs.Title
@@ -58,3 +61,10 @@ pub use Rattle.coset_signed.specs.Structure as SignedStructure
 pub use Rattle.coset_signed.specs.View as SignedView
 pub use Rattle.coset_signed.specs.Written as SignedWritten
 pub use Rattle.coset_signed.specs.Wrong as WrongSigned
+pub use Rattle.cose_judge_hmac.specs.Judge as HmacJudges
+pub use Rattle.cose_judge_hmac.specs.Keys as HmacKeys
+pub use Rattle.cose_judge_hmac.specs.Messages as HmacMessages
+pub use Rattle.cose_judge_hmac.specs.Secrets as HmacSecrets
+pub use Rattle.cose_stream.specs.Stated
+pub use Rattle.cose_stream.specs.Streaming
+pub use Rattle.cose_stream.specs.declared.fault.StreamFault

@@ -1,51 +1,98 @@
-//! `cose-gate`: reads a CBOR sequence from standard input, and writes the signed messages that passed to standard output. It takes no
-//! arguments: any is answered by a line that says how it is used.
+//! `cose-gate KEYS [AADHEX]`: reads a CBOR sequence from standard input, and writes the messages whose tags are good under the keys of the
+//! file KEYS to standard output. AADHEX is the external data in hex.
 #![tactic(auto)]
 
 use ciborium_ll::Io;
-use cose_gate::run_first;
-use std::env;
+use cose_run::{run, words};
 use std::io::{BufReader, BufWriter};
 use std::process::ExitCode;
+use std::{env, fs, io};
 
-/// Bytes are read and written in blocks of this length.
+/// Bytes are read and written in blocks of this length, and lines too.
 const BLOCK: usize = 65536;
 
-/// The status where an argument is given.
-const USAGE: u8 = 2;
+/// Why the program doesn't come to its run.
+#[derive(Debug, Clone, Copy, PartialEq, Eq)]
+enum NotRun {
+    /// The words are not KEYS, or KEYS and AADHEX.
+    Usage,
+    /// Memory was refused.
+    Memory,
+}
 
-/// The status where memory is refused before the gate begins.
-const STOPPED: u8 = 4;
+impl NotRun {
+    fn line(self) -> &'static str {
+        match self {
+            NotRun::Usage => "usage: cose-gate KEYS [AADHEX]\n",
+            NotRun::Memory => "stopped: memory\n",
+        }
+    }
+
+    fn status(self) -> u8 {
+        match self {
+            NotRun::Usage => 2,
+            NotRun::Memory => 4,
+        }
+    }
+}
 
 fn main(rt: HostRuntime) -> ExitCode {
-    let mut err = Io::new(rt.stderr());
-    // the first is the program's name; a list that can't be read, as of one that is no text, is refused too
-    if !env::args(&rt).is_ok_and(|all| all.count() <= 1) {
-        return usage(&mut err);
+    match start(&rt) {
+        Ok(status) => ExitCode::from(status),
+        Err(why) => {
+            let _ = io::Write::write_all(&mut rt.stderr(), why.line().as_bytes());
+            ExitCode::from(why.status())
+        }
     }
+}
+
+/// Runs the program, and gives its status.
+fn start(rt: &HostRuntime) -> Result<u8, NotRun> {
+    let all = all_words(rt)?;
+    let Some((path, aad)) = words(all.as_slice()) else {
+        return Err(NotRun::Usage);
+    };
+    let keys = read_file(rt, path)?;
     let Ok(input) = BufReader::with_capacity(rt.alloc(), BLOCK, rt.stdin()) else {
-        return no_memory(&mut err);
+        return Err(NotRun::Memory);
     };
     let Ok(output) = BufWriter::with_capacity(rt.alloc(), BLOCK, rt.stdout()) else {
-        return no_memory(&mut err);
+        return Err(NotRun::Memory);
     };
-    let status = run_first(
+    let Ok(lines) = BufWriter::with_capacity(rt.alloc(), BLOCK, rt.stderr()) else {
+        return Err(NotRun::Memory);
+    };
+    Ok(run(
         rt.alloc(),
+        keys.as_deref(),
+        aad,
         &mut Io::new(input),
         &mut Io::new(output),
-        &mut err,
-    );
-    ExitCode::from(status)
+        &mut Io::new(lines),
+    ))
 }
 
-/// Says that memory was refused.
-fn no_memory<E: ciborium_ll::Write>(err: &mut E) -> ExitCode {
-    let _ = err.write_all(b"stopped: memory\n");
-    ExitCode::from(STOPPED)
+/// The words behind the program's name. One that isn't UTF-8 is a fault of the usage.
+fn all_words(rt: &HostRuntime) -> Result<Vec<String>, NotRun> {
+    match env::args(rt) {
+        Ok(all) => match all.skip(1).collect::<Vec<String>>(rt.alloc()) {
+            Ok(all) => Ok(all),
+            Err(_) => Err(NotRun::Memory),
+        },
+        Err(error) => match error.kind() {
+            io::ErrorKind::OutOfMemory => Err(NotRun::Memory),
+            _ => Err(NotRun::Usage),
+        },
+    }
 }
 
-/// Says how the program is used.
-fn usage<E: ciborium_ll::Write>(err: &mut E) -> ExitCode {
-    let _ = err.write_all(b"usage: cose-gate < MESSAGES > PASSED\n");
-    ExitCode::from(USAGE)
+/// The bytes of a file; `None` where it can't be read.
+fn read_file(rt: &HostRuntime, path: &str) -> Result<Option<Vec<u8>>, NotRun> {
+    match fs::read(rt, path) {
+        Ok(bytes) => Ok(Some(bytes)),
+        Err(error) => match error.kind() {
+            io::ErrorKind::OutOfMemory => Err(NotRun::Memory),
+            _ => Ok(None),
+        },
+    }
 }

@@ -198,14 +198,14 @@ pub const ROWS: [Row; 20] = [
         }),
     },
     Row {
-        // tags 16, 55799 round 18, 98 and 96
+        // tags 16, 55799 round 18, 98 with no signature, and 96
         input: "d08340a040d9d9f7d28443a10126a042686943010203d8628440a042686980d86000",
         asked: &[],
         output: "",
         noted: &[
             (0, Verdict::Refused(Refusal::Encrypted)),
             (5, Verdict::Refused(Refusal::OtherTag(55799))),
-            (22, Verdict::Refused(Refusal::OtherTag(98))),
+            (22, Verdict::Refused(Refusal::NoSignature)),
             (31, Verdict::Refused(Refusal::Encrypted)),
         ],
         ending: Ending::Whole(Counts {

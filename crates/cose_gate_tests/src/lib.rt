@@ -13,4 +13,6 @@ mod program;
 #[cfg(test)]
 mod runs;
 #[cfg(test)]
+mod signs;
+#[cfg(test)]
 mod texts;

@@ -387,9 +387,9 @@ fn a_full_slice_is_the_answer(rt: HostRuntime) -> Result<(), Fail> {
 
 /// A judge or a report that is refused memory once, after so many calls that ask for it.
 #[derive(Drop)]
-struct Nth<T> {
-    inner: T,
-    calls: usize,
+pub struct Nth<T> {
+    pub inner: T,
+    pub calls: usize,
 }
 
 impl<T> Nth<T> {

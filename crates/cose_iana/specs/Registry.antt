@@ -24,6 +24,6 @@ pub record Registry (E : Type 0) : Type 0 where
   pub there_and_back : (x : E) → entry (number x) ≡ Some x
   pub back_and_there : (i : ℤ) → MatchOption (entry i) (is_registered i ≡ false) (λ x. (number x ≡ i) × (is_registered i ≡ true))
 
--- numbers below -65536 are for private use (RFC 8152, section 16; RFC 8392, section 9.1)
+-- numbers below -65536 are for private use (RFC 9052, section 11, which keeps these registries; RFC 8392, section 9.1)
 abbrev pub is_private_use : ℤ → Bool
 is_private_use i = int_lt i (negsuc 65535)

@@ -3,9 +3,9 @@ use Rattle.std.specs.Prelude.{ℕ, List, Bool, true, false, if◌then◌else◌,
 use Rattle.cose_hmac.specs.View.{Holds}
 use Rattle.cose_hmac.specs.declared.mac.HmacSha256.{HmacSha256}
 use Rattle.coset_keys.specs.Fields.{KeyFields}
-use Rattle.cose_gate.specs.Questions.{Subject, Question}
-use Rattle.cose_gate.specs.declared.about.Kind.{Kind}
-use Rattle.cose_gate.specs.declared.about.Kind.TheVariants as kind
+use Rattle.cose_gate_core.specs.Questions.{Subject, Question}
+use Rattle.cose_gate_core.specs.declared.about.Kind.{Kind}
+use Rattle.cose_gate_core.specs.declared.about.Kind.TheVariants as kind
 use Rattle.cose_judge_hmac.specs.Judging.{secret_for, is_tag_under}
 
 abbrev pub is_mac0 : Kind → Bool

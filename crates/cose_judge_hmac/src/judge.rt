@@ -2,14 +2,14 @@
 ghost use Rattle.std.specs.Prelude.{◌≡◌, ℕ, List, [], ◌∷◌, ◌++◌, length, Option, option_copied, IsOk, OnOk, OnErr};
 ghost use Rattle.coset_keys.specs.Fields.{KeyFields};
 ghost use Rattle.coset_keys.specs.View.{key_set_view};
-ghost use Rattle.cose_gate.specs.Lent.{subject_of};
-ghost use Rattle.cose_gate.specs.Questions.{Subject};
+ghost use Rattle.cose_gate_core.specs.Lent.{subject_of};
+ghost use Rattle.cose_gate_core.specs.Questions.{Subject};
 ghost use Rattle.cose_judge_hmac.specs.Judge as spec;
 ghost use Rattle.cose_judge_hmac.specs.Judge.{Makes, says_yes};
 ghost use Rattle.cose_judge_hmac.specs.Judging.{is_tag_under};
 
 use crate::verdict::secret_for;
-use cose_gate::{About, Judge, Kind, Log};
+use cose_gate_core::{About, Judge, Kind, Log};
 use cose_hmac::{HmacSha256, same_tag};
 use coset_keys::CoseKeySet;
 use std::alloc::AllocError;

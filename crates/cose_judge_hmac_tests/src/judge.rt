@@ -1,6 +1,6 @@
 //! The judge by HMAC, as the gate asks it.
 use crate::tags::{key, protected};
-use cose_gate::{About, Judge, Kind};
+use cose_gate_core::{About, Judge, Kind};
 use cose_hmac::hmac_sha256;
 use cose_judge_hmac::HmacJudge;
 use coset_headers::Header;

@@ -7,13 +7,14 @@ pub mod laws;
 
 pub use cose_iana as iana;
 pub use coset_builders::{CoseSignatureBuilder, HeaderBuilder};
-pub use coset_headers::{
-    BytesTitle, CoseSignature, EncryptionContext, Header, MacContext, ProtectedHeader,
-    SignatureContext, bytes_title, enc_structure_data, mac_structure_data, sig_structure_data,
-};
+pub use coset_headers::{CoseSignature, Header, ProtectedHeader};
 pub use coset_labels::{
     Algorithm, AsCborValue, CborOrdering, CborSerializable, ContentType, CoseError, EndOfFile,
     Fault, KeyType, Label, RegisteredLabel, RegisteredLabelWithPrivate, Result,
     TaggedCborSerializable, ValueTryAs, cbor_type_error, read_to_value, to_cbor_array,
     write_to_vec,
+};
+pub use coset_structures::{
+    BytesTitle, EncryptionContext, MacContext, SignatureContext, bytes_title, enc_structure_data,
+    mac_structure_data, sig_structure_data,
 };

@@ -20,4 +20,13 @@ pub record ClaimsFields : Type 0 where
   pub rest : List (Named × Tree)
 
 abbrev pub no_claims : ClaimsFields
-no_claims = record { issuer = None; subject = None; audience = None; expiration_time = None; not_before = None; issued_at = None; cwt_id = None; rest = [] }
+no_claims = record {
+  issuer = None;
+  subject = None;
+  audience = None;
+  expiration_time = None;
+  not_before = None;
+  issued_at = None;
+  cwt_id = None;
+  rest = [];
+}

@@ -30,7 +30,8 @@ pub data Fills (m : Named) (v : Tree) (p q : ClaimsFields) : Type 0 where
   fills_issuer : (b : List ℕ) → m ≡ assigned (pos 1) → text_of v ≡ Some b → q ≡ record p { issuer = Some b } → Fills m v p q
   fills_subject : (b : List ℕ) → m ≡ assigned (pos 2) → text_of v ≡ Some b → q ≡ record p { subject = Some b } → Fills m v p q
   fills_audience : (b : List ℕ) → m ≡ assigned (pos 3) → text_of v ≡ Some b → q ≡ record p { audience = Some b } → Fills m v p q
-  fills_expiration_time : (s : TimeFields) → m ≡ assigned (pos 4) → time_of v ≡ Some s → q ≡ record p { expiration_time = Some s } → Fills m v p q
+  fills_expiration_time : (s : TimeFields) → m ≡ assigned (pos 4) → time_of v ≡ Some s
+      → q ≡ record p { expiration_time = Some s } → Fills m v p q
   fills_not_before : (s : TimeFields) → m ≡ assigned (pos 5) → time_of v ≡ Some s → q ≡ record p { not_before = Some s } → Fills m v p q
   fills_issued_at : (s : TimeFields) → m ≡ assigned (pos 6) → time_of v ≡ Some s → q ≡ record p { issued_at = Some s } → Fills m v p q
   fills_cwt_id : (b : List ℕ) → m ≡ assigned (pos 7) → bytes_of v ≡ Some b → q ≡ record p { cwt_id = Some b } → Fills m v p q

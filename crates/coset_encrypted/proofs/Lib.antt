@@ -1,3 +1,6 @@
+pub mod Again
+pub mod Fit
+pub mod Sound
 pub mod Steps
 pub mod Unique
 pub mod Writable

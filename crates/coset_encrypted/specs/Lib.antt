@@ -1,6 +1,7 @@
 pub mod Builders
 pub mod Fields
 pub mod Shapes
+pub mod Short
 pub mod Structure
 pub mod View
 pub mod Written

@@ -1,8 +1,8 @@
 -- What the ciphertext of an encrypted message covers (RFC 9052, section 5.3); none where the protected header can't be written.
 use Rattle.std.specs.Prelude.{ℕ, List, Option}
-use Rattle.coset_headers.specs.Contexts.{encryption_text}
-use Rattle.coset_headers.specs.Structure.{encryption_structure}
-use Rattle.coset_headers.specs.declared.context.EncryptionContext.TheVariants.{CoseEncrypt, CoseEncrypt0}
+use Rattle.coset_structures.specs.Contexts.{encryption_text}
+use Rattle.coset_structures.specs.Structure.{encryption_structure}
+use Rattle.coset_structures.specs.declared.context.EncryptionContext.TheVariants.{CoseEncrypt, CoseEncrypt0}
 use Rattle.coset_encrypted.specs.Fields.{Encrypt0Fields, EncryptFields}
 
 abbrev pub encrypt0_structure : Encrypt0Fields → List ℕ → Option (List ℕ)

@@ -12,9 +12,10 @@ ghost use Rattle.coset_encrypted.specs.Structure.{encrypt_structure};
 ghost use Rattle.coset_encrypted.specs.View.{encrypt_view};
 
 use crate::encrypt::CoseEncrypt;
-use coset_headers::{EncryptionContext, Header, ProtectedHeader, enc_structure_data};
+use coset_headers::{Header, ProtectedHeader};
 use coset_labels::{CoseError, Fault};
 use coset_recipients::CoseRecipient;
+use coset_structures::{EncryptionContext, enc_structure_data};
 use std::alloc::Global;
 
 /// A message while it is built. Plain setters take no memory.

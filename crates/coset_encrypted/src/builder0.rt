@@ -9,8 +9,9 @@ ghost use Rattle.coset_encrypted.specs.Structure.{encrypt0_structure};
 ghost use Rattle.coset_encrypted.specs.View.{encrypt0_view};
 
 use crate::encrypt0::CoseEncrypt0;
-use coset_headers::{EncryptionContext, Header, ProtectedHeader, enc_structure_data};
+use coset_headers::{Header, ProtectedHeader};
 use coset_labels::{CoseError, Fault};
+use coset_structures::{EncryptionContext, enc_structure_data};
 use std::alloc::Global;
 
 /// A message while it is built. Plain setters take no memory.

@@ -10,6 +10,7 @@ pub mod Meant
 pub mod Names
 pub mod Pushed
 pub mod Restored
+pub mod SameParts
 pub mod Signed
 pub mod Sound
 pub mod Steps

@@ -4,7 +4,6 @@ use Rattle.ciborium_value.specs.Tree.{Tree, array, Trees, no_trees}
 use Rattle.coset_labels.specs.Fields.{LabelFields}
 use Rattle.coset_headers.specs.Fields.{Plain, HeaderFields, header, ProtectedFields, protected, SignatureFields, signature, Signatures, no_signatures, signature_more}
 use Rattle.coset_headers.specs.Headers.{is_core, at, IsIn, Distinct, others, HasHeader, HasProtected, HasSignature, HasSigned, HasSignatures}
-use Rattle.coset_headers.specs.Structure.{shown_signer, sig_structure, mac_structure, encryption_structure}
 use Rattle.coset_headers.specs.Written.{twice, tree_of, written_entries, bare_or_list, header_of, header_tree, shown, signature_tree, signature_trees}
 use Rattle.coset_headers.proofs.Written.{once_only}
 
@@ -68,19 +67,3 @@ mutual
   sigs_some : (n : ℕ) (ss : Signatures) (ts : Trees) (k : ℕ) → HasSignatures n ts ss k → signature_trees ss ≢ None
   sigs_some n no_signatures ts k a = some_is no_trees
   sigs_some n (signature_more s ss) ts k a = trees_some s ss (sig_some n s a.0 k a.3) (sigs_some n ss a.1 k a.4)
-
--- ---- structures
-pub sig_data_some : (context : List ℕ) (p : ProtectedFields) (o : Option ProtectedFields) (aad payload : List ℕ) → shown p ≢ None → shown_signer o ≢ None → sig_structure context p o aad payload ≢ None
-sig_data_some context p o aad payload m n = and_some _ (shown p) m (λ b. map_some _ (shown_signer o) n)
-
-pub mac_data_some : (context : List ℕ) (p : ProtectedFields) (aad payload : List ℕ) → shown p ≢ None → mac_structure context p aad payload ≢ None
-mac_data_some context p aad payload m = map_some _ (shown p) m
-
-pub enc_data_some : (context : List ℕ) (p : ProtectedFields) (aad : List ℕ) → shown p ≢ None → encryption_structure context p aad ≢ None
-enc_data_some context p aad m = map_some _ (shown p) m
-
-pub no_signer_some : shown_signer None ≢ None
-no_signer_some = some_is None
-
-pub signer_is_some : (p : ProtectedFields) → shown p ≢ None → shown_signer (Some p) ≢ None
-signer_is_some p m = map_some Some (shown p) m

@@ -32,6 +32,9 @@ abbrev pub signatures : List SignatureFields → Signatures
 signatures [] = no_signatures
 signatures (s ∷ ss) = signature_more s (signatures ss)
 
+abbrev pub plain_part : HeaderFields → Plain
+plain_part (header p ss) = p
+
 abbrev pub no_plain : Plain
 no_plain = record { alg = None; crit = []; content_type = None; key_id = []; iv = []; partial_iv = []; rest = [] }
 

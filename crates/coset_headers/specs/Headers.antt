@@ -110,7 +110,8 @@ list_of_three a b c = one_more a (one_more b (one_more c no_trees))
 -- a header: a map whose keys are labels, none twice, with its fields and, at 7, counter signatures
 abbrev mutual
   pub HasHeader : ℕ → Tree → HeaderFields → ℕ → Type 0
-  HasHeader n t (header p ss) k = (ps : Pairs) × (es : List (LabelFields × Tree)) × (t ≡ map_tree ps) × (entries ps ≡ Some es) × Distinct es × IsPlain es p × HasSigned n (at 7 es) ss k
+  HasHeader n t (header p ss) k = (ps : Pairs) × (es : List (LabelFields × Tree)) × (t ≡ map_tree ps) × (entries ps ≡ Some es)
+      × Distinct es × IsPlain es p × HasSigned n (at 7 es) ss k
 
   -- a protected one: a byte string, empty or spelled whole by one readable item that is a header with one layer less; its bytes are kept
   pub HasProtected : ℕ → Tree → ProtectedFields → ℕ → Type 0
@@ -130,4 +131,5 @@ abbrev mutual
 
   pub HasSignatures : ℕ → Trees → Signatures → ℕ → Type 0
   HasSignatures n ts no_signatures k = ts ≡ no_trees
-  HasSignatures n ts (signature_more s ss) k = (u : Tree) × (us : Trees) × (ts ≡ one_more u us) × HasSignature n u s k × HasSignatures n us ss k
+  HasSignatures n ts (signature_more s ss) k = (u : Tree) × (us : Trees) × (ts ≡ one_more u us)
+      × HasSignature n u s k × HasSignatures n us ss k

@@ -1,13 +1,12 @@
 pub mod Alone
-pub mod Contexts
+pub mod Decided
 pub mod Entries
 pub mod Fields
 pub mod Headers
 pub mod Parts
 pub mod Places
+pub mod Same
 pub mod Short
-pub mod Structure
-pub mod Titles
 pub mod View
 pub mod Walks
 pub mod Weight

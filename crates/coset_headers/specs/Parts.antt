@@ -61,7 +61,8 @@ pub record Added (n : ℕ) (es : List (LabelFields × Tree)) (l v : Tree) (s : S
 pub data Fills (l : LabelFields) (v : Tree) (p q : Plain) : Type 0 where
   fills_alg : (a : Named) → l ≡ number (pos 1) → alg_of v ≡ Some (Some a) → q ≡ record p { alg = Some a } → Fills l v p q
   fills_crit : (ns : List Named) → l ≡ number (pos 2) → crit_of v ≡ Some ns → q ≡ record p { crit = ns } → Fills l v p q
-  fills_content_type : (c : Named) → l ≡ number (pos 3) → HasContentType (Some v) (Some c) → q ≡ record p { content_type = Some c } → Fills l v p q
+  fills_content_type : (c : Named) → l ≡ number (pos 3) → HasContentType (Some v) (Some c)
+      → q ≡ record p { content_type = Some c } → Fills l v p q
   fills_key_id : (b : List ℕ) → l ≡ number (pos 4) → some_bytes v ≡ Some b → q ≡ record p { key_id = b } → Fills l v p q
   fills_iv : (b : List ℕ) → l ≡ number (pos 5) → some_bytes v ≡ Some b → p.partial_iv ≡ [] → q ≡ record p { iv = b } → Fills l v p q
   fills_partial_iv : (b : List ℕ) → l ≡ number (pos 6) → some_bytes v ≡ Some b → p.iv ≡ [] → q ≡ record p { partial_iv = b } → Fills l v p q

@@ -70,7 +70,8 @@ is_unsigned (signature_more s ss) = false
 
 -- no field is set
 abbrev pub is_empty : HeaderFields → Bool
-is_empty (header p ss) = is_absent p.alg && (is_nil p.crit && (is_absent p.content_type && (is_nil p.key_id && (is_nil p.iv && (is_nil p.partial_iv && (is_unsigned ss && is_nil p.rest))))))
+is_empty (header p ss) = is_absent p.alg && (is_nil p.crit && (is_absent p.content_type && (is_nil p.key_id
+    && (is_nil p.iv && (is_nil p.partial_iv && (is_unsigned ss && is_nil p.rest))))))
 
 abbrev mutual
   pub header_tree : HeaderFields → Option Tree
@@ -82,7 +83,8 @@ abbrev mutual
   shown (protected None h) = if is_empty h then Some [] else option_map enc (header_tree h)
 
   pub signature_tree : SignatureFields → Option Tree
-  signature_tree (signature p h c) = option_and_then (λ b. option_map (λ t. array (list_of_three (bytes b) t (bytes c))) (header_tree h)) (shown p)
+  signature_tree (signature p h c) =
+      option_and_then (λ b. option_map (λ t. array (list_of_three (bytes b) t (bytes c))) (header_tree h)) (shown p)
 
   pub signature_trees : Signatures → Option Trees
   signature_trees no_signatures = Some no_trees

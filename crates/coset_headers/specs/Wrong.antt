@@ -21,7 +21,8 @@ use Rattle.coset_headers.specs.Headers.{is_at, is_slash, entries, at, IsIn, IsBa
 pub data WrongCrit : Tree → CoseFault → Type 0 where
   no_crit_list : (t : Tree) → is_array t ≡ false → WrongCrit t unexpected
   empty_crit : WrongCrit (array no_trees) unexpected
-  bad_crit : (before after : List Tree) (t : Tree) (e : CoseFault) → WrongNamed header_parameters.is_registered is_private_use t e → WrongCrit (array (trees (before ++ t ∷ after))) e
+  bad_crit : (before after : List Tree) (t : Tree) (e : CoseFault) → WrongNamed header_parameters.is_registered is_private_use t e
+      → WrongCrit (array (trees (before ++ t ∷ after))) e
 
 -- no content type, or a text that is empty, has white space at an end, or another number of slashes than one
 pub data WrongContentType : Tree → CoseFault → Type 0 where
@@ -53,18 +54,22 @@ mutual
   -- the entry (l, v) behind the entries `es`
   pub data WrongEntry (n : ℕ) : List (LabelFields × Tree) → Tree → Tree → ℕ → CoseFault → Type 0 where
     bad_label : (es : List (LabelFields × Tree)) (l v : Tree) (k : ℕ) (e : CoseFault) → WrongLabel l e → WrongEntry n es l v k e
-    label_again : (es : List (LabelFields × Tree)) (l v : Tree) (k : ℕ) (m : LabelFields) → label_of l ≡ Some m → IsIn m es → WrongEntry n es l v k duplicate_key
-    bad_field : (es : List (LabelFields × Tree)) (l v : Tree) (k : ℕ) (m : LabelFields) (e : CoseFault) → label_of l ≡ Some m → WrongField v m e → WrongEntry n es l v k e
+    label_again : (es : List (LabelFields × Tree)) (l v : Tree) (k : ℕ) (m : LabelFields) → label_of l ≡ Some m → IsIn m es
+        → WrongEntry n es l v k duplicate_key
+    bad_field : (es : List (LabelFields × Tree)) (l v : Tree) (k : ℕ) (m : LabelFields) (e : CoseFault) → label_of l ≡ Some m
+        → WrongField v m e → WrongEntry n es l v k e
     two_ivs : (es : List (LabelFields × Tree)) (l v b c : Tree) (k : ℕ) (m : LabelFields) → label_of l ≡ Some m
         → at 5 (es ++ (m, v) ∷ []) ≡ Some b → at 6 (es ++ (m, v) ∷ []) ≡ Some c → WrongEntry n es l v k unexpected
-    bad_signatures : (es : List (LabelFields × Tree)) (l v : Tree) (k : ℕ) (m : LabelFields) (e : CoseFault) → label_of l ≡ Some m → is_at 7 m ≡ true → WrongSigned n v k e → WrongEntry n es l v k e
+    bad_signatures : (es : List (LabelFields × Tree)) (l v : Tree) (k : ℕ) (m : LabelFields) (e : CoseFault) → label_of l ≡ Some m
+        → is_at 7 m ≡ true → WrongSigned n v k e → WrongEntry n es l v k e
 
   -- counter signatures
   pub data WrongSigned (n : ℕ) : Tree → ℕ → CoseFault → Type 0 where
     no_list : (t : Tree) (k : ℕ) → is_array t ≡ false → WrongSigned n t k unexpected
     no_first : (ts : Trees) (k : ℕ) → NoSignature ts → WrongSigned n (array ts) k unexpected
     in_bare : (ts : Trees) (k : ℕ) (e : CoseFault) → IsBare ts → WrongSignature n (array ts) k e → WrongSigned n (array ts) k e
-    in_list : (before after : List Tree) (t : Tree) (k : ℕ) (e : CoseFault) → IsList (trees (before ++ t ∷ after)) → WrongSignature n t k e → WrongSigned n (array (trees (before ++ t ∷ after))) k e
+    in_list : (before after : List Tree) (t : Tree) (k : ℕ) (e : CoseFault) → IsList (trees (before ++ t ∷ after)) → WrongSignature n t k e
+        → WrongSigned n (array (trees (before ++ t ∷ after))) k e
 
   pub data WrongSignature (n : ℕ) : Tree → ℕ → CoseFault → Type 0 where
     no_array : (t : Tree) (k : ℕ) → is_array t ≡ false → WrongSignature n t k unexpected
@@ -78,4 +83,5 @@ mutual
     no_string : (t : Tree) (k : ℕ) → is_bytes t ≡ false → WrongProtected n t k unexpected
     too_deep : (b : List ℕ) → WrongProtected n (bytes b) 0 too_many_layers
     unreadable : (b : List ℕ) (k : ℕ) (e : CoseFault) → 0 < k → b ≢ [] → NotReadable b n e → WrongProtected n (bytes b) k e
-    inside : (b : List ℕ) (t : Tree) (k : ℕ) (e : CoseFault) → 0 < k → b ≢ [] → Reads b n t → WrongHeader n t (k - 1) e → WrongProtected n (bytes b) k e
+    inside : (b : List ℕ) (t : Tree) (k : ℕ) (e : CoseFault) → 0 < k → b ≢ [] → Reads b n t → WrongHeader n t (k - 1) e
+        → WrongProtected n (bytes b) k e

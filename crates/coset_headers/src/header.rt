@@ -4,7 +4,7 @@ use coset_labels::{Algorithm, ContentType, Label, RegisteredLabelWithPrivate, ia
 
 /// A header map (RFC 9052, section 3.1). An empty field is an absent one.
 #[cycle(header)]
-#[derive(Debug, PartialEq, Eq, Drop)]
+#[derive(Debug, Drop)]
 pub struct Header {
     /// The algorithm, label 1.
     pub alg: Option<Algorithm>,
@@ -26,7 +26,7 @@ pub struct Header {
 
 /// A protected header, with its bytes where they were received (RFC 9052, section 3).
 #[cycle(header)]
-#[derive(Debug, PartialEq, Eq, Drop)]
+#[derive(Debug, Drop)]
 pub struct ProtectedHeader {
     /// The bytes as they were received.
     pub original_data: Option<Vec<u8>>,
@@ -36,7 +36,7 @@ pub struct ProtectedHeader {
 
 /// A signature with its headers (RFC 9052, section 4.1).
 #[cycle(header)]
-#[derive(Debug, PartialEq, Eq, Drop)]
+#[derive(Debug, Drop)]
 pub struct CoseSignature {
     /// The protected header.
     pub protected: ProtectedHeader,

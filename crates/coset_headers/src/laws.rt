@@ -1,5 +1,5 @@
 //! Laws of the definitions.
-ghost use Rattle.std.specs.Prelude.{◌≡◌, ◌≢◌, ℕ, List, Some, None};
+ghost use Rattle.std.specs.Prelude.{◌≡◌, ◌≢◌, ◌↔◌, IsTrue, ℕ, List, Some, None};
 ghost use Rattle.ciborium.specs.Front.{Reads};
 ghost use Rattle.ciborium_value.specs.Encoding.{enc, Fits};
 ghost use Rattle.ciborium_value.specs.Tree.{Tree, bytes};
@@ -8,13 +8,12 @@ ghost use Rattle.coset_labels.specs.Reading.{HasItem, WrongItem};
 ghost use Rattle.coset_headers.specs.Fields.{HeaderFields, ProtectedFields, SignatureFields};
 ghost use Rattle.coset_headers.specs.Headers.{HasHeader, HasProtected, HasSignature};
 ghost use Rattle.coset_headers.specs.Short.{IsShort, ShowsShort, SignatureShort};
-ghost use Rattle.coset_headers.specs.Structure.{sig_structure, mac_structure, encryption_structure};
-ghost use Rattle.coset_headers.specs.View.{header_view, signature_view};
+ghost use Rattle.coset_headers.specs.View.{header_view, protected_view, signature_view};
 ghost use Rattle.coset_headers.specs.Written.{header_tree, shown, signature_tree};
 ghost use Rattle.coset_headers.specs.Wrong.{WrongHeader, WrongProtected, WrongSignature};
 
 pub use crate::fits::{header_fits, protected_fits, signature_fits};
-use crate::header::{CoseSignature, Header};
+use crate::header::{CoseSignature, Header, ProtectedHeader};
 
 /// A value has the fields of at most one header, one protected header, one signature. So have the bytes of one item.
 pub fn one_header()
@@ -38,17 +37,12 @@ pub fn wrong_has_none()
         → HasItem (λ t s. HasSignature 256 t s 16) b s → ⊥ }
 {}
 
-/// A header that was read can be written, and so can a signature. The bytes that a protected one shows, and the structures over it, are
-/// there: no label of what was read would be written twice in one map.
+/// A header that was read can be written, and so can a signature, and the bytes that a protected one shows are there: no label of what was
+/// read would be written twice in one map.
 pub fn read_can_be_written()
     ensures header { (n k : ℕ) (t : Tree) (h : HeaderFields) → HasHeader n t h k → header_tree h ≢ None }
     ensures protected { (n k : ℕ) (t : Tree) (p : ProtectedFields) → HasProtected n t p k → shown p ≢ None }
     ensures signature { (n k : ℕ) (t : Tree) (s : SignatureFields) → HasSignature n t s k → signature_tree s ≢ None }
-    ensures structures { (context aad payload : List ℕ) (p : ProtectedFields) → shown p ≢ None
-        → (sig_structure context p None aad payload ≢ None) × (mac_structure context p aad payload ≢ None)
-        × (encryption_structure context p aad ≢ None) }
-    ensures signer { (context aad payload : List ℕ) (p q : ProtectedFields) → shown p ≢ None → shown q ≢ None
-        → sig_structure context p (Some q) aad payload ≢ None }
 {}
 
 /// What is written of a header or a signature that was read has its fields again, received bytes included. A protected one shows the very
@@ -95,3 +89,18 @@ pub fn signature_reads_again(signature: &CoseSignature)
     written_reads_same();
     read_is_short();
 }
+
+/// Headers are equal where they say the same, entries of `rest` in the same order.
+pub fn headers_compare(a: &Header, b: &Header)
+    ensures { IsTrue (⟦<Header as std::cmp::PartialEq>⟧.eq a.now b.now) ↔ (header_view a.now ≡ header_view b.now) }
+{}
+
+/// Protected headers are equal where they say the same and both have the same received bytes, or none.
+pub fn protected_compare(a: &ProtectedHeader, b: &ProtectedHeader)
+    ensures { IsTrue (⟦<ProtectedHeader as std::cmp::PartialEq>⟧.eq a.now b.now) ↔ (protected_view a.now ≡ protected_view b.now) }
+{}
+
+/// Signatures are equal where they say the same.
+pub fn signatures_compare(a: &CoseSignature, b: &CoseSignature)
+    ensures { IsTrue (⟦<CoseSignature as std::cmp::PartialEq>⟧.eq a.now b.now) ↔ (signature_view a.now ≡ signature_view b.now) }
+{}

@@ -126,12 +126,12 @@ fn three_items(
 }
 
 /// The bytes that are shown for a protected header: those that were received; else none for an empty header, and the encoded map for
-/// another.
+/// another (RFC 9052, section 3).
+///
+/// # Errors
+/// `DuplicateMapKey` exactly where a label stands twice in a header that has to be encoded, or `Memory`.
 #[cycle(writer)]
-pub(crate) fn show_protected(
-    alloc: Global,
-    protected: ProtectedHeader,
-) -> Result<Vec<u8>, CoseError>
+pub fn show_protected(alloc: Global, protected: ProtectedHeader) -> Result<Vec<u8>, CoseError>
     ensures { MatchResult result (λ b. shown (protected_view protected) ≡ Some b.items)
         (λ e. CantWrite (shown (protected_view protected)) e) }
 {

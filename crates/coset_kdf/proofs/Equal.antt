@@ -1,4 +1,4 @@
--- Derived equality is that of what is said; of a context it comes down to that of its protected header.
+-- Derived equality is that of what is said.
 use Rattle.std.proofs.Common.{◌≡◌, ℕ, List, [], ◌∷◌, map, Bool, true, false, Option, Some, None, option_map, refl, ap, Vec, Global}
 use Rattle.std.specs.Prelude.{IsTrue, ◌↔◌, ◌&&◌, nat_eq}
 use Rattle.std.specs.Cmp.{signed_Decides, unsigned_Decides}
@@ -7,10 +7,10 @@ use Rattle.std.specs.Option.{option_eq}
 use Rattle.cose_iana.specs.Algorithms.{algorithm_number}
 use Rattle.coset_labels.specs.Orders.{names_same}
 use Rattle.coset_labels.specs.View.{named_view}
-use Rattle.coset_headers.specs.contracts.header.ProtectedHeaderPartialEq.TheImpl as header_equality
+use Rattle.coset_headers.specs.Decided.{protected_decided}
+use Rattle.coset_headers.specs.View.{protected_view}
 use Rattle.coset_kdf.specs.Fields.{nonce_bytes, nonce_integer}
-use Rattle.coset_kdf.specs.Equality.{SamePublic, SameContext}
-use Rattle.coset_kdf.specs.View.{nonce_view, party_view}
+use Rattle.coset_kdf.specs.View.{nonce_view, party_view, public_view, context_view}
 use Rattle.coset_kdf.specs.declared.context.Nonce.{Nonce}
 use Rattle.coset_kdf.specs.declared.context.Nonce.TheVariants.{Bytes, Integer}
 use Rattle.coset_kdf.specs.declared.context.PartyInfo.{PartyInfo}
@@ -56,21 +56,31 @@ parties a b =
     let w = both _ _ (strings a.identity b.identity) (both _ _ (maybe_nonces a.nonce b.nonce) (strings a.other b.other)) in
     (λ h. let p = w.0 h in λ i. record { identity = p.0 i; nonce = p.1.0 i; other = p.1.1 i }, λ h. w.1 (ap (λ c. c.identity) h, (ap (λ c. c.nonce) h, ap (λ c. c.other) h)))
 
-itself : (b : Bool) → IsTrue b ↔ IsTrue b
-itself b = (λ h. h, λ h. h)
-
-pub publics : (a b : SuppPubInfo) → IsTrue (public_equality.eq-value.it a b) ↔ SamePublic header_equality.eq-value.it a b
+pub publics : (a b : SuppPubInfo) → IsTrue (public_equality.eq-value.it a b) ↔ (public_view a ≡ public_view b)
 publics a b =
-    let w = both _ _ (unsigned_Decides a.key_data_length b.key_data_length) (both _ _ (itself (header_equality.eq-value.it a.protected b.protected)) (strings a.other b.other)) in
-    (λ h. let p = w.0 h in record { key_data_length = p.0; protected_header = p.1.0; other = p.1.1 }, λ s. w.1 (s.key_data_length, (s.protected_header, s.other)))
+    let w = both _ _ (unsigned_Decides a.key_data_length b.key_data_length)
+    (both _ _ (protected_decided (protected_view a.protected) (protected_view b.protected)) (strings a.other b.other)) in (
+      λ h. let p = w.0 h in λ i. record { key_data_length = p.0 i; protected_header = p.1.0 i; other = p.1.1 i },
+      λ h. w.1 (ap (λ c. c.key_data_length) h, (ap (λ c. c.protected_header) h, ap (λ c. c.other) h)),
+    )
 
 privates : (xs ys : List (Vec ℕ Global)) → IsTrue (pointwise (λ a b. pointwise nat_eq a.items b.items) xs ys) ↔ (map (λ v. v.items) xs ≡ map (λ v. v.items) ys)
 privates xs ys = lists (λ a b. pointwise nat_eq a.items b.items) (λ v. v.items) (λ a b. bytes_decides a.items b.items) xs ys
 
-pub contexts : (a b : CoseKdfContext) → IsTrue (context_equality.eq-value.it a b) ↔ SameContext header_equality.eq-value.it a b
+pub contexts : (a b : CoseKdfContext) → IsTrue (context_equality.eq-value.it a b) ↔ (context_view a ≡ context_view b)
 contexts a b =
-    let w = both _ _ (names_same (named_view algorithm_number a.algorithm_id) (named_view algorithm_number b.algorithm_id)) (both _ _ (parties a.party_u_info b.party_u_info) (both _ _ (parties a.party_v_info b.party_v_info)
+    let named = names_same (named_view algorithm_number a.algorithm_id) (named_view algorithm_number b.algorithm_id) in
+    let w = both _ _ named (both _ _ (parties a.party_u_info b.party_u_info) (both _ _ (parties a.party_v_info b.party_v_info)
     (both _ _ (publics a.supp_pub_info b.supp_pub_info) (privates a.supp_priv_info.items b.supp_priv_info.items)))) in (
-      λ h. let p = w.0 h in record { algorithm = p.0; party_u = p.1.0; party_v = p.1.1.0; public = p.1.1.1.0; privates = p.1.1.1.1 },
-      λ s. w.1 (s.algorithm, (s.party_u, (s.party_v, (s.public, s.privates)))),
+      λ h. let p = w.0 h in λ i. record {
+        algorithm = p.0 i;
+        party_u = p.1.0 i;
+        party_v = p.1.1.0 i;
+        public = p.1.1.1.0 i;
+        privates = p.1.1.1.1 i;
+      },
+      λ h. w.1 (
+        ap (λ c. c.algorithm) h,
+        (ap (λ c. c.party_u) h, (ap (λ c. c.party_v) h, (ap (λ c. c.public) h, ap (λ c. c.privates) h))),
+      ),
     )

@@ -11,18 +11,11 @@ use Rattle.coset_labels.specs.Kinds.{is_array}
 use Rattle.coset_labels.specs.Labels.{WrongNamed}
 use Rattle.coset_labels.specs.declared.error.CoseError.{CoseError}
 use Rattle.coset_headers.specs.Headers.{list_of_three}
+use Rattle.coset_headers.proofs.Steps.{passed_on, views_count}
 use Rattle.coset_kdf.specs.Contexts.{HasPublic, maybe_bytes, four_and}
 use Rattle.coset_kdf.specs.Fields.{PublicFields}
 use Rattle.coset_kdf.specs.Steps.{HasTwo, WrongTwo, Popped, WrongPopped}
 use Rattle.coset_kdf.specs.Wrong.{WrongNonce, WrongParty, no_array, not_three, wrong_identity, wrong_nonce, wrong_other, WrongPublic, no_list, not_two_or_three, wrong_length, in_protected, no_bytes, WrongContext, not_list, too_few, wrong_algorithm, in_party_u, in_party_v, in_public, in_private}
-
-pub passed_on : (P Q : CoseFault → Type 0) (e : CoseError) → (P (fault_of e) → Q (fault_of e)) → OrMemory P e → OrMemory Q e
-passed_on P Q e f (inl m) = inl m
-passed_on P Q e f (inr p) = inr (f p)
-
-pub views_count : (vs : List Value) → tree_count (views vs) ≡ length vs
-views_count [] = refl
-views_count (v ∷ vs) = let h : tree_count (views vs) ≡ length vs = views_count vs in omega arith
 
 -- ---- the last of a list
 abbrev pub behind : Trees → Tree → Trees

@@ -24,7 +24,8 @@ nonce_of _ = None
 
 -- PartyInfo: identity, nonce and other
 abbrev pub HasParty : Tree → PartyFields → Type 0
-HasParty t p = (a b c : Tree) × (t ≡ array (list_of_three a b c)) × (bytes_or_nil a ≡ Some p.identity) × (nonce_of b ≡ Some p.nonce) × (bytes_or_nil c ≡ Some p.other)
+HasParty t p = (a b c : Tree) × (t ≡ array (list_of_three a b c))
+    × (bytes_or_nil a ≡ Some p.identity) × (nonce_of b ≡ Some p.nonce) × (bytes_or_nil c ≡ Some p.other)
 
 -- the integer lies in 0 to 2^64 - 1
 abbrev pub is_u64 : ℤ → Bool
@@ -46,7 +47,8 @@ maybe_bytes (Some b) = bytes b ∷ []
 
 -- SuppPubInfo: key data length, protected header and perhaps other
 abbrev pub HasPublic : ℕ → Tree → PublicFields → ℕ → Type 0
-HasPublic n t s k = (a b : Tree) × (t ≡ array (trees (a ∷ b ∷ maybe_bytes s.other))) × (length_of a ≡ Some s.key_data_length) × HasProtected n b s.protected_header k
+HasPublic n t s k = (a b : Tree) × (t ≡ array (trees (a ∷ b ∷ maybe_bytes s.other)))
+    × (length_of a ≡ Some s.key_data_length) × HasProtected n b s.protected_header k
 
 -- the four elements, and those behind them
 abbrev pub four_and : Tree → Tree → Tree → Tree → Trees → Trees
@@ -54,5 +56,6 @@ four_and a u v s ts = one_more a (one_more u (one_more v (one_more s ts)))
 
 -- COSE_KDF_Context: algorithm, PartyUInfo, PartyVInfo, SuppPubInfo and any number of SuppPrivInfo
 abbrev pub HasContext : ℕ → Tree → ContextFields → ℕ → Type 0
-HasContext n t c k = (a u v s : Tree) × (t ≡ array (four_and a u v s (trees (map bytes c.privates)))) × (named_of is_algorithm is_private_use a ≡ Some c.algorithm)
+HasContext n t c k = (a u v s : Tree) × (t ≡ array (four_and a u v s (trees (map bytes c.privates))))
+    × (named_of is_algorithm is_private_use a ≡ Some c.algorithm)
     × HasParty u c.party_u × HasParty v c.party_v × HasPublic n s c.public k

@@ -34,4 +34,10 @@ no_public = record { key_data_length = 0; protected_header = protected None no_h
 
 -- the algorithm is the reserved one
 abbrev pub no_context : ContextFields
-no_context = record { algorithm = assigned (algorithm_number Reserved); party_u = no_party; party_v = no_party; public = no_public; privates = [] }
+no_context = record {
+  algorithm = assigned (algorithm_number Reserved);
+  party_u = no_party;
+  party_v = no_party;
+  public = no_public;
+  privates = [];
+}

@@ -1,6 +1,5 @@
 pub mod Builders
 pub mod Contexts
-pub mod Equality
 pub mod Fields
 pub mod Steps
 pub mod View

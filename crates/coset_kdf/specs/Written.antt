@@ -25,4 +25,5 @@ abbrev pub public_tree : PublicFields → Option Tree
 public_tree s = option_map (λ b. array (trees (integer (pos s.key_data_length) ∷ bytes b ∷ maybe_bytes s.other))) (shown s.protected_header)
 
 abbrev pub context_tree : ContextFields → Option Tree
-context_tree c = option_map (λ s. array (four_and (named_tree c.algorithm) (party_tree c.party_u) (party_tree c.party_v) s (trees (map bytes c.privates)))) (public_tree c.public)
+context_tree c = option_map (λ s. array (four_and (named_tree c.algorithm) (party_tree c.party_u) (party_tree c.party_v) s
+    (trees (map bytes c.privates)))) (public_tree c.public)

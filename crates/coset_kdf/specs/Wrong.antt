@@ -38,15 +38,19 @@ WrongLength _ e = e ≡ unexpected
 pub data WrongPublic (n : ℕ) : Tree → ℕ → CoseFault → Type 0 where
   no_list : (t : Tree) (k : ℕ) → is_array t ≡ false → WrongPublic n t k unexpected
   not_two_or_three : (ts : Trees) (k : ℕ) → tree_count ts ≢ 2 → tree_count ts ≢ 3 → WrongPublic n (array ts) k unexpected
-  wrong_length : (a b : Tree) (ts : Trees) (k : ℕ) (e : CoseFault) → tree_count ts < 2 → WrongLength a e → WrongPublic n (array (one_more a (one_more b ts))) k e
-  in_protected : (a b : Tree) (ts : Trees) (k : ℕ) (e : CoseFault) → tree_count ts < 2 → WrongProtected n b k e → WrongPublic n (array (one_more a (one_more b ts))) k e
+  wrong_length : (a b : Tree) (ts : Trees) (k : ℕ) (e : CoseFault) → tree_count ts < 2 → WrongLength a e
+      → WrongPublic n (array (one_more a (one_more b ts))) k e
+  in_protected : (a b : Tree) (ts : Trees) (k : ℕ) (e : CoseFault) → tree_count ts < 2 → WrongProtected n b k e
+      → WrongPublic n (array (one_more a (one_more b ts))) k e
   no_bytes : (a b c : Tree) (k : ℕ) → is_bytes c ≡ false → WrongPublic n (array (list_of_three a b c)) k unexpected
 
 pub data WrongContext (n : ℕ) : Tree → ℕ → CoseFault → Type 0 where
   not_list : (t : Tree) (k : ℕ) → is_array t ≡ false → WrongContext n t k unexpected
   too_few : (ts : Trees) (k : ℕ) → tree_count ts < 4 → WrongContext n (array ts) k unexpected
-  wrong_algorithm : (a u v s : Tree) (ts : Trees) (k : ℕ) (e : CoseFault) → WrongNamed is_algorithm is_private_use a e → WrongContext n (array (four_and a u v s ts)) k e
+  wrong_algorithm : (a u v s : Tree) (ts : Trees) (k : ℕ) (e : CoseFault) → WrongNamed is_algorithm is_private_use a e
+      → WrongContext n (array (four_and a u v s ts)) k e
   in_party_u : (a u v s : Tree) (ts : Trees) (k : ℕ) (e : CoseFault) → WrongParty u e → WrongContext n (array (four_and a u v s ts)) k e
   in_party_v : (a u v s : Tree) (ts : Trees) (k : ℕ) (e : CoseFault) → WrongParty v e → WrongContext n (array (four_and a u v s ts)) k e
   in_public : (a u v s : Tree) (ts : Trees) (k : ℕ) (e : CoseFault) → WrongPublic n s k e → WrongContext n (array (four_and a u v s ts)) k e
-  in_private : (a u v s t : Tree) (before after : List Tree) (k : ℕ) → is_bytes t ≡ false → WrongContext n (array (four_and a u v s (trees (before ++ t ∷ after)))) k unexpected
+  in_private : (a u v s t : Tree) (before after : List Tree) (k : ℕ) → is_bytes t ≡ false
+      → WrongContext n (array (four_and a u v s (trees (before ++ t ∷ after)))) k unexpected

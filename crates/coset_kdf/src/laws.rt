@@ -8,7 +8,6 @@ ghost use Rattle.coset_labels.specs.Reading.{HasItem};
 ghost use Rattle.coset_headers.specs.View.{protected_view};
 ghost use Rattle.coset_headers.specs.Written.{shown};
 ghost use Rattle.coset_kdf.specs.Contexts.{HasContext, HasParty, HasPublic};
-ghost use Rattle.coset_kdf.specs.Equality.{SameContext, SamePublic};
 ghost use Rattle.coset_kdf.specs.Fields.{ContextFields, PartyFields, PublicFields};
 ghost use Rattle.coset_kdf.specs.View.{context_view, nonce_view, party_view, public_view};
 ghost use Rattle.coset_kdf.specs.Written.{bytes_or_nil_tree, context_tree, nonce_tree, party_tree, public_tree};
@@ -17,7 +16,6 @@ ghost use Rattle.coset_kdf.specs.Wrong.{WrongContext, WrongParty, WrongPublic};
 use crate::context::{CoseKdfContext, Nonce, PartyInfo, SuppPubInfo};
 use ciborium_value::laws::value_fits;
 use ciborium_value::{Integer, Value};
-use coset_headers::ProtectedHeader;
 use coset_headers::laws::{protected_fits, read_is_short};
 use coset_labels::laws::name_fits;
 
@@ -52,16 +50,14 @@ pub fn parties_compare(a: &PartyInfo, b: &PartyInfo)
     ensures { IsTrue (⟦<PartyInfo as std::cmp::PartialEq>⟧.eq a.now b.now) ↔ (party_view a.now ≡ party_view b.now) }
 {}
 
-/// Public information is equal where it says the same and its protected headers are equal.
+/// Public information is equal where it says the same, received bytes included.
 pub fn publics_compare(a: &SuppPubInfo, b: &SuppPubInfo)
-    ensures { IsTrue (⟦<SuppPubInfo as std::cmp::PartialEq>⟧.eq a.now b.now)
-        ↔ SamePublic ⟦<ProtectedHeader as std::cmp::PartialEq>⟧.eq a.now b.now }
+    ensures { IsTrue (⟦<SuppPubInfo as std::cmp::PartialEq>⟧.eq a.now b.now) ↔ (public_view a.now ≡ public_view b.now) }
 {}
 
-/// Contexts are equal where they say the same and their protected headers are equal.
+/// Contexts are equal where they say the same, received bytes included.
 pub fn contexts_compare(a: &CoseKdfContext, b: &CoseKdfContext)
-    ensures { IsTrue (⟦<CoseKdfContext as std::cmp::PartialEq>⟧.eq a.now b.now)
-        ↔ SameContext ⟦<ProtectedHeader as std::cmp::PartialEq>⟧.eq a.now b.now }
+    ensures { IsTrue (⟦<CoseKdfContext as std::cmp::PartialEq>⟧.eq a.now b.now) ↔ (context_view a.now ≡ context_view b.now) }
 {}
 
 fn bytes_fit(content: &[u8])

@@ -1,30 +1,22 @@
 -- Lists of operations as they are read.
-use Rattle.std.proofs.Common.{◌≡◌, ◌≢◌, ◌⊎◌, inl, inr, ⊎_elim, List, [], ◌∷◌, ◌++◌, map, Bool, true, false, cond, Option, Some, None, option_map, option_and_then, refl, sym, ap, subst, ◌∙◌}
+use Rattle.std.proofs.Common.{◌≡◌, ⊎_elim, List, [], ◌∷◌, ◌++◌, map, Bool, true, false, Option, Some, None, option_map, option_and_then, refl, sym, ap, subst, ◌∙◌}
 use Rattle.std.specs.Prelude.{not, ◌||◌}
 use Rattle.std.specs.Cmp.{IsEquivalence}
 use Rattle.std.specs.List.{Contains, IsDistinct, list_any}
 use Rattle.std.specs.List.Sorted.{IsStrictlySortedBy}
 use Rattle.std.specs.BTreeSet.{insert_key}
 use Rattle.std.specs.Ordering.{is_eq, eq_by_cmp}
-use Rattle.std.specs.declared.cmp.Ordering.{Ordering}
 use Rattle.std.proofs.lemmas.Cmp.{eq_by_cmp_equiv}
 use Rattle.std.proofs.lemmas.List.{map-append}
 use Rattle.std.proofs.lemmas.List.Elements.{Contains-append_left, Contains-push, Contains-push_cases}
 use Rattle.std.proofs.lemmas.Map.Keys.{IsDistinct-push}
 use Rattle.std.proofs.lemmas.Map.Views.{Contains-from_any, list_any-from_Contains}
-use Rattle.cose_iana.specs.Keys.{key_operations}
-use Rattle.ciborium_value.specs.Tree.{Tree, array, no_trees}
+use Rattle.ciborium_value.specs.Tree.{Tree}
 use Rattle.ciborium_value.specs.View.{trees, view, views}
 use Rattle.ciborium_value.specs.declared.value.Value.{Value}
-use Rattle.coset_labels.specs.Faults.{OrMemory, CoseFault, fault_of, unexpected}
 use Rattle.coset_labels.specs.Fields.{Named}
-use Rattle.coset_labels.specs.Kinds.{is_array}
-use Rattle.coset_labels.specs.Labels.{WrongRegistered}
 use Rattle.coset_labels.specs.Orders.{named_cmp, named_total, named_tied, names_same}
-use Rattle.coset_labels.specs.declared.error.CoseError.{CoseError}
-use Rattle.coset_headers.proofs.Steps.{passed_on}
-use Rattle.coset_keys.specs.Keys.{operation_of, operations_of, Rises, HasOperations}
-use Rattle.coset_keys.specs.Wrong.{WrongOperations, no_list, empty_list, bad_operation, operation_again}
+use Rattle.coset_keys.specs.Keys.{operation_of, operations_of, Rises}
 use Rattle.coset_keys.proofs.Rising.{inserted_there, inserted_keeps, inserted_only}
 
 -- ---- one more operation

@@ -1,5 +1,5 @@
 -- Points of keys, by their coordinates.
-use Rattle.std.proofs.Common.{◌≡◌, ◌≢◌, ℕ, ◌+◌, ◌<◌, List, [], ◌∷◌, ◌++◌, length, map, take, get_or, Bool, true, false, cond, Option, Some, None, refl, sym, ap, ◌∙◌, arith, Vec, Global, vec_len}
+use Rattle.std.proofs.Common.{◌≡◌, ◌≢◌, ℕ, ◌+◌, ◌<◌, List, [], ◌∷◌, ◌++◌, length, map, take, get_or, Bool, true, false, cond, Option, Some, None, refl, sym, ap, ◌∙◌, Vec, Global, vec_len}
 use Rattle.std.specs.Ordering.{is_eq}
 use Rattle.std.proofs.lemmas.List.{map-append, take_more}
 use Rattle.ciborium_value.specs.Tree.{Tree}
@@ -14,6 +14,7 @@ use Rattle.coset_labels.specs.Orders.{label_cmp}
 use Rattle.coset_labels.specs.View.{label_view}
 use Rattle.coset_labels.specs.declared.label.Label.{Label}
 use Rattle.coset_headers.specs.View.{entry_view}
+use Rattle.coset_headers.proofs.Entered.{cond_none}
 use Rattle.coset_headers.proofs.Written.{split_at}
 use Rattle.coset_keys.specs.Points.{first_at}
 
@@ -27,10 +28,6 @@ pub lengths_agree : (v w : Vec ℕ Global) (a b : ℕ) → a ≡ vec_len v → b
 lengths_agree v w a b p q e = sym (p ∙ v.ok.0) ∙ e ∙ q ∙ w.ok.0
 
 -- ---- the first entry with a label
-cond_none : (b : Bool) (x : Tree) (y z : Option Tree) → cond b (Some x) y ≡ None → (y ≡ None) × (cond b (Some x) z ≡ z)
-cond_none true x y z e = let h : Some x ≡ None = e in cc
-cond_none false x y z e = (e, refl)
-
 first_behind : (n : LabelFields) (es fs : List (LabelFields × Tree)) → first_at n es ≡ None → first_at n (es ++ fs) ≡ first_at n fs
 first_behind n [] fs h = refl
 first_behind n (x ∷ es) fs h = let c = cond_none (is_eq (label_cmp x.0 n)) x.1 (first_at n es) (first_at n (es ++ fs)) h in c.1 ∙ first_behind n es fs c.0

@@ -1,13 +1,12 @@
 -- The entries of a key one after another, and the fields that they give.
-use Rattle.std.proofs.Common.{◌≡◌, ◌≢◌, ℕ, pos, inl, inr, List, [], ◌∷◌, ◌++◌, Bool, true, false, cond, Option, Some, None, refl, sym, ap, subst, ◌∙◌}
+use Rattle.std.proofs.Common.{◌≡◌, pos, List, [], ◌∷◌, ◌++◌, Bool, true, false, cond, Option, Some, refl, sym, ap, subst, ◌∙◌}
 use Rattle.std.specs.Prelude.{◌||◌}
 use Rattle.ciborium_value.specs.Tree.{Tree}
 use Rattle.coset_labels.specs.Fields.{LabelFields, number, Named}
-use Rattle.coset_labels.specs.Kinds.{some_bytes}
-use Rattle.coset_headers.specs.Headers.{is_at, alg_of, at, IsIn, IsField}
+use Rattle.coset_headers.specs.Headers.{is_at, IsIn}
 use Rattle.coset_headers.proofs.Entered.{at_old, at_new, at_none, distinct_snoc, kept, made}
-use Rattle.coset_keys.specs.Fields.{KeyFields, no_key, reserved}
-use Rattle.coset_keys.specs.Keys.{is_own, type_of, HasKeyOps, HasOperations, params_of, AreFields}
+use Rattle.coset_keys.specs.Fields.{KeyFields, no_key}
+use Rattle.coset_keys.specs.Keys.{is_own, HasKeyOps, HasOperations, params_of, AreFields}
 use Rattle.coset_keys.specs.Parts.{Fills, fills_kty, fills_key_id, fills_alg, fills_key_ops, fills_base_iv, fills_param, Known}
 
 params_own : (es : List (LabelFields × Tree)) (m : LabelFields) (v : Tree) → is_own m ≡ true → params_of (es ++ (m, v) ∷ []) ≡ params_of es

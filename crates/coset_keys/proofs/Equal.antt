@@ -14,9 +14,11 @@ use Rattle.coset_labels.specs.Orders.{label_cmp, labels_same, named_cmp, names_s
 use Rattle.coset_labels.specs.View.{label_view, registered_view, named_view}
 use Rattle.coset_labels.specs.declared.label.Label.{Label}
 use Rattle.coset_headers.specs.View.{entry_view}
-use Rattle.coset_keys.specs.View.{key_view}
+use Rattle.coset_keys.specs.View.{key_view, key_set_view}
 use Rattle.coset_keys.specs.declared.key.CoseKey.{CoseKey}
+use Rattle.coset_keys.specs.declared.key.CoseKeySet.{CoseKeySet}
 use Rattle.coset_keys.specs.contracts.key.CoseKeyPartialEq.TheImpl as equality
+use Rattle.coset_keys.specs.contracts.key.CoseKeySetPartialEq.TheImpl as set_equality
 
 both : {P Q : Type 0} (a b : Bool) → IsTrue a ↔ P → IsTrue b ↔ Q → IsTrue (a && b) ↔ (P × Q)
 both true b f g = (λ h. (f.0 refl, g.0 h), λ p. g.1 p.1)
@@ -56,3 +58,6 @@ keys a b =
       λ h. let p = w.0 h in λ i. record { kty = p.0 i; key_id = p.1.0 i; alg = p.1.1.0 i; key_ops = p.1.1.1.0 i; base_iv = p.1.1.1.1.0 i; params = p.1.1.1.1.1 i },
       λ h. w.1 (ap (λ k. k.kty) h, (ap (λ k. k.key_id) h, (ap (λ k. k.alg) h, (ap (λ k. k.key_ops) h, (ap (λ k. k.base_iv) h, ap (λ k. k.params) h))))),
     )
+
+pub sets : (a b : CoseKeySet) → IsTrue (set_equality.eq-value.it a b) ↔ (key_set_view a ≡ key_set_view b)
+sets a b = lists equality.eq-value.it key_view keys a.0.items b.0.items

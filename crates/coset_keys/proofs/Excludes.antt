@@ -1,12 +1,12 @@
 -- A value with a fault is no key.
-use Rattle.std.proofs.Common.{◌≡◌, ◌≢◌, ℕ, ℤ, pos, ◌⊎◌, inl, inr, ⊎_elim, List, [], ◌∷◌, ◌++◌, Bool, true, false, cond, Option, Some, None, option_map, option_and_then, refl, sym, ap, subst, ◌∙◌}
+use Rattle.std.proofs.Common.{◌≡◌, ◌≢◌, ℕ, ℤ, inl, inr, ⊎_elim, List, [], ◌∷◌, ◌++◌, Bool, true, false, cond, Option, Some, None, option_map, option_and_then, refl, sym, ap, subst, ◌∙◌}
 use Rattle.std.specs.List.{Contains, IsDistinct, AllByRecursion}
 use Rattle.std.specs.Ordering.{eq_by_cmp}
 use Rattle.std.proofs.lemmas.Map.Keys.{IsDistinct-head, IsDistinct-tail}
 use Rattle.cose_iana.specs.Algorithms.{is_algorithm}
 use Rattle.cose_iana.specs.Keys.{key_types, key_operations}
 use Rattle.cose_iana.specs.Registry.{is_private_use}
-use Rattle.ciborium_value.specs.Tree.{Tree, integer, bytes, text, array, map as map_tree, tag, simple, float, Trees, no_trees, one_more}
+use Rattle.ciborium_value.specs.Tree.{Tree, integer, bytes, text, array, map as map_tree, tag, simple, float, no_trees, one_more}
 use Rattle.ciborium_value.specs.View.{trees, pairs}
 use Rattle.coset_labels.specs.Faults.{CoseFault}
 use Rattle.coset_labels.specs.Fields.{LabelFields, number, Named, private_use, assigned}
@@ -17,7 +17,7 @@ use Rattle.coset_headers.specs.Headers.{is_at, alg_of, entries, at, IsIn, Distin
 use Rattle.coset_headers.proofs.Entered.{cond_none, at_none}
 use Rattle.coset_keys.specs.Fields.{KeyFields, reserved}
 use Rattle.coset_keys.specs.Keys.{type_of, operation_of, operations_of, HasOperations, HasKeyOps, AreFields, HasKey, HaveKeys, HasKeySet}
-use Rattle.coset_keys.specs.Wrong.{WrongOperations, no_list, empty_list, bad_operation, operation_again, WrongValue, wrong_kty, wrong_key_id, wrong_alg, wrong_key_ops, wrong_base_iv, WrongEntry, bad_label, label_again, bad_value, WrongEntries, WrongKey, no_map, at_entry, no_type, WrongKeys, WrongKeySet, no_key_list, in_key}
+use Rattle.coset_keys.specs.Wrong.{WrongOperations, no_list, empty_list, bad_operation, operation_again, WrongValue, wrong_kty, wrong_key_id, wrong_alg, wrong_key_ops, wrong_base_iv, WrongEntry, bad_label, label_again, bad_value, WrongKey, no_map, at_entry, no_type, WrongKeySet, no_key_list, in_key}
 use Rattle.coset_keys.proofs.Rising.{contains_head, contains_tail, contains_cases, contains_none}
 
 -- ---- the entry behind others in a map whose keys are labels

@@ -1,20 +1,23 @@
 -- Keys whose parts fit.
-use Rattle.std.proofs.Common.{◌≡◌, ℕ, pos, ◌+◌, ◌<◌, ◌≤◌, ◌^◌, List, [], ◌∷◌, ◌++◌, map, length, take, get_or, Bool, true, false, cond, Option, Some, None, ⊎_elim, sym, ap, subst, ◌∙◌, arith, refl}
+use Rattle.std.proofs.Common.{◌≡◌, ℕ, ◌+◌, ◌<◌, ◌≤◌, ◌^◌, List, [], ◌∷◌, ◌++◌, map, length, take, get_or, Bool, true, false, cond, Option, Some, None, option_map, option_and_then, ⊎_elim, sym, ap, subst, ◌∙◌, arith, refl}
 use Rattle.std.specs.List.{Contains}
 use Rattle.std.proofs.lemmas.List.{take_more, map-append}
-use Rattle.ciborium_value.specs.Tree.{Tree, bytes, array, Trees, tree_count, pair_count}
+use Rattle.ciborium_value.specs.Tree.{Tree, bytes, array, tree_count, pair_count}
 use Rattle.ciborium_value.specs.Encoding.{Fits, FitAll, FitPairs}
 use Rattle.ciborium_value.specs.View.{trees, pairs, view}
 use Rattle.ciborium_value.specs.declared.value.Value.{Value}
-use Rattle.coset_labels.specs.Fields.{LabelFields, number, Named}
+use Rattle.coset_labels.specs.Arrays.{all_written}
+use Rattle.coset_labels.specs.Fields.{LabelFields, Named}
 use Rattle.coset_labels.specs.Labels.{label_tree, named_tree}
 use Rattle.coset_labels.specs.View.{label_view}
 use Rattle.coset_labels.specs.declared.label.Label.{Label}
 use Rattle.coset_headers.specs.View.{entry_view}
 use Rattle.coset_headers.specs.Written.{name_entry, bytes_entry, entry_tree, tree_of, twice}
 use Rattle.coset_keys.specs.Fields.{KeyFields}
-use Rattle.coset_keys.specs.Fitting.{NameFits, NamesFit}
-use Rattle.coset_keys.specs.Written.{ops_entry, key_entries, key_tree}
+use Rattle.coset_keys.specs.Fitting.{KeysFit, NameFits, NamesFit}
+use Rattle.coset_keys.specs.View.{key_view}
+use Rattle.coset_keys.specs.Written.{ops_entry, key_entries, key_tree, key_set_tree}
+use Rattle.coset_keys.specs.declared.key.CoseKey.{CoseKey}
 use Rattle.coset_keys.proofs.Rising.{contains_cases, contains_none}
 
 abbrev AllFit : List (LabelFields × Tree) → Type 0
@@ -102,3 +105,40 @@ entries_fit k f1 f2 f3 f4 l4 f5 h l =
 pub all_fit : (k : KeyFields) (t : Tree) → Fits (named_tree k.kty) → Fits (bytes k.key_id) → NameFits k.alg → NamesFit k.key_ops → length k.key_ops < 2 ^ 64 → Fits (bytes k.base_iv) → AllFit k.params → length k.params + 5 < 2 ^ 64
     → key_tree k ≡ Some t → Fits t
 all_fit k t f1 f2 f3 f4 l4 f5 h l e = subst Fits (if_some (twice k.params) (tree_of (key_entries k)) t e) (entries_fit k f1 f2 f3 f4 l4 f5 h l)
+
+-- ---- a set of keys
+keys_more : (ks : List KeyFields) (k : KeyFields) → KeysFit ks → ((t : Tree) → key_tree k ≡ Some t → Fits t) → KeysFit (ks ++ k ∷ [])
+keys_more [] k h f = (f, tt)
+keys_more (x ∷ ks) k h f = (h.0, keys_more ks k h.1 f)
+
+pub key_taken : (ks : List CoseKey) (i : ℕ) (k : CoseKey) → i < length ks → k ≡ get_or ks i k → KeysFit (map key_view (take i ks)) → ((t : Tree) → key_tree (key_view k) ≡ Some t → Fits t)
+    → KeysFit (map key_view (take (i + 1) ks))
+key_taken ks i k l e h f =
+    subst (λ z. KeysFit (map key_view z)) (ap (λ z. take i ks ++ z ∷ []) e ∙ sym (take_more ks i k l))
+    (subst KeysFit (sym (map-append key_view (take i ks) (k ∷ []))) (keys_more (map key_view (take i ks)) (key_view k) h f))
+
+first_tree : (o : Option Tree) (w : Option (List Tree)) (ts : List Tree) → option_and_then (λ t. option_map (λ us. t ∷ us) w) o ≡ Some ts → (t : Tree) × (us : List Tree) × (o ≡ Some t) × (w ≡ Some us) × (ts ≡ t ∷ us)
+first_tree None w ts e = let h : None ≡ Some ts = e in absurd (let f : ⊥ = cc in f)
+first_tree (Some t) None ts e = let h : None ≡ Some ts = e in absurd (let f : ⊥ = cc in f)
+first_tree (Some t) (Some us) ts e = let h : Some (t ∷ us) ≡ Some ts = e in (t, us, refl, refl, (let f : ts ≡ t ∷ us = cc in f))
+
+keys_all : (ks : List KeyFields) (ts : List Tree) → KeysFit ks → all_written key_tree ks ≡ Some ts → (tree_count (trees ts) ≡ length ks) × FitAll (trees ts)
+keys_all [] ts f e =
+    let h : [] ≡ ts = (let g : Some [] ≡ Some ts = e in cc) in
+    subst (λ z. (tree_count (trees z) ≡ 0) × FitAll (trees z)) h (refl, tt)
+keys_all (k ∷ ks) ts f e =
+    let w = first_tree (key_tree k) (all_written key_tree ks) ts e in
+    let r = keys_all ks w.1 f.1 w.3 in
+    let n = r.0 in
+    subst (λ z. (tree_count (trees z) ≡ length (k ∷ ks)) × FitAll (trees z)) (sym w.4) (omega (arith, n), (f.0 w.0 w.2, r.1))
+
+set_by : (ks : List KeyFields) (t : Tree) (o : Option (List Tree)) → KeysFit ks → length ks < 2 ^ 64 → all_written key_tree ks ≡ o → option_map (λ ts. array (trees ts)) o ≡ Some t → Fits t
+set_by ks t None f l q e = let h : None ≡ Some t = e in absurd (let g : ⊥ = cc in g)
+set_by ks t (Some ts) f l q e =
+    let h : array (trees ts) ≡ t = (let g : Some (array (trees ts)) ≡ Some t = e in cc) in
+    let w = keys_all ks ts f q in
+    let n = w.0 in
+    subst Fits h (omega (arith, n, l), w.1)
+
+pub set_fits : (ks : List KeyFields) (t : Tree) → KeysFit ks → length ks < 2 ^ 64 → key_set_tree ks ≡ Some t → Fits t
+set_fits ks t f l e = set_by ks t (all_written key_tree ks) f l refl e

@@ -1,30 +1,17 @@
 -- The fields of a key that was read.
-use Rattle.std.proofs.Common.{◌≡◌, ◌≢◌, ℕ, ℤ, pos, ◌⊎◌, inl, inr, ⊎_elim, List, [], ◌∷◌, ◌++◌, map, Bool, true, false, cond, Option, Some, None, option_map, option_and_then, refl, sym, ap, subst, ◌∙◌}
-use Rattle.std.specs.Prelude.{◌||◌, ◌↔◌}
-use Rattle.std.specs.Cmp.{IsEquivalence}
-use Rattle.std.specs.List.{Contains, IsDistinct, AllByRecursion}
-use Rattle.std.specs.List.Sorted.{IsPermutation, IsStrictlySortedBy}
-use Rattle.std.specs.Ordering.{is_eq}
-use Rattle.std.proofs.lemmas.Cmp.{eq_by_cmp_equiv}
-use Rattle.std.proofs.lemmas.List.Sorted.{Contains-permutation, IsPermutation-sym}
-use Rattle.std.proofs.lemmas.Map.Keys.{IsDistinct-from_sorted, IsDistinct-head, IsDistinct-tail, IsDistinct-cons, IsDistinct-IsPermutation}
+use Rattle.std.proofs.Common.{◌≡◌, ◌≢◌, ℤ, inl, inr, ⊎_elim, List, [], ◌∷◌, Bool, true, false, cond, Option, Some, None, option_map, option_and_then, refl, sym, ap, subst, ◌∙◌}
+use Rattle.std.specs.List.{Contains}
+use Rattle.std.specs.List.Sorted.{IsStrictlySortedBy}
 use Rattle.cose_iana.specs.Algorithms.{is_algorithm}
 use Rattle.cose_iana.specs.Keys.{key_types, key_operations}
 use Rattle.cose_iana.specs.Registry.{is_private_use}
 use Rattle.ciborium_value.specs.Tree.{Tree, integer, bytes, text, array, map as map_tree, tag, simple, float, Trees, no_trees, one_more, Pairs, no_pairs, pair_more}
-use Rattle.ciborium_value.specs.View.{trees, pairs}
 use Rattle.coset_labels.specs.Fields.{LabelFields, number, words, Named, private_use, assigned, named}
-use Rattle.coset_labels.specs.Kinds.{some_bytes}
 use Rattle.coset_labels.specs.Labels.{is_i64, label_of, label_tree, registered_of, named_of, named_tree}
-use Rattle.coset_labels.specs.Orders.{label_cmp, label_total, labels_same, named_cmp}
-use Rattle.coset_headers.specs.Headers.{is_at, alg_of, entries, at, IsIn, Distinct, IsField}
-use Rattle.coset_headers.specs.Written.{name_entry, bytes_entry, entry_tree, tree_of, twice}
-use Rattle.coset_headers.proofs.Entered.{bool_cases, at_none}
-use Rattle.coset_headers.proofs.Written.{once_only}
+use Rattle.coset_labels.specs.Orders.{named_cmp}
+use Rattle.coset_headers.specs.Headers.{alg_of, entries, at, IsIn, Distinct, IsField}
 use Rattle.coset_keys.specs.Fields.{KeyFields, reserved}
-use Rattle.coset_keys.specs.Keys.{is_own, type_of, operation_of, operations_of, Rises, HasOperations, HasKeyOps, params_of, AreFields, HasKey}
-use Rattle.coset_keys.specs.Sorted.{SameButOrder}
-use Rattle.coset_keys.specs.Written.{ops_entry, key_entries, key_tree}
+use Rattle.coset_keys.specs.Keys.{is_own, type_of, operation_of, operations_of, HasKeyOps, params_of, HasKey}
 use Rattle.coset_keys.proofs.Rising.{contains_head, contains_tail, contains_cases, contains_none}
 
 -- ---- a label, a name: the tree that it was read from stands for it

@@ -12,7 +12,7 @@ pub mod Ordered
 pub mod Pushed
 pub mod Rising
 pub mod Sets
+pub mod Sound
 pub mod Spelling
 pub mod Steps
-pub mod Titles
 pub mod Unique

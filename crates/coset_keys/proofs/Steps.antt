@@ -1,6 +1,5 @@
 -- What one step of the reader shows, over plain variables.
-use Rattle.std.proofs.Common.{◌≡◌, ◌≢◌, pos, ◌⊎◌, inl, inr, ⊎_elim, List, [], ◌∷◌, ◌++◌, map, Bool, true, false, Option, Some, None, option_map, option_and_then, refl, sym, ap, subst, ◌∙◌}
-use Rattle.std.specs.Prelude.{IsTrue}
+use Rattle.std.proofs.Common.{◌≡◌, ◌≢◌, pos, inr, List, [], ◌∷◌, ◌++◌, map, true, false, Option, Some, None, option_map, option_and_then, refl, sym, ap, subst, ◌∙◌}
 use Rattle.std.specs.List.{list_any}
 use Rattle.std.specs.List.Sorted.{IsStrictlySortedBy}
 use Rattle.std.specs.BTreeSet.{insert_key}
@@ -10,7 +9,7 @@ use Rattle.cose_iana.specs.Keys.{key_operations}
 use Rattle.ciborium_value.specs.Tree.{Tree, array, map as map_tree, Trees, no_trees, one_more, Pairs}
 use Rattle.ciborium_value.specs.View.{trees, pairs, view, views, view_pair, view_pairs}
 use Rattle.ciborium_value.specs.declared.value.Value.{Value}
-use Rattle.coset_labels.specs.Faults.{CoseFault, OrMemory, fault_of, unexpected}
+use Rattle.coset_labels.specs.Faults.{OrMemory, fault_of, unexpected}
 use Rattle.coset_labels.specs.Fields.{LabelFields, number, Named}
 use Rattle.coset_labels.specs.Kinds.{is_map, is_array}
 use Rattle.coset_labels.specs.Labels.{label_of, WrongLabel, WrongRegistered}
@@ -25,7 +24,7 @@ use Rattle.coset_keys.specs.Fields.{KeyFields, reserved}
 use Rattle.coset_keys.specs.Keys.{type_of, operation_of, operations_of, Rises, HasOperations, HasKey, HaveKeys}
 use Rattle.coset_keys.specs.Parts.{Fills, Known, KnownIn, Added, HasEntries}
 use Rattle.coset_keys.specs.View.{key_view}
-use Rattle.coset_keys.specs.Wrong.{WrongOperations, no_list, empty_list, bad_operation, operation_again, WrongValue, wrong_key_ops, WrongEntry, bad_label, label_again, bad_value, WrongEntries, WrongKey, no_map, at_entry, no_type, WrongKeys, WrongKeySet, no_key_list, in_key}
+use Rattle.coset_keys.specs.Wrong.{WrongOperations, no_list, empty_list, bad_operation, operation_again, WrongValue, wrong_key_ops, WrongEntry, bad_label, bad_value, WrongEntries, WrongKey, no_map, at_entry, no_type, WrongKeys, WrongKeySet, no_key_list, in_key}
 use Rattle.coset_keys.specs.declared.key.CoseKey.{CoseKey}
 use Rattle.coset_keys.proofs.Entered.{known_more}
 use Rattle.coset_keys.proofs.Collected.{operations_pushed, no_operation, rises_more, there_before}

@@ -1,6 +1,5 @@
 -- One value has at most one key.
 use Rattle.std.proofs.Common.{◌≡◌, List, [], ◌∷◌, Option, Some, None, refl, sym, ap, subst, ◌∙◌}
-use Rattle.std.specs.Prelude.{◌↔◌}
 use Rattle.std.specs.List.{Contains}
 use Rattle.ciborium_value.specs.Tree.{Tree, array, map as map_tree, Trees, no_trees, one_more}
 use Rattle.coset_labels.specs.Fields.{LabelFields, Named}
@@ -8,7 +7,7 @@ use Rattle.coset_labels.specs.Orders.{named_cmp, named_total}
 use Rattle.coset_headers.specs.Headers.{entries, at}
 use Rattle.coset_headers.proofs.Unique.{field_once}
 use Rattle.coset_keys.specs.Fields.{KeyFields}
-use Rattle.coset_keys.specs.Keys.{operations_of, Rises, HasOperations, HasKeyOps, AreFields, HasKey, HaveKeys, HasKeySet}
+use Rattle.coset_keys.specs.Keys.{operations_of, HasOperations, HasKeyOps, AreFields, HasKey, HaveKeys, HasKeySet}
 use Rattle.coset_keys.proofs.Rising.{rising_once}
 
 ops_once : (t : Tree) (ns ms : List Named) → HasOperations t ns → HasOperations t ms → ns ≡ ms

@@ -28,7 +28,11 @@ symmetric_key k = record no_key { kty = assigned (pos 4); params = (number (negs
 
 -- a public key of ML-DSA: the type 7, the algorithm, and the key at -1 (registries "COSE Key Types" and "COSE Key Type Parameters")
 abbrev pub ml_dsa_key : MlDsaVariant → List ℕ → KeyFields
-ml_dsa_key v k = record no_key { kty = assigned (pos 7); alg = Some (assigned (algorithm_number (algorithm_of v))); params = (number (negsuc 0), bytes k) ∷ [] }
+ml_dsa_key v k = record no_key {
+  kty = assigned (pos 7);
+  alg = Some (assigned (algorithm_number (algorithm_of v)));
+  params = (number (negsuc 0), bytes k) ∷ [];
+}
 
 -- an octet key pair: the type 1 alone (RFC 9053, section 7.2)
 abbrev pub okp_key : KeyFields

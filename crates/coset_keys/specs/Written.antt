@@ -15,7 +15,8 @@ ops_entry (n ∷ ns) = (number (pos 4), array (trees (map named_tree (n ∷ ns))
 
 -- the entries in their fixed order, those of empty fields left away; the type always stands
 abbrev pub key_entries : KeyFields → List (LabelFields × Tree)
-key_entries k = name_entry 1 (Some k.kty) ++ (bytes_entry 2 k.key_id ++ (name_entry 3 k.alg ++ (ops_entry k.key_ops ++ (bytes_entry 5 k.base_iv ++ k.params))))
+key_entries k = name_entry 1 (Some k.kty) ++ (bytes_entry 2 k.key_id ++ (name_entry 3 k.alg
+    ++ (ops_entry k.key_ops ++ (bytes_entry 5 k.base_iv ++ k.params))))
 
 abbrev pub key_tree : KeyFields → Option Tree
 key_tree k = if twice k.params then None else Some (tree_of (key_entries k))

@@ -1,5 +1,5 @@
 -- Which fault a value has as a key and as a set of keys (RFC 9052, section 7). A value may have several.
-use Rattle.std.specs.Prelude.{◌≡◌, pos, List, [], ◌∷◌, ◌++◌, false, Some}
+use Rattle.std.specs.Prelude.{◌≡◌, pos, List, ◌∷◌, ◌++◌, false, Some}
 use Rattle.std.specs.List.{Contains}
 use Rattle.cose_iana.specs.Algorithms.{is_algorithm}
 use Rattle.cose_iana.specs.Keys.{key_types, key_operations}
@@ -18,7 +18,8 @@ use Rattle.coset_keys.specs.Keys.{type_of, operation_of, operations_of}
 pub data WrongOperations (t : Tree) (e : CoseFault) : Type 0 where
   no_list : is_array t ≡ false → e ≡ unexpected → WrongOperations t e
   empty_list : t ≡ array no_trees → e ≡ unexpected → WrongOperations t e
-  bad_operation : (before after : List Tree) (u : Tree) → t ≡ array (trees (before ++ u ∷ after)) → WrongRegistered key_operations.is_registered u e → WrongOperations t e
+  bad_operation : (before after : List Tree) (u : Tree) → t ≡ array (trees (before ++ u ∷ after))
+      → WrongRegistered key_operations.is_registered u e → WrongOperations t e
   operation_again : (before after : List Tree) (u : Tree) (ns : List Named) (n : Named) → t ≡ array (trees (before ++ u ∷ after))
       → operations_of (trees before) ≡ Some ns → operation_of u ≡ Some n → Contains ns n → e ≡ unexpected → WrongOperations t e
 
@@ -51,7 +52,8 @@ pub record WrongEntries (ps : Pairs) (e : CoseFault) : Type 0 where
 pub data WrongKey (t : Tree) (e : CoseFault) : Type 0 where
   no_map : is_map t ≡ false → e ≡ unexpected → WrongKey t e
   at_entry : (ps : Pairs) → t ≡ map_tree ps → WrongEntries ps e → WrongKey t e
-  no_type : (ps : Pairs) (es : List (LabelFields × Tree)) → t ≡ map_tree ps → entries ps ≡ Some es → IsField type_of reserved (at 1 es) reserved → e ≡ unexpected → WrongKey t e
+  no_type : (ps : Pairs) (es : List (LabelFields × Tree)) → t ≡ map_tree ps → entries ps ≡ Some es
+      → IsField type_of reserved (at 1 es) reserved → e ≡ unexpected → WrongKey t e
 
 -- one of the keys has a fault
 pub record WrongKeys (ts : Trees) (e : CoseFault) : Type 0 where

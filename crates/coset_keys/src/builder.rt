@@ -121,7 +121,8 @@ impl CoseKeyBuilder {
         y: Vec<u8>,
         d: Vec<u8>,
     ) -> Result<CoseKeyBuilder, CoseError>
-        ensures { MatchResult result (λ b. so_far b ≡ with_param d_label (bytes d.items) (ec2_key (elliptic_curves.number curve) (both x.items y.items))) (λ e. e ≡ Memory) }
+        ensures { MatchResult result (λ b. so_far b
+            ≡ with_param d_label (bytes d.items) (ec2_key (elliptic_curves.number curve) (both x.items y.items))) (λ e. e ≡ Memory) }
     {
         let mut builder = ec2_builder(alloc, curve, x, Value::Bytes(y))?;
         builder.push(D, Value::Bytes(d))?;
@@ -210,7 +211,9 @@ impl CoseKeyBuilder {
     /// # Errors
     /// Only where memory is refused.
     pub fn add_key_op(mut self, op: iana::KeyOperation) -> Result<CoseKeyBuilder, CoseError>
-        ensures { MatchResult result (λ b. so_far b ≡ record (so_far self) { key_ops = insert_key named_cmp (so_far self).key_ops (assigned (key_operations.number op)) }) (λ e. e ≡ Memory) }
+        ensures { MatchResult result (λ b. so_far b
+            ≡ record (so_far self) { key_ops = insert_key named_cmp (so_far self).key_ops (assigned (key_operations.number op)) })
+            (λ e. e ≡ Memory) }
     {
         self.key.key_ops.insert(RegisteredLabel::Assigned(op))?;
         Ok(self)

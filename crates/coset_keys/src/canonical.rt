@@ -1,8 +1,5 @@
 //! One order of a key's entries.
-ghost use Rattle.std.specs.Prelude.{◌≡◌, length, map, MatchResult};
-ghost use Rattle.ciborium_value.specs.Encoding.{enc};
-ghost use Rattle.ciborium_value.specs.Tree.{integer, text};
-ghost use Rattle.coset_labels.specs.Labels.{label_tree};
+ghost use Rattle.std.specs.Prelude.{◌≡◌, map, MatchResult};
 ghost use Rattle.coset_labels.specs.View.{label_view};
 ghost use Rattle.coset_labels.specs.declared.error.CoseError.TheVariants.{Memory};
 ghost use Rattle.coset_labels.specs.declared.order.CborOrdering.TheVariants.{Lexicographic, LengthFirstLexicographic};
@@ -11,7 +8,6 @@ ghost use Rattle.coset_keys.specs.Sorted.{Canonicalized, Sorts, encoded_cmp};
 ghost use Rattle.coset_keys.specs.View.{key_view};
 
 use crate::key::CoseKey;
-use ciborium_ll::Header;
 use ciborium_value::Value;
 use coset_labels::laws::labels_compare;
 use coset_labels::{CborOrdering, CoseError, Label};
@@ -25,7 +21,8 @@ impl CoseKey {
     /// # Errors
     /// Only where memory is refused, and then the key is as it was.
     pub fn canonicalize(&mut self, alloc: Global, ordering: CborOrdering) -> Result<(), CoseError>
-        ensures { MatchResult result (λ _. Canonicalized ordering (key_view self.old) (key_view self.new)) (λ e. (e ≡ Memory) × (key_view self.new ≡ key_view self.old)) }
+        ensures { MatchResult result (λ _. Canonicalized ordering (key_view self.old) (key_view self.new))
+            (λ e. (e ≡ Memory) × (key_view self.new ≡ key_view self.old)) }
     {
         match ordering {
             CborOrdering::Lexicographic => sort_bytewise(alloc, self.params.as_mut_slice())?,
@@ -38,16 +35,18 @@ impl CoseKey {
 }
 
 fn sort_bytewise(alloc: Global, params: &mut [(Label, Value)]) -> Result<(), AllocError>
-    ensures { MatchResult result (λ _. Sorts Lexicographic (map entry_view params.old) (map entry_view params.new)) (λ _. params.new ≡ params.old) }
+    ensures { MatchResult result (λ _. Sorts Lexicographic (map entry_view params.old) (map entry_view params.new))
+        (λ _. params.new ≡ params.old) }
 {
     params.sort_by(alloc, |a, b| cmp_bytewise(&a.0, &b.0))?;
     Ok(())
 }
 
 fn sort_length_first(alloc: Global, params: &mut [(Label, Value)]) -> Result<(), AllocError>
-    ensures { MatchResult result (λ _. Sorts LengthFirstLexicographic (map entry_view params.old) (map entry_view params.new)) (λ _. params.new ≡ params.old) }
+    ensures { MatchResult result (λ _. Sorts LengthFirstLexicographic (map entry_view params.old) (map entry_view params.new))
+        (λ _. params.new ≡ params.old) }
 {
-    params.sort_by(alloc, |a, b| cmp_length_first(&a.0, &b.0))?;
+    params.sort_by(alloc, |a, b| a.0.cmp_canonical(&b.0))?;
     Ok(())
 }
 
@@ -57,37 +56,4 @@ fn cmp_bytewise(a: &Label, b: &Label) -> Ordering
 {
     labels_compare(a, b);
     a.cmp(b)
-}
-
-/// The order of the encodings of two labels, the shorter first.
-fn cmp_length_first(a: &Label, b: &Label) -> Ordering
-    ensures { result ≡ encoded_cmp LengthFirstLexicographic (label_view a.now) (label_view b.now) }
-{
-    encoded_len(a).cmp(&encoded_len(b)).then(cmp_bytewise(a, b))
-}
-
-/// The length of a label's encoding in bytes.
-fn encoded_len(label: &Label) -> usize
-    ensures { result ≡ length (enc (label_tree (label_view label.now))) }
-{
-    match label {
-        Label::Int(i) => integer_len(*i),
-        Label::Text(s) => text_len(s.as_str()),
-    }
-}
-
-fn integer_len(i: i64) -> usize
-    ensures { result ≡ length (enc (integer i)) }
-{
-    if i < 0 {
-        Header::Negative((-1 - i) as u64).title_len()
-    } else {
-        Header::Positive(i as u64).title_len()
-    }
-}
-
-fn text_len(s: &str) -> usize
-    ensures { result ≡ length (enc (text s.now)) }
-{
-    Header::Text(Some(s.len())).title_len() + s.len()
 }

@@ -54,7 +54,8 @@ fn clone_operations(
     alloc: Global,
     operations: &BTreeSet<KeyOperation>,
 ) -> Result<BTreeSet<KeyOperation>, AllocError>
-    ensures { IfOk result (λ copy. map (registered_view key_operations.number) copy.keys ≡ map (registered_view key_operations.number) operations.now.keys) }
+    ensures { IfOk result (λ copy. map (registered_view key_operations.number) copy.keys
+        ≡ map (registered_view key_operations.number) operations.now.keys) }
 {
     let mut copies = BTreeSet::new(alloc);
     'operations: for operation in operations {

@@ -1,5 +1,5 @@
 //! Laws of the definitions.
-ghost use Rattle.std.specs.Prelude.{◌≡◌, ◌↔◌, ◌+◌, ◌<◌, ◌^◌, List, Some, IsTrue, length, map, option_map};
+ghost use Rattle.std.specs.Prelude.{◌≡◌, ◌↔◌, ◌+◌, ◌<◌, ◌^◌, ℕ, List, Some, IsTrue, length, map, option_map};
 ghost use Rattle.cose_iana.specs.Algorithms.{algorithm_number};
 ghost use Rattle.cose_iana.specs.Keys.{key_operations};
 ghost use Rattle.ciborium_value.specs.Tree.{Tree, bytes};
@@ -9,16 +9,17 @@ ghost use Rattle.coset_labels.specs.declared.order.CborOrdering.{CborOrdering};
 ghost use Rattle.coset_labels.specs.View.{registered_view, named_view};
 ghost use Rattle.coset_headers.specs.View.{entry_view};
 ghost use Rattle.coset_headers.specs.Written.{entry_tree};
-ghost use Rattle.coset_keys.specs.Fitting.{NameFits, NamesFit};
-ghost use Rattle.coset_keys.specs.View.{key_view};
 ghost use Rattle.coset_labels.specs.Faults.{CoseFault};
+ghost use Rattle.coset_labels.specs.Reading.{HasItem};
 ghost use Rattle.coset_keys.specs.Fields.{KeyFields};
+ghost use Rattle.coset_keys.specs.Fitting.{KeysFit, NameFits, NamesFit};
 ghost use Rattle.coset_keys.specs.Keys.{HasKey, HasKeySet};
 ghost use Rattle.coset_keys.specs.Sorted.{Canonicalized, SameButOrder};
+ghost use Rattle.coset_keys.specs.View.{key_view, key_set_view};
 ghost use Rattle.coset_keys.specs.Written.{key_tree, key_set_tree};
 ghost use Rattle.coset_keys.specs.Wrong.{WrongKey, WrongKeySet};
 
-use crate::key::{CoseKey, KeyOperation};
+use crate::key::{CoseKey, CoseKeySet, KeyOperation};
 use ciborium_value::Value;
 use ciborium_value::laws::value_fits;
 use coset_labels::laws::{label_fits, name_fits, registered_fits};
@@ -41,13 +42,19 @@ pub fn wrong_has_none()
 /// order. The same holds of sets.
 pub fn written_is_read()
     ensures key { (t : Tree) (k : KeyFields) → HasKey t k → (u : Tree) × (key_tree k ≡ Some u) × HasKey u k }
-    ensures sorted { (t : Tree) (k l : KeyFields) → HasKey t k → SameButOrder k l → (u : Tree) × (key_tree l ≡ Some u) × HasKey u l }
+    ensures sorted { (t : Tree) (k l : KeyFields) → HasKey t k → SameButOrder k l
+        → (u : Tree) × (key_tree l ≡ Some u) × HasKey u l }
     ensures set { (t : Tree) (ks : List KeyFields) → HasKeySet t ks → (u : Tree) × (key_set_tree ks ≡ Some u) × HasKeySet u ks }
 {}
 
 /// Keys are equal where they say the same, their other entries in the same order.
 pub fn keys_compare(a: &CoseKey, b: &CoseKey)
     ensures { IsTrue (⟦<CoseKey as std::cmp::PartialEq>⟧.eq a.now b.now) ↔ (key_view a.now ≡ key_view b.now) }
+{}
+
+/// Sets are equal where their keys are, in their order.
+pub fn key_sets_compare(a: &CoseKeySet, b: &CoseKeySet)
+    ensures { IsTrue (⟦<CoseKeySet as std::cmp::PartialEq>⟧.eq a.now b.now) ↔ (key_set_view a.now ≡ key_set_view b.now) }
 {}
 
 fn bytes_fit(content: &[u8])
@@ -98,6 +105,42 @@ pub fn key_fits(key: &CoseKey)
     operations_fit(&key.key_ops);
     bytes_fit(&key.base_iv);
     params_fit(&key.params);
+}
+
+fn keys_fit(keys: &[CoseKey])
+    ensures all { KeysFit (map key_view keys.now) }
+    ensures short { length keys.now < 2 ^ 64 }
+{
+    let _len = keys.len();
+    'keys: for key in keys {
+        key_fits(key);
+    }
+}
+
+/// As `key_fits`, of a set of keys.
+pub fn key_set_fits(set: &CoseKeySet)
+    ensures { (t : Tree) → key_set_tree (key_set_view set.now) ≡ Some t → Fits t }
+{
+    keys_fit(&set.0);
+}
+
+/// A key that was read from bytes can be written, and of the bytes that it is written as the same key is read; so also where its
+/// `params` were put into another order.
+pub fn key_reads_again(key: &CoseKey)
+    ensures same { (b : List ℕ) → HasItem HasKey b (key_view key.now)
+        → (t : Tree) × (key_tree (key_view key.now) ≡ Some t) × HasItem HasKey (enc t) (key_view key.now) }
+    ensures sorted { (b : List ℕ) (k : KeyFields) → HasItem HasKey b k → SameButOrder k (key_view key.now)
+        → (t : Tree) × (key_tree (key_view key.now) ≡ Some t) × HasItem HasKey (enc t) (key_view key.now) }
+{
+    key_fits(key);
+}
+
+/// A set of keys that was read from bytes can be written, and of the bytes that it is written as the same set is read.
+pub fn key_set_reads_again(set: &CoseKeySet)
+    ensures { (b : List ℕ) → HasItem HasKeySet b (key_set_view set.now)
+        → (t : Tree) × (key_set_tree (key_set_view set.now) ≡ Some t) × HasItem HasKeySet (enc t) (key_set_view set.now) }
+{
+    key_set_fits(set);
 }
 
 /// Two keys that were read, each canonicalized in the same ordering, have equal bytes exactly where they differed at most in the order of

@@ -28,7 +28,8 @@ pub(crate) fn read_key(alloc: Global, value: Value) -> Result<CoseKey, CoseError
 }
 
 fn read_entries(alloc: Global, entries: Vec<(Value, Value)>) -> Result<CoseKey, CoseError>
-    ensures { MatchResult result (λ k. HasEntries (view_pairs entries.items) (key_view k)) (λ e. OrMemory (WrongEntries (view_pairs entries.items)) e) }
+    ensures { MatchResult result (λ k. HasEntries (view_pairs entries.items) (key_view k))
+        (λ e. OrMemory (WrongEntries (view_pairs entries.items)) e) }
 {
     let mut seen = Seen::new(alloc);
     let mut key = CoseKey::new(alloc);
@@ -47,7 +48,8 @@ fn read_entry(
     value: Value,
 ) -> Result<(), CoseError>
     ensures { (es : List (LabelFields × Tree)) → KnownIn es seen.old key.old
-        → MatchResult result (λ _. Added es (view label) (view value) seen.new key.new) (λ e. OrMemory (WrongEntry es (view label) (view value)) e) }
+        → MatchResult result (λ _. Added es (view label) (view value) seen.new key.new)
+        (λ e. OrMemory (WrongEntry es (view label) (view value)) e) }
 {
     let label = Label::from_cbor_value(alloc, label)?;
     let fresh = seen.add(alloc, &label)?;
@@ -67,7 +69,8 @@ pub(crate) fn read_key_set(alloc: Global, value: Value) -> Result<CoseKeySet, Co
 }
 
 fn read_keys(alloc: Global, items: Vec<Value>) -> Result<Vec<CoseKey>, CoseError>
-    ensures { MatchResult result (λ v. HaveKeys (views items.items) (map key_view v.items)) (λ e. OrMemory (WrongKeys (views items.items)) e) }
+    ensures { MatchResult result (λ v. HaveKeys (views items.items) (map key_view v.items))
+        (λ e. OrMemory (WrongKeys (views items.items)) e) }
 {
     let mut keys = Vec::new(alloc);
     'items: for item in items {

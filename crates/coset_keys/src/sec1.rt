@@ -107,7 +107,8 @@ impl CoseKey {
     /// `NotEcKey` for a key of another type, `MissingCoordinate` where x or y is missing, `InvalidCoordinateType` where x is no byte
     /// string, or y neither one nor a sign, `UnequalCoordinateLength` where x and y differ in length, or `Memory`.
     pub fn to_sec1_octet_string(&self, alloc: Global) -> Result<Vec<u8>, ToSec1OctetStringError>
-        ensures { MatchResult result (λ b. (p : spec.Point) × HasPoint (key_view self.now) p × IsSec1 b.items p) (λ e. (e ≡ code.Memory) ⊎ WrongPoint (key_view self.now) e) }
+        ensures { MatchResult result (λ b. (p : spec.Point) × HasPoint (key_view self.now) p × IsSec1 b.items p)
+            (λ e. (e ≡ code.Memory) ⊎ WrongPoint (key_view self.now) e) }
     {
         if !self.is_ec2() {
             return Err(ToSec1OctetStringError::NotEcKey);
@@ -142,7 +143,8 @@ fn first_value<'a>(params: &'a [(Label, Value)], label: &Label) -> Option<&'a Va
 
 /// The octet string of the point that two coordinates are.
 fn write_point(alloc: Global, x: &Value, y: &Value) -> Result<Vec<u8>, ToSec1OctetStringError>
-    ensures { MatchResult result (λ b. (p : spec.Point) × (view x.now ≡ x_tree p) × (view y.now ≡ y_tree p) × IsSec1 b.items p) (λ e. (e ≡ code.Memory) ⊎ WrongCoordinates (view x.now) (view y.now) e) }
+    ensures { MatchResult result (λ b. (p : spec.Point) × (view x.now ≡ x_tree p) × (view y.now ≡ y_tree p) × IsSec1 b.items p)
+        (λ e. (e ≡ code.Memory) ⊎ WrongCoordinates (view x.now) (view y.now) e) }
 {
     match x {
         Value::Bytes(x) => match y {

@@ -46,7 +46,9 @@ pub(crate) fn write_key(alloc: Global, key: CoseKey) -> Result<Value, CoseError>
 type Entries = Vec<(Value, Value)>;
 
 fn push_type(alloc: Global, entries: &mut Entries, kty: KeyType) -> Result<(), CoseError>
-    ensures { MatchResult result (λ _. map view_pair entries.new.items ≡ map view_pair entries.old.items ++ map entry_tree (name_entry 1 (Some (registered_view key_types.number kty)))) (λ e. e ≡ Memory) }
+    ensures { MatchResult result (λ _. map view_pair entries.new.items
+        ≡ map view_pair entries.old.items ++ map entry_tree (name_entry 1 (Some (registered_view key_types.number kty))))
+        (λ e. e ≡ Memory) }
 {
     let kty = kty.to_cbor_value(alloc)?;
     entries.push((Value::Integer(Integer::from(1i64)), kty))?;
@@ -54,7 +56,9 @@ fn push_type(alloc: Global, entries: &mut Entries, kty: KeyType) -> Result<(), C
 }
 
 fn push_alg(alloc: Global, entries: &mut Entries, alg: Option<Algorithm>) -> Result<(), CoseError>
-    ensures { MatchResult result (λ _. map view_pair entries.new.items ≡ map view_pair entries.old.items ++ map entry_tree (name_entry 3 (option_map (named_view algorithm_number) alg))) (λ e. e ≡ Memory) }
+    ensures { MatchResult result (λ _. map view_pair entries.new.items
+        ≡ map view_pair entries.old.items ++ map entry_tree (name_entry 3 (option_map (named_view algorithm_number) alg)))
+        (λ e. e ≡ Memory) }
 {
     if let Some(alg) = alg {
         let alg = alg.to_cbor_value(alloc)?;
@@ -68,7 +72,9 @@ fn push_operations(
     entries: &mut Entries,
     operations: BTreeSet<KeyOperation>,
 ) -> Result<(), CoseError>
-    ensures { MatchResult result (λ _. map view_pair entries.new.items ≡ map view_pair entries.old.items ++ map entry_tree (ops_entry (map (registered_view key_operations.number) operations.keys))) (λ e. e ≡ Memory) }
+    ensures { MatchResult result (λ _. map view_pair entries.new.items
+        ≡ map view_pair entries.old.items ++ map entry_tree (ops_entry (map (registered_view key_operations.number) operations.keys)))
+        (λ e. e ≡ Memory) }
 {
     if operations.is_empty() {
         return Ok(());
@@ -82,7 +88,8 @@ fn write_operations(
     alloc: Global,
     operations: BTreeSet<KeyOperation>,
 ) -> Result<Vec<Value>, CoseError>
-    ensures { MatchResult result (λ v. map view v.items ≡ map named_tree (map (registered_view key_operations.number) operations.keys)) (λ e. e ≡ Memory) }
+    ensures { MatchResult result (λ v. map view v.items ≡ map named_tree (map (registered_view key_operations.number) operations.keys))
+        (λ e. e ≡ Memory) }
 {
     let mut items = Vec::new(alloc);
     'operations: for operation in operations {

@@ -11,7 +11,8 @@ use Rattle.coset_labels.specs.declared.error.CoseError.TheVariants as code
 -- `undecodable` tells the damage of bytes that should have been one item
 pub data CoseFault : Type 0 where
   undecodable : Fault → CoseFault
-  too_long duplicate_key unencodable extraneous out_of_range unexpected unregistered unregistered_private no_memory too_many_layers : CoseFault
+  too_long duplicate_key unencodable extraneous out_of_range unexpected : CoseFault
+  unregistered unregistered_private no_memory too_many_layers : CoseFault
 
 abbrev pub decode_fault : {T : Type 0} → Error T → CoseFault
 decode_fault (de.Io e) = undecodable end

@@ -68,7 +68,8 @@ named_tied n m e =
     named_same n m (text_tied (named_tree n) (named_tree m) h.0) h.1
 
 -- equality by the order is equality
-same_by : {A : Type 0} (R : A → A → Ordering) → IsTotalOrder R → ((x y : A) → R x y ≡ Equal → x ≡ y) → (x y : A) → IsTrue (is_eq (R x y)) ↔ (x ≡ y)
+same_by : {A : Type 0} (R : A → A → Ordering) → IsTotalOrder R → ((x y : A) → R x y ≡ Equal → x ≡ y)
+    → (x y : A) → IsTrue (is_eq (R x y)) ↔ (x ≡ y)
 same_by R total tied x y = (
   λ h. tied x y (equal_of (R x y) h),
   λ h. ap (λ z. is_eq (R z y)) h ∙ ap is_eq (tied_itself total y),

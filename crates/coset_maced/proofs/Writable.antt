@@ -2,9 +2,10 @@
 use Rattle.std.proofs.Common.{◌≢◌, ℕ, List, [], ◌∷◌, ◌++◌, None}
 use Rattle.ciborium_value.specs.Tree.{Tree, bytes, array}
 use Rattle.ciborium_value.specs.View.{trees}
-use Rattle.coset_headers.specs.Contexts.{mac_text}
-use Rattle.coset_headers.specs.declared.context.MacContext.TheVariants.{CoseMac, CoseMac0}
-use Rattle.coset_headers.proofs.Writable.{map_some, and_some, prot_some, mac_data_some}
+use Rattle.coset_structures.specs.Contexts.{mac_text}
+use Rattle.coset_structures.specs.declared.context.MacContext.TheVariants.{CoseMac, CoseMac0}
+use Rattle.coset_headers.proofs.Writable.{map_some, and_some, prot_some}
+use Rattle.coset_structures.proofs.Writable.{mac_data_some}
 use Rattle.coset_parts.specs.Written.{parts_trees}
 use Rattle.coset_recipients.specs.Written.{list_tree}
 use Rattle.coset_recipients.proofs.Writable.{parts_some, list_some}

@@ -1,8 +1,8 @@
 -- What the tag of an authenticated message covers (RFC 9052, section 6.3); none where the protected header can't be written.
 use Rattle.std.specs.Prelude.{ℕ, List, Option}
-use Rattle.coset_headers.specs.Contexts.{mac_text}
-use Rattle.coset_headers.specs.Structure.{mac_structure}
-use Rattle.coset_headers.specs.declared.context.MacContext.TheVariants.{CoseMac, CoseMac0}
+use Rattle.coset_structures.specs.Contexts.{mac_text}
+use Rattle.coset_structures.specs.Structure.{mac_structure}
+use Rattle.coset_structures.specs.declared.context.MacContext.TheVariants.{CoseMac, CoseMac0}
 use Rattle.coset_maced.specs.Fields.{Mac0Fields, MacFields}
 
 abbrev pub mac0_covered : Mac0Fields → List ℕ → List ℕ → Option (List ℕ)

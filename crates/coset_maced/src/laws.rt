@@ -1,12 +1,22 @@
 //! Laws of the definitions.
-ghost use Rattle.std.specs.Prelude.{◌≡◌, ◌≢◌, ℕ, List, None};
-ghost use Rattle.ciborium_value.specs.Tree.{Tree};
+ghost use Rattle.std.specs.Prelude.{◌≡◌, ◌≢◌, ℕ, List, None, Some};
+ghost use Rattle.ciborium.specs.Front.{Reads};
+ghost use Rattle.ciborium_value.specs.Encoding.{enc, Fits};
+ghost use Rattle.ciborium_value.specs.Tree.{Tree, tag};
 ghost use Rattle.coset_labels.specs.Faults.{CoseFault};
+ghost use Rattle.coset_labels.specs.Reading.{HasItem, Tagged};
 ghost use Rattle.coset_maced.specs.Fields.{Mac0Fields, MacFields};
 ghost use Rattle.coset_maced.specs.Shapes.{HasMac0, HasMac};
+ghost use Rattle.coset_maced.specs.Short.{Mac0Short, MacShort};
 ghost use Rattle.coset_maced.specs.Structure.{mac0_covered, mac_covered};
+ghost use Rattle.coset_maced.specs.View.{mac0_view, mac_view};
 ghost use Rattle.coset_maced.specs.Written.{mac0_tree, mac_tree};
 ghost use Rattle.coset_maced.specs.Wrong.{WrongMac0, WrongMac};
+
+use crate::mac::CoseMac;
+use crate::mac0::CoseMac0;
+use coset_parts::laws::{bytes_fit, parts_fit};
+use coset_recipients::laws::recipients_fit;
 
 /// A value has the fields of at most one message of each kind.
 pub fn one_message()
@@ -28,3 +38,66 @@ pub fn read_can_be_written()
     ensures mac { (n k : ℕ) (t : Tree) (m : MacFields) → HasMac n t m k → mac_tree m ≢ None }
     ensures mac_covered { (n k : ℕ) (t : Tree) (m : MacFields) (aad payload : List ℕ) → HasMac n t m k → mac_covered m aad payload ≢ None }
 {}
+
+/// What is written of a message that was read has its fields again, received bytes included.
+pub fn written_has_same()
+    ensures mac0 { (n k : ℕ) (t u : Tree) (m : Mac0Fields) → HasMac0 n t m k → mac0_tree m ≡ Some u → HasMac0 n u m k }
+    ensures mac { (n k : ℕ) (t u : Tree) (m : MacFields) → HasMac n t m k → mac_tree m ≡ Some u → HasMac n u m k }
+{}
+
+/// So are the bytes: the encoding of what is written nests no deeper than what was read, and is read again with the same fields.
+pub fn written_reads_same()
+    ensures mac0 { (n k limit : ℕ) (b : List ℕ) (t u : Tree) (m : Mac0Fields) → Reads b limit t → HasMac0 n t m k
+        → mac0_tree m ≡ Some u → Fits u → Reads (enc u) limit u × HasMac0 n u m k }
+    ensures mac { (n k limit : ℕ) (b : List ℕ) (t u : Tree) (m : MacFields) → Reads b limit t → HasMac n t m k
+        → mac_tree m ≡ Some u → Fits u → Reads (enc u) limit u × HasMac n u m k }
+{}
+
+/// What was read has its received bytes, as `mac0_fits` and `mac_fits` ask.
+pub fn read_is_short()
+    ensures mac0 { (n k : ℕ) (t : Tree) (m : Mac0Fields) → HasMac0 n t m k → Mac0Short m }
+    ensures mac { (n k : ℕ) (t : Tree) (m : MacFields) → HasMac n t m k → MacShort m }
+{}
+
+/// What is written of this message fits heads, if each protected header in it that has no received bytes is encoded in fewer than 2^64
+/// bytes.
+pub fn mac0_fits(message: &CoseMac0)
+    ensures { (u : Tree) → mac0_tree (mac0_view message.now) ≡ Some u → Mac0Short (mac0_view message.now) → Fits u }
+{
+    parts_fit(&message.protected, &message.unprotected, &message.payload);
+    bytes_fit(&message.tag);
+}
+
+/// As `mac0_fits`, of a message with recipients.
+pub fn mac_fits(message: &CoseMac)
+    ensures { (u : Tree) → mac_tree (mac_view message.now) ≡ Some u → MacShort (mac_view message.now) → Fits u }
+{
+    parts_fit(&message.protected, &message.unprotected, &message.payload);
+    bytes_fit(&message.tag);
+    recipients_fit(&message.recipients);
+}
+
+/// A message that was read from bytes is read again of the bytes that it is written as, the same, received bytes included. So is one that
+/// was read behind its tag and is written with it.
+pub fn mac0_reads_again(message: &CoseMac0)
+    ensures item { (b : List ℕ) (u : Tree) → HasItem (λ t m. HasMac0 256 t m 16) b (mac0_view message.now)
+        → mac0_tree (mac0_view message.now) ≡ Some u → HasItem (λ t m. HasMac0 256 t m 16) (enc u) (mac0_view message.now) }
+    ensures tagged { (b : List ℕ) (u : Tree) → HasItem (Tagged 17 (λ t m. HasMac0 256 t m 16)) b (mac0_view message.now)
+        → mac0_tree (mac0_view message.now) ≡ Some u
+        → HasItem (Tagged 17 (λ t m. HasMac0 256 t m 16)) (enc (tag 17 u)) (mac0_view message.now) }
+{
+    mac0_fits(message);
+    read_is_short();
+}
+
+/// As `mac0_reads_again`, of a message with recipients.
+pub fn mac_reads_again(message: &CoseMac)
+    ensures item { (b : List ℕ) (u : Tree) → HasItem (λ t m. HasMac 256 t m 16) b (mac_view message.now)
+        → mac_tree (mac_view message.now) ≡ Some u → HasItem (λ t m. HasMac 256 t m 16) (enc u) (mac_view message.now) }
+    ensures tagged { (b : List ℕ) (u : Tree) → HasItem (Tagged 97 (λ t m. HasMac 256 t m 16)) b (mac_view message.now)
+        → mac_tree (mac_view message.now) ≡ Some u
+        → HasItem (Tagged 97 (λ t m. HasMac 256 t m 16)) (enc (tag 97 u)) (mac_view message.now) }
+{
+    mac_fits(message);
+    read_is_short();
+}

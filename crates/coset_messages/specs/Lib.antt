@@ -39,11 +39,13 @@ pub use Rattle.coset_base.specs.RegisteredLabel
 pub use Rattle.coset_base.specs.RegisteredLabelWithPrivate
 pub use Rattle.coset_parts.specs.Calls
 pub use Rattle.coset_parts.specs.Shapes as PartShapes
+pub use Rattle.coset_parts.specs.Short as PartsShort
 pub use Rattle.coset_parts.specs.Written as PartsWritten
 pub use Rattle.coset_parts.specs.Wrong as WrongParts
 pub use Rattle.coset_recipients.specs.Builders as RecipientBuilders
 pub use Rattle.coset_recipients.specs.Fields as RecipientFields
 pub use Rattle.coset_recipients.specs.Shapes as RecipientShapes
+pub use Rattle.coset_recipients.specs.Short as RecipientShort
 pub use Rattle.coset_recipients.specs.Structure as RecipientStructure
 pub use Rattle.coset_recipients.specs.View as RecipientView
 pub use Rattle.coset_recipients.specs.Written as RecipientWritten
@@ -53,6 +55,7 @@ pub use Rattle.coset_recipients.specs.declared.builder.CoseRecipientBuilder
 pub use Rattle.coset_signed.specs.Added
 pub use Rattle.coset_signed.specs.Fields as SignedFields
 pub use Rattle.coset_signed.specs.Shapes as SignedShapes
+pub use Rattle.coset_signed.specs.Short as SignedShort
 pub use Rattle.coset_signed.specs.Structure as SignedStructure
 pub use Rattle.coset_signed.specs.View as SignedView
 pub use Rattle.coset_signed.specs.Written as SignedWritten
@@ -64,6 +67,7 @@ pub use Rattle.coset_signed.specs.declared.sign_builder.CoseSignBuilder
 pub use Rattle.coset_maced.specs.Builders as MacedBuilders
 pub use Rattle.coset_maced.specs.Fields as MacedFields
 pub use Rattle.coset_maced.specs.Shapes as MacedShapes
+pub use Rattle.coset_maced.specs.Short as MacedShort
 pub use Rattle.coset_maced.specs.Structure as MacedStructure
 pub use Rattle.coset_maced.specs.View as MacedView
 pub use Rattle.coset_maced.specs.Written as MacedWritten
@@ -75,6 +79,7 @@ pub use Rattle.coset_maced.specs.declared.builder.CoseMacBuilder
 pub use Rattle.coset_encrypted.specs.Builders as EncryptedBuilders
 pub use Rattle.coset_encrypted.specs.Fields as EncryptedFields
 pub use Rattle.coset_encrypted.specs.Shapes as EncryptedShapes
+pub use Rattle.coset_encrypted.specs.Short as EncryptedShort
 pub use Rattle.coset_encrypted.specs.Structure as EncryptedStructure
 pub use Rattle.coset_encrypted.specs.View as EncryptedView
 pub use Rattle.coset_encrypted.specs.Written as EncryptedWritten

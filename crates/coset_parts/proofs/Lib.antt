@@ -1,1 +1,4 @@
+pub mod Again
+pub mod Fit
 pub mod Read
+pub mod Sound

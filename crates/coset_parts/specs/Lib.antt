@@ -1,4 +1,5 @@
 pub mod Calls
 pub mod Shapes
+pub mod Short
 pub mod Written
 pub mod Wrong

@@ -3,6 +3,7 @@
 #![tactic(auto)]
 
 mod arrays;
+pub mod laws;
 mod parts;
 
 pub use crate::arrays::{five, four, three};

@@ -1,5 +1,8 @@
+pub mod Again
 pub mod Excludes
+pub mod Fit
 pub mod Parts
+pub mod Sound
 pub mod Steps
 pub mod Unique
 pub mod Writable

@@ -1,11 +1,12 @@
 -- What was read can be written.
 use Rattle.std.proofs.Common.{◌≢◌, ℕ, inl, inr, List, ◌∷◌, [], Option, None, sym, subst}
 use Rattle.ciborium_value.specs.Tree.{Tree, bytes, array, Trees, no_trees, one_more}
-use Rattle.coset_headers.specs.Contexts.{encryption_text}
+use Rattle.coset_structures.specs.Contexts.{encryption_text}
 use Rattle.coset_headers.specs.Fields.{HeaderFields, ProtectedFields}
 use Rattle.coset_headers.specs.Written.{header_tree, shown}
-use Rattle.coset_headers.specs.declared.context.EncryptionContext.{EncryptionContext}
-use Rattle.coset_headers.proofs.Writable.{some_is, map_some, and_some, hdr_some, prot_some, enc_data_some}
+use Rattle.coset_structures.specs.declared.context.EncryptionContext.{EncryptionContext}
+use Rattle.coset_headers.proofs.Writable.{some_is, map_some, and_some, hdr_some, prot_some}
+use Rattle.coset_structures.proofs.Writable.{enc_data_some}
 use Rattle.coset_parts.specs.Shapes.{HasParts}
 use Rattle.coset_parts.specs.Written.{optional_tree, parts_trees}
 use Rattle.coset_recipients.specs.Fields.{RecipientFields, recipient, RecipientsFields, no_recipients, recipient_more}

@@ -6,8 +6,8 @@ ghost use Rattle.coset_recipients.specs.Structure.{IsRecipientContext, recipient
 ghost use Rattle.coset_recipients.specs.View.{opened};
 
 use crate::recipient::CoseRecipient;
-use coset_headers::{EncryptionContext, enc_structure_data};
 use coset_labels::Fault;
+use coset_structures::{EncryptionContext, enc_structure_data};
 use std::alloc::Global;
 
 impl CoseRecipient {

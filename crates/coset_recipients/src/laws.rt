@@ -1,16 +1,21 @@
 //! Laws of the definitions.
-ghost use Rattle.std.specs.Prelude.{◌≡◌, ◌≢◌, ℕ, List, None};
-ghost use Rattle.ciborium_value.specs.Tree.{Tree};
+ghost use Rattle.std.specs.Prelude.{◌≡◌, ◌≢◌, ◌^◌, ◌<◌, ℕ, List, None, Some};
+ghost use Rattle.ciborium.specs.Front.{Reads};
+ghost use Rattle.ciborium_value.specs.Encoding.{enc, Fits, FitAll};
+ghost use Rattle.ciborium_value.specs.Tree.{Tree, Trees, tree_count};
 ghost use Rattle.coset_labels.specs.Faults.{CoseFault};
-ghost use Rattle.coset_headers.specs.declared.context.EncryptionContext.{EncryptionContext};
+ghost use Rattle.coset_labels.specs.Reading.{HasItem};
+ghost use Rattle.coset_structures.specs.declared.context.EncryptionContext.{EncryptionContext};
 ghost use Rattle.coset_recipients.specs.Fields.{RecipientFields, RecipientsFields};
 ghost use Rattle.coset_recipients.specs.Shapes.{HasRecipient, HasList};
+ghost use Rattle.coset_recipients.specs.Short.{RecipientShort, RecipientsShort};
 ghost use Rattle.coset_recipients.specs.Structure.{recipient_structure};
-ghost use Rattle.coset_recipients.specs.View.{recipient_view, opened};
-ghost use Rattle.coset_recipients.specs.Written.{recipient_tree, list_tree};
+ghost use Rattle.coset_recipients.specs.View.{recipient_view, recipients_view, opened};
+ghost use Rattle.coset_recipients.specs.Written.{recipient_tree, recipients_trees, list_tree};
 ghost use Rattle.coset_recipients.specs.Wrong.{WrongRecipient, WrongList};
 
 use crate::recipient::CoseRecipient;
+use coset_parts::laws::parts_fit;
 
 /// The fields of a recipient are those of its parts.
 pub fn recipient_opened(recipient: &CoseRecipient)
@@ -36,3 +41,66 @@ pub fn read_can_be_written()
     ensures structure { (n k : ℕ) (t : Tree) (r : RecipientFields) (x : EncryptionContext) (aad : List ℕ) → HasRecipient n t r k
         → recipient_structure x r aad ≢ None }
 {}
+
+/// What is written of a recipient that was read has its fields again, received bytes included, and so has what is written of a list. A
+/// fourth element that was read as an empty list isn't written.
+pub fn written_has_same()
+    ensures recipient { (n k : ℕ) (t u : Tree) (r : RecipientFields) → HasRecipient n t r k → recipient_tree r ≡ Some u → HasRecipient n u r k }
+    ensures list { (n k : ℕ) (t u : Tree) (rs : RecipientsFields) → HasList n t rs k → list_tree rs ≡ Some u → HasList n u rs k }
+{}
+
+/// So are the bytes: the encoding of what is written nests no deeper than what was read, and is read again with the same fields.
+pub fn written_reads_same()
+    ensures { (n k limit : ℕ) (b : List ℕ) (t u : Tree) (r : RecipientFields) → Reads b limit t → HasRecipient n t r k
+        → recipient_tree r ≡ Some u → Fits u → Reads (enc u) limit u × HasRecipient n u r k }
+{}
+
+/// What was read has its received bytes, as `recipient_fits` and its like ask.
+pub fn read_is_short()
+    ensures recipient { (n k : ℕ) (t : Tree) (r : RecipientFields) → HasRecipient n t r k → RecipientShort r }
+    ensures list { (n k : ℕ) (t : Tree) (rs : RecipientsFields) → HasList n t rs k → RecipientsShort rs }
+{}
+
+/// What is written of this recipient fits heads, if each protected header in it that has no received bytes is encoded in fewer than 2^64
+/// bytes.
+#[cycle(fits)]
+pub fn recipient_fits(recipient: &CoseRecipient)
+    ensures { (u : Tree) → recipient_tree (recipient_view recipient.now) ≡ Some u → RecipientShort (recipient_view recipient.now) → Fits u }
+{
+    parts_fit(
+        &recipient.protected,
+        &recipient.unprotected,
+        &recipient.ciphertext,
+    );
+    all_fit(&recipient.recipients);
+}
+
+#[cycle(fits)]
+fn all_fit(recipients: &[CoseRecipient])
+    ensures fits { (ts : Trees) → recipients_trees (recipients_view recipients.now) ≡ Some ts
+        → RecipientsShort (recipients_view recipients.now) → FitAll ts }
+    ensures count { (ts : Trees) → recipients_trees (recipients_view recipients.now) ≡ Some ts → tree_count ts < 2 ^ 64 }
+{
+    let _len = recipients.len();
+    'recipients: for recipient in recipients {
+        recipient_fits(recipient);
+    }
+}
+
+/// As `recipient_fits`, of the array of recipients of a message.
+pub fn recipients_fit(recipients: &[CoseRecipient])
+    ensures { (u : Tree) → list_tree (recipients_view recipients.now) ≡ Some u → RecipientsShort (recipients_view recipients.now) → Fits u }
+{
+    all_fit(recipients);
+}
+
+/// A recipient that was read from bytes is read again of the bytes that it is written as, the same, received bytes included.
+pub fn recipient_reads_again(recipient: &CoseRecipient)
+    ensures { (b : List ℕ) (u : Tree) → HasItem (λ t r. HasRecipient 256 t r 16) b (recipient_view recipient.now)
+        → recipient_tree (recipient_view recipient.now) ≡ Some u
+        → HasItem (λ t r. HasRecipient 256 t r 16) (enc u) (recipient_view recipient.now) }
+{
+    recipient_fits(recipient);
+    written_reads_same();
+    read_is_short();
+}

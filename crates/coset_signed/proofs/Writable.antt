@@ -6,7 +6,8 @@ use Rattle.coset_labels.specs.Arrays.{all_written, array_of}
 use Rattle.coset_headers.specs.Fields.{HeaderFields, ProtectedFields, SignatureFields, signature, signatures}
 use Rattle.coset_headers.specs.Headers.{HasSignature, HasSignatures}
 use Rattle.coset_headers.specs.Written.{header_tree, shown, signature_tree}
-use Rattle.coset_headers.proofs.Writable.{some_is, map_some, and_some, hdr_some, prot_some, sig_some, sig_data_some, no_signer_some, signer_is_some}
+use Rattle.coset_headers.proofs.Writable.{some_is, map_some, and_some, hdr_some, prot_some, sig_some}
+use Rattle.coset_structures.proofs.Writable.{sig_data_some, no_signer_some, signer_is_some}
 use Rattle.coset_parts.specs.Shapes.{HasParts}
 use Rattle.coset_parts.specs.Written.{parts_trees}
 use Rattle.coset_signed.specs.Fields.{Sign1Fields, SignFields, signer_of}

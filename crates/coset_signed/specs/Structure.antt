@@ -1,7 +1,7 @@
 -- The bytes that the signatures of messages cover (RFC 9052, section 4.4); none where a protected header can't be written.
 use Rattle.std.specs.Prelude.{ℕ, List, Option, Some, None, codes}
 use Rattle.coset_headers.specs.Fields.{SignatureFields}
-use Rattle.coset_headers.specs.Structure.{sig_structure}
+use Rattle.coset_structures.specs.Structure.{sig_structure}
 use Rattle.coset_parts.specs.Written.{content_bytes}
 use Rattle.coset_signed.specs.Fields.{Sign1Fields, SignFields, signer_of}
 

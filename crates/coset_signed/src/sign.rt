@@ -9,9 +9,10 @@ ghost use Rattle.coset_signed.specs.Structure.{sign_structure, sign_covered};
 ghost use Rattle.coset_signed.specs.View.{sign_view};
 
 use crate::payload::payload_bytes;
-use coset_headers::{CoseSignature, Header, ProtectedHeader, SignatureContext, sig_structure_data};
+use coset_headers::{CoseSignature, Header, ProtectedHeader};
 use coset_labels::{CoseError, Fault};
 use coset_parts::clone_bytes;
+use coset_structures::{SignatureContext, sig_structure_data};
 use std::alloc::{AllocError, Global};
 
 /// A message with signatures, a COSE_Sign (RFC 9052, section 4.1).

@@ -7,9 +7,10 @@ ghost use Rattle.coset_signed.specs.Structure.{sign1_structure, sign1_covered};
 ghost use Rattle.coset_signed.specs.View.{sign1_view};
 
 use crate::payload::payload_bytes;
-use coset_headers::{Header, ProtectedHeader, SignatureContext, sig_structure_data};
+use coset_headers::{Header, ProtectedHeader};
 use coset_labels::{CoseError, Fault};
 use coset_parts::clone_bytes;
+use coset_structures::{SignatureContext, sig_structure_data};
 use std::alloc::{AllocError, Global};
 
 /// A message with one signature, a COSE_Sign1 (RFC 9052, section 4.2).

@@ -1,5 +1,4 @@
-use Rattle.std.proofs.Common.{None, Some}
-use Rattle.coset_headers.proofs.Writable.{hdr_some, prot_some, sig_some, sig_data_some, mac_data_some, enc_data_some, no_signer_some, signer_is_some}
+use Rattle.coset_headers.proofs.Writable.{hdr_some, prot_some, sig_some}
 use Rattle.coset_headers.proofs.laws.read_can_be_written.Goals as goal
 
 pub returns : goal.returns
@@ -7,6 +6,4 @@ returns c = record {
   header = λ n k t h. hdr_some n h t k;
   protected = λ n k t p. prot_some n p t k;
   signature = λ n k t s. sig_some n s t k;
-  structures = λ context aad payload p m. (sig_data_some context p None aad payload m no_signer_some, mac_data_some context p aad payload m, enc_data_some context p aad m);
-  signer = λ context aad payload p q m n. sig_data_some context p (Some q) aad payload m (signer_is_some q n);
 }

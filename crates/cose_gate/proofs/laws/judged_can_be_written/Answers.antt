@@ -1,5 +1,0 @@
-use Rattle.cose_gate.proofs.Written.{judged_questions, judged_text}
-use Rattle.cose_gate.proofs.laws.judged_can_be_written.Goals as goal
-
-pub returns : goal.returns
-returns c = record { questions = judged_questions; text = judged_text }

@@ -1,5 +1,0 @@
-use Rattle.cose_gate.proofs.Unique.{finding_once}
-use Rattle.cose_gate.proofs.laws.one_finding.Goals as goal
-
-pub returns : goal.returns
-returns c = finding_once

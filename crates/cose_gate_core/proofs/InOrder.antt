@@ -1,0 +1,103 @@
+-- Questions that are asked in order, up to the first no.
+use Rattle.std.proofs.Common.{◌≡◌, ◌≢◌, ℕ, ◌+◌, ◌<◌, suc, List, [], ◌∷◌, ◌++◌, map, drop, length, get_or, Option, Some, None, Bool, true, false, refl, sym, ap, ◌∙◌, append_assoc, append-nil, arith, drop-cons, add-one}
+use Rattle.std.specs.Prelude.{option_map, option_and_then, Result, Ok, Err, OnErr}
+use Rattle.coset_base.specs.Fields.{SignatureFields}
+use Rattle.coset_headers.proofs.Writable.{some_is}
+use Rattle.coset_signed.specs.Fields.{SignFields}
+use Rattle.coset_signed.specs.Structure.{sign_covered}
+use Rattle.cose_gate_core.specs.Asked.{asked, first_no, folded_over, ToldFront}
+use Rattle.cose_gate_core.specs.Questions.{sign_question, sign_questions, one_question, or_nothing}
+use Rattle.cose_gate_core.proofs.Reach.{folded_append}
+
+pub on_err : {A E P Q : Type 0} (r : Result A E) → (P → Q) → OnErr r P → OnErr r Q
+on_err (Ok x) f p = p
+on_err (Err e) f p = f p
+
+pub on_err_is : {A E P : Type 0} (r : Result A E) → P → OnErr r P
+on_err_is (Ok x) p = tt
+on_err_is (Err e) p = p
+
+-- nothing was told of questions
+pub told_none : {T Q : Type 0} (decided : T → Q → T) (told told' : T) (all : List Q) → told' ≡ told → ToldFront decided told told' all
+told_none decided told told' all e = record { front = []; is_front = record { more = all; whole = refl }; tells = e }
+
+-- some questions were asked, the answer to each was yes, and the rest is still to be asked
+pub record Asking {T Q : Type 0} (decided : T → Q → T) (allows : Q → Bool) (told told' : T) (all rest : List Q) (count : ℕ) : Type 0 where
+  pub front : List Q
+  pub whole : asked allows all ≡ front ++ asked allows rest
+  pub tells : told' ≡ folded_over decided told front
+  pub first : first_no allows all ≡ option_map (λ n. n + count) (first_no allows rest)
+
+plus_zero : (o : Option ℕ) → o ≡ option_map (λ n. n + 0) o
+plus_zero None = refl
+plus_zero (Some n) = ap Some (omega arith)
+
+plus_one : (k : ℕ) (o : Option ℕ) → option_map (λ n. n + k) (option_map (λ n. n + 1) o) ≡ option_map (λ n. n + (k + 1)) o
+plus_one k None = refl
+plus_one k (Some n) = ap Some (omega arith)
+
+pub asking_start : {T Q : Type 0} (decided : T → Q → T) (allows : Q → Bool) (told : T) (all : List Q) → Asking decided allows told told all all 0
+asking_start decided allows told all = record { front = []; whole = refl; tells = refl; first = plus_zero (first_no allows all) }
+
+module _ {T Q : Type 0} (decided : T → Q → T) (allows : Q → Bool) (told told' : T) (all : List Q) where
+  -- a yes
+  pub asking_yes : (q : Q) (rest : List Q) (count : ℕ) → Asking decided allows told told' all (q ∷ rest) count → true ≡ allows q → (newer : T) → newer ≡ decided told' q
+      → Asking decided allows told newer all rest (count + 1)
+  asking_yes q rest count a y newer e = record {
+    front = a.front ++ q ∷ [];
+    whole = a.whole ∙ rw (sym y) (sym (append_assoc a.front (q ∷ []) (asked allows rest)));
+    tells = e ∙ ap (λ s. decided s q) a.tells ∙ sym (folded_append decided told a.front (q ∷ []));
+    first = a.first ∙ rw (sym y) (plus_one count (first_no allows rest));
+  }
+
+  -- the first no
+  pub asking_no : (q : Q) (rest : List Q) (count : ℕ) → Asking decided allows told told' all (q ∷ rest) count → false ≡ allows q → Some count ≡ first_no allows all
+  asking_no q rest count a y =
+      let g : first_no allows (q ∷ rest) ≡ Some 0 = rw (sym y) refl in
+      sym (a.first ∙ ap (option_map (λ n. n + count)) g ∙ ap Some (omega arith))
+
+  pub told_no : (q : Q) (rest : List Q) (count : ℕ) → Asking decided allows told told' all (q ∷ rest) count → false ≡ allows q → (newer : T) → newer ≡ decided told' q
+      → newer ≡ folded_over decided told (asked allows all)
+  told_no q rest count a y newer e =
+      let f : asked allows (q ∷ rest) ≡ q ∷ [] = rw (sym y) refl in
+      e ∙ ap (λ s. decided s q) a.tells ∙ sym (folded_append decided told a.front (q ∷ [])) ∙ ap (folded_over decided told) (sym (a.whole ∙ ap (λ x. a.front ++ x) f))
+
+  -- no question is left
+  pub asking_done : (count : ℕ) → Asking decided allows told told' all [] count → None ≡ first_no allows all
+  asking_done count a = sym a.first
+
+  pub told_all : (count : ℕ) → Asking decided allows told told' all [] count → told' ≡ folded_over decided told (asked allows all)
+  told_all count a = a.tells ∙ ap (folded_over decided told) (sym (a.whole ∙ append-nil a.front))
+
+  -- it stopped before the next
+  pub told_front : (rest : List Q) (count : ℕ) → Asking decided allows told told' all rest count → (newer : T) → newer ≡ told' → ToldFront decided told newer (asked allows all)
+  told_front rest count a newer e = record { front = a.front; is_front = record { more = asked allows rest; whole = a.whole }; tells = e ∙ a.tells }
+
+-- one more of a list that is seen through a function
+pub rest_step : {A B : Type 0} (f : A → B) (xs : List A) (i : ℕ) (x : A) → i < length xs → x ≡ get_or xs i x → map f (drop i xs) ≡ f x ∷ map f (drop (i + 1) xs)
+rest_step f xs i x h e =
+    ap (λ r. map f r) (drop-cons xs i x h ∙ ap (λ y. y ∷ drop (suc i) xs) (sym e) ∙ ap (λ k. x ∷ drop k xs) (sym (add-one i)))
+
+-- where all structures can be written, the questions are one of each signature
+both : {A B C : Type 0} (f : A → B → C) (a : Option A) (b : Option B) → option_and_then (λ x. option_map (λ y. f x y) b) a ≢ None → (a ≢ None) × (b ≢ None)
+both f None b n = absurd (n refl)
+both f (Some x) None n = absurd (n refl)
+both f (Some x) (Some y) n = (some_is x, some_is y)
+
+next_and : {A Q : Type 0} (f : List A → Q) (a : Option (List A)) (b : Option (List Q)) (qs : List Q) → option_and_then (λ x. option_map (λ y. f x ∷ y) b) a ≢ None → or_nothing b ≡ qs
+    → or_nothing (option_and_then (λ x. option_map (λ y. f x ∷ y) b) a) ≡ f (or_nothing a) ∷ qs
+next_and f None b qs n e = absurd (n refl)
+next_and f (Some x) None qs n e = absurd (n refl)
+next_and f (Some x) (Some y) qs n e = ap (λ z. f x ∷ z) e
+
+module _ (m : SignFields) (aad : List ℕ) where
+  pub first_covered : (s : SignatureFields) (ss : List SignatureFields) → sign_questions m aad (s ∷ ss) ≢ None → sign_covered m s aad ≢ None
+  first_covered s ss n = (both (λ covered qs. sign_question m s covered ∷ qs) (sign_covered m s aad) (sign_questions m aad ss) n).0
+
+  pub rest_covered : (s : SignatureFields) (ss : List SignatureFields) → sign_questions m aad (s ∷ ss) ≢ None → sign_questions m aad ss ≢ None
+  rest_covered s ss n = (both (λ covered qs. sign_question m s covered ∷ qs) (sign_covered m s aad) (sign_questions m aad ss) n).1
+
+  pub each_question : (ss : List SignatureFields) → sign_questions m aad ss ≢ None → or_nothing (sign_questions m aad ss) ≡ map (one_question m aad) ss
+  each_question [] n = refl
+  each_question (s ∷ ss) n =
+      next_and (sign_question m s) (sign_covered m s aad) (sign_questions m aad ss) (map (one_question m aad) ss) n (each_question ss (rest_covered s ss n))

@@ -1,0 +1,127 @@
+-- One item: what is found of it, and what stands after it.
+use Rattle.std.proofs.Common.{◌≡◌, ◌≢◌, ℕ, ◌⊎◌, inl, inr, List, [], ◌∷◌, map, Option, None, Some, option_map, Bool, true, false, cond, refl, sym, ap, subst, ◌∙◌, take, drop, append-nil}
+use Rattle.std.specs.Prelude.{is_none, is_some}
+use Rattle.std.specs.Io.KnownBytes.{Appends}
+use Rattle.std.proofs.KnownBytes.{Appends-nil}
+use Rattle.std.proofs.lemmas.List.{take-append-drop}
+use Rattle.ciborium_value.specs.Tree.{Tree, tag}
+use Rattle.coset_base.specs.Faults.{fault_of}
+use Rattle.cose_gate_core.specs.Questions.{Question, MessageFields, tag_of, payload_of, questions, message_text}
+use Rattle.cose_gate_core.specs.Asked.{asked, first_no, folded_over, ToldFront}
+use Rattle.cose_gate_core.specs.Findings.{Reason, not_tagged, encrypted, other_tag, shape, detached, no_signature, judged, barred, Limits, HasMessage, IsCarried, IsUnsigned, IsJudged, IsBarred, Finds}
+use Rattle.cose_gate_core.specs.Run.{IsVerdict, judged_by, written_of}
+use Rattle.cose_gate_core.specs.Passing.{IsRefused, WentThrough, Half, IsWriteFault, ItemFails}
+use Rattle.cose_gate_core.specs.declared.passing.ItemFault.{ItemFault}
+use Rattle.cose_gate_core.specs.declared.passing.ItemFault.TheVariants as fault
+use Rattle.cose_gate_core.specs.declared.report.Refusal.{Refusal}
+use Rattle.cose_gate_core.specs.declared.report.Refusal.TheVariants as refusal
+use Rattle.cose_gate_core.specs.declared.report.Verdict.TheVariants.{Passed, Refused}
+
+pub is_encrypted : (limits : Limits) (t u : Tree) (n : ℕ) → t ≡ tag n u → (n ≡ 16) ⊎ (n ≡ 96) → IsBarred limits t encrypted
+is_encrypted limits t u n e k = (n, u, e, k)
+
+-- what is none stays none
+pub none_of : {A B : Type 0} (f : A → B) (o : Option A) → is_some o ≡ false → option_map f o ≡ None
+none_of f None e = refl
+none_of f (Some x) e = let h : true ≡ false = e in cc
+
+-- a message that doesn't carry its payload
+pub is_detached : (limits : Limits) (u : Tree) (m : MessageFields) → HasMessage limits u m → payload_of m ≡ None → IsBarred limits (tag (tag_of m) u) detached
+is_detached limits u m h n = (m, (u, refl, h), n)
+
+-- a message that carries its payload and has no signature
+pub is_unsigned : (limits : Limits) (u : Tree) (m : MessageFields) → HasMessage limits u m → IsCarried m → IsUnsigned m → IsBarred limits (tag (tag_of m) u) no_signature
+is_unsigned limits u m h p s = (m, (u, refl, h), p, s)
+
+-- a message that is judged
+pub is_judged : (limits : Limits) (u : Tree) (m : MessageFields) → HasMessage limits u m → IsCarried m → (IsUnsigned m → ⊥) → IsJudged limits (tag (tag_of m) u) m
+is_judged limits u m h p s = ((u, refl, h), p, s)
+
+-- what is there stays there
+pub some_of : {A B : Type 0} (f : A → B) (o : Option A) → is_some o ≡ true → (x : B) × (option_map f o ≡ Some x)
+some_of f None e = let h : false ≡ true = e in cc
+some_of f (Some x) e = (f x, refl)
+
+-- a list that holds something still does, seen through a function
+pub some_behind : {A B : Type 0} (f : A → B) (xs : List A) → xs ≢ [] → map f xs ≢ []
+some_behind f [] n e = n refl
+some_behind f (x ∷ xs) n e = let h : f x ∷ map f xs ≡ [] = e in cc
+
+pub is_other_tag : (limits : Limits) (t u : Tree) (n : ℕ) → t ≡ tag n u → n ≢ 16 → n ≢ 96 → n ≢ 18 → n ≢ 17 → n ≢ 97 → n ≢ 98 → IsBarred limits t (other_tag n)
+is_other_tag limits t u n e a b c d f g = (u, e, (λ w. not w), λ w. none w)
+  where
+    not : (n ≡ 16) ⊎ (n ≡ 96) → ⊥
+    not (inl x) = a x
+    not (inr x) = b x
+
+    none : (n ≡ 17) ⊎ (n ≡ 18) ⊎ (n ≡ 97) ⊎ (n ≡ 98) → ⊥
+    none (inl x) = d x
+    none (inr (inl x)) = c x
+    none (inr (inr (inl x))) = f x
+    none (inr (inr (inr x))) = g x
+
+module _ {T : Type 0} (limits : Limits) (decided : T → Question → T) (allows : Question → Bool) (aad : List ℕ) where
+  barred_as : (b : List ℕ) (t : Tree) (told : T) (w : Option (List ℕ)) (r : Reason) (v : Refusal) → IsBarred limits t r
+      → IsVerdict limits allows aad t (barred r) (Refused v) → WentThrough limits decided allows aad b t told told w w (Refused v)
+  barred_as b t told w r v is says = record { finding = barred r; finds = is; verdict = says; tells = refl; writes = Appends-nil w }
+
+  -- a refusal before any question
+  pub taken_barred : (b : List ℕ) (t : Tree) (told : T) (w : Option (List ℕ)) (r : Refusal) → IsRefused limits t r → WentThrough limits decided allows aad b t told told w w (Refused r)
+  taken_barred b t told w refusal.NotTagged is = barred_as b t told w not_tagged refusal.NotTagged is refl
+  taken_barred b t told w (refusal.OtherTag n) is = barred_as b t told w (other_tag n) (refusal.OtherTag n) is refl
+  taken_barred b t told w refusal.Encrypted is = barred_as b t told w encrypted refusal.Encrypted is refl
+  taken_barred b t told w (refusal.Shape e) is = barred_as b t told w shape (refusal.Shape e) (fault_of e, is) (e, refl, is)
+  taken_barred b t told w refusal.Detached is = barred_as b t told w detached refusal.Detached is refl
+  taken_barred b t told w refusal.NoSignature is = barred_as b t told w no_signature refusal.NoSignature is refl
+  taken_barred b t told w (refusal.Judged n) is = absurd is
+
+  written_no : (m : MessageFields) (i : ℕ) → Some i ≡ first_no allows (questions m aad) → written_of allows aad (judged m) ≡ []
+  written_no m i e = ap (λ o. cond (is_none o) (message_text m) []) (sym e)
+
+  written_yes : (m : MessageFields) → None ≡ first_no allows (questions m aad) → written_of allows aad (judged m) ≡ message_text m
+  written_yes m e = ap (λ o. cond (is_none o) (message_text m) []) (sym e)
+
+  -- the judge said no
+  pub taken_no : (b : List ℕ) (t : Tree) (told told' : T) (w : Option (List ℕ)) (m : MessageFields) (i : ℕ) → Finds limits b t (judged m) → Some i ≡ first_no allows (questions m aad)
+      → told' ≡ folded_over decided told (asked allows (questions m aad)) → WentThrough limits decided allows aad b t told told' w w (Refused (refusal.Judged i))
+  taken_no b t told told' w m i is said tells = record {
+    finding = judged m;
+    finds = is;
+    verdict = ap judged_by said;
+    tells = tells;
+    writes = subst (λ (x : List ℕ). Appends w w x) (sym (written_no m i said)) (Appends-nil w);
+  }
+
+  -- the judge said yes, and the text was written
+  pub taken_yes : (b : List ℕ) (t : Tree) (told told' : T) (w w' : Option (List ℕ)) (m : MessageFields) → Finds limits b t (judged m) → None ≡ first_no allows (questions m aad)
+      → told' ≡ folded_over decided told (asked allows (questions m aad)) → Appends w w' (message_text m) → WentThrough limits decided allows aad b t told told' w w' Passed
+  taken_yes b t told told' w w' m is said tells writes = record {
+    finding = judged m;
+    finds = is;
+    verdict = ap judged_by said;
+    tells = tells;
+    writes = subst (λ (x : List ℕ). Appends w w' x) (sym (written_yes m said)) writes;
+  }
+
+  -- a beginning was asked, and nothing written
+  pub half_asked : (b : List ℕ) (t : Tree) (told told' : T) (m : MessageFields) → Finds limits b t (judged m) → ToldFront decided told told' (asked allows (questions m aad)) → Half limits decided allows aad b t told told'
+  half_asked b t told told' m is f = record {
+    message = m;
+    is = is;
+    asked = f.front;
+    asked_front = f.is_front;
+    tells = f.tells;
+  }
+
+  -- writing the text failed
+  pub half_written : (b : List ℕ) (t : Tree) (told told' : T) (w w' : Option (List ℕ)) (m : MessageFields) (f : ItemFault) → Finds limits b t (judged m) → None ≡ first_no allows (questions m aad)
+      → told' ≡ folded_over decided told (asked allows (questions m aad)) → IsWriteFault w w' (message_text m) f → ItemFails limits decided allows aad b t told told' w w' f
+  half_written b t told told' w w' m fault.Write is said tells writes = record {
+    message = m;
+    is = is;
+    tells = tells;
+    front = take writes.0 (message_text m);
+    front_is = record { more = drop writes.0 (message_text m); whole = written_yes m said ∙ sym (take-append-drop writes.0 (message_text m)) };
+    writes = writes.1;
+  }
+  half_written b t told told' w w' m fault.Memory is said tells writes = (writes, inr (half_asked b t told told' m is (record { front = asked allows (questions m aad); is_front = record { more = []; whole = sym (append-nil (asked allows (questions m aad))) }; tells = tells })))

@@ -1,0 +1,342 @@
+-- What is answered, from how far the gate has come.
+use Rattle.std.proofs.Common.{◌≡◌, ◌⊎◌, inl, inr, ℕ, ◌+◌, ◌^◌, ◌<◌, ◌≤◌, List, [], ◌∷◌, ◌++◌, length, map, Option, None, Some, Bool, true, false, not, cond, refl, sym, ap, subst, ◌∙◌, arith, append_assoc, append-nil, length-append}
+use Rattle.std.specs.Prelude.{Ok, Err}
+use Rattle.std.specs.Io.KnownBytes.{Consumes, Appends}
+use Rattle.std.proofs.KnownBytes.{Appends-trans}
+use Rattle.std.proofs.lemmas.Grind.{flat_map-append}
+use Rattle.ciborium_ll.specs.Reading.{Moves}
+use Rattle.ciborium_value.specs.Tree.{Tree}
+use Rattle.ciborium.specs.Front.{Reads}
+use Rattle.ciborium.specs.Items.{Sequence}
+use Rattle.ciborium.specs.Damage.{end, deep, syntax, semantic, Damage}
+use Rattle.ciborium.specs.Reading.{IfKnown, FailsAt, IsNoMemory, fault_failures}
+use Rattle.ciborium.specs.declared.de.Error.{Error}
+use Rattle.ciborium.specs.declared.de.Error.TheVariants as de
+use Rattle.cose_gate_core.specs.declared.report.Entry.{Entry}
+use Rattle.cose_gate_core.specs.declared.report.Verdict.{Verdict}
+use Rattle.cose_gate_core.specs.declared.gating.Counts.{Counts}
+use Rattle.cose_gate_core.specs.declared.gating.GateFault.{GateFault}
+use Rattle.cose_gate_core.specs.declared.gating.GateFault.TheVariants.{Decode, Write, Memory}
+use Rattle.cose_gate_core.specs.declared.passing.ItemFault.{ItemFault}
+use Rattle.cose_gate_core.specs.declared.passing.ItemFault.TheVariants as fault
+use Rattle.cose_gate_core.specs.Questions.{Question, MessageFields, questions}
+use Rattle.cose_gate_core.specs.Asked.{first_no, folded_over, IsFront}
+use Rattle.cose_gate_core.specs.Findings.{judged}
+use Rattle.cose_gate_core.specs.Run.{Step, Steps, judged_by, has_passed, passes, asked_of, written_of, questions_of, output_of, entries_of, passed_count, refused_count, Course}
+use Rattle.cose_gate_core.specs.Outcome.{Rules, Sight, Made, IsFaultOf, IsNext, IsReadFault, Answers}
+use Rattle.cose_gate_core.specs.Passing.{WentThrough, Half, HalfWritten, ItemFails, at_end, stopped_by}
+use Rattle.cose_gate_core.proofs.Nothing.{empty_damage}
+use Rattle.cose_gate_core.proofs.Reach.{reads_some, Reached, further, step_at, entry_at, told_then, questions_then, output_then, entries_then, verdict_passes, count_then, folded_append, sequence_more}
+
+-- a list is a beginning of itself, and of itself and more
+pub whole_front : {A : Type 0} (xs : List A) → IsFront xs xs
+whole_front xs = record { more = []; whole = sym (append-nil xs) }
+
+pub front_then : {A : Type 0} (xs ys all : List A) → all ≡ xs ++ ys → IsFront xs all
+front_then xs ys all e = record { more = ys; whole = e }
+
+pub front_within : {A : Type 0} (xs part ys all : List A) → all ≡ xs ++ ys → IsFront part ys → IsFront (xs ++ part) all
+front_within xs part ys all e f = record { more = f.more; whole = e ∙ ap (λ z. xs ++ z) f.whole ∙ sym (append_assoc xs part f.more) }
+
+-- the bytes that are to come, and none where they are not known
+abbrev rest_of : Option (List ℕ) → List ℕ
+rest_of None = []
+rest_of (Some b) = b
+
+rest_known : (l : Option (List ℕ)) → IfKnown l (λ b. b ≡ rest_of l)
+rest_known None = tt
+rest_known (Some b) = refl
+
+rest_none : (l : Option (List ℕ)) → IfKnown l (λ b. b ≡ []) → rest_of l ≡ []
+rest_none None k = refl
+rest_none (Some b) k = k
+
+consumed : (l l' : Option (List ℕ)) (b : List ℕ) → Consumes l l' b → IfKnown l (λ a. a ≡ b ++ rest_of l')
+consumed None l' b c = tt
+consumed (Some a) None b c = absurd c
+consumed (Some a) (Some r) b c = c
+
+-- a fault of the bytes to come, seen from where the bytes began
+fault_from : {E : Type 0} (ends : E → Bool) (l l' : Option (List ℕ)) (b : List ℕ) (p p' : ℕ) (e : Error E) → Consumes l l' b → p' ≡ p + length b
+    → IfKnown l' (λ r. IsFaultOf ends (p' + length r) r e) → IfKnown l (λ a. IsFaultOf ends (p + length a) (rest_of l') e)
+fault_from ends None l' b p p' e c g k = tt
+fault_from ends (Some a) None b p p' e c g k = absurd c
+fault_from ends (Some a) (Some r) b p p' e c g k =
+    let l : length a ≡ length b + length r = ap length c ∙ length-append b r in
+    let s : p' + length r ≡ p + length a = omega arith in
+    subst (λ (n : ℕ). IsFaultOf ends n r e) s k
+
+module _ {T S : Type 0} (rules : Rules T S) where
+  written_then : (old new newer : Sight T S) (ss : List Step) (s : Step) → Appends old.written new.written (output_of rules.allows rules.aad ss)
+      → Appends new.written newer.written (written_of rules.allows rules.aad s.finding) → Appends old.written newer.written (output_of rules.allows rules.aad (ss ++ s ∷ []))
+  written_then old new newer ss s a b = subst (λ (z : List ℕ). Appends old.written newer.written z) (sym (output_then rules ss s))
+      (Appends-trans old.written new.written newer.written (output_of rules.allows rules.aad ss) (written_of rules.allows rules.aad s.finding) a b)
+
+  -- what was made stays made
+  still : (old new newer : Sight T S) (ss : List Step) → newer.told ≡ new.told → newer.state ≡ new.state → newer.written ≡ new.written → Made rules old new ss → Made rules old newer ss
+  still old new newer ss told state writes m = record {
+    told = told ∙ m.told;
+    state = state ∙ m.state;
+    written = subst (λ (z : Option (List ℕ)). Appends old.written z (output_of rules.allows rules.aad ss)) (sym writes) m.written;
+  }
+
+  -- the item went through, and its entry was noted
+  pub reached_step : (old new newer : Sight T S) (passed refused passed' refused' : ℕ) → Reached rules old new passed refused
+      → (v : Tree) (t : Moves new.left newer.left new.offset newer.offset (λ (b : List ℕ). Reads b 256 v)) → (verdict : Verdict)
+      → WentThrough rules.limits rules.decided rules.allows rules.aad t.bytes v new.told newer.told new.written newer.written verdict
+      → (e : Entry) → e ≡ entry_at (passed + refused + 1) new.offset verdict → newer.state ≡ rules.folded new.state e
+      → passed' ≡ passed + cond (has_passed verdict) 1 0 → refused' ≡ refused + cond (not (has_passed verdict)) 1 0
+      → Reached rules old newer passed' refused'
+  unfolding step_at
+  reached_step old new newer passed refused passed' refused' r v t verdict k e same state more less =
+      let s = step_at new.offset t.bytes v k.finding (entry_at (passed + refused + 1) new.offset verdict) in
+      let w = further rules old new newer passed refused r v t k.finding verdict k.finds k.verdict in
+      let q = verdict_passes rules.limits rules.allows rules.aad v k.finding verdict k.verdict in
+      record {
+        done = r.done ++ s ∷ [];
+        taken = w.taken;
+        steps = w.steps;
+        made = record {
+          told = told_then rules old.told new.told newer.told r.done s r.made.told k.tells;
+          state = state ∙ ap (λ z. rules.folded z e) r.made.state ∙ ap (rules.folded (folded_over rules.folded old.state (entries_of r.done))) same
+              ∙ sym (folded_append rules.folded old.state (entries_of r.done) (s.entry ∷ [])) ∙ ap (folded_over rules.folded old.state) (sym (entries_then rules r.done s));
+          written = written_then old new newer r.done s r.made.written k.writes;
+        };
+        passed_is = more ∙ ap (λ n. n + cond (has_passed verdict) 1 0) r.passed_is ∙ ap (λ b. passed_count rules.allows rules.aad r.done + cond b 1 0) q
+            ∙ sym (count_then (λ s. passes rules.allows rules.aad s.finding) r.done s);
+        refused_is = less ∙ ap (λ n. n + cond (not (has_passed verdict)) 1 0) r.refused_is ∙ ap (λ b. refused_count rules.allows rules.aad r.done + cond (not b) 1 0) q
+            ∙ sym (count_then (λ s. not (passes rules.allows rules.aad s.finding)) r.done s);
+      }
+
+  -- the bytes that were there, and what is left of them
+  record Left (old new : Sight T S) (steps : List Step) (more : List ℕ) : Type 0 where
+    pub input : List ℕ
+    pub is : IfKnown old.left (λ b. b ≡ input)
+    pub behind : IfKnown new.left (λ b. b ≡ more)
+    pub course : Course rules.limits rules.allows rules.aad old.offset input steps more
+    pub stop : new.offset + length more ≡ old.offset + length input
+
+  left_after : (old new : Sight T S) (steps : List Step) → Moves old.left new.left old.offset new.offset (λ (b : List ℕ). Sequence old.offset b (map (λ s. s.item) steps) [])
+      → Steps rules.limits rules.allows rules.aad 1 steps → (more : List ℕ) → rest_of new.left ≡ more → Left old new steps more
+  left_after old new steps t s more e =
+      let g = t.grown in
+      let l : length (t.bytes ++ more) ≡ length t.bytes + length more = length-append t.bytes more in
+      record {
+        input = t.bytes ++ more;
+        is = subst (λ (m : List ℕ). IfKnown old.left (λ a. a ≡ t.bytes ++ m)) e (consumed old.left new.left t.bytes t.taken);
+        behind = subst (λ (m : List ℕ). IfKnown new.left (λ a. a ≡ m)) e (rest_known new.left);
+        course = record { sequence = sequence_more old.offset t.bytes more (map (λ s. s.item) steps) t.has; steps = s };
+        stop = omega arith;
+      }
+
+  -- a message that was asked about, with the entry that its answers have
+  judged_step : ℕ → ℕ → List ℕ → Tree → MessageFields → Step
+  judged_step n o x v m = step_at o x v (judged m) (entry_at n o (judged_by (first_no rules.allows (questions m rules.aad))))
+
+  -- Ok: no byte is left
+  pub answer_whole : {E : Type 0} (ends : E → Bool) (old new newer : Sight T S) (counts : Counts) → Reached rules old new counts.passed counts.refused
+      → newer.told ≡ new.told → newer.state ≡ new.state → newer.written ≡ new.written → IsNext new.left newer.left new.offset newer.offset None → Answers ends rules old newer (Ok counts)
+  answer_whole ends old new newer counts r told state writes (none, stays) =
+      let w = left_after old new r.done r.taken r.steps [] (rest_none new.left none) in
+      record {
+        input = w.input;
+        is = w.is;
+        outcome = record {
+          steps = r.done;
+          course = w.course;
+          made = still old new newer r.done told state writes r.made;
+          passed = r.passed_is;
+          refused = r.refused_is;
+          grown = (let s = w.stop in let z : new.offset + 0 ≡ old.offset + length w.input = s in omega arith);
+        };
+      }
+
+  -- Memory, where all steps so far are made
+  memory_between : {E : Type 0} (ends : E → Bool) (old new newer : Sight T S) (passed refused : ℕ) → Reached rules old new passed refused
+      → newer.told ≡ new.told → newer.state ≡ new.state → newer.written ≡ new.written → Answers ends rules old newer (Err Memory)
+  memory_between ends old new newer passed refused r told state writes =
+      let w = left_after old new r.done r.taken r.steps (rest_of new.left) refl in
+      let m = still old new newer r.done told state writes r.made in
+      record {
+        input = w.input;
+        is = w.is;
+        outcome = record {
+          done = r.done;
+          last = [];
+          one = omega arith;
+          more = rest_of new.left;
+          course = subst (λ (ss : List Step). Course rules.limits rules.allows rules.aad old.offset w.input ss (rest_of new.left)) (sym (append-nil r.done)) w.course;
+          asked = [];
+          asked_front = front_then [] (questions_of rules.allows rules.aad []) (questions_of rules.allows rules.aad []) refl;
+          told = m.told ∙ ap (folded_over rules.decided old.told) (sym (append-nil (questions_of rules.allows rules.aad r.done)));
+          state = m.state;
+          texts = r.done;
+          texts_are = inl refl;
+          written = m.written;
+        };
+      }
+
+  -- the fault of the bytes, or Memory of the reader
+  pub answer_read : {E : Type 0} (ends : E → Bool) (old new newer : Sight T S) (passed refused : ℕ) → Reached rules old new passed refused
+      → newer.told ≡ new.told → newer.state ≡ new.state → newer.written ≡ new.written → (f : GateFault E) → IsReadFault ends new.left new.offset f → Answers ends rules old newer (Err f)
+  answer_read ends old new newer passed refused r told state writes (Decode e) d =
+      let w = left_after old new r.done r.taken r.steps (rest_of new.left) refl in
+      record {
+        input = w.input;
+        is = w.is;
+        outcome = record {
+          steps = r.done;
+          more = rest_of new.left;
+          course = w.course;
+          made = still old new newer r.done told state writes r.made;
+          no_memory = d.0;
+          fault = fault_from ends old.left new.left r.taken.bytes old.offset new.offset e r.taken.taken r.taken.grown d.1;
+        };
+      }
+  answer_read ends old new newer passed refused r told state writes Write d = absurd d
+  answer_read ends old new newer passed refused r told state writes Memory d = memory_between ends old new newer passed refused r told state writes
+
+  -- Memory, where the judge was told a beginning of the questions about one more message
+  memory_asking : {E : Type 0} (ends : E → Bool) (old new newer : Sight T S) (passed refused : ℕ) → Reached rules old new passed refused
+      → (v : Tree) (t : Moves new.left newer.left new.offset newer.offset (λ (b : List ℕ). Reads b 256 v)) → Half rules.limits rules.decided rules.allows rules.aad t.bytes v new.told newer.told
+      → newer.state ≡ new.state → newer.written ≡ new.written → Answers ends rules old newer (Err Memory)
+  unfolding judged_step step_at
+  memory_asking ends old new newer passed refused r v t h state writes =
+      let s = judged_step (passed + refused + 1) new.offset t.bytes v h.message in
+      let f = further rules old new newer passed refused r v t (judged h.message) (judged_by (first_no rules.allows (questions h.message rules.aad))) h.is refl in
+      let w = left_after old newer (r.done ++ s ∷ []) f.taken f.steps (rest_of newer.left) refl in
+      record {
+        input = w.input;
+        is = w.is;
+        outcome = record {
+          done = r.done;
+          last = s ∷ [];
+          one = omega arith;
+          more = rest_of newer.left;
+          course = w.course;
+          asked = h.asked;
+          asked_front = subst (λ (qs : List Question). IsFront h.asked qs) (sym (questions_then rules [] s)) h.asked_front;
+          told = h.tells ∙ ap (λ z. folded_over rules.decided z h.asked) r.made.told ∙ sym (folded_append rules.decided old.told (questions_of rules.allows rules.aad r.done) h.asked);
+          state = state ∙ r.made.state;
+          texts = r.done;
+          texts_are = inl refl;
+          written = subst (λ (z : Option (List ℕ)). Appends old.written z (output_of rules.allows rules.aad r.done)) (sym writes) r.made.written;
+        };
+      }
+
+  -- Write, in the text of one more message
+  write_within : {E : Type 0} (ends : E → Bool) (old new newer : Sight T S) (passed refused : ℕ) → Reached rules old new passed refused
+      → (v : Tree) (t : Moves new.left newer.left new.offset newer.offset (λ (b : List ℕ). Reads b 256 v)) → HalfWritten rules.limits rules.decided rules.allows rules.aad t.bytes v new.told newer.told new.written newer.written
+      → newer.state ≡ new.state → Answers ends rules old newer (Err Write)
+  unfolding judged_step step_at
+  write_within ends old new newer passed refused r v t h state =
+      let s = judged_step (passed + refused + 1) new.offset t.bytes v h.message in
+      let f = further rules old new newer passed refused r v t (judged h.message) (judged_by (first_no rules.allows (questions h.message rules.aad))) h.is refl in
+      let w = left_after old newer (r.done ++ s ∷ []) f.taken f.steps (rest_of newer.left) refl in
+      record {
+        input = w.input;
+        is = w.is;
+        outcome = record {
+          done = r.done;
+          last = s;
+          more = rest_of newer.left;
+          course = w.course;
+          told = told_then rules old.told new.told newer.told r.done s r.made.told h.tells;
+          state = state ∙ r.made.state;
+          front = h.front;
+          front_is = h.front_is;
+          written = Appends-trans old.written new.written newer.written (output_of rules.allows rules.aad r.done) h.front r.made.written h.writes;
+          stands = w.stop;
+          behind = w.behind;
+        };
+      }
+
+  -- the item failed
+  pub answer_item : {E : Type 0} (ends : E → Bool) (old new newer : Sight T S) (passed refused : ℕ) → Reached rules old new passed refused
+      → (v : Tree) (t : Moves new.left newer.left new.offset newer.offset (λ (b : List ℕ). Reads b 256 v)) → (f : ItemFault)
+      → ItemFails rules.limits rules.decided rules.allows rules.aad t.bytes v new.told newer.told new.written newer.written f → newer.state ≡ new.state → Answers ends rules old newer (Err (stopped_by f))
+  answer_item ends old new newer passed refused r v t fault.Write h state = write_within ends old new newer passed refused r v t h state
+  answer_item ends old new newer passed refused r v t fault.Memory (writes, inl told) state = memory_between ends old new newer passed refused r told state writes
+  answer_item ends old new newer passed refused r v t fault.Memory (writes, inr half) state = memory_asking ends old new newer passed refused r v t half state writes
+
+  -- Memory, where the item went through and the report refused its entry
+  pub answer_noting : {E : Type 0} (ends : E → Bool) (old new newer : Sight T S) (passed refused : ℕ) → Reached rules old new passed refused
+      → (v : Tree) (t : Moves new.left newer.left new.offset newer.offset (λ (b : List ℕ). Reads b 256 v)) → (verdict : Verdict)
+      → WentThrough rules.limits rules.decided rules.allows rules.aad t.bytes v new.told newer.told new.written newer.written verdict → newer.state ≡ new.state → Answers ends rules old newer (Err Memory)
+  unfolding step_at
+  answer_noting ends old new newer passed refused r v t verdict k state =
+      let s = step_at new.offset t.bytes v k.finding (entry_at (passed + refused + 1) new.offset verdict) in
+      let f = further rules old new newer passed refused r v t k.finding verdict k.finds k.verdict in
+      let w = left_after old newer (r.done ++ s ∷ []) f.taken f.steps (rest_of newer.left) refl in
+      record {
+        input = w.input;
+        is = w.is;
+        outcome = record {
+          done = r.done;
+          last = s ∷ [];
+          one = omega arith;
+          more = rest_of newer.left;
+          course = w.course;
+          asked = questions_of rules.allows rules.aad (s ∷ []);
+          asked_front = whole_front (questions_of rules.allows rules.aad (s ∷ []));
+          told = told_then rules old.told new.told newer.told r.done s r.made.told k.tells
+              ∙ ap (folded_over rules.decided old.told) (flat_map-append (λ s. asked_of rules.allows rules.aad s.finding) r.done (s ∷ []));
+          state = state ∙ r.made.state;
+          texts = r.done ++ s ∷ [];
+          texts_are = inr (refl, refl);
+          written = written_then old new newer r.done s r.made.written k.writes;
+        };
+      }
+
+-- where nothing is left, the fault is an end at once, a failure of the device, or an offset that grows too large
+pub nothing_fails : {E : Type 0} (ends : E → Bool) (p p' : ℕ) (f : Error E) → FailsAt ends [] p p' (λ stop b f. Damage stop b 256 f) f → IsNoMemory f
+    → p + 4096 < 2 ^ 64 → ((at_end ends f ≡ true) × (p' ≡ p)) ⊎ ((x : E) × (f ≡ de.Io x) × (ends x ≡ false))
+nothing_fails {E = E} ends p p' (de.Io x) d m small = either (ends x) refl
+  where
+    either : (b : Bool) → ends x ≡ b → ((ends x ≡ true) × (p' ≡ p)) ⊎ ((y : E) × (de.Io x ≡ de.Io y) × (ends y ≡ false))
+    either true t = inl (t, (d t).1)
+    either false t = inr (x, refl, t)
+nothing_fails ends p p' (de.Syntax q) d m small = (let z : syntax q ≡ end = empty_damage (p + 0) 256 (syntax q) d in cc)
+nothing_fails ends p p' (de.Semantic o k) d m small = (let z : semantic k ≡ end = empty_damage (p + 0) 256 (semantic k) d.1 in cc)
+nothing_fails ends p p' de.RecursionLimitExceeded d m small = (let z : deep ≡ end = empty_damage (p + 0) 256 deep d in cc)
+nothing_fails ends p p' de.Memory d m small = absurd m
+nothing_fails ends p p' de.TooLong d m small = absurd (let l : 2 ^ 64 ≤ p + 0 + 4096 = d in omega arith)
+
+-- an entry with this number and offset
+pub same_entry : (n m o p : ℕ) (v : Verdict) → n ≡ m → o ≡ p → (let e : Entry = record { number = n; offset = o; verdict = v } in e) ≡ entry_at m p v
+unfolding entry_at
+same_entry n m o p v a b = rw (a, b) refl
+
+-- where no byte is left at the call, none was taken
+pub nothing_taken : {T S : Type 0} (rules : Rules T S) (old new : Sight T S) (n : ℕ) {m : ℕ} → Reached rules old new n m → old.left ≡ Some [] → (new.left ≡ Some []) × (new.offset ≡ old.offset)
+nothing_taken rules old new n r e = go new.left r.taken.bytes (subst (λ (l : Option (List ℕ)). Consumes l new.left r.taken.bytes) e r.taken.taken) r.taken.grown
+  where
+    go : (l : Option (List ℕ)) (b : List ℕ) → Consumes (Some []) l b → new.offset ≡ old.offset + length b → (l ≡ Some []) × (new.offset ≡ old.offset)
+    go None b c g = absurd c
+    go (Some xs) b c g =
+        let s : 0 ≡ length b + length xs = ap length c ∙ length-append b xs in
+        (ap Some (empty xs (omega arith)), omega arith)
+      where
+        empty : (xs : List ℕ) → length xs ≡ 0 → xs ≡ []
+        empty [] e = refl
+        empty (x ∷ xs) e = absurd (omega arith)
+
+-- no item is read of nothing
+pub nothing_read : (l₁ l₂ : Option (List ℕ)) (p₁ p₂ : ℕ) (v : Tree) → l₁ ≡ Some [] → Moves l₁ l₂ p₁ p₂ (λ (b : List ℕ). Reads b 256 v) → ⊥
+nothing_read l₁ l₂ p₁ p₂ v e t = go l₂ (subst (λ (l : Option (List ℕ)). Consumes l l₂ t.bytes) e t.taken)
+  where
+    go : (l : Option (List ℕ)) → Consumes (Some []) l t.bytes → ⊥
+    go None c = c
+    go (Some xs) c =
+        let s : 0 ≡ length t.bytes + length xs = ap length c ∙ length-append t.bytes xs in
+        let some = reads_some t.bytes v t.has in
+        omega arith
+
+-- neither an end at once nor a failure of the device is left
+pub nothing_answer : {E : Type 0} {X : Type 0} (ends : E → Bool) (p p' : ℕ) (f : Error E) (failed failed' : ℕ) → ((at_end ends f ≡ true) × (p' ≡ p)) ⊎ ((x : E) × (f ≡ de.Io x) × (ends x ≡ false))
+    → (at_end ends f ≡ true → p' ≡ p → ⊥) → failed' ≡ fault_failures ends f failed → failed' ≡ failed → X
+nothing_answer ends p p' f failed failed' (inl w) not told same = absurd (not w.0 w.1)
+nothing_answer ends p p' f failed failed' (inr (x, is, e)) not told same =
+    let more : fault_failures ends f failed ≡ cond (ends x) failed (failed + 1) = ap (λ g. fault_failures ends g failed) is in
+    let one : cond (ends x) failed (failed + 1) ≡ failed + 1 = ap (λ b. cond b failed (failed + 1)) e in
+    absurd (omega arith)

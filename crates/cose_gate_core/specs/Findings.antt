@@ -1,0 +1,91 @@
+-- What is found of an item before a judge is asked: a message that is judged, or why it is none (RFC 9052, section 2, has the tags).
+use Rattle.std.specs.Prelude.{◌≡◌, ◌≢◌, ℕ, ◌⊎◌, List, [], Option, Some, None}
+use Rattle.ciborium_value.specs.Tree.{Tree, tag}
+use Rattle.coset_base.specs.Faults.{CoseFault}
+use Rattle.coset_signed.specs.Shapes.{HasSign1, HasSign}
+use Rattle.coset_signed.specs.Wrong.{WrongSign1, WrongSign}
+use Rattle.coset_maced.specs.Shapes.{HasMac0, HasMac}
+use Rattle.coset_maced.specs.Wrong.{WrongMac0, WrongMac}
+use Rattle.cose_gate_core.specs.Questions.{MessageFields, sign1, mac0, sign, mac, tag_of, payload_of}
+use Rattle.cose_gate_core.specs.declared.report.Refusal.{Refusal}
+
+-- why an item is not judged
+pub data Reason : Type 0 where
+  not_tagged encrypted shape detached no_signature : Reason
+  other_tag : ℕ → Reason
+
+-- a message about which the judge is asked, an item that is none, or a message that is refused by a further rule before the judge is asked
+pub data Finding : Type 0 where
+  judged : MessageFields → Finding
+  barred : Reason → Finding
+  excluded : MessageFields → Refusal → Finding
+
+-- the tags of messages that are judged
+abbrev pub IsMessageTag : ℕ → Type 0
+IsMessageTag n = (n ≡ 17) ⊎ (n ≡ 18) ⊎ (n ≡ 97) ⊎ (n ≡ 98)
+
+-- the tags of encrypted messages
+abbrev pub IsEncryptedTag : ℕ → Type 0
+IsEncryptedTag n = (n ≡ 16) ⊎ (n ≡ 96)
+
+-- how deep a protected header may nest, how many may lie inside one another, and which messages are refused that would else be judged,
+-- by the bytes of their item and their fields
+pub record Limits : Type 0 where
+  pub nesting : ℕ
+  pub layers : ℕ
+  pub excludes : List ℕ → MessageFields → Option Refusal
+
+abbrev pub usual : Limits
+usual = record { nesting = 256; layers = 16; excludes = λ bytes m. None }
+
+-- which fields a value has as a message of their kind
+abbrev pub HasMessage : Limits → Tree → MessageFields → Type 0
+HasMessage limits u (sign1 m) = HasSign1 limits.nesting u m limits.layers
+HasMessage limits u (mac0 m) = HasMac0 limits.nesting u m limits.layers
+HasMessage limits u (sign m) = HasSign limits.nesting u m limits.layers
+HasMessage limits u (mac m) = HasMac limits.nesting u m limits.layers
+
+-- which fault a value has as the message that the tag n is of
+abbrev pub WrongMessage : Limits → ℕ → Tree → CoseFault → Type 0
+WrongMessage limits n u f =
+    ((n ≡ 18) × WrongSign1 limits.nesting u limits.layers f)
+    ⊎ ((n ≡ 17) × WrongMac0 limits.nesting u limits.layers f)
+    ⊎ ((n ≡ 97) × WrongMac limits.nesting u limits.layers f)
+    ⊎ ((n ≡ 98) × WrongSign limits.nesting u limits.layers f)
+
+-- a tagged message
+abbrev pub IsMessage : Limits → Tree → MessageFields → Type 0
+IsMessage limits t m = (u : Tree) × (t ≡ tag (tag_of m) u) × HasMessage limits u m
+
+-- a message that carries its payload
+abbrev pub IsCarried : MessageFields → Type 0
+IsCarried m = (p : List ℕ) × (payload_of m ≡ Some p)
+
+-- a COSE_Sign without a signature; the other messages have one signature or tag always
+abbrev pub IsUnsigned : MessageFields → Type 0
+IsUnsigned (sign1 m) = ⊥
+IsUnsigned (mac0 m) = ⊥
+IsUnsigned (sign m) = m.signatures ≡ []
+IsUnsigned (mac m) = ⊥
+
+-- a tagged message that carries its payload, and has a signature or tag
+abbrev pub IsJudged : Limits → Tree → MessageFields → Type 0
+IsJudged limits t m = IsMessage limits t m × IsCarried m × (IsUnsigned m → ⊥)
+
+-- a value under the tag of a message that has this fault as one
+abbrev pub IsMisshapen : Limits → Tree → CoseFault → Type 0
+IsMisshapen limits t f = (n : ℕ) × (u : Tree) × (t ≡ tag n u) × WrongMessage limits n u f
+
+abbrev pub IsBarred : Limits → Tree → Reason → Type 0
+IsBarred limits t not_tagged = (n : ℕ) (u : Tree) → t ≢ tag n u
+IsBarred limits t encrypted = (n : ℕ) × (u : Tree) × (t ≡ tag n u) × IsEncryptedTag n
+IsBarred limits t (other_tag n) = (u : Tree) × (t ≡ tag n u) × (IsEncryptedTag n → ⊥) × (IsMessageTag n → ⊥)
+IsBarred limits t shape = (f : CoseFault) × IsMisshapen limits t f
+IsBarred limits t detached = (m : MessageFields) × IsMessage limits t m × (payload_of m ≡ None)
+IsBarred limits t no_signature = (m : MessageFields) × IsMessage limits t m × IsCarried m × IsUnsigned m
+
+-- what is found of an item of these bytes and the value t
+abbrev pub Finds : Limits → List ℕ → Tree → Finding → Type 0
+Finds limits b t (judged m) = IsJudged limits t m × (limits.excludes b m ≡ None)
+Finds limits b t (barred r) = IsBarred limits t r
+Finds limits b t (excluded m r) = IsJudged limits t m × (limits.excludes b m ≡ Some r)

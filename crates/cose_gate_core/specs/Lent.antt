@@ -1,0 +1,23 @@
+-- What is lent to a judge, by its values.
+use Rattle.std.specs.Prelude.{Option, Some, None}
+use denote.Bor.{Bor}
+use Rattle.coset_base.specs.Fields.{HeaderFields, ProtectedFields}
+use Rattle.coset_base.specs.View.{header_view, protected_view}
+use Rattle.coset_headers.specs.declared.header.Header.{Header}
+use Rattle.coset_headers.specs.declared.header.ProtectedHeader.{ProtectedHeader}
+use Rattle.coset_recipients.specs.View.{recipients_view}
+use Rattle.cose_gate_core.specs.declared.about.About.{About}
+use Rattle.cose_gate_core.specs.Questions.{Subject}
+
+abbrev pub signer_of : Option (Bor ProtectedHeader × Bor Header) → Option (ProtectedFields × HeaderFields)
+signer_of None = None
+signer_of (Some s) = Some (protected_view s.0.now, header_view s.1.now)
+
+abbrev pub subject_of : About → Subject
+subject_of a = record {
+  kind = a.kind;
+  protected = protected_view a.protected.now;
+  unprotected = header_view a.unprotected.now;
+  signer = signer_of a.signer;
+  recipients = recipients_view a.recipients.now;
+}

@@ -1,0 +1,141 @@
+-- What the contract of `gate` says of each answer.
+use Rattle.std.specs.Prelude.{◌≡◌, ◌≢◌, ℕ, ◌+◌, ◌^◌, ◌≤◌, ◌⊎◌, List, [], ◌∷◌, ◌++◌, length, Option, Some, None, Bool, IsTrue, Result, Ok, Err, if◌then◌else◌}
+use Rattle.std.specs.Io.KnownBytes.{Appends}
+use Rattle.ciborium_ll.specs.Reading.{Moves}
+use Rattle.ciborium_value.specs.declared.value.Value.{Value}
+use Rattle.ciborium_value.specs.View.{view}
+use Rattle.ciborium.specs.Damage.{end, deep, syntax, semantic, Damage}
+use Rattle.ciborium.specs.Front.{Reads}
+use Rattle.ciborium.specs.Reading.{IfKnown, IsNoMemory}
+use Rattle.ciborium.specs.declared.de.Error.{Error}
+use Rattle.ciborium.specs.declared.de.Error.TheVariants as de
+use Rattle.ciborium.specs.Items.{nesting}
+use Rattle.cose_gate_core.specs.Questions.{Question}
+use Rattle.cose_gate_core.specs.Asked.{folded_over, IsFront}
+use Rattle.cose_gate_core.specs.Findings.{Limits}
+use Rattle.cose_gate_core.specs.Run.{Step, Course, questions_of, output_of, written_of, entries_of, passed_count, refused_count}
+use Rattle.cose_gate_core.specs.declared.report.Entry.{Entry}
+use Rattle.cose_gate_core.specs.declared.gating.Counts.{Counts}
+use Rattle.cose_gate_core.specs.declared.gating.GateFault.{GateFault}
+use Rattle.cose_gate_core.specs.declared.gating.GateFault.TheVariants.{Decode, Write, Memory}
+
+-- the limits, how a judge's and a report's states go on, what the judge allows, and the external data
+pub record Rules (T S : Type 0) : Type 0 where
+  pub limits : Limits
+  pub decided : T → Question → T
+  pub folded : S → Entry → S
+  pub allows : Question → Bool
+  pub aad : List ℕ
+
+-- what the judge was told, what the report was told, what was written, the offset, and the bytes to come
+pub record Sight (T S : Type 0) : Type 0 where
+  pub told : T
+  pub state : S
+  pub written : Option (List ℕ)
+  pub offset : ℕ
+  pub left : Option (List ℕ)
+
+-- all of these steps were made: their questions asked, their entries noted, their output written
+pub record Made {T S : Type 0} (rules : Rules T S) (old new : Sight T S) (ss : List Step) : Type 0 where
+  pub told : new.told ≡ folded_over rules.decided old.told (questions_of rules.allows rules.aad ss)
+  pub state : new.state ≡ folded_over rules.folded old.state (entries_of ss)
+  pub written : Appends old.written new.written (output_of rules.allows rules.aad ss)
+
+-- the fault of the bytes `more`, where no readable item begins; `stop` is the place behind them. A failure of the device says nothing
+-- of the bytes, and want of memory is no such fault.
+abbrev pub IsFaultOf : {E : Type 0} → (E → Bool) → ℕ → List ℕ → Error E → Type 0
+IsFaultOf ends stop more (de.Io e) = IsTrue (ends e) → Damage stop more nesting end × (more ≢ [])
+IsFaultOf ends stop more (de.Syntax p) = Damage stop more nesting (syntax p)
+IsFaultOf ends stop more (de.Semantic o k) = (o ≡ None) × Damage stop more nesting (semantic k)
+IsFaultOf ends stop more de.RecursionLimitExceeded = Damage stop more nesting deep
+IsFaultOf ends stop more de.Memory = ⊥
+IsFaultOf ends stop more de.TooLong = 2 ^ 64 ≤ stop + 4096
+
+-- what reading the next item gives: it was taken, or no byte was left
+abbrev pub IsNext : Option (List ℕ) → Option (List ℕ) → ℕ → ℕ → Option Value → Type 0
+IsNext left left' at at' None = IfKnown left (λ b. b ≡ []) × (at' ≡ at)
+IsNext left left' at at' (Some v) = Moves left left' at at' (λ b. Reads b nesting (view v))
+
+-- what reading the next item ends with: a fault of the bytes that were to come, where they are known, or want of memory
+abbrev pub IsReadFault : {E : Type 0} → (E → Bool) → Option (List ℕ) → ℕ → GateFault E → Type 0
+IsReadFault ends left at (Decode e) = IsNoMemory e × IfKnown left (λ b. IsFaultOf ends (at + length b) b e)
+IsReadFault ends left at Write = ⊥
+IsReadFault ends left at Memory = Unit {0}
+
+-- Ok: the steps go through the whole input, all of them were made, and the offset has grown by all bytes
+pub record Whole {T S : Type 0} (rules : Rules T S) (old new : Sight T S) (input : List ℕ) (counts : Counts) : Type 0 where
+  pub steps : List Step
+  pub course : Course rules.limits rules.allows rules.aad old.offset input steps []
+  pub made : Made rules old new steps
+  pub passed : counts.passed ≡ passed_count rules.allows rules.aad steps
+  pub refused : counts.refused ≡ refused_count rules.allows rules.aad steps
+  pub grown : new.offset ≡ old.offset + length input
+
+-- Decode: the steps go up to where the fault stands, and all of them were made
+pub record IfDecodeFailed {T S E : Type 0} (ends : E → Bool) (rules : Rules T S) (old new : Sight T S) (input : List ℕ) (e : Error E) : Type 0 where
+  pub steps : List Step
+  pub more : List ℕ
+  pub course : Course rules.limits rules.allows rules.aad old.offset input steps more
+  pub made : Made rules old new steps
+  pub no_memory : IsNoMemory e
+  pub fault : IfKnown old.left (λ b. IsFaultOf ends (old.offset + length b) more e)
+
+-- Write: `done` were made; all was asked about the message of the next step, and a beginning of its text was written. The offset is
+-- the one behind its item, and `more` is to come.
+pub record IfWriteFailed {T S : Type 0} (rules : Rules T S) (old new : Sight T S) (input : List ℕ) : Type 0 where
+  pub done : List Step
+  pub last : Step
+  pub more : List ℕ
+  pub course : Course rules.limits rules.allows rules.aad old.offset input (done ++ last ∷ []) more
+  pub told : new.told ≡ folded_over rules.decided old.told (questions_of rules.allows rules.aad (done ++ last ∷ []))
+  pub state : new.state ≡ folded_over rules.folded old.state (entries_of done)
+  pub front : List ℕ
+  pub front_is : IsFront front (written_of rules.allows rules.aad last.finding)
+  pub written : Appends old.written new.written (output_of rules.allows rules.aad done ++ front)
+  pub stands : new.offset + length more ≡ old.offset + length input
+  pub behind : IfKnown new.left (λ b. b ≡ more)
+
+-- Memory: `done` were made; of the questions of the next step a beginning was asked, and its text was written whole or not at all
+pub record IfMemoryRefused {T S : Type 0} (rules : Rules T S) (old new : Sight T S) (input : List ℕ) : Type 0 where
+  pub done : List Step
+  pub last : List Step
+  pub one : length last ≤ 1
+  pub more : List ℕ
+  pub course : Course rules.limits rules.allows rules.aad old.offset input (done ++ last) more
+  pub asked : List Question
+  pub asked_front : IsFront asked (questions_of rules.allows rules.aad last)
+  pub told : new.told ≡ folded_over rules.decided old.told (questions_of rules.allows rules.aad done ++ asked)
+  pub state : new.state ≡ folded_over rules.folded old.state (entries_of done)
+  pub texts : List Step
+  pub texts_are : (texts ≡ done) ⊎ ((texts ≡ done ++ last) × (asked ≡ questions_of rules.allows rules.aad last))
+  pub written : Appends old.written new.written (output_of rules.allows rules.aad texts)
+
+abbrev pub Outcome : {T S E : Type 0} → (E → Bool) → Rules T S → Sight T S → Sight T S → List ℕ → Result Counts (GateFault E) → Type 0
+Outcome ends rules old new input (Ok counts) = Whole rules old new input counts
+Outcome ends rules old new input (Err (Decode e)) = IfDecodeFailed ends rules old new input e
+Outcome ends rules old new input (Err Write) = IfWriteFailed rules old new input
+Outcome ends rules old new input (Err Memory) = IfMemoryRefused rules old new input
+
+-- some bytes were there, those to come where these are known, and the answer has its outcome over them
+pub record Answers {T S E : Type 0} (ends : E → Bool) (rules : Rules T S) (old new : Sight T S) (r : Result Counts (GateFault E)) : Type 0 where
+  pub input : List ℕ
+  pub is : IfKnown old.left (λ b. b ≡ input)
+  pub outcome : Outcome ends rules old new input r
+
+-- how often the reader and the writer have failed in the call
+abbrev pub reader_failures : {X E : Type 0} → (E → Bool) → Result X (GateFault E) → ℕ
+reader_failures ends (Ok x) = 0
+reader_failures ends (Err (Decode (de.Io e))) = if ends e then 0 else 1
+reader_failures ends (Err (Decode (de.Syntax p))) = 0
+reader_failures ends (Err (Decode (de.Semantic o k))) = 0
+reader_failures ends (Err (Decode de.RecursionLimitExceeded)) = 0
+reader_failures ends (Err (Decode de.Memory)) = 0
+reader_failures ends (Err (Decode de.TooLong)) = 0
+reader_failures ends (Err Write) = 0
+reader_failures ends (Err Memory) = 0
+
+abbrev pub writer_failures : {E : Type 0} → Result Counts (GateFault E) → ℕ
+writer_failures (Ok counts) = 0
+writer_failures (Err (Decode e)) = 0
+writer_failures (Err Write) = 1
+writer_failures (Err Memory) = 0

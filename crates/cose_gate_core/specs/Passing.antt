@@ -1,0 +1,99 @@
+-- What one item's way through the gate shows.
+use Rattle.std.specs.Prelude.{◌≡◌, ℕ, ◌⊎◌, List, Option, Bool, false, Result, Ok, Err}
+use Rattle.std.specs.Io.KnownBytes.{Appends}
+use Rattle.ciborium_ll.specs.Device.{AppendsFront}
+use Rattle.ciborium_value.specs.Tree.{Tree}
+use Rattle.coset_base.specs.Faults.{fault_of}
+use Rattle.ciborium.specs.declared.de.Error.{Error}
+use Rattle.ciborium.specs.declared.de.Error.TheVariants as de
+use Rattle.cose_gate_core.specs.Questions.{Question, MessageFields}
+use Rattle.cose_gate_core.specs.View.{message_view}
+use Rattle.cose_gate_core.specs.Asked.{folded_over, IsFront}
+use Rattle.cose_gate_core.specs.Findings.{not_tagged, encrypted, other_tag, detached, no_signature, Finding, judged, Limits, IsJudged, IsBarred, IsMisshapen, Finds}
+use Rattle.cose_gate_core.specs.Run.{IsVerdict, asked_of, written_of}
+use Rattle.cose_gate_core.specs.declared.report.Refusal.{Refusal}
+use Rattle.cose_gate_core.specs.declared.report.Refusal.TheVariants as refusal
+use Rattle.cose_gate_core.specs.declared.report.Verdict.{Verdict}
+use Rattle.cose_gate_core.specs.declared.passing.Found.{Found}
+use Rattle.cose_gate_core.specs.declared.passing.Found.TheVariants as found
+use Rattle.cose_gate_core.specs.declared.passing.ItemFault.{ItemFault}
+use Rattle.cose_gate_core.specs.declared.passing.ItemFault.TheVariants as fault
+use Rattle.cose_gate_core.specs.declared.gating.GateFault.{GateFault}
+use Rattle.cose_gate_core.specs.declared.gating.GateFault.TheVariants as gating
+
+-- a refusal that is made before the judge is asked
+abbrev pub IsRefused : Limits → Tree → Refusal → Type 0
+IsRefused limits t refusal.NotTagged = IsBarred limits t not_tagged
+IsRefused limits t (refusal.OtherTag n) = IsBarred limits t (other_tag n)
+IsRefused limits t refusal.Encrypted = IsBarred limits t encrypted
+IsRefused limits t (refusal.Shape e) = IsMisshapen limits t (fault_of e)
+IsRefused limits t refusal.Detached = IsBarred limits t detached
+IsRefused limits t refusal.NoSignature = IsBarred limits t no_signature
+IsRefused limits t (refusal.Judged n) = ⊥
+
+abbrev pub IsFound : Limits → Tree → Found → Type 0
+IsFound limits t (found.Judged m) = IsJudged limits t (message_view m)
+IsFound limits t (found.Barred r) = IsRefused limits t r
+
+-- the item went through: what was found, told and written
+pub record WentThrough {T : Type 0} (limits : Limits) (decided : T → Question → T) (allows : Question → Bool) (aad : List ℕ) (bytes : List ℕ) (t : Tree) (told told' : T) (written written' : Option (List ℕ)) (v : Verdict) : Type 0 where
+  pub finding : Finding
+  pub finds : Finds limits bytes t finding
+  pub verdict : IsVerdict limits allows aad t finding v
+  pub tells : told' ≡ folded_over decided told (asked_of allows aad finding)
+  pub writes : Appends written written' (written_of allows aad finding)
+
+-- the item is a message, and the judge was told a beginning of the questions about it
+pub record Half {T : Type 0} (limits : Limits) (decided : T → Question → T) (allows : Question → Bool) (aad : List ℕ) (bytes : List ℕ) (t : Tree) (told told' : T) : Type 0 where
+  pub message : MessageFields
+  pub is : Finds limits bytes t (judged message)
+  pub asked : List Question
+  pub asked_front : IsFront asked (asked_of allows aad (judged message))
+  pub tells : told' ≡ folded_over decided told asked
+
+-- the item is a message, the judge was told all questions about it, and a beginning of its text was written
+pub record HalfWritten {T : Type 0} (limits : Limits) (decided : T → Question → T) (allows : Question → Bool) (aad : List ℕ) (bytes : List ℕ) (t : Tree) (told told' : T) (written written' : Option (List ℕ)) : Type 0 where
+  pub message : MessageFields
+  pub is : Finds limits bytes t (judged message)
+  pub tells : told' ≡ folded_over decided told (asked_of allows aad (judged message))
+  pub front : List ℕ
+  pub front_is : IsFront front (written_of allows aad (judged message))
+  pub writes : Appends written written' front
+
+abbrev pub ItemFails : {T : Type 0} → Limits → (T → Question → T) → (Question → Bool) → List ℕ → List ℕ → Tree → T → T → Option (List ℕ) → Option (List ℕ) → ItemFault → Type 0
+ItemFails limits decided allows aad bytes t told told' written written' fault.Write = HalfWritten limits decided allows aad bytes t told told' written written'
+ItemFails limits decided allows aad bytes t told told' written written' fault.Memory = (written' ≡ written) × ((told' ≡ told) ⊎ Half limits decided allows aad bytes t told told')
+
+-- what a fault of writing a text leaves: a beginning of it, and for want of memory nothing
+abbrev pub IsWriteFault : Option (List ℕ) → Option (List ℕ) → List ℕ → ItemFault → Type 0
+IsWriteFault written written' text fault.Write = AppendsFront written written' text
+IsWriteFault written written' text fault.Memory = written' ≡ written
+
+-- how often the writer has failed
+abbrev pub item_failures : {T : Type 0} → Result T ItemFault → ℕ
+item_failures (Ok v) = 0
+item_failures (Err fault.Write) = 1
+item_failures (Err fault.Memory) = 0
+
+-- whether a fault is an end of the bytes
+abbrev pub at_end : {E : Type 0} → (E → Bool) → Error E → Bool
+at_end ends (de.Io e) = ends e
+at_end ends (de.Syntax p) = false
+at_end ends (de.Semantic o k) = false
+at_end ends de.RecursionLimitExceeded = false
+at_end ends de.Memory = false
+at_end ends de.TooLong = false
+
+-- what stops the gate where no item was read
+abbrev pub fault_by : {E : Type 0} → Error E → GateFault E
+fault_by (de.Io e) = gating.Decode (de.Io e)
+fault_by (de.Syntax p) = gating.Decode (de.Syntax p)
+fault_by (de.Semantic o k) = gating.Decode (de.Semantic o k)
+fault_by de.RecursionLimitExceeded = gating.Decode de.RecursionLimitExceeded
+fault_by de.Memory = gating.Memory
+fault_by de.TooLong = gating.Decode de.TooLong
+
+-- what stops the gate in an item
+abbrev pub stopped_by : {E : Type 0} → ItemFault → GateFault E
+stopped_by fault.Write = gating.Write
+stopped_by fault.Memory = gating.Memory

@@ -1,0 +1,233 @@
+//! The gate.
+ghost use Rattle.std.specs.Prelude.{◌≡◌, ◌+◌, ◌<◌, ◌^◌, [], Some, None, Ok, IsOk, IfOk, IfErr, not, if◌then◌else◌, ℕ, List};
+ghost use Rattle.ciborium_ll.specs.Views.{left_of, offset_of, waiting_of, reader_of};
+ghost use Rattle.cose_gate_core.specs.Findings.{usual};
+ghost use Rattle.cose_gate_core.specs.Outcome.{Answers, IsNext, IsReadFault, reader_failures, writer_failures};
+ghost use Rattle.cose_gate_core.specs.Passing.{at_end, fault_by, stopped_by};
+ghost use Rattle.cose_gate_core.specs.Run.{has_passed};
+
+use crate::judge::Judge;
+use crate::passing::{ItemFault, pass};
+use crate::report::{Entry, Report, Verdict};
+use ciborium::{Value, de};
+use ciborium_ll::{Decoder, Read, Write};
+use std::alloc::Global;
+use std::error::Error;
+use std::fmt;
+
+/// How many items passed, and how many were refused.
+#[derive(Debug, Clone, Copy, PartialEq, Eq)]
+pub struct Counts {
+    /// How many passed.
+    pub passed: usize,
+    /// How many were refused.
+    pub refused: usize,
+}
+
+/// What stopped the gate.
+#[derive(Debug, PartialEq, Eq, Drop)]
+pub enum GateFault<E> {
+    /// No readable item begins here, or the reader failed. It never holds `Memory`.
+    Decode(de::Error<E>),
+    /// The writer failed; its own want of memory is such a fault too.
+    Write,
+    /// Memory was refused, to the judge or the report too.
+    Memory,
+}
+
+/// `decode: WORD`, `write` or `memory`.
+impl<E: fmt::Display> fmt::Display for GateFault<E> {
+    fn fmt<W: fmt::Write>(&self, f: &mut fmt::Formatter<W>) -> fmt::Result {
+        match self {
+            GateFault::Decode(error) => fmt_decode_fault(error, f),
+            GateFault::Write => f.write_str("write"),
+            GateFault::Memory => f.write_str("memory"),
+        }
+    }
+}
+
+fn fmt_decode_fault<E: fmt::Display, W: fmt::Write>(
+    error: &de::Error<E>,
+    f: &mut fmt::Formatter<W>,
+) -> fmt::Result {
+    f.write_str("decode: ")?;
+    match error {
+        de::Error::Io(e) => write!(f, "Io({e})"),
+        de::Error::Syntax(offset) => write!(f, "Syntax({offset})"),
+        de::Error::Semantic(_, kind) => write!(f, "Semantic({kind:?})"),
+        de::Error::RecursionLimitExceeded => f.write_str("RecursionLimitExceeded"),
+        de::Error::Memory => f.write_str("Memory"),
+        de::Error::TooLong => f.write_str("TooLong"),
+    }
+}
+
+impl<E: fmt::Debug + fmt::Display + Drop> Error for GateFault<E> {}
+
+/// Whether the fault is an end of the bytes.
+fn is_end<R: Read>(error: &de::Error<R::Error>) -> bool
+    ensures { result ≡ at_end R.ends error.now }
+{
+    match error {
+        de::Error::Io(e) => R::is_end(e),
+        de::Error::Syntax(_) => false,
+        de::Error::Semantic(_, _) => false,
+        de::Error::RecursionLimitExceeded => false,
+        de::Error::Memory => false,
+        de::Error::TooLong => false,
+    }
+}
+
+/// What stops the gate where no item was read.
+fn fault_of<E>(error: de::Error<E>) -> GateFault<E>
+    ensures { result ≡ fault_by error }
+{
+    match error {
+        de::Error::Io(e) => GateFault::Decode(de::Error::Io(e)),
+        de::Error::Syntax(p) => GateFault::Decode(de::Error::Syntax(p)),
+        de::Error::Semantic(o, k) => GateFault::Decode(de::Error::Semantic(o, k)),
+        de::Error::RecursionLimitExceeded => GateFault::Decode(de::Error::RecursionLimitExceeded),
+        de::Error::Memory => GateFault::Memory,
+        de::Error::TooLong => GateFault::Decode(de::Error::TooLong),
+    }
+}
+
+/// What stops the gate in an item.
+fn stop_of<E>(fault: ItemFault) -> GateFault<E>
+    ensures { result ≡ stopped_by fault }
+{
+    match fault {
+        ItemFault::Write => GateFault::Write,
+        ItemFault::Memory => GateFault::Memory,
+    }
+}
+
+/// The next item, or `None` where no byte is left.
+fn next_item<R: Read>(
+    alloc: Global,
+    decoder: &mut Decoder<R>,
+) -> Result<Option<Value>, GateFault<R::Error>>
+    ensures next { IfOk result (IsNext (left_of R.left decoder.old) (left_of R.left decoder.new)
+        (offset_of decoder.old) (offset_of decoder.new)) }
+    ensures err { IfErr result (IsReadFault R.ends (left_of R.left decoder.old) (offset_of decoder.old)) }
+    ensures nothing { left_of R.left decoder.old ≡ Some [] → R.failed (reader_of decoder.new) ≡ R.failed (reader_of decoder.old)
+        → offset_of decoder.old + 4096 < 2 ^ 64 → result ≡ Ok None }
+    ensures failed { R.failed (reader_of decoder.new) ≡ R.failed (reader_of decoder.old) + reader_failures R.ends result }
+    ensures kept { R.handle (reader_of decoder.new) ≡ R.handle (reader_of decoder.old) }
+    ensures fits { offset_of decoder.new < 2 ^ 64 }
+    ensures fresh { waiting_of decoder.new ≡ None }
+{
+    let offset = decoder.offset();
+    match de::from_decoder(alloc, decoder, de::RECURSION_LIMIT) {
+        Ok(value) => Ok(Some(value)),
+        Err(error) => {
+            if is_end::<R>(&error) && decoder.offset() == offset {
+                return Ok(None);
+            }
+            Err(fault_of(error))
+        }
+    }
+}
+
+/// One item more.
+fn counted(counts: Counts, verdict: Verdict) -> Counts
+    requires { counts.passed + counts.refused + 1 < 2 ^ 64 }
+    ensures passed { result.passed ≡ counts.passed + (if has_passed verdict then 1 else 0) }
+    ensures refused { result.refused ≡ counts.refused + (if not (has_passed verdict) then 1 else 0) }
+    ensures one { result.passed + result.refused ≡ counts.passed + counts.refused + 1 }
+{
+    match verdict {
+        Verdict::Passed => Counts {
+            passed: counts.passed + 1,
+            refused: counts.refused,
+        },
+        Verdict::Refused(_) => Counts {
+            passed: counts.passed,
+            refused: counts.refused + 1,
+        },
+    }
+}
+
+/// The entry of the last item that is counted.
+fn entry_of(counts: Counts, offset: usize, verdict: Verdict) -> Entry
+    requires { counts.passed + counts.refused < 2 ^ 64 }
+    ensures { result ≡ record { number = counts.passed + counts.refused; offset = offset; verdict = verdict } }
+{
+    Entry {
+        number: counts.passed + counts.refused,
+        offset,
+        verdict,
+    }
+}
+
+/// Asks the judge about each tagged COSE_Sign1, COSE_Mac0, COSE_Sign and COSE_Mac of a CBOR sequence that carries its payload, over
+/// exactly the bytes that its signature or tag covers, with `aad` as external data, and writes those that passed, each as its one
+/// shortest text. About a COSE_Sign it asks once for each signature, in order up to the first no, with that signature's headers as the
+/// signer's; it has passed where the answer to each is yes, and one without a signature is refused. Every item is noted in the report;
+/// one that is no such message is refused there, and the gate goes on. It doesn't flush.
+///
+/// It ends with `Ok` where nothing is left behind an item: the offset has grown by all bytes then. No header waits after any answer.
+/// What the clause `ran` says holds of the bytes that were there, also over a reader that doesn't tell which are to come; where they are
+/// known, it holds of those.
+///
+/// # Errors
+/// `Decode` where no readable item begins, or the reader failed: all items before it were asked about, noted and written. `Write` where
+/// the writer failed: a beginning of the text of a message was written behind the output before it, and the reader stands behind that
+/// message. `Memory` where memory was refused: whole texts were written, and of the questions about the item at hand a beginning was
+/// asked.
+pub fn gate<R: Read, W: Write, P: Report, J: Judge>(
+    alloc: Global,
+    decoder: &mut Decoder<R>,
+    out: &mut W,
+    report: &mut P,
+    aad: &[u8],
+    judge: &mut J,
+) -> Result<Counts, GateFault<R::Error>>
+    ensures ran { Answers R.ends
+        (record { limits = usual; decided = J.decided; folded = P.folded; allows = J.yes (J.who judge.old); aad = aad.now })
+        (record {
+          told = J.told judge.old;
+          state = P.state report.old;
+          written = W.written out.old;
+          offset = offset_of decoder.old;
+          left = left_of R.left decoder.old;
+        })
+        (record {
+          told = J.told judge.new;
+          state = P.state report.new;
+          written = W.written out.new;
+          offset = offset_of decoder.new;
+          left = left_of R.left decoder.new;
+        })
+        result }
+    ensures nothing { left_of R.left decoder.old ≡ Some [] → R.failed (reader_of decoder.new) ≡ R.failed (reader_of decoder.old)
+        → offset_of decoder.old + 4096 < 2 ^ 64 → IsOk result }
+    ensures reader { R.failed (reader_of decoder.new) ≡ R.failed (reader_of decoder.old) + reader_failures R.ends result }
+    ensures writer { W.failed out.new ≡ W.failed out.old + writer_failures result }
+    ensures who { J.who judge.new ≡ J.who judge.old }
+    ensures kept { R.handle (reader_of decoder.new) ≡ R.handle (reader_of decoder.old) }
+    ensures lent { W.handle out.new ≡ W.handle out.old }
+    ensures fits { offset_of decoder.new < 2 ^ 64 }
+    ensures fresh { waiting_of decoder.new ≡ None }
+{
+    let mut counts = Counts {
+        passed: 0,
+        refused: 0,
+    };
+    'items: loop {
+        let offset = decoder.offset();
+        let value = match next_item(alloc, decoder) {
+            Ok(Some(value)) => value,
+            Ok(None) => return Ok(counts),
+            Err(fault) => return Err(fault),
+        };
+        let verdict = match pass(alloc, value, out, aad, judge) {
+            Ok(verdict) => verdict,
+            Err(fault) => return Err(stop_of(fault)),
+        };
+        counts = counted(counts, verdict);
+        match report.note(&entry_of(counts, offset, verdict)) {
+            Ok(()) => {}
+            Err(_) => return Err(GateFault::Memory),
+        }
+    }
+}

@@ -1,0 +1,29 @@
+//! The gate itself, the judge's trait, and what a judge is asked (RFC 8742, RFC 9052). A user names `cose_gate`, which passes it on.
+#![tactic(auto)]
+
+mod about;
+mod asking;
+mod gating;
+mod judge;
+pub mod laws;
+mod message;
+mod passing;
+mod program;
+mod recorder;
+mod report;
+
+pub use crate::about::{About, Kind};
+pub use crate::gating::{Counts, GateFault, gate};
+pub use crate::judge::Judge;
+pub use crate::program::run_first;
+pub use crate::recorder::{Asked, Recorder};
+pub use crate::report::{Entry, Refusal, Report, Silent, Verdict};
+pub use ciborium::de;
+pub use ciborium_ll::log::Log;
+pub use ciborium_ll::{Decoder, End, Full, Io, IoFault, Mem, Read, Write};
+pub use ciborium_value::Kind as SemanticKind;
+pub use coset_base::{
+    Algorithm, ContentType, CoseError, CoseSignature, Header, Label, ProtectedHeader,
+    RegisteredLabel, RegisteredLabelWithPrivate, iana,
+};
+pub use coset_recipients::CoseRecipient;

@@ -1,0 +1,292 @@
+//! One item on its way through the gate.
+ghost use Rattle.std.specs.Prelude.{◌≡◌, ◌≢◌, ℕ, ◌+◌, List, pos, Some, None, MatchBool, IfOk, IfErr, OnOk};
+ghost use Rattle.std.specs.Io.KnownBytes.{Appends};
+ghost use Rattle.ciborium_value.specs.Tree.{tag};
+ghost use Rattle.ciborium_value.specs.View.{view};
+ghost use Rattle.cose_iana.specs.Tags.{cbor_tags};
+ghost use Rattle.cose_gate_core.specs.Findings.{usual};
+ghost use Rattle.cose_gate_core.specs.Questions.{tagged_tree, message_text};
+ghost use Rattle.cose_gate_core.specs.View.{message_view};
+ghost use Rattle.coset_labels.specs.declared.error.CoseError.TheVariants.{Memory};
+ghost use Rattle.cose_gate_core.specs.declared.passing.Found.TheVariants.{Barred};
+ghost use Rattle.cose_gate_core.specs.declared.report.Refusal.TheVariants.{Shape};
+ghost use Rattle.cose_gate_core.specs.Passing.{IsFound, WentThrough, ItemFails, IsWriteFault, item_failures};
+
+use crate::asking::{ask_message, want_of_memory};
+use crate::judge::Judge;
+use crate::message::Message;
+use crate::report::{Refusal, Verdict};
+use ciborium::{Value, into_writer};
+use ciborium_ll::Write;
+use coset_base::iana::{CborTag, EnumI64};
+use coset_base::{AsCborValue, CoseError};
+use coset_maced::{CoseMac, CoseMac0};
+use coset_signed::{CoseSign, CoseSign1};
+use std::alloc::{AllocError, AllocFailed, Global};
+
+/// What is found of an item before a judge is asked.
+#[derive(Drop)]
+pub enum Found {
+    /// A message that is judged.
+    Judged(Message),
+    /// Why it is none.
+    Barred(Refusal),
+}
+
+/// What stopped an item.
+#[derive(Debug, Clone, Copy, PartialEq, Eq)]
+pub enum ItemFault {
+    /// The writer failed.
+    Write,
+    /// Memory was refused.
+    Memory,
+}
+
+impl From<AllocError> for ItemFault {
+    ghost use Rattle.cose_gate_core.specs.declared.passing.ItemFault.TheVariants as fault;
+
+    ghost from_gives = { λ _ e. e ≡ fault.Memory };
+
+    fn from(_: AllocError) -> ItemFault {
+        ItemFault::Memory
+    }
+}
+
+impl<V: Drop> From<AllocFailed<V>> for ItemFault {
+    ghost use Rattle.cose_gate_core.specs.declared.passing.ItemFault.TheVariants as fault;
+
+    ghost from_gives = { λ _ e. e ≡ fault.Memory };
+
+    fn from(_: AllocFailed<V>) -> ItemFault {
+        ItemFault::Memory
+    }
+}
+
+fn is_memory(error: &CoseError) -> bool
+    ensures { MatchBool result (error.now ≡ Memory) (error.now ≢ Memory) }
+{
+    match error {
+        CoseError::Memory => true,
+        CoseError::DecodeFailed(_) => false,
+        CoseError::DuplicateMapKey => false,
+        CoseError::EncodeFailed => false,
+        CoseError::ExtraneousData => false,
+        CoseError::OutOfRangeIntegerValue => false,
+        CoseError::UnexpectedItem(_, _) => false,
+        CoseError::UnregisteredIanaValue => false,
+        CoseError::UnregisteredIanaNonPrivateValue => false,
+        CoseError::TooManyLayers => false,
+    }
+}
+
+/// The refusal of a value that can't be read as a message of its tag.
+fn misshapen(error: CoseError) -> Result<Found, AllocError>
+    ensures ok { IfOk result (λ found. (found ≡ Barred (Shape error)) × (error ≢ Memory)) }
+{
+    if is_memory(&error) {
+        return Err(AllocError);
+    }
+    Ok(Found::Barred(Refusal::Shape(error)))
+}
+
+/// The message under the tag of a Sign1.
+fn find_sign1(alloc: Global, content: Value) -> Result<Found, AllocError>
+    ensures { IfOk result (IsFound usual (tag 18 (view content))) }
+{
+    match CoseSign1::from_cbor_value(alloc, content) {
+        Ok(message) => {
+            if message.payload.is_none() {
+                return Ok(Found::Barred(Refusal::Detached));
+            }
+            Ok(Found::Judged(Message::Sign1(message)))
+        }
+        Err(error) => misshapen(error),
+    }
+}
+
+/// The message under the tag of a Mac0.
+fn find_mac0(alloc: Global, content: Value) -> Result<Found, AllocError>
+    ensures { IfOk result (IsFound usual (tag 17 (view content))) }
+{
+    match CoseMac0::from_cbor_value(alloc, content) {
+        Ok(message) => {
+            if message.payload.is_none() {
+                return Ok(Found::Barred(Refusal::Detached));
+            }
+            Ok(Found::Judged(Message::Mac0(message)))
+        }
+        Err(error) => misshapen(error),
+    }
+}
+
+/// The message under the tag of a Mac.
+fn find_mac(alloc: Global, content: Value) -> Result<Found, AllocError>
+    ensures { IfOk result (IsFound usual (tag 97 (view content))) }
+{
+    match CoseMac::from_cbor_value(alloc, content) {
+        Ok(message) => {
+            if message.payload.is_none() {
+                return Ok(Found::Barred(Refusal::Detached));
+            }
+            Ok(Found::Judged(Message::Mac(message)))
+        }
+        Err(error) => misshapen(error),
+    }
+}
+
+/// The message under the tag of a Sign. One without a payload is detached, whether it has signatures or not.
+fn find_sign(alloc: Global, content: Value) -> Result<Found, AllocError>
+    ensures { IfOk result (IsFound usual (tag 98 (view content))) }
+{
+    match CoseSign::from_cbor_value(alloc, content) {
+        Ok(message) => {
+            if message.payload.is_none() {
+                return Ok(Found::Barred(Refusal::Detached));
+            }
+            if message.signatures.is_empty() {
+                return Ok(Found::Barred(Refusal::NoSignature));
+            }
+            Ok(Found::Judged(Message::Sign(message)))
+        }
+        Err(error) => misshapen(error),
+    }
+}
+
+/// Whether this is the tag's number in the registry (RFC 9052, section 2).
+fn is_tag(number: u64, tag: CborTag) -> bool
+    ensures { MatchBool result (pos number ≡ cbor_tags.number tag) (pos number ≢ cbor_tags.number tag) }
+{
+    i128::from(number) == i128::from(tag.to_i64())
+}
+
+/// What is found under a tag.
+fn find_tagged(alloc: Global, number: u64, content: Value) -> Result<Found, AllocError>
+    ensures { IfOk result (IsFound usual (tag number (view content))) }
+{
+    if is_tag(number, CborTag::CoseEncrypt0) {
+        return Ok(Found::Barred(Refusal::Encrypted));
+    }
+    if is_tag(number, CborTag::CoseEncrypt) {
+        return Ok(Found::Barred(Refusal::Encrypted));
+    }
+    if is_tag(number, CborTag::CoseSign1) {
+        return find_sign1(alloc, content);
+    }
+    if is_tag(number, CborTag::CoseMac0) {
+        return find_mac0(alloc, content);
+    }
+    if is_tag(number, CborTag::CoseMac) {
+        return find_mac(alloc, content);
+    }
+    if is_tag(number, CborTag::CoseSign) {
+        return find_sign(alloc, content);
+    }
+    Ok(Found::Barred(Refusal::OtherTag(number)))
+}
+
+/// The message that an item is, or why it is none that is judged.
+fn find(alloc: Global, value: Value) -> Result<Found, AllocError>
+    ensures { IfOk result (IsFound usual (view value)) }
+{
+    match value {
+        Value::Tag(number, content) => find_tagged(alloc, number, Box::into_inner(content)),
+        Value::Integer(_) => Ok(Found::Barred(Refusal::NotTagged)),
+        Value::Bytes(_) => Ok(Found::Barred(Refusal::NotTagged)),
+        Value::Float(_) => Ok(Found::Barred(Refusal::NotTagged)),
+        Value::Text(_) => Ok(Found::Barred(Refusal::NotTagged)),
+        Value::Bool(_) => Ok(Found::Barred(Refusal::NotTagged)),
+        Value::Null => Ok(Found::Barred(Refusal::NotTagged)),
+        Value::Array(_) => Ok(Found::Barred(Refusal::NotTagged)),
+        Value::Map(_) => Ok(Found::Barred(Refusal::NotTagged)),
+    }
+}
+
+/// The value that a message is written as.
+fn written<M: AsCborValue>(alloc: Global, message: M) -> Result<Value, AllocError>
+    requires { M.written (M.fields message) ≢ None }
+    ensures { IfOk result (λ v. M.written (M.fields message) ≡ Some (view v)) }
+{
+    match message.to_cbor_value(alloc) {
+        Ok(content) => Ok(content),
+        Err(error) => Err(want_of_memory(error)),
+    }
+}
+
+/// A value under a tag.
+fn with_tag(alloc: Global, number: u64, content: Value) -> Result<Value, AllocError>
+    ensures { IfOk result (λ v. view v ≡ tag number (view content)) }
+{
+    let content = Box::new(alloc, content)?;
+    Ok(Value::Tag(number, content))
+}
+
+/// The value that a message is written as, with its tag (RFC 9052, section 2).
+fn tagged(alloc: Global, message: Message) -> Result<Value, AllocError>
+    requires { tagged_tree (message_view message) ≢ None }
+    ensures { IfOk result (λ v. tagged_tree (message_view message) ≡ Some (view v)) }
+{
+    match message {
+        Message::Sign1(message) => {
+            let content = written(alloc, message)?;
+            with_tag(alloc, 18, content)
+        }
+        Message::Mac0(message) => {
+            let content = written(alloc, message)?;
+            with_tag(alloc, 17, content)
+        }
+        Message::Sign(message) => {
+            let content = written(alloc, message)?;
+            with_tag(alloc, 98, content)
+        }
+        Message::Mac(message) => {
+            let content = written(alloc, message)?;
+            with_tag(alloc, 97, content)
+        }
+    }
+}
+
+/// Writes the one shortest text of a message with its tag.
+fn write_message<W: Write>(alloc: Global, message: Message, out: &mut W) -> Result<(), ItemFault>
+    requires { tagged_tree (message_view message) ≢ None }
+    ensures ok { OnOk result (Appends (W.written out.old) (W.written out.new) (message_text (message_view message))) }
+    ensures err { IfErr result (IsWriteFault (W.written out.old) (W.written out.new) (message_text (message_view message))) }
+    ensures kept { W.handle out.new ≡ W.handle out.old }
+    ensures failed { W.failed out.new ≡ W.failed out.old + item_failures result }
+{
+    let text = tagged(alloc, message)?;
+    match into_writer(&text, out) {
+        Ok(()) => Ok(()),
+        Err(_) => Err(ItemFault::Write),
+    }
+}
+
+/// Tests an item, asks the judge about it, and writes it where it has passed.
+pub fn pass<W: Write, J: Judge>(
+    alloc: Global,
+    value: Value,
+    out: &mut W,
+    aad: &[u8],
+    judge: &mut J,
+) -> Result<Verdict, ItemFault>
+    ensures ok { (bytes : List ℕ) → IfOk result (WentThrough usual J.decided (J.yes (J.who judge.old)) aad.now bytes (view value)
+        (J.told judge.old) (J.told judge.new) (W.written out.old) (W.written out.new)) }
+    ensures err { (bytes : List ℕ) → IfErr result (ItemFails usual J.decided (J.yes (J.who judge.old)) aad.now bytes (view value)
+        (J.told judge.old) (J.told judge.new) (W.written out.old) (W.written out.new)) }
+    ensures who { J.who judge.new ≡ J.who judge.old }
+    ensures kept { W.handle out.new ≡ W.handle out.old }
+    ensures failed { W.failed out.new ≡ W.failed out.old + item_failures result }
+{
+    let found = find(alloc, value)?;
+    let message = match found {
+        Found::Judged(message) => message,
+        Found::Barred(refusal) => return Ok(Verdict::Refused(refusal)),
+    };
+    let no = ask_message(alloc, &message, aad, judge)?;
+    match no {
+        Some(index) => Ok(Verdict::Refused(Refusal::Judged(index))),
+        None => match write_message(alloc, message, out) {
+            Ok(()) => Ok(Verdict::Passed),
+            Err(fault) => Err(fault),
+        },
+    }
+}

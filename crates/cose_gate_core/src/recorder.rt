@@ -1,0 +1,117 @@
+//! A judge that records its questions.
+ghost use Rattle.std.specs.Prelude.{◌≡◌, ℕ, List, [], ◌∷◌, ◌++◌, ◌<◌, vec_len, vec_capacity, map, Option};
+ghost use Rattle.cose_gate_core.specs.Recorded.{AskedFields, asked_view, kept_of, front_of, is_other, bytes_of};
+
+use crate::about::{About, Kind};
+use crate::judge::Judge;
+use ciborium_ll::log::Log;
+use std::alloc::{AllocError, Global};
+use std::mem;
+
+/// A question that was asked.
+#[derive(Debug, PartialEq, Eq, Drop)]
+pub struct Asked {
+    /// The kind of the message.
+    pub kind: Kind,
+    /// The bytes that the signature or tag covers.
+    pub structure: Vec<u8>,
+    /// The length of the signature or tag.
+    pub tag_len: usize,
+    /// Its first eight bytes, with zeros in place of those that are missing.
+    pub tag: [u8; 8],
+}
+
+/// Records its questions, and says no to one signature alone.
+#[derive(Drop)]
+pub struct Recorder {
+    no: Option<Vec<u8>>,
+    asked: Vec<Asked>,
+    kind: Kind,
+    structure: Vec<u8>,
+    pieces: Log<usize>,
+}
+
+/// The first eight bytes.
+fn front(signature: &[u8]) -> [u8; 8]
+    ensures { result ≡ front_of signature.now }
+{
+    let mut front = [0; 8];
+    let count = signature.len().min(8);
+    front[..count].copy_from_slice(&signature[..count]);
+    front
+}
+
+impl Recorder {
+    ghost use Rattle.cose_gate_core.specs.Recorded.{asked_of, refused_of};
+
+    /// A recorder with no question yet, that says no to the signature `no`, where there is one, and yes to any other.
+    pub fn new(alloc: Global, no: Option<Vec<u8>>) -> Recorder
+        ensures asked { asked_of result ≡ [] }
+        ensures no { refused_of result ≡ bytes_of no }
+    {
+        Recorder {
+            no,
+            asked: Vec::new(alloc),
+            kind: Kind::Sign1,
+            structure: Vec::new(alloc),
+            pieces: Log::new(),
+        }
+    }
+
+    /// The questions that were asked, in order.
+    pub fn asked(&self) -> &[Asked]
+        ensures { map asked_view result.now ≡ asked_of self.now }
+    {
+        &self.asked
+    }
+}
+
+impl Judge for Recorder {
+    ghost use Rattle.cose_gate_core.specs.Recorded.{asked_of, refused_of};
+
+    ghost Who = { Option (List ℕ) };
+
+    ghost Told = { List AskedFields };
+
+    ghost who = { refused_of };
+
+    ghost told = { asked_of };
+
+    ghost holds = { λ s subject bytes.
+        (s.kind ≡ subject.kind) × (s.structure.items ≡ bytes) × (vec_len s.asked < vec_capacity s.asked) };
+
+    ghost pieces = { λ s. s.pieces.items };
+
+    ghost yes = { λ no q. is_other no q.signature };
+
+    ghost decided = { λ told q. told ++ kept_of q ∷ [] };
+
+    fn begin(&mut self, about: &About) -> Result<(), AllocError> {
+        self.asked.reserve(1)?;
+        self.structure.clear();
+        self.kind = about.kind;
+        self.pieces = Log::new();
+        Ok(())
+    }
+
+    fn feed(&mut self, piece: &[u8]) -> Result<(), AllocError> {
+        self.structure.extend_from_slice(piece)?;
+        self.pieces = self.pieces.and(&piece.len());
+        Ok(())
+    }
+
+    fn decide(&mut self, signature: &[u8]) -> bool {
+        let spare = Vec::new(*self.structure.allocator());
+        let structure = mem::replace(&mut self.structure, spare);
+        let _ = self.asked.push(Asked {
+            kind: self.kind,
+            structure,
+            tag_len: signature.len(),
+            tag: front(signature),
+        });
+        match &self.no {
+            Some(no) => no.as_slice() != signature,
+            None => true,
+        }
+    }
+}

@@ -1,0 +1,105 @@
+//! What is noted of each item.
+ghost use Rattle.std.specs.Prelude.{◌≡◌, List, [], ◌∷◌, ◌++◌, OnOk, OnErr};
+ghost use Rattle.cose_gate_core.specs.declared.report.Entry.{Entry};
+
+use coset_base::CoseError;
+use std::alloc::AllocError;
+use thiserror::Error;
+
+/// Why an item was refused. The reasons are tested in the order `NotTagged`, `Encrypted`, `OtherTag`, `Shape`, `Detached`,
+/// `NoSignature`, `Judged`. Its text is its name, and of a shape the fault's text too.
+#[derive(Debug, Clone, Copy, PartialEq, Eq, Error)]
+pub enum Refusal {
+    /// The item has no tag.
+    #[error("NotTagged")]
+    NotTagged,
+    /// The item has a tag of no message that is judged.
+    #[error("OtherTag")]
+    OtherTag(u64),
+    /// The item has the tag of an encrypted message, 16 or 96.
+    #[error("Encrypted")]
+    Encrypted,
+    /// The item is no message of its tag.
+    #[error("Shape: {0}")]
+    Shape(CoseError),
+    /// The message doesn't carry its payload.
+    #[error("Detached")]
+    Detached,
+    /// The message, a COSE_Sign, has no signature.
+    #[error("NoSignature")]
+    NoSignature,
+    /// The judge said no to the question with this index, counted from 0.
+    #[error("Judged")]
+    Judged(usize),
+}
+
+/// What became of an item: `passed`, or `refused: ` and why.
+#[derive(Debug, Clone, Copy, PartialEq, Eq, Error)]
+pub enum Verdict {
+    /// It was written.
+    #[error("passed")]
+    Passed,
+    /// It was left out.
+    #[error("refused: {0}")]
+    Refused(Refusal),
+}
+
+/// One item of the input.
+#[derive(Debug, Clone, Copy, PartialEq, Eq)]
+pub struct Entry {
+    /// Its number, counted from 1.
+    pub number: usize,
+    /// Where it begins, in bytes from where the decoder began.
+    pub offset: usize,
+    /// What became of it.
+    pub verdict: Verdict,
+}
+
+/// Is told of each item, in order. An implementation says in its meaning what it keeps (`state`, and `folded`, which adds one entry).
+pub trait Report {
+    /// What a report keeps.
+    ghost State: { Type 0 };
+
+    /// What it keeps now.
+    ghost state: { Self → State };
+
+    /// What it keeps after one more entry.
+    ghost folded: { State → Entry → State };
+
+    /// Takes the next entry.
+    ///
+    /// # Errors
+    /// Only where memory is refused. The report is as it was then.
+    fn note(&mut self, entry: &Entry) -> Result<(), AllocError>
+        ensures ok { OnOk result (state self.new ≡ folded (state self.old) entry.now) }
+        ensures err { OnErr result (state self.new ≡ state self.old) };
+}
+
+/// A report that keeps nothing.
+#[derive(Debug, Clone, Copy)]
+pub struct Silent;
+
+impl Report for Silent {
+    ghost State = { Unit {0} };
+
+    ghost state = { λ _. tt };
+
+    ghost folded = { λ s _. s };
+
+    fn note(&mut self, _entry: &Entry) -> Result<(), AllocError> {
+        Ok(())
+    }
+}
+
+impl Report for Vec<Entry> {
+    ghost State = { List Entry };
+
+    ghost state = { λ v. v.items };
+
+    ghost folded = { λ es e. es ++ e ∷ [] };
+
+    fn note(&mut self, entry: &Entry) -> Result<(), AllocError> {
+        self.push(*entry)?;
+        Ok(())
+    }
+}

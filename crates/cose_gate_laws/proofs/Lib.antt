@@ -1,0 +1,14 @@
+pub mod FieldCases
+pub mod FindingCases
+pub mod Fronts
+pub mod HeaderCases
+pub mod HeaderKept
+pub mod Lows
+pub mod MacCases
+pub mod MessageCases
+pub mod MessageKept
+pub mod Narrowed
+pub mod Outputs
+pub mod Placed
+pub mod Shorter
+pub mod Widths

@@ -1,0 +1,3 @@
+pub mod Anew
+pub mod Narrow
+pub mod Output

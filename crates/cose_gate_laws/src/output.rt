@@ -1,0 +1,27 @@
+//! Laws of the output.
+ghost use Rattle.std.specs.Prelude.{◌≡◌, ℕ, ◌^◌, ◌<◌, ◌≤◌, List, [], length, map, All, Bool};
+ghost use Rattle.ciborium.specs.Items.{Item, Items};
+ghost use Rattle.cose_gate_core.specs.Questions.{Question};
+ghost use Rattle.cose_gate_core.specs.Findings.{Limits};
+ghost use Rattle.cose_gate_core.specs.Run.{Step, Run, output_of};
+ghost use Rattle.cose_gate_laws.specs.Narrow.{PassedAreNarrow, passed_bytes};
+ghost use Rattle.cose_gate_laws.specs.Output.{passed_messages, AreMessages};
+
+/// The output is a CBOR sequence of exactly the messages that pass (RFC 8742): it is read back item by item as what they are written
+/// as, in order, each a message with the same fields, received bytes included, and nothing is left. So for an input of fewer than 2^64
+/// bytes.
+pub fn output_is_passed_messages()
+    ensures { (limits : Limits) (allows : Question → Bool) (aad : List ℕ) (at : ℕ) (b : List ℕ) (ss : List Step) (rest : List ℕ)
+        → Run limits allows aad at b ss rest → All (λ x. x < 256) b → length b < 2 ^ 64
+        → (is : List Item) × Items 0 (output_of allows aad ss) is []
+        × AreMessages limits (map (λ i. i.value) is) (passed_messages allows aad ss) }
+{}
+
+/// Where no item that passes has in it an open array or map of more than 255 entries, an open string of 2^32 bytes or more, or a bignum
+/// spelled in 5 or 6 bytes, the output is never longer than the items that pass. Such a bignum is written as an integer of nine bytes,
+/// and may stand in seven or eight.
+pub fn output_is_no_longer()
+    ensures { (limits : Limits) (allows : Question → Bool) (aad : List ℕ) (at : ℕ) (b : List ℕ) (ss : List Step) (rest : List ℕ)
+        → Run limits allows aad at b ss rest → All (λ x. x < 256) b → PassedAreNarrow allows aad ss
+        → length (output_of allows aad ss) ≤ length (passed_bytes allows aad ss) }
+{}

@@ -1,0 +1,11 @@
+//! The program `cose-gate KEYS [AADHEX]` over any reader and writers: its words, and a run of the gate with the judge by HMAC. A user
+//! names `cose_gate`, which passes it on.
+#![tactic(auto)]
+
+mod arguments;
+mod beginning;
+mod lines;
+mod program;
+
+pub use crate::arguments::words;
+pub use crate::program::run;

@@ -1,0 +1,120 @@
+-- What holds of both kinds of message.
+use Rattle.std.proofs.Common.{◌≡◌, ◌≢◌, ℕ, inl, inr, List, [], ◌∷◌, false, None, Some, refl, sym, ap, ◌∙◌, arith}
+use Rattle.ciborium_value.specs.Tree.{Tree, array, tag, Trees, tree_count, bytes, is_bytes}
+use Rattle.coset_headers.specs.Fields.{HeaderFields, ProtectedFields, protected}
+use Rattle.coset_headers.specs.Headers.{HasProtected, HasHeader}
+use Rattle.coset_headers.specs.Written.{shown}
+use Rattle.coset_labels.specs.Faults.{CoseFault, unexpected}
+use Rattle.coset_labels.specs.Kinds.{is_array}
+use Rattle.coset_parts.specs.Wrong.{WrongParts}
+use Rattle.coset_signed.specs.Shapes.{four_items}
+use Rattle.coset_signed.specs.Wrong.{WrongSign1, not_four, in_parts, in_last}
+use Rattle.coset_maced.specs.Wrong.{WrongMac0, no_array0, in_parts0, in_tag0}
+use Rattle.coset_maced.specs.Wrong as maced
+use Rattle.coset_structures.specs.Structure.{structure}
+use Rattle.cose_gate_core.specs.Questions.{Question, questions, alone, or_nothing, sign1_question, mac0_question}
+use Rattle.cose_gate_core.specs.Findings.{IsBarred, shape, IsJudged, WrongMessage, usual}
+use Rattle.cose_stream.specs.declared.form.Form.{Form}
+use Rattle.cose_stream.specs.declared.form.Form.TheVariants as form
+use Rattle.cose_stream.specs.Forms.{tag_number, kind_of, context_of, message_of, received_of}
+use Rattle.cose_stream.specs.Stated.{IsSingleTag, IsSingle}
+
+pub not_two : (f : Form) → tag_number f ≢ 2
+not_two form.Sign1 e = omega arith
+not_two form.Mac0 e = omega arith
+
+pub not_three : (f : Form) → tag_number f ≢ 3
+not_three form.Sign1 e = omega arith
+not_three form.Mac0 e = omega arith
+
+pub single_tag : (f : Form) → IsSingleTag (tag_number f)
+single_tag form.Sign1 = inr refl
+single_tag form.Mac0 = inl refl
+
+pub single : (f : Form) (p : ProtectedFields) (u : HeaderFields) (payload s : List ℕ) → IsSingle (message_of f p u payload s)
+single form.Sign1 p u payload s = tt
+single form.Mac0 p u payload s = tt
+
+-- which fault a value has as the message
+abbrev pub WrongForm : Form → Tree → CoseFault → Type 0
+WrongForm form.Sign1 u e = WrongSign1 256 u 16 e
+WrongForm form.Mac0 u e = WrongMac0 256 u 16 e
+
+pub shaped : (f : Form) (t u : Tree) (e : CoseFault) → t ≡ tag (tag_number f) u → WrongForm f u e → IsBarred usual t shape
+shaped f t u e is w = (e, (tag_number f, u, is, wrong f w))
+  where
+    wrong : (f : Form) → WrongForm f u e → WrongMessage usual (tag_number f) u e
+    wrong form.Sign1 w = inl (refl, w)
+    wrong form.Mac0 w = inr (inl (refl, w))
+
+pub no_array : (f : Form) (u : Tree) → is_array u ≡ false → WrongForm f u unexpected
+no_array form.Sign1 u n = not_four (inl n)
+no_array form.Mac0 u n = no_array0 u 16 n
+
+pub not_four_items : (f : Form) (ts : Trees) → tree_count ts ≢ 4 → WrongForm f (array ts) unexpected
+not_four_items form.Sign1 ts n = not_four (inr (ts, refl, n))
+not_four_items form.Mac0 ts n = maced.not_four ts 16 n
+
+pub wrong_parts : (f : Form) (a b c d : Tree) (e : CoseFault) → WrongParts 256 a b c 16 e → WrongForm f (four_items a b c d) e
+wrong_parts form.Sign1 a b c d e w = in_parts a b c d e refl w
+wrong_parts form.Mac0 a b c d e w = in_parts0 a b c d 16 e w
+
+pub wrong_last : (f : Form) (a b c d : Tree) → is_bytes d ≡ false → WrongForm f (four_items a b c d) unexpected
+wrong_last form.Sign1 a b c d n = in_last a b c d unexpected refl (n, refl)
+wrong_last form.Mac0 a b c d n = in_tag0 a b c d 16 n
+
+-- the parts of a message make one
+pub judged_of : (f : Form) (a b : Tree) (p : ProtectedFields) (u : HeaderFields) (payload s : List ℕ) → HasProtected 256 a p 16 → HasHeader 256 b u 16
+    → IsJudged usual (tag (tag_number f) (four_items a b (bytes payload) (bytes s))) (message_of f p u payload s)
+judged_of form.Sign1 a b p u payload s hp hu = (
+  (
+    four_items a b (bytes payload) (bytes s),
+    refl,
+    record {
+      first = a;
+      second = b;
+      third = bytes payload;
+      fourth = bytes s;
+      is = refl;
+      parts = record { protected = hp; unprotected = hu; content = refl };
+      last = refl;
+    },
+  ),
+  (payload, refl),
+  λ n. n,
+)
+judged_of form.Mac0 a b p u payload s hp hu = (
+  (
+    four_items a b (bytes payload) (bytes s),
+    refl,
+    record {
+      first = a;
+      second = b;
+      third = bytes payload;
+      is = refl;
+      parts = record { protected = hp; unprotected = hu; content = refl };
+    },
+  ),
+  (payload, refl),
+  λ n. n,
+)
+
+-- the bytes of a protected header that was read
+pub received_there : (t : Tree) (p : ProtectedFields) (k : ℕ) → HasProtected 256 t p k → received_of p ≢ None
+received_there t (protected o h) k w none = let e : Some w.0 ≡ None = sym w.2 ∙ none in cc
+
+shown_received : (p : ProtectedFields) (b : List ℕ) → received_of p ≡ Some b → shown p ≡ Some b
+shown_received (protected (Some x) h) b e = e
+shown_received (protected None h) b e = cc
+
+-- the one question about it
+abbrev pub question_of : Form → ProtectedFields → HeaderFields → List ℕ → List ℕ → List ℕ → List ℕ → Question
+question_of f p u body aad payload s = record { subject = alone (kind_of f) p u; covered = structure (context_of f) body None aad payload; signature = s }
+
+pub one_question : (f : Form) (p : ProtectedFields) (u : HeaderFields) (body aad payload s : List ℕ) → received_of p ≡ Some body
+    → questions (message_of f p u payload s) aad ≡ question_of f p u body aad payload s ∷ []
+one_question f p u body aad payload s e = go f p (shown_received p body e)
+  where
+    go : (f : Form) (p : ProtectedFields) → shown p ≡ Some body → questions (message_of f p u payload s) aad ≡ question_of f p u body aad payload s ∷ []
+    go form.Sign1 p k = rw k
+    go form.Mac0 p k = rw k

@@ -1,0 +1,11 @@
+pub mod Forms
+pub mod Faults
+pub mod Fed
+pub mod Elements
+pub mod Lengths
+pub mod Pieces
+pub mod Whole
+pub mod Wrong
+pub mod Meant
+pub mod Heads
+pub mod Exactly

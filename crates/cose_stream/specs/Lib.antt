@@ -1,0 +1,4 @@
+pub mod Forms
+pub mod Parts
+pub mod Stated
+pub mod Streaming

@@ -1,0 +1,175 @@
+-- What the streaming road answers, over the bytes that were to come.
+use Rattle.std.specs.Prelude.{◌≡◌, ◌≢◌, ℕ, ◌+◌, ◌^◌, ◌≤◌, max, ◌⊎◌, List, ◌++◌, length, Option, Some, None, Bool, IsTrue, Result, Ok, Err, is_none, if◌then◌else◌}
+use Rattle.ciborium_ll.specs.declared.hdr.Header.{Header}
+use Rattle.ciborium_ll.specs.declared.hdr.Header.TheVariants.{Simple, Tag, Bytes, Array}
+use Rattle.ciborium_ll.specs.Seen.{Seen}
+use Rattle.ciborium_ll.specs.Title.{Begins}
+use Rattle.ciborium_value.specs.Tree.{Tree, Trees, tree_count}
+use Rattle.ciborium.specs.Front.{Reads, Front, Fronts}
+use Rattle.ciborium.specs.Items.{nesting}
+use Rattle.ciborium.specs.Damage.{Fault, end, deep, syntax, semantic}
+use Rattle.ciborium.specs.Damaged.{Damaged}
+use Rattle.ciborium.specs.Reading.{IfKnown, IsNoMemory}
+use Rattle.ciborium.specs.declared.de.Error.{Error}
+use Rattle.ciborium.specs.declared.de.Error.TheVariants as de
+use Rattle.coset_labels.specs.Faults.{CoseFault, fault_of}
+use Rattle.coset_labels.specs.declared.error.CoseError.{CoseError}
+use Rattle.coset_labels.specs.declared.error.CoseError.TheVariants as cose
+use Rattle.cose_gate_core.specs.Questions.{Question, MessageFields, questions}
+use Rattle.cose_gate_core.specs.Asked.{first_no, folded_over}
+use Rattle.cose_gate_core.specs.Findings.{IsBarred, shape, IsJudged, usual}
+use Rattle.cose_stream.specs.Stated.{IsSingleTag, IsSingle, IsFour, Stated, InPieces}
+use Rattle.cose_stream.specs.declared.fault.StreamFault.{StreamFault}
+use Rattle.cose_stream.specs.declared.fault.StreamFault.TheVariants as fault
+
+-- the bytes are one message of a stated length that was asked about: the answer, what the judge was told, and the lengths of the pieces
+-- that it was fed
+pub record Checked {T : Type 0} (decided : T → Question → T) (allows : Question → Bool) (aad : List ℕ) (told told' : T) (room : ℕ) (lengths : List ℕ) (yes : Bool) (b : List ℕ) : Type 0 where
+  pub item : Tree
+  pub message : MessageFields
+  pub size : ℕ
+  pub reads : Reads b nesting item
+  pub is : IsJudged usual item message
+  pub single : IsSingle message
+  pub stated : Stated b size
+  pub answer : yes ≡ is_none (first_no allows (questions message aad))
+  pub tells : told' ≡ folded_over decided told (questions message aad)
+  pub pieces : InPieces size room lengths
+
+-- why no message was checked
+pub data Why : Type 0 where
+  damaged : Fault → Why
+  untagged : Why
+  tagged : ℕ → Why
+  misshapen : CoseFault → Why
+  without_payload without_length refused : Why
+
+-- a fault of decoding and one of shape never hold want of memory
+abbrev pub HoldsNoMemory : {E : Type 0} → StreamFault E → Type 0
+HoldsNoMemory (fault.Decode e) = IsNoMemory e
+HoldsNoMemory fault.NotTagged = Unit {0}
+HoldsNoMemory (fault.OtherTag n) = Unit {0}
+HoldsNoMemory (fault.Shape e) = e ≢ cose.Memory
+HoldsNoMemory fault.Detached = Unit {0}
+HoldsNoMemory fault.Unsized = Unit {0}
+HoldsNoMemory fault.Memory = Unit {0}
+
+-- what a fault tells: why, or that offsets grow too long; a failure of the device tells nothing of the bytes
+abbrev pub Tells : {E : Type 0} → (E → Bool) → (Why → Type 0) → Type 0 → StreamFault E → Type 0
+Tells ends D long (fault.Decode (de.Io e)) = IsTrue (ends e) → D (damaged end)
+Tells ends D long (fault.Decode (de.Syntax p)) = D (damaged (syntax p))
+Tells ends D long (fault.Decode (de.Semantic o k)) = (o ≡ None) × D (damaged (semantic k))
+Tells ends D long (fault.Decode de.RecursionLimitExceeded) = D (damaged deep)
+Tells ends D long (fault.Decode de.Memory) = ⊥
+Tells ends D long (fault.Decode de.TooLong) = long
+Tells ends D long fault.NotTagged = D untagged
+Tells ends D long (fault.OtherTag n) = D (tagged n)
+Tells ends D long (fault.Shape e) = D (misshapen (fault_of e))
+Tells ends D long fault.Detached = D without_payload
+Tells ends D long fault.Unsized = D without_length
+Tells ends D long fault.Memory = D refused
+
+-- offsets pass what they can be, where so many bytes are asked for at a time
+abbrev pub IsLongFor : ℕ → ℕ → List ℕ → Type 0
+IsLongFor room at b = 2 ^ 64 ≤ at + length b + max 4096 room
+
+-- what a fault says of the bytes that were to come, where they are known; D is over the place behind them, and over them
+abbrev pub NamesWhy : {E : Type 0} → (E → Bool) → (ℕ → List ℕ → Why → Type 0) → ℕ → Seen → StreamFault E → Type 0
+NamesWhy ends D room old f = HoldsNoMemory f × IfKnown old.left (λ b. Tells ends (D (old.offset + length b) b) (IsLongFor room old.offset b) f)
+
+-- the bytes begin with a tag of such a message, an array of four, two items, and a title of h
+pub record Opening (b : List ℕ) (h : Header) : Type 0 where
+  pub number : ℕ
+  pub inside : List ℕ
+  pub items : List ℕ
+  pub third : List ℕ
+  pub behind : List ℕ
+  pub count : Option ℕ
+  pub two : Trees
+  pub is_single : IsSingleTag number
+  pub tag_first : Begins b (Tag number) inside
+  pub array_next : Begins inside (Array count) items
+  pub is_four : IsFour count
+  pub are_two : tree_count two ≡ 2
+  pub fronts : Fronts items 254 two third
+  pub title : Begins third h behind
+
+-- why the bytes are no message that is checked. Of a fault of shape it is open which of the value's faults is named, and where no item is
+-- readable it says nothing; nor does want of memory, but that a message was begun.
+abbrev pub Unstreamed : ℕ → List ℕ → Why → Type 0
+Unstreamed stop b (damaged f) = Damaged stop b nesting f
+Unstreamed stop b untagged = (h : Header) × (rest : List ℕ) × Begins b h rest × ((n : ℕ) → h ≢ Tag n)
+Unstreamed stop b (tagged n) = (rest : List ℕ) × Begins b (Tag n) rest × (IsSingleTag n → ⊥)
+Unstreamed stop b (misshapen e) = (t : Tree) (rest : List ℕ) → Front b nesting t rest → IsBarred usual t shape
+Unstreamed stop b without_payload = Opening b (Simple 22) ⊎ Opening b (Simple 23)
+Unstreamed stop b without_length = Opening b (Bytes None)
+Unstreamed stop b refused = (n : ℕ) × (rest : List ℕ) × Begins b (Tag n) rest × IsSingleTag n
+
+-- how often the reader has failed after this answer
+abbrev pub fault_failures : {E : Type 0} → (E → Bool) → StreamFault E → ℕ → ℕ
+fault_failures ends (fault.Decode (de.Io e)) n = if ends e then n else n + 1
+fault_failures ends (fault.Decode (de.Syntax p)) n = n
+fault_failures ends (fault.Decode (de.Semantic o k)) n = n
+fault_failures ends (fault.Decode de.RecursionLimitExceeded) n = n
+fault_failures ends (fault.Decode de.Memory) n = n
+fault_failures ends (fault.Decode de.TooLong) n = n
+fault_failures ends fault.NotTagged n = n
+fault_failures ends (fault.OtherTag k) n = n
+fault_failures ends (fault.Shape e) n = n
+fault_failures ends fault.Detached n = n
+fault_failures ends fault.Unsized n = n
+fault_failures ends fault.Memory n = n
+
+abbrev pub failures : {T E : Type 0} → (E → Bool) → Result T (StreamFault E) → ℕ → ℕ
+failures ends (Ok x) n = n
+failures ends (Err e) n = fault_failures ends e n
+
+-- every call on a decoder: a failure is counted exactly where the answer is one, the reader stays the same, and no header waits then
+pub record Steady {T E : Type 0} (ends : E → Bool) (answer : Result T (StreamFault E)) (old new : Seen) : Type 0 where
+  pub failed : new.failed ≡ failures ends answer old.failed
+  pub handle : new.handle ≡ old.handle
+  pub waiting : new.waiting ≡ None
+
+-- Ok, or a fault that says nothing of the bytes: want of memory, a failure of the device, offsets that grow too long
+abbrev pub Answered : {E : Type 0} → (E → Bool) → Type 0 → Result Bool (StreamFault E) → Type 0
+Answered ends long (Ok answer) = Unit {0}
+Answered ends long (Err (fault.Decode (de.Io e))) = IsTrue (ends e) → ⊥
+Answered ends long (Err (fault.Decode (de.Syntax p))) = ⊥
+Answered ends long (Err (fault.Decode (de.Semantic o k))) = ⊥
+Answered ends long (Err (fault.Decode de.RecursionLimitExceeded)) = ⊥
+Answered ends long (Err (fault.Decode de.Memory)) = ⊥
+Answered ends long (Err (fault.Decode de.TooLong)) = long
+Answered ends long (Err fault.NotTagged) = ⊥
+Answered ends long (Err (fault.OtherTag n)) = ⊥
+Answered ends long (Err (fault.Shape e)) = ⊥
+Answered ends long (Err fault.Detached) = ⊥
+Answered ends long (Err fault.Unsized) = ⊥
+Answered ends long (Err fault.Memory) = Unit {0}
+
+-- where a judged message of a stated length begins, nothing but Ok is due
+abbrev pub AnswersStated : {E : Type 0} → (E → Bool) → ℕ → Seen → Result Bool (StreamFault E) → Type 0
+AnswersStated ends room old result =
+    IfKnown old.left (λ b. (item : Tree) (front rest : List ℕ) (message : MessageFields) (size : ℕ) → b ≡ front ++ rest → Reads front nesting item
+    → IsJudged usual item message → IsSingle message → Stated front size → Answered ends (IsLongFor room old.offset b) result)
+
+-- the fault for one of the reader of items
+abbrev pub fault_by : {E : Type 0} → Error E → StreamFault E
+fault_by (de.Io e) = fault.Decode (de.Io e)
+fault_by (de.Syntax p) = fault.Decode (de.Syntax p)
+fault_by (de.Semantic o k) = fault.Decode (de.Semantic o k)
+fault_by de.RecursionLimitExceeded = fault.Decode de.RecursionLimitExceeded
+fault_by de.Memory = fault.Memory
+fault_by de.TooLong = fault.Decode de.TooLong
+
+-- the fault for one of shape
+abbrev pub shape_by : {E : Type 0} → CoseError → StreamFault E
+shape_by (cose.DecodeFailed e) = fault.Shape (cose.DecodeFailed e)
+shape_by cose.DuplicateMapKey = fault.Shape cose.DuplicateMapKey
+shape_by cose.EncodeFailed = fault.Shape cose.EncodeFailed
+shape_by cose.ExtraneousData = fault.Shape cose.ExtraneousData
+shape_by cose.OutOfRangeIntegerValue = fault.Shape cose.OutOfRangeIntegerValue
+shape_by (cose.UnexpectedItem got want) = fault.Shape (cose.UnexpectedItem got want)
+shape_by cose.UnregisteredIanaValue = fault.Shape cose.UnregisteredIanaValue
+shape_by cose.UnregisteredIanaNonPrivateValue = fault.Shape cose.UnregisteredIanaNonPrivateValue
+shape_by cose.Memory = fault.Memory
+shape_by cose.TooManyLayers = fault.Shape cose.TooManyLayers

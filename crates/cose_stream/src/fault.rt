@@ -1,0 +1,106 @@
+//! Why a message was not checked.
+ghost use Rattle.cose_stream.specs.Parts.{IsUnexpected};
+
+use ciborium::de;
+use coset_base::CoseError;
+use std::alloc::AllocError;
+
+/// Why a message was not checked.
+#[derive(Debug, PartialEq, Eq, Drop)]
+pub enum StreamFault<E> {
+    /// No readable item begins here, or the reader failed. It never holds `Memory`.
+    Decode(de::Error<E>),
+    /// The first title is no tag.
+    NotTagged,
+    /// The first title is the tag of no message that this road checks: any but those of a COSE_Sign1 and a COSE_Mac0 (RFC 9052,
+    /// section 2).
+    OtherTag(u64),
+    /// The item is no message of its tag. It never holds `Memory`.
+    Shape(CoseError),
+    /// The message doesn't carry its payload.
+    Detached,
+    /// The payload is a byte string that doesn't state its length in front.
+    Unsized,
+    /// Memory was refused, to the judge too.
+    Memory,
+}
+
+impl<E> From<AllocError> for StreamFault<E> {
+    ghost use Rattle.std.specs.Prelude.{◌≡◌};
+    ghost use Rattle.cose_stream.specs.declared.fault.StreamFault.TheVariants as fault;
+
+    ghost from_gives = { λ _ e. e ≡ fault.Memory };
+
+    fn from(_: AllocError) -> StreamFault<E> {
+        StreamFault::Memory
+    }
+}
+
+impl<E> From<de::Error<E>> for StreamFault<E> {
+    ghost use Rattle.std.specs.Prelude.{◌≡◌};
+    ghost use Rattle.cose_stream.specs.Streaming.{fault_by};
+
+    ghost from_gives = { λ e f. f ≡ fault_by e };
+
+    fn from(error: de::Error<E>) -> StreamFault<E> {
+        match error {
+            de::Error::Io(e) => StreamFault::Decode(de::Error::Io(e)),
+            de::Error::Syntax(p) => StreamFault::Decode(de::Error::Syntax(p)),
+            de::Error::Semantic(o, k) => StreamFault::Decode(de::Error::Semantic(o, k)),
+            de::Error::RecursionLimitExceeded => {
+                StreamFault::Decode(de::Error::RecursionLimitExceeded)
+            }
+            de::Error::Memory => StreamFault::Memory,
+            de::Error::TooLong => StreamFault::Decode(de::Error::TooLong),
+        }
+    }
+}
+
+impl<E> From<ciborium_ll::Error<E>> for StreamFault<E> {
+    ghost use Rattle.std.specs.Prelude.{◌≡◌};
+    ghost use Rattle.ciborium.specs.Reading.{lifted};
+    ghost use Rattle.cose_stream.specs.Streaming.{fault_by};
+
+    ghost from_gives = { λ e f. f ≡ fault_by (lifted e) };
+
+    fn from(error: ciborium_ll::Error<E>) -> StreamFault<E> {
+        StreamFault::from(de::Error::from(error))
+    }
+}
+
+impl<E> From<CoseError> for StreamFault<E> {
+    ghost use Rattle.std.specs.Prelude.{◌≡◌};
+    ghost use Rattle.cose_stream.specs.Streaming.{shape_by};
+
+    ghost from_gives = { λ e f. f ≡ shape_by e };
+
+    fn from(error: CoseError) -> StreamFault<E> {
+        match error {
+            CoseError::Memory => StreamFault::Memory,
+            CoseError::DecodeFailed(e) => StreamFault::Shape(CoseError::DecodeFailed(e)),
+            CoseError::DuplicateMapKey => StreamFault::Shape(CoseError::DuplicateMapKey),
+            CoseError::EncodeFailed => StreamFault::Shape(CoseError::EncodeFailed),
+            CoseError::ExtraneousData => StreamFault::Shape(CoseError::ExtraneousData),
+            CoseError::OutOfRangeIntegerValue => {
+                StreamFault::Shape(CoseError::OutOfRangeIntegerValue)
+            }
+            CoseError::UnexpectedItem(got, want) => {
+                StreamFault::Shape(CoseError::UnexpectedItem(got, want))
+            }
+            CoseError::UnregisteredIanaValue => {
+                StreamFault::Shape(CoseError::UnregisteredIanaValue)
+            }
+            CoseError::UnregisteredIanaNonPrivateValue => {
+                StreamFault::Shape(CoseError::UnregisteredIanaNonPrivateValue)
+            }
+            CoseError::TooManyLayers => StreamFault::Shape(CoseError::TooManyLayers),
+        }
+    }
+}
+
+/// The fault of an array that hasn't four elements, or of an element that has no place in it.
+pub fn not_four<E>() -> StreamFault<E>
+    ensures { IsUnexpected result }
+{
+    StreamFault::Shape(CoseError::UnexpectedItem("array", "array with 4 items"))
+}

@@ -1,0 +1,106 @@
+//! Equality of headers and signatures.
+ghost use Rattle.std.specs.Prelude.{◌≡◌};
+ghost use Rattle.std.specs.Cmp.{partial_equiv_from_equiv, on_equiv};
+ghost use Rattle.std.specs.Ordering.{on};
+ghost use Rattle.coset_headers.specs.Decided.{headers_equiv, protected_equiv, signature_equiv};
+ghost use Rattle.coset_headers.specs.Fields.{plain_part};
+ghost use Rattle.coset_headers.specs.Same.{same_plain, same_header, same_protected, same_signature, same_signatures};
+ghost use Rattle.coset_headers.specs.View.{header_view, protected_view, signature_view, signatures_view};
+
+use crate::header::{CoseSignature, Header, ProtectedHeader};
+
+/// Headers are equal where all their fields are, entries of `rest` in the same order.
+impl PartialEq for Header {
+    ghost eq = { on header_view same_header };
+
+    ghost laws = { partial_equiv_from_equiv (on_equiv header_view headers_equiv) };
+
+    fn eq(&self, other: &Header) -> bool {
+        same_header(self, other)
+    }
+}
+
+impl Eq for Header {
+    ghost laws = { on_equiv header_view headers_equiv };
+}
+
+/// Protected headers are equal where their headers and their received bytes are.
+impl PartialEq for ProtectedHeader {
+    ghost eq = { on protected_view same_protected };
+
+    ghost laws = { partial_equiv_from_equiv (on_equiv protected_view protected_equiv) };
+
+    fn eq(&self, other: &ProtectedHeader) -> bool {
+        same_protected(self, other)
+    }
+}
+
+impl Eq for ProtectedHeader {
+    ghost laws = { on_equiv protected_view protected_equiv };
+}
+
+/// Signatures are equal where their headers and their bytes are.
+impl PartialEq for CoseSignature {
+    ghost eq = { on signature_view same_signature };
+
+    ghost laws = { partial_equiv_from_equiv (on_equiv signature_view signature_equiv) };
+
+    fn eq(&self, other: &CoseSignature) -> bool {
+        same_signature(self, other)
+    }
+}
+
+impl Eq for CoseSignature {
+    ghost laws = { on_equiv signature_view signature_equiv };
+}
+
+/// Whether all fields but the counter signatures are equal.
+fn same_plain(a: &Header, b: &Header) -> bool
+    ensures { result ≡ same_plain (plain_part (header_view a.now)) (plain_part (header_view b.now)) }
+{
+    a.alg == b.alg
+        && a.crit == b.crit
+        && a.content_type == b.content_type
+        && a.key_id == b.key_id
+        && a.iv == b.iv
+        && a.partial_iv == b.partial_iv
+        && a.rest == b.rest
+}
+
+#[cycle(equality)]
+fn same_header(a: &Header, b: &Header) -> bool
+    ensures { result ≡ same_header (header_view a.now) (header_view b.now) }
+{
+    same_plain(a, b) && same_signatures(&a.counter_signatures, &b.counter_signatures)
+}
+
+#[cycle(equality)]
+fn same_protected(a: &ProtectedHeader, b: &ProtectedHeader) -> bool
+    ensures { result ≡ same_protected (protected_view a.now) (protected_view b.now) }
+{
+    a.original_data == b.original_data && same_header(&a.header, &b.header)
+}
+
+#[cycle(equality)]
+fn same_signature(a: &CoseSignature, b: &CoseSignature) -> bool
+    ensures { result ≡ same_signature (signature_view a.now) (signature_view b.now) }
+{
+    same_protected(&a.protected, &b.protected)
+        && same_header(&a.unprotected, &b.unprotected)
+        && a.signature == b.signature
+}
+
+#[cycle(equality)]
+fn same_signatures(a: &[CoseSignature], b: &[CoseSignature]) -> bool
+    ensures { result ≡ same_signatures (signatures_view a.now) (signatures_view b.now) }
+{
+    if a.len() != b.len() {
+        return false;
+    }
+    for (x, y) in a.iter().zip(b) {
+        if !same_signature(x, y) {
+            return false;
+        }
+    }
+    true
+}

@@ -1,0 +1,6 @@
+use Rattle.coset_signed.specs.View.{sign1_view}
+use Rattle.coset_signed.proofs.Fit.{sign1_fit}
+use Rattle.coset_signed.proofs.laws.sign1_fits.Goals as goal
+
+pub returns : goal.returns
+returns c = λ u e s. sign1_fit (sign1_view c.args.message.now) u c.parts_fit.ensures c.bytes_fit.ensures e s

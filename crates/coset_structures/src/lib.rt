@@ -1,0 +1,12 @@
+//! The structures that signatures, tags and encryptions cover, and how they begin (RFC 9052, sections 4.4, 5.3 and 6.3).
+#![tactic(auto)]
+
+mod context;
+pub mod laws;
+mod prefix;
+mod structure;
+mod title;
+
+pub use crate::context::{EncryptionContext, MacContext, SignatureContext};
+pub use crate::structure::{enc_structure_data, mac_structure_data, sig_structure_data};
+pub use crate::title::{BytesTitle, bytes_title};
