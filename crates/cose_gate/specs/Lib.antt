@@ -3,7 +3,6 @@ pub use Rattle.cose_gate_core.specs.Findings
 pub use Rattle.cose_gate_core.specs.Lent
 pub use Rattle.cose_gate_core.specs.Outcome
 pub use Rattle.cose_gate_core.specs.Passing
-pub use Rattle.cose_gate_core.specs.Program
 pub use Rattle.cose_gate_core.specs.Questions
 pub use Rattle.cose_gate_core.specs.Recorded
 pub use Rattle.cose_gate_core.specs.Run

@@ -12,7 +12,7 @@ pub use ciborium_ll::{Decoder, End, Full, Io, IoFault, Mem, Read, Write};
 pub use ciborium_value::Kind as SemanticKind;
 pub use cose_gate_core::{
     About, Asked, Counts, Entry, GateFault, Judge, Kind, Recorder, Refusal, Report, Silent,
-    Verdict, gate, run_first,
+    Verdict, gate,
 };
 pub use cose_hmac::hmac_sha256;
 pub use cose_judge_hmac::HmacJudge;

@@ -2,7 +2,6 @@ pub mod InOrder
 pub mod Items
 pub mod Nothing
 pub mod Outcomes
-pub mod Programs
 pub mod Reach
 pub mod Unique
 pub mod TagNumbers

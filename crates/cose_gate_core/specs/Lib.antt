@@ -3,7 +3,6 @@ pub mod Findings
 pub mod Lent
 pub mod Outcome
 pub mod Passing
-pub mod Program
 pub mod Questions
 pub mod Recorded
 pub mod Run

@@ -8,14 +8,12 @@ mod judge;
 pub mod laws;
 mod message;
 mod passing;
-mod program;
 mod recorder;
 mod report;
 
 pub use crate::about::{About, Kind};
 pub use crate::gating::{Counts, GateFault, gate};
 pub use crate::judge::Judge;
-pub use crate::program::run_first;
 pub use crate::recorder::{Asked, Recorder};
 pub use crate::report::{Entry, Refusal, Report, Silent, Verdict};
 pub use ciborium::de;

@@ -1,5 +1,5 @@
 -- A value is what a label stands for, or has a fault as that.
-use Rattle.std.proofs.Common.{◌≡◌, ◌≢◌, ℕ, ℤ, pos, ◌⊎◌, ◌+◌, inl, inr, List, [], ◌∷◌, ◌++◌, Bool, true, false, cond, Option, Some, None, option_map, option_and_then, refl, sym, ap, subst, ◌∙◌, arith}
+use Rattle.std.proofs.Common.{◌≡◌, ◌≢◌, ℕ, ℤ, pos, ◌⊎◌, ◌+◌, inl, inr, List, [], ◌∷◌, ◌++◌, Bool, true, false, cond, Some, None, option_map, option_and_then, refl, sym, ap, subst, ◌∙◌}
 use Rattle.std.specs.Prelude.{◌||◌}
 use Rattle.std.specs.List.{count_by}
 use Rattle.std.specs.Str.{trim}
@@ -13,11 +13,11 @@ use Rattle.ciborium_value.specs.Tree.{Tree, integer, bytes, text, array, map as 
 use Rattle.ciborium_value.specs.View.{trees}
 use Rattle.coset_labels.specs.Fields.{LabelFields, number, words, Named, private_use, assigned, named}
 use Rattle.coset_labels.specs.Faults.{CoseFault, out_of_range, unexpected, unregistered, unregistered_private}
-use Rattle.coset_labels.specs.Kinds.{is_array, some_bytes, WrongBytes}
+use Rattle.coset_labels.specs.Kinds.{some_bytes, WrongBytes}
 use Rattle.coset_labels.specs.Labels.{is_i64, label_of, WrongLabel, registered_of, registered_number, WrongRegistered, named_of, named_number, WrongNamed}
 use Rattle.coset_labels.specs.Orders.{label_cmp, labels_same}
 use Rattle.coset_headers.specs.Fields.{Plain}
-use Rattle.coset_headers.specs.Headers.{is_at, is_core, alg_of, parameter_of, parameters_of, crit_of, is_slash, IsContentType, format_of, HasContentType, IsIn}
+use Rattle.coset_headers.specs.Headers.{is_at, is_core, alg_of, parameter_of, parameters_of, crit_of, is_slash, format_of, HasContentType, IsIn}
 use Rattle.coset_headers.specs.Parts.{Fills, fills_alg, fills_crit, fills_content_type, fills_key_id, fills_iv, fills_partial_iv, fills_rest}
 use Rattle.coset_headers.specs.Walks.{WrongFill, field_wrong, iv_second, partial_iv_second}
 use Rattle.coset_headers.specs.Wrong.{WrongCrit, no_crit_list, empty_crit, bad_crit, WrongContentType, no_content_type, empty_text, white_space, no_one_slash, WrongField, wrong_alg, wrong_crit, wrong_content_type, wrong_key_id, wrong_iv, wrong_partial_iv}

@@ -1,13 +1,12 @@
 -- What is found of an item is there, and so is a run over each input.
-use Rattle.std.proofs.Common.{◌≡◌, ◌≢◌, ℕ, ◌+◌, ◌⊎◌, inl, inr, List, [], ◌∷◌, ◌++◌, length, map, Bool, Option, Some, None, refl, sym, ap, subst, ◌∙◌, arith, append_assoc}
+use Rattle.std.proofs.Common.{◌≡◌, ◌≢◌, ℕ, ◌+◌, ◌⊎◌, inl, inr, List, [], ◌∷◌, ◌++◌, length, map, Bool, Option, Some, None, refl, sym, ap, subst}
 use Rattle.std.specs.Prelude.{All}
 use Rattle.std.proofs.lemmas.Bool.{cases_eq}
 use Rattle.std.proofs.lemmas.List.{map-append}
 use denote.Bor.{Bor}
 use Rattle.ciborium_value.specs.Tree.{Tree, integer, bytes, text, array, map as map_tree, tag, simple, float}
 use Rattle.ciborium.specs.Damage.{Fault, end, deep, syntax, semantic}
-use Rattle.ciborium.specs.Front.{Reads}
-use Rattle.ciborium.specs.Items.{Item, Items, Sequence, IsUnreadable, nesting}
+use Rattle.ciborium.specs.Items.{Item, Items, Sequence, nesting}
 use Rattle.ciborium.specs.declared.de.Error.TheVariants as de
 use Rattle.ciborium.proofs.Sequence.{items_there}
 use Rattle.coset_labels.specs.Faults.{CoseFault, undecodable, too_long, duplicate_key, unencodable, extraneous, out_of_range, unexpected, unregistered, unregistered_private, no_memory, too_many_layers, fault_of}
@@ -21,7 +20,7 @@ use Rattle.coset_maced.specs.Shapes.{HasMac0, HasMac}
 use Rattle.coset_maced.specs.Wrong.{WrongMac0, WrongMac}
 use Rattle.cose_gate_core.specs.Questions.{Question, MessageFields, sign1, mac0, sign, mac, tag_of, payload_of, questions}
 use Rattle.cose_gate_core.specs.Asked.{first_no}
-use Rattle.cose_gate_core.specs.Findings.{Finding, judged, barred, excluded, Reason, not_tagged, encrypted, other_tag, shape, detached, no_signature, Limits, HasMessage, WrongMessage, IsMessage, IsMessageTag, IsEncryptedTag, IsCarried, IsUnsigned, Finds}
+use Rattle.cose_gate_core.specs.Findings.{Finding, judged, barred, excluded, not_tagged, encrypted, other_tag, shape, detached, no_signature, Limits, HasMessage, WrongMessage, IsMessage, IsMessageTag, IsEncryptedTag, IsCarried, IsUnsigned, Finds}
 use Rattle.cose_gate_core.specs.Run.{Step, Steps, Run, Course, IsVerdict, judged_by}
 use Rattle.cose_gate_core.specs.declared.report.Refusal.{Refusal}
 use Rattle.cose_gate_core.specs.declared.report.Refusal.TheVariants as refusal

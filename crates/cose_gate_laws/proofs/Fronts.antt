@@ -1,23 +1,19 @@
 -- What was gone through is a beginning of the run, and steps over the same trees say the same.
-use Rattle.std.proofs.Common.{◌≡◌, ℕ, ◌+◌, inl, inr, List, [], ◌∷◌, ◌++◌, length, map, Bool, false, refl, sym, ap, subst, ◌∙◌, arith, append_assoc, append-nil, cond}
+use Rattle.std.proofs.Common.{◌≡◌, ℕ, ◌+◌, inl, inr, List, [], ◌∷◌, ◌++◌, length, map, Bool, false, refl, sym, ap, subst, ◌∙◌, append_assoc, append-nil, cond}
 use Rattle.std.proofs.lemmas.List.{append_cancel_left, map-append}
 use Rattle.std.proofs.lemmas.Grind.{flat_map-append}
 use Rattle.ciborium_value.specs.Tree.{Tree}
-use Rattle.ciborium.specs.Front.{Reads, Front}
-use Rattle.ciborium.specs.Items.{Item, Items, Sequence, IsUnreadable, nesting, item_at}
+use Rattle.ciborium.specs.Items.{Item, Sequence, IsUnreadable, nesting}
 use Rattle.ciborium.proofs.Sequence.{items_once}
 use Rattle.coset_headers.proofs.Unique.{reads_once}
-use Rattle.coset_labels.specs.declared.error.CoseError.{CoseError}
 use Rattle.cose_gate_core.specs.declared.report.Verdict.{Verdict}
-use Rattle.cose_gate_core.specs.declared.report.Verdict.TheVariants.{Refused}
-use Rattle.cose_gate_core.specs.declared.report.Refusal.TheVariants as refusal
 use Rattle.cose_gate_core.specs.Questions.{Question}
 use Rattle.cose_gate_core.specs.Asked.{IsFront}
 use Rattle.cose_gate_core.specs.Findings.{Limits, Finding, judged, barred, excluded, not_tagged, encrypted, other_tag, shape, detached, no_signature, Finds}
 use Rattle.cose_gate_core.specs.Run.{Step, Steps, Run, Course, IsVerdict, asked_of, written_of, text_of, passes, questions_of, output_of, entries_of}
 use Rattle.cose_gate_core.proofs.Unique.{finding_once, run_once}
-use Rattle.cose_gate_laws.specs.Anew.{bytes_of, moved, SameVerdict, SameEntry, SameEntries, SameVerdicts, EntriesBegin, IgnoresSpelling}
-use Rattle.cose_gate_laws.proofs.Placed.{placed, placed_append, placed_asks, placed_writes, bytes_append, Stand, stand_entries, stand_same, IsStep, AllSteps, Told, all_append, all_split, course_told, run_told, run_again}
+use Rattle.cose_gate_laws.specs.Anew.{bytes_of, moved, SameVerdict, SameEntries, SameVerdicts, EntriesBegin, IgnoresSpelling}
+use Rattle.cose_gate_laws.proofs.Placed.{placed, placed_append, placed_asks, placed_writes, bytes_append, Stand, stand_entries, stand_same, IsStep, AllSteps, Told, all_append, all_split, run_told, run_again}
 
 -- one verdict stands for a finding, but for the fault of a shape
 module _ (limits : Limits) (allows : Question → Bool) (aad : List ℕ) (t : Tree) where

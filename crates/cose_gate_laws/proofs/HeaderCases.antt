@@ -1,18 +1,18 @@
 -- A value has the fields of a header, or a fault as one; and so of a protected header and of a signature.
-use Rattle.std.proofs.Common.{◌≡◌, ◌≢◌, ℕ, zero, suc, pos, ◌+◌, ◌-◌, ◌<◌, ◌≤◌, ◌⊎◌, inl, inr, List, [], ◌∷◌, ◌++◌, length, Bool, true, false, Option, Some, None, refl, sym, ap, subst, ◌∙◌, arith, append_assoc, append-nil}
+use Rattle.std.proofs.Common.{◌≡◌, ◌≢◌, ℕ, zero, suc, ◌+◌, ◌-◌, ◌<◌, ◌≤◌, ◌⊎◌, inl, inr, List, [], ◌∷◌, ◌++◌, length, true, false, Some, refl, sym, ap, subst, ◌∙◌, arith, append_assoc, append-nil}
 use Rattle.std.specs.Prelude.{All}
 use Rattle.std.proofs.lemmas.Bool.{cases_eq}
-use Rattle.ciborium_value.specs.Tree.{Tree, integer, bytes, text, array, map as map_tree, tag, simple, float, Trees, no_trees, one_more, Pairs, no_pairs, pair_more, tree_count}
+use Rattle.ciborium_value.specs.Tree.{Tree, integer, bytes, text, array, map as map_tree, tag, simple, float, Trees, no_trees, one_more, Pairs, no_pairs, pair_more}
 use Rattle.ciborium_value.specs.View.{trees, pairs}
 use Rattle.ciborium.specs.Front.{Reads, Front}
 use Rattle.ciborium.proofs.ChildCases.{ItemCase, readable, damaged as broken}
 use Rattle.ciborium.proofs.ItemCases.{item_case}
-use Rattle.coset_labels.specs.Fields.{LabelFields, number}
+use Rattle.coset_labels.specs.Fields.{LabelFields}
 use Rattle.coset_labels.specs.Faults.{CoseFault, undecodable, extraneous, duplicate_key, unexpected, too_many_layers}
 use Rattle.coset_labels.specs.Labels.{label_of, WrongLabel}
-use Rattle.coset_labels.specs.Reading.{NotReadable, damaged, goes_on}
+use Rattle.coset_labels.specs.Reading.{damaged, goes_on}
 use Rattle.coset_headers.specs.Fields.{Plain, HeaderFields, header, ProtectedFields, protected, SignatureFields, signature, Signatures, no_signatures, signature_more, no_header, no_plain}
-use Rattle.coset_headers.specs.Headers.{is_at, entries, at, IsIn, IsPlain, IsBare, IsList, list_of_three, HasHeader, HasProtected, HasSignature, HasSigned, HasSignatures}
+use Rattle.coset_headers.specs.Headers.{is_at, entries, IsIn, IsPlain, IsBare, IsList, list_of_three, HasHeader, HasProtected, HasSignature, HasSigned, HasSignatures}
 use Rattle.coset_headers.specs.Parts.{Known}
 use Rattle.coset_headers.specs.Weight.{weight, weight_all, weight_pairs}
 use Rattle.coset_headers.specs.Wrong.{WrongHeader, no_map, at_entry, WrongEntry, bad_label, label_again, bad_signatures, WrongSigned, no_list, no_first, in_bare, in_list, WrongSignature, no_array, not_three, in_protected, in_unprotected, no_bytes, WrongProtected, no_string, too_deep, unreadable, inside}

@@ -1,5 +1,5 @@
 -- What is written of a header that was read fits heads where the value did, and is no longer.
-use Rattle.std.proofs.Common.{◌≡◌, ℕ, ℤ, pos, negsuc, ◌+◌, ◌^◌, ◌<◌, ◌≤◌, ◌⊎◌, inl, inr, List, [], ◌∷◌, ◌++◌, length, map, Bool, true, false, cond, Option, Some, None, option_map, option_and_then, refl, sym, ap, subst, ◌∙◌, arith, append_assoc, length-append}
+use Rattle.std.proofs.Common.{◌≡◌, ℕ, ℤ, pos, ◌+◌, ◌^◌, ◌<◌, ◌≤◌, ◌⊎◌, inl, inr, List, [], ◌∷◌, ◌++◌, length, map, Bool, true, false, cond, Option, Some, None, option_map, option_and_then, refl, sym, ap, subst, ◌∙◌, arith, length-append}
 use Rattle.std.specs.Prelude.{◌||◌}
 use Rattle.ciborium_ll.specs.Title.{shortest}
 use Rattle.ciborium_value.specs.Tree.{Tree, integer, bytes, text, array, map as map_tree, tag, simple, float, Trees, no_trees, one_more, Pairs, no_pairs, pair_more, tree_count, pair_count}
@@ -11,16 +11,14 @@ use Rattle.cose_iana.specs.Headers.{header_parameters}
 use Rattle.cose_iana.specs.Registry.{is_private_use}
 use Rattle.coset_labels.specs.Fields.{LabelFields, number, words, Named, private_use, assigned, named}
 use Rattle.coset_labels.specs.Kinds.{some_bytes}
-use Rattle.coset_labels.specs.Labels.{is_i64, label_of, label_tree, named_of, named_number, registered_of, registered_number, named_tree}
+use Rattle.coset_labels.specs.Labels.{is_i64, label_of, label_tree, named_of, registered_of, named_tree}
 use Rattle.coset_headers.specs.Fields.{Plain, HeaderFields, header, SignatureFields, signature, Signatures, no_signatures, signature_more}
-use Rattle.coset_headers.specs.Headers.{is_at, is_core, alg_of, parameter_of, parameters_of, crit_of, format_of, HasContentType, entries, at, IsIn, Distinct, others, IsField, IsPlain, list_of_three, HasHeader, HasSignature, HasSigned, HasSignatures}
+use Rattle.coset_headers.specs.Headers.{is_at, is_core, alg_of, parameter_of, parameters_of, crit_of, HasContentType, entries, at, IsIn, Distinct, others, IsField, IsPlain, list_of_three, HasHeader, HasSignature, HasSigned, HasSignatures}
 use Rattle.coset_headers.specs.Written.{name_entry, crit_entry, bytes_entry, signs_entry, written_entries, entry_tree, bare_or_list, header_tree, shown, signature_tree, signature_trees}
 use Rattle.coset_headers.proofs.Again.{header_parts, signature_parts, trees_parts, prot_again}
 use Rattle.coset_headers.proofs.Entered.{is_at_is, at_none, bool_cases, no_core}
 use Rattle.coset_headers.proofs.Restored.{crit_items}
 use Rattle.coset_headers.proofs.Sound.{none_more}
-use Rattle.coset_headers.proofs.Wrote.{from2, from3, from4, from5, from6, from7}
-use Rattle.cose_gate_laws.proofs.Widths.{width, width_is, wider}
 
 -- u, which is written for t, fits heads where t does, and is no longer
 pub record Kept (t u : Tree) : Type 0 where

@@ -1,19 +1,18 @@
 -- What is read of bytes holds bytes: each byte string in it is below 256 at each place, and where the bytes are few it fits heads.
-use Rattle.std.proofs.Common.{◌≡◌, ℕ, ◌+◌, ◌^◌, ◌<◌, ◌≤◌, inl, inr, List, [], ◌∷◌, ◌++◌, length, take, Bool, true, false, cond, Option, Some, None, option_map, option_and_then, refl, sym, ap, subst, ◌∙◌, arith, length-append, append_assoc}
+use Rattle.std.proofs.Common.{◌≡◌, ℕ, ◌+◌, ◌^◌, ◌<◌, ◌≤◌, inl, inr, List, [], ◌∷◌, ◌++◌, length, take, Bool, true, false, cond, Option, Some, None, option_map, option_and_then, refl, sym, ap, subst, ◌∙◌, arith, append_assoc}
 use Rattle.std.specs.Prelude.{ℤ, All, nat_eq, nat_lt, nat_le, ◌||◌, ◌&&◌, pos, negsuc}
 use Rattle.std.specs.Str.{IsUtf8}
 use Rattle.std.proofs.lemmas.List.{take-append-le, take_all}
 use Rattle.std.proofs.lemmas.List.Elements.{All-same, All-take, All-append, All-nil, All-tail}
 use Rattle.std.proofs.lemmas.Str.{IsUtf8-append, IsUtf8-nil}
-use Rattle.std.proofs.lemmas.Bool.{cond_both, ltb-true}
+use Rattle.std.proofs.lemmas.Bool.{ltb-true}
 use Rattle.ciborium_ll.specs.declared.hdr.Header.{Header}
-use Rattle.ciborium_ll.specs.declared.hdr.Header.TheVariants.{Positive, Negative, Bytes, Text, Array, Map, Tag, Simple}
+use Rattle.ciborium_ll.specs.declared.hdr.Header.TheVariants.{Bytes, Text, Array, Map}
 use Rattle.ciborium_ll.specs.declared.hdr.Header.TheVariants as head
 use Rattle.ciborium_ll.specs.declared.hdr.Float.TheVariants.{Half, Single, Double}
-use Rattle.ciborium_ll.specs.Title.{Title, NumberAt, Numbered, Spelled, FitsHeader}
+use Rattle.ciborium_ll.specs.Title.{Title, NumberAt, FitsHeader}
 use Rattle.ciborium_ll.specs.Title.NumberAt.{direct, one, two, four, eight}
 use Rattle.ciborium_ll.specs.Framing.{Frame, Frames, whole, cut, no_frames, frame_more, joined, Any}
-use Rattle.ciborium_ll.proofs.Walk.{title_some}
 use Rattle.ciborium_value.specs.Tree.{Tree, integer, bytes, text, array, map as map_tree, tag, simple, float, Trees, no_trees, one_more, Pairs, no_pairs, pair_more, tree_count, pair_count}
 use Rattle.ciborium_value.specs.Folding.{fold_by, fold_all_by, fold_pairs_by, fold_bytes, fold_number, tagged, big_endian_from, without_zeros}
 use Rattle.ciborium_value.specs.Encoding.{int_head, Fits, FitAll, FitPairs}

@@ -1,6 +1,6 @@
 -- A value has the fields of an authenticated message of each kind, or a fault as one.
-use Rattle.std.proofs.Common.{◌≡◌, ◌≢◌, ℕ, ◌+◌, ◌⊎◌, inl, inr, List, [], ◌∷◌, Bool, true, false, Option, Some, None, refl, ap, arith}
-use Rattle.ciborium_value.specs.Tree.{Tree, integer, bytes, text, array, map as map_tree, tag, simple, float, Trees, no_trees, one_more, tree_count}
+use Rattle.std.proofs.Common.{ℕ, ◌⊎◌, inl, inr, [], ◌∷◌, refl, ap, arith}
+use Rattle.ciborium_value.specs.Tree.{Tree, integer, bytes, text, array, map as map_tree, tag, simple, float, Trees, no_trees, one_more}
 use Rattle.ciborium_value.specs.View.{trees}
 use Rattle.coset_labels.specs.Faults.{CoseFault, unexpected}
 use Rattle.coset_maced.specs.Fields.{Mac0Fields, MacFields}

@@ -1,14 +1,14 @@
 -- What is written of a message that was read has its fields again, nests no deeper, fits heads, and is no longer than the value.
-use Rattle.std.proofs.Common.{◌≡◌, ℕ, ◌+◌, ◌-◌, ◌^◌, ◌<◌, ◌≤◌, suc, inl, inr, List, [], ◌∷◌, ◌++◌, length, Bool, true, false, cond, Option, Some, None, option_map, option_and_then, refl, sym, ap, subst, ◌∙◌, arith, length-append}
+use Rattle.std.proofs.Common.{◌≡◌, ℕ, ◌+◌, ◌-◌, ◌≤◌, suc, inl, inr, List, [], ◌∷◌, ◌++◌, length, Bool, true, false, cond, Option, Some, None, option_map, option_and_then, refl, sym, ap, subst, ◌∙◌, arith, length-append}
 use Rattle.std.specs.Prelude.{nat_eq, ◌||◌, ◌&&◌}
 use Rattle.ciborium_ll.specs.Title.{shortest}
-use Rattle.ciborium_value.specs.Tree.{Tree, bytes, array, tag, Trees, no_trees, one_more, tree_count, depth, opens_none}
+use Rattle.ciborium_value.specs.Tree.{Tree, bytes, array, tag, Trees, no_trees, one_more, depth}
 use Rattle.ciborium_value.specs.View.{trees}
-use Rattle.ciborium_value.specs.Folding.{fold, tagged}
-use Rattle.ciborium_value.specs.Encoding.{enc, enc_all, Fits, FitAll}
+use Rattle.ciborium_value.specs.Folding.{tagged}
+use Rattle.ciborium_value.specs.Encoding.{enc, enc_all}
 use Rattle.coset_labels.specs.Arrays.{all_written, array_of}
 use Rattle.coset_headers.specs.Fields.{HeaderFields, ProtectedFields, SignatureFields, signatures}
-use Rattle.coset_headers.specs.Headers.{HasHeader, HasProtected, HasSignature, HasSignatures}
+use Rattle.coset_headers.specs.Headers.{HasProtected, HasSignatures}
 use Rattle.coset_headers.specs.Written.{header_tree, shown, signature_tree}
 use Rattle.coset_headers.proofs.Again.{prot_again, hdr_again, sig_again}
 use Rattle.coset_headers.proofs.Sound.{Sound, SoundAll, array_inside, array_sound, all_none, all_more, all_parts, hdr_sound, sig_sound, folds_all}
@@ -18,7 +18,7 @@ use Rattle.coset_recipients.specs.Fields.{RecipientFields, recipient, Recipients
 use Rattle.coset_recipients.specs.Shapes.{three_or_four, HasRecipient, HasRecipients, HasInner, HasList}
 use Rattle.coset_recipients.specs.Written.{fourth, whole, recipient_tree, recipients_trees, list_tree}
 use Rattle.coset_signed.specs.Fields.{Sign1Fields, SignFields}
-use Rattle.coset_signed.specs.Shapes.{four_items, HasFour, IsSignatureList, HasSign1, HasSign}
+use Rattle.coset_signed.specs.Shapes.{four_items, IsSignatureList, HasSign1, HasSign}
 use Rattle.coset_signed.specs.Written.{with_last, sign1_tree, sign_tree}
 use Rattle.coset_maced.specs.Fields.{Mac0Fields, MacFields}
 use Rattle.coset_maced.specs.Shapes.{HasMac0, HasMac}

@@ -1,24 +1,22 @@
 -- The output of a run is a sequence of the messages that pass.
-use Rattle.std.proofs.Common.{◌≡◌, ◌≢◌, ℕ, ◌+◌, ◌^◌, ◌<◌, ◌≤◌, ◌⊎◌, inl, inr, List, [], ◌∷◌, ◌++◌, length, map, Bool, true, false, cond, Option, Some, None, option_map, is_none, refl, sym, ap, subst, ◌∙◌, arith, append-nil, length-append}
+use Rattle.std.proofs.Common.{◌≡◌, ℕ, ◌+◌, ◌^◌, ◌<◌, ◌⊎◌, inl, inr, List, [], ◌∷◌, ◌++◌, length, map, Bool, true, false, cond, Option, Some, None, option_map, refl, sym, ap, subst, ◌∙◌, arith, length-append}
 use Rattle.std.specs.Prelude.{All}
 use Rattle.ciborium_value.specs.Tree.{Tree, tag}
-use Rattle.ciborium_value.specs.Encoding.{enc, Fits}
+use Rattle.ciborium_value.specs.Encoding.{enc}
 use Rattle.ciborium.specs.Damage.{end, in_title}
 use Rattle.ciborium.specs.Front.{Reads}
 use Rattle.ciborium.specs.Items.{Item, Items, Sequence, nesting, item_at}
 use Rattle.ciborium.proofs.Excludes.{excludes}
 use Rattle.coset_headers.proofs.Entered.{bool_cases}
 use Rattle.coset_headers.proofs.Sound.{reads_sound, sound_reads}
-use Rattle.cose_gate_core.specs.Asked.{first_no}
-use Rattle.cose_gate_core.specs.Questions.{Question, MessageFields, sign1, mac0, sign, mac, tag_of, questions, message_tree, tagged_tree, message_text}
+use Rattle.cose_gate_core.specs.Questions.{Question, MessageFields, sign1, mac0, sign, mac, tag_of, message_tree, tagged_tree, message_text}
 use Rattle.cose_gate_core.specs.Findings.{Finding, judged, barred, excluded, Limits, HasMessage, IsJudged, Finds}
-use Rattle.cose_gate_core.specs.Run.{Step, Run, passes, text_of, written_of, output_of}
+use Rattle.cose_gate_core.specs.Run.{Step, Run, passes, written_of, output_of}
 use Rattle.cose_gate_core.proofs.Written.{judged_text}
 use Rattle.cose_gate_laws.specs.Anew.{bytes_of}
 use Rattle.cose_gate_laws.specs.Output.{passed_of, passed_messages, AreMessages}
 use Rattle.cose_gate_laws.proofs.Placed.{AllSteps, run_told}
 use Rattle.cose_gate_laws.proofs.Lows.{IsByte, before, behind, reads_fits}
-use Rattle.cose_gate_laws.proofs.HeaderKept.{Kept}
 use Rattle.cose_gate_laws.proofs.MessageKept.{Again, Rewrite, tag_rewrite, sign1_again, sign_again, mac0_again, mac_again}
 
 map_made : {A B : Type 0} (f : A → B) (o : Option A) (y : B) → option_map f o ≡ Some y → (x : A) × (o ≡ Some x) × (f x ≡ y)

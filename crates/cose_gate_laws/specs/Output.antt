@@ -1,5 +1,5 @@
 -- The messages that pass, and a sequence of them.
-use Rattle.std.specs.Prelude.{◌≡◌, ℕ, List, [], ◌∷◌, flat_map, Option, Some, Bool, if◌then◌else◌}
+use Rattle.std.specs.Prelude.{◌≡◌, ℕ, List, [], ◌∷◌, flat_map, Some, Bool, if◌then◌else◌}
 use Rattle.ciborium_value.specs.Tree.{Tree}
 use Rattle.cose_gate_core.specs.Questions.{Question, MessageFields, tagged_tree}
 use Rattle.cose_gate_core.specs.Findings.{Limits, Finding, judged, barred, excluded, IsJudged}

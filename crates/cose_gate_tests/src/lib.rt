@@ -9,8 +9,6 @@ mod examples;
 #[cfg(test)]
 mod macs;
 #[cfg(test)]
-mod program;
-#[cfg(test)]
 mod runs;
 #[cfg(test)]
 mod signs;

@@ -5,6 +5,14 @@ use ciborium_value::Kind;
 use cose_gate::{CoseError, GateFault, Refusal, Verdict};
 use std::test::Fail;
 
+/// The device that failed is named by its own text.
+#[test]
+fn a_broken_device_has_a_text(rt: HostRuntime) -> Result<(), Fail> {
+    let alloc = rt.alloc();
+    assert_eq!(rt; format!(in alloc; "{}", Broken)?.as_str(), "Broken");
+    Ok(())
+}
+
 #[test]
 fn texts_of_faults(rt: HostRuntime) -> Result<(), Fail> {
     let alloc = rt.alloc();

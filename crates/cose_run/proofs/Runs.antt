@@ -26,7 +26,7 @@ use Rattle.cose_judge_hmac.specs.Judge.{says_yes}
 use Rattle.coset_keys.specs.View.{key_set_view}
 use Rattle.cose_run.specs.Beginning.{status_of, Begins, BeginsNot}
 use Rattle.cose_run.specs.declared.beginning.Beginning.{Beginning}
-use Rattle.cose_run.specs.Program.{GatedOver, Gated, Through, InPart, Ran, Devices, RanOn, Ends, no_file, not_hex, no_keys, no_memory, after_run}
+use Rattle.cose_run.specs.Program.{GatedOver, Gated, Through, InPart, Ran, Devices, Ends, no_file, not_hex, no_keys, no_memory, after_run}
 use Rattle.cose_run.specs.declared.beginning.NotBegun.{NotBegun}
 use Rattle.cose_run.specs.declared.beginning.NotBegun.TheVariants.{NoFile, NotHex, NoKeys, Memory}
 use Rattle.coset_labels.specs.Faults.{fault_of}

@@ -1,5 +1,5 @@
 -- The elements of an array, some after others.
-use Rattle.std.proofs.Common.{◌≡◌, ◌≤◌, ◌+◌, ◌⊎◌, inl, inr, ℕ, List, [], ◌∷◌, ◌++◌, Option, None, Some, refl, sym, ap, ◌∙◌, arith}
+use Rattle.std.proofs.Common.{◌≡◌, ◌≤◌, ◌+◌, ◌⊎◌, inl, inr, ℕ, List, ◌∷◌, ◌++◌, Option, None, Some, refl, sym, ap, ◌∙◌, arith}
 use Rattle.std.specs.Prelude.{option_map, option_and_then}
 use Rattle.std.proofs.lemmas.List.{append_cancel_left}
 use Rattle.ciborium_ll.specs.declared.hdr.Header.TheVariants.{Array}
@@ -7,7 +7,7 @@ use Rattle.ciborium_ll.specs.Title.{Begins}
 use Rattle.ciborium_value.specs.Tree.{Tree, array, tag, Trees, no_trees, one_more, tree_count}
 use Rattle.ciborium_value.specs.Folding.{tagged}
 use Rattle.ciborium.specs.Spelling.{SpellsAll}
-use Rattle.ciborium.specs.Meaning.{meaning, meanings}
+use Rattle.ciborium.specs.Meaning.{meanings}
 use Rattle.ciborium.proofs.Once.{once, no_break, regroup, tree_kind, array_same}
 use Rattle.ciborium.proofs.Parts.{Stands, Held, kind_at, kind_array, around_parts}
 use Rattle.ciborium.proofs.ReadLemmas.{meanings_parts}

@@ -1,5 +1,5 @@
 -- What holds of both kinds of message.
-use Rattle.std.proofs.Common.{◌≡◌, ◌≢◌, ℕ, inl, inr, List, [], ◌∷◌, false, None, Some, refl, sym, ap, ◌∙◌, arith}
+use Rattle.std.proofs.Common.{◌≡◌, ◌≢◌, ℕ, inl, inr, List, [], ◌∷◌, false, None, Some, refl, sym, ◌∙◌, arith}
 use Rattle.ciborium_value.specs.Tree.{Tree, array, tag, Trees, tree_count, bytes, is_bytes}
 use Rattle.coset_headers.specs.Fields.{HeaderFields, ProtectedFields, protected}
 use Rattle.coset_headers.specs.Headers.{HasProtected, HasHeader}
@@ -12,7 +12,7 @@ use Rattle.coset_signed.specs.Wrong.{WrongSign1, not_four, in_parts, in_last}
 use Rattle.coset_maced.specs.Wrong.{WrongMac0, no_array0, in_parts0, in_tag0}
 use Rattle.coset_maced.specs.Wrong as maced
 use Rattle.coset_structures.specs.Structure.{structure}
-use Rattle.cose_gate_core.specs.Questions.{Question, questions, alone, or_nothing, sign1_question, mac0_question}
+use Rattle.cose_gate_core.specs.Questions.{Question, questions, alone}
 use Rattle.cose_gate_core.specs.Findings.{IsBarred, shape, IsJudged, WrongMessage, usual}
 use Rattle.cose_stream.specs.declared.form.Form.{Form}
 use Rattle.cose_stream.specs.declared.form.Form.TheVariants as form

@@ -22,7 +22,7 @@ use Rattle.coset_headers.specs.declared.header.ProtectedHeader.{ProtectedHeader}
 use Rattle.coset_recipients.specs.View.{recipients_view}
 use Rattle.coset_recipients.specs.declared.recipient.CoseRecipient.{CoseRecipient}
 use Rattle.cose_gate_core.specs.Asked.{first_no, folded_over}
-use Rattle.cose_gate_core.specs.Questions.{Question, Subject, alone, questions}
+use Rattle.cose_gate_core.specs.Questions.{Question, Subject, alone}
 use Rattle.cose_gate_core.specs.declared.about.About.{About}
 use Rattle.cose_gate_core.specs.declared.about.Kind.{Kind}
 use Rattle.cose_gate_core.specs.Lent.{subject_of, signer_of}

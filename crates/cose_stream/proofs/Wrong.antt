@@ -1,5 +1,5 @@
 -- Faults at a part of a message are faults of the whole.
-use Rattle.std.proofs.Common.{◌≡◌, ◌≢◌, ◌≤◌, ◌<◌, ◌+◌, ◌⊎◌, inl, inr, ℕ, Bool, true, false, List, [], ◌∷◌, ◌++◌, length, nat_eq, Option, None, Some, refl, sym, ap, subst, ◌∙◌, arith, append_assoc}
+use Rattle.std.proofs.Common.{◌≡◌, ◌≢◌, ◌≤◌, ◌<◌, ◌+◌, ◌⊎◌, inl, inr, ℕ, Bool, true, false, List, ◌∷◌, ◌++◌, length, nat_eq, Option, None, Some, refl, sym, ap, subst, ◌∙◌, arith, append_assoc}
 use Rattle.std.specs.Prelude.{option_map, option_and_then}
 use Rattle.std.proofs.lemmas.Bool.Decides.{nat_tests}
 use borrow.Author.Tests.{eqb-true}
@@ -8,7 +8,7 @@ use Rattle.ciborium_ll.specs.Reading.{Moves}
 use Rattle.ciborium_ll.specs.Title.{Title, Begins}
 use Rattle.ciborium_value.specs.Tree.{Tree, array, tag, Trees, no_trees, one_more, tree_count}
 use Rattle.ciborium_value.specs.Folding.{tagged as tagged_by}
-use Rattle.ciborium.specs.Spelling.{Spells, SpellsAll}
+use Rattle.ciborium.specs.Spelling.{SpellsAll}
 use Rattle.ciborium.specs.Meaning.{meaning, meanings}
 use Rattle.ciborium.specs.Front.{Front}
 use Rattle.ciborium.specs.Reading.{IfKnown}

@@ -1,5 +1,5 @@
 -- What the streaming road answers, over the bytes that were to come.
-use Rattle.std.specs.Prelude.{◌≡◌, ◌≢◌, ℕ, ◌+◌, ◌^◌, ◌≤◌, max, ◌⊎◌, List, ◌++◌, length, Option, Some, None, Bool, IsTrue, Result, Ok, Err, is_none, if◌then◌else◌}
+use Rattle.std.specs.Prelude.{◌≡◌, ◌≢◌, ℕ, ◌+◌, ◌^◌, ◌≤◌, max, ◌⊎◌, List, ◌++◌, length, Option, None, Bool, IsTrue, Result, Ok, Err, is_none, if◌then◌else◌}
 use Rattle.ciborium_ll.specs.declared.hdr.Header.{Header}
 use Rattle.ciborium_ll.specs.declared.hdr.Header.TheVariants.{Simple, Tag, Bytes, Array}
 use Rattle.ciborium_ll.specs.Seen.{Seen}

@@ -1,12 +1,12 @@
 -- The entries of claims one after another, and the fields that they give.
-use Rattle.std.proofs.Common.{◌≡◌, ◌≢◌, ℕ, pos, negsuc, ◌⊎◌, inl, inr, ⊎_elim, List, [], ◌∷◌, ◌++◌, Bool, true, false, cond, Option, Some, None, option_map, option_and_then, refl, sym, ap, subst, ◌∙◌}
+use Rattle.std.proofs.Common.{◌≡◌, ℕ, pos, negsuc, ◌⊎◌, inl, inr, ⊎_elim, List, [], ◌∷◌, ◌++◌, Bool, true, false, cond, Option, Some, None, option_map, option_and_then, refl, sym, ap, subst, ◌∙◌}
 use Rattle.std.specs.Prelude.{◌||◌}
 use borrow.Author.Tests.{eqb-true}
 use Rattle.ciborium_value.specs.Tree.{Tree}
 use Rattle.ciborium_value.specs.View.{pairs}
 use Rattle.coset_labels.specs.Fields.{Named, private_use, assigned, named}
 use Rattle.coset_claims.specs.Fields.{ClaimsFields, no_claims}
-use Rattle.coset_claims.specs.Claims.{is_at, is_core, name_of, text_of, time_of, bytes_of, entries, at, IsIn, Distinct, others, IsField, IsClaims}
+use Rattle.coset_claims.specs.Claims.{is_at, is_core, name_of, entries, at, IsIn, Distinct, others, IsField, IsClaims}
 use Rattle.coset_claims.specs.Steps.{Fills, fills_issuer, fills_subject, fills_audience, fills_expiration_time, fills_not_before, fills_issued_at, fills_cwt_id, fills_rest}
 
 -- one more entry

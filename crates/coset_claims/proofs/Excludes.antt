@@ -3,11 +3,11 @@ use Rattle.std.proofs.Common.{◌≡◌, ℕ, ℤ, pos, inl, inr, List, [], ◌�
 use Rattle.cose_iana.specs.Registry.{is_private_use}
 use Rattle.ciborium_value.specs.Tree.{Tree, integer, bytes, text, array, map as map_tree, tag, simple, float, is_bytes}
 use Rattle.ciborium_value.specs.View.{pairs}
-use Rattle.coset_labels.specs.Fields.{Named, private_use, assigned, named}
+use Rattle.coset_labels.specs.Fields.{Named, private_use, assigned}
 use Rattle.coset_labels.specs.Faults.{CoseFault}
 use Rattle.coset_labels.specs.Kinds.{is_map, is_text}
-use Rattle.coset_labels.specs.Labels.{is_i64, named_of, WrongNamed}
-use Rattle.coset_claims.specs.Fields.{TimeFields, whole_seconds, fractional_seconds, ClaimsFields}
+use Rattle.coset_labels.specs.Labels.{named_of, WrongNamed}
+use Rattle.coset_claims.specs.Fields.{TimeFields, whole_seconds, ClaimsFields}
 use Rattle.coset_claims.specs.Claims.{is_at, name_of, text_of, time_of, bytes_of, entries, at, IsIn, Distinct, IsField, IsClaims, HasClaims}
 use Rattle.coset_claims.specs.Wrong.{WrongTime, WrongField, wrong_issuer, wrong_subject, wrong_audience, wrong_expiration_time, wrong_not_before, wrong_issued_at, wrong_cwt_id, WrongEntry, bad_name, name_again, bad_field, WrongClaims, no_map, at_entry}
 use Rattle.coset_claims.proofs.Entered.{cond_none, at_none}

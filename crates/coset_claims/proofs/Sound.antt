@@ -1,11 +1,11 @@
 -- What claims that were read are written as is read again: it nests no deeper, its bignums stay folded, and its simple values are those
 -- that a value can have.
-use Rattle.std.proofs.Common.{◌≡◌, ℕ, ℤ, ◌≤◌, ◌<◌, ◌-◌, ◌⊎◌, suc, inl, inr, List, [], ◌∷◌, ◌++◌, map, Bool, true, false, cond, Option, Some, None, option_map, option_and_then, refl, sym, ap, subst, ◌∙◌, arith}
+use Rattle.std.proofs.Common.{◌≡◌, ℕ, ℤ, ◌≤◌, ◌-◌, ◌⊎◌, suc, inl, inr, List, [], ◌∷◌, ◌++◌, map, Bool, true, false, cond, Option, Some, None, option_map, option_and_then, refl, sym, ap, subst, ◌∙◌, arith}
 use Rattle.std.specs.Prelude.{max, nat_eq, nat_lt, nat_le, ◌||◌, ◌&&◌, pos, negsuc, length}
 use Rattle.ciborium_value.specs.Tree.{Tree, integer, bytes, text, array, map as map_tree, tag, simple, float, Trees, no_trees, one_more, Pairs, no_pairs, pair_more, depth, depth_all, depth_pairs, opens_none, is_bytes}
 use Rattle.ciborium_value.specs.View.{pairs}
 use Rattle.ciborium_value.specs.Encoding.{enc, Fits}
-use Rattle.ciborium_value.specs.Folding.{tagged, fold_bytes, fold_number, big_endian_from, without_zeros, fold, fold_pairs_by}
+use Rattle.ciborium_value.specs.Folding.{tagged, fold_number, big_endian_from, without_zeros, fold, fold_pairs_by}
 use Rattle.ciborium.specs.Front.{Reads}
 use Rattle.ciborium.specs.Meaning.{meaning, meanings, pair_meanings, simple_meaning, Assigned, PairsAssigned}
 use Rattle.ciborium.proofs.Agreeing.{encoding_means}
@@ -15,7 +15,7 @@ use Rattle.coset_labels.specs.Fields.{Named, private_use, assigned, named}
 use Rattle.coset_labels.specs.Labels.{named_tree}
 use Rattle.coset_labels.specs.Reading.{HasItem}
 use Rattle.coset_claims.specs.Fields.{TimeFields, whole_seconds, fractional_seconds, ClaimsFields}
-use Rattle.coset_claims.specs.Claims.{name_of, is_core, entries, others, IsClaims, HasClaims}
+use Rattle.coset_claims.specs.Claims.{name_of, is_core, entries, others, HasClaims}
 use Rattle.coset_claims.specs.Written.{time_tree, field_entry, written_entries, entry_tree, claims_tree}
 use Rattle.coset_claims.proofs.Again.{claims_again}
 

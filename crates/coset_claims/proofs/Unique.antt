@@ -1,5 +1,5 @@
 -- A value has one set of claims at most.
-use Rattle.std.proofs.Common.{◌≡◌, ℕ, List, Option, Some, None, sym, ap, subst, ◌∙◌}
+use Rattle.std.proofs.Common.{◌≡◌, List, Option, Some, None, sym, ap, subst, ◌∙◌}
 use Rattle.ciborium_value.specs.Tree.{Tree, map as map_tree}
 use Rattle.coset_labels.specs.Fields.{Named}
 use Rattle.coset_claims.specs.Fields.{ClaimsFields}

@@ -2,8 +2,11 @@
 use ciborium_value::{Integer, Value};
 use coset_builders::{CoseSignatureBuilder, HeaderBuilder};
 use coset_headers::{CoseSignature, Header, ProtectedHeader};
-use coset_structures::{EncryptionContext, MacContext, SignatureContext, enc_structure_data, mac_structure_data, sig_structure_data};
 use coset_labels::{CborSerializable, CoseError, Label, iana};
+use coset_structures::{
+    EncryptionContext, MacContext, SignatureContext, enc_structure_data, mac_structure_data,
+    sig_structure_data,
+};
 use std::alloc::Global;
 use std::test::Fail;
 

@@ -1,6 +1,6 @@
 -- What is written of a message that was read nests no deeper than it did, and is read again.
 use Rattle.std.proofs.Common.{◌≡◌, ℕ, ◌-◌, [], ◌∷◌, Some, subst}
-use Rattle.ciborium_value.specs.Tree.{Tree, bytes, array, no_trees, one_more}
+use Rattle.ciborium_value.specs.Tree.{Tree, bytes, no_trees, one_more}
 use Rattle.ciborium_value.specs.View.{trees}
 use Rattle.coset_headers.proofs.Sound.{Sound, all_more, all_parts}
 use Rattle.coset_parts.proofs.Sound.{whole_sound, one_sound, only}

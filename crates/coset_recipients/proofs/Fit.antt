@@ -1,5 +1,5 @@
 -- What is written of a recipient fits heads where its parts do.
-use Rattle.std.proofs.Common.{◌≡◌, ℕ, ◌^◌, ◌<◌, ◌≤◌, inl, inr, List, [], ◌∷◌, length, Option, Some, None, sym, ap, subst, ◌∙◌, arith}
+use Rattle.std.proofs.Common.{◌≡◌, ℕ, ◌^◌, ◌<◌, ◌≤◌, inl, inr, List, [], ◌∷◌, length, Option, Some, sym, ap, subst, ◌∙◌, arith}
 use Rattle.std.specs.Prelude.{option_map}
 use Rattle.ciborium_value.specs.Tree.{Tree, array, Trees, no_trees, one_more, tree_count}
 use Rattle.ciborium_value.specs.View.{trees}
@@ -12,7 +12,7 @@ use Rattle.coset_parts.specs.Written.{parts_trees}
 use Rattle.coset_parts.proofs.Again.{map_made}
 use Rattle.coset_parts.proofs.Fit.{whole_fit, parts_short}
 use Rattle.coset_recipients.specs.Fields.{RecipientFields, recipient, RecipientsFields, no_recipients, recipient_more}
-use Rattle.coset_recipients.specs.Shapes.{HasRecipient, HasRecipients, HasInner, HasList}
+use Rattle.coset_recipients.specs.Shapes.{HasRecipient, HasRecipients, HasInner}
 use Rattle.coset_recipients.specs.Short.{RecipientShort, RecipientsShort}
 use Rattle.coset_recipients.specs.View.{recipient_view, recipients_view}
 use Rattle.coset_recipients.specs.Written.{fourth, recipient_tree, recipients_trees, list_tree}

@@ -1,5 +1,5 @@
 -- What is written of a recipient that was read nests no deeper than it did, and is read again.
-use Rattle.std.proofs.Common.{◌≡◌, ℕ, ◌≤◌, ◌-◌, inl, inr, [], ◌∷◌, Option, Some, None, sym, ap, subst, ◌∙◌}
+use Rattle.std.proofs.Common.{◌≡◌, ℕ, ◌≤◌, ◌-◌, inl, inr, Option, Some, sym, subst}
 use Rattle.ciborium_value.specs.Tree.{Tree, array, Trees, no_trees, one_more}
 use Rattle.ciborium_value.specs.View.{trees}
 use Rattle.coset_headers.proofs.Again.{trees_parts}
@@ -8,7 +8,7 @@ use Rattle.coset_parts.specs.Written.{parts_trees}
 use Rattle.coset_parts.proofs.Again.{map_made}
 use Rattle.coset_parts.proofs.Sound.{whole_sound, one_sound, only}
 use Rattle.coset_recipients.specs.Fields.{RecipientFields, recipient, RecipientsFields, no_recipients, recipient_more}
-use Rattle.coset_recipients.specs.Shapes.{optional_list, three_or_four, HasRecipient, HasRecipients, HasInner, HasList}
+use Rattle.coset_recipients.specs.Shapes.{optional_list, HasRecipient, HasRecipients, HasInner, HasList}
 use Rattle.coset_recipients.specs.Written.{fourth, recipient_tree, recipients_trees, list_tree}
 use Rattle.coset_recipients.proofs.Again.{wrote_of, none_written}
 

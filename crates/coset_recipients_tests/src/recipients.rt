@@ -1,9 +1,9 @@
 //! Recipients from bytes and back, and what their ciphers are handed. Expected bytes and texts are written out by hand.
 use crate::tools::{Met, joined, repeated};
 use coset_builders::HeaderBuilder;
-use coset_structures::EncryptionContext;
 use coset_labels::{CborSerializable, CoseError, Fault, iana};
 use coset_recipients::{CoseRecipient, CoseRecipientBuilder};
+use coset_structures::EncryptionContext;
 use std::alloc::Global;
 use std::test::Fail;
 

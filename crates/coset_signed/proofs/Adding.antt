@@ -5,7 +5,6 @@ use Rattle.std.specs.Fn.{Once, FnOnceReturnsAt}
 use Rattle.coset_headers.specs.Fields.{SignatureFields}
 use Rattle.coset_labels.specs.declared.error.CoseError.{CoseError}
 use Rattle.coset_labels.specs.declared.error.CoseError.TheVariants.{Memory}
-use Rattle.coset_labels.specs.declared.error.Fault.{Fault}
 use Rattle.coset_signed.specs.Added.{AddsWhere, TriesToAddWhere}
 use Rattle.coset_signed.specs.Fields.{SignFields, signed_by, also_signed}
 

@@ -1,5 +1,5 @@
 -- What is written of a message that was read has its fields again.
-use Rattle.std.proofs.Common.{◌≡◌, ℕ, List, [], ◌∷◌, ◌++◌, Option, Some, option_map, refl, sym, ap, ◌∙◌}
+use Rattle.std.proofs.Common.{◌≡◌, ℕ, List, [], ◌∷◌, Option, Some, option_map, refl, sym, ap, ◌∙◌}
 use Rattle.ciborium_value.specs.Tree.{Tree, bytes, array, Trees}
 use Rattle.ciborium_value.specs.View.{trees}
 use Rattle.coset_labels.specs.Arrays.{all_written, array_of}

@@ -1,8 +1,8 @@
 -- A value with a fault has the fields of no message.
 use Rattle.std.proofs.Common.{◌≡◌, ◌≢◌, ℕ, inl, inr, List, [], ◌∷◌, ◌++◌, true, false, Option, None, Some, sym, ap, subst, ◌∙◌}
-use Rattle.ciborium_value.specs.Tree.{Tree, bytes, array, simple, is_bytes, Trees, no_trees, one_more, tree_count}
+use Rattle.ciborium_value.specs.Tree.{Tree, bytes, array, simple, is_bytes, no_trees, one_more, tree_count}
 use Rattle.ciborium_value.specs.View.{trees}
-use Rattle.coset_labels.specs.Faults.{CoseFault, unexpected}
+use Rattle.coset_labels.specs.Faults.{CoseFault}
 use Rattle.coset_labels.specs.Kinds.{is_array}
 use Rattle.coset_headers.specs.Fields.{HeaderFields, ProtectedFields, SignatureFields, signatures, Signatures, no_signatures, signature_more}
 use Rattle.coset_headers.specs.Headers.{HasSignature, HasSignatures}

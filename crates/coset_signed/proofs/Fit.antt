@@ -1,5 +1,5 @@
 -- What is written of a message fits heads where its parts do.
-use Rattle.std.proofs.Common.{◌≡◌, ℕ, ◌^◌, ◌<◌, List, [], ◌∷◌, length, map, Some, sym, ap, subst, arith}
+use Rattle.std.proofs.Common.{◌≡◌, ℕ, List, [], ◌∷◌, length, map, Some, sym, ap, subst, arith}
 use Rattle.ciborium_value.specs.Tree.{Tree, bytes, array, Trees, tree_count}
 use Rattle.ciborium_value.specs.View.{trees}
 use Rattle.ciborium_value.specs.Encoding.{Fits, FitAll}

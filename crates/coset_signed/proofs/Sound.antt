@@ -1,6 +1,6 @@
 -- What is written of a message that was read nests no deeper than it did, and is read again.
-use Rattle.std.proofs.Common.{◌≡◌, ℕ, ◌-◌, List, [], ◌∷◌, Some, sym, ap, subst}
-use Rattle.ciborium_value.specs.Tree.{Tree, bytes, array, Trees, no_trees}
+use Rattle.std.proofs.Common.{◌≡◌, ℕ, ◌-◌, List, [], ◌∷◌, Some, sym, subst}
+use Rattle.ciborium_value.specs.Tree.{Tree, bytes, array, Trees}
 use Rattle.ciborium_value.specs.View.{trees}
 use Rattle.coset_labels.specs.Arrays.{all_written}
 use Rattle.coset_headers.specs.Fields.{SignatureFields, signatures}

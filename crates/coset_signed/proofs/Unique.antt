@@ -1,13 +1,9 @@
 -- A value has the fields of at most one message, and of none where it has a fault.
-use Rattle.std.proofs.Common.{◌≡◌, ◌≢◌, ℕ, inl, inr, List, [], ◌∷◌, ◌++◌, true, false, Option, None, Some, refl, sym, ap, subst, ◌∙◌}
-use Rattle.ciborium_value.specs.Tree.{Tree, bytes, array, simple, is_bytes, Trees, no_trees, one_more, tree_count}
-use Rattle.ciborium_value.specs.View.{trees}
-use Rattle.coset_labels.specs.Faults.{CoseFault}
-use Rattle.coset_labels.specs.Kinds.{is_array}
-use Rattle.coset_headers.specs.Fields.{HeaderFields, ProtectedFields, SignatureFields, signatures, Signatures, no_signatures, signature_more}
-use Rattle.coset_headers.specs.Headers.{HasHeader, HasProtected, HasSignature, HasSignatures}
+use Rattle.std.proofs.Common.{◌≡◌, ℕ, List, [], ◌∷◌, Option, None, Some, refl, sym, subst, ◌∙◌}
+use Rattle.ciborium_value.specs.Tree.{Tree, bytes, array, simple}
+use Rattle.coset_headers.specs.Fields.{HeaderFields, ProtectedFields, SignatureFields, signatures, no_signatures, signature_more}
+use Rattle.coset_headers.specs.Headers.{HasHeader, HasProtected, HasSignatures}
 use Rattle.coset_headers.proofs.Unique.{hdr_once, prot_once, sigs_once}
-use Rattle.coset_parts.specs.Shapes.{HasParts}
 use Rattle.coset_parts.specs.Written.{optional_tree}
 use Rattle.coset_signed.specs.Fields.{Sign1Fields, SignFields}
 use Rattle.coset_signed.specs.Shapes.{four_items, HasFour, IsSignatureList, HasSign1, HasSign}

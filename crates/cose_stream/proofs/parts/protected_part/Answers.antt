@@ -1,7 +1,6 @@
 use Rattle.std.proofs.lemmas.Result.{err_from_is_err_and}
 use Rattle.coset_headers.specs.Wrong.{WrongProtected}
-use Rattle.cose_stream.proofs.Faults.{part_weaker, part_refused}
-use Rattle.cose_stream.proofs.Forms.{received_there}
+use Rattle.cose_stream.proofs.Faults.{part_refused}
 use Rattle.cose_stream.proofs.parts.protected_part.Goals as goal
 
 pub returns-in_err-protected-clause-err : goal.returns-in_err-protected-clause-err

@@ -1,6 +1,6 @@
 use Rattle.std.proofs.lemmas.Result.{err_from_is_err_and}
 use Rattle.cose_stream.specs.Parts.{NoBytes}
-use Rattle.cose_stream.proofs.Faults.{part_weaker, part_wrong}
+use Rattle.cose_stream.proofs.Faults.{part_wrong}
 use Rattle.cose_stream.proofs.parts.signature_part.Goals as goal
 
 pub returns-in_err-bytes-clause-err : goal.returns-in_err-bytes-clause-err

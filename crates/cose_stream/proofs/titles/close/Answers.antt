@@ -1,6 +1,5 @@
-use Rattle.std.proofs.Common.{sym, ◌∙◌}
 use Rattle.cose_stream.specs.Parts.{CloseFault}
-use Rattle.cose_stream.proofs.Faults.{unexpected_here, not_some}
+use Rattle.cose_stream.proofs.Faults.{unexpected_here}
 use Rattle.cose_stream.proofs.titles.close.Goals as goal
 
 pub returns-then-not-is_break-clause-err : goal.returns-then-not-is_break-clause-err
