@@ -1,3 +1,5 @@
+pub mod Checked
 pub mod Ids
 pub mod Keys
 pub mod Relay
+pub mod Spelled

@@ -2,8 +2,13 @@
 //! that its contracts are of use.
 #![tactic(auto)]
 
+pub mod checking;
+pub mod heading;
 pub mod heads;
 pub mod items;
 pub mod judging;
+pub mod keeping;
+pub mod once;
 pub mod relaying;
+pub mod signing;
 pub mod tally;

@@ -53,7 +53,7 @@ impl<'a> Read for Source<'a> {
     }
 }
 
-/// A writer that takes all but one call, the one after so many.
+/// A writer that takes all but one call, the one after so many, and can't be flushed.
 #[derive(Drop)]
 pub struct Sink {
     pub bytes: Vec<u8>,
@@ -81,6 +81,7 @@ impl Write for Sink {
     }
 
     fn flush(&mut self) -> Result<(), Broken> {
-        Ok(())
+        self.failed = self.failed.and_one();
+        Err(Broken)
     }
 }

@@ -27,7 +27,7 @@ pub struct Row {
     pub ending: Ending<End>,
 }
 
-pub const ROWS: [Row; 20] = [
+pub const ROWS: [Row; 21] = [
     Row {
         input: "",
         asked: &[],
@@ -97,6 +97,17 @@ pub const ROWS: [Row; 20] = [
         input: "d28440a11863c25f4101ff4040",
         asked: &[("846a5369676e617475726531404040", 0, [0; 8])],
         output: "d28440a11863014040",
+        noted: &[(0, Verdict::Passed)],
+        ending: Ending::Whole(Counts {
+            passed: 1,
+            refused: 0,
+        }),
+    },
+    Row {
+        // a number of five bytes behind its tag and head stands in seven, and as an integer in nine
+        input: "d28440a11863c24501000000004040",
+        asked: &[("846a5369676e617475726531404040", 0, [0; 8])],
+        output: "d28440a118631b00000001000000004040",
         noted: &[(0, Verdict::Passed)],
         ending: Ending::Whole(Counts {
             passed: 1,

@@ -1,4 +1,4 @@
-//! Tests of `cose_gate`, by its public names alone: what no clause says, as that runs succeed, texts, statuses, and readers, writers,
+//! Tests of `cose_gate`, by its public names alone: what no clause says, as that runs succeed, texts, and readers, writers,
 //! judges and reports that fail in mid-stream.
 #![tactic(auto)]
 

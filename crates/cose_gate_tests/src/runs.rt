@@ -104,14 +104,51 @@ fn runs_over_the_examples(rt: HostRuntime) -> Result<(), Fail> {
     Ok(())
 }
 
+/// A text between two others, so many times.
+fn repeated(
+    alloc: Global,
+    front: &str,
+    part: &str,
+    count: usize,
+    rest: &str,
+) -> Result<String, Fail> {
+    let mut text = String::from_str(alloc, front)?;
+    for _ in 0..count {
+        text.push_str(part)?;
+    }
+    text.push_str(rest)?;
+    Ok(text)
+}
+
+/// An open array of 256 entries in the unprotected header stands in two bytes, and one with its length in three.
+#[test]
+fn an_output_may_be_longer_than_its_input(rt: HostRuntime) -> Result<(), Fail> {
+    let alloc = rt.alloc();
+    let input = repeated(alloc, "d28440a118639f", "00", 256, "ff4040")?;
+    let output = repeated(alloc, "d28440a11863990100", "00", 256, "4040")?;
+    let seen = run(alloc, input.as_str(), &[], Recorder::new(alloc, None))?;
+    let asked = [("846a5369676e617475726531404040", 0, [0; 8])];
+    has_asked(&rt, alloc, &seen.recorder, &asked, input.as_str())?;
+    assert_eq!(rt; seen.output.as_str(), output.as_str());
+    // in hex, a byte is two digits
+    assert_eq!(rt; (input.len(), seen.output.len()), (2 * 266, 2 * 267));
+    let entry = Entry {
+        number: 1,
+        offset: 0,
+        verdict: Verdict::Passed,
+    };
+    assert_eq!(rt; seen.entries.as_slice(), [entry].as_slice());
+    let counts = Counts {
+        passed: 1,
+        refused: 0,
+    };
+    assert_eq!(rt; seen.ending, Ending::Whole(counts));
+    Ok(())
+}
+
 /// A message in hex whose unprotected header holds this many arrays inside one another.
 fn nested(alloc: Global, count: usize) -> Result<String, Fail> {
-    let mut text = String::from_str(alloc, "d28440a11863")?;
-    for _ in 0..count {
-        text.push_str("81")?;
-    }
-    text.push_str("004040")?;
-    Ok(text)
+    repeated(alloc, "d28440a11863", "81", count, "004040")
 }
 
 #[test]
@@ -315,6 +352,7 @@ fn a_failed_write_is_the_answer(rt: HostRuntime) -> Result<(), Fail> {
         let written = out.bytes.len();
         assert!(rt; output.starts_with(&out.bytes), "at {calls}");
         if written == 28 {
+            // the writer can't be flushed, and wasn't
             is_whole = true;
             assert_eq!(rt;
                 ending_of(answer),

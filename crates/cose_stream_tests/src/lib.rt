@@ -9,6 +9,10 @@ mod devices;
 #[cfg(test)]
 mod failing;
 #[cfg(test)]
+mod firmware;
+#[cfg(test)]
+mod memory;
+#[cfg(test)]
 mod rows;
 #[cfg(test)]
 mod watching;

@@ -213,9 +213,9 @@ fn parts_nest_254_levels(rt: HostRuntime) -> Result<(), Fail> {
 }
 
 #[test]
-fn a_firmware_image_is_checked(rt: HostRuntime) -> Result<(), Fail> {
+fn a_long_payload_comes_in_pieces(rt: HostRuntime) -> Result<(), Fail> {
     let alloc = rt.alloc();
-    // a COSE_Sign1 whose payload is an image of 10,000 bytes, which no buffer of this device holds
+    // a COSE_Sign1 whose payload is 10,000 bytes
     let mut input = hex::decode(alloc, "d28443a10126a0592710")?;
     for index in 0..10_000u32 {
         input.push((index % 251) as u8)?;
@@ -229,8 +229,8 @@ fn a_firmware_image_is_checked(rt: HostRuntime) -> Result<(), Fail> {
     assert_eq!(rt; decoder.offset(), input.len());
     assert!(rt; watcher.lengths.as_slice() == [12, 1, 3, 1, 0, 3, 4096, 4096, 1808].as_slice());
     assert_eq!(rt; input.len(), 10_012);
-    if let Some(image) = input.get(10..10_010) {
-        assert!(rt; watcher.covered.as_slice().ends_with(image));
+    if let Some(payload) = input.get(10..10_010) {
+        assert!(rt; watcher.covered.as_slice().ends_with(payload));
     }
     Ok(())
 }

@@ -1,4 +1,5 @@
 //! Counter signatures, protected headers and their layers, structures, and large headers.
+use ciborium::de;
 use ciborium_value::{Integer, Value};
 use coset_builders::{CoseSignatureBuilder, HeaderBuilder};
 use coset_headers::{CoseSignature, Header, ProtectedHeader};
@@ -21,31 +22,90 @@ fn received(alloc: Global, text: &str) -> Result<Result<ProtectedHeader, CoseErr
     Ok(ProtectedHeader::from_cbor_bstr(alloc, Value::Bytes(bytes)))
 }
 
+/// A signature over no byte whose protected header is this item, empty otherwise.
+fn signed_by(alloc: Global, protected: &Vec<u8>) -> Result<Vec<u8>, Fail> {
+    let mut bytes = [0x83].to_vec(alloc)?;
+    bytes.extend_from_slice(protected.as_slice())?;
+    bytes.push(0xa0)?;
+    bytes.push(0x40)?;
+    Ok(bytes)
+}
+
+/// A header with this counter signature alone, by itself or in a list.
+fn countersigned(alloc: Global, signature: &Vec<u8>, in_list: bool) -> Result<Vec<u8>, Fail> {
+    let mut bytes = [0xa1, 0x07].to_vec(alloc)?;
+    if in_list {
+        bytes.push(0x81)?;
+    }
+    bytes.extend_from_slice(signature.as_slice())?;
+    Ok(bytes)
+}
+
 #[test]
 fn sixteen_layers_are_read(rt: HostRuntime) -> Result<(), Fail> {
     let alloc = rt.alloc();
-    let mut layer = Value::Bytes(Vec::new(alloc)).to_vec(alloc)?;
-    for n in 1..18 {
-        let value = Value::from_slice(alloc, layer.as_slice())?;
-        let read = ProtectedHeader::from_cbor_bstr(alloc, value);
-        match read {
-            Ok(protected) => {
-                assert!(rt; n < 17, "layer {n} is read");
-                let back = protected.cbor_bstr(alloc)?.to_vec(alloc)?;
-                assert!(rt; back == layer, "layer {n} is written back");
+    // the innermost is an empty string, a header, or no byte string, which a list can hold
+    for (innermost, in_list, want) in [
+        ("40", false, "too many protected layers"),
+        ("43a10126", false, "too many protected layers"),
+        ("01", true, "got int, expected bstr"),
+    ] {
+        let mut layer = hex::decode(alloc, innermost)?;
+        for n in 1..18 {
+            let is_read = !in_list && n < 17;
+            let value = Value::from_slice(alloc, layer.as_slice())?;
+            match ProtectedHeader::from_cbor_bstr(alloc, value) {
+                Ok(protected) => {
+                    assert!(rt; is_read, "layer {n} of {innermost} is read");
+                    let back = protected.cbor_bstr(alloc)?.to_vec(alloc)?;
+                    assert!(rt; back == layer, "layer {n} of {innermost} is written back");
+                }
+                Err(error) => {
+                    assert!(rt; !is_read, "layer {n} of {innermost} is refused");
+                    assert_eq!(rt; format!(in alloc; "{error}")?.as_str(), want);
+                }
             }
+
+            // a signature and a header by themselves have as many
+            let signature = signed_by(alloc, &layer)?;
+            let read = CoseSignature::from_slice(alloc, signature.as_slice());
+            assert!(rt; read.is_ok() == is_read, "signature {n} of {innermost}");
+            let header = countersigned(alloc, &signature, in_list)?;
+            let read = Header::from_slice(alloc, header.as_slice());
+            assert!(rt; read.is_ok() == is_read, "header {n} of {innermost}");
+            layer = Value::Bytes(header).to_vec(alloc)?;
+        }
+    }
+    Ok(())
+}
+
+/// An entry with arrays inside one another, 255 of which are as deep as a header may be.
+fn nested(alloc: Global, arrays: usize) -> Result<Vec<u8>, Fail> {
+    let mut bytes = [0xa1, 0x18, 0x63].to_vec(alloc)?;
+    for _ in 0..arrays {
+        bytes.push(0x81)?;
+    }
+    bytes.push(0x00)?;
+    Ok(bytes)
+}
+
+#[test]
+fn each_layer_nests_anew(rt: HostRuntime) -> Result<(), Fail> {
+    let alloc = rt.alloc();
+    let deep = de::Error::RecursionLimitExceeded;
+    for (arrays, is_read) in [(255, true), (256, false)] {
+        let header = nested(alloc, arrays)?;
+        let read = Header::from_slice(alloc, header.as_slice());
+        assert!(rt; read.is_ok() == is_read, "a header of {arrays}");
+        let inside = Value::Bytes(header).to_vec(alloc)?;
+        let bytes = countersigned(alloc, &signed_by(alloc, &inside)?, false)?;
+        match Header::from_slice(alloc, bytes.as_slice()) {
+            Ok(_) => assert!(rt; is_read, "inside a signature {arrays}"),
             Err(error) => {
-                assert!(rt; n == 17, "layer {n} is refused");
-                assert!(rt; error == CoseError::TooManyLayers);
+                assert!(rt; !is_read, "inside a signature {arrays}");
+                assert!(rt; error == CoseError::DecodeFailed(deep));
             }
         }
-        let mut content = [0xa1, 0x07, 0x83].to_vec(alloc)?;
-        for byte in &layer {
-            content.push(*byte)?;
-        }
-        content.push(0xa0)?;
-        content.push(0x40)?;
-        layer = Value::Bytes(content).to_vec(alloc)?;
     }
     Ok(())
 }

@@ -179,6 +179,45 @@ fn params_are_sorted(rt: HostRuntime) -> Result<(), Fail> {
 }
 
 #[test]
+fn equal_labels_keep_their_order(rt: HostRuntime) -> Result<(), Fail> {
+    let alloc = rt.alloc();
+    for ordering in [
+        CborOrdering::Lexicographic,
+        CborOrdering::LengthFirstLexicographic,
+    ] {
+        let mut key = CoseKeyBuilder::new_okp_key(alloc)
+            .param(-2, Value::Bool(true))?
+            .param(-1, Value::Null)?
+            .param(-2, Value::Bool(false))?
+            .build();
+        key.canonicalize(alloc, ordering)?;
+        let sorted = CoseKeyBuilder::new_okp_key(alloc)
+            .param(-1, Value::Null)?
+            .param(-2, Value::Bool(true))?
+            .param(-2, Value::Bool(false))?
+            .build();
+        assert!(rt; key == sorted);
+    }
+    Ok(())
+}
+
+/// A hostile key must not take quadratic time.
+#[test]
+fn a_hundred_thousand_params(rt: HostRuntime) -> Result<(), Fail> {
+    let alloc = rt.alloc();
+    let mut key = CoseKeyBuilder::new_okp_key(alloc).build();
+    for n in 0..100_000i64 {
+        key.params.push((Label::Int(n + 6), Value::Null))?;
+    }
+    let bytes = key.to_vec(alloc)?;
+    let mut read = CoseKey::from_slice(alloc, bytes.as_slice())?;
+    assert!(rt; read.params.len() == 100_000);
+    read.canonicalize(alloc, CborOrdering::LengthFirstLexicographic)?;
+    assert!(rt; read.to_vec(alloc)? == bytes);
+    Ok(())
+}
+
+#[test]
 fn a_label_that_stands_twice_is_not_written(rt: HostRuntime) -> Result<(), Fail> {
     let alloc = rt.alloc();
     let key = CoseKeyBuilder::new_okp_key(alloc)

@@ -70,6 +70,10 @@ fn faults_become_errors(rt: HostRuntime) {
     assert!(rt; CoseError::from(device) == CoseError::EncodeFailed);
     let refused: ser::Error<u8> = ser::Error::Memory;
     assert!(rt; CoseError::from(refused) == CoseError::Memory);
+    match u8::try_from(256u32) {
+        Ok(_) => assert!(rt; false, "256 in a byte"),
+        Err(error) => assert!(rt; CoseError::from(error) == CoseError::OutOfRangeIntegerValue),
+    }
     let fault: Fault<u8> = Fault::from(CoseError::ExtraneousData);
     assert!(rt; fault == Fault::Cose(CoseError::ExtraneousData));
 }

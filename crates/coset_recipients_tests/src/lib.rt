@@ -6,6 +6,8 @@ mod encrypted;
 #[cfg(test)]
 mod maced;
 #[cfg(test)]
+mod memory;
+#[cfg(test)]
 mod recipients;
 #[cfg(test)]
 mod tools;

@@ -4,6 +4,8 @@
 #[cfg(test)]
 mod manifest;
 #[cfg(test)]
+mod memory;
+#[cfg(test)]
 mod sign;
 #[cfg(test)]
 mod sign1;

@@ -1,0 +1,83 @@
+//! Headers made and read. `coset_base` is the one crate that it names.
+ghost use Rattle.std.specs.Prelude.{◌≡◌, ◌≢◌, None, Some, IfOk, IfErr, option_map};
+ghost use Rattle.cose_iana.specs.Algorithms.{algorithm_number};
+ghost use Rattle.coset_base.specs.Encoding.{enc};
+ghost use Rattle.coset_base.specs.Faults.{OrMemory};
+ghost use Rattle.coset_base.specs.Fields.{HeaderFields, header, no_plain, no_signatures};
+ghost use Rattle.coset_base.specs.Headers.{HasHeader};
+ghost use Rattle.coset_base.specs.LabelFields.{assigned};
+ghost use Rattle.coset_base.specs.Reading.{HasItem, WrongItem};
+ghost use Rattle.coset_base.specs.View.{header_view};
+ghost use Rattle.coset_base.specs.Written.{header_tree};
+ghost use Rattle.coset_base.specs.Wrong.{WrongHeader};
+
+use coset_base::laws::headers::{header_reads_again, read_can_be_written};
+use coset_base::{CborSerializable, CoseError, Header, HeaderBuilder, iana};
+use std::alloc::{AllocError, Global};
+
+/// A header with an algorithm and a key id, and nothing else.
+///
+/// # Errors
+/// Only where memory is refused.
+pub fn made(alloc: Global, alg: iana::Algorithm, key_id: &[u8]) -> Result<Header, AllocError>
+    ensures { IfOk result (λ h. header_view h
+        ≡ header (record no_plain { alg = Some (assigned (algorithm_number alg)); key_id = key_id.now }) no_signatures) }
+{
+    let key_id = key_id.to_vec(alloc)?;
+    Ok(
+        HeaderBuilder::new(alloc)
+            .algorithm(alg)
+            .key_id(key_id)
+            .build(),
+    )
+}
+
+/// The header that the bytes are. It can be written: no label would stand twice.
+///
+/// # Errors
+/// A fault of the bytes, or `Memory`.
+pub fn header_of(alloc: Global, bytes: &[u8]) -> Result<Header, CoseError>
+    ensures ok { IfOk result (λ h. HasItem (λ t f. HasHeader 256 t f 16) bytes.now (header_view h) × (header_tree (header_view h) ≢ None)) }
+    ensures err { IfErr result (OrMemory (WrongItem (λ t e. WrongHeader 256 t 16 e) bytes.now)) }
+{
+    read_can_be_written();
+    Header::from_slice(alloc, bytes)
+}
+
+/// The header that the bytes are, in its one shortest encoding, of which the same header is read.
+///
+/// # Errors
+/// A fault of the bytes, or `Memory`. Never that a label stands twice in what was read.
+pub fn rewritten(alloc: Global, bytes: &[u8]) -> Result<Vec<u8>, CoseError>
+    ensures ok { IfOk result (λ out. (h : HeaderFields) × HasItem (λ t f. HasHeader 256 t f 16) bytes.now h
+        × (option_map enc (header_tree h) ≡ Some out.items) × HasItem (λ t f. HasHeader 256 t f 16) out.items h) }
+    ensures err { IfErr result (OrMemory (WrongItem (λ t e. WrongHeader 256 t 16 e) bytes.now)) }
+{
+    let header = header_of(alloc, bytes)?;
+    header_reads_again(&header);
+    header.to_vec(alloc)
+}
+
+#[cfg(test)]
+mod tests {
+    use super::{header_of, made, rewritten};
+    use coset_base::{CborSerializable, CoseError, iana};
+    use std::test::Fail;
+
+    #[test]
+    fn headers_are_made_and_read(rt: HostRuntime) -> Result<(), Fail> {
+        let alloc = rt.alloc();
+        let made = made(alloc, iana::Algorithm::HMAC_256_256, b"1")?;
+        let wide = [0xa2, 0x04, 0x58, 0x01, 0x31, 0x18, 0x01, 0x05];
+        assert!(rt; header_of(alloc, &wide)? == made);
+        let written = made.to_vec(alloc)?;
+        assert_eq!(rt;
+            written.as_slice(),
+            [0xa2, 0x01, 0x05, 0x04, 0x41, 0x31].as_slice()
+        );
+        assert!(rt; rewritten(alloc, &wide)? == written);
+        let twice = [0xa2, 0x01, 0x05, 0x01, 0x05];
+        assert!(rt; header_of(alloc, &twice) == Err(CoseError::DuplicateMapKey));
+        Ok(())
+    }
+}

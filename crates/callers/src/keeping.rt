@@ -1,0 +1,151 @@
+//! Keys kept in one spelling, and claims read. `coset` is the one crate that it names.
+ghost use Rattle.std.specs.Prelude.{◌≡◌, ◌↔◌, [], ℕ, List, IsTrue, IfOk, IfErr, OnErr, not, option_map, string_bytes};
+ghost use Rattle.std.specs.List.{list_any};
+ghost use Rattle.std.specs.Str.{bytes_eq};
+ghost use Rattle.coset.specs.Claims.{HasClaims};
+ghost use Rattle.coset.specs.ClaimsFields.{ClaimsFields};
+ghost use Rattle.coset.specs.Faults.{OrMemory};
+ghost use Rattle.coset.specs.KeyFields.{KeyFields};
+ghost use Rattle.coset.specs.Keys.{HasKey};
+ghost use Rattle.coset.specs.KeysSorted.{SameButOrder};
+ghost use Rattle.coset.specs.KeyView.{key_view};
+ghost use Rattle.coset.specs.Reading.{HasItem, WrongItem};
+ghost use Rattle.coset.specs.WrongClaims.{WrongClaims};
+ghost use Rattle.coset.specs.WrongKeys.{WrongKey};
+ghost use Rattle.callers.specs.Keeping.{IsOrdered, IsSpelling, is_kept, also_kept};
+
+use coset::cwt::ClaimsSet;
+use coset::laws::keys::{key_reads_again, one_spelling};
+use coset::{CborOrdering, CborSerializable, CoseError, CoseKey};
+use std::alloc::Global;
+
+/// The key that the bytes are, with its entries in order.
+fn ordered(alloc: Global, bytes: &[u8]) -> Result<CoseKey, CoseError>
+    ensures ok { IfOk result (λ key. IsOrdered bytes.now (key_view key)) }
+    ensures err { IfErr result (OrMemory (WrongItem WrongKey bytes.now)) }
+{
+    let mut key = CoseKey::from_slice(alloc, bytes)?;
+    key.canonicalize(alloc, CborOrdering::Lexicographic)?;
+    Ok(key)
+}
+
+/// The one spelling of the key that the bytes are.
+///
+/// # Errors
+/// A fault of the bytes, or `Memory`. Never that a label stands twice in what was read.
+pub fn spelling(alloc: Global, bytes: &[u8]) -> Result<Vec<u8>, CoseError>
+    ensures ok { IfOk result (λ spelled. IsSpelling bytes.now spelled.items) }
+    ensures err { IfErr result (OrMemory (WrongItem WrongKey bytes.now)) }
+{
+    let key = ordered(alloc, bytes)?;
+    key_reads_again(&key);
+    key.to_vec(alloc)
+}
+
+/// Whether two keys are one: they differ at most in the order of their entries.
+///
+/// # Errors
+/// A fault of the bytes, or `Memory`.
+pub fn is_same_key(alloc: Global, a: &[u8], b: &[u8]) -> Result<bool, CoseError>
+    ensures { IfOk result (λ same. (k l : KeyFields) × HasItem HasKey a.now k × HasItem HasKey b.now l × (IsTrue same ↔ SameButOrder k l)) }
+{
+    let left = ordered(alloc, a)?;
+    let right = ordered(alloc, b)?;
+    one_spelling(&left, &right);
+    let one = left.to_vec(alloc)?;
+    let other = right.to_vec(alloc)?;
+    Ok(are_same(&one, &other))
+}
+
+fn are_same(one: &Vec<u8>, other: &Vec<u8>) -> bool
+    ensures { result ≡ bytes_eq one.now.items other.now.items }
+{
+    one.as_slice() == other.as_slice()
+}
+
+fn is_among(kept: &[Vec<u8>], spelled: &[u8]) -> bool
+    ensures { result ≡ list_any (λ v. bytes_eq v.items spelled.now) kept.now }
+{
+    kept.iter().any(|one| one.as_slice() == spelled)
+}
+
+/// Keys, each kept once, as the bytes of its one spelling.
+#[derive(Drop)]
+pub struct KeyStore {
+    kept: Vec<Vec<u8>>,
+}
+
+impl KeyStore {
+    ghost use Rattle.callers.specs.Keeping.{kept_of};
+
+    /// No key.
+    pub fn new(alloc: Global) -> KeyStore
+        ensures { kept_of result ≡ [] }
+    {
+        KeyStore {
+            kept: Vec::new(alloc),
+        }
+    }
+
+    fn has(&self, spelled: &[u8]) -> bool
+        ensures { result ≡ is_kept (kept_of self.now) spelled.now }
+    {
+        is_among(&self.kept, spelled)
+    }
+
+    /// Keeps the key that the bytes are, and says whether it is new.
+    ///
+    /// # Errors
+    /// A fault of the bytes, or `Memory`. Then the keys are as they were.
+    pub fn keep(&mut self, alloc: Global, bytes: &[u8]) -> Result<bool, CoseError>
+        ensures ok { IfOk result (λ new. (spelled : List ℕ) × IsSpelling bytes.now spelled × (new ≡ not (is_kept (kept_of self.old) spelled))
+            × (kept_of self.new ≡ also_kept (kept_of self.old) spelled)) }
+        ensures err { OnErr result (kept_of self.new ≡ kept_of self.old) }
+    {
+        let spelled = spelling(alloc, bytes)?;
+        if self.has(&spelled) {
+            return Ok(false);
+        }
+        self.kept.push(spelled)?;
+        Ok(true)
+    }
+}
+
+/// Whom the claims in the bytes are about, where they say so.
+///
+/// # Errors
+/// A fault of the bytes, or `Memory`.
+pub fn subject_of(alloc: Global, bytes: &[u8]) -> Result<Option<String>, CoseError>
+    ensures ok { IfOk result (λ subject. (c : ClaimsFields) × HasItem HasClaims bytes.now c × (option_map string_bytes subject ≡ c.subject)) }
+    ensures err { IfErr result (OrMemory (WrongItem WrongClaims bytes.now)) }
+{
+    let claims = ClaimsSet::from_slice(alloc, bytes)?;
+    Ok(claims.subject)
+}
+
+#[cfg(test)]
+mod tests {
+    use super::{KeyStore, is_same_key, spelling, subject_of};
+    use std::test::Fail;
+
+    #[test]
+    fn keys_are_kept_once(rt: HostRuntime) -> Result<(), Fail> {
+        let alloc = rt.alloc();
+        let one = [0xa3, 0x01, 0x04, 0x20, 0x41, 0x00, 0x18, 0x64, 0x07];
+        let same = [0xa3, 0x19, 0x00, 0x64, 0x07, 0x20, 0x41, 0x00, 0x01, 0x04];
+        let other = [0xa2, 0x01, 0x04, 0x20, 0x41, 0x01];
+        assert!(rt; is_same_key(alloc, &one, &same)?);
+        assert!(rt; !is_same_key(alloc, &one, &other)?);
+        assert_eq!(rt;
+            spelling(alloc, &same)?.as_slice(),
+            [0xa3, 0x01, 0x04, 0x18, 0x64, 0x07, 0x20, 0x41, 0x00].as_slice()
+        );
+        let mut store = KeyStore::new(alloc);
+        assert!(rt; store.keep(alloc, &one)?);
+        assert!(rt; !store.keep(alloc, &same)?);
+        assert!(rt; store.keep(alloc, &other)?);
+        let claims = [0xa1, 0x02, 0x62, 0x62, 0x62];
+        assert!(rt; subject_of(alloc, &claims)?.is_some_and(|name| name.as_str() == "bb"));
+        Ok(())
+    }
+}

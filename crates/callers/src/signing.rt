@@ -1,0 +1,193 @@
+//! Messages signed, tagged and verified. It names `coset_messages`, and `cose_hmac` for a key of its own.
+ghost use Rattle.std.specs.Prelude.{◌≡◌, ◌↔◌, ℕ, List, None, Some, IsTrue, IfOk, MatchResult};
+ghost use Rattle.coset_messages.specs.Fields.{protected};
+ghost use Rattle.coset_messages.specs.MacedFields.{Mac0Fields};
+ghost use Rattle.coset_messages.specs.MacedShapes.{HasMac0};
+ghost use Rattle.coset_messages.specs.MacedStructure.{mac0_covered};
+ghost use Rattle.coset_messages.specs.Reading.{HasItem, Tagged};
+ghost use Rattle.coset_messages.specs.SignedFields.{Sign1Fields};
+ghost use Rattle.coset_messages.specs.SignedShapes.{HasSign1};
+ghost use Rattle.coset_messages.specs.SignedStructure.{sign1_covered};
+ghost use Rattle.coset_messages.specs.SignedView.{sign1_view};
+ghost use Rattle.coset_messages.specs.View.{header_view};
+ghost use Rattle.callers.specs.Signing.{IsGood, Verified};
+
+use cose_hmac::{hmac_sha256, same_tag};
+use coset_messages::{
+    CoseMac0, CoseSign1, CoseSign1Builder, Fault, Header, TaggedCborSerializable,
+};
+use std::alloc::{AllocError, Global};
+
+/// A key of the caller: which signatures are good under it, over which bytes.
+pub trait Key {
+    /// Over these bytes this signature or tag is good.
+    ghost good: { Self → List ℕ → List ℕ → Type 0 };
+
+    /// A good signature or tag over the bytes.
+    ///
+    /// # Errors
+    /// Only where memory is refused.
+    fn sign(&self, alloc: Global, covered: &[u8]) -> Result<Vec<u8>, AllocError>
+        ensures { IfOk result (λ signature. good self.now covered.now signature.items) };
+
+    /// Whether a signature or tag is good over the bytes.
+    fn verifies(&self, signature: &[u8], covered: &[u8]) -> bool
+        ensures { IsTrue result ↔ good self.now covered.now signature.now };
+}
+
+/// Why a message is not taken.
+#[derive(Debug, Clone, Copy, PartialEq, Eq)]
+pub enum Refused {
+    /// Its signature or tag is not good under the key.
+    NotGood,
+    /// It doesn't carry its payload.
+    Detached,
+}
+
+/// What the key says, as the calls of a message take it.
+fn said<K: Key>(key: &K, signature: &[u8], covered: &[u8]) -> Result<(), Refused>
+    ensures { MatchResult result (λ _. K.good key.now covered.now signature.now) (λ _. K.good key.now covered.now signature.now → ⊥) }
+{
+    if key.verifies(signature, covered) {
+        Ok(())
+    } else {
+        Err(Refused::NotGood)
+    }
+}
+
+/// A message that is signed by the key.
+///
+/// # Errors
+/// `Cose` where the header can't be written, or memory is refused.
+pub fn signed<K: Key>(
+    alloc: Global,
+    header: Header,
+    payload: Vec<u8>,
+    aad: &[u8],
+    key: &K,
+) -> Result<CoseSign1, Fault<AllocError>>
+    ensures { IfOk result (λ m. ((sign1_view m).protected ≡ protected None (header_view header))
+        × ((sign1_view m).payload ≡ Some payload.items)
+        × IsGood (K.good key.now) (sign1_covered (sign1_view m) aad.now) (sign1_view m).signature) }
+{
+    let builder = CoseSign1Builder::new(alloc)
+        .protected(header)
+        .payload(payload)
+        .try_create_signature(alloc, aad, move |covered| key.sign(alloc, covered))?;
+    Ok(builder.build())
+}
+
+/// Whether the signature of a message is good: what the key says of it, over exactly the bytes that it covers.
+///
+/// # Errors
+/// `Caller` where it isn't. `Cose` where the protected header can't be written, or memory is refused.
+pub fn verified<K: Key>(
+    alloc: Global,
+    message: &CoseSign1,
+    aad: &[u8],
+    key: &K,
+) -> Result<(), Fault<Refused>>
+    ensures { Verified (K.good key.now) (sign1_covered (sign1_view message.now) aad.now) message.now.signature.items result }
+{
+    message.verify_signature(alloc, aad, move |signature, covered| {
+        said(key, signature, covered)
+    })
+}
+
+/// The payload of a tagged message, where its signature is good.
+///
+/// # Errors
+/// `Caller` where it isn't, or the payload is carried elsewhere. `Cose` where the bytes are no such message, or memory is refused.
+pub fn signed_payload<K: Key>(
+    alloc: Global,
+    bytes: &[u8],
+    aad: &[u8],
+    key: &K,
+) -> Result<Vec<u8>, Fault<Refused>>
+    ensures { IfOk result (λ payload. (m : Sign1Fields) × HasItem (Tagged 18 (λ t f. HasSign1 256 t f 16)) bytes.now m
+        × (m.payload ≡ Some payload.items) × IsGood (K.good key.now) (sign1_covered m aad.now) m.signature) }
+{
+    let message = CoseSign1::from_tagged_slice(alloc, bytes)?;
+    verified(alloc, &message, aad, key)?;
+    message.payload.ok_or(Fault::Caller(Refused::Detached))
+}
+
+/// The payload of a tagged COSE_Mac0, where its tag is good.
+///
+/// # Errors
+/// `Caller` where it isn't, or the payload is carried elsewhere. `Cose` where the bytes are no such message, or memory is refused.
+pub fn tagged_payload<K: Key>(
+    alloc: Global,
+    bytes: &[u8],
+    aad: &[u8],
+    key: &K,
+) -> Result<Vec<u8>, Fault<Refused>>
+    ensures { IfOk result (λ payload. (m : Mac0Fields) × HasItem (Tagged 17 (λ t f. HasMac0 256 t f 16)) bytes.now m
+        × (m.payload ≡ Some payload.items) × IsGood (K.good key.now) (mac0_covered m aad.now payload.items) m.tag) }
+{
+    let message = CoseMac0::from_tagged_slice(alloc, bytes)?;
+    message.verify_payload_tag(
+        alloc,
+        aad,
+        || Refused::Detached,
+        move |tag, covered| said(key, tag, covered),
+    )?;
+    message.payload.ok_or(Fault::Caller(Refused::Detached))
+}
+
+/// A secret that two sides share: its tags are those of HMAC with SHA-256 (RFC 2104).
+#[derive(Drop)]
+pub struct Secret {
+    bytes: Vec<u8>,
+}
+
+impl Key for Secret {
+    ghost use Rattle.cose_hmac.specs.Hmac.{hmac};
+
+    ghost good = { λ s covered tag. hmac s.bytes.items covered ≡ tag };
+
+    fn sign(&self, alloc: Global, covered: &[u8]) -> Result<Vec<u8>, AllocError> {
+        hmac_sha256(&self.bytes, covered).to_vec(alloc)
+    }
+
+    fn verifies(&self, signature: &[u8], covered: &[u8]) -> bool {
+        same_tag(&hmac_sha256(&self.bytes, covered), signature)
+    }
+}
+
+#[cfg(test)]
+mod tests {
+    use super::{Refused, Secret, signed, signed_payload, tagged_payload};
+    use coset_messages::{Fault, Header, TaggedCborSerializable};
+    use std::test::Fail;
+
+    /// 17([h'a10105', {}, 'hi', TAG]), with the tag over the external data 01 under the secret 00.
+    const TAGGED: [u8; 44] = [
+        0xd1, 0x84, 0x43, 0xa1, 0x01, 0x05, 0xa0, 0x42, 0x68, 0x69, 0x58, 0x20, 0x81, 0x75, 0x9b,
+        0xe7, 0xe4, 0x76, 0xdf, 0x66, 0xf2, 0x2e, 0x17, 0x4e, 0xd1, 0xa2, 0x5a, 0x0e, 0x0a, 0xb5,
+        0x49, 0x8e, 0x5e, 0x6c, 0xa0, 0x67, 0xae, 0x32, 0xd0, 0x75, 0xae, 0x9f, 0xf5, 0x6e,
+    ];
+
+    #[test]
+    fn messages_are_signed_and_verified(rt: HostRuntime) -> Result<(), Fail> {
+        let alloc = rt.alloc();
+        let secret = Secret {
+            bytes: [0].to_vec(alloc)?,
+        };
+        let other = Secret {
+            bytes: [1].to_vec(alloc)?,
+        };
+        let hi = b"hi".to_vec(alloc)?;
+        let message = signed(alloc, Header::new(alloc), hi, b"aad", &secret)?;
+        let bytes = message.to_tagged_vec(alloc)?;
+        let payload = signed_payload(alloc, &bytes, b"aad", &secret)?;
+        assert_eq!(rt; payload.as_slice(), b"hi".as_slice());
+        let refused = signed_payload(alloc, &bytes, b"aad", &other);
+        assert!(rt; refused == Err(Fault::Caller(Refused::NotGood)));
+        let payload = tagged_payload(alloc, &TAGGED, &[1], &secret)?;
+        assert_eq!(rt; payload.as_slice(), b"hi".as_slice());
+        let refused = tagged_payload(alloc, &TAGGED, &[2], &secret);
+        assert!(rt; refused == Err(Fault::Caller(Refused::NotGood)));
+        Ok(())
+    }
+}
