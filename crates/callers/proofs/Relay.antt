@@ -1,17 +1,18 @@
 -- What the gate's answer says of a relay.
 use Rattle.std.proofs.Common.{◌≡◌, ℕ, ◌+◌, List, [], ◌∷◌, ◌++◌, length, Option, Some, Bool, refl, ap, subst, sym, ◌∙◌, append_assoc, append-nil, zero-add}
 use Rattle.std.proofs.lemmas.Grind.{flat_map-append}
-use Rattle.std.specs.Prelude.{Result, Err}
+use Rattle.std.specs.Prelude.{Result, Ok, Err}
 use Rattle.std.specs.Io.KnownBytes.{Appends}
 use Rattle.cose_gate.specs.Reading.{IfKnown}
 use Rattle.cose_gate.specs.Findings.{usual}
 use Rattle.cose_gate.specs.Questions.{Question}
 use Rattle.cose_gate.specs.Asked.{folded_over}
-use Rattle.cose_gate.specs.Run.{Step, Course, asked_of, questions_of}
+use Rattle.cose_gate.specs.Run.{Step, Run, Course, asked_of, questions_of, output_of}
+use Rattle.cose_gate.specs.Gate.{WritesAll, Stops}
 use Rattle.cose_gate.specs.Outcome.{Rules, Sight, IsFaultOf, Whole, Outcome, Answers}
-use Rattle.cose_gate_core.specs.declared.gating.Counts.{Counts}
-use Rattle.cose_gate_core.specs.declared.gating.GateFault.{GateFault}
-use Rattle.cose_gate_core.specs.declared.gating.GateFault.TheVariants as gating
+use Rattle.cose_gate.specs.Counts.{Counts}
+use Rattle.cose_gate.specs.GateFault.{GateFault}
+use Rattle.cose_gate.specs.GateFault.TheVariants as gating
 use Rattle.callers.specs.Judging.{key_id_of, key_ids_of, allows, Sides, Relayed, Halted}
 use Rattle.callers.specs.Tallies.{Tallied, tallied}
 
@@ -51,6 +52,18 @@ module _ (ids : List (List ℕ)) (aad input : List ℕ) (old new : Sight (List (
     pub over : (r : Result Counts (GateFault E)) → old.left ≡ Some input → Answers ends (by ids aad) old new r → Outcome ends (by ids aad) old new input r
     over r is a = let e : input ≡ a.input = subst (λ (l : Option (List ℕ)). IfKnown l (λ b. b ≡ a.input)) is a.is in
         subst (λ (i : List ℕ). Outcome ends (by ids aad) old new i r) (sym e) a.outcome
+
+    -- the clauses of the gate, over a run of the input; its answer tells which sights are meant
+    pub ran_whole : (output : List ℕ) (counts : Counts) (ss : List Step) (rest : List ℕ) → Answers ends (by ids aad) old new (Ok counts) → old.offset ≡ 0 → old.left ≡ Some input → old.written ≡ Some [] → new.written ≡ Some output
+        → WritesAll ends (by ids aad) old new (Ok counts) → Stops ends (by ids aad) old new (Ok counts) → Run usual (allows ids) aad 0 input ss rest
+        → (output ≡ output_of (allows ids) aad ss) × (rest ≡ [])
+    ran_whole output counts ss rest answers start is none out w s run =
+        let here : Run usual (allows ids) aad old.offset input ss rest = subst (λ (n : ℕ). Run usual (allows ids) aad n input ss rest) (sym start) run in
+        (appended none out (w input ss rest is here), (s input ss rest is here).0)
+      where
+        appended : {xs : List ℕ} → old.written ≡ Some [] → new.written ≡ Some output → Appends old.written new.written xs → output ≡ xs
+        appended {xs} a b p = let q = subst (λ (z : Option (List ℕ)). Appends z new.written xs) a p in
+            let r = subst (λ (z : Option (List ℕ)). Appends (Some []) z xs) b q in r
 
     pub halted : (fault : GateFault E) → old.offset ≡ 0 → old.left ≡ Some input → Outcome ends (by ids aad) old new input (Err fault)
         → Halted ends ids aad input (sides old) (sides new) fault

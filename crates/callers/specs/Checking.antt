@@ -7,7 +7,7 @@ use Rattle.cose_gate.specs.Items.{nesting}
 use Rattle.cose_gate.specs.Questions.{Question, MessageFields, all_questions}
 use Rattle.cose_gate.specs.Stated.{Stated}
 use Rattle.cose_gate.specs.Tree.{Tree}
-use Rattle.cose_run.specs.Program.{Devices, Ends}
+use Rattle.cose_gate.specs.Program.{Devices, Ends}
 
 -- the bytes are one message, it has one question, and the answer is the one to that question
 pub record IsAnswered (allows : Question → Bool) (aad : List ℕ) (yes : Bool) (b : List ℕ) : Type 0 where

@@ -8,9 +8,9 @@ use Rattle.cose_gate.specs.Questions.{Subject, Question}
 use Rattle.cose_gate.specs.Asked.{IsFront, folded_over}
 use Rattle.cose_gate.specs.Run.{Step, Course, questions_of, output_of, entries_of, passed_count, refused_count}
 use Rattle.cose_gate.specs.Outcome.{IsFaultOf}
-use Rattle.cose_gate_core.specs.declared.gating.Counts.{Counts}
-use Rattle.cose_gate_core.specs.declared.gating.GateFault.{GateFault}
-use Rattle.cose_gate_core.specs.declared.gating.GateFault.TheVariants.{Decode, Write, Memory}
+use Rattle.cose_gate.specs.Counts.{Counts}
+use Rattle.cose_gate.specs.GateFault.{GateFault}
+use Rattle.cose_gate.specs.GateFault.TheVariants.{Decode, Write, Memory}
 use Rattle.callers.specs.Tallies.{Tallied, tallied}
 
 -- the key id of a message: the protected one where there is one, else the unprotected one (RFC 9052, section 3.1)

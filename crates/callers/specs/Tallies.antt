@@ -1,8 +1,8 @@
 -- What a tally keeps.
 use Rattle.std.specs.Prelude.{ℕ, ◌+◌, ◌-◌, ◌^◌, min}
-use Rattle.cose_gate_core.specs.declared.report.Entry.{Entry}
-use Rattle.cose_gate_core.specs.declared.report.Verdict.{Verdict}
-use Rattle.cose_gate_core.specs.declared.report.Verdict.TheVariants.{Passed, Refused}
+use Rattle.cose_gate.specs.Entry.{Entry}
+use Rattle.cose_gate.specs.Verdict.{Verdict}
+use Rattle.cose_gate.specs.Verdict.TheVariants.{Passed, Refused}
 use Rattle.callers.specs.declared.tally.Tally.{Tally}
 
 pub record Tallied : Type 0 where

@@ -5,7 +5,7 @@ ghost use Rattle.std.specs.Io.KnownBytes.{Consumes};
 ghost use Rattle.coset.specs.KeyView.{key_set_view};
 ghost use Rattle.cose_gate.specs.HmacJudges.{says_yes};
 ghost use Rattle.cose_gate.specs.Views.{left_of};
-ghost use Rattle.cose_run.specs.Words as spec;
+ghost use Rattle.cose_gate.specs.Words as spec;
 ghost use Rattle.callers.specs.Checking.{IsAnswered, IsFedInFew, EndsBy};
 
 use cose_gate::laws::judged_can_be_written;

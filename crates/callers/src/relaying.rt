@@ -1,6 +1,8 @@
 //! The gate with a judge and a report of one's own. `cose_gate` is the one crate that it names.
-ghost use Rattle.std.specs.Prelude.{◌≡◌, true, IfOk, IfErr};
-ghost use Rattle.callers.specs.Judging.{Relayed, Halted};
+ghost use Rattle.std.specs.Prelude.{◌≡◌, ℕ, List, [], true, IfOk, IfErr};
+ghost use Rattle.cose_gate.specs.Findings.{usual};
+ghost use Rattle.cose_gate.specs.Run.{Step, Run, output_of};
+ghost use Rattle.callers.specs.Judging.{Relayed, Halted, allows};
 ghost use Rattle.callers.specs.Sides.{known_of, asked_of};
 ghost use Rattle.callers.specs.Tallies.{tally_of};
 
@@ -24,6 +26,8 @@ pub fn relay(
         (record { asked = asked_of judge.new; tally = tally_of tally.new }) r.0.items r.1) }
     ensures err { IfErr result (Halted (λ _. true) (known_of judge.old) aad.now input.now (record { asked = asked_of judge.old; tally = tally_of tally.old })
         (record { asked = asked_of judge.new; tally = tally_of tally.new })) }
+    ensures run { (ss : List Step) (rest : List ℕ) → Run usual (allows (known_of judge.old)) aad.now 0 input.now ss rest
+        → IfOk result (λ r. (r.0.items ≡ output_of (allows (known_of judge.old)) aad.now ss) × (rest ≡ [])) }
     ensures known { known_of judge.new ≡ known_of judge.old }
 {
     let mut decoder = Decoder::from(input);

@@ -1,69 +1,76 @@
-pub use Rattle.cose_gate_core.specs.Asked
-pub use Rattle.cose_gate_core.specs.Findings
-pub use Rattle.cose_gate_core.specs.Lent
-pub use Rattle.cose_gate_core.specs.Outcome
-pub use Rattle.cose_gate_core.specs.Passing
-pub use Rattle.cose_gate_core.specs.Questions
-pub use Rattle.cose_gate_core.specs.Recorded
-pub use Rattle.cose_gate_core.specs.Run
-pub use Rattle.cose_gate_core.specs.View
+pub mod Gate
+pub use Rattle.cose_gate_laws.specs.GateCore.Asked
+pub use Rattle.cose_gate_laws.specs.GateCore.Findings
+pub use Rattle.cose_gate_laws.specs.GateCore.Lent
+pub use Rattle.cose_gate_laws.specs.GateCore.Outcome
+pub use Rattle.cose_gate_laws.specs.GateCore.Passing
+pub use Rattle.cose_gate_laws.specs.GateCore.Questions
+pub use Rattle.cose_gate_laws.specs.GateCore.Recorded
+pub use Rattle.cose_gate_laws.specs.GateCore.Run
+pub use Rattle.cose_gate_laws.specs.GateCore.View
+pub use Rattle.cose_gate_laws.specs.GateCore.declared.gating.Counts
+pub use Rattle.cose_gate_laws.specs.GateCore.declared.gating.GateFault
+pub use Rattle.cose_gate_laws.specs.GateCore.declared.report.Entry
+pub use Rattle.cose_gate_laws.specs.GateCore.declared.report.Verdict
 pub use Rattle.cose_gate_laws.specs.Anew
 pub use Rattle.cose_gate_laws.specs.Narrow
 pub use Rattle.cose_gate_laws.specs.Output
-pub use Rattle.ciborium_ll.specs.Fault as DeviceFault
-pub use Rattle.ciborium_ll.specs.Framing
-pub use Rattle.ciborium_ll.specs.Title
-pub use Rattle.ciborium_ll.specs.Views
-pub use Rattle.ciborium_ll.specs.declared.hdr.Header as Head
-pub use Rattle.ciborium_value.specs.Encoding
-pub use Rattle.ciborium_value.specs.Tree
-pub use Rattle.ciborium_value.specs.declared.kind.Kind as SemanticKind
-pub use Rattle.ciborium.specs.Damage
-pub use Rattle.ciborium.specs.Front
-pub use Rattle.ciborium.specs.Items
-pub use Rattle.ciborium.specs.Meaning
-pub use Rattle.ciborium.specs.Reading
-pub use Rattle.ciborium.specs.Spelling
-pub use Rattle.ciborium.specs.declared.de.Error as ReadError
-pub use Rattle.coset_base.specs.Faults
-pub use Rattle.coset_base.specs.Fields
-pub use Rattle.coset_base.specs.LabelFields
-pub use Rattle.coset_base.specs.Headers
-pub use Rattle.coset_base.specs.Structure
-pub use Rattle.coset_base.specs.Kinds
-pub use Rattle.coset_base.specs.Labels
-pub use Rattle.coset_base.specs.LabelView
-pub use Rattle.coset_base.specs.View as HeaderView
-pub use Rattle.coset_base.specs.Written
-pub use Rattle.coset_base.specs.Wrong
-pub use Rattle.coset_base.specs.CoseError
-pub use Rattle.coset_base.specs.Header
-pub use Rattle.coset_base.specs.ProtectedHeader
-pub use Rattle.coset_parts.specs.Shapes as PartShapes
-pub use Rattle.coset_parts.specs.Written as PartsWritten
-pub use Rattle.coset_parts.specs.Wrong as WrongParts
-pub use Rattle.coset_recipients.specs.Fields as RecipientFields
-pub use Rattle.coset_recipients.specs.Shapes as RecipientShapes
-pub use Rattle.coset_recipients.specs.View as RecipientView
-pub use Rattle.coset_recipients.specs.Written as RecipientsWritten
-pub use Rattle.coset_recipients.specs.Wrong as WrongRecipients
-pub use Rattle.coset_recipients.specs.declared.recipient.CoseRecipient
-pub use Rattle.coset_maced.specs.Fields as MacedFields
-pub use Rattle.coset_maced.specs.Shapes as MacedShapes
-pub use Rattle.coset_maced.specs.Structure as MacedStructure
-pub use Rattle.coset_maced.specs.View as MacedView
-pub use Rattle.coset_maced.specs.Written as MacedWritten
-pub use Rattle.coset_maced.specs.Wrong as WrongMaced
-pub use Rattle.coset_signed.specs.Fields as SignedFields
-pub use Rattle.coset_signed.specs.Shapes as SignedShapes
-pub use Rattle.coset_signed.specs.Structure as SignedStructure
-pub use Rattle.coset_signed.specs.View as SignedView
-pub use Rattle.coset_signed.specs.Written as SignedWritten
-pub use Rattle.coset_signed.specs.Wrong as WrongSigned
-pub use Rattle.cose_judge_hmac.specs.Judge as HmacJudges
-pub use Rattle.cose_judge_hmac.specs.Keys as HmacKeys
-pub use Rattle.cose_judge_hmac.specs.Messages as HmacMessages
-pub use Rattle.cose_judge_hmac.specs.Secrets as HmacSecrets
+pub use Rattle.cose_gate_laws.specs.GateCore.DeviceFault
+pub use Rattle.cose_gate_laws.specs.GateCore.Framing
+pub use Rattle.cose_gate_laws.specs.GateCore.Title
+pub use Rattle.cose_gate_laws.specs.GateCore.Views
+pub use Rattle.cose_gate_laws.specs.GateCore.Head
+pub use Rattle.cose_gate_laws.specs.GateCore.Encoding
+pub use Rattle.cose_gate_laws.specs.GateCore.Tree
+pub use Rattle.cose_gate_laws.specs.GateCore.SemanticKind
+pub use Rattle.cose_gate_laws.specs.GateCore.Damage
+pub use Rattle.cose_gate_laws.specs.GateCore.Front
+pub use Rattle.cose_gate_laws.specs.GateCore.Items
+pub use Rattle.cose_gate_laws.specs.GateCore.Meaning
+pub use Rattle.cose_gate_laws.specs.GateCore.Reading
+pub use Rattle.cose_gate_laws.specs.GateCore.Spelling
+pub use Rattle.cose_gate_laws.specs.GateCore.ReadError
+pub use Rattle.cose_gate_laws.specs.GateCore.Faults
+pub use Rattle.cose_gate_laws.specs.GateCore.Fields
+pub use Rattle.cose_gate_laws.specs.GateCore.LabelFields
+pub use Rattle.cose_gate_laws.specs.GateCore.Headers
+pub use Rattle.cose_gate_laws.specs.GateCore.Structure
+pub use Rattle.cose_gate_laws.specs.GateCore.Kinds
+pub use Rattle.cose_gate_laws.specs.GateCore.Labels
+pub use Rattle.cose_gate_laws.specs.GateCore.LabelView
+pub use Rattle.cose_gate_laws.specs.GateCore.HeaderView
+pub use Rattle.cose_gate_laws.specs.GateCore.Written
+pub use Rattle.cose_gate_laws.specs.GateCore.Wrong
+pub use Rattle.cose_gate_laws.specs.GateCore.CoseError
+pub use Rattle.cose_gate_laws.specs.GateCore.Header
+pub use Rattle.cose_gate_laws.specs.GateCore.ProtectedHeader
+pub use Rattle.cose_gate_laws.specs.GateCore.PartShapes
+pub use Rattle.cose_gate_laws.specs.GateCore.PartsWritten
+pub use Rattle.cose_gate_laws.specs.GateCore.WrongParts
+pub use Rattle.cose_gate_laws.specs.GateCore.RecipientFields
+pub use Rattle.cose_gate_laws.specs.GateCore.RecipientShapes
+pub use Rattle.cose_gate_laws.specs.GateCore.RecipientView
+pub use Rattle.cose_gate_laws.specs.GateCore.RecipientsWritten
+pub use Rattle.cose_gate_laws.specs.GateCore.WrongRecipients
+pub use Rattle.cose_gate_laws.specs.GateCore.CoseRecipient
+pub use Rattle.cose_gate_laws.specs.GateCore.MacedFields
+pub use Rattle.cose_gate_laws.specs.GateCore.MacedShapes
+pub use Rattle.cose_gate_laws.specs.GateCore.MacedStructure
+pub use Rattle.cose_gate_laws.specs.GateCore.MacedView
+pub use Rattle.cose_gate_laws.specs.GateCore.MacedWritten
+pub use Rattle.cose_gate_laws.specs.GateCore.WrongMaced
+pub use Rattle.cose_gate_laws.specs.GateCore.SignedFields
+pub use Rattle.cose_gate_laws.specs.GateCore.SignedShapes
+pub use Rattle.cose_gate_laws.specs.GateCore.SignedStructure
+pub use Rattle.cose_gate_laws.specs.GateCore.SignedView
+pub use Rattle.cose_gate_laws.specs.GateCore.SignedWritten
+pub use Rattle.cose_gate_laws.specs.GateCore.WrongSigned
+pub use Rattle.cose_run.specs.HmacJudges
+pub use Rattle.cose_run.specs.HmacKeys
+pub use Rattle.cose_run.specs.HmacMessages
+pub use Rattle.cose_run.specs.HmacSecrets
+pub use Rattle.cose_run.specs.Program
+pub use Rattle.cose_run.specs.Words
 pub use Rattle.cose_stream.specs.Stated
 pub use Rattle.cose_stream.specs.Streaming
 pub use Rattle.cose_stream.specs.declared.fault.StreamFault

@@ -4,22 +4,17 @@
 //! A user names this crate alone: what stands in the crates below it is here under the same names.
 #![tactic(auto)]
 
+mod gating;
 pub mod laws;
 
-pub use ciborium::de;
-pub use ciborium_ll::log::Log;
-pub use ciborium_ll::{Decoder, End, Full, Io, IoFault, Mem, Read, Write};
-pub use ciborium_value::Kind as SemanticKind;
-pub use cose_gate_core::{
-    About, Asked, Counts, Entry, GateFault, Judge, Kind, Recorder, Refusal, Report, Silent,
-    Verdict, gate,
+pub use crate::gating::gate;
+pub use cose_gate_laws::gate_core::{
+    About, Algorithm, Asked, ContentType, CoseError, CoseRecipient, CoseSignature, Counts, Decoder,
+    End, Entry, Full, GateFault, Header, Io, IoFault, Judge, Kind, Label, Log, Mem,
+    ProtectedHeader, Read, Recorder, Refusal, RegisteredLabel, RegisteredLabelWithPrivate, Report,
+    SemanticKind, Silent, Verdict, Write, de, iana,
 };
 pub use cose_hmac::hmac_sha256;
-pub use cose_judge_hmac::HmacJudge;
+pub use cose_run::judge::HmacJudge;
 pub use cose_run::{run, words};
 pub use cose_stream::{StreamFault, laws as stream_laws, stream_check};
-pub use coset_base::{
-    Algorithm, ContentType, CoseError, CoseSignature, Header, Label, ProtectedHeader,
-    RegisteredLabel, RegisteredLabelWithPrivate, iana,
-};
-pub use coset_recipients::CoseRecipient;

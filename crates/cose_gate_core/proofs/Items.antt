@@ -119,6 +119,7 @@ module _ {T : Type 0} (limits : Limits) (decided : T → Question → T) (allows
   half_written b t told told' w w' m fault.Write is said tells writes = record {
     message = m;
     is = is;
+    passed = ap is_none (sym said);
     tells = tells;
     front = take writes.0 (message_text m);
     front_is = record { more = drop writes.0 (message_text m); whole = written_yes m said ∙ sym (take-append-drop writes.0 (message_text m)) };

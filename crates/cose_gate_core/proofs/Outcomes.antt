@@ -241,6 +241,7 @@ module _ {T S : Type 0} (rules : Rules T S) where
           last = s;
           more = rest_of newer.left;
           course = w.course;
+          passed = h.passed;
           told = told_then rules old.told new.told newer.told r.done s r.made.told h.tells;
           state = state ∙ r.made.state;
           front = h.front;

@@ -1,5 +1,5 @@
 -- What the contract of `gate` says of each answer.
-use Rattle.std.specs.Prelude.{◌≡◌, ◌≢◌, ℕ, ◌+◌, ◌^◌, ◌≤◌, ◌⊎◌, List, [], ◌∷◌, ◌++◌, length, Option, Some, None, Bool, IsTrue, Result, Ok, Err, if◌then◌else◌}
+use Rattle.std.specs.Prelude.{◌≡◌, ◌≢◌, ℕ, ◌+◌, ◌^◌, ◌≤◌, ◌⊎◌, List, [], ◌∷◌, ◌++◌, length, Option, Some, None, Bool, true, IsTrue, Result, Ok, Err, if◌then◌else◌}
 use Rattle.std.specs.Io.KnownBytes.{Appends}
 use Rattle.ciborium_ll.specs.Reading.{Moves}
 use Rattle.ciborium_value.specs.declared.value.Value.{Value}
@@ -13,7 +13,7 @@ use Rattle.ciborium.specs.Items.{nesting}
 use Rattle.cose_gate_core.specs.Questions.{Question}
 use Rattle.cose_gate_core.specs.Asked.{folded_over, IsFront}
 use Rattle.cose_gate_core.specs.Findings.{Limits}
-use Rattle.cose_gate_core.specs.Run.{Step, Course, questions_of, output_of, written_of, entries_of, passed_count, refused_count}
+use Rattle.cose_gate_core.specs.Run.{Step, Course, questions_of, output_of, written_of, passes, entries_of, passed_count, refused_count}
 use Rattle.cose_gate_core.specs.declared.report.Entry.{Entry}
 use Rattle.cose_gate_core.specs.declared.gating.Counts.{Counts}
 use Rattle.cose_gate_core.specs.declared.gating.GateFault.{GateFault}
@@ -80,13 +80,14 @@ pub record IfDecodeFailed {T S E : Type 0} (ends : E → Bool) (rules : Rules T 
   pub no_memory : IsNoMemory e
   pub fault : IfKnown old.left (λ b. IsFaultOf ends (old.offset + length b) more e)
 
--- Write: `done` were made; all was asked about the message of the next step, and a beginning of its text was written. The offset is
--- the one behind its item, and `more` is to come.
+-- Write: `done` were made; the message of the next step passes, all was asked about it, and a beginning of its text was written. The
+-- offset is the one behind its item, and `more` is to come.
 pub record IfWriteFailed {T S : Type 0} (rules : Rules T S) (old new : Sight T S) (input : List ℕ) : Type 0 where
   pub done : List Step
   pub last : Step
   pub more : List ℕ
   pub course : Course rules.limits rules.allows rules.aad old.offset input (done ++ last ∷ []) more
+  pub passed : passes rules.allows rules.aad last.finding ≡ true
   pub told : new.told ≡ folded_over rules.decided old.told (questions_of rules.allows rules.aad (done ++ last ∷ []))
   pub state : new.state ≡ folded_over rules.folded old.state (entries_of done)
   pub front : List ℕ

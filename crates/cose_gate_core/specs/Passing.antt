@@ -1,5 +1,5 @@
 -- What one item's way through the gate shows.
-use Rattle.std.specs.Prelude.{◌≡◌, ℕ, ◌⊎◌, List, Option, Bool, false, Result, Ok, Err}
+use Rattle.std.specs.Prelude.{◌≡◌, ℕ, ◌⊎◌, List, Option, Bool, true, false, Result, Ok, Err}
 use Rattle.std.specs.Io.KnownBytes.{Appends}
 use Rattle.ciborium_ll.specs.Device.{AppendsFront}
 use Rattle.ciborium_value.specs.Tree.{Tree}
@@ -10,7 +10,7 @@ use Rattle.cose_gate_core.specs.Questions.{Question, MessageFields}
 use Rattle.cose_gate_core.specs.View.{message_view}
 use Rattle.cose_gate_core.specs.Asked.{folded_over, IsFront}
 use Rattle.cose_gate_core.specs.Findings.{not_tagged, encrypted, other_tag, detached, no_signature, Finding, judged, Limits, IsJudged, IsBarred, IsMisshapen, Finds}
-use Rattle.cose_gate_core.specs.Run.{IsVerdict, asked_of, written_of}
+use Rattle.cose_gate_core.specs.Run.{IsVerdict, asked_of, passes, written_of}
 use Rattle.cose_gate_core.specs.declared.report.Refusal.{Refusal}
 use Rattle.cose_gate_core.specs.declared.report.Refusal.TheVariants as refusal
 use Rattle.cose_gate_core.specs.declared.report.Verdict.{Verdict}
@@ -51,10 +51,11 @@ pub record Half {T : Type 0} (limits : Limits) (decided : T → Question → T) 
   pub asked_front : IsFront asked (asked_of allows aad (judged message))
   pub tells : told' ≡ folded_over decided told asked
 
--- the item is a message, the judge was told all questions about it, and a beginning of its text was written
+-- the item is a message that passes, the judge was told all questions about it, and a beginning of its text was written
 pub record HalfWritten {T : Type 0} (limits : Limits) (decided : T → Question → T) (allows : Question → Bool) (aad : List ℕ) (bytes : List ℕ) (t : Tree) (told told' : T) (written written' : Option (List ℕ)) : Type 0 where
   pub message : MessageFields
   pub is : Finds limits bytes t (judged message)
+  pub passed : passes allows aad (judged message) ≡ true
   pub tells : told' ≡ folded_over decided told (asked_of allows aad (judged message))
   pub front : List ℕ
   pub front_is : IsFront front (written_of allows aad (judged message))

@@ -1,5 +1,5 @@
 //! One item on its way through the gate.
-ghost use Rattle.std.specs.Prelude.{◌≡◌, ◌≢◌, ℕ, ◌+◌, List, pos, Some, None, MatchBool, IfOk, IfErr, OnOk};
+ghost use Rattle.std.specs.Prelude.{◌≡◌, ◌≢◌, ℕ, ◌+◌, List, pos, Some, None, MatchBool, IfOk, IfErr, OnOk, OnErr};
 ghost use Rattle.std.specs.Io.KnownBytes.{Appends};
 ghost use Rattle.ciborium_value.specs.Tree.{tag};
 ghost use Rattle.ciborium_value.specs.View.{view};
@@ -82,6 +82,7 @@ fn is_memory(error: &CoseError) -> bool
 /// The refusal of a value that can't be read as a message of its tag.
 fn misshapen(error: CoseError) -> Result<Found, AllocError>
     ensures ok { IfOk result (λ found. (found ≡ Barred (Shape error)) × (error ≢ Memory)) }
+    ensures err { OnErr result (error ≡ Memory) }
 {
     if is_memory(&error) {
         return Err(AllocError);

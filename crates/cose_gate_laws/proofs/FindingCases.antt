@@ -12,12 +12,12 @@ use Rattle.ciborium.proofs.Sequence.{items_there}
 use Rattle.coset_labels.specs.Faults.{CoseFault, undecodable, too_long, duplicate_key, unencodable, extraneous, out_of_range, unexpected, unregistered, unregistered_private, no_memory, too_many_layers, fault_of}
 use Rattle.coset_labels.specs.declared.error.CoseError.{CoseError}
 use Rattle.coset_labels.specs.declared.error.CoseError.TheVariants as code
-use Rattle.coset_signed.specs.Fields.{Sign1Fields, SignFields}
-use Rattle.coset_signed.specs.Shapes.{HasSign1, HasSign}
-use Rattle.coset_signed.specs.Wrong.{WrongSign1, WrongSign}
-use Rattle.coset_maced.specs.Fields.{Mac0Fields, MacFields}
-use Rattle.coset_maced.specs.Shapes.{HasMac0, HasMac}
-use Rattle.coset_maced.specs.Wrong.{WrongMac0, WrongMac}
+use Rattle.cose_gate_core.specs.SignedFields.{Sign1Fields, SignFields}
+use Rattle.cose_gate_core.specs.SignedShapes.{HasSign1, HasSign}
+use Rattle.cose_gate_core.specs.WrongSigned.{WrongSign1, WrongSign}
+use Rattle.cose_gate_core.specs.MacedFields.{Mac0Fields, MacFields}
+use Rattle.cose_gate_core.specs.MacedShapes.{HasMac0, HasMac}
+use Rattle.cose_gate_core.specs.WrongMaced.{WrongMac0, WrongMac}
 use Rattle.cose_gate_core.specs.Questions.{Question, MessageFields, sign1, mac0, sign, mac, tag_of, payload_of, questions}
 use Rattle.cose_gate_core.specs.Asked.{first_no}
 use Rattle.cose_gate_core.specs.Findings.{Finding, judged, barred, excluded, not_tagged, encrypted, other_tag, shape, detached, no_signature, Limits, HasMessage, WrongMessage, IsMessage, IsMessageTag, IsEncryptedTag, IsCarried, IsUnsigned, Finds}

@@ -8,7 +8,9 @@ pub mod MacCases
 pub mod MessageCases
 pub mod MessageKept
 pub mod Narrowed
+pub mod NoMemory
 pub mod Outputs
 pub mod Placed
 pub mod Shorter
 pub mod Widths
+pub mod Within

@@ -3,10 +3,10 @@ use Rattle.std.proofs.Common.{ℕ, ◌⊎◌, inl, inr, [], ◌∷◌, refl, ap,
 use Rattle.ciborium_value.specs.Tree.{Tree, integer, bytes, text, array, map as map_tree, tag, simple, float, Trees, no_trees, one_more}
 use Rattle.ciborium_value.specs.View.{trees}
 use Rattle.coset_labels.specs.Faults.{CoseFault, unexpected}
-use Rattle.coset_maced.specs.Fields.{Mac0Fields, MacFields}
-use Rattle.coset_maced.specs.Shapes.{HasMac0, HasMac}
-use Rattle.coset_maced.specs.Wrong.{WrongMac0, no_array0, in_parts0, in_tag0, WrongMac, not_five, in_tag, in_recipients}
-use Rattle.coset_maced.specs.Wrong.{not_four as not_four0, no_array as no_array_of_five, in_parts as in_parts_of_five}
+use Rattle.cose_gate_core.specs.MacedFields.{Mac0Fields, MacFields}
+use Rattle.cose_gate_core.specs.MacedShapes.{HasMac0, HasMac}
+use Rattle.cose_gate_core.specs.WrongMaced.{WrongMac0, no_array0, in_parts0, in_tag0, WrongMac, not_five, in_tag, in_recipients}
+use Rattle.cose_gate_core.specs.WrongMaced.{not_four as not_four0, no_array as no_array_of_five, in_parts as in_parts_of_five}
 use Rattle.cose_gate_laws.proofs.Lows.{Low, LowAll}
 use Rattle.cose_gate_laws.proofs.MessageCases.{PartsCase, parts_case, StringCase, string_case, ListCase, list_case}
 

@@ -1,5 +1,5 @@
 -- A value has the fields of a message of each kind, or a fault as one.
-use Rattle.std.proofs.Common.{◌≡◌, ℕ, zero, suc, ◌+◌, ◌<◌, ◌≤◌, ◌⊎◌, inl, inr, List, [], ◌∷◌, ◌++◌, false, Option, Some, None, refl, sym, ap, subst, arith}
+use Rattle.std.proofs.Common.{◌≡◌, ℕ, zero, suc, ◌<◌, ◌≤◌, ◌⊎◌, inl, inr, List, [], ◌∷◌, ◌++◌, false, Option, Some, None, refl, sym, ap, subst, arith}
 use Rattle.std.proofs.lemmas.Bool.{cases_eq}
 use Rattle.ciborium_value.specs.Tree.{Tree, integer, bytes, text, array, map as map_tree, tag, simple, float, Trees, no_trees, one_more, is_bytes}
 use Rattle.ciborium_value.specs.View.{trees}
@@ -7,15 +7,15 @@ use Rattle.coset_labels.specs.Faults.{CoseFault, unexpected}
 use Rattle.coset_headers.specs.Fields.{HeaderFields, ProtectedFields, SignatureFields, signatures, Signatures, no_signatures, signature_more}
 use Rattle.coset_headers.specs.Headers.{HasSignatures}
 use Rattle.coset_headers.specs.Weight.{weight, weight_all}
-use Rattle.coset_parts.specs.Shapes.{HasParts}
-use Rattle.coset_parts.specs.Wrong.{WrongParts, in_protected, in_unprotected, in_content}
-use Rattle.coset_recipients.specs.Fields.{RecipientFields, recipient, RecipientsFields, no_recipients, recipient_more}
-use Rattle.coset_recipients.specs.Shapes.{three_or_four, HasRecipient, HasRecipients, HasList}
-use Rattle.coset_recipients.specs.Wrong.{WrongRecipient, no_array, not_three_or_four, in_parts, in_fourth, WrongList, no_list, in_list}
-use Rattle.coset_signed.specs.Fields.{Sign1Fields, SignFields}
-use Rattle.coset_signed.specs.Shapes.{four_items, HasFour, IsSignatureList, HasSign1, HasSign}
-use Rattle.coset_signed.specs.Wrong.{WrongFour, not_four, IsNoBytes, whatever, WrongSignatureList, WrongSign1, WrongSign}
-use Rattle.coset_signed.specs.Wrong.{in_parts as in_parts_of_four, in_last, no_list as no_signature_list, in_list as in_signature_list}
+use Rattle.cose_gate_core.specs.PartShapes.{HasParts}
+use Rattle.cose_gate_core.specs.WrongParts.{WrongParts, in_protected, in_unprotected, in_content}
+use Rattle.cose_gate_core.specs.RecipientFields.{RecipientFields, recipient, RecipientsFields, no_recipients, recipient_more}
+use Rattle.cose_gate_core.specs.RecipientShapes.{three_or_four, HasRecipient, HasRecipients, HasList}
+use Rattle.cose_gate_core.specs.WrongRecipients.{WrongRecipient, no_array, not_three_or_four, in_parts, in_fourth, WrongList, no_list, in_list}
+use Rattle.cose_gate_core.specs.SignedFields.{Sign1Fields, SignFields}
+use Rattle.cose_gate_core.specs.SignedShapes.{four_items, HasFour, IsSignatureList, HasSign1, HasSign}
+use Rattle.cose_gate_core.specs.WrongSigned.{WrongFour, not_four, IsNoBytes, whatever, WrongSignatureList, WrongSign1, WrongSign}
+use Rattle.cose_gate_core.specs.WrongSigned.{in_parts as in_parts_of_four, in_last, no_list as no_signature_list, in_list as in_signature_list}
 use Rattle.cose_gate_laws.proofs.Lows.{Low, LowAll}
 use Rattle.cose_gate_laws.proofs.FieldCases.{list_of, list_trees}
 use Rattle.cose_gate_laws.proofs.HeaderCases.{HeaderCase, ProtectedCase, AllLighter, all_lighter, header_case, one_protected_case, NoSignatureIn, signatures_case}

@@ -1,5 +1,5 @@
 -- What is written of a message that was read has its fields again, nests no deeper, fits heads, and is no longer than the value.
-use Rattle.std.proofs.Common.{◌≡◌, ℕ, ◌+◌, ◌-◌, ◌≤◌, suc, inl, inr, List, [], ◌∷◌, ◌++◌, length, Bool, true, false, cond, Option, Some, None, option_map, option_and_then, refl, sym, ap, subst, ◌∙◌, arith, length-append}
+use Rattle.std.proofs.Common.{◌≡◌, ℕ, ◌-◌, ◌≤◌, suc, inl, inr, List, [], ◌∷◌, ◌++◌, Bool, true, false, cond, Option, Some, None, option_map, option_and_then, refl, sym, ap, subst, ◌∙◌, arith, length-append}
 use Rattle.std.specs.Prelude.{nat_eq, ◌||◌, ◌&&◌}
 use Rattle.ciborium_ll.specs.Title.{shortest}
 use Rattle.ciborium_value.specs.Tree.{Tree, bytes, array, tag, Trees, no_trees, one_more, depth}
@@ -12,17 +12,17 @@ use Rattle.coset_headers.specs.Headers.{HasProtected, HasSignatures}
 use Rattle.coset_headers.specs.Written.{header_tree, shown, signature_tree}
 use Rattle.coset_headers.proofs.Again.{prot_again, hdr_again, sig_again}
 use Rattle.coset_headers.proofs.Sound.{Sound, SoundAll, array_inside, array_sound, all_none, all_more, all_parts, hdr_sound, sig_sound, folds_all}
-use Rattle.coset_parts.specs.Shapes.{HasParts}
-use Rattle.coset_parts.specs.Written.{optional_tree, parts_trees}
-use Rattle.coset_recipients.specs.Fields.{RecipientFields, recipient, RecipientsFields, no_recipients, recipient_more}
-use Rattle.coset_recipients.specs.Shapes.{three_or_four, HasRecipient, HasRecipients, HasInner, HasList}
-use Rattle.coset_recipients.specs.Written.{fourth, whole, recipient_tree, recipients_trees, list_tree}
-use Rattle.coset_signed.specs.Fields.{Sign1Fields, SignFields}
-use Rattle.coset_signed.specs.Shapes.{four_items, IsSignatureList, HasSign1, HasSign}
-use Rattle.coset_signed.specs.Written.{with_last, sign1_tree, sign_tree}
-use Rattle.coset_maced.specs.Fields.{Mac0Fields, MacFields}
-use Rattle.coset_maced.specs.Shapes.{HasMac0, HasMac}
-use Rattle.coset_maced.specs.Written.{mac0_tree, mac_tree}
+use Rattle.cose_gate_core.specs.PartShapes.{HasParts}
+use Rattle.cose_gate_core.specs.PartsWritten.{optional_tree, parts_trees}
+use Rattle.cose_gate_core.specs.RecipientFields.{RecipientFields, recipient, RecipientsFields, no_recipients, recipient_more}
+use Rattle.cose_gate_core.specs.RecipientShapes.{three_or_four, HasRecipient, HasRecipients, HasInner, HasList}
+use Rattle.cose_gate_core.specs.RecipientsWritten.{whole, recipient_tree, recipients_trees, list_tree}
+use Rattle.cose_gate_core.specs.SignedFields.{Sign1Fields, SignFields}
+use Rattle.cose_gate_core.specs.SignedShapes.{four_items, IsSignatureList, HasSign1, HasSign}
+use Rattle.cose_gate_core.specs.SignedWritten.{with_last, sign1_tree, sign_tree}
+use Rattle.cose_gate_core.specs.MacedFields.{Mac0Fields, MacFields}
+use Rattle.cose_gate_core.specs.MacedShapes.{HasMac0, HasMac}
+use Rattle.cose_gate_core.specs.MacedWritten.{mac0_tree, mac_tree}
 use Rattle.cose_gate_laws.proofs.Widths.{width, width_is, wider}
 use Rattle.cose_gate_laws.proofs.HeaderKept.{Kept, KeptAll, same_kept, none_kept, more_kept, array_kept, hdr_kept, sig_kept}
 

@@ -1,13 +1,13 @@
 -- What runs have in common, and the steps of a run at other places.
-use Rattle.std.specs.Prelude.{◌≡◌, ℕ, ◌+◌, ◌⊎◌, List, [], ◌∷◌, ◌++◌, flat_map}
+use Rattle.std.specs.Prelude.{◌≡◌, ℕ, ◌+◌, ◌⊎◌, List, [], ◌∷◌, ◌++◌, flat_map, Bool}
 use Rattle.coset_labels.specs.declared.error.CoseError.{CoseError}
 use Rattle.cose_gate_core.specs.declared.report.Entry.{Entry}
 use Rattle.cose_gate_core.specs.declared.report.Verdict.{Verdict}
 use Rattle.cose_gate_core.specs.declared.report.Verdict.TheVariants.{Refused}
 use Rattle.cose_gate_core.specs.declared.report.Refusal.TheVariants as refusal
-use Rattle.cose_gate_core.specs.Questions.{MessageFields}
+use Rattle.cose_gate_core.specs.Questions.{Question, MessageFields}
 use Rattle.cose_gate_core.specs.Findings.{Limits}
-use Rattle.cose_gate_core.specs.Run.{Step}
+use Rattle.cose_gate_core.specs.Run.{Step, IsVerdict}
 
 -- the bytes of the items, one after another
 abbrev pub bytes_of : List Step → List ℕ
@@ -44,6 +44,15 @@ pub record EntriesBegin (es fs : List Entry) : Type 0 where
   pub more : List Entry
   pub whole : fs ≡ front ++ more
   pub same : SameEntries es front
+
+-- the entries of these steps: each has its item's number and offset, and a verdict that stands for what is found of it; of a shape's
+-- fault it is open which of the value's faults is named
+abbrev pub AreEntries : Limits → (Question → Bool) → List ℕ → List Step → List Entry → Type 0
+AreEntries limits allows aad [] [] = Unit {0}
+AreEntries limits allows aad [] (e ∷ es) = ⊥
+AreEntries limits allows aad (s ∷ ss) [] = ⊥
+AreEntries limits allows aad (s ∷ ss) (e ∷ es) =
+    (e.number ≡ s.entry.number) × (e.offset ≡ s.entry.offset) × IsVerdict limits allows aad s.item.value s.finding e.verdict × AreEntries limits allows aad ss es
 
 -- what else bars a message doesn't hang on how its item is spelled
 abbrev pub IgnoresSpelling : Limits → Type 0

@@ -1,10 +1,11 @@
 //! Laws of what is found: it is there, and it is one.
-ghost use Rattle.std.specs.Prelude.{◌≡◌, ℕ, ◌<◌, List, ◌++◌, All, Bool};
+ghost use Rattle.std.specs.Prelude.{◌≡◌, ◌≢◌, ℕ, ◌<◌, List, ◌++◌, All, Bool};
 ghost use Rattle.ciborium_value.specs.Encoding.{Fits};
 ghost use Rattle.ciborium_value.specs.Tree.{Tree};
 ghost use Rattle.ciborium.specs.Front.{Reads};
+ghost use Rattle.coset_labels.specs.Faults.{CoseFault, no_memory};
 ghost use Rattle.cose_gate_core.specs.Questions.{Question};
-ghost use Rattle.cose_gate_core.specs.Findings.{Limits, Finding, Finds};
+ghost use Rattle.cose_gate_core.specs.Findings.{Limits, Finding, Finds, IsMisshapen};
 ghost use Rattle.cose_gate_core.specs.Run.{Step, Course, Run, entries_of};
 ghost use Rattle.cose_gate_laws.specs.Anew.{SameEntries};
 
@@ -15,6 +16,11 @@ pub fn every_item_found()
         → (f : Finding) × Finds limits b t f × ((g : Finding) → Finds limits b t g → f ≡ g) }
     ensures reads { (limits : Limits) (b : List ℕ) (nesting : ℕ) (t : Tree) → Reads b nesting t → All (λ x. x < 256) b
         → (f : Finding) × Finds limits b t f × ((g : Finding) → Finds limits b t g → f ≡ g) }
+{}
+
+/// What a value lacks as a message of its tag is never memory: so no `Shape` that is noted holds want of memory.
+pub fn shape_holds_no_memory()
+    ensures { (limits : Limits) (t : Tree) (f : CoseFault) → IsMisshapen limits t f → f ≢ no_memory }
 {}
 
 /// Every input has a run, whatever the judge. All its runs say the same of each item, but that of a `Shape` it is open which of the

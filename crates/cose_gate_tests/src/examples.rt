@@ -1,9 +1,9 @@
 //! Inputs with what a run over them does.
-use crate::runs::Ending;
+use crate::seen::{Question, Row};
 use ciborium::de;
 use ciborium_ll::End;
-use ciborium_value::Kind;
-use cose_gate::{CoseError, Counts, Refusal, Verdict};
+use ciborium_value::Kind as SemanticKind;
+use cose_gate::{CoseError, Counts, GateFault, Kind, Refusal, Verdict};
 
 /// A COSE_Sign1 of 14 bytes: 18([h'a10126', {}, 'hi', h'010203']).
 pub const MESSAGE: &str = "d28443a10126a042686943010203";
@@ -12,28 +12,19 @@ pub const MESSAGE: &str = "d28443a10126a042686943010203";
 pub const COVERED: &str = "846a5369676e61747572653143a1012640426869";
 
 /// The question about it, with its signature's length and first bytes.
-pub const ASKED: Question = (COVERED, 3, [1, 2, 3, 0, 0, 0, 0, 0]);
+pub const ASKED: Question = (Kind::Sign1, COVERED, 3, [1, 2, 3, 0, 0, 0, 0, 0]);
 
-/// The covered bytes in hex, and the signature's length and first bytes.
-pub type Question = (&'static str, usize, [u8; 8]);
+/// The question about a message of empty strings: ['Signature1', h'', h'', h''].
+pub const BARE: Question = (Kind::Sign1, "846a5369676e617475726531404040", 0, [0; 8]);
 
-/// An input in hex, and what a run over it asks, writes, notes (the offsets and verdicts of its items) and answers.
-#[derive(Clone, Copy)]
-pub struct Row {
-    pub input: &'static str,
-    pub asked: &'static [Question],
-    pub output: &'static str,
-    pub noted: &'static [(usize, Verdict)],
-    pub ending: Ending<End>,
-}
-
-pub const ROWS: [Row; 21] = [
+/// Inputs that come out as they went in.
+pub const AS_RECEIVED: [Row; 5] = [
     Row {
         input: "",
         asked: &[],
         output: "",
         noted: &[],
-        ending: Ending::Whole(Counts {
+        answer: Ok(Counts {
             passed: 0,
             refused: 0,
         }),
@@ -43,7 +34,7 @@ pub const ROWS: [Row; 21] = [
         asked: &[ASKED],
         output: "d28443a10126a042686943010203",
         noted: &[(0, Verdict::Passed)],
-        ending: Ending::Whole(Counts {
+        answer: Ok(Counts {
             passed: 1,
             refused: 0,
         }),
@@ -51,10 +42,10 @@ pub const ROWS: [Row; 21] = [
     Row {
         // twice, the second with a signature of nine bytes
         input: "d28443a10126a042686943010203d28443a10126a042686949090807060504030201",
-        asked: &[ASKED, (COVERED, 9, [9, 8, 7, 6, 5, 4, 3, 2])],
+        asked: &[ASKED, (Kind::Sign1, COVERED, 9, [9, 8, 7, 6, 5, 4, 3, 2])],
         output: "d28443a10126a042686943010203d28443a10126a042686949090807060504030201",
         noted: &[(0, Verdict::Passed), (14, Verdict::Passed)],
-        ending: Ending::Whole(Counts {
+        answer: Ok(Counts {
             passed: 2,
             refused: 0,
         }),
@@ -62,21 +53,15 @@ pub const ROWS: [Row; 21] = [
     Row {
         // a label in a wide head stays as it was received
         input: "d28444a1180126a04040",
-        asked: &[("846a5369676e61747572653144a11801264040", 0, [0; 8])],
+        asked: &[(
+            Kind::Sign1,
+            "846a5369676e61747572653144a11801264040",
+            0,
+            [0; 8],
+        )],
         output: "d28444a1180126a04040",
         noted: &[(0, Verdict::Passed)],
-        ending: Ending::Whole(Counts {
-            passed: 1,
-            refused: 0,
-        }),
-    },
-    Row {
-        // the unprotected header is put in order
-        input: "d28440a204410101264040",
-        asked: &[("846a5369676e617475726531404040", 0, [0; 8])],
-        output: "d28440a201260441014040",
-        noted: &[(0, Verdict::Passed)],
-        ending: Ending::Whole(Counts {
+        answer: Ok(Counts {
             passed: 1,
             refused: 0,
         }),
@@ -84,10 +69,25 @@ pub const ROWS: [Row; 21] = [
     Row {
         // an empty map that was received is covered as it stands
         input: "d28441a0a04040",
-        asked: &[("846a5369676e61747572653141a04040", 0, [0; 8])],
+        asked: &[(Kind::Sign1, "846a5369676e61747572653141a04040", 0, [0; 8])],
         output: "d28441a0a04040",
         noted: &[(0, Verdict::Passed)],
-        ending: Ending::Whole(Counts {
+        answer: Ok(Counts {
+            passed: 1,
+            refused: 0,
+        }),
+    },
+];
+
+/// Messages whose texts are not the shortest.
+pub const ANEW: [Row; 7] = [
+    Row {
+        // the unprotected header is put in order
+        input: "d28440a204410101264040",
+        asked: &[BARE],
+        output: "d28440a201260441014040",
+        noted: &[(0, Verdict::Passed)],
+        answer: Ok(Counts {
             passed: 1,
             refused: 0,
         }),
@@ -95,10 +95,10 @@ pub const ROWS: [Row; 21] = [
     Row {
         // a label of an unprotected header that has no field, and a number in pieces behind it
         input: "d28440a11863c25f4101ff4040",
-        asked: &[("846a5369676e617475726531404040", 0, [0; 8])],
+        asked: &[BARE],
         output: "d28440a11863014040",
         noted: &[(0, Verdict::Passed)],
-        ending: Ending::Whole(Counts {
+        answer: Ok(Counts {
             passed: 1,
             refused: 0,
         }),
@@ -106,10 +106,10 @@ pub const ROWS: [Row; 21] = [
     Row {
         // a number of five bytes behind its tag and head stands in seven, and as an integer in nine
         input: "d28440a11863c24501000000004040",
-        asked: &[("846a5369676e617475726531404040", 0, [0; 8])],
+        asked: &[BARE],
         output: "d28440a118631b00000001000000004040",
         noted: &[(0, Verdict::Passed)],
-        ending: Ending::Whole(Counts {
+        answer: Ok(Counts {
             passed: 1,
             refused: 0,
         }),
@@ -117,10 +117,10 @@ pub const ROWS: [Row; 21] = [
     Row {
         // false in two bytes
         input: "d28440a11863f8144040",
-        asked: &[("846a5369676e617475726531404040", 0, [0; 8])],
+        asked: &[BARE],
         output: "d28440a11863f44040",
         noted: &[(0, Verdict::Passed)],
-        ending: Ending::Whole(Counts {
+        answer: Ok(Counts {
             passed: 1,
             refused: 0,
         }),
@@ -128,10 +128,10 @@ pub const ROWS: [Row; 21] = [
     Row {
         // undefined counts as null
         input: "d28440a11863f74040",
-        asked: &[("846a5369676e617475726531404040", 0, [0; 8])],
+        asked: &[BARE],
         output: "d28440a11863f64040",
         noted: &[(0, Verdict::Passed)],
-        ending: Ending::Whole(Counts {
+        answer: Ok(Counts {
             passed: 1,
             refused: 0,
         }),
@@ -139,10 +139,10 @@ pub const ROWS: [Row; 21] = [
     Row {
         // a list of one counter signature
         input: "d28440a107818340a041014040",
-        asked: &[("846a5369676e617475726531404040", 0, [0; 8])],
+        asked: &[BARE],
         output: "d28440a1078340a041014040",
         noted: &[(0, Verdict::Passed)],
-        ending: Ending::Whole(Counts {
+        answer: Ok(Counts {
             passed: 1,
             refused: 0,
         }),
@@ -153,17 +153,21 @@ pub const ROWS: [Row; 21] = [
         asked: &[ASKED],
         output: "d28443a10126a042686943010203",
         noted: &[(0, Verdict::Passed)],
-        ending: Ending::Whole(Counts {
+        answer: Ok(Counts {
             passed: 1,
             refused: 0,
         }),
     },
+];
+
+/// Items that are refused.
+pub const REFUSED: [Row; 5] = [
     Row {
         input: "d28443a10126a0f64100",
         asked: &[],
         output: "",
         noted: &[(0, Verdict::Refused(Refusal::Detached))],
-        ending: Ending::Whole(Counts {
+        answer: Ok(Counts {
             passed: 0,
             refused: 1,
         }),
@@ -173,7 +177,7 @@ pub const ROWS: [Row; 21] = [
         asked: &[],
         output: "",
         noted: &[(0, Verdict::Refused(Refusal::Detached))],
-        ending: Ending::Whole(Counts {
+        answer: Ok(Counts {
             passed: 0,
             refused: 1,
         }),
@@ -186,7 +190,7 @@ pub const ROWS: [Row; 21] = [
             (0, Verdict::Passed),
             (14, Verdict::Refused(Refusal::NotTagged)),
         ],
-        ending: Ending::Whole(Counts {
+        answer: Ok(Counts {
             passed: 1,
             refused: 1,
         }),
@@ -203,7 +207,7 @@ pub const ROWS: [Row; 21] = [
             ),
             (12, Verdict::Passed),
         ],
-        ending: Ending::Whole(Counts {
+        answer: Ok(Counts {
             passed: 1,
             refused: 1,
         }),
@@ -219,17 +223,21 @@ pub const ROWS: [Row; 21] = [
             (22, Verdict::Refused(Refusal::NoSignature)),
             (31, Verdict::Refused(Refusal::Encrypted)),
         ],
-        ending: Ending::Whole(Counts {
+        answer: Ok(Counts {
             passed: 0,
             refused: 4,
         }),
     },
+];
+
+/// Inputs in which no item is readable at some place.
+pub const STOPPED: [Row; 4] = [
     Row {
         input: "d29f",
         asked: &[],
         output: "",
         noted: &[],
-        ending: Ending::Decode(de::Error::Io(End)),
+        answer: Err(GateFault::Decode(de::Error::Io(End))),
     },
     Row {
         // a message that ends too early behind one that passed
@@ -237,20 +245,20 @@ pub const ROWS: [Row; 21] = [
         asked: &[ASKED],
         output: "d28443a10126a042686943010203",
         noted: &[(0, Verdict::Passed)],
-        ending: Ending::Decode(de::Error::Io(End)),
+        answer: Err(GateFault::Decode(de::Error::Io(End))),
     },
     Row {
         input: "d28443a10126a0426869430102031f",
         asked: &[ASKED],
         output: "d28443a10126a042686943010203",
         noted: &[(0, Verdict::Passed)],
-        ending: Ending::Decode(de::Error::Syntax(14)),
+        answer: Err(GateFault::Decode(de::Error::Syntax(14))),
     },
     Row {
         input: "d28443a10126a042686943010203f818",
         asked: &[ASKED],
         output: "d28443a10126a042686943010203",
         noted: &[(0, Verdict::Passed)],
-        ending: Ending::Decode(de::Error::Semantic(None, Kind::Simple)),
+        answer: Err(GateFault::Decode(de::Error::Semantic(None, SemanticKind::Simple))),
     },
 ];

@@ -7,9 +7,15 @@ mod devices;
 #[cfg(test)]
 mod examples;
 #[cfg(test)]
+mod failing;
+#[cfg(test)]
 mod macs;
 #[cfg(test)]
+mod memory;
+#[cfg(test)]
 mod runs;
+#[cfg(test)]
+mod seen;
 #[cfg(test)]
 mod signs;
 #[cfg(test)]

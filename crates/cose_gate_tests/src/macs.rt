@@ -1,72 +1,115 @@
 //! Messages with a tag: what is asked about them, and why one is none. Expected bytes are written out by hand.
-use cose_gate::{CoseError, Decoder, Entry, Kind, Mem, Recorder, Refusal, Silent, Verdict, gate};
+use crate::seen::{Answer, Question, Row, are_so, is_so};
+use ciborium_ll::End;
+use cose_gate::{CoseError, Counts, Kind, Refusal, Verdict};
 use std::test::Fail;
+
+/// The first bytes of a tag h'aa'.
+const TAG: [u8; 8] = [0xaa, 0, 0, 0, 0, 0, 0, 0];
+
+/// A COSE_Mac0 with the external data h'01'.
+const WITH_DATA: Row = Row {
+    input: "d18443a10105a042686941aa",
+    asked: &[(Kind::Mac0, "84644d41433043a101054101426869", 1, TAG)],
+    output: "d18443a10105a042686941aa",
+    noted: &[(0, Verdict::Passed)],
+    answer: Ok(Counts {
+        passed: 1,
+        refused: 0,
+    }),
+};
+
+/// The question about a COSE_Mac without external data.
+const MAC: Question = (Kind::Mac, "84634d414343a1010540426869", 1, TAG);
+
+/// With no recipient, and with one.
+const MACS: [Row; 2] = [
+    Row {
+        input: "d8618543a10105a042686941aa80",
+        asked: &[MAC],
+        output: "d8618543a10105a042686941aa80",
+        noted: &[(0, Verdict::Passed)],
+        answer: Ok(Counts {
+            passed: 1,
+            refused: 0,
+        }),
+    },
+    Row {
+        input: "d8618543a10105a042686941aa818340a0f6",
+        asked: &[MAC],
+        output: "d8618543a10105a042686941aa818340a0f6",
+        noted: &[(0, Verdict::Passed)],
+        answer: Ok(Counts {
+            passed: 1,
+            refused: 0,
+        }),
+    },
+];
 
 #[test]
 fn tags_are_asked_about(rt: HostRuntime) -> Result<(), Fail> {
-    let alloc = rt.alloc();
-    for (text, aad, kind, covered) in [
-        (
-            "d18443a10105a042686941aa",
-            "01",
-            Kind::Mac0,
-            "84644d41433043a101054101426869",
-        ),
-        (
-            "d8618543a10105a042686941aa80",
-            "",
-            Kind::Mac,
-            "84634d414343a1010540426869",
-        ),
-        (
-            "d8618543a10105a042686941aa818340a0f6",
-            "",
-            Kind::Mac,
-            "84634d414343a1010540426869",
-        ),
-    ] {
-        let input = hex::decode(alloc, text)?;
-        let aad = hex::decode(alloc, aad)?;
-        let mut decoder = Decoder::from(input.as_slice());
-        let mut out = Mem::new(Vec::new(alloc));
-        let mut judge = Recorder::new(alloc, None);
-        assert!(rt; gate(alloc, &mut decoder, &mut out, &mut Silent, &aad, &mut judge).is_ok());
-        let asked = judge.asked();
-        assert_eq!(rt; asked.len(), 1);
-        assert!(rt; asked[0].kind == kind);
-        assert_eq!(rt;
-            hex::encode(alloc, asked[0].structure.as_slice())?.as_str(),
-            covered
-        );
-        assert_eq!(rt; asked[0].tag_len, 1);
-        assert_eq!(rt; asked[0].tag, [0xaa, 0, 0, 0, 0, 0, 0, 0]);
-        assert_eq!(rt; hex::encode(alloc, out.as_written())?.as_str(), text);
-    }
-    Ok(())
+    is_so(&rt, rt.alloc(), &[1], None, &WITH_DATA)?;
+    are_so(&rt, rt.alloc(), &[], None, &MACS)
 }
+
+/// The answer of a run over one item that refuses it.
+const REFUSED: Answer<End> = Ok(Counts {
+    passed: 0,
+    refused: 1,
+});
+
+/// Refused by a judge that says no to the tag h'aa', for want of a payload, and for the wrong number of elements.
+const NONE: [Row; 5] = [
+    Row {
+        input: "d18443a10105a042686941aa",
+        asked: &[(Kind::Mac0, "84644d41433043a1010540426869", 1, TAG)],
+        output: "",
+        noted: &[(0, Verdict::Refused(Refusal::Judged(0)))],
+        answer: REFUSED,
+    },
+    Row {
+        input: "d18443a10105a0f641aa",
+        asked: &[],
+        output: "",
+        noted: &[(0, Verdict::Refused(Refusal::Detached))],
+        answer: REFUSED,
+    },
+    Row {
+        input: "d8618543a10105a0f641aa80",
+        asked: &[],
+        output: "",
+        noted: &[(0, Verdict::Refused(Refusal::Detached))],
+        answer: REFUSED,
+    },
+    Row {
+        input: "d18343a10105a0f6",
+        asked: &[],
+        output: "",
+        noted: &[(
+            0,
+            Verdict::Refused(Refusal::Shape(CoseError::UnexpectedItem(
+                "array",
+                "array with 4 items",
+            ))),
+        )],
+        answer: REFUSED,
+    },
+    Row {
+        input: "d8618443a10105a0f641aa",
+        asked: &[],
+        output: "",
+        noted: &[(
+            0,
+            Verdict::Refused(Refusal::Shape(CoseError::UnexpectedItem(
+                "array",
+                "array with 5 items",
+            ))),
+        )],
+        answer: REFUSED,
+    },
+];
 
 #[test]
 fn tags_may_be_refused(rt: HostRuntime) -> Result<(), Fail> {
-    let alloc = rt.alloc();
-    let four = CoseError::UnexpectedItem("array", "array with 4 items");
-    let five = CoseError::UnexpectedItem("array", "array with 5 items");
-    for (text, refusal) in [
-        ("d18443a10105a042686941aa", Refusal::Judged(0)),
-        ("d18443a10105a0f641aa", Refusal::Detached),
-        ("d8618543a10105a0f641aa80", Refusal::Detached),
-        ("d18343a10105a0f6", Refusal::Shape(four)),
-        ("d8618443a10105a0f641aa", Refusal::Shape(five)),
-    ] {
-        let input = hex::decode(alloc, text)?;
-        let mut decoder = Decoder::from(input.as_slice());
-        let mut out = Mem::new(Vec::new(alloc));
-        let mut entries: Vec<Entry> = Vec::new(alloc);
-        let no = [0xaau8].to_vec(alloc)?;
-        let mut judge = Recorder::new(alloc, Some(no));
-        assert!(rt; gate(alloc, &mut decoder, &mut out, &mut entries, &[], &mut judge).is_ok());
-        assert_eq!(rt; entries.len(), 1);
-        assert_eq!(rt; entries[0].verdict, Verdict::Refused(refusal));
-        assert!(rt; out.as_written().is_empty());
-    }
-    Ok(())
+    are_so(&rt, rt.alloc(), &[], Some(&[0xaa]), &NONE)
 }

@@ -73,3 +73,14 @@ fn pieces_make_the_same_tag(rt: HostRuntime) {
     assert!(rt; same_tag(&tag, &whole));
     assert!(rt; !same_tag(b"", &whole));
 }
+
+#[test]
+fn a_clone_begins_another_tag(rt: HostRuntime) -> Result<(), Fail> {
+    let empty = HmacSha256::new(b"Jefe");
+    for text in ["", "Hi There", LONG_TEXT] {
+        let mut mac = empty.clone()?;
+        mac.update(text.as_bytes());
+        assert_eq!(rt; mac.finalize(), hmac_sha256(b"Jefe", text.as_bytes()));
+    }
+    Ok(())
+}

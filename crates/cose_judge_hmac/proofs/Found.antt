@@ -9,7 +9,7 @@ use Rattle.std.proofs.lemmas.Bool.{true≢false}
 use Rattle.coset_labels.specs.Fields.{LabelFields, Named}
 use Rattle.coset_labels.specs.View.{label_view}
 use Rattle.coset_labels.specs.declared.label.Label.{Label}
-use Rattle.coset_headers.specs.View.{entry_view}
+use Rattle.cose_gate_core.specs.HeaderView.{entry_view}
 use Rattle.coset_keys.specs.View.{key_view}
 use Rattle.coset_keys.specs.declared.key.CoseKey.{CoseKey}
 use Rattle.cose_judge_hmac.specs.Keys.{fits, first_fit}

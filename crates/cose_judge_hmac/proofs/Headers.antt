@@ -10,10 +10,10 @@ use Rattle.cose_iana.specs.Headers.{header_parameters}
 use Rattle.cose_iana.specs.declared.headers.HeaderParameter.{HeaderParameter}
 use Rattle.coset_labels.specs.View.{registered_view, named_view}
 use Rattle.coset_labels.specs.declared.registered.RegisteredLabelWithPrivate.{RegisteredLabelWithPrivate}
-use Rattle.coset_headers.specs.Fields.{SignatureFields, HeaderFields, header, ProtectedFields, protected}
-use Rattle.coset_headers.specs.View.{header_view, protected_view, signatures_view, entry_view, signature_step, header_step, protected_step}
-use Rattle.coset_headers.specs.declared.header.Header.{Header, out-Header, roll-out-Header, fold-roll-Header}
-use Rattle.coset_headers.specs.declared.header.ProtectedHeader.{ProtectedHeader, out-ProtectedHeader, roll-out-ProtectedHeader, fold-roll-ProtectedHeader}
+use Rattle.cose_gate_core.specs.Fields.{SignatureFields, HeaderFields, header, ProtectedFields, protected}
+use Rattle.cose_gate_core.specs.HeaderView.{header_view, protected_view, signatures_view, entry_view, signature_step, header_step, protected_step}
+use Rattle.cose_gate_core.specs.Header.{Header, out-Header, roll-out-Header, fold-roll-Header}
+use Rattle.cose_gate_core.specs.ProtectedHeader.{ProtectedHeader, out-ProtectedHeader, roll-out-ProtectedHeader, fold-roll-ProtectedHeader}
 use Rattle.cose_judge_hmac.specs.Messages.{plain, header_in, crit_is_known, alg_is_hmac, first_id, message_id}
 use Rattle.cose_judge_hmac.specs.Names.{is_understood, is_some_hmac}
 

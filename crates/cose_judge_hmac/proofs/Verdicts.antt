@@ -4,7 +4,7 @@ use Rattle.std.specs.Prelude.{if◌then◌else◌, option_and_then}
 use Rattle.std.specs.Str.{bytes_eq}
 use Rattle.std.proofs.lemmas.Slice.Eq.{bytes_eq-Decides}
 use Rattle.cose_hmac.specs.Hmac.{hmac}
-use Rattle.coset_headers.specs.Fields.{HeaderFields, ProtectedFields}
+use Rattle.cose_gate_core.specs.Fields.{HeaderFields, ProtectedFields}
 use Rattle.coset_keys.specs.Fields.{KeyFields}
 use Rattle.cose_judge_hmac.specs.Judging.{may_judge, secret_for, is_tag_under}
 use Rattle.cose_judge_hmac.specs.Keys.{secret, first_fit}

@@ -2,7 +2,7 @@
 use Rattle.std.specs.Prelude.{ℕ, List, Bool, false, ◌&&◌, if◌then◌else◌, Option, Some, None, option_and_then}
 use Rattle.std.specs.Str.{bytes_eq}
 use Rattle.cose_hmac.specs.Hmac.{hmac}
-use Rattle.coset_headers.specs.Fields.{HeaderFields, ProtectedFields}
+use Rattle.cose_gate_core.specs.Fields.{HeaderFields, ProtectedFields}
 use Rattle.coset_keys.specs.Fields.{KeyFields}
 use Rattle.cose_judge_hmac.specs.Keys.{secret, first_fit}
 use Rattle.cose_judge_hmac.specs.Messages.{header_in, alg_is_hmac, crit_is_known, message_id}

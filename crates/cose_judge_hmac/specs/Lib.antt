@@ -5,3 +5,5 @@ pub mod Keys
 pub mod Messages
 pub mod Names
 pub mod Secrets
+pub use Rattle.cose_gate_core.specs as GateCore
+pub use Rattle.coset_keys.specs as KeySets

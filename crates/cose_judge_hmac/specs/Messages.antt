@@ -1,7 +1,7 @@
 -- What is read of the headers of a COSE_Mac0 (RFC 9052, section 3.1).
 use Rattle.std.specs.Prelude.{ℕ, List, [], ◌∷◌, Bool}
 use Rattle.std.specs.List.{list_all}
-use Rattle.coset_headers.specs.Fields.{Plain, HeaderFields, header, ProtectedFields, protected}
+use Rattle.cose_gate_core.specs.Fields.{Plain, HeaderFields, header, ProtectedFields, protected}
 use Rattle.cose_judge_hmac.specs.Names.{is_understood, is_some_hmac}
 
 abbrev pub plain : HeaderFields → Plain

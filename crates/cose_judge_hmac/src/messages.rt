@@ -1,10 +1,10 @@
 //! The headers of a message.
 ghost use Rattle.std.specs.Prelude.{◌≡◌};
-ghost use Rattle.coset_headers.specs.View.{header_view, protected_view};
+ghost use Rattle.cose_gate_core.specs.HeaderView.{header_view, protected_view};
 ghost use Rattle.cose_judge_hmac.specs.Messages as spec;
 
 use crate::names::{all_understood, is_some_hmac};
-use coset_headers::{Header, ProtectedHeader};
+use cose_gate_core::{Header, ProtectedHeader};
 
 /// Whether no label has to be understood but those of the algorithm, of the list itself and of the key id (RFC 9052, section 3.1).
 pub fn crit_is_known(header: &Header) -> bool

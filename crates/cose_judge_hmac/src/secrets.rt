@@ -3,7 +3,7 @@ ghost use Rattle.std.specs.Prelude.{◌≡◌, map, option_copied};
 ghost use Rattle.std.specs.List.{find};
 ghost use Rattle.ciborium_value.specs.View.{view};
 ghost use Rattle.coset_labels.specs.View.{label_view};
-ghost use Rattle.coset_headers.specs.View.{entry_view};
+ghost use Rattle.cose_gate_core.specs.HeaderView.{entry_view};
 ghost use Rattle.cose_judge_hmac.specs.Secrets as spec;
 
 use ciborium_value::Value;

@@ -1,14 +1,14 @@
 //! Whether a tag is good.
 ghost use Rattle.std.specs.Prelude.{◌≡◌, option_copied};
-ghost use Rattle.coset_headers.specs.View.{header_view, protected_view};
+ghost use Rattle.cose_gate_core.specs.HeaderView.{header_view, protected_view};
 ghost use Rattle.coset_keys.specs.View.{key_set_view};
 ghost use Rattle.cose_judge_hmac.specs.Judging as spec;
 ghost use Rattle.cose_judge_hmac.specs.Judging.{may_judge, hmac_yes};
 
 use crate::keys::{find_key, secret_of};
 use crate::messages::{alg_is_hmac, crit_is_known, message_id};
+use cose_gate_core::{Header, ProtectedHeader};
 use cose_hmac::{hmac_sha256, same_tag};
-use coset_headers::{Header, ProtectedHeader};
 use coset_keys::CoseKeySet;
 
 /// The secret of the first key that fits a message, or none where no key does, the message's algorithm is another than HMAC with SHA-256,

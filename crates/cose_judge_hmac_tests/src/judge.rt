@@ -1,8 +1,8 @@
 //! The judge by HMAC, as the gate asks it.
 use crate::tags::{key, protected};
-use cose_gate_core::{About, Judge, Kind};
 use cose_hmac::hmac_sha256;
 use cose_judge_hmac::HmacJudge;
+use cose_judge_hmac::gate_core::{About, Judge, Kind};
 use coset_headers::Header;
 use coset_keys::CoseKeySet;
 use std::test::Fail;

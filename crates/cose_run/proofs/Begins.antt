@@ -5,7 +5,7 @@ use Rattle.coset_labels.specs.Faults.{OrMemory, fault_of}
 use Rattle.coset_labels.specs.Reading.{WrongItem}
 use Rattle.coset_labels.specs.declared.error.CoseError.{CoseError}
 use Rattle.coset_labels.specs.declared.error.CoseError.TheVariants as cose
-use Rattle.coset_keys.specs.Wrong.{WrongKeySet}
+use Rattle.cose_judge_hmac.specs.KeySets.Wrong.{WrongKeySet}
 use Rattle.cose_run.specs.Beginning.{aad_of, of_cose, IsNoAad, IsNoKeySet, BeginsNot}
 use Rattle.cose_run.specs.declared.beginning.NotBegun.{NotBegun}
 use Rattle.cose_run.specs.declared.beginning.NotBegun.TheVariants.{NoFile, NotHex, NoKeys, Memory}

@@ -12,18 +12,18 @@ use Rattle.ciborium.specs.Items.{Sequence}
 use Rattle.ciborium.specs.Reading.{IfKnown}
 use Rattle.ciborium.proofs.ChildCases.{front_some}
 use Rattle.ciborium_value.specs.Tree.{Tree}
-use Rattle.coset_keys.specs.Fields.{KeyFields}
-use Rattle.cose_gate_core.specs.Questions.{Question}
-use Rattle.cose_gate_core.specs.Asked.{IsFront}
-use Rattle.cose_gate_core.specs.Findings.{usual}
-use Rattle.cose_gate_core.specs.Run.{Step, Course, written_of, output_of, refused_count}
-use Rattle.cose_gate_core.specs.Outcome.{Rules, Sight, Outcome, Answers}
-use Rattle.cose_gate_core.specs.declared.report.Entry.{Entry}
-use Rattle.cose_gate_core.specs.declared.gating.Counts.{Counts}
-use Rattle.cose_gate_core.specs.declared.gating.GateFault.{GateFault}
-use Rattle.cose_gate_core.specs.declared.gating.GateFault.TheVariants as gating
+use Rattle.cose_judge_hmac.specs.KeySets.Fields.{KeyFields}
+use Rattle.cose_judge_hmac.specs.GateCore.Questions.{Question}
+use Rattle.cose_judge_hmac.specs.GateCore.Asked.{IsFront}
+use Rattle.cose_judge_hmac.specs.GateCore.Findings.{usual}
+use Rattle.cose_judge_hmac.specs.GateCore.Run.{Step, Course, written_of, output_of, refused_count}
+use Rattle.cose_judge_hmac.specs.GateCore.Outcome.{Rules, Sight, Outcome, Answers}
+use Rattle.cose_judge_hmac.specs.GateCore.declared.report.Entry.{Entry}
+use Rattle.cose_judge_hmac.specs.GateCore.declared.gating.Counts.{Counts}
+use Rattle.cose_judge_hmac.specs.GateCore.declared.gating.GateFault.{GateFault}
+use Rattle.cose_judge_hmac.specs.GateCore.declared.gating.GateFault.TheVariants as gating
 use Rattle.cose_judge_hmac.specs.Judge.{says_yes}
-use Rattle.coset_keys.specs.View.{key_set_view}
+use Rattle.cose_judge_hmac.specs.KeySets.View.{key_set_view}
 use Rattle.cose_run.specs.Beginning.{status_of, Begins, BeginsNot}
 use Rattle.cose_run.specs.declared.beginning.Beginning.{Beginning}
 use Rattle.cose_run.specs.Program.{GatedOver, Gated, Through, InPart, Ran, Devices, Ends, no_file, not_hex, no_keys, no_memory, after_run}

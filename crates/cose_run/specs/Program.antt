@@ -2,17 +2,17 @@
 use Rattle.std.specs.Prelude.{◌≡◌, ◌⊎◌, ◌<◌, ℕ, List, [], Option, None, Some, Bool, Result, Ok, Err, if◌then◌else◌, nat_eq}
 use Rattle.std.specs.Io.KnownBytes.{Appends}
 use Rattle.ciborium.specs.Reading.{IfKnown}
-use Rattle.cose_gate_core.specs.Questions.{Question}
-use Rattle.cose_gate_core.specs.Asked.{IsFront}
-use Rattle.cose_gate_core.specs.Findings.{usual}
-use Rattle.cose_gate_core.specs.Run.{Step, Course, output_of, refused_count}
-use Rattle.cose_gate_core.specs.declared.gating.Counts.{Counts}
-use Rattle.cose_gate_core.specs.declared.gating.GateFault.{GateFault}
+use Rattle.cose_judge_hmac.specs.GateCore.Questions.{Question}
+use Rattle.cose_judge_hmac.specs.GateCore.Asked.{IsFront}
+use Rattle.cose_judge_hmac.specs.GateCore.Findings.{usual}
+use Rattle.cose_judge_hmac.specs.GateCore.Run.{Step, Course, output_of, refused_count}
+use Rattle.cose_judge_hmac.specs.GateCore.declared.gating.Counts.{Counts}
+use Rattle.cose_judge_hmac.specs.GateCore.declared.gating.GateFault.{GateFault}
 use Rattle.coset_labels.specs.Faults.{CoseFault}
 use Rattle.coset_labels.specs.Reading.{HasItem, WrongItem}
-use Rattle.coset_keys.specs.Fields.{KeyFields}
-use Rattle.coset_keys.specs.Keys.{HasKeySet}
-use Rattle.coset_keys.specs.Wrong.{WrongKeySet}
+use Rattle.cose_judge_hmac.specs.KeySets.Fields.{KeyFields}
+use Rattle.cose_judge_hmac.specs.KeySets.Keys.{HasKeySet}
+use Rattle.cose_judge_hmac.specs.KeySets.Wrong.{WrongKeySet}
 use Rattle.cose_run.specs.Beginning.{aad_of}
 
 -- the whole input was gone through, and all that passed was written

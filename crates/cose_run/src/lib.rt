@@ -9,3 +9,4 @@ mod program;
 
 pub use crate::arguments::words;
 pub use crate::program::run;
+pub use cose_judge_hmac as judge;

@@ -1,7 +1,7 @@
 //! The lines on standard error. A fault of what they are written to is passed over.
 use crate::beginning::NotBegun;
 use ciborium_ll::{Read, Write};
-use cose_gate_core::{Counts, Entry, GateFault, Refusal, Report, Verdict, de};
+use cose_judge_hmac::gate_core::{Counts, Entry, GateFault, Refusal, Report, Verdict, de};
 use std::alloc::AllocError;
 use std::fmt;
 use std::fmt::Write as _;

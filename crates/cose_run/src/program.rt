@@ -1,15 +1,14 @@
 //! The program: the gate over one input with the judge by HMAC, a line for each item, and one that says how it ended.
 ghost use Rattle.std.specs.Prelude.{◌≡◌, ◌<◌, [], Some, IsOk, OnOk, option_copied};
-ghost use Rattle.coset_keys.specs.View.{key_set_view};
+ghost use Rattle.cose_judge_hmac.specs.KeySets.View.{key_set_view};
 ghost use Rattle.cose_judge_hmac.specs.Judge.{says_yes};
 ghost use Rattle.cose_run.specs.Program.{Ends, Gated, Ran};
 
 use crate::beginning::begin;
 use crate::lines::{Lines, say_counts, say_fault, say_not_begun};
 use ciborium_ll::{Decoder, Read, Write};
-use cose_gate_core::{Counts, GateFault, gate};
-use cose_judge_hmac::HmacJudge;
-use coset_keys::CoseKeySet;
+use cose_judge_hmac::gate_core::{Counts, GateFault, gate};
+use cose_judge_hmac::{CoseKeySet, HmacJudge};
 use std::alloc::Global;
 
 /// The gate with the judge by these keys, and a line for each item.

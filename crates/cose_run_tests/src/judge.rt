@@ -1,8 +1,8 @@
 //! The judge by HMAC over a key set that was read from bytes.
 use ciborium_value::Value;
-use cose_gate_core::{About, Judge, Kind};
 use cose_hmac::hmac_sha256;
-use cose_judge_hmac::HmacJudge;
+use cose_run::judge::HmacJudge;
+use cose_run::judge::gate_core::{About, Judge, Kind};
 use coset_headers::{Header, ProtectedHeader};
 use coset_keys::CoseKeySet;
 use coset_labels::CborSerializable;

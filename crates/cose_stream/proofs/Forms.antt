@@ -6,11 +6,11 @@ use Rattle.coset_headers.specs.Headers.{HasProtected, HasHeader}
 use Rattle.coset_headers.specs.Written.{shown}
 use Rattle.coset_labels.specs.Faults.{CoseFault, unexpected}
 use Rattle.coset_labels.specs.Kinds.{is_array}
-use Rattle.coset_parts.specs.Wrong.{WrongParts}
-use Rattle.coset_signed.specs.Shapes.{four_items}
-use Rattle.coset_signed.specs.Wrong.{WrongSign1, not_four, in_parts, in_last}
-use Rattle.coset_maced.specs.Wrong.{WrongMac0, no_array0, in_parts0, in_tag0}
-use Rattle.coset_maced.specs.Wrong as maced
+use Rattle.cose_gate_core.specs.WrongParts.{WrongParts}
+use Rattle.cose_gate_core.specs.SignedShapes.{four_items}
+use Rattle.cose_gate_core.specs.WrongSigned.{WrongSign1, not_four, in_parts, in_last}
+use Rattle.cose_gate_core.specs.WrongMaced.{WrongMac0, no_array0, in_parts0, in_tag0}
+use Rattle.cose_gate_core.specs.WrongMaced as maced
 use Rattle.coset_structures.specs.Structure.{structure}
 use Rattle.cose_gate_core.specs.Questions.{Question, questions, alone}
 use Rattle.cose_gate_core.specs.Findings.{IsBarred, shape, IsJudged, WrongMessage, usual}

@@ -15,8 +15,8 @@ use Rattle.ciborium.proofs.ReadLemmas.{meanings_parts}
 use Rattle.ciborium.proofs.ChildLemmas.{all_count, title_no_break}
 use Rattle.ciborium.proofs.TagLemmas.{bytes_meant}
 use Rattle.coset_labels.specs.Faults.{unexpected}
-use Rattle.coset_parts.specs.Written.{optional_tree}
-use Rattle.coset_parts.specs.Wrong.{in_content}
+use Rattle.cose_gate_core.specs.PartsWritten.{optional_tree}
+use Rattle.cose_gate_core.specs.WrongParts.{in_content}
 use Rattle.cose_gate_core.specs.Findings.{IsBarred, shape, usual}
 use Rattle.cose_stream.specs.declared.fault.StreamFault.{StreamFault}
 use Rattle.cose_stream.specs.declared.form.Form.{Form}

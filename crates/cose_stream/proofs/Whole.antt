@@ -19,8 +19,8 @@ use Rattle.coset_headers.specs.Headers.{HasProtected, HasHeader}
 use Rattle.coset_headers.specs.View.{header_view, protected_view}
 use Rattle.coset_headers.specs.declared.header.Header.{Header}
 use Rattle.coset_headers.specs.declared.header.ProtectedHeader.{ProtectedHeader}
-use Rattle.coset_recipients.specs.View.{recipients_view}
-use Rattle.coset_recipients.specs.declared.recipient.CoseRecipient.{CoseRecipient}
+use Rattle.cose_gate_core.specs.RecipientView.{recipients_view}
+use Rattle.cose_gate_core.specs.CoseRecipient.{CoseRecipient}
 use Rattle.cose_gate_core.specs.Asked.{first_no, folded_over}
 use Rattle.cose_gate_core.specs.Questions.{Question, Subject, alone}
 use Rattle.cose_gate_core.specs.declared.about.About.{About}

@@ -20,7 +20,7 @@ use Rattle.ciborium.proofs.ReadLemmas.{meanings_parts}
 use Rattle.ciborium.proofs.ChildLemmas.{all_count, title_no_break, begun_no_break}
 use Rattle.coset_labels.specs.Faults.{CoseFault, unexpected}
 use Rattle.coset_headers.specs.Wrong.{WrongProtected, WrongHeader}
-use Rattle.coset_parts.specs.Wrong.{in_protected, in_unprotected}
+use Rattle.cose_gate_core.specs.WrongParts.{in_protected, in_unprotected}
 use Rattle.cose_gate_core.specs.Findings.{IsBarred, shape, usual}
 use Rattle.cose_stream.specs.declared.fault.StreamFault.{StreamFault}
 use Rattle.cose_stream.specs.declared.form.Form.{Form}

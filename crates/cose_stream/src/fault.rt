@@ -2,7 +2,7 @@
 ghost use Rattle.cose_stream.specs.Parts.{IsUnexpected};
 
 use ciborium::de;
-use coset_base::CoseError;
+use cose_gate_core::CoseError;
 use std::alloc::AllocError;
 
 /// Why a message was not checked.

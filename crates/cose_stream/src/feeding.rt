@@ -12,8 +12,7 @@ ghost use Rattle.cose_stream.specs.Streaming.{NamesWhy, Steady};
 use crate::fault::StreamFault;
 use crate::form::Form;
 use ciborium_ll::{Decoder, Read};
-use cose_gate_core::Judge;
-use coset_base::ProtectedHeader;
+use cose_gate_core::{Judge, ProtectedHeader};
 use coset_structures::bytes_title;
 use std::alloc::AllocError;
 

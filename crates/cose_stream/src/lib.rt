@@ -12,3 +12,4 @@ mod titles;
 
 pub use crate::checking::stream_check;
 pub use crate::fault::StreamFault;
+pub use cose_gate_core as gate_core;

@@ -17,7 +17,8 @@ use crate::titles::{is_break, next_head};
 use ciborium::{Value, de};
 use ciborium_ll::laws::header_fits;
 use ciborium_ll::{Decoder, Read};
-use coset_base::{AsCborValue, Header, ProtectedHeader, ValueTryAs};
+use cose_gate_core::{Header, ProtectedHeader};
+use coset_labels::{AsCborValue, ValueTryAs};
 use std::alloc::Global;
 
 /// The levels that an element may open: the tag and the array have opened two of 256.

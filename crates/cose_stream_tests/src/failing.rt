@@ -1,28 +1,31 @@
 //! Readers that fail in mid-stream.
+use crate::checks::{same, watched};
 use crate::devices::{Broken, Source};
-use crate::watching::Watcher;
 use ciborium::de;
-use ciborium_ll::Decoder;
 use ciborium_ll::count::Count;
-use cose_stream::{StreamFault, stream_check};
+use cose_stream::StreamFault;
+use std::alloc::Global;
+use std::process::Abort;
 use std::test::Fail;
 
-const MESSAGE: &str = "d28443a10126a042686943010203";
+/// A check stops where the reader fails, behind these bytes.
+fn is_cut_off(rt: &impl Abort, alloc: Global, bytes: &[u8]) {
+    let source = Source {
+        bytes,
+        failed: Count::new(),
+    };
+    let seen = watched(alloc, source, &[], 1);
+    let broken = Err(StreamFault::Decode(de::Error::Io(Broken)));
+    same(rt, &seen.answer, &broken, "answer", &bytes.len());
+    same(rt, &seen.watcher.decisions, &0, "decisions", &bytes.len());
+}
 
 #[test]
 fn a_failed_read_is_the_answer(rt: HostRuntime) -> Result<(), Fail> {
     let alloc = rt.alloc();
-    let message = hex::decode(alloc, MESSAGE)?;
+    let message = hex::decode(alloc, "d28443a10126a042686943010203")?;
     for count in 0..message.len() {
-        let mut decoder = Decoder::from(Source {
-            bytes: &message[..count],
-            failed: Count::new(),
-        });
-        let mut buffer = [0; 1];
-        let mut watcher = Watcher::new(alloc);
-        let answer = stream_check(alloc, &mut decoder, &mut buffer, &[], &mut watcher);
-        assert_eq!(rt; answer, Err(StreamFault::Decode(de::Error::Io(Broken))));
-        assert_eq!(rt; watcher.decisions, 0);
+        is_cut_off(&rt, alloc, &message[..count]);
     }
     Ok(())
 }

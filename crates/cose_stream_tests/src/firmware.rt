@@ -1,4 +1,5 @@
 //! A device that installs only the image that its key set vouches for.
+use crate::checks::{same, with_payload};
 use ciborium::de;
 use ciborium_ll::{Decoder, End, Read};
 use cose_judge_hmac::HmacJudge;
@@ -6,6 +7,7 @@ use cose_stream::{StreamFault, stream_check};
 use coset_keys::CoseKeySet;
 use coset_labels::CborSerializable;
 use std::alloc::Global;
+use std::process::Abort;
 use std::test::Fail;
 
 /// Whether the COSE_Mac0 that comes from this reader carries an image with a good tag under one of these keys. The image passes through
@@ -32,30 +34,58 @@ const KEYS: &str = "81a201042050000102030405060708090a0b0c0d0e0f";
 /// The tag of the image, by another program.
 const TAG: &str = "1b8777f515d37d649cd4ca44cc495cc2fe3dfdb5a9fa036f0288cbdc1df89845";
 
+/// The keys, as they were read.
+fn keys(alloc: Global) -> Result<CoseKeySet, Fail> {
+    let bytes = hex::decode(alloc, KEYS)?;
+    Ok(CoseKeySet::from_slice(alloc, bytes.as_slice())?)
+}
+
+/// The tag 17, an array of four, both headers, the title of 10,000 bytes and these, and the tag.
+fn message(alloc: Global) -> Result<Vec<u8>, Fail> {
+    let mut message = with_payload(alloc, "d18443a10105a0592710")?;
+    let tag = hex::decode(alloc, TAG)?;
+    message.extend_from_slice(&[0x58, 0x20])?;
+    message.extend_from_slice(&tag)?;
+    Ok(message)
+}
+
+/// Whether the message, as it then is, is genuine under the keys has this answer.
+fn answers(
+    rt: &impl Abort,
+    alloc: Global,
+    message: &[u8],
+    want: Result<bool, StreamFault<End>>,
+) -> Result<(), Fail> {
+    let keys = keys(alloc)?;
+    let answer = is_genuine(alloc, &keys, message);
+    same(rt, &answer, &want, "answer", &"the image");
+    Ok(())
+}
+
 #[test]
 fn a_firmware_image_is_checked(rt: HostRuntime) -> Result<(), Fail> {
     let alloc = rt.alloc();
-    let keys = hex::decode(alloc, KEYS)?;
-    let keys = CoseKeySet::from_slice(alloc, keys.as_slice())?;
-    // the tag 17, an array of four, both headers, and the title of 10,000 bytes
-    let mut message = hex::decode(alloc, "d18443a10105a0592710")?;
-    for index in 0..10_000u32 {
-        message.push((index % 251) as u8)?;
-    }
-    message.extend_from_slice(&[0x58, 0x20])?;
-    message.extend_from_slice(&hex::decode(alloc, TAG)?)?;
-    assert_eq!(rt; is_genuine(alloc, &keys, message.as_slice()), Ok(true));
+    let message = message(alloc)?;
+    answers(&rt, alloc, &message, Ok(true))
+}
 
-    // an image with one other byte
-    let mut changed = message.clone()?;
-    if let Some(byte) = changed.get_mut(5_000) {
+/// An image with one other byte.
+#[test]
+fn a_changed_image_is_refused(rt: HostRuntime) -> Result<(), Fail> {
+    let alloc = rt.alloc();
+    let mut message = message(alloc)?;
+    if let Some(byte) = message.get_mut(5_000) {
         *byte ^= 1;
     }
-    assert_eq!(rt; is_genuine(alloc, &keys, changed.as_slice()), Ok(false));
+    answers(&rt, alloc, &message, Ok(false))
+}
 
-    // a message whose last byte is missing
+/// A message whose last byte is missing.
+#[test]
+fn a_short_image_is_no_answer(rt: HostRuntime) -> Result<(), Fail> {
+    let alloc = rt.alloc();
+    let mut message = message(alloc)?;
     message.pop();
     let end = StreamFault::Decode(de::Error::Io(End));
-    assert_eq!(rt; is_genuine(alloc, &keys, message.as_slice()), Err(end));
-    Ok(())
+    answers(&rt, alloc, &message, Err(end))
 }

@@ -1,7 +1,7 @@
 //! A judge that keeps what it is fed.
 ghost use Rattle.std.specs.Prelude.{◌≡◌, true};
 
-use cose_gate_core::{About, Judge, Kind};
+use cose_stream::gate_core::{About, Judge, Kind};
 use std::alloc::{AllocError, Global};
 
 /// Says yes, and keeps the kind, the covered bytes, the lengths of their pieces, and how often it decided.

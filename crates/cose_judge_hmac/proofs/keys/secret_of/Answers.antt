@@ -1,5 +1,5 @@
 use Rattle.std.proofs.Common.{map, ap, ◌∙◌}
-use Rattle.coset_headers.specs.View.{entry_view}
+use Rattle.cose_gate_core.specs.HeaderView.{entry_view}
 use Rattle.cose_judge_hmac.specs.Secrets.{secret_in}
 use Rattle.cose_judge_hmac.proofs.keys.secret_of.Goals as goal
 

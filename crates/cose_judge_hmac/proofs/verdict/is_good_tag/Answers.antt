@@ -1,5 +1,5 @@
 use Rattle.std.proofs.Common.{ap}
-use Rattle.coset_headers.specs.View.{header_view, protected_view}
+use Rattle.cose_gate_core.specs.HeaderView.{header_view, protected_view}
 use Rattle.coset_keys.specs.View.{key_set_view}
 use Rattle.cose_judge_hmac.specs.Judging.{secret_for, is_tag_under}
 use Rattle.cose_judge_hmac.proofs.Verdicts.{verdict_by}

@@ -1,5 +1,5 @@
 use Rattle.std.proofs.Common.{◌∙◌, sym, Some, None}
-use Rattle.coset_headers.specs.View.{header_view, protected_view}
+use Rattle.cose_gate_core.specs.HeaderView.{header_view, protected_view}
 use Rattle.coset_keys.specs.View.{key_view, key_set_view}
 use Rattle.cose_judge_hmac.proofs.Verdicts.{barred, for_first}
 use Rattle.cose_judge_hmac.proofs.verdict.secret_for.Goals as goal

@@ -1,0 +1,175 @@
+-- What the clauses of `gate` say, over the run of the input.
+use Rattle.std.specs.Prelude.{◌≡◌, ℕ, ◌+◌, ◌≤◌, ◌⊎◌, List, [], ◌∷◌, ◌++◌, length, Some, Bool, true, IsTrue, Result, Ok, Err, IfOk, IfErr}
+use Rattle.std.specs.Io.KnownBytes.{Appends}
+use Rattle.ciborium_ll.specs.Views.{left_of, offset_of}
+use Rattle.ciborium_ll.specs.declared.dec.Decoder.{Decoder}
+use Rattle.ciborium_ll.specs.declared.read.Read.{Ghosts as Reads}
+use Rattle.ciborium_ll.specs.declared.write.Write.{Ghosts as Writes}
+use Rattle.ciborium.specs.Reading.{IsNoMemory}
+use Rattle.ciborium.specs.declared.de.Error.TheVariants as de
+use Rattle.cose_gate_laws.specs.GateCore.Asked.{folded_over, IsFront}
+use Rattle.cose_gate_laws.specs.GateCore.Findings.{usual}
+use Rattle.cose_gate_laws.specs.GateCore.Outcome.{Rules, Sight, IsFaultOf}
+use Rattle.cose_gate_laws.specs.GateCore.Questions.{Question}
+use Rattle.cose_gate_laws.specs.GateCore.Run.{Step, Run, passes, text_of, questions_of, output_of, passed_count, refused_count}
+use Rattle.cose_gate_laws.specs.GateCore.declared.report.Entry.{Entry}
+use Rattle.cose_gate_laws.specs.GateCore.declared.gating.Counts.{Counts}
+use Rattle.cose_gate_laws.specs.GateCore.declared.gating.GateFault.{GateFault}
+use Rattle.cose_gate_laws.specs.GateCore.declared.gating.GateFault.TheVariants.{Decode, Write, Memory}
+use Rattle.cose_gate_laws.specs.GateCore.declared.report.Report.{Ghosts as Reports}
+use Rattle.cose_gate_laws.specs.GateCore.declared.judge.Judge.{Ghosts as Judges}
+use Rattle.cose_gate_laws.specs.Anew.{AreEntries}
+
+-- what a call of the gate goes by; `P.Report` and `J.Judge` are the words that the bounds of its report and its judge bring
+abbrev pub rules_of : {P J : Type 0} (p : Reports P) (j : Judges J) → J → List ℕ → Rules j.Told p.State
+rules_of p j judge aad = record { limits = usual; decided = j.decided; folded = p.folded; allows = j.yes (j.who judge); aad = aad }
+
+-- what is seen of the decoder, the writer, the report and the judge
+abbrev pub sight_of : {R E W F P J : Type 0} (r : Reads R E) (w : Writes W F) (p : Reports P) (j : Judges J) → Decoder R → W → P → J → Sight j.Told p.State
+sight_of r w p j decoder out report judge = record {
+  told = j.told judge;
+  state = p.state report;
+  written = w.written out;
+  offset = offset_of decoder;
+  left = left_of r.left decoder;
+}
+
+-- P holds of the bytes to come, where these are known, of the steps of the run over them, and of what is left behind its items. Of a
+-- step's entry it is open which of a shape's faults is named, and so P holds of each way to say it.
+abbrev pub OverRun : {T S : Type 0} → Rules T S → Sight T S → (List ℕ → List Step → List ℕ → Type 0) → Type 0
+OverRun rules old P = (b : List ℕ) (ss : List Step) (rest : List ℕ) → old.left ≡ Some b → Run rules.limits rules.allows rules.aad old.offset b ss rest → P b ss rest
+
+-- the gate went through all items: neither device failed, memory was found, and offsets fit
+abbrev pub IfThrough : {E : Type 0} → (E → Bool) → Result Counts (GateFault E) → Type 0 → Type 0
+IfThrough ends (Ok counts) P = P
+IfThrough ends (Err (Decode (de.Io e))) P = IsTrue (ends e) → P
+IfThrough ends (Err (Decode (de.Syntax p))) P = P
+IfThrough ends (Err (Decode (de.Semantic o k))) P = P
+IfThrough ends (Err (Decode de.RecursionLimitExceeded)) P = P
+IfThrough ends (Err (Decode de.Memory)) P = Unit {0}
+IfThrough ends (Err (Decode de.TooLong)) P = Unit {0}
+IfThrough ends (Err Write) P = Unit {0}
+IfThrough ends (Err Memory) P = Unit {0}
+
+-- a report was told these steps' entries
+pub record Noted {T S : Type 0} (rules : Rules T S) (old new : Sight T S) (ss : List Step) : Type 0 where
+  pub entries : List Entry
+  pub are : AreEntries rules.limits rules.allows rules.aad ss entries
+  pub state : new.state ≡ folded_over rules.folded old.state entries
+
+-- a judge was told a beginning of these steps' questions
+pub record AskedFront {T S : Type 0} (rules : Rules T S) (old new : Sight T S) (ss : List Step) : Type 0 where
+  pub asked : List Question
+  pub front : IsFront asked (questions_of rules.allows rules.aad ss)
+  pub told : new.told ≡ folded_over rules.decided old.told asked
+
+-- a report was told the entries of a beginning of these steps
+pub record NotedFront {T S : Type 0} (rules : Rules T S) (old new : Sight T S) (ss : List Step) : Type 0 where
+  pub steps : List Step
+  pub front : IsFront steps ss
+  pub noted : Noted rules old new steps
+
+-- a beginning of these steps' output was written
+pub record WrittenFront {T S : Type 0} (rules : Rules T S) (old new : Sight T S) (ss : List Step) : Type 0 where
+  pub text : List ℕ
+  pub front : IsFront text (output_of rules.allows rules.aad ss)
+  pub written : Appends old.written new.written text
+
+-- the text of one message that passes is torn: what stands before it was done whole, all was asked about it, it wasn't noted, a
+-- beginning of its text was written, and the offset is the one behind its item
+pub record Torn {T S : Type 0} (rules : Rules T S) (old new : Sight T S) (ss : List Step) : Type 0 where
+  pub done : List Step
+  pub last : Step
+  pub behind : List Step
+  pub whole : ss ≡ done ++ last ∷ behind
+  pub passed : passes rules.allows rules.aad last.finding ≡ true
+  pub told : new.told ≡ folded_over rules.decided old.told (questions_of rules.allows rules.aad (done ++ last ∷ []))
+  pub noted : Noted rules old new done
+  pub text : List ℕ
+  pub front : IsFront text (text_of last.finding)
+  pub written : Appends old.written new.written (output_of rules.allows rules.aad done ++ text)
+  pub stands : new.offset ≡ last.item.offset + length last.item.bytes
+
+-- memory was refused at one item, or between items: what stands before was done whole; of the item's questions a beginning was asked;
+-- its text was written whole, and then all was asked about it, or not at all; it wasn't noted
+pub record Refused {T S : Type 0} (rules : Rules T S) (old new : Sight T S) (ss : List Step) : Type 0 where
+  pub done : List Step
+  pub last : List Step
+  pub behind : List Step
+  pub whole : ss ≡ done ++ (last ++ behind)
+  pub one : length last ≤ 1
+  pub asked : List Question
+  pub front : IsFront asked (questions_of rules.allows rules.aad last)
+  pub told : new.told ≡ folded_over rules.decided old.told (questions_of rules.allows rules.aad done ++ asked)
+  pub noted : Noted rules old new done
+  pub texts : List Step
+  pub texts_are : (texts ≡ done) ⊎ ((texts ≡ done ++ last) × (asked ≡ questions_of rules.allows rules.aad last))
+  pub written : Appends old.written new.written (output_of rules.allows rules.aad texts)
+
+-- where the gate stops: Ok exactly where nothing is left behind the items, with all bytes taken; else with the fault of what is left
+abbrev pub StopsAt : {E : Type 0} → (E → Bool) → ℕ → ℕ → List ℕ → List ℕ → Result Counts (GateFault E) → Type 0
+StopsAt ends at at' b rest (Ok counts) = (rest ≡ []) × (at' ≡ at + length b)
+StopsAt ends at at' b rest (Err (Decode e)) = IsFaultOf ends (at + length b) rest e
+StopsAt ends at at' b rest (Err Write) = Unit {0}
+StopsAt ends at at' b rest (Err Memory) = Unit {0}
+
+-- P holds where the writer failed, and where memory was refused
+abbrev pub IfWrite : {E : Type 0} → Result Counts (GateFault E) → Type 0 → Type 0
+IfWrite (Ok counts) P = Unit {0}
+IfWrite (Err (Decode e)) P = Unit {0}
+IfWrite (Err Write) P = P
+IfWrite (Err Memory) P = Unit {0}
+
+abbrev pub IfMemory : {E : Type 0} → Result Counts (GateFault E) → Type 0 → Type 0
+IfMemory (Ok counts) P = Unit {0}
+IfMemory (Err (Decode e)) P = Unit {0}
+IfMemory (Err Write) P = Unit {0}
+IfMemory (Err Memory) P = P
+
+-- The facts of a call, each over the run of the input.
+
+-- through all items: the judge was asked exactly the run's questions, in order
+abbrev pub AsksAll : {T S E : Type 0} → (E → Bool) → Rules T S → Sight T S → Sight T S → Result Counts (GateFault E) → Type 0
+AsksAll ends rules old new r =
+    OverRun rules old (λ b ss rest. IfThrough ends r (new.told ≡ folded_over rules.decided old.told (questions_of rules.allows rules.aad ss)))
+
+-- through all items: exactly the passed messages were written, each as its one shortest text
+abbrev pub WritesAll : {T S E : Type 0} → (E → Bool) → Rules T S → Sight T S → Sight T S → Result Counts (GateFault E) → Type 0
+WritesAll ends rules old new r = OverRun rules old (λ b ss rest. IfThrough ends r (Appends old.written new.written (output_of rules.allows rules.aad ss)))
+
+-- through all items: each was noted
+abbrev pub NotesAll : {T S E : Type 0} → (E → Bool) → Rules T S → Sight T S → Sight T S → Result Counts (GateFault E) → Type 0
+NotesAll ends rules old new r = OverRun rules old (λ b ss rest. IfThrough ends r (Noted rules old new ss))
+
+-- Ok: so many passed, and so many were refused
+abbrev pub CountsAll : {T S E : Type 0} → Rules T S → Sight T S → Result Counts (GateFault E) → Type 0
+CountsAll rules old r =
+    OverRun rules old (λ b ss rest. IfOk r (λ c. (c.passed ≡ passed_count rules.allows rules.aad ss) × (c.refused ≡ refused_count rules.allows rules.aad ss)))
+
+-- where it stops
+abbrev pub Stops : {T S E : Type 0} → (E → Bool) → Rules T S → Sight T S → Sight T S → Result Counts (GateFault E) → Type 0
+Stops ends rules old new r = OverRun rules old (λ b ss rest. StopsAt ends old.offset new.offset b rest r)
+
+-- after any fault: a beginning was asked, noted and written
+abbrev pub AsksFront : {T S E : Type 0} → Rules T S → Sight T S → Sight T S → Result Counts (GateFault E) → Type 0
+AsksFront rules old new r = OverRun rules old (λ b ss rest. IfErr r (λ fault. AskedFront rules old new ss))
+
+abbrev pub NotesFront : {T S E : Type 0} → Rules T S → Sight T S → Sight T S → Result Counts (GateFault E) → Type 0
+NotesFront rules old new r = OverRun rules old (λ b ss rest. IfErr r (λ fault. NotedFront rules old new ss))
+
+abbrev pub WritesFront : {T S E : Type 0} → Rules T S → Sight T S → Sight T S → Result Counts (GateFault E) → Type 0
+WritesFront rules old new r = OverRun rules old (λ b ss rest. IfErr r (λ fault. WrittenFront rules old new ss))
+
+-- after Write: one text is torn
+abbrev pub Tears : {T S E : Type 0} → Rules T S → Sight T S → Sight T S → Result Counts (GateFault E) → Type 0
+Tears rules old new r = OverRun rules old (λ b ss rest. IfWrite r (Torn rules old new ss))
+
+-- after Memory: whole texts were written
+abbrev pub WritesWhole : {T S E : Type 0} → Rules T S → Sight T S → Sight T S → Result Counts (GateFault E) → Type 0
+WritesWhole rules old new r = OverRun rules old (λ b ss rest. IfMemory r (Refused rules old new ss))
+
+-- a fault of decoding is never want of memory
+abbrev pub HoldsNoMemory : {E : Type 0} → GateFault E → Type 0
+HoldsNoMemory (Decode e) = IsNoMemory e
+HoldsNoMemory Write = Unit {0}
+HoldsNoMemory Memory = Unit {0}

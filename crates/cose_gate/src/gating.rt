@@ -1,0 +1,87 @@
+//! The gate.
+ghost use Rattle.std.specs.Prelude.{◌≡◌, ◌+◌, ◌<◌, ◌^◌, [], Some, None, IsOk, IfErr};
+ghost use Rattle.ciborium_ll.specs.Views.{left_of, offset_of, waiting_of, reader_of};
+ghost use Rattle.cose_gate_laws.specs.GateCore.Outcome.{Answers, reader_failures, writer_failures};
+ghost use Rattle.cose_gate.specs.Gate.{rules_of, sight_of, AsksAll, WritesAll, NotesAll, CountsAll, Stops, AsksFront, NotesFront, WritesFront, Tears, WritesWhole, HoldsNoMemory};
+
+use ciborium_ll::{Decoder, Read, Write};
+use cose_gate_laws::gate_core::{Counts, GateFault, Judge, Report};
+use std::alloc::Global;
+
+/// Asks the judge about each tagged COSE_Sign1, COSE_Mac0, COSE_Sign and COSE_Mac of a CBOR sequence that carries its payload, over
+/// exactly the bytes that its signature or tag covers, with `aad` as external data, and writes those that passed, each as its one
+/// shortest text (RFC 8742, RFC 9052). About a COSE_Sign it asks once for each signature, in order up to the first no, with that
+/// signature's headers as the signer's; it has passed where the answer to each is yes, and one without a signature is refused. Every item
+/// is noted in the report; one that is no such message is refused there, and the gate goes on. It doesn't flush.
+///
+/// It ends with `Ok` exactly where nothing is left behind an item: the offset has grown by all bytes then. No header waits after any
+/// answer. What the clause `ran` says holds of the bytes that were there, also over a reader that doesn't tell which are to come; where
+/// they are known, it holds of those, and the other clauses say it fact by fact over the run of the input.
+///
+/// # Errors
+/// `Decode` where no readable item begins, or the reader failed: all items before it were asked about, noted and written. `Write` where
+/// the writer failed: a beginning of the text of a message that passes was written behind the output before it, and the reader stands
+/// behind that message. `Memory` where memory was refused: whole texts were written, and of the questions about the item at hand a
+/// beginning was asked.
+pub fn gate<R: Read, W: Write, P: Report, J: Judge>(
+    alloc: Global,
+    decoder: &mut Decoder<R>,
+    out: &mut W,
+    report: &mut P,
+    aad: &[u8],
+    judge: &mut J,
+) -> Result<Counts, GateFault<R::Error>>
+    // Where neither device fails, memory is found and offsets fit: the run's questions, its output, and an entry for each item.
+    ensures asked { AsksAll R.ends (rules_of P.Report J.Judge judge.old aad.now)
+        (sight_of R.Read W.Write P.Report J.Judge decoder.old out.old report.old judge.old)
+        (sight_of R.Read W.Write P.Report J.Judge decoder.new out.new report.new judge.new) result }
+    ensures written { WritesAll R.ends (rules_of P.Report J.Judge judge.old aad.now)
+        (sight_of R.Read W.Write P.Report J.Judge decoder.old out.old report.old judge.old)
+        (sight_of R.Read W.Write P.Report J.Judge decoder.new out.new report.new judge.new) result }
+    ensures noted { NotesAll R.ends (rules_of P.Report J.Judge judge.old aad.now)
+        (sight_of R.Read W.Write P.Report J.Judge decoder.old out.old report.old judge.old)
+        (sight_of R.Read W.Write P.Report J.Judge decoder.new out.new report.new judge.new) result }
+    ensures counted { CountsAll (rules_of P.Report J.Judge judge.old aad.now)
+        (sight_of R.Read W.Write P.Report J.Judge decoder.old out.old report.old judge.old) result }
+    ensures stops { Stops R.ends (rules_of P.Report J.Judge judge.old aad.now)
+        (sight_of R.Read W.Write P.Report J.Judge decoder.old out.old report.old judge.old)
+        (sight_of R.Read W.Write P.Report J.Judge decoder.new out.new report.new judge.new) result }
+
+    // After a fault: beginnings of these.
+    ensures asked_front { AsksFront (rules_of P.Report J.Judge judge.old aad.now)
+        (sight_of R.Read W.Write P.Report J.Judge decoder.old out.old report.old judge.old)
+        (sight_of R.Read W.Write P.Report J.Judge decoder.new out.new report.new judge.new) result }
+    ensures noted_front { NotesFront (rules_of P.Report J.Judge judge.old aad.now)
+        (sight_of R.Read W.Write P.Report J.Judge decoder.old out.old report.old judge.old)
+        (sight_of R.Read W.Write P.Report J.Judge decoder.new out.new report.new judge.new) result }
+    ensures written_front { WritesFront (rules_of P.Report J.Judge judge.old aad.now)
+        (sight_of R.Read W.Write P.Report J.Judge decoder.old out.old report.old judge.old)
+        (sight_of R.Read W.Write P.Report J.Judge decoder.new out.new report.new judge.new) result }
+    ensures torn { Tears (rules_of P.Report J.Judge judge.old aad.now)
+        (sight_of R.Read W.Write P.Report J.Judge decoder.old out.old report.old judge.old)
+        (sight_of R.Read W.Write P.Report J.Judge decoder.new out.new report.new judge.new) result }
+    ensures texts { WritesWhole (rules_of P.Report J.Judge judge.old aad.now)
+        (sight_of R.Read W.Write P.Report J.Judge decoder.old out.old report.old judge.old)
+        (sight_of R.Read W.Write P.Report J.Judge decoder.new out.new report.new judge.new) result }
+
+    // Which fault it is.
+    ensures no_memory { IfErr result HoldsNoMemory }
+    ensures nothing { left_of R.left decoder.old ≡ Some [] → R.failed (reader_of decoder.new) ≡ R.failed (reader_of decoder.old)
+        → offset_of decoder.old + 4096 < 2 ^ 64 → IsOk result }
+    ensures reader { R.failed (reader_of decoder.new) ≡ R.failed (reader_of decoder.old) + reader_failures R.ends result }
+    ensures writer { W.failed out.new ≡ W.failed out.old + writer_failures result }
+
+    // What stays, and how the decoder stands.
+    ensures who { J.who judge.new ≡ J.who judge.old }
+    ensures kept { R.handle (reader_of decoder.new) ≡ R.handle (reader_of decoder.old) }
+    ensures lent { W.handle out.new ≡ W.handle out.old }
+    ensures fits { offset_of decoder.new < 2 ^ 64 }
+    ensures fresh { waiting_of decoder.new ≡ None }
+
+    // All of it by the answer, also over a reader that doesn't tell which bytes are to come.
+    ensures ran { Answers R.ends (rules_of P.Report J.Judge judge.old aad.now)
+        (sight_of R.Read W.Write P.Report J.Judge decoder.old out.old report.old judge.old)
+        (sight_of R.Read W.Write P.Report J.Judge decoder.new out.new report.new judge.new) result }
+{
+    cose_gate_laws::gate_core::gate(alloc, decoder, out, report, aad, judge)
+}

@@ -1,0 +1,235 @@
+//! Memory that is refused to the judge, to the report, and to the run.
+use crate::seen::{Answer, Question, Seen, answered, has_asked, reached, same, whole};
+use crate::signs::{FIRST, TWO};
+use ciborium_ll::End;
+use cose_gate::{
+    About, Asked, Entry, GateFault, Judge, Kind, Mem, Recorder, Refusal, Report, Verdict,
+};
+use std::alloc::{AllocError, Global};
+use std::process::Abort;
+use std::test::Fail;
+
+/// A judge or a report that is refused memory once, after so many calls that ask for it.
+#[derive(Drop)]
+struct Nth<T> {
+    inner: T,
+    calls: usize,
+}
+
+impl<T> Nth<T> {
+    ghost use Rattle.std.specs.Prelude.{◌≡◌};
+
+    fn step(&mut self) -> Result<(), AllocError>
+        ensures { self.new.inner ≡ self.old.inner }
+    {
+        let is_refused = self.calls == 0;
+        self.calls = self.calls.wrapping_sub(1);
+        if is_refused { Err(AllocError) } else { Ok(()) }
+    }
+}
+
+impl<J: Judge> Judge for Nth<J> {
+    ghost Who = { J.Who };
+
+    ghost Told = { J.Told };
+
+    ghost who = { λ s. J.who s.inner };
+
+    ghost told = { λ s. J.told s.inner };
+
+    ghost holds = { λ s subject bytes. J.holds s.inner subject bytes };
+
+    ghost pieces = { λ s. J.pieces s.inner };
+
+    ghost yes = { J.yes };
+
+    ghost decided = { J.decided };
+
+    fn begin(&mut self, about: &About) -> Result<(), AllocError> {
+        self.step()?;
+        self.inner.begin(about)
+    }
+
+    fn feed(&mut self, piece: &[u8]) -> Result<(), AllocError> {
+        self.step()?;
+        self.inner.feed(piece)
+    }
+
+    fn decide(&mut self, signature: &[u8]) -> bool {
+        self.inner.decide(signature)
+    }
+}
+
+impl<P: Report> Report for Nth<P> {
+    ghost State = { P.State };
+
+    ghost state = { λ s. P.state s.inner };
+
+    ghost folded = { P.folded };
+
+    fn note(&mut self, entry: &Entry) -> Result<(), AllocError> {
+        self.step()?;
+        self.inner.note(entry)
+    }
+}
+
+/// Two messages with an integer between them.
+pub const INPUT: &[u8] = &[
+    0xd2, 0x84, 0x43, 0xa1, 1, 0x26, 0xa0, 0x42, 0x68, 0x69, 0x43, 1, 2, 3, 1, 0xd2, 0x84, 0x43,
+    0xa1, 1, 0x26, 0xa0, 0x42, 0x68, 0x69, 0x43, 1, 2, 3,
+];
+
+/// The two messages.
+pub const OUTPUT: &[u8] = &[
+    0xd2, 0x84, 0x43, 0xa1, 1, 0x26, 0xa0, 0x42, 0x68, 0x69, 0x43, 1, 2, 3, 0xd2, 0x84, 0x43, 0xa1,
+    1, 0x26, 0xa0, 0x42, 0x68, 0x69, 0x43, 1, 2, 3,
+];
+
+/// What the signature of each covers.
+const STRUCTURE: &[u8] = &[
+    0x84, 0x6a, 0x53, 0x69, 0x67, 0x6e, 0x61, 0x74, 0x75, 0x72, 0x65, 0x31, 0x43, 0xa1, 1, 0x26,
+    0x40, 0x42, 0x68, 0x69,
+];
+
+/// What is noted of them.
+const NOTED: [Entry; 3] = [
+    Entry {
+        number: 1,
+        offset: 0,
+        verdict: Verdict::Passed,
+    },
+    Entry {
+        number: 2,
+        offset: 14,
+        verdict: Verdict::Refused(Refusal::NotTagged),
+    },
+    Entry {
+        number: 3,
+        offset: 15,
+        verdict: Verdict::Passed,
+    },
+];
+
+/// Whether the question is the one about each of the messages.
+fn is_expected(asked: &Asked) -> bool {
+    asked.kind == Kind::Sign1
+        && asked.structure.as_slice() == STRUCTURE
+        && asked.tag_len == 3
+        && asked.tag == [1, 2, 3, 0, 0, 0, 0, 0]
+}
+
+/// What was asked, written and noted stands at the front of what a whole run asks, writes and notes.
+fn is_front(rt: &impl Abort, asked: &[Asked], written: &[u8], entries: &[Entry]) {
+    for question in asked {
+        assert!(rt; is_expected(question), "{question:?}");
+    }
+    assert!(rt; OUTPUT.starts_with(written), "{written:?}");
+    assert!(rt; NOTED.starts_with(entries), "{entries:?}");
+}
+
+/// Where a run can stand when memory is refused: how many questions, bytes and entries there are. At the last place it is whole.
+const PLACES: [(usize, usize, usize); 8] = [
+    (0, 0, 0),
+    (1, 0, 0),
+    (1, 14, 0),
+    (1, 14, 1),
+    (1, 14, 2),
+    (2, 14, 2),
+    (2, 28, 2),
+    (2, 28, 3),
+];
+
+/// The run ended for want of memory at one of the places, or whole.
+fn ends_at(rt: &impl Abort, answer: &Answer<End>, place: (usize, usize, usize)) {
+    let want = if place.2 == 3 {
+        whole(2, 1)
+    } else {
+        Err(GateFault::Memory)
+    };
+    same(rt, answer, &want, "answer", &"two messages");
+    assert!(rt; PLACES.contains(&place), "{place:?}");
+}
+
+/// All memory here is asked for by the run. So this holds also where one allocation is refused, whichever it is.
+#[test]
+fn a_refused_allocation_is_the_answer(rt: HostRuntime) {
+    let alloc = rt.alloc();
+    let mut memory = [0u8; 28];
+    let mut out = Mem::new(&mut memory[..]);
+    let mut entries = Vec::new(alloc);
+    let mut recorder = Recorder::new(alloc, None);
+    let answer = answered(alloc, INPUT, &mut out, &mut entries, &[], &mut recorder);
+    let asked = recorder.asked();
+    let written = out.as_written();
+    ends_at(&rt, &answer, (asked.len(), written.len(), entries.len()));
+    is_front(&rt, asked, written, &entries);
+}
+
+/// A run over this input, where the judge and the report are refused memory once, after so many calls.
+fn refused(alloc: Global, input: &[u8], judge_calls: usize, report_calls: usize) -> Seen<End> {
+    let mut judge = Nth {
+        inner: Recorder::new(alloc, None),
+        calls: judge_calls,
+    };
+    let mut report = Nth {
+        inner: Vec::new(alloc),
+        calls: report_calls,
+    };
+    let mut out = Mem::new(Vec::new(alloc));
+    let answer = answered(alloc, input, &mut out, &mut report, &[], &mut judge);
+    Seen {
+        recorder: judge.inner,
+        output: out.into_inner(),
+        entries: report.inner,
+        answer,
+    }
+}
+
+/// A run over two messages with an integer between them comes so far, where memory is refused after so many calls.
+fn is_refused(rt: &impl Abort, alloc: Global, calls: (usize, usize), want: (usize, usize, usize)) {
+    let seen = refused(alloc, INPUT, calls.0, calls.1);
+    assert_eq!(rt; (calls, reached(&seen)), (calls, want));
+    ends_at(rt, &seen.answer, want);
+    is_front(rt, seen.recorder.asked(), &seen.output, &seen.entries);
+}
+
+/// Each message begins and feeds one question.
+#[test]
+fn memory_refused_to_the_judge_is_the_answer(rt: HostRuntime) {
+    let alloc = rt.alloc();
+    is_refused(&rt, alloc, (0, 3), (0, 0, 0));
+    is_refused(&rt, alloc, (1, 3), (0, 0, 0));
+    is_refused(&rt, alloc, (2, 3), (1, 14, 2));
+    is_refused(&rt, alloc, (3, 3), (1, 14, 2));
+    is_refused(&rt, alloc, (4, 3), (2, 28, 3));
+}
+
+#[test]
+fn memory_refused_to_the_report_is_the_answer(rt: HostRuntime) {
+    let alloc = rt.alloc();
+    is_refused(&rt, alloc, (4, 0), (1, 14, 0));
+    is_refused(&rt, alloc, (4, 1), (1, 14, 1));
+    is_refused(&rt, alloc, (4, 2), (2, 28, 2));
+    is_refused(&rt, alloc, (4, 3), (2, 28, 3));
+}
+
+/// A run over a message with two signatures, where memory is refused to the judge after so many calls, asks these questions and writes
+/// nothing.
+fn is_left(rt: &impl Abort, alloc: Global, calls: usize, asked: &[Question]) -> Result<(), Fail> {
+    let input = hex::decode(alloc, TWO)?;
+    let seen = refused(alloc, &input, calls, 3);
+    same(rt, &seen.answer, &Err(GateFault::Memory), "answer", &calls);
+    same(rt, &reached(&seen), &(asked.len(), 0, 0), "place", &calls);
+    has_asked(rt, alloc, &seen.recorder, asked, TWO)
+}
+
+/// Each signature begins and feeds one question. Where memory is refused to the judge, the questions before were asked, and nothing is
+/// written.
+#[test]
+fn memory_may_be_refused_between_signatures(rt: HostRuntime) -> Result<(), Fail> {
+    let alloc = rt.alloc();
+    is_left(&rt, alloc, 0, &[])?;
+    is_left(&rt, alloc, 1, &[])?;
+    is_left(&rt, alloc, 2, &[FIRST])?;
+    is_left(&rt, alloc, 3, &[FIRST])
+}

@@ -1,0 +1,80 @@
+//! A check, what it gave, and how tests compare that.
+ghost use Rattle.std.specs.Prelude.{◌<◌, length};
+
+use crate::watching::Watcher;
+use ciborium_ll::{Decoder, End, Read};
+use cose_stream::gate_core::Judge;
+use cose_stream::{StreamFault, stream_check};
+use std::alloc::Global;
+use std::fmt::{Debug, Display};
+use std::process::Abort;
+use std::test::Fail;
+
+/// The answer of a check of what this reader gives, and how many bytes were taken. It has no clause but the room, so that a test that
+/// calls it carries none of `stream_check`'s.
+pub fn checked<R: Read + Drop, J: Judge>(
+    alloc: Global,
+    reader: R,
+    buffer: &mut [u8],
+    aad: &[u8],
+    judge: &mut J,
+) -> (Result<bool, StreamFault<R::Error>>, usize)
+    requires { 0 < length buffer.old }
+{
+    let mut decoder = Decoder::from(reader);
+    let answer = stream_check(alloc, &mut decoder, buffer, aad, judge);
+    (answer, decoder.offset())
+}
+
+/// What one check gave: its answer, how many bytes were taken, and the judge.
+#[derive(Drop)]
+pub struct Seen<E> {
+    pub answer: Result<bool, StreamFault<E>>,
+    pub taken: usize,
+    pub watcher: Watcher,
+}
+
+/// A check of what this reader gives, with a buffer of `room` bytes, from 1 to 8.
+pub fn watched<R: Read + Drop>(
+    alloc: Global,
+    reader: R,
+    aad: &[u8],
+    room: usize,
+) -> Seen<R::Error> {
+    let mut memory = [0; 8];
+    let buffer = &mut memory[..room.max(1).min(8)];
+    let mut watcher = Watcher::new(alloc);
+    let (answer, taken) = checked(alloc, reader, buffer, aad, &mut watcher);
+    Seen {
+        answer,
+        taken,
+        watcher,
+    }
+}
+
+/// A check of these bytes in hex.
+pub fn watched_hex(alloc: Global, input: &str, aad: &str, room: usize) -> Result<Seen<End>, Fail> {
+    let input = hex::decode(alloc, input)?;
+    let aad = hex::decode(alloc, aad)?;
+    Ok(watched(alloc, input.as_slice(), &aad, room))
+}
+
+/// Both are the same.
+pub fn same<T: PartialEq + Debug>(
+    rt: &impl Abort,
+    left: &T,
+    right: &T,
+    what: &str,
+    at: &impl Display,
+) {
+    assert_eq!(rt; *left, *right, "{what} of {at}");
+}
+
+/// This in hex, and then 10,000 bytes that repeat after 251.
+pub fn with_payload(alloc: Global, front: &str) -> Result<Vec<u8>, Fail> {
+    let mut input = hex::decode(alloc, front)?;
+    for index in 0..10_000u32 {
+        input.push((index % 251) as u8)?;
+    }
+    Ok(input)
+}
