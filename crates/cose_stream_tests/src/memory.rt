@@ -176,7 +176,7 @@ fn long(rt: &impl Abort, alloc: Global, front: &[u8], payload: usize, covered: u
 
 // No growth of memory hangs on the payload. A test can't count growths, since `Global` counts none; refusals stand for them. In each of
 // the next two tests nothing but the check takes memory, and each runs as a process of its own: under `rt try --test --fail-alloc N`
-// both fail with `Memory` for N = 1, 2 and 4, and pass for N = 5; other N were not tried.
+// both fail with `Memory` for N from 1 to 4, and pass for N = 5.
 
 #[test]
 fn a_payload_of_no_bytes_grows_nothing(rt: HostRuntime) {
