@@ -1,133 +1,195 @@
 //! Headers from bytes and back. Expected bytes and texts are written out by hand.
+use crate::checks::{all_read, holds, writes};
+use ciborium_value::{Integer, Value};
 use coset_builders::HeaderBuilder;
 use coset_headers::Header;
-use coset_labels::{CborSerializable, CoseError, RegisteredLabelWithPrivate, iana};
+use coset_labels::{CborSerializable, CoseError, Label, RegisteredLabelWithPrivate, iana};
 use std::alloc::Global;
+use std::process::Abort;
 use std::test::Fail;
 
-/// The header whose bytes in hex are these.
-fn header(alloc: Global, text: &str) -> Result<Result<Header, CoseError>, Fail> {
-    let bytes = hex::decode(alloc, text)?;
-    Ok(Header::from_slice(alloc, bytes.as_slice()))
-}
+/// Headers, and the fault that each has.
+const REFUSED: &[(&str, &str)] = &[
+    ("a205410106", "decode CBOR failure: Io(EndOfFile)"),
+    (
+        "a2054101064101",
+        "got IV and partial-IV specified, expected only one of IV and partial IV",
+    ),
+    ("a1010101", "extraneous data in CBOR input"),
+    ("a10108", "expected value in IANA or private use range"),
+    ("a1014101", "got bstr, expected int/tstr"),
+    ("a102814101", "got bstr, expected int/tstr"),
+    ("a1024101", "got bstr, expected array value"),
+    ("a103814101", "got array, expected int/tstr"),
+    ("a103190606", "expected recognized IANA value"),
+    ("a10701", "got int, expected array"),
+    ("a10401", "got int, expected bstr"),
+    ("a10501", "got int, expected bstr"),
+    ("a10601", "got int, expected bstr"),
+    (
+        "a10782636162638340a043010203",
+        "got tstr, expected array or bstr value",
+    ),
+    ("a301011866186718661847", "duplicate map key"),
+    ("a30101186618670101", "duplicate map key"),
+    ("a10280", "got empty array, expected non-empty array"),
+    ("a10360", "got empty tstr, expected non-empty tstr"),
+    (
+        "a1036420612f62",
+        "got leading/trailing whitespace, expected no leading/trailing whitespace",
+    ),
+    (
+        "a10364612f6220",
+        "got leading/trailing whitespace, expected no leading/trailing whitespace",
+    ),
+    (
+        "a103626162",
+        "got arbitrary text, expected text of form type/subtype",
+    ),
+    ("a10440", "got empty bstr, expected non-empty bstr"),
+    ("a10540", "got empty bstr, expected non-empty bstr"),
+    ("a10640", "got empty bstr, expected non-empty bstr"),
+    (
+        "a10780",
+        "got empty sig array, expected non-empty sig array",
+    ),
+    ("80", "got array, expected map"),
+];
 
 #[test]
 fn headers_are_refused(rt: HostRuntime) -> Result<(), Fail> {
-    let alloc = rt.alloc();
-    for (text, want) in [
-        ("a205410106", "decode CBOR failure: Io(EndOfFile)"),
-        (
-            "a2054101064101",
-            "got IV and partial-IV specified, expected only one of IV and partial IV",
-        ),
-        ("a1010101", "extraneous data in CBOR input"),
-        ("a10108", "expected value in IANA or private use range"),
-        ("a1014101", "got bstr, expected int/tstr"),
-        ("a102814101", "got bstr, expected int/tstr"),
-        ("a1024101", "got bstr, expected array value"),
-        ("a103814101", "got array, expected int/tstr"),
-        ("a103190606", "expected recognized IANA value"),
-        ("a10701", "got int, expected array"),
-        ("a10401", "got int, expected bstr"),
-        ("a10501", "got int, expected bstr"),
-        ("a10601", "got int, expected bstr"),
-        (
-            "a10782636162638340a043010203",
-            "got tstr, expected array or bstr value",
-        ),
-        ("a301011866186718661847", "duplicate map key"),
-        ("a30101186618670101", "duplicate map key"),
-        ("a10280", "got empty array, expected non-empty array"),
-        ("a10360", "got empty tstr, expected non-empty tstr"),
-        (
-            "a1036420612f62",
-            "got leading/trailing whitespace, expected no leading/trailing whitespace",
-        ),
-        (
-            "a10364612f6220",
-            "got leading/trailing whitespace, expected no leading/trailing whitespace",
-        ),
-        (
-            "a103626162",
-            "got arbitrary text, expected text of form type/subtype",
-        ),
-        ("a10440", "got empty bstr, expected non-empty bstr"),
-        ("a10540", "got empty bstr, expected non-empty bstr"),
-        ("a10640", "got empty bstr, expected non-empty bstr"),
-        (
-            "a10780",
-            "got empty sig array, expected non-empty sig array",
-        ),
-        ("80", "got array, expected map"),
-    ] {
-        match header(alloc, text)? {
-            Ok(_) => assert!(rt; false, "{text} is read"),
-            Err(error) => assert_eq!(rt; format!(in alloc; "{error}")?.as_str(), want, "{text}"),
-        }
-    }
-    Ok(())
+    all_read::<Header>(&rt, rt.alloc(), REFUSED)
 }
+
+/// Headers, and how they are written back.
+const WRITTEN_BACK: &[(&str, &str)] = &[
+    ("a0", "a0"),
+    ("a102820101", "a102820101"),
+    ("a102813a00010000", "a102813a00010000"),
+    // a map inside the rest may have a label twice
+    ("a11846a201000100", "a11846a201000100"),
+    (
+        "a80163616263028161640363612f6204430102030543010203078340a0430102031846184761611847",
+        "a80163616263028161640363612f6204430102030543010203078340a0430102031846184761611847",
+    ),
+    // a list of one counter signature is written by itself
+    ("a107818340a040", "a1078340a040"),
+];
 
 #[test]
 fn headers_are_written_back(rt: HostRuntime) -> Result<(), Fail> {
-    let alloc = rt.alloc();
-    for (text, back) in [
-        ("a0", "a0"),
-        ("a102820101", "a102820101"),
-        ("a102813a00010000", "a102813a00010000"),
-        // a map inside the rest may have a label twice
-        ("a11846a201000100", "a11846a201000100"),
-        (
-            "a80163616263028161640363612f6204430102030543010203078340a0430102031846184761611847",
-            "a80163616263028161640363612f6204430102030543010203078340a0430102031846184761611847",
-        ),
-    ] {
-        let made = header(alloc, text)??.to_vec(alloc)?;
-        assert_eq!(rt;
-            hex::encode(alloc, made.as_slice())?.as_str(),
-            back,
-            "{text}"
-        );
-    }
-    Ok(())
+    all_read::<Header>(&rt, rt.alloc(), WRITTEN_BACK)
+}
+
+/// A header with a partial IV, which took the place of an IV.
+fn with_partial_iv(alloc: Global) -> Result<Header, Fail> {
+    let key_id = [1, 2, 3].to_vec(alloc)?;
+    let iv = [9].to_vec(alloc)?;
+    let partial_iv = [1, 2, 3].to_vec(alloc)?;
+    let header = HeaderBuilder::new(alloc)
+        .algorithm(iana::Algorithm::A128GCM)
+        .key_id(key_id)
+        .iv(iv)
+        .partial_iv(partial_iv)
+        .build();
+    Ok(header)
+}
+
+/// A header whose critical label is for private use.
+fn with_private_label(alloc: Global) -> Result<Header, Fail> {
+    let private = RegisteredLabelWithPrivate::PrivateUse(-65537);
+    let builder = HeaderBuilder::new(alloc).add_critical_label(private)?;
+    Ok(builder.build())
+}
+
+/// A header with an IV, which took the place of a partial IV.
+fn with_iv(alloc: Global) -> Result<Header, Fail> {
+    let text = String::from_str(alloc, "x")?;
+    let builder = HeaderBuilder::new(alloc)
+        .algorithm_label(RegisteredLabelWithPrivate::Text(text))
+        .add_critical(iana::HeaderParameter::Alg)?
+        .content_format(iana::CoapContentFormat::Json)
+        .partial_iv([7].to_vec(alloc)?)
+        .iv([8].to_vec(alloc)?);
+    Ok(builder.build())
+}
+
+/// The header is the same as a copy of it, and its bytes in hex are these.
+fn is_copied(rt: &impl Abort, alloc: Global, header: Header, want: &str) -> Result<(), Fail> {
+    let copy = header.clone(alloc)?;
+    holds(rt, copy == header, want);
+    writes(rt, alloc, header, want)
 }
 
 #[test]
 fn headers_are_built(rt: HostRuntime) -> Result<(), Fail> {
     let alloc = rt.alloc();
-    let header = HeaderBuilder::new(alloc)
-        .algorithm(iana::Algorithm::A128GCM)
-        .key_id([1, 2, 3].to_vec(alloc)?)
-        .iv([9].to_vec(alloc)?)
-        .partial_iv([1, 2, 3].to_vec(alloc)?)
+    let header = with_partial_iv(alloc)?;
+    is_copied(&rt, alloc, header, "a3010104430102030643010203")?;
+    writes(&rt, alloc, with_private_label(alloc)?, "a102813a00010000")?;
+    writes(&rt, alloc, with_iv(alloc)?, "a4016178028101031832054108")
+}
+
+/// A header whose rest has two labels.
+fn with_rest(alloc: Global) -> Result<Header, Fail> {
+    let text = String::from_str(alloc, "a")?;
+    let builder = HeaderBuilder::new(alloc)
+        .value(24, Value::Null)?
+        .text_value(text, Value::Bool(true))?;
+    Ok(builder.build())
+}
+
+/// A header whose rest has a label twice.
+fn with_repeat(alloc: Global) -> Result<Header, Fail> {
+    let builder = HeaderBuilder::new(alloc)
+        .value(24, Value::Null)?
+        .value(24, Value::Bool(true))?;
+    Ok(builder.build())
+}
+
+/// The header is not written, since it has a label twice.
+fn is_not_written(rt: &impl Abort, alloc: Global, header: Header) {
+    let fault = header.to_vec(alloc).err();
+    let is_repeat = fault == Some(CoseError::DuplicateMapKey);
+    holds(rt, is_repeat, "a label twice");
+}
+
+/// A header whose rest has the label of a field.
+fn with_field_in_rest(alloc: Global) -> Result<Header, Fail> {
+    let mut header = HeaderBuilder::new(alloc)
+        .algorithm(iana::Algorithm::ES256)
         .build();
-    let copy = header.clone(alloc)?;
-    assert!(rt; copy == header);
-    let made = header.to_vec(alloc)?;
-    assert_eq!(rt;
-        hex::encode(alloc, made.as_slice())?.as_str(),
-        "a3010104430102030643010203"
-    );
-    let private = RegisteredLabelWithPrivate::PrivateUse(-65537);
-    let made = HeaderBuilder::new(alloc)
-        .add_critical_label(private)?
-        .build()
-        .to_vec(alloc)?;
-    assert_eq!(rt;
-        hex::encode(alloc, made.as_slice())?.as_str(),
-        "a102813a00010000"
-    );
-    let made = HeaderBuilder::new(alloc)
-        .algorithm_label(RegisteredLabelWithPrivate::Text(String::from_str(alloc, "x")?))
-        .add_critical(iana::HeaderParameter::Alg)?
-        .content_format(iana::CoapContentFormat::Json)
-        .partial_iv([7].to_vec(alloc)?)
-        .iv([8].to_vec(alloc)?)
-        .build()
-        .to_vec(alloc)?;
-    assert_eq!(rt;
-        hex::encode(alloc, made.as_slice())?.as_str(),
-        "a4016178028101031832054108"
-    );
+    let one = Value::Integer(Integer::from(1u64));
+    header.rest.push((Label::Int(1), one))?;
+    Ok(header)
+}
+
+#[test]
+fn repeats_in_the_rest(rt: HostRuntime) -> Result<(), Fail> {
+    let alloc = rt.alloc();
+    writes(&rt, alloc, with_rest(alloc)?, "a21818f66161f5")?;
+    is_not_written(&rt, alloc, with_repeat(alloc)?);
+    // a label of a field in the rest is not seen as twice
+    writes(&rt, alloc, with_field_in_rest(alloc)?, "a201260101")
+}
+
+/// A header with 100,000 labels in the rest.
+fn long(alloc: Global) -> Result<Header, Fail> {
+    let mut header = Header::new(alloc);
+    for n in 0..100_000i64 {
+        header.rest.push((Label::Int(n + 8), Value::Null))?;
+    }
+    Ok(header)
+}
+
+/// A hostile header must not take quadratic time.
+#[test]
+fn a_hundred_thousand_labels(rt: HostRuntime) -> Result<(), Fail> {
+    let alloc = rt.alloc();
+    let bytes = long(alloc)?.to_vec(alloc)?;
+    let read = Header::from_slice(alloc, bytes.as_slice())?;
+    holds(&rt, read.rest.len() == 100_000, "each label is read");
+    let back = read.to_vec(alloc)?;
+    holds(&rt, back == bytes, "what is written back");
     Ok(())
 }

@@ -2,8 +2,14 @@
 #![tactic(auto)]
 
 #[cfg(test)]
+mod checks;
+#[cfg(test)]
 mod faults;
 #[cfg(test)]
 mod headers;
 #[cfg(test)]
+mod layers;
+#[cfg(test)]
 mod signatures;
+#[cfg(test)]
+mod structures;
