@@ -1,7 +1,7 @@
 -- Questions that are asked in order, up to the first no.
 use Rattle.std.proofs.Common.{◌≡◌, ◌≢◌, ℕ, ◌+◌, ◌<◌, suc, List, [], ◌∷◌, ◌++◌, map, drop, length, get_or, Option, Some, None, Bool, true, false, refl, sym, ap, ◌∙◌, append_assoc, append-nil, arith, drop-cons, add-one}
 use Rattle.std.specs.Prelude.{option_map, option_and_then, Result, Ok, Err, OnErr}
-use Rattle.coset_base.specs.Fields.{SignatureFields}
+use Rattle.coset_headers.specs.Fields.{SignatureFields}
 use Rattle.coset_headers.proofs.Writable.{some_is}
 use Rattle.coset_signed.specs.Fields.{SignFields}
 use Rattle.coset_signed.specs.Structure.{sign_covered}

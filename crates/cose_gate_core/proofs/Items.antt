@@ -5,7 +5,7 @@ use Rattle.std.specs.Io.KnownBytes.{Appends}
 use Rattle.std.proofs.KnownBytes.{Appends-nil}
 use Rattle.std.proofs.lemmas.List.{take-append-drop}
 use Rattle.ciborium_value.specs.Tree.{Tree, tag}
-use Rattle.coset_base.specs.Faults.{fault_of}
+use Rattle.coset_labels.specs.Faults.{fault_of}
 use Rattle.cose_gate_core.specs.Questions.{Question, MessageFields, tag_of, payload_of, questions, message_text}
 use Rattle.cose_gate_core.specs.Asked.{asked, first_no, folded_over, ToldFront}
 use Rattle.cose_gate_core.specs.Findings.{Reason, not_tagged, encrypted, other_tag, shape, detached, no_signature, judged, barred, Limits, HasMessage, IsCarried, IsUnsigned, IsJudged, IsBarred, Finds}

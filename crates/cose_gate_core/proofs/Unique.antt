@@ -3,7 +3,7 @@ use Rattle.std.proofs.Common.{◌≡◌, ◌≢◌, ◌⊎◌, inl, inr, ℕ, Li
 use Rattle.ciborium_value.specs.Tree.{Tree, tag}
 use Rattle.ciborium.specs.Items.{Item}
 use Rattle.ciborium.proofs.Sequence.{items_once}
-use Rattle.coset_base.specs.Faults.{CoseFault}
+use Rattle.coset_labels.specs.Faults.{CoseFault}
 use Rattle.coset_signed.proofs.Excludes.{sign1_not, sign_not}
 use Rattle.coset_signed.proofs.Unique.{sign1_once, sign_once}
 use Rattle.coset_maced.proofs.Unique.{mac0_once, mac0_not, mac_once, mac_not}

@@ -5,7 +5,7 @@ use Rattle.ciborium_value.specs.Tree.{Tree, tag, Trees}
 use Rattle.coset_headers.specs.Fields.{SignatureFields, signatures}
 use Rattle.coset_headers.specs.Headers.{HasSignatures}
 use Rattle.coset_headers.proofs.Writable.{some_is, map_some, and_some}
-use Rattle.coset_parts.specs.Written.{content_bytes}
+use Rattle.coset_maced.specs.PartsWritten.{content_bytes}
 use Rattle.coset_signed.specs.Fields.{SignFields}
 use Rattle.coset_signed.specs.Shapes.{HasSign}
 use Rattle.coset_signed.specs.Structure.{sign1_covered, sign_covered}

@@ -1,7 +1,7 @@
 -- What is found of an item before a judge is asked: a message that is judged, or why it is none (RFC 9052, section 2, has the tags).
 use Rattle.std.specs.Prelude.{◌≡◌, ◌≢◌, ℕ, ◌⊎◌, List, [], Option, Some, None}
 use Rattle.ciborium_value.specs.Tree.{Tree, tag}
-use Rattle.coset_base.specs.Faults.{CoseFault}
+use Rattle.coset_labels.specs.Faults.{CoseFault}
 use Rattle.coset_signed.specs.Shapes.{HasSign1, HasSign}
 use Rattle.coset_signed.specs.Wrong.{WrongSign1, WrongSign}
 use Rattle.coset_maced.specs.Shapes.{HasMac0, HasMac}

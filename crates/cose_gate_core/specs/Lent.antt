@@ -1,11 +1,11 @@
 -- What is lent to a judge, by its values.
 use Rattle.std.specs.Prelude.{Option, Some, None}
 use denote.Bor.{Bor}
-use Rattle.coset_base.specs.Fields.{HeaderFields, ProtectedFields}
-use Rattle.coset_base.specs.View.{header_view, protected_view}
+use Rattle.coset_headers.specs.Fields.{HeaderFields, ProtectedFields}
+use Rattle.coset_headers.specs.View.{header_view, protected_view}
 use Rattle.coset_headers.specs.declared.header.Header.{Header}
 use Rattle.coset_headers.specs.declared.header.ProtectedHeader.{ProtectedHeader}
-use Rattle.coset_recipients.specs.View.{recipients_view}
+use Rattle.coset_maced.specs.RecipientView.{recipients_view}
 use Rattle.cose_gate_core.specs.declared.about.About.{About}
 use Rattle.cose_gate_core.specs.Questions.{Subject}
 

@@ -22,29 +22,29 @@ pub use Rattle.ciborium.specs.Meaning
 pub use Rattle.ciborium.specs.Reading
 pub use Rattle.ciborium.specs.Spelling
 pub use Rattle.ciborium.specs.declared.de.Error as ReadError
-pub use Rattle.coset_base.specs.Faults
-pub use Rattle.coset_base.specs.Fields
-pub use Rattle.coset_base.specs.LabelFields
-pub use Rattle.coset_base.specs.Headers
-pub use Rattle.coset_base.specs.Structure
-pub use Rattle.coset_base.specs.Kinds
-pub use Rattle.coset_base.specs.Labels
-pub use Rattle.coset_base.specs.LabelView
-pub use Rattle.coset_base.specs.View as HeaderView
-pub use Rattle.coset_base.specs.Written
-pub use Rattle.coset_base.specs.Wrong
-pub use Rattle.coset_base.specs.CoseError
-pub use Rattle.coset_base.specs.Header
-pub use Rattle.coset_base.specs.ProtectedHeader
-pub use Rattle.coset_parts.specs.Shapes as PartShapes
-pub use Rattle.coset_parts.specs.Written as PartsWritten
-pub use Rattle.coset_parts.specs.Wrong as WrongParts
-pub use Rattle.coset_recipients.specs.Fields as RecipientFields
-pub use Rattle.coset_recipients.specs.Shapes as RecipientShapes
-pub use Rattle.coset_recipients.specs.View as RecipientView
-pub use Rattle.coset_recipients.specs.Written as RecipientsWritten
-pub use Rattle.coset_recipients.specs.Wrong as WrongRecipients
-pub use Rattle.coset_recipients.specs.declared.recipient.CoseRecipient
+pub use Rattle.coset_labels.specs.Faults
+pub use Rattle.coset_headers.specs.Fields
+pub use Rattle.coset_labels.specs.Fields as LabelFields
+pub use Rattle.coset_headers.specs.Headers
+pub use Rattle.coset_structures.specs.Structure
+pub use Rattle.coset_labels.specs.Kinds
+pub use Rattle.coset_labels.specs.Labels
+pub use Rattle.coset_labels.specs.View as LabelView
+pub use Rattle.coset_headers.specs.View as HeaderView
+pub use Rattle.coset_headers.specs.Written
+pub use Rattle.coset_headers.specs.Wrong
+pub use Rattle.coset_labels.specs.declared.error.CoseError
+pub use Rattle.coset_headers.specs.declared.header.Header
+pub use Rattle.coset_headers.specs.declared.header.ProtectedHeader
+pub use Rattle.coset_maced.specs.PartShapes
+pub use Rattle.coset_maced.specs.PartsWritten
+pub use Rattle.coset_maced.specs.WrongParts
+pub use Rattle.coset_maced.specs.RecipientFields
+pub use Rattle.coset_maced.specs.RecipientShapes
+pub use Rattle.coset_maced.specs.RecipientView
+pub use Rattle.coset_maced.specs.RecipientWritten as RecipientsWritten
+pub use Rattle.coset_maced.specs.WrongRecipient as WrongRecipients
+pub use Rattle.coset_maced.specs.CoseRecipient
 pub use Rattle.coset_maced.specs.Fields as MacedFields
 pub use Rattle.coset_maced.specs.Shapes as MacedShapes
 pub use Rattle.coset_maced.specs.Structure as MacedStructure

@@ -2,15 +2,15 @@
 use Rattle.std.specs.Prelude.{ℕ, List, [], ◌∷◌, Option, Some, None, option_map, option_and_then}
 use Rattle.ciborium_value.specs.Tree.{Tree, tag}
 use Rattle.ciborium_value.specs.Encoding.{enc}
-use Rattle.coset_base.specs.Fields.{HeaderFields, ProtectedFields, SignatureFields, signature}
-use Rattle.coset_parts.specs.Written.{content_bytes}
+use Rattle.coset_headers.specs.Fields.{HeaderFields, ProtectedFields, SignatureFields, signature}
+use Rattle.coset_maced.specs.PartsWritten.{content_bytes}
 use Rattle.coset_signed.specs.Fields.{Sign1Fields, SignFields, signature_bytes}
 use Rattle.coset_signed.specs.Structure.{sign1_covered, sign_covered}
 use Rattle.coset_signed.specs.Written.{sign1_tree, sign_tree}
 use Rattle.coset_maced.specs.Fields.{Mac0Fields, MacFields}
 use Rattle.coset_maced.specs.Structure.{mac0_covered, mac_covered}
 use Rattle.coset_maced.specs.Written.{mac0_tree, mac_tree}
-use Rattle.coset_recipients.specs.Fields.{RecipientsFields, no_recipients}
+use Rattle.coset_maced.specs.RecipientFields.{RecipientsFields, no_recipients}
 use Rattle.cose_gate_core.specs.declared.about.Kind.{Kind}
 use Rattle.cose_gate_core.specs.declared.about.Kind.TheVariants as kind
 

@@ -2,7 +2,7 @@
 use Rattle.std.specs.Prelude.{◌≡◌, ℕ, ◌+◌, List, [], ◌∷◌, map, flat_map, Option, Some, None, Bool, true, false, not, if◌then◌else◌, is_none, count_by}
 use Rattle.ciborium_value.specs.Tree.{Tree}
 use Rattle.ciborium.specs.Items.{Item, Sequence, Items}
-use Rattle.coset_base.specs.Faults.{fault_of}
+use Rattle.coset_labels.specs.Faults.{fault_of}
 use Rattle.coset_labels.specs.declared.error.CoseError.{CoseError}
 use Rattle.cose_gate_core.specs.Questions.{Question, questions, message_text}
 use Rattle.cose_gate_core.specs.Asked.{asked, first_no}

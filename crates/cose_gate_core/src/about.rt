@@ -1,10 +1,10 @@
 //! What a judge is told of a message.
 ghost use Rattle.std.specs.Prelude.{◌≡◌, [], Some, None};
-ghost use Rattle.coset_base.specs.View.{header_view, protected_view};
+ghost use Rattle.coset_headers.specs.View.{header_view, protected_view};
 ghost use Rattle.cose_gate_core.specs.Lent.{signer_of};
 
-use coset_base::{Header, ProtectedHeader};
-use coset_recipients::CoseRecipient;
+use coset_headers::{Header, ProtectedHeader};
+use coset_maced::CoseRecipient;
 
 /// Which kind of message it is (RFC 9052, section 2).
 #[derive(Debug, Clone, Copy, PartialEq, Eq)]

@@ -13,9 +13,11 @@ ghost use Rattle.cose_gate_core.specs.Asked.{asked, first_no, folded_over, ToldF
 use crate::about::{About, Kind};
 use crate::judge::Judge;
 use crate::message::Message;
-use coset_base::{CoseError, CoseSignature, MacContext, mac_structure_data};
+use coset_headers::CoseSignature;
+use coset_labels::CoseError;
 use coset_maced::{CoseMac, CoseMac0};
 use coset_signed::{CoseSign, CoseSign1};
+use coset_structures::{MacContext, mac_structure_data};
 use std::alloc::{AllocError, Global};
 
 /// The fault of a call that fails for want of memory alone.

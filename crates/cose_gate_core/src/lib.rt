@@ -20,8 +20,9 @@ pub use ciborium::de;
 pub use ciborium_ll::log::Log;
 pub use ciborium_ll::{Decoder, End, Full, Io, IoFault, Mem, Read, Write};
 pub use ciborium_value::Kind as SemanticKind;
-pub use coset_base::{
-    Algorithm, ContentType, CoseError, CoseSignature, Header, Label, ProtectedHeader,
-    RegisteredLabel, RegisteredLabelWithPrivate, iana,
+pub use cose_iana as iana;
+pub use coset_headers::{CoseSignature, Header, ProtectedHeader};
+pub use coset_labels::{
+    Algorithm, ContentType, CoseError, Label, RegisteredLabel, RegisteredLabelWithPrivate,
 };
-pub use coset_recipients::CoseRecipient;
+pub use coset_maced::CoseRecipient;

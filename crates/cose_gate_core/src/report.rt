@@ -2,7 +2,7 @@
 ghost use Rattle.std.specs.Prelude.{◌≡◌, List, [], ◌∷◌, ◌++◌, OnOk, OnErr};
 ghost use Rattle.cose_gate_core.specs.declared.report.Entry.{Entry};
 
-use coset_base::CoseError;
+use coset_labels::CoseError;
 use std::alloc::AllocError;
 use thiserror::Error;
 

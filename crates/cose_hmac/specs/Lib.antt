@@ -1,2 +1,3 @@
 pub mod Hmac
+pub mod Once
 pub mod View

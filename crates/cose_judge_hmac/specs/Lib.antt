@@ -4,6 +4,8 @@ pub mod Keeps
 pub mod Keys
 pub mod Messages
 pub mod Names
+pub mod Once
+pub mod ReadyKeys
 pub mod Secrets
 pub use Rattle.cose_gate_core.specs as GateCore
 pub use Rattle.coset_keys.specs as KeySets

@@ -7,34 +7,63 @@ ghost use Rattle.cose_gate_core.specs.Questions.{Subject};
 ghost use Rattle.cose_judge_hmac.specs.Judge as spec;
 ghost use Rattle.cose_judge_hmac.specs.Judge.{Makes, says_yes};
 ghost use Rattle.cose_judge_hmac.specs.Judging.{is_tag_under};
+ghost use Rattle.cose_judge_hmac.specs.Keeps.{keys_of, keys_in};
 
+use crate::ready::Keys;
+use crate::tags::{all_ready, begun, begun_about};
 use crate::verdict::secret_for;
 use cose_gate_core::{About, Judge, Kind, Log};
 use cose_hmac::{HmacSha256, same_tag};
 use coset_keys::CoseKeySet;
-use std::alloc::AllocError;
+use std::alloc::{AllocError, Global};
 
 /// Says yes to a COSE_Mac0 whose tag is the whole HMAC with SHA-256 under the first key that fits it, and no to anything else (RFC 9052,
-/// section 6.3). It takes no memory.
+/// section 6.3). It takes no memory while it judges.
 #[derive(Drop)]
 pub struct HmacJudge<'a> {
-    keys: &'a CoseKeySet,
+    keys: Keys<'a>,
     mac: Option<HmacSha256>,
     pieces: Log<usize>,
 }
 
 impl<'a> HmacJudge<'a> {
-    ghost use Rattle.cose_judge_hmac.specs.Keeps.{keys_of};
-
-    /// A judge by the keys of this set.
+    /// A judge by the keys of this set. It hashes a key anew for each message.
     pub fn new(keys: &'a CoseKeySet) -> HmacJudge<'a>
         ensures { keys_of result ≡ key_set_view keys.now }
     {
-        HmacJudge {
-            keys,
-            mac: None,
-            pieces: Log::new(),
+        judge_by(Keys::Set(keys))
+    }
+
+    /// A judge by the keys of this set that hashes each key once, for many messages. Where memory for that is refused it is one that hashes
+    /// a key anew for each.
+    pub fn prepared(alloc: Global, keys: &'a CoseKeySet) -> HmacJudge<'a>
+        ensures { keys_of result ≡ key_set_view keys.now }
+    {
+        match all_ready(alloc, &keys.0) {
+            Some(all) => judge_by(Keys::Ready(all)),
+            None => judge_by(Keys::Set(keys)),
         }
+    }
+
+    /// The tag of a message, of no text yet.
+    fn begun_about(&self, about: &About) -> Option<HmacSha256>
+        ensures { Makes result (spec.secret_about (keys_of self.now) (subject_of about.now)) [] }
+    {
+        match &self.keys {
+            Keys::Set(keys) => begun(secret_about(keys, about)),
+            Keys::Ready(all) => begun_about(all, about),
+        }
+    }
+}
+
+/// A judge that holds no question.
+fn judge_by<'a>(keys: Keys<'a>) -> HmacJudge<'a>
+    ensures { keys_of result ≡ keys_in keys.entry }
+{
+    HmacJudge {
+        keys,
+        mac: None,
+        pieces: Log::new(),
     }
 }
 
@@ -45,16 +74,6 @@ fn secret_about<'a>(keys: &'a CoseKeySet, about: &About) -> Option<&'a [u8]>
     match about.kind {
         Kind::Mac0 => secret_for(keys, about.protected, about.unprotected),
         Kind::Sign1 | Kind::Sign | Kind::Mac => None,
-    }
-}
-
-/// The tag under a secret, of no text yet.
-fn begun(secret: Option<&[u8]>) -> Option<HmacSha256>
-    ensures { Makes result (option_copied secret.entry) [] }
-{
-    match secret {
-        Some(secret) => Some(HmacSha256::new(secret)),
-        None => None,
     }
 }
 
@@ -76,8 +95,6 @@ fn is_made(mac: Option<HmacSha256>, tag: &[u8]) -> bool
 }
 
 impl Judge for HmacJudge<'_> {
-    ghost use Rattle.cose_judge_hmac.specs.Keeps.{keys_of};
-
     ghost Who = { List KeyFields };
 
     ghost Told = { Unit {0} };
@@ -100,7 +117,7 @@ impl Judge for HmacJudge<'_> {
         ensures pieces { OnOk result (self.new.pieces.items ≡ []) }
         ensures who { keys_of self.new ≡ keys_of self.old }
     {
-        self.mac = begun(secret_about(self.keys, about));
+        self.mac = self.begun_about(about);
         self.pieces = Log::new();
         Ok(())
     }

@@ -6,7 +6,9 @@ mod judge;
 mod keys;
 mod messages;
 mod names;
+mod ready;
 mod secrets;
+mod tags;
 mod verdict;
 
 pub use crate::judge::HmacJudge;

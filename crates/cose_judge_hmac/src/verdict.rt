@@ -30,7 +30,7 @@ pub fn secret_for<'a>(
 }
 
 #[tactic(auto, using(crate::proofs::Headers::header_inside))]
-fn may_judge(protected: &ProtectedHeader, unprotected: &Header) -> bool
+pub(crate) fn may_judge(protected: &ProtectedHeader, unprotected: &Header) -> bool
     ensures { result ≡ may_judge (protected_view protected.now) (header_view unprotected.now) }
 {
     alg_is_hmac(protected) && crit_is_known(&protected.header) && crit_is_known(unprotected)

@@ -1,4 +1,5 @@
 pub mod Beginning
+mod Faults
 pub mod Program
 pub mod Words
 pub use Rattle.cose_judge_hmac.specs.Judge as HmacJudges

@@ -4,6 +4,7 @@
 
 mod arguments;
 mod beginning;
+mod devices;
 mod lines;
 mod program;
 

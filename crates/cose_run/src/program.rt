@@ -5,6 +5,7 @@ ghost use Rattle.cose_judge_hmac.specs.Judge.{says_yes};
 ghost use Rattle.cose_run.specs.Program.{Ends, Gated, Ran};
 
 use crate::beginning::begin;
+use crate::devices::{Input, Output};
 use crate::lines::{Lines, say_counts, say_fault, say_not_begun};
 use ciborium_ll::{Decoder, Read, Write};
 use cose_judge_hmac::gate_core::{Counts, GateFault, gate};
@@ -24,8 +25,10 @@ fn gate_lines<R: Read, W: Write, E: Write>(
     ensures nothing { R.left input.old ≡ Some [] → R.failed input.new ≡ R.failed input.old → IsOk result }
     ensures reader { OnOk result (R.failed input.new ≡ R.failed input.old) }
     ensures writer { OnOk result (W.failed out.new ≡ W.failed out.old) }
+    ensures kept { R.handle input.new ≡ R.handle input.old }
+    ensures lent { W.handle out.new ≡ W.handle out.old }
 {
-    let mut judge = HmacJudge::new(keys);
+    let mut judge = HmacJudge::prepared(alloc, keys);
     let mut decoder = Decoder::from(input);
     let mut lines = Lines { out: err };
     match gate(alloc, &mut decoder, out, &mut lines, aad, &mut judge) {
@@ -35,7 +38,7 @@ fn gate_lines<R: Read, W: Write, E: Write>(
 }
 
 /// Runs the gate, flushes the output, and says how it ended.
-fn run_with<R: Read, W: Write, E: Write>(
+fn run_gate<R: Read, W: Write, E: Write>(
     alloc: Global,
     keys: &CoseKeySet,
     aad: &[u8],
@@ -47,6 +50,8 @@ fn run_with<R: Read, W: Write, E: Write>(
     ensures nothing { R.left input.old ≡ Some [] → R.failed input.new ≡ R.failed input.old → W.failed out.new ≡ W.failed out.old
         → result ≡ 0 }
     ensures steady { result < 2 → (R.failed input.new ≡ R.failed input.old) × (W.failed out.new ≡ W.failed out.old) }
+    ensures kept { R.handle input.new ≡ R.handle input.old }
+    ensures lent { W.handle out.new ≡ W.handle out.old }
 {
     let gated = gate_lines(alloc, keys, aad, input, out, err);
     if out.flush().is_err() {
@@ -63,6 +68,25 @@ fn run_with<R: Read, W: Write, E: Write>(
             4
         }
     }
+}
+
+/// The same through devices with small faults.
+fn run_with<R: Read, W: Write, E: Write>(
+    alloc: Global,
+    keys: &CoseKeySet,
+    aad: &[u8],
+    input: &mut R,
+    out: &mut W,
+    err: &mut E,
+) -> u8
+    ensures ran { Ran (says_yes (key_set_view keys.now)) aad.now (R.left input.old) (W.written out.old) (W.written out.new) result }
+    ensures nothing { R.left input.old ≡ Some [] → R.failed input.new ≡ R.failed input.old → W.failed out.new ≡ W.failed out.old
+        → result ≡ 0 }
+    ensures steady { result < 2 → (R.failed input.new ≡ R.failed input.old) × (W.failed out.new ≡ W.failed out.old) }
+{
+    let mut input = Input { reader: input };
+    let mut output = Output { writer: out };
+    run_gate(alloc, keys, aad, &mut input, &mut output, err)
 }
 
 /// The run with the lines on `err`, which are not flushed.

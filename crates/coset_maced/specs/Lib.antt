@@ -6,3 +6,18 @@ pub mod Structure
 pub mod View
 pub mod Written
 pub mod Wrong
+pub use Rattle.coset_parts.specs.Shapes as PartShapes
+pub use Rattle.coset_parts.specs.Short as PartsShort
+pub use Rattle.coset_parts.specs.Written as PartsWritten
+pub use Rattle.coset_parts.specs.Wrong as WrongParts
+pub use Rattle.coset_parts.specs.Calls
+pub use Rattle.coset_recipients.specs.Builders as RecipientBuilders
+pub use Rattle.coset_recipients.specs.Fields as RecipientFields
+pub use Rattle.coset_recipients.specs.Shapes as RecipientShapes
+pub use Rattle.coset_recipients.specs.Short as RecipientShort
+pub use Rattle.coset_recipients.specs.Structure as RecipientStructure
+pub use Rattle.coset_recipients.specs.View as RecipientView
+pub use Rattle.coset_recipients.specs.Written as RecipientWritten
+pub use Rattle.coset_recipients.specs.Wrong as WrongRecipient
+pub use Rattle.coset_recipients.specs.declared.recipient.CoseRecipient
+pub use Rattle.coset_recipients.specs.declared.builder.CoseRecipientBuilder

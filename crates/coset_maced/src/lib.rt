@@ -12,3 +12,4 @@ pub use crate::builder::CoseMacBuilder;
 pub use crate::builder0::CoseMac0Builder;
 pub use crate::mac::CoseMac;
 pub use crate::mac0::CoseMac0;
+pub use coset_recipients::{CoseRecipient, CoseRecipientBuilder};

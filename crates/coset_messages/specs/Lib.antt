@@ -37,21 +37,21 @@ pub use Rattle.coset_base.specs.CallerFault
 pub use Rattle.coset_base.specs.Label
 pub use Rattle.coset_base.specs.RegisteredLabel
 pub use Rattle.coset_base.specs.RegisteredLabelWithPrivate
-pub use Rattle.coset_parts.specs.Calls
-pub use Rattle.coset_parts.specs.Shapes as PartShapes
-pub use Rattle.coset_parts.specs.Short as PartsShort
-pub use Rattle.coset_parts.specs.Written as PartsWritten
-pub use Rattle.coset_parts.specs.Wrong as WrongParts
-pub use Rattle.coset_recipients.specs.Builders as RecipientBuilders
-pub use Rattle.coset_recipients.specs.Fields as RecipientFields
-pub use Rattle.coset_recipients.specs.Shapes as RecipientShapes
-pub use Rattle.coset_recipients.specs.Short as RecipientShort
-pub use Rattle.coset_recipients.specs.Structure as RecipientStructure
-pub use Rattle.coset_recipients.specs.View as RecipientView
-pub use Rattle.coset_recipients.specs.Written as RecipientWritten
-pub use Rattle.coset_recipients.specs.Wrong as WrongRecipient
-pub use Rattle.coset_recipients.specs.declared.recipient.CoseRecipient
-pub use Rattle.coset_recipients.specs.declared.builder.CoseRecipientBuilder
+pub use Rattle.coset_maced.specs.Calls
+pub use Rattle.coset_maced.specs.PartShapes
+pub use Rattle.coset_maced.specs.PartsShort
+pub use Rattle.coset_maced.specs.PartsWritten
+pub use Rattle.coset_maced.specs.WrongParts
+pub use Rattle.coset_maced.specs.RecipientBuilders
+pub use Rattle.coset_maced.specs.RecipientFields
+pub use Rattle.coset_maced.specs.RecipientShapes
+pub use Rattle.coset_maced.specs.RecipientShort
+pub use Rattle.coset_maced.specs.RecipientStructure
+pub use Rattle.coset_maced.specs.RecipientView
+pub use Rattle.coset_maced.specs.RecipientWritten
+pub use Rattle.coset_maced.specs.WrongRecipient
+pub use Rattle.coset_maced.specs.CoseRecipient
+pub use Rattle.coset_maced.specs.CoseRecipientBuilder
 pub use Rattle.coset_signed.specs.Added
 pub use Rattle.coset_signed.specs.Fields as SignedFields
 pub use Rattle.coset_signed.specs.Shapes as SignedShapes

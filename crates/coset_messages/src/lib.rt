@@ -14,6 +14,7 @@ pub use coset_base::{
     sig_structure_data, to_cbor_array, write_to_vec,
 };
 pub use coset_encrypted::{CoseEncrypt, CoseEncrypt0, CoseEncrypt0Builder, CoseEncryptBuilder};
-pub use coset_maced::{CoseMac, CoseMac0, CoseMac0Builder, CoseMacBuilder};
-pub use coset_recipients::{CoseRecipient, CoseRecipientBuilder};
+pub use coset_maced::{
+    CoseMac, CoseMac0, CoseMac0Builder, CoseMacBuilder, CoseRecipient, CoseRecipientBuilder,
+};
 pub use coset_signed::{CoseSign, CoseSign1, CoseSign1Builder, CoseSignBuilder};

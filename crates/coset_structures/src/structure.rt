@@ -78,13 +78,18 @@ pub fn enc_structure_data(
     encrypted(alloc, context.text(), &body, aad)
 }
 
-/// A copy of the bytes that are shown for a protected header.
+/// A copy of the bytes that are shown for a protected header: those that were received, where it was.
 fn show(alloc: Global, protected: &ProtectedHeader) -> Result<Vec<u8>, CoseError>
     ensures { MatchResult result (λ b. shown (protected_view protected.now) ≡ Some b.items)
         (λ e. CantWrite (shown (protected_view protected.now)) e) }
 {
-    let copy = protected.clone(alloc)?;
-    show_protected(alloc, copy)
+    match &protected.original_data {
+        Some(bytes) => Ok(bytes.to_vec(alloc)?),
+        None => {
+            let copy = protected.clone(alloc)?;
+            show_protected(alloc, copy)
+        }
+    }
 }
 
 fn show_signer(
@@ -104,6 +109,20 @@ fn show_signer(
     }
 }
 
+/// How long a structure is at most: its parts, with at most nine bytes in front of each and of the whole.
+fn room(context: &str, body: &[u8], signer: &Option<Vec<u8>>, aad: &[u8], payload: &[u8]) -> usize {
+    let signer = match signer {
+        Some(signer) => signer.len(),
+        None => 0,
+    };
+    [context.len(), body.len(), signer, aad.len(), payload.len()]
+        .iter()
+        .fold(
+            9usize,
+            |room, part| room.saturating_add(*part).saturating_add(9),
+        )
+}
+
 fn covered(
     alloc: Global,
     context: &str,
@@ -115,7 +134,7 @@ fn covered(
     ensures { MatchResult result (λ v. v.items ≡ structure context.now body.now (option_map (λ b. b.items) signer.now) aad.now payload.now)
         (λ e. e ≡ Memory) }
 {
-    let mut out = Mem::new(Vec::new(alloc));
+    let mut out = Mem::new(Vec::with_capacity(alloc, room(context, body, signer, aad, payload))?);
     match signer {
         None => {
             push_head(&mut out, Head::Array(Some(4)))?;

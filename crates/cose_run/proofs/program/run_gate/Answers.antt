@@ -1,5 +1,5 @@
 use Rattle.cose_run.proofs.Runs.{ran_none, ran_some, ran_stopped, none_refused}
-use Rattle.cose_run.proofs.program.run_with.Goals as goal
+use Rattle.cose_run.proofs.program.run_gate.Goals as goal
 
 pub returns-then-is_err-clause-ran : goal.returns-then-is_err-clause-ran
 returns-then-is_err-clause-ran g c = ran_stopped _ _ _ _ _ _ _ c.flush.ensures.same c.gate_lines-gated.ensures.ran
