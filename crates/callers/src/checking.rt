@@ -100,7 +100,7 @@ mod tests {
         let mut decoder = Decoder::from(TAGGED.as_slice());
         assert!(rt; is_tagged(alloc, &mut decoder, &mut buffer, &[1], &keys)?);
         assert_eq!(rt; decoder.offset(), 44);
-        let mut judge = HmacJudge::new(&keys);
+        let mut judge = HmacJudge::prepared(alloc, &keys);
         let mut decoder = Decoder::from(TAGGED.as_slice());
         assert!(rt; !fed(alloc, &mut decoder, &mut buffer, &[], &mut judge)?);
         let mut all = Vec::new(alloc);
