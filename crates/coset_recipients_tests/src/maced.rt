@@ -1,241 +1,353 @@
 //! Authenticated messages from bytes and back, and what their closures are handed. Expected bytes and texts are written out by hand, or are
 //! those of RFC 9052, appendix C.
-use crate::tools::{Met, repeated};
+use crate::tools::{
+    ASKED, MISSING, Maced, Message, Met, Row, are_refused, asked, content, gives, is_asked_for,
+    is_refused_with_tag, is_verified, is_written_back, makes, meets_in_order, missing, repeated,
+    same, with_algorithm,
+};
 use coset_builders::HeaderBuilder;
-use coset_labels::{CborSerializable, CoseError, Fault, TaggedCborSerializable, iana};
+use coset_headers::Header;
+use coset_labels::{CoseError, Fault, TaggedCborSerializable, iana};
 use coset_maced::{CoseMac, CoseMac0, CoseMac0Builder, CoseMacBuilder};
 use coset_recipients::CoseRecipient;
-use std::alloc::Global;
+use std::alloc::{AllocError, Global};
 use std::test::Fail;
 
-fn mac0(alloc: Global, text: &str) -> Result<Result<CoseMac0, CoseError>, Fail> {
-    let bytes = hex::decode(alloc, text)?;
-    Ok(CoseMac0::from_slice(alloc, bytes.as_slice()))
-}
+const REFUSED_MAC0: &[Row] = &[
+    ("a0", "got map, expected array"),
+    ("8340a0f6", "got array, expected array with 4 items"),
+    ("8540a0f64080", "got array, expected array with 4 items"),
+    ("84f580f5f6", "got nul, expected bstr"),
+    ("84f580f540", "got bool, expected bstr"),
+    ("84f580f640", "got array, expected map"),
+    ("84f5a0f640", "got bool, expected bstr"),
+];
 
-fn mac(alloc: Global, text: &str) -> Result<Result<CoseMac, CoseError>, Fail> {
-    let bytes = hex::decode(alloc, text)?;
-    Ok(CoseMac::from_slice(alloc, bytes.as_slice()))
-}
+const REFUSED_MAC: &[Row] = &[
+    ("a0", "got map, expected array"),
+    ("8440a0f640", "got array, expected array with 5 items"),
+    ("85f580f5f5f5", "got bool, expected array"),
+    (
+        "85f580f5f58180",
+        "got array, expected array with 3 or 4 items",
+    ),
+    ("85f580f5f680", "got nul, expected bstr"),
+    ("85f580f54080", "got bool, expected bstr"),
+    ("85f580f64080", "got array, expected map"),
+    ("85f5a0f64080", "got bool, expected bstr"),
+];
 
 #[test]
 fn messages_are_refused_from_the_last_element_on(rt: HostRuntime) -> Result<(), Fail> {
-    let alloc = rt.alloc();
-    for (text, want) in [
-        ("a0", "got map, expected array"),
-        ("8340a0f6", "got array, expected array with 4 items"),
-        ("8540a0f64080", "got array, expected array with 4 items"),
-        ("84f580f5f6", "got nul, expected bstr"),
-        ("84f580f540", "got bool, expected bstr"),
-        ("84f580f640", "got array, expected map"),
-        ("84f5a0f640", "got bool, expected bstr"),
-    ] {
-        match mac0(alloc, text)? {
-            Ok(_) => assert!(rt; false, "{text} is read"),
-            Err(error) => assert_eq!(rt; format!(in alloc; "{error}")?.as_str(), want, "{text}"),
-        }
-    }
-    for (text, want) in [
-        ("a0", "got map, expected array"),
-        ("8440a0f640", "got array, expected array with 5 items"),
-        ("85f580f5f5f5", "got bool, expected array"),
-        (
-            "85f580f5f58180",
-            "got array, expected array with 3 or 4 items",
-        ),
-        ("85f580f5f680", "got nul, expected bstr"),
-        ("85f580f54080", "got bool, expected bstr"),
-        ("85f580f64080", "got array, expected map"),
-        ("85f5a0f64080", "got bool, expected bstr"),
-    ] {
-        match mac(alloc, text)? {
-            Ok(_) => assert!(rt; false, "{text} is read"),
-            Err(error) => assert_eq!(rt; format!(in alloc; "{error}")?.as_str(), want, "{text}"),
-        }
-    }
-    Ok(())
+    are_refused::<CoseMac0>(&rt, rt.alloc(), REFUSED_MAC0)?;
+    are_refused::<CoseMac>(&rt, rt.alloc(), REFUSED_MAC)
 }
+
+/// A message of RFC 9052, appendix C.
+const MAC0: &str = "d18443a1010fa054546869732069732074686520636f6e74656e742e48726043745027214f";
+
+/// A message of RFC 9052, appendix C.
+const MAC: &str =
+    "d8618543a1010fa054546869732069732074686520636f6e74656e742e489e1226ba1f81b848818340a20125044a6f75722d73656372657440";
 
 #[test]
 fn tagged_messages_are_read_and_written_back(rt: HostRuntime) -> Result<(), Fail> {
     let alloc = rt.alloc();
-    let text = "d18443a1010fa054546869732069732074686520636f6e74656e742e48726043745027214f";
-    let bytes = hex::decode(alloc, text)?;
-    let read = CoseMac0::from_tagged_slice(alloc, bytes.as_slice())?;
-    let copy = read.clone(alloc)?;
-    assert!(rt; copy == read);
-    let made = read.to_tagged_vec(alloc)?;
-    assert_eq!(rt; hex::encode(alloc, made.as_slice())?.as_str(), text);
-    let text =
-        "d8618543a1010fa054546869732069732074686520636f6e74656e742e489e1226ba1f81b848818340a20125044a6f75722d73656372657440";
-    let bytes = hex::decode(alloc, text)?;
-    let read = CoseMac::from_tagged_slice(alloc, bytes.as_slice())?;
-    let copy = read.clone(alloc)?;
-    assert!(rt; copy == read);
-    assert_eq!(rt; read.recipients.len(), 1);
-    let made = read.to_tagged_vec(alloc)?;
-    assert_eq!(rt; hex::encode(alloc, made.as_slice())?.as_str(), text);
-    for (text, want) in [
-        (
-            "d28443a10126a042686943010203",
-            "got tag, expected other tag",
-        ),
-        ("00", "got int, expected tag"),
-    ] {
-        let bytes = hex::decode(alloc, text)?;
-        match CoseMac0::from_tagged_slice(alloc, bytes.as_slice()) {
-            Ok(_) => assert!(rt; false, "{text} is read"),
-            Err(error) => assert_eq!(rt; format!(in alloc; "{error}")?.as_str(), want, "{text}"),
-        }
+    let bytes = hex::decode(alloc, MAC0)?;
+    let answer = is_written_back::<CoseMac0>(alloc, &bytes, 0);
+    same(&rt, &answer, &Ok(true), "COSE_Mac0");
+    let bytes = hex::decode(alloc, MAC)?;
+    let answer = is_written_back::<CoseMac>(alloc, &bytes, 1);
+    same(&rt, &answer, &Ok(true), "COSE_Mac");
+    Ok(())
+}
+
+const OTHER_TAGS: &[Row] = &[
+    (
+        "d28443a10126a042686943010203",
+        "got tag, expected other tag",
+    ),
+    ("00", "got int, expected tag"),
+];
+
+#[test]
+fn other_tags_are_refused(rt: HostRuntime) -> Result<(), Fail> {
+    for row in OTHER_TAGS {
+        is_refused_with_tag::<CoseMac0>(&rt, rt.alloc(), row)?;
     }
     Ok(())
 }
 
-/// What a verifier wants: one of two tags, over these bytes.
-#[derive(Clone, Copy)]
-struct Wanted<'a> {
-    tag: &'a [u8],
-    data: &'a [u8],
+/// What the tag of `built_mac0` covers with the external data h'01': 84644d41433043a101054101426869.
+const COVERED_MAC0: &[u8] = &[
+    0x84, 0x64, 0x4d, 0x41, 0x43, 0x30, 0x43, 0xa1, 0x01, 0x05, 0x41, 0x01, 0x42, 0x68, 0x69,
+];
+
+/// A verifier that wants the tag h'aa' of these bytes.
+fn wants_mac0(tag: &[u8], data: &[u8]) -> Result<(), CoseError> {
+    content(tag == [0xaa].as_slice() && data == COVERED_MAC0)
 }
 
-impl<'a> Wanted<'a> {
-    fn is(&self, tag: &[u8], data: &[u8]) -> bool {
-        tag == self.tag && data == self.data
+/// What comes of that verifier.
+fn mac0_verified(alloc: Global, message: &CoseMac0, aad: &[u8]) -> Result<(), Met> {
+    match &message.payload {
+        Some(_) => message.verify_tag(alloc, aad, wants_mac0),
+        None => Err(Fault::Caller(MISSING)),
     }
+}
+
+/// What the tag of `built_mac` covers with no external data: 84634d414343a1010540426869.
+const COVERED_MAC: &[u8] = &[
+    0x84, 0x63, 0x4d, 0x41, 0x43, 0x43, 0xa1, 0x01, 0x05, 0x40, 0x42, 0x68, 0x69,
+];
+
+/// A verifier that wants the tag h'aa' of these bytes.
+fn wants_mac(tag: &[u8], data: &[u8]) -> Result<(), CoseError> {
+    content(tag == [0xaa].as_slice() && data == COVERED_MAC)
+}
+
+/// What comes of that verifier.
+fn mac_verified(alloc: Global, message: &CoseMac, aad: &[u8]) -> Result<(), Met> {
+    match &message.payload {
+        Some(_) => message.verify_tag(alloc, aad, wants_mac),
+        None => Err(Fault::Caller(MISSING)),
+    }
+}
+
+/// A message with the algorithm HMAC 256/256, the payload "hi" and the tag h'aa'.
+fn built_mac0(alloc: Global) -> Result<CoseMac0, CoseError> {
+    let tag = [0xaa].to_vec(alloc)?;
+    let payload = [0x68, 0x69].to_vec(alloc)?;
+    let built = CoseMac0Builder::new(alloc)
+        .protected(with_algorithm(alloc, iana::Algorithm::HMAC_256_256))
+        .unprotected(HeaderBuilder::new(alloc).build())
+        .payload(payload)
+        .create_tag(alloc, &[1], move |_data| tag)?;
+    Ok(built.build())
 }
 
 #[test]
 fn tags_are_made_and_verified(rt: HostRuntime) -> Result<(), Fail> {
     let alloc = rt.alloc();
-    let given = hex::decode(alloc, "aa")?;
-    let message = CoseMac0Builder::new(alloc)
-        .protected(
-            HeaderBuilder::new(alloc)
-                .algorithm(iana::Algorithm::HMAC_256_256)
-                .build(),
-        )
+    let message = built_mac0(alloc)?;
+    let verified = mac0_verified(alloc, &message, &[1]);
+    same(&rt, &verified, &Ok(()), "the same external data");
+    let verified = mac0_verified(alloc, &message, &[2]);
+    let want = Err(Fault::Caller(ASKED));
+    same(&rt, &verified, &want, "other external data");
+    gives(
+        &rt,
+        alloc,
+        message.to_tagged_vec(alloc),
+        "d18443a10105a042686941aa",
+    )
+}
+
+/// A message with the algorithm HMAC 256/256, the payload "hi", one recipient and the tag h'aa'.
+fn built_mac(alloc: Global) -> Result<CoseMac, CoseError> {
+    let tag = [0xaa].to_vec(alloc)?;
+    let payload = [0x68, 0x69].to_vec(alloc)?;
+    let built = CoseMacBuilder::new(alloc)
+        .protected(with_algorithm(alloc, iana::Algorithm::HMAC_256_256))
         .unprotected(HeaderBuilder::new(alloc).build())
-        .payload(hex::decode(alloc, "6869")?)
-        .create_tag(alloc, &[1], move |_data| given)?
-        .build();
-    let tag = hex::decode(alloc, "aa")?;
-    let data = hex::decode(alloc, "84644d41433043a101054101426869")?;
-    let wanted = Wanted {
-        tag: tag.as_slice(),
-        data: data.as_slice(),
-    };
-    let verified = message.verify_tag(alloc, &[1], move |tag, data| {
-        if wanted.is(tag, data) {
-            Ok(())
-        } else {
-            Err(Met::Asked)
-        }
-    });
-    assert!(rt; verified == Ok(()));
-    let verified = message.verify_tag(alloc, &[2], move |tag, data| {
-        if wanted.is(tag, data) {
-            Ok(())
-        } else {
-            Err(Met::Asked)
-        }
-    });
-    assert!(rt; verified == Err(Fault::Caller(Met::Asked)));
-    let made = message.to_tagged_vec(alloc)?;
-    assert_eq!(rt;
-        hex::encode(alloc, made.as_slice())?.as_str(),
-        "d18443a10105a042686941aa"
-    );
-    let given = hex::decode(alloc, "aa")?;
-    let mut message = CoseMacBuilder::new(alloc)
-        .protected(
-            HeaderBuilder::new(alloc)
-                .algorithm(iana::Algorithm::HMAC_256_256)
-                .build(),
-        )
-        .unprotected(HeaderBuilder::new(alloc).build())
-        .payload(hex::decode(alloc, "6869")?)
         .tag(Vec::new(alloc))
         .add_recipient(CoseRecipient::new(alloc))?
-        .create_tag(alloc, &[], move |_data| given)?
-        .build();
-    message.payload = Some(hex::decode(alloc, "6869")?);
-    let handed = hex::decode(alloc, "84634d414343a1010540426869")?;
-    let data = handed.as_slice();
-    let verified = message.verify_tag(alloc, &[], move |_tag, covered| {
-        if covered == data {
-            Ok(())
-        } else {
-            Err(Met::Asked)
-        }
-    });
-    assert!(rt; verified == Ok(()));
-    let made = message.to_tagged_vec(alloc)?;
-    assert_eq!(rt;
-        hex::encode(alloc, made.as_slice())?.as_str(),
-        "d8618543a10105a042686941aa818340a0f6"
-    );
-    Ok(())
+        .payload(payload)
+        .create_tag(alloc, &[], move |_data| tag)?;
+    Ok(built.build())
+}
+
+#[test]
+fn tags_with_recipients_are_made_and_verified(rt: HostRuntime) -> Result<(), Fail> {
+    let alloc = rt.alloc();
+    let message = built_mac(alloc)?;
+    let verified = mac_verified(alloc, &message, &[]);
+    same(&rt, &verified, &Ok(()), "no external data");
+    gives(
+        &rt,
+        alloc,
+        message.to_tagged_vec(alloc),
+        "d8618543a10105a042686941aa818340a0f6",
+    )
+}
+
+/// What is built with a signer that gives what it is handed.
+fn mac0_tagged(
+    alloc: Global,
+    builder: CoseMac0Builder,
+    payload: Vec<u8>,
+    aad: &[u8],
+) -> Result<CoseMac0, Met> {
+    let built = builder
+        .payload(payload)
+        .try_create_tag(alloc, aad, move |data| Ok(data.to_vec(alloc)?))?;
+    Ok(built.build())
+}
+
+/// As `mac0_tagged`.
+fn mac_tagged(
+    alloc: Global,
+    builder: CoseMacBuilder,
+    payload: Vec<u8>,
+    aad: &[u8],
+) -> Result<CoseMac, Met> {
+    let built = builder
+        .payload(payload)
+        .try_create_tag(alloc, aad, move |data| Ok(data.to_vec(alloc)?))?;
+    Ok(built.build())
 }
 
 #[test]
 fn a_signer_that_may_fail_is_handed_the_structure(rt: HostRuntime) -> Result<(), Fail> {
     let alloc = rt.alloc();
-    match CoseMac0Builder::new(alloc)
+    let builder = CoseMac0Builder::new(alloc).tag(Vec::new(alloc));
+    let built = mac0_tagged(alloc, builder, Vec::new(alloc), &[]);
+    makes(&rt, alloc, built, "84644d414330404040")?;
+    let built = mac_tagged(alloc, CoseMacBuilder::new(alloc), Vec::new(alloc), &[]);
+    makes(&rt, alloc, built, "84634d4143404040")
+}
+
+/// What is met where this header can't be written and a signer fails.
+fn mac_fails(alloc: Global, header: Header) -> Option<Met> {
+    CoseMacBuilder::new(alloc)
+        .protected(header)
         .payload(Vec::new(alloc))
-        .tag(Vec::new(alloc))
-        .try_create_tag(alloc, &[], move |data| data.to_vec(alloc))
-    {
-        Ok(builder) => assert_eq!(rt;
-            hex::encode(alloc, builder.build().tag.as_slice())?.as_str(),
-            "84644d414330404040"
-        ),
-        Err(_) => assert!(rt; false, "not built"),
-    }
-    match CoseMacBuilder::new(alloc)
-        .payload(Vec::new(alloc))
-        .try_create_tag(alloc, &[], move |data| data.to_vec(alloc))
-    {
-        Ok(builder) => assert_eq!(rt;
-            hex::encode(alloc, builder.build().tag.as_slice())?.as_str(),
-            "84634d4143404040"
-        ),
-        Err(_) => assert!(rt; false, "not built"),
-    }
-    match CoseMacBuilder::new(alloc)
-        .protected(repeated(alloc)?)
-        .payload(Vec::new(alloc))
-        .try_create_tag(alloc, &[], |_| Err(Met::Asked))
-    {
-        Err(Fault::Cose(CoseError::DuplicateMapKey)) => {}
-        _ => assert!(rt;
-            false,
-            "the signer is asked though the header can't be written"
-        ),
-    }
+        .try_create_tag(alloc, &[], |_| Err(ASKED))
+        .err()
+}
+
+#[test]
+fn a_header_that_cant_be_written_is_met_first(rt: HostRuntime) -> Result<(), Fail> {
+    let met = mac_fails(rt.alloc(), repeated(rt.alloc())?);
+    let want = Some(Fault::Cose(CoseError::DuplicateMapKey));
+    same(&rt, &met, &want, "COSE_Mac");
     Ok(())
+}
+
+impl Message for CoseMac0 {
+    fn copied(&self, alloc: Global) -> Result<CoseMac0, AllocError> {
+        self.clone(alloc)
+    }
+
+    fn meets(&self, alloc: Global) -> Option<Met> {
+        self.verify_payload_tag(alloc, &[], missing, asked).err()
+    }
+
+    fn fill(&mut self, part: Vec<u8>) {
+        self.payload = Some(part);
+    }
+
+    fn unname(&mut self) {
+        self.protected.header.rest.clear();
+    }
+
+    fn made(&self) -> &[u8] {
+        self.tag.as_slice()
+    }
+}
+
+impl Message for CoseMac {
+    fn copied(&self, alloc: Global) -> Result<CoseMac, AllocError> {
+        self.clone(alloc)
+    }
+
+    fn meets(&self, alloc: Global) -> Option<Met> {
+        self.verify_payload_tag(alloc, &[], missing, asked).err()
+    }
+
+    fn fill(&mut self, part: Vec<u8>) {
+        self.payload = Some(part);
+    }
+
+    fn unname(&mut self) {
+        self.protected.header.rest.clear();
+    }
+
+    fn made(&self) -> &[u8] {
+        self.tag.as_slice()
+    }
+
+    fn count(&self) -> usize {
+        self.recipients.len()
+    }
 }
 
 #[test]
 fn a_missing_payload_is_met_first(rt: HostRuntime) -> Result<(), Fail> {
     let alloc = rt.alloc();
-    let mut message = CoseMac0Builder::new(alloc)
-        .protected(repeated(alloc)?)
-        .build();
-    let verified = message.verify_payload_tag(alloc, &[], || Met::Missing, |_, _| Err(Met::Asked));
-    assert!(rt; verified == Err(Fault::Caller(Met::Missing)));
-    message.payload = Some(Vec::new(alloc));
-    let verified = message.verify_payload_tag(alloc, &[], || Met::Missing, |_, _| Err(Met::Asked));
-    assert!(rt; verified == Err(Fault::Cose(CoseError::DuplicateMapKey)));
-    message.protected.header.rest.clear();
-    let verified = message.verify_payload_tag(alloc, &[], || Met::Missing, |_, _| Err(Met::Asked));
-    assert!(rt; verified == Err(Fault::Caller(Met::Asked)));
-    let mut message = CoseMacBuilder::new(alloc)
-        .protected(repeated(alloc)?)
-        .build();
-    let verified = message.verify_payload_tag(alloc, &[], || Met::Missing, |_, _| Err(Met::Asked));
-    assert!(rt; verified == Err(Fault::Caller(Met::Missing)));
-    message.payload = Some(Vec::new(alloc));
-    let verified = message.verify_payload_tag(alloc, &[], || Met::Missing, |_, _| Err(Met::Asked));
-    assert!(rt; verified == Err(Fault::Cose(CoseError::DuplicateMapKey)));
+    let message = CoseMac0Builder::new(alloc).protected(repeated(alloc)?);
+    meets_in_order(&rt, alloc, message.build(), "COSE_Mac0");
+    let message = CoseMacBuilder::new(alloc).protected(repeated(alloc)?);
+    meets_in_order(&rt, alloc, message.build(), "COSE_Mac");
     Ok(())
+}
+
+/// A verifier that wants what `mac0_tagged` gives.
+fn equal(tag: &[u8], data: &[u8]) -> Result<(), CoseError> {
+    content(tag == data)
+}
+
+impl Maced for CoseMac0 {
+    fn verified_twice(&self, alloc: Global) -> Result<(), Met> {
+        self.verify_payload_tag(alloc, b"aad", missing, equal)?;
+        match &self.payload {
+            Some(_) => self.verify_tag(alloc, b"aad", equal),
+            None => Err(Fault::Caller(MISSING)),
+        }
+    }
+}
+
+impl Maced for CoseMac {
+    fn verified_twice(&self, alloc: Global) -> Result<(), Met> {
+        self.verify_payload_tag(alloc, b"aad", missing, equal)?;
+        match &self.payload {
+            Some(_) => self.verify_tag(alloc, b"aad", equal),
+            None => Err(Fault::Caller(MISSING)),
+        }
+    }
+}
+
+/// A message while it is built, with a recipient.
+fn with_recipient(alloc: Global) -> Result<CoseMacBuilder, CoseError> {
+    CoseMacBuilder::new(alloc).add_recipient(CoseRecipient::new(alloc))
+}
+
+/// Whether a message is built with a signer that gives what it is handed, and verified.
+pub(crate) fn mac0_is_verified(alloc: Global) -> Result<bool, Met> {
+    let payload = b"hi".to_vec(alloc)?;
+    let tagged = mac0_tagged(alloc, CoseMac0Builder::new(alloc), payload, b"aad");
+    is_verified(alloc, tagged)
+}
+
+/// As `mac0_is_verified`, of a message with a recipient.
+pub(crate) fn mac_is_verified(alloc: Global) -> Result<bool, Met> {
+    let payload = b"hi".to_vec(alloc)?;
+    let tagged = mac_tagged(alloc, with_recipient(alloc)?, payload, b"aad");
+    is_verified(alloc, tagged)
+}
+
+/// Whether a signer that can't fail is asked where something is built, and not where memory is refused.
+pub(crate) fn mac0_is_asked(alloc: Global) -> Result<bool, CoseError> {
+    let mut is_told = false;
+    let told = &mut is_told;
+    let answer = CoseMac0Builder::new(alloc)
+        .payload(Vec::new(alloc))
+        .create_tag(alloc, &[], move |_data| {
+            *told = true;
+            Vec::new(alloc)
+        });
+    is_asked_for(is_told, answer.err())
+}
+
+/// As `mac0_is_asked`.
+pub(crate) fn mac_is_asked(alloc: Global) -> Result<bool, CoseError> {
+    let mut is_told = false;
+    let told = &mut is_told;
+    let answer = CoseMacBuilder::new(alloc)
+        .payload(Vec::new(alloc))
+        .create_tag(alloc, &[], move |_data| {
+            *told = true;
+            Vec::new(alloc)
+        });
+    is_asked_for(is_told, answer.err())
 }

@@ -1,186 +1,260 @@
 //! Recipients from bytes and back, and what their ciphers are handed. Expected bytes and texts are written out by hand.
-use crate::tools::{Met, joined, repeated};
+ghost use Rattle.coset_recipients.specs.Structure.{IsRecipientContext};
+
+use crate::tools::{
+    Encrypted, MISSING, Message, Met, Row, are_refused, asked, becomes, copy_gives, gives,
+    is_asked_for, is_decrypted, joined, makes, meets_in_order, missing, repeated, with_algorithm,
+};
 use coset_builders::HeaderBuilder;
-use coset_labels::{CborSerializable, CoseError, Fault, iana};
+use coset_labels::{CoseError, Fault, iana};
 use coset_recipients::{CoseRecipient, CoseRecipientBuilder};
 use coset_structures::EncryptionContext;
-use std::alloc::Global;
+use std::alloc::{AllocError, Global};
+use std::process::Abort;
 use std::test::Fail;
 
-fn recipient(alloc: Global, text: &str) -> Result<Result<CoseRecipient, CoseError>, Fail> {
-    let bytes = hex::decode(alloc, text)?;
-    Ok(CoseRecipient::from_slice(alloc, bytes.as_slice()))
-}
+/// Bytes of recipients, and what is written back.
+const READ: &[Row] = &[
+    ("8440a0f680", "8340a0f6"),
+    ("8340a0f6", "8340a0f6"),
+    ("8440a04101818340a0f6", "8440a04101818340a0f6"),
+    (
+        "8440a04101828340a0f68440a0f6818340a04109",
+        "8440a04101828340a0f68440a0f6818340a04109",
+    ),
+    ("8341a0a204410501045f4106ff", "8341a0a201040441054106"),
+];
 
 #[test]
 fn recipients_are_read_and_written_back(rt: HostRuntime) -> Result<(), Fail> {
-    let alloc = rt.alloc();
-    for (text, back) in [
-        ("8440a0f680", "8340a0f6"),
-        ("8340a0f6", "8340a0f6"),
-        ("8440a04101818340a0f6", "8440a04101818340a0f6"),
-        (
-            "8440a04101828340a0f68440a0f6818340a04109",
-            "8440a04101828340a0f68440a0f6818340a04109",
-        ),
-        ("8341a0a204410501045f4106ff", "8341a0a201040441054106"),
-    ] {
-        match recipient(alloc, text)? {
-            Ok(read) => {
-                let copy = read.clone(alloc)?;
-                assert!(rt; copy == read, "copy of {text}");
-                let made = read.to_vec(alloc)?;
-                assert_eq!(rt;
-                    hex::encode(alloc, made.as_slice())?.as_str(),
-                    back,
-                    "{text}"
-                );
-            }
-            Err(error) => assert!(rt; false, "{text}: {error}"),
-        }
+    for row in READ {
+        becomes::<CoseRecipient>(&rt, rt.alloc(), row)?;
     }
     Ok(())
 }
 
+const REFUSED: &[Row] = &[
+    ("a0", "got map, expected array"),
+    ("8240a0", "got array, expected array with 3 or 4 items"),
+    (
+        "8540a0f68080",
+        "got array, expected array with 3 or 4 items",
+    ),
+    ("84f580f5f5", "got bool, expected array"),
+    (
+        "84f580f58180",
+        "got array, expected array with 3 or 4 items",
+    ),
+    ("84f580f5828340a0f56000", "extraneous data in CBOR input"),
+    ("84f580f5828340a0f560", "got bool, expected bstr / null"),
+    ("84f580f58160", "got tstr, expected array"),
+    ("83f580f5", "got bool, expected bstr / null"),
+    ("83f580f6", "got array, expected map"),
+    ("83f5a0f6", "got bool, expected bstr"),
+    ("8341a1a0f6", "decode CBOR failure: Io(EndOfFile)"),
+    ("8342a000a0f6", "extraneous data in CBOR input"),
+];
+
 #[test]
 fn recipients_are_refused_from_the_last_element_on(rt: HostRuntime) -> Result<(), Fail> {
-    let alloc = rt.alloc();
-    for (text, want) in [
-        ("a0", "got map, expected array"),
-        ("8240a0", "got array, expected array with 3 or 4 items"),
-        (
-            "8540a0f68080",
-            "got array, expected array with 3 or 4 items",
+    are_refused::<CoseRecipient>(&rt, rt.alloc(), REFUSED)
+}
+
+/// What is built with a cipher that gives what it is handed.
+fn sealed(
+    alloc: Global,
+    builder: CoseRecipientBuilder,
+    context: EncryptionContext,
+    plain: &[u8],
+    aad: &[u8],
+) -> Result<CoseRecipient, Met>
+    requires { IsRecipientContext context }
+{
+    let built = builder.try_create_ciphertext(
+        alloc,
+        context,
+        plain,
+        aad,
+        move |plain, data| joined(alloc, plain, data),
+    )?;
+    Ok(built.build())
+}
+
+/// What a cipher is handed, also where no ciphertext is carried.
+fn opened(
+    alloc: Global,
+    recipient: &CoseRecipient,
+    context: EncryptionContext,
+    aad: &[u8],
+) -> Result<Vec<u8>, Met>
+    requires { IsRecipientContext context }
+{
+    recipient.decrypt_ciphertext(
+        alloc,
+        context,
+        aad,
+        missing,
+        move |sealed, data| joined(alloc, sealed, data),
+    )
+}
+
+/// What a cipher is handed.
+fn decrypted(
+    alloc: Global,
+    recipient: &CoseRecipient,
+    context: EncryptionContext,
+    aad: &[u8],
+) -> Result<Vec<u8>, Met>
+    requires { IsRecipientContext context }
+{
+    match &recipient.ciphertext {
+        Some(_) => recipient.decrypt(
+            alloc,
+            context,
+            aad,
+            move |sealed, data| joined(alloc, sealed, data),
         ),
-        ("84f580f5f5", "got bool, expected array"),
-        (
-            "84f580f58180",
-            "got array, expected array with 3 or 4 items",
-        ),
-        ("84f580f5828340a0f56000", "extraneous data in CBOR input"),
-        ("84f580f5828340a0f560", "got bool, expected bstr / null"),
-        ("84f580f58160", "got tstr, expected array"),
-        ("83f580f5", "got bool, expected bstr / null"),
-        ("83f580f6", "got array, expected map"),
-        ("83f5a0f6", "got bool, expected bstr"),
-        ("8341a1a0f6", "decode CBOR failure: Io(EndOfFile)"),
-        ("8342a000a0f6", "extraneous data in CBOR input"),
-    ] {
-        match recipient(alloc, text)? {
-            Ok(_) => assert!(rt; false, "{text} is read"),
-            Err(error) => assert_eq!(rt; format!(in alloc; "{error}")?.as_str(), want, "{text}"),
-        }
+        None => Err(Fault::Caller(MISSING)),
     }
-    Ok(())
+}
+
+/// A recipient with the ciphertext h'0a'.
+fn inner(alloc: Global) -> Result<CoseRecipient, CoseError> {
+    let sealed = [0x0a].to_vec(alloc)?;
+    Ok(CoseRecipientBuilder::new(alloc).ciphertext(sealed).build())
+}
+
+/// A recipient while it is built, with the algorithm A128KW, the key id h'31', and a recipient of its own.
+fn outer(alloc: Global) -> Result<CoseRecipientBuilder, CoseError> {
+    let key_id = [0x31].to_vec(alloc)?;
+    CoseRecipientBuilder::new(alloc)
+        .protected(with_algorithm(alloc, iana::Algorithm::A128KW))
+        .unprotected(HeaderBuilder::new(alloc).key_id(key_id).build())
+        .add_recipient(inner(alloc)?)
+}
+
+/// That recipient with the ciphertext h'0708'.
+fn built(alloc: Global) -> Result<CoseRecipient, CoseError> {
+    let sealed = [7, 8].to_vec(alloc)?;
+    let context = EncryptionContext::MacRecipient;
+    let built = outer(alloc)?.create_ciphertext(
+        alloc,
+        context,
+        b"key",
+        &[9],
+        move |_plain, _data| sealed,
+    )?;
+    Ok(built.build())
 }
 
 #[test]
 fn recipients_are_built_and_decrypted(rt: HostRuntime) -> Result<(), Fail> {
     let alloc = rt.alloc();
-    let header = HeaderBuilder::new(alloc)
-        .algorithm(iana::Algorithm::A128KW)
-        .build();
-    let sealed = hex::decode(alloc, "0708")?;
-    let inner = CoseRecipientBuilder::new(alloc)
-        .ciphertext(hex::decode(alloc, "0a")?)
-        .build();
-    let mut built = CoseRecipientBuilder::new(alloc)
-        .protected(header)
-        .unprotected(
-            HeaderBuilder::new(alloc)
-                .key_id(hex::decode(alloc, "31")?)
-                .build(),
-        )
-        .add_recipient(inner)?
-        .create_ciphertext(
-            alloc,
-            EncryptionContext::MacRecipient,
-            b"key",
-            &[9],
-            move |_plain, _data| { sealed },
-        )?
-        .build();
-    let copy = built.clone(alloc)?;
-    let made = copy.to_vec(alloc)?;
-    assert_eq!(rt;
-        hex::encode(alloc, made.as_slice())?.as_str(),
-        "8443a10122a1044131420708818340a0410a"
-    );
-    let context = EncryptionContext::MacRecipient;
-    built.ciphertext = Some(hex::decode(alloc, "0708")?);
-    match built.decrypt(
+    let built = built(alloc)?;
+    gives(
+        &rt,
         alloc,
-        context,
-        &[9],
-        move |sealed, data| joined(alloc, sealed, data),
-    ) {
-        Ok(all) => assert_eq!(rt;
-            hex::encode(alloc, all.as_slice())?.as_str(),
-            "0708836d4d61635f526563697069656e7443a101224109"
-        ),
-        Err(_) => assert!(rt; false, "not decrypted"),
-    }
-    Ok(())
+        decrypted(alloc, &built, EncryptionContext::MacRecipient, &[9]),
+        "0708836d4d61635f526563697069656e7443a101224109",
+    )?;
+    copy_gives(&rt, alloc, &built, "8443a10122a1044131420708818340a0410a")
+}
+
+/// A cipher is handed this structure in hex, with no plaintext in front.
+fn has(rt: &impl Abort, alloc: Global, context: EncryptionContext, want: &str) -> Result<(), Fail>
+    requires { IsRecipientContext context }
+{
+    let built = sealed(alloc, CoseRecipientBuilder::new(alloc), context, b"", &[]);
+    makes(rt, alloc, built, want)
 }
 
 #[test]
 fn each_context_has_its_structure(rt: HostRuntime) -> Result<(), Fail> {
     let alloc = rt.alloc();
-    for (context, want) in [
-        (
-            EncryptionContext::EncRecipient,
-            "836d456e635f526563697069656e744040",
-        ),
-        (
-            EncryptionContext::MacRecipient,
-            "836d4d61635f526563697069656e744040",
-        ),
-        (
-            EncryptionContext::RecRecipient,
-            "836d5265635f526563697069656e744040",
-        ),
-    ] {
-        let built = CoseRecipientBuilder::new(alloc).try_create_ciphertext(
-            alloc,
-            context,
-            b"",
-            &[],
-            move |plain, data| { joined(alloc, plain, data) },
-        );
-        match built {
-            Ok(builder) => {
-                let made = builder.build().ciphertext.unwrap_or(Vec::new(alloc));
-                assert_eq!(rt; hex::encode(alloc, made.as_slice())?.as_str(), want);
-            }
-            Err(_) => assert!(rt; false, "{want}"),
+    let want = "836d456e635f526563697069656e744040";
+    has(&rt, alloc, EncryptionContext::EncRecipient, want)?;
+    let want = "836d4d61635f526563697069656e744040";
+    has(&rt, alloc, EncryptionContext::MacRecipient, want)?;
+    let want = "836d5265635f526563697069656e744040";
+    has(&rt, alloc, EncryptionContext::RecRecipient, want)
+}
+
+impl Message for CoseRecipient {
+    fn copied(&self, alloc: Global) -> Result<CoseRecipient, AllocError> {
+        self.clone(alloc)
+    }
+
+    fn meets(&self, alloc: Global) -> Option<Met> {
+        let context = EncryptionContext::EncRecipient;
+        self.decrypt_ciphertext(alloc, context, &[], missing, asked)
+            .err()
+    }
+
+    fn fill(&mut self, part: Vec<u8>) {
+        self.ciphertext = Some(part);
+    }
+
+    fn unname(&mut self) {
+        self.protected.header.rest.clear();
+    }
+
+    fn made(&self) -> &[u8] {
+        match &self.ciphertext {
+            Some(ciphertext) => ciphertext.as_slice(),
+            None => &[],
         }
     }
-    Ok(())
+}
+
+impl Encrypted for CoseRecipient {
+    fn opened(&self, alloc: Global, aad: &[u8]) -> Result<Vec<u8>, Met> {
+        opened(alloc, self, EncryptionContext::EncRecipient, aad)
+    }
+
+    fn decrypted(&self, alloc: Global, aad: &[u8]) -> Result<Vec<u8>, Met> {
+        decrypted(alloc, self, EncryptionContext::EncRecipient, aad)
+    }
 }
 
 #[test]
 fn a_missing_ciphertext_is_met_first(rt: HostRuntime) -> Result<(), Fail> {
-    let alloc = rt.alloc();
-    let context = EncryptionContext::EncRecipient;
-    let mut empty = CoseRecipientBuilder::new(alloc)
-        .protected(repeated(alloc)?)
+    let header = repeated(rt.alloc())?;
+    let recipient = CoseRecipientBuilder::new(rt.alloc())
+        .protected(header)
         .build();
-    match empty.decrypt_ciphertext(alloc, context, &[], || Met::Missing, |_, _| Err(Met::Asked)) {
-        Err(Fault::Caller(Met::Missing)) => {}
-        _ => assert!(rt; false, "something else is met first"),
-    }
-    empty.ciphertext = Some(Vec::new(alloc));
-    match empty.decrypt_ciphertext(alloc, context, &[], || Met::Missing, |_, _| Err(Met::Asked)) {
-        Err(Fault::Cose(CoseError::DuplicateMapKey)) => {}
-        _ => assert!(rt;
-            false,
-            "the cipher is asked though the header can't be written"
-        ),
-    }
-    empty.protected.header.rest.clear();
-    match empty.decrypt_ciphertext(alloc, context, &[], || Met::Missing, |_, _| Err(Met::Asked)) {
-        Err(Fault::Caller(Met::Asked)) => {}
-        _ => assert!(rt; false, "the cipher isn't asked"),
-    }
+    meets_in_order(&rt, rt.alloc(), recipient, "a recipient");
     Ok(())
+}
+
+/// The plaintext, and three times the structure that each of the ciphers is handed.
+const THRICE: &[u8] =
+    b"key\x83\x6dEnc_Recipient\x40\x43aad\x83\x6dEnc_Recipient\x40\x43aad\x83\x6dEnc_Recipient\x40\x43aad";
+
+/// A recipient while it is built, with a recipient of its own.
+fn with_one(alloc: Global) -> Result<CoseRecipientBuilder, CoseError> {
+    CoseRecipientBuilder::new(alloc).add_recipient(CoseRecipient::new(alloc))
+}
+
+/// Whether a recipient is built, decrypted, and decrypted again.
+pub(crate) fn recipient_is_decrypted(alloc: Global) -> Result<bool, Met> {
+    let context = EncryptionContext::EncRecipient;
+    let sealed = sealed(alloc, with_one(alloc)?, context, b"key", b"aad");
+    is_decrypted(alloc, sealed, THRICE)
+}
+
+/// Whether a cipher that can't fail is asked where something is built, and not where memory is refused.
+pub(crate) fn recipient_is_asked(alloc: Global) -> Result<bool, CoseError> {
+    let mut is_told = false;
+    let told = &mut is_told;
+    let answer = CoseRecipientBuilder::new(alloc).create_ciphertext(
+        alloc,
+        EncryptionContext::RecRecipient,
+        b"key",
+        &[],
+        move |_plain, _data| {
+            *told = true;
+            Vec::new(alloc)
+        },
+    );
+    is_asked_for(is_told, answer.err())
 }

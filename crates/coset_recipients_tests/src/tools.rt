@@ -2,33 +2,314 @@
 use ciborium_value::Value;
 use coset_builders::HeaderBuilder;
 use coset_headers::Header;
+use coset_labels::{CborSerializable, CoseError, Fault, TaggedCborSerializable, iana};
 use std::alloc::{AllocError, Global};
+use std::fmt::Debug;
+use std::process::Abort;
 use std::test::Fail;
 
-/// Which closure was asked.
-#[derive(Debug, Clone, Copy, PartialEq, Eq)]
-pub(crate) enum Met {
-    /// The one for a part that is missing.
-    Missing,
-    /// The one that knows the key.
-    Asked,
+/// What a call meets that asks a closure of the tests.
+pub(crate) type Met = Fault<CoseError>;
+
+/// The error of a part that is missing.
+pub(crate) const MISSING: CoseError = CoseError::UnexpectedItem("nothing", "a part");
+
+/// The error of a cipher or a verifier that fails.
+pub(crate) const ASKED: CoseError = CoseError::UnexpectedItem("a question", "none");
+
+/// Which error there is for a part that is missing.
+pub(crate) fn missing() -> CoseError {
+    MISSING
+}
+
+/// A cipher or a verifier that fails.
+pub(crate) fn asked<T>(_first: &[u8], _second: &[u8]) -> Result<T, CoseError> {
+    Err(ASKED)
+}
+
+/// What a verifier answers that is content or isn't.
+pub(crate) fn content(is_content: bool) -> Result<(), CoseError> {
+    if is_content { Ok(()) } else { Err(ASKED) }
 }
 
 /// Two byte strings, one behind the other: what a closure was handed.
-pub(crate) fn joined(alloc: Global, first: &[u8], second: &[u8]) -> Result<Vec<u8>, AllocError> {
+pub(crate) fn joined(alloc: Global, first: &[u8], second: &[u8]) -> Result<Vec<u8>, CoseError> {
     let mut all = first.to_vec(alloc)?;
-    for byte in second {
-        all.push(*byte)?;
-    }
+    all.extend_from_slice(second)?;
     Ok(all)
 }
 
+/// A header with this algorithm.
+pub(crate) fn with_algorithm(alloc: Global, alg: iana::Algorithm) -> Header {
+    HeaderBuilder::new(alloc).algorithm(alg).build()
+}
+
 /// A header that can't be written.
-pub(crate) fn repeated(alloc: Global) -> Result<Header, Fail> {
+pub(crate) fn repeated(alloc: Global) -> Result<Header, CoseError> {
     Ok(
         HeaderBuilder::new(alloc)
             .value(100, Value::Null)?
             .value(100, Value::Null)?
             .build(),
     )
+}
+
+/// What is met first: a missing part, then a header that can't be written, then the closure's own error.
+pub(crate) fn in_order() -> (Option<Met>, Option<Met>, Option<Met>) {
+    (
+        Some(Fault::Caller(MISSING)),
+        Some(Fault::Cose(CoseError::DuplicateMapKey)),
+        Some(Fault::Caller(ASKED)),
+    )
+}
+
+/// Both are the same.
+pub(crate) fn same<T: PartialEq + Debug>(rt: &impl Abort, got: &T, want: &T, what: &str) {
+    assert_eq!(rt; *got, *want, "{what}");
+}
+
+/// These bytes are the ones in hex.
+pub(crate) fn is_hex(rt: &impl Abort, alloc: Global, bytes: &[u8], want: &str) -> Result<(), Fail> {
+    let text = hex::encode(alloc, bytes)?;
+    same(rt, &text.as_str(), &want, "bytes");
+    Ok(())
+}
+
+/// What was made are these bytes in hex.
+pub(crate) fn gives<E: Debug + Drop>(
+    rt: &impl Abort,
+    alloc: Global,
+    made: Result<Vec<u8>, E>,
+    want: &str,
+) -> Result<(), Fail> {
+    let made = made?;
+    is_hex(rt, alloc, made.as_slice(), want)
+}
+
+/// What these bytes in hex are.
+pub(crate) fn read<T: CborSerializable>(alloc: Global, text: &str) -> Result<T, Fail> {
+    let bytes = hex::decode(alloc, text)?;
+    Ok(T::from_slice(alloc, bytes.as_slice())?)
+}
+
+/// Bytes in hex, and a text.
+pub(crate) type Row = (&'static str, &'static str);
+
+/// There is an error with the row's text.
+fn is_text(
+    rt: &impl Abort,
+    alloc: Global,
+    error: Option<CoseError>,
+    row: &Row,
+) -> Result<(), Fail> {
+    let text = match error {
+        Some(error) => format!(in alloc; "{error}")?,
+        None => String::new(alloc),
+    };
+    same(rt, &text.as_str(), &row.1, row.0);
+    Ok(())
+}
+
+/// The row's bytes are refused with its text.
+fn is_refused<T: CborSerializable>(rt: &impl Abort, alloc: Global, row: &Row) -> Result<(), Fail> {
+    let bytes = hex::decode(alloc, row.0)?;
+    let error = T::from_slice(alloc, bytes.as_slice()).err();
+    is_text(rt, alloc, error, row)
+}
+
+/// Each row's bytes are refused with its text.
+pub(crate) fn are_refused<T: CborSerializable>(
+    rt: &impl Abort,
+    alloc: Global,
+    rows: &[Row],
+) -> Result<(), Fail> {
+    for row in rows {
+        is_refused::<T>(rt, alloc, row)?;
+    }
+    Ok(())
+}
+
+/// The row's bytes, with a tag or without one, are refused with its text.
+pub(crate) fn is_refused_with_tag<T: TaggedCborSerializable>(
+    rt: &impl Abort,
+    alloc: Global,
+    row: &Row,
+) -> Result<(), Fail> {
+    let bytes = hex::decode(alloc, row.0)?;
+    let error = T::from_tagged_slice(alloc, bytes.as_slice()).err();
+    is_text(rt, alloc, error, row)
+}
+
+/// A message or a recipient, as the tests see it.
+pub(crate) trait Message: CborSerializable + PartialEq + Debug {
+    /// A copy.
+    fn copied(&self, alloc: Global) -> Result<Self, AllocError>;
+
+    /// What a call meets that asks for a part, which may be missing, and then a closure, which fails.
+    fn meets(&self, alloc: Global) -> Option<Met>;
+
+    /// Sets that part: the ciphertext or the payload.
+    fn fill(&mut self, part: Vec<u8>);
+
+    /// Takes the labels without a name out of the protected header.
+    fn unname(&mut self);
+
+    /// What a cipher or a signer made: the ciphertext or the tag.
+    fn made(&self) -> &[u8];
+
+    /// How many recipients there are, where there can be some.
+    fn count(&self) -> usize {
+        0
+    }
+}
+
+/// A message or a recipient that is decrypted.
+pub(crate) trait Encrypted: Message {
+    /// What a cipher is handed, also where no ciphertext is carried.
+    fn opened(&self, alloc: Global, aad: &[u8]) -> Result<Vec<u8>, Met>;
+
+    /// What a cipher is handed.
+    fn decrypted(&self, alloc: Global, aad: &[u8]) -> Result<Vec<u8>, Met>;
+}
+
+/// A message that is verified.
+pub(crate) trait Maced: Message {
+    /// What comes of a verifier that wants a tag which is what it covers, asked twice.
+    fn verified_twice(&self, alloc: Global) -> Result<(), Met>;
+}
+
+/// A copy of it is the same.
+fn is_copied<T: Message>(
+    rt: &impl Abort,
+    alloc: Global,
+    message: &T,
+    at: &str,
+) -> Result<(), Fail> {
+    let copy = message.copied(alloc)?;
+    same(rt, &copy, message, at);
+    Ok(())
+}
+
+/// The row's first bytes are read, copied, and written as its second.
+pub(crate) fn becomes<T: Message>(rt: &impl Abort, alloc: Global, row: &Row) -> Result<(), Fail> {
+    let message: T = read(alloc, row.0)?;
+    is_copied(rt, alloc, &message, row.0)?;
+    gives(rt, alloc, message.to_vec(alloc), row.1)
+}
+
+/// A copy of it is written as these bytes in hex.
+pub(crate) fn copy_gives<T: Message>(
+    rt: &impl Abort,
+    alloc: Global,
+    message: &T,
+    want: &str,
+) -> Result<(), Fail> {
+    let copy = message.copied(alloc)?;
+    gives(rt, alloc, copy.to_vec(alloc), want)
+}
+
+/// What is written with a tag of what was written without one and read.
+fn tagged_again<T: CborSerializable + TaggedCborSerializable>(
+    alloc: Global,
+    message: T,
+) -> Result<Vec<u8>, CoseError> {
+    let untagged = message.to_vec(alloc)?;
+    T::from_slice(alloc, untagged.as_slice())?.to_tagged_vec(alloc)
+}
+
+/// Whether these bytes of a message with so many recipients are read, copied and written back, also where the copy was written without a
+/// tag and read again.
+pub(crate) fn is_written_back<T: Message + TaggedCborSerializable>(
+    alloc: Global,
+    bytes: &[u8],
+    count: usize,
+) -> Result<bool, CoseError> {
+    let message = T::from_tagged_slice(alloc, bytes)?;
+    let copy = message.copied(alloc)?;
+    let is_same = copy == message && message.count() == count;
+    let again = tagged_again(alloc, copy)?;
+    let tagged = message.to_tagged_vec(alloc)?;
+    Ok(is_same && tagged.as_slice() == bytes && again.as_slice() == bytes)
+}
+
+/// Whether it is the same where it is made a value, or bytes, and read again.
+pub(crate) fn is_read_again<T: Message>(alloc: Global, message: &T) -> Result<bool, CoseError> {
+    let value = message.copied(alloc)?.to_cbor_value(alloc)?;
+    let bytes = T::from_cbor_value(alloc, value)?.to_vec(alloc)?;
+    let last = T::from_slice(alloc, bytes.as_slice())?;
+    Ok(last == *message)
+}
+
+/// A call meets a missing part first, then the header, which can't be written, then the closure.
+pub(crate) fn meets_in_order<T: Message>(
+    rt: &impl Abort,
+    alloc: Global,
+    mut message: T,
+    what: &str,
+) {
+    let first = message.meets(alloc);
+    message.fill(Vec::new(alloc));
+    let second = message.meets(alloc);
+    message.unname();
+    let third = message.meets(alloc);
+    same(rt, &(first, second, third), &in_order(), what);
+}
+
+/// What was built has this ciphertext or tag in hex.
+pub(crate) fn makes<T: Message>(
+    rt: &impl Abort,
+    alloc: Global,
+    built: Result<T, Met>,
+    want: &str,
+) -> Result<(), Fail> {
+    let message = built?;
+    is_hex(rt, alloc, message.made(), want)
+}
+
+/// A cipher is handed the row's second bytes where the first are decrypted.
+pub(crate) fn opens<T: Encrypted>(rt: &impl Abort, alloc: Global, row: &Row) -> Result<(), Fail> {
+    let message: T = read(alloc, row.0)?;
+    gives(rt, alloc, message.opened(alloc, &[]), row.1)
+}
+
+/// A cipher is handed these bytes where what was built is decrypted, and it is written as those.
+pub(crate) fn decrypts<T: Encrypted + TaggedCborSerializable>(
+    rt: &impl Abort,
+    alloc: Global,
+    built: Result<T, CoseError>,
+    handed: &str,
+    bytes: &str,
+) -> Result<(), Fail> {
+    let message = built?;
+    gives(rt, alloc, message.decrypted(alloc, &[9]), handed)?;
+    gives(rt, alloc, message.to_tagged_vec(alloc), bytes)
+}
+
+/// Whether these are what a cipher is handed where a message is decrypted, and what was handed is decrypted again.
+pub(crate) fn is_decrypted<T: Encrypted>(
+    alloc: Global,
+    sealed: Result<T, Met>,
+    want: &[u8],
+) -> Result<bool, Met> {
+    let mut message = sealed?;
+    let opened = message.opened(alloc, b"aad")?;
+    message.fill(opened);
+    let again = message.decrypted(alloc, b"aad")?;
+    Ok(again.as_slice() == want)
+}
+
+/// Whether a message is verified whose tag is what it covers.
+pub(crate) fn is_verified<T: Maced>(alloc: Global, tagged: Result<T, Met>) -> Result<bool, Met> {
+    let message = tagged?;
+    message.verified_twice(alloc)?;
+    Ok(true)
+}
+
+/// Whether a closure was asked where something was built, and not where memory was refused.
+pub(crate) fn is_asked_for(is_asked: bool, error: Option<CoseError>) -> Result<bool, CoseError> {
+    match error {
+        None => Ok(is_asked),
+        Some(_) if is_asked => Ok(false),
+        Some(error) => Err(error),
+    }
 }
