@@ -12,9 +12,10 @@ pub use cose_gate_laws::gate_core::{
     About, Algorithm, Asked, ContentType, CoseError, CoseRecipient, CoseSignature, Counts, Decoder,
     End, Entry, Full, GateFault, Header, Io, IoFault, Judge, Kind, Label, Log, Mem,
     ProtectedHeader, Read, Recorder, Refusal, RegisteredLabel, RegisteredLabelWithPrivate, Report,
-    SemanticKind, Silent, Verdict, Write, de, iana,
+    SemanticKind, Silent, Verdict, Write, de,
 };
 pub use cose_hmac::hmac_sha256;
+pub use cose_iana as iana;
 pub use cose_run::judge::HmacJudge;
 pub use cose_run::{run, words};
 pub use cose_stream::{StreamFault, laws as stream_laws, stream_check};

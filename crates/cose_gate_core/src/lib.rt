@@ -20,7 +20,6 @@ pub use ciborium::de;
 pub use ciborium_ll::log::Log;
 pub use ciborium_ll::{Decoder, End, Full, Io, IoFault, Mem, Read, Write};
 pub use ciborium_value::Kind as SemanticKind;
-pub use cose_iana as iana;
 pub use coset_headers::{CoseSignature, Header, ProtectedHeader};
 pub use coset_labels::{
     Algorithm, ContentType, CoseError, Label, RegisteredLabel, RegisteredLabelWithPrivate,
