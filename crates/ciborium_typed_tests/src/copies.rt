@@ -1,43 +1,50 @@
 //! Copies, and the texts of errors.
+use crate::checks::{holds, same};
 use ciborium_typed::tag::{Accepted, Captured, Required};
 use ciborium_typed::{ByteBuf, Error, Kind, Value};
 use std::alloc::Global;
-use std::test::Fail;
+use std::process::Abort;
 
-fn bytes(alloc: Global) -> Result<ByteBuf, Error> {
-    let mut content = Vec::new(alloc);
-    content.push(1)?;
-    content.push(2)?;
-    Ok(ByteBuf(content))
+#[test]
+fn bytes_are_copied(rt: HostRuntime) {
+    let bytes: &[u8] = &[1, 2];
+    let content = ByteBuf(bytes.to_vec(rt.alloc()).expect(&rt, "memory"));
+    let copy = content.clone(rt.alloc()).expect(&rt, "memory");
+    holds(&rt, copy == content, "a copy of bytes");
 }
 
 #[test]
-fn bytes_are_copied(rt: HostRuntime) -> Result<(), Fail> {
-    let alloc = rt.alloc();
-    let content = bytes(alloc)?;
-    assert!(rt; content.clone(alloc)? == content);
-    Ok(())
-}
-
-#[test]
-fn tagged_values_are_copied(rt: HostRuntime) -> Result<(), Fail> {
-    let alloc = rt.alloc();
+fn captured_values_are_copied(rt: HostRuntime) {
     let captured = Captured(Some(5), Value::Bool(true));
-    assert!(rt; captured.clone(alloc)? == captured);
-    assert!(rt; captured != Captured(Some(6), Value::Bool(true)));
-    let required = Required::<Value, 5>(Value::Null);
-    assert!(rt; required.clone(alloc)? == required);
-    let accepted = Accepted::<Value, 5>(Value::from_str(alloc, "a")?);
-    assert!(rt; accepted.clone(alloc)? == accepted);
-    Ok(())
+    let copy = captured.clone(rt.alloc()).expect(&rt, "memory");
+    holds(&rt, copy == captured, "a copy of a captured value");
+    let other = Captured(Some(6), Value::Bool(true));
+    holds(&rt, captured != other, "another tag");
 }
 
 #[test]
-fn errors_print(rt: HostRuntime) -> Result<(), Fail> {
-    let alloc = rt.alloc();
-    let memory = format!(in alloc; "{}", Error::Memory)?;
-    assert_eq!(rt; memory.as_str(), "out of memory");
-    let range = format!(in alloc; "{}", Error::Kind(Kind::Range))?;
-    assert_eq!(rt; range.as_str(), "Range");
-    Ok(())
+fn required_values_are_copied(rt: HostRuntime) {
+    let required = Required::<Value, 5>(Value::Null);
+    let copy = required.clone(rt.alloc()).expect(&rt, "memory");
+    holds(&rt, copy == required, "a copy of a required value");
+}
+
+#[test]
+fn accepted_values_are_copied(rt: HostRuntime) {
+    let text = Value::from_str(rt.alloc(), "a").expect(&rt, "memory");
+    let accepted = Accepted::<Value, 5>(text);
+    let copy = accepted.clone(rt.alloc()).expect(&rt, "memory");
+    holds(&rt, copy == accepted, "a copy of an accepted value");
+}
+
+/// The error prints like this.
+fn prints(rt: &impl Abort, alloc: Global, error: Error, text: &str) {
+    let printed = format!(in alloc; "{error}").expect(rt, "memory");
+    same(rt, &printed.as_str(), &text, "an error");
+}
+
+#[test]
+fn errors_print(rt: HostRuntime) {
+    prints(&rt, rt.alloc(), Error::Memory, "out of memory");
+    prints(&rt, rt.alloc(), Error::Kind(Kind::Range), "Range");
 }

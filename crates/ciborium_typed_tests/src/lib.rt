@@ -2,9 +2,13 @@
 #![tactic(auto)]
 
 #[cfg(test)]
+mod checks;
+#[cfg(test)]
 mod composites;
 #[cfg(test)]
 mod copies;
+#[cfg(test)]
+mod items;
 #[cfg(test)]
 mod round_trips;
 #[cfg(test)]

@@ -2,10 +2,12 @@
 ghost use Rattle.std.specs.Prelude.{◌≡◌, IfOk, IfErr};
 ghost use Rattle.ciborium_traits.specs.declared.error.Error.TheVariants.{Memory};
 
+use crate::checks::same;
 use ciborium_typed::tag::{Accepted, Captured, Required};
 use ciborium_typed::{ByteBuf, Error, RoundTrip, Value, ValueTyped};
 use std::alloc::Global;
-use std::test::Fail;
+use std::fmt::Debug;
+use std::process::Abort;
 
 /// The value as it is written and read back: one that is written alike, unless memory is refused.
 fn again<T: RoundTrip>(alloc: Global, value: &T) -> Result<T, Error>
@@ -17,42 +19,39 @@ fn again<T: RoundTrip>(alloc: Global, value: &T) -> Result<T, Error>
     written.deserialized(alloc)
 }
 
-#[test]
-fn booleans_come_back(rt: HostRuntime) -> Result<(), Fail> {
-    let alloc = rt.alloc();
-    assert_eq!(rt; again(alloc, &true)?, true);
-    assert!(rt; again(alloc, &())? == ());
-    Ok(())
+/// The value is the same as what is written of it and read back.
+fn comes_back<T: RoundTrip + PartialEq + Debug>(rt: &impl Abort, alloc: Global, value: &T)
+    requires { T.kept value.now }
+{
+    let got = again(alloc, value).expect(rt, "memory");
+    same(rt, &got, value, "what is read back");
 }
 
 #[test]
-fn numbers_come_back(rt: HostRuntime) -> Result<(), Fail> {
-    let alloc = rt.alloc();
-    assert_eq!(rt; again(alloc, &250u8)?, 250);
-    assert_eq!(rt; again(alloc, &-129i16)?, -129);
-    Ok(())
+fn simple_values_come_back(rt: HostRuntime) {
+    comes_back(&rt, rt.alloc(), &true);
+    comes_back(&rt, rt.alloc(), &());
 }
 
 #[test]
-fn texts_come_back(rt: HostRuntime) -> Result<(), Fail> {
-    let alloc = rt.alloc();
-    let text = String::from_str(alloc, "a")?;
-    assert!(rt; again(alloc, &text)? == text);
-    let bytes = ByteBuf([1, 2].to_vec(alloc)?);
-    assert!(rt; again(alloc, &bytes)? == bytes);
-    Ok(())
+fn numbers_come_back(rt: HostRuntime) {
+    comes_back(&rt, rt.alloc(), &250u8);
+    comes_back(&rt, rt.alloc(), &-129i16);
 }
 
 #[test]
-fn parts_come_back(rt: HostRuntime) -> Result<(), Fail> {
-    let alloc = rt.alloc();
-    let captured = Captured(Some(5), true);
-    assert!(rt; again(alloc, &captured)? == captured);
-    let required = Required::<bool, 5>(true);
-    assert!(rt; again(alloc, &required)? == required);
-    let accepted = Accepted::<bool, 5>(true);
-    assert!(rt; again(alloc, &accepted)? == accepted);
-    let pair = (true, false);
-    assert!(rt; again(alloc, &pair)? == pair);
-    Ok(())
+fn texts_come_back(rt: HostRuntime) {
+    let text = String::from_str(rt.alloc(), "a").expect(&rt, "memory");
+    comes_back(&rt, rt.alloc(), &text);
+    let bytes: &[u8] = &[1, 2];
+    let bytes = ByteBuf(bytes.to_vec(rt.alloc()).expect(&rt, "memory"));
+    comes_back(&rt, rt.alloc(), &bytes);
+}
+
+#[test]
+fn parts_come_back(rt: HostRuntime) {
+    comes_back(&rt, rt.alloc(), &Captured(Some(5), true));
+    comes_back(&rt, rt.alloc(), &Required::<bool, 5>(true));
+    comes_back(&rt, rt.alloc(), &Accepted::<bool, 5>(true));
+    comes_back(&rt, rt.alloc(), &(true, false));
 }

@@ -1,62 +1,69 @@
 //! Typed values written as values and read back, by hand.
+use crate::checks::{
+    BIG_NEGATIVE, LENGTH, RANGE, Row, TAG, WRONG_TYPE, are_read, is_read, is_written,
+};
+use crate::items::{Leaf, item, made};
 use ciborium_typed::tag::Accepted;
-use ciborium_typed::{ByteBuf, Error, Integer, Kind, Value, ValueTyped};
-use std::alloc::{AllocError, Global};
-use std::test::Fail;
+use ciborium_typed::{ByteBuf, Integer, Value};
+use std::alloc::Global;
+use std::process::Abort;
 
-fn integer(n: u16) -> Value {
-    Value::Integer(Integer::from(n))
-}
+/// The bytes of 2^127.
+const LOW: &[u8] = &[0x80, 0, 0, 0, 0, 0, 0, 0, 0, 0, 0, 0, 0, 0, 0, 0];
 
-/// The tag over the item.
-fn tag(alloc: Global, tag: u64, content: Value) -> Result<Value, AllocError> {
-    Ok(Value::Tag(tag, Box::new(alloc, content)?))
-}
+const OF_I128: &[Row<i128>] = &[(Leaf::Bytes(LOW), &[3], Err(BIG_NEGATIVE))];
 
-/// The tag over a byte string.
-fn bignum(alloc: Global, n: u64, bytes: &[u8]) -> Result<Value, AllocError> {
-    tag(alloc, n, Value::from_byte_slice(alloc, bytes)?)
-}
+const OF_U8: &[Row<u8>] = &[
+    (Leaf::Bytes(&[0, 1]), &[2], Ok(1)),
+    (Leaf::Int(256), &[], Err(RANGE)),
+];
 
-#[test]
-fn numbers_are_written_and_read(rt: HostRuntime) -> Result<(), Fail> {
-    let alloc = rt.alloc();
-    let number = -18446744073709551617i128;
-    let written = Value::serialized(alloc, &number);
-    let power = bignum(alloc, 3, &[1, 0, 0, 0, 0, 0, 0, 0, 0])?;
-    assert!(rt; written == Ok(power));
-    let one = bignum(alloc, 2, &[0, 1])?;
-    assert!(rt; one.deserialized::<u8>(alloc) == Ok(1));
-    let mut low = [0; 16];
-    low[0] = 0x80;
-    let low = bignum(alloc, 3, &low)?;
-    assert!(rt; low.deserialized::<i128>(alloc) == Err(Error::Kind(Kind::BigNegative)));
-    assert!(rt; integer(256).deserialized::<u8>(alloc) == Err(Error::Kind(Kind::Range)));
-    Ok(())
-}
+/// The bytes of 2^64.
+const POWER: &[u8] = &[1, 0, 0, 0, 0, 0, 0, 0, 0];
 
 #[test]
-fn parts_are_read(rt: HostRuntime) -> Result<(), Fail> {
-    let alloc = rt.alloc();
-    let bytes = Value::from_byte_slice(alloc, &[1])?;
-    assert!(rt; bytes.deserialized::<Vec<u8>>(alloc) == Err(Error::Kind(Kind::WrongType)));
-    assert!(rt; bytes.deserialized::<ByteBuf>(alloc) == Ok(ByteBuf(vec![in alloc; 1]?)));
-    let one = Value::Array(vec![in alloc; integer(1)]?);
-    assert!(rt; one.deserialized::<(u8, u8)>(alloc) == Err(Error::Kind(Kind::Length)));
-    assert!(rt; one.deserialized::<Vec<u8>>(alloc) == Ok(vec![in alloc; 1]?));
-    let truth = tag(alloc, 7, Value::Bool(true))?;
-    assert!(rt; truth.deserialized::<bool>(alloc) == Ok(true));
-    Ok(())
+fn numbers_are_written_and_read(rt: HostRuntime) {
+    let power = item(rt.alloc(), &Leaf::Bytes(POWER), &[3]).expect(&rt, "memory");
+    is_written(&rt, rt.alloc(), &-18446744073709551617i128, &power);
+    are_read(&rt, rt.alloc(), OF_U8);
+    are_read(&rt, rt.alloc(), OF_I128);
 }
 
+/// A byte string is no list, but a byte string.
+fn bytes_are_read(rt: &impl Abort, alloc: Global) {
+    let bytes = made(alloc, &Leaf::Bytes(&[1])).expect(rt, "memory");
+    is_read::<Vec<u8>>(rt, alloc, &bytes, &Err(WRONG_TYPE));
+    let one = vec![in alloc; 1].expect(rt, "memory");
+    is_read(rt, alloc, &bytes, &Ok(ByteBuf(one)));
+}
+
+/// An array of one is no pair, but a list.
+fn arrays_are_read(rt: &impl Abort, alloc: Global) {
+    let integer = Value::Integer(Integer::from(1u16));
+    let array = Value::Array(vec![in alloc; integer].expect(rt, "memory"));
+    is_read::<(u8, u8)>(rt, alloc, &array, &Err(LENGTH));
+    let one = vec![in alloc; 1u8].expect(rt, "memory");
+    is_read(rt, alloc, &array, &Ok(one));
+}
+
+const OF_BOOL: &[Row<bool>] = &[(Leaf::Bool(true), &[7], Ok(true))];
+
 #[test]
-fn accepted_tags_are_read(rt: HostRuntime) -> Result<(), Fail> {
-    let alloc = rt.alloc();
-    let other = tag(alloc, 6, integer(1))?;
-    assert!(rt; other.deserialized::<Accepted<u8, 5>>(alloc) == Err(Error::Kind(Kind::Tag)));
-    let five = tag(alloc, 5, integer(1))?;
-    assert!(rt; five.deserialized::<Accepted<u8, 5>>(alloc) == Ok(Accepted(1)));
-    assert!(rt; integer(1).deserialized::<Accepted<u8, 5>>(alloc) == Ok(Accepted(1)));
-    assert!(rt; Value::serialized(alloc, &Accepted::<u8, 5>(1)) == Ok(five));
-    Ok(())
+fn parts_are_read(rt: HostRuntime) {
+    bytes_are_read(&rt, rt.alloc());
+    arrays_are_read(&rt, rt.alloc());
+    are_read(&rt, rt.alloc(), OF_BOOL);
+}
+
+const OF_ACCEPTED: &[Row<Accepted<u8, 5>>] = &[
+    (Leaf::Int(1), &[6], Err(TAG)),
+    (Leaf::Int(1), &[5], Ok(Accepted(1))),
+    (Leaf::Int(1), &[], Ok(Accepted(1))),
+];
+
+#[test]
+fn accepted_tags_are_read(rt: HostRuntime) {
+    are_read(&rt, rt.alloc(), OF_ACCEPTED);
+    let five = item(rt.alloc(), &Leaf::Int(1), &[5]).expect(&rt, "memory");
+    is_written(&rt, rt.alloc(), &Accepted::<u8, 5>(1), &five);
 }

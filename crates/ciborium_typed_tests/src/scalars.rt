@@ -1,124 +1,120 @@
-use ciborium_typed::{ByteBuf, Deserialize, Error, Integer, Kind, Value};
-use std::alloc::{AllocError, Global};
-use std::test::Fail;
+//! Scalars that are taken of items.
+use crate::checks::{RANGE, Row, WRONG_TYPE, are_taken, is_taken};
+use crate::items::{Leaf, item, made};
+use ciborium_typed::ByteBuf;
+use std::alloc::Global;
+use std::process::Abort;
 
-const WRONG_TYPE: Error = Error::Kind(Kind::WrongType);
+const OF_U8: &[Row<u8>] = &[
+    (Leaf::Int(1), &[], Ok(1)),
+    (Leaf::Int(255), &[1], Ok(255)),
+    (Leaf::Int(256), &[], Err(RANGE)),
+    (Leaf::Int(-1), &[], Err(RANGE)),
+    (Leaf::Text("1"), &[], Err(WRONG_TYPE)),
+];
 
-const RANGE: Error = Error::Kind(Kind::Range);
+const OF_U16: &[Row<u16>] = &[(Leaf::Int(65536), &[], Err(RANGE))];
 
-fn taken<T: Deserialize>(alloc: Global, value: Value) -> Result<T, Error> {
-    T::take(alloc, value)
+const OF_U32: &[Row<u32>] = &[(Leaf::Int(4294967295), &[], Ok(4294967295))];
+
+const OF_U64: &[Row<u64>] = &[(Leaf::Large(u64::MAX), &[], Ok(u64::MAX))];
+
+const OF_USIZE: &[Row<usize>] = &[(Leaf::Int(7), &[], Ok(7))];
+
+const OF_I8: &[Row<i8>] = &[
+    (Leaf::Int(-128), &[], Ok(-128)),
+    (Leaf::Int(128), &[], Err(RANGE)),
+];
+
+const OF_I16: &[Row<i16>] = &[(Leaf::Int(-32769), &[], Err(RANGE))];
+
+const OF_I32: &[Row<i32>] = &[(Leaf::Int(-2), &[], Ok(-2))];
+
+const OF_I64: &[Row<i64>] = &[(Leaf::Large(u64::MAX), &[], Err(RANGE))];
+
+const OF_ISIZE: &[Row<isize>] = &[(Leaf::Int(-7), &[], Ok(-7))];
+
+#[test]
+fn numbers_are_taken_in_their_range(rt: HostRuntime) {
+    are_taken(&rt, rt.alloc(), OF_U8);
+    are_taken(&rt, rt.alloc(), OF_U16);
+    are_taken(&rt, rt.alloc(), OF_U32);
+    are_taken(&rt, rt.alloc(), OF_U64);
+    are_taken(&rt, rt.alloc(), OF_USIZE);
+    are_taken(&rt, rt.alloc(), OF_I8);
+    are_taken(&rt, rt.alloc(), OF_I16);
+    are_taken(&rt, rt.alloc(), OF_I32);
+    are_taken(&rt, rt.alloc(), OF_I64);
+    are_taken(&rt, rt.alloc(), OF_ISIZE);
 }
 
-fn integer(n: i64) -> Value {
-    Value::Integer(Integer::from(n))
+/// The bytes of 2^64.
+const POWER: &[u8] = &[1, 0, 0, 0, 0, 0, 0, 0, 0];
+
+const OF_U128: &[Row<u128>] = &[
+    (Leaf::Int(1), &[], Ok(1)),
+    (Leaf::Int(-1), &[], Err(RANGE)),
+    (Leaf::Bytes(&[0xff; 16]), &[2], Ok(u128::MAX)),
+    (Leaf::Bytes(POWER), &[3], Err(RANGE)),
+    (Leaf::Bytes(&[0; 17]), &[2], Err(WRONG_TYPE)),
+];
+
+const OF_I128: &[Row<i128>] = &[
+    (Leaf::Int(-1), &[], Ok(-1)),
+    (Leaf::Bytes(POWER), &[2], Ok(0x1_0000_0000_0000_0000)),
+    (Leaf::Bytes(POWER), &[3], Ok(-0x1_0000_0000_0000_0001)),
+    (Leaf::Bytes(POWER), &[2, 9], Ok(0x1_0000_0000_0000_0000)),
+    (Leaf::Bytes(&[0xff; 16]), &[2], Err(RANGE)),
+    (Leaf::Bytes(POWER), &[4], Err(WRONG_TYPE)),
+];
+
+#[test]
+fn wide_numbers_are_taken_of_bignums(rt: HostRuntime) {
+    are_taken(&rt, rt.alloc(), OF_U128);
+    are_taken(&rt, rt.alloc(), OF_I128);
 }
 
-fn tag(alloc: Global, tag: u64, content: Value) -> Result<Value, AllocError> {
-    Ok(Value::Tag(tag, Box::new(alloc, content)?))
+const OF_CHAR: &[Row<char>] = &[
+    (Leaf::Text("é"), &[], Ok('é')),
+    (Leaf::Text("ab"), &[], Err(WRONG_TYPE)),
+    (Leaf::Text(""), &[], Err(WRONG_TYPE)),
+];
+
+/// A text is taken of a text, and not of null.
+fn strings_are_taken(rt: &impl Abort, alloc: Global) {
+    let text = String::from_str(alloc, "ab").expect(rt, "memory");
+    is_taken(rt, alloc, made(alloc, &Leaf::Text("ab")), &Ok(text));
+    is_taken::<String>(rt, alloc, made(alloc, &Leaf::Null), &Err(WRONG_TYPE));
 }
 
-fn text(alloc: Global, text: &str) -> Result<Value, AllocError> {
-    Value::from_str(alloc, text)
-}
-
-/// The tag over these bytes.
-fn bignum(alloc: Global, n: u64, bytes: &[u8]) -> Result<Value, AllocError> {
-    tag(alloc, n, Value::from_byte_slice(alloc, bytes)?)
+/// Bytes are taken of bytes in a tag, and not of a text.
+fn bytes_are_taken(rt: &impl Abort, alloc: Global) {
+    let bytes: &[u8] = &[1, 2];
+    let want = ByteBuf::from(bytes.to_vec(alloc).expect(rt, "memory"));
+    let tagged = item(alloc, &Leaf::Bytes(&[1, 2]), &[24]);
+    is_taken(rt, alloc, tagged, &Ok(want));
+    is_taken::<ByteBuf>(rt, alloc, made(alloc, &Leaf::Text("ab")), &Err(WRONG_TYPE));
 }
 
 #[test]
-fn numbers_are_taken_in_their_range(rt: HostRuntime) -> Result<(), Fail> {
-    let alloc = rt.alloc();
-    assert_eq!(rt; taken::<u8>(alloc, integer(1)), Ok(1));
-    assert_eq!(rt; taken::<u8>(alloc, tag(alloc, 1, integer(255))?), Ok(255));
-    assert_eq!(rt; taken::<u8>(alloc, integer(256)), Err(RANGE));
-    assert_eq!(rt; taken::<u8>(alloc, integer(-1)), Err(RANGE));
-    assert_eq!(rt; taken::<u8>(alloc, text(alloc, "1")?), Err(WRONG_TYPE));
-    assert_eq!(rt; taken::<u16>(alloc, integer(65536)), Err(RANGE));
-    assert_eq!(rt; taken::<u32>(alloc, integer(4294967295)), Ok(4294967295));
-    assert_eq!(rt; taken::<u64>(alloc, Value::from(u64::MAX)), Ok(u64::MAX));
-    assert_eq!(rt; taken::<usize>(alloc, integer(7)), Ok(7));
-    assert_eq!(rt; taken::<i8>(alloc, integer(-128)), Ok(-128));
-    assert_eq!(rt; taken::<i8>(alloc, integer(128)), Err(RANGE));
-    assert_eq!(rt; taken::<i16>(alloc, integer(-32769)), Err(RANGE));
-    assert_eq!(rt; taken::<i32>(alloc, integer(-2)), Ok(-2));
-    assert_eq!(rt; taken::<i64>(alloc, Value::from(u64::MAX)), Err(RANGE));
-    assert_eq!(rt; taken::<isize>(alloc, integer(-7)), Ok(-7));
-    Ok(())
+fn texts_and_bytes_are_taken(rt: HostRuntime) {
+    are_taken(&rt, rt.alloc(), OF_CHAR);
+    strings_are_taken(&rt, rt.alloc());
+    bytes_are_taken(&rt, rt.alloc());
 }
 
-#[test]
-fn wide_numbers_are_taken_of_bignums(rt: HostRuntime) -> Result<(), Fail> {
-    let alloc = rt.alloc();
-    let power = [1, 0, 0, 0, 0, 0, 0, 0, 0];
-    assert_eq!(rt; taken::<u128>(alloc, integer(1)), Ok(1));
-    assert_eq!(rt; taken::<u128>(alloc, integer(-1)), Err(RANGE));
-    assert_eq!(rt;
-        taken::<u128>(alloc, bignum(alloc, 2, &[0xff; 16])?),
-        Ok(u128::MAX)
-    );
-    assert_eq!(rt; taken::<u128>(alloc, bignum(alloc, 3, &power)?), Err(RANGE));
-    assert_eq!(rt;
-        taken::<u128>(alloc, bignum(alloc, 2, &[0; 17])?),
-        Err(WRONG_TYPE)
-    );
-    assert_eq!(rt; taken::<i128>(alloc, integer(-1)), Ok(-1));
-    assert_eq!(rt;
-        taken::<i128>(alloc, bignum(alloc, 2, &power)?),
-        Ok(0x1_0000_0000_0000_0000)
-    );
-    assert_eq!(rt;
-        taken::<i128>(alloc, bignum(alloc, 3, &power)?),
-        Ok(-0x1_0000_0000_0000_0001)
-    );
-    assert_eq!(rt;
-        taken::<i128>(alloc, tag(alloc, 9, bignum(alloc, 2, &power)?)?),
-        Ok(0x1_0000_0000_0000_0000)
-    );
-    assert_eq!(rt;
-        taken::<i128>(alloc, bignum(alloc, 2, &[0xff; 16])?),
-        Err(RANGE)
-    );
-    assert_eq!(rt;
-        taken::<i128>(alloc, bignum(alloc, 4, &power)?),
-        Err(WRONG_TYPE)
-    );
-    Ok(())
-}
+const OF_BOOL: &[Row<bool>] = &[
+    (Leaf::Bool(true), &[7], Ok(true)),
+    (Leaf::Int(1), &[], Err(WRONG_TYPE)),
+];
+
+const OF_NULL: &[Row<()>] = &[
+    (Leaf::Null, &[7], Ok(())),
+    (Leaf::Bool(false), &[], Err(WRONG_TYPE)),
+];
 
 #[test]
-fn texts_and_bytes_are_taken(rt: HostRuntime) -> Result<(), Fail> {
-    let alloc = rt.alloc();
-    let content = [1, 2];
-    assert_eq!(rt; taken::<char>(alloc, text(alloc, "é")?), Ok('é'));
-    assert_eq!(rt; taken::<char>(alloc, text(alloc, "ab")?), Err(WRONG_TYPE));
-    assert_eq!(rt; taken::<char>(alloc, text(alloc, "")?), Err(WRONG_TYPE));
-    assert_eq!(rt;
-        taken::<String>(alloc, text(alloc, "ab")?),
-        Ok(String::from_str(alloc, "ab")?)
-    );
-    assert_eq!(rt; taken::<String>(alloc, Value::Null), Err(WRONG_TYPE));
-    assert_eq!(rt;
-        taken::<ByteBuf>(alloc, bignum(alloc, 24, &content)?),
-        Ok(ByteBuf::from(content.to_vec(alloc)?))
-    );
-    assert_eq!(rt;
-        taken::<ByteBuf>(alloc, text(alloc, "ab")?),
-        Err(WRONG_TYPE)
-    );
-    Ok(())
-}
-
-#[test]
-fn simple_values_are_taken(rt: HostRuntime) -> Result<(), Fail> {
-    let alloc = rt.alloc();
-    assert_eq!(rt;
-        taken::<bool>(alloc, tag(alloc, 7, Value::Bool(true))?),
-        Ok(true)
-    );
-    assert_eq!(rt; taken::<bool>(alloc, integer(1)), Err(WRONG_TYPE));
-    assert_eq!(rt; taken::<()>(alloc, tag(alloc, 7, Value::Null)?), Ok(()));
-    assert_eq!(rt; taken::<()>(alloc, Value::Bool(false)), Err(WRONG_TYPE));
-    Ok(())
+fn simple_values_are_taken(rt: HostRuntime) {
+    are_taken(&rt, rt.alloc(), OF_BOOL);
+    are_taken(&rt, rt.alloc(), OF_NULL);
 }
