@@ -1,10 +1,11 @@
 //! How each title is written and read.
-use ciborium_ll::{Decoder, Encoder, End, Error, Float, Header, Mem, Write, simple, tag};
+use crate::checks::{holds, same};
+use ciborium_ll::{Decoder, Encoder, End, Error, Float, Header, Mem, Read, Write, simple, tag};
 use std::alloc::Global;
 use std::process::Abort;
 
 /// Headers with their shortest titles.
-const TITLES: [(Header, &[u8]); 22] = [
+const TITLES: &[(Header, &[u8])] = &[
     (Header::Positive(23), &[0x17]),
     (Header::Positive(24), &[0x18, 24]),
     (Header::Positive(255), &[0x18, 0xff]),
@@ -42,7 +43,24 @@ const TITLES: [(Header, &[u8]); 22] = [
         &[0xfb, 0, 0, 0, 0, 0, 0, 0, 1],
     ),
     (Header::Break, &[0xff]),
+    // numbers that have names
+    (Header::Simple(simple::FALSE), &[0xf4]),
+    (Header::Simple(simple::TRUE), &[0xf5]),
+    (Header::Simple(simple::NULL), &[0xf6]),
+    (Header::Simple(simple::UNDEFINED), &[0xf7]),
+    (Header::Tag(tag::BIGPOS), &[0xc2]),
+    (Header::Tag(tag::BIGNEG), &[0xc3]),
 ];
+
+/// A decoder behind the first title of these bytes, where there is one.
+pub fn behind<R: Read>(rt: &impl Abort, reader: R, head: Option<Header>) -> Decoder<R> {
+    let mut decoder = Decoder::from(reader);
+    if let Some(header) = head {
+        let is_head = matches!(decoder.pull(), Ok(first) if first == header);
+        holds(rt, is_head, "the first title");
+    }
+    decoder
+}
 
 /// The decoder is at this place, and its next pull answers this.
 pub fn is_at(
@@ -51,8 +69,8 @@ pub fn is_at(
     offset: usize,
     next: Result<Header, Error<End>>,
 ) {
-    assert!(rt; decoder.offset() == offset);
-    assert!(rt; decoder.pull() == next);
+    holds(rt, decoder.offset() == offset, "where a decoder is");
+    holds(rt, decoder.pull() == next, "what a decoder pulls");
 }
 
 /// The header is written as this title, which is then flushed.
@@ -60,10 +78,14 @@ fn is_written(rt: &impl Abort, header: Header, title: &[u8]) {
     let mut bytes = [0u8; 9];
     let mut out = Mem::new(&mut bytes[..]);
     let mut encoder = Encoder::from(&mut out);
-    assert!(rt; encoder.push(header) == Ok(()));
-    assert!(rt; encoder.flush() == Ok(()));
-    assert!(rt; out.as_written() == title);
-    assert!(rt; header.title_len() == title.len());
+    holds(rt, encoder.push(header) == Ok(()), "a title is written");
+    holds(rt, encoder.flush() == Ok(()), "a title is flushed");
+    same(rt, out.as_written(), title, "a title");
+    holds(
+        rt,
+        header.title_len() == title.len(),
+        "the length of a title",
+    );
 }
 
 /// This title, alone, is read as the header.
@@ -71,26 +93,26 @@ fn is_read(rt: &impl Abort, header: Header, title: &[u8]) {
     let mut decoder = Decoder::from(title);
     is_at(rt, &mut decoder, 0, Ok(header));
     is_at(rt, &mut decoder, title.len(), Err(Error::Io(End)));
-    assert!(rt; decoder.offset() == title.len());
+    holds(rt, decoder.offset() == title.len(), "the end of a title");
 }
 
 /// A vector takes the header's title.
 fn is_appended(rt: &impl Abort, alloc: Global, header: Header) {
     let mut encoder = Encoder::from(Mem::new(Vec::new(alloc)));
-    assert!(rt; encoder.push(header).is_ok());
+    holds(rt, encoder.push(header).is_ok(), "a vector takes a title");
 }
 
 #[test]
 fn writes_the_shortest_title_and_reads_it_again(rt: HostRuntime) {
     for (header, title) in TITLES {
-        is_appended(&rt, rt.alloc(), header);
-        is_written(&rt, header, title);
-        is_read(&rt, header, title);
+        is_appended(&rt, rt.alloc(), *header);
+        is_written(&rt, *header, title);
+        is_read(&rt, *header, title);
     }
 }
 
 /// The 27 bytes that begin no title (RFC 8949, section 3).
-const BAD: [u8; 27] = [
+const BAD: &[u8] = &[
     0x1c, 0x1d, 0x1e, 0x1f, 0x3c, 0x3d, 0x3e, 0x3f, 0x5c, 0x5d, 0x5e, 0x7c, 0x7d, 0x7e, 0x9c, 0x9d,
     0x9e, 0xbc, 0xbd, 0xbe, 0xdc, 0xdd, 0xde, 0xdf, 0xfc, 0xfd, 0xfe,
 ];
@@ -104,14 +126,16 @@ fn is_taken(rt: &impl Abort, first: u8, end: usize, is_bad: bool) {
         Ok(_) => !is_bad,
         Err(e) => is_bad && e == Error::Syntax(1),
     };
-    assert!(rt; is_told && decoder.offset() == end, "at {first}");
+    let told = [first, u8::from(is_told)];
+    same(rt, &told, &[first, 1], "a first byte");
+    holds(rt, decoder.offset() == end, "the end of a title");
 }
 
 /// Of these bytes, whose title is longer, none but the first is taken.
 fn is_cut(rt: &impl Abort, bytes: &[u8]) {
     let mut decoder = Decoder::from(bytes);
     is_at(rt, &mut decoder, 0, Err(Error::Io(End)));
-    assert!(rt; decoder.offset() == 1);
+    holds(rt, decoder.offset() == 1, "an end inside a title");
 }
 
 #[test]
@@ -133,24 +157,14 @@ fn takes_each_first_byte(rt: HostRuntime) {
     }
 }
 
-#[test]
-fn constants_name_simple_values_and_tags(rt: HostRuntime) {
-    for (first, header) in [
-        (0xf4u8, Header::Simple(simple::FALSE)),
-        (0xf5, Header::Simple(simple::TRUE)),
-        (0xf6, Header::Simple(simple::NULL)),
-        (0xf7, Header::Simple(simple::UNDEFINED)),
-        (0xc2, Header::Tag(tag::BIGPOS)),
-        (0xc3, Header::Tag(tag::BIGNEG)),
-    ] {
-        is_read(&rt, header, &[first]);
-    }
-}
-
 /// The decoder is at this place, and a header waits or not.
 fn stands(rt: &impl Abort, decoder: &Decoder<&[u8]>, offset: usize, is_waiting: bool) {
-    assert!(rt; decoder.offset() == offset);
-    assert!(rt; decoder.is_waiting() == is_waiting);
+    holds(rt, decoder.offset() == offset, "where a decoder stands");
+    holds(
+        rt,
+        decoder.is_waiting() == is_waiting,
+        "whether a header waits",
+    );
 }
 
 /// Reading a byte into a buffer that holds 7 answers this, and leaves this byte there.
@@ -161,14 +175,20 @@ fn reads_a_byte(
     byte: u8,
 ) {
     let mut buffer = [7u8; 1];
-    assert!(rt; decoder.read_exact(&mut buffer) == answer);
-    assert!(rt; buffer == [byte]);
+    holds(
+        rt,
+        decoder.read_exact(&mut buffer) == answer,
+        "a byte is read",
+    );
+    same(rt, &buffer, &[byte], "a byte");
 }
+
+/// A number in two bytes, and another byte.
+const WAITING: &[u8] = &[0x18, 1, 0x40];
 
 #[test]
 fn a_header_that_was_pushed_back_waits(rt: HostRuntime) {
-    let bytes = [0x18, 1, 0x40];
-    let mut decoder = Decoder::from(&bytes[..]);
+    let mut decoder = Decoder::from(WAITING);
     if decoder.pull() != Ok(Header::Positive(1)) {
         panic!(rt; "another header");
     }

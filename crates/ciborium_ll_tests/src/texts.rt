@@ -1,4 +1,5 @@
 //! Texts of faults.
+use crate::checks::same;
 use ciborium_ll::{End, Error, Full, IoFault, RecodeError};
 use std::alloc::Global;
 use std::fmt::Display;
@@ -8,24 +9,27 @@ use std::process::Abort;
 /// The fault prints like this.
 fn prints<T: Display>(rt: &impl Abort, alloc: Global, fault: &T, text: &str) {
     let printed = format!(in alloc; "{fault}").expect(rt, "memory");
-    assert!(rt; printed.as_str() == text, "{printed} for {text}");
+    same(rt, printed.as_bytes(), text.as_bytes(), text);
 }
+
+/// Faults of a decoder, and how they print.
+const DECODING: &[(Error<End>, &str)] = &[
+    (Error::Io(End), "end"),
+    (Error::Syntax(17), "Syntax(17)"),
+    (Error::TooLong, "TooLong"),
+    (Error::Waiting, "Waiting"),
+];
 
 #[test]
 fn faults_have_plain_words(rt: HostRuntime) {
-    let alloc = rt.alloc();
-    let decoding: [(Error<End>, &str); 4] = [
-        (Error::Io(End), "end"),
-        (Error::Syntax(17), "Syntax(17)"),
-        (Error::TooLong, "TooLong"),
-        (Error::Waiting, "Waiting"),
-    ];
-    for (fault, text) in decoding {
-        prints(&rt, alloc, &fault, text);
-        prints(&rt, alloc, &RecodeError::<End, Full>::Read(fault), text);
+    for (fault, text) in DECODING {
+        prints(&rt, rt.alloc(), fault, text);
+        let read = RecodeError::<End, Full>::Read(*fault);
+        prints(&rt, rt.alloc(), &read, text);
     }
-    prints(&rt, alloc, &Full, "full");
-    prints(&rt, alloc, &RecodeError::<End, Full>::Write(Full), "full");
+    prints(&rt, rt.alloc(), &Full, "full");
+    let write = RecodeError::<End, Full>::Write(Full);
+    prints(&rt, rt.alloc(), &write, "full");
 }
 
 #[test]
