@@ -1,9 +1,10 @@
 //! A signed message is written, read and verified; the signer gives its data back, so that a signature is good where it is the data.
 use coset::{
-    CborSerializable, CoseSign1, CoseSign1Builder, Fault, HeaderBuilder, RegisteredLabel, iana,
+    CborSerializable, ContentType, CoseSign1, CoseSign1Builder, Fault, HeaderBuilder,
+    RegisteredLabel, iana,
 };
 use std::alloc::Global;
-use std::test::Fail;
+use std::process::Abort;
 
 /// Another signature than the one that is wanted.
 #[derive(Debug, Clone, Copy, PartialEq, Eq)]
@@ -22,39 +23,55 @@ fn verifies(alloc: Global, message: &CoseSign1, aad: &[u8]) -> Result<(), Fault<
     })
 }
 
-#[test]
-fn signature(rt: HostRuntime) -> Result<(), Fail> {
-    let alloc = rt.alloc();
+/// A message with a signature, in bytes.
+fn sent(rt: &impl Abort, alloc: Global) -> Vec<u8> {
     let protected = HeaderBuilder::new(alloc)
         .algorithm(iana::Algorithm::ES256)
-        .key_id(b"11".to_vec(alloc)?)
+        .key_id(b"11".to_vec(alloc).expect(rt, "memory"))
         .build();
-    let sent = CoseSign1Builder::new(alloc)
+    CoseSign1Builder::new(alloc)
         .protected(protected)
-        .payload(b"This is the content".to_vec(alloc)?)
-        .try_create_signature(alloc, AAD, |data| data.to_vec(alloc))?
+        .payload(b"This is the content".to_vec(alloc).expect(rt, "memory"))
+        .try_create_signature(alloc, AAD, |data| data.to_vec(alloc))
+        .expect(rt, "a signature")
         .build()
-        .to_vec(alloc)?;
-    let mut message = CoseSign1::from_slice(alloc, &sent)?;
-    assert!(rt; verifies(alloc, &message, AAD) == Ok(()));
+        .to_vec(alloc)
+        .expect(rt, "a message")
+}
+
+/// The content type of a text.
+fn content_type(rt: &impl Abort, alloc: Global) -> Option<ContentType> {
+    let text = String::from_str(alloc, "text/plain").expect(rt, "memory");
+    Some(RegisteredLabel::Text(text))
+}
+
+/// The signature is good, or not, over this external data.
+fn is_signed(rt: &impl Abort, alloc: Global, message: &CoseSign1, aad: &[u8], is_good: bool) {
+    let want = if is_good {
+        Ok(())
+    } else {
+        Err(Fault::Caller(Mismatch))
+    };
+    assert_eq!(rt; verifies(alloc, message, aad), want);
+}
+
+#[test]
+fn signature(rt: HostRuntime) {
+    let alloc = rt.alloc();
+    let bytes = sent(&rt, alloc);
+    let mut message = CoseSign1::from_slice(alloc, &bytes).expect(&rt, "a message");
+    is_signed(&rt, alloc, &message, AAD, true);
 
     // the unprotected header is not covered
-    message.unprotected.content_type = Some(RegisteredLabel::Text(String::from_str(
-        alloc,
-        "text/plain",
-    )?));
-    assert!(rt; verifies(alloc, &message, AAD) == Ok(()));
+    message.unprotected.content_type = content_type(&rt, alloc);
+    is_signed(&rt, alloc, &message, AAD, true);
 
     // other external data is another question
-    assert!(rt; verifies(alloc, &message, b"other data") == Err(Fault::Caller(Mismatch)));
+    is_signed(&rt, alloc, &message, b"other data", false);
 
     // what was received decides, until it is forgotten
-    message.protected.header.content_type = Some(RegisteredLabel::Text(String::from_str(
-        alloc,
-        "text/plain",
-    )?));
-    assert!(rt; verifies(alloc, &message, AAD) == Ok(()));
+    message.protected.header.content_type = content_type(&rt, alloc);
+    is_signed(&rt, alloc, &message, AAD, true);
     message.protected.original_data = None;
-    assert!(rt; verifies(alloc, &message, AAD) == Err(Fault::Caller(Mismatch)));
-    Ok(())
+    is_signed(&rt, alloc, &message, AAD, false);
 }
