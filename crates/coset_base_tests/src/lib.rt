@@ -3,3 +3,5 @@
 
 #[cfg(test)]
 mod headers;
+#[cfg(test)]
+mod parts;
