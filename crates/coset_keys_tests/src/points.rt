@@ -1,96 +1,133 @@
 //! Points of keys as octet strings.
+use crate::checks::{byte, holds, of_hex, point_is, tells, writes};
 use ciborium_value::Value;
 use coset_keys::{CoseKey, CoseKeyBuilder, ParseSec1OctetStringError, ToSec1OctetStringError};
-use coset_labels::{CborSerializable, iana};
-use std::test::Fail;
+use coset_labels::{CborSerializable, CoseError, iana};
+use std::alloc::Global;
+use std::process::Abort;
 
-#[test]
-fn octet_strings_and_back(rt: HostRuntime) -> Result<(), Fail> {
-    let alloc = rt.alloc();
-    for (text, want) in [
-        ("03aabb", "a4010220012142aabb22f5"),
-        ("02aabb", "a4010220012142aabb22f4"),
-        ("04aabb", "a4010220012141aa2241bb"),
-        ("02", "a401022001214022f4"),
-        ("04", "a40102200121402240"),
-    ] {
-        let sec1 = hex::decode(alloc, text)?;
-        let key = CoseKeyBuilder::new_ec2_pub_key_sec1_octet_string(
-            alloc,
-            iana::EllipticCurve::P_256,
-            sec1.as_slice(),
-        )?.build();
-        assert!(rt; key.to_sec1_octet_string(alloc)? == sec1);
-        let made = key.to_vec(alloc)?;
-        assert_eq!(rt; hex::encode(alloc, made.as_slice())?.as_str(), want);
-    }
-    for text in ["", "04aabbcc", "05", "00"] {
-        let sec1 = hex::decode(alloc, text)?;
-        match CoseKeyBuilder::new_ec2_pub_key_sec1_octet_string(
-            alloc,
-            iana::EllipticCurve::P_256,
-            sec1.as_slice(),
-        ) {
-            Ok(_) => assert!(rt; false, "{text} is read"),
-            Err(error) => assert!(rt; error == ParseSec1OctetStringError::Malformed),
-        }
-    }
-    Ok(())
+/// The key of the point that this octet string is.
+fn parsed(alloc: Global, sec1: &[u8]) -> Result<CoseKey, ParseSec1OctetStringError> {
+    let curve = iana::EllipticCurve::P_256;
+    let builder = CoseKeyBuilder::new_ec2_pub_key_sec1_octet_string(alloc, curve, sec1)?;
+    Ok(builder.build())
 }
 
-#[test]
-fn keys_without_a_point(rt: HostRuntime) -> Result<(), Fail> {
-    let alloc = rt.alloc();
-    for (text, want) in [
-        ("a10101", "not an EC key"),
-        ("a10102", "missing coordinate"),
-        ("a201022200", "missing coordinate"),
-        ("a201022100", "missing coordinate"),
-        ("a3010221002200", "invalid coordinate type"),
-        ("a30102214022f6", "invalid coordinate type"),
-        ("a3010221402241aa", "unequal coordinate lengths"),
-    ] {
-        let bytes = hex::decode(alloc, text)?;
-        let key = CoseKey::from_slice(alloc, bytes.as_slice())?;
-        match key.to_sec1_octet_string(alloc) {
-            Ok(_) => assert!(rt; false, "{text} has a point"),
-            Err(error) => assert_eq!(rt; format!(in alloc; "{error}")?.as_str(), want, "{text}"),
-        }
-    }
-    for (error, want) in [
-        (
-            ParseSec1OctetStringError::Malformed,
-            "ParseSec1OctetStringError",
-        ),
-        (ParseSec1OctetStringError::Memory, "out of memory"),
-    ] {
-        assert_eq!(rt; format!(in alloc; "{error}")?.as_str(), want);
-    }
-    assert_eq!(rt;
-        format!(in alloc; "{}", ToSec1OctetStringError::Memory)?.as_str(),
-        "out of memory"
+/// The key of the point that this octet string in hex is.
+fn read(rt: &impl Abort, alloc: Global, text: &str) -> Result<CoseKey, ParseSec1OctetStringError> {
+    let sec1 = of_hex(rt, alloc, text);
+    parsed(alloc, sec1.as_slice())
+}
+
+/// This octet string in hex is read as a point and written back, and its key is these bytes.
+fn is_read(rt: &impl Abort, alloc: Global, text: &str, want: &str) {
+    let key = read(rt, alloc, text).expect(rt, "a point");
+    point_is(rt, alloc, &key, text, text);
+    writes(rt, alloc, key, want);
+}
+
+/// This octet string in hex is no point.
+fn is_malformed(rt: &impl Abort, alloc: Global, text: &str) {
+    let fault = read(rt, alloc, text).err();
+    holds(
+        rt,
+        fault == Some(ParseSec1OctetStringError::Malformed),
+        text,
     );
-    Ok(())
+}
+
+/// Octet strings, and the bytes of their keys.
+const POINTS: &[(&str, &str)] = &[
+    ("03aabb", "a4010220012142aabb22f5"),
+    ("02aabb", "a4010220012142aabb22f4"),
+    ("04aabb", "a4010220012141aa2241bb"),
+    ("02", "a401022001214022f4"),
+    ("04", "a40102200121402240"),
+];
+
+/// Octet strings that are no points.
+const MALFORMED: &[&str] = &["", "04aabbcc", "05", "00"];
+
+#[test]
+fn octet_strings_and_back(rt: HostRuntime) {
+    let alloc = rt.alloc();
+    for (text, want) in POINTS {
+        is_read(&rt, alloc, text, want);
+    }
+    for text in MALFORMED {
+        is_malformed(&rt, alloc, text);
+    }
+}
+
+/// The key that these bytes in hex are.
+fn key(rt: &impl Abort, alloc: Global, text: &str) -> CoseKey {
+    let bytes = of_hex(rt, alloc, text);
+    CoseKey::from_slice(alloc, bytes.as_slice()).expect(rt, "a key")
+}
+
+/// The key that these bytes in hex are has no point, with this fault.
+fn has_no_point(rt: &impl Abort, alloc: Global, text: &str, want: &str) {
+    let key = key(rt, alloc, text);
+    point_is(rt, alloc, &key, want, text);
+}
+
+/// Keys, and why they have no point.
+const WITHOUT_A_POINT: &[(&str, &str)] = &[
+    ("a10101", "not an EC key"),
+    ("a10102", "missing coordinate"),
+    ("a201022200", "missing coordinate"),
+    ("a201022100", "missing coordinate"),
+    ("a3010221002200", "invalid coordinate type"),
+    ("a30102214022f6", "invalid coordinate type"),
+    ("a3010221402241aa", "unequal coordinate lengths"),
+];
+
+/// Faults of reading a point, and their texts.
+const FAULTS: &[(ParseSec1OctetStringError, &str)] = &[
+    (
+        ParseSec1OctetStringError::Malformed,
+        "ParseSec1OctetStringError",
+    ),
+    (ParseSec1OctetStringError::Memory, "out of memory"),
+];
+
+#[test]
+fn keys_without_a_point(rt: HostRuntime) {
+    let alloc = rt.alloc();
+    for (text, want) in WITHOUT_A_POINT {
+        has_no_point(&rt, alloc, text, want);
+    }
+    for (error, want) in FAULTS {
+        tells(&rt, alloc, error, want);
+    }
+    tells(&rt, alloc, &ToSec1OctetStringError::Memory, "out of memory");
+}
+
+/// A key with both coordinates, and a y of its own behind them.
+fn both(rt: &impl Abort, alloc: Global) -> Result<CoseKey, CoseError> {
+    let curve = iana::EllipticCurve::P_256;
+    let (x, y) = (byte(rt, alloc, 1), byte(rt, alloc, 2));
+    let builder = CoseKeyBuilder::new_ec2_pub_key(alloc, curve, x, y)?;
+    Ok(builder.param(-2, Value::Null)?.build())
+}
+
+/// A key with x and the sign of y.
+fn signed(rt: &impl Abort, alloc: Global) -> Result<CoseKey, CoseError> {
+    let curve = iana::EllipticCurve::P_256;
+    let x = byte(rt, alloc, 1);
+    let builder = CoseKeyBuilder::new_ec2_pub_key_y_sign(alloc, curve, x, true)?;
+    Ok(builder.build())
+}
+
+/// The point of what was built is this octet string in hex.
+fn has_point(rt: &impl Abort, alloc: Global, built: Result<CoseKey, CoseError>, want: &str) {
+    let key = built.expect(rt, "a key");
+    point_is(rt, alloc, &key, want, want);
 }
 
 #[test]
-fn points_by_their_coordinates(rt: HostRuntime) -> Result<(), Fail> {
+fn points_by_their_coordinates(rt: HostRuntime) {
     let alloc = rt.alloc();
-    let both = CoseKeyBuilder::new_ec2_pub_key(
-        alloc,
-        iana::EllipticCurve::P_256,
-        [1].to_vec(alloc)?,
-        [2].to_vec(alloc)?,
-    )?
-    .param(-2, Value::Null)?
-    .build();
-    assert!(rt; both.to_sec1_octet_string(alloc)?.as_slice() == [4, 1, 2].as_slice());
-    let signed = CoseKeyBuilder::new_ec2_pub_key_y_sign(
-        alloc,
-        iana::EllipticCurve::P_256,
-        [1].to_vec(alloc)?,
-        true,
-    )?.build();
-    assert!(rt; signed.to_sec1_octet_string(alloc)?.as_slice() == [3, 1].as_slice());
-    Ok(())
+    has_point(&rt, alloc, both(&rt, alloc), "040102");
+    has_point(&rt, alloc, signed(&rt, alloc), "0301");
 }

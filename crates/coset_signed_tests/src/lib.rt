@@ -9,3 +9,5 @@ mod memory;
 mod sign;
 #[cfg(test)]
 mod sign1;
+#[cfg(test)]
+mod tools;

@@ -1,8 +1,9 @@
 //! A firmware manifest: a message with one signature, which covers an image that is carried elsewhere.
+use crate::tools::same;
 use coset_builders::HeaderBuilder;
 use coset_labels::{Fault, TaggedCborSerializable, iana};
 use coset_signed::{CoseSign1, CoseSign1Builder};
-use std::alloc::Global;
+use std::alloc::{AllocError, Global};
 use std::test::Fail;
 
 /// Why an image is not installed.
@@ -40,14 +41,13 @@ impl Maker {
 /// What the signature covers beside the image.
 const PURPOSE: &[u8] = b"firmware";
 
-/// Checks an image against its manifest. The closure captures one reference, `maker`, and calls a method of it.
-fn check_image(
+/// Checks an image against its manifest, which was read. The closure captures one reference, `maker`, and calls a method of it.
+fn check_message(
     alloc: Global,
-    manifest: &[u8],
+    message: &CoseSign1,
     image: &[u8],
     maker: &Maker,
 ) -> Result<(), Fault<Refused>> {
-    let message = CoseSign1::from_tagged_slice(alloc, manifest)?;
     if message.payload.is_some() {
         return Err(Fault::Caller(Refused::Attached));
     }
@@ -63,42 +63,62 @@ fn check_image(
     })
 }
 
-#[test]
-fn an_image_is_checked_against_its_manifest(rt: HostRuntime) -> Result<(), Fail> {
-    let alloc = rt.alloc();
-    let maker = Maker {
-        key_id: b"maker".to_vec(alloc)?,
+/// Checks an image against its manifest.
+fn check_image(
+    alloc: Global,
+    manifest: &[u8],
+    image: &[u8],
+    maker: &Maker,
+) -> Result<(), Fault<Refused>> {
+    let message = CoseSign1::from_tagged_slice(alloc, manifest)?;
+    check_message(alloc, &message, image, maker)
+}
+
+/// A maker with this name.
+fn named(alloc: Global, name: &[u8]) -> Result<Maker, AllocError> {
+    Ok(Maker {
+        key_id: name.to_vec(alloc)?,
         key: 0x5a,
-    };
-    let other = Maker {
-        key_id: b"other".to_vec(alloc)?,
-        key: 0x5a,
-    };
+    })
+}
+
+/// The manifest of "image 1".
+fn manifest_by(alloc: Global, signer: &Maker) -> Result<Vec<u8>, Fault<AllocError>> {
+    let key_id = b"maker".to_vec(alloc)?;
     let header = HeaderBuilder::new(alloc)
         .algorithm(iana::Algorithm::ES256)
-        .key_id(b"maker".to_vec(alloc)?)
+        .key_id(key_id)
         .build();
-    let signer = &maker;
-    let manifest = CoseSign1Builder::new(alloc)
+    let built = CoseSign1Builder::new(alloc)
         .protected(header)
         .try_create_detached_signature(
             alloc,
             b"image 1",
             PURPOSE,
             move |data| [signer.sign(data)].to_vec(alloc),
-        )?
-        .build()
-        .to_tagged_vec(alloc)?;
-    assert!(rt; check_image(alloc, &manifest, b"image 1", &maker) == Ok(()));
-    assert!(rt;
-        check_image(alloc, &manifest, b"image 2", &maker) == Err(Fault::Caller(Refused::Signature))
-    );
-    assert!(rt;
-        check_image(alloc, &manifest, b"image 1", &other) == Err(Fault::Caller(Refused::OtherKey))
-    );
+        )?;
+    Ok(built.build().to_tagged_vec(alloc)?)
+}
+
+#[test]
+fn an_image_is_checked_against_its_manifest(rt: HostRuntime) -> Result<(), Fail> {
+    let alloc = rt.alloc();
     let attached = hex::decode(alloc, "d28440a04040")?;
-    assert!(rt;
-        check_image(alloc, &attached, b"image 1", &maker) == Err(Fault::Caller(Refused::Attached))
-    );
+    let other = named(alloc, b"other")?;
+    let maker = named(alloc, b"maker")?;
+    let manifest = manifest_by(alloc, &maker)?;
+    let answers = [
+        check_image(alloc, &manifest, b"image 1", &maker),
+        check_image(alloc, &manifest, b"image 2", &maker),
+        check_image(alloc, &manifest, b"image 1", &other),
+        check_image(alloc, &attached, b"image 1", &maker),
+    ];
+    let want = [
+        Ok(()),
+        Err(Fault::Caller(Refused::Signature)),
+        Err(Fault::Caller(Refused::OtherKey)),
+        Err(Fault::Caller(Refused::Attached)),
+    ];
+    same(&rt, &answers, &want, "answers");
     Ok(())
 }

@@ -1,188 +1,323 @@
 //! Messages with several signatures. Expected bytes and texts are written out by hand.
-use ciborium_value::Value;
-use coset_builders::{CoseSignatureBuilder, HeaderBuilder};
+use crate::tools::{
+    MISMATCH, Message, Met, Row, UNFIT, are_read, echo, equal, es256, gives, is_asked_for,
+    is_elsewhere, is_not_signed, is_refused_with_tag, is_verified, is_verified_elsewhere, never,
+    repeated, same, tell, verifies, writes, writes_untagged,
+};
+use coset_builders::CoseSignatureBuilder;
 use coset_headers::{CoseSignature, Header};
-use coset_labels::{CborSerializable, CoseError, Fault, Label, TaggedCborSerializable, iana};
+use coset_labels::{CoseError, Fault};
 use coset_signed::{CoseSign, CoseSignBuilder};
-use std::alloc::Global;
+use std::alloc::{AllocError, Global};
+use std::process::Abort;
 use std::test::Fail;
 
-/// Another signature or structure than the one that is wanted.
-#[derive(Debug, Clone, Copy, PartialEq, Eq)]
-struct Mismatch;
+impl Message for CoseSign {
+    fn copied(&self, alloc: Global) -> Result<CoseSign, AllocError> {
+        self.clone(alloc)
+    }
 
-/// A signature of a signer with the algorithm ES256, with no bytes.
-fn signer(alloc: Global) -> CoseSignature {
-    let header = HeaderBuilder::new(alloc)
-        .algorithm(iana::Algorithm::ES256)
-        .build();
+    fn count(&self) -> usize {
+        self.signatures.len()
+    }
+
+    fn signature(&self, which: usize) -> &[u8] {
+        match self.signatures.get(which) {
+            Some(signature) => signature.signature.as_slice(),
+            None => &[],
+        }
+    }
+
+    fn signer(&self, which: usize) -> Option<&CoseSignature> {
+        self.signatures.get(which)
+    }
+
+    fn is_detached(&self) -> bool {
+        self.payload.is_none()
+    }
+
+    fn covered(
+        &self,
+        alloc: Global,
+        signer: Option<&CoseSignature>,
+        aad: &[u8],
+    ) -> Result<Vec<u8>, CoseError> {
+        match signer {
+            Some(signer) => self.tbs_data(alloc, aad, signer),
+            None => Err(UNFIT),
+        }
+    }
+
+    fn covered_elsewhere(
+        &self,
+        alloc: Global,
+        signer: Option<&CoseSignature>,
+        payload: &[u8],
+        aad: &[u8],
+    ) -> Result<Vec<u8>, CoseError> {
+        match (&self.payload, signer) {
+            (None, Some(signer)) => self.tbs_detached_data(alloc, payload, aad, signer),
+            _ => Err(UNFIT),
+        }
+    }
+
+    fn verified(&self, alloc: Global, which: usize, aad: &[u8]) -> Result<(), Met> {
+        if which >= self.signatures.len() {
+            return Err(Fault::Caller(UNFIT));
+        }
+        self.verify_signature(alloc, which, aad, equal)
+    }
+
+    fn verified_elsewhere(
+        &self,
+        alloc: Global,
+        which: usize,
+        payload: &[u8],
+        aad: &[u8],
+    ) -> Result<(), Met> {
+        if self.payload.is_some() {
+            return Err(Fault::Caller(UNFIT));
+        }
+        if which >= self.signatures.len() {
+            return Err(Fault::Caller(UNFIT));
+        }
+        self.verify_detached_signature(alloc, which, payload, aad, equal)
+    }
+
+    fn refused(&self, alloc: Global) -> Result<(), Met> {
+        if self.signatures.is_empty() {
+            return Err(Fault::Caller(UNFIT));
+        }
+        self.verify_signature(alloc, 0, &[], never)
+    }
+}
+
+/// A signature of a signer with this header, with no bytes.
+fn with_header(alloc: Global, header: Header) -> CoseSignature {
     CoseSignatureBuilder::new(alloc).protected(header).build()
 }
 
-/// Verifies the first signature by equality with what it covers, of a payload that is carried elsewhere.
-fn is_echo_of(alloc: Global, message: &CoseSign, payload: &[u8]) -> Result<(), Fault<Mismatch>> {
-    if message.payload.is_some() {
-        return Err(Fault::Caller(Mismatch));
-    }
-    if message.signatures.is_empty() {
-        return Err(Fault::Caller(Mismatch));
-    }
-    message.verify_detached_signature(alloc, 0, payload, &[], |signature, data| {
-        if signature == data {
-            Ok(())
+/// A signature of a signer with the algorithm ES256, with no bytes.
+fn signer(alloc: Global) -> CoseSignature {
+    with_header(alloc, es256(alloc))
+}
+
+/// What the second signature of `by_three` covers: 85695369676e61747572654043a1012640426869.
+const COVERED: &[u8] = b"\x85\x69Signature\x40\x43\xa1\x01\x26\x40\x42hi";
+
+/// A message while it is built, with the payload "hi" and the signature h'00'.
+fn by_one(alloc: Global) -> Result<CoseSignBuilder, CoseError> {
+    let bytes = [0].to_vec(alloc)?;
+    let payload = b"hi".to_vec(alloc)?;
+    let first = CoseSignatureBuilder::new(alloc).signature(bytes).build();
+    CoseSignBuilder::new(alloc)
+        .protected(Header::new(alloc))
+        .unprotected(Header::new(alloc))
+        .payload(payload)
+        .add_signature(first)
+}
+
+/// As `by_one`, with another signature, which is h'01' where it covers `COVERED`.
+fn by_two(alloc: Global) -> Result<CoseSignBuilder, CoseError> {
+    let bytes = [1].to_vec(alloc)?;
+    by_one(alloc)?.add_created_signature(alloc, signer(alloc), &[], move |data| {
+        if data == COVERED {
+            bytes
         } else {
-            Err(Mismatch)
+            Vec::new(alloc)
         }
     })
 }
 
+/// What is built with one more signature, of a signer that gives what it is handed.
+fn signed(alloc: Global, builder: CoseSignBuilder, aad: &[u8]) -> Result<CoseSign, Met> {
+    let built = builder.try_add_created_signature(
+        alloc,
+        signer(alloc),
+        aad,
+        move |data| echo(alloc, data),
+    )?;
+    Ok(built.build())
+}
+
+/// As `by_two`, with a third signature, which is what it covers.
+fn by_three(alloc: Global) -> Result<CoseSign, Met> {
+    signed(alloc, by_two(alloc)?, &[0xaa])
+}
+
+/// There are three signatures, and only the third is what it covers.
+fn is_third<T: Message>(
+    rt: &impl Abort,
+    alloc: Global,
+    built: Result<T, Met>,
+    signer: &CoseSignature,
+) -> Result<(), Fail> {
+    let message = built?;
+    same(rt, &message.count(), &3, "signatures");
+    verifies(rt, alloc, &message, 2, &[0xaa], &Ok(()));
+    let mismatch = Err(Fault::Caller(MISMATCH));
+    verifies(rt, alloc, &message, 1, &[0xaa], &mismatch);
+    gives(
+        rt,
+        alloc,
+        message.covered(alloc, Some(signer), &[0xaa]),
+        "85695369676e61747572654043a1012641aa426869",
+    )
+}
+
+/// The bytes of `by_three`, without a tag and with one.
+const WRITTEN: Row = (
+    "8440a0426869838340a041008343a10126a041018343a10126a05585695369676e61747572654043a1012641aa426869",
+    "d8628440a0426869838340a041008343a10126a041018343a10126a05585695369676e61747572654043a1012641aa426869",
+);
+
 #[test]
 fn a_message_is_signed_by_several(rt: HostRuntime) -> Result<(), Fail> {
     let alloc = rt.alloc();
-    let first = CoseSignatureBuilder::new(alloc)
-        .signature([0].to_vec(alloc)?)
-        .build();
-    let covered = hex::decode(alloc, "85695369676e61747572654043a1012640426869")?;
-    let signature = [1].to_vec(alloc)?;
-    let message = CoseSignBuilder::new(alloc)
-        .protected(Header::new(alloc))
-        .unprotected(Header::new(alloc))
-        .payload(b"hi".to_vec(alloc)?)
-        .add_signature(first)?
-        .add_created_signature(alloc, signer(alloc), &[], move |data| {
-            if data == covered.as_slice() {
-                signature
-            } else {
-                Vec::new(alloc)
-            }
-        })?
-        .try_add_created_signature(alloc, signer(alloc), &[0xaa], |data| data.to_vec(alloc))?
-        .build();
-    let covered = message.tbs_data(alloc, &[0xaa], &signer(alloc))?;
-    assert_eq!(rt;
-        hex::encode(alloc, covered.as_slice())?.as_str(),
-        "85695369676e61747572654043a1012641aa426869"
-    );
-    assert!(rt; message.signatures.len() == 3);
-    let asked = message.verify_signature(alloc, 2, &[0xaa], |signature, data| {
-        if signature == data {
-            Ok(())
-        } else {
-            Err(Mismatch)
-        }
-    });
-    assert!(rt; asked == Ok(()));
-    let asked = message.verify_signature(alloc, 1, &[0xaa], |signature, data| {
-        if signature == data {
-            Ok(())
-        } else {
-            Err(Mismatch)
-        }
-    });
-    assert!(rt; asked == Err(Fault::Caller(Mismatch)));
-    let copy = message.clone(alloc)?;
-    assert!(rt; copy == message);
-    let written = message.to_tagged_vec(alloc)?;
-    assert_eq!(rt;
-        hex::encode(alloc, written.as_slice())?.as_str(),
-        "d8628440a0426869838340a041008343a10126a041018343a10126a05585695369676e61747572654043a1012641aa426869"
-    );
-    Ok(())
+    is_third(&rt, alloc, by_three(alloc), &signer(alloc))?;
+    writes(&rt, alloc, by_three(alloc), &WRITTEN)
+}
+
+/// What is built for the payload "hi", which is carried elsewhere, with a signer that gives what it is handed.
+fn signed_elsewhere(alloc: Global, aad: &[u8]) -> Result<CoseSign, Met> {
+    let built = CoseSignBuilder::new(alloc).try_add_detached_signature(
+        alloc,
+        signer(alloc),
+        b"hi",
+        aad,
+        move |data| echo(alloc, data),
+    )?;
+    Ok(built.build())
+}
+
+/// A message with the signature h'01' of a payload that is carried elsewhere.
+fn built_elsewhere(alloc: Global) -> Result<CoseSign, CoseError> {
+    let bytes = [1].to_vec(alloc)?;
+    let built = CoseSignBuilder::new(alloc).add_detached_signature(
+        alloc,
+        signer(alloc),
+        b"hi",
+        &[],
+        move |_data| bytes,
+    )?;
+    Ok(built.build())
 }
 
 #[test]
 fn a_payload_is_carried_elsewhere(rt: HostRuntime) -> Result<(), Fail> {
     let alloc = rt.alloc();
-    let signature = [1].to_vec(alloc)?;
-    let message = CoseSignBuilder::new(alloc)
-        .try_add_detached_signature(alloc, signer(alloc), b"hi", &[], |data| data.to_vec(alloc))?
-        .build();
-    assert!(rt; message.payload.is_none());
-    let data = message.tbs_detached_data(alloc, b"hi", &[], &signer(alloc))?;
-    assert_eq!(rt;
-        hex::encode(alloc, data.as_slice())?.as_str(),
-        "85695369676e61747572654043a1012640426869"
-    );
-    assert!(rt; is_echo_of(alloc, &message, b"hi") == Ok(()));
-    assert!(rt; is_echo_of(alloc, &message, b"ho") == Err(Fault::Caller(Mismatch)));
-    let again = CoseSignBuilder::new(alloc)
-        .add_detached_signature(alloc, signer(alloc), b"hi", &[], move |_data| signature)?
-        .build();
-    assert_eq!(rt;
-        hex::encode(alloc, again.to_vec(alloc)?.as_slice())?.as_str(),
-        "8440a0f6818343a10126a04101"
-    );
-    Ok(())
+    is_elsewhere(
+        &rt,
+        alloc,
+        signed_elsewhere(alloc, &[]),
+        Some(&signer(alloc)),
+        &[],
+        &(
+            "85695369676e61747572654043a1012640426869",
+            "85695369676e61747572654043a101264040",
+        ),
+    )?;
+    writes_untagged(
+        &rt,
+        alloc,
+        built_elsewhere(alloc),
+        "8440a0f6818343a10126a04101",
+    )
+}
+
+/// A message while it is built, with a signature whose header can't be written.
+fn by_repeated(alloc: Global) -> Result<CoseSignBuilder, CoseError> {
+    CoseSignBuilder::new(alloc).add_signature(with_header(alloc, repeated(alloc)?))
 }
 
 #[test]
 fn a_repeated_label_is_not_signed(rt: HostRuntime) -> Result<(), Fail> {
-    let alloc = rt.alloc();
-    let header = HeaderBuilder::new(alloc)
-        .value(8, Value::Null)?
-        .value(8, Value::Null)?
-        .build();
-    let signature = CoseSignatureBuilder::new(alloc).protected(header).build();
-    let message = CoseSignBuilder::new(alloc)
-        .add_signature(signature)?
-        .build();
-    assert!(rt; message.signatures.len() == 1);
-    let asked = message.verify_signature(alloc, 0, &[], |_signature, _data| Err(Mismatch));
-    assert!(rt; asked == Err(Fault::Cose(CoseError::DuplicateMapKey)));
+    let builder = by_repeated(rt.alloc())?;
+    is_not_signed(&rt, rt.alloc(), builder.build());
     Ok(())
 }
 
+const ROWS: &[Row] = &[
+    ("8440a042686980", "8440a042686980"),
+    (
+        "8440a0f6828340a041008343a10126a04101",
+        "8440a0f6828340a041008343a10126a04101",
+    ),
+    (
+        "8440a0408100",
+        "got non-signature, expected map for COSE_Signature",
+    ),
+    (
+        "8440a040818341a1a040",
+        "got non-signature, expected map for COSE_Signature",
+    ),
+    (
+        "8440a040828340a0408100",
+        "got non-signature, expected map for COSE_Signature",
+    ),
+    ("8440a04040", "got bstr, expected array"),
+    ("8440a001a0", "got map, expected array"),
+    ("8440a00180", "got int, expected bstr or nil"),
+    (
+        "840080008100",
+        "got non-signature, expected map for COSE_Signature",
+    ),
+    ("84008000f6", "got nul, expected array"),
+    ("8400800080", "got int, expected bstr or nil"),
+    ("840080f680", "got array, expected map"),
+    ("8400a0f680", "got int, expected bstr"),
+    ("8340a040", "got array, expected array with 4 items"),
+];
+
 #[test]
 fn messages_are_read_and_refused(rt: HostRuntime) -> Result<(), Fail> {
-    let alloc = rt.alloc();
-    for (text, want) in [
-        ("8440a042686980", "8440a042686980"),
-        (
-            "8440a0f6828340a041008343a10126a04101",
-            "8440a0f6828340a041008343a10126a04101",
-        ),
-        (
-            "8440a0408100",
-            "got non-signature, expected map for COSE_Signature",
-        ),
-        (
-            "8440a040818341a1a040",
-            "got non-signature, expected map for COSE_Signature",
-        ),
-        (
-            "8440a040828340a0408100",
-            "got non-signature, expected map for COSE_Signature",
-        ),
-        ("8440a04040", "got bstr, expected array"),
-        ("8440a001a0", "got map, expected array"),
-        ("8440a00180", "got int, expected bstr or nil"),
-        (
-            "840080008100",
-            "got non-signature, expected map for COSE_Signature",
-        ),
-        ("84008000f6", "got nul, expected array"),
-        ("8400800080", "got int, expected bstr or nil"),
-        ("840080f680", "got array, expected map"),
-        ("8400a0f680", "got int, expected bstr"),
-        ("8340a040", "got array, expected array with 4 items"),
-    ] {
-        let bytes = hex::decode(alloc, text)?;
-        match CoseSign::from_slice(alloc, bytes.as_slice()) {
-            Ok(message) => {
-                let back = message.to_vec(alloc)?;
-                assert_eq!(rt;
-                    hex::encode(alloc, back.as_slice())?.as_str(),
-                    want,
-                    "{text}"
-                );
-            }
-            Err(error) => assert_eq!(rt; format!(in alloc; "{error}")?.as_str(), want, "{text}"),
-        }
-    }
-    let bytes = hex::decode(alloc, "d28440a0f680")?;
-    match CoseSign::from_tagged_slice(alloc, bytes.as_slice()) {
-        Ok(_) => assert!(rt; false),
-        Err(error) => assert!(rt; error == CoseError::UnexpectedItem("tag", "other tag")),
-    }
-    Ok(())
+    are_read::<CoseSign>(&rt, rt.alloc(), ROWS)?;
+    let want = CoseError::UnexpectedItem("tag", "other tag");
+    is_refused_with_tag::<CoseSign>(&rt, rt.alloc(), "d28440a0f680", want)
+}
+
+/// A message while it is built, with the payload "hi" and a signature with no bytes.
+fn by_signer(alloc: Global) -> Result<CoseSignBuilder, CoseError> {
+    let payload = b"hi".to_vec(alloc)?;
+    CoseSignBuilder::new(alloc)
+        .payload(payload)
+        .add_signature(signer(alloc))
+}
+
+/// Whether a message is built with a signer that gives what it is handed, and verified.
+pub(crate) fn sign_is_verified(alloc: Global) -> Result<bool, Met> {
+    let signed = signed(alloc, by_signer(alloc)?, b"aad");
+    is_verified(alloc, signed, 2, 1)
+}
+
+/// As `sign_is_verified`, of a payload that is carried elsewhere.
+pub(crate) fn sign_is_verified_elsewhere(alloc: Global) -> Result<bool, Met> {
+    is_verified_elsewhere(alloc, signed_elsewhere(alloc, b"aad"))
+}
+
+/// Whether a signer that can't fail is asked where something is built, and not where memory is refused.
+pub(crate) fn sign_is_asked(alloc: Global) -> Result<bool, CoseError> {
+    let mut is_told = false;
+    let told = &mut is_told;
+    let answer = CoseSignBuilder::new(alloc).add_created_signature(
+        alloc,
+        signer(alloc),
+        &[],
+        move |_data| tell(alloc, told),
+    );
+    is_asked_for(is_told, answer.err())
+}
+
+/// As `sign_is_asked`, of a payload that is carried elsewhere.
+pub(crate) fn sign_is_asked_elsewhere(alloc: Global) -> Result<bool, CoseError> {
+    let mut is_told = false;
+    let told = &mut is_told;
+    let answer = CoseSignBuilder::new(alloc).add_detached_signature(
+        alloc,
+        signer(alloc),
+        b"hi",
+        &[],
+        move |_data| tell(alloc, told),
+    );
+    is_asked_for(is_told, answer.err())
 }

@@ -1,0 +1,385 @@
+//! What the tests share.
+use ciborium_value::Value;
+use coset_builders::HeaderBuilder;
+use coset_headers::{CoseSignature, Header};
+use coset_labels::{CborSerializable, CoseError, Fault, TaggedCborSerializable, iana};
+use std::alloc::{AllocError, Global};
+use std::fmt::Debug;
+use std::process::Abort;
+use std::test::Fail;
+
+/// What a call meets that asks a closure of the tests.
+pub(crate) type Met = Fault<CoseError>;
+
+/// The error of a verifier that wants another signature or structure.
+pub(crate) const MISMATCH: CoseError = CoseError::UnexpectedItem("a signature", "another one");
+
+/// The error of a message that has no such signature, or a payload of its own where it should be carried elsewhere.
+pub(crate) const UNFIT: CoseError = CoseError::UnexpectedItem("a message", "another one");
+
+/// A verifier that wants a signature that is what it covers.
+pub(crate) fn equal(signature: &[u8], data: &[u8]) -> Result<(), CoseError> {
+    if signature == data {
+        Ok(())
+    } else {
+        Err(MISMATCH)
+    }
+}
+
+/// A verifier that is never content.
+pub(crate) fn never(_signature: &[u8], _data: &[u8]) -> Result<(), CoseError> {
+    Err(MISMATCH)
+}
+
+/// A header with the algorithm ES256.
+pub(crate) fn es256(alloc: Global) -> Header {
+    HeaderBuilder::new(alloc)
+        .algorithm(iana::Algorithm::ES256)
+        .build()
+}
+
+/// A header that can't be written.
+pub(crate) fn repeated(alloc: Global) -> Result<Header, CoseError> {
+    Ok(
+        HeaderBuilder::new(alloc)
+            .value(8, Value::Null)?
+            .value(8, Value::Null)?
+            .build(),
+    )
+}
+
+/// Both are the same.
+pub(crate) fn same<T: PartialEq + Debug>(rt: &impl Abort, got: &T, want: &T, what: &str) {
+    assert_eq!(rt; *got, *want, "{what}");
+}
+
+/// These bytes are the ones in hex.
+pub(crate) fn is_hex(rt: &impl Abort, alloc: Global, bytes: &[u8], want: &str) -> Result<(), Fail> {
+    let text = hex::encode(alloc, bytes)?;
+    same(rt, &text.as_str(), &want, "bytes");
+    Ok(())
+}
+
+/// What was made are these bytes in hex.
+pub(crate) fn gives<E: Debug + Drop>(
+    rt: &impl Abort,
+    alloc: Global,
+    made: Result<Vec<u8>, E>,
+    want: &str,
+) -> Result<(), Fail> {
+    let made = made?;
+    is_hex(rt, alloc, made.as_slice(), want)
+}
+
+/// Bytes in hex, and the bytes that are written of what was read, in hex, or the text of a fault.
+pub(crate) type Row = (&'static str, &'static str);
+
+/// What was written is the row's second text in hex, or there is an error with that text.
+fn is_row(
+    rt: &impl Abort,
+    alloc: Global,
+    written: Result<Vec<u8>, CoseError>,
+    row: &Row,
+) -> Result<(), Fail> {
+    let text = match written {
+        Ok(bytes) => hex::encode(alloc, bytes.as_slice())?,
+        Err(error) => format!(in alloc; "{error}")?,
+    };
+    same(rt, &text.as_str(), &row.1, row.0);
+    Ok(())
+}
+
+/// What is written of the message that these bytes are. A message that was read can be written.
+fn written_back<T: CborSerializable>(
+    rt: &impl Abort,
+    alloc: Global,
+    bytes: &[u8],
+) -> Result<Vec<u8>, CoseError> {
+    let written = T::from_slice(alloc, bytes)?.to_vec(alloc);
+    assert!(rt; written.is_ok());
+    written
+}
+
+/// Each row's bytes are read and written as its second text, or refused with it.
+pub(crate) fn are_read<T: CborSerializable>(
+    rt: &impl Abort,
+    alloc: Global,
+    rows: &[Row],
+) -> Result<(), Fail> {
+    for row in rows {
+        let bytes = hex::decode(alloc, row.0)?;
+        let written = written_back::<T>(rt, alloc, bytes.as_slice());
+        is_row(rt, alloc, written, row)?;
+    }
+    Ok(())
+}
+
+/// As `written_back`, with a tag.
+fn tagged_back<T: TaggedCborSerializable>(
+    rt: &impl Abort,
+    alloc: Global,
+    bytes: &[u8],
+) -> Result<Vec<u8>, CoseError> {
+    let written = T::from_tagged_slice(alloc, bytes)?.to_tagged_vec(alloc);
+    assert!(rt; written.is_ok());
+    written
+}
+
+/// As `are_read`, with a tag.
+pub(crate) fn are_read_with_tag<T: TaggedCborSerializable>(
+    rt: &impl Abort,
+    alloc: Global,
+    rows: &[Row],
+) -> Result<(), Fail> {
+    for row in rows {
+        let bytes = hex::decode(alloc, row.0)?;
+        let written = tagged_back::<T>(rt, alloc, bytes.as_slice());
+        is_row(rt, alloc, written, row)?;
+    }
+    Ok(())
+}
+
+/// A signer that gives what it is handed.
+pub(crate) fn echo(alloc: Global, data: &[u8]) -> Result<Vec<u8>, CoseError> {
+    Ok(data.to_vec(alloc)?)
+}
+
+/// A signer that gives nothing, and tells that it was asked.
+pub(crate) fn tell(alloc: Global, told: &mut bool) -> Vec<u8> {
+    *told = true;
+    Vec::new(alloc)
+}
+
+/// These bytes in hex with a tag are refused with this error.
+pub(crate) fn is_refused_with_tag<T: TaggedCborSerializable>(
+    rt: &impl Abort,
+    alloc: Global,
+    text: &str,
+    want: CoseError,
+) -> Result<(), Fail> {
+    let bytes = hex::decode(alloc, text)?;
+    let error = T::from_tagged_slice(alloc, bytes.as_slice()).err();
+    same(rt, &error, &Some(want), text);
+    Ok(())
+}
+
+/// A signed message, as the tests see it. Where it has one signature, that is the one at 0.
+pub(crate) trait Message: CborSerializable + TaggedCborSerializable + PartialEq + Debug {
+    /// A copy.
+    fn copied(&self, alloc: Global) -> Result<Self, AllocError>;
+
+    /// How many signatures there are.
+    fn count(&self) -> usize;
+
+    /// The signature there.
+    fn signature(&self, which: usize) -> &[u8];
+
+    /// The signer there, where a message has several.
+    fn signer(&self, which: usize) -> Option<&CoseSignature>;
+
+    /// Whether the message carries no payload.
+    fn is_detached(&self) -> bool;
+
+    /// What the signature of this signer covers.
+    fn covered(
+        &self,
+        alloc: Global,
+        signer: Option<&CoseSignature>,
+        aad: &[u8],
+    ) -> Result<Vec<u8>, CoseError>;
+
+    /// As `covered`, of a payload that is carried elsewhere.
+    fn covered_elsewhere(
+        &self,
+        alloc: Global,
+        signer: Option<&CoseSignature>,
+        payload: &[u8],
+        aad: &[u8],
+    ) -> Result<Vec<u8>, CoseError>;
+
+    /// What comes of the verifier `equal` for the signature there.
+    fn verified(&self, alloc: Global, which: usize, aad: &[u8]) -> Result<(), Met>;
+
+    /// As `verified`, of a payload that is carried elsewhere.
+    fn verified_elsewhere(
+        &self,
+        alloc: Global,
+        which: usize,
+        payload: &[u8],
+        aad: &[u8],
+    ) -> Result<(), Met>;
+
+    /// What comes of the verifier `never` for the first signature.
+    fn refused(&self, alloc: Global) -> Result<(), Met>;
+}
+
+/// A copy of it is the same, and is written as these bytes in hex.
+fn is_copied<T: Message>(
+    rt: &impl Abort,
+    alloc: Global,
+    message: &T,
+    want: &str,
+) -> Result<(), Fail> {
+    let copy = message.copied(alloc)?;
+    same(rt, &copy, message, "copy");
+    gives(rt, alloc, copy.to_vec(alloc), want)
+}
+
+/// What was built is written as the first bytes in hex, and with a tag as the second.
+pub(crate) fn writes<T: Message, E: Debug + Drop>(
+    rt: &impl Abort,
+    alloc: Global,
+    built: Result<T, E>,
+    row: &Row,
+) -> Result<(), Fail> {
+    let message = built?;
+    is_copied(rt, alloc, &message, row.0)?;
+    gives(rt, alloc, message.to_tagged_vec(alloc), row.1)
+}
+
+/// What was built is written as these bytes in hex.
+pub(crate) fn writes_untagged<T: Message>(
+    rt: &impl Abort,
+    alloc: Global,
+    built: Result<T, CoseError>,
+    want: &str,
+) -> Result<(), Fail> {
+    let message = built?;
+    gives(rt, alloc, message.to_vec(alloc), want)
+}
+
+/// What was built, when it was written and read.
+pub(crate) fn read_again<T: Message>(alloc: Global, built: Result<T, Met>) -> Result<T, Met> {
+    let written = built?.to_vec(alloc)?;
+    Ok(T::from_slice(alloc, written.as_slice())?)
+}
+
+/// A message with one signature, which covers a header that can't be written.
+pub(crate) fn is_not_signed<T: Message>(rt: &impl Abort, alloc: Global, message: T) {
+    same(rt, &message.count(), &1, "signatures");
+    let want = Err(Fault::Cose(CoseError::DuplicateMapKey));
+    same(rt, &message.refused(alloc), &want, "verified");
+    let covered = message.covered(alloc, message.signer(0), &[]);
+    same(rt, &covered, &Err(CoseError::DuplicateMapKey), "covered");
+}
+
+/// The verifier `equal` is content with the signature there, or isn't.
+pub(crate) fn verifies<T: Message>(
+    rt: &impl Abort,
+    alloc: Global,
+    message: &T,
+    which: usize,
+    aad: &[u8],
+    want: &Result<(), Met>,
+) {
+    same(rt, &message.verified(alloc, which, aad), want, "verified");
+}
+
+/// The message has no payload, and its one signature is what it covers for "hi", which is these bytes in hex also for this signer.
+fn covers_elsewhere<T: Message>(
+    rt: &impl Abort,
+    alloc: Global,
+    message: &T,
+    signer: Option<&CoseSignature>,
+    aad: &[u8],
+    want: &str,
+) -> Result<(), Fail> {
+    same(rt, &message.is_detached(), &true, "no payload");
+    is_hex(rt, alloc, message.signature(0), want)?;
+    let covered = message.covered_elsewhere(alloc, signer, b"hi", aad);
+    gives(rt, alloc, covered, want)?;
+    let is_covered = is_covered_elsewhere(alloc, message, b"hi", aad);
+    same(rt, &is_covered, &Ok(true), "what is covered");
+    Ok(())
+}
+
+/// What was built has no payload, and one signature, which is what it covers for "hi", in hex the row's first, and nothing else. The
+/// row's second is what is covered with no payload and no external data.
+pub(crate) fn is_elsewhere<T: Message>(
+    rt: &impl Abort,
+    alloc: Global,
+    built: Result<T, Met>,
+    signer: Option<&CoseSignature>,
+    aad: &[u8],
+    row: &Row,
+) -> Result<(), Fail> {
+    let message = built?;
+    covers_elsewhere(rt, alloc, &message, signer, aad, row.0)?;
+    let verified = message.verified_elsewhere(alloc, 0, b"hi", aad);
+    same(rt, &verified, &Ok(()), "the payload");
+    let verified = message.verified_elsewhere(alloc, 0, b"ho", aad);
+    let mismatch = Err(Fault::Caller(MISMATCH));
+    same(rt, &verified, &mismatch, "another payload");
+    gives(rt, alloc, message.covered(alloc, signer, &[]), row.1)
+}
+
+/// Whether the signature there is what it covers.
+fn is_covered<T: Message>(
+    alloc: Global,
+    message: &T,
+    which: usize,
+    aad: &[u8],
+) -> Result<bool, CoseError> {
+    let covered = message.covered(alloc, message.signer(which), aad)?;
+    Ok(covered.as_slice() == message.signature(which))
+}
+
+/// Whether the signature at 0 is what it covers, of a payload that is carried elsewhere.
+fn is_covered_elsewhere<T: Message>(
+    alloc: Global,
+    message: &T,
+    payload: &[u8],
+    aad: &[u8],
+) -> Result<bool, CoseError> {
+    let covered = message.covered_elsewhere(alloc, message.signer(0), payload, aad)?;
+    Ok(covered.as_slice() == message.signature(0))
+}
+
+/// What is written with a tag of what was written without one, read, made a value, and read again.
+fn tagged_again<T: Message>(alloc: Global, message: T) -> Result<Vec<u8>, CoseError> {
+    let bytes = message.to_vec(alloc)?;
+    let value = T::from_slice(alloc, bytes.as_slice())?.to_cbor_value(alloc)?;
+    T::from_cbor_value(alloc, value)?.to_tagged_vec(alloc)
+}
+
+/// Whether these bytes are read, copied, and written back in several ways.
+pub(crate) fn is_written_back<T: Message>(alloc: Global, bytes: &[u8]) -> Result<bool, CoseError> {
+    let message = T::from_tagged_slice(alloc, bytes)?;
+    let copy = message.copied(alloc)?;
+    let is_same = copy == message;
+    let tagged = tagged_again(alloc, copy)?;
+    Ok(is_same && tagged.as_slice() == bytes)
+}
+
+/// Whether a message with so many signatures is verified, of which the one there is what it covers.
+pub(crate) fn is_verified<T: Message>(
+    alloc: Global,
+    signed: Result<T, Met>,
+    count: usize,
+    which: usize,
+) -> Result<bool, Met> {
+    let message = signed?;
+    message.verified(alloc, which, b"aad")?;
+    let is_so = is_covered(alloc, &message, which, b"aad")?;
+    Ok(is_so && message.count() == count)
+}
+
+/// Whether a message with one signature is verified, which is what it covers, of a payload that is carried elsewhere.
+pub(crate) fn is_verified_elsewhere<T: Message>(
+    alloc: Global,
+    signed: Result<T, Met>,
+) -> Result<bool, Met> {
+    let message = signed?;
+    message.verified_elsewhere(alloc, 0, b"hi", b"aad")?;
+    let is_so = is_covered_elsewhere(alloc, &message, b"hi", b"aad")?;
+    Ok(is_so && message.is_detached())
+}
+
+/// Whether a signer was asked where something was built, and not where memory was refused.
+pub(crate) fn is_asked_for(is_asked: bool, error: Option<CoseError>) -> Result<bool, CoseError> {
+    match error {
+        None => Ok(is_asked),
+        Some(_) if is_asked => Ok(false),
+        Some(error) => Err(error),
+    }
+}
