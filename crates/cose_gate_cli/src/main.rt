@@ -3,7 +3,7 @@
 #![tactic(auto)]
 
 use ciborium_ll::Io;
-use cose_run::{run, words};
+use cose_run::{Blocks, run, words};
 use std::io::{BufReader, BufWriter};
 use std::process::ExitCode;
 use std::{env, fs, io};
@@ -66,7 +66,7 @@ fn start(rt: &HostRuntime) -> Result<u8, NotRun> {
         rt.alloc(),
         keys.as_deref(),
         aad,
-        &mut Io::new(input),
+        &mut Blocks::new(input),
         &mut Io::new(output),
         &mut Io::new(lines),
     ))

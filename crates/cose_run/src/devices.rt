@@ -6,7 +6,7 @@ use ciborium_ll::{Read, Write};
 
 /// Why bytes were not read.
 #[derive(Debug, Clone, Copy, PartialEq, Eq)]
-pub(crate) enum InputFault {
+pub enum InputFault {
     /// They have ended.
     End,
     /// The device failed.
@@ -30,7 +30,7 @@ pub(crate) struct Output<'a, W> {
 }
 
 /// The small fault.
-fn small(ended: bool) -> InputFault
+pub(crate) fn small(ended: bool) -> InputFault
     ensures { is_end result ≡ ended }
 {
     if ended {

@@ -4,10 +4,13 @@
 
 mod arguments;
 mod beginning;
+mod blocks;
 mod devices;
 mod lines;
 mod program;
 
 pub use crate::arguments::words;
+pub use crate::blocks::Blocks;
+pub use crate::devices::InputFault;
 pub use crate::program::run;
 pub use cose_judge_hmac as judge;

@@ -1,7 +1,7 @@
 -- The fields that the entries of a header that are read so far have given.
-use Rattle.std.specs.Prelude.{◌≡◌, ℕ, pos, List, [], ◌∷◌, ◌++◌, map, Bool, true, false, false, Some, option_map}
+use Rattle.std.specs.Prelude.{◌≡◌, ℕ, pos, List, [], ◌∷◌, ◌++◌, map, Bool, true, false, ◌||◌, Option, None, Some, option_map}
 use Rattle.std.specs.BTreeSet.{contains}
-use Rattle.std.specs.Ordering.{on}
+use Rattle.std.specs.Ordering.{on, is_eq}
 use Rattle.cose_iana.specs.Algorithms.{algorithm_number}
 use Rattle.cose_iana.specs.Formats.{coap_content_formats}
 use Rattle.cose_iana.specs.Headers.{header_parameters}
@@ -18,8 +18,19 @@ use Rattle.coset_headers.specs.View.{entry_view, signatures_view}
 use Rattle.coset_headers.specs.declared.parts.Parts.{Parts}
 use Rattle.coset_headers.specs.declared.seen.Seen.{Seen}
 
+abbrev pub holds : Option Label → Label → Bool
+holds None l = false
+holds (Some m) l = is_eq (label_cmp (label_view m) (label_view l))
+
+abbrev pub in_tree : Seen → Label → Bool
+in_tree s l = contains (on label_view label_cmp) s.labels l
+
 abbrev pub has_seen : Seen → Label → Bool
-has_seen s l = contains (on label_view label_cmp) s.labels l
+has_seen s l = holds s.first l || (holds s.second l || in_tree s l)
+
+-- the label is seen now, and any other is as before
+abbrev pub Grows : Seen → Seen → Label → Type 0
+Grows old new k = (q : Label) → has_seen new q ≡ (holds (Some k) q || has_seen old q)
 
 -- the labels of these entries, and no others, were seen
 pub record Sees (s : Seen) (es : List (LabelFields × Tree)) : Type 0 where

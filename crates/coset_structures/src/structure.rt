@@ -1,5 +1,6 @@
 //! What signatures, tags and encryptions cover.
 ghost use Rattle.std.specs.Prelude.{◌≡◌, ◌++◌, Some, MatchResult, OnOk, option_map};
+ghost use Rattle.std.specs.Cow.{cow_slice_items};
 ghost use Rattle.ciborium_ll.specs.Title.{title_of};
 ghost use Rattle.ciborium_ll.specs.Views.{memory_of};
 ghost use Rattle.ciborium_value.specs.Tree as spec;
@@ -16,6 +17,7 @@ use ciborium_ll::{Encoder, Header as Head, Mem, Write};
 use coset_headers::{ProtectedHeader, show_protected};
 use coset_labels::CoseError;
 use std::alloc::{AllocError, Global};
+use std::borrow::CowSlice;
 
 /// The bytes that a signature covers, the Sig_structure (RFC 9052, section 4.4): the context, the protected header of the body,
 /// that of the signer where there is a signer, the external data and the payload. The payload is copied once, into the result.
@@ -78,26 +80,30 @@ pub fn enc_structure_data(
     encrypted(alloc, context.text(), &body, aad)
 }
 
-/// A copy of the bytes that are shown for a protected header: those that were received, where it was.
-fn show(alloc: Global, protected: &ProtectedHeader) -> Result<Vec<u8>, CoseError>
-    ensures { MatchResult result (λ b. shown (protected_view protected.now) ≡ Some b.items)
+/// The bytes that are shown for a protected header: those that were received, where it was.
+fn show<'a>(
+    alloc: Global,
+    protected: &'a ProtectedHeader,
+) -> Result<CowSlice<'a, u8, Global>, CoseError>
+    ensures { MatchResult result (λ b. shown (protected_view protected.now) ≡ Some (cow_slice_items b))
         (λ e. CantWrite (shown (protected_view protected.now)) e) }
 {
     match &protected.original_data {
-        Some(bytes) => Ok(bytes.to_vec(alloc)?),
+        Some(bytes) => Ok(CowSlice::Borrowed(bytes)),
         None => {
             let copy = protected.clone(alloc)?;
-            show_protected(alloc, copy)
+            let made = show_protected(alloc, copy)?;
+            Ok(CowSlice::Owned(made))
         }
     }
 }
 
-fn show_signer(
+fn show_signer<'a>(
     alloc: Global,
-    signer: Option<&ProtectedHeader>,
-) -> Result<Option<Vec<u8>>, CoseError>
+    signer: Option<&'a ProtectedHeader>,
+) -> Result<Option<CowSlice<'a, u8, Global>>, CoseError>
     ensures { MatchResult result (λ o. shown_signer (option_map (λ p. protected_view p.now) signer.entry)
-        ≡ Some (option_map (λ b. b.items) o))
+        ≡ Some (option_map cow_slice_items o))
         (λ e. CantWrite (shown_signer (option_map (λ p. protected_view p.now) signer.entry)) e) }
 {
     match signer {
@@ -110,7 +116,13 @@ fn show_signer(
 }
 
 /// How long a structure is at most: its parts, with at most nine bytes in front of each and of the whole.
-fn room(context: &str, body: &[u8], signer: &Option<Vec<u8>>, aad: &[u8], payload: &[u8]) -> usize {
+fn room(
+    context: &str,
+    body: &[u8],
+    signer: &Option<CowSlice<u8, Global>>,
+    aad: &[u8],
+    payload: &[u8],
+) -> usize {
     let signer = match signer {
         Some(signer) => signer.len(),
         None => 0,
@@ -127,11 +139,11 @@ fn covered(
     alloc: Global,
     context: &str,
     body: &[u8],
-    signer: &Option<Vec<u8>>,
+    signer: &Option<CowSlice<u8, Global>>,
     aad: &[u8],
     payload: &[u8],
 ) -> Result<Vec<u8>, CoseError>
-    ensures { MatchResult result (λ v. v.items ≡ structure context.now body.now (option_map (λ b. b.items) signer.now) aad.now payload.now)
+    ensures { MatchResult result (λ v. v.items ≡ structure context.now body.now (option_map cow_slice_items signer.now) aad.now payload.now)
         (λ e. e ≡ Memory) }
 {
     let mut out = Mem::new(Vec::with_capacity(alloc, room(context, body, signer, aad, payload))?);
@@ -145,7 +157,7 @@ fn covered(
             push_head(&mut out, Head::Array(Some(5)))?;
             push_text(&mut out, context)?;
             push_bytes(&mut out, body)?;
-            push_bytes(&mut out, signer.as_slice())?;
+            push_bytes(&mut out, signer)?;
         }
     }
     push_bytes(&mut out, aad)?;
