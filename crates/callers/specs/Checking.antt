@@ -33,3 +33,10 @@ pub record IsFedInFew (room : ℕ) (lengths b : List ℕ) : Type 0 where
 abbrev pub EndsBy : Option (List ℕ × Option (List ℕ)) → Option (List ℕ) → Devices → Devices → ℕ → Type 0
 EndsBy None keys old new status = (status ≡ 2) × (new ≡ old)
 EndsBy (Some w) keys old new status = Ends says_yes keys w.1 old new status
+
+-- the program ended so over these bytes, where they are known, with these keys and no external data; its reader had not failed before
+pub record EndsOver (left : Option (List ℕ)) (keys : List ℕ) (written written' : Option (List ℕ)) (failures failures' status : ℕ) : Type 0 where
+  pub new : Devices
+  pub ends : Ends says_yes (Some keys) None (record { left = left; written = written; read_failures = 0; write_failures = failures }) new status
+  pub written_is : new.written ≡ written'
+  pub failures_is : new.write_failures ≡ failures'

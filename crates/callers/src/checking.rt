@@ -2,17 +2,20 @@
 //! the key set.
 ghost use Rattle.std.specs.Prelude.{◌<◌, ℕ, List, IfOk, length, map, option_copied, string_bytes};
 ghost use Rattle.std.specs.Io.KnownBytes.{Consumes};
+ghost use Rattle.std.specs.Io.Buffered.{reader_remaining};
 ghost use Rattle.coset.specs.KeyView.{key_set_view};
 ghost use Rattle.cose_gate.specs.HmacJudges.{says_yes};
 ghost use Rattle.cose_gate.specs.Views.{left_of};
 ghost use Rattle.cose_gate.specs.Words as spec;
-ghost use Rattle.callers.specs.Checking.{IsAnswered, IsFedInFew, EndsBy};
+ghost use Rattle.callers.specs.Checking.{IsAnswered, IsFedInFew, EndsBy, EndsOver};
 
 use cose_gate::laws::judged_can_be_written;
 use cose_gate::stream_laws::pieces_fit;
-use cose_gate::{Decoder, HmacJudge, Judge, Read, StreamFault, Write, run, stream_check, words};
+use cose_gate::{Blocks, Decoder, HmacJudge, Judge, Read, StreamFault, Write, run, stream_check, words};
 use coset::CoseKeySet;
 use std::alloc::Global;
+use std::io;
+use std::io::BufReader;
 
 /// Whether the message in front is a COSE_Mac0 whose tag is good under the keys. Its payload passes through the buffer, and the next message
 /// is in front then.
@@ -73,6 +76,20 @@ pub fn program<R: Read, W: Write, E: Write>(
         Some((_, aad)) => run(alloc, keys, aad, input, out, err),
         None => 2,
     }
+}
+
+/// The program over a reader of std that is read in blocks, with these keys and no external data.
+pub fn program_in_blocks<R: io::Read, W: Write, E: Write>(
+    alloc: Global,
+    keys: &[u8],
+    input: BufReader<R>,
+    out: &mut W,
+    err: &mut E,
+) -> u8
+    ensures { EndsOver (reader_remaining R.remaining input) keys.now (W.written out.old) (W.written out.new) (W.failed out.old) (W.failed out.new) result }
+{
+    let mut blocks = Blocks::new(input);
+    run(alloc, Some(keys), None, &mut blocks, out, err)
 }
 
 #[cfg(test)]

@@ -69,6 +69,7 @@ pub use Rattle.cose_run.specs.HmacJudges
 pub use Rattle.cose_run.specs.HmacKeys
 pub use Rattle.cose_run.specs.HmacMessages
 pub use Rattle.cose_run.specs.HmacSecrets
+pub use Rattle.cose_run.specs.InBlocks
 pub use Rattle.cose_run.specs.Program
 pub use Rattle.cose_run.specs.Words
 pub use Rattle.cose_stream.specs.Stated

@@ -22,14 +22,14 @@ fn first_that_fits<'a>(keys: &'a [CoseKey], id: &[u8]) -> Option<&'a CoseKey>
     keys.iter().find(|key| fits(key, id))
 }
 
-/// Whether a key serves to verify tags by HMAC with SHA-256 and has this id, which may be empty: it is symmetric and has a secret, it is
+/// Whether a key has this id, which may be empty, and serves to verify tags by HMAC with SHA-256: it is symmetric and has a secret, it is
 /// for this algorithm or for any, and to verify or for any operation (RFC 9052, section 7.1).
 pub fn fits(key: &CoseKey, id: &[u8]) -> bool
     ensures { result ≡ spec.fits id.now (key_view key.now) }
 {
-    is_symmetric(&key.kty)
+    key.key_id.as_slice() == id
+        && is_symmetric(&key.kty)
         && has_secret(key)
-        && key.key_id.as_slice() == id
         && allows_hmac(&key.alg)
         && allows_verify(&key.key_ops)
 }

@@ -1,2 +1,4 @@
 pub mod Begins
+pub mod Held
+pub mod Moved
 pub mod Runs

@@ -1,7 +1,7 @@
 pub mod Beginning
-mod Faults
+pub mod Faults
+pub mod InBlocks
 pub mod Program
-pub mod Views
 pub mod Words
 pub use Rattle.cose_judge_hmac.specs.Judge as HmacJudges
 pub use Rattle.cose_judge_hmac.specs.Keys as HmacKeys

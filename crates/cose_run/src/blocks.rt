@@ -2,12 +2,12 @@
 ghost use Rattle.std.specs.Prelude.{◌≡◌, MatchBool, OnOk, IfErr, IsTrue, length};
 ghost use Rattle.std.specs.Io.KnownBytes.{Consumes, Keeps};
 ghost use Rattle.ciborium_ll.specs.Device.{IsShort};
-ghost use Rattle.cose_run.specs.Faults.{is_end};
-ghost use Rattle.cose_run.specs.Views.{blocks_reader, blocks_failures, left_of_blocks};
+ghost use Rattle.cose_run.specs.Faults.{is_end, moved_of};
+ghost use Rattle.cose_run.specs.InBlocks.{blocks_reader, blocks_failures, left_of_blocks};
 
-use crate::devices::{InputFault, small};
+use crate::devices::InputFault;
+use ciborium_ll::Read;
 use ciborium_ll::count::Count;
-use ciborium_ll::{Io, Read};
 use std::io;
 use std::io::BufReader;
 
@@ -55,11 +55,25 @@ impl<R: io::Read> Blocks<R> {
             → Keeps (left_of_blocks R.remaining self.old) (left_of_blocks R.remaining self.new)) }
         ensures failed { self.new.failed ≡ self.old.failed }
     {
-        let mut rest = Io::new(&mut self.reader);
-        match rest.read_exact(data) {
-            Ok(()) => Ok(()),
-            Err(error) => Err(small(Io::<&mut BufReader<R>>::is_end(&error))),
+        let mut at = 0;
+        while at < data.len() {
+            match moved(io::Read::read(&mut self.reader, &mut data[at..])) {
+                Ok(n) => at += n,
+                Err(fault) => return Err(fault),
+            }
         }
+        Ok(())
+    }
+}
+
+/// What one answer of std's reader means: it moved so many bytes, none at all, or it failed.
+fn moved(answer: io::Result<usize>) -> Result<usize, InputFault>
+    ensures { result ≡ moved_of answer }
+{
+    match answer {
+        Ok(0) => Err(InputFault::End),
+        Ok(n) => Ok(n),
+        Err(_) => Err(InputFault::Failed),
     }
 }
 

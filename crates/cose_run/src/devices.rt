@@ -30,7 +30,7 @@ pub(crate) struct Output<'a, W> {
 }
 
 /// The small fault.
-pub(crate) fn small(ended: bool) -> InputFault
+fn small(ended: bool) -> InputFault
     ensures { is_end result ≡ ended }
 {
     if ended {

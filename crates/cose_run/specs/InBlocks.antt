@@ -2,7 +2,7 @@
 use Rattle.std.specs.Prelude.{ℕ, List, Option}
 use Rattle.std.specs.Io.Buffered.{reader_remaining}
 use Rattle.std.specs.declared.io.buffered.BufReader.{BufReader}
-use Rattle.std_heap.specs.declared.Global.{Global}
+use Rattle.std.specs.Global.{Global}
 use Rattle.cose_run.specs.declared.blocks.Blocks.{Blocks}
 
 -- the reader of std, with the block that it holds

@@ -1,0 +1,90 @@
+//! A reader of std in blocks: what is read is the same as without blocks, whatever a block holds.
+use ciborium_ll::Read;
+use cose_run::{Blocks, InputFault};
+use std::alloc::Global;
+use std::io;
+use std::io::BufReader;
+use std::test::Fail;
+
+/// Gives its bytes one by one, and then fails.
+#[derive(Drop)]
+struct Breaks<'a> {
+    bytes: &'a [u8],
+}
+
+impl<'a> io::Read for Breaks<'a> {
+    fn read(&mut self, buf: &mut [u8]) -> io::Result<usize> {
+        let all: &[u8] = self.bytes;
+        let Some((first, rest)) = all.split_first() else {
+            return Err(io::Error::from(io::ErrorKind::Other));
+        };
+        let Some(place) = buf.first_mut() else {
+            return Ok(0);
+        };
+        *place = *first;
+        self.bytes = rest;
+        Ok(1)
+    }
+}
+
+/// How many bytes each read asks for, and what it gives: its last byte, or its fault.
+type Row = (usize, Result<u8, InputFault>);
+
+/// Over the bytes 1 to 9 in blocks of 4: inside a block, over its end, a whole one, more than are left, and at the end.
+const ENDS: [Row; 6] = [
+    (1, Ok(1)),
+    (3, Ok(4)),
+    (3, Ok(7)),
+    (0, Ok(0)),
+    (4, Err(InputFault::End)),
+    (1, Err(InputFault::End)),
+];
+
+/// Over the bytes 1 to 3 and a failure.
+const FAILS: [Row; 4] = [
+    (2, Ok(2)),
+    (1, Ok(3)),
+    (1, Err(InputFault::Failed)),
+    (2, Err(InputFault::Failed)),
+];
+
+/// What a read of so many bytes gives; 0 is the last byte of none.
+fn last_read<R: io::Read>(blocks: &mut Blocks<R>, len: usize) -> Result<u8, InputFault> {
+    let mut data = [0; 4];
+    let part = &mut data[..len.min(4)];
+    blocks.read_exact(part)?;
+    match part.last() {
+        Some(byte) => Ok(*byte),
+        None => Ok(0),
+    }
+}
+
+/// Whether each read of the rows gives what stands there.
+fn all_so<R: io::Read>(alloc: Global, reader: R, rows: &[Row]) -> Result<bool, Fail>
+where
+    R: Drop,
+{
+    let mut blocks = Blocks::new(BufReader::with_capacity(alloc, 4, reader)?);
+    for row in rows {
+        if last_read(&mut blocks, row.0) != row.1 {
+            return Ok(false);
+        }
+    }
+    Ok(true)
+}
+
+#[test]
+fn reads_over_blocks_and_ends(rt: HostRuntime) -> Result<(), Fail> {
+    let bytes: &[u8] = &[1, 2, 3, 4, 5, 6, 7, 8, 9];
+    assert!(rt; all_so(rt.alloc(), bytes, &ENDS)?);
+    Ok(())
+}
+
+#[test]
+fn reads_of_a_device_that_fails(rt: HostRuntime) -> Result<(), Fail> {
+    let reader = Breaks {
+        bytes: &[1, 2, 3],
+    };
+    assert!(rt; all_so(rt.alloc(), reader, &FAILS)?);
+    Ok(())
+}
