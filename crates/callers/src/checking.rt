@@ -11,7 +11,9 @@ ghost use Rattle.callers.specs.Checking.{IsAnswered, IsFedInFew, EndsBy, EndsOve
 
 use cose_gate::laws::judged_can_be_written;
 use cose_gate::stream_laws::pieces_fit;
-use cose_gate::{Blocks, Decoder, HmacJudge, Judge, Read, StreamFault, Write, run, stream_check, words};
+use cose_gate::{
+    Blocks, Decoder, HmacJudge, Judge, Read, StreamFault, Write, run, stream_check, words,
+};
 use coset::CoseKeySet;
 use std::alloc::Global;
 use std::io;
@@ -94,9 +96,10 @@ pub fn program_in_blocks<R: io::Read, W: Write, E: Write>(
 
 #[cfg(test)]
 mod tests {
-    use super::{fed, is_tagged, program};
+    use super::{fed, is_tagged, program, program_in_blocks};
     use cose_gate::{Decoder, HmacJudge, Mem};
     use coset::{CborSerializable, CoseKeySet};
+    use std::io::BufReader;
     use std::test::Fail;
 
     /// 17([h'a10105', {}, 'hi', TAG]), with the tag over the external data 01 under the secret 00.
@@ -129,6 +132,20 @@ mod tests {
         let status = program(alloc, &all, Some(&KEYS), &mut input, &mut out, &mut err);
         assert_eq!(rt; status, 0);
         assert_eq!(rt; out.as_written(), TAGGED.as_slice());
+        Ok(())
+    }
+
+    #[test]
+    fn a_program_reads_in_blocks(rt: HostRuntime) -> Result<(), Fail> {
+        let alloc = rt.alloc();
+        let input = BufReader::with_capacity(alloc, 16, TAGGED.as_slice())?;
+        let mut out = Mem::new(Vec::new(alloc));
+        let mut err = Mem::new(Vec::new(alloc));
+        assert_eq!(rt;
+            program_in_blocks(alloc, &KEYS, input, &mut out, &mut err),
+            1
+        );
+        assert!(rt; out.as_written().is_empty());
         Ok(())
     }
 }
