@@ -1,6 +1,7 @@
 //! The input of the program in blocks: bytes that the block at hand holds are taken from it at once.
-ghost use Rattle.std.specs.Prelude.{◌≡◌, MatchBool, OnOk, IfErr, IsTrue, length};
+ghost use Rattle.std.specs.Prelude.{◌≡◌, ◌<◌, MatchBool, OnOk, IfErr, IsTrue, length};
 ghost use Rattle.std.specs.Io.KnownBytes.{Consumes, Keeps};
+ghost use Rattle.std.specs.Io.Buffered.{reader_buffer};
 ghost use Rattle.ciborium_ll.specs.Device.{IsShort};
 ghost use Rattle.cose_run.specs.Faults.{is_end, moved_of};
 ghost use Rattle.cose_run.specs.InBlocks.{blocks_reader, blocks_failures, left_of_blocks};
@@ -35,7 +36,7 @@ impl<R: io::Read> Blocks<R> {
     fn take_held(&mut self, data: &mut [u8]) -> bool
         ensures held { MatchBool result
             (Consumes (left_of_blocks R.remaining self.old) (left_of_blocks R.remaining self.new) «data».new)
-            ((self.new ≡ self.old) × («data».new ≡ «data».old)) }
+            ((length (reader_buffer self.old.reader) < length «data».old) × (self.new ≡ self.old) × («data».new ≡ «data».old)) }
         ensures failed { self.new.failed ≡ self.old.failed }
     {
         let len = data.len();
