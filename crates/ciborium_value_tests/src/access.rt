@@ -1,7 +1,8 @@
 //! The parts of a value.
+use crate::checks::holds;
 use crate::made::each_variant;
-use ciborium_value::{Kind, Value};
-use std::test::Fail;
+use ciborium_value::Value;
+use std::process::Abort;
 
 /// Which kinds a value has, in the order of the variants.
 fn kinds(value: &Value) -> [bool; 9] {
@@ -18,17 +19,18 @@ fn kinds(value: &Value) -> [bool; 9] {
     ]
 }
 
-#[test]
-fn each_value_has_one_kind(rt: HostRuntime) -> Result<(), Fail> {
-    let alloc = rt.alloc();
-    let value = each_variant(alloc)?;
-    let Some(items) = value.as_array() else {
-        return Err(Fail::from(Kind::WrongType));
-    };
-    for (i, item) in items.iter().enumerate() {
-        for (j, kind) in kinds(item).into_iter().enumerate() {
-            assert_eq!(rt; kind, i == j);
-        }
+/// Of its kinds the value has this one alone.
+fn has_kind(rt: &impl Abort, value: &Value, i: usize) {
+    for (j, kind) in kinds(value).iter().enumerate() {
+        holds(rt, *kind == (i == j), "a kind");
     }
-    Ok(())
+}
+
+#[test]
+fn each_value_has_one_kind(rt: HostRuntime) {
+    let value = each_variant(&rt, rt.alloc());
+    let items = value.as_array().expect(&rt, "an array");
+    for (i, item) in items.iter().enumerate() {
+        has_kind(&rt, item, i);
+    }
 }

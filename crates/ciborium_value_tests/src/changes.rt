@@ -5,9 +5,11 @@ ghost use Rattle.ciborium_value.specs.Tree.{is_bytes, no_trees};
 ghost use Rattle.ciborium_value.specs.Kinds.{is_array};
 ghost use Rattle.ciborium_value.specs.View.{view};
 
-use crate::made::{bytes, each_variant, integer, tag};
-use ciborium_value::{Kind, Value};
-use std::test::Fail;
+use crate::checks::{has_bytes, holds};
+use crate::made::{Leaf, VARIANTS, bytes, copied, each_variant, made, tag};
+use ciborium_value::{Integer, Value};
+use std::alloc::Global;
+use std::process::Abort;
 
 /// What is written through a part stands in the value: an array is emptied, and no other value changes.
 fn empty_array(value: &mut Value)
@@ -30,43 +32,53 @@ fn empty_bytes(value: &mut Value)
 }
 
 #[test]
-fn containers_are_emptied(rt: HostRuntime) -> Result<(), Fail> {
+fn byte_strings_are_emptied(rt: HostRuntime) {
     let alloc = rt.alloc();
-    let mut octets = bytes(alloc, &[1, 2])?;
+    let mut octets = bytes(&rt, alloc, &[1, 2]);
     empty_array(&mut octets);
-    assert_eq!(rt; octets, bytes(alloc, &[1, 2])?);
+    holds(&rt, has_bytes(&octets, &[1, 2]), "no array");
     empty_bytes(&mut octets);
-    assert_eq!(rt; octets, bytes(alloc, &[])?);
-    let mut value = each_variant(alloc)?;
-    empty_array(&mut value);
-    assert_eq!(rt; value, Value::Array(Vec::new(alloc)));
-    Ok(())
+    holds(&rt, has_bytes(&octets, &[]), "no bytes");
 }
 
 #[test]
-fn tags_are_changed(rt: HostRuntime) -> Result<(), Fail> {
+fn arrays_are_emptied(rt: HostRuntime) {
     let alloc = rt.alloc();
-    let mut tagged = tag(alloc, 18, Value::Null)?;
+    let mut value = each_variant(&rt, alloc);
+    empty_array(&mut value);
+    holds(&rt, value == Value::Array(Vec::new(alloc)), "no items");
+}
+
+/// Tag 98 over 5 in place of another tag.
+fn change(tagged: &mut Value) {
     if let Some((number, content)) = tagged.as_tag_mut() {
         *number = 98;
-        *content = integer(5);
+        *content = Value::Integer(Integer::from(5u64));
     }
-    assert_eq!(rt; tagged, tag(alloc, 98, integer(5))?);
-    Ok(())
+}
+
+#[test]
+fn tags_are_changed(rt: HostRuntime) {
+    let alloc = rt.alloc();
+    let mut tagged = tag(&rt, alloc, 18, &Leaf::Null);
+    change(&mut tagged);
+    let want = tag(&rt, alloc, 98, &Leaf::Plus(5));
+    holds(&rt, tagged == want, "another tag");
+}
+
+/// A tag alone shows its parts, and the value stays as it was.
+fn is_unchanged(rt: &impl Abort, alloc: Global, mut item: Value) {
+    let copy = copied(rt, alloc, &item);
+    let is_shown = item.as_tag_mut().is_some();
+    holds(rt, is_shown == copy.is_tag(), "a tag");
+    holds(rt, item == copy, "no change");
 }
 
 /// No clause of `as_tag_mut` says that a value of another kind stays as it was.
 #[test]
-fn no_tag_no_change(rt: HostRuntime) -> Result<(), Fail> {
+fn no_tag_no_change(rt: HostRuntime) {
     let alloc = rt.alloc();
-    let Value::Array(items) = each_variant(alloc)? else {
-        return Err(Fail::from(Kind::WrongType));
-    };
-    for mut item in items {
-        let copy = item.clone(alloc)?;
-        let shown = item.as_tag_mut().is_some();
-        assert_eq!(rt; shown, copy.is_tag());
-        assert_eq!(rt; item, copy);
+    for item in VARIANTS {
+        is_unchanged(&rt, alloc, made(&rt, alloc, item));
     }
-    Ok(())
 }

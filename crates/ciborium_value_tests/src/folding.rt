@@ -1,19 +1,20 @@
 //! Tags over bytes, counted by hand.
-use crate::made::{bytes, integer, tag, text};
+use crate::checks::{has_bytes, holds};
+use crate::made::{Item, Leaf, bytes, made, over};
 use ciborium_value::{Value, bignum, fold_tag};
-use std::test::Fail;
+use std::alloc::Global;
+use std::process::Abort;
 
 /// What a tag over bytes becomes.
-#[derive(Clone, Copy)]
-pub enum Folded<'a> {
+pub enum Folded {
     Integer(i128),
     /// The same tag over these bytes.
-    Tag(&'a [u8]),
+    Tag(&'static [u8]),
     Nothing,
 }
 
 /// Tags over bytes. The numbers are those of RFC 8949, section 3.4.3: tag 2 is n, and tag 3 is -1 - n.
-const FOLDS: [(u64, &[u8], Folded); 18] = [
+const FOLDS: &[(u64, &[u8], Folded)] = &[
     (2, &[], Folded::Integer(0)),
     (3, &[], Folded::Integer(-1)),
     (2, &[0x0a], Folded::Integer(10)),
@@ -43,49 +44,78 @@ const FOLDS: [(u64, &[u8], Folded); 18] = [
 ];
 
 /// The number of a value, where it is an integer.
-pub fn number(value: Option<Value>) -> Option<i128> {
+fn number(value: &Option<Value>) -> Option<i128> {
     match value {
-        Some(Value::Integer(i)) => Some(i128::from(i)),
+        Some(Value::Integer(i)) => Some(i128::from(*i)),
         _ => None,
     }
 }
 
-#[test]
-fn folds_bignums(rt: HostRuntime) -> Result<(), Fail> {
-    let alloc = rt.alloc();
-    for (n, content, want) in FOLDS {
-        let value = fold_tag(alloc, n, bytes(alloc, content)?)?;
-        match want {
-            Folded::Integer(i) => assert_eq!(rt; number(value), Some(i)),
-            Folded::Tag(rest) => {
-                assert_eq!(rt; value, Some(tag(alloc, n, bytes(alloc, rest)?)?))
-            }
-            Folded::Nothing => assert_eq!(rt; value, None),
-        }
+/// Whether the value is this, under this tag where it has one.
+fn is_folded(value: &Option<Value>, tag: u64, want: &Folded) -> bool {
+    match want {
+        Folded::Integer(i) => number(value) == Some(*i),
+        Folded::Tag(rest) => match value {
+            Some(Value::Tag(number, content)) => *number == tag && has_bytes(content, rest),
+            _ => false,
+        },
+        Folded::Nothing => value.is_none(),
     }
-    Ok(())
+}
+
+/// The value is this, under this tag where it has one.
+pub fn comes(rt: &impl Abort, value: Option<Value>, tag: u64, want: &Folded) {
+    holds(rt, is_folded(&value, tag, want), "what comes of a number");
+}
+
+/// What a tag over this value becomes.
+fn what_comes(rt: &impl Abort, alloc: Global, tag: u64, content: Value) -> Option<Value> {
+    fold_tag(alloc, tag, content).expect(rt, "memory")
 }
 
 #[test]
-fn folds_bytes_alone(rt: HostRuntime) -> Result<(), Fail> {
+fn folds_bignums(rt: HostRuntime) {
     let alloc = rt.alloc();
-    let contents = [
-        integer(1),
-        text(alloc, "1")?,
-        tag(alloc, 24, bytes(alloc, &[1])?)?,
-        Value::Null,
-    ];
-    for content in contents {
-        let copy = content.clone(alloc)?;
-        assert_eq!(rt; fold_tag(alloc, 2, copy)?, Some(tag(alloc, 2, content)?));
+    for (tag, content, want) in FOLDS {
+        let value = what_comes(&rt, alloc, *tag, bytes(&rt, alloc, content));
+        comes(&rt, value, *tag, want);
     }
-    Ok(())
 }
+
+/// Values that are no bytes.
+const KEPT: &[Item] = &[
+    Item::Leaf(Leaf::Plus(1)),
+    Item::Leaf(Leaf::Text("1")),
+    Item::Tag(24, Leaf::Bytes(&[1])),
+    Item::Leaf(Leaf::Null),
+];
+
+/// Tag 2 over the value stays.
+fn is_kept(rt: &impl Abort, alloc: Global, content: &Item) {
+    let got = what_comes(rt, alloc, 2, made(rt, alloc, content));
+    let want = over(rt, alloc, 2, made(rt, alloc, content));
+    holds(rt, got == Some(want), "a tag");
+}
+
+#[test]
+fn folds_bytes_alone(rt: HostRuntime) {
+    for content in KEPT {
+        is_kept(&rt, rt.alloc(), content);
+    }
+}
+
+/// Bytes, and their number.
+const NUMBERS: &[(&[u8], Option<u128>)] = &[
+    (&[0, 0, 1, 2], Some(258)),
+    (&[0xff; 16], Some(u128::MAX)),
+    (&[0; 17], None),
+];
 
 #[test]
 fn bytes_have_a_number(rt: HostRuntime) {
-    assert_eq!(rt; bignum::number(&[0, 0, 1, 2]), Some(258));
-    assert_eq!(rt; bignum::number(&[0xff; 16]), Some(u128::MAX));
-    assert_eq!(rt; bignum::number(&[0; 17]), None);
-    assert_eq!(rt; bignum::stripped(&[0, 0, 1, 0]), [1u8, 0].as_slice());
+    for (content, want) in NUMBERS {
+        holds(&rt, bignum::number(content) == *want, "a number");
+    }
+    let rest = bignum::stripped(&[0, 0, 1, 0]);
+    holds(&rt, rest == [1u8, 0].as_slice(), "no zeros");
 }

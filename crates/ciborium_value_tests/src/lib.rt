@@ -7,6 +7,8 @@ mod access;
 #[cfg(test)]
 mod changes;
 #[cfg(test)]
+mod checks;
+#[cfg(test)]
 mod copies;
 #[cfg(test)]
 mod folding;

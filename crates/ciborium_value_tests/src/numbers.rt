@@ -1,11 +1,12 @@
 //! Numbers, texts and bytes as values.
-use crate::folding::{Folded, number};
-use crate::made::{bytes, integer, tag};
+use crate::checks::{has_bytes, holds};
+use crate::folding::{Folded, comes};
 use ciborium_value::Value;
-use std::test::Fail;
+use std::alloc::AllocError;
+use std::process::Abort;
 
 /// Numbers as values (RFC 8949, section 3.4.3): the bounds of integers, and the ends of `i128`.
-const NUMBERS: [(i128, Folded); 7] = [
+const NUMBERS: &[(i128, Folded)] = &[
     (0, Folded::Integer(0)),
     (-1, Folded::Integer(-1)),
     (
@@ -33,41 +34,51 @@ const NUMBERS: [(i128, Folded); 7] = [
     ),
 ];
 
+/// This was made of a number, with this tag where it is no integer.
+fn is_made(rt: &impl Abort, made: Result<Value, AllocError>, tag: u64, want: &Folded) {
+    comes(rt, Some(made.expect(rt, "memory")), tag, want);
+}
+
 #[test]
-fn signed_numbers_become_values(rt: HostRuntime) -> Result<(), Fail> {
-    let alloc = rt.alloc();
+fn signed_numbers_become_values(rt: HostRuntime) {
     for (n, want) in NUMBERS {
-        let value = Value::from_i128(alloc, n)?;
-        match want {
-            Folded::Integer(i) => assert_eq!(rt; number(Some(value)), Some(i)),
-            Folded::Tag(rest) => {
-                let sign = if n < 0 { 3 } else { 2 };
-                assert_eq!(rt; value, tag(alloc, sign, bytes(alloc, rest)?)?)
-            }
-            Folded::Nothing => {}
-        }
+        let sign = if *n < 0 { 3 } else { 2 };
+        is_made(&rt, Value::from_i128(rt.alloc(), *n), sign, want);
     }
-    Ok(())
+}
+
+/// Numbers with no sign as values.
+const UNSIGNED: &[(u128, Folded)] = &[
+    (
+        0xffff_ffff_ffff_ffff,
+        Folded::Integer(0xffff_ffff_ffff_ffff),
+    ),
+    (u128::MAX, Folded::Tag(&[0xff; 16])),
+];
+
+#[test]
+fn unsigned_numbers_become_values(rt: HostRuntime) {
+    for (n, want) in UNSIGNED {
+        is_made(&rt, Value::from_u128(rt.alloc(), *n), 2, want);
+    }
+}
+
+/// A text was made of this.
+fn is_text(rt: &impl Abort, made: Result<Value, AllocError>, want: &str) {
+    let value = made.expect(rt, "memory");
+    holds(rt, value.as_text() == Some(want), want);
 }
 
 #[test]
-fn unsigned_numbers_become_values(rt: HostRuntime) -> Result<(), Fail> {
+fn texts_become_values(rt: HostRuntime) {
     let alloc = rt.alloc();
-    let top = Value::from_u128(alloc, 0xffff_ffff_ffff_ffff)?;
-    assert_eq!(rt; top, integer(u64::MAX));
-    let highest = Value::from_u128(alloc, u128::MAX)?;
-    assert_eq!(rt; highest, tag(alloc, 2, bytes(alloc, &[0xff; 16])?)?);
-    Ok(())
+    is_text(&rt, Value::from_str(alloc, "Zürich"), "Zürich");
+    is_text(&rt, Value::from_char(alloc, '水'), "水");
 }
 
 #[test]
-fn texts_and_bytes_become_values(rt: HostRuntime) -> Result<(), Fail> {
+fn bytes_become_values(rt: HostRuntime) {
     let alloc = rt.alloc();
-    let place = Value::from_str(alloc, "Zürich")?;
-    assert_eq!(rt; place.as_text(), Some("Zürich"));
-    let water = Value::from_char(alloc, '水')?;
-    assert_eq!(rt; water.as_text(), Some("水"));
-    let octets = Value::from_byte_slice(alloc, &[1, 2, 3])?;
-    assert_eq!(rt; octets, bytes(alloc, &[1, 2, 3])?);
-    Ok(())
+    let octets = Value::from_byte_slice(alloc, &[1, 2, 3]).expect(&rt, "memory");
+    holds(&rt, has_bytes(&octets, &[1, 2, 3]), "bytes");
 }

@@ -1,79 +1,102 @@
 //! The texts of errors.
+use crate::checks::{holds, prints, shows};
 use ciborium::{de, ser};
 use ciborium_value::Kind;
 use coset_labels::{CoseError, EndOfFile, Fault};
-use std::test::Fail;
+use std::process::Abort;
+
+/// Errors and their texts.
+const TEXTS: &[(CoseError, &str)] = &[
+    (
+        CoseError::DecodeFailed(de::Error::Io(EndOfFile)),
+        "decode CBOR failure: Io(EndOfFile)",
+    ),
+    (
+        CoseError::DecodeFailed(de::Error::Syntax(7)),
+        "decode CBOR failure: Syntax(7)",
+    ),
+    (
+        CoseError::DecodeFailed(de::Error::Semantic(None, Kind::BigNegative)),
+        "decode CBOR failure: Semantic(BigNegative)",
+    ),
+    (
+        CoseError::DecodeFailed(de::Error::RecursionLimitExceeded),
+        "decode CBOR failure: RecursionLimitExceeded",
+    ),
+    (
+        CoseError::DecodeFailed(de::Error::Memory),
+        "decode CBOR failure: Memory",
+    ),
+    (
+        CoseError::DecodeFailed(de::Error::TooLong),
+        "decode CBOR failure: TooLong",
+    ),
+    (CoseError::DuplicateMapKey, "duplicate map key"),
+    (CoseError::EncodeFailed, "encode CBOR failure"),
+    (CoseError::ExtraneousData, "extraneous data in CBOR input"),
+    (
+        CoseError::OutOfRangeIntegerValue,
+        "out of range integer value",
+    ),
+    (
+        CoseError::UnexpectedItem("map", "int/tstr"),
+        "got map, expected int/tstr",
+    ),
+    (
+        CoseError::UnregisteredIanaValue,
+        "expected recognized IANA value",
+    ),
+    (
+        CoseError::UnregisteredIanaNonPrivateValue,
+        "expected value in IANA or private use range",
+    ),
+    (CoseError::Memory, "out of memory"),
+    (CoseError::TooManyLayers, "too many protected layers"),
+];
 
 #[test]
-fn errors_have_texts(rt: HostRuntime) -> Result<(), Fail> {
-    let texts = [
-        (
-            CoseError::DecodeFailed(de::Error::Io(EndOfFile)),
-            "decode CBOR failure: Io(EndOfFile)",
-        ),
-        (
-            CoseError::DecodeFailed(de::Error::Syntax(7)),
-            "decode CBOR failure: Syntax(7)",
-        ),
-        (
-            CoseError::DecodeFailed(de::Error::Semantic(None, Kind::BigNegative)),
-            "decode CBOR failure: Semantic(BigNegative)",
-        ),
-        (
-            CoseError::DecodeFailed(de::Error::RecursionLimitExceeded),
-            "decode CBOR failure: RecursionLimitExceeded",
-        ),
-        (
-            CoseError::DecodeFailed(de::Error::Memory),
-            "decode CBOR failure: Memory",
-        ),
-        (
-            CoseError::DecodeFailed(de::Error::TooLong),
-            "decode CBOR failure: TooLong",
-        ),
-        (CoseError::DuplicateMapKey, "duplicate map key"),
-        (CoseError::EncodeFailed, "encode CBOR failure"),
-        (CoseError::ExtraneousData, "extraneous data in CBOR input"),
-        (
-            CoseError::OutOfRangeIntegerValue,
-            "out of range integer value",
-        ),
-        (
-            CoseError::UnexpectedItem("map", "int/tstr"),
-            "got map, expected int/tstr",
-        ),
-        (
-            CoseError::UnregisteredIanaValue,
-            "expected recognized IANA value",
-        ),
-        (
-            CoseError::UnregisteredIanaNonPrivateValue,
-            "expected value in IANA or private use range",
-        ),
-        (CoseError::Memory, "out of memory"),
-        (CoseError::TooManyLayers, "too many protected layers"),
-    ];
-    for (error, text) in texts {
-        assert_eq!(rt; format!(in rt.alloc(); "{error}")?.as_str(), text);
-        assert_eq!(rt; format!(in rt.alloc(); "{error:?}")?.as_str(), text);
+fn errors_have_texts(rt: HostRuntime) {
+    let alloc = rt.alloc();
+    for (error, text) in TEXTS {
+        prints(&rt, alloc, *error, text);
+        shows(&rt, alloc, *error, text);
     }
-    Ok(())
+}
+
+/// What became of a fault is this error.
+fn becomes(rt: &impl Abort, got: CoseError, want: CoseError) {
+    holds(rt, got == want, "an error");
+}
+
+/// What comes of a fault in reading.
+fn of_reading(error: de::Error<u8>) -> CoseError {
+    CoseError::from(error)
+}
+
+/// What comes of a fault in writing.
+fn of_writing(error: ser::Error<u8>) -> CoseError {
+    CoseError::from(error)
 }
 
 #[test]
 fn faults_become_errors(rt: HostRuntime) {
-    let end: de::Error<u8> = de::Error::Io(1);
-    assert!(rt; CoseError::from(end) == CoseError::DecodeFailed(de::Error::Io(EndOfFile)));
-    let memory: de::Error<u8> = de::Error::Memory;
-    assert!(rt; CoseError::from(memory) == CoseError::Memory);
-    let device: ser::Error<u8> = ser::Error::Io(1);
-    assert!(rt; CoseError::from(device) == CoseError::EncodeFailed);
-    let refused: ser::Error<u8> = ser::Error::Memory;
-    assert!(rt; CoseError::from(refused) == CoseError::Memory);
-    match u8::try_from(256u32) {
-        Ok(_) => assert!(rt; false, "256 in a byte"),
-        Err(error) => assert!(rt; CoseError::from(error) == CoseError::OutOfRangeIntegerValue),
-    }
+    let end = CoseError::DecodeFailed(de::Error::Io(EndOfFile));
+    becomes(&rt, of_reading(de::Error::Io(1)), end);
+    becomes(&rt, of_reading(de::Error::Memory), CoseError::Memory);
+    becomes(&rt, of_writing(ser::Error::Io(1)), CoseError::EncodeFailed);
+    becomes(&rt, of_writing(ser::Error::Memory), CoseError::Memory);
+}
+
+#[test]
+fn a_number_out_of_range_becomes_an_error(rt: HostRuntime) {
+    let fault = u8::try_from(256u32).err().expect(&rt, "256 in a byte");
+    let want = CoseError::OutOfRangeIntegerValue;
+    becomes(&rt, CoseError::from(fault), want);
+}
+
+#[test]
+fn errors_become_faults(rt: HostRuntime) {
     let fault: Fault<u8> = Fault::from(CoseError::ExtraneousData);
-    assert!(rt; fault == Fault::Cose(CoseError::ExtraneousData));
+    let want = Fault::Cose(CoseError::ExtraneousData);
+    holds(&rt, fault == want, "a fault");
 }
