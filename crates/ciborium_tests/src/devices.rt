@@ -106,13 +106,17 @@ fn long(rt: &impl Abort, alloc: Global) -> Vec<u8> {
     text
 }
 
+/// The value is that byte string.
+fn is_long(rt: &impl Abort, alloc: Global, value: &Value) {
+    let want = bytes(rt, alloc, &[7; 10_000]);
+    same(rt, value, &want, "a byte string");
+}
+
 #[test]
 fn asks_for_small_pieces(rt: HostRuntime) {
     let text = long(&rt, rt.alloc());
     let read = read_in_pieces(&rt, rt.alloc(), text.as_slice(), "a byte string");
-    let value = read.expect(&rt, "a byte string");
-    let want = bytes(&rt, rt.alloc(), &[7; 10_000]);
-    same(&rt, &value, &want, "a byte string");
+    is_long(&rt, rt.alloc(), &read.expect(&rt, "a byte string"));
 }
 
 /// A device that has a part of an item alone ends or fails.
@@ -126,8 +130,9 @@ fn stops(rt: &impl Abort, alloc: Global, part: &[u8], breaks: bool, at: &str) {
 fn a_failure_in_mid_stream_is_the_answer(rt: HostRuntime) {
     let message = of_hex(&rt, rt.alloc(), MESSAGE);
     for count in 0..message.len() {
-        stops(&rt, rt.alloc(), &message[..count], true, "a failure");
-        stops(&rt, rt.alloc(), &message[..count], false, "an end");
+        let part = &message[..count];
+        stops(&rt, rt.alloc(), part, true, "a failure");
+        stops(&rt, rt.alloc(), part, false, "an end");
     }
 }
 

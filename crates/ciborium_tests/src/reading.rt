@@ -171,32 +171,28 @@ fn faults_are_made(rt: HostRuntime) {
     same(&rt, &fault, &want, "a fault of meaning");
 }
 
-/// The next item is this number, or there is this fault, and so many bytes are taken then.
-fn next_is(
-    rt: &impl Abort,
-    alloc: Global,
-    decoder: &mut Decoder<&[u8]>,
-    want: Result<u64, Error<End>>,
-    taken: usize,
-) {
-    let answer = from_decoder(alloc, decoder, LIMIT);
-    same(rt, &answer, &want.map(integer), "the next item");
-    same(rt, &decoder.offset(), &taken, "its end");
+/// The fault of the next item, where it has one.
+fn fault_of(alloc: Global, decoder: &mut Decoder<&[u8]>) -> Option<Error<End>> {
+    from_decoder(alloc, decoder, LIMIT).err()
+}
+
+/// The next item is this number, and ends there.
+fn next_is(rt: &impl Abort, alloc: Global, decoder: &mut Decoder<&[u8]>, want: u64, end: usize) {
+    let item = from_decoder(alloc, decoder, LIMIT).expect(rt, "an item");
+    same(rt, &item, &integer(want), "the next item");
+    same(rt, &decoder.offset(), &end, "its end");
 }
 
 #[test]
 fn takes_one_item_and_leaves_what_follows(rt: HostRuntime) {
     let pair: &[u8] = &[1, 2];
     let mut decoder = Decoder::from(pair);
-    next_is(&rt, rt.alloc(), &mut decoder, Ok(1), 1);
-    next_is(&rt, rt.alloc(), &mut decoder, Ok(2), 2);
+    next_is(&rt, rt.alloc(), &mut decoder, 1, 1);
+    next_is(&rt, rt.alloc(), &mut decoder, 2, 2);
     // nothing is left, and the place stays
-    next_is(&rt, rt.alloc(), &mut decoder, Err(Error::Io(End)), 2);
-}
-
-/// The fault of the next item, where it has one.
-fn fault_of(alloc: Global, decoder: &mut Decoder<&[u8]>) -> Option<Error<End>> {
-    from_decoder(alloc, decoder, LIMIT).err()
+    let fault = fault_of(rt.alloc(), &mut decoder);
+    same(&rt, &fault, &Some(Error::Io(End)), "no more items");
+    same(&rt, &decoder.offset(), &2, "its place");
 }
 
 /// The message, and a byte that no item begins with.
