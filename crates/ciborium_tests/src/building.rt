@@ -3,17 +3,11 @@ ghost use Rattle.std.specs.Prelude.{◌≡◌, pos, codes, IfOk};
 ghost use Rattle.ciborium.specs.Tree.{integer, text, array, map, simple, one_more, no_trees, pair_more, no_pairs};
 ghost use Rattle.ciborium.specs.View.{view};
 
-use ciborium::value::{ByteBuf, Error, Value, ValueTyped};
-use ciborium::{Mem, cbor, into_writer};
+use crate::checks::{is_written, same};
+use ciborium::cbor;
+use ciborium::value::{Error, Value, ValueTyped};
 use std::alloc::Global;
-use std::test::Fail;
-
-/// The text of a value in hex.
-fn written(alloc: Global, value: &Value) -> Result<String, Fail> {
-    let mut out = Mem::new(Vec::new(alloc));
-    into_writer(value, &mut out)?;
-    Ok(hex::encode(alloc, out.as_written())?)
-}
+use std::process::Abort;
 
 /// A map of an array and a map: parts stand where they are written, and a key in front of its value.
 fn in_place(alloc: Global, n: u8) -> Result<Value, Error>
@@ -24,17 +18,35 @@ fn in_place(alloc: Global, n: u8) -> Result<Value, Error>
     cbor!(alloc, {"a" => [n, true, null], 7u8 => {null => n}})
 }
 
+/// A map of an array.
+fn inner(alloc: Global) -> Result<Value, Error> {
+    cbor!(alloc, {"a" => [1, true, null]})
+}
+
+/// An array of a map, which has that one in it, and of two other items.
+fn outer(alloc: Global) -> Result<Value, Error> {
+    let value = inner(alloc)?;
+    cbor!(alloc, [{1 => value, [] => {}}, null, -1 - 1])
+}
+
+/// A value was made that is written as this.
+fn is_made(rt: &impl Abort, alloc: Global, made: Result<Value, Error>, want: &str) {
+    let value = made.expect(rt, "memory");
+    is_written(rt, alloc, &value, want, "what is made");
+}
+
 #[test]
-fn values_stand_in_place(rt: HostRuntime) -> Result<(), Fail> {
+fn values_stand_in_place(rt: HostRuntime) {
     let alloc = rt.alloc();
-    let value = cbor!(alloc, {"a" => [1, true, null]})?;
-    assert_eq!(rt; written(alloc, &value)?.as_str(), "a161618301f5f6");
-    let nested = cbor!(alloc, [{1 => value, [] => {}}, null, -1 - 1])?;
-    assert_eq!(rt;
-        written(alloc, &nested)?.as_str(),
-        "83a201a161618301f5f680a0f621"
-    );
-    assert_eq!(rt; cbor!(alloc, null)?, Value::Null);
-    assert_eq!(rt; cbor!(alloc, 7)?.deserialized::<u8>(alloc), Ok(7));
-    Ok(())
+    is_made(&rt, alloc, inner(alloc), "a161618301f5f6");
+    is_made(&rt, alloc, outer(alloc), "83a201a161618301f5f680a0f621");
+}
+
+#[test]
+fn single_values_are_made(rt: HostRuntime) {
+    let value = cbor!(rt.alloc(), null).expect(&rt, "null");
+    same(&rt, &value, &Value::Null, "null");
+    let value = cbor!(rt.alloc(), 7).expect(&rt, "memory");
+    let number = value.deserialized::<u8>(rt.alloc());
+    same(&rt, &number, &Ok(7), "a number");
 }

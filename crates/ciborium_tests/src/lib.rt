@@ -5,6 +5,10 @@
 #[cfg(test)]
 mod building;
 #[cfg(test)]
+mod checks;
+#[cfg(test)]
+mod devices;
+#[cfg(test)]
 mod examples;
 #[cfg(test)]
 mod reading;

@@ -4,12 +4,12 @@ ghost use Rattle.ciborium.specs.Items.{nesting};
 ghost use Rattle.ciborium.specs.Tree.{depth};
 ghost use Rattle.ciborium.specs.declared.de.Error.TheVariants.{Memory};
 
+use crate::checks::same;
 use ciborium::de::Error;
 use ciborium::laws::written_is_read;
 use ciborium::types::RoundTrip;
 use ciborium::{End, Mem, from_reader, into_writer};
 use std::alloc::Global;
-use std::test::Fail;
 
 /// The value as it is written to memory and read back: one that is written alike, unless memory is refused.
 fn again<T: RoundTrip>(alloc: Global, value: &T) -> Result<T, Error<End>>
@@ -29,9 +29,8 @@ fn again<T: RoundTrip>(alloc: Global, value: &T) -> Result<T, Error<End>>
 }
 
 #[test]
-fn values_come_back(rt: HostRuntime) -> Result<(), Fail> {
-    let alloc = rt.alloc();
-    assert_eq!(rt; again(alloc, &-129i16), Ok(-129));
-    assert_eq!(rt; again(alloc, &(true, 250u8)), Ok((true, 250)));
-    Ok(())
+fn values_come_back(rt: HostRuntime) {
+    same(&rt, &again(rt.alloc(), &-129i16), &Ok(-129), "a number");
+    let pair = again(rt.alloc(), &(true, 250u8));
+    same(&rt, &pair, &Ok((true, 250)), "a pair");
 }

@@ -61,8 +61,27 @@ pub fn is_refused<T: Deserialize>(
     same(rt, &fault, &Some(want), "a value of another type");
 }
 
+/// The value is read as this. Its bignums are folded first.
+pub fn is_read_as<T: Deserialize + PartialEq + Debug>(
+    rt: &impl Abort,
+    alloc: Global,
+    value: &Value,
+    want: &T,
+) {
+    let got = value
+        .deserialized::<T>(alloc)
+        .expect(rt, "an item of the type");
+    same(rt, &got, want, "what is read");
+}
+
+/// The value is not read as one of the type, with this fault.
+pub fn is_not_read<T: Deserialize>(rt: &impl Abort, alloc: Global, value: &Value, want: Error) {
+    let fault = value.deserialized::<T>(alloc).err();
+    same(rt, &fault, &Some(want), "a value of another type");
+}
+
 /// The value is read as this, or refused with this fault. Its bignums are folded first.
-pub fn is_read<T: Deserialize + PartialEq + Debug>(
+fn is_read<T: Deserialize + PartialEq + Debug>(
     rt: &impl Abort,
     alloc: Global,
     value: &Value,

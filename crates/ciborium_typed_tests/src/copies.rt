@@ -2,22 +2,25 @@
 use crate::checks::{holds, same};
 use ciborium_typed::tag::{Accepted, Captured, Required};
 use ciborium_typed::{ByteBuf, Error, Kind, Value};
-use std::alloc::Global;
+use std::alloc::{AllocError, Global};
 use std::process::Abort;
+
+/// The copy is the same.
+fn is_copied<T: PartialEq + Drop>(rt: &impl Abort, it: &T, copy: Result<T, AllocError>) {
+    let copy = copy.expect(rt, "memory");
+    holds(rt, copy == *it, "a copy");
+}
 
 #[test]
 fn bytes_are_copied(rt: HostRuntime) {
-    let bytes: &[u8] = &[1, 2];
-    let content = ByteBuf(bytes.to_vec(rt.alloc()).expect(&rt, "memory"));
-    let copy = content.clone(rt.alloc()).expect(&rt, "memory");
-    holds(&rt, copy == content, "a copy of bytes");
+    let content = ByteBuf([1u8, 2].to_vec(rt.alloc()).expect(&rt, "memory"));
+    is_copied(&rt, &content, content.clone(rt.alloc()));
 }
 
 #[test]
 fn captured_values_are_copied(rt: HostRuntime) {
     let captured = Captured(Some(5), Value::Bool(true));
-    let copy = captured.clone(rt.alloc()).expect(&rt, "memory");
-    holds(&rt, copy == captured, "a copy of a captured value");
+    is_copied(&rt, &captured, captured.clone(rt.alloc()));
     let other = Captured(Some(6), Value::Bool(true));
     holds(&rt, captured != other, "another tag");
 }
@@ -25,16 +28,14 @@ fn captured_values_are_copied(rt: HostRuntime) {
 #[test]
 fn required_values_are_copied(rt: HostRuntime) {
     let required = Required::<Value, 5>(Value::Null);
-    let copy = required.clone(rt.alloc()).expect(&rt, "memory");
-    holds(&rt, copy == required, "a copy of a required value");
+    is_copied(&rt, &required, required.clone(rt.alloc()));
 }
 
 #[test]
 fn accepted_values_are_copied(rt: HostRuntime) {
     let text = Value::from_str(rt.alloc(), "a").expect(&rt, "memory");
     let accepted = Accepted::<Value, 5>(text);
-    let copy = accepted.clone(rt.alloc()).expect(&rt, "memory");
-    holds(&rt, copy == accepted, "a copy of an accepted value");
+    is_copied(&rt, &accepted, accepted.clone(rt.alloc()));
 }
 
 /// The error prints like this.

@@ -1,6 +1,7 @@
 //! Typed values written as values and read back, by hand.
 use crate::checks::{
-    BIG_NEGATIVE, LENGTH, RANGE, Row, TAG, WRONG_TYPE, are_read, is_read, is_written,
+    BIG_NEGATIVE, LENGTH, RANGE, Row, TAG, WRONG_TYPE, are_read, is_not_read, is_read_as,
+    is_written,
 };
 use crate::items::{Leaf, item, made};
 use ciborium_typed::tag::Accepted;
@@ -21,29 +22,44 @@ const OF_U8: &[Row<u8>] = &[
 /// The bytes of 2^64.
 const POWER: &[u8] = &[1, 0, 0, 0, 0, 0, 0, 0, 0];
 
+/// A number that is written as a bignum.
+fn power_is_written(rt: &impl Abort, alloc: Global) {
+    let power = item(alloc, &Leaf::Bytes(POWER), &[3]).expect(rt, "memory");
+    is_written(rt, alloc, &-18446744073709551617i128, &power);
+}
+
 #[test]
 fn numbers_are_written_and_read(rt: HostRuntime) {
-    let power = item(rt.alloc(), &Leaf::Bytes(POWER), &[3]).expect(&rt, "memory");
-    is_written(&rt, rt.alloc(), &-18446744073709551617i128, &power);
+    power_is_written(&rt, rt.alloc());
     are_read(&rt, rt.alloc(), OF_U8);
     are_read(&rt, rt.alloc(), OF_I128);
+}
+
+/// A list of 1.
+fn one(rt: &impl Abort, alloc: Global) -> Vec<u8> {
+    [1u8].to_vec(alloc).expect(rt, "memory")
 }
 
 /// A byte string is no list, but a byte string.
 fn bytes_are_read(rt: &impl Abort, alloc: Global) {
     let bytes = made(alloc, &Leaf::Bytes(&[1])).expect(rt, "memory");
-    is_read::<Vec<u8>>(rt, alloc, &bytes, &Err(WRONG_TYPE));
-    let one = vec![in alloc; 1].expect(rt, "memory");
-    is_read(rt, alloc, &bytes, &Ok(ByteBuf(one)));
+    is_not_read::<Vec<u8>>(rt, alloc, &bytes, WRONG_TYPE);
+    is_read_as(rt, alloc, &bytes, &ByteBuf(one(rt, alloc)));
+}
+
+/// An array of 1.
+fn array(rt: &impl Abort, alloc: Global) -> Value {
+    let mut items = Vec::new(alloc);
+    let integer = Value::Integer(Integer::from(1u16));
+    items.push(integer).expect(rt, "memory");
+    Value::Array(items)
 }
 
 /// An array of one is no pair, but a list.
 fn arrays_are_read(rt: &impl Abort, alloc: Global) {
-    let integer = Value::Integer(Integer::from(1u16));
-    let array = Value::Array(vec![in alloc; integer].expect(rt, "memory"));
-    is_read::<(u8, u8)>(rt, alloc, &array, &Err(LENGTH));
-    let one = vec![in alloc; 1u8].expect(rt, "memory");
-    is_read(rt, alloc, &array, &Ok(one));
+    let array = array(rt, alloc);
+    is_not_read::<(u8, u8)>(rt, alloc, &array, LENGTH);
+    is_read_as(rt, alloc, &array, &one(rt, alloc));
 }
 
 const OF_BOOL: &[Row<bool>] = &[(Leaf::Bool(true), &[7], Ok(true))];
@@ -61,9 +77,14 @@ const OF_ACCEPTED: &[Row<Accepted<u8, 5>>] = &[
     (Leaf::Int(1), &[], Ok(Accepted(1))),
 ];
 
+/// An accepted tag is written.
+fn tags_are_written(rt: &impl Abort, alloc: Global) {
+    let five = item(alloc, &Leaf::Int(1), &[5]).expect(rt, "memory");
+    is_written(rt, alloc, &Accepted::<u8, 5>(1), &five);
+}
+
 #[test]
 fn accepted_tags_are_read(rt: HostRuntime) {
     are_read(&rt, rt.alloc(), OF_ACCEPTED);
-    let five = item(rt.alloc(), &Leaf::Int(1), &[5]).expect(&rt, "memory");
-    is_written(&rt, rt.alloc(), &Accepted::<u8, 5>(1), &five);
+    tags_are_written(&rt, rt.alloc());
 }

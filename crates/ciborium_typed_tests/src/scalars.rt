@@ -1,5 +1,5 @@
 //! Scalars that are taken of items.
-use crate::checks::{RANGE, Row, WRONG_TYPE, are_taken, is_taken};
+use crate::checks::{RANGE, Row, WRONG_TYPE, are_taken, is_refused, is_taken};
 use crate::items::{Leaf, item, made};
 use ciborium_typed::ByteBuf;
 use std::alloc::Global;
@@ -84,16 +84,15 @@ const OF_CHAR: &[Row<char>] = &[
 fn strings_are_taken(rt: &impl Abort, alloc: Global) {
     let text = String::from_str(alloc, "ab").expect(rt, "memory");
     is_taken(rt, alloc, made(alloc, &Leaf::Text("ab")), &Ok(text));
-    is_taken::<String>(rt, alloc, made(alloc, &Leaf::Null), &Err(WRONG_TYPE));
+    is_refused::<String>(rt, alloc, made(alloc, &Leaf::Null), WRONG_TYPE);
 }
 
 /// Bytes are taken of bytes in a tag, and not of a text.
 fn bytes_are_taken(rt: &impl Abort, alloc: Global) {
-    let bytes: &[u8] = &[1, 2];
-    let want = ByteBuf::from(bytes.to_vec(alloc).expect(rt, "memory"));
+    let want = ByteBuf::from([1u8, 2].to_vec(alloc).expect(rt, "memory"));
     let tagged = item(alloc, &Leaf::Bytes(&[1, 2]), &[24]);
     is_taken(rt, alloc, tagged, &Ok(want));
-    is_taken::<ByteBuf>(rt, alloc, made(alloc, &Leaf::Text("ab")), &Err(WRONG_TYPE));
+    is_refused::<ByteBuf>(rt, alloc, made(alloc, &Leaf::Text("ab")), WRONG_TYPE);
 }
 
 #[test]
