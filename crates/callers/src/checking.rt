@@ -81,7 +81,7 @@ pub fn program<R: Read, W: Write, E: Write>(
 }
 
 /// The program over a reader of std that is read in blocks, with these keys and no external data.
-pub fn program_in_blocks<R: io::Read, W: Write, E: Write>(
+pub fn program_in_blocks<R: io::Read + Drop, W: Write, E: Write>(
     alloc: Global,
     keys: &[u8],
     input: BufReader<R>,
