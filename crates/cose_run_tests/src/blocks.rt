@@ -82,9 +82,7 @@ fn reads_over_blocks_and_ends(rt: HostRuntime) -> Result<(), Fail> {
 
 #[test]
 fn reads_of_a_device_that_fails(rt: HostRuntime) -> Result<(), Fail> {
-    let reader = Breaks {
-        bytes: &[1, 2, 3],
-    };
+    let reader = Breaks { bytes: &[1, 2, 3] };
     assert!(rt; all_so(rt.alloc(), reader, &FAILS)?);
     Ok(())
 }

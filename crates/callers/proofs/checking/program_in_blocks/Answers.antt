@@ -16,7 +16,7 @@ returns g c =
       write_failures = g.W.Write.failed c.run.new.out;
     } in
     let over = λ (left : Option (List ℕ)) (n : ℕ).
-        Ends says_yes (Some c.args.keys.now) None (record { left = left; written = out; read_failures = n; write_failures = failures }) new c.run.result in
+    Ends says_yes (Some c.args.keys.now) None (record { left = left; written = out; read_failures = n; write_failures = failures }) new c.run.result in
     record {
       new = new;
       ends = subst (λ r. over (reader_remaining g.R.Read.remaining r) 0) c.new-blocks.ensures.reader
