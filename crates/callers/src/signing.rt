@@ -138,7 +138,7 @@ pub fn tagged_payload<K: Key>(
 /// A secret that two sides share: its tags are those of HMAC with SHA-256 (RFC 2104).
 #[derive(Drop)]
 pub struct Secret {
-    bytes: Vec<u8>,
+    pub bytes: Vec<u8>,
 }
 
 impl Key for Secret {

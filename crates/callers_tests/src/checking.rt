@@ -3,45 +3,45 @@ use callers::checking::{fed, is_tagged, program, program_in_blocks};
 use cose_gate::{Decoder, HmacJudge, Mem};
 use coset::{CborSerializable, CoseKeySet};
 use std::io::BufReader;
-use std::test::Fail;
 
 /// 17([h'a10105', {}, 'hi', TAG]), with the tag over the external data 01 under the secret 00.
 const TAGGED: [u8; 44] = [
-    0xd1, 0x84, 0x43, 0xa1, 0x01, 0x05, 0xa0, 0x42, 0x68, 0x69, 0x58, 0x20, 0x81, 0x75, 0x9b,
-    0xe7, 0xe4, 0x76, 0xdf, 0x66, 0xf2, 0x2e, 0x17, 0x4e, 0xd1, 0xa2, 0x5a, 0x0e, 0x0a, 0xb5,
-    0x49, 0x8e, 0x5e, 0x6c, 0xa0, 0x67, 0xae, 0x32, 0xd0, 0x75, 0xae, 0x9f, 0xf5, 0x6e,
+    0xd1, 0x84, 0x43, 0xa1, 0x01, 0x05, 0xa0, 0x42, 0x68, 0x69, 0x58, 0x20, 0x81, 0x75, 0x9b, 0xe7,
+    0xe4, 0x76, 0xdf, 0x66, 0xf2, 0x2e, 0x17, 0x4e, 0xd1, 0xa2, 0x5a, 0x0e, 0x0a, 0xb5, 0x49, 0x8e,
+    0x5e, 0x6c, 0xa0, 0x67, 0xae, 0x32, 0xd0, 0x75, 0xae, 0x9f, 0xf5, 0x6e,
 ];
 
 /// [{1: 4, -1: h'00'}], a symmetric key.
 const KEYS: [u8; 7] = [0x81, 0xa2, 0x01, 0x04, 0x20, 0x41, 0x00];
 
 #[test]
-fn a_tag_is_checked(rt: HostRuntime) -> Result<(), Fail> {
+fn a_tag_is_checked(rt: HostRuntime) {
     let alloc = rt.alloc();
-    let keys = CoseKeySet::from_slice(alloc, &KEYS)?;
+    let keys = CoseKeySet::from_slice(alloc, &KEYS).expect(&rt, "no fault");
     let mut buffer = [0; 4];
     let mut decoder = Decoder::from(TAGGED.as_slice());
-    assert!(rt; is_tagged(alloc, &mut decoder, &mut buffer, &[1], &keys)?);
+    assert!(rt; is_tagged(alloc, &mut decoder, &mut buffer, &[1], &keys).expect(&rt, "no fault"));
     assert_eq!(rt; decoder.offset(), 44);
     let mut judge = HmacJudge::prepared(alloc, &keys);
     let mut decoder = Decoder::from(TAGGED.as_slice());
-    assert!(rt; !fed(alloc, &mut decoder, &mut buffer, &[], &mut judge)?);
+    assert!(rt; !fed(alloc, &mut decoder, &mut buffer, &[], &mut judge).expect(&rt, "no fault"));
     let mut all = Vec::new(alloc);
-    all.push(String::from_str(alloc, "keys")?)?;
-    all.push(String::from_str(alloc, "01")?)?;
+    all.push(String::from_str(alloc, "keys").expect(&rt, "no fault"))
+        .expect(&rt, "no fault");
+    all.push(String::from_str(alloc, "01").expect(&rt, "no fault"))
+        .expect(&rt, "no fault");
     let mut input = &TAGGED[..];
     let mut out = Mem::new(Vec::new(alloc));
     let mut err = Mem::new(Vec::new(alloc));
     let status = program(alloc, &all, Some(&KEYS), &mut input, &mut out, &mut err);
     assert_eq!(rt; status, 0);
     assert_eq!(rt; out.as_written(), TAGGED.as_slice());
-    Ok(())
 }
 
 #[test]
-fn a_program_reads_in_blocks(rt: HostRuntime) -> Result<(), Fail> {
+fn a_program_reads_in_blocks(rt: HostRuntime) {
     let alloc = rt.alloc();
-    let input = BufReader::with_capacity(alloc, 16, TAGGED.as_slice())?;
+    let input = BufReader::with_capacity(alloc, 16, TAGGED.as_slice()).expect(&rt, "no fault");
     let mut out = Mem::new(Vec::new(alloc));
     let mut err = Mem::new(Vec::new(alloc));
     assert_eq!(rt;
@@ -49,5 +49,4 @@ fn a_program_reads_in_blocks(rt: HostRuntime) -> Result<(), Fail> {
         1
     );
     assert!(rt; out.as_written().is_empty());
-    Ok(())
 }

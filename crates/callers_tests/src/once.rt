@@ -1,11 +1,10 @@
 //! Messages that pass once.
-use callers::once::{Window, relay_once};
 use callers::judging::KeyIds;
+use callers::once::{Window, relay_once};
 use callers::tally::Tally;
-use std::test::Fail;
 
 #[test]
-fn the_same_message_passes_once(rt: HostRuntime) -> Result<(), Fail> {
+fn the_same_message_passes_once(rt: HostRuntime) {
     let alloc = rt.alloc();
     // 18([h'a1044131', {}, 'hi', h'01']), with the protected key id '1'
     let message: [u8; 13] = [
@@ -16,9 +15,12 @@ fn the_same_message_passes_once(rt: HostRuntime) -> Result<(), Fail> {
     let mut judge = KeyIds::new(alloc, &known);
     let mut tally = Tally::new();
     let mut window = Window::new(alloc);
-    let first = relay_once(alloc, &message, &[], &mut judge, &mut tally, &mut window)?;
+    let first = relay_once(alloc, &message, &[], &mut judge, &mut tally, &mut window).expect(
+        &rt, "no fault",
+    );
     assert!(rt; first.is_some_and(|bytes| bytes.as_slice() == message.as_slice()));
-    let second = relay_once(alloc, &message, &[], &mut judge, &mut tally, &mut window)?;
+    let second = relay_once(alloc, &message, &[], &mut judge, &mut tally, &mut window).expect(
+        &rt, "no fault",
+    );
     assert!(rt; second.is_none());
-    Ok(())
 }

@@ -1,9 +1,8 @@
 //! The gate with a judge and a report of its own.
-use callers::relaying::relay;
 use callers::judging::KeyIds;
+use callers::relaying::relay;
 use callers::tally::Tally;
 use cose_gate::{Counts, GateFault};
-use std::test::Fail;
 
 /// 18([h'a1044131', {}, 'hi', h'01']), with the protected key id '1'.
 const FIRST: [u8; 13] = [
@@ -16,15 +15,17 @@ const SECOND: [u8; 14] = [
 ];
 
 #[test]
-fn known_messages_pass(rt: HostRuntime) -> Result<(), Fail> {
+fn known_messages_pass(rt: HostRuntime) {
     let alloc = rt.alloc();
     let one: &[u8] = b"1";
     let known = [one];
     let mut judge = KeyIds::new(alloc, &known);
     let mut tally = Tally::new();
-    let mut input = FIRST.to_vec(alloc)?;
-    input.extend_from_slice(&SECOND)?;
-    let (output, counts) = relay(alloc, &input, &[], &mut judge, &mut tally)?;
+    let mut input = FIRST.to_vec(alloc).expect(&rt, "no fault");
+    input.extend_from_slice(&SECOND).expect(&rt, "no fault");
+    let (output, counts) = relay(alloc, &input, &[], &mut judge, &mut tally).expect(
+        &rt, "no fault",
+    );
     assert_eq!(rt; output.as_slice(), FIRST.as_slice());
     assert_eq!(rt;
         counts,
@@ -43,18 +44,17 @@ fn known_messages_pass(rt: HostRuntime) -> Result<(), Fail> {
     let asked = judge.asked();
     assert_eq!(rt; asked.len(), 2);
     assert_eq!(rt; asked[1].as_slice(), b"2".as_slice());
-    Ok(())
 }
 
 #[test]
-fn a_fault_leaves_what_was_told(rt: HostRuntime) -> Result<(), Fail> {
+fn a_fault_leaves_what_was_told(rt: HostRuntime) {
     let alloc = rt.alloc();
     let two: &[u8] = b"2";
     let known = [two];
     let mut judge = KeyIds::new(alloc, &known);
     let mut tally = Tally::new();
-    let mut input = SECOND.to_vec(alloc)?;
-    input.push(0xff)?;
+    let mut input = SECOND.to_vec(alloc).expect(&rt, "no fault");
+    input.push(0xff).expect(&rt, "no fault");
     let answer = relay(alloc, &input, &[], &mut judge, &mut tally);
     assert!(rt; matches!(&answer, Err(GateFault::Decode(_))));
     assert_eq!(rt; judge.asked().len(), 1);
@@ -65,5 +65,4 @@ fn a_fault_leaves_what_was_told(rt: HostRuntime) -> Result<(), Fail> {
             refused: 1
         }
     );
-    Ok(())
 }

@@ -4,7 +4,7 @@ use cose_run::{Blocks, InputFault};
 use std::alloc::Global;
 use std::io;
 use std::io::BufReader;
-use std::test::Fail;
+use std::process::Abort;
 
 /// Gives its bytes one by one, and then fails.
 #[derive(Drop)]
@@ -59,30 +59,23 @@ fn last_read<R: io::Read>(blocks: &mut Blocks<R>, len: usize) -> Result<u8, Inpu
     }
 }
 
-/// Whether each read of the rows gives what stands there.
-fn all_so<R: io::Read>(alloc: Global, reader: R, rows: &[Row]) -> Result<bool, Fail>
-where
-    R: Drop,
-{
-    let mut blocks = Blocks::new(BufReader::with_capacity(alloc, 4, reader)?);
+/// Each read of the rows gives what stands there.
+fn all_so<R: io::Read + Drop>(rt: &impl Abort, alloc: Global, reader: R, rows: &[Row]) {
+    let buffered = BufReader::with_capacity(alloc, 4, reader).expect(rt, "no memory");
+    let mut blocks = Blocks::new(buffered);
     for row in rows {
-        if last_read(&mut blocks, row.0) != row.1 {
-            return Ok(false);
-        }
+        assert!(rt; last_read(&mut blocks, row.0) == row.1);
     }
-    Ok(true)
 }
 
 #[test]
-fn reads_over_blocks_and_ends(rt: HostRuntime) -> Result<(), Fail> {
+fn reads_over_blocks_and_ends(rt: HostRuntime) {
     let bytes: &[u8] = &[1, 2, 3, 4, 5, 6, 7, 8, 9];
-    assert!(rt; all_so(rt.alloc(), bytes, &ENDS)?);
-    Ok(())
+    all_so(&rt, rt.alloc(), bytes, &ENDS);
 }
 
 #[test]
-fn reads_of_a_device_that_fails(rt: HostRuntime) -> Result<(), Fail> {
+fn reads_of_a_device_that_fails(rt: HostRuntime) {
     let reader = Breaks { bytes: &[1, 2, 3] };
-    assert!(rt; all_so(rt.alloc(), reader, &FAILS)?);
-    Ok(())
+    all_so(&rt, rt.alloc(), reader, &FAILS);
 }

@@ -6,27 +6,44 @@ use cose_run::judge::gate_core::{About, Judge, Kind};
 use coset_headers::{Header, ProtectedHeader};
 use coset_keys::CoseKeySet;
 use coset_labels::CborSerializable;
-use std::test::Fail;
+use std::alloc::Global;
+use std::process::Abort;
+
+/// The key set [{1: 4, -1: h'00'}].
+fn keys(rt: &impl Abort, alloc: Global) -> CoseKeySet {
+    CoseKeySet::from_slice(alloc, &[0x81, 0xa2, 0x01, 0x04, 0x20, 0x41, 0x00]).expect(rt, "keys")
+}
+
+/// The protected header {1: 5}, as received.
+fn protected(rt: &impl Abort, alloc: Global) -> ProtectedHeader {
+    let shown = [0xa1, 0x01, 0x05].to_vec(alloc).expect(rt, "no memory");
+    ProtectedHeader::from_cbor_bstr(alloc, Value::Bytes(shown)).expect(rt, "a header")
+}
+
+/// What the judge says of a tag over the pieces of a text.
+fn said(
+    rt: &impl Abort,
+    judge: &mut HmacJudge,
+    about: &About,
+    pieces: &[&[u8]],
+    tag: &[u8],
+) -> bool {
+    judge.begin(about).expect(rt, "begun");
+    for piece in pieces {
+        judge.feed(piece).expect(rt, "fed");
+    }
+    judge.decide(tag)
+}
 
 #[test]
-fn keys_read_from_bytes(rt: HostRuntime) -> Result<(), Fail> {
+fn keys_read_from_bytes(rt: HostRuntime) {
     let alloc = rt.alloc();
-    let bytes = hex::decode(alloc, "81a20104204100")?;
-    let keys = CoseKeySet::from_slice(alloc, bytes.as_slice())?;
-    let shown = hex::decode(alloc, "a10105")?;
-    let protected = ProtectedHeader::from_cbor_bstr(alloc, Value::Bytes(shown))?;
+    let keys = keys(&rt, alloc);
+    let protected = protected(&rt, alloc);
     let unprotected = Header::new(alloc);
+    let about = About::alone(Kind::Mac0, &protected, &unprotected);
     let tag = hmac_sha256(&[0], b"text");
     let mut judge = HmacJudge::new(&keys);
-    judge.begin(&About::alone(Kind::Mac0, &protected, &unprotected))?;
-    judge.feed(b"te")?;
-    judge.feed(b"xt")?;
-    assert!(rt; judge.decide(&tag));
-    judge.begin(&About::alone(Kind::Mac0, &protected, &unprotected))?;
-    judge.feed(b"text")?;
-    assert_eq!(rt; tag.len(), 32);
-    if let Some((_, front)) = tag.split_last() {
-        assert!(rt; !judge.decide(front));
-    }
-    Ok(())
+    assert!(rt; said(&rt, &mut judge, &about, &[b"te", b"xt"], &tag));
+    assert!(rt; !said(&rt, &mut judge, &about, &[b"text"], &tag[..31]));
 }

@@ -4,7 +4,7 @@ use ciborium_ll::Mem;
 use ciborium_ll::count::Count;
 use cose_run::run;
 use std::alloc::Global;
-use std::test::Fail;
+use std::process::Abort;
 
 /// The key 00, without an id.
 const KEYS: &str = "81a20104204100";
@@ -39,59 +39,74 @@ const PASSED: &str = "item 1 at 0: passed\npassed 1, refused 0\n";
 
 const JUDGED: &str = "item 1 at 0: refused: Judged\npassed 0, refused 1\n";
 
+/// The bytes of a text in hex.
+fn bytes_of(rt: &impl Abort, alloc: Global, text: &str) -> Vec<u8> {
+    hex::decode(alloc, text).expect(rt, "hex")
+}
+
+/// The lines that were written.
+fn lines_of(rt: &impl Abort, err: Mem<Vec<u8>>) -> String {
+    String::from_utf8(err.into_inner()).expect(rt, "text")
+}
+
 /// What the program says of an input in hex, its status, and its output.
 fn said(
+    rt: &impl Abort,
     alloc: Global,
     keys: Option<&[u8]>,
     aad: Option<&str>,
     input: &str,
-) -> Result<(u8, String, Vec<u8>), Fail> {
-    let input = hex::decode(alloc, input)?;
+) -> (u8, String, Vec<u8>) {
+    let input = bytes_of(rt, alloc, input);
     let mut out = Mem::new(Vec::new(alloc));
     let mut err = Mem::new(Vec::new(alloc));
     let status = run(alloc, keys, aad, &mut input.as_slice(), &mut out, &mut err);
-    let text = String::from_utf8(err.into_inner()).map_err(|_| "no text")?;
-    Ok((status, text, out.into_inner()))
+    (status, lines_of(rt, err), out.into_inner())
 }
 
-/// Whether a message passes alone, and comes out as it went in; else whether it is refused by the judge alone.
-fn passes(alloc: Global, keys: &str, aad: Option<&str>, input: &str) -> Result<bool, Fail> {
-    let keys = hex::decode(alloc, keys)?;
-    let (status, text, output) = said(alloc, Some(keys.as_slice()), aad, input)?;
-    let bytes = hex::decode(alloc, input)?;
-    if status == 0 && text.as_str() == PASSED && output.as_slice() == bytes.as_slice() {
-        return Ok(true);
-    }
-    if status == 1 && text.as_str() == JUDGED && output.is_empty() {
-        return Ok(false);
-    }
-    Err(Fail::from("neither"))
+/// Whether these are the status and the lines, and nothing comes out.
+fn ends_so(rt: &impl Abort, ended: &(u8, String, Vec<u8>), status: u8, lines: &str) {
+    assert_eq!(rt; ended.0, status);
+    assert_eq!(rt; ended.1.as_str(), lines);
+    assert!(rt; ended.2.is_empty());
+}
+
+/// The message passes alone, and comes out as it went in.
+fn passes(rt: &impl Abort, alloc: Global, aad: Option<&str>, input: &str) {
+    let keys = bytes_of(rt, alloc, KEYS);
+    let (status, text, output) = said(rt, alloc, Some(keys.as_slice()), aad, input);
+    assert_eq!(rt; status, 0);
+    assert_eq!(rt; text.as_str(), PASSED);
+    assert!(rt; output == bytes_of(rt, alloc, input));
+}
+
+/// The message is refused by the judge alone.
+fn is_judged(rt: &impl Abort, alloc: Global, keys: &str, aad: Option<&str>, input: &str) {
+    let keys = bytes_of(rt, alloc, keys);
+    let ended = said(rt, alloc, Some(keys.as_slice()), aad, input);
+    ends_so(rt, &ended, 1, JUDGED);
 }
 
 #[test]
-fn tags_under_the_key(rt: HostRuntime) -> Result<(), Fail> {
+fn tags_under_the_key(rt: HostRuntime) {
     let alloc = rt.alloc();
     let aad = Some("01");
-    assert!(rt; passes(alloc, KEYS, aad, GOOD)?);
-    assert!(rt; !passes(alloc, "80", aad, GOOD)?);
-    assert!(rt; !passes(alloc, KEYS, None, GOOD)?);
-    assert!(rt; !passes(alloc, KEYS, aad, SHORT)?);
-    assert!(rt; !passes(alloc, KEYS, aad, TINY)?);
-    assert!(rt; passes(alloc, KEYS, aad, CRITICAL)?);
-    assert!(rt; !passes(alloc, KEYS, aad, UNKNOWN)?);
-    assert!(rt; passes(alloc, KEYS, None, BARE)?);
-    assert!(rt; passes(alloc, KEYS, Some(""), BARE)?);
-    assert!(rt; !passes(alloc, KEYS, aad, SIGNED)?);
-    Ok(())
+    passes(&rt, alloc, aad, GOOD);
+    passes(&rt, alloc, aad, CRITICAL);
+    passes(&rt, alloc, None, BARE);
+    passes(&rt, alloc, Some(""), BARE);
+    is_judged(&rt, alloc, "80", aad, GOOD);
+    is_judged(&rt, alloc, KEYS, None, GOOD);
+    for input in [SHORT, TINY, UNKNOWN, SIGNED] {
+        is_judged(&rt, alloc, KEYS, aad, input);
+    }
 }
 
 #[test]
-fn nothing_is_run_without_keys(rt: HostRuntime) -> Result<(), Fail> {
+fn nothing_is_run_without_keys(rt: HostRuntime) {
     let alloc = rt.alloc();
-    let none = said(alloc, None, Some("0g"), GOOD)?;
-    assert_eq!(rt; none.0, 3);
-    assert_eq!(rt; none.1.as_str(), "keys: cannot be read\n");
-    assert!(rt; none.2.is_empty());
+    let none = said(&rt, alloc, None, Some("0g"), GOOD);
+    ends_so(&rt, &none, 3, "keys: cannot be read\n");
     for (keys, aad, status, line) in [
         ("80", "0g", 2, "aad: not hex\n"),
         ("a0", "012", 2, "aad: not hex\n"),
@@ -105,19 +120,16 @@ fn nothing_is_run_without_keys(rt: HostRuntime) -> Result<(), Fail> {
         ("", "", 3, "keys: decode CBOR failure: Io(EndOfFile)\n"),
         ("8000", "", 3, "keys: extraneous data in CBOR input\n"),
     ] {
-        let keys = hex::decode(alloc, keys)?;
-        let ended = said(alloc, Some(keys.as_slice()), Some(aad), GOOD)?;
-        assert_eq!(rt; ended.0, status);
-        assert_eq!(rt; ended.1.as_str(), line);
-        assert!(rt; ended.2.is_empty());
+        let keys = bytes_of(&rt, alloc, keys);
+        let ended = said(&rt, alloc, Some(keys.as_slice()), Some(aad), GOOD);
+        ends_so(&rt, &ended, status, line);
     }
-    Ok(())
 }
 
 #[test]
-fn each_way_to_end(rt: HostRuntime) -> Result<(), Fail> {
+fn each_way_to_end(rt: HostRuntime) {
     let alloc = rt.alloc();
-    let keys = hex::decode(alloc, KEYS)?;
+    let keys = bytes_of(&rt, alloc, KEYS);
     for (input, status, lines) in [
         ("", 0, "passed 0, refused 0\n"),
         (
@@ -133,22 +145,16 @@ fn each_way_to_end(rt: HostRuntime) -> Result<(), Fail> {
         ("d28443", 4, "stopped: decode: Io(EndOfFile)\n"),
         ("f818", 4, "stopped: decode: Semantic(Simple)\n"),
     ] {
-        let ended = said(alloc, Some(keys.as_slice()), None, input)?;
-        assert_eq!(rt; ended.0, status);
-        assert_eq!(rt; ended.1.as_str(), lines);
-        assert!(rt; ended.2.is_empty());
+        let ended = said(&rt, alloc, Some(keys.as_slice()), None, input);
+        ends_so(&rt, &ended, status, lines);
     }
-    Ok(())
 }
 
 #[test]
-fn an_item_that_nests_too_deep(rt: HostRuntime) -> Result<(), Fail> {
+fn an_item_that_nests_too_deep(rt: HostRuntime) {
     let alloc = rt.alloc();
-    let mut input = Vec::new(alloc);
-    for _ in 0..257 {
-        input.push(0x81)?;
-    }
-    let keys = hex::decode(alloc, KEYS)?;
+    let input = [0x81; 257];
+    let keys = bytes_of(&rt, alloc, KEYS);
     let mut out = Mem::new(Vec::new(alloc));
     let mut err = Mem::new(Vec::new(alloc));
     let status = run(
@@ -161,13 +167,12 @@ fn an_item_that_nests_too_deep(rt: HostRuntime) -> Result<(), Fail> {
     );
     assert_eq!(rt; status, 4);
     assert!(rt; err.as_written() == b"stopped: decode: RecursionLimitExceeded\n".as_slice());
-    Ok(())
 }
 
 /// What a run over a message says whose output is flushed so many times before it fails.
-fn flushed(alloc: Global, input: &str, flushes: usize) -> Result<(u8, String, usize), Fail> {
-    let keys = hex::decode(alloc, KEYS)?;
-    let input = hex::decode(alloc, input)?;
+fn flushed(rt: &impl Abort, alloc: Global, input: &str, flushes: usize) -> (u8, String, usize) {
+    let keys = bytes_of(rt, alloc, KEYS);
+    let input = bytes_of(rt, alloc, input);
     let mut out = Held {
         bytes: Vec::new(alloc),
         shown: 0,
@@ -183,27 +188,25 @@ fn flushed(alloc: Global, input: &str, flushes: usize) -> Result<(u8, String, us
         &mut out,
         &mut err,
     );
-    let text = String::from_utf8(err.into_inner()).map_err(|_| "no text")?;
-    Ok((status, text, out.shown))
+    (status, lines_of(rt, err), out.shown)
 }
 
 #[test]
-fn the_output_is_flushed(rt: HostRuntime) -> Result<(), Fail> {
+fn the_output_is_flushed(rt: HostRuntime) {
     let alloc = rt.alloc();
-    let well = flushed(alloc, GOOD, 1)?;
+    let well = flushed(&rt, alloc, GOOD, 1);
     assert_eq!(rt; well.0, 0);
     assert_eq!(rt; well.2, 44);
-    let failed = flushed(alloc, GOOD, 0)?;
+    let failed = flushed(&rt, alloc, GOOD, 0);
     assert_eq!(rt; failed.0, 4);
     assert_eq!(rt; failed.1.as_str(), "item 1 at 0: passed\nstopped: write\n");
     assert_eq!(rt; failed.2, 0);
-    let cut = flushed(alloc, "1f", 0)?;
+    let cut = flushed(&rt, alloc, "1f", 0);
     assert_eq!(rt; cut.1.as_str(), "stopped: write\n");
-    Ok(())
 }
 
 #[test]
-fn lines_are_flushed(rt: HostRuntime) -> Result<(), Fail> {
+fn lines_are_flushed(rt: HostRuntime) {
     let alloc = rt.alloc();
     let mut out = Mem::new(Vec::new(alloc));
     let mut err = Held {
@@ -217,14 +220,13 @@ fn lines_are_flushed(rt: HostRuntime) -> Result<(), Fail> {
     let status = run(alloc, None, None, &mut input, &mut out, &mut err);
     assert_eq!(rt; status, 3);
     assert_eq!(rt; err.shown, 21);
-    Ok(())
 }
 
 #[test]
-fn devices_that_fail(rt: HostRuntime) -> Result<(), Fail> {
+fn devices_that_fail(rt: HostRuntime) {
     let alloc = rt.alloc();
-    let keys = hex::decode(alloc, KEYS)?;
-    let message = hex::decode(alloc, GOOD)?;
+    let keys = bytes_of(&rt, alloc, KEYS);
+    let message = bytes_of(&rt, alloc, GOOD);
     // a reader, behind a message
     let mut input = Source {
         bytes: &message,
@@ -244,14 +246,13 @@ fn devices_that_fail(rt: HostRuntime) -> Result<(), Fail> {
     assert_eq!(rt; status, 4);
     assert!(rt; err.as_written() == b"item 1 at 0: passed\nstopped: decode: Io\n".as_slice());
     assert!(rt; out.as_written() == message.as_slice());
-    Ok(())
 }
 
 #[test]
-fn a_writer_that_is_full(rt: HostRuntime) -> Result<(), Fail> {
+fn a_writer_that_is_full(rt: HostRuntime) {
     let alloc = rt.alloc();
-    let keys = hex::decode(alloc, KEYS)?;
-    let message = hex::decode(alloc, GOOD)?;
+    let keys = bytes_of(&rt, alloc, KEYS);
+    let message = bytes_of(&rt, alloc, GOOD);
     let mut memory = [0u8; 3];
     let mut out = Mem::new(&mut memory[..]);
     let mut err = Mem::new(Vec::new(alloc));
@@ -265,14 +266,13 @@ fn a_writer_that_is_full(rt: HostRuntime) -> Result<(), Fail> {
     );
     assert_eq!(rt; status, 4);
     assert!(rt; err.as_written() == b"stopped: write\n".as_slice());
-    Ok(())
 }
 
 #[test]
-fn a_fault_of_the_lines_is_passed_over(rt: HostRuntime) -> Result<(), Fail> {
+fn a_fault_of_the_lines_is_passed_over(rt: HostRuntime) {
     let alloc = rt.alloc();
-    let keys = hex::decode(alloc, KEYS)?;
-    let message = hex::decode(alloc, GOOD)?;
+    let keys = bytes_of(&rt, alloc, KEYS);
+    let message = bytes_of(&rt, alloc, GOOD);
     let mut out = Mem::new(Vec::new(alloc));
     let mut err = Sink {
         bytes: Vec::new(alloc),
@@ -289,5 +289,4 @@ fn a_fault_of_the_lines_is_passed_over(rt: HostRuntime) -> Result<(), Fail> {
     );
     assert_eq!(rt; status, 0);
     assert!(rt; out.as_written() == message.as_slice());
-    Ok(())
 }

@@ -1,26 +1,23 @@
 //! The words of the command line.
 use cose_run::words;
-use std::alloc::{AllocError, Global};
-use std::test::Fail;
+use std::alloc::Global;
+use std::process::Abort;
 
-fn owned(alloc: Global, texts: &[&str]) -> Result<Vec<String>, AllocError> {
+/// These texts, each as a word of its own.
+fn owned(rt: &impl Abort, alloc: Global, texts: &[&str]) -> Vec<String> {
     let mut all = Vec::new(alloc);
     for text in texts {
-        all.push(String::from_str(alloc, text)?)?;
+        let word = String::from_str(alloc, text).expect(rt, "no memory");
+        all.push(word).expect(rt, "no memory");
     }
-    Ok(all)
+    all
 }
 
 #[test]
-fn one_or_two_words(rt: HostRuntime) -> Result<(), Fail> {
+fn one_or_two_words(rt: HostRuntime) {
     let alloc = rt.alloc();
-    let none = owned(alloc, &[])?;
-    let one = owned(alloc, &["keys"])?;
-    let two = owned(alloc, &["keys", "01"])?;
-    let three = owned(alloc, &["keys", "01", "more"])?;
-    assert!(rt; words(&none).is_none());
-    assert!(rt; words(&one) == Some(("keys", None)));
-    assert!(rt; words(&two) == Some(("keys", Some("01"))));
-    assert!(rt; words(&three).is_none());
-    Ok(())
+    assert!(rt; words(&owned(&rt, alloc, &[])).is_none());
+    assert!(rt; words(&owned(&rt, alloc, &["keys"])) == Some(("keys", None)));
+    assert!(rt; words(&owned(&rt, alloc, &["keys", "01"])) == Some(("keys", Some("01"))));
+    assert!(rt; words(&owned(&rt, alloc, &["keys", "01", "more"])).is_none());
 }
