@@ -1,16 +1,16 @@
 //! One item on its way through the gate.
-ghost use Rattle.std.specs.Prelude.{◌≡◌, ◌≢◌, ℕ, ◌+◌, List, pos, Some, None, MatchBool, IfOk, IfErr, OnOk, OnErr};
+ghost use Rattle.std.specs.Prelude.{◌≡◌, ◌≢◌, ℕ, ◌+◌, List, pos, Some, None, MatchBool, MatchOption, IfOk, IfErr, OnOk, OnErr};
 ghost use Rattle.std.specs.Io.KnownBytes.{Appends};
-ghost use Rattle.ciborium_value.specs.Tree.{tag};
+ghost use Rattle.ciborium_value.specs.Tree.{Tree, tag};
 ghost use Rattle.ciborium_value.specs.View.{view};
 ghost use Rattle.cose_iana.specs.Tags.{cbor_tags};
-ghost use Rattle.cose_gate_core.specs.Findings.{usual};
-ghost use Rattle.cose_gate_core.specs.Questions.{tagged_tree, message_text};
+ghost use Rattle.cose_gate_core.specs.Findings.{usual, HasMessage, IsCarried, IsJudged, IsUnsigned};
+ghost use Rattle.cose_gate_core.specs.Questions.{payload_of, tag_of, tagged_tree, message_text};
 ghost use Rattle.cose_gate_core.specs.View.{message_view};
 ghost use Rattle.coset_labels.specs.declared.error.CoseError.TheVariants.{Memory};
 ghost use Rattle.cose_gate_core.specs.declared.passing.Found.TheVariants.{Barred};
 ghost use Rattle.cose_gate_core.specs.declared.report.Refusal.TheVariants.{Shape};
-ghost use Rattle.cose_gate_core.specs.Passing.{IsFound, WentThrough, ItemFails, IsWriteFault, item_failures};
+ghost use Rattle.cose_gate_core.specs.Passing.{IsFound, IsRefused, WentThrough, ItemFails, IsWriteFault, item_failures};
 
 use crate::asking::{ask_message, want_of_memory};
 use crate::judge::Judge;
@@ -90,17 +90,61 @@ fn misshapen(error: CoseError) -> Result<Found, AllocError>
     Ok(Found::Barred(Refusal::Shape(error)))
 }
 
+/// Whether a message carries its payload.
+fn is_carried(message: &Message) -> bool
+    ensures { MatchBool result (IsCarried (message_view message.now)) (payload_of (message_view message.now) ≡ None) }
+{
+    match message {
+        Message::Sign1(message) => message.payload.is_some(),
+        Message::Mac0(message) => message.payload.is_some(),
+        Message::Sign(message) => message.payload.is_some(),
+        Message::Mac(message) => message.payload.is_some(),
+    }
+}
+
+/// Whether a message has no signature. Only a COSE_Sign can lack one.
+fn is_unsigned(message: &Message) -> bool
+    ensures { MatchBool result (IsUnsigned (message_view message.now)) (IsUnsigned (message_view message.now) → ⊥) }
+{
+    match message {
+        Message::Sign(message) => message.signatures.is_empty(),
+        Message::Sign1(_) => false,
+        Message::Mac0(_) => false,
+        Message::Mac(_) => false,
+    }
+}
+
+/// Why a message that was read is not judged, if it isn't. One without a payload is detached, whether it has signatures or not.
+fn bar_of(message: &Message) -> Option<Refusal>
+    ensures { (u : Tree) → HasMessage usual u (message_view message.now)
+        → MatchOption result (IsJudged usual (tag (tag_of (message_view message.now)) u) (message_view message.now))
+        (IsRefused usual (tag (tag_of (message_view message.now)) u)) }
+{
+    if !is_carried(message) {
+        return Some(Refusal::Detached);
+    }
+    if is_unsigned(message) {
+        return Some(Refusal::NoSignature);
+    }
+    None
+}
+
+/// What is found of a message that was read.
+fn found_of(message: Message) -> Found
+    ensures { (u : Tree) → HasMessage usual u (message_view message) → IsFound usual (tag (tag_of (message_view message)) u) result }
+{
+    match bar_of(&message) {
+        Some(refusal) => Found::Barred(refusal),
+        None => Found::Judged(message),
+    }
+}
+
 /// The message under the tag of a Sign1.
 fn find_sign1(alloc: Global, content: Value) -> Result<Found, AllocError>
     ensures { IfOk result (IsFound usual (tag 18 (view content))) }
 {
     match CoseSign1::from_cbor_value(alloc, content) {
-        Ok(message) => {
-            if message.payload.is_none() {
-                return Ok(Found::Barred(Refusal::Detached));
-            }
-            Ok(Found::Judged(Message::Sign1(message)))
-        }
+        Ok(message) => Ok(found_of(Message::Sign1(message))),
         Err(error) => misshapen(error),
     }
 }
@@ -110,12 +154,7 @@ fn find_mac0(alloc: Global, content: Value) -> Result<Found, AllocError>
     ensures { IfOk result (IsFound usual (tag 17 (view content))) }
 {
     match CoseMac0::from_cbor_value(alloc, content) {
-        Ok(message) => {
-            if message.payload.is_none() {
-                return Ok(Found::Barred(Refusal::Detached));
-            }
-            Ok(Found::Judged(Message::Mac0(message)))
-        }
+        Ok(message) => Ok(found_of(Message::Mac0(message))),
         Err(error) => misshapen(error),
     }
 }
@@ -125,30 +164,17 @@ fn find_mac(alloc: Global, content: Value) -> Result<Found, AllocError>
     ensures { IfOk result (IsFound usual (tag 97 (view content))) }
 {
     match CoseMac::from_cbor_value(alloc, content) {
-        Ok(message) => {
-            if message.payload.is_none() {
-                return Ok(Found::Barred(Refusal::Detached));
-            }
-            Ok(Found::Judged(Message::Mac(message)))
-        }
+        Ok(message) => Ok(found_of(Message::Mac(message))),
         Err(error) => misshapen(error),
     }
 }
 
-/// The message under the tag of a Sign. One without a payload is detached, whether it has signatures or not.
+/// The message under the tag of a Sign.
 fn find_sign(alloc: Global, content: Value) -> Result<Found, AllocError>
     ensures { IfOk result (IsFound usual (tag 98 (view content))) }
 {
     match CoseSign::from_cbor_value(alloc, content) {
-        Ok(message) => {
-            if message.payload.is_none() {
-                return Ok(Found::Barred(Refusal::Detached));
-            }
-            if message.signatures.is_empty() {
-                return Ok(Found::Barred(Refusal::NoSignature));
-            }
-            Ok(Found::Judged(Message::Sign(message)))
-        }
+        Ok(message) => Ok(found_of(Message::Sign(message))),
         Err(error) => misshapen(error),
     }
 }

@@ -33,6 +33,19 @@ fn clone_private(alloc: Global, private: &[Vec<u8>]) -> Result<Vec<Vec<u8>>, All
     Ok(copies)
 }
 
+/// Copies of both parties.
+fn clone_parties(
+    alloc: Global,
+    one: &PartyInfo,
+    other: &PartyInfo,
+) -> Result<(PartyInfo, PartyInfo), AllocError>
+    ensures { IfOk result (λ copies. (party_view copies.0 ≡ party_view one.now) × (party_view copies.1 ≡ party_view other.now)) }
+{
+    let one = one.clone(alloc)?;
+    let other = other.clone(alloc)?;
+    Ok((one, other))
+}
+
 impl Nonce {
     /// A nonce equal to this one. That of an integer takes no memory.
     ///
@@ -93,11 +106,14 @@ impl CoseKdfContext {
     pub fn clone(&self, alloc: Global) -> Result<CoseKdfContext, AllocError>
         ensures { IfOk result (λ copy. context_view copy ≡ context_view self.now) }
     {
-        let algorithm_id = self.algorithm_id.clone(alloc)?;
-        let party_u_info = self.party_u_info.clone(alloc)?;
-        let party_v_info = self.party_v_info.clone(alloc)?;
-        let supp_pub_info = self.supp_pub_info.clone(alloc)?;
         let supp_priv_info = clone_private(alloc, &self.supp_priv_info)?;
+        let algorithm_id = self.algorithm_id.clone(alloc)?;
+        let supp_pub_info = self.supp_pub_info.clone(alloc)?;
+        let (party_u_info, party_v_info) = clone_parties(
+            alloc,
+            &self.party_u_info,
+            &self.party_v_info,
+        )?;
         Ok(CoseKdfContext {
             algorithm_id,
             party_u_info,

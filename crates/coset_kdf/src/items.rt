@@ -23,33 +23,36 @@ fn last(items: &mut Vec<Value>) -> Value
 }
 
 /// The items of a list of two.
-pub(crate) fn two(mut items: Vec<Value>) -> (Value, Value)
+pub(crate) fn two(items: Vec<Value>) -> (Value, Value)
     requires { length items.items ≡ 2 }
     ensures { views items.items ≡ one_more (view result.0) (one_more (view result.1) no_trees) }
 {
-    let second = last(&mut items);
-    let first = last(&mut items);
-    (first, second)
+    match <[Value; 2]>::try_from(items) {
+        Ok([first, second]) => (first, second),
+        Err(_items) => unreachable!(),
+    }
 }
 
 /// The items of a list of three.
-pub(crate) fn three(mut items: Vec<Value>) -> (Value, Value, Value)
+pub(crate) fn three(items: Vec<Value>) -> (Value, Value, Value)
     requires { length items.items ≡ 3 }
     ensures { views items.items ≡ list_of_three (view result.0) (view result.1) (view result.2) }
 {
-    let third = last(&mut items);
-    let (first, second) = two(items);
-    (first, second, third)
+    match <[Value; 3]>::try_from(items) {
+        Ok([first, second, third]) => (first, second, third),
+        Err(_items) => unreachable!(),
+    }
 }
 
 /// The items of a list of four.
-pub(crate) fn four(mut items: Vec<Value>) -> (Value, Value, Value, Value)
+pub(crate) fn four(items: Vec<Value>) -> (Value, Value, Value, Value)
     requires { length items.items ≡ 4 }
     ensures { views items.items ≡ four_and (view result.0) (view result.1) (view result.2) (view result.3) no_trees }
 {
-    let fourth = last(&mut items);
-    let (first, second, third) = three(items);
-    (first, second, third, fourth)
+    match <[Value; 4]>::try_from(items) {
+        Ok([first, second, third, fourth]) => (first, second, third, fourth),
+        Err(_items) => unreachable!(),
+    }
 }
 
 /// Takes the items behind the fourth, which have to be byte strings, from the last to the first, and gives them in their order.

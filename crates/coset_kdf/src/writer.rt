@@ -35,10 +35,11 @@ fn nonce_or_null(nonce: Option<Nonce>) -> Value
 pub(crate) fn write_party(alloc: Global, info: PartyInfo) -> Result<Value, CoseError>
     ensures { MatchResult result (λ v. view v ≡ party_tree (party_view info)) (λ e. e ≡ Memory) }
 {
-    let mut items = Vec::new(alloc);
-    items.push(bytes_or_null(info.identity))?;
-    items.push(nonce_or_null(info.nonce))?;
-    items.push(bytes_or_null(info.other))?;
+    let items = vec![in alloc;
+        bytes_or_null(info.identity),
+        nonce_or_null(info.nonce),
+        bytes_or_null(info.other),
+    ]?;
     Ok(Value::Array(items))
 }
 
@@ -47,9 +48,8 @@ pub(crate) fn write_public(alloc: Global, info: SuppPubInfo) -> Result<Value, Co
     ensures { MatchResult result (λ v. public_tree (public_view info) ≡ Some (view v)) (λ e. CantWrite (public_tree (public_view info)) e) }
 {
     let protected = info.protected.cbor_bstr(alloc)?;
-    let mut items = Vec::new(alloc);
-    items.push(Value::Integer(Integer::from(info.key_data_length)))?;
-    items.push(protected)?;
+    let length = Value::Integer(Integer::from(info.key_data_length));
+    let mut items = vec![in alloc; length, protected]?;
     if let Some(other) = info.other {
         items.push(Value::Bytes(other))?;
     }
@@ -65,11 +65,7 @@ pub(crate) fn write_context(alloc: Global, context: CoseKdfContext) -> Result<Va
     let party_u = write_party(alloc, context.party_u_info)?;
     let party_v = write_party(alloc, context.party_v_info)?;
     let public = write_public(alloc, context.supp_pub_info)?;
-    let mut items = Vec::new(alloc);
-    items.push(algorithm)?;
-    items.push(party_u)?;
-    items.push(party_v)?;
-    items.push(public)?;
+    let mut items = vec![in alloc; algorithm, party_u, party_v, public]?;
     push_private(&mut items, context.supp_priv_info)?;
     Ok(Value::Array(items))
 }
