@@ -2,14 +2,13 @@
 use crate::devices::{Broken, Sink, Source};
 use crate::examples::MESSAGE;
 use crate::memory::{INPUT, OUTPUT};
-use crate::seen::{Answer, Seen, answered, reached, run, same, whole};
+use crate::seen::{Answer, Seen, answered, reached, run, same, unhex, whole};
 use ciborium::de;
 use ciborium_ll::End;
 use ciborium_ll::count::Count;
 use cose_gate::{GateFault, Mem, Recorder, Silent};
 use std::alloc::Global;
 use std::process::Abort;
-use std::test::Fail;
 
 /// A run stops where the reader fails, between these bytes of a message, of which it would give the rest later.
 fn is_cut_off(rt: &impl Abort, alloc: Global, front: &[u8], rest: &[u8]) {
@@ -32,15 +31,14 @@ fn is_cut_off(rt: &impl Abort, alloc: Global, front: &[u8], rest: &[u8]) {
 }
 
 #[test]
-fn a_failed_read_is_the_answer(rt: HostRuntime) -> Result<(), Fail> {
+fn a_failed_read_is_the_answer(rt: HostRuntime) {
     let alloc = rt.alloc();
-    let message = hex::decode(alloc, MESSAGE)?;
+    let message = unhex(&rt, alloc, MESSAGE);
     assert_eq!(rt; message.len(), 14);
     for count in 0..15 {
         let (front, rest) = message.split_at(count);
         is_cut_off(&rt, alloc, front, rest);
     }
-    Ok(())
 }
 
 /// A run over two messages with a value between them whose writer fails at one call, the one after so many.
@@ -134,11 +132,10 @@ const ROOMS: [(usize, usize); 15] = [
 ];
 
 #[test]
-fn a_full_slice_is_the_answer(rt: HostRuntime) -> Result<(), Fail> {
+fn a_full_slice_is_the_answer(rt: HostRuntime) {
     let alloc = rt.alloc();
-    let message = hex::decode(alloc, MESSAGE)?;
+    let message = unhex(&rt, alloc, MESSAGE);
     for (room, fits) in &ROOMS {
         is_filled(&rt, alloc, &message, *room, *fits);
     }
-    Ok(())
 }

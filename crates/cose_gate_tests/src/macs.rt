@@ -2,7 +2,6 @@
 use crate::seen::{Answer, Question, Row, are_so, is_so};
 use ciborium_ll::End;
 use cose_gate::{CoseError, Counts, Kind, Refusal, Verdict};
-use std::test::Fail;
 
 /// The first bytes of a tag h'aa'.
 const TAG: [u8; 8] = [0xaa, 0, 0, 0, 0, 0, 0, 0];
@@ -47,9 +46,9 @@ const MACS: [Row; 2] = [
 ];
 
 #[test]
-fn tags_are_asked_about(rt: HostRuntime) -> Result<(), Fail> {
-    is_so(&rt, rt.alloc(), &[1], None, &WITH_DATA)?;
-    are_so(&rt, rt.alloc(), &[], None, &MACS)
+fn tags_are_asked_about(rt: HostRuntime) {
+    is_so(&rt, rt.alloc(), &[1], None, &WITH_DATA);
+    are_so(&rt, rt.alloc(), &[], None, &MACS);
 }
 
 /// The answer of a run over one item that refuses it.
@@ -110,6 +109,6 @@ const NONE: [Row; 5] = [
 ];
 
 #[test]
-fn tags_may_be_refused(rt: HostRuntime) -> Result<(), Fail> {
-    are_so(&rt, rt.alloc(), &[], Some(&[0xaa]), &NONE)
+fn tags_may_be_refused(rt: HostRuntime) {
+    are_so(&rt, rt.alloc(), &[], Some(&[0xaa]), &NONE);
 }

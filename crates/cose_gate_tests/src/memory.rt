@@ -1,5 +1,5 @@
 //! Memory that is refused to the judge, to the report, and to the run.
-use crate::seen::{Answer, Question, Seen, answered, has_asked, reached, same, whole};
+use crate::seen::{Answer, Question, Seen, answered, has_asked, reached, same, unhex, whole};
 use crate::signs::{FIRST, TWO};
 use ciborium_ll::End;
 use cose_gate::{
@@ -7,7 +7,6 @@ use cose_gate::{
 };
 use std::alloc::{AllocError, Global};
 use std::process::Abort;
-use std::test::Fail;
 
 /// A judge or a report that is refused memory once, after so many calls that ask for it.
 #[derive(Drop)]
@@ -215,21 +214,21 @@ fn memory_refused_to_the_report_is_the_answer(rt: HostRuntime) {
 
 /// A run over a message with two signatures, where memory is refused to the judge after so many calls, asks these questions and writes
 /// nothing.
-fn is_left(rt: &impl Abort, alloc: Global, calls: usize, asked: &[Question]) -> Result<(), Fail> {
-    let input = hex::decode(alloc, TWO)?;
+fn is_left(rt: &impl Abort, alloc: Global, calls: usize, asked: &[Question]) {
+    let input = unhex(rt, alloc, TWO);
     let seen = refused(alloc, &input, calls, 3);
     same(rt, &seen.answer, &Err(GateFault::Memory), "answer", &calls);
     same(rt, &reached(&seen), &(asked.len(), 0, 0), "place", &calls);
-    has_asked(rt, alloc, &seen.recorder, asked, TWO)
+    has_asked(rt, alloc, &seen.recorder, asked, TWO);
 }
 
 /// Each signature begins and feeds one question. Where memory is refused to the judge, the questions before were asked, and nothing is
 /// written.
 #[test]
-fn memory_may_be_refused_between_signatures(rt: HostRuntime) -> Result<(), Fail> {
+fn memory_may_be_refused_between_signatures(rt: HostRuntime) {
     let alloc = rt.alloc();
-    is_left(&rt, alloc, 0, &[])?;
-    is_left(&rt, alloc, 1, &[])?;
-    is_left(&rt, alloc, 2, &[FIRST])?;
-    is_left(&rt, alloc, 3, &[FIRST])
+    is_left(&rt, alloc, 0, &[]);
+    is_left(&rt, alloc, 1, &[]);
+    is_left(&rt, alloc, 2, &[FIRST]);
+    is_left(&rt, alloc, 3, &[FIRST]);
 }

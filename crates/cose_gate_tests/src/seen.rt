@@ -7,7 +7,6 @@ use cose_gate::{
 use std::alloc::Global;
 use std::fmt::{Debug, Display};
 use std::process::Abort;
-use std::test::Fail;
 
 /// What a run answers.
 pub type Answer<E> = Result<Counts, GateFault<E>>;
@@ -80,62 +79,53 @@ pub fn same<T: PartialEq + Debug>(
 /// A question: the kind of the message, the covered bytes in hex, and the length and the first bytes of the signature or tag.
 pub type Question = (Kind, &'static str, usize, [u8; 8]);
 
-/// The question that is meant.
-fn meant(alloc: Global, question: &Question) -> Result<Asked, Fail> {
-    let structure = hex::decode(alloc, question.1)?;
-    Ok(Asked {
-        kind: question.0,
-        structure,
-        tag_len: question.2,
-        tag: question.3,
-    })
+/// The bytes that this is in hex.
+pub fn unhex(rt: &impl Abort, alloc: Global, text: &str) -> Vec<u8> {
+    hex::decode(alloc, text).expect(rt, "bytes in hex")
 }
 
-fn all_meant(alloc: Global, questions: &[Question]) -> Result<Vec<Asked>, Fail> {
+/// The question that is meant.
+fn meant(rt: &impl Abort, alloc: Global, question: &Question) -> Asked {
+    Asked {
+        kind: question.0,
+        structure: unhex(rt, alloc, question.1),
+        tag_len: question.2,
+        tag: question.3,
+    }
+}
+
+fn all_meant(rt: &impl Abort, alloc: Global, questions: &[Question]) -> Vec<Asked> {
     let mut all = Vec::new(alloc);
     for question in questions {
-        all.push(meant(alloc, question)?)?;
+        all.push(meant(rt, alloc, question)).expect(rt, "no memory");
     }
-    Ok(all)
+    all
 }
 
 /// The recorder was asked these questions.
-pub fn has_asked(
-    rt: &impl Abort,
-    alloc: Global,
-    recorder: &Recorder,
-    want: &[Question],
-    at: &str,
-) -> Result<(), Fail> {
-    let want = all_meant(alloc, want)?;
+pub fn has_asked(rt: &impl Abort, alloc: Global, recorder: &Recorder, want: &[Question], at: &str) {
+    let want = all_meant(rt, alloc, want);
     same(rt, &recorder.asked(), &want.as_slice(), "questions", &at);
-    Ok(())
 }
 
 /// These bytes are the ones in hex.
-pub fn has_written(
-    rt: &impl Abort,
-    alloc: Global,
-    bytes: &[u8],
-    want: &str,
-    at: &str,
-) -> Result<(), Fail> {
-    let text = hex::encode(alloc, bytes)?;
+pub fn has_written(rt: &impl Abort, alloc: Global, bytes: &[u8], want: &str, at: &str) {
+    let text = hex::encode(alloc, bytes).expect(rt, "no memory");
     same(rt, &text.as_str(), &want, "output", &at);
-    Ok(())
 }
 
 /// The entries of items at these offsets with these verdicts.
-fn numbered(alloc: Global, noted: &[(usize, Verdict)]) -> Result<Vec<Entry>, Fail> {
+fn numbered(rt: &impl Abort, alloc: Global, noted: &[(usize, Verdict)]) -> Vec<Entry> {
     let mut all = Vec::new(alloc);
     for (index, (offset, verdict)) in noted.iter().enumerate() {
-        all.push(Entry {
+        let entry = Entry {
             number: index + 1,
             offset: *offset,
             verdict: *verdict,
-        })?;
+        };
+        all.push(entry).expect(rt, "no memory");
     }
-    Ok(all)
+    all
 }
 
 /// These items were noted, in order.
@@ -145,10 +135,9 @@ pub fn has_noted(
     entries: &[Entry],
     want: &[(usize, Verdict)],
     at: &str,
-) -> Result<(), Fail> {
-    let want = numbered(alloc, want)?;
+) {
+    let want = numbered(rt, alloc, want);
     same(rt, &entries, &want.as_slice(), "entries", &at);
-    Ok(())
 }
 
 /// An input in hex, and what a run over it asks, writes, notes (the offsets and verdicts of its items) and answers.
@@ -160,47 +149,40 @@ pub struct Row {
     pub answer: Answer<End>,
 }
 
+/// A judge that says no to this signature, where there is one.
+fn no_to(rt: &impl Abort, alloc: Global, no: Option<&[u8]>) -> Recorder {
+    let no = match no {
+        Some(no) => Some(no.to_vec(alloc).expect(rt, "no memory")),
+        None => None,
+    };
+    Recorder::new(alloc, no)
+}
+
 /// A run over these bytes in hex, with a judge that says no to this signature, where there is one.
 pub fn run_hex(
+    rt: &impl Abort,
     alloc: Global,
     input: &str,
     aad: &[u8],
     no: Option<&[u8]>,
-) -> Result<Seen<End>, Fail> {
-    let no = match no {
-        Some(no) => Some(no.to_vec(alloc)?),
-        None => None,
-    };
-    let input = hex::decode(alloc, input)?;
-    Ok(run(alloc, input.as_slice(), aad, Recorder::new(alloc, no)))
+) -> Seen<End> {
+    let recorder = no_to(rt, alloc, no);
+    let input = unhex(rt, alloc, input);
+    run(alloc, input.as_slice(), aad, recorder)
 }
 
 /// A run over the row's input does what it says.
-pub fn is_so(
-    rt: &impl Abort,
-    alloc: Global,
-    aad: &[u8],
-    no: Option<&[u8]>,
-    row: &Row,
-) -> Result<(), Fail> {
-    let seen = run_hex(alloc, row.input, aad, no)?;
-    has_asked(rt, alloc, &seen.recorder, row.asked, row.input)?;
-    has_written(rt, alloc, &seen.output, row.output, row.input)?;
-    has_noted(rt, alloc, &seen.entries, row.noted, row.input)?;
+pub fn is_so(rt: &impl Abort, alloc: Global, aad: &[u8], no: Option<&[u8]>, row: &Row) {
+    let seen = run_hex(rt, alloc, row.input, aad, no);
+    has_asked(rt, alloc, &seen.recorder, row.asked, row.input);
+    has_written(rt, alloc, &seen.output, row.output, row.input);
+    has_noted(rt, alloc, &seen.entries, row.noted, row.input);
     same(rt, &seen.answer, &row.answer, "answer", &row.input);
-    Ok(())
 }
 
 /// Each row is so.
-pub fn are_so(
-    rt: &impl Abort,
-    alloc: Global,
-    aad: &[u8],
-    no: Option<&[u8]>,
-    rows: &[Row],
-) -> Result<(), Fail> {
+pub fn are_so(rt: &impl Abort, alloc: Global, aad: &[u8], no: Option<&[u8]>, rows: &[Row]) {
     for row in rows {
-        is_so(rt, alloc, aad, no, row)?;
+        is_so(rt, alloc, aad, no, row);
     }
-    Ok(())
 }

@@ -2,7 +2,6 @@
 use crate::seen::{Answer, Question, Row, are_so, is_so};
 use ciborium_ll::End;
 use cose_gate::{CoseError, Counts, Kind, Refusal, Verdict};
-use std::test::Fail;
 
 /// 98([h'', {}, 'hi', [[h'a10126', {}, h'00'], [h'a10126', {}, h'01']]]).
 pub const TWO: &str = "d8628440a0426869828343a10126a041008343a10126a04101";
@@ -38,8 +37,8 @@ const BOTH: Row = Row {
 };
 
 #[test]
-fn each_signature_is_asked_about(rt: HostRuntime) -> Result<(), Fail> {
-    is_so(&rt, rt.alloc(), &[], None, &BOTH)
+fn each_signature_is_asked_about(rt: HostRuntime) {
+    is_so(&rt, rt.alloc(), &[], None, &BOTH);
 }
 
 /// Where the judge says no to the second signature.
@@ -52,8 +51,8 @@ const NOT_THE_SECOND: Row = Row {
 };
 
 #[test]
-fn a_no_refuses_the_message(rt: HostRuntime) -> Result<(), Fail> {
-    is_so(&rt, rt.alloc(), &[], Some(&[1]), &NOT_THE_SECOND)
+fn a_no_refuses_the_message(rt: HostRuntime) {
+    is_so(&rt, rt.alloc(), &[], Some(&[1]), &NOT_THE_SECOND);
 }
 
 /// Where the judge says no to the first signature.
@@ -66,8 +65,8 @@ const NOT_THE_FIRST: Row = Row {
 };
 
 #[test]
-fn nothing_is_asked_behind_the_first_no(rt: HostRuntime) -> Result<(), Fail> {
-    is_so(&rt, rt.alloc(), &[], Some(&[0]), &NOT_THE_FIRST)
+fn nothing_is_asked_behind_the_first_no(rt: HostRuntime) {
+    is_so(&rt, rt.alloc(), &[], Some(&[0]), &NOT_THE_FIRST);
 }
 
 /// 98([h'a10300', {}, 'hi', [[h'a10126', {4: '1'}, h'00']]]) with the external data h'01'. Covered are the header of the message, that of
@@ -86,8 +85,8 @@ const TWO_HEADERS: Row = Row {
 };
 
 #[test]
-fn both_protected_headers_are_covered(rt: HostRuntime) -> Result<(), Fail> {
-    is_so(&rt, rt.alloc(), &[1], None, &TWO_HEADERS)
+fn both_protected_headers_are_covered(rt: HostRuntime) {
+    is_so(&rt, rt.alloc(), &[1], None, &TWO_HEADERS);
 }
 
 /// Inputs of which nothing is asked or written.
@@ -148,6 +147,6 @@ const NONE: [Row; 5] = [
 ];
 
 #[test]
-fn refusals_are_tested_in_order(rt: HostRuntime) -> Result<(), Fail> {
-    are_so(&rt, rt.alloc(), &[], None, &NONE)
+fn refusals_are_tested_in_order(rt: HostRuntime) {
+    are_so(&rt, rt.alloc(), &[], None, &NONE);
 }

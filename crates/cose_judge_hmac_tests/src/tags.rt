@@ -10,35 +10,42 @@ use coset_structures::{MacContext, mac_structure_data};
 use std::alloc::Global;
 use std::collections::BTreeSet;
 use std::process::Abort;
-use std::test::Fail;
+
+/// The one parameter of a symmetric key.
+fn params(rt: &impl Abort, alloc: Global, secret: &[u8]) -> Vec<(Label, Value)> {
+    let secret = secret.to_vec(alloc).expect(rt, "no memory");
+    let mut params = Vec::new(alloc);
+    let pushed = params.push((Label::Int(-1), Value::Bytes(secret)));
+    pushed.expect(rt, "no memory");
+    params
+}
 
 /// A symmetric key for anything.
-fn key(alloc: Global, id: &[u8], secret: &[u8]) -> Result<CoseKey, Fail> {
-    let mut params = Vec::new(alloc);
-    params.push((Label::Int(-1), Value::Bytes(secret.to_vec(alloc)?)))?;
-    Ok(CoseKey {
+fn key(rt: &impl Abort, alloc: Global, id: &[u8], secret: &[u8]) -> CoseKey {
+    CoseKey {
         kty: KeyType::Assigned(iana::KeyType::Symmetric),
-        key_id: id.to_vec(alloc)?,
+        key_id: id.to_vec(alloc).expect(rt, "no memory"),
         alg: None,
         key_ops: BTreeSet::new(alloc),
         base_iv: Vec::new(alloc),
-        params,
-    })
+        params: params(rt, alloc, secret),
+    }
 }
 
 /// A set of symmetric keys with these ids and secrets.
-pub(crate) fn key_set(alloc: Global, keys: &[(&[u8], &[u8])]) -> Result<CoseKeySet, Fail> {
+pub(crate) fn key_set(rt: &impl Abort, alloc: Global, keys: &[(&[u8], &[u8])]) -> CoseKeySet {
     let mut all = Vec::new(alloc);
     for (id, secret) in keys {
-        all.push(key(alloc, id, secret)?)?;
+        let pushed = all.push(key(rt, alloc, id, secret));
+        pushed.expect(rt, "no memory");
     }
-    Ok(CoseKeySet(all))
+    CoseKeySet(all)
 }
 
 /// The protected header whose bytes in hex are these.
-pub(crate) fn protected(alloc: Global, text: &str) -> Result<ProtectedHeader, Fail> {
-    let bytes = hex::decode(alloc, text)?;
-    Ok(ProtectedHeader::from_cbor_bstr(alloc, Value::Bytes(bytes))?)
+pub(crate) fn protected(rt: &impl Abort, alloc: Global, text: &str) -> ProtectedHeader {
+    let bytes = hex::decode(alloc, text).expect(rt, "hex");
+    ProtectedHeader::from_cbor_bstr(alloc, Value::Bytes(bytes)).expect(rt, "a header")
 }
 
 /// A protected header and a tag in hex, and whether the tag is good for a message with it, the external data 01 and the payload "hi".
@@ -71,15 +78,11 @@ const ROWS: &[(&str, &str, bool)] = &[
 ];
 
 /// The row's tag is judged as the row says.
-fn is_judged(
-    rt: &impl Abort,
-    alloc: Global,
-    keys: &CoseKeySet,
-    row: &(&str, &str, bool),
-) -> Result<(), Fail> {
-    let protected = protected(alloc, row.0)?;
-    let covered = mac_structure_data(alloc, MacContext::CoseMac0, &protected, &[1], b"hi")?;
-    let tag = hex::decode(alloc, row.1)?;
+fn is_judged(rt: &impl Abort, alloc: Global, keys: &CoseKeySet, row: &(&str, &str, bool)) {
+    let protected = protected(rt, alloc, row.0);
+    let covered = mac_structure_data(alloc, MacContext::CoseMac0, &protected, &[1], b"hi");
+    let covered = covered.expect(rt, "a structure");
+    let tag = hex::decode(alloc, row.1).expect(rt, "hex");
     let unprotected = Header::new(alloc);
     let is_good = is_good_tag(
         keys,
@@ -90,55 +93,48 @@ fn is_judged(
     );
     let (text, hex, want) = *row;
     assert_eq!(rt; is_good, want, "{text} {hex}");
-    Ok(())
 }
 
 #[test]
-fn headers_say_what_is_judged(rt: HostRuntime) -> Result<(), Fail> {
+fn headers_say_what_is_judged(rt: HostRuntime) {
     let alloc = rt.alloc();
-    let keys = key_set(alloc, &[(b"", &[0])])?;
+    let keys = key_set(&rt, alloc, &[(b"", &[0])]);
     for row in ROWS {
-        is_judged(&rt, alloc, &keys, row)?;
+        is_judged(&rt, alloc, &keys, row);
     }
-    Ok(())
 }
 
 /// Whether the tag over "text" under this secret is good for a message with this header.
 fn is_good(
-    alloc: Global,
-    keys: &CoseKeySet,
-    unprotected: &Header,
-    secret: u8,
-) -> Result<bool, Fail> {
-    let protected = protected(alloc, "a10105")?;
-    let tag = hmac_sha256(&[secret], b"text");
-    Ok(is_good_tag(keys, &protected, unprotected, b"text", &tag))
-}
-
-/// Of the secrets 1, 2 and 3 the tag under this one alone is good for a message with this header.
-fn one_is_good(
     rt: &impl Abort,
     alloc: Global,
     keys: &CoseKeySet,
     unprotected: &Header,
-    which: u8,
-) -> Result<(), Fail> {
+    secret: u8,
+) -> bool {
+    let protected = protected(rt, alloc, "a10105");
+    let tag = hmac_sha256(&[secret], b"text");
+    is_good_tag(keys, &protected, unprotected, b"text", &tag)
+}
+
+/// Of the secrets 1, 2 and 3 the tag under this one alone is good for a message with this header.
+fn one_is_good(rt: &impl Abort, alloc: Global, keys: &CoseKeySet, unprotected: &Header, which: u8) {
     for secret in [1, 2, 3] {
-        let got = is_good(alloc, keys, unprotected, secret)?;
+        let got = is_good(rt, alloc, keys, unprotected, secret);
         assert_eq!(rt; got, secret == which, "secret {secret}");
     }
-    Ok(())
 }
 
 /// A header with this key id.
-pub(crate) fn named(alloc: Global, id: &[u8]) -> Result<Header, Fail> {
-    Ok(HeaderBuilder::new(alloc).key_id(id.to_vec(alloc)?).build())
+pub(crate) fn named(rt: &impl Abort, alloc: Global, id: &[u8]) -> Header {
+    let key_id = id.to_vec(alloc).expect(rt, "no memory");
+    HeaderBuilder::new(alloc).key_id(key_id).build()
 }
 
 #[test]
-fn the_first_key_that_fits_decides(rt: HostRuntime) -> Result<(), Fail> {
+fn the_first_key_that_fits_decides(rt: HostRuntime) {
     let alloc = rt.alloc();
-    let keys = key_set(alloc, &[(b"a", &[1]), (b"", &[2]), (b"", &[3])])?;
-    one_is_good(&rt, alloc, &keys, &named(alloc, b"a")?, 1)?;
-    one_is_good(&rt, alloc, &keys, &Header::new(alloc), 2)
+    let keys = key_set(&rt, alloc, &[(b"a", &[1]), (b"", &[2]), (b"", &[3])]);
+    one_is_good(&rt, alloc, &keys, &named(&rt, alloc, b"a"), 1);
+    one_is_good(&rt, alloc, &keys, &Header::new(alloc), 2);
 }

@@ -8,7 +8,6 @@ use cose_stream::{StreamFault, stream_check};
 use std::alloc::Global;
 use std::fmt::{Debug, Display};
 use std::process::Abort;
-use std::test::Fail;
 
 /// The answer of a check of what this reader gives, and how many bytes were taken. It has no clause but the room, so that a test that
 /// calls it carries none of `stream_check`'s.
@@ -52,11 +51,22 @@ pub fn watched<R: Read + Drop>(
     }
 }
 
+/// The bytes that this is in hex.
+pub fn unhex(rt: &impl Abort, alloc: Global, text: &str) -> Vec<u8> {
+    hex::decode(alloc, text).expect(rt, "bytes in hex")
+}
+
 /// A check of these bytes in hex.
-pub fn watched_hex(alloc: Global, input: &str, aad: &str, room: usize) -> Result<Seen<End>, Fail> {
-    let input = hex::decode(alloc, input)?;
-    let aad = hex::decode(alloc, aad)?;
-    Ok(watched(alloc, input.as_slice(), &aad, room))
+pub fn watched_hex(
+    rt: &impl Abort,
+    alloc: Global,
+    input: &str,
+    aad: &str,
+    room: usize,
+) -> Seen<End> {
+    let input = unhex(rt, alloc, input);
+    let aad = unhex(rt, alloc, aad);
+    watched(alloc, input.as_slice(), &aad, room)
 }
 
 /// Both are the same.
@@ -71,10 +81,10 @@ pub fn same<T: PartialEq + Debug>(
 }
 
 /// This in hex, and then 10,000 bytes that repeat after 251.
-pub fn with_payload(alloc: Global, front: &str) -> Result<Vec<u8>, Fail> {
-    let mut input = hex::decode(alloc, front)?;
+pub fn with_payload(rt: &impl Abort, alloc: Global, front: &str) -> Vec<u8> {
+    let mut input = unhex(rt, alloc, front);
     for index in 0..10_000u32 {
-        input.push((index % 251) as u8)?;
+        input.push((index % 251) as u8).expect(rt, "no memory");
     }
-    Ok(input)
+    input
 }

@@ -1,5 +1,5 @@
 //! A device that installs only the image that its key set vouches for.
-use crate::checks::{same, with_payload};
+use crate::checks::{same, unhex, with_payload};
 use ciborium::de;
 use ciborium_ll::{Decoder, End, Read};
 use cose_judge_hmac::HmacJudge;
@@ -8,7 +8,6 @@ use coset_keys::CoseKeySet;
 use coset_labels::CborSerializable;
 use std::alloc::Global;
 use std::process::Abort;
-use std::test::Fail;
 
 /// Whether the COSE_Mac0 that comes from this reader carries an image with a good tag under one of these keys. The image passes through
 /// 4 KiB, and is never held whole.
@@ -35,57 +34,53 @@ const KEYS: &str = "81a201042050000102030405060708090a0b0c0d0e0f";
 const TAG: &str = "1b8777f515d37d649cd4ca44cc495cc2fe3dfdb5a9fa036f0288cbdc1df89845";
 
 /// The keys, as they were read.
-fn keys(alloc: Global) -> Result<CoseKeySet, Fail> {
-    let bytes = hex::decode(alloc, KEYS)?;
-    Ok(CoseKeySet::from_slice(alloc, bytes.as_slice())?)
+fn keys(rt: &impl Abort, alloc: Global) -> CoseKeySet {
+    let bytes = unhex(rt, alloc, KEYS);
+    CoseKeySet::from_slice(alloc, bytes.as_slice()).expect(rt, "a key set")
 }
 
 /// The tag 17, an array of four, both headers, the title of 10,000 bytes and these, and the tag.
-fn message(alloc: Global) -> Result<Vec<u8>, Fail> {
-    let mut message = with_payload(alloc, "d18443a10105a0592710")?;
-    let tag = hex::decode(alloc, TAG)?;
-    message.extend_from_slice(&[0x58, 0x20])?;
-    message.extend_from_slice(&tag)?;
-    Ok(message)
+fn message(rt: &impl Abort, alloc: Global) -> Vec<u8> {
+    let mut message = with_payload(rt, alloc, "d18443a10105a0592710");
+    let tag = unhex(rt, alloc, TAG);
+    message
+        .extend_from_slice(&[0x58, 0x20])
+        .expect(rt, "no memory");
+    message.extend_from_slice(&tag).expect(rt, "no memory");
+    message
 }
 
 /// Whether the message, as it then is, is genuine under the keys has this answer.
-fn answers(
-    rt: &impl Abort,
-    alloc: Global,
-    message: &[u8],
-    want: Result<bool, StreamFault<End>>,
-) -> Result<(), Fail> {
-    let keys = keys(alloc)?;
+fn answers(rt: &impl Abort, alloc: Global, message: &[u8], want: Result<bool, StreamFault<End>>) {
+    let keys = keys(rt, alloc);
     let answer = is_genuine(alloc, &keys, message);
     same(rt, &answer, &want, "answer", &"the image");
-    Ok(())
 }
 
 #[test]
-fn a_firmware_image_is_checked(rt: HostRuntime) -> Result<(), Fail> {
+fn a_firmware_image_is_checked(rt: HostRuntime) {
     let alloc = rt.alloc();
-    let message = message(alloc)?;
-    answers(&rt, alloc, &message, Ok(true))
+    let message = message(&rt, alloc);
+    answers(&rt, alloc, &message, Ok(true));
 }
 
 /// An image with one other byte.
 #[test]
-fn a_changed_image_is_refused(rt: HostRuntime) -> Result<(), Fail> {
+fn a_changed_image_is_refused(rt: HostRuntime) {
     let alloc = rt.alloc();
-    let mut message = message(alloc)?;
+    let mut message = message(&rt, alloc);
     if let Some(byte) = message.get_mut(5_000) {
         *byte ^= 1;
     }
-    answers(&rt, alloc, &message, Ok(false))
+    answers(&rt, alloc, &message, Ok(false));
 }
 
 /// A message whose last byte is missing.
 #[test]
-fn a_short_image_is_no_answer(rt: HostRuntime) -> Result<(), Fail> {
+fn a_short_image_is_no_answer(rt: HostRuntime) {
     let alloc = rt.alloc();
-    let mut message = message(alloc)?;
+    let mut message = message(&rt, alloc);
     message.pop();
     let end = StreamFault::Decode(de::Error::Io(End));
-    answers(&rt, alloc, &message, Err(end))
+    answers(&rt, alloc, &message, Err(end));
 }

@@ -1,5 +1,5 @@
 //! Memory: what a refusal is answered by, and that a payload takes none.
-use crate::checks::{checked, same};
+use crate::checks::{checked, same, unhex};
 use crate::devices::Made;
 use ciborium_ll::End;
 use ciborium_ll::log::Log;
@@ -7,7 +7,6 @@ use cose_stream::StreamFault;
 use cose_stream::gate_core::{About, Judge, Recorder};
 use std::alloc::{AllocError, Global};
 use std::process::Abort;
-use std::test::Fail;
 
 /// A judge that is refused memory once, after so many calls that may ask for it.
 #[derive(Drop)]
@@ -96,14 +95,13 @@ fn is_answered(
 /// The judge has answered a question. It is refused memory at each of the next message's calls in turn: `begin`, six pieces of the
 /// structure in front of the payload, and two of the payload. What it was told stays.
 #[test]
-fn memory_refused_to_the_judge_is_the_answer(rt: HostRuntime) -> Result<(), Fail> {
+fn memory_refused_to_the_judge_is_the_answer(rt: HostRuntime) {
     let alloc = rt.alloc();
-    let message = hex::decode(alloc, MESSAGE)?;
+    let message = unhex(&rt, alloc, MESSAGE);
     for calls in 0..9 {
         is_answered(&rt, alloc, &message, calls, (Err(StreamFault::Memory), 1));
     }
     is_answered(&rt, alloc, &message, 9, (Ok(true), 2));
-    Ok(())
 }
 
 /// A judge that says yes, and takes no memory. It counts the bytes that it is fed.

@@ -6,7 +6,6 @@ use coset_headers::Header;
 use coset_labels::{CborSerializable, CoseError, Label, RegisteredLabelWithPrivate, iana};
 use std::alloc::Global;
 use std::process::Abort;
-use std::test::Fail;
 
 /// Headers, and the fault that each has.
 const REFUSED: &[(&str, &str)] = &[
@@ -57,8 +56,8 @@ const REFUSED: &[(&str, &str)] = &[
 ];
 
 #[test]
-fn headers_are_refused(rt: HostRuntime) -> Result<(), Fail> {
-    all_read::<Header>(&rt, rt.alloc(), REFUSED)
+fn headers_are_refused(rt: HostRuntime) {
+    all_read::<Header>(&rt, rt.alloc(), REFUSED);
 }
 
 /// Headers, and how they are written back.
@@ -77,74 +76,83 @@ const WRITTEN_BACK: &[(&str, &str)] = &[
 ];
 
 #[test]
-fn headers_are_written_back(rt: HostRuntime) -> Result<(), Fail> {
-    all_read::<Header>(&rt, rt.alloc(), WRITTEN_BACK)
+fn headers_are_written_back(rt: HostRuntime) {
+    all_read::<Header>(&rt, rt.alloc(), WRITTEN_BACK);
 }
 
 /// A header with a partial IV, which took the place of an IV.
-fn with_partial_iv(alloc: Global) -> Result<Header, Fail> {
-    let key_id = [1, 2, 3].to_vec(alloc)?;
-    let iv = [9].to_vec(alloc)?;
-    let partial_iv = [1, 2, 3].to_vec(alloc)?;
-    let header = HeaderBuilder::new(alloc)
+fn with_partial_iv(rt: &impl Abort, alloc: Global) -> Header {
+    HeaderBuilder::new(alloc)
         .algorithm(iana::Algorithm::A128GCM)
-        .key_id(key_id)
-        .iv(iv)
-        .partial_iv(partial_iv)
-        .build();
-    Ok(header)
+        .key_id([1, 2, 3].to_vec(alloc).expect(rt, "no memory"))
+        .iv([9].to_vec(alloc).expect(rt, "no memory"))
+        .partial_iv([1, 2, 3].to_vec(alloc).expect(rt, "no memory"))
+        .build()
 }
 
 /// A header whose critical label is for private use.
-fn with_private_label(alloc: Global) -> Result<Header, Fail> {
+fn with_private_label(rt: &impl Abort, alloc: Global) -> Header {
     let private = RegisteredLabelWithPrivate::PrivateUse(-65537);
-    let builder = HeaderBuilder::new(alloc).add_critical_label(private)?;
-    Ok(builder.build())
+    HeaderBuilder::new(alloc)
+        .add_critical_label(private)
+        .expect(rt, "no memory")
+        .build()
 }
 
 /// A header with an IV, which took the place of a partial IV.
-fn with_iv(alloc: Global) -> Result<Header, Fail> {
-    let text = String::from_str(alloc, "x")?;
-    let builder = HeaderBuilder::new(alloc)
+fn with_iv(rt: &impl Abort, alloc: Global) -> Header {
+    let text = String::from_str(alloc, "x").expect(rt, "no memory");
+    HeaderBuilder::new(alloc)
         .algorithm_label(RegisteredLabelWithPrivate::Text(text))
-        .add_critical(iana::HeaderParameter::Alg)?
+        .add_critical(iana::HeaderParameter::Alg)
+        .expect(rt, "no memory")
         .content_format(iana::CoapContentFormat::Json)
-        .partial_iv([7].to_vec(alloc)?)
-        .iv([8].to_vec(alloc)?);
-    Ok(builder.build())
+        .partial_iv([7].to_vec(alloc).expect(rt, "no memory"))
+        .iv([8].to_vec(alloc).expect(rt, "no memory"))
+        .build()
 }
 
 /// The header is the same as a copy of it, and its bytes in hex are these.
-fn is_copied(rt: &impl Abort, alloc: Global, header: Header, want: &str) -> Result<(), Fail> {
-    let copy = header.clone(alloc)?;
+fn is_copied(rt: &impl Abort, alloc: Global, header: Header, want: &str) {
+    let copy = header.clone(alloc).expect(rt, "no memory");
     holds(rt, copy == header, want);
-    writes(rt, alloc, header, want)
+    writes(rt, alloc, header, want);
 }
 
 #[test]
-fn headers_are_built(rt: HostRuntime) -> Result<(), Fail> {
+fn headers_are_built(rt: HostRuntime) {
     let alloc = rt.alloc();
-    let header = with_partial_iv(alloc)?;
-    is_copied(&rt, alloc, header, "a3010104430102030643010203")?;
-    writes(&rt, alloc, with_private_label(alloc)?, "a102813a00010000")?;
-    writes(&rt, alloc, with_iv(alloc)?, "a4016178028101031832054108")
+    let header = with_partial_iv(&rt, alloc);
+    is_copied(&rt, alloc, header, "a3010104430102030643010203");
+    let header = with_private_label(&rt, alloc);
+    writes(&rt, alloc, header, "a102813a00010000");
+    writes(
+        &rt,
+        alloc,
+        with_iv(&rt, alloc),
+        "a4016178028101031832054108",
+    );
 }
 
 /// A header whose rest has two labels.
-fn with_rest(alloc: Global) -> Result<Header, Fail> {
-    let text = String::from_str(alloc, "a")?;
-    let builder = HeaderBuilder::new(alloc)
-        .value(24, Value::Null)?
-        .text_value(text, Value::Bool(true))?;
-    Ok(builder.build())
+fn with_rest(rt: &impl Abort, alloc: Global) -> Header {
+    let text = String::from_str(alloc, "a").expect(rt, "no memory");
+    HeaderBuilder::new(alloc)
+        .value(24, Value::Null)
+        .expect(rt, "no memory")
+        .text_value(text, Value::Bool(true))
+        .expect(rt, "no memory")
+        .build()
 }
 
 /// A header whose rest has a label twice.
-fn with_repeat(alloc: Global) -> Result<Header, Fail> {
-    let builder = HeaderBuilder::new(alloc)
-        .value(24, Value::Null)?
-        .value(24, Value::Bool(true))?;
-    Ok(builder.build())
+fn with_repeat(rt: &impl Abort, alloc: Global) -> Header {
+    HeaderBuilder::new(alloc)
+        .value(24, Value::Null)
+        .expect(rt, "no memory")
+        .value(24, Value::Bool(true))
+        .expect(rt, "no memory")
+        .build()
 }
 
 /// The header is not written, since it has a label twice.
@@ -155,41 +163,47 @@ fn is_not_written(rt: &impl Abort, alloc: Global, header: Header) {
 }
 
 /// A header whose rest has the label of a field.
-fn with_field_in_rest(alloc: Global) -> Result<Header, Fail> {
+fn with_field_in_rest(rt: &impl Abort, alloc: Global) -> Header {
     let mut header = HeaderBuilder::new(alloc)
         .algorithm(iana::Algorithm::ES256)
         .build();
     let one = Value::Integer(Integer::from(1u64));
-    header.rest.push((Label::Int(1), one))?;
-    Ok(header)
+    let pushed = header.rest.push((Label::Int(1), one));
+    pushed.expect(rt, "no memory");
+    header
 }
 
 #[test]
-fn repeats_in_the_rest(rt: HostRuntime) -> Result<(), Fail> {
+fn repeats_in_the_rest(rt: HostRuntime) {
     let alloc = rt.alloc();
-    writes(&rt, alloc, with_rest(alloc)?, "a21818f66161f5")?;
-    is_not_written(&rt, alloc, with_repeat(alloc)?);
+    writes(&rt, alloc, with_rest(&rt, alloc), "a21818f66161f5");
+    is_not_written(&rt, alloc, with_repeat(&rt, alloc));
     // a label of a field in the rest is not seen as twice
-    writes(&rt, alloc, with_field_in_rest(alloc)?, "a201260101")
+    writes(&rt, alloc, with_field_in_rest(&rt, alloc), "a201260101");
 }
 
 /// A header with 100,000 labels in the rest.
-fn long(alloc: Global) -> Result<Header, Fail> {
+fn long(rt: &impl Abort, alloc: Global) -> Header {
     let mut header = Header::new(alloc);
     for n in 0..100_000i64 {
-        header.rest.push((Label::Int(n + 8), Value::Null))?;
+        let pushed = header.rest.push((Label::Int(n + 8), Value::Null));
+        pushed.expect(rt, "no memory");
     }
-    Ok(header)
+    header
+}
+
+/// These bytes are a header with so many labels, and are written back.
+fn is_long(rt: &impl Abort, alloc: Global, bytes: &[u8]) {
+    let read = Header::from_slice(alloc, bytes).expect(rt, "a header");
+    holds(rt, read.rest.len() == 100_000, "each label is read");
+    let back = read.to_vec(alloc).expect(rt, "bytes");
+    holds(rt, back.as_slice() == bytes, "what is written back");
 }
 
 /// A hostile header must not take quadratic time.
 #[test]
-fn a_hundred_thousand_labels(rt: HostRuntime) -> Result<(), Fail> {
-    let alloc = rt.alloc();
-    let bytes = long(alloc)?.to_vec(alloc)?;
-    let read = Header::from_slice(alloc, bytes.as_slice())?;
-    holds(&rt, read.rest.len() == 100_000, "each label is read");
-    let back = read.to_vec(alloc)?;
-    holds(&rt, back == bytes, "what is written back");
-    Ok(())
+fn a_hundred_thousand_labels(rt: HostRuntime) {
+    let header = long(&rt, rt.alloc());
+    let bytes = header.to_vec(rt.alloc()).expect(&rt, "bytes");
+    is_long(&rt, rt.alloc(), bytes.as_slice());
 }

@@ -3,14 +3,14 @@
 use crate::tools::{
     ASKED, Encrypted, MISSING, Message, Met, Row, are_refused, asked, decrypts, is_asked_for,
     is_decrypted, is_refused_with_tag, is_written_back, joined, makes, meets_in_order, missing,
-    opens, read, repeated, same, with_algorithm,
+    opens, owned, read, repeated, same, unhex, with_algorithm,
 };
 use coset_builders::HeaderBuilder;
 use coset_encrypted::{CoseEncrypt, CoseEncrypt0, CoseEncrypt0Builder, CoseEncryptBuilder};
 use coset_labels::{CoseError, Fault, iana};
 use coset_recipients::CoseRecipient;
 use std::alloc::{AllocError, Global};
-use std::test::Fail;
+use std::process::Abort;
 
 const REFUSED_ENCRYPT0: &[Row] = &[
     ("a0", "got map, expected array"),
@@ -35,9 +35,9 @@ const REFUSED_ENCRYPT: &[Row] = &[
 ];
 
 #[test]
-fn messages_are_refused_from_the_last_element_on(rt: HostRuntime) -> Result<(), Fail> {
-    are_refused::<CoseEncrypt0>(&rt, rt.alloc(), REFUSED_ENCRYPT0)?;
-    are_refused::<CoseEncrypt>(&rt, rt.alloc(), REFUSED_ENCRYPT)
+fn messages_are_refused_from_the_last_element_on(rt: HostRuntime) {
+    are_refused::<CoseEncrypt0>(&rt, rt.alloc(), REFUSED_ENCRYPT0);
+    are_refused::<CoseEncrypt>(&rt, rt.alloc(), REFUSED_ENCRYPT);
 }
 
 /// A message of RFC 9052, appendix C.
@@ -49,15 +49,12 @@ const ENCRYPT: &str =
     "d8608443a10101a1054c02d1f7e6f26c43d4868d87ce582464f84d913ba60a76070a9a48f26e97e863e28529d8f5335e5f0165eee976b4a5f6c6f09d818344a101381fa30458246d65726961646f632e6272616e64796275636b406275636b6c616e642e6578616d706c65225821706572656772696e2e746f6f6b407475636b626f726f7567682e6578616d706c6535420101581841e0d76f579dbd0d936a662d54d8582037de2e366fde1c62";
 
 #[test]
-fn tagged_messages_are_read_and_written_back(rt: HostRuntime) -> Result<(), Fail> {
+fn tagged_messages_are_read_and_written_back(rt: HostRuntime) {
     let alloc = rt.alloc();
-    let bytes = hex::decode(alloc, ENCRYPT0)?;
-    let answer = is_written_back::<CoseEncrypt0>(alloc, &bytes, 0);
+    let answer = is_written_back::<CoseEncrypt0>(alloc, &unhex(&rt, alloc, ENCRYPT0), 0);
     same(&rt, &answer, &Ok(true), "COSE_Encrypt0");
-    let bytes = hex::decode(alloc, ENCRYPT)?;
-    let answer = is_written_back::<CoseEncrypt>(alloc, &bytes, 1);
+    let answer = is_written_back::<CoseEncrypt>(alloc, &unhex(&rt, alloc, ENCRYPT), 1);
     same(&rt, &answer, &Ok(true), "COSE_Encrypt");
-    Ok(())
 }
 
 const OTHER_TAGS: &[Row] = &[
@@ -66,11 +63,10 @@ const OTHER_TAGS: &[Row] = &[
 ];
 
 #[test]
-fn other_tags_are_refused(rt: HostRuntime) -> Result<(), Fail> {
+fn other_tags_are_refused(rt: HostRuntime) {
     for row in OTHER_TAGS {
-        is_refused_with_tag::<CoseEncrypt0>(&rt, rt.alloc(), row)?;
+        is_refused_with_tag::<CoseEncrypt0>(&rt, rt.alloc(), row);
     }
-    Ok(())
 }
 
 /// What is built with a cipher that gives what it is handed.
@@ -198,58 +194,58 @@ const OPENED_ENCRYPT0: Row = ("8340a040", "8368456e6372797074304040");
 const OPENED_ENCRYPT: Row = ("8440a04080", "8367456e63727970744040");
 
 #[test]
-fn a_cipher_is_handed_the_ciphertext_and_the_structure(rt: HostRuntime) -> Result<(), Fail> {
-    opens::<CoseEncrypt0>(&rt, rt.alloc(), &OPENED_ENCRYPT0)?;
-    opens::<CoseEncrypt>(&rt, rt.alloc(), &OPENED_ENCRYPT)
+fn a_cipher_is_handed_the_ciphertext_and_the_structure(rt: HostRuntime) {
+    opens::<CoseEncrypt0>(&rt, rt.alloc(), &OPENED_ENCRYPT0);
+    opens::<CoseEncrypt>(&rt, rt.alloc(), &OPENED_ENCRYPT);
 }
 
 /// A message that was read, with another header, which can't be written, and no ciphertext.
-fn repeated_encrypt0(alloc: Global) -> Result<CoseEncrypt0, Fail> {
-    let mut message: CoseEncrypt0 = read(alloc, "8340a0f6")?;
+fn repeated_encrypt0(rt: &impl Abort, alloc: Global) -> CoseEncrypt0 {
+    let mut message: CoseEncrypt0 = read(rt, alloc, "8340a0f6");
     message.protected.original_data = None;
-    message.protected.header = repeated(alloc)?;
-    Ok(message)
+    message.protected.header = repeated(rt, alloc);
+    message
 }
 
 /// As `repeated_encrypt0`.
-fn repeated_encrypt(alloc: Global) -> Result<CoseEncrypt, Fail> {
-    let mut message: CoseEncrypt = read(alloc, "8440a0f680")?;
+fn repeated_encrypt(rt: &impl Abort, alloc: Global) -> CoseEncrypt {
+    let mut message: CoseEncrypt = read(rt, alloc, "8440a0f680");
     message.protected.original_data = None;
-    message.protected.header = repeated(alloc)?;
-    Ok(message)
+    message.protected.header = repeated(rt, alloc);
+    message
 }
 
 #[test]
-fn a_missing_ciphertext_is_met_first(rt: HostRuntime) -> Result<(), Fail> {
+fn a_missing_ciphertext_is_met_first(rt: HostRuntime) {
     let alloc = rt.alloc();
-    let message = repeated_encrypt0(alloc)?;
+    let message = repeated_encrypt0(&rt, alloc);
     meets_in_order(&rt, alloc, message, "COSE_Encrypt0");
-    let message = repeated_encrypt(alloc)?;
+    let message = repeated_encrypt(&rt, alloc);
     meets_in_order(&rt, alloc, message, "COSE_Encrypt");
-    Ok(())
 }
 
 /// A message with the algorithm A128GCM, the IV h'05' and the ciphertext h'0708'.
-fn built_encrypt0(alloc: Global) -> Result<CoseEncrypt0, CoseError> {
-    let sealed = [7, 8].to_vec(alloc)?;
-    let iv = [5].to_vec(alloc)?;
-    let built = CoseEncrypt0Builder::new(alloc)
+fn built_encrypt0(rt: &impl Abort, alloc: Global) -> CoseEncrypt0 {
+    let sealed = owned(rt, alloc, &[7, 8]);
+    let iv = owned(rt, alloc, &[5]);
+    CoseEncrypt0Builder::new(alloc)
         .protected(with_algorithm(alloc, iana::Algorithm::A128GCM))
         .unprotected(HeaderBuilder::new(alloc).iv(iv).build())
-        .create_ciphertext(alloc, b"hi", &[9], move |_plain, _data| sealed)?;
-    Ok(built.build())
+        .create_ciphertext(alloc, b"hi", &[9], move |_plain, _data| sealed)
+        .expect(rt, "no memory")
+        .build()
 }
 
 #[test]
-fn messages_are_built_and_decrypted(rt: HostRuntime) -> Result<(), Fail> {
+fn messages_are_built_and_decrypted(rt: HostRuntime) {
     let alloc = rt.alloc();
     decrypts(
         &rt,
         alloc,
-        built_encrypt0(alloc),
+        built_encrypt0(&rt, alloc),
         "07088368456e63727970743043a101014109",
         "d08343a10101a1054105420708",
-    )
+    );
 }
 
 /// A message while it is built, with a recipient.
@@ -258,35 +254,37 @@ fn with_recipient(alloc: Global) -> Result<CoseEncryptBuilder, CoseError> {
 }
 
 /// A message with the algorithm A128GCM and the ciphertext h'0708'.
-fn built_encrypt(alloc: Global, builder: CoseEncryptBuilder) -> Result<CoseEncrypt, CoseError> {
-    let sealed = [7, 8].to_vec(alloc)?;
-    let built = builder
+fn built_encrypt(rt: &impl Abort, alloc: Global, builder: CoseEncryptBuilder) -> CoseEncrypt {
+    let sealed = owned(rt, alloc, &[7, 8]);
+    builder
         .protected(with_algorithm(alloc, iana::Algorithm::A128GCM))
         .unprotected(HeaderBuilder::new(alloc).build())
-        .create_ciphertext(alloc, b"hi", &[9], move |_plain, _data| sealed)?;
-    Ok(built.build())
+        .create_ciphertext(alloc, b"hi", &[9], move |_plain, _data| sealed)
+        .expect(rt, "no memory")
+        .build()
 }
 
 #[test]
-fn messages_with_recipients_are_built_and_decrypted(rt: HostRuntime) -> Result<(), Fail> {
+fn messages_with_recipients_are_built_and_decrypted(rt: HostRuntime) {
     let alloc = rt.alloc();
+    let builder = with_recipient(alloc).expect(&rt, "no memory");
     decrypts(
         &rt,
         alloc,
-        built_encrypt(alloc, with_recipient(alloc)?),
+        built_encrypt(&rt, alloc, builder),
         "07088367456e637279707443a101014109",
         "d8608443a10101a0420708818340a0f6",
-    )
+    );
 }
 
 #[test]
-fn a_cipher_that_may_fail_is_handed_the_plaintext(rt: HostRuntime) -> Result<(), Fail> {
+fn a_cipher_that_may_fail_is_handed_the_plaintext(rt: HostRuntime) {
     let alloc = rt.alloc();
     let built = encrypt0_sealed(alloc, CoseEncrypt0Builder::new(alloc), &[]);
-    makes(&rt, alloc, built, "68698368456e6372797074304040")?;
+    makes(&rt, alloc, built, "68698368456e6372797074304040");
     let builder = CoseEncryptBuilder::new(alloc).ciphertext(Vec::new(alloc));
     let built = encrypt_sealed(alloc, builder, &[]);
-    makes(&rt, alloc, built, "68698367456e63727970744040")
+    makes(&rt, alloc, built, "68698367456e63727970744040");
 }
 
 /// What is met where a cipher fails that is handed a plaintext.

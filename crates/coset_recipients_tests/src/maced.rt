@@ -2,8 +2,8 @@
 //! those of RFC 9052, appendix C.
 use crate::tools::{
     ASKED, MISSING, Maced, Message, Met, Row, are_refused, asked, content, gives, is_asked_for,
-    is_refused_with_tag, is_verified, is_written_back, makes, meets_in_order, missing, repeated,
-    same, with_algorithm,
+    is_refused_with_tag, is_verified, is_written_back, makes, meets_in_order, missing, owned,
+    repeated, same, unhex, with_algorithm,
 };
 use coset_builders::HeaderBuilder;
 use coset_headers::Header;
@@ -11,7 +11,7 @@ use coset_labels::{CoseError, Fault, TaggedCborSerializable, iana};
 use coset_maced::{CoseMac, CoseMac0, CoseMac0Builder, CoseMacBuilder};
 use coset_recipients::CoseRecipient;
 use std::alloc::{AllocError, Global};
-use std::test::Fail;
+use std::process::Abort;
 
 const REFUSED_MAC0: &[Row] = &[
     ("a0", "got map, expected array"),
@@ -38,9 +38,9 @@ const REFUSED_MAC: &[Row] = &[
 ];
 
 #[test]
-fn messages_are_refused_from_the_last_element_on(rt: HostRuntime) -> Result<(), Fail> {
-    are_refused::<CoseMac0>(&rt, rt.alloc(), REFUSED_MAC0)?;
-    are_refused::<CoseMac>(&rt, rt.alloc(), REFUSED_MAC)
+fn messages_are_refused_from_the_last_element_on(rt: HostRuntime) {
+    are_refused::<CoseMac0>(&rt, rt.alloc(), REFUSED_MAC0);
+    are_refused::<CoseMac>(&rt, rt.alloc(), REFUSED_MAC);
 }
 
 /// A message of RFC 9052, appendix C.
@@ -51,15 +51,12 @@ const MAC: &str =
     "d8618543a1010fa054546869732069732074686520636f6e74656e742e489e1226ba1f81b848818340a20125044a6f75722d73656372657440";
 
 #[test]
-fn tagged_messages_are_read_and_written_back(rt: HostRuntime) -> Result<(), Fail> {
+fn tagged_messages_are_read_and_written_back(rt: HostRuntime) {
     let alloc = rt.alloc();
-    let bytes = hex::decode(alloc, MAC0)?;
-    let answer = is_written_back::<CoseMac0>(alloc, &bytes, 0);
+    let answer = is_written_back::<CoseMac0>(alloc, &unhex(&rt, alloc, MAC0), 0);
     same(&rt, &answer, &Ok(true), "COSE_Mac0");
-    let bytes = hex::decode(alloc, MAC)?;
-    let answer = is_written_back::<CoseMac>(alloc, &bytes, 1);
+    let answer = is_written_back::<CoseMac>(alloc, &unhex(&rt, alloc, MAC), 1);
     same(&rt, &answer, &Ok(true), "COSE_Mac");
-    Ok(())
 }
 
 const OTHER_TAGS: &[Row] = &[
@@ -71,11 +68,10 @@ const OTHER_TAGS: &[Row] = &[
 ];
 
 #[test]
-fn other_tags_are_refused(rt: HostRuntime) -> Result<(), Fail> {
+fn other_tags_are_refused(rt: HostRuntime) {
     for row in OTHER_TAGS {
-        is_refused_with_tag::<CoseMac0>(&rt, rt.alloc(), row)?;
+        is_refused_with_tag::<CoseMac0>(&rt, rt.alloc(), row);
     }
-    Ok(())
 }
 
 /// What the tag of `built_mac0` covers with the external data h'01': 84644d41433043a101054101426869.
@@ -115,21 +111,22 @@ fn mac_verified(alloc: Global, message: &CoseMac, aad: &[u8]) -> Result<(), Met>
 }
 
 /// A message with the algorithm HMAC 256/256, the payload "hi" and the tag h'aa'.
-fn built_mac0(alloc: Global) -> Result<CoseMac0, CoseError> {
-    let tag = [0xaa].to_vec(alloc)?;
-    let payload = [0x68, 0x69].to_vec(alloc)?;
-    let built = CoseMac0Builder::new(alloc)
+fn built_mac0(rt: &impl Abort, alloc: Global) -> CoseMac0 {
+    let tag = owned(rt, alloc, &[0xaa]);
+    let payload = owned(rt, alloc, &[0x68, 0x69]);
+    CoseMac0Builder::new(alloc)
         .protected(with_algorithm(alloc, iana::Algorithm::HMAC_256_256))
         .unprotected(HeaderBuilder::new(alloc).build())
         .payload(payload)
-        .create_tag(alloc, &[1], move |_data| tag)?;
-    Ok(built.build())
+        .create_tag(alloc, &[1], move |_data| tag)
+        .expect(rt, "no memory")
+        .build()
 }
 
 #[test]
-fn tags_are_made_and_verified(rt: HostRuntime) -> Result<(), Fail> {
+fn tags_are_made_and_verified(rt: HostRuntime) {
     let alloc = rt.alloc();
-    let message = built_mac0(alloc)?;
+    let message = built_mac0(&rt, alloc);
     let verified = mac0_verified(alloc, &message, &[1]);
     same(&rt, &verified, &Ok(()), "the same external data");
     let verified = mac0_verified(alloc, &message, &[2]);
@@ -140,27 +137,29 @@ fn tags_are_made_and_verified(rt: HostRuntime) -> Result<(), Fail> {
         alloc,
         message.to_tagged_vec(alloc),
         "d18443a10105a042686941aa",
-    )
+    );
 }
 
 /// A message with the algorithm HMAC 256/256, the payload "hi", one recipient and the tag h'aa'.
-fn built_mac(alloc: Global) -> Result<CoseMac, CoseError> {
-    let tag = [0xaa].to_vec(alloc)?;
-    let payload = [0x68, 0x69].to_vec(alloc)?;
-    let built = CoseMacBuilder::new(alloc)
+fn built_mac(rt: &impl Abort, alloc: Global) -> CoseMac {
+    let tag = owned(rt, alloc, &[0xaa]);
+    let payload = owned(rt, alloc, &[0x68, 0x69]);
+    CoseMacBuilder::new(alloc)
         .protected(with_algorithm(alloc, iana::Algorithm::HMAC_256_256))
         .unprotected(HeaderBuilder::new(alloc).build())
         .tag(Vec::new(alloc))
-        .add_recipient(CoseRecipient::new(alloc))?
+        .add_recipient(CoseRecipient::new(alloc))
+        .expect(rt, "no memory")
         .payload(payload)
-        .create_tag(alloc, &[], move |_data| tag)?;
-    Ok(built.build())
+        .create_tag(alloc, &[], move |_data| tag)
+        .expect(rt, "no memory")
+        .build()
 }
 
 #[test]
-fn tags_with_recipients_are_made_and_verified(rt: HostRuntime) -> Result<(), Fail> {
+fn tags_with_recipients_are_made_and_verified(rt: HostRuntime) {
     let alloc = rt.alloc();
-    let message = built_mac(alloc)?;
+    let message = built_mac(&rt, alloc);
     let verified = mac_verified(alloc, &message, &[]);
     same(&rt, &verified, &Ok(()), "no external data");
     gives(
@@ -168,7 +167,7 @@ fn tags_with_recipients_are_made_and_verified(rt: HostRuntime) -> Result<(), Fai
         alloc,
         message.to_tagged_vec(alloc),
         "d8618543a10105a042686941aa818340a0f6",
-    )
+    );
 }
 
 /// What is built with a signer that gives what it is handed.
@@ -198,13 +197,13 @@ fn mac_tagged(
 }
 
 #[test]
-fn a_signer_that_may_fail_is_handed_the_structure(rt: HostRuntime) -> Result<(), Fail> {
+fn a_signer_that_may_fail_is_handed_the_structure(rt: HostRuntime) {
     let alloc = rt.alloc();
     let builder = CoseMac0Builder::new(alloc).tag(Vec::new(alloc));
     let built = mac0_tagged(alloc, builder, Vec::new(alloc), &[]);
-    makes(&rt, alloc, built, "84644d414330404040")?;
+    makes(&rt, alloc, built, "84644d414330404040");
     let built = mac_tagged(alloc, CoseMacBuilder::new(alloc), Vec::new(alloc), &[]);
-    makes(&rt, alloc, built, "84634d4143404040")
+    makes(&rt, alloc, built, "84634d4143404040");
 }
 
 /// What is met where this header can't be written and a signer fails.
@@ -217,11 +216,10 @@ fn mac_fails(alloc: Global, header: Header) -> Option<Met> {
 }
 
 #[test]
-fn a_header_that_cant_be_written_is_met_first(rt: HostRuntime) -> Result<(), Fail> {
-    let met = mac_fails(rt.alloc(), repeated(rt.alloc())?);
+fn a_header_that_cant_be_written_is_met_first(rt: HostRuntime) {
+    let met = mac_fails(rt.alloc(), repeated(&rt, rt.alloc()));
     let want = Some(Fault::Cose(CoseError::DuplicateMapKey));
     same(&rt, &met, &want, "COSE_Mac");
-    Ok(())
 }
 
 impl Message for CoseMac0 {
@@ -273,13 +271,12 @@ impl Message for CoseMac {
 }
 
 #[test]
-fn a_missing_payload_is_met_first(rt: HostRuntime) -> Result<(), Fail> {
+fn a_missing_payload_is_met_first(rt: HostRuntime) {
     let alloc = rt.alloc();
-    let message = CoseMac0Builder::new(alloc).protected(repeated(alloc)?);
+    let message = CoseMac0Builder::new(alloc).protected(repeated(&rt, alloc));
     meets_in_order(&rt, alloc, message.build(), "COSE_Mac0");
-    let message = CoseMacBuilder::new(alloc).protected(repeated(alloc)?);
+    let message = CoseMacBuilder::new(alloc).protected(repeated(&rt, alloc));
     meets_in_order(&rt, alloc, message.build(), "COSE_Mac");
-    Ok(())
 }
 
 /// A verifier that wants what `mac0_tagged` gives.

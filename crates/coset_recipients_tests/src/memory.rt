@@ -40,24 +40,36 @@ const MAC: &[u8] = &[
     0xf6,
 ];
 
-/// Whether a list of recipients is read, copied and written back.
+/// Whether a list that was written has the bytes of `RECIPIENTS`.
+fn is_list(alloc: Global, written: Value) -> Result<bool, CoseError> {
+    let bytes = written.to_vec(alloc)?;
+    Ok(bytes.as_slice() == RECIPIENTS)
+}
+
+/// Whether a list of recipients is copied and written back.
 fn list_is_written_back(alloc: Global, list: &Vec<CoseRecipient>) -> Result<bool, CoseError> {
     let copies = clone_recipients(alloc, list)?;
     let is_same = copies == *list;
-    let written = write_recipients(alloc, copies)?;
-    let bytes = written.to_vec(alloc)?;
-    Ok(is_same && bytes.as_slice() == RECIPIENTS)
+    let is_written = is_list(alloc, write_recipients(alloc, copies)?)?;
+    Ok(is_same && is_written)
+}
+
+/// Whether each of these recipients is read again.
+fn are_read_again(alloc: Global, list: &[CoseRecipient]) -> Result<bool, CoseError> {
+    let mut all = true;
+    for recipient in list {
+        all = is_read_again(alloc, recipient)? && all;
+    }
+    Ok(all)
 }
 
 /// Whether a list of recipients is read, copied and written back, and each of them is read again.
 fn are_written_back(alloc: Global) -> Result<bool, CoseError> {
     let value = Value::from_slice(alloc, RECIPIENTS)?;
     let list = read_recipients(alloc, value)?;
-    let mut all = list_is_written_back(alloc, &list)?;
-    for recipient in &list {
-        all = is_read_again(alloc, recipient)? && all;
-    }
-    Ok(all)
+    let is_written_back = list_is_written_back(alloc, &list)?;
+    let is_read_again = are_read_again(alloc, &list)?;
+    Ok(is_written_back && is_read_again)
 }
 
 /// What was met by a call whose closures fail only where memory is refused, or where a part is missing that isn't.

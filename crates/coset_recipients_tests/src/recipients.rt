@@ -3,7 +3,8 @@ ghost use Rattle.coset_recipients.specs.Structure.{IsRecipientContext};
 
 use crate::tools::{
     Encrypted, MISSING, Message, Met, Row, are_refused, asked, becomes, copy_gives, gives,
-    is_asked_for, is_decrypted, joined, makes, meets_in_order, missing, repeated, with_algorithm,
+    is_asked_for, is_decrypted, joined, makes, meets_in_order, missing, owned, repeated,
+    with_algorithm,
 };
 use coset_builders::HeaderBuilder;
 use coset_labels::{CoseError, Fault, iana};
@@ -11,7 +12,6 @@ use coset_recipients::{CoseRecipient, CoseRecipientBuilder};
 use coset_structures::EncryptionContext;
 use std::alloc::{AllocError, Global};
 use std::process::Abort;
-use std::test::Fail;
 
 /// Bytes of recipients, and what is written back.
 const READ: &[Row] = &[
@@ -26,11 +26,10 @@ const READ: &[Row] = &[
 ];
 
 #[test]
-fn recipients_are_read_and_written_back(rt: HostRuntime) -> Result<(), Fail> {
+fn recipients_are_read_and_written_back(rt: HostRuntime) {
     for row in READ {
-        becomes::<CoseRecipient>(&rt, rt.alloc(), row)?;
+        becomes::<CoseRecipient>(&rt, rt.alloc(), row);
     }
-    Ok(())
 }
 
 const REFUSED: &[Row] = &[
@@ -56,8 +55,8 @@ const REFUSED: &[Row] = &[
 ];
 
 #[test]
-fn recipients_are_refused_from_the_last_element_on(rt: HostRuntime) -> Result<(), Fail> {
-    are_refused::<CoseRecipient>(&rt, rt.alloc(), REFUSED)
+fn recipients_are_refused_from_the_last_element_on(rt: HostRuntime) {
+    are_refused::<CoseRecipient>(&rt, rt.alloc(), REFUSED);
 }
 
 /// What is built with a cipher that gives what it is handed.
@@ -119,64 +118,62 @@ fn decrypted(
 }
 
 /// A recipient with the ciphertext h'0a'.
-fn inner(alloc: Global) -> Result<CoseRecipient, CoseError> {
-    let sealed = [0x0a].to_vec(alloc)?;
-    Ok(CoseRecipientBuilder::new(alloc).ciphertext(sealed).build())
+fn inner(rt: &impl Abort, alloc: Global) -> CoseRecipient {
+    CoseRecipientBuilder::new(alloc)
+        .ciphertext(owned(rt, alloc, &[0x0a]))
+        .build()
 }
 
 /// A recipient while it is built, with the algorithm A128KW, the key id h'31', and a recipient of its own.
-fn outer(alloc: Global) -> Result<CoseRecipientBuilder, CoseError> {
-    let key_id = [0x31].to_vec(alloc)?;
+fn outer(rt: &impl Abort, alloc: Global) -> CoseRecipientBuilder {
+    let key_id = owned(rt, alloc, &[0x31]);
     CoseRecipientBuilder::new(alloc)
         .protected(with_algorithm(alloc, iana::Algorithm::A128KW))
         .unprotected(HeaderBuilder::new(alloc).key_id(key_id).build())
-        .add_recipient(inner(alloc)?)
+        .add_recipient(inner(rt, alloc))
+        .expect(rt, "no memory")
 }
 
 /// That recipient with the ciphertext h'0708'.
-fn built(alloc: Global) -> Result<CoseRecipient, CoseError> {
-    let sealed = [7, 8].to_vec(alloc)?;
+fn built(rt: &impl Abort, alloc: Global) -> CoseRecipient {
+    let sealed = owned(rt, alloc, &[7, 8]);
     let context = EncryptionContext::MacRecipient;
-    let built = outer(alloc)?.create_ciphertext(
-        alloc,
-        context,
-        b"key",
-        &[9],
-        move |_plain, _data| sealed,
-    )?;
-    Ok(built.build())
+    outer(rt, alloc)
+        .create_ciphertext(alloc, context, b"key", &[9], move |_plain, _data| sealed)
+        .expect(rt, "no memory")
+        .build()
 }
 
 #[test]
-fn recipients_are_built_and_decrypted(rt: HostRuntime) -> Result<(), Fail> {
+fn recipients_are_built_and_decrypted(rt: HostRuntime) {
     let alloc = rt.alloc();
-    let built = built(alloc)?;
+    let built = built(&rt, alloc);
     gives(
         &rt,
         alloc,
         decrypted(alloc, &built, EncryptionContext::MacRecipient, &[9]),
         "0708836d4d61635f526563697069656e7443a101224109",
-    )?;
-    copy_gives(&rt, alloc, &built, "8443a10122a1044131420708818340a0410a")
+    );
+    copy_gives(&rt, alloc, &built, "8443a10122a1044131420708818340a0410a");
 }
 
 /// A cipher is handed this structure in hex, with no plaintext in front.
-fn has(rt: &impl Abort, alloc: Global, context: EncryptionContext, want: &str) -> Result<(), Fail>
+fn has(rt: &impl Abort, alloc: Global, context: EncryptionContext, want: &str)
     requires { IsRecipientContext context }
 {
     let built = sealed(alloc, CoseRecipientBuilder::new(alloc), context, b"", &[]);
-    makes(rt, alloc, built, want)
+    makes(rt, alloc, built, want);
 }
 
 #[test]
-fn each_context_has_its_structure(rt: HostRuntime) -> Result<(), Fail> {
+fn each_context_has_its_structure(rt: HostRuntime) {
     let alloc = rt.alloc();
     let want = "836d456e635f526563697069656e744040";
-    has(&rt, alloc, EncryptionContext::EncRecipient, want)?;
+    has(&rt, alloc, EncryptionContext::EncRecipient, want);
     let want = "836d4d61635f526563697069656e744040";
-    has(&rt, alloc, EncryptionContext::MacRecipient, want)?;
+    has(&rt, alloc, EncryptionContext::MacRecipient, want);
     let want = "836d5265635f526563697069656e744040";
-    has(&rt, alloc, EncryptionContext::RecRecipient, want)
+    has(&rt, alloc, EncryptionContext::RecRecipient, want);
 }
 
 impl Message for CoseRecipient {
@@ -217,13 +214,12 @@ impl Encrypted for CoseRecipient {
 }
 
 #[test]
-fn a_missing_ciphertext_is_met_first(rt: HostRuntime) -> Result<(), Fail> {
-    let header = repeated(rt.alloc())?;
+fn a_missing_ciphertext_is_met_first(rt: HostRuntime) {
+    let header = repeated(&rt, rt.alloc());
     let recipient = CoseRecipientBuilder::new(rt.alloc())
         .protected(header)
         .build();
     meets_in_order(&rt, rt.alloc(), recipient, "a recipient");
-    Ok(())
 }
 
 /// The plaintext, and three times the structure that each of the ciphers is handed.

@@ -6,7 +6,6 @@ use coset_labels::{CborSerializable, CoseError, Fault, TaggedCborSerializable, i
 use std::alloc::{AllocError, Global};
 use std::fmt::Debug;
 use std::process::Abort;
-use std::test::Fail;
 
 /// What a call meets that asks a closure of the tests.
 pub(crate) type Met = Fault<CoseError>;
@@ -44,14 +43,19 @@ pub(crate) fn with_algorithm(alloc: Global, alg: iana::Algorithm) -> Header {
     HeaderBuilder::new(alloc).algorithm(alg).build()
 }
 
+/// These bytes in memory of their own.
+pub(crate) fn owned(rt: &impl Abort, alloc: Global, bytes: &[u8]) -> Vec<u8> {
+    bytes.to_vec(alloc).expect(rt, "no memory")
+}
+
 /// A header that can't be written.
-pub(crate) fn repeated(alloc: Global) -> Result<Header, CoseError> {
-    Ok(
-        HeaderBuilder::new(alloc)
-            .value(100, Value::Null)?
-            .value(100, Value::Null)?
-            .build(),
-    )
+pub(crate) fn repeated(rt: &impl Abort, alloc: Global) -> Header {
+    HeaderBuilder::new(alloc)
+        .value(100, Value::Null)
+        .expect(rt, "no memory")
+        .value(100, Value::Null)
+        .expect(rt, "no memory")
+        .build()
 }
 
 /// What is met first: a missing part, then a header that can't be written, then the closure's own error.
@@ -69,10 +73,9 @@ pub(crate) fn same<T: PartialEq + Debug>(rt: &impl Abort, got: &T, want: &T, wha
 }
 
 /// These bytes are the ones in hex.
-pub(crate) fn is_hex(rt: &impl Abort, alloc: Global, bytes: &[u8], want: &str) -> Result<(), Fail> {
-    let text = hex::encode(alloc, bytes)?;
+pub(crate) fn is_hex(rt: &impl Abort, alloc: Global, bytes: &[u8], want: &str) {
+    let text = hex::encode(alloc, bytes).expect(rt, "no memory");
     same(rt, &text.as_str(), &want, "bytes");
-    Ok(())
 }
 
 /// What was made are these bytes in hex.
@@ -81,52 +84,44 @@ pub(crate) fn gives<E: Debug + Drop>(
     alloc: Global,
     made: Result<Vec<u8>, E>,
     want: &str,
-) -> Result<(), Fail> {
-    let made = made?;
-    is_hex(rt, alloc, made.as_slice(), want)
+) {
+    let made = made.expect(rt, want);
+    is_hex(rt, alloc, made.as_slice(), want);
+}
+
+/// The bytes that stand in this hex.
+pub(crate) fn unhex(rt: &impl Abort, alloc: Global, text: &str) -> Vec<u8> {
+    hex::decode(alloc, text).expect(rt, "no hex")
 }
 
 /// What these bytes in hex are.
-pub(crate) fn read<T: CborSerializable>(alloc: Global, text: &str) -> Result<T, Fail> {
-    let bytes = hex::decode(alloc, text)?;
-    Ok(T::from_slice(alloc, bytes.as_slice())?)
+pub(crate) fn read<T: CborSerializable>(rt: &impl Abort, alloc: Global, text: &str) -> T {
+    let bytes = unhex(rt, alloc, text);
+    T::from_slice(alloc, bytes.as_slice()).expect(rt, text)
 }
 
 /// Bytes in hex, and a text.
 pub(crate) type Row = (&'static str, &'static str);
 
 /// There is an error with the row's text.
-fn is_text(
-    rt: &impl Abort,
-    alloc: Global,
-    error: Option<CoseError>,
-    row: &Row,
-) -> Result<(), Fail> {
-    let text = match error {
-        Some(error) => format!(in alloc; "{error}")?,
-        None => String::new(alloc),
-    };
+fn is_text(rt: &impl Abort, alloc: Global, error: Option<CoseError>, row: &Row) {
+    let error = error.expect(rt, row.0);
+    let text = format!(in alloc; "{error}").expect(rt, "no memory");
     same(rt, &text.as_str(), &row.1, row.0);
-    Ok(())
 }
 
 /// The row's bytes are refused with its text.
-fn is_refused<T: CborSerializable>(rt: &impl Abort, alloc: Global, row: &Row) -> Result<(), Fail> {
-    let bytes = hex::decode(alloc, row.0)?;
+fn is_refused<T: CborSerializable>(rt: &impl Abort, alloc: Global, row: &Row) {
+    let bytes = unhex(rt, alloc, row.0);
     let error = T::from_slice(alloc, bytes.as_slice()).err();
-    is_text(rt, alloc, error, row)
+    is_text(rt, alloc, error, row);
 }
 
 /// Each row's bytes are refused with its text.
-pub(crate) fn are_refused<T: CborSerializable>(
-    rt: &impl Abort,
-    alloc: Global,
-    rows: &[Row],
-) -> Result<(), Fail> {
+pub(crate) fn are_refused<T: CborSerializable>(rt: &impl Abort, alloc: Global, rows: &[Row]) {
     for row in rows {
-        is_refused::<T>(rt, alloc, row)?;
+        is_refused::<T>(rt, alloc, row);
     }
-    Ok(())
 }
 
 /// The row's bytes, with a tag or without one, are refused with its text.
@@ -134,10 +129,10 @@ pub(crate) fn is_refused_with_tag<T: TaggedCborSerializable>(
     rt: &impl Abort,
     alloc: Global,
     row: &Row,
-) -> Result<(), Fail> {
-    let bytes = hex::decode(alloc, row.0)?;
+) {
+    let bytes = unhex(rt, alloc, row.0);
     let error = T::from_tagged_slice(alloc, bytes.as_slice()).err();
-    is_text(rt, alloc, error, row)
+    is_text(rt, alloc, error, row);
 }
 
 /// A message or a recipient, as the tests see it.
@@ -179,42 +174,57 @@ pub(crate) trait Maced: Message {
 }
 
 /// A copy of it is the same.
-fn is_copied<T: Message>(
-    rt: &impl Abort,
-    alloc: Global,
-    message: &T,
-    at: &str,
-) -> Result<(), Fail> {
-    let copy = message.copied(alloc)?;
+fn is_copied<T: Message>(rt: &impl Abort, alloc: Global, message: &T, at: &str) {
+    let copy = message.copied(alloc).expect(rt, "no memory");
     same(rt, &copy, message, at);
-    Ok(())
 }
 
 /// The row's first bytes are read, copied, and written as its second.
-pub(crate) fn becomes<T: Message>(rt: &impl Abort, alloc: Global, row: &Row) -> Result<(), Fail> {
-    let message: T = read(alloc, row.0)?;
-    is_copied(rt, alloc, &message, row.0)?;
-    gives(rt, alloc, message.to_vec(alloc), row.1)
+pub(crate) fn becomes<T: Message>(rt: &impl Abort, alloc: Global, row: &Row) {
+    let message: T = read(rt, alloc, row.0);
+    is_copied(rt, alloc, &message, row.0);
+    gives(rt, alloc, message.to_vec(alloc), row.1);
 }
 
 /// A copy of it is written as these bytes in hex.
-pub(crate) fn copy_gives<T: Message>(
-    rt: &impl Abort,
-    alloc: Global,
-    message: &T,
-    want: &str,
-) -> Result<(), Fail> {
-    let copy = message.copied(alloc)?;
-    gives(rt, alloc, copy.to_vec(alloc), want)
+pub(crate) fn copy_gives<T: Message>(rt: &impl Abort, alloc: Global, message: &T, want: &str) {
+    let copy = message.copied(alloc).expect(rt, "no memory");
+    gives(rt, alloc, copy.to_vec(alloc), want);
 }
 
-/// What is written with a tag of what was written without one and read.
-fn tagged_again<T: CborSerializable + TaggedCborSerializable>(
+/// Whether it is written with a tag as these bytes.
+fn is_tagged<T: TaggedCborSerializable>(
     alloc: Global,
     message: T,
-) -> Result<Vec<u8>, CoseError> {
+    bytes: &[u8],
+) -> Result<bool, CoseError> {
+    let tagged = message.to_tagged_vec(alloc)?;
+    Ok(tagged.as_slice() == bytes)
+}
+
+/// Whether these bytes are written with a tag of what was written without one and read.
+fn is_tagged_again<T: CborSerializable + TaggedCborSerializable>(
+    alloc: Global,
+    message: T,
+    bytes: &[u8],
+) -> Result<bool, CoseError> {
     let untagged = message.to_vec(alloc)?;
-    T::from_slice(alloc, untagged.as_slice())?.to_tagged_vec(alloc)
+    let read = T::from_slice(alloc, untagged.as_slice())?;
+    is_tagged(alloc, read, bytes)
+}
+
+/// Whether a copy of a message with so many recipients is the same, and is written as these bytes where it was written without a tag and
+/// read again.
+fn is_copied_and_tagged<T: Message + TaggedCborSerializable>(
+    alloc: Global,
+    message: &T,
+    bytes: &[u8],
+    count: usize,
+) -> Result<bool, CoseError> {
+    let copy = message.copied(alloc)?;
+    let is_same = copy == *message && message.count() == count;
+    let is_again = is_tagged_again(alloc, copy, bytes)?;
+    Ok(is_same && is_again)
 }
 
 /// Whether these bytes of a message with so many recipients are read, copied and written back, also where the copy was written without a
@@ -225,11 +235,9 @@ pub(crate) fn is_written_back<T: Message + TaggedCborSerializable>(
     count: usize,
 ) -> Result<bool, CoseError> {
     let message = T::from_tagged_slice(alloc, bytes)?;
-    let copy = message.copied(alloc)?;
-    let is_same = copy == message && message.count() == count;
-    let again = tagged_again(alloc, copy)?;
-    let tagged = message.to_tagged_vec(alloc)?;
-    Ok(is_same && tagged.as_slice() == bytes && again.as_slice() == bytes)
+    let is_same = is_copied_and_tagged(alloc, &message, bytes, count)?;
+    let is_tagged = is_tagged(alloc, message, bytes)?;
+    Ok(is_same && is_tagged)
 }
 
 /// Whether it is the same where it is made a value, or bytes, and read again.
@@ -256,33 +264,34 @@ pub(crate) fn meets_in_order<T: Message>(
 }
 
 /// What was built has this ciphertext or tag in hex.
-pub(crate) fn makes<T: Message>(
-    rt: &impl Abort,
-    alloc: Global,
-    built: Result<T, Met>,
-    want: &str,
-) -> Result<(), Fail> {
-    let message = built?;
-    is_hex(rt, alloc, message.made(), want)
+pub(crate) fn makes<T: Message>(rt: &impl Abort, alloc: Global, built: Result<T, Met>, want: &str) {
+    let message = built.expect(rt, want);
+    is_hex(rt, alloc, message.made(), want);
 }
 
 /// A cipher is handed the row's second bytes where the first are decrypted.
-pub(crate) fn opens<T: Encrypted>(rt: &impl Abort, alloc: Global, row: &Row) -> Result<(), Fail> {
-    let message: T = read(alloc, row.0)?;
-    gives(rt, alloc, message.opened(alloc, &[]), row.1)
+pub(crate) fn opens<T: Encrypted>(rt: &impl Abort, alloc: Global, row: &Row) {
+    let message: T = read(rt, alloc, row.0);
+    gives(rt, alloc, message.opened(alloc, &[]), row.1);
 }
 
 /// A cipher is handed these bytes where what was built is decrypted, and it is written as those.
 pub(crate) fn decrypts<T: Encrypted + TaggedCborSerializable>(
     rt: &impl Abort,
     alloc: Global,
-    built: Result<T, CoseError>,
+    message: T,
     handed: &str,
     bytes: &str,
-) -> Result<(), Fail> {
-    let message = built?;
-    gives(rt, alloc, message.decrypted(alloc, &[9]), handed)?;
-    gives(rt, alloc, message.to_tagged_vec(alloc), bytes)
+) {
+    gives(rt, alloc, message.decrypted(alloc, &[9]), handed);
+    gives(rt, alloc, message.to_tagged_vec(alloc), bytes);
+}
+
+/// What a cipher is handed where a message is decrypted, and what was handed is decrypted again.
+fn opened_again<T: Encrypted>(alloc: Global, mut message: T) -> Result<Vec<u8>, Met> {
+    let opened = message.opened(alloc, b"aad")?;
+    message.fill(opened);
+    message.decrypted(alloc, b"aad")
 }
 
 /// Whether these are what a cipher is handed where a message is decrypted, and what was handed is decrypted again.
@@ -291,10 +300,7 @@ pub(crate) fn is_decrypted<T: Encrypted>(
     sealed: Result<T, Met>,
     want: &[u8],
 ) -> Result<bool, Met> {
-    let mut message = sealed?;
-    let opened = message.opened(alloc, b"aad")?;
-    message.fill(opened);
-    let again = message.decrypted(alloc, b"aad")?;
+    let again = opened_again(alloc, sealed?)?;
     Ok(again.as_slice() == want)
 }
 

@@ -3,8 +3,8 @@ use crate::tools::same;
 use coset_builders::HeaderBuilder;
 use coset_labels::{Fault, TaggedCborSerializable, iana};
 use coset_signed::{CoseSign1, CoseSign1Builder};
-use std::alloc::{AllocError, Global};
-use std::test::Fail;
+use std::alloc::Global;
+use std::process::Abort;
 
 /// Why an image is not installed.
 #[derive(Debug, Clone, Copy, PartialEq, Eq)]
@@ -49,18 +49,18 @@ fn check_message(
     maker: &Maker,
 ) -> Result<(), Fault<Refused>> {
     if message.payload.is_some() {
-        return Err(Fault::Caller(Refused::Attached));
+        Err(Fault::Caller(Refused::Attached))
+    } else if message.protected.header.key_id.as_slice() != maker.key_id.as_slice() {
+        Err(Fault::Caller(Refused::OtherKey))
+    } else {
+        message.verify_detached_signature(alloc, image, PURPOSE, move |signature, data| {
+            if maker.signed(signature, data) {
+                Ok(())
+            } else {
+                Err(Refused::Signature)
+            }
+        })
     }
-    if message.protected.header.key_id.as_slice() != maker.key_id.as_slice() {
-        return Err(Fault::Caller(Refused::OtherKey));
-    }
-    message.verify_detached_signature(alloc, image, PURPOSE, move |signature, data| {
-        if maker.signed(signature, data) {
-            Ok(())
-        } else {
-            Err(Refused::Signature)
-        }
-    })
 }
 
 /// Checks an image against its manifest.
@@ -75,38 +75,41 @@ fn check_image(
 }
 
 /// A maker with this name.
-fn named(alloc: Global, name: &[u8]) -> Result<Maker, AllocError> {
-    Ok(Maker {
-        key_id: name.to_vec(alloc)?,
+fn named(rt: &impl Abort, alloc: Global, name: &[u8]) -> Maker {
+    Maker {
+        key_id: name.to_vec(alloc).expect(rt, "no memory"),
         key: 0x5a,
-    })
+    }
 }
 
 /// The manifest of "image 1".
-fn manifest_by(alloc: Global, signer: &Maker) -> Result<Vec<u8>, Fault<AllocError>> {
-    let key_id = b"maker".to_vec(alloc)?;
+fn manifest_by(rt: &impl Abort, alloc: Global, signer: &Maker) -> Vec<u8> {
+    let key_id = b"maker".to_vec(alloc).expect(rt, "no memory");
     let header = HeaderBuilder::new(alloc)
         .algorithm(iana::Algorithm::ES256)
         .key_id(key_id)
         .build();
-    let built = CoseSign1Builder::new(alloc)
+    CoseSign1Builder::new(alloc)
         .protected(header)
         .try_create_detached_signature(
             alloc,
             b"image 1",
             PURPOSE,
             move |data| [signer.sign(data)].to_vec(alloc),
-        )?;
-    Ok(built.build().to_tagged_vec(alloc)?)
+        )
+        .expect(rt, "a signature")
+        .build()
+        .to_tagged_vec(alloc)
+        .expect(rt, "a manifest")
 }
 
 #[test]
-fn an_image_is_checked_against_its_manifest(rt: HostRuntime) -> Result<(), Fail> {
+fn an_image_is_checked_against_its_manifest(rt: HostRuntime) {
     let alloc = rt.alloc();
-    let attached = hex::decode(alloc, "d28440a04040")?;
-    let other = named(alloc, b"other")?;
-    let maker = named(alloc, b"maker")?;
-    let manifest = manifest_by(alloc, &maker)?;
+    let attached = hex::decode(alloc, "d28440a04040").expect(&rt, "hex");
+    let other = named(&rt, alloc, b"other");
+    let maker = named(&rt, alloc, b"maker");
+    let manifest = manifest_by(&rt, alloc, &maker);
     let answers = [
         check_image(alloc, &manifest, b"image 1", &maker),
         check_image(alloc, &manifest, b"image 2", &maker),
@@ -120,5 +123,4 @@ fn an_image_is_checked_against_its_manifest(rt: HostRuntime) -> Result<(), Fail>
         Err(Fault::Caller(Refused::Attached)),
     ];
     same(&rt, &answers, &want, "answers");
-    Ok(())
 }

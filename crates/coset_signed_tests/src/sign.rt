@@ -10,7 +10,6 @@ use coset_labels::{CoseError, Fault};
 use coset_signed::{CoseSign, CoseSignBuilder};
 use std::alloc::{AllocError, Global};
 use std::process::Abort;
-use std::test::Fail;
 
 impl Message for CoseSign {
     fn copied(&self, alloc: Global) -> Result<CoseSign, AllocError> {
@@ -106,27 +105,30 @@ fn signer(alloc: Global) -> CoseSignature {
 const COVERED: &[u8] = b"\x85\x69Signature\x40\x43\xa1\x01\x26\x40\x42hi";
 
 /// A message while it is built, with the payload "hi" and the signature h'00'.
-fn by_one(alloc: Global) -> Result<CoseSignBuilder, CoseError> {
-    let bytes = [0].to_vec(alloc)?;
-    let payload = b"hi".to_vec(alloc)?;
+fn by_one(rt: &impl Abort, alloc: Global) -> CoseSignBuilder {
+    let bytes = [0].to_vec(alloc).expect(rt, "no memory");
+    let payload = b"hi".to_vec(alloc).expect(rt, "no memory");
     let first = CoseSignatureBuilder::new(alloc).signature(bytes).build();
     CoseSignBuilder::new(alloc)
         .protected(Header::new(alloc))
         .unprotected(Header::new(alloc))
         .payload(payload)
         .add_signature(first)
+        .expect(rt, "no memory")
 }
 
 /// As `by_one`, with another signature, which is h'01' where it covers `COVERED`.
-fn by_two(alloc: Global) -> Result<CoseSignBuilder, CoseError> {
-    let bytes = [1].to_vec(alloc)?;
-    by_one(alloc)?.add_created_signature(alloc, signer(alloc), &[], move |data| {
-        if data == COVERED {
-            bytes
-        } else {
-            Vec::new(alloc)
-        }
-    })
+fn by_two(rt: &impl Abort, alloc: Global) -> CoseSignBuilder {
+    let bytes = [1].to_vec(alloc).expect(rt, "no memory");
+    by_one(rt, alloc)
+        .add_created_signature(alloc, signer(alloc), &[], move |data| {
+            if data == COVERED {
+                bytes
+            } else {
+                Vec::new(alloc)
+            }
+        })
+        .expect(rt, "a signature")
 }
 
 /// What is built with one more signature, of a signer that gives what it is handed.
@@ -141,28 +143,22 @@ fn signed(alloc: Global, builder: CoseSignBuilder, aad: &[u8]) -> Result<CoseSig
 }
 
 /// As `by_two`, with a third signature, which is what it covers.
-fn by_three(alloc: Global) -> Result<CoseSign, Met> {
-    signed(alloc, by_two(alloc)?, &[0xaa])
+fn by_three(rt: &impl Abort, alloc: Global) -> CoseSign {
+    signed(alloc, by_two(rt, alloc), &[0xaa]).expect(rt, "a message")
 }
 
 /// There are three signatures, and only the third is what it covers.
-fn is_third<T: Message>(
-    rt: &impl Abort,
-    alloc: Global,
-    built: Result<T, Met>,
-    signer: &CoseSignature,
-) -> Result<(), Fail> {
-    let message = built?;
+fn is_third<T: Message>(rt: &impl Abort, alloc: Global, message: &T, signer: &CoseSignature) {
     same(rt, &message.count(), &3, "signatures");
-    verifies(rt, alloc, &message, 2, &[0xaa], &Ok(()));
+    verifies(rt, alloc, message, 2, &[0xaa], &Ok(()));
     let mismatch = Err(Fault::Caller(MISMATCH));
-    verifies(rt, alloc, &message, 1, &[0xaa], &mismatch);
+    verifies(rt, alloc, message, 1, &[0xaa], &mismatch);
     gives(
         rt,
         alloc,
         message.covered(alloc, Some(signer), &[0xaa]),
         "85695369676e61747572654043a1012641aa426869",
-    )
+    );
 }
 
 /// The bytes of `by_three`, without a tag and with one.
@@ -172,10 +168,10 @@ const WRITTEN: Row = (
 );
 
 #[test]
-fn a_message_is_signed_by_several(rt: HostRuntime) -> Result<(), Fail> {
+fn a_message_is_signed_by_several(rt: HostRuntime) {
     let alloc = rt.alloc();
-    is_third(&rt, alloc, by_three(alloc), &signer(alloc))?;
-    writes(&rt, alloc, by_three(alloc), &WRITTEN)
+    is_third(&rt, alloc, &by_three(&rt, alloc), &signer(alloc));
+    writes(&rt, alloc, by_three(&rt, alloc), &WRITTEN);
 }
 
 /// What is built for the payload "hi", which is carried elsewhere, with a signer that gives what it is handed.
@@ -191,50 +187,47 @@ fn signed_elsewhere(alloc: Global, aad: &[u8]) -> Result<CoseSign, Met> {
 }
 
 /// A message with the signature h'01' of a payload that is carried elsewhere.
-fn built_elsewhere(alloc: Global) -> Result<CoseSign, CoseError> {
-    let bytes = [1].to_vec(alloc)?;
-    let built = CoseSignBuilder::new(alloc).add_detached_signature(
-        alloc,
-        signer(alloc),
-        b"hi",
-        &[],
-        move |_data| bytes,
-    )?;
-    Ok(built.build())
+fn built_elsewhere(rt: &impl Abort, alloc: Global) -> CoseSign {
+    let bytes = [1].to_vec(alloc).expect(rt, "no memory");
+    CoseSignBuilder::new(alloc)
+        .add_detached_signature(alloc, signer(alloc), b"hi", &[], move |_data| bytes)
+        .expect(rt, "a signature")
+        .build()
 }
 
 #[test]
-fn a_payload_is_carried_elsewhere(rt: HostRuntime) -> Result<(), Fail> {
+fn a_payload_is_carried_elsewhere(rt: HostRuntime) {
     let alloc = rt.alloc();
     is_elsewhere(
         &rt,
         alloc,
-        signed_elsewhere(alloc, &[]),
+        &signed_elsewhere(alloc, &[]).expect(&rt, "a message"),
         Some(&signer(alloc)),
         &[],
         &(
             "85695369676e61747572654043a1012640426869",
             "85695369676e61747572654043a101264040",
         ),
-    )?;
+    );
     writes_untagged(
         &rt,
         alloc,
-        built_elsewhere(alloc),
+        built_elsewhere(&rt, alloc),
         "8440a0f6818343a10126a04101",
-    )
+    );
 }
 
 /// A message while it is built, with a signature whose header can't be written.
-fn by_repeated(alloc: Global) -> Result<CoseSignBuilder, CoseError> {
-    CoseSignBuilder::new(alloc).add_signature(with_header(alloc, repeated(alloc)?))
+fn by_repeated(rt: &impl Abort, alloc: Global) -> CoseSignBuilder {
+    CoseSignBuilder::new(alloc)
+        .add_signature(with_header(alloc, repeated(rt, alloc)))
+        .expect(rt, "no memory")
 }
 
 #[test]
-fn a_repeated_label_is_not_signed(rt: HostRuntime) -> Result<(), Fail> {
-    let builder = by_repeated(rt.alloc())?;
+fn a_repeated_label_is_not_signed(rt: HostRuntime) {
+    let builder = by_repeated(&rt, rt.alloc());
     is_not_signed(&rt, rt.alloc(), builder.build());
-    Ok(())
 }
 
 const ROWS: &[Row] = &[
@@ -270,10 +263,10 @@ const ROWS: &[Row] = &[
 ];
 
 #[test]
-fn messages_are_read_and_refused(rt: HostRuntime) -> Result<(), Fail> {
-    are_read::<CoseSign>(&rt, rt.alloc(), ROWS)?;
+fn messages_are_read_and_refused(rt: HostRuntime) {
+    are_read::<CoseSign>(&rt, rt.alloc(), ROWS);
     let want = CoseError::UnexpectedItem("tag", "other tag");
-    is_refused_with_tag::<CoseSign>(&rt, rt.alloc(), "d28440a0f680", want)
+    is_refused_with_tag::<CoseSign>(&rt, rt.alloc(), "d28440a0f680", want);
 }
 
 /// A message while it is built, with the payload "hi" and a signature with no bytes.

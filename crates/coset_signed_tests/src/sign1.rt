@@ -10,7 +10,6 @@ use coset_labels::{CoseError, Fault, RegisteredLabel, iana};
 use coset_signed::{CoseSign1, CoseSign1Builder};
 use std::alloc::{AllocError, Global};
 use std::process::Abort;
-use std::test::Fail;
 
 impl Message for CoseSign1 {
     fn copied(&self, alloc: Global) -> Result<CoseSign1, AllocError> {
@@ -81,10 +80,10 @@ impl Message for CoseSign1 {
 const COVERED: &[u8] = b"\x84\x6aSignature1\x43\xa1\x01\x26\x40\x42hi";
 
 /// A message with the algorithm ES256, the payload "hi", and the signature h'010203' where it covers `COVERED`.
-fn built(alloc: Global) -> Result<CoseSign1, CoseError> {
-    let signature = [1, 2, 3].to_vec(alloc)?;
-    let payload = b"hi".to_vec(alloc)?;
-    let built = CoseSign1Builder::new(alloc)
+fn built(rt: &impl Abort, alloc: Global) -> CoseSign1 {
+    let signature = [1, 2, 3].to_vec(alloc).expect(rt, "no memory");
+    let payload = b"hi".to_vec(alloc).expect(rt, "no memory");
+    CoseSign1Builder::new(alloc)
         .protected(es256(alloc))
         .payload(payload)
         .create_signature(alloc, &[], move |data| {
@@ -93,18 +92,19 @@ fn built(alloc: Global) -> Result<CoseSign1, CoseError> {
             } else {
                 Vec::new(alloc)
             }
-        })?;
-    Ok(built.build())
+        })
+        .expect(rt, "a signature")
+        .build()
 }
 
 #[test]
-fn a_message_is_signed_and_written(rt: HostRuntime) -> Result<(), Fail> {
+fn a_message_is_signed_and_written(rt: HostRuntime) {
     writes(
         &rt,
         rt.alloc(),
-        built(rt.alloc()),
+        built(&rt, rt.alloc()),
         &("8443a10126a042686943010203", "d28443a10126a042686943010203"),
-    )
+    );
 }
 
 /// What is built with a signer that gives what it is handed.
@@ -116,62 +116,54 @@ fn signed(alloc: Global, builder: CoseSign1Builder, aad: &[u8]) -> Result<CoseSi
 const AAD: &[u8] = b"this is additional data";
 
 /// A message with the algorithm ES256 and the key id "11", while it is built.
-fn with_key_id(alloc: Global) -> Result<CoseSign1Builder, CoseError> {
-    let key_id = b"11".to_vec(alloc)?;
-    let payload = b"This is the content".to_vec(alloc)?;
+fn with_key_id(rt: &impl Abort, alloc: Global) -> CoseSign1Builder {
+    let key_id = b"11".to_vec(alloc).expect(rt, "no memory");
+    let payload = b"This is the content".to_vec(alloc).expect(rt, "no memory");
     let header = HeaderBuilder::new(alloc)
         .algorithm(iana::Algorithm::ES256)
         .key_id(key_id)
         .build();
-    Ok(
-        CoseSign1Builder::new(alloc)
-            .protected(header)
-            .payload(payload),
-    )
+    CoseSign1Builder::new(alloc)
+        .protected(header)
+        .payload(payload)
 }
 
 /// That message, signed with a signer that gives what it is handed, written and read.
-fn received(alloc: Global) -> Result<CoseSign1, Met> {
-    read_again(alloc, signed(alloc, with_key_id(alloc)?, AAD))
+fn received(rt: &impl Abort, alloc: Global) -> CoseSign1 {
+    let signed = signed(alloc, with_key_id(rt, alloc), AAD);
+    read_again(rt, alloc, signed.expect(rt, "a message"))
 }
 
 /// Sets the content type "text/plain".
-fn set_plain(alloc: Global, header: &mut Header) -> Result<(), AllocError> {
-    let text = String::from_str(alloc, "text/plain")?;
+fn set_plain(rt: &impl Abort, alloc: Global, header: &mut Header) {
+    let text = String::from_str(alloc, "text/plain").expect(rt, "no memory");
     header.content_type = Some(RegisteredLabel::Text(text));
-    Ok(())
 }
 
 /// The signature covers the protected header as it was received, and no other.
-fn covers_what_was_received(
-    rt: &impl Abort,
-    alloc: Global,
-    message: &mut CoseSign1,
-) -> Result<(), Fail> {
+fn covers_what_was_received(rt: &impl Abort, alloc: Global, message: &mut CoseSign1) {
     verifies(rt, alloc, message, 0, AAD, &Ok(()));
-    set_plain(alloc, &mut message.unprotected)?;
+    set_plain(rt, alloc, &mut message.unprotected);
     verifies(rt, alloc, message, 0, AAD, &Ok(()));
     let mismatch = Err(Fault::Caller(MISMATCH));
     verifies(rt, alloc, message, 0, b"other", &mismatch);
-    set_plain(alloc, &mut message.protected.header)?;
+    set_plain(rt, alloc, &mut message.protected.header);
     verifies(rt, alloc, message, 0, AAD, &Ok(()));
     message.protected.original_data = None;
     verifies(rt, alloc, message, 0, AAD, &mismatch);
-    Ok(())
 }
 
 #[test]
-fn signature(rt: HostRuntime) -> Result<(), Fail> {
-    let mut message = received(rt.alloc())?;
-    covers_what_was_received(&rt, rt.alloc(), &mut message)
+fn signature(rt: HostRuntime) {
+    let mut message = received(&rt, rt.alloc());
+    covers_what_was_received(&rt, rt.alloc(), &mut message);
 }
 
 #[test]
-fn a_repeated_label_is_not_signed(rt: HostRuntime) -> Result<(), Fail> {
+fn a_repeated_label_is_not_signed(rt: HostRuntime) {
     let alloc = rt.alloc();
-    let builder = CoseSign1Builder::new(alloc).protected(repeated(alloc)?);
+    let builder = CoseSign1Builder::new(alloc).protected(repeated(&rt, alloc));
     is_not_signed(&rt, alloc, builder.build());
-    Ok(())
 }
 
 /// What is built for the payload "hi", which is carried elsewhere, with a signer that gives what it is handed.
@@ -191,38 +183,36 @@ fn signed_elsewhere(
 }
 
 /// A message with the signature h'07' of a payload that is carried elsewhere.
-fn built_elsewhere(alloc: Global) -> Result<CoseSign1, CoseError> {
-    let signature = [7].to_vec(alloc)?;
-    let built = CoseSign1Builder::new(alloc).create_detached_signature(
-        alloc,
-        b"hi",
-        &[],
-        move |_data| signature,
-    )?;
-    Ok(built.build())
+fn built_elsewhere(rt: &impl Abort, alloc: Global) -> CoseSign1 {
+    let signature = [7].to_vec(alloc).expect(rt, "no memory");
+    CoseSign1Builder::new(alloc)
+        .create_detached_signature(alloc, b"hi", &[], move |_data| signature)
+        .expect(rt, "a signature")
+        .build()
 }
 
 /// A message with two headers and a signature that is replaced.
-fn echoed_elsewhere(alloc: Global) -> Result<CoseSign1, Met> {
-    let signature = [9].to_vec(alloc)?;
-    signed_elsewhere(alloc, es256(alloc), es256(alloc), signature, &[0xaa])
+fn echoed_elsewhere(rt: &impl Abort, alloc: Global) -> CoseSign1 {
+    let signature = [9].to_vec(alloc).expect(rt, "no memory");
+    let signed = signed_elsewhere(alloc, es256(alloc), es256(alloc), signature, &[0xaa]);
+    signed.expect(rt, "a message")
 }
 
 #[test]
-fn a_payload_is_carried_elsewhere(rt: HostRuntime) -> Result<(), Fail> {
+fn a_payload_is_carried_elsewhere(rt: HostRuntime) {
     let alloc = rt.alloc();
     is_elsewhere(
         &rt,
         alloc,
-        echoed_elsewhere(alloc),
+        &echoed_elsewhere(&rt, alloc),
         None,
         &[0xaa],
         &(
             "846a5369676e61747572653143a1012641aa426869",
             "846a5369676e61747572653143a101264040",
         ),
-    )?;
-    writes_untagged(&rt, alloc, built_elsewhere(alloc), "8440a0f64107")
+    );
+    writes_untagged(&rt, alloc, built_elsewhere(&rt, alloc), "8440a0f64107");
 }
 
 const ROWS: &[Row] = &[
@@ -248,9 +238,9 @@ const TAGGED: &[Row] = &[
 ];
 
 #[test]
-fn messages_are_read_and_refused(rt: HostRuntime) -> Result<(), Fail> {
-    are_read::<CoseSign1>(&rt, rt.alloc(), ROWS)?;
-    are_read_with_tag::<CoseSign1>(&rt, rt.alloc(), TAGGED)
+fn messages_are_read_and_refused(rt: HostRuntime) {
+    are_read::<CoseSign1>(&rt, rt.alloc(), ROWS);
+    are_read_with_tag::<CoseSign1>(&rt, rt.alloc(), TAGGED);
 }
 
 /// Whether a message is built with a signer that gives what it is handed, and verified.

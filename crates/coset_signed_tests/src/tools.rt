@@ -6,7 +6,6 @@ use coset_labels::{CborSerializable, CoseError, Fault, TaggedCborSerializable, i
 use std::alloc::{AllocError, Global};
 use std::fmt::Debug;
 use std::process::Abort;
-use std::test::Fail;
 
 /// What a call meets that asks a closure of the tests.
 pub(crate) type Met = Fault<CoseError>;
@@ -39,13 +38,13 @@ pub(crate) fn es256(alloc: Global) -> Header {
 }
 
 /// A header that can't be written.
-pub(crate) fn repeated(alloc: Global) -> Result<Header, CoseError> {
-    Ok(
-        HeaderBuilder::new(alloc)
-            .value(8, Value::Null)?
-            .value(8, Value::Null)?
-            .build(),
-    )
+pub(crate) fn repeated(rt: &impl Abort, alloc: Global) -> Header {
+    HeaderBuilder::new(alloc)
+        .value(8, Value::Null)
+        .expect(rt, "no memory")
+        .value(8, Value::Null)
+        .expect(rt, "no memory")
+        .build()
 }
 
 /// Both are the same.
@@ -54,10 +53,9 @@ pub(crate) fn same<T: PartialEq + Debug>(rt: &impl Abort, got: &T, want: &T, wha
 }
 
 /// These bytes are the ones in hex.
-pub(crate) fn is_hex(rt: &impl Abort, alloc: Global, bytes: &[u8], want: &str) -> Result<(), Fail> {
-    let text = hex::encode(alloc, bytes)?;
+pub(crate) fn is_hex(rt: &impl Abort, alloc: Global, bytes: &[u8], want: &str) {
+    let text = hex::encode(alloc, bytes).expect(rt, "no memory");
     same(rt, &text.as_str(), &want, "bytes");
-    Ok(())
 }
 
 /// What was made are these bytes in hex.
@@ -66,27 +64,31 @@ pub(crate) fn gives<E: Debug + Drop>(
     alloc: Global,
     made: Result<Vec<u8>, E>,
     want: &str,
-) -> Result<(), Fail> {
-    let made = made?;
-    is_hex(rt, alloc, made.as_slice(), want)
+) {
+    let made = made.expect(rt, "bytes");
+    is_hex(rt, alloc, made.as_slice(), want);
 }
 
 /// Bytes in hex, and the bytes that are written of what was read, in hex, or the text of a fault.
 pub(crate) type Row = (&'static str, &'static str);
 
+/// What was written in hex, or the text of the error.
+fn told(rt: &impl Abort, alloc: Global, written: Result<Vec<u8>, CoseError>) -> String {
+    match written {
+        Ok(bytes) => hex::encode(alloc, bytes.as_slice()).expect(rt, "no memory"),
+        Err(error) => format!(in alloc; "{error}").expect(rt, "no memory"),
+    }
+}
+
 /// What was written is the row's second text in hex, or there is an error with that text.
-fn is_row(
-    rt: &impl Abort,
-    alloc: Global,
-    written: Result<Vec<u8>, CoseError>,
-    row: &Row,
-) -> Result<(), Fail> {
-    let text = match written {
-        Ok(bytes) => hex::encode(alloc, bytes.as_slice())?,
-        Err(error) => format!(in alloc; "{error}")?,
-    };
+fn is_row(rt: &impl Abort, alloc: Global, written: Result<Vec<u8>, CoseError>, row: &Row) {
+    let text = told(rt, alloc, written);
     same(rt, &text.as_str(), &row.1, row.0);
-    Ok(())
+}
+
+/// The bytes of the row's first text.
+fn input(rt: &impl Abort, alloc: Global, row: &Row) -> Vec<u8> {
+    hex::decode(alloc, row.0).expect(rt, "hex")
 }
 
 /// What is written of the message that these bytes are. A message that was read can be written.
@@ -95,23 +97,23 @@ fn written_back<T: CborSerializable>(
     alloc: Global,
     bytes: &[u8],
 ) -> Result<Vec<u8>, CoseError> {
-    let written = T::from_slice(alloc, bytes)?.to_vec(alloc);
-    assert!(rt; written.is_ok());
-    written
+    match T::from_slice(alloc, bytes) {
+        Ok(message) => Ok(message.to_vec(alloc).expect(rt, "a message that was read")),
+        Err(error) => Err(error),
+    }
 }
 
 /// Each row's bytes are read and written as its second text, or refused with it.
-pub(crate) fn are_read<T: CborSerializable>(
-    rt: &impl Abort,
-    alloc: Global,
-    rows: &[Row],
-) -> Result<(), Fail> {
+pub(crate) fn are_read<T: CborSerializable>(rt: &impl Abort, alloc: Global, rows: &[Row]) {
     for row in rows {
-        let bytes = hex::decode(alloc, row.0)?;
-        let written = written_back::<T>(rt, alloc, bytes.as_slice());
-        is_row(rt, alloc, written, row)?;
+        let bytes = input(rt, alloc, row);
+        is_row(
+            rt,
+            alloc,
+            written_back::<T>(rt, alloc, bytes.as_slice()),
+            row,
+        );
     }
-    Ok(())
 }
 
 /// As `written_back`, with a tag.
@@ -120,9 +122,14 @@ fn tagged_back<T: TaggedCborSerializable>(
     alloc: Global,
     bytes: &[u8],
 ) -> Result<Vec<u8>, CoseError> {
-    let written = T::from_tagged_slice(alloc, bytes)?.to_tagged_vec(alloc);
-    assert!(rt; written.is_ok());
-    written
+    match T::from_tagged_slice(alloc, bytes) {
+        Ok(message) => Ok(
+            message
+                .to_tagged_vec(alloc)
+                .expect(rt, "a message that was read"),
+        ),
+        Err(error) => Err(error),
+    }
 }
 
 /// As `are_read`, with a tag.
@@ -130,13 +137,16 @@ pub(crate) fn are_read_with_tag<T: TaggedCborSerializable>(
     rt: &impl Abort,
     alloc: Global,
     rows: &[Row],
-) -> Result<(), Fail> {
+) {
     for row in rows {
-        let bytes = hex::decode(alloc, row.0)?;
-        let written = tagged_back::<T>(rt, alloc, bytes.as_slice());
-        is_row(rt, alloc, written, row)?;
+        let bytes = input(rt, alloc, row);
+        is_row(
+            rt,
+            alloc,
+            tagged_back::<T>(rt, alloc, bytes.as_slice()),
+            row,
+        );
     }
-    Ok(())
 }
 
 /// A signer that gives what it is handed.
@@ -156,11 +166,10 @@ pub(crate) fn is_refused_with_tag<T: TaggedCborSerializable>(
     alloc: Global,
     text: &str,
     want: CoseError,
-) -> Result<(), Fail> {
-    let bytes = hex::decode(alloc, text)?;
+) {
+    let bytes = hex::decode(alloc, text).expect(rt, "hex");
     let error = T::from_tagged_slice(alloc, bytes.as_slice()).err();
     same(rt, &error, &Some(want), text);
-    Ok(())
 }
 
 /// A signed message, as the tests see it. Where it has one signature, that is the one at 0.
@@ -214,44 +223,27 @@ pub(crate) trait Message: CborSerializable + TaggedCborSerializable + PartialEq 
 }
 
 /// A copy of it is the same, and is written as these bytes in hex.
-fn is_copied<T: Message>(
-    rt: &impl Abort,
-    alloc: Global,
-    message: &T,
-    want: &str,
-) -> Result<(), Fail> {
-    let copy = message.copied(alloc)?;
+fn is_copied<T: Message>(rt: &impl Abort, alloc: Global, message: &T, want: &str) {
+    let copy = message.copied(alloc).expect(rt, "no memory");
     same(rt, &copy, message, "copy");
-    gives(rt, alloc, copy.to_vec(alloc), want)
+    gives(rt, alloc, copy.to_vec(alloc), want);
 }
 
-/// What was built is written as the first bytes in hex, and with a tag as the second.
-pub(crate) fn writes<T: Message, E: Debug + Drop>(
-    rt: &impl Abort,
-    alloc: Global,
-    built: Result<T, E>,
-    row: &Row,
-) -> Result<(), Fail> {
-    let message = built?;
-    is_copied(rt, alloc, &message, row.0)?;
-    gives(rt, alloc, message.to_tagged_vec(alloc), row.1)
+/// The message is written as the first bytes in hex, and with a tag as the second.
+pub(crate) fn writes<T: Message>(rt: &impl Abort, alloc: Global, message: T, row: &Row) {
+    is_copied(rt, alloc, &message, row.0);
+    gives(rt, alloc, message.to_tagged_vec(alloc), row.1);
 }
 
-/// What was built is written as these bytes in hex.
-pub(crate) fn writes_untagged<T: Message>(
-    rt: &impl Abort,
-    alloc: Global,
-    built: Result<T, CoseError>,
-    want: &str,
-) -> Result<(), Fail> {
-    let message = built?;
-    gives(rt, alloc, message.to_vec(alloc), want)
+/// The message is written as these bytes in hex.
+pub(crate) fn writes_untagged<T: Message>(rt: &impl Abort, alloc: Global, message: T, want: &str) {
+    gives(rt, alloc, message.to_vec(alloc), want);
 }
 
-/// What was built, when it was written and read.
-pub(crate) fn read_again<T: Message>(alloc: Global, built: Result<T, Met>) -> Result<T, Met> {
-    let written = built?.to_vec(alloc)?;
-    Ok(T::from_slice(alloc, written.as_slice())?)
+/// The message, when it was written and read.
+pub(crate) fn read_again<T: Message>(rt: &impl Abort, alloc: Global, message: T) -> T {
+    let written = message.to_vec(alloc).expect(rt, "bytes");
+    T::from_slice(alloc, written.as_slice()).expect(rt, "a message")
 }
 
 /// A message with one signature, which covers a header that can't be written.
@@ -283,34 +275,32 @@ fn covers_elsewhere<T: Message>(
     signer: Option<&CoseSignature>,
     aad: &[u8],
     want: &str,
-) -> Result<(), Fail> {
+) {
     same(rt, &message.is_detached(), &true, "no payload");
-    is_hex(rt, alloc, message.signature(0), want)?;
+    is_hex(rt, alloc, message.signature(0), want);
     let covered = message.covered_elsewhere(alloc, signer, b"hi", aad);
-    gives(rt, alloc, covered, want)?;
+    gives(rt, alloc, covered, want);
     let is_covered = is_covered_elsewhere(alloc, message, b"hi", aad);
     same(rt, &is_covered, &Ok(true), "what is covered");
-    Ok(())
 }
 
-/// What was built has no payload, and one signature, which is what it covers for "hi", in hex the row's first, and nothing else. The
+/// The message has no payload, and one signature, which is what it covers for "hi", in hex the row's first, and nothing else. The
 /// row's second is what is covered with no payload and no external data.
 pub(crate) fn is_elsewhere<T: Message>(
     rt: &impl Abort,
     alloc: Global,
-    built: Result<T, Met>,
+    message: &T,
     signer: Option<&CoseSignature>,
     aad: &[u8],
     row: &Row,
-) -> Result<(), Fail> {
-    let message = built?;
-    covers_elsewhere(rt, alloc, &message, signer, aad, row.0)?;
+) {
+    covers_elsewhere(rt, alloc, message, signer, aad, row.0);
     let verified = message.verified_elsewhere(alloc, 0, b"hi", aad);
     same(rt, &verified, &Ok(()), "the payload");
     let verified = message.verified_elsewhere(alloc, 0, b"ho", aad);
     let mismatch = Err(Fault::Caller(MISMATCH));
     same(rt, &verified, &mismatch, "another payload");
-    gives(rt, alloc, message.covered(alloc, signer, &[]), row.1)
+    gives(rt, alloc, message.covered(alloc, signer, &[]), row.1);
 }
 
 /// Whether the signature there is what it covers.
@@ -335,20 +325,53 @@ fn is_covered_elsewhere<T: Message>(
     Ok(covered.as_slice() == message.signature(0))
 }
 
+/// The value of the message that these bytes are.
+fn value_of<T: Message>(alloc: Global, bytes: &[u8]) -> Result<Value, CoseError> {
+    T::from_slice(alloc, bytes)?.to_cbor_value(alloc)
+}
+
+/// The value of what was written and read.
+fn value_again<T: Message>(alloc: Global, message: T) -> Result<Value, CoseError> {
+    let bytes = message.to_vec(alloc)?;
+    value_of::<T>(alloc, bytes.as_slice())
+}
+
 /// What is written with a tag of what was written without one, read, made a value, and read again.
 fn tagged_again<T: Message>(alloc: Global, message: T) -> Result<Vec<u8>, CoseError> {
-    let bytes = message.to_vec(alloc)?;
-    let value = T::from_slice(alloc, bytes.as_slice())?.to_cbor_value(alloc)?;
+    let value = value_again(alloc, message)?;
     T::from_cbor_value(alloc, value)?.to_tagged_vec(alloc)
+}
+
+/// Whether a copy of it is the same, and is written back as these bytes in several ways.
+fn is_copy_written<T: Message>(
+    alloc: Global,
+    message: &T,
+    bytes: &[u8],
+) -> Result<bool, CoseError> {
+    let copy = message.copied(alloc)?;
+    let is_same = copy == *message;
+    let tagged = tagged_again(alloc, copy)?;
+    Ok(is_same && tagged.as_slice() == bytes)
 }
 
 /// Whether these bytes are read, copied, and written back in several ways.
 pub(crate) fn is_written_back<T: Message>(alloc: Global, bytes: &[u8]) -> Result<bool, CoseError> {
-    let message = T::from_tagged_slice(alloc, bytes)?;
-    let copy = message.copied(alloc)?;
-    let is_same = copy == message;
-    let tagged = tagged_again(alloc, copy)?;
-    Ok(is_same && tagged.as_slice() == bytes)
+    match T::from_tagged_slice(alloc, bytes) {
+        Ok(message) => is_copy_written(alloc, &message, bytes),
+        Err(error) => Err(error),
+    }
+}
+
+/// Whether the signature there is verified, and is what it covers, and there are so many.
+fn is_verified_there<T: Message>(
+    alloc: Global,
+    message: &T,
+    count: usize,
+    which: usize,
+) -> Result<bool, Met> {
+    message.verified(alloc, which, b"aad")?;
+    let is_so = is_covered(alloc, message, which, b"aad")?;
+    Ok(is_so && message.count() == count)
 }
 
 /// Whether a message with so many signatures is verified, of which the one there is what it covers.
@@ -358,10 +381,17 @@ pub(crate) fn is_verified<T: Message>(
     count: usize,
     which: usize,
 ) -> Result<bool, Met> {
-    let message = signed?;
-    message.verified(alloc, which, b"aad")?;
-    let is_so = is_covered(alloc, &message, which, b"aad")?;
-    Ok(is_so && message.count() == count)
+    match signed {
+        Ok(message) => is_verified_there(alloc, &message, count, which),
+        Err(error) => Err(error),
+    }
+}
+
+/// Whether the signature at 0 is verified, and is what it covers, of a payload that is carried elsewhere.
+fn is_verified_without<T: Message>(alloc: Global, message: &T) -> Result<bool, Met> {
+    message.verified_elsewhere(alloc, 0, b"hi", b"aad")?;
+    let is_so = is_covered_elsewhere(alloc, message, b"hi", b"aad")?;
+    Ok(is_so && message.is_detached())
 }
 
 /// Whether a message with one signature is verified, which is what it covers, of a payload that is carried elsewhere.
@@ -369,10 +399,10 @@ pub(crate) fn is_verified_elsewhere<T: Message>(
     alloc: Global,
     signed: Result<T, Met>,
 ) -> Result<bool, Met> {
-    let message = signed?;
-    message.verified_elsewhere(alloc, 0, b"hi", b"aad")?;
-    let is_so = is_covered_elsewhere(alloc, &message, b"hi", b"aad")?;
-    Ok(is_so && message.is_detached())
+    match signed {
+        Ok(message) => is_verified_without(alloc, &message),
+        Err(error) => Err(error),
+    }
 }
 
 /// Whether a signer was asked where something was built, and not where memory was refused.
