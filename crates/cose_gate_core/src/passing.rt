@@ -5,7 +5,7 @@ ghost use Rattle.ciborium_value.specs.Tree.{Tree, tag};
 ghost use Rattle.ciborium_value.specs.View.{view};
 ghost use Rattle.cose_iana.specs.Tags.{cbor_tags};
 ghost use Rattle.cose_gate_core.specs.Findings.{usual, HasMessage, IsCarried, IsJudged, IsUnsigned};
-ghost use Rattle.cose_gate_core.specs.Questions.{payload_of, tag_of, tagged_tree, message_text};
+ghost use Rattle.cose_gate_core.specs.Questions.{all_questions, payload_of, tag_of, tagged_tree, message_text};
 ghost use Rattle.cose_gate_core.specs.View.{message_view};
 ghost use Rattle.coset_labels.specs.declared.error.CoseError.TheVariants.{Memory};
 ghost use Rattle.cose_gate_core.specs.declared.passing.Found.TheVariants.{Barred};
@@ -134,7 +134,10 @@ fn found_of(message: Message) -> Found
     ensures { (u : Tree) → HasMessage usual u (message_view message) → IsFound usual (tag (tag_of (message_view message)) u) result }
 {
     match bar_of(&message) {
-        Some(refusal) => Found::Barred(refusal),
+        Some(refusal) => {
+            drop(message);
+            Found::Barred(refusal)
+        }
         None => Found::Judged(message),
     }
 }
@@ -287,6 +290,40 @@ fn write_message<W: Write>(alloc: Global, message: Message, out: &mut W) -> Resu
     }
 }
 
+/// Asks the judge about a message, and writes it where it has passed.
+fn pass_message<W: Write, J: Judge>(
+    alloc: Global,
+    message: Message,
+    out: &mut W,
+    aad: &[u8],
+    judge: &mut J,
+) -> Result<Verdict, ItemFault>
+    requires asked { all_questions (message_view message) aad.now ≢ None }
+    requires text { tagged_tree (message_view message) ≢ None }
+    ensures ok { (bytes : List ℕ) (t : Tree) → IsJudged usual t (message_view message)
+        → IfOk result (WentThrough usual J.decided (J.yes (J.who judge.old)) aad.now bytes t (J.told judge.old) (J.told judge.new) (W.written out.old) (W.written out.new)) }
+    ensures err { (bytes : List ℕ) (t : Tree) → IsJudged usual t (message_view message)
+        → IfErr result (ItemFails usual J.decided (J.yes (J.who judge.old)) aad.now bytes t (J.told judge.old) (J.told judge.new) (W.written out.old) (W.written out.new)) }
+    ensures who { J.who judge.new ≡ J.who judge.old }
+    ensures kept { W.handle out.new ≡ W.handle out.old }
+    ensures failed { W.failed out.new ≡ W.failed out.old + item_failures result }
+{
+    match ask_message(alloc, &message, aad, judge) {
+        Ok(None) => match write_message(alloc, message, out) {
+            Ok(()) => Ok(Verdict::Passed),
+            Err(fault) => Err(fault),
+        },
+        Ok(Some(index)) => {
+            drop(message);
+            Ok(Verdict::Refused(Refusal::Judged(index)))
+        }
+        Err(_) => {
+            drop(message);
+            Err(ItemFault::Memory)
+        }
+    }
+}
+
 /// Tests an item, asks the judge about it, and writes it where it has passed.
 pub fn pass<W: Write, J: Judge>(
     alloc: Global,
@@ -303,17 +340,8 @@ pub fn pass<W: Write, J: Judge>(
     ensures kept { W.handle out.new ≡ W.handle out.old }
     ensures failed { W.failed out.new ≡ W.failed out.old + item_failures result }
 {
-    let found = find(alloc, value)?;
-    let message = match found {
-        Found::Judged(message) => message,
-        Found::Barred(refusal) => return Ok(Verdict::Refused(refusal)),
-    };
-    let no = ask_message(alloc, &message, aad, judge)?;
-    match no {
-        Some(index) => Ok(Verdict::Refused(Refusal::Judged(index))),
-        None => match write_message(alloc, message, out) {
-            Ok(()) => Ok(Verdict::Passed),
-            Err(fault) => Err(fault),
-        },
+    match find(alloc, value)? {
+        Found::Judged(message) => pass_message(alloc, message, out, aad, judge),
+        Found::Barred(refusal) => Ok(Verdict::Refused(refusal)),
     }
 }
