@@ -1,6 +1,8 @@
 //! Messages signed, tagged and verified.
 use callers::signing::{Refused, Secret, signed, signed_payload, tagged_payload};
 use coset_messages::{Fault, Header, TaggedCborSerializable};
+use std::alloc::Global;
+use std::process::Abort;
 
 /// 17([h'a10105', {}, 'hi', TAG]), with the tag over the external data 01 under the secret 00.
 const TAGGED: [u8; 44] = [
@@ -9,24 +11,43 @@ const TAGGED: [u8; 44] = [
     0x5e, 0x6c, 0xa0, 0x67, 0xae, 0x32, 0xd0, 0x75, 0xae, 0x9f, 0xf5, 0x6e,
 ];
 
+/// The secret of this byte.
+fn secret(rt: &impl Abort, alloc: Global, byte: u8) -> Secret {
+    Secret {
+        bytes: [byte].to_vec(alloc).expect(rt, "no memory"),
+    }
+}
+
+/// A tagged message over "hi" that is signed by the key.
+fn message(rt: &impl Abort, alloc: Global, key: &Secret) -> Vec<u8> {
+    let hi = b"hi".to_vec(alloc).expect(rt, "no memory");
+    signed(alloc, Header::new(alloc), hi, b"aad", key)
+        .expect(rt, "a message")
+        .to_tagged_vec(alloc)
+        .expect(rt, "bytes")
+}
+
+/// The payload is "hi".
+fn is_hi(rt: &impl Abort, payload: Result<Vec<u8>, Fault<Refused>>) {
+    let payload = payload.expect(rt, "a payload");
+    assert_eq!(rt; payload.as_slice(), b"hi".as_slice());
+}
+
 #[test]
 fn messages_are_signed_and_verified(rt: HostRuntime) {
     let alloc = rt.alloc();
-    let secret = Secret {
-        bytes: [0].to_vec(alloc).expect(&rt, "no fault"),
-    };
-    let other = Secret {
-        bytes: [1].to_vec(alloc).expect(&rt, "no fault"),
-    };
-    let hi = b"hi".to_vec(alloc).expect(&rt, "no fault");
-    let message = signed(alloc, Header::new(alloc), hi, b"aad", &secret).expect(&rt, "no fault");
-    let bytes = message.to_tagged_vec(alloc).expect(&rt, "no fault");
-    let payload = signed_payload(alloc, &bytes, b"aad", &secret).expect(&rt, "no fault");
-    assert_eq!(rt; payload.as_slice(), b"hi".as_slice());
-    let refused = signed_payload(alloc, &bytes, b"aad", &other);
+    let key = secret(&rt, alloc, 0);
+    let bytes = message(&rt, alloc, &key);
+    is_hi(&rt, signed_payload(alloc, &bytes, b"aad", &key));
+    let refused = signed_payload(alloc, &bytes, b"aad", &secret(&rt, alloc, 1));
     assert!(rt; refused == Err(Fault::Caller(Refused::NotGood)));
-    let payload = tagged_payload(alloc, &TAGGED, &[1], &secret).expect(&rt, "no fault");
-    assert_eq!(rt; payload.as_slice(), b"hi".as_slice());
-    let refused = tagged_payload(alloc, &TAGGED, &[2], &secret);
+}
+
+#[test]
+fn tags_are_verified(rt: HostRuntime) {
+    let alloc = rt.alloc();
+    let key = secret(&rt, alloc, 0);
+    is_hi(&rt, tagged_payload(alloc, &TAGGED, &[1], &key));
+    let refused = tagged_payload(alloc, &TAGGED, &[2], &key);
     assert!(rt; refused == Err(Fault::Caller(Refused::NotGood)));
 }
