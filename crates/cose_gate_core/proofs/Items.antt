@@ -1,6 +1,6 @@
 -- One item: what is found of it, and what stands after it.
-use Rattle.std.proofs.Common.{◌≡◌, ◌≢◌, ℕ, ◌⊎◌, inl, inr, List, [], ◌∷◌, map, Option, None, Some, option_map, Bool, true, false, cond, refl, sym, ap, subst, ◌∙◌, take, drop, append-nil}
-use Rattle.std.specs.Prelude.{is_none, is_some}
+use Rattle.std.proofs.Common.{◌≡◌, ◌≢◌, ℕ, ◌⊎◌, inl, inr, List, [], Option, None, Some, Bool, cond, refl, sym, ap, subst, ◌∙◌, take, drop, append-nil}
+use Rattle.std.specs.Prelude.{is_none}
 use Rattle.std.specs.Io.KnownBytes.{Appends}
 use Rattle.std.proofs.KnownBytes.{Appends-nil}
 use Rattle.std.proofs.lemmas.List.{take-append-drop}
@@ -20,11 +20,6 @@ use Rattle.cose_gate_core.specs.declared.report.Verdict.TheVariants.{Passed, Ref
 pub is_encrypted : (limits : Limits) (t u : Tree) (n : ℕ) → t ≡ tag n u → (n ≡ 16) ⊎ (n ≡ 96) → IsBarred limits t encrypted
 is_encrypted limits t u n e k = (n, u, e, k)
 
--- what is none stays none
-pub none_of : {A B : Type 0} (f : A → B) (o : Option A) → is_some o ≡ false → option_map f o ≡ None
-none_of f None e = refl
-none_of f (Some x) e = let h : true ≡ false = e in cc
-
 -- a message that doesn't carry its payload
 pub is_detached : (limits : Limits) (u : Tree) (m : MessageFields) → HasMessage limits u m → payload_of m ≡ None → IsBarred limits (tag (tag_of m) u) detached
 is_detached limits u m h n = (m, (u, refl, h), n)
@@ -36,16 +31,6 @@ is_unsigned limits u m h p s = (m, (u, refl, h), p, s)
 -- a message that is judged
 pub is_judged : (limits : Limits) (u : Tree) (m : MessageFields) → HasMessage limits u m → IsCarried m → (IsUnsigned m → ⊥) → IsJudged limits (tag (tag_of m) u) m
 is_judged limits u m h p s = ((u, refl, h), p, s)
-
--- what is there stays there
-pub some_of : {A B : Type 0} (f : A → B) (o : Option A) → is_some o ≡ true → (x : B) × (option_map f o ≡ Some x)
-some_of f None e = let h : false ≡ true = e in cc
-some_of f (Some x) e = (f x, refl)
-
--- a list that holds something still does, seen through a function
-pub some_behind : {A B : Type 0} (f : A → B) (xs : List A) → xs ≢ [] → map f xs ≢ []
-some_behind f [] n e = n refl
-some_behind f (x ∷ xs) n e = let h : f x ∷ map f xs ≡ [] = e in cc
 
 pub is_other_tag : (limits : Limits) (t u : Tree) (n : ℕ) → t ≡ tag n u → n ≢ 16 → n ≢ 96 → n ≢ 18 → n ≢ 17 → n ≢ 97 → n ≢ 98 → IsBarred limits t (other_tag n)
 is_other_tag limits t u n e a b c d f g = (u, e, (λ w. not w), λ w. none w)

@@ -301,9 +301,11 @@ fn pass_message<W: Write, J: Judge>(
     requires asked { all_questions (message_view message) aad.now ≢ None }
     requires text { tagged_tree (message_view message) ≢ None }
     ensures ok { (bytes : List ℕ) (t : Tree) → IsJudged usual t (message_view message)
-        → IfOk result (WentThrough usual J.decided (J.yes (J.who judge.old)) aad.now bytes t (J.told judge.old) (J.told judge.new) (W.written out.old) (W.written out.new)) }
+        → IfOk result (WentThrough usual J.decided (J.yes (J.who judge.old)) aad.now bytes t
+        (J.told judge.old) (J.told judge.new) (W.written out.old) (W.written out.new)) }
     ensures err { (bytes : List ℕ) (t : Tree) → IsJudged usual t (message_view message)
-        → IfErr result (ItemFails usual J.decided (J.yes (J.who judge.old)) aad.now bytes t (J.told judge.old) (J.told judge.new) (W.written out.old) (W.written out.new)) }
+        → IfErr result (ItemFails usual J.decided (J.yes (J.who judge.old)) aad.now bytes t
+        (J.told judge.old) (J.told judge.new) (W.written out.old) (W.written out.new)) }
     ensures who { J.who judge.new ≡ J.who judge.old }
     ensures kept { W.handle out.new ≡ W.handle out.old }
     ensures failed { W.failed out.new ≡ W.failed out.old + item_failures result }

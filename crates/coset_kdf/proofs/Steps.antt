@@ -17,18 +17,6 @@ use Rattle.coset_kdf.specs.Fields.{PublicFields}
 use Rattle.coset_kdf.specs.Steps.{HasTwo, WrongTwo, Popped, WrongPopped}
 use Rattle.coset_kdf.specs.Wrong.{WrongNonce, WrongParty, no_array, not_three, wrong_identity, wrong_nonce, wrong_other, WrongPublic, no_list, not_two_or_three, wrong_length, in_protected, no_bytes, WrongContext, not_list, too_few, wrong_algorithm, in_party_u, in_party_v, in_public, in_private}
 
--- ---- the last of a list
-abbrev pub behind : Trees → Tree → Trees
-behind no_trees t = one_more t no_trees
-behind (one_more u us) t = one_more u (behind us t)
-
-views_last : (ys : List Value) (c : Value) → views (ys ++ c ∷ []) ≡ behind (views ys) (view c)
-views_last [] c = refl
-views_last (y ∷ ys) c = ap (λ z. one_more (view y) z) (views_last ys c)
-
-pub last_of : (xs ys : List Value) (c : Value) (us : Trees) → xs ≡ ys ++ c ∷ [] → views ys ≡ us → views xs ≡ behind us (view c)
-last_of xs ys c us e q = ap views e ∙ views_last ys c ∙ ap (λ z. behind z (view c)) q
-
 -- ---- what a party brings
 pub party_kind : (t : Tree) (e : CoseError) → (fault_of e ≡ unexpected) × (is_array t ≡ false) → WrongParty t (fault_of e)
 party_kind t e p = subst (WrongParty t) (sym p.0) (no_array t p.1)
