@@ -1,4 +1,5 @@
-use Rattle.std.proofs.Common.{rules, ap}
+use Rattle.std.proofs.lemmas.Grind.{common_steps}
+use Rattle.std.proofs.Common.{rules, ap, arith}
 use Rattle.std.proofs.lemmas.Result.{err_from_is_err_and}
 use Rattle.ciborium_ll.proofs.Pulling.{tells_before, title_taken, one_cell, halts_before, halts_behind}
 use Rattle.ciborium_ll.specs.declared.dec.Decoder.{Decoder}
@@ -25,3 +26,6 @@ returns-in_err-n-clause-stops g c =
     let p = err_from_is_err_and c.from_residual-in_err-n.result c.from_residual-in_err-n.ensures.1 in
     rw (p.1, p.2) (halts_behind g.R.Read.ends _ _ _ _ _ _ _ c.fill.new.«data» _ _ _ _ (one_cell c.fill.new.«data» (search rules)) c.in_ok-fill.ensures.ok c.in_ok-fill.ensures.grown
     c.in_err-n.ensures.wide c.in_err-n.ensures.fault c.in_err-n.ensures.untouched (λ h. ap (λ (d : Decoder g.row.R.Denot). (raw g.R.Read d).left) h) c.in_err-n.ensures.place)
+
+pub returns-in-None-clause-fault : goal.returns-in-None-clause-fault
+returns-in-None-clause-fault g c = grind (arith, common_steps)

@@ -1,4 +1,4 @@
-use Rattle.std.proofs.Common.{inr}
+use Rattle.std.proofs.Common.{inr, rules}
 use Rattle.std.proofs.lemmas.Result.{err_from_is_err_and}
 use Rattle.coset_signed.specs.Wrong.{IsNoBytes}
 use Rattle.coset_signed.proofs.Steps.{four_kind, four_last, four_parts}
@@ -18,3 +18,6 @@ pub returns-in_err-parts : goal.returns-in_err-parts
 returns-in_err-parts c =
     let p = err_from_is_err_and c.from_residual-in_err-parts.result c.from_residual-in_err-parts.ensures.1 in
     rw (p.1, p.2) (four_parts 256 _ IsNoBytes 16 _ _ _ _ _ c.in_ok-protected.ensures c.in_err-parts.ensures)
+
+pub returns : goal.returns
+returns c = search rules
