@@ -1,8 +1,9 @@
 //! Writes heads and bytes.
-ghost use Rattle.std.specs.Prelude.{◌≡◌, ◌<◌, ◌++◌, OnOk, OnErr};
+ghost use Rattle.std.specs.Prelude.{◌≡◌, ◌<◌, ◌++◌, ◌∷◌, OnOk, OnErr};
+ghost use Rattle.std.specs.Int.{w16, w32, w64, to_be_bytes};
 ghost use Rattle.std.specs.Io.KnownBytes.{Appends};
 ghost use Rattle.ciborium_ll.specs.Device.{AppendsFront, write_failures};
-ghost use Rattle.ciborium_ll.specs.Title.{title_of, shortest, shortest_sized};
+ghost use Rattle.ciborium_ll.specs.Title.{title_of, first_byte, shortest, shortest_sized};
 
 use crate::hdr::{Float, Header};
 use crate::write::Write;
@@ -46,18 +47,9 @@ impl<W: Write> Encoder<W> {
             Header::Map(len) => self.sized(5, len),
             Header::Tag(n) => self.number(6, n),
             Header::Simple(n) => self.number(7, u64::from(n)),
-            Header::Float(Float::Half(n)) => {
-                let [a, b] = n.to_be_bytes();
-                self.writer.write_all(&[0xf9, a, b])
-            }
-            Header::Float(Float::Single(n)) => {
-                let [a, b, c, d] = n.to_be_bytes();
-                self.writer.write_all(&[0xfa, a, b, c, d])
-            }
-            Header::Float(Float::Double(n)) => {
-                let [a, b, c, d, e, f, g, h] = n.to_be_bytes();
-                self.writer.write_all(&[0xfb, a, b, c, d, e, f, g, h])
-            }
+            Header::Float(Float::Half(n)) => { self.writer.write_all(&in_two(7, n)) }
+            Header::Float(Float::Single(n)) => { self.writer.write_all(&in_four(7, n)) }
+            Header::Float(Float::Double(n)) => { self.writer.write_all(&in_eight(7, n)) }
             Header::Break => self.writer.write_all(&[0xff]),
         }
     }
@@ -85,22 +77,48 @@ impl<W: Write> Encoder<W> {
         ensures kept { W.handle (writer_of self.new) ≡ W.handle (writer_of self.old) }
         ensures failed { W.failed (writer_of self.new) ≡ write_failures result (W.failed (writer_of self.old)) }
     {
-        let first = 32 * major;
         if n < 24 {
-            self.writer.write_all(&[first + n as u8])
+            self.writer.write_all(&[32 * major + n as u8])
         } else if n < 256 {
-            self.writer.write_all(&[first + 24, n as u8])
+            self.writer.write_all(&[32 * major + 24, n as u8])
         } else if n < 65536 {
-            let [a, b] = (n as u16).to_be_bytes();
-            self.writer.write_all(&[first + 25, a, b])
+            self.writer.write_all(&in_two(major, n as u16))
         } else if n < 4294967296 {
-            let [a, b, c, d] = (n as u32).to_be_bytes();
-            self.writer.write_all(&[first + 26, a, b, c, d])
+            self.writer.write_all(&in_four(major, n as u32))
         } else {
-            let [a, b, c, d, e, f, g, h] = n.to_be_bytes();
-            self.writer.write_all(&[first + 27, a, b, c, d, e, f, g, h])
+            self.writer.write_all(&in_eight(major, n))
         }
     }
+}
+
+/// The title of a number in two bytes.
+#[inline]
+fn in_two(major: u8, n: u16) -> [u8; 3]
+    requires { major < 8 }
+    ensures { result ≡ first_byte major 25 ∷ to_be_bytes w16 n }
+{
+    let [a, b] = n.to_be_bytes();
+    [32 * major + 25, a, b]
+}
+
+/// The title of a number in four bytes.
+#[inline]
+fn in_four(major: u8, n: u32) -> [u8; 5]
+    requires { major < 8 }
+    ensures { result ≡ first_byte major 26 ∷ to_be_bytes w32 n }
+{
+    let [a, b, c, d] = n.to_be_bytes();
+    [32 * major + 26, a, b, c, d]
+}
+
+/// The title of a number in eight bytes.
+#[inline]
+fn in_eight(major: u8, n: u64) -> [u8; 9]
+    requires { major < 8 }
+    ensures { result ≡ first_byte major 27 ∷ to_be_bytes w64 n }
+{
+    let [a, b, c, d, e, f, g, h] = n.to_be_bytes();
+    [32 * major + 27, a, b, c, d, e, f, g, h]
 }
 
 impl<W: Write> Write for Encoder<W> {
