@@ -2,4 +2,6 @@ pub mod Checked
 pub mod Ids
 pub mod Keys
 pub mod Relay
+pub mod Sealed
 pub mod Spelled
+pub mod Twice

@@ -3,6 +3,7 @@
 #![tactic(auto)]
 
 pub mod checking;
+pub mod covering;
 pub mod heading;
 pub mod heads;
 pub mod items;

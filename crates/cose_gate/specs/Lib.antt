@@ -13,6 +13,7 @@ pub use Rattle.cose_gate_laws.specs.GateCore.declared.gating.GateFault
 pub use Rattle.cose_gate_laws.specs.GateCore.declared.report.Entry
 pub use Rattle.cose_gate_laws.specs.GateCore.declared.report.Verdict
 pub use Rattle.cose_gate_laws.specs.Anew
+pub use Rattle.cose_gate_laws.specs.Fixed
 pub use Rattle.cose_gate_laws.specs.Narrow
 pub use Rattle.cose_gate_laws.specs.Output
 pub use Rattle.cose_gate_laws.specs.GateCore.DeviceFault

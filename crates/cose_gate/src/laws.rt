@@ -1,6 +1,7 @@
 //! Laws of the definitions that the contract of `gate` speaks of. The functions do nothing; a proof calls one to have its law.
 pub use cose_gate_laws::gate_core::laws::{judged_can_be_written, one_finding, one_run};
 pub use cose_gate_laws::{
-    course_begins_run, every_input_run, every_item_found, joined_runs, output_is_no_longer,
-    output_is_passed_messages, refused_taken_out, same_trees, shape_holds_no_memory,
+    course_begins_run, every_input_run, every_item_found, joined_runs, output_is_fixed,
+    output_is_no_longer, output_is_passed_messages, refused_taken_out, same_trees,
+    shape_holds_no_memory,
 };

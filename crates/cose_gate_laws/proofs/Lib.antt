@@ -1,5 +1,7 @@
+pub mod Exact
 pub mod FieldCases
 pub mod FindingCases
+pub mod FixedPoints
 pub mod Fronts
 pub mod HeaderCases
 pub mod HeaderKept
@@ -12,5 +14,6 @@ pub mod NoMemory
 pub mod Outputs
 pub mod Placed
 pub mod Shorter
+pub mod Wider
 pub mod Widths
 pub mod Within

@@ -1,4 +1,5 @@
 pub mod Anew
+pub mod Fixed
 pub mod Narrow
 pub mod Output
 pub use Rattle.cose_gate_core.specs as GateCore

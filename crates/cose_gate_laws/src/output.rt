@@ -2,8 +2,9 @@
 ghost use Rattle.std.specs.Prelude.{◌≡◌, ℕ, ◌^◌, ◌<◌, ◌≤◌, List, [], length, map, All, Bool};
 ghost use Rattle.ciborium.specs.Items.{Item, Items};
 ghost use Rattle.cose_gate_core.specs.Questions.{Question};
-ghost use Rattle.cose_gate_core.specs.Findings.{Limits};
+ghost use Rattle.cose_gate_core.specs.Findings.{Limits, usual};
 ghost use Rattle.cose_gate_core.specs.Run.{Step, Run, output_of};
+ghost use Rattle.cose_gate_laws.specs.Fixed.{Admits, FixedPoint};
 ghost use Rattle.cose_gate_laws.specs.Narrow.{PassedAreNarrow, passed_bytes};
 ghost use Rattle.cose_gate_laws.specs.Output.{passed_messages, AreMessages};
 
@@ -24,4 +25,18 @@ pub fn output_is_no_longer()
     ensures { (limits : Limits) (allows : Question → Bool) (aad : List ℕ) (at : ℕ) (b : List ℕ) (ss : List Step) (rest : List ℕ)
         → Run limits allows aad at b ss rest → All (λ x. x < 256) b → PassedAreNarrow allows aad ss
         → length (output_of allows aad ss) ≤ length (passed_bytes allows aad ss) }
+{}
+
+/// The output is a fixed point: of an input of fewer than 2^64 bytes, the run over the output goes through it to its end, writes the
+/// same, passes each message, and asks of it what was asked before, though the input spelled it otherwise. So wherever the output
+/// stands, and however long it is. The limits may be others, if they let through as it is written what the first let through; the usual
+/// ones do so after themselves.
+pub fn output_is_fixed()
+    ensures usual { Admits usual usual }
+    ensures there { (one two : Limits) (allows : Question → Bool) (aad : List ℕ) (at to : ℕ) (b : List ℕ) (ss : List Step) (rest : List ℕ)
+        → Admits one two → Run one allows aad at b ss rest → All (λ x. x < 256) b → length b < 2 ^ 64
+        → (rs : List Step) × Run two allows aad to (output_of allows aad ss) rs [] }
+    ensures fixed { (one two : Limits) (allows : Question → Bool) (aad : List ℕ) (at to : ℕ) (b : List ℕ) (ss rs : List Step)
+        (rest more : List ℕ) → Admits one two → Run one allows aad at b ss rest → All (λ x. x < 256) b → length b < 2 ^ 64
+        → Run two allows aad to (output_of allows aad ss) rs more → FixedPoint two allows aad ss rs more }
 {}

@@ -8,6 +8,7 @@ pub use Rattle.coset_messages.specs.HeaderBuilder
 pub use Rattle.coset_messages.specs.CoseSignatureBuilder
 pub use Rattle.coset_messages.specs.Alone
 pub use Rattle.coset_messages.specs.Contexts
+pub use Rattle.coset_messages.specs.Covered
 pub use Rattle.coset_messages.specs.Fields
 pub use Rattle.coset_messages.specs.Headers
 pub use Rattle.coset_messages.specs.Short

@@ -8,6 +8,7 @@ pub use Rattle.coset_builders.specs.declared.header.HeaderBuilder
 pub use Rattle.coset_builders.specs.declared.signature.CoseSignatureBuilder
 pub use Rattle.coset_headers.specs.Alone
 pub use Rattle.coset_structures.specs.Contexts
+pub use Rattle.coset_structures.specs.Covered
 pub use Rattle.coset_headers.specs.Fields
 pub use Rattle.coset_headers.specs.Headers
 pub use Rattle.coset_headers.specs.Short

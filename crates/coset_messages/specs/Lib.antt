@@ -8,6 +8,7 @@ pub use Rattle.coset_base.specs.HeaderBuilder
 pub use Rattle.coset_base.specs.CoseSignatureBuilder
 pub use Rattle.coset_base.specs.Alone
 pub use Rattle.coset_base.specs.Contexts
+pub use Rattle.coset_base.specs.Covered
 pub use Rattle.coset_base.specs.Fields
 pub use Rattle.coset_base.specs.Headers
 pub use Rattle.coset_base.specs.Short

@@ -1,1 +1,2 @@
+pub mod OneStructure
 pub mod Writable

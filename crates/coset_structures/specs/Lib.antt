@@ -1,3 +1,4 @@
 pub mod Contexts
+pub mod Covered
 pub mod Structure
 pub mod Titles

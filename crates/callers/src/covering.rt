@@ -1,0 +1,38 @@
+//! What a signature covers. `coset_base` is the one crate that it names.
+ghost use Rattle.std.specs.Prelude.{◌≡◌, ◌↔◌, IsTrue, IfOk};
+ghost use Rattle.std.specs.Str.{bytes_eq};
+ghost use Rattle.coset_base.specs.View.{protected_view};
+ghost use Rattle.coset_base.specs.Written.{shown};
+
+use coset_base::laws::structures::one_structure;
+use coset_base::{CoseError, ProtectedHeader, SignatureContext, sig_structure_data};
+use std::alloc::Global;
+
+fn are_same(one: &Vec<u8>, other: &Vec<u8>) -> bool
+    ensures { result ≡ bytes_eq one.now.items other.now.items }
+{
+    one.as_slice() == other.as_slice()
+}
+
+/// Whether what is signed stays the same where another context and another protected header stand in its place. It does exactly where
+/// the context is the same, and so are the bytes shown for the header.
+///
+/// # Errors
+/// `DuplicateMapKey` where a label stands twice in a header that has to be encoded, or `Memory`.
+pub fn stays_covered(
+    alloc: Global,
+    context: SignatureContext,
+    body: &ProtectedHeader,
+    other_context: SignatureContext,
+    other: &ProtectedHeader,
+    aad: &[u8],
+    payload: &[u8],
+) -> Result<bool, CoseError>
+    ensures { IfOk result (λ same. IsTrue same
+        ↔ ((context ≡ other_context) × (shown (protected_view body.now) ≡ shown (protected_view other.now)))) }
+{
+    one_structure();
+    let one = sig_structure_data(alloc, context, body, None, aad, payload)?;
+    let two = sig_structure_data(alloc, other_context, other, None, aad, payload)?;
+    Ok(are_same(&one, &two))
+}
