@@ -67,22 +67,31 @@ fn decode(rt: &HostRuntime, bytes: &[u8], rounds: u32) -> io::Result<u8> {
     Ok(0)
 }
 
-/// Decodes the document once and writes it so many times.
+/// Decodes the document once and writes it so many times. What is written has to be the document: the first text is compared with it.
 fn encode(rt: &HostRuntime, bytes: &[u8], rounds: u32) -> io::Result<u8> {
     let mut decoder = Decoder::from(bytes);
     let Ok(value) = from_decoder(rt.alloc(), &mut decoder, RECURSION_LIMIT) else {
         return Ok(FAILED);
     };
+    if !is_written_as(rt, &value, bytes) {
+        return Ok(FAILED);
+    }
     for _ in 0..rounds {
         let mut text = Mem::new(Vec::new(rt.alloc()));
         let start = Instant::now(rt)?;
         let written = into_writer(&value, &mut text);
         print_seconds(rt, start)?;
-        if written.is_err() || text.as_written() != bytes {
+        if written.is_err() {
             return Ok(FAILED);
         }
     }
     Ok(0)
+}
+
+/// Whether the value is written as these bytes.
+fn is_written_as(rt: &HostRuntime, value: &Value, bytes: &[u8]) -> bool {
+    let mut text = Mem::new(Vec::new(rt.alloc()));
+    into_writer(value, &mut text).is_ok() && text.as_written() == bytes
 }
 
 /// Prints the seconds since the start on a line of their own.
