@@ -1,0 +1,51 @@
+//! Text between quotes.
+use std::fmt;
+
+/// Whether a character could forge what is shown: a control, a mark of direction, or a break of the line.
+fn is_unsafe(c: char) -> bool {
+    matches!(
+        c,
+        '\u{0}'..='\u{1f}'
+            | '\u{7f}'..='\u{9f}'
+            | '\u{61c}'
+            | '\u{200b}'..='\u{200f}'
+            | '\u{2028}'..='\u{202e}'
+            | '\u{2060}'..='\u{206f}'
+            | '\u{feff}'
+            | '\u{fff9}'..='\u{fffb}'
+    )
+}
+
+/// Writes a text between quotes. Quotes, backslashes, control characters, marks of direction and breaks of the line are escaped as in
+/// JSON; with `ascii` each character past U+007E too.
+///
+/// # Errors
+/// Those of the writer.
+pub fn write_text<W: fmt::Write>(text: &str, ascii: bool, out: &mut W) -> fmt::Result {
+    out.write_str("\"")?;
+    for c in text.chars() {
+        write_escaped(c, ascii, out)?;
+    }
+    out.write_str("\"")
+}
+
+fn write_escaped<W: fmt::Write>(c: char, ascii: bool, out: &mut W) -> fmt::Result {
+    match c {
+        '"' => out.write_str("\\\""),
+        '\\' => out.write_str("\\\\"),
+        '\n' => out.write_str("\\n"),
+        '\r' => out.write_str("\\r"),
+        '\t' => out.write_str("\\t"),
+        _ if is_unsafe(c) || (ascii && c > '~') => write_units(c, out),
+        _ => out.write_char(c),
+    }
+}
+
+/// Writes a character by its UTF-16 units.
+fn write_units<W: fmt::Write>(c: char, out: &mut W) -> fmt::Result {
+    let mut units = [0u16; 2];
+    for unit in c.encode_utf16(&mut units).iter() {
+        write!(out, "\\u{:04x}", *unit)?;
+    }
+    Ok(())
+}

@@ -1,0 +1,223 @@
+//! Floats as text. Their bits are taken apart, and put together as a number of 64 bits, exactly.
+use ciborium_ll::Float;
+use std::alloc::{AllocError, Global};
+
+/// A float taken apart.
+#[derive(Debug, Clone, Copy, PartialEq, Eq)]
+struct Parts {
+    negative: bool,
+    size: Size,
+}
+
+#[derive(Debug, Clone, Copy, PartialEq, Eq)]
+enum Size {
+    /// So many times two to this power.
+    Finite(u64, i32),
+    Infinite,
+    /// No number, with these bits behind the exponent, as of 64 bits.
+    NoNumber(u64),
+}
+
+/// The parts of a float, by its sign, its exponent and the bits behind it.
+fn apart(bits: u64, exponent_bits: u32, fraction_bits: u32) -> Parts {
+    let fraction = bits & mask(fraction_bits);
+    let exponent = shifted(bits, fraction_bits) & mask(exponent_bits);
+    let negative = shifted(bits, fraction_bits.wrapping_add(exponent_bits)) & 1 == 1;
+    let bias = (mask(exponent_bits) >> 1).wrapping_add(u64::from(fraction_bits));
+    let size = if exponent == mask(exponent_bits) {
+        special(fraction, fraction_bits)
+    } else if exponent == 0 {
+        Size::Finite(fraction, below(1, bias))
+    } else {
+        Size::Finite(fraction | top(fraction_bits), below(exponent, bias))
+    };
+    Parts { negative, size }
+}
+
+fn special(fraction: u64, fraction_bits: u32) -> Size {
+    if fraction == 0 {
+        Size::Infinite
+    } else {
+        Size::NoNumber(
+            fraction
+                .checked_shl(52u32.saturating_sub(fraction_bits))
+                .unwrap_or(0),
+        )
+    }
+}
+
+fn mask(bits: u32) -> u64 {
+    top(bits).wrapping_sub(1)
+}
+
+fn top(bits: u32) -> u64 {
+    1u64.checked_shl(bits).unwrap_or(0)
+}
+
+fn shifted(bits: u64, by: u32) -> u64 {
+    bits.checked_shr(by).unwrap_or(0)
+}
+
+/// The difference of two small numbers.
+fn below(a: u64, b: u64) -> i32 {
+    let a = i32::try_from(a).unwrap_or(0);
+    let b = i32::try_from(b).unwrap_or(0);
+    a.wrapping_sub(b)
+}
+
+fn parts_of(float: Float) -> Parts {
+    match float {
+        Float::Half(bits) => apart(u64::from(bits), 5, 10),
+        Float::Single(bits) => apart(u64::from(bits), 8, 23),
+        Float::Double(bits) => apart(bits, 11, 52),
+    }
+}
+
+/// The encoding indicator of a float: 2 or 3 where fewer bits would do.
+pub fn wide(float: Float) -> Option<u8> {
+    let size = parts_of(float).size;
+    match float {
+        Float::Half(_) => None,
+        Float::Single(_) if fits(size, HALF) => Some(2),
+        Float::Double(_) if fits(size, HALF) || fits(size, SINGLE) => Some(3),
+        _ => None,
+    }
+}
+
+/// What a width can hold.
+#[derive(Clone, Copy)]
+struct Width {
+    /// How many bits a number has at most.
+    bits: u32,
+    /// The power of two of its smallest number.
+    least: i32,
+    /// All numbers are below this power of two.
+    most: i32,
+    /// How many of the 52 bits behind the exponent of a double it hasn't.
+    lost: u32,
+}
+
+const HALF: Width = Width {
+    bits: 11,
+    least: -24,
+    most: 16,
+    lost: 42,
+};
+
+const SINGLE: Width = Width {
+    bits: 24,
+    least: -149,
+    most: 128,
+    lost: 29,
+};
+
+fn fits(size: Size, width: Width) -> bool {
+    match size {
+        Size::Infinite => true,
+        Size::NoNumber(fraction) => fraction & mask(width.lost) == 0,
+        Size::Finite(0, _) => true,
+        Size::Finite(count, power) => {
+            let zeros = count.trailing_zeros();
+            let bits = 64u32.saturating_sub(count.leading_zeros());
+            let needed = bits.saturating_sub(zeros);
+            let least = power.saturating_add(to_i32(zeros));
+            let most = power.saturating_add(to_i32(bits));
+            needed <= width.bits && least >= width.least && most <= width.most
+        }
+    }
+}
+
+fn to_i32(n: u32) -> i32 {
+    i32::try_from(n).unwrap_or(0)
+}
+
+/// So many times two to this power, exactly where a number of 64 bits can be that.
+fn scaled(count: u64, power: i32) -> f64 {
+    let [a, b, c, d, e, f, g, h] = count.to_be_bytes();
+    let high = f64::from(u32::from_be_bytes([a, b, c, d]));
+    let low = f64::from(u32::from_be_bytes([e, f, g, h]));
+    let mut value = high * 4294967296.0 + low;
+    let factor = if power < 0 { 0.5 } else { 2.0 };
+    for _ in 0..power.unsigned_abs() {
+        value *= factor;
+    }
+    value
+}
+
+/// The text of a float: its shortest decimal, with a point, in the form of RFC 8949, Appendix A.
+pub fn text_of(alloc: Global, float: Float) -> Result<String, AllocError> {
+    let parts = parts_of(float);
+    let sign = if parts.negative { "-" } else { "" };
+    match parts.size {
+        Size::Infinite => format!(in alloc; "{sign}Infinity"),
+        Size::NoNumber(fraction) => no_number(alloc, float, parts.negative, fraction),
+        Size::Finite(count, power) => finite(alloc, sign, scaled(count, power)),
+    }
+}
+
+/// Of a NaN that isn't the usual one the bits stand behind it in a comment.
+fn no_number(
+    alloc: Global,
+    float: Float,
+    negative: bool,
+    fraction: u64,
+) -> Result<String, AllocError> {
+    if !negative && fraction == top(51) {
+        return String::from_str(alloc, "NaN");
+    }
+    match float {
+        Float::Half(bits) => format!(in alloc; "NaN /{bits:04x}/"),
+        Float::Single(bits) => format!(in alloc; "NaN /{bits:08x}/"),
+        Float::Double(bits) => format!(in alloc; "NaN /{bits:016x}/"),
+    }
+}
+
+fn finite(alloc: Global, sign: &str, value: f64) -> Result<String, AllocError> {
+    let scientific = format!(in alloc; "{value:e}")?;
+    let Some((digits, exponent)) = scientific.as_str().split_once('e') else {
+        return format!(in alloc; "{sign}{scientific}");
+    };
+    let exponent = exponent.parse::<i32>().unwrap_or(0);
+    let (front, back) = digits.split_once('.').unwrap_or((digits, ""));
+    let digits = format!(in alloc; "{front}{back}")?;
+    laid_out(alloc, sign, digits.as_str(), exponent)
+}
+
+/// Digits with the point behind the first of them, times ten to this power.
+fn laid_out(alloc: Global, sign: &str, digits: &str, exponent: i32) -> Result<String, AllocError> {
+    if exponent < -6 || exponent > 20 {
+        let (front, back) = digits.split_at_checked(1).unwrap_or((digits, ""));
+        let back = if back.is_empty() { "0" } else { back };
+        let mark = if exponent < 0 { "" } else { "+" };
+        return format!(in alloc; "{sign}{front}.{back}e{mark}{exponent}");
+    }
+    if exponent < 0 {
+        let zeros = exponent.unsigned_abs().saturating_sub(1);
+        let mut text = format!(in alloc; "{sign}0.")?;
+        push_zeros(&mut text, zeros)?;
+        text.push_str(digits)?;
+        return Ok(text);
+    }
+    whole(alloc, sign, digits, exponent.unsigned_abs())
+}
+
+/// Digits with so many of them and one more in front of the point.
+fn whole(alloc: Global, sign: &str, digits: &str, exponent: u32) -> Result<String, AllocError> {
+    let point = usize::try_from(exponent).unwrap_or(0).saturating_add(1);
+    if let Some((front, back)) = digits.split_at_checked(point) {
+        let back = if back.is_empty() { "0" } else { back };
+        return format!(in alloc; "{sign}{front}.{back}");
+    }
+    let mut text = format!(in alloc; "{sign}{digits}")?;
+    let missing = point.saturating_sub(digits.len());
+    push_zeros(&mut text, u32::try_from(missing).unwrap_or(0))?;
+    text.push_str(".0")?;
+    Ok(text)
+}
+
+fn push_zeros(text: &mut String, count: u32) -> Result<(), AllocError> {
+    for _ in 0..count {
+        text.push_str("0")?;
+    }
+    Ok(())
+}

@@ -1,0 +1,14 @@
+//! The diagnostic notation of CBOR items (RFC 8949, section 8), from their heads, so that it shows how they are encoded. Items of any
+//! depth and any claimed length are walked in a loop: what is kept is a list of the levels that are open.
+#![tactic(auto)]
+
+mod escape;
+mod float;
+mod head;
+mod notation;
+mod walk;
+
+pub use crate::escape::write_text;
+pub use crate::head::{Head, HeadFault, head_of};
+pub use crate::notation::{NotWritten, Style, write_hex, write_item};
+pub use crate::walk::{Event, Fault, LevelKind, Place, Step, Walk, Why, item_len};

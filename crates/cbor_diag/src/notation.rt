@@ -1,0 +1,393 @@
+//! The notation.
+use crate::escape::write_text;
+use crate::float;
+use crate::head::{Head, head_of};
+use crate::walk::{Event, Fault, LevelKind, Place, Step, Walk};
+use ciborium_ll::Header;
+use std::alloc::{AllocError, Global};
+use std::fmt;
+
+/// An array or a map whose encoding is at most so long stands on one line.
+const SHORT: usize = 24;
+
+/// From this depth on everything stands on one line, so that the notation of deep items stays about as long as they are.
+const DEEP: usize = 32;
+
+/// How the notation is written.
+#[derive(Debug, Clone, Copy, PartialEq, Eq)]
+pub struct Style {
+    /// Arrays and maps that aren't short stand on several lines.
+    pub lines: bool,
+    /// Widths that aren't the shortest have their encoding indicators (RFC 8949, section 8.1). Those of open lengths are always there.
+    pub widths: bool,
+    /// Characters past U+007E are escaped.
+    pub ascii: bool,
+    /// Tags 2 and 3 around at most 16 bytes are shown as numbers.
+    pub bignums: bool,
+}
+
+impl Style {
+    /// On several lines, with all encoding indicators.
+    pub fn full() -> Style {
+        Style {
+            lines: true,
+            widths: true,
+            ascii: false,
+            bignums: false,
+        }
+    }
+
+    /// The same on one line.
+    pub fn line() -> Style {
+        Style {
+            lines: false,
+            widths: true,
+            ascii: false,
+            bignums: false,
+        }
+    }
+
+    /// As RFC 8949, Appendix A, writes it.
+    pub fn appendix() -> Style {
+        Style {
+            lines: false,
+            widths: false,
+            ascii: true,
+            bignums: true,
+        }
+    }
+}
+
+/// Why the notation isn't whole. What stands in front of it was written.
+#[derive(Debug, Clone, Copy, PartialEq, Eq)]
+pub enum NotWritten {
+    /// The bytes begin no item.
+    Fault(Fault),
+    /// The writer failed.
+    Output,
+    /// Memory was refused.
+    Memory,
+}
+
+impl From<fmt::Error> for NotWritten {
+    fn from(_: fmt::Error) -> NotWritten {
+        NotWritten::Output
+    }
+}
+
+impl From<AllocError> for NotWritten {
+    fn from(_: AllocError) -> NotWritten {
+        NotWritten::Memory
+    }
+}
+
+/// The notation as it is written.
+#[derive(Drop)]
+struct Notation<'a, W> {
+    alloc: Global,
+    out: &'a mut W,
+    style: Style,
+    /// How many levels stand on several lines.
+    indent: usize,
+    /// How many levels are open since one began that stands on one line.
+    flat: usize,
+    /// How many steps were shown already.
+    shown: usize,
+}
+
+/// Writes the notation of the item that the bytes begin with, and gives the item's length. Lines behind the first begin with `indent` times
+/// two spaces, and more.
+///
+/// # Errors
+/// `Fault` where the bytes begin no item, with the notation of what stands in front of the fault written; `Output` and `Memory`.
+pub fn write_item<W: fmt::Write>(
+    alloc: Global,
+    bytes: &[u8],
+    style: Style,
+    indent: usize,
+    out: &mut W,
+) -> Result<usize, NotWritten> {
+    let mut walk = Walk::new(alloc);
+    let mut notation = Notation {
+        alloc,
+        out,
+        style,
+        indent,
+        flat: 0,
+        shown: 0,
+    };
+    for _ in 0..u64::MAX {
+        match walk.step(bytes) {
+            Ok(step) => notation.tell(bytes, step)?,
+            Err(fault) => return Err(NotWritten::Fault(fault)),
+        }
+        if walk.is_done() {
+            break;
+        }
+    }
+    Ok(walk.at())
+}
+
+impl<'a, W: fmt::Write> Notation<'a, W> {
+    /// Writes one step.
+    fn tell(&mut self, bytes: &[u8], step: Step) -> Result<(), NotWritten> {
+        if self.shown > 0 {
+            self.shown = self.shown.saturating_sub(1);
+            return Ok(());
+        }
+        match step.event {
+            Event::End(kind) => self.end(kind)?,
+            Event::Leaf(header) => {
+                self.part(step.place)?;
+                self.leaf(head_at(header, step))?;
+            }
+            Event::Body(header, size) => {
+                self.part(step.place)?;
+                self.body(head_at(header, step), body_of(bytes, step, size))?;
+            }
+            Event::Begin(header) => {
+                self.part(step.place)?;
+                self.begin(head_at(header, step), behind(bytes, step.at))?;
+            }
+        }
+        Ok(())
+    }
+
+    /// What stands between an item and the one before it.
+    fn part(&mut self, place: Place) -> fmt::Result {
+        match place {
+            Place::Top => Ok(()),
+            Place::Content => Ok(()),
+            Place::Value => self.out.write_str(": "),
+            Place::Element { first } => self.next(first),
+            Place::Key { first } => self.next(first),
+            Place::Chunk { first: true } => Ok(()),
+            Place::Chunk { first: false } => self.out.write_str(", "),
+        }
+    }
+
+    fn next(&mut self, first: bool) -> fmt::Result {
+        let on_one_line = self.flat > 0;
+        if !first {
+            self.out.write_str(",")?;
+        }
+        if !on_one_line {
+            return self.line();
+        }
+        if first {
+            Ok(())
+        } else {
+            self.out.write_str(" ")
+        }
+    }
+
+    /// A new line.
+    fn line(&mut self) -> fmt::Result {
+        self.out.write_str("\n")?;
+        for _ in 0..self.indent {
+            self.out.write_str("  ")?;
+        }
+        Ok(())
+    }
+
+    fn indicator(&mut self, width: Option<u8>) -> fmt::Result {
+        match width {
+            Some(width) if self.style.widths => write!(self.out, "_{width}"),
+            _ => Ok(()),
+        }
+    }
+
+    fn leaf(&mut self, head: Head) -> Result<(), NotWritten> {
+        match head.header {
+            Header::Positive(n) => write!(self.out, "{n}")?,
+            Header::Negative(n) => {
+                let size = u128::from(n).wrapping_add(1);
+                write!(self.out, "-{size}")?;
+            }
+            Header::Simple(20) => self.out.write_str("false")?,
+            Header::Simple(21) => self.out.write_str("true")?,
+            Header::Simple(22) => self.out.write_str("null")?,
+            Header::Simple(23) => self.out.write_str("undefined")?,
+            Header::Simple(n) => write!(self.out, "simple({n})")?,
+            Header::Float(float) => {
+                let text = float::text_of(self.alloc, float)?;
+                self.out.write_str(text.as_str())?;
+                self.indicator(float::wide(float))?;
+                return Ok(());
+            }
+            _ => return Ok(()),
+        }
+        self.indicator(head.wide())?;
+        Ok(())
+    }
+
+    /// A string of stated length.
+    fn body(&mut self, head: Head, body: &[u8]) -> fmt::Result {
+        match head.header {
+            Header::Text(_) => match str::from_utf8(body) {
+                Ok(text) => write_text(text, self.style.ascii, self.out)?,
+                Err(_) => self.bytes(body)?,
+            },
+            _ => self.bytes(body)?,
+        }
+        self.indicator(head.wide())
+    }
+
+    fn bytes(&mut self, body: &[u8]) -> fmt::Result {
+        self.out.write_str("h'")?;
+        write_hex(body, self.out)?;
+        self.out.write_str("'")
+    }
+
+    /// What begins an item with parts.
+    fn begin(&mut self, head: Head, rest: &[u8]) -> fmt::Result {
+        match head.header {
+            Header::Array(len) => self.begin_level("[", len.is_none(), head, rest),
+            Header::Map(len) => self.begin_level("{", len.is_none(), head, rest),
+            Header::Tag(number) => self.begin_tag(number, head, rest),
+            Header::Bytes(_) => self.begin_string("''_", rest),
+            Header::Text(_) => self.begin_string("\"\"_", rest),
+            _ => Ok(()),
+        }
+    }
+
+    fn begin_level(&mut self, mark: &str, is_open: bool, head: Head, rest: &[u8]) -> fmt::Result {
+        self.out.write_str(mark)?;
+        let on_one_line = !self.style.lines
+            || self.flat > 0
+            || self.indent >= DEEP
+            || is_short(self.alloc, rest);
+        let wide = head.wide();
+        if is_open {
+            self.out.write_str("_")?;
+        } else {
+            self.indicator(wide)?;
+        }
+        if on_one_line {
+            self.flat = self.flat.saturating_add(1);
+            if is_open || (wide.is_some() && self.style.widths) {
+                self.out.write_str(" ")?;
+            }
+        } else {
+            self.indent = self.indent.saturating_add(1);
+        }
+        Ok(())
+    }
+
+    fn begin_tag(&mut self, number: u64, head: Head, rest: &[u8]) -> fmt::Result {
+        if self.style.bignums {
+            if let Some(count) = bignum(number, head, rest) {
+                self.shown = 2;
+                return self.number(number, count);
+            }
+        }
+        write!(self.out, "{number}")?;
+        self.indicator(head.wide())?;
+        if self.flat > 0 {
+            self.flat = self.flat.saturating_add(1);
+        }
+        self.out.write_str("(")
+    }
+
+    /// The number that a bignum is.
+    fn number(&mut self, tag: u64, count: u128) -> fmt::Result {
+        if tag == 2 {
+            return write!(self.out, "{count}");
+        }
+        match count.checked_add(1) {
+            Some(size) => write!(self.out, "-{size}"),
+            None => self
+                .out
+                .write_str("-340282366920938463463374607431768211456"),
+        }
+    }
+
+    /// An open string; one without pieces has a form of its own.
+    fn begin_string(&mut self, empty: &str, rest: &[u8]) -> fmt::Result {
+        if matches!(rest, [_, 0xff, ..]) {
+            self.shown = 1;
+            return self.out.write_str(empty);
+        }
+        self.flat = self.flat.saturating_add(1);
+        self.out.write_str("(_ ")
+    }
+
+    /// What ends an item with parts.
+    fn end(&mut self, kind: LevelKind) -> fmt::Result {
+        let on_one_line = self.flat > 0;
+        self.flat = self.flat.saturating_sub(1);
+        if !on_one_line && kind != LevelKind::Tag {
+            self.indent = self.indent.saturating_sub(1);
+            self.line()?;
+        }
+        self.out.write_str(match kind {
+            LevelKind::Array => "]",
+            LevelKind::Map => "}",
+            _ => ")",
+        })
+    }
+}
+
+/// The head of a step.
+fn head_at(header: Header, step: Step) -> Head {
+    Head {
+        header,
+        len: step.len,
+    }
+}
+
+/// The bytes from a place on.
+fn behind(bytes: &[u8], at: usize) -> &[u8] {
+    bytes.get(at..).unwrap_or(&[])
+}
+
+/// So many bytes behind the head of a step.
+fn body_of(bytes: &[u8], step: Step, size: usize) -> &[u8] {
+    let rest = behind(bytes, step.at.saturating_add(step.len));
+    rest.get(..size).unwrap_or(rest)
+}
+
+/// Whether the item that the bytes begin with is short.
+fn is_short(alloc: Global, bytes: &[u8]) -> bool {
+    let front = bytes.get(..SHORT).unwrap_or(bytes);
+    let mut walk = Walk::new(alloc);
+    walk.advance(front).is_ok()
+}
+
+/// The number of a bignum's bytes (RFC 8949, section 3.4.3): tag 2 or 3 around a byte string of stated length of at most 16 bytes.
+fn bignum(number: u64, head: Head, rest: &[u8]) -> Option<u128> {
+    if number != 2 && number != 3 {
+        return None;
+    }
+    let string_bytes = behind(rest, head.len);
+    let Ok(string) = head_of(string_bytes) else {
+        return None;
+    };
+    match string.header {
+        Header::Bytes(Some(size)) if size <= 16 => {
+            let body = behind(string_bytes, string.len);
+            body.get(..size).map(number_of)
+        }
+        _ => None,
+    }
+}
+
+/// At most 16 bytes as a number.
+fn number_of(bytes: &[u8]) -> u128 {
+    let mut number = 0u128;
+    for byte in bytes {
+        number = number.wrapping_mul(256).wrapping_add(u128::from(*byte));
+    }
+    number
+}
+
+/// Writes bytes as hex digits.
+///
+/// # Errors
+/// Those of the writer.
+pub fn write_hex<W: fmt::Write>(bytes: &[u8], out: &mut W) -> fmt::Result {
+    for byte in bytes {
+        write!(out, "{byte:02x}")?;
+    }
+    Ok(())
+}

@@ -1,0 +1,379 @@
+//! A walk over the heads of one item.
+use crate::head::{Head, HeadFault, head_of};
+use ciborium_ll::Header;
+use std::alloc::Global;
+use std::fmt;
+
+/// Why a walk can't go on.
+#[derive(Debug, Clone, Copy, PartialEq, Eq)]
+pub enum Why {
+    /// The bytes end before the item, or inside it.
+    Cut,
+    /// No head begins with the byte here.
+    NoHead,
+    /// A break stands here, and nothing that is open can end.
+    Break,
+    /// The open string can't hold the head here.
+    Chunk,
+    /// The text that begins here is no UTF-8.
+    NotText,
+    /// An offset would pass the greatest one.
+    TooLong,
+    /// Memory was refused.
+    Memory,
+}
+
+impl fmt::Display for Why {
+    fn fmt<W: fmt::Write>(&self, f: &mut fmt::Formatter<W>) -> fmt::Result {
+        f.write_str(match self {
+            Why::Cut => "the input ends inside an item",
+            Why::NoHead => "no item begins with this byte",
+            Why::Break => "a break where nothing can end",
+            Why::Chunk => "an item that the open string can't hold",
+            Why::NotText => "a text that is not UTF-8",
+            Why::TooLong => "a length past the greatest offset",
+            Why::Memory => "out of memory",
+        })
+    }
+}
+
+/// A fault, and where it stands: in bytes from the front of the item.
+#[derive(Debug, Clone, Copy, PartialEq, Eq)]
+pub struct Fault {
+    /// Which fault.
+    pub why: Why,
+    /// Where.
+    pub at: usize,
+}
+
+/// What can be open.
+#[derive(Debug, Clone, Copy, PartialEq, Eq)]
+pub enum LevelKind {
+    /// An array.
+    Array,
+    /// A map.
+    Map,
+    /// A tag, whose item is to come.
+    Tag,
+    /// A byte string of open length.
+    Bytes,
+    /// A text string of open length.
+    Text,
+}
+
+/// Where an item stands in the one around it.
+#[derive(Debug, Clone, Copy, PartialEq, Eq)]
+pub enum Place {
+    /// Nothing is around it.
+    Top,
+    /// In an array.
+    Element {
+        /// Whether it is the first one.
+        first: bool,
+    },
+    /// In a map, as a key.
+    Key {
+        /// Whether it is the first one.
+        first: bool,
+    },
+    /// In a map, behind its key.
+    Value,
+    /// In a tag.
+    Content,
+    /// In an open string.
+    Chunk {
+        /// Whether it is the first one.
+        first: bool,
+    },
+}
+
+/// What a step finds.
+#[derive(Debug, Clone, Copy, PartialEq, Eq)]
+pub enum Event {
+    /// An item that is its head.
+    Leaf(Header),
+    /// A string of stated length, with so many bytes behind its head.
+    Body(Header, usize),
+    /// An array, a map, a tag or an open string begins.
+    Begin(Header),
+    /// What was open last ends, by its count or by a break.
+    End(LevelKind),
+}
+
+/// One step of a walk.
+#[derive(Debug, Clone, Copy, PartialEq, Eq)]
+pub struct Step {
+    /// What was found.
+    pub event: Event,
+    /// Where it stands in what is around it; of an end this says nothing.
+    pub place: Place,
+    /// Where it stands in the bytes.
+    pub at: usize,
+    /// How many bytes its head takes.
+    pub len: usize,
+}
+
+/// A level that is open.
+#[derive(Debug, Clone, Copy, PartialEq, Eq)]
+struct Level {
+    kind: LevelKind,
+    /// How many items, of a map entries, are to come. None of an open length.
+    left: Option<usize>,
+    /// Whether a value is due, behind its key.
+    value_due: bool,
+    /// Whether an item has come.
+    begun: bool,
+}
+
+/// A walk over the heads of one item, which can stop where the bytes at hand end, and go on over more of them.
+#[derive(Drop)]
+pub struct Walk {
+    levels: Vec<Level>,
+    at: usize,
+}
+
+impl Walk {
+    /// A walk that stands before an item.
+    pub fn new(alloc: Global) -> Walk {
+        Walk {
+            levels: Vec::new(alloc),
+            at: 0,
+        }
+    }
+
+    /// Where it stands.
+    pub fn at(&self) -> usize {
+        self.at
+    }
+
+    /// Whether the whole item was walked over.
+    pub fn is_done(&self) -> bool {
+        self.at > 0 && self.levels.is_empty()
+    }
+
+    /// Goes back to the front of an item, and keeps the memory.
+    pub fn restart(&mut self) {
+        self.levels.clear();
+        self.at = 0;
+    }
+
+    /// The next step over the item at the front of these bytes. They are those of the last step, or more of them.
+    ///
+    /// # Errors
+    /// What `Why` lists. The walk stands where it stood, so after `Cut` it can go on over more bytes.
+    pub fn step(&mut self, bytes: &[u8]) -> Result<Step, Fault> {
+        if self.is_full() {
+            return Ok(self.close(0));
+        }
+        let Some((_, rest)) = bytes.split_at_checked(self.at) else {
+            return Err(self.fault(Why::Cut));
+        };
+        match head_of(rest) {
+            Ok(head) => self.take(head, rest),
+            Err(HeadFault::NoHead) => Err(self.fault(Why::NoHead)),
+            Err(HeadFault::Cut) => Err(self.fault(Why::Cut)),
+        }
+    }
+
+    /// Goes to the end of the item, and gives its length.
+    ///
+    /// # Errors
+    /// Those of `step`.
+    pub fn advance(&mut self, bytes: &[u8]) -> Result<usize, Fault> {
+        for _ in 0..u64::MAX {
+            match self.step(bytes) {
+                Ok(_) => {}
+                Err(fault) => return Err(fault),
+            }
+            if self.is_done() {
+                return Ok(self.at);
+            }
+        }
+        Err(self.fault(Why::TooLong))
+    }
+
+    fn fault(&self, why: Why) -> Fault {
+        Fault { why, at: self.at }
+    }
+
+    /// Whether the innermost level has all its items.
+    fn is_full(&self) -> bool {
+        match self.levels.last() {
+            Some(level) => level.left == Some(0) && !level.value_due,
+            None => false,
+        }
+    }
+
+    /// Ends the innermost level, by so many bytes.
+    fn close(&mut self, len: usize) -> Step {
+        let kind = match self.levels.pop() {
+            Some(level) => level.kind,
+            None => LevelKind::Tag,
+        };
+        let at = self.at;
+        self.at = at.saturating_add(len);
+        Step {
+            event: Event::End(kind),
+            place: Place::Top,
+            at,
+            len,
+        }
+    }
+
+    /// Takes a head.
+    fn take(&mut self, head: Head, rest: &[u8]) -> Result<Step, Fault> {
+        if head.header == Header::Break {
+            return self.take_break();
+        }
+        if !self.holds(head.header) {
+            return Err(self.fault(Why::Chunk));
+        }
+        match self.check_body(head, rest) {
+            Ok(next) => self.go(head, next),
+            Err(why) => Err(self.fault(why)),
+        }
+    }
+
+    fn take_break(&mut self) -> Result<Step, Fault> {
+        match self.levels.last() {
+            Some(level) if level.left.is_none() && !level.value_due => Ok(self.close(1)),
+            _ => Err(self.fault(Why::Break)),
+        }
+    }
+
+    /// Whether the innermost level can hold an item with this head. An open string inside an open string is read, as the reader of
+    /// values does.
+    fn holds(&self, header: Header) -> bool {
+        match self.levels.last() {
+            Some(level) => match level.kind {
+                LevelKind::Bytes => matches!(header, Header::Bytes(_)),
+                LevelKind::Text => matches!(header, Header::Text(_)),
+                _ => true,
+            },
+            None => true,
+        }
+    }
+
+    /// Where the next head stands, behind this one and its body.
+    fn check_body(&self, head: Head, rest: &[u8]) -> Result<usize, Why> {
+        let size = match head.header {
+            Header::Bytes(Some(size)) => size,
+            Header::Text(Some(size)) => size,
+            _ => 0,
+        };
+        let Some(len) = head.len.checked_add(size) else {
+            return Err(Why::TooLong);
+        };
+        let Some(next) = self.at.checked_add(len) else {
+            return Err(Why::TooLong);
+        };
+        let Some(body) = rest.get(head.len..len) else {
+            return Err(Why::Cut);
+        };
+        if matches!(head.header, Header::Text(_)) && str::from_utf8(body).is_err() {
+            return Err(Why::NotText);
+        }
+        Ok(next)
+    }
+
+    /// Steps over a head and its body.
+    fn go(&mut self, head: Head, next: usize) -> Result<Step, Fault> {
+        if self.levels.reserve(1).is_err() {
+            return Err(self.fault(Why::Memory));
+        }
+        let at = self.at;
+        let place = self.next_place();
+        self.at = next;
+        let event = event_of(head.header);
+        if let Some(level) = level_of(head.header) {
+            let _ = self.levels.push(level);
+        }
+        Ok(Step {
+            event,
+            place,
+            at,
+            len: head.len,
+        })
+    }
+
+    /// The place of the next item, which is taken.
+    fn next_place(&mut self) -> Place {
+        let Some(level) = self.levels.pop() else {
+            return Place::Top;
+        };
+        let place = place_in(level);
+        let _ = self.levels.push(used(level));
+        place
+    }
+}
+
+/// The place of the next item in a level.
+fn place_in(level: Level) -> Place {
+    let first = !level.begun;
+    match level.kind {
+        LevelKind::Array => Place::Element { first },
+        LevelKind::Map if level.value_due => Place::Value,
+        LevelKind::Map => Place::Key { first },
+        LevelKind::Tag => Place::Content,
+        LevelKind::Bytes => Place::Chunk { first },
+        LevelKind::Text => Place::Chunk { first },
+    }
+}
+
+/// A level with one item more.
+fn used(level: Level) -> Level {
+    let value_due = level.kind == LevelKind::Map && !level.value_due;
+    let left = if level.value_due {
+        level.left
+    } else {
+        one_less(level.left)
+    };
+    Level {
+        kind: level.kind,
+        left,
+        value_due,
+        begun: true,
+    }
+}
+
+fn one_less(left: Option<usize>) -> Option<usize> {
+    left.map(|count| count.saturating_sub(1))
+}
+
+fn event_of(header: Header) -> Event {
+    match header {
+        Header::Bytes(Some(size)) => Event::Body(header, size),
+        Header::Text(Some(size)) => Event::Body(header, size),
+        Header::Positive(_) => Event::Leaf(header),
+        Header::Negative(_) => Event::Leaf(header),
+        Header::Float(_) => Event::Leaf(header),
+        Header::Simple(_) => Event::Leaf(header),
+        _ => Event::Begin(header),
+    }
+}
+
+fn level_of(header: Header) -> Option<Level> {
+    let (kind, left) = match header {
+        Header::Array(len) => (LevelKind::Array, len),
+        Header::Map(len) => (LevelKind::Map, len),
+        Header::Tag(_) => (LevelKind::Tag, Some(1)),
+        Header::Bytes(None) => (LevelKind::Bytes, None),
+        Header::Text(None) => (LevelKind::Text, None),
+        _ => return None,
+    };
+    Some(Level {
+        kind,
+        left,
+        value_due: false,
+        begun: false,
+    })
+}
+
+/// The length of the item that the bytes begin with.
+///
+/// # Errors
+/// Those of `Walk::step`.
+pub fn item_len(alloc: Global, bytes: &[u8]) -> Result<usize, Fault> {
+    let mut walk = Walk::new(alloc);
+    walk.advance(bytes)
+}

@@ -1,0 +1,7 @@
+//! Tests of the diagnostic notation.
+#![tactic(auto)]
+
+#[cfg(test)]
+mod appendix;
+#[cfg(test)]
+mod tools;
