@@ -1,0 +1,63 @@
+//! What is shown of damaged input.
+use crate::page::begin_line;
+use crate::source::Source;
+use crate::stop::Stop;
+use cbor_diag::{Fault, NotWritten, Style, write_item};
+use std::alloc::Global;
+use std::{fmt, io};
+
+/// So many bytes are shown before the fault, and so many from it on.
+const AROUND: usize = 16;
+
+/// Shows what could be read of the item at hand, the fault, and the bytes around it.
+///
+/// # Errors
+/// `Damaged` where nothing else fails.
+pub fn show_damage<R: io::Read + Drop, P: fmt::Write>(
+    alloc: Global,
+    number: u64,
+    fault: Fault,
+    source: &mut Source<R>,
+    page: &mut P,
+) -> Result<(), Stop> {
+    source.hold(fault.at.saturating_add(AROUND))?;
+    let offset = source.offset();
+    let held = source.held();
+    writeln!(page, "item {number} at {offset}, damaged")?;
+    begin_line(1, page)?;
+    show_front(alloc, held, page)?;
+    let place = offset.saturating_add(fault.at);
+    let why = fault.why;
+    writeln!(page, "\n  fault at {place}: {why}")?;
+    show_around(held, offset, fault.at, page)?;
+    Err(Stop::of_fault(fault, offset))
+}
+
+/// The notation up to the fault.
+fn show_front<P: fmt::Write>(alloc: Global, held: &[u8], page: &mut P) -> Result<(), Stop> {
+    match write_item(alloc, held, Style::full(), 1, page) {
+        Ok(_) => {}
+        Err(NotWritten::Fault(_)) => {}
+        Err(NotWritten::Output) => return Err(Stop::Output),
+        Err(NotWritten::Memory) => return Err(Stop::Memory),
+    }
+    page.write_str("...")?;
+    Ok(())
+}
+
+/// The bytes around a place, of which those before it stand in front of a bar.
+fn show_around<P: fmt::Write>(held: &[u8], offset: usize, at: usize, page: &mut P) -> fmt::Result {
+    let first = at.saturating_sub(AROUND);
+    let last = at.saturating_add(AROUND).min(held.len());
+    let before = held.get(first..at).unwrap_or(&[]);
+    let behind = held.get(at..last).unwrap_or(&[]);
+    write!(page, "  bytes from {}:", offset.saturating_add(first))?;
+    for byte in before {
+        write!(page, " {byte:02x}")?;
+    }
+    page.write_str(" |")?;
+    for byte in behind {
+        write!(page, " {byte:02x}")?;
+    }
+    page.write_str("\n")
+}

@@ -1,0 +1,176 @@
+//! Headers and claims, with their registered names.
+use crate::names::{algorithm, claim, content_format, parameter};
+use crate::page::begin_line;
+use crate::parts::{Parts, entries, integer, is_bytes, joined};
+use crate::stop::Stop;
+use cbor_diag::{Style, item_len, write_hex, write_item};
+use std::alloc::Global;
+use std::fmt;
+
+/// What the labels of a map are.
+#[derive(Debug, Clone, Copy, PartialEq, Eq)]
+pub enum Labels {
+    /// Those of headers.
+    Headers,
+    /// Those of claims.
+    Claims,
+}
+
+/// Shows a protected header: a byte string around a map, or an empty one (RFC 9052, section 3).
+///
+/// # Errors
+/// `Output` and `Memory`.
+pub fn show_protected<P: fmt::Write>(
+    alloc: Global,
+    item: &[u8],
+    level: usize,
+    page: &mut P,
+) -> Result<(), Stop> {
+    if !is_bytes(item) {
+        begin_line(level, page)?;
+        page.write_str("protected, not bytes: ")?;
+        write_item(alloc, item, Style::full(), level, page)?;
+        page.write_str("\n")?;
+        return Ok(());
+    }
+    let bytes = joined(alloc, item)?;
+    show_protected_bytes(alloc, &bytes, level, page)
+}
+
+fn show_protected_bytes<P: fmt::Write>(
+    alloc: Global,
+    bytes: &[u8],
+    level: usize,
+    page: &mut P,
+) -> Result<(), Stop> {
+    let len = bytes.len();
+    begin_line(level, page)?;
+    if bytes.is_empty() {
+        page.write_str("protected, 0 bytes\n")?;
+        return Ok(());
+    }
+    write!(page, "protected, {len} bytes")?;
+    if item_len(alloc, bytes) == Ok(len) {
+        return show_entries(alloc, bytes, level, Labels::Headers, page);
+    }
+    page.write_str(", no item: ")?;
+    write_hex(bytes, page)?;
+    page.write_str("\n")?;
+    Ok(())
+}
+
+/// Shows an unprotected header.
+///
+/// # Errors
+/// `Output` and `Memory`.
+pub fn show_map<P: fmt::Write>(
+    alloc: Global,
+    name: &str,
+    item: &[u8],
+    level: usize,
+    page: &mut P,
+) -> Result<(), Stop> {
+    begin_line(level, page)?;
+    page.write_str(name)?;
+    show_entries(alloc, item, level, Labels::Headers, page)
+}
+
+/// Shows the entries of a map, a line each, behind what stands in the line at hand.
+///
+/// # Errors
+/// `Output` and `Memory`.
+pub fn show_entries<P: fmt::Write>(
+    alloc: Global,
+    item: &[u8],
+    level: usize,
+    labels: Labels,
+    page: &mut P,
+) -> Result<(), Stop> {
+    let Some(mut parts) = entries(alloc, item) else {
+        page.write_str(", not a map: ")?;
+        write_item(alloc, item, Style::full(), level, page)?;
+        page.write_str("\n")?;
+        return Ok(());
+    };
+    for number in 0..u64::MAX {
+        let shown = show_entry(alloc, &mut parts, level, labels, number == 0, page)?;
+        if !shown {
+            if number == 0 {
+                page.write_str(", empty\n")?;
+            }
+            break;
+        }
+    }
+    Ok(())
+}
+
+/// Shows the next entry, where there is one.
+fn show_entry<P: fmt::Write>(
+    alloc: Global,
+    parts: &mut Parts<'_>,
+    level: usize,
+    labels: Labels,
+    first: bool,
+    page: &mut P,
+) -> Result<bool, Stop> {
+    let Some(label) = parts.next()? else {
+        return Ok(false);
+    };
+    let Some(value) = parts.next()? else {
+        return Ok(false);
+    };
+    if first {
+        page.write_str("\n")?;
+    }
+    let inner = level.saturating_add(1);
+    begin_line(inner, page)?;
+    write_item(alloc, label, Style::line(), 0, page)?;
+    let number = integer(label);
+    if let Some(name) = name_of(labels, number) {
+        write!(page, " {name}")?;
+    }
+    page.write_str(": ")?;
+    show_value(alloc, labels, number, value, inner, page)?;
+    page.write_str("\n")?;
+    Ok(true)
+}
+
+fn name_of(labels: Labels, number: Option<i64>) -> Option<&'static str> {
+    let number = number?;
+    match labels {
+        Labels::Headers => parameter(number),
+        Labels::Claims => claim(number),
+    }
+}
+
+/// A value, with its registered name where its label has a registry.
+fn show_value<P: fmt::Write>(
+    alloc: Global,
+    labels: Labels,
+    label: Option<i64>,
+    value: &[u8],
+    level: usize,
+    page: &mut P,
+) -> Result<(), Stop> {
+    match value_name(labels, label, integer(value)) {
+        Some(name) => {
+            write!(page, "{name} (")?;
+            write_item(alloc, value, Style::line(), level, page)?;
+            page.write_str(")")?;
+        }
+        None => {
+            write_item(alloc, value, Style::full(), level, page)?;
+        }
+    }
+    Ok(())
+}
+
+fn value_name(labels: Labels, label: Option<i64>, value: Option<i64>) -> Option<&'static str> {
+    let value = value?;
+    match (labels, label) {
+        (Labels::Headers, Some(1)) => algorithm(value),
+        (Labels::Headers, Some(3)) => content_format(value),
+        (Labels::Headers, Some(16)) => content_format(value),
+        _ => None,
+    }
+}

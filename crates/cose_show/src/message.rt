@@ -1,0 +1,283 @@
+//! What a COSE message holds (RFC 9052).
+use crate::header::{show_map, show_protected};
+use crate::page::begin_line;
+use crate::parts::{Parts, is_bytes, is_null, items, joined, tagged};
+use crate::payload::show_payload;
+use crate::stop::Stop;
+use cbor_diag::{Style, write_hex, write_item};
+use std::alloc::Global;
+use std::fmt;
+
+/// The tag of a CBOR Web Token (RFC 8392, section 6).
+const CWT: u64 = 61;
+
+/// What a message's parts behind its headers are.
+#[derive(Debug, Clone, Copy, PartialEq, Eq)]
+struct Form {
+    name: &'static str,
+    parts: &'static [Part],
+}
+
+/// A part of a message behind its headers.
+#[derive(Debug, Clone, Copy, PartialEq, Eq)]
+enum Part {
+    Payload,
+    Ciphertext,
+    Signature,
+    Tag,
+    Signatures,
+    Recipients,
+}
+
+static SIGN1: Form = Form {
+    name: "COSE_Sign1",
+    parts: &[Part::Payload, Part::Signature],
+};
+
+static SIGN: Form = Form {
+    name: "COSE_Sign",
+    parts: &[Part::Payload, Part::Signatures],
+};
+
+static MAC0: Form = Form {
+    name: "COSE_Mac0",
+    parts: &[Part::Payload, Part::Tag],
+};
+
+static MAC: Form = Form {
+    name: "COSE_Mac",
+    parts: &[Part::Payload, Part::Tag, Part::Recipients],
+};
+
+static ENCRYPT0: Form = Form {
+    name: "COSE_Encrypt0",
+    parts: &[Part::Ciphertext],
+};
+
+static ENCRYPT: Form = Form {
+    name: "COSE_Encrypt",
+    parts: &[Part::Ciphertext, Part::Recipients],
+};
+
+/// The message that a tag is of (RFC 9052, section 2).
+fn form_of(tag: u64) -> Option<Form> {
+    match tag {
+        16 => Some(ENCRYPT0),
+        17 => Some(MAC0),
+        18 => Some(SIGN1),
+        96 => Some(ENCRYPT),
+        97 => Some(MAC),
+        98 => Some(SIGN),
+        _ => None,
+    }
+}
+
+/// Shows the parts of the message that an item is, and nothing of another item. The tag of a CWT around it is passed over.
+///
+/// # Errors
+/// `Output` and `Memory`.
+pub fn show_message<P: fmt::Write>(alloc: Global, item: &[u8], page: &mut P) -> Result<(), Stop> {
+    let Some((tag, content)) = tagged(item) else {
+        return Ok(());
+    };
+    if tag == CWT {
+        return match tagged(content) {
+            Some((tag, content)) => show_form(alloc, tag, content, page),
+            None => Ok(()),
+        };
+    }
+    show_form(alloc, tag, content, page)
+}
+
+fn show_form<P: fmt::Write>(
+    alloc: Global,
+    tag: u64,
+    content: &[u8],
+    page: &mut P,
+) -> Result<(), Stop> {
+    let Some(form) = form_of(tag) else {
+        return Ok(());
+    };
+    let name = form.name;
+    writeln!(page, "  {name}, tag {tag}")?;
+    match items(alloc, content) {
+        Some(mut parts) => show_parts(alloc, form, &mut parts, page),
+        None => {
+            page.write_str("    not an array\n")?;
+            Ok(())
+        }
+    }
+}
+
+fn show_parts<P: fmt::Write>(
+    alloc: Global,
+    form: Form,
+    parts: &mut Parts<'_>,
+    page: &mut P,
+) -> Result<(), Stop> {
+    show_headers(alloc, parts, 2, page)?;
+    for part in form.parts {
+        match parts.next()? {
+            Some(item) => show_part(alloc, *part, item, page)?,
+            None => {
+                let name = name_of(*part);
+                writeln!(page, "    {name}: missing")?;
+            }
+        }
+    }
+    show_more(alloc, parts, 2, page)
+}
+
+/// Items that have no place in the message.
+fn show_more<P: fmt::Write>(
+    alloc: Global,
+    parts: &mut Parts<'_>,
+    level: usize,
+    page: &mut P,
+) -> Result<(), Stop> {
+    for _ in 0..u64::MAX {
+        match parts.next()? {
+            Some(item) => show_other(alloc, "more", item, level, page)?,
+            None => break,
+        }
+    }
+    Ok(())
+}
+
+/// The two headers.
+fn show_headers<P: fmt::Write>(
+    alloc: Global,
+    parts: &mut Parts<'_>,
+    level: usize,
+    page: &mut P,
+) -> Result<(), Stop> {
+    match parts.next()? {
+        Some(item) => show_protected(alloc, item, level, page)?,
+        None => missing("protected", level, page)?,
+    }
+    match parts.next()? {
+        Some(item) => show_map(alloc, "unprotected", item, level, page)?,
+        None => missing("unprotected", level, page)?,
+    }
+    Ok(())
+}
+
+fn missing<P: fmt::Write>(name: &str, level: usize, page: &mut P) -> fmt::Result {
+    begin_line(level, page)?;
+    writeln!(page, "{name}: missing")
+}
+
+fn name_of(part: Part) -> &'static str {
+    match part {
+        Part::Payload => "payload",
+        Part::Ciphertext => "ciphertext",
+        Part::Signature => "signature",
+        Part::Tag => "tag",
+        Part::Signatures => "signatures",
+        Part::Recipients => "recipients",
+    }
+}
+
+fn show_part<P: fmt::Write>(
+    alloc: Global,
+    part: Part,
+    item: &[u8],
+    page: &mut P,
+) -> Result<(), Stop> {
+    let name = name_of(part);
+    match part {
+        Part::Payload if is_null(item) => page.write_str("    payload: detached\n")?,
+        Part::Ciphertext if is_null(item) => page.write_str("    ciphertext: detached\n")?,
+        Part::Payload if is_bytes(item) => {
+            let payload = joined(alloc, item)?;
+            show_payload(alloc, &payload, page)?;
+        }
+        Part::Signatures => show_list(alloc, "signature", item, page)?,
+        Part::Recipients => show_list(alloc, "recipient", item, page)?,
+        _ => show_bytes(alloc, name, item, 2, page)?,
+    }
+    Ok(())
+}
+
+/// A byte string in hex.
+fn show_bytes<P: fmt::Write>(
+    alloc: Global,
+    name: &str,
+    item: &[u8],
+    level: usize,
+    page: &mut P,
+) -> Result<(), Stop> {
+    if !is_bytes(item) {
+        return show_other(alloc, name, item, level, page);
+    }
+    let bytes = joined(alloc, item)?;
+    let len = bytes.len();
+    begin_line(level, page)?;
+    write!(page, "{name}, {len} bytes: ")?;
+    write_hex(&bytes, page)?;
+    page.write_str("\n")?;
+    Ok(())
+}
+
+/// An item in its notation.
+fn show_other<P: fmt::Write>(
+    alloc: Global,
+    name: &str,
+    item: &[u8],
+    level: usize,
+    page: &mut P,
+) -> Result<(), Stop> {
+    begin_line(level, page)?;
+    write!(page, "{name}: ")?;
+    write_item(alloc, item, Style::full(), level, page)?;
+    page.write_str("\n")?;
+    Ok(())
+}
+
+/// Signatures or recipients: arrays of a protected header, an unprotected one, and bytes.
+fn show_list<P: fmt::Write>(
+    alloc: Global,
+    name: &str,
+    item: &[u8],
+    page: &mut P,
+) -> Result<(), Stop> {
+    let Some(mut list) = items(alloc, item) else {
+        return show_other(alloc, name, item, 2, page);
+    };
+    for number in 1..u64::MAX {
+        match list.next()? {
+            Some(one) => {
+                writeln!(page, "    {name} {number}")?;
+                show_one(alloc, name, one, page)?;
+            }
+            None if number == 1 => {
+                writeln!(page, "    no {name}")?;
+                break;
+            }
+            None => break,
+        }
+    }
+    Ok(())
+}
+
+fn show_one<P: fmt::Write>(
+    alloc: Global,
+    name: &str,
+    one: &[u8],
+    page: &mut P,
+) -> Result<(), Stop> {
+    let Some(mut parts) = items(alloc, one) else {
+        return show_other(alloc, "not an array", one, 3, page);
+    };
+    show_headers(alloc, &mut parts, 3, page)?;
+    let last = if name == "recipient" {
+        "ciphertext"
+    } else {
+        name
+    };
+    match parts.next()? {
+        Some(item) => show_bytes(alloc, last, item, 3, page)?,
+        None => missing(last, 3, page)?,
+    }
+    show_more(alloc, &mut parts, 3, page)
+}

@@ -1,0 +1,37 @@
+//! The output.
+use std::{fmt, io};
+
+/// Text to a writer of bytes.
+#[derive(Drop)]
+pub struct Page<W> {
+    out: W,
+}
+
+impl<W: io::Write + Drop> Page<W> {
+    /// A page over a writer.
+    pub fn new(out: W) -> Page<W> {
+        Page { out }
+    }
+
+    /// Hands on what is kept.
+    pub fn flush(&mut self) -> io::Result<()> {
+        self.out.flush()
+    }
+}
+
+impl<W: io::Write + Drop> fmt::Write for Page<W> {
+    fn write_str(&mut self, text: &str) -> fmt::Result {
+        match self.out.write_all(text.as_bytes()) {
+            Ok(()) => Ok(()),
+            Err(_) => Err(fmt::Error),
+        }
+    }
+}
+
+/// Begins a line, so many levels inside.
+pub fn begin_line<P: fmt::Write>(level: usize, page: &mut P) -> fmt::Result {
+    for _ in 0..level {
+        page.write_str("  ")?;
+    }
+    Ok(())
+}

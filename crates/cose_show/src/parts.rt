@@ -1,0 +1,141 @@
+//! The parts of an item, as slices of its bytes.
+use crate::stop::Stop;
+use cbor_diag::{Event, Walk, Why, head_of, item_len};
+use ciborium_ll::Header;
+use std::alloc::Global;
+
+/// The items of an array, or the keys and values of a map, one after another.
+#[derive(Drop)]
+pub struct Parts<'a> {
+    alloc: Global,
+    rest: &'a [u8],
+    left: usize,
+}
+
+impl<'a> Parts<'a> {
+    /// The next one. Of bytes that are cut there is none.
+    ///
+    /// # Errors
+    /// `Memory`.
+    pub fn next(&mut self) -> Result<Option<&'a [u8]>, Stop> {
+        if self.left == 0 {
+            return Ok(None);
+        }
+        let len = match item_len(self.alloc, self.rest) {
+            Ok(len) => len,
+            Err(fault) if fault.why == Why::Memory => return Err(Stop::Memory),
+            Err(_) => 0,
+        };
+        if len == 0 {
+            self.left = 0;
+            return Ok(None);
+        }
+        match self.rest.split_at_checked(len) {
+            Some((front, back)) => {
+                self.left = self.left.saturating_sub(1);
+                self.rest = back;
+                Ok(Some(front))
+            }
+            None => Ok(None),
+        }
+    }
+}
+
+/// The bytes from a place on.
+pub fn behind(bytes: &[u8], at: usize) -> &[u8] {
+    bytes.get(at..).unwrap_or(&[])
+}
+
+/// The head that an item begins with.
+pub fn header_of(item: &[u8]) -> Option<Header> {
+    match head_of(item) {
+        Ok(head) => Some(head.header),
+        Err(_) => None,
+    }
+}
+
+/// The items of an array.
+pub fn items(alloc: Global, item: &[u8]) -> Option<Parts<'_>> {
+    match head_of(item) {
+        Ok(head) => match head.header {
+            Header::Array(count) => Some(Parts {
+                alloc,
+                rest: behind(item, head.len),
+                left: count.unwrap_or(usize::MAX),
+            }),
+            _ => None,
+        },
+        Err(_) => None,
+    }
+}
+
+/// The keys and values of a map, in turns.
+pub fn entries(alloc: Global, item: &[u8]) -> Option<Parts<'_>> {
+    match head_of(item) {
+        Ok(head) => match head.header {
+            Header::Map(count) => Some(Parts {
+                alloc,
+                rest: behind(item, head.len),
+                left: count.map_or(usize::MAX, |count| count.saturating_mul(2)),
+            }),
+            _ => None,
+        },
+        Err(_) => None,
+    }
+}
+
+/// What a tag is around.
+pub fn tagged(item: &[u8]) -> Option<(u64, &[u8])> {
+    match head_of(item) {
+        Ok(head) => match head.header {
+            Header::Tag(number) => Some((number, behind(item, head.len))),
+            _ => None,
+        },
+        Err(_) => None,
+    }
+}
+
+/// An integer that an item is, where it is small.
+pub fn integer(item: &[u8]) -> Option<i64> {
+    match header_of(item) {
+        Some(Header::Positive(n)) => i64::try_from(n).ok(),
+        Some(Header::Negative(n)) => match i64::try_from(n) {
+            Ok(n) => Some((-1i64).wrapping_sub(n)),
+            Err(_) => None,
+        },
+        _ => None,
+    }
+}
+
+/// Whether an item is a byte string.
+pub fn is_bytes(item: &[u8]) -> bool {
+    matches!(header_of(item), Some(Header::Bytes(_)))
+}
+
+/// Whether an item is null.
+pub fn is_null(item: &[u8]) -> bool {
+    matches!(header_of(item), Some(Header::Simple(22)))
+}
+
+/// The bytes of a string, its pieces joined.
+///
+/// # Errors
+/// `Memory`.
+pub fn joined(alloc: Global, item: &[u8]) -> Result<Vec<u8>, Stop> {
+    let mut bytes = Vec::new(alloc);
+    let mut walk = Walk::new(alloc);
+    for _ in 0..u64::MAX {
+        let step = match walk.step(item) {
+            Ok(step) => step,
+            Err(fault) => return Err(Stop::of_fault(fault, 0)),
+        };
+        if let Event::Body(_, size) = step.event {
+            let rest = behind(item, step.at.saturating_add(step.len));
+            bytes.extend_from_slice(rest.get(..size).unwrap_or(rest))?;
+        }
+        if walk.is_done() {
+            break;
+        }
+    }
+    Ok(bytes)
+}

@@ -1,0 +1,115 @@
+//! What a payload is.
+use crate::header::{Labels, show_entries};
+use crate::parts::{entries, header_of, integer};
+use crate::stop::Stop;
+use cbor_diag::{Style, item_len, write_hex, write_item, write_text};
+use ciborium_ll::Header;
+use std::alloc::Global;
+use std::fmt;
+
+/// Shows a payload: its length, and what it is as claims, a text, an item or bytes.
+///
+/// # Errors
+/// `Output` and `Memory`.
+pub fn show_payload<P: fmt::Write>(
+    alloc: Global,
+    payload: &[u8],
+    page: &mut P,
+) -> Result<(), Stop> {
+    let len = payload.len();
+    write!(page, "    payload, {len} bytes")?;
+    let is_item = len > 0 && item_len(alloc, payload) == Ok(len);
+    if is_item && is_claims(alloc, payload)? {
+        page.write_str(", claims")?;
+        return show_entries(alloc, payload, 2, Labels::Claims, page);
+    }
+    if let Some(text) = plain_text(payload) {
+        page.write_str(", text: ")?;
+        write_text(text, false, page)?;
+        page.write_str("\n")?;
+        return show_as_item(alloc, payload, is_item, page);
+    }
+    if is_item {
+        page.write_str(", CBOR: ")?;
+        write_item(alloc, payload, Style::full(), 2, page)?;
+    } else if len > 0 {
+        page.write_str(", hex: ")?;
+        write_hex(payload, page)?;
+    }
+    page.write_str("\n")?;
+    Ok(())
+}
+
+/// A text can also be an item; one of a byte is hardly meant as one.
+fn show_as_item<P: fmt::Write>(
+    alloc: Global,
+    payload: &[u8],
+    is_item: bool,
+    page: &mut P,
+) -> Result<(), Stop> {
+    if is_item && payload.len() > 1 {
+        page.write_str("      also CBOR: ")?;
+        write_item(alloc, payload, Style::line(), 0, page)?;
+        page.write_str("\n")?;
+    }
+    Ok(())
+}
+
+/// The text that bytes are, where it has no control characters but those between lines and words.
+fn plain_text(bytes: &[u8]) -> Option<&str> {
+    if bytes.is_empty() {
+        return None;
+    }
+    let text = match str::from_utf8(bytes) {
+        Ok(text) => text,
+        Err(_) => return None,
+    };
+    if text.chars().all(is_plain) {
+        Some(text)
+    } else {
+        None
+    }
+}
+
+fn is_plain(c: char) -> bool {
+    match c {
+        '\n' => true,
+        '\r' => true,
+        '\t' => true,
+        '\u{0}'..='\u{1f}' => false,
+        '\u{7f}'..='\u{9f}' => false,
+        _ => true,
+    }
+}
+
+/// Whether an item is a claims set (RFC 8392): a map whose keys are numbers and texts, one of the claims 1 to 7 among them.
+fn is_claims(alloc: Global, item: &[u8]) -> Result<bool, Stop> {
+    let Some(mut parts) = entries(alloc, item) else {
+        return Ok(false);
+    };
+    let mut found = false;
+    for _ in 0..u64::MAX {
+        let Some(key) = parts.next()? else {
+            break;
+        };
+        if !is_label(key) {
+            return Ok(false);
+        }
+        found = found || is_known_claim(integer(key));
+        let _ = parts.next()?;
+    }
+    Ok(found)
+}
+
+fn is_label(key: &[u8]) -> bool {
+    match header_of(key) {
+        Some(Header::Positive(_)) => true,
+        Some(Header::Negative(_)) => true,
+        Some(Header::Text(_)) => true,
+        _ => false,
+    }
+}
+
+fn is_known_claim(number: Option<i64>) -> bool {
+    matches!(number, Some(1..=7))
+}

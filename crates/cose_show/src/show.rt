@@ -1,0 +1,62 @@
+//! The items, one after another.
+use crate::damage::show_damage;
+use crate::message::show_message;
+use crate::page::begin_line;
+use crate::source::{Found, Source};
+use crate::stop::Stop;
+use crate::verdict::show_verdict;
+use cbor_diag::{Style, write_item};
+use std::alloc::Global;
+use std::{fmt, io};
+
+/// What is asked for beside the items.
+#[derive(Clone, Copy)]
+pub struct Request<'a> {
+    /// The covered bytes.
+    pub questions: bool,
+    /// The external data.
+    pub aad: &'a [u8],
+}
+
+/// Shows all items of the input.
+///
+/// # Errors
+/// What the program ends early for; what was read before is shown.
+pub fn show<R: io::Read + Drop, P: fmt::Write>(
+    alloc: Global,
+    request: Request<'_>,
+    source: &mut Source<R>,
+    page: &mut P,
+) -> Result<(), Stop> {
+    for number in 1..u64::MAX {
+        match source.find()? {
+            Found::Item(len) => {
+                let item = source.held().get(..len).unwrap_or(&[]);
+                let offset = source.offset();
+                show_item(alloc, request, number, offset, item, page)?;
+                source.leave(len);
+            }
+            Found::End => return Ok(()),
+            Found::Damaged(fault) => return show_damage(alloc, number, fault, source, page),
+        }
+    }
+    Ok(())
+}
+
+/// Shows one item.
+fn show_item<P: fmt::Write>(
+    alloc: Global,
+    request: Request<'_>,
+    number: u64,
+    offset: usize,
+    item: &[u8],
+    page: &mut P,
+) -> Result<(), Stop> {
+    let len = item.len();
+    writeln!(page, "item {number} at {offset}, {len} bytes")?;
+    begin_line(1, page)?;
+    write_item(alloc, item, Style::full(), 1, page)?;
+    page.write_str("\n")?;
+    show_message(alloc, item, page)?;
+    show_verdict(alloc, request, item, page)
+}

@@ -1,0 +1,130 @@
+//! The input, of which one item is held.
+use crate::stop::Stop;
+use cbor_diag::{Fault, Walk, Why};
+use std::alloc::Global;
+use std::io;
+use std::io::{BufRead, BufReader};
+
+/// What comes next.
+#[derive(Debug, Clone, Copy, PartialEq, Eq)]
+pub enum Found {
+    /// An item of so many bytes.
+    Item(usize),
+    /// Nothing is left.
+    End,
+    /// Bytes that begin no item.
+    Damaged(Fault),
+}
+
+/// The input, of which one item is held, and what was read behind it.
+#[derive(Drop)]
+pub struct Source<R> {
+    reader: BufReader<R>,
+    walk: Walk,
+    held: Vec<u8>,
+    /// Where the item begins in what is held.
+    start: usize,
+    /// Where it begins in the input.
+    offset: usize,
+    ended: bool,
+}
+
+impl<R: io::Read + Drop> Source<R> {
+    /// An input of which nothing was read.
+    pub fn new(alloc: Global, reader: BufReader<R>) -> Source<R> {
+        Source {
+            reader,
+            walk: Walk::new(alloc),
+            held: Vec::new(alloc),
+            start: 0,
+            offset: 0,
+            ended: false,
+        }
+    }
+
+    /// Where the item at hand begins in the input.
+    pub fn offset(&self) -> usize {
+        self.offset
+    }
+
+    /// What is held, from the item at hand on.
+    pub fn held(&self) -> &[u8] {
+        self.held.as_slice().get(self.start..).unwrap_or(&[])
+    }
+
+    /// Reads up to the end of the next item.
+    ///
+    /// # Errors
+    /// `Input` and `Memory`.
+    pub fn find(&mut self) -> Result<Found, Stop> {
+        self.walk.restart();
+        for _ in 0..u64::MAX {
+            match self.advance() {
+                Ok(len) => return Ok(Found::Item(len)),
+                Err(fault) => match fault.why {
+                    Why::Cut if !self.ended => self.read_on()?,
+                    Why::Cut if self.held().is_empty() => return Ok(Found::End),
+                    Why::Memory => return Err(Stop::Memory),
+                    _ => return Ok(Found::Damaged(fault)),
+                },
+            }
+        }
+        Err(Stop::Input)
+    }
+
+    /// Goes on over what is held.
+    fn advance(&mut self) -> Result<usize, Fault> {
+        let held = self.held.as_slice().get(self.start..).unwrap_or(&[]);
+        self.walk.advance(held)
+    }
+
+    /// Reads until so many bytes are held, or the input ends.
+    ///
+    /// # Errors
+    /// `Input` and `Memory`.
+    pub fn hold(&mut self, count: usize) -> Result<(), Stop> {
+        for _ in 0..u64::MAX {
+            if self.ended || self.held().len() >= count {
+                break;
+            }
+            self.read_on()?;
+        }
+        Ok(())
+    }
+
+    /// Goes on behind an item of so many bytes.
+    pub fn leave(&mut self, len: usize) {
+        self.start = self.start.saturating_add(len);
+        self.offset = self.offset.saturating_add(len);
+    }
+
+    /// Reads what comes next, behind what is held.
+    fn read_on(&mut self) -> Result<(), Stop> {
+        self.forget();
+        let count = match self.reader.fill_buf() {
+            Ok(block) => match self.held.extend_from_slice(block) {
+                Ok(()) => block.len(),
+                Err(_) => return Err(Stop::Memory),
+            },
+            Err(_) => return Err(Stop::Input),
+        };
+        self.reader.consume(count);
+        if count == 0 {
+            self.ended = true;
+        }
+        Ok(())
+    }
+
+    /// Forgets what stands before the item at hand.
+    fn forget(&mut self) {
+        let left = self.held().len();
+        if self.start > 0 {
+            let end = self.held.len();
+            if self.start < end {
+                self.held.as_mut_slice().rotate_left(self.start);
+            }
+            self.held.truncate(left);
+            self.start = 0;
+        }
+    }
+}

@@ -1,0 +1,85 @@
+//! Why the program ends early.
+use cbor_diag::{Fault, NotWritten, Why};
+use std::alloc::{AllocError, AllocFailed};
+use std::fmt;
+
+/// Why the program ends early.
+#[derive(Debug, Clone, Copy, PartialEq, Eq)]
+pub enum Stop {
+    /// The words are none that it knows.
+    Usage,
+    /// The external data is no hex.
+    NotHex,
+    /// The file can't be opened.
+    NoFile,
+    /// The input failed.
+    Input,
+    /// The output failed.
+    Output,
+    /// Memory was refused.
+    Memory,
+    /// The input is damaged at this offset.
+    Damaged(Why, usize),
+}
+
+impl Stop {
+    /// The status of the program.
+    pub fn status(self) -> u8 {
+        match self {
+            Stop::Usage => 2,
+            Stop::NotHex => 2,
+            Stop::NoFile => 3,
+            _ => 4,
+        }
+    }
+
+    /// What a fault in an item means that was read before.
+    pub fn of_fault(fault: Fault, offset: usize) -> Stop {
+        match fault.why {
+            Why::Memory => Stop::Memory,
+            why => Stop::Damaged(why, offset.saturating_add(fault.at)),
+        }
+    }
+}
+
+impl fmt::Display for Stop {
+    fn fmt<W: fmt::Write>(&self, f: &mut fmt::Formatter<W>) -> fmt::Result {
+        match self {
+            Stop::Usage => f.write_str("usage"),
+            Stop::NotHex => f.write_str("the external data is no hex"),
+            Stop::NoFile => f.write_str("the file can't be opened"),
+            Stop::Input => f.write_str("the input can't be read"),
+            Stop::Output => f.write_str("the output can't be written"),
+            Stop::Memory => f.write_str("out of memory"),
+            Stop::Damaged(why, offset) => write!(f, "damaged at {offset}: {why}"),
+        }
+    }
+}
+
+impl From<fmt::Error> for Stop {
+    fn from(_: fmt::Error) -> Stop {
+        Stop::Output
+    }
+}
+
+impl From<AllocError> for Stop {
+    fn from(_: AllocError) -> Stop {
+        Stop::Memory
+    }
+}
+
+impl<T: Drop> From<AllocFailed<T>> for Stop {
+    fn from(_: AllocFailed<T>) -> Stop {
+        Stop::Memory
+    }
+}
+
+impl From<NotWritten> for Stop {
+    fn from(error: NotWritten) -> Stop {
+        match error {
+            NotWritten::Fault(fault) => Stop::of_fault(fault, 0),
+            NotWritten::Output => Stop::Output,
+            NotWritten::Memory => Stop::Memory,
+        }
+    }
+}
