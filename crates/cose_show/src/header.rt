@@ -1,9 +1,9 @@
 //! Headers and claims, with their registered names.
 use crate::names::{algorithm, claim, content_format, parameter};
-use crate::page::begin_line;
+use crate::page::{begin_line, write_bytes, write_len};
 use crate::parts::{Parts, entries, integer, is_bytes, joined};
 use crate::stop::Stop;
-use cbor_diag::{Style, item_len, write_hex, write_item};
+use cbor_diag::{Style, item_len, write_item};
 use std::alloc::Global;
 use std::fmt;
 
@@ -43,19 +43,16 @@ fn show_protected_bytes<P: fmt::Write>(
     level: usize,
     page: &mut P,
 ) -> Result<(), Stop> {
-    let len = bytes.len();
     begin_line(level, page)?;
-    if bytes.is_empty() {
-        page.write_str("protected, 0 bytes\n")?;
-        return Ok(());
-    }
-    write!(page, "protected, {len} bytes")?;
-    if item_len(alloc, bytes) == Ok(len) {
+    page.write_str("protected, ")?;
+    if item_len(alloc, bytes) == Ok(bytes.len()) {
+        write_len(bytes.len(), page)?;
         return show_entries(alloc, bytes, level, Labels::Headers, page);
     }
-    page.write_str(", no item: ")?;
-    write_hex(bytes, page)?;
-    page.write_str("\n")?;
+    if !bytes.is_empty() {
+        page.write_str("not one item, ")?;
+    }
+    write_bytes(bytes, page)?;
     Ok(())
 }
 

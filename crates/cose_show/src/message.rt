@@ -1,10 +1,10 @@
 //! What a COSE message holds (RFC 9052).
 use crate::header::{show_map, show_protected};
-use crate::page::begin_line;
+use crate::page::{begin_line, write_bytes};
 use crate::parts::{Parts, is_bytes, is_null, items, joined, tagged};
 use crate::payload::show_payload;
 use crate::stop::Stop;
-use cbor_diag::{Style, write_hex, write_item};
+use cbor_diag::{Style, write_item};
 use std::alloc::Global;
 use std::fmt;
 
@@ -211,11 +211,9 @@ fn show_bytes<P: fmt::Write>(
         return show_other(alloc, name, item, level, page);
     }
     let bytes = joined(alloc, item)?;
-    let len = bytes.len();
     begin_line(level, page)?;
-    write!(page, "{name}, {len} bytes: ")?;
-    write_hex(&bytes, page)?;
-    page.write_str("\n")?;
+    write!(page, "{name}, ")?;
+    write_bytes(&bytes, page)?;
     Ok(())
 }
 

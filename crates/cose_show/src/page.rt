@@ -1,4 +1,5 @@
 //! The output.
+use cbor_diag::write_hex;
 use std::{fmt, io};
 
 /// Text to a writer of bytes.
@@ -34,4 +35,23 @@ pub fn begin_line<P: fmt::Write>(level: usize, page: &mut P) -> fmt::Result {
         page.write_str("  ")?;
     }
     Ok(())
+}
+
+/// Writes how many bytes there are.
+pub fn write_len<P: fmt::Write>(len: usize, page: &mut P) -> fmt::Result {
+    if len == 1 {
+        page.write_str("1 byte")
+    } else {
+        write!(page, "{len} bytes")
+    }
+}
+
+/// Writes how many bytes there are, and the bytes in hex, and ends the line.
+pub fn write_bytes<P: fmt::Write>(bytes: &[u8], page: &mut P) -> fmt::Result {
+    write_len(bytes.len(), page)?;
+    if !bytes.is_empty() {
+        page.write_str(": ")?;
+        write_hex(bytes, page)?;
+    }
+    page.write_str("\n")
 }

@@ -1,5 +1,6 @@
 //! What a payload is.
 use crate::header::{Labels, show_entries};
+use crate::page::write_len;
 use crate::parts::{entries, header_of, integer};
 use crate::stop::Stop;
 use cbor_diag::{Style, item_len, write_hex, write_item, write_text};
@@ -17,7 +18,8 @@ pub fn show_payload<P: fmt::Write>(
     page: &mut P,
 ) -> Result<(), Stop> {
     let len = payload.len();
-    write!(page, "    payload, {len} bytes")?;
+    page.write_str("    payload, ")?;
+    write_len(len, page)?;
     let is_item = len > 0 && item_len(alloc, payload) == Ok(len);
     if is_item && is_claims(alloc, payload)? {
         page.write_str(", claims")?;

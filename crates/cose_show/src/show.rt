@@ -1,7 +1,7 @@
 //! The items, one after another.
 use crate::damage::show_damage;
 use crate::message::show_message;
-use crate::page::begin_line;
+use crate::page::{begin_line, write_len};
 use crate::source::{Found, Source};
 use crate::stop::Stop;
 use crate::verdict::show_verdict;
@@ -52,8 +52,9 @@ fn show_item<P: fmt::Write>(
     item: &[u8],
     page: &mut P,
 ) -> Result<(), Stop> {
-    let len = item.len();
-    writeln!(page, "item {number} at {offset}, {len} bytes")?;
+    write!(page, "item {number} at {offset}, ")?;
+    write_len(item.len(), page)?;
+    page.write_str("\n")?;
     begin_line(1, page)?;
     write_item(alloc, item, Style::full(), 1, page)?;
     page.write_str("\n")?;

@@ -1,7 +1,7 @@
 //! What the gate says of an item.
+use crate::page::write_bytes;
 use crate::show::Request;
 use crate::stop::Stop;
-use cbor_diag::write_hex;
 use cose_gate_core::{Asked, Decoder, End, Entry, GateFault, Mem, Recorder, Verdict, gate};
 use std::alloc::Global;
 use std::fmt;
@@ -65,11 +65,8 @@ fn say_verdict<P: fmt::Write>(verdict: Option<Verdict>, asked: usize, page: &mut
 fn show_questions<P: fmt::Write>(asked: &[Asked], page: &mut P) -> fmt::Result {
     for (index, question) in asked.iter().enumerate() {
         let number = index.saturating_add(1);
-        let covered = question.structure.as_slice();
-        let len = covered.len();
-        write!(page, "  question {number}, {len} bytes covered: ")?;
-        write_hex(covered, page)?;
-        page.write_str("\n")?;
+        write!(page, "  question {number} covers ")?;
+        write_bytes(question.structure.as_slice(), page)?;
     }
     Ok(())
 }
