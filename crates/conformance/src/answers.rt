@@ -5,7 +5,7 @@ use std::alloc::{AllocError, Global};
 use std::fmt::Display;
 
 /// Why a call has no answer.
-#[derive(Debug, Clone, Copy, PartialEq, Eq)]
+#[derive(Clone, Copy)]
 pub enum CallError {
     Memory,
     NoCall,

@@ -1,7 +1,7 @@
 //! Calls by name.
 use crate::answers::{Answer, CallError, bytes, size, value};
 use crate::typed::{self, Route};
-use crate::{heads, integers, items, labels, notation, orders, pieces, registries, values};
+use crate::{heads, items, labels, notation, orders, pieces, registries, values};
 use std::alloc::Global;
 
 /// What the call answers that the first word names.
@@ -18,8 +18,7 @@ pub fn answer(alloc: Global, words: &[&str]) -> Answer {
 /// A call with one argument.
 fn of_one(alloc: Global, call: &str, argument: &str) -> Answer {
     match call {
-        "entries" => registries::entries(alloc, argument),
-        "private-max" => registries::private_max(alloc, argument),
+        "entries" => registries::entry(alloc, argument, None),
         "kinds" => values::kinds(alloc, &value(alloc, argument)?),
         _ => of_bytes(alloc, call, argument),
     }
@@ -41,10 +40,9 @@ fn of_bytes(alloc: Global, call: &str, argument: &str) -> Answer {
 /// A call with two arguments.
 fn of_two(alloc: Global, call: &str, a: &str, b: &str) -> Answer {
     match call {
-        "entry" => registries::entry(alloc, a, b),
+        "entry" => registries::entry(alloc, a, Some(registries::number(b)?)),
         "private" => registries::private(alloc, a, b),
-        "integer" => integers::integer(alloc, a, b),
-        "integer-to" => integers::narrowed(alloc, a, b),
+        "integer" => values::integer(alloc, a, b),
         "value-from" => values::made_from(alloc, a, b),
         "try-as" => labels::taken(alloc, a, value(alloc, b)?),
         "fold" => values::folded(alloc, a, value(alloc, b)?),

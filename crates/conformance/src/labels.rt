@@ -61,56 +61,36 @@ fn told(alloc: Global, value: Result<Value, CoseError>) -> Answer {
 
 /// What a value is as one of this kind, in diagnostic notation.
 pub fn taken(alloc: Global, kind: &str, value: Value) -> Answer {
+    match as_kind(alloc, kind, value) {
+        Ok(Some(value)) => noted(alloc, &value),
+        Ok(None) => Err(CallError::NoCall),
+        Err(error) => failure(alloc, &error),
+    }
+}
+
+/// The value as one of this kind, where the kind has a name.
+fn as_kind(alloc: Global, kind: &str, value: Value) -> Result<Option<Value>, CoseError> {
     match kind {
-        "integer" => told(alloc, integer(value)),
-        "bytes" => told(alloc, bytes(value)),
-        "nonempty-bytes" => told(alloc, nonempty_bytes(value)),
-        "bytes-or-nil" => told(alloc, bytes_or_nil(value)),
-        "array" => told(alloc, array(value)),
-        "map" => told(alloc, map(value)),
-        "tag" => told(alloc, tag(value)),
-        "text" => told(alloc, text(value)),
-        "labels" => told(alloc, labels(alloc, value)),
-        _ => Err(CallError::NoCall),
+        "integer" => Ok(Some(Value::Integer(value.try_as_integer()?))),
+        "bytes" => Ok(Some(Value::Bytes(value.try_as_bytes()?))),
+        "nonempty-bytes" => Ok(Some(Value::Bytes(value.try_as_nonempty_bytes()?))),
+        "bytes-or-nil" => match value.try_as_bytes_or_nil("bstr or nil")? {
+            Some(bytes) => Ok(Some(Value::Bytes(bytes))),
+            None => Ok(Some(Value::Null)),
+        },
+        "array" => Ok(Some(Value::Array(value.try_as_array()?))),
+        "map" => Ok(Some(Value::Map(value.try_as_map()?))),
+        "tag" => {
+            let (number, content) = value.try_as_tag()?;
+            Ok(Some(Value::Tag(number, content)))
+        }
+        "text" => Ok(Some(Value::Text(value.try_as_string()?))),
+        "labels" => Ok(Some(labels(alloc, value)?)),
+        _ => Ok(None),
     }
 }
 
-fn integer(value: Value) -> Result<Value, CoseError> {
-    Ok(Value::Integer(value.try_as_integer()?))
-}
-
-fn bytes(value: Value) -> Result<Value, CoseError> {
-    Ok(Value::Bytes(value.try_as_bytes()?))
-}
-
-fn nonempty_bytes(value: Value) -> Result<Value, CoseError> {
-    Ok(Value::Bytes(value.try_as_nonempty_bytes()?))
-}
-
-fn bytes_or_nil(value: Value) -> Result<Value, CoseError> {
-    match value.try_as_bytes_or_nil("bstr or nil")? {
-        Some(bytes) => Ok(Value::Bytes(bytes)),
-        None => Ok(Value::Null),
-    }
-}
-
-fn array(value: Value) -> Result<Value, CoseError> {
-    Ok(Value::Array(value.try_as_array()?))
-}
-
-fn map(value: Value) -> Result<Value, CoseError> {
-    Ok(Value::Map(value.try_as_map()?))
-}
-
-fn tag(value: Value) -> Result<Value, CoseError> {
-    let (number, content) = value.try_as_tag()?;
-    Ok(Value::Tag(number, content))
-}
-
-fn text(value: Value) -> Result<Value, CoseError> {
-    Ok(Value::Text(value.try_as_string()?))
-}
-
+/// The array that is made of the labels in an array.
 fn labels(alloc: Global, value: Value) -> Result<Value, CoseError> {
     let labels = value.try_as_array_then_convert(
         alloc,

@@ -5,7 +5,6 @@
 mod answers;
 mod calls;
 mod heads;
-mod integers;
 mod items;
 mod labels;
 mod notation;

@@ -1,7 +1,8 @@
 //! Orders and equalities, told of all pairs.
 use crate::answers::{Answer, CallError, bytes, plain, value};
-use crate::registries;
+use crate::registries::found;
 use ciborium_value::{CanonicalValue, Integer, Value, cmp_value};
+use cose_iana::{Algorithm, HeaderParameter, OkpKeyParameter};
 use coset_labels::{CborSerializable, Label};
 use std::alloc::Global;
 use std::cmp::Ordering;
@@ -26,23 +27,20 @@ fn compared(alloc: Global, order: &str, a: &str, b: &str) -> Result<Ordering, Ca
         "value" => Ok(value(alloc, a)?.cmp(&value(alloc, b)?)),
         "length-first" => Ok(cmp_value(&value(alloc, a)?, &value(alloc, b)?)),
         "canonical" => Ok(canonical(alloc, a)?.cmp(&canonical(alloc, b)?)),
-        "canonical-partial" => partial(&canonical(alloc, a)?, &canonical(alloc, b)?),
+        "canonical-partial" => canonical(alloc, a)?
+            .partial_cmp(&canonical(alloc, b)?)
+            .ok_or(CallError::NotItem),
         "integer" => Ok(integer(alloc, a)?.canonical_cmp(&integer(alloc, b)?)),
         "label" => Ok(label(alloc, a)?.cmp(&label(alloc, b)?)),
         "label-canonical" => Ok(label(alloc, a)?.cmp_canonical(&label(alloc, b)?)),
-        registry => registries::compared(registry, a, b),
+        "algorithm" => Ok(found::<Algorithm>(a)?.cmp(&found(b)?)),
+        "okp" => Ok(found::<OkpKeyParameter>(a)?.cmp(&found(b)?)),
+        _ => Err(CallError::NoCall),
     }
 }
 
 fn canonical(alloc: Global, word: &str) -> Result<CanonicalValue, CallError> {
     Ok(CanonicalValue::from(value(alloc, word)?))
-}
-
-fn partial(a: &CanonicalValue, b: &CanonicalValue) -> Result<Ordering, CallError> {
-    match a.partial_cmp(b) {
-        Some(order) => Ok(order),
-        None => Err(CallError::NotItem),
-    }
 }
 
 fn integer(alloc: Global, word: &str) -> Result<Integer, CallError> {
@@ -79,7 +77,8 @@ fn is_same(alloc: Global, relation: &str, a: &str, b: &str) -> Result<bool, Call
         "canonical" => Ok(canonical(alloc, a)? == canonical(alloc, b)?),
         "canonical-hash" => Ok(hash(&canonical(alloc, a)?) == hash(&canonical(alloc, b)?)),
         "label" => Ok(label(alloc, a)? == label(alloc, b)?),
-        registry => registries::is_same(registry, a, b),
+        "header-parameter" => Ok(found::<HeaderParameter>(a)? == found(b)?),
+        _ => Err(CallError::NoCall),
     }
 }
 

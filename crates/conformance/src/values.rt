@@ -1,9 +1,9 @@
-//! Values: their kinds, what they are made of, and bignums.
+//! Integers, and values: their kinds, what they are made of, and bignums.
 use crate::answers::{Answer, CallError, bytes, plain, shown, size};
-use crate::integers::{signed, unsigned};
 use crate::notation::noted;
-use ciborium_value::{Value, bignum, fold_tag};
+use ciborium_value::{Integer, Value, bignum, fold_tag};
 use std::alloc::Global;
+use std::num::TryFromIntError;
 
 /// The kinds that a value says it is of.
 pub fn kinds(alloc: Global, value: &Value) -> Answer {
@@ -64,5 +64,37 @@ pub fn bignum(alloc: Global, bytes: &[u8]) -> Answer {
     match bignum::number(bytes) {
         Some(number) => Ok(format!(in alloc; "{number} {rest}")?),
         None => Ok(format!(in alloc; "none {rest}")?),
+    }
+}
+
+/// The integer that is made of a number of this type, as a number.
+pub fn integer(alloc: Global, kind: &str, number: &str) -> Answer {
+    match kind {
+        "i128" => of_integer(alloc, Integer::try_from(signed(number)?)),
+        "u128" => of_integer(alloc, Integer::try_from(unsigned(number)?)),
+        _ => Err(CallError::NoCall),
+    }
+}
+
+fn of_integer(alloc: Global, integer: Result<Integer, TryFromIntError>) -> Answer {
+    match integer {
+        Ok(integer) => Ok(format!(in alloc; "{}", i128::from(integer))?),
+        Err(_) => plain(alloc, "out of range"),
+    }
+}
+
+/// The signed number that a word is.
+fn signed(number: &str) -> Result<i128, CallError> {
+    match number.parse::<i128>() {
+        Ok(number) => Ok(number),
+        Err(_) => Err(CallError::NotNumber),
+    }
+}
+
+/// The unsigned number that a word is.
+fn unsigned(number: &str) -> Result<u128, CallError> {
+    match number.parse::<u128>() {
+        Ok(number) => Ok(number),
+        Err(_) => Err(CallError::NotNumber),
     }
 }
