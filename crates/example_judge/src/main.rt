@@ -20,6 +20,16 @@ struct KeyId<'a> {
     pieces: Log<usize>,
 }
 
+impl<'a> KeyId<'a> {
+    fn new(id: &'a [u8]) -> KeyId<'a> {
+        KeyId {
+            id,
+            is_found: false,
+            pieces: Log::new(),
+        }
+    }
+}
+
 /// The key id of a header; none is an empty one.
 fn key_id(header: &Header) -> &[u8]
     ensures { result.now ≡ header_key_id (header_view header.now) }
@@ -70,11 +80,7 @@ fn main(rt: HostRuntime) -> anyhow::Result<()> {
     let mut decoder = Decoder::from(input.as_slice());
     let mut out = Mem::new(Vec::new(alloc));
     let mut entries = Vec::new(alloc);
-    let mut judge = KeyId {
-        id: id.as_bytes(),
-        is_found: false,
-        pieces: Log::new(),
-    };
+    let mut judge = KeyId::new(id.as_bytes());
     gate(alloc, &mut decoder, &mut out, &mut entries, b"", &mut judge)?;
     for entry in &entries {
         println!(rt;

@@ -62,13 +62,7 @@ fn check(alloc: Global, text: &str, now: i64) -> Result<ClaimsSet, Fault<Refused
         alloc,
         b"",
         || Refused::NoClaims,
-        |tag, covered| {
-            if is_good(tag, covered) {
-                Ok(())
-            } else {
-                Err(Refused::Tag)
-            }
-        },
+        |tag, covered| verified(tag, covered),
     )?;
     let payload = message.payload.ok_or(Fault::Caller(Refused::NoClaims))?;
     let claims = ClaimsSet::from_slice(alloc, &payload)?;
@@ -78,11 +72,16 @@ fn check(alloc: Global, text: &str, now: i64) -> Result<ClaimsSet, Fault<Refused
     Ok(claims)
 }
 
-/// Whether a tag is the first eight bytes of the HMAC over what it covers: HMAC 256/64 (RFC 9053, section 3.1).
-fn is_good(tag: &[u8], covered: &[u8]) -> bool {
-    same_tag(&hmac_sha256(KEY, covered)[..8], tag)
+/// Looks whether a tag is the first eight bytes of the HMAC over what it covers: HMAC 256/64 (RFC 9053, section 3.1).
+fn verified(tag: &[u8], covered: &[u8]) -> Result<(), Refused> {
+    if same_tag(&hmac_sha256(KEY, covered)[..8], tag) {
+        Ok(())
+    } else {
+        Err(Refused::Tag)
+    }
 }
 
+/// Whether the claims don't hold any more, or don't say until when they do.
 fn is_over(claims: &ClaimsSet, now: i64) -> bool {
     !matches!(claims.expiration_time, Some(Timestamp::WholeSeconds(end)) if now < end)
 }
