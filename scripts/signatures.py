@@ -88,18 +88,20 @@ def owner_of(head):
 def signatures(page):
     """The lines of a page's part, and how many methods are left out."""
     names, _ = passed_on(page)
-    found = {}
+    found, below = {}, set()
     for crate in PAGES[page]:
         _, modules = passed_on(crate)
         for file in sorted((CRATES / crate / "src").rglob("*.rt")):
             if "laws" in file.parts or file.stem == "laws":
                 continue
-            text = file.read_text(encoding="utf-8")
+            text = re.sub(r"^ *//.*\n", "", file.read_text(encoding="utf-8"), flags=re.M)
             for head, at in blocks(text):
                 one, clauses = function(text, at)
                 name = owner_of(head) or re.match(r"fn (\w+)", one)[1]
-                if name in names or not head and file.stem in modules:
+                # (where two crates have a function of one name, the page's own passes on the upper one)
+                if name in names - (below if not head else set()) or not head and file.stem in modules:
                     found.setdefault(head, []).append((one, clauses))
+        below.update(re.match(r"fn (\w+)", it[0])[1] for it in found.get("", []))
     out, left_out = [], 0
     for head, methods in sorted(found.items(), key=lambda it: (owner_of(it[0]), it[0])):
         has_many = head and (owner_of(head).endswith("Builder") or len(methods) > MANY)
