@@ -8,8 +8,9 @@ use coset::{
     CborSerializable, CoseMac0, Fault, RegisteredLabelWithPrivate, TaggedCborSerializable, iana,
 };
 use std::alloc::Global;
+use std::env;
+use std::io::{self, Write};
 use std::process::ExitCode;
-use std::{env, io};
 
 /// The key that tokens are tagged with (RFC 8392, Appendix A.2.2).
 const KEY: &[u8] =
@@ -38,6 +39,7 @@ fn main(rt: HostRuntime) -> io::Result<ExitCode> {
         .nth(1)
         .and_then(|word| word.as_str().parse::<i64>().ok())
     else {
+        rt.stderr().write_all(b"usage: example_token NOW\n")?;
         return Ok(ExitCode::from(2));
     };
     for line in rt.lines(rt.alloc()) {
