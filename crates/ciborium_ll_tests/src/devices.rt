@@ -95,19 +95,12 @@ fn meets<R: io::Read>(rt: &impl Abort, decoder: &mut Decoder<Io<R>>, is_end: boo
 /// A head of 256, and a beginning of another.
 const CUT: &[u8] = &[0x19, 1, 0, 0x58];
 
-/// The head of 256.
-const HEAD: Option<Header> = Some(Header::Positive(256));
-
 #[test]
-fn a_reader_of_std_gives_bytes_and_an_end(rt: HostRuntime) {
-    let mut decoder = behind(&rt, Io::new(CUT), HEAD);
+fn a_reader_of_std_gives_bytes_and_an_end_or_a_failure(rt: HostRuntime) {
+    let mut decoder = behind(&rt, Io::new(CUT), Header::Positive(256));
     meets(&rt, &mut decoder, true);
     holds(&rt, decoder.offset() == 4, "where the end is");
-}
-
-#[test]
-fn a_reader_of_std_gives_bytes_and_failures(rt: HostRuntime) {
-    let mut decoder = behind(&rt, Io::new(Broken(CUT)), HEAD);
+    let mut decoder = behind(&rt, Io::new(Broken(CUT)), Header::Positive(256));
     meets(&rt, &mut decoder, false);
 }
 
@@ -149,14 +142,10 @@ fn takes(rt: &impl Abort, sink: &mut Vec<u8>) {
 }
 
 #[test]
-fn a_writer_of_std_takes_all(rt: HostRuntime) {
+fn a_writer_of_std_takes_all_or_tells_that_it_is_full(rt: HostRuntime) {
     let mut sink = Vec::new(rt.alloc());
     takes(&rt, &mut sink);
     same(&rt, sink.as_slice(), &[0xd2, 0x80], "a writer of std");
-}
-
-#[test]
-fn a_writer_of_std_that_is_full_is_told(rt: HostRuntime) {
     let mut none = [0u8; 1];
     let mut full = Io::new(&mut none[..]);
     holds(&rt, full.write_all(&[5]).is_ok(), "a byte");

@@ -40,13 +40,9 @@ fn values_stand_in_place(rt: HostRuntime) {
     let alloc = rt.alloc();
     is_made(&rt, alloc, inner(alloc), "a161618301f5f6");
     is_made(&rt, alloc, outer(alloc), "83a201a161618301f5f680a0f621");
-}
-
-#[test]
-fn single_values_are_made(rt: HostRuntime) {
-    let value = cbor!(rt.alloc(), null).expect(&rt, "null");
+    let value = cbor!(alloc, null).expect(&rt, "null");
     same(&rt, &value, &Value::Null, "null");
-    let value = cbor!(rt.alloc(), 7).expect(&rt, "memory");
-    let number = value.deserialized::<u8>(rt.alloc());
+    let value = cbor!(alloc, 7).expect(&rt, "memory");
+    let number = value.deserialized::<u8>(alloc);
     same(&rt, &number, &Ok(7), "a number");
 }

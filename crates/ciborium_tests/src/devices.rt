@@ -1,8 +1,6 @@
 //! Readers that end or fail in mid-stream.
 use crate::checks::{holds, of_hex, same};
-use crate::examples::LIMIT;
-use crate::reading::{MESSAGE, bytes, item};
-use ciborium::de::{Error, from_decoder};
+use ciborium::de::{Error, RECURSION_LIMIT, from_decoder};
 use ciborium::ll::count::Count;
 use ciborium::{Decoder, Io, IoFault, Read, Value};
 use std::alloc::Global;
@@ -72,7 +70,7 @@ fn read_in_pieces(
     at: &str,
 ) -> Result<Value, Error<bool>> {
     let mut device = Device::new(text, false);
-    let answer = from_decoder(alloc, &mut Decoder::from(&mut device), LIMIT);
+    let answer = from_decoder(alloc, &mut Decoder::from(&mut device), RECURSION_LIMIT);
     holds(rt, device.bytes.is_empty() && device.largest <= 4096, at);
     answer
 }
@@ -85,20 +83,6 @@ const CLAIMS: &[&str] = &[
     "bbffffffffffffffff",
 ];
 
-/// Behind this head is an end.
-fn is_cut(rt: &impl Abort, alloc: Global, head: &str) {
-    let text = of_hex(rt, alloc, head);
-    let fault = read_in_pieces(rt, alloc, text.as_slice(), head).err();
-    same(rt, &fault, &Some(Error::Io(true)), head);
-}
-
-#[test]
-fn claims_are_not_believed(rt: HostRuntime) {
-    for head in CLAIMS {
-        is_cut(&rt, rt.alloc(), head);
-    }
-}
-
 /// A byte string of 10,000 bytes as an item.
 fn long(rt: &impl Abort, alloc: Global) -> Vec<u8> {
     let mut text = of_hex(rt, alloc, "592710");
@@ -106,23 +90,26 @@ fn long(rt: &impl Abort, alloc: Global) -> Vec<u8> {
     text
 }
 
-/// The value is that byte string.
-fn is_long(rt: &impl Abort, alloc: Global, value: &Value) {
-    let want = bytes(rt, alloc, &[7; 10_000]);
-    same(rt, value, &want, "a byte string");
-}
-
 #[test]
-fn asks_for_small_pieces(rt: HostRuntime) {
+fn claims_are_not_believed(rt: HostRuntime) {
+    for head in CLAIMS {
+        let text = of_hex(&rt, rt.alloc(), head);
+        let fault = read_in_pieces(&rt, rt.alloc(), text.as_slice(), head).err();
+        same(&rt, &fault, &Some(Error::Io(true)), head);
+    }
     let text = long(&rt, rt.alloc());
     let read = read_in_pieces(&rt, rt.alloc(), text.as_slice(), "a byte string");
-    is_long(&rt, rt.alloc(), &read.expect(&rt, "a byte string"));
+    let want = [7; 10_000].to_vec(rt.alloc()).expect(&rt, "memory");
+    same(&rt, &read, &Ok(Value::Bytes(want)), "a byte string");
 }
+
+/// A tagged array of 14 bytes: 18([h'a10126', {}, 'hi', h'010203']).
+const MESSAGE: &str = "d28443a10126a042686943010203";
 
 /// A device that has a part of an item alone ends or fails.
 fn stops(rt: &impl Abort, alloc: Global, part: &[u8], breaks: bool, at: &str) {
     let mut decoder = Decoder::from(Device::new(part, breaks));
-    let fault = from_decoder(alloc, &mut decoder, LIMIT).err();
+    let fault = from_decoder(alloc, &mut decoder, RECURSION_LIMIT).err();
     same(rt, &fault, &Some(Error::Io(!breaks)), at);
 }
 
@@ -157,24 +144,26 @@ impl<'a> io::Read for OneByte<'a> {
     }
 }
 
-/// There are no more items.
-fn is_at_end(alloc: Global, decoder: &mut Decoder<Io<OneByte>>) -> bool {
-    let answer = from_decoder(alloc, decoder, LIMIT);
-    matches!(answer, Err(Error::Io(IoFault::End)))
-}
-
 /// A reader of std gives this value of these bytes, and then an end.
 fn gives(rt: &impl Abort, alloc: Global, message: &[u8], want: &Value) {
     let mut decoder = Decoder::from(Io::new(OneByte(message)));
-    let value = from_decoder(alloc, &mut decoder, LIMIT).ok();
+    let value = from_decoder(alloc, &mut decoder, RECURSION_LIMIT).ok();
     same(rt, &value.expect(rt, "an item"), want, "an item");
     same(rt, &decoder.offset(), &message.len(), "its end");
-    holds(rt, is_at_end(alloc, &mut decoder), "an end");
+    let answer = from_decoder(alloc, &mut decoder, RECURSION_LIMIT);
+    let is_end = matches!(answer, Err(Error::Io(IoFault::End)));
+    holds(rt, is_end, "an end");
 }
 
 #[test]
 fn reads_from_a_reader_of_std(rt: HostRuntime) {
-    let want = item(&rt, rt.alloc(), MESSAGE, LIMIT);
     let message = of_hex(&rt, rt.alloc(), MESSAGE);
-    gives(&rt, rt.alloc(), message.as_slice(), &want);
+    let mut decoder = Decoder::from(message.as_slice());
+    let want = from_decoder(rt.alloc(), &mut decoder, RECURSION_LIMIT);
+    gives(
+        &rt,
+        rt.alloc(),
+        message.as_slice(),
+        &want.expect(&rt, "an item"),
+    );
 }

@@ -1,5 +1,5 @@
-//! Tests of `ciborium`, by its public names alone: what no clause says, as that calls succeed, the examples of RFC 8949, readers that
-//! end or fail in mid-stream, and values in place.
+//! Tests of `ciborium`, by its public names alone: what no clause and no row of `conformance` says, as readers that end or fail in
+//! mid-stream, writers that are full, buffers and limits of the caller's, and values in place.
 #![tactic(auto)]
 
 #[cfg(test)]
@@ -9,10 +9,8 @@ mod checks;
 #[cfg(test)]
 mod devices;
 #[cfg(test)]
-mod examples;
-#[cfg(test)]
-mod reading;
-#[cfg(test)]
 mod round_trips;
 #[cfg(test)]
 mod typed;
+#[cfg(test)]
+mod writing;

@@ -1,142 +1,102 @@
 //! Values that are built, read and given.
-use crate::checks::{
-    BIG_NEGATIVE, LENGTH, Row, WRONG_TYPE, are_read, holds, is_not_read, is_read_as, is_written,
-    same,
-};
-use crate::items::{Leaf, item, made, tag};
+use crate::checks::{holds, same};
 use ciborium_ll::Float;
 use ciborium_typed::{
-    CanonicalValue, Deserialize, Error, Integer, Sink, Source, Value, ValueSink, ValueSource,
+    CanonicalValue, Deserialize, Error, Integer, Kind, Serialize, Sink, Source, Value, ValueSink,
+    ValueSource, ValueTyped,
 };
 use std::alloc::{AllocError, Global};
+use std::fmt::Debug;
 use std::process::Abort;
+
+const WRONG_TYPE: Error = Error::Kind(Kind::WrongType);
+
+const LENGTH: Error = Error::Kind(Kind::Length);
+
+const BIG_NEGATIVE: Error = Error::Kind(Kind::BigNegative);
 
 fn integer(n: u64) -> Value {
     Value::Integer(Integer::from(n))
 }
 
-/// A bignum that is 1.
-fn one(rt: &impl Abort, alloc: Global) -> Value {
-    item(alloc, &Leaf::Bytes(&[1]), &[2]).expect(rt, "memory")
+/// A tag over the value.
+fn over(alloc: Global, tag: u64, content: Value) -> Result<Value, AllocError> {
+    Ok(Value::Tag(tag, Box::new(alloc, content)?))
 }
 
-/// Adds an entry.
-fn entry(rt: &impl Abort, entries: &mut Vec<(Value, Value)>, key: Value, value: Value) {
-    entries.push((key, value)).expect(rt, "memory");
-}
-
-/// Adds an item.
-fn add(rt: &impl Abort, items: &mut Vec<Value>, it: Value) {
-    items.push(it).expect(rt, "memory");
-}
-
-/// An array of null and false.
-fn inner(rt: &impl Abort, alloc: Global) -> Value {
-    let mut items = Vec::new(alloc);
-    add(rt, &mut items, Value::Null);
-    add(rt, &mut items, Value::Bool(false));
-    Value::Array(items)
+/// A tag over bytes, which is not folded.
+fn over_bytes(alloc: Global, tag: u64, content: &[u8]) -> Result<Value, AllocError> {
+    over(alloc, tag, Value::from_byte_slice(alloc, content)?)
 }
 
 /// A map of a text to an array, and of an empty array to a number.
-fn entries(rt: &impl Abort, alloc: Global) -> Value {
+fn entries(alloc: Global) -> Result<Value, AllocError> {
+    let inner = vec![in alloc; Value::Null, Value::Bool(false)]?;
     let mut entries = Vec::new(alloc);
-    let text = made(alloc, &Leaf::Text("b")).expect(rt, "memory");
-    entry(rt, &mut entries, text, inner(rt, alloc));
-    entry(rt, &mut entries, Value::Array(Vec::new(alloc)), integer(2));
-    Value::Map(entries)
+    entries.push((Value::from_str(alloc, "b")?, Value::Array(inner)))?;
+    entries.push((Value::Array(Vec::new(alloc)), integer(2)))?;
+    Ok(Value::Map(entries))
 }
 
-/// An array of a map, of an empty array and an empty map, and of a value of each other variant.
-fn items(rt: &impl Abort, alloc: Global) -> Value {
+/// A tag over an array of a map, of an empty array and an empty map, and of a value of each other variant.
+fn nested(alloc: Global) -> Result<Value, AllocError> {
     let mut items = Vec::new(alloc);
-    add(rt, &mut items, entries(rt, alloc));
-    add(rt, &mut items, Value::Array(Vec::new(alloc)));
-    add(rt, &mut items, Value::Map(Vec::new(alloc)));
-    add(rt, &mut items, Value::Float(Float::Half(0x3c00)));
-    let bytes = item(alloc, &Leaf::Bytes(&[1, 2]), &[24]).expect(rt, "memory");
-    add(rt, &mut items, bytes);
-    add(rt, &mut items, Value::Bool(true));
-    Value::Array(items)
+    items.push(entries(alloc)?)?;
+    items.push(Value::Array(Vec::new(alloc)))?;
+    items.push(Value::Map(Vec::new(alloc)))?;
+    items.push(Value::Float(Float::Half(0x3c00)))?;
+    items.push(over_bytes(alloc, 24, &[1, 2])?)?;
+    items.push(Value::Bool(true))?;
+    over(alloc, 18, Value::Array(items))
 }
 
-/// A tag over that array.
-fn nested(rt: &impl Abort, alloc: Global) -> Value {
-    tag(alloc, 18, items(rt, alloc)).expect(rt, "memory")
+/// This is written as that value.
+fn is_written<T: Serialize>(rt: &impl Abort, alloc: Global, value: &T, want: &Value) {
+    let got = Value::serialized(alloc, value).expect(rt, "memory");
+    same(rt, &got, want, "what is written");
 }
 
-/// The value is written as itself, and as a canonical value.
-fn is_written_alike(rt: &impl Abort, alloc: Global, value: &Value) {
-    is_written(rt, alloc, value, value);
-    let canonical = CanonicalValue(nested(rt, alloc));
-    is_written(rt, alloc, &canonical, value);
+/// The value is read as this, or refused with this fault. Its bignums are folded first.
+fn is_read<T: Deserialize + PartialEq + Debug>(
+    rt: &impl Abort,
+    alloc: Global,
+    value: &Value,
+    want: &Result<T, Error>,
+) {
+    let got = value.deserialized::<T>(alloc);
+    same(rt, &got, want, "what is read");
 }
 
 #[test]
-fn values_are_built(rt: HostRuntime) {
-    is_written_alike(&rt, rt.alloc(), &nested(&rt, rt.alloc()));
-    let unfolded = one(&rt, rt.alloc());
-    is_written(&rt, rt.alloc(), &unfolded, &unfolded);
-    is_written(&rt, rt.alloc(), &true, &Value::Bool(true));
-}
-
-const OF_BOOL: &[Row<bool>] = &[(Leaf::Bool(true), &[7], Ok(true))];
-
-#[test]
-fn nested_values_are_read(rt: HostRuntime) {
+fn values_are_written_and_read_alike(rt: HostRuntime) {
     let alloc = rt.alloc();
-    are_read(&rt, alloc, OF_BOOL);
-    let value = nested(&rt, alloc);
-    is_not_read::<bool>(&rt, alloc, &value, WRONG_TYPE);
-    is_read_as(&rt, alloc, &value, &nested(&rt, alloc));
+    let value = nested(alloc).expect(&rt, "memory");
+    is_written(&rt, alloc, &value, &value);
+    is_read::<bool>(&rt, alloc, &value, &Err(WRONG_TYPE));
+    let same_value = nested(alloc).expect(&rt, "memory");
+    is_read(&rt, alloc, &value, &Ok(same_value));
+    let canonical = CanonicalValue(nested(alloc).expect(&rt, "memory"));
+    is_written(&rt, alloc, &canonical, &value);
+    let unfolded = over_bytes(alloc, 2, &[1]).expect(&rt, "memory");
+    is_written(&rt, alloc, &unfolded, &unfolded);
 }
 
 /// The bytes of 2^127.
 const LOW: &[u8] = &[0x80, 0, 0, 0, 0, 0, 0, 0, 0, 0, 0, 0, 0, 0, 0, 0];
 
-/// A negative bignum that is too low.
-fn low(rt: &impl Abort, alloc: Global) -> Value {
-    item(alloc, &Leaf::Bytes(LOW), &[3]).expect(rt, "memory")
-}
-
+/// A reader of bytes folds bignums: here they are not yet.
 #[test]
 fn values_are_read_folded(rt: HostRuntime) {
     let alloc = rt.alloc();
-    is_read_as(&rt, alloc, &one(&rt, alloc), &integer(1));
-    is_not_read::<Value>(&rt, alloc, &low(&rt, alloc), BIG_NEGATIVE);
-}
-
-/// An array of that one.
-fn lows(rt: &impl Abort, alloc: Global) -> Value {
-    let mut items = Vec::new(alloc);
-    add(rt, &mut items, low(rt, alloc));
-    Value::Array(items)
-}
-
-#[test]
-fn canonical_values_are_read_folded(rt: HostRuntime) {
-    let alloc = rt.alloc();
-    is_not_read::<CanonicalValue>(&rt, alloc, &lows(&rt, alloc), BIG_NEGATIVE);
-    is_read_as(&rt, alloc, &integer(1), &CanonicalValue(integer(1)));
-}
-
-/// The next item of a source.
-fn next<S: Source>(source: &mut S) -> Result<Value, S::Error> {
-    source.item()
-}
-
-/// The source gives 1 and then no more.
-fn gives_one(rt: &impl Abort, source: &mut ValueSource) {
-    let given = next(source).expect(rt, "an item");
-    same(rt, &given, &integer(1), "what is given");
-    let fault = next(source).err();
-    same(rt, &fault, &Some(LENGTH), "what is given then");
-}
-
-#[test]
-fn a_value_is_given_once(rt: HostRuntime) {
-    let mut source = ValueSource::new(rt.alloc(), one(&rt, rt.alloc()));
-    gives_one(&rt, &mut source);
+    let one = over_bytes(alloc, 2, &[0, 1]).expect(&rt, "memory");
+    is_read(&rt, alloc, &one, &Ok(1u8));
+    is_read(&rt, alloc, &one, &Ok(integer(1)));
+    is_read(&rt, alloc, &one, &Ok(CanonicalValue(integer(1))));
+    let low = over_bytes(alloc, 3, LOW).expect(&rt, "memory");
+    is_read::<i128>(&rt, alloc, &low, &Err(BIG_NEGATIVE));
+    is_read::<Value>(&rt, alloc, &low, &Err(BIG_NEGATIVE));
+    let lows = Value::Array(vec![in alloc; low].expect(&rt, "memory"));
+    is_read::<CanonicalValue>(&rt, alloc, &lows, &Err(BIG_NEGATIVE));
 }
 
 /// A boolean of a source of this value is this, or there is this fault.
@@ -147,9 +107,14 @@ fn gives(rt: &impl Abort, alloc: Global, value: Value, want: Result<bool, Error>
 }
 
 #[test]
-fn a_source_gives_booleans(rt: HostRuntime) {
-    gives(&rt, rt.alloc(), Value::Bool(true), Ok(true));
-    gives(&rt, rt.alloc(), Value::Null, Err(WRONG_TYPE));
+fn a_source_gives_its_value_once(rt: HostRuntime) {
+    let alloc = rt.alloc();
+    let one = over_bytes(alloc, 2, &[1]).expect(&rt, "memory");
+    let mut source = ValueSource::new(alloc, one);
+    same(&rt, &source.item(), &Ok(integer(1)), "what is given");
+    same(&rt, &source.item(), &Err(LENGTH), "what is given then");
+    gives(&rt, alloc, Value::Bool(true), Ok(true));
+    gives(&rt, alloc, Value::Null, Err(WRONG_TYPE));
 }
 
 /// Two items, and an array that is never full.
@@ -161,19 +126,12 @@ fn written<S: Sink>(sink: &mut S) -> Result<(), S::Error> {
     sink.null()
 }
 
-/// The last item is this.
-fn last_is(rt: &impl Abort, items: &mut Vec<Value>, want: &Value) {
-    let it = items.pop().expect(rt, "an item");
-    same(rt, &it, want, "the last item");
-}
-
 #[test]
-fn whole_items_come_out(rt: HostRuntime) {
+fn whole_items_come_out_of_a_sink(rt: HostRuntime) {
     let mut sink = ValueSink::new(rt.alloc());
     written(&mut sink).expect(&rt, "memory");
-    let mut items = sink.into_items();
-    last_is(&rt, &mut items, &Value::Bool(true));
-    let tagged = item(rt.alloc(), &Leaf::Null, &[1]).expect(&rt, "memory");
-    last_is(&rt, &mut items, &tagged);
-    holds(&rt, items.is_empty(), "no more items");
+    let items = sink.into_items();
+    let tagged = over(rt.alloc(), 1, Value::Null).expect(&rt, "memory");
+    let want = vec![in rt.alloc(); tagged, Value::Bool(true)].expect(&rt, "memory");
+    holds(&rt, items == want, "the items of a sink");
 }

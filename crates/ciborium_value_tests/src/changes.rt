@@ -5,8 +5,8 @@ ghost use Rattle.ciborium_value.specs.Tree.{is_bytes, no_trees};
 ghost use Rattle.ciborium_value.specs.Kinds.{is_array};
 ghost use Rattle.ciborium_value.specs.View.{view};
 
-use crate::checks::{has_bytes, holds};
-use crate::made::{Leaf, VARIANTS, bytes, copied, each_variant, made, tag};
+use crate::checks::holds;
+use crate::made::{over, variants};
 use ciborium_value::{Integer, Value};
 use std::alloc::Global;
 use std::process::Abort;
@@ -32,19 +32,15 @@ fn empty_bytes(value: &mut Value)
 }
 
 #[test]
-fn byte_strings_are_emptied(rt: HostRuntime) {
+fn arrays_and_byte_strings_are_emptied(rt: HostRuntime) {
     let alloc = rt.alloc();
-    let mut octets = bytes(&rt, alloc, &[1, 2]);
+    let mut octets = Value::from_byte_slice(alloc, &[1, 2]).expect(&rt, "memory");
+    let copy = octets.clone(alloc).expect(&rt, "memory");
     empty_array(&mut octets);
-    holds(&rt, has_bytes(&octets, &[1, 2]), "no array");
+    holds(&rt, octets == copy, "no array");
     empty_bytes(&mut octets);
-    holds(&rt, has_bytes(&octets, &[]), "no bytes");
-}
-
-#[test]
-fn arrays_are_emptied(rt: HostRuntime) {
-    let alloc = rt.alloc();
-    let mut value = each_variant(&rt, alloc);
+    holds(&rt, octets == Value::Bytes(Vec::new(alloc)), "no bytes");
+    let mut value = Value::Array(variants(alloc).expect(&rt, "memory"));
     empty_array(&mut value);
     holds(&rt, value == Value::Array(Vec::new(alloc)), "no items");
 }
@@ -57,28 +53,23 @@ fn change(tagged: &mut Value) {
     }
 }
 
-#[test]
-fn tags_are_changed(rt: HostRuntime) {
-    let alloc = rt.alloc();
-    let mut tagged = tag(&rt, alloc, 18, &Leaf::Null);
-    change(&mut tagged);
-    let want = tag(&rt, alloc, 98, &Leaf::Plus(5));
-    holds(&rt, tagged == want, "another tag");
-}
-
-/// A tag alone shows its parts, and the value stays as it was.
+/// A tag alone shows its parts, and the value stays as it was. No clause of `as_tag_mut` says that one of another kind does.
 fn is_unchanged(rt: &impl Abort, alloc: Global, mut item: Value) {
-    let copy = copied(rt, alloc, &item);
+    let copy = item.clone(alloc).expect(rt, "memory");
     let is_shown = item.as_tag_mut().is_some();
     holds(rt, is_shown == copy.is_tag(), "a tag");
     holds(rt, item == copy, "no change");
 }
 
-/// No clause of `as_tag_mut` says that a value of another kind stays as it was.
 #[test]
-fn no_tag_no_change(rt: HostRuntime) {
+fn tags_alone_are_changed(rt: HostRuntime) {
     let alloc = rt.alloc();
-    for item in VARIANTS {
-        is_unchanged(&rt, alloc, made(&rt, alloc, item));
+    for item in variants(alloc).expect(&rt, "memory") {
+        is_unchanged(&rt, alloc, item);
     }
+    let mut tagged = over(alloc, 18, Value::Null).expect(&rt, "memory");
+    change(&mut tagged);
+    let five = Value::Integer(Integer::from(5u64));
+    let want = over(alloc, 98, five).expect(&rt, "memory");
+    holds(&rt, tagged == want, "another tag");
 }

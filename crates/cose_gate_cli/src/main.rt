@@ -11,6 +11,17 @@ use std::{env, fs, io};
 /// Bytes are read and written in blocks of this length, and lines too.
 const BLOCK: usize = 65536;
 
+/// What `-h` and `--help` answer. The script `cose-gate` answers the same.
+const HELP: &str = "\
+usage: cose-gate KEYS [AADHEX] < INPUT > PASSED
+Reads a CBOR sequence, and writes the messages that pass, each in its one shortest form.
+What passes: a COSE_Mac0 behind its tag 17, whose MAC is HMAC with SHA-256 under the first key that fits it.
+KEYS: a file with a COSE_KeySet. AADHEX: the external data in hex, empty where it is left out.
+On standard error: a line for each item, and at the end how many passed and were refused.
+Status 0: no item was refused. 1: some were. 2: wrong words, or AADHEX is no hex.
+3: KEYS can't be read, or is no key set. 4: the input is no CBOR, or input, output or memory failed.
+";
+
 /// Why the program doesn't come to its run.
 #[derive(Debug, Clone, Copy, PartialEq, Eq)]
 enum NotRun {
@@ -49,6 +60,9 @@ fn main(rt: HostRuntime) -> ExitCode {
 /// Runs the program, and gives its status.
 fn start(rt: &HostRuntime) -> Result<u8, NotRun> {
     let all = all_words(rt)?;
+    if asks_for_help(all.as_slice()) {
+        return Ok(say_help(rt));
+    }
     let Some((path, aad)) = words(all.as_slice()) else {
         return Err(NotRun::Usage);
     };
@@ -70,6 +84,22 @@ fn start(rt: &HostRuntime) -> Result<u8, NotRun> {
         &mut Io::new(output),
         &mut Io::new(lines),
     ))
+}
+
+/// Whether the one word asks for help. A file of such a name is `./-h`.
+fn asks_for_help(all: &[String]) -> bool {
+    match all {
+        [word] => matches!(word.as_str(), "-h" | "--help"),
+        _ => false,
+    }
+}
+
+/// Writes the help to standard output, and gives the status.
+fn say_help(rt: &HostRuntime) -> u8 {
+    match io::Write::write_all(&mut rt.stdout(), HELP.as_bytes()) {
+        Ok(()) => 0,
+        Err(_) => 4,
+    }
 }
 
 /// The words behind the program's name. One that isn't UTF-8 is a fault of the usage.

@@ -50,37 +50,14 @@ fn message(rt: &impl Abort, alloc: Global) -> Vec<u8> {
     message
 }
 
-/// Whether the message, as it then is, is genuine under the keys has this answer.
-fn answers(rt: &impl Abort, alloc: Global, message: &[u8], want: Result<bool, StreamFault<End>>) {
-    let keys = keys(rt, alloc);
-    let answer = is_genuine(alloc, &keys, message);
-    same(rt, &answer, &want, "answer", &"the image");
-}
-
-#[test]
-fn a_firmware_image_is_checked(rt: HostRuntime) {
-    let alloc = rt.alloc();
-    let message = message(&rt, alloc);
-    answers(&rt, alloc, &message, Ok(true));
-}
-
-/// An image with one other byte.
-#[test]
-fn a_changed_image_is_refused(rt: HostRuntime) {
-    let alloc = rt.alloc();
-    let mut message = message(&rt, alloc);
-    if let Some(byte) = message.get_mut(5_000) {
-        *byte ^= 1;
-    }
-    answers(&rt, alloc, &message, Ok(false));
-}
-
-/// A message whose last byte is missing.
+/// A message whose last byte is missing. That a whole image is genuine, and one with another byte is not, is what `example_firmware` shows.
 #[test]
 fn a_short_image_is_no_answer(rt: HostRuntime) {
     let alloc = rt.alloc();
+    let keys = keys(&rt, alloc);
     let mut message = message(&rt, alloc);
     message.pop();
+    let answer = is_genuine(alloc, &keys, message.as_slice());
     let end = StreamFault::Decode(de::Error::Io(End));
-    answers(&rt, alloc, &message, Err(end));
+    same(&rt, &answer, &Err(end), "answer", &"the image");
 }

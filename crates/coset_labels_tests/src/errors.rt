@@ -1,8 +1,9 @@
 //! The texts of errors.
-use crate::checks::{holds, prints, shows};
+use crate::checks::holds;
 use ciborium::{de, ser};
 use ciborium_value::Kind;
 use coset_labels::{CoseError, EndOfFile, Fault};
+use std::alloc::Global;
 use std::process::Abort;
 
 /// Errors and their texts.
@@ -54,18 +55,19 @@ const TEXTS: &[(CoseError, &str)] = &[
     (CoseError::TooManyLayers, "too many protected layers"),
 ];
 
-#[test]
-fn errors_have_texts(rt: HostRuntime) {
-    let alloc = rt.alloc();
-    for (error, text) in TEXTS {
-        prints(&rt, alloc, *error, text);
-        shows(&rt, alloc, *error, text);
-    }
+/// The error prints like this, and is shown alike to those who debug.
+fn prints(rt: &impl Abort, alloc: Global, error: CoseError, want: &str) {
+    let text = format!(in alloc; "{error}").expect(rt, "memory");
+    holds(rt, text.as_str() == want, want);
+    let text = format!(in alloc; "{error:?}").expect(rt, "memory");
+    holds(rt, text.as_str() == want, want);
 }
 
-/// What became of a fault is this error.
-fn becomes(rt: &impl Abort, got: CoseError, want: CoseError) {
-    holds(rt, got == want, "an error");
+#[test]
+fn errors_have_texts(rt: HostRuntime) {
+    for (error, text) in TEXTS {
+        prints(&rt, rt.alloc(), *error, text);
+    }
 }
 
 /// What comes of a fault in reading.
@@ -78,6 +80,11 @@ fn of_writing(error: ser::Error<u8>) -> CoseError {
     CoseError::from(error)
 }
 
+/// What became of a fault is this error.
+fn becomes(rt: &impl Abort, got: CoseError, want: CoseError) {
+    holds(rt, got == want, "an error");
+}
+
 #[test]
 fn faults_become_errors(rt: HostRuntime) {
     let end = CoseError::DecodeFailed(de::Error::Io(EndOfFile));
@@ -85,17 +92,9 @@ fn faults_become_errors(rt: HostRuntime) {
     becomes(&rt, of_reading(de::Error::Memory), CoseError::Memory);
     becomes(&rt, of_writing(ser::Error::Io(1)), CoseError::EncodeFailed);
     becomes(&rt, of_writing(ser::Error::Memory), CoseError::Memory);
-}
-
-#[test]
-fn a_number_out_of_range_becomes_an_error(rt: HostRuntime) {
     let fault = u8::try_from(256u32).err().expect(&rt, "256 in a byte");
     let want = CoseError::OutOfRangeIntegerValue;
     becomes(&rt, CoseError::from(fault), want);
-}
-
-#[test]
-fn errors_become_faults(rt: HostRuntime) {
     let fault: Fault<u8> = Fault::from(CoseError::ExtraneousData);
     let want = Fault::Cose(CoseError::ExtraneousData);
     holds(&rt, fault == want, "a fault");

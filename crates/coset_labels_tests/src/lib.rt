@@ -1,4 +1,4 @@
-//! Tests of labels, errors and values by kind, by their public names.
+//! Tests of labels, errors and types with a tag, by their public names: what no clause and no row of `conformance` says.
 #![tactic(auto)]
 
 #[cfg(test)]
@@ -8,4 +8,4 @@ mod errors;
 #[cfg(test)]
 mod labels;
 #[cfg(test)]
-mod values;
+mod tags;
