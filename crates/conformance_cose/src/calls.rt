@@ -1,6 +1,8 @@
 //! Calls by name.
 use crate::answers::{Answer, NoAnswer, bytes};
 use crate::{errors, items, keys, messages, parts, protected, structures, tags};
+use coset::CoseKeySet;
+use coset::cwt::ClaimsSet;
 use std::alloc::Global;
 
 /// What the call answers that the first word names.
@@ -68,7 +70,8 @@ fn two(alloc: Global, call: &str, first: &str, second: &str) -> Answer {
 fn of_two_items(alloc: Global, call: &str, first: &[u8], second: &[u8]) -> Answer {
     match call {
         "same-protected-header" => protected::are_same(alloc, first, second),
-        "same-key-set" => items::are_same_keys(alloc, first, second),
+        "same-key-set" => items::are_same::<CoseKeySet>(alloc, first, second),
+        "same-claims" => items::are_same::<ClaimsSet>(alloc, first, second),
         "sign1-tbs" => messages::sign1_covered(alloc, first, second),
         "sign1-verifier" => messages::sign1_handed(alloc, first, second),
         "sign-verifier" => messages::sign_handed(alloc, first, second),

@@ -115,20 +115,24 @@ pub fn is_empty_header(alloc: Global, item: &[u8]) -> Answer {
     }
 }
 
-/// Whether two sets of keys are the same.
-pub fn are_same_keys(alloc: Global, first: &[u8], second: &[u8]) -> Answer {
-    match key_sets(alloc, first, second) {
+/// Whether what two items are read as is the same.
+pub fn are_same<T: CborSerializable + PartialEq>(
+    alloc: Global,
+    first: &[u8],
+    second: &[u8],
+) -> Answer {
+    match both::<T>(alloc, first, second) {
         Ok((first, second)) => yes_or_no(alloc, first == second),
         Err(error) => fault(alloc, error),
     }
 }
 
-fn key_sets(
+fn both<T: CborSerializable>(
     alloc: Global,
     first: &[u8],
     second: &[u8],
-) -> Result<(CoseKeySet, CoseKeySet), CoseError> {
-    let first = CoseKeySet::from_slice(alloc, first)?;
-    let second = CoseKeySet::from_slice(alloc, second)?;
+) -> Result<(T, T), CoseError> {
+    let first = T::from_slice(alloc, first)?;
+    let second = T::from_slice(alloc, second)?;
     Ok((first, second))
 }
