@@ -19,12 +19,10 @@ pub fn sign1_covered(alloc: Global, message: &[u8], aad: &[u8]) -> Answer {
 /// As `sign1_covered`, of a payload that is carried elsewhere.
 pub fn sign1_covered_detached(alloc: Global, message: &[u8], payload: &[u8], aad: &[u8]) -> Answer {
     match CoseSign1::from_slice(alloc, message) {
-        Ok(message) => {
-            if message.payload.is_some() {
-                return plain(alloc, "attached");
-            }
-            made(alloc, message.tbs_detached_data(alloc, payload, aad))
-        }
+        Ok(message) => match &message.payload {
+            Some(_) => plain(alloc, "attached"),
+            None => made(alloc, message.tbs_detached_data(alloc, payload, aad)),
+        },
         Err(error) => fault(alloc, error),
     }
 }
@@ -57,15 +55,13 @@ pub fn sign_covered_detached(
     aad: &[u8],
 ) -> Answer {
     match signed(alloc, message, signature) {
-        Ok((message, signature)) => {
-            if message.payload.is_some() {
-                return plain(alloc, "attached");
+        Ok((message, signature)) => match &message.payload {
+            Some(_) => plain(alloc, "attached"),
+            None => {
+                let covered = message.tbs_detached_data(alloc, payload, aad, &signature);
+                made(alloc, covered)
             }
-            made(
-                alloc,
-                message.tbs_detached_data(alloc, payload, aad, &signature),
-            )
-        }
+        },
         Err(error) => fault(alloc, error),
     }
 }
