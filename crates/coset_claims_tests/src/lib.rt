@@ -1,4 +1,4 @@
-//! Tests of claims, by their public names.
+//! Tests of claims by builders, and of large sets of claims, by their public names.
 #![tactic(auto)]
 
 #[cfg(test)]

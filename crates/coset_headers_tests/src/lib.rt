@@ -1,15 +1,9 @@
-//! Tests of headers, signatures and structures, by their public names.
+//! Tests of headers and signatures by builders, and of large headers, by their public names.
 #![tactic(auto)]
 
 #[cfg(test)]
 mod checks;
 #[cfg(test)]
-mod faults;
-#[cfg(test)]
 mod headers;
 #[cfg(test)]
-mod layers;
-#[cfg(test)]
 mod signatures;
-#[cfg(test)]
-mod structures;

@@ -1,55 +1,10 @@
-//! Signatures, counter signatures, and what is kept of a header that was received.
-use crate::checks::{decoded, holds, received, writes};
-use ciborium_value::Value;
+//! Signatures and counter signatures by builders.
+use crate::checks::{decoded, holds, writes};
 use coset_builders::{CoseSignatureBuilder, HeaderBuilder};
-use coset_headers::{CoseSignature, Header, ProtectedHeader};
+use coset_headers::CoseSignature;
 use coset_labels::{CborSerializable, iana};
 use std::alloc::Global;
 use std::process::Abort;
-
-/// A protected header of these bytes in hex is the same as a copy of it, and is written as this item.
-fn is_kept(rt: &impl Abort, alloc: Global, text: &str, item: &str) {
-    let protected = received(rt, alloc, text);
-    let copy = protected.clone(alloc).expect(rt, "no memory");
-    holds(rt, copy == protected, text);
-    writes(
-        rt,
-        alloc,
-        protected.cbor_bstr(alloc).expect(rt, "an item"),
-        item,
-    );
-}
-
-#[test]
-fn received_bytes_are_kept(rt: HostRuntime) {
-    let alloc = rt.alloc();
-    // a wide head, and a received empty map beside an empty string
-    is_kept(&rt, alloc, "a11801181a", "45a11801181a");
-    is_kept(&rt, alloc, "a0", "41a0");
-    is_kept(&rt, alloc, "", "40");
-    is_kept(&rt, alloc, "bf0126ff", "44bf0126ff");
-}
-
-/// The header differs from one that has no field and no received bytes.
-fn differs_from_unsent(rt: &impl Abort, alloc: Global, header: &ProtectedHeader) {
-    let unsent = ProtectedHeader::new(alloc);
-    holds(rt, unsent.is_empty(), "no field is set");
-    holds(rt, *header != unsent, "only one has received bytes");
-}
-
-#[test]
-fn a_received_empty_map_is_not_an_unsent_one(rt: HostRuntime) {
-    let empty = received(&rt, rt.alloc(), "a0");
-    differs_from_unsent(&rt, rt.alloc(), &empty);
-}
-
-#[test]
-fn a_header_map_has_no_received_bytes(rt: HostRuntime) {
-    let read = ProtectedHeader::from_slice(rt.alloc(), &[0xa1, 0x01, 0x26]);
-    let protected = read.expect(&rt, "a header");
-    holds(&rt, protected.original_data.is_none(), "received bytes");
-    writes(&rt, rt.alloc(), protected, "a10126");
-}
 
 /// A signature with both headers.
 const SIGNATURE: &str = "8343a10126a104413143010203";
@@ -84,13 +39,6 @@ fn differs_from_read(rt: &impl Abort, alloc: Global, built: &CoseSignature) {
     writes(rt, alloc, read, SIGNATURE);
 }
 
-#[test]
-fn signatures_are_built(rt: HostRuntime) {
-    let built = signature(&rt, rt.alloc());
-    is_copied(&rt, rt.alloc(), &built);
-    differs_from_read(&rt, rt.alloc(), &built);
-}
-
 /// A header with an empty counter signature.
 fn with_one(rt: &impl Abort, alloc: Global) -> HeaderBuilder {
     let empty = CoseSignatureBuilder::new(alloc).build();
@@ -107,8 +55,11 @@ fn with_two(rt: &impl Abort, alloc: Global) -> HeaderBuilder {
 }
 
 #[test]
-fn counter_signatures_are_built(rt: HostRuntime) {
+fn signatures_are_built(rt: HostRuntime) {
     let alloc = rt.alloc();
+    let built = signature(&rt, alloc);
+    is_copied(&rt, alloc, &built);
+    differs_from_read(&rt, alloc, &built);
     // one stands by itself, and two in a list
     writes(&rt, alloc, with_one(&rt, alloc).build(), "a1078340a040");
     let list = "a107828340a0408343a10126a104413143010203";

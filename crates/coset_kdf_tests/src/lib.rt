@@ -1,4 +1,4 @@
-//! Tests of KDF contexts, by their public names.
+//! Tests of the builders of KDF contexts, by their public names.
 #![tactic(auto)]
 
 #[cfg(test)]

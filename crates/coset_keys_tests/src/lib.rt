@@ -1,11 +1,9 @@
-//! Tests of keys, by their public names.
+//! Tests of keys by builders, of large keys, and of a store of keys, by their public names.
 #![tactic(auto)]
 
 #[cfg(test)]
 mod checks;
 #[cfg(test)]
 mod keys;
-#[cfg(test)]
-mod points;
 #[cfg(test)]
 mod store;

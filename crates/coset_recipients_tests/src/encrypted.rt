@@ -1,9 +1,7 @@
-//! Encrypted messages from bytes and back, and what their ciphers are handed. Expected bytes and texts are written out by hand, or are
-//! those of RFC 9052, appendix C.
+//! Encrypted messages by builders, and what their ciphers are handed. Expected bytes are written out by hand.
 use crate::tools::{
-    ASKED, Encrypted, MISSING, Message, Met, Row, are_refused, asked, decrypts, is_asked_for,
-    is_decrypted, is_refused_with_tag, is_written_back, joined, makes, meets_in_order, missing,
-    opens, owned, read, repeated, same, unhex, with_algorithm,
+    ASKED, Encrypted, MISSING, Message, Met, asked, decrypts, is_asked_for, is_decrypted, joined,
+    makes, meets_in_order, missing, owned, read, repeated, same, with_algorithm,
 };
 use coset_builders::HeaderBuilder;
 use coset_encrypted::{CoseEncrypt, CoseEncrypt0, CoseEncrypt0Builder, CoseEncryptBuilder};
@@ -11,63 +9,6 @@ use coset_labels::{CoseError, Fault, iana};
 use coset_recipients::CoseRecipient;
 use std::alloc::{AllocError, Global};
 use std::process::Abort;
-
-const REFUSED_ENCRYPT0: &[Row] = &[
-    ("a0", "got map, expected array"),
-    ("8240a0", "got array, expected array with 3 items"),
-    ("8440a0f680", "got array, expected array with 3 items"),
-    ("83f580f5", "got bool, expected bstr"),
-    ("83f580f6", "got array, expected map"),
-    ("83f5a0f6", "got bool, expected bstr"),
-];
-
-const REFUSED_ENCRYPT: &[Row] = &[
-    ("a0", "got map, expected array"),
-    ("8340a0f6", "got array, expected array with 4 items"),
-    ("84f580f5f5", "got bool, expected array"),
-    (
-        "84f580f58180",
-        "got array, expected array with 3 or 4 items",
-    ),
-    ("84f580f580", "got bool, expected bstr"),
-    ("84f580f680", "got array, expected map"),
-    ("84f5a0f680", "got bool, expected bstr"),
-];
-
-#[test]
-fn messages_are_refused_from_the_last_element_on(rt: HostRuntime) {
-    are_refused::<CoseEncrypt0>(&rt, rt.alloc(), REFUSED_ENCRYPT0);
-    are_refused::<CoseEncrypt>(&rt, rt.alloc(), REFUSED_ENCRYPT);
-}
-
-/// A message of RFC 9052, appendix C.
-const ENCRYPT0: &str =
-    "d08343a1010aa1054d89f52f65a1c580933b5261a78c581c5974e1b99a3a4cc09a659aa2e9e7fff161d38ce71cb45ce460ffb569";
-
-/// A message of RFC 9052, appendix C.
-const ENCRYPT: &str =
-    "d8608443a10101a1054c02d1f7e6f26c43d4868d87ce582464f84d913ba60a76070a9a48f26e97e863e28529d8f5335e5f0165eee976b4a5f6c6f09d818344a101381fa30458246d65726961646f632e6272616e64796275636b406275636b6c616e642e6578616d706c65225821706572656772696e2e746f6f6b407475636b626f726f7567682e6578616d706c6535420101581841e0d76f579dbd0d936a662d54d8582037de2e366fde1c62";
-
-#[test]
-fn tagged_messages_are_read_and_written_back(rt: HostRuntime) {
-    let alloc = rt.alloc();
-    let answer = is_written_back::<CoseEncrypt0>(alloc, &unhex(&rt, alloc, ENCRYPT0), 0);
-    same(&rt, &answer, &Ok(true), "COSE_Encrypt0");
-    let answer = is_written_back::<CoseEncrypt>(alloc, &unhex(&rt, alloc, ENCRYPT), 1);
-    same(&rt, &answer, &Ok(true), "COSE_Encrypt");
-}
-
-const OTHER_TAGS: &[Row] = &[
-    ("00", "got int, expected tag"),
-    ("d18340a0f6", "got tag, expected other tag"),
-];
-
-#[test]
-fn other_tags_are_refused(rt: HostRuntime) {
-    for row in OTHER_TAGS {
-        is_refused_with_tag::<CoseEncrypt0>(&rt, rt.alloc(), row);
-    }
-}
 
 /// What is built with a cipher that gives what it is handed.
 fn encrypt0_sealed(
@@ -189,16 +130,6 @@ impl Encrypted for CoseEncrypt {
     }
 }
 
-const OPENED_ENCRYPT0: Row = ("8340a040", "8368456e6372797074304040");
-
-const OPENED_ENCRYPT: Row = ("8440a04080", "8367456e63727970744040");
-
-#[test]
-fn a_cipher_is_handed_the_ciphertext_and_the_structure(rt: HostRuntime) {
-    opens::<CoseEncrypt0>(&rt, rt.alloc(), &OPENED_ENCRYPT0);
-    opens::<CoseEncrypt>(&rt, rt.alloc(), &OPENED_ENCRYPT);
-}
-
 /// A message that was read, with another header, which can't be written, and no ciphertext.
 fn repeated_encrypt0(rt: &impl Abort, alloc: Global) -> CoseEncrypt0 {
     let mut message: CoseEncrypt0 = read(rt, alloc, "8340a0f6");
@@ -215,13 +146,12 @@ fn repeated_encrypt(rt: &impl Abort, alloc: Global) -> CoseEncrypt {
     message
 }
 
-#[test]
-fn a_missing_ciphertext_is_met_first(rt: HostRuntime) {
-    let alloc = rt.alloc();
-    let message = repeated_encrypt0(&rt, alloc);
-    meets_in_order(&rt, alloc, message, "COSE_Encrypt0");
-    let message = repeated_encrypt(&rt, alloc);
-    meets_in_order(&rt, alloc, message, "COSE_Encrypt");
+/// A missing ciphertext is met before a header that can't be written, and that before a cipher that fails.
+pub(crate) fn a_missing_ciphertext_is_first(rt: &impl Abort, alloc: Global) {
+    let message = repeated_encrypt0(rt, alloc);
+    meets_in_order(rt, alloc, message, "COSE_Encrypt0");
+    let message = repeated_encrypt(rt, alloc);
+    meets_in_order(rt, alloc, message, "COSE_Encrypt");
 }
 
 /// A message with the algorithm A128GCM, the IV h'05' and the ciphertext h'0708'.
@@ -234,18 +164,6 @@ fn built_encrypt0(rt: &impl Abort, alloc: Global) -> CoseEncrypt0 {
         .create_ciphertext(alloc, b"hi", &[9], move |_plain, _data| sealed)
         .expect(rt, "no memory")
         .build()
-}
-
-#[test]
-fn messages_are_built_and_decrypted(rt: HostRuntime) {
-    let alloc = rt.alloc();
-    decrypts(
-        &rt,
-        alloc,
-        built_encrypt0(&rt, alloc),
-        "07088368456e63727970743043a101014109",
-        "d08343a10101a1054105420708",
-    );
 }
 
 /// A message while it is built, with a recipient.
@@ -265,8 +183,15 @@ fn built_encrypt(rt: &impl Abort, alloc: Global, builder: CoseEncryptBuilder) ->
 }
 
 #[test]
-fn messages_with_recipients_are_built_and_decrypted(rt: HostRuntime) {
+fn messages_are_built_and_decrypted(rt: HostRuntime) {
     let alloc = rt.alloc();
+    decrypts(
+        &rt,
+        alloc,
+        built_encrypt0(&rt, alloc),
+        "07088368456e63727970743043a101014109",
+        "d08343a10101a1054105420708",
+    );
     let builder = with_recipient(alloc).expect(&rt, "no memory");
     decrypts(
         &rt,
@@ -275,16 +200,6 @@ fn messages_with_recipients_are_built_and_decrypted(rt: HostRuntime) {
         "07088367456e637279707443a101014109",
         "d8608443a10101a0420708818340a0f6",
     );
-}
-
-#[test]
-fn a_cipher_that_may_fail_is_handed_the_plaintext(rt: HostRuntime) {
-    let alloc = rt.alloc();
-    let built = encrypt0_sealed(alloc, CoseEncrypt0Builder::new(alloc), &[]);
-    makes(&rt, alloc, built, "68698368456e6372797074304040");
-    let builder = CoseEncryptBuilder::new(alloc).ciphertext(Vec::new(alloc));
-    let built = encrypt_sealed(alloc, builder, &[]);
-    makes(&rt, alloc, built, "68698367456e63727970744040");
 }
 
 /// What is met where a cipher fails that is handed a plaintext.
@@ -296,9 +211,16 @@ fn encrypt0_fails(alloc: Global) -> Option<Met> {
 }
 
 #[test]
-fn the_error_of_a_cipher_is_kept(rt: HostRuntime) {
+fn a_cipher_that_may_fail_is_handed_the_plaintext(rt: HostRuntime) {
+    let alloc = rt.alloc();
+    let built = encrypt0_sealed(alloc, CoseEncrypt0Builder::new(alloc), &[]);
+    makes(&rt, alloc, built, "68698368456e6372797074304040");
+    let builder = CoseEncryptBuilder::new(alloc).ciphertext(Vec::new(alloc));
+    let built = encrypt_sealed(alloc, builder, &[]);
+    makes(&rt, alloc, built, "68698367456e63727970744040");
+    // its error is kept
     let want = Some(Fault::Caller(ASKED));
-    same(&rt, &encrypt0_fails(rt.alloc()), &want, "COSE_Encrypt0");
+    same(&rt, &encrypt0_fails(alloc), &want, "COSE_Encrypt0");
 }
 
 /// The plaintext, and three times the structure that each of the ciphers is handed.

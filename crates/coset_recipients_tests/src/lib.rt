@@ -1,4 +1,5 @@
-//! Tests of recipients and of encrypted and authenticated messages, by their public names.
+//! Tests of recipients and of encrypted and authenticated messages, by their public names: what ciphers, signers and verifiers are
+//! handed, what is met first, refused memory, and that each call succeeds.
 #![tactic(auto)]
 
 #[cfg(test)]

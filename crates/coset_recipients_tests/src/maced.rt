@@ -1,9 +1,7 @@
-//! Authenticated messages from bytes and back, and what their closures are handed. Expected bytes and texts are written out by hand, or are
-//! those of RFC 9052, appendix C.
+//! Authenticated messages by builders, and what their closures are handed. Expected bytes are written out by hand.
 use crate::tools::{
-    ASKED, MISSING, Maced, Message, Met, Row, are_refused, asked, content, gives, is_asked_for,
-    is_refused_with_tag, is_verified, is_written_back, makes, meets_in_order, missing, owned,
-    repeated, same, unhex, with_algorithm,
+    ASKED, MISSING, Maced, Message, Met, asked, content, gives, is_asked_for, is_verified, makes,
+    meets_in_order, missing, owned, repeated, same, with_algorithm,
 };
 use coset_builders::HeaderBuilder;
 use coset_headers::Header;
@@ -12,67 +10,6 @@ use coset_maced::{CoseMac, CoseMac0, CoseMac0Builder, CoseMacBuilder};
 use coset_recipients::CoseRecipient;
 use std::alloc::{AllocError, Global};
 use std::process::Abort;
-
-const REFUSED_MAC0: &[Row] = &[
-    ("a0", "got map, expected array"),
-    ("8340a0f6", "got array, expected array with 4 items"),
-    ("8540a0f64080", "got array, expected array with 4 items"),
-    ("84f580f5f6", "got nul, expected bstr"),
-    ("84f580f540", "got bool, expected bstr"),
-    ("84f580f640", "got array, expected map"),
-    ("84f5a0f640", "got bool, expected bstr"),
-];
-
-const REFUSED_MAC: &[Row] = &[
-    ("a0", "got map, expected array"),
-    ("8440a0f640", "got array, expected array with 5 items"),
-    ("85f580f5f5f5", "got bool, expected array"),
-    (
-        "85f580f5f58180",
-        "got array, expected array with 3 or 4 items",
-    ),
-    ("85f580f5f680", "got nul, expected bstr"),
-    ("85f580f54080", "got bool, expected bstr"),
-    ("85f580f64080", "got array, expected map"),
-    ("85f5a0f64080", "got bool, expected bstr"),
-];
-
-#[test]
-fn messages_are_refused_from_the_last_element_on(rt: HostRuntime) {
-    are_refused::<CoseMac0>(&rt, rt.alloc(), REFUSED_MAC0);
-    are_refused::<CoseMac>(&rt, rt.alloc(), REFUSED_MAC);
-}
-
-/// A message of RFC 9052, appendix C.
-const MAC0: &str = "d18443a1010fa054546869732069732074686520636f6e74656e742e48726043745027214f";
-
-/// A message of RFC 9052, appendix C.
-const MAC: &str =
-    "d8618543a1010fa054546869732069732074686520636f6e74656e742e489e1226ba1f81b848818340a20125044a6f75722d73656372657440";
-
-#[test]
-fn tagged_messages_are_read_and_written_back(rt: HostRuntime) {
-    let alloc = rt.alloc();
-    let answer = is_written_back::<CoseMac0>(alloc, &unhex(&rt, alloc, MAC0), 0);
-    same(&rt, &answer, &Ok(true), "COSE_Mac0");
-    let answer = is_written_back::<CoseMac>(alloc, &unhex(&rt, alloc, MAC), 1);
-    same(&rt, &answer, &Ok(true), "COSE_Mac");
-}
-
-const OTHER_TAGS: &[Row] = &[
-    (
-        "d28443a10126a042686943010203",
-        "got tag, expected other tag",
-    ),
-    ("00", "got int, expected tag"),
-];
-
-#[test]
-fn other_tags_are_refused(rt: HostRuntime) {
-    for row in OTHER_TAGS {
-        is_refused_with_tag::<CoseMac0>(&rt, rt.alloc(), row);
-    }
-}
 
 /// What the tag of `built_mac0` covers with the external data h'01': 84644d41433043a101054101426869.
 const COVERED_MAC0: &[u8] = &[
@@ -123,23 +60,6 @@ fn built_mac0(rt: &impl Abort, alloc: Global) -> CoseMac0 {
         .build()
 }
 
-#[test]
-fn tags_are_made_and_verified(rt: HostRuntime) {
-    let alloc = rt.alloc();
-    let message = built_mac0(&rt, alloc);
-    let verified = mac0_verified(alloc, &message, &[1]);
-    same(&rt, &verified, &Ok(()), "the same external data");
-    let verified = mac0_verified(alloc, &message, &[2]);
-    let want = Err(Fault::Caller(ASKED));
-    same(&rt, &verified, &want, "other external data");
-    gives(
-        &rt,
-        alloc,
-        message.to_tagged_vec(alloc),
-        "d18443a10105a042686941aa",
-    );
-}
-
 /// A message with the algorithm HMAC 256/256, the payload "hi", one recipient and the tag h'aa'.
 fn built_mac(rt: &impl Abort, alloc: Global) -> CoseMac {
     let tag = owned(rt, alloc, &[0xaa]);
@@ -156,18 +76,27 @@ fn built_mac(rt: &impl Abort, alloc: Global) -> CoseMac {
         .build()
 }
 
+/// The verifier is content with the tag of a COSE_Mac0 over its external data, and not over another.
+fn mac0_is_verified_over(rt: &impl Abort, alloc: Global, message: &CoseMac0) {
+    let verified = mac0_verified(alloc, message, &[1]);
+    same(rt, &verified, &Ok(()), "the same external data");
+    let verified = mac0_verified(alloc, message, &[2]);
+    let want = Err(Fault::Caller(ASKED));
+    same(rt, &verified, &want, "other external data");
+}
+
 #[test]
-fn tags_with_recipients_are_made_and_verified(rt: HostRuntime) {
+fn tags_are_made_and_verified(rt: HostRuntime) {
     let alloc = rt.alloc();
+    let message = built_mac0(&rt, alloc);
+    mac0_is_verified_over(&rt, alloc, &message);
+    let want = "d18443a10105a042686941aa";
+    gives(&rt, alloc, message.to_tagged_vec(alloc), want);
     let message = built_mac(&rt, alloc);
     let verified = mac_verified(alloc, &message, &[]);
     same(&rt, &verified, &Ok(()), "no external data");
-    gives(
-        &rt,
-        alloc,
-        message.to_tagged_vec(alloc),
-        "d8618543a10105a042686941aa818340a0f6",
-    );
+    let want = "d8618543a10105a042686941aa818340a0f6";
+    gives(&rt, alloc, message.to_tagged_vec(alloc), want);
 }
 
 /// What is built with a signer that gives what it is handed.
@@ -213,13 +142,6 @@ fn mac_fails(alloc: Global, header: Header) -> Option<Met> {
         .payload(Vec::new(alloc))
         .try_create_tag(alloc, &[], |_| Err(ASKED))
         .err()
-}
-
-#[test]
-fn a_header_that_cant_be_written_is_met_first(rt: HostRuntime) {
-    let met = mac_fails(rt.alloc(), repeated(&rt, rt.alloc()));
-    let want = Some(Fault::Cose(CoseError::DuplicateMapKey));
-    same(&rt, &met, &want, "COSE_Mac");
 }
 
 impl Message for CoseMac0 {
@@ -270,13 +192,15 @@ impl Message for CoseMac {
     }
 }
 
-#[test]
-fn a_missing_payload_is_met_first(rt: HostRuntime) {
-    let alloc = rt.alloc();
-    let message = CoseMac0Builder::new(alloc).protected(repeated(&rt, alloc));
-    meets_in_order(&rt, alloc, message.build(), "COSE_Mac0");
-    let message = CoseMacBuilder::new(alloc).protected(repeated(&rt, alloc));
-    meets_in_order(&rt, alloc, message.build(), "COSE_Mac");
+/// A missing payload is met before a header that can't be written, and that before a verifier or a signer that fails.
+pub(crate) fn a_missing_payload_is_first(rt: &impl Abort, alloc: Global) {
+    let message = CoseMac0Builder::new(alloc).protected(repeated(rt, alloc));
+    meets_in_order(rt, alloc, message.build(), "COSE_Mac0");
+    let message = CoseMacBuilder::new(alloc).protected(repeated(rt, alloc));
+    meets_in_order(rt, alloc, message.build(), "COSE_Mac");
+    let met = mac_fails(alloc, repeated(rt, alloc));
+    let want = Some(Fault::Cose(CoseError::DuplicateMapKey));
+    same(rt, &met, &want, "a signer of a COSE_Mac");
 }
 
 /// A verifier that wants what `mac0_tagged` gives.

@@ -1,63 +1,17 @@
-//! Recipients from bytes and back, and what their ciphers are handed. Expected bytes and texts are written out by hand.
+//! Recipients by builders, and what their ciphers are handed. Expected bytes are written out by hand.
 ghost use Rattle.coset_recipients.specs.Structure.{IsRecipientContext};
 
 use crate::tools::{
-    Encrypted, MISSING, Message, Met, Row, are_refused, asked, becomes, copy_gives, gives,
-    is_asked_for, is_decrypted, joined, makes, meets_in_order, missing, owned, repeated,
-    with_algorithm,
+    Encrypted, MISSING, Message, Met, asked, copy_gives, gives, is_asked_for, is_decrypted, joined,
+    makes, meets_in_order, missing, owned, repeated, with_algorithm,
 };
+use crate::{encrypted, maced};
 use coset_builders::HeaderBuilder;
 use coset_labels::{CoseError, Fault, iana};
 use coset_recipients::{CoseRecipient, CoseRecipientBuilder};
 use coset_structures::EncryptionContext;
 use std::alloc::{AllocError, Global};
 use std::process::Abort;
-
-/// Bytes of recipients, and what is written back.
-const READ: &[Row] = &[
-    ("8440a0f680", "8340a0f6"),
-    ("8340a0f6", "8340a0f6"),
-    ("8440a04101818340a0f6", "8440a04101818340a0f6"),
-    (
-        "8440a04101828340a0f68440a0f6818340a04109",
-        "8440a04101828340a0f68440a0f6818340a04109",
-    ),
-    ("8341a0a204410501045f4106ff", "8341a0a201040441054106"),
-];
-
-#[test]
-fn recipients_are_read_and_written_back(rt: HostRuntime) {
-    for row in READ {
-        becomes::<CoseRecipient>(&rt, rt.alloc(), row);
-    }
-}
-
-const REFUSED: &[Row] = &[
-    ("a0", "got map, expected array"),
-    ("8240a0", "got array, expected array with 3 or 4 items"),
-    (
-        "8540a0f68080",
-        "got array, expected array with 3 or 4 items",
-    ),
-    ("84f580f5f5", "got bool, expected array"),
-    (
-        "84f580f58180",
-        "got array, expected array with 3 or 4 items",
-    ),
-    ("84f580f5828340a0f56000", "extraneous data in CBOR input"),
-    ("84f580f5828340a0f560", "got bool, expected bstr / null"),
-    ("84f580f58160", "got tstr, expected array"),
-    ("83f580f5", "got bool, expected bstr / null"),
-    ("83f580f6", "got array, expected map"),
-    ("83f5a0f6", "got bool, expected bstr"),
-    ("8341a1a0f6", "decode CBOR failure: Io(EndOfFile)"),
-    ("8342a000a0f6", "extraneous data in CBOR input"),
-];
-
-#[test]
-fn recipients_are_refused_from_the_last_element_on(rt: HostRuntime) {
-    are_refused::<CoseRecipient>(&rt, rt.alloc(), REFUSED);
-}
 
 /// What is built with a cipher that gives what it is handed.
 fn sealed(
@@ -144,6 +98,14 @@ fn built(rt: &impl Abort, alloc: Global) -> CoseRecipient {
         .build()
 }
 
+/// A cipher is handed this structure in hex, with no plaintext in front.
+fn has(rt: &impl Abort, alloc: Global, context: EncryptionContext, want: &str)
+    requires { IsRecipientContext context }
+{
+    let built = sealed(alloc, CoseRecipientBuilder::new(alloc), context, b"", &[]);
+    makes(rt, alloc, built, want);
+}
+
 #[test]
 fn recipients_are_built_and_decrypted(rt: HostRuntime) {
     let alloc = rt.alloc();
@@ -155,14 +117,6 @@ fn recipients_are_built_and_decrypted(rt: HostRuntime) {
         "0708836d4d61635f526563697069656e7443a101224109",
     );
     copy_gives(&rt, alloc, &built, "8443a10122a1044131420708818340a0410a");
-}
-
-/// A cipher is handed this structure in hex, with no plaintext in front.
-fn has(rt: &impl Abort, alloc: Global, context: EncryptionContext, want: &str)
-    requires { IsRecipientContext context }
-{
-    let built = sealed(alloc, CoseRecipientBuilder::new(alloc), context, b"", &[]);
-    makes(rt, alloc, built, want);
 }
 
 #[test]
@@ -213,13 +167,18 @@ impl Encrypted for CoseRecipient {
     }
 }
 
+/// A missing ciphertext is met before a header that can't be written, and that before a cipher that fails.
+fn a_missing_ciphertext_is_first(rt: &impl Abort, alloc: Global) {
+    let recipient = CoseRecipientBuilder::new(alloc).protected(repeated(rt, alloc));
+    meets_in_order(rt, alloc, recipient.build(), "a recipient");
+}
+
 #[test]
-fn a_missing_ciphertext_is_met_first(rt: HostRuntime) {
-    let header = repeated(&rt, rt.alloc());
-    let recipient = CoseRecipientBuilder::new(rt.alloc())
-        .protected(header)
-        .build();
-    meets_in_order(&rt, rt.alloc(), recipient, "a recipient");
+fn a_missing_part_is_met_first(rt: HostRuntime) {
+    let alloc = rt.alloc();
+    a_missing_ciphertext_is_first(&rt, alloc);
+    encrypted::a_missing_ciphertext_is_first(&rt, alloc);
+    maced::a_missing_payload_is_first(&rt, alloc);
 }
 
 /// The plaintext, and three times the structure that each of the ciphers is handed.

@@ -90,7 +90,7 @@ pub(crate) fn gives<E: Debug + Drop>(
 }
 
 /// The bytes that stand in this hex.
-pub(crate) fn unhex(rt: &impl Abort, alloc: Global, text: &str) -> Vec<u8> {
+fn unhex(rt: &impl Abort, alloc: Global, text: &str) -> Vec<u8> {
     hex::decode(alloc, text).expect(rt, "no hex")
 }
 
@@ -98,41 +98,6 @@ pub(crate) fn unhex(rt: &impl Abort, alloc: Global, text: &str) -> Vec<u8> {
 pub(crate) fn read<T: CborSerializable>(rt: &impl Abort, alloc: Global, text: &str) -> T {
     let bytes = unhex(rt, alloc, text);
     T::from_slice(alloc, bytes.as_slice()).expect(rt, text)
-}
-
-/// Bytes in hex, and a text.
-pub(crate) type Row = (&'static str, &'static str);
-
-/// There is an error with the row's text.
-fn is_text(rt: &impl Abort, alloc: Global, error: Option<CoseError>, row: &Row) {
-    let error = error.expect(rt, row.0);
-    let text = format!(in alloc; "{error}").expect(rt, "no memory");
-    same(rt, &text.as_str(), &row.1, row.0);
-}
-
-/// The row's bytes are refused with its text.
-fn is_refused<T: CborSerializable>(rt: &impl Abort, alloc: Global, row: &Row) {
-    let bytes = unhex(rt, alloc, row.0);
-    let error = T::from_slice(alloc, bytes.as_slice()).err();
-    is_text(rt, alloc, error, row);
-}
-
-/// Each row's bytes are refused with its text.
-pub(crate) fn are_refused<T: CborSerializable>(rt: &impl Abort, alloc: Global, rows: &[Row]) {
-    for row in rows {
-        is_refused::<T>(rt, alloc, row);
-    }
-}
-
-/// The row's bytes, with a tag or without one, are refused with its text.
-pub(crate) fn is_refused_with_tag<T: TaggedCborSerializable>(
-    rt: &impl Abort,
-    alloc: Global,
-    row: &Row,
-) {
-    let bytes = unhex(rt, alloc, row.0);
-    let error = T::from_tagged_slice(alloc, bytes.as_slice()).err();
-    is_text(rt, alloc, error, row);
 }
 
 /// A message or a recipient, as the tests see it.
@@ -171,19 +136,6 @@ pub(crate) trait Encrypted: Message {
 pub(crate) trait Maced: Message {
     /// What comes of a verifier that wants a tag which is what it covers, asked twice.
     fn verified_twice(&self, alloc: Global) -> Result<(), Met>;
-}
-
-/// A copy of it is the same.
-fn is_copied<T: Message>(rt: &impl Abort, alloc: Global, message: &T, at: &str) {
-    let copy = message.copied(alloc).expect(rt, "no memory");
-    same(rt, &copy, message, at);
-}
-
-/// The row's first bytes are read, copied, and written as its second.
-pub(crate) fn becomes<T: Message>(rt: &impl Abort, alloc: Global, row: &Row) {
-    let message: T = read(rt, alloc, row.0);
-    is_copied(rt, alloc, &message, row.0);
-    gives(rt, alloc, message.to_vec(alloc), row.1);
 }
 
 /// A copy of it is written as these bytes in hex.
@@ -267,12 +219,6 @@ pub(crate) fn meets_in_order<T: Message>(
 pub(crate) fn makes<T: Message>(rt: &impl Abort, alloc: Global, built: Result<T, Met>, want: &str) {
     let message = built.expect(rt, want);
     is_hex(rt, alloc, message.made(), want);
-}
-
-/// A cipher is handed the row's second bytes where the first are decrypted.
-pub(crate) fn opens<T: Encrypted>(rt: &impl Abort, alloc: Global, row: &Row) {
-    let message: T = read(rt, alloc, row.0);
-    gives(rt, alloc, message.opened(alloc, &[]), row.1);
 }
 
 /// A cipher is handed these bytes where what was built is decrypted, and it is written as those.

@@ -1,4 +1,4 @@
-//! Tests of signed messages, by their public names: outside vectors, texts, the order of several faults, and that each call succeeds.
+//! Tests of signed messages, by their public names: what signers and verifiers are handed, refused memory, and that each call succeeds.
 #![tactic(auto)]
 
 #[cfg(test)]

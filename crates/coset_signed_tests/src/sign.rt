@@ -1,8 +1,9 @@
 //! Messages with several signatures. Expected bytes and texts are written out by hand.
+use crate::sign1::sign1_repeated;
 use crate::tools::{
-    MISMATCH, Message, Met, Row, UNFIT, are_read, echo, equal, es256, gives, is_asked_for,
-    is_elsewhere, is_not_signed, is_refused_with_tag, is_verified, is_verified_elsewhere, never,
-    repeated, same, tell, verifies, writes, writes_untagged,
+    MISMATCH, Message, Met, Row, UNFIT, echo, equal, es256, gives, is_asked_for, is_elsewhere,
+    is_not_signed, is_verified, is_verified_elsewhere, never, repeated, same, tell, verifies,
+    writes, writes_untagged,
 };
 use coset_builders::CoseSignatureBuilder;
 use coset_headers::{CoseSignature, Header};
@@ -226,47 +227,9 @@ fn by_repeated(rt: &impl Abort, alloc: Global) -> CoseSignBuilder {
 
 #[test]
 fn a_repeated_label_is_not_signed(rt: HostRuntime) {
-    let builder = by_repeated(&rt, rt.alloc());
-    is_not_signed(&rt, rt.alloc(), builder.build());
-}
-
-const ROWS: &[Row] = &[
-    ("8440a042686980", "8440a042686980"),
-    (
-        "8440a0f6828340a041008343a10126a04101",
-        "8440a0f6828340a041008343a10126a04101",
-    ),
-    (
-        "8440a0408100",
-        "got non-signature, expected map for COSE_Signature",
-    ),
-    (
-        "8440a040818341a1a040",
-        "got non-signature, expected map for COSE_Signature",
-    ),
-    (
-        "8440a040828340a0408100",
-        "got non-signature, expected map for COSE_Signature",
-    ),
-    ("8440a04040", "got bstr, expected array"),
-    ("8440a001a0", "got map, expected array"),
-    ("8440a00180", "got int, expected bstr or nil"),
-    (
-        "840080008100",
-        "got non-signature, expected map for COSE_Signature",
-    ),
-    ("84008000f6", "got nul, expected array"),
-    ("8400800080", "got int, expected bstr or nil"),
-    ("840080f680", "got array, expected map"),
-    ("8400a0f680", "got int, expected bstr"),
-    ("8340a040", "got array, expected array with 4 items"),
-];
-
-#[test]
-fn messages_are_read_and_refused(rt: HostRuntime) {
-    are_read::<CoseSign>(&rt, rt.alloc(), ROWS);
-    let want = CoseError::UnexpectedItem("tag", "other tag");
-    is_refused_with_tag::<CoseSign>(&rt, rt.alloc(), "d28440a0f680", want);
+    let alloc = rt.alloc();
+    is_not_signed(&rt, alloc, sign1_repeated(&rt, alloc));
+    is_not_signed(&rt, alloc, by_repeated(&rt, alloc).build());
 }
 
 /// A message while it is built, with the payload "hi" and a signature with no bytes.

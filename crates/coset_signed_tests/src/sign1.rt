@@ -1,12 +1,10 @@
 //! Messages with one signature. Expected bytes and texts are written out by hand.
 use crate::tools::{
-    MISMATCH, Message, Met, Row, UNFIT, are_read, are_read_with_tag, echo, equal, es256,
-    is_asked_for, is_elsewhere, is_not_signed, is_verified, is_verified_elsewhere, never,
-    read_again, repeated, tell, verifies, writes, writes_untagged,
+    Message, Met, UNFIT, echo, equal, es256, is_asked_for, is_elsewhere, is_verified,
+    is_verified_elsewhere, never, repeated, tell, writes, writes_untagged,
 };
-use coset_builders::HeaderBuilder;
 use coset_headers::{CoseSignature, Header};
-use coset_labels::{CoseError, Fault, RegisteredLabel, iana};
+use coset_labels::{CoseError, Fault};
 use coset_signed::{CoseSign1, CoseSign1Builder};
 use std::alloc::{AllocError, Global};
 use std::process::Abort;
@@ -113,57 +111,11 @@ fn signed(alloc: Global, builder: CoseSign1Builder, aad: &[u8]) -> Result<CoseSi
     Ok(built.build())
 }
 
-const AAD: &[u8] = b"this is additional data";
-
-/// A message with the algorithm ES256 and the key id "11", while it is built.
-fn with_key_id(rt: &impl Abort, alloc: Global) -> CoseSign1Builder {
-    let key_id = b"11".to_vec(alloc).expect(rt, "no memory");
-    let payload = b"This is the content".to_vec(alloc).expect(rt, "no memory");
-    let header = HeaderBuilder::new(alloc)
-        .algorithm(iana::Algorithm::ES256)
-        .key_id(key_id)
-        .build();
+/// A message whose header can't be written.
+pub(crate) fn sign1_repeated(rt: &impl Abort, alloc: Global) -> CoseSign1 {
     CoseSign1Builder::new(alloc)
-        .protected(header)
-        .payload(payload)
-}
-
-/// That message, signed with a signer that gives what it is handed, written and read.
-fn received(rt: &impl Abort, alloc: Global) -> CoseSign1 {
-    let signed = signed(alloc, with_key_id(rt, alloc), AAD);
-    read_again(rt, alloc, signed.expect(rt, "a message"))
-}
-
-/// Sets the content type "text/plain".
-fn set_plain(rt: &impl Abort, alloc: Global, header: &mut Header) {
-    let text = String::from_str(alloc, "text/plain").expect(rt, "no memory");
-    header.content_type = Some(RegisteredLabel::Text(text));
-}
-
-/// The signature covers the protected header as it was received, and no other.
-fn covers_what_was_received(rt: &impl Abort, alloc: Global, message: &mut CoseSign1) {
-    verifies(rt, alloc, message, 0, AAD, &Ok(()));
-    set_plain(rt, alloc, &mut message.unprotected);
-    verifies(rt, alloc, message, 0, AAD, &Ok(()));
-    let mismatch = Err(Fault::Caller(MISMATCH));
-    verifies(rt, alloc, message, 0, b"other", &mismatch);
-    set_plain(rt, alloc, &mut message.protected.header);
-    verifies(rt, alloc, message, 0, AAD, &Ok(()));
-    message.protected.original_data = None;
-    verifies(rt, alloc, message, 0, AAD, &mismatch);
-}
-
-#[test]
-fn signature(rt: HostRuntime) {
-    let mut message = received(&rt, rt.alloc());
-    covers_what_was_received(&rt, rt.alloc(), &mut message);
-}
-
-#[test]
-fn a_repeated_label_is_not_signed(rt: HostRuntime) {
-    let alloc = rt.alloc();
-    let builder = CoseSign1Builder::new(alloc).protected(repeated(&rt, alloc));
-    is_not_signed(&rt, alloc, builder.build());
+        .protected(repeated(rt, alloc))
+        .build()
 }
 
 /// What is built for the payload "hi", which is carried elsewhere, with a signer that gives what it is handed.
@@ -213,34 +165,6 @@ fn a_payload_is_carried_elsewhere(rt: HostRuntime) {
         ),
     );
     writes_untagged(&rt, alloc, built_elsewhere(&rt, alloc), "8440a0f64107");
-}
-
-const ROWS: &[Row] = &[
-    ("8443a10126a042686943010203", "8443a10126a042686943010203"),
-    ("9f5f41a0ffa0f640ff", "8441a0a0f640"),
-    ("8440a204410101264040", "8440a201260441014040"),
-    ("f6", "got nul, expected array"),
-    ("8340a040", "got array, expected array with 4 items"),
-    ("8540a0404040", "got array, expected array with 4 items"),
-    ("84f580f5f5", "got bool, expected bstr"),
-    ("84f580f540", "got bool, expected bstr or nil"),
-    ("84f580f640", "got array, expected map"),
-    ("84f5a0f640", "got bool, expected bstr"),
-    ("8441a1a10105f640", "decode CBOR failure: Io(EndOfFile)"),
-    ("8442a000a0f640", "extraneous data in CBOR input"),
-    ("8440a0f64000", "extraneous data in CBOR input"),
-];
-
-const TAGGED: &[Row] = &[
-    ("d28440a0f640", "d28440a0f640"),
-    ("d18440a0f640", "got tag, expected other tag"),
-    ("00", "got int, expected tag"),
-];
-
-#[test]
-fn messages_are_read_and_refused(rt: HostRuntime) {
-    are_read::<CoseSign1>(&rt, rt.alloc(), ROWS);
-    are_read_with_tag::<CoseSign1>(&rt, rt.alloc(), TAGGED);
 }
 
 /// Whether a message is built with a signer that gives what it is handed, and verified.

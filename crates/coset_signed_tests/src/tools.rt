@@ -69,85 +69,8 @@ pub(crate) fn gives<E: Debug + Drop>(
     is_hex(rt, alloc, made.as_slice(), want);
 }
 
-/// Bytes in hex, and the bytes that are written of what was read, in hex, or the text of a fault.
+/// Two texts of bytes in hex.
 pub(crate) type Row = (&'static str, &'static str);
-
-/// What was written in hex, or the text of the error.
-fn told(rt: &impl Abort, alloc: Global, written: Result<Vec<u8>, CoseError>) -> String {
-    match written {
-        Ok(bytes) => hex::encode(alloc, bytes.as_slice()).expect(rt, "no memory"),
-        Err(error) => format!(in alloc; "{error}").expect(rt, "no memory"),
-    }
-}
-
-/// What was written is the row's second text in hex, or there is an error with that text.
-fn is_row(rt: &impl Abort, alloc: Global, written: Result<Vec<u8>, CoseError>, row: &Row) {
-    let text = told(rt, alloc, written);
-    same(rt, &text.as_str(), &row.1, row.0);
-}
-
-/// The bytes of the row's first text.
-fn input(rt: &impl Abort, alloc: Global, row: &Row) -> Vec<u8> {
-    hex::decode(alloc, row.0).expect(rt, "hex")
-}
-
-/// What is written of the message that these bytes are. A message that was read can be written.
-fn written_back<T: CborSerializable>(
-    rt: &impl Abort,
-    alloc: Global,
-    bytes: &[u8],
-) -> Result<Vec<u8>, CoseError> {
-    match T::from_slice(alloc, bytes) {
-        Ok(message) => Ok(message.to_vec(alloc).expect(rt, "a message that was read")),
-        Err(error) => Err(error),
-    }
-}
-
-/// Each row's bytes are read and written as its second text, or refused with it.
-pub(crate) fn are_read<T: CborSerializable>(rt: &impl Abort, alloc: Global, rows: &[Row]) {
-    for row in rows {
-        let bytes = input(rt, alloc, row);
-        is_row(
-            rt,
-            alloc,
-            written_back::<T>(rt, alloc, bytes.as_slice()),
-            row,
-        );
-    }
-}
-
-/// As `written_back`, with a tag.
-fn tagged_back<T: TaggedCborSerializable>(
-    rt: &impl Abort,
-    alloc: Global,
-    bytes: &[u8],
-) -> Result<Vec<u8>, CoseError> {
-    match T::from_tagged_slice(alloc, bytes) {
-        Ok(message) => Ok(
-            message
-                .to_tagged_vec(alloc)
-                .expect(rt, "a message that was read"),
-        ),
-        Err(error) => Err(error),
-    }
-}
-
-/// As `are_read`, with a tag.
-pub(crate) fn are_read_with_tag<T: TaggedCborSerializable>(
-    rt: &impl Abort,
-    alloc: Global,
-    rows: &[Row],
-) {
-    for row in rows {
-        let bytes = input(rt, alloc, row);
-        is_row(
-            rt,
-            alloc,
-            tagged_back::<T>(rt, alloc, bytes.as_slice()),
-            row,
-        );
-    }
-}
 
 /// A signer that gives what it is handed.
 pub(crate) fn echo(alloc: Global, data: &[u8]) -> Result<Vec<u8>, CoseError> {
@@ -158,18 +81,6 @@ pub(crate) fn echo(alloc: Global, data: &[u8]) -> Result<Vec<u8>, CoseError> {
 pub(crate) fn tell(alloc: Global, told: &mut bool) -> Vec<u8> {
     *told = true;
     Vec::new(alloc)
-}
-
-/// These bytes in hex with a tag are refused with this error.
-pub(crate) fn is_refused_with_tag<T: TaggedCborSerializable>(
-    rt: &impl Abort,
-    alloc: Global,
-    text: &str,
-    want: CoseError,
-) {
-    let bytes = hex::decode(alloc, text).expect(rt, "hex");
-    let error = T::from_tagged_slice(alloc, bytes.as_slice()).err();
-    same(rt, &error, &Some(want), text);
 }
 
 /// A signed message, as the tests see it. Where it has one signature, that is the one at 0.
@@ -238,12 +149,6 @@ pub(crate) fn writes<T: Message>(rt: &impl Abort, alloc: Global, message: T, row
 /// The message is written as these bytes in hex.
 pub(crate) fn writes_untagged<T: Message>(rt: &impl Abort, alloc: Global, message: T, want: &str) {
     gives(rt, alloc, message.to_vec(alloc), want);
-}
-
-/// The message, when it was written and read.
-pub(crate) fn read_again<T: Message>(rt: &impl Abort, alloc: Global, message: T) -> T {
-    let written = message.to_vec(alloc).expect(rt, "bytes");
-    T::from_slice(alloc, written.as_slice()).expect(rt, "a message")
 }
 
 /// A message with one signature, which covers a header that can't be written.

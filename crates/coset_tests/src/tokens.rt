@@ -4,7 +4,6 @@ use coset::cwt::{ClaimsSet, ClaimsSetBuilder, Timestamp};
 use coset::{CborSerializable, CoseSign1, CoseSign1Builder, Fault, HeaderBuilder, iana};
 use std::alloc::Global;
 use std::process::Abort;
-use std::test::Fail;
 
 /// Why a token is not taken.
 #[derive(Debug, Clone, Copy, PartialEq, Eq)]
@@ -156,17 +155,6 @@ fn is_checked(
 ) {
     let fault = check_token(alloc, token, issuer, name, now).err();
     assert_eq!(rt; fault, want.map(Fault::Caller), "{name} {now}");
-}
-
-#[test]
-fn claims_are_written(rt: HostRuntime) -> Result<(), Fail> {
-    let alloc = rt.alloc();
-    let text = hex::encode(alloc, written(&rt, alloc).as_slice())?;
-    assert_eq!(rt;
-        text.as_str(),
-        "a8016361616102626262036163041901000519020006100744010203043a0001116f00"
-    );
-    Ok(())
 }
 
 #[test]

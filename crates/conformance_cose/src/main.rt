@@ -1,0 +1,23 @@
+//! `conformance_cose`: reads rows from standard input, each a call with its arguments and the answer that is due, as
+//! `header a10126 -> a10126`. It prints each row whose answer is another, and last how many rows there were and how many differ.
+#![tactic(auto)]
+
+mod answers;
+mod calls;
+mod errors;
+mod items;
+mod keys;
+mod messages;
+mod parts;
+mod protected;
+mod rows;
+mod structures;
+mod tags;
+
+use std::io;
+
+fn main(rt: HostRuntime) -> io::Result<()> {
+    let text = io::read_to_string(rt.alloc(), rt.stdin())?;
+    let report = rows::report(rt.alloc(), text.as_str())?;
+    print!(rt; "{report}")
+}

@@ -1,5 +1,0 @@
-//! Tests of tags, by their public names.
-#![tactic(auto)]
-
-#[cfg(test)]
-mod vectors;
