@@ -10,7 +10,7 @@ if [ $# -ne 1 ] || [ -z "$1" ] || [ "${1#-}" != "$1" ]; then
 fi
 prefix=$1
 
-bash "$top/scripts/proved.sh"
+bash "$top/scripts/proved.sh" cose-gate cose_gate_cli
 status=$?
 if [ $status -ne 0 ]; then
   echo "install.sh: the program is not proved, so nothing is installed" >&2

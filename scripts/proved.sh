@@ -1,10 +1,12 @@
 #!/usr/bin/env bash
-# Proves and builds the program cose-gate, where a source of it has changed since. While it works it says on standard error which crates
-# are proved, and each minute what is left. Status 0 where the program stands then, and 70 where the build failed.
+# scripts/proved.sh NAME CRATE: proves and builds the program NAME, which is CRATE, where a source of it has changed since. While it works it
+# says on standard error which crates are proved, and each minute what is left. Status 0 where the program stands then, and 70 where the
+# build failed.
 set -u
 top=$(cd "$(dirname "$(readlink -f "${BASH_SOURCE[0]}")")/.." && pwd)
-crate=$top/crates/cose_gate_cli
-program=$crate/out/cose_gate_cli
+name_of_program=$1
+crate=$top/crates/$2
+program=$crate/out/$2
 log=$crate/out/build.log
 
 # The crates of the repository that a build's log shows to be proved, the lower ones first: those that it has a sum of, and those below one
@@ -52,25 +54,25 @@ follow() {
     for name in $(others "$said" "$(crates_in "$log")"); do
       case " $all " in *" $name "*) ;; *) continue ;; esac
       said="${said:+$said }$name"
-      echo "cose-gate: $name is proved ($(echo "$said" | wc -w) of $(echo "$all" | wc -w))" >&2
+      echo "$name_of_program: $name is proved ($(echo "$said" | wc -w) of $(echo "$all" | wc -w))" >&2
     done
     [ $is_alive = yes ] || return 0
     if [ $(((SECONDS - from) / 60)) -gt $minutes ]; then
       minutes=$(((SECONDS - from) / 60))
-      echo "cose-gate: $minutes min, $(echo "$said" | wc -w) of $(echo "$all" | wc -w) are proved; left: $(others "$said" "$all")" >&2
+      echo "$name_of_program: $minutes min, $(echo "$said" | wc -w) of $(echo "$all" | wc -w) are proved; left: $(others "$said" "$all")" >&2
     fi
     sleep 1
   done
 }
 
-all=$(crates_in /dev/null cose_gate_cli | xargs)
+all=$(crates_in /dev/null "$2" | xargs)
 if [ -x "$program" ] && [ -z "$(changed $all)" ]; then
   exit 0
 fi
 mkdir -p "$crate/out"
 : > "$log"
-echo "cose-gate: building the program. Its $(echo "$all" | wc -w) crates are proved first, but for those that stand: about an hour the first time." >&2
-echo "cose-gate: the log is $log" >&2
+echo "$name_of_program: building the program. Its $(echo "$all" | wc -w) crates are proved first, but for those that stand: about an hour the first time." >&2
+echo "$name_of_program: the log is $log" >&2
 # Once it is built the program is run, and rt ends with its status; that of help is 0.
 (cd "$crate" && exec rt run -- --help < /dev/null) >> "$log" 2>&1 &
 build=$!
@@ -80,7 +82,7 @@ wait "$build"
 status=$?
 if [ $status -ne 0 ] || ! [ -x "$program" ]; then
   tail -n 20 "$log" >&2
-  echo "cose-gate: the build failed (rt ended with status $status); the whole log is $log" >&2
+  echo "$name_of_program: the build failed (rt ended with status $status); the whole log is $log" >&2
   exit 70
 fi
 touch "$program"

@@ -2,7 +2,7 @@
 # quotes.sh: says what the pages and the help quote otherwise than it stands. Status 1 where there is something.
 # - Each line in a block of Rattle of a CALLING.md stands in the crate callers or in an example program.
 # - The signatures of a CALLING.md are those of the sources (scripts/signatures.py writes them).
-# - The script cose-gate and the program have the same help.
+# - The scripts cose-gate and cose-show have the help of their programs.
 cd "$(dirname "$0")/.." || exit 2
 lines=${TMPDIR:-/tmp}/quotes.$$
 trap 'rm -f "$lines"' EXIT
@@ -20,8 +20,13 @@ else
   echo "quotes.sh: python3 isn't there, so the signatures are not looked at" >&2
 fi
 
-program=$(awk '/^const HELP/ { inside = 1; next } /^";$/ { inside = 0 } inside' crates/cose_gate_cli/src/main.rt)
-script=$(awk '/<<.HELP.$/ { inside = 1; next } /^HELP$/ { inside = 0 } inside' cose-gate)
-[ -n "$program" ] && [ "$program" = "$script" ] || { echo "cose-gate and crates/cose_gate_cli/src/main.rt have different help"; status=1; }
+# Whether a script and the file with its program's text HELP have the same help.
+has_help() {
+  script=$(awk '/<<.HELP.$/ { inside = 1; next } /^HELP$/ { inside = 0 } inside' "$1")
+  program=$(awk '/^(pub )?const HELP/ { inside = 1; sub(/^.*"/, ""); if ($0 == "\\") next } /^";$/ { inside = 0 } inside' "$2")
+  [ -n "$program" ] && [ "$program" = "$script" ] || { echo "$1 and $2 have different help"; status=1; }
+}
+has_help cose-gate crates/cose_gate_cli/src/main.rt
+has_help cose-show crates/cose_show/src/words.rt
 
 exit $status
