@@ -1,6 +1,6 @@
 //! Calls by their names.
-use crate::answers::{Answer, NoAnswer};
-use crate::{gating, judging, program, streaming, words};
+use crate::answers::Answer;
+use crate::{gating, judging, program, streaming, uses, words};
 use std::alloc::Global;
 
 /// What the call answers that the first word names.
@@ -28,6 +28,6 @@ pub fn answer(alloc: Global, row: &[&str]) -> Answer {
         }
         ["judge", row @ ..] => judging::judge(alloc, row),
         ["judge-prepared", row @ ..] => judging::prepared_judge(alloc, row),
-        _ => Err(NoAnswer::NoCall),
+        _ => uses::answer(alloc, row),
     }
 }

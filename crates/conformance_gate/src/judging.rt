@@ -25,7 +25,8 @@ fn read_headers(alloc: Global, protected: &str, unprotected: &str) -> Result<Hea
     })
 }
 
-fn read_keys(alloc: Global, keys: &str) -> Result<CoseKeySet, NoAnswer> {
+/// The key set that this word is in hex.
+pub fn read_keys(alloc: Global, keys: &str) -> Result<CoseKeySet, NoAnswer> {
     let keys = words::bytes(alloc, keys)?;
     Ok(CoseKeySet::from_slice(alloc, &keys)?)
 }
@@ -62,31 +63,38 @@ struct Case {
     size: usize,
 }
 
-/// The case in the first five words, and the other words.
-fn read_case<'a>(alloc: Global, row: &'a [&'a str]) -> Result<(Case, &'a [&'a str]), NoAnswer> {
-    match row {
-        [keys, protected, unprotected, covered, size, asked @ ..] => {
-            let case = Case {
-                keys: read_keys(alloc, keys)?,
-                headers: read_headers(alloc, protected, unprotected)?,
-                covered: words::bytes(alloc, covered)?,
-                size: words::number(size)?,
-            };
-            Ok((case, asked))
-        }
-        _ => Err(NoAnswer::NoCall),
-    }
+/// The case that these words are.
+fn read_case(
+    alloc: Global,
+    keys: &str,
+    protected: &str,
+    unprotected: &str,
+    covered: &str,
+    size: &str,
+) -> Result<Case, NoAnswer> {
+    Ok(Case {
+        keys: read_keys(alloc, keys)?,
+        headers: read_headers(alloc, protected, unprotected)?,
+        covered: words::bytes(alloc, covered)?,
+        size: words::number(size)?,
+    })
 }
 
 /// The answers of a judge that hashes its keys anew for each message.
 pub fn judge(alloc: Global, row: &[&str]) -> Answer {
-    let (case, asked) = read_case(alloc, row)?;
+    let [keys, protected, unprotected, covered, size, asked @ ..] = row else {
+        return Err(NoAnswer::NoCall);
+    };
+    let case = read_case(alloc, keys, protected, unprotected, covered, size)?;
     answers(alloc, &mut HmacJudge::new(&case.keys), &case, asked)
 }
 
 /// The answers of a judge that hashes each key once.
 pub fn prepared_judge(alloc: Global, row: &[&str]) -> Answer {
-    let (case, asked) = read_case(alloc, row)?;
+    let [keys, protected, unprotected, covered, size, asked @ ..] = row else {
+        return Err(NoAnswer::NoCall);
+    };
+    let case = read_case(alloc, keys, protected, unprotected, covered, size)?;
     let mut judge = HmacJudge::prepared(alloc, &case.keys);
     answers(alloc, &mut judge, &case, asked)
 }

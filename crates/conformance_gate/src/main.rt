@@ -4,11 +4,18 @@
 
 mod answers;
 mod calls;
+mod checking;
 mod gating;
+mod heads;
+mod items;
 mod judging;
+mod keeping;
 mod program;
+mod relaying;
 mod rows;
+mod signing;
 mod streaming;
+mod uses;
 mod words;
 
 use std::io;

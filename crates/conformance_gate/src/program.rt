@@ -49,7 +49,8 @@ fn aad_word(word: &str) -> Option<&str> {
     }
 }
 
-fn ended(alloc: Global, status: u8, out: &[u8], err: &[u8]) -> Result<String, AllocError> {
+/// How a run ended.
+pub fn ended(alloc: Global, status: u8, out: &[u8], err: &[u8]) -> Result<String, AllocError> {
     let output = in_hex(alloc, out)?;
     let lines = lines(alloc, err)?;
     format!(in alloc; "{status}; out {output}; {lines}")
@@ -85,7 +86,8 @@ pub fn words(alloc: Global, all: &[&str]) -> Answer {
     Ok(text)
 }
 
-fn owned(alloc: Global, all: &[&str]) -> Result<Vec<String>, AllocError> {
+/// Words of a command line.
+pub fn owned(alloc: Global, all: &[&str]) -> Result<Vec<String>, AllocError> {
     let mut owned = Vec::new(alloc);
     for word in all {
         owned.push(String::from_str(alloc, word)?)?;
