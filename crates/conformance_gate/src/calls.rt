@@ -22,7 +22,7 @@ pub fn answer(alloc: Global, row: &[&str]) -> Answer {
         ["run-room", room, keys, aad, input] => {
             program::run_in_room(alloc, room, keys, aad, input)
         }
-        ["words", all @ ..] => program::words(alloc, all),
+        ["words", all @ ..] => program::arguments(alloc, all),
         ["tag", keys, protected, unprotected, covered, tag] => {
             judging::tag(alloc, keys, protected, unprotected, covered, tag)
         }

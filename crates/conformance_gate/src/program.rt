@@ -76,7 +76,7 @@ fn joined(alloc: Global, text: &str) -> Result<String, AllocError> {
 }
 
 /// KEYS and AADHEX of the words of a command line.
-pub fn words(alloc: Global, all: &[&str]) -> Answer {
+pub fn arguments(alloc: Global, all: &[&str]) -> Answer {
     let owned = owned(alloc, all)?;
     let text = match cose_gate::words(owned.as_slice()) {
         Some((keys, Some(aad))) => format!(in alloc; "KEYS {keys} AADHEX {aad}")?,
