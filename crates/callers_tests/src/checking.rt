@@ -1,10 +1,7 @@
-//! Tags checked under the keys of a set, and the program.
-use callers::checking::{fed, is_tagged, program, program_in_blocks};
-use cose_gate::{Decoder, HmacJudge, Mem};
-use coset::{CborSerializable, CoseKeySet};
-use std::alloc::Global;
+//! The program over a reader of std.
+use callers::checking::program_in_blocks;
+use cose_gate::Mem;
 use std::io::BufReader;
-use std::process::Abort;
 
 /// 17([h'a10105', {}, 'hi', TAG]), with the tag over the external data 01 under the secret 00.
 const TAGGED: [u8; 44] = [
@@ -15,53 +12,6 @@ const TAGGED: [u8; 44] = [
 
 /// [{1: 4, -1: h'00'}], a symmetric key.
 const KEYS: [u8; 7] = [0x81, 0xa2, 0x01, 0x04, 0x20, 0x41, 0x00];
-
-/// The key set of `KEYS`.
-fn keys(rt: &impl Abort, alloc: Global) -> CoseKeySet {
-    CoseKeySet::from_slice(alloc, &KEYS).expect(rt, "a key set")
-}
-
-#[test]
-fn a_tag_is_checked(rt: HostRuntime) {
-    let alloc = rt.alloc();
-    let keys = keys(&rt, alloc);
-    let mut buffer = [0; 4];
-    let mut decoder = Decoder::from(TAGGED.as_slice());
-    let answer = is_tagged(alloc, &mut decoder, &mut buffer, &[1], &keys);
-    assert!(rt; answer.expect(&rt, "an answer"));
-    assert_eq!(rt; decoder.offset(), 44);
-}
-
-#[test]
-fn a_judge_is_fed(rt: HostRuntime) {
-    let alloc = rt.alloc();
-    let keys = keys(&rt, alloc);
-    let mut buffer = [0; 4];
-    let mut judge = HmacJudge::prepared(alloc, &keys);
-    let mut decoder = Decoder::from(TAGGED.as_slice());
-    let answer = fed(alloc, &mut decoder, &mut buffer, &[], &mut judge);
-    assert!(rt; !answer.expect(&rt, "an answer"));
-}
-
-/// The words KEYS and AADHEX.
-fn words(rt: &impl Abort, alloc: Global) -> [String; 2] {
-    [
-        String::from_str(alloc, "keys").expect(rt, "no memory"),
-        String::from_str(alloc, "01").expect(rt, "no memory"),
-    ]
-}
-
-#[test]
-fn a_program_takes_words(rt: HostRuntime) {
-    let alloc = rt.alloc();
-    let words = words(&rt, alloc);
-    let mut input = &TAGGED[..];
-    let mut out = Mem::new(Vec::new(alloc));
-    let mut err = Mem::new(Vec::new(alloc));
-    let status = program(alloc, &words, Some(&KEYS), &mut input, &mut out, &mut err);
-    assert_eq!(rt; status, 0);
-    assert_eq!(rt; out.as_written(), TAGGED.as_slice());
-}
 
 #[test]
 fn a_program_reads_in_blocks(rt: HostRuntime) {

@@ -1,19 +1,7 @@
-//! Tests of the callers, by their public names.
+//! Tests of the callers, by their public names, beside the rows of `conformance_gate`: a reader of std, and values made by a macro.
 #![tactic(auto)]
 
 #[cfg(test)]
 mod checking;
 #[cfg(test)]
-mod heading;
-#[cfg(test)]
-mod heads;
-#[cfg(test)]
 mod items;
-#[cfg(test)]
-mod keeping;
-#[cfg(test)]
-mod once;
-#[cfg(test)]
-mod relaying;
-#[cfg(test)]
-mod signing;

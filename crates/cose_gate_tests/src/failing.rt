@@ -1,22 +1,15 @@
 //! Readers and writers that fail in mid-stream.
-use crate::devices::{Broken, Sink, Source};
-use crate::examples::MESSAGE;
 use crate::memory::{INPUT, OUTPUT};
-use crate::seen::{Answer, Seen, answered, reached, run, same, unhex, whole};
+use crate::seen::{Answer, MESSAGE, Seen, answered, reached, run, same, whole};
 use ciborium::de;
-use ciborium_ll::End;
-use ciborium_ll::count::Count;
-use cose_gate::{GateFault, Mem, Recorder, Silent};
+use cose_gate::{End, GateFault, Recorder};
 use std::alloc::Global;
 use std::process::Abort;
+use test_tools::{Broken, Sink, Source};
 
 /// A run stops where the reader fails, between these bytes of a message, of which it would give the rest later.
 fn is_cut_off(rt: &impl Abort, alloc: Global, front: &[u8], rest: &[u8]) {
-    let source = Source {
-        bytes: front,
-        more: rest,
-        failed: Count::new(),
-    };
+    let source = Source::new(front, rest);
     let seen = run(alloc, source, &[], Recorder::new(alloc, None));
     // the message has passed where the fault comes behind it
     let want = if rest.is_empty() {
@@ -33,21 +26,16 @@ fn is_cut_off(rt: &impl Abort, alloc: Global, front: &[u8], rest: &[u8]) {
 #[test]
 fn a_failed_read_is_the_answer(rt: HostRuntime) {
     let alloc = rt.alloc();
-    let message = unhex(&rt, alloc, MESSAGE);
-    assert_eq!(rt; message.len(), 14);
+    assert_eq!(rt; MESSAGE.len(), 14);
     for count in 0..15 {
-        let (front, rest) = message.split_at(count);
+        let (front, rest) = MESSAGE.split_at(count);
         is_cut_off(&rt, alloc, front, rest);
     }
 }
 
 /// A run over two messages with a value between them whose writer fails at one call, the one after so many.
 fn torn(alloc: Global, calls: usize) -> Seen<End> {
-    let mut out = Sink {
-        bytes: Vec::new(alloc),
-        calls,
-        failed: Count::new(),
-    };
+    let mut out = Sink::new(alloc, calls);
     let mut entries = Vec::new(alloc);
     let mut recorder = Recorder::new(alloc, None);
     let answer = answered(alloc, INPUT, &mut out, &mut entries, &[], &mut recorder);
@@ -89,53 +77,4 @@ fn a_failed_write_is_the_answer(rt: HostRuntime) {
         assert!(rt; is_whole || !was_whole);
     }
     assert!(rt; is_whole);
-}
-
-/// Of the message so many bytes are written into a slice of this length.
-fn is_filled(rt: &impl Abort, alloc: Global, message: &[u8], room: usize, fits: usize) {
-    let mut memory = [0u8; 14];
-    let mut out = Mem::new(&mut memory[..room.min(14)]);
-    let mut judge = Recorder::new(alloc, None);
-    let answer = answered(alloc, message, &mut out, &mut Silent, &[], &mut judge);
-    let want = if room == 14 {
-        whole(1, 0)
-    } else {
-        Err(GateFault::Write)
-    };
-    same(rt, &answer, &want, "answer", &room);
-    same(
-        rt,
-        &Some(out.as_written()),
-        &message.get(..fits),
-        "output",
-        &room,
-    );
-}
-
-/// Each room, and how much of the text fits by whole heads and strings.
-const ROOMS: [(usize, usize); 15] = [
-    (0, 0),
-    (1, 1),
-    (2, 2),
-    (3, 3),
-    (4, 3),
-    (5, 3),
-    (6, 6),
-    (7, 7),
-    (8, 8),
-    (9, 8),
-    (10, 10),
-    (11, 11),
-    (12, 11),
-    (13, 11),
-    (14, 14),
-];
-
-#[test]
-fn a_full_slice_is_the_answer(rt: HostRuntime) {
-    let alloc = rt.alloc();
-    let message = unhex(&rt, alloc, MESSAGE);
-    for (room, fits) in &ROOMS {
-        is_filled(&rt, alloc, &message, *room, *fits);
-    }
 }

@@ -1,76 +1,9 @@
 //! Memory that is refused to the judge, to the report, and to the run.
-use crate::seen::{Answer, Question, Seen, answered, has_asked, reached, same, unhex, whole};
-use crate::signs::{FIRST, TWO};
-use ciborium_ll::End;
-use cose_gate::{
-    About, Asked, Entry, GateFault, Judge, Kind, Mem, Recorder, Refusal, Report, Verdict,
-};
-use std::alloc::{AllocError, Global};
+use crate::seen::{Answer, Seen, answered, reached, same, whole};
+use cose_gate::{Asked, End, Entry, GateFault, Kind, Mem, Recorder, Refusal, Verdict};
+use std::alloc::Global;
 use std::process::Abort;
-
-/// A judge or a report that is refused memory once, after so many calls that ask for it.
-#[derive(Drop)]
-struct Nth<T> {
-    inner: T,
-    calls: usize,
-}
-
-impl<T> Nth<T> {
-    ghost use Rattle.std.specs.Prelude.{◌≡◌};
-
-    fn step(&mut self) -> Result<(), AllocError>
-        ensures { self.new.inner ≡ self.old.inner }
-    {
-        let is_refused = self.calls == 0;
-        self.calls = self.calls.wrapping_sub(1);
-        if is_refused { Err(AllocError) } else { Ok(()) }
-    }
-}
-
-impl<J: Judge> Judge for Nth<J> {
-    ghost Who = { J.Who };
-
-    ghost Told = { J.Told };
-
-    ghost who = { λ s. J.who s.inner };
-
-    ghost told = { λ s. J.told s.inner };
-
-    ghost holds = { λ s subject bytes. J.holds s.inner subject bytes };
-
-    ghost pieces = { λ s. J.pieces s.inner };
-
-    ghost yes = { J.yes };
-
-    ghost decided = { J.decided };
-
-    fn begin(&mut self, about: &About) -> Result<(), AllocError> {
-        self.step()?;
-        self.inner.begin(about)
-    }
-
-    fn feed(&mut self, piece: &[u8]) -> Result<(), AllocError> {
-        self.step()?;
-        self.inner.feed(piece)
-    }
-
-    fn decide(&mut self, signature: &[u8]) -> bool {
-        self.inner.decide(signature)
-    }
-}
-
-impl<P: Report> Report for Nth<P> {
-    ghost State = { P.State };
-
-    ghost state = { λ s. P.state s.inner };
-
-    ghost folded = { P.folded };
-
-    fn note(&mut self, entry: &Entry) -> Result<(), AllocError> {
-        self.step()?;
-        self.inner.note(entry)
-    }
-}
+use test_tools::Nth;
 
 /// Two messages with an integer between them.
 pub const INPUT: &[u8] = &[
@@ -192,43 +125,62 @@ fn is_refused(rt: &impl Abort, alloc: Global, calls: (usize, usize), want: (usiz
     is_front(rt, seen.recorder.asked(), &seen.output, &seen.entries);
 }
 
-/// Each message begins and feeds one question.
-#[test]
-fn memory_refused_to_the_judge_is_the_answer(rt: HostRuntime) {
-    let alloc = rt.alloc();
-    is_refused(&rt, alloc, (0, 3), (0, 0, 0));
-    is_refused(&rt, alloc, (1, 3), (0, 0, 0));
-    is_refused(&rt, alloc, (2, 3), (1, 14, 2));
-    is_refused(&rt, alloc, (3, 3), (1, 14, 2));
-    is_refused(&rt, alloc, (4, 3), (2, 28, 3));
-}
+/// How many calls of the judge and of the report come before memory is refused, and how far the run comes. Each message begins and feeds one
+/// question.
+const REFUSALS: [((usize, usize), (usize, usize, usize)); 9] = [
+    ((0, 3), (0, 0, 0)),
+    ((1, 3), (0, 0, 0)),
+    ((2, 3), (1, 14, 2)),
+    ((3, 3), (1, 14, 2)),
+    ((4, 3), (2, 28, 3)),
+    ((4, 0), (1, 14, 0)),
+    ((4, 1), (1, 14, 1)),
+    ((4, 2), (2, 28, 2)),
+    ((4, 3), (2, 28, 3)),
+];
 
 #[test]
-fn memory_refused_to_the_report_is_the_answer(rt: HostRuntime) {
-    let alloc = rt.alloc();
-    is_refused(&rt, alloc, (4, 0), (1, 14, 0));
-    is_refused(&rt, alloc, (4, 1), (1, 14, 1));
-    is_refused(&rt, alloc, (4, 2), (2, 28, 2));
-    is_refused(&rt, alloc, (4, 3), (2, 28, 3));
+fn memory_refused_to_the_judge_or_the_report_is_the_answer(rt: HostRuntime) {
+    for (calls, want) in &REFUSALS {
+        is_refused(&rt, rt.alloc(), *calls, *want);
+    }
 }
 
-/// A run over a message with two signatures, where memory is refused to the judge after so many calls, asks these questions and writes
-/// nothing.
-fn is_left(rt: &impl Abort, alloc: Global, calls: usize, asked: &[Question]) {
-    let input = unhex(rt, alloc, TWO);
-    let seen = refused(alloc, &input, calls, 3);
+/// 98([h'', {}, 'hi', [[h'a10126', {}, h'00'], [h'a10126', {}, h'01']]]).
+const TWO: &[u8] = &[
+    0xd8, 98, 0x84, 0x40, 0xa0, 0x42, 0x68, 0x69, 0x82, 0x83, 0x43, 0xa1, 1, 0x26, 0xa0, 0x41, 0,
+    0x83, 0x43, 0xa1, 1, 0x26, 0xa0, 0x41, 1,
+];
+
+/// What its first signature covers: ['Signature', h'', h'a10126', h'', 'hi'].
+const COVERED: &[u8] = &[
+    0x85, 0x69, 0x53, 0x69, 0x67, 0x6e, 0x61, 0x74, 0x75, 0x72, 0x65, 0x40, 0x43, 0xa1, 1, 0x26,
+    0x40, 0x42, 0x68, 0x69,
+];
+
+/// Whether the question is the one about its first signature, h'00'.
+fn is_first(asked: &Asked) -> bool {
+    asked.kind == Kind::Sign
+        && asked.structure.as_slice() == COVERED
+        && asked.tag_len == 1
+        && asked.tag == [0; 8]
+}
+
+/// A run over it, where memory is refused to the judge after so many calls, asks so many questions, the first at most, and writes nothing.
+fn is_left(rt: &impl Abort, alloc: Global, calls: usize, asked: usize) {
+    let seen = refused(alloc, TWO, calls, 3);
     same(rt, &seen.answer, &Err(GateFault::Memory), "answer", &calls);
-    same(rt, &reached(&seen), &(asked.len(), 0, 0), "place", &calls);
-    has_asked(rt, alloc, &seen.recorder, asked, TWO);
+    same(rt, &reached(&seen), &(asked, 0, 0), "place", &calls);
+    for question in seen.recorder.asked() {
+        assert!(rt; is_first(question), "{question:?}");
+    }
 }
 
 /// Each signature begins and feeds one question. Where memory is refused to the judge, the questions before were asked, and nothing is
 /// written.
 #[test]
 fn memory_may_be_refused_between_signatures(rt: HostRuntime) {
-    let alloc = rt.alloc();
-    is_left(&rt, alloc, 0, &[]);
-    is_left(&rt, alloc, 1, &[]);
-    is_left(&rt, alloc, 2, &[FIRST]);
-    is_left(&rt, alloc, 3, &[FIRST]);
+    for (calls, asked) in [(0, 0), (1, 0), (2, 1), (3, 1)] {
+        is_left(&rt, rt.alloc(), calls, asked);
+    }
 }

@@ -69,13 +69,9 @@ fn all_so<R: io::Read + Drop>(rt: &impl Abort, alloc: Global, reader: R, rows: &
 }
 
 #[test]
-fn reads_over_blocks_and_ends(rt: HostRuntime) {
+fn reads_over_blocks_ends_and_faults(rt: HostRuntime) {
     let bytes: &[u8] = &[1, 2, 3, 4, 5, 6, 7, 8, 9];
     all_so(&rt, rt.alloc(), bytes, &ENDS);
-}
-
-#[test]
-fn reads_of_a_device_that_fails(rt: HostRuntime) {
     let reader = Breaks { bytes: &[1, 2, 3] };
     all_so(&rt, rt.alloc(), reader, &FAILS);
 }

@@ -1,8 +1,7 @@
 //! A check, what it gave, and how tests compare that.
 ghost use Rattle.std.specs.Prelude.{◌<◌, length};
 
-use crate::watching::Watcher;
-use ciborium_ll::{Decoder, End, Read};
+use ciborium_ll::{Decoder, Read};
 use cose_stream::gate_core::Judge;
 use cose_stream::{StreamFault, stream_check};
 use std::alloc::Global;
@@ -25,48 +24,9 @@ pub fn checked<R: Read + Drop, J: Judge>(
     (answer, decoder.offset())
 }
 
-/// What one check gave: its answer, how many bytes were taken, and the judge.
-#[derive(Drop)]
-pub struct Seen<E> {
-    pub answer: Result<bool, StreamFault<E>>,
-    pub taken: usize,
-    pub watcher: Watcher,
-}
-
-/// A check of what this reader gives, with a buffer of `room` bytes, from 1 to 8.
-pub fn watched<R: Read + Drop>(
-    alloc: Global,
-    reader: R,
-    aad: &[u8],
-    room: usize,
-) -> Seen<R::Error> {
-    let mut memory = [0; 8];
-    let buffer = &mut memory[..room.max(1).min(8)];
-    let mut watcher = Watcher::new(alloc);
-    let (answer, taken) = checked(alloc, reader, buffer, aad, &mut watcher);
-    Seen {
-        answer,
-        taken,
-        watcher,
-    }
-}
-
 /// The bytes that this is in hex.
 pub fn unhex(rt: &impl Abort, alloc: Global, text: &str) -> Vec<u8> {
     hex::decode(alloc, text).expect(rt, "bytes in hex")
-}
-
-/// A check of these bytes in hex.
-pub fn watched_hex(
-    rt: &impl Abort,
-    alloc: Global,
-    input: &str,
-    aad: &str,
-    room: usize,
-) -> Seen<End> {
-    let input = unhex(rt, alloc, input);
-    let aad = unhex(rt, alloc, aad);
-    watched(alloc, input.as_slice(), &aad, room)
 }
 
 /// Both are the same.

@@ -1,29 +1,31 @@
 //! Readers that fail in mid-stream.
-use crate::checks::{same, unhex, watched};
-use crate::devices::{Broken, Source};
+use crate::checks::{checked, same};
+use crate::watching::Watcher;
 use ciborium::de;
-use ciborium_ll::count::Count;
 use cose_stream::StreamFault;
 use std::alloc::Global;
 use std::process::Abort;
+use test_tools::{Broken, Source};
 
-/// A check stops where the reader fails, behind these bytes.
+/// 18([h'a10126', {}, 'hi', h'010203']).
+const MESSAGE: &[u8] = &[
+    0xd2, 0x84, 0x43, 0xa1, 1, 0x26, 0xa0, 0x42, 0x68, 0x69, 0x43, 1, 2, 3,
+];
+
+/// A check stops where the reader fails, behind these bytes, and nothing is decided.
 fn is_cut_off(rt: &impl Abort, alloc: Global, bytes: &[u8]) {
-    let source = Source {
-        bytes,
-        failed: Count::new(),
-    };
-    let seen = watched(alloc, source, &[], 1);
+    let mut buffer = [0; 1];
+    let mut watcher = Watcher::new(alloc);
+    let source = Source::new(bytes, &[]);
+    let (answer, _) = checked(alloc, source, &mut buffer, &[], &mut watcher);
     let broken = Err(StreamFault::Decode(de::Error::Io(Broken)));
-    same(rt, &seen.answer, &broken, "answer", &bytes.len());
-    same(rt, &seen.watcher.decisions, &0, "decisions", &bytes.len());
+    same(rt, &answer, &broken, "answer", &bytes.len());
+    same(rt, &watcher.decisions, &0, "decisions", &bytes.len());
 }
 
 #[test]
 fn a_failed_read_is_the_answer(rt: HostRuntime) {
-    let alloc = rt.alloc();
-    let message = unhex(&rt, alloc, "d28443a10126a042686943010203");
-    for count in 0..message.len() {
-        is_cut_off(&rt, alloc, &message[..count]);
+    for count in 0..MESSAGE.len() {
+        is_cut_off(&rt, rt.alloc(), &MESSAGE[..count]);
     }
 }

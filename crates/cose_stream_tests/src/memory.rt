@@ -1,63 +1,13 @@
 //! Memory: what a refusal is answered by, and that a payload takes none.
 use crate::checks::{checked, same, unhex};
-use crate::devices::Made;
+use crate::made::Made;
 use ciborium_ll::End;
 use ciborium_ll::log::Log;
 use cose_stream::StreamFault;
 use cose_stream::gate_core::{About, Judge, Recorder};
 use std::alloc::{AllocError, Global};
 use std::process::Abort;
-
-/// A judge that is refused memory once, after so many calls that may ask for it.
-#[derive(Drop)]
-struct Nth<J> {
-    inner: J,
-    calls: usize,
-}
-
-impl<J> Nth<J> {
-    ghost use Rattle.std.specs.Prelude.{◌≡◌};
-
-    fn step(&mut self) -> Result<(), AllocError>
-        ensures { self.new.inner ≡ self.old.inner }
-    {
-        let is_refused = self.calls == 0;
-        self.calls = self.calls.wrapping_sub(1);
-        if is_refused { Err(AllocError) } else { Ok(()) }
-    }
-}
-
-impl<J: Judge> Judge for Nth<J> {
-    ghost Who = { J.Who };
-
-    ghost Told = { J.Told };
-
-    ghost who = { λ s. J.who s.inner };
-
-    ghost told = { λ s. J.told s.inner };
-
-    ghost holds = { λ s subject bytes. J.holds s.inner subject bytes };
-
-    ghost pieces = { λ s. J.pieces s.inner };
-
-    ghost yes = { J.yes };
-
-    ghost decided = { J.decided };
-
-    fn begin(&mut self, about: &About) -> Result<(), AllocError> {
-        self.step()?;
-        self.inner.begin(about)
-    }
-
-    fn feed(&mut self, piece: &[u8]) -> Result<(), AllocError> {
-        self.step()?;
-        self.inner.feed(piece)
-    }
-
-    fn decide(&mut self, signature: &[u8]) -> bool {
-        self.inner.decide(signature)
-    }
-}
+use test_tools::Nth;
 
 const MESSAGE: &str = "d28443a10126a042686943010203";
 

@@ -1,13 +1,12 @@
 //! A judge that keeps what it is fed.
 ghost use Rattle.std.specs.Prelude.{◌≡◌, true};
 
-use cose_stream::gate_core::{About, Judge, Kind};
+use cose_stream::gate_core::{About, Judge};
 use std::alloc::{AllocError, Global};
 
-/// Says yes, and keeps the kind, the covered bytes, the lengths of their pieces, and how often it decided.
+/// Says yes, and keeps the covered bytes, the lengths of their pieces, and how often it decided.
 #[derive(Drop)]
 pub struct Watcher {
-    pub kind: Option<Kind>,
     pub covered: Vec<u8>,
     pub lengths: Vec<usize>,
     pub decisions: usize,
@@ -16,7 +15,6 @@ pub struct Watcher {
 impl Watcher {
     pub fn new(alloc: Global) -> Watcher {
         Watcher {
-            kind: None,
             covered: Vec::new(alloc),
             lengths: Vec::new(alloc),
             decisions: 0,
@@ -41,8 +39,7 @@ impl Judge for Watcher {
 
     ghost decided = { λ told q. told };
 
-    fn begin(&mut self, about: &About) -> Result<(), AllocError> {
-        self.kind = Some(about.kind);
+    fn begin(&mut self, _about: &About) -> Result<(), AllocError> {
         self.covered.clear();
         self.lengths.clear();
         Ok(())

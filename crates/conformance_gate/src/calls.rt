@@ -1,0 +1,33 @@
+//! Calls by their names.
+use crate::answers::Answer;
+use crate::{gating, judging, program, streaming, uses, words};
+use std::alloc::Global;
+
+/// What the call answers that the first word names.
+pub fn answer(alloc: Global, row: &[&str]) -> Answer {
+    match row {
+        ["gate", input, aad] => gating::run(alloc, input, aad, None),
+        ["gate", input, aad, no] => {
+            let no = words::bytes(alloc, no)?;
+            gating::run(alloc, input, aad, Some(no))
+        }
+        ["gate-again", input, aad] => gating::run_again(alloc, input, aad),
+        ["gate-room", room, input] => gating::run_in_room(alloc, room, input),
+        ["stream", room, input, aad] => streaming::check(alloc, room, input, aad, None),
+        ["stream", room, input, aad, no] => {
+            let no = words::bytes(alloc, no)?;
+            streaming::check(alloc, room, input, aad, Some(no))
+        }
+        ["run", keys, aad, input] => program::run(alloc, keys, aad, input),
+        ["run-room", room, keys, aad, input] => {
+            program::run_in_room(alloc, room, keys, aad, input)
+        }
+        ["words", all @ ..] => program::arguments(alloc, all),
+        ["tag", keys, protected, unprotected, covered, tag] => {
+            judging::tag(alloc, keys, protected, unprotected, covered, tag)
+        }
+        ["judge", row @ ..] => judging::judge(alloc, row),
+        ["judge-prepared", row @ ..] => judging::prepared_judge(alloc, row),
+        _ => uses::answer(alloc, row),
+    }
+}

@@ -1,0 +1,27 @@
+//! `conformance_gate`: reads rows of a call and its answer from standard input, and prints each row whose call answers otherwise, and
+//! how many rows there were. README.md beside src/ says which calls there are.
+#![tactic(auto)]
+
+mod answers;
+mod calls;
+mod checking;
+mod gating;
+mod heads;
+mod items;
+mod judging;
+mod keeping;
+mod program;
+mod relaying;
+mod rows;
+mod signing;
+mod streaming;
+mod uses;
+mod words;
+
+use std::io;
+
+fn main(rt: HostRuntime) -> io::Result<()> {
+    let text = io::read_to_string(rt.alloc(), rt.stdin())?;
+    let findings = rows::findings(rt.alloc(), text.as_str())?;
+    print!(rt; "{findings}")
+}

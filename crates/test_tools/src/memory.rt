@@ -1,0 +1,69 @@
+//! Memory that is refused once.
+use cose_gate_core::{About, Entry, Judge, Report};
+use std::alloc::AllocError;
+
+/// A judge or a report that is refused memory once, after so many calls that ask for it.
+#[derive(Drop)]
+pub struct Nth<T> {
+    /// The judge or report that is called where memory isn't refused.
+    pub inner: T,
+    /// How many calls come before the refusal.
+    pub calls: usize,
+}
+
+impl<T> Nth<T> {
+    ghost use Rattle.std.specs.Prelude.{◌≡◌};
+
+    fn step(&mut self) -> Result<(), AllocError>
+        ensures { self.new.inner ≡ self.old.inner }
+    {
+        let is_refused = self.calls == 0;
+        self.calls = self.calls.wrapping_sub(1);
+        if is_refused { Err(AllocError) } else { Ok(()) }
+    }
+}
+
+impl<J: Judge> Judge for Nth<J> {
+    ghost Who = { J.Who };
+
+    ghost Told = { J.Told };
+
+    ghost who = { λ s. J.who s.inner };
+
+    ghost told = { λ s. J.told s.inner };
+
+    ghost holds = { λ s subject bytes. J.holds s.inner subject bytes };
+
+    ghost pieces = { λ s. J.pieces s.inner };
+
+    ghost yes = { J.yes };
+
+    ghost decided = { J.decided };
+
+    fn begin(&mut self, about: &About) -> Result<(), AllocError> {
+        self.step()?;
+        self.inner.begin(about)
+    }
+
+    fn feed(&mut self, piece: &[u8]) -> Result<(), AllocError> {
+        self.step()?;
+        self.inner.feed(piece)
+    }
+
+    fn decide(&mut self, signature: &[u8]) -> bool {
+        self.inner.decide(signature)
+    }
+}
+
+impl<P: Report> Report for Nth<P> {
+    ghost State = { P.State };
+
+    ghost state = { λ s. P.state s.inner };
+
+    ghost folded = { P.folded };
+
+    fn note(&mut self, entry: &Entry) -> Result<(), AllocError> {
+        self.step()?;
+        self.inner.note(entry)
+    }
+}
