@@ -1,8 +1,8 @@
 #!/bin/sh
 # more-edits.sh [CRATE..]: tries the edits of edits/CRATE/, which the prover must refuse and which `rt ci` doesn't try, of these crates or of
-# all. It copies the tree into a scratch folder, puts them into must-fail/ there in place of all others, and runs `rt ci` over those crates,
-# which takes what an earlier `rt ci` proved. It prints each edit that is not refused; status 1 where there is one. docs/MAINTAINING.md says
-# when it is run.
+# all. It copies these crates and the libraries below them into a scratch folder, with the lines of crates.txt that name them, puts the edits
+# into must-fail/ there in place of all others, and runs `rt ci`. A kit that keeps what an earlier `rt ci` proved takes it; any other proves
+# these crates anew first. It prints each edit that is not refused; status 1 where there is one. docs/MAINTAINING.md says when it is run.
 set -eu
 cd "$(dirname "$0")/.."
 [ $# -gt 0 ] || set -- $(ls edits)
@@ -11,13 +11,29 @@ for crate; do
 done
 folder=$(mktemp -d "${TMPDIR:-/tmp}/more-edits.XXXXXX")
 trap 'rm -rf "$folder"' EXIT
+trap 'exit 130' INT TERM
 mkdir "$folder/crates"
-cp HANDLES crates.txt "$folder"
-for crate in crates/*/; do
-  name=$(basename "$crate")
+cp HANDLES "$folder"
+# The lines of crates.txt that name these crates and those below them. A library that has no line is the kit's.
+awk -v wanted="$*" '
+  function take(name,  n, i, of) {
+    if (!(name in below) || name in is_taken) return
+    is_taken[name] = 1
+    n = split(below[name], of)
+    for (i = 1; i <= n; i++) take(of[i])
+  }
+  { sub(/#.*/, "") }
+  /:/ { name = $1; sub(/:.*/, "", name); names[++count] = name; lines[name] = $0; sub(/^[^:]*:/, ""); below[name] = $0 }
+  END {
+    n = split(wanted, of)
+    for (i = 1; i <= n; i++) take(of[i])
+    for (i = 1; i <= count; i++) if (names[i] in is_taken) print lines[names[i]]
+  }
+' crates.txt > "$folder/crates.txt"
+for name in $(sed 's/:.*//' "$folder/crates.txt"); do
   mkdir "$folder/crates/$name"
   for part in src specs proofs; do
-    [ ! -d "$crate$part" ] || cp -R "$crate$part" "$folder/crates/$name"
+    [ ! -d "crates/$name/$part" ] || cp -R "crates/$name/$part" "$folder/crates/$name"
   done
 done
 for crate; do
@@ -25,7 +41,7 @@ for crate; do
 done
 cd "$folder"
 status=0
-rt ci "$@" > ci.log 2>&1 || status=1
+rt ci > ci.log 2>&1 || status=1
 if grep -E 'NOT REFUSED|BAD EDIT|NOT TRIED|NOT PROVED' ci.log; then status=1; fi
 [ "$status" = 0 ] || cp ci.log "${TMPDIR:-/tmp}/more-edits.log"
 echo "$(find crates/*/must-fail -name '*.edit' | wc -l) edits in $# crates: $(tail -n 1 ci.log)"
