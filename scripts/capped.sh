@@ -1,9 +1,9 @@
 #!/bin/sh
 # capped.sh [BINARY]: heads that claim more than follows them, read by cbor_bench under a capped heap.
 #
-# Each input must end as bytes that are cut off, and not as refused memory, where the process may hold little more than for an empty
-# array or, 256 levels deep, for maps of one entry each. Where valgrind is there, it also counts the bytes that reading asks of the heap: at most 4,096 over those of the empty array,
-# beside the input itself.
+# Each input must end as bytes that are cut off, and not as refused memory, where the process may hold little more than for an empty array
+# or, 256 levels deep, for maps of one entry each. Where valgrind is there, it also counts the bytes that reading asks of the heap: at most
+# 4,096 over those of the empty array, beside the input itself.
 set -u
 here=$(cd "$(dirname "$0")/.." && pwd)
 bench=${1:-$here/crates/cbor_bench/out/cbor_bench}

@@ -1,8 +1,9 @@
 #!/bin/sh
-# more-edits.sh [CRATE..]: tries the edits of edits/CRATE/, which the prover must refuse and which `rt ci` doesn't try, of these crates or of
-# all. It copies these crates and the libraries below them into a scratch folder, with the lines of crates.txt that name them, puts the edits
-# into must-fail/ there in place of all others, and runs `rt ci`. A kit that keeps what an earlier `rt ci` proved takes it; any other proves
-# these crates anew first. It prints each edit that is not refused; status 1 where there is one. docs/MAINTAINING.md says when it is run.
+# more-edits.sh [CRATE..]: tries the edits of edits/CRATE/, which the prover must refuse and which `rt ci` doesn't try, of these crates or
+# of all. It copies these crates and the libraries below them into a scratch folder, with the lines of crates.txt that name them, puts the
+# edits into must-fail/ there in place of all others, and runs `rt ci`. A kit that keeps what an earlier `rt ci` proved takes it; any
+# other proves these crates anew first. It prints each edit that is not refused; status 1 where there is one. docs/MAINTAINING.md says
+# when it is run.
 set -eu
 cd "$(dirname "$0")/.."
 [ $# -gt 0 ] || set -- $(ls edits)
