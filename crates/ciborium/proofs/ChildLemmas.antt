@@ -62,7 +62,7 @@ child_item_fails ends l₀ l₁ l₂ o₀ o₁ o₂ o₃ limit at vs h k e t u s
     (fails_begun ends l₁ l₂ o₁ o₂ o₃ k (λ stop b f. Damage stop b limit f) e u (subst (λ (z : ℕ). FailsBehind ends k z o₂ l₂ o₃ (λ stop b f. Damage stop b limit f) e) same w))
 
 -- whether one more is due
-not_all : (n d : ℕ) → nat_eq n d ≡ false → d ≤ n → d < n
+pub not_all : (n d : ℕ) → nat_eq n d ≡ false → d ≤ n → d < n
 not_all n d e l = grind (arith, nat_tests)
 
 pub array_due : (o : Option ℕ) (vs : Trees) (d : ℕ) (rest : List ℕ) → tree_count vs ≡ d → FitsIn o d → is_full o d ≡ false → (o ≡ None → (r : List ℕ) → rest ≢ 255 ∷ r) → Due (Array o) (tree_count vs) rest

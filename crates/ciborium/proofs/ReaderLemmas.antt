@@ -43,7 +43,7 @@ fold_fails ends n at limit c l₀ l₁ o₀ o₁ code.Memory w t = λ title u g.
 fold_fails ends n at limit c l₀ l₁ o₀ o₁ code.TooLong w t = absurd w
 
 -- the end of an array or a map
-closed : (o : Option ℕ) (done limit : ℕ) (vs : Trees) (x y : List ℕ) → ReadsAll x limit vs → Closes o done y → ChildrenBehind o done limit vs (x ++ y)
+pub closed : (o : Option ℕ) (done limit : ℕ) (vs : Trees) (x y : List ℕ) → ReadsAll x limit vs → Closes o done y → ChildrenBehind o done limit vs (x ++ y)
 closed (Some n) done limit vs x y p c = (c.0, subst (λ (z : List ℕ). ReadsAll z limit vs) (append_nil x ∙ ap (λ z. x ++ z) (sym c.1)) p)
 closed None done limit vs x y p c = (x, p, ap (λ z. x ++ z) c)
 

@@ -12,7 +12,8 @@ use Rattle.ciborium.specs.Damage.{Damage, in_bytes, in_text, StringDamage}
 use Rattle.ciborium.specs.Front.{ReadsAll}
 use Rattle.ciborium.specs.Reading.{FailsBehind, string_head, IsBody, ReadsBehind, ChildrenBehind, FitsIn, is_full}
 use Rattle.ciborium.proofs.Taking.{takes_then}
-use Rattle.ciborium.proofs.ReadLemmas.{snoc, snoc_count, behind_as, step_item, pushed, pushed_pair, all_none, count_flat}
+use Rattle.ciborium.specs.Frames.{snoc}
+use Rattle.ciborium.proofs.ReadLemmas.{snoc_count, behind_as, step_item, pushed, pushed_pair, all_none, count_flat}
 use Rattle.ciborium.proofs.ChildLemmas.{fits_none, fits_more, children_closed}
 
 pub bytes_fail : {E : Type 0} (ends : E → Bool) (k : Option ℕ) (at limit : ℕ) (l : Option (List ℕ)) (o o' : ℕ) (e : Error E) → FailsBehind ends (string_head false k) at o l o' (StringDamage (string_head false) (IsBody false)) e
