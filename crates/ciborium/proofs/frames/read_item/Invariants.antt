@@ -1,14 +1,12 @@
-use Rattle.std.proofs.Common.{◌≡◌, ◌-◌, ◌+◌, ◌*◌, ◌^◌, ℕ, List, ◌∷◌, ◌++◌, None, reverse}
-use Rattle.ciborium_ll.specs.Reading.{Moves}
-use Rattle.ciborium_ll.specs.Views.{left_of, offset_of, waiting_of, reader_of}
+use Rattle.std.proofs.Common.{◌≡◌, ◌-◌, ◌+◌, ◌*◌, ◌^◌, ◌∷◌, None, reverse}
+use Rattle.ciborium_ll.specs.Views.{offset_of, waiting_of, reader_of, seen}
 use Rattle.ciborium.specs.Frames.{rank}
-use Rattle.ciborium.proofs.TurnLemmas.{Behind}
+use Rattle.ciborium.proofs.TurnLemmas.{Turn}
 use Rattle.ciborium.proofs.frames.read_item.Given as goal
 
 abbrev pub invariant-turns : goal.invariant-turns
 invariant-turns g l = record {
-  taken : Moves (left_of g.R.Read.left l.fn.decoder) (left_of g.R.Read.left l.decoder) (offset_of l.fn.decoder) (offset_of l.decoder)
-      (Behind l.limit l.fn.header l.fn.at (offset_of l.fn.decoder) (offset_of l.decoder) (l.top ∷ reverse l.below.items) l.read);
+  turn : Turn l.limit l.fn.header l.fn.at (seen g.R.Read l.fn.decoder) (seen g.R.Read l.decoder) (l.top ∷ reverse l.below.items) l.read;
   failed : g.R.Read.failed (reader_of l.decoder) ≡ g.R.Read.failed (reader_of l.fn.decoder);
   kept : g.R.Read.handle (reader_of l.decoder) ≡ g.R.Read.handle (reader_of l.fn.decoder);
   fresh : waiting_of l.decoder ≡ None;
