@@ -45,14 +45,6 @@ pub free_depth : (n limit : ℕ) (x : List ℕ) → (n ≡ 2) ⊎ (n ≡ 3) → 
 free_depth n limit x (inl e) = subst (λ (z : ℕ). depth (tag z (bytes x)) ≤ limit) (sym e) (omega arith)
 free_depth n limit x (inr e) = subst (λ (z : ℕ). depth (tag z (bytes x)) ≤ limit) (sym e) (omega arith)
 
-pub tag_bytes : (n limit : ℕ) (o : Option ℕ) (h : Header) (v : Tree) (items x y : List ℕ) → (n ≡ 2) ⊎ (n ≡ 3) → h ≡ Bytes o → v ≡ bytes items → Title x h → StringBehind false o items y → TaggedBehind n limit v (x ++ y)
-tag_bytes n limit o h v items x y which is e t s = record {
-  tree = bytes items;
-  spells = (s.bodies, s.frame x (subst (λ (z : Header). Title x z) is t), s.is);
-  shallow = free_depth n limit items which;
-  means = ap Some (sym e);
-}
-
 known_as : {E : Type 0} (ends : E → Bool) (l : Option (List ℕ)) (o o' : ℕ) (D D' : ℕ → List ℕ → Fault → Type 0) (e : Error E)
     → ((stop : ℕ) (b : List ℕ) (f : Fault) → D stop b f → D' stop b f) → IfKnown l (λ b. FailsAt ends b o o' D e) → IfKnown l (λ b. FailsAt ends b o o' D' e)
 known_as ends None o o' D D' e step w = tt
@@ -65,12 +57,6 @@ plain_deep ends n limit (Some b) o p e = inr (inl (inl p, e, refl))
 
 pub plain_title : {E : Type 0} (ends : E → Bool) (n limit : ℕ) (l : Option (List ℕ)) (o o' : ℕ) (e : Error E) → (n ≢ 2) × (n ≢ 3) → 0 < limit → IfKnown l (λ b. FailsAt ends b o o' TitleDamage e) → IfKnown l (λ b. FailsAt ends b o o' (TagDamage n limit) e)
 plain_title ends n limit l o o' e p low w = known_as ends l o o' TitleDamage (TagDamage n limit) e (λ stop b f d. inr (inr (inl p, low, in_title b (limit - 1) f d))) w
-
-pub plain_item : {E : Type 0} (ends : E → Bool) (n limit at : ℕ) (h : Header) (l₀ l₁ : Option (List ℕ)) (o₀ o₁ o₂ : ℕ) (e : Error E) → (n ≢ 2) × (n ≢ 3) → 0 < limit → Moves l₀ l₁ o₀ o₁ (λ (b : List ℕ). Title b h) → at ≡ o₀
-    → FailsBehind ends h at o₁ l₁ o₂ (λ stop b f. Damage stop b (limit - 1) f) e → IfKnown l₀ (λ b. FailsAt ends b o₀ o₂ (TagDamage n limit) e)
-plain_item ends n limit at h l₀ l₁ o₀ o₁ o₂ e p low t same w =
-    known_as ends l₀ o₀ o₂ (Begun h (λ stop b f. Damage stop b (limit - 1) f)) (TagDamage n limit) e (λ stop b f d. inr (inr (inl p, low, d.1)))
-    (fails_begun ends l₀ l₁ o₀ o₁ o₂ h (λ stop b f. Damage stop b (limit - 1) f) e t (subst (λ (z : ℕ). FailsBehind ends h z o₁ l₁ o₂ (λ stop b f. Damage stop b (limit - 1) f) e) same w))
 
 -- a tag 2 or 3
 title_free : (n stop : ℕ) (b : List ℕ) (f : Fault) → (n ≡ 2) ⊎ (n ≡ 3) → TitleDamage stop b f → IsFree n b

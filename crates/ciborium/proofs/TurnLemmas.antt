@@ -57,11 +57,6 @@ turn_done {limit} {h} {at} {old} {new} {fs} {read} gs read' w some t s = takes_a
 pub done_some : (fs gs : List Frame) (read read' : Option Value) → read' ≡ None → IsStaged fs read → Hands fs gs read read' handed.Done → ⊥
 done_some fs gs read read' none (limit, from, now, b, p) s = let q = s limit from now b p in let e : None ≡ Some q.0 = sym none ∙ q.1 in cc
 
--- a tag is whole
-pub turn_up : {limit : ℕ} {h : Header} {at : ℕ} {old new : Seen} {fs : List Frame} {read : Option Value} (gs : List Frame) (read' : Option Value) → Turn limit h at old new fs read → Hands fs gs read read' handed.Up → Turn limit h at old new gs read'
-turn_up {limit} {h} {at} {old} {new} {fs} {read} gs read' t s =
-    record { taken = takes_as old.left new.left old.offset new.offset (Behind limit h at old new fs read) (Behind limit h at old new gs read') t.taken (λ y b title u. s limit at new.offset (title ++ y) (b title u)) }
-
 -- a value was taken
 pub turn_taken : {limit : ℕ} {h : Header} {at : ℕ} {old new : Seen} {fs : List Frame} {read : Option Value} (gs : List Frame) (read' : Option Value) → Turn limit h at old new fs read → Hands fs gs read read' handed.Taken → Turn limit h at old new gs None
 turn_taken {limit} {h} {at} {old} {new} {fs} {read} gs read' t s =
