@@ -10,7 +10,8 @@ use Rattle.ciborium.specs.Reading.{ChildrenBehind, ChildDamage, is_full, FitsIn}
 use Rattle.ciborium_ll.proofs.Closings.{break_title}
 use Rattle.ciborium.proofs.Once.{first}
 use Rattle.ciborium.proofs.StringLemmas.{title_some}
-use Rattle.ciborium.proofs.ReadLemmas.{snoc, snoc_count, all_none, all_more}
+use Rattle.ciborium.specs.Frames.{snoc}
+use Rattle.ciborium.proofs.ReadLemmas.{snoc_count, all_none, all_more}
 use Rattle.ciborium.proofs.ChildLemmas.{array_due, map_due, value_due, fits_more, fits_none, children_full, children_closed}
 use Rattle.ciborium.proofs.StringCases.{bytes_behind, shorter}
 

@@ -46,23 +46,8 @@ begun_no_break h rest q s not r e = not (title_once s.title (255 ∷ []) q r h B
 child : (h : Header) (limit stop : ℕ) (x rest : List ℕ) (vs : Trees) (f : Fault) → ReadsAll x limit vs → Due h (tree_count vs) rest → Damage stop rest limit f → ChildDamage h limit stop (x ++ rest) f
 child h limit stop x rest vs f p due d = record { done = vs; rest = rest; fronts = record { spelling = x; whole = refl; reads = p }; due = due; damage = d }
 
--- the next title is damaged
-pub child_title_fails : {E : Type 0} (ends : E → Bool) (l₀ l₁ : Option (List ℕ)) (o₀ o₁ o₂ limit : ℕ) (vs : Trees) (h : Header) (e : Error E) → Moves l₀ l₁ o₀ o₁ (λ (b : List ℕ). ReadsAll b limit vs)
-    → ((rest : List ℕ) → ((r : List ℕ) → rest ≢ 255 ∷ r) → Due h (tree_count vs) rest) → IfKnown l₁ (λ b. FailsAt ends b o₁ o₂ TitleDamage e)
-    → IfKnown l₀ (λ b. FailsAt ends b o₀ o₂ (ChildDamage h limit) e)
-child_title_fails ends l₀ l₁ o₀ o₁ o₂ limit vs h e t due w =
-    fails_behind ends l₀ l₁ o₀ o₁ o₂ _ TitleDamage (ChildDamage h limit) e t (λ stop x rest f p d. child h limit stop x rest vs f p (due rest (title_no_break stop rest f d)) (in_title rest limit f d)) w
-
--- the next item is damaged
-pub child_item_fails : {E : Type 0} (ends : E → Bool) (l₀ l₁ l₂ : Option (List ℕ)) (o₀ o₁ o₂ o₃ limit at : ℕ) (vs : Trees) (h k : Header) (e : Error E) → Moves l₀ l₁ o₀ o₁ (λ (b : List ℕ). ReadsAll b limit vs)
-    → Moves l₁ l₂ o₁ o₂ (λ (b : List ℕ). Title b k) → at ≡ o₁ → ((rest : List ℕ) → ((r : List ℕ) → k ≢ Break → rest ≢ 255 ∷ r) → Due h (tree_count vs) rest)
-    → FailsBehind ends k at o₂ l₂ o₃ (λ stop b f. Damage stop b limit f) e → IfKnown l₀ (λ b. FailsAt ends b o₀ o₃ (ChildDamage h limit) e)
-child_item_fails ends l₀ l₁ l₂ o₀ o₁ o₂ o₃ limit at vs h k e t u same due w =
-    fails_behind ends l₀ l₁ o₀ o₁ o₃ (λ (b : List ℕ). ReadsAll b limit vs) (Begun k (λ stop b f. Damage stop b limit f)) (ChildDamage h limit) e t (λ stop x rest f p d. child h limit stop x rest vs f p (due rest (λ r not. begun_no_break k rest d.0.0 d.0.1 not r)) d.1)
-    (fails_begun ends l₁ l₂ o₁ o₂ o₃ k (λ stop b f. Damage stop b limit f) e u (subst (λ (z : ℕ). FailsBehind ends k z o₂ l₂ o₃ (λ stop b f. Damage stop b limit f) e) same w))
-
 -- whether one more is due
-not_all : (n d : ℕ) → nat_eq n d ≡ false → d ≤ n → d < n
+pub not_all : (n d : ℕ) → nat_eq n d ≡ false → d ≤ n → d < n
 not_all n d e l = grind (arith, nat_tests)
 
 pub array_due : (o : Option ℕ) (vs : Trees) (d : ℕ) (rest : List ℕ) → tree_count vs ≡ d → FitsIn o d → is_full o d ≡ false → (o ≡ None → (r : List ℕ) → rest ≢ 255 ∷ r) → Due (Array o) (tree_count vs) rest
@@ -178,7 +163,3 @@ map_read None d limit v ps inner e c l p title t =
       shallow = omega arith;
       means = ap (option_map spec.map) q.means ∙ ap Some (sym e);
     }
-
-pub children_fail : {E : Type 0} (ends : E → Bool) (h : Header) (at limit : ℕ) (l : Option (List ℕ)) (o o' : ℕ) (e : Error E) → 0 < limit
-    → IfKnown l (λ b. FailsAt ends b o o' (ChildDamage h (limit - 1)) e) → FailsBehind ends h at o l o' (λ stop b f. Damage stop b limit f) e
-children_fail ends h at limit l o o' e low w = behind_rest ends h at l o o' (ChildDamage h (limit - 1)) _ e (λ stop b rest f s d. in_child b rest d.rest limit h d.done f s low d.fronts d.due d.damage) w

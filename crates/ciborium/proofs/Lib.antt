@@ -7,6 +7,10 @@ pub mod ReaderLemmas
 pub mod ChildLemmas
 pub mod TagLemmas
 pub mod Steps
+pub mod LevelLemmas
+pub mod FrameLemmas
+pub mod BeginLemmas
+pub mod TurnLemmas
 pub mod Texts
 pub mod Folded
 pub mod Exact

@@ -16,6 +16,7 @@ use Rattle.ciborium.specs.Damage.{Fault, deep, semantic, Damage, in_title, unass
 use Rattle.ciborium.specs.Front.{Reads, ReadsAll}
 use Rattle.ciborium_ll.specs.Title.{Begins}
 use Rattle.ciborium.specs.Reading.{Fails, EndPlace, IsLong, FailsAt, FailsBehind, IfKnown, StringBehind, ReadsBehind}
+use Rattle.ciborium.specs.Frames.{snoc}
 use Rattle.ciborium.proofs.Once.{append_nil}
 use Rattle.ciborium.proofs.Taking.{fails_as, behind_title, takes_then, takes_none}
 
@@ -77,10 +78,6 @@ deep_fails ends h limit at l o e opens = behind_now ends h at l o (λ stop b f. 
     (λ stop b rest s. subst (λ (z : ℕ). Damage stop b z deep) (sym e) (too_deep b rest h s (opens rest))) (λ Q long D d. d)
 
 -- several items
-abbrev pub snoc : Trees → Tree → Trees
-snoc no_trees t = one_more t no_trees
-snoc (one_more u us) t = one_more u (snoc us t)
-
 pub snoc_count : (ts : Trees) (t : Tree) → tree_count (snoc ts t) ≡ tree_count ts + 1
 snoc_count no_trees t = refl
 snoc_count (one_more u us) t = let h = snoc_count us t in omega arith

@@ -13,19 +13,6 @@ use Rattle.ciborium.proofs.Once.{append_nil}
 use Rattle.ciborium.proofs.Taking.{takes_then}
 use Rattle.ciborium.proofs.TagLemmas.{negative_fails}
 
--- a header of no array, map or tag
-pub leaf_else : (h : Header) → ((o : Option ℕ) → h ≢ Array o) → ((o : Option ℕ) → h ≢ Map o) → ((n : ℕ) → h ≢ Tag n) → IsLeaf h
-leaf_else (Positive n) a m t = tt
-leaf_else (Negative n) a m t = tt
-leaf_else (Float f) a m t = tt
-leaf_else (Simple n) a m t = tt
-leaf_else (Tag n) a m t = t n refl
-leaf_else Break a m t = tt
-leaf_else (Bytes o) a m t = tt
-leaf_else (Text o) a m t = tt
-leaf_else (Array o) a m t = a o refl
-leaf_else (Map o) a m t = m o refl
-
 memory_known : {E : Type 0} (ends : E → Bool) (k : List ℕ → List ℕ) (o at : ℕ) (l : Option (List ℕ)) (D : ℕ → List ℕ → Fault → Type 0) → IfKnown l (λ b. FailsAt {E = E} ends (k b) at o D code.Memory)
 memory_known ends k o at None D = tt
 memory_known ends k o at (Some b) D = tt
@@ -43,13 +30,6 @@ fold_fails ends n at limit c l₀ l₁ o₀ o₁ code.Memory w t = λ title u g.
 fold_fails ends n at limit c l₀ l₁ o₀ o₁ code.TooLong w t = absurd w
 
 -- the end of an array or a map
-closed : (o : Option ℕ) (done limit : ℕ) (vs : Trees) (x y : List ℕ) → ReadsAll x limit vs → Closes o done y → ChildrenBehind o done limit vs (x ++ y)
+pub closed : (o : Option ℕ) (done limit : ℕ) (vs : Trees) (x y : List ℕ) → ReadsAll x limit vs → Closes o done y → ChildrenBehind o done limit vs (x ++ y)
 closed (Some n) done limit vs x y p c = (c.0, subst (λ (z : List ℕ). ReadsAll z limit vs) (append_nil x ∙ ap (λ z. x ++ z) (sym c.1)) p)
 closed None done limit vs x y p c = (x, p, ap (λ z. x ++ z) c)
-
-pub part_none : (l₀ l₁ l₂ : Option (List ℕ)) (o₀ o₁ o₂ : ℕ) (o : Option ℕ) (n done limit : ℕ) (vs : Trees) → n ≡ done → Moves l₀ l₁ o₀ o₁ (λ (b : List ℕ). ReadsAll b limit vs) → Moves l₁ l₂ o₁ o₂ (λ b. Closes o n b)
-    → Moves l₀ l₂ o₀ o₂ (λ (b : List ℕ). ChildrenBehind o done limit vs b)
-part_none l₀ l₁ l₂ o₀ o₁ o₂ o n done limit vs e p t = takes_then l₀ l₁ l₂ o₀ o₁ o₂ _ _ _ p t (λ x y a b. closed o done limit vs x y a (subst (λ (z : ℕ). Closes o z y) e b))
-
-pub due_at : (o : Option ℕ) (n done : ℕ) → n ≡ done → is_full o n ≡ false → is_full o done ≡ false
-due_at o n done e f = ap (is_full o) (sym e) ∙ f

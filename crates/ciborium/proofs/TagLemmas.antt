@@ -45,14 +45,6 @@ pub free_depth : (n limit : ℕ) (x : List ℕ) → (n ≡ 2) ⊎ (n ≡ 3) → 
 free_depth n limit x (inl e) = subst (λ (z : ℕ). depth (tag z (bytes x)) ≤ limit) (sym e) (omega arith)
 free_depth n limit x (inr e) = subst (λ (z : ℕ). depth (tag z (bytes x)) ≤ limit) (sym e) (omega arith)
 
-pub tag_bytes : (n limit : ℕ) (o : Option ℕ) (h : Header) (v : Tree) (items x y : List ℕ) → (n ≡ 2) ⊎ (n ≡ 3) → h ≡ Bytes o → v ≡ bytes items → Title x h → StringBehind false o items y → TaggedBehind n limit v (x ++ y)
-tag_bytes n limit o h v items x y which is e t s = record {
-  tree = bytes items;
-  spells = (s.bodies, s.frame x (subst (λ (z : Header). Title x z) is t), s.is);
-  shallow = free_depth n limit items which;
-  means = ap Some (sym e);
-}
-
 known_as : {E : Type 0} (ends : E → Bool) (l : Option (List ℕ)) (o o' : ℕ) (D D' : ℕ → List ℕ → Fault → Type 0) (e : Error E)
     → ((stop : ℕ) (b : List ℕ) (f : Fault) → D stop b f → D' stop b f) → IfKnown l (λ b. FailsAt ends b o o' D e) → IfKnown l (λ b. FailsAt ends b o o' D' e)
 known_as ends None o o' D D' e step w = tt
@@ -66,12 +58,6 @@ plain_deep ends n limit (Some b) o p e = inr (inl (inl p, e, refl))
 pub plain_title : {E : Type 0} (ends : E → Bool) (n limit : ℕ) (l : Option (List ℕ)) (o o' : ℕ) (e : Error E) → (n ≢ 2) × (n ≢ 3) → 0 < limit → IfKnown l (λ b. FailsAt ends b o o' TitleDamage e) → IfKnown l (λ b. FailsAt ends b o o' (TagDamage n limit) e)
 plain_title ends n limit l o o' e p low w = known_as ends l o o' TitleDamage (TagDamage n limit) e (λ stop b f d. inr (inr (inl p, low, in_title b (limit - 1) f d))) w
 
-pub plain_item : {E : Type 0} (ends : E → Bool) (n limit at : ℕ) (h : Header) (l₀ l₁ : Option (List ℕ)) (o₀ o₁ o₂ : ℕ) (e : Error E) → (n ≢ 2) × (n ≢ 3) → 0 < limit → Moves l₀ l₁ o₀ o₁ (λ (b : List ℕ). Title b h) → at ≡ o₀
-    → FailsBehind ends h at o₁ l₁ o₂ (λ stop b f. Damage stop b (limit - 1) f) e → IfKnown l₀ (λ b. FailsAt ends b o₀ o₂ (TagDamage n limit) e)
-plain_item ends n limit at h l₀ l₁ o₀ o₁ o₂ e p low t same w =
-    known_as ends l₀ o₀ o₂ (Begun h (λ stop b f. Damage stop b (limit - 1) f)) (TagDamage n limit) e (λ stop b f d. inr (inr (inl p, low, d.1)))
-    (fails_begun ends l₀ l₁ o₀ o₁ o₂ h (λ stop b f. Damage stop b (limit - 1) f) e t (subst (λ (z : ℕ). FailsBehind ends h z o₁ l₁ o₂ (λ stop b f. Damage stop b (limit - 1) f) e) same w))
-
 -- a tag 2 or 3
 title_free : (n stop : ℕ) (b : List ℕ) (f : Fault) → (n ≡ 2) ⊎ (n ≡ 3) → TitleDamage stop b f → IsFree n b
 title_free n stop b end which d = (which, inr (inl d))
@@ -82,12 +68,11 @@ title_free n stop b (semantic k) which d = absurd d
 pub free_title : {E : Type 0} (ends : E → Bool) (n limit : ℕ) (l : Option (List ℕ)) (o o' : ℕ) (e : Error E) → (n ≡ 2) ⊎ (n ≡ 3) → IfKnown l (λ b. FailsAt ends b o o' TitleDamage e) → IfKnown l (λ b. FailsAt ends b o o' (TagDamage n limit) e)
 free_title ends n limit l o o' e which w = known_as ends l o o' TitleDamage (TagDamage n limit) e (λ stop b f d. inl (title_free n stop b f which d, in_title b limit f d)) w
 
-pub free_string : {E : Type 0} (ends : E → Bool) (n limit at : ℕ) (k : Option ℕ) (h : Header) (l₀ l₁ : Option (List ℕ)) (o₀ o₁ o₂ : ℕ) (e : Error E) → (n ≡ 2) ⊎ (n ≡ 3) → h ≡ Bytes k → Moves l₀ l₁ o₀ o₁ (λ (b : List ℕ). Title b h) → at ≡ o₀
-    → FailsBehind ends (string_head false k) at o₁ l₁ o₂ (StringDamage (string_head false) (IsBody false)) e → IfKnown l₀ (λ b. FailsAt ends b o₀ o₂ (TagDamage n limit) e)
-free_string ends n limit at k h l₀ l₁ o₀ o₁ o₂ e which is t same w =
-    known_as ends l₀ o₀ o₂ (Begun (Bytes k) (StringDamage (string_head false) (IsBody false))) (TagDamage n limit) e (λ stop b f d. inl ((which, inl (k, d.0.0, d.0.1)), in_bytes b limit f d.1))
-    (fails_begun ends l₀ l₁ o₀ o₁ o₂ (Bytes k) (StringDamage (string_head false) (IsBody false)) e (subst (λ (z : Header). Moves l₀ l₁ o₀ o₁ (λ (b : List ℕ). Title b z)) is t)
-    (subst (λ (z : ℕ). FailsBehind ends (Bytes k) z o₁ l₁ o₂ (StringDamage (string_head false) (IsBody false)) e) same w))
+pub free_item : {E : Type 0} (ends : E → Bool) (n limit at : ℕ) (k : Option ℕ) (h : Header) (l₀ l₁ : Option (List ℕ)) (o₀ o₁ o₂ : ℕ) (e : Error E) → (n ≡ 2) ⊎ (n ≡ 3) → h ≡ Bytes k → Moves l₀ l₁ o₀ o₁ (λ (b : List ℕ). Title b h) → at ≡ o₀
+    → FailsBehind ends h at o₁ l₁ o₂ (λ stop b f. Damage stop b limit f) e → IfKnown l₀ (λ b. FailsAt ends b o₀ o₂ (TagDamage n limit) e)
+free_item ends n limit at k h l₀ l₁ o₀ o₁ o₂ e which is t same w =
+    known_as ends l₀ o₀ o₂ (Begun h (λ stop b f. Damage stop b limit f)) (TagDamage n limit) e (λ stop b f d. inl ((which, inl (k, d.0.0, subst (λ (z : Header). Begins b z d.0.0) is d.0.1)), d.1))
+    (fails_begun ends l₀ l₁ o₀ o₁ o₂ h (λ stop b f. Damage stop b limit f) e t (subst (λ (z : ℕ). FailsBehind ends h z o₁ l₁ o₂ (λ stop b f. Damage stop b limit f) e) same w))
 
 opens_level : (n : ℕ) (h : Header) (b : List ℕ) → OpensOver n h → (rest : List ℕ) → Begins b h rest → IsLevel n b
 opens_level n h b (inl plain) rest s = inl plain
@@ -180,3 +165,13 @@ negative_fails ends n at limit c (Some b) (Some rest) o₀ o₁ (three, x, is, n
       too_negative (title ++ b) b t.bytes rest limit s.0 (record { title = title; is_title = subst (λ (z : ℕ). Title title (Tag z)) three u; whole = refl }) s.1 t.taken
           (subst (λ (z : List ℕ). fold_bytes 3 z ≡ None) s.2 none),
     )
+
+-- a bignum's tag over a byte string that was read
+pub tag_free : (n limit low : ℕ) (x : List ℕ) (c : Tree) (b : List ℕ) → (n ≡ 2) ⊎ (n ≡ 3) → c ≡ bytes x → Reads b low c → TaggedBehind n limit c b
+tag_free n limit low x c b which is r =
+    let e : r.tree ≡ bytes x = bytes_meant r.tree x (r.means ∙ ap Some is) in record {
+      tree = r.tree;
+      spells = r.spells;
+      shallow = subst (λ (z : Tree). depth (tag n z) ≤ limit) (sym e) (free_depth n limit x which);
+      means = r.means;
+    }

@@ -2,8 +2,10 @@ pub mod Building
 pub mod Damage
 pub mod Damaged
 pub mod Fitting
+pub mod Frames
 pub mod Front
 pub mod Items
+pub mod Levels
 pub mod Meaning
 pub mod Reading
 pub mod Spelling

@@ -6,6 +6,7 @@
 
 pub mod build;
 pub mod de;
+mod frames;
 pub mod laws;
 mod macros;
 mod reader;

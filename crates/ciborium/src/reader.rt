@@ -1,17 +1,17 @@
 //! Reads values.
-ghost use Rattle.std.specs.Prelude.{◌≡◌, ◌≢◌, ◌⊎◌, ℕ, None, Some, Option, false, length};
+ghost use Rattle.std.specs.Prelude.{◌≡◌, ◌≢◌, ◌⊎◌, ℕ, List, None, Some, Option, false};
 ghost use Rattle.std.specs.Prelude.{IfOk, IfErr, OnErr, IfSome, IfNone, MatchOption, MatchBool};
 ghost use Rattle.ciborium_ll.specs.Seen.{Takes};
 ghost use Rattle.ciborium_ll.specs.Title.{Title};
 ghost use Rattle.ciborium_ll.specs.Views.{offset_of, waiting_of, seen};
-ghost use Rattle.ciborium_ll.specs.declared.hdr.Header.TheVariants.{Bytes, Break, Array, Map};
+ghost use Rattle.ciborium_ll.specs.declared.hdr.Header.TheVariants.{Bytes, Break};
 ghost use Rattle.ciborium_value.specs.Folding.{tagged};
-ghost use Rattle.ciborium_value.specs.Tree.{flat};
-ghost use Rattle.ciborium_value.specs.View.{view, views, view_pairs};
+ghost use Rattle.ciborium_value.specs.Tree.{bytes};
+ghost use Rattle.ciborium_value.specs.View.{view};
 ghost use Rattle.ciborium.specs.Meaning.{simple_meaning};
 ghost use Rattle.ciborium.specs.Damage.{Damage, TitleDamage};
-ghost use Rattle.ciborium.specs.Reading.{NamesFault, NamesFaultBehind, Steady, ReadsBehind, ChildrenBehind, ChildDamage};
-ghost use Rattle.ciborium.specs.Reading.{TaggedBehind, TagDamage, is_full, IsLeaf, Closes, IsNext, OpensOver, IsFoldFault};
+ghost use Rattle.ciborium.specs.Reading.{NamesFault, NamesFaultBehind, Steady, ReadsBehind};
+ghost use Rattle.ciborium.specs.Reading.{TagDamage, is_full, IsLeaf, Closes, IsNext, OpensOver, IsFoldFault};
 
 use crate::de::Error;
 use crate::strings::{next_title, read_string, read_text};
@@ -37,8 +37,7 @@ fn simple_value(n: u8) -> Option<Value>
 }
 
 /// The item behind the title of `header`, which begins at the place `at`, where no items follow in it.
-#[inline(always)]
-fn read_leaf<R: Read>(
+pub fn read_leaf<R: Read>(
     alloc: Global,
     decoder: &mut Decoder<R>,
     header: Header,
@@ -50,6 +49,7 @@ fn read_leaf<R: Read>(
         (λ b. (limit : ℕ) → ReadsBehind header limit (view v) b)) }
     ensures err { IfErr result (λ e. (limit : ℕ) → NamesFaultBehind R.ends header at (λ stop b f. Damage stop b limit f)
         (seen R.Read decoder.old) (seen R.Read decoder.new) e) }
+    ensures bytes { IfOk result (λ v. (o : Option ℕ) → header ≡ Bytes o → (x : List ℕ) × (view v ≡ bytes x)) }
     ensures steady { Steady R.ends result (seen R.Read decoder.old) (seen R.Read decoder.new) }
 {
     match header {
@@ -76,7 +76,7 @@ fn read_leaf<R: Read>(
 }
 
 /// The value of a tag over its content: bignums are folded.
-fn folded<E>(alloc: Global, tag: u64, content: Value) -> Result<Value, Error<E>>
+pub fn folded<E>(alloc: Global, tag: u64, content: Value) -> Result<Value, Error<E>>
     ensures ok { IfOk result (λ v. tagged tag (view content) ≡ Some (view v)) }
     ensures err { IfErr result (IsFoldFault tag (view content)) }
 {
@@ -86,50 +86,6 @@ fn folded<E>(alloc: Global, tag: u64, content: Value) -> Result<Value, Error<E>>
     match folded {
         Some(v) => Ok(v),
         None => Err(Error::Semantic(None, Kind::BigNegative)),
-    }
-}
-
-/// The item behind the title of `header`, which begins at the place `at`. Room for so many items may be reserved before they come.
-#[cycle(reader)]
-#[inline(always)]
-pub fn read_item<R: Read>(
-    alloc: Global,
-    decoder: &mut Decoder<R>,
-    header: Header,
-    at: usize,
-    limit: usize,
-    room: usize,
-) -> Result<Value, Error<R::Error>>
-    requires fresh { waiting_of decoder.old ≡ None }
-    ensures ok { IfOk result (λ v. Takes (seen R.Read decoder.old) (seen R.Read decoder.new) (λ b. ReadsBehind header limit (view v) b)) }
-    ensures err { IfErr result (NamesFaultBehind R.ends header at (λ stop b f. Damage stop b limit f)
-        (seen R.Read decoder.old) (seen R.Read decoder.new)) }
-    ensures steady { Steady R.ends result (seen R.Read decoder.old) (seen R.Read decoder.new) }
-{
-    match header {
-        Header::Array(count) => {
-            if limit == 0 {
-                return Err(Error::RecursionLimitExceeded);
-            }
-            let items = read_items(alloc, decoder, count, limit - 1, room)?;
-            Ok(Value::Array(items))
-        }
-        Header::Map(count) => {
-            if limit == 0 {
-                return Err(Error::RecursionLimitExceeded);
-            }
-            let entries = read_pairs(alloc, decoder, count, limit - 1, room)?;
-            Ok(Value::Map(entries))
-        }
-        Header::Tag(n) => {
-            let content = read_tagged(alloc, decoder, n, limit, room)?;
-            let value = folded(alloc, n, content)?;
-            Ok(value)
-        }
-        _ => {
-            let value = read_leaf(alloc, decoder, header, at)?;
-            Ok(value)
-        }
     }
 }
 
@@ -146,26 +102,11 @@ fn all_read(count: Option<usize>, done: usize) -> bool
 fn closes(count: Option<usize>, header: Header) -> bool
     ensures { MatchBool result ((count ≡ None) × (header ≡ Break)) (count ≡ None → header ≢ Break) }
 {
-    match count {
-        Some(_) => false,
-        None => match header {
-            Header::Break => true,
-            Header::Positive(_) => false,
-            Header::Negative(_) => false,
-            Header::Float(_) => false,
-            Header::Simple(_) => false,
-            Header::Tag(_) => false,
-            Header::Bytes(_) => false,
-            Header::Text(_) => false,
-            Header::Array(_) => false,
-            Header::Map(_) => false,
-        },
-    }
+    count.is_none() && matches!(header, Header::Break)
 }
 
 /// The next title in an array or a map whose head has that length, and its place; none where all parts were read.
-#[inline(always)]
-fn next_part<R: Read>(
+pub fn next_part<R: Read>(
     decoder: &mut Decoder<R>,
     count: Option<usize>,
     done: usize,
@@ -190,7 +131,7 @@ fn next_part<R: Read>(
 }
 
 /// How many parts room is reserved for, of those that a head claims.
-fn reserved(count: Option<usize>, room: usize) -> usize {
+pub fn reserved(count: Option<usize>, room: usize) -> usize {
     match count {
         Some(n) => n.min(room),
         None => 0,
@@ -198,80 +139,8 @@ fn reserved(count: Option<usize>, room: usize) -> usize {
 }
 
 /// The room that is left where so many parts of that many items each are held and so many have come.
-fn room_left(room: usize, held: usize, come: usize, size: usize) -> usize {
+pub fn room_left(room: usize, held: usize, come: usize, size: usize) -> usize {
     room.saturating_sub(held.saturating_sub(come).saturating_mul(size))
-}
-
-/// The items of an array whose head has that length.
-#[cycle(reader)]
-#[inline(never)]
-fn read_items<R: Read>(
-    alloc: Global,
-    decoder: &mut Decoder<R>,
-    count: Option<usize>,
-    limit: usize,
-    room: usize,
-) -> Result<Vec<Value>, Error<R::Error>>
-    requires fresh { waiting_of decoder.old ≡ None }
-    ensures ok { IfOk result (λ items. Takes (seen R.Read decoder.old) (seen R.Read decoder.new)
-        (λ b. ChildrenBehind count (length items.items) limit (views items.items) b)) }
-    ensures err { IfErr result (NamesFault R.ends (ChildDamage (Array count) limit) (seen R.Read decoder.old) (seen R.Read decoder.new)) }
-    ensures steady { Steady R.ends result (seen R.Read decoder.old) (seen R.Read decoder.new) }
-{
-    let held = reserved(count, room / 2);
-    let Ok(mut items) = Vec::with_capacity(alloc, held) else {
-        return Err(Error::Memory);
-    };
-    'items: loop {
-        let part = next_part(decoder, count, items.len())?;
-        match part {
-            None => return Ok(items),
-            Some(title) => {
-                let left = room_left(room, held, items.len(), 1);
-                let item = read_item(alloc, decoder, title.1, title.0, limit, left)?;
-                let Ok(()) = items.push(item) else {
-                    return Err(Error::Memory);
-                };
-            }
-        }
-    }
-}
-
-/// The entries of a map whose head has that length. An entry takes the room of two items.
-#[cycle(reader)]
-#[inline(never)]
-fn read_pairs<R: Read>(
-    alloc: Global,
-    decoder: &mut Decoder<R>,
-    count: Option<usize>,
-    limit: usize,
-    room: usize,
-) -> Result<Vec<(Value, Value)>, Error<R::Error>>
-    requires fresh { waiting_of decoder.old ≡ None }
-    ensures ok { IfOk result (λ entries. Takes (seen R.Read decoder.old) (seen R.Read decoder.new)
-        (λ b. ChildrenBehind count (length entries.items) limit (flat (view_pairs entries.items)) b)) }
-    ensures err { IfErr result (NamesFault R.ends (ChildDamage (Map count) limit) (seen R.Read decoder.old) (seen R.Read decoder.new)) }
-    ensures steady { Steady R.ends result (seen R.Read decoder.old) (seen R.Read decoder.new) }
-{
-    let held = reserved(count, room / 4);
-    let Ok(mut entries) = Vec::with_capacity(alloc, held) else {
-        return Err(Error::Memory);
-    };
-    'entries: loop {
-        let part = next_part(decoder, count, entries.len())?;
-        match part {
-            None => return Ok(entries),
-            Some(title) => {
-                let left = room_left(room, held, entries.len(), 2);
-                let key = read_item(alloc, decoder, title.1, title.0, limit, left)?;
-                let (place, header) = next_title(decoder)?;
-                let value = read_item(alloc, decoder, header, place, limit, left)?;
-                let Ok(()) = entries.push((key, value)) else {
-                    return Err(Error::Memory);
-                };
-            }
-        }
-    }
 }
 
 /// Whether the tag is none of the bignums' (RFC 8949, section 3.4.3).
@@ -287,36 +156,29 @@ fn is_plain(tag: u64) -> bool
     true
 }
 
-/// The length of a byte string.
-fn byte_string(header: Header) -> Option<Option<usize>>
-    ensures { MatchOption result ((o : Option ℕ) → header ≢ Bytes o) (λ o. header ≡ Bytes o) }
+/// Whether the item of a title is a byte string.
+fn is_bytes(header: Header) -> bool
+    ensures { MatchBool result ((o : Option ℕ) × (header ≡ Bytes o)) ((o : Option ℕ) → header ≢ Bytes o) }
 {
-    match header {
-        Header::Bytes(length) => Some(length),
-        Header::Break => None,
-        Header::Positive(_) => None,
-        Header::Negative(_) => None,
-        Header::Float(_) => None,
-        Header::Simple(_) => None,
-        Header::Tag(_) => None,
-        Header::Text(_) => None,
-        Header::Array(_) => None,
-        Header::Map(_) => None,
-    }
+    matches!(header, Header::Bytes(_))
 }
 
-/// The length of the byte string that a bignum's tag stands over; none where the tag opens a level.
-fn bignum(tag: u64, header: Header) -> Option<Option<usize>>
-    ensures { MatchOption result (OpensOver tag header) (λ o. ((tag ≡ 2) ⊎ (tag ≡ 3)) × (header ≡ Bytes o)) }
+/// Whether the tag opens a level over an item of that title: all do, but those of bignums over a byte string.
+pub fn opens(tag: u64, header: Header) -> bool
+    ensures { MatchBool result (OpensOver tag header) (((tag ≡ 2) ⊎ (tag ≡ 3)) × ((o : Option ℕ) × (header ≡ Bytes o))) }
 {
-    if is_plain(tag) {
-        return None;
-    }
-    byte_string(header)
+    is_plain(tag) || !is_bytes(header)
+}
+
+/// Whether no items follow in the item of a title.
+pub fn is_leaf(header: Header) -> bool
+    ensures { MatchBool result (IsLeaf header) (IsLeaf header → ⊥) }
+{
+    !matches!(header, Header::Array(_) | Header::Map(_) | Header::Tag(_))
 }
 
 /// The title behind a tag, and its place. A tag that is none of the bignums' opens a level whatever follows it.
-fn tagged_title<R: Read>(
+pub fn tagged_title<R: Read>(
     decoder: &mut Decoder<R>,
     tag: u64,
     limit: usize,
@@ -336,35 +198,4 @@ fn tagged_title<R: Read>(
     }
     let title = next_title(decoder)?;
     Ok(title)
-}
-
-/// The item behind a tag.
-#[cycle(reader)]
-#[inline(never)]
-fn read_tagged<R: Read>(
-    alloc: Global,
-    decoder: &mut Decoder<R>,
-    tag: u64,
-    limit: usize,
-    room: usize,
-) -> Result<Value, Error<R::Error>>
-    requires fresh { waiting_of decoder.old ≡ None }
-    ensures ok { IfOk result (λ v. Takes (seen R.Read decoder.old) (seen R.Read decoder.new) (λ b. TaggedBehind tag limit (view v) b)) }
-    ensures err { IfErr result (NamesFault R.ends (TagDamage tag limit) (seen R.Read decoder.old) (seen R.Read decoder.new)) }
-    ensures steady { Steady R.ends result (seen R.Read decoder.old) (seen R.Read decoder.new) }
-{
-    let (at, header) = tagged_title(decoder, tag, limit)?;
-    match bignum(tag, header) {
-        Some(length) => {
-            let bytes = read_string(alloc, decoder, false, length, at)?;
-            Ok(Value::Bytes(bytes))
-        }
-        None => {
-            if limit == 0 {
-                return Err(Error::RecursionLimitExceeded);
-            }
-            let item = read_item(alloc, decoder, header, at, limit - 1, room)?;
-            Ok(item)
-        }
-    }
 }

@@ -26,17 +26,30 @@ tells_before ends left left' read read' P (Syntax p) short keeps same = absurd s
 tells_before ends left left' read read' P TooLong short keeps same = omega arith
 tells_before ends left left' read read' P Waiting short keeps same = absurd short
 
-pub title_taken : (left left₁ left₂ : Option (List ℕ)) (read read₁ read₂ first n : ℕ) (bytes : List ℕ) (h : Header)
+-- a title with no number
+pub open_taken : (left left₁ : Option (List ℕ)) (read read₁ first : ℕ) (bytes : List ℕ) (Q : List ℕ → Type 0)
+    → bytes ≡ first ∷ [] → Consumes left left₁ bytes → read₁ ≡ read + 1 → Q (first_byte (first / 32) (first % 32) ∷ []) → Moves left left₁ read read₁ Q
+open_taken left left₁ read read₁ first bytes Q one taken grown title =
+    let whole : first_byte (first / 32) (first % 32) ≡ first = omega arith in
+    record {
+      bytes = first ∷ [];
+      has = subst (λ (x : ℕ). Q (x ∷ [])) whole title;
+      taken = subst (λ (xs : List ℕ). Consumes left left₁ xs) one taken;
+      grown = grown;
+    }
+
+-- a title with a number
+pub title_taken : (left left₁ left₂ : Option (List ℕ)) (read read₁ read₂ first n : ℕ) (bytes : List ℕ) (Q : List ℕ → Type 0)
     → bytes ≡ first ∷ [] → Consumes left left₁ bytes → read₁ ≡ read + 1
     → Moves left₁ left₂ read₁ read₂ (λ bytes. NumberAt (first % 32) bytes n)
-    → ((bytes : List ℕ) → NumberAt (first % 32) bytes n → Title (first_byte (first / 32) (first % 32) ∷ bytes) h)
-    → Moves left left₂ read read₂ (λ b. Title b h)
-title_taken left left₁ left₂ read read₁ read₂ first n bytes h one taken grown number title =
+    → ((bytes : List ℕ) → NumberAt (first % 32) bytes n → Q (first_byte (first / 32) (first % 32) ∷ bytes))
+    → Moves left left₂ read read₂ Q
+title_taken left left₁ left₂ read read₁ read₂ first n bytes Q one taken grown number title =
     let whole : first_byte (first / 32) (first % 32) ≡ first = omega arith in
     let both : Consumes left left₂ (bytes ++ number.bytes) = Consumes-trans left left₁ left₂ bytes number.bytes taken number.taken in
     record {
       bytes = first ∷ number.bytes;
-      has = subst (λ (x : ℕ). Title (x ∷ number.bytes) h) whole (title number.bytes number.has);
+      has = subst (λ (x : ℕ). Q (x ∷ number.bytes)) whole (title number.bytes number.has);
       taken = subst (λ (xs : List ℕ). Consumes left left₂ (xs ++ number.bytes)) one both;
       grown = omega (arith, number.grown);
     }

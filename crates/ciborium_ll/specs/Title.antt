@@ -1,5 +1,5 @@
 -- Titles: the heads of CBOR items (RFC 8949, section 3; the two-byte simple values below 32 of section 3.3 count as titles here).
-use Rattle.std.specs.Prelude.{◌≡◌, ℕ, ◌+◌, ◌*◌, ◌^◌, ◌<◌, ◌≤◌, ◌%◌, ◌⊎◌, List, [], ◌∷◌, ◌++◌, length, Option, None, Some, if◌then◌else◌, nat_lt, nat_eq}
+use Rattle.std.specs.Prelude.{◌≡◌, ℕ, ◌+◌, ◌*◌, ◌^◌, ◌<◌, ◌≤◌, ◌%◌, ◌⊎◌, List, [], ◌∷◌, ◌++◌, length, Option, None, Some, if◌then◌else◌, nat_lt, nat_le, nat_eq, Bool, true, MatchBool, ◌||◌}
 use Rattle.std.specs.Int.{w16, w32, w64, to_be_bytes}
 use Rattle.ciborium_ll.specs.declared.hdr.Float.TheVariants.{Half, Single, Double}
 use Rattle.ciborium_ll.specs.declared.hdr.Header.{Header}
@@ -117,3 +117,16 @@ FitsHeader (Float (Half n)) = n < 2 ^ 16
 FitsHeader (Float (Single n)) = n < 2 ^ 32
 FitsHeader (Float (Double n)) = n < 2 ^ 64
 FitsHeader Break = Unit {0}
+
+-- the answer says whether b is the shortest title of h
+abbrev pub IsShortest : Bool → List ℕ → Header → Type 0
+IsShortest answer b h = MatchBool answer (b ≡ title_of h) (b ≡ title_of h → ⊥)
+
+-- whether the number n needs the width that additional information info gives it; under major type 7 the bits of a float always do
+unfoldable pub needs_width : ℕ → ℕ → ℕ → Bool
+needs_width major info n =
+    if nat_eq info 24 then nat_le 24 n else
+    if nat_eq info 25 then nat_le (2 ^ 8) n || nat_eq major 7 else
+    if nat_eq info 26 then nat_le (2 ^ 16) n || nat_eq major 7 else
+    if nat_eq info 27 then nat_le (2 ^ 32) n || nat_eq major 7 else
+    true

@@ -1,5 +1,5 @@
 -- What a clause sees of a decoder, an encoder and the devices.
-use Rattle.std.specs.Prelude.{ℕ, ◌-◌, List, Option, length, take}
+use Rattle.std.specs.Prelude.{ℕ, ◌-◌, ◌/◌, ◌%◌, List, Bool, Option, length, take}
 use denote.MutBor.{MutBor}
 use Rattle.ciborium_ll.specs.declared.hdr.Header.{Header}
 use Rattle.ciborium_ll.specs.declared.dec.Decoder.{Decoder}
@@ -7,6 +7,7 @@ use Rattle.ciborium_ll.specs.declared.enc.Encoder.{Encoder}
 use Rattle.ciborium_ll.specs.declared.mem.Mem.{Mem}
 use Rattle.ciborium_ll.specs.declared.adapters.Io.{Io}
 use Rattle.ciborium_ll.specs.Reading.{due, place}
+use Rattle.ciborium_ll.specs.Title.{needs_width}
 use Rattle.ciborium_ll.specs.declared.read.Read.{Ghosts}
 use Rattle.ciborium_ll.specs.Seen.{Seen}
 
@@ -35,6 +36,10 @@ offset_of d = place d.read d.waiting
 -- the header that waits
 abbrev pub waiting_of : {R : Type 0} → Decoder R → Option Header
 waiting_of d = d.waiting
+
+-- whether the title that was last read is the shortest of its header
+abbrev pub shortest_of : {R : Type 0} → Decoder R → Bool
+shortest_of d = needs_width (d.first / 32) (d.first % 32) d.number
 
 abbrev pub reader_of : {R : Type 0} → Decoder R → R
 reader_of d = d.reader

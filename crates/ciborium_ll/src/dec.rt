@@ -5,7 +5,7 @@ ghost use Rattle.std.specs.Io.KnownBytes.{Consumes, Keeps, prepend_known};
 ghost use Rattle.ciborium_ll.specs.Device.{IsShort};
 ghost use Rattle.ciborium_ll.specs.declared.hdr.Header.{Header};
 ghost use Rattle.ciborium_ll.specs.declared.hdr.Error.TheVariants.{TooLong, Waiting};
-ghost use Rattle.ciborium_ll.specs.Title.{Title, NumberAt, title_of, first_byte, bytes_after, IsBadFirst};
+ghost use Rattle.ciborium_ll.specs.Title.{Title, NumberAt, title_of, first_byte, bytes_after, IsBadFirst, IsShortest, needs_width};
 ghost use Rattle.ciborium_ll.specs.Reading.{Tells, RawFault, IfRefused, waiting_title, place};
 
 use crate::hdr::{Error, Float, Header};
@@ -20,28 +20,33 @@ pub struct Decoder<R> {
     reader: R,
     read: usize,
     waiting: Option<Header>,
+    first: u8,
+    number: u64,
     ghost within: { length (waiting_title waiting) ≤ read },
     ghost fits: { read < 2 ^ 64 },
 }
 
 impl<R> From<R> for Decoder<R> {
-    ghost use Rattle.std.specs.Prelude.{◌≡◌, None};
-    ghost use Rattle.ciborium_ll.specs.Views.{reader_of, offset_of, waiting_of};
+    ghost use Rattle.std.specs.Prelude.{◌≡◌, None, true};
+    ghost use Rattle.ciborium_ll.specs.Views.{reader_of, offset_of, waiting_of, shortest_of};
 
-    ghost from_gives = { λ reader d. (reader_of d ≡ reader) × (offset_of d ≡ 0) × (waiting_of d ≡ None) };
+    ghost from_gives = { λ reader d. (reader_of d ≡ reader) × (offset_of d ≡ 0) × (waiting_of d ≡ None)
+        × (shortest_of d ≡ true) };
 
     fn from(reader: R) -> Decoder<R> {
         Decoder {
             reader,
             read: 0,
             waiting: None,
+            first: 0,
+            number: 0,
         }
     }
 }
 
 impl<R: Read> Decoder<R> {
     ghost use Rattle.ciborium_ll.specs.Seen.{Takes, Steady, TitleTells, TitleStops, ReadTells};
-    ghost use Rattle.ciborium_ll.specs.Views.{left_of, offset_of, waiting_of, reader_of, seen, raw};
+    ghost use Rattle.ciborium_ll.specs.Views.{left_of, offset_of, waiting_of, shortest_of, reader_of, seen, raw};
 
     fn fill(&mut self, data: &mut [u8]) -> Result<(), Error<R::Error>>
         requires { self.old.waiting ≡ None }
@@ -57,6 +62,7 @@ impl<R: Read> Decoder<R> {
         ensures untouched { IfRefused result ((self.new ≡ self.old) × («data».new ≡ «data».old)) }
         ensures steady { Steady R.ends result (raw R.Read self.old) (raw R.Read self.new) }
         ensures fresh { self.new.waiting ≡ None }
+        ensures same { shortest_of self.new ≡ shortest_of self.old }
     {
         if usize::MAX - self.read < data.len() {
             return Err(Error::TooLong);
@@ -125,6 +131,10 @@ impl<R: Read> Decoder<R> {
         ensures fits { offset_of self.new < 2 ^ 64 }
         ensures steady { Steady R.ends result (seen R.Read self.old) (seen R.Read self.new) }
         ensures fresh { waiting_of self.new ≡ None }
+        ensures shortest { waiting_of self.old ≡ None
+            → IfOk result (λ h. Takes (seen R.Read self.old) (seen R.Read self.new)
+            (λ b. Title b h × IsShortest (shortest_of self.new) b h)) }
+        ensures same { waiting_of self.old ≢ None → shortest_of self.new ≡ shortest_of self.old }
     {
         if let Some(header) = self.waiting.take() {
             header_fits(header);
@@ -152,6 +162,7 @@ impl<R: Read> Decoder<R> {
         ensures untouched { IfRefused result ((self.new ≡ self.old) × («data».new ≡ «data».old)) }
         ensures fits { offset_of self.new < 2 ^ 64 }
         ensures steady { Steady R.ends result (seen R.Read self.old) (seen R.Read self.new) }
+        ensures same { shortest_of self.new ≡ shortest_of self.old }
     {
         if self.is_waiting() {
             return Err(Error::Waiting);
@@ -167,6 +178,7 @@ impl<R: Read> Decoder<R> {
         ensures reader { reader_of self.new ≡ reader_of self.old }
         ensures left { left_of R.left self.new ≡ prepend_known (title_of header) (left_of R.left self.old) }
         ensures offset { offset_of self.new + length (title_of header) ≡ offset_of self.old }
+        ensures same { shortest_of self.new ≡ shortest_of self.old }
     {
         self.waiting = Some(header);
     }
@@ -176,6 +188,23 @@ impl<R: Read> Decoder<R> {
         ensures { result ≡ is_some (waiting_of self.now) }
     {
         self.waiting.is_some()
+    }
+
+    /// Whether the title that `pull` last read is the one that `Encoder::push` writes for its header, the shortest (RFC 8949,
+    /// section 4.1). True before the first title.
+    ///
+    /// A header that is pushed back and pulled again changes nothing. After an error of `pull` the answer is open.
+    pub fn was_shortest(&self) -> bool
+        ensures { result ≡ shortest_of self.now }
+    {
+        let major = self.first / 32;
+        match self.first % 32 {
+            24 => self.number >= 24,
+            25 => self.number >= 256 || major == 7,
+            26 => self.number >= 65536 || major == 7,
+            27 => self.number >= 4294967296 || major == 7,
+            _ => true,
+        }
     }
 
     /// How many bytes were taken: the place of the next title.
@@ -196,6 +225,8 @@ impl<R: Read> Decoder<R> {
         ensures grows { self.old.read ≤ self.new.read }
         ensures steady { Steady R.ends result (raw R.Read self.old) (raw R.Read self.new) }
         ensures fresh { self.new.waiting ≡ None }
+        ensures shortest { IfOk result (λ h. Takes (raw R.Read self.old) (raw R.Read self.new)
+            (λ b. Title b h × IsShortest (shortest_of self.new) b h)) }
     {
         let start = self.read;
         let mut first = [0; 1];
@@ -204,12 +235,15 @@ impl<R: Read> Decoder<R> {
         let major = first / 32;
         let info = first % 32;
         if info > 27 {
+            self.first = first;
             return match without_number(major, info) {
                 Some(header) => Ok(header),
                 None => Err(Error::Syntax(start)),
             };
         }
         let n = self.number(info)?;
+        self.first = first;
+        self.number = n;
         Ok(with_number(major, info, n))
     }
 }
@@ -219,6 +253,7 @@ fn without_number(major: u8, info: u8) -> Option<Header>
     requires major { major < 8 }
     requires info { (28 ≤ info) × (info < 32) }
     ensures some { IfSome result (λ h. Title (first_byte major info ∷ []) h) }
+    ensures shortest { IfSome result (λ h. first_byte major info ∷ [] ≡ title_of h) }
     ensures none { IfNone result (IsBadFirst (first_byte major info)) }
 {
     if info < 31 {
@@ -239,7 +274,9 @@ fn with_number(major: u8, info: u8, n: u64) -> Header
     requires major { major < 8 }
     requires info { info < 28 }
     requires number { (bytes : List ℕ) × NumberAt info bytes n }
-    ensures { (bytes : List ℕ) → NumberAt info bytes n → Title (first_byte major info ∷ bytes) result }
+    ensures title { (bytes : List ℕ) → NumberAt info bytes n → Title (first_byte major info ∷ bytes) result }
+    ensures shortest { (bytes : List ℕ) → NumberAt info bytes n
+        → IsShortest (needs_width major info n) (first_byte major info ∷ bytes) result }
 {
     match major {
         0 => Header::Positive(n),

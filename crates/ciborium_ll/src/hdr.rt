@@ -1,6 +1,7 @@
 //! Heads of CBOR items.
-ghost use Rattle.std.specs.Prelude.{◌≡◌, ℕ, length};
+ghost use Rattle.std.specs.Prelude.{◌≡◌, ◌≢◌, ℕ, length, MatchBool, MatchOption};
 ghost use Rattle.ciborium_ll.specs.declared.hdr.Error.TheVariants.{Io};
+ghost use Rattle.ciborium_ll.specs.declared.hdr.Header.TheVariants.{Break, Tag};
 ghost use Rattle.ciborium_ll.specs.Title.{title_of, shortest, shortest_sized};
 
 use std::fmt::Display;
@@ -77,6 +78,23 @@ impl Header {
             Header::Float(Float::Single(_)) => 5,
             Header::Float(Float::Double(_)) => 9,
             Header::Break => 1,
+        }
+    }
+
+    /// Whether it ends an item of indefinite length.
+    pub fn is_break(self) -> bool
+        ensures { MatchBool result (self ≡ Break) (self ≢ Break) }
+    {
+        matches!(self, Header::Break)
+    }
+
+    /// The number of a tag; None for every other header.
+    pub fn as_tag(self) -> Option<u64>
+        ensures { MatchOption result ((n : ℕ) → self ≢ Tag n) (λ n. self ≡ Tag n) }
+    {
+        match self {
+            Header::Tag(n) => Some(n),
+            _ => None,
         }
     }
 }

@@ -11,7 +11,8 @@ use Rattle.ciborium.specs.Front.{Reads, ReadsAll}
 use Rattle.ciborium.specs.Reading.{ChildrenBehind}
 use Rattle.ciborium.proofs.Once.{append_nil}
 use Rattle.ciborium.proofs.Taking.{takes_then}
-use Rattle.ciborium.proofs.ReadLemmas.{snoc, all_none, all_more}
+use Rattle.ciborium.specs.Frames.{snoc}
+use Rattle.ciborium.proofs.ReadLemmas.{all_none, all_more}
 use Rattle.ciborium.proofs.ChildLemmas.{all_count, array_read}
 use Rattle.ciborium.proofs.TagLemmas.{tag_level, tag_read}
 use Rattle.coset_headers.specs.Fields.{HeaderFields, ProtectedFields}

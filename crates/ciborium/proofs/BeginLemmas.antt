@@ -1,0 +1,179 @@
+-- The item of a title is begun.
+use Rattle.std.proofs.Common.{◌≡◌, ◌≤◌, ◌<◌, ◌+◌, ◌-◌, ◌*◌, inl, inr, ℕ, Bool, true, false, List, [], ◌∷◌, ◌++◌, length, Option, None, Some, refl, sym, ap, subst, ◌∙◌, arith, length-append, reverse}
+use Rattle.std.proofs.lemmas.List.{length-reverse}
+use Rattle.ciborium_ll.specs.Reading.{Moves}
+use Rattle.ciborium_ll.specs.Seen.{Seen, Takes}
+use Rattle.ciborium_ll.specs.declared.hdr.Header.{Header}
+use Rattle.ciborium_ll.specs.declared.hdr.Header.TheVariants.{Tag, Bytes, Array, Map}
+use Rattle.ciborium_ll.specs.Title.{Title}
+use Rattle.ciborium_value.specs.declared.value.Value.{Value}
+use Rattle.ciborium_value.specs.Folding.{tagged}
+use Rattle.ciborium_value.specs.Tree.{Tree, Trees, bytes, no_trees, flat}
+use Rattle.ciborium_value.specs.View.{view, views, view_pairs}
+use Rattle.ciborium.specs.declared.de.Error.{Error}
+use Rattle.ciborium.specs.declared.frames.Items.{Items}
+use Rattle.ciborium.specs.declared.frames.Entries.{Entries}
+use Rattle.ciborium.specs.declared.frames.Frame.{Frame}
+use Rattle.ciborium.specs.declared.frames.Frame.TheVariants as code
+use Rattle.ciborium.specs.declared.frames.Opened.{Opened}
+use Rattle.ciborium.specs.declared.frames.Opened.TheVariants as opens
+use Rattle.ciborium.specs.Damage.{Fault, Damage}
+use Rattle.ciborium.specs.Levels.{Level, Fits, Within, Titled, Handing}
+use Rattle.ciborium.specs.Reading.{FailsAt, FailsBehind, NamesFaultBehind, IfKnown, IsLeaf, IsFoldFault, ReadsBehind, TaggedBehind, TagDamage}
+use Rattle.ciborium.specs.Frames.{halves, opened, Rooted, Stage, IsBegun, IsLow, IsTitle, Opening, Begins, BeginFails, in_hand, rank}
+use Rattle.ciborium.proofs.Once.{append_nil}
+use Rattle.ciborium.proofs.StringLemmas.{title_some}
+use Rattle.ciborium.proofs.Taking.{takes_as, takes_then}
+use Rattle.ciborium.proofs.TagLemmas.{tag_read, tag_level, tag_free, level_item, free_item, tag_fails}
+use Rattle.ciborium.proofs.ReaderLemmas.{fold_fails}
+use Rattle.ciborium.proofs.LevelLemmas.{titled_fails, titled_read, level_opened}
+use Rattle.ciborium.proofs.FrameLemmas.{last_pushed}
+
+-- as many levels are open as frames but the whole
+levels : (fs : List Frame) → Rooted fs → length (opened fs) + 1 ≡ length fs
+levels [] r = absurd r
+levels (code.Whole at h ∷ fs) r = let e : length (opened fs) ≡ 0 = ap (λ z. length (opened z)) r in let f : length fs ≡ 0 = ap length r in omega arith
+levels (code.Items l ∷ fs) r = let h = levels fs r in omega arith
+levels (code.Entries l ∷ fs) r = let h = levels fs r.1 in omega arith
+levels (code.Tag n at k ∷ fs) r = let h = levels fs r in omega arith
+
+-- what is left of the limit
+left_is : (limit left : ℕ) (x : Frame) (xs : List Frame) → left ≡ limit - length xs → Rooted (x ∷ reverse xs) → left ≡ limit - length (opened (x ∷ reverse xs))
+left_is limit left x xs e r = let h = levels (x ∷ reverse xs) r in let n = length-reverse xs in omega arith
+
+pub begin_fails : {E : Type 0} (ends : E → Bool) (limit left at : ℕ) (h : Header) (x : Frame) (xs : List Frame) (old new : Seen) (e : Error E) → left ≡ limit - length xs
+    → NamesFaultBehind ends h at (λ stop b f. Damage stop b left f) old new e → BeginFails ends limit (x ∷ reverse xs) h at old new e
+begin_fails ends limit left at h x xs old new e same w from b off r t =
+    titled_fails ends limit (opened (x ∷ reverse xs)) h from at old.offset new.offset old.left b e off t
+    (subst (λ (z : ℕ). FailsBehind ends h at old.offset old.left new.offset (λ stop b f. Damage stop b z f) e) (left_is limit left x xs same r) w)
+
+-- a level is opened
+array_fits : (o : Option ℕ) → Fits (Array o) no_trees
+array_fits (Some n) = omega arith
+array_fits None = tt
+
+map_fits : (o : Option ℕ) → Fits (Map o) no_trees
+map_fits (Some n) = omega arith
+map_fits None = tt
+
+within_as : (limit : ℕ) (h k : Header) (done : Trees) (fs : List Level) (b y : List ℕ) → h ≡ k → done ≡ no_trees → y ≡ [] → Within limit (record { head = h; done = no_trees } ∷ fs) b
+    → Within limit (record { head = k; done = done } ∷ fs) (b ++ y)
+within_as limit h k done fs b y same none e w =
+    subst (λ (z : List ℕ). Within limit (record { head = k; done = done } ∷ fs) z) (append_nil b ∙ ap (λ z. b ++ z) (sym e))
+    (subst (λ (z : Trees). Within limit (record { head = k; done = z } ∷ fs) b) (sym none) (subst (λ (z : Header). Within limit (record { head = z; done = no_trees } ∷ fs) b) same w))
+
+no_half : (h : Bool) (n : ℕ) → h ≡ false → h ≡ true → 0 < n
+no_half h n e f = let g : false ≡ true = sym e ∙ f in cc
+
+level_begins : (limit at now : ℕ) (h : Header) (f : Frame) (fs : List Frame) (y : List ℕ) → IsBegun f h now y → (from : ℕ) (b : List ℕ) → Rooted fs → length (opened fs) < limit → Titled limit (opened fs) h at from now b
+    → Stage limit (f ∷ fs) None from (now + length y) (b ++ y)
+level_begins limit at now h (code.Whole p k) fs y i from b r low t = absurd i
+level_begins limit at now h (code.Items l) fs y i from b r low t =
+    (r, within_as limit h (Array l.count) (views l.items.items) (opened fs) b y i.0 (ap views i.1) i.2 (level_opened limit (opened fs) h at from now b t low (subst (λ (z : Header). Fits z no_trees) (sym i.0) (array_fits l.count))))
+level_begins limit at now h (code.Entries l) fs y i from b r low t = (
+  (no_half l.half _ i.2, r),
+  within_as limit h (Map l.count) (halves l.half (flat (view_pairs l.entries.items))) (opened fs) b y i.0
+      (ap (λ z. halves z (flat (view_pairs l.entries.items))) i.2 ∙ ap (λ z. flat (view_pairs z)) i.1) i.3
+      (level_opened limit (opened fs) h at from now b t low (subst (λ (z : Header). Fits z no_trees) (sym i.0) (map_fits l.count))),
+)
+level_begins limit at now h (code.Tag n p k) fs y i from b r low t = (
+  r,
+  record {
+    before = b;
+    title = y;
+    within = subst (λ (z : Header). Within limit (record { head = z; done = no_trees } ∷ opened fs) b) i.0
+        (level_opened limit (opened fs) h at from now b t low (subst (λ (z : Header). Fits z no_trees) (sym i.0) refl));
+    child = i.1;
+    is_title = i.2;
+    place = λ q. ap (λ z. z + length y) i.3;
+    whole = refl;
+  },
+)
+
+pub level_begun : (limit left at now : ℕ) (h : Header) (f x : Frame) (xs ys : List Frame) (read : Option Value) (y : List ℕ) → left ≡ limit - length xs → ys ≡ xs ++ x ∷ [] → read ≡ None
+    → Opening h at now left (opens.Level f) y → Begins (x ∷ reverse xs) (f ∷ reverse ys) limit h at now read y
+level_begun limit left at now h f x xs ys read y same e none i from b r t =
+    let low : length (opened (x ∷ reverse xs)) < limit = omega (arith, i.0, left_is limit left x xs same r) in
+    subst (λ (z : Option Value). Stage limit (f ∷ reverse ys) z from (now + length y) (b ++ y)) (sym none)
+    (subst (λ (z : List Frame). Stage limit (f ∷ z) None from (now + length y) (b ++ y)) (sym (last_pushed xs ys x e)) (level_begins limit at now h f (x ∷ reverse xs) y i.1 from b r low t))
+
+pub level_rises : (h : Header) (at left : ℕ) (f x : Frame) (xs ys : List Frame) (read : Option Value) (l₀ l₁ : Option (List ℕ)) (o₀ o₁ : ℕ) → ys ≡ xs ++ x ∷ [] → read ≡ None → Moves l₀ l₁ o₀ o₁ (Opening h at o₀ left (opens.Level f))
+    → rank ys f read + 4 * o₀ ≤ 2 * length xs + 2 + 4 * o₁
+level_rises h at left f x xs ys read l₀ l₁ o₀ o₁ e none t = let s = hands f t.bytes t.has in omega (arith, ap length e, length-append xs (x ∷ []), t.grown)
+  where
+    hands : (f : Frame) (y : List ℕ) → Opening h at o₀ left (opens.Level f) y → in_hand read f ≤ 4 * length y
+    hands f y i = subst (λ (z : Option Value). in_hand z f ≤ 4 * length y) (sym none) (go f i)
+      where
+        go : (f : Frame) → Opening h at o₀ left (opens.Level f) y → in_hand None f ≤ 4 * length y
+        go (code.Whole p k) i = absurd i.1
+        go (code.Items l) i = omega arith
+        go (code.Entries l) i = omega arith
+        go (code.Tag n p k) i = let s = title_some y k i.1.2 in omega arith
+
+-- a leaf is read
+pub plain_leaf : (limit left at now place : ℕ) (h k : Header) (fs : List Frame) (v : Value) (read : Option Value) (x y : List ℕ) → read ≡ Some v → Opening h at now left (opens.Leaf None place k) x
+    → ((low : ℕ) → ReadsBehind k low (view v) y) → Begins fs fs limit h at now read (x ++ y)
+plain_leaf limit left at now place h k fs v read x y some (leaf, p) s from b r t =
+    let low = limit - length (opened fs) in
+    subst (λ (z : Option Value). Stage limit fs z from (now + length (x ++ y)) (b ++ (x ++ y))) (sym some) (
+      r,
+      titled_read limit (opened fs) h at from now b (x ++ y) (view v) t
+          (subst (λ (z : List ℕ). ReadsBehind h low (view v) (z ++ y)) (sym p.2) (subst (λ (z : Header). ReadsBehind z low (view v) y) p.0 (s low))),
+    )
+
+-- a leaf behind its tag
+pub leaf_tagged : (left at now place n : ℕ) (h k : Header) (c : Tree) (x y : List ℕ) → Opening h at now left (opens.Leaf (Some n) place k) x → ((o : Option ℕ) → k ≡ Bytes o → (z : List ℕ) × (c ≡ bytes z))
+    → ((low : ℕ) → ReadsBehind k low c y) → TaggedBehind n left c (x ++ y)
+leaf_tagged left at now place n h k c x y i string s = go i.1.1
+  where
+    go : IsLow left n k → TaggedBehind n left c (x ++ y)
+    go (inl (over, low)) = tag_level n left c (x ++ y) low (s (left - 1) x i.1.2)
+    go (inr (which, (o, is))) = let z = string o is in tag_free n left 0 z.0 c (x ++ y) which z.1 (s 0 x i.1.2)
+
+pub tagged_leaf : (limit left at now place n : ℕ) (h k : Header) (f : Frame) (xs : List Frame) (c v : Value) (read : Option Value) (x y : List ℕ) → left ≡ limit - length xs → read ≡ Some v
+    → Opening h at now left (opens.Leaf (Some n) place k) x → ((o : Option ℕ) → k ≡ Bytes o → (z : List ℕ) × (view c ≡ bytes z)) → tagged n (view c) ≡ Some (view v)
+    → ((low : ℕ) → ReadsBehind k low (view c) y) → Begins (f ∷ reverse xs) (f ∷ reverse xs) limit h at now read (x ++ y)
+tagged_leaf limit left at now place n h k f xs c v read x y same some i string e s from b r t =
+    let fs = f ∷ reverse xs in
+    let q : ReadsBehind (Tag n) left (view v) (x ++ y) = tag_read n left (view c) (view v) (x ++ y) (leaf_tagged left at now place n h k (view c) x y i string s) e in
+    subst (λ (z : Option Value). Stage limit fs z from (now + length (x ++ y)) (b ++ (x ++ y))) (sym some) (
+      r,
+      titled_read limit (opened fs) h at from now b (x ++ y) (view v) t
+          (subst (λ (z : ℕ). ReadsBehind h z (view v) (x ++ y)) (left_is limit left f xs same r) (subst (λ (z : Header). ReadsBehind z left (view v) (x ++ y)) (sym i.1.0) q)),
+    )
+
+-- no leaf is read
+unmoved : {E : Type 0} (ends : E → Bool) (h : Header) (at : ℕ) (l₀ l₁ : Option (List ℕ)) (o₀ o₁ o₂ : ℕ) (D : ℕ → List ℕ → Fault → Type 0) (e : Error E) → Moves l₀ l₁ o₀ o₁ (λ (y : List ℕ). y ≡ [])
+    → FailsBehind ends h at o₁ l₁ o₂ D e → FailsBehind ends h at o₀ l₀ o₂ D e
+unmoved ends h at None l₁ o₀ o₁ o₂ D e t w title u g = tt
+unmoved ends h at (Some b) None o₀ o₁ o₂ D e t w title u g = absurd t.taken
+unmoved ends h at (Some b) (Some rest) o₀ o₁ o₂ D e t w title u g =
+    let same : o₁ ≡ o₀ = omega (arith, t.grown, ap length t.has) in
+    let is : b ≡ rest = t.taken ∙ ap (λ z. z ++ rest) t.has in
+    subst (λ (z : List ℕ). FailsAt ends (title ++ z) at o₂ D e) (sym is) (w title u (g ∙ sym same))
+
+pub leaf_fails : {E : Type 0} (ends : E → Bool) (left at place : ℕ) (n : Option ℕ) (h k : Header) (old mid new : Seen) (e : Error E) → Takes old mid (Opening h at old.offset left (opens.Leaf n place k))
+    → ((low : ℕ) → NamesFaultBehind ends k place (λ stop b f. Damage stop b low f) mid new e) → NamesFaultBehind ends h at (λ stop b f. Damage stop b left f) old new e
+leaf_fails ends left at place None h k old mid new e t w =
+    let p = t.has.1 in
+    unmoved ends h at old.left mid.left old.offset mid.offset new.offset (λ stop b f. Damage stop b left f) e (takes_as _ _ _ _ (Opening h at old.offset left (opens.Leaf None place k)) (λ (y : List ℕ). y ≡ []) t (λ y q. q.1.2))
+    (subst (λ (z : Header). FailsBehind ends z at mid.offset mid.left new.offset (λ stop b f. Damage stop b left f) e) p.0
+    (subst (λ (z : ℕ). FailsBehind ends k z mid.offset mid.left new.offset (λ stop b f. Damage stop b left f) e) p.1 (w left)))
+leaf_fails ends left at place (Some n) h k old mid new e t w =
+    subst (λ (z : Header). FailsBehind ends z at old.offset old.left new.offset (λ stop b f. Damage stop b left f) e) (sym t.has.1.0)
+    (tag_fails ends n at left old.left old.offset new.offset e (go t.has.1.1))
+  where
+    titled : Moves old.left mid.left old.offset mid.offset (λ (b : List ℕ). Title b k)
+    titled = takes_as _ _ _ _ (Opening h at old.offset left (opens.Leaf (Some n) place k)) (λ (b : List ℕ). Title b k) t (λ y q. q.1.2)
+
+    go : IsLow left n k → IfKnown old.left (λ b. FailsAt ends b old.offset new.offset (TagDamage n left) e)
+    go (inl (over, low)) = level_item ends n left place k old.left mid.left old.offset mid.offset new.offset e over low titled t.has.1.3 (w (left - 1))
+    go (inr (which, (o, is))) = free_item ends n left place o k old.left mid.left old.offset mid.offset new.offset e which is titled t.has.1.3 (w left)
+
+pub leaf_folds : {E : Type 0} (ends : E → Bool) (left at place n : ℕ) (h k : Header) (c : Tree) (old mid new : Seen) (e : Error E) → Takes old mid (Opening h at old.offset left (opens.Leaf (Some n) place k))
+    → Takes mid new (λ b. (low : ℕ) → ReadsBehind k low c b) → ((o : Option ℕ) → k ≡ Bytes o → (z : List ℕ) × (c ≡ bytes z)) → IsFoldFault n c e → NamesFaultBehind ends h at (λ stop b f. Damage stop b left f) old new e
+leaf_folds ends left at place n h k c old mid new e t s string w =
+    subst (λ (z : Header). FailsBehind ends z at old.offset old.left new.offset (λ stop b f. Damage stop b left f) e) (sym t.has.1.0)
+    (fold_fails ends n at left c old.left new.left old.offset new.offset e w
+    (takes_then _ _ _ _ _ _ (Opening h at old.offset left (opens.Leaf (Some n) place k)) (λ b. (low : ℕ) → ReadsBehind k low c b) (λ b. TaggedBehind n left c b) t s
+    (λ x y i r. leaf_tagged left at old.offset place n h k c x y i string r)))

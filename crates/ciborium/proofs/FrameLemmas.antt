@@ -1,0 +1,255 @@
+-- What the steps of the reader do to its frames.
+use Rattle.std.proofs.Common.{◌≡◌, ◌≢◌, ◌≤◌, ◌<◌, ◌+◌, ◌-◌, ◌*◌, inl, inr, ℕ, Bool, true, false, List, [], ◌∷◌, ◌++◌, length, Option, None, Some, zero, suc, get_or, set, refl, sym, ap, subst, ◌∙◌, arith, append_assoc, length-append, reverse}
+use Rattle.std.proofs.lemmas.List.{reverse-append}
+use Rattle.ciborium_ll.specs.declared.hdr.Header.{Header}
+use Rattle.ciborium_ll.specs.declared.hdr.Header.TheVariants.{Tag, Array, Map, Break}
+use Rattle.ciborium_ll.specs.Seen.{Seen, Takes}
+use Rattle.ciborium_ll.specs.Title.{Title}
+use Rattle.ciborium_value.specs.declared.value.Value.TheVariants as value
+use Rattle.ciborium_value.proofs.Views.{view_array, view_map}
+use Rattle.ciborium.specs.Front.{ReadsAll}
+use Rattle.ciborium.proofs.ReaderLemmas.{closed}
+use Rattle.std.specs.Prelude.{IfSome}
+use Rattle.ciborium.proofs.Taking.{takes_as}
+use Rattle.ciborium.proofs.Once.{append_nil}
+use Rattle.ciborium.proofs.ChildLemmas.{array_read, map_read, array_due, title_no_break, not_all}
+use Rattle.ciborium_value.specs.declared.kind.Kind.TheVariants as kind
+use Rattle.ciborium_value.specs.declared.value.Value.{Value}
+use Rattle.ciborium_value.specs.Folding.{tagged}
+use Rattle.ciborium_value.specs.Tree.{Tree, Trees, no_trees, one_more, flat, tree_count}
+use Rattle.ciborium_value.specs.View.{view, views, view_pair, view_pairs}
+use Rattle.ciborium.specs.declared.de.Error.{Error}
+use Rattle.ciborium.specs.declared.de.Error.TheVariants as error
+use Rattle.ciborium.specs.declared.frames.Frame.{Frame}
+use Rattle.ciborium.specs.declared.frames.Frame.TheVariants as code
+use Rattle.ciborium.specs.declared.frames.Items.{Items}
+use Rattle.ciborium.specs.declared.frames.Entries.{Entries}
+use Rattle.ciborium.specs.declared.frames.Handed.TheVariants as handed
+use Rattle.ciborium.specs.Damage.{Fault, semantic, Damage, in_title, TitleDamage, Due}
+use Rattle.ciborium.specs.Levels.{Fits, Stands, Handing, Titled}
+use Rattle.ciborium.specs.Reading.{IsFoldFault, FailsAt, IfKnown, Closes, IsNext, NamesFault, FitsIn, is_full, fault_failures}
+use Rattle.ciborium.proofs.StringLemmas.{title_some}
+use Rattle.ciborium.specs.Frames.{in_hand, snoc, front, halves, halves_of, HasHalf, put_level, opened, Rooted, Asks, Stage, Hands, HandFails, Faults, ClosedStage, IsClosed, AskEnds, AskGives, AskFails}
+use Rattle.ciborium.proofs.ReadLemmas.{snoc_count, pushed, pushed_pair, count_views, count_flat}
+use Rattle.ciborium.proofs.LevelLemmas.{all_whole, level_more, level_whole, due_fails, tag_whole, negative_damage, array_more, map_more}
+
+-- the frame that was pushed last is the innermost
+pub last_pushed : {A : Type 0} (xs ys : List A) (x : A) → ys ≡ xs ++ x ∷ [] → reverse ys ≡ x ∷ reverse xs
+last_pushed xs ys x e = ap reverse e ∙ reverse-append xs (x ∷ [])
+
+-- an array and a map with one item more
+pub items_more : (fs : List Frame) (l m : Items) (v : Value) → m.count ≡ l.count → m.items.items ≡ l.items.items ++ v ∷ [] → Hands (code.Items l ∷ fs) (code.Items m ∷ fs) (Some v) None handed.Taken
+items_more fs l m v same e limit from now b (r, p) =
+    let more : views m.items.items ≡ snoc (views l.items.items) (view v) = sym (pushed view l.items.items m.items.items v e) in
+    let count : tree_count (views m.items.items) ≡ tree_count (views l.items.items) + 1 = ap tree_count more ∙ snoc_count (views l.items.items) (view v) in
+    (refl, (r, level_more limit _ _ (opened fs) (view v) b (ap Array same) more (subst (λ (z : Option ℕ). Fits (Array z) (views m.items.items)) (sym same) (array_more l.count (views l.items.items) (views m.items.items) p.head count p.child)) p))
+
+pub entries_more : (fs : List Frame) (l m : Entries) (v : Value) → m.count ≡ l.count → HasHalf m → halves_of m ≡ snoc (halves_of l) (view v)
+    → Hands (code.Entries l ∷ fs) (code.Entries m ∷ fs) (Some v) None handed.Taken
+entries_more fs l m v same half more limit from now b (r, p) =
+    let count : tree_count (halves_of m) ≡ tree_count (halves_of l) + 1 = ap tree_count more ∙ snoc_count (halves_of l) (view v) in
+    let w = level_more limit _ _ (opened fs) (view v) b (ap Map same) more
+        (subst (λ (z : Option ℕ). Fits (Map z) (halves_of m)) (sym same) (map_more l.count (halves_of l) (halves_of m) p.head count p.child)) p in
+    (refl, ((half, r.1), w))
+
+-- a tag is whole
+pub tag_up : (xs ys : List Frame) (x : Frame) (n at : ℕ) (h : Header) (v w : Value) → ys ≡ xs ++ x ∷ [] → tagged n (view v) ≡ Some (view w)
+    → Hands (code.Tag n at h ∷ reverse ys) (x ∷ reverse xs) (Some v) (Some w) handed.Up
+tag_up xs ys x n at h v w e f limit from now b (r, p) =
+    subst (λ (z : List Frame). Stage limit z (Some w) from now b) (last_pushed xs ys x e) (r, tag_whole limit n _ (opened (reverse ys)) (view v) (view w) b refl refl p f)
+
+-- a number that does not fold
+faults_semantic : {E : Type 0} (ends : E → Bool) (limit from : ℕ) (b : List ℕ) (left : Option (List ℕ)) (place : ℕ) → ((stop : ℕ) (rest : List ℕ) → Damage stop (b ++ rest) limit (semantic kind.BigNegative))
+    → Faults {E = E} ends limit from b left place (error.Semantic None kind.BigNegative)
+faults_semantic ends limit from b None place d = tt
+faults_semantic ends limit from b (Some rest) place d = (refl, d (from + length (b ++ rest)) rest)
+
+faults_memory : {E : Type 0} (ends : E → Bool) (limit from : ℕ) (b : List ℕ) (left : Option (List ℕ)) (place : ℕ) → Faults {E = E} ends limit from b left place error.Memory
+faults_memory ends limit from b None place = tt
+faults_memory ends limit from b (Some rest) place = tt
+
+pub tag_folds : {E : Type 0} (fs : List Frame) (n at : ℕ) (h : Header) (v : Value) (e : Error E) → IsFoldFault n (view v) e → HandFails (code.Tag n at h ∷ fs) (Some v) e
+tag_folds fs n at h v (error.Io e) w ends limit from b left now same s = absurd w
+tag_folds fs n at h v (error.Syntax p) w ends limit from b left now same s = absurd w
+tag_folds fs n at h v (error.Semantic o k) w ends limit from b left now same s =
+    subst (λ z. Faults ends limit from b left now (error.Semantic z k)) (sym w.0)
+    (subst (λ z. Faults ends limit from b left now (error.Semantic None z)) (sym w.1)
+    (faults_semantic ends limit from b left now (λ stop rest. negative_damage limit n _ (opened fs) (view v) b rest stop refl refl s.1 w.2)))
+tag_folds fs n at h v error.RecursionLimitExceeded w ends limit from b left now same s = absurd w
+tag_folds fs n at h v error.Memory w ends limit from b left now same s = faults_memory ends limit from b left now
+tag_folds fs n at h v error.TooLong w ends limit from b left now same s = absurd w
+
+-- the whole is done
+pub whole_done : (fs : List Frame) (at : ℕ) (h : Header) (v : Value) → Hands (code.Whole at h ∷ fs) (code.Whole at h ∷ fs) (Some v) (Some v) handed.Done
+whole_done fs at h v limit from now b (r, p) =
+    (v, refl, all_whole limit (view v) b (subst (λ (z : List Frame). Handing limit (opened z) (view v) b) r p))
+
+-- a key, and then its value
+front_snoc : (ts : Trees) (t : Tree) → front (snoc ts t) ≡ ts
+front_snoc no_trees t = refl
+front_snoc (one_more u no_trees) t = refl
+front_snoc (one_more u (one_more w ws)) t = ap (one_more u) (front_snoc (one_more w ws) t)
+
+pub key_more : (es fs : List (Value × Value)) (before : Bool) (k v : Value) → before ≡ false → fs ≡ es ++ (k, v) ∷ [] → front (flat (view_pairs fs)) ≡ snoc (halves before (flat (view_pairs es))) (view k)
+key_more es fs before k v none e =
+    ap front (sym (pushed_pair view_pair es fs (k, v) e)) ∙ front_snoc (snoc (flat (view_pairs es)) (view k)) (view v) ∙ ap (λ z. snoc (halves z (flat (view_pairs es))) (view k)) (sym none)
+
+value_set : (es : List (Value × Value)) (n : ℕ) (p : Value × Value) (v : Value) → n + 1 ≡ length es → p ≡ get_or es n p → flat (view_pairs (set es n (p.0, v))) ≡ snoc (front (flat (view_pairs es))) (view v)
+value_set [] n p v e is = absurd (omega arith)
+value_set (d ∷ []) zero p v e is = ap (λ z. one_more (view z.0) (one_more (view v) no_trees)) is
+value_set (d ∷ []) (suc n) p v e is = absurd (omega arith)
+value_set (d ∷ f ∷ es) zero p v e is = absurd (omega arith)
+value_set (d ∷ f ∷ es) (suc n) p v e is = ap (λ z. one_more (view d.0) (one_more (view d.1) z)) (value_set (f ∷ es) n p v (omega arith) is)
+
+pub value_more : (es : List (Value × Value)) (before : Bool) (n : ℕ) (p : Value × Value) (v : Value) → before ≡ true → n + 1 ≡ length es → p ≡ get_or es n p
+    → flat (view_pairs (set es n (p.0, v))) ≡ snoc (halves before (flat (view_pairs es))) (view v)
+value_more es before n p v some e is = value_set es n p v e is ∙ ap (λ z. snoc (halves z (flat (view_pairs es))) (view v)) (sym some)
+
+-- half an entry is one item less
+front_count : (ts : Trees) → 0 < tree_count ts → tree_count (front ts) + 1 ≡ tree_count ts
+front_count no_trees some = absurd (omega arith)
+front_count (one_more t no_trees) some = refl
+front_count (one_more t (one_more u us)) some = let h = front_count (one_more u us) (omega arith) in omega arith
+
+half_count : (es : List (Value × Value)) → 0 < length es → tree_count (front (flat (view_pairs es))) + 1 ≡ 2 * length es
+half_count es some = let c = count_flat view_pair es in front_count (flat (view_pairs es)) (omega arith) ∙ c
+
+-- an array and a map are closed
+pub array_closed : (xs ys : List Frame) (x : Frame) (l : Items) → ys ≡ xs ++ x ∷ [] → (limit from now : ℕ) (b : List ℕ) → ClosedStage limit (code.Items l ∷ reverse ys) b
+    → Stage limit (x ∷ reverse xs) (Some (value.Array l.items)) from now b
+array_closed xs ys x l e limit from now b (p, y, r, w, ends, whole) =
+    let low : 0 < limit - length (opened (reverse ys)) = omega (arith, w.4) in
+    subst (λ (z : List Frame). Stage limit z (Some (value.Array l.items)) from now b) (last_pushed xs ys x e) (
+      r,
+      subst (λ (z : List ℕ). Handing limit (opened (reverse ys)) (view (value.Array l.items)) z) (sym whole)
+          (level_whole limit _ (opened (reverse ys)) (view (value.Array l.items)) p y w
+          (λ inner q. array_read l.count (length l.items.items) (limit - length (opened (reverse ys))) (view (value.Array l.items)) (views l.items.items) (inner ++ y) (view_array l.items) (count_views view l.items.items) low
+          (closed l.count (length l.items.items) (limit - length (opened (reverse ys)) - 1) (views l.items.items) inner y q ends))),
+    )
+
+pub map_closed : (xs ys : List Frame) (x : Frame) (l : Entries) → ys ≡ xs ++ x ∷ [] → (limit from now : ℕ) (b : List ℕ) → ClosedStage limit (code.Entries l ∷ reverse ys) b
+    → Stage limit (x ∷ reverse xs) (Some (value.Map l.entries)) from now b
+map_closed xs ys x l e limit from now b (p, y, r, w, ends, whole) =
+    let low : 0 < limit - length (opened (reverse ys)) = omega (arith, w.4) in
+    subst (λ (z : List Frame). Stage limit z (Some (value.Map l.entries)) from now b) (last_pushed xs ys x e) (
+      r.1,
+      subst (λ (z : List ℕ). Handing limit (opened (reverse ys)) (view (value.Map l.entries)) z) (sym whole)
+          (level_whole limit _ (opened (reverse ys)) (view (value.Map l.entries)) p y w
+          (λ inner q. map_read l.count (length l.entries.items) (limit - length (opened (reverse ys))) (view (value.Map l.entries)) (view_pairs l.entries.items) (inner ++ y) (view_map l.entries) (count_flat view_pair l.entries.items) low
+          (closed l.count (length l.entries.items) (limit - length (opened (reverse ys)) - 1) (flat (view_pairs l.entries.items)) inner y
+          (subst (λ (z : Bool). ReadsAll inner (limit - length (opened (reverse ys)) - 1) (halves z (flat (view_pairs l.entries.items)))) ends.0 q) ends.1))),
+    )
+
+-- the whole and a tag are not closed, and no level stands alone
+pub not_alone : (f : Frame) (fs : List Frame) → fs ≡ [] → IsClosed (f ∷ reverse fs) → ⊥
+not_alone f fs e c = go f (subst (λ (z : List Frame). IsClosed (f ∷ reverse z)) e c)
+  where
+    go : (f : Frame) → IsClosed (f ∷ []) → ⊥
+    go (code.Whole at h) (limit, b, c) = c.4
+    go (code.Items l) (limit, b, c) = c.2
+    go (code.Entries l) (limit, b, c) = c.2.1
+    go (code.Tag n at h) (limit, b, c) = c.4
+
+pub whole_stays : (at : ℕ) (h : Header) (fs : List Frame) → IsClosed (code.Whole at h ∷ fs) → ⊥
+whole_stays at h fs (limit, b, c) = c.4
+
+pub tag_stays : (n at : ℕ) (h : Header) (fs : List Frame) → IsClosed (code.Tag n at h ∷ fs) → ⊥
+tag_stays n at h fs (limit, b, c) = c.4
+
+-- what an array is asked
+pub items_end : (l : Items) (n : ℕ) (y : List ℕ) → n ≡ length l.items.items → Closes l.count n y → AskEnds (code.Items l) y
+items_end l n y same c limit from now fs b (r, w) = (b, y, r, w, subst (λ (z : ℕ). Closes l.count z y) same c, refl)
+
+array_stands : (o : Option ℕ) (done : Trees) (d : ℕ) (h : Header) → tree_count done ≡ d → Fits (Array o) done → is_full o d ≡ false → (o ≡ None → h ≢ Break) → Stands (Array o) (tree_count done) h
+array_stands (Some n) done d h c fits full stays = let l = not_all n d full (omega arith) in omega arith
+array_stands None done d h c fits full stays = stays refl
+
+pub items_give : (l : Items) (n at now : ℕ) (h : Header) (y : List ℕ) → n ≡ length l.items.items → at ≡ now → IsNext l.count n h → Title y h → AskGives (code.Items l) h at now y
+items_give l n at now h y same e next t limit from fs b (r, w) = (
+  r,
+  record {
+    before = b;
+    title = y;
+    within = w;
+    child = array_stands l.count (views l.items.items) n h (count_views view l.items.items ∙ sym same) w.5.fits next.due next.stays;
+    is_title = t;
+    place = λ q. ap (λ z. z + length y) e;
+    whole = refl;
+  },
+)
+
+fits_in : (o : Option ℕ) (done : Trees) (d : ℕ) → tree_count done ≡ d → Fits (Array o) done → FitsIn o d
+fits_in (Some n) done d c fits = omega arith
+fits_in None done d c fits = tt
+
+pub items_fail : {E : Type 0} (ends : E → Bool) (l : Items) (n : ℕ) (old new : Seen) (e : Error E) → n ≡ length l.items.items → is_full l.count n ≡ false → NamesFault ends TitleDamage old new e → AskFails ends (code.Items l) old new e
+items_fail ends l n old new e same full names limit from fs b off (r, w) =
+    let count = count_views view l.items.items ∙ sym same in
+    due_fails ends limit (opened (code.Items l ∷ fs)) from old.offset new.offset old.left b TitleDamage e off w
+    (λ stop rest f d. (array_due l.count (views l.items.items) n rest count (fits_in l.count (views l.items.items) n count w.5.fits) full (λ none. title_no_break stop rest f d), in_title rest _ f d)) names
+
+-- what a map is asked
+pub entries_end : (l : Entries) (y : List ℕ) → l.half ≡ false → Closes l.count (length l.entries.items) y → AskEnds (code.Entries l) y
+entries_end l y nil c limit from now fs b (r, w) = (b, y, r, w, (nil, c), refl)
+
+map_stands : (o : Option ℕ) (es : List (Value × Value)) (half : Bool) (h : Header) → Fits (Map o) (halves half (flat (view_pairs es))) → (half ≡ true → 0 < length es) → (half ≡ false → IsNext o (length es) h)
+    → Stands (Map o) (tree_count (halves half (flat (view_pairs es)))) h
+map_stands (Some n) es false h fits some next = let c = count_flat view_pair es in let i = next refl in let l = not_all n (length es) i.due (omega arith) in omega arith
+map_stands (Some n) es true h fits some next = let c = half_count es (some refl) in omega arith
+map_stands None es false h fits some next = let i = next refl in inr (i.stays refl)
+map_stands None es true h fits some next = let c = half_count es (some refl) in inl (omega arith)
+
+map_is_due : (o : Option ℕ) (es : List (Value × Value)) (half : Bool) (rest : List ℕ) → Fits (Map o) (halves half (flat (view_pairs es))) → (half ≡ true → 0 < length es) → (half ≡ false → is_full o (length es) ≡ false)
+    → ((r : List ℕ) → rest ≢ 255 ∷ r) → Due (Map o) (tree_count (halves half (flat (view_pairs es)))) rest
+map_is_due (Some n) es false rest fits some full stays = let c = count_flat view_pair es in let i = full refl in let l = not_all n (length es) i (omega arith) in omega arith
+map_is_due (Some n) es true rest fits some full stays = let c = half_count es (some refl) in omega arith
+map_is_due None es false rest fits some full stays = inr stays
+map_is_due None es true rest fits some full stays = let c = half_count es (some refl) in inl (omega arith)
+
+pub entries_give : (l : Entries) (at now : ℕ) (h : Header) (y : List ℕ) → at ≡ now → (l.half ≡ false → IsNext l.count (length l.entries.items) h) → Title y h → AskGives (code.Entries l) h at now y
+entries_give l at now h y e next t limit from fs b (r, w) = (
+  r,
+  record {
+    before = b;
+    title = y;
+    within = w;
+    child = map_stands l.count l.entries.items l.half h w.5.fits r.0 next;
+    is_title = t;
+    place = λ q. ap (λ z. z + length y) e;
+    whole = refl;
+  },
+)
+
+pub entries_fail : {E : Type 0} (ends : E → Bool) (l : Entries) (old new : Seen) (e : Error E) → (l.half ≡ false → is_full l.count (length l.entries.items) ≡ false) → NamesFault ends TitleDamage old new e → AskFails ends (code.Entries l) old new e
+entries_fail ends l old new e full names limit from fs b off (r, w) =
+    due_fails ends limit (opened (code.Entries l ∷ fs)) from old.offset new.offset old.left b TitleDamage e off w
+    (λ stop rest f d. (map_is_due l.count l.entries.items l.half rest w.5.fits r.0 full (title_no_break stop rest f d), in_title rest _ f d)) names
+
+pub items_part : (l : Items) (n : ℕ) (o : Option (ℕ × Header)) (old new : Seen) → n ≡ length l.items.items → IfSome o (λ r. Takes old new (λ b. Title b r.1)) → IfSome o (λ r. r.0 ≡ old.offset)
+    → IfSome o (λ r. IsNext l.count n r.1) → IfSome o (λ r. Takes old new (AskGives (code.Items l) r.1 r.0 old.offset))
+items_part l n None old new same t at next = tt
+items_part l n (Some r) old new same t at next = takes_as _ _ _ _ (λ b. Title b r.1) (AskGives (code.Items l) r.1 r.0 old.offset) t (λ y u. items_give l n r.0 old.offset r.1 y same at next u)
+
+pub entries_part : (l : Entries) (o : Option (ℕ × Header)) (old new : Seen) → IfSome o (λ r. Takes old new (λ b. Title b r.1)) → IfSome o (λ r. r.0 ≡ old.offset)
+    → IfSome o (λ r. l.half ≡ false → IsNext l.count (length l.entries.items) r.1) → IfSome o (λ r. Takes old new (AskGives (code.Entries l) r.1 r.0 old.offset))
+entries_part l None old new t at next = tt
+entries_part l (Some r) old new t at next = takes_as _ _ _ _ (λ b. Title b r.1) (AskGives (code.Entries l) r.1 r.0 old.offset) t (λ y u. entries_give l r.0 old.offset r.1 y at next u)
+
+pub fold_quiet : {E : Type 0} (n : ℕ) (t : Tree) (e : Error E) → IsFoldFault n t e → (ends : E → Bool) (m : ℕ) → fault_failures ends e m ≡ m
+fold_quiet n t (error.Io e) w ends m = absurd w
+fold_quiet n t (error.Syntax p) w ends m = absurd w
+fold_quiet n t (error.Semantic o k) w ends m = refl
+fold_quiet n t error.RecursionLimitExceeded w ends m = absurd w
+fold_quiet n t error.Memory w ends m = refl
+fold_quiet n t error.TooLong w ends m = absurd w
+
+-- a tag whose title in hand is not begun
+pub tag_gives : (n : ℕ) (h : Header) (at now : ℕ) → AskGives (code.Tag n at h) h at now []
+tag_gives n h at now limit from fs b (r, w) =
+    let z : now ≡ now + length {A = ℕ} [] = omega arith in
+    (r, subst (λ (x : List ℕ). Titled limit (opened (code.Tag n at h ∷ fs)) h at from (now + length {A = ℕ} []) x) (append_nil b) (subst (λ (x : ℕ). Titled limit (opened (code.Tag n at h ∷ fs)) h at from x b) z w))
+
+-- a title that was taken moves the place
+pub part_moves : (top : Frame) (o : Option (ℕ × Header)) (old new : Seen) → IfSome o (λ r. Takes old new (λ b. Title b r.1)) → IfSome o (λ r. old.offset + 1 ≤ new.offset + in_hand None top)
+part_moves top None old new t = tt
+part_moves top (Some r) old new t = omega (arith, t.grown, title_some t.bytes r.1 t.has)

@@ -1,0 +1,171 @@
+-- The frames of the reader, and what they stand for.
+use Rattle.std.specs.Prelude.{◌≡◌, ◌<◌, ◌≤◌, ◌⊎◌, ℕ, ◌+◌, ◌-◌, ◌*◌, List, [], ◌∷◌, ◌++◌, length, reverse, Bool, true, false, Option, Some, None}
+use Rattle.ciborium_ll.specs.Seen.{Seen}
+use Rattle.ciborium_ll.specs.declared.hdr.Header.{Header}
+use Rattle.ciborium_ll.specs.declared.hdr.Header.TheVariants.{Tag, Bytes, Array, Map}
+use Rattle.ciborium_ll.specs.Title.{Title}
+use Rattle.ciborium_value.specs.declared.value.Value.{Value}
+use Rattle.ciborium_value.specs.Tree.{Tree, Trees, no_trees, one_more, flat}
+use Rattle.ciborium_value.specs.View.{view, views, view_pairs}
+use Rattle.ciborium.specs.declared.de.Error.{Error}
+use Rattle.ciborium.specs.declared.frames.Entries.{Entries}
+use Rattle.ciborium.specs.declared.frames.Frame.{Frame}
+use Rattle.ciborium.specs.declared.frames.Frame.TheVariants as code
+use Rattle.ciborium.specs.declared.frames.Handed.{Handed}
+use Rattle.ciborium.specs.declared.frames.Handed.TheVariants as handed
+use Rattle.ciborium.specs.declared.frames.Opened.{Opened}
+use Rattle.ciborium.specs.declared.frames.Opened.TheVariants as opens
+use Rattle.ciborium.specs.Damage.{Damage}
+use Rattle.ciborium.specs.Front.{Reads}
+use Rattle.ciborium.specs.Reading.{IfKnown, FailsAt, Closes, IsLeaf, OpensOver}
+use Rattle.ciborium.specs.Levels.{Level, Within, Titled, Handing}
+
+abbrev pub snoc : Trees → Tree → Trees
+snoc no_trees t = one_more t no_trees
+snoc (one_more u us) t = one_more u (snoc us t)
+
+-- all items but the last
+abbrev pub front : Trees → Trees
+front no_trees = no_trees
+front (one_more t no_trees) = no_trees
+front (one_more t (one_more u us)) = one_more t (front (one_more u us))
+
+-- the keys and values of a map so far, in order: at half an entry the last value is not one
+abbrev pub halves : Bool → Trees → Trees
+halves false ts = ts
+halves true ts = front ts
+
+abbrev pub halves_of : Entries → Trees
+halves_of l = halves l.half (flat (view_pairs l.entries.items))
+
+-- half an entry stands in the list
+abbrev pub HasHalf : Entries → Type 0
+HasHalf l = l.half ≡ true → 0 < length l.entries.items
+
+-- a level on others; the whole is none
+abbrev pub put_level : Frame → List Level → List Level
+put_level (code.Whole at h) ls = ls
+put_level (code.Items l) ls = record { head = Array l.count; done = views l.items.items } ∷ ls
+put_level (code.Entries l) ls = record { head = Map l.count; done = halves_of l } ∷ ls
+put_level (code.Tag n at h) ls = record { head = Tag n; done = no_trees } ∷ ls
+
+-- the levels that are open, the innermost first
+abbrev pub opened : List Frame → List Level
+opened [] = []
+opened (f ∷ fs) = put_level f (opened fs)
+
+-- the whole is the outermost frame, and no other one
+abbrev pub Rooted : List Frame → Type 0
+Rooted [] = ⊥
+Rooted (code.Whole at h ∷ fs) = fs ≡ []
+Rooted (code.Items l ∷ fs) = Rooted fs
+Rooted (code.Entries l ∷ fs) = HasHalf l × Rooted fs
+Rooted (code.Tag n at h ∷ fs) = Rooted fs
+
+-- the innermost frame has a title in hand, or asks for its next part
+abbrev pub Asks : ℕ → List Frame → ℕ → ℕ → List ℕ → Type 0
+Asks limit [] from now b = ⊥
+Asks limit (code.Whole at h ∷ fs) from now b = Titled limit (opened (code.Whole at h ∷ fs)) h at from now b
+Asks limit (code.Items l ∷ fs) from now b = Within limit (opened (code.Items l ∷ fs)) b
+Asks limit (code.Entries l ∷ fs) from now b = Within limit (opened (code.Entries l ∷ fs)) b
+Asks limit (code.Tag n at h ∷ fs) from now b = Titled limit (opened (code.Tag n at h ∷ fs)) h at from now b
+
+-- the bytes of the whole up to the place `now`: of the frames, and of an item that is to be handed over
+abbrev pub Stage : ℕ → List Frame → Option Value → ℕ → ℕ → List ℕ → Type 0
+Stage limit fs None from now b = Rooted fs × Asks limit fs from now b
+Stage limit fs (Some v) from now b = Rooted fs × Handing limit (opened fs) (view v) b
+
+-- there are such bytes
+abbrev pub IsStaged : List Frame → Option Value → Type 0
+IsStaged fs read = (limit from now : ℕ) × (b : List ℕ) × Stage limit fs read from now b
+
+-- the same behind a value that was handed over: there is one still where it is a tag's content or the whole
+abbrev pub HandedStage : ℕ → List Frame → Option Value → ℕ → ℕ → List ℕ → Handed → Type 0
+HandedStage limit fs read from now b handed.Taken = (read ≡ None) × Stage limit fs None from now b
+HandedStage limit fs read from now b handed.Up = Stage limit fs read from now b
+HandedStage limit fs read from now b handed.Done = (v : Value) × (read ≡ Some v) × Reads b limit (view v)
+
+-- a fault of the whole, whose bytes so far are b
+abbrev pub Faults : {E : Type 0} → (E → Bool) → ℕ → ℕ → List ℕ → Option (List ℕ) → ℕ → Error E → Type 0
+Faults ends limit from b left place e = IfKnown left (λ rest. FailsAt ends (b ++ rest) from place (λ stop b f. Damage stop b limit f) e)
+
+-- a value is handed over
+abbrev pub Hands : List Frame → List Frame → Option Value → Option Value → Handed → Type 0
+Hands old new read read' n = (limit from now : ℕ) (b : List ℕ) → Stage limit old read from now b → HandedStage limit new read' from now b n
+
+abbrev pub HandFails : {E : Type 0} → List Frame → Option Value → Error E → Type 0
+HandFails fs read e = (ends : _ → Bool) (limit from : ℕ) (b : List ℕ) (left : Option (List ℕ)) (now : ℕ) → from + length b ≡ now
+    → Stage limit fs read from now b → Faults ends limit from b left now e
+
+-- the innermost frame is an array or a map whose parts were read, and y closes it
+abbrev pub Ended : List Frame → List ℕ → Type 0
+Ended [] y = ⊥
+Ended (code.Whole at h ∷ fs) y = ⊥
+Ended (code.Items l ∷ fs) y = Closes l.count (length l.items.items) y
+Ended (code.Entries l ∷ fs) y = (l.half ≡ false) × Closes l.count (length l.entries.items) y
+Ended (code.Tag n at h ∷ fs) y = ⊥
+
+-- it is closed
+abbrev pub ClosedStage : ℕ → List Frame → List ℕ → Type 0
+ClosedStage limit fs b = (x y : List ℕ) × Rooted fs × Within limit (opened fs) x × Ended fs y × (b ≡ x ++ y)
+
+abbrev pub IsClosed : List Frame → Type 0
+IsClosed fs = (limit : ℕ) × (b : List ℕ) × ClosedStage limit fs b
+
+-- the innermost frame asks for its next part: there is none
+abbrev pub AskEnds : Frame → List ℕ → Type 0
+AskEnds top y = (limit from now : ℕ) (fs : List Frame) (b : List ℕ) → Stage limit (top ∷ fs) None from now b → ClosedStage limit (top ∷ fs) (b ++ y)
+
+-- its title has the header h and begins at the place `at`
+abbrev pub AskGives : Frame → Header → ℕ → ℕ → List ℕ → Type 0
+AskGives top h at now y = (limit from : ℕ) (fs : List Frame) (b : List ℕ) → Stage limit (top ∷ fs) None from now b
+    → Rooted (top ∷ fs) × Titled limit (opened (top ∷ fs)) h at from (now + length y) (b ++ y)
+
+abbrev pub AskFails : {E : Type 0} → (E → Bool) → Frame → Seen → Seen → Error E → Type 0
+AskFails ends top old new e = (limit from : ℕ) (fs : List Frame) (b : List ℕ) → from + length b ≡ old.offset → Stage limit (top ∷ fs) None from old.offset b
+    → Faults ends limit from b old.left new.offset e
+
+-- a frame of an item with the header h that was opened, and y behind its title, which ended at the place `now`
+abbrev pub IsBegun : Frame → Header → ℕ → List ℕ → Type 0
+IsBegun (code.Whole at k) h now y = ⊥
+IsBegun (code.Items l) h now y = (h ≡ Array l.count) × (l.items.items ≡ []) × (y ≡ [])
+IsBegun (code.Entries l) h now y = (h ≡ Map l.count) × (l.entries.items ≡ []) × (l.half ≡ false) × (y ≡ [])
+IsBegun (code.Tag n at k) h now y = (h ≡ Tag n) × OpensOver n k × Title y k × (at ≡ now)
+
+-- a tag whose level is within the limit, or that opens none
+abbrev pub IsLow : ℕ → ℕ → Header → Type 0
+IsLow left n h = (OpensOver n h × (0 < left)) ⊎ (((n ≡ 2) ⊎ (n ≡ 3)) × ((o : Option ℕ) × (h ≡ Bytes o)))
+
+-- the title of a leaf is in hand, that of the item itself or the one behind its tag
+abbrev pub IsTitle : Option ℕ → Header → ℕ → ℕ → ℕ → ℕ → Header → List ℕ → Type 0
+IsTitle None h at now left place k y = (k ≡ h) × (place ≡ at) × (y ≡ [])
+IsTitle (Some n) h at now left place k y = (h ≡ Tag n) × IsLow left n k × Title y k × (place ≡ now)
+
+-- what the item with the header h opens, and y behind its title, which went from the place `at` to the place `now`
+abbrev pub Opening : Header → ℕ → ℕ → ℕ → Opened → List ℕ → Type 0
+Opening h at now left (opens.Level f) y = (0 < left) × IsBegun f h now y
+Opening h at now left (opens.Leaf n place k) y = IsLeaf k × IsTitle n h at now left place k y
+
+-- the item of a title is begun
+abbrev pub Begins : List Frame → List Frame → ℕ → Header → ℕ → ℕ → Option Value → List ℕ → Type 0
+Begins old new limit h at now read y = (from : ℕ) (b : List ℕ) → Rooted old → Titled limit (opened old) h at from now b → Stage limit new read from (now + length y) (b ++ y)
+
+abbrev pub BeginFails : {E : Type 0} → (E → Bool) → ℕ → List Frame → Header → ℕ → Seen → Seen → Error E → Type 0
+BeginFails ends limit fs h at old new e = (from : ℕ) (b : List ℕ) → from + length b ≡ old.offset → Rooted fs → Titled limit (opened fs) h at from old.offset b
+    → Faults ends limit from b old.left new.offset e
+
+-- How far the reader is from its end, where no more bytes come: it falls with each turn. A title in hand that is not begun counts.
+abbrev pub in_hand : Option Value → Frame → ℕ
+in_hand (Some v) f = 0
+in_hand None (code.Whole at h) = 3
+in_hand None (code.Items l) = 0
+in_hand None (code.Entries l) = 0
+in_hand None (code.Tag n at h) = 3
+
+abbrev pub rank : List Frame → Frame → Option Value → ℕ
+rank below top read = 2 * length below + in_hand read top
+
+abbrev pub Falls : ℕ → ℕ → Handed → Type 0
+Falls old new handed.Taken = new ≤ old
+Falls old new handed.Up = new < old
+Falls old new handed.Done = Unit {0}

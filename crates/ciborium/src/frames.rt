@@ -1,0 +1,383 @@
+//! Reads items over a list of the levels that are open.
+ghost use Rattle.std.specs.Prelude.{◌≡◌, ◌<◌, ◌≤◌, ◌+◌, ◌*◌, ◌∷◌, ℕ, Bool, true, false, List, None, Some, reverse, length};
+ghost use Rattle.std.specs.Prelude.{IfOk, IfErr, OnOk, OnErr, IfSome, IfNone};
+ghost use Rattle.ciborium_ll.specs.Seen.{Takes};
+ghost use Rattle.ciborium_ll.specs.Title.{Title};
+ghost use Rattle.ciborium_ll.specs.Views.{offset_of, waiting_of, seen};
+ghost use Rattle.ciborium_value.specs.View.{view};
+ghost use Rattle.ciborium.specs.declared.de.Error.TheVariants.{Memory};
+ghost use Rattle.ciborium.specs.Damage.{Damage, TitleDamage};
+ghost use Rattle.ciborium.specs.Reading.{Steady, NamesFault, NamesFaultBehind, ReadsBehind, Closes};
+ghost use Rattle.ciborium.specs.Reading.{IsNext, is_full, fault_failures};
+ghost use Rattle.ciborium.specs.Frames.{snoc, halves_of, HasHalf, IsStaged, IsClosed, ClosedStage, Stage, Hands};
+ghost use Rattle.ciborium.specs.Frames.{HandFails, AskEnds, AskGives, AskFails, Opening, Begins, BeginFails};
+ghost use Rattle.ciborium.specs.Frames.{in_hand, rank, Falls};
+
+use crate::de::Error;
+use crate::reader::{
+    ROOM, folded, is_leaf, next_part, opens, read_leaf, reserved, room_left, tagged_title,
+};
+use crate::strings::next_title;
+use crate::value::Value;
+use ciborium_ll::{Decoder, Header, Read};
+use std::alloc::Global;
+use std::mem;
+
+/// An array that is open: its items so far, how many its head claims, and the room that it may reserve of.
+#[derive(Drop)]
+pub struct Items {
+    items: Vec<Value>,
+    count: Option<usize>,
+    room: usize,
+}
+
+/// A map that is open: its entries so far, how many its head claims, and the room. Where it is at `half` an entry, the value of
+/// the last key is due, and null stands in its place.
+#[derive(Drop)]
+pub struct Entries {
+    entries: Vec<(Value, Value)>,
+    half: bool,
+    count: Option<usize>,
+    room: usize,
+}
+
+/// A level that is open. A tag, and the whole around all levels, hold the place and the header of the title behind them.
+#[derive(Drop)]
+pub enum Frame {
+    Whole(usize, Header),
+    Items(Items),
+    Entries(Entries),
+    Tag(u64, usize, Header),
+}
+
+/// What became of a value that was handed to the innermost level: it was taken, or it is a tag's content, and the tag is to be
+/// handed over, or it is the whole.
+#[derive(Drop)]
+pub enum Handed {
+    Taken,
+    Up,
+    Done,
+}
+
+/// Puts a key, or the value of the last key, into the map.
+fn put_half<E>(list: &mut Entries, half: Value) -> Result<(), Error<E>>
+    requires half { HasHalf list.old }
+    ensures count { list.new.count ≡ list.old.count }
+    ensures ok { OnOk result (halves_of list.new ≡ snoc (halves_of list.old) (view half)) }
+    ensures half { OnOk result (HasHalf list.new) }
+    ensures err { IfErr result (λ e. e ≡ Memory) }
+{
+    if !list.half {
+        let Ok(()) = list.entries.push((half, Value::Null)) else {
+            return Err(Error::Memory);
+        };
+        list.half = true;
+        return Ok(());
+    }
+    match list.entries.last_mut() {
+        None => unreachable!(),
+        Some(entry) => entry.1 = half,
+    }
+    list.half = false;
+    Ok(())
+}
+
+/// Hands a value, where one was read, to the innermost level. A tag is whole with it, and the level around it the innermost then.
+fn hand<E>(
+    alloc: Global,
+    below: &mut Vec<Frame>,
+    top: &mut Frame,
+    read: &mut Option<Value>,
+) -> Result<Handed, Error<E>>
+    requires staged { IsStaged (top.old ∷ reverse below.old.items) read.old }
+    ensures ok { IfOk result (Hands (top.old ∷ reverse below.old.items) (top.new ∷ reverse below.new.items)
+        read.old read.new) }
+    ensures falls { IfOk result (Falls (rank below.old.items top.old read.old)
+        (rank below.new.items top.new read.new)) }
+    ensures err { IfErr result (HandFails (top.old ∷ reverse below.old.items) read.old) }
+    ensures quiet { IfErr result (λ e. (ends : E → Bool) (n : ℕ) → fault_failures ends e n ≡ n) }
+{
+    let Some(value) = read.take() else {
+        return Ok(Handed::Taken);
+    };
+    match top {
+        Frame::Whole(_, _) => {
+            *read = Some(value);
+            Ok(Handed::Done)
+        }
+        Frame::Items(list) => {
+            let Ok(()) = list.items.push(value) else {
+                return Err(Error::Memory);
+            };
+            Ok(Handed::Taken)
+        }
+        Frame::Entries(list) => {
+            put_half(list, value)?;
+            Ok(Handed::Taken)
+        }
+        Frame::Tag(n, _, _) => {
+            let whole = folded(alloc, *n, value)?;
+            *read = Some(whole);
+            match below.pop() {
+                Some(frame) => {
+                    *top = frame;
+                    Ok(Handed::Up)
+                }
+                None => unreachable!(),
+            }
+        }
+    }
+}
+
+/// Closes the innermost level, an array or a map.
+fn close(below: &mut Vec<Frame>, top: &mut Frame) -> Value
+    requires closed { IsClosed (top.old ∷ reverse below.old.items) }
+    ensures value { (limit from now : ℕ) (b : List ℕ) → ClosedStage limit (top.old ∷ reverse below.old.items) b
+        → Stage limit (top.new ∷ reverse below.new.items) (Some result) from now b }
+    ensures falls { length below.new.items < length below.old.items }
+{
+    match below.pop() {
+        None => unreachable!(),
+        Some(frame) => {
+            let whole = mem::replace(top, frame);
+            match whole {
+                Frame::Items(list) => Value::Array(list.items),
+                Frame::Entries(list) => Value::Map(list.entries),
+                Frame::Whole(_, _) => unreachable!(),
+                Frame::Tag(_, _, _) => unreachable!(),
+            }
+        }
+    }
+}
+
+/// The title of the next key, or of the value that is due.
+fn next_half<R: Read>(
+    decoder: &mut Decoder<R>,
+    list: &Entries,
+) -> Result<Option<(usize, Header)>, Error<R::Error>>
+    requires fresh { waiting_of decoder.old ≡ None }
+    ensures none { IfOk result (λ o. IfNone o ((list.now.half ≡ false)
+        × Takes (seen R.Read decoder.old) (seen R.Read decoder.new)
+        (Closes list.now.count (length list.now.entries.items)))) }
+    ensures some { IfOk result (λ o. IfSome o (λ r.
+        Takes (seen R.Read decoder.old) (seen R.Read decoder.new) (λ b. Title b r.1))) }
+    ensures at { IfOk result (λ o. IfSome o (λ r. r.0 ≡ offset_of decoder.old)) }
+    ensures next { IfOk result (λ o. IfSome o (λ r. list.now.half ≡ false
+        → IsNext list.now.count (length list.now.entries.items) r.1)) }
+    ensures err { IfErr result (NamesFault R.ends TitleDamage (seen R.Read decoder.old) (seen R.Read decoder.new)) }
+    ensures due { OnErr result (list.now.half ≡ false
+        → is_full list.now.count (length list.now.entries.items) ≡ false) }
+    ensures steady { Steady R.ends result (seen R.Read decoder.old) (seen R.Read decoder.new) }
+{
+    if list.half {
+        let title = next_title(decoder)?;
+        return Ok(Some(title));
+    }
+    next_part(decoder, list.count, list.entries.len())
+}
+
+/// The next title in the innermost level; none where it is whole.
+fn ask<R: Read>(
+    decoder: &mut Decoder<R>,
+    top: &Frame,
+) -> Result<Option<(usize, Header)>, Error<R::Error>>
+    requires fresh { waiting_of decoder.old ≡ None }
+    ensures none { IfOk result (λ o. IfNone o
+        (Takes (seen R.Read decoder.old) (seen R.Read decoder.new) (AskEnds top.now))) }
+    ensures some { IfOk result (λ o. IfSome o (λ r. Takes (seen R.Read decoder.old) (seen R.Read decoder.new)
+        (AskGives top.now r.1 r.0 (offset_of decoder.old)))) }
+    ensures moved { IfOk result (λ o. IfSome o (λ _.
+        offset_of decoder.old + 1 ≤ offset_of decoder.new + in_hand None top.now)) }
+    ensures err { IfErr result (AskFails R.ends top.now (seen R.Read decoder.old) (seen R.Read decoder.new)) }
+    ensures steady { Steady R.ends result (seen R.Read decoder.old) (seen R.Read decoder.new) }
+{
+    match top {
+        Frame::Whole(at, header) => Ok(Some((*at, *header))),
+        Frame::Items(list) => {
+            let part = next_part(decoder, list.count, list.items.len())?;
+            Ok(part)
+        }
+        Frame::Entries(list) => {
+            let part = next_half(decoder, list)?;
+            Ok(part)
+        }
+        Frame::Tag(_, at, header) => Ok(Some((*at, *header))),
+    }
+}
+
+/// The room that an item may reserve of in this level.
+fn room_in(top: &Frame) -> usize {
+    match top {
+        Frame::Whole(_, _) => ROOM,
+        Frame::Items(list) => {
+            room_left(
+                list.room,
+                reserved(list.count, list.room / 2),
+                list.items.len(),
+                1,
+            )
+        }
+        Frame::Entries(list) => {
+            room_left(
+                list.room,
+                reserved(list.count, list.room / 4),
+                list.entries.len(),
+                2,
+            )
+        }
+        Frame::Tag(_, _, _) => 0,
+    }
+}
+
+/// What an item opens: a level, or none, and then its title, or that behind its tag, is in hand.
+#[derive(Drop)]
+enum Opened {
+    Level(Frame),
+    Leaf(Option<u64>, usize, Header),
+}
+
+/// What the item of a title opens, where so many levels are left.
+fn opening<R: Read>(
+    alloc: Global,
+    decoder: &mut Decoder<R>,
+    top: &Frame,
+    at: usize,
+    header: Header,
+    left: usize,
+) -> Result<Opened, Error<R::Error>>
+    requires fresh { waiting_of decoder.old ≡ None }
+    ensures ok { IfOk result (λ o. Takes (seen R.Read decoder.old) (seen R.Read decoder.new)
+        (Opening header at (offset_of decoder.old) left o)) }
+    ensures err { IfErr result (NamesFaultBehind R.ends header at (λ stop b f. Damage stop b left f)
+        (seen R.Read decoder.old) (seen R.Read decoder.new)) }
+    ensures steady { Steady R.ends result (seen R.Read decoder.old) (seen R.Read decoder.new) }
+{
+    match header {
+        Header::Array(count) => {
+            if left == 0 {
+                return Err(Error::RecursionLimitExceeded);
+            }
+            let room = room_in(top);
+            let Ok(items) = Vec::with_capacity(alloc, reserved(count, room / 2)) else {
+                return Err(Error::Memory);
+            };
+            Ok(Opened::Level(Frame::Items(Items { items, count, room })))
+        }
+        Header::Map(count) => {
+            if left == 0 {
+                return Err(Error::RecursionLimitExceeded);
+            }
+            let room = room_in(top);
+            let Ok(entries) = Vec::with_capacity(alloc, reserved(count, room / 4)) else {
+                return Err(Error::Memory);
+            };
+            Ok(Opened::Level(Frame::Entries(Entries {
+                entries,
+                half: false,
+                count,
+                room,
+            })))
+        }
+        Header::Tag(n) => {
+            let (place, inner) = tagged_title(decoder, n, left)?;
+            if left == 0 && opens(n, inner) {
+                return Err(Error::RecursionLimitExceeded);
+            }
+            if is_leaf(inner) {
+                return Ok(Opened::Leaf(Some(n), place, inner));
+            }
+            Ok(Opened::Level(Frame::Tag(n, place, inner)))
+        }
+        _ => Ok(Opened::Leaf(None, at, header)),
+    }
+}
+
+/// Begins the item of a title: opens its level, or reads its value.
+fn begin<R: Read>(
+    alloc: Global,
+    decoder: &mut Decoder<R>,
+    below: &mut Vec<Frame>,
+    top: &mut Frame,
+    read: &mut Option<Value>,
+    title: (usize, Header),
+    limit: usize,
+) -> Result<(), Error<R::Error>>
+    requires fresh { waiting_of decoder.old ≡ None }
+    requires empty { read.old ≡ None }
+    ensures ok { OnOk result (Takes (seen R.Read decoder.old) (seen R.Read decoder.new)
+        (Begins (top.old ∷ reverse below.old.items) (top.new ∷ reverse below.new.items) limit title.1 title.0
+        (offset_of decoder.old) read.new)) }
+    ensures rises { OnOk result (rank below.new.items top.new read.new + 4 * offset_of decoder.old
+        ≤ 2 * length below.old.items + 2 + 4 * offset_of decoder.new) }
+    ensures err { IfErr result (BeginFails R.ends limit (top.old ∷ reverse below.old.items) title.1 title.0
+        (seen R.Read decoder.old) (seen R.Read decoder.new)) }
+    ensures steady { Steady R.ends result (seen R.Read decoder.old) (seen R.Read decoder.new) }
+{
+    let left = limit.saturating_sub(below.len());
+    match opening(alloc, decoder, top, title.0, title.1, left)? {
+        Opened::Level(frame) => {
+            let Ok(()) = below.push(mem::replace(top, frame)) else {
+                return Err(Error::Memory);
+            };
+            Ok(())
+        }
+        Opened::Leaf(tag, at, header) => {
+            let value = read_leaf(alloc, decoder, header, at)?;
+            match tag {
+                None => {
+                    *read = Some(value);
+                    Ok(())
+                }
+                Some(n) => {
+                    let whole = folded(alloc, n, value)?;
+                    *read = Some(whole);
+                    Ok(())
+                }
+            }
+        }
+    }
+}
+
+/// The item behind the title of `header`, which begins at the place `at`.
+pub fn read_item<R: Read>(
+    alloc: Global,
+    decoder: &mut Decoder<R>,
+    header: Header,
+    at: usize,
+    limit: usize,
+) -> Result<Value, Error<R::Error>>
+    requires fresh { waiting_of decoder.old ≡ None }
+    requires titled { (title : List ℕ) × Title title header }
+    ensures ok { IfOk result (λ v. Takes (seen R.Read decoder.old) (seen R.Read decoder.new)
+        (λ b. ReadsBehind header limit (view v) b)) }
+    ensures err { IfErr result (NamesFaultBehind R.ends header at (λ stop b f. Damage stop b limit f)
+        (seen R.Read decoder.old) (seen R.Read decoder.new)) }
+    ensures steady { Steady R.ends result (seen R.Read decoder.old) (seen R.Read decoder.new) }
+{
+    let mut below: Vec<Frame> = Vec::new(alloc);
+    let mut top = Frame::Whole(at, header);
+    let mut read: Option<Value> = None;
+    'turns: loop {
+        match hand(alloc, &mut below, &mut top, &mut read)? {
+            Handed::Up => {}
+            Handed::Done => match read {
+                Some(value) => return Ok(value),
+                None => unreachable!(),
+            },
+            Handed::Taken => {
+                let part = ask(decoder, &top)?;
+                match part {
+                    None => {
+                        let whole = close(&mut below, &mut top);
+                        read = Some(whole);
+                    }
+                    Some(title) => {
+                        begin(
+                            alloc, decoder, &mut below, &mut top, &mut read, title, limit,
+                        )?;
+                    }
+                }
+            }
+        }
+    }
+}
