@@ -11,16 +11,13 @@ use Rattle.ciborium_value.specs.Folding.{tagged}
 use Rattle.ciborium_value.specs.Tree.{Tree, Trees, bytes, no_trees, flat}
 use Rattle.ciborium_value.specs.View.{view, views, view_pairs}
 use Rattle.ciborium.specs.declared.de.Error.{Error}
-use Rattle.ciborium.specs.declared.frames.Items.{Items}
-use Rattle.ciborium.specs.declared.frames.Entries.{Entries}
 use Rattle.ciborium.specs.declared.frames.Frame.{Frame}
 use Rattle.ciborium.specs.declared.frames.Frame.TheVariants as code
-use Rattle.ciborium.specs.declared.frames.Opened.{Opened}
 use Rattle.ciborium.specs.declared.frames.Opened.TheVariants as opens
 use Rattle.ciborium.specs.Damage.{Fault, Damage}
-use Rattle.ciborium.specs.Levels.{Level, Fits, Within, Titled, Handing}
-use Rattle.ciborium.specs.Reading.{FailsAt, FailsBehind, NamesFaultBehind, IfKnown, IsLeaf, IsFoldFault, ReadsBehind, TaggedBehind, TagDamage}
-use Rattle.ciborium.specs.Frames.{halves, opened, Rooted, Stage, IsBegun, IsLow, IsTitle, Opening, Begins, BeginFails, in_hand, rank}
+use Rattle.ciborium.specs.Levels.{Level, Fits, Within, Titled}
+use Rattle.ciborium.specs.Reading.{FailsAt, FailsBehind, NamesFaultBehind, IfKnown, IsFoldFault, ReadsBehind, TaggedBehind, TagDamage}
+use Rattle.ciborium.specs.Frames.{halves, opened, Rooted, Stage, IsBegun, IsLow, Opening, Begins, BeginFails, in_hand, rank}
 use Rattle.ciborium.proofs.Once.{append_nil}
 use Rattle.ciborium.proofs.StringLemmas.{title_some}
 use Rattle.ciborium.proofs.Taking.{takes_as, takes_then}

@@ -13,14 +13,14 @@ use Rattle.ciborium_value.specs.Tree.{Tree, array, bytes, tag, Trees, no_trees, 
 use Rattle.ciborium.specs.Spelling.{SpellsAll, SpellsPairs}
 use Rattle.ciborium_value.specs.Tree as spec
 use Rattle.ciborium.specs.Meaning.{meaning, meanings, pair_meanings}
-use Rattle.ciborium.specs.Damage.{Fault, end, deep, syntax, semantic, Damage, in_title, in_child, TitleDamage, Due}
+use Rattle.ciborium.specs.Damage.{Fault, end, deep, syntax, semantic, Damage, TitleDamage, Due}
 use Rattle.ciborium.specs.Front.{ReadsAll}
 use Rattle.ciborium_ll.specs.Title.{Begins}
 use Rattle.ciborium.specs.Reading.{EndPlace, IsLong, FailsAt, FailsBehind, IfKnown, ReadsBehind, ChildrenBehind, ChildDamage, is_full, FitsIn}
 use Rattle.ciborium_ll.proofs.Closings.{break_title}
 use Rattle.ciborium.proofs.Once.{title_once}
-use Rattle.ciborium.proofs.Taking.{fails_as, fails_behind}
-use Rattle.ciborium.proofs.ReadLemmas.{meanings_parts, behind_rest}
+use Rattle.ciborium.proofs.Taking.{fails_as}
+use Rattle.ciborium.proofs.ReadLemmas.{meanings_parts}
 
 -- a fault behind a title that was taken, which it tells
 abbrev pub Begun : Header → (ℕ → List ℕ → Fault → Type 0) → ℕ → List ℕ → Fault → Type 0

@@ -1,8 +1,8 @@
 -- What the steps of the reader do to its frames.
-use Rattle.std.proofs.Common.{◌≡◌, ◌≢◌, ◌≤◌, ◌<◌, ◌+◌, ◌-◌, ◌*◌, inl, inr, ℕ, Bool, true, false, List, [], ◌∷◌, ◌++◌, length, Option, None, Some, zero, suc, get_or, set, refl, sym, ap, subst, ◌∙◌, arith, append_assoc, length-append, reverse}
+use Rattle.std.proofs.Common.{◌≡◌, ◌≢◌, ◌≤◌, ◌<◌, ◌+◌, ◌-◌, ◌*◌, inl, inr, ℕ, Bool, true, false, List, [], ◌∷◌, ◌++◌, length, Option, None, Some, zero, suc, get_or, set, refl, sym, ap, subst, ◌∙◌, arith, reverse}
 use Rattle.std.proofs.lemmas.List.{reverse-append}
 use Rattle.ciborium_ll.specs.declared.hdr.Header.{Header}
-use Rattle.ciborium_ll.specs.declared.hdr.Header.TheVariants.{Tag, Array, Map, Break}
+use Rattle.ciborium_ll.specs.declared.hdr.Header.TheVariants.{Array, Map, Break}
 use Rattle.ciborium_ll.specs.Seen.{Seen, Takes}
 use Rattle.ciborium_ll.specs.Title.{Title}
 use Rattle.ciborium_value.specs.declared.value.Value.TheVariants as value
@@ -25,11 +25,11 @@ use Rattle.ciborium.specs.declared.frames.Frame.TheVariants as code
 use Rattle.ciborium.specs.declared.frames.Items.{Items}
 use Rattle.ciborium.specs.declared.frames.Entries.{Entries}
 use Rattle.ciborium.specs.declared.frames.Handed.TheVariants as handed
-use Rattle.ciborium.specs.Damage.{Fault, semantic, Damage, in_title, TitleDamage, Due}
+use Rattle.ciborium.specs.Damage.{semantic, Damage, in_title, TitleDamage, Due}
 use Rattle.ciborium.specs.Levels.{Fits, Stands, Handing, Titled}
-use Rattle.ciborium.specs.Reading.{IsFoldFault, FailsAt, IfKnown, Closes, IsNext, NamesFault, FitsIn, is_full, fault_failures}
+use Rattle.ciborium.specs.Reading.{IsFoldFault, Closes, IsNext, NamesFault, FitsIn, is_full, fault_failures}
 use Rattle.ciborium.proofs.StringLemmas.{title_some}
-use Rattle.ciborium.specs.Frames.{in_hand, snoc, front, halves, halves_of, HasHalf, put_level, opened, Rooted, Asks, Stage, Hands, HandFails, Faults, ClosedStage, IsClosed, AskEnds, AskGives, AskFails}
+use Rattle.ciborium.specs.Frames.{in_hand, snoc, front, halves, halves_of, HasHalf, opened, Stage, Hands, HandFails, Faults, ClosedStage, IsClosed, AskEnds, AskGives, AskFails}
 use Rattle.ciborium.proofs.ReadLemmas.{snoc_count, pushed, pushed_pair, count_views, count_flat}
 use Rattle.ciborium.proofs.LevelLemmas.{all_whole, level_more, level_whole, due_fails, tag_whole, negative_damage, array_more, map_more}
 
@@ -49,7 +49,7 @@ pub entries_more : (fs : List Frame) (l m : Entries) (v : Value) → m.count ≡
 entries_more fs l m v same half more limit from now b (r, p) =
     let count : tree_count (halves_of m) ≡ tree_count (halves_of l) + 1 = ap tree_count more ∙ snoc_count (halves_of l) (view v) in
     let w = level_more limit _ _ (opened fs) (view v) b (ap Map same) more
-        (subst (λ (z : Option ℕ). Fits (Map z) (halves_of m)) (sym same) (map_more l.count (halves_of l) (halves_of m) p.head count p.child)) p in
+    (subst (λ (z : Option ℕ). Fits (Map z) (halves_of m)) (sym same) (map_more l.count (halves_of l) (halves_of m) p.head count p.child)) p in
     (refl, ((half, r.1), w))
 
 -- a tag is whole

@@ -1,6 +1,5 @@
 -- Open levels: a fault in the innermost one is one of the whole, and an item that is whole is handed over.
-use Rattle.std.proofs.Common.{◌≡◌, ◌≢◌, ◌≤◌, ◌<◌, ◌+◌, ◌-◌, ◌*◌, ◌%◌, inl, inr, ℕ, suc, Bool, List, [], ◌∷◌, ◌++◌, length, Option, None, Some, refl, sym, ap, subst, ◌∙◌, arith, append_assoc, length-append}
-use Rattle.ciborium_ll.specs.Reading.{Moves}
+use Rattle.std.proofs.Common.{◌≡◌, ◌<◌, ◌+◌, ◌-◌, inl, inr, ℕ, Bool, List, [], ◌∷◌, ◌++◌, length, Option, None, Some, refl, sym, ap, subst, ◌∙◌, arith, append_assoc, length-append}
 use Rattle.ciborium_ll.specs.declared.hdr.Header.{Header}
 use Rattle.ciborium_ll.specs.declared.hdr.Header.TheVariants.{Positive, Negative, Float, Simple, Tag, Break, Bytes, Text, Array, Map}
 use Rattle.ciborium_ll.specs.Title.{Title, Begins}
@@ -20,7 +19,7 @@ use Rattle.ciborium_value.specs.Tree.{bytes}
 use Rattle.ciborium.proofs.TagLemmas.{tag_read, tag_level, bytes_meant}
 use Rattle.ciborium.specs.Spelling.{Spells, SpellsAll}
 use Rattle.ciborium_value.specs.Folding.{tagged}
-use Rattle.ciborium.specs.Levels.{Level, Stands, DueIn, IsChild, IsDue, Fits, Begun, Within, Titled, Handing}
+use Rattle.ciborium.specs.Levels.{Level, Stands, DueIn, IsChild, IsDue, Fits, Within, Titled, Handing}
 
 -- bytes that begin with the title of a child are due
 opens_level : (n : ℕ) (h : Header) (b : List ℕ) → OpensOver n h → (rest : List ℕ) → Begins b h rest → IsLevel n b

@@ -1,16 +1,14 @@
 -- The reader's parts outside its cycle.
-use Rattle.std.proofs.Common.{◌≡◌, ◌≢◌, ℕ, Bool, false, List, ◌++◌, Option, None, Some, refl, sym, ap, subst, ◌∙◌}
+use Rattle.std.proofs.Common.{ℕ, Bool, List, ◌++◌, Option, None, Some, sym, ap, subst, ◌∙◌}
 use Rattle.ciborium_ll.specs.Reading.{Moves}
-use Rattle.ciborium_ll.specs.declared.hdr.Header.{Header}
-use Rattle.ciborium_ll.specs.declared.hdr.Header.TheVariants.{Positive, Negative, Float, Simple, Tag, Break, Bytes, Text, Array, Map}
+use Rattle.ciborium_ll.specs.declared.hdr.Header.TheVariants.{Tag}
 use Rattle.ciborium_value.specs.Tree.{Tree, Trees}
 use Rattle.ciborium.specs.declared.de.Error.{Error}
 use Rattle.ciborium.specs.declared.de.Error.TheVariants as code
 use Rattle.ciborium.specs.Damage.{Fault, Damage}
 use Rattle.ciborium.specs.Front.{ReadsAll}
-use Rattle.ciborium.specs.Reading.{FailsAt, IfKnown, FailsBehind, IsLeaf, IsFoldFault, TaggedBehind, ChildrenBehind, Closes, is_full}
+use Rattle.ciborium.specs.Reading.{FailsAt, IfKnown, FailsBehind, IsFoldFault, TaggedBehind, ChildrenBehind, Closes}
 use Rattle.ciborium.proofs.Once.{append_nil}
-use Rattle.ciborium.proofs.Taking.{takes_then}
 use Rattle.ciborium.proofs.TagLemmas.{negative_fails}
 
 memory_known : {E : Type 0} (ends : E → Bool) (k : List ℕ → List ℕ) (o at : ℕ) (l : Option (List ℕ)) (D : ℕ → List ℕ → Fault → Type 0) → IfKnown l (λ b. FailsAt {E = E} ends (k b) at o D code.Memory)

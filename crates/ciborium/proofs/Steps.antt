@@ -1,20 +1,11 @@
 -- The steps of the reader's loops.
-use Rattle.std.proofs.Common.{◌≡◌, ◌+◌, ◌*◌, ℕ, Bool, false, List, [], ◌∷◌, ◌++◌, length, map, Option, None, sym, ap, subst, ◌∙◌, arith, length-append}
+use Rattle.std.proofs.Common.{ℕ, Bool, false, List, Option}
 use Rattle.std.specs.Str.{IsUtf8}
-use Rattle.ciborium_ll.specs.Reading.{Moves}
-use Rattle.ciborium_ll.specs.declared.hdr.Header.{Header}
-use Rattle.ciborium_ll.specs.declared.hdr.Header.TheVariants.{Bytes, Text, Break}
-use Rattle.ciborium_ll.specs.Title.{Title}
+use Rattle.ciborium_ll.specs.declared.hdr.Header.TheVariants.{Bytes, Text}
 use Rattle.ciborium.specs.declared.de.Error.{Error}
-use Rattle.ciborium_value.specs.Tree.{Tree, Trees, flat, tree_count}
-use Rattle.ciborium_value.specs.View.{trees, pairs}
 use Rattle.ciborium.specs.Damage.{Damage, in_bytes, in_text, StringDamage}
-use Rattle.ciborium.specs.Front.{ReadsAll}
-use Rattle.ciborium.specs.Reading.{FailsBehind, string_head, IsBody, ReadsBehind, ChildrenBehind, FitsIn, is_full}
-use Rattle.ciborium.proofs.Taking.{takes_then}
-use Rattle.ciborium.specs.Frames.{snoc}
-use Rattle.ciborium.proofs.ReadLemmas.{snoc_count, behind_as, step_item, pushed, pushed_pair, all_none, count_flat}
-use Rattle.ciborium.proofs.ChildLemmas.{fits_none, fits_more, children_closed}
+use Rattle.ciborium.specs.Reading.{FailsBehind, string_head, IsBody}
+use Rattle.ciborium.proofs.ReadLemmas.{behind_as}
 
 pub bytes_fail : {E : Type 0} (ends : E → Bool) (k : Option ℕ) (at limit : ℕ) (l : Option (List ℕ)) (o o' : ℕ) (e : Error E) → FailsBehind ends (string_head false k) at o l o' (StringDamage (string_head false) (IsBody false)) e
     → FailsBehind ends (Bytes k) at o l o' (λ stop b f. Damage stop b limit f) e

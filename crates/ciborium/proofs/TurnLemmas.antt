@@ -11,7 +11,7 @@ use Rattle.ciborium.specs.declared.de.Error.{Error}
 use Rattle.ciborium.specs.declared.frames.Frame.{Frame}
 use Rattle.ciborium.specs.declared.frames.Frame.TheVariants as code
 use Rattle.ciborium.specs.declared.frames.Handed.TheVariants as handed
-use Rattle.ciborium.specs.Damage.{Fault, Damage}
+use Rattle.ciborium.specs.Damage.{Damage}
 use Rattle.ciborium.specs.Front.{Reads}
 use Rattle.ciborium.specs.Levels.{Within, IsChild, Titled}
 use Rattle.ciborium.specs.Reading.{FailsAt, FailsBehind, IfKnown, ReadsBehind}
@@ -28,18 +28,20 @@ pub record Turn (limit : ℕ) (h : Header) (at : ℕ) (old new : Seen) (fs : Lis
   pub taken : Takes old new (Behind limit h at old new fs read)
 
 pub turn_start : (limit at : ℕ) (h : Header) (s : Seen) (fs : List Frame) → fs ≡ [] → Turn limit h at s s (code.Whole at h ∷ reverse fs) None
-turn_start limit at h s fs e = record { taken = takes_none s.left s.offset (Behind limit h at s s (code.Whole at h ∷ reverse fs) None) (λ title t. (
-  ap reverse e,
-  record {
-    before = [];
-    title = title;
-    within = subst (λ (z : List Frame). Within limit (opened (reverse z)) []) (sym e) refl;
-    child = subst (λ (z : List Frame). IsChild (opened (reverse z)) h) (sym e) tt;
-    is_title = t;
-    place = λ q. subst (λ (z : List ℕ). at + length z ≡ s.offset) (sym (append_nil title)) q;
-    whole = sym (append_nil title);
-  },
-)) }
+turn_start limit at h s fs e = record {
+  taken = takes_none s.left s.offset (Behind limit h at s s (code.Whole at h ∷ reverse fs) None) (λ title t. (
+    ap reverse e,
+    record {
+      before = [];
+      title = title;
+      within = subst (λ (z : List Frame). Within limit (opened (reverse z)) []) (sym e) refl;
+      child = subst (λ (z : List Frame). IsChild (opened (reverse z)) h) (sym e) tt;
+      is_title = t;
+      place = λ q. subst (λ (z : List ℕ). at + length z ≡ s.offset) (sym (append_nil title)) q;
+      whole = sym (append_nil title);
+    },
+  ));
+}
 
 -- there are bytes of the whole so far
 pub turn_staged : {limit : ℕ} {h : Header} {at : ℕ} {old new : Seen} {fs : List Frame} {read : Option Value} → Turn limit h at old new fs read → (title : List ℕ) × Title title h → IsStaged fs read
@@ -73,23 +75,27 @@ turn_ended {limit} {h} {at} {old} {mid} {top} {fs} new t a u =
 pub turn_closed : {limit : ℕ} {h : Header} {at : ℕ} {old mid : Seen} {top : Frame} {fs : List Frame} (new : Seen) (gs : List Frame) (v : Value) → Turn limit h at old mid (top ∷ fs) None → Takes mid new (AskEnds top)
     → ((limit from now : ℕ) (b : List ℕ) → ClosedStage limit (top ∷ fs) b → Stage limit gs (Some v) from now b) → Turn limit h at old new gs (Some v)
 turn_closed {limit} {h} {at} {old} {mid} {top} {fs} new gs v t a s =
-    record { taken = takes_then old.left mid.left new.left old.offset mid.offset new.offset (Behind limit h at old mid (top ∷ fs) None) (AskEnds top) (Behind limit h at old new gs (Some v)) t.taken a
-        (λ x y b e title u. subst (λ (z : List ℕ). Stage limit gs (Some v) at new.offset z) (append_assoc title x y) (s limit at new.offset ((title ++ x) ++ y) (e limit at mid.offset fs (title ++ x) (b title u)))) }
+    record {
+      taken = takes_then old.left mid.left new.left old.offset mid.offset new.offset (Behind limit h at old mid (top ∷ fs) None) (AskEnds top) (Behind limit h at old new gs (Some v)) t.taken a
+          (λ x y b e title u. subst (λ (z : List ℕ). Stage limit gs (Some v) at new.offset z) (append_assoc title x y) (s limit at new.offset ((title ++ x) ++ y) (e limit at mid.offset fs (title ++ x) (b title u))));
+    }
 
 -- the item of a title is begun
 pub turn_begun : {limit : ℕ} {h : Header} {at : ℕ} {old s₁ : Seen} {top : Frame} {fs : List Frame} (place : ℕ) (k : Header) (s₂ s₃ : Seen) (gs : List Frame) (read : Option Value) → Turn limit h at old s₁ (top ∷ fs) None
     → Takes s₁ s₂ (AskGives top k place s₁.offset) → Takes s₂ s₃ (Begins (top ∷ fs) gs limit k place s₂.offset read) → Turn limit h at old s₃ gs read
-turn_begun {limit} {h} {at} {old} {s₁} {top} {fs} place k s₂ s₃ gs read r a p = let t = r.taken in record { taken = record {
-  bytes = t.bytes ++ (a.bytes ++ p.bytes);
-  has = λ title u.
-      let q = a.has limit at fs (title ++ t.bytes) (t.has title u) in
-      let w = subst (λ (z : ℕ). Titled limit (opened (top ∷ fs)) k place at z ((title ++ t.bytes) ++ a.bytes)) (sym a.grown) q.1 in
-      let x = p.has at ((title ++ t.bytes) ++ a.bytes) q.0 w in
-      subst (λ (z : ℕ). Stage limit gs read at z (title ++ (t.bytes ++ (a.bytes ++ p.bytes)))) (sym p.grown)
-      (subst (λ (z : List ℕ). Stage limit gs read at (s₂.offset + length p.bytes) z) (append_assoc (title ++ t.bytes) a.bytes p.bytes ∙ append_assoc title t.bytes (a.bytes ++ p.bytes)) x);
-  taken = Consumes-trans old.left s₁.left s₃.left t.bytes (a.bytes ++ p.bytes) t.taken (Consumes-trans s₁.left s₂.left s₃.left a.bytes p.bytes a.taken p.taken);
-  grown = omega (arith, t.grown, a.grown, p.grown, length-append t.bytes (a.bytes ++ p.bytes), length-append a.bytes p.bytes);
-} }
+turn_begun {limit} {h} {at} {old} {s₁} {top} {fs} place k s₂ s₃ gs read r a p = let t = r.taken in record {
+  taken = record {
+    bytes = t.bytes ++ (a.bytes ++ p.bytes);
+    has = λ title u.
+        let q = a.has limit at fs (title ++ t.bytes) (t.has title u) in
+        let w = subst (λ (z : ℕ). Titled limit (opened (top ∷ fs)) k place at z ((title ++ t.bytes) ++ a.bytes)) (sym a.grown) q.1 in
+        let x = p.has at ((title ++ t.bytes) ++ a.bytes) q.0 w in
+        subst (λ (z : ℕ). Stage limit gs read at z (title ++ (t.bytes ++ (a.bytes ++ p.bytes)))) (sym p.grown)
+        (subst (λ (z : List ℕ). Stage limit gs read at (s₂.offset + length p.bytes) z) (append_assoc (title ++ t.bytes) a.bytes p.bytes ∙ append_assoc title t.bytes (a.bytes ++ p.bytes)) x);
+    taken = Consumes-trans old.left s₁.left s₃.left t.bytes (a.bytes ++ p.bytes) t.taken (Consumes-trans s₁.left s₂.left s₃.left a.bytes p.bytes a.taken p.taken);
+    grown = omega (arith, t.grown, a.grown, p.grown, length-append t.bytes (a.bytes ++ p.bytes), length-append a.bytes p.bytes);
+  };
+}
 
 -- a fault behind what was taken
 fails_from : {E : Type 0} (ends : E → Bool) (limit at o : ℕ) (title x b : List ℕ) (m : Option (List ℕ)) (e : Error E) → Consumes (Some b) m x → Faults ends limit at (title ++ x) m o e

@@ -1,6 +1,6 @@
 use Rattle.std.proofs.Common.{refl, reverse, sym}
 use Rattle.std.proofs.lemmas.Result.{err_from_is_err_and}
-use Rattle.ciborium.proofs.FrameLemmas.{items_more, entries_more, tag_up, tag_folds, fold_quiet, whole_done}
+use Rattle.ciborium.proofs.FrameLemmas.{items_more, entries_more, tag_up, tag_folds}
 use Rattle.ciborium.proofs.frames.hand.Goals as goal
 
 pub returns-in_err-whole-in-Tag-clause-err : goal.returns-in_err-whole-in-Tag-clause-err

@@ -21,5 +21,5 @@ pub returns-then-opens-clause-err : goal.returns-then-opens-clause-err
 returns-then-opens-clause-err g c =
     rw c.in-Tag.is (tag_fails g.R.Read.ends c.in-Tag.n c.args.at c.args.left _ _ (seen g.R.Read c.tagged_title.new.decoder).offset RecursionLimitExceeded
     (level_deep g.R.Read.ends c.in-Tag.n c.args.left c.in_ok-place-in-Tag.inner
-        (seen g.R.Read c.args.decoder.now).left (seen g.R.Read c.tagged_title.new.decoder).left
-        (seen g.R.Read c.args.decoder.now).offset (seen g.R.Read c.tagged_title.new.decoder).offset (rw c.if-opens.true at c.opens.ensures) c.if-left-eq0-3.true c.in_ok-place-in-Tag.ensures.ok))
+    (seen g.R.Read c.args.decoder.now).left (seen g.R.Read c.tagged_title.new.decoder).left
+    (seen g.R.Read c.args.decoder.now).offset (seen g.R.Read c.tagged_title.new.decoder).offset (rw c.if-opens.true at c.opens.ensures) c.if-left-eq0-3.true c.in_ok-place-in-Tag.ensures.ok))

@@ -1,4 +1,4 @@
-use Rattle.std.proofs.Common.{◌<◌, ◌≤◌, ◌^◌, rules, refl, reverse, ◌∷◌, None, arith}
+use Rattle.std.proofs.Common.{rules, refl, reverse, ◌∷◌, arith}
 use Rattle.std.proofs.lemmas.Result.{err_from_is_err_and}
 use Rattle.ciborium_ll.specs.Views.{seen}
 use Rattle.ciborium.proofs.TurnLemmas.{turn_start, turn_staged, turn_taken, taken_none, turn_ended, turn_closed, turn_begun, turn_done, done_some, turn_fails, begun_fails, turn_less}
@@ -15,7 +15,7 @@ returns-in_err-hand-clause-err g c =
     let p = err_from_is_err_and c.from_residual.result c.from_residual.ensures.1 in
     rw (p.1, p.2)
     (turn_fails g.R.Read.ends (seen g.R.Read c.turns.decoder).offset _ c.turns.invariant.turn
-        (λ b off s. c.in_err-hand.ensures.err g.R.Read.ends c.args.limit c.args.at b (seen g.R.Read c.turns.decoder).left (seen g.R.Read c.turns.decoder).offset off s))
+    (λ b off s. c.in_err-hand.ensures.err g.R.Read.ends c.args.limit c.args.at b (seen g.R.Read c.turns.decoder).left (seen g.R.Read c.turns.decoder).offset off s))
 
 pub returns-in-Some-clause-ok : goal.returns-in-Some-clause-ok
 returns-in-Some-clause-ok g c =
@@ -32,7 +32,7 @@ returns-in_err-part-in-Taken-clause-err g c =
     let t = turn_taken (c.hand.new.top ∷ reverse c.hand.new.below.items) c.hand.new.read c.turns.invariant.turn (rw c.in-Taken.is at c.in_ok-hand.ensures.ok) in
     rw (p.1, p.2)
     (turn_fails g.R.Read.ends (seen g.R.Read c.ask.new.decoder).offset _ t
-        (λ b off s. c.in_err-part-in-Taken.ensures.err c.args.limit c.args.at (reverse c.hand.new.below.items) b off s))
+    (λ b off s. c.in_err-part-in-Taken.ensures.err c.args.limit c.args.at (reverse c.hand.new.below.items) b off s))
 
 pub close-whole-requires : goal.close-whole-requires
 close-whole-requires g c =
@@ -73,7 +73,7 @@ turns-smaller g c =
     turn_less c.turns.below.items c.hand.new.below.items c.begin.new.below.items c.turns.top c.hand.new.top c.begin.new.top c.turns.read c.hand.new.read c.begin.new.read
     (seen g.R.Read c.turns.decoder).offset (seen g.R.Read c.ask.new.decoder).offset (seen g.R.Read c.begin.new.decoder).offset
     (taken_none (c.turns.top ∷ reverse c.turns.below.items) (c.hand.new.top ∷ reverse c.hand.new.below.items) c.turns.read c.hand.new.read
-        (turn_staged c.turns.invariant.turn c.requires.titled) (rw c.in-Taken.is at c.in_ok-hand.ensures.ok))
+    (turn_staged c.turns.invariant.turn c.requires.titled) (rw c.in-Taken.is at c.in_ok-hand.ensures.ok))
     (omega (arith, c.begin.new.decoder.fits)) (omega (arith, some.grown)) (omega (arith, ok.grown)) (rw c.in-Taken.is at c.in_ok-hand.ensures.falls) (rw c.in-Some-part.is at c.in_ok-part-in-Taken.ensures.moved) c.in_ok-begin-in-Some-part.ensures.rises
 
 pub returns-in_err-begin-in-Some-part-clause-err : goal.returns-in_err-begin-in-Some-part-clause-err
@@ -82,4 +82,4 @@ returns-in_err-begin-in-Some-part-clause-err g c =
     let t = turn_taken (c.hand.new.top ∷ reverse c.hand.new.below.items) c.hand.new.read c.turns.invariant.turn (rw c.in-Taken.is at c.in_ok-hand.ensures.ok) in
     rw (p.1, p.2)
     (begun_fails g.R.Read.ends c.in-Some-part.title.0 c.in-Some-part.title.1 (seen g.R.Read c.ask.new.decoder) (seen g.R.Read c.begin.new.decoder) _ t
-        (rw c.in-Some-part.is at c.in_ok-part-in-Taken.ensures.some) c.in_err-begin-in-Some-part.ensures.err)
+    (rw c.in-Some-part.is at c.in_ok-part-in-Taken.ensures.some) c.in_err-begin-in-Some-part.ensures.err)
