@@ -15,9 +15,11 @@ use Rattle.ciborium.specs.declared.frames.Frame.{Frame}
 use Rattle.ciborium.specs.declared.frames.Frame.TheVariants as code
 use Rattle.ciborium.specs.declared.frames.Opened.TheVariants as opens
 use Rattle.ciborium.specs.Damage.{Fault, Damage}
-use Rattle.ciborium.specs.Levels.{Level, Fits, Within, Titled}
-use Rattle.ciborium.specs.Reading.{FailsAt, FailsBehind, NamesFaultBehind, IfKnown, IsFoldFault, ReadsBehind, TaggedBehind, TagDamage}
-use Rattle.ciborium.specs.Frames.{halves, opened, Rooted, Stage, IsBegun, IsLow, Opening, Begins, BeginFails, in_hand, rank}
+use Rattle.ciborium.specs.Levels.{Level, Fits, Within}
+use Rattle.ciborium.specs.Reading.{FailsAt, FailsBehind, NamesFaultBehind, IfKnown, IsFoldFault, ReadsBehind, TaggedBehind, TagDamage, IsLeaf}
+use Rattle.ciborium.specs.Exact.{LevelsExact, ItemExact}
+use Rattle.ciborium.specs.Frames.{halves, opened, Rooted, Stage, IsBegun, IsLow, Opening, Begins, BeginFails, in_hand, rank, Told, InHand, IsKept}
+use Rattle.ciborium.proofs.ToldLemmas.{told_opened, told_titled, told_leaf, told_tagged}
 use Rattle.ciborium.proofs.Once.{append_nil}
 use Rattle.ciborium.proofs.StringLemmas.{title_some}
 use Rattle.ciborium.proofs.Taking.{takes_as, takes_then}
@@ -62,81 +64,106 @@ within_as limit h k done fs b y same none e w =
 no_half : (h : Bool) (n : ℕ) → h ≡ false → h ≡ true → 0 < n
 no_half h n e f = let g : false ≡ true = sym e ∙ f in cc
 
-level_begins : (limit at now : ℕ) (h : Header) (f : Frame) (fs : List Frame) (y : List ℕ) → IsBegun f h now y → (from : ℕ) (b : List ℕ) → Rooted fs → length (opened fs) < limit → Titled limit (opened fs) h at from now b
-    → Stage limit (f ∷ fs) None from (now + length y) (b ++ y)
-level_begins limit at now h (code.Whole p k) fs y i from b r low t = absurd i
-level_begins limit at now h (code.Items l) fs y i from b r low t =
-    (r, within_as limit h (Array l.count) (views l.items.items) (opened fs) b y i.0 (ap views i.1) i.2 (level_opened limit (opened fs) h at from now b t low (subst (λ (z : Header). Fits z no_trees) (sym i.0) (array_fits l.count))))
-level_begins limit at now h (code.Entries l) fs y i from b r low t = (
-  (no_half l.half _ i.2, r),
-  within_as limit h (Map l.count) (halves l.half (flat (view_pairs l.entries.items))) (opened fs) b y i.0
-      (ap (λ z. halves z (flat (view_pairs l.entries.items))) i.2 ∙ ap (λ z. flat (view_pairs z)) i.1) i.3
-      (level_opened limit (opened fs) h at from now b t low (subst (λ (z : Header). Fits z no_trees) (sym i.0) (map_fits l.count))),
-)
-level_begins limit at now h (code.Tag n p k) fs y i from b r low t = (
+told_as : (k w w' : Bool) (h j : Header) (done : Trees) (fs : List Level) (b y : List ℕ) → h ≡ j → done ≡ no_trees → y ≡ [] → w' ≡ w → Told k w (length b) (LevelsExact (record { head = h; done = no_trees } ∷ fs) b)
+    → Told k w' (length (b ++ y)) (LevelsExact (record { head = j; done = done } ∷ fs) (b ++ y))
+told_as k w w' h j done fs b y same none e flag p =
+    subst (λ (z : Bool). Told k z (length (b ++ y)) (LevelsExact (record { head = j; done = done } ∷ fs) (b ++ y))) (sym flag)
+    (subst (λ (z : List ℕ). Told k w (length z) (LevelsExact (record { head = j; done = done } ∷ fs) z)) (append_nil b ∙ ap (λ z. b ++ z) (sym e))
+    (subst (λ (z : Trees). Told k w (length b) (LevelsExact (record { head = j; done = z } ∷ fs) b)) (sym none)
+    (subst (λ (z : Header). Told k w (length b) (LevelsExact (record { head = z; done = no_trees } ∷ fs) b)) same p)))
+
+level_begins : (limit at now : ℕ) (h : Header) (f : Frame) (fs : List Frame) (w w' : Bool) (y : List ℕ) → IsBegun f h now w w' y → (k : Bool) (from : ℕ) (b : List ℕ) → Rooted fs → length (opened fs) < limit → InHand k w limit (opened fs) h at from now b
+    → Stage k w' limit (f ∷ fs) None from (now + length y) (b ++ y)
+level_begins limit at now h (code.Whole p j) fs w w' y i k from b r low t = absurd i
+level_begins limit at now h (code.Items l) fs w w' y i k from b r low t = (
   r,
-  record {
-    before = b;
-    title = y;
-    within = subst (λ (z : Header). Within limit (record { head = z; done = no_trees } ∷ opened fs) b) i.0
-        (level_opened limit (opened fs) h at from now b t low (subst (λ (z : Header). Fits z no_trees) (sym i.0) refl));
-    child = i.1;
-    is_title = i.2;
-    place = λ q. ap (λ z. z + length y) i.3;
-    whole = refl;
-  },
+  (
+    within_as limit h (Array l.count) (views l.items.items) (opened fs) b y i.0 (ap views i.1) i.2
+        (level_opened limit (opened fs) h at from now b t.0 low (subst (λ (z : Header). Fits z no_trees) (sym i.0) (array_fits l.count))),
+    told_as k w w' h (Array l.count) (views l.items.items) (opened fs) b y i.0 (ap views i.1) i.2 i.3 (told_opened k w limit (opened fs) h at from now b t),
+  ),
+)
+level_begins limit at now h (code.Entries l) fs w w' y i k from b r low t = (
+  (no_half l.half _ i.2, r),
+  (
+    within_as limit h (Map l.count) (halves l.half (flat (view_pairs l.entries.items))) (opened fs) b y i.0
+        (ap (λ z. halves z (flat (view_pairs l.entries.items))) i.2 ∙ ap (λ z. flat (view_pairs z)) i.1) i.3
+        (level_opened limit (opened fs) h at from now b t.0 low (subst (λ (z : Header). Fits z no_trees) (sym i.0) (map_fits l.count))),
+    told_as k w w' h (Map l.count) (halves l.half (flat (view_pairs l.entries.items))) (opened fs) b y i.0
+        (ap (λ z. halves z (flat (view_pairs l.entries.items))) i.2 ∙ ap (λ z. flat (view_pairs z)) i.1) i.3 i.4 (told_opened k w limit (opened fs) h at from now b t),
+  ),
+)
+level_begins limit at now h (code.Tag n p j) fs w w' y i k from b r low t = (
+  r,
+  (
+    record {
+      before = b;
+      title = y;
+      within = subst (λ (z : Header). Within limit (record { head = z; done = no_trees } ∷ opened fs) b) i.0
+          (level_opened limit (opened fs) h at from now b t.0 low (subst (λ (z : Header). Fits z no_trees) (sym i.0) refl));
+      child = i.1;
+      is_title = i.2;
+      place = λ q. ap (λ z. z + length y) i.3;
+      whole = refl;
+    },
+    told_titled k w w' (record { head = Tag n; done = no_trees } ∷ opened fs) j b y i.4
+        (subst (λ (z : Header). Told k w (length b) (LevelsExact (record { head = z; done = no_trees } ∷ opened fs) b)) i.0 (told_opened k w limit (opened fs) h at from now b t)),
+  ),
 )
 
-pub level_begun : (limit left at now : ℕ) (h : Header) (f x : Frame) (xs ys : List Frame) (read : Option Value) (y : List ℕ) → left ≡ limit - length xs → ys ≡ xs ++ x ∷ [] → read ≡ None
-    → Opening h at now left (opens.Level f) y → Begins (x ∷ reverse xs) (f ∷ reverse ys) limit h at now read y
-level_begun limit left at now h f x xs ys read y same e none i from b r t =
+pub level_begun : (limit left at now : ℕ) (h : Header) (f x : Frame) (xs ys : List Frame) (read : Option Value) (w w' : Bool) (y : List ℕ) → left ≡ limit - length xs → ys ≡ xs ++ x ∷ [] → read ≡ None
+    → Opening h at now left w w' (opens.Level f) y → Begins (x ∷ reverse xs) (f ∷ reverse ys) limit h at now read w w' y
+level_begun limit left at now h f x xs ys read w w' y same e none i k from b r t =
     let low : length (opened (x ∷ reverse xs)) < limit = omega (arith, i.0, left_is limit left x xs same r) in
-    subst (λ (z : Option Value). Stage limit (f ∷ reverse ys) z from (now + length y) (b ++ y)) (sym none)
-    (subst (λ (z : List Frame). Stage limit (f ∷ z) None from (now + length y) (b ++ y)) (sym (last_pushed xs ys x e)) (level_begins limit at now h f (x ∷ reverse xs) y i.1 from b r low t))
+    subst (λ (z : Option Value). Stage k w' limit (f ∷ reverse ys) z from (now + length y) (b ++ y)) (sym none)
+    (subst (λ (z : List Frame). Stage k w' limit (f ∷ z) None from (now + length y) (b ++ y)) (sym (last_pushed xs ys x e)) (level_begins limit at now h f (x ∷ reverse xs) w w' y i.1 k from b r low t))
 
-pub level_rises : (h : Header) (at left : ℕ) (f x : Frame) (xs ys : List Frame) (read : Option Value) (l₀ l₁ : Option (List ℕ)) (o₀ o₁ : ℕ) → ys ≡ xs ++ x ∷ [] → read ≡ None → Moves l₀ l₁ o₀ o₁ (Opening h at o₀ left (opens.Level f))
+pub level_rises : (h : Header) (at left : ℕ) (f x : Frame) (xs ys : List Frame) (read : Option Value) (w w' : Bool) (l₀ l₁ : Option (List ℕ)) (o₀ o₁ : ℕ) → ys ≡ xs ++ x ∷ [] → read ≡ None → Moves l₀ l₁ o₀ o₁ (Opening h at o₀ left w w' (opens.Level f))
     → rank ys f read + 4 * o₀ ≤ 2 * length xs + 2 + 4 * o₁
-level_rises h at left f x xs ys read l₀ l₁ o₀ o₁ e none t = let s = hands f t.bytes t.has in omega (arith, ap length e, length-append xs (x ∷ []), t.grown)
+level_rises h at left f x xs ys read w w' l₀ l₁ o₀ o₁ e none t = let s = hands f t.bytes t.has in omega (arith, ap length e, length-append xs (x ∷ []), t.grown)
   where
-    hands : (f : Frame) (y : List ℕ) → Opening h at o₀ left (opens.Level f) y → in_hand read f ≤ 4 * length y
+    hands : (f : Frame) (y : List ℕ) → Opening h at o₀ left w w' (opens.Level f) y → in_hand read f ≤ 4 * length y
     hands f y i = subst (λ (z : Option Value). in_hand z f ≤ 4 * length y) (sym none) (go f i)
       where
-        go : (f : Frame) → Opening h at o₀ left (opens.Level f) y → in_hand None f ≤ 4 * length y
+        go : (f : Frame) → Opening h at o₀ left w w' (opens.Level f) y → in_hand None f ≤ 4 * length y
         go (code.Whole p k) i = absurd i.1
         go (code.Items l) i = omega arith
         go (code.Entries l) i = omega arith
         go (code.Tag n p k) i = let s = title_some y k i.1.2 in omega arith
 
 -- a leaf is read
-pub plain_leaf : (limit left at now place : ℕ) (h k : Header) (fs : List Frame) (v : Value) (read : Option Value) (x y : List ℕ) → read ≡ Some v → Opening h at now left (opens.Leaf None place k) x
-    → ((low : ℕ) → ReadsBehind k low (view v) y) → Begins fs fs limit h at now read (x ++ y)
-plain_leaf limit left at now place h k fs v read x y some (leaf, p) s from b r t =
+pub plain_leaf : (limit left at now place : ℕ) (h j : Header) (fs : List Frame) (v : Value) (read : Option Value) (w w' : Bool) (x y : List ℕ) → read ≡ Some v → Opening h at now left w w' (opens.Leaf None place j) x
+    → ((low : ℕ) → ReadsBehind j low (view v) y) → Begins fs fs limit h at now read w w' (x ++ y)
+plain_leaf limit left at now place h j fs v read w w' x y some (leaf, p) s k from b r t =
     let low = limit - length (opened fs) in
-    subst (λ (z : Option Value). Stage limit fs z from (now + length (x ++ y)) (b ++ (x ++ y))) (sym some) (
+    let reads : ReadsBehind h low (view v) (x ++ y) = subst (λ (z : List ℕ). ReadsBehind h low (view v) (z ++ y)) (sym p.2) (subst (λ (z : Header). ReadsBehind z low (view v) y) p.0 (s low)) in
+    subst (λ (z : Option Value). Stage k w' limit fs z from (now + length (x ++ y)) (b ++ (x ++ y))) (sym some) (
       r,
-      titled_read limit (opened fs) h at from now b (x ++ y) (view v) t
-          (subst (λ (z : List ℕ). ReadsBehind h low (view v) (z ++ y)) (sym p.2) (subst (λ (z : Header). ReadsBehind z low (view v) y) p.0 (s low))),
+      titled_read limit (opened fs) h at from now b (x ++ y) (view v) t.0 reads,
+      subst (λ (z : Bool). Told k z (length (b ++ (x ++ y))) (ItemExact (opened fs) (view v) (b ++ (x ++ y)))) (sym p.3)
+          (told_leaf k w limit low (opened fs) h (view v) at from now b (x ++ y) t (subst IsLeaf p.0 leaf) reads),
     )
 
 -- a leaf behind its tag
-pub leaf_tagged : (left at now place n : ℕ) (h k : Header) (c : Tree) (x y : List ℕ) → Opening h at now left (opens.Leaf (Some n) place k) x → ((o : Option ℕ) → k ≡ Bytes o → (z : List ℕ) × (c ≡ bytes z))
-    → ((low : ℕ) → ReadsBehind k low c y) → TaggedBehind n left c (x ++ y)
-leaf_tagged left at now place n h k c x y i string s = go i.1.1
+pub leaf_tagged : (left at now place n : ℕ) (h j : Header) (c : Tree) (w w' : Bool) (x y : List ℕ) → Opening h at now left w w' (opens.Leaf (Some n) place j) x → ((o : Option ℕ) → j ≡ Bytes o → (z : List ℕ) × (c ≡ bytes z))
+    → ((low : ℕ) → ReadsBehind j low c y) → TaggedBehind n left c (x ++ y)
+leaf_tagged left at now place n h j c w w' x y i string s = go i.1.1
   where
-    go : IsLow left n k → TaggedBehind n left c (x ++ y)
+    go : IsLow left n j → TaggedBehind n left c (x ++ y)
     go (inl (over, low)) = tag_level n left c (x ++ y) low (s (left - 1) x i.1.2)
     go (inr (which, (o, is))) = let z = string o is in tag_free n left 0 z.0 c (x ++ y) which z.1 (s 0 x i.1.2)
 
-pub tagged_leaf : (limit left at now place n : ℕ) (h k : Header) (f : Frame) (xs : List Frame) (c v : Value) (read : Option Value) (x y : List ℕ) → left ≡ limit - length xs → read ≡ Some v
-    → Opening h at now left (opens.Leaf (Some n) place k) x → ((o : Option ℕ) → k ≡ Bytes o → (z : List ℕ) × (view c ≡ bytes z)) → tagged n (view c) ≡ Some (view v)
-    → ((low : ℕ) → ReadsBehind k low (view c) y) → Begins (f ∷ reverse xs) (f ∷ reverse xs) limit h at now read (x ++ y)
-tagged_leaf limit left at now place n h k f xs c v read x y same some i string e s from b r t =
+pub tagged_leaf : (limit left at now place n : ℕ) (h j : Header) (f : Frame) (xs : List Frame) (c v : Value) (read : Option Value) (w w₁ w' : Bool) (x y : List ℕ) → left ≡ limit - length xs → read ≡ Some v
+    → Opening h at now left w w₁ (opens.Leaf (Some n) place j) x → ((o : Option ℕ) → j ≡ Bytes o → (z : List ℕ) × (view c ≡ bytes z)) → tagged n (view c) ≡ Some (view v) → IsKept n (view c) (view v) w₁ w'
+    → ((low : ℕ) → ReadsBehind j low (view c) y) → Begins (f ∷ reverse xs) (f ∷ reverse xs) limit h at now read w w' (x ++ y)
+tagged_leaf limit left at now place n h j f xs c v read w w₁ w' x y same some i string e kept s k from b r t =
     let fs = f ∷ reverse xs in
-    let q : ReadsBehind (Tag n) left (view v) (x ++ y) = tag_read n left (view c) (view v) (x ++ y) (leaf_tagged left at now place n h k (view c) x y i string s) e in
-    subst (λ (z : Option Value). Stage limit fs z from (now + length (x ++ y)) (b ++ (x ++ y))) (sym some) (
+    let q : ReadsBehind (Tag n) left (view v) (x ++ y) = tag_read n left (view c) (view v) (x ++ y) (leaf_tagged left at now place n h j (view c) w w₁ x y i string s) e in
+    subst (λ (z : Option Value). Stage k w' limit fs z from (now + length (x ++ y)) (b ++ (x ++ y))) (sym some) (
       r,
-      titled_read limit (opened fs) h at from now b (x ++ y) (view v) t
+      titled_read limit (opened fs) h at from now b (x ++ y) (view v) t.0
           (subst (λ (z : ℕ). ReadsBehind h z (view v) (x ++ y)) (left_is limit left f xs same r) (subst (λ (z : Header). ReadsBehind z left (view v) (x ++ y)) (sym i.1.0) q)),
+      told_tagged k w w₁ w' limit left (opened fs) n j (view c) (view v) at from now b x y (subst (λ (z : Header). InHand k w limit (opened fs) z at from now b) i.1.0 t) i.0 i.1.2 i.1.4 s q e kept,
     )
 
 -- no leaf is read
@@ -149,28 +176,28 @@ unmoved ends h at (Some b) (Some rest) o₀ o₁ o₂ D e t w title u g =
     let is : b ≡ rest = t.taken ∙ ap (λ z. z ++ rest) t.has in
     subst (λ (z : List ℕ). FailsAt ends (title ++ z) at o₂ D e) (sym is) (w title u (g ∙ sym same))
 
-pub leaf_fails : {E : Type 0} (ends : E → Bool) (left at place : ℕ) (n : Option ℕ) (h k : Header) (old mid new : Seen) (e : Error E) → Takes old mid (Opening h at old.offset left (opens.Leaf n place k))
+pub leaf_fails : {E : Type 0} (ends : E → Bool) (left at place : ℕ) (n : Option ℕ) (h k : Header) (w w' : Bool) (old mid new : Seen) (e : Error E) → Takes old mid (Opening h at old.offset left w w' (opens.Leaf n place k))
     → ((low : ℕ) → NamesFaultBehind ends k place (λ stop b f. Damage stop b low f) mid new e) → NamesFaultBehind ends h at (λ stop b f. Damage stop b left f) old new e
-leaf_fails ends left at place None h k old mid new e t w =
+leaf_fails ends left at place None h k u u' old mid new e t w =
     let p = t.has.1 in
-    unmoved ends h at old.left mid.left old.offset mid.offset new.offset (λ stop b f. Damage stop b left f) e (takes_as _ _ _ _ (Opening h at old.offset left (opens.Leaf None place k)) (λ (y : List ℕ). y ≡ []) t (λ y q. q.1.2))
+    unmoved ends h at old.left mid.left old.offset mid.offset new.offset (λ stop b f. Damage stop b left f) e (takes_as _ _ _ _ (Opening h at old.offset left u u' (opens.Leaf None place k)) (λ (y : List ℕ). y ≡ []) t (λ y q. q.1.2))
     (subst (λ (z : Header). FailsBehind ends z at mid.offset mid.left new.offset (λ stop b f. Damage stop b left f) e) p.0
     (subst (λ (z : ℕ). FailsBehind ends k z mid.offset mid.left new.offset (λ stop b f. Damage stop b left f) e) p.1 (w left)))
-leaf_fails ends left at place (Some n) h k old mid new e t w =
+leaf_fails ends left at place (Some n) h k u u' old mid new e t w =
     subst (λ (z : Header). FailsBehind ends z at old.offset old.left new.offset (λ stop b f. Damage stop b left f) e) (sym t.has.1.0)
     (tag_fails ends n at left old.left old.offset new.offset e (go t.has.1.1))
   where
     titled : Moves old.left mid.left old.offset mid.offset (λ (b : List ℕ). Title b k)
-    titled = takes_as _ _ _ _ (Opening h at old.offset left (opens.Leaf (Some n) place k)) (λ (b : List ℕ). Title b k) t (λ y q. q.1.2)
+    titled = takes_as _ _ _ _ (Opening h at old.offset left u u' (opens.Leaf (Some n) place k)) (λ (b : List ℕ). Title b k) t (λ y q. q.1.2)
 
     go : IsLow left n k → IfKnown old.left (λ b. FailsAt ends b old.offset new.offset (TagDamage n left) e)
     go (inl (over, low)) = level_item ends n left place k old.left mid.left old.offset mid.offset new.offset e over low titled t.has.1.3 (w (left - 1))
     go (inr (which, (o, is))) = free_item ends n left place o k old.left mid.left old.offset mid.offset new.offset e which is titled t.has.1.3 (w left)
 
-pub leaf_folds : {E : Type 0} (ends : E → Bool) (left at place n : ℕ) (h k : Header) (c : Tree) (old mid new : Seen) (e : Error E) → Takes old mid (Opening h at old.offset left (opens.Leaf (Some n) place k))
+pub leaf_folds : {E : Type 0} (ends : E → Bool) (left at place n : ℕ) (h k : Header) (c : Tree) (u u' : Bool) (old mid new : Seen) (e : Error E) → Takes old mid (Opening h at old.offset left u u' (opens.Leaf (Some n) place k))
     → Takes mid new (λ b. (low : ℕ) → ReadsBehind k low c b) → ((o : Option ℕ) → k ≡ Bytes o → (z : List ℕ) × (c ≡ bytes z)) → IsFoldFault n c e → NamesFaultBehind ends h at (λ stop b f. Damage stop b left f) old new e
-leaf_folds ends left at place n h k c old mid new e t s string w =
+leaf_folds ends left at place n h k c u u' old mid new e t s string w =
     subst (λ (z : Header). FailsBehind ends z at old.offset old.left new.offset (λ stop b f. Damage stop b left f) e) (sym t.has.1.0)
     (fold_fails ends n at left c old.left new.left old.offset new.offset e w
-    (takes_then _ _ _ _ _ _ (Opening h at old.offset left (opens.Leaf (Some n) place k)) (λ b. (low : ℕ) → ReadsBehind k low c b) (λ b. TaggedBehind n left c b) t s
-    (λ x y i r. leaf_tagged left at old.offset place n h k c x y i string r)))
+    (takes_then _ _ _ _ _ _ (Opening h at old.offset left u u' (opens.Leaf (Some n) place k)) (λ b. (low : ℕ) → ReadsBehind k low c b) (λ b. TaggedBehind n left c b) t s
+    (λ x y i r. leaf_tagged left at old.offset place n h k c u u' x y i string r)))

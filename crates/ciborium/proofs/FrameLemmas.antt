@@ -1,15 +1,15 @@
 -- What the steps of the reader do to its frames.
-use Rattle.std.proofs.Common.{◌≡◌, ◌≢◌, ◌≤◌, ◌<◌, ◌+◌, ◌-◌, ◌*◌, inl, inr, ℕ, Bool, true, false, List, [], ◌∷◌, ◌++◌, length, Option, None, Some, zero, suc, get_or, set, refl, sym, ap, subst, ◌∙◌, arith, reverse}
+use Rattle.std.proofs.Common.{◌≡◌, ◌≢◌, ◌≤◌, ◌<◌, ◌+◌, ◌-◌, ◌*◌, ◌&&◌, inl, inr, ℕ, Bool, true, false, List, [], ◌∷◌, ◌++◌, length, Option, None, Some, zero, suc, get_or, set, refl, sym, ap, subst, ◌∙◌, arith, reverse}
 use Rattle.std.proofs.lemmas.List.{reverse-append}
 use Rattle.ciborium_ll.specs.declared.hdr.Header.{Header}
 use Rattle.ciborium_ll.specs.declared.hdr.Header.TheVariants.{Array, Map, Break}
 use Rattle.ciborium_ll.specs.Seen.{Seen, Takes}
-use Rattle.ciborium_ll.specs.Title.{Title}
+use Rattle.ciborium_ll.specs.Title.{Title, IsShortest}
 use Rattle.ciborium_value.specs.declared.value.Value.TheVariants as value
 use Rattle.ciborium_value.proofs.Views.{view_array, view_map}
 use Rattle.ciborium.specs.Front.{ReadsAll}
 use Rattle.ciborium.proofs.ReaderLemmas.{closed}
-use Rattle.std.specs.Prelude.{IfSome}
+use Rattle.std.specs.Prelude.{IfSome, IfNone, MatchOption}
 use Rattle.ciborium.proofs.Taking.{takes_as}
 use Rattle.ciborium.proofs.Once.{append_nil}
 use Rattle.ciborium.proofs.ChildLemmas.{array_read, map_read, array_due, title_no_break, not_all}
@@ -26,10 +26,12 @@ use Rattle.ciborium.specs.declared.frames.Items.{Items}
 use Rattle.ciborium.specs.declared.frames.Entries.{Entries}
 use Rattle.ciborium.specs.declared.frames.Handed.TheVariants as handed
 use Rattle.ciborium.specs.Damage.{semantic, Damage, in_title, TitleDamage, Due}
-use Rattle.ciborium.specs.Levels.{Fits, Stands, Handing, Titled}
+use Rattle.ciborium.specs.Exact.{encoded, LevelsExact, ItemExact}
+use Rattle.ciborium.specs.Levels.{Level, Within, Fits, Stands, Handing}
+use Rattle.ciborium.proofs.ToldLemmas.{told_handed, told_tag, told_done, told_array, told_map, told_titled}
 use Rattle.ciborium.specs.Reading.{IsFoldFault, Closes, IsNext, NamesFault, FitsIn, is_full, fault_failures}
 use Rattle.ciborium.proofs.StringLemmas.{title_some}
-use Rattle.ciborium.specs.Frames.{in_hand, snoc, front, halves, halves_of, HasHalf, opened, Stage, Hands, HandFails, Faults, ClosedStage, IsClosed, AskEnds, AskGives, AskFails}
+use Rattle.ciborium.specs.Frames.{in_hand, snoc, front, halves, halves_of, HasHalf, opened, Stage, Hands, HandFails, Faults, IsClosed, AskEnds, AskGives, AskFails, Told, InHand, IsFlagged, IsKept, CloseGives}
 use Rattle.ciborium.proofs.ReadLemmas.{snoc_count, pushed, pushed_pair, count_views, count_flat}
 use Rattle.ciborium.proofs.LevelLemmas.{all_whole, level_more, level_whole, due_fails, tag_whole, negative_damage, array_more, map_more}
 
@@ -38,25 +40,30 @@ pub last_pushed : {A : Type 0} (xs ys : List A) (x : A) → ys ≡ xs ++ x ∷ [
 last_pushed xs ys x e = ap reverse e ∙ reverse-append xs (x ∷ [])
 
 -- an array and a map with one item more
-pub items_more : (fs : List Frame) (l m : Items) (v : Value) → m.count ≡ l.count → m.items.items ≡ l.items.items ++ v ∷ [] → Hands (code.Items l ∷ fs) (code.Items m ∷ fs) (Some v) None handed.Taken
-items_more fs l m v same e limit from now b (r, p) =
+pub items_more : (fs : List Frame) (l m : Items) (v : Value) (w : Bool) → m.count ≡ l.count → m.items.items ≡ l.items.items ++ v ∷ [] → Hands (code.Items l ∷ fs) (code.Items m ∷ fs) (Some v) None w w handed.Taken
+items_more fs l m v w same e k limit from now b (r, p, q) =
     let more : views m.items.items ≡ snoc (views l.items.items) (view v) = sym (pushed view l.items.items m.items.items v e) in
     let count : tree_count (views m.items.items) ≡ tree_count (views l.items.items) + 1 = ap tree_count more ∙ snoc_count (views l.items.items) (view v) in
-    (refl, (r, level_more limit _ _ (opened fs) (view v) b (ap Array same) more (subst (λ (z : Option ℕ). Fits (Array z) (views m.items.items)) (sym same) (array_more l.count (views l.items.items) (views m.items.items) p.head count p.child)) p))
+    let x = level_more limit _ _ (opened fs) (view v) b (ap Array same) more
+    (subst (λ (z : Option ℕ). Fits (Array z) (views m.items.items)) (sym same) (array_more l.count (views l.items.items) (views m.items.items) p.head count p.child)) p in
+    let y = told_handed k w (record { head = Array l.count; done = views l.items.items }) (record { head = Array m.count; done = views m.items.items }) (opened fs) (view v) b (ap Array same) more q in
+    (refl, (r, (x, y)))
 
-pub entries_more : (fs : List Frame) (l m : Entries) (v : Value) → m.count ≡ l.count → HasHalf m → halves_of m ≡ snoc (halves_of l) (view v)
-    → Hands (code.Entries l ∷ fs) (code.Entries m ∷ fs) (Some v) None handed.Taken
-entries_more fs l m v same half more limit from now b (r, p) =
+pub entries_more : (fs : List Frame) (l m : Entries) (v : Value) (w : Bool) → m.count ≡ l.count → HasHalf m → halves_of m ≡ snoc (halves_of l) (view v)
+    → Hands (code.Entries l ∷ fs) (code.Entries m ∷ fs) (Some v) None w w handed.Taken
+entries_more fs l m v w same half more k limit from now b (r, p, q) =
     let count : tree_count (halves_of m) ≡ tree_count (halves_of l) + 1 = ap tree_count more ∙ snoc_count (halves_of l) (view v) in
-    let w = level_more limit _ _ (opened fs) (view v) b (ap Map same) more
+    let x = level_more limit _ _ (opened fs) (view v) b (ap Map same) more
     (subst (λ (z : Option ℕ). Fits (Map z) (halves_of m)) (sym same) (map_more l.count (halves_of l) (halves_of m) p.head count p.child)) p in
-    (refl, ((half, r.1), w))
+    let y = told_handed k w (record { head = Map l.count; done = halves_of l }) (record { head = Map m.count; done = halves_of m }) (opened fs) (view v) b (ap Map same) more q in
+    (refl, ((half, r.1), (x, y)))
 
 -- a tag is whole
-pub tag_up : (xs ys : List Frame) (x : Frame) (n at : ℕ) (h : Header) (v w : Value) → ys ≡ xs ++ x ∷ [] → tagged n (view v) ≡ Some (view w)
-    → Hands (code.Tag n at h ∷ reverse ys) (x ∷ reverse xs) (Some v) (Some w) handed.Up
-tag_up xs ys x n at h v w e f limit from now b (r, p) =
-    subst (λ (z : List Frame). Stage limit z (Some w) from now b) (last_pushed xs ys x e) (r, tag_whole limit n _ (opened (reverse ys)) (view v) (view w) b refl refl p f)
+pub tag_up : (xs ys : List Frame) (x : Frame) (n at : ℕ) (h : Header) (v u : Value) (w w' : Bool) → ys ≡ xs ++ x ∷ [] → tagged n (view v) ≡ Some (view u) → IsKept n (view v) (view u) w w'
+    → Hands (code.Tag n at h ∷ reverse ys) (x ∷ reverse xs) (Some v) (Some u) w w' handed.Up
+tag_up xs ys x n at h v u w w' e f kept k limit from now b (r, p, q) =
+    subst (λ (z : List Frame). Stage k w' limit z (Some u) from now b) (last_pushed xs ys x e)
+    (r, tag_whole limit n _ (opened (reverse ys)) (view v) (view u) b refl refl p f, told_tag k w w' limit n (opened (reverse ys)) (view v) (view u) b p f kept q)
 
 -- a number that does not fold
 faults_semantic : {E : Type 0} (ends : E → Bool) (limit from : ℕ) (b : List ℕ) (left : Option (List ℕ)) (place : ℕ) → ((stop : ℕ) (rest : List ℕ) → Damage stop (b ++ rest) limit (semantic kind.BigNegative))
@@ -80,9 +87,13 @@ tag_folds fs n at h v error.Memory w ends limit from b left now same s = faults_
 tag_folds fs n at h v error.TooLong w ends limit from b left now same s = absurd w
 
 -- the whole is done
-pub whole_done : (fs : List Frame) (at : ℕ) (h : Header) (v : Value) → Hands (code.Whole at h ∷ fs) (code.Whole at h ∷ fs) (Some v) (Some v) handed.Done
-whole_done fs at h v limit from now b (r, p) =
-    (v, refl, all_whole limit (view v) b (subst (λ (z : List Frame). Handing limit (opened z) (view v) b) r p))
+pub whole_done : (fs : List Frame) (at : ℕ) (h : Header) (v : Value) (w : Bool) → Hands (code.Whole at h ∷ fs) (code.Whole at h ∷ fs) (Some v) (Some v) w w handed.Done
+whole_done fs at h v w k limit from now b (r, p, q) = (
+  v,
+  refl,
+  all_whole limit (view v) b (subst (λ (z : List Frame). Handing limit (opened z) (view v) b) r p),
+  told_done k w (view v) b (subst (λ (z : List Frame). Told k w (length b) (ItemExact (opened z) (view v) b)) r q),
+)
 
 -- a key, and then its value
 front_snoc : (ts : Trees) (t : Tree) → front (snoc ts t) ≡ ts
@@ -115,29 +126,33 @@ half_count : (es : List (Value × Value)) → 0 < length es → tree_count (fron
 half_count es some = let c = count_flat view_pair es in front_count (flat (view_pairs es)) (omega arith) ∙ c
 
 -- an array and a map are closed
-pub array_closed : (xs ys : List Frame) (x : Frame) (l : Items) → ys ≡ xs ++ x ∷ [] → (limit from now : ℕ) (b : List ℕ) → ClosedStage limit (code.Items l ∷ reverse ys) b
-    → Stage limit (x ∷ reverse xs) (Some (value.Array l.items)) from now b
-array_closed xs ys x l e limit from now b (p, y, r, w, ends, whole) =
-    let low : 0 < limit - length (opened (reverse ys)) = omega (arith, w.4) in
-    subst (λ (z : List Frame). Stage limit z (Some (value.Array l.items)) from now b) (last_pushed xs ys x e) (
+pub array_closed : (xs ys : List Frame) (x : Frame) (l : Items) → ys ≡ xs ++ x ∷ [] → CloseGives (code.Items l ∷ reverse ys) (x ∷ reverse xs) (value.Array l.items)
+array_closed xs ys x l e k w limit from now b (p, y, r, within, ends, whole, told) =
+    let low : 0 < limit - length (opened (reverse ys)) = omega (arith, within.4) in
+    subst (λ (z : List Frame). Stage k w limit z (Some (value.Array l.items)) from now b) (last_pushed xs ys x e) (
       r,
       subst (λ (z : List ℕ). Handing limit (opened (reverse ys)) (view (value.Array l.items)) z) (sym whole)
-          (level_whole limit _ (opened (reverse ys)) (view (value.Array l.items)) p y w
+          (level_whole limit _ (opened (reverse ys)) (view (value.Array l.items)) p y within
           (λ inner q. array_read l.count (length l.items.items) (limit - length (opened (reverse ys))) (view (value.Array l.items)) (views l.items.items) (inner ++ y) (view_array l.items) (count_views view l.items.items) low
           (closed l.count (length l.items.items) (limit - length (opened (reverse ys)) - 1) (views l.items.items) inner y q ends))),
+      subst (λ (z : Tree). Told k w (length b) (ItemExact (opened (reverse ys)) z b)) (sym (view_array l.items))
+          (told_array k w l.count limit (opened (reverse ys)) (views l.items.items) (length l.items.items) p y b (count_views view l.items.items) within ends whole told),
     )
 
-pub map_closed : (xs ys : List Frame) (x : Frame) (l : Entries) → ys ≡ xs ++ x ∷ [] → (limit from now : ℕ) (b : List ℕ) → ClosedStage limit (code.Entries l ∷ reverse ys) b
-    → Stage limit (x ∷ reverse xs) (Some (value.Map l.entries)) from now b
-map_closed xs ys x l e limit from now b (p, y, r, w, ends, whole) =
-    let low : 0 < limit - length (opened (reverse ys)) = omega (arith, w.4) in
-    subst (λ (z : List Frame). Stage limit z (Some (value.Map l.entries)) from now b) (last_pushed xs ys x e) (
+pub map_closed : (xs ys : List Frame) (x : Frame) (l : Entries) → ys ≡ xs ++ x ∷ [] → CloseGives (code.Entries l ∷ reverse ys) (x ∷ reverse xs) (value.Map l.entries)
+map_closed xs ys x l e k w limit from now b (p, y, r, within, ends, whole, told) =
+    let low : 0 < limit - length (opened (reverse ys)) = omega (arith, within.4) in
+    let within' = subst (λ (z : Bool). Within limit (record { head = Map l.count; done = halves z (flat (view_pairs l.entries.items)) } ∷ opened (reverse ys)) p) ends.0 within in
+    let told' = subst (λ (z : Bool). Told k w (length p) (LevelsExact (record { head = Map l.count; done = halves z (flat (view_pairs l.entries.items)) } ∷ opened (reverse ys)) p)) ends.0 told in
+    subst (λ (z : List Frame). Stage k w limit z (Some (value.Map l.entries)) from now b) (last_pushed xs ys x e) (
       r.1,
       subst (λ (z : List ℕ). Handing limit (opened (reverse ys)) (view (value.Map l.entries)) z) (sym whole)
-          (level_whole limit _ (opened (reverse ys)) (view (value.Map l.entries)) p y w
+          (level_whole limit _ (opened (reverse ys)) (view (value.Map l.entries)) p y within
           (λ inner q. map_read l.count (length l.entries.items) (limit - length (opened (reverse ys))) (view (value.Map l.entries)) (view_pairs l.entries.items) (inner ++ y) (view_map l.entries) (count_flat view_pair l.entries.items) low
           (closed l.count (length l.entries.items) (limit - length (opened (reverse ys)) - 1) (flat (view_pairs l.entries.items)) inner y
           (subst (λ (z : Bool). ReadsAll inner (limit - length (opened (reverse ys)) - 1) (halves z (flat (view_pairs l.entries.items)))) ends.0 q) ends.1))),
+      subst (λ (z : Tree). Told k w (length b) (ItemExact (opened (reverse ys)) z b)) (sym (view_map l.entries))
+          (told_map k w l.count limit (opened (reverse ys)) (view_pairs l.entries.items) (length l.entries.items) p y b (count_flat view_pair l.entries.items) within' ends.1 whole told'),
     )
 
 -- the whole and a tag are not closed, and no level stands alone
@@ -158,24 +173,27 @@ tag_stays n at h fs (limit, b, c) = c.4
 
 -- what an array is asked
 pub items_end : (l : Items) (n : ℕ) (y : List ℕ) → n ≡ length l.items.items → Closes l.count n y → AskEnds (code.Items l) y
-items_end l n y same c limit from now fs b (r, w) = (b, y, r, w, subst (λ (z : ℕ). Closes l.count z y) same c, refl)
+items_end l n y same c k w limit from now fs b (r, (within, told)) = (b, y, r, within, subst (λ (z : ℕ). Closes l.count z y) same c, refl, told)
 
 array_stands : (o : Option ℕ) (done : Trees) (d : ℕ) (h : Header) → tree_count done ≡ d → Fits (Array o) done → is_full o d ≡ false → (o ≡ None → h ≢ Break) → Stands (Array o) (tree_count done) h
 array_stands (Some n) done d h c fits full stays = let l = not_all n d full (omega arith) in omega arith
 array_stands None done d h c fits full stays = stays refl
 
-pub items_give : (l : Items) (n at now : ℕ) (h : Header) (y : List ℕ) → n ≡ length l.items.items → at ≡ now → IsNext l.count n h → Title y h → AskGives (code.Items l) h at now y
-items_give l n at now h y same e next t limit from fs b (r, w) = (
+pub items_give : (l : Items) (n at now : ℕ) (h : Header) (y : List ℕ) (w w' : Bool) → n ≡ length l.items.items → at ≡ now → IsNext l.count n h → Title y h → IsFlagged w w' h y → AskGives (code.Items l) h at now w w' y
+items_give l n at now h y w w' same e next t flag k limit from fs b (r, (within, told)) = (
   r,
-  record {
-    before = b;
-    title = y;
-    within = w;
-    child = array_stands l.count (views l.items.items) n h (count_views view l.items.items ∙ sym same) w.5.fits next.due next.stays;
-    is_title = t;
-    place = λ q. ap (λ z. z + length y) e;
-    whole = refl;
-  },
+  (
+    record {
+      before = b;
+      title = y;
+      within = within;
+      child = array_stands l.count (views l.items.items) n h (count_views view l.items.items ∙ sym same) within.5.fits next.due next.stays;
+      is_title = t;
+      place = λ q. ap (λ z. z + length y) e;
+      whole = refl;
+    },
+    told_titled k w w' (opened (code.Items l ∷ fs)) h b y flag told,
+  ),
 )
 
 fits_in : (o : Option ℕ) (done : Trees) (d : ℕ) → tree_count done ≡ d → Fits (Array o) done → FitsIn o d
@@ -183,14 +201,14 @@ fits_in (Some n) done d c fits = omega arith
 fits_in None done d c fits = tt
 
 pub items_fail : {E : Type 0} (ends : E → Bool) (l : Items) (n : ℕ) (old new : Seen) (e : Error E) → n ≡ length l.items.items → is_full l.count n ≡ false → NamesFault ends TitleDamage old new e → AskFails ends (code.Items l) old new e
-items_fail ends l n old new e same full names limit from fs b off (r, w) =
+items_fail ends l n old new e same full names limit from fs b off (r, (w, told)) =
     let count = count_views view l.items.items ∙ sym same in
     due_fails ends limit (opened (code.Items l ∷ fs)) from old.offset new.offset old.left b TitleDamage e off w
     (λ stop rest f d. (array_due l.count (views l.items.items) n rest count (fits_in l.count (views l.items.items) n count w.5.fits) full (λ none. title_no_break stop rest f d), in_title rest _ f d)) names
 
 -- what a map is asked
 pub entries_end : (l : Entries) (y : List ℕ) → l.half ≡ false → Closes l.count (length l.entries.items) y → AskEnds (code.Entries l) y
-entries_end l y nil c limit from now fs b (r, w) = (b, y, r, w, (nil, c), refl)
+entries_end l y nil c k w limit from now fs b (r, (within, told)) = (b, y, r, within, (nil, c), refl, told)
 
 map_stands : (o : Option ℕ) (es : List (Value × Value)) (half : Bool) (h : Header) → Fits (Map o) (halves half (flat (view_pairs es))) → (half ≡ true → 0 < length es) → (half ≡ false → IsNext o (length es) h)
     → Stands (Map o) (tree_count (halves half (flat (view_pairs es)))) h
@@ -206,34 +224,53 @@ map_is_due (Some n) es true rest fits some full stays = let c = half_count es (s
 map_is_due None es false rest fits some full stays = inr stays
 map_is_due None es true rest fits some full stays = let c = half_count es (some refl) in inl (omega arith)
 
-pub entries_give : (l : Entries) (at now : ℕ) (h : Header) (y : List ℕ) → at ≡ now → (l.half ≡ false → IsNext l.count (length l.entries.items) h) → Title y h → AskGives (code.Entries l) h at now y
-entries_give l at now h y e next t limit from fs b (r, w) = (
+pub entries_give : (l : Entries) (at now : ℕ) (h : Header) (y : List ℕ) (w w' : Bool) → at ≡ now → (l.half ≡ false → IsNext l.count (length l.entries.items) h) → Title y h → IsFlagged w w' h y
+    → AskGives (code.Entries l) h at now w w' y
+entries_give l at now h y w w' e next t flag k limit from fs b (r, (within, told)) = (
   r,
-  record {
-    before = b;
-    title = y;
-    within = w;
-    child = map_stands l.count l.entries.items l.half h w.5.fits r.0 next;
-    is_title = t;
-    place = λ q. ap (λ z. z + length y) e;
-    whole = refl;
-  },
+  (
+    record {
+      before = b;
+      title = y;
+      within = within;
+      child = map_stands l.count l.entries.items l.half h within.5.fits r.0 next;
+      is_title = t;
+      place = λ q. ap (λ z. z + length y) e;
+      whole = refl;
+    },
+    told_titled k w w' (opened (code.Entries l ∷ fs)) h b y flag told,
+  ),
 )
 
 pub entries_fail : {E : Type 0} (ends : E → Bool) (l : Entries) (old new : Seen) (e : Error E) → (l.half ≡ false → is_full l.count (length l.entries.items) ≡ false) → NamesFault ends TitleDamage old new e → AskFails ends (code.Entries l) old new e
-entries_fail ends l old new e full names limit from fs b off (r, w) =
+entries_fail ends l old new e full names limit from fs b off (r, (w, told)) =
     due_fails ends limit (opened (code.Entries l ∷ fs)) from old.offset new.offset old.left b TitleDamage e off w
     (λ stop rest f d. (map_is_due l.count l.entries.items l.half rest w.5.fits r.0 full (title_no_break stop rest f d), in_title rest _ f d)) names
 
-pub items_part : (l : Items) (n : ℕ) (o : Option (ℕ × Header)) (old new : Seen) → n ≡ length l.items.items → IfSome o (λ r. Takes old new (λ b. Title b r.1)) → IfSome o (λ r. r.0 ≡ old.offset)
-    → IfSome o (λ r. IsNext l.count n r.1) → IfSome o (λ r. Takes old new (AskGives (code.Items l) r.1 r.0 old.offset))
-items_part l n None old new same t at next = tt
-items_part l n (Some r) old new same t at next = takes_as _ _ _ _ (λ b. Title b r.1) (AskGives (code.Items l) r.1 r.0 old.offset) t (λ y u. items_give l n r.0 old.offset r.1 y same at next u)
+pub items_part : (l : Items) (n : ℕ) (o : Option (ℕ × Header)) (old new : Seen) (w w' u : Bool) → n ≡ length l.items.items → IfSome o (λ r. Takes old new (λ b. Title b r.1 × IsShortest u b r.1)) → IfSome o (λ r. r.0 ≡ old.offset)
+    → IfSome o (λ r. IsNext l.count n r.1) → MatchOption o (w' ≡ w) (λ r. w' ≡ (w && (u && encoded r.1))) → IfSome o (λ r. Takes old new (AskGives (code.Items l) r.1 r.0 old.offset w w'))
+items_part l n None old new w w' u same t at next flag = tt
+items_part l n (Some r) old new w w' u same t at next flag =
+    takes_as _ _ _ _ (λ b. Title b r.1 × IsShortest u b r.1) (AskGives (code.Items l) r.1 r.0 old.offset w w') t (λ y q. items_give l n r.0 old.offset r.1 y w w' same at next q.0 (u, q.1, flag))
 
-pub entries_part : (l : Entries) (o : Option (ℕ × Header)) (old new : Seen) → IfSome o (λ r. Takes old new (λ b. Title b r.1)) → IfSome o (λ r. r.0 ≡ old.offset)
-    → IfSome o (λ r. l.half ≡ false → IsNext l.count (length l.entries.items) r.1) → IfSome o (λ r. Takes old new (AskGives (code.Entries l) r.1 r.0 old.offset))
-entries_part l None old new t at next = tt
-entries_part l (Some r) old new t at next = takes_as _ _ _ _ (λ b. Title b r.1) (AskGives (code.Entries l) r.1 r.0 old.offset) t (λ y u. entries_give l r.0 old.offset r.1 y at next u)
+pub entries_part : (l : Entries) (o : Option (ℕ × Header)) (old new : Seen) (w w' u : Bool) → IfSome o (λ r. Takes old new (λ b. Title b r.1 × IsShortest u b r.1)) → IfSome o (λ r. r.0 ≡ old.offset)
+    → IfSome o (λ r. l.half ≡ false → IsNext l.count (length l.entries.items) r.1) → MatchOption o (w' ≡ w) (λ r. w' ≡ (w && (u && encoded r.1))) → IfSome o (λ r. Takes old new (AskGives (code.Entries l) r.1 r.0 old.offset w w'))
+entries_part l None old new w w' u t at next flag = tt
+entries_part l (Some r) old new w w' u t at next flag =
+    takes_as _ _ _ _ (λ b. Title b r.1 × IsShortest u b r.1) (AskGives (code.Entries l) r.1 r.0 old.offset w w') t (λ y q. entries_give l r.0 old.offset r.1 y w w' at next q.0 (u, q.1, flag))
+
+pub items_ends : (l : Items) (n : ℕ) (o : Option (ℕ × Header)) (old new : Seen) → n ≡ length l.items.items → IfNone o (Takes old new (Closes l.count n)) → IfNone o (Takes old new (AskEnds (code.Items l)))
+items_ends l n None old new same t = takes_as _ _ _ _ (Closes l.count n) (AskEnds (code.Items l)) t (λ y c. items_end l n y same c)
+items_ends l n (Some r) old new same t = tt
+
+pub entries_ends : (l : Entries) (o : Option (ℕ × Header)) (old new : Seen) → IfNone o ((l.half ≡ false) × Takes old new (Closes l.count (length l.entries.items))) → IfNone o (Takes old new (AskEnds (code.Entries l)))
+entries_ends l None old new (whole, t) = takes_as _ _ _ _ (Closes l.count (length l.entries.items)) (AskEnds (code.Entries l)) t (λ y c. entries_end l y whole c)
+entries_ends l (Some r) old new t = tt
+
+-- where no part is left the flag stays
+pub part_same : (o : Option (ℕ × Header)) (w w' u : Bool) → MatchOption o (w' ≡ w) (λ r. w' ≡ (w && (u && encoded r.1))) → IfNone o (w' ≡ w)
+part_same None w w' u flag = flag
+part_same (Some r) w w' u flag = tt
 
 pub fold_quiet : {E : Type 0} (n : ℕ) (t : Tree) (e : Error E) → IsFoldFault n t e → (ends : E → Bool) (m : ℕ) → fault_failures ends e m ≡ m
 fold_quiet n t (error.Io e) w ends m = absurd w
@@ -243,13 +280,19 @@ fold_quiet n t error.RecursionLimitExceeded w ends m = absurd w
 fold_quiet n t error.Memory w ends m = refl
 fold_quiet n t error.TooLong w ends m = absurd w
 
--- a tag whose title in hand is not begun
-pub tag_gives : (n : ℕ) (h : Header) (at now : ℕ) → AskGives (code.Tag n at h) h at now []
-tag_gives n h at now limit from fs b (r, w) =
+-- a title in hand that is not begun
+in_hand_still : (k w : Bool) (limit : ℕ) (fs : List Level) (h : Header) (at from now : ℕ) (b : List ℕ) → InHand k w limit fs h at from now b → InHand k w limit fs h at from (now + length {A = ℕ} []) (b ++ [])
+in_hand_still k w limit fs h at from now b i =
     let z : now ≡ now + length {A = ℕ} [] = omega arith in
-    (r, subst (λ (x : List ℕ). Titled limit (opened (code.Tag n at h ∷ fs)) h at from (now + length {A = ℕ} []) x) (append_nil b) (subst (λ (x : ℕ). Titled limit (opened (code.Tag n at h ∷ fs)) h at from x b) z w))
+    subst (λ (x : List ℕ). InHand k w limit fs h at from (now + length {A = ℕ} []) x) (append_nil b) (subst (λ (x : ℕ). InHand k w limit fs h at from x b) z i)
+
+pub tag_gives : (n : ℕ) (h : Header) (at now : ℕ) (w : Bool) → AskGives (code.Tag n at h) h at now w w []
+tag_gives n h at now w k limit from fs b (r, i) = (r, in_hand_still k w limit (opened (code.Tag n at h ∷ fs)) h at from now b i)
+
+pub whole_gives : (h : Header) (at now : ℕ) (w : Bool) → AskGives (code.Whole at h) h at now w w []
+whole_gives h at now w k limit from fs b (r, i) = (r, in_hand_still k w limit (opened (code.Whole at h ∷ fs)) h at from now b i)
 
 -- a title that was taken moves the place
-pub part_moves : (top : Frame) (o : Option (ℕ × Header)) (old new : Seen) → IfSome o (λ r. Takes old new (λ b. Title b r.1)) → IfSome o (λ r. old.offset + 1 ≤ new.offset + in_hand None top)
-part_moves top None old new t = tt
-part_moves top (Some r) old new t = omega (arith, t.grown, title_some t.bytes r.1 t.has)
+pub part_moves : (top : Frame) (o : Option (ℕ × Header)) (old new : Seen) (u : Bool) → IfSome o (λ r. Takes old new (λ b. Title b r.1 × IsShortest u b r.1)) → IfSome o (λ r. old.offset + 1 ≤ new.offset + in_hand None top)
+part_moves top None old new u t = tt
+part_moves top (Some r) old new u t = omega (arith, t.grown, title_some t.bytes r.1 t.has.0)

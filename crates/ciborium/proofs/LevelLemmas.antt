@@ -50,7 +50,7 @@ none_trees no_trees b e p = p
 none_trees (one_more t ts) b e p = let f : 1 + tree_count ts ≡ 0 = e in absurd (omega arith)
 
 -- no items take no bytes
-none_read : (b : List ℕ) (low : ℕ) (done : Trees) → done ≡ no_trees → ReadsAll b low done → b ≡ []
+pub none_read : (b : List ℕ) (low : ℕ) (done : Trees) → done ≡ no_trees → ReadsAll b low done → b ≡ []
 none_read b low done e p = none_trees p.trees b (all_count p.trees done p.means ∙ ap tree_count e) p.spells
 
 begins : (title more : List ℕ) (k : Header) → Title title k → Begins (title ++ more) k more
@@ -80,7 +80,7 @@ level_damage (Text o) done stop limit title inner rest f low t p fits due d = ab
 level_damage (Array o) done stop limit title inner rest f low t p fits due d = child_damage (Array o) done stop limit title inner rest f low t p due d
 level_damage (Map o) done stop limit title inner rest f low t p fits due d = child_damage (Map o) done stop limit title inner rest f low t p due d
 
-joined_up : (x a b title inner rest : List ℕ) → x ≡ a ++ b → b ≡ title ++ inner → x ++ rest ≡ a ++ (title ++ (inner ++ rest))
+pub joined_up : (x a b title inner rest : List ℕ) → x ≡ a ++ b → b ≡ title ++ inner → x ++ rest ≡ a ++ (title ++ (inner ++ rest))
 joined_up x a b title inner rest e f = ap (λ z. z ++ rest) (e ∙ ap (λ z. a ++ z) f) ∙ append_assoc a (title ++ inner) rest ∙ ap (λ z. a ++ z) (append_assoc title inner rest)
 
 -- a fault in the innermost level is one of the whole

@@ -8,6 +8,11 @@ pub mod ChildLemmas
 pub mod TagLemmas
 pub mod Steps
 pub mod LevelLemmas
+pub mod ExactSound
+pub mod ExactWhole
+pub mod ExactSteps
+pub mod ExactTurns
+pub mod ToldLemmas
 pub mod FrameLemmas
 pub mod BeginLemmas
 pub mod TurnLemmas

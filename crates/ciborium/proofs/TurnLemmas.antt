@@ -1,10 +1,10 @@
 -- The turns of the reader's loop.
-use Rattle.std.proofs.Common.{◌≡◌, ◌+◌, ◌-◌, ◌*◌, ◌^◌, ◌<◌, ◌≤◌, ℕ, Bool, List, [], ◌∷◌, ◌++◌, length, Option, None, Some, refl, sym, ap, subst, ◌∙◌, arith, append_assoc, length-append, reverse}
+use Rattle.std.proofs.Common.{◌≡◌, ◌+◌, ◌-◌, ◌*◌, ◌^◌, ◌<◌, ◌≤◌, ◌&&◌, ℕ, Bool, true, false, List, [], ◌∷◌, ◌++◌, length, Option, None, Some, refl, sym, ap, subst, ◌∙◌, arith, append_assoc, length-append, reverse}
 use Rattle.std.specs.Io.KnownBytes.{Consumes}
 use Rattle.std.proofs.KnownBytes.{Consumes-trans}
 use Rattle.ciborium_ll.specs.Seen.{Seen, Takes}
 use Rattle.ciborium_ll.specs.declared.hdr.Header.{Header}
-use Rattle.ciborium_ll.specs.Title.{Title}
+use Rattle.ciborium_ll.specs.Title.{Title, title_of, IsShortest}
 use Rattle.ciborium_value.specs.declared.value.Value.{Value}
 use Rattle.ciborium_value.specs.View.{view}
 use Rattle.ciborium.specs.declared.de.Error.{Error}
@@ -14,84 +14,128 @@ use Rattle.ciborium.specs.declared.frames.Handed.TheVariants as handed
 use Rattle.ciborium.specs.Damage.{Damage}
 use Rattle.ciborium.specs.Front.{Reads}
 use Rattle.ciborium.specs.Levels.{Within, IsChild, Titled}
-use Rattle.ciborium.specs.Reading.{FailsAt, FailsBehind, IfKnown, ReadsBehind}
-use Rattle.ciborium.specs.Frames.{in_hand, rank, opened, Stage, IsStaged, IsClosed, Hands, Faults, ClosedStage, AskEnds, AskGives, Begins, BeginFails}
+use Rattle.ciborium.specs.Reading.{FailsAt, FailsBehind, IfKnown, ReadsBehind, NamesFault, NamesFaultBehind}
+use Rattle.ciborium.specs.Exact.{Says, IsEncoded, encoded, TitleExact}
+use Rattle.ciborium_value.specs.Tree.{Tree}
+use Rattle.ciborium_value.specs.Encoding.{enc}
+use Rattle.ciborium.proofs.ExactSteps.{says_as, says_and}
+use Rattle.ciborium.proofs.ToldLemmas.{told_step, longer, encoded_says}
+use Rattle.ciborium.specs.Frames.{Told, InHand, Asks, CloseGives, ReadExact, in_hand, rank, opened, Stage, IsStaged, IsClosed, Hands, Faults, AskEnds, AskGives, Begins, BeginFails}
 use Rattle.ciborium.proofs.Once.{append_nil}
-use Rattle.ciborium.proofs.Taking.{takes_as, takes_then, takes_none}
+use Rattle.ciborium.proofs.Taking.{fails_titled, takes_as, takes_then, takes_none}
+
+-- what is known of the flag at the title of the whole
+abbrev pub Starts : Bool → Bool → Header → List ℕ → Type 0
+Starts k w h title = Told k w (length title) ((title ≡ title_of h) × IsEncoded h)
 
 -- what was taken behind the title of h, which begins at the place `at`
-abbrev pub Behind : ℕ → Header → ℕ → Seen → Seen → List Frame → Option Value → List ℕ → Type 0
-Behind limit h at old new fs read y = (title : List ℕ) → Title title h → Stage limit fs read at new.offset (title ++ y)
+abbrev pub Behind : ℕ → Header → ℕ → Seen → Seen → Bool → Bool → List Frame → Option Value → List ℕ → Type 0
+Behind limit h at old new u w fs read y = (k : Bool) (title : List ℕ) → Title title h → Starts k u h title → Stage k w limit fs read at new.offset (title ++ y)
 
 -- the reader's state between two turns
-pub record Turn (limit : ℕ) (h : Header) (at : ℕ) (old new : Seen) (fs : List Frame) (read : Option Value) : Type 0 where
-  pub taken : Takes old new (Behind limit h at old new fs read)
+pub record Turn (limit : ℕ) (h : Header) (at : ℕ) (old new : Seen) (u w : Bool) (fs : List Frame) (read : Option Value) : Type 0 where
+  pub taken : Takes old new (Behind limit h at old new u w fs read)
 
-pub turn_start : (limit at : ℕ) (h : Header) (s : Seen) (fs : List Frame) → fs ≡ [] → Turn limit h at s s (code.Whole at h ∷ reverse fs) None
-turn_start limit at h s fs e = record {
-  taken = takes_none s.left s.offset (Behind limit h at s s (code.Whole at h ∷ reverse fs) None) (λ title t. (
+-- where the flag is not asked for, any serves
+asks_as : (w w' : Bool) (limit : ℕ) (fs : List Frame) (from now : ℕ) (b : List ℕ) → Asks false w limit fs from now b → Asks false w' limit fs from now b
+asks_as w w' limit [] from now b p = p
+asks_as w w' limit (code.Whole at h ∷ fs) from now b p = (p.0, tt)
+asks_as w w' limit (code.Items l ∷ fs) from now b p = (p.0, tt)
+asks_as w w' limit (code.Entries l ∷ fs) from now b p = (p.0, tt)
+asks_as w w' limit (code.Tag n at h ∷ fs) from now b p = (p.0, tt)
+
+unasked_as : (w w' : Bool) (limit : ℕ) (fs : List Frame) (read : Option Value) (from now : ℕ) (b : List ℕ) → Stage false w limit fs read from now b → Stage false w' limit fs read from now b
+unasked_as w w' limit fs None from now b p = (p.0, asks_as w w' limit fs from now b p.1)
+unasked_as w w' limit fs (Some v) from now b p = (p.0, p.1, tt)
+
+pub unasked : (w : Bool) (limit : ℕ) (fs : List Frame) (read : Option Value) (from now : ℕ) (b : List ℕ) → Stage false w limit fs read from now b → Stage false false limit fs read from now b
+unasked w limit fs read from now b p = unasked_as w false limit fs read from now b p
+
+pub turn_start : (limit at : ℕ) (h : Header) (s : Seen) (u : Bool) (fs : List Frame) → fs ≡ [] → Turn limit h at s s u u (code.Whole at h ∷ reverse fs) None
+turn_start limit at h s u fs e = record {
+  taken = takes_none s.left s.offset (Behind limit h at s s u u (code.Whole at h ∷ reverse fs) None) (λ k title t flag. (
     ap reverse e,
-    record {
-      before = [];
-      title = title;
-      within = subst (λ (z : List Frame). Within limit (opened (reverse z)) []) (sym e) refl;
-      child = subst (λ (z : List Frame). IsChild (opened (reverse z)) h) (sym e) tt;
-      is_title = t;
-      place = λ q. subst (λ (z : List ℕ). at + length z ≡ s.offset) (sym (append_nil title)) q;
-      whole = sym (append_nil title);
-    },
+    (
+      record {
+        before = [];
+        title = title;
+        within = subst (λ (z : List Frame). Within limit (opened (reverse z)) []) (sym e) refl;
+        child = subst (λ (z : List Frame). IsChild (opened (reverse z)) h) (sym e) tt;
+        is_title = t;
+        place = λ q. subst (λ (z : List ℕ). at + length z ≡ s.offset) (sym (append_nil title)) q;
+        whole = sym (append_nil title);
+      },
+      told_step k u u (length title) (length (title ++ [])) ((title ≡ title_of h) × IsEncoded h) (TitleExact (opened (reverse fs)) h [] title) (longer title []) (λ l p. started u h title fs e p) flag,
+    ),
   ));
 }
+  where
+    started : (u : Bool) (h : Header) (title : List ℕ) (fs : List Frame) → fs ≡ [] → Says u ((title ≡ title_of h) × IsEncoded h) → Says u (TitleExact (opened (reverse fs)) h [] title)
+    started u h title fs e p =
+        subst (λ (z : List Frame). Says u (TitleExact (opened (reverse z)) h [] title)) (sym e)
+        (says_as u ((title ≡ title_of h) × IsEncoded h) (TitleExact [] h [] title) (λ x. ((tt, refl), x.0, x.1)) (λ x. (x.1, x.2)) p)
 
 -- there are bytes of the whole so far
-pub turn_staged : {limit : ℕ} {h : Header} {at : ℕ} {old new : Seen} {fs : List Frame} {read : Option Value} → Turn limit h at old new fs read → (title : List ℕ) × Title title h → IsStaged fs read
-turn_staged {limit} {h} {at} {old} {new} t u = (limit, at, new.offset, u.0 ++ t.taken.bytes, t.taken.has u.0 u.1)
+pub turn_staged : {limit : ℕ} {h : Header} {at : ℕ} {old new : Seen} {u w : Bool} {fs : List Frame} {read : Option Value} → Turn limit h at old new u w fs read → (title : List ℕ) × Title title h → IsStaged fs read
+turn_staged {limit} {h} {at} {old} {new} {u} {w} {fs} {read} t v = (limit, at, new.offset, v.0 ++ t.taken.bytes, unasked w limit fs read at new.offset (v.0 ++ t.taken.bytes) (t.taken.has false v.0 v.1 tt))
 
 -- the whole is read
-pub turn_done : {limit : ℕ} {h : Header} {at : ℕ} {old new : Seen} {fs : List Frame} {read : Option Value} (gs : List Frame) (read' : Option Value) (w : Value) → read' ≡ Some w → Turn limit h at old new fs read
-    → Hands fs gs read read' handed.Done → Takes old new (λ (b : List ℕ). ReadsBehind h limit (view w) b)
-turn_done {limit} {h} {at} {old} {new} {fs} {read} gs read' w some t s = takes_as old.left new.left old.offset new.offset (Behind limit h at old new fs read) _ t.taken (λ y b title u.
-    let q = s limit at new.offset (title ++ y) (b title u) in
-    let e : Some w ≡ Some q.0 = sym some ∙ q.1 in
-    let f : q.0 ≡ w = cc in
-    subst (λ (z : Value). Reads (title ++ y) limit (view z)) f q.2)
+pub turn_done : {limit : ℕ} {h : Header} {at : ℕ} {old new : Seen} {u w : Bool} {fs : List Frame} {read : Option Value} (gs : List Frame) (read' : Option Value) (w' : Bool) (v : Value) → read' ≡ Some v → Turn limit h at old new u w fs read
+    → Hands fs gs read read' w w' handed.Done → Takes old new (ReadExact h limit (view v) u w')
+turn_done {limit} {h} {at} {old} {new} {u} {w} {fs} {read} gs read' w' v some t s = takes_as old.left new.left old.offset new.offset (Behind limit h at old new u w fs read) _ t.taken (λ y b title i.
+    let q = s false limit at new.offset (title ++ y) (b false title i tt) in
+    let e : Some v ≡ Some q.0 = sym some ∙ q.1 in
+    let f : q.0 ≡ v = cc in (
+      subst (λ (z : Value). Reads (title ++ y) limit (view z)) f q.2,
+      λ l says.
+          let p = s true limit at new.offset (title ++ y) (b true title i (λ m. says)) in
+          let g : Some v ≡ Some p.0 = sym some ∙ p.1 in
+          let j : p.0 ≡ v = cc in
+          subst (λ (z : Value). Says w' (title ++ y ≡ enc (view z))) j (p.3 l),
+    ))
 
-pub done_some : (fs gs : List Frame) (read read' : Option Value) → read' ≡ None → IsStaged fs read → Hands fs gs read read' handed.Done → ⊥
-done_some fs gs read read' none (limit, from, now, b, p) s = let q = s limit from now b p in let e : None ≡ Some q.0 = sym none ∙ q.1 in cc
+pub done_some : (fs gs : List Frame) (read read' : Option Value) (w w' : Bool) → read' ≡ None → IsStaged fs read → Hands fs gs read read' w w' handed.Done → ⊥
+done_some fs gs read read' w w' none (limit, from, now, b, p) s = let q = s false limit from now b (unasked_as false w limit fs read from now b p) in let e : None ≡ Some q.0 = sym none ∙ q.1 in cc
+
+-- a tag is whole
+pub turn_up : {limit : ℕ} {h : Header} {at : ℕ} {old new : Seen} {u w : Bool} {fs : List Frame} {read : Option Value} (gs : List Frame) (read' : Option Value) (w' : Bool) → Turn limit h at old new u w fs read → Hands fs gs read read' w w' handed.Up → Turn limit h at old new u w' gs read'
+turn_up {limit} {h} {at} {old} {new} {u} {w} {fs} {read} gs read' w' t s =
+    record { taken = takes_as old.left new.left old.offset new.offset (Behind limit h at old new u w fs read) (Behind limit h at old new u w' gs read') t.taken (λ y b k title i f. s k limit at new.offset (title ++ y) (b k title i f)) }
 
 -- a value was taken
-pub turn_taken : {limit : ℕ} {h : Header} {at : ℕ} {old new : Seen} {fs : List Frame} {read : Option Value} (gs : List Frame) (read' : Option Value) → Turn limit h at old new fs read → Hands fs gs read read' handed.Taken → Turn limit h at old new gs None
-turn_taken {limit} {h} {at} {old} {new} {fs} {read} gs read' t s =
-    record { taken = takes_as old.left new.left old.offset new.offset (Behind limit h at old new fs read) (Behind limit h at old new gs None) t.taken (λ y b title u. (s limit at new.offset (title ++ y) (b title u)).1) }
+pub turn_taken : {limit : ℕ} {h : Header} {at : ℕ} {old new : Seen} {u w : Bool} {fs : List Frame} {read : Option Value} (gs : List Frame) (read' : Option Value) (w' : Bool) → Turn limit h at old new u w fs read → Hands fs gs read read' w w' handed.Taken → Turn limit h at old new u w' gs None
+turn_taken {limit} {h} {at} {old} {new} {u} {w} {fs} {read} gs read' w' t s =
+    record { taken = takes_as old.left new.left old.offset new.offset (Behind limit h at old new u w fs read) (Behind limit h at old new u w' gs None) t.taken (λ y b k title i f. (s k limit at new.offset (title ++ y) (b k title i f)).1) }
 
-pub taken_none : (fs gs : List Frame) (read read' : Option Value) → IsStaged fs read → Hands fs gs read read' handed.Taken → read' ≡ None
-taken_none fs gs read read' (limit, from, now, b, p) s = (s limit from now b p).0
+pub taken_none : (fs gs : List Frame) (read read' : Option Value) (w w' : Bool) → IsStaged fs read → Hands fs gs read read' w w' handed.Taken → read' ≡ None
+taken_none fs gs read read' w w' (limit, from, now, b, p) s = (s false limit from now b (unasked_as false w limit fs read from now b p)).0
 
 -- a level is closed
-pub turn_ended : {limit : ℕ} {h : Header} {at : ℕ} {old mid : Seen} {top : Frame} {fs : List Frame} (new : Seen) → Turn limit h at old mid (top ∷ fs) None → Takes mid new (AskEnds top) → (title : List ℕ) × Title title h → IsClosed (top ∷ fs)
-turn_ended {limit} {h} {at} {old} {mid} {top} {fs} new t a u =
-    (limit, (u.0 ++ t.taken.bytes) ++ a.bytes, a.has limit at mid.offset fs (u.0 ++ t.taken.bytes) (t.taken.has u.0 u.1))
+pub turn_ended : {limit : ℕ} {h : Header} {at : ℕ} {old mid : Seen} {u w : Bool} {top : Frame} {fs : List Frame} (new : Seen) → Turn limit h at old mid u w (top ∷ fs) None → Takes mid new (AskEnds top) → (title : List ℕ) × Title title h → IsClosed (top ∷ fs)
+turn_ended {limit} {h} {at} {old} {mid} {u} {w} {top} {fs} new t a v =
+    (limit, (v.0 ++ t.taken.bytes) ++ a.bytes, a.has false false limit at mid.offset fs (v.0 ++ t.taken.bytes) (unasked w limit (top ∷ fs) None at mid.offset (v.0 ++ t.taken.bytes) (t.taken.has false v.0 v.1 tt)))
 
-pub turn_closed : {limit : ℕ} {h : Header} {at : ℕ} {old mid : Seen} {top : Frame} {fs : List Frame} (new : Seen) (gs : List Frame) (v : Value) → Turn limit h at old mid (top ∷ fs) None → Takes mid new (AskEnds top)
-    → ((limit from now : ℕ) (b : List ℕ) → ClosedStage limit (top ∷ fs) b → Stage limit gs (Some v) from now b) → Turn limit h at old new gs (Some v)
-turn_closed {limit} {h} {at} {old} {mid} {top} {fs} new gs v t a s =
-    record {
-      taken = takes_then old.left mid.left new.left old.offset mid.offset new.offset (Behind limit h at old mid (top ∷ fs) None) (AskEnds top) (Behind limit h at old new gs (Some v)) t.taken a
-          (λ x y b e title u. subst (λ (z : List ℕ). Stage limit gs (Some v) at new.offset z) (append_assoc title x y) (s limit at new.offset ((title ++ x) ++ y) (e limit at mid.offset fs (title ++ x) (b title u))));
-    }
+pub turn_closed : {limit : ℕ} {h : Header} {at : ℕ} {old mid : Seen} {u w : Bool} {top : Frame} {fs : List Frame} (new : Seen) (gs : List Frame) (v : Value) (w' : Bool) → w' ≡ w → Turn limit h at old mid u w (top ∷ fs) None → Takes mid new (AskEnds top)
+    → CloseGives (top ∷ fs) gs v → Turn limit h at old new u w' gs (Some v)
+turn_closed {limit} {h} {at} {old} {mid} {u} {w} {top} {fs} new gs v w' flag t a s =
+    subst (λ (z : Bool). Turn limit h at old new u z gs (Some v)) (sym flag)
+    (record {
+      taken = takes_then old.left mid.left new.left old.offset mid.offset new.offset (Behind limit h at old mid u w (top ∷ fs) None) (AskEnds top) (Behind limit h at old new u w gs (Some v)) t.taken a
+          (λ x y b e k title i f. subst (λ (z : List ℕ). Stage k w limit gs (Some v) at new.offset z) (append_assoc title x y) (s k w limit at new.offset ((title ++ x) ++ y) (e k w limit at mid.offset fs (title ++ x) (b k title i f))));
+    })
 
 -- the item of a title is begun
-pub turn_begun : {limit : ℕ} {h : Header} {at : ℕ} {old s₁ : Seen} {top : Frame} {fs : List Frame} (place : ℕ) (k : Header) (s₂ s₃ : Seen) (gs : List Frame) (read : Option Value) → Turn limit h at old s₁ (top ∷ fs) None
-    → Takes s₁ s₂ (AskGives top k place s₁.offset) → Takes s₂ s₃ (Begins (top ∷ fs) gs limit k place s₂.offset read) → Turn limit h at old s₃ gs read
-turn_begun {limit} {h} {at} {old} {s₁} {top} {fs} place k s₂ s₃ gs read r a p = let t = r.taken in record {
+pub turn_begun : {limit : ℕ} {h : Header} {at : ℕ} {old s₁ : Seen} {u w : Bool} {top : Frame} {fs : List Frame} (place : ℕ) (j : Header) (s₂ s₃ : Seen) (gs : List Frame) (read : Option Value) (w₂ w₃ : Bool) → Turn limit h at old s₁ u w (top ∷ fs) None
+    → Takes s₁ s₂ (AskGives top j place s₁.offset w w₂) → Takes s₂ s₃ (Begins (top ∷ fs) gs limit j place s₂.offset read w₂ w₃) → Turn limit h at old s₃ u w₃ gs read
+turn_begun {limit} {h} {at} {old} {s₁} {u} {w} {top} {fs} place j s₂ s₃ gs read w₂ w₃ r a p = let t = r.taken in record {
   taken = record {
     bytes = t.bytes ++ (a.bytes ++ p.bytes);
-    has = λ title u.
-        let q = a.has limit at fs (title ++ t.bytes) (t.has title u) in
-        let w = subst (λ (z : ℕ). Titled limit (opened (top ∷ fs)) k place at z ((title ++ t.bytes) ++ a.bytes)) (sym a.grown) q.1 in
-        let x = p.has at ((title ++ t.bytes) ++ a.bytes) q.0 w in
-        subst (λ (z : ℕ). Stage limit gs read at z (title ++ (t.bytes ++ (a.bytes ++ p.bytes)))) (sym p.grown)
-        (subst (λ (z : List ℕ). Stage limit gs read at (s₂.offset + length p.bytes) z) (append_assoc (title ++ t.bytes) a.bytes p.bytes ∙ append_assoc title t.bytes (a.bytes ++ p.bytes)) x);
+    has = λ k title i f.
+        let q = a.has k limit at fs (title ++ t.bytes) (t.has k title i f) in
+        let v = subst (λ (z : ℕ). InHand k w₂ limit (opened (top ∷ fs)) j place at z ((title ++ t.bytes) ++ a.bytes)) (sym a.grown) q.1 in
+        let x = p.has k at ((title ++ t.bytes) ++ a.bytes) q.0 v in
+        subst (λ (z : ℕ). Stage k w₃ limit gs read at z (title ++ (t.bytes ++ (a.bytes ++ p.bytes)))) (sym p.grown)
+        (subst (λ (z : List ℕ). Stage k w₃ limit gs read at (s₂.offset + length p.bytes) z) (append_assoc (title ++ t.bytes) a.bytes p.bytes ∙ append_assoc title t.bytes (a.bytes ++ p.bytes)) x);
     taken = Consumes-trans old.left s₁.left s₃.left t.bytes (a.bytes ++ p.bytes) t.taken (Consumes-trans s₁.left s₂.left s₃.left a.bytes p.bytes a.taken p.taken);
     grown = omega (arith, t.grown, a.grown, p.grown, length-append t.bytes (a.bytes ++ p.bytes), length-append a.bytes p.bytes);
   };
@@ -109,23 +153,23 @@ known_fails : {E : Type 0} (ends : E → Bool) (limit at o : ℕ) (title x : Lis
 known_fails ends limit at o title x None m e p f = tt
 known_fails ends limit at o title x (Some b) m e p f = fails_from ends limit at o title x b m e p f
 
-pub turn_fails : {E : Type 0} {limit : ℕ} {h : Header} {at : ℕ} {old mid : Seen} {fs : List Frame} {read : Option Value} (ends : E → Bool) (o : ℕ) (e : Error E) → Turn limit h at old mid fs read
-    → ((b : List ℕ) → at + length b ≡ mid.offset → Stage limit fs read at mid.offset b → Faults ends limit at b mid.left o e) → FailsBehind ends h at old.offset old.left o (λ stop b f. Damage stop b limit f) e
-turn_fails {E} {limit} {h} {at} {old} {mid} ends o e r s title u place =
+pub turn_fails : {E : Type 0} {limit : ℕ} {h : Header} {at : ℕ} {old mid : Seen} {u w : Bool} {fs : List Frame} {read : Option Value} (ends : E → Bool) (o : ℕ) (e : Error E) → Turn limit h at old mid u w fs read
+    → ((b : List ℕ) → at + length b ≡ mid.offset → Stage false false limit fs read at mid.offset b → Faults ends limit at b mid.left o e) → FailsBehind ends h at old.offset old.left o (λ stop b f. Damage stop b limit f) e
+turn_fails {E} {limit} {h} {at} {old} {mid} {u} {w} {fs} {read} ends o e r s title i place =
     let t = r.taken in
     let off : at + length (title ++ t.bytes) ≡ mid.offset = omega (arith, place, t.grown, length-append title t.bytes) in
-    known_fails ends limit at o title t.bytes old.left mid.left e t.taken (s (title ++ t.bytes) off (t.has title u))
+    known_fails ends limit at o title t.bytes old.left mid.left e t.taken (s (title ++ t.bytes) off (unasked w limit fs read at mid.offset (title ++ t.bytes) (t.has false title i tt)))
 
 -- a fault of the item whose title was taken
-pub begun_fails : {E : Type 0} {limit : ℕ} {h : Header} {at : ℕ} {old s₁ : Seen} {top : Frame} {fs : List Frame} (ends : E → Bool) (place : ℕ) (k : Header) (s₂ s₃ : Seen) (e : Error E) → Turn limit h at old s₁ (top ∷ fs) None
-    → Takes s₁ s₂ (AskGives top k place s₁.offset) → BeginFails ends limit (top ∷ fs) k place s₂ s₃ e → FailsBehind ends h at old.offset old.left s₃.offset (λ stop b f. Damage stop b limit f) e
-begun_fails {E} {limit} {h} {at} {old} {s₁} {top} {fs} ends place k s₂ s₃ e n a w title u g =
+pub begun_fails : {E : Type 0} {limit : ℕ} {h : Header} {at : ℕ} {old s₁ : Seen} {u w : Bool} {top : Frame} {fs : List Frame} (ends : E → Bool) (place : ℕ) (k : Header) (s₂ s₃ : Seen) (w₂ : Bool) (e : Error E) → Turn limit h at old s₁ u w (top ∷ fs) None
+    → Takes s₁ s₂ (AskGives top k place s₁.offset w w₂) → BeginFails ends limit (top ∷ fs) k place s₂ s₃ e → FailsBehind ends h at old.offset old.left s₃.offset (λ stop b f. Damage stop b limit f) e
+begun_fails {E} {limit} {h} {at} {old} {s₁} {u} {w} {top} {fs} ends place k s₂ s₃ w₂ e n a v title i g =
     let t = n.taken in
     let off : at + length ((title ++ t.bytes) ++ a.bytes) ≡ s₂.offset = omega (arith, g, t.grown, a.grown, length-append (title ++ t.bytes) a.bytes, length-append title t.bytes) in
-    let q = a.has limit at fs (title ++ t.bytes) (t.has title u) in
-    let r = subst (λ (z : ℕ). Titled limit (opened (top ∷ fs)) k place at z ((title ++ t.bytes) ++ a.bytes)) (sym a.grown) q.1 in
+    let q = a.has false limit at fs (title ++ t.bytes) (t.has false title i tt) in
+    let r = subst (λ (z : ℕ). Titled limit (opened (top ∷ fs)) k place at z ((title ++ t.bytes) ++ a.bytes)) (sym a.grown) q.1.0 in
     known_fails ends limit at s₃.offset title (t.bytes ++ a.bytes) old.left s₂.left e (Consumes-trans old.left s₁.left s₂.left t.bytes a.bytes t.taken a.taken)
-    (subst (λ (z : List ℕ). Faults ends limit at z s₂.left s₃.offset e) (append_assoc title t.bytes a.bytes) (w at ((title ++ t.bytes) ++ a.bytes) off q.0 r))
+    (subst (λ (z : List ℕ). Faults ends limit at z s₂.left s₃.offset e) (append_assoc title t.bytes a.bytes) (v at ((title ++ t.bytes) ++ a.bytes) off q.0 r))
 
 -- a turn that takes a title falls
 hand_less : (f : Frame) (o₀ o₁ n m : ℕ) → o₀ ≤ o₁ → o₀ + 1 ≤ o₁ + in_hand None f → n + 4 * o₁ ≤ 2 * m + 2 + 4 * 2 ^ 64 → n + 4 * o₀ < 2 * m + in_hand None f + 4 * 2 ^ 64
@@ -140,3 +184,29 @@ turn_less xs ys zs x f g read read' read'' o₀ o₁ o₂ none low grown grown' 
     let r : rank ys f None ≤ rank xs x read = subst (λ (z : Option Value). rank ys f z ≤ rank xs x read) none falls in
     let h : (rank zs g read'' + 4 * (2 ^ 64 - o₂)) + 4 * o₀ < 2 * length ys + in_hand None f + 4 * 2 ^ 64 = hand_less f o₀ o₁ (rank zs g read'' + 4 * (2 ^ 64 - o₂)) (length ys) grown moved (omega arith) in
     omega arith
+
+-- what is read is read, whatever the flag
+pub behind_read : (h : Header) (limit : ℕ) (v : Tree) (u w : Bool) (old new : Seen) → Takes old new (ReadExact h limit v u w) → Takes old new (λ (b : List ℕ). ReadsBehind h limit v b)
+behind_read h limit v u w old new t = takes_as old.left new.left old.offset new.offset (ReadExact h limit v u w) _ t (λ y b title i. (b title i).0)
+
+-- a title and its item, and whether both are the encoding
+pub exact_read : (h : Header) (limit : ℕ) (v : Tree) (u w s : Bool) (old mid new : Seen) → new.offset < 2 ^ 64 → w ≡ (true && (s && encoded h)) → Takes old mid (λ b. Title b h × IsShortest s b h) → Takes mid new (ReadExact h limit v w u)
+    → Takes old new (λ b. Reads b limit v × Says u (b ≡ enc v))
+exact_read h limit v u w s old mid new few flag t r =
+    let q = r.has t.bytes t.has.0 in
+    let l : length (t.bytes ++ r.bytes) < 2 ^ 64 = omega (arith, t.grown, r.grown, length-append t.bytes r.bytes) in
+    let p : Says w ((t.bytes ≡ title_of h) × IsEncoded h) =
+    subst (λ (z : Bool). Says z ((t.bytes ≡ title_of h) × IsEncoded h)) (sym flag) (says_and s (encoded h) (t.bytes ≡ title_of h) (IsEncoded h) t.has.1 (encoded_says h)) in
+    record {
+      bytes = t.bytes ++ r.bytes;
+      has = (q.0, q.1 l p);
+      taken = Consumes-trans old.left mid.left new.left t.bytes r.bytes t.taken r.taken;
+      grown = omega (arith, t.grown, r.grown, length-append t.bytes r.bytes);
+    }
+
+-- a fault behind the title of an item is one of the item
+pub item_fails : {E : Type 0} (ends : E → Bool) (h : Header) (at limit : ℕ) (old mid new : Seen) (e : Error E) → at ≡ old.offset → Takes old mid (λ b. Title b h) → NamesFaultBehind ends h at (λ stop b f. Damage stop b limit f) mid new e
+    → NamesFault ends (λ stop b f. Damage stop b limit f) old new e
+item_fails ends h at limit old mid new e same t w =
+    fails_titled ends old.left mid.left old.offset mid.offset new.offset h (λ stop b f. Damage stop b limit f) e t
+    (subst (λ (z : ℕ). FailsBehind ends h z mid.offset mid.left new.offset (λ stop b f. Damage stop b limit f) e) same w)

@@ -1,11 +1,12 @@
 -- The frames of the reader, and what they stand for.
-use Rattle.std.specs.Prelude.{◌≡◌, ◌<◌, ◌≤◌, ◌⊎◌, ℕ, ◌+◌, ◌*◌, List, [], ◌∷◌, ◌++◌, length, Bool, true, false, Option, Some, None}
+use Rattle.std.specs.Prelude.{◌≡◌, ◌<◌, ◌≤◌, ◌⊎◌, ℕ, ◌+◌, ◌*◌, ◌^◌, ◌&&◌, List, [], ◌∷◌, ◌++◌, length, Bool, true, false, Option, Some, None}
 use Rattle.ciborium_ll.specs.Seen.{Seen}
 use Rattle.ciborium_ll.specs.declared.hdr.Header.{Header}
 use Rattle.ciborium_ll.specs.declared.hdr.Header.TheVariants.{Tag, Bytes, Array, Map}
-use Rattle.ciborium_ll.specs.Title.{Title}
+use Rattle.ciborium_ll.specs.Title.{Title, title_of, IsShortest}
 use Rattle.ciborium_value.specs.declared.value.Value.{Value}
-use Rattle.ciborium_value.specs.Tree.{Tree, Trees, no_trees, one_more, flat}
+use Rattle.ciborium_value.specs.Tree.{Tree, Trees, no_trees, one_more, flat, tag}
+use Rattle.ciborium_value.specs.Encoding.{enc}
 use Rattle.ciborium_value.specs.View.{view, views, view_pairs}
 use Rattle.ciborium.specs.declared.de.Error.{Error}
 use Rattle.ciborium.specs.declared.frames.Entries.{Entries}
@@ -18,6 +19,7 @@ use Rattle.ciborium.specs.declared.frames.Opened.TheVariants as opens
 use Rattle.ciborium.specs.Damage.{Damage}
 use Rattle.ciborium.specs.Front.{Reads}
 use Rattle.ciborium.specs.Reading.{IfKnown, FailsAt, Closes, IsLeaf, OpensOver}
+use Rattle.ciborium.specs.Exact.{Says, IsEncoded, encoded, LevelsExact, TitleExact, ItemExact}
 use Rattle.ciborium.specs.Levels.{Level, Within, Titled, Handing}
 
 abbrev pub snoc : Trees → Tree → Trees
@@ -62,40 +64,57 @@ Rooted (code.Items l ∷ fs) = Rooted fs
 Rooted (code.Entries l ∷ fs) = HasHalf l × Rooted fs
 Rooted (code.Tag n at h ∷ fs) = Rooted fs
 
+-- What the flag w, whether the text is the shortest so far, tells of n bytes where it is asked (k): whether P.
+abbrev pub Told : Bool → Bool → ℕ → Type 0 → Type 0
+Told false w n P = Unit {0}
+Told true w n P = n < 2 ^ 64 → Says w P
+
+-- the flag goes from w to w' with the title y of h
+abbrev pub IsFlagged : Bool → Bool → Header → List ℕ → Type 0
+IsFlagged w w' h y = (u : Bool) × IsShortest u y h × (w' ≡ (w && (u && encoded h)))
+
+-- the same with the fold of a tag n over c, which is v then
+abbrev pub IsKept : ℕ → Tree → Tree → Bool → Bool → Type 0
+IsKept n c v w w' = (s : Bool) × Says s (v ≡ tag n c) × (w' ≡ (w && s))
+
+-- a title is in hand
+abbrev pub InHand : Bool → Bool → ℕ → List Level → Header → ℕ → ℕ → ℕ → List ℕ → Type 0
+InHand k w limit fs h at from now b = (t : Titled limit fs h at from now b) × Told k w (length b) (TitleExact fs h t.before t.title)
+
 -- the innermost frame has a title in hand, or asks for its next part
-abbrev pub Asks : ℕ → List Frame → ℕ → ℕ → List ℕ → Type 0
-Asks limit [] from now b = ⊥
-Asks limit (code.Whole at h ∷ fs) from now b = Titled limit (opened (code.Whole at h ∷ fs)) h at from now b
-Asks limit (code.Items l ∷ fs) from now b = Within limit (opened (code.Items l ∷ fs)) b
-Asks limit (code.Entries l ∷ fs) from now b = Within limit (opened (code.Entries l ∷ fs)) b
-Asks limit (code.Tag n at h ∷ fs) from now b = Titled limit (opened (code.Tag n at h ∷ fs)) h at from now b
+abbrev pub Asks : Bool → Bool → ℕ → List Frame → ℕ → ℕ → List ℕ → Type 0
+Asks k w limit [] from now b = ⊥
+Asks k w limit (code.Whole at h ∷ fs) from now b = InHand k w limit (opened (code.Whole at h ∷ fs)) h at from now b
+Asks k w limit (code.Items l ∷ fs) from now b = Within limit (opened (code.Items l ∷ fs)) b × Told k w (length b) (LevelsExact (opened (code.Items l ∷ fs)) b)
+Asks k w limit (code.Entries l ∷ fs) from now b = Within limit (opened (code.Entries l ∷ fs)) b × Told k w (length b) (LevelsExact (opened (code.Entries l ∷ fs)) b)
+Asks k w limit (code.Tag n at h ∷ fs) from now b = InHand k w limit (opened (code.Tag n at h ∷ fs)) h at from now b
 
 -- the bytes of the whole up to the place `now`: of the frames, and of an item that is to be handed over
-abbrev pub Stage : ℕ → List Frame → Option Value → ℕ → ℕ → List ℕ → Type 0
-Stage limit fs None from now b = Rooted fs × Asks limit fs from now b
-Stage limit fs (Some v) from now b = Rooted fs × Handing limit (opened fs) (view v) b
+abbrev pub Stage : Bool → Bool → ℕ → List Frame → Option Value → ℕ → ℕ → List ℕ → Type 0
+Stage k w limit fs None from now b = Rooted fs × Asks k w limit fs from now b
+Stage k w limit fs (Some v) from now b = Rooted fs × Handing limit (opened fs) (view v) b × Told k w (length b) (ItemExact (opened fs) (view v) b)
 
 -- there are such bytes
 abbrev pub IsStaged : List Frame → Option Value → Type 0
-IsStaged fs read = (limit from now : ℕ) × (b : List ℕ) × Stage limit fs read from now b
+IsStaged fs read = (limit from now : ℕ) × (b : List ℕ) × Stage false false limit fs read from now b
 
 -- the same behind a value that was handed over: there is one still where it is a tag's content or the whole
-abbrev pub HandedStage : ℕ → List Frame → Option Value → ℕ → ℕ → List ℕ → Handed → Type 0
-HandedStage limit fs read from now b handed.Taken = (read ≡ None) × Stage limit fs None from now b
-HandedStage limit fs read from now b handed.Up = Stage limit fs read from now b
-HandedStage limit fs read from now b handed.Done = (v : Value) × (read ≡ Some v) × Reads b limit (view v)
+abbrev pub HandedStage : Bool → Bool → ℕ → List Frame → Option Value → ℕ → ℕ → List ℕ → Handed → Type 0
+HandedStage k w limit fs read from now b handed.Taken = (read ≡ None) × Stage k w limit fs None from now b
+HandedStage k w limit fs read from now b handed.Up = Stage k w limit fs read from now b
+HandedStage k w limit fs read from now b handed.Done = (v : Value) × (read ≡ Some v) × Reads b limit (view v) × Told k w (length b) (b ≡ enc (view v))
 
 -- a fault of the whole, whose bytes so far are b
 abbrev pub Faults : {E : Type 0} → (E → Bool) → ℕ → ℕ → List ℕ → Option (List ℕ) → ℕ → Error E → Type 0
 Faults ends limit from b left place e = IfKnown left (λ rest. FailsAt ends (b ++ rest) from place (λ stop b f. Damage stop b limit f) e)
 
 -- a value is handed over
-abbrev pub Hands : List Frame → List Frame → Option Value → Option Value → Handed → Type 0
-Hands old new read read' n = (limit from now : ℕ) (b : List ℕ) → Stage limit old read from now b → HandedStage limit new read' from now b n
+abbrev pub Hands : List Frame → List Frame → Option Value → Option Value → Bool → Bool → Handed → Type 0
+Hands old new read read' w w' n = (k : Bool) (limit from now : ℕ) (b : List ℕ) → Stage k w limit old read from now b → HandedStage k w' limit new read' from now b n
 
 abbrev pub HandFails : {E : Type 0} → List Frame → Option Value → Error E → Type 0
 HandFails fs read e = (ends : _ → Bool) (limit from : ℕ) (b : List ℕ) (left : Option (List ℕ)) (now : ℕ) → from + length b ≡ now
-    → Stage limit fs read from now b → Faults ends limit from b left now e
+    → Stage false false limit fs read from now b → Faults ends limit from b left now e
 
 -- the innermost frame is an array or a map whose parts were read, and y closes it
 abbrev pub Ended : List Frame → List ℕ → Type 0
@@ -106,53 +125,63 @@ Ended (code.Entries l ∷ fs) y = (l.half ≡ false) × Closes l.count (length l
 Ended (code.Tag n at h ∷ fs) y = ⊥
 
 -- it is closed
-abbrev pub ClosedStage : ℕ → List Frame → List ℕ → Type 0
-ClosedStage limit fs b = (x y : List ℕ) × Rooted fs × Within limit (opened fs) x × Ended fs y × (b ≡ x ++ y)
+abbrev pub ClosedStage : Bool → Bool → ℕ → List Frame → List ℕ → Type 0
+ClosedStage k w limit fs b = (x y : List ℕ) × Rooted fs × Within limit (opened fs) x × Ended fs y × (b ≡ x ++ y) × Told k w (length x) (LevelsExact (opened fs) x)
 
 abbrev pub IsClosed : List Frame → Type 0
-IsClosed fs = (limit : ℕ) × (b : List ℕ) × ClosedStage limit fs b
+IsClosed fs = (limit : ℕ) × (b : List ℕ) × ClosedStage false false limit fs b
+
+-- its value is to be handed over
+abbrev pub CloseGives : List Frame → List Frame → Value → Type 0
+CloseGives old new v = (k w : Bool) (limit from now : ℕ) (b : List ℕ) → ClosedStage k w limit old b → Stage k w limit new (Some v) from now b
 
 -- the innermost frame asks for its next part: there is none
 abbrev pub AskEnds : Frame → List ℕ → Type 0
-AskEnds top y = (limit from now : ℕ) (fs : List Frame) (b : List ℕ) → Stage limit (top ∷ fs) None from now b → ClosedStage limit (top ∷ fs) (b ++ y)
+AskEnds top y = (k w : Bool) (limit from now : ℕ) (fs : List Frame) (b : List ℕ) → Stage k w limit (top ∷ fs) None from now b → ClosedStage k w limit (top ∷ fs) (b ++ y)
 
 -- its title has the header h and begins at the place `at`
-abbrev pub AskGives : Frame → Header → ℕ → ℕ → List ℕ → Type 0
-AskGives top h at now y = (limit from : ℕ) (fs : List Frame) (b : List ℕ) → Stage limit (top ∷ fs) None from now b
-    → Rooted (top ∷ fs) × Titled limit (opened (top ∷ fs)) h at from (now + length y) (b ++ y)
+abbrev pub AskGives : Frame → Header → ℕ → ℕ → Bool → Bool → List ℕ → Type 0
+AskGives top h at now w w' y = (k : Bool) (limit from : ℕ) (fs : List Frame) (b : List ℕ) → Stage k w limit (top ∷ fs) None from now b
+    → Rooted (top ∷ fs) × InHand k w' limit (opened (top ∷ fs)) h at from (now + length y) (b ++ y)
 
 abbrev pub AskFails : {E : Type 0} → (E → Bool) → Frame → Seen → Seen → Error E → Type 0
-AskFails ends top old new e = (limit from : ℕ) (fs : List Frame) (b : List ℕ) → from + length b ≡ old.offset → Stage limit (top ∷ fs) None from old.offset b
+AskFails ends top old new e = (limit from : ℕ) (fs : List Frame) (b : List ℕ) → from + length b ≡ old.offset → Stage false false limit (top ∷ fs) None from old.offset b
     → Faults ends limit from b old.left new.offset e
 
 -- a frame of an item with the header h that was opened, and y behind its title, which ended at the place `now`
-abbrev pub IsBegun : Frame → Header → ℕ → List ℕ → Type 0
-IsBegun (code.Whole at k) h now y = ⊥
-IsBegun (code.Items l) h now y = (h ≡ Array l.count) × (l.items.items ≡ []) × (y ≡ [])
-IsBegun (code.Entries l) h now y = (h ≡ Map l.count) × (l.entries.items ≡ []) × (l.half ≡ false) × (y ≡ [])
-IsBegun (code.Tag n at k) h now y = (h ≡ Tag n) × OpensOver n k × Title y k × (at ≡ now)
+abbrev pub IsBegun : Frame → Header → ℕ → Bool → Bool → List ℕ → Type 0
+IsBegun (code.Whole at j) h now w w' y = ⊥
+IsBegun (code.Items l) h now w w' y = (h ≡ Array l.count) × (l.items.items ≡ []) × (y ≡ []) × (w' ≡ w)
+IsBegun (code.Entries l) h now w w' y = (h ≡ Map l.count) × (l.entries.items ≡ []) × (l.half ≡ false) × (y ≡ []) × (w' ≡ w)
+IsBegun (code.Tag n at j) h now w w' y = (h ≡ Tag n) × OpensOver n j × Title y j × (at ≡ now) × IsFlagged w w' j y
 
 -- a tag whose level is within the limit, or that opens none
 abbrev pub IsLow : ℕ → ℕ → Header → Type 0
 IsLow left n h = (OpensOver n h × (0 < left)) ⊎ (((n ≡ 2) ⊎ (n ≡ 3)) × ((o : Option ℕ) × (h ≡ Bytes o)))
 
 -- the title of a leaf is in hand, that of the item itself or the one behind its tag
-abbrev pub IsTitle : Option ℕ → Header → ℕ → ℕ → ℕ → ℕ → Header → List ℕ → Type 0
-IsTitle None h at now left place k y = (k ≡ h) × (place ≡ at) × (y ≡ [])
-IsTitle (Some n) h at now left place k y = (h ≡ Tag n) × IsLow left n k × Title y k × (place ≡ now)
+abbrev pub IsTitle : Option ℕ → Header → ℕ → ℕ → ℕ → Bool → Bool → ℕ → Header → List ℕ → Type 0
+IsTitle None h at now left w w' place j y = (j ≡ h) × (place ≡ at) × (y ≡ []) × (w' ≡ w)
+IsTitle (Some n) h at now left w w' place j y = (h ≡ Tag n) × IsLow left n j × Title y j × (place ≡ now) × IsFlagged w w' j y
 
 -- what the item with the header h opens, and y behind its title, which went from the place `at` to the place `now`
-abbrev pub Opening : Header → ℕ → ℕ → ℕ → Opened → List ℕ → Type 0
-Opening h at now left (opens.Level f) y = (0 < left) × IsBegun f h now y
-Opening h at now left (opens.Leaf n place k) y = IsLeaf k × IsTitle n h at now left place k y
+abbrev pub Opening : Header → ℕ → ℕ → ℕ → Bool → Bool → Opened → List ℕ → Type 0
+Opening h at now left w w' (opens.Level f) y = (0 < left) × IsBegun f h now w w' y
+Opening h at now left w w' (opens.Leaf n place j) y = IsLeaf j × IsTitle n h at now left w w' place j y
 
 -- the item of a title is begun
-abbrev pub Begins : List Frame → List Frame → ℕ → Header → ℕ → ℕ → Option Value → List ℕ → Type 0
-Begins old new limit h at now read y = (from : ℕ) (b : List ℕ) → Rooted old → Titled limit (opened old) h at from now b → Stage limit new read from (now + length y) (b ++ y)
+abbrev pub Begins : List Frame → List Frame → ℕ → Header → ℕ → ℕ → Option Value → Bool → Bool → List ℕ → Type 0
+Begins old new limit h at now read w w' y = (k : Bool) (from : ℕ) (b : List ℕ) → Rooted old → InHand k w limit (opened old) h at from now b
+    → Stage k w' limit new read from (now + length y) (b ++ y)
 
 abbrev pub BeginFails : {E : Type 0} → (E → Bool) → ℕ → List Frame → Header → ℕ → Seen → Seen → Error E → Type 0
 BeginFails ends limit fs h at old new e = (from : ℕ) (b : List ℕ) → from + length b ≡ old.offset → Rooted fs → Titled limit (opened fs) h at from old.offset b
     → Faults ends limit from b old.left new.offset e
+
+-- the item behind a title of h is read, and the flag tells whether its text is the shortest
+abbrev pub ReadExact : Header → ℕ → Tree → Bool → Bool → List ℕ → Type 0
+ReadExact h limit v w w' y = (title : List ℕ) → Title title h
+    → Reads (title ++ y) limit v × (length (title ++ y) < 2 ^ 64 → Says w ((title ≡ title_of h) × IsEncoded h) → Says w' (title ++ y ≡ enc v))
 
 -- How far the reader is from its end, where no more bytes come: it falls with each turn. A title in hand that is not begun counts.
 abbrev pub in_hand : Option Value → Frame → ℕ

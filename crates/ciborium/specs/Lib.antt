@@ -1,6 +1,7 @@
 pub mod Building
 pub mod Damage
 pub mod Damaged
+pub mod Exact
 pub mod Fitting
 pub mod Frames
 pub mod Front

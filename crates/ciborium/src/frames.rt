@@ -1,21 +1,24 @@
 //! Reads items over a list of the levels that are open.
 ghost use Rattle.std.specs.Prelude.{◌≡◌, ◌<◌, ◌≤◌, ◌+◌, ◌*◌, ◌∷◌, ℕ, Bool, true, false, List, None, Some, reverse, length};
-ghost use Rattle.std.specs.Prelude.{IfOk, IfErr, OnOk, OnErr, IfSome, IfNone};
+ghost use Rattle.std.specs.Prelude.{IfOk, IfErr, OnOk, OnErr, IfSome, IfNone, MatchOption, MatchBool, ◌&&◌};
 ghost use Rattle.ciborium_ll.specs.Seen.{Takes};
-ghost use Rattle.ciborium_ll.specs.Title.{Title};
-ghost use Rattle.ciborium_ll.specs.Views.{offset_of, waiting_of, seen};
+ghost use Rattle.ciborium_ll.specs.Title.{Title, IsShortest};
+ghost use Rattle.ciborium_ll.specs.Views.{offset_of, waiting_of, seen, shortest_of};
 ghost use Rattle.ciborium_value.specs.View.{view};
 ghost use Rattle.ciborium.specs.declared.de.Error.TheVariants.{Memory};
 ghost use Rattle.ciborium.specs.Damage.{Damage, TitleDamage};
 ghost use Rattle.ciborium.specs.Reading.{Steady, NamesFault, NamesFaultBehind, ReadsBehind, Closes};
-ghost use Rattle.ciborium.specs.Reading.{IsNext, is_full, fault_failures};
+ghost use Rattle.ciborium_value.specs.Folding.{tagged};
+ghost use Rattle.ciborium.specs.Reading.{IsNext, is_full, fault_failures, IsFoldFault};
 ghost use Rattle.ciborium.specs.Frames.{snoc, halves_of, HasHalf, IsStaged, IsClosed, ClosedStage, Stage, Hands};
-ghost use Rattle.ciborium.specs.Frames.{HandFails, AskEnds, AskGives, AskFails, Opening, Begins, BeginFails};
+ghost use Rattle.ciborium.specs.Exact.{encoded};
+ghost use Rattle.ciborium.specs.Frames.{IsKept, CloseGives, ReadExact, HandFails, AskEnds, AskGives, AskFails, Opening, Begins, BeginFails};
 ghost use Rattle.ciborium.specs.Frames.{in_hand, rank, Falls};
 
 use crate::de::Error;
 use crate::reader::{
-    ROOM, folded, is_leaf, next_part, opens, read_leaf, reserved, room_left, tagged_title,
+    ROOM, both, folded, is_encoded, is_leaf, is_low, is_over, length_of, next_part, read_leaf,
+    reserved, room_left, tagged_title,
 };
 use crate::strings::next_title;
 use crate::value::Value;
@@ -88,10 +91,11 @@ fn hand<E>(
     below: &mut Vec<Frame>,
     top: &mut Frame,
     read: &mut Option<Value>,
+    exact: &mut bool,
 ) -> Result<Handed, Error<E>>
     requires staged { IsStaged (top.old ∷ reverse below.old.items) read.old }
     ensures ok { IfOk result (Hands (top.old ∷ reverse below.old.items) (top.new ∷ reverse below.new.items)
-        read.old read.new) }
+        read.old read.new exact.old exact.new) }
     ensures falls { IfOk result (Falls (rank below.old.items top.old read.old)
         (rank below.new.items top.new read.new)) }
     ensures err { IfErr result (HandFails (top.old ∷ reverse below.old.items) read.old) }
@@ -116,7 +120,7 @@ fn hand<E>(
             Ok(Handed::Taken)
         }
         Frame::Tag(n, _, _) => {
-            let whole = folded(alloc, *n, value)?;
+            let whole = kept(alloc, *n, value, exact)?;
             *read = Some(whole);
             match below.pop() {
                 Some(frame) => {
@@ -132,8 +136,7 @@ fn hand<E>(
 /// Closes the innermost level, an array or a map.
 fn close(below: &mut Vec<Frame>, top: &mut Frame) -> Value
     requires closed { IsClosed (top.old ∷ reverse below.old.items) }
-    ensures value { (limit from now : ℕ) (b : List ℕ) → ClosedStage limit (top.old ∷ reverse below.old.items) b
-        → Stage limit (top.new ∷ reverse below.new.items) (Some result) from now b }
+    ensures value { CloseGives (top.old ∷ reverse below.old.items) (top.new ∷ reverse below.new.items) result }
     ensures falls { length below.new.items < length below.old.items }
 {
     match below.pop() {
@@ -160,7 +163,8 @@ fn next_half<R: Read>(
         × Takes (seen R.Read decoder.old) (seen R.Read decoder.new)
         (Closes list.now.count (length list.now.entries.items)))) }
     ensures some { IfOk result (λ o. IfSome o (λ r.
-        Takes (seen R.Read decoder.old) (seen R.Read decoder.new) (λ b. Title b r.1))) }
+        Takes (seen R.Read decoder.old) (seen R.Read decoder.new)
+        (λ b. Title b r.1 × IsShortest (shortest_of decoder.new) b r.1))) }
     ensures at { IfOk result (λ o. IfSome o (λ r. r.0 ≡ offset_of decoder.old)) }
     ensures next { IfOk result (λ o. IfSome o (λ r. list.now.half ≡ false
         → IsNext list.now.count (length list.now.entries.items) r.1)) }
@@ -176,16 +180,48 @@ fn next_half<R: Read>(
     next_part(decoder, list.count, list.entries.len())
 }
 
+/// Whether the text is still the shortest with the title that was read.
+pub fn is_still<R: Read>(decoder: &Decoder<R>, header: Header, exact: bool) -> bool
+    ensures { result ≡ (exact && (shortest_of decoder.now && encoded header)) }
+{
+    exact && decoder.was_shortest() && is_encoded(header)
+}
+
+/// The same, where there was one.
+fn noted<R: Read>(decoder: &Decoder<R>, part: Option<(usize, Header)>, exact: bool) -> bool
+    ensures { MatchOption part (result ≡ exact)
+        (λ r. result ≡ (exact && (shortest_of decoder.now && encoded r.1))) }
+{
+    match part {
+        None => exact,
+        Some(title) => is_still(decoder, title.1, exact),
+    }
+}
+
+/// The value of a tag over its content. Where the fold changes a byte string, its text was not the shortest.
+fn kept<E>(alloc: Global, tag: u64, content: Value, exact: &mut bool) -> Result<Value, Error<E>>
+    ensures ok { IfOk result (λ v. tagged tag (view content) ≡ Some (view v)) }
+    ensures kept { IfOk result (λ v. IsKept tag (view content) (view v) exact.old exact.new) }
+    ensures err { IfErr result (IsFoldFault tag (view content)) }
+{
+    let length = length_of(&content);
+    let whole = folded(alloc, tag, content)?;
+    *exact = both(*exact, is_over(&whole, tag, length));
+    Ok(whole)
+}
+
 /// The next title in the innermost level; none where it is whole.
 fn ask<R: Read>(
     decoder: &mut Decoder<R>,
     top: &Frame,
+    exact: &mut bool,
 ) -> Result<Option<(usize, Header)>, Error<R::Error>>
     requires fresh { waiting_of decoder.old ≡ None }
     ensures none { IfOk result (λ o. IfNone o
         (Takes (seen R.Read decoder.old) (seen R.Read decoder.new) (AskEnds top.now))) }
     ensures some { IfOk result (λ o. IfSome o (λ r. Takes (seen R.Read decoder.old) (seen R.Read decoder.new)
-        (AskGives top.now r.1 r.0 (offset_of decoder.old)))) }
+        (AskGives top.now r.1 r.0 (offset_of decoder.old) exact.old exact.new))) }
+    ensures same { IfOk result (λ o. IfNone o (exact.new ≡ exact.old)) }
     ensures moved { IfOk result (λ o. IfSome o (λ _.
         offset_of decoder.old + 1 ≤ offset_of decoder.new + in_hand None top.now)) }
     ensures err { IfErr result (AskFails R.ends top.now (seen R.Read decoder.old) (seen R.Read decoder.new)) }
@@ -195,10 +231,12 @@ fn ask<R: Read>(
         Frame::Whole(at, header) => Ok(Some((*at, *header))),
         Frame::Items(list) => {
             let part = next_part(decoder, list.count, list.items.len())?;
+            *exact = noted(decoder, part, *exact);
             Ok(part)
         }
         Frame::Entries(list) => {
             let part = next_half(decoder, list)?;
+            *exact = noted(decoder, part, *exact);
             Ok(part)
         }
         Frame::Tag(_, at, header) => Ok(Some((*at, *header))),
@@ -244,10 +282,11 @@ fn opening<R: Read>(
     at: usize,
     header: Header,
     left: usize,
+    exact: &mut bool,
 ) -> Result<Opened, Error<R::Error>>
     requires fresh { waiting_of decoder.old ≡ None }
     ensures ok { IfOk result (λ o. Takes (seen R.Read decoder.old) (seen R.Read decoder.new)
-        (Opening header at (offset_of decoder.old) left o)) }
+        (Opening header at (offset_of decoder.old) left exact.old exact.new o)) }
     ensures err { IfErr result (NamesFaultBehind R.ends header at (λ stop b f. Damage stop b left f)
         (seen R.Read decoder.old) (seen R.Read decoder.new)) }
     ensures steady { Steady R.ends result (seen R.Read decoder.old) (seen R.Read decoder.new) }
@@ -280,7 +319,9 @@ fn opening<R: Read>(
         }
         Header::Tag(n) => {
             let (place, inner) = tagged_title(decoder, n, left)?;
-            if left == 0 && opens(n, inner) {
+            *exact = is_still(decoder, inner, *exact);
+            let low = is_low(left, n, inner);
+            if !low {
                 return Err(Error::RecursionLimitExceeded);
             }
             if is_leaf(inner) {
@@ -301,12 +342,13 @@ fn begin<R: Read>(
     read: &mut Option<Value>,
     title: (usize, Header),
     limit: usize,
+    exact: &mut bool,
 ) -> Result<(), Error<R::Error>>
     requires fresh { waiting_of decoder.old ≡ None }
     requires empty { read.old ≡ None }
     ensures ok { OnOk result (Takes (seen R.Read decoder.old) (seen R.Read decoder.new)
         (Begins (top.old ∷ reverse below.old.items) (top.new ∷ reverse below.new.items) limit title.1 title.0
-        (offset_of decoder.old) read.new)) }
+        (offset_of decoder.old) read.new exact.old exact.new)) }
     ensures rises { OnOk result (rank below.new.items top.new read.new + 4 * offset_of decoder.old
         ≤ 2 * length below.old.items + 2 + 4 * offset_of decoder.new) }
     ensures err { IfErr result (BeginFails R.ends limit (top.old ∷ reverse below.old.items) title.1 title.0
@@ -314,7 +356,7 @@ fn begin<R: Read>(
     ensures steady { Steady R.ends result (seen R.Read decoder.old) (seen R.Read decoder.new) }
 {
     let left = limit.saturating_sub(below.len());
-    match opening(alloc, decoder, top, title.0, title.1, left)? {
+    match opening(alloc, decoder, top, title.0, title.1, left, exact)? {
         Opened::Level(frame) => {
             let Ok(()) = below.push(mem::replace(top, frame)) else {
                 return Err(Error::Memory);
@@ -329,7 +371,7 @@ fn begin<R: Read>(
                     Ok(())
                 }
                 Some(n) => {
-                    let whole = folded(alloc, n, value)?;
+                    let whole = kept(alloc, n, value, exact)?;
                     *read = Some(whole);
                     Ok(())
                 }
@@ -338,18 +380,20 @@ fn begin<R: Read>(
     }
 }
 
-/// The item behind the title of `header`, which begins at the place `at`.
+/// The item behind the title of `header`, which begins at the place `at`. `exact` tells whether the text is the shortest so far, and
+/// stays false once it is not.
 pub fn read_item<R: Read>(
     alloc: Global,
     decoder: &mut Decoder<R>,
     header: Header,
     at: usize,
     limit: usize,
+    exact: &mut bool,
 ) -> Result<Value, Error<R::Error>>
     requires fresh { waiting_of decoder.old ≡ None }
     requires titled { (title : List ℕ) × Title title header }
     ensures ok { IfOk result (λ v. Takes (seen R.Read decoder.old) (seen R.Read decoder.new)
-        (λ b. ReadsBehind header limit (view v) b)) }
+        (ReadExact header limit (view v) exact.old exact.new)) }
     ensures err { IfErr result (NamesFaultBehind R.ends header at (λ stop b f. Damage stop b limit f)
         (seen R.Read decoder.old) (seen R.Read decoder.new)) }
     ensures steady { Steady R.ends result (seen R.Read decoder.old) (seen R.Read decoder.new) }
@@ -358,14 +402,14 @@ pub fn read_item<R: Read>(
     let mut top = Frame::Whole(at, header);
     let mut read: Option<Value> = None;
     'turns: loop {
-        match hand(alloc, &mut below, &mut top, &mut read)? {
+        match hand(alloc, &mut below, &mut top, &mut read, exact)? {
             Handed::Up => {}
             Handed::Done => match read {
                 Some(value) => return Ok(value),
                 None => unreachable!(),
             },
             Handed::Taken => {
-                let part = ask(decoder, &top)?;
+                let part = ask(decoder, &top, exact)?;
                 match part {
                     None => {
                         let whole = close(&mut below, &mut top);
@@ -373,7 +417,7 @@ pub fn read_item<R: Read>(
                     }
                     Some(title) => {
                         begin(
-                            alloc, decoder, &mut below, &mut top, &mut read, title, limit,
+                            alloc, decoder, &mut below, &mut top, &mut read, title, limit, exact,
                         )?;
                     }
                 }

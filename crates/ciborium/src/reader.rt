@@ -1,12 +1,14 @@
 //! Reads values.
-ghost use Rattle.std.specs.Prelude.{◌≡◌, ◌≢◌, ◌⊎◌, ℕ, List, None, Some, Option, false};
+ghost use Rattle.std.specs.Prelude.{◌≡◌, ◌≢◌, ◌⊎◌, ℕ, List, None, Some, Option, true, false, length, ◌&&◌};
 ghost use Rattle.std.specs.Prelude.{IfOk, IfErr, OnErr, IfSome, IfNone, MatchOption, MatchBool};
 ghost use Rattle.ciborium_ll.specs.Seen.{Takes};
-ghost use Rattle.ciborium_ll.specs.Title.{Title};
-ghost use Rattle.ciborium_ll.specs.Views.{offset_of, waiting_of, seen};
+ghost use Rattle.ciborium_ll.specs.Title.{Title, IsShortest};
+ghost use Rattle.ciborium_ll.specs.Views.{offset_of, waiting_of, seen, shortest_of};
 ghost use Rattle.ciborium_ll.specs.declared.hdr.Header.TheVariants.{Bytes, Break};
 ghost use Rattle.ciborium_value.specs.Folding.{tagged};
-ghost use Rattle.ciborium_value.specs.Tree.{bytes};
+ghost use Rattle.ciborium_value.specs.Tree.{bytes, tag};
+ghost use Rattle.ciborium.specs.Exact.{encoded};
+ghost use Rattle.ciborium.specs.Frames.{IsLow};
 ghost use Rattle.ciborium_value.specs.View.{view};
 ghost use Rattle.ciborium.specs.Meaning.{simple_meaning};
 ghost use Rattle.ciborium.specs.Damage.{Damage, TitleDamage};
@@ -89,6 +91,53 @@ pub fn folded<E>(alloc: Global, tag: u64, content: Value) -> Result<Value, Error
     }
 }
 
+/// Whether the shortest text of an item may have the header: an open length, and undefined, are not in it.
+pub fn is_encoded(header: Header) -> bool
+    ensures { result ≡ encoded header }
+{
+    match header {
+        Header::Simple(n) => n != simple::UNDEFINED,
+        Header::Bytes(length) => length.is_some(),
+        Header::Text(length) => length.is_some(),
+        Header::Array(length) => length.is_some(),
+        Header::Map(length) => length.is_some(),
+        _ => true,
+    }
+}
+
+/// The length of a byte string.
+pub fn length_of(value: &Value) -> Option<usize>
+    ensures { MatchOption result ((x : List ℕ) → view value.now ≢ bytes x)
+        (λ n. (x : List ℕ) × (view value.now ≡ bytes x) × (length x ≡ n)) }
+{
+    match value {
+        Value::Bytes(bytes) => Some(bytes.len()),
+        _ => None,
+    }
+}
+
+/// Whether the value is that tag over a byte string of that length, where there is one.
+pub fn is_over(value: &Value, number: u64, size: Option<usize>) -> bool
+    ensures { MatchOption size (result ≡ true) (λ n. MatchBool result
+        ((x : List ℕ) × (view value.now ≡ tag number (bytes x)) × (length x ≡ n))
+        ((x : List ℕ) → length x ≡ n → view value.now ≢ tag number (bytes x))) }
+{
+    match size {
+        None => true,
+        Some(n) => match value {
+            Value::Tag(tag, content) => *tag == number && length_of(content) == Some(n),
+            _ => false,
+        },
+    }
+}
+
+/// Both, the first asked first.
+pub fn both(one: bool, two: bool) -> bool
+    ensures { result ≡ (one && two) }
+{
+    one && two
+}
+
 fn all_read(count: Option<usize>, done: usize) -> bool
     ensures { result ≡ is_full count done }
 {
@@ -113,7 +162,9 @@ pub fn next_part<R: Read>(
 ) -> Result<Option<(usize, Header)>, Error<R::Error>>
     requires fresh { waiting_of decoder.old ≡ None }
     ensures none { IfOk result (λ o. IfNone o (Takes (seen R.Read decoder.old) (seen R.Read decoder.new) (Closes count done))) }
-    ensures some { IfOk result (λ o. IfSome o (λ r. Takes (seen R.Read decoder.old) (seen R.Read decoder.new) (λ b. Title b r.1))) }
+    ensures some { IfOk result (λ o. IfSome o (λ r.
+        Takes (seen R.Read decoder.old) (seen R.Read decoder.new)
+        (λ b. Title b r.1 × IsShortest (shortest_of decoder.new) b r.1))) }
     ensures at { IfOk result (λ o. IfSome o (λ r. r.0 ≡ offset_of decoder.old)) }
     ensures next { IfOk result (λ o. IfSome o (λ r. IsNext count done r.1)) }
     ensures err { IfErr result (NamesFault R.ends TitleDamage (seen R.Read decoder.old) (seen R.Read decoder.new)) }
@@ -164,10 +215,20 @@ fn is_bytes(header: Header) -> bool
 }
 
 /// Whether the tag opens a level over an item of that title: all do, but those of bignums over a byte string.
-pub fn opens(tag: u64, header: Header) -> bool
+fn opens(tag: u64, header: Header) -> bool
     ensures { MatchBool result (OpensOver tag header) (((tag ≡ 2) ⊎ (tag ≡ 3)) × ((o : Option ℕ) × (header ≡ Bytes o))) }
 {
     is_plain(tag) || !is_bytes(header)
+}
+
+/// Whether a tag over an item of that title is within the limit, where so many levels are left.
+pub fn is_low(left: usize, tag: u64, header: Header) -> bool
+    ensures { MatchBool result (IsLow left tag header) ((left ≡ 0) × OpensOver tag header) }
+{
+    if opens(tag, header) {
+        return left > 0;
+    }
+    true
 }
 
 /// Whether no items follow in the item of a title.
@@ -184,7 +245,8 @@ pub fn tagged_title<R: Read>(
     limit: usize,
 ) -> Result<(usize, Header), Error<R::Error>>
     requires fresh { waiting_of decoder.old ≡ None }
-    ensures ok { IfOk result (λ r. Takes (seen R.Read decoder.old) (seen R.Read decoder.new) (λ b. Title b r.1)) }
+    ensures ok { IfOk result (λ r. Takes (seen R.Read decoder.old) (seen R.Read decoder.new)
+        (λ b. Title b r.1 × IsShortest (shortest_of decoder.new) b r.1)) }
     ensures at { IfOk result (λ r. r.0 ≡ offset_of decoder.old) }
     ensures err { IfErr result (NamesFault R.ends (TagDamage tag limit) (seen R.Read decoder.old) (seen R.Read decoder.new)) }
     ensures steady { Steady R.ends result (seen R.Read decoder.old) (seen R.Read decoder.new) }

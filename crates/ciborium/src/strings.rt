@@ -1,11 +1,11 @@
 //! Reads titles and strings.
 ghost use Rattle.std.specs.Prelude.{◌≡◌, ◌≤◌, ◌<◌, ◌+◌, ◌++◌, ◌^◌, ℕ, None, Some, OnOk, IfOk, IfErr, length, Bool, true, [], string_bytes};
 ghost use Rattle.std.specs.Str.{IsUtf8};
-ghost use Rattle.ciborium_ll.specs.Title.{Title, title_of};
+ghost use Rattle.ciborium_ll.specs.Title.{Title, title_of, IsShortest};
 ghost use Rattle.ciborium_ll.specs.declared.hdr.Header.{Header};
 ghost use Rattle.ciborium_ll.specs.declared.hdr.Header.TheVariants.{Text};
 ghost use Rattle.ciborium_ll.specs.Seen.{Takes};
-ghost use Rattle.ciborium_ll.specs.Views.{left_of, offset_of, waiting_of, reader_of, seen};
+ghost use Rattle.ciborium_ll.specs.Views.{left_of, offset_of, waiting_of, reader_of, seen, shortest_of};
 ghost use Rattle.ciborium.specs.Damage.{TitleDamage, ChunkDamage, StringDamage};
 ghost use Rattle.ciborium.specs.Reading.{NamesFault, NamesFaultBehind, NamesShort, Steady, IsNoMemory};
 ghost use Rattle.ciborium.specs.Reading.{string_head, IsBody, StringBehind, ChunkBody, IsPart};
@@ -18,6 +18,9 @@ use std::alloc::Global;
 #[inline(always)]
 pub fn next_title<R: Read>(decoder: &mut Decoder<R>) -> Result<(usize, Header), Error<R::Error>>
     ensures ok { IfOk result (λ r. Takes (seen R.Read decoder.old) (seen R.Read decoder.new) (λ b. Title b r.1)) }
+    ensures shortest { waiting_of decoder.old ≡ None → IfOk result (λ r.
+        Takes (seen R.Read decoder.old) (seen R.Read decoder.new)
+        (λ b. Title b r.1 × IsShortest (shortest_of decoder.new) b r.1)) }
     ensures at { IfOk result (λ r. r.0 ≡ offset_of decoder.old) }
     ensures fits { offset_of decoder.new < 2 ^ 64 }
     ensures nothing { left_of R.left decoder.old ≡ Some [] → OnOk result ⊥ }

@@ -1,5 +1,9 @@
 use Rattle.std.proofs.lemmas.Result.{err_from_is_err_and}
 use Rattle.ciborium.proofs.ReadLemmas.{item_read, item_title_fails}
+use Rattle.std.proofs.Common.{false}
+use Rattle.ciborium_value.specs.View.{view}
+use Rattle.ciborium_ll.specs.Views.{seen}
+use Rattle.ciborium.proofs.TurnLemmas.{behind_read}
 use Rattle.ciborium.proofs.de.from_decoder.Goals as goal
 
 pub returns-in_err-at-clause-err : goal.returns-in_err-at-clause-err
@@ -8,4 +12,4 @@ returns-in_err-at-clause-err g c =
     rw (p.1, p.2) (item_title_fails g.R.Read.ends _ _ _ _ _ c.in_err-at.ensures.err)
 
 pub returns-clause-ok : goal.returns-clause-ok
-returns-clause-ok g c = item_read _ _ _ _ _ _ _ _ _ c.in_ok-at.ensures.ok c.in_ok-value.ensures.ok
+returns-clause-ok g c = item_read _ _ _ _ _ _ _ _ _ c.in_ok-at.ensures.ok (behind_read c.in_ok-at.header c.args.limit (view c.in_ok-value.value) false c.read_item.new.exact (seen g.R.Read c.next_title.new.decoder) (seen g.R.Read c.read_item.new.decoder) c.in_ok-value.ensures.ok)

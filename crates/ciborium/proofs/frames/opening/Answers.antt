@@ -1,6 +1,8 @@
 use Rattle.std.proofs.lemmas.Result.{err_from_is_err_and}
 use Rattle.ciborium_ll.specs.declared.hdr.Header.TheVariants.{Array, Map}
-use Rattle.ciborium_ll.specs.Views.{seen}
+use Rattle.ciborium_ll.specs.Title.{Title, IsShortest}
+use Rattle.ciborium_ll.specs.Views.{seen, shortest_of}
+use Rattle.ciborium.proofs.Taking.{takes_as}
 use Rattle.ciborium.specs.declared.de.Error.TheVariants.{RecursionLimitExceeded}
 use Rattle.ciborium.proofs.ReadLemmas.{deep_fails}
 use Rattle.ciborium.proofs.TagLemmas.{level_deep, tag_fails}
@@ -17,9 +19,19 @@ returns-in_err-place-in-Tag-clause-err g c =
     let p = err_from_is_err_and c.from_residual.result c.from_residual.ensures.1 in
     rw (p.1, p.2) (rw c.in-Tag.is (tag_fails g.R.Read.ends c.in-Tag.n c.args.at c.args.left _ _ _ _ c.in_err-place-in-Tag.ensures.err))
 
-pub returns-then-opens-clause-err : goal.returns-then-opens-clause-err
-returns-then-opens-clause-err g c =
+pub returns-then-not-low-clause-err : goal.returns-then-not-low-clause-err
+returns-then-not-low-clause-err g c =
+    let deep = rw c.if-not-low.true at c.is_low-low.ensures in
     rw c.in-Tag.is (tag_fails g.R.Read.ends c.in-Tag.n c.args.at c.args.left _ _ (seen g.R.Read c.tagged_title.new.decoder).offset RecursionLimitExceeded
     (level_deep g.R.Read.ends c.in-Tag.n c.args.left c.in_ok-place-in-Tag.inner
     (seen g.R.Read c.args.decoder.now).left (seen g.R.Read c.tagged_title.new.decoder).left
-    (seen g.R.Read c.args.decoder.now).offset (seen g.R.Read c.tagged_title.new.decoder).offset (rw c.if-opens.true at c.opens.ensures) c.if-left-eq0-3.true c.in_ok-place-in-Tag.ensures.ok))
+    (seen g.R.Read c.args.decoder.now).offset (seen g.R.Read c.tagged_title.new.decoder).offset deep.1 deep.0
+    (takes_as _ _ _ _ (λ b. Title b c.in_ok-place-in-Tag.inner × IsShortest (shortest_of c.tagged_title.new.decoder) b c.in_ok-place-in-Tag.inner) (λ b. Title b c.in_ok-place-in-Tag.inner)
+    c.in_ok-place-in-Tag.ensures.ok (λ y q. q.0))))
+
+pub returns-then-is_leaf-clause-ok : goal.returns-then-is_leaf-clause-ok
+returns-then-is_leaf-clause-ok g c =
+    let low = rw c.if-not-low.false at c.is_low-low.ensures in
+    let leaf = rw c.if-is_leaf.true at c.is_leaf.ensures in
+    takes_as _ _ _ _ (λ b. Title b c.in_ok-place-in-Tag.inner × IsShortest (shortest_of c.tagged_title.new.decoder) b c.in_ok-place-in-Tag.inner) _
+    c.in_ok-place-in-Tag.ensures.ok (λ y q. (leaf, (c.in-Tag.is, low, q.0, c.in_ok-place-in-Tag.ensures.at, (shortest_of c.tagged_title.new.decoder, q.1, c.is_still.ensures))))
