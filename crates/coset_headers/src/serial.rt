@@ -1,10 +1,10 @@
 //! Headers and signatures as values and bytes.
-ghost use Rattle.std.specs.Prelude.{◌≡◌, Some, None, MatchResult, option_map};
+ghost use Rattle.std.specs.Prelude.{◌≡◌, [], Some, None, MatchResult, option_map};
 ghost use Rattle.ciborium_value.specs.Tree as spec;
 ghost use Rattle.ciborium_value.specs.View.{view};
 ghost use Rattle.coset_labels.specs.Faults.{OrMemory, CantWrite};
 ghost use Rattle.coset_headers.specs.Alone.{HasUnsent, unsent_tree, is_unset};
-ghost use Rattle.coset_headers.specs.Fields.{HeaderFields, ProtectedFields, SignatureFields, protected, no_header};
+ghost use Rattle.coset_headers.specs.Fields.{HeaderFields, ProtectedFields, SignatureFields, protected, signature, no_header};
 ghost use Rattle.coset_headers.specs.Headers.{HasHeader, HasProtected, HasSignature};
 ghost use Rattle.coset_headers.specs.View.{header_view, protected_view, signature_view};
 ghost use Rattle.coset_headers.specs.Written.{header_tree, signature_tree, shown};
@@ -110,6 +110,19 @@ impl AsCborValue for CoseSignature {
 }
 
 impl CborSerializable for CoseSignature {}
+
+impl CoseSignature {
+    /// A signature with no field. It takes no memory.
+    pub fn new(alloc: Global) -> CoseSignature
+        ensures { signature_view result ≡ signature (protected None no_header) no_header [] }
+    {
+        CoseSignature {
+            protected: ProtectedHeader::new(alloc),
+            unprotected: Header::new(alloc),
+            signature: Vec::new(alloc),
+        }
+    }
+}
 
 impl ProtectedHeader {
     /// A header with no field and no bytes received. It takes no memory.

@@ -148,12 +148,16 @@ impl From<TryFromIntError> for CoseError {
     }
 }
 
-/// Why a call that asks its caller's code failed: by that code's own error, or by a fault of COSE before it was asked.
-#[derive(Debug, PartialEq, Eq, Drop)]
+/// Why a call that asks its caller's code failed: by that code's own error, or by a fault of COSE before it was asked. Its text is that of
+/// the error in it.
+#[derive(Debug, PartialEq, Eq, Drop, thiserror::Error)]
+#[error_bound(E: fmt::Display)]
 pub enum Fault<E> {
     /// The error of the caller's code.
+    #[error("{0}")]
     Caller(E),
     /// What was met before the caller's code was asked.
+    #[error("{0}")]
     Cose(CoseError),
 }
 

@@ -1,4 +1,5 @@
 pub mod Again
+pub mod Equal
 pub mod Fit
 pub mod Read
 pub mod Sound

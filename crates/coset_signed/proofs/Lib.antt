@@ -1,5 +1,6 @@
 pub mod Adding
 pub mod Again
+pub mod Equal
 pub mod Excludes
 pub mod Fit
 pub mod Sound

@@ -1,5 +1,5 @@
 //! Laws of the definitions.
-ghost use Rattle.std.specs.Prelude.{◌≡◌, ◌≢◌, ◌^◌, ◌<◌, ℕ, List, Some, None, map};
+ghost use Rattle.std.specs.Prelude.{◌≡◌, ◌≢◌, ◌↔◌, ◌^◌, ◌<◌, ℕ, List, IsTrue, Some, None, map};
 ghost use Rattle.ciborium.specs.Front.{Reads};
 ghost use Rattle.ciborium_value.specs.Encoding.{enc, Fits, FitAll};
 ghost use Rattle.ciborium_value.specs.Tree.{Tree, array, tag, tree_count};
@@ -118,3 +118,13 @@ pub fn sign_reads_again(message: &CoseSign)
     sign_fits(message);
     read_is_short();
 }
+
+/// Messages are equal where they say the same and their protected headers have the same received bytes, or none.
+pub fn sign1_compare(a: &CoseSign1, b: &CoseSign1)
+    ensures { IsTrue (⟦<CoseSign1 as std::cmp::PartialEq>⟧.eq a.now b.now) ↔ (sign1_view a.now ≡ sign1_view b.now) }
+{}
+
+/// As `sign1_compare`, their signatures in the same order.
+pub fn sign_compare(a: &CoseSign, b: &CoseSign)
+    ensures { IsTrue (⟦<CoseSign as std::cmp::PartialEq>⟧.eq a.now b.now) ↔ (sign_view a.now ≡ sign_view b.now) }
+{}

@@ -1,5 +1,6 @@
 -- The bytes that signatures, tags and encryptions cover (RFC 9052, sections 4.4, 5.3 and 6.3).
 use Rattle.std.specs.Prelude.{ℕ, List, [], ◌∷◌, ◌++◌, Option, Some, None, option_map, option_and_then}
+use Rattle.std.specs.Borrow.{Bor}
 use Rattle.ciborium_value.specs.Tree.{bytes, text, array}
 use Rattle.ciborium_value.specs.View.{trees}
 use Rattle.ciborium_value.specs.Encoding.{enc}
@@ -43,3 +44,7 @@ behind_prefix body (Some b) aad payload = enc (bytes body) ++ (enc (bytes b) ++ 
 
 abbrev pub behind_enc_prefix : List ℕ → List ℕ → List ℕ
 behind_enc_prefix body aad = enc (bytes body) ++ enc (bytes aad)
+
+-- a part as it stands in a structure
+abbrev pub byte_string : Bor (List ℕ) → List ℕ
+byte_string part = enc (bytes part.now)

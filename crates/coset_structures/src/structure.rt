@@ -1,19 +1,18 @@
 //! What signatures, tags and encryptions cover.
-ghost use Rattle.std.specs.Prelude.{◌≡◌, ◌++◌, Some, MatchResult, OnOk, option_map};
+ghost use Rattle.std.specs.Prelude.{◌≡◌, ◌≤◌, ◌^◌, ◌++◌, None, Some, MatchOption, MatchResult, IfOk, OnOk, length, option_map};
+ghost use Rattle.std.specs.List.{flat_map};
 ghost use Rattle.std.specs.Cow.{cow_slice_items};
-ghost use Rattle.ciborium_ll.specs.Title.{title_of};
-ghost use Rattle.ciborium_ll.specs.Views.{memory_of};
 ghost use Rattle.ciborium_value.specs.Tree as spec;
 ghost use Rattle.ciborium_value.specs.Encoding.{enc};
 ghost use Rattle.coset_labels.specs.Faults.{CantWrite};
 ghost use Rattle.coset_labels.specs.declared.error.CoseError.TheVariants.{Memory};
 ghost use Rattle.coset_structures.specs.Contexts.{signature_text, mac_text, encryption_text};
-ghost use Rattle.coset_structures.specs.Structure.{structure, enc_structure, shown_signer, sig_structure, mac_structure, encryption_structure};
+ghost use Rattle.coset_structures.specs.Structure.{structure, shown_signer, sig_structure, mac_structure, encryption_structure, behind_prefix, behind_enc_prefix, byte_string};
 ghost use Rattle.coset_headers.specs.View.{protected_view};
 ghost use Rattle.coset_headers.specs.Written.{shown};
 
 use crate::context::{EncryptionContext, MacContext, SignatureContext};
-use ciborium_ll::{Encoder, Header as Head, Mem, Write};
+use crate::title::bytes_title;
 use coset_headers::{ProtectedHeader, show_protected};
 use coset_labels::CoseError;
 use std::alloc::{AllocError, Global};
@@ -40,7 +39,7 @@ pub fn sig_structure_data(
 {
     let body = show(alloc, body)?;
     let signer = show_signer(alloc, sign)?;
-    covered(alloc, context.text(), &body, &signer, aad, payload)
+    over_signer(alloc, context, &body, &signer, aad, payload)
 }
 
 /// The bytes that a tag covers, the MAC_structure (RFC 9052, section 6.3): the context, the protected header, the external data and the
@@ -59,7 +58,7 @@ pub fn mac_structure_data(
         (λ e. CantWrite (mac_structure (mac_text context) (protected_view protected.now) aad.now payload.now) e) }
 {
     let body = show(alloc, protected)?;
-    covered(alloc, context.text(), &body, &None, aad, payload)
+    covered(alloc, context.prefix(), &body, aad, payload)
 }
 
 /// The bytes that an encryption covers, the Enc_structure (RFC 9052, section 5.3): the context, the protected header and the external
@@ -77,10 +76,11 @@ pub fn enc_structure_data(
         (λ e. CantWrite (encryption_structure (encryption_text context) (protected_view protected.now) aad.now) e) }
 {
     let body = show(alloc, protected)?;
-    encrypted(alloc, context.text(), &body, aad)
+    encrypted(alloc, context.prefix(), &body, aad)
 }
 
-/// The bytes that are shown for a protected header: those that were received, where it was.
+/// The bytes that are shown for a protected header: those that were received, where it was. Only a header with a field and without received
+/// bytes is encoded.
 fn show<'a>(
     alloc: Global,
     protected: &'a ProtectedHeader,
@@ -91,6 +91,9 @@ fn show<'a>(
     match &protected.original_data {
         Some(bytes) => Ok(CowSlice::Borrowed(bytes)),
         None => {
+            if protected.header.is_empty() {
+                return Ok(CowSlice::Borrowed(&[]));
+            }
             let copy = protected.clone(alloc)?;
             let made = show_protected(alloc, copy)?;
             Ok(CowSlice::Owned(made))
@@ -115,86 +118,94 @@ fn show_signer<'a>(
     }
 }
 
-/// How long a structure is at most: its parts, with at most nine bytes in front of each and of the whole.
-fn room(
-    context: &str,
-    body: &[u8],
-    signer: &Option<CowSlice<u8, Global>>,
-    aad: &[u8],
-    payload: &[u8],
-) -> usize {
-    let signer = match signer {
-        Some(signer) => signer.len(),
-        None => 0,
-    };
-    [context.len(), body.len(), signer, aad.len(), payload.len()]
-        .iter()
-        .fold(
-            9usize,
-            |room, part| room.saturating_add(*part).saturating_add(9),
-        )
-}
-
-fn covered(
+/// A Sig_structure with the signer's bytes where there is a signer.
+fn over_signer(
     alloc: Global,
-    context: &str,
+    context: SignatureContext,
     body: &[u8],
     signer: &Option<CowSlice<u8, Global>>,
     aad: &[u8],
     payload: &[u8],
 ) -> Result<Vec<u8>, CoseError>
-    ensures { MatchResult result (λ v. v.items ≡ structure context.now body.now (option_map cow_slice_items signer.now) aad.now payload.now)
+    ensures { MatchResult result (λ v. v.items ≡ structure (signature_text context) body.now (option_map cow_slice_items signer.now)
+        aad.now payload.now) (λ e. e ≡ Memory) }
+{
+    match signer {
+        None => covered(alloc, context.prefix(false), body, aad, payload),
+        Some(signer) => signed(alloc, context.prefix(true), body, signer, aad, payload),
+    }
+}
+
+/// A structure with a payload and without a signer, which begins so.
+fn covered<'a>(
+    alloc: Global,
+    prefix: &[u8],
+    body: &'a [u8],
+    aad: &'a [u8],
+    payload: &'a [u8],
+) -> Result<Vec<u8>, CoseError>
+    ensures { MatchResult result (λ v. v.items ≡ prefix.now ++ behind_prefix body.now None aad.now payload.now) (λ e. e ≡ Memory) }
+{
+    Ok(joined(alloc, prefix, &[body, aad, payload])?)
+}
+
+/// A structure with a payload and a signer, which begins so.
+fn signed<'a>(
+    alloc: Global,
+    prefix: &[u8],
+    body: &'a [u8],
+    signer: &'a [u8],
+    aad: &'a [u8],
+    payload: &'a [u8],
+) -> Result<Vec<u8>, CoseError>
+    ensures { MatchResult result (λ v. v.items ≡ prefix.now ++ behind_prefix body.now (Some signer.now) aad.now payload.now)
         (λ e. e ≡ Memory) }
 {
-    let mut out = Mem::new(Vec::with_capacity(alloc, room(context, body, signer, aad, payload))?);
-    match signer {
-        None => {
-            push_head(&mut out, Head::Array(Some(4)))?;
-            push_text(&mut out, context)?;
-            push_bytes(&mut out, body)?;
-        }
-        Some(signer) => {
-            push_head(&mut out, Head::Array(Some(5)))?;
-            push_text(&mut out, context)?;
-            push_bytes(&mut out, body)?;
-            push_bytes(&mut out, signer)?;
-        }
+    Ok(joined(alloc, prefix, &[body, signer, aad, payload])?)
+}
+
+/// A structure without a payload, which begins so.
+fn encrypted<'a>(
+    alloc: Global,
+    prefix: &[u8],
+    body: &'a [u8],
+    aad: &'a [u8],
+) -> Result<Vec<u8>, CoseError>
+    ensures { MatchResult result (λ v. v.items ≡ prefix.now ++ behind_enc_prefix body.now aad.now) (λ e. e ≡ Memory) }
+{
+    Ok(joined(alloc, prefix, &[body, aad])?)
+}
+
+/// A structure: how it begins, and byte strings, in one vector that has room for just these.
+fn joined(alloc: Global, prefix: &[u8], parts: &[&[u8]]) -> Result<Vec<u8>, AllocError>
+    ensures { IfOk result (λ v. v.items ≡ prefix.now ++ flat_map byte_string parts.now) }
+{
+    let room = room(prefix, parts).ok_or(AllocError)?;
+    let mut out = Vec::with_capacity(alloc, room)?;
+    out.extend_from_slice(prefix)?;
+    for part in parts {
+        push_bytes(&mut out, part)?;
     }
-    push_bytes(&mut out, aad)?;
-    push_bytes(&mut out, payload)?;
-    Ok(out.into_inner())
+    Ok(out)
 }
 
-fn encrypted(alloc: Global, context: &str, body: &[u8], aad: &[u8]) -> Result<Vec<u8>, CoseError>
-    ensures { MatchResult result (λ v. v.items ≡ enc_structure context.now body.now aad.now) (λ e. e ≡ Memory) }
+/// How long a structure is, where `usize` can hold it.
+fn room(prefix: &[u8], parts: &[&[u8]]) -> Option<usize>
+    ensures { MatchOption result (2 ^ 64 ≤ length (prefix.now ++ flat_map byte_string parts.now))
+        (λ n. n ≡ length (prefix.now ++ flat_map byte_string parts.now)) }
 {
-    let mut out = Mem::new(Vec::new(alloc));
-    push_head(&mut out, Head::Array(Some(3)))?;
-    push_text(&mut out, context)?;
-    push_bytes(&mut out, body)?;
-    push_bytes(&mut out, aad)?;
-    Ok(out.into_inner())
+    let mut room = prefix.len();
+    for part in parts {
+        let title = bytes_title(part.len()).as_slice().len();
+        room = room.checked_add(title)?.checked_add(part.len())?;
+    }
+    Some(room)
 }
 
-/// Appends a head.
-fn push_head(out: &mut Mem<Vec<u8>>, head: Head) -> Result<(), AllocError>
-    ensures { OnOk result ((memory_of out.new).items ≡ (memory_of out.old).items ++ title_of head) }
+/// Appends a byte string, its title and its bytes.
+fn push_bytes(out: &mut Vec<u8>, bytes: &[u8]) -> Result<(), AllocError>
+    ensures { OnOk result (out.new.items ≡ out.old.items ++ enc (spec.bytes bytes.now)) }
 {
-    Encoder::from(out).push(head)
-}
-
-/// Appends a byte string.
-fn push_bytes(out: &mut Mem<Vec<u8>>, bytes: &[u8]) -> Result<(), AllocError>
-    ensures { OnOk result ((memory_of out.new).items ≡ (memory_of out.old).items ++ enc (spec.bytes bytes.now)) }
-{
-    push_head(out, Head::Bytes(Some(bytes.len())))?;
-    out.write_all(bytes)
-}
-
-/// Appends a text.
-fn push_text(out: &mut Mem<Vec<u8>>, text: &str) -> Result<(), AllocError>
-    ensures { OnOk result ((memory_of out.new).items ≡ (memory_of out.old).items ++ enc (spec.text text.now)) }
-{
-    push_head(out, Head::Text(Some(text.len())))?;
-    out.write_all(text.as_bytes())
+    out.extend_from_slice(bytes_title(bytes.len()).as_slice())?;
+    out.extend_from_slice(bytes)
 }
