@@ -1,9 +1,10 @@
 #!/bin/sh
 # capped.sh [BINARY]: heads that claim more than follows them, read by cbor_bench under a capped heap.
 #
-# Each input must end as bytes that are cut off, and not as refused memory, where the process may hold little more than for an empty array
-# or, 256 levels deep, for maps of one entry each. Where valgrind is there, it also counts the bytes that reading asks of the heap: at most
-# 4,096 over those of the empty array, beside the input itself.
+# Each input must end as bytes that are cut off, and not as refused memory, where the process may hold little more than for an empty
+# array or, 256 levels deep, for maps of one entry each. Where valgrind is there, it also counts the bytes that reading asks of the heap:
+# beside the input itself at most 4,096 over those of the empty array or, 256 levels deep, over those of as many open arrays, which claim
+# nothing.
 set -u
 here=$(cd "$(dirname "$0")/.." && pwd)
 bench=${1:-$here/crates/cbor_bench/out/cbor_bench}
@@ -15,6 +16,7 @@ printf '\200' > "$folder/empty"
 printf '\233\377\377\377\377\377\377\377\377' > "$folder/9b"
 printf '\273\377\377\377\377\377\377\377\377' > "$folder/bb"
 { levels 256 '\241\000'; printf '\000'; } > "$folder/deep"
+levels 256 '\237' > "$folder/9f-256"
 levels 256 '\250' > "$folder/a8-256"
 levels 256 '\233\377\377\377\377\377\377\377\377' > "$folder/9b-256"
 
@@ -33,10 +35,17 @@ cap_of() {
 
 heap() { valgrind "$bench" decode "$1" 1 2>&1 | sed -n 's/.*frees, \([0-9,]*\) bytes allocated.*/\1/p' | tr -d ,; }
 bad=0
-command -v valgrind > /dev/null && base=$(heap "$folder/empty") || base=
+flat= deep=
+if command -v valgrind > /dev/null; then
+  flat=$(heap "$folder/empty")
+  deep=$(heap "$folder/9f-256")
+fi
 for name in 9b bb a8-256 9b-256; do
-  # what is 256 levels deep may have the stack of a map that is read at that depth
-  case $name in *-256) cap_of "$folder/deep" ;; *) cap_of "$folder/empty" ;; esac
+  # what is 256 levels deep may take what maps of that depth take: the list of open levels, and the stack to drop them
+  case $name in
+    *-256) cap_of "$folder/deep"; base=$deep claims="so many open arrays" ;;
+    *) cap_of "$folder/empty"; base=$flat claims="an empty array" ;;
+  esac
   reads $cap "$folder/$name"
   answer=$(cat "$folder/err")
   more=
@@ -46,7 +55,7 @@ for name in 9b bb a8-256 9b-256; do
     # the input is read into a buffer that may double as it grows
     [ $more -le $((4096 + 4 * size)) ] || bad=1
   fi
-  echo "$name: $answer under $cap KiB${more:+; $more bytes more of the heap than an empty array}"
+  echo "$name: $answer under $cap KiB${more:+; $more bytes more of the heap than $claims}"
   case $answer in *"Io(End)"*) ;; *) bad=1 ;; esac
 done
 [ $bad = 0 ] && echo 'capped.sh: all within' || { echo 'capped.sh: too much' >&2; exit 1; }

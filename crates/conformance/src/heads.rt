@@ -35,6 +35,15 @@ fn ended(alloc: Global, text: String, error: Error<End>, offset: usize) -> Answe
     Ok(format!(in alloc; "{text}{error} {offset}")?)
 }
 
+/// Whether the title of the first header is the shortest of that header.
+pub fn shortest(alloc: Global, bytes: &[u8]) -> Answer {
+    let mut decoder = Decoder::from(bytes);
+    match decoder.pull() {
+        Ok(_) => Ok(format!(in alloc; "{}", decoder.was_shortest())?),
+        Err(error) => failure(alloc, &error),
+    }
+}
+
 /// The title of the first header as it is written, and its length.
 pub fn pushed(alloc: Global, bytes: &[u8]) -> Answer {
     let mut decoder = Decoder::from(bytes);
