@@ -32,6 +32,7 @@ fn of_bytes(alloc: Global, call: &str, argument: &str) -> Answer {
         "pull" => heads::pulled(alloc, bytes),
         "push" => heads::pushed(alloc, bytes),
         "shortest" => heads::shortest(alloc, bytes),
+        "exact" => items::exact(alloc, bytes),
         "sequence" => items::sequence(alloc, bytes),
         "bignum" => values::bignum(alloc, bytes),
         _ => Err(CallError::NoCall),

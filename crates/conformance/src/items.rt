@@ -1,6 +1,6 @@
 //! Items that are read and written.
 use crate::answers::{Answer, CallError, LIMIT, failure, made};
-use ciborium::de::from_decoder;
+use ciborium::de::{from_decoder, from_decoder_strict};
 use ciborium::{Decoder, Value};
 use coset_labels::write_to_vec;
 use std::alloc::Global;
@@ -17,6 +17,15 @@ pub fn item(alloc: Global, bytes: &[u8], limit: usize) -> Answer {
 fn written(alloc: Global, value: &Value, word: &str, offset: usize) -> Answer {
     let text = made(alloc, write_to_vec(alloc, value))?;
     Ok(format!(in alloc; "{text} {word}{offset}")?)
+}
+
+/// Whether the bytes of the front item are its one encoding, and how many they are, or the fault.
+pub fn exact(alloc: Global, bytes: &[u8]) -> Answer {
+    let mut decoder = Decoder::from(bytes);
+    match from_decoder_strict(alloc, &mut decoder, LIMIT) {
+        Ok((_, is_exact)) => Ok(format!(in alloc; "{is_exact} {}", decoder.offset())?),
+        Err(error) => failure(alloc, &error),
+    }
 }
 
 /// Each item of a sequence (RFC 8742) with the offset behind it, and at last the fault with the offset there.
