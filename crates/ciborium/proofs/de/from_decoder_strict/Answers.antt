@@ -6,20 +6,20 @@ use Rattle.ciborium.proofs.ReadLemmas.{item_title_fails}
 use Rattle.ciborium.proofs.TurnLemmas.{exact_read, item_fails}
 use Rattle.ciborium.proofs.de.from_decoder_strict.Goals as goal
 
-pub returns-in_err-at-clause-err : goal.returns-in_err-at-clause-err
-returns-in_err-at-clause-err g c =
+pub returns-in_err-place-clause-err : goal.returns-in_err-place-clause-err
+returns-in_err-place-clause-err g c =
     let p = err_from_is_err_and c.from_residual.result c.from_residual.ensures.1 in
-    rw (p.1, p.2) (item_title_fails g.R.Read.ends _ _ _ _ _ c.in_err-at.ensures.err)
+    rw (p.1, p.2) (item_title_fails g.R.Read.ends _ _ _ _ _ c.in_err-place.ensures.err)
 
 pub returns-in_err-value-clause-err : goal.returns-in_err-value-clause-err
 returns-in_err-value-clause-err g c =
     let p = err_from_is_err_and c.from_residual-in_err-value.result c.from_residual-in_err-value.ensures.1 in
     rw (p.1, p.2)
-    (item_fails g.R.Read.ends c.in_ok-at.header c.in_ok-at.at c.args.limit (seen g.R.Read c.args.decoder.now) (seen g.R.Read c.next_title.new.decoder) (seen g.R.Read c.read_item.new.decoder) _
-    c.in_ok-at.ensures.at c.in_ok-at.ensures.ok c.in_err-value.ensures.err)
+    (item_fails g.R.Read.ends c.in_ok-place.header c.in_ok-place.place c.args.limit (seen g.R.Read c.args.decoder.now) (seen g.R.Read c.next_title.new.decoder) (seen g.R.Read c.read_item.new.decoder) _
+    c.in_ok-place.ensures.at c.in_ok-place.ensures.ok c.in_err-value.ensures.err)
 
 pub returns-clause-ok : goal.returns-clause-ok
 returns-clause-ok g c =
-    exact_read c.in_ok-at.header c.args.limit (view c.in_ok-value.value) c.read_item.new.exact c.is_still-exact.result (shortest_of c.next_title.new.decoder)
+    exact_read c.in_ok-place.header c.args.limit (view c.in_ok-value.value) c.read_item.new.exact c.is_still-exact.result (shortest_of c.next_title.new.decoder)
     (seen g.R.Read c.args.decoder.now) (seen g.R.Read c.next_title.new.decoder) (seen g.R.Read c.read_item.new.decoder)
-    (omega (arith, c.read_item.new.decoder.fits)) c.is_still-exact.ensures (c.in_ok-at.ensures.shortest c.requires.fresh) c.in_ok-value.ensures.ok
+    (omega (arith, c.read_item.new.decoder.fits)) c.is_still-exact.ensures (c.in_ok-place.ensures.shortest c.requires.fresh) c.in_ok-value.ensures.ok
