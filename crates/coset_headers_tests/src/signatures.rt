@@ -41,9 +41,8 @@ fn differs_from_read(rt: &impl Abort, alloc: Global, built: &CoseSignature) {
 
 /// A header with an empty counter signature.
 fn with_one(rt: &impl Abort, alloc: Global) -> HeaderBuilder {
-    let empty = CoseSignatureBuilder::new(alloc).build();
     HeaderBuilder::new(alloc)
-        .add_counter_signature(empty)
+        .add_counter_signature(CoseSignature::new(alloc))
         .expect(rt, "no memory")
 }
 

@@ -1,7 +1,7 @@
 //! Messages with one signature. Expected bytes and texts are written out by hand.
 use crate::tools::{
     Message, Met, UNFIT, echo, equal, es256, is_asked_for, is_elsewhere, is_verified,
-    is_verified_elsewhere, never, repeated, tell, writes, writes_untagged,
+    is_verified_elsewhere, never, repeated, same, tell, writes, writes_untagged,
 };
 use coset_headers::{CoseSignature, Header};
 use coset_labels::{CoseError, Fault};
@@ -204,4 +204,34 @@ pub(crate) fn sign1_is_asked_elsewhere(alloc: Global) -> Result<bool, CoseError>
         move |_data| tell(alloc, told),
     );
     is_asked_for(is_told, answer.err())
+}
+
+/// What is met where a message is not verified, as an error of any kind.
+fn any_error(alloc: Global, message: &CoseSign1) -> anyhow::Result<()> {
+    message.verify_signature(alloc, &[], never)?;
+    Ok(())
+}
+
+#[test]
+fn faults_have_the_texts_of_their_errors(rt: HostRuntime) {
+    let alloc = rt.alloc();
+    says(
+        &rt,
+        alloc,
+        any_error(alloc, &CoseSign1::new(alloc)),
+        "got a signature, expected another one",
+    );
+    says(
+        &rt,
+        alloc,
+        any_error(alloc, &sign1_repeated(&rt, alloc)),
+        "duplicate map key",
+    );
+}
+
+/// The error has this text.
+fn says(rt: &impl Abort, alloc: Global, answer: anyhow::Result<()>, want: &str) {
+    let error = answer.err().expect(rt, "an error");
+    let text = format!(in alloc; "{error}").expect(rt, "no memory");
+    same(rt, &text.as_str(), &want, "the text");
 }
