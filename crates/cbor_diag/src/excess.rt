@@ -29,8 +29,8 @@ impl fmt::Display for Excess {
             Excess::OpenString => "an open string",
             Excess::OpenArray => "an open array",
             Excess::OpenMap => "an open map",
-            Excess::Undefined => "undefined, which is written as null",
-            Excess::Bignum => "a bignum that has a shorter text",
+            Excess::Undefined => "undefined in place of null",
+            Excess::Bignum => "a bignum with a shorter text",
         })
     }
 }

@@ -1,8 +1,8 @@
 //! What is shown of damaged input.
-use crate::page::begin_line;
 use crate::source::Source;
 use crate::stop::Stop;
 use cbor_diag::{Fault, NotWritten, Style, write_item};
+use cose_notation::begin_line;
 use std::alloc::Global;
 use std::{fmt, io};
 
