@@ -1,4 +1,5 @@
 //! An item as a JSON object.
+use crate::damage::{AROUND, around};
 use crate::show::Request;
 use crate::source::Source;
 use crate::stop::Stop;
@@ -44,19 +45,37 @@ pub fn write_damage<R: io::Read + Drop, P: fmt::Write>(
     source: &mut Source<R>,
     page: &mut P,
 ) -> Result<(), Stop> {
+    source.hold(fault.at.saturating_add(AROUND))?;
     let offset = source.offset();
-    let place = offset.saturating_add(fault.at);
-    let why = fault.why;
+    let held = source.held();
     write!(
         page,
         "{{\"number\":{number},\"offset\":{offset},\"notation\":"
     )?;
-    match write_notation(alloc, source.held(), page) {
+    match write_notation(alloc, held, page) {
         Err(NotWritten::Fault(_)) => {}
         written => written?,
     }
-    writeln!(page, ",\"fault\":\"{why}\",\"fault_offset\":{place}}}")?;
+    write_fault(fault, offset, held, page)?;
     Err(Stop::of_fault(fault, offset))
+}
+
+/// A fault, and the bytes before it and from it on.
+fn write_fault<P: fmt::Write>(
+    fault: Fault,
+    offset: usize,
+    held: &[u8],
+    page: &mut P,
+) -> fmt::Result {
+    let place = offset.saturating_add(fault.at);
+    let why = fault.why;
+    let (before, behind) = around(held, fault.at);
+    write!(page, ",\"fault\":\"{why}\",\"fault_offset\":{place}")?;
+    write_name("bytes_before", page)?;
+    write_hex_text(before, page)?;
+    write_name("bytes_from", page)?;
+    write_hex_text(behind, page)?;
+    page.write_str("}\n")
 }
 
 /// What the gate says, and what else was asked for.
