@@ -2,13 +2,17 @@
 //! depth and any claimed length are walked in a loop: what is kept is a list of the levels that are open.
 #![tactic(auto)]
 
+mod ends;
 mod escape;
+mod excess;
 mod float;
 mod head;
 mod notation;
 mod walk;
 
+pub use crate::ends::Ends;
 pub use crate::escape::write_text;
+pub use crate::excess::{Excess, first_excess};
 pub use crate::head::{Head, HeadFault, head_of};
 pub use crate::notation::{NotWritten, Style, write_hex, write_item};
 pub use crate::walk::{Event, Fault, LevelKind, Place, Step, Walk, Why, item_len};

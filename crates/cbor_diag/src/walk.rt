@@ -192,6 +192,37 @@ impl Walk {
         Err(self.fault(Why::TooLong))
     }
 
+    /// Steps over a head whose body isn't at hand, and over all that ends behind it. Gives the length of the body.
+    ///
+    /// # Errors
+    /// Those of `step`, but for `Cut` and `NotText`.
+    pub fn pass(&mut self, head: Head) -> Result<usize, Fault> {
+        if head.header == Header::Break {
+            self.take_break()?;
+            self.close_full();
+            return Ok(0);
+        }
+        if !self.holds(head.header) {
+            return Err(self.fault(Why::Chunk));
+        }
+        let Some(next) = self.next_at(head) else {
+            return Err(self.fault(Why::TooLong));
+        };
+        self.go(head, next)?;
+        self.close_full();
+        Ok(body_len(head.header))
+    }
+
+    /// Ends the levels that have all their items.
+    fn close_full(&mut self) {
+        for _ in 0..u64::MAX {
+            if !self.is_full() {
+                break;
+            }
+            let _ = self.close(0);
+        }
+    }
+
     fn fault(&self, why: Why) -> Fault {
         Fault { why, at: self.at }
     }
@@ -256,17 +287,10 @@ impl Walk {
 
     /// Where the next head stands, behind this one and its body.
     fn check_body(&self, head: Head, rest: &[u8]) -> Result<usize, Why> {
-        let size = match head.header {
-            Header::Bytes(Some(size)) => size,
-            Header::Text(Some(size)) => size,
-            _ => 0,
-        };
-        let Some(len) = head.len.checked_add(size) else {
+        let Some(next) = self.next_at(head) else {
             return Err(Why::TooLong);
         };
-        let Some(next) = self.at.checked_add(len) else {
-            return Err(Why::TooLong);
-        };
+        let len = next.saturating_sub(self.at);
         let Some(body) = rest.get(head.len..len) else {
             return Err(Why::Cut);
         };
@@ -274,6 +298,12 @@ impl Walk {
             return Err(Why::NotText);
         }
         Ok(next)
+    }
+
+    /// Where the next head stands, where an offset reaches it.
+    fn next_at(&self, head: Head) -> Option<usize> {
+        let len = head.len.checked_add(body_len(head.header))?;
+        self.at.checked_add(len)
     }
 
     /// Steps over a head and its body.
@@ -304,6 +334,15 @@ impl Walk {
         let place = place_in(level);
         let _ = self.levels.push(used(level));
         place
+    }
+}
+
+/// How many bytes stand behind a head that are its own.
+fn body_len(header: Header) -> usize {
+    match header {
+        Header::Bytes(Some(size)) => size,
+        Header::Text(Some(size)) => size,
+        _ => 0,
     }
 }
 

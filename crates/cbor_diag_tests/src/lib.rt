@@ -6,6 +6,10 @@ mod appendix;
 #[cfg(test)]
 mod deep;
 #[cfg(test)]
+mod ends;
+#[cfg(test)]
+mod excess;
+#[cfg(test)]
 mod faults;
 #[cfg(test)]
 mod styles;

@@ -1,13 +1,13 @@
 //! What is shown of damaged input.
-use crate::page::begin_line;
 use crate::source::Source;
 use crate::stop::Stop;
 use cbor_diag::{Fault, NotWritten, Style, write_item};
+use cose_notation::begin_line;
 use std::alloc::Global;
 use std::{fmt, io};
 
 /// So many bytes are shown before the fault, and so many from it on.
-const AROUND: usize = 16;
+pub const AROUND: usize = 16;
 
 /// Shows what could be read of the item at hand, the fault, and the bytes around it.
 ///
@@ -45,12 +45,19 @@ fn show_front<P: fmt::Write>(alloc: Global, held: &[u8], page: &mut P) -> Result
     Ok(())
 }
 
-/// The bytes around a place, of which those before it stand in front of a bar.
-fn show_around<P: fmt::Write>(held: &[u8], offset: usize, at: usize, page: &mut P) -> fmt::Result {
+/// The bytes before a place, and those from it on.
+pub fn around(held: &[u8], at: usize) -> (&[u8], &[u8]) {
     let first = at.saturating_sub(AROUND);
     let last = at.saturating_add(AROUND).min(held.len());
     let before = held.get(first..at).unwrap_or(&[]);
     let behind = held.get(at..last).unwrap_or(&[]);
+    (before, behind)
+}
+
+/// Shows the bytes around a place, of which those before it stand in front of a bar.
+fn show_around<P: fmt::Write>(held: &[u8], offset: usize, at: usize, page: &mut P) -> fmt::Result {
+    let (before, behind) = around(held, at);
+    let first = at.saturating_sub(before.len());
     write!(page, "  bytes from {}:", offset.saturating_add(first))?;
     for byte in before {
         write!(page, " {byte:02x}")?;

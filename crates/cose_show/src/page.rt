@@ -1,5 +1,4 @@
 //! The output.
-use cbor_diag::write_hex;
 use std::{fmt, io};
 
 /// Text to a writer of bytes.
@@ -27,31 +26,4 @@ impl<W: io::Write + Drop> fmt::Write for Page<W> {
             Err(_) => Err(fmt::Error),
         }
     }
-}
-
-/// Begins a line, so many levels inside.
-pub fn begin_line<P: fmt::Write>(level: usize, page: &mut P) -> fmt::Result {
-    for _ in 0..level {
-        page.write_str("  ")?;
-    }
-    Ok(())
-}
-
-/// Writes how many bytes there are.
-pub fn write_len<P: fmt::Write>(len: usize, page: &mut P) -> fmt::Result {
-    if len == 1 {
-        page.write_str("1 byte")
-    } else {
-        write!(page, "{len} bytes")
-    }
-}
-
-/// Writes how many bytes there are, and the bytes in hex, and ends the line.
-pub fn write_bytes<P: fmt::Write>(bytes: &[u8], page: &mut P) -> fmt::Result {
-    write_len(bytes.len(), page)?;
-    if !bytes.is_empty() {
-        page.write_str(": ")?;
-        write_hex(bytes, page)?;
-    }
-    page.write_str("\n")
 }

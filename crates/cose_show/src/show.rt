@@ -1,11 +1,11 @@
 //! The items, one after another.
 use crate::damage::show_damage;
-use crate::message::show_message;
-use crate::page::{begin_line, write_len};
+use crate::object::{write_damage, write_object};
 use crate::source::{Found, Source};
 use crate::stop::Stop;
 use crate::verdict::show_verdict;
 use cbor_diag::{Style, write_item};
+use cose_notation::{begin_line, show_message, write_len};
 use std::alloc::Global;
 use std::{fmt, io};
 
@@ -14,6 +14,10 @@ use std::{fmt, io};
 pub struct Request<'a> {
     /// The covered bytes.
     pub questions: bool,
+    /// What keeps a message from being its shortest text.
+    pub strict: bool,
+    /// JSON.
+    pub json: bool,
     /// The external data.
     pub aad: &'a [u8],
 }
@@ -37,6 +41,9 @@ pub fn show<R: io::Read + Drop, P: fmt::Write>(
                 source.leave(len);
             }
             Found::End => return Ok(()),
+            Found::Damaged(fault) if request.json => {
+                return write_damage(alloc, number, fault, source, page);
+            }
             Found::Damaged(fault) => return show_damage(alloc, number, fault, source, page),
         }
     }
@@ -52,6 +59,9 @@ fn show_item<P: fmt::Write>(
     item: &[u8],
     page: &mut P,
 ) -> Result<(), Stop> {
+    if request.json {
+        return write_object(alloc, request, number, offset, item, page);
+    }
     write!(page, "item {number} at {offset}, ")?;
     write_len(item.len(), page)?;
     page.write_str("\n")?;
@@ -59,5 +69,5 @@ fn show_item<P: fmt::Write>(
     write_item(alloc, item, Style::full(), 1, page)?;
     page.write_str("\n")?;
     show_message(alloc, item, page)?;
-    show_verdict(alloc, request, item, page)
+    show_verdict(alloc, request, offset, item, page)
 }

@@ -16,6 +16,8 @@ pub enum Stop {
     Input,
     /// The output failed.
     Output,
+    /// A file of whole items can't be made or written.
+    Piece,
     /// Memory was refused.
     Memory,
     /// The input is damaged at this offset.
@@ -50,6 +52,9 @@ impl fmt::Display for Stop {
             Stop::NoFile => f.write_str("the file can't be opened"),
             Stop::Input => f.write_str("the input can't be read"),
             Stop::Output => f.write_str("the output can't be written"),
+            Stop::Piece => f.write_str(
+                "a file can't be made in DIR, or is there already, or can't be written",
+            ),
             Stop::Memory => f.write_str("out of memory"),
             Stop::Damaged(why, offset) => write!(f, "damaged at {offset}: {why}"),
         }

@@ -1,10 +1,13 @@
 //! The words of the command line.
+use std::slice;
 
-/// The line for words that it doesn't know.
-pub const USAGE: &str = "usage: cose-show [--questions] [--aad HEX] [FILE]";
+/// The lines for words that it doesn't know.
+pub const USAGE: &str = "usage: cose-show [--questions] [--strict] [--json] [--aad HEX] [FILE]
+       cose-show --cut SIZE DIR [FILE]";
 
 /// What `--help` writes.
-pub const HELP: &str = "usage: cose-show [--questions] [--aad HEX] [FILE]
+pub const HELP: &str = "usage: cose-show [--questions] [--strict] [--json] [--aad HEX] [FILE]
+       cose-show --cut SIZE DIR [FILE]
 
 Shows each item of a CBOR sequence, from FILE or standard input: its number,
 offset and length, its diagnostic notation with encoding indicators, what a
@@ -12,6 +15,12 @@ COSE message holds, and what the gate says of its shape.
 
   --questions  also the bytes that each signature or tag covers, in hex
   --aad HEX    the external data of the questions, in hex; without it empty
+  --strict     also whether a message that may pass is its one shortest text,
+               and the first place where it isn't
+  --json       one JSON object a line for each item
+  --cut SIZE DIR
+               shows nothing: writes the items to files DIR/000001.cbor and so
+               on, whole items each, of at least SIZE bytes but for the last
   -h, --help   this text
 
 Status 0, or 2 for unknown words, 3 where FILE can't be opened, 4 where the
@@ -23,8 +32,8 @@ input is damaged or can't be read, or the output can't be written.
 pub enum Words<'a> {
     /// The help.
     Help,
-    /// The items.
-    Show(Options<'a>),
+    /// The items, or files of them.
+    Run(Options<'a>),
 }
 
 /// How the items are shown, and where they are.
@@ -32,40 +41,72 @@ pub enum Words<'a> {
 pub struct Options<'a> {
     /// With the covered bytes.
     pub questions: bool,
+    /// With what keeps a message from being its shortest text.
+    pub strict: bool,
+    /// As JSON.
+    pub json: bool,
     /// The external data in hex.
     pub aad: &'a str,
+    /// Whole items go to files, and nothing is shown.
+    pub cut: Option<Cut<'a>>,
     /// The file; standard input without one.
     pub path: Option<&'a str>,
+}
+
+/// The files that a sequence is cut into.
+#[derive(Debug, Clone, Copy, PartialEq, Eq)]
+pub struct Cut<'a> {
+    /// How many bytes each has at least, but for the last.
+    pub size: usize,
+    /// Where they are written.
+    pub folder: &'a str,
 }
 
 /// What the words ask for; none where one isn't known.
 pub fn read_words(all: &[String]) -> Option<Words<'_>> {
     let mut options = Options {
         questions: false,
+        strict: false,
+        json: false,
         aad: "",
+        cut: None,
         path: None,
     };
-    let mut aad_due = false;
-    for word in all {
-        let word = word.as_str();
-        if aad_due {
-            options.aad = word;
-            aad_due = false;
-            continue;
-        }
-        match word {
+    let mut words = all.iter();
+    for _ in 0..all.len() {
+        let Some(word) = words.next() else {
+            break;
+        };
+        match word.as_str() {
             "-h" => return Some(Words::Help),
             "--help" => return Some(Words::Help),
-            "--questions" => options.questions = true,
-            "--aad" => aad_due = true,
-            "-" => {}
-            _ if word.starts_with('-') || options.path.is_some() => return None,
-            _ => options.path = Some(word),
+            word => read_word(word, &mut words, &mut options)?,
         }
     }
-    if aad_due {
-        None
-    } else {
-        Some(Words::Show(options))
+    Some(Words::Run(options))
+}
+
+/// Takes a word, with those behind it that belong to it; none where it isn't known.
+fn read_word<'a>(
+    word: &'a str,
+    words: &mut slice::Iter<'a, String>,
+    options: &mut Options<'a>,
+) -> Option<()> {
+    match word {
+        "--questions" => options.questions = true,
+        "--strict" => options.strict = true,
+        "--json" => options.json = true,
+        "--aad" => options.aad = words.next()?.as_str(),
+        "--cut" => options.cut = Some(read_cut(words)?),
+        "-" => {}
+        _ if word.starts_with('-') || options.path.is_some() => return None,
+        _ => options.path = Some(word),
     }
+    Some(())
+}
+
+fn read_cut<'a>(words: &mut slice::Iter<'a, String>) -> Option<Cut<'a>> {
+    let size = words.next()?.as_str().parse::<usize>().ok()?;
+    let folder = words.next()?.as_str();
+    Some(Cut { size, folder })
 }

@@ -1,10 +1,9 @@
 //! What a COSE message holds (RFC 9052).
 use crate::header::{show_map, show_protected};
-use crate::page::{begin_line, write_bytes};
+use crate::line::{begin_line, write_bytes};
 use crate::parts::{Parts, is_bytes, is_null, items, joined, tagged};
 use crate::payload::show_payload;
-use crate::stop::Stop;
-use cbor_diag::{Style, write_item};
+use cbor_diag::{NotWritten, Style, write_item};
 use std::alloc::Global;
 use std::fmt;
 
@@ -13,19 +12,27 @@ const CWT: u64 = 61;
 
 /// What a message's parts behind its headers are.
 #[derive(Debug, Clone, Copy, PartialEq, Eq)]
-struct Form {
-    name: &'static str,
-    parts: &'static [Part],
+pub struct Form {
+    /// Its name.
+    pub name: &'static str,
+    /// Its parts.
+    pub parts: &'static [Part],
 }
 
 /// A part of a message behind its headers.
 #[derive(Debug, Clone, Copy, PartialEq, Eq)]
-enum Part {
+pub enum Part {
+    /// The payload.
     Payload,
+    /// The ciphertext.
     Ciphertext,
+    /// The one signature.
     Signature,
+    /// The tag of a MAC.
     Tag,
+    /// The signatures.
     Signatures,
+    /// The recipients.
     Recipients,
 }
 
@@ -72,30 +79,25 @@ fn form_of(tag: u64) -> Option<Form> {
     }
 }
 
-/// Shows the parts of the message that an item is, and nothing of another item. The tag of a CWT around it is passed over.
+/// What kind of message an item is, with its tag, and what the tag is around. The tag of a CWT around it is passed over.
+pub fn message_of(item: &[u8]) -> Option<(Form, u64, &[u8])> {
+    let (tag, content) = match tagged(item)? {
+        (CWT, content) => tagged(content)?,
+        other => other,
+    };
+    Some((form_of(tag)?, tag, content))
+}
+
+/// Shows the parts of the message that an item is, and nothing of another item.
 ///
 /// # Errors
 /// `Output` and `Memory`.
-pub fn show_message<P: fmt::Write>(alloc: Global, item: &[u8], page: &mut P) -> Result<(), Stop> {
-    let Some((tag, content)) = tagged(item) else {
-        return Ok(());
-    };
-    if tag == CWT {
-        return match tagged(content) {
-            Some((tag, content)) => show_form(alloc, tag, content, page),
-            None => Ok(()),
-        };
-    }
-    show_form(alloc, tag, content, page)
-}
-
-fn show_form<P: fmt::Write>(
+pub fn show_message<P: fmt::Write>(
     alloc: Global,
-    tag: u64,
-    content: &[u8],
+    item: &[u8],
     page: &mut P,
-) -> Result<(), Stop> {
-    let Some(form) = form_of(tag) else {
+) -> Result<(), NotWritten> {
+    let Some((form, tag, content)) = message_of(item) else {
         return Ok(());
     };
     let name = form.name;
@@ -114,7 +116,7 @@ fn show_parts<P: fmt::Write>(
     form: Form,
     parts: &mut Parts<'_>,
     page: &mut P,
-) -> Result<(), Stop> {
+) -> Result<(), NotWritten> {
     show_headers(alloc, parts, 2, page)?;
     for part in form.parts {
         match parts.next()? {
@@ -134,7 +136,7 @@ fn show_more<P: fmt::Write>(
     parts: &mut Parts<'_>,
     level: usize,
     page: &mut P,
-) -> Result<(), Stop> {
+) -> Result<(), NotWritten> {
     for _ in 0..u64::MAX {
         match parts.next()? {
             Some(item) => show_other(alloc, "more", item, level, page)?,
@@ -150,7 +152,7 @@ fn show_headers<P: fmt::Write>(
     parts: &mut Parts<'_>,
     level: usize,
     page: &mut P,
-) -> Result<(), Stop> {
+) -> Result<(), NotWritten> {
     match parts.next()? {
         Some(item) => show_protected(alloc, item, level, page)?,
         None => missing("protected", level, page)?,
@@ -167,7 +169,8 @@ fn missing<P: fmt::Write>(name: &str, level: usize, page: &mut P) -> fmt::Result
     writeln!(page, "{name}: missing")
 }
 
-fn name_of(part: Part) -> &'static str {
+/// The name of a part.
+pub fn name_of(part: Part) -> &'static str {
     match part {
         Part::Payload => "payload",
         Part::Ciphertext => "ciphertext",
@@ -183,7 +186,7 @@ fn show_part<P: fmt::Write>(
     part: Part,
     item: &[u8],
     page: &mut P,
-) -> Result<(), Stop> {
+) -> Result<(), NotWritten> {
     let name = name_of(part);
     match part {
         Part::Payload if is_null(item) => page.write_str("    payload: detached\n")?,
@@ -206,7 +209,7 @@ fn show_bytes<P: fmt::Write>(
     item: &[u8],
     level: usize,
     page: &mut P,
-) -> Result<(), Stop> {
+) -> Result<(), NotWritten> {
     if !is_bytes(item) {
         return show_other(alloc, name, item, level, page);
     }
@@ -224,7 +227,7 @@ fn show_other<P: fmt::Write>(
     item: &[u8],
     level: usize,
     page: &mut P,
-) -> Result<(), Stop> {
+) -> Result<(), NotWritten> {
     begin_line(level, page)?;
     write!(page, "{name}: ")?;
     write_item(alloc, item, Style::full(), level, page)?;
@@ -238,7 +241,7 @@ fn show_list<P: fmt::Write>(
     name: &str,
     item: &[u8],
     page: &mut P,
-) -> Result<(), Stop> {
+) -> Result<(), NotWritten> {
     let Some(mut list) = items(alloc, item) else {
         return show_other(alloc, name, item, 2, page);
     };
@@ -263,7 +266,7 @@ fn show_one<P: fmt::Write>(
     name: &str,
     one: &[u8],
     page: &mut P,
-) -> Result<(), Stop> {
+) -> Result<(), NotWritten> {
     let Some(mut parts) = items(alloc, one) else {
         return show_other(alloc, "not an array", one, 3, page);
     };

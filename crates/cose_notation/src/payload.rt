@@ -1,9 +1,8 @@
 //! What a payload is.
 use crate::header::{Labels, show_entries};
-use crate::page::write_len;
+use crate::line::write_len;
 use crate::parts::{entries, header_of, integer};
-use crate::stop::Stop;
-use cbor_diag::{Style, item_len, write_hex, write_item, write_text};
+use cbor_diag::{NotWritten, Style, item_len, write_hex, write_item, write_text};
 use ciborium_ll::Header;
 use std::alloc::Global;
 use std::fmt;
@@ -16,7 +15,7 @@ pub fn show_payload<P: fmt::Write>(
     alloc: Global,
     payload: &[u8],
     page: &mut P,
-) -> Result<(), Stop> {
+) -> Result<(), NotWritten> {
     let len = payload.len();
     page.write_str("    payload, ")?;
     write_len(len, page)?;
@@ -48,7 +47,7 @@ fn show_as_item<P: fmt::Write>(
     payload: &[u8],
     is_item: bool,
     page: &mut P,
-) -> Result<(), Stop> {
+) -> Result<(), NotWritten> {
     if is_item && payload.len() > 1 {
         page.write_str("      also CBOR: ")?;
         write_item(alloc, payload, Style::line(), 0, page)?;
@@ -84,8 +83,20 @@ fn is_plain(c: char) -> bool {
     }
 }
 
+/// Whether a payload is a claims set.
+///
+/// # Errors
+/// `Memory`.
+pub fn has_claims(alloc: Global, payload: &[u8]) -> Result<bool, NotWritten> {
+    if !payload.is_empty() && item_len(alloc, payload) == Ok(payload.len()) {
+        is_claims(alloc, payload)
+    } else {
+        Ok(false)
+    }
+}
+
 /// Whether an item is a claims set (RFC 8392): a map whose keys are numbers and texts, one of the claims 1 to 7 among them.
-fn is_claims(alloc: Global, item: &[u8]) -> Result<bool, Stop> {
+fn is_claims(alloc: Global, item: &[u8]) -> Result<bool, NotWritten> {
     let Some(mut parts) = entries(alloc, item) else {
         return Ok(false);
     };

@@ -1,6 +1,5 @@
 //! The parts of an item, as slices of its bytes.
-use crate::stop::Stop;
-use cbor_diag::{Event, Walk, Why, head_of, item_len};
+use cbor_diag::{Event, NotWritten, Walk, Why, head_of, item_len};
 use ciborium_ll::Header;
 use std::alloc::Global;
 
@@ -17,13 +16,13 @@ impl<'a> Parts<'a> {
     ///
     /// # Errors
     /// `Memory`.
-    pub fn next(&mut self) -> Result<Option<&'a [u8]>, Stop> {
+    pub fn next(&mut self) -> Result<Option<&'a [u8]>, NotWritten> {
         if self.left == 0 {
             return Ok(None);
         }
         let len = match item_len(self.alloc, self.rest) {
             Ok(len) => len,
-            Err(fault) if fault.why == Why::Memory => return Err(Stop::Memory),
+            Err(fault) if fault.why == Why::Memory => return Err(NotWritten::Memory),
             Err(_) => 0,
         };
         if len == 0 {
@@ -121,17 +120,22 @@ pub fn is_null(item: &[u8]) -> bool {
 ///
 /// # Errors
 /// `Memory`.
-pub fn joined(alloc: Global, item: &[u8]) -> Result<Vec<u8>, Stop> {
+pub fn joined(alloc: Global, item: &[u8]) -> Result<Vec<u8>, NotWritten> {
     let mut bytes = Vec::new(alloc);
     let mut walk = Walk::new(alloc);
     for _ in 0..u64::MAX {
         let step = match walk.step(item) {
             Ok(step) => step,
-            Err(fault) => return Err(Stop::of_fault(fault, 0)),
+            Err(fault) => return Err(NotWritten::Fault(fault)),
         };
         if let Event::Body(_, size) = step.event {
             let rest = behind(item, step.at.saturating_add(step.len));
-            bytes.extend_from_slice(rest.get(..size).unwrap_or(rest))?;
+            if bytes
+                .extend_from_slice(rest.get(..size).unwrap_or(rest))
+                .is_err()
+            {
+                return Err(NotWritten::Memory);
+            }
         }
         if walk.is_done() {
             break;

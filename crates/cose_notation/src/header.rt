@@ -1,9 +1,8 @@
 //! Headers and claims, with their registered names.
+use crate::line::{begin_line, write_bytes, write_len};
 use crate::names::{algorithm, claim, content_format, parameter};
-use crate::page::{begin_line, write_bytes, write_len};
 use crate::parts::{Parts, entries, integer, is_bytes, joined};
-use crate::stop::Stop;
-use cbor_diag::{Style, item_len, write_item};
+use cbor_diag::{NotWritten, Style, item_len, write_item};
 use std::alloc::Global;
 use std::fmt;
 
@@ -25,7 +24,7 @@ pub fn show_protected<P: fmt::Write>(
     item: &[u8],
     level: usize,
     page: &mut P,
-) -> Result<(), Stop> {
+) -> Result<(), NotWritten> {
     if !is_bytes(item) {
         begin_line(level, page)?;
         page.write_str("protected, not bytes: ")?;
@@ -42,7 +41,7 @@ fn show_protected_bytes<P: fmt::Write>(
     bytes: &[u8],
     level: usize,
     page: &mut P,
-) -> Result<(), Stop> {
+) -> Result<(), NotWritten> {
     begin_line(level, page)?;
     page.write_str("protected, ")?;
     if item_len(alloc, bytes) == Ok(bytes.len()) {
@@ -66,7 +65,7 @@ pub fn show_map<P: fmt::Write>(
     item: &[u8],
     level: usize,
     page: &mut P,
-) -> Result<(), Stop> {
+) -> Result<(), NotWritten> {
     begin_line(level, page)?;
     page.write_str(name)?;
     show_entries(alloc, item, level, Labels::Headers, page)
@@ -82,7 +81,7 @@ pub fn show_entries<P: fmt::Write>(
     level: usize,
     labels: Labels,
     page: &mut P,
-) -> Result<(), Stop> {
+) -> Result<(), NotWritten> {
     let Some(mut parts) = entries(alloc, item) else {
         page.write_str(", not a map: ")?;
         write_item(alloc, item, Style::full(), level, page)?;
@@ -109,7 +108,7 @@ fn show_entry<P: fmt::Write>(
     labels: Labels,
     first: bool,
     page: &mut P,
-) -> Result<bool, Stop> {
+) -> Result<bool, NotWritten> {
     let Some(label) = parts.next()? else {
         return Ok(false);
     };
@@ -132,7 +131,8 @@ fn show_entry<P: fmt::Write>(
     Ok(true)
 }
 
-fn name_of(labels: Labels, number: Option<i64>) -> Option<&'static str> {
+/// The registered name of a label.
+pub fn name_of(labels: Labels, number: Option<i64>) -> Option<&'static str> {
     let number = number?;
     match labels {
         Labels::Headers => parameter(number),
@@ -148,7 +148,7 @@ fn show_value<P: fmt::Write>(
     value: &[u8],
     level: usize,
     page: &mut P,
-) -> Result<(), Stop> {
+) -> Result<(), NotWritten> {
     match value_name(labels, label, integer(value)) {
         Some(name) => {
             write!(page, "{name} (")?;
@@ -162,7 +162,8 @@ fn show_value<P: fmt::Write>(
     Ok(())
 }
 
-fn value_name(labels: Labels, label: Option<i64>, value: Option<i64>) -> Option<&'static str> {
+/// The registered name of a value, where its label has a registry.
+pub fn value_name(labels: Labels, label: Option<i64>, value: Option<i64>) -> Option<&'static str> {
     let value = value?;
     match (labels, label) {
         (Labels::Headers, Some(1)) => algorithm(value),

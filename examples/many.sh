@@ -1,0 +1,120 @@
+#!/usr/bin/env bash
+# many.sh: gates a CBOR sequence in pieces side by side, and joins what is said of them to what one run says. docs/SCALE.md tells more.
+#
+#   examples/many.sh [-s SIZE] [-j JOBS] [-x] [-c] KEYS AADHEX INPUT PASSED LINES
+#
+# PASSED gets the messages that pass, LINES the lines of the gate. SIZE: how many bytes a piece has at least (without it 64 MB). JOBS: how
+# many gates run at a time (as many as there are processors). -x: by xargs, also where GNU parallel is there. -c: does one run too, and
+# says whether it wrote the same. The status is the gate's; it is 5 where the two runs differ, and 6 where the input can't be cut.
+# COSE_GATE and COSE_SHOW name other programs than those of this repository.
+set -u
+top=$(cd "$(dirname "$(readlink -f "${BASH_SOURCE[0]}")")/.." && pwd)
+size=67108864 jobs=$(nproc) compare=no by=xargs
+command -v parallel > /dev/null && by=parallel
+while getopts s:j:xc letter; do
+  case $letter in
+    s) size=$OPTARG ;;
+    j) jobs=$OPTARG ;;
+    x) by=xargs ;;
+    c) compare=yes ;;
+    *) exit 2 ;;
+  esac
+done
+shift $((OPTIND - 1))
+if [ $# -ne 5 ]; then
+  echo "usage: examples/many.sh [-s SIZE] [-j JOBS] [-x] [-c] KEYS AADHEX INPUT PASSED LINES" >&2
+  exit 2
+fi
+keys=$1 aad=$2 input=$3 passed=$4 lines=$5
+
+# The programs are proved and built once, before several of them start.
+if [ -z "${COSE_GATE-}" ]; then
+  bash "$top/scripts/proved.sh" cose-gate cose_gate_cli || exit
+  COSE_GATE=$top/crates/cose_gate_cli/out/cose_gate_cli
+fi
+if [ -z "${COSE_SHOW-}" ]; then
+  bash "$top/scripts/proved.sh" cose-show cose_show || exit
+  COSE_SHOW=$top/crates/cose_show/out/cose_show
+fi
+work=$(mktemp -d) || exit 6
+trap 'rm -rf "$work"' EXIT
+
+# Says how long a step took.
+from=$(date +%s.%N)
+say_time() {
+  local now
+  now=$(date +%s.%N)
+  echo "many: $1: $(echo "$from $now" | awk '{ printf "%.1f", $2 - $1 }') s" >&2
+  from=$now
+}
+
+# Of a damaged input the last piece holds all from its beginning on, and the gate stops there.
+"$COSE_SHOW" --cut "$size" "$work/pieces" "$input" 2> "$work/cut.line"
+status=$?
+if [ $status -ne 0 ] && ! { [ $status -eq 4 ] && grep -q '^cose-show: damaged' "$work/cut.line"; }; then
+  cat "$work/cut.line" >&2
+  exit 6
+fi
+# An empty input is one empty piece.
+[ -n "$(ls "$work/pieces")" ] || : > "$work/pieces/000001.cbor"
+say_time "cut into $(ls "$work/pieces" | wc -l) pieces"
+
+# Gates one piece. Its output, its lines and its status come beside it.
+gate_piece() {
+  "$COSE_GATE" "$KEYS" "$AADHEX" < "$1" > "$1.passed" 2> "$1.lines"
+  echo $? > "$1.status"
+}
+export -f gate_piece
+export COSE_GATE KEYS="$keys" AADHEX="$aad"
+if [ $by = parallel ]; then
+  parallel --will-cite -j "$jobs" gate_piece ::: "$work"/pieces/*.cbor
+else
+  printf '%s\0' "$work"/pieces/*.cbor | xargs -0 -n 1 -P "$jobs" bash -c 'gate_piece "$1"' gate_piece
+fi
+say_time "gated, $jobs at a time by $by"
+
+# Joins the pieces up to the first one where the gate stopped: its item numbers and offsets are moved behind those of the pieces before it.
+status=0 items=0 offset=0 good=0 refused=0
+: > "$passed"
+: > "$lines"
+for piece in "$work"/pieces/*.cbor; do
+  cat "$piece.passed" >> "$passed" || exit 4
+  awk -v items=$items -v offset=$offset '
+    /^item [0-9]+ at [0-9]+: / {
+      printf "item %.0f at %.0f%s\n", $2 + items, $4 + offset, substr($0, index($0, ": "))
+      next
+    }
+    /^stopped: decode: Syntax\([0-9]+\)$/ {
+      split($3, part, /[()]/)
+      printf "stopped: decode: Syntax(%.0f)\n", part[2] + offset
+      next
+    }
+    !/^passed [0-9]+, refused [0-9]+$/
+  ' "$piece.lines" >> "$lines" || exit 4
+  status_here=$(cat "$piece.status")
+  if [ "$status_here" -gt 1 ]; then
+    status=$status_here
+    echo "many: the gate stopped in piece $(basename "$piece"), which begins at $offset; one run stops there too" >&2
+    break
+  fi
+  [ "$status_here" -eq 0 ] || status=1
+  good=$((good + $(awk '/^passed / { print $2 + 0 }' "$piece.lines")))
+  refused=$((refused + $(awk '/^passed / { print $4 + 0 }' "$piece.lines")))
+  items=$((items + $(grep -c '^item ' "$piece.lines")))
+  offset=$((offset + $(wc -c < "$piece")))
+done
+[ "$status" -gt 1 ] || echo "passed $good, refused $refused" >> "$lines"
+say_time "joined"
+
+if [ $compare = yes ]; then
+  "$COSE_GATE" "$keys" "$aad" < "$input" > "$work/one.passed" 2> "$work/one.lines"
+  one=$?
+  say_time "one run"
+  if [ $one -eq "$status" ] && cmp "$work/one.passed" "$passed" && cmp "$work/one.lines" "$lines"; then
+    echo "many: one run writes the same, with the same status $one" >&2
+  else
+    echo "many: one run writes otherwise (status $one, and $status of the pieces)" >&2
+    exit 5
+  fi
+fi
+exit $status
