@@ -77,11 +77,11 @@ module _ (ids : List (List ℕ)) (aad input : List ℕ) (old new : Sight (List (
       told = w.made.told ∙ (told_all old.told (questions_of (allows ids) aad w.steps)
           ∙ ap (λ qs. old.told ++ key_ids_of qs) (sym (append-nil (questions_of (allows ids) aad w.steps))));
       tally = w.made.state;
-      due = (refl, fault_at (subst (λ (l : Option (List ℕ)). IfKnown l (λ b. IsFaultOf ends (old.offset + length b) w.more e)) is w.fault));
+      due = (refl, fault_at (subst (λ (l : Option (List ℕ)). IfKnown l (λ b. IsFaultOf ends usual.nesting (old.offset + length b) w.more e)) is w.fault));
     }
       where
-        fault_at : IsFaultOf ends (old.offset + length input) w.more e → IsFaultOf ends (length input) w.more e
-        fault_at f = subst (λ (n : ℕ). IsFaultOf ends n w.more e) (ap (λ n. n + length input) start ∙ zero-add (length input)) f
+        fault_at : IsFaultOf ends usual.nesting (old.offset + length input) w.more e → IsFaultOf ends usual.nesting (length input) w.more e
+        fault_at f = subst (λ (n : ℕ). IsFaultOf ends usual.nesting n w.more e) (ap (λ n. n + length input) start ∙ zero-add (length input)) f
     halted gating.Write start is w = record {
       done = w.done;
       last = w.last ∷ [];

@@ -60,7 +60,7 @@ pub record Relayed (ids : List (List ℕ)) (aad input : List ℕ) (old new : Sid
 
 -- of a fault of the bytes: no item was read of the next, and it is theirs
 abbrev pub IsDue : {E : Type 0} → (E → Bool) → ℕ → List ℕ → List Step → GateFault E → Type 0
-IsDue ends stop more last (Decode e) = (last ≡ []) × IsFaultOf ends stop more e
+IsDue ends stop more last (Decode e) = (last ≡ []) × IsFaultOf ends usual.nesting stop more e
 IsDue ends stop more last Write = Unit {0}
 IsDue ends stop more last Memory = Unit {0}
 

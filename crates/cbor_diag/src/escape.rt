@@ -16,8 +16,27 @@ fn is_unsafe(c: char) -> bool {
     )
 }
 
-/// Writes a text between quotes. Quotes, backslashes, control characters, marks of direction and breaks of the line are escaped as in
-/// JSON; with `ascii` each character past U+007E too.
+/// Whether a character isn't seen: those that Unicode calls ignorable by default and `is_unsafe` hasn't, as the tags that can spell a
+/// hidden text.
+fn is_unseen(c: char) -> bool {
+    matches!(
+        c,
+        '\u{ad}'
+            | '\u{34f}'
+            | '\u{115f}'..='\u{1160}'
+            | '\u{17b4}'..='\u{17b5}'
+            | '\u{180b}'..='\u{180f}'
+            | '\u{3164}'
+            | '\u{fe00}'..='\u{fe0f}'
+            | '\u{ffa0}'
+            | '\u{1bca0}'..='\u{1bca3}'
+            | '\u{1d173}'..='\u{1d17a}'
+            | '\u{e0000}'..='\u{e0fff}'
+    )
+}
+
+/// Writes a text between quotes. Quotes, backslashes, control characters, marks of direction, breaks of the line and characters that aren't
+/// seen are escaped as in JSON; with `ascii` each character past U+007E too.
 ///
 /// # Errors
 /// Those of the writer.
@@ -36,7 +55,7 @@ fn write_escaped<W: fmt::Write>(c: char, ascii: bool, out: &mut W) -> fmt::Resul
         '\n' => out.write_str("\\n"),
         '\r' => out.write_str("\\r"),
         '\t' => out.write_str("\\t"),
-        _ if is_unsafe(c) || (ascii && c > '~') => write_units(c, out),
+        _ if is_unsafe(c) || is_unseen(c) || (ascii && c > '~') => write_units(c, out),
         _ => out.write_char(c),
     }
 }

@@ -16,16 +16,27 @@ item_at at b v = record { offset = at; bytes = b; value = v }
 abbrev pub nesting : ℕ
 nesting = 256
 
--- no readable item begins here; nothing is left is one such case
-abbrev pub IsUnreadable : List ℕ → Type 0
-IsUnreadable b = (v : Tree) (rest : List ℕ) → Front b nesting v rest → ⊥
+-- no item of at most n levels begins here; nothing is left is one such case
+abbrev pub IsUnreadableWithin : ℕ → List ℕ → Type 0
+IsUnreadableWithin n b = (v : Tree) (rest : List ℕ) → Front b n v rest → ⊥
 
--- `b`, which begins at the offset `at`, is these readable items one after another, and then `more`
-abbrev pub Sequence : ℕ → List ℕ → List Item → List ℕ → Type 0
-Sequence at b [] more = b ≡ more
-Sequence at b (i ∷ is) more = (i.offset ≡ at) × Reads i.bytes nesting i.value × ((behind : List ℕ) × (b ≡ i.bytes ++ behind) × Sequence (at + length i.bytes) behind is more)
+-- `b`, which begins at the offset `at`, is these readable items of at most n levels one after another, and then `more`
+abbrev pub SequenceWithin : ℕ → ℕ → List ℕ → List Item → List ℕ → Type 0
+SequenceWithin n at b [] more = b ≡ more
+SequenceWithin n at b (i ∷ is) more = (i.offset ≡ at) × Reads i.bytes n i.value
+    × ((behind : List ℕ) × (b ≡ i.bytes ++ behind) × SequenceWithin n (at + length i.bytes) behind is more)
 
 -- these are all items of `b`: in the rest nothing is left, or no readable item begins
-pub record Items (at : ℕ) (b : List ℕ) (is : List Item) (rest : List ℕ) : Type 0 where
-  pub sequence : Sequence at b is rest
-  pub ends : IsUnreadable rest
+pub record ItemsWithin (n at : ℕ) (b : List ℕ) (is : List Item) (rest : List ℕ) : Type 0 where
+  pub sequence : SequenceWithin n at b is rest
+  pub ends : IsUnreadableWithin n rest
+
+-- the same at the usual limit
+abbrev pub IsUnreadable : List ℕ → Type 0
+IsUnreadable = IsUnreadableWithin nesting
+
+abbrev pub Sequence : ℕ → List ℕ → List Item → List ℕ → Type 0
+Sequence = SequenceWithin nesting
+
+abbrev pub Items : ℕ → List ℕ → List Item → List ℕ → Type 0
+Items = ItemsWithin nesting

@@ -43,8 +43,8 @@ pub fn with_item(
     item: Result<Value, Error>,
 ) -> Result<Vec<Value>, Error>
     ensures adds { Adds (λ v. v.items) items item result }
-    ensures view { (ts : Trees) (t : Tree) → IfOk items (λ v. views v.items ≡ ts) → IfOk item (λ v. view v ≡ t)
-        → IfOk result (λ v. views v.items ≡ one_last ts t) }
+    ensures view { (ts : Trees) (t : Tree) → IfOk items (λ v. views v.items ≡ ts)
+        → IfOk item (λ v. view v ≡ t) → IfOk result (λ v. views v.items ≡ one_last ts t) }
 {
     let mut items = items?;
     let item = item?;
@@ -56,7 +56,8 @@ pub fn with_item(
 
 /// The array of the items.
 pub fn array(items: Result<Vec<Value>, Error>) -> Result<Value, Error>
-    ensures ok { (ts : Trees) → IfOk items (λ v. views v.items ≡ ts) → IfOk result (λ v. view v ≡ tree.array ts) }
+    ensures ok { (ts : Trees) → IfOk items (λ v. views v.items ≡ ts)
+        → IfOk result (λ v. view v ≡ tree.array ts) }
     ensures err { IfErr items (λ e. result ≡ Err e) }
     ensures made { OnOk items (OnErr result ⊥) }
 {
@@ -74,15 +75,17 @@ pub fn no_entries(alloc: Global) -> Result<Vec<(Value, Value)>, Error>
 /// One more entry.
 ///
 /// # Errors
-/// The first of the entries', the key's and the value's; `Memory` where all are there and memory is refused.
+/// The first of the entries', the key's and the value's; `Memory` where all are there and memory is
+/// refused.
 pub fn with_entry(
     entries: Result<Vec<(Value, Value)>, Error>,
     key: Result<Value, Error>,
     value: Result<Value, Error>,
 ) -> Result<Vec<(Value, Value)>, Error>
     ensures adds { Adds (λ v. v.items) entries (entry_of key value) result }
-    ensures view { (ps : Pairs) (k : Tree) (t : Tree) → IfOk entries (λ v. view_pairs v.items ≡ ps) → IfOk key (λ v. view v ≡ k)
-        → IfOk value (λ v. view v ≡ t) → IfOk result (λ v. view_pairs v.items ≡ pair_last ps k t) }
+    ensures view { (ps : Pairs) (k : Tree) (t : Tree) → IfOk entries (λ v. view_pairs v.items ≡ ps)
+        → IfOk key (λ v. view v ≡ k) → IfOk value (λ v. view v ≡ t)
+        → IfOk result (λ v. view_pairs v.items ≡ pair_last ps k t) }
 {
     let mut entries = entries?;
     let key = key?;
@@ -95,7 +98,8 @@ pub fn with_entry(
 
 /// The map of the entries.
 pub fn map(entries: Result<Vec<(Value, Value)>, Error>) -> Result<Value, Error>
-    ensures ok { (ps : Pairs) → IfOk entries (λ v. view_pairs v.items ≡ ps) → IfOk result (λ v. view v ≡ tree.map ps) }
+    ensures ok { (ps : Pairs) → IfOk entries (λ v. view_pairs v.items ≡ ps)
+        → IfOk result (λ v. view v ≡ tree.map ps) }
     ensures err { IfErr entries (λ e. result ≡ Err e) }
     ensures made { OnOk entries (OnErr result ⊥) }
 {

@@ -1,6 +1,8 @@
 //! Reads items over a list of the levels that are open.
-ghost use Rattle.std.specs.Prelude.{◌≡◌, ◌<◌, ◌≤◌, ◌+◌, ◌*◌, ◌∷◌, ℕ, Bool, true, false, List, None, Some, reverse, length};
-ghost use Rattle.std.specs.Prelude.{IfOk, IfErr, OnOk, OnErr, IfSome, IfNone, MatchOption, MatchBool, ◌&&◌};
+ghost use Rattle.std.specs.Prelude.{◌≡◌, ◌<◌, ◌≤◌, ◌+◌, ◌*◌, ◌∷◌, ℕ, Bool, true};
+ghost use Rattle.std.specs.Prelude.{false, List, None, Some, reverse, length};
+ghost use Rattle.std.specs.Prelude.{IfOk, IfErr, OnOk, OnErr, IfSome, IfNone};
+ghost use Rattle.std.specs.Prelude.{MatchOption, MatchBool, ◌&&◌};
 ghost use Rattle.ciborium_ll.specs.Seen.{Takes};
 ghost use Rattle.ciborium_ll.specs.Title.{Title, IsShortest};
 ghost use Rattle.ciborium_ll.specs.Views.{offset_of, waiting_of, seen, shortest_of};
@@ -10,9 +12,11 @@ ghost use Rattle.ciborium.specs.Damage.{Damage, TitleDamage};
 ghost use Rattle.ciborium.specs.Reading.{Steady, NamesFault, NamesFaultBehind, ReadsBehind, Closes};
 ghost use Rattle.ciborium_value.specs.Folding.{tagged};
 ghost use Rattle.ciborium.specs.Reading.{IsNext, is_full, fault_failures, IsFoldFault};
-ghost use Rattle.ciborium.specs.Frames.{snoc, halves_of, HasHalf, IsStaged, IsClosed, ClosedStage, Stage, Hands};
+ghost use Rattle.ciborium.specs.Frames.{snoc, halves_of, HasHalf, IsStaged, IsClosed};
+ghost use Rattle.ciborium.specs.Frames.{ClosedStage, Stage, Hands};
 ghost use Rattle.ciborium.specs.Exact.{encoded};
-ghost use Rattle.ciborium.specs.Frames.{IsKept, CloseGives, ReadExact, HandFails, AskEnds, AskGives, AskFails, Opening, Begins, BeginFails};
+ghost use Rattle.ciborium.specs.Frames.{IsKept, CloseGives, ReadExact, HandFails, AskEnds};
+ghost use Rattle.ciborium.specs.Frames.{AskGives, AskFails, Opening, Begins, BeginFails};
 ghost use Rattle.ciborium.specs.Frames.{in_hand, rank, Falls};
 
 use crate::de::Error;
@@ -26,7 +30,8 @@ use ciborium_ll::{Decoder, Header, Read};
 use std::alloc::Global;
 use std::mem;
 
-/// An array that is open: its items so far, how many its head claims, and the room that it may reserve of.
+/// An array that is open: its items so far, how many its head claims, and the room that it may
+/// reserve of.
 #[derive(Drop)]
 pub struct Items {
     items: Vec<Value>,
@@ -34,8 +39,8 @@ pub struct Items {
     room: usize,
 }
 
-/// A map that is open: its entries so far, how many its head claims, and the room. Where it is at `half` an entry, the value of
-/// the last key is due, and null stands in its place.
+/// A map that is open: its entries so far, how many its head claims, and the room. Where it is at
+/// `half` an entry, the value of the last key is due, and null stands in its place.
 #[derive(Drop)]
 pub struct Entries {
     entries: Vec<(Value, Value)>,
@@ -44,7 +49,8 @@ pub struct Entries {
     room: usize,
 }
 
-/// A level that is open. A tag, and the whole around all levels, hold the place and the header of the title behind them.
+/// A level that is open. A tag, and the whole around all levels, hold the place and the header of
+/// the title behind them.
 #[derive(Drop)]
 pub enum Frame {
     Whole(usize, Header),
@@ -53,8 +59,8 @@ pub enum Frame {
     Tag(u64, usize, Header),
 }
 
-/// What became of a value that was handed to the innermost level: it was taken, or it is a tag's content, and the tag is to be
-/// handed over, or it is the whole.
+/// What became of a value that was handed to the innermost level: it was taken, or it is a tag's
+/// content, and the tag is to be handed over, or it is the whole.
 #[derive(Drop)]
 pub enum Handed {
     Taken,
@@ -85,7 +91,8 @@ fn put_half<E>(list: &mut Entries, half: Value) -> Result<(), Error<E>>
     Ok(())
 }
 
-/// Hands a value, where one was read, to the innermost level. A tag is whole with it, and the level around it the innermost then.
+/// Hands a value, where one was read, to the innermost level. A tag is whole with it, and the level
+/// around it the innermost then.
 fn hand<E>(
     alloc: Global,
     below: &mut Vec<Frame>,
@@ -94,8 +101,8 @@ fn hand<E>(
     exact: &mut bool,
 ) -> Result<Handed, Error<E>>
     requires staged { IsStaged (top.old ∷ reverse below.old.items) read.old }
-    ensures ok { IfOk result (Hands (top.old ∷ reverse below.old.items) (top.new ∷ reverse below.new.items)
-        read.old read.new exact.old exact.new) }
+    ensures ok { IfOk result (Hands (top.old ∷ reverse below.old.items)
+        (top.new ∷ reverse below.new.items) read.old read.new exact.old exact.new) }
     ensures falls { IfOk result (Falls (rank below.old.items top.old read.old)
         (rank below.new.items top.new read.new)) }
     ensures err { IfErr result (HandFails (top.old ∷ reverse below.old.items) read.old) }
@@ -120,7 +127,7 @@ fn hand<E>(
             Ok(Handed::Taken)
         }
         Frame::Tag(n, _, _) => {
-            let whole = kept(alloc, *n, value, exact)?;
+            let whole = tag_value(alloc, *n, value, exact)?;
             *read = Some(whole);
             match below.pop() {
                 Some(frame) => {
@@ -136,7 +143,8 @@ fn hand<E>(
 /// Closes the innermost level, an array or a map.
 fn close(below: &mut Vec<Frame>, top: &mut Frame) -> Value
     requires closed { IsClosed (top.old ∷ reverse below.old.items) }
-    ensures value { CloseGives (top.old ∷ reverse below.old.items) (top.new ∷ reverse below.new.items) result }
+    ensures value { CloseGives (top.old ∷ reverse below.old.items)
+        (top.new ∷ reverse below.new.items) result }
     ensures falls { length below.new.items < length below.old.items }
 {
     match below.pop() {
@@ -168,7 +176,8 @@ fn next_half<R: Read>(
     ensures at { IfOk result (λ o. IfSome o (λ r. r.0 ≡ offset_of decoder.old)) }
     ensures next { IfOk result (λ o. IfSome o (λ r. list.now.half ≡ false
         → IsNext list.now.count (length list.now.entries.items) r.1)) }
-    ensures err { IfErr result (NamesFault R.ends TitleDamage (seen R.Read decoder.old) (seen R.Read decoder.new)) }
+    ensures err { IfErr result (NamesFault R.ends TitleDamage
+        (seen R.Read decoder.old) (seen R.Read decoder.new)) }
     ensures due { OnErr result (list.now.half ≡ false
         → is_full list.now.count (length list.now.entries.items) ≡ false) }
     ensures steady { Steady R.ends result (seen R.Read decoder.old) (seen R.Read decoder.new) }
@@ -188,7 +197,7 @@ pub fn is_still<R: Read>(decoder: &Decoder<R>, header: Header, exact: bool) -> b
 }
 
 /// The same, where there was one.
-fn noted<R: Read>(decoder: &Decoder<R>, part: Option<(usize, Header)>, exact: bool) -> bool
+fn is_exact_after<R: Read>(decoder: &Decoder<R>, part: Option<(usize, Header)>, exact: bool) -> bool
     ensures { MatchOption part (result ≡ exact)
         (λ r. result ≡ (exact && (shortest_of decoder.now && encoded r.1))) }
 {
@@ -198,8 +207,14 @@ fn noted<R: Read>(decoder: &Decoder<R>, part: Option<(usize, Header)>, exact: bo
     }
 }
 
-/// The value of a tag over its content. Where the fold changes a byte string, its text was not the shortest.
-fn kept<E>(alloc: Global, tag: u64, content: Value, exact: &mut bool) -> Result<Value, Error<E>>
+/// The value of a tag over its content. Where the fold changes a byte string, its text was not the
+/// shortest.
+fn tag_value<E>(
+    alloc: Global,
+    tag: u64,
+    content: Value,
+    exact: &mut bool,
+) -> Result<Value, Error<E>>
     ensures ok { IfOk result (λ v. tagged tag (view content) ≡ Some (view v)) }
     ensures kept { IfOk result (λ v. IsKept tag (view content) (view v) exact.old exact.new) }
     ensures err { IfErr result (IsFoldFault tag (view content)) }
@@ -219,24 +234,26 @@ fn ask<R: Read>(
     requires fresh { waiting_of decoder.old ≡ None }
     ensures none { IfOk result (λ o. IfNone o
         (Takes (seen R.Read decoder.old) (seen R.Read decoder.new) (AskEnds top.now))) }
-    ensures some { IfOk result (λ o. IfSome o (λ r. Takes (seen R.Read decoder.old) (seen R.Read decoder.new)
+    ensures some { IfOk result (λ o. IfSome o (λ r.
+        Takes (seen R.Read decoder.old) (seen R.Read decoder.new)
         (AskGives top.now r.1 r.0 (offset_of decoder.old) exact.old exact.new))) }
     ensures same { IfOk result (λ o. IfNone o (exact.new ≡ exact.old)) }
     ensures moved { IfOk result (λ o. IfSome o (λ _.
         offset_of decoder.old + 1 ≤ offset_of decoder.new + in_hand None top.now)) }
-    ensures err { IfErr result (AskFails R.ends top.now (seen R.Read decoder.old) (seen R.Read decoder.new)) }
+    ensures err { IfErr result (AskFails R.ends top.now
+        (seen R.Read decoder.old) (seen R.Read decoder.new)) }
     ensures steady { Steady R.ends result (seen R.Read decoder.old) (seen R.Read decoder.new) }
 {
     match top {
         Frame::Whole(at, header) => Ok(Some((*at, *header))),
         Frame::Items(list) => {
             let part = next_part(decoder, list.count, list.items.len())?;
-            *exact = noted(decoder, part, *exact);
+            *exact = is_exact_after(decoder, part, *exact);
             Ok(part)
         }
         Frame::Entries(list) => {
             let part = next_half(decoder, list)?;
-            *exact = noted(decoder, part, *exact);
+            *exact = is_exact_after(decoder, part, *exact);
             Ok(part)
         }
         Frame::Tag(_, at, header) => Ok(Some((*at, *header))),
@@ -347,12 +364,12 @@ fn begin<R: Read>(
     requires fresh { waiting_of decoder.old ≡ None }
     requires empty { read.old ≡ None }
     ensures ok { OnOk result (Takes (seen R.Read decoder.old) (seen R.Read decoder.new)
-        (Begins (top.old ∷ reverse below.old.items) (top.new ∷ reverse below.new.items) limit title.1 title.0
-        (offset_of decoder.old) read.new exact.old exact.new)) }
+        (Begins (top.old ∷ reverse below.old.items) (top.new ∷ reverse below.new.items) limit
+        title.1 title.0 (offset_of decoder.old) read.new exact.old exact.new)) }
     ensures rises { OnOk result (rank below.new.items top.new read.new + 4 * offset_of decoder.old
         ≤ 2 * length below.old.items + 2 + 4 * offset_of decoder.new) }
-    ensures err { IfErr result (BeginFails R.ends limit (top.old ∷ reverse below.old.items) title.1 title.0
-        (seen R.Read decoder.old) (seen R.Read decoder.new)) }
+    ensures err { IfErr result (BeginFails R.ends limit (top.old ∷ reverse below.old.items)
+        title.1 title.0 (seen R.Read decoder.old) (seen R.Read decoder.new)) }
     ensures steady { Steady R.ends result (seen R.Read decoder.old) (seen R.Read decoder.new) }
 {
     let left = limit.saturating_sub(below.len());
@@ -371,7 +388,7 @@ fn begin<R: Read>(
                     Ok(())
                 }
                 Some(n) => {
-                    let whole = kept(alloc, n, value, exact)?;
+                    let whole = tag_value(alloc, n, value, exact)?;
                     *read = Some(whole);
                     Ok(())
                 }
@@ -380,8 +397,8 @@ fn begin<R: Read>(
     }
 }
 
-/// The item behind the title of `header`, which begins at the place `at`. `exact` tells whether the text is the shortest so far, and
-/// stays false once it is not.
+/// The item behind the title of `header`, which begins at the place `at`. `exact` tells whether the
+/// text is the shortest so far, and stays false once it is not.
 pub fn read_item<R: Read>(
     alloc: Global,
     decoder: &mut Decoder<R>,
@@ -394,8 +411,8 @@ pub fn read_item<R: Read>(
     requires titled { (title : List ℕ) × Title title header }
     ensures ok { IfOk result (λ v. Takes (seen R.Read decoder.old) (seen R.Read decoder.new)
         (ReadExact header limit (view v) exact.old exact.new)) }
-    ensures err { IfErr result (NamesFaultBehind R.ends header at (λ stop b f. Damage stop b limit f)
-        (seen R.Read decoder.old) (seen R.Read decoder.new)) }
+    ensures err { IfErr result (NamesFaultBehind R.ends header at
+        (λ stop b f. Damage stop b limit f) (seen R.Read decoder.old) (seen R.Read decoder.new)) }
     ensures steady { Steady R.ends result (seen R.Read decoder.old) (seen R.Read decoder.new) }
 {
     let mut below: Vec<Frame> = Vec::new(alloc);

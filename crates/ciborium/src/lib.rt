@@ -1,7 +1,8 @@
 //! CBOR items read and written (RFC 8949).
 //!
-//! A user names this crate alone: `ll` is the crate of heads, whose readers and writers stand here too, `value` has the values and
-//! typed values, `de` and `ser` reading and writing. `values`, `traits` and `types` are the crates below, whole.
+//! A user names this crate alone: `ll` is the crate of heads, whose readers and writers stand here
+//! too, `value` has the values and typed values, `de` and `ser` reading and writing. `values`,
+//! `traits` and `types` are the crates below, whole.
 #![tactic(auto)]
 
 pub mod build;

@@ -1,7 +1,8 @@
 //! `cbor!`.
 
-/// A value in place: `cbor!(alloc, {"a" => [1, true, null]})` is a `Result` of a `Value` or a `value::Error`. Arrays stand in brackets,
-/// maps in braces, and any other part is an expression of a type that can be written.
+/// A value in place: `cbor!(alloc, {"a" => [1, true, null]})` is a `Result` of a `Value` or a
+/// `value::Error`. Arrays stand in brackets, maps in braces, and any other part is an expression of
+/// a type that can be written.
 #[macro_export]
 macro_rules! cbor {
     (@value $a:ident, null) => { $crate::build::null() };
@@ -15,16 +16,22 @@ macro_rules! cbor {
 
     (@items $a:ident, ($($done:tt)*)) => { $($done)* };
     (@items $a:ident, ($($done:tt)*) null $(, $($rest:tt)*)?) => {
-        $crate::cbor!(@items $a, ($crate::build::with_item($($done)*, $crate::build::null())) $($($rest)*)?)
+        $crate::cbor!(@items $a,
+            ($crate::build::with_item($($done)*, $crate::build::null())) $($($rest)*)?)
     };
     (@items $a:ident, ($($done:tt)*) [ $($inner:tt)* ] $(, $($rest:tt)*)?) => {
-        $crate::cbor!(@items $a, ($crate::build::with_item($($done)*, $crate::cbor!(@value $a, [ $($inner)* ]))) $($($rest)*)?)
+        $crate::cbor!(@items $a,
+            ($crate::build::with_item($($done)*, $crate::cbor!(@value $a, [ $($inner)* ])))
+            $($($rest)*)?)
     };
     (@items $a:ident, ($($done:tt)*) { $($inner:tt)* } $(, $($rest:tt)*)?) => {
-        $crate::cbor!(@items $a, ($crate::build::with_item($($done)*, $crate::cbor!(@value $a, { $($inner)* }))) $($($rest)*)?)
+        $crate::cbor!(@items $a,
+            ($crate::build::with_item($($done)*, $crate::cbor!(@value $a, { $($inner)* })))
+            $($($rest)*)?)
     };
     (@items $a:ident, ($($done:tt)*) $value:expr $(, $($rest:tt)*)?) => {
-        $crate::cbor!(@items $a, ($crate::build::with_item($($done)*, $crate::build::leaf($a, &$value))) $($($rest)*)?)
+        $crate::cbor!(@items $a,
+            ($crate::build::with_item($($done)*, $crate::build::leaf($a, &$value))) $($($rest)*)?)
     };
 
     (@entries $a:ident, ($($done:tt)*)) => { $($done)* };
@@ -42,16 +49,27 @@ macro_rules! cbor {
     };
 
     (@entry $a:ident, ($($done:tt)*) ($($key:tt)*) null $(, $($rest:tt)*)?) => {
-        $crate::cbor!(@entries $a, ($crate::build::with_entry($($done)*, $($key)*, $crate::build::null())) $($($rest)*)?)
+        $crate::cbor!(@entries $a,
+            ($crate::build::with_entry($($done)*, $($key)*, $crate::build::null())) $($($rest)*)?)
     };
     (@entry $a:ident, ($($done:tt)*) ($($key:tt)*) [ $($inner:tt)* ] $(, $($rest:tt)*)?) => {
-        $crate::cbor!(@entries $a, ($crate::build::with_entry($($done)*, $($key)*, $crate::cbor!(@value $a, [ $($inner)* ]))) $($($rest)*)?)
+        $crate::cbor!(@entries $a,
+            ($crate::build::with_entry(
+                $($done)*, $($key)*, $crate::cbor!(@value $a, [ $($inner)* ])
+            ))
+            $($($rest)*)?)
     };
     (@entry $a:ident, ($($done:tt)*) ($($key:tt)*) { $($inner:tt)* } $(, $($rest:tt)*)?) => {
-        $crate::cbor!(@entries $a, ($crate::build::with_entry($($done)*, $($key)*, $crate::cbor!(@value $a, { $($inner)* }))) $($($rest)*)?)
+        $crate::cbor!(@entries $a,
+            ($crate::build::with_entry(
+                $($done)*, $($key)*, $crate::cbor!(@value $a, { $($inner)* })
+            ))
+            $($($rest)*)?)
     };
     (@entry $a:ident, ($($done:tt)*) ($($key:tt)*) $value:expr $(, $($rest:tt)*)?) => {
-        $crate::cbor!(@entries $a, ($crate::build::with_entry($($done)*, $($key)*, $crate::build::leaf($a, &$value))) $($($rest)*)?)
+        $crate::cbor!(@entries $a,
+            ($crate::build::with_entry($($done)*, $($key)*, $crate::build::leaf($a, &$value)))
+            $($($rest)*)?)
     };
 
     ($alloc:expr, $($inner:tt)*) => {{

@@ -1,5 +1,6 @@
 //! Reads values.
-ghost use Rattle.std.specs.Prelude.{◌≡◌, ◌≢◌, ◌⊎◌, ℕ, List, None, Some, Option, true, false, length, ◌&&◌};
+ghost use Rattle.std.specs.Prelude.{◌≡◌, ◌≢◌, ◌⊎◌, ℕ, List, None, Some};
+ghost use Rattle.std.specs.Prelude.{Option, true, false, length, ◌&&◌};
 ghost use Rattle.std.specs.Prelude.{IfOk, IfErr, OnErr, IfSome, IfNone, MatchOption, MatchBool};
 ghost use Rattle.ciborium_ll.specs.Seen.{Takes};
 ghost use Rattle.ciborium_ll.specs.Title.{Title, IsShortest};
@@ -13,7 +14,8 @@ ghost use Rattle.ciborium_value.specs.View.{view};
 ghost use Rattle.ciborium.specs.Meaning.{simple_meaning};
 ghost use Rattle.ciborium.specs.Damage.{Damage, TitleDamage};
 ghost use Rattle.ciborium.specs.Reading.{NamesFault, NamesFaultBehind, Steady, ReadsBehind};
-ghost use Rattle.ciborium.specs.Reading.{TagDamage, is_full, IsLeaf, Closes, IsNext, OpensOver, IsFoldFault};
+ghost use Rattle.ciborium.specs.Reading.{TagDamage, is_full, IsLeaf, Closes};
+ghost use Rattle.ciborium.specs.Reading.{IsNext, OpensOver, IsFoldFault};
 
 use crate::de::Error;
 use crate::strings::{next_title, read_string, read_text};
@@ -22,7 +24,8 @@ use ciborium_ll::{Decoder, Header, Read, simple, tag};
 use ciborium_value::fold_tag;
 use std::alloc::Global;
 
-/// Room for so many items may be reserved before they come, over all arrays and maps that are open: 4,096 bytes.
+/// Room for so many items may be reserved before they come, over all arrays and maps that are open:
+/// 4,096 bytes.
 pub const ROOM: usize = 128;
 
 /// The value of a simple value, where it is assigned (RFC 8949, section 3.3).
@@ -38,7 +41,8 @@ fn simple_value(n: u8) -> Option<Value>
     }
 }
 
-/// The item behind the title of `header`, which begins at the place `at`, where no items follow in it.
+/// The item behind the title of `header`, which begins at the place `at`, where no items follow in
+/// it.
 pub fn read_leaf<R: Read>(
     alloc: Global,
     decoder: &mut Decoder<R>,
@@ -49,9 +53,11 @@ pub fn read_leaf<R: Read>(
     requires leaf { IsLeaf header }
     ensures ok { IfOk result (λ v. Takes (seen R.Read decoder.old) (seen R.Read decoder.new)
         (λ b. (limit : ℕ) → ReadsBehind header limit (view v) b)) }
-    ensures err { IfErr result (λ e. (limit : ℕ) → NamesFaultBehind R.ends header at (λ stop b f. Damage stop b limit f)
+    ensures err { IfErr result (λ e. (limit : ℕ)
+        → NamesFaultBehind R.ends header at (λ stop b f. Damage stop b limit f)
         (seen R.Read decoder.old) (seen R.Read decoder.new) e) }
-    ensures bytes { IfOk result (λ v. (o : Option ℕ) → header ≡ Bytes o → (x : List ℕ) × (view v ≡ bytes x)) }
+    ensures bytes { IfOk result (λ v. (o : Option ℕ) → header ≡ Bytes o
+        → (x : List ℕ) × (view v ≡ bytes x)) }
     ensures steady { Steady R.ends result (seen R.Read decoder.old) (seen R.Read decoder.new) }
 {
     match header {
@@ -91,7 +97,8 @@ pub fn folded<E>(alloc: Global, tag: u64, content: Value) -> Result<Value, Error
     }
 }
 
-/// Whether the shortest text of an item may have the header: an open length, and undefined, are not in it.
+/// Whether the shortest text of an item may have the header: an open length, and undefined, are not
+/// in it.
 pub fn is_encoded(header: Header) -> bool
     ensures { result ≡ encoded header }
 {
@@ -151,23 +158,26 @@ fn all_read(count: Option<usize>, done: usize) -> bool
 fn closes(count: Option<usize>, header: Header) -> bool
     ensures { MatchBool result ((count ≡ None) × (header ≡ Break)) (count ≡ None → header ≢ Break) }
 {
-    count.is_none() && matches!(header, Header::Break)
+    count.is_none() && header.is_break()
 }
 
-/// The next title in an array or a map whose head has that length, and its place; none where all parts were read.
+/// The next title in an array or a map whose head has that length, and its place; none where all
+/// parts were read.
 pub fn next_part<R: Read>(
     decoder: &mut Decoder<R>,
     count: Option<usize>,
     done: usize,
 ) -> Result<Option<(usize, Header)>, Error<R::Error>>
     requires fresh { waiting_of decoder.old ≡ None }
-    ensures none { IfOk result (λ o. IfNone o (Takes (seen R.Read decoder.old) (seen R.Read decoder.new) (Closes count done))) }
+    ensures none { IfOk result (λ o. IfNone o
+        (Takes (seen R.Read decoder.old) (seen R.Read decoder.new) (Closes count done))) }
     ensures some { IfOk result (λ o. IfSome o (λ r.
         Takes (seen R.Read decoder.old) (seen R.Read decoder.new)
         (λ b. Title b r.1 × IsShortest (shortest_of decoder.new) b r.1))) }
     ensures at { IfOk result (λ o. IfSome o (λ r. r.0 ≡ offset_of decoder.old)) }
     ensures next { IfOk result (λ o. IfSome o (λ r. IsNext count done r.1)) }
-    ensures err { IfErr result (NamesFault R.ends TitleDamage (seen R.Read decoder.old) (seen R.Read decoder.new)) }
+    ensures err { IfErr result (NamesFault R.ends TitleDamage
+        (seen R.Read decoder.old) (seen R.Read decoder.new)) }
     ensures due { OnErr result (is_full count done ≡ false) }
     ensures steady { Steady R.ends result (seen R.Read decoder.old) (seen R.Read decoder.new) }
 {
@@ -189,7 +199,8 @@ pub fn reserved(count: Option<usize>, room: usize) -> usize {
     }
 }
 
-/// The room that is left where so many parts of that many items each are held and so many have come.
+/// The room that is left where so many parts of that many items each are held and so many have
+/// come.
 pub fn room_left(room: usize, held: usize, come: usize, size: usize) -> usize {
     room.saturating_sub(held.saturating_sub(come).saturating_mul(size))
 }
@@ -209,14 +220,17 @@ fn is_plain(tag: u64) -> bool
 
 /// Whether the item of a title is a byte string.
 fn is_bytes(header: Header) -> bool
-    ensures { MatchBool result ((o : Option ℕ) × (header ≡ Bytes o)) ((o : Option ℕ) → header ≢ Bytes o) }
+    ensures { MatchBool result ((o : Option ℕ) × (header ≡ Bytes o))
+        ((o : Option ℕ) → header ≢ Bytes o) }
 {
     matches!(header, Header::Bytes(_))
 }
 
-/// Whether the tag opens a level over an item of that title: all do, but those of bignums over a byte string.
+/// Whether the tag opens a level over an item of that title: all do, but those of bignums over a
+/// byte string.
 fn opens(tag: u64, header: Header) -> bool
-    ensures { MatchBool result (OpensOver tag header) (((tag ≡ 2) ⊎ (tag ≡ 3)) × ((o : Option ℕ) × (header ≡ Bytes o))) }
+    ensures { MatchBool result (OpensOver tag header)
+        (((tag ≡ 2) ⊎ (tag ≡ 3)) × ((o : Option ℕ) × (header ≡ Bytes o))) }
 {
     is_plain(tag) || !is_bytes(header)
 }
@@ -238,7 +252,8 @@ pub fn is_leaf(header: Header) -> bool
     !matches!(header, Header::Array(_) | Header::Map(_) | Header::Tag(_))
 }
 
-/// The title behind a tag, and its place. A tag that is none of the bignums' opens a level whatever follows it.
+/// The title behind a tag, and its place. A tag that is none of the bignums' opens a level whatever
+/// follows it.
 pub fn tagged_title<R: Read>(
     decoder: &mut Decoder<R>,
     tag: u64,
@@ -248,7 +263,8 @@ pub fn tagged_title<R: Read>(
     ensures ok { IfOk result (λ r. Takes (seen R.Read decoder.old) (seen R.Read decoder.new)
         (λ b. Title b r.1 × IsShortest (shortest_of decoder.new) b r.1)) }
     ensures at { IfOk result (λ r. r.0 ≡ offset_of decoder.old) }
-    ensures err { IfErr result (NamesFault R.ends (TagDamage tag limit) (seen R.Read decoder.old) (seen R.Read decoder.new)) }
+    ensures err { IfErr result (NamesFault R.ends (TagDamage tag limit)
+        (seen R.Read decoder.old) (seen R.Read decoder.new)) }
     ensures steady { Steady R.ends result (seen R.Read decoder.old) (seen R.Read decoder.new) }
 {
     if is_plain(tag) {

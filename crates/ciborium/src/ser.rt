@@ -15,7 +15,8 @@ use ciborium_ll::{Encoder, Float, Header, Write, simple};
 pub use ciborium_typed::{Serialize, Sink};
 use std::fmt;
 
-/// Why a value was not written. Its text is the fault's name, with the writer's text or the kind in parentheses.
+/// Why a value was not written. Its text is the fault's name, with the writer's text or the kind in
+/// parentheses.
 #[derive(Debug, Clone, Copy, PartialEq, Eq, Drop, thiserror::Error)]
 #[error_bound(T: fmt::Display)]
 pub enum Error<T> {
@@ -60,9 +61,11 @@ impl<W> From<Encoder<W>> for Serializer<W> {
 impl<W: Write> Sink for Serializer<W> {
     type Error = W::Error;
 
-    ghost adds = { λ s event t. IsWritten W.written W.handle W.failed (writer_of (encoder_of s)) event (writer_of (encoder_of t)) };
+    ghost adds = { λ s event t. IsWritten W.written W.handle W.failed (writer_of (encoder_of s))
+        event (writer_of (encoder_of t)) };
 
-    ghost refuses = { λ s event t. IsTorn W.written W.handle W.failed (writer_of (encoder_of s)) event (writer_of (encoder_of t)) };
+    ghost refuses = { λ s event t. IsTorn W.written W.handle W.failed (writer_of (encoder_of s))
+        event (writer_of (encoder_of t)) };
 
     fn integer(&mut self, number: Integer) -> Result<(), W::Error> {
         let n = i128::from(number);
@@ -111,13 +114,16 @@ impl<W: Write> Sink for Serializer<W> {
     }
 }
 
-/// Writes the one shortest definite text of the item that the value is written as (RFC 8949, section 4.1). A `Value` takes no memory.
+/// Writes the one shortest definite text of the item that the value is written as (RFC 8949,
+/// section 4.1). A `Value` takes no memory.
 ///
 /// # Errors
 /// The writer's, as `Io`; a beginning of the text was written then.
 pub fn into_writer<T: Serialize, W: Write>(value: &T, writer: &mut W) -> Result<(), Error<W::Error>>
-    ensures ok { OnOk result (Appends (W.written writer.old) (W.written writer.new) (enc (T.put value.now))) }
-    ensures err { OnErr result (AppendsFront (W.written writer.old) (W.written writer.new) (enc (T.put value.now))) }
+    ensures ok { OnOk result (Appends (W.written writer.old) (W.written writer.new)
+        (enc (T.put value.now))) }
+    ensures err { OnErr result (AppendsFront (W.written writer.old) (W.written writer.new)
+        (enc (T.put value.now))) }
     ensures io { IfErr result IsIo }
     ensures kept { W.handle writer.new ≡ W.handle writer.old }
     ensures failed { W.failed writer.new ≡ write_failures result (W.failed writer.old) }
@@ -133,8 +139,10 @@ fn write_item<T: Serialize, W: Write>(sink: &mut Serializer<W>, value: &T) -> Re
         (W.written (writer_of (encoder_of sink.new))) (enc (T.put value.now))) }
     ensures err { OnErr result (AppendsFront (W.written (writer_of (encoder_of sink.old)))
         (W.written (writer_of (encoder_of sink.new))) (enc (T.put value.now))) }
-    ensures kept { W.handle (writer_of (encoder_of sink.new)) ≡ W.handle (writer_of (encoder_of sink.old)) }
-    ensures failed { W.failed (writer_of (encoder_of sink.new)) ≡ write_failures result (W.failed (writer_of (encoder_of sink.old))) }
+    ensures kept { W.handle (writer_of (encoder_of sink.new))
+        ≡ W.handle (writer_of (encoder_of sink.old)) }
+    ensures failed { W.failed (writer_of (encoder_of sink.new))
+        ≡ write_failures result (W.failed (writer_of (encoder_of sink.old))) }
 {
     value.serialize(sink)
 }
@@ -151,7 +159,8 @@ fn write_string<W: Write>(
     ensures err { OnErr result (AppendsFront (W.written (writer_of encoder.old))
         (W.written (writer_of encoder.new)) (title_of header ++ bytes.now)) }
     ensures kept { W.handle (writer_of encoder.new) ≡ W.handle (writer_of encoder.old) }
-    ensures failed { W.failed (writer_of encoder.new) ≡ write_failures result (W.failed (writer_of encoder.old)) }
+    ensures failed { W.failed (writer_of encoder.new)
+        ≡ write_failures result (W.failed (writer_of encoder.old)) }
 {
     encoder.push(header)?;
     encoder.write_all(bytes)

@@ -49,14 +49,16 @@ impl<R: Read> Source for Deserializer<R> {
 
     ghost use Rattle.ciborium.specs.Streams.{decoder_of, limit_of};
 
-    ghost gives = { λ s item t. Takes (seen R.Read (decoder_of s)) (seen R.Read (decoder_of t)) (λ b. Reads b (limit_of s) item)
-        × (limit_of t ≡ limit_of s) × (R.failed (reader_of (decoder_of t)) ≡ R.failed (reader_of (decoder_of s)))
+    ghost gives = { λ s item t. Takes (seen R.Read (decoder_of s)) (seen R.Read (decoder_of t))
+        (λ b. Reads b (limit_of s) item) × (limit_of t ≡ limit_of s)
+        × (R.failed (reader_of (decoder_of t)) ≡ R.failed (reader_of (decoder_of s)))
         × (R.handle (reader_of (decoder_of t)) ≡ R.handle (reader_of (decoder_of s))) };
 
     ghost fails = { λ s e t. NamesFault R.ends (λ stop b f. Damage stop b (limit_of s) f)
         (seen R.Read (decoder_of s)) (seen R.Read (decoder_of t)) e
         × (limit_of t ≡ limit_of s)
-        × (R.failed (reader_of (decoder_of t)) ≡ fault_failures R.ends e (R.failed (reader_of (decoder_of s))))
+        × (R.failed (reader_of (decoder_of t))
+        ≡ fault_failures R.ends e (R.failed (reader_of (decoder_of s))))
         × (R.handle (reader_of (decoder_of t)) ≡ R.handle (reader_of (decoder_of s))) };
 
     ghost refused = { refusing };

@@ -1,13 +1,16 @@
 //! Reads titles and strings.
-ghost use Rattle.std.specs.Prelude.{◌≡◌, ◌≤◌, ◌<◌, ◌+◌, ◌++◌, ◌^◌, ℕ, None, Some, OnOk, IfOk, IfErr, length, Bool, true, [], string_bytes};
+ghost use Rattle.std.specs.Prelude.{◌≡◌, ◌≤◌, ◌<◌, ◌+◌, ◌++◌, ◌^◌, ℕ, None, Some, OnOk, IfOk};
+ghost use Rattle.std.specs.Prelude.{IfErr, IfSome, IfNone, length, Bool, true, [], string_bytes};
 ghost use Rattle.std.specs.Str.{IsUtf8};
 ghost use Rattle.ciborium_ll.specs.Title.{Title, title_of, IsShortest};
 ghost use Rattle.ciborium_ll.specs.declared.hdr.Header.{Header};
 ghost use Rattle.ciborium_ll.specs.declared.hdr.Header.TheVariants.{Text};
 ghost use Rattle.ciborium_ll.specs.Seen.{Takes};
-ghost use Rattle.ciborium_ll.specs.Views.{left_of, offset_of, waiting_of, reader_of, seen, shortest_of};
+ghost use Rattle.ciborium_ll.specs.Views.{left_of, offset_of, waiting_of};
+ghost use Rattle.ciborium_ll.specs.Views.{reader_of, seen, shortest_of};
 ghost use Rattle.ciborium.specs.Damage.{TitleDamage, ChunkDamage, StringDamage};
-ghost use Rattle.ciborium.specs.Reading.{NamesFault, NamesFaultBehind, NamesShort, Steady, IsNoMemory};
+ghost use Rattle.ciborium.specs.Reading.{NamesFault, NamesFaultBehind, NamesShort};
+ghost use Rattle.ciborium.specs.Reading.{Steady, IsNoMemory};
 ghost use Rattle.ciborium.specs.Reading.{string_head, IsBody, StringBehind, ChunkBody, IsPart};
 
 use crate::de::Error;
@@ -17,17 +20,20 @@ use std::alloc::Global;
 /// The next title, and its place.
 #[inline(always)]
 pub fn next_title<R: Read>(decoder: &mut Decoder<R>) -> Result<(usize, Header), Error<R::Error>>
-    ensures ok { IfOk result (λ r. Takes (seen R.Read decoder.old) (seen R.Read decoder.new) (λ b. Title b r.1)) }
+    ensures ok { IfOk result (λ r. Takes (seen R.Read decoder.old) (seen R.Read decoder.new)
+        (λ b. Title b r.1)) }
     ensures shortest { waiting_of decoder.old ≡ None → IfOk result (λ r.
         Takes (seen R.Read decoder.old) (seen R.Read decoder.new)
         (λ b. Title b r.1 × IsShortest (shortest_of decoder.new) b r.1)) }
     ensures at { IfOk result (λ r. r.0 ≡ offset_of decoder.old) }
     ensures fits { offset_of decoder.new < 2 ^ 64 }
     ensures nothing { left_of R.left decoder.old ≡ Some [] → OnOk result ⊥ }
-    ensures waited { (h : Header) → waiting_of decoder.old ≡ Some h → (result ≡ Ok (offset_of decoder.old, h))
-        × (reader_of decoder.new ≡ reader_of decoder.old) × (offset_of decoder.new ≡ offset_of decoder.old + length (title_of h)) }
+    ensures waited { (h : Header) → waiting_of decoder.old ≡ Some h
+        → (result ≡ Ok (offset_of decoder.old, h)) × (reader_of decoder.new ≡ reader_of decoder.old)
+        × (offset_of decoder.new ≡ offset_of decoder.old + length (title_of h)) }
     ensures memory { IfErr result IsNoMemory }
-    ensures err { IfErr result (NamesFault R.ends TitleDamage (seen R.Read decoder.old) (seen R.Read decoder.new)) }
+    ensures err { IfErr result (NamesFault R.ends TitleDamage
+        (seen R.Read decoder.old) (seen R.Read decoder.new)) }
     ensures steady { Steady R.ends result (seen R.Read decoder.old) (seen R.Read decoder.new) }
 {
     let at = decoder.offset();
@@ -48,7 +54,8 @@ fn read_piece<R: Read>(
     requires small { size ≤ 4096 }
     ensures ok { OnOk result (Takes (seen R.Read decoder.old) (seen R.Read decoder.new)
         (λ b. (length b ≡ size) × (into.new.items ≡ into.old.items ++ b))) }
-    ensures err { IfErr result (NamesShort R.ends size (seen R.Read decoder.old) (seen R.Read decoder.new)) }
+    ensures err { IfErr result (NamesShort R.ends size
+        (seen R.Read decoder.old) (seen R.Read decoder.new)) }
     ensures steady { Steady R.ends result (seen R.Read decoder.old) (seen R.Read decoder.new) }
 {
     let at = into.len();
@@ -68,7 +75,8 @@ fn read_bytes<R: Read>(
     requires fresh { waiting_of decoder.old ≡ None }
     ensures ok { OnOk result (Takes (seen R.Read decoder.old) (seen R.Read decoder.new)
         (λ b. (length b ≡ n) × (into.new.items ≡ into.old.items ++ b))) }
-    ensures err { IfErr result (NamesShort R.ends n (seen R.Read decoder.old) (seen R.Read decoder.new)) }
+    ensures err { IfErr result (NamesShort R.ends n
+        (seen R.Read decoder.old) (seen R.Read decoder.new)) }
     ensures steady { Steady R.ends result (seen R.Read decoder.old) (seen R.Read decoder.new) }
 {
     let mut got = 0;
@@ -91,13 +99,14 @@ fn read_chunk<R: Read>(
     requires fresh { waiting_of decoder.old ≡ None }
     ensures ok { OnOk result (Takes (seen R.Read decoder.old) (seen R.Read decoder.new)
         (λ b. ChunkBody text n into.old.items into.new.items b)) }
-    ensures err { IfErr result (NamesFaultBehind R.ends (string_head text (Some n)) at (ChunkDamage (string_head text) (IsBody text))
+    ensures err { IfErr result (NamesFaultBehind R.ends (string_head text (Some n)) at
+        (ChunkDamage (string_head text) (IsBody text))
         (seen R.Read decoder.old) (seen R.Read decoder.new)) }
     ensures steady { Steady R.ends result (seen R.Read decoder.old) (seen R.Read decoder.new) }
 {
     let start = into.len();
     read_bytes(decoder, n, into)?;
-    if text && std::str::from_utf8(&into[start..]).is_err() {
+    if text && simdutf8::compat::from_utf8(&into[start..]).is_err() {
         return Err(Error::Syntax(at));
     }
     Ok(())
@@ -130,13 +139,7 @@ fn part_of(text: bool, header: Header) -> Part
                 Part::Other
             }
         }
-        Header::Positive(_) => Part::Other,
-        Header::Negative(_) => Part::Other,
-        Header::Float(_) => Part::Other,
-        Header::Simple(_) => Part::Other,
-        Header::Tag(_) => Part::Other,
-        Header::Array(_) => Part::Other,
-        Header::Map(_) => Part::Other,
+        _ => Part::Other,
     }
 }
 
@@ -160,7 +163,8 @@ pub fn read_string<R: Read>(
     requires fresh { waiting_of decoder.old ≡ None }
     ensures ok { IfOk result (λ v. Takes (seen R.Read decoder.old) (seen R.Read decoder.new)
         (λ b. StringBehind text length v.items b)) }
-    ensures err { IfErr result (NamesFaultBehind R.ends (string_head text length) at (StringDamage (string_head text) (IsBody text))
+    ensures err { IfErr result (NamesFaultBehind R.ends (string_head text length) at
+        (StringDamage (string_head text) (IsBody text))
         (seen R.Read decoder.old) (seen R.Read decoder.new)) }
     ensures steady { Steady R.ends result (seen R.Read decoder.old) (seen R.Read decoder.new) }
 {
@@ -188,7 +192,8 @@ fn read_open<R: Read>(
     requires empty { into.old.items ≡ [] }
     ensures ok { OnOk result (Takes (seen R.Read decoder.old) (seen R.Read decoder.new)
         (λ b. StringBehind text None into.new.items b)) }
-    ensures err { IfErr result (NamesFaultBehind R.ends (string_head text None) at (StringDamage (string_head text) (IsBody text))
+    ensures err { IfErr result (NamesFaultBehind R.ends (string_head text None) at
+        (StringDamage (string_head text) (IsBody text))
         (seen R.Read decoder.old) (seen R.Read decoder.new)) }
     ensures steady { Steady R.ends result (seen R.Read decoder.old) (seen R.Read decoder.new) }
 {
@@ -207,6 +212,18 @@ fn read_open<R: Read>(
             Part::Other => return Err(Error::Syntax(place)),
         }
     }
+}
+
+/// The text of these bytes, where they are UTF-8.
+fn text_of(bytes: Vec<u8>) -> Option<String>
+    ensures none { IfNone result (IsUtf8 bytes.items → ⊥) }
+    ensures text { IfSome result (λ s. string_bytes s ≡ bytes.items) }
+    ensures valid { IfSome result (λ s. IsUtf8 (string_bytes s)) }
+{
+    if simdutf8::basic::from_utf8(&bytes).is_err() {
+        return None;
+    }
+    Some(unsafe { String::from_utf8_unchecked(bytes) })
 }
 
 /// The text of a string whose title, with the length given, begins at the place `at`.
@@ -241,18 +258,15 @@ fn read_whole_text<R: Read>(
     requires fresh { waiting_of decoder.old ≡ None }
     ensures ok { IfOk result (λ v. Takes (seen R.Read decoder.old) (seen R.Read decoder.new)
         (λ b. StringBehind true (Some n) (string_bytes v) b)) }
-    ensures err { IfErr result (NamesFaultBehind R.ends (Text (Some n)) at (StringDamage Text IsUtf8)
-        (seen R.Read decoder.old) (seen R.Read decoder.new)) }
+    ensures err { IfErr result (NamesFaultBehind R.ends (Text (Some n)) at
+        (StringDamage Text IsUtf8) (seen R.Read decoder.old) (seen R.Read decoder.new)) }
     ensures steady { Steady R.ends result (seen R.Read decoder.old) (seen R.Read decoder.new) }
 {
     let mut bytes = Vec::new(alloc);
     read_bytes(decoder, n, &mut bytes)?;
-    match String::from_utf8(bytes) {
-        Ok(text) => {
-            let _valid = text.as_str();
-            Ok(text)
-        }
-        Err(_) => Err(Error::Syntax(at)),
+    match text_of(bytes) {
+        Some(text) => Ok(text),
+        None => Err(Error::Syntax(at)),
     }
 }
 
@@ -270,8 +284,8 @@ fn read_cut_text<R: Read>(
     ensures steady { Steady R.ends result (seen R.Read decoder.old) (seen R.Read decoder.new) }
 {
     let bytes = read_string(alloc, decoder, true, None, at)?;
-    match String::from_utf8(bytes) {
-        Ok(text) => Ok(text),
-        Err(_) => Err(Error::Syntax(at)),
+    match text_of(bytes) {
+        Some(text) => Ok(text),
+        None => Err(Error::Syntax(at)),
     }
 }

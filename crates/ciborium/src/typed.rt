@@ -12,13 +12,15 @@ use ciborium_ll::{Decoder, Read};
 use ciborium_typed::Deserialize;
 use std::alloc::Global;
 
-/// Reads the item at the front of the bytes to come as a value of the type, and leaves what follows it.
+/// Reads the item at the front of the bytes to come as a value of the type, and leaves what follows
+/// it.
 pub fn typed_item<T: Deserialize, R: Read>(
     alloc: Global,
     decoder: &mut Decoder<R>,
     limit: usize,
 ) -> Result<T, Error<R::Error>>
-    ensures ok { IfOk result (λ x. Takes (seen R.Read decoder.old) (seen R.Read decoder.new) (ReadsAs T.refusal T.takes limit x)) }
+    ensures ok { IfOk result (λ x. Takes (seen R.Read decoder.old) (seen R.Read decoder.new)
+        (ReadsAs T.refusal T.takes limit x)) }
     ensures err { IfErr result (λ e. NamesFault R.ends (λ stop b f. Damage stop b limit f)
         (seen R.Read decoder.old) (seen R.Read decoder.new) e
         ⊎ Takes (seen R.Read decoder.old) (seen R.Read decoder.new) (IsRefused T.refusal limit e)) }

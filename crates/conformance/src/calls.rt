@@ -1,7 +1,8 @@
 //! Calls by name.
 use crate::answers::{Answer, CallError, bytes, size, value};
 use crate::typed::{self, Route};
-use crate::{heads, items, labels, notation, orders, pieces, registries, values};
+use crate::{heads, items, labels, notation, orders, pieces, registries, shown, values};
+use cbor_diag::Style;
 use std::alloc::Global;
 
 /// What the call answers that the first word names.
@@ -35,6 +36,10 @@ fn of_bytes(alloc: Global, call: &str, argument: &str) -> Answer {
         "exact" => items::exact(alloc, bytes),
         "sequence" => items::sequence(alloc, bytes),
         "bignum" => values::bignum(alloc, bytes),
+        "diag" => shown::noted(alloc, bytes, Style::appendix()),
+        "diag-widths" => shown::noted(alloc, bytes, Style::line()),
+        "members" => shown::members(alloc, bytes),
+        "excess" => shown::excess(alloc, bytes),
         _ => Err(CallError::NoCall),
     }
 }
@@ -78,6 +83,7 @@ fn of_size(alloc: Global, call: &str, number: usize, bytes: &[u8]) -> Answer {
         "byte-pieces" => pieces::of_bytes(alloc, bytes, number),
         "text-pieces" => pieces::of_text(alloc, bytes, number),
         "recode" => heads::recoded(alloc, bytes, number),
+        "ends" => shown::ends(alloc, bytes, number),
         _ => Err(CallError::NoCall),
     }
 }

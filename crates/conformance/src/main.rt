@@ -12,6 +12,7 @@ mod orders;
 mod pieces;
 mod registries;
 mod rows;
+mod shown;
 mod typed;
 mod values;
 

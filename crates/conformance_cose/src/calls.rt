@@ -1,8 +1,6 @@
 //! Calls by name.
 use crate::answers::{Answer, NoAnswer, bytes};
-use crate::{errors, items, keys, messages, parts, protected, structures, tags};
-use coset::CoseKeySet;
-use coset::cwt::ClaimsSet;
+use crate::{errors, exact, items, keys, limits, messages, parts, protected, structures, tags};
 use std::alloc::Global;
 
 /// What the call answers that the first word names.
@@ -58,8 +56,14 @@ fn of_item(alloc: Global, call: &str, item: &[u8]) -> Answer {
 fn two(alloc: Global, call: &str, first: &str, second: &str) -> Answer {
     match call {
         "canonical-key" => keys::canonical(alloc, first, second),
+        "limits" => limits::new(alloc, first, second),
         "key-of-point" => keys::key_of_point(alloc, first, second),
         "ml-dsa-key" => keys::ml_dsa(alloc, first, second),
+        "same-error" => errors::are_same(alloc, first, second),
+        "same-context" => structures::are_same(alloc, first, second),
+        "same-order" => keys::are_same_orders(alloc, first, second),
+        "same-ml-dsa-variant" => keys::are_same_variants(alloc, first, second),
+        "as-written" => exact::is_as_written(alloc, first, &bytes(alloc, second)?),
         _ => {
             let (first, second) = (bytes(alloc, first)?, bytes(alloc, second)?);
             of_two_items(alloc, call, first.as_slice(), second.as_slice())
@@ -70,8 +74,6 @@ fn two(alloc: Global, call: &str, first: &str, second: &str) -> Answer {
 fn of_two_items(alloc: Global, call: &str, first: &[u8], second: &[u8]) -> Answer {
     match call {
         "same-protected-header" => protected::are_same(alloc, first, second),
-        "same-key-set" => items::are_same::<CoseKeySet>(alloc, first, second),
-        "same-claims" => items::are_same::<ClaimsSet>(alloc, first, second),
         "sign1-tbs" => messages::sign1_covered(alloc, first, second),
         "sign1-verifier" => messages::sign1_handed(alloc, first, second),
         "sign-verifier" => messages::sign_handed(alloc, first, second),
@@ -82,7 +84,7 @@ fn of_two_items(alloc: Global, call: &str, first: &[u8], second: &[u8]) -> Answe
         "hmac" => tags::whole(alloc, first, second),
         "hmac-of-clone" => tags::of_clone(alloc, first, second),
         "same-tag" => tags::are_same(alloc, first, second),
-        _ => Err(NoAnswer::NoCall),
+        _ => items::same(alloc, call, first, second),
     }
 }
 
@@ -120,6 +122,7 @@ fn of_message(alloc: Global, call: &str, message: &[u8], first: &[u8], second: &
 fn four(alloc: Global, call: &str, [first, second, third, fourth]: [&str; 4]) -> Answer {
     match call {
         "mac-structure" => structures::mac(alloc, first, second, third, fourth),
+        "within" => limits::written_back(alloc, [first, second, third, fourth]),
         "ec2-private-key" => keys::private(alloc, first, second, third, fourth),
         "sign-tbs-detached" => {
             let (message, signature) = (bytes(alloc, first)?, bytes(alloc, second)?);

@@ -1,11 +1,13 @@
 //! Items that are read and written back.
 use crate::answers::{Answer, NoAnswer, fault, made, plain, yes_or_no};
+use coset::cbor::Value;
 use coset::cwt::ClaimsSet;
 use coset::{
     CborSerializable, CoseEncrypt, CoseEncrypt0, CoseError, CoseKdfContext, CoseKey, CoseKeySet,
-    CoseMac, CoseMac0, CoseRecipient, CoseSign, CoseSign1, CoseSignature, Header, Label, PartyInfo,
-    ProtectedHeader, SuppPubInfo, TaggedCborSerializable,
+    CoseMac, CoseMac0, CoseRecipient, CoseSign, CoseSign1, CoseSignature, Header, Label, Limits,
+    PartyInfo, ProtectedHeader, SuppPubInfo, TaggedCborSerializable, ValueTryAs,
 };
+use coset_parts::{Parts, read_parts, three};
 use std::alloc::{AllocError, Global};
 
 /// The item that is written of a copy of what this item of some kind is read as.
@@ -115,12 +117,52 @@ pub fn is_empty_header(alloc: Global, item: &[u8]) -> Answer {
     }
 }
 
+/// Whether what two items are read as is the same, for the kind that the call names.
+pub fn same(alloc: Global, call: &str, first: &[u8], second: &[u8]) -> Answer {
+    match call {
+        "same-header" => are_same::<Header>(alloc, first, second),
+        "same-signature" => are_same::<CoseSignature>(alloc, first, second),
+        "same-parts" => are_same_parts(alloc, first, second),
+        "same-recipient" => are_same::<CoseRecipient>(alloc, first, second),
+        "same-sign1" => are_same::<CoseSign1>(alloc, first, second),
+        "same-sign" => are_same::<CoseSign>(alloc, first, second),
+        "same-mac0" => are_same::<CoseMac0>(alloc, first, second),
+        "same-mac" => are_same::<CoseMac>(alloc, first, second),
+        "same-encrypt0" => are_same::<CoseEncrypt0>(alloc, first, second),
+        "same-encrypt" => are_same::<CoseEncrypt>(alloc, first, second),
+        "same-key-set" => are_same::<CoseKeySet>(alloc, first, second),
+        "same-claims" => are_same::<ClaimsSet>(alloc, first, second),
+        "same-kdf-context" => are_same::<CoseKdfContext>(alloc, first, second),
+        _ => Err(NoAnswer::NoCall),
+    }
+}
+
+/// Whether two lists of the parts that messages begin with are the same.
+fn are_same_parts(alloc: Global, first: &[u8], second: &[u8]) -> Answer {
+    match (parts_of(alloc, first), parts_of(alloc, second)) {
+        (Ok(first), Ok(second)) => yes_or_no(alloc, first == second),
+        (Err(error), _) | (_, Err(error)) => fault(alloc, error),
+    }
+}
+
+fn parts_of(alloc: Global, item: &[u8]) -> Result<Parts, CoseError> {
+    match three(Value::from_slice(alloc, item)?.try_as_array()?) {
+        Some((protected, unprotected, content)) => {
+            read_parts(
+                alloc,
+                protected,
+                unprotected,
+                content,
+                Limits::default(),
+                "bstr",
+            )
+        }
+        None => Err(CoseError::UnexpectedItem("array", "array with 3 items")),
+    }
+}
+
 /// Whether what two items are read as is the same.
-pub fn are_same<T: CborSerializable + PartialEq>(
-    alloc: Global,
-    first: &[u8],
-    second: &[u8],
-) -> Answer {
+fn are_same<T: CborSerializable + PartialEq>(alloc: Global, first: &[u8], second: &[u8]) -> Answer {
     match both::<T>(alloc, first, second) {
         Ok((first, second)) => yes_or_no(alloc, first == second),
         Err(error) => fault(alloc, error),

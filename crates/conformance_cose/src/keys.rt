@@ -1,18 +1,27 @@
 //! Keys, their order and their points.
-use crate::answers::{Answer, NoAnswer, bytes, fault, made, number, plain, shown};
+use crate::answers::{Answer, NoAnswer, bytes, fault, made, number, plain, shown, yes_or_no};
 use coset::iana::{Algorithm, EllipticCurve, EnumI64};
 use coset::{CborOrdering, CborSerializable, CoseError, CoseKey, CoseKeyBuilder, MlDsaVariant};
 use std::alloc::Global;
 
+/// The order with this name.
+fn order(name: &str) -> Result<CborOrdering, NoAnswer> {
+    match name {
+        "bytewise" => Ok(CborOrdering::Lexicographic),
+        "length-first" => Ok(CborOrdering::LengthFirstLexicographic),
+        _ => Err(NoAnswer::NoArgument),
+    }
+}
+
+/// Whether two orders are the same.
+pub fn are_same_orders(alloc: Global, first: &str, second: &str) -> Answer {
+    yes_or_no(alloc, order(first)? == order(second)?)
+}
+
 /// A key with its params in canonical order.
 pub fn canonical(alloc: Global, ordering: &str, key: &str) -> Answer {
     let key = bytes(alloc, key)?;
-    let ordering = match ordering {
-        "bytewise" => CborOrdering::Lexicographic,
-        "length-first" => CborOrdering::LengthFirstLexicographic,
-        _ => return Err(NoAnswer::NoArgument),
-    };
-    made(alloc, sorted(alloc, &key, ordering))
+    made(alloc, sorted(alloc, &key, order(ordering)?))
 }
 
 fn sorted(alloc: Global, key: &[u8], ordering: CborOrdering) -> Result<Vec<u8>, CoseError> {
@@ -111,6 +120,11 @@ fn variant(text: &str) -> Result<MlDsaVariant, NoAnswer> {
         "87" => Ok(MlDsaVariant::MlDsa87),
         _ => Err(NoAnswer::NoArgument),
     }
+}
+
+/// Whether two variants of ML-DSA are the same.
+pub fn are_same_variants(alloc: Global, first: &str, second: &str) -> Answer {
+    yes_or_no(alloc, variant(first)? == variant(second)?)
 }
 
 /// A public key of ML-DSA.

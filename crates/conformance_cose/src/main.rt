@@ -5,8 +5,10 @@
 mod answers;
 mod calls;
 mod errors;
+mod exact;
 mod items;
 mod keys;
+mod limits;
 mod messages;
 mod parts;
 mod protected;

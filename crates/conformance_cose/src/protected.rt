@@ -30,7 +30,8 @@ fn copied(alloc: Global, header: ProtectedHeader) -> Answer {
     made(alloc, encoded(alloc, copy))
 }
 
-fn encoded(alloc: Global, header: ProtectedHeader) -> Result<Vec<u8>, CoseError> {
+/// The byte string that a protected header is written as.
+pub fn encoded(alloc: Global, header: ProtectedHeader) -> Result<Vec<u8>, CoseError> {
     let value = header.cbor_bstr(alloc)?;
     write_to_vec(alloc, &value)
 }

@@ -1,5 +1,5 @@
 //! The structures that signatures, tags and encryptions cover. A context is named by its text.
-use crate::answers::{Answer, NoAnswer, bytes, made, shown};
+use crate::answers::{Answer, NoAnswer, bytes, made, shown, yes_or_no};
 use crate::protected::read;
 use coset::{
     CoseError, EncryptionContext, MacContext, SignatureContext, bytes_title, enc_structure_data,
@@ -33,6 +33,20 @@ fn encryption_context(text: &str) -> Result<EncryptionContext, NoAnswer> {
         "Rec_Recipient" => Ok(EncryptionContext::RecRecipient),
         _ => Err(NoAnswer::NoArgument),
     }
+}
+
+/// Whether two contexts of one kind are the same.
+pub fn are_same(alloc: Global, first: &str, second: &str) -> Answer {
+    if let Ok(first) = signature_context(first) {
+        return yes_or_no(alloc, first == signature_context(second)?);
+    }
+    if let Ok(first) = mac_context(first) {
+        return yes_or_no(alloc, first == mac_context(second)?);
+    }
+    yes_or_no(
+        alloc,
+        encryption_context(first)? == encryption_context(second)?,
+    )
 }
 
 /// A Sig_structure. The signer's protected header is `none` where there is no signer.

@@ -1,15 +1,33 @@
 //! Calls by their names.
 use crate::answers::Answer;
-use crate::{gating, judging, program, streaming, uses, words};
+use crate::gating::Way;
+use crate::{cutting, gating, judging, program, streaming, uses, words};
 use std::alloc::Global;
 
 /// What the call answers that the first word names.
 pub fn answer(alloc: Global, row: &[&str]) -> Answer {
     match row {
-        ["gate", input, aad] => gating::run(alloc, input, aad, None),
+        ["cut", place, row @ ..] => cutting::answers(alloc, place, row),
+        _ => uncut(alloc, row),
+    }
+}
+
+/// What the call answers, with its input whole.
+pub fn uncut(alloc: Global, row: &[&str]) -> Answer {
+    match row {
+        ["gate", input, aad] => gating::run(alloc, Way::Plain, input, aad, None),
         ["gate", input, aad, no] => {
             let no = words::bytes(alloc, no)?;
-            gating::run(alloc, input, aad, Some(no))
+            gating::run(alloc, Way::Plain, input, aad, Some(no))
+        }
+        ["gate-with", nesting, layers, input, aad] => {
+            let limits = words::limits(nesting, layers)?;
+            gating::run(alloc, Way::Within(limits), input, aad, None)
+        }
+        ["gate-strict", input, aad] => gating::run(alloc, Way::Strict, input, aad, None),
+        ["gate-strict-with", nesting, layers, input, aad] => {
+            let limits = words::limits(nesting, layers)?;
+            gating::run(alloc, Way::StrictWithin(limits), input, aad, None)
         }
         ["gate-again", input, aad] => gating::run_again(alloc, input, aad),
         ["gate-room", room, input] => gating::run_in_room(alloc, room, input),

@@ -2,8 +2,8 @@
 use crate::answers::{Answer, append, in_hex};
 use crate::words;
 use cose_gate::{
-    Asked, Counts, Decoder, End, Entry, GateFault, Mem, Recorder, Refusal, Report, Silent, Verdict,
-    Write, gate,
+    Asked, Counts, Decoder, End, Entry, GateFault, Limits, Mem, Recorder, Refusal, Report, Silent,
+    Verdict, Write, gate, gate_strict, gate_strict_with, gate_with,
 };
 use std::alloc::{AllocError, Global};
 
@@ -23,14 +23,44 @@ fn gated<W: Write, P: Report>(
     gate(alloc, &mut decoder, out, report, aad, judge)
 }
 
+/// As `gated`, within limits where there are some, and strict where it is asked.
+fn gated_by<W: Write, P: Report>(
+    alloc: Global,
+    way: Way,
+    input: &[u8],
+    aad: &[u8],
+    out: &mut W,
+    report: &mut P,
+    judge: &mut Recorder,
+) -> Ended {
+    let mut decoder = Decoder::from(input);
+    match way {
+        Way::Plain => gate(alloc, &mut decoder, out, report, aad, judge),
+        Way::Within(limits) => gate_with(alloc, limits, &mut decoder, out, report, aad, judge),
+        Way::Strict => gate_strict(alloc, &mut decoder, out, report, aad, judge),
+        Way::StrictWithin(limits) => {
+            gate_strict_with(alloc, limits, &mut decoder, out, report, aad, judge)
+        }
+    }
+}
+
+/// By which call a run goes.
+#[derive(Clone, Copy)]
+pub enum Way {
+    Plain,
+    Within(Limits),
+    Strict,
+    StrictWithin(Limits),
+}
+
 /// A run over this input with this external data, where the judge says no to this signature alone: its questions, its output, what was
 /// noted of each item, and how it ended.
-pub fn run(alloc: Global, input: &str, aad: &str, no: Option<Vec<u8>>) -> Answer {
+pub fn run(alloc: Global, way: Way, input: &str, aad: &str, no: Option<Vec<u8>>) -> Answer {
     let (input, aad) = (words::bytes(alloc, input)?, words::bytes(alloc, aad)?);
     let mut judge = Recorder::new(alloc, no);
     let mut out = Mem::new(Vec::new(alloc));
     let mut entries = Vec::new(alloc);
-    let ended = gated(alloc, &input, &aad, &mut out, &mut entries, &mut judge);
+    let ended = gated_by(alloc, way, &input, &aad, &mut out, &mut entries, &mut judge);
     let mut text = questions(alloc, judge.asked())?;
     add_output(alloc, &mut text, out.as_written())?;
     add_entries(alloc, &mut text, entries.as_slice())?;

@@ -5,6 +5,7 @@
 mod answers;
 mod calls;
 mod checking;
+mod cutting;
 mod gating;
 mod heads;
 mod items;

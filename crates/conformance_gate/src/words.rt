@@ -1,5 +1,6 @@
 //! Words of a row: arguments of a call.
 use crate::answers::NoAnswer;
+use cose_gate::Limits;
 use std::alloc::Global;
 
 /// The bytes that a word is in hex. `-` is none.
@@ -25,4 +26,9 @@ pub fn optional(alloc: Global, word: &str) -> Result<Option<Vec<u8>>, NoAnswer> 
 /// The number that a word is.
 pub fn number(word: &str) -> Result<usize, NoAnswer> {
     word.parse::<usize>().map_err(|_| NoAnswer::NoNumber)
+}
+
+/// The limits that two words are.
+pub fn limits(nesting: &str, layers: &str) -> Result<Limits, NoAnswer> {
+    Limits::new(number(nesting)?, number(layers)?).ok_or(NoAnswer::NoNumber)
 }

@@ -4,7 +4,7 @@ use Rattle.std.specs.Prelude.{Result, Ok, Err, IfOk, IfErr}
 use Rattle.std.specs.Io.KnownBytes.{Appends}
 use Rattle.std.proofs.lemmas.Grind.{flat_map-append}
 use Rattle.ciborium.specs.Damage.{Fault, Damage}
-use Rattle.ciborium.specs.Items.{Item, IsUnreadable, nesting}
+use Rattle.ciborium.specs.Items.{Item, IsUnreadableWithin}
 use Rattle.ciborium.specs.Reading.{IfKnown}
 use Rattle.ciborium.specs.declared.de.Error.{Error}
 use Rattle.ciborium.specs.declared.de.Error.TheVariants as de
@@ -19,8 +19,8 @@ use Rattle.cose_gate_laws.specs.GateCore.declared.gating.GateFault.TheVariants.{
 use Rattle.cose_gate_laws.proofs.Within.{Twin, Twins, Within, Split, course_within, unreadable_ends, nothing_unreadable, twins_questions, twins_output, twins_entries, twins_count, twins_split, place_behind}
 use Rattle.cose_gate.specs.Gate.{IfThrough, IfWrite, IfMemory, StopsAt, Noted, AskedFront, NotedFront, WrittenFront, Torn, Refused, AsksAll, WritesAll, NotesAll, CountsAll, Stops, AsksFront, NotesFront, WritesFront, Tears, WritesWhole, HoldsNoMemory}
 
-damaged : (stop : ℕ) (more : List ℕ) (f : Fault) → Damage stop more nesting f → IsUnreadable more
-damaged stop more f d v rest w = excludes stop more nesting f d v rest w
+damaged : (n stop : ℕ) (more : List ℕ) (f : Fault) → Damage stop more n f → IsUnreadableWithin n more
+damaged n stop more f d v rest w = excludes stop more n f d v rest w
 
 front_of : {A : Type 0} (all xs ys : List A) → all ≡ xs ++ ys → IsFront xs all
 front_of all xs ys e = record { more = ys; whole = e }
@@ -76,7 +76,7 @@ module _ {T S : Type 0} (rules : Rules T S) where
       within_of cs more c = course_within rules.limits rules.allows rules.aad old.offset b cs ss more rest c run
 
       -- no readable item begins in what is left: the run ends there too
-      full : (cs : List Step) (more : List ℕ) → Course rules.limits rules.allows rules.aad old.offset b cs more → IsUnreadable more → Pair cs ss × (rest ≡ more)
+      full : (cs : List Step) (more : List ℕ) → Course rules.limits rules.allows rules.aad old.offset b cs more → IsUnreadableWithin rules.limits.nesting more → Pair cs ss × (rest ≡ more)
       full cs more c u =
           let w = within_of cs more c in
           let e = unreadable_ends rules.limits rules.allows rules.aad w.place more rest w.behind u w.left in
@@ -85,12 +85,12 @@ module _ {T S : Type 0} (rules : Rules T S) where
       begun : (cs : List Step) (more : List ℕ) → Course rules.limits rules.allows rules.aad old.offset b cs more → Made rules old new cs → Begun ss more rest
       begun cs more c m = let w = within_of cs more c in record { made = cs; front = w.front; behind = w.behind; whole = w.whole; twins = w.twins; all = m }
 
-      ended : (cs : List Step) (more : List ℕ) → Course rules.limits rules.allows rules.aad old.offset b cs more → Made rules old new cs → IsUnreadable more → Ended ss
+      ended : (cs : List Step) (more : List ℕ) → Course rules.limits rules.allows rules.aad old.offset b cs more → Made rules old new cs → IsUnreadableWithin rules.limits.nesting more → Ended ss
       ended cs more c m u = record { made = cs; twins = (full cs more c u).0; all = m }
 
       module _ {E : Type 0} (ends : E → Bool) where
-        fault_here : (more : List ℕ) (e : Error E) → IfKnown old.left (λ a. IsFaultOf ends (old.offset + length a) more e) → IsFaultOf ends (old.offset + length b) more e
-        fault_here more e f = subst (λ (l : Option (List ℕ)). IfKnown l (λ a. IsFaultOf ends (old.offset + length a) more e)) is f
+        fault_here : (more : List ℕ) (e : Error E) → IfKnown old.left (λ a. IsFaultOf ends rules.limits.nesting (old.offset + length a) more e) → IsFaultOf ends rules.limits.nesting (old.offset + length b) more e
+        fault_here more e f = subst (λ (l : Option (List ℕ)). IfKnown l (λ a. IsFaultOf ends rules.limits.nesting (old.offset + length a) more e)) is f
 
         here : (r : Result Counts (GateFault E)) → Answers ends rules old new r → Outcome ends rules old new b r
         here r a =
@@ -99,34 +99,34 @@ module _ {T S : Type 0} (rules : Rules T S) where
 
         through : (r : Result Counts (GateFault E)) → Outcome ends rules old new b r → IfThrough ends r (Ended ss)
         through (Ok counts) o = ended o.steps [] o.course o.made (nothing_unreadable rules.limits rules.allows rules.aad [] refl)
-        through (Err (Decode (de.Io e))) o = λ t. ended o.steps o.more o.course o.made (damaged _ o.more _ (fault_here o.more (de.Io e) o.fault t).0)
-        through (Err (Decode (de.Syntax p))) o = ended o.steps o.more o.course o.made (damaged _ o.more _ (fault_here o.more (de.Syntax p) o.fault))
-        through (Err (Decode (de.Semantic q k))) o = ended o.steps o.more o.course o.made (damaged _ o.more _ (fault_here o.more (de.Semantic q k) o.fault).1)
-        through (Err (Decode de.RecursionLimitExceeded)) o = ended o.steps o.more o.course o.made (damaged _ o.more _ (fault_here o.more de.RecursionLimitExceeded o.fault))
+        through (Err (Decode (de.Io e))) o = λ t. ended o.steps o.more o.course o.made (damaged _ _ o.more _ (fault_here o.more (de.Io e) o.fault t).0)
+        through (Err (Decode (de.Syntax p))) o = ended o.steps o.more o.course o.made (damaged _ _ o.more _ (fault_here o.more (de.Syntax p) o.fault))
+        through (Err (Decode (de.Semantic q k))) o = ended o.steps o.more o.course o.made (damaged _ _ o.more _ (fault_here o.more (de.Semantic q k) o.fault).1)
+        through (Err (Decode de.RecursionLimitExceeded)) o = ended o.steps o.more o.course o.made (damaged _ _ o.more _ (fault_here o.more de.RecursionLimitExceeded o.fault))
         through (Err (Decode de.Memory)) o = tt
         through (Err (Decode de.TooLong)) o = tt
         through (Err Write) o = tt
         through (Err Memory) o = tt
 
         -- the place where it stops
-        rest_at : (cs : List Step) (more : List ℕ) (e : Error E) → Course rules.limits rules.allows rules.aad old.offset b cs more → IsUnreadable more
-            → IsFaultOf ends (old.offset + length b) more e → IsFaultOf ends (old.offset + length b) rest e
-        rest_at cs more e c u f = subst (λ (z : List ℕ). IsFaultOf ends (old.offset + length b) z e) (sym (full cs more c u).1) f
+        rest_at : (cs : List Step) (more : List ℕ) (e : Error E) → Course rules.limits rules.allows rules.aad old.offset b cs more → IsUnreadableWithin rules.limits.nesting more
+            → IsFaultOf ends rules.limits.nesting (old.offset + length b) more e → IsFaultOf ends rules.limits.nesting (old.offset + length b) rest e
+        rest_at cs more e c u f = subst (λ (z : List ℕ). IsFaultOf ends rules.limits.nesting (old.offset + length b) z e) (sym (full cs more c u).1) f
 
-        stops : (r : Result Counts (GateFault E)) → Outcome ends rules old new b r → StopsAt ends old.offset new.offset b rest r
+        stops : (r : Result Counts (GateFault E)) → Outcome ends rules old new b r → StopsAt ends rules.limits.nesting old.offset new.offset b rest r
         stops (Ok counts) o = ((full o.steps [] o.course (nothing_unreadable rules.limits rules.allows rules.aad [] refl)).1, o.grown)
         stops (Err (Decode (de.Io e))) o = λ t.
             let f = fault_here o.more (de.Io e) o.fault in
-            rest_at o.steps o.more (de.Io e) o.course (damaged _ o.more _ (f t).0) f t
+            rest_at o.steps o.more (de.Io e) o.course (damaged _ _ o.more _ (f t).0) f t
         stops (Err (Decode (de.Syntax p))) o =
             let f = fault_here o.more (de.Syntax p) o.fault in
-            rest_at o.steps o.more (de.Syntax p) o.course (damaged _ o.more _ f) f
+            rest_at o.steps o.more (de.Syntax p) o.course (damaged _ _ o.more _ f) f
         stops (Err (Decode (de.Semantic q k))) o =
             let f = fault_here o.more (de.Semantic q k) o.fault in
-            rest_at o.steps o.more (de.Semantic q k) o.course (damaged _ o.more _ f.1) f
+            rest_at o.steps o.more (de.Semantic q k) o.course (damaged _ _ o.more _ f.1) f
         stops (Err (Decode de.RecursionLimitExceeded)) o =
             let f = fault_here o.more de.RecursionLimitExceeded o.fault in
-            rest_at o.steps o.more de.RecursionLimitExceeded o.course (damaged _ o.more _ f) f
+            rest_at o.steps o.more de.RecursionLimitExceeded o.course (damaged _ _ o.more _ f) f
         stops (Err (Decode de.Memory)) o = fault_here o.more de.Memory o.fault
         stops (Err (Decode de.TooLong)) o = fault_here o.more de.TooLong o.fault
         stops (Err Write) o = tt

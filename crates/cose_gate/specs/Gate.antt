@@ -8,7 +8,7 @@ use Rattle.ciborium_ll.specs.declared.write.Write.{Ghosts as Writes}
 use Rattle.ciborium.specs.Reading.{IsNoMemory}
 use Rattle.ciborium.specs.declared.de.Error.TheVariants as de
 use Rattle.cose_gate_laws.specs.GateCore.Asked.{folded_over, IsFront}
-use Rattle.cose_gate_laws.specs.GateCore.Findings.{usual}
+use Rattle.cose_gate_laws.specs.GateCore.Findings.{Limits, usual}
 use Rattle.cose_gate_laws.specs.GateCore.Outcome.{Rules, Sight, IsFaultOf}
 use Rattle.cose_gate_laws.specs.GateCore.Questions.{Question}
 use Rattle.cose_gate_laws.specs.GateCore.Run.{Step, Run, passes, text_of, questions_of, output_of, passed_count, refused_count}
@@ -21,8 +21,12 @@ use Rattle.cose_gate_laws.specs.GateCore.declared.judge.Judge.{Ghosts as Judges}
 use Rattle.cose_gate_laws.specs.Anew.{AreEntries}
 
 -- what a call of the gate goes by; `P.Report` and `J.Judge` are the words that the bounds of its report and its judge bring
+abbrev pub rules_by : {P J : Type 0} → Limits → (p : Reports P) (j : Judges J) → J → List ℕ → Rules j.Told p.State
+rules_by limits p j judge aad = record { limits = limits; decided = j.decided; folded = p.folded; allows = j.yes (j.who judge); aad = aad }
+
+-- where no limits are chosen
 abbrev pub rules_of : {P J : Type 0} (p : Reports P) (j : Judges J) → J → List ℕ → Rules j.Told p.State
-rules_of p j judge aad = record { limits = usual; decided = j.decided; folded = p.folded; allows = j.yes (j.who judge); aad = aad }
+rules_of p j judge aad = rules_by usual p j judge aad
 
 -- what is seen of the decoder, the writer, the report and the judge
 abbrev pub sight_of : {R E W F P J : Type 0} (r : Reads R E) (w : Writes W F) (p : Reports P) (j : Judges J) → Decoder R → W → P → J → Sight j.Told p.State
@@ -107,11 +111,11 @@ pub record Refused {T S : Type 0} (rules : Rules T S) (old new : Sight T S) (ss 
   pub written : Appends old.written new.written (output_of rules.allows rules.aad texts)
 
 -- where the gate stops: Ok exactly where nothing is left behind the items, with all bytes taken; else with the fault of what is left
-abbrev pub StopsAt : {E : Type 0} → (E → Bool) → ℕ → ℕ → List ℕ → List ℕ → Result Counts (GateFault E) → Type 0
-StopsAt ends at at' b rest (Ok counts) = (rest ≡ []) × (at' ≡ at + length b)
-StopsAt ends at at' b rest (Err (Decode e)) = IsFaultOf ends (at + length b) rest e
-StopsAt ends at at' b rest (Err Write) = Unit {0}
-StopsAt ends at at' b rest (Err Memory) = Unit {0}
+abbrev pub StopsAt : {E : Type 0} → (E → Bool) → ℕ → ℕ → ℕ → List ℕ → List ℕ → Result Counts (GateFault E) → Type 0
+StopsAt ends n at at' b rest (Ok counts) = (rest ≡ []) × (at' ≡ at + length b)
+StopsAt ends n at at' b rest (Err (Decode e)) = IsFaultOf ends n (at + length b) rest e
+StopsAt ends n at at' b rest (Err Write) = Unit {0}
+StopsAt ends n at at' b rest (Err Memory) = Unit {0}
 
 -- P holds where the writer failed, and where memory was refused
 abbrev pub IfWrite : {E : Type 0} → Result Counts (GateFault E) → Type 0 → Type 0
@@ -148,7 +152,7 @@ CountsAll rules old r =
 
 -- where it stops
 abbrev pub Stops : {T S E : Type 0} → (E → Bool) → Rules T S → Sight T S → Sight T S → Result Counts (GateFault E) → Type 0
-Stops ends rules old new r = OverRun rules old (λ b ss rest. StopsAt ends old.offset new.offset b rest r)
+Stops ends rules old new r = OverRun rules old (λ b ss rest. StopsAt ends rules.limits.nesting old.offset new.offset b rest r)
 
 -- after any fault: a beginning was asked, noted and written
 abbrev pub AsksFront : {T S E : Type 0} → Rules T S → Sight T S → Sight T S → Result Counts (GateFault E) → Type 0

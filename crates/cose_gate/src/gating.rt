@@ -1,11 +1,13 @@
 //! The gate.
 ghost use Rattle.std.specs.Prelude.{◌≡◌, ◌+◌, ◌<◌, ◌^◌, [], Some, None, IsOk, IfErr};
 ghost use Rattle.ciborium_ll.specs.Views.{left_of, offset_of, waiting_of, reader_of};
+ghost use Rattle.cose_gate_laws.specs.GateCore.CodeLimits.{nesting_of, layers_of};
+ghost use Rattle.cose_gate_laws.specs.GateCore.Findings.{plain, only_exact};
 ghost use Rattle.cose_gate_laws.specs.GateCore.Outcome.{Answers, reader_failures, writer_failures};
-ghost use Rattle.cose_gate.specs.Gate.{rules_of, sight_of, AsksAll, WritesAll, NotesAll, CountsAll, Stops, AsksFront, NotesFront, WritesFront, Tears, WritesWhole, HoldsNoMemory};
+ghost use Rattle.cose_gate.specs.Gate.{rules_of, rules_by, sight_of, AsksAll, WritesAll, NotesAll, CountsAll, Stops, AsksFront, NotesFront, WritesFront, Tears, WritesWhole, HoldsNoMemory};
 
 use ciborium_ll::{Decoder, Read, Write};
-use cose_gate_laws::gate_core::{Counts, GateFault, Judge, Report};
+use cose_gate_laws::gate_core::{Counts, GateFault, Judge, Limits, Report};
 use std::alloc::Global;
 
 /// Asks the judge about each tagged COSE_Sign1, COSE_Mac0, COSE_Sign and COSE_Mac of a CBOR sequence that carries its payload, over
@@ -84,4 +86,204 @@ pub fn gate<R: Read, W: Write, P: Report, J: Judge>(
         (sight_of R.Read W.Write P.Report J.Judge decoder.new out.new report.new judge.new) result }
 {
     cose_gate_laws::gate_core::gate(alloc, decoder, out, report, aad, judge)
+}
+
+/// As `gate`, within these limits: items, and anew those in protected headers, nest no deeper than `limits.nesting()` levels, and no more
+/// than `limits.layers()` protected headers lie inside one another. One whose headers go beyond is no message: `Shape`.
+pub fn gate_with<R: Read, W: Write, P: Report, J: Judge>(
+    alloc: Global,
+    limits: Limits,
+    decoder: &mut Decoder<R>,
+    out: &mut W,
+    report: &mut P,
+    aad: &[u8],
+    judge: &mut J,
+) -> Result<Counts, GateFault<R::Error>>
+    // Where neither device fails, memory is found and offsets fit: the run's questions, its output, and an entry for each item.
+    ensures asked { AsksAll R.ends (rules_by (plain (nesting_of limits) (layers_of limits)) P.Report J.Judge judge.old aad.now)
+        (sight_of R.Read W.Write P.Report J.Judge decoder.old out.old report.old judge.old)
+        (sight_of R.Read W.Write P.Report J.Judge decoder.new out.new report.new judge.new) result }
+    ensures written { WritesAll R.ends (rules_by (plain (nesting_of limits) (layers_of limits)) P.Report J.Judge judge.old aad.now)
+        (sight_of R.Read W.Write P.Report J.Judge decoder.old out.old report.old judge.old)
+        (sight_of R.Read W.Write P.Report J.Judge decoder.new out.new report.new judge.new) result }
+    ensures noted { NotesAll R.ends (rules_by (plain (nesting_of limits) (layers_of limits)) P.Report J.Judge judge.old aad.now)
+        (sight_of R.Read W.Write P.Report J.Judge decoder.old out.old report.old judge.old)
+        (sight_of R.Read W.Write P.Report J.Judge decoder.new out.new report.new judge.new) result }
+    ensures counted { CountsAll (rules_by (plain (nesting_of limits) (layers_of limits)) P.Report J.Judge judge.old aad.now)
+        (sight_of R.Read W.Write P.Report J.Judge decoder.old out.old report.old judge.old) result }
+    ensures stops { Stops R.ends (rules_by (plain (nesting_of limits) (layers_of limits)) P.Report J.Judge judge.old aad.now)
+        (sight_of R.Read W.Write P.Report J.Judge decoder.old out.old report.old judge.old)
+        (sight_of R.Read W.Write P.Report J.Judge decoder.new out.new report.new judge.new) result }
+
+    // After a fault: beginnings of these.
+    ensures asked_front { AsksFront (rules_by (plain (nesting_of limits) (layers_of limits)) P.Report J.Judge judge.old aad.now)
+        (sight_of R.Read W.Write P.Report J.Judge decoder.old out.old report.old judge.old)
+        (sight_of R.Read W.Write P.Report J.Judge decoder.new out.new report.new judge.new) result }
+    ensures noted_front { NotesFront (rules_by (plain (nesting_of limits) (layers_of limits)) P.Report J.Judge judge.old aad.now)
+        (sight_of R.Read W.Write P.Report J.Judge decoder.old out.old report.old judge.old)
+        (sight_of R.Read W.Write P.Report J.Judge decoder.new out.new report.new judge.new) result }
+    ensures written_front { WritesFront (rules_by (plain (nesting_of limits) (layers_of limits)) P.Report J.Judge judge.old aad.now)
+        (sight_of R.Read W.Write P.Report J.Judge decoder.old out.old report.old judge.old)
+        (sight_of R.Read W.Write P.Report J.Judge decoder.new out.new report.new judge.new) result }
+    ensures torn { Tears (rules_by (plain (nesting_of limits) (layers_of limits)) P.Report J.Judge judge.old aad.now)
+        (sight_of R.Read W.Write P.Report J.Judge decoder.old out.old report.old judge.old)
+        (sight_of R.Read W.Write P.Report J.Judge decoder.new out.new report.new judge.new) result }
+    ensures texts { WritesWhole (rules_by (plain (nesting_of limits) (layers_of limits)) P.Report J.Judge judge.old aad.now)
+        (sight_of R.Read W.Write P.Report J.Judge decoder.old out.old report.old judge.old)
+        (sight_of R.Read W.Write P.Report J.Judge decoder.new out.new report.new judge.new) result }
+
+    // Which fault it is.
+    ensures no_memory { IfErr result HoldsNoMemory }
+    ensures nothing { left_of R.left decoder.old ≡ Some [] → R.failed (reader_of decoder.new) ≡ R.failed (reader_of decoder.old)
+        → offset_of decoder.old + 4096 < 2 ^ 64 → IsOk result }
+    ensures reader { R.failed (reader_of decoder.new) ≡ R.failed (reader_of decoder.old) + reader_failures R.ends result }
+    ensures writer { W.failed out.new ≡ W.failed out.old + writer_failures result }
+
+    // What stays, and how the decoder stands.
+    ensures who { J.who judge.new ≡ J.who judge.old }
+    ensures kept { R.handle (reader_of decoder.new) ≡ R.handle (reader_of decoder.old) }
+    ensures lent { W.handle out.new ≡ W.handle out.old }
+    ensures fits { offset_of decoder.new < 2 ^ 64 }
+    ensures fresh { waiting_of decoder.new ≡ None }
+
+    // All of it by the answer, also over a reader that doesn't tell which bytes are to come.
+    ensures ran { Answers R.ends (rules_by (plain (nesting_of limits) (layers_of limits)) P.Report J.Judge judge.old aad.now)
+        (sight_of R.Read W.Write P.Report J.Judge decoder.old out.old report.old judge.old)
+        (sight_of R.Read W.Write P.Report J.Judge decoder.new out.new report.new judge.new) result }
+{
+    cose_gate_laws::gate_core::gate_with(alloc, limits, decoder, out, report, aad, judge)
+}
+
+/// As `gate`, and strict: a message passes only where its item is already the text that would be written for it (RFC 8949, section 4.1, with
+/// the fields of headers in fixed order). One that is spelled otherwise is refused as `NotShortest`, and the judge isn't asked about it. So
+/// the output is the received bytes of the messages that pass, joined: the law `output_is_received`. No header may wait in the decoder. No
+/// copy of an item's bytes is kept.
+pub fn gate_strict<R: Read, W: Write, P: Report, J: Judge>(
+    alloc: Global,
+    decoder: &mut Decoder<R>,
+    out: &mut W,
+    report: &mut P,
+    aad: &[u8],
+    judge: &mut J,
+) -> Result<Counts, GateFault<R::Error>>
+    requires { waiting_of decoder.old ≡ None }
+    // Where neither device fails, memory is found and offsets fit: the run's questions, its output, and an entry for each item.
+    ensures asked { AsksAll R.ends (rules_by (only_exact 256 16) P.Report J.Judge judge.old aad.now)
+        (sight_of R.Read W.Write P.Report J.Judge decoder.old out.old report.old judge.old)
+        (sight_of R.Read W.Write P.Report J.Judge decoder.new out.new report.new judge.new) result }
+    ensures written { WritesAll R.ends (rules_by (only_exact 256 16) P.Report J.Judge judge.old aad.now)
+        (sight_of R.Read W.Write P.Report J.Judge decoder.old out.old report.old judge.old)
+        (sight_of R.Read W.Write P.Report J.Judge decoder.new out.new report.new judge.new) result }
+    ensures noted { NotesAll R.ends (rules_by (only_exact 256 16) P.Report J.Judge judge.old aad.now)
+        (sight_of R.Read W.Write P.Report J.Judge decoder.old out.old report.old judge.old)
+        (sight_of R.Read W.Write P.Report J.Judge decoder.new out.new report.new judge.new) result }
+    ensures counted { CountsAll (rules_by (only_exact 256 16) P.Report J.Judge judge.old aad.now)
+        (sight_of R.Read W.Write P.Report J.Judge decoder.old out.old report.old judge.old) result }
+    ensures stops { Stops R.ends (rules_by (only_exact 256 16) P.Report J.Judge judge.old aad.now)
+        (sight_of R.Read W.Write P.Report J.Judge decoder.old out.old report.old judge.old)
+        (sight_of R.Read W.Write P.Report J.Judge decoder.new out.new report.new judge.new) result }
+
+    // After a fault: beginnings of these.
+    ensures asked_front { AsksFront (rules_by (only_exact 256 16) P.Report J.Judge judge.old aad.now)
+        (sight_of R.Read W.Write P.Report J.Judge decoder.old out.old report.old judge.old)
+        (sight_of R.Read W.Write P.Report J.Judge decoder.new out.new report.new judge.new) result }
+    ensures noted_front { NotesFront (rules_by (only_exact 256 16) P.Report J.Judge judge.old aad.now)
+        (sight_of R.Read W.Write P.Report J.Judge decoder.old out.old report.old judge.old)
+        (sight_of R.Read W.Write P.Report J.Judge decoder.new out.new report.new judge.new) result }
+    ensures written_front { WritesFront (rules_by (only_exact 256 16) P.Report J.Judge judge.old aad.now)
+        (sight_of R.Read W.Write P.Report J.Judge decoder.old out.old report.old judge.old)
+        (sight_of R.Read W.Write P.Report J.Judge decoder.new out.new report.new judge.new) result }
+    ensures torn { Tears (rules_by (only_exact 256 16) P.Report J.Judge judge.old aad.now)
+        (sight_of R.Read W.Write P.Report J.Judge decoder.old out.old report.old judge.old)
+        (sight_of R.Read W.Write P.Report J.Judge decoder.new out.new report.new judge.new) result }
+    ensures texts { WritesWhole (rules_by (only_exact 256 16) P.Report J.Judge judge.old aad.now)
+        (sight_of R.Read W.Write P.Report J.Judge decoder.old out.old report.old judge.old)
+        (sight_of R.Read W.Write P.Report J.Judge decoder.new out.new report.new judge.new) result }
+
+    // Which fault it is.
+    ensures no_memory { IfErr result HoldsNoMemory }
+    ensures nothing { left_of R.left decoder.old ≡ Some [] → R.failed (reader_of decoder.new) ≡ R.failed (reader_of decoder.old)
+        → offset_of decoder.old + 4096 < 2 ^ 64 → IsOk result }
+    ensures reader { R.failed (reader_of decoder.new) ≡ R.failed (reader_of decoder.old) + reader_failures R.ends result }
+    ensures writer { W.failed out.new ≡ W.failed out.old + writer_failures result }
+
+    // What stays, and how the decoder stands.
+    ensures who { J.who judge.new ≡ J.who judge.old }
+    ensures kept { R.handle (reader_of decoder.new) ≡ R.handle (reader_of decoder.old) }
+    ensures lent { W.handle out.new ≡ W.handle out.old }
+    ensures fits { offset_of decoder.new < 2 ^ 64 }
+    ensures fresh { waiting_of decoder.new ≡ None }
+
+    // All of it by the answer, also over a reader that doesn't tell which bytes are to come.
+    ensures ran { Answers R.ends (rules_by (only_exact 256 16) P.Report J.Judge judge.old aad.now)
+        (sight_of R.Read W.Write P.Report J.Judge decoder.old out.old report.old judge.old)
+        (sight_of R.Read W.Write P.Report J.Judge decoder.new out.new report.new judge.new) result }
+{
+    cose_gate_laws::gate_core::gate_strict(alloc, decoder, out, report, aad, judge)
+}
+
+/// As `gate_strict`, within these limits.
+pub fn gate_strict_with<R: Read, W: Write, P: Report, J: Judge>(
+    alloc: Global,
+    limits: Limits,
+    decoder: &mut Decoder<R>,
+    out: &mut W,
+    report: &mut P,
+    aad: &[u8],
+    judge: &mut J,
+) -> Result<Counts, GateFault<R::Error>>
+    requires { waiting_of decoder.old ≡ None }
+    // Where neither device fails, memory is found and offsets fit: the run's questions, its output, and an entry for each item.
+    ensures asked { AsksAll R.ends (rules_by (only_exact (nesting_of limits) (layers_of limits)) P.Report J.Judge judge.old aad.now)
+        (sight_of R.Read W.Write P.Report J.Judge decoder.old out.old report.old judge.old)
+        (sight_of R.Read W.Write P.Report J.Judge decoder.new out.new report.new judge.new) result }
+    ensures written { WritesAll R.ends (rules_by (only_exact (nesting_of limits) (layers_of limits)) P.Report J.Judge judge.old aad.now)
+        (sight_of R.Read W.Write P.Report J.Judge decoder.old out.old report.old judge.old)
+        (sight_of R.Read W.Write P.Report J.Judge decoder.new out.new report.new judge.new) result }
+    ensures noted { NotesAll R.ends (rules_by (only_exact (nesting_of limits) (layers_of limits)) P.Report J.Judge judge.old aad.now)
+        (sight_of R.Read W.Write P.Report J.Judge decoder.old out.old report.old judge.old)
+        (sight_of R.Read W.Write P.Report J.Judge decoder.new out.new report.new judge.new) result }
+    ensures counted { CountsAll (rules_by (only_exact (nesting_of limits) (layers_of limits)) P.Report J.Judge judge.old aad.now)
+        (sight_of R.Read W.Write P.Report J.Judge decoder.old out.old report.old judge.old) result }
+    ensures stops { Stops R.ends (rules_by (only_exact (nesting_of limits) (layers_of limits)) P.Report J.Judge judge.old aad.now)
+        (sight_of R.Read W.Write P.Report J.Judge decoder.old out.old report.old judge.old)
+        (sight_of R.Read W.Write P.Report J.Judge decoder.new out.new report.new judge.new) result }
+
+    // After a fault: beginnings of these.
+    ensures asked_front { AsksFront (rules_by (only_exact (nesting_of limits) (layers_of limits)) P.Report J.Judge judge.old aad.now)
+        (sight_of R.Read W.Write P.Report J.Judge decoder.old out.old report.old judge.old)
+        (sight_of R.Read W.Write P.Report J.Judge decoder.new out.new report.new judge.new) result }
+    ensures noted_front { NotesFront (rules_by (only_exact (nesting_of limits) (layers_of limits)) P.Report J.Judge judge.old aad.now)
+        (sight_of R.Read W.Write P.Report J.Judge decoder.old out.old report.old judge.old)
+        (sight_of R.Read W.Write P.Report J.Judge decoder.new out.new report.new judge.new) result }
+    ensures written_front { WritesFront (rules_by (only_exact (nesting_of limits) (layers_of limits)) P.Report J.Judge judge.old aad.now)
+        (sight_of R.Read W.Write P.Report J.Judge decoder.old out.old report.old judge.old)
+        (sight_of R.Read W.Write P.Report J.Judge decoder.new out.new report.new judge.new) result }
+    ensures torn { Tears (rules_by (only_exact (nesting_of limits) (layers_of limits)) P.Report J.Judge judge.old aad.now)
+        (sight_of R.Read W.Write P.Report J.Judge decoder.old out.old report.old judge.old)
+        (sight_of R.Read W.Write P.Report J.Judge decoder.new out.new report.new judge.new) result }
+    ensures texts { WritesWhole (rules_by (only_exact (nesting_of limits) (layers_of limits)) P.Report J.Judge judge.old aad.now)
+        (sight_of R.Read W.Write P.Report J.Judge decoder.old out.old report.old judge.old)
+        (sight_of R.Read W.Write P.Report J.Judge decoder.new out.new report.new judge.new) result }
+
+    // Which fault it is.
+    ensures no_memory { IfErr result HoldsNoMemory }
+    ensures nothing { left_of R.left decoder.old ≡ Some [] → R.failed (reader_of decoder.new) ≡ R.failed (reader_of decoder.old)
+        → offset_of decoder.old + 4096 < 2 ^ 64 → IsOk result }
+    ensures reader { R.failed (reader_of decoder.new) ≡ R.failed (reader_of decoder.old) + reader_failures R.ends result }
+    ensures writer { W.failed out.new ≡ W.failed out.old + writer_failures result }
+
+    // What stays, and how the decoder stands.
+    ensures who { J.who judge.new ≡ J.who judge.old }
+    ensures kept { R.handle (reader_of decoder.new) ≡ R.handle (reader_of decoder.old) }
+    ensures lent { W.handle out.new ≡ W.handle out.old }
+    ensures fits { offset_of decoder.new < 2 ^ 64 }
+    ensures fresh { waiting_of decoder.new ≡ None }
+
+    // All of it by the answer, also over a reader that doesn't tell which bytes are to come.
+    ensures ran { Answers R.ends (rules_by (only_exact (nesting_of limits) (layers_of limits)) P.Report J.Judge judge.old aad.now)
+        (sight_of R.Read W.Write P.Report J.Judge decoder.old out.old report.old judge.old)
+        (sight_of R.Read W.Write P.Report J.Judge decoder.new out.new report.new judge.new) result }
+{
+    cose_gate_laws::gate_core::gate_strict_with(alloc, limits, decoder, out, report, aad, judge)
 }

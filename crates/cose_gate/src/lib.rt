@@ -7,10 +7,10 @@
 mod gating;
 pub mod laws;
 
-pub use crate::gating::gate;
+pub use crate::gating::{gate, gate_strict, gate_strict_with, gate_with};
 pub use cose_gate_laws::gate_core::{
     About, Algorithm, Asked, ContentType, CoseError, CoseRecipient, CoseSignature, Counts, Decoder,
-    End, Entry, Full, GateFault, Header, Io, IoFault, Judge, Kind, Label, Log, Mem,
+    End, Entry, Full, GateFault, Header, Io, IoFault, Judge, Kind, Label, Limits, Log, Mem,
     ProtectedHeader, Read, Recorder, Refusal, RegisteredLabel, RegisteredLabelWithPrivate, Report,
     SemanticKind, Silent, Verdict, Write, de,
 };

@@ -1,12 +1,16 @@
 -- Questions that are asked in order, up to the first no.
-use Rattle.std.proofs.Common.{◌≡◌, ◌≢◌, ℕ, ◌+◌, ◌<◌, suc, List, [], ◌∷◌, ◌++◌, map, drop, length, get_or, Option, Some, None, Bool, true, false, refl, sym, ap, ◌∙◌, append_assoc, append-nil, arith, drop-cons, add-one}
+use Rattle.std.proofs.Common.{◌≡◌, ◌≢◌, ℕ, ◌+◌, ◌<◌, suc, List, [], ◌∷◌, ◌++◌, map, drop, length, get_or, Option, Some, None, Bool, true, false, refl, sym, ap, ◌∙◌, append_assoc, append-nil, arith, codes, drop-cons, add-one}
 use Rattle.std.specs.Prelude.{option_map, option_and_then, Result, Ok, Err, OnErr}
 use Rattle.coset_headers.specs.Fields.{SignatureFields}
-use Rattle.coset_headers.proofs.Writable.{some_is}
-use Rattle.coset_signed.specs.Fields.{SignFields}
+use Rattle.coset_headers.specs.Written.{shown}
+use Rattle.coset_headers.proofs.Writable.{some_is, map_some, and_some}
+use Rattle.coset_maced.specs.PartsWritten.{content_bytes}
+use Rattle.coset_structures.specs.Structure.{structure}
+use Rattle.coset_signed.specs.Fields.{SignFields, signer_of}
 use Rattle.coset_signed.specs.Structure.{sign_covered}
 use Rattle.cose_gate_core.specs.Asked.{asked, first_no, folded_over, ToldFront}
 use Rattle.cose_gate_core.specs.Questions.{sign_question, sign_questions, one_question, or_nothing}
+use Rattle.cose_gate_core.specs.Received.{received_bytes, IsReceived, AreReceived}
 use Rattle.cose_gate_core.proofs.Reach.{folded_append}
 
 pub on_err : {A E P Q : Type 0} (r : Result A E) → (P → Q) → OnErr r P → OnErr r Q
@@ -78,26 +82,26 @@ pub rest_step : {A B : Type 0} (f : A → B) (xs : List A) (i : ℕ) (x : A) →
 rest_step f xs i x h e =
     ap (λ r. map f r) (drop-cons xs i x h ∙ ap (λ y. y ∷ drop (suc i) xs) (sym e) ∙ ap (λ k. x ∷ drop k xs) (sym (add-one i)))
 
--- where all structures can be written, the questions are one of each signature
-both : {A B C : Type 0} (f : A → B → C) (a : Option A) (b : Option B) → option_and_then (λ x. option_map (λ y. f x y) b) a ≢ None → (a ≢ None) × (b ≢ None)
-both f None b n = absurd (n refl)
-both f (Some x) None n = absurd (n refl)
-both f (Some x) (Some y) n = (some_is x, some_is y)
-
+-- where all protected headers have their received bytes, the questions are one of each signature
 next_and : {A Q : Type 0} (f : List A → Q) (a : Option (List A)) (b : Option (List Q)) (qs : List Q) → option_and_then (λ x. option_map (λ y. f x ∷ y) b) a ≢ None → or_nothing b ≡ qs
     → or_nothing (option_and_then (λ x. option_map (λ y. f x ∷ y) b) a) ≡ f (or_nothing a) ∷ qs
 next_and f None b qs n e = absurd (n refl)
 next_and f (Some x) None qs n e = absurd (n refl)
 next_and f (Some x) (Some y) qs n e = ap (λ z. f x ∷ z) e
 
-module _ (m : SignFields) (aad : List ℕ) where
-  pub first_covered : (s : SignatureFields) (ss : List SignatureFields) → sign_questions m aad (s ∷ ss) ≢ None → sign_covered m s aad ≢ None
-  first_covered s ss n = (both (λ covered qs. sign_question m s covered ∷ qs) (sign_covered m s aad) (sign_questions m aad ss) n).0
+module _ (m : SignFields) (aad : List ℕ) (body : IsReceived m.protected) where
+  received_covered : (s : SignatureFields) → IsReceived (signer_of s) → sign_covered m s aad ≢ None
+  received_covered s signer none =
+      let there : sign_covered m s aad ≡ Some (structure (codes "Signature") (received_bytes m.protected) (Some (received_bytes (signer_of s))) aad (content_bytes m.payload)) =
+      ap (λ o. option_and_then (λ b. option_map (λ x. structure (codes "Signature") b x aad (content_bytes m.payload)) (option_map Some (shown (signer_of s)))) o) body
+      ∙ ap (λ o. option_map (λ x. structure (codes "Signature") (received_bytes m.protected) x aad (content_bytes m.payload)) (option_map Some o)) signer in
+      some_is _ (sym there ∙ none)
 
-  pub rest_covered : (s : SignatureFields) (ss : List SignatureFields) → sign_questions m aad (s ∷ ss) ≢ None → sign_questions m aad ss ≢ None
-  rest_covered s ss n = (both (λ covered qs. sign_question m s covered ∷ qs) (sign_covered m s aad) (sign_questions m aad ss) n).1
+  received_asked : (ss : List SignatureFields) → AreReceived ss → sign_questions m aad ss ≢ None
+  received_asked [] r = some_is []
+  received_asked (s ∷ ss) r = and_some _ (sign_covered m s aad) (received_covered s r.0) (λ c. map_some _ (sign_questions m aad ss) (received_asked ss r.1))
 
-  pub each_question : (ss : List SignatureFields) → sign_questions m aad ss ≢ None → or_nothing (sign_questions m aad ss) ≡ map (one_question m aad) ss
-  each_question [] n = refl
-  each_question (s ∷ ss) n =
-      next_and (sign_question m s) (sign_covered m s aad) (sign_questions m aad ss) (map (one_question m aad) ss) n (each_question ss (rest_covered s ss n))
+  pub each_question : (ss : List SignatureFields) → AreReceived ss → or_nothing (sign_questions m aad ss) ≡ map (one_question m aad) ss
+  each_question [] r = refl
+  each_question (s ∷ ss) r =
+      next_and (sign_question m s) (sign_covered m s aad) (sign_questions m aad ss) (map (one_question m aad) ss) (received_asked (s ∷ ss) r) (each_question ss r.1)

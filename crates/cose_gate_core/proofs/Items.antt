@@ -8,7 +8,7 @@ use Rattle.ciborium_value.specs.Tree.{Tree, tag}
 use Rattle.coset_labels.specs.Faults.{fault_of}
 use Rattle.cose_gate_core.specs.Questions.{Question, MessageFields, tag_of, payload_of, questions, message_text}
 use Rattle.cose_gate_core.specs.Asked.{asked, first_no, folded_over, ToldFront}
-use Rattle.cose_gate_core.specs.Findings.{Reason, not_tagged, encrypted, other_tag, shape, detached, no_signature, judged, barred, Limits, HasMessage, IsCarried, IsUnsigned, IsJudged, IsBarred, Finds}
+use Rattle.cose_gate_core.specs.Findings.{Reason, not_tagged, encrypted, other_tag, shape, detached, no_signature, judged, barred, excluded, Limits, HasMessage, IsCarried, IsUnsigned, IsJudged, IsBarred, Finds}
 use Rattle.cose_gate_core.specs.Run.{IsVerdict, judged_by, written_of}
 use Rattle.cose_gate_core.specs.Passing.{IsRefused, WentThrough, Half, IsWriteFault, ItemFails}
 use Rattle.cose_gate_core.specs.declared.passing.ItemFault.{ItemFault}
@@ -51,7 +51,7 @@ module _ {T : Type 0} (limits : Limits) (decided : T → Question → T) (allows
   barred_as b t told w r v is says = record { finding = barred r; finds = is; verdict = says; tells = refl; writes = Appends-nil w }
 
   -- a refusal before any question
-  pub taken_barred : (b : List ℕ) (t : Tree) (told : T) (w : Option (List ℕ)) (r : Refusal) → IsRefused limits t r → WentThrough limits decided allows aad b t told told w w (Refused r)
+  pub taken_barred : (b : List ℕ) (t : Tree) (told : T) (w : Option (List ℕ)) (r : Refusal) → IsRefused limits b t r → WentThrough limits decided allows aad b t told told w w (Refused r)
   taken_barred b t told w refusal.NotTagged is = barred_as b t told w not_tagged refusal.NotTagged is refl
   taken_barred b t told w (refusal.OtherTag n) is = barred_as b t told w (other_tag n) (refusal.OtherTag n) is refl
   taken_barred b t told w refusal.Encrypted is = barred_as b t told w encrypted refusal.Encrypted is refl
@@ -59,6 +59,7 @@ module _ {T : Type 0} (limits : Limits) (decided : T → Question → T) (allows
   taken_barred b t told w refusal.Detached is = barred_as b t told w detached refusal.Detached is refl
   taken_barred b t told w refusal.NoSignature is = barred_as b t told w no_signature refusal.NoSignature is refl
   taken_barred b t told w (refusal.Judged n) is = absurd is
+  taken_barred b t told w refusal.NotShortest (m, j, x) = record { finding = excluded m refusal.NotShortest; finds = (j, x); verdict = refl; tells = refl; writes = Appends-nil w }
 
   written_no : (m : MessageFields) (i : ℕ) → Some i ≡ first_no allows (questions m aad) → written_of allows aad (judged m) ≡ []
   written_no m i e = ap (λ o. cond (is_none o) (message_text m) []) (sym e)

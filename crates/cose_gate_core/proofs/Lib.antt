@@ -1,8 +1,14 @@
+pub mod Covering
+pub mod Exactly
+pub mod HeaderKept
 pub mod InOrder
 pub mod Items
+pub mod MessageKept
 pub mod Nothing
 pub mod Outcomes
 pub mod Reach
 pub mod Unique
+pub mod Rewritten
 pub mod TagNumbers
+pub mod Widths
 pub mod Written

@@ -1,13 +1,13 @@
 -- What is answered, from how far the gate has come.
 use Rattle.std.proofs.Common.{◌≡◌, ◌⊎◌, inl, inr, ℕ, ◌+◌, ◌^◌, ◌<◌, ◌≤◌, List, [], ◌∷◌, ◌++◌, length, map, Option, None, Some, Bool, true, false, not, cond, refl, sym, ap, subst, ◌∙◌, arith, append_assoc, append-nil, length-append}
-use Rattle.std.specs.Prelude.{Ok, Err}
+use Rattle.std.specs.Prelude.{Result, Ok, Err, IfOk}
 use Rattle.std.specs.Io.KnownBytes.{Consumes, Appends}
 use Rattle.std.proofs.KnownBytes.{Appends-trans}
 use Rattle.std.proofs.lemmas.Grind.{flat_map-append}
 use Rattle.ciborium_ll.specs.Reading.{Moves}
 use Rattle.ciborium_value.specs.Tree.{Tree}
 use Rattle.ciborium.specs.Front.{Reads}
-use Rattle.ciborium.specs.Items.{Sequence}
+use Rattle.ciborium.specs.Items.{SequenceWithin}
 use Rattle.ciborium.specs.Damage.{end, deep, syntax, semantic, Damage}
 use Rattle.ciborium.specs.Reading.{IfKnown, FailsAt, IsNoMemory, fault_failures}
 use Rattle.ciborium.specs.declared.de.Error.{Error}
@@ -23,8 +23,11 @@ use Rattle.cose_gate_core.specs.Questions.{Question, MessageFields, questions}
 use Rattle.cose_gate_core.specs.Asked.{first_no, folded_over, IsFront}
 use Rattle.cose_gate_core.specs.Findings.{judged}
 use Rattle.cose_gate_core.specs.Run.{Step, Steps, judged_by, has_passed, passes, asked_of, written_of, questions_of, output_of, entries_of, passed_count, refused_count, Course}
-use Rattle.cose_gate_core.specs.Outcome.{Rules, Sight, Made, IsFaultOf, IsNext, IsReadFault, Answers}
+use Rattle.cose_gate_core.specs.Outcome.{Rules, Sight, Made, IsFaultOf, IsReadFault, Answers}
 use Rattle.cose_gate_core.specs.Passing.{WentThrough, Half, HalfWritten, ItemFails, at_end, stopped_by}
+use Rattle.coset_labels.specs.Limits.{nesting_of}
+use Rattle.cose_gate_core.specs.Terms.{IsTaken}
+use Rattle.cose_gate_core.specs.declared.terms.Terms.{Terms}
 use Rattle.cose_gate_core.proofs.Nothing.{empty_damage}
 use Rattle.cose_gate_core.proofs.Reach.{reads_some, Reached, further, step_at, entry_at, told_then, questions_then, output_then, entries_then, verdict_passes, count_then, folded_append, sequence_more}
 
@@ -57,14 +60,14 @@ consumed (Some a) None b c = absurd c
 consumed (Some a) (Some r) b c = c
 
 -- a fault of the bytes to come, seen from where the bytes began
-fault_from : {E : Type 0} (ends : E → Bool) (l l' : Option (List ℕ)) (b : List ℕ) (p p' : ℕ) (e : Error E) → Consumes l l' b → p' ≡ p + length b
-    → IfKnown l' (λ r. IsFaultOf ends (p' + length r) r e) → IfKnown l (λ a. IsFaultOf ends (p + length a) (rest_of l') e)
-fault_from ends None l' b p p' e c g k = tt
-fault_from ends (Some a) None b p p' e c g k = absurd c
-fault_from ends (Some a) (Some r) b p p' e c g k =
+fault_from : {E : Type 0} (ends : E → Bool) (k : ℕ) (l l' : Option (List ℕ)) (b : List ℕ) (p p' : ℕ) (e : Error E) → Consumes l l' b → p' ≡ p + length b
+    → IfKnown l' (λ r. IsFaultOf ends k (p' + length r) r e) → IfKnown l (λ a. IsFaultOf ends k (p + length a) (rest_of l') e)
+fault_from ends k None l' b p p' e c g f = tt
+fault_from ends k (Some a) None b p p' e c g f = absurd c
+fault_from ends k (Some a) (Some r) b p p' e c g f =
     let l : length a ≡ length b + length r = ap length c ∙ length-append b r in
     let s : p' + length r ≡ p + length a = omega arith in
-    subst (λ (n : ℕ). IsFaultOf ends n r e) s k
+    subst (λ (n : ℕ). IsFaultOf ends k n r e) s f
 
 module _ {T S : Type 0} (rules : Rules T S) where
   written_then : (old new newer : Sight T S) (ss : List Step) (s : Step) → Appends old.written new.written (output_of rules.allows rules.aad ss)
@@ -82,7 +85,7 @@ module _ {T S : Type 0} (rules : Rules T S) where
 
   -- the item went through, and its entry was noted
   pub reached_step : (old new newer : Sight T S) (passed refused passed' refused' : ℕ) → Reached rules old new passed refused
-      → (v : Tree) (t : Moves new.left newer.left new.offset newer.offset (λ (b : List ℕ). Reads b 256 v)) → (verdict : Verdict)
+      → (v : Tree) (t : Moves new.left newer.left new.offset newer.offset (λ (b : List ℕ). Reads b rules.limits.nesting v)) → (verdict : Verdict)
       → WentThrough rules.limits rules.decided rules.allows rules.aad t.bytes v new.told newer.told new.written newer.written verdict
       → (e : Entry) → e ≡ entry_at (passed + refused + 1) new.offset verdict → newer.state ≡ rules.folded new.state e
       → passed' ≡ passed + cond (has_passed verdict) 1 0 → refused' ≡ refused + cond (not (has_passed verdict)) 1 0
@@ -116,7 +119,7 @@ module _ {T S : Type 0} (rules : Rules T S) where
     pub course : Course rules.limits rules.allows rules.aad old.offset input steps more
     pub stop : new.offset + length more ≡ old.offset + length input
 
-  left_after : (old new : Sight T S) (steps : List Step) → Moves old.left new.left old.offset new.offset (λ (b : List ℕ). Sequence old.offset b (map (λ s. s.item) steps) [])
+  left_after : (old new : Sight T S) (steps : List Step) → Moves old.left new.left old.offset new.offset (λ (b : List ℕ). SequenceWithin rules.limits.nesting old.offset b (map (λ s. s.item) steps) [])
       → Steps rules.limits rules.allows rules.aad 1 steps → (more : List ℕ) → rest_of new.left ≡ more → Left old new steps more
   left_after old new steps t s more e =
       let g = t.grown in
@@ -125,7 +128,7 @@ module _ {T S : Type 0} (rules : Rules T S) where
         input = t.bytes ++ more;
         is = subst (λ (m : List ℕ). IfKnown old.left (λ a. a ≡ t.bytes ++ m)) e (consumed old.left new.left t.bytes t.taken);
         behind = subst (λ (m : List ℕ). IfKnown new.left (λ a. a ≡ m)) e (rest_known new.left);
-        course = record { sequence = sequence_more old.offset t.bytes more (map (λ s. s.item) steps) t.has; steps = s };
+        course = record { sequence = sequence_more rules.limits.nesting old.offset t.bytes more (map (λ s. s.item) steps) t.has; steps = s };
         stop = omega arith;
       }
 
@@ -135,7 +138,7 @@ module _ {T S : Type 0} (rules : Rules T S) where
 
   -- Ok: no byte is left
   pub answer_whole : {E : Type 0} (ends : E → Bool) (old new newer : Sight T S) (counts : Counts) → Reached rules old new counts.passed counts.refused
-      → newer.told ≡ new.told → newer.state ≡ new.state → newer.written ≡ new.written → IsNext new.left newer.left new.offset newer.offset None → Answers ends rules old newer (Ok counts)
+      → newer.told ≡ new.told → newer.state ≡ new.state → newer.written ≡ new.written → IfKnown new.left (λ b. b ≡ []) × (newer.offset ≡ new.offset) → Answers ends rules old newer (Ok counts)
   answer_whole ends old new newer counts r told state writes (none, stays) =
       let w = left_after old new r.done r.taken r.steps [] (rest_none new.left none) in
       record {
@@ -178,7 +181,7 @@ module _ {T S : Type 0} (rules : Rules T S) where
 
   -- the fault of the bytes, or Memory of the reader
   pub answer_read : {E : Type 0} (ends : E → Bool) (old new newer : Sight T S) (passed refused : ℕ) → Reached rules old new passed refused
-      → newer.told ≡ new.told → newer.state ≡ new.state → newer.written ≡ new.written → (f : GateFault E) → IsReadFault ends new.left new.offset f → Answers ends rules old newer (Err f)
+      → newer.told ≡ new.told → newer.state ≡ new.state → newer.written ≡ new.written → (f : GateFault E) → IsReadFault ends rules.limits.nesting new.left new.offset f → Answers ends rules old newer (Err f)
   answer_read ends old new newer passed refused r told state writes (Decode e) d =
       let w = left_after old new r.done r.taken r.steps (rest_of new.left) refl in
       record {
@@ -190,7 +193,7 @@ module _ {T S : Type 0} (rules : Rules T S) where
           course = w.course;
           made = still old new newer r.done told state writes r.made;
           no_memory = d.0;
-          fault = fault_from ends old.left new.left r.taken.bytes old.offset new.offset e r.taken.taken r.taken.grown d.1;
+          fault = fault_from ends rules.limits.nesting old.left new.left r.taken.bytes old.offset new.offset e r.taken.taken r.taken.grown d.1;
         };
       }
   answer_read ends old new newer passed refused r told state writes Write d = absurd d
@@ -198,7 +201,7 @@ module _ {T S : Type 0} (rules : Rules T S) where
 
   -- Memory, where the judge was told a beginning of the questions about one more message
   memory_asking : {E : Type 0} (ends : E → Bool) (old new newer : Sight T S) (passed refused : ℕ) → Reached rules old new passed refused
-      → (v : Tree) (t : Moves new.left newer.left new.offset newer.offset (λ (b : List ℕ). Reads b 256 v)) → Half rules.limits rules.decided rules.allows rules.aad t.bytes v new.told newer.told
+      → (v : Tree) (t : Moves new.left newer.left new.offset newer.offset (λ (b : List ℕ). Reads b rules.limits.nesting v)) → Half rules.limits rules.decided rules.allows rules.aad t.bytes v new.told newer.told
       → newer.state ≡ new.state → newer.written ≡ new.written → Answers ends rules old newer (Err Memory)
   unfolding judged_step step_at
   memory_asking ends old new newer passed refused r v t h state writes =
@@ -226,7 +229,7 @@ module _ {T S : Type 0} (rules : Rules T S) where
 
   -- Write, in the text of one more message
   write_within : {E : Type 0} (ends : E → Bool) (old new newer : Sight T S) (passed refused : ℕ) → Reached rules old new passed refused
-      → (v : Tree) (t : Moves new.left newer.left new.offset newer.offset (λ (b : List ℕ). Reads b 256 v)) → HalfWritten rules.limits rules.decided rules.allows rules.aad t.bytes v new.told newer.told new.written newer.written
+      → (v : Tree) (t : Moves new.left newer.left new.offset newer.offset (λ (b : List ℕ). Reads b rules.limits.nesting v)) → HalfWritten rules.limits rules.decided rules.allows rules.aad t.bytes v new.told newer.told new.written newer.written
       → newer.state ≡ new.state → Answers ends rules old newer (Err Write)
   unfolding judged_step step_at
   write_within ends old new newer passed refused r v t h state =
@@ -254,7 +257,7 @@ module _ {T S : Type 0} (rules : Rules T S) where
 
   -- the item failed
   pub answer_item : {E : Type 0} (ends : E → Bool) (old new newer : Sight T S) (passed refused : ℕ) → Reached rules old new passed refused
-      → (v : Tree) (t : Moves new.left newer.left new.offset newer.offset (λ (b : List ℕ). Reads b 256 v)) → (f : ItemFault)
+      → (v : Tree) (t : Moves new.left newer.left new.offset newer.offset (λ (b : List ℕ). Reads b rules.limits.nesting v)) → (f : ItemFault)
       → ItemFails rules.limits rules.decided rules.allows rules.aad t.bytes v new.told newer.told new.written newer.written f → newer.state ≡ new.state → Answers ends rules old newer (Err (stopped_by f))
   answer_item ends old new newer passed refused r v t fault.Write h state = write_within ends old new newer passed refused r v t h state
   answer_item ends old new newer passed refused r v t fault.Memory (writes, inl told) state = memory_between ends old new newer passed refused r told state writes
@@ -262,7 +265,7 @@ module _ {T S : Type 0} (rules : Rules T S) where
 
   -- Memory, where the item went through and the report refused its entry
   pub answer_noting : {E : Type 0} (ends : E → Bool) (old new newer : Sight T S) (passed refused : ℕ) → Reached rules old new passed refused
-      → (v : Tree) (t : Moves new.left newer.left new.offset newer.offset (λ (b : List ℕ). Reads b 256 v)) → (verdict : Verdict)
+      → (v : Tree) (t : Moves new.left newer.left new.offset newer.offset (λ (b : List ℕ). Reads b rules.limits.nesting v)) → (verdict : Verdict)
       → WentThrough rules.limits rules.decided rules.allows rules.aad t.bytes v new.told newer.told new.written newer.written verdict → newer.state ≡ new.state → Answers ends rules old newer (Err Memory)
   unfolding step_at
   answer_noting ends old new newer passed refused r v t verdict k state =
@@ -290,18 +293,18 @@ module _ {T S : Type 0} (rules : Rules T S) where
       }
 
 -- where nothing is left, the fault is an end at once, a failure of the device, or an offset that grows too large
-pub nothing_fails : {E : Type 0} (ends : E → Bool) (p p' : ℕ) (f : Error E) → FailsAt ends [] p p' (λ stop b f. Damage stop b 256 f) f → IsNoMemory f
+pub nothing_fails : {E : Type 0} (ends : E → Bool) (k p p' : ℕ) (f : Error E) → FailsAt ends [] p p' (λ stop b f. Damage stop b k f) f → IsNoMemory f
     → p + 4096 < 2 ^ 64 → ((at_end ends f ≡ true) × (p' ≡ p)) ⊎ ((x : E) × (f ≡ de.Io x) × (ends x ≡ false))
-nothing_fails {E = E} ends p p' (de.Io x) d m small = either (ends x) refl
+nothing_fails {E = E} ends k p p' (de.Io x) d m small = either (ends x) refl
   where
     either : (b : Bool) → ends x ≡ b → ((ends x ≡ true) × (p' ≡ p)) ⊎ ((y : E) × (de.Io x ≡ de.Io y) × (ends y ≡ false))
     either true t = inl (t, (d t).1)
     either false t = inr (x, refl, t)
-nothing_fails ends p p' (de.Syntax q) d m small = (let z : syntax q ≡ end = empty_damage (p + 0) 256 (syntax q) d in cc)
-nothing_fails ends p p' (de.Semantic o k) d m small = (let z : semantic k ≡ end = empty_damage (p + 0) 256 (semantic k) d.1 in cc)
-nothing_fails ends p p' de.RecursionLimitExceeded d m small = (let z : deep ≡ end = empty_damage (p + 0) 256 deep d in cc)
-nothing_fails ends p p' de.Memory d m small = absurd m
-nothing_fails ends p p' de.TooLong d m small = absurd (let l : 2 ^ 64 ≤ p + 0 + 4096 = d in omega arith)
+nothing_fails ends k p p' (de.Syntax q) d m small = (let z : syntax q ≡ end = empty_damage (p + 0) k (syntax q) d in cc)
+nothing_fails ends k p p' (de.Semantic o j) d m small = (let z : semantic j ≡ end = empty_damage (p + 0) k (semantic j) d.1 in cc)
+nothing_fails ends k p p' de.RecursionLimitExceeded d m small = (let z : deep ≡ end = empty_damage (p + 0) k deep d in cc)
+nothing_fails ends k p p' de.Memory d m small = absurd m
+nothing_fails ends k p p' de.TooLong d m small = absurd (let l : 2 ^ 64 ≤ p + 0 + 4096 = d in omega arith)
 
 -- an entry with this number and offset
 pub same_entry : (n m o p : ℕ) (v : Verdict) → n ≡ m → o ≡ p → (let e : Entry = record { number = n; offset = o; verdict = v } in e) ≡ entry_at m p v
@@ -323,14 +326,14 @@ nothing_taken rules old new n r e = go new.left r.taken.bytes (subst (λ (l : Op
         empty (x ∷ xs) e = absurd (omega arith)
 
 -- no item is read of nothing
-pub nothing_read : (l₁ l₂ : Option (List ℕ)) (p₁ p₂ : ℕ) (v : Tree) → l₁ ≡ Some [] → Moves l₁ l₂ p₁ p₂ (λ (b : List ℕ). Reads b 256 v) → ⊥
-nothing_read l₁ l₂ p₁ p₂ v e t = go l₂ (subst (λ (l : Option (List ℕ)). Consumes l l₂ t.bytes) e t.taken)
+pub nothing_read : (k : ℕ) (l₁ l₂ : Option (List ℕ)) (p₁ p₂ : ℕ) (v : Tree) → l₁ ≡ Some [] → Moves l₁ l₂ p₁ p₂ (λ (b : List ℕ). Reads b k v) → ⊥
+nothing_read k l₁ l₂ p₁ p₂ v e t = go l₂ (subst (λ (l : Option (List ℕ)). Consumes l l₂ t.bytes) e t.taken)
   where
     go : (l : Option (List ℕ)) → Consumes (Some []) l t.bytes → ⊥
     go None c = c
     go (Some xs) c =
         let s : 0 ≡ length t.bytes + length xs = ap length c ∙ length-append t.bytes xs in
-        let some = reads_some t.bytes v t.has in
+        let some = reads_some k t.bytes v t.has in
         omega arith
 
 -- neither an end at once nor a failure of the device is left
@@ -341,3 +344,13 @@ nothing_answer ends p p' f failed failed' (inr (x, is, e)) not told same =
     let more : fault_failures ends f failed ≡ cond (ends x) failed (failed + 1) = ap (λ g. fault_failures ends g failed) is in
     let one : cond (ends x) failed (failed + 1) ≡ failed + 1 = ap (λ b. cond b failed (failed + 1)) e in
     absurd (omega arith)
+
+-- what is told of an answer
+pub if_ok : {A E : Type 0} {P Q : A → Type 0} (r : Result A E) → ((x : A) → P x → Q x) → IfOk r P → IfOk r Q
+if_ok (Ok x) f p = f x p
+if_ok (Err e) f p = p
+
+-- an item that was taken was read
+abbrev pub read_of : (terms : Terms) (l l' : Option (List ℕ)) (p p' : ℕ) (v : Tree) (exact : Bool) → Moves l l' p p' (λ (b : List ℕ). IsTaken terms b v exact)
+    → Moves l l' p p' (λ (b : List ℕ). Reads b (nesting_of terms.limits) v)
+read_of terms l l' p p' v exact t = record { bytes = t.bytes; has = t.has.0; taken = t.taken; grown = t.grown }

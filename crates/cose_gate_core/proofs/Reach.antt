@@ -9,7 +9,7 @@ use Rattle.std.proofs.lemmas.List.{map-append}
 use Rattle.ciborium_ll.specs.Reading.{Moves}
 use Rattle.ciborium_value.specs.Tree.{Tree}
 use Rattle.ciborium.specs.Front.{Reads}
-use Rattle.ciborium.specs.Items.{Item, Sequence}
+use Rattle.ciborium.specs.Items.{Item, SequenceWithin}
 use Rattle.ciborium.proofs.ChildCases.{front_some}
 use Rattle.cose_gate_core.specs.declared.report.Entry.{Entry}
 use Rattle.cose_gate_core.specs.declared.report.Verdict.{Verdict}
@@ -50,26 +50,27 @@ flat_then f xs x = flat_map-append f xs (x ∷ []) ∙ ap (λ z. flat_map f xs +
 unfoldable pub item_at : ℕ → List ℕ → Tree → Item
 item_at o b v = record { offset = o; bytes = b; value = v }
 
-sequence_then : (at o : ℕ) (b x : List ℕ) (is : List Item) (v : Tree) → o ≡ at + length b → Sequence at b is [] → Reads x 256 v → Sequence at (b ++ x) (is ++ item_at o x v ∷ []) []
+sequence_then : (k at o : ℕ) (b x : List ℕ) (is : List Item) (v : Tree) → o ≡ at + length b → SequenceWithin k at b is [] → Reads x k v
+    → SequenceWithin k at (b ++ x) (is ++ item_at o x v ∷ []) []
 unfolding item_at
-sequence_then at o b x [] v e s r =
+sequence_then k at o b x [] v e s r =
     let l : length b ≡ 0 = ap length s in
     (omega arith, r, ([], ap (λ z. z ++ x) s ∙ sym (append-nil x), refl))
-sequence_then at o b x (i ∷ is) v e s r =
+sequence_then k at o b x (i ∷ is) v e s r =
     let l : length b ≡ length i.bytes + length s.2.0 = ap length s.2.1 ∙ length-append i.bytes s.2.0 in
-    (s.0, s.1, (s.2.0 ++ x, ap (λ z. z ++ x) s.2.1 ∙ append_assoc i.bytes s.2.0 x, sequence_then (at + length i.bytes) o s.2.0 x is v (omega arith) s.2.2 r))
+    (s.0, s.1, (s.2.0 ++ x, ap (λ z. z ++ x) s.2.1 ∙ append_assoc i.bytes s.2.0 x, sequence_then k (at + length i.bytes) o s.2.0 x is v (omega arith) s.2.2 r))
 
 -- what follows a sequence
-pub sequence_more : (at : ℕ) (b more : List ℕ) (is : List Item) → Sequence at b is [] → Sequence at (b ++ more) is more
-sequence_more at b more [] s = ap (λ z. z ++ more) s
-sequence_more at b more (i ∷ is) s = (s.0, s.1, (s.2.0 ++ more, ap (λ z. z ++ more) s.2.1 ∙ append_assoc i.bytes s.2.0 more, sequence_more (at + length i.bytes) s.2.0 more is s.2.2))
+pub sequence_more : (k at : ℕ) (b more : List ℕ) (is : List Item) → SequenceWithin k at b is [] → SequenceWithin k at (b ++ more) is more
+sequence_more k at b more [] s = ap (λ z. z ++ more) s
+sequence_more k at b more (i ∷ is) s = (s.0, s.1, (s.2.0 ++ more, ap (λ z. z ++ more) s.2.1 ∙ append_assoc i.bytes s.2.0 more, sequence_more k (at + length i.bytes) s.2.0 more is s.2.2))
 
 -- an item takes bytes
-pub reads_some : (x : List ℕ) (v : Tree) → Reads x 256 v → 0 < length x
-reads_some x v r = front_some x [] 256 v (record { spelling = x; whole = sym (append-nil x); reads = r })
+pub reads_some : (k : ℕ) (x : List ℕ) (v : Tree) → Reads x k v → 0 < length x
+reads_some k x v r = front_some x [] k v (record { spelling = x; whole = sym (append-nil x); reads = r })
 
-pub item_grows : (l l' : Option (List ℕ)) (p p' : ℕ) (v : Tree) → Moves l l' p p' (λ (b : List ℕ). Reads b 256 v) → p < p'
-item_grows l l' p p' v t = let s = reads_some t.bytes v t.has in let g = t.grown in omega arith
+pub item_grows : (k : ℕ) (l l' : Option (List ℕ)) (p p' : ℕ) (v : Tree) → Moves l l' p p' (λ (b : List ℕ). Reads b k v) → p < p'
+item_grows k l l' p p' v t = let s = reads_some k t.bytes v t.has in let g = t.grown in omega arith
 
 module _ (limits : Limits) (allows : Question → Bool) (aad : List ℕ) where
   -- a verdict has passed exactly where what is found passes
@@ -95,7 +96,7 @@ module _ (limits : Limits) (allows : Question → Bool) (aad : List ℕ) where
 -- some steps were made; they took the bytes of their items
 pub record Reached {T S : Type 0} (rules : Rules T S) (old new : Sight T S) (passed refused : ℕ) : Type 0 where
   pub done : List Step
-  pub taken : Moves old.left new.left old.offset new.offset (λ (b : List ℕ). Sequence old.offset b (map (λ s. s.item) done) [])
+  pub taken : Moves old.left new.left old.offset new.offset (λ (b : List ℕ). SequenceWithin rules.limits.nesting old.offset b (map (λ s. s.item) done) [])
   pub steps : Steps rules.limits rules.allows rules.aad 1 done
   pub made : Made rules old new done
   pub passed_is : passed ≡ passed_count rules.allows rules.aad done
@@ -141,11 +142,11 @@ module _ {T S : Type 0} (rules : Rules T S) where
 
   -- where the steps so far and one more item have come
   pub record Further (old newer : Sight T S) (done : List Step) (s : Step) : Type 0 where
-    pub taken : Moves old.left newer.left old.offset newer.offset (λ (b : List ℕ). Sequence old.offset b (map (λ s. s.item) (done ++ s ∷ [])) [])
+    pub taken : Moves old.left newer.left old.offset newer.offset (λ (b : List ℕ). SequenceWithin rules.limits.nesting old.offset b (map (λ s. s.item) (done ++ s ∷ [])) [])
     pub steps : Steps rules.limits rules.allows rules.aad 1 (done ++ s ∷ [])
 
   pub further : (old new newer : Sight T S) (passed refused : ℕ) (r : Reached rules old new passed refused)
-      (v : Tree) (t : Moves new.left newer.left new.offset newer.offset (λ (b : List ℕ). Reads b 256 v)) (f : Finding) (verdict : Verdict) → Finds rules.limits t.bytes v f → IsVerdict rules.limits rules.allows rules.aad v f verdict
+      (v : Tree) (t : Moves new.left newer.left new.offset newer.offset (λ (b : List ℕ). Reads b rules.limits.nesting v)) (f : Finding) (verdict : Verdict) → Finds rules.limits t.bytes v f → IsVerdict rules.limits rules.allows rules.aad v f verdict
       → Further old newer r.done (step_at new.offset t.bytes v f (entry_at (passed + refused + 1) new.offset verdict))
   unfolding step_at entry_at item_at
   further old new newer passed refused r v t f verdict finds says =
@@ -158,7 +159,7 @@ module _ {T S : Type 0} (rules : Rules T S) where
       record {
         taken = record {
           bytes = r.taken.bytes ++ t.bytes;
-          has = subst (λ (z : List Item). Sequence old.offset (r.taken.bytes ++ t.bytes) z []) (sym (items_then r.done s)) (sequence_then old.offset new.offset r.taken.bytes t.bytes (map (λ s. s.item) r.done) v a r.taken.has t.has);
+          has = subst (λ (z : List Item). SequenceWithin rules.limits.nesting old.offset (r.taken.bytes ++ t.bytes) z []) (sym (items_then r.done s)) (sequence_then rules.limits.nesting old.offset new.offset r.taken.bytes t.bytes (map (λ s. s.item) r.done) v a r.taken.has t.has);
           taken = Consumes-trans old.left new.left newer.left r.taken.bytes t.bytes r.taken.taken t.taken;
           grown = omega (arith, length-append r.taken.bytes t.bytes);
         };

@@ -2,7 +2,7 @@
 use Rattle.std.proofs.Common.{◌≡◌, ◌≢◌, ◌⊎◌, inl, inr, ℕ, List, [], ◌∷◌, ◌++◌, map, Bool, true, false, Option, None, Some, refl, sym, ap, subst, ◌∙◌, ◌+◌, arith}
 use Rattle.ciborium_value.specs.Tree.{Tree, tag}
 use Rattle.ciborium.specs.Items.{Item}
-use Rattle.ciborium.proofs.Sequence.{items_once}
+use Rattle.ciborium.proofs.Sequence.{items_once_within}
 use Rattle.coset_labels.specs.Faults.{CoseFault}
 use Rattle.coset_signed.proofs.Excludes.{sign1_not, sign_not}
 use Rattle.coset_signed.proofs.Unique.{sign1_once, sign_once}
@@ -256,6 +256,6 @@ pub run_once : (l : Limits) (allows : Question → Bool) (aad : List ℕ) (at : 
     → Run l allows aad at b ss rest → Run l allows aad at b rs more
     → (questions_of allows aad ss ≡ questions_of allows aad rs) × (output_of allows aad ss ≡ output_of allows aad rs) × (rest ≡ more)
 run_once l allows aad at b ss rs rest more a c =
-    let i = items_once at b _ _ rest more a.items c.items in
+    let i = items_once_within l.nesting at b _ _ rest more a.items c.items in
     let s = steps_once l allows aad 1 ss rs i.0 a.steps c.steps in
     (s.0, s.1, i.1)

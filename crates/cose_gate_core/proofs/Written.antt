@@ -1,9 +1,9 @@
--- A message that was read can be written.
+-- A message that was read can be written, and its protected headers have the bytes that were received.
 use Rattle.std.proofs.Common.{◌≡◌, ◌≢◌, ℕ, List, [], ◌∷◌, Option, Some, None, option_map, refl}
 use Rattle.ciborium_value.specs.Encoding.{enc}
 use Rattle.ciborium_value.specs.Tree.{Tree, tag, Trees}
-use Rattle.coset_headers.specs.Fields.{SignatureFields, signatures}
-use Rattle.coset_headers.specs.Headers.{HasSignatures}
+use Rattle.coset_headers.specs.Fields.{ProtectedFields, protected, SignatureFields, signature, signatures}
+use Rattle.coset_headers.specs.Headers.{HasProtected, HasSignatures}
 use Rattle.coset_headers.proofs.Writable.{some_is, map_some, and_some}
 use Rattle.coset_maced.specs.PartsWritten.{content_bytes}
 use Rattle.coset_signed.specs.Fields.{SignFields}
@@ -13,6 +13,7 @@ use Rattle.coset_signed.proofs.Writable.{sign1_some, sign1_covers, sign_some, si
 use Rattle.coset_maced.proofs.Writable.{mac0_some, mac0_covers, mac_some, mac_covers}
 use Rattle.cose_gate_core.specs.Findings.{Limits, HasMessage, IsJudged}
 use Rattle.cose_gate_core.specs.Questions.{MessageFields, sign1, mac0, sign, mac, sign1_question, mac0_question, mac_question, sign_questions, mac0_own, mac_own, all_questions, questions, message_tree, tag_of, tagged_tree, message_text, or_nothing}
+use Rattle.cose_gate_core.specs.Received.{IsReceived, AreReceived, IsReceivedMessage}
 
 there : {A : Type 0} (o : Option (List A)) → o ≢ None → o ≡ Some (or_nothing o)
 there None n = absurd (n refl)
@@ -30,7 +31,7 @@ has_questions l u (mac0 m) aad h = map_some (λ c. mac0_question m c ∷ []) (ma
 has_questions l u (sign m) aad h = has_all l u m aad h h.last.0 m.signatures h.last.2
 has_questions l u (mac m) aad h = map_some (λ c. mac_question m c ∷ []) (mac_own m aad) (mac_covers l.nesting m u l.layers aad (content_bytes m.payload) h)
 
-has_tree : (l : Limits) (u : Tree) (m : MessageFields) → HasMessage l u m → message_tree m ≢ None
+pub has_tree : (l : Limits) (u : Tree) (m : MessageFields) → HasMessage l u m → message_tree m ≢ None
 has_tree l u (sign1 m) h = sign1_some l.nesting l.layers u m h
 has_tree l u (mac0 m) h = mac0_some l.nesting m u l.layers h
 has_tree l u (sign m) h = sign_some l.nesting l.layers u m h
@@ -47,3 +48,21 @@ judged_questions l t m aad j = there (all_questions m aad) (judged_asked l t m a
 
 pub judged_text : (l : Limits) (t : Tree) (m : MessageFields) → IsJudged l t m → option_map enc (tagged_tree m) ≡ Some (message_text m)
 judged_text l t m j = there (option_map enc (tagged_tree m)) (map_some enc (tagged_tree m) (judged_tree l t m j))
+
+-- received bytes
+has_received : (n k : ℕ) (t : Tree) (p : ProtectedFields) → HasProtected n t p k → IsReceived p
+has_received n k t (protected None h) (b, e, o, l, w) = cc
+has_received n k t (protected (Some r) h) w = refl
+
+are_received : (n k : ℕ) (ts : Trees) (ss : List SignatureFields) → HasSignatures n ts (signatures ss) k → AreReceived ss
+are_received n k ts [] w = tt
+are_received n k ts (signature p h c ∷ ss) (u, us, e, (a, b, d, x, y), z) = (has_received n k a p x, are_received n k us ss z)
+
+message_received : (l : Limits) (u : Tree) (m : MessageFields) → HasMessage l u m → IsReceivedMessage m
+message_received l u (sign1 m) h = has_received l.nesting l.layers h.first m.protected h.parts.protected
+message_received l u (mac0 m) h = has_received l.nesting l.layers h.first m.protected h.parts.protected
+message_received l u (sign m) h = (has_received l.nesting l.layers h.first m.protected h.parts.protected, are_received l.nesting l.layers h.last.0 m.signatures h.last.2)
+message_received l u (mac m) h = has_received l.nesting l.layers h.first m.protected h.parts.protected
+
+pub judged_received : (l : Limits) (t : Tree) (m : MessageFields) → IsJudged l t m → IsReceivedMessage m
+judged_received l t m ((u, e, h), p, s) = message_received l u m h

@@ -1,13 +1,15 @@
 -- What is found of an item before a judge is asked: a message that is judged, or why it is none (RFC 9052, section 2, has the tags).
-use Rattle.std.specs.Prelude.{◌≡◌, ◌≢◌, ℕ, ◌⊎◌, List, [], Option, Some, None}
+use Rattle.std.specs.Prelude.{◌≡◌, ◌≢◌, ℕ, ◌⊎◌, List, [], Option, Some, None, Bool, true, false, if◌then◌else◌, nat_eq}
+use Rattle.std.specs.Cmp.Lexicographic.{pointwise}
 use Rattle.ciborium_value.specs.Tree.{Tree, tag}
 use Rattle.coset_labels.specs.Faults.{CoseFault}
 use Rattle.coset_signed.specs.Shapes.{HasSign1, HasSign}
 use Rattle.coset_signed.specs.Wrong.{WrongSign1, WrongSign}
 use Rattle.coset_maced.specs.Shapes.{HasMac0, HasMac}
 use Rattle.coset_maced.specs.Wrong.{WrongMac0, WrongMac}
-use Rattle.cose_gate_core.specs.Questions.{MessageFields, sign1, mac0, sign, mac, tag_of, payload_of}
+use Rattle.cose_gate_core.specs.Questions.{MessageFields, sign1, mac0, sign, mac, tag_of, payload_of, message_text}
 use Rattle.cose_gate_core.specs.declared.report.Refusal.{Refusal}
+use Rattle.cose_gate_core.specs.declared.report.Refusal.TheVariants as refusal
 
 -- why an item is not judged
 pub data Reason : Type 0 where
@@ -28,15 +30,29 @@ IsMessageTag n = (n ≡ 17) ⊎ (n ≡ 18) ⊎ (n ≡ 97) ⊎ (n ≡ 98)
 abbrev pub IsEncryptedTag : ℕ → Type 0
 IsEncryptedTag n = (n ≡ 16) ⊎ (n ≡ 96)
 
--- how deep a protected header may nest, how many may lie inside one another, and which messages are refused that would else be judged,
--- by the bytes of their item and their fields
+-- how many levels an item may open, and anew the one in a protected header; how many protected headers may lie inside one another; and
+-- which messages are refused that would else be judged, by the bytes of their item and their fields
 pub record Limits : Type 0 where
   pub nesting : ℕ
   pub layers : ℕ
   pub excludes : List ℕ → MessageFields → Option Refusal
 
+-- the further rule of a gate, which may be strict: a message is refused whose item isn't already the text that would be written
+abbrev pub excluded_by : Bool → List ℕ → MessageFields → Option Refusal
+excluded_by false b m = None
+excluded_by true b m = if pointwise nat_eq b (message_text m) then None else Some refusal.NotShortest
+
+-- the limits where none are chosen, and no further rule
 abbrev pub usual : Limits
 usual = record { nesting = 256; layers = 16; excludes = λ bytes m. None }
+
+-- so many levels and layers, and no further rule
+abbrev pub plain : ℕ → ℕ → Limits
+plain nesting layers = record { nesting = nesting; layers = layers; excludes = λ bytes m. None }
+
+-- so many levels and layers, where a message's item has to be the text that would be written
+abbrev pub only_exact : ℕ → ℕ → Limits
+only_exact nesting layers = record { nesting = nesting; layers = layers; excludes = λ bytes m. excluded_by true bytes m }
 
 -- which fields a value has as a message of their kind
 abbrev pub HasMessage : Limits → Tree → MessageFields → Type 0

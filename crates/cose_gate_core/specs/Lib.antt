@@ -4,8 +4,10 @@ pub mod Lent
 pub mod Outcome
 pub mod Passing
 pub mod Questions
+pub mod Received
 pub mod Recorded
 pub mod Run
+pub mod Terms
 pub mod View
 pub use Rattle.ciborium_ll.specs.Fault as DeviceFault
 pub use Rattle.ciborium_ll.specs.Framing
@@ -29,6 +31,7 @@ pub use Rattle.coset_headers.specs.Headers
 pub use Rattle.coset_structures.specs.Structure
 pub use Rattle.coset_labels.specs.Kinds
 pub use Rattle.coset_labels.specs.Labels
+pub use Rattle.coset_labels.specs.Limits as CodeLimits
 pub use Rattle.coset_labels.specs.View as LabelView
 pub use Rattle.coset_headers.specs.View as HeaderView
 pub use Rattle.coset_headers.specs.Written

@@ -5,16 +5,16 @@ use Rattle.ciborium_ll.specs.Reading.{Moves}
 use Rattle.ciborium_value.specs.declared.value.Value.{Value}
 use Rattle.ciborium_value.specs.View.{view}
 use Rattle.ciborium.specs.Damage.{end, deep, syntax, semantic, Damage}
-use Rattle.ciborium.specs.Front.{Reads}
 use Rattle.ciborium.specs.Reading.{IfKnown, IsNoMemory}
 use Rattle.ciborium.specs.declared.de.Error.{Error}
 use Rattle.ciborium.specs.declared.de.Error.TheVariants as de
-use Rattle.ciborium.specs.Items.{nesting}
 use Rattle.cose_gate_core.specs.Questions.{Question}
 use Rattle.cose_gate_core.specs.Asked.{folded_over, IsFront}
 use Rattle.cose_gate_core.specs.Findings.{Limits}
+use Rattle.cose_gate_core.specs.Terms.{IsTaken}
 use Rattle.cose_gate_core.specs.Run.{Step, Course, questions_of, output_of, written_of, passes, entries_of, passed_count, refused_count}
 use Rattle.cose_gate_core.specs.declared.report.Entry.{Entry}
+use Rattle.cose_gate_core.specs.declared.terms.Terms.{Terms}
 use Rattle.cose_gate_core.specs.declared.gating.Counts.{Counts}
 use Rattle.cose_gate_core.specs.declared.gating.GateFault.{GateFault}
 use Rattle.cose_gate_core.specs.declared.gating.GateFault.TheVariants.{Decode, Write, Memory}
@@ -41,26 +41,26 @@ pub record Made {T S : Type 0} (rules : Rules T S) (old new : Sight T S) (ss : L
   pub state : new.state ≡ folded_over rules.folded old.state (entries_of ss)
   pub written : Appends old.written new.written (output_of rules.allows rules.aad ss)
 
--- the fault of the bytes `more`, where no readable item begins; `stop` is the place behind them. A failure of the device says nothing
--- of the bytes, and want of memory is no such fault.
-abbrev pub IsFaultOf : {E : Type 0} → (E → Bool) → ℕ → List ℕ → Error E → Type 0
-IsFaultOf ends stop more (de.Io e) = IsTrue (ends e) → Damage stop more nesting end × (more ≢ [])
-IsFaultOf ends stop more (de.Syntax p) = Damage stop more nesting (syntax p)
-IsFaultOf ends stop more (de.Semantic o k) = (o ≡ None) × Damage stop more nesting (semantic k)
-IsFaultOf ends stop more de.RecursionLimitExceeded = Damage stop more nesting deep
-IsFaultOf ends stop more de.Memory = ⊥
-IsFaultOf ends stop more de.TooLong = 2 ^ 64 ≤ stop + 4096
+-- the fault of the bytes `more`, where no item of at most n levels begins; `stop` is the place behind them. A failure of the device says
+-- nothing of the bytes, and want of memory is no such fault.
+abbrev pub IsFaultOf : {E : Type 0} → (E → Bool) → ℕ → ℕ → List ℕ → Error E → Type 0
+IsFaultOf ends n stop more (de.Io e) = IsTrue (ends e) → Damage stop more n end × (more ≢ [])
+IsFaultOf ends n stop more (de.Syntax p) = Damage stop more n (syntax p)
+IsFaultOf ends n stop more (de.Semantic o k) = (o ≡ None) × Damage stop more n (semantic k)
+IsFaultOf ends n stop more de.RecursionLimitExceeded = Damage stop more n deep
+IsFaultOf ends n stop more de.Memory = ⊥
+IsFaultOf ends n stop more de.TooLong = 2 ^ 64 ≤ stop + 4096
 
 -- what reading the next item gives: it was taken, or no byte was left
-abbrev pub IsNext : Option (List ℕ) → Option (List ℕ) → ℕ → ℕ → Option Value → Type 0
-IsNext left left' at at' None = IfKnown left (λ b. b ≡ []) × (at' ≡ at)
-IsNext left left' at at' (Some v) = Moves left left' at at' (λ b. Reads b nesting (view v))
+abbrev pub IsNext : Terms → Option (List ℕ) → Option (List ℕ) → ℕ → ℕ → Option (Value × Bool) → Type 0
+IsNext terms left left' at at' None = IfKnown left (λ b. b ≡ []) × (at' ≡ at)
+IsNext terms left left' at at' (Some r) = Moves left left' at at' (λ b. IsTaken terms b (view r.0) r.1)
 
 -- what reading the next item ends with: a fault of the bytes that were to come, where they are known, or want of memory
-abbrev pub IsReadFault : {E : Type 0} → (E → Bool) → Option (List ℕ) → ℕ → GateFault E → Type 0
-IsReadFault ends left at (Decode e) = IsNoMemory e × IfKnown left (λ b. IsFaultOf ends (at + length b) b e)
-IsReadFault ends left at Write = ⊥
-IsReadFault ends left at Memory = Unit {0}
+abbrev pub IsReadFault : {E : Type 0} → (E → Bool) → ℕ → Option (List ℕ) → ℕ → GateFault E → Type 0
+IsReadFault ends n left at (Decode e) = IsNoMemory e × IfKnown left (λ b. IsFaultOf ends n (at + length b) b e)
+IsReadFault ends n left at Write = ⊥
+IsReadFault ends n left at Memory = Unit {0}
 
 -- Ok: the steps go through the whole input, all of them were made, and the offset has grown by all bytes
 pub record Whole {T S : Type 0} (rules : Rules T S) (old new : Sight T S) (input : List ℕ) (counts : Counts) : Type 0 where
@@ -78,7 +78,7 @@ pub record IfDecodeFailed {T S E : Type 0} (ends : E → Bool) (rules : Rules T 
   pub course : Course rules.limits rules.allows rules.aad old.offset input steps more
   pub made : Made rules old new steps
   pub no_memory : IsNoMemory e
-  pub fault : IfKnown old.left (λ b. IsFaultOf ends (old.offset + length b) more e)
+  pub fault : IfKnown old.left (λ b. IsFaultOf ends rules.limits.nesting (old.offset + length b) more e)
 
 -- Write: `done` were made; the message of the next step passes, all was asked about it, and a beginning of its text was written. The
 -- offset is the one behind its item, and `more` is to come.

@@ -1,5 +1,5 @@
 -- What one item's way through the gate shows.
-use Rattle.std.specs.Prelude.{◌≡◌, ℕ, ◌⊎◌, List, Option, Bool, true, false, Result, Ok, Err}
+use Rattle.std.specs.Prelude.{◌≡◌, ℕ, ◌⊎◌, List, Option, Some, None, Bool, true, false, MatchBool, Result, Ok, Err}
 use Rattle.std.specs.Io.KnownBytes.{Appends}
 use Rattle.ciborium_ll.specs.Device.{AppendsFront}
 use Rattle.ciborium_value.specs.Tree.{Tree}
@@ -22,18 +22,23 @@ use Rattle.cose_gate_core.specs.declared.gating.GateFault.{GateFault}
 use Rattle.cose_gate_core.specs.declared.gating.GateFault.TheVariants as gating
 
 -- a refusal that is made before the judge is asked
-abbrev pub IsRefused : Limits → Tree → Refusal → Type 0
-IsRefused limits t refusal.NotTagged = IsBarred limits t not_tagged
-IsRefused limits t (refusal.OtherTag n) = IsBarred limits t (other_tag n)
-IsRefused limits t refusal.Encrypted = IsBarred limits t encrypted
-IsRefused limits t (refusal.Shape e) = IsMisshapen limits t (fault_of e)
-IsRefused limits t refusal.Detached = IsBarred limits t detached
-IsRefused limits t refusal.NoSignature = IsBarred limits t no_signature
-IsRefused limits t (refusal.Judged n) = ⊥
+abbrev pub IsRefused : Limits → List ℕ → Tree → Refusal → Type 0
+IsRefused limits b t refusal.NotTagged = IsBarred limits t not_tagged
+IsRefused limits b t (refusal.OtherTag n) = IsBarred limits t (other_tag n)
+IsRefused limits b t refusal.Encrypted = IsBarred limits t encrypted
+IsRefused limits b t (refusal.Shape e) = IsMisshapen limits t (fault_of e)
+IsRefused limits b t refusal.Detached = IsBarred limits t detached
+IsRefused limits b t refusal.NoSignature = IsBarred limits t no_signature
+IsRefused limits b t (refusal.Judged n) = ⊥
+IsRefused limits b t refusal.NotShortest = (m : MessageFields) × IsJudged limits t m × (limits.excludes b m ≡ Some refusal.NotShortest)
 
-abbrev pub IsFound : Limits → Tree → Found → Type 0
-IsFound limits t (found.Judged m) = IsJudged limits t (message_view m)
-IsFound limits t (found.Barred r) = IsRefused limits t r
+-- what is told of a message: whether the further rule lets it through
+abbrev pub IsTold : Limits → List ℕ → MessageFields → Bool → Type 0
+IsTold limits b m through = MatchBool through (limits.excludes b m ≡ None) (limits.excludes b m ≡ Some refusal.NotShortest)
+
+abbrev pub IsFound : Limits → List ℕ → Tree → Found → Type 0
+IsFound limits b t (found.Judged m) = Finds limits b t (judged (message_view m))
+IsFound limits b t (found.Barred r) = IsRefused limits b t r
 
 -- the item went through: what was found, told and written
 pub record WentThrough {T : Type 0} (limits : Limits) (decided : T → Question → T) (allows : Question → Bool) (aad : List ℕ) (bytes : List ℕ) (t : Tree) (told told' : T) (written written' : Option (List ℕ)) (v : Verdict) : Type 0 where

@@ -1,12 +1,12 @@
 -- What a recorder keeps of a question, without where it lies in memory.
 use Rattle.std.specs.Global.{Vec}
-use Rattle.std.specs.Prelude.{ℕ, List, ◌++◌, ◌-◌, Option, Some, None, Bool, true, not, length, map, take, replicate}
+use Rattle.std.specs.Prelude.{◌≡◌, ℕ, List, ◌++◌, ◌-◌, ◌<◌, vec_len, vec_capacity, Option, Some, None, Bool, true, not, length, map, take, replicate}
 use Rattle.std.specs.Cmp.Lexicographic.{pointwise}
 use Rattle.std.specs.Bool.{nat_eq}
 use Rattle.cose_gate_core.specs.declared.about.Kind.{Kind}
 use Rattle.cose_gate_core.specs.declared.recorder.Asked.{Asked}
 use Rattle.cose_gate_core.specs.declared.recorder.Recorder.{Recorder}
-use Rattle.cose_gate_core.specs.Questions.{Question}
+use Rattle.cose_gate_core.specs.Questions.{Subject, Question}
 
 pub record AskedFields : Type 0 where
   pub kind : Kind
@@ -42,3 +42,16 @@ asked_of r = map asked_view r.asked.items
 -- the signature that it says no to
 abbrev pub refused_of : Recorder → Option (List ℕ)
 refused_of r = bytes_of r.no
+
+-- the lengths of the pieces that it was fed since it began
+abbrev pub pieces_of : Recorder → List ℕ
+pieces_of r = r.pieces.items
+
+-- it holds a begun question, with these covered bytes, and has room for it
+abbrev pub holds_question : Recorder → Subject → List ℕ → Type 0
+holds_question r subject bytes = (r.kind ≡ subject.kind) × (r.structure.items ≡ bytes) × (vec_len r.asked < vec_capacity r.asked)
+
+-- it holds what it held
+abbrev pub IsKept : Recorder → Recorder → Type 0
+IsKept old new = (pieces_of new ≡ pieces_of old)
+    × ((subject : Subject) (bytes : List ℕ) → holds_question old subject bytes → holds_question new subject bytes)

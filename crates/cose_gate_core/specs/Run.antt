@@ -1,7 +1,7 @@
 -- What a gate does with a whole input: the items in order, with what is found, asked, written and noted of each.
 use Rattle.std.specs.Prelude.{◌≡◌, ℕ, ◌+◌, List, [], ◌∷◌, map, flat_map, Option, Some, None, Bool, true, false, not, if◌then◌else◌, is_none, count_by}
 use Rattle.ciborium_value.specs.Tree.{Tree}
-use Rattle.ciborium.specs.Items.{Item, Sequence, Items}
+use Rattle.ciborium.specs.Items.{Item, SequenceWithin, ItemsWithin}
 use Rattle.coset_labels.specs.Faults.{fault_of}
 use Rattle.coset_labels.specs.declared.error.CoseError.{CoseError}
 use Rattle.cose_gate_core.specs.Questions.{Question, questions, message_text}
@@ -84,10 +84,10 @@ refused_count allows aad ss = count_by (λ s. not (passes allows aad s.finding))
 
 -- the input b, which begins at the offset `at`, is gone through by these steps, up to `more`
 pub record Course (limits : Limits) (allows : Question → Bool) (aad : List ℕ) (at : ℕ) (b : List ℕ) (ss : List Step) (more : List ℕ) : Type 0 where
-  pub sequence : Sequence at b (map (λ s. s.item) ss) more
+  pub sequence : SequenceWithin limits.nesting at b (map (λ s. s.item) ss) more
   pub steps : Steps limits allows aad 1 ss
 
 -- the whole run over b: the steps over all its items
 pub record Run (limits : Limits) (allows : Question → Bool) (aad : List ℕ) (at : ℕ) (b : List ℕ) (ss : List Step) (rest : List ℕ) : Type 0 where
-  pub items : Items at b (map (λ s. s.item) ss) rest
+  pub items : ItemsWithin limits.nesting at b (map (λ s. s.item) ss) rest
   pub steps : Steps limits allows aad 1 ss

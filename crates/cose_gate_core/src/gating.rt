@@ -1,19 +1,27 @@
 //! The gate.
-ghost use Rattle.std.specs.Prelude.{◌≡◌, ◌+◌, ◌<◌, ◌^◌, [], Some, None, Ok, IsOk, IfOk, IfErr, not, if◌then◌else◌, ℕ, List};
-ghost use Rattle.ciborium_ll.specs.Views.{left_of, offset_of, waiting_of, reader_of};
-ghost use Rattle.cose_gate_core.specs.Findings.{usual};
+ghost use Rattle.std.specs.Prelude.{◌≡◌, ◌+◌, ◌<◌, ◌^◌, [], Some, None, Ok, IsOk, IfOk, IfErr, OnOk, true, not, if◌then◌else◌, ℕ, List};
+ghost use Rattle.ciborium.specs.Damage.{Damage};
+ghost use Rattle.ciborium.specs.Reading.{NamesFault, Steady, IsNoMemory};
+ghost use Rattle.ciborium_ll.specs.Seen.{Takes};
+ghost use Rattle.ciborium_ll.specs.Views.{left_of, offset_of, waiting_of, reader_of, seen};
+ghost use Rattle.ciborium_value.specs.View.{view};
+ghost use Rattle.coset_labels.specs.Limits.{nesting_of, layers_of};
+ghost use Rattle.cose_gate_core.specs.Findings.{usual, plain, only_exact};
 ghost use Rattle.cose_gate_core.specs.Outcome.{Answers, IsNext, IsReadFault, reader_failures, writer_failures};
 ghost use Rattle.cose_gate_core.specs.Passing.{at_end, fault_by, stopped_by};
 ghost use Rattle.cose_gate_core.specs.Run.{has_passed};
+ghost use Rattle.cose_gate_core.specs.Terms.{limits_of, IsTaken};
 
 use crate::judge::Judge;
 use crate::passing::{ItemFault, pass};
 use crate::report::{Entry, Report, Verdict};
+use crate::terms::Terms;
 use ciborium::{Value, de};
 use ciborium_ll::{Decoder, Read, Write};
+use coset_labels::Limits;
 use std::alloc::Global;
-use std::error::Error;
 use std::fmt;
+use thiserror::Error;
 
 /// How many items passed, and how many were refused.
 #[derive(Debug, Clone, Copy, PartialEq, Eq)]
@@ -24,44 +32,20 @@ pub struct Counts {
     pub refused: usize,
 }
 
-/// What stopped the gate.
-#[derive(Debug, PartialEq, Eq, Drop)]
+/// What stopped the gate. Its text is `decode: ` and the fault's text, `write` or `memory`.
+#[derive(Debug, PartialEq, Eq, Drop, Error)]
+#[error_bound(E: fmt::Display)]
 pub enum GateFault<E> {
     /// No readable item begins here, or the reader failed. It never holds `Memory`.
+    #[error("decode: {0}")]
     Decode(de::Error<E>),
     /// The writer failed; its own want of memory is such a fault too.
+    #[error("write")]
     Write,
     /// Memory was refused, to the judge or the report too.
+    #[error("memory")]
     Memory,
 }
-
-/// `decode: WORD`, `write` or `memory`.
-impl<E: fmt::Display> fmt::Display for GateFault<E> {
-    fn fmt<W: fmt::Write>(&self, f: &mut fmt::Formatter<W>) -> fmt::Result {
-        match self {
-            GateFault::Decode(error) => fmt_decode_fault(error, f),
-            GateFault::Write => f.write_str("write"),
-            GateFault::Memory => f.write_str("memory"),
-        }
-    }
-}
-
-fn fmt_decode_fault<E: fmt::Display, W: fmt::Write>(
-    error: &de::Error<E>,
-    f: &mut fmt::Formatter<W>,
-) -> fmt::Result {
-    f.write_str("decode: ")?;
-    match error {
-        de::Error::Io(e) => write!(f, "Io({e})"),
-        de::Error::Syntax(offset) => write!(f, "Syntax({offset})"),
-        de::Error::Semantic(_, kind) => write!(f, "Semantic({kind:?})"),
-        de::Error::RecursionLimitExceeded => f.write_str("RecursionLimitExceeded"),
-        de::Error::Memory => f.write_str("Memory"),
-        de::Error::TooLong => f.write_str("TooLong"),
-    }
-}
-
-impl<E: fmt::Debug + fmt::Display + Drop> Error for GateFault<E> {}
 
 /// Whether the fault is an end of the bytes.
 fn is_end<R: Read>(error: &de::Error<R::Error>) -> bool
@@ -69,11 +53,7 @@ fn is_end<R: Read>(error: &de::Error<R::Error>) -> bool
 {
     match error {
         de::Error::Io(e) => R::is_end(e),
-        de::Error::Syntax(_) => false,
-        de::Error::Semantic(_, _) => false,
-        de::Error::RecursionLimitExceeded => false,
-        de::Error::Memory => false,
-        de::Error::TooLong => false,
+        _ => false,
     }
 }
 
@@ -101,14 +81,41 @@ fn stop_of<E>(fault: ItemFault) -> GateFault<E>
     }
 }
 
+/// Reads an item, and where a strict gate asks it tells whether its bytes are the one encoding of its value.
+fn read_item<R: Read>(
+    alloc: Global,
+    terms: Terms,
+    decoder: &mut Decoder<R>,
+) -> Result<(Value, bool), de::Error<R::Error>>
+    requires { terms.strict ≡ true → waiting_of decoder.old ≡ None }
+    ensures ok { IfOk result (λ r. Takes (seen R.Read decoder.old) (seen R.Read decoder.new) (λ b. IsTaken terms b (view r.0) r.1)) }
+    ensures err { IfErr result (NamesFault R.ends (λ stop b f. Damage stop b (nesting_of terms.limits) f)
+        (seen R.Read decoder.old) (seen R.Read decoder.new)) }
+    ensures nothing { left_of R.left decoder.old ≡ Some [] → IfErr result IsNoMemory }
+    ensures some { left_of R.left decoder.old ≡ Some [] → OnOk result ⊥ }
+    ensures steady { Steady R.ends result (seen R.Read decoder.old) (seen R.Read decoder.new) }
+    ensures fits { offset_of decoder.new < 2 ^ 64 }
+{
+    let nesting = terms.limits.nesting();
+    if terms.strict {
+        return de::from_decoder_strict(alloc, decoder, nesting);
+    }
+    match de::from_decoder(alloc, decoder, nesting) {
+        Ok(value) => Ok((value, true)),
+        Err(error) => Err(error),
+    }
+}
+
 /// The next item, or `None` where no byte is left.
 fn next_item<R: Read>(
     alloc: Global,
+    terms: Terms,
     decoder: &mut Decoder<R>,
-) -> Result<Option<Value>, GateFault<R::Error>>
-    ensures next { IfOk result (IsNext (left_of R.left decoder.old) (left_of R.left decoder.new)
+) -> Result<Option<(Value, bool)>, GateFault<R::Error>>
+    requires { terms.strict ≡ true → waiting_of decoder.old ≡ None }
+    ensures next { IfOk result (IsNext terms (left_of R.left decoder.old) (left_of R.left decoder.new)
         (offset_of decoder.old) (offset_of decoder.new)) }
-    ensures err { IfErr result (IsReadFault R.ends (left_of R.left decoder.old) (offset_of decoder.old)) }
+    ensures err { IfErr result (IsReadFault R.ends (nesting_of terms.limits) (left_of R.left decoder.old) (offset_of decoder.old)) }
     ensures nothing { left_of R.left decoder.old ≡ Some [] → R.failed (reader_of decoder.new) ≡ R.failed (reader_of decoder.old)
         → offset_of decoder.old + 4096 < 2 ^ 64 → result ≡ Ok None }
     ensures failed { R.failed (reader_of decoder.new) ≡ R.failed (reader_of decoder.old) + reader_failures R.ends result }
@@ -117,8 +124,8 @@ fn next_item<R: Read>(
     ensures fresh { waiting_of decoder.new ≡ None }
 {
     let offset = decoder.offset();
-    match de::from_decoder(alloc, decoder, de::RECURSION_LIMIT) {
-        Ok(value) => Ok(Some(value)),
+    match read_item(alloc, terms, decoder) {
+        Ok(item) => Ok(Some(item)),
         Err(error) => {
             if is_end::<R>(&error) && decoder.offset() == offset {
                 return Ok(None);
@@ -156,6 +163,67 @@ fn entry_of(counts: Counts, offset: usize, verdict: Verdict) -> Entry
         number: counts.passed + counts.refused,
         offset,
         verdict,
+    }
+}
+
+/// The gate, by these terms.
+fn gate_by<R: Read, W: Write, P: Report, J: Judge>(
+    alloc: Global,
+    terms: Terms,
+    decoder: &mut Decoder<R>,
+    out: &mut W,
+    report: &mut P,
+    aad: &[u8],
+    judge: &mut J,
+) -> Result<Counts, GateFault<R::Error>>
+    requires { terms.strict ≡ true → waiting_of decoder.old ≡ None }
+    ensures ran { Answers R.ends
+        (record { limits = limits_of terms; decided = J.decided; folded = P.folded; allows = J.yes (J.who judge.old); aad = aad.now })
+        (record {
+          told = J.told judge.old;
+          state = P.state report.old;
+          written = W.written out.old;
+          offset = offset_of decoder.old;
+          left = left_of R.left decoder.old;
+        })
+        (record {
+          told = J.told judge.new;
+          state = P.state report.new;
+          written = W.written out.new;
+          offset = offset_of decoder.new;
+          left = left_of R.left decoder.new;
+        })
+        result }
+    ensures nothing { left_of R.left decoder.old ≡ Some [] → R.failed (reader_of decoder.new) ≡ R.failed (reader_of decoder.old)
+        → offset_of decoder.old + 4096 < 2 ^ 64 → IsOk result }
+    ensures reader { R.failed (reader_of decoder.new) ≡ R.failed (reader_of decoder.old) + reader_failures R.ends result }
+    ensures writer { W.failed out.new ≡ W.failed out.old + writer_failures result }
+    ensures who { J.who judge.new ≡ J.who judge.old }
+    ensures kept { R.handle (reader_of decoder.new) ≡ R.handle (reader_of decoder.old) }
+    ensures lent { W.handle out.new ≡ W.handle out.old }
+    ensures fits { offset_of decoder.new < 2 ^ 64 }
+    ensures fresh { waiting_of decoder.new ≡ None }
+{
+    let mut counts = Counts {
+        passed: 0,
+        refused: 0,
+    };
+    'items: loop {
+        let offset = decoder.offset();
+        let (value, exact) = match next_item(alloc, terms, decoder) {
+            Ok(Some(item)) => item,
+            Ok(None) => return Ok(counts),
+            Err(fault) => return Err(fault),
+        };
+        let verdict = match pass(alloc, terms, exact, value, out, aad, judge) {
+            Ok(verdict) => verdict,
+            Err(fault) => return Err(stop_of(fault)),
+        };
+        counts = counted(counts, verdict);
+        match report.note(&entry_of(counts, offset, verdict)) {
+            Ok(()) => {}
+            Err(_) => return Err(GateFault::Memory),
+        }
     }
 }
 
@@ -209,25 +277,137 @@ pub fn gate<R: Read, W: Write, P: Report, J: Judge>(
     ensures fits { offset_of decoder.new < 2 ^ 64 }
     ensures fresh { waiting_of decoder.new ≡ None }
 {
-    let mut counts = Counts {
-        passed: 0,
-        refused: 0,
+    gate_with(alloc, Limits::default(), decoder, out, report, aad, judge)
+}
+
+/// As `gate`, within these limits: items and the items in protected headers nest no deeper than `limits.nesting()` levels, and no more
+/// than `limits.layers()` protected headers lie inside one another.
+pub fn gate_with<R: Read, W: Write, P: Report, J: Judge>(
+    alloc: Global,
+    limits: Limits,
+    decoder: &mut Decoder<R>,
+    out: &mut W,
+    report: &mut P,
+    aad: &[u8],
+    judge: &mut J,
+) -> Result<Counts, GateFault<R::Error>>
+    ensures ran { Answers R.ends
+        (record { limits = plain (nesting_of limits) (layers_of limits); decided = J.decided; folded = P.folded; allows = J.yes (J.who judge.old); aad = aad.now })
+        (record {
+          told = J.told judge.old;
+          state = P.state report.old;
+          written = W.written out.old;
+          offset = offset_of decoder.old;
+          left = left_of R.left decoder.old;
+        })
+        (record {
+          told = J.told judge.new;
+          state = P.state report.new;
+          written = W.written out.new;
+          offset = offset_of decoder.new;
+          left = left_of R.left decoder.new;
+        })
+        result }
+    ensures nothing { left_of R.left decoder.old ≡ Some [] → R.failed (reader_of decoder.new) ≡ R.failed (reader_of decoder.old)
+        → offset_of decoder.old + 4096 < 2 ^ 64 → IsOk result }
+    ensures reader { R.failed (reader_of decoder.new) ≡ R.failed (reader_of decoder.old) + reader_failures R.ends result }
+    ensures writer { W.failed out.new ≡ W.failed out.old + writer_failures result }
+    ensures who { J.who judge.new ≡ J.who judge.old }
+    ensures kept { R.handle (reader_of decoder.new) ≡ R.handle (reader_of decoder.old) }
+    ensures lent { W.handle out.new ≡ W.handle out.old }
+    ensures fits { offset_of decoder.new < 2 ^ 64 }
+    ensures fresh { waiting_of decoder.new ≡ None }
+{
+    let terms = Terms {
+        limits,
+        strict: false,
     };
-    'items: loop {
-        let offset = decoder.offset();
-        let value = match next_item(alloc, decoder) {
-            Ok(Some(value)) => value,
-            Ok(None) => return Ok(counts),
-            Err(fault) => return Err(fault),
-        };
-        let verdict = match pass(alloc, value, out, aad, judge) {
-            Ok(verdict) => verdict,
-            Err(fault) => return Err(stop_of(fault)),
-        };
-        counts = counted(counts, verdict);
-        match report.note(&entry_of(counts, offset, verdict)) {
-            Ok(()) => {}
-            Err(_) => return Err(GateFault::Memory),
-        }
-    }
+    gate_by(alloc, terms, decoder, out, report, aad, judge)
+}
+
+/// As `gate`, and strict: a message passes only where its item is already the text that would be written. One that is spelled otherwise
+/// is refused as `NotShortest`, and the judge isn't asked about it. So what is written is the received bytes of the messages that pass.
+/// No header may wait in the decoder. No copy of an item's bytes is kept.
+pub fn gate_strict<R: Read, W: Write, P: Report, J: Judge>(
+    alloc: Global,
+    decoder: &mut Decoder<R>,
+    out: &mut W,
+    report: &mut P,
+    aad: &[u8],
+    judge: &mut J,
+) -> Result<Counts, GateFault<R::Error>>
+    requires { waiting_of decoder.old ≡ None }
+    ensures ran { Answers R.ends
+        (record { limits = only_exact 256 16; decided = J.decided; folded = P.folded; allows = J.yes (J.who judge.old); aad = aad.now })
+        (record {
+          told = J.told judge.old;
+          state = P.state report.old;
+          written = W.written out.old;
+          offset = offset_of decoder.old;
+          left = left_of R.left decoder.old;
+        })
+        (record {
+          told = J.told judge.new;
+          state = P.state report.new;
+          written = W.written out.new;
+          offset = offset_of decoder.new;
+          left = left_of R.left decoder.new;
+        })
+        result }
+    ensures nothing { left_of R.left decoder.old ≡ Some [] → R.failed (reader_of decoder.new) ≡ R.failed (reader_of decoder.old)
+        → offset_of decoder.old + 4096 < 2 ^ 64 → IsOk result }
+    ensures reader { R.failed (reader_of decoder.new) ≡ R.failed (reader_of decoder.old) + reader_failures R.ends result }
+    ensures writer { W.failed out.new ≡ W.failed out.old + writer_failures result }
+    ensures who { J.who judge.new ≡ J.who judge.old }
+    ensures kept { R.handle (reader_of decoder.new) ≡ R.handle (reader_of decoder.old) }
+    ensures lent { W.handle out.new ≡ W.handle out.old }
+    ensures fits { offset_of decoder.new < 2 ^ 64 }
+    ensures fresh { waiting_of decoder.new ≡ None }
+{
+    gate_strict_with(alloc, Limits::default(), decoder, out, report, aad, judge)
+}
+
+/// As `gate_strict`, within these limits.
+pub fn gate_strict_with<R: Read, W: Write, P: Report, J: Judge>(
+    alloc: Global,
+    limits: Limits,
+    decoder: &mut Decoder<R>,
+    out: &mut W,
+    report: &mut P,
+    aad: &[u8],
+    judge: &mut J,
+) -> Result<Counts, GateFault<R::Error>>
+    requires { waiting_of decoder.old ≡ None }
+    ensures ran { Answers R.ends
+        (record { limits = only_exact (nesting_of limits) (layers_of limits); decided = J.decided; folded = P.folded; allows = J.yes (J.who judge.old); aad = aad.now })
+        (record {
+          told = J.told judge.old;
+          state = P.state report.old;
+          written = W.written out.old;
+          offset = offset_of decoder.old;
+          left = left_of R.left decoder.old;
+        })
+        (record {
+          told = J.told judge.new;
+          state = P.state report.new;
+          written = W.written out.new;
+          offset = offset_of decoder.new;
+          left = left_of R.left decoder.new;
+        })
+        result }
+    ensures nothing { left_of R.left decoder.old ≡ Some [] → R.failed (reader_of decoder.new) ≡ R.failed (reader_of decoder.old)
+        → offset_of decoder.old + 4096 < 2 ^ 64 → IsOk result }
+    ensures reader { R.failed (reader_of decoder.new) ≡ R.failed (reader_of decoder.old) + reader_failures R.ends result }
+    ensures writer { W.failed out.new ≡ W.failed out.old + writer_failures result }
+    ensures who { J.who judge.new ≡ J.who judge.old }
+    ensures kept { R.handle (reader_of decoder.new) ≡ R.handle (reader_of decoder.old) }
+    ensures lent { W.handle out.new ≡ W.handle out.old }
+    ensures fits { offset_of decoder.new < 2 ^ 64 }
+    ensures fresh { waiting_of decoder.new ≡ None }
+{
+    let terms = Terms {
+        limits,
+        strict: true,
+    };
+    gate_by(alloc, terms, decoder, out, report, aad, judge)
 }

@@ -10,9 +10,10 @@ mod message;
 mod passing;
 mod recorder;
 mod report;
+mod terms;
 
 pub use crate::about::{About, Kind};
-pub use crate::gating::{Counts, GateFault, gate};
+pub use crate::gating::{Counts, GateFault, gate, gate_strict, gate_strict_with, gate_with};
 pub use crate::judge::Judge;
 pub use crate::recorder::{Asked, Recorder};
 pub use crate::report::{Entry, Refusal, Report, Silent, Verdict};
@@ -22,6 +23,6 @@ pub use ciborium_ll::{Decoder, End, Full, Io, IoFault, Mem, Read, Write};
 pub use ciborium_value::Kind as SemanticKind;
 pub use coset_headers::{CoseSignature, Header, ProtectedHeader};
 pub use coset_labels::{
-    Algorithm, ContentType, CoseError, Label, RegisteredLabel, RegisteredLabelWithPrivate,
+    Algorithm, ContentType, CoseError, Label, Limits, RegisteredLabel, RegisteredLabelWithPrivate,
 };
 pub use coset_maced::CoseRecipient;

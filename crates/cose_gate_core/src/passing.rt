@@ -1,25 +1,30 @@
 //! One item on its way through the gate.
-ghost use Rattle.std.specs.Prelude.{◌≡◌, ◌≢◌, ℕ, ◌+◌, List, pos, Some, None, MatchBool, MatchOption, IfOk, IfErr, OnOk, OnErr};
+ghost use Rattle.std.specs.Prelude.{◌≡◌, ◌≢◌, ℕ, ◌+◌, List, true, pos, Some, None, MatchBool, MatchOption, IfOk, IfErr, OnOk, OnErr};
 ghost use Rattle.std.specs.Io.KnownBytes.{Appends};
+ghost use Rattle.ciborium_value.specs.Encoding.{Fits};
 ghost use Rattle.ciborium_value.specs.Tree.{Tree, tag};
 ghost use Rattle.ciborium_value.specs.View.{view};
 ghost use Rattle.cose_iana.specs.Tags.{cbor_tags};
-ghost use Rattle.cose_gate_core.specs.Findings.{usual, HasMessage, IsCarried, IsJudged, IsUnsigned};
-ghost use Rattle.cose_gate_core.specs.Questions.{all_questions, payload_of, tag_of, tagged_tree, message_text};
+ghost use Rattle.cose_gate_core.specs.Findings.{Limits as Within, judged, HasMessage, IsCarried, IsUnsigned, Finds};
+ghost use Rattle.cose_gate_core.specs.Questions.{payload_of, tag_of, tagged_tree, message_text};
+ghost use Rattle.cose_gate_core.specs.Received.{IsReceivedMessage};
 ghost use Rattle.cose_gate_core.specs.View.{message_view};
 ghost use Rattle.coset_labels.specs.declared.error.CoseError.TheVariants.{Memory};
 ghost use Rattle.cose_gate_core.specs.declared.passing.Found.TheVariants.{Barred};
 ghost use Rattle.cose_gate_core.specs.declared.report.Refusal.TheVariants.{Shape};
-ghost use Rattle.cose_gate_core.specs.Passing.{IsFound, IsRefused, WentThrough, ItemFails, IsWriteFault, item_failures};
+ghost use Rattle.cose_gate_core.specs.Passing.{IsFound, IsRefused, IsTold, WentThrough, ItemFails, IsWriteFault, item_failures};
+ghost use Rattle.cose_gate_core.specs.Terms.{limits_of, IsTaken};
 
-use crate::asking::{ask_message, want_of_memory};
+use crate::asking::ask_message;
 use crate::judge::Judge;
 use crate::message::Message;
 use crate::report::{Refusal, Verdict};
+use crate::terms::Terms;
 use ciborium::{Value, into_writer};
 use ciborium_ll::Write;
+use ciborium_value::laws::value_fits;
 use cose_iana::{CborTag, EnumI64};
-use coset_labels::{AsCborValue, CoseError};
+use coset_labels::{AsCborValue, AsWritten, CoseError};
 use coset_maced::{CoseMac, CoseMac0};
 use coset_signed::{CoseSign, CoseSign1};
 use std::alloc::{AllocError, AllocFailed, Global};
@@ -65,18 +70,7 @@ impl<V: Drop> From<AllocFailed<V>> for ItemFault {
 fn is_memory(error: &CoseError) -> bool
     ensures { MatchBool result (error.now ≡ Memory) (error.now ≢ Memory) }
 {
-    match error {
-        CoseError::Memory => true,
-        CoseError::DecodeFailed(_) => false,
-        CoseError::DuplicateMapKey => false,
-        CoseError::EncodeFailed => false,
-        CoseError::ExtraneousData => false,
-        CoseError::OutOfRangeIntegerValue => false,
-        CoseError::UnexpectedItem(_, _) => false,
-        CoseError::UnregisteredIanaValue => false,
-        CoseError::UnregisteredIanaNonPrivateValue => false,
-        CoseError::TooManyLayers => false,
-    }
+    matches!(error, CoseError::Memory)
 }
 
 /// The refusal of a value that can't be read as a message of its tag.
@@ -108,17 +102,17 @@ fn is_unsigned(message: &Message) -> bool
 {
     match message {
         Message::Sign(message) => message.signatures.is_empty(),
-        Message::Sign1(_) => false,
-        Message::Mac0(_) => false,
-        Message::Mac(_) => false,
+        _ => false,
     }
 }
 
-/// Why a message that was read is not judged, if it isn't. One without a payload is detached, whether it has signatures or not.
-fn bar_of(message: &Message) -> Option<Refusal>
-    ensures { (u : Tree) → HasMessage usual u (message_view message.now)
-        → MatchOption result (IsJudged usual (tag (tag_of (message_view message.now)) u) (message_view message.now))
-        (IsRefused usual (tag (tag_of (message_view message.now)) u)) }
+/// Why a message that was read is not judged, if it isn't. One without a payload is detached, whether it has signatures or not; only one
+/// that would else be judged is spelled otherwise.
+fn bar_of(message: &Message, shortest: bool) -> Option<Refusal>
+    ensures { (limits : Within) (b : List ℕ) (u : Tree) → HasMessage limits u (message_view message.now)
+        → IsTold limits b (message_view message.now) shortest
+        → MatchOption result (Finds limits b (tag (tag_of (message_view message.now)) u) (judged (message_view message.now)))
+        (IsRefused limits b (tag (tag_of (message_view message.now)) u)) }
 {
     if !is_carried(message) {
         return Some(Refusal::Detached);
@@ -126,14 +120,19 @@ fn bar_of(message: &Message) -> Option<Refusal>
     if is_unsigned(message) {
         return Some(Refusal::NoSignature);
     }
+    if !shortest {
+        return Some(Refusal::NotShortest);
+    }
     None
 }
 
 /// What is found of a message that was read.
-fn found_of(message: Message) -> Found
-    ensures { (u : Tree) → HasMessage usual u (message_view message) → IsFound usual (tag (tag_of (message_view message)) u) result }
+fn found_of(message: Message, shortest: bool) -> Found
+    ensures { (limits : Within) (b : List ℕ) (u : Tree) → HasMessage limits u (message_view message)
+        → IsTold limits b (message_view message) shortest
+        → IsFound limits b (tag (tag_of (message_view message)) u) result }
 {
-    match bar_of(&message) {
+    match bar_of(&message, shortest) {
         Some(refusal) => {
             drop(message);
             Found::Barred(refusal)
@@ -142,42 +141,68 @@ fn found_of(message: Message) -> Found
     }
 }
 
-/// The message under the tag of a Sign1.
-fn find_sign1(alloc: Global, content: Value) -> Result<Found, AllocError>
-    ensures { IfOk result (IsFound usual (tag 18 (view content))) }
+/// Whether a strict gate may pass a message of this value, the content of its tag. A gate that isn't strict doesn't ask.
+fn is_shortest<M: AsWritten>(strict: bool, exact: bool, value: &Value) -> bool
+    ensures { (n k : ℕ) (x : M.Content) → M.has n (view value.now) x k → MatchBool result
+        (strict ≡ true → (exact ≡ true) × (M.tree_of x ≡ Some (view value.now)))
+        ((strict ≡ true) × Fits (view value.now) × (exact ≡ true → M.tree_of x ≡ Some (view value.now) → ⊥)) }
 {
-    match CoseSign1::from_cbor_value(alloc, content) {
-        Ok(message) => Ok(found_of(Message::Sign1(message))),
+    if !strict {
+        return true;
+    }
+    if exact {
+        if M::is_as_written(value) {
+            return true;
+        }
+    }
+    value_fits(value);
+    false
+}
+
+/// The message under the tag of a Sign1.
+fn find_sign1(alloc: Global, terms: Terms, exact: bool, content: Value) -> Result<Found, AllocError>
+    ensures { (b : List ℕ) → IsTaken terms b (tag 18 (view content)) exact
+        → IfOk result (IsFound (limits_of terms) b (tag 18 (view content))) }
+{
+    let shortest = is_shortest::<CoseSign1>(terms.strict, exact, &content);
+    match CoseSign1::from_cbor_value_with(alloc, content, terms.limits) {
+        Ok(message) => Ok(found_of(Message::Sign1(message), shortest)),
         Err(error) => misshapen(error),
     }
 }
 
 /// The message under the tag of a Mac0.
-fn find_mac0(alloc: Global, content: Value) -> Result<Found, AllocError>
-    ensures { IfOk result (IsFound usual (tag 17 (view content))) }
+fn find_mac0(alloc: Global, terms: Terms, exact: bool, content: Value) -> Result<Found, AllocError>
+    ensures { (b : List ℕ) → IsTaken terms b (tag 17 (view content)) exact
+        → IfOk result (IsFound (limits_of terms) b (tag 17 (view content))) }
 {
-    match CoseMac0::from_cbor_value(alloc, content) {
-        Ok(message) => Ok(found_of(Message::Mac0(message))),
+    let shortest = is_shortest::<CoseMac0>(terms.strict, exact, &content);
+    match CoseMac0::from_cbor_value_with(alloc, content, terms.limits) {
+        Ok(message) => Ok(found_of(Message::Mac0(message), shortest)),
         Err(error) => misshapen(error),
     }
 }
 
 /// The message under the tag of a Mac.
-fn find_mac(alloc: Global, content: Value) -> Result<Found, AllocError>
-    ensures { IfOk result (IsFound usual (tag 97 (view content))) }
+fn find_mac(alloc: Global, terms: Terms, exact: bool, content: Value) -> Result<Found, AllocError>
+    ensures { (b : List ℕ) → IsTaken terms b (tag 97 (view content)) exact
+        → IfOk result (IsFound (limits_of terms) b (tag 97 (view content))) }
 {
-    match CoseMac::from_cbor_value(alloc, content) {
-        Ok(message) => Ok(found_of(Message::Mac(message))),
+    let shortest = is_shortest::<CoseMac>(terms.strict, exact, &content);
+    match CoseMac::from_cbor_value_with(alloc, content, terms.limits) {
+        Ok(message) => Ok(found_of(Message::Mac(message), shortest)),
         Err(error) => misshapen(error),
     }
 }
 
 /// The message under the tag of a Sign.
-fn find_sign(alloc: Global, content: Value) -> Result<Found, AllocError>
-    ensures { IfOk result (IsFound usual (tag 98 (view content))) }
+fn find_sign(alloc: Global, terms: Terms, exact: bool, content: Value) -> Result<Found, AllocError>
+    ensures { (b : List ℕ) → IsTaken terms b (tag 98 (view content)) exact
+        → IfOk result (IsFound (limits_of terms) b (tag 98 (view content))) }
 {
-    match CoseSign::from_cbor_value(alloc, content) {
-        Ok(message) => Ok(found_of(Message::Sign(message))),
+    let shortest = is_shortest::<CoseSign>(terms.strict, exact, &content);
+    match CoseSign::from_cbor_value_with(alloc, content, terms.limits) {
+        Ok(message) => Ok(found_of(Message::Sign(message), shortest)),
         Err(error) => misshapen(error),
     }
 }
@@ -190,8 +215,15 @@ fn is_tag(number: u64, tag: CborTag) -> bool
 }
 
 /// What is found under a tag.
-fn find_tagged(alloc: Global, number: u64, content: Value) -> Result<Found, AllocError>
-    ensures { IfOk result (IsFound usual (tag number (view content))) }
+fn find_tagged(
+    alloc: Global,
+    terms: Terms,
+    exact: bool,
+    number: u64,
+    content: Value,
+) -> Result<Found, AllocError>
+    ensures { (b : List ℕ) → IsTaken terms b (tag number (view content)) exact
+        → IfOk result (IsFound (limits_of terms) b (tag number (view content))) }
 {
     if is_tag(number, CborTag::CoseEncrypt0) {
         return Ok(Found::Barred(Refusal::Encrypted));
@@ -200,35 +232,37 @@ fn find_tagged(alloc: Global, number: u64, content: Value) -> Result<Found, Allo
         return Ok(Found::Barred(Refusal::Encrypted));
     }
     if is_tag(number, CborTag::CoseSign1) {
-        return find_sign1(alloc, content);
+        return find_sign1(alloc, terms, exact, content);
     }
     if is_tag(number, CborTag::CoseMac0) {
-        return find_mac0(alloc, content);
+        return find_mac0(alloc, terms, exact, content);
     }
     if is_tag(number, CborTag::CoseMac) {
-        return find_mac(alloc, content);
+        return find_mac(alloc, terms, exact, content);
     }
     if is_tag(number, CborTag::CoseSign) {
-        return find_sign(alloc, content);
+        return find_sign(alloc, terms, exact, content);
     }
     Ok(Found::Barred(Refusal::OtherTag(number)))
 }
 
 /// The message that an item is, or why it is none that is judged.
-fn find(alloc: Global, value: Value) -> Result<Found, AllocError>
-    ensures { IfOk result (IsFound usual (view value)) }
+fn find(alloc: Global, terms: Terms, exact: bool, value: Value) -> Result<Found, AllocError>
+    ensures { (b : List ℕ) → IsTaken terms b (view value) exact → IfOk result (IsFound (limits_of terms) b (view value)) }
 {
     match value {
-        Value::Tag(number, content) => find_tagged(alloc, number, Box::into_inner(content)),
-        Value::Integer(_) => Ok(Found::Barred(Refusal::NotTagged)),
-        Value::Bytes(_) => Ok(Found::Barred(Refusal::NotTagged)),
-        Value::Float(_) => Ok(Found::Barred(Refusal::NotTagged)),
-        Value::Text(_) => Ok(Found::Barred(Refusal::NotTagged)),
-        Value::Bool(_) => Ok(Found::Barred(Refusal::NotTagged)),
-        Value::Null => Ok(Found::Barred(Refusal::NotTagged)),
-        Value::Array(_) => Ok(Found::Barred(Refusal::NotTagged)),
-        Value::Map(_) => Ok(Found::Barred(Refusal::NotTagged)),
+        Value::Tag(number, content) => {
+            find_tagged(alloc, terms, exact, number, Box::into_inner(content))
+        }
+        _ => Ok(Found::Barred(Refusal::NotTagged)),
     }
+}
+
+/// The fault of a call that fails for want of memory alone.
+fn want_of_memory(_error: CoseError) -> AllocError
+    requires { _error ≡ Memory }
+{
+    AllocError
 }
 
 /// The value that a message is written as.
@@ -298,19 +332,19 @@ fn pass_message<W: Write, J: Judge>(
     aad: &[u8],
     judge: &mut J,
 ) -> Result<Verdict, ItemFault>
-    requires asked { all_questions (message_view message) aad.now ≢ None }
+    requires received { IsReceivedMessage (message_view message) }
     requires text { tagged_tree (message_view message) ≢ None }
-    ensures ok { (bytes : List ℕ) (t : Tree) → IsJudged usual t (message_view message)
-        → IfOk result (WentThrough usual J.decided (J.yes (J.who judge.old)) aad.now bytes t
+    ensures ok { (limits : Within) (bytes : List ℕ) (t : Tree) → Finds limits bytes t (judged (message_view message))
+        → IfOk result (WentThrough limits J.decided (J.yes (J.who judge.old)) aad.now bytes t
         (J.told judge.old) (J.told judge.new) (W.written out.old) (W.written out.new)) }
-    ensures err { (bytes : List ℕ) (t : Tree) → IsJudged usual t (message_view message)
-        → IfErr result (ItemFails usual J.decided (J.yes (J.who judge.old)) aad.now bytes t
+    ensures err { (limits : Within) (bytes : List ℕ) (t : Tree) → Finds limits bytes t (judged (message_view message))
+        → IfErr result (ItemFails limits J.decided (J.yes (J.who judge.old)) aad.now bytes t
         (J.told judge.old) (J.told judge.new) (W.written out.old) (W.written out.new)) }
     ensures who { J.who judge.new ≡ J.who judge.old }
     ensures kept { W.handle out.new ≡ W.handle out.old }
     ensures failed { W.failed out.new ≡ W.failed out.old + item_failures result }
 {
-    match ask_message(alloc, &message, aad, judge) {
+    match ask_message(&message, aad, judge) {
         Ok(None) => match write_message(alloc, message, out) {
             Ok(()) => Ok(Verdict::Passed),
             Err(fault) => Err(fault),
@@ -326,23 +360,28 @@ fn pass_message<W: Write, J: Judge>(
     }
 }
 
-/// Tests an item, asks the judge about it, and writes it where it has passed.
+/// Tests an item that was read, asks the judge about it, and writes it where it has passed.
 pub fn pass<W: Write, J: Judge>(
     alloc: Global,
+    terms: Terms,
+    exact: bool,
     value: Value,
     out: &mut W,
     aad: &[u8],
     judge: &mut J,
 ) -> Result<Verdict, ItemFault>
-    ensures ok { (bytes : List ℕ) → IfOk result (WentThrough usual J.decided (J.yes (J.who judge.old)) aad.now bytes (view value)
+    requires { (bytes : List ℕ) × IsTaken terms bytes (view value) exact }
+    ensures ok { (bytes : List ℕ) → IsTaken terms bytes (view value) exact
+        → IfOk result (WentThrough (limits_of terms) J.decided (J.yes (J.who judge.old)) aad.now bytes (view value)
         (J.told judge.old) (J.told judge.new) (W.written out.old) (W.written out.new)) }
-    ensures err { (bytes : List ℕ) → IfErr result (ItemFails usual J.decided (J.yes (J.who judge.old)) aad.now bytes (view value)
+    ensures err { (bytes : List ℕ) → IsTaken terms bytes (view value) exact
+        → IfErr result (ItemFails (limits_of terms) J.decided (J.yes (J.who judge.old)) aad.now bytes (view value)
         (J.told judge.old) (J.told judge.new) (W.written out.old) (W.written out.new)) }
     ensures who { J.who judge.new ≡ J.who judge.old }
     ensures kept { W.handle out.new ≡ W.handle out.old }
     ensures failed { W.failed out.new ≡ W.failed out.old + item_failures result }
 {
-    match find(alloc, value)? {
+    match find(alloc, terms, exact, value)? {
         Found::Judged(message) => pass_message(alloc, message, out, aad, judge),
         Found::Barred(refusal) => Ok(Verdict::Refused(refusal)),
     }

@@ -1,5 +1,5 @@
 //! A judge that records its questions.
-ghost use Rattle.std.specs.Prelude.{◌≡◌, ℕ, List, [], ◌∷◌, ◌++◌, ◌<◌, vec_len, vec_capacity, map, Option};
+ghost use Rattle.std.specs.Prelude.{◌≡◌, ℕ, List, [], ◌∷◌, ◌++◌, OnOk, OnErr, length, map, Option};
 ghost use Rattle.cose_gate_core.specs.Recorded.{AskedFields, asked_view, kept_of, front_of, is_other, bytes_of};
 
 use crate::about::{About, Kind};
@@ -67,7 +67,9 @@ impl Recorder {
 }
 
 impl Judge for Recorder {
-    ghost use Rattle.cose_gate_core.specs.Recorded.{asked_of, refused_of};
+    ghost use Rattle.cose_gate_core.specs.Lent.{subject_of};
+    ghost use Rattle.cose_gate_core.specs.Questions.{Subject};
+    ghost use Rattle.cose_gate_core.specs.Recorded.{asked_of, refused_of, pieces_of, holds_question, IsKept};
 
     ghost Who = { Option (List ℕ) };
 
@@ -77,16 +79,23 @@ impl Judge for Recorder {
 
     ghost told = { asked_of };
 
-    ghost holds = { λ s subject bytes.
-        (s.kind ≡ subject.kind) × (s.structure.items ≡ bytes) × (vec_len s.asked < vec_capacity s.asked) };
+    ghost holds = { holds_question };
 
-    ghost pieces = { λ s. s.pieces.items };
+    ghost pieces = { pieces_of };
 
     ghost yes = { λ no q. is_other no q.signature };
 
     ghost decided = { λ told q. told ++ kept_of q ∷ [] };
 
-    fn begin(&mut self, about: &About) -> Result<(), AllocError> {
+    fn begin(&mut self, about: &About) -> Result<(), AllocError>
+        ensures holds { OnOk result (holds_question self.new (subject_of about.now) []) }
+        ensures pieces { OnOk result (pieces_of self.new ≡ []) }
+        ensures told { asked_of self.new ≡ asked_of self.old }
+        ensures who { refused_of self.new ≡ refused_of self.old }
+
+        // A refused one leaves the question that is held.
+        ensures kept { OnErr result (IsKept self.old self.new) }
+    {
         self.asked.reserve(1)?;
         self.structure.clear();
         self.kind = about.kind;
@@ -94,7 +103,17 @@ impl Judge for Recorder {
         Ok(())
     }
 
-    fn feed(&mut self, piece: &[u8]) -> Result<(), AllocError> {
+    fn feed(&mut self, piece: &[u8]) -> Result<(), AllocError>
+        ensures holds { OnOk result ((subject : Subject) (bytes : List ℕ) → holds_question self.old subject bytes
+            → holds_question self.new subject (bytes ++ piece.now)) }
+        ensures pieces { OnOk result (pieces_of self.new ≡ pieces_of self.old ++ length piece.now ∷ []) }
+        ensures refused { OnErr result (pieces_of self.new ≡ pieces_of self.old) }
+        ensures told { asked_of self.new ≡ asked_of self.old }
+        ensures who { refused_of self.new ≡ refused_of self.old }
+
+        // A refused one leaves the question that is held.
+        ensures kept { OnErr result (IsKept self.old self.new) }
+    {
         self.structure.extend_from_slice(piece)?;
         self.pieces = self.pieces.and(&piece.len());
         Ok(())

@@ -7,7 +7,7 @@ use std::alloc::AllocError;
 use thiserror::Error;
 
 /// Why an item was refused. The reasons are tested in the order `NotTagged`, `Encrypted`, `OtherTag`, `Shape`, `Detached`,
-/// `NoSignature`, `Judged`. Its text is its name, and of a shape the fault's text too.
+/// `NoSignature`, `NotShortest`, `Judged`. Its text is its name, and of a shape the fault's text too.
 #[derive(Debug, Clone, Copy, PartialEq, Eq, Error)]
 pub enum Refusal {
     /// The item has no tag.
@@ -31,6 +31,9 @@ pub enum Refusal {
     /// The judge said no to the question with this index, counted from 0.
     #[error("Judged")]
     Judged(usize),
+    /// The item is spelled otherwise than the message would be written. Only a strict gate refuses so.
+    #[error("NotShortest")]
+    NotShortest,
 }
 
 /// What became of an item: `passed`, or `refused: ` and why.

@@ -5,11 +5,12 @@ use Rattle.std.proofs.lemmas.Bool.{cases_eq}
 use Rattle.std.proofs.lemmas.List.{map-append}
 use denote.Bor.{Bor}
 use Rattle.ciborium_value.specs.Tree.{Tree, integer, bytes, text, array, map as map_tree, tag, simple, float}
+use Rattle.ciborium_value.specs.declared.kind.Kind.TheVariants as kind
 use Rattle.ciborium.specs.Damage.{Fault, end, deep, syntax, semantic}
-use Rattle.ciborium.specs.Items.{Item, Items, Sequence, nesting}
+use Rattle.ciborium.specs.Items.{Item, ItemsWithin, SequenceWithin}
 use Rattle.ciborium.specs.declared.de.Error.TheVariants as de
-use Rattle.ciborium.proofs.Sequence.{items_there}
-use Rattle.coset_labels.specs.Faults.{CoseFault, undecodable, too_long, duplicate_key, unencodable, extraneous, out_of_range, unexpected, unregistered, unregistered_private, no_memory, too_many_layers, fault_of}
+use Rattle.ciborium.proofs.Sequence.{items_there_within}
+use Rattle.coset_labels.specs.Faults.{CoseFault, undecodable, too_long, duplicate_key, unencodable, extraneous, out_of_range, unexpected, unregistered, unregistered_private, no_memory, too_many_layers, misplaced, fault_of}
 use Rattle.coset_labels.specs.declared.error.CoseError.{CoseError}
 use Rattle.coset_labels.specs.declared.error.CoseError.TheVariants as code
 use Rattle.cose_gate_core.specs.SignedFields.{Sign1Fields, SignFields}
@@ -151,6 +152,7 @@ error_there unregistered = (code.UnregisteredIanaValue, refl)
 error_there unregistered_private = (code.UnregisteredIanaNonPrivateValue, refl)
 error_there no_memory = (code.Memory, refl)
 error_there too_many_layers = (code.TooManyLayers, refl)
+error_there misplaced = (code.DecodeFailed (de.Semantic (Some 0) kind.WrongType), refl)
 
 module _ (l : Limits) (allows : Question → Bool) (aad : List ℕ) where
   verdict_there : (b : List ℕ) (t : Tree) (f : Finding) → Finds l b t f → (v : Verdict) × IsVerdict l allows aad t f v
@@ -178,19 +180,19 @@ module _ (l : Limits) (allows : Question → Bool) (aad : List ℕ) where
     are = (h, refl, refl, w, more.are);
   }
 
-  steps_over : (n at : ℕ) (b : List ℕ) (is : List Item) (rest : List ℕ) → Sequence at b is rest → All IsByte b → StepsOver n is
+  steps_over : (n at : ℕ) (b : List ℕ) (is : List Item) (rest : List ℕ) → SequenceWithin l.nesting at b is rest → All IsByte b → StepsOver n is
   steps_over n at b [] rest s low = record { steps = []; items = refl; are = tt }
   steps_over n at b (i ∷ is) rest s low =
-      let t = reads_low i.bytes nesting i.value s.1 (before b i.bytes s.2.0 s.2.1 low) in
+      let t = reads_low i.bytes l.nesting i.value s.1 (before b i.bytes s.2.0 s.2.1 low) in
       let f = finding_there l i.bytes i.value t in
       let v = verdict_there i.bytes i.value f.0 f.1 in
       one_more_step n i is f.0 f.1 v.0 v.1 (steps_over (n + 1) (at + length i.bytes) s.2.0 is rest s.2.2 (behind b i.bytes s.2.0 s.2.1 low))
 
   pub run_there : (at : ℕ) (b : List ℕ) → All IsByte b → (ss : List Step) × (rest : List ℕ) × Run l allows aad at b ss rest
   run_there at b low =
-      let i = items_there at b low in
+      let i = items_there_within l.nesting at b low in
       let s = steps_over 1 at b i.0 i.1 i.2.sequence low in
-      (s.steps, i.1, record { items = subst (λ z. Items at b z i.1) (sym s.items) i.2; steps = s.are })
+      (s.steps, i.1, record { items = subst (λ z. ItemsWithin l.nesting at b z i.1) (sym s.items) i.2; steps = s.are })
 
   -- ---- what was gone through goes on to a run
   abbrev ends : ℕ → List Item → ℕ
@@ -201,15 +203,15 @@ module _ (l : Limits) (allows : Question → Bool) (aad : List ℕ) where
   after n [] = n
   after n (s ∷ ss) = after (n + 1) ss
 
-  items_joined : (at : ℕ) (b : List ℕ) (is js : List Item) (more rest : List ℕ) → Sequence at b is more → Sequence (ends at is) more js rest → Sequence at b (is ++ js) rest
-  items_joined at b [] js more rest p q = subst (λ (z : List ℕ). Sequence at z js rest) (sym p) q
+  items_joined : (at : ℕ) (b : List ℕ) (is js : List Item) (more rest : List ℕ) → SequenceWithin l.nesting at b is more → SequenceWithin l.nesting (ends at is) more js rest → SequenceWithin l.nesting at b (is ++ js) rest
+  items_joined at b [] js more rest p q = subst (λ (z : List ℕ). SequenceWithin l.nesting at z js rest) (sym p) q
   items_joined at b (i ∷ is) js more rest p q = (p.0, p.1, (p.2.0, p.2.1, items_joined (at + length i.bytes) p.2.0 is js more rest p.2.2 q))
 
   steps_joined : (n : ℕ) (ss rs : List Step) → Steps l allows aad n ss → Steps l allows aad (after n ss) rs → Steps l allows aad n (ss ++ rs)
   steps_joined n [] rs p q = q
   steps_joined n (s ∷ ss) rs p q = (p.0, p.1, p.2, p.3, steps_joined (n + 1) ss rs p.4 q)
 
-  left_low : (at : ℕ) (b : List ℕ) (is : List Item) (more : List ℕ) → Sequence at b is more → All IsByte b → All IsByte more
+  left_low : (at : ℕ) (b : List ℕ) (is : List Item) (more : List ℕ) → SequenceWithin l.nesting at b is more → All IsByte b → All IsByte more
   left_low at b [] more s low = subst (All IsByte) s low
   left_low at b (i ∷ is) more s low = left_low (at + length i.bytes) s.2.0 is more s.2.2 (behind b i.bytes s.2.0 s.2.1 low)
 
@@ -218,14 +220,14 @@ module _ (l : Limits) (allows : Question → Bool) (aad : List ℕ) where
   course_goes_on at b ss more c low =
       let is = map (λ s. s.item) ss in
       let low' = left_low at b is more c.sequence low in
-      let i = items_there (ends at is) more low' in
+      let i = items_there_within l.nesting (ends at is) more low' in
       let s = steps_over (after 1 ss) (ends at is) more i.0 i.1 i.2.sequence low' in
-      let seq : Sequence at b (is ++ map (λ s. s.item) s.steps) i.1 =
-      items_joined at b is (map (λ s. s.item) s.steps) more i.1 c.sequence (subst (λ z. Sequence (ends at is) more z i.1) (sym s.items) i.2.sequence) in (
+      let seq : SequenceWithin l.nesting at b (is ++ map (λ s. s.item) s.steps) i.1 =
+      items_joined at b is (map (λ s. s.item) s.steps) more i.1 c.sequence (subst (λ z. SequenceWithin l.nesting (ends at is) more z i.1) (sym s.items) i.2.sequence) in (
         s.steps,
         i.1,
         record {
-          items = record { sequence = subst (λ z. Sequence at b z i.1) (sym (map-append (λ s. s.item) ss s.steps)) seq; ends = i.2.ends };
+          items = record { sequence = subst (λ z. SequenceWithin l.nesting at b z i.1) (sym (map-append (λ s. s.item) ss s.steps)) seq; ends = i.2.ends };
           steps = steps_joined 1 ss s.steps c.steps s.are;
         },
       )

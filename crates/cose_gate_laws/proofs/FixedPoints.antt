@@ -6,8 +6,8 @@ use Rattle.std.proofs.lemmas.List.Sums.{sum_by-cons}
 use Rattle.ciborium_value.specs.Tree.{Tree}
 use Rattle.ciborium_value.specs.Encoding.{enc}
 use Rattle.ciborium.specs.Front.{Reads}
-use Rattle.ciborium.specs.Items.{Item, nesting, item_at}
-use Rattle.ciborium.proofs.Sequence.{items_once}
+use Rattle.ciborium.specs.Items.{Item, item_at}
+use Rattle.ciborium.proofs.Sequence.{items_once_within}
 use Rattle.coset_headers.proofs.Entered.{bool_cases}
 use Rattle.coset_headers.proofs.Sound.{reads_sound, sound_reads}
 use Rattle.cose_gate_core.specs.declared.report.Entry.{Entry}
@@ -24,8 +24,8 @@ use Rattle.cose_gate_laws.specs.Fixed.{passed_questions, Admits, FixedPoint}
 use Rattle.cose_gate_laws.proofs.Placed.{put, placed, placed_asks, placed_writes, AllSteps, run_told, run_again}
 use Rattle.cose_gate_laws.proofs.Within.{nothing_unreadable}
 use Rattle.cose_gate_laws.proofs.Lows.{IsByte, before, behind, reads_fits}
-use Rattle.cose_gate_laws.proofs.Outputs.{rewritten}
-use Rattle.cose_gate_laws.proofs.Wider.{judged_wider}
+use Rattle.cose_gate_core.proofs.Rewritten.{rewritten}
+use Rattle.cose_gate_laws.proofs.Wider.{judged_wider, reads_wider}
 
 -- the entry of a message that passed
 abbrev HasPassed : Entry → Type 0
@@ -117,19 +117,19 @@ module _ (l k : Limits) (allows : Question → Bool) (aad : List ℕ) where
   -- what becomes of a step: nothing is written of it, or the text of a message that is found in that text again
   data Becomes (f : Finding) : Type 0 where
     nothing : passes allows aad f ≡ false → passed_of allows aad f ≡ [] → Becomes f
-    message : (m : MessageFields) (t : Tree) → f ≡ judged m → passes allows aad (judged m) ≡ true → message_text m ≡ enc t → Reads (enc t) nesting t → Finds k (enc t) t (judged m) → Becomes f
+    message : (m : MessageFields) (t : Tree) → f ≡ judged m → passes allows aad (judged m) ≡ true → message_text m ≡ enc t → Reads (enc t) k.nesting t → Finds k (enc t) t (judged m) → Becomes f
 
   module _ (keeps : Admits l k) where
-    becomes_judged : (b : List ℕ) (t : Tree) (m : MessageFields) → Finds l b t (judged m) → Reads b nesting t → All IsByte b → length b < 2 ^ 64
+    becomes_judged : (b : List ℕ) (t : Tree) (m : MessageFields) → Finds l b t (judged m) → Reads b l.nesting t → All IsByte b → length b < 2 ^ 64
         → (passes allows aad (judged m) ≡ true) ⊎ (passes allows aad (judged m) ≡ false) → Becomes (judged m)
     becomes_judged b t m h r low few (inr out) = nothing out (ap (λ c. cond c (m ∷ []) []) out)
     becomes_judged b t m h r low few (inl through) =
         let w = rewritten l t m h.0 in
-        let f = reads_fits b nesting t r low few in
-        message m w.tree refl through w.text (sound_reads nesting w.tree (w.rewrite.kept.fits f) (w.rewrite.sound nesting (reads_sound b nesting t r)))
+        let f = reads_fits b l.nesting t r low few in
+        message m w.tree refl through w.text (sound_reads k.nesting w.tree (w.rewrite.kept.fits f) (w.rewrite.sound k.nesting (reads_sound b k.nesting t (reads_wider l.nesting k.nesting keeps.nesting b t r))))
         (judged_wider l k keeps.nesting keeps.layers w.tree m w.has, subst (λ z. k.excludes z m ≡ None) w.text (keeps.written b m h.1))
 
-    becomes : (b : List ℕ) (t : Tree) (f : Finding) → Finds l b t f → Reads b nesting t → All IsByte b → length b < 2 ^ 64 → Becomes f
+    becomes : (b : List ℕ) (t : Tree) (f : Finding) → Finds l b t f → Reads b l.nesting t → All IsByte b → length b < 2 ^ 64 → Becomes f
     becomes b t (judged m) h r low few = becomes_judged b t m h r low few (bool_cases (passes allows aad (judged m)))
     becomes b t (barred q) h r low few = nothing refl refl
     becomes b t (excluded m q) h r low few = nothing refl refl
@@ -165,7 +165,7 @@ module _ (l k : Limits) (allows : Question → Bool) (aad : List ℕ) where
           through = o.through;
         }
 
-    more_anew : (s : Step) (ss : List Step) (m : MessageFields) (t : Tree) → s.finding ≡ judged m → passes allows aad (judged m) ≡ true → message_text m ≡ enc t → Reads (enc t) nesting t
+    more_anew : (s : Step) (ss : List Step) (m : MessageFields) (t : Tree) → s.finding ≡ judged m → passes allows aad (judged m) ≡ true → message_text m ≡ enc t → Reads (enc t) k.nesting t
         → Finds k (enc t) t (judged m) → Anew ss → Anew (s ∷ ss)
     more_anew s ss m t e through text r finds o =
         let asked = asked_of allows aad (judged m) in
@@ -220,7 +220,7 @@ module _ (l k : Limits) (allows : Question → Bool) (aad : List ℕ) where
           let vs = placed 1 to o.steps in
           let p : Run k allows aad to w vs [] = run_anew o in
           let once = run_once k allows aad to w rs vs more [] q p in
-          let i = items_once to w _ _ more [] q.items p.items in
+          let i = items_once_within k.nesting to w _ _ more [] q.items p.items in
           let same = steps_same k allows aad 1 rs vs i.0 q.steps p.steps in
           let through = same.through (placed_through k allows aad 1 to o.steps o.through) in
           record {

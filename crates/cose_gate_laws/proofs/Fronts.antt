@@ -3,8 +3,8 @@ use Rattle.std.proofs.Common.{◌≡◌, ℕ, ◌+◌, inl, inr, List, [], ◌�
 use Rattle.std.proofs.lemmas.List.{append_cancel_left, map-append}
 use Rattle.std.proofs.lemmas.Grind.{flat_map-append}
 use Rattle.ciborium_value.specs.Tree.{Tree}
-use Rattle.ciborium.specs.Items.{Item, Sequence, IsUnreadable, nesting}
-use Rattle.ciborium.proofs.Sequence.{items_once}
+use Rattle.ciborium.specs.Items.{Item, SequenceWithin, IsUnreadableWithin}
+use Rattle.ciborium.proofs.Sequence.{items_once_within}
 use Rattle.coset_headers.proofs.Unique.{reads_once}
 use Rattle.cose_gate_core.specs.declared.report.Verdict.{Verdict}
 use Rattle.cose_gate_core.specs.Questions.{Question}
@@ -103,18 +103,18 @@ module _ (limits : Limits) (allows : Question → Bool) (aad : List ℕ) where
   same_item : (i j : Item) → i.offset ≡ j.offset → i.bytes ≡ j.bytes → i.value ≡ j.value → i ≡ j
   same_item i j o b v = λ k. record { offset = o k; bytes = b k; value = v k }
 
-  pub parted : (n at : ℕ) (b : List ℕ) (ss rs : List Step) (more rest : List ℕ) → IsUnreadable rest → Sequence at b (map (λ s. s.item) ss) more → Sequence at b (map (λ s. s.item) rs) rest
+  pub parted : (n at : ℕ) (b : List ℕ) (ss rs : List Step) (more rest : List ℕ) → IsUnreadableWithin limits.nesting rest → SequenceWithin limits.nesting at b (map (λ s. s.item) ss) more → SequenceWithin limits.nesting at b (map (λ s. s.item) rs) rest
       → Steps limits allows aad n ss → Steps limits allows aad n rs → Parted ss rs
   parted n at b [] rs more rest u p q x y = record { front = []; behind = rs; whole = refl; items = refl; same = none_alike; entries = tt }
   parted n at b (s ∷ ss) [] more rest u p q x y =
       absurd (u s.item.value p.2.0 (record { spelling = s.item.bytes; whole = sym q ∙ p.2.1; reads = p.1 }))
   parted n at b (s ∷ ss) (r ∷ rs) more rest u p q x y =
       let e : s.item.bytes ++ p.2.0 ≡ r.item.bytes ++ q.2.0 = sym p.2.1 ∙ q.2.1 in
-      let o = reads_once s.item.bytes r.item.bytes p.2.0 q.2.0 nesting s.item.value r.item.value p.1 q.1 e in
+      let o = reads_once s.item.bytes r.item.bytes p.2.0 q.2.0 limits.nesting s.item.value r.item.value p.1 q.1 e in
       let tails : p.2.0 ≡ q.2.0 = append_cancel_left s.item.bytes p.2.0 q.2.0 (e ∙ ap (λ z. z ++ q.2.0) (sym o.1)) in
-      let there : Sequence (at + length s.item.bytes) p.2.0 (map (λ s. s.item) rs) rest =
-      subst (λ (z : List ℕ). Sequence (at + length s.item.bytes) z (map (λ s. s.item) rs) rest) (sym tails)
-      (subst (λ (z : List ℕ). Sequence (at + length z) q.2.0 (map (λ s. s.item) rs) rest) (sym o.1) q.2.2) in
+      let there : SequenceWithin limits.nesting (at + length s.item.bytes) p.2.0 (map (λ s. s.item) rs) rest =
+      subst (λ (z : List ℕ). SequenceWithin limits.nesting (at + length s.item.bytes) z (map (λ s. s.item) rs) rest) (sym tails)
+      (subst (λ (z : List ℕ). SequenceWithin limits.nesting (at + length z) q.2.0 (map (λ s. s.item) rs) rest) (sym o.1) q.2.2) in
       let w = parted (n + 1) (at + length s.item.bytes) p.2.0 ss rs more rest u p.2.2 there x.4 y.4 in
       let item : s.item ≡ r.item = same_item s.item r.item (p.0 ∙ sym q.0) o.1 o.0 in
       let one = one_step s r item (p.1, x.0, x.3) (q.1, y.0, y.3) in
@@ -175,7 +175,7 @@ module _ (limits : Limits) (allows : Question → Bool) (aad : List ℕ) where
   runs_alike at b ss rs rest more p q =
       let x = run_told limits allows aad at b ss rest p in
       let y = run_told limits allows aad at b rs more q in
-      let i = items_once at b _ _ rest more p.items q.items in
+      let i = items_once_within limits.nesting at b _ _ rest more p.items q.items in
       same_items ss rs i.0 1 at x.all y.all x.stand y.stand
 
   -- where nothing is left behind a, the items of b follow

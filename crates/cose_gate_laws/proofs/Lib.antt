@@ -4,16 +4,13 @@ pub mod FindingCases
 pub mod FixedPoints
 pub mod Fronts
 pub mod HeaderCases
-pub mod HeaderKept
 pub mod Lows
 pub mod MacCases
 pub mod MessageCases
-pub mod MessageKept
 pub mod Narrowed
 pub mod NoMemory
 pub mod Outputs
 pub mod Placed
 pub mod Shorter
 pub mod Wider
-pub mod Widths
 pub mod Within

@@ -23,7 +23,7 @@ use Rattle.ciborium.proofs.TagLemmas.{bytes_meant}
 use Rattle.coset_headers.proofs.Entered.{bool_cases}
 use Rattle.cose_gate_laws.specs.Narrow.{AroundFew, ShortString, IsShortTag, SpellsNarrow, SpellsAllNarrow, SpellsPairsNarrow}
 use Rattle.cose_gate_laws.proofs.Lows.{IsByte, before, behind, Low, LowAll, LowPairs, spells_low}
-use Rattle.cose_gate_laws.proofs.Widths.{width, width_is, at_most, at_least, wider}
+use Rattle.cose_gate_core.proofs.Widths.{width, width_is, at_most, at_least, wider}
 
 -- ---- it is a spelling
 string_spells : (k : Option ℕ → Header) (P : List ℕ → Type 0) (b body : List ℕ) → ShortString k P b body → (bodies : List (List ℕ)) × Frame k P b bodies × (body ≡ joined bodies)

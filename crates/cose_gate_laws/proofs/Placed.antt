@@ -1,7 +1,7 @@
 -- The steps of a run, wherever they stand.
 use Rattle.std.proofs.Common.{◌≡◌, ℕ, ◌+◌, List, [], ◌∷◌, ◌++◌, length, map, Bool, refl, sym, ap, ◌∙◌, arith, append_assoc, length-append}
 use Rattle.ciborium.specs.Front.{Reads}
-use Rattle.ciborium.specs.Items.{Sequence, IsUnreadable, nesting, item_at}
+use Rattle.ciborium.specs.Items.{SequenceWithin, IsUnreadableWithin, item_at}
 use Rattle.cose_gate_core.specs.declared.report.Entry.{Entry}
 use Rattle.cose_gate_core.specs.declared.report.Verdict.{Verdict}
 use Rattle.cose_gate_core.specs.Questions.{Question}
@@ -76,7 +76,7 @@ stand_same n at (s ∷ ss) h =
 module _ (limits : Limits) (allows : Question → Bool) (aad : List ℕ) where
   -- what is true of a step wherever it stands
   abbrev pub IsStep : Step → Type 0
-  IsStep s = Reads s.item.bytes nesting s.item.value × Finds limits s.item.bytes s.item.value s.finding × IsVerdict limits allows aad s.item.value s.finding s.entry.verdict
+  IsStep s = Reads s.item.bytes limits.nesting s.item.value × Finds limits s.item.bytes s.item.value s.finding × IsVerdict limits allows aad s.item.value s.finding s.entry.verdict
 
   abbrev pub AllSteps : List Step → Type 0
   AllSteps [] = Unit {0}
@@ -88,7 +88,7 @@ module _ (limits : Limits) (allows : Question → Bool) (aad : List ℕ) where
     pub whole : b ≡ bytes_of ss ++ more
     pub stand : Stand n at ss
 
-  pub told : (n at : ℕ) (b : List ℕ) (ss : List Step) (more : List ℕ) → Sequence at b (map (λ s. s.item) ss) more → Steps limits allows aad n ss → Told n at b ss more
+  pub told : (n at : ℕ) (b : List ℕ) (ss : List Step) (more : List ℕ) → SequenceWithin limits.nesting at b (map (λ s. s.item) ss) more → Steps limits allows aad n ss → Told n at b ss more
   told n at b [] more p q = record { all = tt; whole = p; stand = tt }
   told n at b (s ∷ ss) more p q =
       let r = told (n + 1) (at + length s.item.bytes) p.2.0 ss more p.2.2 q.4 in
@@ -98,7 +98,7 @@ module _ (limits : Limits) (allows : Question → Bool) (aad : List ℕ) where
         stand = (q.1, q.2 ∙ p.0, r.stand);
       }
 
-  pub retold : (n at : ℕ) (ss : List Step) (more : List ℕ) → AllSteps ss → Sequence at (bytes_of ss ++ more) (map (λ s. s.item) (placed n at ss)) more
+  pub retold : (n at : ℕ) (ss : List Step) (more : List ℕ) → AllSteps ss → SequenceWithin limits.nesting at (bytes_of ss ++ more) (map (λ s. s.item) (placed n at ss)) more
   retold n at [] more a = refl
   retold n at (s ∷ ss) more a =
       (refl, a.0.0, (bytes_of ss ++ more, append_assoc s.item.bytes (bytes_of ss) more, retold (n + 1) (at + length s.item.bytes) ss more a.1))
@@ -122,7 +122,7 @@ module _ (limits : Limits) (allows : Question → Bool) (aad : List ℕ) where
   run_told at b ss rest r = told 1 at b ss rest r.items.sequence r.steps
 
   -- steps anywhere are those of a run over their bytes
-  pub run_again : (at : ℕ) (ss : List Step) (rest : List ℕ) → AllSteps ss → IsUnreadable rest → Run limits allows aad at (bytes_of ss ++ rest) (placed 1 at ss) rest
+  pub run_again : (at : ℕ) (ss : List Step) (rest : List ℕ) → AllSteps ss → IsUnreadableWithin limits.nesting rest → Run limits allows aad at (bytes_of ss ++ rest) (placed 1 at ss) rest
   run_again at ss rest a u = record {
     items = record { sequence = retold 1 at ss rest a; ends = u };
     steps = placed_steps 1 at ss a;

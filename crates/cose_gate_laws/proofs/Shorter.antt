@@ -3,7 +3,6 @@ use Rattle.std.proofs.Common.{◌≡◌, ℕ, ◌≤◌, ◌⊎◌, inl, inr, Li
 use Rattle.std.specs.Prelude.{All}
 use Rattle.ciborium_value.specs.Tree.{Tree}
 use Rattle.ciborium.specs.Front.{Reads}
-use Rattle.ciborium.specs.Items.{nesting}
 use Rattle.coset_headers.proofs.Entered.{bool_cases}
 use Rattle.cose_gate_core.specs.Questions.{Question, MessageFields, message_text}
 use Rattle.cose_gate_core.specs.Findings.{Finding, judged, barred, excluded, Limits, IsJudged, Finds}
@@ -13,13 +12,13 @@ use Rattle.cose_gate_laws.specs.Narrow.{IsNarrow, PassedAreNarrow, passed_bytes}
 use Rattle.cose_gate_laws.proofs.Placed.{AllSteps, run_told}
 use Rattle.cose_gate_laws.proofs.Lows.{IsByte, before, behind}
 use Rattle.cose_gate_laws.proofs.Narrowed.{narrow_reads}
-use Rattle.cose_gate_laws.proofs.Outputs.{rewritten}
+use Rattle.cose_gate_core.proofs.Rewritten.{rewritten}
 
 module _ (l : Limits) (allows : Question → Bool) (aad : List ℕ) where
   abbrev IsLess : List ℕ → Finding → Type 0
   IsLess b f = length (written_of allows aad f) ≤ length (cond (passes allows aad f) b [])
 
-  judged_less : (b : List ℕ) (t : Tree) (m : MessageFields) → IsJudged l t m → Reads b nesting t → All IsByte b → (passes allows aad (judged m) ≡ true → IsNarrow b)
+  judged_less : (b : List ℕ) (t : Tree) (m : MessageFields) → IsJudged l t m → Reads b l.nesting t → All IsByte b → (passes allows aad (judged m) ≡ true → IsNarrow b)
       → (passes allows aad (judged m) ≡ true) ⊎ (passes allows aad (judged m) ≡ false) → IsLess b (judged m)
   judged_less b t m j r low narrow (inr out) =
       subst (λ c. length (cond c (message_text m) []) ≤ length (cond c b [])) (sym out) (omega arith)
@@ -27,12 +26,12 @@ module _ (l : Limits) (allows : Question → Bool) (aad : List ℕ) where
       let w = rewritten l t m j in
       let n = narrow through in
       let size = w.rewrite.kept.size in
-      let less = narrow_reads b nesting t n.0 r n.1 low in
+      let less = narrow_reads b l.nesting t n.0 r n.1 low in
       let text = ap length w.text in
       let both : length (message_text m) ≤ length b = omega (arith, size, less, text) in
       subst (λ c. length (cond c (message_text m) []) ≤ length (cond c b [])) (sym through) both
 
-  step_less : (b : List ℕ) (t : Tree) (f : Finding) → Finds l b t f → Reads b nesting t → All IsByte b → (passes allows aad f ≡ true → IsNarrow b) → IsLess b f
+  step_less : (b : List ℕ) (t : Tree) (f : Finding) → Finds l b t f → Reads b l.nesting t → All IsByte b → (passes allows aad f ≡ true → IsNarrow b) → IsLess b f
   step_less b t (judged m) h r low narrow = judged_less b t m h.0 r low narrow (bool_cases (passes allows aad (judged m)))
   step_less b t (barred q) h r low narrow = omega arith
   step_less b t (excluded m q) h r low narrow = omega arith

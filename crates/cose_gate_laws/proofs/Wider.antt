@@ -15,7 +15,7 @@ use Rattle.cose_gate_core.specs.Questions.{MessageFields, sign1, mac0, sign, mac
 use Rattle.cose_gate_core.specs.Findings.{Limits, HasMessage, IsJudged}
 
 module _ (n w : ℕ) (deep : n ≤ w) where
-  reads_wider : (b : List ℕ) (v : Tree) → Reads b n v → Reads b w v
+  pub reads_wider : (b : List ℕ) (v : Tree) → Reads b n v → Reads b w v
   reads_wider b v r = let s = r.shallow in record { tree = r.tree; spells = r.spells; shallow = omega (arith, s, deep); means = r.means }
 
   mutual

@@ -3,7 +3,7 @@ use Rattle.std.proofs.Common.{◌≡◌, ℕ, ◌+◌, List, [], ◌∷◌, ◌+
 use Rattle.std.specs.List.{count_by}
 use Rattle.std.proofs.lemmas.List.{append_cancel_left}
 use Rattle.std.proofs.lemmas.List.Sums.{sum_by-cons}
-use Rattle.ciborium.specs.Items.{Item, Sequence, IsUnreadable, nesting}
+use Rattle.ciborium.specs.Items.{Item, SequenceWithin, IsUnreadableWithin}
 use Rattle.coset_headers.proofs.Unique.{reads_once}
 use Rattle.cose_gate_core.specs.Questions.{Question}
 use Rattle.cose_gate_core.specs.Findings.{Limits, Finding, Finds}
@@ -80,7 +80,7 @@ module _ (limits : Limits) (allows : Question → Bool) (aad : List ℕ) where
     pub whole : ss ≡ front ++ behind
     pub twins : Twins cs front
     pub place : ℕ
-    pub left : Sequence place more (map (λ s. s.item) behind) rest
+    pub left : SequenceWithin limits.nesting place more (map (λ s. s.item) behind) rest
 
   twin : (n at : ℕ) (c s : Step) → c.item ≡ s.item → Finds limits c.item.bytes c.item.value c.finding → c.entry.number ≡ n → c.entry.offset ≡ c.item.offset
       → IsVerdict limits allows aad c.item.value c.finding c.entry.verdict → Finds limits s.item.bytes s.item.value s.finding → s.entry.number ≡ n → s.entry.offset ≡ s.item.offset
@@ -96,7 +96,7 @@ module _ (limits : Limits) (allows : Question → Bool) (aad : List ℕ) where
         verdict = subst (λ z. IsVerdict limits allows aad s.item.value z c.entry.verdict) one (subst (λ (i : Item). IsVerdict limits allows aad i.value c.finding c.entry.verdict) e v);
       }
 
-  pub within : (n at : ℕ) (b : List ℕ) (cs ss : List Step) (more rest : List ℕ) → IsUnreadable rest → Sequence at b (map (λ s. s.item) cs) more → Sequence at b (map (λ s. s.item) ss) rest
+  pub within : (n at : ℕ) (b : List ℕ) (cs ss : List Step) (more rest : List ℕ) → IsUnreadableWithin limits.nesting rest → SequenceWithin limits.nesting at b (map (λ s. s.item) cs) more → SequenceWithin limits.nesting at b (map (λ s. s.item) ss) rest
       → Steps limits allows aad n cs → Steps limits allows aad n ss → Within at cs ss more rest
   within n at b [] ss more rest u p q x y = record {
     front = [];
@@ -104,16 +104,16 @@ module _ (limits : Limits) (allows : Question → Bool) (aad : List ℕ) where
     whole = refl;
     twins = tt;
     place = at;
-    left = subst (λ (z : List ℕ). Sequence at z (map (λ s. s.item) ss) rest) p q;
+    left = subst (λ (z : List ℕ). SequenceWithin limits.nesting at z (map (λ s. s.item) ss) rest) p q;
   }
   within n at b (c ∷ cs) [] more rest u p q x y = absurd (u c.item.value p.2.0 (record { spelling = c.item.bytes; whole = sym q ∙ p.2.1; reads = p.1 }))
   within n at b (c ∷ cs) (s ∷ ss) more rest u p q x y =
       let e : c.item.bytes ++ p.2.0 ≡ s.item.bytes ++ q.2.0 = sym p.2.1 ∙ q.2.1 in
-      let o = reads_once c.item.bytes s.item.bytes p.2.0 q.2.0 nesting c.item.value s.item.value p.1 q.1 e in
+      let o = reads_once c.item.bytes s.item.bytes p.2.0 q.2.0 limits.nesting c.item.value s.item.value p.1 q.1 e in
       let tails : p.2.0 ≡ q.2.0 = append_cancel_left c.item.bytes p.2.0 q.2.0 (e ∙ ap (λ z. z ++ q.2.0) (sym o.1)) in
-      let there : Sequence (at + length c.item.bytes) p.2.0 (map (λ s. s.item) ss) rest =
-      subst (λ (z : List ℕ). Sequence (at + length c.item.bytes) z (map (λ s. s.item) ss) rest) (sym tails)
-      (subst (λ (z : List ℕ). Sequence (at + length z) q.2.0 (map (λ s. s.item) ss) rest) (sym o.1) q.2.2) in
+      let there : SequenceWithin limits.nesting (at + length c.item.bytes) p.2.0 (map (λ s. s.item) ss) rest =
+      subst (λ (z : List ℕ). SequenceWithin limits.nesting (at + length c.item.bytes) z (map (λ s. s.item) ss) rest) (sym tails)
+      (subst (λ (z : List ℕ). SequenceWithin limits.nesting (at + length z) q.2.0 (map (λ s. s.item) ss) rest) (sym o.1) q.2.2) in
       let w = within (n + 1) (at + length c.item.bytes) p.2.0 cs ss more rest u p.2.2 there x.4 y.4 in
       let item : c.item ≡ s.item = same_item c.item s.item (p.0 ∙ sym q.0) o.1 o.0 in
       record {
@@ -130,7 +130,7 @@ module _ (limits : Limits) (allows : Question → Bool) (aad : List ℕ) where
   course_within at b cs ss more rest c r = within 1 at b cs ss more rest r.items.ends c.sequence r.items.sequence c.steps r.steps
 
   -- the place behind the last item
-  pub place_behind : (at : ℕ) (b : List ℕ) (cs : List Step) (c : Step) (more : List ℕ) → Sequence at b (map (λ s. s.item) (cs ++ c ∷ [])) more
+  pub place_behind : (at : ℕ) (b : List ℕ) (cs : List Step) (c : Step) (more : List ℕ) → SequenceWithin limits.nesting at b (map (λ s. s.item) (cs ++ c ∷ [])) more
       → c.item.offset + length c.item.bytes + length more ≡ at + length b
   place_behind at b [] c more q =
       let l : length b ≡ length c.item.bytes + length q.2.0 = ap length q.2.1 ∙ length-append c.item.bytes q.2.0 in
@@ -143,14 +143,14 @@ module _ (limits : Limits) (allows : Question → Bool) (aad : List ℕ) where
       omega arith
 
   -- where no readable item begins in what was left, the run has no more steps
-  pub unreadable_ends : (place : ℕ) (more rest : List ℕ) (ss : List Step) → IsUnreadable more → Sequence place more (map (λ s. s.item) ss) rest → (ss ≡ []) × (rest ≡ more)
+  pub unreadable_ends : (place : ℕ) (more rest : List ℕ) (ss : List Step) → IsUnreadableWithin limits.nesting more → SequenceWithin limits.nesting place more (map (λ s. s.item) ss) rest → (ss ≡ []) × (rest ≡ more)
   unreadable_ends place more rest [] u q = (refl, sym q)
   unreadable_ends place more rest (s ∷ ss) u q = absurd (u s.item.value q.2.0 (record { spelling = s.item.bytes; whole = q.2.1; reads = q.1 }))
 
   -- nothing is left, and so no item begins there
-  pub nothing_unreadable : (more : List ℕ) → more ≡ [] → IsUnreadable more
+  pub nothing_unreadable : (more : List ℕ) → more ≡ [] → IsUnreadableWithin limits.nesting more
   nothing_unreadable more e v rest f =
-      let some = reads_some f.spelling v f.reads in
+      let some = reads_some limits.nesting f.spelling v f.reads in
       let l : length more ≡ length f.spelling + length rest = ap length f.whole ∙ length-append f.spelling rest in
       let z : length more ≡ 0 = ap length e in
       omega arith

@@ -19,6 +19,10 @@ pub record Admits (one two : Limits) : Type 0 where
   pub layers : one.layers ≤ two.layers
   pub written : (b : List ℕ) (m : MessageFields) → one.excludes b m ≡ None → two.excludes (message_text m) m ≡ None
 
+-- limits that let a message through only where its item is already the text that is written for it
+abbrev pub ExcludesInexact : Limits → Type 0
+ExcludesInexact limits = (b : List ℕ) (m : MessageFields) → limits.excludes b m ≡ None → b ≡ message_text m
+
 -- The steps `again`, over what the steps ss wrote and up to `more`, change nothing: nothing is left, and the same is written. Each entry
 -- says Passed, also where it was noted elsewhere; as many pass as passed, and none is refused. What is asked is what was asked of the
 -- messages that passed. These have the same fields: headers, recipients and received protected bytes among them.

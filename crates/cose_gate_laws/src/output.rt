@@ -1,10 +1,10 @@
 //! Laws of the output.
 ghost use Rattle.std.specs.Prelude.{◌≡◌, ℕ, ◌^◌, ◌<◌, ◌≤◌, List, [], length, map, All, Bool};
-ghost use Rattle.ciborium.specs.Items.{Item, Items};
+ghost use Rattle.ciborium.specs.Items.{Item, ItemsWithin};
 ghost use Rattle.cose_gate_core.specs.Questions.{Question};
-ghost use Rattle.cose_gate_core.specs.Findings.{Limits, usual};
+ghost use Rattle.cose_gate_core.specs.Findings.{Limits, usual, only_exact};
 ghost use Rattle.cose_gate_core.specs.Run.{Step, Run, output_of};
-ghost use Rattle.cose_gate_laws.specs.Fixed.{Admits, FixedPoint};
+ghost use Rattle.cose_gate_laws.specs.Fixed.{Admits, ExcludesInexact, FixedPoint};
 ghost use Rattle.cose_gate_laws.specs.Narrow.{PassedAreNarrow, passed_bytes};
 ghost use Rattle.cose_gate_laws.specs.Output.{passed_messages, AreMessages};
 
@@ -14,7 +14,7 @@ ghost use Rattle.cose_gate_laws.specs.Output.{passed_messages, AreMessages};
 pub fn output_is_passed_messages()
     ensures { (limits : Limits) (allows : Question → Bool) (aad : List ℕ) (at : ℕ) (b : List ℕ) (ss : List Step) (rest : List ℕ)
         → Run limits allows aad at b ss rest → All (λ x. x < 256) b → length b < 2 ^ 64
-        → (is : List Item) × Items 0 (output_of allows aad ss) is []
+        → (is : List Item) × ItemsWithin limits.nesting 0 (output_of allows aad ss) is []
         × AreMessages limits (map (λ i. i.value) is) (passed_messages allows aad ss) }
 {}
 
@@ -39,4 +39,15 @@ pub fn output_is_fixed()
     ensures fixed { (one two : Limits) (allows : Question → Bool) (aad : List ℕ) (at to : ℕ) (b : List ℕ) (ss rs : List Step)
         (rest more : List ℕ) → Admits one two → Run one allows aad at b ss rest → All (λ x. x < 256) b → length b < 2 ^ 64
         → Run two allows aad to (output_of allows aad ss) rs more → FixedPoint two allows aad ss rs more }
+{}
+
+/// Under limits that let a message through only where its item is already the text that is written for it, as those of a strict gate, the
+/// output is the received bytes of the messages that pass, joined. What any limits wrote, the strict ones of as many levels and layers let
+/// through; and what the strict ones wrote, the usual ones.
+pub fn output_is_received()
+    ensures strict { (nesting layers : ℕ) → ExcludesInexact (only_exact nesting layers) }
+    ensures received { (limits : Limits) (allows : Question → Bool) (aad : List ℕ) (at : ℕ) (b : List ℕ) (ss : List Step) (rest : List ℕ)
+        → ExcludesInexact limits → Run limits allows aad at b ss rest → output_of allows aad ss ≡ passed_bytes allows aad ss }
+    ensures strict_after { (limits : Limits) → Admits limits (only_exact limits.nesting limits.layers) }
+    ensures usual_after { Admits (only_exact usual.nesting usual.layers) usual }
 {}

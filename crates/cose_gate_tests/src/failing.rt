@@ -1,36 +1,80 @@
 //! Readers and writers that fail in mid-stream.
 use crate::memory::{INPUT, OUTPUT};
-use crate::seen::{Answer, MESSAGE, Seen, answered, reached, run, same, whole};
+use crate::seen::{Answer, Seen, answered, reached, run, same, whole};
 use ciborium::de;
-use cose_gate::{End, GateFault, Recorder};
+use cose_gate::{Counts, End, GateFault, Io, Recorder, Silent};
 use std::alloc::Global;
 use std::process::Abort;
-use test_tools::{Broken, Sink, Source};
+use test_tools::{Broken, FailAfter, OneByOne, Sink, Source};
 
-/// A run stops where the reader fails, between these bytes of a message, of which it would give the rest later.
-fn is_cut_off(rt: &impl Abort, alloc: Global, front: &[u8], rest: &[u8]) {
-    let source = Source::new(front, rest);
+/// A run over the two messages stops where this reader fails, behind so many bytes: what was whole before has passed.
+fn stops(rt: &impl Abort, alloc: Global, source: Source, count: usize) {
     let seen = run(alloc, source, &[], Recorder::new(alloc, None));
-    // the message has passed where the fault comes behind it
-    let want = if rest.is_empty() {
-        (1, 14, 1)
-    } else {
-        (0, 0, 0)
-    };
+    let passed = count / 14;
+    let written = passed.saturating_mul(14);
     let answer = Err(GateFault::Decode(de::Error::Io(Broken)));
-    same(rt, &seen.answer, &answer, "answer", &front.len());
-    same(rt, &reached(&seen), &want, "place", &front.len());
-    assert!(rt; front.starts_with(&seen.output));
+    same(rt, &seen.answer, &answer, "answer", &count);
+    same(
+        rt,
+        &reached(&seen),
+        &(passed, written, passed),
+        "place",
+        &count,
+    );
+    assert!(rt; OUTPUT.starts_with(&seen.output));
 }
 
 #[test]
 fn a_failed_read_is_the_answer(rt: HostRuntime) {
     let alloc = rt.alloc();
-    assert_eq!(rt; MESSAGE.len(), 14);
-    for count in 0..15 {
-        let (front, rest) = MESSAGE.split_at(count);
-        is_cut_off(&rt, alloc, front, rest);
+    assert_eq!(rt; OUTPUT.len(), 28);
+    for count in 0..29 {
+        stops(&rt, alloc, Source::fail_at(OUTPUT, count), count);
+        // a reader that would give the rest behind its fault
+        let (front, rest) = OUTPUT.split_at(count);
+        stops(&rt, alloc, Source::new(front, rest), count);
     }
+}
+
+/// A run over the two messages whose writer takes so many bytes stops there, and has asked about those that it began to write.
+fn is_full(rt: &impl Abort, alloc: Global, room: usize) {
+    let mut out = FailAfter::new(alloc, room);
+    let mut recorder = Recorder::new(alloc, None);
+    let answer = answered(alloc, OUTPUT, &mut out, &mut Silent, &[], &mut recorder);
+    let want = if room < 28 {
+        Err(GateFault::Write)
+    } else {
+        whole(2, 0)
+    };
+    let asked = if room < 14 { 1 } else { 2 };
+    let place = (recorder.asked().len(), out.bytes.len());
+    same(rt, &answer, &want, "answer", &room);
+    assert_eq!(rt; place, (asked, room));
+    assert!(rt; OUTPUT.starts_with(&out.bytes));
+}
+
+#[test]
+fn a_full_writer_is_the_answer(rt: HostRuntime) {
+    for room in 0..29 {
+        is_full(&rt, rt.alloc(), room);
+    }
+}
+
+#[test]
+fn bytes_may_come_one_by_one(rt: HostRuntime) {
+    let alloc = rt.alloc();
+    let reader = Io::new(OneByOne {
+        bytes: OUTPUT,
+        is_broken: false,
+    });
+    let seen = run(alloc, reader, &[], Recorder::new(alloc, None));
+    let counts = Counts {
+        passed: 2,
+        refused: 0,
+    };
+    assert!(rt; matches!(&seen.answer, Ok(found) if *found == counts));
+    assert_eq!(rt; reached(&seen), (2, 28, 2));
+    assert!(rt; seen.output.as_slice() == OUTPUT);
 }
 
 /// A run over two messages with a value between them whose writer fails at one call, the one after so many.

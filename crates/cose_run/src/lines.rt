@@ -64,6 +64,7 @@ fn name_of(refusal: Refusal) -> &'static str {
         Refusal::Detached => "Detached",
         Refusal::NoSignature => "NoSignature",
         Refusal::Judged(_) => "Judged",
+        Refusal::NotShortest => "NotShortest",
     }
 }
 

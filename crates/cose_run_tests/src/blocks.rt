@@ -5,27 +5,7 @@ use std::alloc::Global;
 use std::io;
 use std::io::BufReader;
 use std::process::Abort;
-
-/// Gives its bytes one by one, and then fails.
-#[derive(Drop)]
-struct Breaks<'a> {
-    bytes: &'a [u8],
-}
-
-impl<'a> io::Read for Breaks<'a> {
-    fn read(&mut self, buf: &mut [u8]) -> io::Result<usize> {
-        let all: &[u8] = self.bytes;
-        let Some((first, rest)) = all.split_first() else {
-            return Err(io::Error::from(io::ErrorKind::Other));
-        };
-        let Some(place) = buf.first_mut() else {
-            return Ok(0);
-        };
-        *place = *first;
-        self.bytes = rest;
-        Ok(1)
-    }
-}
+use test_tools::OneByOne;
 
 /// How many bytes each read asks for, and what it gives: its last byte, or its fault.
 type Row = (usize, Result<u8, InputFault>);
@@ -72,6 +52,9 @@ fn all_so<R: io::Read + Drop>(rt: &impl Abort, alloc: Global, reader: R, rows: &
 fn reads_over_blocks_ends_and_faults(rt: HostRuntime) {
     let bytes: &[u8] = &[1, 2, 3, 4, 5, 6, 7, 8, 9];
     all_so(&rt, rt.alloc(), bytes, &ENDS);
-    let reader = Breaks { bytes: &[1, 2, 3] };
+    let reader = OneByOne {
+        bytes: &[1, 2, 3],
+        is_broken: true,
+    };
     all_so(&rt, rt.alloc(), reader, &FAILS);
 }

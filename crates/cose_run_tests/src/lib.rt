@@ -8,3 +8,5 @@ mod blocks;
 mod examples;
 #[cfg(test)]
 mod lines;
+#[cfg(test)]
+mod refused;

@@ -3,20 +3,20 @@ use ciborium_ll::{Mem, Read, Write};
 use cose_run::run;
 use std::alloc::Global;
 use std::process::Abort;
-use test_tools::{Held, Sink, Source};
+use test_tools::{FailAfter, Held, Sink, Source};
 
 /// The key set [{1: 4, -1: h'00'}], a key without an id.
 const KEYS: &[u8] = &[0x81, 0xa2, 0x01, 0x04, 0x20, 0x41, 0x00];
 
 /// A COSE_Mac0 over "hi" with the external data 01, and its tag under that key.
-const GOOD: &[u8] = &[
+pub const GOOD: &[u8] = &[
     0xd1, 0x84, 0x43, 0xa1, 0x01, 0x05, 0xa0, 0x42, 0x68, 0x69, 0x58, 0x20, 0x81, 0x75, 0x9b, 0xe7,
     0xe4, 0x76, 0xdf, 0x66, 0xf2, 0x2e, 0x17, 0x4e, 0xd1, 0xa2, 0x5a, 0x0e, 0x0a, 0xb5, 0x49, 0x8e,
     0x5e, 0x6c, 0xa0, 0x67, 0xae, 0x32, 0xd0, 0x75, 0xae, 0x9f, 0xf5, 0x6e,
 ];
 
 /// The status of a run with the key and the external data 01. It has no clause, so that a test that calls it carries none of the program's.
-fn status<R: Read, W: Write, E: Write>(
+pub fn status<R: Read, W: Write, E: Write>(
     alloc: Global,
     input: &mut R,
     out: &mut W,
@@ -63,18 +63,36 @@ fn lines_are_flushed(rt: HostRuntime) {
     assert_eq!(rt; err.shown, 21);
 }
 
-/// A reader that fails behind a message.
-#[test]
-fn a_failed_read_is_told(rt: HostRuntime) {
-    let alloc = rt.alloc();
-    let mut input = Source::new(GOOD, GOOD);
+/// A run over a reader that fails stops there, with these lines and this output.
+fn is_broken(rt: &impl Abort, alloc: Global, mut input: Source, lines: &str, output: &[u8]) {
     let mut out = Mem::new(Vec::new(alloc));
     let mut err = Mem::new(Vec::new(alloc));
     let status = status(alloc, &mut input, &mut out, &mut err);
     assert_eq!(rt; status, 4);
-    let lines = b"item 1 at 0: passed\nstopped: decode: Io\n";
-    assert_eq!(rt; err.as_written(), lines.as_slice());
-    assert_eq!(rt; out.as_written(), GOOD);
+    assert_eq!(rt; err.as_written(), lines.as_bytes());
+    assert_eq!(rt; out.as_written(), output);
+}
+
+#[test]
+fn a_failed_read_is_told(rt: HostRuntime) {
+    let alloc = rt.alloc();
+    let passed = "item 1 at 0: passed\nstopped: decode: Io\n";
+    is_broken(&rt, alloc, Source::new(GOOD, GOOD), passed, GOOD);
+    let inside = Source::fail_at(GOOD, 3);
+    is_broken(&rt, alloc, inside, "stopped: decode: Io\n", &[]);
+}
+
+/// A writer that takes three bytes of the message that passes.
+#[test]
+fn a_full_writer_is_told(rt: HostRuntime) {
+    let alloc = rt.alloc();
+    let mut out = FailAfter::new(alloc, 3);
+    let mut err = Mem::new(Vec::new(alloc));
+    let mut input = GOOD;
+    let status = status(alloc, &mut input, &mut out, &mut err);
+    assert_eq!(rt; status, 4);
+    assert_eq!(rt; err.as_written(), b"stopped: write\n".as_slice());
+    assert_eq!(rt; out.bytes.as_slice(), [0xd1, 0x84, 0x43].as_slice());
 }
 
 #[test]
@@ -86,25 +104,4 @@ fn a_fault_of_the_lines_is_passed_over(rt: HostRuntime) {
     let status = status(alloc, &mut input, &mut out, &mut err);
     assert_eq!(rt; status, 0);
     assert_eq!(rt; out.as_written(), GOOD);
-}
-
-/// All memory here is asked for by the run: its output and its lines have theirs. So where one allocation is refused, the run says so, or
-/// goes without, as the judge does that keeps its keys prepared: under `rt try --test --fail-alloc N`, whatever N is, the status and the
-/// lines fit together.
-#[test]
-fn refused_memory_is_told(rt: HostRuntime) {
-    let alloc = rt.alloc();
-    let (mut shown, mut said) = ([0; 64], [0; 64]);
-    let mut out = Mem::new(&mut shown[..]);
-    let mut err = Mem::new(&mut said[..]);
-    let mut input = GOOD;
-    let status = status(alloc, &mut input, &mut out, &mut err);
-    let (lines, output) = if status == 0 {
-        ("item 1 at 0: passed\npassed 1, refused 0\n", GOOD)
-    } else {
-        ("stopped: memory\n", [].as_slice())
-    };
-    assert!(rt; status == 0 || status == 4);
-    assert_eq!(rt; err.as_written(), lines.as_bytes());
-    assert_eq!(rt; out.as_written(), output);
 }

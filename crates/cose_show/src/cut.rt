@@ -28,14 +28,14 @@ struct Cutter<'a> {
 /// Writes whole items to files. Heads alone are read, and no item is held. The files behind one another are the input, damaged or not.
 ///
 /// # Errors
-/// `Input`, `Memory`, `Piece`; `Damaged` once all is written.
+/// `Input`, `Memory`, `NoFolder`, `NotNew`, `Piece`; `Damaged` once all is written.
 pub fn cut_items<R: io::Read + Drop>(
     rt: &HostRuntime,
     cut: Cut<'_>,
     mut input: BufReader<R>,
 ) -> Result<(), Stop> {
     if fs::create_dir_all(rt, cut.folder).is_err() {
-        return Err(Stop::Piece);
+        return Err(Stop::NoFolder);
     }
     let mut cutter = Cutter::new(rt, cut);
     for _ in 0..u64::MAX {
@@ -121,8 +121,9 @@ impl<'a> Cutter<'a> {
         let path = format!(in rt.alloc(); "{folder}/{number:06}.cbor")?;
         let mut options = OpenOptions::new();
         options.write(true).create_new(true);
-        let Ok(file) = options.open(rt, path.as_str()) else {
-            return Err(Stop::Piece);
+        let file = match options.open(rt, path.as_str()) {
+            Ok(file) => file,
+            Err(error) => return Err(Stop::of_file(error.kind())),
         };
         match BufWriter::with_capacity(rt.alloc(), BLOCK, file) {
             Ok(file) => Ok(file),

@@ -1,7 +1,7 @@
 //! Why the program ends early.
 use cbor_diag::{Fault, NotWritten, Why};
 use std::alloc::{AllocError, AllocFailed};
-use std::fmt;
+use std::{fmt, io};
 
 /// Why the program ends early.
 #[derive(Debug, Clone, Copy, PartialEq, Eq)]
@@ -16,6 +16,10 @@ pub enum Stop {
     Input,
     /// The output failed.
     Output,
+    /// The folder for files of whole items can't be made.
+    NoFolder,
+    /// A file of that name is there already.
+    NotNew,
     /// A file of whole items can't be made or written.
     Piece,
     /// Memory was refused.
@@ -32,6 +36,14 @@ impl Stop {
             Stop::NotHex => 2,
             Stop::NoFile => 3,
             _ => 4,
+        }
+    }
+
+    /// Why a file of whole items can't be made.
+    pub fn of_file(kind: io::ErrorKind) -> Stop {
+        match kind {
+            io::ErrorKind::AlreadyExists => Stop::NotNew,
+            _ => Stop::Piece,
         }
     }
 
@@ -52,9 +64,9 @@ impl fmt::Display for Stop {
             Stop::NoFile => f.write_str("the file can't be opened"),
             Stop::Input => f.write_str("the input can't be read"),
             Stop::Output => f.write_str("the output can't be written"),
-            Stop::Piece => f.write_str(
-                "a file can't be made in DIR, or is there already, or can't be written",
-            ),
+            Stop::NoFolder => f.write_str("the folder DIR can't be made"),
+            Stop::NotNew => f.write_str("DIR holds such a file already, which is left as it is"),
+            Stop::Piece => f.write_str("a file in DIR can't be made or written"),
             Stop::Memory => f.write_str("out of memory"),
             Stop::Damaged(why, offset) => write!(f, "damaged at {offset}: {why}"),
         }

@@ -105,8 +105,12 @@ fn read_word<'a>(
     Some(())
 }
 
+/// A size and a folder. An empty name is none: its files would stand in the root of the machine.
 fn read_cut<'a>(words: &mut slice::Iter<'a, String>) -> Option<Cut<'a>> {
     let size = words.next()?.as_str().parse::<usize>().ok()?;
     let folder = words.next()?.as_str();
+    if folder.is_empty() {
+        return None;
+    }
     Some(Cut { size, folder })
 }

@@ -12,20 +12,20 @@ const MESSAGE: &[u8] = &[
     0xd2, 0x84, 0x43, 0xa1, 1, 0x26, 0xa0, 0x42, 0x68, 0x69, 0x43, 1, 2, 3,
 ];
 
-/// A check stops where the reader fails, behind these bytes, and nothing is decided.
-fn is_cut_off(rt: &impl Abort, alloc: Global, bytes: &[u8]) {
+/// A check stops where the reader fails, behind so many bytes of the message, and nothing is decided.
+fn is_cut_off(rt: &impl Abort, alloc: Global, count: usize) {
     let mut buffer = [0; 1];
     let mut watcher = Watcher::new(alloc);
-    let source = Source::new(bytes, &[]);
+    let source = Source::fail_at(MESSAGE, count);
     let (answer, _) = checked(alloc, source, &mut buffer, &[], &mut watcher);
     let broken = Err(StreamFault::Decode(de::Error::Io(Broken)));
-    same(rt, &answer, &broken, "answer", &bytes.len());
-    same(rt, &watcher.decisions, &0, "decisions", &bytes.len());
+    same(rt, &answer, &broken, "answer", &count);
+    same(rt, &watcher.decisions, &0, "decisions", &count);
 }
 
 #[test]
 fn a_failed_read_is_the_answer(rt: HostRuntime) {
     for count in 0..MESSAGE.len() {
-        is_cut_off(&rt, rt.alloc(), &MESSAGE[..count]);
+        is_cut_off(&rt, rt.alloc(), count);
     }
 }

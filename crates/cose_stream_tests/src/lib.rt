@@ -15,4 +15,6 @@ mod made;
 #[cfg(test)]
 mod memory;
 #[cfg(test)]
+mod refused;
+#[cfg(test)]
 mod watching;

@@ -28,6 +28,7 @@ pub use Rattle.coset_messages.specs.Faults
 pub use Rattle.coset_messages.specs.LabelFields
 pub use Rattle.coset_messages.specs.Kinds
 pub use Rattle.coset_messages.specs.Labels
+pub use Rattle.coset_messages.specs.LimitsView
 pub use Rattle.coset_messages.specs.Names
 pub use Rattle.coset_messages.specs.Orders
 pub use Rattle.coset_messages.specs.Reading
@@ -36,6 +37,7 @@ pub use Rattle.coset_messages.specs.CoseError
 pub use Rattle.coset_messages.specs.EndOfFile
 pub use Rattle.coset_messages.specs.CallerFault
 pub use Rattle.coset_messages.specs.Label
+pub use Rattle.coset_messages.specs.Limits
 pub use Rattle.coset_messages.specs.RegisteredLabel
 pub use Rattle.coset_messages.specs.RegisteredLabelWithPrivate
 pub use Rattle.coset_messages.specs.Calls

@@ -17,12 +17,12 @@ pub use coset_keys::{
     ToSec1OctetStringError,
 };
 pub use coset_messages::{
-    Algorithm, AsCborValue, BytesTitle, CborOrdering, CborSerializable, ContentType, CoseEncrypt,
-    CoseEncrypt0, CoseEncrypt0Builder, CoseEncryptBuilder, CoseError, CoseMac, CoseMac0,
-    CoseMac0Builder, CoseMacBuilder, CoseRecipient, CoseRecipientBuilder, CoseSign, CoseSign1,
-    CoseSign1Builder, CoseSignBuilder, CoseSignature, CoseSignatureBuilder, EncryptionContext,
-    EndOfFile, Fault, Header, HeaderBuilder, KeyType, Label, MacContext, ProtectedHeader,
-    RegisteredLabel, RegisteredLabelWithPrivate, Result, SignatureContext, TaggedCborSerializable,
-    ValueTryAs, bytes_title, cbor_type_error, enc_structure_data, iana, mac_structure_data,
-    read_to_value, sig_structure_data, to_cbor_array, write_to_vec,
+    Algorithm, AsCborValue, AsWritten, BytesTitle, CborOrdering, CborSerializable, ContentType,
+    CoseEncrypt, CoseEncrypt0, CoseEncrypt0Builder, CoseEncryptBuilder, CoseError, CoseMac,
+    CoseMac0, CoseMac0Builder, CoseMacBuilder, CoseRecipient, CoseRecipientBuilder, CoseSign,
+    CoseSign1, CoseSign1Builder, CoseSignBuilder, CoseSignature, CoseSignatureBuilder,
+    EncryptionContext, EndOfFile, Fault, Header, HeaderBuilder, KeyType, Label, Limits, MacContext,
+    ProtectedHeader, RegisteredLabel, RegisteredLabelWithPrivate, Result, SignatureContext,
+    TaggedCborSerializable, ValueTryAs, bytes_title, cbor_type_error, enc_structure_data, iana,
+    mac_structure_data, read_to_value, sig_structure_data, to_cbor_array, write_to_vec,
 };

@@ -28,6 +28,7 @@ pub use Rattle.coset_labels.specs.Faults
 pub use Rattle.coset_labels.specs.Fields as LabelFields
 pub use Rattle.coset_labels.specs.Kinds
 pub use Rattle.coset_labels.specs.Labels
+pub use Rattle.coset_labels.specs.Limits as LimitsView
 pub use Rattle.coset_labels.specs.Names
 pub use Rattle.coset_labels.specs.Orders
 pub use Rattle.coset_labels.specs.Reading
@@ -36,5 +37,6 @@ pub use Rattle.coset_labels.specs.declared.error.CoseError
 pub use Rattle.coset_labels.specs.declared.error.EndOfFile
 pub use Rattle.coset_labels.specs.declared.error.Fault as CallerFault
 pub use Rattle.coset_labels.specs.declared.label.Label
+pub use Rattle.coset_labels.specs.declared.limits.Limits
 pub use Rattle.coset_labels.specs.declared.registered.RegisteredLabel
 pub use Rattle.coset_labels.specs.declared.registered.RegisteredLabelWithPrivate

@@ -9,8 +9,8 @@ pub use cose_iana as iana;
 pub use coset_builders::{CoseSignatureBuilder, HeaderBuilder};
 pub use coset_headers::{CoseSignature, Header, ProtectedHeader};
 pub use coset_labels::{
-    Algorithm, AsCborValue, CborOrdering, CborSerializable, ContentType, CoseError, EndOfFile,
-    Fault, KeyType, Label, RegisteredLabel, RegisteredLabelWithPrivate, Result,
+    Algorithm, AsCborValue, AsWritten, CborOrdering, CborSerializable, ContentType, CoseError,
+    EndOfFile, Fault, KeyType, Label, Limits, RegisteredLabel, RegisteredLabelWithPrivate, Result,
     TaggedCborSerializable, ValueTryAs, cbor_type_error, read_to_value, to_cbor_array,
     write_to_vec,
 };

@@ -5,6 +5,7 @@ use Rattle.cose_iana.specs.Claims.{cwt_claim_names}
 use Rattle.cose_iana.specs.Registry.{is_private_use}
 use Rattle.ciborium_value.specs.Tree.{Tree, integer, bytes, text, array, map as map_tree, tag, simple, float, Pairs, no_pairs, pair_more}
 use Rattle.ciborium_value.specs.View.{pairs}
+use Rattle.coset_labels.specs.Facts.Entries.{kept, distinct_others}
 use Rattle.coset_labels.specs.Fields.{Named, private_use, assigned, named}
 use Rattle.coset_labels.specs.Labels.{is_i64, named_tree}
 use Rattle.coset_claims.specs.Fields.{TimeFields, whole_seconds, fractional_seconds, ClaimsFields}
@@ -64,9 +65,13 @@ time_back (tag n t) s e = let h : None ≡ Some s = e in cc
 time_back (simple n) s e = let h : None ≡ Some s = e in cc
 
 -- the value of a field is the one that stood there
+was_set : {A : Type 0} (o x : Option A) → option_map Some o ≡ Some x → (a : A) × (o ≡ Some a) × (x ≡ Some a)
+was_set None x e = let h : None ≡ Some x = e in cc
+was_set (Some a) x e = let h : Some (Some a) ≡ Some x = e in (a, refl, cc)
+
 field_back : {A : Type 0} (f : Tree → Option A) (g : A → Tree) → ((t : Tree) (a : A) → f t ≡ Some a → g a ≡ t) → (o : Option Tree) (x : Option A) → IsField f o x → option_map g x ≡ o
 field_back f g back None x w = ap (option_map g) w
-field_back f g back (Some t) x w = ap (option_map g) w.2 ∙ ap Some (back t w.0 w.1)
+field_back f g back (Some t) x w = let h = was_set (f t) x w in ap (option_map g) h.2 ∙ ap Some (back t h.0 h.1)
 
 -- ---- names that can be read again
 abbrev Names : List (Named × Tree) → Type 0
@@ -116,23 +121,6 @@ names_others : (es : List (Named × Tree)) → Names es → Names (others es)
 names_others [] w = w
 names_others (x ∷ es) w = keeps_names x (is_core x.0) (others es) w.0 (names_others es w.1)
 
-in_kept : (m : Named) (x : Named × Tree) (b : Bool) (fs es : List (Named × Tree)) → (IsIn m fs → IsIn m es) → IsIn m (cond b fs (x ∷ fs)) → IsIn m (x ∷ es)
-in_kept m x true fs es f i = inr (f i)
-in_kept m x false fs es f (inl q) = inl q
-in_kept m x false fs es f (inr i) = inr (f i)
-
-in_others : (m : Named) (es : List (Named × Tree)) → IsIn m (others es) → IsIn m es
-in_others m [] i = i
-in_others m (x ∷ es) i = in_kept m x (is_core x.0) (others es) es (in_others m es) i
-
-keeps_distinct : (x : Named × Tree) (b : Bool) (fs : List (Named × Tree)) → (IsIn x.0 fs → ⊥) → Distinct fs → Distinct (cond b fs (x ∷ fs))
-keeps_distinct x true fs n d = d
-keeps_distinct x false fs n d = (n, d)
-
-distinct_others : (es : List (Named × Tree)) → Distinct es → Distinct (others es)
-distinct_others [] d = d
-distinct_others (x ∷ es) d = keeps_distinct x (is_core x.0) (others es) (λ i. d.0 (in_others x.0 es i)) (distinct_others es d.1)
-
 keeps_others : (x : Named × Tree) (es : List (Named × Tree)) (b : Bool) → is_core x.0 ≡ b → others (others es) ≡ others es → others (cond b (others es) (x ∷ others es)) ≡ cond b (others es) (x ∷ others es)
 keeps_others x es true q w = w
 keeps_others x es false q w = ap (λ b. cond b (others (others es)) (x ∷ others (others es))) q ∙ ap (λ z. x ∷ z) w
@@ -175,9 +163,6 @@ not_there n (x ∷ fs) r e (inr i) = not_there n fs r (there_step n x (at n fs) 
 field_name : {A : Type 0} (f : Tree → Option A) (n : ℕ) (es : List (Named × Tree)) (x : Option A) → Names es → (o : Option Tree) → at n es ≡ o → IsField f o x → (a : A) → x ≡ Some a → name_of (named_tree (assigned (pos n))) ≡ Some (assigned (pos n))
 field_name f n es x w None q h a e = let k : None ≡ Some a = sym h ∙ e in cc
 field_name f n es x w (Some t) q h a e = name_at n es t w q
-
-field_kept : {A : Type 0} (f : Tree → Option A) (o u : Option Tree) (x : Option A) → o ≡ u → IsField f u x → IsField f o x
-field_kept f o u x e w = subst (λ z. IsField f z x) (sym e) w
 
 module _ (es : List (Named × Tree)) (c : ClaimsFields) (w : IsClaims es c) (names : Names es) (d : Distinct es) where
   abbrev t8 : List (Named × Tree)
@@ -250,20 +235,20 @@ module _ (es : List (Named × Tree)) (c : ClaimsFields) (w : IsClaims es c) (nam
   names_there = still_names text 1 t2 c.issuer (field_name text_of 1 es c.issuer names (at 1 es) refl w.issuer) (still_names text 2 t3 c.subject (field_name text_of 2 es c.subject names (at 2 es) refl w.subject) (still_names text 3 t4 c.audience (field_name text_of 3 es c.audience names (at 3 es) refl w.audience) (still_names time_tree 4 t5 c.expiration_time (field_name time_of 4 es c.expiration_time names (at 4 es) refl w.expiration_time) (still_names time_tree 5 t6 c.not_before (field_name time_of 5 es c.not_before names (at 5 es) refl w.not_before) (still_names time_tree 6 t7 c.issued_at (field_name time_of 6 es c.issued_at names (at 6 es) refl w.issued_at) (still_names bytes 7 t8 c.cwt_id (field_name bytes_of 7 es c.cwt_id names (at 7 es) refl w.cwt_id) (names_others es names)))))))
 
   distinct_there : Distinct t1
-  distinct_there = still_distinct text 1 t2 c.issuer (not_there 1 t2 refl behind_1) (still_distinct text 2 t3 c.subject (not_there 2 t3 refl behind_2) (still_distinct text 3 t4 c.audience (not_there 3 t4 refl behind_3) (still_distinct time_tree 4 t5 c.expiration_time (not_there 4 t5 refl behind_4) (still_distinct time_tree 5 t6 c.not_before (not_there 5 t6 refl behind_5) (still_distinct time_tree 6 t7 c.issued_at (not_there 6 t7 refl behind_6) (still_distinct bytes 7 t8 c.cwt_id (not_there 7 t8 refl behind_7) (distinct_others es d)))))))
+  distinct_there = still_distinct text 1 t2 c.issuer (not_there 1 t2 refl behind_1) (still_distinct text 2 t3 c.subject (not_there 2 t3 refl behind_2) (still_distinct text 3 t4 c.audience (not_there 3 t4 refl behind_3) (still_distinct time_tree 4 t5 c.expiration_time (not_there 4 t5 refl behind_4) (still_distinct time_tree 5 t6 c.not_before (not_there 5 t6 refl behind_5) (still_distinct time_tree 6 t7 c.issued_at (not_there 6 t7 refl behind_6) (still_distinct bytes 7 t8 c.cwt_id (not_there 7 t8 refl behind_7) (distinct_others is_core es d)))))))
 
   others_there : others t1 ≡ others es
   others_there = no_other text 1 t2 c.issuer refl ∙ no_other text 2 t3 c.subject refl ∙ no_other text 3 t4 c.audience refl ∙ no_other time_tree 4 t5 c.expiration_time refl ∙ no_other time_tree 5 t6 c.not_before refl ∙ no_other time_tree 6 t7 c.issued_at refl ∙ no_other bytes 7 t8 c.cwt_id refl ∙ others_again es
 
   claims_there : IsClaims t1 c
   claims_there = record {
-    issuer = field_kept text_of (at 1 t1) (at 1 es) c.issuer same_1 w.issuer;
-    subject = field_kept text_of (at 2 t1) (at 2 es) c.subject same_2 w.subject;
-    audience = field_kept text_of (at 3 t1) (at 3 es) c.audience same_3 w.audience;
-    expiration_time = field_kept time_of (at 4 t1) (at 4 es) c.expiration_time same_4 w.expiration_time;
-    not_before = field_kept time_of (at 5 t1) (at 5 es) c.not_before same_5 w.not_before;
-    issued_at = field_kept time_of (at 6 t1) (at 6 es) c.issued_at same_6 w.issued_at;
-    cwt_id = field_kept bytes_of (at 7 t1) (at 7 es) c.cwt_id same_7 w.cwt_id;
+    issuer = kept _ _ (at 1 es) (at 1 t1) c.issuer same_1 w.issuer;
+    subject = kept _ _ (at 2 es) (at 2 t1) c.subject same_2 w.subject;
+    audience = kept _ _ (at 3 es) (at 3 t1) c.audience same_3 w.audience;
+    expiration_time = kept _ _ (at 4 es) (at 4 t1) c.expiration_time same_4 w.expiration_time;
+    not_before = kept _ _ (at 5 es) (at 5 t1) c.not_before same_5 w.not_before;
+    issued_at = kept _ _ (at 6 es) (at 6 t1) c.issued_at same_6 w.issued_at;
+    cwt_id = kept _ _ (at 7 es) (at 7 t1) c.cwt_id same_7 w.cwt_id;
     rest = w.rest ∙ sym others_there;
   }
 

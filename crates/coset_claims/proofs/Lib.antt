@@ -3,7 +3,6 @@ pub mod Entered
 pub mod Equal
 pub mod Excludes
 pub mod Fitting
-pub mod Marks
 pub mod Pushed
 pub mod Sound
 pub mod Steps

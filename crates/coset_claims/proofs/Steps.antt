@@ -8,15 +8,15 @@ use Rattle.coset_labels.specs.Fields.{Named}
 use Rattle.coset_labels.specs.Faults.{CoseFault, OrMemory, fault_of, unexpected}
 use Rattle.coset_labels.specs.Kinds.{is_map}
 use Rattle.coset_labels.specs.declared.error.CoseError.{CoseError}
+use Rattle.coset_labels.specs.declared.seen.Seen.{Seen}
 use Rattle.coset_claims.specs.Claims.{name_of, entries, IsIn, IsClaims, HasClaims}
 use Rattle.coset_claims.specs.Fields.{ClaimsFields, no_claims}
-use Rattle.coset_claims.specs.Seen.{Sees}
-use Rattle.coset_claims.specs.Steps.{Fills, KnownIn, Added, HasEntries, WrongEntries}
+use Rattle.coset_claims.specs.Steps.{Fills, ClaimName, Sees, KnownIn, Added, HasEntries, WrongEntries}
 use Rattle.coset_claims.specs.View.{claims_view}
 use Rattle.coset_claims.specs.Wrong.{WrongName, WrongField, WrongEntry, bad_name, bad_field, WrongClaims, no_map, at_entry}
 use Rattle.coset_claims.specs.declared.cwt.ClaimsSet.{ClaimsSet}
-use Rattle.coset_claims.specs.declared.seen.Seen.{Seen}
-use Rattle.coset_claims.proofs.Entered.{distinct_snoc, entries_snoc, filled, none_set}
+use Rattle.coset_labels.specs.Facts.Entries.{distinct_snoc}
+use Rattle.coset_claims.proofs.Entered.{entries_snoc, filled, none_set}
 
 passed_on : (P Q : CoseFault → Type 0) (e : CoseError) → (P (fault_of e) → Q (fault_of e)) → OrMemory P e → OrMemory Q e
 passed_on P Q e f (inl m) = inl m
@@ -32,7 +32,7 @@ entry_name es l v e w = passed_on (WrongName l) (WrongEntry es l v) e (λ x. bad
 pub entry_field : (es : List (Named × Tree)) (l v : Tree) (m : Named) (e : CoseError) → name_of l ≡ Some m → OrMemory (WrongField v m) e → OrMemory (WrongEntry es l v) e
 entry_field es l v m e q w = passed_on (WrongField v m) (WrongEntry es l v) e (λ x. bad_field m (fault_of e) q x) w
 
-pub known_filled : (es : List (Named × Tree)) (l v : Tree) (s r : Seen) (old new : ClaimsSet) (m : Named)
+pub known_filled : (es : List (Named × Tree)) (l v : Tree) (s r : Seen ClaimName) (old new : ClaimsSet) (m : Named)
     → KnownIn es s old → name_of l ≡ Some m → (IsIn m es → ⊥) → ((v : Tree) → Sees r (es ++ (m, v) ∷ [])) → Fills m v (claims_view old) (claims_view new) → Added es l v r new
 known_filled es l v s r old new m w q d z f = record {
   name = m;
@@ -72,10 +72,10 @@ entries_at_fault all xs ys x es e q r w = passed_on (WrongEntry es (view x.0) (v
       wrong = z;
     }) w
 
-pub entries_pushed : (xs : List (Value × Value)) (x : Value × Value) (es : List (Named × Tree)) (s : Seen) (c : ClaimsSet)
+pub entries_pushed : (xs : List (Value × Value)) (x : Value × Value) (es : List (Named × Tree)) (s : Seen ClaimName) (c : ClaimsSet)
     → entries (view_pairs xs) ≡ Some es → Added es (view x.0) (view x.1) s c → (fs : List (Named × Tree)) × (entries (view_pairs (xs ++ x ∷ [])) ≡ Some fs) × KnownIn fs s c
 entries_pushed xs x es s c r a =
     (es ++ (a.name, view x.1) ∷ [], ap entries (ap pairs (map-append view_pair xs (x ∷ []))) ∙ entries_snoc (map view_pair xs) es (view x.0) (view x.1) a.name r a.is, a.known)
 
-pub none_known : (s : Seen) (c : ClaimsSet) → Sees s [] → claims_view c ≡ no_claims → KnownIn [] s c
+pub none_known : (s : Seen ClaimName) (c : ClaimsSet) → Sees s [] → claims_view c ≡ no_claims → KnownIn [] s c
 none_known s c w e = record { sees = w; known = record { distinct = tt; claims = subst (IsClaims []) (sym e) none_set } }

@@ -1,13 +1,10 @@
 -- A value has one set of claims at most.
-use Rattle.std.proofs.Common.{◌≡◌, List, Option, Some, None, sym, ap, subst, ◌∙◌}
+use Rattle.std.proofs.Common.{◌≡◌, List, Some, sym, ap, subst, ◌∙◌}
 use Rattle.ciborium_value.specs.Tree.{Tree, map as map_tree}
+use Rattle.coset_labels.specs.Facts.Entries.{field_once}
 use Rattle.coset_labels.specs.Fields.{Named}
 use Rattle.coset_claims.specs.Fields.{ClaimsFields}
-use Rattle.coset_claims.specs.Claims.{entries, IsField, IsClaims, HasClaims}
-
-field_once : {A : Type 0} (f : Tree → Option A) (o : Option Tree) (x y : Option A) → IsField f o x → IsField f o y → x ≡ y
-field_once f None x y a b = a ∙ sym b
-field_once f (Some t) x y a b = a.2 ∙ (sym a.1 ∙ b.1) ∙ sym b.2
+use Rattle.coset_claims.specs.Claims.{entries, IsClaims, HasClaims}
 
 claims_same : (p q : ClaimsFields) → p.issuer ≡ q.issuer → p.subject ≡ q.subject → p.audience ≡ q.audience → p.expiration_time ≡ q.expiration_time → p.not_before ≡ q.not_before → p.issued_at ≡ q.issued_at
     → p.cwt_id ≡ q.cwt_id → p.rest ≡ q.rest → p ≡ q
@@ -15,13 +12,13 @@ claims_same p q a b c d e f g h = λ i. record { issuer = a i; subject = b i; au
 
 pub fields_once : (es : List (Named × Tree)) (p q : ClaimsFields) → IsClaims es p → IsClaims es q → p ≡ q
 fields_once es p q a b = claims_same p q
-    (field_once _ _ _ _ a.issuer b.issuer)
-    (field_once _ _ _ _ a.subject b.subject)
-    (field_once _ _ _ _ a.audience b.audience)
-    (field_once _ _ _ _ a.expiration_time b.expiration_time)
-    (field_once _ _ _ _ a.not_before b.not_before)
-    (field_once _ _ _ _ a.issued_at b.issued_at)
-    (field_once _ _ _ _ a.cwt_id b.cwt_id)
+    (field_once _ _ _ _ _ a.issuer b.issuer)
+    (field_once _ _ _ _ _ a.subject b.subject)
+    (field_once _ _ _ _ _ a.audience b.audience)
+    (field_once _ _ _ _ _ a.expiration_time b.expiration_time)
+    (field_once _ _ _ _ _ a.not_before b.not_before)
+    (field_once _ _ _ _ _ a.issued_at b.issued_at)
+    (field_once _ _ _ _ _ a.cwt_id b.cwt_id)
     (a.rest ∙ sym b.rest)
 
 pub claims_once : (t : Tree) (c d : ClaimsFields) → HasClaims t c → HasClaims t d → c ≡ d

@@ -1,9 +1,11 @@
 -- Which claims a value has (RFC 8392, sections 3 and 3.1).
-use Rattle.std.specs.Prelude.{◌≡◌, ℕ, ℤ, pos, negsuc, ◌⊎◌, List, [], ◌∷◌, Bool, false, ◌||◌, if◌then◌else◌, nat_eq, Option, Some, None, option_map, option_and_then}
+use Rattle.std.specs.Prelude.{◌≡◌, ℕ, List, Bool, ◌||◌, if◌then◌else◌, Option, Some, None, option_map}
 use Rattle.cose_iana.specs.Claims.{cwt_claim_names}
 use Rattle.cose_iana.specs.Registry.{is_private_use}
-use Rattle.ciborium_value.specs.Tree.{Tree, integer, bytes, text, map as map_tree, float, Pairs, no_pairs, pair_more}
-use Rattle.coset_labels.specs.Fields.{Named, private_use, assigned, named}
+use Rattle.ciborium_value.specs.Tree.{Tree, integer, bytes, text, map as map_tree, float, Pairs}
+use Rattle.coset_labels.specs.Entries.{is_name}
+use Rattle.coset_labels.specs.Entries as map_entries
+use Rattle.coset_labels.specs.Fields.{Named}
 use Rattle.coset_labels.specs.Labels.{is_i64, named_of}
 use Rattle.coset_claims.specs.Fields.{TimeFields, whole_seconds, fractional_seconds, ClaimsFields}
 
@@ -11,14 +13,8 @@ use Rattle.coset_claims.specs.Fields.{TimeFields, whole_seconds, fractional_seco
 abbrev pub name_of : Tree → Option Named
 name_of = named_of cwt_claim_names.is_registered is_private_use
 
-abbrev pub is_number : ℕ → ℤ → Bool
-is_number n (pos m) = nat_eq n m
-is_number n (negsuc m) = false
-
 abbrev pub is_at : ℕ → Named → Bool
-is_at n (assigned i) = is_number n i
-is_at n (private_use i) = false
-is_at n (named b) = false
+is_at = is_name
 
 -- a claim with a field of its own: 1 to 7
 abbrev pub is_core : Named → Bool
@@ -42,32 +38,26 @@ bytes_of _ = None
 
 -- the entries of a map with their names, or none where a key is no name
 abbrev pub entries : Pairs → Option (List (Named × Tree))
-entries no_pairs = Some []
-entries (pair_more l v ps) = option_and_then (λ m. option_map (λ es. (m, v) ∷ es) (entries ps)) (name_of l)
+entries = map_entries.entries name_of
 
 -- the value of the claim n
 abbrev pub at : ℕ → List (Named × Tree) → Option Tree
-at n [] = None
-at n (e ∷ es) = if is_at n e.0 then Some e.1 else at n es
+at n = map_entries.at (is_at n)
 
 abbrev pub IsIn : Named → List (Named × Tree) → Type 0
-IsIn m [] = ⊥
-IsIn m (e ∷ es) = (m ≡ e.0) ⊎ IsIn m es
+IsIn = map_entries.IsIn
 
 -- no name stands twice
 abbrev pub Distinct : List (Named × Tree) → Type 0
-Distinct [] = Unit {0}
-Distinct (e ∷ es) = (IsIn e.0 es → ⊥) × Distinct es
+Distinct = map_entries.Distinct
 
 -- the claims without a field of their own, in order
 abbrev pub others : List (Named × Tree) → List (Named × Tree)
-others [] = []
-others (e ∷ es) = if is_core e.0 then others es else e ∷ others es
+others = map_entries.others is_core
 
 -- the field is what the value there is, and none where none is
 abbrev pub IsField : {A : Type 0} → (Tree → Option A) → Option Tree → Option A → Type 0
-IsField f None x = x ≡ None
-IsField {A = A} f (Some t) x = (a : A) × (f t ≡ Some a) × (x ≡ Some a)
+IsField f = map_entries.IsField (λ t. option_map Some (f t)) None
 
 pub record IsClaims (es : List (Named × Tree)) (c : ClaimsFields) : Type 0 where
   pub issuer : IsField text_of (at 1 es) c.issuer

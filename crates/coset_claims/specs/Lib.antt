@@ -1,7 +1,6 @@
 pub mod Builder
 pub mod Claims
 pub mod Fields
-pub mod Seen
 pub mod Steps
 pub mod View
 pub mod Written

@@ -1,16 +1,20 @@
 -- What the parts of the reader show.
 use Rattle.std.specs.Prelude.{◌≡◌, ℕ, pos, List, [], ◌∷◌, ◌++◌, false, Some}
+use Rattle.std.specs.Ordering.{on}
+use Rattle.cose_iana.specs.declared.claims.CwtClaimName.{CwtClaimName}
 use Rattle.ciborium_value.specs.Tree.{Tree, Pairs}
 use Rattle.ciborium_value.specs.View.{pairs}
 use Rattle.coset_labels.specs.Faults.{CoseFault}
 use Rattle.coset_labels.specs.Fields.{Named, assigned}
+use Rattle.coset_labels.specs.Orders.{named_cmp}
+use Rattle.coset_labels.specs.Seen as keys
+use Rattle.coset_labels.specs.declared.registered.RegisteredLabelWithPrivate.{RegisteredLabelWithPrivate}
+use Rattle.coset_labels.specs.declared.seen.Seen.{Seen}
 use Rattle.coset_claims.specs.Claims.{is_core, text_of, time_of, bytes_of, name_of, entries, Distinct, IsClaims}
 use Rattle.coset_claims.specs.Fields.{TimeFields, ClaimsFields}
-use Rattle.coset_claims.specs.Seen.{Sees}
-use Rattle.coset_claims.specs.View.{claims_view}
+use Rattle.coset_claims.specs.View.{name_view, claims_view}
 use Rattle.coset_claims.specs.Wrong.{WrongEntry}
 use Rattle.coset_claims.specs.declared.cwt.ClaimsSet.{ClaimsSet}
-use Rattle.coset_claims.specs.declared.seen.Seen.{Seen}
 use Rattle.coset_claims.specs.declared.reader.Place.{Place}
 use Rattle.coset_claims.specs.declared.reader.Place.TheVariants as place
 
@@ -37,18 +41,25 @@ pub data Fills (m : Named) (v : Tree) (p q : ClaimsFields) : Type 0 where
   fills_cwt_id : (b : List ℕ) → m ≡ assigned (pos 7) → bytes_of v ≡ Some b → q ≡ record p { cwt_id = Some b } → Fills m v p q
   fills_rest : is_core m ≡ false → q ≡ record p { rest = p.rest ++ (m, v) ∷ [] } → Fills m v p q
 
+abbrev pub ClaimName : Type 0
+ClaimName = RegisteredLabelWithPrivate CwtClaimName
+
+-- the names of these entries, and no others, were seen
+abbrev pub Sees : Seen ClaimName → List (Named × Tree) → Type 0
+Sees = keys.Sees (on name_view named_cmp) name_view
+
 -- the fields are those of these entries
 pub record Known (es : List (Named × Tree)) (c : ClaimsFields) : Type 0 where
   pub distinct : Distinct es
   pub claims : IsClaims es c
 
 -- and so are the names that were seen
-pub record KnownIn (es : List (Named × Tree)) (s : Seen) (c : ClaimsSet) : Type 0 where
+pub record KnownIn (es : List (Named × Tree)) (s : Seen ClaimName) (c : ClaimsSet) : Type 0 where
   pub sees : Sees s es
   pub known : Known es (claims_view c)
 
 -- one more entry is read
-pub record Added (es : List (Named × Tree)) (l v : Tree) (s : Seen) (c : ClaimsSet) : Type 0 where
+pub record Added (es : List (Named × Tree)) (l v : Tree) (s : Seen ClaimName) (c : ClaimsSet) : Type 0 where
   pub name : Named
   pub is : name_of l ≡ Some name
   pub known : KnownIn (es ++ (name, v) ∷ []) s c

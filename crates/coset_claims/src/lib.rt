@@ -7,4 +7,3 @@ pub mod cwt;
 mod entries;
 pub mod laws;
 mod reader;
-mod seen;

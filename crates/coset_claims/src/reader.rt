@@ -10,10 +10,9 @@ ghost use Rattle.coset_claims.specs.View.{claims_view, name_view};
 ghost use Rattle.coset_claims.specs.Wrong.{WrongClaims, WrongEntry, WrongField};
 
 use crate::cwt::{ClaimName, ClaimsSet, Timestamp};
-use crate::seen::Seen;
 use ciborium_value::Value;
 use coset_labels::iana::EnumI64;
-use coset_labels::{AsCborValue, CoseError, ValueTryAs};
+use coset_labels::{AsCborValue, CoseError, Seen, ValueTryAs};
 use std::alloc::Global;
 
 /// Where the value of a claim belongs.
@@ -35,8 +34,7 @@ fn place_of(name: &ClaimName) -> Place
 {
     match name {
         ClaimName::Assigned(entry) => place_at(entry.to_i64()),
-        ClaimName::PrivateUse(_) => Place::Rest,
-        ClaimName::Text(_) => Place::Rest,
+        _ => Place::Rest,
     }
 }
 
@@ -79,7 +77,7 @@ fn read_entries(alloc: Global, entries: Vec<(Value, Value)>) -> Result<ClaimsSet
 /// Reads one entry behind those that were seen: its name, whether that stood before, its value.
 fn read_entry(
     alloc: Global,
-    seen: &mut Seen,
+    seen: &mut Seen<ClaimName>,
     claims: &mut ClaimsSet,
     key: Value,
     value: Value,

@@ -1,4 +1,5 @@
 pub mod Again
+pub mod Equal
 pub mod Fit
 pub mod Sound
 pub mod Steps

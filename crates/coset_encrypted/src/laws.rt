@@ -1,9 +1,10 @@
 //! Laws of the definitions.
-ghost use Rattle.std.specs.Prelude.{◌≡◌, ◌≢◌, ℕ, List, None, Some};
+ghost use Rattle.std.specs.Prelude.{◌≡◌, ◌≢◌, ◌↔◌, ℕ, List, IsTrue, None, Some};
 ghost use Rattle.ciborium.specs.Front.{Reads};
 ghost use Rattle.ciborium_value.specs.Encoding.{enc, Fits};
 ghost use Rattle.ciborium_value.specs.Tree.{Tree, tag};
 ghost use Rattle.coset_labels.specs.Faults.{CoseFault};
+ghost use Rattle.coset_labels.specs.Limits.{nesting, layers};
 ghost use Rattle.coset_labels.specs.Reading.{HasItem, Tagged};
 ghost use Rattle.coset_encrypted.specs.Fields.{Encrypt0Fields, EncryptFields};
 ghost use Rattle.coset_encrypted.specs.Shapes.{HasEncrypt0, HasEncrypt};
@@ -87,11 +88,11 @@ pub fn encrypt_fits(message: &CoseEncrypt)
 /// A message that was read from bytes is read again of the bytes that it is written as, the same, received bytes included. So is one that
 /// was read behind its tag and is written with it.
 pub fn encrypt0_reads_again(message: &CoseEncrypt0)
-    ensures item { (b : List ℕ) (u : Tree) → HasItem (λ t m. HasEncrypt0 256 t m 16) b (encrypt0_view message.now)
-        → encrypt0_tree (encrypt0_view message.now) ≡ Some u → HasItem (λ t m. HasEncrypt0 256 t m 16) (enc u) (encrypt0_view message.now) }
-    ensures tagged { (b : List ℕ) (u : Tree) → HasItem (Tagged 16 (λ t m. HasEncrypt0 256 t m 16)) b (encrypt0_view message.now)
+    ensures item { (b : List ℕ) (u : Tree) → HasItem (λ t m. HasEncrypt0 nesting t m layers) b (encrypt0_view message.now)
+        → encrypt0_tree (encrypt0_view message.now) ≡ Some u → HasItem (λ t m. HasEncrypt0 nesting t m layers) (enc u) (encrypt0_view message.now) }
+    ensures tagged { (b : List ℕ) (u : Tree) → HasItem (Tagged 16 (λ t m. HasEncrypt0 nesting t m layers)) b (encrypt0_view message.now)
         → encrypt0_tree (encrypt0_view message.now) ≡ Some u
-        → HasItem (Tagged 16 (λ t m. HasEncrypt0 256 t m 16)) (enc (tag 16 u)) (encrypt0_view message.now) }
+        → HasItem (Tagged 16 (λ t m. HasEncrypt0 nesting t m layers)) (enc (tag 16 u)) (encrypt0_view message.now) }
 {
     encrypt0_fits(message);
     read_is_short();
@@ -99,12 +100,22 @@ pub fn encrypt0_reads_again(message: &CoseEncrypt0)
 
 /// As `encrypt0_reads_again`, of a message with recipients.
 pub fn encrypt_reads_again(message: &CoseEncrypt)
-    ensures item { (b : List ℕ) (u : Tree) → HasItem (λ t m. HasEncrypt 256 t m 16) b (encrypt_view message.now)
-        → encrypt_tree (encrypt_view message.now) ≡ Some u → HasItem (λ t m. HasEncrypt 256 t m 16) (enc u) (encrypt_view message.now) }
-    ensures tagged { (b : List ℕ) (u : Tree) → HasItem (Tagged 96 (λ t m. HasEncrypt 256 t m 16)) b (encrypt_view message.now)
+    ensures item { (b : List ℕ) (u : Tree) → HasItem (λ t m. HasEncrypt nesting t m layers) b (encrypt_view message.now)
+        → encrypt_tree (encrypt_view message.now) ≡ Some u → HasItem (λ t m. HasEncrypt nesting t m layers) (enc u) (encrypt_view message.now) }
+    ensures tagged { (b : List ℕ) (u : Tree) → HasItem (Tagged 96 (λ t m. HasEncrypt nesting t m layers)) b (encrypt_view message.now)
         → encrypt_tree (encrypt_view message.now) ≡ Some u
-        → HasItem (Tagged 96 (λ t m. HasEncrypt 256 t m 16)) (enc (tag 96 u)) (encrypt_view message.now) }
+        → HasItem (Tagged 96 (λ t m. HasEncrypt nesting t m layers)) (enc (tag 96 u)) (encrypt_view message.now) }
 {
     encrypt_fits(message);
     read_is_short();
 }
+
+/// Messages are equal where they say the same and their protected headers have the same received bytes, or none.
+pub fn encrypt0_compare(a: &CoseEncrypt0, b: &CoseEncrypt0)
+    ensures { IsTrue (⟦<CoseEncrypt0 as std::cmp::PartialEq>⟧.eq a.now b.now) ↔ (encrypt0_view a.now ≡ encrypt0_view b.now) }
+{}
+
+/// As `encrypt0_compare`, their recipients in the same order.
+pub fn encrypt_compare(a: &CoseEncrypt, b: &CoseEncrypt)
+    ensures { IsTrue (⟦<CoseEncrypt as std::cmp::PartialEq>⟧.eq a.now b.now) ↔ (encrypt_view a.now ≡ encrypt_view b.now) }
+{}

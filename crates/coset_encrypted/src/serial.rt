@@ -1,4 +1,8 @@
 //! Encrypted messages as values and bytes.
+ghost use Rattle.std.specs.Prelude.{MatchResult};
+ghost use Rattle.ciborium_value.specs.View.{view};
+ghost use Rattle.coset_labels.specs.Faults.{OrMemory};
+ghost use Rattle.coset_labels.specs.Limits.{nesting, layers, nesting_of, layers_of};
 ghost use Rattle.coset_encrypted.specs.Fields.{Encrypt0Fields, EncryptFields};
 ghost use Rattle.coset_encrypted.specs.Shapes.{HasEncrypt0, HasEncrypt};
 ghost use Rattle.coset_encrypted.specs.View.{encrypt0_view, encrypt_view};
@@ -8,7 +12,9 @@ ghost use Rattle.coset_encrypted.specs.Wrong.{WrongEncrypt0, WrongEncrypt};
 use crate::encrypt::CoseEncrypt;
 use crate::encrypt0::CoseEncrypt0;
 use ciborium_value::Value;
-use coset_labels::{AsCborValue, CborSerializable, CoseError, TaggedCborSerializable, ValueTryAs};
+use coset_labels::{
+    AsCborValue, CborSerializable, CoseError, Limits, TaggedCborSerializable, ValueTryAs,
+};
 use coset_parts::{Parts, four, read_parts, three, write_parts};
 use coset_recipients::{read_recipients, write_recipients};
 use std::alloc::Global;
@@ -19,25 +25,14 @@ impl AsCborValue for CoseEncrypt0 {
 
     ghost fields = { encrypt0_view };
 
-    ghost shape = { λ t m. HasEncrypt0 256 t m 16 };
+    ghost shape = { λ t m. HasEncrypt0 nesting t m layers };
 
-    ghost wrong = { λ t e. WrongEncrypt0 256 t 16 e };
+    ghost wrong = { λ t e. WrongEncrypt0 nesting t layers e };
 
     ghost written = { encrypt0_tree };
 
     fn from_cbor_value(alloc: Global, value: Value) -> Result<CoseEncrypt0, CoseError> {
-        let items = value.try_as_array()?;
-        match three(items) {
-            Some((protected, unprotected, ciphertext)) => {
-                let parts = read_parts(alloc, protected, unprotected, ciphertext, "bstr")?;
-                Ok(CoseEncrypt0 {
-                    protected: parts.protected,
-                    unprotected: parts.unprotected,
-                    ciphertext: parts.content,
-                })
-            }
-            None => Err(CoseError::UnexpectedItem("array", "array with 3 items")),
-        }
+        CoseEncrypt0::from_cbor_value_with(alloc, value, Limits::default())
     }
 
     fn to_cbor_value(self, alloc: Global) -> Result<Value, CoseError> {
@@ -58,6 +53,35 @@ impl AsCborValue for CoseEncrypt0 {
     }
 }
 
+impl CoseEncrypt0 {
+    /// As `from_cbor_value`, within these limits.
+    ///
+    /// # Errors
+    /// A fault that the value has, or `Memory`.
+    pub fn from_cbor_value_with(
+        alloc: Global,
+        value: Value,
+        limits: Limits,
+    ) -> Result<CoseEncrypt0, CoseError>
+        ensures { MatchResult result
+            (λ m. HasEncrypt0 (nesting_of limits) (view value) (encrypt0_view m) (layers_of limits))
+            (λ e. OrMemory (WrongEncrypt0 (nesting_of limits) (view value) (layers_of limits)) e) }
+    {
+        let items = value.try_as_array()?;
+        match three(items) {
+            Some((protected, unprotected, ciphertext)) => {
+                let parts = read_parts(alloc, protected, unprotected, ciphertext, limits, "bstr")?;
+                Ok(CoseEncrypt0 {
+                    protected: parts.protected,
+                    unprotected: parts.unprotected,
+                    ciphertext: parts.content,
+                })
+            }
+            None => Err(CoseError::UnexpectedItem("array", "array with 3 items")),
+        }
+    }
+}
+
 impl CborSerializable for CoseEncrypt0 {}
 
 impl TaggedCborSerializable for CoseEncrypt0 {
@@ -72,27 +96,14 @@ impl AsCborValue for CoseEncrypt {
 
     ghost fields = { encrypt_view };
 
-    ghost shape = { λ t m. HasEncrypt 256 t m 16 };
+    ghost shape = { λ t m. HasEncrypt nesting t m layers };
 
-    ghost wrong = { λ t e. WrongEncrypt 256 t 16 e };
+    ghost wrong = { λ t e. WrongEncrypt nesting t layers e };
 
     ghost written = { encrypt_tree };
 
     fn from_cbor_value(alloc: Global, value: Value) -> Result<CoseEncrypt, CoseError> {
-        let items = value.try_as_array()?;
-        match four(items) {
-            Some((protected, unprotected, ciphertext, list)) => {
-                let recipients = read_recipients(alloc, list)?;
-                let parts = read_parts(alloc, protected, unprotected, ciphertext, "bstr")?;
-                Ok(CoseEncrypt {
-                    protected: parts.protected,
-                    unprotected: parts.unprotected,
-                    ciphertext: parts.content,
-                    recipients,
-                })
-            }
-            None => Err(CoseError::UnexpectedItem("array", "array with 4 items")),
-        }
+        CoseEncrypt::from_cbor_value_with(alloc, value, Limits::default())
     }
 
     fn to_cbor_value(self, alloc: Global) -> Result<Value, CoseError> {
@@ -113,6 +124,37 @@ impl AsCborValue for CoseEncrypt {
         let list = write_recipients(alloc, recipients)?;
         items.push(list)?;
         Ok(Value::Array(items))
+    }
+}
+
+impl CoseEncrypt {
+    /// As `from_cbor_value`, within these limits.
+    ///
+    /// # Errors
+    /// A fault that the value has, or `Memory`.
+    pub fn from_cbor_value_with(
+        alloc: Global,
+        value: Value,
+        limits: Limits,
+    ) -> Result<CoseEncrypt, CoseError>
+        ensures { MatchResult result
+            (λ m. HasEncrypt (nesting_of limits) (view value) (encrypt_view m) (layers_of limits))
+            (λ e. OrMemory (WrongEncrypt (nesting_of limits) (view value) (layers_of limits)) e) }
+    {
+        let items = value.try_as_array()?;
+        match four(items) {
+            Some((protected, unprotected, ciphertext, list)) => {
+                let recipients = read_recipients(alloc, list, limits)?;
+                let parts = read_parts(alloc, protected, unprotected, ciphertext, limits, "bstr")?;
+                Ok(CoseEncrypt {
+                    protected: parts.protected,
+                    unprotected: parts.unprotected,
+                    ciphertext: parts.content,
+                    recipients,
+                })
+            }
+            None => Err(CoseError::UnexpectedItem("array", "array with 4 items")),
+        }
     }
 }
 

@@ -14,122 +14,10 @@ use Rattle.coset_labels.specs.Reading.{NotReadable, damaged, goes_on}
 use Rattle.coset_headers.specs.Fields.{Plain, HeaderFields, header, ProtectedFields, protected, SignatureFields, signature, Signatures, no_signatures, signature_more, no_header}
 use Rattle.coset_headers.specs.Headers.{is_at, alg_of, parameter_of, parameters_of, crit_of, IsContentType, HasContentType, entries, at, IsIn, Distinct, IsField, IsPlain, IsBare, IsList, list_of_three, HasHeader, HasProtected, HasSignature, HasSigned, HasSignatures}
 use Rattle.coset_headers.specs.Wrong.{WrongCrit, no_crit_list, empty_crit, bad_crit, WrongContentType, no_content_type, empty_text, white_space, no_one_slash, WrongField, wrong_alg, wrong_crit, wrong_content_type, wrong_key_id, wrong_iv, wrong_partial_iv, NoSignature, WrongHeader, no_map, at_entry, WrongEntry, bad_label, label_again, bad_field, two_ivs, bad_signatures, WrongSigned, no_list, no_first, in_bare, in_list, WrongSignature, no_array, not_three, in_protected, in_unprotected, no_bytes, WrongProtected, no_string, too_deep, unreadable, inside}
-use Rattle.coset_headers.proofs.Entered.{cond_none, at_none}
+use Rattle.coset_labels.specs.Facts.Entries.{label_only}
+use Rattle.coset_labels.specs.Facts.Wrong.{Splits, splits, at_front, snoc_front, again_not, no_label, no_named, no_registered, no_string_there}
+use Rattle.coset_labels.specs.Facts.Wrong as wrong
 use Rattle.coset_headers.proofs.Unique.{reads_once}
-
--- ---- the entry behind others in a map whose keys are labels
-record Splits (l v : Tree) (es all : List (LabelFields × Tree)) : Type 0 where
-  label : LabelFields
-  behind : List (LabelFields × Tree)
-  is : label_of l ≡ Some label
-  whole : all ≡ es ++ (label, v) ∷ behind
-
-record First (o : Option LabelFields) (w : Option (List (LabelFields × Tree))) (v : Tree) (all : List (LabelFields × Tree)) : Type 0 where
-  label : LabelFields
-  rest : List (LabelFields × Tree)
-  is : o ≡ Some label
-  others : w ≡ Some rest
-  whole : all ≡ (label, v) ∷ rest
-
-first : (o : Option LabelFields) (w : Option (List (LabelFields × Tree))) (v : Tree) (all : List (LabelFields × Tree)) → option_and_then (λ m. option_map (λ es. (m, v) ∷ es) w) o ≡ Some all → First o w v all
-first None w v all e = let h : None ≡ Some all = e in cc
-first (Some m) None v all e = let h : None ≡ Some all = e in cc
-first (Some m) (Some es) v all e = let h : Some ((m, v) ∷ es) ≡ Some all = e in record { label = m; rest = es; is = refl; others = refl; whole = cc }
-
-splits : (before after : List (Tree × Tree)) (l v : Tree) (es all : List (LabelFields × Tree)) → entries (pairs before) ≡ Some es → entries (pairs (before ++ (l, v) ∷ after)) ≡ Some all → Splits l v es all
-splits [] after l v es all e f =
-    let n : Some [] ≡ Some es = e in
-    let none : [] ≡ es = cc in
-    let w = first (label_of l) (entries (pairs after)) v all f in
-    record { label = w.label; behind = w.rest; is = w.is; whole = w.whole ∙ ap (λ z. z ++ (w.label, v) ∷ w.rest) none }
-splits (b ∷ before) after l v es all e f =
-    let x = first (label_of b.0) (entries (pairs before)) b.1 es e in
-    let y = first (label_of b.0) (entries (pairs (before ++ (l, v) ∷ after))) b.1 all f in
-    let w = splits before after l v x.rest y.rest x.others y.others in
-    let both : Some x.label ≡ Some y.label = sym x.is ∙ y.is in
-    let same : y.label ≡ x.label = cc in
-    record {
-      label = w.label;
-      behind = w.behind;
-      is = w.is;
-      whole = y.whole ∙ ap (λ z. (y.label, b.1) ∷ z) w.whole ∙ ap (λ z. (z, b.1) ∷ (x.rest ++ (w.label, v) ∷ w.behind)) same ∙ ap (λ z. z ++ (w.label, v) ∷ w.behind) (sym x.whole);
-    }
-
-in_middle : (es : List (LabelFields × Tree)) (m : LabelFields) (v : Tree) (fs : List (LabelFields × Tree)) → IsIn m (es ++ (m, v) ∷ fs)
-in_middle [] m v fs = inl refl
-in_middle (e ∷ es) m v fs = inr (in_middle es m v fs)
-
-not_before : (es : List (LabelFields × Tree)) (m : LabelFields) (v : Tree) (fs : List (LabelFields × Tree)) → Distinct (es ++ (m, v) ∷ fs) → IsIn m es → ⊥
-not_before [] m v fs d i = i
-not_before (e ∷ es) m v fs d (inl q) = d.0 (subst (λ z. IsIn z (es ++ (m, v) ∷ fs)) q (in_middle es m v fs))
-not_before (e ∷ es) m v fs d (inr i) = not_before es m v fs d.1 i
-
-at_middle : (n : ℕ) (es : List (LabelFields × Tree)) (m : LabelFields) (v : Tree) (fs : List (LabelFields × Tree)) → is_at n m ≡ true → at n es ≡ None → at n (es ++ (m, v) ∷ fs) ≡ Some v
-at_middle n [] m v fs e h = ap (λ b. cond b (Some v) (at n fs)) e
-at_middle n (x ∷ es) m v fs e h = let c = cond_none (is_at n x.0) x.1 (at n es) (at n (es ++ (m, v) ∷ fs)) h in c.1 ∙ at_middle n es m v fs e c.0
-
--- what stands at a number in front stands there in the whole
-front_step : (b : Bool) (x : Tree) (y z : Option Tree) (t : Tree) → (y ≡ Some t → z ≡ Some t) → cond b (Some x) y ≡ Some t → cond b (Some x) z ≡ Some t
-front_step true x y z t f e = e
-front_step false x y z t f e = f e
-
-at_front : (n : ℕ) (es fs : List (LabelFields × Tree)) (t : Tree) → at n es ≡ Some t → at n (es ++ fs) ≡ Some t
-at_front n [] fs t e = let h : None ≡ Some t = e in cc
-at_front n (x ∷ es) fs t e = front_step (is_at n x.0) x.1 (at n es) (at n (es ++ fs)) t (at_front n es fs t) e
-
-snoc_front : (es fs : List (LabelFields × Tree)) (x : LabelFields × Tree) → es ++ x ∷ fs ≡ (es ++ x ∷ []) ++ fs
-snoc_front [] fs x = refl
-snoc_front (e ∷ es) fs x = ap (λ z. e ∷ z) (snoc_front es fs x)
-
--- ---- values of single fields that have a fault
-no_label : (l : Tree) (e : CoseFault) → WrongLabel l e → label_of l ≡ None
-no_label (integer i) e w = ap (λ b. cond {A = Option LabelFields} b (Some (number i)) None) w.0
-no_label (text b) e w = absurd w
-no_label (bytes b) e w = refl
-no_label (array ts) e w = refl
-no_label (map_tree ps) e w = refl
-no_label (tag n t) e w = refl
-no_label (simple n) e w = refl
-no_label (float f) e w = refl
-
-abbrev number_if : Bool → Bool → Bool → ℤ → Option Named
-number_if small registered private i = cond small (cond registered (Some (assigned i)) (cond private (Some (private_use i)) None)) None
-
-no_named : (r p : ℤ → Bool) (v : Tree) (e : CoseFault) → WrongNamed r p v e → named_of r p v ≡ None
-no_named r p (integer i) e (inl w) = ap (λ b. number_if b (r i) (p i) i) w.0
-no_named r p (integer i) e (inr w) = ap (λ b. number_if b (r i) (p i) i) w.0 ∙ ap (λ b. number_if true b (p i) i) w.1 ∙ ap (λ b. number_if true false b i) w.2
-no_named r p (text b) e w = absurd w
-no_named r p (bytes b) e w = refl
-no_named r p (array ts) e w = refl
-no_named r p (map_tree ps) e w = refl
-no_named r p (tag n t) e w = refl
-no_named r p (simple n) e w = refl
-no_named r p (float f) e w = refl
-
-abbrev registered_if : Bool → Bool → ℤ → Option Named
-registered_if small registered i = cond small (cond registered (Some (assigned i)) None) None
-
-no_registered : (r : ℤ → Bool) (v : Tree) (e : CoseFault) → WrongRegistered r v e → registered_of r v ≡ None
-no_registered r (integer i) e (inl w) = ap (λ b. registered_if b (r i) i) w.0
-no_registered r (integer i) e (inr w) = ap (λ b. registered_if b (r i) i) w.0 ∙ ap (λ b. registered_if true b i) w.1
-no_registered r (text b) e w = absurd w
-no_registered r (bytes b) e w = refl
-no_registered r (array ts) e w = refl
-no_registered r (map_tree ps) e w = refl
-no_registered r (tag n t) e w = refl
-no_registered r (simple n) e w = refl
-no_registered r (float f) e w = refl
-
-no_string_there : (v : Tree) (e : CoseFault) → WrongBytes v e → some_bytes v ≡ None
-no_string_there (bytes []) e w = refl
-no_string_there (bytes (x ∷ xs)) e w = let h : x ∷ xs ≡ [] = w.0 in cc
-no_string_there (integer i) e w = refl
-no_string_there (text b) e w = refl
-no_string_there (array ts) e w = refl
-no_string_there (map_tree ps) e w = refl
-no_string_there (tag n t) e w = refl
-no_string_there (simple n) e w = refl
-no_string_there (float f) e w = refl
 
 no_more : (o : Option (List Named)) (p : Option Named) → p ≡ None → option_and_then (λ n. option_map (λ ns. n ∷ ns) o) p ≡ None
 no_more o p e = ap (λ q. option_and_then (λ n. option_map (λ ns. n ∷ ns) o) q) e
@@ -171,26 +59,12 @@ no_type v e c (white_space b w) h = w (text_content b c h).1
 no_type v e c (no_one_slash b w) h = w (text_content b c h).2
 
 -- ---- the field at a number whose value has a fault
-module _ (es all : List (LabelFields × Tree)) (l v : Tree) (s : Splits l v es all) (d : Distinct all) where
+module _ (es all : List (LabelFields × Tree)) (l v : Tree) (s : Splits label_of l v es all) (d : Distinct all) where
   there_at : (n : ℕ) (m : LabelFields) → label_of l ≡ Some m → is_at n m ≡ true → at n all ≡ Some v
-  there_at n m q t =
-      let both : Some s.label ≡ Some m = sym s.is ∙ q in
-      let same : s.label ≡ m = cc in
-      let parts : all ≡ es ++ (m, v) ∷ s.behind = s.whole ∙ ap (λ z. es ++ (z, v) ∷ s.behind) same in
-      let fresh : IsIn m es → ⊥ = not_before es m v s.behind (subst Distinct parts d) in
-      ap (at n) parts ∙ at_middle n es m v s.behind t (at_none n es m t fresh)
+  there_at n m q t = wrong.there_at label_of es all l v s d (is_at n) m q t (label_only n m t)
 
   field_not : {A : Type 0} (f : Tree → Option A) (absent : A) (n : ℕ) (m : LabelFields) (x : A) → label_of l ≡ Some m → is_at n m ≡ true → IsField f absent (at n all) x → f v ≡ None → ⊥
-  field_not f absent n m x q t w z =
-      let has : f v ≡ Some x = subst (λ o. IsField f absent o x) (there_at n m q t) w in
-      let h : None ≡ Some x = sym z ∙ has in
-      cc
-
-  again_not : (m : LabelFields) → label_of l ≡ Some m → IsIn m es → ⊥
-  again_not m q i =
-      let both : Some m ≡ Some s.label = sym q ∙ s.is in
-      let same : m ≡ s.label = cc in
-      not_before es s.label v s.behind (subst Distinct s.whole d) (subst (λ z. IsIn z es) same i)
+  field_not f absent n m x q t = wrong.field_not label_of es all l v s d f absent (is_at n) m x q t (label_only n m t)
 
   value_not : (m : LabelFields) (e : CoseFault) (p : Plain) → label_of l ≡ Some m → WrongField v m e → IsPlain all p → ⊥
   value_not m e p q (wrong_alg _ w) a = field_not alg_of None 1 (number (pos 1)) p.alg q refl a.alg (ap (option_map Some) (no_named _ is_private_use v e w))
@@ -215,13 +89,13 @@ one_only : (p q : List ℕ) → (p ≡ []) ⊎ (q ≡ []) → (p ≡ [] → ⊥)
 one_only p q (inl e) f g = f e
 one_only p q (inr e) f g = g e
 
-ivs_not : (es all : List (LabelFields × Tree)) (l v b c : Tree) (m : LabelFields) (p : Plain) → Splits l v es all → label_of l ≡ Some m → at 5 (es ++ (m, v) ∷ []) ≡ Some b → at 6 (es ++ (m, v) ∷ []) ≡ Some c → IsPlain all p → ⊥
+ivs_not : (es all : List (LabelFields × Tree)) (l v b c : Tree) (m : LabelFields) (p : Plain) → Splits label_of l v es all → label_of l ≡ Some m → at 5 (es ++ (m, v) ∷ []) ≡ Some b → at 6 (es ++ (m, v) ∷ []) ≡ Some c → IsPlain all p → ⊥
 ivs_not es all l v b c m p s q x y a =
-    let both : Some s.label ≡ Some m = sym s.is ∙ q in
-    let same : s.label ≡ m = cc in
+    let both : Some s.key ≡ Some m = sym s.is ∙ q in
+    let same : s.key ≡ m = cc in
     let parts : (es ++ (m, v) ∷ []) ++ s.behind ≡ all = sym (snoc_front es s.behind (m, v)) ∙ ap (λ z. es ++ (z, v) ∷ s.behind) (sym same) ∙ sym s.whole in
-    let five : at 5 all ≡ Some b = ap (at 5) (sym parts) ∙ at_front 5 (es ++ (m, v) ∷ []) s.behind b x in
-    let six : at 6 all ≡ Some c = ap (at 6) (sym parts) ∙ at_front 6 (es ++ (m, v) ∷ []) s.behind c y in
+    let five : at 5 all ≡ Some b = ap (at 5) (sym parts) ∙ at_front (is_at 5) (es ++ (m, v) ∷ []) s.behind b x in
+    let six : at 6 all ≡ Some c = ap (at 6) (sym parts) ∙ at_front (is_at 6) (es ++ (m, v) ∷ []) s.behind c y in
     one_only p.iv p.partial_iv a.one_iv (some_full b p.iv (subst (λ o. IsField some_bytes [] o p.iv) five a.iv)) (some_full c p.partial_iv (subst (λ o. IsField some_bytes [] o p.partial_iv) six a.partial_iv))
 
 -- ---- bytes that are no item, and lists
@@ -277,12 +151,12 @@ mutual
   header_not n t k e (at_entry before after l v es _ _ r w) (header p ss) a =
       let maps : map_tree (pairs (before ++ (l, v) ∷ after)) ≡ map_tree a.0 = a.2 in
       let same : pairs (before ++ (l, v) ∷ after) ≡ a.0 = cc in
-      entry_not n es l v k e w a.1 p ss (splits before after l v es a.1 r (ap entries same ∙ a.3)) a.4 a.5 a.6
+      entry_not n es l v k e w a.1 p ss (splits label_of before after l v es a.1 r (ap entries same ∙ a.3)) a.4 a.5 a.6
 
   entry_not : (n : ℕ) (es : List (LabelFields × Tree)) (l v : Tree) (k : ℕ) (e : CoseFault) → WrongEntry n es l v k e
-      → (all : List (LabelFields × Tree)) (p : Plain) (ss : Signatures) → Splits l v es all → Distinct all → IsPlain all p → HasSigned n (at 7 all) ss k → ⊥
-  entry_not n es l v k e (bad_label _ _ _ _ _ w) all p ss s d a g = let x : Some s.label ≡ None = sym s.is ∙ no_label l e w in cc
-  entry_not n es l v k e (label_again _ _ _ _ m q i) all p ss s d a g = again_not es all l v s d m q i
+      → (all : List (LabelFields × Tree)) (p : Plain) (ss : Signatures) → Splits label_of l v es all → Distinct all → IsPlain all p → HasSigned n (at 7 all) ss k → ⊥
+  entry_not n es l v k e (bad_label _ _ _ _ _ w) all p ss s d a g = let x : Some s.key ≡ None = sym s.is ∙ no_label l e w in cc
+  entry_not n es l v k e (label_again _ _ _ _ m q i) all p ss s d a g = again_not label_of es all l v s d m q i
   entry_not n es l v k e (bad_field _ _ _ _ m _ q w) all p ss s d a g = value_not es all l v s d m e p q w a
   entry_not n es l v k e (two_ivs _ _ _ b c _ m q x y) all p ss s d a g = ivs_not es all l v b c m p s q x y a
   entry_not n es l v k e (bad_signatures _ _ _ _ m _ q r w) all p ss s d a g =

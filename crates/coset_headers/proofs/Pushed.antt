@@ -6,6 +6,8 @@ use Rattle.ciborium_value.specs.View.{trees, pairs, view, view_pair}
 use Rattle.ciborium_value.specs.declared.value.Value.{Value}
 use Rattle.ciborium_value.specs.declared.value.Value.TheVariants as code
 use Rattle.ciborium_value.proofs.Views.{view_map}
+use Rattle.coset_labels.specs.Facts.Pushed.{back_one}
+use Rattle.coset_labels.specs.Facts.Pushed as pushed
 use Rattle.coset_labels.specs.Arrays.{all_written, array_of}
 use Rattle.coset_labels.specs.Faults.{CantWrite}
 use Rattle.coset_labels.specs.Fields.{LabelFields, Named}
@@ -52,19 +54,9 @@ crit_pushed f bs old new k v e q w n =
 
 pub rest_pushed : (start old new : List (Value × Value)) (xs : List (Label × Value)) (x : Label × Value) (k : Value) → new ≡ old ++ (k, x.1) ∷ [] → Some (label_tree (label_view x.0)) ≡ Some (view k)
     → map view_pair old ≡ map view_pair start ++ map entry_tree (map entry_view xs) → map view_pair new ≡ map view_pair start ++ map entry_tree (map entry_view (xs ++ x ∷ []))
-rest_pushed start old new xs x k e q w =
-    let same : view k ≡ label_tree (label_view x.0) = cc in
-    ap (map view_pair) e ∙ map-append view_pair old ((k, x.1) ∷ [])
-    ∙ ap (λ z. map view_pair old ++ (z, view x.1) ∷ []) same
-    ∙ ap (λ z. z ++ entry_tree (entry_view x) ∷ []) w
-    ∙ append_assoc (map view_pair start) (map entry_tree (map entry_view xs)) (entry_tree (entry_view x) ∷ [])
-    ∙ ap (λ z. map view_pair start ++ z) (sym (map-append entry_tree (map entry_view xs) (entry_view x ∷ [])) ∙ ap (map entry_tree) (sym (map-append entry_view xs (x ∷ []))))
+rest_pushed = pushed.rest_pushed label_tree label_view
 
 -- ---- all entries in their order
-back_one : (l k z : List (Tree × Tree)) (a s : List (LabelFields × Tree)) → z ≡ k ++ map entry_tree s → k ≡ l ++ map entry_tree a → z ≡ l ++ map entry_tree (a ++ s)
-back_one l k z a s e f =
-    e ∙ ap (λ y. y ++ map entry_tree s) f ∙ append_assoc l (map entry_tree a) (map entry_tree s) ∙ ap (λ y. l ++ y) (sym (map-append entry_tree a s))
-
 pub map_done : (p : Plain) (ts : Trees) (v : Vec (Value × Value) Global) (l0 l1 l2 l3 l4 l5 l6 l7 : List (Tree × Tree)) → twice p.rest ≡ false → l0 ≡ []
     → l1 ≡ l0 ++ map entry_tree (name_entry 1 p.alg) → l2 ≡ l1 ++ map entry_tree (crit_entry p.crit) → l3 ≡ l2 ++ map entry_tree (name_entry 3 p.content_type)
     → l4 ≡ l3 ++ map entry_tree (bytes_entry 4 p.key_id) → l5 ≡ l4 ++ map entry_tree (bytes_entry 5 p.iv) → l6 ≡ l5 ++ map entry_tree (bytes_entry 6 p.partial_iv)
@@ -72,12 +64,12 @@ pub map_done : (p : Plain) (ts : Trees) (v : Vec (Value × Value) Global) (l0 l1
     → header_of p ts ≡ Some (view (code.Map v))
 map_done p ts v l0 l1 l2 l3 l4 l5 l6 l7 t e0 e1 e2 e3 e4 e5 e6 e7 e8 =
     let z = map view_pair v.items in
-    let s7 = back_one l6 l7 z (signs_entry (bare_or_list ts)) p.rest e8 e7 in
-    let s6 = back_one l5 l6 z (bytes_entry 6 p.partial_iv) _ s7 e6 in
-    let s5 = back_one l4 l5 z (bytes_entry 5 p.iv) _ s6 e5 in
-    let s4 = back_one l3 l4 z (bytes_entry 4 p.key_id) _ s5 e4 in
-    let s3 = back_one l2 l3 z (name_entry 3 p.content_type) _ s4 e3 in
-    let s2 = back_one l1 l2 z (crit_entry p.crit) _ s3 e2 in
-    let s1 = back_one l0 l1 z (name_entry 1 p.alg) _ s2 e1 in
+    let s7 = back_one entry_tree l6 l7 z (signs_entry (bare_or_list ts)) p.rest e8 e7 in
+    let s6 = back_one entry_tree l5 l6 z (bytes_entry 6 p.partial_iv) _ s7 e6 in
+    let s5 = back_one entry_tree l4 l5 z (bytes_entry 5 p.iv) _ s6 e5 in
+    let s4 = back_one entry_tree l3 l4 z (bytes_entry 4 p.key_id) _ s5 e4 in
+    let s3 = back_one entry_tree l2 l3 z (name_entry 3 p.content_type) _ s4 e3 in
+    let s2 = back_one entry_tree l1 l2 z (crit_entry p.crit) _ s3 e2 in
+    let s1 = back_one entry_tree l0 l1 z (name_entry 1 p.alg) _ s2 e1 in
     let whole : map view_pair v.items ≡ map entry_tree (written_entries p (bare_or_list ts)) = s1 ∙ ap (λ y. y ++ map entry_tree (written_entries p (bare_or_list ts))) e0 in
     ap (λ b. cond b None (Some (tree_of (written_entries p (bare_or_list ts))))) t ∙ ap Some (ap (λ y. map_tree (pairs y)) (sym whole) ∙ sym (view_map v))

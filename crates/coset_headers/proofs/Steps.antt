@@ -13,6 +13,8 @@ use Rattle.coset_labels.specs.Labels.{is_i64, label_of, registered_of, WrongLabe
 use Rattle.coset_labels.specs.Reading.{NotReadable}
 use Rattle.coset_labels.specs.declared.error.CoseError.{CoseError}
 use Rattle.coset_labels.specs.declared.error.CoseError.TheVariants as code
+use Rattle.coset_labels.specs.declared.label.Label.{Label}
+use Rattle.coset_labels.specs.declared.seen.Seen.{Seen}
 use Rattle.coset_headers.specs.Fields.{Plain, HeaderFields, header, no_plain, no_header, SignatureFields, signatures, Signatures, no_signatures, signature_more}
 use Rattle.coset_headers.specs.Headers.{is_at, entries, at, IsIn, IsPlain, IsBare, IsList, list_of_three, HasHeader, HasSignature, HasSigned, HasSignatures}
 use Rattle.coset_headers.specs.Parts.{plain_of, signs_of, Sees, Known, KnownIn, Added, Filled}
@@ -21,7 +23,6 @@ use Rattle.coset_headers.specs.Walks.{WrongFill, field_wrong, iv_second, partial
 use Rattle.coset_headers.specs.Wrong.{WrongField, WrongHeader, no_map, at_entry, WrongEntry, bad_label, bad_field, two_ivs, bad_signatures, WrongSigned, no_list, no_first, in_bare, in_list, NoSignature, WrongSignature, no_array, not_three, in_protected, in_unprotected, no_bytes, WrongProtected, no_string, too_deep, unreadable, inside}
 use Rattle.coset_headers.specs.declared.header.CoseSignature.{CoseSignature}
 use Rattle.coset_headers.specs.declared.parts.Parts.{Parts}
-use Rattle.coset_headers.specs.declared.seen.Seen.{Seen}
 use Rattle.coset_headers.proofs.Entered.{is_at_is, at_old, at_new, at_none, distinct_snoc, entries_snoc, there, filled_plain, signed_plain, none_plain}
 use Rattle.coset_headers.proofs.Unique.{plain_once, signed_once}
 
@@ -67,7 +68,7 @@ known_more : (n : ℕ) (es : List (LabelFields × Tree)) (p q : Plain) (ss us : 
     → Known n es p ss k → (IsIn m es → ⊥) → IsPlain (es ++ (m, v) ∷ []) q → HasSigned n (at 7 (es ++ (m, v) ∷ [])) us k → Known n (es ++ (m, v) ∷ []) q us k
 known_more n es p q ss us k m v w d pl sg = record { distinct = distinct_snoc es m v w.distinct d; plain = pl; signed = sg }
 
-pub known_filled : (n : ℕ) (es : List (LabelFields × Tree)) (l v : Tree) (seen : Seen) (old new : Parts) (k : ℕ) (m : LabelFields)
+pub known_filled : (n : ℕ) (es : List (LabelFields × Tree)) (l v : Tree) (seen : Seen Label) (old new : Parts) (k : ℕ) (m : LabelFields)
     → Known n es (plain_of old) (signs_of old) k → label_of l ≡ Some m → (IsIn m es → ⊥) → ((v : Tree) → Sees seen (es ++ (m, v) ∷ [])) → is_at 7 m ≡ false → Filled m v old new → Added n es l v seen new k
 known_filled n es l v seen old new k m w q d z s f = record {
   label = m;
@@ -80,7 +81,7 @@ known_filled n es l v seen old new k m w q d z s f = record {
   };
 }
 
-pub known_signed : (n : ℕ) (es : List (LabelFields × Tree)) (l v : Tree) (seen : Seen) (old new : Parts) (k : ℕ) (m : LabelFields) (ss : Signatures)
+pub known_signed : (n : ℕ) (es : List (LabelFields × Tree)) (l v : Tree) (seen : Seen Label) (old new : Parts) (k : ℕ) (m : LabelFields) (ss : Signatures)
     → Known n es (plain_of old) (signs_of old) k → label_of l ≡ Some m → (IsIn m es → ⊥) → ((v : Tree) → Sees seen (es ++ (m, v) ∷ [])) → is_at 7 m ≡ true → HasSigned n (Some v) ss k
     → plain_of new ≡ plain_of old → signs_of new ≡ ss → Added n es l v seen new k
 known_signed n es l v seen old new k m ss w q d z s g a b =
@@ -110,7 +111,7 @@ entries_at_fault n all xs ys x es k e q r w = passed_on (WrongEntry n es (view x
       wrong = z;
     }) w
 
-pub entries_pushed : (n : ℕ) (xs : List (Value × Value)) (x : Value × Value) (es : List (LabelFields × Tree)) (s : Seen) (p : Parts) (k : ℕ)
+pub entries_pushed : (n : ℕ) (xs : List (Value × Value)) (x : Value × Value) (es : List (LabelFields × Tree)) (s : Seen Label) (p : Parts) (k : ℕ)
     → entries (view_pairs xs) ≡ Some es → Added n es (view x.0) (view x.1) s p k → (fs : List (LabelFields × Tree)) × (entries (view_pairs (xs ++ x ∷ [])) ≡ Some fs) × KnownIn n fs s p k
 entries_pushed n xs x es s p k r a =
     (es ++ (a.label, view x.1) ∷ [], ap entries (ap pairs (map-append view_pair xs (x ∷ []))) ∙ entries_snoc (map view_pair xs) es (view x.0) (view x.1) a.label r a.is, a.known)

@@ -4,14 +4,11 @@ use Rattle.ciborium_value.specs.Tree.{Tree, bytes, array, map as map_tree, Trees
 use Rattle.ciborium.specs.Front.{Reads}
 use Rattle.ciborium.specs.Meaning.{meaning}
 use Rattle.ciborium.proofs.Once.{once}
+pub use Rattle.coset_labels.specs.Facts.Entries.{field_once}
 use Rattle.coset_labels.specs.Fields.{LabelFields, Named}
 use Rattle.coset_headers.specs.Fields.{Plain, HeaderFields, header, ProtectedFields, protected, SignatureFields, signature, Signatures, no_signatures, signature_more}
-use Rattle.coset_headers.specs.Headers.{entries, at, IsField, HasContentType, IsPlain, IsBare, IsList, HasHeader, HasProtected, HasSignature, HasSigned, HasSignatures}
+use Rattle.coset_headers.specs.Headers.{entries, at, HasContentType, IsPlain, IsBare, IsList, HasHeader, HasProtected, HasSignature, HasSigned, HasSignatures}
 use Rattle.coset_headers.specs.Walks.{Inside}
-
-pub field_once : {A : Type 0} → (f : Tree → Option A) (absent : A) (o : Option Tree) (x y : A) → IsField f absent o x → IsField f absent o y → x ≡ y
-field_once f absent None x y a b = a ∙ sym b
-field_once f absent (Some t) x y a b = let e : Some x ≡ Some y = sym a ∙ b in cc
 
 content_type_once : (o : Option Tree) (x y : Option Named) → HasContentType o x → HasContentType o y → x ≡ y
 content_type_once None x y a b = a ∙ sym b

@@ -1,6 +1,7 @@
 -- What was read can be written.
 use Rattle.std.proofs.Common.{◌≡◌, ◌≢◌, ℕ, inl, inr, List, [], ◌∷◌, Bool, true, false, cond, Option, Some, None, option_map, option_and_then, refl, sym, ap, subst, ◌∙◌}
 use Rattle.ciborium_value.specs.Tree.{Tree, array, Trees, no_trees}
+use Rattle.coset_labels.specs.Facts.Entries as facts
 use Rattle.coset_labels.specs.Fields.{LabelFields}
 use Rattle.coset_headers.specs.Fields.{Plain, HeaderFields, header, ProtectedFields, protected, SignatureFields, signature, Signatures, no_signatures, signature_more}
 use Rattle.coset_headers.specs.Headers.{is_core, at, IsIn, Distinct, others, HasHeader, HasProtected, HasSignature, HasSigned, HasSignatures}
@@ -19,22 +20,8 @@ and_some f None n g = absurd (n refl)
 and_some f (Some x) n g = g x
 
 -- ---- the entries of `rest` are distinct, since all are
-in_kept : (b : Bool) (l : LabelFields) (e : LabelFields × Tree) (es zs : List (LabelFields × Tree)) → (IsIn l zs → IsIn l es) → IsIn l (cond b zs (e ∷ zs)) → IsIn l (e ∷ es)
-in_kept true l e es zs f i = inr (f i)
-in_kept false l e es zs f (inl q) = inl q
-in_kept false l e es zs f (inr i) = inr (f i)
-
-in_others : (l : LabelFields) (es : List (LabelFields × Tree)) → IsIn l (others es) → IsIn l es
-in_others l [] i = i
-in_others l (e ∷ es) i = in_kept (is_core e.0) l e es (others es) (in_others l es) i
-
-distinct_kept : (b : Bool) (e : LabelFields × Tree) (zs : List (LabelFields × Tree)) → Distinct zs → (IsIn e.0 zs → ⊥) → Distinct (cond b zs (e ∷ zs))
-distinct_kept true e zs d n = d
-distinct_kept false e zs d n = (n, d)
-
 pub distinct_others : (es : List (LabelFields × Tree)) → Distinct es → Distinct (others es)
-distinct_others [] d = tt
-distinct_others (e ∷ es) d = distinct_kept (is_core e.0) e (others es) (distinct_others es d.1) (λ i. d.0 (in_others e.0 es i))
+distinct_others = facts.distinct_others is_core
 
 header_some : (p : Plain) (ts : Trees) → twice p.rest ≡ false → header_of p ts ≢ None
 header_some p ts e q = some_is (tree_of (written_entries p (bare_or_list ts))) (sym (ap (λ b. cond b None (Some (tree_of (written_entries p (bare_or_list ts))))) e) ∙ q)
@@ -59,7 +46,7 @@ mutual
   pub sig_some : (n : ℕ) (s : SignatureFields) (t : Tree) (k : ℕ) → HasSignature n t s k → signature_tree s ≢ None
   sig_some n (signature p h c) t k a = and_some _ (shown p) (prot_some n p a.0 k a.3) (λ b. map_some _ (header_tree h) (hdr_some n h a.1 k a.4))
 
-  signed_some : (n : ℕ) (ss : Signatures) (o : Option Tree) (k : ℕ) → HasSigned n o ss k → signature_trees ss ≢ None
+  pub signed_some : (n : ℕ) (ss : Signatures) (o : Option Tree) (k : ℕ) → HasSigned n o ss k → signature_trees ss ≢ None
   signed_some n no_signatures o k a = some_is no_trees
   signed_some n (signature_more s ss) o k (ts, is, inl (bare, rest, one)) = trees_some s ss (sig_some n s (array ts) k one) (no_trees_some ss rest)
   signed_some n (signature_more s ss) o k (ts, is, inr (list, more)) = trees_some s ss (sig_some n s more.0 k more.3) (sigs_some n ss more.1 k more.4)

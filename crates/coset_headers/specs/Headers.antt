@@ -1,26 +1,23 @@
 -- Which fields a value has as a header, a protected header, a signature (RFC 9052, sections 3, 3.1 and 4.1). Each definition has the
 -- nesting limit `n` of protected bytes, and how many protected byte strings may still lie inside one another, `k`.
-use Rattle.std.specs.Prelude.{◌≡◌, ◌≢◌, ℕ, ℤ, pos, negsuc, ◌-◌, ◌<◌, ◌⊎◌, List, [], ◌∷◌, Bool, false, ◌||◌, if◌then◌else◌, nat_eq, Option, Some, None, option_map, option_and_then}
+use Rattle.std.specs.Prelude.{◌≡◌, ◌≢◌, ℕ, ◌-◌, ◌<◌, ◌⊎◌, List, [], ◌∷◌, Bool, ◌||◌, nat_eq, Option, Some, None, option_map, option_and_then}
 use Rattle.std.specs.Str.{trim}
 use Rattle.std.specs.List.{count_by}
 use Rattle.cose_iana.specs.Algorithms.{is_algorithm}
 use Rattle.cose_iana.specs.Formats.{coap_content_formats}
 use Rattle.cose_iana.specs.Headers.{header_parameters}
 use Rattle.cose_iana.specs.Registry.{is_private_use}
-use Rattle.ciborium_value.specs.Tree.{Tree, bytes, array, map as map_tree, Trees, no_trees, one_more, Pairs, no_pairs, pair_more}
+use Rattle.ciborium_value.specs.Tree.{Tree, bytes, array, map as map_tree, Trees, no_trees, one_more, Pairs}
 use Rattle.ciborium.specs.Front.{Reads}
-use Rattle.coset_labels.specs.Fields.{LabelFields, number, words, Named, named}
+use Rattle.coset_labels.specs.Entries.{is_label}
+use Rattle.coset_labels.specs.Entries as map_entries
+use Rattle.coset_labels.specs.Fields.{LabelFields, Named, named}
 use Rattle.coset_labels.specs.Kinds.{some_bytes}
 use Rattle.coset_labels.specs.Labels.{label_of, registered_of, named_of}
 use Rattle.coset_headers.specs.Fields.{Plain, HeaderFields, header, ProtectedFields, protected, SignatureFields, signature, Signatures, no_signatures, signature_more, no_header}
 
-abbrev pub is_number : ℕ → ℤ → Bool
-is_number n (pos m) = nat_eq n m
-is_number n (negsuc m) = false
-
 abbrev pub is_at : ℕ → LabelFields → Bool
-is_at n (number i) = is_number n i
-is_at n (words b) = false
+is_at = is_label
 
 -- a label with a field of its own: 1 to 7
 abbrev pub is_core : LabelFields → Bool
@@ -59,32 +56,26 @@ HasContentType (Some t) c = (f : Named) × (format_of t ≡ Some f) × IsContent
 
 -- the entries of a map with their labels, or none where a key is no label
 abbrev pub entries : Pairs → Option (List (LabelFields × Tree))
-entries no_pairs = Some []
-entries (pair_more l v ps) = option_and_then (λ m. option_map (λ es. (m, v) ∷ es) (entries ps)) (label_of l)
+entries = map_entries.entries label_of
 
 -- the value at the label n
 abbrev pub at : ℕ → List (LabelFields × Tree) → Option Tree
-at n [] = None
-at n (e ∷ es) = if is_at n e.0 then Some e.1 else at n es
+at n = map_entries.at (is_at n)
 
 abbrev pub IsIn : LabelFields → List (LabelFields × Tree) → Type 0
-IsIn l [] = ⊥
-IsIn l (e ∷ es) = (l ≡ e.0) ⊎ IsIn l es
+IsIn = map_entries.IsIn
 
 -- no label stands twice
 abbrev pub Distinct : List (LabelFields × Tree) → Type 0
-Distinct [] = Unit {0}
-Distinct (e ∷ es) = (IsIn e.0 es → ⊥) × Distinct es
+Distinct = map_entries.Distinct
 
 -- the entries of labels without a field of their own, in order
 abbrev pub others : List (LabelFields × Tree) → List (LabelFields × Tree)
-others [] = []
-others (e ∷ es) = if is_core e.0 then others es else e ∷ others es
+others = map_entries.others is_core
 
 -- the field is what the value there is, and `absent` where none is
 abbrev pub IsField : {A : Type 0} → (Tree → Option A) → A → Option Tree → A → Type 0
-IsField f absent None x = x ≡ absent
-IsField f absent (Some t) x = f t ≡ Some x
+IsField = map_entries.IsField
 
 -- the fields that hold no header are those of the entries; IV and partial IV never stand both
 pub record IsPlain (es : List (LabelFields × Tree)) (p : Plain) : Type 0 where

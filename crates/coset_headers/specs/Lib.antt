@@ -1,4 +1,5 @@
 pub mod Alone
+pub mod AsWritten
 pub mod Decided
 pub mod Entries
 pub mod Fields

@@ -1,7 +1,6 @@
 -- The fields that the entries of a header that are read so far have given.
-use Rattle.std.specs.Prelude.{◌≡◌, ℕ, pos, List, [], ◌∷◌, ◌++◌, map, Bool, true, false, ◌||◌, Option, None, Some, option_map}
-use Rattle.std.specs.BTreeSet.{contains}
-use Rattle.std.specs.Ordering.{on, is_eq}
+use Rattle.std.specs.Prelude.{◌≡◌, ℕ, pos, List, [], ◌∷◌, ◌++◌, map, false, Some, option_map}
+use Rattle.std.specs.Ordering.{on}
 use Rattle.cose_iana.specs.Algorithms.{algorithm_number}
 use Rattle.cose_iana.specs.Formats.{coap_content_formats}
 use Rattle.cose_iana.specs.Headers.{header_parameters}
@@ -10,32 +9,18 @@ use Rattle.coset_labels.specs.Fields.{LabelFields, number, Named}
 use Rattle.coset_labels.specs.Kinds.{some_bytes}
 use Rattle.coset_labels.specs.Labels.{label_of}
 use Rattle.coset_labels.specs.Orders.{label_cmp}
+use Rattle.coset_labels.specs.Seen as keys
 use Rattle.coset_labels.specs.View.{label_view, registered_view, named_view}
 use Rattle.coset_labels.specs.declared.label.Label.{Label}
+use Rattle.coset_labels.specs.declared.seen.Seen.{Seen}
 use Rattle.coset_headers.specs.Fields.{Plain, Signatures}
-use Rattle.coset_headers.specs.Headers.{is_core, alg_of, crit_of, HasContentType, at, IsIn, Distinct, IsPlain, HasSigned}
+use Rattle.coset_headers.specs.Headers.{is_core, alg_of, crit_of, HasContentType, at, Distinct, IsPlain, HasSigned}
 use Rattle.coset_headers.specs.View.{entry_view, signatures_view}
 use Rattle.coset_headers.specs.declared.parts.Parts.{Parts}
-use Rattle.coset_headers.specs.declared.seen.Seen.{Seen}
-
-abbrev pub holds : Option Label → Label → Bool
-holds None l = false
-holds (Some m) l = is_eq (label_cmp (label_view m) (label_view l))
-
-abbrev pub in_tree : Seen → Label → Bool
-in_tree s l = contains (on label_view label_cmp) s.labels l
-
-abbrev pub has_seen : Seen → Label → Bool
-has_seen s l = holds s.first l || (holds s.second l || in_tree s l)
-
--- the label is seen now, and any other is as before
-abbrev pub Grows : Seen → Seen → Label → Type 0
-Grows old new k = (q : Label) → has_seen new q ≡ (holds (Some k) q || has_seen old q)
 
 -- the labels of these entries, and no others, were seen
-pub record Sees (s : Seen) (es : List (LabelFields × Tree)) : Type 0 where
-  pub seen : (l : Label) → has_seen s l ≡ true → IsIn (label_view l) es
-  pub unseen : (l : Label) → has_seen s l ≡ false → IsIn (label_view l) es → ⊥
+abbrev pub Sees : Seen Label → List (LabelFields × Tree) → Type 0
+Sees = keys.Sees (on label_view label_cmp) label_view
 
 abbrev pub plain_of : Parts → Plain
 plain_of p = record {
@@ -58,12 +43,12 @@ pub record Known (n : ℕ) (es : List (LabelFields × Tree)) (p : Plain) (ss : S
   pub signed : HasSigned n (at 7 es) ss k
 
 -- and so are the labels that were seen
-pub record KnownIn (n : ℕ) (es : List (LabelFields × Tree)) (s : Seen) (p : Parts) (k : ℕ) : Type 0 where
+pub record KnownIn (n : ℕ) (es : List (LabelFields × Tree)) (s : Seen Label) (p : Parts) (k : ℕ) : Type 0 where
   pub sees : Sees s es
   pub known : Known n es (plain_of p) (signs_of p) k
 
 -- one more entry is read
-pub record Added (n : ℕ) (es : List (LabelFields × Tree)) (l v : Tree) (s : Seen) (p : Parts) (k : ℕ) : Type 0 where
+pub record Added (n : ℕ) (es : List (LabelFields × Tree)) (l v : Tree) (s : Seen Label) (p : Parts) (k : ℕ) : Type 0 where
   pub label : LabelFields
   pub is : label_of l ≡ Some label
   pub known : KnownIn n (es ++ (label, v) ∷ []) s p k

@@ -13,10 +13,9 @@ ghost use Rattle.coset_headers.specs.View.{entry_view};
 ghost use Rattle.coset_headers.specs.Written.{name_entry, crit_entry, bytes_entry, signs_entry, bare_or_list, header_of, twice};
 
 use crate::parts::Parts;
-use crate::seen::Seen;
 use ciborium_value::{Integer, Value};
 use coset_labels::{
-    Algorithm, AsCborValue, ContentType, CoseError, Label, RegisteredLabelWithPrivate, iana,
+    Algorithm, AsCborValue, ContentType, CoseError, Label, RegisteredLabelWithPrivate, Seen, iana,
     to_cbor_array,
 };
 use std::alloc::Global;

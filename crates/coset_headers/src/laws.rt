@@ -4,6 +4,7 @@ ghost use Rattle.ciborium.specs.Front.{Reads};
 ghost use Rattle.ciborium_value.specs.Encoding.{enc, Fits};
 ghost use Rattle.ciborium_value.specs.Tree.{Tree, bytes};
 ghost use Rattle.coset_labels.specs.Faults.{CoseFault};
+ghost use Rattle.coset_labels.specs.Limits.{nesting, layers};
 ghost use Rattle.coset_labels.specs.Reading.{HasItem, WrongItem};
 ghost use Rattle.coset_headers.specs.Fields.{HeaderFields, ProtectedFields, SignatureFields};
 ghost use Rattle.coset_headers.specs.Headers.{HasHeader, HasProtected, HasSignature};
@@ -20,10 +21,10 @@ pub fn one_header()
     ensures header { (n k : ℕ) (t : Tree) (h g : HeaderFields) → HasHeader n t h k → HasHeader n t g k → h ≡ g }
     ensures protected { (n k : ℕ) (t : Tree) (p q : ProtectedFields) → HasProtected n t p k → HasProtected n t q k → p ≡ q }
     ensures signature { (n k : ℕ) (t : Tree) (s u : SignatureFields) → HasSignature n t s k → HasSignature n t u k → s ≡ u }
-    ensures header_item { (b : List ℕ) (h g : HeaderFields) → HasItem (λ t h. HasHeader 256 t h 16) b h
-        → HasItem (λ t h. HasHeader 256 t h 16) b g → h ≡ g }
-    ensures signature_item { (b : List ℕ) (s u : SignatureFields) → HasItem (λ t s. HasSignature 256 t s 16) b s
-        → HasItem (λ t s. HasSignature 256 t s 16) b u → s ≡ u }
+    ensures header_item { (b : List ℕ) (h g : HeaderFields) → HasItem (λ t h. HasHeader nesting t h layers) b h
+        → HasItem (λ t h. HasHeader nesting t h layers) b g → h ≡ g }
+    ensures signature_item { (b : List ℕ) (s u : SignatureFields) → HasItem (λ t s. HasSignature nesting t s layers) b s
+        → HasItem (λ t s. HasSignature nesting t s layers) b u → s ≡ u }
 {}
 
 /// A value with a fault has no fields. Nor have bytes that are not one readable item, or whose item has a fault.
@@ -31,10 +32,10 @@ pub fn wrong_has_none()
     ensures header { (n k : ℕ) (t : Tree) (e : CoseFault) (h : HeaderFields) → WrongHeader n t k e → HasHeader n t h k → ⊥ }
     ensures protected { (n k : ℕ) (t : Tree) (e : CoseFault) (p : ProtectedFields) → WrongProtected n t k e → HasProtected n t p k → ⊥ }
     ensures signature { (n k : ℕ) (t : Tree) (e : CoseFault) (s : SignatureFields) → WrongSignature n t k e → HasSignature n t s k → ⊥ }
-    ensures header_item { (b : List ℕ) (e : CoseFault) (h : HeaderFields) → WrongItem (λ t e. WrongHeader 256 t 16 e) b e
-        → HasItem (λ t h. HasHeader 256 t h 16) b h → ⊥ }
-    ensures signature_item { (b : List ℕ) (e : CoseFault) (s : SignatureFields) → WrongItem (λ t e. WrongSignature 256 t 16 e) b e
-        → HasItem (λ t s. HasSignature 256 t s 16) b s → ⊥ }
+    ensures header_item { (b : List ℕ) (e : CoseFault) (h : HeaderFields) → WrongItem (λ t e. WrongHeader nesting t layers e) b e
+        → HasItem (λ t h. HasHeader nesting t h layers) b h → ⊥ }
+    ensures signature_item { (b : List ℕ) (e : CoseFault) (s : SignatureFields) → WrongItem (λ t e. WrongSignature nesting t layers e) b e
+        → HasItem (λ t s. HasSignature nesting t s layers) b s → ⊥ }
 {}
 
 /// A header that was read can be written, and so can a signature, and the bytes that a protected one shows are there: no label of what was
@@ -71,8 +72,8 @@ pub fn read_is_short()
 
 /// A header that was read from bytes is read again of the bytes that it is written as, the same, received bytes included.
 pub fn header_reads_again(header: &Header)
-    ensures { (b : List ℕ) (u : Tree) → HasItem (λ t h. HasHeader 256 t h 16) b (header_view header.now)
-        → header_tree (header_view header.now) ≡ Some u → HasItem (λ t h. HasHeader 256 t h 16) (enc u) (header_view header.now) }
+    ensures { (b : List ℕ) (u : Tree) → HasItem (λ t h. HasHeader nesting t h layers) b (header_view header.now)
+        → header_tree (header_view header.now) ≡ Some u → HasItem (λ t h. HasHeader nesting t h layers) (enc u) (header_view header.now) }
 {
     header_fits(header);
     written_reads_same();
@@ -81,9 +82,9 @@ pub fn header_reads_again(header: &Header)
 
 /// As `header_reads_again`, of a signature.
 pub fn signature_reads_again(signature: &CoseSignature)
-    ensures { (b : List ℕ) (u : Tree) → HasItem (λ t s. HasSignature 256 t s 16) b (signature_view signature.now)
+    ensures { (b : List ℕ) (u : Tree) → HasItem (λ t s. HasSignature nesting t s layers) b (signature_view signature.now)
         → signature_tree (signature_view signature.now) ≡ Some u
-        → HasItem (λ t s. HasSignature 256 t s 16) (enc u) (signature_view signature.now) }
+        → HasItem (λ t s. HasSignature nesting t s layers) (enc u) (signature_view signature.now) }
 {
     signature_fits(signature);
     written_reads_same();

@@ -1,6 +1,7 @@
 //! Headers of COSE, protected ones and counter signatures in them (RFC 9052, sections 3 and 4.1).
 #![tactic(auto)]
 
+mod as_written;
 mod copies;
 mod entries;
 mod equal;
@@ -9,13 +10,12 @@ mod header;
 pub mod laws;
 mod parts;
 mod reader;
-mod seen;
 mod serial;
 mod values;
 mod writer;
 
+pub use crate::as_written::{elements_stand, signature_stands, signatures_stand};
 pub use crate::copies::{clone_alg, clone_rest};
 pub use crate::entries::{push_bytes, push_rest, repeats};
 pub use crate::header::{CoseSignature, Header, ProtectedHeader};
-pub use crate::seen::Seen;
 pub use crate::writer::show_protected;

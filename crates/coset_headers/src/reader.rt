@@ -12,10 +12,9 @@ ghost use Rattle.coset_headers.specs.Wrong.{WrongHeader, WrongEntry, WrongSigned
 
 use crate::header::{CoseSignature, Header, ProtectedHeader};
 use crate::parts::{Parts, is_counter_signatures};
-use crate::seen::Seen;
 use crate::values::{is_bare, three};
 use ciborium_value::Value;
-use coset_labels::{AsCborValue, CoseError, Label, ValueTryAs, read_to_value};
+use coset_labels::{AsCborValue, CoseError, Label, Seen, ValueTryAs, read_to_value};
 use std::alloc::Global;
 
 /// Reads a header, with a nesting limit and some protected layers left.
@@ -58,7 +57,7 @@ fn read_entries(
 #[cycle(reader)]
 fn read_entry(
     alloc: Global,
-    seen: &mut Seen,
+    seen: &mut Seen<Label>,
     parts: &mut Parts,
     key: Value,
     value: Value,

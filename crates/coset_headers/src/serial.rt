@@ -3,6 +3,7 @@ ghost use Rattle.std.specs.Prelude.{◌≡◌, [], Some, None, MatchResult, opti
 ghost use Rattle.ciborium_value.specs.Tree as spec;
 ghost use Rattle.ciborium_value.specs.View.{view};
 ghost use Rattle.coset_labels.specs.Faults.{OrMemory, CantWrite};
+ghost use Rattle.coset_labels.specs.Limits.{nesting, layers, nesting_of, layers_of};
 ghost use Rattle.coset_headers.specs.Alone.{HasUnsent, unsent_tree, is_unset};
 ghost use Rattle.coset_headers.specs.Fields.{HeaderFields, ProtectedFields, SignatureFields, protected, signature, no_header};
 ghost use Rattle.coset_headers.specs.Headers.{HasHeader, HasProtected, HasSignature};
@@ -15,14 +16,8 @@ use crate::parts::Parts;
 use crate::reader::{read_header, read_protected, read_signature};
 use crate::writer::{show_protected, write_header, write_signature};
 use ciborium_value::Value;
-use coset_labels::{AsCborValue, CborSerializable, CoseError};
+use coset_labels::{AsCborValue, CborSerializable, CoseError, Limits};
 use std::alloc::Global;
-
-/// How deep a protected header may nest.
-const NESTING: usize = 256;
-
-/// How many protected headers may lie inside one another, by counter signatures.
-const LAYERS: usize = 16;
 
 impl Header {
     /// A header with no field. It takes no memory.
@@ -30,6 +25,22 @@ impl Header {
         ensures { header_view result ≡ no_header }
     {
         Parts::new(alloc).header()
+    }
+
+    /// As `from_cbor_value`, within these limits.
+    ///
+    /// # Errors
+    /// A fault that the value has, or `Memory`.
+    pub fn from_cbor_value_with(
+        alloc: Global,
+        value: Value,
+        limits: Limits,
+    ) -> Result<Header, CoseError>
+        ensures { MatchResult result
+            (λ h. HasHeader (nesting_of limits) (view value) (header_view h) (layers_of limits))
+            (λ e. OrMemory (WrongHeader (nesting_of limits) (view value) (layers_of limits)) e) }
+    {
+        read_header(alloc, value, limits.nesting(), limits.layers())
     }
 }
 
@@ -40,14 +51,14 @@ impl AsCborValue for Header {
 
     ghost fields = { header_view };
 
-    ghost shape = { λ t h. HasHeader 256 t h 16 };
+    ghost shape = { λ t h. HasHeader nesting t h layers };
 
-    ghost wrong = { λ t e. WrongHeader 256 t 16 e };
+    ghost wrong = { λ t e. WrongHeader nesting t layers e };
 
     ghost written = { header_tree };
 
     fn from_cbor_value(alloc: Global, value: Value) -> Result<Header, CoseError> {
-        read_header(alloc, value, NESTING, LAYERS)
+        Header::from_cbor_value_with(alloc, value, Limits::default())
     }
 
     fn to_cbor_value(self, alloc: Global) -> Result<Value, CoseError> {
@@ -63,14 +74,14 @@ impl AsCborValue for ProtectedHeader {
 
     ghost fields = { protected_view };
 
-    ghost shape = { λ t p. HasUnsent 256 t p 16 };
+    ghost shape = { λ t p. HasUnsent nesting t p layers };
 
-    ghost wrong = { λ t e. WrongHeader 256 t 16 e };
+    ghost wrong = { λ t e. WrongHeader nesting t layers e };
 
     ghost written = { unsent_tree };
 
     fn from_cbor_value(alloc: Global, value: Value) -> Result<ProtectedHeader, CoseError> {
-        let header = read_header(alloc, value, NESTING, LAYERS)?;
+        let header = Header::from_cbor_value(alloc, value)?;
         Ok(ProtectedHeader {
             original_data: None,
             header,
@@ -94,14 +105,14 @@ impl AsCborValue for CoseSignature {
 
     ghost fields = { signature_view };
 
-    ghost shape = { λ t s. HasSignature 256 t s 16 };
+    ghost shape = { λ t s. HasSignature nesting t s layers };
 
-    ghost wrong = { λ t e. WrongSignature 256 t 16 e };
+    ghost wrong = { λ t e. WrongSignature nesting t layers e };
 
     ghost written = { signature_tree };
 
     fn from_cbor_value(alloc: Global, value: Value) -> Result<CoseSignature, CoseError> {
-        read_signature(alloc, value, NESTING, LAYERS)
+        CoseSignature::from_cbor_value_with(alloc, value, Limits::default())
     }
 
     fn to_cbor_value(self, alloc: Global) -> Result<Value, CoseError> {
@@ -121,6 +132,22 @@ impl CoseSignature {
             unprotected: Header::new(alloc),
             signature: Vec::new(alloc),
         }
+    }
+
+    /// As `from_cbor_value`, within these limits.
+    ///
+    /// # Errors
+    /// A fault that the value has, or `Memory`.
+    pub fn from_cbor_value_with(
+        alloc: Global,
+        value: Value,
+        limits: Limits,
+    ) -> Result<CoseSignature, CoseError>
+        ensures { MatchResult result
+            (λ s. HasSignature (nesting_of limits) (view value) (signature_view s) (layers_of limits))
+            (λ e. OrMemory (WrongSignature (nesting_of limits) (view value) (layers_of limits)) e) }
+    {
+        read_signature(alloc, value, limits.nesting(), limits.layers())
     }
 }
 
@@ -142,16 +169,36 @@ impl ProtectedHeader {
         self.header.is_empty()
     }
 
-    /// Reads the byte string that a protected header is, and keeps its bytes (RFC 9052, section 3). At most 16 protected headers may lie
-    /// inside one another.
+    /// Reads the byte string that a protected header is, and keeps its bytes (RFC 9052, section 3).
+    /// The header in them opens at most 256 levels, and at most 16 protected headers may lie inside
+    /// one another.
     ///
     /// # Errors
     /// A fault that the value has, or `Memory`. `ExtraneousData` where bytes go on behind the header.
     pub fn from_cbor_bstr(alloc: Global, value: Value) -> Result<ProtectedHeader, CoseError>
-        ensures { MatchResult result (λ p. HasProtected 256 (view value) (protected_view p) 16)
-            (λ e. OrMemory (WrongProtected 256 (view value) 16) e) }
+        ensures { MatchResult result (λ p. HasProtected nesting (view value) (protected_view p) layers)
+            (λ e. OrMemory (WrongProtected nesting (view value) layers) e) }
     {
-        read_protected(alloc, value, NESTING, LAYERS)
+        ProtectedHeader::from_cbor_bstr_with(alloc, value, Limits::default())
+    }
+
+    /// As `from_cbor_bstr`, within these limits: the header in the bytes opens at most
+    /// `limits.nesting()` levels, and at most `limits.layers()` protected headers lie inside one
+    /// another, this one among them.
+    ///
+    /// # Errors
+    /// A fault that the value has, or `Memory`. `ExtraneousData` where bytes go on behind the header,
+    /// `TooManyLayers` where more protected headers lie inside one another.
+    pub fn from_cbor_bstr_with(
+        alloc: Global,
+        value: Value,
+        limits: Limits,
+    ) -> Result<ProtectedHeader, CoseError>
+        ensures { MatchResult result
+            (λ p. HasProtected (nesting_of limits) (view value) (protected_view p) (layers_of limits))
+            (λ e. OrMemory (WrongProtected (nesting_of limits) (view value) (layers_of limits)) e) }
+    {
+        read_protected(alloc, value, limits.nesting(), limits.layers())
     }
 
     /// The byte string that stands for this header: the bytes that were received; else an empty string for an empty header, and the

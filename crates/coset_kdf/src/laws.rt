@@ -4,6 +4,7 @@ ghost use Rattle.ciborium_value.specs.Tree.{Tree, bytes};
 ghost use Rattle.ciborium_value.specs.Encoding.{enc, Fits, FitAll};
 ghost use Rattle.ciborium_value.specs.View.{trees};
 ghost use Rattle.coset_labels.specs.Faults.{CoseFault};
+ghost use Rattle.coset_labels.specs.Limits.{nesting, layers};
 ghost use Rattle.coset_labels.specs.Reading.{HasItem};
 ghost use Rattle.coset_headers.specs.View.{protected_view};
 ghost use Rattle.coset_headers.specs.Written.{shown};
@@ -146,16 +147,16 @@ pub fn party_reads_again(info: &PartyInfo)
 
 /// As `party_reads_again`, of public information, received bytes included.
 pub fn public_reads_again(info: &SuppPubInfo)
-    ensures { (b : List ℕ) (u : Tree) → HasItem (λ t s. HasPublic 256 t s 16) b (public_view info.now)
-        → public_tree (public_view info.now) ≡ Some u → HasItem (λ t s. HasPublic 256 t s 16) (enc u) (public_view info.now) }
+    ensures { (b : List ℕ) (u : Tree) → HasItem (λ t s. HasPublic nesting t s layers) b (public_view info.now)
+        → public_tree (public_view info.now) ≡ Some u → HasItem (λ t s. HasPublic nesting t s layers) (enc u) (public_view info.now) }
 {
     public_fits(info);
 }
 
 /// As `public_reads_again`, of a context.
 pub fn context_reads_again(context: &CoseKdfContext)
-    ensures { (b : List ℕ) (u : Tree) → HasItem (λ t c. HasContext 256 t c 16) b (context_view context.now)
-        → context_tree (context_view context.now) ≡ Some u → HasItem (λ t c. HasContext 256 t c 16) (enc u) (context_view context.now) }
+    ensures { (b : List ℕ) (u : Tree) → HasItem (λ t c. HasContext nesting t c layers) b (context_view context.now)
+        → context_tree (context_view context.now) ≡ Some u → HasItem (λ t c. HasContext nesting t c layers) (enc u) (context_view context.now) }
 {
     context_fits(context);
 }

@@ -2,6 +2,7 @@
 ghost use Rattle.std.specs.Prelude.{◌≡◌, ◌≤◌, map, option_map, Some, MatchResult};
 ghost use Rattle.ciborium_value.specs.View.{view};
 ghost use Rattle.coset_labels.specs.Faults.{OrMemory, fault_of};
+ghost use Rattle.coset_labels.specs.Limits.{nesting, layers};
 ghost use Rattle.coset_kdf.specs.Contexts.{HasContext, HasParty, HasPublic, length_of, nonce_of};
 ghost use Rattle.coset_kdf.specs.Steps.{HasTwo, WrongTwo};
 ghost use Rattle.coset_kdf.specs.View.{context_view, nonce_view, party_view, public_view};
@@ -49,7 +50,7 @@ fn read_nonce(value: Value) -> Result<Option<Nonce>, CoseError>
 
 /// Reads what both parties know.
 pub(crate) fn read_public(alloc: Global, value: Value) -> Result<SuppPubInfo, CoseError>
-    ensures { MatchResult result (λ s. HasPublic 256 (view value) (public_view s) 16) (λ e. OrMemory (WrongPublic 256 (view value) 16) e) }
+    ensures { MatchResult result (λ s. HasPublic nesting (view value) (public_view s) layers) (λ e. OrMemory (WrongPublic nesting (view value) layers) e) }
 {
     let items = value.try_as_array()?;
     if items.len() == 3 {
@@ -97,8 +98,8 @@ fn read_length(value: Value) -> Result<u64, CoseError>
 
 /// Reads a context.
 pub(crate) fn read_context(alloc: Global, value: Value) -> Result<CoseKdfContext, CoseError>
-    ensures { MatchResult result (λ c. HasContext 256 (view value) (context_view c) 16)
-        (λ e. OrMemory (WrongContext 256 (view value) 16) e) }
+    ensures { MatchResult result (λ c. HasContext nesting (view value) (context_view c) layers)
+        (λ e. OrMemory (WrongContext nesting (view value) layers) e) }
 {
     let mut items = value.try_as_array()?;
     if items.len() < 4 {

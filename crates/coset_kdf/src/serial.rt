@@ -1,6 +1,7 @@
 //! KDF contexts and their parts as values and bytes.
 ghost use Rattle.std.specs.Prelude.{Some};
 ghost use Rattle.coset_labels.specs.Faults.{fault_of};
+ghost use Rattle.coset_labels.specs.Limits.{nesting, layers};
 ghost use Rattle.coset_kdf.specs.Contexts.{HasContext, HasParty, HasPublic};
 ghost use Rattle.coset_kdf.specs.Fields.{ContextFields, PartyFields, PublicFields};
 ghost use Rattle.coset_kdf.specs.View.{context_view, party_view, public_view};
@@ -43,9 +44,9 @@ impl AsCborValue for SuppPubInfo {
 
     ghost fields = { public_view };
 
-    ghost shape = { λ t s. HasPublic 256 t s 16 };
+    ghost shape = { λ t s. HasPublic nesting t s layers };
 
-    ghost wrong = { λ t e. WrongPublic 256 t 16 e };
+    ghost wrong = { λ t e. WrongPublic nesting t layers e };
 
     ghost written = { public_tree };
 
@@ -66,9 +67,9 @@ impl AsCborValue for CoseKdfContext {
 
     ghost fields = { context_view };
 
-    ghost shape = { λ t c. HasContext 256 t c 16 };
+    ghost shape = { λ t c. HasContext nesting t c layers };
 
-    ghost wrong = { λ t e. WrongContext 256 t 16 e };
+    ghost wrong = { λ t e. WrongContext nesting t layers e };
 
     ghost written = { context_tree };
 

@@ -8,6 +8,7 @@ use Rattle.std.proofs.lemmas.List.Sorted.{Contains-permutation, IsPermutation-sy
 use Rattle.std.proofs.lemmas.Map.Keys.{IsDistinct-from_sorted, IsDistinct-head, IsDistinct-tail, IsDistinct-cons, IsDistinct-IsPermutation}
 use Rattle.ciborium_value.specs.Tree.{Tree, integer, bytes, array}
 use Rattle.ciborium_value.specs.View.{trees, pairs}
+use Rattle.coset_labels.specs.Facts.Entries.{NoneOfFive}
 use Rattle.coset_labels.specs.Fields.{LabelFields, number, Named}
 use Rattle.coset_labels.specs.Kinds.{some_bytes}
 use Rattle.coset_labels.specs.Labels.{label_of, label_tree, named_tree}
@@ -19,7 +20,7 @@ use Rattle.coset_keys.specs.Fields.{KeyFields}
 use Rattle.coset_keys.specs.Keys.{is_own, operation_of, operations_of, HasOperations, HasKeyOps, params_of, AreFields, HasKey}
 use Rattle.coset_keys.specs.Sorted.{SameButOrder}
 use Rattle.coset_keys.specs.Written.{ops_entry, key_entries, key_tree}
-use Rattle.coset_keys.proofs.Entered.{NotOwn, not_own}
+use Rattle.coset_keys.proofs.Entered.{not_own}
 use Rattle.coset_keys.proofs.Good.{IsKey}
 use Rattle.coset_keys.proofs.Rising.{contains_head, contains_tail, contains_cases}
 
@@ -114,7 +115,7 @@ entries_back (x ∷ es) g =
     ∙ ap (option_map (λ zs. (x.0, x.1) ∷ zs)) (entries_back es (λ e c. g e (contains_tail x es e c)))
 
 module _ (k : KeyFields) (w : IsKey k) where
-  other : (e : LabelFields × Tree) → Contains k.params e → NotOwn e.0
+  other : (e : LabelFields × Tree) → Contains k.params e → NoneOfFive (λ n. is_at n e.0)
   other e c = not_own e.0 (w.params e c).other
 
   abbrev e5 : List (LabelFields × Tree)

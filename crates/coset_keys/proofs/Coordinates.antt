@@ -14,7 +14,7 @@ use Rattle.coset_labels.specs.Orders.{label_cmp}
 use Rattle.coset_labels.specs.View.{label_view}
 use Rattle.coset_labels.specs.declared.label.Label.{Label}
 use Rattle.coset_headers.specs.View.{entry_view}
-use Rattle.coset_headers.proofs.Entered.{cond_none}
+use Rattle.coset_labels.specs.Facts.Entries.{cond_none}
 use Rattle.coset_headers.proofs.Written.{split_at}
 use Rattle.coset_keys.specs.Points.{first_at}
 

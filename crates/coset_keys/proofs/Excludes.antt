@@ -14,112 +14,13 @@ use Rattle.coset_labels.specs.Kinds.{is_map, is_array, some_bytes, WrongBytes}
 use Rattle.coset_labels.specs.Labels.{label_of, named_of, registered_of, WrongLabel, WrongNamed, WrongRegistered}
 use Rattle.coset_labels.specs.Orders.{named_cmp, names_same}
 use Rattle.coset_headers.specs.Headers.{is_at, alg_of, entries, at, IsIn, Distinct, IsField}
-use Rattle.coset_headers.proofs.Entered.{cond_none, at_none}
+use Rattle.coset_labels.specs.Facts.Entries.{label_only}
+use Rattle.coset_labels.specs.Facts.Wrong.{Splits, splits, again_not, no_label, no_named, no_registered, no_string_there}
+use Rattle.coset_labels.specs.Facts.Wrong as wrong
 use Rattle.coset_keys.specs.Fields.{KeyFields, reserved}
 use Rattle.coset_keys.specs.Keys.{type_of, operation_of, operations_of, HasOperations, HasKeyOps, AreFields, HasKey, HaveKeys, HasKeySet}
 use Rattle.coset_keys.specs.Wrong.{WrongOperations, no_list, empty_list, bad_operation, operation_again, WrongValue, wrong_kty, wrong_key_id, wrong_alg, wrong_key_ops, wrong_base_iv, WrongEntry, bad_label, label_again, bad_value, WrongKey, no_map, at_entry, no_type, WrongKeySet, no_key_list, in_key}
 use Rattle.coset_keys.proofs.Rising.{contains_head, contains_tail, contains_cases, contains_none}
-
--- ---- the entry behind others in a map whose keys are labels
-record Splits (l v : Tree) (es all : List (LabelFields × Tree)) : Type 0 where
-  label : LabelFields
-  behind : List (LabelFields × Tree)
-  is : label_of l ≡ Some label
-  whole : all ≡ es ++ (label, v) ∷ behind
-
-record First (o : Option LabelFields) (w : Option (List (LabelFields × Tree))) (v : Tree) (all : List (LabelFields × Tree)) : Type 0 where
-  label : LabelFields
-  rest : List (LabelFields × Tree)
-  is : o ≡ Some label
-  others : w ≡ Some rest
-  whole : all ≡ (label, v) ∷ rest
-
-first : (o : Option LabelFields) (w : Option (List (LabelFields × Tree))) (v : Tree) (all : List (LabelFields × Tree)) → option_and_then (λ m. option_map (λ es. (m, v) ∷ es) w) o ≡ Some all → First o w v all
-first None w v all e = let h : None ≡ Some all = e in cc
-first (Some m) None v all e = let h : None ≡ Some all = e in cc
-first (Some m) (Some es) v all e = let h : Some ((m, v) ∷ es) ≡ Some all = e in record { label = m; rest = es; is = refl; others = refl; whole = cc }
-
-splits : (before after : List (Tree × Tree)) (l v : Tree) (es all : List (LabelFields × Tree)) → entries (pairs before) ≡ Some es → entries (pairs (before ++ (l, v) ∷ after)) ≡ Some all → Splits l v es all
-splits [] after l v es all e f =
-    let n : Some [] ≡ Some es = e in
-    let none : [] ≡ es = cc in
-    let w = first (label_of l) (entries (pairs after)) v all f in
-    record { label = w.label; behind = w.rest; is = w.is; whole = w.whole ∙ ap (λ z. z ++ (w.label, v) ∷ w.rest) none }
-splits (b ∷ before) after l v es all e f =
-    let x = first (label_of b.0) (entries (pairs before)) b.1 es e in
-    let y = first (label_of b.0) (entries (pairs (before ++ (l, v) ∷ after))) b.1 all f in
-    let w = splits before after l v x.rest y.rest x.others y.others in
-    let both : Some x.label ≡ Some y.label = sym x.is ∙ y.is in
-    let same : y.label ≡ x.label = cc in
-    record {
-      label = w.label;
-      behind = w.behind;
-      is = w.is;
-      whole = y.whole ∙ ap (λ z. (y.label, b.1) ∷ z) w.whole ∙ ap (λ z. (z, b.1) ∷ (x.rest ++ (w.label, v) ∷ w.behind)) same ∙ ap (λ z. z ++ (w.label, v) ∷ w.behind) (sym x.whole);
-    }
-
-in_middle : (es : List (LabelFields × Tree)) (m : LabelFields) (v : Tree) (fs : List (LabelFields × Tree)) → IsIn m (es ++ (m, v) ∷ fs)
-in_middle [] m v fs = inl refl
-in_middle (e ∷ es) m v fs = inr (in_middle es m v fs)
-
-not_before : (es : List (LabelFields × Tree)) (m : LabelFields) (v : Tree) (fs : List (LabelFields × Tree)) → Distinct (es ++ (m, v) ∷ fs) → IsIn m es → ⊥
-not_before [] m v fs d i = i
-not_before (e ∷ es) m v fs d (inl q) = d.0 (subst (λ z. IsIn z (es ++ (m, v) ∷ fs)) q (in_middle es m v fs))
-not_before (e ∷ es) m v fs d (inr i) = not_before es m v fs d.1 i
-
-at_middle : (n : ℕ) (es : List (LabelFields × Tree)) (m : LabelFields) (v : Tree) (fs : List (LabelFields × Tree)) → is_at n m ≡ true → at n es ≡ None → at n (es ++ (m, v) ∷ fs) ≡ Some v
-at_middle n [] m v fs e h = ap (λ b. cond b (Some v) (at n fs)) e
-at_middle n (x ∷ es) m v fs e h = let c = cond_none (is_at n x.0) x.1 (at n es) (at n (es ++ (m, v) ∷ fs)) h in c.1 ∙ at_middle n es m v fs e c.0
-
--- ---- values of single fields that have a fault
-no_label : (l : Tree) (e : CoseFault) → WrongLabel l e → label_of l ≡ None
-no_label (integer i) e w = ap (λ b. cond {A = Option LabelFields} b (Some (number i)) None) w.0
-no_label (text b) e w = absurd w
-no_label (bytes b) e w = refl
-no_label (array ts) e w = refl
-no_label (map_tree ps) e w = refl
-no_label (tag n t) e w = refl
-no_label (simple n) e w = refl
-no_label (float f) e w = refl
-
-abbrev number_if : Bool → Bool → Bool → ℤ → Option Named
-number_if small registered private i = cond small (cond registered (Some (assigned i)) (cond private (Some (private_use i)) None)) None
-
-no_named : (r p : ℤ → Bool) (v : Tree) (e : CoseFault) → WrongNamed r p v e → named_of r p v ≡ None
-no_named r p (integer i) e (inl w) = ap (λ b. number_if b (r i) (p i) i) w.0
-no_named r p (integer i) e (inr w) = ap (λ b. number_if b (r i) (p i) i) w.0 ∙ ap (λ b. number_if true b (p i) i) w.1 ∙ ap (λ b. number_if true false b i) w.2
-no_named r p (text b) e w = absurd w
-no_named r p (bytes b) e w = refl
-no_named r p (array ts) e w = refl
-no_named r p (map_tree ps) e w = refl
-no_named r p (tag n t) e w = refl
-no_named r p (simple n) e w = refl
-no_named r p (float f) e w = refl
-
-abbrev registered_if : Bool → Bool → ℤ → Option Named
-registered_if small registered i = cond small (cond registered (Some (assigned i)) None) None
-
-no_registered : (r : ℤ → Bool) (v : Tree) (e : CoseFault) → WrongRegistered r v e → registered_of r v ≡ None
-no_registered r (integer i) e (inl w) = ap (λ b. registered_if b (r i) i) w.0
-no_registered r (integer i) e (inr w) = ap (λ b. registered_if b (r i) i) w.0 ∙ ap (λ b. registered_if true b i) w.1
-no_registered r (text b) e w = absurd w
-no_registered r (bytes b) e w = refl
-no_registered r (array ts) e w = refl
-no_registered r (map_tree ps) e w = refl
-no_registered r (tag n t) e w = refl
-no_registered r (simple n) e w = refl
-no_registered r (float f) e w = refl
-
-no_string_there : (v : Tree) (e : CoseFault) → WrongBytes v e → some_bytes v ≡ None
-no_string_there (bytes []) e w = refl
-no_string_there (bytes (x ∷ xs)) e w = let h : x ∷ xs ≡ [] = w.0 in cc
-no_string_there (integer i) e w = refl
-no_string_there (text b) e w = refl
-no_string_there (array ts) e w = refl
-no_string_there (map_tree ps) e w = refl
-no_string_there (tag n t) e w = refl
-no_string_there (simple n) e w = refl
-no_string_there (float f) e w = refl
 
 -- ---- operations
 record FirstOf (o : Option Named) (w : Option (List Named)) (all : List Named) : Type 0 where
@@ -189,26 +90,12 @@ ops_not t e ns (operation_again before after u ms n q r o c _) a =
     again_apart before after u ms a.listed n r o c (ap operations_of s ∙ a.read) a.rises.unrepeated
 
 -- ---- the field at a number whose value has a fault
-module _ (es all : List (LabelFields × Tree)) (l v : Tree) (s : Splits l v es all) (d : Distinct all) where
+module _ (es all : List (LabelFields × Tree)) (l v : Tree) (s : Splits label_of l v es all) (d : Distinct all) where
   there_at : (n : ℕ) (m : LabelFields) → label_of l ≡ Some m → is_at n m ≡ true → at n all ≡ Some v
-  there_at n m q t =
-      let both : Some s.label ≡ Some m = sym s.is ∙ q in
-      let same : s.label ≡ m = cc in
-      let parts : all ≡ es ++ (m, v) ∷ s.behind = s.whole ∙ ap (λ z. es ++ (z, v) ∷ s.behind) same in
-      let fresh : IsIn m es → ⊥ = not_before es m v s.behind (subst Distinct parts d) in
-      ap (at n) parts ∙ at_middle n es m v s.behind t (at_none n es m t fresh)
+  there_at n m q t = wrong.there_at label_of es all l v s d (is_at n) m q t (label_only n m t)
 
   field_not : {A : Type 0} (f : Tree → Option A) (absent : A) (n : ℕ) (m : LabelFields) (x : A) → label_of l ≡ Some m → is_at n m ≡ true → IsField f absent (at n all) x → f v ≡ None → ⊥
-  field_not f absent n m x q t w z =
-      let has : f v ≡ Some x = subst (λ o. IsField f absent o x) (there_at n m q t) w in
-      let h : None ≡ Some x = sym z ∙ has in
-      cc
-
-  again_not : (m : LabelFields) → label_of l ≡ Some m → IsIn m es → ⊥
-  again_not m q i =
-      let both : Some m ≡ Some s.label = sym q ∙ s.is in
-      let same : m ≡ s.label = cc in
-      not_before es s.label v s.behind (subst Distinct s.whole d) (subst (λ z. IsIn z es) same i)
+  field_not f absent n m x q t = wrong.field_not label_of es all l v s d f absent (is_at n) m x q t (label_only n m t)
 
   value_not : (m : LabelFields) (e : CoseFault) (k : KeyFields) → label_of l ≡ Some m → WrongValue v m e → AreFields all k → ⊥
   value_not m e k q (wrong_kty i w) a = field_not type_of reserved 1 m k.kty q (ap (is_at 1) i) a.kty (no_registered key_types.is_registered v e w)
@@ -217,9 +104,9 @@ module _ (es all : List (LabelFields × Tree)) (l v : Tree) (s : Splits l v es a
   value_not m e k q (wrong_key_ops i w) a = ops_not v e k.key_ops w (subst (λ o. HasKeyOps o k.key_ops) (there_at 4 m q (ap (is_at 4) i)) a.key_ops)
   value_not m e k q (wrong_base_iv i w) a = field_not some_bytes [] 5 m k.base_iv q (ap (is_at 5) i) a.base_iv (no_string_there v e w)
 
-entry_not : (es : List (LabelFields × Tree)) (l v : Tree) (e : CoseFault) → WrongEntry es l v e → (all : List (LabelFields × Tree)) (k : KeyFields) → Splits l v es all → Distinct all → AreFields all k → ⊥
-entry_not es l v e (bad_label w) all k s d a = let x : Some s.label ≡ None = sym s.is ∙ no_label l e w in cc
-entry_not es l v e (label_again m q i _) all k s d a = again_not es all l v s d m q i
+entry_not : (es : List (LabelFields × Tree)) (l v : Tree) (e : CoseFault) → WrongEntry es l v e → (all : List (LabelFields × Tree)) (k : KeyFields) → Splits label_of l v es all → Distinct all → AreFields all k → ⊥
+entry_not es l v e (bad_label w) all k s d a = let x : Some s.key ≡ None = sym s.is ∙ no_label l e w in cc
+entry_not es l v e (label_again m q i _) all k s d a = again_not label_of es all l v s d m q i
 entry_not es l v e (bad_value m q w) all k s d a = value_not es all l v s d m e k q w a
 
 untyped_not : (o : Option Tree) (n : Named) → IsField type_of reserved o reserved → IsField type_of reserved o n → n ≢ reserved → ⊥
@@ -231,7 +118,7 @@ key_not t e k (no_map x _) a = let h : true ≡ false = sym (ap is_map a.map) �
 key_not t e k (at_entry ps q w) a =
     let h : map_tree ps ≡ map_tree a.pairs = sym q ∙ a.map in
     let s : ps ≡ a.pairs = cc in
-    entry_not w.es w.key w.value e w.wrong a.es k (splits w.before w.after w.key w.value w.es a.es w.read (ap entries (sym w.are ∙ s) ∙ a.labels)) a.distinct a.fields
+    entry_not w.es w.key w.value e w.wrong a.es k (splits label_of w.before w.after w.key w.value w.es a.es w.read (ap entries (sym w.are ∙ s) ∙ a.labels)) a.distinct a.fields
 key_not t e k (no_type ps es q r f _) a =
     let h : map_tree ps ≡ map_tree a.pairs = sym q ∙ a.map in
     let s : ps ≡ a.pairs = cc in

@@ -6,6 +6,7 @@ use Rattle.cose_iana.specs.Algorithms.{is_algorithm}
 use Rattle.cose_iana.specs.Keys.{key_types, key_operations}
 use Rattle.cose_iana.specs.Registry.{is_private_use}
 use Rattle.ciborium_value.specs.Tree.{Tree, integer, bytes, text, array, map as map_tree, tag, simple, float, Trees, no_trees, one_more, Pairs, no_pairs, pair_more}
+use Rattle.coset_labels.specs.Facts.Entries.{distinct_others}
 use Rattle.coset_labels.specs.Fields.{LabelFields, number, words, Named, private_use, assigned, named}
 use Rattle.coset_labels.specs.Labels.{is_i64, label_of, label_tree, registered_of, named_of, named_tree}
 use Rattle.coset_labels.specs.Orders.{named_cmp}
@@ -154,23 +155,6 @@ in_params : (es : List (LabelFields × Tree)) (e : LabelFields × Tree) → Cont
 in_params [] e c = absurd (contains_none e c)
 in_params (x ∷ es) e c = kept_by (is_own x.0) x es (params_of es) e refl (in_params es e) c
 
-in_kept : (b : Bool) (l : LabelFields) (e : LabelFields × Tree) (es zs : List (LabelFields × Tree)) → (IsIn l zs → IsIn l es) → IsIn l (cond b zs (e ∷ zs)) → IsIn l (e ∷ es)
-in_kept true l e es zs f i = inr (f i)
-in_kept false l e es zs f (inl q) = inl q
-in_kept false l e es zs f (inr i) = inr (f i)
-
-in_others : (l : LabelFields) (es : List (LabelFields × Tree)) → IsIn l (params_of es) → IsIn l es
-in_others l [] i = i
-in_others l (e ∷ es) i = in_kept (is_own e.0) l e es (params_of es) (in_others l es) i
-
-distinct_kept : (b : Bool) (e : LabelFields × Tree) (zs : List (LabelFields × Tree)) → Distinct zs → (IsIn e.0 zs → ⊥) → Distinct (cond b zs (e ∷ zs))
-distinct_kept true e zs d n = d
-distinct_kept false e zs d n = (n, d)
-
-distinct_params : (es : List (LabelFields × Tree)) → Distinct es → Distinct (params_of es)
-distinct_params [] d = tt
-distinct_params (e ∷ es) d = distinct_kept (is_own e.0) e (params_of es) (distinct_params es d.1) (λ i. d.0 (in_others e.0 es i))
-
 pub is_key : (t : Tree) (k : KeyFields) → HasKey t k → IsKey k
 is_key t k a = record {
   kty = type_good (at 1 a.es) k.kty a.fields.kty a.typed;
@@ -179,5 +163,5 @@ is_key t k a = record {
   operations = ops_good (at 4 a.es) k.key_ops a.fields.key_ops;
   rising = ops_rise (at 4 a.es) k.key_ops a.fields.key_ops;
   params = λ e c. let r = in_params a.es e (subst (λ z. Contains z e) a.fields.params c) in record { label = labels_good a.pairs a.es a.labels e r.0; other = r.1 };
-  distinct = subst Distinct (sym a.fields.params) (distinct_params a.es a.distinct);
+  distinct = subst Distinct (sym a.fields.params) (distinct_others is_own a.es a.distinct);
 }

@@ -7,6 +7,7 @@ use Rattle.ciborium_value.specs.View.{trees, pairs, view, view_pair}
 use Rattle.ciborium_value.specs.declared.value.Value.{Value}
 use Rattle.ciborium_value.specs.declared.value.Value.TheVariants as code
 use Rattle.ciborium_value.proofs.Views.{view_map, view_array}
+use Rattle.coset_labels.specs.Facts.Pushed.{back_one}
 use Rattle.coset_labels.specs.Fields.{LabelFields, number, Named}
 use Rattle.coset_labels.specs.Labels.{named_tree}
 use Rattle.coset_headers.specs.Written.{name_entry, bytes_entry, entry_tree, tree_of, twice}
@@ -50,20 +51,16 @@ pub some_of : {A B : Type 0} (f : A → B) (xs : List A) (b : Bool) → IsTrue b
 some_of f xs b h e = full_map f xs (λ z. let c : false ≡ true = sym e ∙ h.1 z in cc)
 
 -- ---- all entries in their order
-back_one : (l k z : List (Tree × Tree)) (a s : List (LabelFields × Tree)) → z ≡ k ++ map entry_tree s → k ≡ l ++ map entry_tree a → z ≡ l ++ map entry_tree (a ++ s)
-back_one l k z a s e f =
-    e ∙ ap (λ y. y ++ map entry_tree s) f ∙ append_assoc l (map entry_tree a) (map entry_tree s) ∙ ap (λ y. l ++ y) (sym (map-append entry_tree a s))
-
 pub key_done : (k : KeyFields) (v : Vec (Value × Value) Global) (l0 l1 l2 l3 l4 l5 : List (Tree × Tree)) → twice k.params ≡ false → l0 ≡ []
     → l1 ≡ l0 ++ map entry_tree (name_entry 1 (Some k.kty)) → l2 ≡ l1 ++ map entry_tree (bytes_entry 2 k.key_id) → l3 ≡ l2 ++ map entry_tree (name_entry 3 k.alg)
     → l4 ≡ l3 ++ map entry_tree (ops_entry k.key_ops) → l5 ≡ l4 ++ map entry_tree (bytes_entry 5 k.base_iv) → map view_pair v.items ≡ l5 ++ map entry_tree k.params
     → key_tree k ≡ Some (view (code.Map v))
 key_done k v l0 l1 l2 l3 l4 l5 t e0 e1 e2 e3 e4 e5 e6 =
     let z = map view_pair v.items in
-    let s5 = back_one l4 l5 z (bytes_entry 5 k.base_iv) k.params e6 e5 in
-    let s4 = back_one l3 l4 z (ops_entry k.key_ops) _ s5 e4 in
-    let s3 = back_one l2 l3 z (name_entry 3 k.alg) _ s4 e3 in
-    let s2 = back_one l1 l2 z (bytes_entry 2 k.key_id) _ s3 e2 in
-    let s1 = back_one l0 l1 z (name_entry 1 (Some k.kty)) _ s2 e1 in
+    let s5 = back_one entry_tree l4 l5 z (bytes_entry 5 k.base_iv) k.params e6 e5 in
+    let s4 = back_one entry_tree l3 l4 z (ops_entry k.key_ops) _ s5 e4 in
+    let s3 = back_one entry_tree l2 l3 z (name_entry 3 k.alg) _ s4 e3 in
+    let s2 = back_one entry_tree l1 l2 z (bytes_entry 2 k.key_id) _ s3 e2 in
+    let s1 = back_one entry_tree l0 l1 z (name_entry 1 (Some k.kty)) _ s2 e1 in
     let whole : map view_pair v.items ≡ map entry_tree (key_entries k) = s1 ∙ ap (λ y. y ++ map entry_tree (key_entries k)) e0 in
     ap (λ b. cond b None (Some (tree_of (key_entries k)))) t ∙ ap Some (ap (λ y. map_tree (pairs y)) (sym whole) ∙ sym (view_map v))

@@ -7,6 +7,7 @@ use Rattle.std.proofs.lemmas.List.Sorted.{Contains-permutation, IsPermutation-sy
 use Rattle.ciborium_value.specs.Tree.{Tree, array, Trees}
 use Rattle.ciborium_value.specs.Encoding.{enc, Fits}
 use Rattle.ciborium_value.specs.View.{trees, pairs}
+use Rattle.coset_labels.specs.Facts.Sound.{others_sound}
 use Rattle.coset_labels.specs.Fields.{LabelFields, Named}
 use Rattle.coset_labels.specs.Labels.{named_tree}
 use Rattle.coset_labels.specs.Reading.{HasItem}
@@ -23,10 +24,6 @@ use Rattle.coset_keys.proofs.Rising.{contains_head, contains_tail, contains_case
 use Rattle.coset_keys.proofs.Sets.{all_trees, set_writes, set_reads_back}
 
 -- ---- the other entries, in any order
-params_sound : (d : ℕ) (es : List (LabelFields × Tree)) → AllSound d es → AllSound d (params_of es)
-params_sound d [] s = tt
-params_sound d (e ∷ es) s = kept_sound d (is_own e.0) e (params_of es) s.0 (params_sound d es s.1)
-
 one_of : (d : ℕ) (es : List (LabelFields × Tree)) (e : LabelFields × Tree) → AllSound d es → Contains es e → Sound d e.1
 one_of d [] e s c = absurd (contains_none e c)
 one_of d (x ∷ es) e s c = ⊎_elim (λ q. subst (λ z. Sound d z.1) q s.0) (λ h. one_of d es e s.1 h) (contains_cases x es e c)
@@ -48,7 +45,7 @@ ops_sound d (Some t) (n ∷ ns) h s =
 
 wrote_sound : (d : ℕ) (es : List (LabelFields × Tree)) (k l : KeyFields) → AllSound d es → AreFields es k → SameButOrder k l → AllSound d (key_entries l)
 wrote_sound d es k l s a m =
-    let own = subst (AllSound d) (sym a.params) (params_sound d es s) in
+    let own = subst (AllSound d) (sym a.params) (others_sound is_own d es s) in
     let e5 = bytes_entry 5 k.base_iv ++ l.params in
     let e4 = ops_entry k.key_ops ++ e5 in
     let e3 = name_entry 3 k.alg ++ e4 in

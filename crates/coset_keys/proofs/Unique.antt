@@ -2,10 +2,10 @@
 use Rattle.std.proofs.Common.{◌≡◌, List, [], ◌∷◌, Option, Some, None, refl, sym, ap, subst, ◌∙◌}
 use Rattle.std.specs.List.{Contains}
 use Rattle.ciborium_value.specs.Tree.{Tree, array, map as map_tree, Trees, no_trees, one_more}
+use Rattle.coset_labels.specs.Facts.Entries.{field_once}
 use Rattle.coset_labels.specs.Fields.{LabelFields, Named}
 use Rattle.coset_labels.specs.Orders.{named_cmp, named_total}
 use Rattle.coset_headers.specs.Headers.{entries, at}
-use Rattle.coset_headers.proofs.Unique.{field_once}
 use Rattle.coset_keys.specs.Fields.{KeyFields}
 use Rattle.coset_keys.specs.Keys.{operations_of, HasOperations, HasKeyOps, AreFields, HasKey, HaveKeys, HasKeySet}
 use Rattle.coset_keys.proofs.Rising.{rising_once}

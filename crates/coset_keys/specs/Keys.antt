@@ -1,10 +1,11 @@
 -- Which fields a value has as a key and as a set of keys (RFC 9052, section 7).
-use Rattle.std.specs.Prelude.{◌≡◌, ◌≢◌, ◌↔◌, List, [], ◌∷◌, Bool, ◌||◌, if◌then◌else◌, Option, Some, None, option_map, option_and_then}
+use Rattle.std.specs.Prelude.{◌≡◌, ◌≢◌, ◌↔◌, List, [], ◌∷◌, Bool, ◌||◌, Option, Some, None, option_map, option_and_then}
 use Rattle.std.specs.List.{Contains, IsDistinct}
 use Rattle.std.specs.List.Sorted.{IsStrictlySortedBy}
 use Rattle.std.specs.Ordering.{eq_by_cmp}
 use Rattle.cose_iana.specs.Keys.{key_types, key_operations}
 use Rattle.ciborium_value.specs.Tree.{Tree, array, map as map_tree, Trees, no_trees, one_more, Pairs}
+use Rattle.coset_labels.specs.Entries.{others as others_by}
 use Rattle.coset_labels.specs.Fields.{LabelFields, Named}
 use Rattle.coset_labels.specs.Kinds.{some_bytes}
 use Rattle.coset_labels.specs.Labels.{registered_of}
@@ -48,8 +49,7 @@ HasKeyOps (Some t) ns = HasOperations t ns
 
 -- the entries of labels without a field of their own, in order
 abbrev pub params_of : List (LabelFields × Tree) → List (LabelFields × Tree)
-params_of [] = []
-params_of (e ∷ es) = if is_own e.0 then params_of es else e ∷ params_of es
+params_of = others_by is_own
 
 -- the fields are those of the entries
 pub record AreFields (es : List (LabelFields × Tree)) (k : KeyFields) : Type 0 where

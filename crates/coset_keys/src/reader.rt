@@ -11,8 +11,7 @@ ghost use Rattle.coset_keys.specs.Wrong.{WrongKey, WrongEntries, WrongEntry, Wro
 
 use crate::key::{CoseKey, CoseKeySet};
 use ciborium_value::Value;
-use coset_headers::Seen;
-use coset_labels::{AsCborValue, CoseError, KeyType, Label, ValueTryAs};
+use coset_labels::{AsCborValue, CoseError, KeyType, Label, Seen, ValueTryAs};
 use std::alloc::Global;
 
 /// Reads a key. That it has a type is seen after all entries.
@@ -42,7 +41,7 @@ fn read_entries(alloc: Global, entries: Vec<(Value, Value)>) -> Result<CoseKey, 
 /// Reads one entry behind those that were seen: its label, whether it stood before, its value.
 fn read_entry(
     alloc: Global,
-    seen: &mut Seen,
+    seen: &mut Seen<Label>,
     key: &mut CoseKey,
     label: Value,
     value: Value,

@@ -13,6 +13,7 @@ use Rattle.ciborium.specs.Damage.{Fault, Damage, end, syntax, semantic, deep}
 use Rattle.ciborium.specs.Reading.{FailsAt, IfKnown}
 use Rattle.coset_labels.specs.Faults.{CoseFault, OrMemory, lifted, fault_of, unexpected}
 use Rattle.coset_labels.specs.Kinds.{is_tag}
+use Rattle.coset_labels.specs.Limits.{nesting}
 use Rattle.coset_labels.specs.Reading.{NotReadable, damaged, goes_on, HasItem, WrongItem, inside, Tagged, WrongTagged, no_tag, other_tag, under_tag}
 use Rattle.coset_labels.specs.declared.error.CoseError.{CoseError}
 use Rattle.coset_labels.specs.declared.error.CoseError.TheVariants as code
@@ -36,7 +37,8 @@ not_read_at : {E : Type 0} (ends : E → Bool) (b : List ℕ) (limit o : ℕ) (e
     → OrMemory (NotReadable b limit) (lifted e)
 not_read_at ends b limit o (de.Io x) s t w = inr (damaged end (from_front b limit end (w (t x)).0))
 not_read_at ends b limit o (de.Syntax p) s t w = inr (damaged (syntax p) (from_front b limit (syntax p) w))
-not_read_at ends b limit o (de.Semantic p k) s t w = inr (damaged (semantic k) (from_front b limit (semantic k) w.1))
+not_read_at ends b limit o (de.Semantic None k) s t w = inr (damaged (semantic k) (from_front b limit (semantic k) w.1))
+not_read_at ends b limit o (de.Semantic (Some p) k) s t w = let e : Some p ≡ None = w.0 in cc
 not_read_at ends b limit o de.RecursionLimitExceeded s t w = inr (damaged deep (from_front b limit deep w))
 not_read_at ends b limit o de.Memory s t w = inl refl
 not_read_at ends b limit o de.TooLong s t w = absurd (omega (arith, w, s))
@@ -60,14 +62,14 @@ behind l m b limit o o' n v p q t r h =
     inr (behind_known m b t.bytes limit n v t.has (subst (λ z. Consumes z m t.bytes) p t.taken) (r ∙ t.grown ∙ ap (λ z. z + length t.bytes) q) h)
 
 -- the tag over what has the fields
-pub tagged_has : {F : Type 0} (Shape : Tree → F → Type 0) (b : List ℕ) (n m : ℕ) (v u w : Tree) (f : F) → Reads b 256 v → v ≡ tag m u → m ≡ n → w ≡ u → Shape w f → HasItem (Tagged n Shape) b f
+pub tagged_has : {F : Type 0} (Shape : Tree → F → Type 0) (b : List ℕ) (n m : ℕ) (v u w : Tree) (f : F) → Reads b nesting v → v ≡ tag m u → m ≡ n → w ≡ u → Shape w f → HasItem (Tagged n Shape) b f
 tagged_has Shape b n m v u w f r e q h s = record { tree = v; reads = r; shape = (u, e ∙ ap (λ z. tag z u) q, subst (λ z. Shape z f) h s) }
 
-pub tagged_wrong : (Wrong : Tree → CoseFault → Type 0) (b : List ℕ) (n m : ℕ) (v u w : Tree) (e : CoseError) → Reads b 256 v → v ≡ tag m u → m ≡ n → w ≡ u → OrMemory (Wrong w) e → OrMemory (WrongItem (WrongTagged n Wrong) b) e
+pub tagged_wrong : (Wrong : Tree → CoseFault → Type 0) (b : List ℕ) (n m : ℕ) (v u w : Tree) (e : CoseError) → Reads b nesting v → v ≡ tag m u → m ≡ n → w ≡ u → OrMemory (Wrong w) e → OrMemory (WrongItem (WrongTagged n Wrong) b) e
 tagged_wrong Wrong b n m v u w e r q h s x = or_memory (Wrong w) (WrongItem (WrongTagged n Wrong) b) e (λ f y. inside v r (under_tag u f (q ∙ ap (λ z. tag z u) h) (subst (λ z. Wrong z f) s y))) x
 
-pub tag_missing : (Wrong : Tree → CoseFault → Type 0) (b : List ℕ) (n : ℕ) (v : Tree) (e : CoseError) → Reads b 256 v → (fault_of e ≡ unexpected) × (is_tag v ≡ false) → OrMemory (WrongItem (WrongTagged n Wrong) b) e
+pub tag_missing : (Wrong : Tree → CoseFault → Type 0) (b : List ℕ) (n : ℕ) (v : Tree) (e : CoseError) → Reads b nesting v → (fault_of e ≡ unexpected) × (is_tag v ≡ false) → OrMemory (WrongItem (WrongTagged n Wrong) b) e
 tag_missing Wrong b n v e r p = inr (inside v r (subst (WrongTagged n Wrong v) (sym p.0) (no_tag p.1)))
 
-pub tag_other : (Wrong : Tree → CoseFault → Type 0) (b : List ℕ) (n m : ℕ) (v u : Tree) → Reads b 256 v → v ≡ tag m u → m ≢ n → WrongItem (WrongTagged n Wrong) b unexpected
+pub tag_other : (Wrong : Tree → CoseFault → Type 0) (b : List ℕ) (n m : ℕ) (v u : Tree) → Reads b nesting v → v ≡ tag m u → m ≢ n → WrongItem (WrongTagged n Wrong) b unexpected
 tag_other Wrong b n m v u r e h = inside v r (other_tag m u e h)

@@ -1,4 +1,6 @@
 pub mod Arrays
+pub mod ErrorsEqual
 pub mod Items
 pub mod Loops
+pub mod Marks
 pub mod Orders

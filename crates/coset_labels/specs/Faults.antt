@@ -1,5 +1,5 @@
 -- What a CoseError says, without its texts.
-use Rattle.std.specs.Prelude.{◌≡◌, ◌⊎◌, Option, None}
+use Rattle.std.specs.Prelude.{◌≡◌, ◌⊎◌, Option, Some, None}
 use Rattle.ciborium.specs.declared.de.Error.{Error}
 use Rattle.ciborium.specs.declared.de.Error.TheVariants as de
 use Rattle.ciborium.specs.declared.ser.Error.{Error as WriteError}
@@ -8,16 +8,18 @@ use Rattle.ciborium.specs.Damage.{Fault, end, deep, syntax, semantic}
 use Rattle.coset_labels.specs.declared.error.CoseError.{CoseError}
 use Rattle.coset_labels.specs.declared.error.CoseError.TheVariants as code
 
--- `undecodable` tells the damage of bytes that should have been one item
+-- `undecodable` tells the damage of bytes that should have been one item. `misplaced` is such damage with an offset where a reader names
+-- none; no call answers it
 pub data CoseFault : Type 0 where
   undecodable : Fault → CoseFault
   too_long duplicate_key unencodable extraneous out_of_range unexpected : CoseFault
-  unregistered unregistered_private no_memory too_many_layers : CoseFault
+  unregistered unregistered_private no_memory too_many_layers misplaced : CoseFault
 
 abbrev pub decode_fault : {T : Type 0} → Error T → CoseFault
 decode_fault (de.Io e) = undecodable end
 decode_fault (de.Syntax p) = undecodable (syntax p)
-decode_fault (de.Semantic o k) = undecodable (semantic k)
+decode_fault (de.Semantic None k) = undecodable (semantic k)
+decode_fault (de.Semantic (Some p) k) = misplaced
 decode_fault de.RecursionLimitExceeded = undecodable deep
 decode_fault de.Memory = no_memory
 decode_fault de.TooLong = too_long

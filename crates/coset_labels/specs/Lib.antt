@@ -1,10 +1,15 @@
 pub mod Arrays
 pub mod Converting
+pub mod Entries
+pub mod Facts
 pub mod Faults
 pub mod Fields
 pub mod Kinds
 pub mod Labels
+pub mod Limits
 pub mod Names
 pub mod Orders
 pub mod Reading
+pub mod Seen
 pub mod View
+pub mod Told

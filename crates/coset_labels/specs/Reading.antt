@@ -3,6 +3,7 @@ use Rattle.std.specs.Prelude.{◌≡◌, ◌≢◌, ℕ, false, List, [], length
 use Rattle.ciborium_value.specs.Tree.{Tree, tag}
 use Rattle.ciborium.specs.Front.{Reads, Front}
 use Rattle.ciborium.specs.Damage.{Fault, Damage}
+use Rattle.ciborium.specs.Items.{nesting}
 use Rattle.coset_labels.specs.Faults.{CoseFault, undecodable, extraneous, unexpected}
 use Rattle.coset_labels.specs.Kinds.{is_tag}
 
@@ -14,13 +15,13 @@ pub data NotReadable (b : List ℕ) (limit : ℕ) : CoseFault → Type 0 where
 -- the bytes are one item that has these fields
 pub record HasItem {F : Type 0} (Shape : Tree → F → Type 0) (b : List ℕ) (f : F) : Type 0 where
   pub tree : Tree
-  pub reads : Reads b 256 tree
+  pub reads : Reads b nesting tree
   pub shape : Shape tree f
 
 -- the bytes are not one readable item, or their item has a fault
 pub data WrongItem (Wrong : Tree → CoseFault → Type 0) (b : List ℕ) (e : CoseFault) : Type 0 where
-  unreadable : NotReadable b 256 e → WrongItem Wrong b e
-  inside : (v : Tree) → Reads b 256 v → Wrong v e → WrongItem Wrong b e
+  unreadable : NotReadable b nesting e → WrongItem Wrong b e
+  inside : (v : Tree) → Reads b nesting v → Wrong v e → WrongItem Wrong b e
 
 -- no fault at all
 abbrev pub NeverWrong : Tree → CoseFault → Type 0

@@ -29,7 +29,7 @@ pub enum CoseError {
     UnregisteredIanaNonPrivateValue,
     /// Memory was refused.
     Memory,
-    /// Protected headers inside one another, more than 16.
+    /// Protected headers inside one another, more than the limits allow (16 where none are chosen).
     TooManyLayers,
 }
 

@@ -8,10 +8,15 @@ ghost use Rattle.ciborium_value.specs.Encoding.{Fits};
 ghost use Rattle.ciborium_value.specs.Canonical.{bytewise};
 ghost use Rattle.coset_labels.specs.Labels.{label_tree, named_tree};
 ghost use Rattle.coset_labels.specs.Fields.{LabelFields, Named};
+ghost use Rattle.coset_labels.specs.Limits.{nesting_of, layers_of};
 ghost use Rattle.coset_labels.specs.Orders.{label_cmp, label_length_first, is_own_number, named_cmp};
 ghost use Rattle.coset_labels.specs.View.{label_view, registered_view, named_view};
 
+pub use crate::alike::{
+    ends_compare, errors_compare, faults_compare, none_is_misplaced, orderings_compare,
+};
 use crate::label::Label;
+use crate::limits::Limits;
 use crate::registered::{RegisteredLabel, RegisteredLabelWithPrivate};
 use ciborium_value::laws::{orders_of_encodings, value_fits};
 use ciborium_value::{Integer, Value};
@@ -99,6 +104,12 @@ pub fn names_compare<T: EnumI64>(
     name_fits(b);
     orders_of_encodings();
 }
+
+/// Limits are equal where nesting and layers are.
+pub fn limits_compare(a: &Limits, b: &Limits)
+    ensures { IsTrue (⟦<Limits as std::cmp::PartialEq>⟧.eq a.now b.now)
+        ↔ ((nesting_of a.now ≡ nesting_of b.now) × (layers_of a.now ≡ layers_of b.now)) }
+{}
 
 /// The orders of labels and of names are total, and those by heads tie what is equal alone.
 pub fn orders_are_total()

@@ -9,12 +9,10 @@ ghost use Rattle.coset_labels.specs.Reading.{HasItem, WrongItem, Tagged, WrongTa
 
 use crate::error::CoseError;
 use crate::kinds::ValueTryAs;
+use crate::limits::NESTING;
 use crate::reading::{read_to_value, write_to_vec};
 use ciborium_value::Value;
 use std::alloc::Global;
-
-/// The nesting limit of the readers here.
-const NESTING: usize = 256;
 
 /// A type that can be read from a value of CBOR and written as one.
 pub trait AsCborValue: Drop + Sized {

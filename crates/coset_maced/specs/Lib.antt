@@ -1,3 +1,4 @@
+pub mod AsWritten
 pub mod Builders
 pub mod Fields
 pub mod Shapes

@@ -1,9 +1,10 @@
 //! Laws of the definitions.
-ghost use Rattle.std.specs.Prelude.{◌≡◌, ◌≢◌, ℕ, List, None, Some};
+ghost use Rattle.std.specs.Prelude.{◌≡◌, ◌≢◌, ◌↔◌, ℕ, List, IsTrue, None, Some};
 ghost use Rattle.ciborium.specs.Front.{Reads};
 ghost use Rattle.ciborium_value.specs.Encoding.{enc, Fits};
 ghost use Rattle.ciborium_value.specs.Tree.{Tree, tag};
 ghost use Rattle.coset_labels.specs.Faults.{CoseFault};
+ghost use Rattle.coset_labels.specs.Limits.{nesting, layers};
 ghost use Rattle.coset_labels.specs.Reading.{HasItem, Tagged};
 ghost use Rattle.coset_maced.specs.Fields.{Mac0Fields, MacFields};
 ghost use Rattle.coset_maced.specs.Shapes.{HasMac0, HasMac};
@@ -82,11 +83,11 @@ pub fn mac_fits(message: &CoseMac)
 /// A message that was read from bytes is read again of the bytes that it is written as, the same, received bytes included. So is one that
 /// was read behind its tag and is written with it.
 pub fn mac0_reads_again(message: &CoseMac0)
-    ensures item { (b : List ℕ) (u : Tree) → HasItem (λ t m. HasMac0 256 t m 16) b (mac0_view message.now)
-        → mac0_tree (mac0_view message.now) ≡ Some u → HasItem (λ t m. HasMac0 256 t m 16) (enc u) (mac0_view message.now) }
-    ensures tagged { (b : List ℕ) (u : Tree) → HasItem (Tagged 17 (λ t m. HasMac0 256 t m 16)) b (mac0_view message.now)
+    ensures item { (b : List ℕ) (u : Tree) → HasItem (λ t m. HasMac0 nesting t m layers) b (mac0_view message.now)
+        → mac0_tree (mac0_view message.now) ≡ Some u → HasItem (λ t m. HasMac0 nesting t m layers) (enc u) (mac0_view message.now) }
+    ensures tagged { (b : List ℕ) (u : Tree) → HasItem (Tagged 17 (λ t m. HasMac0 nesting t m layers)) b (mac0_view message.now)
         → mac0_tree (mac0_view message.now) ≡ Some u
-        → HasItem (Tagged 17 (λ t m. HasMac0 256 t m 16)) (enc (tag 17 u)) (mac0_view message.now) }
+        → HasItem (Tagged 17 (λ t m. HasMac0 nesting t m layers)) (enc (tag 17 u)) (mac0_view message.now) }
 {
     mac0_fits(message);
     read_is_short();
@@ -94,12 +95,22 @@ pub fn mac0_reads_again(message: &CoseMac0)
 
 /// As `mac0_reads_again`, of a message with recipients.
 pub fn mac_reads_again(message: &CoseMac)
-    ensures item { (b : List ℕ) (u : Tree) → HasItem (λ t m. HasMac 256 t m 16) b (mac_view message.now)
-        → mac_tree (mac_view message.now) ≡ Some u → HasItem (λ t m. HasMac 256 t m 16) (enc u) (mac_view message.now) }
-    ensures tagged { (b : List ℕ) (u : Tree) → HasItem (Tagged 97 (λ t m. HasMac 256 t m 16)) b (mac_view message.now)
+    ensures item { (b : List ℕ) (u : Tree) → HasItem (λ t m. HasMac nesting t m layers) b (mac_view message.now)
+        → mac_tree (mac_view message.now) ≡ Some u → HasItem (λ t m. HasMac nesting t m layers) (enc u) (mac_view message.now) }
+    ensures tagged { (b : List ℕ) (u : Tree) → HasItem (Tagged 97 (λ t m. HasMac nesting t m layers)) b (mac_view message.now)
         → mac_tree (mac_view message.now) ≡ Some u
-        → HasItem (Tagged 97 (λ t m. HasMac 256 t m 16)) (enc (tag 97 u)) (mac_view message.now) }
+        → HasItem (Tagged 97 (λ t m. HasMac nesting t m layers)) (enc (tag 97 u)) (mac_view message.now) }
 {
     mac_fits(message);
     read_is_short();
 }
+
+/// Messages are equal where they say the same and their protected headers have the same received bytes, or none.
+pub fn mac0_compare(a: &CoseMac0, b: &CoseMac0)
+    ensures { IsTrue (⟦<CoseMac0 as std::cmp::PartialEq>⟧.eq a.now b.now) ↔ (mac0_view a.now ≡ mac0_view b.now) }
+{}
+
+/// As `mac0_compare`, their recipients in the same order.
+pub fn mac_compare(a: &CoseMac, b: &CoseMac)
+    ensures { IsTrue (⟦<CoseMac as std::cmp::PartialEq>⟧.eq a.now b.now) ↔ (mac_view a.now ≡ mac_view b.now) }
+{}

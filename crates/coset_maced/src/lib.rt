@@ -1,6 +1,7 @@
 //! Authenticated messages of COSE (RFC 9052, section 6).
 #![tactic(auto)]
 
+mod as_written;
 mod builder;
 mod builder0;
 pub mod laws;

@@ -1,4 +1,8 @@
 //! Authenticated messages as values and bytes.
+ghost use Rattle.std.specs.Prelude.{MatchResult};
+ghost use Rattle.ciborium_value.specs.View.{view};
+ghost use Rattle.coset_labels.specs.Faults.{OrMemory};
+ghost use Rattle.coset_labels.specs.Limits.{nesting, layers, nesting_of, layers_of};
 ghost use Rattle.coset_maced.specs.Fields.{Mac0Fields, MacFields};
 ghost use Rattle.coset_maced.specs.Shapes.{HasMac0, HasMac};
 ghost use Rattle.coset_maced.specs.View.{mac0_view, mac_view};
@@ -8,7 +12,9 @@ ghost use Rattle.coset_maced.specs.Wrong.{WrongMac0, WrongMac};
 use crate::mac::CoseMac;
 use crate::mac0::CoseMac0;
 use ciborium_value::Value;
-use coset_labels::{AsCborValue, CborSerializable, CoseError, TaggedCborSerializable, ValueTryAs};
+use coset_labels::{
+    AsCborValue, CborSerializable, CoseError, Limits, TaggedCborSerializable, ValueTryAs,
+};
 use coset_parts::{Parts, five, four, read_parts, write_parts};
 use coset_recipients::{read_recipients, write_recipients};
 use std::alloc::Global;
@@ -19,27 +25,14 @@ impl AsCborValue for CoseMac0 {
 
     ghost fields = { mac0_view };
 
-    ghost shape = { λ t m. HasMac0 256 t m 16 };
+    ghost shape = { λ t m. HasMac0 nesting t m layers };
 
-    ghost wrong = { λ t e. WrongMac0 256 t 16 e };
+    ghost wrong = { λ t e. WrongMac0 nesting t layers e };
 
     ghost written = { mac0_tree };
 
     fn from_cbor_value(alloc: Global, value: Value) -> Result<CoseMac0, CoseError> {
-        let items = value.try_as_array()?;
-        match four(items) {
-            Some((protected, unprotected, payload, tag)) => {
-                let tag = tag.try_as_bytes()?;
-                let parts = read_parts(alloc, protected, unprotected, payload, "bstr")?;
-                Ok(CoseMac0 {
-                    protected: parts.protected,
-                    unprotected: parts.unprotected,
-                    payload: parts.content,
-                    tag,
-                })
-            }
-            None => Err(CoseError::UnexpectedItem("array", "array with 4 items")),
-        }
+        CoseMac0::from_cbor_value_with(alloc, value, Limits::default())
     }
 
     fn to_cbor_value(self, alloc: Global) -> Result<Value, CoseError> {
@@ -62,6 +55,37 @@ impl AsCborValue for CoseMac0 {
     }
 }
 
+impl CoseMac0 {
+    /// As `from_cbor_value`, within these limits.
+    ///
+    /// # Errors
+    /// A fault that the value has, or `Memory`.
+    pub fn from_cbor_value_with(
+        alloc: Global,
+        value: Value,
+        limits: Limits,
+    ) -> Result<CoseMac0, CoseError>
+        ensures { MatchResult result
+            (λ m. HasMac0 (nesting_of limits) (view value) (mac0_view m) (layers_of limits))
+            (λ e. OrMemory (WrongMac0 (nesting_of limits) (view value) (layers_of limits)) e) }
+    {
+        let items = value.try_as_array()?;
+        match four(items) {
+            Some((protected, unprotected, payload, tag)) => {
+                let tag = tag.try_as_bytes()?;
+                let parts = read_parts(alloc, protected, unprotected, payload, limits, "bstr")?;
+                Ok(CoseMac0 {
+                    protected: parts.protected,
+                    unprotected: parts.unprotected,
+                    payload: parts.content,
+                    tag,
+                })
+            }
+            None => Err(CoseError::UnexpectedItem("array", "array with 4 items")),
+        }
+    }
+}
+
 impl CborSerializable for CoseMac0 {}
 
 impl TaggedCborSerializable for CoseMac0 {
@@ -76,29 +100,14 @@ impl AsCborValue for CoseMac {
 
     ghost fields = { mac_view };
 
-    ghost shape = { λ t m. HasMac 256 t m 16 };
+    ghost shape = { λ t m. HasMac nesting t m layers };
 
-    ghost wrong = { λ t e. WrongMac 256 t 16 e };
+    ghost wrong = { λ t e. WrongMac nesting t layers e };
 
     ghost written = { mac_tree };
 
     fn from_cbor_value(alloc: Global, value: Value) -> Result<CoseMac, CoseError> {
-        let items = value.try_as_array()?;
-        match five(items) {
-            Some((protected, unprotected, payload, tag, list)) => {
-                let recipients = read_recipients(alloc, list)?;
-                let tag = tag.try_as_bytes()?;
-                let parts = read_parts(alloc, protected, unprotected, payload, "bstr")?;
-                Ok(CoseMac {
-                    protected: parts.protected,
-                    unprotected: parts.unprotected,
-                    payload: parts.content,
-                    tag,
-                    recipients,
-                })
-            }
-            None => Err(CoseError::UnexpectedItem("array", "array with 5 items")),
-        }
+        CoseMac::from_cbor_value_with(alloc, value, Limits::default())
     }
 
     fn to_cbor_value(self, alloc: Global) -> Result<Value, CoseError> {
@@ -121,6 +130,39 @@ impl AsCborValue for CoseMac {
         items.push(Value::Bytes(tag))?;
         items.push(list)?;
         Ok(Value::Array(items))
+    }
+}
+
+impl CoseMac {
+    /// As `from_cbor_value`, within these limits.
+    ///
+    /// # Errors
+    /// A fault that the value has, or `Memory`.
+    pub fn from_cbor_value_with(
+        alloc: Global,
+        value: Value,
+        limits: Limits,
+    ) -> Result<CoseMac, CoseError>
+        ensures { MatchResult result
+            (λ m. HasMac (nesting_of limits) (view value) (mac_view m) (layers_of limits))
+            (λ e. OrMemory (WrongMac (nesting_of limits) (view value) (layers_of limits)) e) }
+    {
+        let items = value.try_as_array()?;
+        match five(items) {
+            Some((protected, unprotected, payload, tag, list)) => {
+                let recipients = read_recipients(alloc, list, limits)?;
+                let tag = tag.try_as_bytes()?;
+                let parts = read_parts(alloc, protected, unprotected, payload, limits, "bstr")?;
+                Ok(CoseMac {
+                    protected: parts.protected,
+                    unprotected: parts.unprotected,
+                    payload: parts.content,
+                    tag,
+                    recipients,
+                })
+            }
+            None => Err(CoseError::UnexpectedItem("array", "array with 5 items")),
+        }
     }
 }
 

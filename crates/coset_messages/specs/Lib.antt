@@ -28,6 +28,7 @@ pub use Rattle.coset_base.specs.Faults
 pub use Rattle.coset_base.specs.LabelFields
 pub use Rattle.coset_base.specs.Kinds
 pub use Rattle.coset_base.specs.Labels
+pub use Rattle.coset_base.specs.LimitsView
 pub use Rattle.coset_base.specs.Names
 pub use Rattle.coset_base.specs.Orders
 pub use Rattle.coset_base.specs.Reading
@@ -36,6 +37,7 @@ pub use Rattle.coset_base.specs.CoseError
 pub use Rattle.coset_base.specs.EndOfFile
 pub use Rattle.coset_base.specs.CallerFault
 pub use Rattle.coset_base.specs.Label
+pub use Rattle.coset_base.specs.Limits
 pub use Rattle.coset_base.specs.RegisteredLabel
 pub use Rattle.coset_base.specs.RegisteredLabelWithPrivate
 pub use Rattle.coset_maced.specs.Calls

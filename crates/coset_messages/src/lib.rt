@@ -6,9 +6,9 @@
 pub mod laws;
 
 pub use coset_base::{
-    Algorithm, AsCborValue, BytesTitle, CborOrdering, CborSerializable, ContentType, CoseError,
-    CoseSignature, CoseSignatureBuilder, EncryptionContext, EndOfFile, Fault, Header,
-    HeaderBuilder, KeyType, Label, MacContext, ProtectedHeader, RegisteredLabel,
+    Algorithm, AsCborValue, AsWritten, BytesTitle, CborOrdering, CborSerializable, ContentType,
+    CoseError, CoseSignature, CoseSignatureBuilder, EncryptionContext, EndOfFile, Fault, Header,
+    HeaderBuilder, KeyType, Label, Limits, MacContext, ProtectedHeader, RegisteredLabel,
     RegisteredLabelWithPrivate, Result, SignatureContext, TaggedCborSerializable, ValueTryAs,
     bytes_title, cbor_type_error, enc_structure_data, iana, mac_structure_data, read_to_value,
     sig_structure_data, to_cbor_array, write_to_vec,

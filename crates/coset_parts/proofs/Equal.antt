@@ -1,8 +1,12 @@
 -- Derived equality of structs is that of what they say, field by field.
 use Rattle.std.proofs.Common.{◌≡◌, List, [], ◌∷◌, map, Bool, true, false, Option, Some, None, option_map, refl, ap}
-use Rattle.std.specs.Prelude.{IsTrue, ◌↔◌, ◌&&◌}
-use Rattle.std.specs.Cmp.Lexicographic.{pointwise}
+use Rattle.std.specs.Prelude.{IsTrue, ◌↔◌, ◌&&◌, nat_eq}
+use Rattle.std.specs.Cmp.Lexicographic.{pointwise, bytes_decides}
 use Rattle.std.specs.Option.{option_eq}
+use Rattle.coset_headers.specs.Decided.{headers_decided, protected_decided}
+use Rattle.coset_headers.specs.View.{header_view, protected_view}
+use Rattle.coset_parts.specs.declared.parts.Parts.{Parts}
+use Rattle.coset_parts.specs.contracts.parts.PartsPartialEq.TheImpl as equality
 
 pub both : {P Q : Type 0} (a b : Bool) → IsTrue a ↔ P → IsTrue b ↔ Q → IsTrue (a && b) ↔ (P × Q)
 both true b f g = (λ h. (f.0 refl, g.0 h), λ p. g.1 p.1)
@@ -30,3 +34,14 @@ lists E f e (x ∷ xs) (y ∷ ys) =
           let t : map f xs ≡ map f ys = cc in
           w.1 (s, t),
     )
+
+abbrev pub SameParts : Parts → Parts → Type 0
+SameParts a b = (protected_view a.protected ≡ protected_view b.protected) × (header_view a.unprotected ≡ header_view b.unprotected)
+    × (option_map (λ v. v.items) a.content ≡ option_map (λ v. v.items) b.content)
+
+pub parts : (a b : Parts) → IsTrue (equality.eq-value.it a b) ↔ SameParts a b
+parts a b =
+    let w = both _ _ (protected_decided (protected_view a.protected) (protected_view b.protected))
+    (both _ _ (headers_decided (header_view a.unprotected) (header_view b.unprotected))
+    (options (λ x y. pointwise nat_eq x.items y.items) (λ v. v.items) (λ x y. bytes_decides x.items y.items) a.content b.content)) in
+    (λ h. let p = w.0 h in (p.0, p.1.0, p.1.1), λ h. w.1 (h.0, (h.1, h.2)))

@@ -3,3 +3,4 @@ pub mod Equal
 pub mod Fit
 pub mod Read
 pub mod Sound
+pub mod Stands

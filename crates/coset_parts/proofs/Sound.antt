@@ -5,6 +5,7 @@ use Rattle.ciborium_value.specs.Tree.{Tree, integer, bytes, text, array, map as 
 use Rattle.ciborium_value.specs.View.{trees}
 use Rattle.ciborium_value.specs.Encoding.{enc, Fits}
 use Rattle.ciborium_value.specs.Folding.{fold, fold_bytes, tagged}
+use Rattle.coset_labels.specs.Limits.{nesting}
 use Rattle.coset_labels.specs.Reading.{HasItem, Tagged}
 use Rattle.coset_headers.specs.Fields.{HeaderFields, ProtectedFields}
 use Rattle.coset_headers.proofs.Sound.{Sound, SoundAll, array_inside, array_sound, all_none, all_more, all_parts, bytes_sound, hdr_sound, reads_sound, sound_reads}
@@ -77,11 +78,11 @@ tag_sound d g t e l s =
     record { shallow = subst (λ z. z ≤ d) (sym (tag_deep g t e)) k; folded = ap (option_and_then (tagged g)) s.folded ∙ tag_kept g t e; assigned = s.assigned }
 
 -- ---- bytes
-pub item_again : {F : Type 0} (Shape : Tree → F → Type 0) (b : List ℕ) (f : F) (u : Tree) (i : HasItem Shape b f) → Fits u → (Sound 256 i.tree → Sound 256 u) → Shape u f → HasItem Shape (enc u) f
-item_again Shape b f u i l s h = record { tree = u; reads = sound_reads 256 u l (s (reads_sound b 256 i.tree i.reads)); shape = h }
+pub item_again : {F : Type 0} (Shape : Tree → F → Type 0) (b : List ℕ) (f : F) (u : Tree) (i : HasItem Shape b f) → Fits u → (Sound nesting i.tree → Sound nesting u) → Shape u f → HasItem Shape (enc u) f
+item_again Shape b f u i l s h = record { tree = u; reads = sound_reads nesting u l (s (reads_sound b nesting i.tree i.reads)); shape = h }
 
 pub tagged_again : {F : Type 0} (g : ℕ) (Shape : Tree → F → Type 0) (b : List ℕ) (f : F) (u : Tree) (i : HasItem (Tagged g Shape) b f) → (nat_eq g 2 || nat_eq g 3) ≡ false → g < 2 ^ 64 → Fits u
     → (Sound 255 i.shape.0 → Sound 255 u) → Shape u f → HasItem (Tagged g Shape) (enc (tag g u)) f
 tagged_again g Shape b f u i e q l s h =
-    let m = tag_inside 256 g i.shape.0 e (subst (Sound 256) i.shape.1 (reads_sound b 256 i.tree i.reads)) in
-    record { tree = tag g u; reads = sound_reads 256 (tag g u) (q, l) (tag_sound 256 g u e m.0 (s m.1)); shape = (u, refl, h) }
+    let m = tag_inside nesting g i.shape.0 e (subst (Sound nesting) i.shape.1 (reads_sound b nesting i.tree i.reads)) in
+    record { tree = tag g u; reads = sound_reads nesting (tag g u) (q, l) (tag_sound nesting g u e m.0 (s m.1)); shape = (u, refl, h) }

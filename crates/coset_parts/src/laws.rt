@@ -1,5 +1,5 @@
 //! Laws of the definitions.
-ghost use Rattle.std.specs.Prelude.{◌≡◌, List, Some, option_map};
+ghost use Rattle.std.specs.Prelude.{◌≡◌, ◌↔◌, List, IsTrue, Some, option_map};
 ghost use Rattle.ciborium_value.specs.Encoding.{Fits, FitAll};
 ghost use Rattle.ciborium_value.specs.Tree.{Tree, bytes};
 ghost use Rattle.ciborium_value.specs.View.{trees};
@@ -7,6 +7,7 @@ ghost use Rattle.coset_headers.specs.View.{header_view, protected_view};
 ghost use Rattle.coset_parts.specs.Short.{PartsShort};
 ghost use Rattle.coset_parts.specs.Written.{optional_tree, parts_trees};
 
+use crate::parts::Parts;
 use coset_headers::laws::{header_fits, protected_fits};
 use coset_headers::{Header, ProtectedHeader};
 
@@ -42,3 +43,11 @@ pub fn parts_fit(protected: &ProtectedHeader, unprotected: &Header, content: &Op
     header_fits(unprotected);
     optional_fits(content);
 }
+
+/// Parts are equal where each of them says the same and the protected headers have the same received bytes, or none.
+pub fn parts_compare(a: &Parts, b: &Parts)
+    ensures { IsTrue (⟦<Parts as std::cmp::PartialEq>⟧.eq a.now b.now)
+        ↔ ((protected_view a.now.protected ≡ protected_view b.now.protected)
+        × (header_view a.now.unprotected ≡ header_view b.now.unprotected)
+        × (option_map (λ v. v.items) a.now.content ≡ option_map (λ v. v.items) b.now.content)) }
+{}

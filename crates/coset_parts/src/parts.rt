@@ -2,6 +2,7 @@
 ghost use Rattle.std.specs.Prelude.{◌≡◌, Some, MatchResult, IfOk, map, option_map};
 ghost use Rattle.ciborium_value.specs.View.{view};
 ghost use Rattle.coset_labels.specs.Faults.{OrMemory, CantWrite};
+ghost use Rattle.coset_labels.specs.Limits.{nesting_of, layers_of};
 ghost use Rattle.coset_headers.specs.View.{header_view, protected_view};
 ghost use Rattle.coset_parts.specs.Shapes.{HasParts};
 ghost use Rattle.coset_parts.specs.Wrong.{WrongParts};
@@ -9,7 +10,7 @@ ghost use Rattle.coset_parts.specs.Written.{optional_tree, parts_trees};
 
 use ciborium_value::Value;
 use coset_headers::{Header, ProtectedHeader};
-use coset_labels::{AsCborValue, CoseError, ValueTryAs};
+use coset_labels::{AsCborValue, CoseError, Limits, ValueTryAs};
 use std::alloc::{AllocError, Global};
 
 /// The headers of a message or a recipient, and what it carries: a payload or a ciphertext, or nothing.
@@ -23,8 +24,8 @@ pub struct Parts {
     pub content: Option<Vec<u8>>,
 }
 
-/// Reads the three parts from the last to the first, with 16 layers of protected headers. `want` names what the content should have been,
-/// for the text of its error. No byte string is copied.
+/// Reads the three parts from the last to the first, within these limits. `want` names what the
+/// content should have been, for the text of its error. No byte string is copied.
 ///
 /// # Errors
 /// A fault that one of the parts has, or `Memory`.
@@ -33,15 +34,16 @@ pub fn read_parts(
     protected: Value,
     unprotected: Value,
     content: Value,
+    limits: Limits,
     want: &'static str,
 ) -> Result<Parts, CoseError>
     ensures { MatchResult result
-        (λ p. HasParts 256 (view protected) (view unprotected) (view content) (protected_view p.protected) (header_view p.unprotected) (option_map (λ b. b.items) p.content) 16)
-        (λ e. OrMemory (WrongParts 256 (view protected) (view unprotected) (view content) 16) e) }
+        (λ p. HasParts (nesting_of limits) (view protected) (view unprotected) (view content) (protected_view p.protected) (header_view p.unprotected) (option_map (λ b. b.items) p.content) (layers_of limits))
+        (λ e. OrMemory (WrongParts (nesting_of limits) (view protected) (view unprotected) (view content) (layers_of limits)) e) }
 {
     let content = content.try_as_bytes_or_nil(want)?;
-    let unprotected = Header::from_cbor_value(alloc, unprotected)?;
-    let protected = ProtectedHeader::from_cbor_bstr(alloc, protected)?;
+    let unprotected = Header::from_cbor_value_with(alloc, unprotected, limits)?;
+    let protected = ProtectedHeader::from_cbor_bstr_with(alloc, protected, limits)?;
     Ok(Parts {
         protected,
         unprotected,

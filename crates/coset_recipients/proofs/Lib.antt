@@ -1,8 +1,11 @@
 pub mod Again
+pub mod Equal
 pub mod Excludes
 pub mod Fit
 pub mod Parts
 pub mod Sound
+pub mod Standing
+pub mod Stands
 pub mod Steps
 pub mod Unique
 pub mod Writable

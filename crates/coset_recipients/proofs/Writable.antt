@@ -18,7 +18,7 @@ pub parts_some : (n : ℕ) (x y z : Tree) (p : ProtectedFields) (u : HeaderField
 parts_some n x y z p u c k h =
     and_some _ (shown p) (prot_some n p x k h.protected) (λ b. map_some (λ t. bytes b ∷ t ∷ optional_tree c ∷ []) (header_tree u) (hdr_some n u y k h.unprotected))
 
-inner_some : (n : ℕ) (rs : RecipientsFields) (o : Option Tree) (k : ℕ) → ((ts : Trees) → HasRecipients n ts rs k → recipients_trees rs ≢ None) → HasInner n o rs k → recipients_trees rs ≢ None
+pub inner_some : (n : ℕ) (rs : RecipientsFields) (o : Option Tree) (k : ℕ) → ((ts : Trees) → HasRecipients n ts rs k → recipients_trees rs ≢ None) → HasInner n o rs k → recipients_trees rs ≢ None
 inner_some n rs o k f (inl a) = subst (λ z. recipients_trees z ≢ None) (sym a.1) (some_is no_trees)
 inner_some n rs o k f (inr a) = f a.0 a.2
 

@@ -1,9 +1,10 @@
 //! Laws of the definitions.
-ghost use Rattle.std.specs.Prelude.{◌≡◌, ◌≢◌, ◌^◌, ◌<◌, ℕ, List, None, Some};
+ghost use Rattle.std.specs.Prelude.{◌≡◌, ◌≢◌, ◌↔◌, ◌^◌, ◌<◌, ℕ, List, IsTrue, None, Some};
 ghost use Rattle.ciborium.specs.Front.{Reads};
 ghost use Rattle.ciborium_value.specs.Encoding.{enc, Fits, FitAll};
 ghost use Rattle.ciborium_value.specs.Tree.{Tree, Trees, tree_count};
 ghost use Rattle.coset_labels.specs.Faults.{CoseFault};
+ghost use Rattle.coset_labels.specs.Limits.{nesting, layers};
 ghost use Rattle.coset_labels.specs.Reading.{HasItem};
 ghost use Rattle.coset_structures.specs.declared.context.EncryptionContext.{EncryptionContext};
 ghost use Rattle.coset_recipients.specs.Fields.{RecipientFields, RecipientsFields};
@@ -96,11 +97,17 @@ pub fn recipients_fit(recipients: &[CoseRecipient])
 
 /// A recipient that was read from bytes is read again of the bytes that it is written as, the same, received bytes included.
 pub fn recipient_reads_again(recipient: &CoseRecipient)
-    ensures { (b : List ℕ) (u : Tree) → HasItem (λ t r. HasRecipient 256 t r 16) b (recipient_view recipient.now)
+    ensures { (b : List ℕ) (u : Tree) → HasItem (λ t r. HasRecipient nesting t r layers) b (recipient_view recipient.now)
         → recipient_tree (recipient_view recipient.now) ≡ Some u
-        → HasItem (λ t r. HasRecipient 256 t r 16) (enc u) (recipient_view recipient.now) }
+        → HasItem (λ t r. HasRecipient nesting t r layers) (enc u) (recipient_view recipient.now) }
 {
     recipient_fits(recipient);
     written_reads_same();
     read_is_short();
 }
+
+/// Recipients are equal where they say the same and their protected headers have the same received bytes, or none; so do all recipients
+/// in them, in the same order.
+pub fn recipient_compare(a: &CoseRecipient, b: &CoseRecipient)
+    ensures { IsTrue (⟦<CoseRecipient as std::cmp::PartialEq>⟧.eq a.now b.now) ↔ (recipient_view a.now ≡ recipient_view b.now) }
+{}

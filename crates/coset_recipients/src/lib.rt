@@ -1,6 +1,7 @@
 //! Recipients of encrypted and authenticated messages of COSE (RFC 9052, sections 5.1 and 5.3).
 #![tactic(auto)]
 
+mod as_written;
 mod builder;
 mod calls;
 mod copies;
@@ -10,6 +11,7 @@ mod recipient;
 mod serial;
 mod writer;
 
+pub use crate::as_written::recipients_stand;
 pub use crate::builder::CoseRecipientBuilder;
 pub use crate::copies::clone_recipients;
 pub use crate::reader::read_recipients;

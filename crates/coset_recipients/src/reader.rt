@@ -3,6 +3,7 @@ ghost use Rattle.std.specs.Prelude.{◌≡◌, ◌≢◌, MatchOption, MatchResu
 ghost use Rattle.ciborium_value.specs.Tree.{tree_count};
 ghost use Rattle.ciborium_value.specs.View.{view, views};
 ghost use Rattle.coset_labels.specs.Faults.{OrMemory};
+ghost use Rattle.coset_labels.specs.Limits.{nesting_of, layers_of};
 ghost use Rattle.coset_recipients.specs.Shapes.{three_or_four, HasRecipient, HasRecipients, HasInner, HasList};
 ghost use Rattle.coset_recipients.specs.View.{recipient_view, recipients_view};
 ghost use Rattle.coset_recipients.specs.Walks.{WrongRecipients, WrongInner};
@@ -10,7 +11,7 @@ ghost use Rattle.coset_recipients.specs.Wrong.{WrongRecipient, WrongList};
 
 use crate::recipient::CoseRecipient;
 use ciborium_value::Value;
-use coset_labels::{CoseError, ValueTryAs};
+use coset_labels::{CoseError, Limits, ValueTryAs};
 use coset_parts::read_parts;
 use std::alloc::Global;
 
@@ -44,15 +45,27 @@ fn split(items: Vec<Value>) -> Option<(Value, Value, Value, Option<Value>)>
 
 /// Reads a recipient, its elements from the last to the first.
 #[cycle(reader)]
-pub(crate) fn read_recipient(alloc: Global, value: Value) -> Result<CoseRecipient, CoseError>
-    ensures { MatchResult result (λ r. HasRecipient 256 (view value) (recipient_view r) 16)
-        (λ e. OrMemory (WrongRecipient 256 (view value) 16) e) }
+pub(crate) fn read_recipient(
+    alloc: Global,
+    value: Value,
+    limits: Limits,
+) -> Result<CoseRecipient, CoseError>
+    ensures { MatchResult result
+        (λ r. HasRecipient (nesting_of limits) (view value) (recipient_view r) (layers_of limits))
+        (λ e. OrMemory (WrongRecipient (nesting_of limits) (view value) (layers_of limits)) e) }
 {
     let items = value.try_as_array()?;
     match split(items) {
         Some((protected, unprotected, ciphertext, inner)) => {
-            let recipients = read_inner(alloc, inner)?;
-            let parts = read_parts(alloc, protected, unprotected, ciphertext, "bstr / null")?;
+            let recipients = read_inner(alloc, inner, limits)?;
+            let parts = read_parts(
+                alloc,
+                protected,
+                unprotected,
+                ciphertext,
+                limits,
+                "bstr / null",
+            )?;
             Ok(CoseRecipient {
                 protected: parts.protected,
                 unprotected: parts.unprotected,
@@ -66,37 +79,52 @@ pub(crate) fn read_recipient(alloc: Global, value: Value) -> Result<CoseRecipien
 
 /// Reads the recipients of a fourth element; none where there isn't one.
 #[cycle(reader)]
-fn read_inner(alloc: Global, inner: Option<Value>) -> Result<Vec<CoseRecipient>, CoseError>
-    ensures { MatchResult result (λ rs. HasInner 256 (option_map view inner) (recipients_view rs.items) 16)
-        (λ e. OrMemory (WrongInner 256 (option_map view inner) 16) e) }
+fn read_inner(
+    alloc: Global,
+    inner: Option<Value>,
+    limits: Limits,
+) -> Result<Vec<CoseRecipient>, CoseError>
+    ensures { MatchResult result
+        (λ rs. HasInner (nesting_of limits) (option_map view inner) (recipients_view rs.items) (layers_of limits))
+        (λ e. OrMemory (WrongInner (nesting_of limits) (option_map view inner) (layers_of limits)) e) }
 {
     match inner {
-        Some(list) => read_recipients(alloc, list),
+        Some(list) => read_recipients(alloc, list, limits),
         None => Ok(Vec::new(alloc)),
     }
 }
 
-/// Reads an array of recipients, from the first to the last.
+/// Reads an array of recipients within these limits, from the first to the last.
 ///
 /// # Errors
 /// A fault that the value has, or `Memory`.
 #[cycle(reader)]
-pub fn read_recipients(alloc: Global, value: Value) -> Result<Vec<CoseRecipient>, CoseError>
-    ensures { MatchResult result (λ rs. HasList 256 (view value) (recipients_view rs.items) 16)
-        (λ e. OrMemory (WrongList 256 (view value) 16) e) }
+pub fn read_recipients(
+    alloc: Global,
+    value: Value,
+    limits: Limits,
+) -> Result<Vec<CoseRecipient>, CoseError>
+    ensures { MatchResult result
+        (λ rs. HasList (nesting_of limits) (view value) (recipients_view rs.items) (layers_of limits))
+        (λ e. OrMemory (WrongList (nesting_of limits) (view value) (layers_of limits)) e) }
 {
     let items = value.try_as_array()?;
-    read_items(alloc, items)
+    read_items(alloc, items, limits)
 }
 
 #[cycle(reader)]
-fn read_items(alloc: Global, items: Vec<Value>) -> Result<Vec<CoseRecipient>, CoseError>
-    ensures { MatchResult result (λ rs. HasRecipients 256 (views items.items) (recipients_view rs.items) 16)
-        (λ e. OrMemory (WrongRecipients 256 (views items.items) 16) e) }
+fn read_items(
+    alloc: Global,
+    items: Vec<Value>,
+    limits: Limits,
+) -> Result<Vec<CoseRecipient>, CoseError>
+    ensures { MatchResult result
+        (λ rs. HasRecipients (nesting_of limits) (views items.items) (recipients_view rs.items) (layers_of limits))
+        (λ e. OrMemory (WrongRecipients (nesting_of limits) (views items.items) (layers_of limits)) e) }
 {
     let mut recipients = Vec::new(alloc);
     'items: for item in items {
-        let recipient = read_recipient(alloc, item)?;
+        let recipient = read_recipient(alloc, item, limits)?;
         recipients.push(recipient)?;
     }
     Ok(recipients)

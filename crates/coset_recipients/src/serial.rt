@@ -1,4 +1,8 @@
 //! Recipients as values and bytes.
+ghost use Rattle.std.specs.Prelude.{MatchResult};
+ghost use Rattle.ciborium_value.specs.View.{view};
+ghost use Rattle.coset_labels.specs.Faults.{OrMemory};
+ghost use Rattle.coset_labels.specs.Limits.{nesting, layers, nesting_of, layers_of};
 ghost use Rattle.coset_recipients.specs.Fields.{RecipientFields};
 ghost use Rattle.coset_recipients.specs.Shapes.{HasRecipient};
 ghost use Rattle.coset_recipients.specs.View.{recipient_view};
@@ -9,7 +13,7 @@ use crate::reader::read_recipient;
 use crate::recipient::CoseRecipient;
 use crate::writer::write_recipient;
 use ciborium_value::Value;
-use coset_labels::{AsCborValue, CborSerializable, CoseError};
+use coset_labels::{AsCborValue, CborSerializable, CoseError, Limits};
 use std::alloc::Global;
 
 /// The elements are read from the last to the first, and the recipients of a list from the first to the last. A recipient without
@@ -19,18 +23,36 @@ impl AsCborValue for CoseRecipient {
 
     ghost fields = { recipient_view };
 
-    ghost shape = { λ t r. HasRecipient 256 t r 16 };
+    ghost shape = { λ t r. HasRecipient nesting t r layers };
 
-    ghost wrong = { λ t e. WrongRecipient 256 t 16 e };
+    ghost wrong = { λ t e. WrongRecipient nesting t layers e };
 
     ghost written = { recipient_tree };
 
     fn from_cbor_value(alloc: Global, value: Value) -> Result<CoseRecipient, CoseError> {
-        read_recipient(alloc, value)
+        CoseRecipient::from_cbor_value_with(alloc, value, Limits::default())
     }
 
     fn to_cbor_value(self, alloc: Global) -> Result<Value, CoseError> {
         write_recipient(alloc, self)
+    }
+}
+
+impl CoseRecipient {
+    /// As `from_cbor_value`, within these limits.
+    ///
+    /// # Errors
+    /// A fault that the value has, or `Memory`.
+    pub fn from_cbor_value_with(
+        alloc: Global,
+        value: Value,
+        limits: Limits,
+    ) -> Result<CoseRecipient, CoseError>
+        ensures { MatchResult result
+            (λ r. HasRecipient (nesting_of limits) (view value) (recipient_view r) (layers_of limits))
+            (λ e. OrMemory (WrongRecipient (nesting_of limits) (view value) (layers_of limits)) e) }
+    {
+        read_recipient(alloc, value, limits)
     }
 }
 

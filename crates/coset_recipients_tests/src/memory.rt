@@ -9,7 +9,7 @@ use crate::recipients::{recipient_is_asked, recipient_is_decrypted};
 use crate::tools::{Met, is_read_again, is_written_back, same};
 use ciborium_value::Value;
 use coset_encrypted::{CoseEncrypt, CoseEncrypt0};
-use coset_labels::{CborSerializable, CoseError, Fault};
+use coset_labels::{CborSerializable, CoseError, Fault, Limits};
 use coset_maced::{CoseMac, CoseMac0};
 use coset_recipients::{CoseRecipient, clone_recipients, read_recipients, write_recipients};
 use std::alloc::Global;
@@ -66,7 +66,7 @@ fn are_read_again(alloc: Global, list: &[CoseRecipient]) -> Result<bool, CoseErr
 /// Whether a list of recipients is read, copied and written back, and each of them is read again.
 fn are_written_back(alloc: Global) -> Result<bool, CoseError> {
     let value = Value::from_slice(alloc, RECIPIENTS)?;
-    let list = read_recipients(alloc, value)?;
+    let list = read_recipients(alloc, value, Limits::default())?;
     let is_written_back = list_is_written_back(alloc, &list)?;
     let is_read_again = are_read_again(alloc, &list)?;
     Ok(is_written_back && is_read_again)

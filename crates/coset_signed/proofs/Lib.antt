@@ -1,9 +1,10 @@
-pub mod Adding
 pub mod Again
 pub mod Equal
 pub mod Excludes
 pub mod Fit
 pub mod Sound
+pub mod Standing
+pub mod Stands
 pub mod Steps
 pub mod Unique
 pub mod Writable

@@ -1,4 +1,5 @@
 pub mod Added
+pub mod AsWritten
 pub mod Fields
 pub mod Shapes
 pub mod Short

@@ -6,6 +6,7 @@ ghost use Rattle.ciborium_value.specs.Tree.{Tree, array, tag, tree_count};
 ghost use Rattle.ciborium_value.specs.View.{trees};
 ghost use Rattle.coset_labels.specs.Arrays.{all_written};
 ghost use Rattle.coset_labels.specs.Faults.{CoseFault};
+ghost use Rattle.coset_labels.specs.Limits.{nesting, layers};
 ghost use Rattle.coset_labels.specs.Reading.{HasItem, Tagged};
 ghost use Rattle.coset_headers.specs.Fields.{SignatureFields};
 ghost use Rattle.coset_headers.specs.Headers.{HasSignature};
@@ -97,11 +98,11 @@ pub fn sign_fits(message: &CoseSign)
 /// A message that was read from bytes is read again of the bytes that it is written as, the same, received bytes included. So is one that
 /// was read behind its tag and is written with it.
 pub fn sign1_reads_again(message: &CoseSign1)
-    ensures item { (b : List ℕ) (u : Tree) → HasItem (λ t m. HasSign1 256 t m 16) b (sign1_view message.now)
-        → sign1_tree (sign1_view message.now) ≡ Some u → HasItem (λ t m. HasSign1 256 t m 16) (enc u) (sign1_view message.now) }
-    ensures tagged { (b : List ℕ) (u : Tree) → HasItem (Tagged 18 (λ t m. HasSign1 256 t m 16)) b (sign1_view message.now)
+    ensures item { (b : List ℕ) (u : Tree) → HasItem (λ t m. HasSign1 nesting t m layers) b (sign1_view message.now)
+        → sign1_tree (sign1_view message.now) ≡ Some u → HasItem (λ t m. HasSign1 nesting t m layers) (enc u) (sign1_view message.now) }
+    ensures tagged { (b : List ℕ) (u : Tree) → HasItem (Tagged 18 (λ t m. HasSign1 nesting t m layers)) b (sign1_view message.now)
         → sign1_tree (sign1_view message.now) ≡ Some u
-        → HasItem (Tagged 18 (λ t m. HasSign1 256 t m 16)) (enc (tag 18 u)) (sign1_view message.now) }
+        → HasItem (Tagged 18 (λ t m. HasSign1 nesting t m layers)) (enc (tag 18 u)) (sign1_view message.now) }
 {
     sign1_fits(message);
     read_is_short();
@@ -109,11 +110,11 @@ pub fn sign1_reads_again(message: &CoseSign1)
 
 /// As `sign1_reads_again`, of a message with several signatures.
 pub fn sign_reads_again(message: &CoseSign)
-    ensures item { (b : List ℕ) (u : Tree) → HasItem (λ t m. HasSign 256 t m 16) b (sign_view message.now)
-        → sign_tree (sign_view message.now) ≡ Some u → HasItem (λ t m. HasSign 256 t m 16) (enc u) (sign_view message.now) }
-    ensures tagged { (b : List ℕ) (u : Tree) → HasItem (Tagged 98 (λ t m. HasSign 256 t m 16)) b (sign_view message.now)
+    ensures item { (b : List ℕ) (u : Tree) → HasItem (λ t m. HasSign nesting t m layers) b (sign_view message.now)
+        → sign_tree (sign_view message.now) ≡ Some u → HasItem (λ t m. HasSign nesting t m layers) (enc u) (sign_view message.now) }
+    ensures tagged { (b : List ℕ) (u : Tree) → HasItem (Tagged 98 (λ t m. HasSign nesting t m layers)) b (sign_view message.now)
         → sign_tree (sign_view message.now) ≡ Some u
-        → HasItem (Tagged 98 (λ t m. HasSign 256 t m 16)) (enc (tag 98 u)) (sign_view message.now) }
+        → HasItem (Tagged 98 (λ t m. HasSign nesting t m layers)) (enc (tag 98 u)) (sign_view message.now) }
 {
     sign_fits(message);
     read_is_short();

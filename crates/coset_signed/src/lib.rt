@@ -1,6 +1,7 @@
 //! Signed messages of COSE, with one signature and with several (RFC 9052, sections 4.1 and 4.2).
 #![tactic(auto)]
 
+mod as_written;
 mod four;
 pub mod laws;
 mod payload;

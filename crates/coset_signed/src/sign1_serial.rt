@@ -1,4 +1,8 @@
 //! Messages with one signature as values and bytes.
+ghost use Rattle.std.specs.Prelude.{MatchResult};
+ghost use Rattle.ciborium_value.specs.View.{view};
+ghost use Rattle.coset_labels.specs.Faults.{OrMemory};
+ghost use Rattle.coset_labels.specs.Limits.{nesting, layers, nesting_of, layers_of};
 ghost use Rattle.coset_signed.specs.Fields.{Sign1Fields};
 ghost use Rattle.coset_signed.specs.Shapes.{HasSign1};
 ghost use Rattle.coset_signed.specs.View.{sign1_view};
@@ -8,7 +12,9 @@ ghost use Rattle.coset_signed.specs.Wrong.{WrongSign1};
 use crate::four::four_items;
 use crate::sign1::CoseSign1;
 use ciborium_value::Value;
-use coset_labels::{AsCborValue, CborSerializable, CoseError, TaggedCborSerializable, ValueTryAs};
+use coset_labels::{
+    AsCborValue, CborSerializable, CoseError, Limits, TaggedCborSerializable, ValueTryAs,
+};
 use coset_parts::{Parts, read_parts, write_parts};
 use std::alloc::Global;
 
@@ -18,22 +24,14 @@ impl AsCborValue for CoseSign1 {
 
     ghost fields = { sign1_view };
 
-    ghost shape = { λ t m. HasSign1 256 t m 16 };
+    ghost shape = { λ t m. HasSign1 nesting t m layers };
 
-    ghost wrong = { λ t e. WrongSign1 256 t 16 e };
+    ghost wrong = { λ t e. WrongSign1 nesting t layers e };
 
     ghost written = { sign1_tree };
 
     fn from_cbor_value(alloc: Global, value: Value) -> Result<CoseSign1, CoseError> {
-        let (protected, unprotected, payload, signature) = four_items(value)?;
-        let signature = signature.try_as_bytes()?;
-        let parts = read_parts(alloc, protected, unprotected, payload, "bstr or nil")?;
-        Ok(CoseSign1 {
-            protected: parts.protected,
-            unprotected: parts.unprotected,
-            payload: parts.content,
-            signature,
-        })
+        CoseSign1::from_cbor_value_with(alloc, value, Limits::default())
     }
 
     fn to_cbor_value(self, alloc: Global) -> Result<Value, CoseError> {
@@ -51,6 +49,39 @@ impl AsCborValue for CoseSign1 {
         let mut items = write_parts(alloc, parts)?;
         items.push(Value::Bytes(signature))?;
         Ok(Value::Array(items))
+    }
+}
+
+impl CoseSign1 {
+    /// As `from_cbor_value`, within these limits.
+    ///
+    /// # Errors
+    /// A fault that the value has, or `Memory`.
+    pub fn from_cbor_value_with(
+        alloc: Global,
+        value: Value,
+        limits: Limits,
+    ) -> Result<CoseSign1, CoseError>
+        ensures { MatchResult result
+            (λ m. HasSign1 (nesting_of limits) (view value) (sign1_view m) (layers_of limits))
+            (λ e. OrMemory (WrongSign1 (nesting_of limits) (view value) (layers_of limits)) e) }
+    {
+        let (protected, unprotected, payload, signature) = four_items(value)?;
+        let signature = signature.try_as_bytes()?;
+        let parts = read_parts(
+            alloc,
+            protected,
+            unprotected,
+            payload,
+            limits,
+            "bstr or nil",
+        )?;
+        Ok(CoseSign1 {
+            protected: parts.protected,
+            unprotected: parts.unprotected,
+            payload: parts.content,
+            signature,
+        })
     }
 }
 

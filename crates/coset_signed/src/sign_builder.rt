@@ -1,10 +1,11 @@
 //! Builders of messages with several signatures.
-ghost use Rattle.std.specs.Prelude.{◌≡◌, None, Some, MatchResult};
+ghost use Rattle.std.specs.Prelude.{◌≡◌, ◌<◌, None, Some, IfOk, MatchResult, vec_len, vec_capacity};
+ghost use Rattle.std.specs.Fn.{FnOnceTakesAt};
 ghost use Rattle.coset_headers.specs.Fields.{protected};
 ghost use Rattle.coset_headers.specs.View.{header_view, signature_view};
 ghost use Rattle.coset_labels.specs.declared.error.CoseError.TheVariants.{Memory};
 ghost use Rattle.coset_parts.specs.Calls.{TakesWhere};
-ghost use Rattle.coset_signed.specs.Added.{AddsWhere, TriesToAddWhere};
+ghost use Rattle.coset_signed.specs.Added.{AddsAt, TriesToAddAt, AddsWhere, TriesToAddWhere};
 ghost use Rattle.coset_signed.specs.Fields.{no_sign, signed_by, also_signed};
 ghost use Rattle.coset_signed.specs.Structure.{sign_structure, sign_covered};
 ghost use Rattle.coset_signed.specs.View.{sign_view, sign_built};
@@ -77,10 +78,83 @@ impl CoseSignBuilder {
 
     /// Makes room for a signature, so that none is made in vain.
     fn with_room(mut self) -> Result<CoseSignBuilder, CoseError>
-        ensures { MatchResult result (λ b. sign_built b ≡ sign_built self) (λ e. e ≡ Memory) }
+        ensures built { MatchResult result (λ b. sign_built b ≡ sign_built self) (λ e. e ≡ Memory) }
+        ensures room { IfOk result (λ b. vec_len b.message.signatures < vec_capacity b.message.signatures) }
     {
         self.message.signatures.reserve(1)?;
         Ok(self)
+    }
+
+    /// Appends a signature for which there is room.
+    fn with_signature(mut self, signature: CoseSignature) -> CoseSignBuilder
+        requires { vec_len self.message.signatures < vec_capacity self.message.signatures }
+        ensures { sign_built result ≡ also_signed (sign_built self) (signature_view signature) }
+    {
+        let _ = self.message.signatures.push(signature);
+        self
+    }
+
+    /// Appends this signature with the bytes that the signer gives over what it covers. Room for it was made before.
+    fn asked<S: FnOnce(&[u8]) -> Vec<u8>>(
+        self,
+        signature: CoseSignature,
+        covered: &[u8],
+        signer: S,
+    ) -> CoseSignBuilder
+        requires room { vec_len self.message.signatures < vec_capacity self.message.signatures }
+        requires signer { FnOnceTakesAt S.FnOnce signer covered.now }
+        ensures { AddsAt S.FnOnce signer covered.now
+            (λ v b. sign_built b ≡ also_signed (sign_built self) (signed_by (signature_view signature) v.items)) result }
+    {
+        let made = signer(covered);
+        self.with_signature(signed_by(signature, made))
+    }
+
+    /// As `asked`, with a signer that may fail.
+    fn try_asked<E, S: FnOnce(&[u8]) -> Result<Vec<u8>, E>>(
+        self,
+        signature: CoseSignature,
+        covered: &[u8],
+        signer: S,
+    ) -> Result<CoseSignBuilder, E>
+        requires room { vec_len self.message.signatures < vec_capacity self.message.signatures }
+        requires signer { FnOnceTakesAt S.FnOnce signer covered.now }
+        ensures { TriesToAddAt S.FnOnce signer covered.now
+            (λ v b. sign_built b ≡ also_signed (sign_built self) (signed_by (signature_view signature) v.items)) result }
+    {
+        let made = signer(covered)?;
+        Ok(self.with_signature(signed_by(signature, made)))
+    }
+
+    /// Makes room for a signature, and asks the signer.
+    fn add_made<S: FnOnce(&[u8]) -> Vec<u8>>(
+        self,
+        signature: CoseSignature,
+        covered: &[u8],
+        signer: S,
+    ) -> Result<CoseSignBuilder, CoseError>
+        requires { FnOnceTakesAt S.FnOnce signer covered.now }
+        ensures { AddsWhere S.FnOnce signer (Some covered.now)
+            (λ v b. sign_built b ≡ also_signed (sign_built self) (signed_by (signature_view signature) v.items)) result }
+    {
+        Ok(self.with_room()?.asked(signature, covered, signer))
+    }
+
+    /// As `add_made`, with a signer that may fail.
+    fn try_add_made<E, S: FnOnce(&[u8]) -> Result<Vec<u8>, E>>(
+        self,
+        signature: CoseSignature,
+        covered: &[u8],
+        signer: S,
+    ) -> Result<CoseSignBuilder, Fault<E>>
+        requires { FnOnceTakesAt S.FnOnce signer covered.now }
+        ensures { TriesToAddWhere S.FnOnce signer (Some covered.now)
+            (λ v b. sign_built b ≡ also_signed (sign_built self) (signed_by (signature_view signature) v.items)) result }
+    {
+        match self.with_room()?.try_asked(signature, covered, signer) {
+            Ok(builder) => Ok(builder),
+            Err(error) => Err(Fault::Caller(error)),
+        }
     }
 
     /// Appends this signature with the bytes that the signer gives over what it covers. Headers and payload are set before.
@@ -99,9 +173,7 @@ impl CoseSignBuilder {
             (λ v b. sign_built b ≡ also_signed (sign_built self) (signed_by (signature_view signature) v.items)) result }
     {
         let data = self.message.tbs_data(alloc, aad, &signature)?;
-        let builder = self.with_room()?;
-        let made = signer(data.as_slice());
-        builder.add_signature(signed_by(signature, made))
+        self.add_made(signature, data.as_slice(), signer)
     }
 
     /// As `add_created_signature`, with a signer that may fail.
@@ -120,11 +192,7 @@ impl CoseSignBuilder {
             (λ v b. sign_built b ≡ also_signed (sign_built self) (signed_by (signature_view signature) v.items)) result }
     {
         let data = self.message.tbs_data(alloc, aad, &signature)?;
-        let builder = self.with_room()?;
-        match signer(data.as_slice()) {
-            Ok(made) => Ok(builder.add_signature(signed_by(signature, made))?),
-            Err(error) => Err(Fault::Caller(error)),
-        }
+        self.try_add_made(signature, data.as_slice(), signer)
     }
 
     /// As `add_created_signature`, of a payload that is carried elsewhere.
@@ -147,9 +215,7 @@ impl CoseSignBuilder {
         let data = self
             .message
             .tbs_detached_data(alloc, payload, aad, &signature)?;
-        let builder = self.with_room()?;
-        let made = signer(data.as_slice());
-        builder.add_signature(signed_by(signature, made))
+        self.add_made(signature, data.as_slice(), signer)
     }
 
     /// As `add_detached_signature`, with a signer that may fail.
@@ -172,11 +238,7 @@ impl CoseSignBuilder {
         let data = self
             .message
             .tbs_detached_data(alloc, payload, aad, &signature)?;
-        let builder = self.with_room()?;
-        match signer(data.as_slice()) {
-            Ok(made) => Ok(builder.add_signature(signed_by(signature, made))?),
-            Err(error) => Err(Fault::Caller(error)),
-        }
+        self.try_add_made(signature, data.as_slice(), signer)
     }
 }
 

@@ -1,6 +1,7 @@
 //! Messages with several signatures as values and bytes.
 ghost use Rattle.std.specs.Prelude.{◌≡◌, MatchResult, map};
 ghost use Rattle.ciborium_value.specs.View.{view, views};
+ghost use Rattle.coset_labels.specs.Limits.{nesting, layers, nesting_of, layers_of};
 ghost use Rattle.coset_labels.specs.Faults.{OrMemory};
 ghost use Rattle.coset_headers.specs.Headers.{HasSignature, HasSignatures};
 ghost use Rattle.coset_headers.specs.View.{signature_view, signatures_view};
@@ -15,7 +16,8 @@ use crate::sign::CoseSign;
 use ciborium_value::Value;
 use coset_headers::CoseSignature;
 use coset_labels::{
-    AsCborValue, CborSerializable, CoseError, TaggedCborSerializable, ValueTryAs, to_cbor_array,
+    AsCborValue, CborSerializable, CoseError, Limits, TaggedCborSerializable, ValueTryAs,
+    to_cbor_array,
 };
 use coset_parts::{Parts, read_parts, write_parts};
 use std::alloc::Global;
@@ -26,22 +28,14 @@ impl AsCborValue for CoseSign {
 
     ghost fields = { sign_view };
 
-    ghost shape = { λ t m. HasSign 256 t m 16 };
+    ghost shape = { λ t m. HasSign nesting t m layers };
 
-    ghost wrong = { λ t e. WrongSign 256 t 16 e };
+    ghost wrong = { λ t e. WrongSign nesting t layers e };
 
     ghost written = { sign_tree };
 
     fn from_cbor_value(alloc: Global, value: Value) -> Result<CoseSign, CoseError> {
-        let (protected, unprotected, payload, signatures) = four_items(value)?;
-        let signatures = read_signatures(alloc, signatures)?;
-        let parts = read_parts(alloc, protected, unprotected, payload, "bstr or nil")?;
-        Ok(CoseSign {
-            protected: parts.protected,
-            unprotected: parts.unprotected,
-            payload: parts.content,
-            signatures,
-        })
+        CoseSign::from_cbor_value_with(alloc, value, Limits::default())
     }
 
     fn to_cbor_value(self, alloc: Global) -> Result<Value, CoseError> {
@@ -63,6 +57,39 @@ impl AsCborValue for CoseSign {
     }
 }
 
+impl CoseSign {
+    /// As `from_cbor_value`, within these limits.
+    ///
+    /// # Errors
+    /// A fault that the value has, or `Memory`.
+    pub fn from_cbor_value_with(
+        alloc: Global,
+        value: Value,
+        limits: Limits,
+    ) -> Result<CoseSign, CoseError>
+        ensures { MatchResult result
+            (λ m. HasSign (nesting_of limits) (view value) (sign_view m) (layers_of limits))
+            (λ e. OrMemory (WrongSign (nesting_of limits) (view value) (layers_of limits)) e) }
+    {
+        let (protected, unprotected, payload, signatures) = four_items(value)?;
+        let signatures = read_signatures(alloc, signatures, limits)?;
+        let parts = read_parts(
+            alloc,
+            protected,
+            unprotected,
+            payload,
+            limits,
+            "bstr or nil",
+        )?;
+        Ok(CoseSign {
+            protected: parts.protected,
+            unprotected: parts.unprotected,
+            payload: parts.content,
+            signatures,
+        })
+    }
+}
+
 impl CborSerializable for CoseSign {}
 
 /// A COSE_Sign has tag 98 (RFC 9052, section 4.1).
@@ -72,28 +99,42 @@ impl TaggedCborSerializable for CoseSign {
     const TAG: u64 = 98;
 }
 
-fn read_signatures(alloc: Global, value: Value) -> Result<Vec<CoseSignature>, CoseError>
-    ensures { MatchResult result (λ v. IsSignatureList 256 (view value) (map signature_view v.items) 16) (λ e. OrMemory (WrongSignatureList 256 (view value) 16) e) }
+fn read_signatures(
+    alloc: Global,
+    value: Value,
+    limits: Limits,
+) -> Result<Vec<CoseSignature>, CoseError>
+    ensures { MatchResult result
+        (λ v. IsSignatureList (nesting_of limits) (view value) (map signature_view v.items) (layers_of limits))
+        (λ e. OrMemory (WrongSignatureList (nesting_of limits) (view value) (layers_of limits)) e) }
 {
     let items = value.try_as_array()?;
-    read_list(alloc, items)
+    read_list(alloc, items, limits)
 }
 
-fn read_list(alloc: Global, items: Vec<Value>) -> Result<Vec<CoseSignature>, CoseError>
-    ensures { MatchResult result (λ v. HasSignatures 256 (views items.items) (signatures_view v.items) 16) (λ e. OrMemory (HasNoSignature 256 (views items.items) 16) e) }
+fn read_list(
+    alloc: Global,
+    items: Vec<Value>,
+    limits: Limits,
+) -> Result<Vec<CoseSignature>, CoseError>
+    ensures { MatchResult result
+        (λ v. HasSignatures (nesting_of limits) (views items.items) (signatures_view v.items) (layers_of limits))
+        (λ e. OrMemory (HasNoSignature (nesting_of limits) (views items.items) (layers_of limits)) e) }
 {
     let mut signatures = Vec::new(alloc);
     'items: for item in items {
-        let signature = read_signature(alloc, item)?;
+        let signature = read_signature(alloc, item, limits)?;
         signatures.push(signature)?;
     }
     Ok(signatures)
 }
 
-fn read_signature(alloc: Global, value: Value) -> Result<CoseSignature, CoseError>
-    ensures { MatchResult result (λ s. HasSignature 256 (view value) (signature_view s) 16) (λ e. OrMemory (IsNoSignature 256 (view value) 16) e) }
+fn read_signature(alloc: Global, value: Value, limits: Limits) -> Result<CoseSignature, CoseError>
+    ensures { MatchResult result
+        (λ s. HasSignature (nesting_of limits) (view value) (signature_view s) (layers_of limits))
+        (λ e. OrMemory (IsNoSignature (nesting_of limits) (view value) (layers_of limits)) e) }
 {
-    match CoseSignature::from_cbor_value(alloc, value) {
+    match CoseSignature::from_cbor_value_with(alloc, value, limits) {
         Ok(signature) => Ok(signature),
         Err(error) => Err(hide(error)),
     }

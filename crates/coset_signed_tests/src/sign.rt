@@ -1,5 +1,5 @@
 //! Messages with several signatures. Expected bytes and texts are written out by hand.
-use crate::sign1::sign1_repeated;
+use crate::sign1::{LONG, sign1_repeated};
 use crate::tools::{
     MISMATCH, Message, Met, Row, UNFIT, echo, equal, es256, gives, is_asked_for, is_elsewhere,
     is_not_signed, is_verified, is_verified_elsewhere, never, repeated, same, tell, verifies,
@@ -232,9 +232,9 @@ fn a_repeated_label_is_not_signed(rt: HostRuntime) {
     is_not_signed(&rt, alloc, by_repeated(&rt, alloc).build());
 }
 
-/// A message while it is built, with the payload "hi" and a signature with no bytes.
+/// A message while it is built, with a payload of 300 bytes and a signature with no bytes.
 fn by_signer(alloc: Global) -> Result<CoseSignBuilder, CoseError> {
-    let payload = b"hi".to_vec(alloc)?;
+    let payload = LONG.to_vec(alloc)?;
     CoseSignBuilder::new(alloc)
         .payload(payload)
         .add_signature(signer(alloc))

@@ -167,9 +167,12 @@ fn a_payload_is_carried_elsewhere(rt: HostRuntime) {
     writes_untagged(&rt, alloc, built_elsewhere(&rt, alloc), "8440a0f64107");
 }
 
+/// A payload of 300 bytes, so that a signer which gives what it is handed gives more.
+pub(crate) const LONG: &[u8] = &[7; 300];
+
 /// Whether a message is built with a signer that gives what it is handed, and verified.
 pub(crate) fn sign1_is_verified(alloc: Global) -> Result<bool, Met> {
-    let payload = b"hi".to_vec(alloc)?;
+    let payload = LONG.to_vec(alloc)?;
     let builder = CoseSign1Builder::new(alloc).payload(payload);
     is_verified(alloc, signed(alloc, builder, b"aad"), 1, 0)
 }

@@ -1,6 +1,7 @@
 //! The structures that signatures, tags and encryptions cover, and how they begin (RFC 9052, sections 4.4, 5.3 and 6.3).
 #![tactic(auto)]
 
+mod alike;
 mod context;
 pub mod laws;
 mod prefix;

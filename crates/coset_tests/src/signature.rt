@@ -8,12 +8,17 @@ use std::process::Abort;
 
 /// Another signature than the one that is wanted.
 #[derive(Debug, Clone, Copy, PartialEq, Eq)]
-struct Mismatch;
+pub(crate) struct Mismatch;
 
-const AAD: &[u8] = b"this is additional data";
+/// The external data of the message.
+pub(crate) const AAD: &[u8] = b"this is additional data";
 
 /// Whether the signature is the data that it covers.
-fn verifies(alloc: Global, message: &CoseSign1, aad: &[u8]) -> Result<(), Fault<Mismatch>> {
+pub(crate) fn verifies(
+    alloc: Global,
+    message: &CoseSign1,
+    aad: &[u8],
+) -> Result<(), Fault<Mismatch>> {
     message.verify_signature(alloc, aad, |signature, data| {
         if signature == data {
             Ok(())
@@ -23,15 +28,15 @@ fn verifies(alloc: Global, message: &CoseSign1, aad: &[u8]) -> Result<(), Fault<
     })
 }
 
-/// A message with a signature, in bytes.
-fn sent(rt: &impl Abort, alloc: Global) -> Vec<u8> {
+/// A message with this payload and a signature, in bytes.
+pub(crate) fn sent(rt: &impl Abort, alloc: Global, payload: Vec<u8>) -> Vec<u8> {
     let protected = HeaderBuilder::new(alloc)
         .algorithm(iana::Algorithm::ES256)
         .key_id(b"11".to_vec(alloc).expect(rt, "memory"))
         .build();
     CoseSign1Builder::new(alloc)
         .protected(protected)
-        .payload(b"This is the content".to_vec(alloc).expect(rt, "memory"))
+        .payload(payload)
         .try_create_signature(alloc, AAD, |data| data.to_vec(alloc))
         .expect(rt, "a signature")
         .build()
@@ -58,7 +63,8 @@ fn is_signed(rt: &impl Abort, alloc: Global, message: &CoseSign1, aad: &[u8], is
 #[test]
 fn signature(rt: HostRuntime) {
     let alloc = rt.alloc();
-    let bytes = sent(&rt, alloc);
+    let payload = b"This is the content".to_vec(alloc).expect(&rt, "memory");
+    let bytes = sent(&rt, alloc, payload);
     let mut message = CoseSign1::from_slice(alloc, &bytes).expect(&rt, "a message");
     is_signed(&rt, alloc, &message, AAD, true);
 

@@ -1,7 +1,8 @@
-//! A token checker: claims as the payload of a signed message.
+//! A token checker: claims as the payload of the signed message of `signature`.
+use crate::signature::{AAD, Mismatch, sent, verifies};
 use coset::cbor::Value;
 use coset::cwt::{ClaimsSet, ClaimsSetBuilder, Timestamp};
-use coset::{CborSerializable, CoseSign1, CoseSign1Builder, Fault, HeaderBuilder, iana};
+use coset::{CborSerializable, CoseSign1, Fault};
 use std::alloc::Global;
 use std::process::Abort;
 
@@ -12,32 +13,12 @@ enum Refused {
     Issuer,
     /// Its time is over, or says nothing.
     Expired,
-    /// Its signature is not the issuer's.
+    /// Its signature is not the one of these external data.
     Signature,
     /// It carries no claims.
     NoClaims,
     /// What it carries is no claims.
     Claims,
-}
-
-/// Who issues tokens. The key stands for a real one: a signature is the byte that makes all bytes come out even.
-#[derive(Clone, Copy)]
-struct Issuer {
-    key: u8,
-}
-
-impl Issuer {
-    fn sign(&self, data: &[u8]) -> u8 {
-        let mut sum = self.key;
-        for byte in data {
-            sum ^= *byte;
-        }
-        sum
-    }
-
-    fn signed(&self, signature: &[u8], data: &[u8]) -> bool {
-        signature == [self.sign(data)].as_slice()
-    }
 }
 
 fn is_over(time: &Option<Timestamp>, now: i64) -> bool {
@@ -47,17 +28,14 @@ fn is_over(time: &Option<Timestamp>, now: i64) -> bool {
     }
 }
 
-/// The message that the issuer signed.
-fn opened(alloc: Global, token: &[u8], issuer: &Issuer) -> Result<CoseSign1, Fault<Refused>> {
+/// The message, where its signature is that of these external data.
+fn opened(alloc: Global, token: &[u8], aad: &[u8]) -> Result<CoseSign1, Fault<Refused>> {
     let message = CoseSign1::from_slice(alloc, token)?;
-    message.verify_signature(alloc, &[], move |signature, data| {
-        if issuer.signed(signature, data) {
-            Ok(())
-        } else {
-            Err(Refused::Signature)
-        }
-    })?;
-    Ok(message)
+    match verifies(alloc, &message, aad) {
+        Ok(()) => Ok(message),
+        Err(Fault::Caller(Mismatch)) => Err(Fault::Caller(Refused::Signature)),
+        Err(Fault::Cose(error)) => Err(Fault::Cose(error)),
+    }
 }
 
 /// The claims that a message carries.
@@ -90,15 +68,15 @@ fn taken(claims: ClaimsSet, name: &str, now: i64) -> Result<ClaimsSet, Refused> 
     Ok(claims)
 }
 
-/// The claims of a token that the issuer signed, and whose time is not over.
+/// The claims of a token that is signed under these external data, and whose time is not over.
 fn check_token(
     alloc: Global,
     token: &[u8],
-    issuer: &Issuer,
+    aad: &[u8],
     name: &str,
     now: i64,
 ) -> Result<ClaimsSet, Fault<Refused>> {
-    let message = opened(alloc, token, issuer)?;
+    let message = opened(alloc, token, aad)?;
     match carried(alloc, &message) {
         Ok(claims) => taken(claims, name, now).map_err(Fault::Caller),
         Err(refused) => Err(Fault::Caller(refused)),
@@ -129,64 +107,28 @@ fn written(rt: &impl Abort, alloc: Global) -> Vec<u8> {
     claims(rt, alloc).to_vec(alloc).expect(rt, "claims")
 }
 
-/// A token that carries the claims.
-fn token(rt: &impl Abort, alloc: Global, issuer: &Issuer) -> Vec<u8> {
-    let header = HeaderBuilder::new(alloc)
-        .algorithm(iana::Algorithm::ES256)
-        .build();
-    let mut message = CoseSign1Builder::new(alloc)
-        .protected(header)
-        .payload(written(rt, alloc))
-        .build();
-    let data = message.tbs_data(alloc, &[]).expect(rt, "a structure");
-    let signature = [issuer.sign(data.as_slice())];
-    message.signature = signature.to_vec(alloc).expect(rt, "memory");
-    message.to_vec(alloc).expect(rt, "a token")
-}
-
-/// The token is taken, or refused for this reason.
-fn is_checked(
+/// The token is refused for this reason.
+fn is_refused(
     rt: &impl Abort,
     alloc: Global,
-    token: &[u8],
-    issuer: &Issuer,
+    (token, aad): (&[u8], &[u8]),
     (name, now): (&str, i64),
-    want: Option<Refused>,
+    want: Refused,
 ) {
-    let fault = check_token(alloc, token, issuer, name, now).err();
-    assert_eq!(rt; fault, want.map(Fault::Caller), "{name} {now}");
+    let fault = check_token(alloc, token, aad, name, now).err();
+    assert_eq!(rt; fault, Some(Fault::Caller(want)), "{name} {now}");
 }
 
 #[test]
 fn cwt(rt: HostRuntime) {
     let alloc = rt.alloc();
-    let issuer = Issuer { key: 0x5a };
-    let token = token(&rt, alloc, &issuer);
-    let read = check_token(alloc, &token, &issuer, "aaa", 255);
+    let token = sent(&rt, alloc, written(&rt, alloc));
+    let read = check_token(alloc, &token, AAD, "aaa", 255);
     assert!(rt; read == Ok(claims(&rt, alloc)));
-    is_checked(
-        &rt,
-        alloc,
-        &token,
-        &issuer,
-        ("aaa", 256),
-        Some(Refused::Expired),
-    );
-    let other = Issuer { key: 0x5b };
-    is_checked(
-        &rt,
-        alloc,
-        &token,
-        &other,
-        ("aaa", 255),
-        Some(Refused::Signature),
-    );
-    is_checked(
-        &rt,
-        alloc,
-        &token,
-        &issuer,
-        ("bbb", 255),
-        Some(Refused::Issuer),
-    );
+    let signed = (token.as_slice(), AAD);
+    is_refused(&rt, alloc, signed, ("aaa", 256), Refused::Expired);
+    is_refused(&rt, alloc, signed, ("bbb", 255), Refused::Issuer);
+    let other: &[u8] = b"other data";
+    let unsigned = (token.as_slice(), other);
+    is_refused(&rt, alloc, unsigned, ("aaa", 255), Refused::Signature);
 }

@@ -1,8 +1,8 @@
-//! Readers and writers that fail.
+//! Readers and writers that fail, and a reader of std that gives one byte a call.
 use ciborium_ll::count::Count;
 use ciborium_ll::{Read, Write};
 use std::alloc::Global;
-use std::fmt;
+use std::{fmt, io};
 
 /// A device failed.
 #[derive(Debug, Clone, Copy, PartialEq, Eq, Drop)]
@@ -30,6 +30,11 @@ impl<'a> Source<'a> {
             more,
             failed: Count::new(),
         }
+    }
+
+    /// `FailAt`: gives so many of these bytes, or all where there are no more, and then fails whenever it is asked for more.
+    pub fn fail_at(bytes: &'a [u8], count: usize) -> Source<'a> {
+        Source::new(&bytes[..count.min(bytes.len())], &[])
     }
 }
 
@@ -110,6 +115,52 @@ impl Write for Sink {
     }
 }
 
+/// A writer that takes so many bytes and then fails: of data that is longer than what is left of them it takes the part that fits.
+#[derive(Drop)]
+pub struct FailAfter {
+    /// What was taken.
+    pub bytes: Vec<u8>,
+    left: usize,
+    failed: Count,
+}
+
+impl FailAfter {
+    /// Takes so many bytes.
+    pub fn new(alloc: Global, count: usize) -> FailAfter {
+        FailAfter {
+            bytes: Vec::new(alloc),
+            left: count,
+            failed: Count::new(),
+        }
+    }
+}
+
+impl Write for FailAfter {
+    ghost use Rattle.std.specs.Prelude.{Some};
+
+    type Error = Broken;
+
+    ghost written = { λ s. Some s.bytes.items };
+
+    ghost failed = { λ s. s.failed.total };
+
+    fn write_all(&mut self, data: &[u8]) -> Result<(), Broken> {
+        if data.len() <= self.left && self.bytes.extend_from_slice(data).is_ok() {
+            self.left -= data.len();
+            return Ok(());
+        }
+        let part = &data[..self.left.min(data.len())];
+        let _ = self.bytes.extend_from_slice(part);
+        self.left = 0;
+        self.failed = self.failed.and_one();
+        Err(Broken)
+    }
+
+    fn flush(&mut self) -> Result<(), Broken> {
+        Ok(())
+    }
+}
+
 /// A writer whose bytes are shown only when it is flushed. It flushes so many times, and then fails.
 #[derive(Drop)]
 pub struct Held {
@@ -157,5 +208,32 @@ impl Write for Held {
         self.flushes -= 1;
         self.shown = self.bytes.len();
         Ok(())
+    }
+}
+
+/// A reader of std that gives its bytes one by one, and then ends, or fails.
+#[derive(Drop)]
+pub struct OneByOne<'a> {
+    /// The bytes to come.
+    pub bytes: &'a [u8],
+    /// Whether it fails behind them.
+    pub is_broken: bool,
+}
+
+impl<'a> io::Read for OneByOne<'a> {
+    fn read(&mut self, buf: &mut [u8]) -> io::Result<usize> {
+        let all: &[u8] = self.bytes;
+        let Some((first, rest)) = all.split_first() else {
+            return match self.is_broken {
+                true => Err(io::Error::from(io::ErrorKind::Other)),
+                false => Ok(0),
+            };
+        };
+        let Some(place) = buf.first_mut() else {
+            return Ok(0);
+        };
+        *place = *first;
+        self.bytes = rest;
+        Ok(1)
     }
 }

@@ -45,4 +45,4 @@ pub returns-in_ok-whole-in-Some-clause-ok : goal.returns-in_ok-whole-in-Some-cla
 returns-in_ok-whole-in-Some-clause-ok g c =
     let same : c.saturating_sub-left.result ≡ c.args.limit - length c.args.below.now.items = omega (arith, c.len.ensures, c.saturating_sub-left.ensures, c.args.below.now.ok.0) in
     takes_then _ _ _ _ _ _ _ _ _ (rw (c.in-Leaf.is, c.in-Some.is) at c.in_ok-frame.ensures.ok) c.in_ok-value-in-Leaf.ensures.ok
-    (λ x y i s. tagged_leaf c.args.limit c.saturating_sub-left.result c.args.title.0 _ c.in-Leaf.at c.in-Some.n c.args.title.1 c.in-Leaf.header c.args.top.now c.args.below.now.items c.in_ok-value-in-Leaf.value c.in_ok-whole-in-Some.whole (Some c.in_ok-whole-in-Some.whole) c.args.exact.now c.opening.new.exact c.kept.new.exact x y same refl i c.in_ok-value-in-Leaf.ensures.bytes c.in_ok-whole-in-Some.ensures.ok c.in_ok-whole-in-Some.ensures.kept s)
+    (λ x y i s. tagged_leaf c.args.limit c.saturating_sub-left.result c.args.title.0 _ c.in-Leaf.at c.in-Some.n c.args.title.1 c.in-Leaf.header c.args.top.now c.args.below.now.items c.in_ok-value-in-Leaf.value c.in_ok-whole-in-Some.whole (Some c.in_ok-whole-in-Some.whole) c.args.exact.now c.opening.new.exact c.tag_value.new.exact x y same refl i c.in_ok-value-in-Leaf.ensures.bytes c.in_ok-whole-in-Some.ensures.ok c.in_ok-whole-in-Some.ensures.kept s)

@@ -1,5 +1,5 @@
-use Rattle.ciborium.proofs.Sequence.{encoding_item}
+use Rattle.ciborium.proofs.Sequence.{encoding_item_within}
 use Rattle.ciborium.proofs.laws.encodings_are_items.Goals as goal
 
 pub returns : goal.returns
-returns c = encoding_item
+returns c = encoding_item_within

@@ -1,7 +1,8 @@
-use Rattle.std.proofs.Common.{◌≡◌, ◌≢◌, None, drop, map}
+use Rattle.std.proofs.Common.{◌≡◌, drop, map}
 use Rattle.coset_headers.specs.View.{signature_view}
 use Rattle.coset_signed.specs.View.{sign_view}
-use Rattle.cose_gate_core.specs.Questions.{sign_questions, one_question}
+use Rattle.cose_gate_core.specs.Questions.{one_question}
+use Rattle.cose_gate_core.specs.Received.{AreReceived}
 use Rattle.cose_gate_core.proofs.InOrder.{Asking}
 use Rattle.cose_gate_core.proofs.asking.ask_sign.Given as goal
 
@@ -11,7 +12,7 @@ invariant-loop-index g l =
     let m = sign_view l.message in
     record {
       who : j.who l.judge ≡ j.who l.fn.judge;
-      covered : sign_questions m l.aad (map signature_view (drop l.index l.message.signatures.items)) ≢ None;
+      received : AreReceived (map signature_view (drop l.index l.message.signatures.items));
       asking : Asking j.decided (j.yes (j.who l.fn.judge)) (j.told l.fn.judge) (j.told l.judge)
           (map (one_question m l.aad) m.signatures) (map (one_question m l.aad) (map signature_view (drop l.index l.message.signatures.items))) l.index;
     }

@@ -4,6 +4,7 @@ use Rattle.std.proofs.lemmas.Iterator.Consumers.{YieldsList-turn}
 use Rattle.ciborium_value.specs.View.{views}
 use Rattle.coset_labels.proofs.Items.{match_map}
 use Rattle.coset_labels.proofs.Loops.{vec_yields, turned, moved}
+use Rattle.coset_labels.specs.Limits.{nesting_of, layers_of}
 use Rattle.coset_headers.specs.Weight.{weight_all}
 use Rattle.coset_headers.proofs.Weights.{weight_among}
 use Rattle.coset_recipients.proofs.Steps.{recipient_kind, recipient_count, recipient_inner, recipient_parts, recipient_has, list_kind, list_inside, recipients_pushed, recipients_at_fault, fourth_lighter, items_lighter}
@@ -58,11 +59,11 @@ read_items-items-preserved t c =
     let turn = turned c.args.items.items c.items.yielded c.in-Some.item c.items.invariant.front (YieldsList-turn (vec_yields c.into_iter-item-iterator.result c.args.items c.into_iter-item-iterator.ensures.into_iter_gives.0 c.into_iter-item-iterator.ensures.into_iter_gives.1) c.items.yielded c.items.item-iterator c.items.yielded_by c.next.result c.next.new.self c.in-Some.item c.in-Some.is c.next.ensures.steps) in
     record {
       front = moved _ c.items.yielded c.in-Some.item turn;
-      done = recipients_pushed 256 c.items.yielded c.in-Some.item _ _ c.in_ok-recipient.recipient 16 c.in_ok-push.ensures.items c.items.invariant.done c.in_ok-recipient.ensures;
+      done = recipients_pushed (nesting_of c.args.limits) c.items.yielded c.in-Some.item _ _ c.in_ok-recipient.recipient (layers_of c.args.limits) c.in_ok-push.ensures.items c.items.invariant.done c.in_ok-recipient.ensures;
     }
 
 pub read_items-returns-in_err-recipient : goal.read_items-returns-in_err-recipient
 read_items-returns-in_err-recipient t c =
     let p = err_from_is_err_and c.from_residual.result c.from_residual.ensures.1 in
     let turn = turned c.args.items.items c.items.yielded c.in-Some.item c.items.invariant.front (YieldsList-turn (vec_yields c.into_iter-item-iterator.result c.args.items c.into_iter-item-iterator.ensures.into_iter_gives.0 c.into_iter-item-iterator.ensures.into_iter_gives.1) c.items.yielded c.items.item-iterator c.items.yielded_by c.next.result c.next.new.self c.in-Some.item c.in-Some.is c.next.ensures.steps) in
-    rw (p.1, p.2) (recipients_at_fault 256 c.args.items.items c.items.yielded turn.0 c.in-Some.item _ _ turn.1 c.in_err-recipient.ensures)
+    rw (p.1, p.2) (recipients_at_fault (nesting_of c.args.limits) c.args.items.items c.items.yielded turn.0 c.in-Some.item _ _ turn.1 c.in_err-recipient.ensures)

@@ -1,6 +1,7 @@
 use Rattle.std.proofs.Common.{◌≡◌, ◌+◌, ◌*◌, List, ◌++◌, option_map}
 use Rattle.ciborium_value.specs.View.{view, views}
 use Rattle.ciborium_value.specs.declared.value.Value.{Value}
+use Rattle.coset_labels.specs.Limits.{nesting_of, layers_of}
 use Rattle.coset_headers.specs.Weight.{weight, weight_all}
 use Rattle.coset_recipients.specs.Shapes.{HasRecipients}
 use Rattle.coset_recipients.specs.View.{recipients_view}
@@ -22,5 +23,5 @@ decreases-read_items l = 3 * weight_all (views l.items.items) + 1
 abbrev pub invariant-read_items-items : goal.invariant-read_items-items
 invariant-read_items-items l = record {
   front : (after : List Value) × (l.fn.items.items ≡ l.yielded ++ after);
-  done : HasRecipients 256 (views l.yielded) (recipients_view l.recipients.items) 16;
+  done : HasRecipients (nesting_of l.fn.limits) (views l.yielded) (recipients_view l.recipients.items) (layers_of l.fn.limits);
 }

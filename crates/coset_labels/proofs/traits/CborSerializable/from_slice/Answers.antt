@@ -1,4 +1,5 @@
 use Rattle.std.proofs.lemmas.Result.{err_from_is_err_and}
+use Rattle.coset_labels.specs.Limits.{nesting}
 use Rattle.coset_labels.specs.Reading.{NotReadable, WrongItem, unreadable, inside}
 use Rattle.coset_labels.proofs.Items.{match_map, or_memory}
 use Rattle.coset_labels.proofs.traits.CborSerializable.from_slice.Goals as goal
@@ -6,7 +7,7 @@ use Rattle.coset_labels.proofs.traits.CborSerializable.from_slice.Goals as goal
 pub returns-in_err-value : goal.returns-in_err-value
 returns-in_err-value g c =
     let p = err_from_is_err_and c.from_residual.result c.from_residual.ensures.1 in
-    rw (p.1, p.2) (or_memory (NotReadable c.args.slice.now 256) (WrongItem g.Self.AsCborValue.wrong c.args.slice.now) _ (λ f x. unreadable x) c.in_err-value.ensures)
+    rw (p.1, p.2) (or_memory (NotReadable c.args.slice.now nesting) (WrongItem g.Self.AsCborValue.wrong c.args.slice.now) _ (λ f x. unreadable x) c.in_err-value.ensures)
 
 pub returns : goal.returns
 returns g c =

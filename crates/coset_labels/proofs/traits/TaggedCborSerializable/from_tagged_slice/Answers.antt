@@ -1,6 +1,7 @@
 use Rattle.std.proofs.Common.{inr, sym, ap, ◌∙◌}
 use Rattle.std.proofs.lemmas.Result.{err_from_is_err_and}
 use Rattle.ciborium_value.specs.View.{view}
+use Rattle.coset_labels.specs.Limits.{nesting}
 use Rattle.coset_labels.specs.Reading.{NotReadable, WrongItem, WrongTagged, unreadable}
 use Rattle.coset_labels.proofs.Items.{match_map, or_memory, tagged_has, tagged_wrong, tag_missing, tag_other}
 use Rattle.coset_labels.proofs.traits.TaggedCborSerializable.from_tagged_slice.Goals as goal
@@ -8,7 +9,7 @@ use Rattle.coset_labels.proofs.traits.TaggedCborSerializable.from_tagged_slice.G
 pub returns-in_err-value : goal.returns-in_err-value
 returns-in_err-value g c =
     let p = err_from_is_err_and c.from_residual.result c.from_residual.ensures.1 in
-    rw (p.1, p.2) (or_memory (NotReadable c.args.slice.now 256) (WrongItem (WrongTagged g.Self.TaggedCborSerializable.TAG g.Self.AsCborValue.wrong) c.args.slice.now) _ (λ f x. unreadable x) c.in_err-value.ensures)
+    rw (p.1, p.2) (or_memory (NotReadable c.args.slice.now nesting) (WrongItem (WrongTagged g.Self.TaggedCborSerializable.TAG g.Self.AsCborValue.wrong) c.args.slice.now) _ (λ f x. unreadable x) c.in_err-value.ensures)
 
 pub returns-in_err-tag : goal.returns-in_err-tag
 returns-in_err-tag g c =

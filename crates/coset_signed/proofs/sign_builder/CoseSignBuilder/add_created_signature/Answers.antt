@@ -1,7 +1,11 @@
+use Rattle.std.proofs.Common.{◌≡◌, Some, sym, subst, ap, ◌∙◌}
+use Rattle.coset_headers.specs.View.{signature_view}
+use Rattle.coset_signed.specs.Added.{AddsWhere}
+use Rattle.coset_signed.specs.Fields.{signed_by, also_signed}
 use Rattle.coset_signed.specs.View.{sign_built}
-use Rattle.coset_signed.proofs.Adding.{adds}
 use Rattle.coset_signed.proofs.sign_builder.CoseSignBuilder.add_created_signature.Goals as goal
 
 pub returns : goal.returns
 returns g c =
-    adds g.S.FnOnce c.args.signer _ c.in_ok-data.data.items c.signer-made.result _ _ _ _ sign_built _ c.in_ok-data.ensures (c.as_slice.result, c.signer-made.ensures, c.as_slice.ensures.value) c.in_ok-builder.ensures c.signed_by.ensures c.add_signature.ensures
+    subst (λ o. AddsWhere g.S.FnOnce c.args.signer o (λ v b. sign_built b ≡ also_signed (sign_built c.args.self) (signed_by (signature_view c.args.signature) v.items)) c.add_made.result)
+    (ap Some c.as_slice.ensures.value ∙ sym c.in_ok-data.ensures) c.add_made.ensures

@@ -1,10 +1,11 @@
+use Rattle.std.proofs.Common.{◌≡◌, Some, sym, subst, ap, ◌∙◌}
+use Rattle.coset_headers.specs.View.{signature_view}
+use Rattle.coset_signed.specs.Added.{TriesToAddWhere}
+use Rattle.coset_signed.specs.Fields.{signed_by, also_signed}
 use Rattle.coset_signed.specs.View.{sign_built}
-use Rattle.coset_signed.proofs.Adding.{added, refused}
 use Rattle.coset_signed.proofs.sign_builder.CoseSignBuilder.try_add_detached_signature.Goals as goal
 
-pub returns-in_ok-add_signature-in-Ok : goal.returns-in_ok-add_signature-in-Ok
-returns-in_ok-add_signature-in-Ok g c =
-    added g.S.FnOnce c.args.signer _ c.in_ok-data.data.items c.in-Ok.made _ _ _ _ sign_built c.in_ok-add_signature-in-Ok.field-0 c.in_ok-data.ensures (c.as_slice.result, c.in-Ok.ensures, c.as_slice.ensures.value) c.in_ok-builder.ensures c.signed_by.ensures c.in_ok-add_signature-in-Ok.ensures
-
-pub returns-in-Err : goal.returns-in-Err
-returns-in-Err g c = refused g.S.FnOnce c.args.signer _ c.in_ok-data.data.items c.in-Err.error c.in_ok-data.ensures (c.as_slice.result, c.in-Err.ensures, c.as_slice.ensures.value)
+pub returns : goal.returns
+returns g c =
+    subst (λ o. TriesToAddWhere g.S.FnOnce c.args.signer o (λ v b. sign_built b ≡ also_signed (sign_built c.args.self) (signed_by (signature_view c.args.signature) v.items)) c.try_add_made.result)
+    (ap Some c.as_slice.ensures.value ∙ sym c.in_ok-data.ensures) c.try_add_made.ensures

@@ -1,0 +1,90 @@
+-- A message's item is the text that is written for it exactly where it is spelled as its value is, and its value is the one that is written.
+use Rattle.std.proofs.Common.{◌≡◌, ◌^◌, ◌<◌, ◌⊎◌, inl, inr, ℕ, List, Bool, true, false, cond, Option, Some, None, option_map, refl, sym, ap, subst, ◌∙◌, nat_eq, arith}
+use Rattle.std.specs.Prelude.{MatchBool}
+use Rattle.std.specs.Ordering.{nat_cmp}
+use Rattle.std.specs.Cmp.{Equal-is}
+use Rattle.std.specs.Cmp.Lexicographic.{nat_list_eq_equiv, pointwise, slice_cmp, texts_ties}
+use Rattle.std.specs.FinMap.{nat_cmp-IsAntisymmetric, slice_cmp-IsAntisymmetric}
+use Rattle.ciborium_value.specs.Tree.{Tree, tag}
+use Rattle.ciborium_value.specs.Encoding.{enc, Fits}
+use Rattle.ciborium.specs.Front.{Reads}
+use Rattle.coset_headers.proofs.Entered.{bool_cases}
+use Rattle.coset_headers.proofs.Sound.{reads_sound, sound_reads}
+use Rattle.coset_headers.proofs.Unique.{readable_once}
+use Rattle.cose_gate_core.specs.Questions.{MessageFields, sign1, mac0, sign, mac, tag_of, message_tree, message_text, or_nothing}
+use Rattle.cose_gate_core.specs.Findings.{Limits, HasMessage, excluded_by}
+use Rattle.cose_gate_core.specs.declared.report.Refusal.TheVariants as refusal
+use Rattle.cose_gate_core.proofs.MessageKept.{tag_rewrite}
+use Rattle.cose_gate_core.proofs.Rewritten.{message_again}
+use Rattle.cose_gate_core.proofs.Written.{has_tree}
+
+pub same_text : (x y : List ℕ) → pointwise nat_eq x y ≡ true → x ≡ y
+same_text x y e =
+    slice_cmp-IsAntisymmetric nat_cmp-IsAntisymmetric x y ((Equal-is (slice_cmp nat_cmp x y)).0 (sym (texts_ties x y) ∙ e))
+
+pub text_same : (x y : List ℕ) → x ≡ y → pointwise nat_eq x y ≡ true
+text_same x y e = ap (λ z. pointwise nat_eq z y) e ∙ nat_list_eq_equiv.refl y
+
+-- the text of a message that is written as this tree
+text_is : (m : MessageFields) (v : Tree) → message_tree m ≡ Some v → message_text m ≡ enc (tag (tag_of m) v)
+text_is m v e = ap (λ o. or_nothing (option_map enc (option_map (λ t. tag (tag_of m) t) o))) e
+
+tag_small : (m : MessageFields) → tag_of m < 2 ^ 64
+tag_small (sign1 m) = omega arith
+tag_small (mac0 m) = omega arith
+tag_small (sign m) = omega arith
+tag_small (mac m) = omega arith
+
+tree_there : (o : Option Tree) → (o ≡ None → ⊥) → (v : Tree) × (o ≡ Some v)
+tree_there None n = absurd (n refl)
+tree_there (Some v) n = (v, refl)
+
+same_body : (n : ℕ) (u v : Tree) → tag n u ≡ tag n v → u ≡ v
+same_body n u v e = cc
+
+-- an item that is the text of its message is spelled as its value is, and has the value that is written
+module _ (l : Limits) (n : ℕ) (b : List ℕ) (u : Tree) (m : MessageFields) (has : HasMessage l u m) (reads : Reads b n (tag (tag_of m) u)) (fits : Fits u) where
+  exact_text : b ≡ message_text m → (b ≡ enc (tag (tag_of m) u)) × (message_tree m ≡ Some u)
+  exact_text e =
+      let v = tree_there (message_tree m) (has_tree l u m has) in
+      let t = tag (tag_of m) u in
+      let w = tag (tag_of m) v.0 in
+      let a = message_again l m u v.0 has v.1 in
+      let r = tag_rewrite (λ q. HasMessage l q m) (tag_of m) u v.0 a in
+      let there : Reads (enc w) n w = sound_reads n w (r.kept.fits (tag_small m, fits)) (r.sound n (reads_sound b n t reads)) in
+      let is : b ≡ enc w = e ∙ text_is m v.0 v.1 in
+      let again : Reads b n w = subst (λ (z : List ℕ). Reads z n w) (sym is) there in
+      let one : t ≡ w = readable_once n b t w reads again in
+      let body : u ≡ v.0 = same_body (tag_of m) u v.0 one in
+      (is ∙ ap enc (sym one), v.1 ∙ ap Some (sym body))
+
+-- what a gate tells of a message
+module _ (l : Limits) (n : ℕ) (b : List ℕ) (u : Tree) (m : MessageFields) where
+  abbrev Told : Bool → Bool → Bool → Type 0
+  Told strict exact through = MatchBool through (strict ≡ true → (exact ≡ true) × (message_tree m ≡ Some u))
+      ((strict ≡ true) × Fits u × (exact ≡ true → message_tree m ≡ Some u → ⊥))
+
+  abbrev Exact : Bool → Type 0
+  Exact exact = MatchBool exact (b ≡ enc (tag (tag_of m) u)) (b ≡ enc (tag (tag_of m) u) → ⊥)
+
+  let_through : b ≡ message_text m → excluded_by true b m ≡ None
+  let_through e = ap (λ c. cond c None (Some refusal.NotShortest)) (text_same b (message_text m) e)
+
+  held_back : (b ≡ message_text m → ⊥) → excluded_by true b m ≡ Some refusal.NotShortest
+  held_back other = by_case (bool_cases (pointwise nat_eq b (message_text m)))
+    where
+      by_case : (pointwise nat_eq b (message_text m) ≡ true) ⊎ (pointwise nat_eq b (message_text m) ≡ false) → excluded_by true b m ≡ Some refusal.NotShortest
+      by_case (inl t) = absurd (other (same_text b (message_text m) t))
+      by_case (inr f) = ap (λ c. cond c None (Some refusal.NotShortest)) f
+
+  not_text : (exact : Bool) → HasMessage l u m → Reads b n (tag (tag_of m) u) → Fits u → Exact exact → (exact ≡ true → message_tree m ≡ Some u → ⊥) → b ≡ message_text m → ⊥
+  not_text true has reads fits x differs e = differs refl (exact_text l n b u m has reads fits e).1
+  not_text false has reads fits x differs e = x (exact_text l n b u m has reads fits e).0
+
+  pub told_of : (strict exact through : Bool) → HasMessage l u m → Reads b n (tag (tag_of m) u) → (strict ≡ true → Exact exact) → Told strict exact through
+      → MatchBool through (excluded_by strict b m ≡ None) (excluded_by strict b m ≡ Some refusal.NotShortest)
+  told_of false exact true has reads x t = refl
+  told_of false exact false has reads x (q, f, differs) = let h : false ≡ true = q in cc
+  told_of true true true has reads x t = let_through (x refl ∙ sym (text_is m u (t refl).1))
+  told_of true false true has reads x t = let h : false ≡ true = (t refl).0 in cc
+  told_of true exact false has reads x (q, f, differs) = held_back (not_text exact has reads f (x refl) differs)

@@ -1,0 +1,20 @@
+-- What a gate goes by.
+use Rattle.std.specs.Prelude.{◌≡◌, ℕ, List, Bool, true, MatchBool}
+use Rattle.ciborium_value.specs.Tree.{Tree}
+use Rattle.ciborium_value.specs.Encoding.{enc}
+use Rattle.ciborium.specs.Front.{Reads}
+use Rattle.coset_labels.specs.Limits.{nesting_of, layers_of}
+use Rattle.coset_labels.specs.declared.limits.Limits.{Limits as Chosen}
+use Rattle.cose_gate_core.specs.Findings.{Limits, excluded_by}
+use Rattle.cose_gate_core.specs.declared.terms.Terms.{Terms}
+
+-- the limits that a caller chose, with the further rule of a gate
+abbrev pub limits_by : Chosen → Bool → Limits
+limits_by chosen strict = record { nesting = nesting_of chosen; layers = layers_of chosen; excludes = λ bytes m. excluded_by strict bytes m }
+
+abbrev pub limits_of : Terms → Limits
+limits_of terms = limits_by terms.limits terms.strict
+
+-- an item was read of these bytes, and where it is asked it is told whether they are the one encoding of its value
+abbrev pub IsTaken : Terms → List ℕ → Tree → Bool → Type 0
+IsTaken terms b t exact = Reads b (nesting_of terms.limits) t × (terms.strict ≡ true → MatchBool exact (b ≡ enc t) (b ≡ enc t → ⊥))
