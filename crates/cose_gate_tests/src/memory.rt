@@ -125,18 +125,19 @@ fn is_refused(rt: &impl Abort, alloc: Global, calls: (usize, usize), want: (usiz
     is_front(rt, seen.recorder.asked(), &seen.output, &seen.entries);
 }
 
-/// How many calls of the judge and of the report come before memory is refused, and how far the run comes. Each message begins and feeds one
-/// question.
-const REFUSALS: [((usize, usize), (usize, usize, usize)); 9] = [
+/// How many calls of the judge and of the report come before memory is refused, and how far the run comes. A question takes eight calls of
+/// the judge: it begins, and is fed the prefix, and of three byte strings the title and the bytes.
+const REFUSALS: [((usize, usize), (usize, usize, usize)); 10] = [
     ((0, 3), (0, 0, 0)),
     ((1, 3), (0, 0, 0)),
-    ((2, 3), (1, 14, 2)),
-    ((3, 3), (1, 14, 2)),
-    ((4, 3), (2, 28, 3)),
-    ((4, 0), (1, 14, 0)),
-    ((4, 1), (1, 14, 1)),
-    ((4, 2), (2, 28, 2)),
-    ((4, 3), (2, 28, 3)),
+    ((7, 3), (0, 0, 0)),
+    ((8, 3), (1, 14, 2)),
+    ((15, 3), (1, 14, 2)),
+    ((16, 0), (1, 14, 0)),
+    ((16, 1), (1, 14, 1)),
+    ((16, 2), (2, 28, 2)),
+    ((16, 3), (2, 28, 3)),
+    ((17, 3), (2, 28, 3)),
 ];
 
 #[test]
@@ -176,11 +177,11 @@ fn is_left(rt: &impl Abort, alloc: Global, calls: usize, asked: usize) {
     }
 }
 
-/// Each signature begins and feeds one question. Where memory is refused to the judge, the questions before were asked, and nothing is
-/// written.
+/// A question about a signature takes ten calls of the judge: it begins, and is fed the prefix, and of four byte strings the title and the
+/// bytes. Where memory is refused to the judge, the questions before were asked, and nothing is written.
 #[test]
 fn memory_may_be_refused_between_signatures(rt: HostRuntime) {
-    for (calls, asked) in [(0, 0), (1, 0), (2, 1), (3, 1)] {
+    for (calls, asked) in [(0, 0), (1, 0), (9, 0), (10, 1), (19, 1)] {
         is_left(&rt, rt.alloc(), calls, asked);
     }
 }
