@@ -1,7 +1,4 @@
-pub mod Again
 pub mod Equal
 pub mod Fit
-pub mod Sound
-pub mod Steps
+pub mod Kept
 pub mod Unique
-pub mod Writable

@@ -1,9 +1,6 @@
-pub mod Again
 pub mod Equal
 pub mod Fit
-pub mod Sound
+pub mod Kept
 pub mod Standing
 pub mod Stands
-pub mod Steps
 pub mod Unique
-pub mod Writable

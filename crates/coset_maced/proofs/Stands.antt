@@ -1,13 +1,14 @@
 -- An authenticated message that was read is as written exactly where the test on its value says so.
-use Rattle.std.proofs.Common.{◌≡◌, ℕ, [], ◌∷◌, ◌++◌, true, Some, option_map, option_and_then, sym, ap, subst, ◌∙◌}
+use Rattle.std.proofs.Common.{◌≡◌, ℕ, List, [], ◌∷◌, true, Option, None, Some, option_map, refl, sym, ap, subst, ◌∙◌}
 use Rattle.std.specs.Prelude.{◌&&◌, Decides}
 use Rattle.ciborium_value.specs.Tree.{Tree, bytes, array, Trees}
 use Rattle.ciborium_value.specs.View.{trees}
+use Rattle.coset_labels.specs.Arrays.{all_written}
 use Rattle.coset_headers.specs.AsWritten.{header_stands, signature_stands}
-use Rattle.coset_headers.proofs.Stands.{and_left, and_right, both_true}
-use Rattle.coset_parts.specs.Written.{parts_trees}
-use Rattle.coset_parts.proofs.Again.{map_made, and_made}
-use Rattle.coset_parts.proofs.Stands.{parts_stand, parts_are}
+use Rattle.coset_parts.specs.Written.{whole_tree}
+use Rattle.coset_parts.proofs.Again.{map_made}
+use Rattle.coset_parts.proofs.Once.{one_held, two_held}
+use Rattle.coset_parts.proofs.Stands.{and_true, whole_stands}
 use Rattle.coset_recipients.specs.Fields.{RecipientsFields}
 use Rattle.coset_recipients.specs.Shapes.{HasList}
 use Rattle.coset_recipients.specs.Written.{recipients_trees, list_tree}
@@ -17,24 +18,18 @@ use Rattle.coset_maced.specs.Fields.{Mac0Fields, MacFields}
 use Rattle.coset_maced.specs.Shapes.{HasMac0, HasMac}
 use Rattle.coset_maced.specs.Written.{mac0_tree, mac_tree}
 
-second_same : (w x y z : Tree) → w ∷ x ∷ [] ≡ y ∷ z ∷ [] → x ≡ z
-second_same w x y z e = cc
-
-inside_same : (us vs : Trees) → array us ≡ array vs → us ≡ vs
-inside_same us vs e = cc
-
 -- ---- without recipients
 pub mac0_by : (n : ℕ) (m : Mac0Fields) (t : Tree) (k : ℕ) → HasMac0 n t m k → Decides (signature_stands t) (mac0_tree m ≡ Some t)
 mac0_by n m t k h =
-    let d = parts_stand n h.first h.second h.third m.protected m.unprotected m.payload k h.parts in (
-      λ e. ap (option_map (λ parts. array (trees (parts ++ bytes m.tag ∷ [])))) (d.0 (sym (ap signature_stands h.is) ∙ e)) ∙ ap Some (sym h.is),
-      λ e.
-          let w = map_made (λ parts. array (trees (parts ++ bytes m.tag ∷ []))) (parts_trees m.protected m.unprotected m.payload) t e in
-          let v = parts_are m.protected m.unprotected m.payload w.0 (bytes m.tag ∷ []) h.first h.second h.third (bytes m.tag ∷ []) w.1 (w.2 ∙ h.is) in
-          ap signature_stands h.is ∙ d.1 v.0,
-    )
+    let w = one_held _ h.lasts h.hold in
+    subst (λ b. Decides b (mac0_tree m ≡ Some t)) (and_true (header_stands h.second) ∙ sym (ap signature_stands h.is))
+    (whole_stands n t m.protected m.unprotected m.payload _ (Some (bytes m.tag) ∷ []) k h true
+    (λ e. ap Some (sym (w.1 ∙ ap (λ d. d ∷ []) w.2)), λ e. refl))
 
 -- ---- with recipients
+inside_same : (us vs : Trees) → array us ≡ array vs → us ≡ vs
+inside_same us vs e = cc
+
 list_by : (n : ℕ) (rs : RecipientsFields) (t : Tree) (k : ℕ) → HasList n t rs k → Decides (list_stands t) (list_tree rs ≡ Some t)
 list_by n rs t k (us, e, h) =
     let d = recipients_by n rs us k h in
@@ -45,18 +40,21 @@ list_by n rs t k (us, e, h) =
           d.1 (w.1 ∙ ap Some (inside_same w.0 us w.2)),
     )
 
+second_same : (w x y z : Tree) → w ∷ x ∷ [] ≡ y ∷ z ∷ [] → x ≡ z
+second_same w x y z e = cc
+
 pub mac_by : (n : ℕ) (m : MacFields) (t : Tree) (k : ℕ) → HasMac n t m k → Decides (mac_stands t) (mac_tree m ≡ Some t)
 mac_by n m t k h =
-    let d = parts_stand n h.first h.second h.third m.protected m.unprotected m.payload k h.parts in
-    let l = list_by n m.recipients h.fifth k h.recipients in
-    let test : mac_stands t ≡ (header_stands h.second && list_stands h.fifth) = ap mac_stands h.is in (
-      λ e.
-          let b : (header_stands h.second && list_stands h.fifth) ≡ true = sym test ∙ e in
-          ap (option_and_then (λ parts. option_map (λ t. array (trees (parts ++ bytes m.tag ∷ t ∷ []))) (list_tree m.recipients))) (d.0 (and_left (header_stands h.second) (list_stands h.fifth) b))
-          ∙ ap (option_map (λ t. array (trees (h.first ∷ h.second ∷ h.third ∷ bytes m.tag ∷ t ∷ [])))) (l.0 (and_right (header_stands h.second) (list_stands h.fifth) b)) ∙ ap Some (sym h.is),
-      λ e.
-          let w = and_made (λ parts. option_map (λ t. array (trees (parts ++ bytes m.tag ∷ t ∷ []))) (list_tree m.recipients)) (parts_trees m.protected m.unprotected m.payload) t e in
-          let v = map_made (λ t. array (trees (w.0 ++ bytes m.tag ∷ t ∷ []))) (list_tree m.recipients) t w.2 in
-          let q = parts_are m.protected m.unprotected m.payload w.0 (bytes m.tag ∷ v.0 ∷ []) h.first h.second h.third (bytes m.tag ∷ h.fifth ∷ []) w.1 (v.2 ∙ h.is) in
-          test ∙ both_true (header_stands h.second) (list_stands h.fifth) (d.1 q.0) (l.1 (v.1 ∙ ap Some (second_same _ _ _ _ q.1))),
-    )
+    let w = two_held _ _ h.lasts h.hold in
+    let l = list_by n m.recipients w.1 k w.4 in
+    let lasts : h.lasts ≡ bytes m.tag ∷ w.1 ∷ [] = w.2 ∙ ap (λ d. d ∷ w.1 ∷ []) w.3 in
+    let test : mac_stands t ≡ (header_stands h.second && list_stands w.1) = ap mac_stands (h.is ∙ ap (λ ls. array (trees (h.first ∷ h.second ∷ h.third ∷ ls))) w.2) in
+    subst (λ b. Decides b (mac_tree m ≡ Some t)) (sym test)
+    (whole_stands n t m.protected m.unprotected m.payload _ (Some (bytes m.tag) ∷ list_tree m.recipients ∷ []) k h (list_stands w.1) (
+      λ e. ap (λ o. all_written (λ q. q) (Some (bytes m.tag) ∷ o ∷ [])) (l.0 e) ∙ ap Some (sym lasts),
+      λ e. let v = last_made m.tag (list_tree m.recipients) h.lasts e in l.1 (v.1 ∙ ap Some (second_same _ _ _ _ (v.2 ∙ lasts))),
+    ))
+  where
+    last_made : (b : List ℕ) (o : Option Tree) (ts : List Tree) → all_written (λ q. q) (Some (bytes b) ∷ o ∷ []) ≡ Some ts → (x : Tree) × (o ≡ Some x) × (bytes b ∷ x ∷ [] ≡ ts)
+    last_made b None ts e = let f : None ≡ Some ts = e in absurd (let g : ⊥ = cc in g)
+    last_made b (Some x) ts e = let f : Some (bytes b ∷ x ∷ []) ≡ Some ts = e in let g : bytes b ∷ x ∷ [] ≡ ts = cc in (x, refl, g)

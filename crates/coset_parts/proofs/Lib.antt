@@ -1,6 +1,10 @@
 pub mod Again
 pub mod Equal
 pub mod Fit
+pub mod Kept
+pub mod Once
 pub mod Read
 pub mod Sound
 pub mod Stands
+pub mod Steps
+pub mod Writable

@@ -1,27 +1,14 @@
 -- A value with a fault has the fields of no recipient.
 use Rattle.std.proofs.Common.{◌≡◌, ◌≢◌, ℕ, inl, inr, List, [], ◌∷◌, ◌++◌, true, false, Option, Some, None, sym, ap, subst, ◌∙◌}
-use Rattle.ciborium_value.specs.Tree.{Tree, array, simple, Trees, no_trees, one_more, tree_count, is_bytes}
+use Rattle.ciborium_value.specs.Tree.{Tree, array, Trees, no_trees, one_more, tree_count}
 use Rattle.ciborium_value.specs.View.{trees}
 use Rattle.coset_labels.specs.Faults.{CoseFault}
 use Rattle.coset_labels.specs.Kinds.{is_array}
-use Rattle.coset_headers.specs.Fields.{HeaderFields, ProtectedFields}
-use Rattle.coset_headers.proofs.Excludes.{header_not, prot_not}
-use Rattle.coset_parts.specs.Shapes.{HasParts}
-use Rattle.coset_parts.specs.Written.{optional_tree}
-use Rattle.coset_parts.specs.Wrong.{WrongParts, in_protected, in_unprotected, in_content}
+use Rattle.coset_parts.proofs.Once.{parts_moved, parts_not}
 use Rattle.coset_recipients.specs.Fields.{RecipientFields, recipient, RecipientsFields, no_recipients, recipient_more}
 use Rattle.coset_recipients.specs.Shapes.{three_or_four, HasRecipient, HasRecipients, HasInner, HasList}
 use Rattle.coset_recipients.specs.Wrong.{WrongRecipient, no_array, not_three_or_four, in_parts, in_fourth, WrongList, no_list, in_list}
-use Rattle.coset_recipients.proofs.Unique.{parts_moved, four_same}
-
-content_not : (z : Tree) (c : Option (List ℕ)) → is_bytes z ≡ false → z ≢ simple 22 → z ≡ optional_tree c → ⊥
-content_not z None f g e = g e
-content_not z (Some b) f g e = let d : true ≡ false = sym (ap is_bytes e) ∙ f in cc
-
-pub parts_not : (n : ℕ) (x y z : Tree) (k : ℕ) (e : CoseFault) → WrongParts n x y z k e → (p : ProtectedFields) (u : HeaderFields) (c : Option (List ℕ)) → HasParts n x y z p u c k → ⊥
-parts_not n x y z k e (in_protected _ w) p u c h = prot_not n x k e w p h.protected
-parts_not n x y z k e (in_unprotected _ w) p u c h = header_not n y k e w u h.unprotected
-parts_not n x y z k e (in_content f g) p u c h = content_not z c f g h.content
+use Rattle.coset_recipients.proofs.Unique.{four_same}
 
 counts : (ts : Trees) (x y z : Tree) (o : Option Tree) → tree_count ts ≢ 3 → tree_count ts ≢ 4 → ts ≡ three_or_four x y z o → ⊥
 counts ts x y z None n m e = n (ap tree_count e)

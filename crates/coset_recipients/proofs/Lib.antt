@@ -2,6 +2,7 @@ pub mod Again
 pub mod Equal
 pub mod Excludes
 pub mod Fit
+pub mod Kept
 pub mod Parts
 pub mod Sound
 pub mod Standing

@@ -1,30 +1,10 @@
 -- One value has the fields of at most one recipient.
-use Rattle.std.proofs.Common.{◌≡◌, ℕ, inl, inr, List, Option, Some, None, refl, sym, ap, subst, ◌∙◌}
-use Rattle.ciborium_value.specs.Tree.{Tree, bytes, simple, array, Trees, no_trees, one_more}
+use Rattle.std.proofs.Common.{◌≡◌, ℕ, inl, inr, Option, Some, None, refl, sym, ap, subst, ◌∙◌}
+use Rattle.ciborium_value.specs.Tree.{Tree, array, Trees, no_trees, one_more}
 use Rattle.ciborium_value.specs.View.{trees}
-use Rattle.coset_headers.specs.Fields.{HeaderFields, ProtectedFields}
-use Rattle.coset_headers.proofs.Unique.{hdr_once, prot_once}
-use Rattle.coset_parts.specs.Shapes.{HasParts}
-use Rattle.coset_parts.specs.Written.{optional_tree}
+use Rattle.coset_parts.proofs.Once.{parts_once, parts_moved}
 use Rattle.coset_recipients.specs.Fields.{RecipientFields, recipient, RecipientsFields, no_recipients, recipient_more}
 use Rattle.coset_recipients.specs.Shapes.{optional_list, three_or_four, HasRecipient, HasRecipients, HasInner, HasList}
-
--- ---- the three parts
-optional_once : (c d : Option (List ℕ)) → optional_tree c ≡ optional_tree d → c ≡ d
-optional_once None None e = refl
-optional_once None (Some b) e = let h : simple 22 ≡ bytes b = e in cc
-optional_once (Some a) None e = let h : bytes a ≡ simple 22 = e in cc
-optional_once (Some a) (Some b) e =
-    let h : bytes a ≡ bytes b = e in
-    let s : a ≡ b = cc in
-    ap Some s
-
-pub parts_once : (n : ℕ) (x y z : Tree) (p q : ProtectedFields) (u v : HeaderFields) (c d : Option (List ℕ)) (k : ℕ) → HasParts n x y z p u c k → HasParts n x y z q v d k → (p ≡ q) × (u ≡ v) × (c ≡ d)
-parts_once n x y z p q u v c d k a b = (prot_once n p q x k a.protected b.protected, hdr_once n u v y k a.unprotected b.unprotected, optional_once c d (sym a.content ∙ b.content))
-
-pub parts_moved : (n : ℕ) (x y z a b d : Tree) (p : ProtectedFields) (u : HeaderFields) (c : Option (List ℕ)) (k : ℕ) → x ≡ a → y ≡ b → z ≡ d → HasParts n a b d p u c k → HasParts n x y z p u c k
-parts_moved n x y z a b d p u c k e f g h =
-    subst (λ s. HasParts n s y z p u c k) (sym e) (subst (λ s. HasParts n a s z p u c k) (sym f) (subst (λ s. HasParts n a b s p u c k) (sym g) h))
 
 -- ---- arrays of three or four
 optional_same : (o m : Option Tree) → trees (optional_list o) ≡ trees (optional_list m) → o ≡ m

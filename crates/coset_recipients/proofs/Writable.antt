@@ -1,22 +1,16 @@
 -- What was read can be written.
-use Rattle.std.proofs.Common.{◌≢◌, ℕ, inl, inr, List, ◌∷◌, [], Option, None, sym, subst}
-use Rattle.ciborium_value.specs.Tree.{Tree, bytes, array, Trees, no_trees, one_more}
+use Rattle.std.proofs.Common.{◌≢◌, ℕ, inl, inr, List, Option, None, sym, subst}
+use Rattle.ciborium_value.specs.Tree.{Tree, array, Trees, no_trees, one_more}
 use Rattle.coset_structures.specs.Contexts.{encryption_text}
-use Rattle.coset_headers.specs.Fields.{HeaderFields, ProtectedFields}
-use Rattle.coset_headers.specs.Written.{header_tree, shown}
 use Rattle.coset_structures.specs.declared.context.EncryptionContext.{EncryptionContext}
-use Rattle.coset_headers.proofs.Writable.{some_is, map_some, and_some, hdr_some, prot_some}
+use Rattle.coset_headers.proofs.Writable.{some_is, map_some, and_some, prot_some}
 use Rattle.coset_structures.proofs.Writable.{enc_data_some}
-use Rattle.coset_parts.specs.Shapes.{HasParts}
-use Rattle.coset_parts.specs.Written.{optional_tree, parts_trees}
+use Rattle.coset_parts.specs.Written.{parts_trees}
+use Rattle.coset_parts.proofs.Writable.{parts_some}
 use Rattle.coset_recipients.specs.Fields.{RecipientFields, recipient, RecipientsFields, no_recipients, recipient_more}
 use Rattle.coset_recipients.specs.Shapes.{HasRecipient, HasRecipients, HasInner, HasList}
 use Rattle.coset_recipients.specs.Structure.{recipient_structure}
 use Rattle.coset_recipients.specs.Written.{whole, recipient_tree, recipients_trees, list_tree}
-
-pub parts_some : (n : ℕ) (x y z : Tree) (p : ProtectedFields) (u : HeaderFields) (c : Option (List ℕ)) (k : ℕ) → HasParts n x y z p u c k → parts_trees p u c ≢ None
-parts_some n x y z p u c k h =
-    and_some _ (shown p) (prot_some n p x k h.protected) (λ b. map_some (λ t. bytes b ∷ t ∷ optional_tree c ∷ []) (header_tree u) (hdr_some n u y k h.unprotected))
 
 pub inner_some : (n : ℕ) (rs : RecipientsFields) (o : Option Tree) (k : ℕ) → ((ts : Trees) → HasRecipients n ts rs k → recipients_trees rs ≢ None) → HasInner n o rs k → recipients_trees rs ≢ None
 inner_some n rs o k f (inl a) = subst (λ z. recipients_trees z ≢ None) (sym a.1) (some_is no_trees)

@@ -1,21 +1,14 @@
 use Rattle.std.proofs.Common.{refl, arith}
-use Rattle.coset_parts.proofs.Sound.{item_again, tagged_again}
+use Rattle.coset_parts.proofs.Kept.{kept_item, kept_tagged}
 use Rattle.coset_maced.specs.Shapes.{HasMac0}
 use Rattle.coset_maced.specs.View.{mac0_view}
-use Rattle.coset_maced.proofs.Again.{mac0_again}
-use Rattle.coset_maced.proofs.Sound.{mac0_sound}
+use Rattle.coset_maced.proofs.Kept.{mac0_kept}
 use Rattle.coset_maced.proofs.laws.mac0_reads_again.Goals as goal
 
-pub returns-clause-item : goal.returns-clause-item
-returns-clause-item c = λ b u i e.
+pub returns : goal.returns
+returns c =
     let m = mac0_view c.args.message.now in
-    item_again (λ t f. HasMac0 256 t f 16) b m u i (c.mac0_fits.ensures u e (c.read_is_short.ensures.mac0 256 16 i.tree m i.shape))
-    (λ s. mac0_sound 256 m i.tree u 16 256 i.shape e s) (mac0_again 256 m i.tree u 16 i.shape e)
-
-pub returns-clause-tagged : goal.returns-clause-tagged
-returns-clause-tagged c = λ b u i e.
-    let m = mac0_view c.args.message.now in
-    let t = i.shape.0 in
-    let h = i.shape.2 in
-    tagged_again 17 (λ t f. HasMac0 256 t f 16) b m u i refl (omega arith) (c.mac0_fits.ensures u e (c.read_is_short.ensures.mac0 256 16 t m h))
-    (λ s. mac0_sound 256 m t u 16 255 h e s) (mac0_again 256 m t u 16 h e)
+    record {
+      item = λ b u i e. kept_item (λ t f. HasMac0 256 t f 16) m _ (mac0_kept 256 m 16) b u (λ t h. c.mac0_fits.ensures u e (c.read_is_short.ensures.mac0 256 16 t m h)) i e;
+      tagged = λ b u i e. kept_tagged 17 (λ t f. HasMac0 256 t f 16) m _ refl (omega arith) (mac0_kept 256 m 16) b u (λ t h. c.mac0_fits.ensures u e (c.read_is_short.ensures.mac0 256 16 t m h)) i e;
+    }

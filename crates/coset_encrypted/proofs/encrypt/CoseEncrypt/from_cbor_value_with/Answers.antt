@@ -1,25 +1,27 @@
-use Rattle.std.proofs.Common.{inr}
+use Rattle.std.proofs.Common.{inl, inr, [], ◌∷◌, refl}
 use Rattle.std.proofs.lemmas.Result.{err_from_is_err_and}
-use Rattle.coset_encrypted.proofs.Steps.{encrypt_kind, encrypt_count, encrypt_parts, encrypt_recipients, encrypt_has}
+use Rattle.coset_parts.specs.Wrong.{not_as_many}
+use Rattle.coset_parts.proofs.Steps.{whole_kind, whole_parts, whole_lasts, whole_has}
 use Rattle.coset_encrypted.proofs.encrypt.CoseEncrypt.from_cbor_value_with.Goals as goal
 
 pub returns-in_err-items : goal.returns-in_err-items
 returns-in_err-items c =
     let p = err_from_is_err_and c.from_residual.result c.from_residual.ensures.1 in
-    rw (p.1, p.2) (encrypt_kind _ _ _ _ c.in_err-items.ensures)
+    rw (p.1, p.2) (whole_kind _ _ _ _ _ c.in_err-items.ensures)
 
 pub returns-in_err-recipients-in-Some : goal.returns-in_err-recipients-in-Some
 returns-in_err-recipients-in-Some c =
     let p = err_from_is_err_and c.from_residual-in_err-recipients-in-Some.result c.from_residual-in_err-recipients-in-Some.ensures.1 in
-    rw (p.1, p.2) (encrypt_recipients _ _ _ _ _ _ _ _ _ c.in_ok-items.ensures c.in-Some.ensures c.in_err-recipients-in-Some.ensures)
+    rw (p.1, p.2) (whole_lasts _ _ _ _ _ _ _ (_ ∷ []) _ _ _ c.in_ok-items.ensures c.in-Some.ensures refl (λ f w. inl w) c.in_err-recipients-in-Some.ensures)
 
 pub returns-in_err-parts-in-Some : goal.returns-in_err-parts-in-Some
 returns-in_err-parts-in-Some c =
     let p = err_from_is_err_and c.from_residual-in_err-parts-in-Some.result c.from_residual-in_err-parts-in-Some.ensures.1 in
-    rw (p.1, p.2) (encrypt_parts _ _ _ _ _ _ _ _ _ c.in_ok-items.ensures c.in-Some.ensures c.in_err-parts-in-Some.ensures)
+    rw (p.1, p.2) (whole_parts _ _ _ _ _ _ _ (_ ∷ []) _ _ c.in_ok-items.ensures c.in-Some.ensures refl c.in_err-parts-in-Some.ensures)
 
 pub returns-in_ok-parts-in-Some : goal.returns-in_ok-parts-in-Some
-returns-in_ok-parts-in-Some c = encrypt_has _ _ _ _ _ _ _ _ _ c.in_ok-items.ensures c.in-Some.ensures c.in_ok-parts-in-Some.ensures c.in_ok-recipients-in-Some.ensures
+returns-in_ok-parts-in-Some c =
+    whole_has _ _ _ _ _ _ _ _ _ _ (_ ∷ []) _ c.in_ok-items.ensures c.in-Some.ensures c.in_ok-parts-in-Some.ensures (c.in_ok-recipients-in-Some.ensures, tt)
 
 pub returns-in-None : goal.returns-in-None
-returns-in-None c = inr (encrypt_count _ _ _ _ c.in_ok-items.ensures c.in-None.ensures)
+returns-in-None c = inr (not_as_many _ c.in_ok-items.ensures c.in-None.ensures)
