@@ -1,5 +1,5 @@
 -- A value has the fields of an authenticated message of each kind, or a fault as one.
-use Rattle.std.proofs.Common.{ℕ, ◌⊎◌, inl, inr, [], ◌∷◌, refl, ap, arith}
+use Rattle.std.proofs.Common.{ℕ, ◌⊎◌, inl, inr, [], ◌∷◌, refl, arith}
 use Rattle.ciborium_value.specs.Tree.{Tree, integer, bytes, text, array, map as map_tree, tag, simple, float, Trees, no_trees, one_more}
 use Rattle.ciborium_value.specs.View.{trees}
 use Rattle.coset_labels.specs.Faults.{CoseFault, unexpected}
@@ -24,8 +24,10 @@ module _ (n k : ℕ) where
       first = a;
       second = b;
       third = c;
-      is = ap (λ z. array (trees (a ∷ b ∷ c ∷ z ∷ []))) e;
+      lasts = d ∷ [];
+      is = refl;
       parts = h;
+      hold = (e, tt);
     },
   )
 
@@ -61,10 +63,10 @@ module _ (n k : ℕ) where
       first = a;
       second = b;
       third = c;
-      fifth = f;
-      is = ap (λ z. array (trees (a ∷ b ∷ c ∷ z ∷ f ∷ []))) e;
+      lasts = d ∷ f ∷ [];
+      is = refl;
       parts = h;
-      recipients = x;
+      hold = (e, (x, tt));
     },
   )
 

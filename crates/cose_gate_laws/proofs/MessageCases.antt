@@ -144,7 +144,7 @@ module _ (n k : ℕ) (F : Type 0) (Has : F → Tree → Type 0) (Wrong : Tree �
   four_of : (a b c d : Tree) → PartsCase n a b c k → ((f : F) × Has f d) ⊎ ((e : CoseFault) × Wrong d e) → FourCase (four_items a b c d)
   four_of a b c d (inr (e, x)) l = inr (e, in_parts_of_four a b c d e refl x)
   four_of a b c d (inl h) (inr (e, x)) = inr (e, in_last a b c d e refl x)
-  four_of a b c d (inl (p, u, m, h)) (inl (f, x)) = inl (p, u, m, f, record { first = a; second = b; third = c; fourth = d; is = refl; parts = h; last = x })
+  four_of a b c d (inl (p, u, m, h)) (inl (f, x)) = inl (p, u, m, f, record { first = a; second = b; third = c; lasts = d ∷ []; is = refl; parts = h; hold = (x, tt) })
 
   four_trees : (ts : Trees) → LowAll ts → FourCase (array ts)
   four_trees no_trees low = inr (unexpected, not_four (inr (no_trees, refl, λ e. omega (arith, e))))

@@ -59,23 +59,24 @@ module _ (n w : ℕ) (deep : n ≤ w) where
     first = h.first;
     second = h.second;
     third = h.third;
-    fourth = h.fourth;
+    lasts = h.lasts;
     is = h.is;
     parts = parts_wider h.first h.second h.third m.protected m.unprotected m.payload k l e h.parts;
-    last = h.last;
+    hold = h.hold;
   }
 
   sign_wider : (m : SignFields) (t : Tree) (k l : ℕ) → k ≤ l → HasSign n t m k → HasSign w t m l
   sign_wider m t k l e h =
-      let list = h.last in
+      let q = one_held _ h.lasts h.hold in
+      let list = q.2 in
       record {
         first = h.first;
         second = h.second;
         third = h.third;
-        fourth = h.fourth;
-        is = h.is;
+        lasts = q.0 ∷ [];
+        is = h.is ∙ ap (λ ls. array (trees (h.first ∷ h.second ∷ h.third ∷ ls))) q.1;
         parts = parts_wider h.first h.second h.third m.protected m.unprotected m.payload k l e h.parts;
-        last = (list.0, list.1, signatures_wider (signatures m.signatures) list.0 k l e list.2);
+        hold = ((list.0, list.1, signatures_wider (signatures m.signatures) list.0 k l e list.2), tt);
       }
 
   mac0_wider : (m : Mac0Fields) (t : Tree) (k l : ℕ) → k ≤ l → HasMac0 n t m k → HasMac0 w t m l
@@ -83,21 +84,24 @@ module _ (n w : ℕ) (deep : n ≤ w) where
     first = h.first;
     second = h.second;
     third = h.third;
+    lasts = h.lasts;
     is = h.is;
     parts = parts_wider h.first h.second h.third m.protected m.unprotected m.payload k l e h.parts;
+    hold = h.hold;
   }
 
   mac_wider : (m : MacFields) (t : Tree) (k l : ℕ) → k ≤ l → HasMac n t m k → HasMac w t m l
   mac_wider m t k l e h =
-      let list = h.recipients in
+      let q = two_held _ _ h.lasts h.hold in
+      let list = q.4 in
       record {
         first = h.first;
         second = h.second;
         third = h.third;
-        fifth = h.fifth;
-        is = h.is;
+        lasts = q.0 ∷ q.1 ∷ [];
+        is = h.is ∙ ap (λ ls. array (trees (h.first ∷ h.second ∷ h.third ∷ ls))) q.2;
         parts = parts_wider h.first h.second h.third m.protected m.unprotected m.payload k l e h.parts;
-        recipients = (list.0, list.1, recipients_wider m.recipients list.0 k l e list.2);
+        hold = (q.3, ((list.0, list.1, recipients_wider m.recipients list.0 k l e list.2), tt));
       }
 
 message_wider : (a b : Limits) → a.nesting ≤ b.nesting → a.layers ≤ b.layers → (u : Tree) (m : MessageFields) → HasMessage a u m → HasMessage b u m

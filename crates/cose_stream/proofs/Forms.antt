@@ -74,10 +74,10 @@ judged_of form.Sign1 a b p u payload s hp hu = (
       first = a;
       second = b;
       third = bytes payload;
-      fourth = bytes s;
+      lasts = bytes s ∷ [];
       is = refl;
       parts = record { protected = hp; unprotected = hu; content = refl };
-      last = refl;
+      hold = (refl, tt);
     },
   ),
   (payload, refl),
@@ -91,8 +91,10 @@ judged_of form.Mac0 a b p u payload s hp hu = (
       first = a;
       second = b;
       third = bytes payload;
+      lasts = bytes s ∷ [];
       is = refl;
       parts = record { protected = hp; unprotected = hu; content = refl };
+      hold = (refl, tt);
     },
   ),
   (payload, refl),

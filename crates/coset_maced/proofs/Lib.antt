@@ -4,3 +4,4 @@ pub mod Kept
 pub mod Standing
 pub mod Stands
 pub mod Unique
+pub mod Writable

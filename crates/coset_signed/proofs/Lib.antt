@@ -1,8 +1,7 @@
-pub mod Again
 pub mod Equal
 pub mod Excludes
 pub mod Fit
-pub mod Sound
+pub mod Kept
 pub mod Standing
 pub mod Stands
 pub mod Steps

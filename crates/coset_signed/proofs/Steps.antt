@@ -1,10 +1,10 @@
 -- What one step of reading or writing a message shows, over plain variables.
-use Rattle.std.proofs.Common.{◌≡◌, ◌≢◌, ℕ, inl, inr, List, [], ◌∷◌, ◌++◌, map, false, Option, Some, None, option_map, option_and_then, refl, sym, ap, subst, ◌∙◌}
+use Rattle.std.proofs.Common.{◌≡◌, ◌≢◌, ℕ, inl, inr, List, ◌∷◌, ◌++◌, map, false, sym, ap, subst, ◌∙◌}
 use Rattle.std.proofs.lemmas.List.{map-append}
 use Rattle.ciborium_value.specs.Tree.{Tree, array, Trees}
 use Rattle.ciborium_value.specs.View.{trees, view, views}
 use Rattle.ciborium_value.specs.declared.value.Value.{Value}
-use Rattle.coset_labels.specs.Faults.{CoseFault, OrMemory, CantWrite, fault_of, unexpected}
+use Rattle.coset_labels.specs.Faults.{CoseFault, OrMemory, fault_of, unexpected}
 use Rattle.coset_labels.specs.Kinds.{is_array}
 use Rattle.coset_labels.specs.declared.error.CoseError.{CoseError}
 use Rattle.coset_labels.specs.declared.error.CoseError.TheVariants as code
@@ -12,7 +12,6 @@ use Rattle.coset_headers.specs.Wrong.{WrongSignature}
 use Rattle.coset_headers.proofs.Steps.{passed_on}
 use Rattle.coset_parts.specs.Wrong.{WrongParts}
 use Rattle.coset_signed.specs.Shapes.{four_items}
-use Rattle.coset_signed.specs.Written.{with_last}
 use Rattle.coset_signed.specs.Wrong.{IsNotFour, WrongFour, not_four, in_parts, in_last, Hides, IsNoSignature, whatever, HasNoSignature, WrongSignatureList, no_list, in_list}
 
 -- ---- an array of four
@@ -53,18 +52,3 @@ hidden n t k code.OutOfRangeIntegerValue r h w = renamed n t k code.OutOfRangeIn
 hidden n t k code.UnregisteredIanaValue r h w = renamed n t k code.UnregisteredIanaValue r (λ m. let q : code.UnregisteredIanaValue ≡ code.Memory = m in cc) h w
 hidden n t k code.UnregisteredIanaNonPrivateValue r h w = renamed n t k code.UnregisteredIanaNonPrivateValue r (λ m. let q : code.UnregisteredIanaNonPrivateValue ≡ code.Memory = m in cc) h w
 hidden n t k code.TooManyLayers r h w = renamed n t k code.TooManyLayers r (λ m. let q : code.TooManyLayers ≡ code.Memory = m in cc) h w
-
--- ---- one item more
-pub last_written : (o : Option (List Tree)) (vs ws : List Value) (v : Value) → o ≡ Some (map view vs) → ws ≡ vs ++ v ∷ [] → option_map (λ ts. with_last ts (view v)) o ≡ Some (array (views ws))
-last_written o vs ws v e q = ap (option_map (λ ts. with_last ts (view v))) e ∙ ap (λ z. Some (array (trees z))) (sym (map-append view vs (v ∷ [])) ∙ ap (map view) (sym q))
-
-pub both_written : (o : Option (List Tree)) (p : Option Tree) (vs ws : List Value) (v : Value) → o ≡ Some (map view vs) → p ≡ Some (view v) → ws ≡ vs ++ v ∷ []
-    → option_and_then (λ ts. option_map (λ l. with_last ts l) p) o ≡ Some (array (views ws))
-both_written o p vs ws v e f q =
-    ap (option_and_then (λ ts. option_map (λ l. with_last ts l) p)) e ∙ ap (option_map (λ l. with_last (map view vs) l)) f
-    ∙ ap (λ z. Some (array (trees z))) (sym (map-append view vs (v ∷ [])) ∙ ap (map view) (sym q))
-
-pub second_none : (o : Option (List Tree)) (p : Option Tree) (e : CoseError) → CantWrite p e → CantWrite (option_and_then (λ ts. option_map (λ l. with_last ts l) p) o) e
-second_none o p e (inl m) = inl m
-second_none None p e (inr (d, n)) = inr (d, refl)
-second_none (Some ts) p e (inr (d, n)) = inr (d, ap (option_map (λ l. with_last ts l)) n)

@@ -5,21 +5,15 @@ use Rattle.ciborium_value.specs.Tree.{Tree, bytes, array, Trees}
 use Rattle.ciborium_value.specs.View.{trees}
 use Rattle.coset_headers.specs.Fields.{HeaderFields, ProtectedFields, SignatureFields, signatures}
 use Rattle.coset_headers.specs.Headers.{HasSignatures}
-use Rattle.coset_parts.specs.Shapes.{HasParts}
+use Rattle.coset_parts.specs.Shapes.{HasWhole}
 use Rattle.coset_signed.specs.Fields.{Sign1Fields, SignFields}
 
 abbrev pub four_items : Tree → Tree → Tree → Tree → Tree
 four_items a b c d = array (trees (a ∷ b ∷ c ∷ d ∷ []))
 
 -- an array of four: the headers, the payload or null, and a last item of which Last holds
-pub record HasFour (n : ℕ) (t : Tree) (p : ProtectedFields) (u : HeaderFields) (c : Option (List ℕ)) (Last : Tree → Type 0) (k : ℕ) : Type 0 where
-  pub first : Tree
-  pub second : Tree
-  pub third : Tree
-  pub fourth : Tree
-  pub is : t ≡ four_items first second third fourth
-  pub parts : HasParts n first second third p u c k
-  pub last : Last fourth
+abbrev pub HasFour : ℕ → Tree → ProtectedFields → HeaderFields → Option (List ℕ) → (Tree → Type 0) → ℕ → Type 0
+HasFour n t p u c Last k = HasWhole n t p u c (Last ∷ []) k
 
 -- signatures, one after another
 abbrev pub IsSignatureList : ℕ → Tree → List SignatureFields → ℕ → Type 0

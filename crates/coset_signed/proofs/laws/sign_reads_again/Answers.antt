@@ -1,21 +1,14 @@
 use Rattle.std.proofs.Common.{refl, arith}
-use Rattle.coset_parts.proofs.Sound.{item_again, tagged_again}
+use Rattle.coset_parts.proofs.Kept.{kept_item, kept_tagged}
 use Rattle.coset_signed.specs.Shapes.{HasSign}
 use Rattle.coset_signed.specs.View.{sign_view}
-use Rattle.coset_signed.proofs.Again.{sign_again}
-use Rattle.coset_signed.proofs.Sound.{sign_sound}
+use Rattle.coset_signed.proofs.Kept.{sign_kept}
 use Rattle.coset_signed.proofs.laws.sign_reads_again.Goals as goal
 
-pub returns-clause-item : goal.returns-clause-item
-returns-clause-item c = λ b u i e.
+pub returns : goal.returns
+returns c =
     let m = sign_view c.args.message.now in
-    item_again (λ t f. HasSign 256 t f 16) b m u i (c.sign_fits.ensures u e (c.read_is_short.ensures.sign 256 16 i.tree m i.shape))
-    (λ s. sign_sound 256 16 256 i.tree u m i.shape e s) (sign_again 256 16 i.tree u m i.shape e)
-
-pub returns-clause-tagged : goal.returns-clause-tagged
-returns-clause-tagged c = λ b u i e.
-    let m = sign_view c.args.message.now in
-    let t = i.shape.0 in
-    let h = i.shape.2 in
-    tagged_again 98 (λ t f. HasSign 256 t f 16) b m u i refl (omega arith) (c.sign_fits.ensures u e (c.read_is_short.ensures.sign 256 16 t m h))
-    (λ s. sign_sound 256 16 255 t u m h e s) (sign_again 256 16 t u m h e)
+    record {
+      item = λ b u i e. kept_item (λ t f. HasSign 256 t f 16) m _ (sign_kept 256 m 16) b u (λ t h. c.sign_fits.ensures u e (c.read_is_short.ensures.sign 256 16 t m h)) i e;
+      tagged = λ b u i e. kept_tagged 98 (λ t f. HasSign 256 t f 16) m _ refl (omega arith) (sign_kept 256 m 16) b u (λ t h. c.sign_fits.ensures u e (c.read_is_short.ensures.sign 256 16 t m h)) i e;
+    }

@@ -1,3 +1,4 @@
+use Rattle.std.proofs.Common.{[], ◌∷◌}
 use Rattle.std.proofs.lemmas.Result.{err_from_is_err_and}
 use Rattle.coset_labels.specs.Limits.{nesting_of, layers_of}
 use Rattle.coset_signed.specs.Wrong.{WrongSignatureList}
@@ -18,3 +19,6 @@ pub returns-in_err-parts : goal.returns-in_err-parts
 returns-in_err-parts c =
     let p = err_from_is_err_and c.from_residual-in_err-parts.result c.from_residual-in_err-parts.ensures.1 in
     rw (p.1, p.2) (four_parts (nesting_of c.args.limits) _ (λ d f. WrongSignatureList (nesting_of c.args.limits) d (layers_of c.args.limits) f) (layers_of c.args.limits) _ _ _ _ _ c.in_ok-protected.ensures c.in_err-parts.ensures)
+
+pub returns : goal.returns
+returns c = record { first = _; second = _; third = _; lasts = _ ∷ []; is = c.in_ok-protected.ensures; parts = c.in_ok-parts.ensures; hold = (c.in_ok-signatures.ensures, tt) }

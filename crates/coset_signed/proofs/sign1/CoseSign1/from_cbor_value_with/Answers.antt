@@ -1,4 +1,4 @@
-use Rattle.std.proofs.Common.{inr, rules}
+use Rattle.std.proofs.Common.{inr, [], ◌∷◌}
 use Rattle.std.proofs.lemmas.Result.{err_from_is_err_and}
 use Rattle.coset_labels.specs.Limits.{nesting_of, layers_of}
 use Rattle.coset_signed.specs.Wrong.{IsNoBytes}
@@ -21,4 +21,4 @@ returns-in_err-parts c =
     rw (p.1, p.2) (four_parts (nesting_of c.args.limits) _ IsNoBytes (layers_of c.args.limits) _ _ _ _ _ c.in_ok-protected.ensures c.in_err-parts.ensures)
 
 pub returns : goal.returns
-returns c = search rules
+returns c = record { first = _; second = _; third = _; lasts = _ ∷ []; is = c.in_ok-protected.ensures; parts = c.in_ok-parts.ensures; hold = (c.in_ok-signature.ensures, tt) }
