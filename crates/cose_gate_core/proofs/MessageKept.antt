@@ -12,14 +12,14 @@ use Rattle.coset_headers.specs.Headers.{HasProtected, HasSignatures}
 use Rattle.coset_headers.specs.Written.{header_tree, shown, signature_tree}
 use Rattle.coset_headers.proofs.Again.{prot_again, hdr_again, sig_again}
 use Rattle.coset_headers.proofs.Sound.{Sound, SoundAll, array_inside, array_sound, all_none, all_more, all_parts, hdr_sound, sig_sound, folds_all}
-use Rattle.coset_maced.specs.PartShapes.{HasParts}
-use Rattle.coset_maced.specs.PartsWritten.{optional_tree, parts_trees}
+use Rattle.coset_maced.specs.PartShapes.{HasParts, HoldOf, HasWhole}
+use Rattle.coset_maced.specs.PartsWritten.{optional_tree, parts_trees, whole_tree}
 use Rattle.coset_maced.specs.RecipientFields.{RecipientFields, recipient, RecipientsFields, no_recipients, recipient_more}
 use Rattle.coset_maced.specs.RecipientShapes.{three_or_four, HasRecipient, HasRecipients, HasInner, HasList}
 use Rattle.coset_maced.specs.RecipientWritten.{whole, recipient_tree, recipients_trees, list_tree}
 use Rattle.coset_signed.specs.Fields.{Sign1Fields, SignFields}
-use Rattle.coset_signed.specs.Shapes.{four_items, IsSignatureList, HasSign1, HasSign}
-use Rattle.coset_signed.specs.Written.{with_last, sign1_tree, sign_tree}
+use Rattle.coset_signed.specs.Shapes.{IsSignatureList, HasSign1, HasSign}
+use Rattle.coset_signed.specs.Written.{sign1_tree, sign_tree}
 use Rattle.coset_maced.specs.Fields.{Mac0Fields, MacFields}
 use Rattle.coset_maced.specs.Shapes.{HasMac0, HasMac}
 use Rattle.coset_maced.specs.Written.{mac0_tree, mac_tree}
@@ -216,17 +216,49 @@ made Has t v ts vs e f h a = record {
   is = f;
 }
 
+-- what is written as o of an item of which P holds follows it
+abbrev AllFollow : List (Tree → Type 0) → List (Option Tree) → Type 0
+AllFollow [] [] = Unit {0}
+AllFollow [] (o ∷ os) = ⊥
+AllFollow (P ∷ Ps) [] = ⊥
+AllFollow (P ∷ Ps) (o ∷ os) = ((x y : Tree) → P x → o ≡ Some y → P y × Rewrite x y) × AllFollow Ps os
+
+follow : (Ps : List (Tree → Type 0)) (os : List (Option Tree)) (xs ys : List Tree) → AllFollow Ps os → HoldOf Ps xs → all_written (λ o. o) os ≡ Some ys → HoldOf Ps ys × RewriteAll (trees xs) (trees ys)
+follow [] [] [] ys f h e =
+    let q : Some [] ≡ Some ys = e in
+    let s : [] ≡ ys = cc in
+    (subst (HoldOf []) s tt, subst (λ z. RewriteAll no_trees (trees z)) s none_rewrite)
+follow [] [] (x ∷ xs) ys f h e = absurd h
+follow [] (o ∷ os) xs ys f h e = absurd f
+follow (P ∷ Ps) [] xs ys f h e = absurd f
+follow (P ∷ Ps) (o ∷ os) [] ys f h e = absurd h
+follow (P ∷ Ps) (o ∷ os) (x ∷ xs) ys f h e =
+    let t = and_made (λ t. option_map (λ ts. t ∷ ts) (all_written (λ q. q) os)) o ys e in
+    let r = map_made (λ ts. t.0 ∷ ts) (all_written (λ q. q) os) ys t.2 in
+    let one = f.0 x t.0 h.0 t.1 in
+    let more = follow Ps os xs r.0 f.1 h.1 r.1 in
+    (subst (HoldOf (P ∷ Ps)) r.2 (one.0, more.0), subst (λ z. RewriteAll (one_more x (trees xs)) (trees z)) r.2 (more_rewrite x t.0 (trees xs) (trees r.0) one.1 more.1))
+
+bytes_follow : (b : List ℕ) (x y : Tree) → x ≡ bytes b → Some (bytes b) ≡ Some y → (y ≡ bytes b) × Rewrite x y
+bytes_follow b x y h e =
+    let q : y ≡ bytes b = cc in
+    (q, subst (Rewrite x) (h ∙ sym q) (same_rewrite x))
+
+whole_again : (n k : ℕ) (t v : Tree) (p : ProtectedFields) (u : HeaderFields) (c : Option (List ℕ)) (Ps : List (Tree → Type 0)) (os : List (Option Tree)) → HasWhole n t p u c Ps k → whole_tree p u c os ≡ Some v → AllFollow Ps os
+    → Again (λ q. HasWhole n q p u c Ps k) t v
+whole_again n k t v p u c Ps os h e f =
+    let w = and_made (λ parts. option_map (λ ls. array (trees (parts ++ ls))) (all_written (λ o. o) os)) (parts_trees p u c) v e in
+    let l = map_made (λ ls. array (trees (w.0 ++ ls))) (all_written (λ o. o) os) v w.2 in
+    let a = parts_again n h.first h.second h.third p u c w.0 k h.parts w.1 in
+    let r = follow Ps os h.lasts l.0 f h.hold l.1 in
+    let third = optional_tree c in
+    let is : v ≡ array (trees (a.first ∷ a.second ∷ third ∷ l.0)) = sym l.2 ∙ ap (λ z. array (trees (z ++ l.0))) (sym a.is) in
+    made (λ q. HasWhole n q p u c Ps k) t v (trees (h.first ∷ h.second ∷ h.third ∷ h.lasts)) (trees (a.first ∷ a.second ∷ third ∷ l.0)) h.is is
+    (record { first = a.first; second = a.second; third = third; lasts = l.0; is = is; parts = a.parts; hold = r.0 })
+    (three_rewrite h.first h.second h.third a.first a.second third (trees h.lasts) (trees l.0) a.one a.two a.three r.1)
+
 pub sign1_again : (n k : ℕ) (t v : Tree) (m : Sign1Fields) → HasSign1 n t m k → sign1_tree m ≡ Some v → Again (λ q. HasSign1 n q m k) t v
-sign1_again n k t v m h e =
-    let s = bytes m.signature in
-    let w = map_made (λ ts. with_last ts s) (parts_trees m.protected m.unprotected m.payload) v e in
-    let a = parts_again n h.first h.second h.third m.protected m.unprotected m.payload w.0 k h.parts w.1 in
-    let c = optional_tree m.payload in
-    let is : v ≡ four_items a.first a.second c s = sym w.2 ∙ ap (λ z. with_last z s) (sym a.is) in
-    made (λ q. HasSign1 n q m k) t v (trees (h.first ∷ h.second ∷ h.third ∷ h.fourth ∷ [])) (trees (a.first ∷ a.second ∷ c ∷ s ∷ [])) h.is is
-    (record { first = a.first; second = a.second; third = c; fourth = s; is = is; parts = a.parts; last = refl })
-    (three_rewrite h.first h.second h.third a.first a.second c (one_more h.fourth no_trees) (one_more s no_trees) a.one a.two a.three
-    (more_rewrite h.fourth s no_trees no_trees (subst (λ q. Rewrite h.fourth q) h.last (same_rewrite h.fourth)) none_rewrite))
+sign1_again n k t v m h e = whole_again n k t v m.protected m.unprotected m.payload _ (Some (bytes m.signature) ∷ []) h e (bytes_follow m.signature, tt)
 
 record ListAgain (n : ℕ) (ts : Trees) (us : List Tree) (ss : List SignatureFields) (k : ℕ) : Type 0 where
   has : HasSignatures n (trees us) (signatures ss) k
@@ -247,48 +279,27 @@ list_again n ts (s ∷ ss) us k h e =
       rewrite = subst (λ z. RewriteAll z (trees us)) (sym h.2) (subst (λ z. RewriteAll (one_more h.0 h.1) (trees z)) r.2 (more_rewrite h.0 t.0 h.1 (trees r.0) one more.rewrite));
     }
 
+signatures_follow : (n k : ℕ) (ss : List SignatureFields) (x y : Tree) → IsSignatureList n x ss k → array_of signature_tree ss ≡ Some y → IsSignatureList n y ss k × Rewrite x y
+signatures_follow n k ss x y h e =
+    let us = map_made (λ ts. array (trees ts)) (all_written signature_tree ss) y e in
+    let again = list_again n h.0 ss us.0 k h.2 us.1 in
+    ((trees us.0, sym us.2, again.has), subst (λ q. Rewrite q y) (sym h.1) (subst (λ q. Rewrite (array h.0) q) us.2 (array_rewrite h.0 (trees us.0) again.rewrite)))
+
 pub sign_again : (n k : ℕ) (t v : Tree) (m : SignFields) → HasSign n t m k → sign_tree m ≡ Some v → Again (λ q. HasSign n q m k) t v
-sign_again n k t v m h e =
-    let w = and_made (λ ts. option_map (λ l. with_last ts l) (array_of signature_tree m.signatures)) (parts_trees m.protected m.unprotected m.payload) v e in
-    let l = map_made (λ l. with_last w.0 l) (array_of signature_tree m.signatures) v w.2 in
-    let us = map_made (λ ts. array (trees ts)) (all_written signature_tree m.signatures) l.0 l.1 in
-    let a = parts_again n h.first h.second h.third m.protected m.unprotected m.payload w.0 k h.parts w.1 in
-    let c = optional_tree m.payload in
-    let last : IsSignatureList n h.fourth m.signatures k = h.last in
-    let again = list_again n last.0 m.signatures us.0 k last.2 us.1 in
-    let is : v ≡ four_items a.first a.second c l.0 = sym l.2 ∙ ap (λ z. with_last z l.0) (sym a.is) in
-    let four : Rewrite h.fourth l.0 = subst (λ q. Rewrite q l.0) (sym last.1) (subst (λ q. Rewrite (array last.0) q) us.2 (array_rewrite last.0 (trees us.0) again.rewrite)) in
-    made (λ q. HasSign n q m k) t v (trees (h.first ∷ h.second ∷ h.third ∷ h.fourth ∷ [])) (trees (a.first ∷ a.second ∷ c ∷ l.0 ∷ [])) h.is is
-    (record { first = a.first; second = a.second; third = c; fourth = l.0; is = is; parts = a.parts; last = (trees us.0, sym us.2, again.has) })
-    (three_rewrite h.first h.second h.third a.first a.second c (one_more h.fourth no_trees) (one_more l.0 no_trees) a.one a.two a.three (more_rewrite h.fourth l.0 no_trees no_trees four none_rewrite))
+sign_again n k t v m h e = whole_again n k t v m.protected m.unprotected m.payload _ (array_of signature_tree m.signatures ∷ []) h e (signatures_follow n k m.signatures, tt)
 
 pub mac0_again : (n k : ℕ) (t v : Tree) (m : Mac0Fields) → HasMac0 n t m k → mac0_tree m ≡ Some v → Again (λ q. HasMac0 n q m k) t v
-mac0_again n k t v m h e =
-    let s = bytes m.tag in
-    let w = map_made (λ parts. array (trees (parts ++ s ∷ []))) (parts_trees m.protected m.unprotected m.payload) v e in
-    let a = parts_again n h.first h.second h.third m.protected m.unprotected m.payload w.0 k h.parts w.1 in
-    let c = optional_tree m.payload in
-    let is : v ≡ array (trees (a.first ∷ a.second ∷ c ∷ s ∷ [])) = sym w.2 ∙ ap (λ z. array (trees (z ++ s ∷ []))) (sym a.is) in
-    made (λ q. HasMac0 n q m k) t v (trees (h.first ∷ h.second ∷ h.third ∷ s ∷ [])) (trees (a.first ∷ a.second ∷ c ∷ s ∷ [])) h.is is
-    (record { first = a.first; second = a.second; third = c; is = is; parts = a.parts })
-    (three_rewrite h.first h.second h.third a.first a.second c (one_more s no_trees) (one_more s no_trees) a.one a.two a.three (more_rewrite s s no_trees no_trees (same_rewrite s) none_rewrite))
+mac0_again n k t v m h e = whole_again n k t v m.protected m.unprotected m.payload _ (Some (bytes m.tag) ∷ []) h e (bytes_follow m.tag, tt)
+
+recipients_follow : (n k : ℕ) (rs : RecipientsFields) (x y : Tree) → HasList n x rs k → list_tree rs ≡ Some y → HasList n y rs k × Rewrite x y
+recipients_follow n k rs x y h e =
+    let us = map_made array (recipients_trees rs) y e in
+    let again = recipients_again n rs h.0 us.0 k h.2 us.1 in
+    ((us.0, sym us.2, again.has), subst (λ q. Rewrite q y) (sym h.1) (subst (λ q. Rewrite (array h.0) q) us.2 (array_rewrite h.0 us.0 again.rewrite)))
 
 pub mac_again : (n k : ℕ) (t v : Tree) (m : MacFields) → HasMac n t m k → mac_tree m ≡ Some v → Again (λ q. HasMac n q m k) t v
 mac_again n k t v m h e =
-    let s = bytes m.tag in
-    let w = and_made (λ parts. option_map (λ t. array (trees (parts ++ s ∷ t ∷ []))) (list_tree m.recipients)) (parts_trees m.protected m.unprotected m.payload) v e in
-    let l = map_made (λ t. array (trees (w.0 ++ s ∷ t ∷ []))) (list_tree m.recipients) v w.2 in
-    let us = map_made array (recipients_trees m.recipients) l.0 l.1 in
-    let a = parts_again n h.first h.second h.third m.protected m.unprotected m.payload w.0 k h.parts w.1 in
-    let c = optional_tree m.payload in
-    let list : HasList n h.fifth m.recipients k = h.recipients in
-    let again = recipients_again n m.recipients list.0 us.0 k list.2 us.1 in
-    let is : v ≡ array (trees (a.first ∷ a.second ∷ c ∷ s ∷ l.0 ∷ [])) = sym l.2 ∙ ap (λ z. array (trees (z ++ s ∷ l.0 ∷ []))) (sym a.is) in
-    let five : Rewrite h.fifth l.0 = subst (λ q. Rewrite q l.0) (sym list.1) (subst (λ q. Rewrite (array list.0) q) us.2 (array_rewrite list.0 us.0 again.rewrite)) in
-    made (λ q. HasMac n q m k) t v (trees (h.first ∷ h.second ∷ h.third ∷ s ∷ h.fifth ∷ [])) (trees (a.first ∷ a.second ∷ c ∷ s ∷ l.0 ∷ [])) h.is is
-    (record { first = a.first; second = a.second; third = c; fifth = l.0; is = is; parts = a.parts; recipients = (us.0, sym us.2, again.has) })
-    (three_rewrite h.first h.second h.third a.first a.second c (one_more s (one_more h.fifth no_trees)) (one_more s (one_more l.0 no_trees)) a.one a.two a.three
-    (more_rewrite s s _ _ (same_rewrite s) (more_rewrite h.fifth l.0 no_trees no_trees five none_rewrite)))
+    whole_again n k t v m.protected m.unprotected m.payload _ (Some (bytes m.tag) ∷ list_tree m.recipients ∷ []) h e (bytes_follow m.tag, (recipients_follow n k m.recipients, tt))
 
 -- ---- under a tag
 and_false : (b : Bool) → (b && false) ≡ false

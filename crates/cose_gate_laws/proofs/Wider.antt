@@ -1,10 +1,11 @@
 -- What has a message's fields within some levels and layers has them within more.
-use Rattle.std.proofs.Common.{ℕ, ◌-◌, ◌≤◌, inl, inr, List, Option, arith}
+use Rattle.std.proofs.Common.{ℕ, ◌-◌, ◌≤◌, inl, inr, List, [], ◌∷◌, Option, ap, ◌∙◌, arith}
 use Rattle.ciborium_value.specs.Tree.{Tree, array, Trees}
+use Rattle.ciborium_value.specs.View.{trees}
 use Rattle.ciborium.specs.Front.{Reads}
 use Rattle.coset_headers.specs.Fields.{HeaderFields, header, ProtectedFields, protected, SignatureFields, signature, Signatures, no_signatures, signature_more, signatures}
 use Rattle.coset_headers.specs.Headers.{at, HasHeader, HasProtected, HasSignature, HasSigned, HasSignatures}
-use Rattle.cose_gate_core.specs.PartShapes.{HasParts}
+use Rattle.cose_gate_core.specs.PartShapes.{HasParts, one_held, two_held}
 use Rattle.cose_gate_core.specs.RecipientFields.{RecipientFields, recipient, RecipientsFields, no_recipients, recipient_more}
 use Rattle.cose_gate_core.specs.RecipientShapes.{HasRecipient, HasRecipients}
 use Rattle.cose_gate_core.specs.SignedFields.{Sign1Fields, SignFields}

@@ -7,7 +7,7 @@ use Rattle.coset_parts.specs.Short.{PartsShort}
 use Rattle.coset_parts.specs.Written.{parts_trees}
 use Rattle.coset_parts.proofs.Fit.{parts_short}
 use Rattle.coset_parts.proofs.Kept.{whole_fits}
-use Rattle.coset_parts.proofs.Once.{one_held}
+use Rattle.coset_parts.specs.Shapes.{one_held}
 use Rattle.coset_recipients.specs.Short.{RecipientsShort}
 use Rattle.coset_recipients.specs.Written.{list_tree}
 use Rattle.coset_recipients.proofs.Fit.{recipients_short}

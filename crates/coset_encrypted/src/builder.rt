@@ -42,48 +42,47 @@ impl CoseEncryptBuilder {
     }
 
     /// Sets the protected header. It has no received bytes.
-    pub fn protected(self, header: Header) -> CoseEncryptBuilder
+    pub fn protected(mut self, header: Header) -> CoseEncryptBuilder
         ensures { encrypt_so_far result ≡ record (encrypt_so_far self) { protected = protected None (header_view header) } }
     {
-        let mut message = self.message;
-        message.protected = ProtectedHeader {
+        self.message.protected = ProtectedHeader {
             original_data: None,
             header,
         };
-        CoseEncryptBuilder { message }
+        self
     }
 
     /// Sets the unprotected header.
-    pub fn unprotected(self, header: Header) -> CoseEncryptBuilder
+    pub fn unprotected(mut self, header: Header) -> CoseEncryptBuilder
         ensures { encrypt_so_far result ≡ record (encrypt_so_far self) { unprotected = header_view header } }
     {
-        let mut message = self.message;
-        message.unprotected = header;
-        CoseEncryptBuilder { message }
+        self.message.unprotected = header;
+        self
     }
 
     /// Sets the ciphertext.
-    pub fn ciphertext(self, ciphertext: Vec<u8>) -> CoseEncryptBuilder
+    pub fn ciphertext(mut self, ciphertext: Vec<u8>) -> CoseEncryptBuilder
         ensures { result.message ≡ record self.message { ciphertext = Some ciphertext } }
     {
-        let mut message = self.message;
-        message.ciphertext = Some(ciphertext);
-        CoseEncryptBuilder { message }
+        self.message.ciphertext = Some(ciphertext);
+        self
     }
 
     /// Appends a recipient.
     ///
     /// # Errors
     /// Only where memory is refused.
-    pub fn add_recipient(self, recipient: CoseRecipient) -> Result<CoseEncryptBuilder, CoseError>
+    pub fn add_recipient(
+        mut self,
+        recipient: CoseRecipient,
+    ) -> Result<CoseEncryptBuilder, CoseError>
         ensures { MatchResult result
             (λ b. encrypt_so_far b
             ≡ record (encrypt_so_far self) { recipients = recipients_and (recipient_view recipient) (encrypt_so_far self).recipients })
             (λ e. e ≡ Memory) }
     {
-        let mut message = self.message;
-        message.recipients.push(recipient)?;
-        Ok(CoseEncryptBuilder { message })
+        self.message.recipients.push(recipient)?;
+        Ok(self)
     }
 
     /// Sets the ciphertext that the cipher gives for a plaintext (RFC 9052, section 5.3). The cipher is handed the plaintext and the

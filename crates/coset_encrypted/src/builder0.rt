@@ -38,33 +38,30 @@ impl CoseEncrypt0Builder {
     }
 
     /// Sets the protected header. It has no received bytes.
-    pub fn protected(self, header: Header) -> CoseEncrypt0Builder
+    pub fn protected(mut self, header: Header) -> CoseEncrypt0Builder
         ensures { encrypt0_so_far result ≡ record (encrypt0_so_far self) { protected = protected None (header_view header) } }
     {
-        let mut message = self.message;
-        message.protected = ProtectedHeader {
+        self.message.protected = ProtectedHeader {
             original_data: None,
             header,
         };
-        CoseEncrypt0Builder { message }
+        self
     }
 
     /// Sets the unprotected header.
-    pub fn unprotected(self, header: Header) -> CoseEncrypt0Builder
+    pub fn unprotected(mut self, header: Header) -> CoseEncrypt0Builder
         ensures { encrypt0_so_far result ≡ record (encrypt0_so_far self) { unprotected = header_view header } }
     {
-        let mut message = self.message;
-        message.unprotected = header;
-        CoseEncrypt0Builder { message }
+        self.message.unprotected = header;
+        self
     }
 
     /// Sets the ciphertext.
-    pub fn ciphertext(self, ciphertext: Vec<u8>) -> CoseEncrypt0Builder
+    pub fn ciphertext(mut self, ciphertext: Vec<u8>) -> CoseEncrypt0Builder
         ensures { result.message ≡ record self.message { ciphertext = Some ciphertext } }
     {
-        let mut message = self.message;
-        message.ciphertext = Some(ciphertext);
-        CoseEncrypt0Builder { message }
+        self.message.ciphertext = Some(ciphertext);
+        self
     }
 
     /// Sets the ciphertext that the cipher gives for a plaintext (RFC 9052, section 5.3). The cipher is handed the plaintext and the

@@ -7,7 +7,7 @@ ghost use Rattle.coset_encrypted.specs.View.{encrypt_view};
 
 use coset_headers::{Header, ProtectedHeader};
 use coset_labels::Fault;
-use coset_parts::clone_bytes;
+use coset_parts::{clone_bytes, content_bytes};
 use coset_recipients::{CoseRecipient, clone_recipients};
 use coset_structures::{EncryptionContext, enc_structure_data};
 use std::alloc::{AllocError, Global};
@@ -75,10 +75,7 @@ impl CoseEncrypt {
         ensures { IsSomeAnd self.now.ciphertext
             (λ b. AnswersWhere C.FnOnce cipher b.items (encrypt_structure (encrypt_view self.now) aad.now) result) }
     {
-        let ciphertext = match &self.ciphertext {
-            Some(ciphertext) => ciphertext.as_slice(),
-            None => &[],
-        };
+        let ciphertext = content_bytes(&self.ciphertext);
         let data = enc_structure_data(alloc, EncryptionContext::CoseEncrypt, &self.protected, aad)?;
         cipher(ciphertext, data.as_slice()).map_err(Fault::Caller)
     }

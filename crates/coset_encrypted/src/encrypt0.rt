@@ -7,7 +7,7 @@ ghost use Rattle.coset_encrypted.specs.View.{encrypt0_view};
 
 use coset_headers::{Header, ProtectedHeader};
 use coset_labels::Fault;
-use coset_parts::clone_bytes;
+use coset_parts::{clone_bytes, content_bytes};
 use coset_structures::{EncryptionContext, enc_structure_data};
 use std::alloc::{AllocError, Global};
 
@@ -69,10 +69,7 @@ impl CoseEncrypt0 {
         ensures { IsSomeAnd self.now.ciphertext
             (λ b. AnswersWhere C.FnOnce cipher b.items (encrypt0_structure (encrypt0_view self.now) aad.now) result) }
     {
-        let ciphertext = match &self.ciphertext {
-            Some(ciphertext) => ciphertext.as_slice(),
-            None => &[],
-        };
+        let ciphertext = content_bytes(&self.ciphertext);
         let data = enc_structure_data(
             alloc,
             EncryptionContext::CoseEncrypt0,

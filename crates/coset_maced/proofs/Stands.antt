@@ -7,7 +7,7 @@ use Rattle.coset_labels.specs.Arrays.{all_written}
 use Rattle.coset_headers.specs.AsWritten.{header_stands, signature_stands}
 use Rattle.coset_parts.specs.Written.{whole_tree}
 use Rattle.coset_parts.proofs.Again.{map_made}
-use Rattle.coset_parts.proofs.Once.{one_held, two_held}
+use Rattle.coset_parts.specs.Shapes.{one_held, two_held}
 use Rattle.coset_parts.proofs.Stands.{and_true, whole_stands}
 use Rattle.coset_recipients.specs.Fields.{RecipientsFields}
 use Rattle.coset_recipients.specs.Shapes.{HasList}

@@ -42,57 +42,52 @@ impl CoseMacBuilder {
     }
 
     /// Sets the protected header. It has no received bytes.
-    pub fn protected(self, header: Header) -> CoseMacBuilder
+    pub fn protected(mut self, header: Header) -> CoseMacBuilder
         ensures { mac_so_far result ≡ record (mac_so_far self) { protected = protected None (header_view header) } }
     {
-        let mut message = self.message;
-        message.protected = ProtectedHeader {
+        self.message.protected = ProtectedHeader {
             original_data: None,
             header,
         };
-        CoseMacBuilder { message }
+        self
     }
 
     /// Sets the unprotected header.
-    pub fn unprotected(self, header: Header) -> CoseMacBuilder
+    pub fn unprotected(mut self, header: Header) -> CoseMacBuilder
         ensures { mac_so_far result ≡ record (mac_so_far self) { unprotected = header_view header } }
     {
-        let mut message = self.message;
-        message.unprotected = header;
-        CoseMacBuilder { message }
+        self.message.unprotected = header;
+        self
     }
 
     /// Sets the payload.
-    pub fn payload(self, payload: Vec<u8>) -> CoseMacBuilder
+    pub fn payload(mut self, payload: Vec<u8>) -> CoseMacBuilder
         ensures { mac_so_far result ≡ record (mac_so_far self) { payload = Some payload.items } }
     {
-        let mut message = self.message;
-        message.payload = Some(payload);
-        CoseMacBuilder { message }
+        self.message.payload = Some(payload);
+        self
     }
 
     /// Sets the tag.
-    pub fn tag(self, tag: Vec<u8>) -> CoseMacBuilder
+    pub fn tag(mut self, tag: Vec<u8>) -> CoseMacBuilder
         ensures { result.message ≡ record self.message { tag = tag } }
     {
-        let mut message = self.message;
-        message.tag = tag;
-        CoseMacBuilder { message }
+        self.message.tag = tag;
+        self
     }
 
     /// Appends a recipient.
     ///
     /// # Errors
     /// Only where memory is refused.
-    pub fn add_recipient(self, recipient: CoseRecipient) -> Result<CoseMacBuilder, CoseError>
+    pub fn add_recipient(mut self, recipient: CoseRecipient) -> Result<CoseMacBuilder, CoseError>
         ensures { MatchResult result
             (λ b. mac_so_far b
             ≡ record (mac_so_far self) { recipients = recipients_and (recipient_view recipient) (mac_so_far self).recipients })
             (λ e. e ≡ Memory) }
     {
-        let mut message = self.message;
-        message.recipients.push(recipient)?;
-        Ok(CoseMacBuilder { message })
+        self.message.recipients.push(recipient)?;
+        Ok(self)
     }
 
     /// Sets the tag that the signer gives (RFC 9052, section 6.3). The signer is handed the MAC_structure of the protected header, the

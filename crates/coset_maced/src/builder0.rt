@@ -38,42 +38,38 @@ impl CoseMac0Builder {
     }
 
     /// Sets the protected header. It has no received bytes.
-    pub fn protected(self, header: Header) -> CoseMac0Builder
+    pub fn protected(mut self, header: Header) -> CoseMac0Builder
         ensures { mac0_so_far result ≡ record (mac0_so_far self) { protected = protected None (header_view header) } }
     {
-        let mut message = self.message;
-        message.protected = ProtectedHeader {
+        self.message.protected = ProtectedHeader {
             original_data: None,
             header,
         };
-        CoseMac0Builder { message }
+        self
     }
 
     /// Sets the unprotected header.
-    pub fn unprotected(self, header: Header) -> CoseMac0Builder
+    pub fn unprotected(mut self, header: Header) -> CoseMac0Builder
         ensures { mac0_so_far result ≡ record (mac0_so_far self) { unprotected = header_view header } }
     {
-        let mut message = self.message;
-        message.unprotected = header;
-        CoseMac0Builder { message }
+        self.message.unprotected = header;
+        self
     }
 
     /// Sets the payload.
-    pub fn payload(self, payload: Vec<u8>) -> CoseMac0Builder
+    pub fn payload(mut self, payload: Vec<u8>) -> CoseMac0Builder
         ensures { mac0_so_far result ≡ record (mac0_so_far self) { payload = Some payload.items } }
     {
-        let mut message = self.message;
-        message.payload = Some(payload);
-        CoseMac0Builder { message }
+        self.message.payload = Some(payload);
+        self
     }
 
     /// Sets the tag.
-    pub fn tag(self, tag: Vec<u8>) -> CoseMac0Builder
+    pub fn tag(mut self, tag: Vec<u8>) -> CoseMac0Builder
         ensures { result.message ≡ record self.message { tag = tag } }
     {
-        let mut message = self.message;
-        message.tag = tag;
-        CoseMac0Builder { message }
+        self.message.tag = tag;
+        self
     }
 
     /// Sets the tag that the signer gives (RFC 9052, section 6.3). The signer is handed the MAC_structure of the protected header, the

@@ -9,7 +9,7 @@ ghost use Rattle.coset_maced.specs.View.{mac_view};
 
 use coset_headers::{Header, ProtectedHeader};
 use coset_labels::{CoseError, Fault};
-use coset_parts::clone_bytes;
+use coset_parts::{clone_bytes, content_bytes};
 use coset_recipients::{CoseRecipient, clone_recipients};
 use coset_structures::{MacContext, mac_structure_data};
 use std::alloc::{AllocError, Global};
@@ -83,10 +83,7 @@ impl CoseMac {
             (λ v. mac_covered (mac_view self.now) aad.now (content_bytes (mac_view self.now).payload) ≡ Some v.items)
             (λ e. CantWrite (mac_covered (mac_view self.now) aad.now (content_bytes (mac_view self.now).payload)) e) }
     {
-        let payload = match &self.payload {
-            Some(payload) => payload.as_slice(),
-            None => &[],
-        };
+        let payload = content_bytes(&self.payload);
         self.covered(alloc, aad, payload)
     }
 
@@ -108,10 +105,7 @@ impl CoseMac {
         ensures { IsSomeAnd self.now.payload
             (λ b. AnswersWhere V.FnOnce verifier self.now.tag.items (mac_covered (mac_view self.now) aad.now b.items) result) }
     {
-        let payload = match &self.payload {
-            Some(payload) => payload.as_slice(),
-            None => &[],
-        };
+        let payload = content_bytes(&self.payload);
         let data = self.covered(alloc, aad, payload)?;
         verifier(self.tag.as_slice(), data.as_slice()).map_err(Fault::Caller)
     }

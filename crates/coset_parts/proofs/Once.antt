@@ -62,17 +62,6 @@ shared (P ∷ Ps) [] ts a b = tt
 shared (P ∷ Ps) (Q ∷ Qs) [] a b = absurd a
 shared (P ∷ Ps) (Q ∷ Qs) (t ∷ ts) a b = ((t, a.0, b.0), shared Ps Qs ts a.1 b.1)
 
-pub one_held : (P : Tree → Type 0) (ts : List Tree) → HoldOf (P ∷ []) ts → (x : Tree) × (ts ≡ x ∷ []) × P x
-one_held P [] h = absurd h
-one_held P (x ∷ []) h = (x, refl, h.0)
-one_held P (x ∷ y ∷ ts) h = absurd h.1
-
-pub two_held : (P Q : Tree → Type 0) (ts : List Tree) → HoldOf (P ∷ Q ∷ []) ts → (x y : Tree) × (ts ≡ x ∷ y ∷ []) × P x × Q y
-two_held P Q [] h = absurd h
-two_held P Q (x ∷ []) h = absurd h.1
-two_held P Q (x ∷ y ∷ []) h = (x, y, refl, h.0, h.1.0)
-two_held P Q (x ∷ y ∷ z ∷ ts) h = absurd h.1.1
-
 -- an item with the fault isn't what it should have been
 abbrev pub AllNot : List (Tree → CoseFault → Type 0) → List (Tree → Type 0) → CoseFault → Type 0
 AllNot [] [] e = Unit {0}

@@ -7,4 +7,6 @@ pub mod laws;
 mod parts;
 
 pub use crate::arrays::{five, four, three};
-pub use crate::parts::{Parts, clone_bytes, optional_value, read_parts, write_parts};
+pub use crate::parts::{
+    Parts, clone_bytes, content_bytes, optional_value, read_parts, write_parts,
+};

@@ -6,7 +6,7 @@ ghost use Rattle.coset_labels.specs.Limits.{nesting_of, layers_of};
 ghost use Rattle.coset_headers.specs.View.{header_view, protected_view};
 ghost use Rattle.coset_parts.specs.Shapes.{HasParts};
 ghost use Rattle.coset_parts.specs.Wrong.{WrongParts};
-ghost use Rattle.coset_parts.specs.Written.{optional_tree, parts_trees};
+ghost use Rattle.coset_parts.specs.Written.{optional_tree, parts_trees, content_bytes};
 
 use ciborium_value::Value;
 use coset_headers::{Header, ProtectedHeader};
@@ -81,6 +81,16 @@ pub fn optional_value(bytes: Option<Vec<u8>>) -> Value
     match bytes {
         Some(bytes) => Value::Bytes(bytes),
         None => Value::Null,
+    }
+}
+
+/// What is carried; empty where it is carried elsewhere.
+pub fn content_bytes(content: &Option<Vec<u8>>) -> &[u8]
+    ensures { result.now ≡ content_bytes (option_map (λ v. v.items) content.now) }
+{
+    match content {
+        Some(content) => content.as_slice(),
+        None => &[],
     }
 }
 

@@ -7,6 +7,7 @@ ghost use Rattle.coset_recipients.specs.View.{opened};
 
 use crate::recipient::CoseRecipient;
 use coset_labels::Fault;
+use coset_parts::content_bytes;
 use coset_structures::{EncryptionContext, enc_structure_data};
 use std::alloc::Global;
 
@@ -31,10 +32,7 @@ impl CoseRecipient {
         ensures { IsSomeAnd (ciphertext_of (opened self.now))
             (λ b. AnswersWhere C.FnOnce cipher b (recipient_structure context (opened self.now) aad.now) result) }
     {
-        let ciphertext = match &self.ciphertext {
-            Some(ciphertext) => ciphertext.as_slice(),
-            None => &[],
-        };
+        let ciphertext = content_bytes(&self.ciphertext);
         let data = enc_structure_data(alloc, context, &self.protected, aad)?;
         cipher(ciphertext, data.as_slice()).map_err(Fault::Caller)
     }

@@ -4,7 +4,6 @@
 mod as_written;
 mod four;
 pub mod laws;
-mod payload;
 mod sign;
 mod sign1;
 mod sign1_builder;

@@ -8,10 +8,9 @@ ghost use Rattle.coset_signed.specs.Fields.{no_sign, signature_bytes};
 ghost use Rattle.coset_signed.specs.Structure.{sign_structure, sign_covered};
 ghost use Rattle.coset_signed.specs.View.{sign_view};
 
-use crate::payload::payload_bytes;
 use coset_headers::{CoseSignature, Header, ProtectedHeader};
 use coset_labels::{CoseError, Fault};
-use coset_parts::clone_bytes;
+use coset_parts::{clone_bytes, content_bytes};
 use coset_structures::{SignatureContext, sig_structure_data};
 use std::alloc::{AllocError, Global};
 
@@ -74,7 +73,7 @@ impl CoseSign {
         ensures { MatchResult result (λ v. sign_covered (sign_view self.now) (signature_view signature.now) aad.now ≡ Some v.items)
             (λ e. CantWrite (sign_covered (sign_view self.now) (signature_view signature.now) aad.now) e) }
     {
-        self.covered(alloc, payload_bytes(&self.payload), aad, signature)
+        self.covered(alloc, content_bytes(&self.payload), aad, signature)
     }
 
     /// The bytes that a signature with the headers of this one covers where the payload is carried elsewhere: this payload (RFC 9052,

@@ -6,10 +6,9 @@ ghost use Rattle.coset_signed.specs.Fields.{no_sign1};
 ghost use Rattle.coset_signed.specs.Structure.{sign1_structure, sign1_covered};
 ghost use Rattle.coset_signed.specs.View.{sign1_view};
 
-use crate::payload::payload_bytes;
 use coset_headers::{Header, ProtectedHeader};
 use coset_labels::{CoseError, Fault};
-use coset_parts::clone_bytes;
+use coset_parts::{clone_bytes, content_bytes};
 use coset_structures::{SignatureContext, sig_structure_data};
 use std::alloc::{AllocError, Global};
 
@@ -66,7 +65,7 @@ impl CoseSign1 {
         ensures { MatchResult result (λ v. sign1_covered (sign1_view self.now) aad.now ≡ Some v.items)
             (λ e. CantWrite (sign1_covered (sign1_view self.now) aad.now) e) }
     {
-        self.covered(alloc, payload_bytes(&self.payload), aad)
+        self.covered(alloc, content_bytes(&self.payload), aad)
     }
 
     /// The bytes that the signature covers where the payload is carried elsewhere: this payload (RFC 9052, section 4.4).
