@@ -113,8 +113,12 @@ module _ {T S : Type 0} (rules : Rules T S) where
             → IsFaultOf ends rules.limits.nesting (old.offset + length b) more e → IsFaultOf ends rules.limits.nesting (old.offset + length b) rest e
         rest_at cs more e c u f = subst (λ (z : List ℕ). IsFaultOf ends rules.limits.nesting (old.offset + length b) z e) (sym (full cs more c u).1) f
 
-        stops : (r : Result Counts (GateFault E)) → Outcome ends rules old new b r → StopsAt ends rules.limits.nesting old.offset new.offset b rest r
-        stops (Ok counts) o = ((full o.steps [] o.course (nothing_unreadable rules.limits rules.allows rules.aad [] refl)).1, o.grown)
+        stops : (r : Result Counts (GateFault E)) → Outcome ends rules old new b r → StopsAt ends rules.limits.nesting old new b rest r
+        stops (Ok counts) o = (
+          (full o.steps [] o.course (nothing_unreadable rules.limits rules.allows rules.aad [] refl)).1,
+          o.grown,
+          subst (λ (l : Option (List ℕ)). IfKnown l (λ a. new.left ≡ Some [])) is o.ended,
+        )
         stops (Err (Decode (de.Io e))) o = λ t.
             let f = fault_here o.more (de.Io e) o.fault in
             rest_at o.steps o.more (de.Io e) o.course (damaged _ _ o.more _ (f t).0) f t

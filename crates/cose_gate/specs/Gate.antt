@@ -110,12 +110,13 @@ pub record Refused {T S : Type 0} (rules : Rules T S) (old new : Sight T S) (ss 
   pub texts_are : (texts ≡ done) ⊎ ((texts ≡ done ++ last) × (asked ≡ questions_of rules.allows rules.aad last))
   pub written : Appends old.written new.written (output_of rules.allows rules.aad texts)
 
--- where the gate stops: Ok exactly where nothing is left behind the items, with all bytes taken; else with the fault of what is left
-abbrev pub StopsAt : {E : Type 0} → (E → Bool) → ℕ → ℕ → ℕ → List ℕ → List ℕ → Result Counts (GateFault E) → Type 0
-StopsAt ends n at at' b rest (Ok counts) = (rest ≡ []) × (at' ≡ at + length b)
-StopsAt ends n at at' b rest (Err (Decode e)) = IsFaultOf ends n (at + length b) rest e
-StopsAt ends n at at' b rest (Err Write) = Unit {0}
-StopsAt ends n at at' b rest (Err Memory) = Unit {0}
+-- where the gate stops: Ok exactly where nothing is left behind the items, with all bytes taken, and the reader tells that nothing is left;
+-- else with the fault of what is left
+abbrev pub StopsAt : {T S E : Type 0} → (E → Bool) → ℕ → Sight T S → Sight T S → List ℕ → List ℕ → Result Counts (GateFault E) → Type 0
+StopsAt ends n old new b rest (Ok counts) = (rest ≡ []) × (new.offset ≡ old.offset + length b) × (new.left ≡ Some [])
+StopsAt ends n old new b rest (Err (Decode e)) = IsFaultOf ends n (old.offset + length b) rest e
+StopsAt ends n old new b rest (Err Write) = Unit {0}
+StopsAt ends n old new b rest (Err Memory) = Unit {0}
 
 -- P holds where the writer failed, and where memory was refused
 abbrev pub IfWrite : {E : Type 0} → Result Counts (GateFault E) → Type 0 → Type 0
@@ -152,7 +153,7 @@ CountsAll rules old r =
 
 -- where it stops
 abbrev pub Stops : {T S E : Type 0} → (E → Bool) → Rules T S → Sight T S → Sight T S → Result Counts (GateFault E) → Type 0
-Stops ends rules old new r = OverRun rules old (λ b ss rest. StopsAt ends rules.limits.nesting old.offset new.offset b rest r)
+Stops ends rules old new r = OverRun rules old (λ b ss rest. StopsAt ends rules.limits.nesting old new b rest r)
 
 -- after any fault: a beginning was asked, noted and written
 abbrev pub AsksFront : {T S E : Type 0} → Rules T S → Sight T S → Sight T S → Result Counts (GateFault E) → Type 0

@@ -67,6 +67,13 @@ pub use Rattle.cose_gate_laws.specs.GateCore.SignedStructure
 pub use Rattle.cose_gate_laws.specs.GateCore.SignedView
 pub use Rattle.cose_gate_laws.specs.GateCore.SignedWritten
 pub use Rattle.cose_gate_laws.specs.GateCore.WrongSigned
+pub use Rattle.coset_keys.specs.Fields as KeyFields
+pub use Rattle.coset_keys.specs.Keys
+pub use Rattle.coset_keys.specs.View as KeyView
+pub use Rattle.coset_keys.specs.Written as KeysWritten
+pub use Rattle.coset_keys.specs.Wrong as WrongKeys
+pub use Rattle.coset_keys.specs.declared.key.CoseKey
+pub use Rattle.coset_keys.specs.declared.key.CoseKeySet
 pub use Rattle.cose_run.specs.HmacJudges
 pub use Rattle.cose_run.specs.HmacKeys
 pub use Rattle.cose_run.specs.HmacMessages

@@ -16,8 +16,8 @@ use std::alloc::Global;
 /// signature's headers as the signer's; it has passed where the answer to each is yes, and one without a signature is refused. Every item
 /// is noted in the report; one that is no such message is refused there, and the gate goes on. It doesn't flush.
 ///
-/// It ends with `Ok` exactly where nothing is left behind an item: the offset has grown by all bytes then. No header waits after any
-/// answer. What the clause `ran` says holds of the bytes that were there, also over a reader that doesn't tell which are to come; where
+/// It ends with `Ok` exactly where nothing is left behind an item: the offset has grown by all bytes then, and a reader that tells what is
+/// to come tells that nothing is. No header waits after any answer. What the clause `ran` says holds of the bytes that were there, also over a reader that doesn't tell which are to come; where
 /// they are known, it holds of those, and the other clauses say it fact by fact over the run of the input.
 ///
 /// # Errors

@@ -1,14 +1,14 @@
 //! The gate.
 ghost use Rattle.std.specs.Prelude.{◌≡◌, ◌+◌, ◌<◌, ◌^◌, [], Some, None, Ok, IsOk, IfOk, IfErr, OnOk, true, not, if◌then◌else◌, ℕ, List};
 ghost use Rattle.ciborium.specs.Damage.{Damage};
-ghost use Rattle.ciborium.specs.Reading.{NamesFault, Steady, IsNoMemory};
+ghost use Rattle.ciborium.specs.Reading.{NamesFault, Steady, IsNoMemory, IfEnd};
 ghost use Rattle.ciborium_ll.specs.Seen.{Takes};
 ghost use Rattle.ciborium_ll.specs.Views.{left_of, offset_of, waiting_of, reader_of, seen};
 ghost use Rattle.ciborium_value.specs.View.{view};
 ghost use Rattle.coset_labels.specs.Limits.{nesting_of, layers_of};
 ghost use Rattle.cose_gate_core.specs.Findings.{usual, plain, only_exact};
 ghost use Rattle.cose_gate_core.specs.Outcome.{Answers, IsNext, IsReadFault, reader_failures, writer_failures};
-ghost use Rattle.cose_gate_core.specs.Passing.{at_end, fault_by, stopped_by};
+ghost use Rattle.cose_gate_core.specs.Passing.{at_end};
 ghost use Rattle.cose_gate_core.specs.Run.{has_passed};
 ghost use Rattle.cose_gate_core.specs.Terms.{limits_of, IsTaken};
 
@@ -47,6 +47,36 @@ pub enum GateFault<E> {
     Memory,
 }
 
+/// No item was read.
+impl<E> From<de::Error<E>> for GateFault<E> {
+    ghost use Rattle.std.specs.Prelude.{◌≡◌};
+    ghost use Rattle.cose_gate_core.specs.Passing.{fault_by};
+
+    ghost from_gives = { λ e fault. fault ≡ fault_by e };
+
+    fn from(error: de::Error<E>) -> GateFault<E> {
+        match error {
+            de::Error::Memory => GateFault::Memory,
+            error => GateFault::Decode(error),
+        }
+    }
+}
+
+/// An item was stopped on its way.
+impl<E> From<ItemFault> for GateFault<E> {
+    ghost use Rattle.std.specs.Prelude.{◌≡◌};
+    ghost use Rattle.cose_gate_core.specs.Passing.{stopped_by};
+
+    ghost from_gives = { λ fault stop. stop ≡ stopped_by fault };
+
+    fn from(fault: ItemFault) -> GateFault<E> {
+        match fault {
+            ItemFault::Write => GateFault::Write,
+            ItemFault::Memory => GateFault::Memory,
+        }
+    }
+}
+
 /// Whether the fault is an end of the bytes.
 fn is_end<R: Read>(error: &de::Error<R::Error>) -> bool
     ensures { result ≡ at_end R.ends error.now }
@@ -54,30 +84,6 @@ fn is_end<R: Read>(error: &de::Error<R::Error>) -> bool
     match error {
         de::Error::Io(e) => R::is_end(e),
         _ => false,
-    }
-}
-
-/// What stops the gate where no item was read.
-fn fault_of<E>(error: de::Error<E>) -> GateFault<E>
-    ensures { result ≡ fault_by error }
-{
-    match error {
-        de::Error::Io(e) => GateFault::Decode(de::Error::Io(e)),
-        de::Error::Syntax(p) => GateFault::Decode(de::Error::Syntax(p)),
-        de::Error::Semantic(o, k) => GateFault::Decode(de::Error::Semantic(o, k)),
-        de::Error::RecursionLimitExceeded => GateFault::Decode(de::Error::RecursionLimitExceeded),
-        de::Error::Memory => GateFault::Memory,
-        de::Error::TooLong => GateFault::Decode(de::Error::TooLong),
-    }
-}
-
-/// What stops the gate in an item.
-fn stop_of<E>(fault: ItemFault) -> GateFault<E>
-    ensures { result ≡ stopped_by fault }
-{
-    match fault {
-        ItemFault::Write => GateFault::Write,
-        ItemFault::Memory => GateFault::Memory,
     }
 }
 
@@ -93,6 +99,8 @@ fn read_item<R: Read>(
         (seen R.Read decoder.old) (seen R.Read decoder.new)) }
     ensures nothing { left_of R.left decoder.old ≡ Some [] → IfErr result IsNoMemory }
     ensures some { left_of R.left decoder.old ≡ Some [] → OnOk result ⊥ }
+    ensures ended { left_of R.left decoder.old ≡ Some []
+        → IfErr result (IfEnd R.ends (left_of R.left decoder.new ≡ Some [])) }
     ensures steady { Steady R.ends result (seen R.Read decoder.old) (seen R.Read decoder.new) }
     ensures fits { offset_of decoder.new < 2 ^ 64 }
 {
@@ -100,10 +108,8 @@ fn read_item<R: Read>(
     if terms.strict {
         return de::from_decoder_strict(alloc, decoder, nesting);
     }
-    match de::from_decoder(alloc, decoder, nesting) {
-        Ok(value) => Ok((value, true)),
-        Err(error) => Err(error),
-    }
+    let value = de::from_decoder(alloc, decoder, nesting)?;
+    Ok((value, true))
 }
 
 /// The next item, or `None` where no byte is left.
@@ -130,7 +136,7 @@ fn next_item<R: Read>(
             if is_end::<R>(&error) && decoder.offset() == offset {
                 return Ok(None);
             }
-            Err(fault_of(error))
+            Err(GateFault::from(error))
         }
     }
 }
@@ -217,7 +223,7 @@ fn gate_by<R: Read, W: Write, P: Report, J: Judge>(
         };
         let verdict = match pass(alloc, terms, exact, value, out, aad, judge) {
             Ok(verdict) => verdict,
-            Err(fault) => return Err(stop_of(fault)),
+            Err(fault) => return Err(GateFault::from(fault)),
         };
         counts = counted(counts, verdict);
         match report.note(&entry_of(counts, offset, verdict)) {
@@ -233,7 +239,8 @@ fn gate_by<R: Read, W: Write, P: Report, J: Judge>(
 /// signer's; it has passed where the answer to each is yes, and one without a signature is refused. Every item is noted in the report;
 /// one that is no such message is refused there, and the gate goes on. It doesn't flush.
 ///
-/// It ends with `Ok` where nothing is left behind an item: the offset has grown by all bytes then. No header waits after any answer.
+/// It ends with `Ok` where nothing is left behind an item: the offset has grown by all bytes then, and a reader that tells what is to come
+/// tells that nothing is. No header waits after any answer.
 /// What the clause `ran` says holds of the bytes that were there, also over a reader that doesn't tell which are to come; where they are
 /// known, it holds of those.
 ///
