@@ -8,7 +8,7 @@ use Rattle.cose_gate.specs.Findings.{Limits, usual}
 use Rattle.cose_gate.specs.Questions.{Question}
 use Rattle.cose_gate.specs.Asked.{folded_over}
 use Rattle.cose_gate.specs.Run.{Step, Run, Course, asked_of, questions_of, output_of}
-use Rattle.cose_gate.specs.Gate.{WritesAll, CountsAll, Stops}
+use Rattle.cose_gate.specs.Gate.{Call, WritesAll, CountsAll, Stops}
 use Rattle.cose_gate.specs.Outcome.{Rules, Sight, IsFaultOf, Whole, Outcome, Answers}
 use Rattle.cose_gate.specs.Counts.{Counts}
 use Rattle.cose_gate.specs.GateFault.{GateFault}
@@ -96,8 +96,11 @@ module _ (ids : List (List ℕ)) (aad input : List ℕ) (old new : Sight (List (
 
 -- the clauses of the gate, over a run of the input; its answer tells which sights are meant
 module _ (limits : Limits) (ids : List (List ℕ)) (aad input : List ℕ) (old new : Sight (List (List ℕ)) Tallied) {E : Type 0} (ends : E → Bool) where
+  abbrev the_call : Call (List (List ℕ)) Tallied E
+  the_call = record { ends = ends; rules = by limits ids aad; old = old; new = new }
+
   pub ran_whole : (output : List ℕ) (counts : Counts) (ss : List Step) (rest : List ℕ) → Answers ends (by limits ids aad) old new (Ok counts) → old.offset ≡ 0 → old.left ≡ Some input → old.written ≡ Some [] → new.written ≡ Some output
-      → WritesAll ends (by limits ids aad) old new (Ok counts) → CountsAll {E = E} (by limits ids aad) old (Ok counts) → Stops ends (by limits ids aad) old new (Ok counts)
+      → WritesAll the_call (Ok counts) → CountsAll the_call (Ok counts) → Stops the_call (Ok counts)
       → Run limits (allows ids) aad 0 input ss rest → RelayedRun ids aad ss rest output counts
   ran_whole output counts ss rest answers start is none out w c s run =
       let here : Run limits (allows ids) aad old.offset input ss rest = subst (λ (n : ℕ). Run limits (allows ids) aad n input ss rest) (sym start) run in

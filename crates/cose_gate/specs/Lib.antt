@@ -1,5 +1,6 @@
 pub mod Gate
 pub use Rattle.cose_gate_laws.specs.GateCore.Asked
+pub use Rattle.cose_gate_laws.specs.GateCore.Calls
 pub use Rattle.cose_gate_laws.specs.GateCore.Findings
 pub use Rattle.cose_gate_laws.specs.GateCore.Lent
 pub use Rattle.cose_gate_laws.specs.GateCore.Outcome
