@@ -1,7 +1,7 @@
+pub mod Again
 pub mod Checked
 pub mod Ids
 pub mod Keys
 pub mod Relay
 pub mod Sealed
 pub mod Spelled
-pub mod Twice

@@ -4,16 +4,16 @@ use Rattle.std.proofs.lemmas.Grind.{flat_map-append}
 use Rattle.std.specs.Prelude.{Result, Ok, Err}
 use Rattle.std.specs.Io.KnownBytes.{Appends}
 use Rattle.cose_gate.specs.Reading.{IfKnown}
-use Rattle.cose_gate.specs.Findings.{usual}
+use Rattle.cose_gate.specs.Findings.{Limits, usual}
 use Rattle.cose_gate.specs.Questions.{Question}
 use Rattle.cose_gate.specs.Asked.{folded_over}
 use Rattle.cose_gate.specs.Run.{Step, Run, Course, asked_of, questions_of, output_of}
-use Rattle.cose_gate.specs.Gate.{WritesAll, Stops}
+use Rattle.cose_gate.specs.Gate.{Call, WritesAll, CountsAll, Stops}
 use Rattle.cose_gate.specs.Outcome.{Rules, Sight, IsFaultOf, Whole, Outcome, Answers}
 use Rattle.cose_gate.specs.Counts.{Counts}
 use Rattle.cose_gate.specs.GateFault.{GateFault}
 use Rattle.cose_gate.specs.GateFault.TheVariants as gating
-use Rattle.callers.specs.Judging.{key_id_of, key_ids_of, allows, Sides, Relayed, Halted}
+use Rattle.callers.specs.Judging.{key_id_of, key_ids_of, allows, Sides, Relayed, RelayedRun, Halted}
 use Rattle.callers.specs.Tallies.{Tallied, tallied}
 
 abbrev pub decided : List (List ℕ) → Question → List (List ℕ)
@@ -24,14 +24,14 @@ told_all : (told : List (List ℕ)) (qs : List Question) → folded_over decided
 told_all told [] = sym (append-nil told)
 told_all told (q ∷ qs) = told_all (told ++ key_id_of q.subject ∷ []) qs ∙ append_assoc told (key_id_of q.subject ∷ []) (key_ids_of qs)
 
-abbrev pub by : List (List ℕ) → List ℕ → Rules (List (List ℕ)) Tallied
-by ids aad = record { limits = usual; decided = decided; folded = tallied; allows = allows ids; aad = aad }
+abbrev pub by : Limits → List (List ℕ) → List ℕ → Rules (List (List ℕ)) Tallied
+by limits ids aad = record { limits = limits; decided = decided; folded = tallied; allows = allows ids; aad = aad }
 
 abbrev sides : Sight (List (List ℕ)) Tallied → Sides
 sides s = record { asked = s.told; tally = s.state }
 
 module _ (ids : List (List ℕ)) (aad input : List ℕ) (old new : Sight (List (List ℕ)) Tallied) where
-  pub whole : (output : List ℕ) (counts : Counts) → old.offset ≡ 0 → old.written ≡ Some [] → new.written ≡ Some output → Whole (by ids aad) old new input counts
+  pub whole : (output : List ℕ) (counts : Counts) → old.offset ≡ 0 → old.written ≡ Some [] → new.written ≡ Some output → Whole (by usual ids aad) old new input counts
       → Relayed ids aad input (sides old) (sides new) output counts
   whole output counts start none out w = record {
     steps = w.steps;
@@ -49,23 +49,11 @@ module _ (ids : List (List ℕ)) (aad input : List ℕ) (old new : Sight (List (
 
   module _ {E : Type 0} (ends : E → Bool) where
     -- the bytes to come are the input
-    pub over : (r : Result Counts (GateFault E)) → old.left ≡ Some input → Answers ends (by ids aad) old new r → Outcome ends (by ids aad) old new input r
+    pub over : (r : Result Counts (GateFault E)) → old.left ≡ Some input → Answers ends (by usual ids aad) old new r → Outcome ends (by usual ids aad) old new input r
     over r is a = let e : input ≡ a.input = subst (λ (l : Option (List ℕ)). IfKnown l (λ b. b ≡ a.input)) is a.is in
-        subst (λ (i : List ℕ). Outcome ends (by ids aad) old new i r) (sym e) a.outcome
+        subst (λ (i : List ℕ). Outcome ends (by usual ids aad) old new i r) (sym e) a.outcome
 
-    -- the clauses of the gate, over a run of the input; its answer tells which sights are meant
-    pub ran_whole : (output : List ℕ) (counts : Counts) (ss : List Step) (rest : List ℕ) → Answers ends (by ids aad) old new (Ok counts) → old.offset ≡ 0 → old.left ≡ Some input → old.written ≡ Some [] → new.written ≡ Some output
-        → WritesAll ends (by ids aad) old new (Ok counts) → Stops ends (by ids aad) old new (Ok counts) → Run usual (allows ids) aad 0 input ss rest
-        → (output ≡ output_of (allows ids) aad ss) × (rest ≡ [])
-    ran_whole output counts ss rest answers start is none out w s run =
-        let here : Run usual (allows ids) aad old.offset input ss rest = subst (λ (n : ℕ). Run usual (allows ids) aad n input ss rest) (sym start) run in
-        (appended none out (w input ss rest is here), (s input ss rest is here).0)
-      where
-        appended : {xs : List ℕ} → old.written ≡ Some [] → new.written ≡ Some output → Appends old.written new.written xs → output ≡ xs
-        appended {xs} a b p = let q = subst (λ (z : Option (List ℕ)). Appends z new.written xs) a p in
-            let r = subst (λ (z : Option (List ℕ)). Appends (Some []) z xs) b q in r
-
-    pub halted : (fault : GateFault E) → old.offset ≡ 0 → old.left ≡ Some input → Outcome ends (by ids aad) old new input (Err fault)
+    pub halted : (fault : GateFault E) → old.offset ≡ 0 → old.left ≡ Some input → Outcome ends (by usual ids aad) old new input (Err fault)
         → Halted ends ids aad input (sides old) (sides new) fault
     halted (gating.Decode e) start is w = record {
       done = w.steps;
@@ -105,3 +93,25 @@ module _ (ids : List (List ℕ)) (aad input : List ℕ) (old new : Sight (List (
       tally = w.state;
       due = tt;
     }
+
+-- the clauses of the gate, over a run of the input; its answer tells which sights are meant
+module _ (limits : Limits) (ids : List (List ℕ)) (aad input : List ℕ) (old new : Sight (List (List ℕ)) Tallied) {E : Type 0} (ends : E → Bool) where
+  abbrev the_call : Call (List (List ℕ)) Tallied E
+  the_call = record { ends = ends; rules = by limits ids aad; old = old; new = new }
+
+  pub ran_whole : (output : List ℕ) (counts : Counts) (ss : List Step) (rest : List ℕ) → Answers ends (by limits ids aad) old new (Ok counts) → old.offset ≡ 0 → old.left ≡ Some input → old.written ≡ Some [] → new.written ≡ Some output
+      → WritesAll the_call (Ok counts) → CountsAll the_call (Ok counts) → Stops the_call (Ok counts)
+      → Run limits (allows ids) aad 0 input ss rest → RelayedRun ids aad ss rest output counts
+  ran_whole output counts ss rest answers start is none out w c s run =
+      let here : Run limits (allows ids) aad old.offset input ss rest = subst (λ (n : ℕ). Run limits (allows ids) aad n input ss rest) (sym start) run in
+      let numbers = c input ss rest is here in
+      record {
+        output_is = appended none out (w input ss rest is here);
+        rest_is = (s input ss rest is here).0;
+        passed = numbers.0;
+        refused = numbers.1;
+      }
+    where
+      appended : {xs : List ℕ} → old.written ≡ Some [] → new.written ≡ Some output → Appends old.written new.written xs → output ≡ xs
+      appended {xs} a b p = let q = subst (λ (z : Option (List ℕ)). Appends z new.written xs) a p in
+          let r = subst (λ (z : Option (List ℕ)). Appends (Some []) z xs) b q in r

@@ -58,6 +58,19 @@ pub record Relayed (ids : List (List ℕ)) (aad input : List ℕ) (old new : Sid
   pub asked : new.asked ≡ old.asked ++ key_ids_of (questions_of (allows ids) aad steps)
   pub tally : new.tally ≡ folded_over tallied old.tally (entries_of steps)
 
+-- what is relayed of a run of the whole input: its output, with nothing left, and as many passed and refused as its steps
+pub record RelayedRun (ids : List (List ℕ)) (aad : List ℕ) (ss : List Step) (rest output : List ℕ) (counts : Counts) : Type 0 where
+  pub output_is : output ≡ output_of (allows ids) aad ss
+  pub rest_is : rest ≡ []
+  pub passed : counts.passed ≡ passed_count (allows ids) aad ss
+  pub refused : counts.refused ≡ refused_count (allows ids) aad ss
+
+-- a relay of what a relay wrote changes nothing: the same bytes, as many messages pass as passed, and none is refused
+pub record Unchanged (once again : List ℕ) (first second : Counts) : Type 0 where
+  pub output : again ≡ once
+  pub passed : second.passed ≡ first.passed
+  pub refused : second.refused ≡ 0
+
 -- of a fault of the bytes: no item was read of the next, and it is theirs
 abbrev pub IsDue : {E : Type 0} → (E → Bool) → ℕ → List ℕ → List Step → GateFault E → Type 0
 IsDue ends stop more last (Decode e) = (last ≡ []) × IsFaultOf ends usual.nesting stop more e

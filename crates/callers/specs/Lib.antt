@@ -1,4 +1,5 @@
 pub mod Checking
+pub mod Gatings
 pub mod Heads
 pub mod Judging
 pub mod Keeping

@@ -1,10 +1,10 @@
-//! Messages checked under the keys of a set: one while it is read, and a whole input as a program. It names `cose_gate`, and `coset` for
-//! the key set.
+//! Messages checked under the keys of a set: one while it is read, and a whole input as a program. `cose_gate` is the one crate that it
+//! names.
 ghost use Rattle.std.specs.Prelude.{◌<◌, ℕ, List, IfOk, length, map, option_copied, string_bytes};
 ghost use Rattle.std.specs.Io.KnownBytes.{Consumes};
 ghost use Rattle.std.specs.Io.Buffered.{reader_remaining};
-ghost use Rattle.coset.specs.KeyView.{key_set_view};
 ghost use Rattle.cose_gate.specs.HmacJudges.{says_yes};
+ghost use Rattle.cose_gate.specs.KeyView.{key_set_view};
 ghost use Rattle.cose_gate.specs.Views.{left_of};
 ghost use Rattle.cose_gate.specs.Words as spec;
 ghost use Rattle.callers.specs.Checking.{IsAnswered, IsFedInFew, EndsBy, EndsOver};
@@ -12,9 +12,9 @@ ghost use Rattle.callers.specs.Checking.{IsAnswered, IsFedInFew, EndsBy, EndsOve
 use cose_gate::laws::judged_can_be_written;
 use cose_gate::stream_laws::pieces_fit;
 use cose_gate::{
-    Blocks, Decoder, HmacJudge, Judge, Read, StreamFault, Write, run, stream_check, words,
+    Blocks, CoseKeySet, Decoder, HmacJudge, Judge, Read, StreamFault, Write, run, stream_check,
+    words,
 };
-use coset::CoseKeySet;
 use std::alloc::Global;
 use std::io;
 use std::io::BufReader;

@@ -4,6 +4,7 @@
 
 pub mod checking;
 pub mod covering;
+pub mod gatings;
 pub mod heading;
 pub mod heads;
 pub mod items;
@@ -13,3 +14,4 @@ pub mod once;
 pub mod relaying;
 pub mod signing;
 pub mod tally;
+pub mod twice;

@@ -1,14 +1,13 @@
 //! The gate with a judge and a report of one's own. `cose_gate` is the one crate that it names.
-ghost use Rattle.std.specs.Prelude.{◌≡◌, ℕ, ◌<◌, ◌^◌, List, [], length, All, true, IfOk, IfErr};
+ghost use Rattle.std.specs.Prelude.{◌≡◌, ℕ, List, [], true, IfOk, IfErr};
 ghost use Rattle.cose_gate.specs.Findings.{usual};
-ghost use Rattle.cose_gate.specs.Run.{Step, Run, output_of};
-ghost use Rattle.callers.specs.Judging.{Relayed, Halted, allows};
+ghost use Rattle.cose_gate.specs.Run.{Step, Run};
+ghost use Rattle.callers.specs.Judging.{Relayed, RelayedRun, Halted, allows};
 ghost use Rattle.callers.specs.Sides.{known_of, asked_of};
 ghost use Rattle.callers.specs.Tallies.{tally_of};
 
 use crate::judging::KeyIds;
 use crate::tally::Tally;
-use cose_gate::laws::{every_input_run, output_is_fixed};
 use cose_gate::{Counts, Decoder, End, GateFault, Mem, gate};
 use std::alloc::Global;
 
@@ -28,7 +27,7 @@ pub fn relay(
     ensures err { IfErr result (Halted (λ _. true) (known_of judge.old) aad.now input.now (record { asked = asked_of judge.old; tally = tally_of tally.old })
         (record { asked = asked_of judge.new; tally = tally_of tally.new })) }
     ensures run { (ss : List Step) (rest : List ℕ) → Run usual (allows (known_of judge.old)) aad.now 0 input.now ss rest
-        → IfOk result (λ r. (r.0.items ≡ output_of (allows (known_of judge.old)) aad.now ss) × (rest ≡ [])) }
+        → IfOk result (λ r. RelayedRun (known_of judge.old) aad.now ss rest r.0.items r.1) }
     ensures known { known_of judge.new ≡ known_of judge.old }
 {
     let mut decoder = Decoder::from(input);
@@ -37,33 +36,4 @@ pub fn relay(
         Ok(counts) => Ok((out.into_inner(), counts)),
         Err(fault) => Err(fault),
     }
-}
-
-/// A slice is bytes, fewer than 2^64.
-fn bytes_below(bytes: &[u8])
-    ensures few { length bytes.now < 2 ^ 64 }
-    ensures low { All (λ x. x < 256) bytes.now }
-{
-    let _len = bytes.len();
-}
-
-/// What a relay with these ids writes, and what it writes of that: the same.
-///
-/// # Errors
-/// Those of `relay`.
-pub fn relay_twice(
-    alloc: Global,
-    input: &[u8],
-    aad: &[u8],
-    judge: &mut KeyIds,
-    tally: &mut Tally,
-) -> Result<(Vec<u8>, Vec<u8>), GateFault<End>>
-    ensures { IfOk result (λ r. r.1.items ≡ r.0.items) }
-{
-    bytes_below(input);
-    every_input_run();
-    output_is_fixed();
-    let (once, _) = relay(alloc, input, aad, judge, tally)?;
-    let (again, _) = relay(alloc, &once, aad, judge, tally)?;
-    Ok((once, again))
 }

@@ -1,6 +1,6 @@
-//! The program over a reader of std.
-use callers::checking::program_in_blocks;
-use cose_gate::Mem;
+//! The program over a reader of std, and a message under a key set.
+use callers::checking::{is_tagged, program_in_blocks};
+use cose_gate::{CborSerializable, CoseKeySet, Decoder, Mem};
 use std::io::BufReader;
 
 /// 17([h'a10105', {}, 'hi', TAG]), with the tag over the external data 01 under the secret 00.
@@ -24,4 +24,17 @@ fn a_program_reads_in_blocks(rt: HostRuntime) {
         1
     );
     assert!(rt; out.as_written().is_empty());
+}
+
+#[test]
+fn a_key_set_is_read_and_judges(rt: HostRuntime) {
+    let alloc = rt.alloc();
+    let keys = CoseKeySet::from_slice(alloc, &KEYS).expect(&rt, "a key set");
+    let mut buffer = [0; 1];
+    let mut decoder = Decoder::from(TAGGED.as_slice());
+    let tagged = is_tagged(alloc, &mut decoder, &mut buffer, &[1], &keys);
+    assert_eq!(rt; tagged, Ok(true));
+    let mut decoder = Decoder::from(TAGGED.as_slice());
+    let other = is_tagged(alloc, &mut decoder, &mut buffer, b"", &keys);
+    assert_eq!(rt; other, Ok(false));
 }

@@ -17,7 +17,7 @@ use Rattle.cose_gate_laws.specs.GateCore.declared.gating.Counts.{Counts}
 use Rattle.cose_gate_laws.specs.GateCore.declared.gating.GateFault.{GateFault}
 use Rattle.cose_gate_laws.specs.GateCore.declared.gating.GateFault.TheVariants.{Decode, Write, Memory}
 use Rattle.cose_gate_laws.proofs.Within.{Twin, Twins, Within, Split, course_within, unreadable_ends, nothing_unreadable, twins_questions, twins_output, twins_entries, twins_count, twins_split, place_behind}
-use Rattle.cose_gate.specs.Gate.{IfThrough, IfWrite, IfMemory, StopsAt, Noted, AskedFront, NotedFront, WrittenFront, Torn, Refused, AsksAll, WritesAll, NotesAll, CountsAll, Stops, AsksFront, NotesFront, WritesFront, Tears, WritesWhole, HoldsNoMemory}
+use Rattle.cose_gate.specs.Gate.{Call, IfThrough, IfWrite, IfMemory, StopsAt, Noted, AskedFront, NotedFront, WrittenFront, Torn, Refused, AsksAll, WritesAll, NotesAll, CountsAll, Stops, AsksFront, NotesFront, WritesFront, Tears, WritesWhole, HoldsNoMemory}
 
 damaged : (n stop : ℕ) (more : List ℕ) (f : Fault) → Damage stop more n f → IsUnreadableWithin n more
 damaged n stop more f d v rest w = excludes stop more n f d v rest w
@@ -113,8 +113,12 @@ module _ {T S : Type 0} (rules : Rules T S) where
             → IsFaultOf ends rules.limits.nesting (old.offset + length b) more e → IsFaultOf ends rules.limits.nesting (old.offset + length b) rest e
         rest_at cs more e c u f = subst (λ (z : List ℕ). IsFaultOf ends rules.limits.nesting (old.offset + length b) z e) (sym (full cs more c u).1) f
 
-        stops : (r : Result Counts (GateFault E)) → Outcome ends rules old new b r → StopsAt ends rules.limits.nesting old.offset new.offset b rest r
-        stops (Ok counts) o = ((full o.steps [] o.course (nothing_unreadable rules.limits rules.allows rules.aad [] refl)).1, o.grown)
+        stops : (r : Result Counts (GateFault E)) → Outcome ends rules old new b r → StopsAt ends rules.limits.nesting old new b rest r
+        stops (Ok counts) o = (
+          (full o.steps [] o.course (nothing_unreadable rules.limits rules.allows rules.aad [] refl)).1,
+          o.grown,
+          subst (λ (l : Option (List ℕ)). IfKnown l (λ a. new.left ≡ Some [])) is o.ended,
+        )
         stops (Err (Decode (de.Io e))) o = λ t.
             let f = fault_here o.more (de.Io e) o.fault in
             rest_at o.steps o.more (de.Io e) o.course (damaged _ _ o.more _ (f t).0) f t
@@ -301,38 +305,41 @@ module _ {T S : Type 0} (rules : Rules T S) where
                 (written_same _ _ (ap (output_of rules.allows rules.aad) e.0 ∙ same_output (o.done ++ o.last) w.front w.twins ∙ ap (output_of rules.allows rules.aad) s.whole) o.written)
 
     -- the facts
+    abbrev the_call : {E : Type 0} → (E → Bool) → Call T S E
+    the_call ends = record { ends = ends; rules = rules; old = old; new = new }
+
     module _ {E : Type 0} (ends : E → Bool) (r : Result Counts (GateFault E)) (a : Answers ends rules old new r) where
-      pub asks_all : AsksAll ends rules old new r
+      pub asks_all : AsksAll (the_call ends) r
       asks_all b ss rest is run = if_through b ss rest is run ends r (through b ss rest is run ends r (here b ss rest is run ends r a))
           (λ e. e.all.told ∙ ap (folded_over rules.decided old.told) (same_questions e.made ss e.twins))
 
-      pub writes_all : WritesAll ends rules old new r
+      pub writes_all : WritesAll (the_call ends) r
       writes_all b ss rest is run = if_through b ss rest is run ends r (through b ss rest is run ends r (here b ss rest is run ends r a))
           (λ e. written_same _ _ (same_output e.made ss e.twins) e.all.written)
 
-      pub notes_all : NotesAll ends rules old new r
+      pub notes_all : NotesAll (the_call ends) r
       notes_all b ss rest is run = if_through b ss rest is run ends r (through b ss rest is run ends r (here b ss rest is run ends r a))
           (λ e. noted e.made ss e.twins e.all.state)
 
-      pub counts_all : CountsAll rules old r
+      pub counts_all : CountsAll (the_call ends) r
       counts_all b ss rest is run = counts b ss rest is run ends r (here b ss rest is run ends r a)
 
-      pub stops_all : Stops ends rules old new r
+      pub stops_all : Stops (the_call ends) r
       stops_all b ss rest is run = stops b ss rest is run ends r (here b ss rest is run ends r a)
 
-      pub asks_front : AsksFront rules old new r
+      pub asks_front : AsksFront (the_call ends) r
       asks_front b ss rest is run = asked_front b ss rest is run ends r (here b ss rest is run ends r a)
 
-      pub notes_front : NotesFront rules old new r
+      pub notes_front : NotesFront (the_call ends) r
       notes_front b ss rest is run = noted_front b ss rest is run ends r (here b ss rest is run ends r a)
 
-      pub writes_front : WritesFront rules old new r
+      pub writes_front : WritesFront (the_call ends) r
       writes_front b ss rest is run = written_front b ss rest is run ends r (here b ss rest is run ends r a)
 
-      pub tears : Tears rules old new r
+      pub tears : Tears (the_call ends) r
       tears b ss rest is run = torn b ss rest is run ends r (here b ss rest is run ends r a)
 
-      pub writes_whole : WritesWhole rules old new r
+      pub writes_whole : WritesWhole (the_call ends) r
       writes_whole b ss rest is run = whole_texts b ss rest is run ends r (here b ss rest is run ends r a)
 
     pub holds_none : {E : Type 0} (ends : E → Bool) (r : Result Counts (GateFault E)) → Answers ends rules old new r → IfErr r HoldsNoMemory

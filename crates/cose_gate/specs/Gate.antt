@@ -1,14 +1,14 @@
 -- What the clauses of `gate` say, over the run of the input.
 use Rattle.std.specs.Prelude.{◌≡◌, ℕ, ◌+◌, ◌≤◌, ◌⊎◌, List, [], ◌∷◌, ◌++◌, length, Some, Bool, true, IsTrue, Result, Ok, Err, IfOk, IfErr}
 use Rattle.std.specs.Io.KnownBytes.{Appends}
-use Rattle.ciborium_ll.specs.Views.{left_of, offset_of}
 use Rattle.ciborium_ll.specs.declared.dec.Decoder.{Decoder}
 use Rattle.ciborium_ll.specs.declared.read.Read.{Ghosts as Reads}
 use Rattle.ciborium_ll.specs.declared.write.Write.{Ghosts as Writes}
 use Rattle.ciborium.specs.Reading.{IsNoMemory}
 use Rattle.ciborium.specs.declared.de.Error.TheVariants as de
 use Rattle.cose_gate_laws.specs.GateCore.Asked.{folded_over, IsFront}
-use Rattle.cose_gate_laws.specs.GateCore.Findings.{Limits, usual}
+use Rattle.cose_gate_laws.specs.GateCore.Calls.{rules_by, sight_of}
+use Rattle.cose_gate_laws.specs.GateCore.Findings.{Limits}
 use Rattle.cose_gate_laws.specs.GateCore.Outcome.{Rules, Sight, IsFaultOf}
 use Rattle.cose_gate_laws.specs.GateCore.Questions.{Question}
 use Rattle.cose_gate_laws.specs.GateCore.Run.{Step, Run, passes, text_of, questions_of, output_of, passed_count, refused_count}
@@ -20,22 +20,21 @@ use Rattle.cose_gate_laws.specs.GateCore.declared.report.Report.{Ghosts as Repor
 use Rattle.cose_gate_laws.specs.GateCore.declared.judge.Judge.{Ghosts as Judges}
 use Rattle.cose_gate_laws.specs.Anew.{AreEntries}
 
--- what a call of the gate goes by; `P.Report` and `J.Judge` are the words that the bounds of its report and its judge bring
-abbrev pub rules_by : {P J : Type 0} → Limits → (p : Reports P) (j : Judges J) → J → List ℕ → Rules j.Told p.State
-rules_by limits p j judge aad = record { limits = limits; decided = j.decided; folded = p.folded; allows = j.yes (j.who judge); aad = aad }
+-- a call of the gate: which faults are an end, what it goes by, and what is seen as it begins and as it returns
+pub record Call (T S E : Type 0) : Type 0 where
+  pub ends : E → Bool
+  pub rules : Rules T S
+  pub old : Sight T S
+  pub new : Sight T S
 
--- where no limits are chosen
-abbrev pub rules_of : {P J : Type 0} (p : Reports P) (j : Judges J) → J → List ℕ → Rules j.Told p.State
-rules_of p j judge aad = rules_by usual p j judge aad
-
--- what is seen of the decoder, the writer, the report and the judge
-abbrev pub sight_of : {R E W F P J : Type 0} (r : Reads R E) (w : Writes W F) (p : Reports P) (j : Judges J) → Decoder R → W → P → J → Sight j.Told p.State
-sight_of r w p j decoder out report judge = record {
-  told = j.told judge;
-  state = p.state report;
-  written = w.written out;
-  offset = offset_of decoder;
-  left = left_of r.left decoder;
+-- by the words that the bounds of its reader, writer, report and judge bring, within these limits and over this external data
+abbrev pub call_of : {R E W F P J : Type 0} (r : Reads R E) (w : Writes W F) (p : Reports P) (j : Judges J) → Limits → List ℕ
+    → Decoder R → W → P → J → Decoder R → W → P → J → Call j.Told p.State E
+call_of r w p j limits aad decoder out report judge decoder' out' report' judge' = record {
+  ends = r.ends;
+  rules = rules_by limits p j judge aad;
+  old = sight_of r w p j decoder out report judge;
+  new = sight_of r w p j decoder' out' report' judge';
 }
 
 -- P holds of the bytes to come, where these are known, of the steps of the run over them, and of what is left behind its items. Of a
@@ -110,12 +109,13 @@ pub record Refused {T S : Type 0} (rules : Rules T S) (old new : Sight T S) (ss 
   pub texts_are : (texts ≡ done) ⊎ ((texts ≡ done ++ last) × (asked ≡ questions_of rules.allows rules.aad last))
   pub written : Appends old.written new.written (output_of rules.allows rules.aad texts)
 
--- where the gate stops: Ok exactly where nothing is left behind the items, with all bytes taken; else with the fault of what is left
-abbrev pub StopsAt : {E : Type 0} → (E → Bool) → ℕ → ℕ → ℕ → List ℕ → List ℕ → Result Counts (GateFault E) → Type 0
-StopsAt ends n at at' b rest (Ok counts) = (rest ≡ []) × (at' ≡ at + length b)
-StopsAt ends n at at' b rest (Err (Decode e)) = IsFaultOf ends n (at + length b) rest e
-StopsAt ends n at at' b rest (Err Write) = Unit {0}
-StopsAt ends n at at' b rest (Err Memory) = Unit {0}
+-- where the gate stops: Ok exactly where nothing is left behind the items, with all bytes taken, and the reader tells that nothing is left;
+-- else with the fault of what is left
+abbrev pub StopsAt : {T S E : Type 0} → (E → Bool) → ℕ → Sight T S → Sight T S → List ℕ → List ℕ → Result Counts (GateFault E) → Type 0
+StopsAt ends n old new b rest (Ok counts) = (rest ≡ []) × (new.offset ≡ old.offset + length b) × (new.left ≡ Some [])
+StopsAt ends n old new b rest (Err (Decode e)) = IsFaultOf ends n (old.offset + length b) rest e
+StopsAt ends n old new b rest (Err Write) = Unit {0}
+StopsAt ends n old new b rest (Err Memory) = Unit {0}
 
 -- P holds where the writer failed, and where memory was refused
 abbrev pub IfWrite : {E : Type 0} → Result Counts (GateFault E) → Type 0 → Type 0
@@ -133,44 +133,44 @@ IfMemory (Err Memory) P = P
 -- The facts of a call, each over the run of the input.
 
 -- through all items: the judge was asked exactly the run's questions, in order
-abbrev pub AsksAll : {T S E : Type 0} → (E → Bool) → Rules T S → Sight T S → Sight T S → Result Counts (GateFault E) → Type 0
-AsksAll ends rules old new r =
-    OverRun rules old (λ b ss rest. IfThrough ends r (new.told ≡ folded_over rules.decided old.told (questions_of rules.allows rules.aad ss)))
+abbrev pub AsksAll : {T S E : Type 0} → Call T S E → Result Counts (GateFault E) → Type 0
+AsksAll c r =
+    OverRun c.rules c.old (λ b ss rest. IfThrough c.ends r (c.new.told ≡ folded_over c.rules.decided c.old.told (questions_of c.rules.allows c.rules.aad ss)))
 
 -- through all items: exactly the passed messages were written, each as its one shortest text
-abbrev pub WritesAll : {T S E : Type 0} → (E → Bool) → Rules T S → Sight T S → Sight T S → Result Counts (GateFault E) → Type 0
-WritesAll ends rules old new r = OverRun rules old (λ b ss rest. IfThrough ends r (Appends old.written new.written (output_of rules.allows rules.aad ss)))
+abbrev pub WritesAll : {T S E : Type 0} → Call T S E → Result Counts (GateFault E) → Type 0
+WritesAll c r = OverRun c.rules c.old (λ b ss rest. IfThrough c.ends r (Appends c.old.written c.new.written (output_of c.rules.allows c.rules.aad ss)))
 
 -- through all items: each was noted
-abbrev pub NotesAll : {T S E : Type 0} → (E → Bool) → Rules T S → Sight T S → Sight T S → Result Counts (GateFault E) → Type 0
-NotesAll ends rules old new r = OverRun rules old (λ b ss rest. IfThrough ends r (Noted rules old new ss))
+abbrev pub NotesAll : {T S E : Type 0} → Call T S E → Result Counts (GateFault E) → Type 0
+NotesAll c r = OverRun c.rules c.old (λ b ss rest. IfThrough c.ends r (Noted c.rules c.old c.new ss))
 
 -- Ok: so many passed, and so many were refused
-abbrev pub CountsAll : {T S E : Type 0} → Rules T S → Sight T S → Result Counts (GateFault E) → Type 0
-CountsAll rules old r =
-    OverRun rules old (λ b ss rest. IfOk r (λ c. (c.passed ≡ passed_count rules.allows rules.aad ss) × (c.refused ≡ refused_count rules.allows rules.aad ss)))
+abbrev pub CountsAll : {T S E : Type 0} → Call T S E → Result Counts (GateFault E) → Type 0
+CountsAll c r =
+    OverRun c.rules c.old (λ b ss rest. IfOk r (λ n. (n.passed ≡ passed_count c.rules.allows c.rules.aad ss) × (n.refused ≡ refused_count c.rules.allows c.rules.aad ss)))
 
 -- where it stops
-abbrev pub Stops : {T S E : Type 0} → (E → Bool) → Rules T S → Sight T S → Sight T S → Result Counts (GateFault E) → Type 0
-Stops ends rules old new r = OverRun rules old (λ b ss rest. StopsAt ends rules.limits.nesting old.offset new.offset b rest r)
+abbrev pub Stops : {T S E : Type 0} → Call T S E → Result Counts (GateFault E) → Type 0
+Stops c r = OverRun c.rules c.old (λ b ss rest. StopsAt c.ends c.rules.limits.nesting c.old c.new b rest r)
 
 -- after any fault: a beginning was asked, noted and written
-abbrev pub AsksFront : {T S E : Type 0} → Rules T S → Sight T S → Sight T S → Result Counts (GateFault E) → Type 0
-AsksFront rules old new r = OverRun rules old (λ b ss rest. IfErr r (λ fault. AskedFront rules old new ss))
+abbrev pub AsksFront : {T S E : Type 0} → Call T S E → Result Counts (GateFault E) → Type 0
+AsksFront c r = OverRun c.rules c.old (λ b ss rest. IfErr r (λ fault. AskedFront c.rules c.old c.new ss))
 
-abbrev pub NotesFront : {T S E : Type 0} → Rules T S → Sight T S → Sight T S → Result Counts (GateFault E) → Type 0
-NotesFront rules old new r = OverRun rules old (λ b ss rest. IfErr r (λ fault. NotedFront rules old new ss))
+abbrev pub NotesFront : {T S E : Type 0} → Call T S E → Result Counts (GateFault E) → Type 0
+NotesFront c r = OverRun c.rules c.old (λ b ss rest. IfErr r (λ fault. NotedFront c.rules c.old c.new ss))
 
-abbrev pub WritesFront : {T S E : Type 0} → Rules T S → Sight T S → Sight T S → Result Counts (GateFault E) → Type 0
-WritesFront rules old new r = OverRun rules old (λ b ss rest. IfErr r (λ fault. WrittenFront rules old new ss))
+abbrev pub WritesFront : {T S E : Type 0} → Call T S E → Result Counts (GateFault E) → Type 0
+WritesFront c r = OverRun c.rules c.old (λ b ss rest. IfErr r (λ fault. WrittenFront c.rules c.old c.new ss))
 
 -- after Write: one text is torn
-abbrev pub Tears : {T S E : Type 0} → Rules T S → Sight T S → Sight T S → Result Counts (GateFault E) → Type 0
-Tears rules old new r = OverRun rules old (λ b ss rest. IfWrite r (Torn rules old new ss))
+abbrev pub Tears : {T S E : Type 0} → Call T S E → Result Counts (GateFault E) → Type 0
+Tears c r = OverRun c.rules c.old (λ b ss rest. IfWrite r (Torn c.rules c.old c.new ss))
 
 -- after Memory: whole texts were written
-abbrev pub WritesWhole : {T S E : Type 0} → Rules T S → Sight T S → Sight T S → Result Counts (GateFault E) → Type 0
-WritesWhole rules old new r = OverRun rules old (λ b ss rest. IfMemory r (Refused rules old new ss))
+abbrev pub WritesWhole : {T S E : Type 0} → Call T S E → Result Counts (GateFault E) → Type 0
+WritesWhole c r = OverRun c.rules c.old (λ b ss rest. IfMemory r (Refused c.rules c.old c.new ss))
 
 -- a fault of decoding is never want of memory
 abbrev pub HoldsNoMemory : {E : Type 0} → GateFault E → Type 0

@@ -1,5 +1,6 @@
 pub mod Gate
 pub use Rattle.cose_gate_laws.specs.GateCore.Asked
+pub use Rattle.cose_gate_laws.specs.GateCore.Calls
 pub use Rattle.cose_gate_laws.specs.GateCore.Findings
 pub use Rattle.cose_gate_laws.specs.GateCore.Lent
 pub use Rattle.cose_gate_laws.specs.GateCore.Outcome
@@ -67,6 +68,13 @@ pub use Rattle.cose_gate_laws.specs.GateCore.SignedStructure
 pub use Rattle.cose_gate_laws.specs.GateCore.SignedView
 pub use Rattle.cose_gate_laws.specs.GateCore.SignedWritten
 pub use Rattle.cose_gate_laws.specs.GateCore.WrongSigned
+pub use Rattle.coset_keys.specs.Fields as KeyFields
+pub use Rattle.coset_keys.specs.Keys
+pub use Rattle.coset_keys.specs.View as KeyView
+pub use Rattle.coset_keys.specs.Written as KeysWritten
+pub use Rattle.coset_keys.specs.Wrong as WrongKeys
+pub use Rattle.coset_keys.specs.declared.key.CoseKey
+pub use Rattle.coset_keys.specs.declared.key.CoseKeySet
 pub use Rattle.cose_run.specs.HmacJudges
 pub use Rattle.cose_run.specs.HmacKeys
 pub use Rattle.cose_run.specs.HmacMessages

@@ -1,10 +1,12 @@
 //! The gate.
 ghost use Rattle.std.specs.Prelude.{◌≡◌, ◌+◌, ◌<◌, ◌^◌, [], Some, None, IsOk, IfErr};
 ghost use Rattle.ciborium_ll.specs.Views.{left_of, offset_of, waiting_of, reader_of};
-ghost use Rattle.cose_gate_laws.specs.GateCore.CodeLimits.{nesting_of, layers_of};
-ghost use Rattle.cose_gate_laws.specs.GateCore.Findings.{plain, only_exact};
+ghost use Rattle.cose_gate_laws.specs.GateCore.Calls.{rules_by, sight_of, within, exact_within};
+ghost use Rattle.cose_gate_laws.specs.GateCore.Findings.{usual, only_exact};
 ghost use Rattle.cose_gate_laws.specs.GateCore.Outcome.{Answers, reader_failures, writer_failures};
-ghost use Rattle.cose_gate.specs.Gate.{rules_of, rules_by, sight_of, AsksAll, WritesAll, NotesAll, CountsAll, Stops, AsksFront, NotesFront, WritesFront, Tears, WritesWhole, HoldsNoMemory};
+ghost use Rattle.cose_gate.specs.Gate.{call_of, HoldsNoMemory};
+ghost use Rattle.cose_gate.specs.Gate.{AsksAll, WritesAll, NotesAll, CountsAll, Stops};
+ghost use Rattle.cose_gate.specs.Gate.{AsksFront, NotesFront, WritesFront, Tears, WritesWhole};
 
 use ciborium_ll::{Decoder, Read, Write};
 use cose_gate_laws::gate_core::{Counts, GateFault, Judge, Limits, Report};
@@ -16,9 +18,10 @@ use std::alloc::Global;
 /// signature's headers as the signer's; it has passed where the answer to each is yes, and one without a signature is refused. Every item
 /// is noted in the report; one that is no such message is refused there, and the gate goes on. It doesn't flush.
 ///
-/// It ends with `Ok` exactly where nothing is left behind an item: the offset has grown by all bytes then. No header waits after any
-/// answer. What the clause `ran` says holds of the bytes that were there, also over a reader that doesn't tell which are to come; where
-/// they are known, it holds of those, and the other clauses say it fact by fact over the run of the input.
+/// It ends with `Ok` exactly where nothing is left behind an item: the offset has grown by all bytes then, and a reader that tells what is
+/// to come tells that nothing is. No header waits after any answer. What the clause `ran` says holds of the bytes that were there, also
+/// over a reader that doesn't tell which are to come; where they are known, it holds of those, and the other clauses say it fact by fact
+/// over the run of the input.
 ///
 /// # Errors
 /// `Decode` where no readable item begins, or the reader failed: all items before it were asked about, noted and written. `Write` where
@@ -34,43 +37,36 @@ pub fn gate<R: Read, W: Write, P: Report, J: Judge>(
     judge: &mut J,
 ) -> Result<Counts, GateFault<R::Error>>
     // Where neither device fails, memory is found and offsets fit: the run's questions, its output, and an entry for each item.
-    ensures asked { AsksAll R.ends (rules_of P.Report J.Judge judge.old aad.now)
-        (sight_of R.Read W.Write P.Report J.Judge decoder.old out.old report.old judge.old)
-        (sight_of R.Read W.Write P.Report J.Judge decoder.new out.new report.new judge.new) result }
-    ensures written { WritesAll R.ends (rules_of P.Report J.Judge judge.old aad.now)
-        (sight_of R.Read W.Write P.Report J.Judge decoder.old out.old report.old judge.old)
-        (sight_of R.Read W.Write P.Report J.Judge decoder.new out.new report.new judge.new) result }
-    ensures noted { NotesAll R.ends (rules_of P.Report J.Judge judge.old aad.now)
-        (sight_of R.Read W.Write P.Report J.Judge decoder.old out.old report.old judge.old)
-        (sight_of R.Read W.Write P.Report J.Judge decoder.new out.new report.new judge.new) result }
-    ensures counted { CountsAll (rules_of P.Report J.Judge judge.old aad.now)
-        (sight_of R.Read W.Write P.Report J.Judge decoder.old out.old report.old judge.old) result }
-    ensures stops { Stops R.ends (rules_of P.Report J.Judge judge.old aad.now)
-        (sight_of R.Read W.Write P.Report J.Judge decoder.old out.old report.old judge.old)
-        (sight_of R.Read W.Write P.Report J.Judge decoder.new out.new report.new judge.new) result }
+    ensures asked { AsksAll (call_of R.Read W.Write P.Report J.Judge usual aad.now
+        decoder.old out.old report.old judge.old decoder.new out.new report.new judge.new) result }
+    ensures written { WritesAll (call_of R.Read W.Write P.Report J.Judge usual aad.now
+        decoder.old out.old report.old judge.old decoder.new out.new report.new judge.new) result }
+    ensures noted { NotesAll (call_of R.Read W.Write P.Report J.Judge usual aad.now
+        decoder.old out.old report.old judge.old decoder.new out.new report.new judge.new) result }
+    ensures counted { CountsAll (call_of R.Read W.Write P.Report J.Judge usual aad.now
+        decoder.old out.old report.old judge.old decoder.new out.new report.new judge.new) result }
+    ensures stops { Stops (call_of R.Read W.Write P.Report J.Judge usual aad.now
+        decoder.old out.old report.old judge.old decoder.new out.new report.new judge.new) result }
 
     // After a fault: beginnings of these.
-    ensures asked_front { AsksFront (rules_of P.Report J.Judge judge.old aad.now)
-        (sight_of R.Read W.Write P.Report J.Judge decoder.old out.old report.old judge.old)
-        (sight_of R.Read W.Write P.Report J.Judge decoder.new out.new report.new judge.new) result }
-    ensures noted_front { NotesFront (rules_of P.Report J.Judge judge.old aad.now)
-        (sight_of R.Read W.Write P.Report J.Judge decoder.old out.old report.old judge.old)
-        (sight_of R.Read W.Write P.Report J.Judge decoder.new out.new report.new judge.new) result }
-    ensures written_front { WritesFront (rules_of P.Report J.Judge judge.old aad.now)
-        (sight_of R.Read W.Write P.Report J.Judge decoder.old out.old report.old judge.old)
-        (sight_of R.Read W.Write P.Report J.Judge decoder.new out.new report.new judge.new) result }
-    ensures torn { Tears (rules_of P.Report J.Judge judge.old aad.now)
-        (sight_of R.Read W.Write P.Report J.Judge decoder.old out.old report.old judge.old)
-        (sight_of R.Read W.Write P.Report J.Judge decoder.new out.new report.new judge.new) result }
-    ensures texts { WritesWhole (rules_of P.Report J.Judge judge.old aad.now)
-        (sight_of R.Read W.Write P.Report J.Judge decoder.old out.old report.old judge.old)
-        (sight_of R.Read W.Write P.Report J.Judge decoder.new out.new report.new judge.new) result }
+    ensures asked_front { AsksFront (call_of R.Read W.Write P.Report J.Judge usual aad.now
+        decoder.old out.old report.old judge.old decoder.new out.new report.new judge.new) result }
+    ensures noted_front { NotesFront (call_of R.Read W.Write P.Report J.Judge usual aad.now
+        decoder.old out.old report.old judge.old decoder.new out.new report.new judge.new) result }
+    ensures written_front { WritesFront (call_of R.Read W.Write P.Report J.Judge usual aad.now
+        decoder.old out.old report.old judge.old decoder.new out.new report.new judge.new) result }
+    ensures torn { Tears (call_of R.Read W.Write P.Report J.Judge usual aad.now
+        decoder.old out.old report.old judge.old decoder.new out.new report.new judge.new) result }
+    ensures texts { WritesWhole (call_of R.Read W.Write P.Report J.Judge usual aad.now
+        decoder.old out.old report.old judge.old decoder.new out.new report.new judge.new) result }
 
     // Which fault it is.
     ensures no_memory { IfErr result HoldsNoMemory }
-    ensures nothing { left_of R.left decoder.old ≡ Some [] → R.failed (reader_of decoder.new) ≡ R.failed (reader_of decoder.old)
+    ensures nothing { left_of R.left decoder.old ≡ Some []
+        → R.failed (reader_of decoder.new) ≡ R.failed (reader_of decoder.old)
         → offset_of decoder.old + 4096 < 2 ^ 64 → IsOk result }
-    ensures reader { R.failed (reader_of decoder.new) ≡ R.failed (reader_of decoder.old) + reader_failures R.ends result }
+    ensures reader { R.failed (reader_of decoder.new)
+        ≡ R.failed (reader_of decoder.old) + reader_failures R.ends result }
     ensures writer { W.failed out.new ≡ W.failed out.old + writer_failures result }
 
     // What stays, and how the decoder stands.
@@ -81,7 +77,7 @@ pub fn gate<R: Read, W: Write, P: Report, J: Judge>(
     ensures fresh { waiting_of decoder.new ≡ None }
 
     // All of it by the answer, also over a reader that doesn't tell which bytes are to come.
-    ensures ran { Answers R.ends (rules_of P.Report J.Judge judge.old aad.now)
+    ensures ran { Answers R.ends (rules_by usual P.Report J.Judge judge.old aad.now)
         (sight_of R.Read W.Write P.Report J.Judge decoder.old out.old report.old judge.old)
         (sight_of R.Read W.Write P.Report J.Judge decoder.new out.new report.new judge.new) result }
 {
@@ -100,43 +96,38 @@ pub fn gate_with<R: Read, W: Write, P: Report, J: Judge>(
     judge: &mut J,
 ) -> Result<Counts, GateFault<R::Error>>
     // Where neither device fails, memory is found and offsets fit: the run's questions, its output, and an entry for each item.
-    ensures asked { AsksAll R.ends (rules_by (plain (nesting_of limits) (layers_of limits)) P.Report J.Judge judge.old aad.now)
-        (sight_of R.Read W.Write P.Report J.Judge decoder.old out.old report.old judge.old)
-        (sight_of R.Read W.Write P.Report J.Judge decoder.new out.new report.new judge.new) result }
-    ensures written { WritesAll R.ends (rules_by (plain (nesting_of limits) (layers_of limits)) P.Report J.Judge judge.old aad.now)
-        (sight_of R.Read W.Write P.Report J.Judge decoder.old out.old report.old judge.old)
-        (sight_of R.Read W.Write P.Report J.Judge decoder.new out.new report.new judge.new) result }
-    ensures noted { NotesAll R.ends (rules_by (plain (nesting_of limits) (layers_of limits)) P.Report J.Judge judge.old aad.now)
-        (sight_of R.Read W.Write P.Report J.Judge decoder.old out.old report.old judge.old)
-        (sight_of R.Read W.Write P.Report J.Judge decoder.new out.new report.new judge.new) result }
-    ensures counted { CountsAll (rules_by (plain (nesting_of limits) (layers_of limits)) P.Report J.Judge judge.old aad.now)
-        (sight_of R.Read W.Write P.Report J.Judge decoder.old out.old report.old judge.old) result }
-    ensures stops { Stops R.ends (rules_by (plain (nesting_of limits) (layers_of limits)) P.Report J.Judge judge.old aad.now)
-        (sight_of R.Read W.Write P.Report J.Judge decoder.old out.old report.old judge.old)
-        (sight_of R.Read W.Write P.Report J.Judge decoder.new out.new report.new judge.new) result }
+    ensures asked { AsksAll (call_of R.Read W.Write P.Report J.Judge (within limits) aad.now
+        decoder.old out.old report.old judge.old decoder.new out.new report.new judge.new) result }
+    ensures written { WritesAll (call_of R.Read W.Write P.Report J.Judge (within limits) aad.now
+        decoder.old out.old report.old judge.old decoder.new out.new report.new judge.new) result }
+    ensures noted { NotesAll (call_of R.Read W.Write P.Report J.Judge (within limits) aad.now
+        decoder.old out.old report.old judge.old decoder.new out.new report.new judge.new) result }
+    ensures counted { CountsAll (call_of R.Read W.Write P.Report J.Judge (within limits) aad.now
+        decoder.old out.old report.old judge.old decoder.new out.new report.new judge.new) result }
+    ensures stops { Stops (call_of R.Read W.Write P.Report J.Judge (within limits) aad.now
+        decoder.old out.old report.old judge.old decoder.new out.new report.new judge.new) result }
 
     // After a fault: beginnings of these.
-    ensures asked_front { AsksFront (rules_by (plain (nesting_of limits) (layers_of limits)) P.Report J.Judge judge.old aad.now)
-        (sight_of R.Read W.Write P.Report J.Judge decoder.old out.old report.old judge.old)
-        (sight_of R.Read W.Write P.Report J.Judge decoder.new out.new report.new judge.new) result }
-    ensures noted_front { NotesFront (rules_by (plain (nesting_of limits) (layers_of limits)) P.Report J.Judge judge.old aad.now)
-        (sight_of R.Read W.Write P.Report J.Judge decoder.old out.old report.old judge.old)
-        (sight_of R.Read W.Write P.Report J.Judge decoder.new out.new report.new judge.new) result }
-    ensures written_front { WritesFront (rules_by (plain (nesting_of limits) (layers_of limits)) P.Report J.Judge judge.old aad.now)
-        (sight_of R.Read W.Write P.Report J.Judge decoder.old out.old report.old judge.old)
-        (sight_of R.Read W.Write P.Report J.Judge decoder.new out.new report.new judge.new) result }
-    ensures torn { Tears (rules_by (plain (nesting_of limits) (layers_of limits)) P.Report J.Judge judge.old aad.now)
-        (sight_of R.Read W.Write P.Report J.Judge decoder.old out.old report.old judge.old)
-        (sight_of R.Read W.Write P.Report J.Judge decoder.new out.new report.new judge.new) result }
-    ensures texts { WritesWhole (rules_by (plain (nesting_of limits) (layers_of limits)) P.Report J.Judge judge.old aad.now)
-        (sight_of R.Read W.Write P.Report J.Judge decoder.old out.old report.old judge.old)
-        (sight_of R.Read W.Write P.Report J.Judge decoder.new out.new report.new judge.new) result }
+    ensures asked_front { AsksFront (call_of R.Read W.Write P.Report J.Judge (within limits) aad.now
+        decoder.old out.old report.old judge.old decoder.new out.new report.new judge.new) result }
+    ensures noted_front { NotesFront
+        (call_of R.Read W.Write P.Report J.Judge (within limits) aad.now
+        decoder.old out.old report.old judge.old decoder.new out.new report.new judge.new) result }
+    ensures written_front { WritesFront
+        (call_of R.Read W.Write P.Report J.Judge (within limits) aad.now
+        decoder.old out.old report.old judge.old decoder.new out.new report.new judge.new) result }
+    ensures torn { Tears (call_of R.Read W.Write P.Report J.Judge (within limits) aad.now
+        decoder.old out.old report.old judge.old decoder.new out.new report.new judge.new) result }
+    ensures texts { WritesWhole (call_of R.Read W.Write P.Report J.Judge (within limits) aad.now
+        decoder.old out.old report.old judge.old decoder.new out.new report.new judge.new) result }
 
     // Which fault it is.
     ensures no_memory { IfErr result HoldsNoMemory }
-    ensures nothing { left_of R.left decoder.old ≡ Some [] → R.failed (reader_of decoder.new) ≡ R.failed (reader_of decoder.old)
+    ensures nothing { left_of R.left decoder.old ≡ Some []
+        → R.failed (reader_of decoder.new) ≡ R.failed (reader_of decoder.old)
         → offset_of decoder.old + 4096 < 2 ^ 64 → IsOk result }
-    ensures reader { R.failed (reader_of decoder.new) ≡ R.failed (reader_of decoder.old) + reader_failures R.ends result }
+    ensures reader { R.failed (reader_of decoder.new)
+        ≡ R.failed (reader_of decoder.old) + reader_failures R.ends result }
     ensures writer { W.failed out.new ≡ W.failed out.old + writer_failures result }
 
     // What stays, and how the decoder stands.
@@ -147,7 +138,8 @@ pub fn gate_with<R: Read, W: Write, P: Report, J: Judge>(
     ensures fresh { waiting_of decoder.new ≡ None }
 
     // All of it by the answer, also over a reader that doesn't tell which bytes are to come.
-    ensures ran { Answers R.ends (rules_by (plain (nesting_of limits) (layers_of limits)) P.Report J.Judge judge.old aad.now)
+    ensures ran { Answers R.ends
+        (rules_by (within limits) P.Report J.Judge judge.old aad.now)
         (sight_of R.Read W.Write P.Report J.Judge decoder.old out.old report.old judge.old)
         (sight_of R.Read W.Write P.Report J.Judge decoder.new out.new report.new judge.new) result }
 {
@@ -168,43 +160,39 @@ pub fn gate_strict<R: Read, W: Write, P: Report, J: Judge>(
 ) -> Result<Counts, GateFault<R::Error>>
     requires { waiting_of decoder.old ≡ None }
     // Where neither device fails, memory is found and offsets fit: the run's questions, its output, and an entry for each item.
-    ensures asked { AsksAll R.ends (rules_by (only_exact 256 16) P.Report J.Judge judge.old aad.now)
-        (sight_of R.Read W.Write P.Report J.Judge decoder.old out.old report.old judge.old)
-        (sight_of R.Read W.Write P.Report J.Judge decoder.new out.new report.new judge.new) result }
-    ensures written { WritesAll R.ends (rules_by (only_exact 256 16) P.Report J.Judge judge.old aad.now)
-        (sight_of R.Read W.Write P.Report J.Judge decoder.old out.old report.old judge.old)
-        (sight_of R.Read W.Write P.Report J.Judge decoder.new out.new report.new judge.new) result }
-    ensures noted { NotesAll R.ends (rules_by (only_exact 256 16) P.Report J.Judge judge.old aad.now)
-        (sight_of R.Read W.Write P.Report J.Judge decoder.old out.old report.old judge.old)
-        (sight_of R.Read W.Write P.Report J.Judge decoder.new out.new report.new judge.new) result }
-    ensures counted { CountsAll (rules_by (only_exact 256 16) P.Report J.Judge judge.old aad.now)
-        (sight_of R.Read W.Write P.Report J.Judge decoder.old out.old report.old judge.old) result }
-    ensures stops { Stops R.ends (rules_by (only_exact 256 16) P.Report J.Judge judge.old aad.now)
-        (sight_of R.Read W.Write P.Report J.Judge decoder.old out.old report.old judge.old)
-        (sight_of R.Read W.Write P.Report J.Judge decoder.new out.new report.new judge.new) result }
+    ensures asked { AsksAll (call_of R.Read W.Write P.Report J.Judge (only_exact 256 16) aad.now
+        decoder.old out.old report.old judge.old decoder.new out.new report.new judge.new) result }
+    ensures written { WritesAll (call_of R.Read W.Write P.Report J.Judge (only_exact 256 16) aad.now
+        decoder.old out.old report.old judge.old decoder.new out.new report.new judge.new) result }
+    ensures noted { NotesAll (call_of R.Read W.Write P.Report J.Judge (only_exact 256 16) aad.now
+        decoder.old out.old report.old judge.old decoder.new out.new report.new judge.new) result }
+    ensures counted { CountsAll (call_of R.Read W.Write P.Report J.Judge (only_exact 256 16) aad.now
+        decoder.old out.old report.old judge.old decoder.new out.new report.new judge.new) result }
+    ensures stops { Stops (call_of R.Read W.Write P.Report J.Judge (only_exact 256 16) aad.now
+        decoder.old out.old report.old judge.old decoder.new out.new report.new judge.new) result }
 
     // After a fault: beginnings of these.
-    ensures asked_front { AsksFront (rules_by (only_exact 256 16) P.Report J.Judge judge.old aad.now)
-        (sight_of R.Read W.Write P.Report J.Judge decoder.old out.old report.old judge.old)
-        (sight_of R.Read W.Write P.Report J.Judge decoder.new out.new report.new judge.new) result }
-    ensures noted_front { NotesFront (rules_by (only_exact 256 16) P.Report J.Judge judge.old aad.now)
-        (sight_of R.Read W.Write P.Report J.Judge decoder.old out.old report.old judge.old)
-        (sight_of R.Read W.Write P.Report J.Judge decoder.new out.new report.new judge.new) result }
-    ensures written_front { WritesFront (rules_by (only_exact 256 16) P.Report J.Judge judge.old aad.now)
-        (sight_of R.Read W.Write P.Report J.Judge decoder.old out.old report.old judge.old)
-        (sight_of R.Read W.Write P.Report J.Judge decoder.new out.new report.new judge.new) result }
-    ensures torn { Tears (rules_by (only_exact 256 16) P.Report J.Judge judge.old aad.now)
-        (sight_of R.Read W.Write P.Report J.Judge decoder.old out.old report.old judge.old)
-        (sight_of R.Read W.Write P.Report J.Judge decoder.new out.new report.new judge.new) result }
-    ensures texts { WritesWhole (rules_by (only_exact 256 16) P.Report J.Judge judge.old aad.now)
-        (sight_of R.Read W.Write P.Report J.Judge decoder.old out.old report.old judge.old)
-        (sight_of R.Read W.Write P.Report J.Judge decoder.new out.new report.new judge.new) result }
+    ensures asked_front { AsksFront
+        (call_of R.Read W.Write P.Report J.Judge (only_exact 256 16) aad.now
+        decoder.old out.old report.old judge.old decoder.new out.new report.new judge.new) result }
+    ensures noted_front { NotesFront
+        (call_of R.Read W.Write P.Report J.Judge (only_exact 256 16) aad.now
+        decoder.old out.old report.old judge.old decoder.new out.new report.new judge.new) result }
+    ensures written_front { WritesFront
+        (call_of R.Read W.Write P.Report J.Judge (only_exact 256 16) aad.now
+        decoder.old out.old report.old judge.old decoder.new out.new report.new judge.new) result }
+    ensures torn { Tears (call_of R.Read W.Write P.Report J.Judge (only_exact 256 16) aad.now
+        decoder.old out.old report.old judge.old decoder.new out.new report.new judge.new) result }
+    ensures texts { WritesWhole (call_of R.Read W.Write P.Report J.Judge (only_exact 256 16) aad.now
+        decoder.old out.old report.old judge.old decoder.new out.new report.new judge.new) result }
 
     // Which fault it is.
     ensures no_memory { IfErr result HoldsNoMemory }
-    ensures nothing { left_of R.left decoder.old ≡ Some [] → R.failed (reader_of decoder.new) ≡ R.failed (reader_of decoder.old)
+    ensures nothing { left_of R.left decoder.old ≡ Some []
+        → R.failed (reader_of decoder.new) ≡ R.failed (reader_of decoder.old)
         → offset_of decoder.old + 4096 < 2 ^ 64 → IsOk result }
-    ensures reader { R.failed (reader_of decoder.new) ≡ R.failed (reader_of decoder.old) + reader_failures R.ends result }
+    ensures reader { R.failed (reader_of decoder.new)
+        ≡ R.failed (reader_of decoder.old) + reader_failures R.ends result }
     ensures writer { W.failed out.new ≡ W.failed out.old + writer_failures result }
 
     // What stays, and how the decoder stands.
@@ -215,7 +203,8 @@ pub fn gate_strict<R: Read, W: Write, P: Report, J: Judge>(
     ensures fresh { waiting_of decoder.new ≡ None }
 
     // All of it by the answer, also over a reader that doesn't tell which bytes are to come.
-    ensures ran { Answers R.ends (rules_by (only_exact 256 16) P.Report J.Judge judge.old aad.now)
+    ensures ran { Answers R.ends
+        (rules_by (only_exact 256 16) P.Report J.Judge judge.old aad.now)
         (sight_of R.Read W.Write P.Report J.Judge decoder.old out.old report.old judge.old)
         (sight_of R.Read W.Write P.Report J.Judge decoder.new out.new report.new judge.new) result }
 {
@@ -234,43 +223,42 @@ pub fn gate_strict_with<R: Read, W: Write, P: Report, J: Judge>(
 ) -> Result<Counts, GateFault<R::Error>>
     requires { waiting_of decoder.old ≡ None }
     // Where neither device fails, memory is found and offsets fit: the run's questions, its output, and an entry for each item.
-    ensures asked { AsksAll R.ends (rules_by (only_exact (nesting_of limits) (layers_of limits)) P.Report J.Judge judge.old aad.now)
-        (sight_of R.Read W.Write P.Report J.Judge decoder.old out.old report.old judge.old)
-        (sight_of R.Read W.Write P.Report J.Judge decoder.new out.new report.new judge.new) result }
-    ensures written { WritesAll R.ends (rules_by (only_exact (nesting_of limits) (layers_of limits)) P.Report J.Judge judge.old aad.now)
-        (sight_of R.Read W.Write P.Report J.Judge decoder.old out.old report.old judge.old)
-        (sight_of R.Read W.Write P.Report J.Judge decoder.new out.new report.new judge.new) result }
-    ensures noted { NotesAll R.ends (rules_by (only_exact (nesting_of limits) (layers_of limits)) P.Report J.Judge judge.old aad.now)
-        (sight_of R.Read W.Write P.Report J.Judge decoder.old out.old report.old judge.old)
-        (sight_of R.Read W.Write P.Report J.Judge decoder.new out.new report.new judge.new) result }
-    ensures counted { CountsAll (rules_by (only_exact (nesting_of limits) (layers_of limits)) P.Report J.Judge judge.old aad.now)
-        (sight_of R.Read W.Write P.Report J.Judge decoder.old out.old report.old judge.old) result }
-    ensures stops { Stops R.ends (rules_by (only_exact (nesting_of limits) (layers_of limits)) P.Report J.Judge judge.old aad.now)
-        (sight_of R.Read W.Write P.Report J.Judge decoder.old out.old report.old judge.old)
-        (sight_of R.Read W.Write P.Report J.Judge decoder.new out.new report.new judge.new) result }
+    ensures asked { AsksAll (call_of R.Read W.Write P.Report J.Judge (exact_within limits) aad.now
+        decoder.old out.old report.old judge.old decoder.new out.new report.new judge.new) result }
+    ensures written { WritesAll
+        (call_of R.Read W.Write P.Report J.Judge (exact_within limits) aad.now
+        decoder.old out.old report.old judge.old decoder.new out.new report.new judge.new) result }
+    ensures noted { NotesAll (call_of R.Read W.Write P.Report J.Judge (exact_within limits) aad.now
+        decoder.old out.old report.old judge.old decoder.new out.new report.new judge.new) result }
+    ensures counted { CountsAll
+        (call_of R.Read W.Write P.Report J.Judge (exact_within limits) aad.now
+        decoder.old out.old report.old judge.old decoder.new out.new report.new judge.new) result }
+    ensures stops { Stops (call_of R.Read W.Write P.Report J.Judge (exact_within limits) aad.now
+        decoder.old out.old report.old judge.old decoder.new out.new report.new judge.new) result }
 
     // After a fault: beginnings of these.
-    ensures asked_front { AsksFront (rules_by (only_exact (nesting_of limits) (layers_of limits)) P.Report J.Judge judge.old aad.now)
-        (sight_of R.Read W.Write P.Report J.Judge decoder.old out.old report.old judge.old)
-        (sight_of R.Read W.Write P.Report J.Judge decoder.new out.new report.new judge.new) result }
-    ensures noted_front { NotesFront (rules_by (only_exact (nesting_of limits) (layers_of limits)) P.Report J.Judge judge.old aad.now)
-        (sight_of R.Read W.Write P.Report J.Judge decoder.old out.old report.old judge.old)
-        (sight_of R.Read W.Write P.Report J.Judge decoder.new out.new report.new judge.new) result }
-    ensures written_front { WritesFront (rules_by (only_exact (nesting_of limits) (layers_of limits)) P.Report J.Judge judge.old aad.now)
-        (sight_of R.Read W.Write P.Report J.Judge decoder.old out.old report.old judge.old)
-        (sight_of R.Read W.Write P.Report J.Judge decoder.new out.new report.new judge.new) result }
-    ensures torn { Tears (rules_by (only_exact (nesting_of limits) (layers_of limits)) P.Report J.Judge judge.old aad.now)
-        (sight_of R.Read W.Write P.Report J.Judge decoder.old out.old report.old judge.old)
-        (sight_of R.Read W.Write P.Report J.Judge decoder.new out.new report.new judge.new) result }
-    ensures texts { WritesWhole (rules_by (only_exact (nesting_of limits) (layers_of limits)) P.Report J.Judge judge.old aad.now)
-        (sight_of R.Read W.Write P.Report J.Judge decoder.old out.old report.old judge.old)
-        (sight_of R.Read W.Write P.Report J.Judge decoder.new out.new report.new judge.new) result }
+    ensures asked_front { AsksFront
+        (call_of R.Read W.Write P.Report J.Judge (exact_within limits) aad.now
+        decoder.old out.old report.old judge.old decoder.new out.new report.new judge.new) result }
+    ensures noted_front { NotesFront
+        (call_of R.Read W.Write P.Report J.Judge (exact_within limits) aad.now
+        decoder.old out.old report.old judge.old decoder.new out.new report.new judge.new) result }
+    ensures written_front { WritesFront
+        (call_of R.Read W.Write P.Report J.Judge (exact_within limits) aad.now
+        decoder.old out.old report.old judge.old decoder.new out.new report.new judge.new) result }
+    ensures torn { Tears (call_of R.Read W.Write P.Report J.Judge (exact_within limits) aad.now
+        decoder.old out.old report.old judge.old decoder.new out.new report.new judge.new) result }
+    ensures texts { WritesWhole
+        (call_of R.Read W.Write P.Report J.Judge (exact_within limits) aad.now
+        decoder.old out.old report.old judge.old decoder.new out.new report.new judge.new) result }
 
     // Which fault it is.
     ensures no_memory { IfErr result HoldsNoMemory }
-    ensures nothing { left_of R.left decoder.old ≡ Some [] → R.failed (reader_of decoder.new) ≡ R.failed (reader_of decoder.old)
+    ensures nothing { left_of R.left decoder.old ≡ Some []
+        → R.failed (reader_of decoder.new) ≡ R.failed (reader_of decoder.old)
         → offset_of decoder.old + 4096 < 2 ^ 64 → IsOk result }
-    ensures reader { R.failed (reader_of decoder.new) ≡ R.failed (reader_of decoder.old) + reader_failures R.ends result }
+    ensures reader { R.failed (reader_of decoder.new)
+        ≡ R.failed (reader_of decoder.old) + reader_failures R.ends result }
     ensures writer { W.failed out.new ≡ W.failed out.old + writer_failures result }
 
     // What stays, and how the decoder stands.
@@ -281,7 +269,8 @@ pub fn gate_strict_with<R: Read, W: Write, P: Report, J: Judge>(
     ensures fresh { waiting_of decoder.new ≡ None }
 
     // All of it by the answer, also over a reader that doesn't tell which bytes are to come.
-    ensures ran { Answers R.ends (rules_by (only_exact (nesting_of limits) (layers_of limits)) P.Report J.Judge judge.old aad.now)
+    ensures ran { Answers R.ends
+        (rules_by (exact_within limits) P.Report J.Judge judge.old aad.now)
         (sight_of R.Read W.Write P.Report J.Judge decoder.old out.old report.old judge.old)
         (sight_of R.Read W.Write P.Report J.Judge decoder.new out.new report.new judge.new) result }
 {

@@ -9,7 +9,7 @@ use Rattle.ciborium_value.specs.Tree.{Tree}
 use Rattle.ciborium.specs.Front.{Reads}
 use Rattle.ciborium.specs.Items.{SequenceWithin}
 use Rattle.ciborium.specs.Damage.{end, deep, syntax, semantic, Damage}
-use Rattle.ciborium.specs.Reading.{IfKnown, FailsAt, IsNoMemory, fault_failures}
+use Rattle.ciborium.specs.Reading.{IfKnown, IfEnd, FailsAt, IsNoMemory, fault_failures}
 use Rattle.ciborium.specs.declared.de.Error.{Error}
 use Rattle.ciborium.specs.declared.de.Error.TheVariants as de
 use Rattle.cose_gate_core.specs.declared.report.Entry.{Entry}
@@ -53,6 +53,17 @@ rest_known (Some b) = refl
 rest_none : (l : Option (List ℕ)) → IfKnown l (λ b. b ≡ []) → rest_of l ≡ []
 rest_none None k = refl
 rest_none (Some b) k = k
+
+-- nothing is left behind what was consumed
+nothing_behind : (l l' m : Option (List ℕ)) (b : List ℕ) → Consumes l l' b → IfKnown l' (λ a. (a ≡ []) × (m ≡ Some [])) → IfKnown l (λ a. m ≡ Some [])
+nothing_behind None l' m b c k = tt
+nothing_behind (Some a) None m b c k = absurd c
+nothing_behind (Some a) (Some r) m b c k = k.1
+
+-- the first of two facts
+none_first : (Q : Type 0) (l : Option (List ℕ)) → IfKnown l (λ b. (b ≡ []) × Q) → IfKnown l (λ b. b ≡ [])
+none_first Q None k = tt
+none_first Q (Some b) k = k.0
 
 consumed : (l l' : Option (List ℕ)) (b : List ℕ) → Consumes l l' b → IfKnown l (λ a. a ≡ b ++ rest_of l')
 consumed None l' b c = tt
@@ -138,9 +149,9 @@ module _ {T S : Type 0} (rules : Rules T S) where
 
   -- Ok: no byte is left
   pub answer_whole : {E : Type 0} (ends : E → Bool) (old new newer : Sight T S) (counts : Counts) → Reached rules old new counts.passed counts.refused
-      → newer.told ≡ new.told → newer.state ≡ new.state → newer.written ≡ new.written → IfKnown new.left (λ b. b ≡ []) × (newer.offset ≡ new.offset) → Answers ends rules old newer (Ok counts)
+      → newer.told ≡ new.told → newer.state ≡ new.state → newer.written ≡ new.written → IfKnown new.left (λ b. (b ≡ []) × (newer.left ≡ Some [])) × (newer.offset ≡ new.offset) → Answers ends rules old newer (Ok counts)
   answer_whole ends old new newer counts r told state writes (none, stays) =
-      let w = left_after old new r.done r.taken r.steps [] (rest_none new.left none) in
+      let w = left_after old new r.done r.taken r.steps [] (rest_none new.left (none_first (newer.left ≡ Some []) new.left none)) in
       record {
         input = w.input;
         is = w.is;
@@ -151,6 +162,7 @@ module _ {T S : Type 0} (rules : Rules T S) where
           passed = r.passed_is;
           refused = r.refused_is;
           grown = (let s = w.stop in let z : new.offset + 0 ≡ old.offset + length w.input = s in omega arith);
+          ended = nothing_behind old.left new.left newer.left r.taken.bytes r.taken.taken none;
         };
       }
 
@@ -305,6 +317,27 @@ nothing_fails ends k p p' (de.Semantic o j) d m small = (let z : semantic j ≡ 
 nothing_fails ends k p p' de.RecursionLimitExceeded d m small = (let z : deep ≡ end = empty_damage (p + 0) k deep d in cc)
 nothing_fails ends k p p' de.Memory d m small = absurd m
 nothing_fails ends k p p' de.TooLong d m small = absurd (let l : 2 ^ 64 ≤ p + 0 + 4096 = d in omega arith)
+
+-- what is told of an end
+if_end : {E : Type 0} (ends : E → Bool) (P : Type 0) (e : Error E) → at_end ends e ≡ true → IfEnd ends P e → P
+if_end ends P (de.Io x) t f = f t
+if_end ends P (de.Syntax q) t f = cc
+if_end ends P (de.Semantic o j) t f = cc
+if_end ends P de.RecursionLimitExceeded t f = cc
+if_end ends P de.Memory t f = cc
+if_end ends P de.TooLong t f = cc
+
+-- an end at once: no byte was left, and the reader tells so
+pub end_at_once : {E : Type 0} (ends : E → Bool) (k p p' : ℕ) (l l' : Option (List ℕ)) (e : Error E) → IfKnown l (λ b. FailsAt ends b p p' (λ stop b f. Damage stop b k f) e)
+    → at_end ends e ≡ true → p' ≡ p → (l ≡ Some [] → IfEnd ends (l' ≡ Some []) e) → IfKnown l (λ b. (b ≡ []) × (l' ≡ Some []))
+end_at_once ends k p p' None l' e d t s f = tt
+end_at_once ends k p p' (Some []) l' e d t s f = (refl, if_end ends (l' ≡ Some []) e t (f refl))
+end_at_once ends k p p' (Some (x ∷ xs)) l' (de.Io y) d t s f = let less : p < p' = (d t).1 in absurd (omega arith)
+end_at_once ends k p p' (Some (x ∷ xs)) l' (de.Syntax q) d t s f = cc
+end_at_once ends k p p' (Some (x ∷ xs)) l' (de.Semantic o j) d t s f = cc
+end_at_once ends k p p' (Some (x ∷ xs)) l' de.RecursionLimitExceeded d t s f = cc
+end_at_once ends k p p' (Some (x ∷ xs)) l' de.Memory d t s f = cc
+end_at_once ends k p p' (Some (x ∷ xs)) l' de.TooLong d t s f = cc
 
 -- an entry with this number and offset
 pub same_entry : (n m o p : ℕ) (v : Verdict) → n ≡ m → o ≡ p → (let e : Entry = record { number = n; offset = o; verdict = v } in e) ≡ entry_at m p v

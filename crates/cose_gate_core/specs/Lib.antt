@@ -1,4 +1,5 @@
 pub mod Asked
+pub mod Calls
 pub mod Findings
 pub mod Lent
 pub mod Outcome

@@ -51,9 +51,9 @@ IsFaultOf ends n stop more de.RecursionLimitExceeded = Damage stop more n deep
 IsFaultOf ends n stop more de.Memory = ⊥
 IsFaultOf ends n stop more de.TooLong = 2 ^ 64 ≤ stop + 4096
 
--- what reading the next item gives: it was taken, or no byte was left
+-- what reading the next item gives: it was taken, or no byte was left, and the reader tells so where it tells what is to come
 abbrev pub IsNext : Terms → Option (List ℕ) → Option (List ℕ) → ℕ → ℕ → Option (Value × Bool) → Type 0
-IsNext terms left left' at at' None = IfKnown left (λ b. b ≡ []) × (at' ≡ at)
+IsNext terms left left' at at' None = IfKnown left (λ b. (b ≡ []) × (left' ≡ Some [])) × (at' ≡ at)
 IsNext terms left left' at at' (Some r) = Moves left left' at at' (λ b. IsTaken terms b (view r.0) r.1)
 
 -- what reading the next item ends with: a fault of the bytes that were to come, where they are known, or want of memory
@@ -62,7 +62,8 @@ IsReadFault ends n left at (Decode e) = IsNoMemory e × IfKnown left (λ b. IsFa
 IsReadFault ends n left at Write = ⊥
 IsReadFault ends n left at Memory = Unit {0}
 
--- Ok: the steps go through the whole input, all of them were made, and the offset has grown by all bytes
+-- Ok: the steps go through the whole input, all of them were made, the offset has grown by all bytes, and the reader tells that nothing is
+-- left, where it tells what is to come
 pub record Whole {T S : Type 0} (rules : Rules T S) (old new : Sight T S) (input : List ℕ) (counts : Counts) : Type 0 where
   pub steps : List Step
   pub course : Course rules.limits rules.allows rules.aad old.offset input steps []
@@ -70,6 +71,7 @@ pub record Whole {T S : Type 0} (rules : Rules T S) (old new : Sight T S) (input
   pub passed : counts.passed ≡ passed_count rules.allows rules.aad steps
   pub refused : counts.refused ≡ refused_count rules.allows rules.aad steps
   pub grown : new.offset ≡ old.offset + length input
+  pub ended : IfKnown old.left (λ b. new.left ≡ Some [])
 
 -- Decode: the steps go up to where the fault stands, and all of them were made
 pub record IfDecodeFailed {T S E : Type 0} (ends : E → Bool) (rules : Rules T S) (old new : Sight T S) (input : List ℕ) (e : Error E) : Type 0 where

@@ -1,14 +1,17 @@
 //! The gate.
-ghost use Rattle.std.specs.Prelude.{◌≡◌, ◌+◌, ◌<◌, ◌^◌, [], Some, None, Ok, IsOk, IfOk, IfErr, OnOk, true, not, if◌then◌else◌, ℕ, List};
+ghost use Rattle.std.specs.Prelude.{◌≡◌, ◌+◌, ◌<◌, ◌^◌, [], Some, None, Ok};
+ghost use Rattle.std.specs.Prelude.{IsOk, IfOk, IfErr, OnOk, true, not, if◌then◌else◌};
 ghost use Rattle.ciborium.specs.Damage.{Damage};
-ghost use Rattle.ciborium.specs.Reading.{NamesFault, Steady, IsNoMemory};
+ghost use Rattle.ciborium.specs.Reading.{NamesFault, Steady, IsNoMemory, IfEnd};
 ghost use Rattle.ciborium_ll.specs.Seen.{Takes};
 ghost use Rattle.ciborium_ll.specs.Views.{left_of, offset_of, waiting_of, reader_of, seen};
 ghost use Rattle.ciborium_value.specs.View.{view};
-ghost use Rattle.coset_labels.specs.Limits.{nesting_of, layers_of};
-ghost use Rattle.cose_gate_core.specs.Findings.{usual, plain, only_exact};
-ghost use Rattle.cose_gate_core.specs.Outcome.{Answers, IsNext, IsReadFault, reader_failures, writer_failures};
-ghost use Rattle.cose_gate_core.specs.Passing.{at_end, fault_by, stopped_by};
+ghost use Rattle.coset_labels.specs.Limits.{nesting_of};
+ghost use Rattle.cose_gate_core.specs.Calls.{rules_by, sight_of, within, exact_within};
+ghost use Rattle.cose_gate_core.specs.Findings.{usual, only_exact};
+ghost use Rattle.cose_gate_core.specs.Outcome.{Answers, IsNext, IsReadFault};
+ghost use Rattle.cose_gate_core.specs.Outcome.{reader_failures, writer_failures};
+ghost use Rattle.cose_gate_core.specs.Passing.{at_end};
 ghost use Rattle.cose_gate_core.specs.Run.{has_passed};
 ghost use Rattle.cose_gate_core.specs.Terms.{limits_of, IsTaken};
 
@@ -47,6 +50,36 @@ pub enum GateFault<E> {
     Memory,
 }
 
+/// No item was read.
+impl<E> From<de::Error<E>> for GateFault<E> {
+    ghost use Rattle.std.specs.Prelude.{◌≡◌};
+    ghost use Rattle.cose_gate_core.specs.Passing.{fault_by};
+
+    ghost from_gives = { λ e fault. fault ≡ fault_by e };
+
+    fn from(error: de::Error<E>) -> GateFault<E> {
+        match error {
+            de::Error::Memory => GateFault::Memory,
+            error => GateFault::Decode(error),
+        }
+    }
+}
+
+/// An item was stopped on its way.
+impl<E> From<ItemFault> for GateFault<E> {
+    ghost use Rattle.std.specs.Prelude.{◌≡◌};
+    ghost use Rattle.cose_gate_core.specs.Passing.{stopped_by};
+
+    ghost from_gives = { λ fault stop. stop ≡ stopped_by fault };
+
+    fn from(fault: ItemFault) -> GateFault<E> {
+        match fault {
+            ItemFault::Write => GateFault::Write,
+            ItemFault::Memory => GateFault::Memory,
+        }
+    }
+}
+
 /// Whether the fault is an end of the bytes.
 fn is_end<R: Read>(error: &de::Error<R::Error>) -> bool
     ensures { result ≡ at_end R.ends error.now }
@@ -57,30 +90,6 @@ fn is_end<R: Read>(error: &de::Error<R::Error>) -> bool
     }
 }
 
-/// What stops the gate where no item was read.
-fn fault_of<E>(error: de::Error<E>) -> GateFault<E>
-    ensures { result ≡ fault_by error }
-{
-    match error {
-        de::Error::Io(e) => GateFault::Decode(de::Error::Io(e)),
-        de::Error::Syntax(p) => GateFault::Decode(de::Error::Syntax(p)),
-        de::Error::Semantic(o, k) => GateFault::Decode(de::Error::Semantic(o, k)),
-        de::Error::RecursionLimitExceeded => GateFault::Decode(de::Error::RecursionLimitExceeded),
-        de::Error::Memory => GateFault::Memory,
-        de::Error::TooLong => GateFault::Decode(de::Error::TooLong),
-    }
-}
-
-/// What stops the gate in an item.
-fn stop_of<E>(fault: ItemFault) -> GateFault<E>
-    ensures { result ≡ stopped_by fault }
-{
-    match fault {
-        ItemFault::Write => GateFault::Write,
-        ItemFault::Memory => GateFault::Memory,
-    }
-}
-
 /// Reads an item, and where a strict gate asks it tells whether its bytes are the one encoding of its value.
 fn read_item<R: Read>(
     alloc: Global,
@@ -88,11 +97,15 @@ fn read_item<R: Read>(
     decoder: &mut Decoder<R>,
 ) -> Result<(Value, bool), de::Error<R::Error>>
     requires { terms.strict ≡ true → waiting_of decoder.old ≡ None }
-    ensures ok { IfOk result (λ r. Takes (seen R.Read decoder.old) (seen R.Read decoder.new) (λ b. IsTaken terms b (view r.0) r.1)) }
-    ensures err { IfErr result (NamesFault R.ends (λ stop b f. Damage stop b (nesting_of terms.limits) f)
+    ensures ok { IfOk result (λ r. Takes (seen R.Read decoder.old) (seen R.Read decoder.new)
+        (λ b. IsTaken terms b (view r.0) r.1)) }
+    ensures err { IfErr result (NamesFault R.ends
+        (λ stop b f. Damage stop b (nesting_of terms.limits) f)
         (seen R.Read decoder.old) (seen R.Read decoder.new)) }
     ensures nothing { left_of R.left decoder.old ≡ Some [] → IfErr result IsNoMemory }
     ensures some { left_of R.left decoder.old ≡ Some [] → OnOk result ⊥ }
+    ensures ended { left_of R.left decoder.old ≡ Some []
+        → IfErr result (IfEnd R.ends (left_of R.left decoder.new ≡ Some [])) }
     ensures steady { Steady R.ends result (seen R.Read decoder.old) (seen R.Read decoder.new) }
     ensures fits { offset_of decoder.new < 2 ^ 64 }
 {
@@ -100,10 +113,8 @@ fn read_item<R: Read>(
     if terms.strict {
         return de::from_decoder_strict(alloc, decoder, nesting);
     }
-    match de::from_decoder(alloc, decoder, nesting) {
-        Ok(value) => Ok((value, true)),
-        Err(error) => Err(error),
-    }
+    let value = de::from_decoder(alloc, decoder, nesting)?;
+    Ok((value, true))
 }
 
 /// The next item, or `None` where no byte is left.
@@ -113,12 +124,16 @@ fn next_item<R: Read>(
     decoder: &mut Decoder<R>,
 ) -> Result<Option<(Value, bool)>, GateFault<R::Error>>
     requires { terms.strict ≡ true → waiting_of decoder.old ≡ None }
-    ensures next { IfOk result (IsNext terms (left_of R.left decoder.old) (left_of R.left decoder.new)
+    ensures next { IfOk result (IsNext terms
+        (left_of R.left decoder.old) (left_of R.left decoder.new)
         (offset_of decoder.old) (offset_of decoder.new)) }
-    ensures err { IfErr result (IsReadFault R.ends (nesting_of terms.limits) (left_of R.left decoder.old) (offset_of decoder.old)) }
-    ensures nothing { left_of R.left decoder.old ≡ Some [] → R.failed (reader_of decoder.new) ≡ R.failed (reader_of decoder.old)
+    ensures err { IfErr result (IsReadFault R.ends (nesting_of terms.limits)
+        (left_of R.left decoder.old) (offset_of decoder.old)) }
+    ensures nothing { left_of R.left decoder.old ≡ Some []
+        → R.failed (reader_of decoder.new) ≡ R.failed (reader_of decoder.old)
         → offset_of decoder.old + 4096 < 2 ^ 64 → result ≡ Ok None }
-    ensures failed { R.failed (reader_of decoder.new) ≡ R.failed (reader_of decoder.old) + reader_failures R.ends result }
+    ensures failed { R.failed (reader_of decoder.new)
+        ≡ R.failed (reader_of decoder.old) + reader_failures R.ends result }
     ensures kept { R.handle (reader_of decoder.new) ≡ R.handle (reader_of decoder.old) }
     ensures fits { offset_of decoder.new < 2 ^ 64 }
     ensures fresh { waiting_of decoder.new ≡ None }
@@ -130,7 +145,7 @@ fn next_item<R: Read>(
             if is_end::<R>(&error) && decoder.offset() == offset {
                 return Ok(None);
             }
-            Err(fault_of(error))
+            Err(GateFault::from(error))
         }
     }
 }
@@ -139,7 +154,8 @@ fn next_item<R: Read>(
 fn counted(counts: Counts, verdict: Verdict) -> Counts
     requires { counts.passed + counts.refused + 1 < 2 ^ 64 }
     ensures passed { result.passed ≡ counts.passed + (if has_passed verdict then 1 else 0) }
-    ensures refused { result.refused ≡ counts.refused + (if not (has_passed verdict) then 1 else 0) }
+    ensures refused { result.refused
+        ≡ counts.refused + (if not (has_passed verdict) then 1 else 0) }
     ensures one { result.passed + result.refused ≡ counts.passed + counts.refused + 1 }
 {
     match verdict {
@@ -157,7 +173,8 @@ fn counted(counts: Counts, verdict: Verdict) -> Counts
 /// The entry of the last item that is counted.
 fn entry_of(counts: Counts, offset: usize, verdict: Verdict) -> Entry
     requires { counts.passed + counts.refused < 2 ^ 64 }
-    ensures { result ≡ record { number = counts.passed + counts.refused; offset = offset; verdict = verdict } }
+    ensures { result
+        ≡ record { number = counts.passed + counts.refused; offset = offset; verdict = verdict } }
 {
     Entry {
         number: counts.passed + counts.refused,
@@ -178,25 +195,14 @@ fn gate_by<R: Read, W: Write, P: Report, J: Judge>(
 ) -> Result<Counts, GateFault<R::Error>>
     requires { terms.strict ≡ true → waiting_of decoder.old ≡ None }
     ensures ran { Answers R.ends
-        (record { limits = limits_of terms; decided = J.decided; folded = P.folded; allows = J.yes (J.who judge.old); aad = aad.now })
-        (record {
-          told = J.told judge.old;
-          state = P.state report.old;
-          written = W.written out.old;
-          offset = offset_of decoder.old;
-          left = left_of R.left decoder.old;
-        })
-        (record {
-          told = J.told judge.new;
-          state = P.state report.new;
-          written = W.written out.new;
-          offset = offset_of decoder.new;
-          left = left_of R.left decoder.new;
-        })
-        result }
-    ensures nothing { left_of R.left decoder.old ≡ Some [] → R.failed (reader_of decoder.new) ≡ R.failed (reader_of decoder.old)
+        (rules_by (limits_of terms) P.Report J.Judge judge.old aad.now)
+        (sight_of R.Read W.Write P.Report J.Judge decoder.old out.old report.old judge.old)
+        (sight_of R.Read W.Write P.Report J.Judge decoder.new out.new report.new judge.new) result }
+    ensures nothing { left_of R.left decoder.old ≡ Some []
+        → R.failed (reader_of decoder.new) ≡ R.failed (reader_of decoder.old)
         → offset_of decoder.old + 4096 < 2 ^ 64 → IsOk result }
-    ensures reader { R.failed (reader_of decoder.new) ≡ R.failed (reader_of decoder.old) + reader_failures R.ends result }
+    ensures reader { R.failed (reader_of decoder.new)
+        ≡ R.failed (reader_of decoder.old) + reader_failures R.ends result }
     ensures writer { W.failed out.new ≡ W.failed out.old + writer_failures result }
     ensures who { J.who judge.new ≡ J.who judge.old }
     ensures kept { R.handle (reader_of decoder.new) ≡ R.handle (reader_of decoder.old) }
@@ -217,7 +223,7 @@ fn gate_by<R: Read, W: Write, P: Report, J: Judge>(
         };
         let verdict = match pass(alloc, terms, exact, value, out, aad, judge) {
             Ok(verdict) => verdict,
-            Err(fault) => return Err(stop_of(fault)),
+            Err(fault) => return Err(GateFault::from(fault)),
         };
         counts = counted(counts, verdict);
         match report.note(&entry_of(counts, offset, verdict)) {
@@ -233,7 +239,8 @@ fn gate_by<R: Read, W: Write, P: Report, J: Judge>(
 /// signer's; it has passed where the answer to each is yes, and one without a signature is refused. Every item is noted in the report;
 /// one that is no such message is refused there, and the gate goes on. It doesn't flush.
 ///
-/// It ends with `Ok` where nothing is left behind an item: the offset has grown by all bytes then. No header waits after any answer.
+/// It ends with `Ok` where nothing is left behind an item: the offset has grown by all bytes then, and a reader that tells what is to come
+/// tells that nothing is. No header waits after any answer.
 /// What the clause `ran` says holds of the bytes that were there, also over a reader that doesn't tell which are to come; where they are
 /// known, it holds of those.
 ///
@@ -251,25 +258,14 @@ pub fn gate<R: Read, W: Write, P: Report, J: Judge>(
     judge: &mut J,
 ) -> Result<Counts, GateFault<R::Error>>
     ensures ran { Answers R.ends
-        (record { limits = usual; decided = J.decided; folded = P.folded; allows = J.yes (J.who judge.old); aad = aad.now })
-        (record {
-          told = J.told judge.old;
-          state = P.state report.old;
-          written = W.written out.old;
-          offset = offset_of decoder.old;
-          left = left_of R.left decoder.old;
-        })
-        (record {
-          told = J.told judge.new;
-          state = P.state report.new;
-          written = W.written out.new;
-          offset = offset_of decoder.new;
-          left = left_of R.left decoder.new;
-        })
-        result }
-    ensures nothing { left_of R.left decoder.old ≡ Some [] → R.failed (reader_of decoder.new) ≡ R.failed (reader_of decoder.old)
+        (rules_by usual P.Report J.Judge judge.old aad.now)
+        (sight_of R.Read W.Write P.Report J.Judge decoder.old out.old report.old judge.old)
+        (sight_of R.Read W.Write P.Report J.Judge decoder.new out.new report.new judge.new) result }
+    ensures nothing { left_of R.left decoder.old ≡ Some []
+        → R.failed (reader_of decoder.new) ≡ R.failed (reader_of decoder.old)
         → offset_of decoder.old + 4096 < 2 ^ 64 → IsOk result }
-    ensures reader { R.failed (reader_of decoder.new) ≡ R.failed (reader_of decoder.old) + reader_failures R.ends result }
+    ensures reader { R.failed (reader_of decoder.new)
+        ≡ R.failed (reader_of decoder.old) + reader_failures R.ends result }
     ensures writer { W.failed out.new ≡ W.failed out.old + writer_failures result }
     ensures who { J.who judge.new ≡ J.who judge.old }
     ensures kept { R.handle (reader_of decoder.new) ≡ R.handle (reader_of decoder.old) }
@@ -292,25 +288,14 @@ pub fn gate_with<R: Read, W: Write, P: Report, J: Judge>(
     judge: &mut J,
 ) -> Result<Counts, GateFault<R::Error>>
     ensures ran { Answers R.ends
-        (record { limits = plain (nesting_of limits) (layers_of limits); decided = J.decided; folded = P.folded; allows = J.yes (J.who judge.old); aad = aad.now })
-        (record {
-          told = J.told judge.old;
-          state = P.state report.old;
-          written = W.written out.old;
-          offset = offset_of decoder.old;
-          left = left_of R.left decoder.old;
-        })
-        (record {
-          told = J.told judge.new;
-          state = P.state report.new;
-          written = W.written out.new;
-          offset = offset_of decoder.new;
-          left = left_of R.left decoder.new;
-        })
-        result }
-    ensures nothing { left_of R.left decoder.old ≡ Some [] → R.failed (reader_of decoder.new) ≡ R.failed (reader_of decoder.old)
+        (rules_by (within limits) P.Report J.Judge judge.old aad.now)
+        (sight_of R.Read W.Write P.Report J.Judge decoder.old out.old report.old judge.old)
+        (sight_of R.Read W.Write P.Report J.Judge decoder.new out.new report.new judge.new) result }
+    ensures nothing { left_of R.left decoder.old ≡ Some []
+        → R.failed (reader_of decoder.new) ≡ R.failed (reader_of decoder.old)
         → offset_of decoder.old + 4096 < 2 ^ 64 → IsOk result }
-    ensures reader { R.failed (reader_of decoder.new) ≡ R.failed (reader_of decoder.old) + reader_failures R.ends result }
+    ensures reader { R.failed (reader_of decoder.new)
+        ≡ R.failed (reader_of decoder.old) + reader_failures R.ends result }
     ensures writer { W.failed out.new ≡ W.failed out.old + writer_failures result }
     ensures who { J.who judge.new ≡ J.who judge.old }
     ensures kept { R.handle (reader_of decoder.new) ≡ R.handle (reader_of decoder.old) }
@@ -338,25 +323,14 @@ pub fn gate_strict<R: Read, W: Write, P: Report, J: Judge>(
 ) -> Result<Counts, GateFault<R::Error>>
     requires { waiting_of decoder.old ≡ None }
     ensures ran { Answers R.ends
-        (record { limits = only_exact 256 16; decided = J.decided; folded = P.folded; allows = J.yes (J.who judge.old); aad = aad.now })
-        (record {
-          told = J.told judge.old;
-          state = P.state report.old;
-          written = W.written out.old;
-          offset = offset_of decoder.old;
-          left = left_of R.left decoder.old;
-        })
-        (record {
-          told = J.told judge.new;
-          state = P.state report.new;
-          written = W.written out.new;
-          offset = offset_of decoder.new;
-          left = left_of R.left decoder.new;
-        })
-        result }
-    ensures nothing { left_of R.left decoder.old ≡ Some [] → R.failed (reader_of decoder.new) ≡ R.failed (reader_of decoder.old)
+        (rules_by (only_exact 256 16) P.Report J.Judge judge.old aad.now)
+        (sight_of R.Read W.Write P.Report J.Judge decoder.old out.old report.old judge.old)
+        (sight_of R.Read W.Write P.Report J.Judge decoder.new out.new report.new judge.new) result }
+    ensures nothing { left_of R.left decoder.old ≡ Some []
+        → R.failed (reader_of decoder.new) ≡ R.failed (reader_of decoder.old)
         → offset_of decoder.old + 4096 < 2 ^ 64 → IsOk result }
-    ensures reader { R.failed (reader_of decoder.new) ≡ R.failed (reader_of decoder.old) + reader_failures R.ends result }
+    ensures reader { R.failed (reader_of decoder.new)
+        ≡ R.failed (reader_of decoder.old) + reader_failures R.ends result }
     ensures writer { W.failed out.new ≡ W.failed out.old + writer_failures result }
     ensures who { J.who judge.new ≡ J.who judge.old }
     ensures kept { R.handle (reader_of decoder.new) ≡ R.handle (reader_of decoder.old) }
@@ -379,25 +353,14 @@ pub fn gate_strict_with<R: Read, W: Write, P: Report, J: Judge>(
 ) -> Result<Counts, GateFault<R::Error>>
     requires { waiting_of decoder.old ≡ None }
     ensures ran { Answers R.ends
-        (record { limits = only_exact (nesting_of limits) (layers_of limits); decided = J.decided; folded = P.folded; allows = J.yes (J.who judge.old); aad = aad.now })
-        (record {
-          told = J.told judge.old;
-          state = P.state report.old;
-          written = W.written out.old;
-          offset = offset_of decoder.old;
-          left = left_of R.left decoder.old;
-        })
-        (record {
-          told = J.told judge.new;
-          state = P.state report.new;
-          written = W.written out.new;
-          offset = offset_of decoder.new;
-          left = left_of R.left decoder.new;
-        })
-        result }
-    ensures nothing { left_of R.left decoder.old ≡ Some [] → R.failed (reader_of decoder.new) ≡ R.failed (reader_of decoder.old)
+        (rules_by (exact_within limits) P.Report J.Judge judge.old aad.now)
+        (sight_of R.Read W.Write P.Report J.Judge decoder.old out.old report.old judge.old)
+        (sight_of R.Read W.Write P.Report J.Judge decoder.new out.new report.new judge.new) result }
+    ensures nothing { left_of R.left decoder.old ≡ Some []
+        → R.failed (reader_of decoder.new) ≡ R.failed (reader_of decoder.old)
         → offset_of decoder.old + 4096 < 2 ^ 64 → IsOk result }
-    ensures reader { R.failed (reader_of decoder.new) ≡ R.failed (reader_of decoder.old) + reader_failures R.ends result }
+    ensures reader { R.failed (reader_of decoder.new)
+        ≡ R.failed (reader_of decoder.old) + reader_failures R.ends result }
     ensures writer { W.failed out.new ≡ W.failed out.old + writer_failures result }
     ensures who { J.who judge.new ≡ J.who judge.old }
     ensures kept { R.handle (reader_of decoder.new) ≡ R.handle (reader_of decoder.old) }

@@ -1,23 +1,30 @@
 -- A rule that excludes what isn't spelled as it would be written: what passes is written as it was received, and is let through again.
-use Rattle.std.proofs.Common.{◌≡◌, ℕ, ◌⊎◌, inl, inr, List, [], ◌∷◌, ◌++◌, Bool, true, false, cond, Some, None, refl, sym, ap, ◌∙◌, nat_eq, arith}
+use Rattle.std.proofs.Common.{◌≡◌, ℕ, ◌≤◌, ◌⊎◌, inl, inr, List, [], ◌∷◌, ◌++◌, Bool, true, false, cond, Some, None, refl, sym, ap, ◌∙◌, nat_eq, arith}
 use Rattle.std.specs.Cmp.Lexicographic.{pointwise}
 use Rattle.coset_headers.proofs.Entered.{bool_cases}
 use Rattle.cose_gate_core.specs.declared.report.Refusal.TheVariants as refusal
 use Rattle.cose_gate_core.specs.Questions.{Question, message_text}
-use Rattle.cose_gate_core.specs.Findings.{Finding, judged, barred, excluded, Limits, usual, only_exact, Finds}
+use Rattle.cose_gate_core.specs.Findings.{Finding, judged, barred, excluded, Limits, usual, plain, only_exact, Finds}
 use Rattle.cose_gate_core.specs.Run.{Step, Run, passes, written_of, output_of}
 use Rattle.cose_gate_laws.specs.Narrow.{passed_bytes}
 use Rattle.cose_gate_core.proofs.Exactly.{same_text, text_same}
 use Rattle.cose_gate_laws.specs.Fixed.{Admits, ExcludesInexact}
 use Rattle.cose_gate_laws.proofs.Placed.{AllSteps, run_told}
 
--- what any limits let through as it is written, those of the same levels and layers that exclude the rest let through
-pub exact_admits : (l : Limits) → Admits l (only_exact l.nesting l.layers)
-exact_admits l = record {
-  nesting = omega arith;
-  layers = omega arith;
-  written = λ b m e. ap (λ c. cond c None (Some refusal.NotShortest)) (text_same (message_text m) (message_text m) refl);
+-- what any limits let through as it is written, limits as wide or wider let through
+pub plain_admits : (l : Limits) (n k : ℕ) → l.nesting ≤ n → l.layers ≤ k → Admits l (plain n k)
+plain_admits l n k a b = record { nesting = a; layers = b; written = λ c m e. refl }
+
+-- and those that exclude what is spelled otherwise
+pub strict_admits : (l : Limits) (n k : ℕ) → l.nesting ≤ n → l.layers ≤ k → Admits l (only_exact n k)
+strict_admits l n k a b = record {
+  nesting = a;
+  layers = b;
+  written = λ c m e. ap (λ z. cond z None (Some refusal.NotShortest)) (text_same (message_text m) (message_text m) refl);
 }
+
+pub exact_admits : (l : Limits) → Admits l (only_exact l.nesting l.layers)
+exact_admits l = strict_admits l l.nesting l.layers (omega arith) (omega arith)
 
 -- and what a strict gate wrote is let through by the usual limits
 pub usual_admits : Admits (only_exact usual.nesting usual.layers) usual

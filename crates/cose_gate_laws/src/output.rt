@@ -2,7 +2,7 @@
 ghost use Rattle.std.specs.Prelude.{◌≡◌, ℕ, ◌^◌, ◌<◌, ◌≤◌, List, [], length, map, All, Bool};
 ghost use Rattle.ciborium.specs.Items.{Item, ItemsWithin};
 ghost use Rattle.cose_gate_core.specs.Questions.{Question};
-ghost use Rattle.cose_gate_core.specs.Findings.{Limits, usual, only_exact};
+ghost use Rattle.cose_gate_core.specs.Findings.{Limits, usual, plain, only_exact};
 ghost use Rattle.cose_gate_core.specs.Run.{Step, Run, output_of};
 ghost use Rattle.cose_gate_laws.specs.Fixed.{Admits, ExcludesInexact, FixedPoint};
 ghost use Rattle.cose_gate_laws.specs.Narrow.{PassedAreNarrow, passed_bytes};
@@ -50,4 +50,13 @@ pub fn output_is_received()
         → ExcludesInexact limits → Run limits allows aad at b ss rest → output_of allows aad ss ≡ passed_bytes allows aad ss }
     ensures strict_after { (limits : Limits) → Admits limits (only_exact limits.nesting limits.layers) }
     ensures usual_after { Admits (only_exact usual.nesting usual.layers) usual }
+{}
+
+/// What was written within any limits, gates within the same or wider ones let through, a strict one too: so `output_is_fixed` holds of
+/// the gate over the output of a gate, of the strict gate over it, and of either over the output of a strict gate.
+pub fn wider_limits_admit()
+    ensures plain { (limits : Limits) (nesting layers : ℕ) → limits.nesting ≤ nesting → limits.layers ≤ layers
+        → Admits limits (plain nesting layers) }
+    ensures strict { (limits : Limits) (nesting layers : ℕ) → limits.nesting ≤ nesting → limits.layers ≤ layers
+        → Admits limits (only_exact nesting layers) }
 {}

@@ -9,6 +9,8 @@ mod judges;
 #[cfg(test)]
 mod memory;
 #[cfg(test)]
+mod recorder;
+#[cfg(test)]
 mod refused;
 #[cfg(test)]
 mod runs;

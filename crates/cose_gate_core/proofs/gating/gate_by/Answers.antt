@@ -25,7 +25,7 @@ returns-in-Err-pass-clause-ran g c =
     let taken = rw c.in-Ok-Some.field-0-is at c.in-Ok-Some.ensures.next in
     let next = read_of c.args.terms _ _ _ _ _ _ taken in
     let item = rw c.items.invariant.who at c.in-Err-pass.ensures.err in
-    rw c.stop_of.ensures (answer_item _ g.R.Read.ends _ _ _ _ _ c.items.invariant.reached _ next _ (item taken.bytes taken.has) refl)
+    rw c.from.ensures (answer_item _ g.R.Read.ends _ _ _ _ _ c.items.invariant.reached _ next _ (item taken.bytes taken.has) refl)
 
 pub returns-in-Err-pass-clause-nothing : goal.returns-in-Err-pass-clause-nothing
 returns-in-Err-pass-clause-nothing g c = λ none same small.

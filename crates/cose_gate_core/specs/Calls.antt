@@ -1,0 +1,43 @@
+-- What a call of the gate goes by, and what is seen of what it works on.
+use Rattle.std.specs.Prelude.{ℕ, List}
+use Rattle.ciborium_ll.specs.Views.{left_of, offset_of}
+use Rattle.ciborium_ll.specs.declared.dec.Decoder.{Decoder}
+use Rattle.ciborium_ll.specs.declared.read.Read.{Ghosts as Reads}
+use Rattle.ciborium_ll.specs.declared.write.Write.{Ghosts as Writes}
+use Rattle.coset_labels.specs.Limits.{nesting_of, layers_of}
+use Rattle.coset_labels.specs.declared.limits.Limits.{Limits as Chosen}
+use Rattle.cose_gate_core.specs.Findings.{Limits, plain, only_exact}
+use Rattle.cose_gate_core.specs.Outcome.{Rules, Sight}
+use Rattle.cose_gate_core.specs.declared.report.Report.{Ghosts as Reports}
+use Rattle.cose_gate_core.specs.declared.judge.Judge.{Ghosts as Judges}
+
+-- the limits that a caller chose, for the gate and for the strict gate
+abbrev pub within : Chosen → Limits
+within limits = plain (nesting_of limits) (layers_of limits)
+
+abbrev pub exact_within : Chosen → Limits
+exact_within limits = only_exact (nesting_of limits) (layers_of limits)
+
+-- what a call of the gate goes by; `P.Report` and `J.Judge` are the words that the bounds of its
+-- report and its judge bring
+abbrev pub rules_by : {P J : Type 0} → Limits → (p : Reports P) (j : Judges J) → J → List ℕ
+    → Rules j.Told p.State
+rules_by limits p j judge aad = record {
+  limits = limits;
+  decided = j.decided;
+  folded = p.folded;
+  allows = j.yes (j.who judge);
+  aad = aad;
+}
+
+-- what is seen of the decoder, the writer, the report and the judge
+abbrev pub sight_of : {R E W F P J : Type 0}
+    (r : Reads R E) (w : Writes W F) (p : Reports P) (j : Judges J)
+    → Decoder R → W → P → J → Sight j.Told p.State
+sight_of r w p j decoder out report judge = record {
+  told = j.told judge;
+  state = p.state report;
+  written = w.written out;
+  offset = offset_of decoder;
+  left = left_of r.left decoder;
+}

@@ -1,0 +1,30 @@
+//! A recorder that is refused memory, at each allocation in turn (`scripts/fail-alloc.sh`).
+use cose_gate::{About, Header, Judge, Kind, ProtectedHeader, Recorder};
+
+#[test]
+fn refused_memory_leaves_a_recorders_question(rt: HostRuntime) {
+    let alloc = rt.alloc();
+    let protected = ProtectedHeader::new(alloc);
+    let unprotected = Header::new(alloc);
+    let about = About::alone(Kind::Mac0, &protected, &unprotected);
+    let mut recorder = Recorder::new(alloc, None);
+    for _ in 0..8 {
+        let before = recorder.asked().len();
+        if recorder.begin(&about).is_err() {
+            assert_eq!(rt; recorder.asked().len(), before);
+            continue;
+        }
+        let one = recorder.feed(b"one").is_ok();
+        let two = recorder.feed(b"twotwotwotwotwotwo").is_ok();
+        assert!(rt; recorder.decide(&[7]));
+        let want: &[u8] = match (one, two) {
+            (true, true) => b"onetwotwotwotwotwotwo",
+            (true, false) => b"one",
+            (false, true) => b"twotwotwotwotwotwo",
+            (false, false) => b"",
+        };
+        let asked = recorder.asked().last().expect(&rt, "the question");
+        assert_eq!(rt; asked.structure.as_slice(), want);
+        assert_eq!(rt; (asked.kind, asked.tag_len), (Kind::Mac0, 1));
+    }
+}
