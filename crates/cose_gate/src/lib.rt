@@ -18,4 +18,4 @@ pub use cose_hmac::hmac_sha256;
 pub use cose_iana as iana;
 pub use cose_run::judge::HmacJudge;
 pub use cose_run::{Blocks, InputFault, run, words};
-pub use cose_stream::{StreamFault, laws as stream_laws, stream_check};
+pub use cose_stream::{StreamFault, laws as stream_laws, stream_check, stream_check_with};
