@@ -26,7 +26,7 @@ use Rattle.cose_stream.specs.declared.fault.StreamFault.{StreamFault}
 use Rattle.cose_stream.specs.declared.form.Form.{Form}
 use Rattle.cose_stream.specs.Forms.{tag_number}
 use Rattle.cose_stream.specs.Stated.{IsFour, IsSingleTag}
-use Rattle.cose_stream.specs.Streaming.{Why, damaged, untagged, tagged, misshapen, without_payload, without_length, refused, UnstreamedBy, IsShapeFault, IsHeaderFault, IsOtherCount}
+use Rattle.cose_stream.specs.Streaming.{Why, damaged, untagged, tagged, misshapen, without_payload, without_length, refused, UnstreamedBy, IsShapeFault, IsHeaderFault}
 use Rattle.cose_stream.specs.Parts.{PartFault, TagFault, NoBreak, WrongPart, NoneWrong, NoBytes, ShortFault, CloseFault}
 use Rattle.cose_stream.proofs.Faults.{Names, known_tells, tells_behind}
 use Rattle.cose_stream.proofs.Forms.{WrongForm, shaped, not_four_items, wrong_parts, wrong_last, not_two, not_three, single_tag}

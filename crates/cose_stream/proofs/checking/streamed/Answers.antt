@@ -6,7 +6,7 @@ use Rattle.cose_stream.specs.Parts.{WrongPart, NoneWrong, NoBytes}
 use Rattle.cose_stream.proofs.Wrong.{first_tells, part_tells, protected_place, unprotected_place, signature_place, any_place, short_tells_part, close_tells, refused_tells}
 use Rattle.cose_stream.proofs.Heads.{four_tells, size_tells}
 use Rattle.cose_stream.proofs.Whole.{within_start, within_more, part_is, paid, paid_within, checked, subject_is, question_is, in_pieces, asked_as}
-use Rattle.cose_gate_core.specs.Findings.{Limits, plain}
+use Rattle.cose_gate_core.specs.Findings.{plain}
 use Rattle.cose_stream.proofs.checking.streamed.Goals as goal
 
 pub returns-in_err-form-clause-err : goal.returns-in_err-form-clause-err
