@@ -12,8 +12,8 @@ ghost use Rattle.callers.specs.Checking.{IsAnswered, IsFedInFew, EndsBy, EndsOve
 use cose_gate::laws::judged_can_be_written;
 use cose_gate::stream_laws::pieces_fit;
 use cose_gate::{
-    Blocks, CoseKeySet, Decoder, HmacJudge, Judge, Read, StreamFault, Write, run, stream_check,
-    words,
+    Blocks, CoseKeySet, Decoder, HmacJudge, Judge, Limits, Read, StreamFault, Write, run,
+    stream_check, stream_check_with, words,
 };
 use std::alloc::Global;
 use std::io;
@@ -40,12 +40,14 @@ pub fn is_tagged<R: Read>(
     stream_check(alloc, decoder, buffer, aad, &mut judge)
 }
 
-/// A check by any judge, which is fed the payload in as few pieces as its length and the buffer allow.
+/// A check by any judge, within these limits, which is fed the payload in as few pieces as its length
+/// and the buffer allow.
 ///
 /// # Errors
-/// Those of `stream_check`.
+/// Those of `stream_check_with`.
 pub fn fed<R: Read, J: Judge>(
     alloc: Global,
+    limits: Limits,
     decoder: &mut Decoder<R>,
     buffer: &mut [u8],
     aad: &[u8],
@@ -56,7 +58,7 @@ pub fn fed<R: Read, J: Judge>(
         × IsFedInFew (length buffer.old) (J.pieces judge.new) front) }
 {
     pieces_fit();
-    stream_check(alloc, decoder, buffer, aad, judge)
+    stream_check_with(alloc, limits, decoder, buffer, aad, judge)
 }
 
 /// The program over words, where `keys` is what the file holds that the first of them names. Nothing is read where they are not KEYS, or

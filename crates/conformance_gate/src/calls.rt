@@ -31,11 +31,16 @@ pub fn uncut(alloc: Global, row: &[&str]) -> Answer {
         }
         ["gate-again", input, aad] => gating::run_again(alloc, input, aad),
         ["gate-room", room, input] => gating::run_in_room(alloc, room, input),
-        ["stream", room, input, aad] => streaming::check(alloc, room, input, aad, None),
+        ["stream", room, input, aad] => streaming::check(alloc, None, room, input, aad, None),
         ["stream", room, input, aad, no] => {
             let no = words::bytes(alloc, no)?;
-            streaming::check(alloc, room, input, aad, Some(no))
+            streaming::check(alloc, None, room, input, aad, Some(no))
         }
+        ["stream-with", nesting, layers, room, input, aad] => {
+            let limits = words::limits(nesting, layers)?;
+            streaming::check(alloc, Some(limits), room, input, aad, None)
+        }
+        ["stream-fault", input] => streaming::fault(alloc, input),
         ["run", keys, aad, input] => program::run(alloc, keys, aad, input),
         ["run-room", room, keys, aad, input] => {
             program::run_in_room(alloc, room, keys, aad, input)

@@ -1,10 +1,12 @@
 //! Checks of one message while its payload passes through a buffer.
 ghost use Rattle.std.specs.Prelude.{◌<◌, length};
 
-use crate::answers::{Answer, append, yes_or_no};
+use crate::answers::{Answer, append, plain, yes_or_no};
 use crate::gating::questions;
 use crate::words;
-use cose_gate::{About, Decoder, End, Judge, Recorder, StreamFault, stream_check};
+use cose_gate::{
+    About, Decoder, End, Judge, Limits, Recorder, StreamFault, stream_check, stream_check_with,
+};
 use std::alloc::{AllocError, Global};
 
 /// A judge that notes the lengths of the pieces it is fed.
@@ -46,9 +48,11 @@ impl<J: Judge> Judge for Pieces<J> {
     }
 }
 
-/// The answer of a check, and how many bytes were taken. It has no clause but the room, so that its callers carry none of the check's.
+/// The answer of a check, within limits where there are some, and how many bytes were taken. It has
+/// no clause but the room, so that its callers carry none of the check's.
 fn checked<J: Judge>(
     alloc: Global,
+    limits: Option<Limits>,
     input: &[u8],
     buffer: &mut [u8],
     aad: &[u8],
@@ -57,13 +61,24 @@ fn checked<J: Judge>(
     requires { 0 < length buffer.old }
 {
     let mut decoder = Decoder::from(input);
-    let answer = stream_check(alloc, &mut decoder, buffer, aad, judge);
+    let answer = match limits {
+        Some(limits) => stream_check_with(alloc, limits, &mut decoder, buffer, aad, judge),
+        None => stream_check(alloc, &mut decoder, buffer, aad, judge),
+    };
     (answer, decoder.offset())
 }
 
-/// A check with a buffer of so many bytes, from 1 to 64, where the judge says no to this signature alone: its answer, how many bytes
-/// were taken, the question, and the lengths of the pieces in which the covered bytes came; or its fault.
-pub fn check(alloc: Global, room: &str, input: &str, aad: &str, no: Option<Vec<u8>>) -> Answer {
+/// A check, within limits where there are some, with a buffer of so many bytes, from 1 to 64, where
+/// the judge says no to this signature alone: its answer, how many bytes were taken, the question,
+/// and the lengths of the pieces in which the covered bytes came; or its fault.
+pub fn check(
+    alloc: Global,
+    limits: Option<Limits>,
+    room: &str,
+    input: &str,
+    aad: &str,
+    no: Option<Vec<u8>>,
+) -> Answer {
     let room = words::number(room)?;
     let (input, aad) = (words::bytes(alloc, input)?, words::bytes(alloc, aad)?);
     let mut memory = [0; 64];
@@ -72,7 +87,7 @@ pub fn check(alloc: Global, room: &str, input: &str, aad: &str, no: Option<Vec<u
         inner: Recorder::new(alloc, no),
         lengths: Vec::new(alloc),
     };
-    let (answer, taken) = checked(alloc, &input, buffer, &aad, &mut judge);
+    let (answer, taken) = checked(alloc, limits, &input, buffer, &aad, &mut judge);
     let mut text = answer_text(alloc, &answer, taken)?;
     let asked = questions(alloc, judge.inner.asked())?;
     if !asked.is_empty() {
@@ -82,6 +97,17 @@ pub fn check(alloc: Global, room: &str, input: &str, aad: &str, no: Option<Vec<u
         add_pieces(alloc, &mut text, judge.lengths.as_slice())?;
     }
     Ok(text)
+}
+
+/// The text of a check's fault; `yes` or `no` where there is none.
+pub fn fault(alloc: Global, input: &str) -> Answer {
+    let input = words::bytes(alloc, input)?;
+    let mut judge = Recorder::new(alloc, None);
+    let (answer, _) = checked(alloc, None, &input, &mut [0; 1], &[], &mut judge);
+    match answer {
+        Ok(yes) => plain(alloc, yes_or_no(yes)),
+        Err(fault) => Ok(format!(in alloc; "{fault}")?),
+    }
 }
 
 fn answer_text(

@@ -18,6 +18,6 @@ pub use cose_hmac::hmac_sha256;
 pub use cose_iana as iana;
 pub use cose_run::judge::HmacJudge;
 pub use cose_run::{Blocks, InputFault, run, words};
-pub use cose_stream::{StreamFault, laws as stream_laws, stream_check};
+pub use cose_stream::{StreamFault, laws as stream_laws, stream_check, stream_check_with};
 pub use coset_keys::{CoseKey, CoseKeySet, KeyOperation};
 pub use coset_labels::{AsCborValue, CborSerializable, KeyType};

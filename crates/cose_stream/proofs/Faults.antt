@@ -1,5 +1,5 @@
 -- What faults of the streaming road tell, step by step.
-use Rattle.std.proofs.Common.{is_some, true, false, ◌≡◌, ◌≢◌, ◌≤◌, ◌+◌, ◌^◌, ◌⊎◌, inl, inr, ℕ, Bool, List, ◌∷◌, ◌++◌, length, Option, None, Some, refl, sym, ap, subst, ◌∙◌, arith, length-append}
+use Rattle.std.proofs.Common.{is_some, true, false, ◌≡◌, ◌≢◌, ◌≤◌, ◌+◌, ◌-◌, ◌^◌, ◌⊎◌, inl, inr, ℕ, Bool, List, ◌∷◌, ◌++◌, length, Option, None, Some, refl, sym, ap, subst, ◌∙◌, arith, length-append}
 use Rattle.std.specs.Io.KnownBytes.{prepend_known}
 use Rattle.ciborium_ll.specs.declared.hdr.Header.{Header}
 use Rattle.ciborium_ll.specs.declared.hdr.Header.TheVariants.{Break, Simple}
@@ -133,40 +133,47 @@ known_tells ends l o room room' D D' f le step n = (n.0, go l n.1)
     go (Some b) k = tells_as ends _ _ _ _ f (λ w d. step (o + length b) b w (omega arith) d) (λ l. omega arith) k
 
 -- an element whose title is damaged
-part_title : (W : CoseFault → Tree → Type 0) (stop : ℕ) (b : List ℕ) (w : Why) → TitleFault stop b w → PartFault W stop b w
-part_title W stop b (damaged f) d = (title_no_break stop b f d, damaged_by stop b 254 f (in_title b 254 f d))
-part_title W stop b untagged d = absurd d
-part_title W stop b (tagged n) d = absurd d
-part_title W stop b (misshapen e) d = absurd d
-part_title W stop b without_payload d = absurd d
-part_title W stop b without_length d = absurd d
-part_title W stop b refused d = absurd d
+part_title : (k : ℕ) (W : CoseFault → Tree → Type 0) (stop : ℕ) (b : List ℕ) (w : Why) → TitleFault stop b w → PartFault k W stop b w
+part_title k W stop b (damaged f) d = (title_no_break stop b f d, damaged_by stop b k f (in_title b k f d))
+part_title k W stop b untagged d = absurd d
+part_title k W stop b (tagged n) d = absurd d
+part_title k W stop b (misshapen e) d = absurd d
+part_title k W stop b without_payload d = absurd d
+part_title k W stop b without_length d = absurd d
+part_title k W stop b refused d = absurd d
 
-pub part_title_tells : {E : Type 0} (ends : E → Bool) (W : CoseFault → Tree → Type 0) (l : Option (List ℕ)) (o : ℕ) (f : StreamFault E) → Names ends TitleFault 0 l o f → Names ends (PartFault W) 0 l o f
-part_title_tells ends W l o f k = known_tells ends l o 0 0 TitleFault (PartFault W) f (omega arith) (λ stop b w le d. part_title W stop b w d) k
+pub part_title_tells : {E : Type 0} (ends : E → Bool) (n : ℕ) (W : CoseFault → Tree → Type 0) (l : Option (List ℕ)) (o : ℕ) (f : StreamFault E) → Names ends TitleFault 0 l o f → Names ends (PartFault n W) 0 l o f
+part_title_tells ends n W l o f k = known_tells ends l o 0 0 TitleFault (PartFault n W) f (omega arith) (λ stop b w le d. part_title n W stop b w d) k
 
 -- an element that is damaged behind its title, which was put back
-pub part_item : {E : Type 0} (ends : E → Bool) (W : CoseFault → Tree → Type 0) (l₀ l₁ l₂ : Option (List ℕ)) (o₀ o₁ o₂ o₃ : ℕ) (h : Header) (e : Error E)
+pub part_item : {E : Type 0} (ends : E → Bool) (n : ℕ) (W : CoseFault → Tree → Type 0) (l₀ l₁ l₂ : Option (List ℕ)) (o₀ o₁ o₂ o₃ : ℕ) (h : Header) (e : Error E)
     → Moves l₀ l₁ o₀ o₁ (λ (b : List ℕ). Title b h) → h ≢ Break → FitsHeader h → l₂ ≡ prepend_known (title_of h) l₁ → o₂ + length (title_of h) ≡ o₁
-    → IfKnown l₂ (λ b. FailsAt ends b o₂ o₃ (λ stop b f. Damage stop b 254 f) e) → Names ends (PartFault W) 0 l₀ o₀ (fault_by e)
-part_item ends W l₀ l₁ l₂ o₀ o₁ o₂ o₃ h e t not fits same place k = (fault_holds e, go l₀ l₁ t same)
+    → IfKnown l₂ (λ b. FailsAt ends b o₂ o₃ (λ stop b f. Damage stop b n f) e) → Names ends (PartFault n W) 0 l₀ o₀ (fault_by e)
+part_item ends n W l₀ l₁ l₂ o₀ o₁ o₂ o₃ h e t not fits same place k = (fault_holds e, go l₀ l₁ t same)
   where
     go : (l₀ l₁ : Option (List ℕ)) → Moves l₀ l₁ o₀ o₁ (λ (b : List ℕ). Title b h) → l₂ ≡ prepend_known (title_of h) l₁
-        → IfKnown l₀ (λ b. Tells ends (PartFault W (o₀ + length b) b) (IsLongFor 0 o₀ b) (fault_by e))
+        → IfKnown l₀ (λ b. Tells ends (PartFault n W (o₀ + length b) b) (IsLongFor 0 o₀ b) (fault_by e))
     go None l₁ t same = tt
     go (Some b) None t same = absurd t.taken
     go (Some b) (Some rest) t same =
         let pushed : List ℕ = title_of h ++ rest in
-        let there : FailsAt ends pushed o₂ o₃ (λ stop b f. Damage stop b 254 f) e = subst (λ (z : Option (List ℕ)). IfKnown z (λ b. FailsAt ends b o₂ o₃ (λ stop b f. Damage stop b 254 f) e)) same k in
+        let there : FailsAt ends pushed o₂ o₃ (λ stop b f. Damage stop b n f) e = subst (λ (z : Option (List ℕ)). IfKnown z (λ b. FailsAt ends b o₂ o₃ (λ stop b f. Damage stop b n f) e)) same k in
         let total : length b ≡ length t.bytes + length rest = ap length t.taken ∙ length-append t.bytes rest in
         let size : length pushed ≡ length (title_of h) + length rest = length-append (title_of h) rest in
         let grown : o₁ ≡ o₀ + length t.bytes = t.grown in
         let stop : o₂ + length pushed ≡ o₀ + length b = omega arith in
         let long : length (t.bytes ++ rest) ≤ o₀ + length b = omega (arith, ap length t.taken) in
         let clean : NoBreak b = begun_no_break h b rest (record { title = t.bytes; is_title = t.has; whole = t.taken }) not in
-        fails_tells ends (EndPlace pushed o₂ o₃) (λ f. Damage (o₂ + length pushed) pushed 254 f) (PartFault W (o₀ + length b) b) (IsLong o₂ pushed) (IsLongFor 0 o₀ b) e
-        (λ f d. let other : Damaged (o₀ + length b) b 254 f = subst (λ (z : List ℕ). Damaged (o₀ + length b) z 254 f) (sym t.taken) (damage_too h (title_of h) t.bytes rest (title_of_is h fits) t.has (o₀ + length b) long pushed 254 f refl (subst (λ (z : ℕ). Damage z pushed 254 f) stop d)) in (clean, other))
+        fails_tells ends (EndPlace pushed o₂ o₃) (λ f. Damage (o₂ + length pushed) pushed n f) (PartFault n W (o₀ + length b) b) (IsLong o₂ pushed) (IsLongFor 0 o₀ b) e
+        (λ f d. let other : Damaged (o₀ + length b) b n f = subst (λ (z : List ℕ). Damaged (o₀ + length b) z n f) (sym t.taken) (damage_too h (title_of h) t.bytes rest (title_of_is h fits) t.has (o₀ + length b) long pushed n f refl (subst (λ (z : ℕ). Damage z pushed n f) stop d)) in (clean, other))
         tt (λ l. omega arith) there
+
+-- the same by a number that is another word for it
+pub part_as : {E : Type 0} (ends : E → Bool) (W : CoseFault → Tree → Type 0) (l : Option (List ℕ)) (o : ℕ) (f : StreamFault E) (n m : ℕ) → n ≡ m → Names ends (PartFault (n - 2) W) 0 l o f → Names ends (PartFault (m - 2) W) 0 l o f
+part_as ends W l o f n m e k = subst (λ (z : ℕ). Names ends (PartFault (z - 2) W) 0 l o f) e k
+
+pub reads_as : (l₀ l₁ : Option (List ℕ)) (o₀ o₁ : ℕ) (v : Tree) (n m : ℕ) → n ≡ m → Moves l₀ l₁ o₀ o₁ (λ (b : List ℕ). Reads b (n - 2) v) → Moves l₀ l₁ o₀ o₁ (λ (b : List ℕ). Reads b (m - 2) v)
+reads_as l₀ l₁ o₀ o₁ v n m e k = subst (λ (z : ℕ). Moves l₀ l₁ o₀ o₁ (λ (b : List ℕ). Reads b (z - 2) v)) e k
 
 -- no header waits
 pub fresh_due : (l : Option (List ℕ)) (w : Option Header) → w ≡ None → due l w ≡ l
@@ -174,25 +181,25 @@ fresh_due None w e = ap (due None) e
 fresh_due (Some b) w e = ap (due (Some b)) e
 
 -- an item whose title was put back, as if it had not been
-pub put_back : (l₀ l₁ l₂ l₃ : Option (List ℕ)) (o₀ o₁ o₂ o₃ : ℕ) (h : Header) (v : Tree) → Moves l₀ l₁ o₀ o₁ (λ (b : List ℕ). Title b h) → l₁ ≡ l₂ → o₂ + length (title_of h) ≡ o₁
-    → Moves l₂ l₃ (o₂ + length (title_of h)) o₃ (ReadsBehind h 254 v) → Moves l₀ l₃ o₀ o₃ (λ (b : List ℕ). Reads b 254 v)
-put_back l₀ l₁ l₂ l₃ o₀ o₁ o₂ o₃ h v t e p r =
-    item_read l₀ l₂ l₃ o₀ (o₂ + length (title_of h)) o₃ 254 v h (subst (λ (z : Option (List ℕ)). Moves l₀ z o₀ (o₂ + length (title_of h)) (λ (b : List ℕ). Title b h)) e (subst (λ (z : ℕ). Moves l₀ l₁ o₀ z (λ (b : List ℕ). Title b h)) (sym p) t)) r
+pub put_back : (n : ℕ) (l₀ l₁ l₂ l₃ : Option (List ℕ)) (o₀ o₁ o₂ o₃ : ℕ) (h : Header) (v : Tree) → Moves l₀ l₁ o₀ o₁ (λ (b : List ℕ). Title b h) → l₁ ≡ l₂ → o₂ + length (title_of h) ≡ o₁
+    → Moves l₂ l₃ (o₂ + length (title_of h)) o₃ (ReadsBehind h n v) → Moves l₀ l₃ o₀ o₃ (λ (b : List ℕ). Reads b n v)
+put_back n l₀ l₁ l₂ l₃ o₀ o₁ o₂ o₃ h v t e p r =
+    item_read l₀ l₂ l₃ o₀ (o₂ + length (title_of h)) o₃ n v h (subst (λ (z : Option (List ℕ)). Moves l₀ z o₀ (o₂ + length (title_of h)) (λ (b : List ℕ). Title b h)) e (subst (λ (z : ℕ). Moves l₀ l₁ o₀ z (λ (b : List ℕ). Title b h)) (sym p) t)) r
 
 -- an element that is there, and wrong, or for which memory was refused
-pub part_wrong : {E : Type 0} (ends : E → Bool) (W : CoseFault → Tree → Type 0) (l₀ l₁ : Option (List ℕ)) (o₀ o₁ : ℕ) (v : Tree) (e : CoseError) → Moves l₀ l₁ o₀ o₁ (λ (b : List ℕ). Reads b 254 v)
-    → (e ≢ cose.Memory → W (fault_of e) v) → Names {E = E} ends (PartFault W) 0 l₀ o₀ (shape_by e)
-part_wrong {E} ends W l₀ l₁ o₀ o₁ v e t wrong = (shape_holds E e, place l₀ l₁ t)
+pub part_wrong : {E : Type 0} (ends : E → Bool) (k : ℕ) (W : CoseFault → Tree → Type 0) (l₀ l₁ : Option (List ℕ)) (o₀ o₁ : ℕ) (v : Tree) (e : CoseError) → Moves l₀ l₁ o₀ o₁ (λ (b : List ℕ). Reads b k v)
+    → (e ≢ cose.Memory → W (fault_of e) v) → Names {E = E} ends (PartFault k W) 0 l₀ o₀ (shape_by e)
+part_wrong {E} ends k W l₀ l₁ o₀ o₁ v e t wrong = (shape_holds E e, place l₀ l₁ t)
   where
-    place : (l₀ l₁ : Option (List ℕ)) → Moves l₀ l₁ o₀ o₁ (λ (b : List ℕ). Reads b 254 v) → IfKnown l₀ (λ b. Tells {E = E} ends (PartFault W (o₀ + length b) b) (IsLongFor 0 o₀ b) (shape_by e))
+    place : (l₀ l₁ : Option (List ℕ)) → Moves l₀ l₁ o₀ o₁ (λ (b : List ℕ). Reads b k v) → IfKnown l₀ (λ b. Tells {E = E} ends (PartFault k W (o₀ + length b) b) (IsLongFor 0 o₀ b) (shape_by e))
     place None l₁ t = tt
     place (Some b) None t = absurd t.taken
     place (Some b) (Some rest) t = go e wrong
       where
-        there : (f : CoseFault) → W f v → ((r : List ℕ) × (b ≡ 255 ∷ r)) ⊎ ((v : Tree) × (rest : List ℕ) × Front b 254 v rest × W f v)
+        there : (f : CoseFault) → W f v → ((f ≡ unexpected) × ((r : List ℕ) × (b ≡ 255 ∷ r))) ⊎ ((v : Tree) × (rest : List ℕ) × Front b k v rest × W f v)
         there f w = inr (v, rest, record { spelling = t.bytes; whole = t.taken; reads = t.has }, w)
 
-        go : (e : CoseError) → (e ≢ cose.Memory → W (fault_of e) v) → Tells {E = E} ends (PartFault W (o₀ + length b) b) (IsLongFor 0 o₀ b) (shape_by e)
+        go : (e : CoseError) → (e ≢ cose.Memory → W (fault_of e) v) → Tells {E = E} ends (PartFault k W (o₀ + length b) b) (IsLongFor 0 o₀ b) (shape_by e)
         go cose.Memory w = tt
         go (cose.DecodeFailed x) w = there _ (w (λ q. cc))
         go cose.DuplicateMapKey w = there _ (w (λ q. cc))
@@ -204,16 +211,16 @@ part_wrong {E} ends W l₀ l₁ o₀ o₁ v e t wrong = (shape_holds E e, place 
         go cose.UnregisteredIanaNonPrivateValue w = there _ (w (λ q. cc))
         go cose.TooManyLayers w = there _ (w (λ q. cc))
 
-pub part_refused : {E : Type 0} (ends : E → Bool) (W : Tree → CoseFault → Type 0) (l₀ l₁ : Option (List ℕ)) (o₀ o₁ : ℕ) (v : Tree) (e : CoseError) → Moves l₀ l₁ o₀ o₁ (λ (b : List ℕ). Reads b 254 v)
-    → OrMemory (W v) e → Names {E = E} ends (PartFault (WrongPart W)) 0 l₀ o₀ (shape_by e)
-part_refused ends W l₀ l₁ o₀ o₁ v e t (inl m) = part_wrong ends (WrongPart W) l₀ l₁ o₀ o₁ v e t (λ n. absurd (n m))
-part_refused ends W l₀ l₁ o₀ o₁ v e t (inr w) = part_wrong ends (WrongPart W) l₀ l₁ o₀ o₁ v e t (λ n. w)
+pub part_refused : {E : Type 0} (ends : E → Bool) (k : ℕ) (W : Tree → CoseFault → Type 0) (l₀ l₁ : Option (List ℕ)) (o₀ o₁ : ℕ) (v : Tree) (e : CoseError) → Moves l₀ l₁ o₀ o₁ (λ (b : List ℕ). Reads b k v)
+    → OrMemory (W v) e → Names {E = E} ends (PartFault k (WrongPart W)) 0 l₀ o₀ (shape_by e)
+part_refused ends k W l₀ l₁ o₀ o₁ v e t (inl m) = part_wrong ends k (WrongPart W) l₀ l₁ o₀ o₁ v e t (λ n. absurd (n m))
+part_refused ends k W l₀ l₁ o₀ o₁ v e t (inr w) = part_wrong ends k (WrongPart W) l₀ l₁ o₀ o₁ v e t (λ n. w)
 
-pub part_weaker : {E : Type 0} (ends : E → Bool) (W : CoseFault → Tree → Type 0) (l : Option (List ℕ)) (o : ℕ) (f : StreamFault E)
-    → Names ends (PartFault NoneWrong) 0 l o f → Names ends (PartFault W) 0 l o f
-part_weaker ends W l o f k = known_tells ends l o 0 0 (PartFault NoneWrong) (PartFault W) f (omega arith) go k
+pub part_weaker : {E : Type 0} (ends : E → Bool) (k : ℕ) (W : CoseFault → Tree → Type 0) (l : Option (List ℕ)) (o : ℕ) (f : StreamFault E)
+    → Names ends (PartFault k NoneWrong) 0 l o f → Names ends (PartFault k W) 0 l o f
+part_weaker ends k W l o f names = known_tells ends l o 0 0 (PartFault k NoneWrong) (PartFault k W) f (omega arith) go names
   where
-    go : (stop : ℕ) (b : List ℕ) (w : Why) → length b ≤ stop → PartFault NoneWrong stop b w → PartFault W stop b w
+    go : (stop : ℕ) (b : List ℕ) (w : Why) → length b ≤ stop → PartFault k NoneWrong stop b w → PartFault k W stop b w
     go stop b (damaged f) le d = d
     go stop b untagged le d = d
     go stop b (tagged n) le d = d

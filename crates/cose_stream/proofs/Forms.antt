@@ -13,7 +13,7 @@ use Rattle.cose_gate_core.specs.WrongMaced.{WrongMac0, no_array0, in_parts0, in_
 use Rattle.cose_gate_core.specs.WrongMaced as maced
 use Rattle.coset_structures.specs.Structure.{structure}
 use Rattle.cose_gate_core.specs.Questions.{Question, questions, alone}
-use Rattle.cose_gate_core.specs.Findings.{IsBarred, shape, IsJudged, WrongMessage, usual}
+use Rattle.cose_gate_core.specs.Findings.{Limits, IsMisshapen, IsJudged, WrongMessage}
 use Rattle.cose_stream.specs.declared.form.Form.{Form}
 use Rattle.cose_stream.specs.declared.form.Form.TheVariants as form
 use Rattle.cose_stream.specs.Forms.{tag_number, kind_of, context_of, message_of, received_of}
@@ -36,37 +36,42 @@ single form.Sign1 p u payload s = tt
 single form.Mac0 p u payload s = tt
 
 -- which fault a value has as the message
-abbrev pub WrongForm : Form → Tree → CoseFault → Type 0
-WrongForm form.Sign1 u e = WrongSign1 256 u 16 e
-WrongForm form.Mac0 u e = WrongMac0 256 u 16 e
+abbrev pub WrongForm : Limits → Form → Tree → CoseFault → Type 0
+WrongForm l form.Sign1 u e = WrongSign1 l.nesting u l.layers e
+WrongForm l form.Mac0 u e = WrongMac0 l.nesting u l.layers e
 
-pub shaped : (f : Form) (t u : Tree) (e : CoseFault) → t ≡ tag (tag_number f) u → WrongForm f u e → IsBarred usual t shape
-shaped f t u e is w = (e, (tag_number f, u, is, wrong f w))
+pub shaped : (l : Limits) (f : Form) (t u : Tree) (e : CoseFault) → t ≡ tag (tag_number f) u → WrongForm l f u e → IsMisshapen l t e
+shaped l f t u e is w = (tag_number f, u, is, wrong f w)
   where
-    wrong : (f : Form) → WrongForm f u e → WrongMessage usual (tag_number f) u e
+    wrong : (f : Form) → WrongForm l f u e → WrongMessage l (tag_number f) u e
     wrong form.Sign1 w = inl (refl, w)
     wrong form.Mac0 w = inr (inl (refl, w))
 
-pub no_array : (f : Form) (u : Tree) → is_array u ≡ false → WrongForm f u unexpected
-no_array form.Sign1 u n = not_four (inl n)
-no_array form.Mac0 u n = no_array0 u 16 n
+pub no_array : (l : Limits) (f : Form) (u : Tree) → is_array u ≡ false → WrongForm l f u unexpected
+no_array l form.Sign1 u n = not_four (inl n)
+no_array l form.Mac0 u n = no_array0 u l.layers n
 
-pub not_four_items : (f : Form) (ts : Trees) → tree_count ts ≢ 4 → WrongForm f (array ts) unexpected
-not_four_items form.Sign1 ts n = not_four (inr (ts, refl, n))
-not_four_items form.Mac0 ts n = maced.not_four ts 16 n
+pub not_four_items : (l : Limits) (f : Form) (ts : Trees) → tree_count ts ≢ 4 → WrongForm l f (array ts) unexpected
+not_four_items l form.Sign1 ts n = not_four (inr (ts, refl, n))
+not_four_items l form.Mac0 ts n = maced.not_four ts l.layers n
 
-pub wrong_parts : (f : Form) (a b c d : Tree) (e : CoseFault) → WrongParts 256 a b c 16 e → WrongForm f (four_items a b c d) e
-wrong_parts form.Sign1 a b c d e w = in_parts a b c d e refl w
-wrong_parts form.Mac0 a b c d e w = in_parts0 a b c d 16 e w
+pub wrong_parts : (l : Limits) (f : Form) (a b c d : Tree) (e : CoseFault) → WrongParts l.nesting a b c l.layers e → WrongForm l f (four_items a b c d) e
+wrong_parts l form.Sign1 a b c d e w = in_parts a b c d e refl w
+wrong_parts l form.Mac0 a b c d e w = in_parts0 a b c d l.layers e w
 
-pub wrong_last : (f : Form) (a b c d : Tree) → is_bytes d ≡ false → WrongForm f (four_items a b c d) unexpected
-wrong_last form.Sign1 a b c d n = in_last a b c d unexpected refl (n, refl)
-wrong_last form.Mac0 a b c d n = in_tag0 a b c d 16 n
+pub wrong_last : (l : Limits) (f : Form) (a b c d : Tree) → is_bytes d ≡ false → WrongForm l f (four_items a b c d) unexpected
+wrong_last l form.Sign1 a b c d n = in_last a b c d unexpected refl (n, refl)
+wrong_last l form.Mac0 a b c d n = in_tag0 a b c d l.layers n
+
+-- a form by its tag
+pub form_by : (n : ℕ) → IsSingleTag n → (f : Form) × (n ≡ tag_number f)
+form_by n (inl e) = (form.Mac0, e)
+form_by n (inr e) = (form.Sign1, e)
 
 -- the parts of a message make one
-pub judged_of : (f : Form) (a b : Tree) (p : ProtectedFields) (u : HeaderFields) (payload s : List ℕ) → HasProtected 256 a p 16 → HasHeader 256 b u 16
-    → IsJudged usual (tag (tag_number f) (four_items a b (bytes payload) (bytes s))) (message_of f p u payload s)
-judged_of form.Sign1 a b p u payload s hp hu = (
+pub judged_of : (l : Limits) (f : Form) (a b : Tree) (p : ProtectedFields) (u : HeaderFields) (payload s : List ℕ) → HasProtected l.nesting a p l.layers → HasHeader l.nesting b u l.layers
+    → IsJudged l (tag (tag_number f) (four_items a b (bytes payload) (bytes s))) (message_of f p u payload s)
+judged_of l form.Sign1 a b p u payload s hp hu = (
   (
     four_items a b (bytes payload) (bytes s),
     refl,
@@ -83,7 +88,7 @@ judged_of form.Sign1 a b p u payload s hp hu = (
   (payload, refl),
   λ n. n,
 )
-judged_of form.Mac0 a b p u payload s hp hu = (
+judged_of l form.Mac0 a b p u payload s hp hu = (
   (
     four_items a b (bytes payload) (bytes s),
     refl,
@@ -102,8 +107,8 @@ judged_of form.Mac0 a b p u payload s hp hu = (
 )
 
 -- the bytes of a protected header that was read
-pub received_there : (t : Tree) (p : ProtectedFields) (k : ℕ) → HasProtected 256 t p k → received_of p ≢ None
-received_there t (protected o h) k w none = let e : Some w.0 ≡ None = sym w.2 ∙ none in cc
+pub received_there : (n : ℕ) (t : Tree) (p : ProtectedFields) (k : ℕ) → HasProtected n t p k → received_of p ≢ None
+received_there n t (protected o h) k w none = let e : Some w.0 ≡ None = sym w.2 ∙ none in cc
 
 shown_received : (p : ProtectedFields) (b : List ℕ) → received_of p ≡ Some b → shown p ≡ Some b
 shown_received (protected (Some x) h) b e = e

@@ -1,5 +1,5 @@
 -- The parts of a message that was streamed make one readable item of a stated length.
-use Rattle.std.proofs.Common.{◌≡◌, ◌+◌, ℕ, Bool, true, false, cond, List, [], ◌∷◌, ◌++◌, length, Option, None, Some, refl, sym, ap, subst, ◌∙◌, arith, append_assoc}
+use Rattle.std.proofs.Common.{◌≡◌, ◌+◌, ℕ, Bool, true, false, cond, List, [], ◌∷◌, ◌++◌, length, Option, None, Some, refl, sym, ap, subst, ◌∙◌, ◌-◌, ◌≤◌, arith, append_assoc}
 use Rattle.std.specs.Prelude.{is_none, option_map}
 use denote.Bor.{Bor}
 use Rattle.ciborium_ll.specs.declared.hdr.Header.TheVariants.{Tag, Bytes, Array}
@@ -23,6 +23,7 @@ use Rattle.coset_headers.specs.declared.header.ProtectedHeader.{ProtectedHeader}
 use Rattle.cose_gate_core.specs.RecipientView.{recipients_view}
 use Rattle.cose_gate_core.specs.CoseRecipient.{CoseRecipient}
 use Rattle.cose_gate_core.specs.Asked.{first_no, folded_over}
+use Rattle.cose_gate_core.specs.Findings.{Limits}
 use Rattle.cose_gate_core.specs.Questions.{Question, Subject, alone}
 use Rattle.cose_gate_core.specs.declared.about.About.{About}
 use Rattle.cose_gate_core.specs.declared.about.Kind.{Kind}
@@ -30,106 +31,126 @@ use Rattle.cose_gate_core.specs.Lent.{subject_of, signer_of}
 use Rattle.cose_stream.specs.declared.form.Form.{Form}
 use Rattle.cose_stream.specs.Forms.{tag_number, message_of, received_of}
 use Rattle.cose_stream.specs.Stated.{IsFour, closing, InPieces}
-use Rattle.cose_stream.specs.Streaming.{Checked}
+use Rattle.cose_stream.specs.Streaming.{CheckedBy}
 use Rattle.cose_stream.specs.Parts.{IsPart, Split}
 use Rattle.cose_stream.proofs.Forms.{single_tag, single, judged_of, question_of, one_question}
 
 -- the tag of a message, the title of an array, and the elements that are read so far
-pub record Within (f : Form) (o : Option ℕ) (done : Trees) (b : List ℕ) : Type 0 where
+pub record Within (limits : Limits) (f : Form) (o : Option ℕ) (done : Trees) (b : List ℕ) : Type 0 where
   pub tag_title : List ℕ
   pub array_title : List ℕ
   pub inner : List ℕ
   pub is_tag : Title tag_title (Tag (tag_number f))
   pub is_array : Title array_title (Array o)
   pub is_four : IsFour o
-  pub reads : ReadsAll inner 254 done
+  pub reads : ReadsAll inner (limits.nesting - 2) done
   pub whole : b ≡ tag_title ++ (array_title ++ inner)
 
-pub within_start : (l₀ l₁ l₂ : Option (List ℕ)) (o₀ o₁ o₂ : ℕ) (f : Form) (o : Option ℕ) → Moves l₀ l₁ o₀ o₁ (λ (b : List ℕ). Title b (Tag (tag_number f))) → Moves l₁ l₂ o₁ o₂ (λ (b : List ℕ). Title b (Array o)) → IsFour o
-    → Moves l₀ l₂ o₀ o₂ (Within f o no_trees)
-within_start l₀ l₁ l₂ o₀ o₁ o₂ f o t a four =
-    takes_then l₀ l₁ l₂ o₀ o₁ o₂ _ _ (Within f o no_trees) t a (λ x y p q. record { tag_title = x; array_title = y; inner = []; is_tag = p; is_array = q; is_four = four; reads = all_none 254; whole = ap (λ z. x ++ z) (append_nil y) })
-
-within_grows : (f : Form) (o : Option ℕ) (done : Trees) (v : Tree) (x y : List ℕ) → Within f o done x → Reads y 254 v → Within f o (snoc done v) (x ++ y)
-within_grows f o done v x y w r = record {
-  tag_title = w.tag_title;
-  array_title = w.array_title;
-  inner = w.inner ++ y;
-  is_tag = w.is_tag;
-  is_array = w.is_array;
-  is_four = w.is_four;
-  reads = all_more w.inner y 254 done v w.reads r;
-  whole = ap (λ z. z ++ y) w.whole ∙ append_assoc w.tag_title (w.array_title ++ w.inner) y ∙ ap (λ z. w.tag_title ++ z) (append_assoc w.array_title w.inner y);
-}
-
-pub within_more : (l₀ l₁ l₂ : Option (List ℕ)) (o₀ o₁ o₂ : ℕ) (f : Form) (o : Option ℕ) (done : Trees) (v : Tree) → Moves l₀ l₁ o₀ o₁ (Within f o done) → Moves l₁ l₂ o₁ o₂ (λ (b : List ℕ). Reads b 254 v)
-    → Moves l₀ l₂ o₀ o₂ (Within f o (snoc done v))
-within_more l₀ l₁ l₂ o₀ o₁ o₂ f o done v t r = takes_then l₀ l₁ l₂ o₀ o₁ o₂ (Within f o done) (λ (b : List ℕ). Reads b 254 v) (Within f o (snoc done v)) t r (λ x y w p. within_grows f o done v x y w p)
-
-pub part_is : (l₀ l₁ : Option (List ℕ)) (o₀ o₁ : ℕ) (Has : Tree → Type 0) → Moves l₀ l₁ o₀ o₁ (IsPart Has) → (v : Tree) × Moves l₀ l₁ o₀ o₁ (λ (b : List ℕ). Reads b 254 v) × Has v
-part_is l₀ l₁ o₀ o₁ Has t = (t.has.0, record { bytes = t.bytes; has = t.has.1; taken = t.taken; grown = t.grown }, t.has.2)
-
 -- the payload, with its title, and with what P says of its bytes
-pub record Paid (f : Form) (o : Option ℕ) (a b : Tree) (n : ℕ) (P : List ℕ → Type 0) (x : List ℕ) : Type 0 where
+pub record Paid (limits : Limits) (f : Form) (o : Option ℕ) (a b : Tree) (n : ℕ) (P : List ℕ → Type 0) (x : List ℕ) : Type 0 where
   pub front : List ℕ
   pub title : List ℕ
   pub payload : List ℕ
-  pub within : Within f o (one_more a (one_more b no_trees)) front
+  pub within : Within limits f o (one_more a (one_more b no_trees)) front
   pub is_title : Title title (Bytes (Some n))
   pub is_payload : length payload ≡ n
   pub has : P payload
   pub whole : x ≡ front ++ (title ++ payload)
 
-pub paid : (l₀ l₁ l₂ l₃ : Option (List ℕ)) (o₀ o₁ o₂ o₃ : ℕ) (f : Form) (o : Option ℕ) (a b : Tree) (n : ℕ) (P : List ℕ → Type 0) → Moves l₀ l₁ o₀ o₁ (Within f o (one_more a (one_more b no_trees)))
-    → Moves l₁ l₂ o₁ o₂ (λ (x : List ℕ). Title x (Bytes (Some n))) → Moves l₂ l₃ o₂ o₃ (λ (x : List ℕ). (length x ≡ n) × P x) → Moves l₀ l₃ o₀ o₃ (Paid f o a b n P)
-paid l₀ l₁ l₂ l₃ o₀ o₁ o₂ o₃ f o a b n P w t p =
-    takes_then l₀ l₁ l₃ o₀ o₁ o₃ _ (λ (x : List ℕ). (s : List ℕ) × (y : List ℕ) × Title s (Bytes (Some n)) × (length y ≡ n) × P y × (x ≡ s ++ y)) (Paid f o a b n P) w
-    (takes_then l₁ l₂ l₃ o₁ o₂ o₃ _ _ _ t p (λ x y q r. (x, y, q, r.0, r.1, refl)))
-    (λ x y q r. record { front = x; title = r.0; payload = r.1; within = q; is_title = r.2; is_payload = r.3; has = r.4; whole = ap (λ z. x ++ z) r.5 })
+pub part_is : (k : ℕ) (l₀ l₁ : Option (List ℕ)) (o₀ o₁ : ℕ) (Has : Tree → Type 0) → Moves l₀ l₁ o₀ o₁ (IsPart k Has) → (v : Tree) × Moves l₀ l₁ o₀ o₁ (λ (b : List ℕ). Reads b k v) × Has v
+part_is k l₀ l₁ o₀ o₁ Has t = (t.has.0, record { bytes = t.bytes; has = t.has.1; taken = t.taken; grown = t.grown }, t.has.2)
 
 -- the payload is an item
-pub pays : (title payload : List ℕ) (n : ℕ) → Title title (Bytes (Some n)) → length payload ≡ n → Reads (title ++ payload) 254 (bytes payload)
-pays title payload n t e = record {
+pub pays : (title payload : List ℕ) (n k : ℕ) → Title title (Bytes (Some n)) → length payload ≡ n → Reads (title ++ payload) k (bytes payload)
+pays title payload n k t e = record {
   tree = bytes payload;
   spells = (payload ∷ [], whole_frame (title ++ payload) payload title (subst (λ (z : ℕ). Title title (Bytes (Some z))) (sym e) t) tt refl, append_nil payload);
   shallow = omega arith;
   means = refl;
 }
 
--- all parts make one item
-four_reads : (f : Form) (o : Option ℕ) (vs : Trees) (x : List ℕ) → tree_count vs ≡ 4 → Within f o vs x → Reads (x ++ closing o) 256 (tag (tag_number f) (array vs))
-four_reads f o vs x c w =
-    let n = tag_number f in
-    let inside = array_read o 4 255 (array vs) vs (w.inner ++ closing o) refl c (omega arith) (children o w.is_four) w.array_title w.is_array in
-    let item = tag_read n 256 (array vs) (tag n (array vs)) (w.array_title ++ (w.inner ++ closing o)) (tag_level n 256 (array vs) (w.array_title ++ (w.inner ++ closing o)) (omega arith) inside) refl w.tag_title w.is_tag in
-    subst (λ (z : List ℕ). Reads z 256 (tag n (array vs))) (sym (ap (λ z. z ++ closing o) w.whole ∙ append_assoc w.tag_title (w.array_title ++ w.inner) (closing o) ∙ ap (λ z. w.tag_title ++ z) (append_assoc w.array_title w.inner (closing o)))) item
-  where
-    children : (o : Option ℕ) → IsFour o → ChildrenBehind o 4 254 vs (w.inner ++ closing o)
-    children None e = (w.inner, w.reads, refl)
-    children (Some n) e = (e, subst (λ (z : List ℕ). ReadsAll z 254 vs) (append_nil w.inner) w.reads)
+module _ (limits : Limits) where
+  pub within_start : (l₀ l₁ l₂ : Option (List ℕ)) (o₀ o₁ o₂ : ℕ) (f : Form) (o : Option ℕ) → Moves l₀ l₁ o₀ o₁ (λ (b : List ℕ). Title b (Tag (tag_number f))) → Moves l₁ l₂ o₁ o₂ (λ (b : List ℕ). Title b (Array o)) → IsFour o
+      → Moves l₀ l₂ o₀ o₂ (Within limits f o no_trees)
+  within_start l₀ l₁ l₂ o₀ o₁ o₂ f o t a four =
+      takes_then l₀ l₁ l₂ o₀ o₁ o₂ _ _ (Within limits f o no_trees) t a (λ x y p q. record { tag_title = x; array_title = y; inner = []; is_tag = p; is_array = q; is_four = four; reads = all_none (limits.nesting - 2); whole = ap (λ z. x ++ z) (append_nil y) })
+
+  pub within_grows : (f : Form) (o : Option ℕ) (done : Trees) (v : Tree) (x y : List ℕ) → Within limits f o done x → Reads y (limits.nesting - 2) v → Within limits f o (snoc done v) (x ++ y)
+  within_grows f o done v x y w r = record {
+    tag_title = w.tag_title;
+    array_title = w.array_title;
+    inner = w.inner ++ y;
+    is_tag = w.is_tag;
+    is_array = w.is_array;
+    is_four = w.is_four;
+    reads = all_more w.inner y (limits.nesting - 2) done v w.reads r;
+    whole = ap (λ z. z ++ y) w.whole ∙ append_assoc w.tag_title (w.array_title ++ w.inner) y ∙ ap (λ z. w.tag_title ++ z) (append_assoc w.array_title w.inner y);
+  }
+
+  pub within_more : (l₀ l₁ l₂ : Option (List ℕ)) (o₀ o₁ o₂ : ℕ) (f : Form) (o : Option ℕ) (done : Trees) (v : Tree) → Moves l₀ l₁ o₀ o₁ (Within limits f o done) → Moves l₁ l₂ o₁ o₂ (λ (b : List ℕ). Reads b (limits.nesting - 2) v)
+      → Moves l₀ l₂ o₀ o₂ (Within limits f o (snoc done v))
+  within_more l₀ l₁ l₂ o₀ o₁ o₂ f o done v t r =
+      takes_then l₀ l₁ l₂ o₀ o₁ o₂ (Within limits f o done) (λ (b : List ℕ). Reads b (limits.nesting - 2) v) (Within limits f o (snoc done v)) t r (λ x y w p. within_grows f o done v x y w p)
+
+  pub paid : (l₀ l₁ l₂ l₃ : Option (List ℕ)) (o₀ o₁ o₂ o₃ : ℕ) (f : Form) (o : Option ℕ) (a b : Tree) (n : ℕ) (P : List ℕ → Type 0) → Moves l₀ l₁ o₀ o₁ (Within limits f o (one_more a (one_more b no_trees)))
+      → Moves l₁ l₂ o₁ o₂ (λ (x : List ℕ). Title x (Bytes (Some n))) → Moves l₂ l₃ o₂ o₃ (λ (x : List ℕ). (length x ≡ n) × P x) → Moves l₀ l₃ o₀ o₃ (Paid limits f o a b n P)
+  paid l₀ l₁ l₂ l₃ o₀ o₁ o₂ o₃ f o a b n P w t p =
+      takes_then l₀ l₁ l₃ o₀ o₁ o₃ _ (λ (x : List ℕ). (s : List ℕ) × (y : List ℕ) × Title s (Bytes (Some n)) × (length y ≡ n) × P y × (x ≡ s ++ y)) (Paid limits f o a b n P) w
+      (takes_then l₁ l₂ l₃ o₁ o₂ o₃ _ _ _ t p (λ x y q r. (x, y, q, r.0, r.1, refl)))
+      (λ x y q r. record { front = x; title = r.0; payload = r.1; within = q; is_title = r.2; is_payload = r.3; has = r.4; whole = ap (λ z. x ++ z) r.5 })
+
+  -- all parts make one item
+  four_reads : 2 ≤ limits.nesting → (f : Form) (o : Option ℕ) (vs : Trees) (x : List ℕ) → tree_count vs ≡ 4 → Within limits f o vs x → Reads (x ++ closing o) limits.nesting (tag (tag_number f) (array vs))
+  four_reads two f o vs x c w =
+      let n = tag_number f in
+      let k = limits.nesting in
+      let inside = array_read o 4 (k - 1) (array vs) vs (w.inner ++ closing o) refl c (omega arith) (children o w.is_four) w.array_title w.is_array in
+      let item = tag_read n k (array vs) (tag n (array vs)) (w.array_title ++ (w.inner ++ closing o)) (tag_level n k (array vs) (w.array_title ++ (w.inner ++ closing o)) (omega arith) inside) refl w.tag_title w.is_tag in
+      subst (λ (z : List ℕ). Reads z k (tag n (array vs))) (sym (ap (λ z. z ++ closing o) w.whole ∙ append_assoc w.tag_title (w.array_title ++ w.inner) (closing o) ∙ ap (λ z. w.tag_title ++ z) (append_assoc w.array_title w.inner (closing o)))) item
+    where
+      reads : ReadsAll w.inner ((limits.nesting - 1) - 1) vs
+      reads = subst (λ (z : ℕ). ReadsAll w.inner z vs) (let e : limits.nesting - 2 ≡ (limits.nesting - 1) - 1 = omega arith in e) w.reads
+
+      children : (o : Option ℕ) → IsFour o → ChildrenBehind o 4 ((limits.nesting - 1) - 1) vs (w.inner ++ closing o)
+      children None e = (w.inner, reads, refl)
+      children (Some n) e = (e, subst (λ (z : List ℕ). ReadsAll z ((limits.nesting - 1) - 1) vs) (append_nil w.inner) reads)
+
+  pub paid_within : (l₀ l₁ : Option (List ℕ)) (o₀ o₁ : ℕ) (f : Form) (o : Option ℕ) (a b : Tree) (n : ℕ) (P : List ℕ → Type 0) → Moves l₀ l₁ o₀ o₁ (Paid limits f o a b n P)
+      → (payload : List ℕ) × Moves l₀ l₁ o₀ o₁ (Within limits f o (one_more a (one_more b (one_more (bytes payload) no_trees))))
+  paid_within l₀ l₁ o₀ o₁ f o a b n P t =
+      let w = t.has in (
+        w.payload,
+        record {
+          bytes = t.bytes;
+          has = subst (Within limits f o (one_more a (one_more b (one_more (bytes w.payload) no_trees)))) (sym w.whole)
+              (within_grows f o (one_more a (one_more b no_trees)) (bytes w.payload) w.front (w.title ++ w.payload) w.within (pays w.title w.payload n (limits.nesting - 2) w.is_title w.is_payload));
+          taken = t.taken;
+          grown = t.grown;
+        },
+      )
 
 first_alone : (b : Bool) → b ≡ is_none (cond b (option_map (λ (n : ℕ). n + 1) None) (Some 0))
 first_alone true = refl
 first_alone false = refl
 
-pub checked : {T : Type 0} (decided : T → Question → T) (allows : Question → Bool) (aad body : List ℕ) (told told' : T) (room : ℕ) (lengths : List ℕ) (says : Bool) (l₀ l₁ l₂ l₃ : Option (List ℕ)) (o₀ o₁ o₂ o₃ n : ℕ) (f : Form) (o : Option ℕ) (a b : Tree)
-    (p : ProtectedFields) (h : HeaderFields) (s : List ℕ) (P : List ℕ → Type 0) → HasProtected 256 a p 16 → HasHeader 256 b h 16 → received_of p ≡ Some body → InPieces n room lengths
+pub checked : {T : Type 0} (limits : Limits) → 2 ≤ limits.nesting → (decided : T → Question → T) (allows : Question → Bool) (aad body : List ℕ) (told told' : T) (room : ℕ) (lengths : List ℕ) (says : Bool) (l₀ l₁ l₂ l₃ : Option (List ℕ)) (o₀ o₁ o₂ o₃ n : ℕ) (f : Form) (o : Option ℕ) (a b : Tree)
+    (p : ProtectedFields) (h : HeaderFields) (s : List ℕ) (P : List ℕ → Type 0) → HasProtected limits.nesting a p limits.layers → HasHeader limits.nesting b h limits.layers → received_of p ≡ Some body → InPieces n room lengths
     → ((payload : List ℕ) → length payload ≡ n → P payload → (says ≡ allows (question_of f p h body aad payload s)) × (told' ≡ decided told (question_of f p h body aad payload s)))
-    → Moves l₀ l₁ o₀ o₁ (Paid f o a b n P) → Moves l₁ l₂ o₁ o₂ (λ (x : List ℕ). Reads x 254 (bytes s)) → Moves l₂ l₃ o₂ o₃ (λ (x : List ℕ). x ≡ closing o)
-    → Moves l₀ l₃ o₀ o₃ (Checked decided allows aad told told' room lengths says)
-checked decided allows aad body told told' room lengths says l₀ l₁ l₂ l₃ o₀ o₁ o₂ o₃ n f o a b p h s P hp hh got cut ask paid sig end =
-    takes_then l₀ l₁ l₃ o₀ o₁ o₃ (Paid f o a b n P) (λ (x : List ℕ). (y : List ℕ) × Reads y 254 (bytes s) × (x ≡ y ++ closing o)) _ paid
-    (takes_then l₁ l₂ l₃ o₁ o₂ o₃ _ _ (λ (x : List ℕ). (y : List ℕ) × Reads y 254 (bytes s) × (x ≡ y ++ closing o)) sig end (λ x y r e. (x, r, ap (λ z. x ++ z) e)))
+    → Moves l₀ l₁ o₀ o₁ (Paid limits f o a b n P) → Moves l₁ l₂ o₁ o₂ (λ (x : List ℕ). Reads x (limits.nesting - 2) (bytes s)) → Moves l₂ l₃ o₂ o₃ (λ (x : List ℕ). x ≡ closing o)
+    → Moves l₀ l₃ o₀ o₃ (CheckedBy limits decided allows aad told told' room lengths says)
+checked limits two_below decided allows aad body told told' room lengths says l₀ l₁ l₂ l₃ o₀ o₁ o₂ o₃ n f o a b p h s P hp hh got cut ask paid sig end =
+    takes_then l₀ l₁ l₃ o₀ o₁ o₃ (Paid limits f o a b n P) (λ (x : List ℕ). (y : List ℕ) × Reads y (limits.nesting - 2) (bytes s) × (x ≡ y ++ closing o)) _ paid
+    (takes_then l₁ l₂ l₃ o₁ o₂ o₃ _ _ (λ (x : List ℕ). (y : List ℕ) × Reads y (limits.nesting - 2) (bytes s) × (x ≡ y ++ closing o)) sig end (λ x y r e. (x, r, ap (λ z. x ++ z) e)))
     (λ x y w r. all x y w r.0 r.1 r.2)
   where
-    all : (x y : List ℕ) → Paid f o a b n P x → (last : List ℕ) → Reads last 254 (bytes s) → y ≡ last ++ closing o → Checked decided allows aad told told' room lengths says (x ++ y)
+    all : (x y : List ℕ) → Paid limits f o a b n P x → (last : List ℕ) → Reads last (limits.nesting - 2) (bytes s) → y ≡ last ++ closing o → CheckedBy limits decided allows aad told told' room lengths says (x ++ y)
     all x y w last r e =
         let v = w.within in
         let two = v.reads in
         let vs : Trees = one_more a (one_more b (one_more (bytes w.payload) (one_more (bytes s) no_trees))) in
         let item : Tree = tag (tag_number f) (array vs) in
-        let three = within_grows f o (one_more a (one_more b no_trees)) (bytes w.payload) w.front (w.title ++ w.payload) v (pays w.title w.payload n w.is_title w.is_payload) in
-        let four = within_grows f o (one_more a (one_more b (one_more (bytes w.payload) no_trees))) (bytes s) (w.front ++ (w.title ++ w.payload)) last three r in
+        let three = within_grows limits f o (one_more a (one_more b no_trees)) (bytes w.payload) w.front (w.title ++ w.payload) v (pays w.title w.payload n (limits.nesting - 2) w.is_title w.is_payload) in
+        let four = within_grows limits f o (one_more a (one_more b (one_more (bytes w.payload) no_trees))) (bytes s) (w.front ++ (w.title ++ w.payload)) last three r in
         let joint : x ++ y ≡ ((w.front ++ (w.title ++ w.payload)) ++ last) ++ closing o = ap (λ z. z ++ y) w.whole ∙ ap (λ z. (w.front ++ (w.title ++ w.payload)) ++ z) e ∙ sym (append_assoc (w.front ++ (w.title ++ w.payload)) last (closing o)) in
         let behind : (w.title ++ w.payload) ++ y ≡ w.title ++ (w.payload ++ (last ++ closing o)) = ap (λ z. (w.title ++ w.payload) ++ z) e ∙ append_assoc w.title w.payload (last ++ closing o) in
         let flat : x ++ y ≡ v.tag_title ++ (v.array_title ++ (v.inner ++ (w.title ++ (w.payload ++ (last ++ closing o))))) =
@@ -142,8 +163,8 @@ checked decided allows aad body told told' room lengths says l₀ l₁ l₂ l₃
           item = item;
           message = message_of f p h w.payload s;
           size = n;
-          reads = subst (λ (z : List ℕ). Reads z 256 item) (sym joint) (four_reads f o vs ((w.front ++ (w.title ++ w.payload)) ++ last) refl four);
-          is = judged_of f a b p h w.payload s hp hh;
+          reads = subst (λ (z : List ℕ). Reads z limits.nesting item) (sym joint) (four_reads limits two_below f o vs ((w.front ++ (w.title ++ w.payload)) ++ last) refl four);
+          is = judged_of limits f a b p h w.payload s hp hh;
           single = single f p h w.payload s;
           stated = record {
             number = tag_number f;
@@ -191,16 +212,3 @@ in_pieces n room old mid new s e = record { front = old; pieces = s.0; whole = e
 
 pub asked_as : {W Q A : Type 0} (f : W → Q → A) (a b : W) (q r : Q) (x : A) → x ≡ f a q → a ≡ b → q ≡ r → x ≡ f b r
 asked_as f a b q r x e d h = e ∙ ap (λ z. f z q) d ∙ ap (f b) h
-
-pub paid_within : (l₀ l₁ : Option (List ℕ)) (o₀ o₁ : ℕ) (f : Form) (o : Option ℕ) (a b : Tree) (n : ℕ) (P : List ℕ → Type 0) → Moves l₀ l₁ o₀ o₁ (Paid f o a b n P)
-    → (payload : List ℕ) × Moves l₀ l₁ o₀ o₁ (Within f o (one_more a (one_more b (one_more (bytes payload) no_trees))))
-paid_within l₀ l₁ o₀ o₁ f o a b n P t =
-    let w = t.has in (
-      w.payload,
-      record {
-        bytes = t.bytes;
-        has = subst (Within f o (one_more a (one_more b (one_more (bytes w.payload) no_trees)))) (sym w.whole) (within_grows f o (one_more a (one_more b no_trees)) (bytes w.payload) w.front (w.title ++ w.payload) w.within (pays w.title w.payload n w.is_title w.is_payload));
-        taken = t.taken;
-        grown = t.grown;
-      },
-    )

@@ -1,5 +1,5 @@
--- The two kinds of message that are checked while their payload passes: those with one signature or one tag, and nobody else to ask
--- about (RFC 9052, sections 2, 4.2 and 6.2).
+-- The two kinds of message that are checked while their payload passes: those with one signature or
+-- one tag, and nobody else to ask about (RFC 9052, sections 2, 4.2 and 6.2).
 use Rattle.std.specs.Prelude.{ℕ, List, Option, Some}
 use Rattle.coset_headers.specs.Fields.{HeaderFields, ProtectedFields, protected}
 use Rattle.coset_structures.specs.Contexts.{signature_text, mac_text}
@@ -26,8 +26,10 @@ context_of form.Mac0 = mac_text CoseMac0
 
 -- the message of these headers, this payload, and this signature or tag
 abbrev pub message_of : Form → ProtectedFields → HeaderFields → List ℕ → List ℕ → MessageFields
-message_of form.Sign1 p u payload s = sign1 (record { protected = p; unprotected = u; payload = Some payload; signature = s })
-message_of form.Mac0 p u payload s = mac0 (record { protected = p; unprotected = u; payload = Some payload; tag = s })
+message_of form.Sign1 p u payload s =
+    sign1 (record { protected = p; unprotected = u; payload = Some payload; signature = s })
+message_of form.Mac0 p u payload s =
+    mac0 (record { protected = p; unprotected = u; payload = Some payload; tag = s })
 
 -- the bytes of a protected header that was received
 abbrev pub received_of : ProtectedFields → Option (List ℕ)

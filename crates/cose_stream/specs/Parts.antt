@@ -41,7 +41,9 @@ abbrev pub FourFault : ℕ → List ℕ → Why → Type 0
 FourFault stop b (damaged f) = TitleDamage stop b f
 FourFault stop b untagged = ⊥
 FourFault stop b (tagged n) = ⊥
-FourFault stop b (misshapen e) = (h : Header) × (rest : List ℕ) × Begins b h rest × ((o : Option ℕ) → IsFour o → h ≢ Array o)
+FourFault stop b (misshapen e) =
+    (e ≡ unexpected) × ((h : Header) × (rest : List ℕ) × Begins b h rest
+    × ((o : Option ℕ) → IsFour o → h ≢ Array o))
 FourFault stop b without_payload = ⊥
 FourFault stop b without_length = ⊥
 FourFault stop b refused = ⊥
@@ -49,15 +51,18 @@ FourFault stop b refused = ⊥
 abbrev pub NoBreak : List ℕ → Type 0
 NoBreak b = (r : List ℕ) → b ≢ 255 ∷ r
 
--- an element of the array: damaged, a break in its place, or one that is wrong
-abbrev pub PartFault : (CoseFault → Tree → Type 0) → ℕ → List ℕ → Why → Type 0
-PartFault Wrong stop b (damaged f) = NoBreak b × Damaged stop b 254 f
-PartFault Wrong stop b untagged = ⊥
-PartFault Wrong stop b (tagged n) = ⊥
-PartFault Wrong stop b (misshapen e) = ((r : List ℕ) × (b ≡ 255 ∷ r)) ⊎ ((v : Tree) × (rest : List ℕ) × Front b 254 v rest × Wrong e v)
-PartFault Wrong stop b without_payload = ⊥
-PartFault Wrong stop b without_length = ⊥
-PartFault Wrong stop b refused = Unit {0}
+-- an element of the array that may open so many levels: damaged, a break in its place, or one that
+-- is wrong
+abbrev pub PartFault : ℕ → (CoseFault → Tree → Type 0) → ℕ → List ℕ → Why → Type 0
+PartFault limit Wrong stop b (damaged f) = NoBreak b × Damaged stop b limit f
+PartFault limit Wrong stop b untagged = ⊥
+PartFault limit Wrong stop b (tagged n) = ⊥
+PartFault limit Wrong stop b (misshapen e) =
+    ((e ≡ unexpected) × ((r : List ℕ) × (b ≡ 255 ∷ r)))
+    ⊎ ((v : Tree) × (rest : List ℕ) × Front b limit v rest × Wrong e v)
+PartFault limit Wrong stop b without_payload = ⊥
+PartFault limit Wrong stop b without_length = ⊥
+PartFault limit Wrong stop b refused = Unit {0}
 
 -- an element that may be any item
 abbrev pub NoneWrong : CoseFault → Tree → Type 0
@@ -67,9 +72,9 @@ NoneWrong e v = ⊥
 abbrev pub NoBytes : CoseFault → Tree → Type 0
 NoBytes e v = (e ≡ unexpected) × (is_bytes v ≡ false)
 
--- an item with these fields
-abbrev pub IsPart : (Tree → Type 0) → List ℕ → Type 0
-IsPart Has b = (v : Tree) × Reads b 254 v × Has v
+-- an item of at most so many levels with these fields
+abbrev pub IsPart : ℕ → (Tree → Type 0) → List ℕ → Type 0
+IsPart limit Has b = (v : Tree) × Reads b limit v × Has v
 
 abbrev pub WrongPart : (Tree → CoseFault → Type 0) → CoseFault → Tree → Type 0
 WrongPart Wrong e v = Wrong v e
@@ -79,8 +84,11 @@ abbrev pub SizeFault : ℕ → List ℕ → Why → Type 0
 SizeFault stop b (damaged f) = TitleDamage stop b f
 SizeFault stop b untagged = ⊥
 SizeFault stop b (tagged n) = ⊥
-SizeFault stop b (misshapen e) = (h : Header) × (rest : List ℕ) × Begins b h rest × ((o : Option ℕ) → h ≢ Bytes o) × (h ≢ Simple 22) × (h ≢ Simple 23)
-SizeFault stop b without_payload = ((rest : List ℕ) × Begins b (Simple 22) rest) ⊎ ((rest : List ℕ) × Begins b (Simple 23) rest)
+SizeFault stop b (misshapen e) =
+    (e ≡ unexpected) × ((h : Header) × (rest : List ℕ) × Begins b h rest
+    × ((o : Option ℕ) → h ≢ Bytes o) × (h ≢ Simple 22) × (h ≢ Simple 23))
+SizeFault stop b without_payload =
+    ((rest : List ℕ) × Begins b (Simple 22) rest) ⊎ ((rest : List ℕ) × Begins b (Simple 23) rest)
 SizeFault stop b without_length = (rest : List ℕ) × Begins b (Bytes None) rest
 SizeFault stop b refused = ⊥
 
@@ -102,7 +110,8 @@ abbrev pub CloseFault : ℕ → List ℕ → Why → Type 0
 CloseFault stop b (damaged f) = TitleDamage stop b f
 CloseFault stop b untagged = ⊥
 CloseFault stop b (tagged n) = ⊥
-CloseFault stop b (misshapen e) = (h : Header) × (rest : List ℕ) × Begins b h rest × (h ≢ Break)
+CloseFault stop b (misshapen e) =
+    (e ≡ unexpected) × ((h : Header) × (rest : List ℕ) × Begins b h rest × (h ≢ Break))
 CloseFault stop b without_payload = ⊥
 CloseFault stop b without_length = ⊥
 CloseFault stop b refused = ⊥

@@ -1,4 +1,5 @@
--- Messages of which the payload's length is stated in front, over whole lists of bytes, and payloads in pieces.
+-- Messages of which the payload's length is stated in front, over whole lists of bytes, and
+-- payloads in pieces.
 use Rattle.std.specs.Prelude.{◌≡◌, ℕ, ◌-◌, ◌<◌, min, ◌⊎◌, List, [], ◌∷◌, ◌++◌, length, Option, Some, None}
 use Rattle.ciborium_ll.specs.declared.hdr.Header.TheVariants.{Tag, Bytes, Array}
 use Rattle.ciborium_ll.specs.Title.{Title}
@@ -26,8 +27,9 @@ abbrev pub closing : Option ℕ → List ℕ
 closing None = 255 ∷ []
 closing (Some n) = []
 
--- the list is a tag of such a message, the title of an array of four, the spellings of two items, the title of a byte string of the
--- length n, n bytes, the spelling of one item, and a break where the array is open (RFC 8949, section 3)
+-- the list is a tag of such a message, the title of an array of four, the spellings of two items,
+-- the title of a byte string of the length n, n bytes, the spelling of one item, and a break where
+-- the array is open (RFC 8949, section 3)
 pub record Stated (b : List ℕ) (n : ℕ) : Type 0 where
   pub number : ℕ
   pub is_single : IsSingleTag number
@@ -48,9 +50,11 @@ pub record Stated (b : List ℕ) (n : ℕ) : Type 0 where
   pub is_length : Title length_title (Bytes (Some n))
   pub is_payload : length payload ≡ n
   pub spells_last : Spells last signature
-  pub whole : b ≡ tag_title ++ (array_title ++ (headers ++ (length_title ++ (payload ++ (last ++ closing count)))))
+  pub whole : b ≡ tag_title
+      ++ (array_title ++ (headers ++ (length_title ++ (payload ++ (last ++ closing count)))))
 
--- the lengths of n bytes that come in pieces: each piece is as long as the room and the bytes to come allow, and none is empty
+-- the lengths of n bytes that come in pieces: each piece is as long as the room and the bytes to
+-- come allow, and none is empty
 abbrev pub Cut : ℕ → ℕ → List ℕ → Type 0
 Cut room n [] = n ≡ 0
 Cut room n (p ∷ ps) = (p ≡ min n room) × (0 < n) × Cut room (n - p) ps

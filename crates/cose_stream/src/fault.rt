@@ -2,26 +2,38 @@
 ghost use Rattle.cose_stream.specs.Parts.{IsUnexpected};
 
 use ciborium::de;
+use ciborium_ll::{Header, simple};
 use cose_gate_core::CoseError;
 use std::alloc::AllocError;
+use std::fmt;
+use thiserror::Error;
 
-/// Why a message was not checked.
-#[derive(Debug, PartialEq, Eq, Drop)]
+/// Why a message was not checked. Its text is `decode: ` and the fault's text, `memory`, or its
+/// name, of another tag with the number, and of a shape with the fault's text.
+#[derive(Debug, PartialEq, Eq, Drop, Error)]
+#[error_bound(E: fmt::Display)]
 pub enum StreamFault<E> {
     /// No readable item begins here, or the reader failed. It never holds `Memory`.
+    #[error("decode: {0}")]
     Decode(de::Error<E>),
     /// The first title is no tag.
+    #[error("NotTagged")]
     NotTagged,
-    /// The first title is the tag of no message that this road checks: any but those of a COSE_Sign1 and a COSE_Mac0 (RFC 9052,
-    /// section 2).
+    /// The first title is the tag of no message that this road checks: any but those of a
+    /// COSE_Sign1 and a COSE_Mac0 (RFC 9052, section 2).
+    #[error("OtherTag: {0}")]
     OtherTag(u64),
     /// The item is no message of its tag. It never holds `Memory`.
+    #[error("Shape: {0}")]
     Shape(CoseError),
     /// The message doesn't carry its payload.
+    #[error("Detached")]
     Detached,
     /// The payload is a byte string that doesn't state its length in front.
+    #[error("Unsized")]
     Unsized,
     /// Memory was refused, to the judge too.
+    #[error("memory")]
     Memory,
 }
 
@@ -98,9 +110,33 @@ impl<E> From<CoseError> for StreamFault<E> {
     }
 }
 
-/// The fault of an array that hasn't four elements, or of an element that has no place in it.
+/// The fault of an array that hasn't four elements, or of a break in the place of one.
 pub fn not_four<E>() -> StreamFault<E>
     ensures { IsUnexpected result }
 {
     StreamFault::Shape(CoseError::UnexpectedItem("array", "array with 4 items"))
+}
+
+/// The fault of an item with this title where another kind was expected.
+pub fn other_kind<E>(header: Header, want: &'static str) -> StreamFault<E>
+    ensures { IsUnexpected result }
+{
+    StreamFault::Shape(CoseError::UnexpectedItem(kind_name(header), want))
+}
+
+/// The name of an item's kind in an error, by its title.
+fn kind_name(header: Header) -> &'static str {
+    match header {
+        Header::Positive(_) | Header::Negative(_) => "int",
+        Header::Float(_) => "float",
+        Header::Simple(simple::FALSE | simple::TRUE) => "bool",
+        Header::Simple(simple::NULL | simple::UNDEFINED) => "nul",
+        Header::Simple(_) => "simple",
+        Header::Tag(_) => "tag",
+        Header::Break => "break",
+        Header::Bytes(_) => "bstr",
+        Header::Text(_) => "tstr",
+        Header::Array(_) => "array",
+        Header::Map(_) => "map",
+    }
 }

@@ -27,8 +27,8 @@ pub fn received(protected: &ProtectedHeader) -> &[u8]
     }
 }
 
-/// Feeds what stands in front of the payload's bytes in the structure (RFC 9052, sections 4.4 and 6.3). The length of each byte string is
-/// written anew, by its shortest title.
+/// Feeds what stands in front of the payload's bytes in the structure (RFC 9052, sections 4.4 and
+/// 6.3). The length of each byte string is written anew, by its shortest title.
 pub fn feed_front<J: Judge>(
     form: Form,
     protected: &[u8],
@@ -36,7 +36,8 @@ pub fn feed_front<J: Judge>(
     size: usize,
     judge: &mut J,
 ) -> Result<(), AllocError>
-    ensures ok { OnOk result ((front : List ℕ) × ((subject : Subject) → J.holds judge.old subject [] → J.holds judge.new subject front)
+    ensures ok { OnOk result ((front : List ℕ)
+        × ((subject : Subject) → J.holds judge.old subject [] → J.holds judge.new subject front)
         × ((payload : List ℕ) → length payload ≡ size
         → structure (context_of form) protected.now None aad.now payload ≡ front ++ payload)) }
     ensures told { J.told judge.new ≡ J.told judge.old }
@@ -61,9 +62,12 @@ pub fn feed_payload<R: Read, J: Judge>(
     requires fresh { waiting_of decoder.old ≡ None }
     requires room { 0 < length buffer.old }
     ensures ok { OnOk result (Takes (seen R.Read decoder.old) (seen R.Read decoder.new)
-        (λ b. (length b ≡ size) × ((subject : Subject) (bytes : List ℕ) → J.holds judge.old subject bytes → J.holds judge.new subject (bytes ++ b)))) }
-    ensures pieces { OnOk result (Split size (length buffer.old) (J.pieces judge.old) (J.pieces judge.new)) }
-    ensures err { IfErr result (NamesWhy R.ends (λ stop b. ShortFault size b) (length buffer.old) (seen R.Read decoder.old)) }
+        (λ b. (length b ≡ size) × ((subject : Subject) (bytes : List ℕ)
+        → J.holds judge.old subject bytes → J.holds judge.new subject (bytes ++ b)))) }
+    ensures pieces { OnOk result (Split size (length buffer.old) (J.pieces judge.old)
+        (J.pieces judge.new)) }
+    ensures err { IfErr result (NamesWhy R.ends (λ stop b. ShortFault size b) (length buffer.old)
+        (seen R.Read decoder.old)) }
     ensures told { J.told judge.new ≡ J.told judge.old }
     ensures who { J.who judge.new ≡ J.who judge.old }
     ensures steady { Steady R.ends result (seen R.Read decoder.old) (seen R.Read decoder.new) }

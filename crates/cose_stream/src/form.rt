@@ -46,10 +46,12 @@ impl Form {
         }
     }
 
-    /// How its structure begins: the title of the array and the context's text (RFC 9052, sections 4.4 and 6.3).
+    /// How its structure begins: the title of the array and the context's text (RFC 9052, sections
+    /// 4.4 and 6.3).
     pub fn prefix(self) -> &'static [u8]
         ensures { (body aad payload : List ℕ)
-            → structure (context_of self) body None aad payload ≡ result.now ++ behind_prefix body None aad payload }
+            → structure (context_of self) body None aad payload
+            ≡ result.now ++ behind_prefix body None aad payload }
     {
         match self {
             Form::Sign1 => SignatureContext::CoseSign1.prefix(false),

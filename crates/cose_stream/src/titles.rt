@@ -1,21 +1,22 @@
 //! The titles of a message, one after another.
-ghost use Rattle.std.specs.Prelude.{◌≡◌, ◌≢◌, ◌≤◌, ℕ, Option, IfOk, IfErr, OnOk, MatchBool, MatchOption, None, Some, length};
+ghost use Rattle.std.specs.Prelude.{◌≡◌, ◌≢◌, ◌≤◌, ℕ, Option, IfOk, IfErr, OnOk, MatchOption, None, Some, length};
 ghost use Rattle.ciborium_ll.specs.Seen.{Takes};
 ghost use Rattle.ciborium_ll.specs.Title.{Title, title_of};
 ghost use Rattle.ciborium_ll.specs.Views.{offset_of, waiting_of, seen};
-ghost use Rattle.ciborium_ll.specs.declared.hdr.Header.TheVariants.{Tag, Bytes, Array, Break};
+ghost use Rattle.ciborium_ll.specs.declared.hdr.Header.TheVariants.{Tag, Bytes, Array};
 ghost use Rattle.cose_stream.specs.Forms.{tag_number};
-ghost use Rattle.cose_stream.specs.Parts.{TitleFault, TagFault, FourFault, SizeFault, CloseFault, IsPayload};
+ghost use Rattle.cose_stream.specs.Parts.{TitleFault, TagFault, FourFault, SizeFault, CloseFault, IsPayload, IsUnexpected};
 ghost use Rattle.cose_stream.specs.Stated.{IsFour, closing};
 ghost use Rattle.cose_stream.specs.Streaming.{NamesWhy, Steady};
 
-use crate::fault::{StreamFault, not_four};
+use crate::fault::{StreamFault, not_four, other_kind};
 use crate::form::{Form, form_of};
 use ciborium_ll::{Decoder, Header, Read, simple};
 
 /// The next title.
 pub fn next_head<R: Read>(decoder: &mut Decoder<R>) -> Result<Header, StreamFault<R::Error>>
-    ensures ok { IfOk result (λ h. Takes (seen R.Read decoder.old) (seen R.Read decoder.new) (λ b. Title b h)) }
+    ensures ok { IfOk result (λ h. Takes (seen R.Read decoder.old) (seen R.Read decoder.new)
+        (λ b. Title b h)) }
     ensures within { IfOk result (λ h. length (title_of h) ≤ offset_of decoder.new) }
     ensures err { IfErr result (NamesWhy R.ends TitleFault 0 (seen R.Read decoder.old)) }
     ensures steady { Steady R.ends result (seen R.Read decoder.old) (seen R.Read decoder.new) }
@@ -24,49 +25,15 @@ pub fn next_head<R: Read>(decoder: &mut Decoder<R>) -> Result<Header, StreamFaul
     Ok(header)
 }
 
-pub fn is_break(header: Header) -> bool
-    ensures { MatchBool result (header ≡ Break) (header ≢ Break) }
-{
-    match header {
-        Header::Break => true,
-        Header::Positive(_) => false,
-        Header::Negative(_) => false,
-        Header::Float(_) => false,
-        Header::Simple(_) => false,
-        Header::Tag(_) => false,
-        Header::Bytes(_) => false,
-        Header::Text(_) => false,
-        Header::Array(_) => false,
-        Header::Map(_) => false,
-    }
-}
-
-/// The number of a tag.
-fn tag_of(header: Header) -> Option<u64>
-    ensures { MatchOption result ((n : ℕ) → header ≢ Tag n) (λ n. header ≡ Tag n) }
-{
-    match header {
-        Header::Tag(number) => Some(number),
-        Header::Array(_) => None,
-        Header::Bytes(_) => None,
-        Header::Simple(_) => None,
-        Header::Break => None,
-        Header::Positive(_) => None,
-        Header::Negative(_) => None,
-        Header::Float(_) => None,
-        Header::Text(_) => None,
-        Header::Map(_) => None,
-    }
-}
-
 /// The tag of a message, by the message.
 pub fn message_tag<R: Read>(decoder: &mut Decoder<R>) -> Result<Form, StreamFault<R::Error>>
-    ensures ok { IfOk result (λ form. Takes (seen R.Read decoder.old) (seen R.Read decoder.new) (λ b. Title b (Tag (tag_number form)))) }
+    ensures ok { IfOk result (λ form. Takes (seen R.Read decoder.old) (seen R.Read decoder.new)
+        (λ b. Title b (Tag (tag_number form)))) }
     ensures err { IfErr result (NamesWhy R.ends TagFault 0 (seen R.Read decoder.old)) }
     ensures steady { Steady R.ends result (seen R.Read decoder.old) (seen R.Read decoder.new) }
 {
     let header = next_head(decoder)?;
-    let Some(number) = tag_of(header) else {
+    let Some(number) = header.as_tag() else {
         return Err(StreamFault::NotTagged);
     };
     match form_of(number) {
@@ -77,27 +44,30 @@ pub fn message_tag<R: Read>(decoder: &mut Decoder<R>) -> Result<Form, StreamFaul
 
 /// The length of an array of four elements: stated, or open.
 fn array_of_four(header: Header) -> Option<Option<usize>>
-    ensures { MatchOption result ((o : Option ℕ) → IsFour o → header ≢ Array o) (λ o. (header ≡ Array o) × IsFour o) }
+    ensures { MatchOption result ((o : Option ℕ) → IsFour o → header ≢ Array o)
+        (λ o. (header ≡ Array o) × IsFour o) }
 {
     match header {
         Header::Array(Some(4)) => Some(Some(4)),
         Header::Array(None) => Some(None),
-        Header::Array(Some(_)) => None,
-        Header::Bytes(_) => None,
-        Header::Simple(_) => None,
-        Header::Break => None,
-        Header::Positive(_) => None,
-        Header::Negative(_) => None,
-        Header::Float(_) => None,
-        Header::Tag(_) => None,
-        Header::Text(_) => None,
-        Header::Map(_) => None,
+        _ => None,
+    }
+}
+
+/// The fault of a title that is none of an array of four elements.
+fn no_array<E>(header: Header) -> StreamFault<E>
+    ensures { IsUnexpected result }
+{
+    match header {
+        Header::Array(_) => not_four(),
+        _ => other_kind(header, "array"),
     }
 }
 
 /// The title of an array of four elements, by its length: stated, or open.
 pub fn four<R: Read>(decoder: &mut Decoder<R>) -> Result<Option<usize>, StreamFault<R::Error>>
-    ensures ok { IfOk result (λ o. Takes (seen R.Read decoder.old) (seen R.Read decoder.new) (λ b. Title b (Array o))) }
+    ensures ok { IfOk result (λ o. Takes (seen R.Read decoder.old) (seen R.Read decoder.new)
+        (λ b. Title b (Array o))) }
     ensures is { IfOk result IsFour }
     ensures err { IfErr result (NamesWhy R.ends FourFault 0 (seen R.Read decoder.old)) }
     ensures steady { Steady R.ends result (seen R.Read decoder.old) (seen R.Read decoder.new) }
@@ -105,7 +75,7 @@ pub fn four<R: Read>(decoder: &mut Decoder<R>) -> Result<Option<usize>, StreamFa
     let header = next_head(decoder)?;
     match array_of_four(header) {
         Some(count) => Ok(count),
-        None => Err(not_four()),
+        None => Err(no_array(header)),
     }
 }
 
@@ -129,21 +99,24 @@ fn payload_of(header: Header) -> Payload
         Header::Bytes(None) => Payload::Open,
         Header::Simple(simple::NULL) => Payload::Absent,
         Header::Simple(simple::UNDEFINED) => Payload::Absent,
-        Header::Simple(_) => Payload::Other,
-        Header::Break => Payload::Other,
-        Header::Positive(_) => Payload::Other,
-        Header::Negative(_) => Payload::Other,
-        Header::Float(_) => Payload::Other,
-        Header::Tag(_) => Payload::Other,
-        Header::Text(_) => Payload::Other,
-        Header::Array(_) => Payload::Other,
-        Header::Map(_) => Payload::Other,
+        _ => Payload::Other,
+    }
+}
+
+/// The fault of a title that is none of a payload.
+fn no_payload<E>(header: Header) -> StreamFault<E>
+    ensures { IsUnexpected result }
+{
+    match header {
+        Header::Break => not_four(),
+        _ => other_kind(header, "bstr or nil"),
     }
 }
 
 /// The length of the payload, from its title.
 pub fn payload_size<R: Read>(decoder: &mut Decoder<R>) -> Result<usize, StreamFault<R::Error>>
-    ensures ok { IfOk result (λ n. Takes (seen R.Read decoder.old) (seen R.Read decoder.new) (λ b. Title b (Bytes (Some n)))) }
+    ensures ok { IfOk result (λ n. Takes (seen R.Read decoder.old) (seen R.Read decoder.new)
+        (λ b. Title b (Bytes (Some n)))) }
     ensures err { IfErr result (NamesWhy R.ends SizeFault 0 (seen R.Read decoder.old)) }
     ensures steady { Steady R.ends result (seen R.Read decoder.old) (seen R.Read decoder.new) }
 {
@@ -152,7 +125,7 @@ pub fn payload_size<R: Read>(decoder: &mut Decoder<R>) -> Result<usize, StreamFa
         Payload::Sized(size) => Ok(size),
         Payload::Open => Err(StreamFault::Unsized),
         Payload::Absent => Err(StreamFault::Detached),
-        Payload::Other => Err(not_four()),
+        Payload::Other => Err(no_payload(header)),
     }
 }
 
@@ -162,7 +135,8 @@ pub fn close<R: Read>(
     count: Option<usize>,
 ) -> Result<(), StreamFault<R::Error>>
     requires fresh { waiting_of decoder.old ≡ None }
-    ensures ok { OnOk result (Takes (seen R.Read decoder.old) (seen R.Read decoder.new) (λ b. b ≡ closing count)) }
+    ensures ok { OnOk result (Takes (seen R.Read decoder.old) (seen R.Read decoder.new)
+        (λ b. b ≡ closing count)) }
     ensures open { IfErr result (λ f. count ≡ None) }
     ensures err { IfErr result (NamesWhy R.ends CloseFault 0 (seen R.Read decoder.old)) }
     ensures steady { Steady R.ends result (seen R.Read decoder.old) (seen R.Read decoder.new) }
@@ -171,7 +145,7 @@ pub fn close<R: Read>(
         return Ok(());
     }
     let header = next_head(decoder)?;
-    if !is_break(header) {
+    if !header.is_break() {
         return Err(not_four());
     }
     Ok(())

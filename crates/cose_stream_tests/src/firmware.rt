@@ -9,8 +9,8 @@ use coset_labels::CborSerializable;
 use std::alloc::Global;
 use std::process::Abort;
 
-/// Whether the COSE_Mac0 that comes from this reader carries an image with a good tag under one of these keys. The image passes through
-/// 4 KiB, and is never held whole.
+/// Whether the COSE_Mac0 that comes from this reader carries an image with a good tag under one of
+/// these keys. The image passes through 4 KiB, and is never held whole.
 fn is_genuine<R: Read + Drop>(
     alloc: Global,
     keys: &CoseKeySet,
@@ -50,7 +50,8 @@ fn message(rt: &impl Abort, alloc: Global) -> Vec<u8> {
     message
 }
 
-/// A message whose last byte is missing. That a whole image is genuine, and one with another byte is not, is what `example_firmware` shows.
+/// A message whose last byte is missing. That a whole image is genuine, and one with another byte
+/// is not, is what `example_firmware` shows.
 #[test]
 fn a_short_image_is_no_answer(rt: HostRuntime) {
     let alloc = rt.alloc();

@@ -1,7 +1,8 @@
 //! A reader that makes its payload up.
 use ciborium_ll::{End, Read};
 
-/// A reader that gives the bytes in front, a payload of so many zeros, and the bytes behind it. It takes no memory.
+/// A reader that gives the bytes in front, a payload of so many zeros, and the bytes behind it. It
+/// takes no memory.
 #[derive(Drop)]
 pub struct Made<'a> {
     pub front: &'a [u8],

@@ -40,8 +40,9 @@ fn is_answered(
     );
 }
 
-/// The judge has answered a question. It is refused memory at each of the next message's calls in turn: `begin`, six pieces of the
-/// structure in front of the payload, and two of the payload. What it was told stays.
+/// The judge has answered a question. It is refused memory at each of the next message's calls in
+/// turn: `begin`, six pieces of the structure in front of the payload, and two of the payload. What
+/// it was told stays.
 #[test]
 fn memory_refused_to_the_judge_is_the_answer(rt: HostRuntime) {
     let alloc = rt.alloc();

@@ -54,9 +54,10 @@ impl<J: Judge> Judge for Counter<J> {
 /// A set of one key with the secret 00: 81a20104204100.
 const KEYS: &[u8] = &[0x81, 0xa2, 1, 4, 0x20, 0x41, 0];
 
-/// Checks under that key a message with these bytes in front of a payload of that length, of which the structure has so many bytes. Its tag
-/// is one byte, and so is no whole HMAC. All memory is asked for by the keys and the check, so this holds whichever allocation is refused:
-/// nothing is decided then. It answers whether one was.
+/// Checks under that key a message with these bytes in front of a payload of that length, of which
+/// the structure has so many bytes. Its tag is one byte, and so is no whole HMAC. All memory is
+/// asked for by the keys and the check, so this holds whichever allocation is refused: nothing is
+/// decided then. It answers whether one was.
 fn long(
     rt: &impl Abort,
     alloc: Global,
@@ -89,8 +90,9 @@ fn long(
     "whole"
 }
 
-// No growth of memory hangs on the payload. A test can't count growths, since `Global` counts none; refusals stand for them. Each of the two
-// tests runs as a process of its own, and `scripts/fail-alloc.sh` counts how many allocations of each can be refused: as many of both.
+// No growth of memory hangs on the payload. A test can't count growths, since `Global` counts none;
+// refusals stand for them. Each of the two tests runs as a process of its own, and
+// `scripts/fail-alloc.sh` counts how many allocations of each can be refused: as many of both.
 
 #[test]
 fn a_payload_of_no_bytes_grows_nothing(rt: HostRuntime) -> io::Result<()> {

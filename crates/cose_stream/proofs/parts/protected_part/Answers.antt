@@ -6,4 +6,4 @@ use Rattle.cose_stream.proofs.parts.protected_part.Goals as goal
 pub returns-in_err-protected-clause-err : goal.returns-in_err-protected-clause-err
 returns-in_err-protected-clause-err g c =
     let p = err_from_is_err_and c.from_residual-in_err-protected.result c.from_residual-in_err-protected.ensures.1 in
-    rw (p.1, p.2) (part_refused g.R.Read.ends (λ v e. WrongProtected 256 v 16 e) _ _ _ _ _ _ c.in_ok-value.ensures.ok c.in_err-protected.ensures)
+    rw (p.1, p.2) (part_refused g.R.Read.ends _ (λ v e. WrongProtected c.args.limits.nesting v c.args.limits.layers e) _ _ _ _ _ _ c.in_ok-value.ensures.ok c.in_err-protected.ensures)

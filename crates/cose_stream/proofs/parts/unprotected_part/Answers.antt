@@ -6,4 +6,4 @@ use Rattle.cose_stream.proofs.parts.unprotected_part.Goals as goal
 pub returns-in_err-header-clause-err : goal.returns-in_err-header-clause-err
 returns-in_err-header-clause-err g c =
     let p = err_from_is_err_and c.from_residual-in_err-header.result c.from_residual-in_err-header.ensures.1 in
-    rw (p.1, p.2) (part_refused g.R.Read.ends (λ v e. WrongHeader 256 v 16 e) _ _ _ _ _ _ c.in_ok-value.ensures.ok c.in_err-header.ensures)
+    rw (p.1, p.2) (part_refused g.R.Read.ends _ (λ v e. WrongHeader c.args.limits.nesting v c.args.limits.layers e) _ _ _ _ _ _ c.in_ok-value.ensures.ok c.in_err-header.ensures)
