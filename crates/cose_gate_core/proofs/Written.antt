@@ -5,6 +5,7 @@ use Rattle.ciborium_value.specs.Tree.{Tree, tag, Trees}
 use Rattle.coset_headers.specs.Fields.{ProtectedFields, protected, SignatureFields, signature, signatures}
 use Rattle.coset_headers.specs.Headers.{HasProtected, HasSignatures}
 use Rattle.coset_headers.proofs.Writable.{some_is, map_some, and_some}
+use Rattle.coset_maced.specs.PartShapes.{one_held}
 use Rattle.coset_maced.specs.PartsWritten.{content_bytes}
 use Rattle.coset_signed.specs.Fields.{SignFields}
 use Rattle.coset_signed.specs.Shapes.{HasSign}
@@ -28,7 +29,7 @@ has_all l u m aad h ts (s ∷ ss) w =
 has_questions : (l : Limits) (u : Tree) (m : MessageFields) (aad : List ℕ) → HasMessage l u m → all_questions m aad ≢ None
 has_questions l u (sign1 m) aad h = map_some (λ c. sign1_question m c ∷ []) (sign1_covered m aad) (sign1_covers l.nesting l.layers u m (content_bytes m.payload) aad h)
 has_questions l u (mac0 m) aad h = map_some (λ c. mac0_question m c ∷ []) (mac0_own m aad) (mac0_covers l.nesting m u l.layers aad (content_bytes m.payload) h)
-has_questions l u (sign m) aad h = has_all l u m aad h h.last.0 m.signatures h.last.2
+has_questions l u (sign m) aad h = let list = (one_held _ h.lasts h.hold).2 in has_all l u m aad h list.0 m.signatures list.2
 has_questions l u (mac m) aad h = map_some (λ c. mac_question m c ∷ []) (mac_own m aad) (mac_covers l.nesting m u l.layers aad (content_bytes m.payload) h)
 
 pub has_tree : (l : Limits) (u : Tree) (m : MessageFields) → HasMessage l u m → message_tree m ≢ None
@@ -61,7 +62,9 @@ are_received n k ts (signature p h c ∷ ss) (u, us, e, (a, b, d, x, y), z) = (h
 message_received : (l : Limits) (u : Tree) (m : MessageFields) → HasMessage l u m → IsReceivedMessage m
 message_received l u (sign1 m) h = has_received l.nesting l.layers h.first m.protected h.parts.protected
 message_received l u (mac0 m) h = has_received l.nesting l.layers h.first m.protected h.parts.protected
-message_received l u (sign m) h = (has_received l.nesting l.layers h.first m.protected h.parts.protected, are_received l.nesting l.layers h.last.0 m.signatures h.last.2)
+message_received l u (sign m) h =
+    let list = (one_held _ h.lasts h.hold).2 in
+    (has_received l.nesting l.layers h.first m.protected h.parts.protected, are_received l.nesting l.layers list.0 m.signatures list.2)
 message_received l u (mac m) h = has_received l.nesting l.layers h.first m.protected h.parts.protected
 
 pub judged_received : (l : Limits) (t : Tree) (m : MessageFields) → IsJudged l t m → IsReceivedMessage m

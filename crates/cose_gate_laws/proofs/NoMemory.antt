@@ -1,5 +1,5 @@
 -- No value has a fault that is want of memory.
-use Rattle.std.proofs.Common.{◌≡◌, ℕ, ◌-◌, ℤ, inl, inr, List, Bool, sym, subst}
+use Rattle.std.proofs.Common.{◌≡◌, ℕ, ◌-◌, ℤ, inl, inr, List, [], ◌∷◌, Bool, sym, subst}
 use Rattle.ciborium_value.specs.Tree.{Tree, integer, bytes, text, array, map as map_tree, tag, simple, float}
 use Rattle.coset_labels.specs.Faults.{CoseFault, no_memory}
 use Rattle.coset_labels.specs.Kinds.{WrongBytes}
@@ -8,13 +8,11 @@ use Rattle.coset_labels.specs.Reading.{NotReadable, damaged, goes_on}
 use Rattle.coset_labels.specs.Fields.{LabelFields}
 use Rattle.coset_headers.specs.Wrong.{WrongCrit, no_crit_list, empty_crit, bad_crit, WrongContentType, no_content_type, empty_text, white_space, no_one_slash, WrongField, wrong_alg, wrong_crit, wrong_content_type, wrong_key_id, wrong_iv, wrong_partial_iv}
 use Rattle.coset_headers.specs.Wrong.{WrongHeader, no_map, at_entry, WrongEntry, bad_label, label_again, bad_field, two_ivs, bad_signatures, WrongSigned, no_list, no_first, in_bare, in_list, WrongSignature, no_array, not_three, in_protected, in_unprotected, no_bytes, WrongProtected, no_string, too_deep, unreadable, inside}
-use Rattle.cose_gate_core.specs.WrongParts.{WrongParts}
+use Rattle.cose_gate_core.specs.WrongParts.{WrongParts, IsNoBytes, AnyWrong, WrongWhole}
 use Rattle.cose_gate_core.specs.WrongParts as parts
 use Rattle.cose_gate_core.specs.WrongRecipients.{WrongRecipient, WrongList}
 use Rattle.cose_gate_core.specs.WrongRecipients as recipients
-use Rattle.cose_gate_core.specs.WrongMaced.{WrongMac0, WrongMac}
-use Rattle.cose_gate_core.specs.WrongMaced as maced
-use Rattle.cose_gate_core.specs.WrongSigned.{not_four, in_parts, in_last, IsNoSignature, whatever, WrongSignatureList, WrongSign1, WrongSign}
+use Rattle.cose_gate_core.specs.WrongSigned.{IsNoSignature, whatever, WrongSignatureList}
 use Rattle.cose_gate_core.specs.WrongSigned as signed
 use Rattle.cose_gate_core.specs.Findings.{Limits, WrongMessage, IsMisshapen}
 
@@ -135,23 +133,25 @@ mutual
   recipient_list n _ _ _ (recipients.no_list t k w) = tt
   recipient_list n _ _ _ (recipients.in_list before after t k e w) = recipient n t k e w
 
-mac0_fault : (n : ℕ) (t : Tree) (k : ℕ) (e : CoseFault) → WrongMac0 n t k e → Named e
-mac0_fault n _ _ _ (maced.no_array0 t k w) = tt
-mac0_fault n _ _ _ (maced.not_four ts k w) = tt
-mac0_fault n _ _ _ (maced.in_parts0 x y z d k e w) = parts_of n x y z k e w
-mac0_fault n _ _ _ (maced.in_tag0 x y z d k w) = tt
+-- ---- messages: no array, one of another length, a fault in the parts or in one of the last items
+abbrev AllNamed : List (Tree → CoseFault → Type 0) → Type 0
+AllNamed [] = Unit {0}
+AllNamed (Wrong ∷ more) = ((t : Tree) (e : CoseFault) → Wrong t e → Named e) × AllNamed more
 
-mac_fault : (n : ℕ) (t : Tree) (k : ℕ) (e : CoseFault) → WrongMac n t k e → Named e
-mac_fault n _ _ _ (maced.no_array t k w) = tt
-mac_fault n _ _ _ (maced.not_five ts k w) = tt
-mac_fault n _ _ _ (maced.in_parts x y z d r k e w) = parts_of n x y z k e w
-mac_fault n _ _ _ (maced.in_tag x y z d r k w) = tt
-mac_fault n _ _ _ (maced.in_recipients x y z d r k e w) = recipient_list n r k e w
+any_fault : (Ws : List (Tree → CoseFault → Type 0)) (ts : List Tree) (e : CoseFault) → AllNamed Ws → AnyWrong Ws ts e → Named e
+any_fault [] ts e f w = absurd w
+any_fault (W ∷ Ws) [] e f w = absurd w
+any_fault (W ∷ Ws) (t ∷ ts) e f (inl w) = f.0 t e w
+any_fault (W ∷ Ws) (t ∷ ts) e f (inr w) = any_fault Ws ts e f.1 w
 
-sign1_fault : (n : ℕ) (t : Tree) (k : ℕ) (e : CoseFault) → WrongSign1 n t k e → Named e
-sign1_fault n t k _ (not_four w) = tt
-sign1_fault n t k _ (in_parts a b c d e p w) = parts_of n a b c k e w
-sign1_fault n t k _ (in_last a b c d e p w) = subst Named (sym w.1) tt
+whole_fault : (n : ℕ) (t : Tree) (Ws : List (Tree → CoseFault → Type 0)) (k : ℕ) (e : CoseFault) → WrongWhole n t Ws k e → AllNamed Ws → Named e
+whole_fault n t Ws k _ (parts.no_array w) f = tt
+whole_fault n t Ws k _ (parts.not_as_many ts q w) f = tt
+whole_fault n t Ws k _ (parts.in_parts x y z ls e q l w) f = parts_of n x y z k e w
+whole_fault n t Ws k _ (parts.in_lasts x y z ls e q l w) f = any_fault Ws ls e f w
+
+no_bytes_named : (t : Tree) (e : CoseFault) → IsNoBytes t e → Named e
+no_bytes_named t e w = subst Named (sym w.1) tt
 
 signature_list : (n : ℕ) (t : Tree) (k : ℕ) (e : CoseFault) → WrongSignatureList n t k e → Named e
 signature_list n t k _ (signed.no_list w) = tt
@@ -160,16 +160,11 @@ signature_list n t k _ (signed.in_list ts e p w) = one e w.item w.wrong
     one : (e : CoseFault) (u : Tree) → IsNoSignature n u k e → Named e
     one _ u (whatever e w) = tt
 
-sign_fault : (n : ℕ) (t : Tree) (k : ℕ) (e : CoseFault) → WrongSign n t k e → Named e
-sign_fault n t k _ (not_four w) = tt
-sign_fault n t k _ (in_parts a b c d e p w) = parts_of n a b c k e w
-sign_fault n t k _ (in_last a b c d e p w) = signature_list n d k e w
-
 message_fault : (l : Limits) (n : ℕ) (u : Tree) (e : CoseFault) → WrongMessage l n u e → Named e
-message_fault l n u e (inl w) = sign1_fault l.nesting u l.layers e w.1
-message_fault l n u e (inr (inl w)) = mac0_fault l.nesting u l.layers e w.1
-message_fault l n u e (inr (inr (inl w))) = mac_fault l.nesting u l.layers e w.1
-message_fault l n u e (inr (inr (inr w))) = sign_fault l.nesting u l.layers e w.1
+message_fault l n u e (inl w) = whole_fault l.nesting u _ l.layers e w.1 (no_bytes_named, tt)
+message_fault l n u e (inr (inl w)) = whole_fault l.nesting u _ l.layers e w.1 (no_bytes_named, tt)
+message_fault l n u e (inr (inr (inl w))) = whole_fault l.nesting u _ l.layers e w.1 (no_bytes_named, (λ t f x. recipient_list l.nesting t l.layers f x, tt))
+message_fault l n u e (inr (inr (inr w))) = whole_fault l.nesting u _ l.layers e w.1 (λ t f x. signature_list l.nesting t l.layers f x, tt)
 
 -- a value that can't be read as a message has another fault than want of memory
 pub misshapen_is_named : (l : Limits) (t : Tree) (e : CoseFault) → IsMisshapen l t e → e ≡ no_memory → ⊥
