@@ -38,27 +38,41 @@ pub fn written_back(alloc: Global, [nesting, layers, kind, item]: [&str; 4]) -> 
 
 fn of_kind(alloc: Global, kind: &str, value: Value, limits: Limits) -> Answer {
     match kind {
-        "header" => back(alloc, value, limits, Header::from_cbor_value_with),
+        "header" => back(alloc, Header::from_cbor_value_with(alloc, value, limits)),
         "protected-header" => protected_back(alloc, value, limits),
-        "signature" => back(alloc, value, limits, CoseSignature::from_cbor_value_with),
-        "recipient" => back(alloc, value, limits, CoseRecipient::from_cbor_value_with),
-        "sign1" => back(alloc, value, limits, CoseSign1::from_cbor_value_with),
-        "sign" => back(alloc, value, limits, CoseSign::from_cbor_value_with),
-        "mac0" => back(alloc, value, limits, CoseMac0::from_cbor_value_with),
-        "mac" => back(alloc, value, limits, CoseMac::from_cbor_value_with),
-        "encrypt0" => back(alloc, value, limits, CoseEncrypt0::from_cbor_value_with),
-        "encrypt" => back(alloc, value, limits, CoseEncrypt::from_cbor_value_with),
+        "signature" => back(
+            alloc,
+            CoseSignature::from_cbor_value_with(alloc, value, limits),
+        ),
+        "recipient" => back(
+            alloc,
+            CoseRecipient::from_cbor_value_with(alloc, value, limits),
+        ),
+        _ => message(alloc, kind, value, limits),
+    }
+}
+
+fn message(alloc: Global, kind: &str, value: Value, limits: Limits) -> Answer {
+    match kind {
+        "sign1" => back(alloc, CoseSign1::from_cbor_value_with(alloc, value, limits)),
+        "sign" => back(alloc, CoseSign::from_cbor_value_with(alloc, value, limits)),
+        "mac0" => back(alloc, CoseMac0::from_cbor_value_with(alloc, value, limits)),
+        "mac" => back(alloc, CoseMac::from_cbor_value_with(alloc, value, limits)),
+        "encrypt0" => back(
+            alloc,
+            CoseEncrypt0::from_cbor_value_with(alloc, value, limits),
+        ),
+        "encrypt" => back(
+            alloc,
+            CoseEncrypt::from_cbor_value_with(alloc, value, limits),
+        ),
         _ => Err(NoAnswer::NoArgument),
     }
 }
 
-fn back<T, R>(alloc: Global, value: Value, limits: Limits, read: R) -> Answer
-where
-    T: CborSerializable,
-    R: FnOnce(Global, Value, Limits) -> Result<T, CoseError>,
-    requires { R.IsAlwaysCallable read }
-{
-    match read(alloc, value, limits) {
+/// What is written of what was read.
+fn back<T: CborSerializable>(alloc: Global, read: Result<T, CoseError>) -> Answer {
+    match read {
         Ok(read) => made(alloc, read.to_vec(alloc)),
         Err(error) => fault(alloc, error),
     }
