@@ -64,6 +64,15 @@ Fails ends Q D long code.RecursionLimitExceeded = D deep
 Fails ends Q D long code.Memory = Unit {0}
 Fails ends Q D long code.TooLong = long
 
+-- P holds where the error is an end of the bytes
+abbrev pub IfEnd : {E : Type 0} → (E → Bool) → Type 0 → Error E → Type 0
+IfEnd ends P (code.Io e) = IsTrue (ends e) → P
+IfEnd ends P (code.Syntax p) = Unit {0}
+IfEnd ends P (code.Semantic o k) = Unit {0}
+IfEnd ends P code.RecursionLimitExceeded = Unit {0}
+IfEnd ends P code.Memory = Unit {0}
+IfEnd ends P code.TooLong = Unit {0}
+
 -- at an end the place is the one at the call exactly where no byte was left
 abbrev pub EndPlace : List ℕ → ℕ → ℕ → Type 0
 EndPlace [] at at' = at' ≡ at

@@ -10,7 +10,7 @@ ghost use Rattle.ciborium_ll.specs.Views.{left_of, offset_of, waiting_of};
 ghost use Rattle.ciborium_ll.specs.Views.{reader_of, seen, shortest_of};
 ghost use Rattle.ciborium.specs.Damage.{TitleDamage, ChunkDamage, StringDamage};
 ghost use Rattle.ciborium.specs.Reading.{NamesFault, NamesFaultBehind, NamesShort};
-ghost use Rattle.ciborium.specs.Reading.{Steady, IsNoMemory};
+ghost use Rattle.ciborium.specs.Reading.{Steady, IsNoMemory, IfEnd};
 ghost use Rattle.ciborium.specs.Reading.{string_head, IsBody, StringBehind, ChunkBody, IsPart};
 
 use crate::de::Error;
@@ -34,6 +34,8 @@ pub fn next_title<R: Read>(decoder: &mut Decoder<R>) -> Result<(usize, Header), 
     ensures memory { IfErr result IsNoMemory }
     ensures err { IfErr result (NamesFault R.ends TitleDamage
         (seen R.Read decoder.old) (seen R.Read decoder.new)) }
+    ensures ended { left_of R.left decoder.old ≡ Some []
+        → IfErr result (IfEnd R.ends (left_of R.left decoder.new ≡ Some [])) }
     ensures steady { Steady R.ends result (seen R.Read decoder.old) (seen R.Read decoder.new) }
 {
     let at = decoder.offset();
