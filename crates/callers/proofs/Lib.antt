@@ -1,4 +1,5 @@
 pub mod Checked
+pub mod Encoded
 pub mod Ids
 pub mod Keys
 pub mod Relay
