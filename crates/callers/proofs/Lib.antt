@@ -1,5 +1,6 @@
 pub mod Again
 pub mod Checked
+pub mod Encoded
 pub mod Ids
 pub mod Keys
 pub mod Relay

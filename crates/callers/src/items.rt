@@ -1,16 +1,19 @@
 //! Items read and written. `ciborium` is the one crate that it names.
 ghost use Rattle.std.specs.Prelude.{◌≡◌, ◌≢◌, ◌++◌, ℕ, List, [], Option, None, Some, IfOk, IfErr, IfSome, IfNone, OnOk, MatchOption, pos, string_bytes, codes};
 ghost use Rattle.ciborium.specs.Tree as tree;
+ghost use Rattle.ciborium.specs.Tree.{Tree};
+ghost use Rattle.ciborium.specs.Front.{Reads};
 ghost use Rattle.ciborium.specs.View.{view};
 ghost use Rattle.ciborium.specs.Items.{nesting};
 ghost use Rattle.ciborium.specs.Typed.{ReadsAs};
 ghost use Rattle.ciborium.specs.Encoding.{enc};
 
 use ciborium::de::{self, Deserialize};
+use ciborium::laws::one_spelling;
 use ciborium::ser::Serialize;
 use ciborium::tag::{Captured, Required};
 use ciborium::value::{Error, Value, ValueTyped};
-use ciborium::{End, Mem, cbor, from_reader, into_writer};
+use ciborium::{Decoder, End, Mem, cbor, from_reader, into_writer};
 use std::alloc::{AllocError, Global};
 use std::collections::BTreeMap;
 
@@ -25,6 +28,21 @@ pub fn read_whole<T: Deserialize>(alloc: Global, input: &[u8]) -> Result<Option<
     } else {
         Ok(None)
     }
+}
+
+/// The value whose one encoding the whole input is (RFC 8949, section 4.1), or none where the item is written in another way, or bytes
+/// follow it.
+pub fn read_encoded(alloc: Global, input: &[u8]) -> Result<Option<Value>, de::Error<End>>
+    ensures some { IfOk result (λ o. IfSome o (λ v. Reads input.now nesting (view v) × (input.now ≡ enc (view v)))) }
+    ensures none { IfOk result (λ o. IfNone o ((v : Tree) → Reads input.now nesting v → input.now ≢ enc v)) }
+{
+    let mut decoder = Decoder::from(input);
+    let (value, is_exact) = de::from_decoder_strict(alloc, &mut decoder, de::RECURSION_LIMIT)?;
+    one_spelling();
+    if is_exact && decoder.offset() == input.len() {
+        return Ok(Some(value));
+    }
+    Ok(None)
 }
 
 /// The text of the item that a value is written as.

@@ -1,5 +1,5 @@
 //! Values made by `cbor!`, written and read.
-use callers::items::{named, natural, push_into, read_whole, text_of, value_of};
+use callers::items::{named, natural, push_into, read_encoded, read_whole, text_of, value_of};
 use ciborium::cbor;
 use ciborium::value::{Value, ValueTyped};
 use std::alloc::Global;
@@ -33,4 +33,16 @@ fn values_are_read_as_numbers(rt: HostRuntime) {
     let list = cbor!(alloc, [1, 2]).expect(&rt, "a list");
     let pair = list.deserialized::<(u8, u8)>(alloc);
     assert_eq!(rt; pair.expect(&rt, "a pair"), (1, 2));
+}
+
+#[test]
+fn one_encoding_alone_is_read(rt: HostRuntime) {
+    let alloc = rt.alloc();
+    let one = cbor!(alloc, 1).expect(&rt, "a number");
+    let read = read_encoded(alloc, &[0x01]).expect(&rt, "an item");
+    assert_eq!(rt; read, Some(one));
+    let wide = read_encoded(alloc, &[0x18, 0x01]).expect(&rt, "an item");
+    assert!(rt; wide.is_none());
+    let two = read_encoded(alloc, &[0x01, 0x01]).expect(&rt, "an item");
+    assert!(rt; two.is_none());
 }
