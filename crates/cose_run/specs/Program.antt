@@ -4,7 +4,7 @@ use Rattle.std.specs.Io.KnownBytes.{Appends}
 use Rattle.ciborium.specs.Reading.{IfKnown}
 use Rattle.cose_judge_hmac.specs.GateCore.Questions.{Question}
 use Rattle.cose_judge_hmac.specs.GateCore.Asked.{IsFront}
-use Rattle.cose_judge_hmac.specs.GateCore.Findings.{usual}
+use Rattle.cose_judge_hmac.specs.GateCore.Findings.{Limits, usual}
 use Rattle.cose_judge_hmac.specs.GateCore.Run.{Step, Course, output_of, refused_count}
 use Rattle.cose_judge_hmac.specs.GateCore.declared.gating.Counts.{Counts}
 use Rattle.cose_judge_hmac.specs.GateCore.declared.gating.GateFault.{GateFault}
@@ -15,44 +15,6 @@ use Rattle.cose_judge_hmac.specs.KeySets.Keys.{HasKeySet}
 use Rattle.cose_judge_hmac.specs.KeySets.Wrong.{WrongKeySet}
 use Rattle.cose_run.specs.Beginning.{aad_of}
 
--- the whole input was gone through, and all that passed was written
-pub record Through (allows : Question → Bool) (aad : List ℕ) (written written' : Option (List ℕ)) (b : List ℕ) (refused : ℕ) : Type 0 where
-  pub steps : List Step
-  pub course : Course usual allows aad 0 b steps []
-  pub writes : Appends written written' (output_of allows aad steps)
-  pub refused_is : refused ≡ refused_count allows aad steps
-
--- it was gone through up to some place, and a beginning of the output up to there was written
-pub record InPart (allows : Question → Bool) (aad : List ℕ) (written written' : Option (List ℕ)) (b : List ℕ) : Type 0 where
-  pub steps : List Step
-  pub more : List ℕ
-  pub course : Course usual allows aad 0 b steps more
-  pub front : List ℕ
-  pub front_is : IsFront front (output_of allows aad steps)
-  pub writes : Appends written written' front
-
-abbrev pub GatedOver : {E : Type 0} → (Question → Bool) → List ℕ → Option (List ℕ) → Option (List ℕ) → List ℕ → Result Counts (GateFault E) → Type 0
-GatedOver allows aad written written' b (Ok counts) = Through allows aad written written' b counts.refused
-GatedOver allows aad written written' b (Err fault) = InPart allows aad written written' b
-
--- some bytes were there, those to come where these are known, and the gate went over them
-pub record Gated {E : Type 0} (allows : Question → Bool) (aad : List ℕ) (left written written' : Option (List ℕ)) (r : Result Counts (GateFault E)) : Type 0 where
-  pub input : List ℕ
-  pub is : IfKnown left (λ b. b ≡ input)
-  pub over : GatedOver allows aad written written' input r
-
--- the status: 0 where none is refused, 1 where some are, 4 where it stopped
-abbrev pub RanOver : (Question → Bool) → List ℕ → Option (List ℕ) → Option (List ℕ) → List ℕ → ℕ → Type 0
-RanOver allows aad written written' b status =
-    ((refused : ℕ) × Through allows aad written written' b refused × (status ≡ (if nat_eq refused 0 then 0 else 1)))
-    ⊎ (InPart allows aad written written' b × (status ≡ 4))
-
--- some bytes were there, those to come where these are known, and the program went over them
-pub record Ran (allows : Question → Bool) (aad : List ℕ) (left written written' : Option (List ℕ)) (status : ℕ) : Type 0 where
-  pub input : List ℕ
-  pub is : IfKnown left (λ b. b ≡ input)
-  pub over : RanOver allows aad written written' input status
-
 -- what the reader and the writer have given and taken: the bytes to come and those written, where they are known, and how often each has
 -- failed
 pub record Devices : Type 0 where
@@ -61,19 +23,74 @@ pub record Devices : Type 0 where
   pub read_failures : ℕ
   pub write_failures : ℕ
 
+-- what was written is the output of a beginning of the steps
+abbrev pub IsOfSteps : (Question → Bool) → List ℕ → List Step → List ℕ → Type 0
+IsOfSteps allows aad steps front = (done : List Step) × IsFront done steps × (front ≡ output_of allows aad done)
+
+-- the whole input was gone through, and all that passed was written
+pub record Through (limits : Limits) (allows : Question → Bool) (aad : List ℕ) (old new : Devices) (b : List ℕ) (refused : ℕ) : Type 0 where
+  pub steps : List Step
+  pub course : Course limits allows aad 0 b steps []
+  pub writes : Appends old.written new.written (output_of allows aad steps)
+  pub refused_is : refused ≡ refused_count allows aad steps
+
+-- it was gone through up to some place, and a beginning of the output up to there was written. A text is torn only where the writer failed.
+pub record InPart (limits : Limits) (allows : Question → Bool) (aad : List ℕ) (old new : Devices) (b : List ℕ) : Type 0 where
+  pub steps : List Step
+  pub more : List ℕ
+  pub course : Course limits allows aad 0 b steps more
+  pub front : List ℕ
+  pub front_is : IsFront front (output_of allows aad steps)
+  pub writes : Appends old.written new.written front
+  pub whole : new.write_failures ≡ old.write_failures → IsOfSteps allows aad steps front
+
+abbrev pub GatedOver : {E : Type 0} → Limits → (Question → Bool) → List ℕ → Devices → Devices → List ℕ → Result Counts (GateFault E) → Type 0
+GatedOver limits allows aad old new b (Ok counts) = Through limits allows aad old new b counts.refused
+GatedOver limits allows aad old new b (Err fault) = InPart limits allows aad old new b
+
+-- some bytes were there, those to come where these are known, and the gate went over them
+pub record Gated {E : Type 0} (limits : Limits) (allows : Question → Bool) (aad : List ℕ) (old new : Devices) (r : Result Counts (GateFault E)) : Type 0 where
+  pub input : List ℕ
+  pub is : IfKnown old.left (λ b. b ≡ input)
+  pub over : GatedOver limits allows aad old new input r
+
+-- the status: 0 where none is refused, 1 where some are, 4 where it stopped
+abbrev pub RanOver : Limits → (Question → Bool) → List ℕ → Devices → Devices → List ℕ → ℕ → Type 0
+RanOver limits allows aad old new b status =
+    ((refused : ℕ) × Through limits allows aad old new b refused × (status ≡ (if nat_eq refused 0 then 0 else 1)))
+    ⊎ (InPart limits allows aad old new b × (status ≡ 4))
+
+-- some bytes were there, those to come where these are known, and the program went over them
+pub record Ran (limits : Limits) (allows : Question → Bool) (aad : List ℕ) (old new : Devices) (status : ℕ) : Type 0 where
+  pub input : List ℕ
+  pub is : IfKnown old.left (λ b. b ≡ input)
+  pub over : RanOver limits allows aad old new input status
+
 -- the program ran. Of nothing it ends with 0 where no device failed, and with 0 or 1 only where none did.
-pub record RanOn (allows : Question → Bool) (aad : List ℕ) (old new : Devices) (status : ℕ) : Type 0 where
-  pub ran : Ran allows aad old.left old.written new.written status
+pub record RanOn (limits : Limits) (allows : Question → Bool) (aad : List ℕ) (old new : Devices) (status : ℕ) : Type 0 where
+  pub ran : Ran limits allows aad old new status
   pub nothing : old.left ≡ Some [] → new.read_failures ≡ old.read_failures → new.write_failures ≡ old.write_failures → status ≡ 0
   pub steady : status < 2 → (new.read_failures ≡ old.read_failures) × (new.write_failures ≡ old.write_failures)
 
 -- how the program ends: where KEYS holds a key set, and AADHEX is hex or absent, after a run with them; else nothing was read and nothing
 -- written. KEYS is tested before AADHEX, and AADHEX before what KEYS holds; memory for these may be refused before the run.
-pub data Ends (allows : List KeyFields → Question → Bool) (keys aad : Option (List ℕ)) (old new : Devices) (status : ℕ) : Type 0 where
-  no_file : keys ≡ None → status ≡ 3 → new ≡ old → Ends allows keys aad old new status
-  not_hex : (b : List ℕ) → keys ≡ Some b → aad_of aad ≡ None → status ≡ 2 → new ≡ old → Ends allows keys aad old new status
+pub data EndsWithin (limits : Limits) (allows : List KeyFields → Question → Bool) (keys aad : Option (List ℕ)) (old new : Devices) (status : ℕ) : Type 0 where
+  no_file : keys ≡ None → status ≡ 3 → new ≡ old → EndsWithin limits allows keys aad old new status
+  not_hex : (b : List ℕ) → keys ≡ Some b → aad_of aad ≡ None → status ≡ 2 → new ≡ old → EndsWithin limits allows keys aad old new status
   no_keys : (b d : List ℕ) → keys ≡ Some b → aad_of aad ≡ Some d → (e : CoseFault) → WrongItem WrongKeySet b e → status ≡ 3 → new ≡ old
-      → Ends allows keys aad old new status
-  no_memory : (b : List ℕ) → keys ≡ Some b → status ≡ 4 → new ≡ old → Ends allows keys aad old new status
-  after_run : (b d : List ℕ) → keys ≡ Some b → aad_of aad ≡ Some d → (ks : List KeyFields) → HasItem HasKeySet b ks → RanOn (allows ks) d old new status
-      → Ends allows keys aad old new status
+      → EndsWithin limits allows keys aad old new status
+  no_memory : (b : List ℕ) → keys ≡ Some b → status ≡ 4 → new ≡ old → EndsWithin limits allows keys aad old new status
+  after_run : (b d : List ℕ) → keys ≡ Some b → aad_of aad ≡ Some d → (ks : List KeyFields) → HasItem HasKeySet b ks → RanOn limits (allows ks) d old new status
+      → EndsWithin limits allows keys aad old new status
+
+-- how the program ends at the usual limits, and not strict
+abbrev pub Ends : (List KeyFields → Question → Bool) → Option (List ℕ) → Option (List ℕ) → Devices → Devices → ℕ → Type 0
+Ends allows keys aad old new status = EndsWithin usual allows keys aad old new status
+
+-- how it ends where it is handed the bytes of KEYS, and the external data as bytes: where they hold a key set after a run with it; else
+-- nothing was read and nothing written
+abbrev pub EndsOver : Limits → (List KeyFields → Question → Bool) → List ℕ → List ℕ → Devices → Devices → ℕ → Type 0
+EndsOver limits allows keys aad old new status =
+    ((e : CoseFault) × WrongItem WrongKeySet keys e × (status ≡ 3) × (new ≡ old))
+    ⊎ ((status ≡ 4) × (new ≡ old))
+    ⊎ ((ks : List KeyFields) × HasItem HasKeySet keys ks × RanOn limits (allows ks) aad old new status)

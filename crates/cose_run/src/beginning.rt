@@ -89,7 +89,7 @@ fn of_hex(error: FromHexError) -> NotBegun
 }
 
 /// The key set that the bytes of KEYS are (RFC 9052, section 7).
-fn read_keys(alloc: Global, bytes: &[u8]) -> Result<CoseKeySet, NotBegun>
+pub(crate) fn read_keys(alloc: Global, bytes: &[u8]) -> Result<CoseKeySet, NotBegun>
     ensures { MatchResult result (λ s. HasItem HasKeySet bytes.now (key_set_view s)) (IsNoKeySet bytes.now) }
 {
     match CoseKeySet::from_slice(alloc, bytes) {

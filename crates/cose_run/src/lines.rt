@@ -68,15 +68,16 @@ fn name_of(refusal: Refusal) -> &'static str {
     }
 }
 
-/// The line that counts the items.
+/// The last line, which counts the items. It is flushed, with those before it.
 pub(crate) fn say_counts<W: Write>(counts: Counts, out: &mut W) {
     let mut text = Text { out };
     let passed = counts.passed;
     let refused = counts.refused;
     let _ = writeln!(text, "passed {passed}, refused {refused}");
+    let _ = text.out.flush();
 }
 
-/// The line that says what stopped the gate.
+/// The last line, which says what stopped the gate. It is flushed, with those before it.
 pub(crate) fn say_fault<R: Read, W: Write>(fault: GateFault<R::Error>, out: &mut W) {
     let mut text = Text { out };
     let _ = match fault {
@@ -100,9 +101,10 @@ pub(crate) fn say_fault<R: Read, W: Write>(fault: GateFault<R::Error>, out: &mut
         GateFault::Write => writeln!(text, "stopped: write"),
         GateFault::Memory => writeln!(text, "stopped: memory"),
     };
+    let _ = text.out.flush();
 }
 
-/// The line that says why the gate isn't run.
+/// The last line, which says why the gate isn't run. It is flushed.
 pub(crate) fn say_not_begun<W: Write>(why: NotBegun, out: &mut W) {
     let mut text = Text { out };
     let _ = match why {
@@ -111,4 +113,5 @@ pub(crate) fn say_not_begun<W: Write>(why: NotBegun, out: &mut W) {
         NotBegun::NoKeys(error) => writeln!(text, "keys: {error}"),
         NotBegun::Memory => writeln!(text, "stopped: memory"),
     };
+    let _ = text.out.flush();
 }

@@ -2,13 +2,18 @@ use Rattle.cose_run.proofs.Runs.{ran_none, ran_some, ran_stopped, none_refused}
 use Rattle.cose_run.proofs.program.run_gate.Goals as goal
 
 pub returns-then-is_err-clause-ran : goal.returns-then-is_err-clause-ran
-returns-then-is_err-clause-ran g c = ran_stopped _ _ _ _ _ _ _ c.flush.ensures.same c.gate_lines-gated.ensures.ran
+returns-then-is_err-clause-ran g c =
+    ran_stopped _ _ _ _ _ _ _ _ c.gate_lines-gated.ensures.ran c.gate_lines-gated.ensures.more c.flush.ensures.failed c.flush.ensures.same
+
+pub returns-in-Err-clause-ran : goal.returns-in-Err-clause-ran
+returns-in-Err-clause-ran g c =
+    ran_stopped _ _ _ _ _ _ _ _ c.in-Err.ensures.ran c.in-Err.ensures.more c.flush.ensures.failed c.flush.ensures.same
 
 pub returns-then-counts-eq0-clause-ran : goal.returns-then-counts-eq0-clause-ran
-returns-then-counts-eq0-clause-ran g c = ran_none _ _ _ _ _ _ _ c.if-counts-eq0.true c.flush.ensures.same c.in-Ok.ensures.ran
+returns-then-counts-eq0-clause-ran g c = ran_none _ _ _ _ _ _ _ c.in-Ok.ensures.ran c.if-counts-eq0.true c.flush.ensures.same
 
 pub returns-else-counts-eq0-clause-ran : goal.returns-else-counts-eq0-clause-ran
-returns-else-counts-eq0-clause-ran g c = ran_some _ _ _ _ _ _ _ c.if-counts-eq0.false c.flush.ensures.same c.in-Ok.ensures.ran
+returns-else-counts-eq0-clause-ran g c = ran_some _ _ _ _ _ _ _ c.in-Ok.ensures.ran c.if-counts-eq0.false c.flush.ensures.same
 
 pub returns-else-counts-eq0-clause-nothing : goal.returns-else-counts-eq0-clause-nothing
-returns-else-counts-eq0-clause-nothing g c = λ none same steady. absurd (c.if-counts-eq0.false (none_refused _ _ _ _ _ _ none c.in-Ok.ensures.ran))
+returns-else-counts-eq0-clause-nothing g c = λ none same steady. absurd (c.if-counts-eq0.false (none_refused _ _ _ _ _ _ c.in-Ok.ensures.ran none))

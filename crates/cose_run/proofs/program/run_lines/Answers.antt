@@ -1,9 +1,0 @@
-use Rattle.std.proofs.Common.{refl}
-use Rattle.cose_run.proofs.Runs.{began, ended}
-use Rattle.cose_run.proofs.program.run_lines.Goals as goal
-
-pub returns-in-Ok : goal.returns-in-Ok
-returns-in-Ok g c = began _ _ _ c.in-Ok.beginning _ _ _ _ c.in-Ok.ensures c.as_slice.ensures.value c.run_with.ensures.ran c.run_with.ensures.nothing c.run_with.ensures.steady
-
-pub returns-in-Err : goal.returns-in-Err
-returns-in-Err g c = ended _ _ _ _ _ _ _ c.in-Err.ensures c.status.ensures refl
