@@ -32,7 +32,8 @@ pub fn is_tagged<R: Read>(
     keys: &CoseKeySet,
 ) -> Result<bool, StreamFault<R::Error>>
     requires { 0 < length buffer.old }
-    ensures { IfOk result (λ yes. (front : List ℕ) × Consumes (left_of R.left decoder.old) (left_of R.left decoder.new) front
+    ensures { IfOk result (λ yes. (front : List ℕ)
+        × Consumes (left_of R.left decoder.old) (left_of R.left decoder.new) front
         × IsAnswered (says_yes (key_set_view keys.now)) aad.now yes front) }
 {
     judged_can_be_written();
@@ -54,7 +55,8 @@ pub fn fed<R: Read, J: Judge>(
     judge: &mut J,
 ) -> Result<bool, StreamFault<R::Error>>
     requires { 0 < length buffer.old }
-    ensures { IfOk result (λ _. (front : List ℕ) × Consumes (left_of R.left decoder.old) (left_of R.left decoder.new) front
+    ensures { IfOk result (λ _. (front : List ℕ)
+        × Consumes (left_of R.left decoder.old) (left_of R.left decoder.new) front
         × IsFedInFew (length buffer.old) (J.pieces judge.new) front) }
 {
     pieces_fit();
@@ -72,8 +74,18 @@ pub fn program<R: Read, W: Write, E: Write>(
     err: &mut E,
 ) -> u8
     ensures { EndsBy (spec.words (map string_bytes all.now)) (option_copied keys.entry)
-        (record { left = R.left input.old; written = W.written out.old; read_failures = R.failed input.old; write_failures = W.failed out.old })
-        (record { left = R.left input.new; written = W.written out.new; read_failures = R.failed input.new; write_failures = W.failed out.new })
+        (record {
+          left = R.left input.old;
+          written = W.written out.old;
+          read_failures = R.failed input.old;
+          write_failures = W.failed out.old;
+        })
+        (record {
+          left = R.left input.new;
+          written = W.written out.new;
+          read_failures = R.failed input.new;
+          write_failures = W.failed out.new;
+        })
         result }
 {
     match words(all) {
@@ -90,7 +102,8 @@ pub fn program_in_blocks<R: io::Read + Drop, W: Write, E: Write>(
     out: &mut W,
     err: &mut E,
 ) -> u8
-    ensures { EndsOver (reader_remaining R.remaining input) keys.now (W.written out.old) (W.written out.new) (W.failed out.old) (W.failed out.new) result }
+    ensures { EndsOver (reader_remaining R.remaining input) keys.now (W.written out.old)
+        (W.written out.new) (W.failed out.old) (W.failed out.new) result }
 {
     let mut blocks = Blocks::new(input);
     run(alloc, Some(keys), None, &mut blocks, out, err)
