@@ -7,7 +7,7 @@ use Rattle.cose_gate.specs.Reading.{IfKnown}
 use Rattle.cose_gate.specs.Findings.{Limits, usual}
 use Rattle.cose_gate.specs.Questions.{Question}
 use Rattle.cose_gate.specs.Asked.{folded_over}
-use Rattle.cose_gate.specs.Run.{Step, Run, Course, asked_of, questions_of, output_of}
+use Rattle.cose_gate.specs.Run.{Step, Run, Course, asked_of, questions_of}
 use Rattle.cose_gate.specs.Gate.{Call, WritesAll, CountsAll, Stops}
 use Rattle.cose_gate.specs.Outcome.{Rules, Sight, IsFaultOf, Whole, Outcome, Answers}
 use Rattle.cose_gate.specs.Counts.{Counts}
