@@ -1,6 +1,6 @@
 -- What is written of a message that was read is there, has its fields again, nests no deeper than it did, and is read again. Each of these
 -- rests on the same of the parts and of the last items.
-use Rattle.std.proofs.Common.{◌≡◌, ◌≢◌, ℕ, ◌≤◌, ◌<◌, ◌-◌, ◌^◌, List, [], ◌∷◌, ◌++◌, length, false, Option, Some, None, option_map, option_and_then, refl, sym, ap, subst, ◌∙◌, arith}
+use Rattle.std.proofs.Common.{◌≡◌, ◌≢◌, ℕ, ◌≤◌, ◌<◌, ◌-◌, ◌^◌, List, [], ◌∷◌, ◌++◌, length, false, Option, Some, None, option_map, sym, ap, subst, ◌∙◌, arith}
 use Rattle.std.specs.Prelude.{◌||◌, nat_eq}
 use Rattle.ciborium_value.specs.Tree.{Tree, bytes, array, tag, tree_count}
 use Rattle.ciborium_value.specs.View.{trees}

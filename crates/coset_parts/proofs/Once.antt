@@ -1,6 +1,6 @@
 -- A value has the fields of at most one message, and of none where it has a fault.
-use Rattle.std.proofs.Common.{◌≡◌, ◌≢◌, ℕ, ◌+◌, suc, inl, inr, List, [], ◌∷◌, length, true, false, Option, None, Some, refl, sym, ap, subst, ◌∙◌, arith}
-use Rattle.ciborium_value.specs.Tree.{Tree, bytes, array, simple, Trees, no_trees, one_more, tree_count, is_bytes}
+use Rattle.std.proofs.Common.{◌≡◌, ◌≢◌, ℕ, inl, inr, List, [], ◌∷◌, true, false, Option, None, Some, refl, sym, ap, subst, ◌∙◌, arith}
+use Rattle.ciborium_value.specs.Tree.{Tree, bytes, array, simple, Trees, tree_count, is_bytes}
 use Rattle.ciborium_value.specs.View.{trees}
 use Rattle.coset_labels.specs.Faults.{CoseFault, unexpected}
 use Rattle.coset_labels.specs.Kinds.{is_array}
@@ -10,7 +10,7 @@ use Rattle.coset_headers.proofs.Unique.{hdr_once, prot_once}
 use Rattle.coset_parts.specs.Shapes.{HasParts, HoldOf, HasWhole}
 use Rattle.coset_parts.specs.Written.{optional_tree}
 use Rattle.coset_parts.specs.Wrong.{WrongParts, in_protected, in_unprotected, in_content, IsNoBytes, how_many, AnyWrong, WrongWhole, no_array, not_as_many, in_parts, in_lasts}
-use Rattle.coset_parts.proofs.Stands.{array_same, three_same}
+use Rattle.coset_parts.proofs.Stands.{array_same}
 
 -- ---- the parts
 optional_once : (c d : Option (List ℕ)) → optional_tree c ≡ optional_tree d → c ≡ d

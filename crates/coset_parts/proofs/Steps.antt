@@ -1,7 +1,7 @@
 -- What one step of reading or writing a message shows, over plain variables.
-use Rattle.std.proofs.Common.{◌≡◌, ◌≢◌, ℕ, ◌+◌, inl, inr, List, [], ◌∷◌, ◌++◌, length, map, false, Option, Some, None, option_map, option_and_then, refl, sym, ap, subst, ◌∙◌, append_assoc, Vec, Global}
+use Rattle.std.proofs.Common.{◌≡◌, ℕ, inl, inr, List, [], ◌∷◌, ◌++◌, length, map, false, Option, Some, None, option_map, option_and_then, refl, sym, ap, subst, ◌∙◌, append_assoc, Vec, Global}
 use Rattle.std.proofs.lemmas.List.{map-append}
-use Rattle.ciborium_value.specs.Tree.{Tree, array, Trees, tree_count, is_bytes}
+use Rattle.ciborium_value.specs.Tree.{Tree, array, Trees, is_bytes}
 use Rattle.ciborium_value.specs.View.{trees, view, views}
 use Rattle.ciborium_value.specs.declared.value.Value.{Value}
 use Rattle.ciborium_value.specs.declared.value.Value.TheVariants as code
@@ -14,7 +14,7 @@ use Rattle.coset_headers.specs.Fields.{HeaderFields, ProtectedFields}
 use Rattle.coset_headers.proofs.Steps.{passed_on}
 use Rattle.coset_parts.specs.Shapes.{HasParts, HoldOf, HasWhole}
 use Rattle.coset_parts.specs.Written.{parts_trees, whole_tree}
-use Rattle.coset_parts.specs.Wrong.{WrongParts, IsNoBytes, how_many, AnyWrong, WrongWhole, no_array, not_as_many, in_parts, in_lasts}
+use Rattle.coset_parts.specs.Wrong.{WrongParts, IsNoBytes, how_many, AnyWrong, WrongWhole, no_array, in_parts, in_lasts}
 
 -- ---- reading
 pub no_bytes : (t : Tree) (e : CoseError) → (fault_of e ≡ unexpected) × (is_bytes t ≡ false) → OrMemory (IsNoBytes t) e
