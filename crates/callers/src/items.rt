@@ -10,10 +10,11 @@ ghost use Rattle.ciborium.specs.Encoding.{enc};
 
 use ciborium::de::{self, Deserialize};
 use ciborium::laws::one_spelling;
+use ciborium::ll::Decoder;
 use ciborium::ser::Serialize;
 use ciborium::tag::{Captured, Required};
 use ciborium::value::{Error, Value, ValueTyped};
-use ciborium::{Decoder, End, Mem, cbor, from_reader, into_writer};
+use ciborium::{End, Mem, cbor, from_reader, into_writer};
 use std::alloc::{AllocError, Global};
 use std::collections::BTreeMap;
 
