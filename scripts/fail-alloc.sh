@@ -1,39 +1,82 @@
 #!/usr/bin/env bash
-# Refuses each allocation in turn, from the first on, to each test of some crates, unproved:
+# Refuses each allocation in turn, from the first to the last, to each test of some crates, unproved:
 #   scripts/fail-alloc.sh cose_gate_tests cose_stream_tests cose_run_tests
-# A test in a module `refused`, or named `refused_memory..`, holds whichever allocation is refused; the former print "memory was refused" where its subject was refused one. Other
-# tests may fail where their own preparation is refused; of a crate without such a module those that fail are told. Each test is a process of
-# its own, and its allocations are counted alone. The last one is passed where five runs in a row were whole, since a subject may go without
-# what it was refused. Then it tells of each test how many runs were not. The status is 1 where a test in `refused` has failed.
+# A test in a module `refused`, or named `refused_memory..`, holds whichever allocation is refused; the former print "memory was refused"
+# where their subject was refused one. Of a crate with such tests these alone are run. Others may fail where their own preparation is refused.
+# Each test is a process of its own, and its allocations are counted alone. Of each it tells how many allocations it makes (some are the
+# runtime's), and of how many the refusal was told or failed it. The status is 1 where a test that holds has failed.
+# `rt try --test --fail-alloc N` builds the tests anew for each N. Here they are built once, with a number that stands nowhere else in
+# them, their program is kept when rt is done with it, and each N takes that number's place.
 set -u
+ulimit -c 0
 top=$(cd "$(dirname "$0")/.." && pwd)
-log=$(mktemp)
-told=$(mktemp)
-trap 'rm -f "$log" "$told"' EXIT
+room=$(mktemp -d)
+trap 'rm -rf "$room"' EXIT
+mark=1515118275
+
+# Builds the tests of the crate of this folder, as "$room/program", and lists their names in "$room/names".
+build() {
+  rm -rf "${room:?}"/*
+  mkdir "$room/tmp"
+  ( TMPDIR=$room/tmp rt try --test --fail-alloc "$mark" > "$room/log" 2>&1 < /dev/null; : > "$room/ended" ) &
+  until [ -e "$room/ended" ]; do
+    for it in "$room"/tmp/*/*/program; do
+      [ -e "$it" ] && ln -f "$it" "$room/program" 2> /dev/null
+    done
+    sleep 0.02
+  done
+  wait
+  if ! grep -q '^test result: ok' "$room/log" || [ ! -s "$room/program" ]; then
+    cat "$room/log"
+    exit 2
+  fi
+  awk '/^test .* ok$/ { print $2 }' "$room/log" > "$room/names"
+}
+
+# Makes "$room/tests", which is refused this allocation.
+refuse() {
+  python3 - "$room/program" "$room/tests" "$mark" "$1" <<'END'
+import os, sys
+program, tests, mark, number = sys.argv[1], sys.argv[2], int(sys.argv[3]), int(sys.argv[4])
+text, mark = open(program, "rb").read(), mark.to_bytes(4, "little")
+if text.count(mark) != 2:
+    sys.exit(f"the number stands in {text.count(mark)} places, and not in the two that refuse")
+if os.path.exists(tests):
+    os.remove(tests)
+with open(tests, "wb") as it:
+    it.write(text.replace(mark, number.to_bytes(4, "little")))
+os.chmod(tests, 0o700)
+END
+}
+
+# Runs this test, for each allocation.
+each() {
+  local not=0 n all
+  all=$(env -i ASAN_OPTIONS=atexit=1 "$room/program" "$1" 2>&1 < /dev/null | awk '/^Stats: .*alloced.* by [0-9]* calls/ { all += $(NF - 1) } END { print all }')
+  for (( n = 1; n <= all; n++ )); do
+    refuse "$n" || exit 2
+    if ( cd "$room/tmp" && exec env -i timeout 60 "$room/tests" "$1" ) > "$room/log" 2>&1 < /dev/null; then
+      grep -q '^memory was refused' "$room/log" && not=$(( not + 1 ))
+      continue
+    fi
+    not=$(( not + 1 ))
+    if [[ $1 == refused::* || $1 == *refused_memory* ]]; then
+      echo "$1, allocation $n: FAILED"
+      cat "$room/log"
+      status=1
+    fi
+  done
+  echo "  $1: $all allocations, $not told"
+}
+
 status=0
 for crate in "$@"; do
   cd "$top/crates/$crate" || exit 2
-  : > "$told"
-  whole=0
-  for (( n = 1; whole < 5; n++ )); do
-    rt try --test --fail-alloc "$n" > "$log" 2>&1 < /dev/null
-    if ! grep -q '^test result: ' "$log"; then
-      cat "$log"
-      exit 2
-    fi
-    if grep -E -A 4 '^test (refused::|.*refused_memory).* FAILED' "$log"; then
-      echo "$crate: allocation $n"
-      status=1
-    fi
-    line='FAILED$'
-    grep -q '^test refused::' "$log" && line='memory was refused'
-    whole=$(( whole + 1 ))
-    while read -r name; do
-      echo "$name" >> "$told"
-      whole=0
-    done < <(awk -v line="$line" '/^test / { name = $2 } name && $0 ~ line { print name }' "$log")
-  done
-  echo "$crate: $(( n - 1 )) runs"
-  sort "$told" | uniq -c
+  build
+  echo "$crate:"
+  grep -E '^refused::|refused_memory' "$room/names" > "$room/holding" || cp "$room/names" "$room/holding"
+  while read -r name; do
+    each "$name"
+  done < "$room/holding"
 done
 exit $status

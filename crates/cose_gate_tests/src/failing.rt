@@ -1,6 +1,6 @@
 //! Readers and writers that fail in mid-stream.
 use crate::memory::{INPUT, OUTPUT};
-use crate::seen::{Answer, Seen, answered, reached, run, same, whole};
+use crate::seen::{Answer, Seen, Way, answered_by, reached, run, same, ways, whole};
 use ciborium::de;
 use cose_gate::{Counts, End, GateFault, Io, Recorder, Silent};
 use std::alloc::Global;
@@ -8,8 +8,8 @@ use std::process::Abort;
 use test_tools::{Broken, FailAfter, OneByOne, Sink, Source};
 
 /// A run over the two messages stops where this reader fails, behind so many bytes: what was whole before has passed.
-fn stops(rt: &impl Abort, alloc: Global, source: Source, count: usize) {
-    let seen = run(alloc, source, &[], Recorder::new(alloc, None));
+fn stops(rt: &impl Abort, alloc: Global, way: Way, source: Source, count: usize) {
+    let seen = run(alloc, way, source);
     let passed = count / 14;
     let written = passed.saturating_mul(14);
     let answer = Err(GateFault::Decode(de::Error::Io(Broken)));
@@ -28,19 +28,29 @@ fn stops(rt: &impl Abort, alloc: Global, source: Source, count: usize) {
 fn a_failed_read_is_the_answer(rt: HostRuntime) {
     let alloc = rt.alloc();
     assert_eq!(rt; OUTPUT.len(), 28);
-    for count in 0..29 {
-        stops(&rt, alloc, Source::fail_at(OUTPUT, count), count);
-        // a reader that would give the rest behind its fault
-        let (front, rest) = OUTPUT.split_at(count);
-        stops(&rt, alloc, Source::new(front, rest), count);
+    for way in ways() {
+        for count in 0..29 {
+            stops(&rt, alloc, way, Source::fail_at(OUTPUT, count), count);
+            // a reader that would give the rest behind its fault
+            let (front, rest) = OUTPUT.split_at(count);
+            stops(&rt, alloc, way, Source::new(front, rest), count);
+        }
     }
 }
 
 /// A run over the two messages whose writer takes so many bytes stops there, and has asked about those that it began to write.
-fn is_full(rt: &impl Abort, alloc: Global, room: usize) {
+fn is_full(rt: &impl Abort, alloc: Global, way: Way, room: usize) {
     let mut out = FailAfter::new(alloc, room);
     let mut recorder = Recorder::new(alloc, None);
-    let answer = answered(alloc, OUTPUT, &mut out, &mut Silent, &[], &mut recorder);
+    let answer = answered_by(
+        alloc,
+        way,
+        OUTPUT,
+        &mut out,
+        &mut Silent,
+        &[],
+        &mut recorder,
+    );
     let want = if room < 28 {
         Err(GateFault::Write)
     } else {
@@ -55,19 +65,20 @@ fn is_full(rt: &impl Abort, alloc: Global, room: usize) {
 
 #[test]
 fn a_full_writer_is_the_answer(rt: HostRuntime) {
-    for room in 0..29 {
-        is_full(&rt, rt.alloc(), room);
+    for way in ways() {
+        for room in 0..29 {
+            is_full(&rt, rt.alloc(), way, room);
+        }
     }
 }
 
-#[test]
-fn bytes_may_come_one_by_one(rt: HostRuntime) {
-    let alloc = rt.alloc();
+/// A run over the two messages, whose bytes come one by one, passes both.
+fn comes_one_by_one(rt: &impl Abort, alloc: Global, way: Way) {
     let reader = Io::new(OneByOne {
         bytes: OUTPUT,
         is_broken: false,
     });
-    let seen = run(alloc, reader, &[], Recorder::new(alloc, None));
+    let seen = run(alloc, way, reader);
     let counts = Counts {
         passed: 2,
         refused: 0,
@@ -77,12 +88,27 @@ fn bytes_may_come_one_by_one(rt: HostRuntime) {
     assert!(rt; seen.output.as_slice() == OUTPUT);
 }
 
+#[test]
+fn bytes_may_come_one_by_one(rt: HostRuntime) {
+    for way in ways() {
+        comes_one_by_one(&rt, rt.alloc(), way);
+    }
+}
+
 /// A run over two messages with a value between them whose writer fails at one call, the one after so many.
-fn torn(alloc: Global, calls: usize) -> Seen<End> {
+fn torn(alloc: Global, way: Way, calls: usize) -> Seen<End> {
     let mut out = Sink::new(alloc, calls);
     let mut entries = Vec::new(alloc);
     let mut recorder = Recorder::new(alloc, None);
-    let answer = answered(alloc, INPUT, &mut out, &mut entries, &[], &mut recorder);
+    let answer = answered_by(
+        alloc,
+        way,
+        INPUT,
+        &mut out,
+        &mut entries,
+        &[],
+        &mut recorder,
+    );
     Seen {
         recorder,
         output: out.bytes,
@@ -103,8 +129,8 @@ fn want_of(written: usize) -> (Answer<End>, (usize, usize, usize)) {
 }
 
 /// Whether a writer that fails after so many calls takes all. Where it doesn't, the run stops at the fault.
-fn takes_all(rt: &impl Abort, alloc: Global, calls: usize) -> bool {
-    let seen = torn(alloc, calls);
+fn takes_all(rt: &impl Abort, alloc: Global, way: Way, calls: usize) -> bool {
+    let seen = torn(alloc, way, calls);
     let (answer, place) = want_of(seen.output.len());
     same(rt, &seen.answer, &answer, "answer", &calls);
     same(rt, &reached(&seen), &place, "place", &calls);
@@ -112,13 +138,20 @@ fn takes_all(rt: &impl Abort, alloc: Global, calls: usize) -> bool {
     seen.output.len() == 28
 }
 
-#[test]
-fn a_failed_write_is_the_answer(rt: HostRuntime) {
+/// A run whose writer fails at any of its calls stops there, and one whose writer fails at none takes all.
+fn any_call_may_fail(rt: &impl Abort, alloc: Global, way: Way) {
     let mut is_whole = false;
     for calls in 0..60 {
         let was_whole = is_whole;
-        is_whole = takes_all(&rt, rt.alloc(), calls);
+        is_whole = takes_all(rt, alloc, way, calls);
         assert!(rt; is_whole || !was_whole);
     }
     assert!(rt; is_whole);
+}
+
+#[test]
+fn a_failed_write_is_the_answer(rt: HostRuntime) {
+    for way in ways() {
+        any_call_may_fail(&rt, rt.alloc(), way);
+    }
 }

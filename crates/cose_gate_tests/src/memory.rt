@@ -127,9 +127,10 @@ fn is_refused(rt: &impl Abort, alloc: Global, calls: (usize, usize), want: (usiz
 
 /// How many calls of the judge and of the report come before memory is refused, and how far the run comes. A question takes eight calls of
 /// the judge: it begins, and is fed the prefix, and of three byte strings the title and the bytes.
-const REFUSALS: [((usize, usize), (usize, usize, usize)); 10] = [
+const REFUSALS: [((usize, usize), (usize, usize, usize)); 11] = [
     ((0, 3), (0, 0, 0)),
     ((1, 3), (0, 0, 0)),
+    ((3, 3), (0, 0, 0)),
     ((7, 3), (0, 0, 0)),
     ((8, 3), (1, 14, 2)),
     ((15, 3), (1, 14, 2)),

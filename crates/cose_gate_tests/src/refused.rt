@@ -126,18 +126,21 @@ fn holds(rt: &impl Abort, alloc: Global, example: &Example) -> &'static str {
     let (input, aad) = (example.input, example.aad);
     let answer = answered(alloc, input, &mut out, &mut entries, aad, &mut recorder);
     let (asked, noted) = (recorder.asked().len(), entries.len());
-    let (written, output) = (out.as_written(), example.output);
-    if !written.is_empty() {
-        same(rt, &written, &output, "output", &"it");
-        same(rt, &asked, &1, "questions", &"it");
-    }
+    let written = out.as_written();
+    let is_whole = written.starts_with(example.output) && written.len() == example.output.len();
+    assert!(rt; written.is_empty() || is_whole && asked == 1);
     if answer == Err(GateFault::Memory) {
         assert_eq!(rt; noted, 0);
         return "memory was refused";
     }
-    let counts = if output.is_empty() { (0, 1) } else { (1, 0) };
+    let counts = if example.output.is_empty() {
+        (0, 1)
+    } else {
+        (1, 0)
+    };
     same(rt, &answer, &whole(counts.0, counts.1), "answer", &"it");
-    assert_eq!(rt; (asked, noted, written.len()), (1, 1, output.len()));
+    assert!(rt; is_whole);
+    assert_eq!(rt; (asked, noted), (1, 1));
     "whole"
 }
 

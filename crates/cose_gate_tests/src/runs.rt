@@ -1,5 +1,5 @@
 //! Long inputs, and what a judge is told of a message that stands alone.
-use crate::seen::{MESSAGE, answered, run, same, whole};
+use crate::seen::{MESSAGE, Way, answered, run, same, whole};
 use cose_gate::{About, Entry, Header, Kind, Mem, ProtectedHeader, Recorder, Silent, Verdict};
 use std::alloc::Global;
 use std::process::Abort;
@@ -49,7 +49,7 @@ fn goes_through_in_silence(rt: &impl Abort, alloc: Global, input: &[u8]) {
 fn goes_through_a_long_input(rt: HostRuntime) {
     let alloc = rt.alloc();
     let input = long_input(&rt, alloc);
-    let seen = run(alloc, input.as_slice(), &[], Recorder::new(alloc, None));
+    let seen = run(alloc, Way::Plain, input.as_slice());
     let at = &"300 messages";
     same(&rt, &seen.answer, &whole(300, 0), "answer", at);
     same(&rt, &seen.output, &input, "output", at);

@@ -1,6 +1,7 @@
 //! What a run asks, writes, notes and answers, and the checks of it that tests share.
 use cose_gate::{
-    Counts, Decoder, Entry, GateFault, Judge, Mem, Read, Recorder, Report, Write, gate,
+    Counts, Decoder, Entry, GateFault, Judge, Limits, Mem, Read, Recorder, Report, Write, gate,
+    gate_strict, gate_strict_with, gate_with,
 };
 use std::alloc::Global;
 use std::fmt::{Debug, Display};
@@ -14,7 +15,48 @@ pub fn whole<E>(passed: usize, refused: usize) -> Answer<E> {
     Ok(Counts { passed, refused })
 }
 
-/// The answer of a run over what this reader gives. It has no clause, so that a test that calls it carries none of the gate's.
+/// By which call a run goes.
+#[derive(Debug, Clone, Copy, PartialEq, Eq)]
+pub enum Way {
+    Plain,
+    Within(Limits),
+    Strict,
+    StrictWithin(Limits),
+}
+
+/// Each of the four calls, with the default limits where it takes some.
+pub fn ways() -> [Way; 4] {
+    let limits = Limits::default();
+    [
+        Way::Plain,
+        Way::Within(limits),
+        Way::Strict,
+        Way::StrictWithin(limits),
+    ]
+}
+
+/// The answer of a run by this call over what this reader gives. It has no clause, so that a test that calls it carries none of the gate's.
+pub fn answered_by<R: Read + Drop, W: Write, P: Report, J: Judge>(
+    alloc: Global,
+    way: Way,
+    reader: R,
+    out: &mut W,
+    report: &mut P,
+    aad: &[u8],
+    judge: &mut J,
+) -> Answer<R::Error> {
+    let mut decoder = Decoder::from(reader);
+    match way {
+        Way::Plain => gate(alloc, &mut decoder, out, report, aad, judge),
+        Way::Within(limits) => gate_with(alloc, limits, &mut decoder, out, report, aad, judge),
+        Way::Strict => gate_strict(alloc, &mut decoder, out, report, aad, judge),
+        Way::StrictWithin(limits) => {
+            gate_strict_with(alloc, limits, &mut decoder, out, report, aad, judge)
+        }
+    }
+}
+
+/// The answer of a run over what this reader gives.
 pub fn answered<R: Read + Drop, W: Write, P: Report, J: Judge>(
     alloc: Global,
     reader: R,
@@ -23,8 +65,7 @@ pub fn answered<R: Read + Drop, W: Write, P: Report, J: Judge>(
     aad: &[u8],
     judge: &mut J,
 ) -> Answer<R::Error> {
-    let mut decoder = Decoder::from(reader);
-    gate(alloc, &mut decoder, out, report, aad, judge)
+    answered_by(alloc, Way::Plain, reader, out, report, aad, judge)
 }
 
 /// What a run asked, wrote, noted and answered.
@@ -36,16 +77,20 @@ pub struct Seen<E> {
     pub answer: Answer<E>,
 }
 
-/// A run over what this reader gives, with external data.
-pub fn run<R: Read + Drop>(
-    alloc: Global,
-    reader: R,
-    aad: &[u8],
-    mut recorder: Recorder,
-) -> Seen<R::Error> {
+/// A run by this call over what this reader gives, with a judge that says yes to each signature.
+pub fn run<R: Read + Drop>(alloc: Global, way: Way, reader: R) -> Seen<R::Error> {
+    let mut recorder = Recorder::new(alloc, None);
     let mut out = Mem::new(Vec::new(alloc));
     let mut entries = Vec::new(alloc);
-    let answer = answered(alloc, reader, &mut out, &mut entries, aad, &mut recorder);
+    let answer = answered_by(
+        alloc,
+        way,
+        reader,
+        &mut out,
+        &mut entries,
+        &[],
+        &mut recorder,
+    );
     Seen {
         recorder,
         output: out.into_inner(),
