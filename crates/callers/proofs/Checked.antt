@@ -5,12 +5,12 @@ use Rattle.std.specs.Io.KnownBytes.{Consumes}
 use Rattle.ciborium_ll.specs.Reading.{Moves}
 use Rattle.coset.specs.KeyFields.{KeyFields}
 use Rattle.cose_gate.specs.Asked.{first_no}
-use Rattle.cose_gate.specs.Findings.{Limits, usual, IsJudged}
+use Rattle.cose_gate.specs.Findings.{usual, IsJudged}
 use Rattle.cose_gate.specs.HmacJudges.{says_yes}
 use Rattle.cose_gate.specs.Questions.{Question, MessageFields, sign1, mac0, sign, mac, sign1_question, mac0_question, mac0_own, all_questions, questions, or_nothing}
 use Rattle.cose_gate.specs.SignedStructure.{sign1_covered}
 use Rattle.cose_gate.specs.Stated.{IsSingle, Cut}
-use Rattle.cose_gate.specs.Streaming.{Checked, CheckedBy}
+use Rattle.cose_gate.specs.Streaming.{Checked}
 use Rattle.cose_gate.specs.Tree.{Tree}
 use Rattle.callers.specs.Checking.{IsAnswered, IsFedInFew}
 
@@ -39,10 +39,10 @@ module _ (allows : Question → Bool) where
         let a = asked_once c.message aad c.single (law c.item c.message aad c.is) in
         record { item = c.item; message = c.message; question = a.0; reads = c.reads; is = c.is; asked = a.1; answer = c.answer ∙ a.2 }
 
-    pub fed : (limits : Limits) (b : List ℕ) → ((n : ℕ) (ps : List ℕ) → Cut room n ps → sum ps ≡ n)
+    pub fed : (b : List ℕ) → ((n : ℕ) (ps : List ℕ) → Cut room n ps → sum ps ≡ n)
         → ((n : ℕ) (ps : List ℕ) → Cut room n ps → length ps * room < n + room)
-        → CheckedBy limits decided allows aad told told' room lengths yes b → IsFedInFew room lengths b
-    fed limits b all few c = record {
+        → Checked decided allows aad told told' room lengths yes b → IsFedInFew room lengths b
+    fed b all few c = record {
       n = c.size;
       stated = c.stated;
       front = c.pieces.front;
@@ -66,15 +66,15 @@ is_answered (Ok y) ks ks' l l' at at' decided aad told told' room lengths e law 
 )
 is_answered (Err f) ks ks' l l' at at' decided aad told told' room lengths e law m = tt
 
-pub is_fed : {T E : Type 0} (limits : Limits) (r : Result Bool E) (allows : Question → Bool) (l l' : Option (List ℕ)) (at at' : ℕ) (decided : T → Question → T)
+pub is_fed : {T E : Type 0} (r : Result Bool E) (allows : Question → Bool) (l l' : Option (List ℕ)) (at at' : ℕ) (decided : T → Question → T)
     (aad : List ℕ) (told told' : T) (room : ℕ) (lengths : List ℕ) → 0 < room
     → ((room n : ℕ) (ps : List ℕ) → Cut room n ps → sum ps ≡ n)
     → ((room n : ℕ) (ps : List ℕ) → 0 < room → Cut room n ps → length ps * room < n + room)
-    → IfOk r (λ yes. Moves l l' at at' (CheckedBy limits decided allows aad told told' room lengths yes))
+    → IfOk r (λ yes. Moves l l' at at' (Checked decided allows aad told told' room lengths yes))
     → IfOk r (λ _. (front : List ℕ) × Consumes l l' front × IsFedInFew room lengths front)
-is_fed limits (Ok y) allows l l' at at' decided aad told told' room lengths some all few m = (
+is_fed (Ok y) allows l l' at at' decided aad told told' room lengths some all few m = (
   m.bytes,
   m.taken,
-  fed allows decided aad told told' room lengths y limits m.bytes (all room) (λ n ps c. few room n ps some c) m.has,
+  fed allows decided aad told told' room lengths y m.bytes (all room) (λ n ps c. few room n ps some c) m.has,
 )
-is_fed limits (Err f) allows l l' at at' decided aad told told' room lengths some all few m = tt
+is_fed (Err f) allows l l' at at' decided aad told told' room lengths some all few m = tt

@@ -12,8 +12,7 @@ ghost use Rattle.callers.specs.Checking.{IsAnswered, IsFedInFew, EndsBy, EndsOve
 use cose_gate::laws::judged_can_be_written;
 use cose_gate::stream_laws::pieces_fit;
 use cose_gate::{
-    Blocks, Decoder, HmacJudge, Judge, Limits, Read, StreamFault, Write, run, stream_check,
-    stream_check_with, words,
+    Blocks, Decoder, HmacJudge, Judge, Read, StreamFault, Write, run, stream_check, words,
 };
 use coset::CoseKeySet;
 use std::alloc::Global;
@@ -33,8 +32,7 @@ pub fn is_tagged<R: Read>(
     keys: &CoseKeySet,
 ) -> Result<bool, StreamFault<R::Error>>
     requires { 0 < length buffer.old }
-    ensures { IfOk result (λ yes. (front : List ℕ)
-        × Consumes (left_of R.left decoder.old) (left_of R.left decoder.new) front
+    ensures { IfOk result (λ yes. (front : List ℕ) × Consumes (left_of R.left decoder.old) (left_of R.left decoder.new) front
         × IsAnswered (says_yes (key_set_view keys.now)) aad.now yes front) }
 {
     judged_can_be_written();
@@ -42,26 +40,23 @@ pub fn is_tagged<R: Read>(
     stream_check(alloc, decoder, buffer, aad, &mut judge)
 }
 
-/// A check by any judge, within these limits, which is fed the payload in as few pieces as its length
-/// and the buffer allow.
+/// A check by any judge, which is fed the payload in as few pieces as its length and the buffer allow.
 ///
 /// # Errors
-/// Those of `stream_check_with`.
+/// Those of `stream_check`.
 pub fn fed<R: Read, J: Judge>(
     alloc: Global,
-    limits: Limits,
     decoder: &mut Decoder<R>,
     buffer: &mut [u8],
     aad: &[u8],
     judge: &mut J,
 ) -> Result<bool, StreamFault<R::Error>>
     requires { 0 < length buffer.old }
-    ensures { IfOk result (λ _. (front : List ℕ)
-        × Consumes (left_of R.left decoder.old) (left_of R.left decoder.new) front
+    ensures { IfOk result (λ _. (front : List ℕ) × Consumes (left_of R.left decoder.old) (left_of R.left decoder.new) front
         × IsFedInFew (length buffer.old) (J.pieces judge.new) front) }
 {
     pieces_fit();
-    stream_check_with(alloc, limits, decoder, buffer, aad, judge)
+    stream_check(alloc, decoder, buffer, aad, judge)
 }
 
 /// The program over words, where `keys` is what the file holds that the first of them names. Nothing is read where they are not KEYS, or
@@ -75,18 +70,8 @@ pub fn program<R: Read, W: Write, E: Write>(
     err: &mut E,
 ) -> u8
     ensures { EndsBy (spec.words (map string_bytes all.now)) (option_copied keys.entry)
-        (record {
-          left = R.left input.old;
-          written = W.written out.old;
-          read_failures = R.failed input.old;
-          write_failures = W.failed out.old;
-        })
-        (record {
-          left = R.left input.new;
-          written = W.written out.new;
-          read_failures = R.failed input.new;
-          write_failures = W.failed out.new;
-        })
+        (record { left = R.left input.old; written = W.written out.old; read_failures = R.failed input.old; write_failures = W.failed out.old })
+        (record { left = R.left input.new; written = W.written out.new; read_failures = R.failed input.new; write_failures = W.failed out.new })
         result }
 {
     match words(all) {
@@ -103,8 +88,7 @@ pub fn program_in_blocks<R: io::Read + Drop, W: Write, E: Write>(
     out: &mut W,
     err: &mut E,
 ) -> u8
-    ensures { EndsOver (reader_remaining R.remaining input) keys.now (W.written out.old)
-        (W.written out.new) (W.failed out.old) (W.failed out.new) result }
+    ensures { EndsOver (reader_remaining R.remaining input) keys.now (W.written out.old) (W.written out.new) (W.failed out.old) (W.failed out.new) result }
 {
     let mut blocks = Blocks::new(input);
     run(alloc, Some(keys), None, &mut blocks, out, err)

@@ -3,7 +3,7 @@ use crate::answers::{Answer, plain, yes_or_no};
 use crate::judging::read_keys;
 use crate::program::{ended, owned};
 use crate::words;
-use cose_gate::{Decoder, HmacJudge, Limits, Mem};
+use cose_gate::{Decoder, HmacJudge, Mem};
 use std::alloc::Global;
 
 /// Whether the message in front carries a good tag, read through four bytes, and how many bytes were taken.
@@ -28,8 +28,7 @@ pub fn is_fed(alloc: Global, keys: &str, aad: &str, input: &str) -> Answer {
     let mut buffer = [0; 4];
     let mut judge = HmacJudge::prepared(alloc, &keys);
     let mut decoder = Decoder::from(input.as_slice());
-    let limits = Limits::default();
-    let answer = callers::checking::fed(alloc, limits, &mut decoder, &mut buffer, &aad, &mut judge);
+    let answer = callers::checking::fed(alloc, &mut decoder, &mut buffer, &aad, &mut judge);
     match answer {
         Ok(yes) => plain(alloc, yes_or_no(yes)),
         Err(fault) => Ok(format!(in alloc; "{fault:?}")?),

@@ -12,11 +12,11 @@ const MESSAGE: &[u8] = &[
     0xd2, 0x84, 0x43, 0xa1, 1, 0x26, 0xa0, 0x42, 0x68, 0x69, 0x43, 1, 2, 3,
 ];
 
-/// A check stops where the reader fails, behind so many bytes of the message, and nothing is
-/// decided.
-fn is_cut_off(rt: &impl Abort, alloc: Global, source: Source, count: usize) {
+/// A check stops where the reader fails, behind so many bytes of the message, and nothing is decided.
+fn is_cut_off(rt: &impl Abort, alloc: Global, count: usize) {
     let mut buffer = [0; 1];
     let mut watcher = Watcher::new(alloc);
+    let source = Source::fail_at(MESSAGE, count);
     let (answer, _) = checked(alloc, source, &mut buffer, &[], &mut watcher);
     let broken = Err(StreamFault::Decode(de::Error::Io(Broken)));
     same(rt, &answer, &broken, "answer", &count);
@@ -26,15 +26,6 @@ fn is_cut_off(rt: &impl Abort, alloc: Global, source: Source, count: usize) {
 #[test]
 fn a_failed_read_is_the_answer(rt: HostRuntime) {
     for count in 0..MESSAGE.len() {
-        let source = Source::fail_at(MESSAGE, count);
-        is_cut_off(&rt, rt.alloc(), source, count);
-    }
-}
-
-#[test]
-fn a_failed_read_is_the_answer_though_more_bytes_come(rt: HostRuntime) {
-    for count in 0..MESSAGE.len() {
-        let (front, more) = MESSAGE.split_at(count);
-        is_cut_off(&rt, rt.alloc(), Source::new(front, more), count);
+        is_cut_off(&rt, rt.alloc(), count);
     }
 }
