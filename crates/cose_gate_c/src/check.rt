@@ -1,0 +1,75 @@
+//! The program's run over memory.
+ghost use Rattle.std.specs.Prelude.{◌≡◌, ℕ, List};
+ghost use Rattle.cose_judge_hmac.specs.GateCore.Terms.{limits_by};
+ghost use Rattle.cose_gate_c.specs.Library.{Checks, Runs, Places};
+
+use crate::answer::Answer;
+use crate::lines::Lines;
+use crate::place::place;
+use ciborium_ll::Mem;
+use cose_run::{Limits, run_over};
+use std::alloc::Global;
+
+/// Runs the gate within these limits.
+fn check_within(
+    alloc: Global,
+    limits: Limits,
+    strict: bool,
+    keys: &[u8],
+    aad: &[u8],
+    input: &[u8],
+    out: &mut [u8],
+    lines: &mut [u8],
+) -> Answer
+    ensures { (written : List ℕ) × (status : ℕ) × Runs (limits_by limits strict) keys.now aad.now input.now written status
+        × Places written status «out».old «out».new result }
+{
+    let mut reader = input;
+    let mut output = Mem::new(Vec::new(alloc));
+    let mut told = Lines::new(lines);
+    let status = run_over(
+        alloc,
+        limits,
+        strict,
+        keys,
+        aad,
+        &mut reader,
+        &mut output,
+        &mut told,
+    );
+    place(out, output.as_written(), status, told.length())
+}
+
+/// Runs `cose-gate` over memory: the gate over `input` with the judge by HMAC and the key set of the bytes `keys`, with `aad` as external
+/// data, within these limits: items and the items in protected headers nest no deeper than `nesting` levels, 2 to 4,096, and no more than
+/// `layers` protected headers lie inside one another, 1 to 64; the program's are 256 and 16. Where it is strict a message passes only
+/// where its item is already the text that would be written.
+///
+/// The messages that passed stand at the front of `out`, each as its one shortest text; the lines of the program's standard error stand in
+/// `lines`, as far as they fit. Memory that is taken is given back before it returns.
+///
+/// Where what would be written is longer than `out`, and only then, the status is 5: `out` stays as it was, and `length` is the room that
+/// is needed.
+#[unsafe(no_mangle)]
+pub extern "C" fn cose_gate_check(
+    alloc: Global,
+    keys: &[u8],
+    aad: &[u8],
+    input: &[u8],
+    out: &mut [u8],
+    lines: &mut [u8],
+    nesting: usize,
+    layers: usize,
+    strict: bool,
+) -> Answer
+    ensures { Checks nesting layers strict keys.now aad.now input.now «out».old «out».new result }
+{
+    match Limits::new(nesting, layers) {
+        Some(limits) => check_within(alloc, limits, strict, keys, aad, input, out, lines),
+        None => Answer {
+            status: 2,
+            length: 0,
+            lines: 0,
+        },
+    }
+}

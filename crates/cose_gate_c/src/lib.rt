@@ -1,0 +1,7 @@
+//! The gate for C, and for languages that call C: over memory that the caller owns. `include/cose_gate.h` declares it.
+#![tactic(auto)]
+
+mod answer;
+mod check;
+mod lines;
+mod place;
