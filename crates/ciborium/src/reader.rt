@@ -1,6 +1,6 @@
 //! Reads values.
 ghost use Rattle.std.specs.Prelude.{◌≡◌, ◌≢◌, ◌⊎◌, ℕ, List, None, Some};
-ghost use Rattle.std.specs.Prelude.{Option, true, false, length, ◌&&◌};
+ghost use Rattle.std.specs.Prelude.{Option, true, false, length, min, ◌-◌, ◌*◌, ◌&&◌};
 ghost use Rattle.std.specs.Prelude.{IfOk, IfErr, OnErr, IfSome, IfNone, MatchOption, MatchBool};
 ghost use Rattle.ciborium_ll.specs.Seen.{Takes};
 ghost use Rattle.ciborium_ll.specs.Title.{Title, IsShortest};
@@ -192,7 +192,9 @@ pub fn next_part<R: Read>(
 }
 
 /// How many parts room is reserved for, of those that a head claims.
-pub fn reserved(count: Option<usize>, room: usize) -> usize {
+pub fn reserved(count: Option<usize>, room: usize) -> usize
+    ensures { MatchOption count (result ≡ 0) (λ n. result ≡ min n room) }
+{
     match count {
         Some(n) => n.min(room),
         None => 0,
@@ -201,7 +203,9 @@ pub fn reserved(count: Option<usize>, room: usize) -> usize {
 
 /// The room that is left where so many parts of that many items each are held and so many have
 /// come.
-pub fn room_left(room: usize, held: usize, come: usize, size: usize) -> usize {
+pub fn room_left(room: usize, held: usize, come: usize, size: usize) -> usize
+    ensures { result ≡ room - (held - come) * size }
+{
     room.saturating_sub(held.saturating_sub(come).saturating_mul(size))
 }
 
