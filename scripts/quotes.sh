@@ -27,6 +27,6 @@ has_help() {
   [ -n "$program" ] && [ "$program" = "$script" ] || { echo "$1 and $2 have different help"; status=1; }
 }
 has_help cose-gate crates/cose_gate_cli/src/main.rt
-has_help cose-show crates/cose_show/src/words.rt
+has_help cose-show crates/cose_display/src/words.rt
 
 exit $status

@@ -4,9 +4,11 @@ use crate::object::{write_damage, write_object};
 use crate::source::{Found, Source};
 use crate::stop::Stop;
 use crate::verdict::show_verdict;
+use crate::words::Options;
 use cbor_diag::{Style, write_item};
 use cose_notation::{begin_line, show_message, write_len};
 use std::alloc::Global;
+use std::io::BufReader;
 use std::{fmt, io};
 
 /// What is asked for beside the items.
@@ -22,11 +24,32 @@ pub struct Request<'a> {
     pub aad: &'a [u8],
 }
 
-/// Shows all items of the input.
+/// Shows all items of the input, as the options say.
 ///
 /// # Errors
-/// What the program ends early for; what was read before is shown.
-pub fn show<R: io::Read + Drop, P: fmt::Write>(
+/// `NotHex` of external data, and nothing is shown; `Input`, `Memory`, `Output` and `Damaged`, and what was read before is shown.
+pub fn show_as<R: io::Read + Drop, P: fmt::Write>(
+    alloc: Global,
+    options: Options<'_>,
+    input: BufReader<R>,
+    page: &mut P,
+) -> Result<(), Stop> {
+    let aad = match hex::decode(alloc, options.aad) {
+        Ok(aad) => aad,
+        Err(hex::FromHexError::OutOfMemory) => return Err(Stop::Memory),
+        Err(_) => return Err(Stop::NotHex),
+    };
+    let request = Request {
+        questions: options.questions,
+        strict: options.strict,
+        json: options.json,
+        aad: aad.as_slice(),
+    };
+    let mut source = Source::new(alloc, input);
+    show(alloc, request, &mut source, page)
+}
+
+fn show<R: io::Read + Drop, P: fmt::Write>(
     alloc: Global,
     request: Request<'_>,
     source: &mut Source<R>,
