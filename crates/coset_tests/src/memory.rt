@@ -125,10 +125,15 @@ fn is_built_key(alloc: Global) -> Result<bool, CoseError> {
     is_written(alloc, key(alloc)?, &want)
 }
 
+/// With one more claim.
+#[tactic(auto, unfolding(cose_iana::specs::Claims::cwt_claim_names, cose_iana::specs::Registry::number_of))]
+fn with_claim(builder: ClaimsSetBuilder) -> Result<ClaimsSetBuilder, CoseError> {
+    builder.claim(iana::CwtClaimName::Cnf, Value::Null)
+}
+
 fn claims(alloc: Global) -> Result<ClaimsSet, CoseError> {
     let name = String::from_str(alloc, "a")?;
-    let builder = ClaimsSetBuilder::new(alloc)
-        .claim(iana::CwtClaimName::Cnf, Value::Null)?
+    let builder = with_claim(ClaimsSetBuilder::new(alloc))?
         .text_claim(name, Value::Null)?
         .private_claim(-70000, Value::Null)?;
     Ok(builder.build())
