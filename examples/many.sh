@@ -6,9 +6,10 @@
 # PASSED gets the messages that pass, LINES the lines of the gate. SIZE: how many bytes a piece has at least (without it 64 MB). JOBS: how
 # many gates run at a time (as many as there are processors). -x: by xargs, also where GNU parallel is there. -S: on these machines, as
 # `parallel --sshlogin` names them (this one as localhost, not as `:`): KEYS and the pieces are copied there, and what is said of them comes
-# back; JOBS, if given, is for each machine. -c: does one run too, here, and says whether it wrote the same. The status is the gate's; it is 5 where the two runs differ, and 6 where the input can't be cut,
-# or no answer came of a piece. COSE_GATE and COSE_SHOW name other programs than those of this repository; the former stands at the same
-# path on each machine.
+# back; JOBS, if given, is for each machine. -c: does one run too, here, and says whether it wrote the same.
+#
+# The status is the gate's; it is 5 where the two runs differ, and 6 where the input can't be cut, or no answer came of a piece. COSE_GATE
+# and COSE_SHOW name other programs than those of this repository; with -S the former stands at the same absolute path on each machine.
 set -u
 top=$(cd "$(dirname "$(readlink -f "${BASH_SOURCE[0]}")")/.." && pwd)
 size=67108864 jobs=$(nproc) compare=no by=xargs logins=
