@@ -1,28 +1,36 @@
 #!/usr/bin/env bash
 # many.sh: gates a CBOR sequence in pieces side by side, and joins what is said of them to what one run says. docs/SCALE.md tells more.
 #
-#   examples/many.sh [-s SIZE] [-j JOBS] [-x] [-c] KEYS AADHEX INPUT PASSED LINES
+#   examples/many.sh [-s SIZE] [-j JOBS] [-x] [-S LOGINS] [-c] KEYS AADHEX INPUT PASSED LINES
 #
 # PASSED gets the messages that pass, LINES the lines of the gate. SIZE: how many bytes a piece has at least (without it 64 MB). JOBS: how
-# many gates run at a time (as many as there are processors). -x: by xargs, also where GNU parallel is there. -c: does one run too, and
-# says whether it wrote the same. The status is the gate's; it is 5 where the two runs differ, and 6 where the input can't be cut.
-# COSE_GATE and COSE_SHOW name other programs than those of this repository.
+# many gates run at a time (as many as there are processors). -x: by xargs, also where GNU parallel is there. -S: on these machines, as
+# `parallel --sshlogin` names them (this one as localhost, not as `:`): KEYS and the pieces are copied there, and what is said of them comes
+# back; JOBS, if given, is for each machine. -c: does one run too, here, and says whether it wrote the same.
+#
+# The status is the gate's; it is 5 where the two runs differ, and 6 where the input can't be cut, or no answer came of a piece. COSE_GATE
+# and COSE_SHOW name other programs than those of this repository; with -S the former stands at the same absolute path on each machine.
 set -u
 top=$(cd "$(dirname "$(readlink -f "${BASH_SOURCE[0]}")")/.." && pwd)
-size=67108864 jobs=$(nproc) compare=no by=xargs
+size=67108864 jobs=$(nproc) compare=no by=xargs logins=
 command -v parallel > /dev/null && by=parallel
-while getopts s:j:xc letter; do
+while getopts s:j:xS:c letter; do
   case $letter in
     s) size=$OPTARG ;;
-    j) jobs=$OPTARG ;;
+    j) jobs=$OPTARG each=$OPTARG ;;
     x) by=xargs ;;
+    S) logins=$OPTARG ;;
     c) compare=yes ;;
     *) exit 2 ;;
   esac
 done
 shift $((OPTIND - 1))
 if [ $# -ne 5 ]; then
-  echo "usage: examples/many.sh [-s SIZE] [-j JOBS] [-x] [-c] KEYS AADHEX INPUT PASSED LINES" >&2
+  echo "usage: examples/many.sh [-s SIZE] [-j JOBS] [-x] [-S LOGINS] [-c] KEYS AADHEX INPUT PASSED LINES" >&2
+  exit 2
+fi
+if [ -n "$logins" ] && [ $by = xargs ]; then
+  echo "many: -S wants GNU parallel, and no -x" >&2
   exit 2
 fi
 keys=$1 aad=$2 input=$3 passed=$4 lines=$5
@@ -66,7 +74,18 @@ gate_piece() {
 }
 export -f gate_piece
 export COSE_GATE KEYS="$keys" AADHEX="$aad"
-if [ $by = parallel ]; then
+if [ -n "$logins" ]; then
+  # In the folder of the pieces, so that they have short names there. Each has a folder of its own, which is made and removed.
+  by="parallel on $logins" jobs=${each:-as many as processors}
+  if ! cp "$keys" "$work/pieces/keys"; then
+    echo "many: KEYS can't be read" >&2
+    exit 3
+  fi
+  (cd "$work/pieces" && parallel --will-cite --sshlogin "$logins" ${each:+-j "$each"} --workdir ... --cleanup \
+    --transferfile keys --transferfile {} --return {}.passed --return {}.lines --return {}.status \
+    "$(printf '%q keys %q' "$COSE_GATE" "$aad")"' < {} > {}.passed 2> {}.lines; echo $? > {}.status' ::: *.cbor)
+  rm "$work/pieces/keys"
+elif [ $by = parallel ]; then
   parallel --will-cite -j "$jobs" gate_piece ::: "$work"/pieces/*.cbor
 else
   printf '%s\0' "$work"/pieces/*.cbor | xargs -0 -n 1 -P "$jobs" bash -c 'gate_piece "$1"' gate_piece
@@ -78,6 +97,10 @@ status=0 items=0 offset=0 good=0 refused=0
 : > "$passed"
 : > "$lines"
 for piece in "$work"/pieces/*.cbor; do
+  if ! [ -s "$piece.status" ]; then
+    echo "many: no answer came of piece $(basename "$piece")" >&2
+    exit 6
+  fi
   cat "$piece.passed" >> "$passed" || exit 4
   awk -v items=$items -v offset=$offset '
     /^item [0-9]+ at [0-9]+: / {

@@ -9,6 +9,8 @@ mod checks;
 #[cfg(test)]
 mod devices;
 #[cfg(test)]
+mod levels;
+#[cfg(test)]
 mod round_trips;
 #[cfg(test)]
 mod typed;

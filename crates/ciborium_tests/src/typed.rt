@@ -21,6 +21,15 @@ fn limits_and_buffers_are_the_callers(rt: HostRuntime) {
     let read = from_reader_with_recursion_limit::<Value, _>(alloc, &mut array, 0);
     let fault = Some(Error::RecursionLimitExceeded);
     same(&rt, &read.err(), &fault, "an array");
+    let mut array: &[u8] = &[0x80, 0];
+    let read = from_reader_with_recursion_limit::<Value, _>(alloc, &mut array, 1);
+    let read = read.expect(&rt, "an array");
+    holds(
+        &rt,
+        matches!(&read, Value::Array(items) if items.is_empty()),
+        "an array",
+    );
+    same(&rt, &array.len(), &1, "what follows it");
     let mut buffer = [7];
     reads_a_text(&rt, alloc, &mut buffer);
     let mut empty: [u8; 0] = [];

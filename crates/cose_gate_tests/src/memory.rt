@@ -84,7 +84,7 @@ fn ends_at(rt: &impl Abort, answer: &Answer<End>, place: (usize, usize, usize)) 
 
 /// All memory here is asked for by the run. So this holds also where one allocation is refused, whichever it is.
 #[test]
-fn a_refused_allocation_is_the_answer(rt: HostRuntime) {
+fn refused_memory_is_the_answer(rt: HostRuntime) {
     let alloc = rt.alloc();
     let mut memory = [0u8; 28];
     let mut out = Mem::new(&mut memory[..]);

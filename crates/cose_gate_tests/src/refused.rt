@@ -4,6 +4,7 @@ use cose_gate::{GateFault, Mem, Recorder};
 use std::alloc::{AllocError, Global};
 use std::io;
 use std::process::Abort;
+use test_tools::Counting;
 
 /// An input of one item about which one question is asked, and what is written of it: nothing where the answer is no.
 struct Example {
@@ -90,6 +91,22 @@ const BIGNUM: Example = Example {
     aad: &[],
     no: None,
     output: &[0xd2, 0x84, 0x40, 0xa1, 0x18, 0x63, 0x01, 0x40, 0x40],
+};
+
+/// 18([h'', {99: 20 in two bytes}, h'', h'']).
+const TWO_BYTE: Example = Example {
+    input: &[0xd2, 0x84, 0x40, 0xa1, 0x18, 0x63, 0xf8, 0x14, 0x40, 0x40],
+    aad: &[],
+    no: None,
+    output: &[0xd2, 0x84, 0x40, 0xa1, 0x18, 0x63, 0xf4, 0x40, 0x40],
+};
+
+/// 18([h'', {99: undefined}, h'', h'']).
+const UNDEFINED: Example = Example {
+    input: &[0xd2, 0x84, 0x40, 0xa1, 0x18, 0x63, 0xf7, 0x40, 0x40],
+    aad: &[],
+    no: None,
+    output: &[0xd2, 0x84, 0x40, 0xa1, 0x18, 0x63, 0xf6, 0x40, 0x40],
 };
 
 /// 18([h'', {4: h'01', 1: -7}, h'', h'']), whose labels are out of order.
@@ -180,6 +197,39 @@ fn bignum_in_a_header(rt: HostRuntime) -> io::Result<()> {
 }
 
 #[test]
+fn two_byte_false_in_a_header(rt: HostRuntime) -> io::Result<()> {
+    println!(rt; "{}", holds(&rt, rt.alloc(), &TWO_BYTE))
+}
+
+#[test]
+fn undefined_in_a_header(rt: HostRuntime) -> io::Result<()> {
+    println!(rt; "{}", holds(&rt, rt.alloc(), &UNDEFINED))
+}
+
+#[test]
 fn header_out_of_order(rt: HostRuntime) -> io::Result<()> {
     println!(rt; "{}", holds(&rt, rt.alloc(), &ORDER))
+}
+
+/// The run over two signers takes all its memory before it asks: a judge that takes none was asked nothing, or both questions to
+/// their ends, whichever allocation is refused.
+fn asks_both_or_none(rt: &impl Abort, alloc: Global, example: &Example) -> &'static str {
+    let mut judge = Counting::new();
+    let mut memory = [0u8; 28];
+    let mut out = Mem::new(&mut memory[..]);
+    let mut entries = Vec::new(alloc);
+    let input = example.input;
+    let answer = answered(alloc, input, &mut out, &mut entries, &[], &mut judge);
+    assert!(rt; matches!((judge.begun, judge.decided), (0, 0) | (2, 2)));
+    if answer == Err(GateFault::Memory) {
+        return "memory was refused";
+    }
+    same(rt, &answer, &whole(1, 0), "answer", &"two signers");
+    assert_eq!(rt; judge.decided, 2);
+    "whole"
+}
+
+#[test]
+fn a_judge_is_asked_both_questions_or_none(rt: HostRuntime) -> io::Result<()> {
+    println!(rt; "{}", asks_both_or_none(&rt, rt.alloc(), &SIGNERS))
 }

@@ -2,16 +2,18 @@
 ghost use Rattle.std.specs.Prelude.{◌<◌, length};
 
 use ciborium_ll::{Decoder, Read};
-use cose_stream::gate_core::Judge;
-use cose_stream::{StreamFault, stream_check};
+use cose_stream::gate_core::{Judge, Limits};
+use cose_stream::{StreamFault, stream_check, stream_check_with};
 use std::alloc::Global;
 use std::fmt::{Debug, Display};
 use std::process::Abort;
 
-/// The answer of a check of what this reader gives, and how many bytes were taken. It has no clause
-/// but the room, so that a test that calls it carries none of `stream_check`'s.
+/// The answer of a check of what this reader gives, within limits where there are some, and how many
+/// bytes were taken. It has no clause but the room, so that a test that calls it carries none of
+/// `stream_check`'s.
 pub fn checked<R: Read + Drop, J: Judge>(
     alloc: Global,
+    limits: Option<Limits>,
     reader: R,
     buffer: &mut [u8],
     aad: &[u8],
@@ -20,7 +22,10 @@ pub fn checked<R: Read + Drop, J: Judge>(
     requires { 0 < length buffer.old }
 {
     let mut decoder = Decoder::from(reader);
-    let answer = stream_check(alloc, &mut decoder, buffer, aad, judge);
+    let answer = match limits {
+        Some(limits) => stream_check_with(alloc, limits, &mut decoder, buffer, aad, judge),
+        None => stream_check(alloc, &mut decoder, buffer, aad, judge),
+    };
     (answer, decoder.offset())
 }
 

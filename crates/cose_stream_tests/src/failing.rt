@@ -3,6 +3,7 @@ use crate::checks::{checked, same};
 use crate::watching::Watcher;
 use ciborium::de;
 use cose_stream::StreamFault;
+use cose_stream::gate_core::Limits;
 use std::alloc::Global;
 use std::process::Abort;
 use test_tools::{Broken, Source};
@@ -14,10 +15,16 @@ const MESSAGE: &[u8] = &[
 
 /// A check stops where the reader fails, behind so many bytes of the message, and nothing is
 /// decided.
-fn is_cut_off(rt: &impl Abort, alloc: Global, source: Source, count: usize) {
+fn is_cut_off(
+    rt: &impl Abort,
+    alloc: Global,
+    limits: Option<Limits>,
+    source: Source,
+    count: usize,
+) {
     let mut buffer = [0; 1];
     let mut watcher = Watcher::new(alloc);
-    let (answer, _) = checked(alloc, source, &mut buffer, &[], &mut watcher);
+    let (answer, _) = checked(alloc, limits, source, &mut buffer, &[], &mut watcher);
     let broken = Err(StreamFault::Decode(de::Error::Io(Broken)));
     same(rt, &answer, &broken, "answer", &count);
     same(rt, &watcher.decisions, &0, "decisions", &count);
@@ -27,7 +34,7 @@ fn is_cut_off(rt: &impl Abort, alloc: Global, source: Source, count: usize) {
 fn a_failed_read_is_the_answer(rt: HostRuntime) {
     for count in 0..MESSAGE.len() {
         let source = Source::fail_at(MESSAGE, count);
-        is_cut_off(&rt, rt.alloc(), source, count);
+        is_cut_off(&rt, rt.alloc(), None, source, count);
     }
 }
 
@@ -35,6 +42,15 @@ fn a_failed_read_is_the_answer(rt: HostRuntime) {
 fn a_failed_read_is_the_answer_though_more_bytes_come(rt: HostRuntime) {
     for count in 0..MESSAGE.len() {
         let (front, more) = MESSAGE.split_at(count);
-        is_cut_off(&rt, rt.alloc(), Source::new(front, more), count);
+        is_cut_off(&rt, rt.alloc(), None, Source::new(front, more), count);
+    }
+}
+
+#[test]
+fn a_failed_read_is_the_answer_within_limits(rt: HostRuntime) {
+    let limits = Some(Limits::default());
+    for count in 0..MESSAGE.len() {
+        let source = Source::fail_at(MESSAGE, count);
+        is_cut_off(&rt, rt.alloc(), limits, source, count);
     }
 }

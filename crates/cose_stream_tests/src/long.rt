@@ -32,7 +32,14 @@ fn a_long_payload_comes_in_pieces(rt: HostRuntime) {
         .expect(&rt, "no memory");
     let mut buffer = [0; 4096];
     let mut watcher = Watcher::new(alloc);
-    let (answer, taken) = checked(alloc, input.as_slice(), &mut buffer, &[], &mut watcher);
+    let (answer, taken) = checked(
+        alloc,
+        None,
+        input.as_slice(),
+        &mut buffer,
+        &[],
+        &mut watcher,
+    );
     same(&rt, &answer, &Ok(true), "answer", &"10,000 bytes");
     same(
         &rt,

@@ -15,7 +15,7 @@ type Answer = Result<bool, StreamFault<End>>;
 fn judge(rt: &impl Abort, alloc: Global, message: &[u8], calls: usize) -> Nth<Recorder> {
     let mut buffer = [0; 1];
     let mut inner = Recorder::new(alloc, None);
-    let (answer, _) = checked(alloc, message, &mut buffer, &[], &mut inner);
+    let (answer, _) = checked(alloc, None, message, &mut buffer, &[], &mut inner);
     same(rt, &answer, &Ok(true), "answer", &"the first message");
     Nth { inner, calls }
 }
@@ -30,7 +30,7 @@ fn is_answered(
 ) {
     let mut buffer = [0; 1];
     let mut judge = judge(rt, alloc, message, calls);
-    let (answer, _) = checked(alloc, message, &mut buffer, &[], &mut judge);
+    let (answer, _) = checked(alloc, None, message, &mut buffer, &[], &mut judge);
     same(
         rt,
         &(answer, judge.inner.asked().len()),

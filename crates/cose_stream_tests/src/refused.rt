@@ -79,7 +79,7 @@ fn long(
         back: &[0x41, 0xaa],
     };
     let mut buffer = [0; 64];
-    let (answer, _) = checked(alloc, made, &mut buffer, &[], &mut judge);
+    let (answer, _) = checked(alloc, None, made, &mut buffer, &[], &mut judge);
     if answer == Err(StreamFault::Memory) {
         same(rt, &judge.decisions, &0, "decisions", &payload);
         return "memory was refused";
