@@ -3,7 +3,7 @@ ghost use Rattle.std.specs.Prelude.{◌≡◌, ◌<◌, MatchBool, OnOk, IfErr, 
 ghost use Rattle.std.specs.Io.KnownBytes.{Consumes, Keeps};
 ghost use Rattle.std.specs.Io.Buffered.{reader_buffer};
 ghost use Rattle.ciborium_ll.specs.Device.{IsShort};
-ghost use Rattle.cose_run.specs.Faults.{is_end, moved_of};
+ghost use Rattle.cose_run.specs.Faults.{is_end, read_length_of};
 ghost use Rattle.cose_run.specs.InBlocks.{blocks_reader, blocks_failures, left_of_blocks};
 
 use crate::devices::InputFault;
@@ -35,8 +35,10 @@ impl<R: io::Read> Blocks<R> {
     /// Takes the bytes from the block, where it holds so many.
     fn take_held(&mut self, data: &mut [u8]) -> bool
         ensures held { MatchBool result
-            (Consumes (left_of_blocks R.remaining self.old) (left_of_blocks R.remaining self.new) «data».new)
-            ((length (reader_buffer self.old.reader) < length «data».old) × (self.new ≡ self.old) × («data».new ≡ «data».old)) }
+            (Consumes (left_of_blocks R.remaining self.old)
+            (left_of_blocks R.remaining self.new) «data».new)
+            ((length (reader_buffer self.old.reader) < length «data».old)
+            × (self.new ≡ self.old) × («data».new ≡ «data».old)) }
         ensures failed { self.new.failed ≡ self.old.failed }
     {
         let len = data.len();
@@ -50,15 +52,17 @@ impl<R: io::Read> Blocks<R> {
 
     /// Reads the bytes by std's reader. A failure is not counted yet.
     fn read_on(&mut self, data: &mut [u8]) -> Result<(), InputFault>
-        ensures ok { OnOk result (Consumes (left_of_blocks R.remaining self.old) (left_of_blocks R.remaining self.new) «data».new) }
-        ensures end { IfErr result (λ e. IsTrue (is_end e) → IsShort (left_of_blocks R.remaining self.old) (length «data».old)) }
+        ensures ok { OnOk result (Consumes (left_of_blocks R.remaining self.old)
+            (left_of_blocks R.remaining self.new) «data».new) }
+        ensures end { IfErr result (λ e. IsTrue (is_end e)
+            → IsShort (left_of_blocks R.remaining self.old) (length «data».old)) }
         ensures one { IfErr result (λ e. IsTrue (is_end e) → length «data».old ≡ 1
             → Keeps (left_of_blocks R.remaining self.old) (left_of_blocks R.remaining self.new)) }
         ensures failed { self.new.failed ≡ self.old.failed }
     {
         let mut at = 0;
         while at < data.len() {
-            match moved(io::Read::read(&mut self.reader, &mut data[at..])) {
+            match read_length(io::Read::read(&mut self.reader, &mut data[at..])) {
                 Ok(n) => at += n,
                 Err(fault) => return Err(fault),
             }
@@ -67,9 +71,9 @@ impl<R: io::Read> Blocks<R> {
     }
 }
 
-/// What one answer of std's reader means: it moved so many bytes, none at all, or it failed.
-fn moved(answer: io::Result<usize>) -> Result<usize, InputFault>
-    ensures { result ≡ moved_of answer }
+/// How many bytes one answer of std's reader moved: some; none at all is an end, or it failed.
+fn read_length(answer: io::Result<usize>) -> Result<usize, InputFault>
+    ensures { result ≡ read_length_of answer }
 {
     match answer {
         Ok(0) => Err(InputFault::End),

@@ -1,5 +1,5 @@
-//! The program `cose-gate KEYS [AADHEX]` over any reader and writers: its words, and a run of the gate with the judge by HMAC. A user
-//! names `cose_gate`, which passes it on.
+//! The program `cose-gate KEYS [AADHEX]` over any reader and writers: its words, and a run of the gate with the judge by HMAC, or with any
+//! other. A user names `cose_gate`, which passes it on.
 #![tactic(auto)]
 
 mod arguments;
@@ -12,6 +12,6 @@ mod program;
 pub use crate::arguments::words;
 pub use crate::blocks::Blocks;
 pub use crate::devices::InputFault;
-pub use crate::program::{run, run_over, run_with};
+pub use crate::program::{run, run_judged, run_over, run_with};
 pub use cose_judge_hmac as judge;
 pub use cose_judge_hmac::gate_core::Limits;
