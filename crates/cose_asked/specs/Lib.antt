@@ -1,0 +1,3 @@
+pub mod Framing
+pub mod Growing
+pub mod Kept
