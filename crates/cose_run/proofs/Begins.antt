@@ -6,7 +6,7 @@ use Rattle.coset_labels.specs.Reading.{WrongItem}
 use Rattle.coset_labels.specs.declared.error.CoseError.{CoseError}
 use Rattle.coset_labels.specs.declared.error.CoseError.TheVariants as cose
 use Rattle.cose_judge_hmac.specs.KeySets.Wrong.{WrongKeySet}
-use Rattle.cose_run.specs.Beginning.{aad_of, of_cose, IsNoAad, IsNoKeySet, BeginsNot}
+use Rattle.cose_run.specs.Beginning.{aad_of, key_set_fault, IsNoAad, IsNoKeySet, BeginsNot}
 use Rattle.cose_run.specs.declared.beginning.NotBegun.{NotBegun}
 use Rattle.cose_run.specs.declared.beginning.NotBegun.TheVariants.{NoFile, NotHex, NoKeys, Memory}
 
@@ -26,15 +26,7 @@ by_keys keys aad b d Memory k a n = (b, k)
 
 abbrev is_memory : CoseError → Bool
 is_memory cose.Memory = true
-is_memory (cose.DecodeFailed e) = false
-is_memory cose.DuplicateMapKey = false
-is_memory cose.EncodeFailed = false
-is_memory cose.ExtraneousData = false
-is_memory cose.OutOfRangeIntegerValue = false
-is_memory (cose.UnexpectedItem got want) = false
-is_memory cose.UnregisteredIanaValue = false
-is_memory cose.UnregisteredIanaNonPrivateValue = false
-is_memory cose.TooManyLayers = false
+is_memory _ = false
 
 -- an error that isn't want of memory is a fault of the bytes
 wrong_then : (b : List ℕ) (e : CoseError) → is_memory e ≡ false → OrMemory (WrongItem WrongKeySet b) e → WrongItem WrongKeySet b (fault_of e)
@@ -44,10 +36,10 @@ wrong_then b e not w = elim w [
 ]
 
 -- what reading a key set was refused by
-pub no_key_set : (b : List ℕ) (e : CoseError) (why : NotBegun) → why ≡ of_cose e → OrMemory (WrongItem WrongKeySet b) e → IsNoKeySet b why
+pub no_key_set : (b : List ℕ) (e : CoseError) (why : NotBegun) → why ≡ key_set_fault e → OrMemory (WrongItem WrongKeySet b) e → IsNoKeySet b why
 no_key_set b e why is w = subst (λ (n : NotBegun). IsNoKeySet b n) (sym is) (each e w)
   where
-    each : (e : CoseError) → OrMemory (WrongItem WrongKeySet b) e → IsNoKeySet b (of_cose e)
+    each : (e : CoseError) → OrMemory (WrongItem WrongKeySet b) e → IsNoKeySet b (key_set_fault e)
     each cose.Memory w = tt
     each (cose.DecodeFailed x) w = wrong_then b (cose.DecodeFailed x) refl w
     each cose.DuplicateMapKey w = wrong_then b cose.DuplicateMapKey refl w

@@ -1,7 +1,7 @@
 -- The program's answers, from the gate's.
 use Rattle.std.proofs.Common.{◌≡◌, ◌≢◌, ℕ, ◌+◌, ◌<◌, ◌≤◌, inl, inr, List, [], ◌∷◌, ◌++◌, length, map, Option, None, Some, Bool, cond, false, nat_eq, refl, sym, ap, subst, ◌∙◌, arith, append-nil, append_assoc, length-append}
 use Rattle.std.proofs.lemmas.Bool.Decides.{nat_tests}
-use Rattle.std.specs.Prelude.{Result, Ok, Err}
+use Rattle.std.specs.Prelude.{Result, Ok, Err, IsOk}
 use Rattle.std.specs.Io.KnownBytes.{Appends, Keeps}
 use Rattle.std.proofs.lemmas.Grind.{flat_map-append}
 use Rattle.ciborium_ll.specs.Device.{write_failures}
@@ -17,7 +17,7 @@ use Rattle.cose_judge_hmac.specs.GateCore.Questions.{Question}
 use Rattle.cose_judge_hmac.specs.GateCore.Asked.{IsFront}
 use Rattle.cose_judge_hmac.specs.GateCore.Findings.{Limits, usual, plain}
 use Rattle.cose_judge_hmac.specs.GateCore.Terms.{limits_by}
-use Rattle.cose_judge_hmac.specs.GateCore.Run.{Step, Course, written_of, output_of, refused_count}
+use Rattle.cose_judge_hmac.specs.GateCore.Run.{Step, Course, asked_of, questions_of, written_of, output_of, refused_count}
 use Rattle.cose_judge_hmac.specs.GateCore.Outcome.{Rules, Sight, Outcome, Answers, IfMemoryRefused, writer_failures}
 use Rattle.cose_judge_hmac.specs.GateCore.declared.report.Entry.{Entry}
 use Rattle.cose_judge_hmac.specs.GateCore.declared.gating.Counts.{Counts}
@@ -28,7 +28,7 @@ use Rattle.cose_judge_hmac.specs.KeySets.Keys.{HasKeySet}
 use Rattle.cose_judge_hmac.specs.KeySets.View.{key_set_view}
 use Rattle.cose_run.specs.Beginning.{status_of, Begins, BeginsNot, IsNoKeySet}
 use Rattle.cose_run.specs.declared.beginning.Beginning.{Beginning}
-use Rattle.cose_run.specs.Program.{GatedOver, Gated, Through, InPart, Ran, Devices, EndsWithin, EndsOver, no_file, not_hex, no_keys, no_memory, after_run}
+use Rattle.cose_run.specs.Program.{GatedOver, Gated, Heard, Hearing, Through, InPart, RanOn, RanJudged, Devices, EndsWithin, EndsOver, no_file, not_hex, no_keys, no_memory, after_run}
 use Rattle.cose_run.specs.declared.beginning.NotBegun.{NotBegun}
 use Rattle.cose_run.specs.declared.beginning.NotBegun.TheVariants.{NoFile, NotHex, NoKeys, Memory}
 use Rattle.coset_labels.specs.Faults.{fault_of}
@@ -59,83 +59,131 @@ devices left written n f = record { left = left; written = written; read_failure
 
 module _ (allows : Question → Bool) (aad : List ℕ) where
   -- the output of a beginning of the steps is a beginning of the output
-  output_front : (done steps : List Step) → IsFront done steps → IsFront (output_of allows aad done) (output_of allows aad steps)
+  output_front : (done steps : List Step) → IsFront done steps
+      → IsFront (output_of allows aad done) (output_of allows aad steps)
   output_front done steps f = record {
     more = output_of allows aad f.more;
     whole = ap (output_of allows aad) f.whole ∙ flat_map-append (λ s. written_of allows aad s.finding) done f.more;
   }
 
-  output_then : (ss : List Step) (s : Step) → output_of allows aad (ss ++ s ∷ []) ≡ output_of allows aad ss ++ written_of allows aad s.finding
+  output_then : (ss : List Step) (s : Step)
+      → output_of allows aad (ss ++ s ∷ []) ≡ output_of allows aad ss ++ written_of allows aad s.finding
   output_then ss s =
       let one : List ℕ = written_of allows aad s.finding in
       flat_map-append (λ s. written_of allows aad s.finding) ss (s ∷ []) ∙ ap (λ z. output_of allows aad ss ++ z) (append-nil one)
 
-  module _ (limits : Limits) where
-    from_place : (at : ℕ) (b : List ℕ) (steps : List Step) (more : List ℕ) → at ≡ 0 → Course limits allows aad at b steps more → Course limits allows aad 0 b steps more
-    from_place at b steps more z c = subst (λ (n : ℕ). Course limits allows aad n b steps more) z c
+  questions_then : (ss ts : List Step)
+      → questions_of allows aad (ss ++ ts) ≡ questions_of allows aad ss ++ questions_of allows aad ts
+  questions_then ss ts = flat_map-append (λ s. asked_of allows aad s.finding) ss ts
 
-    module _ {T S E : Type 0} (ends : E → Bool) (decided : T → Question → T) (folded : S → Entry → S) (old new : Sight T S) where
-      abbrev by : Rules T S
-      by = record { limits = limits; decided = decided; folded = folded; allows = allows; aad = aad }
+module _ {T S E : Type 0} (ends : E → Bool) (by : Rules T S) (old new : Sight T S) where
+  abbrev heard_by : Hearing T
+  heard_by = record { allows = by.allows; decided = by.decided; before = old.told; after = new.told }
 
-      texts_front : (b : List ℕ) (w : IfMemoryRefused by old new b) → IsFront w.texts (w.done ++ w.last)
-      texts_front b w = elim w.texts_are [
-        | inl e ↦ front_then w.texts w.last (w.done ++ w.last) (ap (λ ss. ss ++ w.last) (sym e))
-        | inr e ↦ front_then w.texts [] (w.done ++ w.last) (sym e.0 ∙ sym (append-nil w.texts))
-      ]
+  texts_front : (b : List ℕ) (w : IfMemoryRefused by old new b) → IsFront w.texts (w.done ++ w.last)
+  texts_front b w = elim w.texts_are [
+    | inl e ↦ front_then w.texts w.last (w.done ++ w.last) (ap (λ ss. ss ++ w.last) (sym e))
+    | inr e ↦ front_then w.texts [] (w.done ++ w.last) (sym e.0 ∙ sym (append-nil w.texts))
+  ]
 
-      gated_over : (l l' : Option (List ℕ)) (n n' f f' : ℕ) (b : List ℕ) (r : Result Counts (GateFault E)) → Outcome ends by old new b r → old.offset ≡ 0 → f' ≡ f + writer_failures r
-          → GatedOver limits allows aad (devices l old.written n f) (devices l' new.written n' f') b r
-      gated_over l l' n n' f f' b (Ok counts) w z fails = record {
-        steps = w.steps;
-        course = from_place old.offset b w.steps [] z w.course;
-        writes = w.made.written;
-        refused_is = w.refused;
-      }
-      gated_over l l' n n' f f' b (Err (gating.Decode e)) w z fails = record {
-        steps = w.steps;
-        more = w.more;
-        course = from_place old.offset b w.steps w.more z w.course;
-        front = output_of allows aad w.steps;
-        front_is = whole_front (output_of allows aad w.steps);
-        writes = w.made.written;
-        whole = λ same. (w.steps, whole_front w.steps, refl);
-      }
-      gated_over l l' n n' f f' b (Err gating.Write) w z fails = record {
-        steps = w.done ++ w.last ∷ [];
-        more = w.more;
-        course = from_place old.offset b (w.done ++ w.last ∷ []) w.more z w.course;
-        front = output_of allows aad w.done ++ w.front;
-        front_is = front_within (output_of allows aad w.done) w.front (written_of allows aad w.last.finding) (output_of allows aad (w.done ++ w.last ∷ [])) (output_then w.done w.last) w.front_is;
-        writes = w.written;
-        whole = λ (same : f' ≡ f). let one : f' ≡ f + 1 = fails in absurd (omega arith);
-      }
-      gated_over l l' n n' f f' b (Err gating.Memory) w z fails = record {
-        steps = w.done ++ w.last;
-        more = w.more;
-        course = from_place old.offset b (w.done ++ w.last) w.more z w.course;
-        front = output_of allows aad w.texts;
-        front_is = output_front w.texts (w.done ++ w.last) (texts_front b w);
-        writes = w.written;
-        whole = λ same. (w.texts, texts_front b w, refl);
-      }
+  from_place : (b : List ℕ) (steps : List Step) (more : List ℕ) → old.offset ≡ 0
+      → Course by.limits by.allows by.aad old.offset b steps more → Course by.limits by.allows by.aad 0 b steps more
+  from_place b steps more z c = subst (λ (n : ℕ). Course by.limits by.allows by.aad n b steps more) z c
 
-module _ {T S E : Type 0} (ends : E → Bool) (decided : T → Question → T) (folded : S → Entry → S) (old new : Sight T S) where
-  abbrev by_keys : Limits → List KeyFields → List ℕ → Rules T S
-  by_keys limits ks aad = record { limits = limits; decided = decided; folded = folded; allows = says_yes ks; aad = aad }
+  -- the steps that were gone by
+  abbrev steps_by : (b : List ℕ) (r : Result Counts (GateFault E)) → Outcome ends by old new b r → List Step
+  steps_by b (Ok counts) w = w.steps
+  steps_by b (Err (gating.Decode e)) w = w.steps
+  steps_by b (Err gating.Write) w = w.done ++ w.last ∷ []
+  steps_by b (Err gating.Memory) w = w.done ++ w.last
 
-  pub gated : (limits used : Limits) (ks ks' : List KeyFields) (aad : List ℕ) (waiting : Option Header) (l l' : Option (List ℕ)) (n n' f f' : ℕ) (r r' : Result Counts (GateFault E))
-      → limits ≡ used → ks' ≡ ks → old.offset ≡ 0 → waiting ≡ None → old.left ≡ due l waiting → r' ≡ r
-      → Answers ends (by_keys used ks' aad) old new r → f' ≡ f + writer_failures r
-      → Gated limits (says_yes ks) aad (devices l old.written n f) (devices l' new.written n' f') r'
-  gated limits used ks ks' aad waiting l l' n n' f f' r r' same e z w is answer a fails =
-      let whole : Gated used (says_yes ks) aad (devices l old.written n f) (devices l' new.written n' f') r = record {
+  gated_over : (l l' : Option (List ℕ)) (n n' f f' : ℕ) (b : List ℕ) (r : Result Counts (GateFault E))
+      → (w : Outcome ends by old new b r) → old.offset ≡ 0 → f' ≡ f + writer_failures r
+      → GatedOver by.limits by.allows by.aad (devices l old.written n f) (devices l' new.written n' f') b (steps_by b r w) r
+  gated_over l l' n n' f f' b (Ok counts) w z fails = record {
+    course = from_place b w.steps [] z w.course;
+    writes = w.made.written;
+    refused_is = w.refused;
+  }
+  gated_over l l' n n' f f' b (Err (gating.Decode e)) w z fails = record {
+    more = w.more;
+    course = from_place b w.steps w.more z w.course;
+    front = output_of by.allows by.aad w.steps;
+    front_is = whole_front (output_of by.allows by.aad w.steps);
+    writes = w.made.written;
+    whole = λ same. (w.steps, whole_front w.steps, refl);
+  }
+  gated_over l l' n n' f f' b (Err gating.Write) w z fails = record {
+    more = w.more;
+    course = from_place b (w.done ++ w.last ∷ []) w.more z w.course;
+    front = output_of by.allows by.aad w.done ++ w.front;
+    front_is = front_within (output_of by.allows by.aad w.done) w.front (written_of by.allows by.aad w.last.finding)
+        (output_of by.allows by.aad (w.done ++ w.last ∷ [])) (output_then by.allows by.aad w.done w.last) w.front_is;
+    writes = w.written;
+    whole = λ (same : f' ≡ f). let one : f' ≡ f + 1 = fails in absurd (omega arith);
+  }
+  gated_over l l' n n' f f' b (Err gating.Memory) w z fails = record {
+    more = w.more;
+    course = from_place b (w.done ++ w.last) w.more z w.course;
+    front = output_of by.allows by.aad w.texts;
+    front_is = output_front by.allows by.aad w.texts (w.done ++ w.last) (texts_front b w);
+    writes = w.written;
+    whole = λ same. (w.texts, texts_front b w, refl);
+  }
+
+  -- what the judge was told
+  heard_over : (b : List ℕ) (r : Result Counts (GateFault E)) → (w : Outcome ends by old new b r)
+      → Heard heard_by by.aad (steps_by b r w) (IsOk r)
+  heard_over b (Ok counts) w = record {
+    told = record {
+      front = questions_of by.allows by.aad w.steps;
+      is_front = whole_front (questions_of by.allows by.aad w.steps);
+      tells = w.made.told;
+    };
+    all = λ _. refl;
+  }
+  heard_over b (Err (gating.Decode e)) w = record {
+    told = record {
+      front = questions_of by.allows by.aad w.steps;
+      is_front = whole_front (questions_of by.allows by.aad w.steps);
+      tells = w.made.told;
+    };
+    all = λ _. refl;
+  }
+  heard_over b (Err gating.Write) w = record {
+    told = record {
+      front = questions_of by.allows by.aad (w.done ++ w.last ∷ []);
+      is_front = whole_front (questions_of by.allows by.aad (w.done ++ w.last ∷ []));
+      tells = w.told;
+    };
+    all = λ _. refl;
+  }
+  heard_over b (Err gating.Memory) w = record {
+    told = record {
+      front = questions_of by.allows by.aad w.done ++ w.asked;
+      is_front = front_within (questions_of by.allows by.aad w.done) w.asked (questions_of by.allows by.aad w.last)
+          (questions_of by.allows by.aad (w.done ++ w.last)) (questions_then by.allows by.aad w.done w.last) w.asked_front;
+      tells = w.told;
+    };
+    all = λ not. absurd not;
+  }
+
+  -- the gate's answer over a decoder that began here
+  pub gated : (limits : Limits) (waiting : Option Header) (l l' : Option (List ℕ)) (n n' f f' : ℕ)
+      (r r' : Result Counts (GateFault E)) → limits ≡ by.limits → old.offset ≡ 0 → waiting ≡ None
+      → old.left ≡ due l waiting → r' ≡ r → Answers ends by old new r → f' ≡ f + writer_failures r
+      → Gated limits heard_by by.aad (devices l old.written n f) (devices l' new.written n' f') r'
+  gated limits waiting l l' n n' f f' r r' same z w is answer a fails =
+      let whole : Gated by.limits heard_by by.aad (devices l old.written n f) (devices l' new.written n' f') r = record {
         input = a.input;
         is = subst (λ (o : Option (List ℕ)). IfKnown o (λ b. b ≡ a.input)) (is ∙ ap (due l) w ∙ due_none l) a.is;
-        over = gated_over (says_yes ks) aad used ends decided folded old new l l' n n' f f' a.input r (subst (λ (o : List KeyFields). Outcome ends (by_keys used o aad) old new a.input r) e a.outcome) z fails;
+        steps = steps_by a.input r a.outcome;
+        over = gated_over l l' n n' f f' a.input r a.outcome z fails;
+        heard = heard_over a.input r a.outcome;
       } in
-      let there : Gated limits (says_yes ks) aad (devices l old.written n f) (devices l' new.written n' f') r = subst (λ (o : Limits). Gated o (says_yes ks) aad (devices l old.written n f) (devices l' new.written n' f') r) (sym same) whole in
-      subst (λ (o : Result Counts (GateFault E)). Gated limits (says_yes ks) aad (devices l old.written n f) (devices l' new.written n' f') o) (sym answer) there
+      let there : Gated limits heard_by by.aad (devices l old.written n f) (devices l' new.written n' f') r
+      = subst (λ (o : Limits). Gated o heard_by by.aad (devices l old.written n f) (devices l' new.written n' f') r) (sym same) whole in
+      subst (λ (o : Result Counts (GateFault E)). Gated limits heard_by by.aad (devices l old.written n f) (devices l' new.written n' f') o) (sym answer) there
 
 not_zero : (n : ℕ) → n ≢ 0 → ◌≡◌ {A = ℕ} 1 (cond {A = ℕ} (nat_eq n 0) 0 1)
 not_zero n not = grind (arith, nat_tests)
@@ -155,52 +203,84 @@ grows (Err x) m n e = let h : n ≡ m + 1 = e in omega arith
 between : (a b c : ℕ) → a ≤ b → b ≤ c → c ≡ a → b ≡ a
 between a b c p q e = omega arith
 
-module _ (limits : Limits) (allows : Question → Bool) (aad : List ℕ) (old mid new : Devices) where
+module _ {T E : Type 0} (limits : Limits) (hearing : Hearing T) (aad : List ℕ) (old mid new : Devices) where
   -- the output was flushed
-  then_flushed : (b : List ℕ) (n : ℕ) → Keeps mid.written new.written → Through limits allows aad old mid b n → Through limits allows aad old new b n
-  then_flushed b n keeps t = record {
-    steps = t.steps;
+  then_flushed : (b : List ℕ) (steps : List Step) (n : ℕ) → Keeps mid.written new.written
+      → Through limits hearing.allows aad old mid b steps n → Through limits hearing.allows aad old new b steps n
+  then_flushed b steps n keeps t = record {
     course = t.course;
-    writes = flushed old.written mid.written new.written (output_of allows aad t.steps) keeps t.writes;
+    writes = flushed old.written mid.written new.written (output_of hearing.allows aad steps) keeps t.writes;
     refused_is = t.refused_is;
   }
 
   -- some items were refused
-  pub ran_some : (counts : Counts) {E : Type 0} → (let r : Result Counts (GateFault E) = Ok counts in Gated limits allows aad old mid r) → counts.refused ≢ 0 → Keeps mid.written new.written → Ran limits allows aad old new 1
-  ran_some counts g not keeps = record {
-    input = g.input;
-    is = g.is;
-    over = inl (counts.refused, then_flushed g.input counts.refused keeps g.over, not_zero counts.refused not);
+  pub ran_some : (counts : Counts) → (let r : Result Counts (GateFault E) = Ok counts in Gated limits hearing aad old mid r)
+      → counts.refused ≢ 0 → (old.left ≡ Some [] → counts.refused ≡ 0) → Keeps mid.written new.written
+      → (new.read_failures ≡ old.read_failures) × (new.write_failures ≡ old.write_failures)
+      → RanJudged limits hearing aad old new 1
+  ran_some counts g not none keeps steady = record {
+    on = record {
+      ran = record {
+        input = g.input;
+        is = g.is;
+        steps = g.steps;
+        over = inl (counts.refused, then_flushed g.input g.steps counts.refused keeps g.over, not_zero counts.refused not);
+      };
+      nothing = λ empty _ _. absurd (not (none empty));
+      steady = λ _. steady;
+    };
+    heard = record { told = g.heard.told; all = λ _. g.heard.all tt };
   }
 
   -- none was
-  pub ran_none : (counts : Counts) {E : Type 0} → (let r : Result Counts (GateFault E) = Ok counts in Gated limits allows aad old mid r) → counts.refused ≡ 0 → Keeps mid.written new.written → Ran limits allows aad old new 0
-  ran_none counts g zero keeps = record {
-    input = g.input;
-    is = g.is;
-    over = inl (counts.refused, then_flushed g.input counts.refused keeps g.over, sym (ap (λ (n : ℕ). cond {A = ℕ} (nat_eq n 0) 0 1) zero));
+  pub ran_none : (counts : Counts) → (let r : Result Counts (GateFault E) = Ok counts in Gated limits hearing aad old mid r)
+      → counts.refused ≡ 0 → Keeps mid.written new.written
+      → (new.read_failures ≡ old.read_failures) × (new.write_failures ≡ old.write_failures)
+      → RanJudged limits hearing aad old new 0
+  ran_none counts g zero keeps steady = record {
+    on = record {
+      ran = record {
+        input = g.input;
+        is = g.is;
+        steps = g.steps;
+        over = inl (counts.refused, then_flushed g.input g.steps counts.refused keeps g.over, sym (ap (λ (n : ℕ). cond {A = ℕ} (nat_eq n 0) 0 1) zero));
+      };
+      nothing = λ _ _ _. refl;
+      steady = λ _. steady;
+    };
+    heard = record { told = g.heard.told; all = λ _. g.heard.all tt };
   }
 
   -- it stopped, or the flush failed
-  pub ran_stopped : {E : Type 0} (r : Result Counts (GateFault E)) {X F : Type 0} (answer : Result X F) → Gated limits allows aad old mid r → old.write_failures ≤ mid.write_failures
-      → new.write_failures ≡ write_failures answer mid.write_failures → Keeps mid.written new.written → Ran limits allows aad old new 4
-  ran_stopped {E = E} r answer g more fails keeps = record { input = g.input; is = g.is; over = inr (part r g.over, refl) }
+  pub ran_stopped : (r : Result Counts (GateFault E)) {X F : Type 0} (answer : Result X F) → Gated limits hearing aad old mid r
+      → old.write_failures ≤ mid.write_failures → new.write_failures ≡ write_failures answer mid.write_failures
+      → Keeps mid.written new.written
+      → (old.left ≡ Some [] → new.read_failures ≡ old.read_failures → new.write_failures ≡ old.write_failures → ⊥)
+      → RanJudged limits hearing aad old new 4
+  ran_stopped r answer g more fails keeps fault = record {
+    on = record {
+      ran = record { input = g.input; is = g.is; steps = g.steps; over = inr (part r g.over, refl) };
+      nothing = λ empty reads writes. absurd (fault empty reads writes);
+      steady = λ (low : 4 < 2). absurd (omega arith);
+    };
+    heard = record { told = g.heard.told; all = λ (low : 4 < 2). absurd (omega arith) };
+  }
     where
       same_then : new.write_failures ≡ old.write_failures → mid.write_failures ≡ old.write_failures
-      same_then same = between old.write_failures mid.write_failures new.write_failures more (grows answer mid.write_failures new.write_failures fails) same
+      same_then same = between old.write_failures mid.write_failures new.write_failures more
+          (grows answer mid.write_failures new.write_failures fails) same
 
-      part : (r : Result Counts (GateFault E)) → GatedOver limits allows aad old mid g.input r → InPart limits allows aad old new g.input
+      part : (r : Result Counts (GateFault E)) → GatedOver limits hearing.allows aad old mid g.input g.steps r
+          → InPart limits hearing.allows aad old new g.input g.steps
       part (Ok counts) o = record {
-        steps = o.steps;
         more = [];
         course = o.course;
-        front = output_of allows aad o.steps;
-        front_is = whole_front (output_of allows aad o.steps);
-        writes = flushed old.written mid.written new.written (output_of allows aad o.steps) keeps o.writes;
-        whole = λ same. (o.steps, whole_front o.steps, refl);
+        front = output_of hearing.allows aad g.steps;
+        front_is = whole_front (output_of hearing.allows aad g.steps);
+        writes = flushed old.written mid.written new.written (output_of hearing.allows aad g.steps) keeps o.writes;
+        whole = λ same. (g.steps, whole_front g.steps, refl);
       }
       part (Err fault) o = record {
-        steps = o.steps;
         more = o.more;
         course = o.course;
         front = o.front;
@@ -209,20 +289,23 @@ module _ (limits : Limits) (allows : Question → Bool) (aad : List ℕ) (old mi
         whole = λ same. o.whole (same_then same);
       }
 
-module _ (limits : Limits) (allows : Question → Bool) (aad : List ℕ) (old mid : Devices) where
+module _ {T E : Type 0} (limits : Limits) (hearing : Hearing T) (aad : List ℕ) (old mid : Devices) where
   -- of nothing no item is refused
-  pub none_refused : (counts : Counts) {E : Type 0} → (let r : Result Counts (GateFault E) = Ok counts in Gated limits allows aad old mid r) → old.left ≡ Some [] → counts.refused ≡ 0
-  none_refused counts g e = of (subst (λ (z : List ℕ). Through limits allows aad old mid z counts.refused) (sym (subst (λ (z : Option (List ℕ)). IfKnown z (λ b. b ≡ g.input)) e g.is)) g.over)
+  pub none_refused : (counts : Counts) → (let r : Result Counts (GateFault E) = Ok counts in Gated limits hearing aad old mid r)
+      → old.left ≡ Some [] → counts.refused ≡ 0
+  none_refused counts g e = of (subst (λ (z : List ℕ). Through limits hearing.allows aad old mid z g.steps counts.refused)
+      (sym (subst (λ (z : Option (List ℕ)). IfKnown z (λ b. b ≡ g.input)) e g.is)) g.over)
     where
-      empty : (ss : List Step) → SequenceWithin limits.nesting 0 [] (map (λ s. s.item) ss) [] → refused_count allows aad ss ≡ 0
+      empty : (ss : List Step) → SequenceWithin limits.nesting 0 [] (map (λ s. s.item) ss) []
+          → refused_count hearing.allows aad ss ≡ 0
       empty [] s = refl
       empty (s ∷ ss) q =
           let some = reads_some s.item.bytes limits.nesting s.item.value q.1 in
           let l : 0 ≡ length s.item.bytes + length q.2.0 = ap length q.2.1 ∙ length-append s.item.bytes q.2.0 in
           absurd (omega arith)
 
-      of : Through limits allows aad old mid [] counts.refused → counts.refused ≡ 0
-      of t = t.refused_is ∙ empty t.steps t.course.sequence
+      of : Through limits hearing.allows aad old mid [] g.steps counts.refused → counts.refused ≡ 0
+      of t = t.refused_is ∙ empty g.steps t.course.sequence
 
 -- the gate isn't run
 pub ended : (limits : Limits) (allows : List KeyFields → Question → Bool) (keys aad : Option (List ℕ)) (why : NotBegun) (old new : Devices) (status : ℕ) → BeginsNot keys aad why → status ≡ status_of why → new ≡ old → EndsWithin limits allows keys aad old new status
@@ -232,12 +315,12 @@ ended limits allows keys aad (NoKeys e) old new status n st same = no_keys n.0 n
 ended limits allows keys aad Memory old new status n st same = no_memory n.0 n.1 st same
 
 -- the gate was run
-pub began : (limits : Limits) (allows : List KeyFields → Question → Bool) (keys aad : Option (List ℕ)) (d : Beginning) (given : List ℕ) (old new : Devices) (status : ℕ) → (let r : Result Beginning NotBegun = Ok d in Begins keys aad r) → given ≡ d.aad.items
-    → Ran limits (allows (key_set_view d.keys)) given old new status
-    → (old.left ≡ Some [] → new.read_failures ≡ old.read_failures → new.write_failures ≡ old.write_failures → status ≡ 0)
-    → (status < 2 → (new.read_failures ≡ old.read_failures) × (new.write_failures ≡ old.write_failures))
-    → EndsWithin limits allows keys aad old new status
-began limits allows keys aad d given old new status b e r n s = after_run b.0 given b.1 (b.2 ∙ ap Some (sym e)) (key_set_view d.keys) b.3 (record { ran = r; nothing = n; steady = s })
+pub began : (limits : Limits) (keys aad : Option (List ℕ)) (d : Beginning) (given : List ℕ)
+    (ks : List KeyFields) (old new : Devices) (status : ℕ)
+    → (let r : Result Beginning NotBegun = Ok d in Begins keys aad r) → given ≡ d.aad.items → ks ≡ key_set_view d.keys
+    → RanOn limits (says_yes ks) given old new status → EndsWithin limits says_yes keys aad old new status
+began limits keys aad d given ks old new status b e same r =
+    after_run b.0 given b.1 (b.2 ∙ ap Some (sym e)) ks (subst (λ (k : List KeyFields). HasItem HasKeySet b.0 k) (sym same) b.3) r
 
 -- the bytes hold no key set, or memory was refused
 pub over_none : (limits : Limits) (allows : List KeyFields → Question → Bool) (keys aad : List ℕ) (why : NotBegun) (old new : Devices) (status : ℕ) → IsNoKeySet keys why → status ≡ status_of why → new ≡ old → EndsOver limits allows keys aad old new status
@@ -247,12 +330,11 @@ over_none limits allows keys aad (NoKeys e) old new status n st same = inl (faul
 over_none limits allows keys aad Memory old new status n st same = inr (inl (st, same))
 
 -- the gate was run with the key set of the bytes
-pub over_run : (limits : Limits) (allows : List KeyFields → Question → Bool) (keys aad : List ℕ) (ks : List KeyFields) (old new : Devices) (status : ℕ) → HasItem HasKeySet keys ks
-    → Ran limits (allows ks) aad old new status
-    → (old.left ≡ Some [] → new.read_failures ≡ old.read_failures → new.write_failures ≡ old.write_failures → status ≡ 0)
-    → (status < 2 → (new.read_failures ≡ old.read_failures) × (new.write_failures ≡ old.write_failures))
-    → EndsOver limits allows keys aad old new status
-over_run limits allows keys aad ks old new status h r n s = inr (inr (ks, h, record { ran = r; nothing = n; steady = s }))
+pub over_run : (limits : Limits) (keys aad : List ℕ) (ks held : List KeyFields) (old new : Devices) (status : ℕ)
+    → HasItem HasKeySet keys ks → held ≡ ks → RanOn limits (says_yes held) aad old new status
+    → EndsOver limits says_yes keys aad old new status
+over_run limits keys aad ks held old new status h same r =
+    inr (inr (held, subst (λ (k : List KeyFields). HasItem HasKeySet keys k) (sym same) h, r))
 
 -- the limits where none are chosen
 usually : (l : Chosen) → (nesting_of l ≡ nesting) × (layers_of l ≡ layers) → limits_by l false ≡ usual

@@ -26,23 +26,15 @@ status_of NotHex = 2
 status_of (NoKeys e) = 3
 status_of Memory = 4
 
-abbrev pub of_hex : FromHexError → NotBegun
-of_hex (hex.InvalidHexCharacter c i) = NotHex
-of_hex hex.OddLength = NotHex
-of_hex hex.InvalidStringLength = NotHex
-of_hex hex.OutOfMemory = Memory
+-- why the gate isn't run where AADHEX can't be read: it is no hex, but for want of memory
+abbrev pub aad_fault : FromHexError → NotBegun
+aad_fault hex.OutOfMemory = Memory
+aad_fault _ = NotHex
 
-abbrev pub of_cose : CoseError → NotBegun
-of_cose (cose.DecodeFailed e) = NoKeys (cose.DecodeFailed e)
-of_cose cose.DuplicateMapKey = NoKeys cose.DuplicateMapKey
-of_cose cose.EncodeFailed = NoKeys cose.EncodeFailed
-of_cose cose.ExtraneousData = NoKeys cose.ExtraneousData
-of_cose cose.OutOfRangeIntegerValue = NoKeys cose.OutOfRangeIntegerValue
-of_cose (cose.UnexpectedItem got want) = NoKeys (cose.UnexpectedItem got want)
-of_cose cose.UnregisteredIanaValue = NoKeys cose.UnregisteredIanaValue
-of_cose cose.UnregisteredIanaNonPrivateValue = NoKeys cose.UnregisteredIanaNonPrivateValue
-of_cose cose.Memory = Memory
-of_cose cose.TooManyLayers = NoKeys cose.TooManyLayers
+-- why it isn't run where the key set can't be read
+abbrev pub key_set_fault : CoseError → NotBegun
+key_set_fault cose.Memory = Memory
+key_set_fault e = NoKeys e
 
 -- AADHEX is no hex, or memory was refused
 abbrev pub IsNoAad : Option (List ℕ) → NotBegun → Type 0
@@ -62,10 +54,14 @@ IsNoKeySet b Memory = Unit {0}
 abbrev pub BeginsNot : Option (List ℕ) → Option (List ℕ) → NotBegun → Type 0
 BeginsNot keys aad NoFile = keys ≡ None
 BeginsNot keys aad NotHex = (b : List ℕ) × (keys ≡ Some b) × (aad_of aad ≡ None)
-BeginsNot keys aad (NoKeys e) = (b : List ℕ) × (d : List ℕ) × (keys ≡ Some b) × (aad_of aad ≡ Some d) × WrongItem WrongKeySet b (fault_of e)
+BeginsNot keys aad (NoKeys e) =
+    (b : List ℕ) × (d : List ℕ) × (keys ≡ Some b) × (aad_of aad ≡ Some d)
+    × WrongItem WrongKeySet b (fault_of e)
 BeginsNot keys aad Memory = (b : List ℕ) × (keys ≡ Some b)
 
 -- the key set that KEYS holds, and the external data that AADHEX stands for
 abbrev pub Begins : Option (List ℕ) → Option (List ℕ) → Result Beginning NotBegun → Type 0
-Begins keys aad (Ok d) = (b : List ℕ) × (keys ≡ Some b) × (aad_of aad ≡ Some d.aad.items) × HasItem HasKeySet b (key_set_view d.keys)
+Begins keys aad (Ok d) =
+    (b : List ℕ) × (keys ≡ Some b) × (aad_of aad ≡ Some d.aad.items)
+    × HasItem HasKeySet b (key_set_view d.keys)
 Begins keys aad (Err why) = BeginsNot keys aad why

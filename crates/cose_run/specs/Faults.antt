@@ -8,8 +8,8 @@ abbrev pub is_end : InputFault → Bool
 is_end fault.End = true
 is_end fault.Failed = false
 
--- one answer of std's reader: some bytes were moved, or none, which is an end, or it failed
-abbrev pub moved_of : Result ℕ Error → Result ℕ InputFault
-moved_of (Ok zero) = Err fault.End
-moved_of (Ok (suc n)) = Ok (suc n)
-moved_of (Err e) = Err fault.Failed
+-- how many bytes one answer of std's reader moved: some; none is an end, or it failed
+abbrev pub read_length_of : Result ℕ Error → Result ℕ InputFault
+read_length_of (Ok zero) = Err fault.End
+read_length_of (Ok (suc n)) = Ok (suc n)
+read_length_of (Err e) = Err fault.Failed

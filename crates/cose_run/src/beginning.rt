@@ -70,21 +70,19 @@ fn read_aad(alloc: Global, aad: Option<&str>) -> Result<Vec<u8>, NotBegun>
     match aad {
         Some(text) => match hex::decode(alloc, text) {
             Ok(bytes) => Ok(bytes),
-            Err(error) => Err(of_hex(error)),
+            Err(error) => Err(aad_fault(error)),
         },
         None => Ok(Vec::new(alloc)),
     }
 }
 
-/// What an error of reading hex is here.
-fn of_hex(error: FromHexError) -> NotBegun
-    ensures { result ≡ spec.of_hex error }
+/// Why the gate isn't run where AADHEX can't be read.
+fn aad_fault(error: FromHexError) -> NotBegun
+    ensures { result ≡ spec.aad_fault error }
 {
     match error {
-        FromHexError::InvalidHexCharacter { c: _, index: _ } => NotBegun::NotHex,
-        FromHexError::OddLength => NotBegun::NotHex,
-        FromHexError::InvalidStringLength => NotBegun::NotHex,
         FromHexError::OutOfMemory => NotBegun::Memory,
+        _ => NotBegun::NotHex,
     }
 }
 
@@ -94,24 +92,16 @@ pub(crate) fn read_keys(alloc: Global, bytes: &[u8]) -> Result<CoseKeySet, NotBe
 {
     match CoseKeySet::from_slice(alloc, bytes) {
         Ok(keys) => Ok(keys),
-        Err(error) => Err(of_cose(error)),
+        Err(error) => Err(key_set_fault(error)),
     }
 }
 
-/// What an error of reading a key set is here.
-fn of_cose(error: CoseError) -> NotBegun
-    ensures { result ≡ spec.of_cose error }
+/// Why the gate isn't run where the key set can't be read.
+fn key_set_fault(error: CoseError) -> NotBegun
+    ensures { result ≡ spec.key_set_fault error }
 {
     match error {
         CoseError::Memory => NotBegun::Memory,
-        CoseError::DecodeFailed(_)
-        | CoseError::DuplicateMapKey
-        | CoseError::EncodeFailed
-        | CoseError::ExtraneousData
-        | CoseError::OutOfRangeIntegerValue
-        | CoseError::UnexpectedItem(_, _)
-        | CoseError::UnregisteredIanaValue
-        | CoseError::UnregisteredIanaNonPrivateValue
-        | CoseError::TooManyLayers => NotBegun::NoKeys(error),
+        _ => NotBegun::NoKeys(error),
     }
 }

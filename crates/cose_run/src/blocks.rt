@@ -3,7 +3,7 @@ ghost use Rattle.std.specs.Prelude.{◌≡◌, ◌<◌, MatchBool, OnOk, IfErr, 
 ghost use Rattle.std.specs.Io.KnownBytes.{Consumes, Keeps};
 ghost use Rattle.std.specs.Io.Buffered.{reader_buffer};
 ghost use Rattle.ciborium_ll.specs.Device.{IsShort};
-ghost use Rattle.cose_run.specs.Faults.{is_end, moved_of};
+ghost use Rattle.cose_run.specs.Faults.{is_end, read_length_of};
 ghost use Rattle.cose_run.specs.InBlocks.{blocks_reader, blocks_failures, left_of_blocks};
 
 use crate::devices::InputFault;
@@ -58,7 +58,7 @@ impl<R: io::Read> Blocks<R> {
     {
         let mut at = 0;
         while at < data.len() {
-            match moved(io::Read::read(&mut self.reader, &mut data[at..])) {
+            match read_length(io::Read::read(&mut self.reader, &mut data[at..])) {
                 Ok(n) => at += n,
                 Err(fault) => return Err(fault),
             }
@@ -67,9 +67,9 @@ impl<R: io::Read> Blocks<R> {
     }
 }
 
-/// What one answer of std's reader means: it moved so many bytes, none at all, or it failed.
-fn moved(answer: io::Result<usize>) -> Result<usize, InputFault>
-    ensures { result ≡ moved_of answer }
+/// How many bytes one answer of std's reader moved: some; none at all is an end, or it failed.
+fn read_length(answer: io::Result<usize>) -> Result<usize, InputFault>
+    ensures { result ≡ read_length_of answer }
 {
     match answer {
         Ok(0) => Err(InputFault::End),

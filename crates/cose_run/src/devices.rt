@@ -3,13 +3,16 @@ ghost use Rattle.std.specs.Prelude.{◌≡◌, ◌∷◌};
 ghost use Rattle.cose_run.specs.Faults.{is_end};
 
 use ciborium_ll::{Read, Write};
+use thiserror::Error;
 
 /// Why bytes were not read.
-#[derive(Debug, Clone, Copy, PartialEq, Eq)]
+#[derive(Debug, Clone, Copy, PartialEq, Eq, Error)]
 pub enum InputFault {
     /// They have ended.
+    #[error("EndOfFile")]
     End,
     /// The device failed.
+    #[error("Failed")]
     Failed,
 }
 
@@ -29,8 +32,8 @@ pub(crate) struct Output<'a, W> {
     pub(crate) writer: &'a mut W,
 }
 
-/// The small fault.
-fn small(ended: bool) -> InputFault
+/// The fault of an input that has ended, or failed.
+fn input_fault(ended: bool) -> InputFault
     ensures { is_end result ≡ ended }
 {
     if ended {
@@ -54,7 +57,7 @@ impl<'a, R: Read> Read for Input<'a, R> {
     fn read_exact(&mut self, data: &mut [u8]) -> Result<(), InputFault> {
         match self.reader.read_exact(data) {
             Ok(()) => Ok(()),
-            Err(error) => Err(small(R::is_end(&error))),
+            Err(error) => Err(input_fault(R::is_end(&error))),
         }
     }
 

@@ -12,6 +12,6 @@ mod program;
 pub use crate::arguments::words;
 pub use crate::blocks::Blocks;
 pub use crate::devices::InputFault;
-pub use crate::program::{run, run_over, run_with};
+pub use crate::program::{run, run_judged, run_over, run_with};
 pub use cose_judge_hmac as judge;
 pub use cose_judge_hmac::gate_core::Limits;

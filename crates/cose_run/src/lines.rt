@@ -1,6 +1,7 @@
 //! The lines on standard error. A fault of what they are written to is passed over.
 use crate::beginning::NotBegun;
-use ciborium_ll::{Read, Write};
+use crate::devices::InputFault;
+use ciborium_ll::Write;
 use cose_judge_hmac::gate_core::{Counts, Entry, GateFault, Refusal, Report, Verdict, de};
 use std::alloc::AllocError;
 use std::fmt;
@@ -78,28 +79,15 @@ pub(crate) fn say_counts<W: Write>(counts: Counts, out: &mut W) {
 }
 
 /// The last line, which says what stopped the gate. It is flushed, with those before it.
-pub(crate) fn say_fault<R: Read, W: Write>(fault: GateFault<R::Error>, out: &mut W) {
+pub(crate) fn say_fault<W: Write>(fault: GateFault<InputFault>, out: &mut W) {
     let mut text = Text { out };
     let _ = match fault {
-        GateFault::Decode(error) => match error {
-            de::Error::Io(e) => {
-                if R::is_end(&e) {
-                    writeln!(text, "stopped: decode: Io(EndOfFile)")
-                } else {
-                    writeln!(text, "stopped: decode: Io")
-                }
-            }
-            de::Error::Syntax(offset) => writeln!(text, "stopped: decode: Syntax({offset})"),
-            de::Error::Semantic(_, kind) => writeln!(text, "stopped: decode: Semantic({kind:?})"),
-            de::Error::RecursionLimitExceeded => writeln!(
-                text,
-                "stopped: decode: RecursionLimitExceeded"
-            ),
-            de::Error::Memory => writeln!(text, "stopped: memory"),
-            de::Error::TooLong => writeln!(text, "stopped: decode: TooLong"),
-        },
-        GateFault::Write => writeln!(text, "stopped: write"),
-        GateFault::Memory => writeln!(text, "stopped: memory"),
+        GateFault::Decode(de::Error::Io(InputFault::Failed)) => {
+            writeln!(text, "stopped: decode: Io")
+        }
+        GateFault::Decode(_) | GateFault::Write | GateFault::Memory => {
+            writeln!(text, "stopped: {fault}")
+        }
     };
     let _ = text.out.flush();
 }

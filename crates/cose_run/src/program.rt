@@ -1,52 +1,51 @@
-//! The program: the gate over one input with the judge by HMAC, a line for each item, and one that says how it ended.
-ghost use Rattle.std.specs.Prelude.{◌≡◌, ◌<◌, ◌≤◌, [], Some, IsOk, OnOk, option_copied};
+//! The program: the gate over one input, a line for each item, and one that says how it ended.
+ghost use Rattle.std.specs.Prelude.{◌≡◌, ◌≤◌, [], Some, IsOk, OnOk, option_copied};
 ghost use Rattle.cose_judge_hmac.specs.GateCore.Terms.{limits_by};
-ghost use Rattle.cose_judge_hmac.specs.KeySets.View.{key_set_view};
 ghost use Rattle.cose_judge_hmac.specs.Judge.{says_yes};
-ghost use Rattle.cose_run.specs.Program.{Ends, EndsWithin, EndsOver, Gated, Ran};
+ghost use Rattle.cose_run.specs.Program.{devices_of, hearing_of, Ends, EndsWithin, EndsOver, Gated, RanJudged};
 
 use crate::beginning::{begin, read_keys};
-use crate::devices::{Input, Output};
+use crate::devices::{Input, InputFault, Output};
 use crate::lines::{Lines, say_counts, say_fault, say_not_begun};
 use ciborium_ll::{Decoder, Read, Write};
-use cose_judge_hmac::gate_core::{Counts, GateFault, Limits, gate_strict_with, gate_with};
-use cose_judge_hmac::{CoseKeySet, HmacJudge};
+use cose_judge_hmac::HmacJudge;
+use cose_judge_hmac::gate_core::{Counts, GateFault, Judge, Limits, gate_strict_with, gate_with};
 use std::alloc::Global;
 
-/// The gate with the judge by these keys, and a line for each item.
-fn gate_lines<R: Read, W: Write, E: Write>(
+/// The gate through devices with small faults, and a line for each item.
+fn gate_lines<R: Read, W: Write, E: Write, J: Judge>(
     alloc: Global,
     limits: Limits,
     strict: bool,
-    keys: &CoseKeySet,
     aad: &[u8],
     input: &mut R,
     out: &mut W,
     err: &mut E,
-) -> Result<Counts, GateFault<R::Error>>
-    ensures ran { Gated (limits_by limits strict) (says_yes (key_set_view keys.now)) aad.now
-        (record { left = R.left input.old; written = W.written out.old; read_failures = R.failed input.old; write_failures = W.failed out.old })
-        (record { left = R.left input.new; written = W.written out.new; read_failures = R.failed input.new; write_failures = W.failed out.new })
-        result }
+    judge: &mut J,
+) -> Result<Counts, GateFault<InputFault>>
+    ensures ran { Gated (limits_by limits strict) (hearing_of J.Judge judge.old judge.new) aad.now
+        (devices_of R.Read W.Write input.old out.old)
+        (devices_of R.Read W.Write input.new out.new) result }
     ensures nothing { R.left input.old ≡ Some [] → R.failed input.new ≡ R.failed input.old → IsOk result }
     ensures reader { OnOk result (R.failed input.new ≡ R.failed input.old) }
     ensures writer { OnOk result (W.failed out.new ≡ W.failed out.old) }
     ensures more { W.failed out.old ≤ W.failed out.new }
+    ensures who { J.who judge.new ≡ J.who judge.old }
     ensures kept { R.handle input.new ≡ R.handle input.old }
     ensures lent { W.handle out.new ≡ W.handle out.old }
 {
-    let mut judge = HmacJudge::prepared(alloc, keys);
-    let mut decoder = Decoder::from(input);
+    let mut decoder = Decoder::from(Input { reader: input });
+    let mut output = Output { writer: out };
     let mut lines = Lines { out: err };
     if strict {
         return match gate_strict_with(
             alloc,
             limits,
             &mut decoder,
-            out,
+            &mut output,
             &mut lines,
             aad,
-            &mut judge,
+            judge,
         ) {
             Ok(counts) => Ok(counts),
             Err(fault) => Err(fault),
@@ -56,40 +55,41 @@ fn gate_lines<R: Read, W: Write, E: Write>(
         alloc,
         limits,
         &mut decoder,
-        out,
+        &mut output,
         &mut lines,
         aad,
-        &mut judge,
+        judge,
     ) {
         Ok(counts) => Ok(counts),
         Err(fault) => Err(fault),
     }
 }
 
-/// Runs the gate, flushes the output, and says how it ended.
-fn run_gate<R: Read, W: Write, E: Write>(
+/// The program's run with any judge: the gate over the input within these limits, and strict where that is asked, with `aad` as external
+/// data. The messages that passed go to `out`, which is flushed, and on `err` there are the lines that `run` tells of. The judge is asked
+/// about the items in order, about all of them where the status is 0 or 1.
+///
+/// The status is 0 where no item was refused, 1 where some were, and 4 where the gate stopped or memory was refused.
+pub fn run_judged<R: Read, W: Write, E: Write, J: Judge>(
     alloc: Global,
     limits: Limits,
     strict: bool,
-    keys: &CoseKeySet,
     aad: &[u8],
     input: &mut R,
     out: &mut W,
     err: &mut E,
+    judge: &mut J,
 ) -> u8
-    ensures ran { Ran (limits_by limits strict) (says_yes (key_set_view keys.now)) aad.now
-        (record { left = R.left input.old; written = W.written out.old; read_failures = R.failed input.old; write_failures = W.failed out.old })
-        (record { left = R.left input.new; written = W.written out.new; read_failures = R.failed input.new; write_failures = W.failed out.new })
-        result }
-    ensures nothing { R.left input.old ≡ Some [] → R.failed input.new ≡ R.failed input.old → W.failed out.new ≡ W.failed out.old
-        → result ≡ 0 }
-    ensures steady { result < 2 → (R.failed input.new ≡ R.failed input.old) × (W.failed out.new ≡ W.failed out.old) }
+    ensures ran { RanJudged (limits_by limits strict) (hearing_of J.Judge judge.old judge.new) aad.now
+        (devices_of R.Read W.Write input.old out.old)
+        (devices_of R.Read W.Write input.new out.new) result }
+    ensures who { J.who judge.new ≡ J.who judge.old }
     ensures kept { R.handle input.new ≡ R.handle input.old }
     ensures lent { W.handle out.new ≡ W.handle out.old }
 {
-    let gated = gate_lines(alloc, limits, strict, keys, aad, input, out, err);
+    let gated = gate_lines(alloc, limits, strict, aad, input, out, err, judge);
     if out.flush().is_err() {
-        say_fault::<R, E>(GateFault::Write, err);
+        say_fault(GateFault::Write, err);
         return 4;
     }
     match gated {
@@ -98,43 +98,10 @@ fn run_gate<R: Read, W: Write, E: Write>(
             if counts.refused == 0 { 0 } else { 1 }
         }
         Err(fault) => {
-            say_fault::<R, E>(fault, err);
+            say_fault(fault, err);
             4
         }
     }
-}
-
-/// The same through devices with small faults.
-fn run_small<R: Read, W: Write, E: Write>(
-    alloc: Global,
-    limits: Limits,
-    strict: bool,
-    keys: &CoseKeySet,
-    aad: &[u8],
-    input: &mut R,
-    out: &mut W,
-    err: &mut E,
-) -> u8
-    ensures ran { Ran (limits_by limits strict) (says_yes (key_set_view keys.now)) aad.now
-        (record { left = R.left input.old; written = W.written out.old; read_failures = R.failed input.old; write_failures = W.failed out.old })
-        (record { left = R.left input.new; written = W.written out.new; read_failures = R.failed input.new; write_failures = W.failed out.new })
-        result }
-    ensures nothing { R.left input.old ≡ Some [] → R.failed input.new ≡ R.failed input.old → W.failed out.new ≡ W.failed out.old
-        → result ≡ 0 }
-    ensures steady { result < 2 → (R.failed input.new ≡ R.failed input.old) × (W.failed out.new ≡ W.failed out.old) }
-{
-    let mut input = Input { reader: input };
-    let mut output = Output { writer: out };
-    run_gate(
-        alloc,
-        limits,
-        strict,
-        keys,
-        aad,
-        &mut input,
-        &mut output,
-        err,
-    )
 }
 
 /// As `run_with`, with the bytes of KEYS and the external data handed over as they are. The status is 3 where the bytes hold no key set, 4
@@ -150,12 +117,14 @@ pub fn run_over<R: Read, W: Write, E: Write>(
     err: &mut E,
 ) -> u8
     ensures { EndsOver (limits_by limits strict) says_yes keys.now aad.now
-        (record { left = R.left input.old; written = W.written out.old; read_failures = R.failed input.old; write_failures = W.failed out.old })
-        (record { left = R.left input.new; written = W.written out.new; read_failures = R.failed input.new; write_failures = W.failed out.new })
-        result }
+        (devices_of R.Read W.Write input.old out.old)
+        (devices_of R.Read W.Write input.new out.new) result }
 {
     match read_keys(alloc, keys) {
-        Ok(set) => run_small(alloc, limits, strict, &set, aad, input, out, err),
+        Ok(set) => {
+            let mut judge = HmacJudge::prepared(alloc, &set);
+            run_judged(alloc, limits, strict, aad, input, out, err, &mut judge)
+        }
         Err(why) => {
             say_not_begun(why, err);
             why.status()
@@ -176,21 +145,15 @@ pub fn run_with<R: Read, W: Write, E: Write>(
     err: &mut E,
 ) -> u8
     ensures { EndsWithin (limits_by limits strict) says_yes (option_copied keys.entry) (option_copied aad.entry)
-        (record { left = R.left input.old; written = W.written out.old; read_failures = R.failed input.old; write_failures = W.failed out.old })
-        (record { left = R.left input.new; written = W.written out.new; read_failures = R.failed input.new; write_failures = W.failed out.new })
-        result }
+        (devices_of R.Read W.Write input.old out.old)
+        (devices_of R.Read W.Write input.new out.new) result }
 {
     match begin(alloc, keys, aad) {
-        Ok(beginning) => run_small(
-            alloc,
-            limits,
-            strict,
-            &beginning.keys,
-            beginning.aad.as_slice(),
-            input,
-            out,
-            err,
-        ),
+        Ok(beginning) => {
+            let mut judge = HmacJudge::prepared(alloc, &beginning.keys);
+            let aad = beginning.aad.as_slice();
+            run_judged(alloc, limits, strict, aad, input, out, err, &mut judge)
+        }
         Err(why) => {
             say_not_begun(why, err);
             why.status()
@@ -218,9 +181,8 @@ pub fn run<R: Read, W: Write, E: Write>(
     err: &mut E,
 ) -> u8
     ensures { Ends says_yes (option_copied keys.entry) (option_copied aad.entry)
-        (record { left = R.left input.old; written = W.written out.old; read_failures = R.failed input.old; write_failures = W.failed out.old })
-        (record { left = R.left input.new; written = W.written out.new; read_failures = R.failed input.new; write_failures = W.failed out.new })
-        result }
+        (devices_of R.Read W.Write input.old out.old)
+        (devices_of R.Read W.Write input.new out.new) result }
 {
     run_with(alloc, Limits::default(), false, keys, aad, input, out, err)
 }
