@@ -2,10 +2,11 @@
 use Rattle.std.proofs.Common.{rules, ◌≡◌, ℕ, ◌<◌, ◌≤◌, ◌+◌, ◌^◌, List, [], ◌∷◌, ◌++◌, length, take, drop, get_or, flat_map, Bool, true, false, nat_eq, refl, sym, ap, ◌∙◌, arith, append_assoc, length-append}
 use Rattle.std.specs.Bool.{Decides}
 use Rattle.std.specs.Int.{w64, to_le_bytes, from_le_bytes}
+use Rattle.std.specs.Str.{bytes_eq}
 use Rattle.std.specs.Cmp.{unsigned_Decides}
 use Rattle.std.specs.Cmp.Lexicographic.{pointwise}
 use Rattle.std.proofs.lemmas.Nat.{le_bytes_8, from_le_bytes-to_le_bytes_8}
-use Rattle.std.proofs.lemmas.Slice.Eq.{slice_eq-Decides}
+use Rattle.std.proofs.lemmas.Slice.Eq.{slice_eq-Decides, bytes_eq-Decides}
 use Rattle.std.proofs.lemmas.List.{append_cancel_left, append-nil, take-append-drop}
 use Rattle.std.proofs.Math.Seq.{take-append_seam, drop-append_seam}
 use Rattle.cose_asked.specs.Framing.{eight, framed, key_by}
@@ -47,8 +48,8 @@ fronts p q x y l e =
 behinds : (p q x y : List ℕ) → p ≡ q → p ++ x ≡ q ++ y → x ≡ y
 behinds p q x y l e = append_cancel_left q x y (ap (λ (z : List ℕ). z ++ x) (sym l) ∙ e)
 
-same_length : (m n : ℕ) → m < 2 ^ 64 → n < 2 ^ 64 → eight m ≡ eight n → m ≡ n
-same_length m n hm hn e = sym (eight-back m hm) ∙ (ap (λ (z : List ℕ). from_le_bytes w64 z) e ∙ eight-back n hn)
+pub same_eights : (m n : ℕ) → m < 2 ^ 64 → n < 2 ^ 64 → eight m ≡ eight n → m ≡ n
+same_eights m n hm hn e = sym (eight-back m hm) ∙ (ap (λ (z : List ℕ). from_le_bytes w64 z) e ∙ eight-back n hn)
 
 pub same_frames : (p q x y : List ℕ) → length p < 2 ^ 64 → length q < 2 ^ 64 → framed p ++ x ≡ framed q ++ y → (p ≡ q) × (x ≡ y)
 same_frames p q x y hp hq e =
@@ -57,7 +58,7 @@ same_frames p q x y hp hq e =
     let heads : eight (length p) ≡ eight (length q)
     = fronts (eight (length p)) (eight (length q)) (p ++ x) (q ++ y) (length-eight (length p) ∙ sym (length-eight (length q))) a in
     let tails : p ++ x ≡ q ++ y = behinds (eight (length p)) (eight (length q)) (p ++ x) (q ++ y) heads a in
-    let same : p ≡ q = fronts p q x y (same_length (length p) (length q) hp hq heads) tails in
+    let same : p ≡ q = fronts p q x y (same_eights (length p) (length q) hp hq heads) tails in
     (same, behinds p q x y same tails)
 
 pub length-framed : (p : List ℕ) → length (framed p) ≡ 8 + length p
@@ -106,7 +107,7 @@ cut_short bytes head rest p r n h hn hd rs is few e =
     = rs ∙ (ap (λ (b : List ℕ). drop 8 b) e1 ∙ (ap (λ (k : ℕ). drop k (eight (length p) ++ (p ++ r))) (sym n8) ∙ drop-append_seam (eight (length p)) (p ++ r))) in
     let l : length bytes ≡ (8 + length p) + length r
     = ap (λ (b : List ℕ). length b) e ∙ (length-append (framed p) r ∙ ap (λ (k : ℕ). k + length r) (length-framed p)) in
-    let m : n ≡ length p = same_length n (length p) hn (omega (arith, l, h)) (is ∙ hd1) in
+    let m : n ≡ length p = same_eights n (length p) hn (omega (arith, l, h)) (is ∙ hd1) in
     let k : length rest ≡ length p + length r = ap (λ (b : List ℕ). length b) rs1 ∙ length-append p r in
     omega (arith, m, k, few)
 
@@ -148,3 +149,57 @@ shorter rest piece more e =
     let l : length rest ≡ (8 + length piece) + length more
     = ap (λ (b : List ℕ). length b) e ∙ (length-append (framed piece) more ∙ ap (λ (k : ℕ). k + length more) (length-framed piece)) in
     omega (arith, l)
+
+-- framed pieces, one behind another, are of one list of so many pieces
+pub same_pieces : (ps qs : List (List ℕ)) → length ps ≡ length qs → length (flat_map framed ps) < 2 ^ 64
+    → flat_map framed ps ≡ flat_map framed qs → ps ≡ qs
+same_pieces [] [] l h e = refl
+same_pieces [] (q ∷ qs) l h e = grind (arith, l)
+same_pieces (p ∷ ps) [] l h e = grind (arith, l)
+same_pieces (p ∷ ps) (q ∷ qs) l h e =
+    let a : length (framed p ++ flat_map framed ps) ≡ (8 + length p) + length (flat_map framed ps)
+    = length-append (framed p) (flat_map framed ps) ∙ ap (λ (n : ℕ). n + length (flat_map framed ps)) (length-framed p) in
+    let b : length (framed p ++ flat_map framed ps) ≡ (8 + length q) + length (flat_map framed qs)
+    = ap (λ (z : List ℕ). length z) e ∙ (length-append (framed q) (flat_map framed qs)
+        ∙ ap (λ (n : ℕ). n + length (flat_map framed qs)) (length-framed q)) in
+    let w = same_frames p q (flat_map framed ps) (flat_map framed qs) (omega (arith, a, h)) (omega (arith, b, h)) e in
+    ap (λ (z : List ℕ). z ∷ ps) w.0 ∙ ap (λ (z : List (List ℕ)). q ∷ z) (same_pieces ps qs (omega (arith, l)) (omega (arith, a, h)) w.1)
+
+-- a number and such pieces
+pub same_numbered : (m n : ℕ) (x y : List ℕ) → m < 2 ^ 64 → n < 2 ^ 64 → eight m ++ x ≡ eight n ++ y → (m ≡ n) × (x ≡ y)
+same_numbered m n x y hm hn e =
+    let heads : eight m ≡ eight n = fronts (eight m) (eight n) x y (length-eight m ∙ sym (length-eight n)) e in
+    (same_eights m n hm hn heads, behinds (eight m) (eight n) x y heads e)
+
+-- a key as a number and framed pieces
+pub assoc_six : (a b c d e f g h : List ℕ) → (a ++ (b ++ (c ++ (d ++ (e ++ f))))) ++ (g ++ h) ≡ a ++ (b ++ (c ++ (d ++ (e ++ (f ++ (g ++ (h ++ [])))))))
+assoc_six a b c d e f g h = simp (append_assoc, append-nil) refl
+
+not_true : (b : Bool) → (b ≡ true → ⊥) → b ≡ false
+not_true true none = elim (none refl) [ ]
+not_true false none = refl
+
+-- what `==` answers of keys
+pub differs : (xs ys : List ℕ) → (xs ≡ ys → ⊥) → bytes_eq xs ys ≡ false
+differs xs ys none = not_true (bytes_eq xs ys) (λ t. none ((bytes_eq-Decides xs ys).0 t))
+
+pub equals : (xs ys : List ℕ) → xs ≡ ys → bytes_eq xs ys ≡ true
+equals xs ys e = (bytes_eq-Decides xs ys).1 e
+
+-- whether a text is a key, where it begins with all that the key has
+pub ends_so : (b : Bool) (key front rest more last covered signature : List ℕ) → key ≡ front ++ rest → rest ≡ framed covered ++ more
+    → more ≡ framed signature ++ last → b ≡ nat_eq (length last) 0 → b ≡ bytes_eq key (key_by front covered signature)
+ends_so b key front rest more [] covered signature is is1 is2 e =
+    let same : key ≡ key_by front covered signature
+    = is ∙ (ap (λ (z : List ℕ). front ++ z) (is1 ∙ ap (λ (z : List ℕ). framed covered ++ z) (is2 ∙ append-nil (framed signature)))) in
+    e ∙ sym (equals key (key_by front covered signature) same)
+ends_so b key front rest more (x ∷ xs) covered signature is is1 is2 e =
+    let other : key ≡ key_by front covered signature → ⊥
+    = λ (s : key ≡ key_by front covered signature).
+        let a : rest ≡ framed covered ++ framed signature = append_cancel_left front rest (framed covered ++ framed signature) (sym is ∙ s) in
+        let c : more ≡ framed signature = append_cancel_left (framed covered) more (framed signature) (sym is1 ∙ a) in
+        let l : length (framed signature ++ (x ∷ xs)) ≡ length (framed signature) = ap (λ (z : List ℕ). length z) (sym is2 ∙ c) in
+        let k : length (framed signature ++ (x ∷ xs)) ≡ length (framed signature) + length (x ∷ xs) = length-append (framed signature) (x ∷ xs) in
+        omega (arith, l, k) in
+    let f : b ≡ false = grind (arith, e) in
+    f ∙ sym (differs key (key_by front covered signature) other)

@@ -1,9 +1,14 @@
 //! A begun question.
-ghost use Rattle.std.specs.Prelude.{◌≡◌, ◌++◌, ◌<◌, ◌^◌, [], ◌∷◌, IfOk, OnOk, OnErr, MatchBool, length};
-ghost use Rattle.cose_asked.specs.Framing.{key_by, framed};
+ghost use Rattle.std.specs.Prelude.{◌≡◌, ◌++◌, ℕ, List, [], ◌∷◌, IfOk, OnOk, OnErr, length};
+ghost use Rattle.std.specs.Str.{bytes_eq};
+ghost use Rattle.cose_gate_core.specs.Lent.{subject_of};
+ghost use Rattle.cose_gate_core.specs.Questions.{Subject};
+ghost use Rattle.cose_asked.specs.Framing.{key_by};
+ghost use Rattle.cose_asked.specs.Kept.{IsHeld, pieces_of};
 
 use crate::framing::{append, behind, behind_framed};
-use ciborium_ll::log::Log;
+use crate::front::front_of;
+use cose_gate_core::{About, Log};
 use std::alloc::{AllocError, Global};
 
 /// What is held of a question: the front of its key, which says what it is about, and the covered bytes so far.
@@ -15,12 +20,32 @@ pub(crate) struct Held {
 }
 
 impl Held {
+    /// No question is held.
+    pub(crate) fn new(alloc: Global) -> Held {
+        Held {
+            front: Vec::new(alloc),
+            covered: Vec::new(alloc),
+            pieces: Log::new(),
+        }
+    }
+
+    /// Begins a question, and forgets one that was begun.
+    pub(crate) fn begin(&mut self, alloc: Global, about: &About) -> Result<(), AllocError>
+        ensures holds { OnOk result (IsHeld self.new (subject_of about.now) []) }
+        ensures pieces { OnOk result (pieces_of self.new ≡ []) }
+    {
+        self.front = front_of(alloc, about)?;
+        self.covered.clear();
+        self.pieces = Log::new();
+        Ok(())
+    }
+
     /// Takes the next piece of the covered bytes.
     pub(crate) fn feed(&mut self, piece: &[u8]) -> Result<(), AllocError>
-        ensures covered { OnOk result (self.new.covered.items ≡ self.old.covered.items ++ piece.now) }
-        ensures front { self.new.front ≡ self.old.front }
-        ensures pieces { OnOk result (self.new.pieces.items ≡ self.old.pieces.items ++ length piece.now ∷ []) }
-        ensures refused { OnErr result (self.new.pieces.items ≡ self.old.pieces.items) }
+        ensures holds { OnOk result ((subject : Subject) (covered : List ℕ)
+            → IsHeld self.old subject covered → IsHeld self.new subject (covered ++ piece.now)) }
+        ensures pieces { OnOk result (pieces_of self.new ≡ pieces_of self.old ++ length piece.now ∷ []) }
+        ensures refused { OnErr result (pieces_of self.new ≡ pieces_of self.old) }
     {
         self.covered.extend_from_slice(piece)?;
         self.pieces = self.pieces.and(&piece.len());
@@ -29,7 +54,8 @@ impl Held {
 
     /// The key of the question with this signature.
     pub(crate) fn key(&self, alloc: Global, signature: &[u8]) -> Result<Vec<u8>, AllocError>
-        ensures { IfOk result (λ key. key.items ≡ key_by self.now.front.items self.now.covered.items signature.now) }
+        ensures { IfOk result (λ key. key.items
+            ≡ key_by self.now.front.items self.now.covered.items signature.now) }
     {
         let mut key = Vec::new(alloc);
         key.extend_from_slice(&self.front)?;
@@ -40,9 +66,8 @@ impl Held {
 
     /// Whether this is the key of the question with this signature.
     pub(crate) fn is_key(&self, key: &[u8], signature: &[u8]) -> bool
-        ensures { MatchBool result
-            (key.now ≡ key_by self.now.front.items self.now.covered.items signature.now)
-            (key.now ≡ key_by self.now.front.items self.now.covered.items signature.now → ⊥) }
+        ensures { result ≡ bytes_eq key.now
+            (key_by self.now.front.items self.now.covered.items signature.now) }
     {
         let Some(rest) = behind(key, &self.front) else {
             return false;
