@@ -1,5 +1,5 @@
 //! A judge by the records of the questions that were accepted.
-ghost use Rattle.std.specs.Prelude.{◌≡◌, ◌++◌, ℕ, List, [], ◌∷◌, Unit, OnOk, OnErr, IfOk, MatchOption, flat_map, length};
+ghost use Rattle.std.specs.Prelude.{◌≡◌, ◌++◌, ℕ, List, [], ◌∷◌, OnOk, OnErr, IfOk, MatchOption, flat_map, length};
 ghost use Rattle.std.specs.List.{list_any};
 ghost use Rattle.std.specs.Str.{bytes_eq};
 ghost use Rattle.cose_gate_core.specs.Lent.{subject_of};

@@ -1,5 +1,5 @@
 //! A judge that tells each question.
-ghost use Rattle.std.specs.Prelude.{◌≡◌, ◌++◌, ℕ, List, [], ◌∷◌, Unit, true, OnOk, OnErr, MatchOption, length};
+ghost use Rattle.std.specs.Prelude.{◌≡◌, ◌++◌, ℕ, List, [], ◌∷◌, true, OnOk, OnErr, MatchOption, length};
 ghost use Rattle.cose_gate_core.specs.Lent.{subject_of};
 ghost use Rattle.cose_gate_core.specs.Questions.{Subject};
 ghost use Rattle.cose_asked.specs.Kept.{IsHeld, pieces_of, told_by};
