@@ -13,7 +13,8 @@ may_judge p u = alg_is_hmac p && (crit_is_known (header_in p) && crit_is_known u
 
 -- the secret that its tag is made with: that of the first key that fits
 abbrev pub secret_for : List KeyFields → ProtectedFields → HeaderFields → Option (List ℕ)
-secret_for keys p u = if may_judge p u then option_and_then secret (first_fit (message_id p u) keys) else None
+secret_for keys p u =
+    if may_judge p u then option_and_then secret (first_fit (message_id p u) keys) else None
 
 -- the whole tag, and no other
 abbrev pub is_tag_under : Option (List ℕ) → List ℕ → List ℕ → Bool

@@ -11,7 +11,9 @@ secret k = secret_in k.params
 
 -- a key fits a message with this key id, which may be empty
 abbrev pub fits : List ℕ → KeyFields → Bool
-fits id k = bytes_eq k.key_id id && (is_symmetric k.kty && (is_some (secret k) && (allows_hmac k.alg && allows_verify k.key_ops)))
+fits id k =
+    bytes_eq k.key_id id
+    && (is_symmetric k.kty && (is_some (secret k) && (allows_hmac k.alg && allows_verify k.key_ops)))
 
 -- the first that fits
 abbrev pub first_fit : List ℕ → List KeyFields → Option KeyFields

@@ -69,7 +69,8 @@ fn judge_by<'a>(keys: Keys<'a>) -> HmacJudge<'a>
 
 /// The secret that the tag of a COSE_Mac0 is made with.
 fn secret_about<'a>(keys: &'a CoseKeySet, about: &About) -> Option<&'a [u8]>
-    ensures { option_copied result ≡ spec.secret_about (key_set_view keys.now) (subject_of about.now) }
+    ensures { option_copied result
+        ≡ spec.secret_about (key_set_view keys.now) (subject_of about.now) }
 {
     match about.kind {
         Kind::Mac0 => secret_for(keys, about.protected, about.unprotected),
@@ -78,7 +79,8 @@ fn secret_about<'a>(keys: &'a CoseKeySet, about: &About) -> Option<&'a [u8]>
 }
 
 fn feed_into(mac: &mut Option<HmacSha256>, piece: &[u8])
-    ensures { (secret : Option (List ℕ)) (covered : List ℕ) → Makes mac.old secret covered → Makes mac.new secret (covered ++ piece.now) }
+    ensures { (secret : Option (List ℕ)) (covered : List ℕ) → Makes mac.old secret covered
+        → Makes mac.new secret (covered ++ piece.now) }
 {
     if let Some(mac) = mac {
         mac.update(piece);
@@ -86,7 +88,8 @@ fn feed_into(mac: &mut Option<HmacSha256>, piece: &[u8])
 }
 
 fn is_made(mac: Option<HmacSha256>, tag: &[u8]) -> bool
-    ensures { (secret : Option (List ℕ)) (covered : List ℕ) → Makes mac secret covered → result ≡ is_tag_under secret covered tag.now }
+    ensures { (secret : Option (List ℕ)) (covered : List ℕ) → Makes mac secret covered
+        → result ≡ is_tag_under secret covered tag.now }
 {
     match mac {
         Some(mac) => same_tag(&mac.finalize(), tag),
@@ -103,7 +106,8 @@ impl Judge for HmacJudge<'_> {
 
     ghost told = { λ _. tt };
 
-    ghost holds = { λ j subject covered. Makes j.mac (spec.secret_about (keys_of j) subject) covered };
+    ghost holds = { λ j subject covered.
+        Makes j.mac (spec.secret_about (keys_of j) subject) covered };
 
     ghost pieces = { λ j. j.pieces.items };
 
@@ -113,7 +117,8 @@ impl Judge for HmacJudge<'_> {
 
     fn begin(&mut self, about: &About) -> Result<(), AllocError>
         ensures ready { IsOk result }
-        ensures holds { OnOk result (Makes self.new.mac (spec.secret_about (keys_of self.new) (subject_of about.now)) []) }
+        ensures holds { OnOk result (Makes self.new.mac
+            (spec.secret_about (keys_of self.new) (subject_of about.now)) []) }
         ensures pieces { OnOk result (self.new.pieces.items ≡ []) }
         ensures who { keys_of self.new ≡ keys_of self.old }
     {
@@ -126,8 +131,10 @@ impl Judge for HmacJudge<'_> {
         ensures ready { IsOk result }
         ensures holds { OnOk result ((subject : Subject) (covered : List ℕ)
             → Makes self.old.mac (spec.secret_about (keys_of self.old) subject) covered
-            → Makes self.new.mac (spec.secret_about (keys_of self.new) subject) (covered ++ piece.now)) }
-        ensures pieces { OnOk result (self.new.pieces.items ≡ self.old.pieces.items ++ length piece.now ∷ []) }
+            → Makes self.new.mac (spec.secret_about (keys_of self.new) subject)
+            (covered ++ piece.now)) }
+        ensures pieces { OnOk result (self.new.pieces.items
+            ≡ self.old.pieces.items ++ length piece.now ∷ []) }
         ensures refused { OnErr result (self.new.pieces.items ≡ self.old.pieces.items) }
         ensures who { keys_of self.new ≡ keys_of self.old }
     {

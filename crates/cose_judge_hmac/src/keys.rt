@@ -11,7 +11,8 @@ use coset_keys::{CoseKey, CoseKeySet};
 
 /// The first key that fits a message with this key id.
 pub fn find_key<'a>(keys: &'a CoseKeySet, id: &[u8]) -> Option<&'a CoseKey>
-    ensures { option_map key_view (option_copied result) ≡ first_fit id.now (key_set_view keys.now) }
+    ensures { option_map key_view (option_copied result)
+        ≡ first_fit id.now (key_set_view keys.now) }
 {
     first_that_fits(&keys.0, id)
 }

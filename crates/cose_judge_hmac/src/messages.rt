@@ -22,7 +22,8 @@ pub fn alg_is_hmac(protected: &ProtectedHeader) -> bool
 
 /// The key id of a message: that of its protected header, or of the other where that one has none (RFC 9052, section 3.1).
 pub fn message_id<'a>(protected: &'a ProtectedHeader, unprotected: &'a Header) -> &'a [u8]
-    ensures { result.now ≡ spec.message_id (protected_view protected.now) (header_view unprotected.now) }
+    ensures { result.now
+        ≡ spec.message_id (protected_view protected.now) (header_view unprotected.now) }
 {
     first_id(&protected.header.key_id, &unprotected.key_id)
 }

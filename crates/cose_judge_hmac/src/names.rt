@@ -59,7 +59,8 @@ pub(crate) fn is_verify(operation: &RegisteredLabel<iana::KeyOperation>) -> bool
 
 /// Whether each of these labels is understood.
 pub(crate) fn all_understood(labels: &[RegisteredLabelWithPrivate<iana::HeaderParameter>]) -> bool
-    ensures { result ≡ list_all (λ l. spec.is_understood (named_view header_parameters.number l)) labels.now }
+    ensures { result
+        ≡ list_all (λ l. spec.is_understood (named_view header_parameters.number l)) labels.now }
 {
     labels.iter().all(|label| is_understood(label))
 }
@@ -86,7 +87,8 @@ pub(crate) fn allows_hmac(alg: &Option<Algorithm>) -> bool
 
 /// Whether a key with these operations may verify a MAC.
 pub(crate) fn allows_verify(operations: &BTreeSet<RegisteredLabel<iana::KeyOperation>>) -> bool
-    ensures { result ≡ spec.allows_verify (map (registered_view key_operations.number) operations.now.keys) }
+    ensures { result
+        ≡ spec.allows_verify (map (registered_view key_operations.number) operations.now.keys) }
 {
     if operations.is_empty() {
         return true;
@@ -95,7 +97,8 @@ pub(crate) fn allows_verify(operations: &BTreeSet<RegisteredLabel<iana::KeyOpera
 }
 
 fn any_verify(operations: &BTreeSet<RegisteredLabel<iana::KeyOperation>>) -> bool
-    ensures { result ≡ list_any (λ k. spec.is_verify (registered_view key_operations.number k)) operations.now.keys }
+    ensures { result ≡ list_any (λ k. spec.is_verify (registered_view key_operations.number k))
+        operations.now.keys }
 {
     operations.iter().any(|operation| is_verify(operation))
 }

@@ -80,7 +80,8 @@ fn begun_with(ready: &Ready) -> Option<HmacSha256>
 
 /// The tag of a COSE_Mac0 with these headers, of no text yet.
 fn begun_for(all: &[Ready], protected: &ProtectedHeader, unprotected: &Header) -> Option<HmacSha256>
-    ensures { Makes result (judging.secret_for (map ready_view all.now) (protected_view protected.now) (header_view unprotected.now)) [] }
+    ensures { Makes result (judging.secret_for (map ready_view all.now)
+        (protected_view protected.now) (header_view unprotected.now)) [] }
 {
     if !may_judge(protected, unprotected) {
         return None;

@@ -18,7 +18,8 @@ pub fn secret_for<'a>(
     protected: &ProtectedHeader,
     unprotected: &Header,
 ) -> Option<&'a [u8]>
-    ensures { option_copied result ≡ spec.secret_for (key_set_view keys.now) (protected_view protected.now) (header_view unprotected.now) }
+    ensures { option_copied result ≡ spec.secret_for (key_set_view keys.now)
+        (protected_view protected.now) (header_view unprotected.now) }
 {
     if !may_judge(protected, unprotected) {
         return None;
@@ -45,7 +46,8 @@ pub fn is_good_tag(
     covered: &[u8],
     tag: &[u8],
 ) -> bool
-    ensures { result ≡ hmac_yes (key_set_view keys.now) (protected_view protected.now) (header_view unprotected.now) covered.now tag.now }
+    ensures { result ≡ hmac_yes (key_set_view keys.now)
+        (protected_view protected.now) (header_view unprotected.now) covered.now tag.now }
 {
     match secret_for(keys, protected, unprotected) {
         Some(secret) => same_tag(&hmac_sha256(secret, covered), tag),

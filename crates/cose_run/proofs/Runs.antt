@@ -1,7 +1,8 @@
 -- The program's answers, from the gate's.
-use Rattle.std.proofs.Common.{◌≡◌, ◌≢◌, ℕ, ◌+◌, ◌<◌, ◌≤◌, inl, inr, List, [], ◌∷◌, ◌++◌, length, map, Option, None, Some, Bool, cond, false, nat_eq, refl, sym, ap, subst, ◌∙◌, arith, append-nil, append_assoc, length-append}
+use Rattle.std.proofs.Common.{◌≡◌, ◌≢◌, ℕ, ◌+◌, ◌<◌, ◌≤◌, inl, inr, List, [], ◌∷◌, ◌++◌, length, map, Option, None, Some, Bool, cond, false, true, nat_eq, refl, sym, ap, subst, ◌∙◌, arith, append-nil, append_assoc, length-append}
 use Rattle.std.proofs.lemmas.Bool.Decides.{nat_tests}
-use Rattle.std.specs.Prelude.{Result, Ok, Err, IsOk}
+use Rattle.std.proofs.lemmas.Bool.{true≢false}
+use Rattle.std.specs.Prelude.{Result, Ok, Err, IsOk, is_err}
 use Rattle.std.specs.Io.KnownBytes.{Appends, Keeps}
 use Rattle.std.proofs.lemmas.Grind.{flat_map-append}
 use Rattle.ciborium_ll.specs.Device.{write_failures}
@@ -165,25 +166,28 @@ module _ {T S E : Type 0} (ends : E → Bool) (by : Rules T S) (old new : Sight 
           (questions_of by.allows by.aad (w.done ++ w.last)) (questions_then by.allows by.aad w.done w.last) w.asked_front;
       tells = w.told;
     };
-    all = λ not. absurd not;
+    all = λ whole. absurd (true≢false (sym whole));
   }
 
-  -- the gate's answer over a decoder that began here
-  pub gated : (limits : Limits) (waiting : Option Header) (l l' : Option (List ℕ)) (n n' f f' : ℕ)
+  -- the gate's answer over a decoder that began here; the output is seen where it was lent from
+  pub gated : (limits : Limits) (waiting : Option Header) (l l' w' : Option (List ℕ)) (n n' f f' fails : ℕ)
       (r r' : Result Counts (GateFault E)) → limits ≡ by.limits → old.offset ≡ 0 → waiting ≡ None
-      → old.left ≡ due l waiting → r' ≡ r → Answers ends by old new r → f' ≡ f + writer_failures r
-      → Gated limits heard_by by.aad (devices l old.written n f) (devices l' new.written n' f') r'
-  gated limits waiting l l' n n' f f' r r' same z w is answer a fails =
+      → old.left ≡ due l waiting → r' ≡ r → Answers ends by old new r → fails ≡ f + writer_failures r
+      → w' ≡ new.written → f' ≡ fails
+      → Gated limits heard_by by.aad (devices l old.written n f) (devices l' w' n' f') r'
+  gated limits waiting l l' w' n n' f f' fails r r' same z w is answer a grown sent counted =
       let whole : Gated by.limits heard_by by.aad (devices l old.written n f) (devices l' new.written n' f') r = record {
         input = a.input;
         is = subst (λ (o : Option (List ℕ)). IfKnown o (λ b. b ≡ a.input)) (is ∙ ap (due l) w ∙ due_none l) a.is;
         steps = steps_by a.input r a.outcome;
-        over = gated_over l l' n n' f f' a.input r a.outcome z fails;
+        over = gated_over l l' n n' f f' a.input r a.outcome z (counted ∙ grown);
         heard = heard_over a.input r a.outcome;
       } in
       let there : Gated limits heard_by by.aad (devices l old.written n f) (devices l' new.written n' f') r
       = subst (λ (o : Limits). Gated o heard_by by.aad (devices l old.written n f) (devices l' new.written n' f') r) (sym same) whole in
-      subst (λ (o : Result Counts (GateFault E)). Gated limits heard_by by.aad (devices l old.written n f) (devices l' new.written n' f') o) (sym answer) there
+      let lent : Gated limits heard_by by.aad (devices l old.written n f) (devices l' w' n' f') r
+      = subst (λ (o : Option (List ℕ)). Gated limits heard_by by.aad (devices l old.written n f) (devices l' o n' f') r) (sym sent) there in
+      subst (λ (o : Result Counts (GateFault E)). Gated limits heard_by by.aad (devices l old.written n f) (devices l' w' n' f') o) (sym answer) lent
 
 not_zero : (n : ℕ) → n ≢ 0 → ◌≡◌ {A = ℕ} 1 (cond {A = ℕ} (nat_eq n 0) 0 1)
 not_zero n not = grind (arith, nat_tests)
@@ -200,21 +204,34 @@ grows : {X F : Type 0} (answer : Result X F) (m n : ℕ) → n ≡ write_failure
 grows (Ok x) m n e = let h : n ≡ m = e in omega arith
 grows (Err x) m n e = let h : n ≡ m + 1 = e in omega arith
 
+-- one that has failed once more isn't where it was
+pub one_more : (a b c : ℕ) → a ≤ b → c ≡ b + 1 → c ≡ a → ⊥
+one_more a b c p q e = absurd (omega arith)
+
 between : (a b c : ℕ) → a ≤ b → b ≤ c → c ≡ a → b ≡ a
 between a b c p q e = omega arith
 
-module _ {T E : Type 0} (limits : Limits) (hearing : Hearing T) (aad : List ℕ) (old mid new : Devices) where
-  -- the output was flushed
-  then_flushed : (b : List ℕ) (steps : List Step) (n : ℕ) → Keeps mid.written new.written
-      → Through limits hearing.allows aad old mid b steps n → Through limits hearing.allows aad old new b steps n
-  then_flushed b steps n keeps t = record {
-    course = t.course;
-    writes = flushed old.written mid.written new.written (output_of hearing.allows aad steps) keeps t.writes;
-    refused_is = t.refused_is;
-  }
+-- the output was flushed
+then_flushed : (limits : Limits) (allows : Question → Bool) (aad : List ℕ) (old mid new : Devices) (b : List ℕ) (steps : List Step) (n : ℕ)
+    → Keeps mid.written new.written → Through limits allows aad old mid b steps n → Through limits allows aad old new b steps n
+then_flushed limits allows aad old mid new b steps n keeps t = record {
+  course = t.course;
+  writes = flushed old.written mid.written new.written (output_of allows aad steps) keeps t.writes;
+  refused_is = t.refused_is;
+}
 
+-- a flush that failed counts, and one that didn't doesn't
+pub flush_failed : {X F : Type 0} (answer : Result X F) (m n : ℕ) → true ≡ is_err answer → n ≡ write_failures answer m → n ≡ m + 1
+flush_failed (Ok x) m n is e = absurd (true≢false is)
+flush_failed (Err x) m n is e = e
+
+pub flush_passed : {X F : Type 0} (answer : Result X F) (m n : ℕ) → false ≡ is_err answer → n ≡ write_failures answer m → n ≡ m
+flush_passed (Ok x) m n is e = e
+flush_passed (Err x) m n is e = absurd (true≢false (sym is))
+
+module _ {T : Type 0} (limits : Limits) (hearing : Hearing T) (aad : List ℕ) (old mid new : Devices) where
   -- some items were refused
-  pub ran_some : (counts : Counts) → (let r : Result Counts (GateFault E) = Ok counts in Gated limits hearing aad old mid r)
+  pub ran_some : (counts : Counts) {E : Type 0} → (let r : Result Counts (GateFault E) = Ok counts in Gated limits hearing aad old mid r)
       → counts.refused ≢ 0 → (old.left ≡ Some [] → counts.refused ≡ 0) → Keeps mid.written new.written
       → (new.read_failures ≡ old.read_failures) × (new.write_failures ≡ old.write_failures)
       → RanJudged limits hearing aad old new 1
@@ -224,16 +241,16 @@ module _ {T E : Type 0} (limits : Limits) (hearing : Hearing T) (aad : List ℕ)
         input = g.input;
         is = g.is;
         steps = g.steps;
-        over = inl (counts.refused, then_flushed g.input g.steps counts.refused keeps g.over, not_zero counts.refused not);
+        over = inl (counts.refused, then_flushed limits hearing.allows aad old mid new g.input g.steps counts.refused keeps g.over, not_zero counts.refused not);
       };
       nothing = λ empty _ _. absurd (not (none empty));
       steady = λ _. steady;
     };
-    heard = record { told = g.heard.told; all = λ _. g.heard.all tt };
+    heard = record { told = g.heard.told; all = λ _. g.heard.all refl };
   }
 
   -- none was
-  pub ran_none : (counts : Counts) → (let r : Result Counts (GateFault E) = Ok counts in Gated limits hearing aad old mid r)
+  pub ran_none : (counts : Counts) {E : Type 0} → (let r : Result Counts (GateFault E) = Ok counts in Gated limits hearing aad old mid r)
       → counts.refused ≡ 0 → Keeps mid.written new.written
       → (new.read_failures ≡ old.read_failures) × (new.write_failures ≡ old.write_failures)
       → RanJudged limits hearing aad old new 0
@@ -243,21 +260,21 @@ module _ {T E : Type 0} (limits : Limits) (hearing : Hearing T) (aad : List ℕ)
         input = g.input;
         is = g.is;
         steps = g.steps;
-        over = inl (counts.refused, then_flushed g.input g.steps counts.refused keeps g.over, sym (ap (λ (n : ℕ). cond {A = ℕ} (nat_eq n 0) 0 1) zero));
+        over = inl (counts.refused, then_flushed limits hearing.allows aad old mid new g.input g.steps counts.refused keeps g.over, sym (ap (λ (n : ℕ). cond {A = ℕ} (nat_eq n 0) 0 1) zero));
       };
       nothing = λ _ _ _. refl;
       steady = λ _. steady;
     };
-    heard = record { told = g.heard.told; all = λ _. g.heard.all tt };
+    heard = record { told = g.heard.told; all = λ _. g.heard.all refl };
   }
 
   -- it stopped, or the flush failed
-  pub ran_stopped : (r : Result Counts (GateFault E)) {X F : Type 0} (answer : Result X F) → Gated limits hearing aad old mid r
+  pub ran_stopped : {E : Type 0} (r : Result Counts (GateFault E)) {X F : Type 0} (answer : Result X F) → Gated limits hearing aad old mid r
       → old.write_failures ≤ mid.write_failures → new.write_failures ≡ write_failures answer mid.write_failures
       → Keeps mid.written new.written
       → (old.left ≡ Some [] → new.read_failures ≡ old.read_failures → new.write_failures ≡ old.write_failures → ⊥)
       → RanJudged limits hearing aad old new 4
-  ran_stopped r answer g more fails keeps fault = record {
+  ran_stopped {E = E} r answer g more fails keeps fault = record {
     on = record {
       ran = record { input = g.input; is = g.is; steps = g.steps; over = inr (part r g.over, refl) };
       nothing = λ empty reads writes. absurd (fault empty reads writes);
@@ -289,9 +306,9 @@ module _ {T E : Type 0} (limits : Limits) (hearing : Hearing T) (aad : List ℕ)
         whole = λ same. o.whole (same_then same);
       }
 
-module _ {T E : Type 0} (limits : Limits) (hearing : Hearing T) (aad : List ℕ) (old mid : Devices) where
+module _ {T : Type 0} (limits : Limits) (hearing : Hearing T) (aad : List ℕ) (old mid : Devices) where
   -- of nothing no item is refused
-  pub none_refused : (counts : Counts) → (let r : Result Counts (GateFault E) = Ok counts in Gated limits hearing aad old mid r)
+  pub none_refused : (counts : Counts) {E : Type 0} → (let r : Result Counts (GateFault E) = Ok counts in Gated limits hearing aad old mid r)
       → old.left ≡ Some [] → counts.refused ≡ 0
   none_refused counts g e = of (subst (λ (z : List ℕ). Through limits hearing.allows aad old mid z g.steps counts.refused)
       (sym (subst (λ (z : Option (List ℕ)). IfKnown z (λ b. b ≡ g.input)) e g.is)) g.over)

@@ -15,7 +15,8 @@ use Rattle.cose_run.specs.declared.beginning.Beginning.{Beginning}
 use Rattle.cose_run.specs.declared.beginning.NotBegun.{NotBegun}
 use Rattle.cose_run.specs.declared.beginning.NotBegun.TheVariants.{NoFile, NotHex, NoKeys, Memory}
 
--- the external data that AADHEX stands for, in hex of either case; none without it, and none at all where it is no hex
+-- the external data that AADHEX stands for, in hex of either case; none without it, and none at all
+-- where it is no hex
 abbrev pub aad_of : Option (List ℕ) → Option (List ℕ)
 aad_of None = Some []
 aad_of (Some text) = result_ok (decode_of text)

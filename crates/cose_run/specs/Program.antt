@@ -26,7 +26,8 @@ pub record Devices : Type 0 where
   pub read_failures : ℕ
   pub write_failures : ℕ
 
--- what is seen of a reader and a writer; `R.Read` and `W.Write` are the words that their bounds bring
+-- what is seen of a reader and a writer; `R.Read` and `W.Write` are the words that their bounds
+-- bring
 abbrev pub devices_of : {R E W F : Type 0} (r : Reads R E) (w : Writes W F) → R → W → Devices
 devices_of r w input out = record {
   left = r.left input;
@@ -97,7 +98,8 @@ pub record Ran (limits : Limits) (allows : Question → Bool) (aad : List ℕ) (
   pub steps : List Step
   pub over : RanOver limits allows aad old new input steps status
 
--- the program ran. Of nothing it ends with 0 where no device failed, and with 0 or 1 only where none did.
+-- the program ran. Of nothing it ends with 0 where no device failed, and with 0 or 1 only where none
+-- did.
 pub record RanOn (limits : Limits) (allows : Question → Bool) (aad : List ℕ) (old new : Devices)
     (status : ℕ) : Type 0 where
   pub ran : Ran limits allows aad old new status
@@ -108,8 +110,8 @@ pub record RanOn (limits : Limits) (allows : Question → Bool) (aad : List ℕ)
 
 -- a judge was told a beginning of the questions about these steps, in order, and all of them where
 -- the steps were made whole
-pub record Heard {T : Type 0} (hearing : Hearing T) (aad : List ℕ) (steps : List Step) (Whole : Type 0)
-    : Type 0 where
+pub record Heard {T : Type 0} (hearing : Hearing T) (aad : List ℕ) (steps : List Step)
+    (Whole : Type 0) : Type 0 where
   pub told : ToldFront hearing.decided hearing.before hearing.after
       (questions_of hearing.allows aad steps)
   pub all : Whole → told.front ≡ questions_of hearing.allows aad steps
@@ -153,11 +155,12 @@ abbrev pub Ends : (List KeyFields → Question → Bool) → Option (List ℕ) �
     → Devices → Devices → ℕ → Type 0
 Ends allows keys aad old new status = EndsWithin usual allows keys aad old new status
 
--- how it ends where it is handed the bytes of KEYS, and the external data as bytes: where they hold a
--- key set after a run with it; else nothing was read and nothing written
+-- how it ends where it is handed the bytes of KEYS, and the external data as bytes: where they hold
+-- a key set after a run with it; else nothing was read and nothing written
 abbrev pub EndsOver : Limits → (List KeyFields → Question → Bool) → List ℕ → List ℕ
     → Devices → Devices → ℕ → Type 0
 EndsOver limits allows keys aad old new status =
     ((e : CoseFault) × WrongItem WrongKeySet keys e × (status ≡ 3) × (new ≡ old))
     ⊎ ((status ≡ 4) × (new ≡ old))
-    ⊎ ((ks : List KeyFields) × HasItem HasKeySet keys ks × RanOn limits (allows ks) aad old new status)
+    ⊎ ((ks : List KeyFields) × HasItem HasKeySet keys ks
+    × RanOn limits (allows ks) aad old new status)

@@ -65,7 +65,8 @@ pub(crate) fn begin(
 
 /// The external data that AADHEX stands for.
 fn read_aad(alloc: Global, aad: Option<&str>) -> Result<Vec<u8>, NotBegun>
-    ensures { MatchResult result (λ d. aad_of (option_copied aad.entry) ≡ Some d.items) (IsNoAad (option_copied aad.entry)) }
+    ensures { MatchResult result (λ d. aad_of (option_copied aad.entry) ≡ Some d.items)
+        (IsNoAad (option_copied aad.entry)) }
 {
     match aad {
         Some(text) => match hex::decode(alloc, text) {
@@ -88,7 +89,8 @@ fn aad_fault(error: FromHexError) -> NotBegun
 
 /// The key set that the bytes of KEYS are (RFC 9052, section 7).
 pub(crate) fn read_keys(alloc: Global, bytes: &[u8]) -> Result<CoseKeySet, NotBegun>
-    ensures { MatchResult result (λ s. HasItem HasKeySet bytes.now (key_set_view s)) (IsNoKeySet bytes.now) }
+    ensures { MatchResult result (λ s. HasItem HasKeySet bytes.now (key_set_view s))
+        (IsNoKeySet bytes.now) }
 {
     match CoseKeySet::from_slice(alloc, bytes) {
         Ok(keys) => Ok(keys),

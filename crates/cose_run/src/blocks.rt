@@ -35,8 +35,10 @@ impl<R: io::Read> Blocks<R> {
     /// Takes the bytes from the block, where it holds so many.
     fn take_held(&mut self, data: &mut [u8]) -> bool
         ensures held { MatchBool result
-            (Consumes (left_of_blocks R.remaining self.old) (left_of_blocks R.remaining self.new) «data».new)
-            ((length (reader_buffer self.old.reader) < length «data».old) × (self.new ≡ self.old) × («data».new ≡ «data».old)) }
+            (Consumes (left_of_blocks R.remaining self.old)
+            (left_of_blocks R.remaining self.new) «data».new)
+            ((length (reader_buffer self.old.reader) < length «data».old)
+            × (self.new ≡ self.old) × («data».new ≡ «data».old)) }
         ensures failed { self.new.failed ≡ self.old.failed }
     {
         let len = data.len();
@@ -50,8 +52,10 @@ impl<R: io::Read> Blocks<R> {
 
     /// Reads the bytes by std's reader. A failure is not counted yet.
     fn read_on(&mut self, data: &mut [u8]) -> Result<(), InputFault>
-        ensures ok { OnOk result (Consumes (left_of_blocks R.remaining self.old) (left_of_blocks R.remaining self.new) «data».new) }
-        ensures end { IfErr result (λ e. IsTrue (is_end e) → IsShort (left_of_blocks R.remaining self.old) (length «data».old)) }
+        ensures ok { OnOk result (Consumes (left_of_blocks R.remaining self.old)
+            (left_of_blocks R.remaining self.new) «data».new) }
+        ensures end { IfErr result (λ e. IsTrue (is_end e)
+            → IsShort (left_of_blocks R.remaining self.old) (length «data».old)) }
         ensures one { IfErr result (λ e. IsTrue (is_end e) → length «data».old ≡ 1
             → Keeps (left_of_blocks R.remaining self.old) (left_of_blocks R.remaining self.new)) }
         ensures failed { self.new.failed ≡ self.old.failed }

@@ -2,7 +2,8 @@
 ghost use Rattle.std.specs.Prelude.{◌≡◌, ◌≤◌, [], Some, IsOk, OnOk, option_copied};
 ghost use Rattle.cose_judge_hmac.specs.GateCore.Terms.{limits_by};
 ghost use Rattle.cose_judge_hmac.specs.Judge.{says_yes};
-ghost use Rattle.cose_run.specs.Program.{devices_of, hearing_of, Ends, EndsWithin, EndsOver, Gated, RanJudged};
+ghost use Rattle.cose_run.specs.Program.{devices_of, hearing_of, Gated, RanJudged};
+ghost use Rattle.cose_run.specs.Program.{Ends, EndsWithin, EndsOver};
 
 use crate::beginning::{begin, read_keys};
 use crate::devices::{Input, InputFault, Output};
@@ -23,10 +24,12 @@ fn gate_lines<R: Read, W: Write, E: Write, J: Judge>(
     err: &mut E,
     judge: &mut J,
 ) -> Result<Counts, GateFault<InputFault>>
-    ensures ran { Gated (limits_by limits strict) (hearing_of J.Judge judge.old judge.new) aad.now
+    ensures ran { Gated (limits_by limits strict)
+        (hearing_of J.Judge judge.old judge.new) aad.now
         (devices_of R.Read W.Write input.old out.old)
         (devices_of R.Read W.Write input.new out.new) result }
-    ensures nothing { R.left input.old ≡ Some [] → R.failed input.new ≡ R.failed input.old → IsOk result }
+    ensures nothing { R.left input.old ≡ Some [] → R.failed input.new ≡ R.failed input.old
+        → IsOk result }
     ensures reader { OnOk result (R.failed input.new ≡ R.failed input.old) }
     ensures writer { OnOk result (W.failed out.new ≡ W.failed out.old) }
     ensures more { W.failed out.old ≤ W.failed out.new }
@@ -80,7 +83,8 @@ pub fn run_judged<R: Read, W: Write, E: Write, J: Judge>(
     err: &mut E,
     judge: &mut J,
 ) -> u8
-    ensures ran { RanJudged (limits_by limits strict) (hearing_of J.Judge judge.old judge.new) aad.now
+    ensures ran { RanJudged (limits_by limits strict)
+        (hearing_of J.Judge judge.old judge.new) aad.now
         (devices_of R.Read W.Write input.old out.old)
         (devices_of R.Read W.Write input.new out.new) result }
     ensures who { J.who judge.new ≡ J.who judge.old }
@@ -144,7 +148,8 @@ pub fn run_with<R: Read, W: Write, E: Write>(
     out: &mut W,
     err: &mut E,
 ) -> u8
-    ensures { EndsWithin (limits_by limits strict) says_yes (option_copied keys.entry) (option_copied aad.entry)
+    ensures { EndsWithin (limits_by limits strict) says_yes
+        (option_copied keys.entry) (option_copied aad.entry)
         (devices_of R.Read W.Write input.old out.old)
         (devices_of R.Read W.Write input.new out.new) result }
 {
