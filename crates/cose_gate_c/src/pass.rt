@@ -23,7 +23,7 @@ fn pass_by(
     lines: &mut [u8],
 ) -> Answer
     ensures { (written : List ℕ) × (status : ℕ)
-        × (RunsBy (limits_by limits strict) (keys_of judge) aad.now input.now written status
+        × (RunsBy (limits_by limits strict) (keys_of judge.entry) aad.now input.now written status
             ⊎ NoMemory written status)
         × Places written status «out».old «out».new result }
 {
