@@ -81,12 +81,12 @@ no_frames (d ∷ done) bytes rest h some none e (a ∷ all) e' =
     let one : bytes ≡ framed d ++ (flat_map framed done ++ rest) = e ∙ append_assoc (framed d) (flat_map framed done) rest in
     let l : length bytes ≡ (8 + length d) + length (flat_map framed done ++ rest)
     = ap (λ (b : List ℕ). length b) one ∙ (length-append (framed d) (flat_map framed done ++ rest)
-        ∙ ap (λ (n : ℕ). n + length (flat_map framed done ++ rest)) (length-framed d)) in
+    ∙ ap (λ (n : ℕ). n + length (flat_map framed done ++ rest)) (length-framed d)) in
     let k : length bytes ≡ (8 + length a) + length (flat_map framed all)
     = ap (λ (b : List ℕ). length b) e' ∙ (length-append (framed a) (flat_map framed all)
-        ∙ ap (λ (n : ℕ). n + length (flat_map framed all)) (length-framed a)) in
+    ∙ ap (λ (n : ℕ). n + length (flat_map framed all)) (length-framed a)) in
     let w = same_frames d a (flat_map framed done ++ rest) (flat_map framed all)
-        (omega (arith, l, h)) (omega (arith, k, h)) (sym one ∙ e') in
+    (omega (arith, l, h)) (omega (arith, k, h)) (sym one ∙ e') in
     no_frames done (flat_map framed done ++ rest) rest (omega (arith, l, h)) some none refl all w.1
 
 -- bytes too few for a frame begin with none; nor do those behind which fewer stand than their length says
@@ -161,7 +161,7 @@ same_pieces (p ∷ ps) (q ∷ qs) l h e =
     = length-append (framed p) (flat_map framed ps) ∙ ap (λ (n : ℕ). n + length (flat_map framed ps)) (length-framed p) in
     let b : length (framed p ++ flat_map framed ps) ≡ (8 + length q) + length (flat_map framed qs)
     = ap (λ (z : List ℕ). length z) e ∙ (length-append (framed q) (flat_map framed qs)
-        ∙ ap (λ (n : ℕ). n + length (flat_map framed qs)) (length-framed q)) in
+    ∙ ap (λ (n : ℕ). n + length (flat_map framed qs)) (length-framed q)) in
     let w = same_frames p q (flat_map framed ps) (flat_map framed qs) (omega (arith, a, h)) (omega (arith, b, h)) e in
     ap (λ (z : List ℕ). z ∷ ps) w.0 ∙ ap (λ (z : List (List ℕ)). q ∷ z) (same_pieces ps qs (omega (arith, l)) (omega (arith, a, h)) w.1)
 
@@ -196,10 +196,10 @@ ends_so b key front rest more [] covered signature is is1 is2 e =
 ends_so b key front rest more (x ∷ xs) covered signature is is1 is2 e =
     let other : key ≡ key_by front covered signature → ⊥
     = λ (s : key ≡ key_by front covered signature).
-        let a : rest ≡ framed covered ++ framed signature = append_cancel_left front rest (framed covered ++ framed signature) (sym is ∙ s) in
-        let c : more ≡ framed signature = append_cancel_left (framed covered) more (framed signature) (sym is1 ∙ a) in
-        let l : length (framed signature ++ (x ∷ xs)) ≡ length (framed signature) = ap (λ (z : List ℕ). length z) (sym is2 ∙ c) in
-        let k : length (framed signature ++ (x ∷ xs)) ≡ length (framed signature) + length (x ∷ xs) = length-append (framed signature) (x ∷ xs) in
-        omega (arith, l, k) in
+    let a : rest ≡ framed covered ++ framed signature = append_cancel_left front rest (framed covered ++ framed signature) (sym is ∙ s) in
+    let c : more ≡ framed signature = append_cancel_left (framed covered) more (framed signature) (sym is1 ∙ a) in
+    let l : length (framed signature ++ (x ∷ xs)) ≡ length (framed signature) = ap (λ (z : List ℕ). length z) (sym is2 ∙ c) in
+    let k : length (framed signature ++ (x ∷ xs)) ≡ length (framed signature) + length (x ∷ xs) = length-append (framed signature) (x ∷ xs) in
+    omega (arith, l, k) in
     let f : b ≡ false = grind (arith, e) in
     f ∙ sym (differs key (key_by front covered signature) other)

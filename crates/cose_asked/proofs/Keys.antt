@@ -65,8 +65,7 @@ same_key q r h e =
     let w = same_numbered m n (flat_map framed ps) (flat_map framed qs) (small q.subject.kind) (small r.subject.kind) (sym sq ∙ (e ∙ sr)) in
     let l : length (key_of q) ≡ 8 + length (flat_map framed ps)
     = ap (λ (z : List ℕ). length z) sq ∙ (length-append (eight m) (flat_map framed ps) ∙ ap (λ (k : ℕ). k + length (flat_map framed ps)) (length-eight m)) in
-    let same : ps ≡ qs = same_pieces ps qs refl (omega (arith, l, h)) w.1 in
-    (
+    let same : ps ≡ qs = same_pieces ps qs refl (omega (arith, l, h)) w.1 in (
       one_kind q.subject.kind r.subject.kind w.0,
       same_texts m n ps qs w.0 same,
       ap (λ (z : List (List ℕ)). get_or z 5 []) same,

@@ -10,9 +10,10 @@ use Rattle.cose_judge_hmac.specs.GateCore.Terms.{limits_by}
 use Rattle.cose_judge_hmac.specs.GateCore.Questions.{Question}
 use Rattle.cose_judge_hmac.specs.Judge.{says_yes}
 use Rattle.cose_run.specs.Program.{Devices, EndsOver, RanOver, RanOn, RanJudged, Hearing}
+use Rattle.cose_asked.specs.Framing.{framed}
 use Rattle.cose_asked.specs.Records.{record_of, is_among}
 use Rattle.cose_asked.proofs.Asked.{told_all}
-use Rattle.cose_gate_c.specs.Library.{within, before, after, IsRunStatus, Runs, RunsBy, Tells, Places, Answers}
+use Rattle.cose_gate_c.specs.Library.{within, before, after, IsRunStatus, Runs, RunsBy, NoMemory, Passed, Tells, Places, Answers}
 use Rattle.cose_gate_c.specs.declared.answer.Answer.{Answer}
 
 below_two : (b : Bool) (n : ℕ) → n ≡ cond {A = ℕ} b 0 1 → n < 2
@@ -138,3 +139,11 @@ places_none status old new answer l s e = record {
   fits = λ _. (s, e);
   no_room = λ few. elim (none_below (length old) few) [ ];
 }
+
+-- by the keys that were accepted, or memory was refused
+pub passed : (limits : Limits) (accepted : List ℕ) (keys : List (List ℕ)) (aad input written : List ℕ) (status : ℕ) → accepted ≡ flat_map framed keys
+    → RunsBy limits keys aad input written status ⊎ NoMemory written status → Passed limits accepted aad input written status
+passed limits accepted keys aad input written status e r = elim r [
+  | inl ran ↦ inl (keys, e, ran)
+  | inr none ↦ inr (inr none)
+]

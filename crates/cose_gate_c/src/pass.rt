@@ -24,7 +24,7 @@ fn pass_by(
 ) -> Answer
     ensures { (written : List ℕ) × (status : ℕ)
         × (RunsBy (limits_by limits strict) (keys_of judge.entry) aad.now input.now written status
-            ⊎ NoMemory written status)
+        ⊎ NoMemory written status)
         × Places written status «out».old «out».new result }
 {
     let mut judge = judge;

@@ -7,6 +7,6 @@ pub returns-in_err-rest : goal.returns-in_err-rest
 returns-in_err-rest c = rw c.from_residual.ensures (λ r e. frames.no_front c.args.text.now c.args.front.now r c.in_err-rest.ensures.cases e)
 
 pub returns : goal.returns
-returns c = 
+returns c =
     let h = c.in_ok-rest.ensures.cases in
     rw h.1 (frames.front_is c.args.text.now c.args.front.now h.0)
