@@ -48,7 +48,8 @@ fn header_text(alloc: Global, header: &Header) -> Result<Vec<u8>, AllocError>
 
 /// The encoded array of recipients.
 fn recipients_text(alloc: Global, recipients: &[CoseRecipient]) -> Result<Vec<u8>, AllocError>
-    ensures { IfOk result (λ text. text.items ≡ spec.recipients_text (recipients_view recipients.now)) }
+    ensures { IfOk result (λ text. text.items
+        ≡ spec.recipients_text (recipients_view recipients.now)) }
 {
     let copies = clone_recipients(alloc, recipients)?;
     let Ok(value) = write_recipients(alloc, copies) else {

@@ -70,7 +70,8 @@ fn logged_record(told: Log<u8>, held: &Held, signature: &[u8]) -> Log<u8>
 
 /// The length of a key in eight bytes, the lowest first.
 fn length_of_key(held: &Held, signature: &[u8]) -> [u8; 8]
-    ensures { result ≡ eight (length (key_by held.now.front.items held.now.covered.items signature.now)) }
+    ensures { result ≡ eight (length
+        (key_by held.now.front.items held.now.covered.items signature.now)) }
 {
     let lengths = held.front.len() as u128 + held.covered.len() as u128 + signature.len() as u128;
     low_eight(16 + lengths)

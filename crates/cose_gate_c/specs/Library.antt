@@ -40,7 +40,8 @@ pub record Runs (limits : Limits) (keys aad input written : List ℕ) (status : 
 abbrev pub NoMemory : List ℕ → ℕ → Type 0
 NoMemory written status = (written ≡ []) × (status ≡ 4)
 
--- the text stands in front of what was there, where it is no longer; else there is no room, and nothing was written
+-- the text stands in front of what was there, where it is no longer; else there is no room, and
+-- nothing was written
 pub record Places (written : List ℕ) (status : ℕ) (old new : List ℕ) (answer : Answer) : Type 0 where
   pub length_is : answer.length ≡ length written
   pub fits : length written ≤ length old

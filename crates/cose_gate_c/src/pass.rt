@@ -63,10 +63,12 @@ fn pass_within(
         × Passed (limits_by limits strict) accepted.now aad.now input.now written status
         × Places written status «out».old «out».new result }
 {
-    match Accepted::new(alloc, accepted) {
-        Ok(Some(judge)) => pass_by(alloc, limits, strict, judge, aad, input, out, lines),
-        Ok(None) => place_none(out, 3, said(lines, b"accepted: no records\n")),
-        Err(_) => place_none(out, 4, said(lines, b"stopped: memory\n")),
+    let Ok(judge) = Accepted::new(alloc, accepted) else {
+        return place_none(out, 4, said(lines, b"stopped: memory\n"));
+    };
+    match judge {
+        Some(judge) => pass_by(alloc, limits, strict, judge, aad, input, out, lines),
+        None => place_none(out, 3, said(lines, b"accepted: no records\n")),
     }
 }
 

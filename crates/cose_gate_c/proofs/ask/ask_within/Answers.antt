@@ -10,8 +10,8 @@ returns-in-Some c = (
   record { length_is = c.place.ensures.length; fits = c.place.ensures.fits; no_room = c.place.ensures.no_room },
 )
 
-pub returns-in-None : goal.returns-in-None
-returns-in-None c = (
+pub returns : goal.returns
+returns c = (
   [],
   4,
   inr (refl, refl),
