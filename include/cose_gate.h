@@ -1,11 +1,11 @@
 /* cose_gate.h: the gate of COSE messages over memory (RFC 9052, RFC 8949). The library is out/libcose_gate_c.a of crates/cose_gate_c,
  * linked together with the kit's liblibc_c.a, which calls malloc, realloc and free. README.md, "From C, Rust, Go and Python".
  *
- * Buffers: all belong to the caller. A pointer is never NULL, also where its length is 0. `out` and `lines` overlap nothing that is handed
- *   over in the same call; what is read may overlap. No length is above PTRDIFF_MAX. Nothing is kept after a call.
+ * Buffers: all belong to the caller. A pointer is never NULL, also where its length is 0. `out`, `questions` and `lines` overlap nothing
+ *   that is handed over in the same call; what is read may overlap. No length is above PTRDIFF_MAX. Nothing is kept after a call.
  * Memory: a call takes memory by malloc, realloc and free, and has given all of it back when it returns. Where it is refused, it says so.
- *   malloc has to align to each power of two up to 16 that divides the size.
- * Stack: docs/TIMES.md, "The library", has what was measured.
+ *   The three are those of one allocator, and malloc and realloc align to each power of two up to 16 that divides the size.
+ * Stack: docs/TIMES.md, "The library", has what was measured for the limits of the program. More levels take more.
  * Threads: any number of threads may call at once, each with buffers of its own. The library has no state, and starts no thread.
  * Signals and fork: not from a signal handler, and not in the forked child of a process with threads, as malloc isn't safe there.
  */
@@ -26,9 +26,10 @@ enum {
   COSE_GATE_ALL_PASSED = 0,   /* no item was refused */
   COSE_GATE_SOME_REFUSED = 1, /* some were; what passed is written */
   COSE_GATE_LIMITS = 2,       /* `nesting` or `layers` is out of range; nothing was read */
-  COSE_GATE_KEYS = 3,         /* the bytes are no key set; nothing was read */
-  COSE_GATE_STOPPED = 4,      /* the input is no CBOR, or memory was refused; what passed before is written */
-  COSE_GATE_NO_ROOM = 5       /* the output is longer than `out`, which stays as it was */
+  COSE_GATE_KEYS = 3,         /* the bytes are no key set, or no records; nothing was read */
+  COSE_GATE_STOPPED = 4,      /* the input is no CBOR, or memory was refused. What passed before is written; nothing where memory was
+                                 refused to the output, or for the keys or records */
+  COSE_GATE_NO_ROOM = 5       /* the output is longer than its room, which stays as it was */
 };
 
 /* The limits of the program. */
@@ -65,6 +66,96 @@ cose_gate_answer cose_gate_check(const uint8_t *keys, size_t keys_length,
                                  uint8_t *out, size_t out_length,
                                  uint8_t *lines, size_t lines_length,
                                  size_t nesting, size_t layers, bool strict);
+
+/* The two calls for signatures that the caller checks by himself.
+ *
+ * cose_gate_ask tells the questions of the input: of each signature or tag over a message that is well formed, a record in `questions`,
+ * one behind another, in order. `lines` are those of a run in which every signature is good. With the statuses 0 and 1 all are told, with
+ * COSE_GATE_STOPPED those before the place where the run stopped, and none where memory was refused to the records.
+ *
+ * A record is its length in eight bytes, the lowest first, and behind it so many bytes, its key: eight bytes with the message's tag, and
+ * seven texts, each behind its length in eight bytes. cose_gate_next reads one. No signature covers the unprotected headers and the
+ * recipients, but a caller finds his key by them: so they are part of the key, and a record that was accepted counts for no message with
+ * others.
+ *
+ * cose_gate_pass takes the records that the caller accepts, copied as they are, one behind another, and writes the messages all of whose
+ * questions are among them. `aad`, the limits and `strict` are those of the call before. Each question is looked for among all that was
+ * accepted, so the time is that of the one number by the other. COSE_GATE_KEYS: these are no records. */
+cose_gate_answer cose_gate_ask(const uint8_t *aad, size_t aad_length,
+                               const uint8_t *input, size_t input_length,
+                               uint8_t *questions, size_t questions_length,
+                               uint8_t *lines, size_t lines_length,
+                               size_t nesting, size_t layers, bool strict);
+
+cose_gate_answer cose_gate_pass(const uint8_t *accepted, size_t accepted_length,
+                                const uint8_t *aad, size_t aad_length,
+                                const uint8_t *input, size_t input_length,
+                                uint8_t *out, size_t out_length,
+                                uint8_t *lines, size_t lines_length,
+                                size_t nesting, size_t layers, bool strict);
+
+/* The kinds of messages that are asked about, by their tags (RFC 9052, section 2). */
+enum { COSE_GATE_MAC0 = 17, COSE_GATE_SIGN1 = 18, COSE_GATE_MAC = 97, COSE_GATE_SIGN = 98 };
+
+/* Bytes that lie in a record. */
+typedef struct cose_gate_text {
+  const uint8_t *at;
+  size_t length;
+} cose_gate_text;
+
+/* A question, as its record shows it. `record` is what is copied to accept it. */
+typedef struct cose_gate_question {
+  cose_gate_text record;
+  uint64_t kind;                     /* the message's tag */
+  cose_gate_text protected_header;   /* as it was received: an encoded map, or nothing */
+  cose_gate_text unprotected_header; /* an encoded map */
+  cose_gate_text signer_protected;   /* of a COSE_Sign; else nothing */
+  cose_gate_text signer_unprotected; /* of a COSE_Sign an encoded map; else nothing */
+  cose_gate_text recipients;         /* an encoded array, of a COSE_Mac */
+  cose_gate_text covered;            /* what the signature or tag is over (sections 4.4 and 6.3) */
+  cose_gate_text signature;          /* the signature or tag */
+} cose_gate_question;
+
+static inline uint64_t cose_gate_number(const uint8_t *at) {
+  uint64_t number = 0;
+  for (int i = 7; i >= 0; i--) {
+    number = number << 8 | at[i];
+  }
+  return number;
+}
+
+/* Takes a text behind its length off the front of `*rest`. */
+static inline bool cose_gate_next_text(cose_gate_text *rest, cose_gate_text *text) {
+  if (rest->length < 8) {
+    return false;
+  }
+  uint64_t length = cose_gate_number(rest->at);
+  if (length > rest->length - 8) {
+    return false;
+  }
+  text->at = rest->at + 8;
+  text->length = (size_t)length;
+  rest->at += 8 + length;
+  rest->length -= 8 + (size_t)length;
+  return true;
+}
+
+/* Takes the next record off the front of `*rest`; false where there is none. */
+static inline bool cose_gate_next(cose_gate_text *rest, cose_gate_question *question) {
+  cose_gate_text key;
+  question->record.at = rest->at;
+  if (!cose_gate_next_text(rest, &key) || key.length < 8) {
+    return false;
+  }
+  question->record.length = 8 + key.length;
+  question->kind = cose_gate_number(key.at);
+  key.at += 8;
+  key.length -= 8;
+  return cose_gate_next_text(&key, &question->protected_header) && cose_gate_next_text(&key, &question->unprotected_header) &&
+         cose_gate_next_text(&key, &question->signer_protected) && cose_gate_next_text(&key, &question->signer_unprotected) &&
+         cose_gate_next_text(&key, &question->recipients) && cose_gate_next_text(&key, &question->covered) &&
+         cose_gate_next_text(&key, &question->signature) && key.length == 0;
+}
 
 #ifdef __cplusplus
 }

@@ -1,15 +1,48 @@
-"""c-compare.py LIBRARY PROGRAM TOP: the library's answers against those of the program, byte for byte, over the rows `run` of
-conformance_gate, and over 1,000 mutated sequences; and the room that each needs. Status 1 where one differs."""
+"""c-compare.py compare TOP LIBRARY PROGRAM: the library's answers against those of the program, byte for byte, over the rows `run` of
+conformance_gate, and over 1,000 mutated sequences; the room that each needs; and that with all questions accepted all that the judge lets
+through passes. Status 1 where one differs. c-compare.py write TOP FOLDER: writes the 1,000 mutated sequences into files of the folder."""
 
 import random
 import subprocess
 import sys
 import tempfile
 
-library, program, top = sys.argv[1:]
+what, top, *rest = sys.argv[1:]
 sys.path.insert(0, f"{top}/examples/python")
-from cose_gate import Gate, GateError, LimitsError, NoRoomError  # noqa: E402
+from cose_gate import Gate, GateError, LimitsError, NoRoomError, StoppedError  # noqa: E402
 
+random.seed(39)
+seeds = [open(f"{top}/examples/{name}.cbor", "rb").read() for name in ("mixed", "one", "cut")]
+keys = open(f"{top}/examples/keys.cbor", "rb").read()
+
+
+def mutated(data):
+    data = bytearray(data)
+    for _ in range(random.randint(1, 4)):
+        place = random.randrange(len(data))
+        match random.randrange(4):
+            case 0:
+                data[place] = random.randrange(256)
+            case 1:
+                data[place] ^= 1 << random.randrange(8)
+            case 2:
+                del data[place : place + random.randint(1, 8)]
+            case 3:
+                other = random.choice(seeds)
+                start = random.randrange(len(other))
+                data[place:place] = other[start : start + random.randint(1, 60)]
+        if not data:
+            break
+    return bytes(data)
+
+
+if what == "write":
+    for number in range(1000):
+        with open(f"{rest[0]}/{number:04}", "wb") as file:
+            file.write(mutated(random.choice(seeds)))
+    sys.exit()
+
+library, program = rest
 gate = Gate(library)
 
 
@@ -52,6 +85,26 @@ def compare(keys, aad, input):
     return found[0]
 
 
+def answer_of(call, *inputs):
+    """What passes, also before the place where the run stops."""
+    try:
+        return call(*inputs).passed
+    except StoppedError as fault:
+        return fault.passed
+
+
+def asks(aad, input):
+    """With all questions accepted what passes is more than the judge by HMAC lets through, and with none it is nothing."""
+    try:
+        questions = gate.ask(aad, input)
+    except StoppedError as fault:
+        questions = list(questions_of(fault.passed))
+    passed = answer_of(gate.pass_accepted, questions[::-1], aad, input)
+    assert len(passed) >= len(answer_of(gate.check, keys, aad, input))
+    assert all(question.kind in (17, 18, 97, 98) and question.covered for question in questions)
+    assert answer_of(gate.pass_accepted, [], aad, input) == b""
+
+
 def of_hex(word):
     return b"" if word == "-" else bytes.fromhex(word)
 
@@ -68,9 +121,6 @@ def rows():
             continue  # AADHEX that is no hex never reaches the library
 
 
-random.seed(39)
-seeds = [open(f"{top}/examples/{name}.cbor", "rb").read() for name in ("mixed", "one", "cut")]
-keys = open(f"{top}/examples/keys.cbor", "rb").read()
 count = 0
 for row in rows():
     compare(*row)
@@ -78,30 +128,12 @@ for row in rows():
 print(f"c-compare.py: {count} rows of conformance_gate: the same")
 
 
-def mutated(data):
-    data = bytearray(data)
-    for _ in range(random.randint(1, 4)):
-        place = random.randrange(len(data))
-        match random.randrange(4):
-            case 0:
-                data[place] = random.randrange(256)
-            case 1:
-                data[place] ^= 1 << random.randrange(8)
-            case 2:
-                del data[place : place + random.randint(1, 8)]
-            case 3:
-                other = random.choice(seeds)
-                start = random.randrange(len(other))
-                data[place:place] = other[start : start + random.randint(1, 60)]
-        if not data:
-            break
-    return bytes(data)
-
-
 statuses = {}
 for number in range(1000):
     used = mutated(keys) if number % 10 == 0 else keys
-    status = compare(used, random.choice([b"\x01", b"\x01", b""]), mutated(random.choice(seeds)))
+    aad, input = random.choice([b"\x01", b"\x01", b""]), mutated(random.choice(seeds))
+    status = compare(used, aad, input)
+    asks(aad, input)
     statuses[status] = statuses.get(status, 0) + 1
 print(f"c-compare.py: 1,000 mutated sequences: the same; how many of each status: {dict(sorted(statuses.items()))}")
 

@@ -1,10 +1,11 @@
 #!/usr/bin/env bash
 # c-library.sh [c|rust|go|python|compare|memory|all]: proves and builds the static library cose_gate_c where a source of it has changed, and
 # then builds and runs what is asked, with the tools that are there; it says which are not.
-#   c, rust, go, python   the example of that language on examples/mixed.cbor, which has to answer as the program does
-#   compare               what each example answers against the program's answers, over examples/*.cbor and the rows `run` of
-#                         conformance_gate, and over 1,000 mutated sequences by the library's shared object
-#   memory                the C test under ASan, under valgrind, and with each malloc refused in turn; stack, archive and time to link
+#   c, rust, go, python   the example of that language on examples/mixed.cbor: status 1, four messages passed; of Python also es256.py
+#   compare               what each example answers against the program's answers, over examples/*.cbor; the library's shared object against
+#                         the program over the rows `run` of conformance_gate, and over 1,000 mutated sequences
+#   memory                the C test under ASan, under valgrind, and with each malloc refused in turn, over the worked examples and 1,000
+#                         mutated ones; stack, archive and time to link
 #   all                   all of these (what stands where no word is given)
 # Status 1 where something differs. Everything that it makes lies in crates/cose_gate_c/out.
 set -eu
@@ -17,88 +18,141 @@ archive=$out/libcose_gate_c.a
 kit=${RT_KIT:-$(dirname "$(dirname "$(readlink -f "$(command -v rt)")")")}
 libc=$kit/c/liblibc_c.a
 made=$out/examples
+keys=$top/examples/keys.cbor
 
 has() { command -v "$1" > /dev/null 2>&1; }
 lacks() { echo "c-library.sh: no $1 here, so $2 is passed over"; }
 wants() { [ "$what" = all ] || [ "$what" = "$1" ]; }
+fails() {
+  echo "c-library.sh: $1" >&2
+  exit 1
+}
+
+case $what in
+  c | rust | go | python | compare | memory | all) ;;
+  *) fails "no word $what; the head of this script has them" ;;
+esac
 
 # Proves and builds the library. rt does nothing where nothing has changed.
-mkdir -p "$out"
+mkdir -p "$made"
 if ! (cd "$crate" && rt lib) > "$out/lib.log" 2>&1 || [ ! -f "$archive" ]; then
   tail -n 20 "$out/lib.log" >&2
   echo "c-library.sh: the library was not built; the log is $out/lib.log" >&2
   exit 70
 fi
-bash "$top/scripts/proved.sh" cose-gate cose_gate_cli || exit
-program=$top/crates/cose_gate_cli/out/cose_gate_cli
-mkdir -p "$made"
 
-# What the program answers: its output, its lines and its status, each in a file beside NAME.
+build_c() { gcc -std=c11 -O2 -Wall -Wextra -Werror -I "$top/include" "$top/examples/c/check.c" "$archive" "$libc" -o "$made/check_c"; }
+build_python() { gcc -shared -o "$made/libcose_gate.so" -Wl,--whole-archive "$archive" -Wl,--no-whole-archive "$libc"; }
+build_rust() {
+  (cd "$top/examples/rust" && COSE_GATE_LIBRARY=$archive RATTLE_LIBC=$libc cargo build --quiet --release --offline --target-dir "$made/rust")
+  cp "$made/rust/release/check" "$made/check_rust"
+}
+build_go() {
+  mkdir -p "$top/examples/go/lib"
+  cp "$archive" "$libc" "$top/examples/go/lib/"
+  (cd "$top/examples/go" && go build -o "$made/check_go" .)
+}
+tool_of() {
+  case $1 in
+    c) echo gcc ;;
+    rust) echo cargo ;;
+    go) echo go ;;
+    python) echo python3 ;;
+  esac
+}
+
+# The languages that are wanted, and whose tools are there.
+languages=""
+for language in c rust go python; do
+  wants "$language" || wants compare || continue
+  if has gcc && has "$(tool_of $language)"; then
+    "build_$language"
+    languages="$languages $language"
+  else
+    lacks "gcc or $(tool_of $language)" "the example in $language"
+  fi
+done
+
+# What a program answers on $input: its output, its lines and its status, each in a file beside NAME.
 ask() {
   local name=$1 status=0
   shift
   "$@" < "$input" > "$made/$name.out" 2> "$made/$name.err" || status=$?
   echo $status > "$made/$name.status"
 }
-
-# One example against the program, on one input.
-same() {
-  local name=$1
-  shift
-  ask "$name" "$@"
-  for part in out err status; do
-    if ! cmp -s "$made/program.$part" "$made/$name.$part"; then
-      echo "c-library.sh: $name differs from the program in its $part, on $input" >&2
-      exit 1
-    fi
-  done
-}
-
-build_c() { gcc -std=c11 -O2 -Wall -Wextra -Werror -I "$top/include" "$top/examples/c/check.c" "$archive" "$libc" -o "$made/check_c"; }
-build_shared() { gcc -shared -o "$made/libcose_gate.so" -Wl,--whole-archive "$archive" -Wl,--no-whole-archive "$libc"; }
-build_rust() {
-  rustc -O --edition 2021 -o "$made/check_rust" "$top/examples/rust/main.rs" -C link-arg="$archive" -C link-arg="$libc"
-}
-build_go() {
-  (cd "$top/examples/go" && CGO_CFLAGS="-I$top/include" CGO_LDFLAGS="$archive $libc" go build -o "$made/check_go" .)
-}
-
-examples=""
-if has gcc; then build_c && examples="$examples c"; else lacks gcc "C"; fi
-if has rustc && has gcc; then build_rust && examples="$examples rust"; else lacks rustc "Rust"; fi
-if has go && has gcc; then build_go && examples="$examples go"; else lacks go "Go"; fi
-if has python3 && has gcc; then build_shared && examples="$examples python"; else lacks python3 "Python"; fi
-
-keys=$top/examples/keys.cbor
 run_example() {
   case $1 in
-    python) same python python3 "$top/examples/python/cose_gate.py" "$made/libcose_gate.so" "$keys" 01 ;;
-    *) same "$1" "$made/check_$1" "$keys" 01 ;;
+    python) ask python python3 "$top/examples/python/cose_gate.py" "$made/libcose_gate.so" "$keys" 01 ;;
+    *) ask "$1" "$made/check_$1" "$keys" 01 ;;
   esac
 }
 
-for name in $examples; do
-  wants "$name" || wants compare || continue
-  for input in "$top"/examples/*.cbor; do
-    ask program "$program" "$keys" 01
-    run_example "$name"
-  done
-  echo "c-library.sh: $name answers as the program does, on $(ls "$top"/examples/*.cbor | wc -l) sequences"
+for language in $languages; do
+  wants "$language" || continue
+  input=$top/examples/mixed.cbor
+  run_example "$language"
+  [ "$(cat "$made/$language.status") $(tail -n 1 "$made/$language.err")" = "1 passed 4, refused 5" ] ||
+    fails "the example in $language answers $(cat "$made/$language.status"), $(tail -n 1 "$made/$language.err")"
+  echo "c-library.sh: the example in $language: $(tail -n 1 "$made/$language.err")"
 done
 
-if wants compare && has python3 && has gcc; then
-  python3 "$top/scripts/c-compare.py" "$made/libcose_gate.so" "$program" "$top"
+# A python3 that has both modules: Debian's, mostly.
+es256_python() {
+  local python
+  for python in python3 /usr/bin/python3; do
+    if "$python" -c 'import cbor2, cryptography' > /dev/null 2>&1; then
+      echo "$python"
+      return
+    fi
+  done
+}
+if wants python && has gcc && has python3; then
+  python=$(es256_python)
+  if [ -n "$python" ]; then
+    said=$("$python" "$top/examples/python/es256.py" "$made/libcose_gate.so") || fails "es256.py failed"
+    echo "c-library.sh: es256.py: $(echo "$said" | tail -n 1)"
+  else
+    lacks "python3 with cbor2 and cryptography (Debian's python3-cbor2, python3-cryptography)" "es256.py"
+  fi
 fi
 
+if wants compare; then
+  bash "$top/scripts/proved.sh" cose-gate cose_gate_cli || exit
+  program=$top/crates/cose_gate_cli/out/cose_gate_cli
+  for language in $languages; do
+    for input in "$top"/examples/*.cbor; do
+      ask program "$program" "$keys" 01
+      run_example "$language"
+      for part in out err status; do
+        cmp -s "$made/program.$part" "$made/$language.$part" || fails "$language differs from the program in its $part, on $input"
+      done
+    done
+    echo "c-library.sh: $language answers as the program does, on $(ls "$top"/examples/*.cbor | wc -l) sequences"
+  done
+  if has python3 && has gcc; then
+    python3 "$top/scripts/c-compare.py" compare "$top" "$made/libcose_gate.so" "$program"
+  fi
+fi
+
+if wants memory && ! has gcc; then lacks gcc "the test of memory"; fi
 if wants memory && has gcc; then
   test=$top/scripts/c-memory.c
-  gcc -std=c11 -O1 -g -fsanitize=address,undefined -I "$top/include" "$test" "$archive" "$libc" -o "$made/memory_asan"
-  "$made/memory_asan" "$keys" "$top/examples/mixed.cbor"
+  scratch=$(mktemp -d)
+  trap 'rm -rf "$scratch"' EXIT
+  inputs=("$top"/examples/mixed.cbor "$top"/examples/one.cbor "$top"/examples/cut.cbor)
+  if has python3; then
+    python3 "$top/scripts/c-compare.py" write "$top" "$scratch"
+    inputs+=("$scratch"/*)
+  else
+    lacks python3 "what is mutated"
+  fi
+  gcc -std=c11 -O1 -g -fsanitize=address,undefined -fno-sanitize-recover=all -I "$top/include" "$test" "$archive" "$libc" -o "$made/memory_asan"
+  "$made/memory_asan" "$keys" "${inputs[@]}"
   gcc -std=c11 -O1 -g -DREFUSE -I "$top/include" "$test" "$archive" "$libc" -Wl,--wrap=malloc,--wrap=realloc,--wrap=free -pthread -o "$made/memory"
-  "$made/memory" "$keys" "$top/examples/mixed.cbor"
+  "$made/memory" "$keys" "${inputs[@]}"
   if has valgrind; then
     gcc -std=c11 -O1 -g -I "$top/include" "$test" "$archive" "$libc" -o "$made/memory_plain"
-    valgrind -q --error-exitcode=9 --leak-check=full --errors-for-leak-kinds=all "$made/memory_plain" "$keys" "$top/examples/mixed.cbor"
+    valgrind -q --error-exitcode=9 --leak-check=full --errors-for-leak-kinds=all "$made/memory_plain" "$keys" "${inputs[@]}"
     echo "c-library.sh: valgrind finds nothing"
   else
     lacks valgrind "that run"

@@ -1,5 +1,6 @@
-/* c-memory.c: KEYS INPUT: the library under tools that watch memory: output room from none to more than is needed, with bytes behind it that
- * must stay as they are. With -DREFUSE each malloc and realloc is refused in turn, and no block may be left; and the stack is measured. */
+/* c-memory.c: KEYS FILE..: the library under tools that watch memory, over each file: output room from none to more than is needed, with bytes
+ * behind it that must stay as they are; and the questions, all of which are then accepted. With -DREFUSE each malloc and realloc is refused
+ * in turn, over the first file, no block may be left, and the last line has to say it; and the stack is measured. */
 #define _GNU_SOURCE
 #include "cose_gate.h"
 
@@ -38,91 +39,156 @@ typedef struct bytes {
   size_t length;
 } bytes;
 
+enum { MOST = 1 << 20 };
+
+/* A file, in a block of just its length. */
 static bytes read_file(const char *path) {
+  static uint8_t all[MOST];
   FILE *file = fopen(path, "rb");
   assert(file != NULL);
-  bytes all = {malloc(65536), 0};
-  all.length = fread(all.at, 1, 65536, file);
+  bytes read = {NULL, fread(all, 1, MOST, file)};
   fclose(file);
-  return all;
+  read.at = malloc(read.length == 0 ? 1 : read.length);
+  memcpy(read.at, all, read.length);
+  return read;
 }
 
 static const uint8_t aad[1] = {1};
+static bytes keys;
 
-static cose_gate_answer check(bytes keys, bytes input, uint8_t *out, size_t room, uint8_t *lines, size_t lines_room) {
-  return cose_gate_check(keys.at, keys.length, aad, 1, input.at, input.length, out, room, lines, lines_room, COSE_GATE_NESTING,
-                         COSE_GATE_LAYERS, false);
+/* One of the calls, by its number, over what it is handed. */
+static cose_gate_answer call(int which, bytes given, bytes input, bytes out, bytes lines) {
+  switch (which) {
+    case 0:
+      return cose_gate_check(given.at, given.length, aad, 1, input.at, input.length, out.at, out.length, lines.at, lines.length,
+                             COSE_GATE_NESTING, COSE_GATE_LAYERS, false);
+    case 1:
+      return cose_gate_ask(aad, 1, input.at, input.length, out.at, out.length, lines.at, lines.length, COSE_GATE_NESTING,
+                           COSE_GATE_LAYERS, false);
+    default:
+      return cose_gate_pass(given.at, given.length, aad, 1, input.at, input.length, out.at, out.length, lines.at, lines.length,
+                            COSE_GATE_NESTING, COSE_GATE_LAYERS, false);
+  }
 }
 
-/* Room of each length: blocks of just that length, so that a tool sees each byte that is read or written beside them. */
-static void each_room(bytes keys, bytes input) {
-  uint8_t *whole = malloc(65536), *lines = malloc(4096);
-  cose_gate_answer all = check(keys, input, whole, 65536, lines, 4096);
-  assert(all.status == 1 && all.length > 0 && all.lines > 0);
-  for (size_t room = 0; room <= all.length + 2; room++) {
-    uint8_t *out = malloc(room == 0 ? 1 : room), *some = malloc(room == 0 ? 1 : room);
-    memset(out, 0xaa, room);
-    cose_gate_answer answer = check(keys, input, out, room, some, room);
-    assert(answer.length == all.length && answer.lines == all.lines);
-    assert(answer.status == (room < all.length ? COSE_GATE_NO_ROOM : all.status));
-    size_t written = room < all.length ? 0 : all.length;
-    assert(memcmp(out, whole, written) == 0);
-    for (size_t i = written; i < room; i++) assert(out[i] == 0xaa);
-    assert(memcmp(some, lines, room < all.lines ? room : all.lines) == 0);
-    free(out);
-    free(some);
+static bytes room_of(size_t length) {
+  bytes room = {malloc(length == 0 ? 1 : length), length};
+  assert(room.at != NULL);
+  return room;
+}
+
+/* A call with just the room that it needs: blocks of just that length, so that a tool sees each byte that is read or written beside them. */
+static bytes exactly(int which, bytes given, bytes input, bytes *lines, uint32_t *status) {
+  bytes none = room_of(0);
+  cose_gate_answer needed = call(which, given, input, none, none);
+  free(none.at);
+  bytes out = room_of(needed.length);
+  *lines = room_of(needed.lines);
+  cose_gate_answer answer = call(which, given, input, out, *lines);
+  assert(answer.length == needed.length && answer.lines == needed.lines && answer.status != COSE_GATE_NO_ROOM);
+  assert(needed.status == (needed.length == 0 ? answer.status : COSE_GATE_NO_ROOM));
+  *status = answer.status;
+  return out;
+}
+
+/* Room of some length beside what is needed. */
+static void with_room(int which, bytes given, bytes input, size_t length, bytes whole, bytes lines, uint32_t status) {
+  bytes out = room_of(length), some = room_of(length);
+  memset(out.at, 0xaa, length);
+  cose_gate_answer answer = call(which, given, input, out, some);
+  assert(answer.length == whole.length && answer.lines == lines.length);
+  assert(answer.status == (length < whole.length ? COSE_GATE_NO_ROOM : status));
+  size_t written = length < whole.length ? 0 : whole.length;
+  assert(memcmp(out.at, whole.at, written) == 0);
+  for (size_t i = written; i < length; i++) assert(out.at[i] == 0xaa);
+  assert(memcmp(some.at, lines.at, length < lines.length ? length : lines.length) == 0);
+  free(out.at);
+  free(some.at);
+}
+
+static bytes each_room(int which, bytes given, bytes input, bool all) {
+  bytes lines;
+  uint32_t status;
+  bytes whole = exactly(which, given, input, &lines, &status);
+  for (size_t room = all ? 0 : (whole.length == 0 ? 0 : whole.length - 1); room <= whole.length + 2; room++) {
+    with_room(which, given, input, room, whole, lines, status);
   }
-  free(whole);
-  free(lines);
-  printf("c-memory: room of 0 to %zu bytes: as it should be\n", all.length + 2);
+  free(lines.at);
+  return whole;
+}
+
+/* How many questions records show; each text of them lies within. */
+static size_t count_of(bytes records) {
+  size_t count = 0, read = 0;
+  cose_gate_text rest = {records.at, records.length};
+  cose_gate_question question;
+  while (cose_gate_next(&rest, &question)) {
+    assert(question.signature.at + question.signature.length == question.record.at + question.record.length);
+    read += question.record.length;
+    count++;
+  }
+  assert(rest.length == 0 && read == records.length);
+  return count;
+}
+
+/* All calls over one input. How many questions it has. */
+static size_t each_call(bytes input, bool all) {
+  bytes passed = each_room(0, keys, input, all), records = each_room(1, keys, input, all);
+  bytes accepted = each_room(2, records, input, all), nothing = {passed.at, 0};
+  bytes none = each_room(2, nothing, input, all);
+  assert(accepted.length >= passed.length && none.length == 0);
+  size_t count = count_of(records);
+  free(passed.at);
+  free(records.at);
+  free(accepted.at);
+  free(none.at);
+  return count;
 }
 
 #ifdef REFUSE
-static void each_refused(bytes keys, bytes input) {
-  static uint8_t out[65536], lines[4096];
+static void each_refused(int which, bytes given, bytes input) {
+  static uint8_t room[65536], text[4096];
+  static const char *const names[] = {"cose_gate_check", "cose_gate_ask", "cose_gate_pass"}, said[] = "stopped: memory\n";
+  bytes out = {room, sizeof room}, lines = {text, sizeof text};
   is_watched = 1;
   calls = 0;
-  check(keys, input, out, sizeof out, lines, sizeof lines);
+  refused = -1;
+  uint32_t status = call(which, given, input, out, lines).status;
   long all = calls, memory = 0, same = 0;
   assert(live == 0);
   for (refused = 0; refused < all; refused++) {
     calls = 0;
-    cose_gate_answer answer = check(keys, input, out, sizeof out, lines, sizeof lines);
+    cose_gate_answer answer = call(which, given, input, out, lines);
     assert(live == 0);
-    assert(answer.status == COSE_GATE_STOPPED || answer.status == COSE_GATE_SOME_REFUSED);
+    assert(answer.status == COSE_GATE_STOPPED || answer.status == status);
+    size_t last = sizeof said - 1;
+    bool is_said = answer.lines >= last && memcmp(text + answer.lines - last, said, last) == 0;
+    assert(is_said == (answer.status == COSE_GATE_STOPPED));
     if (answer.status == COSE_GATE_STOPPED) memory++; else same++;
   }
+  refused = -1;
   is_watched = 0;
-  printf("c-memory: %ld mallocs, each refused in turn: %ld times stopped, %ld times all the same (a key that isn't prepared), no block left\n",
-         all, memory, same);
+  printf("c-memory: %s: %ld mallocs, each refused in turn: %ld times stopped, as the last line says, %ld times all the same (a key that "
+         "isn't prepared), no block left\n", names[which], all, memory, same);
 }
 
-/* The deepest input that is read: 256 levels, the message's own among them. */
-static bytes keys_of_stack;
+/* An input that goes as deep as the limits allow. */
 static bytes deep;
+static cose_gate_answer deep_answer;
+static char deep_line[256];
 static void *on_stack(void *unused) {
-  static uint8_t out[65536], lines[4096];
+  static uint8_t room[MOST];
   (void)unused;
-  cose_gate_answer answer = check(keys_of_stack, deep, out, sizeof out, lines, sizeof lines);
-  assert(answer.status == 1);
+  bytes out = {room, sizeof room}, lines = {(uint8_t *)deep_line, sizeof deep_line - 1};
+  deep_answer = call(0, keys, deep, out, lines);
   return NULL;
 }
 
-static void measure_stack(bytes keys) {
-  size_t room = 1 << 20;
+static void measure_stack(const char *what) {
+  size_t room = 1 << 22;
   uint8_t *stack = aligned_alloc(4096, room);
-  keys_of_stack = keys;
-  deep.at = malloc(600);
-  size_t n = 0;
-  const uint8_t front[] = {0xd1, 0x84, 0x40, 0xa1, 0x18, 0x63};
-  memcpy(deep.at, front, sizeof front);
-  n = sizeof front;
-  for (int i = 0; i < 253; i++) deep.at[n++] = 0x81;
-  deep.at[n++] = 0;
-  deep.at[n++] = 0x40;
-  deep.at[n++] = 0x40;
-  deep.length = n;
   memset(stack, 0xa5, room);
+  memset(deep_line, 0, sizeof deep_line);
   pthread_attr_t how;
   pthread_t thread;
   pthread_attr_init(&how);
@@ -131,21 +197,95 @@ static void measure_stack(bytes keys) {
   pthread_join(thread, NULL);
   size_t left = 0;
   while (left < room && stack[left] == 0xa5) left++;
-  printf("c-memory: a message of 256 levels takes %zu bytes of stack, those of a thread's start among them\n", room - left);
-  free(deep.at);
+  assert(deep_answer.status == 1 && strncmp(deep_line, "item 1 at 0: refused: Judged\n", 29) == 0);
+  printf("c-memory: %s take %zu bytes of stack, those of a thread's start among them\n", what, room - left);
   free(stack);
+}
+
+static uint8_t text[MOST];
+static size_t length;
+static void add(const uint8_t *bytes, size_t count) {
+  memcpy(text + length, bytes, count);
+  length += count;
+}
+static void add_byte(uint8_t byte) { add(&byte, 1); }
+
+/* So many levels, arrays or maps, round a 0. */
+static void add_levels(int levels, bool are_maps) {
+  for (int i = 0; i < levels; i++) {
+    add_byte(are_maps ? 0xa1 : 0x81);
+    if (are_maps) add_byte(0);
+  }
+  add_byte(0);
+}
+
+/* A byte string round what stands from `from` on. */
+static void enclose(size_t from) {
+  size_t count = length - from;
+  const uint8_t head[] = {0x5a, (uint8_t)(count >> 24), (uint8_t)(count >> 16), (uint8_t)(count >> 8), (uint8_t)count};
+  memmove(text + from + sizeof head, text + from, count);
+  memcpy(text + from, head, sizeof head);
+  length += sizeof head;
+}
+
+/* A protected header that holds maps, and a counter signature with such a header, and so on. */
+static void add_layers(int layers, int levels) {
+  size_t from = length;
+  add_byte(layers > 1 ? 0xa2 : 0xa1);
+  if (layers > 1) {
+    add_byte(0x07);
+    add_byte(0x83);
+    add_layers(layers - 1, levels);
+    add_byte(0xa0);
+    add_byte(0x41);
+    add_byte(0x00);
+  }
+  add_byte(0x18);
+  add_byte(0x63);
+  add_levels(levels, true);
+  enclose(from);
+}
+
+static void measure_stacks(void) {
+  for (int are_maps = 0; are_maps < 2; are_maps++) {
+    length = 0;
+    add((const uint8_t[]){0xd1, 0x84, 0x40, 0xa1, 0x18, 0x63}, 6);
+    add_levels(253, are_maps);
+    add((const uint8_t[]){0x40, 0x40}, 2);
+    deep = (bytes){text, length};
+    measure_stack(are_maps ? "256 levels, the inner ones maps," : "256 levels, the inner ones arrays,");
+  }
+  length = 0;
+  add((const uint8_t[]){0xd1, 0x84}, 2);
+  add_layers(16, 255);
+  add((const uint8_t[]){0xa0, 0x40, 0x40}, 3);
+  deep = (bytes){text, length};
+  measure_stack("16 layers of protected headers, each with 256 levels of maps,");
 }
 #endif
 
 int main(int count, char **words) {
-  assert(count == 3);
-  bytes keys = read_file(words[1]), input = read_file(words[2]);
-  each_room(keys, input);
+  assert(count >= 3);
+  keys = read_file(words[1]);
+  size_t questions = 0;
+  for (int i = 2; i < count; i++) {
+    bytes input = read_file(words[i]);
+    questions += each_call(input, i == 2);
+    free(input.at);
+  }
+  printf("c-memory: %d inputs with %zu questions, room from none to more than is needed: as it should be\n", count - 2, questions);
 #ifdef REFUSE
-  each_refused(keys, input);
-  measure_stack(keys);
+  bytes input = read_file(words[2]), lines;
+  uint32_t status;
+  bytes records = exactly(1, keys, input, &lines, &status);
+  each_refused(0, keys, input);
+  each_refused(1, keys, input);
+  each_refused(2, records, input);
+  measure_stacks();
+  free(input.at);
+  free(lines.at);
+  free(records.at);
 #endif
   free(keys.at);
-  free(input.at);
   return 0;
 }

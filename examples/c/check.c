@@ -1,18 +1,24 @@
 /* check KEYS AADHEX [strict] < INPUT > PASSED: what cose-gate does, by the library. The status is that of the library. Build and run:
- * `sh scripts/c-library.sh c`. */
+ * `bash scripts/c-library.sh c`. */
 #include "cose_gate.h"
 
 #include <stdio.h>
 #include <stdlib.h>
 #include <string.h>
 
-/* Bytes with their length. The pointer is never NULL, unless memory was refused. */
+/* Bytes with their length. The pointer is never NULL, unless they could not be had. */
 typedef struct bytes {
   uint8_t *at;
   size_t length;
 } bytes;
 
-/* The whole of a stream. */
+/* Room for so many bytes. */
+static bytes room_of(size_t length) {
+  bytes room = {malloc(length == 0 ? 1 : length), length};
+  return room;
+}
+
+/* The whole of a stream; NULL where it can't be read, or memory was refused. */
 static bytes read_all(FILE *from) {
   bytes all = {malloc(1), 0};
   size_t room = 1;
@@ -28,27 +34,47 @@ static bytes read_all(FILE *from) {
     }
     all.at = more;
   }
+  if (ferror(from)) {
+    free(all.at);
+    all.at = NULL;
+  }
   return all;
+}
+
+static int digit_of(char digit) {
+  if (digit >= '0' && digit <= '9') {
+    return digit - '0';
+  }
+  if (digit >= 'a' && digit <= 'f') {
+    return digit - 'a' + 10;
+  }
+  if (digit >= 'A' && digit <= 'F') {
+    return digit - 'A' + 10;
+  }
+  return -1;
 }
 
 /* The bytes that hex digits stand for; NULL where they are no hex. */
 static bytes of_hex(const char *text) {
   size_t digits = strlen(text);
-  bytes all = {malloc(digits / 2 + 1), digits / 2};
-  for (size_t i = 0; all.at != NULL && i < digits / 2; i++) {
-    char two[3] = {text[2 * i], text[2 * i + 1], 0};
-    char *end;
-    all.at[i] = (uint8_t)strtoul(two, &end, 16);
-    if (*end != 0) {
-      free(all.at);
-      all.at = NULL;
-    }
+  bytes all = room_of(digits / 2);
+  bool is_hex = digits % 2 == 0;
+  for (size_t i = 0; is_hex && all.at != NULL && i < digits / 2; i++) {
+    int high = digit_of(text[2 * i]), low = digit_of(text[2 * i + 1]);
+    is_hex = high >= 0 && low >= 0;
+    all.at[i] = (uint8_t)(high * 16 + low);
   }
-  if (digits % 2 != 0) {
+  if (!is_hex) {
     free(all.at);
     all.at = NULL;
   }
   return all;
+}
+
+/* One call. */
+static cose_gate_answer check(bytes keys, bytes aad, bytes input, bool strict, bytes out, bytes lines) {
+  return cose_gate_check(keys.at, keys.length, aad.at, aad.length, input.at, input.length, out.at, out.length, lines.at, lines.length,
+                         COSE_GATE_NESTING, COSE_GATE_LAYERS, strict);
 }
 
 int main(int count, char **words) {
@@ -64,29 +90,35 @@ int main(int count, char **words) {
   bytes keys = read_all(file);
   fclose(file);
   bytes aad = of_hex(words[2]);
-  bytes input = read_all(stdin);
-  bytes out = {malloc(input.length + 1), input.length};
-  uint8_t lines[4096];
+  if (aad.at == NULL) {
+    fprintf(stderr, "aad: not hex\n");
+    return 2;
+  }
+  bytes input = read_all(stdin), out = room_of(input.length), lines = room_of(4096);
   int status = COSE_GATE_STOPPED;
-  while (keys.at != NULL && aad.at != NULL && input.at != NULL && out.at != NULL) {
-    cose_gate_answer answer =
-        cose_gate_check(keys.at, keys.length, aad.at, aad.length, input.at, input.length, out.at, out.length,
-                        lines, sizeof lines, COSE_GATE_NESTING, COSE_GATE_LAYERS, count == 4);
+  while (keys.at != NULL && input.at != NULL && out.at != NULL && lines.at != NULL) {
+    cose_gate_answer answer = check(keys, aad, input, count == 4, out, lines);
+    /* What passes may be longer in its shortest form than as it came. Both rooms are then made as long as is needed. */
     if (answer.status == COSE_GATE_NO_ROOM) {
-      /* What passes is longer in its shortest form than as it came. */
       free(out.at);
-      out.at = malloc(answer.length);
-      out.length = answer.length;
+      out = room_of(answer.length);
+    }
+    if (answer.lines > lines.length) {
+      free(lines.at);
+      lines = room_of(answer.lines);
       continue;
     }
-    status = (int)answer.status;
-    fwrite(out.at, 1, answer.length, stdout);
-    fwrite(lines, 1, answer.lines < sizeof lines ? answer.lines : sizeof lines, stderr);
-    break;
+    if (answer.status != COSE_GATE_NO_ROOM) {
+      bool is_written = fwrite(out.at, 1, answer.length, stdout) == answer.length && fflush(stdout) == 0;
+      fwrite(lines.at, 1, answer.lines, stderr);
+      status = is_written ? (int)answer.status : COSE_GATE_STOPPED;
+      break;
+    }
   }
   free(keys.at);
   free(aad.at);
   free(input.at);
   free(out.at);
+  free(lines.at);
   return status;
 }

@@ -1,22 +1,37 @@
-// check KEYS AADHEX [strict] < INPUT > PASSED: what cose-gate does, by the library. Build and run: `sh scripts/c-library.sh go`.
+// check KEYS AADHEX [strict] < INPUT > PASSED: what cose-gate does, by the library. Build and run: `bash scripts/c-library.sh go`.
 package main
 
+// The archives are copied or linked into lib/, as `scripts/c-library.sh go` does.
+
+// #cgo CFLAGS: -I${SRCDIR}/../../include
+// #cgo LDFLAGS: ${SRCDIR}/lib/libcose_gate_c.a ${SRCDIR}/lib/liblibc_c.a
 // #include "cose_gate.h"
 import "C"
 
 import (
 	"encoding/hex"
+	"errors"
 	"fmt"
 	"io"
 	"os"
 	"unsafe"
 )
 
+// Why the gate didn't go through an input.
+var (
+	// ErrLimits: the limits are out of range.
+	ErrLimits = errors.New("the limits are out of range")
+	// ErrKeys: the bytes are no key set.
+	ErrKeys = errors.New("the bytes are no key set")
+	// ErrStopped: the input is no CBOR from some place on, or memory was refused. What passed before stands in Checked.
+	ErrStopped = errors.New("the input is no CBOR, or memory was refused")
+)
+
 // Checked is what the gate says of an input.
 type Checked struct {
-	Status int
-	Passed []byte
-	Lines  []byte
+	SomeRefused bool
+	Passed      []byte
+	Lines       []byte
 }
 
 // first is a pointer to the first byte, and never nil.
@@ -27,11 +42,9 @@ func first(bytes []byte) *C.uint8_t {
 	return (*C.uint8_t)(unsafe.Pointer(&bytes[0]))
 }
 
-// checkInto is one call, with room for so many bytes of output.
-func checkInto(keys, aad, input []byte, strict bool, room int) (C.cose_gate_answer, Checked) {
-	passed := make([]byte, room)
-	lines := make([]byte, 4096)
-	answer := C.cose_gate_check(
+// call is one call, with this room.
+func call(keys, aad, input []byte, strict bool, passed, lines []byte) C.cose_gate_answer {
+	return C.cose_gate_check(
 		first(keys), C.size_t(len(keys)),
 		first(aad), C.size_t(len(aad)),
 		first(input), C.size_t(len(input)),
@@ -39,20 +52,54 @@ func checkInto(keys, aad, input []byte, strict bool, room int) (C.cose_gate_answ
 		first(lines), C.size_t(len(lines)),
 		C.COSE_GATE_NESTING, C.COSE_GATE_LAYERS, C.bool(strict),
 	)
-	length := min(int(answer.length), len(passed))
-	shown := min(int(answer.lines), len(lines))
-	return answer, Checked{int(answer.status), passed[:length], lines[:shown]}
 }
 
-// Check checks a sequence of messages within the usual limits.
-func Check(keys, aad, input []byte, strict bool) Checked {
-	answer, checked := checkInto(keys, aad, input, strict, len(input))
-	if answer.status != C.COSE_GATE_NO_ROOM {
-		return checked
+// longer is the larger of the two.
+func longer(a, b int) int {
+	if a < b {
+		return b
 	}
-	// What passes is longer in its shortest form than as it came.
-	_, checked = checkInto(keys, aad, input, strict, int(answer.length))
-	return checked
+	return a
+}
+
+// Check checks a sequence of messages within the usual limits. With ErrKeys and ErrStopped the lines are told too.
+func Check(keys, aad, input []byte, strict bool) (Checked, error) {
+	passed := make([]byte, len(input))
+	lines := make([]byte, 4096)
+	answer := call(keys, aad, input, strict, passed, lines)
+	if answer.status == C.COSE_GATE_NO_ROOM || int(answer.lines) > len(lines) {
+		// What passes is longer in its shortest form than as it came, or the lines than was thought: the answer names how long.
+		passed = make([]byte, longer(len(passed), int(answer.length)))
+		lines = make([]byte, longer(len(lines), int(answer.lines)))
+		answer = call(keys, aad, input, strict, passed, lines)
+	}
+	checked := Checked{answer.status == C.COSE_GATE_SOME_REFUSED, passed[:answer.length], lines[:answer.lines]}
+	switch answer.status {
+	case C.COSE_GATE_ALL_PASSED, C.COSE_GATE_SOME_REFUSED:
+		return checked, nil
+	case C.COSE_GATE_LIMITS:
+		return checked, ErrLimits
+	case C.COSE_GATE_KEYS:
+		return checked, ErrKeys
+	default:
+		return checked, ErrStopped
+	}
+}
+
+// status is that of the program.
+func status(checked Checked, err error) int {
+	switch {
+	case errors.Is(err, ErrLimits):
+		return 2
+	case errors.Is(err, ErrKeys):
+		return 3
+	case err != nil:
+		return 4
+	case checked.SomeRefused:
+		return 1
+	default:
+		return 0
+	}
 }
 
 func main() {
@@ -75,10 +122,10 @@ func main() {
 	if err != nil {
 		os.Exit(4)
 	}
-	checked := Check(keys, aad, input, len(words) == 4)
+	checked, err := Check(keys, aad, input, len(words) == 4)
 	os.Stderr.Write(checked.Lines)
 	if _, err := os.Stdout.Write(checked.Passed); err != nil {
 		os.Exit(4)
 	}
-	os.Exit(checked.Status)
+	os.Exit(status(checked, err))
 }

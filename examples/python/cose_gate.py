@@ -1,8 +1,10 @@
-"""The gate for Python, by ctypes over a shared object made of the library. `Gate(path).check(..)` gives what passes, and raises on each status
-that isn't 0 or 1. As a program: cose_gate.py LIBRARY KEYS AADHEX [strict] < INPUT > PASSED. Build and run: `sh scripts/c-library.sh python`."""
+"""The gate for Python, by ctypes over a shared object made of the library. `Gate(path).check(..)` gives what passes; `ask` and `pass_accepted`
+are for signatures that the caller checks. Each raises on the statuses 2 to 5: `LimitsError`, `KeysError`, `StoppedError`, `NoRoomError`. As a
+program: cose_gate.py LIBRARY KEYS AADHEX [strict] < INPUT > PASSED. Build and run: `bash scripts/c-library.sh python`."""
 
 import ctypes
 import sys
+from typing import NamedTuple
 
 NESTING, LAYERS = 256, 16
 
@@ -31,7 +33,7 @@ class LimitsError(GateError):
 
 
 class KeysError(GateError):
-    """The bytes are no key set."""
+    """The bytes are no key set, or no records."""
 
     status = 3
 
@@ -52,51 +54,97 @@ class NoRoomError(GateError):
         self.needed = needed
 
 
-class Checked:
+class Checked(NamedTuple):
     """What passed, whether some item was refused, and the report's lines."""
 
-    def __init__(self, passed, some_refused, lines):
-        self.passed = passed
-        self.some_refused = some_refused
-        self.lines = lines
+    passed: bytes
+    some_refused: bool
+    lines: str
+
+
+class Question(NamedTuple):
+    """A question, as its record shows it. `record` is what is handed on to accept it."""
+
+    record: bytes
+    kind: int  # the message's tag: 18, 17, 98 or 97
+    protected: bytes
+    unprotected: bytes
+    signer_protected: bytes
+    signer_unprotected: bytes
+    recipients: bytes
+    covered: bytes
+    signature: bytes
+
+
+def texts_of(data, at, end):
+    """The texts from `at` to `end`, each behind its length in eight bytes, the lowest first."""
+    while at < end:
+        length = int.from_bytes(data[at : at + 8], "little")
+        yield at + 8, at + 8 + length
+        at += 8 + length
+
+
+def questions_of(records):
+    """The questions that records show."""
+    for start, end in texts_of(records, 0, len(records)):
+        kind = int.from_bytes(records[start : start + 8], "little")
+        texts = (records[a:b] for a, b in texts_of(records, start + 8, end))
+        yield Question(records[start - 8 : end], kind, *texts)
 
 
 class Gate:
     """The library at this path."""
 
     def __init__(self, path):
-        self._check = ctypes.CDLL(path).cose_gate_check
-        pair = [ctypes.c_char_p, ctypes.c_size_t]
-        self._check.argtypes = pair * 5 + [ctypes.c_size_t, ctypes.c_size_t, ctypes.c_bool]
-        self._check.restype = Answer
+        library = ctypes.CDLL(path)
+        self._check = self._declared(library.cose_gate_check, 5)
+        self._ask = self._declared(library.cose_gate_ask, 4)
+        self._pass = self._declared(library.cose_gate_pass, 5)
+
+    @staticmethod
+    def _declared(call, buffers):
+        call.argtypes = [ctypes.c_char_p, ctypes.c_size_t] * buffers + [ctypes.c_size_t, ctypes.c_size_t, ctypes.c_bool]
+        call.restype = Answer
+        return call
 
     def check(self, keys, aad, input, strict=False, nesting=NESTING, layers=LAYERS, room=None):
         """Checks a sequence of messages: bytes, bytes and bytes. Without `room` the output has the room that it needs."""
-        if room is not None:
-            return self._check_into(keys, aad, input, strict, nesting, layers, room)
-        try:
-            return self._check_into(keys, aad, input, strict, nesting, layers, len(input))
-        except NoRoomError as fault:
-            # What passes is longer in its shortest form than as it came.
-            return self._check_into(keys, aad, input, strict, nesting, layers, fault.needed)
+        return self._run(self._check, (keys, aad, input), room, nesting, layers, strict)
 
-    def _check_into(self, keys, aad, input, strict, nesting, layers, room):
-        out = ctypes.create_string_buffer(room + 1)
-        lines_room = 64 * (len(input) + 2)
-        lines = ctypes.create_string_buffer(lines_room)
-        a = self._check(
-            keys, len(keys), aad, len(aad), input, len(input),
-            ctypes.cast(out, ctypes.c_char_p), room, ctypes.cast(lines, ctypes.c_char_p), lines_room,
-            nesting, layers, strict,
-        )  # fmt: skip
-        said = lines.raw[: min(a.lines, lines_room)].decode()
+    def ask(self, aad, input, strict=False, nesting=NESTING, layers=LAYERS, room=None):
+        """The questions of a sequence of messages."""
+        told = self._run(self._ask, (aad, input), room, nesting, layers, strict)
+        return list(questions_of(told.passed))
+
+    def pass_accepted(self, accepted, aad, input, strict=False, nesting=NESTING, layers=LAYERS, room=None):
+        """The messages all of whose questions are among the accepted."""
+        records = b"".join(question.record for question in accepted)
+        return self._run(self._pass, (records, aad, input), room, nesting, layers, strict)
+
+    def _run(self, call, inputs, room, *terms):
+        """A call with the room that it needs, or with just this room."""
+        out_room = len(inputs[-1]) if room is None else room
+        lines_room = 4096
+        while True:
+            out = ctypes.create_string_buffer(out_room + 1)
+            lines = ctypes.create_string_buffer(lines_room)
+            pairs = [part for bytes in inputs for part in (bytes, len(bytes))]
+            a = call(*pairs, ctypes.cast(out, ctypes.c_char_p), out_room, ctypes.cast(lines, ctypes.c_char_p), lines_room, *terms)
+            is_longer = a.status == NoRoomError.status and room is None
+            if not is_longer and a.lines <= lines_room:
+                return self._checked(a, out.raw[: a.length], lines.raw[: a.lines].decode())
+            # What is written, or told, is longer than the room: the answer names how long.
+            out_room = max(out_room, a.length) if is_longer else out_room
+            lines_room = max(lines_room, a.lines)
+
+    @staticmethod
+    def _checked(a, passed, lines):
         if a.status == NoRoomError.status:
-            raise NoRoomError(said, a.length)
-        passed = out.raw[: a.length]
+            raise NoRoomError(lines, a.length)
         for fault in (LimitsError, KeysError, StoppedError):
             if a.status == fault.status:
-                raise fault(said, passed)
-        return Checked(passed, a.status == 1, said)
+                raise fault(lines, passed)
+        return Checked(passed, a.status == 1, lines)
 
 
 def main(words):

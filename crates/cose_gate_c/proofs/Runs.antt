@@ -1,13 +1,19 @@
--- The library's answers, from those of the program's run.
-use Rattle.std.proofs.Common.{◌≡◌, ℕ, ◌<◌, ◌≤◌, ◌++◌, inl, inr, List, [], length, drop, Option, Some, Bool, true, false, cond, nat_eq, refl, sym, ap, subst, ◌∙◌, arith}
+-- The library's answers, from those of a run.
+use Rattle.std.proofs.Common.{◌≡◌, ℕ, ◌<◌, ◌≤◌, ◌++◌, ◌⊎◌, inl, inr, List, [], length, drop, flat_map, Option, Some, None, Bool, true, false, cond, nat_eq, refl, sym, ap, subst, ◌∙◌, arith}
+use Rattle.cose_judge_hmac.specs.GateCore.Reading.{IfKnown}
 use Rattle.coset_labels.specs.Limits.{AreLimits, nesting_of, layers_of}
 use Rattle.coset_labels.specs.declared.limits.Limits.{Limits as Chosen}
+use Rattle.cose_judge_hmac.specs.GateCore.Asked.{IsFront}
 use Rattle.cose_judge_hmac.specs.GateCore.Findings.{Limits}
+use Rattle.cose_judge_hmac.specs.GateCore.Run.{Step, Course, questions_of}
 use Rattle.cose_judge_hmac.specs.GateCore.Terms.{limits_by}
 use Rattle.cose_judge_hmac.specs.GateCore.Questions.{Question}
 use Rattle.cose_judge_hmac.specs.Judge.{says_yes}
-use Rattle.cose_run.specs.Program.{Devices, EndsOver, RanOver}
-use Rattle.cose_gate_c.specs.Library.{within, before, after, IsRunStatus, Runs, Places, Checks}
+use Rattle.cose_run.specs.Program.{Devices, EndsOver, RanOver, RanOn, RanJudged, Hearing}
+use Rattle.cose_asked.specs.Framing.{framed}
+use Rattle.cose_asked.specs.Records.{record_of, is_among}
+use Rattle.cose_asked.proofs.Asked.{told_all}
+use Rattle.cose_gate_c.specs.Library.{within, before, after, IsRunStatus, Runs, RunsBy, NoMemory, Passed, Tells, Places, Answers}
 use Rattle.cose_gate_c.specs.declared.answer.Answer.{Answer}
 
 below_two : (b : Bool) (n : ℕ) → n ≡ cond {A = ℕ} b 0 1 → n < 2
@@ -15,38 +21,129 @@ below_two true n e = let h : n ≡ 0 = e in omega arith
 below_two false n e = let h : n ≡ 1 = e in omega arith
 
 -- the statuses of a run
-ran_status : (limits : Limits) (allows : Question → Bool) (aad : List ℕ) (old new : Devices) (b : List ℕ) (status : ℕ) → RanOver limits allows aad old new b status → IsRunStatus status
-ran_status limits allows aad old new b status r = elim r [
+over_status : (limits : Limits) (allows : Question → Bool) (aad : List ℕ) (old new : Devices) (b : List ℕ) (steps : List Step) (status : ℕ)
+    → RanOver limits allows aad old new b steps status → (status < 2) ⊎ (status ≡ 4)
+over_status limits allows aad old new b steps status r = elim r [
   | inl t ↦ inl (below_two (nat_eq t.0 0) status t.2)
-  | inr p ↦ inr (inr p.1)
+  | inr p ↦ inr p.1
 ]
+
+pub ran_status : (limits : Limits) (allows : Question → Bool) (aad : List ℕ) (old new : Devices) (status : ℕ)
+    → RanOn limits allows aad old new status → (status < 2) ⊎ (status ≡ 4)
+ran_status limits allows aad old new status r = over_status limits allows aad old new r.ran.input r.ran.steps status r.ran.over
 
 run_status : (limits : Limits) (keys aad : List ℕ) (old new : Devices) (status : ℕ) → EndsOver limits says_yes keys aad old new status → IsRunStatus status
 run_status limits keys aad old new status e = elim e [
   | inl k ↦ inr (inl k.2)
   | inr m ↦ elim m [
     | inl n ↦ inr (inr n.0)
-    | inr r ↦ ran_status limits (says_yes r.0) aad old new r.2.ran.input status r.2.ran.over
+    | inr r ↦ elim (ran_status limits (says_yes r.0) aad old new status r.2) [
+      | inl few ↦ inl few
+      | inr four ↦ inr (inr four)
+    ]
   ]
 ]
 
--- the run's text and status, where the output was empty before and no device had failed
-pub runs : (limits : Limits) (keys aad input : List ℕ) (first : List ℕ) (f : ℕ) (left : Option (List ℕ)) (written text : List ℕ) (f' status : ℕ) → first ≡ [] → f ≡ 0 → text ≡ written
-    → EndsOver limits says_yes keys aad (record { left = Some input; written = Some first; read_failures = 0; write_failures = f }) (after left written f') status
+-- devices by their parts
+abbrev devices : Option (List ℕ) → List ℕ → ℕ → Devices
+devices left written failures = record { left = left; written = Some written; read_failures = 0; write_failures = failures }
+
+same_devices : (left : Option (List ℕ)) (w w' : List ℕ) (f f' : ℕ) → w ≡ w' → f ≡ f' → devices left w f ≡ devices left w' f'
+same_devices left w w' f f' e h = ap (λ (z : List ℕ). devices left z f) e ∙ ap (λ (n : ℕ). devices left w' n) h
+
+-- the run's text and status, where the output was empty before and no device failed
+pub runs : (limits : Limits) (keys aad input : List ℕ) (first : List ℕ) (f : ℕ) (left : Option (List ℕ)) (written text : List ℕ) (f' status : ℕ)
+    → first ≡ [] → f ≡ 0 → text ≡ written → f' ≡ 0
+    → EndsOver limits says_yes keys aad (devices (Some input) first f) (devices left written f') status
     → Runs limits keys aad input text status
-runs limits keys aad input first f left written text f' status empty none same e =
-    let e1 : EndsOver limits says_yes keys aad (record { left = Some input; written = Some []; read_failures = 0; write_failures = f }) (after left written f') status
-    = subst (λ (o : List ℕ). EndsOver limits says_yes keys aad (record { left = Some input; written = Some o; read_failures = 0; write_failures = f }) (after left written f') status) empty e in
-    let e2 : EndsOver limits says_yes keys aad (before input) (after left written f') status
-    = subst (λ (n : ℕ). EndsOver limits says_yes keys aad (record { left = Some input; written = Some []; read_failures = 0; write_failures = n }) (after left written f') status) none e1 in
-    let e3 : EndsOver limits says_yes keys aad (before input) (after left text f') status
-    = subst (λ (o : List ℕ). EndsOver limits says_yes keys aad (before input) (after left o f') status) (sym same) e2 in
-    record { left = left; failures = f'; ends = e3; known = run_status limits keys aad (before input) (after left text f') status e3 }
+runs limits keys aad input first f left written text f' status empty none same well e =
+    let e1 : EndsOver limits says_yes keys aad (before input) (devices left written f') status
+    = subst (λ (d : Devices). EndsOver limits says_yes keys aad d (devices left written f') status) (same_devices (Some input) first [] f 0 empty none) e in
+    let e2 : EndsOver limits says_yes keys aad (before input) (after left text) status
+    = subst (λ (d : Devices). EndsOver limits says_yes keys aad (before input) d status) (same_devices left written text f' 0 (sym same) well) e1 in
+    record { left = left; ends = e2; known = run_status limits keys aad (before input) (after left text) status e2 }
+
+-- the same of a run with the judge by records
+pub runs_by : (limits : Limits) (keys : List (List ℕ)) (aad input : List ℕ) (first : List ℕ) (f : ℕ) (left : Option (List ℕ)) (written text : List ℕ) (f' status : ℕ)
+    → first ≡ [] → f ≡ 0 → text ≡ written → f' ≡ 0
+    → RanOn limits (is_among keys) aad (devices (Some input) first f) (devices left written f') status
+    → RunsBy limits keys aad input text status
+runs_by limits keys aad input first f left written text f' status empty none same well e =
+    let e1 : RanOn limits (is_among keys) aad (before input) (devices left written f') status
+    = subst (λ (d : Devices). RanOn limits (is_among keys) aad d (devices left written f') status) (same_devices (Some input) first [] f 0 empty none) e in
+    let e2 : RanOn limits (is_among keys) aad (before input) (after left text) status
+    = subst (λ (d : Devices). RanOn limits (is_among keys) aad (before input) d status) (same_devices left written text f' 0 (sym same) well) e1 in
+    record { left = left; ran = e2; known = ran_status limits (is_among keys) aad (before input) (after left text) status e2 }
+
+-- the judge that says yes to all, and keeps each record
+abbrev asking : List ℕ → List ℕ → Hearing (List ℕ)
+asking first told = record { allows = λ _. true; decided = λ t q. t ++ record_of q; before = first; after = told }
+
+course_to : (limits : Limits) (aad input b : List ℕ) (steps : List Step) (more : List ℕ) → input ≡ b
+    → Course limits (λ _. true) aad 0 b steps more → Course limits (λ _. true) aad 0 input steps more
+course_to limits aad input b steps more e c = subst (λ (z : List ℕ). Course limits (λ _. true) aad 0 z steps more) (sym e) c
+
+known : (left : Option (List ℕ)) (input b : List ℕ) → left ≡ Some input → IfKnown left (λ z. z ≡ b) → input ≡ b
+known left input b there is = subst (λ (o : Option (List ℕ)). IfKnown o (λ z. z ≡ b)) there is
+
+four_is_more : (n : ℕ) → n < 2 → n ≡ 4 → ⊥
+four_is_more n few four = omega (arith, few, four)
+
+-- what it was told
+pub tells : (limits : Limits) (aad input first told text : List ℕ) (old new : Devices) (status : ℕ) → old.left ≡ Some input → first ≡ [] → text ≡ told
+    → RanJudged limits (asking first told) aad old new status → Tells limits aad input text status
+tells limits aad input first told text old new status there empty same r =
+    let front : List Question = r.heard.told.front in
+    let all : told ≡ first ++ flat_map record_of front = r.heard.told.tells ∙ told_all first front in
+    let is : text ≡ flat_map record_of front = same ∙ (all ∙ ap (λ (z : List ℕ). z ++ flat_map record_of front) empty) in
+    let here : input ≡ r.on.ran.input = known old.left input r.on.ran.input there r.on.ran.is in
+    elim r.on.ran.over [
+      | inl t ↦ record {
+        steps = r.on.ran.steps;
+        more = [];
+        course = course_to limits aad input r.on.ran.input r.on.ran.steps [] here t.1.course;
+        front = front;
+        is_front = r.heard.told.is_front;
+        text_is = is;
+        whole = λ few. (refl, r.heard.all few);
+        known = inl (below_two (nat_eq t.0 0) status t.2);
+      }
+      | inr p ↦ record {
+        steps = r.on.ran.steps;
+        more = p.0.more;
+        course = course_to limits aad input r.on.ran.input r.on.ran.steps p.0.more here p.0.course;
+        front = front;
+        is_front = r.heard.told.is_front;
+        text_is = is;
+        whole = λ few. elim (four_is_more status few p.1) [ ];
+        known = inr p.1;
+      }
+    ]
 
 -- the limits that were chosen
-pub checks : (l : Chosen) (nesting layers : ℕ) (strict : Bool) (keys aad input old new : List ℕ) (answer : Answer) → AreLimits nesting layers × (nesting_of l ≡ nesting) × (layers_of l ≡ layers)
-    → ((written : List ℕ) × (status : ℕ) × Runs (limits_by l strict) keys aad input written status × Places written status old new answer)
-    → Checks nesting layers strict keys aad input old new answer
-checks l nesting layers strict keys aad input old new answer are w =
+pub answers : (l : Chosen) (nesting layers : ℕ) (strict : Bool) (IsText : Limits → List ℕ → ℕ → Type 0) (old new : List ℕ) (answer : Answer)
+    → AreLimits nesting layers × (nesting_of l ≡ nesting) × (layers_of l ≡ layers)
+    → ((written : List ℕ) × (status : ℕ) × IsText (limits_by l strict) written status × Places written status old new answer)
+    → Answers nesting layers (IsText (within nesting layers strict)) old new answer
+answers l nesting layers strict IsText old new answer are w =
     let same : limits_by l strict ≡ within nesting layers strict = ap (λ (n : ℕ). within n (layers_of l) strict) are.1 ∙ ap (λ (k : ℕ). within nesting k strict) are.2 in
-    inl (are.0, (w.0, w.1, subst (λ (o : Limits). Runs o keys aad input w.0 w.1) same w.2, w.3))
+    inl (are.0, (w.0, w.1, subst (λ (o : Limits). IsText o w.0 w.1) same w.2, w.3))
+
+none_below : (n : ℕ) → n < 0 → ⊥
+none_below n few = omega (arith, few)
+
+-- nothing is placed
+pub places_none : (status : ℕ) (old new : List ℕ) (answer : Answer) → answer.length ≡ 0 → answer.status ≡ status → new ≡ old → Places [] status old new answer
+places_none status old new answer l s e = record {
+  length_is = l;
+  fits = λ _. (s, e);
+  no_room = λ few. elim (none_below (length old) few) [ ];
+}
+
+-- by the keys that were accepted, or memory was refused
+pub passed : (limits : Limits) (accepted : List ℕ) (keys : List (List ℕ)) (aad input written : List ℕ) (status : ℕ) → accepted ≡ flat_map framed keys
+    → RunsBy limits keys aad input written status ⊎ NoMemory written status → Passed limits accepted aad input written status
+passed limits accepted keys aad input written status e r = elim r [
+  | inl ran ↦ inl (keys, e, ran)
+  | inr none ↦ inr (inr none)
+]

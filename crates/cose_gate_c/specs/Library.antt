@@ -1,43 +1,104 @@
 -- What the library answers over memory.
-use Rattle.std.specs.Prelude.{◌≡◌, ℕ, ◌<◌, ◌≤◌, ◌⊎◌, List, [], ◌++◌, length, drop, Option, Some, Bool}
+use Rattle.std.specs.Prelude.{◌≡◌, ℕ, ◌<◌, ◌≤◌, ◌⊎◌, List, [], ◌++◌, length, drop, flat_map, Option, Some, Bool, true}
 use Rattle.coset_labels.specs.Limits.{AreLimits}
+use Rattle.cose_judge_hmac.specs.GateCore.Asked.{IsFront}
 use Rattle.cose_judge_hmac.specs.GateCore.Findings.{Limits, excluded_by}
+use Rattle.cose_judge_hmac.specs.GateCore.Questions.{Question}
+use Rattle.cose_judge_hmac.specs.GateCore.Run.{Step, Course, questions_of}
 use Rattle.cose_judge_hmac.specs.Judge.{says_yes}
-use Rattle.cose_run.specs.Program.{Devices, EndsOver}
+use Rattle.cose_run.specs.Program.{Devices, EndsOver, RanOn}
+use Rattle.cose_asked.specs.Framing.{framed}
+use Rattle.cose_asked.specs.Records.{is_among, record_of}
 use Rattle.cose_gate_c.specs.declared.answer.Answer.{Answer}
 
 -- so many levels and layers; a strict gate passes only what is already as it would be written
 abbrev pub within : ℕ → ℕ → Bool → Limits
-within nesting layers strict = record { nesting = nesting; layers = layers; excludes = λ bytes m. excluded_by strict bytes m }
+within nesting layers strict =
+    record { nesting = nesting; layers = layers; excludes = λ bytes m. excluded_by strict bytes m }
 
 -- before the run: the whole input is to come, and nothing is written
 abbrev pub before : List ℕ → Devices
-before input = record { left = Some input; written = Some []; read_failures = 0; write_failures = 0 }
+before input =
+    record { left = Some input; written = Some []; read_failures = 0; write_failures = 0 }
 
--- after it
-abbrev pub after : Option (List ℕ) → List ℕ → ℕ → Devices
-after left written failures = record { left = left; written = Some written; read_failures = 0; write_failures = failures }
+-- after it, where memory was found for all that was written
+abbrev pub after : Option (List ℕ) → List ℕ → Devices
+after left written =
+    record { left = left; written = Some written; read_failures = 0; write_failures = 0 }
 
 -- the statuses of a run
 abbrev pub IsRunStatus : ℕ → Type 0
 IsRunStatus status = (status < 2) ⊎ (status ≡ 3) ⊎ (status ≡ 4)
 
--- the run wrote this text and ended with this status
+-- the program's run wrote this text and ended with this status
 pub record Runs (limits : Limits) (keys aad input written : List ℕ) (status : ℕ) : Type 0 where
   pub left : Option (List ℕ)
-  pub failures : ℕ
-  pub ends : EndsOver limits says_yes keys aad (before input) (after left written failures) status
+  pub ends : EndsOver limits says_yes keys aad (before input) (after left written) status
   pub known : IsRunStatus status
 
--- the text stands in front of what was there, where it is no longer; else there is no room, and nothing was written
+-- memory was refused, and nothing is written
+abbrev pub NoMemory : List ℕ → ℕ → Type 0
+NoMemory written status = (written ≡ []) × (status ≡ 4)
+
+-- the text stands in front of what was there, where it is no longer; else there is no room, and
+-- nothing was written
 pub record Places (written : List ℕ) (status : ℕ) (old new : List ℕ) (answer : Answer) : Type 0 where
   pub length_is : answer.length ≡ length written
-  pub fits : length written ≤ length old → (answer.status ≡ status) × (new ≡ written ++ drop (length written) old)
+  pub fits : length written ≤ length old
+      → (answer.status ≡ status) × (new ≡ written ++ drop (length written) old)
   pub no_room : length old < length written → (answer.status ≡ 5) × (new ≡ old)
 
--- the program's run over memory; or no limits that a caller may choose, where nothing is read
-abbrev pub Checks : ℕ → ℕ → Bool → List ℕ → List ℕ → List ℕ → List ℕ → List ℕ → Answer → Type 0
-Checks nesting layers strict keys aad input old new answer =
-    (AreLimits nesting layers × ((written : List ℕ) × (status : ℕ) × Runs (within nesting layers strict) keys aad input written status
+-- where the limits are some that a caller may choose, there is a text with its status, and it is placed; else nothing was read
+abbrev pub Answers : ℕ → ℕ → (List ℕ → ℕ → Type 0) → List ℕ → List ℕ → Answer → Type 0
+Answers nesting layers IsText old new answer =
+    (AreLimits nesting layers × ((written : List ℕ) × (status : ℕ) × IsText written status
     × Places written status old new answer))
     ⊎ ((AreLimits nesting layers → ⊥) × (answer.status ≡ 2) × (answer.length ≡ 0) × (new ≡ old))
+
+-- the program's run over memory
+abbrev pub Checked : Limits → List ℕ → List ℕ → List ℕ → List ℕ → ℕ → Type 0
+Checked limits keys aad input written status =
+    Runs limits keys aad input written status ⊎ NoMemory written status
+
+abbrev pub Checks : ℕ → ℕ → Bool → List ℕ → List ℕ → List ℕ → List ℕ → List ℕ → Answer → Type 0
+Checks nesting layers strict keys aad input old new answer =
+    Answers nesting layers (Checked (within nesting layers strict) keys aad input) old new answer
+
+-- the text is the records of the questions that a judge is asked who always says yes, in order: all of them where the run went to its
+-- end, and else a front of them
+pub record Tells (limits : Limits) (aad input text : List ℕ) (status : ℕ) : Type 0 where
+  pub steps : List Step
+  pub more : List ℕ
+  pub course : Course limits (λ _. true) aad 0 input steps more
+  pub front : List Question
+  pub is_front : IsFront front (questions_of (λ _. true) aad steps)
+  pub text_is : text ≡ flat_map record_of front
+  pub whole : status < 2 → (more ≡ []) × (front ≡ questions_of (λ _. true) aad steps)
+  pub known : (status < 2) ⊎ (status ≡ 4)
+
+abbrev pub Told : Limits → List ℕ → List ℕ → List ℕ → ℕ → Type 0
+Told limits aad input written status =
+    Tells limits aad input written status ⊎ NoMemory written status
+
+abbrev pub Asks : ℕ → ℕ → Bool → List ℕ → List ℕ → List ℕ → List ℕ → Answer → Type 0
+Asks nesting layers strict aad input old new answer =
+    Answers nesting layers (Told (within nesting layers strict) aad input) old new answer
+
+-- the run with the judge that says yes where the key of a question is one of these
+pub record RunsBy (limits : Limits) (keys : List (List ℕ)) (aad input written : List ℕ) (status : ℕ)
+    : Type 0 where
+  pub left : Option (List ℕ)
+  pub ran : RanOn limits (is_among keys) aad (before input) (after left written) status
+  pub known : (status < 2) ⊎ (status ≡ 4)
+
+-- where what was accepted is records, one behind another, that run; else nothing was read
+abbrev pub Passed : Limits → List ℕ → List ℕ → List ℕ → List ℕ → ℕ → Type 0
+Passed limits accepted aad input written status =
+    ((keys : List (List ℕ)) × (accepted ≡ flat_map framed keys)
+    × RunsBy limits keys aad input written status)
+    ⊎ (((keys : List (List ℕ)) → accepted ≡ flat_map framed keys → ⊥) × (written ≡ []) × (status ≡ 3))
+    ⊎ NoMemory written status
+
+abbrev pub Passes : ℕ → ℕ → Bool → List ℕ → List ℕ → List ℕ → List ℕ → List ℕ → Answer → Type 0
+Passes nesting layers strict accepted aad input old new answer =
+    Answers nesting layers (Passed (within nesting layers strict) accepted aad input) old new answer

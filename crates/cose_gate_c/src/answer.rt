@@ -1,14 +1,27 @@
 //! What a call answers.
+ghost use Rattle.std.specs.Prelude.{◌≡◌};
 
 /// The status of a call, and how long what it writes is.
 #[repr(C)]
 #[derive(Debug, Clone, Copy, PartialEq, Eq)]
 pub struct Answer {
-    /// 0: no item was refused. 1: some were. 2: the limits are none. 3: the bytes are no key set. 4: the input is no CBOR, or memory was
-    /// refused. 5: the output has no room, and nothing was written.
+    /// 0: no item was refused. 1: some were. 2: the limits are none. 3: the bytes are no key set, or no records. 4: the input is no CBOR,
+    /// or memory was refused. 5: the output has no room, and nothing was written.
     pub status: u32,
     /// The bytes of output. With 5 it is the room that is needed.
     pub length: usize,
     /// The bytes of the report's lines, also of those that had no room.
     pub lines: usize,
+}
+
+/// Limits that no caller may choose.
+pub(crate) fn no_limits() -> Answer
+    ensures status { result.status ≡ 2 }
+    ensures length { result.length ≡ 0 }
+{
+    Answer {
+        status: 2,
+        length: 0,
+        lines: 0,
+    }
 }

@@ -1,12 +1,12 @@
 //! The program's run over memory.
 ghost use Rattle.std.specs.Prelude.{◌≡◌, ℕ, List};
 ghost use Rattle.cose_judge_hmac.specs.GateCore.Terms.{limits_by};
-ghost use Rattle.cose_gate_c.specs.Library.{Checks, Runs, Places};
+ghost use Rattle.cose_gate_c.specs.Library.{Checks, Checked, Places};
 
-use crate::answer::Answer;
+use crate::answer::{Answer, no_limits};
 use crate::lines::Lines;
-use crate::place::place;
-use ciborium_ll::Mem;
+use crate::place::{place, place_none};
+use cose_asked::Growing;
 use cose_run::{Limits, run_over};
 use std::alloc::Global;
 
@@ -21,11 +21,12 @@ fn check_within(
     out: &mut [u8],
     lines: &mut [u8],
 ) -> Answer
-    ensures { (written : List ℕ) × (status : ℕ) × Runs (limits_by limits strict) keys.now aad.now input.now written status
+    ensures { (written : List ℕ) × (status : ℕ)
+        × Checked (limits_by limits strict) keys.now aad.now input.now written status
         × Places written status «out».old «out».new result }
 {
     let mut reader = input;
-    let mut output = Mem::new(Vec::new(alloc));
+    let mut output = Growing::new(alloc);
     let mut told = Lines::new(lines);
     let status = run_over(
         alloc,
@@ -37,6 +38,10 @@ fn check_within(
         &mut output,
         &mut told,
     );
+    if output.is_refused() {
+        told.stopped_for_memory();
+        return place_none(out, 4, told.length());
+    }
     place(out, output.as_written(), status, told.length())
 }
 
@@ -46,7 +51,8 @@ fn check_within(
 /// where its item is already the text that would be written.
 ///
 /// The messages that passed stand at the front of `out`, each as its one shortest text; the lines of the program's standard error stand in
-/// `lines`, as far as they fit. Memory that is taken is given back before it returns.
+/// `lines`, as far as they fit. Memory that is taken is given back before it returns. Where it is refused to the output, nothing is
+/// written, and the status is 4.
 ///
 /// Where what would be written is longer than `out`, and only then, the status is 5: `out` stays as it was, and `length` is the room that
 /// is needed.
@@ -66,10 +72,6 @@ pub extern "C" fn cose_gate_check(
 {
     match Limits::new(nesting, layers) {
         Some(limits) => check_within(alloc, limits, strict, keys, aad, input, out, lines),
-        None => Answer {
-            status: 2,
-            length: 0,
-            lines: 0,
-        },
+        None => no_limits(),
     }
 }

@@ -2,6 +2,8 @@
 #![tactic(auto)]
 
 mod answer;
+mod ask;
 mod check;
 mod lines;
+mod pass;
 mod place;

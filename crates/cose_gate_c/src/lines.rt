@@ -16,6 +16,18 @@ impl<'a> Lines<'a> {
         Lines { room, length: 0 }
     }
 
+    /// Writes a line.
+    pub(crate) fn say(&mut self, line: &[u8]) {
+        let _ = self.write_all(line);
+    }
+
+    /// Says that memory was refused. The last line of a run whose output can't grow tells of its writer, so it is written over.
+    pub(crate) fn stopped_for_memory(&mut self) {
+        let last = b"stopped: write\n";
+        self.length = self.length.saturating_sub(last.len());
+        self.say(b"stopped: memory\n");
+    }
+
     /// How long all lines are.
     pub(crate) fn length(&self) -> usize {
         self.length

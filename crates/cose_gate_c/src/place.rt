@@ -42,3 +42,13 @@ pub(crate) fn place(out: &mut [u8], text: &[u8], status: u8, lines: usize) -> An
         lines,
     }
 }
+
+/// Hands out that nothing was written.
+pub(crate) fn place_none(out: &mut [u8], status: u8, lines: usize) -> Answer
+    ensures length { result.length ≡ 0 }
+    ensures status { result.status ≡ status }
+    ensures same { «out».new ≡ «out».old }
+    ensures lines { result.lines ≡ lines }
+{
+    place(out, &[], status, lines)
+}

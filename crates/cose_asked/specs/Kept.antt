@@ -1,0 +1,29 @@
+-- What is held and kept of questions.
+use Rattle.std.specs.Prelude.{◌≡◌, ℕ, List, map}
+use Rattle.cose_gate_core.specs.Questions.{Subject}
+use Rattle.cose_asked.specs.Records.{front_of}
+use Rattle.cose_asked.specs.declared.held.Held.{Held}
+use Rattle.cose_asked.specs.declared.asker.Asker.{Asker}
+use Rattle.cose_asked.specs.declared.accepted.Accepted.{Accepted}
+use Rattle.cose_asked.specs.declared.text.Text.{Text}
+use Rattle.cose_asked.specs.declared.text.Text.TheVariants.{Whole, Lost}
+
+-- a question about this subject is held, with these covered bytes
+abbrev pub IsHeld : Held → Subject → List ℕ → Type 0
+IsHeld held subject covered = (held.front.items ≡ front_of subject) × (held.covered.items ≡ covered)
+
+-- the lengths of the pieces that were fed
+abbrev pub pieces_of : Held → List ℕ
+pieces_of held = held.pieces.items
+
+-- the records so far, whether or not memory was found for them
+abbrev pub told_of : Text → List ℕ
+told_of (Whole text) = text.items
+told_of (Lost told) = told.items
+
+abbrev pub told_by : Asker → List ℕ
+told_by asker = told_of asker.text
+
+-- the keys that were accepted
+abbrev pub keys_of : Accepted → List (List ℕ)
+keys_of accepted = map (λ key. key.now) accepted.keys.items

@@ -1,0 +1,4 @@
+pub mod Framing
+pub mod Growing
+pub mod Kept
+pub mod Records

@@ -1,0 +1,87 @@
+//! A judge by the records of the questions that were accepted.
+ghost use Rattle.std.specs.Prelude.{◌≡◌, ◌++◌, ℕ, List, [], ◌∷◌, OnOk, OnErr, IfOk, MatchOption, flat_map, length};
+ghost use Rattle.std.specs.List.{list_any};
+ghost use Rattle.std.specs.Str.{bytes_eq};
+ghost use Rattle.cose_gate_core.specs.Lent.{subject_of};
+ghost use Rattle.cose_gate_core.specs.Questions.{Subject};
+ghost use Rattle.cose_asked.specs.Framing.{framed, key_by};
+ghost use Rattle.cose_asked.specs.Kept.{IsHeld, pieces_of, keys_of};
+ghost use Rattle.cose_asked.specs.Records.{is_among};
+
+use crate::framing::split;
+use crate::held::Held;
+use cose_gate_core::{About, Judge};
+use std::alloc::{AllocError, Global};
+
+/// Says yes to the questions whose records were accepted, and no to any other. It takes no memory to answer.
+#[derive(Drop)]
+pub struct Accepted<'a> {
+    alloc: Global,
+    held: Held,
+    keys: Vec<&'a [u8]>,
+}
+
+impl<'a> Accepted<'a> {
+    /// A judge by these records, one behind another, in any order; `None` where the bytes are no records.
+    ///
+    /// # Errors
+    /// Only where memory is refused.
+    pub fn new(alloc: Global, records: &'a [u8]) -> Result<Option<Accepted<'a>>, AllocError>
+        ensures { IfOk result (λ judge. MatchOption judge
+            ((keys : List (List ℕ)) → records.now ≡ flat_map framed keys → ⊥)
+            (λ judge. records.now ≡ flat_map framed (keys_of judge))) }
+    {
+        match split(alloc, records)? {
+            Some(keys) => Ok(Some(Accepted {
+                alloc,
+                held: Held::new(alloc),
+                keys,
+            })),
+            None => Ok(None),
+        }
+    }
+}
+
+/// Whether the key of the question that is held, with this signature, is one of these.
+fn is_one_of(keys: &[&[u8]], held: &Held, signature: &[u8]) -> bool
+    ensures { result ≡ list_any
+        (λ key. bytes_eq key.now (key_by held.now.front.items held.now.covered.items signature.now))
+        keys.now }
+{
+    for key in keys {
+        if held.is_key(key, signature) {
+            return true;
+        }
+    }
+    false
+}
+
+impl<'a> Judge for Accepted<'a> {
+    ghost Who = { List (List ℕ) };
+
+    ghost Told = { Unit {0} };
+
+    ghost who = { keys_of };
+
+    ghost told = { λ _. tt };
+
+    ghost holds = { λ judge subject covered. IsHeld judge.held subject covered };
+
+    ghost pieces = { λ judge. pieces_of judge.held };
+
+    ghost yes = { is_among };
+
+    ghost decided = { λ told _. told };
+
+    fn begin(&mut self, about: &About) -> Result<(), AllocError> {
+        self.held.begin(self.alloc, about)
+    }
+
+    fn feed(&mut self, piece: &[u8]) -> Result<(), AllocError> {
+        self.held.feed(piece)
+    }
+
+    fn decide(&mut self, signature: &[u8]) -> bool {
+        is_one_of(&self.keys, &self.held, signature)
+    }
+}

@@ -1,0 +1,83 @@
+//! A begun question.
+ghost use Rattle.std.specs.Prelude.{◌≡◌, ◌++◌, ℕ, List, [], ◌∷◌, IfOk, OnOk, OnErr, length};
+ghost use Rattle.std.specs.Str.{bytes_eq};
+ghost use Rattle.cose_gate_core.specs.Lent.{subject_of};
+ghost use Rattle.cose_gate_core.specs.Questions.{Subject};
+ghost use Rattle.cose_asked.specs.Framing.{key_by};
+ghost use Rattle.cose_asked.specs.Kept.{IsHeld, pieces_of};
+
+use crate::framing::{append, behind, behind_framed};
+use crate::front::front_of;
+use cose_gate_core::{About, Log};
+use std::alloc::{AllocError, Global};
+
+/// What is held of a question: the front of its key, which says what it is about, and the covered bytes so far.
+#[derive(Drop)]
+pub(crate) struct Held {
+    pub(crate) front: Vec<u8>,
+    pub(crate) covered: Vec<u8>,
+    pub(crate) pieces: Log<usize>,
+}
+
+impl Held {
+    /// No question is held.
+    pub(crate) fn new(alloc: Global) -> Held {
+        Held {
+            front: Vec::new(alloc),
+            covered: Vec::new(alloc),
+            pieces: Log::new(),
+        }
+    }
+
+    /// Begins a question, and forgets one that was begun.
+    pub(crate) fn begin(&mut self, alloc: Global, about: &About) -> Result<(), AllocError>
+        ensures holds { OnOk result (IsHeld self.new (subject_of about.now) []) }
+        ensures pieces { OnOk result (pieces_of self.new ≡ []) }
+    {
+        self.front = front_of(alloc, about)?;
+        self.covered.clear();
+        self.pieces = Log::new();
+        Ok(())
+    }
+
+    /// Takes the next piece of the covered bytes.
+    pub(crate) fn feed(&mut self, piece: &[u8]) -> Result<(), AllocError>
+        ensures holds { OnOk result ((subject : Subject) (covered : List ℕ)
+            → IsHeld self.old subject covered → IsHeld self.new subject (covered ++ piece.now)) }
+        ensures pieces { OnOk result (pieces_of self.new ≡ pieces_of self.old ++ length piece.now ∷ []) }
+        ensures refused { OnErr result (pieces_of self.new ≡ pieces_of self.old) }
+    {
+        self.covered.extend_from_slice(piece)?;
+        self.pieces = self.pieces.and(&piece.len());
+        Ok(())
+    }
+
+    /// The key of the question with this signature.
+    pub(crate) fn key(&self, alloc: Global, signature: &[u8]) -> Result<Vec<u8>, AllocError>
+        ensures { IfOk result (λ key. key.items
+            ≡ key_by self.now.front.items self.now.covered.items signature.now) }
+    {
+        let mut key = Vec::new(alloc);
+        key.extend_from_slice(&self.front)?;
+        append(&mut key, &self.covered)?;
+        append(&mut key, signature)?;
+        Ok(key)
+    }
+
+    /// Whether this is the key of the question with this signature.
+    pub(crate) fn is_key(&self, key: &[u8], signature: &[u8]) -> bool
+        ensures { result ≡ bytes_eq key.now
+            (key_by self.now.front.items self.now.covered.items signature.now) }
+    {
+        let Some(rest) = behind(key, &self.front) else {
+            return false;
+        };
+        let Some(rest) = behind_framed(rest, &self.covered) else {
+            return false;
+        };
+        match behind_framed(rest, signature) {
+            Some(rest) => rest.is_empty(),
+            None => false,
+        }
+    }
+}

@@ -1,0 +1,78 @@
+//! The questions of a run, for a caller who checks signatures by himself.
+ghost use Rattle.std.specs.Prelude.{◌≡◌, ℕ, List};
+ghost use Rattle.cose_judge_hmac.specs.GateCore.Terms.{limits_by};
+ghost use Rattle.cose_gate_c.specs.Library.{Asks, Told, Places};
+
+use crate::answer::{Answer, no_limits};
+use crate::lines::Lines;
+use crate::place::{place, place_none};
+use cose_asked::{Asker, Nowhere, run_judged};
+use cose_run::Limits;
+use std::alloc::Global;
+
+/// Asks within these limits.
+fn ask_within(
+    alloc: Global,
+    limits: Limits,
+    strict: bool,
+    aad: &[u8],
+    input: &[u8],
+    questions: &mut [u8],
+    lines: &mut [u8],
+) -> Answer
+    ensures { (written : List ℕ) × (status : ℕ)
+        × Told (limits_by limits strict) aad.now input.now written status
+        × Places written status «questions».old «questions».new result }
+{
+    let mut reader = input;
+    let mut nowhere = Nowhere;
+    let mut told = Lines::new(lines);
+    let mut asker = Asker::new(alloc);
+    let status = run_judged(
+        alloc,
+        limits,
+        strict,
+        aad,
+        &mut reader,
+        &mut nowhere,
+        &mut told,
+        &mut asker,
+    );
+    match asker.records() {
+        Some(records) => place(questions, records, status, told.length()),
+        None => {
+            told.stopped_for_memory();
+            place_none(questions, 4, told.length())
+        }
+    }
+}
+
+/// Tells the questions of the input: the gate runs over it as `cose_gate_check` says, and of each signature and tag that it would ask a
+/// judge about, the record stands in `questions`, one behind another. The caller finds the key by what a record shows, checks the
+/// signature over the covered bytes, and hands the records that he accepts to `cose_gate_pass`. `include/cose_gate.h` says how a record is
+/// written.
+///
+/// `lines` takes the lines of a run in which every signature is good: it names each item that is refused for its form. With the statuses 0
+/// and 1 all questions are told. With 4 they are those up to where the run stopped; where memory was refused to the records, there are
+/// none.
+///
+/// Where the records are longer than `questions`, and only then, the status is 5: `questions` stays as it was, and `length` is the room
+/// that is needed.
+#[unsafe(no_mangle)]
+pub extern "C" fn cose_gate_ask(
+    alloc: Global,
+    aad: &[u8],
+    input: &[u8],
+    questions: &mut [u8],
+    lines: &mut [u8],
+    nesting: usize,
+    layers: usize,
+    strict: bool,
+) -> Answer
+    ensures { Asks nesting layers strict aad.now input.now «questions».old «questions».new result }
+{
+    match Limits::new(nesting, layers) {
+        Some(limits) => ask_within(alloc, limits, strict, aad, input, questions, lines),
+        None => no_limits(),
+    }
+}

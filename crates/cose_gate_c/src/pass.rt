@@ -1,0 +1,105 @@
+//! The messages whose questions were accepted.
+ghost use Rattle.std.specs.Prelude.{◌≡◌, ◌⊎◌, ℕ, List};
+ghost use Rattle.cose_judge_hmac.specs.GateCore.Terms.{limits_by};
+ghost use Rattle.cose_asked.specs.Kept.{keys_of};
+ghost use Rattle.cose_gate_c.specs.Library.{NoMemory, Passes, Passed, Places, RunsBy};
+
+use crate::answer::{Answer, no_limits};
+use crate::lines::Lines;
+use crate::place::{place, place_none};
+use cose_asked::{Accepted, Growing, run_judged};
+use cose_run::Limits;
+use std::alloc::Global;
+
+/// Passes what this judge accepts.
+fn pass_by(
+    alloc: Global,
+    limits: Limits,
+    strict: bool,
+    judge: Accepted,
+    aad: &[u8],
+    input: &[u8],
+    out: &mut [u8],
+    lines: &mut [u8],
+) -> Answer
+    ensures { (written : List ℕ) × (status : ℕ)
+        × (RunsBy (limits_by limits strict) (keys_of judge.entry) aad.now input.now written status
+        ⊎ NoMemory written status)
+        × Places written status «out».old «out».new result }
+{
+    let mut judge = judge;
+    let mut reader = input;
+    let mut output = Growing::new(alloc);
+    let mut told = Lines::new(lines);
+    let status = run_judged(
+        alloc,
+        limits,
+        strict,
+        aad,
+        &mut reader,
+        &mut output,
+        &mut told,
+        &mut judge,
+    );
+    if output.is_refused() {
+        told.stopped_for_memory();
+        return place_none(out, 4, told.length());
+    }
+    place(out, output.as_written(), status, told.length())
+}
+
+/// Passes what was accepted, within these limits.
+fn pass_within(
+    alloc: Global,
+    limits: Limits,
+    strict: bool,
+    accepted: &[u8],
+    aad: &[u8],
+    input: &[u8],
+    out: &mut [u8],
+    lines: &mut [u8],
+) -> Answer
+    ensures { (written : List ℕ) × (status : ℕ)
+        × Passed (limits_by limits strict) accepted.now aad.now input.now written status
+        × Places written status «out».old «out».new result }
+{
+    let Ok(judge) = Accepted::new(alloc, accepted) else {
+        return place_none(out, 4, said(lines, b"stopped: memory\n"));
+    };
+    match judge {
+        Some(judge) => pass_by(alloc, limits, strict, judge, aad, input, out, lines),
+        None => place_none(out, 3, said(lines, b"accepted: no records\n")),
+    }
+}
+
+/// Writes a line that stands alone. How long it is.
+fn said(lines: &mut [u8], line: &[u8]) -> usize {
+    let mut told = Lines::new(lines);
+    told.say(line);
+    told.length()
+}
+
+/// Passes the messages all of whose questions are among the records `accepted`: some of those that `cose_gate_ask` told of this input, or
+/// of another, copied as they are, one behind another, in any order. The external data and the limits are those of that call. A record
+/// counts for each question that it is the record of. `out`, `lines` and the answer are as of `cose_gate_check`.
+///
+/// Where `accepted` is no such records, the status is 3, and nothing is read.
+#[unsafe(no_mangle)]
+pub extern "C" fn cose_gate_pass(
+    alloc: Global,
+    accepted: &[u8],
+    aad: &[u8],
+    input: &[u8],
+    out: &mut [u8],
+    lines: &mut [u8],
+    nesting: usize,
+    layers: usize,
+    strict: bool,
+) -> Answer
+    ensures { Passes nesting layers strict accepted.now aad.now input.now «out».old «out».new result }
+{
+    match Limits::new(nesting, layers) {
+        Some(limits) => pass_within(alloc, limits, strict, accepted, aad, input, out, lines),
+        None => no_limits(),
+    }
+}
