@@ -1,10 +1,10 @@
 -- The facts of a call of the gate, from its answer by cases.
-use Rattle.std.proofs.Common.{◌≡◌, ℕ, ◌+◌, ◌⊎◌, inl, inr, List, [], ◌∷◌, ◌++◌, length, Option, Some, Bool, not, cond, refl, sym, ap, subst, ◌∙◌, arith, append_assoc, append-nil}
+use Rattle.std.proofs.Common.{◌≡◌, ℕ, ◌+◌, ◌⊎◌, inl, inr, List, [], ◌∷◌, ◌++◌, length, map, Option, Some, Bool, not, cond, refl, sym, ap, subst, ◌∙◌, arith, append_assoc, append-nil}
 use Rattle.std.specs.Prelude.{Result, Ok, Err, IfOk, IfErr}
 use Rattle.std.specs.Io.KnownBytes.{Appends}
 use Rattle.std.proofs.lemmas.Grind.{flat_map-append}
 use Rattle.ciborium.specs.Damage.{Fault, Damage}
-use Rattle.ciborium.specs.Items.{Item, IsUnreadableWithin}
+use Rattle.ciborium.specs.Items.{Item, SequenceWithin, IsUnreadableWithin}
 use Rattle.ciborium.specs.Reading.{IfKnown}
 use Rattle.ciborium.specs.declared.de.Error.{Error}
 use Rattle.ciborium.specs.declared.de.Error.TheVariants as de
@@ -282,6 +282,20 @@ module _ {T S : Type 0} (rules : Rules T S) where
             s : Split rules.limits rules.allows rules.aad o.done o.last w.front
             s = twins_split rules.limits rules.allows rules.aad o.done o.last w.front w.twins
 
+            -- behind the item at hand
+            stands_at : (d : Step) (cs : List Step) → o.last ≡ cs → (ds : List Step) → Pair cs ds → ds ≡ d ∷ [] → new.offset ≡ d.item.offset + length d.item.bytes
+            stands_at d [] e [] t is = let none : [] ≡ d ∷ [] = is in absurd (cc)
+            stands_at d [] e (x ∷ xs) t is = absurd t
+            stands_at d (c ∷ cs) e [] t is = absurd t
+            stands_at d (c ∷ []) e (x ∷ xs) t is =
+                let place = place_behind rules.limits rules.allows rules.aad old.offset b o.done c o.more
+                (subst (λ (z : List Step). SequenceWithin rules.limits.nesting old.offset b (map (λ s. s.item) (o.done ++ z)) o.more) e o.course.sequence) in
+                let stands = o.stands (λ none. let no : c ∷ [] ≡ [] = sym e ∙ none in cc) in
+                let here : new.offset ≡ c.item.offset + length c.item.bytes = omega arith in
+                let same : x ≡ d = cc in
+                here ∙ ap (λ (i : Item). i.offset + length i.bytes) t.0.item ∙ ap (λ (s : Step). s.item.offset + length s.item.bytes) same
+            stands_at d (c ∷ more ∷ cs) e ds t is = absurd (let one = o.one in let two : length o.last ≡ length (c ∷ more ∷ cs) = ap length e in omega arith)
+
             refused : (texts : List Step) → (texts ≡ s.front) ⊎ ((texts ≡ s.front ++ s.behind) × (o.asked ≡ questions_of rules.allows rules.aad s.behind))
                 → Appends old.written new.written (output_of rules.allows rules.aad texts) → Refused rules old new ss
             refused texts are a = record {
@@ -297,6 +311,7 @@ module _ {T S : Type 0} (rules : Rules T S) where
               texts = texts;
               texts_are = are;
               written = a;
+              stands = λ d is. stands_at d o.last refl s.behind s.then is;
             }
 
             by_texts : (o.texts ≡ o.done) ⊎ ((o.texts ≡ o.done ++ o.last) × (o.asked ≡ questions_of rules.allows rules.aad o.last)) → Refused rules old new ss

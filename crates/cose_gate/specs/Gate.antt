@@ -94,7 +94,8 @@ pub record Torn {T S : Type 0} (rules : Rules T S) (old new : Sight T S) (ss : L
   pub stands : new.offset ≡ last.item.offset + length last.item.bytes
 
 -- memory was refused at one item, or between items: what stands before was done whole; of the item's questions a beginning was asked;
--- its text was written whole, and then all was asked about it, or not at all; it wasn't noted
+-- its text was written whole, and then all was asked about it, or not at all; it wasn't noted. At an item the offset is the one
+-- behind it; between items it is open how much of the next was taken.
 pub record Refused {T S : Type 0} (rules : Rules T S) (old new : Sight T S) (ss : List Step) : Type 0 where
   pub done : List Step
   pub last : List Step
@@ -108,6 +109,7 @@ pub record Refused {T S : Type 0} (rules : Rules T S) (old new : Sight T S) (ss 
   pub texts : List Step
   pub texts_are : (texts ≡ done) ⊎ ((texts ≡ done ++ last) × (asked ≡ questions_of rules.allows rules.aad last))
   pub written : Appends old.written new.written (output_of rules.allows rules.aad texts)
+  pub stands : (s : Step) → last ≡ s ∷ [] → new.offset ≡ s.item.offset + length s.item.bytes
 
 -- where the gate stops: Ok exactly where nothing is left behind the items, with all bytes taken, and the reader tells that nothing is left;
 -- else with the fault of what is left

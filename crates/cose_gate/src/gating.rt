@@ -1,9 +1,10 @@
 //! The gate.
-ghost use Rattle.std.specs.Prelude.{◌≡◌, ◌+◌, ◌<◌, ◌^◌, [], Some, None, IsOk, IfErr};
+ghost use Rattle.std.specs.Prelude.{◌≡◌, ◌≢◌, ◌+◌, ◌<◌, ◌^◌, [], Some, None, Err, IsOk, IfErr};
 ghost use Rattle.ciborium_ll.specs.Views.{left_of, offset_of, waiting_of, reader_of};
 ghost use Rattle.cose_gate_laws.specs.GateCore.Calls.{rules_by, sight_of, within, exact_within};
-ghost use Rattle.cose_gate_laws.specs.GateCore.Findings.{usual, only_exact};
+ghost use Rattle.cose_gate_laws.specs.GateCore.Findings.{usual, usual_exact};
 ghost use Rattle.cose_gate_laws.specs.GateCore.Outcome.{Answers, reader_failures, writer_failures};
+ghost use Rattle.cose_gate_laws.specs.GateCore.declared.gating.GateFault.TheVariants.{Memory};
 ghost use Rattle.cose_gate.specs.Gate.{call_of, HoldsNoMemory};
 ghost use Rattle.cose_gate.specs.Gate.{AsksAll, WritesAll, NotesAll, CountsAll, Stops};
 ghost use Rattle.cose_gate.specs.Gate.{AsksFront, NotesFront, WritesFront, Tears, WritesWhole};
@@ -65,6 +66,8 @@ pub fn gate<R: Read, W: Write, P: Report, J: Judge>(
     ensures nothing { left_of R.left decoder.old ≡ Some []
         → R.failed (reader_of decoder.new) ≡ R.failed (reader_of decoder.old)
         → offset_of decoder.old + 4096 < 2 ^ 64 → IsOk result }
+    ensures no_memory_of_nothing { left_of R.left decoder.old ≡ Some []
+        → result ≢ Err Memory }
     ensures reader { R.failed (reader_of decoder.new)
         ≡ R.failed (reader_of decoder.old) + reader_failures R.ends result }
     ensures writer { W.failed out.new ≡ W.failed out.old + writer_failures result }
@@ -126,6 +129,8 @@ pub fn gate_with<R: Read, W: Write, P: Report, J: Judge>(
     ensures nothing { left_of R.left decoder.old ≡ Some []
         → R.failed (reader_of decoder.new) ≡ R.failed (reader_of decoder.old)
         → offset_of decoder.old + 4096 < 2 ^ 64 → IsOk result }
+    ensures no_memory_of_nothing { left_of R.left decoder.old ≡ Some []
+        → result ≢ Err Memory }
     ensures reader { R.failed (reader_of decoder.new)
         ≡ R.failed (reader_of decoder.old) + reader_failures R.ends result }
     ensures writer { W.failed out.new ≡ W.failed out.old + writer_failures result }
@@ -160,30 +165,30 @@ pub fn gate_strict<R: Read, W: Write, P: Report, J: Judge>(
 ) -> Result<Counts, GateFault<R::Error>>
     requires { waiting_of decoder.old ≡ None }
     // Where neither device fails, memory is found and offsets fit: the run's questions, its output, and an entry for each item.
-    ensures asked { AsksAll (call_of R.Read W.Write P.Report J.Judge (only_exact 256 16) aad.now
+    ensures asked { AsksAll (call_of R.Read W.Write P.Report J.Judge usual_exact aad.now
         decoder.old out.old report.old judge.old decoder.new out.new report.new judge.new) result }
-    ensures written { WritesAll (call_of R.Read W.Write P.Report J.Judge (only_exact 256 16) aad.now
+    ensures written { WritesAll (call_of R.Read W.Write P.Report J.Judge usual_exact aad.now
         decoder.old out.old report.old judge.old decoder.new out.new report.new judge.new) result }
-    ensures noted { NotesAll (call_of R.Read W.Write P.Report J.Judge (only_exact 256 16) aad.now
+    ensures noted { NotesAll (call_of R.Read W.Write P.Report J.Judge usual_exact aad.now
         decoder.old out.old report.old judge.old decoder.new out.new report.new judge.new) result }
-    ensures counted { CountsAll (call_of R.Read W.Write P.Report J.Judge (only_exact 256 16) aad.now
+    ensures counted { CountsAll (call_of R.Read W.Write P.Report J.Judge usual_exact aad.now
         decoder.old out.old report.old judge.old decoder.new out.new report.new judge.new) result }
-    ensures stops { Stops (call_of R.Read W.Write P.Report J.Judge (only_exact 256 16) aad.now
+    ensures stops { Stops (call_of R.Read W.Write P.Report J.Judge usual_exact aad.now
         decoder.old out.old report.old judge.old decoder.new out.new report.new judge.new) result }
 
     // After a fault: beginnings of these.
     ensures asked_front { AsksFront
-        (call_of R.Read W.Write P.Report J.Judge (only_exact 256 16) aad.now
+        (call_of R.Read W.Write P.Report J.Judge usual_exact aad.now
         decoder.old out.old report.old judge.old decoder.new out.new report.new judge.new) result }
     ensures noted_front { NotesFront
-        (call_of R.Read W.Write P.Report J.Judge (only_exact 256 16) aad.now
+        (call_of R.Read W.Write P.Report J.Judge usual_exact aad.now
         decoder.old out.old report.old judge.old decoder.new out.new report.new judge.new) result }
     ensures written_front { WritesFront
-        (call_of R.Read W.Write P.Report J.Judge (only_exact 256 16) aad.now
+        (call_of R.Read W.Write P.Report J.Judge usual_exact aad.now
         decoder.old out.old report.old judge.old decoder.new out.new report.new judge.new) result }
-    ensures torn { Tears (call_of R.Read W.Write P.Report J.Judge (only_exact 256 16) aad.now
+    ensures torn { Tears (call_of R.Read W.Write P.Report J.Judge usual_exact aad.now
         decoder.old out.old report.old judge.old decoder.new out.new report.new judge.new) result }
-    ensures texts { WritesWhole (call_of R.Read W.Write P.Report J.Judge (only_exact 256 16) aad.now
+    ensures texts { WritesWhole (call_of R.Read W.Write P.Report J.Judge usual_exact aad.now
         decoder.old out.old report.old judge.old decoder.new out.new report.new judge.new) result }
 
     // Which fault it is.
@@ -191,6 +196,8 @@ pub fn gate_strict<R: Read, W: Write, P: Report, J: Judge>(
     ensures nothing { left_of R.left decoder.old ≡ Some []
         → R.failed (reader_of decoder.new) ≡ R.failed (reader_of decoder.old)
         → offset_of decoder.old + 4096 < 2 ^ 64 → IsOk result }
+    ensures no_memory_of_nothing { left_of R.left decoder.old ≡ Some []
+        → result ≢ Err Memory }
     ensures reader { R.failed (reader_of decoder.new)
         ≡ R.failed (reader_of decoder.old) + reader_failures R.ends result }
     ensures writer { W.failed out.new ≡ W.failed out.old + writer_failures result }
@@ -204,7 +211,7 @@ pub fn gate_strict<R: Read, W: Write, P: Report, J: Judge>(
 
     // All of it by the answer, also over a reader that doesn't tell which bytes are to come.
     ensures ran { Answers R.ends
-        (rules_by (only_exact 256 16) P.Report J.Judge judge.old aad.now)
+        (rules_by usual_exact P.Report J.Judge judge.old aad.now)
         (sight_of R.Read W.Write P.Report J.Judge decoder.old out.old report.old judge.old)
         (sight_of R.Read W.Write P.Report J.Judge decoder.new out.new report.new judge.new) result }
 {
@@ -257,6 +264,8 @@ pub fn gate_strict_with<R: Read, W: Write, P: Report, J: Judge>(
     ensures nothing { left_of R.left decoder.old ≡ Some []
         → R.failed (reader_of decoder.new) ≡ R.failed (reader_of decoder.old)
         → offset_of decoder.old + 4096 < 2 ^ 64 → IsOk result }
+    ensures no_memory_of_nothing { left_of R.left decoder.old ≡ Some []
+        → result ≢ Err Memory }
     ensures reader { R.failed (reader_of decoder.new)
         ≡ R.failed (reader_of decoder.old) + reader_failures R.ends result }
     ensures writer { W.failed out.new ≡ W.failed out.old + writer_failures result }

@@ -4,6 +4,7 @@ pub mod HeaderKept
 pub mod InOrder
 pub mod Items
 pub mod MessageKept
+pub mod NoMemory
 pub mod Nothing
 pub mod Outcomes
 pub mod Reach

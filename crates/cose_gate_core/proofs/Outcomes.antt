@@ -1,5 +1,5 @@
 -- What is answered, from how far the gate has come.
-use Rattle.std.proofs.Common.{◌≡◌, ◌⊎◌, inl, inr, ℕ, ◌+◌, ◌^◌, ◌<◌, ◌≤◌, List, [], ◌∷◌, ◌++◌, length, map, Option, None, Some, Bool, true, false, not, cond, refl, sym, ap, subst, ◌∙◌, arith, append_assoc, append-nil, length-append}
+use Rattle.std.proofs.Common.{◌≡◌, ◌≢◌, ◌⊎◌, inl, inr, ℕ, ◌+◌, ◌^◌, ◌<◌, ◌≤◌, List, [], ◌∷◌, ◌++◌, length, map, Option, None, Some, Bool, true, false, not, cond, refl, sym, ap, subst, ◌∙◌, arith, append_assoc, append-nil, length-append}
 use Rattle.std.specs.Prelude.{Result, Ok, Err, IfOk}
 use Rattle.std.specs.Io.KnownBytes.{Consumes, Appends}
 use Rattle.std.proofs.KnownBytes.{Appends-trans}
@@ -24,7 +24,7 @@ use Rattle.cose_gate_core.specs.Asked.{first_no, folded_over, IsFront}
 use Rattle.cose_gate_core.specs.Findings.{judged}
 use Rattle.cose_gate_core.specs.Run.{Step, Steps, judged_by, has_passed, passes, asked_of, written_of, questions_of, output_of, entries_of, passed_count, refused_count, Course}
 use Rattle.cose_gate_core.specs.Outcome.{Rules, Sight, Made, IsFaultOf, IsReadFault, Answers}
-use Rattle.cose_gate_core.specs.Passing.{WentThrough, Half, HalfWritten, ItemFails, at_end, stopped_by}
+use Rattle.cose_gate_core.specs.Passing.{WentThrough, Half, HalfWritten, ItemFails, at_end, fault_by, stopped_by}
 use Rattle.coset_labels.specs.Limits.{nesting_of}
 use Rattle.cose_gate_core.specs.Terms.{IsTaken}
 use Rattle.cose_gate_core.specs.declared.terms.Terms.{Terms}
@@ -79,6 +79,23 @@ fault_from ends k (Some a) (Some r) b p p' e c g f =
     let l : length a ≡ length b + length r = ap length c ∙ length-append b r in
     let s : p' + length r ≡ p + length a = omega arith in
     subst (λ (n : ℕ). IsFaultOf ends k n r e) s f
+
+-- something is left behind what was consumed
+something_left : (l l' : Option (List ℕ)) (b : List ℕ) → Consumes l l' b → (l' ≡ Some [] → ⊥) → IfKnown l (λ a. rest_of l' ≢ [])
+something_left None l' b c some = tt
+something_left (Some a) None b c some = absurd c
+something_left (Some a) (Some r) b c some = λ e. some (ap Some e)
+
+-- no item is read of nothing
+pub nothing_read : (k : ℕ) (l₁ l₂ : Option (List ℕ)) (p₁ p₂ : ℕ) (v : Tree) → l₁ ≡ Some [] → Moves l₁ l₂ p₁ p₂ (λ (b : List ℕ). Reads b k v) → ⊥
+nothing_read k l₁ l₂ p₁ p₂ v e t = go l₂ (subst (λ (l : Option (List ℕ)). Consumes l l₂ t.bytes) e t.taken)
+  where
+    go : (l : Option (List ℕ)) → Consumes (Some []) l t.bytes → ⊥
+    go None c = c
+    go (Some xs) c =
+        let s : 0 ≡ length t.bytes + length xs = ap length c ∙ length-append t.bytes xs in
+        let some = reads_some k t.bytes v t.has in
+        omega arith
 
 module _ {T S : Type 0} (rules : Rules T S) where
   written_then : (old new newer : Sight T S) (ss : List Step) (s : Step) → Appends old.written new.written (output_of rules.allows rules.aad ss)
@@ -168,8 +185,8 @@ module _ {T S : Type 0} (rules : Rules T S) where
 
   -- Memory, where all steps so far are made
   memory_between : {E : Type 0} (ends : E → Bool) (old new newer : Sight T S) (passed refused : ℕ) → Reached rules old new passed refused
-      → newer.told ≡ new.told → newer.state ≡ new.state → newer.written ≡ new.written → Answers ends rules old newer (Err Memory)
-  memory_between ends old new newer passed refused r told state writes =
+      → newer.told ≡ new.told → newer.state ≡ new.state → newer.written ≡ new.written → (new.left ≡ Some [] → ⊥) → Answers ends rules old newer (Err Memory)
+  memory_between ends old new newer passed refused r told state writes some =
       let w = left_after old new r.done r.taken r.steps (rest_of new.left) refl in
       let m = still old new newer r.done told state writes r.made in
       record {
@@ -188,13 +205,17 @@ module _ {T S : Type 0} (rules : Rules T S) where
           texts = r.done;
           texts_are = inl refl;
           written = m.written;
+          due = λ none. something_left old.left new.left r.taken.bytes r.taken.taken some;
+          stands = λ one. absurd (one refl);
+          behind = λ one. absurd (one refl);
         };
       }
 
   -- the fault of the bytes, or Memory of the reader
   pub answer_read : {E : Type 0} (ends : E → Bool) (old new newer : Sight T S) (passed refused : ℕ) → Reached rules old new passed refused
-      → newer.told ≡ new.told → newer.state ≡ new.state → newer.written ≡ new.written → (f : GateFault E) → IsReadFault ends rules.limits.nesting new.left new.offset f → Answers ends rules old newer (Err f)
-  answer_read ends old new newer passed refused r told state writes (Decode e) d =
+      → newer.told ≡ new.told → newer.state ≡ new.state → newer.written ≡ new.written → (f : GateFault E) → IsReadFault ends rules.limits.nesting new.left new.offset f
+      → (new.left ≡ Some [] → f ≢ Memory) → Answers ends rules old newer (Err f)
+  answer_read ends old new newer passed refused r told state writes (Decode e) d some =
       let w = left_after old new r.done r.taken r.steps (rest_of new.left) refl in
       record {
         input = w.input;
@@ -208,8 +229,8 @@ module _ {T S : Type 0} (rules : Rules T S) where
           fault = fault_from ends rules.limits.nesting old.left new.left r.taken.bytes old.offset new.offset e r.taken.taken r.taken.grown d.1;
         };
       }
-  answer_read ends old new newer passed refused r told state writes Write d = absurd d
-  answer_read ends old new newer passed refused r told state writes Memory d = memory_between ends old new newer passed refused r told state writes
+  answer_read ends old new newer passed refused r told state writes Write d some = absurd d
+  answer_read ends old new newer passed refused r told state writes Memory d some = memory_between ends old new newer passed refused r told state writes (λ none. some none refl)
 
   -- Memory, where the judge was told a beginning of the questions about one more message
   memory_asking : {E : Type 0} (ends : E → Bool) (old new newer : Sight T S) (passed refused : ℕ) → Reached rules old new passed refused
@@ -236,6 +257,9 @@ module _ {T S : Type 0} (rules : Rules T S) where
           texts = r.done;
           texts_are = inl refl;
           written = subst (λ (z : Option (List ℕ)). Appends old.written z (output_of rules.allows rules.aad r.done)) (sym writes) r.made.written;
+          due = λ none. cc;
+          stands = λ one. w.stop;
+          behind = λ one. w.behind;
         };
       }
 
@@ -272,7 +296,8 @@ module _ {T S : Type 0} (rules : Rules T S) where
       → (v : Tree) (t : Moves new.left newer.left new.offset newer.offset (λ (b : List ℕ). Reads b rules.limits.nesting v)) → (f : ItemFault)
       → ItemFails rules.limits rules.decided rules.allows rules.aad t.bytes v new.told newer.told new.written newer.written f → newer.state ≡ new.state → Answers ends rules old newer (Err (stopped_by f))
   answer_item ends old new newer passed refused r v t fault.Write h state = write_within ends old new newer passed refused r v t h state
-  answer_item ends old new newer passed refused r v t fault.Memory (writes, inl told) state = memory_between ends old new newer passed refused r told state writes
+  answer_item ends old new newer passed refused r v t fault.Memory (writes, inl told) state =
+      memory_between ends old new newer passed refused r told state writes (λ none. nothing_read rules.limits.nesting new.left newer.left new.offset newer.offset v none t)
   answer_item ends old new newer passed refused r v t fault.Memory (writes, inr half) state = memory_asking ends old new newer passed refused r v t half state writes
 
   -- Memory, where the item went through and the report refused its entry
@@ -301,6 +326,9 @@ module _ {T S : Type 0} (rules : Rules T S) where
           texts = r.done ++ s ∷ [];
           texts_are = inr (refl, refl);
           written = written_then old new newer r.done s r.made.written k.writes;
+          due = λ none. cc;
+          stands = λ one. w.stop;
+          behind = λ one. w.behind;
         };
       }
 
@@ -358,16 +386,14 @@ nothing_taken rules old new n r e = go new.left r.taken.bytes (subst (λ (l : Op
         empty [] e = refl
         empty (x ∷ xs) e = absurd (omega arith)
 
--- no item is read of nothing
-pub nothing_read : (k : ℕ) (l₁ l₂ : Option (List ℕ)) (p₁ p₂ : ℕ) (v : Tree) → l₁ ≡ Some [] → Moves l₁ l₂ p₁ p₂ (λ (b : List ℕ). Reads b k v) → ⊥
-nothing_read k l₁ l₂ p₁ p₂ v e t = go l₂ (subst (λ (l : Option (List ℕ)). Consumes l l₂ t.bytes) e t.taken)
-  where
-    go : (l : Option (List ℕ)) → Consumes (Some []) l t.bytes → ⊥
-    go None c = c
-    go (Some xs) c =
-        let s : 0 ≡ length t.bytes + length xs = ap length c ∙ length-append t.bytes xs in
-        let some = reads_some k t.bytes v t.has in
-        omega arith
+-- a fault that is no want of memory stops the gate as none
+pub stops_otherwise : {E X : Type 0} (f : Error E) (stop : GateFault E) → IsNoMemory f → stop ≡ fault_by f → (let r : Result X (GateFault E) = Err stop in r ≡ Err Memory) → ⊥
+stops_otherwise (de.Io e) stop other is same = let by : stop ≡ Decode (de.Io e) = is in cc
+stops_otherwise (de.Syntax p) stop other is same = let by : stop ≡ Decode (de.Syntax p) = is in cc
+stops_otherwise (de.Semantic o k) stop other is same = let by : stop ≡ Decode (de.Semantic o k) = is in cc
+stops_otherwise de.RecursionLimitExceeded stop other is same = let by : stop ≡ Decode de.RecursionLimitExceeded = is in cc
+stops_otherwise de.Memory stop other is same = absurd other
+stops_otherwise de.TooLong stop other is same = let by : stop ≡ Decode de.TooLong = is in cc
 
 -- neither an end at once nor a failure of the device is left
 pub nothing_answer : {E : Type 0} {X : Type 0} (ends : E → Bool) (p p' : ℕ) (f : Error E) (failed failed' : ℕ) → ((at_end ends f ≡ true) × (p' ≡ p)) ⊎ ((x : E) × (f ≡ de.Io x) × (ends x ≡ false))

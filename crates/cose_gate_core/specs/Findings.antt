@@ -3,6 +3,7 @@ use Rattle.std.specs.Prelude.{◌≡◌, ◌≢◌, ℕ, ◌⊎◌, List, [], Op
 use Rattle.std.specs.Cmp.Lexicographic.{pointwise}
 use Rattle.ciborium_value.specs.Tree.{Tree, tag}
 use Rattle.coset_labels.specs.Faults.{CoseFault}
+use Rattle.coset_labels.specs.Limits.{nesting as usual_nesting, layers as usual_layers}
 use Rattle.coset_signed.specs.Shapes.{HasSign1, HasSign}
 use Rattle.coset_signed.specs.Wrong.{WrongSign1, WrongSign}
 use Rattle.coset_maced.specs.Shapes.{HasMac0, HasMac}
@@ -42,10 +43,6 @@ abbrev pub excluded_by : Bool → List ℕ → MessageFields → Option Refusal
 excluded_by false b m = None
 excluded_by true b m = if pointwise nat_eq b (message_text m) then None else Some refusal.NotShortest
 
--- the limits where none are chosen, and no further rule
-abbrev pub usual : Limits
-usual = record { nesting = 256; layers = 16; excludes = λ bytes m. None }
-
 -- so many levels and layers, and no further rule
 abbrev pub plain : ℕ → ℕ → Limits
 plain nesting layers = record { nesting = nesting; layers = layers; excludes = λ bytes m. None }
@@ -53,6 +50,13 @@ plain nesting layers = record { nesting = nesting; layers = layers; excludes = �
 -- so many levels and layers, where a message's item has to be the text that would be written
 abbrev pub only_exact : ℕ → ℕ → Limits
 only_exact nesting layers = record { nesting = nesting; layers = layers; excludes = λ bytes m. excluded_by true bytes m }
+
+-- the limits where none are chosen, for the gate and for the strict gate
+abbrev pub usual : Limits
+usual = plain usual_nesting usual_layers
+
+abbrev pub usual_exact : Limits
+usual_exact = only_exact usual_nesting usual_layers
 
 -- which fields a value has as a message of their kind
 abbrev pub HasMessage : Limits → Tree → MessageFields → Type 0

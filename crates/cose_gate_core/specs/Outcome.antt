@@ -98,7 +98,9 @@ pub record IfWriteFailed {T S : Type 0} (rules : Rules T S) (old new : Sight T S
   pub stands : new.offset + length more ≡ old.offset + length input
   pub behind : IfKnown new.left (λ b. b ≡ more)
 
--- Memory: `done` were made; of the questions of the next step a beginning was asked, and its text was written whole or not at all
+-- Memory: `done` were made; of the questions of the next step a beginning was asked, and its text was written whole or not at all. The
+-- offset is the one behind its item then, and `more` is to come. Where there is no such step, an item was due: it was being read, or
+-- looked at, and it is open how much of it was taken.
 pub record IfMemoryRefused {T S : Type 0} (rules : Rules T S) (old new : Sight T S) (input : List ℕ) : Type 0 where
   pub done : List Step
   pub last : List Step
@@ -112,6 +114,9 @@ pub record IfMemoryRefused {T S : Type 0} (rules : Rules T S) (old new : Sight T
   pub texts : List Step
   pub texts_are : (texts ≡ done) ⊎ ((texts ≡ done ++ last) × (asked ≡ questions_of rules.allows rules.aad last))
   pub written : Appends old.written new.written (output_of rules.allows rules.aad texts)
+  pub due : last ≡ [] → IfKnown old.left (λ b. more ≢ [])
+  pub stands : last ≢ [] → new.offset + length more ≡ old.offset + length input
+  pub behind : last ≢ [] → IfKnown new.left (λ b. b ≡ more)
 
 abbrev pub Outcome : {T S E : Type 0} → (E → Bool) → Rules T S → Sight T S → Sight T S → List ℕ → Result Counts (GateFault E) → Type 0
 Outcome ends rules old new input (Ok counts) = Whole rules old new input counts

@@ -61,7 +61,8 @@ impl<'a> About<'a> {
         ensures kind { result.kind ≡ kind }
         ensures protected { result.protected.now ≡ protected.now }
         ensures unprotected { result.unprotected.now ≡ unprotected.now }
-        ensures signer { signer_of result.signer ≡ Some (protected_view signer.entry.0.now, header_view signer.entry.1.now) }
+        ensures signer { signer_of result.signer
+            ≡ Some (protected_view signer.entry.0.now, header_view signer.entry.1.now) }
         ensures recipients { result.recipients.now ≡ [] }
     {
         About {

@@ -23,8 +23,8 @@ use coset_signed::{CoseSign, CoseSign1};
 use coset_structures::{MacContext, SignatureContext, bytes_title};
 use std::alloc::AllocError;
 
-/// The bytes of a protected header that were received.
-fn received(protected: &ProtectedHeader) -> &[u8]
+/// The bytes of a protected header that were received; none of a header that was not.
+pub fn received(protected: &ProtectedHeader) -> &[u8]
     ensures { result.now ≡ received_bytes (protected_view protected.now) }
 {
     match &protected.original_data {
@@ -104,9 +104,11 @@ fn ask_alone<'a, J: Judge>(
     payload: &'a Option<Vec<u8>>,
     signature: &[u8],
 ) -> Result<Option<usize>, AllocError>
-    ensures answer { IfOk result (λ no. no ≡ first_no (J.yes (J.who judge.old)) (asked_alone about.now prefix.now aad.now
+    ensures answer { IfOk result (λ no. no ≡ first_no (J.yes (J.who judge.old))
+        (asked_alone about.now prefix.now aad.now
         (content_bytes (option_map (λ v. v.items) payload.now)) signature.now ∷ [])) }
-    ensures told { OnOk result (J.told judge.new ≡ J.decided (J.told judge.old) (asked_alone about.now prefix.now aad.now
+    ensures told { OnOk result (J.told judge.new
+        ≡ J.decided (J.told judge.old) (asked_alone about.now prefix.now aad.now
         (content_bytes (option_map (λ v. v.items) payload.now)) signature.now)) }
     ensures err { OnErr result (J.told judge.new ≡ J.told judge.old) }
     ensures who { J.who judge.new ≡ J.who judge.old }
@@ -126,7 +128,8 @@ fn ask_sign1<'a, J: Judge>(
     judge: &mut J,
 ) -> Result<Option<usize>, AllocError>
     requires { IsReceived (protected_view message.now.protected) }
-    ensures answer { IfOk result (λ no. no ≡ first_no (J.yes (J.who judge.old)) (questions (sign1 (sign1_view message.now)) aad.now)) }
+    ensures answer { IfOk result (λ no. no ≡ first_no (J.yes (J.who judge.old))
+        (questions (sign1 (sign1_view message.now)) aad.now)) }
     ensures told { OnOk result (J.told judge.new ≡ folded_over J.decided (J.told judge.old)
         (asked (J.yes (J.who judge.old)) (questions (sign1 (sign1_view message.now)) aad.now))) }
     ensures err { OnErr result (J.told judge.new ≡ J.told judge.old) }
@@ -151,7 +154,8 @@ fn ask_mac0<'a, J: Judge>(
     judge: &mut J,
 ) -> Result<Option<usize>, AllocError>
     requires { IsReceived (protected_view message.now.protected) }
-    ensures answer { IfOk result (λ no. no ≡ first_no (J.yes (J.who judge.old)) (questions (mac0 (mac0_view message.now)) aad.now)) }
+    ensures answer { IfOk result (λ no. no ≡ first_no (J.yes (J.who judge.old))
+        (questions (mac0 (mac0_view message.now)) aad.now)) }
     ensures told { OnOk result (J.told judge.new ≡ folded_over J.decided (J.told judge.old)
         (asked (J.yes (J.who judge.old)) (questions (mac0 (mac0_view message.now)) aad.now))) }
     ensures err { OnErr result (J.told judge.new ≡ J.told judge.old) }
@@ -169,7 +173,8 @@ fn ask_mac<'a, J: Judge>(
     judge: &mut J,
 ) -> Result<Option<usize>, AllocError>
     requires { IsReceived (protected_view message.now.protected) }
-    ensures answer { IfOk result (λ no. no ≡ first_no (J.yes (J.who judge.old)) (questions (mac (mac_view message.now)) aad.now)) }
+    ensures answer { IfOk result (λ no. no ≡ first_no (J.yes (J.who judge.old))
+        (questions (mac (mac_view message.now)) aad.now)) }
     ensures told { OnOk result (J.told judge.new ≡ folded_over J.decided (J.told judge.old)
         (asked (J.yes (J.who judge.old)) (questions (mac (mac_view message.now)) aad.now))) }
     ensures err { OnErr result (J.told judge.new ≡ J.told judge.old) }
@@ -194,7 +199,8 @@ fn ask_signature<'a, J: Judge>(
 ) -> Result<bool, AllocError>
     requires body { IsReceived (protected_view message.now.protected) }
     requires signer { IsReceived (signer_of (signature_view signature.now)) }
-    ensures answer { IfOk result (λ yes. yes ≡ J.yes (J.who judge.old) (one_question (sign_view message.now) aad.now (signature_view signature.now))) }
+    ensures answer { IfOk result (λ yes. yes ≡ J.yes (J.who judge.old)
+        (one_question (sign_view message.now) aad.now (signature_view signature.now))) }
     ensures told { OnOk result (J.told judge.new ≡ J.decided (J.told judge.old)
         (one_question (sign_view message.now) aad.now (signature_view signature.now))) }
     ensures err { OnErr result (J.told judge.new ≡ J.told judge.old) }
@@ -223,7 +229,8 @@ fn ask_sign<'a, J: Judge>(
     judge: &mut J,
 ) -> Result<Option<usize>, AllocError>
     requires { IsReceivedMessage (sign (sign_view message.now)) }
-    ensures answer { IfOk result (λ no. no ≡ first_no (J.yes (J.who judge.old)) (questions (sign (sign_view message.now)) aad.now)) }
+    ensures answer { IfOk result (λ no. no ≡ first_no (J.yes (J.who judge.old))
+        (questions (sign (sign_view message.now)) aad.now)) }
     ensures told { OnOk result (J.told judge.new ≡ folded_over J.decided (J.told judge.old)
         (asked (J.yes (J.who judge.old)) (questions (sign (sign_view message.now)) aad.now))) }
     ensures err { OnErr result (ToldFront J.decided (J.told judge.old) (J.told judge.new)
@@ -248,7 +255,8 @@ pub fn ask_message<'a, J: Judge>(
     judge: &mut J,
 ) -> Result<Option<usize>, AllocError>
     requires { IsReceivedMessage (message_view message.now) }
-    ensures answer { IfOk result (λ no. no ≡ first_no (J.yes (J.who judge.old)) (questions (message_view message.now) aad.now)) }
+    ensures answer { IfOk result (λ no. no ≡ first_no (J.yes (J.who judge.old))
+        (questions (message_view message.now) aad.now)) }
     ensures told { OnOk result (J.told judge.new ≡ folded_over J.decided (J.told judge.old)
         (asked (J.yes (J.who judge.old)) (questions (message_view message.now) aad.now))) }
     ensures err { OnErr result (ToldFront J.decided (J.told judge.old) (J.told judge.new)

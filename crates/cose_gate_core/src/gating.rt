@@ -1,5 +1,5 @@
 //! The gate.
-ghost use Rattle.std.specs.Prelude.{◌≡◌, ◌+◌, ◌<◌, ◌^◌, [], Some, None, Ok};
+ghost use Rattle.std.specs.Prelude.{◌≡◌, ◌≢◌, ◌+◌, ◌<◌, ◌^◌, [], Some, None, Ok, Err};
 ghost use Rattle.std.specs.Prelude.{IsOk, IfOk, IfErr, OnOk, true, not, if◌then◌else◌};
 ghost use Rattle.ciborium.specs.Damage.{Damage};
 ghost use Rattle.ciborium.specs.Reading.{NamesFault, Steady, IsNoMemory, IfEnd};
@@ -8,12 +8,13 @@ ghost use Rattle.ciborium_ll.specs.Views.{left_of, offset_of, waiting_of, reader
 ghost use Rattle.ciborium_value.specs.View.{view};
 ghost use Rattle.coset_labels.specs.Limits.{nesting_of};
 ghost use Rattle.cose_gate_core.specs.Calls.{rules_by, sight_of, within, exact_within};
-ghost use Rattle.cose_gate_core.specs.Findings.{usual, only_exact};
+ghost use Rattle.cose_gate_core.specs.Findings.{usual, usual_exact};
 ghost use Rattle.cose_gate_core.specs.Outcome.{Answers, IsNext, IsReadFault};
 ghost use Rattle.cose_gate_core.specs.Outcome.{reader_failures, writer_failures};
 ghost use Rattle.cose_gate_core.specs.Passing.{at_end};
 ghost use Rattle.cose_gate_core.specs.Run.{has_passed};
 ghost use Rattle.cose_gate_core.specs.Terms.{limits_of, IsTaken};
+ghost use Rattle.cose_gate_core.specs.declared.gating.GateFault.TheVariants.{Memory};
 
 use crate::judge::Judge;
 use crate::passing::{ItemFault, pass};
@@ -132,6 +133,8 @@ fn next_item<R: Read>(
     ensures nothing { left_of R.left decoder.old ≡ Some []
         → R.failed (reader_of decoder.new) ≡ R.failed (reader_of decoder.old)
         → offset_of decoder.old + 4096 < 2 ^ 64 → result ≡ Ok None }
+    ensures no_memory_of_nothing { left_of R.left decoder.old ≡ Some []
+        → result ≢ Err Memory }
     ensures failed { R.failed (reader_of decoder.new)
         ≡ R.failed (reader_of decoder.old) + reader_failures R.ends result }
     ensures kept { R.handle (reader_of decoder.new) ≡ R.handle (reader_of decoder.old) }
@@ -201,6 +204,8 @@ fn gate_by<R: Read, W: Write, P: Report, J: Judge>(
     ensures nothing { left_of R.left decoder.old ≡ Some []
         → R.failed (reader_of decoder.new) ≡ R.failed (reader_of decoder.old)
         → offset_of decoder.old + 4096 < 2 ^ 64 → IsOk result }
+    ensures no_memory_of_nothing { left_of R.left decoder.old ≡ Some []
+        → result ≢ Err Memory }
     ensures reader { R.failed (reader_of decoder.new)
         ≡ R.failed (reader_of decoder.old) + reader_failures R.ends result }
     ensures writer { W.failed out.new ≡ W.failed out.old + writer_failures result }
@@ -264,6 +269,8 @@ pub fn gate<R: Read, W: Write, P: Report, J: Judge>(
     ensures nothing { left_of R.left decoder.old ≡ Some []
         → R.failed (reader_of decoder.new) ≡ R.failed (reader_of decoder.old)
         → offset_of decoder.old + 4096 < 2 ^ 64 → IsOk result }
+    ensures no_memory_of_nothing { left_of R.left decoder.old ≡ Some []
+        → result ≢ Err Memory }
     ensures reader { R.failed (reader_of decoder.new)
         ≡ R.failed (reader_of decoder.old) + reader_failures R.ends result }
     ensures writer { W.failed out.new ≡ W.failed out.old + writer_failures result }
@@ -294,6 +301,8 @@ pub fn gate_with<R: Read, W: Write, P: Report, J: Judge>(
     ensures nothing { left_of R.left decoder.old ≡ Some []
         → R.failed (reader_of decoder.new) ≡ R.failed (reader_of decoder.old)
         → offset_of decoder.old + 4096 < 2 ^ 64 → IsOk result }
+    ensures no_memory_of_nothing { left_of R.left decoder.old ≡ Some []
+        → result ≢ Err Memory }
     ensures reader { R.failed (reader_of decoder.new)
         ≡ R.failed (reader_of decoder.old) + reader_failures R.ends result }
     ensures writer { W.failed out.new ≡ W.failed out.old + writer_failures result }
@@ -323,12 +332,14 @@ pub fn gate_strict<R: Read, W: Write, P: Report, J: Judge>(
 ) -> Result<Counts, GateFault<R::Error>>
     requires { waiting_of decoder.old ≡ None }
     ensures ran { Answers R.ends
-        (rules_by (only_exact 256 16) P.Report J.Judge judge.old aad.now)
+        (rules_by usual_exact P.Report J.Judge judge.old aad.now)
         (sight_of R.Read W.Write P.Report J.Judge decoder.old out.old report.old judge.old)
         (sight_of R.Read W.Write P.Report J.Judge decoder.new out.new report.new judge.new) result }
     ensures nothing { left_of R.left decoder.old ≡ Some []
         → R.failed (reader_of decoder.new) ≡ R.failed (reader_of decoder.old)
         → offset_of decoder.old + 4096 < 2 ^ 64 → IsOk result }
+    ensures no_memory_of_nothing { left_of R.left decoder.old ≡ Some []
+        → result ≢ Err Memory }
     ensures reader { R.failed (reader_of decoder.new)
         ≡ R.failed (reader_of decoder.old) + reader_failures R.ends result }
     ensures writer { W.failed out.new ≡ W.failed out.old + writer_failures result }
@@ -359,6 +370,8 @@ pub fn gate_strict_with<R: Read, W: Write, P: Report, J: Judge>(
     ensures nothing { left_of R.left decoder.old ≡ Some []
         → R.failed (reader_of decoder.new) ≡ R.failed (reader_of decoder.old)
         → offset_of decoder.old + 4096 < 2 ^ 64 → IsOk result }
+    ensures no_memory_of_nothing { left_of R.left decoder.old ≡ Some []
+        → result ≢ Err Memory }
     ensures reader { R.failed (reader_of decoder.new)
         ≡ R.failed (reader_of decoder.old) + reader_failures R.ends result }
     ensures writer { W.failed out.new ≡ W.failed out.old + writer_failures result }

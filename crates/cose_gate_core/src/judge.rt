@@ -52,8 +52,8 @@ pub trait Judge {
     /// # Errors
     /// Only where memory is refused.
     fn feed(&mut self, piece: &[u8]) -> Result<(), AllocError>
-        ensures holds { OnOk result ((subject : Subject) (bytes : List ℕ) → holds self.old subject bytes
-            → holds self.new subject (bytes ++ piece.now)) }
+        ensures holds { OnOk result ((subject : Subject) (bytes : List ℕ)
+            → holds self.old subject bytes → holds self.new subject (bytes ++ piece.now)) }
         ensures pieces { OnOk result (pieces self.new ≡ pieces self.old ++ length piece.now ∷ []) }
         ensures refused { OnErr result (pieces self.new ≡ pieces self.old) }
         ensures told { told self.new ≡ told self.old }
@@ -62,9 +62,11 @@ pub trait Judge {
     /// Answers the question with this signature or tag.
     fn decide(&mut self, signature: &[u8]) -> bool
         ensures answer { (subject : Subject) (bytes : List ℕ) → holds self.old subject bytes
-            → result ≡ yes (who self.old) (record { subject = subject; covered = bytes; signature = signature.now }) }
+            → result ≡ yes (who self.old)
+            (record { subject = subject; covered = bytes; signature = signature.now }) }
         ensures told { (subject : Subject) (bytes : List ℕ) → holds self.old subject bytes
-            → told self.new ≡ decided (told self.old) (record { subject = subject; covered = bytes; signature = signature.now }) }
+            → told self.new ≡ decided (told self.old)
+            (record { subject = subject; covered = bytes; signature = signature.now }) }
         ensures pieces { pieces self.new ≡ pieces self.old }
         ensures who { who self.new ≡ who self.old };
 }

@@ -13,6 +13,7 @@ mod report;
 mod terms;
 
 pub use crate::about::{About, Kind};
+pub use crate::asking::received;
 pub use crate::gating::{Counts, GateFault, gate, gate_strict, gate_strict_with, gate_with};
 pub use crate::judge::Judge;
 pub use crate::recorder::{Asked, Recorder};

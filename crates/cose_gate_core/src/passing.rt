@@ -24,7 +24,7 @@ use ciborium::{Value, into_writer};
 use ciborium_ll::Write;
 use ciborium_value::laws::value_fits;
 use cose_iana::{CborTag, EnumI64};
-use coset_labels::{AsCborValue, AsWritten, CoseError};
+use coset_labels::{AsCborValue, AsWritten, CoseError, TaggedCborSerializable};
 use coset_maced::{CoseMac, CoseMac0};
 use coset_signed::{CoseSign, CoseSign1};
 use std::alloc::{AllocError, AllocFailed, Global};
@@ -74,7 +74,7 @@ fn is_memory(error: &CoseError) -> bool
 }
 
 /// The refusal of a value that can't be read as a message of its tag.
-fn misshapen(error: CoseError) -> Result<Found, AllocError>
+fn shape_refusal(error: CoseError) -> Result<Found, AllocError>
     ensures ok { IfOk result (λ found. (found ≡ Barred (Shape error)) × (error ≢ Memory)) }
     ensures err { OnErr result (error ≡ Memory) }
 {
@@ -86,7 +86,8 @@ fn misshapen(error: CoseError) -> Result<Found, AllocError>
 
 /// Whether a message carries its payload.
 fn is_carried(message: &Message) -> bool
-    ensures { MatchBool result (IsCarried (message_view message.now)) (payload_of (message_view message.now) ≡ None) }
+    ensures { MatchBool result (IsCarried (message_view message.now))
+        (payload_of (message_view message.now) ≡ None) }
 {
     match message {
         Message::Sign1(message) => message.payload.is_some(),
@@ -98,7 +99,8 @@ fn is_carried(message: &Message) -> bool
 
 /// Whether a message has no signature. Only a COSE_Sign can lack one.
 fn is_unsigned(message: &Message) -> bool
-    ensures { MatchBool result (IsUnsigned (message_view message.now)) (IsUnsigned (message_view message.now) → ⊥) }
+    ensures { MatchBool result (IsUnsigned (message_view message.now))
+        (IsUnsigned (message_view message.now) → ⊥) }
 {
     match message {
         Message::Sign(message) => message.signatures.is_empty(),
@@ -109,9 +111,12 @@ fn is_unsigned(message: &Message) -> bool
 /// Why a message that was read is not judged, if it isn't. One without a payload is detached, whether it has signatures or not; only one
 /// that would else be judged is spelled otherwise.
 fn bar_of(message: &Message, shortest: bool) -> Option<Refusal>
-    ensures { (limits : Within) (b : List ℕ) (u : Tree) → HasMessage limits u (message_view message.now)
+    ensures { (limits : Within) (b : List ℕ) (u : Tree)
+        → HasMessage limits u (message_view message.now)
         → IsTold limits b (message_view message.now) shortest
-        → MatchOption result (Finds limits b (tag (tag_of (message_view message.now)) u) (judged (message_view message.now)))
+        → MatchOption result
+        (Finds limits b (tag (tag_of (message_view message.now)) u)
+        (judged (message_view message.now)))
         (IsRefused limits b (tag (tag_of (message_view message.now)) u)) }
 {
     if !is_carried(message) {
@@ -143,9 +148,10 @@ fn found_of(message: Message, shortest: bool) -> Found
 
 /// Whether a strict gate may pass a message of this value, the content of its tag. A gate that isn't strict doesn't ask.
 fn is_shortest<M: AsWritten>(strict: bool, exact: bool, value: &Value) -> bool
-    ensures { (n k : ℕ) (x : M.Content) → M.has n (view value.now) x k → MatchBool result
-        (strict ≡ true → (exact ≡ true) × (M.tree_of x ≡ Some (view value.now)))
-        ((strict ≡ true) × Fits (view value.now) × (exact ≡ true → M.tree_of x ≡ Some (view value.now) → ⊥)) }
+    ensures { (n k : ℕ) (x : M.Content) → M.has n (view value.now) x k
+        → MatchBool result (strict ≡ true → (exact ≡ true) × (M.tree_of x ≡ Some (view value.now)))
+        ((strict ≡ true) × Fits (view value.now)
+        × (exact ≡ true → M.tree_of x ≡ Some (view value.now) → ⊥)) }
 {
     if !strict {
         return true;
@@ -167,7 +173,7 @@ fn find_sign1(alloc: Global, terms: Terms, exact: bool, content: Value) -> Resul
     let shortest = is_shortest::<CoseSign1>(terms.strict, exact, &content);
     match CoseSign1::from_cbor_value_with(alloc, content, terms.limits) {
         Ok(message) => Ok(found_of(Message::Sign1(message), shortest)),
-        Err(error) => misshapen(error),
+        Err(error) => shape_refusal(error),
     }
 }
 
@@ -179,7 +185,7 @@ fn find_mac0(alloc: Global, terms: Terms, exact: bool, content: Value) -> Result
     let shortest = is_shortest::<CoseMac0>(terms.strict, exact, &content);
     match CoseMac0::from_cbor_value_with(alloc, content, terms.limits) {
         Ok(message) => Ok(found_of(Message::Mac0(message), shortest)),
-        Err(error) => misshapen(error),
+        Err(error) => shape_refusal(error),
     }
 }
 
@@ -191,7 +197,7 @@ fn find_mac(alloc: Global, terms: Terms, exact: bool, content: Value) -> Result<
     let shortest = is_shortest::<CoseMac>(terms.strict, exact, &content);
     match CoseMac::from_cbor_value_with(alloc, content, terms.limits) {
         Ok(message) => Ok(found_of(Message::Mac(message), shortest)),
-        Err(error) => misshapen(error),
+        Err(error) => shape_refusal(error),
     }
 }
 
@@ -203,13 +209,14 @@ fn find_sign(alloc: Global, terms: Terms, exact: bool, content: Value) -> Result
     let shortest = is_shortest::<CoseSign>(terms.strict, exact, &content);
     match CoseSign::from_cbor_value_with(alloc, content, terms.limits) {
         Ok(message) => Ok(found_of(Message::Sign(message), shortest)),
-        Err(error) => misshapen(error),
+        Err(error) => shape_refusal(error),
     }
 }
 
 /// Whether this is the tag's number in the registry (RFC 9052, section 2).
 fn is_tag(number: u64, tag: CborTag) -> bool
-    ensures { MatchBool result (pos number ≡ cbor_tags.number tag) (pos number ≢ cbor_tags.number tag) }
+    ensures { MatchBool result (pos number ≡ cbor_tags.number tag)
+        (pos number ≢ cbor_tags.number tag) }
 {
     i128::from(number) == i128::from(tag.to_i64())
 }
@@ -248,7 +255,8 @@ fn find_tagged(
 
 /// The message that an item is, or why it is none that is judged.
 fn find(alloc: Global, terms: Terms, exact: bool, value: Value) -> Result<Found, AllocError>
-    ensures { (b : List ℕ) → IsTaken terms b (view value) exact → IfOk result (IsFound (limits_of terms) b (view value)) }
+    ensures { (b : List ℕ) → IsTaken terms b (view value) exact
+        → IfOk result (IsFound (limits_of terms) b (view value)) }
 {
     match value {
         Value::Tag(number, content) => {
@@ -292,19 +300,19 @@ fn tagged(alloc: Global, message: Message) -> Result<Value, AllocError>
     match message {
         Message::Sign1(message) => {
             let content = written(alloc, message)?;
-            with_tag(alloc, 18, content)
+            with_tag(alloc, CoseSign1::TAG, content)
         }
         Message::Mac0(message) => {
             let content = written(alloc, message)?;
-            with_tag(alloc, 17, content)
+            with_tag(alloc, CoseMac0::TAG, content)
         }
         Message::Sign(message) => {
             let content = written(alloc, message)?;
-            with_tag(alloc, 98, content)
+            with_tag(alloc, CoseSign::TAG, content)
         }
         Message::Mac(message) => {
             let content = written(alloc, message)?;
-            with_tag(alloc, 97, content)
+            with_tag(alloc, CoseMac::TAG, content)
         }
     }
 }
@@ -312,8 +320,10 @@ fn tagged(alloc: Global, message: Message) -> Result<Value, AllocError>
 /// Writes the one shortest text of a message with its tag.
 fn write_message<W: Write>(alloc: Global, message: Message, out: &mut W) -> Result<(), ItemFault>
     requires { tagged_tree (message_view message) ≢ None }
-    ensures ok { OnOk result (Appends (W.written out.old) (W.written out.new) (message_text (message_view message))) }
-    ensures err { IfErr result (IsWriteFault (W.written out.old) (W.written out.new) (message_text (message_view message))) }
+    ensures ok { OnOk result (Appends (W.written out.old) (W.written out.new)
+        (message_text (message_view message))) }
+    ensures err { IfErr result (IsWriteFault (W.written out.old) (W.written out.new)
+        (message_text (message_view message))) }
     ensures kept { W.handle out.new ≡ W.handle out.old }
     ensures failed { W.failed out.new ≡ W.failed out.old + item_failures result }
 {
@@ -334,10 +344,12 @@ fn pass_message<W: Write, J: Judge>(
 ) -> Result<Verdict, ItemFault>
     requires received { IsReceivedMessage (message_view message) }
     requires text { tagged_tree (message_view message) ≢ None }
-    ensures ok { (limits : Within) (bytes : List ℕ) (t : Tree) → Finds limits bytes t (judged (message_view message))
+    ensures ok { (limits : Within) (bytes : List ℕ) (t : Tree)
+        → Finds limits bytes t (judged (message_view message))
         → IfOk result (WentThrough limits J.decided (J.yes (J.who judge.old)) aad.now bytes t
         (J.told judge.old) (J.told judge.new) (W.written out.old) (W.written out.new)) }
-    ensures err { (limits : Within) (bytes : List ℕ) (t : Tree) → Finds limits bytes t (judged (message_view message))
+    ensures err { (limits : Within) (bytes : List ℕ) (t : Tree)
+        → Finds limits bytes t (judged (message_view message))
         → IfErr result (ItemFails limits J.decided (J.yes (J.who judge.old)) aad.now bytes t
         (J.told judge.old) (J.told judge.new) (W.written out.old) (W.written out.new)) }
     ensures who { J.who judge.new ≡ J.who judge.old }
@@ -372,11 +384,13 @@ pub fn pass<W: Write, J: Judge>(
 ) -> Result<Verdict, ItemFault>
     requires { (bytes : List ℕ) × IsTaken terms bytes (view value) exact }
     ensures ok { (bytes : List ℕ) → IsTaken terms bytes (view value) exact
-        → IfOk result (WentThrough (limits_of terms) J.decided (J.yes (J.who judge.old)) aad.now bytes (view value)
-        (J.told judge.old) (J.told judge.new) (W.written out.old) (W.written out.new)) }
+        → IfOk result (WentThrough (limits_of terms) J.decided
+        (J.yes (J.who judge.old)) aad.now bytes (view value) (J.told judge.old) (J.told judge.new)
+        (W.written out.old) (W.written out.new)) }
     ensures err { (bytes : List ℕ) → IsTaken terms bytes (view value) exact
-        → IfErr result (ItemFails (limits_of terms) J.decided (J.yes (J.who judge.old)) aad.now bytes (view value)
-        (J.told judge.old) (J.told judge.new) (W.written out.old) (W.written out.new)) }
+        → IfErr result (ItemFails (limits_of terms) J.decided
+        (J.yes (J.who judge.old)) aad.now bytes (view value) (J.told judge.old) (J.told judge.new)
+        (W.written out.old) (W.written out.new)) }
     ensures who { J.who judge.new ≡ J.who judge.old }
     ensures kept { W.handle out.new ≡ W.handle out.old }
     ensures failed { W.failed out.new ≡ W.failed out.old + item_failures result }

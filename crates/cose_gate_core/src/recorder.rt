@@ -104,9 +104,11 @@ impl Judge for Recorder {
     }
 
     fn feed(&mut self, piece: &[u8]) -> Result<(), AllocError>
-        ensures holds { OnOk result ((subject : Subject) (bytes : List ℕ) → holds_question self.old subject bytes
+        ensures holds { OnOk result ((subject : Subject) (bytes : List ℕ)
+            → holds_question self.old subject bytes
             → holds_question self.new subject (bytes ++ piece.now)) }
-        ensures pieces { OnOk result (pieces_of self.new ≡ pieces_of self.old ++ length piece.now ∷ []) }
+        ensures pieces { OnOk result (pieces_of self.new ≡ pieces_of self.old
+            ++ length piece.now ∷ []) }
         ensures refused { OnErr result (pieces_of self.new ≡ pieces_of self.old) }
         ensures told { asked_of self.new ≡ asked_of self.old }
         ensures who { refused_of self.new ≡ refused_of self.old }

@@ -8,7 +8,6 @@ pub mod Lows
 pub mod MacCases
 pub mod MessageCases
 pub mod Narrowed
-pub mod NoMemory
 pub mod Outputs
 pub mod Placed
 pub mod Shorter

@@ -14,25 +14,29 @@ ghost use Rattle.cose_gate_laws.specs.Anew.{SameEntries};
 pub fn every_item_found()
     ensures fits { (limits : Limits) (b : List ℕ) (t : Tree) → Fits t
         → (f : Finding) × Finds limits b t f × ((g : Finding) → Finds limits b t g → f ≡ g) }
-    ensures reads { (limits : Limits) (b : List ℕ) (nesting : ℕ) (t : Tree) → Reads b nesting t → All (λ x. x < 256) b
-        → (f : Finding) × Finds limits b t f × ((g : Finding) → Finds limits b t g → f ≡ g) }
+    ensures reads { (limits : Limits) (b : List ℕ) (nesting : ℕ) (t : Tree) → Reads b nesting t
+        → All (λ x. x < 256) b → (f : Finding) × Finds limits b t f
+        × ((g : Finding) → Finds limits b t g → f ≡ g) }
 {}
 
 /// What a value lacks as a message of its tag is never memory: so no `Shape` that is noted holds want of memory.
 pub fn shape_holds_no_memory()
-    ensures { (limits : Limits) (t : Tree) (f : CoseFault) → IsMisshapen limits t f → f ≢ no_memory }
+    ensures { (limits : Limits) (t : Tree) (f : CoseFault) → IsMisshapen limits t f
+        → f ≢ no_memory }
 {}
 
 /// Every input has a run, whatever the judge. All its runs say the same of each item, but that of a `Shape` it is open which of the
 /// value's faults it names; that they ask and write the same is the law `one_run`. What was gone through at a fault can be gone on
 /// with, to a run.
 pub fn every_input_run()
-    ensures there { (limits : Limits) (allows : Question → Bool) (aad : List ℕ) (at : ℕ) (b : List ℕ) → All (λ x. x < 256) b
-        → (ss : List Step) × (rest : List ℕ) × Run limits allows aad at b ss rest }
-    ensures entries { (limits : Limits) (allows : Question → Bool) (aad : List ℕ) (at : ℕ) (b : List ℕ) (ss rs : List Step)
-        (rest more : List ℕ) → Run limits allows aad at b ss rest → Run limits allows aad at b rs more
-        → SameEntries (entries_of ss) (entries_of rs) }
-    ensures goes_on { (limits : Limits) (allows : Question → Bool) (aad : List ℕ) (at : ℕ) (b : List ℕ) (ss : List Step) (more : List ℕ)
-        → Course limits allows aad at b ss more → All (λ x. x < 256) b
-        → (rs : List Step) × (rest : List ℕ) × Run limits allows aad at b (ss ++ rs) rest }
+    ensures there { (limits : Limits) (allows : Question → Bool) (aad : List ℕ) (at : ℕ)
+        (b : List ℕ) → All (λ x. x < 256) b → (ss : List Step) × (rest : List ℕ)
+        × Run limits allows aad at b ss rest }
+    ensures entries { (limits : Limits) (allows : Question → Bool) (aad : List ℕ) (at : ℕ)
+        (b : List ℕ) (ss rs : List Step) (rest more : List ℕ) → Run limits allows aad at b ss rest
+        → Run limits allows aad at b rs more → SameEntries (entries_of ss) (entries_of rs) }
+    ensures goes_on { (limits : Limits) (allows : Question → Bool) (aad : List ℕ) (at : ℕ)
+        (b : List ℕ) (ss : List Step) (more : List ℕ) → Course limits allows aad at b ss more
+        → All (λ x. x < 256) b → (rs : List Step) × (rest : List ℕ)
+        × Run limits allows aad at b (ss ++ rs) rest }
 {}

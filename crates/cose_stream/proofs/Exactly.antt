@@ -58,7 +58,7 @@ module _ (levels layers : ℕ) {E : Type 0} (ends : E → Bool) (b : List ℕ) (
   due (fault.Decode de.TooLong) k = k
   due fault.NotTagged k = k.3 s.number (stated_first b front rest k.1 n k.0 s e k.2)
   due (fault.OtherTag i) k = k.2 (let h : Tag i ≡ Tag s.number = stated_first b front rest k.0 n (Tag i) s e k.1 in let w : s.number ≡ i = cc in subst IsSingleTag w s.is_single)
-  due (fault.Shape x) k = let h : judged m ≡ barred shape = finding_once (plain levels layers) b t (judged m) (barred shape) (j, refl) (shape_bars (plain levels layers) b t _ (k t rest there)) in cc
+  due (fault.Shape x) k = let h : judged m ≡ barred shape = finding_once (plain levels layers) b t (judged m) (barred shape) (j, refl) (shape_bars (plain levels layers) b t _ (k.1 t rest there)) in cc
   due fault.Detached (inl k) = let h : Simple 22 ≡ Bytes (Some n) = stated_third (plain levels layers) b front rest n (Simple 22) s e k in cc
   due fault.Detached (inr k) = let h : Simple 23 ≡ Bytes (Some n) = stated_third (plain levels layers) b front rest n (Simple 23) s e k in cc
   due fault.Unsized k = let h : Bytes None ≡ Bytes (Some n) = stated_third (plain levels layers) b front rest n (Bytes None) s e k in cc

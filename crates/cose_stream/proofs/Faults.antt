@@ -19,7 +19,7 @@ use Rattle.ciborium.proofs.ChildLemmas.{title_no_break, begun_no_break}
 use Rattle.ciborium.proofs.OtherDamage.{damaged_by, damage_too}
 use Rattle.ciborium.proofs.Taking.{fails_pull}
 use Rattle.ciborium_value.specs.Tree.{Tree}
-use Rattle.coset_labels.specs.Faults.{CoseFault, fault_of, unexpected, OrMemory}
+use Rattle.coset_labels.specs.Faults.{CoseFault, fault_of, unexpected, no_memory, OrMemory}
 use Rattle.coset_labels.specs.declared.error.CoseError.{CoseError}
 use Rattle.coset_labels.specs.declared.error.CoseError.TheVariants as cose
 use Rattle.cose_stream.specs.declared.fault.StreamFault.{StreamFault}
@@ -40,20 +40,20 @@ fault_holds de.RecursionLimitExceeded = tt
 fault_holds de.Memory = tt
 fault_holds de.TooLong = tt
 
-pub shape_holds : (E : Type 0) (e : CoseError) → HoldsNoMemory {E = E} (shape_by e)
-shape_holds E cose.Memory = tt
-shape_holds E (cose.DecodeFailed x) = λ q. cc
-shape_holds E cose.DuplicateMapKey = λ q. cc
-shape_holds E cose.EncodeFailed = λ q. cc
-shape_holds E cose.ExtraneousData = λ q. cc
-shape_holds E cose.OutOfRangeIntegerValue = λ q. cc
-shape_holds E (cose.UnexpectedItem x y) = λ q. cc
-shape_holds E cose.UnregisteredIanaValue = λ q. cc
-shape_holds E cose.UnregisteredIanaNonPrivateValue = λ q. cc
-shape_holds E cose.TooManyLayers = λ q. cc
+pub shape_holds : (E : Type 0) (e : CoseError) → (e ≢ cose.Memory → fault_of e ≢ no_memory) → HoldsNoMemory {E = E} (shape_by e)
+shape_holds E cose.Memory named = tt
+shape_holds E (cose.DecodeFailed x) named = named (λ same. cc)
+shape_holds E cose.DuplicateMapKey named = named (λ same. cc)
+shape_holds E cose.EncodeFailed named = named (λ same. cc)
+shape_holds E cose.ExtraneousData named = named (λ same. cc)
+shape_holds E cose.OutOfRangeIntegerValue named = named (λ same. cc)
+shape_holds E (cose.UnexpectedItem x y) named = named (λ same. cc)
+shape_holds E cose.UnregisteredIanaValue named = named (λ same. cc)
+shape_holds E cose.UnregisteredIanaNonPrivateValue named = named (λ same. cc)
+shape_holds E cose.TooManyLayers named = named (λ same. cc)
 
 pub unexpected_holds : {E : Type 0} (f : StreamFault E) → IsUnexpected f → HoldsNoMemory f
-unexpected_holds (fault.Shape e) u = u.0
+unexpected_holds (fault.Shape e) u = λ same. let other : unexpected ≡ no_memory = sym u ∙ same in cc
 unexpected_holds (fault.Decode e) u = absurd u
 unexpected_holds fault.NotTagged u = absurd u
 unexpected_holds (fault.OtherTag n) u = absurd u
@@ -188,8 +188,8 @@ put_back n l₀ l₁ l₂ l₃ o₀ o₁ o₂ o₃ h v t e p r =
 
 -- an element that is there, and wrong, or for which memory was refused
 pub part_wrong : {E : Type 0} (ends : E → Bool) (k : ℕ) (W : CoseFault → Tree → Type 0) (l₀ l₁ : Option (List ℕ)) (o₀ o₁ : ℕ) (v : Tree) (e : CoseError) → Moves l₀ l₁ o₀ o₁ (λ (b : List ℕ). Reads b k v)
-    → (e ≢ cose.Memory → W (fault_of e) v) → Names {E = E} ends (PartFault k W) 0 l₀ o₀ (shape_by e)
-part_wrong {E} ends k W l₀ l₁ o₀ o₁ v e t wrong = (shape_holds E e, place l₀ l₁ t)
+    → ((f : CoseFault) → W f v → f ≢ no_memory) → (e ≢ cose.Memory → W (fault_of e) v) → Names {E = E} ends (PartFault k W) 0 l₀ o₀ (shape_by e)
+part_wrong {E} ends k W l₀ l₁ o₀ o₁ v e t named wrong = (shape_holds E e (λ other. named (fault_of e) (wrong other)), place l₀ l₁ t)
   where
     place : (l₀ l₁ : Option (List ℕ)) → Moves l₀ l₁ o₀ o₁ (λ (b : List ℕ). Reads b k v) → IfKnown l₀ (λ b. Tells {E = E} ends (PartFault k W (o₀ + length b) b) (IsLongFor 0 o₀ b) (shape_by e))
     place None l₁ t = tt
@@ -212,9 +212,9 @@ part_wrong {E} ends k W l₀ l₁ o₀ o₁ v e t wrong = (shape_holds E e, plac
         go cose.TooManyLayers w = there _ (w (λ q. cc))
 
 pub part_refused : {E : Type 0} (ends : E → Bool) (k : ℕ) (W : Tree → CoseFault → Type 0) (l₀ l₁ : Option (List ℕ)) (o₀ o₁ : ℕ) (v : Tree) (e : CoseError) → Moves l₀ l₁ o₀ o₁ (λ (b : List ℕ). Reads b k v)
-    → OrMemory (W v) e → Names {E = E} ends (PartFault k (WrongPart W)) 0 l₀ o₀ (shape_by e)
-part_refused ends k W l₀ l₁ o₀ o₁ v e t (inl m) = part_wrong ends k (WrongPart W) l₀ l₁ o₀ o₁ v e t (λ n. absurd (n m))
-part_refused ends k W l₀ l₁ o₀ o₁ v e t (inr w) = part_wrong ends k (WrongPart W) l₀ l₁ o₀ o₁ v e t (λ n. w)
+    → ((f : CoseFault) → W v f → f ≢ no_memory) → OrMemory (W v) e → Names {E = E} ends (PartFault k (WrongPart W)) 0 l₀ o₀ (shape_by e)
+part_refused ends k W l₀ l₁ o₀ o₁ v e t named (inl m) = part_wrong ends k (WrongPart W) l₀ l₁ o₀ o₁ v e t named (λ n. absurd (n m))
+part_refused ends k W l₀ l₁ o₀ o₁ v e t named (inr w) = part_wrong ends k (WrongPart W) l₀ l₁ o₀ o₁ v e t named (λ n. w)
 
 pub part_weaker : {E : Type 0} (ends : E → Bool) (k : ℕ) (W : CoseFault → Tree → Type 0) (l : Option (List ℕ)) (o : ℕ) (f : StreamFault E)
     → Names ends (PartFault k NoneWrong) 0 l o f → Names ends (PartFault k W) 0 l o f
@@ -232,7 +232,7 @@ part_weaker ends k W l o f names = known_tells ends l o 0 0 (PartFault k NoneWro
 
 -- a fault of a shape that was not expected
 unexpected_tells : {E : Type 0} (ends : E → Bool) (D : Why → Type 0) (long : Type 0) (f : StreamFault E) → IsUnexpected f → D (misshapen unexpected) → Tells ends D long f
-unexpected_tells ends D long (fault.Shape e) u d = subst (λ (z : CoseFault). D (misshapen z)) (sym u.1) d
+unexpected_tells ends D long (fault.Shape e) u d = subst (λ (z : CoseFault). D (misshapen z)) (sym u) d
 unexpected_tells ends D long (fault.Decode e) u d = absurd u
 unexpected_tells ends D long fault.NotTagged u d = absurd u
 unexpected_tells ends D long (fault.OtherTag n) u d = absurd u

@@ -28,7 +28,7 @@ use Rattle.cose_stream.specs.Parts.{FourFault, SizeFault}
 use Rattle.cose_stream.proofs.Faults.{Names, tells_behind}
 use Rattle.cose_stream.proofs.Forms.{WrongForm, shaped, no_array, not_four_items, wrong_parts, not_two, not_three, single_tag}
 use Rattle.cose_stream.proofs.Whole.{Within}
-use Rattle.cose_stream.proofs.Wrong.{within_tag, within_array, within_damage, four_due, Left, left, not_four_shape, four_or}
+use Rattle.cose_stream.proofs.Wrong.{within_tag, within_array, begun, within_damage, four_due, Left, left, not_four_shape, four_or}
 use Rattle.cose_stream.proofs.Elements.{append, append_count}
 use Rattle.cose_stream.proofs.Meant.{array_meant, null_meant, message_meant}
 
@@ -59,11 +59,14 @@ four_fault limits least f stop x rest (damaged e) t d =
     damaged_by stop (x ++ rest) n e (in_tag (x ++ rest) rest n (tag_number f) e (record { title = x; is_title = t; whole = refl }) (omega arith) (inl (not_two f, not_three f)) (in_title rest (n - 1) e d))
 four_fault limits least f stop x rest untagged t d = absurd d
 four_fault limits least f stop x rest (tagged n) t d = absurd d
-four_fault limits least f stop x rest (misshapen e) t (u, d) = λ v after i.
-    let c = tag_parts (x ++ rest) rest after (tag_number f) i.reads.tree (record { title = x; is_title = t; whole = refl }) (record { spelling = i.spelling; whole = i.whole; spells = i.reads.spells }) in
-    let m = message_meant f (meaning c.under) v (ap meaning (sym c.is) ∙ i.reads.means) in
-    let wrong : WrongForm limits f m.0 unexpected = other_shape limits f m.0 (λ ts u k. none c.under after c.at ts (m.1 ∙ ap Some u) k) in
-    inl (shaped limits f v m.0 e m.2 (subst (WrongForm limits f m.0) (sym u) wrong))
+four_fault limits least f stop x rest (misshapen e) t (u, d) = (
+  (tag_number f, rest, record { title = x; is_title = t; whole = refl }, single_tag f),
+  λ v after i.
+      let c = tag_parts (x ++ rest) rest after (tag_number f) i.reads.tree (record { title = x; is_title = t; whole = refl }) (record { spelling = i.spelling; whole = i.whole; spells = i.reads.spells }) in
+      let m = message_meant f (meaning c.under) v (ap meaning (sym c.is) ∙ i.reads.means) in
+      let wrong : WrongForm limits f m.0 unexpected = other_shape limits f m.0 (λ ts u k. none c.under after c.at ts (m.1 ∙ ap Some u) k) in
+      inl (shaped limits f v m.0 e m.2 (subst (WrongForm limits f m.0) (sym u) wrong)),
+)
   where
     none : (under : Tree) (after : List ℕ) → Stands rest under after → (ts : Trees) → meaning under ≡ Some (array ts) → tree_count ts ≡ 4 → ⊥
     none under after st ts m k =
@@ -164,7 +167,10 @@ module _ (limits : Limits) (f : Form) (o : Option ℕ) (a b : Tree) (p : Protect
       damaged_by stop (x ++ rest) limits.nesting e (within_damage limits least stop f o (one_more a (one_more b no_trees)) x rest e w (four_due o 2 rest w.is_four (omega arith) (title_no_break stop rest e d)) (in_title rest (limits.nesting - 2) e d))
   size_fault least stop x rest untagged w d = absurd d
   size_fault least stop x rest (tagged n) w d = absurd d
-  size_fault least stop x rest (misshapen e) w (is, d) = λ t after i. inl (payload_shape limits f o a b rest d.1 d.0 t e d.2 d.3 d.4 d.5 (left limits f o (one_more a (one_more b no_trees)) x rest after t w (omega arith) i) is)
+  size_fault least stop x rest (misshapen e) w (is, d) = (
+    begun limits f o (one_more a (one_more b no_trees)) x rest w,
+    λ t after i. inl (payload_shape limits f o a b rest d.1 d.0 t e d.2 d.3 d.4 d.5 (left limits f o (one_more a (one_more b no_trees)) x rest after t w (omega arith) i) is),
+  )
   size_fault least stop x rest without_payload w (inl d) = inl (opens x rest d.0 (Simple 22) w d.1)
   size_fault least stop x rest without_payload w (inr d) = inr (opens x rest d.0 (Simple 23) w d.1)
   size_fault least stop x rest without_length w d = opens x rest d.0 (Bytes None) w d.1

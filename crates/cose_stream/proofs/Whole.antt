@@ -1,5 +1,5 @@
 -- The parts of a message that was streamed make one readable item of a stated length.
-use Rattle.std.proofs.Common.{◌≡◌, ◌+◌, ℕ, Bool, true, false, cond, List, [], ◌∷◌, ◌++◌, length, Option, None, Some, refl, sym, ap, subst, ◌∙◌, ◌-◌, ◌≤◌, arith, append_assoc}
+use Rattle.std.proofs.Common.{◌≡◌, ◌≢◌, ◌+◌, ℕ, Bool, true, false, cond, List, [], ◌∷◌, ◌++◌, length, Option, None, Some, refl, sym, ap, subst, ◌∙◌, ◌-◌, ◌≤◌, arith, append_assoc}
 use Rattle.std.specs.Prelude.{is_none, option_map}
 use denote.Bor.{Bor}
 use Rattle.ciborium_ll.specs.declared.hdr.Header.TheVariants.{Tag, Bytes, Array}
@@ -15,7 +15,7 @@ use Rattle.ciborium.specs.Frames.{snoc}
 use Rattle.ciborium.proofs.ReadLemmas.{all_none, all_more}
 use Rattle.ciborium.proofs.ChildLemmas.{all_count, array_read}
 use Rattle.ciborium.proofs.TagLemmas.{tag_level, tag_read}
-use Rattle.coset_headers.specs.Fields.{HeaderFields, ProtectedFields}
+use Rattle.coset_headers.specs.Fields.{HeaderFields, ProtectedFields, protected}
 use Rattle.coset_headers.specs.Headers.{HasProtected, HasHeader}
 use Rattle.coset_headers.specs.View.{header_view, protected_view}
 use Rattle.coset_headers.specs.declared.header.Header.{Header}
@@ -28,6 +28,7 @@ use Rattle.cose_gate_core.specs.Questions.{Question, Subject, alone}
 use Rattle.cose_gate_core.specs.declared.about.About.{About}
 use Rattle.cose_gate_core.specs.declared.about.Kind.{Kind}
 use Rattle.cose_gate_core.specs.Lent.{subject_of, signer_of}
+use Rattle.cose_gate_core.specs.Received.{received_bytes}
 use Rattle.cose_stream.specs.declared.form.Form.{Form}
 use Rattle.cose_stream.specs.Forms.{tag_number, message_of, received_of}
 use Rattle.cose_stream.specs.Stated.{IsFour, closing, InPieces}
@@ -68,6 +69,11 @@ pays title payload n k t e = record {
   shallow = omega arith;
   means = refl;
 }
+
+-- the bytes of a header that was received
+pub received_is : (p : ProtectedFields) (body : List ℕ) → received_of p ≢ None → body ≡ received_bytes p → received_of p ≡ Some body
+received_is (protected None h) body there is = absurd (there refl)
+received_is (protected (Some b) h) body there is = ap Some (sym is)
 
 module _ (limits : Limits) where
   pub within_start : (l₀ l₁ l₂ : Option (List ℕ)) (o₀ o₁ o₂ : ℕ) (f : Form) (o : Option ℕ) → Moves l₀ l₁ o₀ o₁ (λ (b : List ℕ). Title b (Tag (tag_number f))) → Moves l₁ l₂ o₁ o₂ (λ (b : List ℕ). Title b (Array o)) → IsFour o

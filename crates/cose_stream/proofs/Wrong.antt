@@ -25,8 +25,8 @@ use Rattle.cose_gate_core.specs.Findings.{Limits, IsMisshapen}
 use Rattle.cose_stream.specs.declared.fault.StreamFault.{StreamFault}
 use Rattle.cose_stream.specs.declared.form.Form.{Form}
 use Rattle.cose_stream.specs.Forms.{tag_number}
-use Rattle.cose_stream.specs.Stated.{IsFour, IsSingleTag}
-use Rattle.cose_stream.specs.Streaming.{Why, damaged, untagged, tagged, misshapen, without_payload, without_length, refused, UnstreamedBy, IsShapeFault, IsHeaderFault}
+use Rattle.cose_stream.specs.Stated.{IsFour}
+use Rattle.cose_stream.specs.Streaming.{Why, damaged, untagged, tagged, misshapen, without_payload, without_length, refused, UnstreamedBy, IsBegun, IsShapeFault, IsHeaderFault}
 use Rattle.cose_stream.specs.Parts.{PartFault, TagFault, NoBreak, WrongPart, NoneWrong, NoBytes, ShortFault, CloseFault}
 use Rattle.cose_stream.proofs.Faults.{Names, known_tells, tells_behind}
 use Rattle.cose_stream.proofs.Forms.{WrongForm, shaped, not_four_items, wrong_parts, wrong_last, not_two, not_three, single_tag}
@@ -108,6 +108,10 @@ module _ (limits : Limits) where
 
   pub within_array : (f : Form) (o : Option ℕ) (done : Trees) (x rest : List ℕ) (w : Within limits f o done x) → Begins (w.array_title ++ (w.inner ++ rest)) (Array o) (w.inner ++ rest)
   within_array f o done x rest w = record { title = w.array_title; is_title = w.is_array; whole = refl }
+
+  -- a message of this kind is begun
+  pub begun : (f : Form) (o : Option ℕ) (done : Trees) (x rest : List ℕ) → Within limits f o done x → IsBegun (x ++ rest)
+  begun f o done x rest w = (tag_number f, w.array_title ++ (w.inner ++ rest), within_tag f o done x rest w, single_tag f)
 
   -- damage behind the elements that are read
   pub within_damage : 2 ≤ limits.nesting → (stop : ℕ) (f : Form) (o : Option ℕ) (done : Trees) (x rest : List ℕ) (e : Fault) → Within limits f o done x → Due (Array o) (tree_count done) rest
@@ -222,10 +226,6 @@ module _ (limits : Limits) where
           by (one_more v y.1) (l.is ∙ ap (λ z. tag (tag_number f) (array (append done z))) ms) (subst (λ (z : Trees). (o ≡ None) ⊎ (tree_count (append done z) ≡ 4)) ms l.counted)
           (place e v y.1 wrong) (four_or (tree_count (append done (one_more v y.1))))
 
-  -- a message of this kind is begun
-  pub begun : (f : Form) (o : Option ℕ) (done : Trees) (x rest : List ℕ) → Within limits f o done x → (n : ℕ) × (r : List ℕ) × Begins (x ++ rest) (Tag n) r × IsSingleTag n
-  begun f o done x rest w = (tag_number f, w.array_title ++ (w.inner ++ rest), within_tag f o done x rest w, single_tag f)
-
   -- a fault at the next element is one of the whole
   part_fault : 2 ≤ limits.nesting → (f : Form) (o : Option ℕ) (done : Trees) (W : CoseFault → Tree → Type 0) → tree_count done < 4 → Place limits f done W
       → (stop : ℕ) (x rest : List ℕ) (w : Why) → Within limits f o done x → PartFault (limits.nesting - 2) W stop rest w → UnstreamedBy limits stop (x ++ rest) w
@@ -233,8 +233,8 @@ module _ (limits : Limits) where
       damaged_as stop rest (x ++ rest) (limits.nesting - 2) limits.nesting e (λ g b. within_damage least stop f o done x rest g w (four_due o (tree_count done) rest w.is_four few d.0) b) d.1
   part_fault least f o done W few place stop x rest untagged w d = absurd d
   part_fault least f o done W few place stop x rest (tagged n) w d = absurd d
-  part_fault least f o done W few place stop x rest (misshapen e) w (inl (u, (r, b))) = λ t after i. inl (break_shape f o done rest r t e few (left f o done x rest after t w (omega arith) i) u b)
-  part_fault least f o done W few place stop x rest (misshapen e) w (inr (v, behind, there, wrong)) = λ t after i. wrong_shape f o done W place x rest behind v t e w few (left f o done x rest after t w (omega arith) i) there wrong
+  part_fault least f o done W few place stop x rest (misshapen e) w (inl (u, (r, b))) = (begun f o done x rest w, λ t after i. inl (break_shape f o done rest r t e few (left f o done x rest after t w (omega arith) i) u b))
+  part_fault least f o done W few place stop x rest (misshapen e) w (inr (v, behind, there, wrong)) = (begun f o done x rest w, λ t after i. wrong_shape f o done W place x rest behind v t e w few (left f o done x rest after t w (omega arith) i) there wrong)
   part_fault least f o done W few place stop x rest without_payload w d = absurd d
   part_fault least f o done W few place stop x rest without_length w d = absurd d
   part_fault least f o done W few place stop x rest refused w d = begun f o done x rest w
@@ -272,7 +272,7 @@ module _ (limits : Limits) where
       damaged_by stop (x ++ rest) limits.nesting e (within_damage least stop f o done x rest e w (subst (λ (z : Option ℕ). Due (Array z) (tree_count done) rest) (sym unsized) (title_no_break stop rest e d)) (in_title rest (limits.nesting - 2) e d))
   close_fault least f o done unsized four stop x rest untagged w d = absurd d
   close_fault least f o done unsized four stop x rest (tagged n) w d = absurd d
-  close_fault least f o done unsized four stop x rest (misshapen e) w (u, d) = λ t after i. inl (go t (left f o done x rest after t w (omega arith) i))
+  close_fault least f o done unsized four stop x rest (misshapen e) w (u, d) = (begun f o done x rest w, λ t after i. inl (go t (left f o done x rest after t w (omega arith) i)))
     where
       go : (t : Tree) → Left f o done rest t → IsMisshapen limits t e
       go t l = cases l.more l.spells l.mean
@@ -302,4 +302,4 @@ module _ (limits : Limits) where
       go : (l₀ l₁ : Option (List ℕ)) → Moves l₀ l₁ o₀ o₁ (Within limits f o done) → IfKnown l₀ (λ b. UnstreamedBy limits (o₀ + length b) b refused)
       go None l₁ t = tt
       go (Some b) None t = absurd t.taken
-      go (Some b) (Some rest) t = let w = begun f o done t.bytes rest t.has in subst (λ (z : List ℕ). (n : ℕ) × (r : List ℕ) × Begins z (Tag n) r × IsSingleTag n) (sym t.taken) w
+      go (Some b) (Some rest) t = let w = begun f o done t.bytes rest t.has in subst IsBegun (sym t.taken) w

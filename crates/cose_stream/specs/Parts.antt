@@ -8,7 +8,6 @@ use Rattle.ciborium.specs.Front.{Reads, Front}
 use Rattle.ciborium.specs.Damage.{end, deep, syntax, semantic, TitleDamage}
 use Rattle.ciborium.specs.Damaged.{Damaged}
 use Rattle.coset_labels.specs.Faults.{CoseFault, fault_of, unexpected}
-use Rattle.coset_labels.specs.declared.error.CoseError.TheVariants as cose
 use Rattle.cose_stream.specs.declared.fault.StreamFault.{StreamFault}
 use Rattle.cose_stream.specs.declared.fault.StreamFault.TheVariants as fault
 use Rattle.cose_stream.specs.declared.titles.Payload.{Payload}
@@ -122,7 +121,7 @@ Split n room old new = (pieces : List ℕ) × (new ≡ old ++ pieces) × Cut roo
 
 -- a fault of shape: an item that was not expected
 abbrev pub IsUnexpected : {E : Type 0} → StreamFault E → Type 0
-IsUnexpected (fault.Shape e) = (e ≢ cose.Memory) × (fault_of e ≡ unexpected)
+IsUnexpected (fault.Shape e) = fault_of e ≡ unexpected
 IsUnexpected (fault.Decode e) = ⊥
 IsUnexpected fault.NotTagged = ⊥
 IsUnexpected (fault.OtherTag n) = ⊥

@@ -14,7 +14,7 @@ use Rattle.ciborium.specs.declared.de.Error.TheVariants as de
 use Rattle.coset_headers.specs.Fields.{HeaderFields, ProtectedFields}
 use Rattle.coset_headers.specs.Headers.{HasProtected, HasHeader}
 use Rattle.coset_headers.specs.Wrong.{WrongProtected, WrongHeader}
-use Rattle.coset_labels.specs.Faults.{CoseFault, fault_of}
+use Rattle.coset_labels.specs.Faults.{CoseFault, fault_of, no_memory}
 use Rattle.coset_labels.specs.declared.error.CoseError.{CoseError}
 use Rattle.coset_labels.specs.declared.error.CoseError.TheVariants as cose
 use Rattle.cose_gate_core.specs.Questions.{Question, MessageFields, questions}
@@ -59,7 +59,7 @@ abbrev pub HoldsNoMemory : {E : Type 0} → StreamFault E → Type 0
 HoldsNoMemory (fault.Decode e) = IsNoMemory e
 HoldsNoMemory fault.NotTagged = Unit {0}
 HoldsNoMemory (fault.OtherTag n) = Unit {0}
-HoldsNoMemory (fault.Shape e) = e ≢ cose.Memory
+HoldsNoMemory (fault.Shape e) = fault_of e ≢ no_memory
 HoldsNoMemory fault.Detached = Unit {0}
 HoldsNoMemory fault.Unsized = Unit {0}
 HoldsNoMemory fault.Memory = Unit {0}
@@ -140,9 +140,13 @@ IsShapeFault limits b t e =
     IsMisshapen limits t e
     ⊎ ((elements : Trees) × IsOtherCount b t elements × IsHeaderFault limits elements e)
 
+-- the bytes begin with the tag of a message that is checked
+abbrev pub IsBegun : List ℕ → Type 0
+IsBegun b = (n : ℕ) × (rest : List ℕ) × Begins b (Tag n) rest × IsSingleTag n
+
 -- why the bytes are no message that is checked within these limits. Of a fault of shape it is open
--- which of those that the item has is named, and where no item is readable it says nothing; nor
--- does want of memory, but that a message was begun.
+-- which of those that the item has is named, and where no item is readable it says no more than
+-- want of memory does: that a message was begun.
 abbrev pub UnstreamedBy : Limits → ℕ → List ℕ → Why → Type 0
 UnstreamedBy limits stop b (damaged f) = Damaged stop b limits.nesting f
 UnstreamedBy limits stop b untagged =
@@ -150,12 +154,12 @@ UnstreamedBy limits stop b untagged =
 UnstreamedBy limits stop b (tagged n) =
     (rest : List ℕ) × Begins b (Tag n) rest × (IsSingleTag n → ⊥)
 UnstreamedBy limits stop b (misshapen e) =
-    (t : Tree) (rest : List ℕ) → Front b limits.nesting t rest → IsShapeFault limits b t e
+    IsBegun b
+    × ((t : Tree) (rest : List ℕ) → Front b limits.nesting t rest → IsShapeFault limits b t e)
 UnstreamedBy limits stop b without_payload =
     Opening limits b (Simple 22) ⊎ Opening limits b (Simple 23)
 UnstreamedBy limits stop b without_length = Opening limits b (Bytes None)
-UnstreamedBy limits stop b refused =
-    (n : ℕ) × (rest : List ℕ) × Begins b (Tag n) rest × IsSingleTag n
+UnstreamedBy limits stop b refused = IsBegun b
 
 -- within the limits where none are chosen
 abbrev pub Unstreamed : ℕ → List ℕ → Why → Type 0
@@ -220,22 +224,10 @@ AnswersStated ends room old result = AnswersStatedBy usual ends room old result
 
 -- the fault for one of the reader of items
 abbrev pub fault_by : {E : Type 0} → Error E → StreamFault E
-fault_by (de.Io e) = fault.Decode (de.Io e)
-fault_by (de.Syntax p) = fault.Decode (de.Syntax p)
-fault_by (de.Semantic o k) = fault.Decode (de.Semantic o k)
-fault_by de.RecursionLimitExceeded = fault.Decode de.RecursionLimitExceeded
 fault_by de.Memory = fault.Memory
-fault_by de.TooLong = fault.Decode de.TooLong
+fault_by e = fault.Decode e
 
 -- the fault for one of shape
 abbrev pub shape_by : {E : Type 0} → CoseError → StreamFault E
-shape_by (cose.DecodeFailed e) = fault.Shape (cose.DecodeFailed e)
-shape_by cose.DuplicateMapKey = fault.Shape cose.DuplicateMapKey
-shape_by cose.EncodeFailed = fault.Shape cose.EncodeFailed
-shape_by cose.ExtraneousData = fault.Shape cose.ExtraneousData
-shape_by cose.OutOfRangeIntegerValue = fault.Shape cose.OutOfRangeIntegerValue
-shape_by (cose.UnexpectedItem got want) = fault.Shape (cose.UnexpectedItem got want)
-shape_by cose.UnregisteredIanaValue = fault.Shape cose.UnregisteredIanaValue
-shape_by cose.UnregisteredIanaNonPrivateValue = fault.Shape cose.UnregisteredIanaNonPrivateValue
 shape_by cose.Memory = fault.Memory
-shape_by cose.TooManyLayers = fault.Shape cose.TooManyLayers
+shape_by e = fault.Shape e

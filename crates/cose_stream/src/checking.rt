@@ -7,11 +7,11 @@ ghost use Rattle.cose_gate_core.specs.Findings.{plain};
 ghost use Rattle.cose_stream.specs.Streaming.{Checked, CheckedBy, Unstreamed, UnstreamedBy, NamesWhy, Steady, AnswersStated, AnswersStatedBy};
 
 use crate::fault::StreamFault;
-use crate::feeding::{feed_front, feed_payload, received};
+use crate::feeding::{feed_front, feed_payload};
 use crate::parts::{protected_part, signature_part, unprotected_part};
 use crate::titles::{close, four, message_tag, payload_size};
 use ciborium_ll::{Decoder, Read};
-use cose_gate_core::{About, Judge, Limits};
+use cose_gate_core::{About, Judge, Limits, received};
 use std::alloc::Global;
 
 /// Reads the parts, and asks.
@@ -60,8 +60,8 @@ fn streamed<R: Read, J: Judge>(
 /// `NotTagged` and `OtherTag` by the first title; `Detached` and `Unsized` by the title in the
 /// payload's place, behind two headers; `Shape` with a fault that the item has as a message of its
 /// tag (of an open array that ends at another length, also with one of its headers' faults), and
-/// `Decode` where no item is readable, or the reader failed; `Memory`, but never before the tag of
-/// such a message.
+/// `Decode` where no item is readable, or the reader failed; `Memory`. This and `Shape` never come
+/// before the tag of such a message.
 pub fn stream_check<R: Read, J: Judge>(
     alloc: Global,
     decoder: &mut Decoder<R>,

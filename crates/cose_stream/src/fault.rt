@@ -56,14 +56,8 @@ impl<E> From<de::Error<E>> for StreamFault<E> {
 
     fn from(error: de::Error<E>) -> StreamFault<E> {
         match error {
-            de::Error::Io(e) => StreamFault::Decode(de::Error::Io(e)),
-            de::Error::Syntax(p) => StreamFault::Decode(de::Error::Syntax(p)),
-            de::Error::Semantic(o, k) => StreamFault::Decode(de::Error::Semantic(o, k)),
-            de::Error::RecursionLimitExceeded => {
-                StreamFault::Decode(de::Error::RecursionLimitExceeded)
-            }
             de::Error::Memory => StreamFault::Memory,
-            de::Error::TooLong => StreamFault::Decode(de::Error::TooLong),
+            other => StreamFault::Decode(other),
         }
     }
 }
@@ -89,23 +83,7 @@ impl<E> From<CoseError> for StreamFault<E> {
     fn from(error: CoseError) -> StreamFault<E> {
         match error {
             CoseError::Memory => StreamFault::Memory,
-            CoseError::DecodeFailed(e) => StreamFault::Shape(CoseError::DecodeFailed(e)),
-            CoseError::DuplicateMapKey => StreamFault::Shape(CoseError::DuplicateMapKey),
-            CoseError::EncodeFailed => StreamFault::Shape(CoseError::EncodeFailed),
-            CoseError::ExtraneousData => StreamFault::Shape(CoseError::ExtraneousData),
-            CoseError::OutOfRangeIntegerValue => {
-                StreamFault::Shape(CoseError::OutOfRangeIntegerValue)
-            }
-            CoseError::UnexpectedItem(got, want) => {
-                StreamFault::Shape(CoseError::UnexpectedItem(got, want))
-            }
-            CoseError::UnregisteredIanaValue => {
-                StreamFault::Shape(CoseError::UnregisteredIanaValue)
-            }
-            CoseError::UnregisteredIanaNonPrivateValue => {
-                StreamFault::Shape(CoseError::UnregisteredIanaNonPrivateValue)
-            }
-            CoseError::TooManyLayers => StreamFault::Shape(CoseError::TooManyLayers),
+            other => StreamFault::Shape(other),
         }
     }
 }

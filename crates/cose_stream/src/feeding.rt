@@ -1,31 +1,19 @@
 //! What is fed to the judge: the front of the structure, and the payload as it passes.
-ghost use Rattle.std.specs.Prelude.{◌≡◌, ◌≢◌, ◌<◌, ◌++◌, [], ℕ, List, None, Some, IfErr, OnOk, length};
+ghost use Rattle.std.specs.Prelude.{◌≡◌, ◌<◌, ◌++◌, [], ℕ, List, None, IfErr, OnOk, length};
 ghost use Rattle.ciborium_ll.specs.Seen.{Takes};
 ghost use Rattle.ciborium_ll.specs.Views.{waiting_of, seen};
-ghost use Rattle.coset_headers.specs.View.{protected_view};
 ghost use Rattle.coset_structures.specs.Structure.{structure};
 ghost use Rattle.cose_gate_core.specs.Questions.{Subject};
-ghost use Rattle.cose_stream.specs.Forms.{context_of, received_of};
+ghost use Rattle.cose_stream.specs.Forms.{context_of};
 ghost use Rattle.cose_stream.specs.Parts.{ShortFault, Split};
 ghost use Rattle.cose_stream.specs.Streaming.{NamesWhy, Steady};
 
 use crate::fault::StreamFault;
 use crate::form::Form;
 use ciborium_ll::{Decoder, Read};
-use cose_gate_core::{Judge, ProtectedHeader};
+use cose_gate_core::Judge;
 use coset_structures::bytes_title;
 use std::alloc::AllocError;
-
-/// The bytes of a protected header that was received.
-pub fn received(protected: &ProtectedHeader) -> &[u8]
-    requires { received_of (protected_view protected.now) ≢ None }
-    ensures { received_of (protected_view protected.now) ≡ Some result.now }
-{
-    match &protected.original_data {
-        Some(bytes) => bytes.as_slice(),
-        None => unreachable!(),
-    }
-}
 
 /// Feeds what stands in front of the payload's bytes in the structure (RFC 9052, sections 4.4 and
 /// 6.3). The length of each byte string is written anew, by its shortest title.

@@ -5,13 +5,10 @@ ghost use Rattle.cose_stream.specs.Forms.{tag_number, kind_of, context_of};
 ghost use Rattle.cose_stream.specs.Stated.{IsSingleTag};
 
 use cose_gate_core::Kind;
+use coset_labels::TaggedCborSerializable;
+use coset_maced::CoseMac0;
+use coset_signed::CoseSign1;
 use coset_structures::{MacContext, SignatureContext};
-
-/// The tag of a COSE_Mac0 (RFC 9052, section 2).
-const MAC0: u64 = 17;
-
-/// The tag of a COSE_Sign1.
-const SIGN1: u64 = 18;
 
 /// A message with one signature or one tag, and nobody else to ask about.
 #[derive(Debug, Clone, Copy, PartialEq, Eq)]
@@ -22,13 +19,13 @@ pub enum Form {
     Mac0,
 }
 
-/// The message that a tag is of.
+/// The message that a tag is of (RFC 9052, section 2).
 pub fn form_of(number: u64) -> Option<Form>
     ensures { MatchOption result (IsSingleTag number → ⊥) (λ form. number ≡ tag_number form) }
 {
-    if number == SIGN1 {
+    if number == CoseSign1::TAG {
         Some(Form::Sign1)
-    } else if number == MAC0 {
+    } else if number == CoseMac0::TAG {
         Some(Form::Mac0)
     } else {
         None

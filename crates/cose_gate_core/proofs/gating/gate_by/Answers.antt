@@ -1,4 +1,5 @@
-use Rattle.std.proofs.Common.{refl, sym, ◌∙◌, arith, rules}
+use Rattle.std.proofs.Common.{refl, sym, ap, ◌∙◌, arith, rules}
+use Rattle.std.specs.Prelude.{Err}
 use Rattle.cose_gate_core.proofs.Reach.{reached_start, item_grows}
 use Rattle.cose_gate_core.proofs.Outcomes.{reached_step, answer_whole, answer_read, answer_item, answer_noting, same_entry, nothing_taken, nothing_read, read_of}
 use Rattle.cose_gate_core.proofs.gating.gate_by.Goals as goal
@@ -10,7 +11,7 @@ pub returns-in-Ok-None-clause-ran : goal.returns-in-Ok-None-clause-ran
 returns-in-Ok-None-clause-ran g c = answer_whole _ g.R.Read.ends _ _ _ _ c.items.invariant.reached refl refl refl (rw c.in-Ok-None.field-0-is at c.in-Ok-None.ensures.next)
 
 pub returns-in-Err-clause-ran : goal.returns-in-Err-clause-ran
-returns-in-Err-clause-ran g c = answer_read _ g.R.Read.ends _ _ _ _ _ c.items.invariant.reached refl refl refl _ c.in-Err.ensures.err
+returns-in-Err-clause-ran g c = answer_read _ g.R.Read.ends _ _ _ _ _ c.items.invariant.reached refl refl refl _ c.in-Err.ensures.err (λ none same. c.in-Err.ensures.no_memory_of_nothing none (ap Err same))
 
 pub returns-in-Err-clause-nothing : goal.returns-in-Err-clause-nothing
 returns-in-Err-clause-nothing g c = λ none same small.
@@ -19,6 +20,10 @@ returns-in-Err-clause-nothing g c = λ none same small.
     let place = still.1 in
     let is = c.in-Err.ensures.nothing still.0 (same ∙ sym inv.reader) (omega arith) in
     cc
+
+pub returns-in-Err-clause-no_memory_of_nothing : goal.returns-in-Err-clause-no_memory_of_nothing
+returns-in-Err-clause-no_memory_of_nothing g c = λ none same.
+    c.in-Err.ensures.no_memory_of_nothing (nothing_taken _ _ _ _ c.items.invariant.reached none).0 (cc)
 
 pub returns-in-Err-pass-clause-ran : goal.returns-in-Err-pass-clause-ran
 returns-in-Err-pass-clause-ran g c =
@@ -29,6 +34,10 @@ returns-in-Err-pass-clause-ran g c =
 
 pub returns-in-Err-pass-clause-nothing : goal.returns-in-Err-pass-clause-nothing
 returns-in-Err-pass-clause-nothing g c = λ none same small.
+    absurd (nothing_read _ _ _ _ _ _ (nothing_taken _ _ _ _ c.items.invariant.reached none).0 (read_of c.args.terms _ _ _ _ _ _ (rw c.in-Ok-Some.field-0-is at c.in-Ok-Some.ensures.next)))
+
+pub returns-in-Err-pass-clause-no_memory_of_nothing : goal.returns-in-Err-pass-clause-no_memory_of_nothing
+returns-in-Err-pass-clause-no_memory_of_nothing g c = λ none same.
     absurd (nothing_read _ _ _ _ _ _ (nothing_taken _ _ _ _ c.items.invariant.reached none).0 (read_of c.args.terms _ _ _ _ _ _ (rw c.in-Ok-Some.field-0-is at c.in-Ok-Some.ensures.next)))
 
 pub counted-counts-requires : goal.counted-counts-requires
@@ -68,6 +77,10 @@ returns-in-Err-note-clause-ran g c =
 
 pub returns-in-Err-note-clause-nothing : goal.returns-in-Err-note-clause-nothing
 returns-in-Err-note-clause-nothing g c = λ none same small.
+    absurd (nothing_read _ _ _ _ _ _ (nothing_taken _ _ _ _ c.items.invariant.reached none).0 (read_of c.args.terms _ _ _ _ _ _ (rw c.in-Ok-Some.field-0-is at c.in-Ok-Some.ensures.next)))
+
+pub returns-in-Err-note-clause-no_memory_of_nothing : goal.returns-in-Err-note-clause-no_memory_of_nothing
+returns-in-Err-note-clause-no_memory_of_nothing g c = λ none same.
     absurd (nothing_read _ _ _ _ _ _ (nothing_taken _ _ _ _ c.items.invariant.reached none).0 (read_of c.args.terms _ _ _ _ _ _ (rw c.in-Ok-Some.field-0-is at c.in-Ok-Some.ensures.next)))
 
 pub next_item-requires : goal.next_item-requires

@@ -1,5 +1,5 @@
 use Rattle.std.proofs.Common.{sym, ◌∙◌}
-use Rattle.cose_gate_core.proofs.Outcomes.{nothing_fails, nothing_answer}
+use Rattle.cose_gate_core.proofs.Outcomes.{nothing_fails, nothing_answer, stops_otherwise}
 use Rattle.cose_gate_core.proofs.gating.next_item.Goals as goal
 use Rattle.cose_gate_core.proofs.gating.next_item.Goals.{else-is_end-via-then-is_end+else-offset, else-is_end-via-else-is_end}
 
@@ -11,3 +11,6 @@ returns-else-is_end-clause-nothing g c = λ none same small.
       | else-is_end-via-else-is_end w ↦ (cc (c.is_end.ensures, at_end, w.if-is_end.false))
     ])
     c.in-Err.ensures.steady.failed same
+
+pub returns-else-is_end-clause-no_memory_of_nothing : goal.returns-else-is_end-clause-no_memory_of_nothing
+returns-else-is_end-clause-no_memory_of_nothing g c = λ none same. stops_otherwise _ _ (c.in-Err.ensures.nothing none) c.from.ensures same

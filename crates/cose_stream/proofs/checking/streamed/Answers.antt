@@ -1,11 +1,12 @@
 use Rattle.std.proofs.Common.{refl, sym, ◌∙◌, arith, le_refl}
 use Rattle.std.proofs.lemmas.Result.{err_from_is_err_and}
 use Rattle.ciborium_value.specs.Tree.{no_trees, one_more, bytes}
+use Rattle.coset_headers.specs.View.{protected_view}
 use Rattle.coset_headers.specs.Wrong.{WrongProtected, WrongHeader}
 use Rattle.cose_stream.specs.Parts.{WrongPart, NoneWrong, NoBytes}
 use Rattle.cose_stream.proofs.Wrong.{first_tells, part_tells, protected_place, unprotected_place, signature_place, any_place, short_tells_part, close_tells, refused_tells}
 use Rattle.cose_stream.proofs.Heads.{four_tells, size_tells}
-use Rattle.cose_stream.proofs.Whole.{within_start, within_more, part_is, paid, paid_within, checked, subject_is, question_is, in_pieces, asked_as}
+use Rattle.cose_stream.proofs.Whole.{within_start, within_more, part_is, paid, paid_within, checked, received_is, subject_is, question_is, in_pieces, asked_as}
 use Rattle.cose_gate_core.specs.Findings.{plain}
 use Rattle.cose_stream.proofs.checking.streamed.Goals as goal
 
@@ -97,7 +98,7 @@ returns-clause-ok g c =
     let told = c.in_ok-feed_payload.ensures.told ∙ c.in_ok-feed_front.ensures.told ∙ c.in_ok-begin.ensures.told in
     let front = c.in_ok-feed_front.ensures.ok in
     let about = subject_is c.alone-about.result _ _ _ (c.alone-about.ensures.kind ∙ c.kind.ensures) c.alone-about.ensures.protected c.alone-about.ensures.unprotected c.alone-about.ensures.signer c.alone-about.ensures.recipients in
-    checked (plain c.args.limits.nesting c.args.limits.layers) c.args.limits.least_nesting g.J.Judge.decided (g.J.Judge.yes (g.J.Judge.who c.args.judge.now)) c.args.aad.now _ _ _ _ _ _ _ _ _ _ _ _ _ _ _ _ _ _ _ _ _ _ _ a.2 b.2 c.received.ensures (in_pieces _ _ _ _ _ c.in_ok-feed_payload.ensures.pieces c.decide.ensures.pieces)
+    checked (plain c.args.limits.nesting c.args.limits.layers) c.args.limits.least_nesting g.J.Judge.decided (g.J.Judge.yes (g.J.Judge.who c.args.judge.now)) c.args.aad.now _ _ _ _ _ _ _ _ _ _ _ _ _ _ _ _ _ _ _ _ _ _ _ a.2 b.2 (received_is (protected_view c.in_ok-protected.protected) _ c.in_ok-protected.ensures.received c.received.ensures) (in_pieces _ _ _ _ _ c.in_ok-feed_payload.ensures.pieces c.decide.ensures.pieces)
     (λ payload len held.
     let h = held _ front.0 (front.1 _ c.in_ok-begin.ensures.holds) in
     let q = question_is _ _ _ _ _ _ about (sym (front.2 payload len)) c.deref.ensures.value in (

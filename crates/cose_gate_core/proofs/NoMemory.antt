@@ -166,6 +166,12 @@ message_fault l n u e (inr (inl w)) = whole_fault l.nesting u _ l.layers e w.1 (
 message_fault l n u e (inr (inr (inl w))) = whole_fault l.nesting u _ l.layers e w.1 (no_bytes_named, (λ t f x. recipient_list l.nesting t l.layers f x, tt))
 message_fault l n u e (inr (inr (inr w))) = whole_fault l.nesting u _ l.layers e w.1 (λ t f x. signature_list l.nesting t l.layers f x, tt)
 
--- a value that can't be read as a message has another fault than want of memory
+-- a value that can't be read as a header, a protected header or a message has another fault than want of memory
+pub header_is_named : (n : ℕ) (t : Tree) (k : ℕ) (e : CoseFault) → WrongHeader n t k e → e ≡ no_memory → ⊥
+header_is_named n t k e w m = subst Named m (header n t k e w)
+
+pub protected_is_named : (n : ℕ) (t : Tree) (k : ℕ) (e : CoseFault) → WrongProtected n t k e → e ≡ no_memory → ⊥
+protected_is_named n t k e w m = subst Named m (protected n t k e w)
+
 pub misshapen_is_named : (l : Limits) (t : Tree) (e : CoseFault) → IsMisshapen l t e → e ≡ no_memory → ⊥
 misshapen_is_named l t e (n, u, p, w) m = subst Named m (message_fault l n u e w)
