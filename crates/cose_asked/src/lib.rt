@@ -16,4 +16,3 @@ pub use crate::accepted::Accepted;
 pub use crate::asker::Asker;
 pub use crate::growing::Growing;
 pub use crate::nowhere::Nowhere;
-pub use cose_run::{Limits, run_judged};

@@ -6,8 +6,8 @@ ghost use Rattle.cose_gate_c.specs.Library.{Asks, Told, Places};
 use crate::answer::{Answer, no_limits};
 use crate::lines::Lines;
 use crate::place::{place, place_none};
-use cose_asked::{Asker, Nowhere, run_judged};
-use cose_run::Limits;
+use cose_asked::{Asker, Nowhere};
+use cose_run::{Limits, run_judged};
 use std::alloc::Global;
 
 /// Asks within these limits.

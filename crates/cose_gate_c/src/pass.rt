@@ -7,8 +7,8 @@ ghost use Rattle.cose_gate_c.specs.Library.{NoMemory, Passes, Passed, Places, Ru
 use crate::answer::{Answer, no_limits};
 use crate::lines::Lines;
 use crate::place::{place, place_none};
-use cose_asked::{Accepted, Growing, run_judged};
-use cose_run::Limits;
+use cose_asked::{Accepted, Growing};
+use cose_run::{Limits, run_judged};
 use std::alloc::Global;
 
 /// Passes what this judge accepts.
