@@ -1,6 +1,6 @@
 #!/usr/bin/env bash
 # Refuses each allocation in turn, from the first to the last, to each test of some crates, unproved:
-#   scripts/fail-alloc.sh cose_gate_tests cose_stream_tests cose_run_tests coset_signed_tests coset_recipients_tests coset_tests
+#   scripts/fail-alloc.sh cose_gate_tests cose_gate_stream_tests cose_gate_program_tests coset_signed_tests coset_recipients_tests coset_tests
 # A test in a module `refused`, or named `refused_memory..`, holds whichever allocation is refused; the former print "memory was refused"
 # where their subject was refused one. Of a crate with such tests these alone are run. Others may fail where their own preparation is refused.
 # Each test is a process of its own, and its allocations are counted alone. Of each it tells how many allocations it makes (some are the

@@ -3,7 +3,7 @@ use crate::answers::{Answer, NoAnswer, append, plain, yes_or_no};
 use crate::words;
 use ciborium_value::Value;
 use cose_gate::{About, Header, HmacJudge, Judge, Kind, ProtectedHeader};
-use cose_judge_hmac::is_good_tag;
+use cose_gate_hmac::is_good_tag;
 use coset_keys::CoseKeySet;
 use coset_labels::CborSerializable;
 use std::alloc::{AllocError, Global};

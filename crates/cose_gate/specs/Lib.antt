@@ -75,13 +75,13 @@ pub use Rattle.coset_keys.specs.Written as KeysWritten
 pub use Rattle.coset_keys.specs.Wrong as WrongKeys
 pub use Rattle.coset_keys.specs.declared.key.CoseKey
 pub use Rattle.coset_keys.specs.declared.key.CoseKeySet
-pub use Rattle.cose_run.specs.HmacJudges
-pub use Rattle.cose_run.specs.HmacKeys
-pub use Rattle.cose_run.specs.HmacMessages
-pub use Rattle.cose_run.specs.HmacSecrets
-pub use Rattle.cose_run.specs.InBlocks
-pub use Rattle.cose_run.specs.Program
-pub use Rattle.cose_run.specs.Words
-pub use Rattle.cose_stream.specs.Stated
-pub use Rattle.cose_stream.specs.Streaming
-pub use Rattle.cose_stream.specs.declared.fault.StreamFault
+pub use Rattle.cose_gate_program.specs.HmacJudges
+pub use Rattle.cose_gate_program.specs.HmacKeys
+pub use Rattle.cose_gate_program.specs.HmacMessages
+pub use Rattle.cose_gate_program.specs.HmacSecrets
+pub use Rattle.cose_gate_program.specs.InBlocks
+pub use Rattle.cose_gate_program.specs.Program
+pub use Rattle.cose_gate_program.specs.Words
+pub use Rattle.cose_gate_stream.specs.Stated
+pub use Rattle.cose_gate_stream.specs.Streaming
+pub use Rattle.cose_gate_stream.specs.declared.fault.StreamFault

@@ -14,10 +14,10 @@ pub use cose_gate_laws::gate_core::{
     ProtectedHeader, Read, Recorder, Refusal, RegisteredLabel, RegisteredLabelWithPrivate, Report,
     SemanticKind, Silent, Verdict, Write, de,
 };
+pub use cose_gate_program::judge::HmacJudge;
+pub use cose_gate_program::{Blocks, InputFault, run, words};
+pub use cose_gate_stream::{StreamFault, laws as stream_laws, stream_check, stream_check_with};
 pub use cose_hmac::hmac_sha256;
 pub use cose_iana as iana;
-pub use cose_run::judge::HmacJudge;
-pub use cose_run::{Blocks, InputFault, run, words};
-pub use cose_stream::{StreamFault, laws as stream_laws, stream_check, stream_check_with};
 pub use coset_keys::{CoseKey, CoseKeySet, KeyOperation};
 pub use coset_labels::{AsCborValue, CborSerializable, KeyType};

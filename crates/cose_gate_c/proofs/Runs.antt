@@ -1,15 +1,15 @@
 -- The library's answers, from those of a run.
 use Rattle.std.proofs.Common.{◌≡◌, ℕ, ◌<◌, ◌≤◌, ◌++◌, ◌⊎◌, inl, inr, List, [], length, drop, flat_map, Option, Some, None, Bool, true, false, cond, nat_eq, refl, sym, ap, subst, ◌∙◌, arith}
-use Rattle.cose_judge_hmac.specs.GateCore.Reading.{IfKnown}
+use Rattle.cose_gate_hmac.specs.GateCore.Reading.{IfKnown}
 use Rattle.coset_labels.specs.Limits.{AreLimits, nesting_of, layers_of}
 use Rattle.coset_labels.specs.declared.limits.Limits.{Limits as Chosen}
-use Rattle.cose_judge_hmac.specs.GateCore.Asked.{IsFront}
-use Rattle.cose_judge_hmac.specs.GateCore.Findings.{Limits}
-use Rattle.cose_judge_hmac.specs.GateCore.Run.{Step, Course, questions_of}
-use Rattle.cose_judge_hmac.specs.GateCore.Terms.{limits_by}
-use Rattle.cose_judge_hmac.specs.GateCore.Questions.{Question}
-use Rattle.cose_judge_hmac.specs.Judge.{says_yes}
-use Rattle.cose_run.specs.Program.{Devices, EndsOver, RanOver, RanOn, RanJudged, Hearing}
+use Rattle.cose_gate_hmac.specs.GateCore.Asked.{IsFront}
+use Rattle.cose_gate_hmac.specs.GateCore.Findings.{Limits}
+use Rattle.cose_gate_hmac.specs.GateCore.Run.{Step, Course, questions_of}
+use Rattle.cose_gate_hmac.specs.GateCore.Terms.{limits_by}
+use Rattle.cose_gate_hmac.specs.GateCore.Questions.{Question}
+use Rattle.cose_gate_hmac.specs.Judge.{says_yes}
+use Rattle.cose_gate_program.specs.Program.{Devices, EndsOver, RanOver, RanOn, RanJudged, Hearing}
 use Rattle.cose_asked.specs.Framing.{framed}
 use Rattle.cose_asked.specs.Records.{record_of, is_among}
 use Rattle.cose_asked.proofs.Asked.{told_all}

@@ -1,12 +1,12 @@
 -- What the library answers over memory.
 use Rattle.std.specs.Prelude.{◌≡◌, ℕ, ◌<◌, ◌≤◌, ◌⊎◌, List, [], ◌++◌, length, drop, flat_map, Option, Some, Bool, true}
 use Rattle.coset_labels.specs.Limits.{AreLimits}
-use Rattle.cose_judge_hmac.specs.GateCore.Asked.{IsFront}
-use Rattle.cose_judge_hmac.specs.GateCore.Findings.{Limits, excluded_by}
-use Rattle.cose_judge_hmac.specs.GateCore.Questions.{Question}
-use Rattle.cose_judge_hmac.specs.GateCore.Run.{Step, Course, questions_of}
-use Rattle.cose_judge_hmac.specs.Judge.{says_yes}
-use Rattle.cose_run.specs.Program.{Devices, EndsOver, RanOn}
+use Rattle.cose_gate_hmac.specs.GateCore.Asked.{IsFront}
+use Rattle.cose_gate_hmac.specs.GateCore.Findings.{Limits, excluded_by}
+use Rattle.cose_gate_hmac.specs.GateCore.Questions.{Question}
+use Rattle.cose_gate_hmac.specs.GateCore.Run.{Step, Course, questions_of}
+use Rattle.cose_gate_hmac.specs.Judge.{says_yes}
+use Rattle.cose_gate_program.specs.Program.{Devices, EndsOver, RanOn}
 use Rattle.cose_asked.specs.Framing.{framed}
 use Rattle.cose_asked.specs.Records.{is_among, record_of}
 use Rattle.cose_gate_c.specs.declared.answer.Answer.{Answer}

@@ -1,13 +1,13 @@
 //! The questions of a run, for a caller who checks signatures by himself.
 ghost use Rattle.std.specs.Prelude.{◌≡◌, ℕ, List};
-ghost use Rattle.cose_judge_hmac.specs.GateCore.Terms.{limits_by};
+ghost use Rattle.cose_gate_hmac.specs.GateCore.Terms.{limits_by};
 ghost use Rattle.cose_gate_c.specs.Library.{Asks, Told, Places};
 
 use crate::answer::{Answer, no_limits};
 use crate::lines::Lines;
 use crate::place::{place, place_none};
 use cose_asked::{Asker, Nowhere};
-use cose_run::{Limits, run_judged};
+use cose_gate_program::{Limits, run_judged};
 use std::alloc::Global;
 
 /// Asks within these limits.

@@ -1,13 +1,13 @@
 //! The program's run over memory.
 ghost use Rattle.std.specs.Prelude.{◌≡◌, ℕ, List};
-ghost use Rattle.cose_judge_hmac.specs.GateCore.Terms.{limits_by};
+ghost use Rattle.cose_gate_hmac.specs.GateCore.Terms.{limits_by};
 ghost use Rattle.cose_gate_c.specs.Library.{Checks, Checked, Places};
 
 use crate::answer::{Answer, no_limits};
 use crate::lines::Lines;
 use crate::place::{place, place_none};
 use cose_asked::Growing;
-use cose_run::{Limits, run_over};
+use cose_gate_program::{Limits, run_over};
 use std::alloc::Global;
 
 /// Runs the gate within these limits.

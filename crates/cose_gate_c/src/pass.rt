@@ -1,6 +1,6 @@
 //! The messages whose questions were accepted.
 ghost use Rattle.std.specs.Prelude.{◌≡◌, ◌⊎◌, ℕ, List};
-ghost use Rattle.cose_judge_hmac.specs.GateCore.Terms.{limits_by};
+ghost use Rattle.cose_gate_hmac.specs.GateCore.Terms.{limits_by};
 ghost use Rattle.cose_asked.specs.Kept.{keys_of};
 ghost use Rattle.cose_gate_c.specs.Library.{NoMemory, Passes, Passed, Places, RunsBy};
 
@@ -8,7 +8,7 @@ use crate::answer::{Answer, no_limits};
 use crate::lines::Lines;
 use crate::place::{place, place_none};
 use cose_asked::{Accepted, Growing};
-use cose_run::{Limits, run_judged};
+use cose_gate_program::{Limits, run_judged};
 use std::alloc::Global;
 
 /// Passes what this judge accepts.

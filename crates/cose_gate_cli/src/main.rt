@@ -3,7 +3,7 @@
 #![tactic(auto)]
 
 use ciborium_ll::Io;
-use cose_run::{Blocks, run, words};
+use cose_gate_program::{Blocks, run, words};
 use std::io::{BufReader, BufWriter};
 use std::process::ExitCode;
 use std::{env, fs, io};

@@ -3,9 +3,9 @@ ghost use Rattle.std.specs.Prelude.{◌<◌, IfOk, length};
 
 use crate::source::Source;
 use ciborium_ll::{Decoder, End, Read};
+use cose_gate_hmac::HmacJudge;
+use cose_gate_stream::{StreamFault, stream_check};
 use cose_hmac::HmacSha256;
-use cose_judge_hmac::HmacJudge;
-use cose_stream::{StreamFault, stream_check};
 use coset_keys::CoseKeySet;
 use coset_structures::{MacContext, bytes_title};
 use std::alloc::{AllocError, Global};

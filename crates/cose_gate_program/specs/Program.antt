@@ -1,0 +1,166 @@
+-- What the program does with a whole input.
+use Rattle.std.specs.Prelude.{◌≡◌, ◌⊎◌, ◌<◌, ℕ, List, [], Option, None, Some, Bool, Result, Ok, Err, IsOk, if◌then◌else◌, nat_eq}
+use Rattle.std.specs.Io.KnownBytes.{Appends}
+use Rattle.ciborium_ll.specs.declared.read.Read.{Ghosts as Reads}
+use Rattle.ciborium_ll.specs.declared.write.Write.{Ghosts as Writes}
+use Rattle.ciborium.specs.Reading.{IfKnown}
+use Rattle.cose_gate_hmac.specs.GateCore.Questions.{Question}
+use Rattle.cose_gate_hmac.specs.GateCore.Asked.{IsFront, ToldFront}
+use Rattle.cose_gate_hmac.specs.GateCore.Findings.{Limits, usual}
+use Rattle.cose_gate_hmac.specs.GateCore.Run.{Step, Course, questions_of, output_of, refused_count}
+use Rattle.cose_gate_hmac.specs.GateCore.declared.gating.Counts.{Counts}
+use Rattle.cose_gate_hmac.specs.GateCore.declared.gating.GateFault.{GateFault}
+use Rattle.cose_gate_hmac.specs.GateCore.declared.judge.Judge.{Ghosts as Judges}
+use Rattle.coset_labels.specs.Faults.{CoseFault}
+use Rattle.coset_labels.specs.Reading.{HasItem, WrongItem}
+use Rattle.cose_gate_hmac.specs.KeySets.Fields.{KeyFields}
+use Rattle.cose_gate_hmac.specs.KeySets.Keys.{HasKeySet}
+use Rattle.cose_gate_hmac.specs.KeySets.Wrong.{WrongKeySet}
+use Rattle.cose_gate_program.specs.Beginning.{aad_of}
+
+-- what the reader and the writer have given and taken: the bytes to come and those written, where
+-- they are known, and how often each has failed
+pub record Devices : Type 0 where
+  pub left : Option (List ℕ)
+  pub written : Option (List ℕ)
+  pub read_failures : ℕ
+  pub write_failures : ℕ
+
+-- what is seen of a reader and a writer; `R.Read` and `W.Write` are the words that their bounds
+-- bring
+abbrev pub devices_of : {R E W F : Type 0} (r : Reads R E) (w : Writes W F) → R → W → Devices
+devices_of r w input out = record {
+  left = r.left input;
+  written = w.written out;
+  read_failures = r.failed input;
+  write_failures = w.failed out;
+}
+
+-- a judge in a run: which questions it allows, how what it was told goes on, and what it was told
+-- before the run and after it
+pub record Hearing (T : Type 0) : Type 0 where
+  pub allows : Question → Bool
+  pub decided : T → Question → T
+  pub before : T
+  pub after : T
+
+-- what is seen of a judge; `J.Judge` is the word that its bound brings
+abbrev pub hearing_of : {J : Type 0} (j : Judges J) → J → J → Hearing j.Told
+hearing_of j old new = record {
+  allows = j.yes (j.who old);
+  decided = j.decided;
+  before = j.told old;
+  after = j.told new;
+}
+
+-- what was written is the output of a beginning of the steps
+abbrev pub IsOfSteps : (Question → Bool) → List ℕ → List Step → List ℕ → Type 0
+IsOfSteps allows aad steps front =
+    (done : List Step) × IsFront done steps × (front ≡ output_of allows aad done)
+
+-- the whole input b was gone through by these steps, and all that passed was written
+pub record Through (limits : Limits) (allows : Question → Bool) (aad : List ℕ) (old new : Devices)
+    (b : List ℕ) (steps : List Step) (refused : ℕ) : Type 0 where
+  pub course : Course limits allows aad 0 b steps []
+  pub writes : Appends old.written new.written (output_of allows aad steps)
+  pub refused_is : refused ≡ refused_count allows aad steps
+
+-- b was gone through by these steps up to some place, and a beginning of the output up to there was
+-- written. A text is torn only where the writer failed.
+pub record InPart (limits : Limits) (allows : Question → Bool) (aad : List ℕ) (old new : Devices)
+    (b : List ℕ) (steps : List Step) : Type 0 where
+  pub more : List ℕ
+  pub course : Course limits allows aad 0 b steps more
+  pub front : List ℕ
+  pub front_is : IsFront front (output_of allows aad steps)
+  pub writes : Appends old.written new.written front
+  pub whole : new.write_failures ≡ old.write_failures → IsOfSteps allows aad steps front
+
+abbrev pub GatedOver : {E : Type 0} → Limits → (Question → Bool) → List ℕ → Devices → Devices
+    → List ℕ → List Step → Result Counts (GateFault E) → Type 0
+GatedOver limits allows aad old new b steps (Ok counts) =
+    Through limits allows aad old new b steps counts.refused
+GatedOver limits allows aad old new b steps (Err fault) = InPart limits allows aad old new b steps
+
+-- the status: 0 where none is refused, 1 where some are, 4 where it stopped
+abbrev pub RanOver : Limits → (Question → Bool) → List ℕ → Devices → Devices
+    → List ℕ → List Step → ℕ → Type 0
+RanOver limits allows aad old new b steps status =
+    ((refused : ℕ) × Through limits allows aad old new b steps refused
+    × (status ≡ (if nat_eq refused 0 then 0 else 1)))
+    ⊎ (InPart limits allows aad old new b steps × (status ≡ 4))
+
+-- some bytes were there, those to come where these are known, and the program went over them
+pub record Ran (limits : Limits) (allows : Question → Bool) (aad : List ℕ) (old new : Devices)
+    (status : ℕ) : Type 0 where
+  pub input : List ℕ
+  pub is : IfKnown old.left (λ b. b ≡ input)
+  pub steps : List Step
+  pub over : RanOver limits allows aad old new input steps status
+
+-- the program ran. Of nothing it ends with 0 where no device failed, and with 0 or 1 only where none
+-- did.
+pub record RanOn (limits : Limits) (allows : Question → Bool) (aad : List ℕ) (old new : Devices)
+    (status : ℕ) : Type 0 where
+  pub ran : Ran limits allows aad old new status
+  pub nothing : old.left ≡ Some [] → new.read_failures ≡ old.read_failures
+      → new.write_failures ≡ old.write_failures → status ≡ 0
+  pub steady : status < 2
+      → (new.read_failures ≡ old.read_failures) × (new.write_failures ≡ old.write_failures)
+
+-- a judge was told a beginning of the questions about these steps, in order, and all of them where
+-- the steps were made whole
+pub record Heard {T : Type 0} (hearing : Hearing T) (aad : List ℕ) (steps : List Step)
+    (Whole : Type 0) : Type 0 where
+  pub told : ToldFront hearing.decided hearing.before hearing.after
+      (questions_of hearing.allows aad steps)
+  pub all : Whole → told.front ≡ questions_of hearing.allows aad steps
+
+-- the gate went over some bytes, those to come where these are known, and the judge was asked about
+-- its steps
+pub record Gated {T E : Type 0} (limits : Limits) (hearing : Hearing T) (aad : List ℕ)
+    (old new : Devices) (r : Result Counts (GateFault E)) : Type 0 where
+  pub input : List ℕ
+  pub is : IfKnown old.left (λ b. b ≡ input)
+  pub steps : List Step
+  pub over : GatedOver limits hearing.allows aad old new input steps r
+  pub heard : Heard hearing aad steps (IsOk r)
+
+-- the program ran with a judge, which was asked about the steps of the run: about all of them where
+-- the status is 0 or 1
+pub record RanJudged {T : Type 0} (limits : Limits) (hearing : Hearing T) (aad : List ℕ)
+    (old new : Devices) (status : ℕ) : Type 0 where
+  pub on : RanOn limits hearing.allows aad old new status
+  pub heard : Heard hearing aad on.ran.steps (status < 2)
+
+-- how the program ends: where KEYS holds a key set, and AADHEX is hex or absent, after a run with
+-- them; else nothing was read and nothing written. KEYS is tested before AADHEX, and AADHEX before
+-- what KEYS holds; memory for these may be refused before the run.
+pub data EndsWithin (limits : Limits) (allows : List KeyFields → Question → Bool)
+    (keys aad : Option (List ℕ)) (old new : Devices) (status : ℕ) : Type 0 where
+  no_file : keys ≡ None → status ≡ 3 → new ≡ old → EndsWithin limits allows keys aad old new status
+  not_hex : (b : List ℕ) → keys ≡ Some b → aad_of aad ≡ None → status ≡ 2 → new ≡ old
+      → EndsWithin limits allows keys aad old new status
+  no_keys : (b d : List ℕ) → keys ≡ Some b → aad_of aad ≡ Some d
+      → (e : CoseFault) → WrongItem WrongKeySet b e → status ≡ 3 → new ≡ old
+      → EndsWithin limits allows keys aad old new status
+  no_memory : (b : List ℕ) → keys ≡ Some b → status ≡ 4 → new ≡ old
+      → EndsWithin limits allows keys aad old new status
+  after_run : (b d : List ℕ) → keys ≡ Some b → aad_of aad ≡ Some d
+      → (ks : List KeyFields) → HasItem HasKeySet b ks → RanOn limits (allows ks) d old new status
+      → EndsWithin limits allows keys aad old new status
+
+-- how the program ends at the usual limits, and not strict
+abbrev pub Ends : (List KeyFields → Question → Bool) → Option (List ℕ) → Option (List ℕ)
+    → Devices → Devices → ℕ → Type 0
+Ends allows keys aad old new status = EndsWithin usual allows keys aad old new status
+
+-- how it ends where it is handed the bytes of KEYS, and the external data as bytes: where they hold
+-- a key set after a run with it; else nothing was read and nothing written
+abbrev pub EndsOver : Limits → (List KeyFields → Question → Bool) → List ℕ → List ℕ
+    → Devices → Devices → ℕ → Type 0
+EndsOver limits allows keys aad old new status =
+    ((e : CoseFault) × WrongItem WrongKeySet keys e × (status ≡ 3) × (new ≡ old))
+    ⊎ ((status ≡ 4) × (new ≡ old))
+    ⊎ ((ks : List KeyFields) × HasItem HasKeySet keys ks
+    × RanOn limits (allows ks) aad old new status)

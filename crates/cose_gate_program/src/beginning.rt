@@ -1,0 +1,109 @@
+//! What a run begins with: a key set, and external data.
+ghost use Rattle.std.specs.Prelude.{◌≡◌, MatchResult, Some, option_copied};
+ghost use Rattle.coset_labels.specs.Reading.{HasItem};
+ghost use Rattle.cose_gate_hmac.specs.KeySets.Keys.{HasKeySet};
+ghost use Rattle.cose_gate_hmac.specs.KeySets.View.{key_set_view};
+ghost use Rattle.cose_gate_program.specs.Beginning as spec;
+ghost use Rattle.cose_gate_program.specs.Beginning.{aad_of, Begins, IsNoAad, IsNoKeySet};
+
+use cose_gate_hmac::CoseKeySet;
+use coset_labels::{CborSerializable, CoseError};
+use hex::FromHexError;
+use std::alloc::Global;
+
+/// Why the gate isn't run.
+#[derive(Debug, Clone, Copy, PartialEq, Eq)]
+pub(crate) enum NotBegun {
+    /// KEYS can't be read.
+    NoFile,
+    /// AADHEX is no hex.
+    NotHex,
+    /// KEYS holds no key set.
+    NoKeys(CoseError),
+    /// Memory was refused.
+    Memory,
+}
+
+/// What the gate is run with.
+#[derive(Drop)]
+pub(crate) struct Beginning {
+    pub(crate) keys: CoseKeySet,
+    pub(crate) aad: Vec<u8>,
+}
+
+impl NotBegun {
+    /// The status of the program.
+    pub(crate) fn status(self) -> u8
+        ensures { result ≡ spec.status_of self }
+    {
+        match self {
+            NotBegun::NoFile => 3,
+            NotBegun::NotHex => 2,
+            NotBegun::NoKeys(_) => 3,
+            NotBegun::Memory => 4,
+        }
+    }
+}
+
+/// Reads the external data, and then the key set. Without AADHEX the external data is empty.
+pub(crate) fn begin(
+    alloc: Global,
+    keys: Option<&[u8]>,
+    aad: Option<&str>,
+) -> Result<Beginning, NotBegun>
+    ensures { Begins (option_copied keys.entry) (option_copied aad.entry) result }
+{
+    match keys {
+        Some(bytes) => {
+            let aad = read_aad(alloc, aad)?;
+            let keys = read_keys(alloc, bytes)?;
+            Ok(Beginning { keys, aad })
+        }
+        None => Err(NotBegun::NoFile),
+    }
+}
+
+/// The external data that AADHEX stands for.
+fn read_aad(alloc: Global, aad: Option<&str>) -> Result<Vec<u8>, NotBegun>
+    ensures { MatchResult result (λ d. aad_of (option_copied aad.entry) ≡ Some d.items)
+        (IsNoAad (option_copied aad.entry)) }
+{
+    match aad {
+        Some(text) => match hex::decode(alloc, text) {
+            Ok(bytes) => Ok(bytes),
+            Err(error) => Err(aad_fault(error)),
+        },
+        None => Ok(Vec::new(alloc)),
+    }
+}
+
+/// Why the gate isn't run where AADHEX can't be read.
+fn aad_fault(error: FromHexError) -> NotBegun
+    ensures { result ≡ spec.aad_fault error }
+{
+    match error {
+        FromHexError::OutOfMemory => NotBegun::Memory,
+        _ => NotBegun::NotHex,
+    }
+}
+
+/// The key set that the bytes of KEYS are (RFC 9052, section 7).
+pub(crate) fn read_keys(alloc: Global, bytes: &[u8]) -> Result<CoseKeySet, NotBegun>
+    ensures { MatchResult result (λ s. HasItem HasKeySet bytes.now (key_set_view s))
+        (IsNoKeySet bytes.now) }
+{
+    match CoseKeySet::from_slice(alloc, bytes) {
+        Ok(keys) => Ok(keys),
+        Err(error) => Err(key_set_fault(error)),
+    }
+}
+
+/// Why the gate isn't run where the key set can't be read.
+fn key_set_fault(error: CoseError) -> NotBegun
+    ensures { result ≡ spec.key_set_fault error }
+{
+    match error {
+        CoseError::Memory => NotBegun::Memory,
+        _ => NotBegun::NoKeys(error),
+    }
+}

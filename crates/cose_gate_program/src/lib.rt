@@ -1,0 +1,17 @@
+//! The program `cose-gate KEYS [AADHEX]` over any reader and writers: its words, and a run of the gate with the judge by HMAC, or with any
+//! other. A user names `cose_gate`, which passes it on.
+#![tactic(auto)]
+
+mod arguments;
+mod beginning;
+mod blocks;
+mod devices;
+mod lines;
+mod program;
+
+pub use crate::arguments::words;
+pub use crate::blocks::Blocks;
+pub use crate::devices::InputFault;
+pub use crate::program::{run, run_judged, run_over, run_with};
+pub use cose_gate_hmac as judge;
+pub use cose_gate_hmac::gate_core::Limits;

@@ -1,0 +1,105 @@
+//! The lines on standard error. A fault of what they are written to is passed over.
+use crate::beginning::NotBegun;
+use crate::devices::InputFault;
+use ciborium_ll::Write;
+use cose_gate_hmac::gate_core::{Counts, Entry, GateFault, Refusal, Report, Verdict, de};
+use std::alloc::AllocError;
+use std::fmt;
+use std::fmt::Write as _;
+
+/// Text to a writer.
+#[derive(Drop)]
+struct Text<'a, W> {
+    out: &'a mut W,
+}
+
+impl<'a, W: Write> fmt::Write for Text<'a, W> {
+    fn write_str(&mut self, text: &str) -> fmt::Result {
+        match self.out.write_all(text.as_bytes()) {
+            Ok(()) => Ok(()),
+            Err(_) => Err(fmt::Error),
+        }
+    }
+}
+
+/// A report that writes a line for each item, and keeps nothing.
+#[derive(Drop)]
+pub(crate) struct Lines<'a, W> {
+    pub(crate) out: &'a mut W,
+}
+
+impl<'a, W: Write> Report for Lines<'a, W> {
+    ghost State = { Unit {0} };
+
+    ghost state = { λ _. tt };
+
+    ghost folded = { λ s _. s };
+
+    fn note(&mut self, entry: &Entry) -> Result<(), AllocError> {
+        say_entry(*entry, self.out);
+        Ok(())
+    }
+}
+
+/// The line of an item.
+fn say_entry<W: Write>(entry: Entry, out: &mut W) {
+    let mut text = Text { out };
+    let number = entry.number;
+    let offset = entry.offset;
+    let _ = match entry.verdict {
+        Verdict::Passed => writeln!(text, "item {number} at {offset}: passed"),
+        Verdict::Refused(refusal) => {
+            let name = name_of(refusal);
+            writeln!(text, "item {number} at {offset}: refused: {name}")
+        }
+    };
+}
+
+/// The name of a refusal, without what it holds.
+fn name_of(refusal: Refusal) -> &'static str {
+    match refusal {
+        Refusal::NotTagged => "NotTagged",
+        Refusal::OtherTag(_) => "OtherTag",
+        Refusal::Encrypted => "Encrypted",
+        Refusal::Shape(_) => "Shape",
+        Refusal::Detached => "Detached",
+        Refusal::NoSignature => "NoSignature",
+        Refusal::Judged(_) => "Judged",
+        Refusal::NotShortest => "NotShortest",
+    }
+}
+
+/// The last line, which counts the items. It is flushed, with those before it.
+pub(crate) fn say_counts<W: Write>(counts: Counts, out: &mut W) {
+    let mut text = Text { out };
+    let passed = counts.passed;
+    let refused = counts.refused;
+    let _ = writeln!(text, "passed {passed}, refused {refused}");
+    let _ = text.out.flush();
+}
+
+/// The last line, which says what stopped the gate. It is flushed, with those before it.
+pub(crate) fn say_fault<W: Write>(fault: GateFault<InputFault>, out: &mut W) {
+    let mut text = Text { out };
+    let _ = match fault {
+        GateFault::Decode(de::Error::Io(InputFault::Failed)) => {
+            writeln!(text, "stopped: decode: Io")
+        }
+        GateFault::Decode(_) | GateFault::Write | GateFault::Memory => {
+            writeln!(text, "stopped: {fault}")
+        }
+    };
+    let _ = text.out.flush();
+}
+
+/// The last line, which says why the gate isn't run. It is flushed.
+pub(crate) fn say_not_begun<W: Write>(why: NotBegun, out: &mut W) {
+    let mut text = Text { out };
+    let _ = match why {
+        NotBegun::NoFile => writeln!(text, "keys: cannot be read"),
+        NotBegun::NotHex => writeln!(text, "aad: not hex"),
+        NotBegun::NoKeys(error) => writeln!(text, "keys: {error}"),
+        NotBegun::Memory => writeln!(text, "stopped: memory"),
+    };
+    let _ = text.out.flush();
+}

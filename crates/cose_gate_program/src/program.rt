@@ -1,0 +1,193 @@
+//! The program: the gate over one input, a line for each item, and one that says how it ended.
+ghost use Rattle.std.specs.Prelude.{◌≡◌, ◌≤◌, [], Some, IsOk, OnOk, option_copied};
+ghost use Rattle.cose_gate_hmac.specs.GateCore.Terms.{limits_by};
+ghost use Rattle.cose_gate_hmac.specs.Judge.{says_yes};
+ghost use Rattle.cose_gate_program.specs.Program.{devices_of, hearing_of, Gated, RanJudged};
+ghost use Rattle.cose_gate_program.specs.Program.{Ends, EndsWithin, EndsOver};
+
+use crate::beginning::{begin, read_keys};
+use crate::devices::{Input, InputFault, Output};
+use crate::lines::{Lines, say_counts, say_fault, say_not_begun};
+use ciborium_ll::{Decoder, Read, Write};
+use cose_gate_hmac::HmacJudge;
+use cose_gate_hmac::gate_core::{Counts, GateFault, Judge, Limits, gate_strict_with, gate_with};
+use std::alloc::Global;
+
+/// The gate through devices with small faults, and a line for each item.
+fn gate_lines<R: Read, W: Write, E: Write, J: Judge>(
+    alloc: Global,
+    limits: Limits,
+    strict: bool,
+    aad: &[u8],
+    input: &mut R,
+    out: &mut W,
+    err: &mut E,
+    judge: &mut J,
+) -> Result<Counts, GateFault<InputFault>>
+    ensures ran { Gated (limits_by limits strict)
+        (hearing_of J.Judge judge.old judge.new) aad.now
+        (devices_of R.Read W.Write input.old out.old)
+        (devices_of R.Read W.Write input.new out.new) result }
+    ensures nothing { R.left input.old ≡ Some [] → R.failed input.new ≡ R.failed input.old
+        → IsOk result }
+    ensures reader { OnOk result (R.failed input.new ≡ R.failed input.old) }
+    ensures writer { OnOk result (W.failed out.new ≡ W.failed out.old) }
+    ensures more { W.failed out.old ≤ W.failed out.new }
+    ensures who { J.who judge.new ≡ J.who judge.old }
+    ensures kept { R.handle input.new ≡ R.handle input.old }
+    ensures lent { W.handle out.new ≡ W.handle out.old }
+{
+    let mut decoder = Decoder::from(Input { reader: input });
+    let mut output = Output { writer: out };
+    let mut lines = Lines { out: err };
+    if strict {
+        return match gate_strict_with(
+            alloc,
+            limits,
+            &mut decoder,
+            &mut output,
+            &mut lines,
+            aad,
+            judge,
+        ) {
+            Ok(counts) => Ok(counts),
+            Err(fault) => Err(fault),
+        };
+    }
+    match gate_with(
+        alloc,
+        limits,
+        &mut decoder,
+        &mut output,
+        &mut lines,
+        aad,
+        judge,
+    ) {
+        Ok(counts) => Ok(counts),
+        Err(fault) => Err(fault),
+    }
+}
+
+/// The program's run with any judge: the gate over the input within these limits, and strict where that is asked, with `aad` as external
+/// data. The messages that passed go to `out`, which is flushed, and on `err` there are the lines that `run` tells of. The judge is asked
+/// about the items in order, about all of them where the status is 0 or 1.
+///
+/// The status is 0 where no item was refused, 1 where some were, and 4 where the gate stopped or memory was refused.
+pub fn run_judged<R: Read, W: Write, E: Write, J: Judge>(
+    alloc: Global,
+    limits: Limits,
+    strict: bool,
+    aad: &[u8],
+    input: &mut R,
+    out: &mut W,
+    err: &mut E,
+    judge: &mut J,
+) -> u8
+    ensures ran { RanJudged (limits_by limits strict)
+        (hearing_of J.Judge judge.old judge.new) aad.now
+        (devices_of R.Read W.Write input.old out.old)
+        (devices_of R.Read W.Write input.new out.new) result }
+    ensures who { J.who judge.new ≡ J.who judge.old }
+    ensures kept { R.handle input.new ≡ R.handle input.old }
+    ensures lent { W.handle out.new ≡ W.handle out.old }
+{
+    let gated = gate_lines(alloc, limits, strict, aad, input, out, err, judge);
+    if out.flush().is_err() {
+        say_fault(GateFault::Write, err);
+        return 4;
+    }
+    match gated {
+        Ok(counts) => {
+            say_counts(counts, err);
+            if counts.refused == 0 { 0 } else { 1 }
+        }
+        Err(fault) => {
+            say_fault(fault, err);
+            4
+        }
+    }
+}
+
+/// As `run_with`, with the bytes of KEYS and the external data handed over as they are. The status is 3 where the bytes hold no key set, 4
+/// where the gate stopped or memory was refused, and else 0 or 1.
+pub fn run_over<R: Read, W: Write, E: Write>(
+    alloc: Global,
+    limits: Limits,
+    strict: bool,
+    keys: &[u8],
+    aad: &[u8],
+    input: &mut R,
+    out: &mut W,
+    err: &mut E,
+) -> u8
+    ensures { EndsOver (limits_by limits strict) says_yes keys.now aad.now
+        (devices_of R.Read W.Write input.old out.old)
+        (devices_of R.Read W.Write input.new out.new) result }
+{
+    match read_keys(alloc, keys) {
+        Ok(set) => {
+            let mut judge = HmacJudge::prepared(alloc, &set);
+            run_judged(alloc, limits, strict, aad, input, out, err, &mut judge)
+        }
+        Err(why) => {
+            say_not_begun(why, err);
+            why.status()
+        }
+    }
+}
+
+/// As `run`, within these limits, and strict where that is asked: then a message passes only where its item is already the text that would
+/// be written, and is refused as `NotShortest` else.
+pub fn run_with<R: Read, W: Write, E: Write>(
+    alloc: Global,
+    limits: Limits,
+    strict: bool,
+    keys: Option<&[u8]>,
+    aad: Option<&str>,
+    input: &mut R,
+    out: &mut W,
+    err: &mut E,
+) -> u8
+    ensures { EndsWithin (limits_by limits strict) says_yes
+        (option_copied keys.entry) (option_copied aad.entry)
+        (devices_of R.Read W.Write input.old out.old)
+        (devices_of R.Read W.Write input.new out.new) result }
+{
+    match begin(alloc, keys, aad) {
+        Ok(beginning) => {
+            let mut judge = HmacJudge::prepared(alloc, &beginning.keys);
+            let aad = beginning.aad.as_slice();
+            run_judged(alloc, limits, strict, aad, input, out, err, &mut judge)
+        }
+        Err(why) => {
+            say_not_begun(why, err);
+            why.status()
+        }
+    }
+}
+
+/// Runs the gate over the input with the judge by HMAC: `keys` are the bytes of KEYS, which hold a key set, or none where they can't be read,
+/// and `aad` is AADHEX, the external data in hex of either case; without it they are empty. The messages that passed go to `out`, which is
+/// flushed.
+///
+/// On `err` there is a line for each item, `item N at OFFSET: passed` or `item N at OFFSET: refused: NAME`, and then `passed P, refused R`, or
+/// `stopped: decode: WORD`, `stopped: write` or `stopped: memory`. Where the gate isn't run, the one line is `keys: cannot be read`,
+/// `aad: not hex`, `keys: ` and what is wrong with the key set, or `stopped: memory`; these are tested in this order. Lines are written as
+/// the items come, and flushed at the end; a fault of `err` is passed over.
+///
+/// The status is 0 where no item was refused, 1 where some were, 2 where AADHEX is no hex, 3 where there is no key set, and 4 where the gate
+/// stopped or memory was refused. A flush that fails is `stopped: write`, whatever stopped the gate before.
+pub fn run<R: Read, W: Write, E: Write>(
+    alloc: Global,
+    keys: Option<&[u8]>,
+    aad: Option<&str>,
+    input: &mut R,
+    out: &mut W,
+    err: &mut E,
+) -> u8
+    ensures { Ends says_yes (option_copied keys.entry) (option_copied aad.entry)
+        (devices_of R.Read W.Write input.old out.old)
+        (devices_of R.Read W.Write input.new out.new) result }
+{
+    run_with(alloc, Limits::default(), false, keys, aad, input, out, err)
+}

@@ -1,0 +1,58 @@
+//! Which message it is.
+ghost use Rattle.std.specs.Prelude.{◌≡◌, ◌++◌, ℕ, List, None, MatchOption};
+ghost use Rattle.coset_structures.specs.Structure.{structure, behind_prefix};
+ghost use Rattle.cose_gate_stream.specs.Forms.{tag_number, kind_of, context_of};
+ghost use Rattle.cose_gate_stream.specs.Stated.{IsSingleTag};
+
+use cose_gate_core::Kind;
+use coset_labels::TaggedCborSerializable;
+use coset_maced::CoseMac0;
+use coset_signed::CoseSign1;
+use coset_structures::{MacContext, SignatureContext};
+
+/// A message with one signature or one tag, and nobody else to ask about.
+#[derive(Debug, Clone, Copy, PartialEq, Eq)]
+pub enum Form {
+    /// A COSE_Sign1.
+    Sign1,
+    /// A COSE_Mac0.
+    Mac0,
+}
+
+/// The message that a tag is of (RFC 9052, section 2).
+pub fn form_of(number: u64) -> Option<Form>
+    ensures { MatchOption result (IsSingleTag number → ⊥) (λ form. number ≡ tag_number form) }
+{
+    if number == CoseSign1::TAG {
+        Some(Form::Sign1)
+    } else if number == CoseMac0::TAG {
+        Some(Form::Mac0)
+    } else {
+        None
+    }
+}
+
+impl Form {
+    /// What a judge is told that it is.
+    pub fn kind(self) -> Kind
+        ensures { result ≡ kind_of self }
+    {
+        match self {
+            Form::Sign1 => Kind::Sign1,
+            Form::Mac0 => Kind::Mac0,
+        }
+    }
+
+    /// How its structure begins: the title of the array and the context's text (RFC 9052, sections
+    /// 4.4 and 6.3).
+    pub fn prefix(self) -> &'static [u8]
+        ensures { (body aad payload : List ℕ)
+            → structure (context_of self) body None aad payload
+            ≡ result.now ++ behind_prefix body None aad payload }
+    {
+        match self {
+            Form::Sign1 => SignatureContext::CoseSign1.prefix(false),
+            Form::Mac0 => MacContext::CoseMac0.prefix(),
+        }
+    }
+}

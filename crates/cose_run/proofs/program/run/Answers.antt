@@ -1,5 +1,0 @@
-use Rattle.cose_run.proofs.Runs.{ends_usually}
-use Rattle.cose_run.proofs.program.run.Goals as goal
-
-pub returns : goal.returns
-returns g c = ends_usually c.default.result _ _ _ _ _ _ c.default.ensures c.run_with.ensures

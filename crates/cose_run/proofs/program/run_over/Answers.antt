@@ -1,9 +1,0 @@
-use Rattle.std.proofs.Common.{refl}
-use Rattle.cose_run.proofs.Runs.{over_none, over_run}
-use Rattle.cose_run.proofs.program.run_over.Goals as goal
-
-pub returns-in-Ok : goal.returns-in-Ok
-returns-in-Ok g c = over_run _ _ _ _ _ _ _ _ c.in-Ok.ensures c.prepared-judge.ensures c.run_judged.ensures.ran.on
-
-pub returns-in-Err : goal.returns-in-Err
-returns-in-Err g c = over_none _ _ _ _ _ _ _ _ c.in-Err.ensures c.status.ensures refl

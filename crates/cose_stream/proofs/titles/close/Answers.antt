@@ -1,7 +1,0 @@
-use Rattle.std.proofs.Common.{refl}
-use Rattle.cose_stream.specs.Parts.{CloseFault}
-use Rattle.cose_stream.proofs.Faults.{unexpected_here}
-use Rattle.cose_stream.proofs.titles.close.Goals as goal
-
-pub returns-then-not-is_break-clause-err : goal.returns-then-not-is_break-clause-err
-returns-then-not-is_break-clause-err g c = unexpected_here g.R.Read.ends _ _ _ _ _ CloseFault _ c.in_ok-header.ensures.ok c.not_four.ensures (λ stop b rest s. (refl, (_, rest, s, c.if-not-is_break.ensures)))
