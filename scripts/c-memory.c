@@ -181,7 +181,8 @@ static void *on_stack(void *unused) {
   static uint8_t room[MOST];
   (void)unused;
   bytes out = {room, sizeof room}, lines = {(uint8_t *)deep_line, sizeof deep_line - 1};
-  deep_answer = call(deep_call, keys, deep, out, lines);
+  bytes nothing = {keys.at, 0};
+  deep_answer = call(deep_call, deep_call == 2 ? nothing : keys, deep, out, lines);
   return NULL;
 }
 
@@ -205,9 +206,10 @@ static size_t stack_of(int which, const char *line) {
 }
 
 static void measure_stack(const char *what) {
-  size_t check = stack_of(0, "item 1 at 0: refused: Judged\n"), ask = stack_of(1, "item 1 at 0: passed\n");
-  printf("c-memory: %s take %zu bytes of stack in cose_gate_check and %zu in cose_gate_ask, those of a thread's start among them\n", what,
-         check, ask);
+  size_t check = stack_of(0, "item 1 at 0: refused: Judged\n"), ask = stack_of(1, "item 1 at 0: passed\n"),
+         pass = stack_of(2, "item 1 at 0: refused: Judged\n");
+  printf("c-memory: %s take %zu bytes of stack in cose_gate_check, %zu in cose_gate_ask and %zu in cose_gate_pass, those of a thread's start "
+         "among them\n", what, check, ask, pass);
 }
 
 static uint8_t text[MOST];
