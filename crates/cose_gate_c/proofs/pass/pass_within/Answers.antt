@@ -10,9 +10,9 @@ returns-in-Some c = (
   c.pass_by.ensures.0,
   c.pass_by.ensures.1,
   passed _ _ _ _ _ _ _
-    (MatchOption-at_some ((keys : List (List ℕ)) → c.args.accepted.now ≡ flat_map framed keys → ⊥)
+      (MatchOption-at_some ((keys : List (List ℕ)) → c.args.accepted.now ≡ flat_map framed keys → ⊥)
       (λ judge. c.args.accepted.now ≡ flat_map framed (keys_of judge)) c.in-Some.judge c.in-Some.is c.in-Ok.ensures)
-    c.pass_by.ensures.2,
+      c.pass_by.ensures.2,
   c.pass_by.ensures.3,
 )
 
@@ -22,7 +22,7 @@ returns-in-None c = (
   3,
   inr (inl (
     MatchOption-at_none ((keys : List (List ℕ)) → c.args.accepted.now ≡ flat_map framed keys → ⊥)
-      (λ judge. c.args.accepted.now ≡ flat_map framed (keys_of judge)) c.in-None.is c.in-Ok.ensures,
+        (λ judge. c.args.accepted.now ≡ flat_map framed (keys_of judge)) c.in-None.is c.in-Ok.ensures,
     refl,
     refl,
   )),
