@@ -9,7 +9,7 @@ import tempfile
 
 what, top, *rest = sys.argv[1:]
 sys.path.insert(0, f"{top}/examples/python")
-from cose_gate import Gate, GateError, LimitsError, NoRoomError, StoppedError  # noqa: E402
+from cose_gate import Gate, GateError, LimitsError, NoRoomError, StoppedError, questions_of  # noqa: E402
 
 random.seed(39)
 seeds = [open(f"{top}/examples/{name}.cbor", "rb").read() for name in ("mixed", "one", "cut")]

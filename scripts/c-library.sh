@@ -33,9 +33,12 @@ case $what in
   *) fails "no word $what; the head of this script has them" ;;
 esac
 
-# Proves and builds the library. rt does nothing where nothing has changed.
+# Proves and builds the library, where a source has changed since.
 mkdir -p "$made"
-if ! (cd "$crate" && rt lib) > "$out/lib.log" 2>&1 || [ ! -f "$archive" ]; then
+is_old() {
+  [ ! -f "$archive" ] || [ -n "$(find "$top"/crates/*/src "$top"/crates/*/specs "$top"/crates/*/proofs "$top/crates.txt" -newer "$archive" -print -quit)" ]
+}
+if is_old && ! (cd "$crate" && rt lib && [ -f "$archive" ]) > "$out/lib.log" 2>&1; then
   tail -n 20 "$out/lib.log" >&2
   echo "c-library.sh: the library was not built; the log is $out/lib.log" >&2
   exit 70

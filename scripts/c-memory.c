@@ -174,19 +174,22 @@ static void each_refused(int which, bytes given, bytes input) {
 
 /* An input that goes as deep as the limits allow. */
 static bytes deep;
+static int deep_call;
 static cose_gate_answer deep_answer;
 static char deep_line[256];
 static void *on_stack(void *unused) {
   static uint8_t room[MOST];
   (void)unused;
   bytes out = {room, sizeof room}, lines = {(uint8_t *)deep_line, sizeof deep_line - 1};
-  deep_answer = call(0, keys, deep, out, lines);
+  bytes nothing = {keys.at, 0};
+  deep_answer = call(deep_call, deep_call == 2 ? nothing : keys, deep, out, lines);
   return NULL;
 }
 
-static void measure_stack(const char *what) {
+static size_t stack_of(int which, const char *line) {
   size_t room = 1 << 22;
   uint8_t *stack = aligned_alloc(4096, room);
+  deep_call = which;
   memset(stack, 0xa5, room);
   memset(deep_line, 0, sizeof deep_line);
   pthread_attr_t how;
@@ -197,9 +200,16 @@ static void measure_stack(const char *what) {
   pthread_join(thread, NULL);
   size_t left = 0;
   while (left < room && stack[left] == 0xa5) left++;
-  assert(deep_answer.status == 1 && strncmp(deep_line, "item 1 at 0: refused: Judged\n", 29) == 0);
-  printf("c-memory: %s take %zu bytes of stack, those of a thread's start among them\n", what, room - left);
+  assert(strncmp(deep_line, line, strlen(line)) == 0);
   free(stack);
+  return room - left;
+}
+
+static void measure_stack(const char *what) {
+  size_t check = stack_of(0, "item 1 at 0: refused: Judged\n"), ask = stack_of(1, "item 1 at 0: passed\n"),
+         pass = stack_of(2, "item 1 at 0: refused: Judged\n");
+  printf("c-memory: %s take %zu bytes of stack in cose_gate_check, %zu in cose_gate_ask and %zu in cose_gate_pass, those of a thread's start "
+         "among them\n", what, check, ask, pass);
 }
 
 static uint8_t text[MOST];
@@ -228,14 +238,14 @@ static void enclose(size_t from) {
   length += sizeof head;
 }
 
-/* A protected header that holds maps, and a counter signature with such a header, and so on. */
-static void add_layers(int layers, int levels) {
+/* A header that holds maps, and a counter signature with such a protected header, and so on. */
+static void add_layers(int layers, int levels, bool is_protected) {
   size_t from = length;
   add_byte(layers > 1 ? 0xa2 : 0xa1);
   if (layers > 1) {
     add_byte(0x07);
     add_byte(0x83);
-    add_layers(layers - 1, levels);
+    add_layers(layers - 1, levels, true);
     add_byte(0xa0);
     add_byte(0x41);
     add_byte(0x00);
@@ -243,7 +253,7 @@ static void add_layers(int layers, int levels) {
   add_byte(0x18);
   add_byte(0x63);
   add_levels(levels, true);
-  enclose(from);
+  if (is_protected) enclose(from);
 }
 
 static void measure_stacks(void) {
@@ -257,10 +267,16 @@ static void measure_stacks(void) {
   }
   length = 0;
   add((const uint8_t[]){0xd1, 0x84}, 2);
-  add_layers(16, 255);
+  add_layers(16, 255, true);
   add((const uint8_t[]){0xa0, 0x40, 0x40}, 3);
   deep = (bytes){text, length};
   measure_stack("16 layers of protected headers, each with 256 levels of maps,");
+  length = 0;
+  add((const uint8_t[]){0xd1, 0x84, 0x40}, 3);
+  add_layers(17, 253, false);
+  add((const uint8_t[]){0x40, 0x40}, 2);
+  deep = (bytes){text, length};
+  measure_stack("16 such layers in an unprotected header");
 }
 #endif
 
