@@ -68,7 +68,8 @@ fn append_signer(
     signer: Option<(&ProtectedHeader, &Header)>,
 ) -> Result<(), AllocError>
     ensures { OnOk result («text».new.items ≡ «text».old.items
-        ++ (framed (spec.signer_protected (signer_of signer.entry)) ++ framed (spec.signer_unprotected (signer_of signer.entry)))) }
+        ++ (framed (spec.signer_protected (signer_of signer.entry))
+        ++ framed (spec.signer_unprotected (signer_of signer.entry)))) }
 {
     match signer {
         Some((protected, unprotected)) => {

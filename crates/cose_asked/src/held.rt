@@ -44,7 +44,8 @@ impl Held {
     pub(crate) fn feed(&mut self, piece: &[u8]) -> Result<(), AllocError>
         ensures holds { OnOk result ((subject : Subject) (covered : List ℕ)
             → IsHeld self.old subject covered → IsHeld self.new subject (covered ++ piece.now)) }
-        ensures pieces { OnOk result (pieces_of self.new ≡ pieces_of self.old ++ length piece.now ∷ []) }
+        ensures pieces { OnOk result
+            (pieces_of self.new ≡ pieces_of self.old ++ length piece.now ∷ []) }
         ensures refused { OnErr result (pieces_of self.new ≡ pieces_of self.old) }
     {
         self.covered.extend_from_slice(piece)?;

@@ -9,7 +9,8 @@ const NO_ROOM: u32 = 5;
 /// Copies the text to the front, where it fits, and says whether it did.
 fn fill(out: &mut [u8], text: &[u8]) -> bool
     ensures { MatchBool result
-        ((length text.now ≤ length «out».old) × («out».new ≡ text.now ++ drop (length text.now) «out».old))
+        ((length text.now ≤ length «out».old)
+        × («out».new ≡ text.now ++ drop (length text.now) «out».old))
         ((length «out».old < length text.now) × («out».new ≡ «out».old)) }
 {
     let len = text.len();
@@ -25,7 +26,8 @@ pub(crate) fn place(out: &mut [u8], text: &[u8], status: u8, lines: usize) -> An
     ensures length { result.length ≡ length text.now }
     ensures fits { length text.now ≤ length «out».old
         → (result.status ≡ status) × («out».new ≡ text.now ++ drop (length text.now) «out».old) }
-    ensures no_room { length «out».old < length text.now → (result.status ≡ 5) × («out».new ≡ «out».old) }
+    ensures no_room { length «out».old < length text.now
+        → (result.status ≡ 5) × («out».new ≡ «out».old) }
     ensures lines { result.lines ≡ lines }
 {
     let length = text.len();
