@@ -5,7 +5,7 @@ use Rattle.coset_structures.specs.Contexts.{encryption_text}
 use Rattle.coset_structures.specs.declared.context.EncryptionContext.TheVariants.{CoseEncrypt, CoseEncrypt0}
 use Rattle.coset_structures.proofs.Writable.{enc_data_some}
 use Rattle.coset_headers.proofs.Writable.{prot_some}
-use Rattle.coset_parts.proofs.Kept.{Kept, whole_kept}
+use Rattle.coset_message_parts.proofs.Kept.{Kept, whole_kept}
 use Rattle.coset_recipients.specs.Written.{list_tree}
 use Rattle.coset_recipients.proofs.Kept.{list_kept}
 use Rattle.coset_encrypted.specs.Fields.{Encrypt0Fields, EncryptFields}

@@ -2,7 +2,7 @@
 -- headers.
 use Rattle.std.specs.Prelude.{ℕ, [], ◌∷◌}
 use Rattle.ciborium_value.specs.Tree.{Tree}
-use Rattle.coset_parts.specs.Shapes.{HasWhole}
+use Rattle.coset_message_parts.specs.Shapes.{HasWhole}
 use Rattle.coset_recipients.specs.Shapes.{HasList}
 use Rattle.coset_encrypted.specs.Fields.{Encrypt0Fields, EncryptFields}
 

@@ -1,13 +1,13 @@
 //! The COSE_Encrypt message.
 ghost use Rattle.std.specs.Prelude.{◌≡◌, IsSome, IfSome, IfNone, IsSomeAnd, IfOk, MatchOption};
-ghost use Rattle.coset_parts.specs.Calls.{TakesPairWhere, AnswersWhere, AnswersMissing};
+ghost use Rattle.coset_message_parts.specs.Calls.{TakesPairWhere, AnswersWhere, AnswersMissing};
 ghost use Rattle.coset_encrypted.specs.Fields.{no_encrypt};
 ghost use Rattle.coset_encrypted.specs.Structure.{encrypt_structure};
 ghost use Rattle.coset_encrypted.specs.View.{encrypt_view};
 
 use coset_headers::{Header, ProtectedHeader};
 use coset_labels::Fault;
-use coset_parts::{clone_bytes, content_bytes};
+use coset_message_parts::{clone_bytes, content_bytes};
 use coset_recipients::{CoseRecipient, clone_recipients};
 use coset_structures::{EncryptionContext, enc_structure_data};
 use std::alloc::{AllocError, Global};

@@ -15,7 +15,7 @@ use ciborium_value::Value;
 use coset_labels::{
     AsCborValue, CborSerializable, CoseError, Limits, TaggedCborSerializable, ValueTryAs,
 };
-use coset_parts::{Parts, four, read_parts, three, write_parts};
+use coset_message_parts::{Parts, four, read_parts, three, write_parts};
 use coset_recipients::{read_recipients, write_recipients};
 use std::alloc::Global;
 

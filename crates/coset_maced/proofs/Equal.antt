@@ -4,7 +4,7 @@ use Rattle.std.specs.Prelude.{IsTrue, ◌↔◌, nat_eq}
 use Rattle.std.specs.Cmp.Lexicographic.{pointwise, bytes_decides}
 use Rattle.coset_headers.specs.Decided.{headers_decided, protected_decided}
 use Rattle.coset_headers.specs.View.{header_view, protected_view}
-use Rattle.coset_parts.proofs.Equal.{both, options}
+use Rattle.coset_message_parts.proofs.Equal.{both, options}
 use Rattle.coset_recipients.proofs.Equal.{all_equal}
 use Rattle.coset_maced.specs.View.{mac0_view, mac_view}
 use Rattle.coset_maced.specs.declared.mac.CoseMac.{CoseMac}

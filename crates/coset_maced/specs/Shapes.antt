@@ -2,7 +2,7 @@
 -- of headers.
 use Rattle.std.specs.Prelude.{◌≡◌, ℕ, [], ◌∷◌}
 use Rattle.ciborium_value.specs.Tree.{Tree, bytes}
-use Rattle.coset_parts.specs.Shapes.{HasWhole}
+use Rattle.coset_message_parts.specs.Shapes.{HasWhole}
 use Rattle.coset_recipients.specs.Shapes.{HasList}
 use Rattle.coset_maced.specs.Fields.{Mac0Fields, MacFields}
 

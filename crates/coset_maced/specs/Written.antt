@@ -2,7 +2,7 @@
 -- written.
 use Rattle.std.specs.Prelude.{[], ◌∷◌, Option, Some}
 use Rattle.ciborium_value.specs.Tree.{Tree, bytes}
-use Rattle.coset_parts.specs.Written.{whole_tree}
+use Rattle.coset_message_parts.specs.Written.{whole_tree}
 use Rattle.coset_recipients.specs.Written.{list_tree}
 use Rattle.coset_maced.specs.Fields.{Mac0Fields, MacFields}
 

@@ -16,8 +16,8 @@ ghost use Rattle.coset_maced.specs.Wrong.{WrongMac0, WrongMac};
 
 use crate::mac::CoseMac;
 use crate::mac0::CoseMac0;
-pub use coset_parts::laws as parts;
-use coset_parts::laws::{bytes_fit, parts_fit};
+pub use coset_message_parts::laws as parts;
+use coset_message_parts::laws::{bytes_fit, parts_fit};
 pub use coset_recipients::laws as recipients;
 use coset_recipients::laws::recipients_fit;
 

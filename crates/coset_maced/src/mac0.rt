@@ -1,15 +1,15 @@
 //! The COSE_Mac0 message.
 ghost use Rattle.std.specs.Prelude.{◌≡◌, IsSome, IfSome, IfNone, IsSomeAnd, IfOk, MatchOption, MatchResult, Some};
 ghost use Rattle.coset_labels.specs.Faults.{CantWrite};
-ghost use Rattle.coset_parts.specs.Calls.{TakesPairWhere, AnswersWhere, AnswersMissing};
-ghost use Rattle.coset_parts.specs.Written.{content_bytes};
+ghost use Rattle.coset_message_parts.specs.Calls.{TakesPairWhere, AnswersWhere, AnswersMissing};
+ghost use Rattle.coset_message_parts.specs.Written.{content_bytes};
 ghost use Rattle.coset_maced.specs.Fields.{no_mac0};
 ghost use Rattle.coset_maced.specs.Structure.{mac0_covered};
 ghost use Rattle.coset_maced.specs.View.{mac0_view};
 
 use coset_headers::{Header, ProtectedHeader};
 use coset_labels::{CoseError, Fault};
-use coset_parts::{clone_bytes, content_bytes};
+use coset_message_parts::{clone_bytes, content_bytes};
 use coset_structures::{MacContext, mac_structure_data};
 use std::alloc::{AllocError, Global};
 

@@ -15,7 +15,7 @@ use ciborium_value::Value;
 use coset_labels::{
     AsCborValue, CborSerializable, CoseError, Limits, TaggedCborSerializable, ValueTryAs,
 };
-use coset_parts::{Parts, five, four, read_parts, write_parts};
+use coset_message_parts::{Parts, five, four, read_parts, write_parts};
 use coset_recipients::{read_recipients, write_recipients};
 use std::alloc::Global;
 

@@ -6,7 +6,7 @@ use Rattle.std.specs.Option.{option_eq}
 use Rattle.coset_headers.specs.Decided.{headers_decided, protected_decided}
 use Rattle.coset_headers.specs.Same.{same_header, same_protected}
 use Rattle.coset_headers.specs.View.{header_view, protected_view}
-use Rattle.coset_parts.proofs.Equal.{both, options}
+use Rattle.coset_message_parts.proofs.Equal.{both, options}
 use Rattle.coset_recipients.specs.Fields.{recipient, recipients, no_recipients, recipient_more}
 use Rattle.coset_recipients.specs.View.{recipient_view, recipients_view, fields_of}
 use Rattle.coset_recipients.specs.declared.recipient.CoseRecipient.{CoseRecipient, out-CoseRecipient, roll-CoseRecipient}

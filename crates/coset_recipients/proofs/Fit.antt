@@ -7,10 +7,10 @@ use Rattle.ciborium_value.specs.Encoding.{Fits, FitAll}
 use Rattle.coset_headers.specs.View.{header_view, protected_view}
 use Rattle.coset_headers.proofs.Again.{trees_parts}
 use Rattle.coset_headers.proofs.Fit.{Each}
-use Rattle.coset_parts.specs.Short.{PartsShort}
-use Rattle.coset_parts.specs.Written.{parts_trees}
-use Rattle.coset_parts.proofs.Again.{map_made}
-use Rattle.coset_parts.proofs.Fit.{whole_fit, parts_short}
+use Rattle.coset_message_parts.specs.Short.{PartsShort}
+use Rattle.coset_message_parts.specs.Written.{parts_trees}
+use Rattle.coset_message_parts.proofs.Again.{map_made}
+use Rattle.coset_message_parts.proofs.Fit.{whole_fit, parts_short}
 use Rattle.coset_recipients.specs.Fields.{RecipientFields, recipient, RecipientsFields, no_recipients, recipient_more}
 use Rattle.coset_recipients.specs.Shapes.{HasRecipient, HasRecipients, HasInner}
 use Rattle.coset_recipients.specs.Short.{RecipientShort, RecipientsShort}

@@ -10,8 +10,8 @@ use Rattle.coset_labels.specs.declared.error.CoseError.{CoseError}
 use Rattle.coset_headers.specs.View.{header_view, protected_view}
 use Rattle.coset_headers.specs.Weight.{weight, weight_all}
 use Rattle.coset_headers.proofs.Steps.{passed_on}
-use Rattle.coset_parts.specs.Shapes.{HasParts}
-use Rattle.coset_parts.specs.Wrong.{WrongParts}
+use Rattle.coset_message_parts.specs.Shapes.{HasParts}
+use Rattle.coset_message_parts.specs.Wrong.{WrongParts}
 use Rattle.coset_recipients.specs.Fields.{RecipientFields, recipients, RecipientsFields}
 use Rattle.coset_recipients.specs.Shapes.{three_or_four, HasRecipient, HasRecipients, HasInner, HasList}
 use Rattle.coset_recipients.specs.View.{recipient_view, recipients_view}

@@ -11,7 +11,7 @@ use Rattle.coset_labels.specs.Faults.{CantWrite}
 use Rattle.coset_labels.specs.declared.error.CoseError.{CoseError}
 use Rattle.coset_labels.proofs.Arrays.{written_none}
 use Rattle.coset_headers.specs.View.{header_view, protected_view}
-use Rattle.coset_parts.specs.Written.{parts_trees}
+use Rattle.coset_message_parts.specs.Written.{parts_trees}
 use Rattle.coset_recipients.specs.Fields.{RecipientFields, recipients}
 use Rattle.coset_recipients.specs.View.{recipient_view, recipients_view}
 use Rattle.coset_recipients.specs.Written.{fourth, whole, recipient_tree, recipients_trees, list_tree}

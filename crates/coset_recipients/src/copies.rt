@@ -3,7 +3,7 @@ ghost use Rattle.std.specs.Prelude.{◌≡◌, IfOk, map};
 ghost use Rattle.coset_recipients.specs.View.{recipient_view};
 
 use crate::recipient::CoseRecipient;
-use coset_parts::clone_bytes;
+use coset_message_parts::clone_bytes;
 use std::alloc::{AllocError, Global};
 
 impl CoseRecipient {

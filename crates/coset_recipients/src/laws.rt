@@ -16,7 +16,7 @@ ghost use Rattle.coset_recipients.specs.Written.{recipient_tree, recipients_tree
 ghost use Rattle.coset_recipients.specs.Wrong.{WrongRecipient, WrongList};
 
 use crate::recipient::CoseRecipient;
-use coset_parts::laws::parts_fit;
+use coset_message_parts::laws::parts_fit;
 
 /// The fields of a recipient are those of its parts.
 pub fn recipient_opened(recipient: &CoseRecipient)

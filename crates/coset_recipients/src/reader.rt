@@ -12,7 +12,7 @@ ghost use Rattle.coset_recipients.specs.Wrong.{WrongRecipient, WrongList};
 use crate::recipient::CoseRecipient;
 use ciborium_value::Value;
 use coset_labels::{CoseError, Limits, ValueTryAs};
-use coset_parts::read_parts;
+use coset_message_parts::read_parts;
 use std::alloc::Global;
 
 /// The items of a list of three or four; none where it has another length. Nothing is copied.

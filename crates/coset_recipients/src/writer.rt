@@ -8,7 +8,7 @@ ghost use Rattle.coset_recipients.specs.Written.{recipient_tree, recipients_tree
 use crate::recipient::CoseRecipient;
 use ciborium_value::Value;
 use coset_labels::CoseError;
-use coset_parts::{Parts, write_parts};
+use coset_message_parts::{Parts, write_parts};
 use std::alloc::Global;
 
 /// The array that stands for a recipient. It has no fourth element where the recipient has no recipients of its own.

@@ -9,9 +9,9 @@ use Rattle.coset_headers.specs.Fields.{SignatureFields, signatures}
 use Rattle.coset_headers.specs.Written.{signature_tree, signature_trees}
 use Rattle.coset_headers.proofs.Stands.{sigs_stand}
 use Rattle.coset_headers.proofs.Written.{signature_list}
-use Rattle.coset_parts.proofs.Again.{map_made}
-use Rattle.coset_parts.specs.Shapes.{one_held}
-use Rattle.coset_parts.proofs.Stands.{and_true, whole_stands}
+use Rattle.coset_message_parts.proofs.Again.{map_made}
+use Rattle.coset_message_parts.specs.Shapes.{one_held}
+use Rattle.coset_message_parts.proofs.Stands.{and_true, whole_stands}
 use Rattle.coset_signed.specs.AsWritten.{sign_stands, list_stands}
 use Rattle.coset_signed.specs.Fields.{Sign1Fields, SignFields}
 use Rattle.coset_signed.specs.Shapes.{IsSignatureList, HasSign1, HasSign}

@@ -10,7 +10,7 @@ use Rattle.coset_labels.specs.declared.error.CoseError.{CoseError}
 use Rattle.coset_labels.specs.declared.error.CoseError.TheVariants as code
 use Rattle.coset_headers.specs.Wrong.{WrongSignature}
 use Rattle.coset_headers.proofs.Steps.{passed_on}
-use Rattle.coset_parts.specs.Wrong.{WrongParts}
+use Rattle.coset_message_parts.specs.Wrong.{WrongParts}
 use Rattle.coset_signed.specs.Shapes.{four_items}
 use Rattle.coset_signed.specs.Wrong.{IsNotFour, WrongFour, not_four, in_parts, in_last, Hides, IsNoSignature, whatever, HasNoSignature, WrongSignatureList, no_list, in_list}
 

@@ -5,7 +5,7 @@ use Rattle.ciborium_value.specs.Tree.{Tree, bytes, array, Trees}
 use Rattle.ciborium_value.specs.View.{trees}
 use Rattle.coset_headers.specs.Fields.{HeaderFields, ProtectedFields, SignatureFields, signatures}
 use Rattle.coset_headers.specs.Headers.{HasSignatures}
-use Rattle.coset_parts.specs.Shapes.{HasWhole}
+use Rattle.coset_message_parts.specs.Shapes.{HasWhole}
 use Rattle.coset_signed.specs.Fields.{Sign1Fields, SignFields}
 
 abbrev pub four_items : Tree → Tree → Tree → Tree → Tree

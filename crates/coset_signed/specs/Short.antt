@@ -1,7 +1,7 @@
 -- Messages in which each protected header that has no received bytes is encoded in fewer bytes than a head can say.
 use Rattle.coset_headers.specs.Fields.{signatures}
 use Rattle.coset_headers.specs.Short.{AllShort}
-use Rattle.coset_parts.specs.Short.{PartsShort}
+use Rattle.coset_message_parts.specs.Short.{PartsShort}
 use Rattle.coset_signed.specs.Fields.{Sign1Fields, SignFields}
 
 abbrev pub Sign1Short : Sign1Fields → Type 0

@@ -9,9 +9,9 @@ use Rattle.coset_labels.specs.Kinds.{is_array}
 use Rattle.coset_labels.specs.declared.error.CoseError.{CoseError}
 use Rattle.coset_labels.specs.declared.error.CoseError.TheVariants as code
 use Rattle.coset_headers.specs.Wrong.{WrongSignature}
-use Rattle.coset_parts.specs.Wrong.{WrongParts, WrongWhole}
-pub use Rattle.coset_parts.specs.Wrong.{IsNoBytes}
-use Rattle.coset_parts.specs.Wrong as whole
+use Rattle.coset_message_parts.specs.Wrong.{WrongParts, WrongWhole}
+pub use Rattle.coset_message_parts.specs.Wrong.{IsNoBytes}
+use Rattle.coset_message_parts.specs.Wrong as whole
 use Rattle.coset_signed.specs.Shapes.{four_items}
 
 -- no array, or one of another length

@@ -7,7 +7,7 @@ ghost use Rattle.coset_signed.specs.Wrong.{IsNotFour};
 
 use ciborium_value::Value;
 use coset_labels::{CoseError, ValueTryAs};
-use coset_parts::four;
+use coset_message_parts::four;
 
 /// The four items of an array.
 ///

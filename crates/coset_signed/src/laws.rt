@@ -25,7 +25,7 @@ use crate::sign::CoseSign;
 use crate::sign1::CoseSign1;
 use coset_headers::CoseSignature;
 use coset_headers::laws::signature_fits;
-use coset_parts::laws::{bytes_fit, parts_fit};
+use coset_message_parts::laws::{bytes_fit, parts_fit};
 
 /// A value has the fields of at most one message.
 pub fn one_message()

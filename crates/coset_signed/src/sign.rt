@@ -3,14 +3,14 @@ ghost use Rattle.std.specs.Prelude.{◌≡◌, ◌<◌, None, Some, IfOk, IfSome
 ghost use Rattle.std.specs.List.{slice_get};
 ghost use Rattle.coset_headers.specs.View.{signature_view};
 ghost use Rattle.coset_labels.specs.Faults.{CantWrite};
-ghost use Rattle.coset_parts.specs.Calls.{TakesPairWhere, AnswersWhere};
+ghost use Rattle.coset_message_parts.specs.Calls.{TakesPairWhere, AnswersWhere};
 ghost use Rattle.coset_signed.specs.Fields.{no_sign, signature_bytes};
 ghost use Rattle.coset_signed.specs.Structure.{sign_structure, sign_covered};
 ghost use Rattle.coset_signed.specs.View.{sign_view};
 
 use coset_headers::{CoseSignature, Header, ProtectedHeader};
 use coset_labels::{CoseError, Fault};
-use coset_parts::{clone_bytes, content_bytes};
+use coset_message_parts::{clone_bytes, content_bytes};
 use coset_structures::{SignatureContext, sig_structure_data};
 use std::alloc::{AllocError, Global};
 

@@ -1,14 +1,14 @@
 //! Messages with one signature.
 ghost use Rattle.std.specs.Prelude.{◌≡◌, None, Some, IfOk, MatchResult};
 ghost use Rattle.coset_labels.specs.Faults.{CantWrite};
-ghost use Rattle.coset_parts.specs.Calls.{TakesPairWhere, AnswersWhere};
+ghost use Rattle.coset_message_parts.specs.Calls.{TakesPairWhere, AnswersWhere};
 ghost use Rattle.coset_signed.specs.Fields.{no_sign1};
 ghost use Rattle.coset_signed.specs.Structure.{sign1_structure, sign1_covered};
 ghost use Rattle.coset_signed.specs.View.{sign1_view};
 
 use coset_headers::{Header, ProtectedHeader};
 use coset_labels::{CoseError, Fault};
-use coset_parts::{clone_bytes, content_bytes};
+use coset_message_parts::{clone_bytes, content_bytes};
 use coset_structures::{SignatureContext, sig_structure_data};
 use std::alloc::{AllocError, Global};
 

@@ -2,7 +2,7 @@
 ghost use Rattle.std.specs.Prelude.{◌≡◌, None, Some};
 ghost use Rattle.coset_headers.specs.Fields.{protected};
 ghost use Rattle.coset_headers.specs.View.{header_view};
-ghost use Rattle.coset_parts.specs.Calls.{TakesWhere, BuiltWhere, MadeWhere};
+ghost use Rattle.coset_message_parts.specs.Calls.{TakesWhere, BuiltWhere, MadeWhere};
 ghost use Rattle.coset_signed.specs.Fields.{no_sign1};
 ghost use Rattle.coset_signed.specs.Structure.{sign1_structure, sign1_covered};
 ghost use Rattle.coset_signed.specs.View.{sign1_view, sign1_built};

@@ -15,7 +15,7 @@ use ciborium_value::Value;
 use coset_labels::{
     AsCborValue, CborSerializable, CoseError, Limits, TaggedCborSerializable, ValueTryAs,
 };
-use coset_parts::{Parts, read_parts, write_parts};
+use coset_message_parts::{Parts, read_parts, write_parts};
 use std::alloc::Global;
 
 /// The elements are read from the last to the first.

@@ -19,7 +19,7 @@ use coset_labels::{
     AsCborValue, CborSerializable, CoseError, Limits, TaggedCborSerializable, ValueTryAs,
     to_cbor_array,
 };
-use coset_parts::{Parts, read_parts, write_parts};
+use coset_message_parts::{Parts, read_parts, write_parts};
 use std::alloc::Global;
 
 /// The elements are read from the last to the first, and the signatures from the first to the last.

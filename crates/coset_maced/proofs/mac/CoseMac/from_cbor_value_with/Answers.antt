@@ -1,7 +1,7 @@
 use Rattle.std.proofs.Common.{inl, inr, [], ◌∷◌, refl}
 use Rattle.std.proofs.lemmas.Result.{err_from_is_err_and}
-use Rattle.coset_parts.specs.Wrong.{not_as_many}
-use Rattle.coset_parts.proofs.Steps.{no_bytes, whole_kind, whole_parts, whole_lasts, whole_has}
+use Rattle.coset_message_parts.specs.Wrong.{not_as_many}
+use Rattle.coset_message_parts.proofs.Steps.{no_bytes, whole_kind, whole_parts, whole_lasts, whole_has}
 use Rattle.coset_maced.proofs.mac.CoseMac.from_cbor_value_with.Goals as goal
 
 pub returns-in_err-items : goal.returns-in_err-items

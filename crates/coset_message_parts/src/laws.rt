@@ -1,0 +1,53 @@
+//! Laws of the definitions.
+ghost use Rattle.std.specs.Prelude.{◌≡◌, ◌↔◌, List, IsTrue, Some, option_map};
+ghost use Rattle.ciborium_value.specs.Encoding.{Fits, FitAll};
+ghost use Rattle.ciborium_value.specs.Tree.{Tree, bytes};
+ghost use Rattle.ciborium_value.specs.View.{trees};
+ghost use Rattle.coset_headers.specs.View.{header_view, protected_view};
+ghost use Rattle.coset_message_parts.specs.Short.{PartsShort};
+ghost use Rattle.coset_message_parts.specs.Written.{optional_tree, parts_trees};
+
+use crate::parts::Parts;
+use coset_headers::laws::{header_fits, protected_fits};
+use coset_headers::{Header, ProtectedHeader};
+
+fn slice_fits(content: &[u8])
+    ensures { Fits (bytes content.now) }
+{
+    let _len = content.len();
+}
+
+/// A byte string fits heads: it has fewer than 2^64 bytes.
+pub fn bytes_fit(content: &Vec<u8>)
+    ensures { Fits (bytes content.now.items) }
+{
+    slice_fits(content.as_slice());
+}
+
+fn optional_fits(content: &Option<Vec<u8>>)
+    ensures { Fits (optional_tree (option_map (λ v. v.items) content.now)) }
+{
+    match content {
+        Some(content) => bytes_fit(content),
+        None => {}
+    }
+}
+
+/// What is written of parts fits heads, if each protected header in them that has no received bytes is encoded in fewer than 2^64 bytes.
+pub fn parts_fit(protected: &ProtectedHeader, unprotected: &Header, content: &Option<Vec<u8>>)
+    ensures { (ts : List Tree)
+        → parts_trees (protected_view protected.now) (header_view unprotected.now) (option_map (λ v. v.items) content.now) ≡ Some ts
+        → PartsShort (protected_view protected.now) (header_view unprotected.now) → FitAll (trees ts) }
+{
+    protected_fits(protected);
+    header_fits(unprotected);
+    optional_fits(content);
+}
+
+/// Parts are equal where each of them says the same and the protected headers have the same received bytes, or none.
+pub fn parts_compare(a: &Parts, b: &Parts)
+    ensures { IsTrue (⟦<Parts as std::cmp::PartialEq>⟧.eq a.now b.now)
+        ↔ ((protected_view a.now.protected ≡ protected_view b.now.protected)
+        × (header_view a.now.unprotected ≡ header_view b.now.unprotected)
+        × (option_map (λ v. v.items) a.now.content ≡ option_map (λ v. v.items) b.now.content)) }
+{}

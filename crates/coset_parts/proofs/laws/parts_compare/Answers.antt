@@ -1,5 +1,0 @@
-use Rattle.coset_parts.proofs.Equal.{parts}
-use Rattle.coset_parts.proofs.laws.parts_compare.Goals as goal
-
-pub returns : goal.returns
-returns c = parts c.args.a.now c.args.b.now
