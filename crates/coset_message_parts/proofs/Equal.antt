@@ -14,7 +14,7 @@ use Rattle.coset_message_parts.specs.contracts.parts.PartsPartialEq.TheImpl as e
 -- the parts, and what stands behind them
 pub parts_and : {A Q : Type 0} (f : A → List ℕ) (p q : ProtectedFields) (u v : HeaderFields) (c d : Option A) (b : Bool) → IsTrue b ↔ Q
     → IsTrue (same_protected p q && (same_header u v && (option_eq (λ x y. pointwise nat_eq (f x) (f y)) c d && b)))
-    ↔ ((p ≡ q) × (u ≡ v) × (option_map f c ≡ option_map f d) × Q)
+    ↔ ((p ≡ q) × ((u ≡ v) × ((option_map f c ≡ option_map f d) × Q)))
 parts_and f p q u v c d b e = both _ _ (protected_decided p q) (both _ _ (headers_decided u v) (both _ _ (bytes_options f c d) e))
 
 abbrev pub SameParts : Parts → Parts → Type 0
