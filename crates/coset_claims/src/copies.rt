@@ -7,7 +7,8 @@ use ciborium_value::Value;
 use std::alloc::{AllocError, Global};
 
 fn clone_text(alloc: Global, text: &Option<String>) -> Result<Option<String>, AllocError>
-    ensures { IfOk result (λ copy. option_map string_bytes copy ≡ option_map string_bytes text.now) }
+    ensures { IfOk result
+        (λ copy. option_map string_bytes copy ≡ option_map string_bytes text.now) }
 {
     match text {
         Some(text) => Ok(Some(String::from_str(alloc, text.as_str())?)),
@@ -25,7 +26,8 @@ fn clone_time(alloc: Global, time: &Option<Timestamp>) -> Result<Option<Timestam
 }
 
 fn clone_bytes(alloc: Global, bytes: &Option<Vec<u8>>) -> Result<Option<Vec<u8>>, AllocError>
-    ensures { IfOk result (λ copy. option_map (λ v. v.items) copy ≡ option_map (λ v. v.items) bytes.now) }
+    ensures { IfOk result
+        (λ copy. option_map (λ v. v.items) copy ≡ option_map (λ v. v.items) bytes.now) }
 {
     match bytes {
         Some(bytes) => Ok(Some(bytes.as_slice().to_vec(alloc)?)),

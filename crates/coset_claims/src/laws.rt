@@ -33,12 +33,14 @@ pub fn claims_are_read_again()
 
 /// Times are equal where they say the same. Floats are the same where their widths and bits are.
 pub fn times_compare(a: &Timestamp, b: &Timestamp)
-    ensures { IsTrue (⟦<Timestamp as std::cmp::PartialEq>⟧.eq a.now b.now) ↔ (time_view a.now ≡ time_view b.now) }
+    ensures { IsTrue (⟦<Timestamp as std::cmp::PartialEq>⟧.eq a.now b.now)
+        ↔ (time_view a.now ≡ time_view b.now) }
 {}
 
 /// Claims are equal where they say the same, the others in the same order.
 pub fn claims_compare(a: &ClaimsSet, b: &ClaimsSet)
-    ensures { IsTrue (⟦<ClaimsSet as std::cmp::PartialEq>⟧.eq a.now b.now) ↔ (claims_view a.now ≡ claims_view b.now) }
+    ensures { IsTrue (⟦<ClaimsSet as std::cmp::PartialEq>⟧.eq a.now b.now)
+        ↔ (claims_view a.now ≡ claims_view b.now) }
 {}
 
 /// The number of a time, or its bits, lie in their range.

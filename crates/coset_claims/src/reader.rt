@@ -56,7 +56,8 @@ fn place_at(number: i64) -> Place
 
 /// Reads claims from their map.
 pub(crate) fn read_claims(alloc: Global, value: Value) -> Result<ClaimsSet, CoseError>
-    ensures { MatchResult result (λ c. HasClaims (view value) (claims_view c)) (λ e. OrMemory (WrongClaims (view value)) e) }
+    ensures { MatchResult result (λ c. HasClaims (view value) (claims_view c))
+        (λ e. OrMemory (WrongClaims (view value)) e) }
 {
     let entries = value.try_as_map()?;
     read_entries(alloc, entries)
@@ -101,7 +102,8 @@ fn fill(
     name: ClaimName,
     value: Value,
 ) -> Result<(), CoseError>
-    ensures { MatchResult result (λ _. Fills (name_view name) (view value) (claims_view claims.old) (claims_view claims.new))
+    ensures { MatchResult result
+        (λ _. Fills (name_view name) (view value) (claims_view claims.old) (claims_view claims.new))
         (λ e. OrMemory (WrongField (view value) (name_view name)) e) }
 {
     match place_of(&name) {

@@ -6,7 +6,8 @@ use crate::context::{CoseKdfContext, Nonce, PartyInfo, SuppPubInfo};
 use std::alloc::{AllocError, Global};
 
 fn clone_bytes(alloc: Global, bytes: &Option<Vec<u8>>) -> Result<Option<Vec<u8>>, AllocError>
-    ensures { IfOk result (λ copy. option_map (λ v. v.items) copy ≡ option_map (λ v. v.items) bytes.now) }
+    ensures { IfOk result
+        (λ copy. option_map (λ v. v.items) copy ≡ option_map (λ v. v.items) bytes.now) }
 {
     match bytes {
         Some(bytes) => Ok(Some(bytes.as_slice().to_vec(alloc)?)),
@@ -24,7 +25,8 @@ fn clone_nonce(alloc: Global, nonce: &Option<Nonce>) -> Result<Option<Nonce>, Al
 }
 
 fn clone_private(alloc: Global, private: &[Vec<u8>]) -> Result<Vec<Vec<u8>>, AllocError>
-    ensures { IfOk result (λ copies. map (λ v. v.items) copies.items ≡ map (λ v. v.items) private.now) }
+    ensures { IfOk result
+        (λ copies. map (λ v. v.items) copies.items ≡ map (λ v. v.items) private.now) }
 {
     let mut copies = Vec::new(alloc);
     for bytes in private {
@@ -39,7 +41,9 @@ fn clone_parties(
     one: &PartyInfo,
     other: &PartyInfo,
 ) -> Result<(PartyInfo, PartyInfo), AllocError>
-    ensures { IfOk result (λ copies. (party_view copies.0 ≡ party_view one.now) × (party_view copies.1 ≡ party_view other.now)) }
+    ensures { IfOk result
+        (λ copies. (party_view copies.0 ≡ party_view one.now)
+        × (party_view copies.1 ≡ party_view other.now)) }
 {
     let one = one.clone(alloc)?;
     let other = other.clone(alloc)?;

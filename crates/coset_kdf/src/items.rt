@@ -47,7 +47,8 @@ pub(crate) fn three(items: Vec<Value>) -> (Value, Value, Value)
 /// The items of a list of four.
 pub(crate) fn four(items: Vec<Value>) -> (Value, Value, Value, Value)
     requires { length items.items ≡ 4 }
-    ensures { views items.items ≡ four_and (view result.0) (view result.1) (view result.2) (view result.3) no_trees }
+    ensures { views items.items
+        ≡ four_and (view result.0) (view result.1) (view result.2) (view result.3) no_trees }
 {
     match <[Value; 4]>::try_from(items) {
         Ok([first, second, third, fourth]) => (first, second, third, fourth),
@@ -58,7 +59,9 @@ pub(crate) fn four(items: Vec<Value>) -> (Value, Value, Value, Value)
 /// Takes the items behind the fourth, which have to be byte strings, from the last to the first, and gives them in their order.
 pub(crate) fn pop_private(alloc: Global, items: &mut Vec<Value>) -> Result<Vec<Vec<u8>>, CoseError>
     requires { 4 ≤ length items.old.items }
-    ensures { MatchResult result (λ v. Popped (map view items.old.items) (map view items.new.items) (map (λ b. b.items) v.items))
+    ensures { MatchResult result
+        (λ v. Popped (map view items.old.items) (map view items.new.items)
+        (map (λ b. b.items) v.items))
         (λ e. OrMemory (WrongPopped (map view items.old.items)) e) }
 {
     let mut private = Vec::new(alloc);

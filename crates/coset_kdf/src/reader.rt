@@ -17,7 +17,8 @@ use std::alloc::Global;
 
 /// Reads what a party brings.
 pub(crate) fn read_party(value: Value) -> Result<PartyInfo, CoseError>
-    ensures { MatchResult result (λ p. HasParty (view value) (party_view p)) (λ e. WrongParty (view value) (fault_of e)) }
+    ensures { MatchResult result (λ p. HasParty (view value) (party_view p))
+        (λ e. WrongParty (view value) (fault_of e)) }
 {
     let items = value.try_as_array()?;
     if items.len() != 3 {
@@ -35,7 +36,8 @@ pub(crate) fn read_party(value: Value) -> Result<PartyInfo, CoseError>
 }
 
 fn read_nonce(value: Value) -> Result<Option<Nonce>, CoseError>
-    ensures { MatchResult result (λ n. nonce_of (view value) ≡ Some (option_map nonce_view n)) (λ e. WrongNonce (view value) (fault_of e)) }
+    ensures { MatchResult result (λ n. nonce_of (view value) ≡ Some (option_map nonce_view n))
+        (λ e. WrongNonce (view value) (fault_of e)) }
 {
     match value {
         Value::Bytes(bytes) => Ok(Some(Nonce::Bytes(bytes))),
@@ -50,7 +52,8 @@ fn read_nonce(value: Value) -> Result<Option<Nonce>, CoseError>
 
 /// Reads what both parties know.
 pub(crate) fn read_public(alloc: Global, value: Value) -> Result<SuppPubInfo, CoseError>
-    ensures { MatchResult result (λ s. HasPublic nesting (view value) (public_view s) layers) (λ e. OrMemory (WrongPublic nesting (view value) layers) e) }
+    ensures { MatchResult result (λ s. HasPublic nesting (view value) (public_view s) layers)
+        (λ e. OrMemory (WrongPublic nesting (view value) layers) e) }
 {
     let items = value.try_as_array()?;
     if items.len() == 3 {
@@ -72,7 +75,8 @@ fn read_two(
     second: Value,
     other: Option<Vec<u8>>,
 ) -> Result<SuppPubInfo, CoseError>
-    ensures { MatchResult result (λ s. HasTwo (view first) (view second) (option_map (λ v. v.items) other) (public_view s))
+    ensures { MatchResult result
+        (λ s. HasTwo (view first) (view second) (option_map (λ v. v.items) other) (public_view s))
         (λ e. OrMemory (WrongTwo (view first) (view second)) e) }
 {
     let protected = ProtectedHeader::from_cbor_bstr(alloc, second)?;
@@ -85,7 +89,8 @@ fn read_two(
 }
 
 fn read_length(value: Value) -> Result<u64, CoseError>
-    ensures { MatchResult result (λ n. length_of (view value) ≡ Some n) (λ e. WrongLength (view value) (fault_of e)) }
+    ensures { MatchResult result (λ n. length_of (view value) ≡ Some n)
+        (λ e. WrongLength (view value) (fault_of e)) }
 {
     match value {
         Value::Integer(i) => match u64::try_from(i) {
