@@ -3,7 +3,7 @@ ghost use Rattle.std.specs.Prelude.{◌≡◌, ◌↔◌, IsTrue};
 ghost use Rattle.std.specs.Cmp.{IsTotalOrder};
 ghost use Rattle.std.specs.Ordering.{ordering_then, bool_cmp};
 ghost use Rattle.std.specs.declared.cmp.Ordering.TheVariants.{Equal};
-ghost use Rattle.ciborium_value.specs.Tree.{text, integer};
+ghost use Rattle.ciborium_value.specs.Tree.{bytes, text, integer};
 ghost use Rattle.ciborium_value.specs.Encoding.{Fits};
 ghost use Rattle.ciborium_value.specs.Canonical.{bytewise};
 ghost use Rattle.coset_labels.specs.Labels.{label_tree, named_tree};
@@ -30,6 +30,13 @@ fn integer_fits(i: i64)
 
 fn text_fits(content: &str)
     ensures { Fits (text content.now) }
+{
+    let _len = content.len();
+}
+
+/// No slice is longer than a head can say.
+pub fn bytes_fit(content: &[u8])
+    ensures { Fits (bytes content.now) }
 {
     let _len = content.len();
 }
