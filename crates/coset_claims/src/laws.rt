@@ -14,7 +14,7 @@ ghost use Rattle.coset_claims.specs.Wrong.{WrongClaims};
 use crate::cwt::{ClaimName, ClaimsSet, Timestamp};
 use ciborium_value::laws::value_fits;
 use ciborium_value::{Integer, Value};
-use coset_labels::laws::name_fits;
+use coset_labels::laws::{bytes_fit, name_fits};
 
 /// A value has one set of claims at most.
 pub fn one_claims_set()
@@ -55,12 +55,6 @@ pub fn time_fits(time: &Timestamp)
 
 fn text_fits(content: &str)
     ensures { Fits (text content.now) }
-{
-    let _len = content.len();
-}
-
-fn bytes_fit(content: &[u8])
-    ensures { Fits (bytes content.now) }
 {
     let _len = content.len();
 }

@@ -5,9 +5,9 @@ ghost use Rattle.ciborium_value.specs.View.{view, view_pairs};
 ghost use Rattle.coset_labels.specs.Faults.{OrMemory};
 ghost use Rattle.coset_labels.specs.Fields.{Named, assigned};
 ghost use Rattle.coset_claims.specs.Claims.{HasClaims};
-ghost use Rattle.coset_claims.specs.Steps.{Names, Fills, KnownIn, Added, HasEntries, WrongEntries};
+ghost use Rattle.coset_claims.specs.Steps.{Names, Fills, KnownIn, Added, HasEntries};
 ghost use Rattle.coset_claims.specs.View.{claims_view, name_view};
-ghost use Rattle.coset_claims.specs.Wrong.{WrongClaims, WrongEntry, WrongField};
+ghost use Rattle.coset_claims.specs.Wrong.{WrongClaims, WrongEntries, WrongEntry, WrongField};
 
 use crate::cwt::{ClaimName, ClaimsSet, Timestamp};
 use ciborium_value::Value;

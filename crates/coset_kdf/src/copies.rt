@@ -3,17 +3,8 @@ ghost use Rattle.std.specs.Prelude.{◌≡◌, IfOk, map, option_map};
 ghost use Rattle.coset_kdf.specs.View.{context_view, nonce_view, party_view, public_view};
 
 use crate::context::{CoseKdfContext, Nonce, PartyInfo, SuppPubInfo};
+use coset_labels::clone_bytes;
 use std::alloc::{AllocError, Global};
-
-fn clone_bytes(alloc: Global, bytes: &Option<Vec<u8>>) -> Result<Option<Vec<u8>>, AllocError>
-    ensures { IfOk result
-        (λ copy. option_map (λ v. v.items) copy ≡ option_map (λ v. v.items) bytes.now) }
-{
-    match bytes {
-        Some(bytes) => Ok(Some(bytes.as_slice().to_vec(alloc)?)),
-        None => Ok(None),
-    }
-}
 
 fn clone_nonce(alloc: Global, nonce: &Option<Nonce>) -> Result<Option<Nonce>, AllocError>
     ensures { IfOk result (λ copy. option_map nonce_view copy ≡ option_map nonce_view nonce.now) }

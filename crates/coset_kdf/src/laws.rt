@@ -18,7 +18,7 @@ use crate::context::{CoseKdfContext, Nonce, PartyInfo, SuppPubInfo};
 use ciborium_value::laws::value_fits;
 use ciborium_value::{Integer, Value};
 use coset_headers::laws::{protected_fits, read_is_short};
-use coset_labels::laws::name_fits;
+use coset_labels::laws::{bytes_fit, name_fits};
 
 /// A value has the fields of at most one party, one public information, one context.
 pub fn one_context()
@@ -71,12 +71,6 @@ pub fn contexts_compare(a: &CoseKdfContext, b: &CoseKdfContext)
     ensures { IsTrue (⟦<CoseKdfContext as std::cmp::PartialEq>⟧.eq a.now b.now)
         ↔ (context_view a.now ≡ context_view b.now) }
 {}
-
-fn bytes_fit(content: &[u8])
-    ensures { Fits (bytes content.now) }
-{
-    let _len = content.len();
-}
 
 fn vec_fits(content: &Vec<u8>)
     ensures { Fits (bytes content.now.items) }

@@ -9,9 +9,10 @@ ghost use Rattle.coset_kdf.specs.View.{context_view, nonce_view, party_view, pub
 ghost use Rattle.coset_kdf.specs.Wrong.{WrongContext, WrongLength, WrongNonce, WrongParty, WrongPublic};
 
 use crate::context::{CoseKdfContext, Nonce, PartyInfo, SuppPubInfo};
-use crate::items::{four, pop_private, three, two};
+use crate::items::pop_private;
 use ciborium_value::Value;
 use coset_headers::ProtectedHeader;
+use coset_labels::tuples::{four, three, two};
 use coset_labels::{Algorithm, AsCborValue, CoseError, ValueTryAs, cbor_type_error};
 use std::alloc::Global;
 
@@ -21,10 +22,9 @@ pub(crate) fn read_party(value: Value) -> Result<PartyInfo, CoseError>
         (λ e. WrongParty (view value) (fault_of e)) }
 {
     let items = value.try_as_array()?;
-    if items.len() != 3 {
+    let Some((first, second, third)) = three(items) else {
         return Err(CoseError::UnexpectedItem("array", "array with 3 items"));
-    }
-    let (first, second, third) = three(items);
+    };
     let other = third.try_as_bytes_or_nil("bstr / nil")?;
     let nonce = read_nonce(second)?;
     let identity = first.try_as_bytes_or_nil("bstr / nil")?;
@@ -56,16 +56,17 @@ pub(crate) fn read_public(alloc: Global, value: Value) -> Result<SuppPubInfo, Co
         (λ e. OrMemory (WrongPublic nesting (view value) layers) e) }
 {
     let items = value.try_as_array()?;
-    if items.len() == 3 {
-        let (first, second, third) = three(items);
-        let other = third.try_as_bytes()?;
-        return read_two(alloc, first, second, Some(other));
+    if items.len() == 2 {
+        return match two(items) {
+            Some((first, second)) => read_two(alloc, first, second, None),
+            None => unreachable!(),
+        };
     }
-    if items.len() != 2 {
+    let Some((first, second, third)) = three(items) else {
         return Err(CoseError::UnexpectedItem("array", "array with 2 or 3 items"));
-    }
-    let (first, second) = two(items);
-    read_two(alloc, first, second, None)
+    };
+    let other = third.try_as_bytes()?;
+    read_two(alloc, first, second, Some(other))
 }
 
 /// Reads the first two elements of what both parties know.
@@ -107,11 +108,10 @@ pub(crate) fn read_context(alloc: Global, value: Value) -> Result<CoseKdfContext
         (λ e. OrMemory (WrongContext nesting (view value) layers) e) }
 {
     let mut items = value.try_as_array()?;
-    if items.len() < 4 {
-        return Err(CoseError::UnexpectedItem("array", "array with at least 4 items"));
-    }
     let supp_priv_info = pop_private(alloc, &mut items)?;
-    let (first, second, third, fourth) = four(items);
+    let Some((first, second, third, fourth)) = four(items) else {
+        return Err(CoseError::UnexpectedItem("array", "array with at least 4 items"));
+    };
     let supp_pub_info = read_public(alloc, fourth)?;
     let party_v_info = read_party(third)?;
     let party_u_info = read_party(second)?;

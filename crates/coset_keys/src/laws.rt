@@ -2,7 +2,7 @@
 ghost use Rattle.std.specs.Prelude.{◌≡◌, ◌↔◌, ◌+◌, ◌<◌, ◌^◌, ℕ, List, Some, IsTrue, length, map, option_map};
 ghost use Rattle.cose_iana.specs.Algorithms.{algorithm_number};
 ghost use Rattle.cose_iana.specs.Keys.{key_operations};
-ghost use Rattle.ciborium_value.specs.Tree.{Tree, bytes};
+ghost use Rattle.ciborium_value.specs.Tree.{Tree};
 ghost use Rattle.ciborium_value.specs.Encoding.{enc, Fits, FitPairs};
 ghost use Rattle.ciborium_value.specs.View.{pairs};
 ghost use Rattle.coset_labels.specs.declared.order.CborOrdering.{CborOrdering};
@@ -23,7 +23,7 @@ pub use crate::alike::{octet_errors_compare, point_errors_compare, variants_comp
 use crate::key::{CoseKey, CoseKeySet, KeyOperation};
 use ciborium_value::Value;
 use ciborium_value::laws::value_fits;
-use coset_labels::laws::{label_fits, name_fits, registered_fits};
+use coset_labels::laws::{bytes_fit, label_fits, name_fits, registered_fits};
 use coset_labels::{Algorithm, Label};
 use std::collections::BTreeSet;
 
@@ -62,12 +62,6 @@ pub fn key_sets_compare(a: &CoseKeySet, b: &CoseKeySet)
     ensures { IsTrue (⟦<CoseKeySet as std::cmp::PartialEq>⟧.eq a.now b.now)
         ↔ (key_set_view a.now ≡ key_set_view b.now) }
 {}
-
-fn bytes_fit(content: &[u8])
-    ensures { Fits (bytes content.now) }
-{
-    let _len = content.len();
-}
 
 fn alg_fits(alg: &Option<Algorithm>)
     ensures { NameFits (option_map (named_view algorithm_number) alg.now) }
