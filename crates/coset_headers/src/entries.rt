@@ -12,7 +12,7 @@ ghost use Rattle.coset_headers.specs.Parts.{plain_of};
 ghost use Rattle.coset_headers.specs.View.{entry_view};
 ghost use Rattle.coset_headers.specs.Written.{name_entry, crit_entry, bytes_entry, signs_entry, bare_or_list, header_of, twice};
 
-use crate::parts::Parts;
+use crate::parts::HeaderParts;
 use ciborium_value::{Integer, Value};
 use coset_labels::{
     Algorithm, AsCborValue, ContentType, CoseError, Label, RegisteredLabelWithPrivate, Seen, iana,
@@ -22,7 +22,7 @@ use std::alloc::Global;
 
 type Entries = Vec<(Value, Value)>;
 
-impl Parts {
+impl HeaderParts {
     /// The map of these fields and of the counter signatures' values.
     pub(crate) fn write(self, alloc: Global, signatures: Vec<Value>) -> Result<Value, CoseError>
         ensures { MatchResult result (λ v. header_of (plain_of self) (views signatures.items) ≡ Some (view v))

@@ -17,7 +17,7 @@ ghost use Rattle.coset_headers.specs.Written.{header_tree, shown, signature_tree
 use crate::header::{CoseSignature, Header, ProtectedHeader};
 use ciborium_value::Value;
 use ciborium_value::laws::value_fits;
-use coset_labels::laws::{label_fits, name_fits, registered_fits};
+use coset_labels::laws::{bytes_fit, label_fits, name_fits, registered_fits};
 use coset_labels::{Algorithm, ContentType, Label, RegisteredLabelWithPrivate, iana};
 
 fn alg_fits(alg: &Option<Algorithm>)
@@ -44,12 +44,6 @@ fn crit_fits(crit: &[RegisteredLabelWithPrivate<iana::HeaderParameter>])
     'names: for name in crit {
         name_fits(name);
     }
-}
-
-fn bytes_fit(content: &[u8])
-    ensures { Fits (bytes content.now) }
-{
-    let _len = content.len();
 }
 
 fn rest_fits(rest: &[(Label, Value)])

@@ -11,9 +11,10 @@ ghost use Rattle.coset_headers.specs.Walks.{Inside, WrongInside, HasEntries, Wro
 ghost use Rattle.coset_headers.specs.Wrong.{WrongHeader, WrongEntry, WrongSigned, WrongSignature, WrongProtected};
 
 use crate::header::{CoseSignature, Header, ProtectedHeader};
-use crate::parts::{Parts, is_counter_signatures};
-use crate::values::{is_bare, three};
+use crate::parts::{HeaderParts, is_counter_signatures};
+use crate::values::is_bare;
 use ciborium_value::Value;
+use coset_labels::tuples::three;
 use coset_labels::{AsCborValue, CoseError, Label, Seen, ValueTryAs, read_to_value};
 use std::alloc::Global;
 
@@ -39,12 +40,12 @@ fn read_entries(
     entries: Vec<(Value, Value)>,
     nesting: usize,
     layers: usize,
-) -> Result<Parts, CoseError>
+) -> Result<HeaderParts, CoseError>
     ensures { MatchResult result (λ p. HasEntries nesting (view_pairs entries.items) (plain_of p) (signs_of p) layers)
         (λ e. OrMemory (WrongEntries nesting (view_pairs entries.items) layers) e) }
 {
     let mut seen = Seen::new(alloc);
-    let mut parts = Parts::new(alloc);
+    let mut parts = HeaderParts::new(alloc);
     'entries: for entry in entries {
         read_entry(
             alloc, &mut seen, &mut parts, entry.0, entry.1, nesting, layers,
@@ -58,7 +59,7 @@ fn read_entries(
 fn read_entry(
     alloc: Global,
     seen: &mut Seen<Label>,
-    parts: &mut Parts,
+    parts: &mut HeaderParts,
     key: Value,
     value: Value,
     nesting: usize,
@@ -182,7 +183,7 @@ fn read_inside(
         (λ e. OrMemory (WrongInside nesting bytes.now layers) e) }
 {
     if bytes.is_empty() {
-        return Ok(Parts::new(alloc).header());
+        return Ok(HeaderParts::new(alloc).header());
     }
     let value = read_to_value(alloc, bytes, nesting)?;
     read_header(alloc, value, nesting, layers)

@@ -12,7 +12,7 @@ ghost use Rattle.coset_headers.specs.Written.{header_tree, signature_tree, shown
 ghost use Rattle.coset_headers.specs.Wrong.{WrongHeader, WrongProtected, WrongSignature};
 
 use crate::header::{CoseSignature, Header, ProtectedHeader};
-use crate::parts::Parts;
+use crate::parts::HeaderParts;
 use crate::reader::{read_header, read_protected, read_signature};
 use crate::writer::{show_protected, write_header, write_signature};
 use ciborium_value::Value;
@@ -24,7 +24,7 @@ impl Header {
     pub fn new(alloc: Global) -> Header
         ensures { header_view result ≡ no_header }
     {
-        Parts::new(alloc).header()
+        HeaderParts::new(alloc).header()
     }
 
     /// As `from_cbor_value`, within these limits.

@@ -9,7 +9,7 @@ ghost use Rattle.coset_headers.specs.View.{header_view, protected_view, signatur
 ghost use Rattle.coset_headers.specs.Written.{header_tree, shown, signature_tree, signature_trees, is_empty, is_unsigned};
 
 use crate::header::{CoseSignature, Header, ProtectedHeader};
-use crate::parts::Parts;
+use crate::parts::HeaderParts;
 use ciborium_value::Value;
 use coset_labels::{CoseError, write_to_vec};
 use std::alloc::Global;
@@ -67,7 +67,7 @@ pub(crate) fn write_header(alloc: Global, header: Header) -> Result<Value, CoseE
         rest,
     } = header;
     let signatures = write_signatures(alloc, counter_signatures)?;
-    let parts = Parts {
+    let parts = HeaderParts {
         alg,
         crit,
         content_type,
