@@ -73,7 +73,8 @@ fn clone_signatures(
     alloc: Global,
     signatures: &[CoseSignature],
 ) -> Result<Vec<CoseSignature>, AllocError>
-    ensures { IfOk result (λ copies. map signature_view copies.items ≡ map signature_view signatures.now) }
+    ensures { IfOk result
+        (λ copies. map signature_view copies.items ≡ map signature_view signatures.now) }
 {
     let mut copies = Vec::new(alloc);
     'signatures: for signature in signatures {

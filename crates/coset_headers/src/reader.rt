@@ -41,7 +41,8 @@ fn read_entries(
     nesting: usize,
     layers: usize,
 ) -> Result<HeaderParts, CoseError>
-    ensures { MatchResult result (λ p. HasEntries nesting (view_pairs entries.items) (plain_of p) (signs_of p) layers)
+    ensures { MatchResult result
+        (λ p. HasEntries nesting (view_pairs entries.items) (plain_of p) (signs_of p) layers)
         (λ e. OrMemory (WrongEntries nesting (view_pairs entries.items) layers) e) }
 {
     let mut seen = Seen::new(alloc);
@@ -66,7 +67,8 @@ fn read_entry(
     layers: usize,
 ) -> Result<(), CoseError>
     ensures { (es : List (LabelFields × Tree)) → KnownIn nesting es seen.old parts.old layers
-        → MatchResult result (λ _. Added nesting es (view key) (view value) seen.new parts.new layers)
+        → MatchResult result
+        (λ _. Added nesting es (view key) (view value) seen.new parts.new layers)
         (λ e. OrMemory (WrongEntry nesting es (view key) (view value) layers) e) }
 {
     let label = Label::from_cbor_value(alloc, key)?;
@@ -90,7 +92,8 @@ fn read_signatures(
     nesting: usize,
     layers: usize,
 ) -> Result<Vec<CoseSignature>, CoseError>
-    ensures { MatchResult result (λ v. HasSigned nesting (Some (view value)) (signatures_view v.items) layers)
+    ensures { MatchResult result
+        (λ v. HasSigned nesting (Some (view value)) (signatures_view v.items) layers)
         (λ e. OrMemory (WrongSigned nesting (view value) layers) e) }
 {
     let items = value.try_as_array()?;
@@ -111,7 +114,8 @@ fn read_list(
     nesting: usize,
     layers: usize,
 ) -> Result<Vec<CoseSignature>, CoseError>
-    ensures { MatchResult result (λ v. HasSignatures nesting (views items.items) (signatures_view v.items) layers)
+    ensures { MatchResult result
+        (λ v. HasSignatures nesting (views items.items) (signatures_view v.items) layers)
         (λ e. OrMemory (WrongSignatures nesting (views items.items) layers) e) }
 {
     let mut signatures = Vec::new(alloc);

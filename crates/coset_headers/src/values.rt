@@ -24,7 +24,8 @@ type Parameter = RegisteredLabelWithPrivate<iana::HeaderParameter>;
 
 /// The labels that have to be understood: a list that is not empty.
 pub(crate) fn read_crit(alloc: Global, value: Value) -> Result<Vec<Parameter>, CoseError>
-    ensures { MatchResult result (λ v. crit_of (view value) ≡ Some (map (named_view header_parameters.number) v.items))
+    ensures { MatchResult result
+        (λ v. crit_of (view value) ≡ Some (map (named_view header_parameters.number) v.items))
         (λ e. OrMemory (WrongCrit (view value)) e) }
 {
     let items = array_or(value, "array value")?;
@@ -47,7 +48,9 @@ fn array_or(value: Value, want: &'static str) -> Result<Vec<Value>, CoseError>
 
 fn read_parameters(alloc: Global, items: Vec<Value>) -> Result<Vec<Parameter>, CoseError>
     requires { items.items ≢ [] }
-    ensures { MatchResult result (λ v. crit_of (spec.array (views items.items)) ≡ Some (map (named_view header_parameters.number) v.items))
+    ensures { MatchResult result
+        (λ v. crit_of (spec.array (views items.items))
+        ≡ Some (map (named_view header_parameters.number) v.items))
         (λ e. OrMemory (WrongCrit (spec.array (views items.items))) e) }
 {
     let mut names = Vec::new(alloc);
@@ -60,7 +63,9 @@ fn read_parameters(alloc: Global, items: Vec<Value>) -> Result<Vec<Parameter>, C
 
 /// The type of the content.
 pub(crate) fn read_content_type(alloc: Global, value: Value) -> Result<ContentType, CoseError>
-    ensures { MatchResult result (λ c. HasContentType (Some (view value)) (Some (registered_view coap_content_formats.number c)))
+    ensures { MatchResult result
+        (λ c. HasContentType (Some (view value))
+        (Some (registered_view coap_content_formats.number c)))
         (λ e. OrMemory (WrongContentType (view value)) e) }
 {
     let content_type = ContentType::from_cbor_value(alloc, value)?;
@@ -75,7 +80,8 @@ pub(crate) fn read_content_type(alloc: Global, value: Value) -> Result<ContentTy
 
 /// Tells whether a text has the form type/subtype.
 fn check_content_type(text: &str) -> Result<(), CoseError>
-    ensures { MatchResult result (λ _. IsContentType (named text.now)) (λ e. WrongContentType (spec.text text.now) (fault_of e)) }
+    ensures { MatchResult result (λ _. IsContentType (named text.now))
+        (λ e. WrongContentType (spec.text text.now) (fault_of e)) }
 {
     if text.is_empty() {
         return Err(CoseError::UnexpectedItem("empty tstr", "non-empty tstr"));

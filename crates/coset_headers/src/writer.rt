@@ -82,7 +82,8 @@ pub(crate) fn write_header(alloc: Global, header: Header) -> Result<Value, CoseE
 
 #[cycle(writer)]
 fn write_signatures(alloc: Global, signatures: Vec<CoseSignature>) -> Result<Vec<Value>, CoseError>
-    ensures { MatchResult result (λ v. signature_trees (signatures_view signatures.items) ≡ Some (views v.items))
+    ensures { MatchResult result
+        (λ v. signature_trees (signatures_view signatures.items) ≡ Some (views v.items))
         (λ e. CantWrite (signature_trees (signatures_view signatures.items)) e) }
 {
     let mut values = Vec::new(alloc);
@@ -115,7 +116,8 @@ fn three_items(
     unprotected: Value,
     signature: Vec<u8>,
 ) -> Result<Value, CoseError>
-    ensures { MatchResult result (λ v. view v ≡ spec.array (list_of_three (spec.bytes protected.items) (view unprotected)
+    ensures { MatchResult result
+        (λ v. view v ≡ spec.array (list_of_three (spec.bytes protected.items) (view unprotected)
         (spec.bytes signature.items))) (λ e. e ≡ Memory) }
 {
     let mut items = Vec::new(alloc);

@@ -5,10 +5,13 @@ ghost use Rattle.std.specs.Prelude.{◌≡◌, ◌≢◌, [], ◌∷◌, length,
 pub fn two<T: Drop>(items: Vec<T>) -> Option<(T, T)>
     ensures { MatchOption result (length items.items ≢ 2) (λ t. items.items ≡ t.0 ∷ t.1 ∷ []) }
 {
-    match <[T; 2]>::try_from(items) {
-        Ok([a, b]) => Some((a, b)),
-        Err(_items) => None,
+    let mut items = items.into_iter();
+    if items.len() != 2 {
+        return None;
     }
+    let first = items.next()?;
+    let second = items.next()?;
+    Some((first, second))
 }
 
 /// The items of a list of three; none where it has another length.
@@ -16,10 +19,14 @@ pub fn three<T: Drop>(items: Vec<T>) -> Option<(T, T, T)>
     ensures { MatchOption result (length items.items ≢ 3)
         (λ t. items.items ≡ t.0 ∷ t.1 ∷ t.2 ∷ []) }
 {
-    match <[T; 3]>::try_from(items) {
-        Ok([a, b, c]) => Some((a, b, c)),
-        Err(_items) => None,
+    let mut items = items.into_iter();
+    if items.len() != 3 {
+        return None;
     }
+    let first = items.next()?;
+    let second = items.next()?;
+    let third = items.next()?;
+    Some((first, second, third))
 }
 
 /// The items of a list of four; none where it has another length.
@@ -27,10 +34,15 @@ pub fn four<T: Drop>(items: Vec<T>) -> Option<(T, T, T, T)>
     ensures { MatchOption result (length items.items ≢ 4)
         (λ t. items.items ≡ t.0 ∷ t.1 ∷ t.2 ∷ t.3 ∷ []) }
 {
-    match <[T; 4]>::try_from(items) {
-        Ok([a, b, c, d]) => Some((a, b, c, d)),
-        Err(_items) => None,
+    let mut items = items.into_iter();
+    if items.len() != 4 {
+        return None;
     }
+    let first = items.next()?;
+    let second = items.next()?;
+    let third = items.next()?;
+    let fourth = items.next()?;
+    Some((first, second, third, fourth))
 }
 
 /// The items of a list of five; none where it has another length.
@@ -38,8 +50,14 @@ pub fn five<T: Drop>(items: Vec<T>) -> Option<(T, T, T, T, T)>
     ensures { MatchOption result (length items.items ≢ 5)
         (λ t. items.items ≡ t.0 ∷ t.1 ∷ t.2 ∷ t.3 ∷ t.4 ∷ []) }
 {
-    match <[T; 5]>::try_from(items) {
-        Ok([a, b, c, d, e]) => Some((a, b, c, d, e)),
-        Err(_items) => None,
+    let mut items = items.into_iter();
+    if items.len() != 5 {
+        return None;
     }
+    let first = items.next()?;
+    let second = items.next()?;
+    let third = items.next()?;
+    let fourth = items.next()?;
+    let fifth = items.next()?;
+    Some((first, second, third, fourth, fifth))
 }
