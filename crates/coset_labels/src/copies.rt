@@ -1,6 +1,6 @@
 //! Copies of what several types hold.
 ghost use Rattle.std.specs.Prelude.{◌≡◌, IfOk, map, option_map};
-ghost use Rattle.ciborium_value.specs.View.{view};
+ghost use Rattle.coset_labels.specs.View.{entry_view};
 
 use crate::seen::EntryKey;
 use ciborium_value::Value;
@@ -41,8 +41,8 @@ pub fn clone_entries<K: EntryKey>(
     alloc: Global,
     entries: &[(K, Value)],
 ) -> Result<Vec<(K, Value)>, AllocError>
-    ensures { IfOk result (λ copies. map (λ e. (K.fields e.0, view e.1)) copies.items
-        ≡ map (λ e. (K.fields e.0, view e.1)) entries.now) }
+    ensures { IfOk result
+        (λ copies. map (entry_view K.fields) copies.items ≡ map (entry_view K.fields) entries.now) }
 {
     let mut copies = Vec::new(alloc);
     for entry in entries {

@@ -5,13 +5,12 @@ use Rattle.std.specs.Cmp.Lexicographic.{pointwise, bytes_decides}
 use Rattle.std.specs.Option.{option_eq}
 use Rattle.std.specs.Ordering.{is_eq}
 use Rattle.std.specs.declared.cmp.Ordering.{Ordering}
-use Rattle.ciborium_value.specs.Tree.{Tree}
-use Rattle.ciborium_value.specs.View.{view}
 use Rattle.ciborium_value.specs.declared.value.Value.{Value}
 use Rattle.ciborium_value.specs.contracts.value.ValuePartialEq.TheImpl as value_equality
 use Rattle.ciborium_value.specs.Facts.Derived.{equal_is}
 use Rattle.coset_labels.specs.Fields.{Named}
 use Rattle.coset_labels.specs.Orders.{named_cmp, names_same}
+use Rattle.coset_labels.specs.View.{entry_view}
 
 pub both : {P Q : Type 0} (a b : Bool) → IsTrue a ↔ P → IsTrue b ↔ Q → IsTrue (a && b) ↔ (P × Q)
 both true b f g = (λ h. (f.0 refl, g.0 h), λ p. g.1 p.1)
@@ -78,13 +77,10 @@ module _ {A K : Type 0} (cmp : A → A → Ordering) (f : A → K) (same : (x y 
   abbrev pub entry_eq : A × Value → A × Value → Bool
   entry_eq x y = is_eq (cmp x.0 y.0) && value_equality.eq-value.it x.1 y.1
 
-  abbrev pub entry_says : A × Value → K × Tree
-  entry_says e = (f e.0, view e.1)
-
-  entry_same : (x y : A × Value) → IsTrue (entry_eq x y) ↔ (entry_says x ≡ entry_says y)
+  entry_same : (x y : A × Value) → IsTrue (entry_eq x y) ↔ (entry_view f x ≡ entry_view f y)
   entry_same x y =
       let w = both (is_eq (cmp x.0 y.0)) (value_equality.eq-value.it x.1 y.1) (same x.0 y.0) (equal_is x.1 y.1) in
       (λ h. let p = w.0 h in λ i. (p.0 i, p.1 i), λ h. w.1 (ap (λ z. z.0) h, ap (λ z. z.1) h))
 
-  pub entry_lists : (xs ys : List (A × Value)) → IsTrue (pointwise entry_eq xs ys) ↔ (map entry_says xs ≡ map entry_says ys)
-  entry_lists xs ys = lists entry_eq entry_says entry_same xs ys
+  pub entry_lists : (xs ys : List (A × Value)) → IsTrue (pointwise entry_eq xs ys) ↔ (map (entry_view f) xs ≡ map (entry_view f) ys)
+  entry_lists xs ys = lists entry_eq (entry_view f) entry_same xs ys
