@@ -1,5 +1,5 @@
 -- The entries of claims one after another, and the fields that they give.
-use Rattle.std.proofs.Common.{◌≡◌, ℕ, pos, List, [], ◌∷◌, ◌++◌, true, false, Option, Some, None, option_map, refl, sym, ap, subst, ◌∙◌}
+use Rattle.std.proofs.Common.{◌≡◌, ℕ, pos, List, [], ◌∷◌, ◌++◌, true, false, Some, None, option_map, refl, sym, ap, subst, ◌∙◌}
 use Rattle.ciborium_value.specs.Tree.{Tree}
 use Rattle.coset_labels.specs.Entries.{IsIn}
 use Rattle.coset_labels.specs.Facts.Entries.{is_name_is, name_only, NoneOfSeven, none_of_seven, kept, made}

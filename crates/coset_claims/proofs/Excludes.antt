@@ -1,5 +1,5 @@
 -- A value with a fault has no claims.
-use Rattle.std.proofs.Common.{◌≡◌, ℕ, ℤ, pos, inl, inr, List, [], ◌∷◌, ◌++◌, Bool, true, false, cond, Option, Some, None, option_map, option_and_then, refl, sym, ap, subst, ◌∙◌}
+use Rattle.std.proofs.Common.{◌≡◌, ℕ, ℤ, pos, List, Bool, true, false, cond, Option, Some, None, option_map, refl, sym, ap, ◌∙◌}
 use Rattle.cose_iana.specs.Registry.{is_private_use}
 use Rattle.ciborium_value.specs.Tree.{Tree, integer, bytes, text, array, map as map_tree, tag, simple, float, is_bytes}
 use Rattle.coset_labels.specs.Entries.{Distinct}
