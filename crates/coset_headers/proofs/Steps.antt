@@ -1,9 +1,9 @@
 -- What one step of the reader shows, over plain variables.
-use Rattle.std.proofs.Common.{◌≡◌, ◌≢◌, ℕ, ℤ, pos, cond, ◌-◌, ◌<◌, inl, inr, List, [], ◌∷◌, ◌++◌, length, map, Bool, true, false, Option, Some, None, refl, sym, ap, subst, ◌∙◌, arith}
+use Rattle.std.proofs.Common.{◌≡◌, ◌≢◌, ℕ, ℤ, pos, cond, ◌-◌, ◌<◌, inl, inr, List, [], ◌∷◌, ◌++◌, map, Bool, true, false, Option, Some, None, refl, sym, ap, subst, ◌∙◌}
 use Rattle.std.specs.Prelude.{slice_get}
 use Rattle.std.proofs.lemmas.List.{map-append}
 use Rattle.ciborium_value.specs.Tree.{Tree, integer, bytes, text, array, map as map_tree, tag, simple, float, Trees, no_trees, one_more, Pairs, tree_count, is_bytes}
-use Rattle.ciborium_value.specs.View.{trees, pairs, view, views, view_pair, view_pairs}
+use Rattle.ciborium_value.specs.View.{trees, view, views, view_pairs}
 use Rattle.ciborium_value.specs.declared.value.Value.{Value}
 use Rattle.ciborium.specs.Front.{Reads}
 use Rattle.coset_labels.specs.Fields.{LabelFields, number, Named, assigned, named}

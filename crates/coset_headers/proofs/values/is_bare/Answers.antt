@@ -1,7 +1,6 @@
-use Rattle.std.proofs.Common.{sym, ◌∙◌, ap, refl}
-use Rattle.ciborium_value.specs.View.{view, views}
-use Rattle.coset_labels.specs.Kinds.{is_array}
-use Rattle.coset_headers.proofs.Steps.{first_of, bare_by, list_by}
+use Rattle.std.proofs.Common.{sym, ◌∙◌}
+use Rattle.ciborium_value.specs.View.{views}
+use Rattle.coset_headers.proofs.Steps.{bare_by}
 use Rattle.coset_headers.proofs.values.is_bare.Goals as goal
 
 pub returns-then-is_one_signature : goal.returns-then-is_one_signature
