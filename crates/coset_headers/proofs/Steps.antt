@@ -1,6 +1,5 @@
 -- What one step of the reader shows, over plain variables.
 use Rattle.std.proofs.Common.{◌≡◌, ◌≢◌, ℕ, ℤ, pos, cond, ◌-◌, ◌<◌, inl, inr, List, [], ◌∷◌, ◌++◌, map, Bool, true, false, Option, Some, None, refl, sym, ap, subst, ◌∙◌}
-use Rattle.std.specs.Prelude.{slice_get}
 use Rattle.std.proofs.lemmas.List.{map-append}
 use Rattle.ciborium_value.specs.Tree.{Tree, integer, bytes, text, array, map as map_tree, tag, simple, float, Trees, no_trees, one_more, Pairs, tree_count, is_bytes}
 use Rattle.ciborium_value.specs.View.{trees, view, views, view_pairs}
@@ -175,10 +174,6 @@ pub inside_wrong : (n : ℕ) (b : List ℕ) (t : Tree) (k : ℕ) (e : CoseError)
 inside_wrong n b t k e m r w = passed_on (WrongHeader n t k) (WrongInside n b k) e (λ x. is_wrong t m r x) w
 
 -- ---- the first of a list
-pub first_of : (xs : List Value) (x : Value) → Some x ≡ slice_get xs 0 → (ys : List Value) × (xs ≡ x ∷ ys)
-first_of [] x e = cc
-first_of (y ∷ ys) x e = let h : Some x ≡ Some y = e in let s : y ≡ x = cc in (ys, ap (λ z. z ∷ ys) s)
-
 bytes_by : (t : Tree) → is_bytes t ≡ true → (b : List ℕ) × (t ≡ bytes b)
 bytes_by (integer i) e = cc
 bytes_by (bytes b) e = (b, refl)
@@ -189,22 +184,9 @@ bytes_by (tag n t) e = cc
 bytes_by (simple n) e = cc
 bytes_by (float f) e = cc
 
-array_by : (t : Tree) → is_array t ≡ true → (ts : Trees) × (t ≡ array ts)
-array_by (integer i) e = cc
-array_by (bytes b) e = cc
-array_by (text b) e = cc
-array_by (array ts) e = (ts, refl)
-array_by (map_tree ps) e = cc
-array_by (tag n t) e = cc
-array_by (simple n) e = cc
-array_by (float f) e = cc
-
 pub bare_by : (ts : Trees) → is_bare ts ≡ true → IsBare ts
 bare_by no_trees e = cc
 bare_by (one_more t ts) e = let b = bytes_by t e in (b.0, ts, ap (λ z. one_more z ts) b.1)
-
-pub list_by : (xs : List Value) (x : Value) → ((ys : List Value) × (xs ≡ x ∷ ys)) → is_array (view x) ≡ true → IsList (views xs)
-list_by xs x (ys, e) h = let b = array_by (view x) h in (b.0, views ys, ap views e ∙ ap (λ z. one_more z (views ys)) b.1)
 
 -- ---- content types
 some_named : (o : Option Named) (b : List ℕ) → o ≡ Some (named b) → o ≡ None → ⊥
