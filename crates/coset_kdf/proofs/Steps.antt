@@ -1,6 +1,6 @@
 -- What one step of the reader shows, over plain variables.
-use Rattle.std.proofs.Common.{◌≡◌, ◌≢◌, ℕ, ◌+◌, ◌<◌, ◌≤◌, inl, inr, List, [], ◌∷◌, ◌++◌, map, length, reverse, Vec, Global, false, Option, Some, refl, sym, ap, subst, ◌∙◌, arith, append_assoc, length-append}
-use Rattle.std.proofs.lemmas.List.{map-append, length-map, reverse-append}
+use Rattle.std.proofs.Common.{◌≡◌, ◌≢◌, ℕ, ◌<◌, ◌≤◌, inl, inr, List, [], ◌∷◌, ◌++◌, map, length, false, Option, Some, refl, sym, ap, subst, ◌∙◌, arith}
+use Rattle.std.proofs.lemmas.List.{length-map}
 use Rattle.cose_iana.specs.Algorithms.{is_algorithm}
 use Rattle.cose_iana.specs.Registry.{is_private_use}
 use Rattle.ciborium_value.specs.Tree.{Tree, bytes, array, simple, Trees, no_trees, one_more, tree_count, is_bytes}
@@ -59,38 +59,6 @@ public_has t a b ts o s q r w = (a, b, q ∙ ap array r ∙ ap (λ z. array (tre
 
 pub third_bytes : (a b c : Tree) (ts : Trees) (d : List ℕ) → ts ≡ list_of_three a b c → c ≡ bytes d → ts ≡ trees (a ∷ b ∷ maybe_bytes (Some d))
 third_bytes a b c ts d r q = r ∙ ap (list_of_three a b) q
-
--- ---- the items behind the fourth
-abbrev strings : List (Vec ℕ Global) → List Tree
-strings xs = map bytes (map (λ v. v.items) xs)
-
-pub popped_more : (start : List Tree) (xs ys : List Value) (x : Value) (ps : List (Vec ℕ Global)) (p : Vec ℕ Global) → xs ≡ ys ++ x ∷ [] → view x ≡ bytes p.items
-    → start ≡ map view xs ++ map bytes (map (λ v. v.items) (reverse ps)) → start ≡ map view ys ++ map bytes (map (λ v. v.items) (reverse (ps ++ p ∷ [])))
-popped_more start xs ys x ps p e q w =
-    w ∙ ap (λ z. map view z ++ strings (reverse ps)) e
-    ∙ ap (λ z. z ++ strings (reverse ps)) (map-append view ys (x ∷ []))
-    ∙ append_assoc (map view ys) (view x ∷ []) (strings (reverse ps))
-    ∙ ap (λ z. map view ys ++ z ∷ strings (reverse ps)) q
-    ∙ ap (λ z. map view ys ++ strings z) (sym (reverse-append ps (p ∷ [])))
-
-pub still_many : (xs ys : List Value) (x : Value) → xs ≡ ys ++ x ∷ [] → 4 < length xs → 4 ≤ length ys
-still_many xs ys x e l = let h : length xs ≡ length ys + 1 = ap length e ∙ length-append ys (x ∷ []) in omega (arith, h, l)
-
-pub popped_wrong : (start : List Tree) (xs ys : List Value) (x : Value) (ps : List (Vec ℕ Global)) (e : CoseError) → xs ≡ ys ++ x ∷ [] → 4 < length xs
-    → start ≡ map view xs ++ map bytes (map (λ v. v.items) (reverse ps)) → (fault_of e ≡ unexpected) × (is_bytes (view x) ≡ false) → OrMemory (WrongPopped start) e
-popped_wrong start xs ys x ps e q l w p = inr (record {
-  before = map view ys;
-  after = strings (reverse ps);
-  tree = view x;
-  many = subst (λ n. 4 ≤ n) (sym (length-map ys view)) (still_many xs ys x q l);
-  are = w ∙ ap (λ z. map view z ++ strings (reverse ps)) q ∙ ap (λ z. z ++ strings (reverse ps)) (map-append view ys (x ∷ [])) ∙ append_assoc (map view ys) (view x ∷ []) (strings (reverse ps));
-  kind = p.1;
-  fault = p.0;
-})
-
-pub popped_all : (start : List Tree) (xs : List Value) (ps qs : List (Vec ℕ Global)) → (length xs ≢ 4 → length start < 4) → qs ≡ reverse ps
-    → start ≡ map view xs ++ map bytes (map (λ v. v.items) (reverse ps)) → Popped start (map view xs) (map (λ v. v.items) qs)
-popped_all start xs ps qs l e w = record { left = λ f. l (λ g. f (length-map xs view ∙ g)); are = w ∙ ap (λ z. map view xs ++ strings z) (sym e) }
 
 -- ---- a context
 pub context_kind : (n : ℕ) (t : Tree) (k : ℕ) (e : CoseError) → (fault_of e ≡ unexpected) × (is_array t ≡ false) → OrMemory (WrongContext n t k) e

@@ -57,10 +57,10 @@ pub(crate) fn read_public(alloc: Global, value: Value) -> Result<SuppPubInfo, Co
 {
     let items = value.try_as_array()?;
     if items.len() == 2 {
-        return match two(items) {
-            Some((first, second)) => read_two(alloc, first, second, None),
-            None => unreachable!(),
+        let Some((first, second)) = two(items) else {
+            unreachable!();
         };
+        return read_two(alloc, first, second, None);
     }
     let Some((first, second, third)) = three(items) else {
         return Err(CoseError::UnexpectedItem("array", "array with 2 or 3 items"));

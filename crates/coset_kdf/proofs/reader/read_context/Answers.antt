@@ -14,8 +14,8 @@ returns-in_err-supp_priv_info c =
     let p = err_from_is_err_and c.from_residual-in_err-supp_priv_info.result c.from_residual-in_err-supp_priv_info.ensures.1 in
     rw (p.1, p.2) (context_private _ _ _ c.in_ok-items.items.items _ c.in_ok-items.ensures c.in_err-supp_priv_info.ensures)
 
-pub returns-in-None : goal.returns-in-None
-returns-in-None c = inr (context_few _ _ _ c.in_ok-items.items.items _ _ c.in_ok-items.ensures c.in_ok-supp_priv_info.ensures c.in-None.ensures)
+pub returns-in_default : goal.returns-in_default
+returns-in_default c = inr (context_few _ _ _ c.in_ok-items.items.items _ _ c.in_ok-items.ensures c.in_ok-supp_priv_info.ensures c.in_default.ensures)
 
 pub returns-in_err-supp_pub_info : goal.returns-in_err-supp_pub_info
 returns-in_err-supp_pub_info c =

@@ -9,8 +9,8 @@ returns-in_err-items c =
     let p = err_from_is_err_and c.from_residual.result c.from_residual.ensures.1 in
     rw (p.1, p.2) (party_kind _ _ c.in_err-items.ensures)
 
-pub returns-in-None : goal.returns-in-None
-returns-in-None c = party_count _ c.in_ok-items.items.items c.in_ok-items.ensures c.in-None.ensures
+pub returns-in_default : goal.returns-in_default
+returns-in_default c = party_count _ c.in_ok-items.items.items c.in_ok-items.ensures c.in_default.ensures
 
 pub returns-in_err-other : goal.returns-in_err-other
 returns-in_err-other c =
