@@ -35,12 +35,22 @@ pub data MessageFields : Type 0 where
   sign : SignFields → MessageFields
   mac : MacFields → MessageFields
 
--- the tag of a message (RFC 9052, section 2)
+-- the tag of a kind of message (RFC 9052, section 2)
+abbrev pub number_of : Kind → ℕ
+number_of kind.Sign1 = 18
+number_of kind.Mac0 = 17
+number_of kind.Sign = 98
+number_of kind.Mac = 97
+
+-- the kind of a message, and its tag
+abbrev pub kind_of : MessageFields → Kind
+kind_of (sign1 m) = kind.Sign1
+kind_of (mac0 m) = kind.Mac0
+kind_of (sign m) = kind.Sign
+kind_of (mac m) = kind.Mac
+
 abbrev pub tag_of : MessageFields → ℕ
-tag_of (sign1 m) = 18
-tag_of (mac0 m) = 17
-tag_of (sign m) = 98
-tag_of (mac m) = 97
+tag_of m = number_of (kind_of m)
 
 abbrev pub payload_of : MessageFields → Option (List ℕ)
 payload_of (sign1 m) = m.payload

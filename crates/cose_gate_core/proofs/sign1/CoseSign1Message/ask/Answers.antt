@@ -6,11 +6,15 @@ use Rattle.coset_structures.specs.Structure.{behind_prefix}
 use Rattle.cose_gate_core.specs.Lent.{signer_of as lent_signer}
 use Rattle.cose_gate_core.specs.Received.{received_bytes}
 use Rattle.cose_gate_core.proofs.Covering.{same_question, subject_is, ok_first, ok_told, sign1_asks}
-use Rattle.cose_gate_core.proofs.asking.ask_sign1.Goals as goal
+use Rattle.cose_gate_core.proofs.InOrder.{on_err, told_none}
+use Rattle.cose_gate_core.proofs.sign1.CoseSign1Message.ask.Goals as goal
+
+pub returns-clause-err : goal.returns-clause-err
+returns-clause-err g c = on_err _ (told_none _ _ _ _) c.ask_alone.ensures.err
 
 pub returns-clause-answer : goal.returns-clause-answer
 returns-clause-answer g c =
-    let m = sign1_view c.args.message.now in
+    let m = sign1_view c.args.self.now in
     let a = c.alone-about.ensures in
     let body = received_bytes m.protected in
     let aad = c.args.aad.now in
@@ -21,7 +25,7 @@ returns-clause-answer g c =
 
 pub returns-clause-told : goal.returns-clause-told
 returns-clause-told g c =
-    let m = sign1_view c.args.message.now in
+    let m = sign1_view c.args.self.now in
     let a = c.alone-about.ensures in
     let body = received_bytes m.protected in
     let aad = c.args.aad.now in
