@@ -157,7 +157,7 @@ no_bytes_named t e w = subst Named (sym w.1) tt
 
 signature_list : (n : ℕ) (t : Tree) (k : ℕ) (e : CoseFault) → WrongSignatureList n t k e → Named e
 signature_list n t k _ (signed.no_list w) = tt
-signature_list n t k _ (signed.in_list ts e p w) = one e w.item w.wrong
+signature_list n t k _ (signed.in_list ts e p w) = one e w.tree w.wrong
   where
     one : (e : CoseFault) (u : Tree) → IsNoSignature n u k e → Named e
     one _ u (whatever e w) = tt

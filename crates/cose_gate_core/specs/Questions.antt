@@ -3,7 +3,6 @@ use Rattle.std.specs.Prelude.{ℕ, List, [], ◌∷◌, Option, Some, None, opti
 use Rattle.ciborium_value.specs.Tree.{Tree, tag}
 use Rattle.ciborium_value.specs.Encoding.{enc}
 use Rattle.coset_headers.specs.Fields.{HeaderFields, ProtectedFields, SignatureFields, signature}
-use Rattle.coset_maced.specs.PartsWritten.{content_bytes}
 use Rattle.coset_signed.specs.Fields.{Sign1Fields, SignFields, signature_bytes}
 use Rattle.coset_signed.specs.Structure.{sign1_covered, sign_covered}
 use Rattle.coset_signed.specs.Written.{sign1_tree, sign_tree}
@@ -88,10 +87,10 @@ mac_question m covered = record { subject = mac_subject m; covered = covered; si
 
 -- what the tag of a message covers, with its own payload
 abbrev pub mac0_own : Mac0Fields → List ℕ → Option (List ℕ)
-mac0_own m aad = mac0_covered m aad (content_bytes m.payload)
+mac0_own m aad = mac0_covered m aad
 
 abbrev pub mac_own : MacFields → List ℕ → Option (List ℕ)
-mac_own m aad = mac_covered m aad (content_bytes m.payload)
+mac_own m aad = mac_covered m aad
 
 -- the questions about the signatures of a COSE_Sign, in order; none where a structure can't be written
 abbrev pub sign_questions : SignFields → List ℕ → List SignatureFields → Option (List Question)
