@@ -59,7 +59,7 @@ are_received : (n k : ℕ) (ts : Trees) (ss : List SignatureFields) → HasSigna
 are_received n k ts [] w = tt
 are_received n k ts (signature p h c ∷ ss) (u, us, e, (a, b, d, x, y), z) = (has_received n k a p x, are_received n k us ss z)
 
-message_received : (l : Limits) (u : Tree) (m : MessageFields) → HasMessage l u m → IsReceivedMessage m
+pub message_received : (l : Limits) (u : Tree) (m : MessageFields) → HasMessage l u m → IsReceivedMessage m
 message_received l u (sign1 m) h = has_received l.nesting l.layers h.first m.protected h.parts.protected
 message_received l u (mac0 m) h = has_received l.nesting l.layers h.first m.protected h.parts.protected
 message_received l u (sign m) h =
