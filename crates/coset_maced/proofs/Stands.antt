@@ -5,7 +5,6 @@ use Rattle.ciborium_value.specs.Tree.{Tree, bytes, array}
 use Rattle.ciborium_value.specs.View.{trees}
 use Rattle.coset_labels.specs.Arrays.{all_written}
 use Rattle.coset_headers.specs.AsWritten.{header_stands, signature_stands}
-use Rattle.coset_message_parts.specs.Written.{whole_tree}
 use Rattle.coset_message_parts.proofs.Again.{map_made}
 use Rattle.coset_message_parts.specs.Shapes.{one_held, two_held}
 use Rattle.coset_message_parts.proofs.Once.{in_array}
