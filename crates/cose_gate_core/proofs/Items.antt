@@ -1,11 +1,13 @@
 -- One item: what is found of it, and what stands after it.
-use Rattle.std.proofs.Common.{◌≡◌, ◌≢◌, ℕ, ◌⊎◌, inl, inr, List, [], Option, None, Some, Bool, cond, refl, sym, ap, subst, ◌∙◌, take, drop, append-nil}
+use Rattle.std.proofs.Common.{◌≡◌, ◌≢◌, ℕ, inl, inr, List, [], Option, None, Some, Bool, cond, refl, sym, ap, subst, ◌∙◌, take, drop, append-nil}
 use Rattle.std.specs.Prelude.{is_none}
 use Rattle.std.specs.Io.KnownBytes.{Appends}
 use Rattle.std.proofs.KnownBytes.{Appends-nil}
 use Rattle.std.proofs.lemmas.List.{take-append-drop}
 use Rattle.ciborium_value.specs.Tree.{Tree, tag}
-use Rattle.coset_labels.specs.Faults.{fault_of}
+use Rattle.coset_labels.specs.Faults.{CoseFault, OrMemory, fault_of}
+use Rattle.coset_labels.specs.declared.error.CoseError.{CoseError}
+use Rattle.coset_labels.specs.declared.error.CoseError.TheVariants as code
 use Rattle.cose_gate_core.specs.Questions.{Question, MessageFields, tag_of, payload_of, questions, message_text}
 use Rattle.cose_gate_core.specs.Asked.{asked, first_no, folded_over, ToldFront}
 use Rattle.cose_gate_core.specs.Findings.{Reason, not_tagged, encrypted, other_tag, shape, detached, no_signature, judged, barred, excluded, Limits, HasMessage, IsCarried, IsUnsigned, IsJudged, IsBarred, Finds}
@@ -17,8 +19,10 @@ use Rattle.cose_gate_core.specs.declared.report.Refusal.{Refusal}
 use Rattle.cose_gate_core.specs.declared.report.Refusal.TheVariants as refusal
 use Rattle.cose_gate_core.specs.declared.report.Verdict.TheVariants.{Passed, Refused}
 
-pub is_encrypted : (limits : Limits) (t u : Tree) (n : ℕ) → t ≡ tag n u → (n ≡ 16) ⊎ (n ≡ 96) → IsBarred limits t encrypted
-is_encrypted limits t u n e k = (n, u, e, k)
+-- a fault other than want of memory
+pub not_memory : (Wrong : CoseFault → Type 0) (e : CoseError) → OrMemory Wrong e → e ≢ code.Memory → Wrong (fault_of e)
+not_memory Wrong e (inl memory) other = absurd (other memory)
+not_memory Wrong e (inr wrong) other = wrong
 
 -- a message that doesn't carry its payload
 pub is_detached : (limits : Limits) (u : Tree) (m : MessageFields) → HasMessage limits u m → payload_of m ≡ None → IsBarred limits (tag (tag_of m) u) detached
@@ -31,19 +35,6 @@ is_unsigned limits u m h p s = (m, (u, refl, h), p, s)
 -- a message that is judged
 pub is_judged : (limits : Limits) (u : Tree) (m : MessageFields) → HasMessage limits u m → IsCarried m → (IsUnsigned m → ⊥) → IsJudged limits (tag (tag_of m) u) m
 is_judged limits u m h p s = ((u, refl, h), p, s)
-
-pub is_other_tag : (limits : Limits) (t u : Tree) (n : ℕ) → t ≡ tag n u → n ≢ 16 → n ≢ 96 → n ≢ 18 → n ≢ 17 → n ≢ 97 → n ≢ 98 → IsBarred limits t (other_tag n)
-is_other_tag limits t u n e a b c d f g = (u, e, (λ w. not w), λ w. none w)
-  where
-    not : (n ≡ 16) ⊎ (n ≡ 96) → ⊥
-    not (inl x) = a x
-    not (inr x) = b x
-
-    none : (n ≡ 17) ⊎ (n ≡ 18) ⊎ (n ≡ 97) ⊎ (n ≡ 98) → ⊥
-    none (inl x) = d x
-    none (inr (inl x)) = c x
-    none (inr (inr (inl x))) = f x
-    none (inr (inr (inr x))) = g x
 
 module _ {T : Type 0} (limits : Limits) (decided : T → Question → T) (allows : Question → Bool) (aad : List ℕ) where
   barred_as : (b : List ℕ) (t : Tree) (told : T) (w : Option (List ℕ)) (r : Reason) (v : Refusal) → IsBarred limits t r

@@ -42,11 +42,11 @@ WrongForm l form.Sign1 u e = WrongSign1 l.nesting u l.layers e
 WrongForm l form.Mac0 u e = WrongMac0 l.nesting u l.layers e
 
 pub shaped : (l : Limits) (f : Form) (t u : Tree) (e : CoseFault) → t ≡ tag (tag_number f) u → WrongForm l f u e → IsMisshapen l t e
-shaped l f t u e is w = (tag_number f, u, is, wrong f w)
+shaped l f t u e is w = (kind_of f, u, is, wrong f w)
   where
-    wrong : (f : Form) → WrongForm l f u e → WrongMessage l (tag_number f) u e
-    wrong form.Sign1 w = inl (refl, w)
-    wrong form.Mac0 w = inr (inl (refl, w))
+    wrong : (f : Form) → WrongForm l f u e → WrongMessage l (kind_of f) u e
+    wrong form.Sign1 w = w
+    wrong form.Mac0 w = w
 
 pub no_array : (l : Limits) (f : Form) (u : Tree) → is_array u ≡ false → WrongForm l f u unexpected
 no_array l form.Sign1 u n = whole.no_array n

@@ -1,23 +1,24 @@
-use Rattle.cose_gate_core.specs.Terms.{limits_of}
-use Rattle.cose_gate_core.proofs.Written.{judged_received, judged_tree}
+use Rattle.std.proofs.Common.{◌≡◌, ◌≢◌, true, false, sym, ap, ◌∙◌, rules}
+use Rattle.ciborium_value.specs.Kinds.{is_tag}
+use Rattle.ciborium_value.specs.View.{view}
+use Rattle.cose_gate_core.specs.declared.report.Refusal.TheVariants.{NotTagged, Encrypted, OtherTag}
 use Rattle.cose_gate_core.proofs.Items.{taken_barred}
+use Rattle.cose_gate_core.proofs.TagNumbers.{no_message_tag}
 use Rattle.cose_gate_core.proofs.passing.pass.Goals as goal
 
-pub returns-in-Barred-clause-ok : goal.returns-in-Barred-clause-ok
-returns-in-Barred-clause-ok g c = λ b h. taken_barred _ _ _ _ b _ _ _ _ (rw c.in-Barred.is at (c.in_ok-message.ensures b h))
+pub returns-in_default-clause-ok : goal.returns-in_default-clause-ok
+returns-in_default-clause-ok g c = λ b h.
+    taken_barred _ _ _ _ b _ _ _ NotTagged (λ n u is. (let no : false ≡ true = sym c.in_default.ensures.1 ∙ ap is_tag is in cc))
 
-pub returns-in-Judged-clause-ok : goal.returns-in-Judged-clause-ok
-returns-in-Judged-clause-ok g c = λ b h. c.pass_message.ensures.ok _ b _ (rw c.in-Judged.is at (c.in_ok-message.ensures b h))
+pub returns-in_default-number-clause-ok : goal.returns-in_default-number-clause-ok
+returns-in_default-number-clause-ok g c = λ b h.
+    taken_barred _ _ _ _ b _ _ _ Encrypted (c.in-Ok.number, view c.in-Ok.content.value, c.in-Ok.ensures, c.if-is_encrypted.ensures)
 
-pub returns-in-Judged-clause-err : goal.returns-in-Judged-clause-err
-returns-in-Judged-clause-err g c = λ b h. c.pass_message.ensures.err _ b _ (rw c.in-Judged.is at (c.in_ok-message.ensures b h))
-
-pub pass_message-requires-clause-received : goal.pass_message-requires-clause-received
-pass_message-requires-clause-received g c =
-    let found = c.in_ok-message.ensures c.requires.0 c.requires.1 in
-    judged_received (limits_of c.args.terms) _ _ (rw c.in-Judged.is at found).0
-
-pub pass_message-requires-clause-text : goal.pass_message-requires-clause-text
-pass_message-requires-clause-text g c =
-    let found = c.in_ok-message.ensures c.requires.0 c.requires.1 in
-    judged_tree (limits_of c.args.terms) _ _ (rw c.in-Judged.is at found).0
+pub returns-clause-ok : goal.returns-clause-ok
+returns-clause-ok g c = λ b h.
+    let n = c.in-Ok.number in
+    let a : n ≢ 18 = search rules in
+    let d : n ≢ 17 = search rules in
+    let e : n ≢ 98 = search rules in
+    let f : n ≢ 97 = search rules in
+    taken_barred _ _ _ _ b _ _ _ (OtherTag n) (view c.in-Ok.content.value, c.in-Ok.ensures, c.if-is_encrypted.ensures, no_message_tag n a d e f)
