@@ -1,4 +1,5 @@
 pub mod Again
+pub mod Asking
 pub mod Checked
 pub mod Encoded
 pub mod Ids

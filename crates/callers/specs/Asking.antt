@@ -13,7 +13,7 @@ use Rattle.callers.specs.Judging.{allows, key_ids_of}
 
 -- the rule of a judge that tells what it is asked
 abbrev pub always : Question → Bool
-always q = true
+always = λ q. true
 
 -- the whole input was gone through, and the records of all questions were told that it has where
 -- each answer is yes, in order; so many messages have them

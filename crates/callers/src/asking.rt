@@ -45,14 +45,15 @@ fn pass_by(
     alloc: Global,
     input: &[u8],
     aad: &[u8],
-    judge: &mut Accepted,
+    judge: Accepted,
 ) -> Result<(Vec<u8>, Counts), GateFault<End>>
     ensures { IfOk result
-        (λ r. IsPassedBy (keys_of judge.old) aad.now input.now r.0.items r.1) }
+        (λ r. IsPassedBy (keys_of judge.entry) aad.now input.now r.0.items r.1) }
 {
+    let mut judge = judge;
     let mut decoder = Decoder::from(input);
     let mut out = Mem::new(Vec::new(alloc));
-    match gate(alloc, &mut decoder, &mut out, &mut Silent, aad, judge) {
+    match gate(alloc, &mut decoder, &mut out, &mut Silent, aad, &mut judge) {
         Ok(counts) => Ok((out.into_inner(), counts)),
         Err(fault) => Err(fault),
     }
@@ -78,11 +79,8 @@ pub fn pass(
     };
     match judge {
         Some(judge) => {
-            let mut judge = judge;
-            match pass_by(alloc, input, aad, &mut judge) {
-                Ok(passed) => Ok(Some(passed)),
-                Err(fault) => Err(fault),
-            }
+            let passed = pass_by(alloc, input, aad, judge)?;
+            Ok(Some(passed))
         }
         None => Ok(None),
     }
@@ -104,16 +102,8 @@ pub fn run_by_ids<R: Read, W: Write, E: Write>(
         (asked_of judge.old) (asked_of judge.new) result }
     ensures known { known_of judge.new ≡ known_of judge.old }
 {
-    run_judged(
-        alloc,
-        gating.limits,
-        gating.strict,
-        aad,
-        input,
-        out,
-        err,
-        judge,
-    )
+    let Gating { limits, strict } = gating;
+    run_judged(alloc, limits, strict, aad, input, out, err, judge)
 }
 
 /// The program's run that passes what these records were accepted for, gated so. Without records it reads nothing, and its status is 3, as
@@ -134,20 +124,14 @@ pub fn run_accepted<R: Read, W: Write, E: Write>(
     let Ok(judge) = Accepted::new(alloc, accepted) else {
         return 4;
     };
-    let Some(judge) = judge else {
-        return 3;
-    };
-    let mut judge = judge;
-    run_judged(
-        alloc,
-        gating.limits,
-        gating.strict,
-        aad,
-        input,
-        out,
-        err,
-        &mut judge,
-    )
+    match judge {
+        Some(judge) => {
+            let mut judge = judge;
+            let Gating { limits, strict } = gating;
+            run_judged(alloc, limits, strict, aad, input, out, err, &mut judge)
+        }
+        None => 3,
+    }
 }
 
 /// The program under its words, gated so. With the statuses 2 and 3 nothing was read, and nothing was written.
@@ -168,16 +152,8 @@ pub fn run_gated<R: Read, W: Write, E: Write>(
         → devices_of R.Read W.Write input.new out.new
         ≡ devices_of R.Read W.Write input.old out.old }
 {
-    run_with(
-        alloc,
-        gating.limits,
-        gating.strict,
-        keys,
-        aad,
-        input,
-        out,
-        err,
-    )
+    let Gating { limits, strict } = gating;
+    run_with(alloc, limits, strict, keys, aad, input, out, err)
 }
 
 /// The strict program under a key set's bytes. With the status 0 it wrote all that it read, as it came.
