@@ -1,5 +1,4 @@
 pub mod Again
-pub mod Asking
 pub mod Checked
 pub mod Encoded
 pub mod Ids
@@ -7,3 +6,4 @@ pub mod Keys
 pub mod Relay
 pub mod Sealed
 pub mod Spelled
+pub mod Told
