@@ -213,11 +213,11 @@ all_written : (limits : Limits) (says : Question → Bool) (aad : List ℕ) (old
     → RanOver limits says aad old new b steps status → status ≡ 0 → Appends old.written new.written b
 all_written limits says aad old new b steps status exact over none = elim over [
   | inl t ↦ (
-    let count : t.0 ≡ 0 = none_of t.0 (sym none ∙ t.2) in
-    let e : output_of says aad steps ≡ b
-    = all_received limits says aad exact 1 steps 0 b t.1.course.steps t.1.course.sequence (sym t.1.refused_is ∙ count) in
-    subst (λ (z : List ℕ). Appends old.written new.written z) e t.1.writes
-  )
+      let count : t.0 ≡ 0 = none_of t.0 (sym none ∙ t.2) in
+      let e : output_of says aad steps ≡ b
+      = all_received limits says aad exact 1 steps 0 b t.1.course.steps t.1.course.sequence (sym t.1.refused_is ∙ count) in
+      subst (λ (z : List ℕ). Appends old.written new.written z) e t.1.writes
+      )
   | inr p ↦ absurd (let k : ⊥ = omega (arith, none, p.1) in k)
 ]
 
@@ -230,10 +230,10 @@ handed_on limits says keys aad old new status exact e none input is = elim e [
   | inr m ↦ elim m [
     | inl n ↦ absurd (let k : ⊥ = omega (arith, none, n.0) in k)
     | inr r ↦ (
-      let same : input ≡ r.2.ran.input
-      = subst (λ (l : Option (List ℕ)). IfKnown l (λ b. b ≡ r.2.ran.input)) is r.2.ran.is in
-      subst (λ (z : List ℕ). Appends old.written new.written z) (sym same)
-      (all_written limits (says r.0) aad old new r.2.ran.input r.2.ran.steps status exact r.2.ran.over none)
-    )
+        let same : input ≡ r.2.ran.input
+        = subst (λ (l : Option (List ℕ)). IfKnown l (λ b. b ≡ r.2.ran.input)) is r.2.ran.is in
+        subst (λ (z : List ℕ). Appends old.written new.written z) (sym same)
+        (all_written limits (says r.0) aad old new r.2.ran.input r.2.ran.steps status exact r.2.ran.over none)
+        )
   ]
 ]

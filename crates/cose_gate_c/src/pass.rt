@@ -96,7 +96,8 @@ pub extern "C" fn cose_gate_pass(
     layers: usize,
     strict: bool,
 ) -> Answer
-    ensures { Passes nesting layers strict accepted.now aad.now input.now «out».old «out».new result }
+    ensures { Passes nesting layers strict accepted.now aad.now input.now
+        «out».old «out».new result }
 {
     match Limits::new(nesting, layers) {
         Some(limits) => pass_within(alloc, limits, strict, accepted, aad, input, out, lines),
