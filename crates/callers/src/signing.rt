@@ -3,7 +3,7 @@ ghost use Rattle.std.specs.Prelude.{◌≡◌, ◌↔◌, ℕ, List, None, Some,
 ghost use Rattle.coset_messages.specs.Fields.{protected};
 ghost use Rattle.coset_messages.specs.MacedFields.{Mac0Fields};
 ghost use Rattle.coset_messages.specs.MacedShapes.{HasMac0};
-ghost use Rattle.coset_messages.specs.MacedStructure.{mac0_covered};
+ghost use Rattle.coset_messages.specs.MacedStructure.{mac0_covered_with};
 ghost use Rattle.coset_messages.specs.Reading.{HasItem, Tagged};
 ghost use Rattle.coset_messages.specs.SignedFields.{Sign1Fields};
 ghost use Rattle.coset_messages.specs.SignedShapes.{HasSign1};
@@ -129,7 +129,7 @@ pub fn tagged_payload<K: Key>(
     ensures { IfOk result (λ payload. (m : Mac0Fields)
         × HasItem (Tagged 17 (λ t f. HasMac0 256 t f 16)) bytes.now m
         × (m.payload ≡ Some payload.items)
-        × IsGood (K.good key.now) (mac0_covered m aad.now payload.items) m.tag) }
+        × IsGood (K.good key.now) (mac0_covered_with m payload.items aad.now) m.tag) }
 {
     let message = CoseMac0::from_tagged_slice(alloc, bytes)?;
     message.verify_payload_tag(

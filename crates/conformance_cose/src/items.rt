@@ -7,7 +7,8 @@ use coset::{
     CoseMac, CoseMac0, CoseRecipient, CoseSign, CoseSign1, CoseSignature, Header, Label, Limits,
     PartyInfo, ProtectedHeader, SuppPubInfo, TaggedCborSerializable, ValueTryAs,
 };
-use coset_message_parts::{Parts, read_parts, three};
+use coset_labels::tuples::three;
+use coset_message_parts::{Parts, read_parts};
 use std::alloc::{AllocError, Global};
 
 /// The item that is written of a copy of what this item of some kind is read as.

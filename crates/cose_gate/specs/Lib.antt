@@ -8,7 +8,6 @@ pub use Rattle.cose_gate_laws.specs.GateCore.Passing
 pub use Rattle.cose_gate_laws.specs.GateCore.Questions
 pub use Rattle.cose_gate_laws.specs.GateCore.Recorded
 pub use Rattle.cose_gate_laws.specs.GateCore.Run
-pub use Rattle.cose_gate_laws.specs.GateCore.View
 pub use Rattle.cose_gate_laws.specs.GateCore.CodeLimits
 pub use Rattle.cose_gate_laws.specs.GateCore.declared.gating.Counts
 pub use Rattle.cose_gate_laws.specs.GateCore.declared.gating.GateFault

@@ -17,9 +17,6 @@ use Rattle.cose_gate_core.specs.declared.report.Refusal.{Refusal}
 use Rattle.cose_gate_core.specs.declared.report.Refusal.TheVariants as refusal
 use Rattle.cose_gate_core.specs.declared.report.Verdict.TheVariants.{Passed, Refused}
 
-pub is_encrypted : (limits : Limits) (t u : Tree) (n : ℕ) → t ≡ tag n u → (n ≡ 16) ⊎ (n ≡ 96) → IsBarred limits t encrypted
-is_encrypted limits t u n e k = (n, u, e, k)
-
 -- a message that doesn't carry its payload
 pub is_detached : (limits : Limits) (u : Tree) (m : MessageFields) → HasMessage limits u m → payload_of m ≡ None → IsBarred limits (tag (tag_of m) u) detached
 is_detached limits u m h n = (m, (u, refl, h), n)
@@ -31,19 +28,6 @@ is_unsigned limits u m h p s = (m, (u, refl, h), p, s)
 -- a message that is judged
 pub is_judged : (limits : Limits) (u : Tree) (m : MessageFields) → HasMessage limits u m → IsCarried m → (IsUnsigned m → ⊥) → IsJudged limits (tag (tag_of m) u) m
 is_judged limits u m h p s = ((u, refl, h), p, s)
-
-pub is_other_tag : (limits : Limits) (t u : Tree) (n : ℕ) → t ≡ tag n u → n ≢ 16 → n ≢ 96 → n ≢ 18 → n ≢ 17 → n ≢ 97 → n ≢ 98 → IsBarred limits t (other_tag n)
-is_other_tag limits t u n e a b c d f g = (u, e, (λ w. not w), λ w. none w)
-  where
-    not : (n ≡ 16) ⊎ (n ≡ 96) → ⊥
-    not (inl x) = a x
-    not (inr x) = b x
-
-    none : (n ≡ 17) ⊎ (n ≡ 18) ⊎ (n ≡ 97) ⊎ (n ≡ 98) → ⊥
-    none (inl x) = d x
-    none (inr (inl x)) = c x
-    none (inr (inr (inl x))) = f x
-    none (inr (inr (inr x))) = g x
 
 module _ {T : Type 0} (limits : Limits) (decided : T → Question → T) (allows : Question → Bool) (aad : List ℕ) where
   barred_as : (b : List ℕ) (t : Tree) (told : T) (w : Option (List ℕ)) (r : Reason) (v : Refusal) → IsBarred limits t r

@@ -15,6 +15,8 @@ use Rattle.cose_gate_core.specs.WrongRecipients as recipients
 use Rattle.cose_gate_core.specs.WrongSigned.{IsNoSignature, whatever, WrongSignatureList}
 use Rattle.cose_gate_core.specs.WrongSigned as signed
 use Rattle.cose_gate_core.specs.Findings.{Limits, WrongMessage, IsMisshapen}
+use Rattle.cose_gate_core.specs.declared.about.Kind.{Kind}
+use Rattle.cose_gate_core.specs.declared.about.Kind.TheVariants as kind
 
 -- any fault but want of memory
 abbrev Named : CoseFault → Type 0
@@ -155,16 +157,16 @@ no_bytes_named t e w = subst Named (sym w.1) tt
 
 signature_list : (n : ℕ) (t : Tree) (k : ℕ) (e : CoseFault) → WrongSignatureList n t k e → Named e
 signature_list n t k _ (signed.no_list w) = tt
-signature_list n t k _ (signed.in_list ts e p w) = one e w.item w.wrong
+signature_list n t k _ (signed.in_list ts e p w) = one e w.tree w.wrong
   where
     one : (e : CoseFault) (u : Tree) → IsNoSignature n u k e → Named e
     one _ u (whatever e w) = tt
 
-message_fault : (l : Limits) (n : ℕ) (u : Tree) (e : CoseFault) → WrongMessage l n u e → Named e
-message_fault l n u e (inl w) = whole_fault l.nesting u _ l.layers e w.1 (no_bytes_named, tt)
-message_fault l n u e (inr (inl w)) = whole_fault l.nesting u _ l.layers e w.1 (no_bytes_named, tt)
-message_fault l n u e (inr (inr (inl w))) = whole_fault l.nesting u _ l.layers e w.1 (no_bytes_named, (λ t f x. recipient_list l.nesting t l.layers f x, tt))
-message_fault l n u e (inr (inr (inr w))) = whole_fault l.nesting u _ l.layers e w.1 (λ t f x. signature_list l.nesting t l.layers f x, tt)
+message_fault : (l : Limits) (k : Kind) (u : Tree) (e : CoseFault) → WrongMessage l k u e → Named e
+message_fault l kind.Sign1 u e w = whole_fault l.nesting u _ l.layers e w (no_bytes_named, tt)
+message_fault l kind.Mac0 u e w = whole_fault l.nesting u _ l.layers e w (no_bytes_named, tt)
+message_fault l kind.Mac u e w = whole_fault l.nesting u _ l.layers e w (no_bytes_named, (λ t f x. recipient_list l.nesting t l.layers f x, tt))
+message_fault l kind.Sign u e w = whole_fault l.nesting u _ l.layers e w (λ t f x. signature_list l.nesting t l.layers f x, tt)
 
 -- a value that can't be read as a header, a protected header or a message has another fault than want of memory
 pub header_is_named : (n : ℕ) (t : Tree) (k : ℕ) (e : CoseFault) → WrongHeader n t k e → e ≡ no_memory → ⊥
@@ -174,4 +176,4 @@ pub protected_is_named : (n : ℕ) (t : Tree) (k : ℕ) (e : CoseFault) → Wron
 protected_is_named n t k e w m = subst Named m (protected n t k e w)
 
 pub misshapen_is_named : (l : Limits) (t : Tree) (e : CoseFault) → IsMisshapen l t e → e ≡ no_memory → ⊥
-misshapen_is_named l t e (n, u, p, w) m = subst Named m (message_fault l n u e w)
+misshapen_is_named l t e (k, u, p, w) m = subst Named m (message_fault l k u e w)

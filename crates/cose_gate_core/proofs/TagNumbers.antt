@@ -1,65 +1,68 @@
--- The numbers of the tags that the gate tells apart.
-use Rattle.std.proofs.Common.{◌≡◌, ◌≢◌, ℕ, pos, refl, sym, ap, ◌∙◌}
-use Rattle.cose_iana.specs.Registry.{number_of}
+-- The tags that the gate tells apart.
+use Rattle.std.proofs.Common.{◌≡◌, ◌≢◌, ◌⊎◌, inl, inr, ℕ, List, [], ◌∷◌, Option, Some, None, cond, pos, refl, sym, ap, ◌∙◌, nat_eq}
+use Rattle.cose_iana.specs.Registry.{number_of as registered_number}
 use Rattle.cose_iana.specs.Tags.{cbor_tags}
-use Rattle.cose_iana.specs.declared.tags.CborTag.TheVariants.{CoseEncrypt0, CoseEncrypt, CoseSign1, CoseMac0, CoseMac, CoseSign}
+use Rattle.cose_iana.specs.declared.tags.CborTag.TheVariants.{CoseEncrypt0, CoseEncrypt}
+use Rattle.cose_gate_core.specs.Questions.{number_of}
+use Rattle.cose_gate_core.specs.Findings.{IsMessageTag, IsEncryptedTag}
+use Rattle.cose_gate_core.specs.declared.about.Kind.{Kind}
+use Rattle.cose_gate_core.specs.declared.about.Kind.TheVariants as kind
 
+-- the first of these kinds that has the tag
+kind_among : List Kind → ℕ → Option Kind
+kind_among [] n = None
+kind_among (k ∷ ks) n = cond (nat_eq (number_of k) n) (Some k) (kind_among ks n)
+
+kind_at : ℕ → Option Kind
+kind_at n = kind_among (kind.Sign1 ∷ kind.Mac0 ∷ kind.Sign ∷ kind.Mac ∷ []) n
+
+-- the tags are distinct: each leads to its kind
+kind_there : (k : Kind) → kind_at (number_of k) ≡ Some k
+unfolding kind_at kind_among
+kind_there kind.Sign1 = refl
+kind_there kind.Mac0 = refl
+kind_there kind.Sign = refl
+kind_there kind.Mac = refl
+
+-- so kinds with one tag are one
+pub same_kind : (j k : Kind) → number_of j ≡ number_of k → j ≡ k
+same_kind j k e =
+    let there : Some j ≡ Some k = sym (kind_there j) ∙ ap kind_at e ∙ kind_there k in
+    cc
+
+-- and the tag of an encrypted message is that of no kind
+none_encrypted : (n : ℕ) → IsEncryptedTag n → kind_at n ≡ None
+unfolding kind_at kind_among
+none_encrypted n (inl e) = ap kind_at e
+none_encrypted n (inr e) = ap kind_at e
+
+pub not_both : (n : ℕ) → IsEncryptedTag n → IsMessageTag n → ⊥
+not_both n e (k, is) =
+    let there : None ≡ Some k = sym (none_encrypted n e) ∙ ap kind_at is ∙ kind_there k in
+    cc
+
+-- the tags of encrypted messages in the registry
 encrypt0_number : cbor_tags.number CoseEncrypt0 ≡ pos 16
-unfolding cbor_tags number_of
+unfolding cbor_tags registered_number
 encrypt0_number = refl
 
 encrypt_number : cbor_tags.number CoseEncrypt ≡ pos 96
-unfolding cbor_tags number_of
+unfolding cbor_tags registered_number
 encrypt_number = refl
 
-sign1_number : cbor_tags.number CoseSign1 ≡ pos 18
-unfolding cbor_tags number_of
-sign1_number = refl
+pub encrypt0_is : (n : ℕ) → pos n ≡ cbor_tags.number CoseEncrypt0 → IsEncryptedTag n
+encrypt0_is n e = let q : pos n ≡ pos 16 = e ∙ encrypt0_number in inl cc
 
-pub encrypt0_is : (n : ℕ) → pos n ≡ cbor_tags.number CoseEncrypt0 → n ≡ 16
-encrypt0_is n e = let q : pos n ≡ pos 16 = e ∙ encrypt0_number in cc
+pub encrypt_is : (n : ℕ) → pos n ≡ cbor_tags.number CoseEncrypt → IsEncryptedTag n
+encrypt_is n e = let q : pos n ≡ pos 96 = e ∙ encrypt_number in inr cc
 
-pub encrypt_is : (n : ℕ) → pos n ≡ cbor_tags.number CoseEncrypt → n ≡ 96
-encrypt_is n e = let q : pos n ≡ pos 96 = e ∙ encrypt_number in cc
+pub not_encrypted : (n : ℕ) → pos n ≢ cbor_tags.number CoseEncrypt0 → pos n ≢ cbor_tags.number CoseEncrypt → IsEncryptedTag n → ⊥
+not_encrypted n a b (inl e) = a (ap pos e ∙ sym encrypt0_number)
+not_encrypted n a b (inr e) = b (ap pos e ∙ sym encrypt_number)
 
-pub sign1_is : (n : ℕ) → pos n ≡ cbor_tags.number CoseSign1 → n ≡ 18
-sign1_is n e = let q : pos n ≡ pos 18 = e ∙ sign1_number in cc
-
-pub not_encrypt0 : (n : ℕ) → pos n ≢ cbor_tags.number CoseEncrypt0 → n ≢ 16
-not_encrypt0 n other e = other (ap pos e ∙ sym encrypt0_number)
-
-pub not_encrypt : (n : ℕ) → pos n ≢ cbor_tags.number CoseEncrypt → n ≢ 96
-not_encrypt n other e = other (ap pos e ∙ sym encrypt_number)
-
-pub not_sign1 : (n : ℕ) → pos n ≢ cbor_tags.number CoseSign1 → n ≢ 18
-not_sign1 n other e = other (ap pos e ∙ sym sign1_number)
-
-mac0_number : cbor_tags.number CoseMac0 ≡ pos 17
-unfolding cbor_tags number_of
-mac0_number = refl
-
-pub mac0_is : (n : ℕ) → pos n ≡ cbor_tags.number CoseMac0 → n ≡ 17
-mac0_is n e = let q : pos n ≡ pos 17 = e ∙ mac0_number in cc
-
-pub not_mac0 : (n : ℕ) → pos n ≢ cbor_tags.number CoseMac0 → n ≢ 17
-not_mac0 n other e = other (ap pos e ∙ sym mac0_number)
-
-mac_number : cbor_tags.number CoseMac ≡ pos 97
-unfolding cbor_tags number_of
-mac_number = refl
-
-pub mac_is : (n : ℕ) → pos n ≡ cbor_tags.number CoseMac → n ≡ 97
-mac_is n e = let q : pos n ≡ pos 97 = e ∙ mac_number in cc
-
-pub not_mac : (n : ℕ) → pos n ≢ cbor_tags.number CoseMac → n ≢ 97
-not_mac n other e = other (ap pos e ∙ sym mac_number)
-
-sign_number : cbor_tags.number CoseSign ≡ pos 98
-unfolding cbor_tags number_of
-sign_number = refl
-
-pub sign_is : (n : ℕ) → pos n ≡ cbor_tags.number CoseSign → n ≡ 98
-sign_is n e = let q : pos n ≡ pos 98 = e ∙ sign_number in cc
-
-pub not_sign : (n : ℕ) → pos n ≢ cbor_tags.number CoseSign → n ≢ 98
-not_sign n other e = other (ap pos e ∙ sym sign_number)
+-- a tag that is none of the four is that of no message
+pub no_message_tag : (n : ℕ) → n ≢ 18 → n ≢ 17 → n ≢ 98 → n ≢ 97 → IsMessageTag n → ⊥
+no_message_tag n a b c d (kind.Sign1, e) = a e
+no_message_tag n a b c d (kind.Mac0, e) = b e
+no_message_tag n a b c d (kind.Sign, e) = c e
+no_message_tag n a b c d (kind.Mac, e) = d e

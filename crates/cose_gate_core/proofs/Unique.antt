@@ -7,10 +7,12 @@ use Rattle.coset_labels.specs.Faults.{CoseFault}
 use Rattle.coset_signed.proofs.Excludes.{sign1_not, sign_not}
 use Rattle.coset_signed.proofs.Unique.{sign1_once, sign_once}
 use Rattle.coset_maced.proofs.Unique.{mac0_once, mac0_not, mac_once, mac_not}
-use Rattle.cose_gate_core.specs.Questions.{Question, MessageFields, sign1, mac0, sign, mac, tag_of, payload_of}
+use Rattle.cose_gate_core.specs.Questions.{Question, MessageFields, sign1, mac0, sign, mac, number_of, kind_of, tag_of, payload_of}
 use Rattle.cose_gate_core.specs.Findings.{Finding, judged, barred, excluded, not_tagged, encrypted, other_tag, shape, detached, no_signature, Finds, IsMessageTag, IsEncryptedTag, Limits, HasMessage, WrongMessage, IsMessage, IsUnsigned}
+use Rattle.cose_gate_core.specs.declared.about.Kind.{Kind}
 use Rattle.cose_gate_core.specs.declared.report.Refusal.{Refusal}
 use Rattle.cose_gate_core.specs.Run.{Step, Steps, Run, asked_of, written_of, questions_of, output_of}
+use Rattle.cose_gate_core.proofs.TagNumbers.{same_kind, not_both}
 
 -- the findings by the tag of the value
 data Group : Type 0 where
@@ -33,43 +35,21 @@ InGroup t secret = (n : ℕ) × (u : Tree) × (t ≡ tag n u) × IsEncryptedTag 
 InGroup t message = (n : ℕ) × (u : Tree) × (t ≡ tag n u) × IsMessageTag n
 InGroup t (other n) = (u : Tree) × (t ≡ tag n u) × (IsEncryptedTag n → ⊥) × (IsMessageTag n → ⊥)
 
-tag_is : (m : MessageFields) → IsMessageTag (tag_of m)
-tag_is (sign1 m) = inr (inl refl)
-tag_is (mac0 m) = inl refl
-tag_is (sign m) = inr (inr (inr refl))
-tag_is (mac m) = inr (inr (inl refl))
-
-wrong_tag : (l : Limits) (n : ℕ) (u : Tree) (f : CoseFault) → WrongMessage l n u f → IsMessageTag n
-wrong_tag l n u f (inl (e, w)) = inr (inl e)
-wrong_tag l n u f (inr (inl (e, w))) = inl e
-wrong_tag l n u f (inr (inr (inl (e, w)))) = inr (inr (inl e))
-wrong_tag l n u f (inr (inr (inr (e, w)))) = inr (inr (inr e))
-
 in_group : (l : Limits) (b : List ℕ) (t : Tree) (f : Finding) → Finds l b t f → InGroup t (group f)
-in_group l b t (judged m) (((u, e, h), p, s), x) = (tag_of m, u, e, tag_is m)
+in_group l b t (judged m) (((u, e, h), p, s), x) = (tag_of m, u, e, (kind_of m, refl))
 in_group l b t (barred not_tagged) h = h
 in_group l b t (barred encrypted) h = h
 in_group l b t (barred (other_tag n)) h = h
-in_group l b t (barred shape) (f, (n, u, e, w)) = (n, u, e, wrong_tag l n u f w)
-in_group l b t (barred detached) (m, (u, e, h), p) = (tag_of m, u, e, tag_is m)
-in_group l b t (barred no_signature) (m, (u, e, h), p, s) = (tag_of m, u, e, tag_is m)
-in_group l b t (excluded m r) (((u, e, h), p, s), x) = (tag_of m, u, e, tag_is m)
+in_group l b t (barred shape) (f, (k, u, e, w)) = (number_of k, u, e, (k, refl))
+in_group l b t (barred detached) (m, (u, e, h), p) = (tag_of m, u, e, (kind_of m, refl))
+in_group l b t (barred no_signature) (m, (u, e, h), p, s) = (tag_of m, u, e, (kind_of m, refl))
+in_group l b t (excluded m r) (((u, e, h), p, s), x) = (tag_of m, u, e, (kind_of m, refl))
 
 same_tag : (t : Tree) (n k : ℕ) (u v : Tree) → t ≡ tag n u → t ≡ tag k v → n ≡ k
 same_tag t n k u v a b = cc
 
 same_body : (t : Tree) (n k : ℕ) (u v : Tree) → t ≡ tag n u → t ≡ tag k v → u ≡ v
 same_body t n k u v a b = cc
-
-no_message : (n : ℕ) → IsEncryptedTag n → IsMessageTag n → ⊥
-no_message n (inl a) (inl b) = let h : 16 ≡ 17 = sym a ∙ b in omega arith
-no_message n (inl a) (inr (inl b)) = let h : 16 ≡ 18 = sym a ∙ b in omega arith
-no_message n (inl a) (inr (inr (inl b))) = let h : 16 ≡ 97 = sym a ∙ b in omega arith
-no_message n (inl a) (inr (inr (inr b))) = let h : 16 ≡ 98 = sym a ∙ b in omega arith
-no_message n (inr a) (inl b) = let h : 96 ≡ 17 = sym a ∙ b in omega arith
-no_message n (inr a) (inr (inl b)) = let h : 96 ≡ 18 = sym a ∙ b in omega arith
-no_message n (inr a) (inr (inr (inl b))) = let h : 96 ≡ 97 = sym a ∙ b in omega arith
-no_message n (inr a) (inr (inr (inr b))) = let h : 96 ≡ 98 = sym a ∙ b in omega arith
 
 group_once : (t : Tree) (x y : Group) → InGroup t x → InGroup t y → x ≡ y
 group_once t bare bare a b = refl
@@ -78,10 +58,10 @@ group_once t bare message a (n, u, e, s) = absurd (a n u e)
 group_once t bare (other n) a (u, e, p, q) = absurd (a n u e)
 group_once t secret bare (n, u, e, s) b = absurd (b n u e)
 group_once t secret secret a b = refl
-group_once t secret message (n, u, e, s) (k, v, d, r) = absurd (no_message n s (subst IsMessageTag (same_tag t k n v u d e) r))
+group_once t secret message (n, u, e, s) (k, v, d, r) = absurd (not_both n s (subst IsMessageTag (same_tag t k n v u d e) r))
 group_once t secret (other k) (n, u, e, s) (v, d, p, q) = absurd (p (subst IsEncryptedTag (same_tag t n k u v e d) s))
 group_once t message bare (n, u, e, s) b = absurd (b n u e)
-group_once t message secret (k, v, d, r) (n, u, e, s) = absurd (no_message n s (subst IsMessageTag (same_tag t k n v u d e) r))
+group_once t message secret (k, v, d, r) (n, u, e, s) = absurd (not_both n s (subst IsMessageTag (same_tag t k n v u d e) r))
 group_once t message message a b = refl
 group_once t message (other k) (n, u, e, s) (v, d, p, q) = absurd (q (subst IsMessageTag (same_tag t n k u v e d) s))
 group_once t (other n) bare (u, e, p, q) b = absurd (b n u e)
@@ -112,42 +92,30 @@ is_message secret = inr (λ e. (let h : secret ≡ message = e in cc))
 is_message message = inl refl
 is_message (other n) = inr (λ e. (let h : other n ≡ message = e in cc))
 
--- a value has the fields of one message of each tag, and no fault as that message
-same_message : (l : Limits) (u : Tree) (a b : MessageFields) → tag_of a ≡ tag_of b → HasMessage l u a → HasMessage l u b → a ≡ b
+-- a value has the fields of one message of each kind, and no fault as that message
+same_message : (l : Limits) (u : Tree) (a b : MessageFields) → kind_of a ≡ kind_of b → HasMessage l u a → HasMessage l u b → a ≡ b
 same_message l u (sign1 a) (sign1 b) e h g = ap sign1 (sign1_once l.nesting l.layers u a b h g)
-same_message l u (sign1 a) (mac0 b) e h g = let n : 18 ≡ 17 = e in absurd (omega arith)
-same_message l u (sign1 a) (sign b) e h g = let n : 18 ≡ 98 = e in absurd (omega arith)
-same_message l u (sign1 a) (mac b) e h g = let n : 18 ≡ 97 = e in absurd (omega arith)
-same_message l u (mac0 a) (sign1 b) e h g = let n : 17 ≡ 18 = e in absurd (omega arith)
+same_message l u (sign1 a) (mac0 b) e h g = cc
+same_message l u (sign1 a) (sign b) e h g = cc
+same_message l u (sign1 a) (mac b) e h g = cc
+same_message l u (mac0 a) (sign1 b) e h g = cc
 same_message l u (mac0 a) (mac0 b) e h g = ap mac0 (mac0_once l.nesting a b u l.layers h g)
-same_message l u (mac0 a) (sign b) e h g = let n : 17 ≡ 98 = e in absurd (omega arith)
-same_message l u (mac0 a) (mac b) e h g = let n : 17 ≡ 97 = e in absurd (omega arith)
-same_message l u (sign a) (sign1 b) e h g = let n : 98 ≡ 18 = e in absurd (omega arith)
-same_message l u (sign a) (mac0 b) e h g = let n : 98 ≡ 17 = e in absurd (omega arith)
+same_message l u (mac0 a) (sign b) e h g = cc
+same_message l u (mac0 a) (mac b) e h g = cc
+same_message l u (sign a) (sign1 b) e h g = cc
+same_message l u (sign a) (mac0 b) e h g = cc
 same_message l u (sign a) (sign b) e h g = ap sign (sign_once l.nesting l.layers u a b h g)
-same_message l u (sign a) (mac b) e h g = let n : 98 ≡ 97 = e in absurd (omega arith)
-same_message l u (mac a) (sign1 b) e h g = let n : 97 ≡ 18 = e in absurd (omega arith)
-same_message l u (mac a) (mac0 b) e h g = let n : 97 ≡ 17 = e in absurd (omega arith)
-same_message l u (mac a) (sign b) e h g = let n : 97 ≡ 98 = e in absurd (omega arith)
+same_message l u (sign a) (mac b) e h g = cc
+same_message l u (mac a) (sign1 b) e h g = cc
+same_message l u (mac a) (mac0 b) e h g = cc
+same_message l u (mac a) (sign b) e h g = cc
 same_message l u (mac a) (mac b) e h g = ap mac (mac_once l.nesting a b u l.layers h g)
 
-no_fault : (l : Limits) (u : Tree) (m : MessageFields) (n : ℕ) (f : CoseFault) → n ≡ tag_of m → HasMessage l u m → WrongMessage l n u f → ⊥
-no_fault l u (sign1 m) n f e h (inl (d, w)) = sign1_not l.nesting l.layers u f m w h
-no_fault l u (sign1 m) n f e h (inr (inl (d, w))) = let p : 18 ≡ 17 = sym e ∙ d in absurd (omega arith)
-no_fault l u (sign1 m) n f e h (inr (inr (inl (d, w)))) = let p : 18 ≡ 97 = sym e ∙ d in absurd (omega arith)
-no_fault l u (sign1 m) n f e h (inr (inr (inr (d, w)))) = let p : 18 ≡ 98 = sym e ∙ d in absurd (omega arith)
-no_fault l u (mac0 m) n f e h (inl (d, w)) = let p : 17 ≡ 18 = sym e ∙ d in absurd (omega arith)
-no_fault l u (mac0 m) n f e h (inr (inl (d, w))) = mac0_not l.nesting u l.layers f w m h
-no_fault l u (mac0 m) n f e h (inr (inr (inl (d, w)))) = let p : 17 ≡ 97 = sym e ∙ d in absurd (omega arith)
-no_fault l u (mac0 m) n f e h (inr (inr (inr (d, w)))) = let p : 17 ≡ 98 = sym e ∙ d in absurd (omega arith)
-no_fault l u (sign m) n f e h (inl (d, w)) = let p : 98 ≡ 18 = sym e ∙ d in absurd (omega arith)
-no_fault l u (sign m) n f e h (inr (inl (d, w))) = let p : 98 ≡ 17 = sym e ∙ d in absurd (omega arith)
-no_fault l u (sign m) n f e h (inr (inr (inl (d, w)))) = let p : 98 ≡ 97 = sym e ∙ d in absurd (omega arith)
-no_fault l u (sign m) n f e h (inr (inr (inr (d, w)))) = sign_not l.nesting l.layers u f m w h
-no_fault l u (mac m) n f e h (inl (d, w)) = let p : 97 ≡ 18 = sym e ∙ d in absurd (omega arith)
-no_fault l u (mac m) n f e h (inr (inl (d, w))) = let p : 97 ≡ 17 = sym e ∙ d in absurd (omega arith)
-no_fault l u (mac m) n f e h (inr (inr (inl (d, w)))) = mac_not l.nesting u l.layers f w m h
-no_fault l u (mac m) n f e h (inr (inr (inr (d, w)))) = let p : 97 ≡ 98 = sym e ∙ d in absurd (omega arith)
+no_fault : (l : Limits) (u : Tree) (m : MessageFields) (f : CoseFault) → HasMessage l u m → WrongMessage l (kind_of m) u f → ⊥
+no_fault l u (sign1 m) f h w = sign1_not l.nesting l.layers u f m w h
+no_fault l u (mac0 m) f h w = mac0_not l.nesting u l.layers f w m h
+no_fault l u (sign m) f h w = sign_not l.nesting l.layers u f m w h
+no_fault l u (mac m) f h w = mac_not l.nesting u l.layers f w m h
 
 -- what is found of a message, by its payload, whether it has no signature, and the further rule
 abbrev pub message_finding : MessageFields → Option (List ℕ) → Bool → Option Refusal → Finding
@@ -189,7 +157,7 @@ unsigned_false (mac m) n = refl
 -- what is found under the tag of a message
 data Body (l : Limits) (b : List ℕ) (t : Tree) (f : Finding) : Type 0 where
   fits : (m : MessageFields) → IsMessage l t m → f ≡ finding_of l b m → Body l b t f
-  wrong : (n : ℕ) (u : Tree) (e : CoseFault) → t ≡ tag n u → WrongMessage l n u e → f ≡ barred shape → Body l b t f
+  wrong : (k : Kind) (u : Tree) (e : CoseFault) → t ≡ tag (number_of k) u → WrongMessage l k u e → f ≡ barred shape → Body l b t f
 
 of_three : (l : Limits) (b : List ℕ) (m : MessageFields) (p : Option (List ℕ)) (u : Bool) (r : Option Refusal) → payload_of m ≡ p → is_unsigned m ≡ u → l.excludes b m ≡ r
     → message_finding m p u r ≡ finding_of l b m
@@ -201,7 +169,7 @@ body l b t (judged m) ((i, (p, e), s), x) g = fits m i (of_three l b m (Some p) 
 body l b t (barred not_tagged) h g = cc
 body l b t (barred encrypted) h g = cc
 body l b t (barred (other_tag n)) h g = cc
-body l b t (barred shape) (f, (n, u, e, w)) g = wrong n u f e w refl
+body l b t (barred shape) (f, (k, u, e, w)) g = wrong k u f e w refl
 body l b t (barred detached) (m, i, e) g = fits m i (ap (λ z. message_finding m z (is_unsigned m) (l.excludes b m)) (sym e))
 body l b t (barred no_signature) (m, i, (p, e), s) g = fits m i (of_three l b m (Some p) true (l.excludes b m) e (unsigned_true m s) refl)
 body l b t (excluded m r) ((i, (p, e), s), x) g = fits m i (of_three l b m (Some p) false (Some r) e (unsigned_false m s) x)
@@ -209,16 +177,19 @@ body l b t (excluded m r) ((i, (p, e), s), x) g = fits m i (of_three l b m (Some
 module _ (l : Limits) (t : Tree) where
   same_fields : (a b : MessageFields) → IsMessage l t a → IsMessage l t b → a ≡ b
   same_fields a b (u, p, h) (v, q, g) =
-      same_message l u a b (same_tag t (tag_of a) (tag_of b) u v p q) h (subst (λ z. HasMessage l z b) (sym (same_body t (tag_of a) (tag_of b) u v p q)) g)
+      let kinds : kind_of a ≡ kind_of b = same_kind (kind_of a) (kind_of b) (same_tag t (tag_of a) (tag_of b) u v p q) in
+      same_message l u a b kinds h (subst (λ z. HasMessage l z b) (sym (same_body t (tag_of a) (tag_of b) u v p q)) g)
 
-  not_both : (m : MessageFields) (n : ℕ) (v : Tree) (e : CoseFault) → IsMessage l t m → t ≡ tag n v → WrongMessage l n v e → ⊥
-  not_both m n v e (u, p, h) q w = no_fault l v m n e (same_tag t n (tag_of m) v u q p) (subst (λ z. HasMessage l z m) (same_body t (tag_of m) n u v p q) h) w
+  no_wrong : (m : MessageFields) (k : Kind) (v : Tree) (e : CoseFault) → IsMessage l t m → t ≡ tag (number_of k) v → WrongMessage l k v e → ⊥
+  no_wrong m k v e (u, p, h) q w =
+      let kinds : k ≡ kind_of m = same_kind k (kind_of m) (same_tag t (number_of k) (tag_of m) v u q p) in
+      no_fault l v m e (subst (λ z. HasMessage l z m) (same_body t (tag_of m) (number_of k) u v p q) h) (subst (λ j. WrongMessage l j v e) kinds w)
 
 body_once : (l : Limits) (b : List ℕ) (t : Tree) (f g : Finding) → Body l b t f → Body l b t g → f ≡ g
 body_once l b t f g (fits m i c) (fits n k d) = c ∙ ap (finding_of l b) (same_fields l t m n i k) ∙ sym d
-body_once l b t f g (fits m i c) (wrong n v e q w d) = absurd (not_both l t m n v e i q w)
-body_once l b t f g (wrong n v e q w c) (fits m i d) = absurd (not_both l t m n v e i q w)
-body_once l b t f g (wrong n u e q w c) (wrong k v x p y d) = c ∙ sym d
+body_once l b t f g (fits m i c) (wrong k v e q w d) = absurd (no_wrong l t m k v e i q w)
+body_once l b t f g (wrong k v e q w c) (fits m i d) = absurd (no_wrong l t m k v e i q w)
+body_once l b t f g (wrong k u e q w c) (wrong j v x p y d) = c ∙ sym d
 
 pub finding_once : (l : Limits) (b : List ℕ) (t : Tree) (f g : Finding) → Finds l b t f → Finds l b t g → f ≡ g
 finding_once l b t f g h k = by_group (is_message (group f))

@@ -28,9 +28,9 @@ has_all l u m aad h ts (s ∷ ss) w =
 
 has_questions : (l : Limits) (u : Tree) (m : MessageFields) (aad : List ℕ) → HasMessage l u m → all_questions m aad ≢ None
 has_questions l u (sign1 m) aad h = map_some (λ c. sign1_question m c ∷ []) (sign1_covered m aad) (sign1_covers l.nesting l.layers u m (content_bytes m.payload) aad h)
-has_questions l u (mac0 m) aad h = map_some (λ c. mac0_question m c ∷ []) (mac0_own m aad) (mac0_covers l.nesting m u l.layers aad (content_bytes m.payload) h)
+has_questions l u (mac0 m) aad h = map_some (λ c. mac0_question m c ∷ []) (mac0_own m aad) (mac0_covers l.nesting m u l.layers (content_bytes m.payload) aad h)
 has_questions l u (sign m) aad h = let list = (one_held _ h.lasts h.hold).2 in has_all l u m aad h list.0 m.signatures list.2
-has_questions l u (mac m) aad h = map_some (λ c. mac_question m c ∷ []) (mac_own m aad) (mac_covers l.nesting m u l.layers aad (content_bytes m.payload) h)
+has_questions l u (mac m) aad h = map_some (λ c. mac_question m c ∷ []) (mac_own m aad) (mac_covers l.nesting m u l.layers (content_bytes m.payload) aad h)
 
 pub has_tree : (l : Limits) (u : Tree) (m : MessageFields) → HasMessage l u m → message_tree m ≢ None
 has_tree l u (sign1 m) h = sign1_some l.nesting l.layers u m h
@@ -59,7 +59,7 @@ are_received : (n k : ℕ) (ts : Trees) (ss : List SignatureFields) → HasSigna
 are_received n k ts [] w = tt
 are_received n k ts (signature p h c ∷ ss) (u, us, e, (a, b, d, x, y), z) = (has_received n k a p x, are_received n k us ss z)
 
-message_received : (l : Limits) (u : Tree) (m : MessageFields) → HasMessage l u m → IsReceivedMessage m
+pub message_received : (l : Limits) (u : Tree) (m : MessageFields) → HasMessage l u m → IsReceivedMessage m
 message_received l u (sign1 m) h = has_received l.nesting l.layers h.first m.protected h.parts.protected
 message_received l u (mac0 m) h = has_received l.nesting l.layers h.first m.protected h.parts.protected
 message_received l u (sign m) h =

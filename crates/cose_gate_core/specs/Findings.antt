@@ -8,7 +8,9 @@ use Rattle.coset_signed.specs.Shapes.{HasSign1, HasSign}
 use Rattle.coset_signed.specs.Wrong.{WrongSign1, WrongSign}
 use Rattle.coset_maced.specs.Shapes.{HasMac0, HasMac}
 use Rattle.coset_maced.specs.Wrong.{WrongMac0, WrongMac}
-use Rattle.cose_gate_core.specs.Questions.{MessageFields, sign1, mac0, sign, mac, tag_of, payload_of, message_text}
+use Rattle.cose_gate_core.specs.Questions.{MessageFields, sign1, mac0, sign, mac, number_of, tag_of, payload_of, message_text}
+use Rattle.cose_gate_core.specs.declared.about.Kind.{Kind}
+use Rattle.cose_gate_core.specs.declared.about.Kind.TheVariants as kind
 use Rattle.cose_gate_core.specs.declared.report.Refusal.{Refusal}
 use Rattle.cose_gate_core.specs.declared.report.Refusal.TheVariants as refusal
 
@@ -25,7 +27,7 @@ pub data Finding : Type 0 where
 
 -- the tags of messages that are judged
 abbrev pub IsMessageTag : ℕ → Type 0
-IsMessageTag n = (n ≡ 17) ⊎ (n ≡ 18) ⊎ (n ≡ 97) ⊎ (n ≡ 98)
+IsMessageTag n = (k : Kind) × (n ≡ number_of k)
 
 -- the tags of encrypted messages
 abbrev pub IsEncryptedTag : ℕ → Type 0
@@ -65,13 +67,12 @@ HasMessage limits u (mac0 m) = HasMac0 limits.nesting u m limits.layers
 HasMessage limits u (sign m) = HasSign limits.nesting u m limits.layers
 HasMessage limits u (mac m) = HasMac limits.nesting u m limits.layers
 
--- which fault a value has as the message that the tag n is of
-abbrev pub WrongMessage : Limits → ℕ → Tree → CoseFault → Type 0
-WrongMessage limits n u f =
-    ((n ≡ 18) × WrongSign1 limits.nesting u limits.layers f)
-    ⊎ ((n ≡ 17) × WrongMac0 limits.nesting u limits.layers f)
-    ⊎ ((n ≡ 97) × WrongMac limits.nesting u limits.layers f)
-    ⊎ ((n ≡ 98) × WrongSign limits.nesting u limits.layers f)
+-- which fault a value has as a message of a kind
+abbrev pub WrongMessage : Limits → Kind → Tree → CoseFault → Type 0
+WrongMessage limits kind.Sign1 u f = WrongSign1 limits.nesting u limits.layers f
+WrongMessage limits kind.Mac0 u f = WrongMac0 limits.nesting u limits.layers f
+WrongMessage limits kind.Sign u f = WrongSign limits.nesting u limits.layers f
+WrongMessage limits kind.Mac u f = WrongMac limits.nesting u limits.layers f
 
 -- a tagged message
 abbrev pub IsMessage : Limits → Tree → MessageFields → Type 0
@@ -94,7 +95,7 @@ IsJudged limits t m = IsMessage limits t m × IsCarried m × (IsUnsigned m → �
 
 -- a value under the tag of a message that has this fault as one
 abbrev pub IsMisshapen : Limits → Tree → CoseFault → Type 0
-IsMisshapen limits t f = (n : ℕ) × (u : Tree) × (t ≡ tag n u) × WrongMessage limits n u f
+IsMisshapen limits t f = (k : Kind) × (u : Tree) × (t ≡ tag (number_of k) u) × WrongMessage limits k u f
 
 abbrev pub IsBarred : Limits → Tree → Reason → Type 0
 IsBarred limits t not_tagged = (n : ℕ) (u : Tree) → t ≢ tag n u

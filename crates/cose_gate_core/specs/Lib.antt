@@ -9,7 +9,6 @@ pub mod Received
 pub mod Recorded
 pub mod Run
 pub mod Terms
-pub mod View
 pub use Rattle.ciborium_ll.specs.Fault as DeviceFault
 pub use Rattle.ciborium_ll.specs.Framing
 pub use Rattle.ciborium_ll.specs.Title

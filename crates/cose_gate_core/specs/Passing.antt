@@ -7,15 +7,12 @@ use Rattle.coset_labels.specs.Faults.{fault_of}
 use Rattle.ciborium.specs.declared.de.Error.{Error}
 use Rattle.ciborium.specs.declared.de.Error.TheVariants as de
 use Rattle.cose_gate_core.specs.Questions.{Question, MessageFields}
-use Rattle.cose_gate_core.specs.View.{message_view}
 use Rattle.cose_gate_core.specs.Asked.{folded_over, IsFront}
 use Rattle.cose_gate_core.specs.Findings.{not_tagged, encrypted, other_tag, detached, no_signature, Finding, judged, Limits, IsJudged, IsBarred, IsMisshapen, Finds}
 use Rattle.cose_gate_core.specs.Run.{IsVerdict, asked_of, passes, written_of}
 use Rattle.cose_gate_core.specs.declared.report.Refusal.{Refusal}
 use Rattle.cose_gate_core.specs.declared.report.Refusal.TheVariants as refusal
 use Rattle.cose_gate_core.specs.declared.report.Verdict.{Verdict}
-use Rattle.cose_gate_core.specs.declared.passing.Found.{Found}
-use Rattle.cose_gate_core.specs.declared.passing.Found.TheVariants as found
 use Rattle.cose_gate_core.specs.declared.passing.ItemFault.{ItemFault}
 use Rattle.cose_gate_core.specs.declared.passing.ItemFault.TheVariants as fault
 use Rattle.cose_gate_core.specs.declared.gating.GateFault.{GateFault}
@@ -35,10 +32,6 @@ IsRefused limits b t refusal.NotShortest = (m : MessageFields) × IsJudged limit
 -- what is told of a message: whether the further rule lets it through
 abbrev pub IsTold : Limits → List ℕ → MessageFields → Bool → Type 0
 IsTold limits b m through = MatchBool through (limits.excludes b m ≡ None) (limits.excludes b m ≡ Some refusal.NotShortest)
-
-abbrev pub IsFound : Limits → List ℕ → Tree → Found → Type 0
-IsFound limits b t (found.Judged m) = Finds limits b t (judged (message_view m))
-IsFound limits b t (found.Barred r) = IsRefused limits b t r
 
 -- the item went through: what was found, told and written
 pub record WentThrough {T : Type 0} (limits : Limits) (decided : T → Question → T) (allows : Question → Bool) (aad : List ℕ) (bytes : List ℕ) (t : Tree) (told told' : T) (written written' : Option (List ℕ)) (v : Verdict) : Type 0 where

@@ -3,7 +3,6 @@ use Rattle.std.specs.Prelude.{ℕ, List, [], ◌∷◌, Option, Some, None, opti
 use Rattle.ciborium_value.specs.Tree.{Tree, tag}
 use Rattle.ciborium_value.specs.Encoding.{enc}
 use Rattle.coset_headers.specs.Fields.{HeaderFields, ProtectedFields, SignatureFields, signature}
-use Rattle.coset_maced.specs.PartsWritten.{content_bytes}
 use Rattle.coset_signed.specs.Fields.{Sign1Fields, SignFields, signature_bytes}
 use Rattle.coset_signed.specs.Structure.{sign1_covered, sign_covered}
 use Rattle.coset_signed.specs.Written.{sign1_tree, sign_tree}
@@ -35,12 +34,22 @@ pub data MessageFields : Type 0 where
   sign : SignFields → MessageFields
   mac : MacFields → MessageFields
 
--- the tag of a message (RFC 9052, section 2)
+-- the tag of a kind of message (RFC 9052, section 2)
+abbrev pub number_of : Kind → ℕ
+number_of kind.Sign1 = 18
+number_of kind.Mac0 = 17
+number_of kind.Sign = 98
+number_of kind.Mac = 97
+
+-- the kind of a message, and its tag
+abbrev pub kind_of : MessageFields → Kind
+kind_of (sign1 m) = kind.Sign1
+kind_of (mac0 m) = kind.Mac0
+kind_of (sign m) = kind.Sign
+kind_of (mac m) = kind.Mac
+
 abbrev pub tag_of : MessageFields → ℕ
-tag_of (sign1 m) = 18
-tag_of (mac0 m) = 17
-tag_of (sign m) = 98
-tag_of (mac m) = 97
+tag_of m = number_of (kind_of m)
 
 abbrev pub payload_of : MessageFields → Option (List ℕ)
 payload_of (sign1 m) = m.payload
@@ -78,10 +87,10 @@ mac_question m covered = record { subject = mac_subject m; covered = covered; si
 
 -- what the tag of a message covers, with its own payload
 abbrev pub mac0_own : Mac0Fields → List ℕ → Option (List ℕ)
-mac0_own m aad = mac0_covered m aad (content_bytes m.payload)
+mac0_own m aad = mac0_covered m aad
 
 abbrev pub mac_own : MacFields → List ℕ → Option (List ℕ)
-mac_own m aad = mac_covered m aad (content_bytes m.payload)
+mac_own m aad = mac_covered m aad
 
 -- the questions about the signatures of a COSE_Sign, in order; none where a structure can't be written
 abbrev pub sign_questions : SignFields → List ℕ → List SignatureFields → Option (List Question)

@@ -23,7 +23,7 @@ use crate::terms::Terms;
 use ciborium::{Value, de};
 use ciborium_ll::{Decoder, Read, Write};
 use coset_labels::Limits;
-use std::alloc::Global;
+use std::alloc::{AllocError, Global};
 use std::fmt;
 use thiserror::Error;
 
@@ -78,6 +78,18 @@ impl<E> From<ItemFault> for GateFault<E> {
             ItemFault::Write => GateFault::Write,
             ItemFault::Memory => GateFault::Memory,
         }
+    }
+}
+
+/// The report was refused memory.
+impl<E> From<AllocError> for GateFault<E> {
+    ghost use Rattle.std.specs.Prelude.{◌≡◌};
+    ghost use Rattle.cose_gate_core.specs.declared.gating.GateFault.TheVariants as fault;
+
+    ghost from_gives = { λ _ stop. stop ≡ fault.Memory };
+
+    fn from(_: AllocError) -> GateFault<E> {
+        GateFault::Memory
     }
 }
 
@@ -144,12 +156,8 @@ fn next_item<R: Read>(
     let offset = decoder.offset();
     match read_item(alloc, terms, decoder) {
         Ok(item) => Ok(Some(item)),
-        Err(error) => {
-            if is_end::<R>(&error) && decoder.offset() == offset {
-                return Ok(None);
-            }
-            Err(GateFault::from(error))
-        }
+        Err(error) if is_end::<R>(&error) && decoder.offset() == offset => Ok(None),
+        Err(error) => Err(GateFault::from(error)),
     }
 }
 
@@ -221,20 +229,12 @@ fn gate_by<R: Read, W: Write, P: Report, J: Judge>(
     };
     'items: loop {
         let offset = decoder.offset();
-        let (value, exact) = match next_item(alloc, terms, decoder) {
-            Ok(Some(item)) => item,
-            Ok(None) => return Ok(counts),
-            Err(fault) => return Err(fault),
+        let Some((value, exact)) = next_item(alloc, terms, decoder)? else {
+            return Ok(counts);
         };
-        let verdict = match pass(alloc, terms, exact, value, out, aad, judge) {
-            Ok(verdict) => verdict,
-            Err(fault) => return Err(GateFault::from(fault)),
-        };
+        let verdict = pass(alloc, terms, exact, value, out, aad, judge)?;
         counts = counted(counts, verdict);
-        match report.note(&entry_of(counts, offset, verdict)) {
-            Ok(()) => {}
-            Err(_) => return Err(GateFault::Memory),
-        }
+        report.note(&entry_of(counts, offset, verdict))?;
     }
 }
 

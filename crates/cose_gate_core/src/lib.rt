@@ -6,10 +6,14 @@ mod asking;
 mod gating;
 mod judge;
 pub mod laws;
+mod mac;
+mod mac0;
 mod message;
 mod passing;
 mod recorder;
 mod report;
+mod sign;
+mod sign1;
 mod terms;
 
 pub use crate::about::{About, Kind};

@@ -5,7 +5,7 @@ use Rattle.std.proofs.lemmas.Bool.{cases_eq}
 use Rattle.std.proofs.lemmas.List.{map-append}
 use denote.Bor.{Bor}
 use Rattle.ciborium_value.specs.Tree.{Tree, integer, bytes, text, array, map as map_tree, tag, simple, float}
-use Rattle.ciborium_value.specs.declared.kind.Kind.TheVariants as kind
+use Rattle.ciborium_value.specs.declared.kind.Kind.TheVariants as semantic_kind
 use Rattle.ciborium.specs.Damage.{Fault, end, deep, syntax, semantic}
 use Rattle.ciborium.specs.Items.{Item, ItemsWithin, SequenceWithin}
 use Rattle.ciborium.specs.declared.de.Error.TheVariants as de
@@ -13,20 +13,19 @@ use Rattle.ciborium.proofs.Sequence.{items_there_within}
 use Rattle.coset_labels.specs.Faults.{CoseFault, undecodable, too_long, duplicate_key, unencodable, extraneous, out_of_range, unexpected, unregistered, unregistered_private, no_memory, too_many_layers, misplaced, fault_of}
 use Rattle.coset_labels.specs.declared.error.CoseError.{CoseError}
 use Rattle.coset_labels.specs.declared.error.CoseError.TheVariants as code
-use Rattle.cose_gate_core.specs.SignedFields.{Sign1Fields, SignFields}
 use Rattle.cose_gate_core.specs.SignedShapes.{HasSign1, HasSign}
-use Rattle.cose_gate_core.specs.WrongSigned.{WrongSign1, WrongSign}
-use Rattle.cose_gate_core.specs.MacedFields.{Mac0Fields, MacFields}
 use Rattle.cose_gate_core.specs.MacedShapes.{HasMac0, HasMac}
-use Rattle.cose_gate_core.specs.WrongMaced.{WrongMac0, WrongMac}
-use Rattle.cose_gate_core.specs.Questions.{Question, MessageFields, sign1, mac0, sign, mac, tag_of, payload_of, questions}
+use Rattle.cose_gate_core.specs.Questions.{Question, MessageFields, sign1, mac0, sign, mac, number_of, kind_of, payload_of, questions}
 use Rattle.cose_gate_core.specs.Asked.{first_no}
 use Rattle.cose_gate_core.specs.Findings.{Finding, judged, barred, excluded, not_tagged, encrypted, other_tag, shape, detached, no_signature, Limits, HasMessage, WrongMessage, IsMessage, IsMessageTag, IsEncryptedTag, IsCarried, IsUnsigned, Finds}
 use Rattle.cose_gate_core.specs.Run.{Step, Steps, Run, Course, IsVerdict, judged_by}
+use Rattle.cose_gate_core.specs.declared.about.Kind.{Kind}
+use Rattle.cose_gate_core.specs.declared.about.Kind.TheVariants as kind
 use Rattle.cose_gate_core.specs.declared.report.Refusal.{Refusal}
 use Rattle.cose_gate_core.specs.declared.report.Refusal.TheVariants as refusal
 use Rattle.cose_gate_core.specs.declared.report.Verdict.{Verdict}
 use Rattle.cose_gate_core.specs.declared.report.Verdict.TheVariants.{Refused}
+use Rattle.cose_gate_core.proofs.TagNumbers.{no_message_tag}
 use Rattle.cose_gate_laws.proofs.Lows.{IsByte, Low, before, behind, reads_low}
 use Rattle.cose_gate_laws.proofs.MessageCases.{sign1_case, sign_case}
 use Rattle.cose_gate_laws.proofs.MacCases.{mac0_case, mac_case}
@@ -41,30 +40,20 @@ list_cases (x ∷ xs) = inr (λ e. let h : x ∷ xs ≡ [] = e in cc)
 
 module _ (l : Limits) where
   -- ---- by kind
-  abbrev MessageCase : ℕ → Tree → Type 0
-  MessageCase n u = ((m : MessageFields) × (tag_of m ≡ n) × HasMessage l u m) ⊎ ((f : CoseFault) × WrongMessage l n u f)
+  abbrev MessageCase : Kind → Tree → Type 0
+  MessageCase k u = ((m : MessageFields) × (kind_of m ≡ k) × HasMessage l u m) ⊎ ((f : CoseFault) × WrongMessage l k u f)
 
-  mac0_message : (n : ℕ) (u : Tree) → n ≡ 17 → ((m : Mac0Fields) × HasMac0 l.nesting u m l.layers) ⊎ ((e : CoseFault) × WrongMac0 l.nesting u l.layers e) → MessageCase n u
-  mac0_message n u e (inl (m, h)) = inl (mac0 m, sym e, h)
-  mac0_message n u e (inr (f, w)) = inr (f, inr (inl (e, w)))
+  -- a case of messages of one kind, made of their fields
+  of_kind : {A : Type 0} (k : Kind) (u : Tree) (make : A → MessageFields) (Has : A → Type 0) → ((x : A) → Has x → (kind_of (make x) ≡ k) × HasMessage l u (make x))
+      → ((x : A) × Has x) ⊎ ((f : CoseFault) × WrongMessage l k u f) → MessageCase k u
+  of_kind k u make Has has (inl (x, h)) = inl (make x, has x h)
+  of_kind k u make Has has (inr (f, w)) = inr (f, w)
 
-  sign1_message : (n : ℕ) (u : Tree) → n ≡ 18 → ((m : Sign1Fields) × HasSign1 l.nesting u m l.layers) ⊎ ((e : CoseFault) × WrongSign1 l.nesting u l.layers e) → MessageCase n u
-  sign1_message n u e (inl (m, h)) = inl (sign1 m, sym e, h)
-  sign1_message n u e (inr (f, w)) = inr (f, inl (e, w))
-
-  mac_message : (n : ℕ) (u : Tree) → n ≡ 97 → ((m : MacFields) × HasMac l.nesting u m l.layers) ⊎ ((e : CoseFault) × WrongMac l.nesting u l.layers e) → MessageCase n u
-  mac_message n u e (inl (m, h)) = inl (mac m, sym e, h)
-  mac_message n u e (inr (f, w)) = inr (f, inr (inr (inl (e, w))))
-
-  sign_message : (n : ℕ) (u : Tree) → n ≡ 98 → ((m : SignFields) × HasSign l.nesting u m l.layers) ⊎ ((e : CoseFault) × WrongSign l.nesting u l.layers e) → MessageCase n u
-  sign_message n u e (inl (m, h)) = inl (sign m, sym e, h)
-  sign_message n u e (inr (f, w)) = inr (f, inr (inr (inr (e, w))))
-
-  message_case : (n : ℕ) (u : Tree) → IsMessageTag n → Low u → MessageCase n u
-  message_case n u (inl e) low = mac0_message n u e (mac0_case l.nesting l.layers u low)
-  message_case n u (inr (inl e)) low = sign1_message n u e (sign1_case l.nesting l.layers u low)
-  message_case n u (inr (inr (inl e))) low = mac_message n u e (mac_case l.nesting l.layers u low)
-  message_case n u (inr (inr (inr e))) low = sign_message n u e (sign_case l.nesting l.layers u low)
+  message_case : (k : Kind) (u : Tree) → Low u → MessageCase k u
+  message_case kind.Sign1 u low = of_kind kind.Sign1 u sign1 (λ m. HasSign1 l.nesting u m l.layers) (λ m h. (refl, h)) (sign1_case l.nesting l.layers u low)
+  message_case kind.Mac0 u low = of_kind kind.Mac0 u mac0 (λ m. HasMac0 l.nesting u m l.layers) (λ m h. (refl, h)) (mac0_case l.nesting l.layers u low)
+  message_case kind.Sign u low = of_kind kind.Sign u sign (λ m. HasSign l.nesting u m l.layers) (λ m h. (refl, h)) (sign_case l.nesting l.layers u low)
+  message_case kind.Mac u low = of_kind kind.Mac u mac (λ m. HasMac l.nesting u m l.layers) (λ m h. (refl, h)) (mac_case l.nesting l.layers u low)
 
   unsigned_cases : (m : MessageFields) → IsUnsigned m ⊎ (IsUnsigned m → ⊥)
   unsigned_cases (sign1 m) = inr (λ u. u)
@@ -73,20 +62,14 @@ module _ (l : Limits) where
   unsigned_cases (mac m) = inr (λ u. u)
 
   tag_cases : (n : ℕ) → IsMessageTag n ⊎ (IsMessageTag n → ⊥)
-  tag_cases n = go (cases_eq n 17) (cases_eq n 18) (cases_eq n 97) (cases_eq n 98)
+  tag_cases n = go (cases_eq n 18) (cases_eq n 17) (cases_eq n 98) (cases_eq n 97)
     where
-      none : (n ≡ 17 → ⊥) → (n ≡ 18 → ⊥) → (n ≡ 97 → ⊥) → (n ≡ 98 → ⊥) → IsMessageTag n → ⊥
-      none a b c d (inl e) = a e
-      none a b c d (inr (inl e)) = b e
-      none a b c d (inr (inr (inl e))) = c e
-      none a b c d (inr (inr (inr e))) = d e
-
-      go : (n ≡ 17) ⊎ (n ≡ 17 → ⊥) → (n ≡ 18) ⊎ (n ≡ 18 → ⊥) → (n ≡ 97) ⊎ (n ≡ 97 → ⊥) → (n ≡ 98) ⊎ (n ≡ 98 → ⊥) → IsMessageTag n ⊎ (IsMessageTag n → ⊥)
-      go (inl e) b c d = inl (inl e)
-      go (inr a) (inl e) c d = inl (inr (inl e))
-      go (inr a) (inr b) (inl e) d = inl (inr (inr (inl e)))
-      go (inr a) (inr b) (inr c) (inl e) = inl (inr (inr (inr e)))
-      go (inr a) (inr b) (inr c) (inr d) = inr (none a b c d)
+      go : (n ≡ 18) ⊎ (n ≡ 18 → ⊥) → (n ≡ 17) ⊎ (n ≡ 17 → ⊥) → (n ≡ 98) ⊎ (n ≡ 98 → ⊥) → (n ≡ 97) ⊎ (n ≡ 97 → ⊥) → IsMessageTag n ⊎ (IsMessageTag n → ⊥)
+      go (inl e) b c d = inl (kind.Sign1, e)
+      go (inr a) (inl e) c d = inl (kind.Mac0, e)
+      go (inr a) (inr b) (inl e) d = inl (kind.Sign, e)
+      go (inr a) (inr b) (inr c) (inl e) = inl (kind.Mac, e)
+      go (inr a) (inr b) (inr c) (inr d) = inr (no_message_tag n a b c d)
 
   encrypted_cases : (n : ℕ) → IsEncryptedTag n ⊎ (IsEncryptedTag n → ⊥)
   encrypted_cases n = go (cases_eq n 16) (cases_eq n 96)
@@ -110,14 +93,14 @@ module _ (l : Limits) where
   judged_or_not b t m i (inr c) (inr u) (inl x) = (judged m, ((i, c, u), x))
   judged_or_not b t m i (inr c) (inr u) (inr (r, x)) = (excluded m r, ((i, c, u), x))
 
-  message_found : (b : List ℕ) (n : ℕ) (u : Tree) → MessageCase n u → Found b (tag n u)
-  message_found b n u (inl (m, e, h)) =
-      judged_or_not b (tag n u) m (u, ap (λ z. tag z u) (sym e), h) (option_cases (payload_of m)) (unsigned_cases m) (option_cases (l.excludes b m))
-  message_found b n u (inr (f, w)) = (barred shape, (f, (n, u, refl, w)))
+  message_found : (b : List ℕ) (k : Kind) (u : Tree) → MessageCase k u → Found b (tag (number_of k) u)
+  message_found b k u (inl (m, e, h)) =
+      judged_or_not b (tag (number_of k) u) m (u, ap (λ j. tag (number_of j) u) (sym e), h) (option_cases (payload_of m)) (unsigned_cases m) (option_cases (l.excludes b m))
+  message_found b k u (inr (f, w)) = (barred shape, (f, (k, u, refl, w)))
 
   tag_found : (b : List ℕ) (n : ℕ) (u : Tree) → Low u → IsEncryptedTag n ⊎ (IsEncryptedTag n → ⊥) → IsMessageTag n ⊎ (IsMessageTag n → ⊥) → Found b (tag n u)
   tag_found b n u low (inl e) m = (barred encrypted, (n, u, refl, e))
-  tag_found b n u low (inr e) (inl m) = message_found b n u (message_case n u m low)
+  tag_found b n u low (inr e) (inl (k, is)) = subst (λ (z : ℕ). Found b (tag z u)) (sym is) (message_found b k u (message_case k u low))
   tag_found b n u low (inr e) (inr m) = (barred (other_tag n), (u, refl, e, m))
 
   pub finding_there : (b : List ℕ) (t : Tree) → Low t → (f : Finding) × Finds l b t f
@@ -152,7 +135,7 @@ error_there unregistered = (code.UnregisteredIanaValue, refl)
 error_there unregistered_private = (code.UnregisteredIanaNonPrivateValue, refl)
 error_there no_memory = (code.Memory, refl)
 error_there too_many_layers = (code.TooManyLayers, refl)
-error_there misplaced = (code.DecodeFailed (de.Semantic (Some 0) kind.WrongType), refl)
+error_there misplaced = (code.DecodeFailed (de.Semantic (Some 0) semantic_kind.WrongType), refl)
 
 module _ (l : Limits) (allows : Question → Bool) (aad : List ℕ) where
   verdict_there : (b : List ℕ) (t : Tree) (f : Finding) → Finds l b t f → (v : Verdict) × IsVerdict l allows aad t f v
@@ -161,9 +144,9 @@ module _ (l : Limits) (allows : Question → Bool) (aad : List ℕ) where
   verdict_there b t (barred not_tagged) h = (Refused refusal.NotTagged, refl)
   verdict_there b t (barred encrypted) h = (Refused refusal.Encrypted, refl)
   verdict_there b t (barred (other_tag n)) h = (Refused (refusal.OtherTag n), refl)
-  verdict_there b t (barred shape) (f, (n, u, e, w)) =
+  verdict_there b t (barred shape) (f, (k, u, e, w)) =
       let x = error_there f in
-      (Refused (refusal.Shape x.0), (x.0, refl, (n, u, e, subst (WrongMessage l n u) (sym x.1) w)))
+      (Refused (refusal.Shape x.0), (x.0, refl, (k, u, e, subst (WrongMessage l k u) (sym x.1) w)))
   verdict_there b t (barred detached) h = (Refused refusal.Detached, refl)
   verdict_there b t (barred no_signature) h = (Refused refusal.NoSignature, refl)
 

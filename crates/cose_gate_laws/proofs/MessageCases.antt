@@ -1,21 +1,23 @@
 -- A value has the fields of a message of each kind, or a fault as one.
-use Rattle.std.proofs.Common.{◌≡◌, ℕ, zero, suc, ◌<◌, ◌≤◌, ◌⊎◌, inl, inr, List, [], ◌∷◌, ◌++◌, false, Option, Some, None, refl, sym, ap, subst, arith}
+use Rattle.std.proofs.Common.{◌≡◌, ◌≢◌, ℕ, zero, suc, ◌<◌, ◌≤◌, ◌⊎◌, inl, inr, List, [], ◌∷◌, ◌++◌, false, Option, Some, None, refl, sym, ap, subst, arith}
 use Rattle.std.proofs.lemmas.Bool.{cases_eq}
-use Rattle.ciborium_value.specs.Tree.{Tree, integer, bytes, text, array, map as map_tree, tag, simple, float, Trees, no_trees, one_more, is_bytes}
+use Rattle.ciborium_value.specs.Tree.{Tree, integer, bytes, text, array, map as map_tree, tag, simple, float, Trees, no_trees, one_more, tree_count, is_bytes}
 use Rattle.ciborium_value.specs.View.{trees}
 use Rattle.coset_labels.specs.Faults.{CoseFault, unexpected}
+use Rattle.coset_labels.specs.Kinds.{is_array}
 use Rattle.coset_headers.specs.Fields.{HeaderFields, ProtectedFields, SignatureFields, signatures, Signatures, no_signatures, signature_more}
 use Rattle.coset_headers.specs.Headers.{HasSignatures}
 use Rattle.coset_headers.specs.Weight.{weight, weight_all}
-use Rattle.cose_gate_core.specs.PartShapes.{HasParts}
-use Rattle.cose_gate_core.specs.WrongParts.{WrongParts, in_protected, in_unprotected, in_content}
+use Rattle.cose_gate_core.specs.PartShapes.{HasParts, HasWhole}
+use Rattle.cose_gate_core.specs.WrongParts.{WrongParts, in_protected, in_unprotected, in_content, WrongWhole}
+use Rattle.cose_gate_core.specs.WrongParts as whole
 use Rattle.cose_gate_core.specs.RecipientFields.{RecipientFields, recipient, RecipientsFields, no_recipients, recipient_more}
 use Rattle.cose_gate_core.specs.RecipientShapes.{three_or_four, HasRecipient, HasRecipients, HasList}
 use Rattle.cose_gate_core.specs.WrongRecipients.{WrongRecipient, no_array, not_three_or_four, in_parts, in_fourth, WrongList, no_list, in_list}
 use Rattle.cose_gate_core.specs.SignedFields.{Sign1Fields, SignFields}
-use Rattle.cose_gate_core.specs.SignedShapes.{four_items, HasFour, IsSignatureList, HasSign1, HasSign}
-use Rattle.cose_gate_core.specs.WrongSigned.{WrongFour, not_four, IsNoBytes, whatever, WrongSignatureList, WrongSign1, WrongSign}
-use Rattle.cose_gate_core.specs.WrongSigned.{in_parts as in_parts_of_four, in_last, no_list as no_signature_list, in_list as in_signature_list}
+use Rattle.cose_gate_core.specs.SignedShapes.{IsSignatureList, HasSign1, HasSign}
+use Rattle.cose_gate_core.specs.WrongSigned.{IsNoBytes, whatever, WrongSignatureList, WrongSign1, WrongSign}
+use Rattle.cose_gate_core.specs.WrongSigned.{no_list as no_signature_list, in_list as in_signature_list}
 use Rattle.cose_gate_laws.proofs.Lows.{Low, LowAll}
 use Rattle.cose_gate_laws.proofs.FieldCases.{list_of, list_trees}
 use Rattle.cose_gate_laws.proofs.HeaderCases.{HeaderCase, ProtectedCase, AllLighter, all_lighter, header_case, one_protected_case, NoSignatureIn, signatures_case}
@@ -139,31 +141,37 @@ list_case n k t low = list_step n k (weight t) (λ u l low'. recipient_case n k 
 -- ---- signed messages
 module _ (n k : ℕ) (F : Type 0) (Has : F → Tree → Type 0) (Wrong : Tree → CoseFault → Type 0) (last : (d : Tree) → Low d → ((f : F) × Has f d) ⊎ ((e : CoseFault) × Wrong d e)) where
   abbrev FourCase : Tree → Type 0
-  FourCase t = ((p : ProtectedFields) × (u : HeaderFields) × (c : Option (List ℕ)) × (f : F) × HasFour n t p u c (Has f) k) ⊎ ((e : CoseFault) × WrongFour n t Wrong k e)
+  FourCase t = ((p : ProtectedFields) × (u : HeaderFields) × (c : Option (List ℕ)) × (f : F) × HasWhole n t p u c (Has f ∷ []) k) ⊎ ((e : CoseFault) × WrongWhole n t (Wrong ∷ []) k e)
 
-  four_of : (a b c d : Tree) → PartsCase n a b c k → ((f : F) × Has f d) ⊎ ((e : CoseFault) × Wrong d e) → FourCase (four_items a b c d)
-  four_of a b c d (inr (e, x)) l = inr (e, in_parts_of_four a b c d e refl x)
-  four_of a b c d (inl h) (inr (e, x)) = inr (e, in_last a b c d e refl x)
+  four_of : (a b c d : Tree) → PartsCase n a b c k → ((f : F) × Has f d) ⊎ ((e : CoseFault) × Wrong d e) → FourCase (array (trees (a ∷ b ∷ c ∷ d ∷ [])))
+  four_of a b c d (inr (e, x)) l = inr (e, whole.in_parts a b c (d ∷ []) e refl refl x)
+  four_of a b c d (inl h) (inr (e, x)) = inr (e, whole.in_lasts a b c (d ∷ []) e refl refl (inl x))
   four_of a b c d (inl (p, u, m, h)) (inl (f, x)) = inl (p, u, m, f, record { first = a; second = b; third = c; lasts = d ∷ []; is = refl; parts = h; hold = (x, tt) })
 
+  no_four : (t : Tree) → is_array t ≡ false → FourCase t
+  no_four t x = inr (unexpected, whole.no_array x)
+
+  not_four : (ts : Trees) → tree_count ts ≢ 4 → FourCase (array ts)
+  not_four ts x = inr (unexpected, whole.not_as_many ts refl x)
+
   four_trees : (ts : Trees) → LowAll ts → FourCase (array ts)
-  four_trees no_trees low = inr (unexpected, not_four (inr (no_trees, refl, λ e. omega (arith, e))))
-  four_trees (one_more a no_trees) low = inr (unexpected, not_four (inr (one_more a no_trees, refl, λ e. omega (arith, e))))
-  four_trees (one_more a (one_more b no_trees)) low = inr (unexpected, not_four (inr (one_more a (one_more b no_trees), refl, λ e. omega (arith, e))))
-  four_trees (one_more a (one_more b (one_more c no_trees))) low = inr (unexpected, not_four (inr (one_more a (one_more b (one_more c no_trees)), refl, λ e. omega (arith, e))))
+  four_trees no_trees low = not_four no_trees (λ e. omega (arith, e))
+  four_trees (one_more a no_trees) low = not_four (one_more a no_trees) (λ e. omega (arith, e))
+  four_trees (one_more a (one_more b no_trees)) low = not_four (one_more a (one_more b no_trees)) (λ e. omega (arith, e))
+  four_trees (one_more a (one_more b (one_more c no_trees))) low = not_four (one_more a (one_more b (one_more c no_trees))) (λ e. omega (arith, e))
   four_trees (one_more a (one_more b (one_more c (one_more d no_trees)))) low = four_of a b c d (parts_case n k a b c low.0 low.1.0) (last d low.1.1.1.0)
   four_trees (one_more a (one_more b (one_more c (one_more d (one_more f ts))))) low =
-      inr (unexpected, not_four (inr (one_more a (one_more b (one_more c (one_more d (one_more f ts)))), refl, λ e. omega (arith, e))))
+      not_four (one_more a (one_more b (one_more c (one_more d (one_more f ts))))) (λ e. omega (arith, e))
 
   four_case : (t : Tree) → Low t → FourCase t
   four_case (array ts) low = four_trees ts low
-  four_case (bytes b) low = inr (unexpected, not_four (inl refl))
-  four_case (integer i) low = inr (unexpected, not_four (inl refl))
-  four_case (text b) low = inr (unexpected, not_four (inl refl))
-  four_case (map_tree ps) low = inr (unexpected, not_four (inl refl))
-  four_case (tag m t) low = inr (unexpected, not_four (inl refl))
-  four_case (simple m) low = inr (unexpected, not_four (inl refl))
-  four_case (float f) low = inr (unexpected, not_four (inl refl))
+  four_case (bytes b) low = no_four (bytes b) refl
+  four_case (integer i) low = no_four (integer i) refl
+  four_case (text b) low = no_four (text b) refl
+  four_case (map_tree ps) low = no_four (map_tree ps) refl
+  four_case (tag m t) low = no_four (tag m t) refl
+  four_case (simple m) low = no_four (simple m) refl
+  four_case (float f) low = no_four (float f) refl
 
 pub sign1_case : (n k : ℕ) (t : Tree) → Low t → ((m : Sign1Fields) × HasSign1 n t m k) ⊎ ((e : CoseFault) × WrongSign1 n t k e)
 sign1_case n k t low = go (four_case n k (List ℕ) (λ b d. d ≡ bytes b) IsNoBytes (λ d l. string d (string_case d)) t low)

@@ -1,14 +1,15 @@
 -- What holds of both kinds of message.
 use Rattle.std.proofs.Common.{◌≡◌, ◌≢◌, ℕ, inl, inr, List, [], ◌∷◌, false, None, Some, refl, sym, ◌∙◌, arith}
 use Rattle.ciborium_value.specs.Tree.{Tree, array, tag, Trees, tree_count, bytes, is_bytes}
+use Rattle.ciborium_value.specs.View.{trees}
 use Rattle.coset_headers.specs.Fields.{HeaderFields, ProtectedFields, protected}
 use Rattle.coset_headers.specs.Headers.{HasProtected, HasHeader}
 use Rattle.coset_headers.specs.Written.{shown}
 use Rattle.coset_labels.specs.Faults.{CoseFault, unexpected}
 use Rattle.coset_labels.specs.Kinds.{is_array}
 use Rattle.cose_gate_core.specs.WrongParts.{WrongParts}
-use Rattle.cose_gate_core.specs.SignedShapes.{four_items}
-use Rattle.cose_gate_core.specs.WrongSigned.{WrongSign1, not_four, in_parts, in_last}
+use Rattle.cose_gate_core.specs.WrongParts as whole
+use Rattle.cose_gate_core.specs.WrongSigned.{WrongSign1}
 use Rattle.cose_gate_core.specs.WrongMaced.{WrongMac0, no_array0, in_parts0, in_tag0}
 use Rattle.cose_gate_core.specs.WrongMaced as maced
 use Rattle.coset_structures.specs.Structure.{structure}
@@ -41,26 +42,29 @@ WrongForm l form.Sign1 u e = WrongSign1 l.nesting u l.layers e
 WrongForm l form.Mac0 u e = WrongMac0 l.nesting u l.layers e
 
 pub shaped : (l : Limits) (f : Form) (t u : Tree) (e : CoseFault) → t ≡ tag (tag_number f) u → WrongForm l f u e → IsMisshapen l t e
-shaped l f t u e is w = (tag_number f, u, is, wrong f w)
+shaped l f t u e is w = (kind_of f, u, is, wrong f w)
   where
-    wrong : (f : Form) → WrongForm l f u e → WrongMessage l (tag_number f) u e
-    wrong form.Sign1 w = inl (refl, w)
-    wrong form.Mac0 w = inr (inl (refl, w))
+    wrong : (f : Form) → WrongForm l f u e → WrongMessage l (kind_of f) u e
+    wrong form.Sign1 w = w
+    wrong form.Mac0 w = w
 
 pub no_array : (l : Limits) (f : Form) (u : Tree) → is_array u ≡ false → WrongForm l f u unexpected
-no_array l form.Sign1 u n = not_four (inl n)
+no_array l form.Sign1 u n = whole.no_array n
 no_array l form.Mac0 u n = no_array0 u l.layers n
 
 pub not_four_items : (l : Limits) (f : Form) (ts : Trees) → tree_count ts ≢ 4 → WrongForm l f (array ts) unexpected
-not_four_items l form.Sign1 ts n = not_four (inr (ts, refl, n))
+not_four_items l form.Sign1 ts n = whole.not_as_many ts refl n
 not_four_items l form.Mac0 ts n = maced.not_four ts l.layers n
 
+abbrev pub four_items : Tree → Tree → Tree → Tree → Tree
+four_items a b c d = array (trees (a ∷ b ∷ c ∷ d ∷ []))
+
 pub wrong_parts : (l : Limits) (f : Form) (a b c d : Tree) (e : CoseFault) → WrongParts l.nesting a b c l.layers e → WrongForm l f (four_items a b c d) e
-wrong_parts l form.Sign1 a b c d e w = in_parts a b c d e refl w
+wrong_parts l form.Sign1 a b c d e w = whole.in_parts a b c (d ∷ []) e refl refl w
 wrong_parts l form.Mac0 a b c d e w = in_parts0 a b c d l.layers e w
 
 pub wrong_last : (l : Limits) (f : Form) (a b c d : Tree) → is_bytes d ≡ false → WrongForm l f (four_items a b c d) unexpected
-wrong_last l form.Sign1 a b c d n = in_last a b c d unexpected refl (n, refl)
+wrong_last l form.Sign1 a b c d n = whole.in_lasts a b c (d ∷ []) unexpected refl refl (inl (n, refl))
 wrong_last l form.Mac0 a b c d n = in_tag0 a b c d l.layers n
 
 -- a form by its tag

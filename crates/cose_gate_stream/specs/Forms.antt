@@ -5,19 +5,18 @@ use Rattle.coset_headers.specs.Fields.{HeaderFields, ProtectedFields, protected}
 use Rattle.coset_structures.specs.Contexts.{signature_text, mac_text}
 use Rattle.coset_structures.specs.declared.context.SignatureContext.TheVariants.{CoseSign1}
 use Rattle.coset_structures.specs.declared.context.MacContext.TheVariants.{CoseMac0}
-use Rattle.cose_gate_core.specs.Questions.{MessageFields, sign1, mac0}
+use Rattle.cose_gate_core.specs.Questions.{MessageFields, sign1, mac0, number_of}
 use Rattle.cose_gate_core.specs.declared.about.Kind.{Kind}
 use Rattle.cose_gate_core.specs.declared.about.Kind.TheVariants as kind
 use Rattle.cose_gate_stream.specs.declared.form.Form.{Form}
 use Rattle.cose_gate_stream.specs.declared.form.Form.TheVariants as form
 
-abbrev pub tag_number : Form → ℕ
-tag_number form.Sign1 = 18
-tag_number form.Mac0 = 17
-
 abbrev pub kind_of : Form → Kind
 kind_of form.Sign1 = kind.Sign1
 kind_of form.Mac0 = kind.Mac0
+
+abbrev pub tag_number : Form → ℕ
+tag_number f = number_of (kind_of f)
 
 -- the text that stands first in its structure
 abbrev pub context_of : Form → List ℕ

@@ -57,6 +57,7 @@ pub use Rattle.coset_messages.specs.Added
 pub use Rattle.coset_messages.specs.SignedFields
 pub use Rattle.coset_messages.specs.SignedShapes
 pub use Rattle.coset_messages.specs.SignedStructure
+pub use Rattle.coset_messages.specs.SignedBuilders
 pub use Rattle.coset_messages.specs.SignedView
 pub use Rattle.coset_messages.specs.SignedWritten
 pub use Rattle.coset_messages.specs.WrongSigned

@@ -67,7 +67,9 @@ impl HeaderBuilder {
 
     /// Sets the algorithm.
     pub fn algorithm(mut self, alg: iana::Algorithm) -> HeaderBuilder
-        ensures { header_so_far result ≡ given (λ p. record p { alg = Some (assigned (algorithm_number alg)) }) (header_so_far self) }
+        ensures { header_so_far result
+            ≡ given (λ p. record p { alg = Some (assigned (algorithm_number alg)) })
+            (header_so_far self) }
     {
         self.alg = Some(RegisteredLabelWithPrivate::Assigned(alg));
         self
@@ -75,7 +77,9 @@ impl HeaderBuilder {
 
     /// Sets the algorithm, which may be for private use or a text.
     pub fn algorithm_label(mut self, alg: Algorithm) -> HeaderBuilder
-        ensures { header_so_far result ≡ given (λ p. record p { alg = Some (named_view algorithm_number alg) }) (header_so_far self) }
+        ensures { header_so_far result
+            ≡ given (λ p. record p { alg = Some (named_view algorithm_number alg) })
+            (header_so_far self) }
     {
         self.alg = Some(alg);
         self
@@ -87,7 +91,8 @@ impl HeaderBuilder {
     /// Only where memory is refused.
     pub fn add_critical(self, label: iana::HeaderParameter) -> Result<HeaderBuilder, CoseError>
         ensures { MatchResult result (λ b. header_so_far b
-            ≡ given (λ p. record p { crit = p.crit ++ assigned (header_parameters.number label) ∷ [] }) (header_so_far self))
+            ≡ given (λ p. record p
+            { crit = p.crit ++ assigned (header_parameters.number label) ∷ [] }) (header_so_far self))
             (λ e. e ≡ Memory) }
     {
         self.add_critical_label(RegisteredLabelWithPrivate::Assigned(label))
@@ -102,7 +107,8 @@ impl HeaderBuilder {
         label: RegisteredLabelWithPrivate<iana::HeaderParameter>,
     ) -> Result<HeaderBuilder, CoseError>
         ensures { MatchResult result (λ b. header_so_far b
-            ≡ given (λ p. record p { crit = p.crit ++ named_view header_parameters.number label ∷ [] }) (header_so_far self))
+            ≡ given (λ p. record p
+            { crit = p.crit ++ named_view header_parameters.number label ∷ [] }) (header_so_far self))
             (λ e. e ≡ Memory) }
     {
         self.crit.push(label)?;
@@ -111,7 +117,9 @@ impl HeaderBuilder {
 
     /// Sets the type of the content, by its number.
     pub fn content_format(mut self, format: iana::CoapContentFormat) -> HeaderBuilder
-        ensures { header_so_far result ≡ given (λ p. record p { content_type = Some (assigned (coap_content_formats.number format)) })
+        ensures { header_so_far result
+            ≡ given
+            (λ p. record p { content_type = Some (assigned (coap_content_formats.number format)) })
             (header_so_far self) }
     {
         self.content_type = Some(RegisteredLabel::Assigned(format));
@@ -120,7 +128,9 @@ impl HeaderBuilder {
 
     /// Sets the type of the content, by its text.
     pub fn content_type(mut self, text: String) -> HeaderBuilder
-        ensures { header_so_far result ≡ given (λ p. record p { content_type = Some (named (string_bytes text)) }) (header_so_far self) }
+        ensures { header_so_far result
+            ≡ given (λ p. record p { content_type = Some (named (string_bytes text)) })
+            (header_so_far self) }
     {
         self.content_type = Some(RegisteredLabel::Text(text));
         self
@@ -128,7 +138,8 @@ impl HeaderBuilder {
 
     /// Sets the key id.
     pub fn key_id(mut self, key_id: Vec<u8>) -> HeaderBuilder
-        ensures { header_so_far result ≡ given (λ p. record p { key_id = key_id.items }) (header_so_far self) }
+        ensures { header_so_far result
+            ≡ given (λ p. record p { key_id = key_id.items }) (header_so_far self) }
     {
         self.key_id = key_id;
         self
@@ -136,7 +147,8 @@ impl HeaderBuilder {
 
     /// Sets the IV, and clears the partial IV: a header has one of them at most.
     pub fn iv(mut self, iv: Vec<u8>) -> HeaderBuilder
-        ensures { header_so_far result ≡ given (λ p. record p { iv = iv.items; partial_iv = [] }) (header_so_far self) }
+        ensures { header_so_far result
+            ≡ given (λ p. record p { iv = iv.items; partial_iv = [] }) (header_so_far self) }
     {
         self.iv = iv;
         self.partial_iv.clear();
@@ -145,7 +157,9 @@ impl HeaderBuilder {
 
     /// Sets the partial IV, and clears the IV: a header has one of them at most.
     pub fn partial_iv(mut self, partial_iv: Vec<u8>) -> HeaderBuilder
-        ensures { header_so_far result ≡ given (λ p. record p { iv = []; partial_iv = partial_iv.items }) (header_so_far self) }
+        ensures { header_so_far result
+            ≡ given (λ p. record p { iv = []; partial_iv = partial_iv.items })
+            (header_so_far self) }
     {
         self.partial_iv = partial_iv;
         self.iv.clear();
@@ -160,7 +174,8 @@ impl HeaderBuilder {
         mut self,
         signature: CoseSignature,
     ) -> Result<HeaderBuilder, CoseError>
-        ensures { MatchResult result (λ b. header_so_far b ≡ also_signed (signature_view signature) (header_so_far self))
+        ensures { MatchResult result
+            (λ b. header_so_far b ≡ also_signed (signature_view signature) (header_so_far self))
             (λ e. e ≡ Memory) }
     {
         self.counter_signatures.push(signature)?;
@@ -174,7 +189,8 @@ impl HeaderBuilder {
     pub fn value(mut self, label: i64, value: Value) -> Result<HeaderBuilder, CoseError>
         requires { is_core (number label) ≡ false }
         ensures { MatchResult result (λ b. header_so_far b
-            ≡ given (λ p. record p { rest = p.rest ++ (number label, view value) ∷ [] }) (header_so_far self)) (λ e. e ≡ Memory) }
+            ≡ given (λ p. record p { rest = p.rest ++ (number label, view value) ∷ [] })
+            (header_so_far self)) (λ e. e ≡ Memory) }
     {
         self.rest.push((Label::Int(label), value))?;
         Ok(self)
@@ -186,7 +202,8 @@ impl HeaderBuilder {
     /// Only where memory is refused.
     pub fn text_value(mut self, label: String, value: Value) -> Result<HeaderBuilder, CoseError>
         ensures { MatchResult result (λ b. header_so_far b
-            ≡ given (λ p. record p { rest = p.rest ++ (words (string_bytes label), view value) ∷ [] }) (header_so_far self))
+            ≡ given (λ p. record p
+            { rest = p.rest ++ (words (string_bytes label), view value) ∷ [] }) (header_so_far self))
             (λ e. e ≡ Memory) }
     {
         self.rest.push((Label::Text(label), value))?;

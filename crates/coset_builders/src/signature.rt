@@ -52,7 +52,8 @@ impl CoseSignatureBuilder {
 
     /// Sets the unprotected header.
     pub fn unprotected(mut self, header: Header) -> CoseSignatureBuilder
-        ensures { signature_so_far result ≡ signature (protected_view self.protected) (header_view header) self.signature.items }
+        ensures { signature_so_far result
+            ≡ signature (protected_view self.protected) (header_view header) self.signature.items }
     {
         self.unprotected = header;
         self
@@ -60,7 +61,8 @@ impl CoseSignatureBuilder {
 
     /// Sets the signature's bytes.
     pub fn signature(mut self, bytes: Vec<u8>) -> CoseSignatureBuilder
-        ensures { signature_so_far result ≡ signature (protected_view self.protected) (header_view self.unprotected) bytes.items }
+        ensures { signature_so_far result
+            ≡ signature (protected_view self.protected) (header_view self.unprotected) bytes.items }
     {
         self.signature = bytes;
         self

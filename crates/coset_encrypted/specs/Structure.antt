@@ -5,8 +5,8 @@ use Rattle.coset_structures.specs.Structure.{encryption_structure}
 use Rattle.coset_structures.specs.declared.context.EncryptionContext.TheVariants.{CoseEncrypt, CoseEncrypt0}
 use Rattle.coset_encrypted.specs.Fields.{Encrypt0Fields, EncryptFields}
 
-abbrev pub encrypt0_structure : Encrypt0Fields → List ℕ → Option (List ℕ)
-encrypt0_structure m aad = encryption_structure (encryption_text CoseEncrypt0) m.protected aad
+abbrev pub encrypt0_covered : Encrypt0Fields → List ℕ → Option (List ℕ)
+encrypt0_covered m aad = encryption_structure (encryption_text CoseEncrypt0) m.protected aad
 
-abbrev pub encrypt_structure : EncryptFields → List ℕ → Option (List ℕ)
-encrypt_structure m aad = encryption_structure (encryption_text CoseEncrypt) m.protected aad
+abbrev pub encrypt_covered : EncryptFields → List ℕ → Option (List ℕ)
+encrypt_covered m aad = encryption_structure (encryption_text CoseEncrypt) m.protected aad

@@ -1,13 +1,14 @@
 //! The COSE_Encrypt message.
-ghost use Rattle.std.specs.Prelude.{◌≡◌, IsSome, IfSome, IfNone, IsSomeAnd, IfOk, MatchOption};
+ghost use Rattle.std.specs.Prelude.{◌≡◌, IsSome, IfSome, IfNone, IsSomeAnd, IfOk, MatchOption, MatchResult, Some};
+ghost use Rattle.coset_labels.specs.Faults.{CantWrite};
 ghost use Rattle.coset_message_parts.specs.Calls.{TakesPairWhere, AnswersWhere, AnswersMissing};
 ghost use Rattle.coset_encrypted.specs.Fields.{no_encrypt};
-ghost use Rattle.coset_encrypted.specs.Structure.{encrypt_structure};
+ghost use Rattle.coset_encrypted.specs.Structure.{encrypt_covered};
 ghost use Rattle.coset_encrypted.specs.View.{encrypt_view};
 
 use coset_headers::{Header, ProtectedHeader};
-use coset_labels::Fault;
-use coset_message_parts::{clone_bytes, content_bytes};
+use coset_labels::{CoseError, Fault, clone_bytes};
+use coset_message_parts::content_bytes;
 use coset_recipients::{CoseRecipient, clone_recipients};
 use coset_structures::{EncryptionContext, enc_structure_data};
 use std::alloc::{AllocError, Global};
@@ -57,6 +58,18 @@ impl CoseEncrypt {
         })
     }
 
+    /// The bytes that the ciphertext covers beside the plaintext, the Enc_structure (RFC 9052, section 5.3).
+    ///
+    /// # Errors
+    /// `DuplicateMapKey` exactly where a label stands twice in a protected header that has to be encoded, or `Memory`.
+    pub fn covered(&self, alloc: Global, aad: &[u8]) -> Result<Vec<u8>, CoseError>
+        ensures { MatchResult result
+            (λ v. encrypt_covered (encrypt_view self.now) aad.now ≡ Some v.items)
+            (λ e. CantWrite (encrypt_covered (encrypt_view self.now) aad.now) e) }
+    {
+        enc_structure_data(alloc, EncryptionContext::CoseEncrypt, &self.protected, aad)
+    }
+
     /// Asks the cipher for the plaintext (RFC 9052, section 5.3). The cipher is handed the ciphertext and the Enc_structure of the
     /// protected header and the external data.
     ///
@@ -71,12 +84,14 @@ impl CoseEncrypt {
     ) -> Result<Vec<u8>, Fault<E>>
         requires present { IsSome self.now.ciphertext }
         requires cipher { IfSome self.now.ciphertext
-            (λ b. TakesPairWhere C.FnOnce cipher b.items (encrypt_structure (encrypt_view self.now) aad.now)) }
+            (λ b. TakesPairWhere C.FnOnce cipher b.items
+            (encrypt_covered (encrypt_view self.now) aad.now)) }
         ensures { IsSomeAnd self.now.ciphertext
-            (λ b. AnswersWhere C.FnOnce cipher b.items (encrypt_structure (encrypt_view self.now) aad.now) result) }
+            (λ b. AnswersWhere C.FnOnce cipher b.items
+            (encrypt_covered (encrypt_view self.now) aad.now) result) }
     {
         let ciphertext = content_bytes(&self.ciphertext);
-        let data = enc_structure_data(alloc, EncryptionContext::CoseEncrypt, &self.protected, aad)?;
+        let data = self.covered(alloc, aad)?;
         cipher(ciphertext, data.as_slice()).map_err(Fault::Caller)
     }
 
@@ -93,15 +108,16 @@ impl CoseEncrypt {
     ) -> Result<Vec<u8>, Fault<E>>
         requires missing { IfNone self.now.ciphertext (M.IsAlwaysCallable missing) }
         requires cipher { IfSome self.now.ciphertext
-            (λ b. TakesPairWhere C.FnOnce cipher b.items (encrypt_structure (encrypt_view self.now) aad.now)) }
+            (λ b. TakesPairWhere C.FnOnce cipher b.items
+            (encrypt_covered (encrypt_view self.now) aad.now)) }
         ensures { MatchOption self.now.ciphertext (AnswersMissing M.FnOnce missing result)
-            (λ b. AnswersWhere C.FnOnce cipher b.items (encrypt_structure (encrypt_view self.now) aad.now) result) }
+            (λ b. AnswersWhere C.FnOnce cipher b.items
+            (encrypt_covered (encrypt_view self.now) aad.now) result) }
     {
         match &self.ciphertext {
             None => Err(Fault::Caller(missing())),
             Some(ciphertext) => {
-                let context = EncryptionContext::CoseEncrypt;
-                let covered = enc_structure_data(alloc, context, &self.protected, aad)?;
+                let covered = self.covered(alloc, aad)?;
                 cipher(ciphertext.as_slice(), covered.as_slice()).map_err(Fault::Caller)
             }
         }

@@ -1,14 +1,15 @@
 //! Encrypted messages of COSE (RFC 9052, section 5).
 #![tactic(auto)]
 
-mod builder;
-mod builder0;
 mod encrypt;
 mod encrypt0;
+mod encrypt0_builder;
+mod encrypt0_serial;
+mod encrypt_builder;
+mod encrypt_serial;
 pub mod laws;
-mod serial;
 
-pub use crate::builder::CoseEncryptBuilder;
-pub use crate::builder0::CoseEncrypt0Builder;
 pub use crate::encrypt::CoseEncrypt;
+pub use crate::encrypt_builder::CoseEncryptBuilder;
 pub use crate::encrypt0::CoseEncrypt0;
+pub use crate::encrypt0_builder::CoseEncrypt0Builder;

@@ -1,18 +1,18 @@
 -- A value with a fault has no fields.
-use Rattle.std.proofs.Common.{◌≡◌, ◌≢◌, ℕ, ℤ, ◌-◌, ◌<◌, ◌⊎◌, pos, inl, inr, List, [], ◌∷◌, ◌++◌, length, Bool, true, false, cond, Option, Some, None, option_map, option_and_then, refl, sym, ap, subst, ◌∙◌, arith, append-nil}
+use Rattle.std.proofs.Common.{◌≡◌, ◌≢◌, ℕ, ◌-◌, ◌<◌, ◌⊎◌, pos, inl, inr, List, [], ◌∷◌, ◌++◌, length, true, false, Option, Some, None, option_map, option_and_then, refl, sym, ap, subst, ◌∙◌, arith, append-nil}
 use Rattle.std.proofs.lemmas.List.{append_cancel_left}
 use Rattle.cose_iana.specs.Registry.{is_private_use}
 use Rattle.ciborium_value.specs.Tree.{Tree, integer, bytes, text, array, map as map_tree, tag, simple, float, Trees, no_trees, one_more, tree_count, is_bytes}
 use Rattle.ciborium_value.specs.View.{trees, pairs}
 use Rattle.ciborium.specs.Front.{Reads}
 use Rattle.ciborium.proofs.Excludes.{excludes}
-use Rattle.coset_labels.specs.Fields.{LabelFields, number, Named, private_use, assigned, named}
+use Rattle.coset_labels.specs.Fields.{LabelFields, number, Named, named}
 use Rattle.coset_labels.specs.Faults.{CoseFault}
-use Rattle.coset_labels.specs.Kinds.{is_map, is_array, some_bytes, WrongBytes}
-use Rattle.coset_labels.specs.Labels.{label_of, named_of, registered_of, WrongLabel, WrongNamed, WrongRegistered}
+use Rattle.coset_labels.specs.Kinds.{is_map, is_array, some_bytes}
+use Rattle.coset_labels.specs.Labels.{label_of}
 use Rattle.coset_labels.specs.Reading.{NotReadable, damaged, goes_on}
 use Rattle.coset_headers.specs.Fields.{Plain, HeaderFields, header, ProtectedFields, protected, SignatureFields, signature, Signatures, no_signatures, signature_more, no_header}
-use Rattle.coset_headers.specs.Headers.{is_at, alg_of, parameter_of, parameters_of, crit_of, IsContentType, HasContentType, entries, at, IsIn, Distinct, IsField, IsPlain, IsBare, IsList, list_of_three, HasHeader, HasProtected, HasSignature, HasSigned, HasSignatures}
+use Rattle.coset_headers.specs.Headers.{is_at, alg_of, parameter_of, parameters_of, crit_of, IsContentType, HasContentType, entries, at, Distinct, IsField, IsPlain, IsBare, IsList, list_of_three, HasHeader, HasProtected, HasSignature, HasSigned, HasSignatures}
 use Rattle.coset_headers.specs.Wrong.{WrongCrit, no_crit_list, empty_crit, bad_crit, WrongContentType, no_content_type, empty_text, white_space, no_one_slash, WrongField, wrong_alg, wrong_crit, wrong_content_type, wrong_key_id, wrong_iv, wrong_partial_iv, NoSignature, WrongHeader, no_map, at_entry, WrongEntry, bad_label, label_again, bad_field, two_ivs, bad_signatures, WrongSigned, no_list, no_first, in_bare, in_list, WrongSignature, no_array, not_three, in_protected, in_unprotected, no_bytes, WrongProtected, no_string, too_deep, unreadable, inside}
 use Rattle.coset_labels.specs.Facts.Entries.{label_only}
 use Rattle.coset_labels.specs.Facts.Wrong.{Splits, splits, at_front, snoc_front, again_not, no_label, no_named, no_registered, no_string_there}

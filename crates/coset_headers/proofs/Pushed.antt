@@ -1,5 +1,5 @@
 -- Entries that are appended to a map.
-use Rattle.std.proofs.Common.{◌≡◌, ◌≢◌, pos, inl, inr, false, cond, Vec, Global, List, [], ◌∷◌, ◌++◌, map, Some, None, option_map, refl, sym, ap, ◌∙◌, append-nil, append_assoc}
+use Rattle.std.proofs.Common.{◌≡◌, ◌≢◌, pos, inl, inr, false, cond, Vec, Global, List, [], ◌∷◌, ◌++◌, map, Some, None, option_map, refl, sym, ap, ◌∙◌, append-nil}
 use Rattle.std.proofs.lemmas.List.{map-append}
 use Rattle.ciborium_value.specs.Tree.{Tree, integer, array, map as map_tree, Trees}
 use Rattle.ciborium_value.specs.View.{trees, pairs, view, view_pair}
@@ -10,7 +10,7 @@ use Rattle.coset_labels.specs.Facts.Pushed.{back_one}
 use Rattle.coset_labels.specs.Facts.Pushed as pushed
 use Rattle.coset_labels.specs.Arrays.{all_written, array_of}
 use Rattle.coset_labels.specs.Faults.{CantWrite}
-use Rattle.coset_labels.specs.Fields.{LabelFields, Named}
+use Rattle.coset_labels.specs.Fields.{Named}
 use Rattle.coset_labels.specs.Labels.{label_tree, named_tree}
 use Rattle.coset_labels.specs.View.{label_view}
 use Rattle.coset_labels.specs.declared.error.CoseError.{CoseError}

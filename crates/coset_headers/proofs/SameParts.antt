@@ -12,8 +12,8 @@ use Rattle.ciborium_value.specs.Facts.Derived.{equal_is}
 use Rattle.ciborium_value.specs.View.{view}
 use Rattle.ciborium_value.specs.contracts.value.ValuePartialEq.TheImpl as value_equality
 use Rattle.ciborium_value.specs.declared.value.Value.{Value}
-use Rattle.coset_labels.specs.Fields.{Named}
-use Rattle.coset_labels.specs.Orders.{label_cmp, named_cmp}
+use Rattle.coset_labels.specs.Facts.Equal.{by_name}
+use Rattle.coset_labels.specs.Orders.{label_cmp}
 use Rattle.coset_labels.specs.View.{label_view, registered_view, named_view}
 use Rattle.coset_labels.specs.declared.label.Label.{Label}
 use Rattle.coset_headers.specs.Decided.{trees_decided}
@@ -47,9 +47,6 @@ entries_on [] [] = refl
 entries_on [] (y ∷ ys) = refl
 entries_on (x ∷ xs) [] = refl
 entries_on (x ∷ xs) (y ∷ ys) = λ i. (is_eq (label_cmp (label_view x.0) (label_view y.0)) && values_on x.1 y.1 i) && entries_on xs ys i
-
-abbrev pub by_name : {A : Type 0} → (A → Named) → A → A → Bool
-by_name f x y = is_eq (named_cmp (f x) (f y))
 
 -- the parts of two headers as they are compared, up to each
 module _ (h g : Header) where

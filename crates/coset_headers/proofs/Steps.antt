@@ -1,12 +1,13 @@
 -- What one step of the reader shows, over plain variables.
-use Rattle.std.proofs.Common.{◌≡◌, ◌≢◌, ℕ, ℤ, pos, cond, ◌-◌, ◌<◌, inl, inr, List, [], ◌∷◌, ◌++◌, length, map, Bool, true, false, Option, Some, None, refl, sym, ap, subst, ◌∙◌, arith}
-use Rattle.std.specs.Prelude.{slice_get}
+use Rattle.std.proofs.Common.{◌≡◌, ◌≢◌, ℕ, ℤ, pos, cond, ◌-◌, ◌<◌, inl, inr, List, [], ◌∷◌, ◌++◌, map, Bool, true, false, Option, Some, None, refl, sym, ap, subst, ◌∙◌}
 use Rattle.std.proofs.lemmas.List.{map-append}
 use Rattle.ciborium_value.specs.Tree.{Tree, integer, bytes, text, array, map as map_tree, tag, simple, float, Trees, no_trees, one_more, Pairs, tree_count, is_bytes}
-use Rattle.ciborium_value.specs.View.{trees, pairs, view, views, view_pair, view_pairs}
+use Rattle.ciborium_value.specs.View.{trees, view, views, view_pairs}
 use Rattle.ciborium_value.specs.declared.value.Value.{Value}
 use Rattle.ciborium.specs.Front.{Reads}
 use Rattle.coset_labels.specs.Fields.{LabelFields, number, Named, assigned, named}
+use Rattle.coset_labels.specs.Facts.Walks.{at_fault, entry_read}
+pub use Rattle.coset_labels.specs.Facts.Walks.{passed_on, views_count}
 use Rattle.coset_labels.specs.Faults.{CoseFault, OrMemory, fault_of, unexpected}
 use Rattle.coset_labels.specs.Kinds.{is_map, is_array, some_bytes}
 use Rattle.coset_labels.specs.Labels.{is_i64, label_of, registered_of, WrongLabel}
@@ -15,6 +16,7 @@ use Rattle.coset_labels.specs.declared.error.CoseError.{CoseError}
 use Rattle.coset_labels.specs.declared.error.CoseError.TheVariants as code
 use Rattle.coset_labels.specs.declared.label.Label.{Label}
 use Rattle.coset_labels.specs.declared.seen.Seen.{Seen}
+use Rattle.coset_headers.specs.AsWritten.{is_bare}
 use Rattle.coset_headers.specs.Fields.{Plain, HeaderFields, header, no_plain, no_header, SignatureFields, signatures, Signatures, no_signatures, signature_more}
 use Rattle.coset_headers.specs.Headers.{is_at, entries, at, IsIn, IsPlain, IsBare, IsList, list_of_three, HasHeader, HasSignature, HasSigned, HasSignatures}
 use Rattle.coset_headers.specs.Parts.{plain_of, signs_of, Sees, Known, KnownIn, Added, Filled}
@@ -22,17 +24,9 @@ use Rattle.coset_headers.specs.View.{signature_view, signatures_view}
 use Rattle.coset_headers.specs.Walks.{WrongFill, field_wrong, iv_second, partial_iv_second, WrongInside, is_unreadable, is_wrong, HasEntries, WrongEntries, WrongSignatures}
 use Rattle.coset_headers.specs.Wrong.{WrongField, WrongHeader, no_map, at_entry, WrongEntry, bad_label, bad_field, two_ivs, bad_signatures, WrongSigned, no_list, no_first, in_bare, in_list, NoSignature, WrongSignature, no_array, not_three, in_protected, in_unprotected, no_bytes, WrongProtected, no_string, too_deep, unreadable, inside}
 use Rattle.coset_headers.specs.declared.header.CoseSignature.{CoseSignature}
-use Rattle.coset_headers.specs.declared.parts.Parts.{Parts}
-use Rattle.coset_headers.proofs.Entered.{is_at_is, at_old, at_new, at_none, distinct_snoc, entries_snoc, there, filled_plain, signed_plain, none_plain}
+use Rattle.coset_headers.specs.declared.parts.HeaderParts.{HeaderParts}
+use Rattle.coset_headers.proofs.Entered.{is_at_is, at_old, at_new, at_none, distinct_snoc, there, filled_plain, signed_plain, none_plain}
 use Rattle.coset_headers.proofs.Unique.{plain_once, signed_once}
-
--- the fault that stands there
-at_fault : (P : CoseFault → Type 0) (f : CoseFault) (e : CoseError) → fault_of e ≡ f → P f → OrMemory P e
-at_fault P f e q p = inr (subst P (sym q) p)
-
-pub passed_on : (P Q : CoseFault → Type 0) (e : CoseError) → (P (fault_of e) → Q (fault_of e)) → OrMemory P e → OrMemory Q e
-passed_on P Q e f (inl m) = inl m
-passed_on P Q e f (inr p) = inr (f p)
 
 -- ---- a header
 pub header_kind : (n : ℕ) (t : Tree) (k : ℕ) (e : CoseError) → (fault_of e ≡ unexpected) × (is_map t ≡ false) → OrMemory (WrongHeader n t k) e
@@ -40,7 +34,7 @@ header_kind n t k e p = at_fault (WrongHeader n t k) _ e p.0 (no_map t k p.1)
 
 pub header_inside : (n : ℕ) (t : Tree) (ps : Pairs) (k : ℕ) (e : CoseError) → t ≡ map_tree ps → OrMemory (WrongEntries n ps k) e → OrMemory (WrongHeader n t k) e
 header_inside n t ps k e q w = passed_on (WrongEntries n ps k) (WrongHeader n t k) e
-    (λ x. subst (λ z. WrongHeader n z k (fault_of e)) (ap map_tree (sym x.are) ∙ sym q) (at_entry x.before x.after x.key x.value x.es k (fault_of e) x.read x.wrong)) w
+    (λ x. subst (λ z. WrongHeader n z k (fault_of e)) (ap map_tree (sym x.are) ∙ sym q) (at_entry x.before x.after x.key x.value x.es k (fault_of e) x.read_before x.wrong)) w
 
 pub header_has : (n : ℕ) (t : Tree) (ps : Pairs) (h : HeaderFields) (p : Plain) (ss : Signatures) (k : ℕ) → t ≡ map_tree ps → h ≡ header p ss → HasEntries n ps p ss k → HasHeader n t h k
 header_has n t ps h p ss k q e w = subst (λ z. HasHeader n t z k) (sym e) (ps, w.es, q, w.entries_are, w.known.distinct, w.known.plain, w.known.signed)
@@ -68,7 +62,7 @@ known_more : (n : ℕ) (es : List (LabelFields × Tree)) (p q : Plain) (ss us : 
     → Known n es p ss k → (IsIn m es → ⊥) → IsPlain (es ++ (m, v) ∷ []) q → HasSigned n (at 7 (es ++ (m, v) ∷ [])) us k → Known n (es ++ (m, v) ∷ []) q us k
 known_more n es p q ss us k m v w d pl sg = record { distinct = distinct_snoc es m v w.distinct d; plain = pl; signed = sg }
 
-pub known_filled : (n : ℕ) (es : List (LabelFields × Tree)) (l v : Tree) (seen : Seen Label) (old new : Parts) (k : ℕ) (m : LabelFields)
+pub known_filled : (n : ℕ) (es : List (LabelFields × Tree)) (l v : Tree) (seen : Seen Label) (old new : HeaderParts) (k : ℕ) (m : LabelFields)
     → Known n es (plain_of old) (signs_of old) k → label_of l ≡ Some m → (IsIn m es → ⊥) → ((v : Tree) → Sees seen (es ++ (m, v) ∷ [])) → is_at 7 m ≡ false → Filled m v old new → Added n es l v seen new k
 known_filled n es l v seen old new k m w q d z s f = record {
   label = m;
@@ -81,7 +75,7 @@ known_filled n es l v seen old new k m w q d z s f = record {
   };
 }
 
-pub known_signed : (n : ℕ) (es : List (LabelFields × Tree)) (l v : Tree) (seen : Seen Label) (old new : Parts) (k : ℕ) (m : LabelFields) (ss : Signatures)
+pub known_signed : (n : ℕ) (es : List (LabelFields × Tree)) (l v : Tree) (seen : Seen Label) (old new : HeaderParts) (k : ℕ) (m : LabelFields) (ss : Signatures)
     → Known n es (plain_of old) (signs_of old) k → label_of l ≡ Some m → (IsIn m es → ⊥) → ((v : Tree) → Sees seen (es ++ (m, v) ∷ [])) → is_at 7 m ≡ true → HasSigned n (Some v) ss k
     → plain_of new ≡ plain_of old → signs_of new ≡ ss → Added n es l v seen new k
 known_signed n es l v seen old new k m ss w q d z s g a b =
@@ -97,24 +91,10 @@ known_signed n es l v seen old new k m ss w q d z s g a b =
       };
     }
 
-pub entries_at_fault : (n : ℕ) (all xs ys : List (Value × Value)) (x : Value × Value) (es : List (LabelFields × Tree)) (k : ℕ) (e : CoseError)
-    → all ≡ xs ++ x ∷ ys → entries (view_pairs xs) ≡ Some es → OrMemory (WrongEntry n es (view x.0) (view x.1) k) e → OrMemory (WrongEntries n (view_pairs all) k) e
-entries_at_fault n all xs ys x es k e q r w = passed_on (WrongEntry n es (view x.0) (view x.1) k) (WrongEntries n (view_pairs all) k) e
-    (λ z. record {
-      before = map view_pair xs;
-      after = map view_pair ys;
-      key = view x.0;
-      value = view x.1;
-      es = es;
-      are = ap view_pairs q ∙ ap pairs (map-append view_pair xs (x ∷ ys));
-      read = r;
-      wrong = z;
-    }) w
-
-pub entries_pushed : (n : ℕ) (xs : List (Value × Value)) (x : Value × Value) (es : List (LabelFields × Tree)) (s : Seen Label) (p : Parts) (k : ℕ)
+pub entries_pushed : (n : ℕ) (xs : List (Value × Value)) (x : Value × Value) (es : List (LabelFields × Tree)) (s : Seen Label) (p : HeaderParts) (k : ℕ)
     → entries (view_pairs xs) ≡ Some es → Added n es (view x.0) (view x.1) s p k → (fs : List (LabelFields × Tree)) × (entries (view_pairs (xs ++ x ∷ [])) ≡ Some fs) × KnownIn n fs s p k
 entries_pushed n xs x es s p k r a =
-    (es ++ (a.label, view x.1) ∷ [], ap entries (ap pairs (map-append view_pair xs (x ∷ []))) ∙ entries_snoc (map view_pair xs) es (view x.0) (view x.1) a.label r a.is, a.known)
+    (es ++ (a.label, view x.1) ∷ [], entry_read label_of xs x es a.label r a.is, a.known)
 
 pub header_none : (n : ℕ) (p : Plain) (ss : Signatures) (k : ℕ) → Known n [] p ss k → header p ss ≡ no_header
 header_none n p ss k w = let a = plain_once [] p no_plain w.plain none_plain in let b = signed_once n ss no_signatures None k w.signed refl in λ i. header (a i) (b i)
@@ -157,10 +137,6 @@ sigs_pushed n xs x ss us s k e a b =
     (subst (λ z. HasSignatures n (trees (map view xs ++ view x ∷ [])) z k) (ap signatures (sym (map-append signature_view ss (s ∷ []))) ∙ ap signatures_view (sym e))
     (sigs_snoc n (map view xs) (view x) (map signature_view ss) (signature_view s) k a b))
 
-pub sigs_at_fault : (n : ℕ) (all xs ys : List Value) (x : Value) (k : ℕ) (e : CoseError) → all ≡ xs ++ x ∷ ys → OrMemory (WrongSignature n (view x) k) e → OrMemory (WrongSignatures n (views all) k) e
-sigs_at_fault n all xs ys x k e q w = passed_on (WrongSignature n (view x) k) (WrongSignatures n (views all) k) e
-    (λ z. record { before = map view xs; after = map view ys; tree = view x; are = ap views q ∙ ap trees (map-append view xs (x ∷ ys)); wrong = z }) w
-
 -- ---- a signature
 pub sig_kind : (n : ℕ) (t : Tree) (k : ℕ) (e : CoseError) → (fault_of e ≡ unexpected) × (is_array t ≡ false) → OrMemory (WrongSignature n t k) e
 sig_kind n t k e p = at_fault (WrongSignature n t k) _ e p.0 (no_array t k p.1)
@@ -198,10 +174,6 @@ pub inside_wrong : (n : ℕ) (b : List ℕ) (t : Tree) (k : ℕ) (e : CoseError)
 inside_wrong n b t k e m r w = passed_on (WrongHeader n t k) (WrongInside n b k) e (λ x. is_wrong t m r x) w
 
 -- ---- the first of a list
-pub first_of : (xs : List Value) (x : Value) → Some x ≡ slice_get xs 0 → (ys : List Value) × (xs ≡ x ∷ ys)
-first_of [] x e = cc
-first_of (y ∷ ys) x e = let h : Some x ≡ Some y = e in let s : y ≡ x = cc in (ys, ap (λ z. z ∷ ys) s)
-
 bytes_by : (t : Tree) → is_bytes t ≡ true → (b : List ℕ) × (t ≡ bytes b)
 bytes_by (integer i) e = cc
 bytes_by (bytes b) e = (b, refl)
@@ -212,25 +184,9 @@ bytes_by (tag n t) e = cc
 bytes_by (simple n) e = cc
 bytes_by (float f) e = cc
 
-array_by : (t : Tree) → is_array t ≡ true → (ts : Trees) × (t ≡ array ts)
-array_by (integer i) e = cc
-array_by (bytes b) e = cc
-array_by (text b) e = cc
-array_by (array ts) e = (ts, refl)
-array_by (map_tree ps) e = cc
-array_by (tag n t) e = cc
-array_by (simple n) e = cc
-array_by (float f) e = cc
-
-pub bare_by : (xs : List Value) (x : Value) → ((ys : List Value) × (xs ≡ x ∷ ys)) → is_bytes (view x) ≡ true → IsBare (views xs)
-bare_by xs x (ys, e) h = let b = bytes_by (view x) h in (b.0, views ys, ap views e ∙ ap (λ z. one_more z (views ys)) b.1)
-
-pub list_by : (xs : List Value) (x : Value) → ((ys : List Value) × (xs ≡ x ∷ ys)) → is_array (view x) ≡ true → IsList (views xs)
-list_by xs x (ys, e) h = let b = array_by (view x) h in (b.0, views ys, ap views e ∙ ap (λ z. one_more z (views ys)) b.1)
-
-pub views_count : (vs : List Value) → tree_count (views vs) ≡ length vs
-views_count [] = refl
-views_count (v ∷ vs) = let h : tree_count (views vs) ≡ length vs = views_count vs in omega arith
+pub bare_by : (ts : Trees) → is_bare ts ≡ true → IsBare ts
+bare_by no_trees e = cc
+bare_by (one_more t ts) e = let b = bytes_by t e in (b.0, ts, ap (λ z. one_more z ts) b.1)
 
 -- ---- content types
 some_named : (o : Option Named) (b : List ℕ) → o ≡ Some (named b) → o ≡ None → ⊥

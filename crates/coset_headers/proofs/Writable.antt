@@ -1,10 +1,10 @@
 -- What was read can be written.
-use Rattle.std.proofs.Common.{◌≡◌, ◌≢◌, ℕ, inl, inr, List, [], ◌∷◌, Bool, true, false, cond, Option, Some, None, option_map, option_and_then, refl, sym, ap, subst, ◌∙◌}
+use Rattle.std.proofs.Common.{◌≡◌, ◌≢◌, ℕ, inl, inr, List, false, cond, Option, Some, None, option_map, option_and_then, refl, sym, ap, subst, ◌∙◌}
 use Rattle.ciborium_value.specs.Tree.{Tree, array, Trees, no_trees}
 use Rattle.coset_labels.specs.Facts.Entries as facts
 use Rattle.coset_labels.specs.Fields.{LabelFields}
 use Rattle.coset_headers.specs.Fields.{Plain, HeaderFields, header, ProtectedFields, protected, SignatureFields, signature, Signatures, no_signatures, signature_more}
-use Rattle.coset_headers.specs.Headers.{is_core, at, IsIn, Distinct, others, HasHeader, HasProtected, HasSignature, HasSigned, HasSignatures}
+use Rattle.coset_headers.specs.Headers.{is_core, at, Distinct, others, HasHeader, HasProtected, HasSignature, HasSigned, HasSignatures}
 use Rattle.coset_headers.specs.Written.{twice, tree_of, written_entries, bare_or_list, header_of, header_tree, shown, signature_tree, signature_trees}
 use Rattle.coset_headers.proofs.Written.{once_only}
 

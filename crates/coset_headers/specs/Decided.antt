@@ -1,5 +1,5 @@
 -- What says the same is equal. It is proved here: nothing of it has to be believed.
-use Rattle.std.proofs.Common.{◌≡◌, List, [], ◌∷◌, Bool, true, false, Option, Some, None, refl, ap, ◌∙◌}
+use Rattle.std.proofs.Common.{◌≡◌, true, false, refl, ap, ◌∙◌}
 use Rattle.std.proofs.lemmas.Cmp.{tied_itself}
 use Rattle.std.specs.Prelude.{IsTrue, ◌↔◌, ◌&&◌, nat_eq}
 use Rattle.std.specs.Cmp.{IsEquivalence, decided}
@@ -11,28 +11,11 @@ use Rattle.ciborium_value.specs.Order.{tree_cmp}
 use Rattle.ciborium_value.specs.Facts.Orders.{equal_of}
 use Rattle.ciborium_value.specs.Facts.Ties.{tied}
 use Rattle.ciborium_value.specs.Facts.TreeTotal.{tree_total}
+use Rattle.coset_labels.specs.Facts.Equal.{both, plain_options, plain_lists}
 use Rattle.coset_labels.specs.Fields.{LabelFields}
 use Rattle.coset_labels.specs.Orders.{label_cmp, labels_same, names_same}
 use Rattle.coset_headers.specs.Fields.{Plain, HeaderFields, header, ProtectedFields, protected, SignatureFields, signature, Signatures, no_signatures, signature_more}
 use Rattle.coset_headers.specs.Same.{same_name, same_tree, same_entry, same_plain, same_header, same_protected, same_signature, same_signatures}
-
-both : {P Q : Type 0} (a b : Bool) → IsTrue a ↔ P → IsTrue b ↔ Q → IsTrue (a && b) ↔ (P × Q)
-both true b f g = (λ h. (f.0 refl, g.0 h), λ p. g.1 p.1)
-both false b f g = (λ h. let e : false ≡ true = h in cc, λ p. let e : false ≡ true = f.1 p.0 in cc)
-
-options : {A : Type 0} (E : A → A → Bool) → ((x y : A) → IsTrue (E x y) ↔ (x ≡ y)) → (x y : Option A) → IsTrue (option_eq E x y) ↔ (x ≡ y)
-options E e None None = (λ h. refl, λ h. refl)
-options E e None (Some y) = (λ h. let k : false ≡ true = h in cc, λ h. let k : None ≡ Some y = h in cc)
-options E e (Some x) None = (λ h. let k : false ≡ true = h in cc, λ h. let k : Some x ≡ None = h in cc)
-options E e (Some x) (Some y) = (λ h. ap Some ((e x y).0 h), λ h. let k : Some x ≡ Some y = h in let s : x ≡ y = cc in (e x y).1 s)
-
-lists : {A : Type 0} (E : A → A → Bool) → ((x y : A) → IsTrue (E x y) ↔ (x ≡ y)) → (xs ys : List A) → IsTrue (pointwise E xs ys) ↔ (xs ≡ ys)
-lists E e [] [] = (λ h. refl, λ h. refl)
-lists E e [] (y ∷ ys) = (λ h. let k : false ≡ true = h in cc, λ h. let k : [] ≡ y ∷ ys = h in cc)
-lists E e (x ∷ xs) [] = (λ h. let k : false ≡ true = h in cc, λ h. let k : x ∷ xs ≡ [] = h in cc)
-lists E e (x ∷ xs) (y ∷ ys) =
-    let w = both (E x y) (pointwise E xs ys) (e x y) (lists E e xs ys) in
-    (λ h. let p = w.0 h in λ i. p.0 i ∷ p.1 i, λ h. let k : x ∷ xs ≡ y ∷ ys = h in let s : x ≡ y = cc in let t : xs ≡ ys = cc in w.1 (s, t))
 
 pub trees_decided : (t s : Tree) → IsTrue (same_tree t s) ↔ (t ≡ s)
 trees_decided t s = (λ h. tied t s (equal_of (tree_cmp t s) h), λ h. ap (λ z. is_eq (tree_cmp z s)) h ∙ ap is_eq (tied_itself tree_total s))
@@ -44,11 +27,11 @@ entries_decided d e =
 
 plains_decided : (p q : Plain) → IsTrue (same_plain p q) ↔ (p ≡ q)
 plains_decided p q =
-    let names = both _ _ (both _ _ (options same_name names_same p.alg q.alg) (lists same_name names_same p.crit q.crit))
-    (options same_name names_same p.content_type q.content_type) in
+    let names = both _ _ (both _ _ (plain_options same_name names_same p.alg q.alg) (plain_lists same_name names_same p.crit q.crit))
+    (plain_options same_name names_same p.content_type q.content_type) in
     let strings = both _ _ (both _ _ (both _ _ names (bytes_decides p.key_id q.key_id)) (bytes_decides p.iv q.iv))
     (bytes_decides p.partial_iv q.partial_iv) in
-    let w = both _ _ strings (lists same_entry entries_decided p.rest q.rest) in (
+    let w = both _ _ strings (plain_lists same_entry entries_decided p.rest q.rest) in (
       λ h. let e = w.0 h in λ i. record {
         alg = e.0.0.0.0.0.0 i;
         crit = e.0.0.0.0.0.1 i;
@@ -80,7 +63,7 @@ mutual
 
   pub protected_decided : (p q : ProtectedFields) → IsTrue (same_protected p q) ↔ (p ≡ q)
   protected_decided (protected o h) (protected u g) =
-      let w = both (option_eq (pointwise nat_eq) o u) (same_header h g) (options (pointwise nat_eq) bytes_decides o u)
+      let w = both (option_eq (pointwise nat_eq) o u) (same_header h g) (plain_options (pointwise nat_eq) bytes_decides o u)
       (headers_decided h g) in (
         λ t. let e = w.0 t in λ i. protected (e.0 i) (e.1 i),
         λ t. let k : protected o h ≡ protected u g = t in let a : o ≡ u = cc in let b : h ≡ g = cc in w.1 (a, b),

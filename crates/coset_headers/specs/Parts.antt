@@ -16,13 +16,13 @@ use Rattle.coset_labels.specs.declared.seen.Seen.{Seen}
 use Rattle.coset_headers.specs.Fields.{Plain, Signatures}
 use Rattle.coset_headers.specs.Headers.{is_core, alg_of, crit_of, HasContentType, at, Distinct, IsPlain, HasSigned}
 use Rattle.coset_headers.specs.View.{entry_view, signatures_view}
-use Rattle.coset_headers.specs.declared.parts.Parts.{Parts}
+use Rattle.coset_headers.specs.declared.parts.HeaderParts.{HeaderParts}
 
 -- the labels of these entries, and no others, were seen
 abbrev pub Sees : Seen Label → List (LabelFields × Tree) → Type 0
 Sees = keys.Sees (on label_view label_cmp) label_view
 
-abbrev pub plain_of : Parts → Plain
+abbrev pub plain_of : HeaderParts → Plain
 plain_of p = record {
   alg = option_map (named_view algorithm_number) p.alg;
   crit = map (named_view header_parameters.number) p.crit.items;
@@ -33,7 +33,7 @@ plain_of p = record {
   rest = map entry_view p.rest.items;
 }
 
-abbrev pub signs_of : Parts → Signatures
+abbrev pub signs_of : HeaderParts → Signatures
 signs_of p = signatures_view p.counter_signatures.items
 
 -- the fields are those of these entries
@@ -43,12 +43,12 @@ pub record Known (n : ℕ) (es : List (LabelFields × Tree)) (p : Plain) (ss : S
   pub signed : HasSigned n (at 7 es) ss k
 
 -- and so are the labels that were seen
-pub record KnownIn (n : ℕ) (es : List (LabelFields × Tree)) (s : Seen Label) (p : Parts) (k : ℕ) : Type 0 where
+pub record KnownIn (n : ℕ) (es : List (LabelFields × Tree)) (s : Seen Label) (p : HeaderParts) (k : ℕ) : Type 0 where
   pub sees : Sees s es
   pub known : Known n es (plain_of p) (signs_of p) k
 
 -- one more entry is read
-pub record Added (n : ℕ) (es : List (LabelFields × Tree)) (l v : Tree) (s : Seen Label) (p : Parts) (k : ℕ) : Type 0 where
+pub record Added (n : ℕ) (es : List (LabelFields × Tree)) (l v : Tree) (s : Seen Label) (p : HeaderParts) (k : ℕ) : Type 0 where
   pub label : LabelFields
   pub is : label_of l ≡ Some label
   pub known : KnownIn n (es ++ (label, v) ∷ []) s p k
@@ -64,6 +64,6 @@ pub data Fills (l : LabelFields) (v : Tree) (p q : Plain) : Type 0 where
   fills_partial_iv : (b : List ℕ) → l ≡ number (pos 6) → some_bytes v ≡ Some b → p.iv ≡ [] → q ≡ record p { partial_iv = b } → Fills l v p q
   fills_rest : is_core l ≡ false → q ≡ record p { rest = p.rest ++ (l, v) ∷ [] } → Fills l v p q
 
-pub record Filled (l : LabelFields) (v : Tree) (old new : Parts) : Type 0 where
+pub record Filled (l : LabelFields) (v : Tree) (old new : HeaderParts) : Type 0 where
   pub fields : Fills l v (plain_of old) (plain_of new)
   pub signs : signs_of new ≡ signs_of old

@@ -1,52 +1,43 @@
 -- What the parts of the reader show.
-use Rattle.std.specs.Prelude.{◌≡◌, ◌≢◌, ℕ, pos, ◌⊎◌, List, [], ◌∷◌, ◌++◌, Some}
+use Rattle.std.specs.Prelude.{◌≡◌, ◌≢◌, ℕ, pos, ◌⊎◌, List, [], Some}
 use Rattle.ciborium_value.specs.Tree.{Tree, Trees, Pairs}
-use Rattle.ciborium_value.specs.View.{trees, pairs}
 use Rattle.ciborium.specs.Front.{Reads}
 use Rattle.coset_labels.specs.Faults.{CoseFault, unexpected}
 use Rattle.coset_labels.specs.Fields.{LabelFields, number}
 use Rattle.coset_labels.specs.Kinds.{some_bytes}
+use Rattle.coset_labels.specs.Labels.{label_of}
 use Rattle.coset_labels.specs.Reading.{NotReadable}
+use Rattle.coset_labels.specs.Walks as walks
 use Rattle.coset_headers.specs.Fields.{Plain, HeaderFields, Signatures, no_header}
-use Rattle.coset_headers.specs.Headers.{entries, HasHeader}
+use Rattle.coset_headers.specs.Headers.{HasHeader}
 use Rattle.coset_headers.specs.Parts.{Known}
 use Rattle.coset_headers.specs.Wrong.{WrongField, WrongHeader, WrongEntry, WrongSignature}
 
 -- the value of a label but 7, where the fields p are set
 pub data WrongFill (l : LabelFields) (v : Tree) (p : Plain) (e : CoseFault) : Type 0 where
   field_wrong : WrongField v l e → WrongFill l v p e
-  iv_second : (b : List ℕ) → l ≡ number (pos 5) → some_bytes v ≡ Some b → p.partial_iv ≢ [] → e ≡ unexpected → WrongFill l v p e
-  partial_iv_second : (b : List ℕ) → l ≡ number (pos 6) → some_bytes v ≡ Some b → p.iv ≢ [] → e ≡ unexpected → WrongFill l v p e
+  iv_second : (b : List ℕ) → l ≡ number (pos 5) → some_bytes v ≡ Some b → p.partial_iv ≢ []
+      → e ≡ unexpected → WrongFill l v p e
+  partial_iv_second : (b : List ℕ) → l ≡ number (pos 6) → some_bytes v ≡ Some b → p.iv ≢ []
+      → e ≡ unexpected → WrongFill l v p e
 
 -- the header inside a byte string, and its fault
 abbrev pub Inside : ℕ → HeaderFields → List ℕ → ℕ → Type 0
-Inside n h b k = ((b ≡ []) × (h ≡ no_header)) ⊎ ((b ≢ []) × ((v : Tree) × Reads b n v × HasHeader n v h k))
+Inside n h b k = ((b ≡ []) × (h ≡ no_header))
+    ⊎ ((b ≢ []) × ((v : Tree) × Reads b n v × HasHeader n v h k))
 
 pub data WrongInside (n : ℕ) (b : List ℕ) (k : ℕ) (e : CoseFault) : Type 0 where
   is_unreadable : b ≢ [] → NotReadable b n e → WrongInside n b k e
   is_wrong : (t : Tree) → b ≢ [] → Reads b n t → WrongHeader n t k e → WrongInside n b k e
 
 -- the fields of all entries of a map
-pub record HasEntries (n : ℕ) (ps : Pairs) (p : Plain) (ss : Signatures) (k : ℕ) : Type 0 where
-  pub es : List (LabelFields × Tree)
-  pub entries_are : entries ps ≡ Some es
-  pub known : Known n es p ss k
+abbrev pub HasEntries : ℕ → Pairs → Plain → Signatures → ℕ → Type 0
+HasEntries n ps p ss k = walks.HasEntries label_of (λ es. Known n es p ss k) ps
 
 -- one of the entries has a fault, and those before it have labels
-pub record WrongEntries (n : ℕ) (ps : Pairs) (k : ℕ) (e : CoseFault) : Type 0 where
-  pub before : List (Tree × Tree)
-  pub after : List (Tree × Tree)
-  pub key : Tree
-  pub value : Tree
-  pub es : List (LabelFields × Tree)
-  pub are : ps ≡ pairs (before ++ (key, value) ∷ after)
-  pub read : entries (pairs before) ≡ Some es
-  pub wrong : WrongEntry n es key value k e
+abbrev pub WrongEntries : ℕ → Pairs → ℕ → CoseFault → Type 0
+WrongEntries n ps k = walks.WrongEntries label_of (λ es l v. WrongEntry n es l v k) ps
 
 -- one of the signatures has a fault
-pub record WrongSignatures (n : ℕ) (ts : Trees) (k : ℕ) (e : CoseFault) : Type 0 where
-  pub before : List Tree
-  pub after : List Tree
-  pub tree : Tree
-  pub are : ts ≡ trees (before ++ tree ∷ after)
-  pub wrong : WrongSignature n tree k e
+abbrev pub WrongSignatures : ℕ → Trees → ℕ → CoseFault → Type 0
+WrongSignatures n ts k = walks.WrongItems (λ t. WrongSignature n t k) ts

@@ -1,12 +1,13 @@
 //! Whether the value of a header or a signature is already the one that would be written.
 ghost use Rattle.std.specs.Prelude.{◌≡◌};
 ghost use Rattle.ciborium_value.specs.View.{view, views, view_pairs};
-ghost use Rattle.coset_headers.specs.AsWritten.{place_of, is_bare, header_stands, entries_stand, signed_stand, signatures_stand, signature_stands, elements_stand};
+ghost use Rattle.coset_headers.specs.AsWritten.{place_of, header_stands, entries_stand, signed_stand, signatures_stand, signature_stands, elements_stand};
 ghost use Rattle.coset_headers.specs.Fields.{HeaderFields, SignatureFields};
 ghost use Rattle.coset_headers.specs.Headers.{HasHeader, HasSignature};
 ghost use Rattle.coset_headers.specs.Written.{header_tree, signature_tree};
 
 use crate::header::{CoseSignature, Header};
+use crate::values::is_one_signature;
 use ciborium_value::Value;
 use coset_labels::AsWritten;
 
@@ -84,7 +85,7 @@ fn signed_stand(value: &Value) -> bool
 {
     match value {
         Value::Array(items) => {
-            if is_bare(items) {
+            if is_one_signature(items) {
                 elements_stand(items)
             } else {
                 items.len() > 1 && signatures_stand(items)
@@ -92,12 +93,6 @@ fn signed_stand(value: &Value) -> bool
         }
         _ => false,
     }
-}
-
-fn is_bare(items: &[Value]) -> bool
-    ensures { result ≡ is_bare (views items.now) }
-{
-    matches!(items, [Value::Bytes(_), ..])
 }
 
 /// Whether the values of signatures are as they would be written.

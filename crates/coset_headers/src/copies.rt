@@ -1,28 +1,15 @@
 //! Copies of headers and signatures.
 ghost use Rattle.std.specs.Prelude.{◌≡◌, IfOk, map, option_map};
-ghost use Rattle.cose_iana.specs.Algorithms.{algorithm_number};
 ghost use Rattle.cose_iana.specs.Formats.{coap_content_formats};
 ghost use Rattle.cose_iana.specs.Headers.{header_parameters};
 ghost use Rattle.coset_labels.specs.View.{registered_view, named_view};
-ghost use Rattle.coset_headers.specs.View.{header_view, protected_view, signature_view, entry_view};
+ghost use Rattle.coset_headers.specs.View.{header_view, protected_view, signature_view};
 
 use crate::header::{CoseSignature, Header, ProtectedHeader};
-use ciborium_value::Value;
-use coset_labels::{Algorithm, ContentType, Label, RegisteredLabelWithPrivate, iana};
+use coset_labels::{
+    ContentType, RegisteredLabelWithPrivate, clone_bytes, clone_entries, clone_key, iana,
+};
 use std::alloc::{AllocError, Global};
-
-/// A copy of an algorithm, if there is one.
-///
-/// # Errors
-/// Only where memory is refused.
-pub fn clone_alg(alloc: Global, alg: &Option<Algorithm>) -> Result<Option<Algorithm>, AllocError>
-    ensures { IfOk result (λ copy. option_map (named_view algorithm_number) copy ≡ option_map (named_view algorithm_number) alg.now) }
-{
-    match alg {
-        Some(alg) => Ok(Some(alg.clone(alloc)?)),
-        None => Ok(None),
-    }
-}
 
 fn clone_content_type(
     alloc: Global,
@@ -51,22 +38,6 @@ fn clone_crit(
     Ok(copies)
 }
 
-/// A copy of entries that have labels.
-///
-/// # Errors
-/// Only where memory is refused.
-pub fn clone_rest(alloc: Global, rest: &[(Label, Value)]) -> Result<Vec<(Label, Value)>, AllocError>
-    ensures { IfOk result (λ copies. map entry_view copies.items ≡ map entry_view rest.now) }
-{
-    let mut copies = Vec::new(alloc);
-    for entry in rest {
-        let label = entry.0.clone(alloc)?;
-        let value = entry.1.clone(alloc)?;
-        copies.push((label, value))?;
-    }
-    Ok(copies)
-}
-
 impl Header {
     /// A header equal to this one.
     ///
@@ -76,14 +47,14 @@ impl Header {
     pub fn clone(&self, alloc: Global) -> Result<Header, AllocError>
         ensures { IfOk result (λ copy. header_view copy ≡ header_view self.now) }
     {
-        let alg = clone_alg(alloc, &self.alg)?;
+        let alg = clone_key(alloc, &self.alg)?;
         let crit = clone_crit(alloc, &self.crit)?;
         let content_type = clone_content_type(alloc, &self.content_type)?;
         let key_id = self.key_id.as_slice().to_vec(alloc)?;
         let iv = self.iv.as_slice().to_vec(alloc)?;
         let partial_iv = self.partial_iv.as_slice().to_vec(alloc)?;
         let counter_signatures = clone_signatures(alloc, &self.counter_signatures)?;
-        let rest = clone_rest(alloc, &self.rest)?;
+        let rest = clone_entries(alloc, &self.rest)?;
         Ok(Header {
             alg,
             crit,
@@ -102,7 +73,8 @@ fn clone_signatures(
     alloc: Global,
     signatures: &[CoseSignature],
 ) -> Result<Vec<CoseSignature>, AllocError>
-    ensures { IfOk result (λ copies. map signature_view copies.items ≡ map signature_view signatures.now) }
+    ensures { IfOk result
+        (λ copies. map signature_view copies.items ≡ map signature_view signatures.now) }
 {
     let mut copies = Vec::new(alloc);
     'signatures: for signature in signatures {
@@ -120,17 +92,12 @@ impl ProtectedHeader {
     pub fn clone(&self, alloc: Global) -> Result<ProtectedHeader, AllocError>
         ensures { IfOk result (λ copy. protected_view copy ≡ protected_view self.now) }
     {
+        let original_data = clone_bytes(alloc, &self.original_data)?;
         let header = self.header.clone(alloc)?;
-        match &self.original_data {
-            Some(bytes) => Ok(ProtectedHeader {
-                original_data: Some(bytes.as_slice().to_vec(alloc)?),
-                header,
-            }),
-            None => Ok(ProtectedHeader {
-                original_data: None,
-                header,
-            }),
-        }
+        Ok(ProtectedHeader {
+            original_data,
+            header,
+        })
     }
 }
 

@@ -12,7 +12,7 @@ ghost use Rattle.coset_headers.specs.Parts.{plain_of};
 ghost use Rattle.coset_headers.specs.View.{entry_view};
 ghost use Rattle.coset_headers.specs.Written.{name_entry, crit_entry, bytes_entry, signs_entry, bare_or_list, header_of, twice};
 
-use crate::parts::Parts;
+use crate::parts::HeaderParts;
 use ciborium_value::{Integer, Value};
 use coset_labels::{
     Algorithm, AsCborValue, ContentType, CoseError, Label, RegisteredLabelWithPrivate, Seen, iana,
@@ -22,10 +22,11 @@ use std::alloc::Global;
 
 type Entries = Vec<(Value, Value)>;
 
-impl Parts {
+impl HeaderParts {
     /// The map of these fields and of the counter signatures' values.
     pub(crate) fn write(self, alloc: Global, signatures: Vec<Value>) -> Result<Value, CoseError>
-        ensures { MatchResult result (λ v. header_of (plain_of self) (views signatures.items) ≡ Some (view v))
+        ensures { MatchResult result
+            (λ v. header_of (plain_of self) (views signatures.items) ≡ Some (view v))
             (λ e. CantWrite (header_of (plain_of self) (views signatures.items)) e) }
     {
         if repeats(alloc, &self.rest)? {
@@ -111,7 +112,9 @@ fn push_content_type(
 /// # Errors
 /// Only where memory is refused.
 pub fn push_bytes(entries: &mut Entries, label: u64, bytes: Vec<u8>) -> Result<(), CoseError>
-    ensures { MatchResult result (λ _. Appends entries.old.items entries.new.items (bytes_entry label bytes.items)) (λ e. e ≡ Memory) }
+    ensures { MatchResult result
+        (λ _. Appends entries.old.items entries.new.items (bytes_entry label bytes.items))
+        (λ e. e ≡ Memory) }
 {
     if !bytes.is_empty() {
         entries.push((Value::Integer(Integer::from(label)), Value::Bytes(bytes)))?;
@@ -121,7 +124,9 @@ pub fn push_bytes(entries: &mut Entries, label: u64, bytes: Vec<u8>) -> Result<(
 
 /// One counter signature stands by itself, and several in a list.
 fn push_signatures(entries: &mut Entries, signatures: Vec<Value>) -> Result<(), CoseError>
-    ensures { MatchResult result (λ _. Appends entries.old.items entries.new.items (signs_entry (bare_or_list (views signatures.items))))
+    ensures { MatchResult result
+        (λ _. Appends entries.old.items entries.new.items
+        (signs_entry (bare_or_list (views signatures.items))))
         (λ e. e ≡ Memory) }
 {
     if let Some(signatures) = one_or_list(signatures) {
@@ -149,7 +154,9 @@ pub fn push_rest(
     entries: &mut Entries,
     rest: Vec<(Label, Value)>,
 ) -> Result<(), CoseError>
-    ensures { MatchResult result (λ _. Appends entries.old.items entries.new.items (map entry_view rest.items)) (λ e. e ≡ Memory) }
+    ensures { MatchResult result
+        (λ _. Appends entries.old.items entries.new.items (map entry_view rest.items))
+        (λ e. e ≡ Memory) }
 {
     'rest: for entry in rest {
         let label = entry.0.to_cbor_value(alloc)?;

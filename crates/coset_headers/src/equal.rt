@@ -56,7 +56,8 @@ impl Eq for CoseSignature {
 
 /// Whether all fields but the counter signatures are equal.
 fn same_plain(a: &Header, b: &Header) -> bool
-    ensures { result ≡ same_plain (plain_part (header_view a.now)) (plain_part (header_view b.now)) }
+    ensures { result
+        ≡ same_plain (plain_part (header_view a.now)) (plain_part (header_view b.now)) }
 {
     a.alg == b.alg
         && a.crit == b.crit

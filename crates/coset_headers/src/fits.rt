@@ -17,11 +17,12 @@ ghost use Rattle.coset_headers.specs.Written.{header_tree, shown, signature_tree
 use crate::header::{CoseSignature, Header, ProtectedHeader};
 use ciborium_value::Value;
 use ciborium_value::laws::value_fits;
-use coset_labels::laws::{label_fits, name_fits, registered_fits};
+use coset_labels::laws::{bytes_fit, label_fits, name_fits, registered_fits};
 use coset_labels::{Algorithm, ContentType, Label, RegisteredLabelWithPrivate, iana};
 
 fn alg_fits(alg: &Option<Algorithm>)
-    ensures { (m : Named) → option_map (named_view algorithm_number) alg.now ≡ Some m → Fits (named_tree m) }
+    ensures { (m : Named) → option_map (named_view algorithm_number) alg.now ≡ Some m
+        → Fits (named_tree m) }
 {
     if let Some(alg) = alg {
         name_fits(alg);
@@ -29,7 +30,9 @@ fn alg_fits(alg: &Option<Algorithm>)
 }
 
 fn content_type_fits(content_type: &Option<ContentType>)
-    ensures { (m : Named) → option_map (registered_view coap_content_formats.number) content_type.now ≡ Some m → Fits (named_tree m) }
+    ensures { (m : Named)
+        → option_map (registered_view coap_content_formats.number) content_type.now ≡ Some m
+        → Fits (named_tree m) }
 {
     if let Some(content_type) = content_type {
         registered_fits(content_type);
@@ -37,19 +40,14 @@ fn content_type_fits(content_type: &Option<ContentType>)
 }
 
 fn crit_fits(crit: &[RegisteredLabelWithPrivate<iana::HeaderParameter>])
-    ensures fits { FitAll (trees (map named_tree (map (named_view header_parameters.number) crit.now))) }
+    ensures fits { FitAll
+        (trees (map named_tree (map (named_view header_parameters.number) crit.now))) }
     ensures count { length crit.now < 2 ^ 64 }
 {
     let _len = crit.len();
     'names: for name in crit {
         name_fits(name);
     }
-}
-
-fn bytes_fit(content: &[u8])
-    ensures { Fits (bytes content.now) }
-{
-    let _len = content.len();
 }
 
 fn rest_fits(rest: &[(Label, Value)])
@@ -67,7 +65,8 @@ fn rest_fits(rest: &[(Label, Value)])
 /// bytes.
 #[cycle(fits)]
 pub fn header_fits(header: &Header)
-    ensures { (u : Tree) → header_tree (header_view header.now) ≡ Some u → IsShort (header_view header.now) → Fits u }
+    ensures { (u : Tree) → header_tree (header_view header.now) ≡ Some u
+        → IsShort (header_view header.now) → Fits u }
 {
     alg_fits(&header.alg);
     crit_fits(&header.crit);
@@ -82,7 +81,8 @@ pub fn header_fits(header: &Header)
 /// As `header_fits`, of the byte string that is shown for a protected header.
 #[cycle(fits)]
 pub fn protected_fits(protected: &ProtectedHeader)
-    ensures { (b : List ℕ) → shown (protected_view protected.now) ≡ Some b → ShowsShort (protected_view protected.now) → Fits (bytes b) }
+    ensures { (b : List ℕ) → shown (protected_view protected.now) ≡ Some b
+        → ShowsShort (protected_view protected.now) → Fits (bytes b) }
 {
     match &protected.original_data {
         Some(content) => bytes_fit(content),
@@ -93,7 +93,8 @@ pub fn protected_fits(protected: &ProtectedHeader)
 /// As `header_fits`, of a signature.
 #[cycle(fits)]
 pub fn signature_fits(signature: &CoseSignature)
-    ensures { (u : Tree) → signature_tree (signature_view signature.now) ≡ Some u → SignatureShort (signature_view signature.now) → Fits u }
+    ensures { (u : Tree) → signature_tree (signature_view signature.now) ≡ Some u
+        → SignatureShort (signature_view signature.now) → Fits u }
 {
     protected_fits(&signature.protected);
     header_fits(&signature.unprotected);
@@ -104,7 +105,8 @@ pub fn signature_fits(signature: &CoseSignature)
 fn signatures_fit(signatures: &[CoseSignature])
     ensures fits { (ts : Trees) → signature_trees (signatures_view signatures.now) ≡ Some ts
         → AllShort (signatures_view signatures.now) → FitAll ts }
-    ensures count { (ts : Trees) → signature_trees (signatures_view signatures.now) ≡ Some ts → tree_count ts < 2 ^ 64 }
+    ensures count { (ts : Trees) → signature_trees (signatures_view signatures.now) ≡ Some ts
+        → tree_count ts < 2 ^ 64 }
 {
     let _len = signatures.len();
     'signatures: for signature in signatures {

@@ -15,7 +15,6 @@ mod values;
 mod writer;
 
 pub use crate::as_written::{elements_stand, signature_stands, signatures_stand};
-pub use crate::copies::{clone_alg, clone_rest};
 pub use crate::entries::{push_bytes, push_rest, repeats};
 pub use crate::header::{CoseSignature, Header, ProtectedHeader};
 pub use crate::writer::show_protected;

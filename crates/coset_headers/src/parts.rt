@@ -21,7 +21,7 @@ use std::alloc::Global;
 
 /// The fields that some entries have given.
 #[derive(Drop)]
-pub(crate) struct Parts {
+pub(crate) struct HeaderParts {
     pub(crate) alg: Option<Algorithm>,
     pub(crate) crit: Vec<RegisteredLabelWithPrivate<iana::HeaderParameter>>,
     pub(crate) content_type: Option<ContentType>,
@@ -71,11 +71,11 @@ pub(crate) fn is_counter_signatures(label: &Label) -> bool
     }
 }
 
-impl Parts {
-    pub(crate) fn new(alloc: Global) -> Parts
+impl HeaderParts {
+    pub(crate) fn new(alloc: Global) -> HeaderParts
         ensures { (n k : ℕ) → Known n [] (plain_of result) (signs_of result) k }
     {
-        Parts {
+        HeaderParts {
             alg: None,
             crit: Vec::new(alloc),
             content_type: None,

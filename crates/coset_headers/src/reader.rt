@@ -11,9 +11,10 @@ ghost use Rattle.coset_headers.specs.Walks.{Inside, WrongInside, HasEntries, Wro
 ghost use Rattle.coset_headers.specs.Wrong.{WrongHeader, WrongEntry, WrongSigned, WrongSignature, WrongProtected};
 
 use crate::header::{CoseSignature, Header, ProtectedHeader};
-use crate::parts::{Parts, is_counter_signatures};
-use crate::values::{is_bare, three};
+use crate::parts::{HeaderParts, is_counter_signatures};
+use crate::values::is_bare;
 use ciborium_value::Value;
+use coset_labels::tuples::three;
 use coset_labels::{AsCborValue, CoseError, Label, Seen, ValueTryAs, read_to_value};
 use std::alloc::Global;
 
@@ -39,12 +40,13 @@ fn read_entries(
     entries: Vec<(Value, Value)>,
     nesting: usize,
     layers: usize,
-) -> Result<Parts, CoseError>
-    ensures { MatchResult result (λ p. HasEntries nesting (view_pairs entries.items) (plain_of p) (signs_of p) layers)
+) -> Result<HeaderParts, CoseError>
+    ensures { MatchResult result
+        (λ p. HasEntries nesting (view_pairs entries.items) (plain_of p) (signs_of p) layers)
         (λ e. OrMemory (WrongEntries nesting (view_pairs entries.items) layers) e) }
 {
     let mut seen = Seen::new(alloc);
-    let mut parts = Parts::new(alloc);
+    let mut parts = HeaderParts::new(alloc);
     'entries: for entry in entries {
         read_entry(
             alloc, &mut seen, &mut parts, entry.0, entry.1, nesting, layers,
@@ -58,14 +60,15 @@ fn read_entries(
 fn read_entry(
     alloc: Global,
     seen: &mut Seen<Label>,
-    parts: &mut Parts,
+    parts: &mut HeaderParts,
     key: Value,
     value: Value,
     nesting: usize,
     layers: usize,
 ) -> Result<(), CoseError>
     ensures { (es : List (LabelFields × Tree)) → KnownIn nesting es seen.old parts.old layers
-        → MatchResult result (λ _. Added nesting es (view key) (view value) seen.new parts.new layers)
+        → MatchResult result
+        (λ _. Added nesting es (view key) (view value) seen.new parts.new layers)
         (λ e. OrMemory (WrongEntry nesting es (view key) (view value) layers) e) }
 {
     let label = Label::from_cbor_value(alloc, key)?;
@@ -89,7 +92,8 @@ fn read_signatures(
     nesting: usize,
     layers: usize,
 ) -> Result<Vec<CoseSignature>, CoseError>
-    ensures { MatchResult result (λ v. HasSigned nesting (Some (view value)) (signatures_view v.items) layers)
+    ensures { MatchResult result
+        (λ v. HasSigned nesting (Some (view value)) (signatures_view v.items) layers)
         (λ e. OrMemory (WrongSigned nesting (view value) layers) e) }
 {
     let items = value.try_as_array()?;
@@ -110,7 +114,8 @@ fn read_list(
     nesting: usize,
     layers: usize,
 ) -> Result<Vec<CoseSignature>, CoseError>
-    ensures { MatchResult result (λ v. HasSignatures nesting (views items.items) (signatures_view v.items) layers)
+    ensures { MatchResult result
+        (λ v. HasSignatures nesting (views items.items) (signatures_view v.items) layers)
         (λ e. OrMemory (WrongSignatures nesting (views items.items) layers) e) }
 {
     let mut signatures = Vec::new(alloc);
@@ -182,7 +187,7 @@ fn read_inside(
         (λ e. OrMemory (WrongInside nesting bytes.now layers) e) }
 {
     if bytes.is_empty() {
-        return Ok(Parts::new(alloc).header());
+        return Ok(HeaderParts::new(alloc).header());
     }
     let value = read_to_value(alloc, bytes, nesting)?;
     read_header(alloc, value, nesting, layers)

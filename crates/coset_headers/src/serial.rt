@@ -12,7 +12,7 @@ ghost use Rattle.coset_headers.specs.Written.{header_tree, signature_tree, shown
 ghost use Rattle.coset_headers.specs.Wrong.{WrongHeader, WrongProtected, WrongSignature};
 
 use crate::header::{CoseSignature, Header, ProtectedHeader};
-use crate::parts::Parts;
+use crate::parts::HeaderParts;
 use crate::reader::{read_header, read_protected, read_signature};
 use crate::writer::{show_protected, write_header, write_signature};
 use ciborium_value::Value;
@@ -24,7 +24,7 @@ impl Header {
     pub fn new(alloc: Global) -> Header
         ensures { header_view result ≡ no_header }
     {
-        Parts::new(alloc).header()
+        HeaderParts::new(alloc).header()
     }
 
     /// As `from_cbor_value`, within these limits.
@@ -144,7 +144,8 @@ impl CoseSignature {
         limits: Limits,
     ) -> Result<CoseSignature, CoseError>
         ensures { MatchResult result
-            (λ s. HasSignature (nesting_of limits) (view value) (signature_view s) (layers_of limits))
+            (λ s. HasSignature (nesting_of limits) (view value) (signature_view s)
+            (layers_of limits))
             (λ e. OrMemory (WrongSignature (nesting_of limits) (view value) (layers_of limits)) e) }
     {
         read_signature(alloc, value, limits.nesting(), limits.layers())
@@ -176,7 +177,8 @@ impl ProtectedHeader {
     /// # Errors
     /// A fault that the value has, or `Memory`. `ExtraneousData` where bytes go on behind the header.
     pub fn from_cbor_bstr(alloc: Global, value: Value) -> Result<ProtectedHeader, CoseError>
-        ensures { MatchResult result (λ p. HasProtected nesting (view value) (protected_view p) layers)
+        ensures { MatchResult result
+            (λ p. HasProtected nesting (view value) (protected_view p) layers)
             (λ e. OrMemory (WrongProtected nesting (view value) layers) e) }
     {
         ProtectedHeader::from_cbor_bstr_with(alloc, value, Limits::default())
@@ -195,7 +197,8 @@ impl ProtectedHeader {
         limits: Limits,
     ) -> Result<ProtectedHeader, CoseError>
         ensures { MatchResult result
-            (λ p. HasProtected (nesting_of limits) (view value) (protected_view p) (layers_of limits))
+            (λ p. HasProtected (nesting_of limits) (view value) (protected_view p)
+            (layers_of limits))
             (λ e. OrMemory (WrongProtected (nesting_of limits) (view value) (layers_of limits)) e) }
     {
         read_protected(alloc, value, limits.nesting(), limits.layers())
@@ -207,7 +210,8 @@ impl ProtectedHeader {
     /// # Errors
     /// `DuplicateMapKey` exactly where a label stands twice in a header that has to be encoded, or `Memory`.
     pub fn cbor_bstr(self, alloc: Global) -> Result<Value, CoseError>
-        ensures { MatchResult result (λ v. option_map spec.bytes (shown (protected_view self)) ≡ Some (view v))
+        ensures { MatchResult result
+            (λ v. option_map spec.bytes (shown (protected_view self)) ≡ Some (view v))
             (λ e. CantWrite (option_map spec.bytes (shown (protected_view self))) e) }
     {
         let bytes = show_protected(alloc, self)?;

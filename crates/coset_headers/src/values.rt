@@ -1,16 +1,16 @@
 //! The values of single fields.
-ghost use Rattle.std.specs.Prelude.{◌≡◌, ◌≢◌, List, [], ◌∷◌, Some, map, option_map, MatchResult, MatchOption, MatchBool, string_bytes, false};
+ghost use Rattle.std.specs.Prelude.{◌≡◌, ◌≢◌, [], Some, map, option_map, MatchResult, MatchBool, string_bytes, false};
 ghost use Rattle.std.specs.List.{count_by};
 ghost use Rattle.cose_iana.specs.Formats.{coap_content_formats};
 ghost use Rattle.cose_iana.specs.Headers.{header_parameters};
 ghost use Rattle.ciborium_value.specs.Tree as spec;
-ghost use Rattle.ciborium_value.specs.Tree.{is_bytes, tree_count};
 ghost use Rattle.ciborium_value.specs.View.{view, views};
 ghost use Rattle.coset_labels.specs.Faults.{OrMemory, fault_of, unexpected};
 ghost use Rattle.coset_labels.specs.Fields.{named};
 ghost use Rattle.coset_labels.specs.Kinds.{is_array};
 ghost use Rattle.coset_labels.specs.View.{registered_view, named_view};
-ghost use Rattle.coset_headers.specs.Headers.{is_slash, crit_of, parameters_of, HasContentType, IsContentType, IsBare, IsList, list_of_three};
+ghost use Rattle.coset_headers.specs.AsWritten.{is_bare};
+ghost use Rattle.coset_headers.specs.Headers.{is_slash, crit_of, parameters_of, HasContentType, IsContentType, IsBare, IsList};
 ghost use Rattle.coset_headers.specs.Wrong.{WrongCrit, WrongContentType, NoSignature};
 
 use ciborium_value::Value;
@@ -24,7 +24,8 @@ type Parameter = RegisteredLabelWithPrivate<iana::HeaderParameter>;
 
 /// The labels that have to be understood: a list that is not empty.
 pub(crate) fn read_crit(alloc: Global, value: Value) -> Result<Vec<Parameter>, CoseError>
-    ensures { MatchResult result (λ v. crit_of (view value) ≡ Some (map (named_view header_parameters.number) v.items))
+    ensures { MatchResult result
+        (λ v. crit_of (view value) ≡ Some (map (named_view header_parameters.number) v.items))
         (λ e. OrMemory (WrongCrit (view value)) e) }
 {
     let items = array_or(value, "array value")?;
@@ -47,7 +48,9 @@ fn array_or(value: Value, want: &'static str) -> Result<Vec<Value>, CoseError>
 
 fn read_parameters(alloc: Global, items: Vec<Value>) -> Result<Vec<Parameter>, CoseError>
     requires { items.items ≢ [] }
-    ensures { MatchResult result (λ v. crit_of (spec.array (views items.items)) ≡ Some (map (named_view header_parameters.number) v.items))
+    ensures { MatchResult result
+        (λ v. crit_of (spec.array (views items.items))
+        ≡ Some (map (named_view header_parameters.number) v.items))
         (λ e. OrMemory (WrongCrit (spec.array (views items.items))) e) }
 {
     let mut names = Vec::new(alloc);
@@ -60,7 +63,9 @@ fn read_parameters(alloc: Global, items: Vec<Value>) -> Result<Vec<Parameter>, C
 
 /// The type of the content.
 pub(crate) fn read_content_type(alloc: Global, value: Value) -> Result<ContentType, CoseError>
-    ensures { MatchResult result (λ c. HasContentType (Some (view value)) (Some (registered_view coap_content_formats.number c)))
+    ensures { MatchResult result
+        (λ c. HasContentType (Some (view value))
+        (Some (registered_view coap_content_formats.number c)))
         (λ e. OrMemory (WrongContentType (view value)) e) }
 {
     let content_type = ContentType::from_cbor_value(alloc, value)?;
@@ -75,7 +80,8 @@ pub(crate) fn read_content_type(alloc: Global, value: Value) -> Result<ContentTy
 
 /// Tells whether a text has the form type/subtype.
 fn check_content_type(text: &str) -> Result<(), CoseError>
-    ensures { MatchResult result (λ _. IsContentType (named text.now)) (λ e. WrongContentType (spec.text text.now) (fault_of e)) }
+    ensures { MatchResult result (λ _. IsContentType (named text.now))
+        (λ e. WrongContentType (spec.text text.now) (fault_of e)) }
 {
     if text.is_empty() {
         return Err(CoseError::UnexpectedItem("empty tstr", "non-empty tstr"));
@@ -98,63 +104,25 @@ fn slashes(text: &[u8]) -> usize
     text.iter().filter(|byte| **byte == b'/').count()
 }
 
+/// Whether a list is one signature by itself and no list of them: its first element is bytes.
+pub(crate) fn is_one_signature(items: &[Value]) -> bool
+    ensures { result ≡ is_bare (views items.now) }
+{
+    matches!(items, [Value::Bytes(_), ..])
+}
+
 /// Whether a list of signatures is one by itself, by its first element.
 pub(crate) fn is_bare(items: &[Value]) -> Result<bool, CoseError>
-    ensures { MatchResult result (λ b. MatchBool b (IsBare (views items.now)) (IsList (views items.now)))
+    ensures { MatchResult result
+        (λ b. MatchBool b (IsBare (views items.now)) (IsList (views items.now)))
         (λ e. (fault_of e ≡ unexpected) × NoSignature (views items.now)) }
 {
+    if is_one_signature(items) {
+        return Ok(true);
+    }
     match items.first() {
-        Some(first) => {
-            if holds_bytes(first) {
-                return Ok(true);
-            }
-            if holds_array(first) {
-                return Ok(false);
-            }
-            Err(cbor_type_error(first, "array or bstr value"))
-        }
+        Some(Value::Array(_)) => Ok(false),
+        Some(first) => Err(cbor_type_error(first, "array or bstr value")),
         None => Err(CoseError::UnexpectedItem("empty sig array", "non-empty sig array")),
-    }
-}
-
-fn holds_bytes(value: &Value) -> bool
-    ensures { result ≡ is_bytes (view value.now) }
-{
-    match value {
-        Value::Bytes(_) => true,
-        _ => false,
-    }
-}
-
-fn holds_array(value: &Value) -> bool
-    ensures { result ≡ is_array (view value.now) }
-{
-    match value {
-        Value::Array(_) => true,
-        _ => false,
-    }
-}
-
-/// The three items of a list of three.
-pub(crate) fn three(items: Vec<Value>) -> Option<(Value, Value, Value)>
-    ensures { MatchOption result (tree_count (views items.items) ≢ 3)
-        (λ t. views items.items ≡ list_of_three (view t.0) (view t.1) (view t.2)) }
-{
-    let mut items = items;
-    if items.len() != 3 {
-        return None;
-    }
-    let third = items.pop();
-    let second = items.pop();
-    let first = items.pop();
-    match first {
-        Some(a) => match second {
-            Some(b) => match third {
-                Some(c) => Some((a, b, c)),
-                None => None,
-            },
-            None => None,
-        },
-        None => None,
     }
 }

@@ -9,7 +9,7 @@ ghost use Rattle.coset_headers.specs.View.{header_view, protected_view, signatur
 ghost use Rattle.coset_headers.specs.Written.{header_tree, shown, signature_tree, signature_trees, is_empty, is_unsigned};
 
 use crate::header::{CoseSignature, Header, ProtectedHeader};
-use crate::parts::Parts;
+use crate::parts::HeaderParts;
 use ciborium_value::Value;
 use coset_labels::{CoseError, write_to_vec};
 use std::alloc::Global;
@@ -67,7 +67,7 @@ pub(crate) fn write_header(alloc: Global, header: Header) -> Result<Value, CoseE
         rest,
     } = header;
     let signatures = write_signatures(alloc, counter_signatures)?;
-    let parts = Parts {
+    let parts = HeaderParts {
         alg,
         crit,
         content_type,
@@ -82,7 +82,8 @@ pub(crate) fn write_header(alloc: Global, header: Header) -> Result<Value, CoseE
 
 #[cycle(writer)]
 fn write_signatures(alloc: Global, signatures: Vec<CoseSignature>) -> Result<Vec<Value>, CoseError>
-    ensures { MatchResult result (λ v. signature_trees (signatures_view signatures.items) ≡ Some (views v.items))
+    ensures { MatchResult result
+        (λ v. signature_trees (signatures_view signatures.items) ≡ Some (views v.items))
         (λ e. CantWrite (signature_trees (signatures_view signatures.items)) e) }
 {
     let mut values = Vec::new(alloc);
@@ -115,7 +116,8 @@ fn three_items(
     unprotected: Value,
     signature: Vec<u8>,
 ) -> Result<Value, CoseError>
-    ensures { MatchResult result (λ v. view v ≡ spec.array (list_of_three (spec.bytes protected.items) (view unprotected)
+    ensures { MatchResult result
+        (λ v. view v ≡ spec.array (list_of_three (spec.bytes protected.items) (view unprotected)
         (spec.bytes signature.items))) (λ e. e ≡ Memory) }
 {
     let mut items = Vec::new(alloc);

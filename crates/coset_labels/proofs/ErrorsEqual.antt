@@ -1,14 +1,14 @@
 -- Derived equality of errors is that of what they say.
-use Rattle.std.proofs.Common.{◌≡◌, ℕ, List, Bool, true, false, Option, Some, None, refl, ap}
-use Rattle.std.specs.Prelude.{IsTrue, ◌↔◌, ◌&&◌, nat_eq}
+use Rattle.std.proofs.Common.{◌≡◌, ℕ, List, Bool, true, false, refl, ap}
+use Rattle.std.specs.Prelude.{IsTrue, ◌↔◌, nat_eq}
 use Rattle.std.specs.Cmp.{unsigned_Decides}
 use Rattle.std.specs.Cmp.Lexicographic.{bytes_decides}
-use Rattle.std.specs.Option.{option_eq}
 use Rattle.ciborium_value.specs.declared.kind.Kind.{Kind}
 use Rattle.ciborium_value.specs.declared.kind.Kind.TheVariants as kind
 use Rattle.ciborium_value.specs.contracts.kind.KindPartialEq.TheImpl as kind_equality
 use Rattle.ciborium.specs.declared.de.Error.{Error}
 use Rattle.ciborium.specs.declared.de.Error.TheVariants as de
+use Rattle.coset_labels.specs.Facts.Equal.{both, plain_options}
 use Rattle.coset_labels.specs.Faults.{duplicate_key, unencodable, extraneous, out_of_range, unregistered, unregistered_private, no_memory, too_many_layers, CoseFault, undecodable, misplaced}
 use Rattle.coset_labels.specs.Reading.{NotReadable, damaged, goes_on}
 use Rattle.coset_labels.specs.Told.{failed, got, plainly, told}
@@ -16,16 +16,6 @@ use Rattle.coset_labels.specs.declared.error.CoseError.{CoseError}
 use Rattle.coset_labels.specs.declared.error.CoseError.TheVariants as code
 use Rattle.coset_labels.specs.declared.error.EndOfFile.{EndOfFile}
 use Rattle.coset_labels.specs.contracts.error.CoseErrorPartialEq.TheImpl as equality
-
-both : {P Q : Type 0} (a b : Bool) → IsTrue a ↔ P → IsTrue b ↔ Q → IsTrue (a && b) ↔ (P × Q)
-both true b f g = (λ h. (f.0 refl, g.0 h), λ p. g.1 p.1)
-both false b f g = (λ h. let e : false ≡ true = h in cc, λ p. let e : false ≡ true = f.1 p.0 in cc)
-
-options : {A : Type 0} (E : A → A → Bool) → ((x y : A) → IsTrue (E x y) ↔ (x ≡ y)) → (x y : Option A) → IsTrue (option_eq E x y) ↔ (x ≡ y)
-options E e None None = (λ h. refl, λ h. refl)
-options E e None (Some y) = (λ h. let k : false ≡ true = h in cc, λ h. let k : None ≡ Some y = h in cc)
-options E e (Some x) None = (λ h. let k : false ≡ true = h in cc, λ h. let k : Some x ≡ None = h in cc)
-options E e (Some x) (Some y) = (λ h. ap Some ((e x y).0 h), λ h. let k : Some x ≡ Some y = h in let s : x ≡ y = cc in (e x y).1 s)
 
 kinds : (x y : Kind) → IsTrue (kind_equality.eq-value.it x y) ↔ (x ≡ y)
 kinds kind.Simple kind.Simple = (λ h. refl, λ h. refl)
@@ -98,7 +88,7 @@ damages (de.Syntax p1) de.TooLong = (λ h. let k : false ≡ true = h in cc, λ 
 damages (de.Semantic o1 k1) (de.Io e2) = (λ h. let k : false ≡ true = h in cc, λ h. let k : de.Semantic o1 k1 ≡ de.Io e2 = h in cc)
 damages (de.Semantic o1 k1) (de.Syntax p2) = (λ h. let k : false ≡ true = h in cc, λ h. let k : de.Semantic o1 k1 ≡ de.Syntax p2 = h in cc)
 damages (de.Semantic o1 k1) (de.Semantic o2 k2) =
-    let w = both _ _ (options nat_eq unsigned_Decides o1 o2) (kinds k1 k2) in
+    let w = both _ _ (plain_options nat_eq unsigned_Decides o1 o2) (kinds k1 k2) in
     (λ h. let p = w.0 h in λ i. de.Semantic (p.0 i) (p.1 i), λ h. let k : de.Semantic o1 k1 ≡ de.Semantic o2 k2 = h in let s : o1 ≡ o2 = cc in let t : k1 ≡ k2 = cc in w.1 (s, t))
 damages (de.Semantic o1 k1) de.RecursionLimitExceeded = (λ h. let k : false ≡ true = h in cc, λ h. let k : de.Semantic o1 k1 ≡ de.RecursionLimitExceeded = h in cc)
 damages (de.Semantic o1 k1) de.Memory = (λ h. let k : false ≡ true = h in cc, λ h. let k : de.Semantic o1 k1 ≡ de.Memory = h in cc)

@@ -11,5 +11,6 @@ pub mod Names
 pub mod Orders
 pub mod Reading
 pub mod Seen
-pub mod View
 pub mod Told
+pub mod View
+pub mod Walks

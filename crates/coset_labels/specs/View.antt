@@ -1,5 +1,8 @@
 -- What labels and names of the code say.
 use Rattle.std.specs.Prelude.{ℤ, string_bytes}
+use Rattle.ciborium_value.specs.Tree.{Tree}
+use Rattle.ciborium_value.specs.View.{view}
+use Rattle.ciborium_value.specs.declared.value.Value.{Value}
 use Rattle.coset_labels.specs.Fields.{LabelFields, number, words, Named, private_use, assigned, named}
 use Rattle.coset_labels.specs.declared.label.Label.{Label}
 use Rattle.coset_labels.specs.declared.label.Label.TheVariants as label
@@ -20,3 +23,7 @@ abbrev pub named_view : {T : Type 0} → (T → ℤ) → RegisteredLabelWithPriv
 named_view number_of (open_name.PrivateUse i) = private_use i
 named_view number_of (open_name.Assigned x) = assigned (number_of x)
 named_view number_of (open_name.Text s) = named (string_bytes s)
+
+-- an entry of a map: `key` says what its key says
+abbrev pub entry_view : {A K : Type 0} → (A → K) → A × Value → K × Tree
+entry_view key e = (key e.0, view e.1)

@@ -21,5 +21,6 @@ pub trait AsWritten: AsCborValue {
     /// read as this type it says nothing. It takes no memory.
     fn is_as_written(value: &Value) -> bool
         ensures { (n k : ℕ) (x : Content) → has n (view value.now) x k
-            → MatchBool result (tree_of x ≡ Some (view value.now)) (tree_of x ≡ Some (view value.now) → ⊥) };
+            → MatchBool result (tree_of x ≡ Some (view value.now))
+            (tree_of x ≡ Some (view value.now) → ⊥) };
 }

@@ -5,70 +5,47 @@ use std::fmt;
 use std::num::TryFromIntError;
 
 /// The end of the bytes. In a `CoseError` it stands for each fault of a reader.
-#[derive(Debug, Clone, Copy, PartialEq, Eq)]
+#[derive(Debug, Clone, Copy, PartialEq, Eq, thiserror::Error)]
+#[error("EndOfFile")]
 pub struct EndOfFile;
 
 /// Why a COSE structure was not read or written.
-#[derive(Clone, Copy, PartialEq, Eq)]
+#[derive(Clone, Copy, PartialEq, Eq, thiserror::Error)]
 pub enum CoseError {
     /// Bytes that should have been one item are none.
+    #[error("decode CBOR failure: {0}")]
     DecodeFailed(de::Error<EndOfFile>),
     /// A label stands twice in one map.
+    #[error("duplicate map key")]
     DuplicateMapKey,
     /// A value can't be written.
+    #[error("encode CBOR failure")]
     EncodeFailed,
     /// Bytes go on behind their item.
+    #[error("extraneous data in CBOR input")]
     ExtraneousData,
     /// An integer outside the range of its type.
+    #[error("out of range integer value")]
     OutOfRangeIntegerValue,
     /// Another item than the one that has its place here: what it is, and what was expected.
+    #[error("got {0}, expected {1}")]
     UnexpectedItem(&'static str, &'static str),
     /// A number that the registry hasn't.
+    #[error("expected recognized IANA value")]
     UnregisteredIanaValue,
     /// A number that neither the registry nor its private range has.
+    #[error("expected value in IANA or private use range")]
     UnregisteredIanaNonPrivateValue,
     /// Memory was refused.
+    #[error("out of memory")]
     Memory,
     /// Protected headers inside one another, more than the limits allow (16 where none are chosen).
+    #[error("too many protected layers")]
     TooManyLayers,
 }
 
 /// What most functions here return.
 pub type Result<T, E = CoseError> = std::result::Result<T, E>;
-
-impl fmt::Display for CoseError {
-    fn fmt<W: fmt::Write>(&self, f: &mut fmt::Formatter<W>) -> fmt::Result {
-        match self {
-            CoseError::DecodeFailed(error) => fmt_decode_failure(error, f),
-            CoseError::DuplicateMapKey => f.write_str("duplicate map key"),
-            CoseError::EncodeFailed => f.write_str("encode CBOR failure"),
-            CoseError::ExtraneousData => f.write_str("extraneous data in CBOR input"),
-            CoseError::OutOfRangeIntegerValue => f.write_str("out of range integer value"),
-            CoseError::UnexpectedItem(got, want) => write!(f, "got {got}, expected {want}"),
-            CoseError::UnregisteredIanaValue => f.write_str("expected recognized IANA value"),
-            CoseError::UnregisteredIanaNonPrivateValue => {
-                f.write_str("expected value in IANA or private use range")
-            }
-            CoseError::Memory => f.write_str("out of memory"),
-            CoseError::TooManyLayers => f.write_str("too many protected layers"),
-        }
-    }
-}
-
-fn fmt_decode_failure<W: fmt::Write>(
-    error: &de::Error<EndOfFile>,
-    f: &mut fmt::Formatter<W>,
-) -> fmt::Result {
-    f.write_str("decode CBOR failure: ")?;
-    match error {
-        de::Error::Io(end) => write!(f, "Io({end:?})"),
-        de::Error::Syntax(offset) => write!(f, "Syntax({offset})"),
-        de::Error::Semantic(_, kind) => write!(f, "Semantic({kind:?})"),
-        de::Error::RecursionLimitExceeded => f.write_str("RecursionLimitExceeded"),
-        de::Error::Memory => f.write_str("Memory"),
-        de::Error::TooLong => f.write_str("TooLong"),
-    }
-}
 
 /// The same text as by `Display`.
 impl fmt::Debug for CoseError {
@@ -76,8 +53,6 @@ impl fmt::Debug for CoseError {
         fmt::Display::fmt(self, f)
     }
 }
-
-impl std::error::Error for CoseError {}
 
 impl<T: Drop> From<de::Error<T>> for CoseError {
     ghost use Rattle.std.specs.Prelude.{◌≡◌};
@@ -148,8 +123,8 @@ impl From<TryFromIntError> for CoseError {
     }
 }
 
-/// Why a call that asks its caller's code failed: by that code's own error, or by a fault of COSE before it was asked. Its text is that of
-/// the error in it.
+/// Why a call that asks its caller's code failed: by that code's own error, or by a fault of COSE
+/// before it was asked. Its text is that of the error in it.
 #[derive(Debug, PartialEq, Eq, Drop, thiserror::Error)]
 #[error_bound(E: fmt::Display)]
 pub enum Fault<E> {

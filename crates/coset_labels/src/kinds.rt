@@ -60,15 +60,18 @@ pub trait ValueTryAs {
     /// # Errors
     /// `UnexpectedItem` for an empty byte string, and for a value of another kind.
     fn try_as_nonempty_bytes(self) -> Result<Vec<u8>, CoseError>
-        ensures { MatchResult result (λ b. some_bytes (tree self) ≡ Some b.items) (λ e. WrongBytes (tree self) (fault_of e)) };
+        ensures { MatchResult result (λ b. some_bytes (tree self) ≡ Some b.items)
+            (λ e. WrongBytes (tree self) (fault_of e)) };
 
     /// The bytes of a byte string, or none for null. The caller names what it wants, for the text of the error.
     ///
     /// # Errors
     /// `UnexpectedItem` for a value of another kind.
     fn try_as_bytes_or_nil(self, want: &'static str) -> Result<Option<Vec<u8>>, CoseError>
-        ensures { MatchResult result (λ o. MatchOption o (tree self ≡ spec.simple 22) (λ b. tree self ≡ spec.bytes b.items))
-            (λ e. (fault_of e ≡ unexpected) × (is_bytes (tree self) ≡ false) × (tree self ≢ spec.simple 22)) };
+        ensures { MatchResult result
+            (λ o. MatchOption o (tree self ≡ spec.simple 22) (λ b. tree self ≡ spec.bytes b.items))
+            (λ e. (fault_of e ≡ unexpected) × (is_bytes (tree self) ≡ false)
+            × (tree self ≢ spec.simple 22)) };
 
     /// The items of an array.
     ///

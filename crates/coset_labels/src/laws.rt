@@ -3,7 +3,7 @@ ghost use Rattle.std.specs.Prelude.{◌≡◌, ◌↔◌, IsTrue};
 ghost use Rattle.std.specs.Cmp.{IsTotalOrder};
 ghost use Rattle.std.specs.Ordering.{ordering_then, bool_cmp};
 ghost use Rattle.std.specs.declared.cmp.Ordering.TheVariants.{Equal};
-ghost use Rattle.ciborium_value.specs.Tree.{text, integer};
+ghost use Rattle.ciborium_value.specs.Tree.{bytes, text, integer};
 ghost use Rattle.ciborium_value.specs.Encoding.{Fits};
 ghost use Rattle.ciborium_value.specs.Canonical.{bytewise};
 ghost use Rattle.coset_labels.specs.Labels.{label_tree, named_tree};
@@ -30,6 +30,13 @@ fn integer_fits(i: i64)
 
 fn text_fits(content: &str)
     ensures { Fits (text content.now) }
+{
+    let _len = content.len();
+}
+
+/// No slice is longer than a head can say.
+pub fn bytes_fit(content: &[u8])
+    ensures { Fits (bytes content.now) }
 {
     let _len = content.len();
 }
@@ -67,9 +74,12 @@ pub fn name_fits<T: EnumI64>(label: &RegisteredLabelWithPrivate<T>)
 
 /// Labels are equal where they say the same, and their order is that of their encodings. The length-first order ties equal ones alone.
 pub fn labels_compare(a: &Label, b: &Label)
-    ensures equality { IsTrue (⟦<Label as std::cmp::PartialEq>⟧.eq a.now b.now) ↔ (label_view a.now ≡ label_view b.now) }
-    ensures order { ⟦<Label as std::cmp::Ord>⟧.cmp a.now b.now ≡ bytewise (label_tree (label_view a.now)) (label_tree (label_view b.now)) }
-    ensures length_first { (label_length_first (label_view a.now) (label_view b.now) ≡ Equal) ↔ (label_view a.now ≡ label_view b.now) }
+    ensures equality { IsTrue (⟦<Label as std::cmp::PartialEq>⟧.eq a.now b.now)
+        ↔ (label_view a.now ≡ label_view b.now) }
+    ensures order { ⟦<Label as std::cmp::Ord>⟧.cmp a.now b.now
+        ≡ bytewise (label_tree (label_view a.now)) (label_tree (label_view b.now)) }
+    ensures length_first { (label_length_first (label_view a.now) (label_view b.now) ≡ Equal)
+        ↔ (label_view a.now ≡ label_view b.now) }
 {
     label_fits(a);
     label_fits(b);
@@ -81,7 +91,8 @@ pub fn registered_compare<T: EnumI64>(a: &RegisteredLabel<T>, b: &RegisteredLabe
     ensures equality { IsTrue (⟦<RegisteredLabel<T> as std::cmp::PartialEq>⟧.eq a.now b.now)
         ↔ (registered_view T.number a.now ≡ registered_view T.number b.now) }
     ensures order { ⟦<RegisteredLabel<T> as std::cmp::Ord>⟧.cmp a.now b.now
-        ≡ bytewise (named_tree (registered_view T.number a.now)) (named_tree (registered_view T.number b.now)) }
+        ≡ bytewise (named_tree (registered_view T.number a.now))
+        (named_tree (registered_view T.number b.now)) }
 {
     registered_fits(a);
     registered_fits(b);
@@ -94,10 +105,12 @@ pub fn names_compare<T: EnumI64>(
     a: &RegisteredLabelWithPrivate<T>,
     b: &RegisteredLabelWithPrivate<T>,
 )
-    ensures equality { IsTrue (⟦<RegisteredLabelWithPrivate<T> as std::cmp::PartialEq>⟧.eq a.now b.now)
+    ensures equality { IsTrue
+        (⟦<RegisteredLabelWithPrivate<T> as std::cmp::PartialEq>⟧.eq a.now b.now)
         ↔ (named_view T.number a.now ≡ named_view T.number b.now) }
     ensures order { ⟦<RegisteredLabelWithPrivate<T> as std::cmp::Ord>⟧.cmp a.now b.now
-        ≡ ordering_then (bytewise (named_tree (named_view T.number a.now)) (named_tree (named_view T.number b.now)))
+        ≡ ordering_then (bytewise (named_tree (named_view T.number a.now))
+        (named_tree (named_view T.number b.now)))
         (bool_cmp (is_own_number (named_view T.number a.now)) (is_own_number (named_view T.number b.now))) }
 {
     name_fits(a);

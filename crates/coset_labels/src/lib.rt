@@ -3,6 +3,7 @@
 
 mod alike;
 mod as_written;
+mod copies;
 mod error;
 mod kinds;
 mod label;
@@ -13,8 +14,10 @@ mod reading;
 mod registered;
 mod seen;
 mod traits;
+pub mod tuples;
 
 pub use crate::as_written::AsWritten;
+pub use crate::copies::{clone_bytes, clone_entries, clone_key};
 pub use crate::error::{CoseError, EndOfFile, Fault, Result};
 pub use crate::kinds::{ValueTryAs, cbor_type_error};
 pub use crate::label::Label;

@@ -1,6 +1,8 @@
 //! Limits of reading, chosen by the caller.
 ghost use Rattle.std.specs.Prelude.{◌≤◌};
 
+use ciborium::de::RECURSION_LIMIT;
+
 /// How deep readers of COSE follow what they are handed.
 ///
 /// Nesting is the number of levels that an item may open, each array, map and tag being one; it is
@@ -16,9 +18,6 @@ pub struct Limits {
     ghost least_layers: { 1 ≤ layers },
     ghost most_layers: { layers ≤ 64 },
 }
-
-/// The nesting where none is chosen.
-pub(crate) const NESTING: usize = 256;
 
 /// The layers where none are chosen.
 const LAYERS: usize = 16;
@@ -66,7 +65,7 @@ impl Default for Limits {
 
     fn default() -> Limits {
         Limits {
-            nesting: NESTING,
+            nesting: RECURSION_LIMIT,
             layers: LAYERS,
         }
     }

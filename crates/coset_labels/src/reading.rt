@@ -19,7 +19,8 @@ use std::alloc::Global;
 /// # Errors
 /// `DecodeFailed` with the damage of the bytes, `ExtraneousData` where they go on behind their item, or `Memory`.
 pub fn read_to_value(alloc: Global, bytes: &[u8], limit: usize) -> Result<Value, CoseError>
-    ensures { MatchResult result (λ v. Reads bytes.now limit (view v)) (λ e. OrMemory (NotReadable bytes.now limit) e) }
+    ensures { MatchResult result (λ v. Reads bytes.now limit (view v))
+        (λ e. OrMemory (NotReadable bytes.now limit) e) }
 {
     is_short(bytes);
     let mut decoder = Decoder::from(bytes);

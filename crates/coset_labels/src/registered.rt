@@ -56,7 +56,8 @@ impl<T: EnumI64> RegisteredLabel<T> {
     /// # Errors
     /// Only where memory is refused.
     pub fn clone(&self, alloc: Global) -> Result<RegisteredLabel<T>, AllocError>
-        ensures { IfOk result (λ copy. registered_view T.number copy ≡ registered_view T.number self.now) }
+        ensures { IfOk result
+            (λ copy. registered_view T.number copy ≡ registered_view T.number self.now) }
     {
         match self {
             RegisteredLabel::Assigned(entry) => Ok(RegisteredLabel::Assigned(*entry)),

@@ -71,9 +71,11 @@ impl<K: EntryKey> Seen<K> {
     /// # Errors
     /// Only where memory is refused.
     pub fn add(&mut self, alloc: Global, key: &K) -> Result<bool, CoseError>
-        ensures { (es : List (K.Fields × Tree)) → Sees K.cmp K.fields self.old es → MatchResult result
+        ensures { (es : List (K.Fields × Tree)) → Sees K.cmp K.fields self.old es
+            → MatchResult result
             (λ fresh. MatchBool fresh ((IsIn (K.fields key.now) es → ⊥)
-            × ((v : Tree) → Sees K.cmp K.fields self.new (es ++ (K.fields key.now, v) ∷ []))) (IsIn (K.fields key.now) es))
+            × ((v : Tree) → Sees K.cmp K.fields self.new (es ++ (K.fields key.now, v) ∷ [])))
+            (IsIn (K.fields key.now) es))
             (λ e. e ≡ Memory) }
     {
         let copy = key.clone_in(alloc)?;
@@ -82,7 +84,9 @@ impl<K: EntryKey> Seen<K> {
     }
 
     fn insert(&mut self, key: K) -> Result<bool, AllocError>
-        ensures { IfOk result (λ fresh. MatchBool fresh ((has_seen K.cmp self.old key ≡ false) × Grows K.cmp self.old self.new key)
+        ensures { IfOk result
+            (λ fresh. MatchBool fresh
+            ((has_seen K.cmp self.old key ≡ false) × Grows K.cmp self.old self.new key)
             (has_seen K.cmp self.old key ≡ true)) }
     {
         if is_same(&self.first, &key) || is_same(&self.second, &key) {

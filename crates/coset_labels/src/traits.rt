@@ -9,8 +9,8 @@ ghost use Rattle.coset_labels.specs.Reading.{HasItem, WrongItem, Tagged, WrongTa
 
 use crate::error::CoseError;
 use crate::kinds::ValueTryAs;
-use crate::limits::NESTING;
 use crate::reading::{read_to_value, write_to_vec};
+use ciborium::de::RECURSION_LIMIT;
 use ciborium_value::Value;
 use std::alloc::Global;
 
@@ -36,14 +36,16 @@ pub trait AsCborValue: Drop + Sized {
     /// # Errors
     /// A fault that the value has, or `Memory`.
     fn from_cbor_value(alloc: Global, value: Value) -> Result<Self, CoseError>
-        ensures { MatchResult result (λ x. shape (view value) (fields x)) (λ e. OrMemory (wrong (view value)) e) };
+        ensures { MatchResult result (λ x. shape (view value) (fields x))
+            (λ e. OrMemory (wrong (view value)) e) };
 
     /// The value that stands for this one.
     ///
     /// # Errors
     /// `DuplicateMapKey` exactly where a label would be written twice in one map, or `Memory`.
     fn to_cbor_value(self, alloc: Global) -> Result<Value, CoseError>
-        ensures { MatchResult result (λ v. written (fields self) ≡ Some (view v)) (λ e. CantWrite (written (fields self)) e) };
+        ensures { MatchResult result (λ v. written (fields self) ≡ Some (view v))
+            (λ e. CantWrite (written (fields self)) e) };
 }
 
 /// A type that can be read from the bytes of one item and written as such.
@@ -57,7 +59,7 @@ pub trait CborSerializable: AsCborValue {
         ensures { MatchResult result (λ x. HasItem Self.shape slice.now (Self.fields x))
             (λ e. OrMemory (WrongItem Self.wrong slice.now) e) }
     {
-        let value = read_to_value(alloc, slice, NESTING)?;
+        let value = read_to_value(alloc, slice, RECURSION_LIMIT)?;
         Self::from_cbor_value(alloc, value)
     }
 
@@ -66,7 +68,8 @@ pub trait CborSerializable: AsCborValue {
     /// # Errors
     /// `DuplicateMapKey` exactly where a label would be written twice in one map, or `Memory`.
     fn to_vec(self, alloc: Global) -> Result<Vec<u8>, CoseError>
-        ensures { MatchResult result (λ b. option_map enc (Self.written (Self.fields self)) ≡ Some b.items)
+        ensures { MatchResult result
+            (λ b. option_map enc (Self.written (Self.fields self)) ≡ Some b.items)
             (λ e. CantWrite (Self.written (Self.fields self)) e) }
     {
         let value = self.to_cbor_value(alloc)?;
@@ -110,10 +113,11 @@ pub trait TaggedCborSerializable: AsCborValue {
     /// # Errors
     /// As `from_slice`; `UnexpectedItem` for an item without the tag.
     fn from_tagged_slice(alloc: Global, slice: &[u8]) -> Result<Self, CoseError>
-        ensures { MatchResult result (λ x. HasItem (Tagged TAG Self.shape) slice.now (Self.fields x))
+        ensures { MatchResult result
+            (λ x. HasItem (Tagged TAG Self.shape) slice.now (Self.fields x))
             (λ e. OrMemory (WrongItem (WrongTagged TAG Self.wrong) slice.now) e) }
     {
-        let value = read_to_value(alloc, slice, NESTING)?;
+        let value = read_to_value(alloc, slice, RECURSION_LIMIT)?;
         let (tag, content) = value.try_as_tag()?;
         if tag != Self::TAG {
             return Err(CoseError::UnexpectedItem("tag", "other tag"));
@@ -126,7 +130,9 @@ pub trait TaggedCborSerializable: AsCborValue {
     /// # Errors
     /// `DuplicateMapKey` exactly where a label would be written twice in one map, or `Memory`.
     fn to_tagged_vec(self, alloc: Global) -> Result<Vec<u8>, CoseError>
-        ensures { MatchResult result (λ b. option_map (λ t. enc (tag TAG t)) (Self.written (Self.fields self)) ≡ Some b.items)
+        ensures { MatchResult result
+            (λ b. option_map (λ t. enc (tag TAG t)) (Self.written (Self.fields self))
+            ≡ Some b.items)
             (λ e. CantWrite (Self.written (Self.fields self)) e) }
     {
         let content = self.to_cbor_value(alloc)?;
@@ -140,7 +146,8 @@ pub trait TaggedCborSerializable: AsCborValue {
 /// # Errors
 /// `DuplicateMapKey` exactly where a label would be written twice in one map of an item, or `Memory`.
 pub fn to_cbor_array<T: AsCborValue>(alloc: Global, items: Vec<T>) -> Result<Value, CoseError>
-    ensures { MatchResult result (λ v. array_of T.written (map T.fields items.items) ≡ Some (view v))
+    ensures { MatchResult result
+        (λ v. array_of T.written (map T.fields items.items) ≡ Some (view v))
         (λ e. CantWrite (array_of T.written (map T.fields items.items)) e) }
 {
     let mut values = Vec::new(alloc);

@@ -1,6 +1,6 @@
 -- What is written of a message that was read has its fields again, nests no deeper, and is read again.
 use Rattle.std.proofs.Common.{ℕ, [], ◌∷◌, Some}
-use Rattle.ciborium_value.specs.Tree.{Tree, bytes}
+use Rattle.ciborium_value.specs.Tree.{bytes}
 use Rattle.coset_message_parts.proofs.Kept.{Kept, bytes_kept, whole_kept}
 use Rattle.coset_recipients.specs.Written.{list_tree}
 use Rattle.coset_recipients.proofs.Kept.{list_kept}

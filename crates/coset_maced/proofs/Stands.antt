@@ -1,13 +1,13 @@
 -- An authenticated message that was read is as written exactly where the test on its value says so.
 use Rattle.std.proofs.Common.{◌≡◌, ℕ, List, [], ◌∷◌, true, Option, None, Some, option_map, refl, sym, ap, subst, ◌∙◌}
 use Rattle.std.specs.Prelude.{◌&&◌, Decides}
-use Rattle.ciborium_value.specs.Tree.{Tree, bytes, array, Trees}
+use Rattle.ciborium_value.specs.Tree.{Tree, bytes, array}
 use Rattle.ciborium_value.specs.View.{trees}
 use Rattle.coset_labels.specs.Arrays.{all_written}
 use Rattle.coset_headers.specs.AsWritten.{header_stands, signature_stands}
-use Rattle.coset_message_parts.specs.Written.{whole_tree}
 use Rattle.coset_message_parts.proofs.Again.{map_made}
 use Rattle.coset_message_parts.specs.Shapes.{one_held, two_held}
+use Rattle.coset_message_parts.proofs.Once.{in_array}
 use Rattle.coset_message_parts.proofs.Stands.{and_true, whole_stands}
 use Rattle.coset_recipients.specs.Fields.{RecipientsFields}
 use Rattle.coset_recipients.specs.Shapes.{HasList}
@@ -27,9 +27,6 @@ mac0_by n m t k h =
     (λ e. ap Some (sym (w.1 ∙ ap (λ d. d ∷ []) w.2)), λ e. refl))
 
 -- ---- with recipients
-inside_same : (us vs : Trees) → array us ≡ array vs → us ≡ vs
-inside_same us vs e = cc
-
 list_by : (n : ℕ) (rs : RecipientsFields) (t : Tree) (k : ℕ) → HasList n t rs k → Decides (list_stands t) (list_tree rs ≡ Some t)
 list_by n rs t k (us, e, h) =
     let d = recipients_by n rs us k h in
@@ -37,7 +34,7 @@ list_by n rs t k (us, e, h) =
       λ f. ap (option_map array) (d.0 f),
       λ f.
           let w = map_made array (recipients_trees rs) (array us) f in
-          d.1 (w.1 ∙ ap Some (inside_same w.0 us w.2)),
+          d.1 (w.1 ∙ ap Some (in_array w.0 us w.2)),
     )
 
 second_same : (w x y z : Tree) → w ∷ x ∷ [] ≡ y ∷ z ∷ [] → x ≡ z

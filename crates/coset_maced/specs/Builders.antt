@@ -1,8 +1,8 @@
 -- What builders have so far.
 use Rattle.coset_maced.specs.Fields.{Mac0Fields, MacFields}
 use Rattle.coset_maced.specs.View.{mac0_view, mac_view}
-use Rattle.coset_maced.specs.declared.builder0.CoseMac0Builder.{CoseMac0Builder}
-use Rattle.coset_maced.specs.declared.builder.CoseMacBuilder.{CoseMacBuilder}
+use Rattle.coset_maced.specs.declared.mac0_builder.CoseMac0Builder.{CoseMac0Builder}
+use Rattle.coset_maced.specs.declared.mac_builder.CoseMacBuilder.{CoseMacBuilder}
 
 abbrev pub mac0_so_far : CoseMac0Builder → Mac0Fields
 mac0_so_far b = mac0_view b.message

@@ -2,15 +2,16 @@
 #![tactic(auto)]
 
 mod as_written;
-mod builder;
-mod builder0;
 pub mod laws;
 mod mac;
 mod mac0;
-mod serial;
+mod mac0_builder;
+mod mac0_serial;
+mod mac_builder;
+mod mac_serial;
 
-pub use crate::builder::CoseMacBuilder;
-pub use crate::builder0::CoseMac0Builder;
 pub use crate::mac::CoseMac;
+pub use crate::mac_builder::CoseMacBuilder;
 pub use crate::mac0::CoseMac0;
+pub use crate::mac0_builder::CoseMac0Builder;
 pub use coset_recipients::{CoseRecipient, CoseRecipientBuilder};

@@ -2,14 +2,13 @@
 ghost use Rattle.std.specs.Prelude.{◌≡◌, IsSome, IfSome, IfNone, IsSomeAnd, IfOk, MatchOption, MatchResult, Some};
 ghost use Rattle.coset_labels.specs.Faults.{CantWrite};
 ghost use Rattle.coset_message_parts.specs.Calls.{TakesPairWhere, AnswersWhere, AnswersMissing};
-ghost use Rattle.coset_message_parts.specs.Written.{content_bytes};
 ghost use Rattle.coset_maced.specs.Fields.{no_mac0};
-ghost use Rattle.coset_maced.specs.Structure.{mac0_covered};
+ghost use Rattle.coset_maced.specs.Structure.{mac0_covered, mac0_covered_with};
 ghost use Rattle.coset_maced.specs.View.{mac0_view};
 
 use coset_headers::{Header, ProtectedHeader};
-use coset_labels::{CoseError, Fault};
-use coset_message_parts::{clone_bytes, content_bytes};
+use coset_labels::{CoseError, Fault, clone_bytes};
+use coset_message_parts::content_bytes;
 use coset_structures::{MacContext, mac_structure_data};
 use std::alloc::{AllocError, Global};
 
@@ -58,27 +57,25 @@ impl CoseMac0 {
         })
     }
 
-    /// The MAC_structure of the protected header, external data and a payload.
-    pub(crate) fn covered(
-        &self,
-        alloc: Global,
-        aad: &[u8],
-        payload: &[u8],
-    ) -> Result<Vec<u8>, CoseError>
-        ensures { MatchResult result (λ v. mac0_covered (mac0_view self.now) aad.now payload.now ≡ Some v.items)
-            (λ e. CantWrite (mac0_covered (mac0_view self.now) aad.now payload.now) e) }
+    /// The bytes that the tag covers with this payload, the MAC_structure (RFC 9052, section 6.3).
+    ///
+    /// # Errors
+    /// `DuplicateMapKey` exactly where a label stands twice in a protected header that has to be encoded, or `Memory`.
+    pub fn covered(&self, alloc: Global, payload: &[u8], aad: &[u8]) -> Result<Vec<u8>, CoseError>
+        ensures { MatchResult result
+            (λ v. mac0_covered_with (mac0_view self.now) payload.now aad.now ≡ Some v.items)
+            (λ e. CantWrite (mac0_covered_with (mac0_view self.now) payload.now aad.now) e) }
     {
         mac_structure_data(alloc, MacContext::CoseMac0, &self.protected, aad, payload)
     }
 
-    /// The MAC_structure of the protected header, external data and the payload. A payload that isn't there counts as empty.
+    /// As `covered`, with the message's own payload. One that isn't there counts as empty.
     pub(crate) fn carried(&self, alloc: Global, aad: &[u8]) -> Result<Vec<u8>, CoseError>
         ensures { MatchResult result
-            (λ v. mac0_covered (mac0_view self.now) aad.now (content_bytes (mac0_view self.now).payload) ≡ Some v.items)
-            (λ e. CantWrite (mac0_covered (mac0_view self.now) aad.now (content_bytes (mac0_view self.now).payload)) e) }
+            (λ v. mac0_covered (mac0_view self.now) aad.now ≡ Some v.items)
+            (λ e. CantWrite (mac0_covered (mac0_view self.now) aad.now) e) }
     {
-        let payload = content_bytes(&self.payload);
-        self.covered(alloc, aad, payload)
+        self.covered(alloc, content_bytes(&self.payload), aad)
     }
 
     /// Asks the verifier about the tag (RFC 9052, section 6.3). The verifier is handed the tag and the MAC_structure of the protected
@@ -95,12 +92,13 @@ impl CoseMac0 {
     ) -> Result<(), Fault<E>>
         requires present { IsSome self.now.payload }
         requires verifier { IfSome self.now.payload
-            (λ b. TakesPairWhere V.FnOnce verifier self.now.tag.items (mac0_covered (mac0_view self.now) aad.now b.items)) }
+            (λ b. TakesPairWhere V.FnOnce verifier self.now.tag.items
+            (mac0_covered_with (mac0_view self.now) b.items aad.now)) }
         ensures { IsSomeAnd self.now.payload
-            (λ b. AnswersWhere V.FnOnce verifier self.now.tag.items (mac0_covered (mac0_view self.now) aad.now b.items) result) }
+            (λ b. AnswersWhere V.FnOnce verifier self.now.tag.items
+            (mac0_covered_with (mac0_view self.now) b.items aad.now) result) }
     {
-        let payload = content_bytes(&self.payload);
-        let data = self.covered(alloc, aad, payload)?;
+        let data = self.covered(alloc, content_bytes(&self.payload), aad)?;
         verifier(self.tag.as_slice(), data.as_slice()).map_err(Fault::Caller)
     }
 
@@ -117,14 +115,16 @@ impl CoseMac0 {
     ) -> Result<(), Fault<E>>
         requires missing { IfNone self.now.payload (M.IsAlwaysCallable missing) }
         requires verifier { IfSome self.now.payload
-            (λ b. TakesPairWhere V.FnOnce verifier self.now.tag.items (mac0_covered (mac0_view self.now) aad.now b.items)) }
+            (λ b. TakesPairWhere V.FnOnce verifier self.now.tag.items
+            (mac0_covered_with (mac0_view self.now) b.items aad.now)) }
         ensures { MatchOption self.now.payload (AnswersMissing M.FnOnce missing result)
-            (λ b. AnswersWhere V.FnOnce verifier self.now.tag.items (mac0_covered (mac0_view self.now) aad.now b.items) result) }
+            (λ b. AnswersWhere V.FnOnce verifier self.now.tag.items
+            (mac0_covered_with (mac0_view self.now) b.items aad.now) result) }
     {
         match &self.payload {
             None => Err(Fault::Caller(missing())),
             Some(payload) => {
-                let covered = self.covered(alloc, aad, payload.as_slice())?;
+                let covered = self.covered(alloc, payload.as_slice(), aad)?;
                 verifier(self.tag.as_slice(), covered.as_slice()).map_err(Fault::Caller)
             }
         }

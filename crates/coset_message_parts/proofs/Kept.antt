@@ -2,13 +2,14 @@
 -- rests on the same of the parts and of the last items.
 use Rattle.std.proofs.Common.{◌≡◌, ◌≢◌, ℕ, ◌≤◌, ◌<◌, ◌-◌, ◌^◌, List, [], ◌∷◌, ◌++◌, length, false, Option, Some, None, option_map, sym, ap, subst, ◌∙◌, arith}
 use Rattle.std.specs.Prelude.{◌||◌, nat_eq}
+use Rattle.ciborium.specs.Front.{Reads}
 use Rattle.ciborium_value.specs.Tree.{Tree, bytes, array, tag, tree_count}
 use Rattle.ciborium_value.specs.View.{trees}
 use Rattle.ciborium_value.specs.Encoding.{enc, Fits, FitAll}
 use Rattle.coset_labels.specs.Arrays.{all_written}
 use Rattle.coset_labels.specs.Reading.{HasItem, Tagged}
 use Rattle.coset_headers.specs.Fields.{HeaderFields, ProtectedFields}
-use Rattle.coset_headers.proofs.Sound.{Sound, SoundAll, all_none, all_more, all_parts, bytes_sound}
+use Rattle.coset_headers.proofs.Sound.{Sound, SoundAll, all_none, all_more, all_parts, bytes_sound, reads_sound, sound_reads}
 use Rattle.coset_headers.proofs.Writable.{some_is, map_some, and_some}
 use Rattle.coset_message_parts.specs.Shapes.{HoldOf, HasWhole}
 use Rattle.coset_message_parts.specs.Short.{PartsShort}
@@ -122,6 +123,9 @@ whole_kept n p u c Ps os k a = record {
 }
 
 -- ---- bytes
+pub kept_reads : (P : Tree → Type 0) (o : Option Tree) → Kept P o → (limit : ℕ) (b : List ℕ) (t u : Tree) → Reads b limit t → P t → o ≡ Some u → Fits u → Reads (enc u) limit u × P u
+kept_reads P o a limit b t u i h e l = (sound_reads limit u l (a.sound limit t u h e (reads_sound b limit t i)), a.again t u h e)
+
 pub kept_item : {F : Type 0} (Shape : Tree → F → Type 0) (f : F) (o : Option Tree) → Kept (λ t. Shape t f) o → (b : List ℕ) (u : Tree) → ((t : Tree) → Shape t f → Fits u) → HasItem Shape b f → o ≡ Some u → HasItem Shape (enc u) f
 kept_item Shape f o a b u l i e = item_again Shape b f u i (l i.tree i.shape) (λ s. a.sound 256 i.tree u i.shape e s) (a.again i.tree u i.shape e)
 

@@ -104,7 +104,7 @@ whole_once n t p q u v c d Ps Qs k a b =
     let parts = parts_once n a.first a.second a.third p q u v c d k a.parts (parts_moved n a.first a.second a.third b.first b.second b.third q v d k s.first s.second s.third b.parts) in
     record { protected = parts.0; unprotected = parts.1; content = parts.2; lasts = shared Ps Qs a.lasts a.hold (subst (HoldOf Qs) (sym s.lasts) b.hold) }
 
-in_array : (ts us : Trees) → array ts ≡ array us → ts ≡ us
+pub in_array : (ts us : Trees) → array ts ≡ array us → ts ≡ us
 in_array ts us e = cc
 
 pub whole_not : (n : ℕ) (t : Tree) (p : ProtectedFields) (u : HeaderFields) (c : Option (List ℕ)) (Ws : List (Tree → CoseFault → Type 0)) (Ps : List (Tree → Type 0)) (k : ℕ) (e : CoseFault)

@@ -4,7 +4,7 @@ use Rattle.ciborium_value.specs.Tree.{Tree, simple, is_bytes}
 use Rattle.coset_labels.specs.Faults.{OrMemory, fault_of, unexpected}
 use Rattle.coset_labels.specs.declared.error.CoseError.{CoseError}
 use Rattle.coset_headers.specs.Wrong.{WrongHeader, WrongProtected}
-use Rattle.coset_headers.proofs.Steps.{passed_on}
+use Rattle.coset_labels.specs.Facts.Walks.{passed_on}
 use Rattle.coset_message_parts.specs.Wrong.{WrongParts, in_protected, in_unprotected, in_content}
 
 pub parts_content : (n : ℕ) (a b c : Tree) (k : ℕ) (e : CoseError) → (fault_of e ≡ unexpected) × (is_bytes c ≡ false) × (c ≢ simple 22) → OrMemory (WrongParts n a b c k) e

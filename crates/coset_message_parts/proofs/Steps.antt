@@ -1,5 +1,5 @@
 -- What one step of reading or writing a message shows, over plain variables.
-use Rattle.std.proofs.Common.{◌≡◌, ℕ, inl, inr, List, [], ◌∷◌, ◌++◌, length, map, false, Option, Some, None, option_map, option_and_then, refl, sym, ap, subst, ◌∙◌, append_assoc, Vec, Global}
+use Rattle.std.proofs.Common.{◌≡◌, ◌≢◌, ℕ, ◌+◌, inl, inr, List, [], ◌∷◌, ◌++◌, length, map, false, Option, Some, None, option_map, option_and_then, refl, sym, ap, subst, ◌∙◌, append_assoc, Vec, Global}
 use Rattle.std.proofs.lemmas.List.{map-append}
 use Rattle.ciborium_value.specs.Tree.{Tree, array, Trees, is_bytes}
 use Rattle.ciborium_value.specs.View.{trees, view, views}
@@ -7,14 +7,14 @@ use Rattle.ciborium_value.specs.declared.value.Value.{Value}
 use Rattle.ciborium_value.specs.declared.value.Value.TheVariants as code
 use Rattle.ciborium_value.proofs.Views.{view_array}
 use Rattle.coset_labels.specs.Arrays.{all_written}
+use Rattle.coset_labels.specs.Facts.Walks.{passed_on, views_count}
 use Rattle.coset_labels.specs.Faults.{CoseFault, OrMemory, CantWrite, fault_of, unexpected}
 use Rattle.coset_labels.specs.Kinds.{is_array}
 use Rattle.coset_labels.specs.declared.error.CoseError.{CoseError}
 use Rattle.coset_headers.specs.Fields.{HeaderFields, ProtectedFields}
-use Rattle.coset_headers.proofs.Steps.{passed_on}
 use Rattle.coset_message_parts.specs.Shapes.{HasParts, HoldOf, HasWhole}
 use Rattle.coset_message_parts.specs.Written.{parts_trees, whole_tree}
-use Rattle.coset_message_parts.specs.Wrong.{WrongParts, IsNoBytes, how_many, AnyWrong, WrongWhole, no_array, in_parts, in_lasts}
+use Rattle.coset_message_parts.specs.Wrong.{WrongParts, IsNoBytes, how_many, AnyWrong, WrongWhole, no_array, not_as_many, in_parts, in_lasts}
 
 -- ---- reading
 pub no_bytes : (t : Tree) (e : CoseError) → (fault_of e ≡ unexpected) × (is_bytes t ≡ false) → OrMemory (IsNoBytes t) e
@@ -22,6 +22,9 @@ no_bytes t e p = inr (p.1, p.0)
 
 pub whole_kind : (n : ℕ) (t : Tree) (Ws : List (Tree → CoseFault → Type 0)) (k : ℕ) (e : CoseError) → (fault_of e ≡ unexpected) × (is_array t ≡ false) → OrMemory (WrongWhole n t Ws k) e
 whole_kind n t Ws k e p = inr (subst (WrongWhole n t Ws k) (sym p.0) (no_array p.1))
+
+pub whole_count : (n : ℕ) (t : Tree) (Ws : List (Tree → CoseFault → Type 0)) (k : ℕ) (vs : List Value) → t ≡ array (views vs) → length vs ≢ 3 + how_many Ws → WrongWhole n t Ws k unexpected
+whole_count n t Ws k vs q m = not_as_many (views vs) q (λ e. m (sym (views_count vs) ∙ e))
 
 pub whole_parts : (n : ℕ) (t : Tree) (Ws : List (Tree → CoseFault → Type 0)) (k : ℕ) (x y z : Tree) (ls : List Tree) (ts : Trees) (e : CoseError) → t ≡ array ts → ts ≡ trees (x ∷ y ∷ z ∷ ls) → length ls ≡ how_many Ws
     → OrMemory (WrongParts n x y z k) e → OrMemory (WrongWhole n t Ws k) e

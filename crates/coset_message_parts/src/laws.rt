@@ -1,7 +1,7 @@
 //! Laws of the definitions.
 ghost use Rattle.std.specs.Prelude.{◌≡◌, ◌↔◌, List, IsTrue, Some, option_map};
 ghost use Rattle.ciborium_value.specs.Encoding.{Fits, FitAll};
-ghost use Rattle.ciborium_value.specs.Tree.{Tree, bytes};
+ghost use Rattle.ciborium_value.specs.Tree.{Tree};
 ghost use Rattle.ciborium_value.specs.View.{trees};
 ghost use Rattle.coset_headers.specs.View.{header_view, protected_view};
 ghost use Rattle.coset_message_parts.specs.Short.{PartsShort};
@@ -10,19 +10,7 @@ ghost use Rattle.coset_message_parts.specs.Written.{optional_tree, parts_trees};
 use crate::parts::Parts;
 use coset_headers::laws::{header_fits, protected_fits};
 use coset_headers::{Header, ProtectedHeader};
-
-fn slice_fits(content: &[u8])
-    ensures { Fits (bytes content.now) }
-{
-    let _len = content.len();
-}
-
-/// A byte string fits heads: it has fewer than 2^64 bytes.
-pub fn bytes_fit(content: &Vec<u8>)
-    ensures { Fits (bytes content.now.items) }
-{
-    slice_fits(content.as_slice());
-}
+use coset_labels::laws::bytes_fit;
 
 fn optional_fits(content: &Option<Vec<u8>>)
     ensures { Fits (optional_tree (option_map (λ v. v.items) content.now)) }
@@ -33,11 +21,14 @@ fn optional_fits(content: &Option<Vec<u8>>)
     }
 }
 
-/// What is written of parts fits heads, if each protected header in them that has no received bytes is encoded in fewer than 2^64 bytes.
+/// What is written of parts fits heads, if each protected header in them that has no received bytes is encoded in fewer
+/// than 2^64 bytes.
 pub fn parts_fit(protected: &ProtectedHeader, unprotected: &Header, content: &Option<Vec<u8>>)
     ensures { (ts : List Tree)
-        → parts_trees (protected_view protected.now) (header_view unprotected.now) (option_map (λ v. v.items) content.now) ≡ Some ts
-        → PartsShort (protected_view protected.now) (header_view unprotected.now) → FitAll (trees ts) }
+        → parts_trees (protected_view protected.now) (header_view unprotected.now)
+        (option_map (λ v. v.items) content.now) ≡ Some ts
+        → PartsShort (protected_view protected.now) (header_view unprotected.now)
+        → FitAll (trees ts) }
 {
     protected_fits(protected);
     header_fits(unprotected);

@@ -2,11 +2,7 @@
 //! (RFC 9052, sections 4 to 6).
 #![tactic(auto)]
 
-mod arrays;
 pub mod laws;
 mod parts;
 
-pub use crate::arrays::{five, four, three};
-pub use crate::parts::{
-    Parts, clone_bytes, content_bytes, optional_value, read_parts, write_parts,
-};
+pub use crate::parts::{Parts, content_bytes, optional_value, read_parts, write_parts};

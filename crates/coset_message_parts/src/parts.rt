@@ -1,5 +1,5 @@
 //! The parts that each message and each recipient begins with.
-ghost use Rattle.std.specs.Prelude.{◌≡◌, Some, MatchResult, IfOk, map, option_map};
+ghost use Rattle.std.specs.Prelude.{◌≡◌, Some, MatchResult, map, option_map};
 ghost use Rattle.ciborium_value.specs.View.{view};
 ghost use Rattle.coset_labels.specs.Faults.{OrMemory, CantWrite};
 ghost use Rattle.coset_labels.specs.Limits.{nesting_of, layers_of};
@@ -11,7 +11,7 @@ ghost use Rattle.coset_message_parts.specs.Written.{optional_tree, parts_trees, 
 use ciborium_value::Value;
 use coset_headers::{Header, ProtectedHeader};
 use coset_labels::{AsCborValue, CoseError, Limits, ValueTryAs};
-use std::alloc::{AllocError, Global};
+use std::alloc::Global;
 
 /// The headers of a message or a recipient, and what it carries: a payload or a ciphertext, or nothing.
 #[derive(Debug, PartialEq, Eq, Drop)]
@@ -38,8 +38,12 @@ pub fn read_parts(
     want: &'static str,
 ) -> Result<Parts, CoseError>
     ensures { MatchResult result
-        (λ p. HasParts (nesting_of limits) (view protected) (view unprotected) (view content) (protected_view p.protected) (header_view p.unprotected) (option_map (λ b. b.items) p.content) (layers_of limits))
-        (λ e. OrMemory (WrongParts (nesting_of limits) (view protected) (view unprotected) (view content) (layers_of limits)) e) }
+        (λ p. HasParts (nesting_of limits) (view protected) (view unprotected) (view content)
+        (protected_view p.protected) (header_view p.unprotected)
+        (option_map (λ b. b.items) p.content) (layers_of limits))
+        (λ e. OrMemory
+        (WrongParts (nesting_of limits) (view protected) (view unprotected) (view content)
+        (layers_of limits)) e) }
 {
     let content = content.try_as_bytes_or_nil(want)?;
     let unprotected = Header::from_cbor_value_with(alloc, unprotected, limits)?;
@@ -57,8 +61,11 @@ pub fn read_parts(
 /// `DuplicateMapKey` exactly where a label stands twice in a header that has to be encoded, or `Memory`.
 pub fn write_parts(alloc: Global, parts: Parts) -> Result<Vec<Value>, CoseError>
     ensures { MatchResult result
-        (λ v. parts_trees (protected_view parts.protected) (header_view parts.unprotected) (option_map (λ b. b.items) parts.content) ≡ Some (map view v.items))
-        (λ e. CantWrite (parts_trees (protected_view parts.protected) (header_view parts.unprotected) (option_map (λ b. b.items) parts.content)) e) }
+        (λ v. parts_trees (protected_view parts.protected) (header_view parts.unprotected)
+        (option_map (λ b. b.items) parts.content) ≡ Some (map view v.items))
+        (λ e. CantWrite
+        (parts_trees (protected_view parts.protected) (header_view parts.unprotected)
+        (option_map (λ b. b.items) parts.content)) e) }
 {
     let Parts {
         protected,
@@ -91,18 +98,5 @@ pub fn content_bytes(content: &Option<Vec<u8>>) -> &[u8]
     match content {
         Some(content) => content.as_slice(),
         None => &[],
-    }
-}
-
-/// The same bytes again.
-///
-/// # Errors
-/// Only where memory is refused.
-pub fn clone_bytes(alloc: Global, bytes: &Option<Vec<u8>>) -> Result<Option<Vec<u8>>, AllocError>
-    ensures { IfOk result (λ copy. option_map (λ v. v.items) copy ≡ option_map (λ v. v.items) bytes.now) }
-{
-    match bytes {
-        Some(bytes) => Ok(Some(bytes.as_slice().to_vec(alloc)?)),
-        None => Ok(None),
     }
 }

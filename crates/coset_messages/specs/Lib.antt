@@ -56,6 +56,7 @@ pub use Rattle.coset_maced.specs.WrongRecipient
 pub use Rattle.coset_maced.specs.CoseRecipient
 pub use Rattle.coset_maced.specs.CoseRecipientBuilder
 pub use Rattle.coset_signed.specs.Added
+pub use Rattle.coset_signed.specs.Builders as SignedBuilders
 pub use Rattle.coset_signed.specs.Fields as SignedFields
 pub use Rattle.coset_signed.specs.Shapes as SignedShapes
 pub use Rattle.coset_signed.specs.Short as SignedShort
@@ -76,9 +77,9 @@ pub use Rattle.coset_maced.specs.View as MacedView
 pub use Rattle.coset_maced.specs.Written as MacedWritten
 pub use Rattle.coset_maced.specs.Wrong as WrongMaced
 pub use Rattle.coset_maced.specs.declared.mac0.CoseMac0
-pub use Rattle.coset_maced.specs.declared.builder0.CoseMac0Builder
+pub use Rattle.coset_maced.specs.declared.mac0_builder.CoseMac0Builder
 pub use Rattle.coset_maced.specs.declared.mac.CoseMac
-pub use Rattle.coset_maced.specs.declared.builder.CoseMacBuilder
+pub use Rattle.coset_maced.specs.declared.mac_builder.CoseMacBuilder
 pub use Rattle.coset_encrypted.specs.Builders as EncryptedBuilders
 pub use Rattle.coset_encrypted.specs.Fields as EncryptedFields
 pub use Rattle.coset_encrypted.specs.Shapes as EncryptedShapes
@@ -88,6 +89,6 @@ pub use Rattle.coset_encrypted.specs.View as EncryptedView
 pub use Rattle.coset_encrypted.specs.Written as EncryptedWritten
 pub use Rattle.coset_encrypted.specs.Wrong as WrongEncrypted
 pub use Rattle.coset_encrypted.specs.declared.encrypt0.CoseEncrypt0
-pub use Rattle.coset_encrypted.specs.declared.builder0.CoseEncrypt0Builder
+pub use Rattle.coset_encrypted.specs.declared.encrypt0_builder.CoseEncrypt0Builder
 pub use Rattle.coset_encrypted.specs.declared.encrypt.CoseEncrypt
-pub use Rattle.coset_encrypted.specs.declared.builder.CoseEncryptBuilder
+pub use Rattle.coset_encrypted.specs.declared.encrypt_builder.CoseEncryptBuilder

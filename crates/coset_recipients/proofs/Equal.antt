@@ -1,12 +1,12 @@
 -- Derived equality of recipients is that of what they say, with all recipients in them.
 use Rattle.std.proofs.Common.{◌≡◌, List, [], ◌∷◌, map, Bool, true, false, option_map, refl, sym, subst, ◌∙◌}
 use Rattle.std.specs.Prelude.{IsTrue, ◌↔◌, ◌&&◌, nat_eq}
-use Rattle.std.specs.Cmp.Lexicographic.{pointwise, bytes_decides}
+use Rattle.std.specs.Cmp.Lexicographic.{pointwise}
 use Rattle.std.specs.Option.{option_eq}
-use Rattle.coset_headers.specs.Decided.{headers_decided, protected_decided}
+use Rattle.coset_labels.specs.Facts.Equal.{both}
 use Rattle.coset_headers.specs.Same.{same_header, same_protected}
 use Rattle.coset_headers.specs.View.{header_view, protected_view}
-use Rattle.coset_message_parts.proofs.Equal.{both, options}
+use Rattle.coset_message_parts.proofs.Equal.{parts_and}
 use Rattle.coset_recipients.specs.Fields.{recipient, recipients, no_recipients, recipient_more}
 use Rattle.coset_recipients.specs.View.{recipient_view, recipients_view, fields_of}
 use Rattle.coset_recipients.specs.declared.recipient.CoseRecipient.{CoseRecipient, out-CoseRecipient, roll-CoseRecipient}
@@ -62,10 +62,8 @@ items (x ∷ xs) (y ∷ ys) =
 
 at_layer : (x : CoseRecipient-F Such) (y : CoseRecipient-F CoseRecipient) → IsTrue (layer (bare x) y) ↔ (fields_of (bare x) ≡ fields_of y)
 at_layer x y =
-    let w = both _ _ (protected_decided (protected_view x.protected) (protected_view y.protected))
-    (both _ _ (headers_decided (header_view x.unprotected) (header_view y.unprotected))
-    (both _ _ (options (λ v w. pointwise nat_eq v.items w.items) (λ v. v.items) (λ v w. bytes_decides v.items w.items) x.ciphertext y.ciphertext)
-    (items x.recipients.items y.recipients.items))) in (
+    let w = parts_and (λ v. v.items) (protected_view x.protected) (protected_view y.protected) (header_view x.unprotected) (header_view y.unprotected) x.ciphertext y.ciphertext _
+    (items x.recipients.items y.recipients.items) in (
       λ h. let p = w.0 h in λ i. recipient (p.0 i) (p.1.0 i) (p.1.1.0 i) (p.1.1.1 i),
       λ h.
           let k : fields_of (bare x) ≡ fields_of y = h in

@@ -4,7 +4,7 @@ use Rattle.ciborium_value.specs.Tree.{Tree, array, Trees, no_trees, one_more, tr
 use Rattle.ciborium_value.specs.View.{trees}
 use Rattle.coset_labels.specs.Faults.{CoseFault}
 use Rattle.coset_labels.specs.Kinds.{is_array}
-use Rattle.coset_message_parts.proofs.Once.{parts_moved, parts_not}
+use Rattle.coset_message_parts.proofs.Once.{in_array, parts_moved, parts_not}
 use Rattle.coset_recipients.specs.Fields.{RecipientFields, recipient, RecipientsFields, no_recipients, recipient_more}
 use Rattle.coset_recipients.specs.Shapes.{three_or_four, HasRecipient, HasRecipients, HasInner, HasList}
 use Rattle.coset_recipients.specs.Wrong.{WrongRecipient, no_array, not_three_or_four, in_parts, in_fourth, WrongList, no_list, in_list}
@@ -13,9 +13,6 @@ use Rattle.coset_recipients.proofs.Unique.{four_same}
 counts : (ts : Trees) (x y z : Tree) (o : Option Tree) → tree_count ts ≢ 3 → tree_count ts ≢ 4 → ts ≡ three_or_four x y z o → ⊥
 counts ts x y z None n m e = n (ap tree_count e)
 counts ts x y z (Some t) n m e = m (ap tree_count e)
-
-in_array : (ts us : Trees) → array ts ≡ array us → ts ≡ us
-in_array ts us e = cc
 
 recipients_at : (n k : ℕ) (before after : List Tree) (t : Tree) (rs : RecipientsFields) → HasRecipients n (trees (before ++ t ∷ after)) rs k → (r : RecipientFields) × HasRecipient n t r k
 recipients_at n k [] after t no_recipients a = let e : one_more t (trees after) ≡ no_trees = a in cc

@@ -4,18 +4,19 @@ use Rattle.std.proofs.lemmas.List.{map-append}
 use Rattle.ciborium_value.specs.Tree.{Tree, array, Trees, no_trees, one_more, tree_count}
 use Rattle.ciborium_value.specs.View.{trees, view, views}
 use Rattle.ciborium_value.specs.declared.value.Value.{Value}
+use Rattle.coset_labels.specs.Facts.Walks.{passed_on}
 use Rattle.coset_labels.specs.Faults.{CoseFault, OrMemory, fault_of, unexpected}
 use Rattle.coset_labels.specs.Kinds.{is_array}
+use Rattle.coset_labels.specs.Walks.{WrongItems}
 use Rattle.coset_labels.specs.declared.error.CoseError.{CoseError}
 use Rattle.coset_headers.specs.View.{header_view, protected_view}
 use Rattle.coset_headers.specs.Weight.{weight, weight_all}
-use Rattle.coset_headers.proofs.Steps.{passed_on}
 use Rattle.coset_message_parts.specs.Shapes.{HasParts}
 use Rattle.coset_message_parts.specs.Wrong.{WrongParts}
 use Rattle.coset_recipients.specs.Fields.{RecipientFields, recipients, RecipientsFields}
 use Rattle.coset_recipients.specs.Shapes.{three_or_four, HasRecipient, HasRecipients, HasInner, HasList}
 use Rattle.coset_recipients.specs.View.{recipient_view, recipients_view}
-use Rattle.coset_recipients.specs.Walks.{WrongRecipients, WrongInner, weight_of}
+use Rattle.coset_recipients.specs.Walks.{WrongInner, weight_of}
 use Rattle.coset_recipients.specs.Wrong.{WrongRecipient, no_array, not_three_or_four, in_parts, in_fourth, WrongList, no_list, in_list}
 use Rattle.coset_recipients.specs.declared.recipient.CoseRecipient.{CoseRecipient, roll-CoseRecipient}
 use Rattle.coset_recipients.specs.declared.recipient.CoseRecipient.TheOpen.{CoseRecipient-F}
@@ -51,8 +52,8 @@ inner_has n t rs k h = inr (h.0, ap Some h.1, h.2)
 pub list_kind : (n : ℕ) (t : Tree) (k : ℕ) (e : CoseError) → (fault_of e ≡ unexpected) × (is_array t ≡ false) → OrMemory (WrongList n t k) e
 list_kind n t k e p = inr (subst (WrongList n t k) (sym p.0) (no_list t k p.1))
 
-pub list_inside : (n : ℕ) (t : Tree) (ts : Trees) (k : ℕ) (e : CoseError) → t ≡ array ts → OrMemory (WrongRecipients n ts k) e → OrMemory (WrongList n t k) e
-list_inside n t ts k e q w = passed_on (WrongRecipients n ts k) (WrongList n t k) e
+pub list_inside : (n : ℕ) (t : Tree) (ts : Trees) (k : ℕ) (e : CoseError) → t ≡ array ts → OrMemory (WrongItems (λ u. WrongRecipient n u k) ts) e → OrMemory (WrongList n t k) e
+list_inside n t ts k e q w = passed_on (WrongItems (λ u. WrongRecipient n u k) ts) (WrongList n t k) e
     (λ x. subst (λ z. WrongList n z k (fault_of e)) (ap array (sym x.are) ∙ sym q) (in_list x.before x.after x.tree k (fault_of e) x.wrong)) w
 
 snoc : (n : ℕ) (ts : List Tree) (t : Tree) (rs : List RecipientFields) (r : RecipientFields) (k : ℕ) → HasRecipients n (trees ts) (recipients rs) k → HasRecipient n t r k → HasRecipients n (trees (ts ++ t ∷ [])) (recipients (rs ++ r ∷ [])) k
@@ -71,10 +72,6 @@ recipients_pushed n xs x rs us r k e a b =
     subst (λ z. HasRecipients n z (recipients_view us) k) (ap trees (sym (map-append view xs (x ∷ []))))
     (subst (λ z. HasRecipients n (trees (map view xs ++ view x ∷ [])) z k) (ap recipients (sym (map-append recipient_view rs (r ∷ []))) ∙ ap recipients_view (sym e))
     (snoc n (map view xs) (view x) (map recipient_view rs) (recipient_view r) k a b))
-
-pub recipients_at_fault : (n : ℕ) (all xs ys : List Value) (x : Value) (k : ℕ) (e : CoseError) → all ≡ xs ++ x ∷ ys → OrMemory (WrongRecipient n (view x) k) e → OrMemory (WrongRecipients n (views all) k) e
-recipients_at_fault n all xs ys x k e q w = passed_on (WrongRecipient n (view x) k) (WrongRecipients n (views all) k) e
-    (λ z. record { before = map view xs; after = map view ys; tree = view x; are = ap views q ∙ ap trees (map-append view xs (x ∷ ys)); wrong = z }) w
 
 -- ---- measures
 pub fourth_lighter : (t x y z : Tree) (o : Option Tree) (ts : Trees) → t ≡ array ts → ts ≡ three_or_four x y z o → weight_of o < weight t

@@ -51,7 +51,8 @@ impl CoseRecipientBuilder {
 
     /// Sets the protected header. It has no received bytes.
     pub fn protected(mut self, header: Header) -> CoseRecipientBuilder
-        ensures { recipient_so_far result ≡ with_protected (header_view header) (recipient_so_far self) }
+        ensures { recipient_so_far result
+            ≡ with_protected (header_view header) (recipient_so_far self) }
     {
         self.protected = ProtectedHeader {
             original_data: None,
@@ -62,7 +63,8 @@ impl CoseRecipientBuilder {
 
     /// Sets the unprotected header.
     pub fn unprotected(mut self, header: Header) -> CoseRecipientBuilder
-        ensures { recipient_so_far result ≡ with_unprotected (header_view header) (recipient_so_far self) }
+        ensures { recipient_so_far result
+            ≡ with_unprotected (header_view header) (recipient_so_far self) }
     {
         self.unprotected = header;
         self
@@ -70,7 +72,8 @@ impl CoseRecipientBuilder {
 
     /// Sets the ciphertext.
     pub fn ciphertext(mut self, ciphertext: Vec<u8>) -> CoseRecipientBuilder
-        ensures built { recipient_so_far result ≡ with_ciphertext (Some ciphertext.items) (recipient_so_far self) }
+        ensures built { recipient_so_far result
+            ≡ with_ciphertext (Some ciphertext.items) (recipient_so_far self) }
         ensures given { result.ciphertext ≡ Some ciphertext }
     {
         self.ciphertext = Some(ciphertext);
@@ -85,7 +88,9 @@ impl CoseRecipientBuilder {
         mut self,
         recipient: CoseRecipient,
     ) -> Result<CoseRecipientBuilder, CoseError>
-        ensures { MatchResult result (λ b. recipient_so_far b ≡ with_one_more (recipient_view recipient) (recipient_so_far self))
+        ensures { MatchResult result
+            (λ b. recipient_so_far b
+            ≡ with_one_more (recipient_view recipient) (recipient_so_far self))
             (λ e. e ≡ Memory) }
     {
         self.recipients.push(recipient)?;
@@ -106,10 +111,14 @@ impl CoseRecipientBuilder {
         cipher: C,
     ) -> Result<CoseRecipientBuilder, CoseError>
         requires context { IsRecipientContext context }
-        requires cipher { TakesPairWhere C.FnOnce cipher plaintext.now (recipient_structure context (recipient_so_far self) aad.now) }
-        ensures { BuiltPairWhere C.FnOnce cipher plaintext.now (recipient_structure context (recipient_so_far self) aad.now)
+        requires cipher { TakesPairWhere C.FnOnce cipher plaintext.now
+            (recipient_structure context (recipient_so_far self) aad.now) }
+        ensures { BuiltPairWhere C.FnOnce cipher plaintext.now
+            (recipient_structure context (recipient_so_far self) aad.now)
             (λ b. b.ciphertext)
-            (λ b. recipient_so_far b ≡ with_ciphertext (ciphertext_of (recipient_so_far b)) (recipient_so_far self)) result }
+            (λ b. recipient_so_far b
+            ≡ with_ciphertext (ciphertext_of (recipient_so_far b)) (recipient_so_far self))
+            result }
     {
         let data = enc_structure_data(alloc, context, &self.protected, aad)?;
         let ciphertext = cipher(plaintext, data.as_slice());
@@ -129,10 +138,14 @@ impl CoseRecipientBuilder {
         cipher: C,
     ) -> Result<CoseRecipientBuilder, Fault<E>>
         requires context { IsRecipientContext context }
-        requires cipher { TakesPairWhere C.FnOnce cipher plaintext.now (recipient_structure context (recipient_so_far self) aad.now) }
-        ensures { MadePairWhere C.FnOnce cipher plaintext.now (recipient_structure context (recipient_so_far self) aad.now)
+        requires cipher { TakesPairWhere C.FnOnce cipher plaintext.now
+            (recipient_structure context (recipient_so_far self) aad.now) }
+        ensures { MadePairWhere C.FnOnce cipher plaintext.now
+            (recipient_structure context (recipient_so_far self) aad.now)
             (λ b. b.ciphertext)
-            (λ b. recipient_so_far b ≡ with_ciphertext (ciphertext_of (recipient_so_far b)) (recipient_so_far self)) result }
+            (λ b. recipient_so_far b
+            ≡ with_ciphertext (ciphertext_of (recipient_so_far b)) (recipient_so_far self))
+            result }
     {
         let data = enc_structure_data(alloc, context, &self.protected, aad)?;
         let ciphertext = cipher(plaintext, data.as_slice()).map_err(Fault::Caller)?;

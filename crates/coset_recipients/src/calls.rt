@@ -28,9 +28,11 @@ impl CoseRecipient {
         requires context { IsRecipientContext context }
         requires present { IsSome (ciphertext_of (opened self.now)) }
         requires cipher { IfSome (ciphertext_of (opened self.now))
-            (λ b. TakesPairWhere C.FnOnce cipher b (recipient_structure context (opened self.now) aad.now)) }
+            (λ b. TakesPairWhere C.FnOnce cipher b
+            (recipient_structure context (opened self.now) aad.now)) }
         ensures { IsSomeAnd (ciphertext_of (opened self.now))
-            (λ b. AnswersWhere C.FnOnce cipher b (recipient_structure context (opened self.now) aad.now) result) }
+            (λ b. AnswersWhere C.FnOnce cipher b
+            (recipient_structure context (opened self.now) aad.now) result) }
     {
         let ciphertext = content_bytes(&self.ciphertext);
         let data = enc_structure_data(alloc, context, &self.protected, aad)?;
@@ -52,9 +54,12 @@ impl CoseRecipient {
         requires context { IsRecipientContext context }
         requires missing { IfNone (ciphertext_of (opened self.now)) (M.IsAlwaysCallable missing) }
         requires cipher { IfSome (ciphertext_of (opened self.now))
-            (λ b. TakesPairWhere C.FnOnce cipher b (recipient_structure context (opened self.now) aad.now)) }
-        ensures { MatchOption (ciphertext_of (opened self.now)) (AnswersMissing M.FnOnce missing result)
-            (λ b. AnswersWhere C.FnOnce cipher b (recipient_structure context (opened self.now) aad.now) result) }
+            (λ b. TakesPairWhere C.FnOnce cipher b
+            (recipient_structure context (opened self.now) aad.now)) }
+        ensures { MatchOption (ciphertext_of (opened self.now))
+            (AnswersMissing M.FnOnce missing result)
+            (λ b. AnswersWhere C.FnOnce cipher b
+            (recipient_structure context (opened self.now) aad.now) result) }
     {
         match &self.ciphertext {
             None => Err(Fault::Caller(missing())),

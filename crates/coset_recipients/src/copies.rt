@@ -3,7 +3,7 @@ ghost use Rattle.std.specs.Prelude.{◌≡◌, IfOk, map};
 ghost use Rattle.coset_recipients.specs.View.{recipient_view};
 
 use crate::recipient::CoseRecipient;
-use coset_message_parts::clone_bytes;
+use coset_labels::clone_bytes;
 use std::alloc::{AllocError, Global};
 
 impl CoseRecipient {
@@ -37,7 +37,8 @@ pub fn clone_recipients(
     alloc: Global,
     recipients: &[CoseRecipient],
 ) -> Result<Vec<CoseRecipient>, AllocError>
-    ensures { IfOk result (λ copies. map recipient_view copies.items ≡ map recipient_view recipients.now) }
+    ensures { IfOk result
+        (λ copies. map recipient_view copies.items ≡ map recipient_view recipients.now) }
 {
     let mut copies = Vec::new(alloc);
     'recipients: for recipient in recipients {

@@ -4,43 +4,32 @@ ghost use Rattle.ciborium_value.specs.Tree.{tree_count};
 ghost use Rattle.ciborium_value.specs.View.{view, views};
 ghost use Rattle.coset_labels.specs.Faults.{OrMemory};
 ghost use Rattle.coset_labels.specs.Limits.{nesting_of, layers_of};
+ghost use Rattle.coset_labels.specs.Walks.{WrongItems};
 ghost use Rattle.coset_recipients.specs.Shapes.{three_or_four, HasRecipient, HasRecipients, HasInner, HasList};
 ghost use Rattle.coset_recipients.specs.View.{recipient_view, recipients_view};
-ghost use Rattle.coset_recipients.specs.Walks.{WrongRecipients, WrongInner};
+ghost use Rattle.coset_recipients.specs.Walks.{WrongInner};
 ghost use Rattle.coset_recipients.specs.Wrong.{WrongRecipient, WrongList};
 
 use crate::recipient::CoseRecipient;
 use ciborium_value::Value;
+use coset_labels::tuples::{four, three};
 use coset_labels::{CoseError, Limits, ValueTryAs};
 use coset_message_parts::read_parts;
 use std::alloc::Global;
 
 /// The items of a list of three or four; none where it has another length. Nothing is copied.
 fn split(items: Vec<Value>) -> Option<(Value, Value, Value, Option<Value>)>
-    ensures { MatchOption result ((tree_count (views items.items) ≢ 3) × (tree_count (views items.items) ≢ 4))
-        (λ t. views items.items ≡ three_or_four (view t.0) (view t.1) (view t.2) (option_map view t.3)) }
+    ensures { MatchOption result
+        ((tree_count (views items.items) ≢ 3) × (tree_count (views items.items) ≢ 4))
+        (λ t. views items.items
+        ≡ three_or_four (view t.0) (view t.1) (view t.2) (option_map view t.3)) }
 {
-    let mut rest = items;
-    if rest.len() == 4 {
-        let fourth = rest.pop();
-        let third = rest.pop();
-        let second = rest.pop();
-        let first = rest.pop();
-        return match (first, second, third, fourth) {
-            (Some(a), Some(b), Some(c), Some(d)) => Some((a, b, c, Some(d))),
-            _ => None,
-        };
+    if items.len() == 4 {
+        let (protected, unprotected, ciphertext, inner) = four(items)?;
+        return Some((protected, unprotected, ciphertext, Some(inner)));
     }
-    if rest.len() != 3 {
-        return None;
-    }
-    let third = rest.pop();
-    let second = rest.pop();
-    let first = rest.pop();
-    match (first, second, third) {
-        (Some(a), Some(b), Some(c)) => Some((a, b, c, None)),
-        _ => None,
-    }
+    let (protected, unprotected, ciphertext) = three(items)?;
+    Some((protected, unprotected, ciphertext, None))
 }
 
 /// Reads a recipient, its elements from the last to the first.
@@ -85,8 +74,10 @@ fn read_inner(
     limits: Limits,
 ) -> Result<Vec<CoseRecipient>, CoseError>
     ensures { MatchResult result
-        (λ rs. HasInner (nesting_of limits) (option_map view inner) (recipients_view rs.items) (layers_of limits))
-        (λ e. OrMemory (WrongInner (nesting_of limits) (option_map view inner) (layers_of limits)) e) }
+        (λ rs. HasInner (nesting_of limits) (option_map view inner) (recipients_view rs.items)
+        (layers_of limits))
+        (λ e. OrMemory (WrongInner (nesting_of limits) (option_map view inner) (layers_of limits))
+        e) }
 {
     match inner {
         Some(list) => read_recipients(alloc, list, limits),
@@ -105,7 +96,8 @@ pub fn read_recipients(
     limits: Limits,
 ) -> Result<Vec<CoseRecipient>, CoseError>
     ensures { MatchResult result
-        (λ rs. HasList (nesting_of limits) (view value) (recipients_view rs.items) (layers_of limits))
+        (λ rs. HasList (nesting_of limits) (view value) (recipients_view rs.items)
+        (layers_of limits))
         (λ e. OrMemory (WrongList (nesting_of limits) (view value) (layers_of limits)) e) }
 {
     let items = value.try_as_array()?;
@@ -119,8 +111,12 @@ fn read_items(
     limits: Limits,
 ) -> Result<Vec<CoseRecipient>, CoseError>
     ensures { MatchResult result
-        (λ rs. HasRecipients (nesting_of limits) (views items.items) (recipients_view rs.items) (layers_of limits))
-        (λ e. OrMemory (WrongRecipients (nesting_of limits) (views items.items) (layers_of limits)) e) }
+        (λ rs. HasRecipients (nesting_of limits) (views items.items) (recipients_view rs.items)
+        (layers_of limits))
+        (λ e. OrMemory
+        (WrongItems
+        (λ t. WrongRecipient (nesting_of limits) t (layers_of limits)) (views items.items))
+        e) }
 {
     let mut recipients = Vec::new(alloc);
     'items: for item in items {

@@ -41,7 +41,8 @@ pub(crate) fn write_recipient(alloc: Global, recipient: CoseRecipient) -> Result
 
 #[cycle(writer)]
 fn write_items(alloc: Global, recipients: Vec<CoseRecipient>) -> Result<Vec<Value>, CoseError>
-    ensures { MatchResult result (λ v. recipients_trees (recipients_view recipients.items) ≡ Some (views v.items))
+    ensures { MatchResult result
+        (λ v. recipients_trees (recipients_view recipients.items) ≡ Some (views v.items))
         (λ e. CantWrite (recipients_trees (recipients_view recipients.items)) e) }
 {
     let mut values = Vec::new(alloc);

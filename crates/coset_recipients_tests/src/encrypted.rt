@@ -1,7 +1,7 @@
 //! Encrypted messages by builders, and what their ciphers are handed. Expected bytes are written out by hand.
 use crate::tools::{
-    ASKED, Encrypted, MISSING, Message, Met, asked, decrypts, is_asked_for, is_decrypted, joined,
-    makes, meets_in_order, missing, owned, read, repeated, same, with_algorithm,
+    ASKED, Encrypted, MISSING, Message, Met, asked, decrypts, gives, is_asked_for, is_decrypted,
+    joined, makes, meets_in_order, missing, owned, read, repeated, same, with_algorithm,
 };
 use coset_builders::HeaderBuilder;
 use coset_encrypted::{CoseEncrypt, CoseEncrypt0, CoseEncrypt0Builder, CoseEncryptBuilder};
@@ -180,6 +180,16 @@ fn built_encrypt(rt: &impl Abort, alloc: Global, builder: CoseEncryptBuilder) ->
         .create_ciphertext(alloc, b"hi", &[9], move |_plain, _data| sealed)
         .expect(rt, "no memory")
         .build()
+}
+
+#[test]
+fn headers_and_external_data_are_covered(rt: HostRuntime) {
+    let alloc = rt.alloc();
+    let covered = built_encrypt0(&rt, alloc).covered(alloc, &[9]);
+    gives(&rt, alloc, covered, "8368456e63727970743043a101014109");
+    let builder = CoseEncryptBuilder::new(alloc);
+    let covered = built_encrypt(&rt, alloc, builder).covered(alloc, &[9]);
+    gives(&rt, alloc, covered, "8367456e637279707443a101014109");
 }
 
 #[test]

@@ -99,6 +99,15 @@ fn tags_are_made_and_verified(rt: HostRuntime) {
     gives(&rt, alloc, message.to_tagged_vec(alloc), want);
 }
 
+#[test]
+fn another_payload_is_covered(rt: HostRuntime) {
+    let alloc = rt.alloc();
+    let covered = built_mac0(&rt, alloc).covered(alloc, b"ho", &[2]);
+    gives(&rt, alloc, covered, "84644d41433043a10105410242686f");
+    let covered = built_mac(&rt, alloc).covered(alloc, b"ho", &[]);
+    gives(&rt, alloc, covered, "84634d414343a101054042686f");
+}
+
 /// What is built with a signer that gives what it is handed.
 fn mac0_tagged(
     alloc: Global,

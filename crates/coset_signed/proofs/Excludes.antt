@@ -29,8 +29,8 @@ list_not n t ss k e (no_list x) h = let d : true ≡ false = sym (ap is_array h.
 list_not n t ss k e (in_list ts _ q w) h =
     let whole : array ts ≡ array h.0 = sym q ∙ h.1 in
     let items : h.0 ≡ ts = cc in
-    let z = sigs_at n k w.before w.after w.item (signatures ss) (subst (λ u. HasSignatures n u (signatures ss) k) (items ∙ w.are) h.2) in
-    item_not n w.item z.0 k e w.wrong z.1
+    let z = sigs_at n k w.before w.after w.tree (signatures ss) (subst (λ u. HasSignatures n u (signatures ss) k) (items ∙ w.are) h.2) in
+    item_not n w.tree z.0 k e w.wrong z.1
 
 pub sign1_not : (n k : ℕ) (t : Tree) (e : CoseFault) (m : Sign1Fields) → WrongSign1 n t k e → HasSign1 n t m k → ⊥
 sign1_not n k t e m w h = whole_not n t m.protected m.unprotected m.payload _ _ k e w h (bytes_not m.signature e, tt)

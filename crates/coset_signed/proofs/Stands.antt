@@ -1,7 +1,7 @@
 -- A signed message that was read is as written exactly where the test on its value says so.
 use Rattle.std.proofs.Common.{◌≡◌, ℕ, List, [], ◌∷◌, true, Option, Some, None, option_map, refl, sym, ap, subst, ◌∙◌}
 use Rattle.std.specs.Prelude.{◌&&◌, Decides}
-use Rattle.ciborium_value.specs.Tree.{Tree, bytes, array, Trees}
+use Rattle.ciborium_value.specs.Tree.{Tree, bytes, array}
 use Rattle.ciborium_value.specs.View.{trees}
 use Rattle.coset_labels.specs.Arrays.{all_written, array_of}
 use Rattle.coset_headers.specs.AsWritten.{header_stands, signature_stands}
@@ -11,14 +11,12 @@ use Rattle.coset_headers.proofs.Stands.{sigs_stand}
 use Rattle.coset_headers.proofs.Written.{signature_list}
 use Rattle.coset_message_parts.proofs.Again.{map_made}
 use Rattle.coset_message_parts.specs.Shapes.{one_held}
+use Rattle.coset_message_parts.proofs.Once.{in_array}
 use Rattle.coset_message_parts.proofs.Stands.{and_true, whole_stands}
 use Rattle.coset_signed.specs.AsWritten.{sign_stands, list_stands}
 use Rattle.coset_signed.specs.Fields.{Sign1Fields, SignFields}
 use Rattle.coset_signed.specs.Shapes.{IsSignatureList, HasSign1, HasSign}
 use Rattle.coset_signed.specs.Written.{sign1_tree, sign_tree}
-
-inside_same : (us vs : Trees) → array us ≡ array vs → us ≡ vs
-inside_same us vs e = cc
 
 -- ---- one signature
 pub sign1_by : (n : ℕ) (m : Sign1Fields) (t : Tree) (k : ℕ) → HasSign1 n t m k → Decides (signature_stands t) (sign1_tree m ≡ Some t)
@@ -43,7 +41,7 @@ list_by n ss t k (us, e, h) =
       λ f. array_is ss ∙ ap (option_map array) (d.0 f),
       λ f.
           let w = map_made array (signature_trees (signatures ss)) (array us) (sym (array_is ss) ∙ f) in
-          d.1 (w.1 ∙ ap Some (inside_same w.0 us w.2)),
+          d.1 (w.1 ∙ ap Some (in_array w.0 us w.2)),
     )
 
 last_made : (o : Option Tree) (x : Tree) → all_written (λ q. q) (o ∷ []) ≡ Some (x ∷ []) → o ≡ Some x

@@ -4,8 +4,6 @@ use Rattle.coset_headers.specs.View.{header_view, protected_view, signature_view
 use Rattle.coset_signed.specs.Fields.{Sign1Fields, SignFields}
 use Rattle.coset_signed.specs.declared.sign.CoseSign.{CoseSign}
 use Rattle.coset_signed.specs.declared.sign1.CoseSign1.{CoseSign1}
-use Rattle.coset_signed.specs.declared.sign1_builder.CoseSign1Builder.{CoseSign1Builder}
-use Rattle.coset_signed.specs.declared.sign_builder.CoseSignBuilder.{CoseSignBuilder}
 
 abbrev pub sign1_view : CoseSign1 → Sign1Fields
 sign1_view m = record {
@@ -22,10 +20,3 @@ sign_view m = record {
   payload = option_map (λ v. v.items) m.payload;
   signatures = map signature_view m.signatures.items;
 }
-
--- what builders have so far
-abbrev pub sign1_built : CoseSign1Builder → Sign1Fields
-sign1_built b = sign1_view b.message
-
-abbrev pub sign_built : CoseSignBuilder → SignFields
-sign_built b = sign_view b.message

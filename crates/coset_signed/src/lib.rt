@@ -2,7 +2,6 @@
 #![tactic(auto)]
 
 mod as_written;
-mod four;
 pub mod laws;
 mod sign;
 mod sign1;

@@ -5,12 +5,12 @@ ghost use Rattle.coset_headers.specs.View.{signature_view};
 ghost use Rattle.coset_labels.specs.Faults.{CantWrite};
 ghost use Rattle.coset_message_parts.specs.Calls.{TakesPairWhere, AnswersWhere};
 ghost use Rattle.coset_signed.specs.Fields.{no_sign, signature_bytes};
-ghost use Rattle.coset_signed.specs.Structure.{sign_structure, sign_covered};
+ghost use Rattle.coset_signed.specs.Structure.{sign_covered, sign_covered_with};
 ghost use Rattle.coset_signed.specs.View.{sign_view};
 
 use coset_headers::{CoseSignature, Header, ProtectedHeader};
-use coset_labels::{CoseError, Fault};
-use coset_message_parts::{clone_bytes, content_bytes};
+use coset_labels::{CoseError, Fault, clone_bytes};
+use coset_message_parts::content_bytes;
 use coset_structures::{SignatureContext, sig_structure_data};
 use std::alloc::{AllocError, Global};
 
@@ -70,8 +70,11 @@ impl CoseSign {
         aad: &[u8],
         signature: &CoseSignature,
     ) -> Result<Vec<u8>, CoseError>
-        ensures { MatchResult result (λ v. sign_covered (sign_view self.now) (signature_view signature.now) aad.now ≡ Some v.items)
-            (λ e. CantWrite (sign_covered (sign_view self.now) (signature_view signature.now) aad.now) e) }
+        ensures { MatchResult result
+            (λ v. sign_covered (sign_view self.now) (signature_view signature.now) aad.now
+            ≡ Some v.items)
+            (λ e. CantWrite
+            (sign_covered (sign_view self.now) (signature_view signature.now) aad.now) e) }
     {
         self.covered(alloc, content_bytes(&self.payload), aad, signature)
     }
@@ -89,21 +92,36 @@ impl CoseSign {
         signature: &CoseSignature,
     ) -> Result<Vec<u8>, CoseError>
         requires { self.now.payload ≡ None }
-        ensures { MatchResult result (λ v. sign_structure (sign_view self.now) (signature_view signature.now) payload.now aad.now ≡ Some v.items)
-            (λ e. CantWrite (sign_structure (sign_view self.now) (signature_view signature.now) payload.now aad.now) e) }
+        ensures { MatchResult result
+            (λ v. sign_covered_with (sign_view self.now) (signature_view signature.now) payload.now
+            aad.now
+            ≡ Some v.items)
+            (λ e. CantWrite
+            (sign_covered_with (sign_view self.now) (signature_view signature.now) payload.now
+            aad.now) e) }
     {
         self.covered(alloc, payload, aad, signature)
     }
 
-    fn covered(
+    /// The bytes that a signature with the headers of this one covers with this payload (RFC 9052, section 4.4), wherever it is
+    /// carried.
+    ///
+    /// # Errors
+    /// As of `tbs_data`.
+    pub fn covered(
         &self,
         alloc: Global,
         payload: &[u8],
         aad: &[u8],
         signature: &CoseSignature,
     ) -> Result<Vec<u8>, CoseError>
-        ensures { MatchResult result (λ v. sign_structure (sign_view self.now) (signature_view signature.now) payload.now aad.now ≡ Some v.items)
-            (λ e. CantWrite (sign_structure (sign_view self.now) (signature_view signature.now) payload.now aad.now) e) }
+        ensures { MatchResult result
+            (λ v. sign_covered_with (sign_view self.now) (signature_view signature.now) payload.now
+            aad.now
+            ≡ Some v.items)
+            (λ e. CantWrite
+            (sign_covered_with (sign_view self.now) (signature_view signature.now) payload.now
+            aad.now) e) }
     {
         sig_structure_data(
             alloc,
@@ -128,9 +146,11 @@ impl CoseSign {
         verifier: V,
     ) -> Result<(), Fault<E>>
         requires which { which < length self.now.signatures.items }
-        requires verifier { IfSome (slice_get self.now.signatures.items which) (λ s. TakesPairWhere V.FnOnce verifier (signature_bytes (signature_view s))
+        requires verifier { IfSome (slice_get self.now.signatures.items which)
+            (λ s. TakesPairWhere V.FnOnce verifier (signature_bytes (signature_view s))
             (sign_covered (sign_view self.now) (signature_view s) aad.now)) }
-        ensures { IsSomeAnd (slice_get self.now.signatures.items which) (λ s. AnswersWhere V.FnOnce verifier (signature_bytes (signature_view s))
+        ensures { IsSomeAnd (slice_get self.now.signatures.items which)
+            (λ s. AnswersWhere V.FnOnce verifier (signature_bytes (signature_view s))
             (sign_covered (sign_view self.now) (signature_view s) aad.now) result) }
     {
         let signature = &self.signatures[which];
@@ -152,10 +172,13 @@ impl CoseSign {
     ) -> Result<(), Fault<E>>
         requires which { which < length self.now.signatures.items }
         requires detached { self.now.payload ≡ None }
-        requires verifier { IfSome (slice_get self.now.signatures.items which) (λ s. TakesPairWhere V.FnOnce verifier (signature_bytes (signature_view s))
-            (sign_structure (sign_view self.now) (signature_view s) payload.now aad.now)) }
-        ensures { IsSomeAnd (slice_get self.now.signatures.items which) (λ s. AnswersWhere V.FnOnce verifier (signature_bytes (signature_view s))
-            (sign_structure (sign_view self.now) (signature_view s) payload.now aad.now) result) }
+        requires verifier { IfSome (slice_get self.now.signatures.items which)
+            (λ s. TakesPairWhere V.FnOnce verifier (signature_bytes (signature_view s))
+            (sign_covered_with (sign_view self.now) (signature_view s) payload.now aad.now)) }
+        ensures { IsSomeAnd (slice_get self.now.signatures.items which)
+            (λ s. AnswersWhere V.FnOnce verifier (signature_bytes (signature_view s))
+            (sign_covered_with (sign_view self.now) (signature_view s) payload.now aad.now)
+            result) }
     {
         let signature = &self.signatures[which];
         let data = self.tbs_detached_data(alloc, payload, aad, signature)?;
@@ -173,7 +196,8 @@ fn clone_signatures(
     alloc: Global,
     signatures: &[CoseSignature],
 ) -> Result<Vec<CoseSignature>, AllocError>
-    ensures { IfOk result (λ copies. map signature_view copies.items ≡ map signature_view signatures.now) }
+    ensures { IfOk result
+        (λ copies. map signature_view copies.items ≡ map signature_view signatures.now) }
 {
     let mut copies = Vec::new(alloc);
     for signature in signatures {

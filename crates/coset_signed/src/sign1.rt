@@ -3,12 +3,12 @@ ghost use Rattle.std.specs.Prelude.{◌≡◌, None, Some, IfOk, MatchResult};
 ghost use Rattle.coset_labels.specs.Faults.{CantWrite};
 ghost use Rattle.coset_message_parts.specs.Calls.{TakesPairWhere, AnswersWhere};
 ghost use Rattle.coset_signed.specs.Fields.{no_sign1};
-ghost use Rattle.coset_signed.specs.Structure.{sign1_structure, sign1_covered};
+ghost use Rattle.coset_signed.specs.Structure.{sign1_covered, sign1_covered_with};
 ghost use Rattle.coset_signed.specs.View.{sign1_view};
 
 use coset_headers::{Header, ProtectedHeader};
-use coset_labels::{CoseError, Fault};
-use coset_message_parts::{clone_bytes, content_bytes};
+use coset_labels::{CoseError, Fault, clone_bytes};
+use coset_message_parts::content_bytes;
 use coset_structures::{SignatureContext, sig_structure_data};
 use std::alloc::{AllocError, Global};
 
@@ -62,7 +62,8 @@ impl CoseSign1 {
     /// # Errors
     /// `DuplicateMapKey` exactly where the protected header can't be written, or `Memory`.
     pub fn tbs_data(&self, alloc: Global, aad: &[u8]) -> Result<Vec<u8>, CoseError>
-        ensures { MatchResult result (λ v. sign1_covered (sign1_view self.now) aad.now ≡ Some v.items)
+        ensures { MatchResult result
+            (λ v. sign1_covered (sign1_view self.now) aad.now ≡ Some v.items)
             (λ e. CantWrite (sign1_covered (sign1_view self.now) aad.now) e) }
     {
         self.covered(alloc, content_bytes(&self.payload), aad)
@@ -79,15 +80,21 @@ impl CoseSign1 {
         aad: &[u8],
     ) -> Result<Vec<u8>, CoseError>
         requires { self.now.payload ≡ None }
-        ensures { MatchResult result (λ v. sign1_structure (sign1_view self.now) payload.now aad.now ≡ Some v.items)
-            (λ e. CantWrite (sign1_structure (sign1_view self.now) payload.now aad.now) e) }
+        ensures { MatchResult result
+            (λ v. sign1_covered_with (sign1_view self.now) payload.now aad.now ≡ Some v.items)
+            (λ e. CantWrite (sign1_covered_with (sign1_view self.now) payload.now aad.now) e) }
     {
         self.covered(alloc, payload, aad)
     }
 
-    fn covered(&self, alloc: Global, payload: &[u8], aad: &[u8]) -> Result<Vec<u8>, CoseError>
-        ensures { MatchResult result (λ v. sign1_structure (sign1_view self.now) payload.now aad.now ≡ Some v.items)
-            (λ e. CantWrite (sign1_structure (sign1_view self.now) payload.now aad.now) e) }
+    /// The bytes that the signature covers with this payload (RFC 9052, section 4.4), wherever it is carried.
+    ///
+    /// # Errors
+    /// As of `tbs_data`.
+    pub fn covered(&self, alloc: Global, payload: &[u8], aad: &[u8]) -> Result<Vec<u8>, CoseError>
+        ensures { MatchResult result
+            (λ v. sign1_covered_with (sign1_view self.now) payload.now aad.now ≡ Some v.items)
+            (λ e. CantWrite (sign1_covered_with (sign1_view self.now) payload.now aad.now) e) }
     {
         sig_structure_data(
             alloc,
@@ -110,8 +117,10 @@ impl CoseSign1 {
         aad: &[u8],
         verifier: V,
     ) -> Result<(), Fault<E>>
-        requires { TakesPairWhere V.FnOnce verifier self.now.signature.items (sign1_covered (sign1_view self.now) aad.now) }
-        ensures { AnswersWhere V.FnOnce verifier self.now.signature.items (sign1_covered (sign1_view self.now) aad.now) result }
+        requires { TakesPairWhere V.FnOnce verifier self.now.signature.items
+            (sign1_covered (sign1_view self.now) aad.now) }
+        ensures { AnswersWhere V.FnOnce verifier self.now.signature.items
+            (sign1_covered (sign1_view self.now) aad.now) result }
     {
         let data = self.tbs_data(alloc, aad)?;
         verifier(self.signature.as_slice(), data.as_slice()).map_err(Fault::Caller)
@@ -129,8 +138,10 @@ impl CoseSign1 {
         verifier: V,
     ) -> Result<(), Fault<E>>
         requires detached { self.now.payload ≡ None }
-        requires verifier { TakesPairWhere V.FnOnce verifier self.now.signature.items (sign1_structure (sign1_view self.now) payload.now aad.now) }
-        ensures { AnswersWhere V.FnOnce verifier self.now.signature.items (sign1_structure (sign1_view self.now) payload.now aad.now) result }
+        requires verifier { TakesPairWhere V.FnOnce verifier self.now.signature.items
+            (sign1_covered_with (sign1_view self.now) payload.now aad.now) }
+        ensures { AnswersWhere V.FnOnce verifier self.now.signature.items
+            (sign1_covered_with (sign1_view self.now) payload.now aad.now) result }
     {
         let data = self.tbs_detached_data(alloc, payload, aad)?;
         verifier(self.signature.as_slice(), data.as_slice()).map_err(Fault::Caller)

@@ -3,9 +3,10 @@ ghost use Rattle.std.specs.Prelude.{◌≡◌, None, Some};
 ghost use Rattle.coset_headers.specs.Fields.{protected};
 ghost use Rattle.coset_headers.specs.View.{header_view};
 ghost use Rattle.coset_message_parts.specs.Calls.{TakesWhere, BuiltWhere, MadeWhere};
+ghost use Rattle.coset_signed.specs.Builders.{sign1_so_far};
 ghost use Rattle.coset_signed.specs.Fields.{no_sign1};
-ghost use Rattle.coset_signed.specs.Structure.{sign1_structure, sign1_covered};
-ghost use Rattle.coset_signed.specs.View.{sign1_view, sign1_built};
+ghost use Rattle.coset_signed.specs.Structure.{sign1_covered, sign1_covered_with};
+ghost use Rattle.coset_signed.specs.View.{sign1_view};
 
 use crate::sign1::CoseSign1;
 use coset_headers::{Header, ProtectedHeader};
@@ -21,7 +22,7 @@ pub struct CoseSign1Builder {
 impl CoseSign1Builder {
     /// A builder of a message with no field.
     pub fn new(alloc: Global) -> CoseSign1Builder
-        ensures { sign1_built result ≡ no_sign1 }
+        ensures { sign1_so_far result ≡ no_sign1 }
     {
         CoseSign1Builder {
             message: CoseSign1::new(alloc),
@@ -30,14 +31,15 @@ impl CoseSign1Builder {
 
     /// The message.
     pub fn build(self) -> CoseSign1
-        ensures { sign1_view result ≡ sign1_built self }
+        ensures { sign1_view result ≡ sign1_so_far self }
     {
         self.message
     }
 
     /// Sets the protected header. It has no received bytes.
     pub fn protected(mut self, header: Header) -> CoseSign1Builder
-        ensures { sign1_built result ≡ record (sign1_built self) { protected = protected None (header_view header) } }
+        ensures { sign1_so_far result
+            ≡ record (sign1_so_far self) { protected = protected None (header_view header) } }
     {
         self.message.protected = ProtectedHeader {
             original_data: None,
@@ -48,7 +50,8 @@ impl CoseSign1Builder {
 
     /// Sets the unprotected header.
     pub fn unprotected(mut self, header: Header) -> CoseSign1Builder
-        ensures { sign1_built result ≡ record (sign1_built self) { unprotected = header_view header } }
+        ensures { sign1_so_far result
+            ≡ record (sign1_so_far self) { unprotected = header_view header } }
     {
         self.message.unprotected = header;
         self
@@ -56,7 +59,8 @@ impl CoseSign1Builder {
 
     /// Sets the payload.
     pub fn payload(mut self, payload: Vec<u8>) -> CoseSign1Builder
-        ensures { sign1_built result ≡ record (sign1_built self) { payload = Some payload.items } }
+        ensures { sign1_so_far result
+            ≡ record (sign1_so_far self) { payload = Some payload.items } }
     {
         self.message.payload = Some(payload);
         self
@@ -80,9 +84,10 @@ impl CoseSign1Builder {
         aad: &[u8],
         signer: S,
     ) -> Result<CoseSign1Builder, CoseError>
-        requires { TakesWhere S.FnOnce signer (sign1_covered (sign1_built self) aad.now) }
-        ensures { BuiltWhere S.FnOnce signer (sign1_covered (sign1_built self) aad.now)
-            (λ b. b.message.signature) (λ b. b.message ≡ record self.message { signature = b.message.signature }) result }
+        requires { TakesWhere S.FnOnce signer (sign1_covered (sign1_so_far self) aad.now) }
+        ensures { BuiltWhere S.FnOnce signer (sign1_covered (sign1_so_far self) aad.now)
+            (λ b. b.message.signature)
+            (λ b. b.message ≡ record self.message { signature = b.message.signature }) result }
     {
         let data = self.message.tbs_data(alloc, aad)?;
         let signature = signer(data.as_slice());
@@ -99,9 +104,10 @@ impl CoseSign1Builder {
         aad: &[u8],
         signer: S,
     ) -> Result<CoseSign1Builder, Fault<E>>
-        requires { TakesWhere S.FnOnce signer (sign1_covered (sign1_built self) aad.now) }
-        ensures { MadeWhere S.FnOnce signer (sign1_covered (sign1_built self) aad.now)
-            (λ b. b.message.signature) (λ b. b.message ≡ record self.message { signature = b.message.signature }) result }
+        requires { TakesWhere S.FnOnce signer (sign1_covered (sign1_so_far self) aad.now) }
+        ensures { MadeWhere S.FnOnce signer (sign1_covered (sign1_so_far self) aad.now)
+            (λ b. b.message.signature)
+            (λ b. b.message ≡ record self.message { signature = b.message.signature }) result }
     {
         let data = self.message.tbs_data(alloc, aad)?;
         let signature = signer(data.as_slice()).map_err(Fault::Caller)?;
@@ -119,10 +125,13 @@ impl CoseSign1Builder {
         aad: &[u8],
         signer: S,
     ) -> Result<CoseSign1Builder, CoseError>
-        requires detached { (sign1_built self).payload ≡ None }
-        requires signer { TakesWhere S.FnOnce signer (sign1_structure (sign1_built self) payload.now aad.now) }
-        ensures { BuiltWhere S.FnOnce signer (sign1_structure (sign1_built self) payload.now aad.now)
-            (λ b. b.message.signature) (λ b. b.message ≡ record self.message { signature = b.message.signature }) result }
+        requires detached { (sign1_so_far self).payload ≡ None }
+        requires signer { TakesWhere S.FnOnce signer
+            (sign1_covered_with (sign1_so_far self) payload.now aad.now) }
+        ensures { BuiltWhere S.FnOnce signer
+            (sign1_covered_with (sign1_so_far self) payload.now aad.now)
+            (λ b. b.message.signature)
+            (λ b. b.message ≡ record self.message { signature = b.message.signature }) result }
     {
         let data = self.message.tbs_detached_data(alloc, payload, aad)?;
         let signature = signer(data.as_slice());
@@ -140,10 +149,13 @@ impl CoseSign1Builder {
         aad: &[u8],
         signer: S,
     ) -> Result<CoseSign1Builder, Fault<E>>
-        requires detached { (sign1_built self).payload ≡ None }
-        requires signer { TakesWhere S.FnOnce signer (sign1_structure (sign1_built self) payload.now aad.now) }
-        ensures { MadeWhere S.FnOnce signer (sign1_structure (sign1_built self) payload.now aad.now)
-            (λ b. b.message.signature) (λ b. b.message ≡ record self.message { signature = b.message.signature }) result }
+        requires detached { (sign1_so_far self).payload ≡ None }
+        requires signer { TakesWhere S.FnOnce signer
+            (sign1_covered_with (sign1_so_far self) payload.now aad.now) }
+        ensures { MadeWhere S.FnOnce signer
+            (sign1_covered_with (sign1_so_far self) payload.now aad.now)
+            (λ b. b.message.signature)
+            (λ b. b.message ≡ record self.message { signature = b.message.signature }) result }
     {
         let data = self.message.tbs_detached_data(alloc, payload, aad)?;
         let signature = signer(data.as_slice()).map_err(Fault::Caller)?;

@@ -9,9 +9,9 @@ ghost use Rattle.coset_signed.specs.View.{sign1_view};
 ghost use Rattle.coset_signed.specs.Written.{sign1_tree};
 ghost use Rattle.coset_signed.specs.Wrong.{WrongSign1};
 
-use crate::four::four_items;
 use crate::sign1::CoseSign1;
 use ciborium_value::Value;
+use coset_labels::tuples::four;
 use coset_labels::{
     AsCborValue, CborSerializable, CoseError, Limits, TaggedCborSerializable, ValueTryAs,
 };
@@ -66,22 +66,21 @@ impl CoseSign1 {
             (λ m. HasSign1 (nesting_of limits) (view value) (sign1_view m) (layers_of limits))
             (λ e. OrMemory (WrongSign1 (nesting_of limits) (view value) (layers_of limits)) e) }
     {
-        let (protected, unprotected, payload, signature) = four_items(value)?;
-        let signature = signature.try_as_bytes()?;
-        let parts = read_parts(
-            alloc,
-            protected,
-            unprotected,
-            payload,
-            limits,
-            "bstr or nil",
-        )?;
-        Ok(CoseSign1 {
-            protected: parts.protected,
-            unprotected: parts.unprotected,
-            payload: parts.content,
-            signature,
-        })
+        let items = value.try_as_array()?;
+        match four(items) {
+            Some((protected, unprotected, payload, signature)) => {
+                let signature = signature.try_as_bytes()?;
+                let want = "bstr or nil";
+                let parts = read_parts(alloc, protected, unprotected, payload, limits, want)?;
+                Ok(CoseSign1 {
+                    protected: parts.protected,
+                    unprotected: parts.unprotected,
+                    payload: parts.content,
+                    signature,
+                })
+            }
+            None => Err(CoseError::UnexpectedItem("array", "array with 4 items")),
+        }
     }
 }
 

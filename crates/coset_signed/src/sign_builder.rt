@@ -6,9 +6,10 @@ ghost use Rattle.coset_headers.specs.View.{header_view, signature_view};
 ghost use Rattle.coset_labels.specs.declared.error.CoseError.TheVariants.{Memory};
 ghost use Rattle.coset_message_parts.specs.Calls.{TakesWhere};
 ghost use Rattle.coset_signed.specs.Added.{AddsAt, TriesToAddAt, AddsWhere, TriesToAddWhere};
+ghost use Rattle.coset_signed.specs.Builders.{sign_so_far};
 ghost use Rattle.coset_signed.specs.Fields.{no_sign, signed_by, also_signed};
-ghost use Rattle.coset_signed.specs.Structure.{sign_structure, sign_covered};
-ghost use Rattle.coset_signed.specs.View.{sign_view, sign_built};
+ghost use Rattle.coset_signed.specs.Structure.{sign_covered, sign_covered_with};
+ghost use Rattle.coset_signed.specs.View.{sign_view};
 
 use crate::sign::CoseSign;
 use coset_headers::{CoseSignature, Header, ProtectedHeader};
@@ -24,7 +25,7 @@ pub struct CoseSignBuilder {
 impl CoseSignBuilder {
     /// A builder of a message with no field.
     pub fn new(alloc: Global) -> CoseSignBuilder
-        ensures { sign_built result ≡ no_sign }
+        ensures { sign_so_far result ≡ no_sign }
     {
         CoseSignBuilder {
             message: CoseSign::new(alloc),
@@ -33,14 +34,15 @@ impl CoseSignBuilder {
 
     /// The message.
     pub fn build(self) -> CoseSign
-        ensures { sign_view result ≡ sign_built self }
+        ensures { sign_view result ≡ sign_so_far self }
     {
         self.message
     }
 
     /// Sets the protected header. It has no received bytes.
     pub fn protected(mut self, header: Header) -> CoseSignBuilder
-        ensures { sign_built result ≡ record (sign_built self) { protected = protected None (header_view header) } }
+        ensures { sign_so_far result
+            ≡ record (sign_so_far self) { protected = protected None (header_view header) } }
     {
         self.message.protected = ProtectedHeader {
             original_data: None,
@@ -51,7 +53,8 @@ impl CoseSignBuilder {
 
     /// Sets the unprotected header.
     pub fn unprotected(mut self, header: Header) -> CoseSignBuilder
-        ensures { sign_built result ≡ record (sign_built self) { unprotected = header_view header } }
+        ensures { sign_so_far result
+            ≡ record (sign_so_far self) { unprotected = header_view header } }
     {
         self.message.unprotected = header;
         self
@@ -59,7 +62,7 @@ impl CoseSignBuilder {
 
     /// Sets the payload.
     pub fn payload(mut self, payload: Vec<u8>) -> CoseSignBuilder
-        ensures { sign_built result ≡ record (sign_built self) { payload = Some payload.items } }
+        ensures { sign_so_far result ≡ record (sign_so_far self) { payload = Some payload.items } }
     {
         self.message.payload = Some(payload);
         self
@@ -70,7 +73,9 @@ impl CoseSignBuilder {
     /// # Errors
     /// Only where memory is refused.
     pub fn add_signature(mut self, signature: CoseSignature) -> Result<CoseSignBuilder, CoseError>
-        ensures { MatchResult result (λ b. sign_built b ≡ also_signed (sign_built self) (signature_view signature)) (λ e. e ≡ Memory) }
+        ensures { MatchResult result
+            (λ b. sign_so_far b ≡ also_signed (sign_so_far self) (signature_view signature))
+            (λ e. e ≡ Memory) }
     {
         self.message.signatures.push(signature)?;
         Ok(self)
@@ -78,8 +83,11 @@ impl CoseSignBuilder {
 
     /// Makes room for a signature, so that none is made in vain.
     fn with_room(mut self) -> Result<CoseSignBuilder, CoseError>
-        ensures built { MatchResult result (λ b. sign_built b ≡ sign_built self) (λ e. e ≡ Memory) }
-        ensures room { IfOk result (λ b. vec_len b.message.signatures < vec_capacity b.message.signatures) }
+        ensures built { MatchResult result
+            (λ b. sign_so_far b ≡ sign_so_far self)
+            (λ e. e ≡ Memory) }
+        ensures room { IfOk result
+            (λ b. vec_len b.message.signatures < vec_capacity b.message.signatures) }
     {
         self.message.signatures.reserve(1)?;
         Ok(self)
@@ -88,7 +96,7 @@ impl CoseSignBuilder {
     /// Appends a signature for which there is room.
     fn with_signature(mut self, signature: CoseSignature) -> CoseSignBuilder
         requires { vec_len self.message.signatures < vec_capacity self.message.signatures }
-        ensures { sign_built result ≡ also_signed (sign_built self) (signature_view signature) }
+        ensures { sign_so_far result ≡ also_signed (sign_so_far self) (signature_view signature) }
     {
         let _ = self.message.signatures.push(signature);
         self
@@ -104,7 +112,9 @@ impl CoseSignBuilder {
         requires room { vec_len self.message.signatures < vec_capacity self.message.signatures }
         requires signer { FnOnceTakesAt S.FnOnce signer covered.now }
         ensures { AddsAt S.FnOnce signer covered.now
-            (λ v b. sign_built b ≡ also_signed (sign_built self) (signed_by (signature_view signature) v.items)) result }
+            (λ v b. sign_so_far b
+            ≡ also_signed (sign_so_far self) (signed_by (signature_view signature) v.items))
+            result }
     {
         let made = signer(covered);
         self.with_signature(signed_by(signature, made))
@@ -120,7 +130,9 @@ impl CoseSignBuilder {
         requires room { vec_len self.message.signatures < vec_capacity self.message.signatures }
         requires signer { FnOnceTakesAt S.FnOnce signer covered.now }
         ensures { TriesToAddAt S.FnOnce signer covered.now
-            (λ v b. sign_built b ≡ also_signed (sign_built self) (signed_by (signature_view signature) v.items)) result }
+            (λ v b. sign_so_far b
+            ≡ also_signed (sign_so_far self) (signed_by (signature_view signature) v.items))
+            result }
     {
         let made = signer(covered)?;
         Ok(self.with_signature(signed_by(signature, made)))
@@ -135,7 +147,9 @@ impl CoseSignBuilder {
     ) -> Result<CoseSignBuilder, CoseError>
         requires { FnOnceTakesAt S.FnOnce signer covered.now }
         ensures { AddsWhere S.FnOnce signer (Some covered.now)
-            (λ v b. sign_built b ≡ also_signed (sign_built self) (signed_by (signature_view signature) v.items)) result }
+            (λ v b. sign_so_far b
+            ≡ also_signed (sign_so_far self) (signed_by (signature_view signature) v.items))
+            result }
     {
         Ok(self.with_room()?.asked(signature, covered, signer))
     }
@@ -149,7 +163,9 @@ impl CoseSignBuilder {
     ) -> Result<CoseSignBuilder, Fault<E>>
         requires { FnOnceTakesAt S.FnOnce signer covered.now }
         ensures { TriesToAddWhere S.FnOnce signer (Some covered.now)
-            (λ v b. sign_built b ≡ also_signed (sign_built self) (signed_by (signature_view signature) v.items)) result }
+            (λ v b. sign_so_far b
+            ≡ also_signed (sign_so_far self) (signed_by (signature_view signature) v.items))
+            result }
     {
         match self.with_room()?.try_asked(signature, covered, signer) {
             Ok(builder) => Ok(builder),
@@ -168,9 +184,13 @@ impl CoseSignBuilder {
         aad: &[u8],
         signer: S,
     ) -> Result<CoseSignBuilder, CoseError>
-        requires { TakesWhere S.FnOnce signer (sign_covered (sign_built self) (signature_view signature) aad.now) }
-        ensures { AddsWhere S.FnOnce signer (sign_covered (sign_built self) (signature_view signature) aad.now)
-            (λ v b. sign_built b ≡ also_signed (sign_built self) (signed_by (signature_view signature) v.items)) result }
+        requires { TakesWhere S.FnOnce signer
+            (sign_covered (sign_so_far self) (signature_view signature) aad.now) }
+        ensures { AddsWhere S.FnOnce signer
+            (sign_covered (sign_so_far self) (signature_view signature) aad.now)
+            (λ v b. sign_so_far b
+            ≡ also_signed (sign_so_far self) (signed_by (signature_view signature) v.items))
+            result }
     {
         let data = self.message.tbs_data(alloc, aad, &signature)?;
         self.add_made(signature, data.as_slice(), signer)
@@ -187,9 +207,13 @@ impl CoseSignBuilder {
         aad: &[u8],
         signer: S,
     ) -> Result<CoseSignBuilder, Fault<E>>
-        requires { TakesWhere S.FnOnce signer (sign_covered (sign_built self) (signature_view signature) aad.now) }
-        ensures { TriesToAddWhere S.FnOnce signer (sign_covered (sign_built self) (signature_view signature) aad.now)
-            (λ v b. sign_built b ≡ also_signed (sign_built self) (signed_by (signature_view signature) v.items)) result }
+        requires { TakesWhere S.FnOnce signer
+            (sign_covered (sign_so_far self) (signature_view signature) aad.now) }
+        ensures { TriesToAddWhere S.FnOnce signer
+            (sign_covered (sign_so_far self) (signature_view signature) aad.now)
+            (λ v b. sign_so_far b
+            ≡ also_signed (sign_so_far self) (signed_by (signature_view signature) v.items))
+            result }
     {
         let data = self.message.tbs_data(alloc, aad, &signature)?;
         self.try_add_made(signature, data.as_slice(), signer)
@@ -207,10 +231,14 @@ impl CoseSignBuilder {
         aad: &[u8],
         signer: S,
     ) -> Result<CoseSignBuilder, CoseError>
-        requires detached { (sign_built self).payload ≡ None }
-        requires signer { TakesWhere S.FnOnce signer (sign_structure (sign_built self) (signature_view signature) payload.now aad.now) }
-        ensures { AddsWhere S.FnOnce signer (sign_structure (sign_built self) (signature_view signature) payload.now aad.now)
-            (λ v b. sign_built b ≡ also_signed (sign_built self) (signed_by (signature_view signature) v.items)) result }
+        requires detached { (sign_so_far self).payload ≡ None }
+        requires signer { TakesWhere S.FnOnce signer
+            (sign_covered_with (sign_so_far self) (signature_view signature) payload.now aad.now) }
+        ensures { AddsWhere S.FnOnce signer
+            (sign_covered_with (sign_so_far self) (signature_view signature) payload.now aad.now)
+            (λ v b. sign_so_far b
+            ≡ also_signed (sign_so_far self) (signed_by (signature_view signature) v.items))
+            result }
     {
         let data = self
             .message
@@ -230,10 +258,14 @@ impl CoseSignBuilder {
         aad: &[u8],
         signer: S,
     ) -> Result<CoseSignBuilder, Fault<E>>
-        requires detached { (sign_built self).payload ≡ None }
-        requires signer { TakesWhere S.FnOnce signer (sign_structure (sign_built self) (signature_view signature) payload.now aad.now) }
-        ensures { TriesToAddWhere S.FnOnce signer (sign_structure (sign_built self) (signature_view signature) payload.now aad.now)
-            (λ v b. sign_built b ≡ also_signed (sign_built self) (signed_by (signature_view signature) v.items)) result }
+        requires detached { (sign_so_far self).payload ≡ None }
+        requires signer { TakesWhere S.FnOnce signer
+            (sign_covered_with (sign_so_far self) (signature_view signature) payload.now aad.now) }
+        ensures { TriesToAddWhere S.FnOnce signer
+            (sign_covered_with (sign_so_far self) (signature_view signature) payload.now aad.now)
+            (λ v b. sign_so_far b
+            ≡ also_signed (sign_so_far self) (signed_by (signature_view signature) v.items))
+            result }
     {
         let data = self
             .message

@@ -1,20 +1,21 @@
 //! Messages with several signatures as values and bytes.
 ghost use Rattle.std.specs.Prelude.{◌≡◌, MatchResult, map};
 ghost use Rattle.ciborium_value.specs.View.{view, views};
-ghost use Rattle.coset_labels.specs.Limits.{nesting, layers, nesting_of, layers_of};
 ghost use Rattle.coset_labels.specs.Faults.{OrMemory};
+ghost use Rattle.coset_labels.specs.Limits.{nesting, layers, nesting_of, layers_of};
+ghost use Rattle.coset_labels.specs.Walks.{WrongItems};
 ghost use Rattle.coset_headers.specs.Headers.{HasSignature, HasSignatures};
 ghost use Rattle.coset_headers.specs.View.{signature_view, signatures_view};
 ghost use Rattle.coset_signed.specs.Fields.{SignFields};
 ghost use Rattle.coset_signed.specs.Shapes.{IsSignatureList, HasSign};
 ghost use Rattle.coset_signed.specs.View.{sign_view};
 ghost use Rattle.coset_signed.specs.Written.{sign_tree};
-ghost use Rattle.coset_signed.specs.Wrong.{Hides, IsNoSignature, HasNoSignature, WrongSignatureList, WrongSign};
+ghost use Rattle.coset_signed.specs.Wrong.{Hides, IsNoSignature, WrongSignatureList, WrongSign};
 
-use crate::four::four_items;
 use crate::sign::CoseSign;
 use ciborium_value::Value;
 use coset_headers::CoseSignature;
+use coset_labels::tuples::four;
 use coset_labels::{
     AsCborValue, CborSerializable, CoseError, Limits, TaggedCborSerializable, ValueTryAs,
     to_cbor_array,
@@ -71,22 +72,21 @@ impl CoseSign {
             (λ m. HasSign (nesting_of limits) (view value) (sign_view m) (layers_of limits))
             (λ e. OrMemory (WrongSign (nesting_of limits) (view value) (layers_of limits)) e) }
     {
-        let (protected, unprotected, payload, signatures) = four_items(value)?;
-        let signatures = read_signatures(alloc, signatures, limits)?;
-        let parts = read_parts(
-            alloc,
-            protected,
-            unprotected,
-            payload,
-            limits,
-            "bstr or nil",
-        )?;
-        Ok(CoseSign {
-            protected: parts.protected,
-            unprotected: parts.unprotected,
-            payload: parts.content,
-            signatures,
-        })
+        let items = value.try_as_array()?;
+        match four(items) {
+            Some((protected, unprotected, payload, list)) => {
+                let signatures = read_signatures(alloc, list, limits)?;
+                let want = "bstr or nil";
+                let parts = read_parts(alloc, protected, unprotected, payload, limits, want)?;
+                Ok(CoseSign {
+                    protected: parts.protected,
+                    unprotected: parts.unprotected,
+                    payload: parts.content,
+                    signatures,
+                })
+            }
+            None => Err(CoseError::UnexpectedItem("array", "array with 4 items")),
+        }
     }
 }
 
@@ -105,7 +105,8 @@ fn read_signatures(
     limits: Limits,
 ) -> Result<Vec<CoseSignature>, CoseError>
     ensures { MatchResult result
-        (λ v. IsSignatureList (nesting_of limits) (view value) (map signature_view v.items) (layers_of limits))
+        (λ v. IsSignatureList (nesting_of limits) (view value) (map signature_view v.items)
+        (layers_of limits))
         (λ e. OrMemory (WrongSignatureList (nesting_of limits) (view value) (layers_of limits)) e) }
 {
     let items = value.try_as_array()?;
@@ -118,8 +119,12 @@ fn read_list(
     limits: Limits,
 ) -> Result<Vec<CoseSignature>, CoseError>
     ensures { MatchResult result
-        (λ v. HasSignatures (nesting_of limits) (views items.items) (signatures_view v.items) (layers_of limits))
-        (λ e. OrMemory (HasNoSignature (nesting_of limits) (views items.items) (layers_of limits)) e) }
+        (λ v. HasSignatures (nesting_of limits) (views items.items) (signatures_view v.items)
+        (layers_of limits))
+        (λ e. OrMemory
+        (WrongItems
+        (λ t. IsNoSignature (nesting_of limits) t (layers_of limits)) (views items.items))
+        e) }
 {
     let mut signatures = Vec::new(alloc);
     'items: for item in items {

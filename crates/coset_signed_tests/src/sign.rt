@@ -36,7 +36,7 @@ impl Message for CoseSign {
         self.payload.is_none()
     }
 
-    fn covered(
+    fn tbs(
         &self,
         alloc: Global,
         signer: Option<&CoseSignature>,
@@ -48,7 +48,7 @@ impl Message for CoseSign {
         }
     }
 
-    fn covered_elsewhere(
+    fn tbs_elsewhere(
         &self,
         alloc: Global,
         signer: Option<&CoseSignature>,
@@ -157,7 +157,7 @@ fn is_third<T: Message>(rt: &impl Abort, alloc: Global, message: &T, signer: &Co
     gives(
         rt,
         alloc,
-        message.covered(alloc, Some(signer), &[0xaa]),
+        message.tbs(alloc, Some(signer), &[0xaa]),
         "85695369676e61747572654043a1012641aa426869",
     );
 }
@@ -173,6 +173,13 @@ fn a_message_is_signed_by_several(rt: HostRuntime) {
     let alloc = rt.alloc();
     is_third(&rt, alloc, &by_three(&rt, alloc), &signer(alloc));
     writes(&rt, alloc, by_three(&rt, alloc), &WRITTEN);
+    let covered = by_three(&rt, alloc).covered(alloc, b"ho", &[], &signer(alloc));
+    gives(
+        &rt,
+        alloc,
+        covered,
+        "85695369676e61747572654043a101264042686f",
+    );
 }
 
 /// What is built for the payload "hi", which is carried elsewhere, with a signer that gives what it is handed.

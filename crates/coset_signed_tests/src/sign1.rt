@@ -1,6 +1,6 @@
 //! Messages with one signature. Expected bytes and texts are written out by hand.
 use crate::tools::{
-    Message, Met, UNFIT, echo, equal, es256, is_asked_for, is_elsewhere, is_verified,
+    Message, Met, UNFIT, echo, equal, es256, gives, is_asked_for, is_elsewhere, is_verified,
     is_verified_elsewhere, never, repeated, same, tell, writes, writes_untagged,
 };
 use coset_headers::{CoseSignature, Header};
@@ -30,7 +30,7 @@ impl Message for CoseSign1 {
         self.payload.is_none()
     }
 
-    fn covered(
+    fn tbs(
         &self,
         alloc: Global,
         _signer: Option<&CoseSignature>,
@@ -39,7 +39,7 @@ impl Message for CoseSign1 {
         self.tbs_data(alloc, aad)
     }
 
-    fn covered_elsewhere(
+    fn tbs_elsewhere(
         &self,
         alloc: Global,
         _signer: Option<&CoseSignature>,
@@ -148,6 +148,14 @@ fn echoed_elsewhere(rt: &impl Abort, alloc: Global) -> CoseSign1 {
     let signature = [9].to_vec(alloc).expect(rt, "no memory");
     let signed = signed_elsewhere(alloc, es256(alloc), es256(alloc), signature, &[0xaa]);
     signed.expect(rt, "a message")
+}
+
+#[test]
+fn another_payload_is_covered(rt: HostRuntime) {
+    let alloc = rt.alloc();
+    let covered = built(&rt, alloc).covered(alloc, b"ho", &[0xaa]);
+    let want = "846a5369676e61747572653143a1012641aa42686f";
+    gives(&rt, alloc, covered, want);
 }
 
 #[test]

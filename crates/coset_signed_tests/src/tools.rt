@@ -101,15 +101,15 @@ pub(crate) trait Message: CborSerializable + TaggedCborSerializable + PartialEq 
     fn is_detached(&self) -> bool;
 
     /// What the signature of this signer covers.
-    fn covered(
+    fn tbs(
         &self,
         alloc: Global,
         signer: Option<&CoseSignature>,
         aad: &[u8],
     ) -> Result<Vec<u8>, CoseError>;
 
-    /// As `covered`, of a payload that is carried elsewhere.
-    fn covered_elsewhere(
+    /// As `tbs`, of a payload that is carried elsewhere.
+    fn tbs_elsewhere(
         &self,
         alloc: Global,
         signer: Option<&CoseSignature>,
@@ -156,7 +156,7 @@ pub(crate) fn is_not_signed<T: Message>(rt: &impl Abort, alloc: Global, message:
     same(rt, &message.count(), &1, "signatures");
     let want = Err(Fault::Cose(CoseError::DuplicateMapKey));
     same(rt, &message.refused(alloc), &want, "verified");
-    let covered = message.covered(alloc, message.signer(0), &[]);
+    let covered = message.tbs(alloc, message.signer(0), &[]);
     same(rt, &covered, &Err(CoseError::DuplicateMapKey), "covered");
 }
 
@@ -183,7 +183,7 @@ fn covers_elsewhere<T: Message>(
 ) {
     same(rt, &message.is_detached(), &true, "no payload");
     is_hex(rt, alloc, message.signature(0), want);
-    let covered = message.covered_elsewhere(alloc, signer, b"hi", aad);
+    let covered = message.tbs_elsewhere(alloc, signer, b"hi", aad);
     gives(rt, alloc, covered, want);
     let is_covered = is_covered_elsewhere(alloc, message, b"hi", aad);
     same(rt, &is_covered, &Ok(true), "what is covered");
@@ -205,7 +205,7 @@ pub(crate) fn is_elsewhere<T: Message>(
     let verified = message.verified_elsewhere(alloc, 0, b"ho", aad);
     let mismatch = Err(Fault::Caller(MISMATCH));
     same(rt, &verified, &mismatch, "another payload");
-    gives(rt, alloc, message.covered(alloc, signer, &[]), row.1);
+    gives(rt, alloc, message.tbs(alloc, signer, &[]), row.1);
 }
 
 /// Whether the signature there is what it covers.
@@ -215,7 +215,7 @@ fn is_covered<T: Message>(
     which: usize,
     aad: &[u8],
 ) -> Result<bool, CoseError> {
-    let covered = message.covered(alloc, message.signer(which), aad)?;
+    let covered = message.tbs(alloc, message.signer(which), aad)?;
     Ok(covered.as_slice() == message.signature(which))
 }
 
@@ -226,7 +226,7 @@ fn is_covered_elsewhere<T: Message>(
     payload: &[u8],
     aad: &[u8],
 ) -> Result<bool, CoseError> {
-    let covered = message.covered_elsewhere(alloc, message.signer(0), payload, aad)?;
+    let covered = message.tbs_elsewhere(alloc, message.signer(0), payload, aad)?;
     Ok(covered.as_slice() == message.signature(0))
 }
 

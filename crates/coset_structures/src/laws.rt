@@ -16,9 +16,11 @@ pub use crate::alike::{
 /// The structures over a protected header that can be written are there.
 pub fn structures_can_be_written()
     ensures one { (context aad payload : List ℕ) (p : ProtectedFields) → shown p ≢ None
-        → (sig_structure context p None aad payload ≢ None) × (mac_structure context p aad payload ≢ None)
+        → (sig_structure context p None aad payload ≢ None)
+        × (mac_structure context p aad payload ≢ None)
         × (encryption_structure context p aad ≢ None) }
-    ensures signer { (context aad payload : List ℕ) (p q : ProtectedFields) → shown p ≢ None → shown q ≢ None
+    ensures signer { (context aad payload : List ℕ) (p q : ProtectedFields) → shown p ≢ None
+        → shown q ≢ None
         → sig_structure context p (Some q) aad payload ≢ None }
 {}
 
@@ -26,17 +28,21 @@ pub fn structures_can_be_written()
 /// whether there is a signer, shown protected bytes, external data, and payload where the structure has one. So a Sig_structure is never a
 /// MAC_structure, and neither is an Enc_structure. Each part has fewer than 2^64 bytes.
 pub fn one_structure()
-    ensures same { (x y : Covered) → CoveredFits x → CoveredFits y → (covered_bytes x ≡ covered_bytes y) ↔ (x ≡ y) }
+    ensures same { (x y : Covered) → CoveredFits x → CoveredFits y
+        → (covered_bytes x ≡ covered_bytes y) ↔ (x ≡ y) }
 
     // A structure of fewer than 2^64 bytes, as one in hand is, has such parts.
     ensures fit { (x : Covered) → length (covered_bytes x) < 2 ^ 64 → CoveredFits x }
 
     // The structures of protected headers are those of their parts.
-    ensures sig { (context : SignatureContext) (body : ProtectedFields) (signer : Option ProtectedFields) (aad payload : List ℕ)
+    ensures sig { (context : SignatureContext) (body : ProtectedFields)
+        (signer : Option ProtectedFields) (aad payload : List ℕ)
         → sig_structure (signature_text context) body signer aad payload
         ≡ option_map covered_bytes (covered_by_sig context body signer aad payload) }
     ensures mac { (context : MacContext) (body : ProtectedFields) (aad payload : List ℕ)
-        → mac_structure (mac_text context) body aad payload ≡ option_map covered_bytes (covered_by_mac context body aad payload) }
+        → mac_structure (mac_text context) body aad payload
+        ≡ option_map covered_bytes (covered_by_mac context body aad payload) }
     ensures enc { (context : EncryptionContext) (body : ProtectedFields) (aad : List ℕ)
-        → encryption_structure (encryption_text context) body aad ≡ option_map covered_bytes (covered_by_enc context body aad) }
+        → encryption_structure (encryption_text context) body aad
+        ≡ option_map covered_bytes (covered_by_enc context body aad) }
 {}

@@ -11,7 +11,8 @@ impl SignatureContext {
     #[tactic(auto, unfolding(ciborium_ll::specs::Title::shortest))]
     pub fn prefix(self, signer: bool) -> &'static [u8]
         ensures { (body aad payload : List ℕ) (sign : Option (List ℕ)) → is_some sign ≡ signer
-            → structure (signature_text self) body sign aad payload ≡ result.now ++ behind_prefix body sign aad payload }
+            → structure (signature_text self) body sign aad payload
+            ≡ result.now ++ behind_prefix body sign aad payload }
     {
         match self {
             SignatureContext::CoseSignature => {
@@ -45,7 +46,8 @@ impl MacContext {
     #[tactic(auto, unfolding(ciborium_ll::specs::Title::shortest))]
     pub fn prefix(self) -> &'static [u8]
         ensures { (body aad payload : List ℕ)
-            → structure (mac_text self) body None aad payload ≡ result.now ++ behind_prefix body None aad payload }
+            → structure (mac_text self) body None aad payload
+            ≡ result.now ++ behind_prefix body None aad payload }
     {
         match self {
             MacContext::CoseMac => b"\x84cMAC",
@@ -59,7 +61,9 @@ impl EncryptionContext {
     /// the protected header and of the external data follow.
     #[tactic(auto, unfolding(ciborium_ll::specs::Title::shortest))]
     pub fn prefix(self) -> &'static [u8]
-        ensures { (body aad : List ℕ) → enc_structure (encryption_text self) body aad ≡ result.now ++ behind_enc_prefix body aad }
+        ensures { (body aad : List ℕ)
+            → enc_structure (encryption_text self) body aad
+            ≡ result.now ++ behind_enc_prefix body aad }
     {
         match self {
             EncryptionContext::CoseEncrypt => b"\x83gEncrypt",

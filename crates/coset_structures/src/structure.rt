@@ -1,5 +1,6 @@
 //! What signatures, tags and encryptions cover.
-ghost use Rattle.std.specs.Prelude.{◌≡◌, ◌≤◌, ◌^◌, ◌++◌, None, Some, MatchOption, MatchResult, IfOk, OnOk, length, option_map};
+ghost use Rattle.std.specs.Prelude.{◌≡◌, ◌≤◌, ◌+◌, ◌^◌, [], ◌++◌, None, Some, MatchOption, MatchResult, IfOk};
+ghost use Rattle.std.specs.Prelude.{length, option_map, vec_len, vec_capacity};
 ghost use Rattle.std.specs.List.{flat_map};
 ghost use Rattle.std.specs.Cow.{cow_slice_items};
 ghost use Rattle.ciborium_value.specs.Tree as spec;
@@ -54,8 +55,11 @@ pub fn mac_structure_data(
     aad: &[u8],
     payload: &[u8],
 ) -> Result<Vec<u8>, CoseError>
-    ensures { MatchResult result (λ v. mac_structure (mac_text context) (protected_view protected.now) aad.now payload.now ≡ Some v.items)
-        (λ e. CantWrite (mac_structure (mac_text context) (protected_view protected.now) aad.now payload.now) e) }
+    ensures { MatchResult result
+        (λ v. mac_structure (mac_text context) (protected_view protected.now) aad.now payload.now
+        ≡ Some v.items)
+        (λ e. CantWrite (mac_structure (mac_text context)
+        (protected_view protected.now) aad.now payload.now) e) }
 {
     let body = show(alloc, protected)?;
     covered(alloc, context.prefix(), &body, aad, payload)
@@ -72,8 +76,11 @@ pub fn enc_structure_data(
     protected: &ProtectedHeader,
     aad: &[u8],
 ) -> Result<Vec<u8>, CoseError>
-    ensures { MatchResult result (λ v. encryption_structure (encryption_text context) (protected_view protected.now) aad.now ≡ Some v.items)
-        (λ e. CantWrite (encryption_structure (encryption_text context) (protected_view protected.now) aad.now) e) }
+    ensures { MatchResult result
+        (λ v. encryption_structure (encryption_text context) (protected_view protected.now) aad.now
+        ≡ Some v.items)
+        (λ e. CantWrite (encryption_structure (encryption_text context)
+        (protected_view protected.now) aad.now) e) }
 {
     let body = show(alloc, protected)?;
     encrypted(alloc, context.prefix(), &body, aad)
@@ -85,7 +92,8 @@ fn show<'a>(
     alloc: Global,
     protected: &'a ProtectedHeader,
 ) -> Result<CowSlice<'a, u8, Global>, CoseError>
-    ensures { MatchResult result (λ b. shown (protected_view protected.now) ≡ Some (cow_slice_items b))
+    ensures { MatchResult result
+        (λ b. shown (protected_view protected.now) ≡ Some (cow_slice_items b))
         (λ e. CantWrite (shown (protected_view protected.now)) e) }
 {
     match &protected.original_data {
@@ -105,7 +113,8 @@ fn show_signer<'a>(
     alloc: Global,
     signer: Option<&'a ProtectedHeader>,
 ) -> Result<Option<CowSlice<'a, u8, Global>>, CoseError>
-    ensures { MatchResult result (λ o. shown_signer (option_map (λ p. protected_view p.now) signer.entry)
+    ensures { MatchResult result
+        (λ o. shown_signer (option_map (λ p. protected_view p.now) signer.entry)
         ≡ Some (option_map cow_slice_items o))
         (λ e. CantWrite (shown_signer (option_map (λ p. protected_view p.now) signer.entry)) e) }
 {
@@ -127,7 +136,9 @@ fn over_signer(
     aad: &[u8],
     payload: &[u8],
 ) -> Result<Vec<u8>, CoseError>
-    ensures { MatchResult result (λ v. v.items ≡ structure (signature_text context) body.now (option_map cow_slice_items signer.now)
+    ensures { MatchResult result
+        (λ v. v.items
+        ≡ structure (signature_text context) body.now (option_map cow_slice_items signer.now)
         aad.now payload.now) (λ e. e ≡ Memory) }
 {
     match signer {
@@ -144,7 +155,9 @@ fn covered<'a>(
     aad: &'a [u8],
     payload: &'a [u8],
 ) -> Result<Vec<u8>, CoseError>
-    ensures { MatchResult result (λ v. v.items ≡ prefix.now ++ behind_prefix body.now None aad.now payload.now) (λ e. e ≡ Memory) }
+    ensures { MatchResult result
+        (λ v. v.items ≡ prefix.now ++ behind_prefix body.now None aad.now payload.now)
+        (λ e. e ≡ Memory) }
 {
     Ok(joined(alloc, prefix, &[body, aad, payload])?)
 }
@@ -158,7 +171,8 @@ fn signed<'a>(
     aad: &'a [u8],
     payload: &'a [u8],
 ) -> Result<Vec<u8>, CoseError>
-    ensures { MatchResult result (λ v. v.items ≡ prefix.now ++ behind_prefix body.now (Some signer.now) aad.now payload.now)
+    ensures { MatchResult result
+        (λ v. v.items ≡ prefix.now ++ behind_prefix body.now (Some signer.now) aad.now payload.now)
         (λ e. e ≡ Memory) }
 {
     Ok(joined(alloc, prefix, &[body, signer, aad, payload])?)
@@ -171,22 +185,41 @@ fn encrypted<'a>(
     body: &'a [u8],
     aad: &'a [u8],
 ) -> Result<Vec<u8>, CoseError>
-    ensures { MatchResult result (λ v. v.items ≡ prefix.now ++ behind_enc_prefix body.now aad.now) (λ e. e ≡ Memory) }
+    ensures { MatchResult result (λ v. v.items ≡ prefix.now ++ behind_enc_prefix body.now aad.now)
+        (λ e. e ≡ Memory) }
 {
     Ok(joined(alloc, prefix, &[body, aad])?)
 }
 
-/// A structure: how it begins, and byte strings, in one vector that has room for just these.
+/// A structure: how it begins, and byte strings, in one vector that was reserved with room for just these.
 fn joined(alloc: Global, prefix: &[u8], parts: &[&[u8]]) -> Result<Vec<u8>, AllocError>
     ensures { IfOk result (λ v. v.items ≡ prefix.now ++ flat_map byte_string parts.now) }
 {
-    let room = room(prefix, parts).ok_or(AllocError)?;
-    let mut out = Vec::with_capacity(alloc, room)?;
-    out.extend_from_slice(prefix)?;
-    for part in parts {
-        push_bytes(&mut out, part)?;
-    }
+    let mut out = with_room(alloc, prefix, parts)?;
+    write(&mut out, prefix, parts);
     Ok(out)
+}
+
+/// An empty vector with room for just this structure.
+fn with_room(alloc: Global, prefix: &[u8], parts: &[&[u8]]) -> Result<Vec<u8>, AllocError>
+    ensures empty { IfOk result (λ v. v.items ≡ []) }
+    ensures exact { IfOk result
+        (λ v. vec_capacity v ≡ length (prefix.now ++ flat_map byte_string parts.now)) }
+{
+    let room = room(prefix, parts).ok_or(AllocError)?;
+    Vec::with_capacity(alloc, room)
+}
+
+/// Appends a structure for which there is room, so that no memory is asked for.
+fn write(out: &mut Vec<u8>, prefix: &[u8], parts: &[&[u8]])
+    requires { vec_len out.old + length (prefix.now ++ flat_map byte_string parts.now)
+        ≤ vec_capacity out.old }
+    ensures { out.new.items ≡ out.old.items ++ (prefix.now ++ flat_map byte_string parts.now) }
+{
+    append(out, prefix);
+    for part in parts {
+        push_bytes(out, part);
+    }
 }
 
 /// How long a structure is, where `usize` can hold it.
@@ -202,10 +235,24 @@ fn room(prefix: &[u8], parts: &[&[u8]]) -> Option<usize>
     Some(room)
 }
 
-/// Appends a byte string, its title and its bytes.
-fn push_bytes(out: &mut Vec<u8>, bytes: &[u8]) -> Result<(), AllocError>
-    ensures { OnOk result (out.new.items ≡ out.old.items ++ enc (spec.bytes bytes.now)) }
+/// Appends a byte string, its title and its bytes, for which there is room.
+fn push_bytes(out: &mut Vec<u8>, bytes: &[u8])
+    requires { vec_len out.old + length (enc (spec.bytes bytes.now)) ≤ vec_capacity out.old }
+    ensures items { out.new.items ≡ out.old.items ++ enc (spec.bytes bytes.now) }
+    ensures room { vec_capacity out.old ≤ vec_capacity out.new }
 {
-    out.extend_from_slice(bytes_title(bytes.len()).as_slice())?;
-    out.extend_from_slice(bytes)
+    append(out, bytes_title(bytes.len()).as_slice());
+    append(out, bytes);
+}
+
+/// Appends bytes for which there is room, so that no memory is asked for.
+fn append(out: &mut Vec<u8>, bytes: &[u8])
+    requires { vec_len out.old + length bytes.now ≤ vec_capacity out.old }
+    ensures items { out.new.items ≡ out.old.items ++ bytes.now }
+    ensures room { vec_capacity out.old ≤ vec_capacity out.new }
+{
+    match out.extend_from_slice(bytes) {
+        Ok(()) => {}
+        Err(_) => unreachable!(),
+    }
 }

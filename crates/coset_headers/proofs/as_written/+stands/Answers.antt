@@ -9,9 +9,9 @@ header_stands-returns-in-Map t c = map_stands c.args.value.now c.in-Map.entries 
 
 pub signed_stand-returns-then-len-gt1 : goal.signed_stand-returns-then-len-gt1
 signed_stand-returns-then-len-gt1 t c =
-    several_stand c.args.value.now c.in-Array.items c.deref.result.now c.deref-then-len-gt1.result.now c.len.result c.is_bare.result c.signatures_stand.result c.in-Array.is c.deref.ensures.value c.is_bare.ensures c.if-is_bare.false
+    several_stand c.args.value.now c.in-Array.items c.deref.result.now c.deref-then-len-gt1.result.now c.len.result c.is_one_signature.result c.signatures_stand.result c.in-Array.is c.deref.ensures.value c.is_one_signature.ensures c.if-is_one_signature.false
     c.len.ensures c.if-len-gt1.true c.deref-then-len-gt1.ensures.value c.signatures_stand.ensures
 
 pub signed_stand-returns-else-len-gt1 : goal.signed_stand-returns-else-len-gt1
 signed_stand-returns-else-len-gt1 t c =
-    single_stands c.args.value.now c.in-Array.items c.deref.result.now c.len.result c.is_bare.result c.in-Array.is c.deref.ensures.value c.is_bare.ensures c.if-is_bare.false c.len.ensures c.if-len-gt1.false
+    single_stands c.args.value.now c.in-Array.items c.deref.result.now c.len.result c.is_one_signature.result c.in-Array.is c.deref.ensures.value c.is_one_signature.ensures c.if-is_one_signature.false c.len.ensures c.if-len-gt1.false

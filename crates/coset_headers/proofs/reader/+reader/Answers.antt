@@ -3,7 +3,9 @@ use Rattle.std.proofs.lemmas.Result.{err_from_is_err_and}
 use Rattle.std.proofs.lemmas.Iterator.Consumers.{YieldsList-turn}
 use Rattle.ciborium_value.specs.View.{view, views, view_pairs}
 use Rattle.ciborium_value.proofs.Views.{view_array}
+use Rattle.coset_labels.specs.Facts.Walks.{entry_at_fault, item_at_fault, views_count}
 use Rattle.coset_labels.specs.Faults.{OrMemory, fault_of, unexpected}
+use Rattle.coset_labels.specs.Labels.{label_of}
 use Rattle.coset_labels.specs.View.{label_view}
 use Rattle.coset_labels.proofs.Items.{match_map}
 use Rattle.coset_labels.proofs.Loops.{vec_yields, turned, moved}
@@ -14,7 +16,7 @@ use Rattle.coset_headers.specs.Weight.{weight_all, weight_pairs}
 use Rattle.coset_headers.specs.Wrong.{NoSignature, WrongEntry, WrongSignature, label_again}
 use Rattle.coset_headers.proofs.Empty.{full_by, empty_by}
 use Rattle.coset_headers.proofs.Weights.{reads_long, weight_pos, weight_among, weight_pair_among}
-use Rattle.coset_headers.proofs.Steps.{passed_on, header_kind, header_inside, header_has, entry_label, entry_signatures, entry_filled, known_filled, known_signed, entries_at_fault, entries_pushed, header_none, signed_kind, signed_first, signed_bare, signed_list, signed_all, sigs_pushed, sigs_at_fault, sig_kind, sig_count, sig_bytes, sig_unprotected, sig_protected, prot_kind, prot_deep, prot_inside, inside_unreadable, inside_wrong}
+use Rattle.coset_headers.proofs.Steps.{passed_on, header_kind, header_inside, header_has, entry_label, entry_signatures, entry_filled, known_filled, known_signed, entries_pushed, header_none, signed_kind, signed_first, signed_bare, signed_list, signed_all, sigs_pushed, sig_kind, sig_count, sig_bytes, sig_unprotected, sig_protected, prot_kind, prot_deep, prot_inside, inside_unreadable, inside_wrong}
 use Rattle.coset_headers.proofs.reader.+reader.Goals as goal
 
 pub read_header-returns-in_err-entries : goal.read_header-returns-in_err-entries
@@ -51,7 +53,7 @@ pub read_entries-returns-in_err-read_entry : goal.read_entries-returns-in_err-re
 read_entries-returns-in_err-read_entry t c =
     let p = err_from_is_err_and c.from_residual.result c.from_residual.ensures.1 in
     let turn = turned c.args.entries.items c.entries.yielded c.in-Some.entry c.entries.invariant.front (YieldsList-turn (vec_yields c.into_iter-entry-iterator.result c.args.entries c.into_iter-entry-iterator.ensures.into_iter_gives.0 c.into_iter-entry-iterator.ensures.into_iter_gives.1) c.entries.yielded c.entries.entry-iterator c.entries.yielded_by c.next.result c.next.new.self c.in-Some.entry c.in-Some.is c.next.ensures.steps) in
-    rw (p.1, p.2) (entries_at_fault c.args.nesting c.args.entries.items c.entries.yielded turn.0 c.in-Some.entry _ _ _ turn.1 c.entries.invariant.known.1 (c.in_err-read_entry.ensures _ c.entries.invariant.known.2))
+    rw (p.1, p.2) (entry_at_fault label_of (λ es l v. WrongEntry c.args.nesting es l v c.args.layers) c.args.entries.items c.entries.yielded turn.0 c.in-Some.entry _ _ turn.1 c.entries.invariant.known.1 (c.in_err-read_entry.ensures _ c.entries.invariant.known.2))
 
 pub read_entry-returns-in_err-label : goal.read_entry-returns-in_err-label
 read_entry-returns-in_err-label t c =
@@ -123,7 +125,7 @@ pub read_list-returns-in_err-signature : goal.read_list-returns-in_err-signature
 read_list-returns-in_err-signature t c =
     let p = err_from_is_err_and c.from_residual.result c.from_residual.ensures.1 in
     let turn = turned c.args.items.items c.list.yielded c.in-Some.item c.list.invariant.front (YieldsList-turn (vec_yields c.into_iter-item-iterator.result c.args.items c.into_iter-item-iterator.ensures.into_iter_gives.0 c.into_iter-item-iterator.ensures.into_iter_gives.1) c.list.yielded c.list.item-iterator c.list.yielded_by c.next.result c.next.new.self c.in-Some.item c.in-Some.is c.next.ensures.steps) in
-    rw (p.1, p.2) (sigs_at_fault c.args.nesting c.args.items.items c.list.yielded turn.0 c.in-Some.item _ _ turn.1 c.in_err-signature.ensures)
+    rw (p.1, p.2) (item_at_fault (λ t. WrongSignature c.args.nesting t c.args.layers) c.args.items.items c.list.yielded turn.0 c.in-Some.item _ turn.1 c.in_err-signature.ensures)
 
 pub read_signature-returns-in_err-items : goal.read_signature-returns-in_err-items
 read_signature-returns-in_err-items t c =
@@ -133,20 +135,20 @@ read_signature-returns-in_err-items t c =
 pub read_signature-returns-in_err-signature-in-Some : goal.read_signature-returns-in_err-signature-in-Some
 read_signature-returns-in_err-signature-in-Some t c =
     let p = err_from_is_err_and c.from_residual-in_err-signature-in-Some.result c.from_residual-in_err-signature-in-Some.ensures.1 in
-    rw (p.1, p.2) (sig_bytes _ _ _ _ _ _ _ _ c.in_ok-items.ensures c.in-Some.ensures c.in_err-signature-in-Some.ensures)
+    rw (p.1, p.2) (sig_bytes _ _ _ _ _ _ _ _ c.in_ok-items.ensures (ap views c.in-Some.ensures) c.in_err-signature-in-Some.ensures)
 
 pub read_signature-returns-in_err-unprotected-in-Some : goal.read_signature-returns-in_err-unprotected-in-Some
 read_signature-returns-in_err-unprotected-in-Some t c =
     let p = err_from_is_err_and c.from_residual-in_err-unprotected-in-Some.result c.from_residual-in_err-unprotected-in-Some.ensures.1 in
-    rw (p.1, p.2) (sig_unprotected _ _ _ _ _ _ _ _ c.in_ok-items.ensures c.in-Some.ensures c.in_err-unprotected-in-Some.ensures)
+    rw (p.1, p.2) (sig_unprotected _ _ _ _ _ _ _ _ c.in_ok-items.ensures (ap views c.in-Some.ensures) c.in_err-unprotected-in-Some.ensures)
 
 pub read_signature-returns-in_err-protected-in-Some : goal.read_signature-returns-in_err-protected-in-Some
 read_signature-returns-in_err-protected-in-Some t c =
     let p = err_from_is_err_and c.from_residual-in_err-protected-in-Some.result c.from_residual-in_err-protected-in-Some.ensures.1 in
-    rw (p.1, p.2) (sig_protected _ _ _ _ _ _ _ _ c.in_ok-items.ensures c.in-Some.ensures c.in_err-protected-in-Some.ensures)
+    rw (p.1, p.2) (sig_protected _ _ _ _ _ _ _ _ c.in_ok-items.ensures (ap views c.in-Some.ensures) c.in_err-protected-in-Some.ensures)
 
 pub read_signature-returns-in-None : goal.read_signature-returns-in-None
-read_signature-returns-in-None t c = inr (sig_count _ _ _ _ c.in_ok-items.ensures c.in-None.ensures)
+read_signature-returns-in-None t c = inr (sig_count _ _ _ _ c.in_ok-items.ensures (λ e. c.in-None.ensures (sym (views_count c.in_ok-items.items.items) ∙ e)))
 
 pub read_protected-returns-in_err-bytes : goal.read_protected-returns-in_err-bytes
 read_protected-returns-in_err-bytes t c =

@@ -1,5 +1,5 @@
 use Rattle.std.proofs.Common.{◌≡◌, Some, subst}
-use Rattle.ciborium_value.specs.Tree.{Tree}
+use Rattle.ciborium_value.specs.Tree.{Tree, bytes}
 use Rattle.ciborium_value.specs.Encoding.{Fits}
 use Rattle.coset_recipients.specs.Short.{RecipientsShort}
 use Rattle.coset_recipients.specs.View.{recipients_view}
@@ -10,5 +10,5 @@ use Rattle.coset_maced.proofs.laws.mac_fits.Goals as goal
 
 pub returns : goal.returns
 returns c = λ u e s.
-    mac_fit (mac_view c.args.message.now) u c.parts_fit.ensures c.bytes_fit.ensures
-    (subst (λ z. (v : Tree) → list_tree (recipients_view z) ≡ Some v → RecipientsShort (recipients_view z) → Fits v) c.deref.ensures.value c.recipients_fit.ensures) e s
+    mac_fit (mac_view c.args.message.now) u c.parts_fit.ensures (subst (λ z. Fits (bytes z)) c.deref.ensures.value c.bytes_fit.ensures)
+    (subst (λ z. (v : Tree) → list_tree (recipients_view z) ≡ Some v → RecipientsShort (recipients_view z) → Fits v) c.deref-2.ensures.value c.recipients_fit.ensures) e s

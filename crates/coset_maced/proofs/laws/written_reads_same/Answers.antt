@@ -1,9 +1,10 @@
-use Rattle.coset_headers.proofs.Sound.{reads_sound, sound_reads}
+use Rattle.coset_message_parts.proofs.Kept.{kept_reads}
+use Rattle.coset_maced.specs.Shapes.{HasMac0, HasMac}
 use Rattle.coset_maced.proofs.Kept.{mac0_kept, mac_kept}
 use Rattle.coset_maced.proofs.laws.written_reads_same.Goals as goal
 
 pub returns : goal.returns
 returns c = record {
-  mac0 = λ n k limit b t u m i a e f. let q = mac0_kept n m k in (sound_reads limit u f (q.sound limit t u a e (reads_sound b limit t i)), q.again t u a e);
-  mac = λ n k limit b t u m i a e f. let q = mac_kept n m k in (sound_reads limit u f (q.sound limit t u a e (reads_sound b limit t i)), q.again t u a e);
+  mac0 = λ n k limit b t u m. kept_reads (λ t. HasMac0 n t m k) _ (mac0_kept n m k) limit b t u;
+  mac = λ n k limit b t u m. kept_reads (λ t. HasMac n t m k) _ (mac_kept n m k) limit b t u;
 }

@@ -4,10 +4,12 @@ use Rattle.std.proofs.lemmas.Iterator.Consumers.{YieldsList-turn}
 use Rattle.ciborium_value.specs.View.{views}
 use Rattle.coset_labels.proofs.Items.{match_map}
 use Rattle.coset_labels.proofs.Loops.{vec_yields, turned, moved}
+use Rattle.coset_labels.specs.Facts.Walks.{item_at_fault}
 use Rattle.coset_labels.specs.Limits.{nesting_of, layers_of}
 use Rattle.coset_headers.specs.Weight.{weight_all}
 use Rattle.coset_headers.proofs.Weights.{weight_among}
-use Rattle.coset_recipients.proofs.Steps.{recipient_kind, recipient_count, recipient_inner, recipient_parts, recipient_has, list_kind, list_inside, recipients_pushed, recipients_at_fault, fourth_lighter, items_lighter}
+use Rattle.coset_recipients.specs.Wrong.{WrongRecipient}
+use Rattle.coset_recipients.proofs.Steps.{recipient_kind, recipient_count, recipient_inner, recipient_parts, recipient_has, list_kind, list_inside, recipients_pushed, fourth_lighter, items_lighter}
 use Rattle.coset_recipients.proofs.reader.+reader.Goals as goal
 
 pub read_recipient-returns-in_err-items : goal.read_recipient-returns-in_err-items
@@ -66,4 +68,4 @@ pub read_items-returns-in_err-recipient : goal.read_items-returns-in_err-recipie
 read_items-returns-in_err-recipient t c =
     let p = err_from_is_err_and c.from_residual.result c.from_residual.ensures.1 in
     let turn = turned c.args.items.items c.items.yielded c.in-Some.item c.items.invariant.front (YieldsList-turn (vec_yields c.into_iter-item-iterator.result c.args.items c.into_iter-item-iterator.ensures.into_iter_gives.0 c.into_iter-item-iterator.ensures.into_iter_gives.1) c.items.yielded c.items.item-iterator c.items.yielded_by c.next.result c.next.new.self c.in-Some.item c.in-Some.is c.next.ensures.steps) in
-    rw (p.1, p.2) (recipients_at_fault (nesting_of c.args.limits) c.args.items.items c.items.yielded turn.0 c.in-Some.item _ _ turn.1 c.in_err-recipient.ensures)
+    rw (p.1, p.2) (item_at_fault (λ t. WrongRecipient (nesting_of c.args.limits) t (layers_of c.args.limits)) c.args.items.items c.items.yielded turn.0 c.in-Some.item _ turn.1 c.in_err-recipient.ensures)

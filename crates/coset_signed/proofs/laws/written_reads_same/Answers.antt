@@ -1,9 +1,10 @@
-use Rattle.coset_headers.proofs.Sound.{reads_sound, sound_reads}
+use Rattle.coset_message_parts.proofs.Kept.{kept_reads}
+use Rattle.coset_signed.specs.Shapes.{HasSign1, HasSign}
 use Rattle.coset_signed.proofs.Kept.{sign1_kept, sign_kept}
 use Rattle.coset_signed.proofs.laws.written_reads_same.Goals as goal
 
 pub returns : goal.returns
 returns c = record {
-  sign1 = λ n k limit b t u m i a e f. let q = sign1_kept n m k in (sound_reads limit u f (q.sound limit t u a e (reads_sound b limit t i)), q.again t u a e);
-  sign = λ n k limit b t u m i a e f. let q = sign_kept n m k in (sound_reads limit u f (q.sound limit t u a e (reads_sound b limit t i)), q.again t u a e);
+  sign1 = λ n k limit b t u m. kept_reads (λ t. HasSign1 n t m k) _ (sign1_kept n m k) limit b t u;
+  sign = λ n k limit b t u m. kept_reads (λ t. HasSign n t m k) _ (sign_kept n m k) limit b t u;
 }

@@ -1,7 +1,7 @@
-use Rattle.std.proofs.Common.{inl, inr, [], ◌∷◌, refl}
+use Rattle.std.proofs.Common.{inl, inr, [], ◌∷◌, refl, ap}
 use Rattle.std.proofs.lemmas.Result.{err_from_is_err_and}
-use Rattle.coset_message_parts.specs.Wrong.{not_as_many}
-use Rattle.coset_message_parts.proofs.Steps.{no_bytes, whole_kind, whole_parts, whole_lasts, whole_has}
+use Rattle.ciborium_value.specs.View.{views}
+use Rattle.coset_message_parts.proofs.Steps.{no_bytes, whole_kind, whole_count, whole_parts, whole_lasts, whole_has}
 use Rattle.coset_maced.proofs.mac.CoseMac.from_cbor_value_with.Goals as goal
 
 pub returns-in_err-items : goal.returns-in_err-items
@@ -12,21 +12,21 @@ returns-in_err-items c =
 pub returns-in_err-recipients-in-Some : goal.returns-in_err-recipients-in-Some
 returns-in_err-recipients-in-Some c =
     let p = err_from_is_err_and c.from_residual-in_err-recipients-in-Some.result c.from_residual-in_err-recipients-in-Some.ensures.1 in
-    rw (p.1, p.2) (whole_lasts _ _ _ _ _ _ _ (_ ∷ _ ∷ []) _ _ _ c.in_ok-items.ensures c.in-Some.ensures refl (λ f w. inr (inl w)) c.in_err-recipients-in-Some.ensures)
+    rw (p.1, p.2) (whole_lasts _ _ _ _ _ _ _ (_ ∷ _ ∷ []) _ _ _ c.in_ok-items.ensures (ap views c.in-Some.ensures) refl (λ f w. inr (inl w)) c.in_err-recipients-in-Some.ensures)
 
 pub returns-in_err-tag-in-Some : goal.returns-in_err-tag-in-Some
 returns-in_err-tag-in-Some c =
     let p = err_from_is_err_and c.from_residual-in_err-tag-in-Some.result c.from_residual-in_err-tag-in-Some.ensures.1 in
-    rw (p.1, p.2) (whole_lasts _ _ _ _ _ _ _ (_ ∷ _ ∷ []) _ _ _ c.in_ok-items.ensures c.in-Some.ensures refl (λ f w. inl w) (no_bytes _ _ c.in_err-tag-in-Some.ensures))
+    rw (p.1, p.2) (whole_lasts _ _ _ _ _ _ _ (_ ∷ _ ∷ []) _ _ _ c.in_ok-items.ensures (ap views c.in-Some.ensures) refl (λ f w. inl w) (no_bytes _ _ c.in_err-tag-in-Some.ensures))
 
 pub returns-in_err-parts-in-Some : goal.returns-in_err-parts-in-Some
 returns-in_err-parts-in-Some c =
     let p = err_from_is_err_and c.from_residual-in_err-parts-in-Some.result c.from_residual-in_err-parts-in-Some.ensures.1 in
-    rw (p.1, p.2) (whole_parts _ _ _ _ _ _ _ (_ ∷ _ ∷ []) _ _ c.in_ok-items.ensures c.in-Some.ensures refl c.in_err-parts-in-Some.ensures)
+    rw (p.1, p.2) (whole_parts _ _ _ _ _ _ _ (_ ∷ _ ∷ []) _ _ c.in_ok-items.ensures (ap views c.in-Some.ensures) refl c.in_err-parts-in-Some.ensures)
 
 pub returns-in_ok-parts-in-Some : goal.returns-in_ok-parts-in-Some
 returns-in_ok-parts-in-Some c =
-    whole_has _ _ _ _ _ _ _ _ _ _ (_ ∷ _ ∷ []) _ c.in_ok-items.ensures c.in-Some.ensures c.in_ok-parts-in-Some.ensures (c.in_ok-tag-in-Some.ensures, (c.in_ok-recipients-in-Some.ensures, tt))
+    whole_has _ _ _ _ _ _ _ _ _ _ (_ ∷ _ ∷ []) _ c.in_ok-items.ensures (ap views c.in-Some.ensures) c.in_ok-parts-in-Some.ensures (c.in_ok-tag-in-Some.ensures, (c.in_ok-recipients-in-Some.ensures, tt))
 
 pub returns-in-None : goal.returns-in-None
-returns-in-None c = inr (not_as_many _ c.in_ok-items.ensures c.in-None.ensures)
+returns-in-None c = inr (whole_count _ _ _ _ _ c.in_ok-items.ensures c.in-None.ensures)

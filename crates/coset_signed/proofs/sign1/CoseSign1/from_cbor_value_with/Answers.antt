@@ -1,24 +1,28 @@
-use Rattle.std.proofs.Common.{inr, [], ◌∷◌}
+use Rattle.std.proofs.Common.{inl, inr, [], ◌∷◌, refl, ap}
 use Rattle.std.proofs.lemmas.Result.{err_from_is_err_and}
-use Rattle.coset_labels.specs.Limits.{nesting_of, layers_of}
-use Rattle.coset_signed.specs.Wrong.{IsNoBytes}
-use Rattle.coset_signed.proofs.Steps.{four_kind, four_last, four_parts}
+use Rattle.ciborium_value.specs.View.{views}
+use Rattle.coset_message_parts.proofs.Steps.{no_bytes, whole_kind, whole_count, whole_parts, whole_lasts, whole_has}
 use Rattle.coset_signed.proofs.sign1.CoseSign1.from_cbor_value_with.Goals as goal
 
-pub returns-in_err-protected : goal.returns-in_err-protected
-returns-in_err-protected c =
+pub returns-in_err-items : goal.returns-in_err-items
+returns-in_err-items c =
     let p = err_from_is_err_and c.from_residual.result c.from_residual.ensures.1 in
-    rw (p.1, p.2) (four_kind (nesting_of c.args.limits) _ IsNoBytes (layers_of c.args.limits) _ c.in_err-protected.ensures)
+    rw (p.1, p.2) (whole_kind _ _ _ _ _ c.in_err-items.ensures)
 
-pub returns-in_err-signature : goal.returns-in_err-signature
-returns-in_err-signature c =
-    let p = err_from_is_err_and c.from_residual-in_err-signature.result c.from_residual-in_err-signature.ensures.1 in
-    rw (p.1, p.2) (four_last (nesting_of c.args.limits) _ IsNoBytes (layers_of c.args.limits) _ _ _ _ _ c.in_ok-protected.ensures (inr (c.in_err-signature.ensures.1, c.in_err-signature.ensures.0)))
+pub returns-in_err-signature-in-Some : goal.returns-in_err-signature-in-Some
+returns-in_err-signature-in-Some c =
+    let p = err_from_is_err_and c.from_residual-in_err-signature-in-Some.result c.from_residual-in_err-signature-in-Some.ensures.1 in
+    rw (p.1, p.2)
+    (whole_lasts _ _ _ _ _ _ _ (_ ∷ []) _ _ _ c.in_ok-items.ensures (ap views c.in-Some.ensures) refl (λ f w. inl w) (no_bytes _ _ c.in_err-signature-in-Some.ensures))
 
-pub returns-in_err-parts : goal.returns-in_err-parts
-returns-in_err-parts c =
-    let p = err_from_is_err_and c.from_residual-in_err-parts.result c.from_residual-in_err-parts.ensures.1 in
-    rw (p.1, p.2) (four_parts (nesting_of c.args.limits) _ IsNoBytes (layers_of c.args.limits) _ _ _ _ _ c.in_ok-protected.ensures c.in_err-parts.ensures)
+pub returns-in_err-parts-in-Some : goal.returns-in_err-parts-in-Some
+returns-in_err-parts-in-Some c =
+    let p = err_from_is_err_and c.from_residual-in_err-parts-in-Some.result c.from_residual-in_err-parts-in-Some.ensures.1 in
+    rw (p.1, p.2) (whole_parts _ _ _ _ _ _ _ (_ ∷ []) _ _ c.in_ok-items.ensures (ap views c.in-Some.ensures) refl c.in_err-parts-in-Some.ensures)
 
-pub returns : goal.returns
-returns c = record { first = _; second = _; third = _; lasts = _ ∷ []; is = c.in_ok-protected.ensures; parts = c.in_ok-parts.ensures; hold = (c.in_ok-signature.ensures, tt) }
+pub returns-in_ok-parts-in-Some : goal.returns-in_ok-parts-in-Some
+returns-in_ok-parts-in-Some c =
+    whole_has _ _ _ _ _ _ _ _ _ _ (_ ∷ []) _ c.in_ok-items.ensures (ap views c.in-Some.ensures) c.in_ok-parts-in-Some.ensures (c.in_ok-signature-in-Some.ensures, tt)
+
+pub returns-in-None : goal.returns-in-None
+returns-in-None c = inr (whole_count _ _ _ _ _ c.in_ok-items.ensures c.in-None.ensures)

@@ -1,0 +1,58 @@
+//! A COSE_Mac, as it is judged.
+ghost use Rattle.coset_maced.specs.View.{mac_view};
+ghost use Rattle.cose_gate_core.specs.Questions.{mac};
+
+use crate::about::{About, Kind};
+use crate::asking::ask_alone;
+use crate::judge::Judge;
+use crate::message::{Message, tagged};
+use crate::terms::Terms;
+use ciborium::Value;
+use coset_labels::{AsWritten, CoseError};
+use coset_maced::CoseMac;
+use coset_structures::MacContext;
+use std::alloc::{AllocError, Global};
+
+impl Message for CoseMac {
+    ghost use Rattle.cose_gate_core.specs.declared.about.Kind.TheVariants.{Mac};
+
+    ghost kind = { Mac };
+
+    ghost message = { λ m. mac (mac_view m) };
+
+    fn read(alloc: Global, terms: Terms, content: Value) -> Result<CoseMac, CoseError> {
+        CoseMac::from_cbor_value_with(alloc, content, terms.limits)
+    }
+
+    fn is_as_written(content: &Value) -> bool {
+        <CoseMac as AsWritten>::is_as_written(content)
+    }
+
+    fn is_carried(&self) -> bool {
+        self.payload.is_some()
+    }
+
+    fn is_unsigned(&self) -> bool {
+        false
+    }
+
+    /// One question, about the tag.
+    fn ask<'a, J: Judge>(
+        &'a self,
+        aad: &'a [u8],
+        judge: &mut J,
+    ) -> Result<Option<usize>, AllocError> {
+        let about = About::with_recipients(
+            Kind::Mac,
+            &self.protected,
+            &self.unprotected,
+            &self.recipients,
+        );
+        let prefix = MacContext::CoseMac.prefix();
+        ask_alone(judge, &about, prefix, aad, &self.payload, &self.tag)
+    }
+
+    fn into_tagged(self, alloc: Global) -> Result<Value, AllocError> {
+        tagged(alloc, self)
+    }
+}

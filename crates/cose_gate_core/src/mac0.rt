@@ -1,0 +1,53 @@
+//! A COSE_Mac0, as it is judged.
+ghost use Rattle.coset_maced.specs.View.{mac0_view};
+ghost use Rattle.cose_gate_core.specs.Questions.{mac0};
+
+use crate::about::{About, Kind};
+use crate::asking::ask_alone;
+use crate::judge::Judge;
+use crate::message::{Message, tagged};
+use crate::terms::Terms;
+use ciborium::Value;
+use coset_labels::{AsWritten, CoseError};
+use coset_maced::CoseMac0;
+use coset_structures::MacContext;
+use std::alloc::{AllocError, Global};
+
+impl Message for CoseMac0 {
+    ghost use Rattle.cose_gate_core.specs.declared.about.Kind.TheVariants.{Mac0};
+
+    ghost kind = { Mac0 };
+
+    ghost message = { λ m. mac0 (mac0_view m) };
+
+    fn read(alloc: Global, terms: Terms, content: Value) -> Result<CoseMac0, CoseError> {
+        CoseMac0::from_cbor_value_with(alloc, content, terms.limits)
+    }
+
+    fn is_as_written(content: &Value) -> bool {
+        <CoseMac0 as AsWritten>::is_as_written(content)
+    }
+
+    fn is_carried(&self) -> bool {
+        self.payload.is_some()
+    }
+
+    fn is_unsigned(&self) -> bool {
+        false
+    }
+
+    /// One question, about the tag.
+    fn ask<'a, J: Judge>(
+        &'a self,
+        aad: &'a [u8],
+        judge: &mut J,
+    ) -> Result<Option<usize>, AllocError> {
+        let about = About::alone(Kind::Mac0, &self.protected, &self.unprotected);
+        let prefix = MacContext::CoseMac0.prefix();
+        ask_alone(judge, &about, prefix, aad, &self.payload, &self.tag)
+    }
+
+    fn into_tagged(self, alloc: Global) -> Result<Value, AllocError> {
+        tagged(alloc, self)
+    }
+}

@@ -1,0 +1,53 @@
+//! A COSE_Sign1, as it is judged.
+ghost use Rattle.coset_signed.specs.View.{sign1_view};
+ghost use Rattle.cose_gate_core.specs.Questions.{sign1};
+
+use crate::about::{About, Kind};
+use crate::asking::ask_alone;
+use crate::judge::Judge;
+use crate::message::{Message, tagged};
+use crate::terms::Terms;
+use ciborium::Value;
+use coset_labels::{AsWritten, CoseError};
+use coset_signed::CoseSign1;
+use coset_structures::SignatureContext;
+use std::alloc::{AllocError, Global};
+
+impl Message for CoseSign1 {
+    ghost use Rattle.cose_gate_core.specs.declared.about.Kind.TheVariants.{Sign1};
+
+    ghost kind = { Sign1 };
+
+    ghost message = { λ m. sign1 (sign1_view m) };
+
+    fn read(alloc: Global, terms: Terms, content: Value) -> Result<CoseSign1, CoseError> {
+        CoseSign1::from_cbor_value_with(alloc, content, terms.limits)
+    }
+
+    fn is_as_written(content: &Value) -> bool {
+        <CoseSign1 as AsWritten>::is_as_written(content)
+    }
+
+    fn is_carried(&self) -> bool {
+        self.payload.is_some()
+    }
+
+    fn is_unsigned(&self) -> bool {
+        false
+    }
+
+    /// One question, about the signature.
+    fn ask<'a, J: Judge>(
+        &'a self,
+        aad: &'a [u8],
+        judge: &mut J,
+    ) -> Result<Option<usize>, AllocError> {
+        let about = About::alone(Kind::Sign1, &self.protected, &self.unprotected);
+        let prefix = SignatureContext::CoseSign1.prefix(false);
+        ask_alone(judge, &about, prefix, aad, &self.payload, &self.signature)
+    }
+
+    fn into_tagged(self, alloc: Global) -> Result<Value, AllocError> {
+        tagged(alloc, self)
+    }
+}

@@ -1,0 +1,114 @@
+//! The builder of the COSE_Encrypt0 message.
+ghost use Rattle.std.specs.Prelude.{◌≡◌, Some, None};
+ghost use Rattle.coset_headers.specs.Fields.{protected};
+ghost use Rattle.coset_headers.specs.View.{header_view};
+ghost use Rattle.coset_message_parts.specs.Calls.{TakesPairWhere, BuiltPairWhere, MadePairWhere};
+ghost use Rattle.coset_encrypted.specs.Builders.{encrypt0_so_far};
+ghost use Rattle.coset_encrypted.specs.Fields.{no_encrypt0};
+ghost use Rattle.coset_encrypted.specs.Structure.{encrypt0_covered};
+ghost use Rattle.coset_encrypted.specs.View.{encrypt0_view};
+
+use crate::encrypt0::CoseEncrypt0;
+use coset_headers::{Header, ProtectedHeader};
+use coset_labels::{CoseError, Fault};
+use std::alloc::Global;
+
+/// A message while it is built. Plain setters take no memory.
+#[derive(Drop)]
+pub struct CoseEncrypt0Builder {
+    message: CoseEncrypt0,
+}
+
+impl CoseEncrypt0Builder {
+    /// A builder of a message with no field. It takes no memory.
+    pub fn new(alloc: Global) -> CoseEncrypt0Builder
+        ensures { encrypt0_so_far result ≡ no_encrypt0 }
+    {
+        CoseEncrypt0Builder {
+            message: CoseEncrypt0::new(alloc),
+        }
+    }
+
+    /// The message.
+    pub fn build(self) -> CoseEncrypt0
+        ensures { encrypt0_view result ≡ encrypt0_so_far self }
+    {
+        self.message
+    }
+
+    /// Sets the protected header. It has no received bytes.
+    pub fn protected(mut self, header: Header) -> CoseEncrypt0Builder
+        ensures { encrypt0_so_far result
+            ≡ record (encrypt0_so_far self) { protected = protected None (header_view header) } }
+    {
+        self.message.protected = ProtectedHeader {
+            original_data: None,
+            header,
+        };
+        self
+    }
+
+    /// Sets the unprotected header.
+    pub fn unprotected(mut self, header: Header) -> CoseEncrypt0Builder
+        ensures { encrypt0_so_far result
+            ≡ record (encrypt0_so_far self) { unprotected = header_view header } }
+    {
+        self.message.unprotected = header;
+        self
+    }
+
+    /// Sets the ciphertext.
+    pub fn ciphertext(mut self, ciphertext: Vec<u8>) -> CoseEncrypt0Builder
+        ensures { result.message ≡ record self.message { ciphertext = Some ciphertext } }
+    {
+        self.message.ciphertext = Some(ciphertext);
+        self
+    }
+
+    /// Sets the ciphertext that the cipher gives for a plaintext (RFC 9052, section 5.3). The cipher is handed the plaintext and the
+    /// Enc_structure of the protected header and the external data.
+    ///
+    /// # Errors
+    /// Before the cipher is asked: `DuplicateMapKey` exactly where a label stands twice in the protected header, or `Memory`.
+    pub fn create_ciphertext<C: FnOnce(&[u8], &[u8]) -> Vec<u8>>(
+        self,
+        alloc: Global,
+        plaintext: &[u8],
+        aad: &[u8],
+        cipher: C,
+    ) -> Result<CoseEncrypt0Builder, CoseError>
+        requires { TakesPairWhere C.FnOnce cipher plaintext.now
+            (encrypt0_covered (encrypt0_so_far self) aad.now) }
+        ensures { BuiltPairWhere C.FnOnce cipher plaintext.now
+            (encrypt0_covered (encrypt0_so_far self) aad.now)
+            (λ b. b.message.ciphertext)
+            (λ b. b.message ≡ record self.message { ciphertext = b.message.ciphertext }) result }
+    {
+        let data = self.message.covered(alloc, aad)?;
+        let ciphertext = cipher(plaintext, data.as_slice());
+        Ok(self.ciphertext(ciphertext))
+    }
+
+    /// As `create_ciphertext`, with a cipher that may fail.
+    ///
+    /// # Errors
+    /// `Caller` with the cipher's error; `Cose` with an error of `create_ciphertext`.
+    pub fn try_create_ciphertext<E, C: FnOnce(&[u8], &[u8]) -> Result<Vec<u8>, E>>(
+        self,
+        alloc: Global,
+        plaintext: &[u8],
+        aad: &[u8],
+        cipher: C,
+    ) -> Result<CoseEncrypt0Builder, Fault<E>>
+        requires { TakesPairWhere C.FnOnce cipher plaintext.now
+            (encrypt0_covered (encrypt0_so_far self) aad.now) }
+        ensures { MadePairWhere C.FnOnce cipher plaintext.now
+            (encrypt0_covered (encrypt0_so_far self) aad.now)
+            (λ b. b.message.ciphertext)
+            (λ b. b.message ≡ record self.message { ciphertext = b.message.ciphertext }) result }
+    {
+        let data = self.message.covered(alloc, aad)?;
+        let ciphertext = cipher(plaintext, data.as_slice()).map_err(Fault::Caller)?;
+        Ok(self.ciphertext(ciphertext))
+    }
+}

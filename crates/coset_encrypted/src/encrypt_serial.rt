@@ -1,0 +1,96 @@
+//! COSE_Encrypt messages as values and bytes.
+ghost use Rattle.std.specs.Prelude.{MatchResult};
+ghost use Rattle.ciborium_value.specs.View.{view};
+ghost use Rattle.coset_labels.specs.Faults.{OrMemory};
+ghost use Rattle.coset_labels.specs.Limits.{nesting, layers, nesting_of, layers_of};
+ghost use Rattle.coset_encrypted.specs.Fields.{EncryptFields};
+ghost use Rattle.coset_encrypted.specs.Shapes.{HasEncrypt};
+ghost use Rattle.coset_encrypted.specs.View.{encrypt_view};
+ghost use Rattle.coset_encrypted.specs.Written.{encrypt_tree};
+ghost use Rattle.coset_encrypted.specs.Wrong.{WrongEncrypt};
+
+use crate::encrypt::CoseEncrypt;
+use ciborium_value::Value;
+use coset_labels::tuples::four;
+use coset_labels::{
+    AsCborValue, CborSerializable, CoseError, Limits, TaggedCborSerializable, ValueTryAs,
+};
+use coset_message_parts::{Parts, read_parts, write_parts};
+use coset_recipients::{read_recipients, write_recipients};
+use std::alloc::Global;
+
+/// The elements are read from the last to the first, and the recipients from the first to the last.
+impl AsCborValue for CoseEncrypt {
+    ghost Fields = { EncryptFields };
+
+    ghost fields = { encrypt_view };
+
+    ghost shape = { λ t m. HasEncrypt nesting t m layers };
+
+    ghost wrong = { λ t e. WrongEncrypt nesting t layers e };
+
+    ghost written = { encrypt_tree };
+
+    fn from_cbor_value(alloc: Global, value: Value) -> Result<CoseEncrypt, CoseError> {
+        CoseEncrypt::from_cbor_value_with(alloc, value, Limits::default())
+    }
+
+    fn to_cbor_value(self, alloc: Global) -> Result<Value, CoseError> {
+        let CoseEncrypt {
+            protected,
+            unprotected,
+            ciphertext,
+            recipients,
+        } = self;
+        let mut items = write_parts(
+            alloc,
+            Parts {
+                protected,
+                unprotected,
+                content: ciphertext,
+            },
+        )?;
+        let list = write_recipients(alloc, recipients)?;
+        items.push(list)?;
+        Ok(Value::Array(items))
+    }
+}
+
+impl CoseEncrypt {
+    /// As `from_cbor_value`, within these limits.
+    ///
+    /// # Errors
+    /// A fault that the value has, or `Memory`.
+    pub fn from_cbor_value_with(
+        alloc: Global,
+        value: Value,
+        limits: Limits,
+    ) -> Result<CoseEncrypt, CoseError>
+        ensures { MatchResult result
+            (λ m. HasEncrypt (nesting_of limits) (view value) (encrypt_view m) (layers_of limits))
+            (λ e. OrMemory (WrongEncrypt (nesting_of limits) (view value) (layers_of limits)) e) }
+    {
+        let items = value.try_as_array()?;
+        match four(items) {
+            Some((protected, unprotected, ciphertext, list)) => {
+                let recipients = read_recipients(alloc, list, limits)?;
+                let parts = read_parts(alloc, protected, unprotected, ciphertext, limits, "bstr")?;
+                Ok(CoseEncrypt {
+                    protected: parts.protected,
+                    unprotected: parts.unprotected,
+                    ciphertext: parts.content,
+                    recipients,
+                })
+            }
+            None => Err(CoseError::UnexpectedItem("array", "array with 4 items")),
+        }
+    }
+}
+
+impl CborSerializable for CoseEncrypt {}
+
+impl TaggedCborSerializable for CoseEncrypt {
+    ghost TAG = { 96 };
+
+    const TAG: u64 = 96;
+}

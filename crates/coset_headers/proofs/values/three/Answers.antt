@@ -1,6 +1,0 @@
-use Rattle.std.proofs.Common.{arith}
-use Rattle.coset_headers.proofs.Steps.{views_count}
-use Rattle.coset_headers.proofs.values.three.Goals as goal
-
-pub returns-then-len-ne3 : goal.returns-then-len-ne3
-returns-then-len-ne3 c = λ e. absurd (let n = views_count c.args.items.items in omega (arith, e, n, c.args.items.ok.0))

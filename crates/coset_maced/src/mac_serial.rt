@@ -1,0 +1,100 @@
+//! COSE_Mac messages as values and bytes.
+ghost use Rattle.std.specs.Prelude.{MatchResult};
+ghost use Rattle.ciborium_value.specs.View.{view};
+ghost use Rattle.coset_labels.specs.Faults.{OrMemory};
+ghost use Rattle.coset_labels.specs.Limits.{nesting, layers, nesting_of, layers_of};
+ghost use Rattle.coset_maced.specs.Fields.{MacFields};
+ghost use Rattle.coset_maced.specs.Shapes.{HasMac};
+ghost use Rattle.coset_maced.specs.View.{mac_view};
+ghost use Rattle.coset_maced.specs.Written.{mac_tree};
+ghost use Rattle.coset_maced.specs.Wrong.{WrongMac};
+
+use crate::mac::CoseMac;
+use ciborium_value::Value;
+use coset_labels::tuples::five;
+use coset_labels::{
+    AsCborValue, CborSerializable, CoseError, Limits, TaggedCborSerializable, ValueTryAs,
+};
+use coset_message_parts::{Parts, read_parts, write_parts};
+use coset_recipients::{read_recipients, write_recipients};
+use std::alloc::Global;
+
+/// The elements are read from the last to the first, and the recipients from the first to the last.
+impl AsCborValue for CoseMac {
+    ghost Fields = { MacFields };
+
+    ghost fields = { mac_view };
+
+    ghost shape = { λ t m. HasMac nesting t m layers };
+
+    ghost wrong = { λ t e. WrongMac nesting t layers e };
+
+    ghost written = { mac_tree };
+
+    fn from_cbor_value(alloc: Global, value: Value) -> Result<CoseMac, CoseError> {
+        CoseMac::from_cbor_value_with(alloc, value, Limits::default())
+    }
+
+    fn to_cbor_value(self, alloc: Global) -> Result<Value, CoseError> {
+        let CoseMac {
+            protected,
+            unprotected,
+            payload,
+            tag,
+            recipients,
+        } = self;
+        let mut items = write_parts(
+            alloc,
+            Parts {
+                protected,
+                unprotected,
+                content: payload,
+            },
+        )?;
+        let list = write_recipients(alloc, recipients)?;
+        items.push(Value::Bytes(tag))?;
+        items.push(list)?;
+        Ok(Value::Array(items))
+    }
+}
+
+impl CoseMac {
+    /// As `from_cbor_value`, within these limits.
+    ///
+    /// # Errors
+    /// A fault that the value has, or `Memory`.
+    pub fn from_cbor_value_with(
+        alloc: Global,
+        value: Value,
+        limits: Limits,
+    ) -> Result<CoseMac, CoseError>
+        ensures { MatchResult result
+            (λ m. HasMac (nesting_of limits) (view value) (mac_view m) (layers_of limits))
+            (λ e. OrMemory (WrongMac (nesting_of limits) (view value) (layers_of limits)) e) }
+    {
+        let items = value.try_as_array()?;
+        match five(items) {
+            Some((protected, unprotected, payload, tag, list)) => {
+                let recipients = read_recipients(alloc, list, limits)?;
+                let tag = tag.try_as_bytes()?;
+                let parts = read_parts(alloc, protected, unprotected, payload, limits, "bstr")?;
+                Ok(CoseMac {
+                    protected: parts.protected,
+                    unprotected: parts.unprotected,
+                    payload: parts.content,
+                    tag,
+                    recipients,
+                })
+            }
+            None => Err(CoseError::UnexpectedItem("array", "array with 5 items")),
+        }
+    }
+}
+
+impl CborSerializable for CoseMac {}
+
+impl TaggedCborSerializable for CoseMac {
+    ghost TAG = { 97 };
+
+    const TAG: u64 = 97;
+}
