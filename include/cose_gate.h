@@ -3,7 +3,8 @@
  *
  * Buffers: all belong to the caller. A pointer is never NULL, also where its length is 0. `out`, `questions` and `lines` overlap nothing
  *   that is handed over in the same call; what is read may overlap. No length is above PTRDIFF_MAX. Nothing is kept after a call.
- * Memory: a call takes memory by malloc, realloc and free, and has given all of it back when it returns. Where it is refused, it says so.
+ * Memory: a call takes memory by malloc, realloc and free, and has given all of it back when it returns. Where it is refused, the last
+ *   of the lines is `stopped: memory`, in place of the one that the run ended with.
  *   The three are those of one allocator, and malloc and realloc align to each power of two up to 16 that divides the size.
  * Stack: within the limits of the program cose_gate_check was seen to take up to 118 KB, and the other two up to 201 KB: 61 and 155 for
  *   256 levels of arrays or maps, the most where 16 layers of protected headers hold such maps. Wider limits take more (docs/TIMES.md).

@@ -1,6 +1,7 @@
 /* c-memory.c: KEYS FILE..: the library under tools that watch memory, over each file: output room from none to more than is needed, with bytes
  * behind it that must stay as they are; and the questions, all of which are then accepted. With -DREFUSE each malloc and realloc is refused
- * in turn, over the first file, no block may be left, and the last line has to say it; and the stack is measured. */
+ * in turn, over the first file, no block may be left, and the last line has to say it, behind whole lines of the run; and the stack is
+ * measured. */
 #define _GNU_SOURCE
 #include "cose_gate.h"
 
@@ -147,23 +148,29 @@ static size_t each_call(bytes input, bool all) {
 
 #ifdef REFUSE
 static void each_refused(int which, bytes given, bytes input) {
-  static uint8_t room[65536], text[4096];
+  static uint8_t room[65536], text[4096], whole[4096];
   static const char *const names[] = {"cose_gate_check", "cose_gate_ask", "cose_gate_pass"}, said[] = "stopped: memory\n";
   bytes out = {room, sizeof room}, lines = {text, sizeof text};
   is_watched = 1;
   calls = 0;
   refused = -1;
-  uint32_t status = call(which, given, input, out, lines).status;
+  cose_gate_answer answer = call(which, given, input, out, lines);
+  uint32_t status = answer.status;
+  size_t length = answer.lines;
+  assert(length <= sizeof whole);
+  memcpy(whole, text, length);
   long all = calls, memory = 0, same = 0;
   assert(live == 0);
   for (refused = 0; refused < all; refused++) {
     calls = 0;
-    cose_gate_answer answer = call(which, given, input, out, lines);
+    answer = call(which, given, input, out, lines);
     assert(live == 0);
     assert(answer.status == COSE_GATE_STOPPED || answer.status == status);
     size_t last = sizeof said - 1;
     bool is_said = answer.lines >= last && memcmp(text + answer.lines - last, said, last) == 0;
     assert(is_said == (answer.status == COSE_GATE_STOPPED));
+    size_t before = is_said ? answer.lines - last : answer.lines;
+    assert(before <= length && memcmp(text, whole, before) == 0 && (before == 0 || text[before - 1] == '\n'));
     if (answer.status == COSE_GATE_STOPPED) memory++; else same++;
   }
   refused = -1;

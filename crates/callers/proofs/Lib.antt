@@ -6,3 +6,4 @@ pub mod Keys
 pub mod Relay
 pub mod Sealed
 pub mod Spelled
+pub mod Told

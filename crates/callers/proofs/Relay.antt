@@ -20,7 +20,7 @@ abbrev pub decided : List (List ℕ) → Question → List (List ℕ)
 decided told q = told ++ key_id_of q.subject ∷ []
 
 -- questions that are told one after another stand one after another
-told_all : (told : List (List ℕ)) (qs : List Question) → folded_over decided told qs ≡ told ++ key_ids_of qs
+pub told_all : (told : List (List ℕ)) (qs : List Question) → folded_over decided told qs ≡ told ++ key_ids_of qs
 told_all told [] = sym (append-nil told)
 told_all told (q ∷ qs) = told_all (told ++ key_id_of q.subject ∷ []) qs ∙ append_assoc told (key_id_of q.subject ∷ []) (key_ids_of qs)
 

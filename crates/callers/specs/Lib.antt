@@ -1,3 +1,4 @@
+pub mod Asking
 pub mod Checking
 pub mod Gatings
 pub mod Heads

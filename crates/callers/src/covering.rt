@@ -29,7 +29,8 @@ pub fn stays_covered(
     payload: &[u8],
 ) -> Result<bool, CoseError>
     ensures { IfOk result (λ same. IsTrue same
-        ↔ ((context ≡ other_context) × (shown (protected_view body.now) ≡ shown (protected_view other.now)))) }
+        ↔ ((context ≡ other_context)
+        × (shown (protected_view body.now) ≡ shown (protected_view other.now)))) }
 {
     one_structure();
     let one = sig_structure_data(alloc, context, body, None, aad, payload)?;

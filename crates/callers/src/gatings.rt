@@ -54,7 +54,8 @@ pub fn relay_with(
     tally: &mut Tally,
 ) -> Result<(Vec<u8>, Counts), GateFault<End>>
     ensures run { (ss : List Step) (rest : List ℕ)
-        → Run (plain (nesting_of limits) (layers_of limits)) (allows (known_of judge.old)) aad.now 0 input.now ss rest
+        → Run (plain (nesting_of limits) (layers_of limits)) (allows (known_of judge.old)) aad.now
+        0 input.now ss rest
         → IfOk result (λ r. RelayedRun (known_of judge.old) aad.now ss rest r.0.items r.1) }
     ensures known { known_of judge.new ≡ known_of judge.old }
 {
@@ -76,7 +77,8 @@ pub fn relay_strict_with(
     tally: &mut Tally,
 ) -> Result<(Vec<u8>, Counts), GateFault<End>>
     ensures run { (ss : List Step) (rest : List ℕ)
-        → Run (only_exact (nesting_of limits) (layers_of limits)) (allows (known_of judge.old)) aad.now 0 input.now ss rest
+        → Run (only_exact (nesting_of limits) (layers_of limits)) (allows (known_of judge.old))
+        aad.now 0 input.now ss rest
         → IfOk result (λ r. RelayedRun (known_of judge.old) aad.now ss rest r.0.items r.1) }
     ensures known { known_of judge.new ≡ known_of judge.old }
 {

@@ -21,7 +21,10 @@ use std::alloc::{AllocError, Global};
 /// Only where memory is refused.
 pub fn made(alloc: Global, alg: iana::Algorithm, key_id: &[u8]) -> Result<Header, AllocError>
     ensures { IfOk result (λ h. header_view h
-        ≡ header (record no_plain { alg = Some (assigned (algorithm_number alg)); key_id = key_id.now }) no_signatures) }
+        ≡ header (record no_plain {
+          alg = Some (assigned (algorithm_number alg));
+          key_id = key_id.now;
+        }) no_signatures) }
 {
     let key_id = key_id.to_vec(alloc)?;
     Ok(
@@ -37,7 +40,8 @@ pub fn made(alloc: Global, alg: iana::Algorithm, key_id: &[u8]) -> Result<Header
 /// # Errors
 /// A fault of the bytes, or `Memory`.
 pub fn header_of(alloc: Global, bytes: &[u8]) -> Result<Header, CoseError>
-    ensures ok { IfOk result (λ h. HasItem (λ t f. HasHeader 256 t f 16) bytes.now (header_view h) × (header_tree (header_view h) ≢ None)) }
+    ensures ok { IfOk result (λ h. HasItem (λ t f. HasHeader 256 t f 16) bytes.now (header_view h)
+        × (header_tree (header_view h) ≢ None)) }
     ensures err { IfErr result (OrMemory (WrongItem (λ t e. WrongHeader 256 t 16 e) bytes.now)) }
 {
     read_can_be_written();
@@ -49,8 +53,10 @@ pub fn header_of(alloc: Global, bytes: &[u8]) -> Result<Header, CoseError>
 /// # Errors
 /// A fault of the bytes, or `Memory`. Never that a label stands twice in what was read.
 pub fn rewritten(alloc: Global, bytes: &[u8]) -> Result<Vec<u8>, CoseError>
-    ensures ok { IfOk result (λ out. (h : HeaderFields) × HasItem (λ t f. HasHeader 256 t f 16) bytes.now h
-        × (option_map enc (header_tree h) ≡ Some out.items) × HasItem (λ t f. HasHeader 256 t f 16) out.items h) }
+    ensures ok { IfOk result (λ out. (h : HeaderFields)
+        × HasItem (λ t f. HasHeader 256 t f 16) bytes.now h
+        × (option_map enc (header_tree h) ≡ Some out.items)
+        × HasItem (λ t f. HasHeader 256 t f 16) out.items h) }
     ensures err { IfErr result (OrMemory (WrongItem (λ t e. WrongHeader 256 t 16 e) bytes.now)) }
 {
     let header = header_of(alloc, bytes)?;

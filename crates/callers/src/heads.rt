@@ -27,7 +27,8 @@ pub fn first_head(input: &[u8]) -> Result<Header, Error<End>>
 /// # Errors
 /// Those of `first_head`.
 pub fn array_len(input: &[u8]) -> Result<Option<usize>, Error<End>>
-    ensures ok { IfOk result (λ o. (h : Head) × (rest : List ℕ) × Begins input.now h rest × (o ≡ len_of h)) }
+    ensures ok { IfOk result (λ o. (h : Head) × (rest : List ℕ)
+        × Begins input.now h rest × (o ≡ len_of h)) }
     ensures err { IfErr result (IsNoHead input.now) }
 {
     match first_head(input) {
@@ -43,7 +44,8 @@ pub fn array_len(input: &[u8]) -> Result<Option<usize>, Error<End>>
 /// Only where memory is refused.
 pub fn write_numbers(out: &mut Mem<Vec<u8>>, numbers: &[u64]) -> Result<(), AllocError>
     ensures { OnOk result ((memory_of out.new).items
-        ≡ (memory_of out.old).items ++ (title_of (Array (Some (length numbers.now))) ++ flat_map (λ n. title_of (Positive n)) numbers.now)) }
+        ≡ (memory_of out.old).items ++ (title_of (Array (Some (length numbers.now)))
+        ++ flat_map (λ n. title_of (Positive n)) numbers.now)) }
 {
     let mut encoder = Encoder::from(out);
     encoder.push(Header::Array(Some(numbers.len())))?;
@@ -62,7 +64,8 @@ pub fn shortened(
     count: usize,
     out: &mut Mem<Vec<u8>>,
 ) -> Result<(), RecodeError<End, AllocError>>
-    ensures { OnOk result ((bytes : List ℕ) × (copy : List ℕ) × (rest : List ℕ) × (input.now ≡ bytes ++ rest) × Copies count bytes copy
+    ensures { OnOk result ((bytes : List ℕ) × (copy : List ℕ) × (rest : List ℕ)
+        × (input.now ≡ bytes ++ rest) × Copies count bytes copy
         × ((memory_of out.new).items ≡ (memory_of out.old).items ++ copy)) }
 {
     let mut buffer = [0; 64];

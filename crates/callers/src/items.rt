@@ -34,8 +34,10 @@ pub fn read_whole<T: Deserialize>(alloc: Global, input: &[u8]) -> Result<Option<
 /// The value whose one encoding the whole input is (RFC 8949, section 4.1), or none where the item is written in another way, or bytes
 /// follow it.
 pub fn read_encoded(alloc: Global, input: &[u8]) -> Result<Option<Value>, de::Error<End>>
-    ensures some { IfOk result (λ o. IfSome o (λ v. Reads input.now nesting (view v) × (input.now ≡ enc (view v)))) }
-    ensures none { IfOk result (λ o. IfNone o ((v : Tree) → Reads input.now nesting v → input.now ≢ enc v)) }
+    ensures some { IfOk result (λ o. IfSome o
+        (λ v. Reads input.now nesting (view v) × (input.now ≡ enc (view v)))) }
+    ensures none { IfOk result (λ o. IfNone o
+        ((v : Tree) → Reads input.now nesting v → input.now ≢ enc v)) }
 {
     let mut decoder = Decoder::from(input);
     let (value, is_exact) = de::from_decoder_strict(alloc, &mut decoder, de::RECURSION_LIMIT)?;
@@ -65,7 +67,8 @@ pub fn text_of<T: Serialize>(alloc: Global, value: &T) -> Result<Vec<u8>, AllocE
 /// # Errors
 /// Only where memory is refused.
 pub fn named(alloc: Global, name: &str) -> Result<Value, Error>
-    ensures { IfOk result (λ v. view v ≡ tree.map (tree.pair_more (tree.integer (pos 1)) (tree.text name.now) tree.no_pairs)) }
+    ensures { IfOk result (λ v. view v
+        ≡ tree.map (tree.pair_more (tree.integer (pos 1)) (tree.text name.now) tree.no_pairs)) }
 {
     cbor!(alloc, {1u8 => name})
 }
@@ -125,7 +128,8 @@ pub fn first_time(alloc: Global, input: &mut &[u8]) -> Result<Option<u64>, de::E
 /// The fault of the bytes, or `Semantic` where the item is no such pair.
 pub fn labelled(alloc: Global, input: &mut &[u8]) -> Result<Captured<(String, u64)>, de::Error<End>>
     ensures { IfOk result (λ c. (front : List ℕ) × (input.old.now ≡ front ++ input.new.now)
-        × ReadsAs ⟦<Captured<(String, u64)> as Deserialize>⟧.refusal ⟦<Captured<(String, u64)> as Deserialize>⟧.takes nesting c front) }
+        × ReadsAs ⟦<Captured<(String, u64)> as Deserialize>⟧.refusal
+        ⟦<Captured<(String, u64)> as Deserialize>⟧.takes nesting c front) }
 {
     from_reader(alloc, input)
 }

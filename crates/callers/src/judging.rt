@@ -94,7 +94,8 @@ impl Judge for KeyIds<'_> {
 
     ghost told = { asked_of };
 
-    ghost holds = { λ k subject bytes. (k.key_id.items ≡ key_id_of subject) × (vec_len k.asked < vec_capacity k.asked) };
+    ghost holds = { λ k subject bytes. (k.key_id.items ≡ key_id_of subject)
+        × (vec_len k.asked < vec_capacity k.asked) };
 
     ghost pieces = { λ k. k.pieces.items };
 

@@ -47,7 +47,8 @@ pub fn spelling(alloc: Global, bytes: &[u8]) -> Result<Vec<u8>, CoseError>
 /// # Errors
 /// A fault of the bytes, or `Memory`.
 pub fn is_same_key(alloc: Global, a: &[u8], b: &[u8]) -> Result<bool, CoseError>
-    ensures { IfOk result (λ same. (k l : KeyFields) × HasItem HasKey a.now k × HasItem HasKey b.now l × (IsTrue same ↔ SameButOrder k l)) }
+    ensures { IfOk result (λ same. (k l : KeyFields) × HasItem HasKey a.now k
+        × HasItem HasKey b.now l × (IsTrue same ↔ SameButOrder k l)) }
 {
     let left = ordered(alloc, a)?;
     let right = ordered(alloc, b)?;
@@ -98,7 +99,8 @@ impl KeyStore {
     /// # Errors
     /// A fault of the bytes, or `Memory`. Then the keys are as they were.
     pub fn keep(&mut self, alloc: Global, bytes: &[u8]) -> Result<bool, CoseError>
-        ensures ok { IfOk result (λ new. (spelled : List ℕ) × IsSpelling bytes.now spelled × (new ≡ not (is_kept (kept_of self.old) spelled))
+        ensures ok { IfOk result (λ new. (spelled : List ℕ) × IsSpelling bytes.now spelled
+            × (new ≡ not (is_kept (kept_of self.old) spelled))
             × (kept_of self.new ≡ also_kept (kept_of self.old) spelled)) }
         ensures err { OnErr result (kept_of self.new ≡ kept_of self.old) }
     {
@@ -116,7 +118,8 @@ impl KeyStore {
 /// # Errors
 /// A fault of the bytes, or `Memory`.
 pub fn subject_of(alloc: Global, bytes: &[u8]) -> Result<Option<String>, CoseError>
-    ensures ok { IfOk result (λ subject. (c : ClaimsFields) × HasItem HasClaims bytes.now c × (option_map string_bytes subject ≡ c.subject)) }
+    ensures ok { IfOk result (λ subject. (c : ClaimsFields) × HasItem HasClaims bytes.now c
+        × (option_map string_bytes subject ≡ c.subject)) }
     ensures err { IfErr result (OrMemory (WrongItem WrongClaims bytes.now)) }
 {
     let claims = ClaimsSet::from_slice(alloc, bytes)?;

@@ -2,6 +2,7 @@
 //! that its contracts are of use.
 #![tactic(auto)]
 
+pub mod asking;
 pub mod checking;
 pub mod covering;
 pub mod gatings;

@@ -71,8 +71,10 @@ pub fn relay_once(
     tally: &mut Tally,
     window: &mut Window,
 ) -> Result<Option<Vec<u8>>, GateFault<End>>
-    ensures ok { IfOk result (λ r. Once (known_of judge.old) aad.now input.now (record { asked = asked_of judge.old; tally = tally_of tally.old })
-        (record { asked = asked_of judge.new; tally = tally_of tally.new }) (window_of window.old) (window_of window.new) (option_map (λ v. v.items) r)) }
+    ensures ok { IfOk result (λ r. Once (known_of judge.old) aad.now input.now
+        (record { asked = asked_of judge.old; tally = tally_of tally.old })
+        (record { asked = asked_of judge.new; tally = tally_of tally.new })
+        (window_of window.old) (window_of window.new) (option_map (λ v. v.items) r)) }
     ensures err { OnErr result (window_of window.new ≡ window_of window.old) }
 {
     let (output, _counts) = relay(alloc, input, aad, judge, tally)?;

@@ -22,11 +22,14 @@ pub fn relay(
     judge: &mut KeyIds,
     tally: &mut Tally,
 ) -> Result<(Vec<u8>, Counts), GateFault<End>>
-    ensures ok { IfOk result (λ r. Relayed (known_of judge.old) aad.now input.now (record { asked = asked_of judge.old; tally = tally_of tally.old })
+    ensures ok { IfOk result (λ r. Relayed (known_of judge.old) aad.now input.now
+        (record { asked = asked_of judge.old; tally = tally_of tally.old })
         (record { asked = asked_of judge.new; tally = tally_of tally.new }) r.0.items r.1) }
-    ensures err { IfErr result (Halted (λ _. true) (known_of judge.old) aad.now input.now (record { asked = asked_of judge.old; tally = tally_of tally.old })
+    ensures err { IfErr result (Halted (λ _. true) (known_of judge.old) aad.now input.now
+        (record { asked = asked_of judge.old; tally = tally_of tally.old })
         (record { asked = asked_of judge.new; tally = tally_of tally.new })) }
-    ensures run { (ss : List Step) (rest : List ℕ) → Run usual (allows (known_of judge.old)) aad.now 0 input.now ss rest
+    ensures run { (ss : List Step) (rest : List ℕ)
+        → Run usual (allows (known_of judge.old)) aad.now 0 input.now ss rest
         → IfOk result (λ r. RelayedRun (known_of judge.old) aad.now ss rest r.0.items r.1) }
     ensures known { known_of judge.new ≡ known_of judge.old }
 {

@@ -46,7 +46,8 @@ pub enum Refused {
 
 /// What the key says, as the calls of a message take it.
 fn said<K: Key>(key: &K, signature: &[u8], covered: &[u8]) -> Result<(), Refused>
-    ensures { MatchResult result (λ _. K.good key.now covered.now signature.now) (λ _. K.good key.now covered.now signature.now → ⊥) }
+    ensures { MatchResult result (λ _. K.good key.now covered.now signature.now)
+        (λ _. K.good key.now covered.now signature.now → ⊥) }
 {
     if key.verifies(signature, covered) {
         Ok(())
@@ -87,7 +88,8 @@ pub fn verified<K: Key>(
     aad: &[u8],
     key: &K,
 ) -> Result<(), Fault<Refused>>
-    ensures { Verified (K.good key.now) (sign1_covered (sign1_view message.now) aad.now) message.now.signature.items result }
+    ensures { Verified (K.good key.now) (sign1_covered (sign1_view message.now) aad.now)
+        message.now.signature.items result }
 {
     message.verify_signature(alloc, aad, move |signature, covered| {
         said(key, signature, covered)
@@ -104,8 +106,10 @@ pub fn signed_payload<K: Key>(
     aad: &[u8],
     key: &K,
 ) -> Result<Vec<u8>, Fault<Refused>>
-    ensures { IfOk result (λ payload. (m : Sign1Fields) × HasItem (Tagged 18 (λ t f. HasSign1 256 t f 16)) bytes.now m
-        × (m.payload ≡ Some payload.items) × IsGood (K.good key.now) (sign1_covered m aad.now) m.signature) }
+    ensures { IfOk result (λ payload. (m : Sign1Fields)
+        × HasItem (Tagged 18 (λ t f. HasSign1 256 t f 16)) bytes.now m
+        × (m.payload ≡ Some payload.items)
+        × IsGood (K.good key.now) (sign1_covered m aad.now) m.signature) }
 {
     let message = CoseSign1::from_tagged_slice(alloc, bytes)?;
     verified(alloc, &message, aad, key)?;
@@ -122,8 +126,10 @@ pub fn tagged_payload<K: Key>(
     aad: &[u8],
     key: &K,
 ) -> Result<Vec<u8>, Fault<Refused>>
-    ensures { IfOk result (λ payload. (m : Mac0Fields) × HasItem (Tagged 17 (λ t f. HasMac0 256 t f 16)) bytes.now m
-        × (m.payload ≡ Some payload.items) × IsGood (K.good key.now) (mac0_covered_with m payload.items aad.now) m.tag) }
+    ensures { IfOk result (λ payload. (m : Mac0Fields)
+        × HasItem (Tagged 17 (λ t f. HasMac0 256 t f 16)) bytes.now m
+        × (m.payload ≡ Some payload.items)
+        × IsGood (K.good key.now) (mac0_covered_with m payload.items aad.now) m.tag) }
 {
     let message = CoseMac0::from_tagged_slice(alloc, bytes)?;
     message.verify_payload_tag(

@@ -1,7 +1,7 @@
 //! Calls by their names.
 use crate::answers::Answer;
 use crate::gating::Way;
-use crate::{cutting, gating, judging, program, streaming, uses, words};
+use crate::{asking, cutting, gating, judging, program, streaming, uses, words};
 use std::alloc::Global;
 
 /// What the call answers that the first word names.
@@ -30,6 +30,8 @@ pub fn uncut(alloc: Global, row: &[&str]) -> Answer {
             gating::run(alloc, Way::StrictWithin(limits), input, aad, None)
         }
         ["gate-again", input, aad] => gating::run_again(alloc, input, aad),
+        ["ask", input, aad] => asking::ask(alloc, input, aad),
+        ["pass", accepted, input, aad] => asking::pass(alloc, accepted, input, aad),
         ["gate-room", room, input] => gating::run_in_room(alloc, room, input),
         ["stream", room, input, aad] => streaming::check(alloc, None, room, input, aad, None),
         ["stream", room, input, aad, no] => {

@@ -8,7 +8,7 @@ use cose_gate::{
 use std::alloc::{AllocError, Global};
 
 /// How a run ends.
-type Ended = Result<Counts, GateFault<End>>;
+pub type Ended = Result<Counts, GateFault<End>>;
 
 /// It has no clause, so that its callers carry none of the gate's.
 fn gated<W: Write, P: Report>(
@@ -128,7 +128,8 @@ fn question_text(alloc: Global, asked: &Asked) -> Result<String, AllocError> {
     format!(in alloc; "{:?} {covered} {} {front}", asked.kind, asked.tag_len)
 }
 
-fn add_output(alloc: Global, text: &mut String, output: &[u8]) -> Result<(), AllocError> {
+/// Appends an output.
+pub fn add_output(alloc: Global, text: &mut String, output: &[u8]) -> Result<(), AllocError> {
     let output = in_hex(alloc, output)?;
     let part = format!(in alloc; "out {output}")?;
     append(text, "; ", part.as_str())
@@ -156,7 +157,8 @@ fn entry_text(alloc: Global, entry: Entry) -> Result<String, AllocError> {
     }
 }
 
-fn add_end(alloc: Global, text: &mut String, ended: Ended) -> Result<(), AllocError> {
+/// Appends how a run ended.
+pub fn add_end(alloc: Global, text: &mut String, ended: Ended) -> Result<(), AllocError> {
     let part = match ended {
         Ok(counts) => format!(in alloc; "passed {}, refused {}", counts.passed, counts.refused)?,
         Err(fault) => format!(in alloc; "stopped {fault:?}")?,

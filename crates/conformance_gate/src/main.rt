@@ -3,6 +3,7 @@
 #![tactic(auto)]
 
 mod answers;
+mod asking;
 mod calls;
 mod checking;
 mod cutting;

@@ -8,7 +8,6 @@ pub use Rattle.cose_gate_laws.specs.GateCore.Passing
 pub use Rattle.cose_gate_laws.specs.GateCore.Questions
 pub use Rattle.cose_gate_laws.specs.GateCore.Recorded
 pub use Rattle.cose_gate_laws.specs.GateCore.Run
-pub use Rattle.cose_gate_laws.specs.GateCore.View
 pub use Rattle.cose_gate_laws.specs.GateCore.CodeLimits
 pub use Rattle.cose_gate_laws.specs.GateCore.declared.gating.Counts
 pub use Rattle.cose_gate_laws.specs.GateCore.declared.gating.GateFault
@@ -85,3 +84,7 @@ pub use Rattle.cose_gate_program.specs.Words
 pub use Rattle.cose_gate_stream.specs.Stated
 pub use Rattle.cose_gate_stream.specs.Streaming
 pub use Rattle.cose_gate_stream.specs.declared.fault.StreamFault
+pub use Rattle.cose_asked.specs.Framing as RecordFraming
+pub use Rattle.cose_asked.specs.Kept as RecordsKept
+pub use Rattle.cose_asked.specs.Records
+pub use Rattle.cose_gate_laws.specs.GateCore.Terms

@@ -8,6 +8,7 @@ mod gating;
 pub mod laws;
 
 pub use crate::gating::{gate, gate_strict, gate_strict_with, gate_with};
+pub use cose_asked::{Accepted, Asker, Nowhere};
 pub use cose_gate_laws::gate_core::{
     About, Algorithm, Asked, ContentType, CoseError, CoseRecipient, CoseSignature, Counts, Decoder,
     End, Entry, Full, GateFault, Header, Io, IoFault, Judge, Kind, Label, Limits, Log, Mem,
@@ -15,7 +16,9 @@ pub use cose_gate_laws::gate_core::{
     SemanticKind, Silent, Verdict, Write, de,
 };
 pub use cose_gate_program::judge::HmacJudge;
-pub use cose_gate_program::{Blocks, InputFault, run, words};
+pub use cose_gate_program::{
+    Blocks, InputFault, run, run_judged, run_over, run_with, words,
+};
 pub use cose_gate_stream::{StreamFault, laws as stream_laws, stream_check, stream_check_with};
 pub use cose_hmac::hmac_sha256;
 pub use cose_iana as iana;

@@ -52,7 +52,7 @@ fn check_within(
 ///
 /// The messages that passed stand at the front of `out`, each as its one shortest text; the lines of the program's standard error stand in
 /// `lines`, as far as they fit. Memory that is taken is given back before it returns. Where it is refused to the output, nothing is
-/// written, and the status is 4.
+/// written, the status is 4, and `stopped: memory` stands in place of the whole last line.
 ///
 /// Where what would be written is longer than `out`, and only then, the status is 5: `out` stays as it was, and `length` is the room that
 /// is needed.

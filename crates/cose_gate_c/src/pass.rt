@@ -5,7 +5,7 @@ ghost use Rattle.cose_asked.specs.Kept.{keys_of};
 ghost use Rattle.cose_gate_c.specs.Library.{NoMemory, Passes, Passed, Places, RunsBy};
 
 use crate::answer::{Answer, no_limits};
-use crate::lines::Lines;
+use crate::lines::{Lines, STOPPED};
 use crate::place::{place, place_none};
 use cose_asked::{Accepted, Growing};
 use cose_gate_program::{Limits, run_judged};
@@ -64,7 +64,7 @@ fn pass_within(
         × Places written status «out».old «out».new result }
 {
     let Ok(judge) = Accepted::new(alloc, accepted) else {
-        return place_none(out, 4, said(lines, b"stopped: memory\n"));
+        return place_none(out, 4, said(lines, STOPPED));
     };
     match judge {
         Some(judge) => pass_by(alloc, limits, strict, judge, aad, input, out, lines),
@@ -96,7 +96,8 @@ pub extern "C" fn cose_gate_pass(
     layers: usize,
     strict: bool,
 ) -> Answer
-    ensures { Passes nesting layers strict accepted.now aad.now input.now «out».old «out».new result }
+    ensures { Passes nesting layers strict accepted.now aad.now input.now
+        «out».old «out».new result }
 {
     match Limits::new(nesting, layers) {
         Some(limits) => pass_within(alloc, limits, strict, accepted, aad, input, out, lines),

@@ -1,0 +1,239 @@
+-- What runs say whose answers come from elsewhere.
+use Rattle.std.proofs.Common.{◌≡◌, ℕ, ◌+◌, ◌<◌, ◌⊎◌, inl, inr, List, [], ◌∷◌, ◌++◌, map, flat_map, length, Option, None, Some, Bool, true, false, cond, not, nat_eq, refl, ap, subst, sym, ◌∙◌, arith, append_assoc, append-nil}
+use Rattle.std.proofs.lemmas.Bool.Decides.{nat_tests}
+use Rattle.std.proofs.lemmas.Grind.{flat_map-append}
+use Rattle.std.proofs.lemmas.List.Sums.{sum_by-cons}
+use Rattle.std.specs.Prelude.{Result, Ok, Err}
+use Rattle.std.specs.Io.KnownBytes.{Appends}
+use Rattle.cose_gate.specs.Asked.{IsFront, folded_over}
+use Rattle.cose_gate.specs.Counts.{Counts}
+use Rattle.cose_gate.specs.Entry.{Entry}
+use Rattle.cose_gate.specs.Findings.{Limits, usual, Finding, judged, barred, excluded, Finds}
+use Rattle.cose_gate.specs.Fixed.{ExcludesInexact}
+use Rattle.cose_gate.specs.GateFault.{GateFault}
+use Rattle.cose_gate.specs.GateFault.TheVariants as gating
+use Rattle.cose_gate.specs.Items.{SequenceWithin}
+use Rattle.cose_gate.specs.KeyFields.{KeyFields}
+use Rattle.cose_gate.specs.Outcome.{Rules, Sight, Whole, Outcome, Answers}
+use Rattle.cose_gate.specs.Program.{Devices, Hearing, Through, RanOver, RanOn, RanJudged, EndsWithin, EndsOver, no_file, not_hex, no_keys, no_memory, after_run}
+use Rattle.cose_gate.specs.Questions.{Question}
+use Rattle.cose_gate.specs.Reading.{IfKnown}
+use Rattle.cose_gate.specs.Records.{record_of, is_among}
+use Rattle.cose_gate.specs.Run.{Step, Steps, Course, asked_of, passes, text_of, written_of, questions_of, output_of, refused_count}
+use Rattle.cose_gate.specs.Tree.{Tree}
+use Rattle.callers.specs.Asking.{always, IsAsked, IsAskedInPart, IsPassedBy, AreRecords, IsPassed, RanByIds, EndsAccepted, IsHandedOn}
+use Rattle.callers.specs.Judging.{allows}
+use Rattle.callers.proofs.Relay.{decided, told_all}
+
+-- records that are told one after another stand one after another
+told_records : (told : List ℕ) (qs : List Question)
+    → folded_over (λ t q. t ++ record_of q) told qs ≡ told ++ flat_map record_of qs
+told_records told [] = sym (append-nil told)
+told_records told (q ∷ qs) =
+    told_records (told ++ record_of q) qs ∙ append_assoc told (record_of q) (flat_map record_of qs)
+
+whole_front : (qs : List Question) → IsFront qs qs
+whole_front qs = record { more = []; whole = sym (append-nil qs) }
+
+-- the bytes to come are the input
+pub here : {T S E : Type 0} (ends : E → Bool) (rules : Rules T S) (old new : Sight T S)
+    (input : List ℕ) (r : Result Counts (GateFault E)) → old.left ≡ Some input
+    → Answers ends rules old new r → Outcome ends rules old new input r
+here ends rules old new input r is a =
+    let e : input ≡ a.input = subst (λ (l : Option (List ℕ)). IfKnown l (λ b. b ≡ a.input)) is a.is in
+    subst (λ (i : List ℕ). Outcome ends rules old new i r) (sym e) a.outcome
+
+-- what the gate goes by with a judge that tells what it is asked, and with one by records
+abbrev pub asking : {S : Type 0} → (S → Entry → S) → List ℕ → Rules (List ℕ) S
+asking folded aad = record {
+  limits = usual;
+  decided = λ t q. t ++ record_of q;
+  folded = folded;
+  allows = λ q. true;
+  aad = aad;
+}
+
+abbrev pub passing : {S : Type 0} → (S → Entry → S) → List (List ℕ) → List ℕ → Rules (Unit {0}) S
+passing folded keys aad = record {
+  limits = usual;
+  decided = λ t q. t;
+  folded = folded;
+  allows = is_among keys;
+  aad = aad;
+}
+
+module _ {S : Type 0} (folded : S → Entry → S) (aad input : List ℕ) (old new : Sight (List ℕ) S) where
+  pub asked : (counts : Counts) → old.offset ≡ 0 → Whole (asking folded aad) old new input counts
+      → IsAsked aad input old.told new.told counts
+  asked counts start w = record {
+    steps = w.steps;
+    course = subst (λ (n : ℕ). Course usual always aad n input w.steps []) start w.course;
+    records = w.made.told ∙ told_records old.told (questions_of always aad w.steps);
+    passed = w.passed;
+    refused = w.refused;
+  }
+
+  pub asked_in_part : {E : Type 0} (ends : E → Bool) (fault : GateFault E) → old.offset ≡ 0
+      → Outcome ends (asking folded aad) old new input (Err fault)
+      → IsAskedInPart aad input old.told new.told
+  asked_in_part ends (gating.Decode e) start w = record {
+    steps = w.steps;
+    more = w.more;
+    course = subst (λ (n : ℕ). Course usual always aad n input w.steps w.more) start w.course;
+    front = questions_of always aad w.steps;
+    is_front = whole_front (questions_of always aad w.steps);
+    records = w.made.told ∙ told_records old.told (questions_of always aad w.steps);
+  }
+  asked_in_part ends gating.Write start w = record {
+    steps = w.done ++ w.last ∷ [];
+    more = w.more;
+    course = subst (λ (n : ℕ). Course usual always aad n input (w.done ++ w.last ∷ []) w.more) start w.course;
+    front = questions_of always aad (w.done ++ w.last ∷ []);
+    is_front = whole_front (questions_of always aad (w.done ++ w.last ∷ []));
+    records = w.told ∙ told_records old.told (questions_of always aad (w.done ++ w.last ∷ []));
+  }
+  asked_in_part ends gating.Memory start w = record {
+    steps = w.done ++ w.last;
+    more = w.more;
+    course = subst (λ (n : ℕ). Course usual always aad n input (w.done ++ w.last) w.more) start w.course;
+    front = questions_of always aad w.done ++ w.asked;
+    is_front = record {
+      more = w.asked_front.more;
+      whole = flat_map-append (λ s. asked_of always aad s.finding) w.done w.last
+          ∙ (ap (λ (qs : List Question). questions_of always aad w.done ++ qs) w.asked_front.whole
+          ∙ sym (append_assoc (questions_of always aad w.done) w.asked w.asked_front.more));
+    };
+    records = w.told ∙ told_records old.told (questions_of always aad w.done ++ w.asked);
+  }
+
+module _ {S : Type 0} (folded : S → Entry → S) (keys : List (List ℕ)) (aad input : List ℕ)
+    (old new : Sight (Unit {0}) S) where
+  pub passed_by : (output : List ℕ) (counts : Counts) → old.offset ≡ 0 → old.written ≡ Some []
+      → new.written ≡ Some output → Whole (passing folded keys aad) old new input counts
+      → IsPassedBy keys aad input output counts
+  passed_by output counts start none out w = record {
+    steps = w.steps;
+    course = subst (λ (n : ℕ). Course usual (is_among keys) aad n input w.steps []) start w.course;
+    output_is = written none out w.made.written;
+    passed = w.passed;
+    refused = w.refused;
+  }
+    where
+      written : {xs : List ℕ} → old.written ≡ Some [] → new.written ≡ Some output
+          → Appends old.written new.written xs → output ≡ xs
+      written {xs} a b p = let q = subst (λ (z : Option (List ℕ)). Appends z new.written xs) a p in
+          let r = subst (λ (z : Option (List ℕ)). Appends (Some []) z xs) b q in r
+
+-- what passes by these records
+pub passed_of : (accepted aad input output : List ℕ) (keys : List (List ℕ)) (counts : Counts)
+    → AreRecords accepted keys → IsPassedBy keys aad input output counts
+    → IsPassed accepted aad input output counts
+passed_of accepted aad input output keys counts are p = (keys, are, p)
+
+-- a judge by key ids was told so of the run
+pub ran_by_ids : (limits : Limits) (ids : List (List ℕ)) (aad : List ℕ) (old new : Devices)
+    (asked asked' : List (List ℕ)) (status : ℕ)
+    → RanJudged limits (record { allows = allows ids; decided = decided; before = asked; after = asked' })
+    aad old new status
+    → RanByIds limits ids aad old new asked asked' status
+ran_by_ids limits ids aad old new asked asked' status r = record {
+  on = r.on;
+  front = r.heard.told.front;
+  is_front = r.heard.told.is_front;
+  told = r.heard.told.tells ∙ told_all asked r.heard.told.front;
+  all = r.heard.all;
+}
+
+-- the statuses of a run
+below_two : (b : Bool) (n : ℕ) → n ≡ cond {A = ℕ} b 0 1 → n < 2
+below_two true n e = let h : n ≡ 0 = e in omega arith
+below_two false n e = let h : n ≡ 1 = e in omega arith
+
+over_status : (limits : Limits) (says : Question → Bool) (aad : List ℕ) (old new : Devices)
+    (b : List ℕ) (steps : List Step) (status : ℕ)
+    → RanOver limits says aad old new b steps status → (status < 2) ⊎ (status ≡ 4)
+over_status limits says aad old new b steps status r = elim r [
+  | inl t ↦ inl (below_two (nat_eq t.0 0) status t.2)
+  | inr p ↦ inr p.1
+]
+
+between : (n : ℕ) → 1 < n → n < 4 → (n < 2) ⊎ (n ≡ 4) → ⊥
+between n more less s = elim s [
+  | inl few ↦ omega (arith, more, few)
+  | inr four ↦ omega (arith, less, four)
+]
+
+-- with the statuses 2 and 3 it was not run
+pub untouched : (limits : Limits) (says : List KeyFields → Question → Bool)
+    (keys aad : Option (List ℕ)) (old new : Devices) (status : ℕ)
+    → EndsWithin limits says keys aad old new status → 1 < status → status < 4 → new ≡ old
+untouched limits says keys aad old new status (no_file k s same) more less = same
+untouched limits says keys aad old new status (not_hex b k a s same) more less = same
+untouched limits says keys aad old new status (no_keys b d k a e w s same) more less = same
+untouched limits says keys aad old new status (no_memory b k s same) more less = same
+untouched limits says keys aad old new status (after_run b d k a ks has r) more less =
+    absurd (between status more less
+    (over_status limits (says ks) d old new r.ran.input r.ran.steps status r.ran.over))
+
+-- where none is refused each passes
+all_pass : (p : Bool) (n : ℕ) → cond {A = ℕ} (not p) 1 0 + n ≡ 0 → (p ≡ true) × (n ≡ 0)
+all_pass true n e = let h : 0 + n ≡ 0 = e in (refl, omega (arith, h))
+all_pass false n e = let h : 1 + n ≡ 0 = e in absurd (let k : ⊥ = omega (arith, h) in k)
+
+-- under limits that exclude what isn't already as it would be written
+module _ (limits : Limits) (says : Question → Bool) (aad : List ℕ) (exact : ExcludesInexact limits) where
+  as_received : (f : Finding) (b : List ℕ) (t : Tree) → Finds limits b t f → passes says aad f ≡ true
+      → written_of says aad f ≡ b
+  as_received (judged m) b t finds p =
+      ap (λ (z : Bool). cond z (text_of (judged m)) []) p ∙ sym (exact b m finds.1)
+  as_received (barred r) b t finds p = let h : false ≡ true = p in cc
+  as_received (excluded m r) b t finds p = let h : false ≡ true = p in cc
+
+  pub all_received : (n : ℕ) (ss : List Step) (at : ℕ) (b : List ℕ) → Steps limits says aad n ss
+      → SequenceWithin limits.nesting at b (map (λ s. s.item) ss) []
+      → refused_count says aad ss ≡ 0 → output_of says aad ss ≡ b
+  all_received n [] at b steps sequence none = sym sequence
+  all_received n (s ∷ ss) at b steps sequence none =
+      let count : cond {A = ℕ} (not (passes says aad s.finding)) 1 0 + refused_count says aad ss ≡ 0
+      = sym (sum_by-cons (λ (s : Step). cond {A = ℕ} (not (passes says aad s.finding)) 1 0) s ss) ∙ none in
+      let here = all_pass (passes says aad s.finding) (refused_count says aad ss) count in
+      let front : written_of says aad s.finding ≡ s.item.bytes
+      = as_received s.finding s.item.bytes s.item.value steps.0 here.0 in
+      let rest = sequence.2 in
+      let more : output_of says aad ss ≡ rest.0
+      = all_received (n + 1) ss (at + length s.item.bytes) rest.0 steps.4 rest.2 here.1 in
+      ap (λ (z : List ℕ). z ++ output_of says aad ss) front
+      ∙ (ap (λ (z : List ℕ). s.item.bytes ++ z) more ∙ sym rest.1)
+
+none_of : (n : ℕ) → 0 ≡ cond {A = ℕ} (nat_eq n 0) 0 1 → n ≡ 0
+none_of n e = grind (arith, nat_tests, e)
+
+all_written : (limits : Limits) (says : Question → Bool) (aad : List ℕ) (old new : Devices)
+    (b : List ℕ) (steps : List Step) (status : ℕ) → ExcludesInexact limits
+    → RanOver limits says aad old new b steps status → status ≡ 0 → Appends old.written new.written b
+all_written limits says aad old new b steps status exact over none = elim over [
+  | inl t ↦ (
+      let count : t.0 ≡ 0 = none_of t.0 (sym none ∙ t.2) in
+      let e : output_of says aad steps ≡ b
+      = all_received limits says aad exact 1 steps 0 b t.1.course.steps t.1.course.sequence (sym t.1.refused_is ∙ count) in
+      subst (λ (z : List ℕ). Appends old.written new.written z) e t.1.writes
+      )
+  | inr p ↦ absurd (let k : ⊥ = omega (arith, none, p.1) in k)
+]
+
+-- with the status 0 a strict run wrote all that it read
+pub handed_on : (limits : Limits) (says : List KeyFields → Question → Bool) (keys aad : List ℕ)
+    (old new : Devices) (status : ℕ) → ExcludesInexact limits
+    → EndsOver limits says keys aad old new status → status ≡ 0 → IsHandedOn old new
+handed_on limits says keys aad old new status exact e none input is = elim e [
+  | inl k ↦ absurd (let n : ⊥ = omega (arith, none, k.2) in n)
+  | inr m ↦ elim m [
+    | inl n ↦ absurd (let k : ⊥ = omega (arith, none, n.0) in k)
+    | inr r ↦ (
+        let same : input ≡ r.2.ran.input
+        = subst (λ (l : Option (List ℕ)). IfKnown l (λ b. b ≡ r.2.ran.input)) is r.2.ran.is in
+        subst (λ (z : List ℕ). Appends old.written new.written z) (sym same)
+        (all_written limits (says r.0) aad old new r.2.ran.input r.2.ran.steps status exact r.2.ran.over none)
+        )
+  ]
+]

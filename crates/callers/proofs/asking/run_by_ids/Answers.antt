@@ -1,0 +1,5 @@
+use Rattle.callers.proofs.Told.{ran_by_ids}
+use Rattle.callers.proofs.asking.run_by_ids.Goals as goal
+
+pub returns-clause-ran : goal.returns-clause-ran
+returns-clause-ran g c = ran_by_ids _ _ _ _ _ _ _ _ c.run_judged.ensures.ran
