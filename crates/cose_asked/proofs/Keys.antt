@@ -1,10 +1,11 @@
 -- A key is of one question.
 use Rattle.std.proofs.Common.{◌≡◌, ℕ, ◌<◌, ◌≤◌, ◌+◌, ◌^◌, List, [], ◌∷◌, ◌++◌, length, flat_map, get_or, refl, sym, ap, ◌∙◌, arith, length-append}
-use Rattle.cose_gate_core.specs.Questions.{Question}
+use Rattle.cose_gate_core.specs.Questions.{Question, number_of}
 use Rattle.cose_gate_core.specs.declared.about.Kind.{Kind}
 use Rattle.cose_gate_core.specs.declared.about.Kind.TheVariants as kind
+use Rattle.cose_gate_core.proofs.TagNumbers.{same_kind}
 use Rattle.cose_asked.specs.Framing.{eight, framed, key_by}
-use Rattle.cose_asked.specs.Records.{Texts, number_of, texts_of, front_by, key_of}
+use Rattle.cose_asked.specs.Records.{Texts, texts_of, front_by, key_of}
 use Rattle.cose_asked.proofs.Frames.{length-eight, same_numbered, same_pieces, assoc_six}
 
 small : (k : Kind) → number_of k < 2 ^ 64
@@ -12,24 +13,6 @@ small kind.Sign1 = omega arith
 small kind.Mac0 = omega arith
 small kind.Sign = omega arith
 small kind.Mac = omega arith
-
-pub one_kind : (k l : Kind) → number_of k ≡ number_of l → k ≡ l
-one_kind kind.Sign1 kind.Sign1 e = refl
-one_kind kind.Sign1 kind.Mac0 e = grind (arith, e)
-one_kind kind.Sign1 kind.Sign e = grind (arith, e)
-one_kind kind.Sign1 kind.Mac e = grind (arith, e)
-one_kind kind.Mac0 kind.Sign1 e = grind (arith, e)
-one_kind kind.Mac0 kind.Mac0 e = refl
-one_kind kind.Mac0 kind.Sign e = grind (arith, e)
-one_kind kind.Mac0 kind.Mac e = grind (arith, e)
-one_kind kind.Sign kind.Sign1 e = grind (arith, e)
-one_kind kind.Sign kind.Mac0 e = grind (arith, e)
-one_kind kind.Sign kind.Sign e = refl
-one_kind kind.Sign kind.Mac e = grind (arith, e)
-one_kind kind.Mac kind.Sign1 e = grind (arith, e)
-one_kind kind.Mac kind.Mac0 e = grind (arith, e)
-one_kind kind.Mac kind.Sign e = grind (arith, e)
-one_kind kind.Mac kind.Mac e = refl
 
 -- what stands framed behind the number
 abbrev pieces : Texts → List ℕ → List ℕ → List (List ℕ)
@@ -66,7 +49,7 @@ same_key q r h e =
     let l : length (key_of q) ≡ 8 + length (flat_map framed ps)
     = ap (λ (z : List ℕ). length z) sq ∙ (length-append (eight m) (flat_map framed ps) ∙ ap (λ (k : ℕ). k + length (flat_map framed ps)) (length-eight m)) in
     let same : ps ≡ qs = same_pieces ps qs refl (omega (arith, l, h)) w.1 in (
-      one_kind q.subject.kind r.subject.kind w.0,
+      same_kind q.subject.kind r.subject.kind w.0,
       same_texts m n ps qs w.0 same,
       ap (λ (z : List (List ℕ)). get_or z 5 []) same,
       ap (λ (z : List (List ℕ)). get_or z 6 []) same,

@@ -7,18 +7,9 @@ use Rattle.coset_headers.specs.Fields.{HeaderFields, ProtectedFields}
 use Rattle.coset_headers.specs.Written.{header_tree}
 use Rattle.coset_recipients.specs.Fields.{RecipientsFields}
 use Rattle.coset_recipients.specs.Written.{list_tree}
-use Rattle.cose_gate_core.specs.Questions.{Question, Subject, or_nothing}
+use Rattle.cose_gate_core.specs.Questions.{Question, Subject, number_of, or_nothing}
 use Rattle.cose_gate_core.specs.Received.{received_bytes}
-use Rattle.cose_gate_core.specs.declared.about.Kind.{Kind}
-use Rattle.cose_gate_core.specs.declared.about.Kind.TheVariants as kind
 use Rattle.cose_asked.specs.Framing.{eight, framed, key_by}
-
--- the tag of a kind (RFC 9052, section 2)
-abbrev pub number_of : Kind → ℕ
-number_of kind.Sign1 = 18
-number_of kind.Mac0 = 17
-number_of kind.Sign = 98
-number_of kind.Mac = 97
 
 -- the encoded map of a header, and the encoded array of recipients, which stands there even where it is empty
 abbrev pub header_text : HeaderFields → List ℕ
@@ -58,8 +49,9 @@ texts_of s = record {
 
 -- the front of a key
 abbrev pub front_by : Texts → List ℕ
-front_by t = eight t.number ++ (framed t.protected ++ (framed t.unprotected ++ (framed t.signer_protected
-    ++ (framed t.signer_unprotected ++ framed t.recipients))))
+front_by t =
+    eight t.number ++ (framed t.protected ++ (framed t.unprotected
+    ++ (framed t.signer_protected ++ (framed t.signer_unprotected ++ framed t.recipients))))
 
 abbrev pub front_of : Subject → List ℕ
 front_of s = front_by (texts_of s)

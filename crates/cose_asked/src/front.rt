@@ -1,39 +1,16 @@
 //! What a question is about, as its key shows it.
 ghost use Rattle.std.specs.Prelude.{◌≡◌, ◌++◌, IfOk, OnOk};
-ghost use Rattle.coset_headers.specs.View.{header_view, protected_view};
+ghost use Rattle.coset_headers.specs.View.{header_view};
 ghost use Rattle.coset_recipients.specs.View.{recipients_view};
 ghost use Rattle.cose_gate_core.specs.Lent.{signer_of, subject_of};
-ghost use Rattle.cose_gate_core.specs.Received.{received_bytes};
 ghost use Rattle.cose_asked.specs.Framing.{framed};
 ghost use Rattle.cose_asked.specs.Records as spec;
 
 use crate::framing::{append, eight};
-use cose_gate_core::{About, Header, Kind, ProtectedHeader};
+use cose_gate_core::{About, Header, ProtectedHeader, received};
 use coset_labels::{CborSerializable, write_to_vec};
 use coset_recipients::{CoseRecipient, clone_recipients, write_recipients};
 use std::alloc::{AllocError, Global};
-
-/// The tag of a kind.
-fn number_of(kind: Kind) -> usize
-    ensures { result ≡ spec.number_of kind }
-{
-    match kind {
-        Kind::Sign1 => 18,
-        Kind::Mac0 => 17,
-        Kind::Sign => 98,
-        Kind::Mac => 97,
-    }
-}
-
-/// The bytes of a protected header that were received.
-fn received(protected: &ProtectedHeader) -> &[u8]
-    ensures { result.now ≡ received_bytes (protected_view protected.now) }
-{
-    match &protected.original_data {
-        Some(bytes) => bytes,
-        None => &[],
-    }
-}
 
 /// The encoded map of a header.
 fn header_text(alloc: Global, header: &Header) -> Result<Vec<u8>, AllocError>
@@ -88,7 +65,7 @@ pub(crate) fn front_of(alloc: Global, about: &About) -> Result<Vec<u8>, AllocErr
     ensures { IfOk result (λ front. front.items ≡ spec.front_of (subject_of about.now)) }
 {
     let mut front = Vec::new(alloc);
-    front.extend_from_slice(&eight(number_of(about.kind)))?;
+    front.extend_from_slice(&eight(about.kind.tag() as usize))?;
     append(&mut front, received(about.protected))?;
     append(&mut front, &header_text(alloc, about.unprotected)?)?;
     append_signer(alloc, &mut front, about.signer)?;

@@ -1,6 +1,6 @@
 -- A message's item is the text that is written for it exactly where it is spelled as its value is, and its value is the one that is written.
 use Rattle.std.proofs.Common.{◌≡◌, ◌^◌, ◌<◌, ◌⊎◌, inl, inr, ℕ, List, Bool, true, false, cond, Option, Some, None, option_map, refl, sym, ap, subst, ◌∙◌, nat_eq, arith}
-use Rattle.std.specs.Prelude.{MatchBool}
+use Rattle.std.specs.Prelude.{MatchBool, MatchOption}
 use Rattle.std.specs.Ordering.{nat_cmp}
 use Rattle.std.specs.Cmp.{Equal-is}
 use Rattle.std.specs.Cmp.Lexicographic.{nat_list_eq_equiv, pointwise, slice_cmp, texts_ties}
@@ -11,8 +11,14 @@ use Rattle.ciborium.specs.Front.{Reads}
 use Rattle.coset_headers.proofs.Entered.{bool_cases}
 use Rattle.coset_headers.proofs.Sound.{reads_sound, sound_reads}
 use Rattle.coset_headers.proofs.Unique.{readable_once}
-use Rattle.cose_gate_core.specs.Questions.{MessageFields, sign1, mac0, sign, mac, tag_of, message_tree, message_text, or_nothing}
-use Rattle.cose_gate_core.specs.Findings.{Limits, HasMessage, excluded_by}
+use Rattle.coset_labels.specs.Limits.{nesting_of}
+use Rattle.cose_gate_core.specs.Questions.{MessageFields, sign1, mac0, sign, mac, number_of, kind_of, tag_of, message_tree, message_text, or_nothing}
+use Rattle.cose_gate_core.specs.Findings.{Limits, HasMessage, Finds, judged, excluded_by}
+use Rattle.cose_gate_core.specs.Passing.{IsRefused, IsTold}
+use Rattle.cose_gate_core.specs.Terms.{limits_of, IsTaken}
+use Rattle.cose_gate_core.specs.declared.about.Kind.{Kind}
+use Rattle.cose_gate_core.specs.declared.report.Refusal.{Refusal}
+use Rattle.cose_gate_core.specs.declared.terms.Terms.{Terms}
 use Rattle.cose_gate_core.specs.declared.report.Refusal.TheVariants as refusal
 use Rattle.cose_gate_core.proofs.MessageKept.{tag_rewrite}
 use Rattle.cose_gate_core.proofs.Rewritten.{message_again}
@@ -60,7 +66,7 @@ module _ (l : Limits) (n : ℕ) (b : List ℕ) (u : Tree) (m : MessageFields) (h
 
 -- what a gate tells of a message
 module _ (l : Limits) (n : ℕ) (b : List ℕ) (u : Tree) (m : MessageFields) where
-  abbrev Told : Bool → Bool → Bool → Type 0
+  abbrev pub Told : Bool → Bool → Bool → Type 0
   Told strict exact through = MatchBool through (strict ≡ true → (exact ≡ true) × (message_tree m ≡ Some u))
       ((strict ≡ true) × Fits u × (exact ≡ true → message_tree m ≡ Some u → ⊥))
 
@@ -88,3 +94,14 @@ module _ (l : Limits) (n : ℕ) (b : List ℕ) (u : Tree) (m : MessageFields) wh
   told_of true true true has reads x t = let_through (x refl ∙ sym (text_is m u (t refl).1))
   told_of true false true has reads x t = let h : false ≡ true = (t refl).0 in cc
   told_of true exact false has reads x (q, f, differs) = held_back (not_text exact has reads f (x refl) differs)
+
+-- why a message of a kind is refused that was read under the kind's tag, or that it is judged
+pub found_as : (terms : Terms) (m : MessageFields) (k : Kind) (u : Tree) (b : List ℕ) (exact through : Bool) (r : Option Refusal) → kind_of m ≡ k → HasMessage (limits_of terms) u m
+    → IsTaken terms b (tag (number_of k) u) exact → Told (limits_of terms) (nesting_of terms.limits) b u m terms.strict exact through
+    → (IsTold (limits_of terms) b m through → MatchOption r (Finds (limits_of terms) b (tag (tag_of m) u) (judged m)) (IsRefused (limits_of terms) b (tag (tag_of m) u)))
+    → MatchOption r (Finds (limits_of terms) b (tag (number_of k) u) (judged m)) (IsRefused (limits_of terms) b (tag (number_of k) u))
+found_as terms m k u b exact through r e has taken told bar =
+    let l = limits_of terms in
+    let h : IsTaken terms b (tag (tag_of m) u) exact = subst (λ (j : Kind). IsTaken terms b (tag (number_of j) u) exact) (sym e) taken in
+    subst (λ (j : Kind). MatchOption r (Finds l b (tag (number_of j) u) (judged m)) (IsRefused l b (tag (number_of j) u))) e
+    (bar (told_of l (nesting_of terms.limits) b u m terms.strict exact through has h.0 h.1 told))

@@ -1,6 +1,6 @@
 -- Questions that are asked in order, up to the first no.
 use Rattle.std.proofs.Common.{◌≡◌, ◌≢◌, ℕ, ◌+◌, ◌<◌, suc, List, [], ◌∷◌, ◌++◌, map, drop, length, get_or, Option, Some, None, Bool, true, false, refl, sym, ap, ◌∙◌, append_assoc, append-nil, arith, codes, drop-cons, add-one}
-use Rattle.std.specs.Prelude.{option_map, option_and_then, Result, Ok, Err, OnErr}
+use Rattle.std.specs.Prelude.{option_map, option_and_then, Result, Ok, Err, OnErr, IsErrAnd}
 use Rattle.coset_headers.specs.Fields.{SignatureFields}
 use Rattle.coset_headers.specs.Written.{shown}
 use Rattle.coset_headers.proofs.Writable.{some_is, map_some, and_some}
@@ -20,6 +20,11 @@ on_err (Err e) f p = f p
 pub on_err_is : {A E P : Type 0} (r : Result A E) → P → OnErr r P
 on_err_is (Ok x) p = tt
 on_err_is (Err e) p = p
+
+-- an answer that is this fault
+pub err_is : {A E : Type 0} (r : Result A E) (x : E) → IsErrAnd r (λ e. e ≡ x) → r ≡ Err x
+err_is (Ok y) x p = absurd p
+err_is (Err e) x p = ap Err p
 
 -- nothing was told of questions
 pub told_none : {T Q : Type 0} (decided : T → Q → T) (told told' : T) (all : List Q) → told' ≡ told → ToldFront decided told told' all

@@ -1,11 +1,13 @@
 -- One item: what is found of it, and what stands after it.
-use Rattle.std.proofs.Common.{◌≡◌, ◌≢◌, ℕ, ◌⊎◌, inl, inr, List, [], Option, None, Some, Bool, cond, refl, sym, ap, subst, ◌∙◌, take, drop, append-nil}
+use Rattle.std.proofs.Common.{◌≡◌, ◌≢◌, ℕ, inl, inr, List, [], Option, None, Some, Bool, cond, refl, sym, ap, subst, ◌∙◌, take, drop, append-nil}
 use Rattle.std.specs.Prelude.{is_none}
 use Rattle.std.specs.Io.KnownBytes.{Appends}
 use Rattle.std.proofs.KnownBytes.{Appends-nil}
 use Rattle.std.proofs.lemmas.List.{take-append-drop}
 use Rattle.ciborium_value.specs.Tree.{Tree, tag}
-use Rattle.coset_labels.specs.Faults.{fault_of}
+use Rattle.coset_labels.specs.Faults.{CoseFault, OrMemory, fault_of}
+use Rattle.coset_labels.specs.declared.error.CoseError.{CoseError}
+use Rattle.coset_labels.specs.declared.error.CoseError.TheVariants as code
 use Rattle.cose_gate_core.specs.Questions.{Question, MessageFields, tag_of, payload_of, questions, message_text}
 use Rattle.cose_gate_core.specs.Asked.{asked, first_no, folded_over, ToldFront}
 use Rattle.cose_gate_core.specs.Findings.{Reason, not_tagged, encrypted, other_tag, shape, detached, no_signature, judged, barred, excluded, Limits, HasMessage, IsCarried, IsUnsigned, IsJudged, IsBarred, Finds}
@@ -16,6 +18,11 @@ use Rattle.cose_gate_core.specs.declared.passing.ItemFault.TheVariants as fault
 use Rattle.cose_gate_core.specs.declared.report.Refusal.{Refusal}
 use Rattle.cose_gate_core.specs.declared.report.Refusal.TheVariants as refusal
 use Rattle.cose_gate_core.specs.declared.report.Verdict.TheVariants.{Passed, Refused}
+
+-- a fault other than want of memory
+pub not_memory : (Wrong : CoseFault → Type 0) (e : CoseError) → OrMemory Wrong e → e ≢ code.Memory → Wrong (fault_of e)
+not_memory Wrong e (inl memory) other = absurd (other memory)
+not_memory Wrong e (inr wrong) other = wrong
 
 -- a message that doesn't carry its payload
 pub is_detached : (limits : Limits) (u : Tree) (m : MessageFields) → HasMessage limits u m → payload_of m ≡ None → IsBarred limits (tag (tag_of m) u) detached

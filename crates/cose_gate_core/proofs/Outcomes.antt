@@ -24,7 +24,7 @@ use Rattle.cose_gate_core.specs.Asked.{first_no, folded_over, IsFront}
 use Rattle.cose_gate_core.specs.Findings.{judged}
 use Rattle.cose_gate_core.specs.Run.{Step, Steps, judged_by, has_passed, passes, asked_of, written_of, questions_of, output_of, entries_of, passed_count, refused_count, Course}
 use Rattle.cose_gate_core.specs.Outcome.{Rules, Sight, Made, IsFaultOf, IsReadFault, Answers}
-use Rattle.cose_gate_core.specs.Passing.{WentThrough, Half, HalfWritten, ItemFails, at_end, fault_by, stopped_by}
+use Rattle.cose_gate_core.specs.Passing.{WentThrough, Half, HalfWritten, ItemFails, at_end, stopped_by}
 use Rattle.coset_labels.specs.Limits.{nesting_of}
 use Rattle.cose_gate_core.specs.Terms.{IsTaken}
 use Rattle.cose_gate_core.specs.declared.terms.Terms.{Terms}
@@ -385,15 +385,6 @@ nothing_taken rules old new n r e = go new.left r.taken.bytes (subst (λ (l : Op
         empty : (xs : List ℕ) → length xs ≡ 0 → xs ≡ []
         empty [] e = refl
         empty (x ∷ xs) e = absurd (omega arith)
-
--- a fault that is no want of memory stops the gate as none
-pub stops_otherwise : {E X : Type 0} (f : Error E) (stop : GateFault E) → IsNoMemory f → stop ≡ fault_by f → (let r : Result X (GateFault E) = Err stop in r ≡ Err Memory) → ⊥
-stops_otherwise (de.Io e) stop other is same = let by : stop ≡ Decode (de.Io e) = is in cc
-stops_otherwise (de.Syntax p) stop other is same = let by : stop ≡ Decode (de.Syntax p) = is in cc
-stops_otherwise (de.Semantic o k) stop other is same = let by : stop ≡ Decode (de.Semantic o k) = is in cc
-stops_otherwise de.RecursionLimitExceeded stop other is same = let by : stop ≡ Decode de.RecursionLimitExceeded = is in cc
-stops_otherwise de.Memory stop other is same = absurd other
-stops_otherwise de.TooLong stop other is same = let by : stop ≡ Decode de.TooLong = is in cc
 
 -- neither an end at once nor a failure of the device is left
 pub nothing_answer : {E : Type 0} {X : Type 0} (ends : E → Bool) (p p' : ℕ) (f : Error E) (failed failed' : ℕ) → ((at_end ends f ≡ true) × (p' ≡ p)) ⊎ ((x : E) × (f ≡ de.Io x) × (ends x ≡ false))

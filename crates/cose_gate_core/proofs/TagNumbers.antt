@@ -1,5 +1,6 @@
 -- The tags that the gate tells apart.
-use Rattle.std.proofs.Common.{◌≡◌, ◌≢◌, ◌⊎◌, inl, inr, ℕ, List, [], ◌∷◌, Option, Some, None, cond, pos, refl, sym, ap, ◌∙◌, nat_eq}
+use Rattle.std.proofs.Common.{◌≡◌, ◌≢◌, inl, inr, ℕ, List, [], ◌∷◌, Option, Some, None, Bool, true, false, cond, pos, refl, sym, ap, ◌∙◌, nat_eq}
+use Rattle.std.specs.Prelude.{MatchBool}
 use Rattle.cose_iana.specs.Registry.{number_of as registered_number}
 use Rattle.cose_iana.specs.Tags.{cbor_tags}
 use Rattle.cose_iana.specs.declared.tags.CborTag.TheVariants.{CoseEncrypt0, CoseEncrypt}
@@ -59,6 +60,11 @@ encrypt_is n e = let q : pos n ≡ pos 96 = e ∙ encrypt_number in inr cc
 pub not_encrypted : (n : ℕ) → pos n ≢ cbor_tags.number CoseEncrypt0 → pos n ≢ cbor_tags.number CoseEncrypt → IsEncryptedTag n → ⊥
 not_encrypted n a b (inl e) = a (ap pos e ∙ sym encrypt0_number)
 not_encrypted n a b (inr e) = b (ap pos e ∙ sym encrypt_number)
+
+pub either_encrypted : (n : ℕ) (b : Bool) → pos n ≢ cbor_tags.number CoseEncrypt0 → MatchBool b (pos n ≡ cbor_tags.number CoseEncrypt) (pos n ≢ cbor_tags.number CoseEncrypt)
+    → MatchBool b (IsEncryptedTag n) (IsEncryptedTag n → ⊥)
+either_encrypted n true a e = encrypt_is n e
+either_encrypted n false a e = not_encrypted n a e
 
 -- a tag that is none of the four is that of no message
 pub no_message_tag : (n : ℕ) → n ≢ 18 → n ≢ 17 → n ≢ 98 → n ≢ 97 → IsMessageTag n → ⊥

@@ -41,14 +41,14 @@ has_tree l u (mac m) h = mac_some l.nesting m u l.layers h
 pub judged_asked : (l : Limits) (t : Tree) (m : MessageFields) (aad : List ℕ) → IsJudged l t m → all_questions m aad ≢ None
 judged_asked l t m aad ((u, e, h), p, s) = has_questions l u m aad h
 
-pub judged_tree : (l : Limits) (t : Tree) (m : MessageFields) → IsJudged l t m → tagged_tree m ≢ None
-judged_tree l t m ((u, e, h), p, s) = map_some (λ t. tag (tag_of m) t) (message_tree m) (has_tree l u m h)
+pub message_tagged : (l : Limits) (u : Tree) (m : MessageFields) → HasMessage l u m → tagged_tree m ≢ None
+message_tagged l u m h = map_some (λ t. tag (tag_of m) t) (message_tree m) (has_tree l u m h)
 
 pub judged_questions : (l : Limits) (t : Tree) (m : MessageFields) (aad : List ℕ) → IsJudged l t m → all_questions m aad ≡ Some (questions m aad)
 judged_questions l t m aad j = there (all_questions m aad) (judged_asked l t m aad j)
 
 pub judged_text : (l : Limits) (t : Tree) (m : MessageFields) → IsJudged l t m → option_map enc (tagged_tree m) ≡ Some (message_text m)
-judged_text l t m j = there (option_map enc (tagged_tree m)) (map_some enc (tagged_tree m) (judged_tree l t m j))
+judged_text l t m ((u, e, h), p, s) = there (option_map enc (tagged_tree m)) (map_some enc (tagged_tree m) (message_tagged l u m h))
 
 -- received bytes
 has_received : (n k : ℕ) (t : Tree) (p : ProtectedFields) → HasProtected n t p k → IsReceived p
@@ -66,6 +66,3 @@ message_received l u (sign m) h =
     let list = (one_held _ h.lasts h.hold).2 in
     (has_received l.nesting l.layers h.first m.protected h.parts.protected, are_received l.nesting l.layers list.0 m.signatures list.2)
 message_received l u (mac m) h = has_received l.nesting l.layers h.first m.protected h.parts.protected
-
-pub judged_received : (l : Limits) (t : Tree) (m : MessageFields) → IsJudged l t m → IsReceivedMessage m
-judged_received l t m ((u, e, h), p, s) = message_received l u m h

@@ -43,7 +43,8 @@ pub record Limits : Type 0 where
 -- the further rule of a gate, which may be strict: a message is refused whose item isn't already the text that would be written
 abbrev pub excluded_by : Bool → List ℕ → MessageFields → Option Refusal
 excluded_by false b m = None
-excluded_by true b m = if pointwise nat_eq b (message_text m) then None else Some refusal.NotShortest
+excluded_by true b m =
+    if pointwise nat_eq b (message_text m) then None else Some refusal.NotShortest
 
 -- so many levels and layers, and no further rule
 abbrev pub plain : ℕ → ℕ → Limits
@@ -51,7 +52,11 @@ plain nesting layers = record { nesting = nesting; layers = layers; excludes = �
 
 -- so many levels and layers, where a message's item has to be the text that would be written
 abbrev pub only_exact : ℕ → ℕ → Limits
-only_exact nesting layers = record { nesting = nesting; layers = layers; excludes = λ bytes m. excluded_by true bytes m }
+only_exact nesting layers = record {
+  nesting = nesting;
+  layers = layers;
+  excludes = λ bytes m. excluded_by true bytes m;
+}
 
 -- the limits where none are chosen, for the gate and for the strict gate
 abbrev pub usual : Limits
@@ -95,15 +100,18 @@ IsJudged limits t m = IsMessage limits t m × IsCarried m × (IsUnsigned m → �
 
 -- a value under the tag of a message that has this fault as one
 abbrev pub IsMisshapen : Limits → Tree → CoseFault → Type 0
-IsMisshapen limits t f = (k : Kind) × (u : Tree) × (t ≡ tag (number_of k) u) × WrongMessage limits k u f
+IsMisshapen limits t f =
+    (k : Kind) × (u : Tree) × (t ≡ tag (number_of k) u) × WrongMessage limits k u f
 
 abbrev pub IsBarred : Limits → Tree → Reason → Type 0
 IsBarred limits t not_tagged = (n : ℕ) (u : Tree) → t ≢ tag n u
 IsBarred limits t encrypted = (n : ℕ) × (u : Tree) × (t ≡ tag n u) × IsEncryptedTag n
-IsBarred limits t (other_tag n) = (u : Tree) × (t ≡ tag n u) × (IsEncryptedTag n → ⊥) × (IsMessageTag n → ⊥)
+IsBarred limits t (other_tag n) =
+    (u : Tree) × (t ≡ tag n u) × (IsEncryptedTag n → ⊥) × (IsMessageTag n → ⊥)
 IsBarred limits t shape = (f : CoseFault) × IsMisshapen limits t f
 IsBarred limits t detached = (m : MessageFields) × IsMessage limits t m × (payload_of m ≡ None)
-IsBarred limits t no_signature = (m : MessageFields) × IsMessage limits t m × IsCarried m × IsUnsigned m
+IsBarred limits t no_signature =
+    (m : MessageFields) × IsMessage limits t m × IsCarried m × IsUnsigned m
 
 -- what is found of an item of these bytes and the value t
 abbrev pub Finds : Limits → List ℕ → Tree → Finding → Type 0

@@ -27,14 +27,18 @@ IsRefused limits b t (refusal.Shape e) = IsMisshapen limits t (fault_of e)
 IsRefused limits b t refusal.Detached = IsBarred limits t detached
 IsRefused limits b t refusal.NoSignature = IsBarred limits t no_signature
 IsRefused limits b t (refusal.Judged n) = ⊥
-IsRefused limits b t refusal.NotShortest = (m : MessageFields) × IsJudged limits t m × (limits.excludes b m ≡ Some refusal.NotShortest)
+IsRefused limits b t refusal.NotShortest =
+    (m : MessageFields) × IsJudged limits t m × (limits.excludes b m ≡ Some refusal.NotShortest)
 
 -- what is told of a message: whether the further rule lets it through
 abbrev pub IsTold : Limits → List ℕ → MessageFields → Bool → Type 0
-IsTold limits b m through = MatchBool through (limits.excludes b m ≡ None) (limits.excludes b m ≡ Some refusal.NotShortest)
+IsTold limits b m through = MatchBool through (limits.excludes b m ≡ None)
+    (limits.excludes b m ≡ Some refusal.NotShortest)
 
 -- the item went through: what was found, told and written
-pub record WentThrough {T : Type 0} (limits : Limits) (decided : T → Question → T) (allows : Question → Bool) (aad : List ℕ) (bytes : List ℕ) (t : Tree) (told told' : T) (written written' : Option (List ℕ)) (v : Verdict) : Type 0 where
+pub record WentThrough {T : Type 0} (limits : Limits) (decided : T → Question → T) (allows : Question → Bool)
+    (aad : List ℕ) (bytes : List ℕ) (t : Tree)
+    (told told' : T) (written written' : Option (List ℕ)) (v : Verdict) : Type 0 where
   pub finding : Finding
   pub finds : Finds limits bytes t finding
   pub verdict : IsVerdict limits allows aad t finding v
@@ -42,7 +46,9 @@ pub record WentThrough {T : Type 0} (limits : Limits) (decided : T → Question 
   pub writes : Appends written written' (written_of allows aad finding)
 
 -- the item is a message, and the judge was told a beginning of the questions about it
-pub record Half {T : Type 0} (limits : Limits) (decided : T → Question → T) (allows : Question → Bool) (aad : List ℕ) (bytes : List ℕ) (t : Tree) (told told' : T) : Type 0 where
+pub record Half {T : Type 0} (limits : Limits) (decided : T → Question → T) (allows : Question → Bool)
+    (aad : List ℕ) (bytes : List ℕ) (t : Tree)
+    (told told' : T) : Type 0 where
   pub message : MessageFields
   pub is : Finds limits bytes t (judged message)
   pub asked : List Question
@@ -50,7 +56,9 @@ pub record Half {T : Type 0} (limits : Limits) (decided : T → Question → T) 
   pub tells : told' ≡ folded_over decided told asked
 
 -- the item is a message that passes, the judge was told all questions about it, and a beginning of its text was written
-pub record HalfWritten {T : Type 0} (limits : Limits) (decided : T → Question → T) (allows : Question → Bool) (aad : List ℕ) (bytes : List ℕ) (t : Tree) (told told' : T) (written written' : Option (List ℕ)) : Type 0 where
+pub record HalfWritten {T : Type 0} (limits : Limits) (decided : T → Question → T) (allows : Question → Bool)
+    (aad : List ℕ) (bytes : List ℕ) (t : Tree)
+    (told told' : T) (written written' : Option (List ℕ)) : Type 0 where
   pub message : MessageFields
   pub is : Finds limits bytes t (judged message)
   pub passed : passes allows aad (judged message) ≡ true
@@ -59,9 +67,12 @@ pub record HalfWritten {T : Type 0} (limits : Limits) (decided : T → Question 
   pub front_is : IsFront front (written_of allows aad (judged message))
   pub writes : Appends written written' front
 
-abbrev pub ItemFails : {T : Type 0} → Limits → (T → Question → T) → (Question → Bool) → List ℕ → List ℕ → Tree → T → T → Option (List ℕ) → Option (List ℕ) → ItemFault → Type 0
-ItemFails limits decided allows aad bytes t told told' written written' fault.Write = HalfWritten limits decided allows aad bytes t told told' written written'
-ItemFails limits decided allows aad bytes t told told' written written' fault.Memory = (written' ≡ written) × ((told' ≡ told) ⊎ Half limits decided allows aad bytes t told told')
+abbrev pub ItemFails : {T : Type 0} → Limits → (T → Question → T) → (Question → Bool) → List ℕ → List ℕ
+    → Tree → T → T → Option (List ℕ) → Option (List ℕ) → ItemFault → Type 0
+ItemFails limits decided allows aad bytes t told told' written written' fault.Write =
+    HalfWritten limits decided allows aad bytes t told told' written written'
+ItemFails limits decided allows aad bytes t told told' written written' fault.Memory =
+    (written' ≡ written) × ((told' ≡ told) ⊎ Half limits decided allows aad bytes t told told')
 
 -- what a fault of writing a text leaves: a beginning of it, and for want of memory nothing
 abbrev pub IsWriteFault : Option (List ℕ) → Option (List ℕ) → List ℕ → ItemFault → Type 0

@@ -59,10 +59,22 @@ payload_of (mac m) = m.payload
 
 -- a message with neither signers of its own nor recipients
 abbrev pub alone : Kind → ProtectedFields → HeaderFields → Subject
-alone k p u = record { kind = k; protected = p; unprotected = u; signer = None; recipients = no_recipients }
+alone k p u = record {
+  kind = k;
+  protected = p;
+  unprotected = u;
+  signer = None;
+  recipients = no_recipients;
+}
 
 abbrev pub mac_subject : MacFields → Subject
-mac_subject m = record { kind = kind.Mac; protected = m.protected; unprotected = m.unprotected; signer = None; recipients = m.recipients }
+mac_subject m = record {
+  kind = kind.Mac;
+  protected = m.protected;
+  unprotected = m.unprotected;
+  signer = None;
+  recipients = m.recipients;
+}
 
 -- the headers of a signature
 abbrev pub signer_headers : SignatureFields → ProtectedFields × HeaderFields
@@ -70,17 +82,35 @@ signer_headers (signature p u c) = (p, u)
 
 -- about one signature of a message: the signer's headers are the signature's own
 abbrev pub sign_subject : SignFields → SignatureFields → Subject
-sign_subject m s = record { kind = kind.Sign; protected = m.protected; unprotected = m.unprotected; signer = Some (signer_headers s); recipients = no_recipients }
+sign_subject m s = record {
+  kind = kind.Sign;
+  protected = m.protected;
+  unprotected = m.unprotected;
+  signer = Some (signer_headers s);
+  recipients = no_recipients;
+}
 
 -- the questions over the covered bytes
 abbrev pub sign1_question : Sign1Fields → List ℕ → Question
-sign1_question m covered = record { subject = alone kind.Sign1 m.protected m.unprotected; covered = covered; signature = m.signature }
+sign1_question m covered = record {
+  subject = alone kind.Sign1 m.protected m.unprotected;
+  covered = covered;
+  signature = m.signature;
+}
 
 abbrev pub mac0_question : Mac0Fields → List ℕ → Question
-mac0_question m covered = record { subject = alone kind.Mac0 m.protected m.unprotected; covered = covered; signature = m.tag }
+mac0_question m covered = record {
+  subject = alone kind.Mac0 m.protected m.unprotected;
+  covered = covered;
+  signature = m.tag;
+}
 
 abbrev pub sign_question : SignFields → SignatureFields → List ℕ → Question
-sign_question m s covered = record { subject = sign_subject m s; covered = covered; signature = signature_bytes s }
+sign_question m s covered = record {
+  subject = sign_subject m s;
+  covered = covered;
+  signature = signature_bytes s;
+}
 
 abbrev pub mac_question : MacFields → List ℕ → Question
 mac_question m covered = record { subject = mac_subject m; covered = covered; signature = m.tag }
@@ -95,12 +125,15 @@ mac_own m aad = mac_covered m aad
 -- the questions about the signatures of a COSE_Sign, in order; none where a structure can't be written
 abbrev pub sign_questions : SignFields → List ℕ → List SignatureFields → Option (List Question)
 sign_questions m aad [] = Some []
-sign_questions m aad (s ∷ ss) = option_and_then (λ covered. option_map (λ qs. sign_question m s covered ∷ qs) (sign_questions m aad ss)) (sign_covered m s aad)
+sign_questions m aad (s ∷ ss) =
+    option_and_then (λ covered. option_map (λ qs. sign_question m s covered ∷ qs) (sign_questions m aad ss))
+    (sign_covered m s aad)
 
 -- the questions about a message, in order, each over the structure with the protected bytes as received: one about the signature of a
 -- COSE_Sign1, the tag of a COSE_Mac0 or COSE_Mac, and each signature of a COSE_Sign; none where a structure can't be written
 abbrev pub all_questions : MessageFields → List ℕ → Option (List Question)
-all_questions (sign1 m) aad = option_map (λ covered. sign1_question m covered ∷ []) (sign1_covered m aad)
+all_questions (sign1 m) aad =
+    option_map (λ covered. sign1_question m covered ∷ []) (sign1_covered m aad)
 all_questions (mac0 m) aad = option_map (λ covered. mac0_question m covered ∷ []) (mac0_own m aad)
 all_questions (sign m) aad = sign_questions m aad m.signatures
 all_questions (mac m) aad = option_map (λ covered. mac_question m covered ∷ []) (mac_own m aad)

@@ -2,9 +2,12 @@
 ghost use Rattle.std.specs.Prelude.{◌≡◌, [], Some, None};
 ghost use Rattle.coset_headers.specs.View.{header_view, protected_view};
 ghost use Rattle.cose_gate_core.specs.Lent.{signer_of};
+ghost use Rattle.cose_gate_core.specs.Questions.{number_of};
 
 use coset_headers::{Header, ProtectedHeader};
-use coset_maced::CoseRecipient;
+use coset_labels::TaggedCborSerializable;
+use coset_maced::{CoseMac, CoseMac0, CoseRecipient};
+use coset_signed::{CoseSign, CoseSign1};
 
 /// Which kind of message it is (RFC 9052, section 2).
 #[derive(Debug, Clone, Copy, PartialEq, Eq)]
@@ -17,6 +20,20 @@ pub enum Kind {
     Sign,
     /// A COSE_Mac, tag 97.
     Mac,
+}
+
+impl Kind {
+    /// The tag of such a message.
+    pub fn tag(self) -> u64
+        ensures { result ≡ number_of self }
+    {
+        match self {
+            Kind::Sign1 => CoseSign1::TAG,
+            Kind::Mac0 => CoseMac0::TAG,
+            Kind::Sign => CoseSign::TAG,
+            Kind::Mac => CoseMac::TAG,
+        }
+    }
 }
 
 /// What a question is about, lent for the question.

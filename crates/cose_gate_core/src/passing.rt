@@ -228,7 +228,7 @@ pub fn pass<W: Write, J: Judge>(
     ensures kept { W.handle out.new ≡ W.handle out.old }
     ensures failed { W.failed out.new ≡ W.failed out.old + item_failures result }
 {
-    let Value::Tag(number, content) = value else {
+    let Ok((number, content)) = value.into_tag() else {
         return Ok(Verdict::Refused(Refusal::NotTagged));
     };
     let content = Box::into_inner(content);

@@ -1,0 +1,5 @@
+use Rattle.coset_maced.specs.View.{mac0_view}
+use Rattle.cose_gate_core.proofs.mac0.CoseMac0Message.is_as_written.Goals as goal
+
+pub returns : goal.returns
+returns c = λ limits m has. c.is_as_written.ensures limits.nesting limits.layers (mac0_view m) has
