@@ -1,5 +1,5 @@
 -- The entries of a key one after another, and the fields that they give.
-use Rattle.std.proofs.Common.{◌≡◌, pos, List, [], ◌∷◌, ◌++◌, true, false, Option, Some, refl, sym, ap, subst, ◌∙◌}
+use Rattle.std.proofs.Common.{◌≡◌, pos, List, [], ◌∷◌, ◌++◌, false, Option, Some, refl, sym, ap, subst, ◌∙◌}
 use Rattle.ciborium_value.specs.Tree.{Tree}
 use Rattle.coset_labels.specs.Entries.{IsIn}
 use Rattle.coset_labels.specs.Facts.Entries.{NoneOfFive, none_of_five, others_own, others_more, distinct_snoc, kept, made}

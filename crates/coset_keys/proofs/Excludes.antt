@@ -1,21 +1,21 @@
 -- A value with a fault is no key.
-use Rattle.std.proofs.Common.{◌≡◌, ◌≢◌, ℕ, ℤ, inl, inr, ⊎_elim, List, [], ◌∷◌, ◌++◌, Bool, true, false, cond, Option, Some, None, option_map, option_and_then, refl, sym, ap, subst, ◌∙◌}
+use Rattle.std.proofs.Common.{◌≡◌, ◌≢◌, ℕ, ⊎_elim, List, [], ◌∷◌, ◌++◌, true, false, Option, Some, None, option_map, sym, ap, subst, ◌∙◌}
 use Rattle.std.specs.List.{Contains, IsDistinct, AllByRecursion}
 use Rattle.std.specs.Ordering.{eq_by_cmp}
 use Rattle.std.proofs.lemmas.Map.Keys.{IsDistinct-head, IsDistinct-tail}
 use Rattle.cose_iana.specs.Algorithms.{is_algorithm}
 use Rattle.cose_iana.specs.Keys.{key_types, key_operations}
 use Rattle.cose_iana.specs.Registry.{is_private_use}
-use Rattle.ciborium_value.specs.Tree.{Tree, integer, bytes, text, array, map as map_tree, tag, simple, float, no_trees, one_more}
-use Rattle.ciborium_value.specs.View.{trees, pairs}
+use Rattle.ciborium_value.specs.Tree.{Tree, array, map as map_tree, no_trees, one_more}
+use Rattle.ciborium_value.specs.View.{trees}
 use Rattle.coset_labels.specs.Entries.{Distinct, IsField}
 use Rattle.coset_labels.specs.Facts.Entries.{label_only}
 use Rattle.coset_labels.specs.Facts.Wrong.{Splits, splits, again_not, no_label, no_named, no_registered, no_string_there}
 use Rattle.coset_labels.specs.Facts.Wrong as wrong
 use Rattle.coset_labels.specs.Faults.{CoseFault}
-use Rattle.coset_labels.specs.Fields.{LabelFields, number, Named, private_use, assigned}
-use Rattle.coset_labels.specs.Kinds.{is_map, is_array, some_bytes, WrongBytes}
-use Rattle.coset_labels.specs.Labels.{label_of, named_of, registered_of, WrongLabel, WrongNamed, WrongRegistered}
+use Rattle.coset_labels.specs.Fields.{LabelFields, Named}
+use Rattle.coset_labels.specs.Kinds.{is_map, is_array, some_bytes}
+use Rattle.coset_labels.specs.Labels.{label_of}
 use Rattle.coset_labels.specs.Orders.{named_cmp, names_same}
 use Rattle.coset_headers.specs.Headers.{is_at, alg_of, entries, at}
 use Rattle.coset_keys.specs.Fields.{KeyFields, reserved}

@@ -1,5 +1,5 @@
 -- The fields of a key that was read.
-use Rattle.std.proofs.Common.{◌≡◌, ◌≢◌, ℤ, inl, inr, ⊎_elim, List, [], ◌∷◌, Bool, true, false, cond, Option, Some, None, option_map, option_and_then, refl, sym, ap, subst, ◌∙◌}
+use Rattle.std.proofs.Common.{◌≡◌, ◌≢◌, ℤ, ⊎_elim, List, [], ◌∷◌, Bool, true, false, cond, Option, Some, None, option_map, refl, sym, ap, subst, ◌∙◌}
 use Rattle.std.specs.List.{Contains}
 use Rattle.std.specs.List.Sorted.{IsStrictlySortedBy}
 use Rattle.cose_iana.specs.Algorithms.{is_algorithm}
@@ -113,7 +113,7 @@ ops_rise (Some t) ns a = a.rises.ordered
 labels_good : (ps : Pairs) (es : List (LabelFields × Tree)) → entries ps ≡ Some es → (e : LabelFields × Tree) → Contains es e → label_of (label_tree e.0) ≡ Some e.0
 labels_good no_pairs es q e c = let h : Some [] ≡ Some es = q in let s : es ≡ [] = cc in absurd (contains_none e (subst (λ z. Contains z e) s c))
 labels_good (pair_more l v ps) es q e c =
-    let w = first_of (λ m. (m, v)) (label_of l) (entries ps) v es q in
+    let w = first_of (λ m. (m, v)) (label_of l) (entries ps) es q in
     ⊎_elim
     (λ r. let is : label_of l ≡ Some e.0 = w.is ∙ ap (λ z. Some z.0) r in ap label_of (label_back l e.0 is) ∙ is)
     (λ d. labels_good ps w.rest w.others e d)

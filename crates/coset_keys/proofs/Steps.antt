@@ -1,5 +1,5 @@
 -- What one step of the reader shows, over plain variables.
-use Rattle.std.proofs.Common.{◌≡◌, ◌≢◌, pos, inr, List, [], ◌∷◌, ◌++◌, map, true, false, Option, Some, None, option_map, option_and_then, refl, sym, ap, subst, ◌∙◌}
+use Rattle.std.proofs.Common.{◌≡◌, ◌≢◌, pos, inr, List, [], ◌∷◌, ◌++◌, map, true, false, Some, refl, sym, ap, subst, ◌∙◌}
 use Rattle.std.specs.List.{list_any}
 use Rattle.std.specs.List.Sorted.{IsStrictlySortedBy}
 use Rattle.std.specs.BTreeSet.{insert_key}
