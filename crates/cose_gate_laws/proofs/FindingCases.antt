@@ -46,7 +46,7 @@ module _ (l : Limits) where
   -- a case of messages of one kind, made of their fields
   of_kind : {A : Type 0} (k : Kind) (u : Tree) (make : A → MessageFields) (Has : A → Type 0) → ((x : A) → Has x → (kind_of (make x) ≡ k) × HasMessage l u (make x))
       → ((x : A) × Has x) ⊎ ((f : CoseFault) × WrongMessage l k u f) → MessageCase k u
-  of_kind k u make Has has (inl (x, h)) = inl (make x, has x h)
+  of_kind k u make Has has (inl (x, h)) = let is = has x h in inl (make x, is.0, is.1)
   of_kind k u make Has has (inr (f, w)) = inr (f, w)
 
   message_case : (k : Kind) (u : Tree) → Low u → MessageCase k u

@@ -201,7 +201,7 @@ module _ (n k : ℕ) where
     where
       go : ((ss : Signatures) × HasSignatures n ts ss k) ⊎ NoSignatureIn n w (λ u j m low'. header_case n u j low') k ts → SignaturesCase (array ts)
       go (inl (ss, x)) = inl (signature_list ss, (ts, refl, subst (λ z. HasSignatures n ts z k) (listed ss) x))
-      go (inr x) = inr (unexpected, in_signature_list ts unexpected refl (record { before = x.front; after = x.after; item = x.item; are = x.are; wrong = whatever x.fault x.wrong }))
+      go (inr x) = inr (unexpected, in_signature_list ts unexpected refl (record { before = x.front; after = x.after; tree = x.item; are = x.are; wrong = whatever x.fault x.wrong }))
 
   in_order : (ts : Trees) → LowAll ts → SignaturesCase (array ts)
   in_order ts low = in_order_by ts low (suc (weight_all ts)) (omega arith)
