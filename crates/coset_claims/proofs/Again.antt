@@ -5,11 +5,12 @@ use Rattle.cose_iana.specs.Claims.{cwt_claim_names}
 use Rattle.cose_iana.specs.Registry.{is_private_use}
 use Rattle.ciborium_value.specs.Tree.{Tree, integer, bytes, text, array, map as map_tree, tag, simple, float, Pairs, no_pairs, pair_more}
 use Rattle.ciborium_value.specs.View.{pairs}
+use Rattle.coset_labels.specs.Entries.{IsIn, Distinct}
 use Rattle.coset_labels.specs.Facts.Entries.{kept, distinct_others}
 use Rattle.coset_labels.specs.Fields.{Named, private_use, assigned, named}
 use Rattle.coset_labels.specs.Labels.{is_i64, named_tree}
 use Rattle.coset_claims.specs.Fields.{TimeFields, whole_seconds, fractional_seconds, ClaimsFields}
-use Rattle.coset_claims.specs.Claims.{is_at, is_core, name_of, text_of, time_of, bytes_of, entries, at, IsIn, Distinct, others, IsField, IsClaims, HasClaims}
+use Rattle.coset_claims.specs.Claims.{is_at, is_core, name_of, text_of, time_of, bytes_of, entries, at, others, IsField, IsClaims, HasClaims}
 use Rattle.coset_claims.specs.Written.{time_tree, field_entry, written_entries, entry_tree, claims_tree}
 use Rattle.coset_claims.proofs.Entered.{is_at_is, no_core}
 

@@ -1,17 +1,13 @@
 -- The entries of claims one after another, and the fields that they give.
-use Rattle.std.proofs.Common.{◌≡◌, ℕ, pos, List, [], ◌∷◌, ◌++◌, true, false, Option, Some, None, option_map, refl, sym, ap, subst, ◌∙◌}
+use Rattle.std.proofs.Common.{◌≡◌, ℕ, pos, List, [], ◌∷◌, ◌++◌, true, false, Some, None, option_map, refl, sym, ap, subst, ◌∙◌}
 use Rattle.ciborium_value.specs.Tree.{Tree}
-use Rattle.ciborium_value.specs.View.{pairs}
+use Rattle.coset_labels.specs.Entries.{IsIn}
 use Rattle.coset_labels.specs.Facts.Entries.{is_name_is, name_only, NoneOfSeven, none_of_seven, kept, made}
 use Rattle.coset_labels.specs.Facts.Entries as facts
 use Rattle.coset_labels.specs.Fields.{Named, assigned}
 use Rattle.coset_claims.specs.Fields.{ClaimsFields, no_claims}
-use Rattle.coset_claims.specs.Claims.{is_at, is_core, name_of, entries, at, IsIn, others, IsClaims}
+use Rattle.coset_claims.specs.Claims.{is_at, is_core, at, others, IsClaims}
 use Rattle.coset_claims.specs.Steps.{Fills, fills_issuer, fills_subject, fills_audience, fills_expiration_time, fills_not_before, fills_issued_at, fills_cwt_id, fills_rest}
-
-pub entries_snoc : (bs : List (Tree × Tree)) (es : List (Named × Tree)) (l v : Tree) (m : Named) → entries (pairs bs) ≡ Some es → name_of l ≡ Some m
-    → entries (pairs (bs ++ (l, v) ∷ [])) ≡ Some (es ++ (m, v) ∷ [])
-entries_snoc = facts.entries_snoc name_of
 
 pub is_at_is : (n : ℕ) (m : Named) → is_at n m ≡ true → m ≡ assigned (pos n)
 is_at_is = is_name_is

@@ -1,18 +1,17 @@
 -- A value with a fault has no claims.
-use Rattle.std.proofs.Common.{◌≡◌, ℕ, ℤ, pos, inl, inr, List, [], ◌∷◌, ◌++◌, Bool, true, false, cond, Option, Some, None, option_map, option_and_then, refl, sym, ap, subst, ◌∙◌}
+use Rattle.std.proofs.Common.{◌≡◌, ℕ, ℤ, pos, List, Bool, true, false, cond, Option, Some, None, option_map, refl, sym, ap, ◌∙◌}
 use Rattle.cose_iana.specs.Registry.{is_private_use}
 use Rattle.ciborium_value.specs.Tree.{Tree, integer, bytes, text, array, map as map_tree, tag, simple, float, is_bytes}
-use Rattle.ciborium_value.specs.View.{pairs}
-use Rattle.coset_labels.specs.Fields.{Named, private_use, assigned}
-use Rattle.coset_labels.specs.Faults.{CoseFault}
-use Rattle.coset_labels.specs.Kinds.{is_map, is_text}
-use Rattle.coset_labels.specs.Labels.{named_of, WrongNamed}
-use Rattle.coset_claims.specs.Fields.{TimeFields, whole_seconds, ClaimsFields}
-use Rattle.coset_claims.specs.Claims.{is_at, name_of, text_of, time_of, bytes_of, entries, at, IsIn, Distinct, IsField, IsClaims, HasClaims}
-use Rattle.coset_claims.specs.Wrong.{WrongTime, WrongField, wrong_issuer, wrong_subject, wrong_audience, wrong_expiration_time, wrong_not_before, wrong_issued_at, wrong_cwt_id, WrongEntry, bad_name, name_again, bad_field, WrongClaims, no_map, at_entry}
+use Rattle.coset_labels.specs.Entries.{Distinct}
 use Rattle.coset_labels.specs.Facts.Entries.{name_only}
 use Rattle.coset_labels.specs.Facts.Wrong.{Splits, splits, again_not, no_named}
 use Rattle.coset_labels.specs.Facts.Wrong as wrong
+use Rattle.coset_labels.specs.Fields.{Named, assigned}
+use Rattle.coset_labels.specs.Faults.{CoseFault}
+use Rattle.coset_labels.specs.Kinds.{is_map, is_text}
+use Rattle.coset_claims.specs.Fields.{TimeFields, whole_seconds, ClaimsFields}
+use Rattle.coset_claims.specs.Claims.{is_at, name_of, text_of, time_of, bytes_of, entries, at, IsField, IsClaims, HasClaims}
+use Rattle.coset_claims.specs.Wrong.{WrongTime, WrongField, wrong_issuer, wrong_subject, wrong_audience, wrong_expiration_time, wrong_not_before, wrong_issued_at, wrong_cwt_id, WrongEntry, bad_name, name_again, bad_field, WrongClaims, no_map, at_entry}
 
 -- ---- values of single fields that have a fault
 no_text : (v : Tree) → is_text v ≡ false → text_of v ≡ None
@@ -69,7 +68,7 @@ module _ (es all : List (Named × Tree)) (l v : Tree) (s : Splits name_of l v es
 
 pub claims_not : (t : Tree) (e : CoseFault) (c : ClaimsFields) → WrongClaims t e → HasClaims t c → ⊥
 claims_not t e c (no_map _ k) (ps, es, q, r, d, a) = let h : is_map t ≡ true = ap is_map q in let x : true ≡ false = sym h ∙ k in cc
-claims_not t e c (at_entry before after l v fs _ r w) (ps, es, q, x, d, a) =
-    let maps : map_tree (pairs (before ++ (l, v) ∷ after)) ≡ map_tree ps = q in
-    let same : ps ≡ pairs (before ++ (l, v) ∷ after) = cc in
-    entry_not fs es l v (splits name_of before after l v fs es r (ap entries (sym same) ∙ x)) d e c w a
+claims_not t e c (at_entry qs _ w) (ps, es, q, x, d, a) =
+    let maps : map_tree qs ≡ map_tree ps = q in
+    let same : qs ≡ ps = cc in
+    entry_not w.es es w.key w.value (splits name_of w.before w.after w.key w.value w.es es w.read_before (ap entries (sym w.are ∙ same) ∙ x)) d e c w.wrong a

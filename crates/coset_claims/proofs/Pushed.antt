@@ -1,6 +1,5 @@
 -- Entries that are appended to a map.
-use Rattle.std.proofs.Common.{◌≡◌, Vec, Global, List, [], ◌∷◌, ◌++◌, map, Some, sym, ap, ◌∙◌, append_assoc}
-use Rattle.std.proofs.lemmas.List.{map-append}
+use Rattle.std.proofs.Common.{◌≡◌, Vec, Global, List, [], ◌∷◌, ◌++◌, map, Some, ap, ◌∙◌}
 use Rattle.cose_iana.specs.declared.claims.CwtClaimName.{CwtClaimName}
 use Rattle.ciborium_value.specs.Tree.{Tree, bytes, text, map as map_tree}
 use Rattle.ciborium_value.specs.View.{pairs, view, view_pair}
@@ -9,7 +8,6 @@ use Rattle.ciborium_value.specs.declared.value.Value.TheVariants as code
 use Rattle.ciborium_value.proofs.Views.{view_map}
 use Rattle.coset_labels.specs.Facts.Pushed.{back_one}
 use Rattle.coset_labels.specs.Facts.Pushed as pushed
-use Rattle.coset_labels.specs.Fields.{Named}
 use Rattle.coset_labels.specs.Labels.{named_tree}
 use Rattle.coset_labels.specs.declared.registered.RegisteredLabelWithPrivate.{RegisteredLabelWithPrivate}
 use Rattle.coset_claims.specs.Fields.{ClaimsFields}

@@ -1,29 +1,26 @@
 -- What one step of the reader shows, over plain variables.
-use Rattle.std.proofs.Common.{◌≡◌, inl, inr, List, [], ◌∷◌, ◌++◌, map, false, Some, sym, ap, subst, ◌∙◌}
-use Rattle.std.proofs.lemmas.List.{map-append}
+use Rattle.std.proofs.Common.{◌≡◌, List, [], ◌∷◌, ◌++◌, false, Some, sym, subst}
 use Rattle.ciborium_value.specs.Tree.{Tree, map as map_tree, Pairs}
-use Rattle.ciborium_value.specs.View.{pairs, view, view_pair, view_pairs}
+use Rattle.ciborium_value.specs.View.{view, view_pairs}
 use Rattle.ciborium_value.specs.declared.value.Value.{Value}
+use Rattle.coset_labels.specs.Entries.{IsIn}
+use Rattle.coset_labels.specs.Facts.Entries.{distinct_snoc}
+use Rattle.coset_labels.specs.Facts.Walks.{at_fault, passed_on, entry_read}
 use Rattle.coset_labels.specs.Fields.{Named}
 use Rattle.coset_labels.specs.Faults.{CoseFault, OrMemory, fault_of, unexpected}
 use Rattle.coset_labels.specs.Kinds.{is_map}
 use Rattle.coset_labels.specs.declared.error.CoseError.{CoseError}
 use Rattle.coset_labels.specs.declared.seen.Seen.{Seen}
-use Rattle.coset_claims.specs.Claims.{name_of, entries, IsIn, IsClaims, HasClaims}
+use Rattle.coset_claims.specs.Claims.{name_of, entries, IsClaims, HasClaims}
 use Rattle.coset_claims.specs.Fields.{ClaimsFields, no_claims}
-use Rattle.coset_claims.specs.Steps.{Fills, ClaimName, Sees, KnownIn, Added, HasEntries, WrongEntries}
+use Rattle.coset_claims.specs.Steps.{Fills, ClaimName, Sees, KnownIn, Added, HasEntries}
 use Rattle.coset_claims.specs.View.{claims_view}
-use Rattle.coset_claims.specs.Wrong.{WrongName, WrongField, WrongEntry, bad_name, bad_field, WrongClaims, no_map, at_entry}
+use Rattle.coset_claims.specs.Wrong.{WrongName, WrongField, WrongEntry, bad_name, bad_field, WrongEntries, WrongClaims, no_map, at_entry}
 use Rattle.coset_claims.specs.declared.cwt.ClaimsSet.{ClaimsSet}
-use Rattle.coset_labels.specs.Facts.Entries.{distinct_snoc}
-use Rattle.coset_claims.proofs.Entered.{entries_snoc, filled, none_set}
-
-passed_on : (P Q : CoseFault → Type 0) (e : CoseError) → (P (fault_of e) → Q (fault_of e)) → OrMemory P e → OrMemory Q e
-passed_on P Q e f (inl m) = inl m
-passed_on P Q e f (inr p) = inr (f p)
+use Rattle.coset_claims.proofs.Entered.{filled, none_set}
 
 pub claims_kind : (t : Tree) (e : CoseError) → (fault_of e ≡ unexpected) × (is_map t ≡ false) → OrMemory (WrongClaims t) e
-claims_kind t e p = inr (subst (WrongClaims t) (sym p.0) (no_map t p.1))
+claims_kind t e p = at_fault (WrongClaims t) unexpected e p.0 (no_map t p.1)
 
 -- ---- an entry
 pub entry_name : (es : List (Named × Tree)) (l v : Tree) (e : CoseError) → OrMemory (WrongName l) e → OrMemory (WrongEntry es l v) e
@@ -48,34 +45,18 @@ pub field_fault : (W : CoseFault → Type 0) (l m : Named) (v : Tree) (e : CoseE
 field_fault W l m v e f q w = passed_on W (WrongField v l) e (λ x. subst (λ z. WrongField v z (fault_of e)) (sym q) (f (fault_of e) x)) w
 
 pub field_kind : (l m : Named) (v : Tree) (e : CoseError) → WrongField v m unexpected → l ≡ m → fault_of e ≡ unexpected → OrMemory (WrongField v l) e
-field_kind l m v e w q r = inr (subst (λ z. WrongField v z (fault_of e)) (sym q) (subst (WrongField v m) (sym r) w))
+field_kind l m v e w q r = at_fault (WrongField v l) unexpected e r (subst (λ z. WrongField v z unexpected) (sym q) w)
 
 -- ---- all entries
 pub claims_inside : (t : Tree) (ps : Pairs) (e : CoseError) → t ≡ map_tree ps → OrMemory (WrongEntries ps) e → OrMemory (WrongClaims t) e
-claims_inside t ps e q w = passed_on (WrongEntries ps) (WrongClaims t) e
-    (λ x. subst (λ z. WrongClaims z (fault_of e)) (ap map_tree (sym x.are) ∙ sym q) (at_entry x.before x.after x.key x.value x.es (fault_of e) x.read x.wrong)) w
+claims_inside t ps e q w = passed_on (WrongEntries ps) (WrongClaims t) e (λ x. subst (λ z. WrongClaims z (fault_of e)) (sym q) (at_entry ps (fault_of e) x)) w
 
 pub claims_have : (t : Tree) (ps : Pairs) (c : ClaimsFields) → t ≡ map_tree ps → HasEntries ps c → HasClaims t c
 claims_have t ps c q w = (ps, w.es, q, w.entries_are, w.known.distinct, w.known.claims)
 
-pub entries_at_fault : (all xs ys : List (Value × Value)) (x : Value × Value) (es : List (Named × Tree)) (e : CoseError)
-    → all ≡ xs ++ x ∷ ys → entries (view_pairs xs) ≡ Some es → OrMemory (WrongEntry es (view x.0) (view x.1)) e → OrMemory (WrongEntries (view_pairs all)) e
-entries_at_fault all xs ys x es e q r w = passed_on (WrongEntry es (view x.0) (view x.1)) (WrongEntries (view_pairs all)) e
-    (λ z. record {
-      before = map view_pair xs;
-      after = map view_pair ys;
-      key = view x.0;
-      value = view x.1;
-      es = es;
-      are = ap view_pairs q ∙ ap pairs (map-append view_pair xs (x ∷ ys));
-      read = r;
-      wrong = z;
-    }) w
-
 pub entries_pushed : (xs : List (Value × Value)) (x : Value × Value) (es : List (Named × Tree)) (s : Seen ClaimName) (c : ClaimsSet)
     → entries (view_pairs xs) ≡ Some es → Added es (view x.0) (view x.1) s c → (fs : List (Named × Tree)) × (entries (view_pairs (xs ++ x ∷ [])) ≡ Some fs) × KnownIn fs s c
-entries_pushed xs x es s c r a =
-    (es ++ (a.name, view x.1) ∷ [], ap entries (ap pairs (map-append view_pair xs (x ∷ []))) ∙ entries_snoc (map view_pair xs) es (view x.0) (view x.1) a.name r a.is, a.known)
+entries_pushed xs x es s c r a = (es ++ (a.name, view x.1) ∷ [], entry_read name_of xs x es a.name r a.is, a.known)
 
 pub none_known : (s : Seen ClaimName) (c : ClaimsSet) → Sees s [] → claims_view c ≡ no_claims → KnownIn [] s c
 none_known s c w e = record { sees = w; known = record { distinct = tt; claims = subst (IsClaims []) (sym e) none_set } }

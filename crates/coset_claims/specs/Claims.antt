@@ -3,7 +3,7 @@ use Rattle.std.specs.Prelude.{◌≡◌, ℕ, List, Bool, ◌||◌, if◌then◌
 use Rattle.cose_iana.specs.Claims.{cwt_claim_names}
 use Rattle.cose_iana.specs.Registry.{is_private_use}
 use Rattle.ciborium_value.specs.Tree.{Tree, integer, bytes, text, map as map_tree, float, Pairs}
-use Rattle.coset_labels.specs.Entries.{is_name}
+use Rattle.coset_labels.specs.Entries.{is_name, Distinct}
 use Rattle.coset_labels.specs.Entries as map_entries
 use Rattle.coset_labels.specs.Fields.{Named}
 use Rattle.coset_labels.specs.Labels.{is_i64, named_of}
@@ -43,13 +43,6 @@ entries = map_entries.entries name_of
 -- the value of the claim n
 abbrev pub at : ℕ → List (Named × Tree) → Option Tree
 at n = map_entries.at (is_at n)
-
-abbrev pub IsIn : Named → List (Named × Tree) → Type 0
-IsIn = map_entries.IsIn
-
--- no name stands twice
-abbrev pub Distinct : List (Named × Tree) → Type 0
-Distinct = map_entries.Distinct
 
 -- the claims without a field of their own, in order
 abbrev pub others : List (Named × Tree) → List (Named × Tree)

@@ -3,17 +3,16 @@ use Rattle.std.specs.Prelude.{◌≡◌, ℕ, pos, List, [], ◌∷◌, ◌++◌
 use Rattle.std.specs.Ordering.{on}
 use Rattle.cose_iana.specs.declared.claims.CwtClaimName.{CwtClaimName}
 use Rattle.ciborium_value.specs.Tree.{Tree, Pairs}
-use Rattle.ciborium_value.specs.View.{pairs}
-use Rattle.coset_labels.specs.Faults.{CoseFault}
+use Rattle.coset_labels.specs.Entries.{Distinct}
 use Rattle.coset_labels.specs.Fields.{Named, assigned}
 use Rattle.coset_labels.specs.Orders.{named_cmp}
 use Rattle.coset_labels.specs.Seen as keys
+use Rattle.coset_labels.specs.Walks as walks
 use Rattle.coset_labels.specs.declared.registered.RegisteredLabelWithPrivate.{RegisteredLabelWithPrivate}
 use Rattle.coset_labels.specs.declared.seen.Seen.{Seen}
-use Rattle.coset_claims.specs.Claims.{is_core, text_of, time_of, bytes_of, name_of, entries, Distinct, IsClaims}
+use Rattle.coset_claims.specs.Claims.{is_core, text_of, time_of, bytes_of, name_of, IsClaims}
 use Rattle.coset_claims.specs.Fields.{TimeFields, ClaimsFields}
 use Rattle.coset_claims.specs.View.{name_view, claims_view}
-use Rattle.coset_claims.specs.Wrong.{WrongEntry}
 use Rattle.coset_claims.specs.declared.cwt.ClaimsSet.{ClaimsSet}
 use Rattle.coset_claims.specs.declared.reader.Place.{Place}
 use Rattle.coset_claims.specs.declared.reader.Place.TheVariants as place
@@ -65,18 +64,5 @@ pub record Added (es : List (Named × Tree)) (l v : Tree) (s : Seen ClaimName) (
   pub known : KnownIn (es ++ (name, v) ∷ []) s c
 
 -- the fields of all entries of a map
-pub record HasEntries (ps : Pairs) (c : ClaimsFields) : Type 0 where
-  pub es : List (Named × Tree)
-  pub entries_are : entries ps ≡ Some es
-  pub known : Known es c
-
--- one of the entries has a fault, and those before it have names
-pub record WrongEntries (ps : Pairs) (e : CoseFault) : Type 0 where
-  pub before : List (Tree × Tree)
-  pub after : List (Tree × Tree)
-  pub key : Tree
-  pub value : Tree
-  pub es : List (Named × Tree)
-  pub are : ps ≡ pairs (before ++ (key, value) ∷ after)
-  pub read : entries (pairs before) ≡ Some es
-  pub wrong : WrongEntry es key value e
+abbrev pub HasEntries : Pairs → ClaimsFields → Type 0
+HasEntries ps c = walks.HasEntries name_of (λ es. Known es c) ps

@@ -3,10 +3,10 @@ use Rattle.std.specs.Prelude.{map, option_map, string_bytes}
 use Rattle.cose_iana.specs.Claims.{cwt_claim_names}
 use Rattle.cose_iana.specs.declared.claims.CwtClaimName.{CwtClaimName}
 use Rattle.ciborium_value.specs.Tree.{Tree}
-use Rattle.ciborium_value.specs.View.{view}
 use Rattle.ciborium_value.specs.declared.value.Value.{Value}
 use Rattle.coset_labels.specs.Fields.{Named}
 use Rattle.coset_labels.specs.View.{named_view}
+use Rattle.coset_labels.specs.View as names
 use Rattle.coset_labels.specs.declared.registered.RegisteredLabelWithPrivate.{RegisteredLabelWithPrivate}
 use Rattle.coset_claims.specs.Fields.{TimeFields, whole_seconds, fractional_seconds, ClaimsFields}
 use Rattle.coset_claims.specs.declared.cwt.ClaimsSet.{ClaimsSet}
@@ -21,7 +21,7 @@ abbrev pub name_view : RegisteredLabelWithPrivate CwtClaimName → Named
 name_view = named_view cwt_claim_names.number
 
 abbrev pub entry_view : RegisteredLabelWithPrivate CwtClaimName × Value → Named × Tree
-entry_view e = (name_view e.0, view e.1)
+entry_view = names.entry_view name_view
 
 abbrev pub claims_view : ClaimsSet → ClaimsFields
 claims_view c = record {

@@ -1,14 +1,15 @@
 -- Which fault a value has as a time or as claims (RFC 8392, sections 2, 3 and 3.1). A value may have several.
-use Rattle.std.specs.Prelude.{◌≡◌, pos, List, ◌∷◌, ◌++◌, false, Some}
+use Rattle.std.specs.Prelude.{◌≡◌, pos, List, false, Some}
 use Rattle.cose_iana.specs.Claims.{cwt_claim_names}
 use Rattle.cose_iana.specs.Registry.{is_private_use}
-use Rattle.ciborium_value.specs.Tree.{Tree, integer, float, map as map_tree, is_bytes}
-use Rattle.ciborium_value.specs.View.{pairs}
+use Rattle.ciborium_value.specs.Tree.{Tree, integer, float, map as map_tree, Pairs, is_bytes}
+use Rattle.coset_labels.specs.Entries.{IsIn}
 use Rattle.coset_labels.specs.Faults.{CoseFault, duplicate_key, out_of_range, unexpected}
 use Rattle.coset_labels.specs.Fields.{Named, assigned}
 use Rattle.coset_labels.specs.Kinds.{is_map, is_text}
 use Rattle.coset_labels.specs.Labels.{is_i64, WrongNamed}
-use Rattle.coset_claims.specs.Claims.{name_of, entries, IsIn}
+use Rattle.coset_labels.specs.Walks as walks
+use Rattle.coset_claims.specs.Claims.{name_of}
 
 -- an integer outside 64 bits, or neither integer nor float
 abbrev pub WrongTime : Tree → CoseFault → Type 0
@@ -35,7 +36,10 @@ pub data WrongEntry (es : List (Named × Tree)) (l v : Tree) : CoseFault → Typ
   name_again : (m : Named) → name_of l ≡ Some m → IsIn m es → WrongEntry es l v duplicate_key
   bad_field : (m : Named) (e : CoseFault) → name_of l ≡ Some m → WrongField v m e → WrongEntry es l v e
 
+-- one of the entries has a fault, and those before it have names
+abbrev pub WrongEntries : Pairs → CoseFault → Type 0
+WrongEntries = walks.WrongEntries name_of WrongEntry
+
 pub data WrongClaims : Tree → CoseFault → Type 0 where
   no_map : (t : Tree) → is_map t ≡ false → WrongClaims t unexpected
-  at_entry : (before after : List (Tree × Tree)) (l v : Tree) (es : List (Named × Tree)) (e : CoseFault)
-      → entries (pairs before) ≡ Some es → WrongEntry es l v e → WrongClaims (map_tree (pairs (before ++ (l, v) ∷ after))) e
+  at_entry : (ps : Pairs) (e : CoseFault) → WrongEntries ps e → WrongClaims (map_tree ps) e

@@ -104,7 +104,9 @@ impl ClaimsSetBuilder {
         value: Value,
     ) -> Result<ClaimsSetBuilder, CoseError>
         requires { is_core (assigned (cwt_claim_names.number name)) ≡ false }
-        ensures { MatchResult result (λ b. so_far b ≡ also (assigned (cwt_claim_names.number name), view value) (so_far self))
+        ensures { MatchResult result
+            (λ b. so_far b
+            ≡ also (assigned (cwt_claim_names.number name), view value) (so_far self))
             (λ e. e ≡ Memory) }
     {
         self.claims.rest.push((ClaimName::Assigned(name), value))?;
@@ -116,7 +118,9 @@ impl ClaimsSetBuilder {
     /// # Errors
     /// Only where memory is refused.
     pub fn text_claim(mut self, name: String, value: Value) -> Result<ClaimsSetBuilder, CoseError>
-        ensures { MatchResult result (λ b. so_far b ≡ also (named (string_bytes name), view value) (so_far self)) (λ e. e ≡ Memory) }
+        ensures { MatchResult result
+            (λ b. so_far b ≡ also (named (string_bytes name), view value) (so_far self))
+            (λ e. e ≡ Memory) }
     {
         self.claims.rest.push((ClaimName::Text(name), value))?;
         Ok(self)
@@ -128,7 +132,9 @@ impl ClaimsSetBuilder {
     /// Only where memory is refused.
     pub fn private_claim(mut self, id: i64, value: Value) -> Result<ClaimsSetBuilder, CoseError>
         requires { is_private_use id ≡ true }
-        ensures { MatchResult result (λ b. so_far b ≡ also (private_use id, view value) (so_far self)) (λ e. e ≡ Memory) }
+        ensures { MatchResult result
+            (λ b. so_far b ≡ also (private_use id, view value) (so_far self))
+            (λ e. e ≡ Memory) }
     {
         self.claims.rest.push((ClaimName::PrivateUse(id), value))?;
         Ok(self)

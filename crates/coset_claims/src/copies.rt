@@ -1,13 +1,14 @@
 //! Copies of times and claims.
-ghost use Rattle.std.specs.Prelude.{◌≡◌, IfOk, map, option_map, string_bytes};
-ghost use Rattle.coset_claims.specs.View.{claims_view, entry_view, time_view};
+ghost use Rattle.std.specs.Prelude.{◌≡◌, IfOk, option_map, string_bytes};
+ghost use Rattle.coset_claims.specs.View.{claims_view, time_view};
 
-use crate::cwt::{ClaimName, ClaimsSet, Timestamp};
-use ciborium_value::Value;
+use crate::cwt::{ClaimsSet, Timestamp};
+use coset_labels::{clone_bytes, clone_entries};
 use std::alloc::{AllocError, Global};
 
 fn clone_text(alloc: Global, text: &Option<String>) -> Result<Option<String>, AllocError>
-    ensures { IfOk result (λ copy. option_map string_bytes copy ≡ option_map string_bytes text.now) }
+    ensures { IfOk result
+        (λ copy. option_map string_bytes copy ≡ option_map string_bytes text.now) }
 {
     match text {
         Some(text) => Ok(Some(String::from_str(alloc, text.as_str())?)),
@@ -22,30 +23,6 @@ fn clone_time(alloc: Global, time: &Option<Timestamp>) -> Result<Option<Timestam
         Some(time) => Ok(Some(time.clone(alloc)?)),
         None => Ok(None),
     }
-}
-
-fn clone_bytes(alloc: Global, bytes: &Option<Vec<u8>>) -> Result<Option<Vec<u8>>, AllocError>
-    ensures { IfOk result (λ copy. option_map (λ v. v.items) copy ≡ option_map (λ v. v.items) bytes.now) }
-{
-    match bytes {
-        Some(bytes) => Ok(Some(bytes.as_slice().to_vec(alloc)?)),
-        None => Ok(None),
-    }
-}
-
-fn clone_rest(
-    alloc: Global,
-    rest: &[(ClaimName, Value)],
-) -> Result<Vec<(ClaimName, Value)>, AllocError>
-    ensures { IfOk result (λ copies. map entry_view copies.items ≡ map entry_view rest.now) }
-{
-    let mut copies = Vec::new(alloc);
-    for entry in rest {
-        let name = entry.0.clone(alloc)?;
-        let value = entry.1.clone(alloc)?;
-        copies.push((name, value))?;
-    }
-    Ok(copies)
 }
 
 impl Timestamp {
@@ -79,7 +56,7 @@ impl ClaimsSet {
             not_before: clone_time(alloc, &self.not_before)?,
             issued_at: clone_time(alloc, &self.issued_at)?,
             cwt_id: clone_bytes(alloc, &self.cwt_id)?,
-            rest: clone_rest(alloc, &self.rest)?,
+            rest: clone_entries(alloc, &self.rest)?,
         })
     }
 }

@@ -15,7 +15,8 @@ type Entries = Vec<(Value, Value)>;
 
 /// The map that stands for claims.
 pub(crate) fn write_claims(alloc: Global, claims: ClaimsSet) -> Result<Value, CoseError>
-    ensures { MatchResult result (λ v. view v ≡ claims_tree (claims_view claims)) (λ e. e ≡ Memory) }
+    ensures { MatchResult result (λ v. view v ≡ claims_tree (claims_view claims))
+        (λ e. e ≡ Memory) }
 {
     let mut entries = Vec::new(alloc);
     push_text(&mut entries, 1, claims.issuer)?;
@@ -31,7 +32,8 @@ pub(crate) fn write_claims(alloc: Global, claims: ClaimsSet) -> Result<Value, Co
 
 fn push_text(entries: &mut Entries, name: u64, content: Option<String>) -> Result<(), CoseError>
     ensures { MatchResult result (λ _. map view_pair entries.new.items
-        ≡ map view_pair entries.old.items ++ map entry_tree (field_entry text name (option_map string_bytes content)))
+        ≡ map view_pair entries.old.items
+        ++ map entry_tree (field_entry text name (option_map string_bytes content)))
         (λ e. e ≡ Memory) }
 {
     if let Some(content) = content {
@@ -47,7 +49,8 @@ fn push_time(
     time: Option<Timestamp>,
 ) -> Result<(), CoseError>
     ensures { MatchResult result (λ _. map view_pair entries.new.items
-        ≡ map view_pair entries.old.items ++ map entry_tree (field_entry time_tree name (option_map time_view time)))
+        ≡ map view_pair entries.old.items
+        ++ map entry_tree (field_entry time_tree name (option_map time_view time)))
         (λ e. e ≡ Memory) }
 {
     if let Some(time) = time {
@@ -59,7 +62,8 @@ fn push_time(
 
 fn push_bytes(entries: &mut Entries, name: u64, content: Option<Vec<u8>>) -> Result<(), CoseError>
     ensures { MatchResult result (λ _. map view_pair entries.new.items
-        ≡ map view_pair entries.old.items ++ map entry_tree (field_entry bytes name (option_map (λ v. v.items) content)))
+        ≡ map view_pair entries.old.items
+        ++ map entry_tree (field_entry bytes name (option_map (λ v. v.items) content)))
         (λ e. e ≡ Memory) }
 {
     if let Some(content) = content {

@@ -14,7 +14,7 @@ ghost use Rattle.coset_claims.specs.Wrong.{WrongClaims};
 use crate::cwt::{ClaimName, ClaimsSet, Timestamp};
 use ciborium_value::laws::value_fits;
 use ciborium_value::{Integer, Value};
-use coset_labels::laws::name_fits;
+use coset_labels::laws::{bytes_fit, name_fits};
 
 /// A value has one set of claims at most.
 pub fn one_claims_set()
@@ -33,12 +33,14 @@ pub fn claims_are_read_again()
 
 /// Times are equal where they say the same. Floats are the same where their widths and bits are.
 pub fn times_compare(a: &Timestamp, b: &Timestamp)
-    ensures { IsTrue (⟦<Timestamp as std::cmp::PartialEq>⟧.eq a.now b.now) ↔ (time_view a.now ≡ time_view b.now) }
+    ensures { IsTrue (⟦<Timestamp as std::cmp::PartialEq>⟧.eq a.now b.now)
+        ↔ (time_view a.now ≡ time_view b.now) }
 {}
 
 /// Claims are equal where they say the same, the others in the same order.
 pub fn claims_compare(a: &ClaimsSet, b: &ClaimsSet)
-    ensures { IsTrue (⟦<ClaimsSet as std::cmp::PartialEq>⟧.eq a.now b.now) ↔ (claims_view a.now ≡ claims_view b.now) }
+    ensures { IsTrue (⟦<ClaimsSet as std::cmp::PartialEq>⟧.eq a.now b.now)
+        ↔ (claims_view a.now ≡ claims_view b.now) }
 {}
 
 /// The number of a time, or its bits, lie in their range.
@@ -53,12 +55,6 @@ pub fn time_fits(time: &Timestamp)
 
 fn text_fits(content: &str)
     ensures { Fits (text content.now) }
-{
-    let _len = content.len();
-}
-
-fn bytes_fit(content: &[u8])
-    ensures { Fits (bytes content.now) }
 {
     let _len = content.len();
 }

@@ -5,9 +5,9 @@ ghost use Rattle.ciborium_value.specs.View.{view, view_pairs};
 ghost use Rattle.coset_labels.specs.Faults.{OrMemory};
 ghost use Rattle.coset_labels.specs.Fields.{Named, assigned};
 ghost use Rattle.coset_claims.specs.Claims.{HasClaims};
-ghost use Rattle.coset_claims.specs.Steps.{Names, Fills, KnownIn, Added, HasEntries, WrongEntries};
+ghost use Rattle.coset_claims.specs.Steps.{Names, Fills, KnownIn, Added, HasEntries};
 ghost use Rattle.coset_claims.specs.View.{claims_view, name_view};
-ghost use Rattle.coset_claims.specs.Wrong.{WrongClaims, WrongEntry, WrongField};
+ghost use Rattle.coset_claims.specs.Wrong.{WrongClaims, WrongEntries, WrongEntry, WrongField};
 
 use crate::cwt::{ClaimName, ClaimsSet, Timestamp};
 use ciborium_value::Value;
@@ -56,7 +56,8 @@ fn place_at(number: i64) -> Place
 
 /// Reads claims from their map.
 pub(crate) fn read_claims(alloc: Global, value: Value) -> Result<ClaimsSet, CoseError>
-    ensures { MatchResult result (λ c. HasClaims (view value) (claims_view c)) (λ e. OrMemory (WrongClaims (view value)) e) }
+    ensures { MatchResult result (λ c. HasClaims (view value) (claims_view c))
+        (λ e. OrMemory (WrongClaims (view value)) e) }
 {
     let entries = value.try_as_map()?;
     read_entries(alloc, entries)
@@ -101,7 +102,8 @@ fn fill(
     name: ClaimName,
     value: Value,
 ) -> Result<(), CoseError>
-    ensures { MatchResult result (λ _. Fills (name_view name) (view value) (claims_view claims.old) (claims_view claims.new))
+    ensures { MatchResult result
+        (λ _. Fills (name_view name) (view value) (claims_view claims.old) (claims_view claims.new))
         (λ e. OrMemory (WrongField (view value) (name_view name)) e) }
 {
     match place_of(&name) {

@@ -1,11 +1,11 @@
 -- Derived equality is that of what is said.
-use Rattle.std.proofs.Common.{◌≡◌, ℕ, List, [], ◌∷◌, map, Bool, true, false, Option, Some, None, option_map, refl, ap, Vec, Global}
-use Rattle.std.specs.Prelude.{IsTrue, ◌↔◌, ◌&&◌, nat_eq}
+use Rattle.std.proofs.Common.{◌≡◌, ℕ, List, map, true, false, Option, option_map, ap, Vec, Global}
+use Rattle.std.specs.Prelude.{IsTrue, ◌↔◌, nat_eq}
 use Rattle.std.specs.Cmp.{signed_Decides, unsigned_Decides}
 use Rattle.std.specs.Cmp.Lexicographic.{pointwise, bytes_decides}
 use Rattle.std.specs.Option.{option_eq}
 use Rattle.cose_iana.specs.Algorithms.{algorithm_number}
-use Rattle.coset_labels.specs.Orders.{names_same}
+use Rattle.coset_labels.specs.Facts.Equal.{both, options, lists, bytes_options, by_names}
 use Rattle.coset_labels.specs.View.{named_view}
 use Rattle.coset_headers.specs.Decided.{protected_decided}
 use Rattle.coset_headers.specs.View.{protected_view}
@@ -21,26 +21,8 @@ use Rattle.coset_kdf.specs.contracts.context.PartyInfoPartialEq.TheImpl as party
 use Rattle.coset_kdf.specs.contracts.context.SuppPubInfoPartialEq.TheImpl as public_equality
 use Rattle.coset_kdf.specs.contracts.context.CoseKdfContextPartialEq.TheImpl as context_equality
 
-both : {P Q : Type 0} (a b : Bool) → IsTrue a ↔ P → IsTrue b ↔ Q → IsTrue (a && b) ↔ (P × Q)
-both true b f g = (λ h. (f.0 refl, g.0 h), λ p. g.1 p.1)
-both false b f g = (λ h. let e : false ≡ true = h in cc, λ p. let e : false ≡ true = f.1 p.0 in cc)
-
-options : {A B : Type 0} (E : A → A → Bool) (f : A → B) → ((x y : A) → IsTrue (E x y) ↔ (f x ≡ f y)) → (x y : Option A) → IsTrue (option_eq E x y) ↔ (option_map f x ≡ option_map f y)
-options E f e None None = (λ h. refl, λ h. refl)
-options E f e None (Some y) = (λ h. let k : false ≡ true = h in cc, λ h. let k : None ≡ Some (f y) = h in cc)
-options E f e (Some x) None = (λ h. let k : false ≡ true = h in cc, λ h. let k : Some (f x) ≡ None = h in cc)
-options E f e (Some x) (Some y) = (λ h. ap Some ((e x y).0 h), λ h. let k : Some (f x) ≡ Some (f y) = h in let s : f x ≡ f y = cc in (e x y).1 s)
-
-lists : {A B : Type 0} (E : A → A → Bool) (f : A → B) → ((x y : A) → IsTrue (E x y) ↔ (f x ≡ f y)) → (xs ys : List A) → IsTrue (pointwise E xs ys) ↔ (map f xs ≡ map f ys)
-lists E f e [] [] = (λ h. refl, λ h. refl)
-lists E f e [] (y ∷ ys) = (λ h. let k : false ≡ true = h in cc, λ h. let k : [] ≡ f y ∷ map f ys = h in cc)
-lists E f e (x ∷ xs) [] = (λ h. let k : false ≡ true = h in cc, λ h. let k : f x ∷ map f xs ≡ [] = h in cc)
-lists E f e (x ∷ xs) (y ∷ ys) =
-    let w = both (E x y) (pointwise E xs ys) (e x y) (lists E f e xs ys) in
-    (λ h. let p = w.0 h in λ i. p.0 i ∷ p.1 i, λ h. let k : f x ∷ map f xs ≡ f y ∷ map f ys = h in let s : f x ≡ f y = cc in let t : map f xs ≡ map f ys = cc in w.1 (s, t))
-
 strings : (x y : Option (Vec ℕ Global)) → IsTrue (option_eq (λ a b. pointwise nat_eq a.items b.items) x y) ↔ (option_map (λ v. v.items) x ≡ option_map (λ v. v.items) y)
-strings x y = options (λ a b. pointwise nat_eq a.items b.items) (λ v. v.items) (λ a b. bytes_decides a.items b.items) x y
+strings = bytes_options (λ v. v.items)
 
 pub nonces : (x y : Nonce) → IsTrue (nonce_equality.eq-value.it x y) ↔ (nonce_view x ≡ nonce_view y)
 nonces (Bytes a) (Bytes b) = (λ h. ap nonce_bytes ((bytes_decides a.items b.items).0 h), λ h. let k : nonce_bytes a.items ≡ nonce_bytes b.items = h in let s : a.items ≡ b.items = cc in (bytes_decides a.items b.items).1 s)
@@ -69,8 +51,7 @@ privates xs ys = lists (λ a b. pointwise nat_eq a.items b.items) (λ v. v.items
 
 pub contexts : (a b : CoseKdfContext) → IsTrue (context_equality.eq-value.it a b) ↔ (context_view a ≡ context_view b)
 contexts a b =
-    let named = names_same (named_view algorithm_number a.algorithm_id) (named_view algorithm_number b.algorithm_id) in
-    let w = both _ _ named (both _ _ (parties a.party_u_info b.party_u_info) (both _ _ (parties a.party_v_info b.party_v_info)
+    let w = both _ _ (by_names (named_view algorithm_number) a.algorithm_id b.algorithm_id) (both _ _ (parties a.party_u_info b.party_u_info) (both _ _ (parties a.party_v_info b.party_v_info)
     (both _ _ (publics a.supp_pub_info b.supp_pub_info) (privates a.supp_priv_info.items b.supp_priv_info.items)))) in (
       λ h. let p = w.0 h in λ i. record {
         algorithm = p.0 i;

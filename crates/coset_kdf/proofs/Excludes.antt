@@ -6,30 +6,16 @@ use Rattle.cose_iana.specs.Algorithms.{is_algorithm}
 use Rattle.cose_iana.specs.Registry.{is_private_use}
 use Rattle.ciborium_value.specs.Tree.{Tree, integer, bytes, text, array, map as map_tree, tag, simple, float, no_trees, one_more, tree_count, is_bytes}
 use Rattle.ciborium_value.specs.View.{trees}
-use Rattle.coset_labels.specs.Fields.{Named, private_use, assigned}
+use Rattle.coset_labels.specs.Facts.Wrong.{no_named}
 use Rattle.coset_labels.specs.Faults.{CoseFault}
 use Rattle.coset_labels.specs.Kinds.{is_array}
-use Rattle.coset_labels.specs.Labels.{named_of, WrongNamed}
+use Rattle.coset_labels.specs.Labels.{named_of}
 use Rattle.coset_headers.specs.Headers.{HasProtected, list_of_three}
 use Rattle.coset_headers.proofs.Excludes.{prot_not}
 use Rattle.coset_kdf.specs.Contexts.{bytes_or_nil, nonce_of, HasParty, magnitude, length_of, maybe_bytes, HasPublic, four_and, HasContext}
 use Rattle.coset_kdf.specs.Fields.{NonceFields, nonce_integer, PartyFields, PublicFields, ContextFields}
 use Rattle.coset_kdf.specs.Wrong.{NoBytesOrNil, WrongNonce, WrongParty, no_array, not_three, wrong_identity, wrong_nonce, wrong_other, WrongLength, WrongPublic, no_list, not_two_or_three, wrong_length, in_protected, no_bytes, WrongContext, not_list, too_few, wrong_algorithm, in_party_u, in_party_v, in_public, in_private}
 use Rattle.coset_kdf.proofs.Unique.{three_same, two_same, four_same}
-
-abbrev number_if : Bool → Bool → Bool → ℤ → Option Named
-number_if small registered private i = cond small (cond registered (Some (assigned i)) (cond private (Some (private_use i)) None)) None
-
-no_named : (r p : ℤ → Bool) (v : Tree) (e : CoseFault) → WrongNamed r p v e → named_of r p v ≡ None
-no_named r p (integer i) e (inl w) = ap (λ b. number_if b (r i) (p i) i) w.0
-no_named r p (integer i) e (inr w) = ap (λ b. number_if b (r i) (p i) i) w.0 ∙ ap (λ b. number_if true b (p i) i) w.1 ∙ ap (λ b. number_if true false b i) w.2
-no_named r p (text b) e w = absurd w
-no_named r p (bytes b) e w = refl
-no_named r p (array ts) e w = refl
-no_named r p (map_tree ps) e w = refl
-no_named r p (tag n t) e w = refl
-no_named r p (simple n) e w = refl
-no_named r p (float f) e w = refl
 
 simple_if : {A : Type 0} (n : ℕ) (x : A) (b : Bool) → nat_eq n 22 ≡ b → (n ≡ 22 → ⊥) → cond b (Some x) None ≡ None
 simple_if n x true q f = absurd (f (eqb-true n 22 q))

@@ -1,17 +1,17 @@
 -- What one step of the reader shows, over plain variables.
-use Rattle.std.proofs.Common.{◌≡◌, ◌≢◌, ℕ, ◌+◌, ◌<◌, ◌≤◌, inl, inr, List, [], ◌∷◌, ◌++◌, map, length, reverse, Vec, Global, false, Option, Some, refl, sym, ap, subst, ◌∙◌, arith, append_assoc, length-append}
-use Rattle.std.proofs.lemmas.List.{map-append, length-map, reverse-append}
+use Rattle.std.proofs.Common.{◌≡◌, ◌≢◌, ℕ, ◌<◌, ◌≤◌, inl, inr, List, [], ◌∷◌, ◌++◌, map, length, false, Option, Some, refl, sym, ap, subst, ◌∙◌, arith}
+use Rattle.std.proofs.lemmas.List.{length-map}
 use Rattle.cose_iana.specs.Algorithms.{is_algorithm}
 use Rattle.cose_iana.specs.Registry.{is_private_use}
 use Rattle.ciborium_value.specs.Tree.{Tree, bytes, array, simple, Trees, no_trees, one_more, tree_count, is_bytes}
 use Rattle.ciborium_value.specs.View.{trees, view, views}
 use Rattle.ciborium_value.specs.declared.value.Value.{Value}
+use Rattle.coset_labels.specs.Facts.Walks.{at_fault, passed_on, views_count}
 use Rattle.coset_labels.specs.Faults.{CoseFault, OrMemory, fault_of, unexpected}
 use Rattle.coset_labels.specs.Kinds.{is_array}
 use Rattle.coset_labels.specs.Labels.{WrongNamed}
 use Rattle.coset_labels.specs.declared.error.CoseError.{CoseError}
 use Rattle.coset_headers.specs.Headers.{list_of_three}
-use Rattle.coset_headers.proofs.Steps.{passed_on, views_count}
 use Rattle.coset_kdf.specs.Contexts.{HasPublic, maybe_bytes, four_and}
 use Rattle.coset_kdf.specs.Fields.{PublicFields}
 use Rattle.coset_kdf.specs.Steps.{HasTwo, WrongTwo, Popped, WrongPopped}
@@ -39,13 +39,13 @@ module _ (t a b c : Tree) (ts : Trees) (e : CoseError) (q : t ≡ array ts) (r :
 
 -- ---- what both parties know
 pub public_kind : (n : ℕ) (t : Tree) (k : ℕ) (e : CoseError) → (fault_of e ≡ unexpected) × (is_array t ≡ false) → OrMemory (WrongPublic n t k) e
-public_kind n t k e p = inr (subst (WrongPublic n t k) (sym p.0) (no_list t k p.1))
+public_kind n t k e p = at_fault (WrongPublic n t k) unexpected e p.0 (no_list t k p.1)
 
 pub public_count : (n : ℕ) (t : Tree) (k : ℕ) (vs : List Value) → t ≡ array (views vs) → length vs ≢ 2 → length vs ≢ 3 → WrongPublic n t k unexpected
 public_count n t k vs q f g = subst (λ z. WrongPublic n z k unexpected) (sym q) (not_two_or_three (views vs) k (λ e. f (sym (views_count vs) ∙ e)) (λ e. g (sym (views_count vs) ∙ e)))
 
 pub public_other : (n : ℕ) (t a b c : Tree) (ts : Trees) (k : ℕ) (e : CoseError) → t ≡ array ts → ts ≡ list_of_three a b c → (fault_of e ≡ unexpected) × (is_bytes c ≡ false) → OrMemory (WrongPublic n t k) e
-public_other n t a b c ts k e q r p = inr (subst (WrongPublic n t k) (sym p.0) (subst (λ z. WrongPublic n z k unexpected) (sym (q ∙ ap array r)) (no_bytes a b c k p.1)))
+public_other n t a b c ts k e q r p = at_fault (WrongPublic n t k) unexpected e p.0 (subst (λ z. WrongPublic n z k unexpected) (sym (q ∙ ap array r)) (no_bytes a b c k p.1))
 
 two_wrong : (a b : Tree) (ts : Trees) (e : CoseFault) → tree_count ts < 2 → WrongTwo a b e → WrongPublic 256 (array (one_more a (one_more b ts))) 16 e
 two_wrong a b ts e l (inl w) = in_protected a b ts 16 e l w
@@ -60,44 +60,14 @@ public_has t a b ts o s q r w = (a, b, q ∙ ap array r ∙ ap (λ z. array (tre
 pub third_bytes : (a b c : Tree) (ts : Trees) (d : List ℕ) → ts ≡ list_of_three a b c → c ≡ bytes d → ts ≡ trees (a ∷ b ∷ maybe_bytes (Some d))
 third_bytes a b c ts d r q = r ∙ ap (list_of_three a b) q
 
--- ---- the items behind the fourth
-abbrev strings : List (Vec ℕ Global) → List Tree
-strings xs = map bytes (map (λ v. v.items) xs)
-
-pub popped_more : (start : List Tree) (xs ys : List Value) (x : Value) (ps : List (Vec ℕ Global)) (p : Vec ℕ Global) → xs ≡ ys ++ x ∷ [] → view x ≡ bytes p.items
-    → start ≡ map view xs ++ map bytes (map (λ v. v.items) (reverse ps)) → start ≡ map view ys ++ map bytes (map (λ v. v.items) (reverse (ps ++ p ∷ [])))
-popped_more start xs ys x ps p e q w =
-    w ∙ ap (λ z. map view z ++ strings (reverse ps)) e
-    ∙ ap (λ z. z ++ strings (reverse ps)) (map-append view ys (x ∷ []))
-    ∙ append_assoc (map view ys) (view x ∷ []) (strings (reverse ps))
-    ∙ ap (λ z. map view ys ++ z ∷ strings (reverse ps)) q
-    ∙ ap (λ z. map view ys ++ strings z) (sym (reverse-append ps (p ∷ [])))
-
-pub still_many : (xs ys : List Value) (x : Value) → xs ≡ ys ++ x ∷ [] → 4 < length xs → 4 ≤ length ys
-still_many xs ys x e l = let h : length xs ≡ length ys + 1 = ap length e ∙ length-append ys (x ∷ []) in omega (arith, h, l)
-
-pub popped_wrong : (start : List Tree) (xs ys : List Value) (x : Value) (ps : List (Vec ℕ Global)) (e : CoseError) → xs ≡ ys ++ x ∷ [] → 4 < length xs
-    → start ≡ map view xs ++ map bytes (map (λ v. v.items) (reverse ps)) → (fault_of e ≡ unexpected) × (is_bytes (view x) ≡ false) → OrMemory (WrongPopped start) e
-popped_wrong start xs ys x ps e q l w p = inr (record {
-  before = map view ys;
-  after = strings (reverse ps);
-  tree = view x;
-  many = subst (λ n. 4 ≤ n) (sym (length-map ys view)) (still_many xs ys x q l);
-  are = w ∙ ap (λ z. map view z ++ strings (reverse ps)) q ∙ ap (λ z. z ++ strings (reverse ps)) (map-append view ys (x ∷ [])) ∙ append_assoc (map view ys) (view x ∷ []) (strings (reverse ps));
-  kind = p.1;
-  fault = p.0;
-})
-
-pub popped_all : (start : List Tree) (xs : List Value) (ps qs : List (Vec ℕ Global)) → length xs ≡ 4 → qs ≡ reverse ps
-    → start ≡ map view xs ++ map bytes (map (λ v. v.items) (reverse ps)) → Popped start (map view xs) (map (λ v. v.items) qs)
-popped_all start xs ps qs l e w = record { left = length-map xs view ∙ l; are = w ∙ ap (λ z. map view xs ++ strings z) (sym e) }
-
 -- ---- a context
 pub context_kind : (n : ℕ) (t : Tree) (k : ℕ) (e : CoseError) → (fault_of e ≡ unexpected) × (is_array t ≡ false) → OrMemory (WrongContext n t k) e
-context_kind n t k e p = inr (subst (WrongContext n t k) (sym p.0) (not_list t k p.1))
+context_kind n t k e p = at_fault (WrongContext n t k) unexpected e p.0 (not_list t k p.1)
 
-pub context_few : (n : ℕ) (t : Tree) (k : ℕ) (vs : List Value) → t ≡ array (views vs) → length vs < 4 → WrongContext n t k unexpected
-context_few n t k vs q l = subst (λ z. WrongContext n z k unexpected) (sym q) (too_few (views vs) k (subst (λ m. m < 4) (sym (views_count vs)) l))
+pub context_few : (n : ℕ) (t : Tree) (k : ℕ) (vs us : List Value) (ps : List (List ℕ)) → t ≡ array (views vs) → Popped (map view vs) (map view us) ps → length us ≢ 4 → WrongContext n t k unexpected
+context_few n t k vs us ps q w f =
+    let l = w.left (λ e. f (sym (length-map us view) ∙ e)) in
+    subst (λ z. WrongContext n z k unexpected) (sym q) (too_few (views vs) k (subst (λ m. m < 4) (length-map vs view ∙ sym (views_count vs)) l))
 
 private_at : (n k : ℕ) (before after : List Tree) (t : Tree) → 4 ≤ length before → is_bytes t ≡ false → WrongContext n (array (trees (before ++ t ∷ after))) k unexpected
 private_at n k [] after t l w = absurd (omega (arith, l))

@@ -1,5 +1,5 @@
 -- What the parts of the reader show.
-use Rattle.std.specs.Prelude.{◌≡◌, ◌≤◌, ◌⊎◌, ◌++◌, ◌∷◌, ℕ, List, Option, Some, map, false, length}
+use Rattle.std.specs.Prelude.{◌≡◌, ◌≢◌, ◌<◌, ◌≤◌, ◌⊎◌, ◌++◌, ◌∷◌, ℕ, List, Option, Some, map, false, length}
 use Rattle.ciborium_value.specs.Tree.{Tree, bytes, is_bytes}
 use Rattle.coset_labels.specs.Faults.{CoseFault, unexpected}
 use Rattle.coset_labels.specs.Limits.{nesting, layers}
@@ -18,9 +18,9 @@ pub record HasTwo (a b : Tree) (o : Option (List ℕ)) (s : PublicFields) : Type
 abbrev pub WrongTwo : Tree → Tree → CoseFault → Type 0
 WrongTwo a b e = WrongProtected nesting b layers e ⊎ WrongLength a e
 
--- four items are left, and those behind them are these byte strings
+-- four items are left, or there were fewer, and those behind them are these byte strings
 pub record Popped (old new : List Tree) (bs : List (List ℕ)) : Type 0 where
-  pub left : length new ≡ 4
+  pub left : length new ≢ 4 → length old < 4
   pub are : old ≡ new ++ map bytes bs
 
 -- an item behind the fourth is no byte string

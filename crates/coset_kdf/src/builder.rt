@@ -39,7 +39,8 @@ impl PartyInfoBuilder {
 
     /// Sets who the party is.
     pub fn identity(mut self, identity: Vec<u8>) -> PartyInfoBuilder
-        ensures { party_so_far result ≡ record (party_so_far self) { identity = Some identity.items } }
+        ensures { party_so_far result
+            ≡ record (party_so_far self) { identity = Some identity.items } }
     {
         self.info.identity = Some(identity);
         self
@@ -47,7 +48,8 @@ impl PartyInfoBuilder {
 
     /// Sets the party's nonce.
     pub fn nonce(mut self, nonce: Nonce) -> PartyInfoBuilder
-        ensures { party_so_far result ≡ record (party_so_far self) { nonce = Some (nonce_view nonce) } }
+        ensures { party_so_far result
+            ≡ record (party_so_far self) { nonce = Some (nonce_view nonce) } }
     {
         self.info.nonce = Some(nonce);
         self
@@ -95,7 +97,10 @@ impl SuppPubInfoBuilder {
 
     /// Sets the protected header. It has no received bytes.
     pub fn protected(mut self, header: Header) -> SuppPubInfoBuilder
-        ensures { public_so_far result ≡ record (public_so_far self) { protected_header = protected None (header_view header) } }
+        ensures { public_so_far result
+            ≡ record (public_so_far self) {
+              protected_header = protected None (header_view header);
+            } }
     {
         self.info.protected = ProtectedHeader {
             original_data: None,
@@ -138,7 +143,8 @@ impl CoseKdfContextBuilder {
 
     /// Sets the algorithm that the key is for.
     pub fn algorithm(mut self, alg: iana::Algorithm) -> CoseKdfContextBuilder
-        ensures { context_so_far result ≡ record (context_so_far self) { algorithm = assigned (algorithm_number alg) } }
+        ensures { context_so_far result
+            ≡ record (context_so_far self) { algorithm = assigned (algorithm_number alg) } }
     {
         self.context.algorithm_id = Algorithm::Assigned(alg);
         self
@@ -146,7 +152,8 @@ impl CoseKdfContextBuilder {
 
     /// Sets what party U brings.
     pub fn party_u_info(mut self, info: PartyInfo) -> CoseKdfContextBuilder
-        ensures { context_so_far result ≡ record (context_so_far self) { party_u = party_view info } }
+        ensures { context_so_far result
+            ≡ record (context_so_far self) { party_u = party_view info } }
     {
         self.context.party_u_info = info;
         self
@@ -154,7 +161,8 @@ impl CoseKdfContextBuilder {
 
     /// Sets what party V brings.
     pub fn party_v_info(mut self, info: PartyInfo) -> CoseKdfContextBuilder
-        ensures { context_so_far result ≡ record (context_so_far self) { party_v = party_view info } }
+        ensures { context_so_far result
+            ≡ record (context_so_far self) { party_v = party_view info } }
     {
         self.context.party_v_info = info;
         self
@@ -162,7 +170,8 @@ impl CoseKdfContextBuilder {
 
     /// Sets what both parties know.
     pub fn supp_pub_info(mut self, info: SuppPubInfo) -> CoseKdfContextBuilder
-        ensures { context_so_far result ≡ record (context_so_far self) { public = public_view info } }
+        ensures { context_so_far result
+            ≡ record (context_so_far self) { public = public_view info } }
     {
         self.context.supp_pub_info = info;
         self
@@ -173,7 +182,9 @@ impl CoseKdfContextBuilder {
     /// # Errors
     /// Only where memory is refused.
     pub fn add_supp_priv_info(mut self, info: Vec<u8>) -> Result<CoseKdfContextBuilder, CoseError>
-        ensures { MatchResult result (λ b. context_so_far b ≡ with_private info.items (context_so_far self)) (λ e. e ≡ Memory) }
+        ensures { MatchResult result
+            (λ b. context_so_far b ≡ with_private info.items (context_so_far self))
+            (λ e. e ≡ Memory) }
     {
         self.context.supp_priv_info.push(info)?;
         Ok(self)

@@ -3,16 +3,8 @@ ghost use Rattle.std.specs.Prelude.{◌≡◌, IfOk, map, option_map};
 ghost use Rattle.coset_kdf.specs.View.{context_view, nonce_view, party_view, public_view};
 
 use crate::context::{CoseKdfContext, Nonce, PartyInfo, SuppPubInfo};
+use coset_labels::clone_bytes;
 use std::alloc::{AllocError, Global};
-
-fn clone_bytes(alloc: Global, bytes: &Option<Vec<u8>>) -> Result<Option<Vec<u8>>, AllocError>
-    ensures { IfOk result (λ copy. option_map (λ v. v.items) copy ≡ option_map (λ v. v.items) bytes.now) }
-{
-    match bytes {
-        Some(bytes) => Ok(Some(bytes.as_slice().to_vec(alloc)?)),
-        None => Ok(None),
-    }
-}
 
 fn clone_nonce(alloc: Global, nonce: &Option<Nonce>) -> Result<Option<Nonce>, AllocError>
     ensures { IfOk result (λ copy. option_map nonce_view copy ≡ option_map nonce_view nonce.now) }
@@ -24,7 +16,8 @@ fn clone_nonce(alloc: Global, nonce: &Option<Nonce>) -> Result<Option<Nonce>, Al
 }
 
 fn clone_private(alloc: Global, private: &[Vec<u8>]) -> Result<Vec<Vec<u8>>, AllocError>
-    ensures { IfOk result (λ copies. map (λ v. v.items) copies.items ≡ map (λ v. v.items) private.now) }
+    ensures { IfOk result
+        (λ copies. map (λ v. v.items) copies.items ≡ map (λ v. v.items) private.now) }
 {
     let mut copies = Vec::new(alloc);
     for bytes in private {
@@ -39,7 +32,9 @@ fn clone_parties(
     one: &PartyInfo,
     other: &PartyInfo,
 ) -> Result<(PartyInfo, PartyInfo), AllocError>
-    ensures { IfOk result (λ copies. (party_view copies.0 ≡ party_view one.now) × (party_view copies.1 ≡ party_view other.now)) }
+    ensures { IfOk result
+        (λ copies. (party_view copies.0 ≡ party_view one.now)
+        × (party_view copies.1 ≡ party_view other.now)) }
 {
     let one = one.clone(alloc)?;
     let other = other.clone(alloc)?;

@@ -9,21 +9,22 @@ ghost use Rattle.coset_kdf.specs.View.{context_view, nonce_view, party_view, pub
 ghost use Rattle.coset_kdf.specs.Wrong.{WrongContext, WrongLength, WrongNonce, WrongParty, WrongPublic};
 
 use crate::context::{CoseKdfContext, Nonce, PartyInfo, SuppPubInfo};
-use crate::items::{four, pop_private, three, two};
+use crate::items::pop_private;
 use ciborium_value::Value;
 use coset_headers::ProtectedHeader;
+use coset_labels::tuples::{four, three, two};
 use coset_labels::{Algorithm, AsCborValue, CoseError, ValueTryAs, cbor_type_error};
 use std::alloc::Global;
 
 /// Reads what a party brings.
 pub(crate) fn read_party(value: Value) -> Result<PartyInfo, CoseError>
-    ensures { MatchResult result (λ p. HasParty (view value) (party_view p)) (λ e. WrongParty (view value) (fault_of e)) }
+    ensures { MatchResult result (λ p. HasParty (view value) (party_view p))
+        (λ e. WrongParty (view value) (fault_of e)) }
 {
     let items = value.try_as_array()?;
-    if items.len() != 3 {
+    let Some((first, second, third)) = three(items) else {
         return Err(CoseError::UnexpectedItem("array", "array with 3 items"));
-    }
-    let (first, second, third) = three(items);
+    };
     let other = third.try_as_bytes_or_nil("bstr / nil")?;
     let nonce = read_nonce(second)?;
     let identity = first.try_as_bytes_or_nil("bstr / nil")?;
@@ -35,7 +36,8 @@ pub(crate) fn read_party(value: Value) -> Result<PartyInfo, CoseError>
 }
 
 fn read_nonce(value: Value) -> Result<Option<Nonce>, CoseError>
-    ensures { MatchResult result (λ n. nonce_of (view value) ≡ Some (option_map nonce_view n)) (λ e. WrongNonce (view value) (fault_of e)) }
+    ensures { MatchResult result (λ n. nonce_of (view value) ≡ Some (option_map nonce_view n))
+        (λ e. WrongNonce (view value) (fault_of e)) }
 {
     match value {
         Value::Bytes(bytes) => Ok(Some(Nonce::Bytes(bytes))),
@@ -50,19 +52,21 @@ fn read_nonce(value: Value) -> Result<Option<Nonce>, CoseError>
 
 /// Reads what both parties know.
 pub(crate) fn read_public(alloc: Global, value: Value) -> Result<SuppPubInfo, CoseError>
-    ensures { MatchResult result (λ s. HasPublic nesting (view value) (public_view s) layers) (λ e. OrMemory (WrongPublic nesting (view value) layers) e) }
+    ensures { MatchResult result (λ s. HasPublic nesting (view value) (public_view s) layers)
+        (λ e. OrMemory (WrongPublic nesting (view value) layers) e) }
 {
     let items = value.try_as_array()?;
-    if items.len() == 3 {
-        let (first, second, third) = three(items);
-        let other = third.try_as_bytes()?;
-        return read_two(alloc, first, second, Some(other));
+    if items.len() == 2 {
+        let Some((first, second)) = two(items) else {
+            unreachable!();
+        };
+        return read_two(alloc, first, second, None);
     }
-    if items.len() != 2 {
+    let Some((first, second, third)) = three(items) else {
         return Err(CoseError::UnexpectedItem("array", "array with 2 or 3 items"));
-    }
-    let (first, second) = two(items);
-    read_two(alloc, first, second, None)
+    };
+    let other = third.try_as_bytes()?;
+    read_two(alloc, first, second, Some(other))
 }
 
 /// Reads the first two elements of what both parties know.
@@ -72,7 +76,8 @@ fn read_two(
     second: Value,
     other: Option<Vec<u8>>,
 ) -> Result<SuppPubInfo, CoseError>
-    ensures { MatchResult result (λ s. HasTwo (view first) (view second) (option_map (λ v. v.items) other) (public_view s))
+    ensures { MatchResult result
+        (λ s. HasTwo (view first) (view second) (option_map (λ v. v.items) other) (public_view s))
         (λ e. OrMemory (WrongTwo (view first) (view second)) e) }
 {
     let protected = ProtectedHeader::from_cbor_bstr(alloc, second)?;
@@ -85,7 +90,8 @@ fn read_two(
 }
 
 fn read_length(value: Value) -> Result<u64, CoseError>
-    ensures { MatchResult result (λ n. length_of (view value) ≡ Some n) (λ e. WrongLength (view value) (fault_of e)) }
+    ensures { MatchResult result (λ n. length_of (view value) ≡ Some n)
+        (λ e. WrongLength (view value) (fault_of e)) }
 {
     match value {
         Value::Integer(i) => match u64::try_from(i) {
@@ -102,11 +108,10 @@ pub(crate) fn read_context(alloc: Global, value: Value) -> Result<CoseKdfContext
         (λ e. OrMemory (WrongContext nesting (view value) layers) e) }
 {
     let mut items = value.try_as_array()?;
-    if items.len() < 4 {
-        return Err(CoseError::UnexpectedItem("array", "array with at least 4 items"));
-    }
     let supp_priv_info = pop_private(alloc, &mut items)?;
-    let (first, second, third, fourth) = four(items);
+    let Some((first, second, third, fourth)) = four(items) else {
+        return Err(CoseError::UnexpectedItem("array", "array with at least 4 items"));
+    };
     let supp_pub_info = read_public(alloc, fourth)?;
     let party_v_info = read_party(third)?;
     let party_u_info = read_party(second)?;

@@ -45,7 +45,8 @@ pub(crate) fn write_party(alloc: Global, info: PartyInfo) -> Result<Value, CoseE
 
 /// The array that stands for what both parties know.
 pub(crate) fn write_public(alloc: Global, info: SuppPubInfo) -> Result<Value, CoseError>
-    ensures { MatchResult result (λ v. public_tree (public_view info) ≡ Some (view v)) (λ e. CantWrite (public_tree (public_view info)) e) }
+    ensures { MatchResult result (λ v. public_tree (public_view info) ≡ Some (view v))
+        (λ e. CantWrite (public_tree (public_view info)) e) }
 {
     let protected = info.protected.cbor_bstr(alloc)?;
     let length = Value::Integer(Integer::from(info.key_data_length));
@@ -71,7 +72,9 @@ pub(crate) fn write_context(alloc: Global, context: CoseKdfContext) -> Result<Va
 }
 
 fn push_private(items: &mut Vec<Value>, private: Vec<Vec<u8>>) -> Result<(), CoseError>
-    ensures { MatchResult result (λ _. map view items.new.items ≡ map view items.old.items ++ map bytes (map (λ v. v.items) private.items))
+    ensures { MatchResult result
+        (λ _. map view items.new.items
+        ≡ map view items.old.items ++ map bytes (map (λ v. v.items) private.items))
         (λ e. e ≡ Memory) }
 {
     'private: for bytes in private {

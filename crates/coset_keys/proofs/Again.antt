@@ -8,18 +8,20 @@ use Rattle.std.proofs.lemmas.List.Sorted.{Contains-permutation, IsPermutation-sy
 use Rattle.std.proofs.lemmas.Map.Keys.{IsDistinct-from_sorted, IsDistinct-head, IsDistinct-tail, IsDistinct-cons, IsDistinct-IsPermutation}
 use Rattle.ciborium_value.specs.Tree.{Tree, integer, bytes, array}
 use Rattle.ciborium_value.specs.View.{trees, pairs}
+use Rattle.coset_labels.specs.Entries.{IsIn, Distinct, IsField}
 use Rattle.coset_labels.specs.Facts.Entries.{NoneOfFive}
 use Rattle.coset_labels.specs.Fields.{LabelFields, number, Named}
 use Rattle.coset_labels.specs.Kinds.{some_bytes}
 use Rattle.coset_labels.specs.Labels.{label_of, label_tree, named_tree}
 use Rattle.coset_labels.specs.Orders.{label_cmp, label_total, labels_same, named_cmp}
-use Rattle.coset_headers.specs.Headers.{is_at, alg_of, entries, at, IsIn, Distinct, IsField}
+use Rattle.coset_headers.specs.Headers.{is_at, alg_of, entries, at}
 use Rattle.coset_headers.specs.Written.{name_entry, bytes_entry, entry_tree, tree_of}
 use Rattle.coset_headers.proofs.Written.{once_only}
 use Rattle.coset_keys.specs.Fields.{KeyFields}
 use Rattle.coset_keys.specs.Keys.{is_own, operation_of, operations_of, HasOperations, HasKeyOps, params_of, AreFields, HasKey}
 use Rattle.coset_keys.specs.Sorted.{SameButOrder}
 use Rattle.coset_keys.specs.Written.{ops_entry, key_entries, key_tree}
+use Rattle.coset_keys.proofs.Collected.{not_true}
 use Rattle.coset_keys.proofs.Entered.{not_own}
 use Rattle.coset_keys.proofs.Good.{IsKey}
 use Rattle.coset_keys.proofs.Rising.{contains_head, contains_tail, contains_cases}
@@ -207,10 +209,6 @@ module _ (k : KeyFields) (w : IsKey k) where
 -- ---- `params` in another order
 abbrev pub same_label : LabelFields × Tree → LabelFields × Tree → Bool
 same_label a b = is_eq (label_cmp a.0 b.0)
-
-not_true : (b : Bool) → (b ≡ true → ⊥) → b ≡ false
-not_true true h = absurd (h refl)
-not_true false h = refl
 
 no_other : (x : LabelFields × Tree) (es : List (LabelFields × Tree)) → (IsIn x.0 es → ⊥) → AllByRecursion (λ y. same_label x y ≡ false) es
 no_other x [] n = tt

@@ -46,7 +46,7 @@ same_name x y e = (names_same x y).0 e
 names_equiv : IsEquivalence (eq_by_cmp named_cmp)
 names_equiv = eq_by_cmp_equiv named_total
 
-not_true : (b : Bool) → (b ≡ true → ⊥) → b ≡ false
+pub not_true : (b : Bool) → (b ≡ true → ⊥) → b ≡ false
 not_true true h = absurd (h refl)
 not_true false h = refl
 
@@ -54,7 +54,7 @@ none_twice : IsDistinct (eq_by_cmp named_cmp) []
 unfolding IsDistinct
 none_twice = tt
 
-none_rises : IsStrictlySortedBy named_cmp []
+pub none_rises : IsStrictlySortedBy named_cmp []
 unfolding IsStrictlySortedBy
 none_rises = tt
 

@@ -1,9 +1,10 @@
 -- The entries of a key one after another, and the fields that they give.
-use Rattle.std.proofs.Common.{◌≡◌, pos, List, [], ◌∷◌, ◌++◌, true, false, Option, Some, refl, sym, ap, subst, ◌∙◌}
+use Rattle.std.proofs.Common.{◌≡◌, pos, List, [], ◌∷◌, ◌++◌, false, Option, Some, refl, sym, ap, subst, ◌∙◌}
 use Rattle.ciborium_value.specs.Tree.{Tree}
+use Rattle.coset_labels.specs.Entries.{IsIn}
 use Rattle.coset_labels.specs.Facts.Entries.{NoneOfFive, none_of_five, others_own, others_more, distinct_snoc, kept, made}
 use Rattle.coset_labels.specs.Fields.{LabelFields, number, Named}
-use Rattle.coset_headers.specs.Headers.{is_at, IsIn}
+use Rattle.coset_headers.specs.Headers.{is_at}
 use Rattle.coset_headers.proofs.Entered.{at_old, at_new, at_none}
 use Rattle.coset_keys.specs.Fields.{KeyFields, no_key}
 use Rattle.coset_keys.specs.Keys.{is_own, HasKeyOps, HasOperations, AreFields}

@@ -1,43 +1,33 @@
 -- A value with a fault is no key.
-use Rattle.std.proofs.Common.{◌≡◌, ◌≢◌, ℕ, ℤ, inl, inr, ⊎_elim, List, [], ◌∷◌, ◌++◌, Bool, true, false, cond, Option, Some, None, option_map, option_and_then, refl, sym, ap, subst, ◌∙◌}
+use Rattle.std.proofs.Common.{◌≡◌, ◌≢◌, ℕ, ⊎_elim, List, [], ◌∷◌, ◌++◌, true, false, Option, Some, None, option_map, sym, ap, subst, ◌∙◌}
 use Rattle.std.specs.List.{Contains, IsDistinct, AllByRecursion}
 use Rattle.std.specs.Ordering.{eq_by_cmp}
 use Rattle.std.proofs.lemmas.Map.Keys.{IsDistinct-head, IsDistinct-tail}
 use Rattle.cose_iana.specs.Algorithms.{is_algorithm}
 use Rattle.cose_iana.specs.Keys.{key_types, key_operations}
 use Rattle.cose_iana.specs.Registry.{is_private_use}
-use Rattle.ciborium_value.specs.Tree.{Tree, integer, bytes, text, array, map as map_tree, tag, simple, float, no_trees, one_more}
-use Rattle.ciborium_value.specs.View.{trees, pairs}
-use Rattle.coset_labels.specs.Faults.{CoseFault}
-use Rattle.coset_labels.specs.Fields.{LabelFields, number, Named, private_use, assigned}
-use Rattle.coset_labels.specs.Kinds.{is_map, is_array, some_bytes, WrongBytes}
-use Rattle.coset_labels.specs.Labels.{label_of, named_of, registered_of, WrongLabel, WrongNamed, WrongRegistered}
-use Rattle.coset_labels.specs.Orders.{named_cmp, names_same}
-use Rattle.coset_headers.specs.Headers.{is_at, alg_of, entries, at, IsIn, Distinct, IsField}
+use Rattle.ciborium_value.specs.Tree.{Tree, array, map as map_tree, no_trees, one_more}
+use Rattle.ciborium_value.specs.View.{trees}
+use Rattle.coset_labels.specs.Entries.{Distinct, IsField}
 use Rattle.coset_labels.specs.Facts.Entries.{label_only}
 use Rattle.coset_labels.specs.Facts.Wrong.{Splits, splits, again_not, no_label, no_named, no_registered, no_string_there}
 use Rattle.coset_labels.specs.Facts.Wrong as wrong
+use Rattle.coset_labels.specs.Faults.{CoseFault}
+use Rattle.coset_labels.specs.Fields.{LabelFields, Named}
+use Rattle.coset_labels.specs.Kinds.{is_map, is_array, some_bytes}
+use Rattle.coset_labels.specs.Labels.{label_of}
+use Rattle.coset_labels.specs.Orders.{named_cmp, names_same}
+use Rattle.coset_headers.specs.Headers.{is_at, alg_of, entries, at}
 use Rattle.coset_keys.specs.Fields.{KeyFields, reserved}
 use Rattle.coset_keys.specs.Keys.{type_of, operation_of, operations_of, HasOperations, HasKeyOps, AreFields, HasKey, HaveKeys, HasKeySet}
 use Rattle.coset_keys.specs.Wrong.{WrongOperations, no_list, empty_list, bad_operation, operation_again, WrongValue, wrong_kty, wrong_key_id, wrong_alg, wrong_key_ops, wrong_base_iv, WrongEntry, bad_label, label_again, bad_value, WrongKey, no_map, at_entry, no_type, WrongKeySet, no_key_list, in_key}
+use Rattle.coset_keys.proofs.Firsts.{first_of}
 use Rattle.coset_keys.proofs.Rising.{contains_head, contains_tail, contains_cases, contains_none}
 
 -- ---- operations
-record FirstOf (o : Option Named) (w : Option (List Named)) (all : List Named) : Type 0 where
-  name : Named
-  rest : List Named
-  is : o ≡ Some name
-  others : w ≡ Some rest
-  whole : all ≡ name ∷ rest
-
-first_of : (o : Option Named) (w : Option (List Named)) (all : List Named) → option_and_then (λ n. option_map (λ ns. n ∷ ns) w) o ≡ Some all → FirstOf o w all
-first_of None w all e = let h : None ≡ Some all = e in cc
-first_of (Some n) None all e = let h : None ≡ Some all = e in cc
-first_of (Some n) (Some ns) all e = let h : Some (n ∷ ns) ≡ Some all = e in record { name = n; rest = ns; is = refl; others = refl; whole = cc }
-
 no_operations : (before after : List Tree) (t : Tree) (all : List Named) → operation_of t ≡ None → operations_of (trees (before ++ t ∷ after)) ≡ Some all → ⊥
-no_operations [] after t all e q = let w = first_of (operation_of t) (operations_of (trees after)) all q in let h : None ≡ Some w.name = sym e ∙ w.is in cc
-no_operations (b ∷ bs) after t all e q = let w = first_of (operation_of b) (operations_of (trees (bs ++ t ∷ after))) all q in no_operations bs after t w.rest e w.others
+no_operations [] after t all e q = let w = first_of (λ n. n) (operation_of t) (operations_of (trees after)) all q in let h : None ≡ Some w.first = sym e ∙ w.is in cc
+no_operations (b ∷ bs) after t all e q = let w = first_of (λ n. n) (operation_of b) (operations_of (trees (bs ++ t ∷ after))) all q in no_operations bs after t w.rest e w.others
 
 apart : (n m : Named) (ms : List Named) → AllByRecursion (λ y. eq_by_cmp named_cmp n y ≡ false) ms → Contains ms m → n ≡ m → ⊥
 apart n m [] a c e = contains_none m c
@@ -49,28 +39,28 @@ apart n m (x ∷ xs) a c e = ⊎_elim
 -- the operation of an item stands in the list
 stands : (before after : List Tree) (t : Tree) (all : List Named) (n : Named) → operation_of t ≡ Some n → operations_of (trees (before ++ t ∷ after)) ≡ Some all → Contains all n
 stands [] after t all n q f =
-    let w = first_of (operation_of t) (operations_of (trees after)) all f in
-    let both : Some w.name ≡ Some n = sym w.is ∙ q in
-    let same : w.name ≡ n = cc in
-    subst (λ z. Contains z n) (sym w.whole) (subst (λ z. Contains (w.name ∷ w.rest) z) same (contains_head w.name w.rest))
+    let w = first_of (λ n. n) (operation_of t) (operations_of (trees after)) all f in
+    let both : Some w.first ≡ Some n = sym w.is ∙ q in
+    let same : w.first ≡ n = cc in
+    subst (λ z. Contains z n) (sym w.whole) (subst (λ z. Contains (w.first ∷ w.rest) z) same (contains_head w.first w.rest))
 stands (b ∷ bs) after t all n q f =
-    let w = first_of (operation_of b) (operations_of (trees (bs ++ t ∷ after))) all f in
-    subst (λ z. Contains z n) (sym w.whole) (contains_tail w.name w.rest n (stands bs after t w.rest n q w.others))
+    let w = first_of (λ n. n) (operation_of b) (operations_of (trees (bs ++ t ∷ after))) all f in
+    subst (λ z. Contains z n) (sym w.whole) (contains_tail w.first w.rest n (stands bs after t w.rest n q w.others))
 
 -- an operation that stands in front stands twice
 again_apart : (before after : List Tree) (t : Tree) (ns all : List Named) (n : Named) → operations_of (trees before) ≡ Some ns → operation_of t ≡ Some n → Contains ns n
     → operations_of (trees (before ++ t ∷ after)) ≡ Some all → IsDistinct (eq_by_cmp named_cmp) all → ⊥
 again_apart [] after t ns all n e q c f d = let h : Some [] ≡ Some ns = e in let s : ns ≡ [] = cc in contains_none n (subst (λ z. Contains z n) s c)
 again_apart (b ∷ bs) after t ns all n e q c f d =
-    let x = first_of (operation_of b) (operations_of (trees bs)) ns e in
-    let y = first_of (operation_of b) (operations_of (trees (bs ++ t ∷ after))) all f in
-    let both : Some x.name ≡ Some y.name = sym x.is ∙ y.is in
-    let same : y.name ≡ x.name = cc in
+    let x = first_of (λ n. n) (operation_of b) (operations_of (trees bs)) ns e in
+    let y = first_of (λ n. n) (operation_of b) (operations_of (trees (bs ++ t ∷ after))) all f in
+    let both : Some x.first ≡ Some y.first = sym x.is ∙ y.is in
+    let same : y.first ≡ x.first = cc in
     let parts = subst (IsDistinct (eq_by_cmp named_cmp)) y.whole d in
     ⊎_elim
-    (λ h. apart y.name n y.rest (IsDistinct-head (eq_by_cmp named_cmp) y.name y.rest parts) (stands bs after t y.rest n q y.others) (same ∙ h))
-    (λ h. again_apart bs after t x.rest y.rest n x.others q h y.others (IsDistinct-tail (eq_by_cmp named_cmp) y.name y.rest parts))
-    (contains_cases x.name x.rest n (subst (λ z. Contains z n) x.whole c))
+    (λ h. apart y.first n y.rest (IsDistinct-head (eq_by_cmp named_cmp) y.first y.rest parts) (stands bs after t y.rest n q y.others) (same ∙ h))
+    (λ h. again_apart bs after t x.rest y.rest n x.others q h y.others (IsDistinct-tail (eq_by_cmp named_cmp) y.first y.rest parts))
+    (contains_cases x.first x.rest n (subst (λ z. Contains z n) x.whole c))
 
 ops_not : (t : Tree) (e : CoseFault) (ns : List Named) → WrongOperations t e → HasOperations t ns → ⊥
 ops_not t e ns (no_list x _) a = let h : true ≡ false = sym (ap is_array a.list) ∙ x in cc
@@ -118,7 +108,7 @@ key_not t e k (no_map x _) a = let h : true ≡ false = sym (ap is_map a.map) �
 key_not t e k (at_entry ps q w) a =
     let h : map_tree ps ≡ map_tree a.pairs = sym q ∙ a.map in
     let s : ps ≡ a.pairs = cc in
-    entry_not w.es w.key w.value e w.wrong a.es k (splits label_of w.before w.after w.key w.value w.es a.es w.read (ap entries (sym w.are ∙ s) ∙ a.labels)) a.distinct a.fields
+    entry_not w.es w.key w.value e w.wrong a.es k (splits label_of w.before w.after w.key w.value w.es a.es w.read_before (ap entries (sym w.are ∙ s) ∙ a.labels)) a.distinct a.fields
 key_not t e k (no_type ps es q r f _) a =
     let h : map_tree ps ≡ map_tree a.pairs = sym q ∙ a.map in
     let s : ps ≡ a.pairs = cc in

@@ -1,5 +1,5 @@
 -- Keys whose parts fit.
-use Rattle.std.proofs.Common.{◌≡◌, ℕ, ◌+◌, ◌<◌, ◌≤◌, ◌^◌, List, [], ◌∷◌, ◌++◌, map, length, take, get_or, Bool, true, false, cond, Option, Some, None, option_map, option_and_then, ⊎_elim, sym, ap, subst, ◌∙◌, arith, refl}
+use Rattle.std.proofs.Common.{◌≡◌, ℕ, ◌+◌, ◌<◌, ◌≤◌, ◌^◌, List, [], ◌∷◌, ◌++◌, map, length, take, get_or, Bool, true, false, cond, Option, Some, None, option_map, ⊎_elim, sym, ap, subst, ◌∙◌, arith, refl}
 use Rattle.std.specs.List.{Contains}
 use Rattle.std.proofs.lemmas.List.{take_more, map-append}
 use Rattle.ciborium_value.specs.Tree.{Tree, bytes, array, tree_count, pair_count}
@@ -18,6 +18,7 @@ use Rattle.coset_keys.specs.Fitting.{KeysFit, NameFits, NamesFit}
 use Rattle.coset_keys.specs.View.{key_view}
 use Rattle.coset_keys.specs.Written.{ops_entry, key_entries, key_tree, key_set_tree}
 use Rattle.coset_keys.specs.declared.key.CoseKey.{CoseKey}
+use Rattle.coset_keys.proofs.Firsts.{first_of}
 use Rattle.coset_keys.proofs.Rising.{contains_cases, contains_none}
 
 abbrev AllFit : List (LabelFields × Tree) → Type 0
@@ -117,20 +118,15 @@ key_taken ks i k l e h f =
     subst (λ z. KeysFit (map key_view z)) (ap (λ z. take i ks ++ z ∷ []) e ∙ sym (take_more ks i k l))
     (subst KeysFit (sym (map-append key_view (take i ks) (k ∷ []))) (keys_more (map key_view (take i ks)) (key_view k) h f))
 
-first_tree : (o : Option Tree) (w : Option (List Tree)) (ts : List Tree) → option_and_then (λ t. option_map (λ us. t ∷ us) w) o ≡ Some ts → (t : Tree) × (us : List Tree) × (o ≡ Some t) × (w ≡ Some us) × (ts ≡ t ∷ us)
-first_tree None w ts e = let h : None ≡ Some ts = e in absurd (let f : ⊥ = cc in f)
-first_tree (Some t) None ts e = let h : None ≡ Some ts = e in absurd (let f : ⊥ = cc in f)
-first_tree (Some t) (Some us) ts e = let h : Some (t ∷ us) ≡ Some ts = e in (t, us, refl, refl, (let f : ts ≡ t ∷ us = cc in f))
-
 keys_all : (ks : List KeyFields) (ts : List Tree) → KeysFit ks → all_written key_tree ks ≡ Some ts → (tree_count (trees ts) ≡ length ks) × FitAll (trees ts)
 keys_all [] ts f e =
     let h : [] ≡ ts = (let g : Some [] ≡ Some ts = e in cc) in
     subst (λ z. (tree_count (trees z) ≡ 0) × FitAll (trees z)) h (refl, tt)
 keys_all (k ∷ ks) ts f e =
-    let w = first_tree (key_tree k) (all_written key_tree ks) ts e in
-    let r = keys_all ks w.1 f.1 w.3 in
+    let w = first_of (λ t. t) (key_tree k) (all_written key_tree ks) ts e in
+    let r = keys_all ks w.rest f.1 w.others in
     let n = r.0 in
-    subst (λ z. (tree_count (trees z) ≡ length (k ∷ ks)) × FitAll (trees z)) (sym w.4) (omega (arith, n), (f.0 w.0 w.2, r.1))
+    subst (λ z. (tree_count (trees z) ≡ length (k ∷ ks)) × FitAll (trees z)) (sym w.whole) (omega (arith, n), (f.0 w.first w.is, r.1))
 
 set_by : (ks : List KeyFields) (t : Tree) (o : Option (List Tree)) → KeysFit ks → length ks < 2 ^ 64 → all_written key_tree ks ≡ o → option_map (λ ts. array (trees ts)) o ≡ Some t → Fits t
 set_by ks t None f l q e = let h : None ≡ Some t = e in absurd (let g : ⊥ = cc in g)

@@ -1,18 +1,21 @@
 -- The fields of a key that was read.
-use Rattle.std.proofs.Common.{◌≡◌, ◌≢◌, ℤ, inl, inr, ⊎_elim, List, [], ◌∷◌, Bool, true, false, cond, Option, Some, None, option_map, option_and_then, refl, sym, ap, subst, ◌∙◌}
+use Rattle.std.proofs.Common.{◌≡◌, ◌≢◌, ℤ, ⊎_elim, List, [], ◌∷◌, Bool, true, false, cond, Option, Some, None, option_map, refl, sym, ap, subst, ◌∙◌}
 use Rattle.std.specs.List.{Contains}
 use Rattle.std.specs.List.Sorted.{IsStrictlySortedBy}
 use Rattle.cose_iana.specs.Algorithms.{is_algorithm}
 use Rattle.cose_iana.specs.Keys.{key_types, key_operations}
 use Rattle.cose_iana.specs.Registry.{is_private_use}
 use Rattle.ciborium_value.specs.Tree.{Tree, integer, bytes, text, array, map as map_tree, tag, simple, float, Trees, no_trees, one_more, Pairs, no_pairs, pair_more}
+use Rattle.coset_labels.specs.Entries.{Distinct, IsField}
 use Rattle.coset_labels.specs.Facts.Entries.{distinct_others}
 use Rattle.coset_labels.specs.Fields.{LabelFields, number, words, Named, private_use, assigned, named}
 use Rattle.coset_labels.specs.Labels.{is_i64, label_of, label_tree, registered_of, named_of, named_tree}
 use Rattle.coset_labels.specs.Orders.{named_cmp}
-use Rattle.coset_headers.specs.Headers.{alg_of, entries, at, IsIn, Distinct, IsField}
+use Rattle.coset_headers.specs.Headers.{alg_of, entries, at}
 use Rattle.coset_keys.specs.Fields.{KeyFields, reserved}
 use Rattle.coset_keys.specs.Keys.{is_own, type_of, operation_of, operations_of, HasKeyOps, params_of, HasKey}
+use Rattle.coset_keys.proofs.Collected.{none_rises}
+use Rattle.coset_keys.proofs.Firsts.{first_of}
 use Rattle.coset_keys.proofs.Rising.{contains_head, contains_tail, contains_cases, contains_none}
 
 -- ---- a label, a name: the tree that it was read from stands for it
@@ -89,60 +92,32 @@ alg_good (Some t) x f a e =
     let is : named_of is_algorithm is_private_use t ≡ Some a = alg_some (named_of is_algorithm is_private_use t) a (f ∙ ap Some e) in
     ap (named_of is_algorithm is_private_use) (named_back is_algorithm is_private_use t a is) ∙ is
 
-record FirstOf (o : Option Named) (w : Option (List Named)) (all : List Named) : Type 0 where
-  name : Named
-  rest : List Named
-  is : o ≡ Some name
-  others : w ≡ Some rest
-  whole : all ≡ name ∷ rest
-
-first_of : (o : Option Named) (w : Option (List Named)) (all : List Named) → option_and_then (λ n. option_map (λ ns. n ∷ ns) w) o ≡ Some all → FirstOf o w all
-first_of None w all e = let h : None ≡ Some all = e in cc
-first_of (Some n) None all e = let h : None ≡ Some all = e in cc
-first_of (Some n) (Some ns) all e = let h : Some (n ∷ ns) ≡ Some all = e in record { name = n; rest = ns; is = refl; others = refl; whole = cc }
-
 listed_good : (ts : Trees) (ms : List Named) → operations_of ts ≡ Some ms → (n : Named) → Contains ms n → operation_of (named_tree n) ≡ Some n
 listed_good no_trees ms e n c = let h : Some [] ≡ Some ms = e in let s : ms ≡ [] = cc in absurd (contains_none n (subst (λ z. Contains z n) s c))
 listed_good (one_more t ts) ms e n c =
-    let w = first_of (operation_of t) (operations_of ts) ms e in
+    let w = first_of (λ n. n) (operation_of t) (operations_of ts) ms e in
     ⊎_elim
     (λ q. let is : operation_of t ≡ Some n = w.is ∙ ap Some q in ap operation_of (registered_back key_operations.is_registered t n is) ∙ is)
     (λ d. listed_good ts w.rest w.others n d)
-    (contains_cases w.name w.rest n (subst (λ z. Contains z n) w.whole c))
+    (contains_cases w.first w.rest n (subst (λ z. Contains z n) w.whole c))
 
 ops_good : (o : Option Tree) (ns : List Named) → HasKeyOps o ns → (n : Named) → Contains ns n → operation_of (named_tree n) ≡ Some n
 ops_good None ns a n c = absurd (contains_none n (subst (λ z. Contains z n) a c))
 ops_good (Some t) ns a n c = listed_good a.items a.listed a.read n ((a.rises.same n).1 c)
 
-none_rise : IsStrictlySortedBy named_cmp []
-unfolding IsStrictlySortedBy
-none_rise = tt
-
 ops_rise : (o : Option Tree) (ns : List Named) → HasKeyOps o ns → IsStrictlySortedBy named_cmp ns
-ops_rise None ns a = subst (IsStrictlySortedBy named_cmp) (sym a) none_rise
+ops_rise None ns a = subst (IsStrictlySortedBy named_cmp) (sym a) none_rises
 ops_rise (Some t) ns a = a.rises.ordered
 
 -- the entries of a map have labels
-record FirstEntry (o : Option LabelFields) (w : Option (List (LabelFields × Tree))) (v : Tree) (all : List (LabelFields × Tree)) : Type 0 where
-  label : LabelFields
-  rest : List (LabelFields × Tree)
-  is : o ≡ Some label
-  others : w ≡ Some rest
-  whole : all ≡ (label, v) ∷ rest
-
-first_entry : (o : Option LabelFields) (w : Option (List (LabelFields × Tree))) (v : Tree) (all : List (LabelFields × Tree)) → option_and_then (λ m. option_map (λ es. (m, v) ∷ es) w) o ≡ Some all → FirstEntry o w v all
-first_entry None w v all e = let h : None ≡ Some all = e in cc
-first_entry (Some m) None v all e = let h : None ≡ Some all = e in cc
-first_entry (Some m) (Some es) v all e = let h : Some ((m, v) ∷ es) ≡ Some all = e in record { label = m; rest = es; is = refl; others = refl; whole = cc }
-
 labels_good : (ps : Pairs) (es : List (LabelFields × Tree)) → entries ps ≡ Some es → (e : LabelFields × Tree) → Contains es e → label_of (label_tree e.0) ≡ Some e.0
 labels_good no_pairs es q e c = let h : Some [] ≡ Some es = q in let s : es ≡ [] = cc in absurd (contains_none e (subst (λ z. Contains z e) s c))
 labels_good (pair_more l v ps) es q e c =
-    let w = first_entry (label_of l) (entries ps) v es q in
+    let w = first_of (λ m. (m, v)) (label_of l) (entries ps) es q in
     ⊎_elim
     (λ r. let is : label_of l ≡ Some e.0 = w.is ∙ ap (λ z. Some z.0) r in ap label_of (label_back l e.0 is) ∙ is)
     (λ d. labels_good ps w.rest w.others e d)
-    (contains_cases (w.label, v) w.rest e (subst (λ z. Contains z e) w.whole c))
+    (contains_cases (w.first, v) w.rest e (subst (λ z. Contains z e) w.whole c))
 
 kept_by : (b : Bool) (x : LabelFields × Tree) (es zs : List (LabelFields × Tree)) (e : LabelFields × Tree) → is_own x.0 ≡ b → (Contains zs e → Contains es e × (is_own e.0 ≡ false)) → Contains (cond b zs (x ∷ zs)) e → Contains (x ∷ es) e × (is_own e.0 ≡ false)
 kept_by true x es zs e o f c = let r = f c in (contains_tail x es e r.0, r.1)

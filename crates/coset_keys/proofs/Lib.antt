@@ -5,6 +5,7 @@ pub mod Copied
 pub mod Entered
 pub mod Equal
 pub mod Excludes
+pub mod Firsts
 pub mod Fitting
 pub mod Good
 pub mod Numbers

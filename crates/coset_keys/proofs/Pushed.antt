@@ -1,5 +1,5 @@
 -- Entries of a key that are appended to a map.
-use Rattle.std.proofs.Common.{◌≡◌, ◌≢◌, ℕ, pos, Bool, true, false, cond, length, arith, Vec, Global, List, [], ◌∷◌, ◌++◌, map, Some, None, refl, sym, ap, ◌∙◌, append-nil, append_assoc}
+use Rattle.std.proofs.Common.{◌≡◌, ◌≢◌, ℕ, pos, Bool, true, false, cond, length, arith, Vec, Global, List, [], ◌∷◌, ◌++◌, map, Some, None, refl, sym, ap, ◌∙◌, append-nil}
 use Rattle.std.specs.Prelude.{IsTrue, ◌↔◌}
 use Rattle.std.proofs.lemmas.List.{map-append}
 use Rattle.ciborium_value.specs.Tree.{Tree, integer, array, map as map_tree}
@@ -8,7 +8,7 @@ use Rattle.ciborium_value.specs.declared.value.Value.{Value}
 use Rattle.ciborium_value.specs.declared.value.Value.TheVariants as code
 use Rattle.ciborium_value.proofs.Views.{view_map, view_array}
 use Rattle.coset_labels.specs.Facts.Pushed.{back_one}
-use Rattle.coset_labels.specs.Fields.{LabelFields, number, Named}
+use Rattle.coset_labels.specs.Fields.{number, Named}
 use Rattle.coset_labels.specs.Labels.{named_tree}
 use Rattle.coset_headers.specs.Written.{name_entry, bytes_entry, entry_tree, tree_of, twice}
 use Rattle.coset_keys.specs.Fields.{KeyFields}

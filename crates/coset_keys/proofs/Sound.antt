@@ -13,9 +13,9 @@ use Rattle.coset_labels.specs.Labels.{named_tree}
 use Rattle.coset_labels.specs.Reading.{HasItem}
 use Rattle.coset_headers.specs.Headers.{at}
 use Rattle.coset_headers.specs.Written.{name_entry, bytes_entry, entry_tree, tree_of}
-use Rattle.coset_headers.proofs.Sound.{Sound, SoundAll, AllSound, array_inside, map_inside, array_sound, map_sound, all_none, all_more, all_parts, names_sound, entries_sound, kept_sound, at_sound, sound_append, sound_pairs, name_sound, string_sound, reads_sound, sound_reads}
+use Rattle.coset_headers.proofs.Sound.{Sound, SoundAll, AllSound, array_inside, map_inside, array_sound, map_sound, all_none, all_more, all_parts, names_sound, entries_sound, at_sound, sound_append, sound_pairs, name_sound, string_sound, reads_sound, sound_reads}
 use Rattle.coset_keys.specs.Fields.{KeyFields}
-use Rattle.coset_keys.specs.Keys.{is_own, params_of, HasKeyOps, AreFields, HasKey, HaveKeys, HasKeySet}
+use Rattle.coset_keys.specs.Keys.{is_own, HasKeyOps, AreFields, HasKey, HaveKeys, HasKeySet}
 use Rattle.coset_keys.specs.Sorted.{SameButOrder}
 use Rattle.coset_keys.specs.Written.{ops_entry, key_entries, key_tree, key_set_tree}
 use Rattle.coset_keys.proofs.Again.{sorted_key, writes, reads_back}

@@ -1,5 +1,5 @@
 -- What one step of the reader shows, over plain variables.
-use Rattle.std.proofs.Common.{◌≡◌, ◌≢◌, pos, inr, List, [], ◌∷◌, ◌++◌, map, true, false, Option, Some, None, option_map, option_and_then, refl, sym, ap, subst, ◌∙◌}
+use Rattle.std.proofs.Common.{◌≡◌, ◌≢◌, pos, inr, List, [], ◌∷◌, ◌++◌, map, true, false, Some, refl, sym, ap, subst, ◌∙◌}
 use Rattle.std.specs.List.{list_any}
 use Rattle.std.specs.List.Sorted.{IsStrictlySortedBy}
 use Rattle.std.specs.BTreeSet.{insert_key}
@@ -7,8 +7,10 @@ use Rattle.std.specs.Ordering.{eq_by_cmp}
 use Rattle.std.proofs.lemmas.List.{map-append}
 use Rattle.cose_iana.specs.Keys.{key_operations}
 use Rattle.ciborium_value.specs.Tree.{Tree, array, map as map_tree, Trees, no_trees, one_more, Pairs}
-use Rattle.ciborium_value.specs.View.{trees, pairs, view, views, view_pair, view_pairs}
+use Rattle.ciborium_value.specs.View.{trees, view, views, view_pairs}
 use Rattle.ciborium_value.specs.declared.value.Value.{Value}
+use Rattle.coset_labels.specs.Entries.{IsIn, IsField}
+use Rattle.coset_labels.specs.Facts.Walks.{passed_on, items_at, entry_read}
 use Rattle.coset_labels.specs.Faults.{OrMemory, fault_of, unexpected}
 use Rattle.coset_labels.specs.Fields.{LabelFields, number, Named}
 use Rattle.coset_labels.specs.Kinds.{is_map, is_array}
@@ -17,10 +19,8 @@ use Rattle.coset_labels.specs.Orders.{named_cmp}
 use Rattle.coset_labels.specs.declared.error.CoseError.{CoseError}
 use Rattle.coset_labels.specs.declared.label.Label.{Label}
 use Rattle.coset_labels.specs.declared.seen.Seen.{Seen}
-use Rattle.coset_headers.specs.Headers.{entries, at, IsIn, IsField}
+use Rattle.coset_headers.specs.Headers.{entries, at}
 use Rattle.coset_headers.specs.Parts.{Sees}
-use Rattle.coset_headers.proofs.Entered.{entries_snoc}
-use Rattle.coset_headers.proofs.Steps.{passed_on}
 use Rattle.coset_keys.specs.Fields.{KeyFields, reserved}
 use Rattle.coset_keys.specs.Keys.{type_of, operation_of, operations_of, Rises, HasOperations, HasKey, HaveKeys}
 use Rattle.coset_keys.specs.Parts.{Fills, Known, KnownIn, Added, HasEntries}
@@ -28,6 +28,7 @@ use Rattle.coset_keys.specs.View.{key_view}
 use Rattle.coset_keys.specs.Wrong.{WrongOperations, no_list, empty_list, bad_operation, operation_again, WrongValue, wrong_key_ops, WrongEntry, bad_label, bad_value, WrongEntries, WrongKey, no_map, at_entry, no_type, WrongKeys, WrongKeySet, no_key_list, in_key}
 use Rattle.coset_keys.specs.declared.key.CoseKey.{CoseKey}
 use Rattle.coset_keys.proofs.Entered.{known_more}
+use Rattle.coset_keys.proofs.Firsts.{first_of}
 use Rattle.coset_keys.proofs.Collected.{operations_pushed, no_operation, rises_more, there_before}
 
 -- ---- operations
@@ -48,20 +49,15 @@ listed_more xs x ns us n w q e u s = record {
   rises = subst (Rises (w.listed ++ n ∷ [])) (sym u) (rises_more w.listed ns n w.rises e (subst (IsStrictlySortedBy named_cmp) u s));
 }
 
-first_full : (o : Option Named) (w : Option (List Named)) (ms : List Named) → option_and_then (λ n. option_map (λ ns. n ∷ ns) w) o ≡ Some ms → ms ≢ []
-first_full None w ms e q = let h : None ≡ Some ms = e in cc
-first_full (Some n) None ms e q = let h : None ≡ Some ms = e in cc
-first_full (Some n) (Some ns) ms e q = let h : Some (n ∷ ns) ≡ Some ms = e in let k : n ∷ ns ≡ ms = cc in let z : n ∷ ns ≡ [] = k ∙ q in cc
-
 listed_full : (vs : List Value) (ms : List Named) → vs ≢ [] → operations_of (views vs) ≡ Some ms → ms ≢ []
 listed_full [] ms f e = absurd (f refl)
-listed_full (v ∷ vs) ms f e = first_full (operation_of (view v)) (operations_of (views vs)) ms e
+listed_full (v ∷ vs) ms f e = λ q.
+    let w = first_of (λ n. n) (operation_of (view v)) (operations_of (views vs)) ms e in
+    let h : w.first ∷ w.rest ≡ [] = sym w.whole ∙ q in
+    cc
 
 pub ops_done : (t : Tree) (vs : List Value) (ns : List Named) → t ≡ array (views vs) → vs ≢ [] → Listed (views vs) ns → HasOperations t ns
 ops_done t vs ns q f w = record { items = views vs; listed = w.listed; list = q; read = w.read; nonempty = listed_full vs w.listed f w.read; rises = w.rises }
-
-items_at : (all xs ys : List Value) (x : Value) → all ≡ xs ++ x ∷ ys → views all ≡ trees (map view xs ++ view x ∷ map view ys)
-items_at all xs ys x q = ap views q ∙ ap trees (map-append view xs (x ∷ ys))
 
 pub ops_bad : (t : Tree) (all xs ys : List Value) (x : Value) (e : CoseError) → t ≡ array (views all) → all ≡ xs ++ x ∷ ys → OrMemory (WrongRegistered key_operations.is_registered (view x)) e → OrMemory (WrongOperations t) e
 ops_bad t all xs ys x e q r w = passed_on (WrongRegistered key_operations.is_registered (view x)) (WrongOperations t) e
@@ -92,24 +88,10 @@ pub entry_added : (es : List (LabelFields × Tree)) (l v : Tree) (s : Seen Label
 entry_added es l v s old new m w q d z f = record { label = m; is = q; known = record { sees = z v; known = known_more es (key_view old) (key_view new) m v w d f } }
 
 -- ---- the entries of a map
-pub entries_at_fault : (all xs ys : List (Value × Value)) (x : Value × Value) (es : List (LabelFields × Tree)) (e : CoseError) → all ≡ xs ++ x ∷ ys → entries (view_pairs xs) ≡ Some es
-    → OrMemory (WrongEntry es (view x.0) (view x.1)) e → OrMemory (WrongEntries (view_pairs all)) e
-entries_at_fault all xs ys x es e q r w = passed_on (WrongEntry es (view x.0) (view x.1)) (WrongEntries (view_pairs all)) e
-    (λ z. record {
-      before = map view_pair xs;
-      after = map view_pair ys;
-      key = view x.0;
-      value = view x.1;
-      es = es;
-      are = ap view_pairs q ∙ ap pairs (map-append view_pair xs (x ∷ ys));
-      read = r;
-      wrong = z;
-    }) w
-
 pub entries_pushed : (xs : List (Value × Value)) (x : Value × Value) (es : List (LabelFields × Tree)) (s : Seen Label) (k : CoseKey) → entries (view_pairs xs) ≡ Some es → Added es (view x.0) (view x.1) s k
     → (fs : List (LabelFields × Tree)) × (entries (view_pairs (xs ++ x ∷ [])) ≡ Some fs) × KnownIn fs s k
 entries_pushed xs x es s k r a =
-    (es ++ (a.label, view x.1) ∷ [], ap entries (ap pairs (map-append view_pair xs (x ∷ []))) ∙ entries_snoc (map view_pair xs) es (view x.0) (view x.1) a.label r a.is, a.known)
+    (es ++ (a.label, view x.1) ∷ [], entry_read label_of xs x es a.label r a.is, a.known)
 
 -- ---- a key
 pub key_kind : (t : Tree) (e : CoseError) → (fault_of e ≡ unexpected) × (is_map t ≡ false) → OrMemory (WrongKey t) e
@@ -141,10 +123,6 @@ keys_pushed xs x ks us k e a b =
     subst (λ z. HaveKeys z (map key_view us)) (ap trees (sym (map-append view xs (x ∷ []))))
     (subst (HaveKeys (trees (map view xs ++ view x ∷ []))) (sym (map-append key_view ks (k ∷ [])) ∙ ap (map key_view) (sym e))
     (keys_snoc (map view xs) (view x) (map key_view ks) (key_view k) a b))
-
-pub keys_at_fault : (all xs ys : List Value) (x : Value) (e : CoseError) → all ≡ xs ++ x ∷ ys → OrMemory (WrongKey (view x)) e → OrMemory (WrongKeys (views all)) e
-keys_at_fault all xs ys x e q w = passed_on (WrongKey (view x)) (WrongKeys (views all)) e
-    (λ z. record { before = map view xs; after = map view ys; tree = view x; are = items_at all xs ys x q; wrong = z }) w
 
 pub set_kind : (t : Tree) (e : CoseError) → (fault_of e ≡ unexpected) × (is_array t ≡ false) → OrMemory (WrongKeySet t) e
 set_kind t e p = inr (no_key_list p.1 p.0)

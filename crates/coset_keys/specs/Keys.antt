@@ -5,12 +5,12 @@ use Rattle.std.specs.List.Sorted.{IsStrictlySortedBy}
 use Rattle.std.specs.Ordering.{eq_by_cmp}
 use Rattle.cose_iana.specs.Keys.{key_types, key_operations}
 use Rattle.ciborium_value.specs.Tree.{Tree, array, map as map_tree, Trees, no_trees, one_more, Pairs}
-use Rattle.coset_labels.specs.Entries.{others as others_by}
+use Rattle.coset_labels.specs.Entries.{Distinct, others as others_by, IsField}
 use Rattle.coset_labels.specs.Fields.{LabelFields, Named}
 use Rattle.coset_labels.specs.Kinds.{some_bytes}
 use Rattle.coset_labels.specs.Labels.{registered_of}
 use Rattle.coset_labels.specs.Orders.{named_cmp}
-use Rattle.coset_headers.specs.Headers.{is_at, alg_of, entries, at, Distinct, IsField}
+use Rattle.coset_headers.specs.Headers.{is_at, alg_of, entries, at}
 use Rattle.coset_keys.specs.Fields.{KeyFields, reserved}
 
 -- a label with a field of its own: 1 to 5

@@ -1,12 +1,14 @@
 -- The fields that the entries of a key that are read so far have given.
 use Rattle.std.specs.Prelude.{◌≡◌, ℕ, pos, [], ◌∷◌, ◌++◌, List, false, Some}
 use Rattle.ciborium_value.specs.Tree.{Tree, Pairs}
+use Rattle.coset_labels.specs.Entries.{Distinct}
 use Rattle.coset_labels.specs.Fields.{LabelFields, number, Named}
 use Rattle.coset_labels.specs.Kinds.{some_bytes}
 use Rattle.coset_labels.specs.Labels.{label_of}
+use Rattle.coset_labels.specs.Walks as walks
 use Rattle.coset_labels.specs.declared.label.Label.{Label}
 use Rattle.coset_labels.specs.declared.seen.Seen.{Seen}
-use Rattle.coset_headers.specs.Headers.{alg_of, Distinct, entries}
+use Rattle.coset_headers.specs.Headers.{alg_of}
 use Rattle.coset_headers.specs.Parts.{Sees}
 use Rattle.coset_keys.specs.Fields.{KeyFields}
 use Rattle.coset_keys.specs.Keys.{is_own, type_of, HasOperations, AreFields}
@@ -39,7 +41,5 @@ pub record Added (es : List (LabelFields × Tree)) (l v : Tree) (s : Seen Label)
   pub known : KnownIn (es ++ (label, v) ∷ []) s k
 
 -- the fields of all entries of a map
-pub record HasEntries (ps : Pairs) (k : KeyFields) : Type 0 where
-  pub es : List (LabelFields × Tree)
-  pub entries_are : entries ps ≡ Some es
-  pub known : Known es k
+abbrev pub HasEntries : Pairs → KeyFields → Type 0
+HasEntries ps k = walks.HasEntries label_of (λ es. Known es k) ps

@@ -5,12 +5,14 @@ use Rattle.cose_iana.specs.Algorithms.{is_algorithm}
 use Rattle.cose_iana.specs.Keys.{key_types, key_operations}
 use Rattle.cose_iana.specs.Registry.{is_private_use}
 use Rattle.ciborium_value.specs.Tree.{Tree, array, map as map_tree, Trees, no_trees, Pairs}
-use Rattle.ciborium_value.specs.View.{trees, pairs}
+use Rattle.ciborium_value.specs.View.{trees}
+use Rattle.coset_labels.specs.Entries.{IsIn, IsField}
 use Rattle.coset_labels.specs.Fields.{LabelFields, number, Named}
 use Rattle.coset_labels.specs.Faults.{CoseFault, duplicate_key, unexpected}
 use Rattle.coset_labels.specs.Kinds.{is_map, is_array, WrongBytes}
 use Rattle.coset_labels.specs.Labels.{label_of, WrongLabel, WrongRegistered, WrongNamed}
-use Rattle.coset_headers.specs.Headers.{entries, at, IsIn, IsField}
+use Rattle.coset_labels.specs.Walks as walks
+use Rattle.coset_headers.specs.Headers.{entries, at}
 use Rattle.coset_keys.specs.Fields.{reserved}
 use Rattle.coset_keys.specs.Keys.{type_of, operation_of, operations_of}
 
@@ -38,15 +40,8 @@ pub data WrongEntry (es : List (LabelFields × Tree)) (l v : Tree) (e : CoseFaul
   bad_value : (m : LabelFields) → label_of l ≡ Some m → WrongValue v m e → WrongEntry es l v e
 
 -- one of the entries has a fault, and those before it have labels
-pub record WrongEntries (ps : Pairs) (e : CoseFault) : Type 0 where
-  pub before : List (Tree × Tree)
-  pub after : List (Tree × Tree)
-  pub key : Tree
-  pub value : Tree
-  pub es : List (LabelFields × Tree)
-  pub are : ps ≡ pairs (before ++ (key, value) ∷ after)
-  pub read : entries (pairs before) ≡ Some es
-  pub wrong : WrongEntry es key value e
+abbrev pub WrongEntries : Pairs → CoseFault → Type 0
+WrongEntries = walks.WrongEntries label_of WrongEntry
 
 -- no map, an entry with a fault, or a type that is absent or 0
 pub data WrongKey (t : Tree) (e : CoseFault) : Type 0 where
@@ -56,12 +51,8 @@ pub data WrongKey (t : Tree) (e : CoseFault) : Type 0 where
       → IsField type_of reserved (at 1 es) reserved → e ≡ unexpected → WrongKey t e
 
 -- one of the keys has a fault
-pub record WrongKeys (ts : Trees) (e : CoseFault) : Type 0 where
-  pub before : List Tree
-  pub after : List Tree
-  pub tree : Tree
-  pub are : ts ≡ trees (before ++ tree ∷ after)
-  pub wrong : WrongKey tree e
+abbrev pub WrongKeys : Trees → CoseFault → Type 0
+WrongKeys = walks.WrongItems WrongKey
 
 -- no list, or a key with a fault in it
 pub data WrongKeySet (t : Tree) (e : CoseFault) : Type 0 where

@@ -63,7 +63,9 @@ impl CoseKeyBuilder {
         x: Vec<u8>,
         y: Vec<u8>,
     ) -> Result<CoseKeyBuilder, CoseError>
-        ensures { MatchResult result (λ b. so_far b ≡ ec2_key (elliptic_curves.number curve) (both x.items y.items)) (λ e. e ≡ Memory) }
+        ensures { MatchResult result
+            (λ b. so_far b ≡ ec2_key (elliptic_curves.number curve) (both x.items y.items))
+            (λ e. e ≡ Memory) }
     {
         Ok(ec2_builder(alloc, curve, x, Value::Bytes(y))?)
     }
@@ -78,7 +80,9 @@ impl CoseKeyBuilder {
         x: Vec<u8>,
         y_sign: bool,
     ) -> Result<CoseKeyBuilder, CoseError>
-        ensures { MatchResult result (λ b. so_far b ≡ ec2_key (elliptic_curves.number curve) (signed x.items y_sign)) (λ e. e ≡ Memory) }
+        ensures { MatchResult result
+            (λ b. so_far b ≡ ec2_key (elliptic_curves.number curve) (signed x.items y_sign))
+            (λ e. e ≡ Memory) }
     {
         Ok(ec2_builder(alloc, curve, x, Value::Bool(y_sign))?)
     }
@@ -93,8 +97,11 @@ impl CoseKeyBuilder {
         curve: iana::EllipticCurve,
         sec1: &[u8],
     ) -> Result<CoseKeyBuilder, ParseSec1OctetStringError>
-        ensures { MatchResult result (λ b. (p : spec.Point) × IsSec1 sec1.now p × (so_far b ≡ ec2_key (elliptic_curves.number curve) p))
-            (λ e. (e ≡ sec1_code.Memory) ⊎ ((e ≡ sec1_code.Malformed) × ((p : spec.Point) → IsSec1 sec1.now p → ⊥))) }
+        ensures { MatchResult result
+            (λ b. (p : spec.Point) × IsSec1 sec1.now p
+            × (so_far b ≡ ec2_key (elliptic_curves.number curve) p))
+            (λ e. (e ≡ sec1_code.Memory)
+            ⊎ ((e ≡ sec1_code.Malformed) × ((p : spec.Point) → IsSec1 sec1.now p → ⊥))) }
     {
         match parse_point(sec1) {
             Some(Point::Signed(x, sign)) => {
@@ -122,7 +129,9 @@ impl CoseKeyBuilder {
         d: Vec<u8>,
     ) -> Result<CoseKeyBuilder, CoseError>
         ensures { MatchResult result (λ b. so_far b
-            ≡ with_param d_label (bytes d.items) (ec2_key (elliptic_curves.number curve) (both x.items y.items))) (λ e. e ≡ Memory) }
+            ≡ with_param d_label (bytes d.items)
+            (ec2_key (elliptic_curves.number curve) (both x.items y.items)))
+            (λ e. e ≡ Memory) }
     {
         let mut builder = ec2_builder(alloc, curve, x, Value::Bytes(y))?;
         builder.push(D, Value::Bytes(d))?;
@@ -138,7 +147,8 @@ impl CoseKeyBuilder {
         variant: MlDsaVariant,
         k: Vec<u8>,
     ) -> Result<CoseKeyBuilder, CoseError>
-        ensures { MatchResult result (λ b. so_far b ≡ ml_dsa_key variant k.items) (λ e. e ≡ Memory) }
+        ensures { MatchResult result (λ b. so_far b ≡ ml_dsa_key variant k.items)
+            (λ e. e ≡ Memory) }
     {
         let mut builder = CoseKeyBuilder::new(alloc)
             .key_type(iana::KeyType::AKP)
@@ -168,7 +178,8 @@ impl CoseKeyBuilder {
 
     /// Sets the type of the key.
     pub fn key_type(mut self, key_type: iana::KeyType) -> CoseKeyBuilder
-        ensures { so_far result ≡ record (so_far self) { kty = assigned (key_types.number key_type) } }
+        ensures { so_far result
+            ≡ record (so_far self) { kty = assigned (key_types.number key_type) } }
     {
         self.key.kty = RegisteredLabel::Assigned(key_type);
         self
@@ -176,7 +187,8 @@ impl CoseKeyBuilder {
 
     /// Sets the type of the key, which may be a text.
     pub fn kty(mut self, kty: KeyType) -> CoseKeyBuilder
-        ensures { so_far result ≡ record (so_far self) { kty = registered_view key_types.number kty } }
+        ensures { so_far result
+            ≡ record (so_far self) { kty = registered_view key_types.number kty } }
     {
         self.key.kty = kty;
         self
@@ -184,7 +196,8 @@ impl CoseKeyBuilder {
 
     /// Sets the algorithm.
     pub fn algorithm(mut self, alg: iana::Algorithm) -> CoseKeyBuilder
-        ensures { so_far result ≡ record (so_far self) { alg = Some (assigned (algorithm_number alg)) } }
+        ensures { so_far result
+            ≡ record (so_far self) { alg = Some (assigned (algorithm_number alg)) } }
     {
         self.key.alg = Some(RegisteredLabelWithPrivate::Assigned(alg));
         self
@@ -212,7 +225,10 @@ impl CoseKeyBuilder {
     /// Only where memory is refused.
     pub fn add_key_op(mut self, op: iana::KeyOperation) -> Result<CoseKeyBuilder, CoseError>
         ensures { MatchResult result (λ b. so_far b
-            ≡ record (so_far self) { key_ops = insert_key named_cmp (so_far self).key_ops (assigned (key_operations.number op)) })
+            ≡ record (so_far self) {
+              key_ops = insert_key named_cmp (so_far self).key_ops
+                  (assigned (key_operations.number op));
+            })
             (λ e. e ≡ Memory) }
     {
         self.key.key_ops.insert(RegisteredLabel::Assigned(op))?;
@@ -225,14 +241,17 @@ impl CoseKeyBuilder {
     /// Only where memory is refused.
     pub fn param(mut self, label: i64, value: Value) -> Result<CoseKeyBuilder, CoseError>
         requires { is_common (number label) ≡ false }
-        ensures { MatchResult result (λ b. so_far b ≡ with_param (number label) (view value) (so_far self)) (λ e. e ≡ Memory) }
+        ensures { MatchResult result
+            (λ b. so_far b ≡ with_param (number label) (view value) (so_far self))
+            (λ e. e ≡ Memory) }
     {
         self.push(label, value)?;
         Ok(self)
     }
 
     fn push(&mut self, label: i64, value: Value) -> Result<(), AllocError>
-        ensures { IfOk result (λ _. so_far self.new ≡ with_param (number label) (view value) (so_far self.old)) }
+        ensures { IfOk result
+            (λ _. so_far self.new ≡ with_param (number label) (view value) (so_far self.old)) }
     {
         self.key.params.push((Label::Int(label), value))?;
         Ok(())
@@ -246,7 +265,8 @@ fn ec2_builder(
     x: Vec<u8>,
     y: Value,
 ) -> Result<CoseKeyBuilder, AllocError>
-    ensures { IfOk result (λ b. so_far b ≡ ec2_params (elliptic_curves.number curve) (bytes x.items) (view y)) }
+    ensures { IfOk result
+        (λ b. so_far b ≡ ec2_params (elliptic_curves.number curve) (bytes x.items) (view y)) }
 {
     let mut builder = CoseKeyBuilder::new(alloc).key_type(iana::KeyType::EC2);
     builder.push(FIRST, Value::Integer(Integer::from(curve.to_i64())))?;

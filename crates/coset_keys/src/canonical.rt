@@ -21,7 +21,8 @@ impl CoseKey {
     /// # Errors
     /// Only where memory is refused, and then the key is as it was.
     pub fn canonicalize(&mut self, alloc: Global, ordering: CborOrdering) -> Result<(), CoseError>
-        ensures { MatchResult result (λ _. Canonicalized ordering (key_view self.old) (key_view self.new))
+        ensures { MatchResult result
+            (λ _. Canonicalized ordering (key_view self.old) (key_view self.new))
             (λ e. (e ≡ Memory) × (key_view self.new ≡ key_view self.old)) }
     {
         match ordering {
@@ -35,7 +36,8 @@ impl CoseKey {
 }
 
 fn sort_bytewise(alloc: Global, params: &mut [(Label, Value)]) -> Result<(), AllocError>
-    ensures { MatchResult result (λ _. Sorts Lexicographic (map entry_view params.old) (map entry_view params.new))
+    ensures { MatchResult result
+        (λ _. Sorts Lexicographic (map entry_view params.old) (map entry_view params.new))
         (λ _. params.new ≡ params.old) }
 {
     params.sort_by(alloc, |a, b| cmp_bytewise(&a.0, &b.0))?;
@@ -43,7 +45,9 @@ fn sort_bytewise(alloc: Global, params: &mut [(Label, Value)]) -> Result<(), All
 }
 
 fn sort_length_first(alloc: Global, params: &mut [(Label, Value)]) -> Result<(), AllocError>
-    ensures { MatchResult result (λ _. Sorts LengthFirstLexicographic (map entry_view params.old) (map entry_view params.new))
+    ensures { MatchResult result
+        (λ _. Sorts LengthFirstLexicographic (map entry_view params.old)
+        (map entry_view params.new))
         (λ _. params.new ≡ params.old) }
 {
     params.sort_by(alloc, |a, b| a.0.cmp_canonical(&b.0))?;

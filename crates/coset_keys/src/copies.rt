@@ -5,7 +5,7 @@ ghost use Rattle.coset_labels.specs.View.{registered_view};
 ghost use Rattle.coset_keys.specs.View.{key_view, key_set_view};
 
 use crate::key::{CoseKey, CoseKeySet, KeyOperation};
-use coset_headers::{clone_alg, clone_rest};
+use coset_labels::{clone_entries, clone_key};
 use std::alloc::{AllocError, Global};
 use std::collections::BTreeSet;
 
@@ -20,10 +20,10 @@ impl CoseKey {
         Ok(CoseKey {
             kty: self.kty.clone(alloc)?,
             key_id: self.key_id.as_slice().to_vec(alloc)?,
-            alg: clone_alg(alloc, &self.alg)?,
+            alg: clone_key(alloc, &self.alg)?,
             key_ops: clone_operations(alloc, &self.key_ops)?,
             base_iv: self.base_iv.as_slice().to_vec(alloc)?,
-            params: clone_rest(alloc, &self.params)?,
+            params: clone_entries(alloc, &self.params)?,
         })
     }
 }

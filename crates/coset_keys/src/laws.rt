@@ -2,7 +2,7 @@
 ghost use Rattle.std.specs.Prelude.{◌≡◌, ◌↔◌, ◌+◌, ◌<◌, ◌^◌, ℕ, List, Some, IsTrue, length, map, option_map};
 ghost use Rattle.cose_iana.specs.Algorithms.{algorithm_number};
 ghost use Rattle.cose_iana.specs.Keys.{key_operations};
-ghost use Rattle.ciborium_value.specs.Tree.{Tree, bytes};
+ghost use Rattle.ciborium_value.specs.Tree.{Tree};
 ghost use Rattle.ciborium_value.specs.Encoding.{enc, Fits, FitPairs};
 ghost use Rattle.ciborium_value.specs.View.{pairs};
 ghost use Rattle.coset_labels.specs.declared.order.CborOrdering.{CborOrdering};
@@ -23,7 +23,7 @@ pub use crate::alike::{octet_errors_compare, point_errors_compare, variants_comp
 use crate::key::{CoseKey, CoseKeySet, KeyOperation};
 use ciborium_value::Value;
 use ciborium_value::laws::value_fits;
-use coset_labels::laws::{label_fits, name_fits, registered_fits};
+use coset_labels::laws::{bytes_fit, label_fits, name_fits, registered_fits};
 use coset_labels::{Algorithm, Label};
 use std::collections::BTreeSet;
 
@@ -36,33 +36,32 @@ pub fn one_key()
 /// A value with a fault has no fields.
 pub fn wrong_has_none()
     ensures key { (t : Tree) (e : CoseFault) (k : KeyFields) → WrongKey t e → HasKey t k → ⊥ }
-    ensures set { (t : Tree) (e : CoseFault) (ks : List KeyFields) → WrongKeySet t e → HasKeySet t ks → ⊥ }
+    ensures set { (t : Tree) (e : CoseFault) (ks : List KeyFields) → WrongKeySet t e
+        → HasKeySet t ks → ⊥ }
 {}
 
 /// A key that was read can be written, and of what is written the same key is read; so also where its `params` were put into another
 /// order. The same holds of sets.
 pub fn written_is_read()
-    ensures key { (t : Tree) (k : KeyFields) → HasKey t k → (u : Tree) × (key_tree k ≡ Some u) × HasKey u k }
+    ensures key { (t : Tree) (k : KeyFields) → HasKey t k
+        → (u : Tree) × (key_tree k ≡ Some u) × HasKey u k }
     ensures sorted { (t : Tree) (k l : KeyFields) → HasKey t k → SameButOrder k l
         → (u : Tree) × (key_tree l ≡ Some u) × HasKey u l }
-    ensures set { (t : Tree) (ks : List KeyFields) → HasKeySet t ks → (u : Tree) × (key_set_tree ks ≡ Some u) × HasKeySet u ks }
+    ensures set { (t : Tree) (ks : List KeyFields) → HasKeySet t ks
+        → (u : Tree) × (key_set_tree ks ≡ Some u) × HasKeySet u ks }
 {}
 
 /// Keys are equal where they say the same, their other entries in the same order.
 pub fn keys_compare(a: &CoseKey, b: &CoseKey)
-    ensures { IsTrue (⟦<CoseKey as std::cmp::PartialEq>⟧.eq a.now b.now) ↔ (key_view a.now ≡ key_view b.now) }
+    ensures { IsTrue (⟦<CoseKey as std::cmp::PartialEq>⟧.eq a.now b.now)
+        ↔ (key_view a.now ≡ key_view b.now) }
 {}
 
 /// Sets are equal where their keys are, in their order.
 pub fn key_sets_compare(a: &CoseKeySet, b: &CoseKeySet)
-    ensures { IsTrue (⟦<CoseKeySet as std::cmp::PartialEq>⟧.eq a.now b.now) ↔ (key_set_view a.now ≡ key_set_view b.now) }
+    ensures { IsTrue (⟦<CoseKeySet as std::cmp::PartialEq>⟧.eq a.now b.now)
+        ↔ (key_set_view a.now ≡ key_set_view b.now) }
 {}
-
-fn bytes_fit(content: &[u8])
-    ensures { Fits (bytes content.now) }
-{
-    let _len = content.len();
-}
 
 fn alg_fits(alg: &Option<Algorithm>)
     ensures { NameFits (option_map (named_view algorithm_number) alg.now) }
@@ -129,9 +128,12 @@ pub fn key_set_fits(set: &CoseKeySet)
 /// `params` were put into another order.
 pub fn key_reads_again(key: &CoseKey)
     ensures same { (b : List ℕ) → HasItem HasKey b (key_view key.now)
-        → (t : Tree) × (key_tree (key_view key.now) ≡ Some t) × HasItem HasKey (enc t) (key_view key.now) }
-    ensures sorted { (b : List ℕ) (k : KeyFields) → HasItem HasKey b k → SameButOrder k (key_view key.now)
-        → (t : Tree) × (key_tree (key_view key.now) ≡ Some t) × HasItem HasKey (enc t) (key_view key.now) }
+        → (t : Tree) × (key_tree (key_view key.now) ≡ Some t)
+        × HasItem HasKey (enc t) (key_view key.now) }
+    ensures sorted { (b : List ℕ) (k : KeyFields) → HasItem HasKey b k
+        → SameButOrder k (key_view key.now)
+        → (t : Tree) × (key_tree (key_view key.now) ≡ Some t)
+        × HasItem HasKey (enc t) (key_view key.now) }
 {
     key_fits(key);
 }
@@ -139,7 +141,8 @@ pub fn key_reads_again(key: &CoseKey)
 /// A set of keys that was read from bytes can be written, and of the bytes that it is written as the same set is read.
 pub fn key_set_reads_again(set: &CoseKeySet)
     ensures { (b : List ℕ) → HasItem HasKeySet b (key_set_view set.now)
-        → (t : Tree) × (key_set_tree (key_set_view set.now) ≡ Some t) × HasItem HasKeySet (enc t) (key_set_view set.now) }
+        → (t : Tree) × (key_set_tree (key_set_view set.now) ≡ Some t)
+        × HasItem HasKeySet (enc t) (key_set_view set.now) }
 {
     key_set_fits(set);
 }
@@ -149,7 +152,8 @@ pub fn key_set_reads_again(set: &CoseKeySet)
 pub fn one_spelling(a: &CoseKey, b: &CoseKey)
     ensures { (o : CborOrdering) (t s : Tree) (k l : KeyFields) → HasKey t k → HasKey s l
         → Canonicalized o k (key_view a.now) → Canonicalized o l (key_view b.now)
-        → (option_map enc (key_tree (key_view a.now)) ≡ option_map enc (key_tree (key_view b.now))) ↔ SameButOrder k l }
+        → (option_map enc (key_tree (key_view a.now)) ≡ option_map enc (key_tree (key_view b.now)))
+        ↔ SameButOrder k l }
 {
     key_fits(a);
     key_fits(b);

@@ -36,8 +36,10 @@ impl TryFrom<iana::Algorithm> for MlDsaVariant {
     ghost use Rattle.coset_keys.specs.MlDsa.{algorithm_of};
     ghost use Rattle.coset_keys.specs.declared.ml_dsa.MlDsaVariant.{MlDsaVariant};
 
-    ghost try_from_gives = { λ algorithm r. MatchResult r (λ variant. algorithm_of variant ≡ algorithm)
-        (λ e. (e ≡ OutOfRangeIntegerValue) × ((variant : MlDsaVariant) → algorithm_of variant ≢ algorithm)) };
+    ghost try_from_gives = { λ algorithm r. MatchResult r
+        (λ variant. algorithm_of variant ≡ algorithm)
+        (λ e. (e ≡ OutOfRangeIntegerValue)
+        × ((variant : MlDsaVariant) → algorithm_of variant ≢ algorithm)) };
 
     fn try_from(algorithm: iana::Algorithm) -> Result<MlDsaVariant, CoseError> {
         match algorithm {

@@ -19,7 +19,8 @@ pub(crate) fn read_operations(
     alloc: Global,
     value: Value,
 ) -> Result<BTreeSet<KeyOperation>, CoseError>
-    ensures { MatchResult result (λ s. HasOperations (view value) (map (registered_view key_operations.number) s.keys))
+    ensures { MatchResult result
+        (λ s. HasOperations (view value) (map (registered_view key_operations.number) s.keys))
         (λ e. OrMemory (WrongOperations (view value)) e) }
 {
     let items = value.try_as_array()?;
@@ -31,7 +32,9 @@ pub(crate) fn read_operations(
 
 fn collect_operations(alloc: Global, items: Vec<Value>) -> Result<BTreeSet<KeyOperation>, CoseError>
     requires { items.items ≢ [] }
-    ensures { MatchResult result (λ s. HasOperations (spec.array (views items.items)) (map (registered_view key_operations.number) s.keys))
+    ensures { MatchResult result
+        (λ s. HasOperations (spec.array (views items.items))
+        (map (registered_view key_operations.number) s.keys))
         (λ e. OrMemory (WrongOperations (spec.array (views items.items))) e) }
 {
     let mut operations = BTreeSet::new(alloc);

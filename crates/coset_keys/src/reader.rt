@@ -16,7 +16,8 @@ use std::alloc::Global;
 
 /// Reads a key. That it has a type is seen after all entries.
 pub(crate) fn read_key(alloc: Global, value: Value) -> Result<CoseKey, CoseError>
-    ensures { MatchResult result (λ k. HasKey (view value) (key_view k)) (λ e. OrMemory (WrongKey (view value)) e) }
+    ensures { MatchResult result (λ k. HasKey (view value) (key_view k))
+        (λ e. OrMemory (WrongKey (view value)) e) }
 {
     let entries = value.try_as_map()?;
     let key = read_entries(alloc, entries)?;
@@ -60,7 +61,8 @@ fn read_entry(
 
 /// Reads a set of keys, from the first to the last.
 pub(crate) fn read_key_set(alloc: Global, value: Value) -> Result<CoseKeySet, CoseError>
-    ensures { MatchResult result (λ s. HasKeySet (view value) (key_set_view s)) (λ e. OrMemory (WrongKeySet (view value)) e) }
+    ensures { MatchResult result (λ s. HasKeySet (view value) (key_set_view s))
+        (λ e. OrMemory (WrongKeySet (view value)) e) }
 {
     let items = value.try_as_array()?;
     let keys = read_keys(alloc, items)?;

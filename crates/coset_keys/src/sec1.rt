@@ -83,7 +83,8 @@ pub(crate) enum Point<'a> {
 
 /// The point of an octet string, if it is that of one.
 pub(crate) fn parse_point(sec1: &[u8]) -> Option<Point<'_>>
-    ensures { MatchOption result ((p : spec.Point) → IsSec1 sec1.now p → ⊥) (λ p. IsSec1 sec1.now (point_view p)) }
+    ensures { MatchOption result ((p : spec.Point) → IsSec1 sec1.now p → ⊥)
+        (λ p. IsSec1 sec1.now (point_view p)) }
 {
     match sec1.split_first() {
         Some((2, x)) => Some(Point::Signed(x, false)),
@@ -107,7 +108,8 @@ impl CoseKey {
     /// `NotEcKey` for a key of another type, `MissingCoordinate` where x or y is missing, `InvalidCoordinateType` where x is no byte
     /// string, or y neither one nor a sign, `UnequalCoordinateLength` where x and y differ in length, or `Memory`.
     pub fn to_sec1_octet_string(&self, alloc: Global) -> Result<Vec<u8>, ToSec1OctetStringError>
-        ensures { MatchResult result (λ b. (p : spec.Point) × HasPoint (key_view self.now) p × IsSec1 b.items p)
+        ensures { MatchResult result
+            (λ b. (p : spec.Point) × HasPoint (key_view self.now) p × IsSec1 b.items p)
             (λ e. (e ≡ code.Memory) ⊎ WrongPoint (key_view self.now) e) }
     {
         if !self.is_ec2() {
@@ -123,7 +125,8 @@ impl CoseKey {
     }
 
     fn is_ec2(&self) -> bool
-        ensures { MatchBool result ((key_view self.now).kty ≡ assigned (pos 2)) ((key_view self.now).kty ≢ assigned (pos 2)) }
+        ensures { MatchBool result ((key_view self.now).kty ≡ assigned (pos 2))
+            ((key_view self.now).kty ≢ assigned (pos 2)) }
     {
         self.kty == KeyType::Assigned(iana::KeyType::EC2)
     }
@@ -131,7 +134,8 @@ impl CoseKey {
 
 /// The value of the first entry with this label.
 fn first_value<'a>(params: &'a [(Label, Value)], label: &Label) -> Option<&'a Value>
-    ensures { option_map view (option_copied result) ≡ first_at (label_view label.now) (map entry_view params.now) }
+    ensures { option_map view (option_copied result)
+        ≡ first_at (label_view label.now) (map entry_view params.now) }
 {
     'entries: for entry in params {
         if entry.0 == *label {
@@ -143,7 +147,9 @@ fn first_value<'a>(params: &'a [(Label, Value)], label: &Label) -> Option<&'a Va
 
 /// The octet string of the point that two coordinates are.
 fn write_point(alloc: Global, x: &Value, y: &Value) -> Result<Vec<u8>, ToSec1OctetStringError>
-    ensures { MatchResult result (λ b. (p : spec.Point) × (view x.now ≡ x_tree p) × (view y.now ≡ y_tree p) × IsSec1 b.items p)
+    ensures { MatchResult result
+        (λ b. (p : spec.Point) × (view x.now ≡ x_tree p) × (view y.now ≡ y_tree p)
+        × IsSec1 b.items p)
         (λ e. (e ≡ code.Memory) ⊎ WrongCoordinates (view x.now) (view y.now) e) }
 {
     match x {

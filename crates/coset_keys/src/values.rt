@@ -47,7 +47,8 @@ impl CoseKey {
         label: Label,
         value: Value,
     ) -> Result<(), CoseError>
-        ensures { MatchResult result (λ _. Fills (label_view label) (view value) (key_view self.old) (key_view self.new))
+        ensures { MatchResult result
+            (λ _. Fills (label_view label) (view value) (key_view self.old) (key_view self.new))
             (λ e. OrMemory (WrongValue (view value) (label_view label)) e) }
     {
         match place_of(&label) {

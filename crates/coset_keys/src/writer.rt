@@ -20,7 +20,8 @@ use std::collections::BTreeSet;
 
 /// The map that stands for a key.
 pub(crate) fn write_key(alloc: Global, key: CoseKey) -> Result<Value, CoseError>
-    ensures { MatchResult result (λ v. key_tree (key_view key) ≡ Some (view v)) (λ e. CantWrite (key_tree (key_view key)) e) }
+    ensures { MatchResult result (λ v. key_tree (key_view key) ≡ Some (view v))
+        (λ e. CantWrite (key_tree (key_view key)) e) }
 {
     if repeats(alloc, &key.params)? {
         return Err(CoseError::DuplicateMapKey);
@@ -47,7 +48,8 @@ type Entries = Vec<(Value, Value)>;
 
 fn push_type(alloc: Global, entries: &mut Entries, kty: KeyType) -> Result<(), CoseError>
     ensures { MatchResult result (λ _. map view_pair entries.new.items
-        ≡ map view_pair entries.old.items ++ map entry_tree (name_entry 1 (Some (registered_view key_types.number kty))))
+        ≡ map view_pair entries.old.items
+        ++ map entry_tree (name_entry 1 (Some (registered_view key_types.number kty))))
         (λ e. e ≡ Memory) }
 {
     let kty = kty.to_cbor_value(alloc)?;
@@ -57,7 +59,8 @@ fn push_type(alloc: Global, entries: &mut Entries, kty: KeyType) -> Result<(), C
 
 fn push_alg(alloc: Global, entries: &mut Entries, alg: Option<Algorithm>) -> Result<(), CoseError>
     ensures { MatchResult result (λ _. map view_pair entries.new.items
-        ≡ map view_pair entries.old.items ++ map entry_tree (name_entry 3 (option_map (named_view algorithm_number) alg)))
+        ≡ map view_pair entries.old.items
+        ++ map entry_tree (name_entry 3 (option_map (named_view algorithm_number) alg)))
         (λ e. e ≡ Memory) }
 {
     if let Some(alg) = alg {
@@ -73,7 +76,8 @@ fn push_operations(
     operations: BTreeSet<KeyOperation>,
 ) -> Result<(), CoseError>
     ensures { MatchResult result (λ _. map view_pair entries.new.items
-        ≡ map view_pair entries.old.items ++ map entry_tree (ops_entry (map (registered_view key_operations.number) operations.keys)))
+        ≡ map view_pair entries.old.items
+        ++ map entry_tree (ops_entry (map (registered_view key_operations.number) operations.keys)))
         (λ e. e ≡ Memory) }
 {
     if operations.is_empty() {
@@ -88,7 +92,9 @@ fn write_operations(
     alloc: Global,
     operations: BTreeSet<KeyOperation>,
 ) -> Result<Vec<Value>, CoseError>
-    ensures { MatchResult result (λ v. map view v.items ≡ map named_tree (map (registered_view key_operations.number) operations.keys))
+    ensures { MatchResult result
+        (λ v. map view v.items
+        ≡ map named_tree (map (registered_view key_operations.number) operations.keys))
         (λ e. e ≡ Memory) }
 {
     let mut items = Vec::new(alloc);

@@ -1,11 +1,11 @@
-use Rattle.std.proofs.Common.{◌≡◌, ◌≤◌, ◌++◌, length, map, reverse}
+use Rattle.std.proofs.Common.{◌≡◌, ◌<◌, ◌++◌, length, map, reverse}
 use Rattle.ciborium_value.specs.Tree.{bytes}
 use Rattle.ciborium_value.specs.View.{view}
 use Rattle.coset_kdf.proofs.items.pop_private.Given as goal
 
 abbrev pub invariant-loop-items : goal.invariant-loop-items
 invariant-loop-items l = record {
-  many : 4 ≤ length l.items.items;
+  few : length l.items.items < 4 → length l.fn.items.items < 4;
   are : map view l.fn.items.items ≡ map view l.items.items ++ map bytes (map (λ v. v.items) (reverse l.private.items));
 }
 
