@@ -16,9 +16,7 @@ pub use cose_gate_laws::gate_core::{
     SemanticKind, Silent, Verdict, Write, de,
 };
 pub use cose_gate_program::judge::HmacJudge;
-pub use cose_gate_program::{
-    Blocks, InputFault, run, run_judged, run_over, run_with, words,
-};
+pub use cose_gate_program::{Blocks, InputFault, run, run_judged, run_over, run_with, words};
 pub use cose_gate_stream::{StreamFault, laws as stream_laws, stream_check, stream_check_with};
 pub use cose_hmac::hmac_sha256;
 pub use cose_iana as iana;
