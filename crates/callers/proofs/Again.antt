@@ -2,7 +2,7 @@
 use Rattle.std.proofs.Common.{◌≡◌, ℕ, ◌≤◌, List, [], Bool, true, false, ap, sym, subst, ◌∙◌}
 use Rattle.cose_gate.specs.CodeLimits.{nesting_of, layers_of}
 use Rattle.cose_gate.specs.Counts.{Counts}
-use Rattle.cose_gate.specs.Findings.{Limits, plain, only_exact}
+use Rattle.cose_gate.specs.Findings.{Bounds, plain, only_exact}
 use Rattle.cose_gate.specs.Fixed.{Admits, FixedPoint}
 use Rattle.cose_gate.specs.Run.{Step, Run, output_of, passed_count, refused_count}
 use Rattle.callers.specs.Gatings.{limits_by}
@@ -10,7 +10,7 @@ use Rattle.callers.specs.Judging.{allows, RelayedRun, Unchanged}
 use Rattle.callers.specs.declared.gatings.Gating.{Gating}
 
 -- the first relay goes by the limits `one`, the second by `two`, over what the first wrote
-pub unchanged : (one two : Limits) (ids kept : List (List ℕ)) (aad input once lent again : List ℕ) (first second : Counts) → kept ≡ ids → lent ≡ once
+pub unchanged : (one two : Bounds) (ids kept : List (List ℕ)) (aad input once lent again : List ℕ) (first second : Counts) → kept ≡ ids → lent ≡ once
     → (ss : List Step) × (rest : List ℕ) × Run one (allows ids) aad 0 input ss rest
     → ((ss : List Step) (rest : List ℕ) → Run one (allows ids) aad 0 input ss rest → RelayedRun ids aad ss rest once first)
     → ((ss : List Step) (rest : List ℕ) → Run two (allows kept) aad 0 lent ss rest → RelayedRun kept aad ss rest again second)
@@ -32,8 +32,8 @@ unchanged one two ids kept aad input once lent again first second same is (ss, r
 
 -- wider limits, strict or not, let through what a gating wrote
 pub wider_admits : (gating wider : Gating) → nesting_of gating.limits ≤ nesting_of wider.limits → layers_of gating.limits ≤ layers_of wider.limits
-    → ((limits : Limits) (nesting layers : ℕ) → limits.nesting ≤ nesting → limits.layers ≤ layers → Admits limits (plain nesting layers))
-    → ((limits : Limits) (nesting layers : ℕ) → limits.nesting ≤ nesting → limits.layers ≤ layers → Admits limits (only_exact nesting layers))
+    → ((limits : Bounds) (nesting layers : ℕ) → limits.nesting ≤ nesting → limits.layers ≤ layers → Admits limits (plain nesting layers))
+    → ((limits : Bounds) (nesting layers : ℕ) → limits.nesting ≤ nesting → limits.layers ≤ layers → Admits limits (only_exact nesting layers))
     → (strict stricter : Bool) → Admits (limits_by gating strict) (limits_by wider stricter)
 wider_admits gating wider n k plains exacts false false = plains (limits_by gating false) (nesting_of wider.limits) (layers_of wider.limits) n k
 wider_admits gating wider n k plains exacts false true = exacts (limits_by gating false) (nesting_of wider.limits) (layers_of wider.limits) n k

@@ -5,9 +5,10 @@ use Rattle.std.specs.Io.KnownBytes.{Consumes}
 use Rattle.ciborium_ll.specs.Reading.{Moves}
 use Rattle.coset.specs.KeyFields.{KeyFields}
 use Rattle.cose_gate.specs.Asked.{first_no}
-use Rattle.cose_gate.specs.Findings.{Limits, usual, IsJudged}
+use Rattle.cose_gate.specs.Findings.{Bounds, usual, IsJudged}
 use Rattle.cose_gate.specs.HmacJudges.{says_yes}
-use Rattle.cose_gate.specs.Questions.{Question, MessageFields, sign1, mac0, sign, mac, sign1_question, mac0_question, mac0_own, all_questions, questions, or_nothing}
+use Rattle.cose_gate.specs.Questions.{Question, MessageFields, sign1, mac0, sign, mac, sign1_question, mac0_question, all_questions, questions, or_nothing}
+use Rattle.cose_gate.specs.MacedStructure.{mac0_covered}
 use Rattle.cose_gate.specs.SignedStructure.{sign1_covered}
 use Rattle.cose_gate.specs.Stated.{IsSingle, Cut}
 use Rattle.cose_gate.specs.Streaming.{Checked, CheckedBy}
@@ -28,7 +29,7 @@ module _ (allows : Question → Bool) where
   asked_once : (m : MessageFields) (aad : List ℕ) → IsSingle m → all_questions m aad ≡ Some (questions m aad)
       → (q : Question) × (all_questions m aad ≡ Some (q ∷ [])) × (is_none (first_no allows (questions m aad)) ≡ allows q)
   asked_once (sign1 m) aad s e = one_asked (sign1_question m) (sign1_covered m aad) e
-  asked_once (mac0 m) aad s e = one_asked (mac0_question m) (mac0_own m aad) e
+  asked_once (mac0 m) aad s e = one_asked (mac0_question m) (mac0_covered m aad) e
   asked_once (sign m) aad s e = absurd s
   asked_once (mac m) aad s e = absurd s
 
@@ -39,7 +40,7 @@ module _ (allows : Question → Bool) where
         let a = asked_once c.message aad c.single (law c.item c.message aad c.is) in
         record { item = c.item; message = c.message; question = a.0; reads = c.reads; is = c.is; asked = a.1; answer = c.answer ∙ a.2 }
 
-    pub fed : (limits : Limits) (b : List ℕ) → ((n : ℕ) (ps : List ℕ) → Cut room n ps → sum ps ≡ n)
+    pub fed : (limits : Bounds) (b : List ℕ) → ((n : ℕ) (ps : List ℕ) → Cut room n ps → sum ps ≡ n)
         → ((n : ℕ) (ps : List ℕ) → Cut room n ps → length ps * room < n + room)
         → CheckedBy limits decided allows aad told told' room lengths yes b → IsFedInFew room lengths b
     fed limits b all few c = record {
@@ -66,7 +67,7 @@ is_answered (Ok y) ks ks' l l' at at' decided aad told told' room lengths e law 
 )
 is_answered (Err f) ks ks' l l' at at' decided aad told told' room lengths e law m = tt
 
-pub is_fed : {T E : Type 0} (limits : Limits) (r : Result Bool E) (allows : Question → Bool) (l l' : Option (List ℕ)) (at at' : ℕ) (decided : T → Question → T)
+pub is_fed : {T E : Type 0} (limits : Bounds) (r : Result Bool E) (allows : Question → Bool) (l l' : Option (List ℕ)) (at at' : ℕ) (decided : T → Question → T)
     (aad : List ℕ) (told told' : T) (room : ℕ) (lengths : List ℕ) → 0 < room
     → ((room n : ℕ) (ps : List ℕ) → Cut room n ps → sum ps ≡ n)
     → ((room n : ℕ) (ps : List ℕ) → 0 < room → Cut room n ps → length ps * room < n + room)

@@ -4,7 +4,7 @@ use Rattle.std.proofs.lemmas.Grind.{flat_map-append}
 use Rattle.std.specs.Prelude.{Result, Ok, Err}
 use Rattle.std.specs.Io.KnownBytes.{Appends}
 use Rattle.cose_gate.specs.Reading.{IfKnown}
-use Rattle.cose_gate.specs.Findings.{Limits, usual}
+use Rattle.cose_gate.specs.Findings.{Bounds, usual}
 use Rattle.cose_gate.specs.Questions.{Question}
 use Rattle.cose_gate.specs.Asked.{folded_over}
 use Rattle.cose_gate.specs.Run.{Step, Run, Course, asked_of, questions_of}
@@ -24,7 +24,7 @@ pub told_all : (told : List (List ℕ)) (qs : List Question) → folded_over dec
 told_all told [] = sym (append-nil told)
 told_all told (q ∷ qs) = told_all (told ++ key_id_of q.subject ∷ []) qs ∙ append_assoc told (key_id_of q.subject ∷ []) (key_ids_of qs)
 
-abbrev pub by : Limits → List (List ℕ) → List ℕ → Rules (List (List ℕ)) Tallied
+abbrev pub by : Bounds → List (List ℕ) → List ℕ → Rules (List (List ℕ)) Tallied
 by limits ids aad = record { limits = limits; decided = decided; folded = tallied; allows = allows ids; aad = aad }
 
 abbrev sides : Sight (List (List ℕ)) Tallied → Sides
@@ -95,7 +95,7 @@ module _ (ids : List (List ℕ)) (aad input : List ℕ) (old new : Sight (List (
     }
 
 -- the clauses of the gate, over a run of the input; its answer tells which sights are meant
-module _ (limits : Limits) (ids : List (List ℕ)) (aad input : List ℕ) (old new : Sight (List (List ℕ)) Tallied) {E : Type 0} (ends : E → Bool) where
+module _ (limits : Bounds) (ids : List (List ℕ)) (aad input : List ℕ) (old new : Sight (List (List ℕ)) Tallied) {E : Type 0} (ends : E → Bool) where
   abbrev the_call : Call (List (List ℕ)) Tallied E
   the_call = record { ends = ends; rules = by limits ids aad; old = old; new = new }
 

@@ -1,27 +1,27 @@
 -- What runs say whose answers come from elsewhere.
-use Rattle.std.proofs.Common.{◌≡◌, ℕ, ◌+◌, ◌<◌, ◌⊎◌, inl, inr, List, [], ◌∷◌, ◌++◌, map, flat_map, length, Option, None, Some, Bool, true, false, cond, not, nat_eq, refl, ap, subst, sym, ◌∙◌, arith, append_assoc, append-nil}
+use Rattle.std.proofs.Common.{◌≡◌, ℕ, ◌+◌, ◌<◌, ◌⊎◌, inl, inr, List, [], ◌∷◌, ◌++◌, map, flat_map, length, Option, Some, Bool, true, false, cond, not, nat_eq, refl, ap, subst, sym, ◌∙◌, arith, append_assoc, append-nil}
 use Rattle.std.proofs.lemmas.Bool.Decides.{nat_tests}
 use Rattle.std.proofs.lemmas.Grind.{flat_map-append}
 use Rattle.std.proofs.lemmas.List.Sums.{sum_by-cons}
-use Rattle.std.specs.Prelude.{Result, Ok, Err}
+use Rattle.std.specs.Prelude.{Result, Err}
 use Rattle.std.specs.Io.KnownBytes.{Appends}
 use Rattle.cose_gate.specs.Asked.{IsFront, folded_over}
 use Rattle.cose_gate.specs.Counts.{Counts}
 use Rattle.cose_gate.specs.Entry.{Entry}
-use Rattle.cose_gate.specs.Findings.{Limits, usual, Finding, judged, barred, excluded, Finds}
+use Rattle.cose_gate.specs.Findings.{Bounds, usual, Finding, judged, barred, excluded, Finds}
 use Rattle.cose_gate.specs.Fixed.{ExcludesInexact}
 use Rattle.cose_gate.specs.GateFault.{GateFault}
 use Rattle.cose_gate.specs.GateFault.TheVariants as gating
 use Rattle.cose_gate.specs.Items.{SequenceWithin}
 use Rattle.cose_gate.specs.KeyFields.{KeyFields}
 use Rattle.cose_gate.specs.Outcome.{Rules, Sight, Whole, Outcome, Answers}
-use Rattle.cose_gate.specs.Program.{Devices, Hearing, Through, RanOver, RanOn, RanJudged, EndsWithin, EndsOver, no_file, not_hex, no_keys, no_memory, after_run}
+use Rattle.cose_gate.specs.Program.{Devices, RanOver, RanJudged, EndsWithin, EndsOver, no_file, not_hex, no_keys, no_memory, after_run}
 use Rattle.cose_gate.specs.Questions.{Question}
 use Rattle.cose_gate.specs.Reading.{IfKnown}
 use Rattle.cose_gate.specs.Records.{record_of, is_among}
 use Rattle.cose_gate.specs.Run.{Step, Steps, Course, asked_of, passes, text_of, written_of, questions_of, output_of, refused_count}
 use Rattle.cose_gate.specs.Tree.{Tree}
-use Rattle.callers.specs.Asking.{always, IsAsked, IsAskedInPart, IsPassedBy, AreRecords, IsPassed, RanByIds, EndsAccepted, IsHandedOn}
+use Rattle.callers.specs.Asking.{always, IsAsked, IsAskedInPart, IsPassedBy, AreRecords, IsPassed, RanByIds, IsHandedOn}
 use Rattle.callers.specs.Judging.{allows}
 use Rattle.callers.proofs.Relay.{decided, told_all}
 
@@ -131,7 +131,7 @@ pub passed_of : (accepted aad input output : List ℕ) (keys : List (List ℕ)) 
 passed_of accepted aad input output keys counts are p = (keys, are, p)
 
 -- a judge by key ids was told so of the run
-pub ran_by_ids : (limits : Limits) (ids : List (List ℕ)) (aad : List ℕ) (old new : Devices)
+pub ran_by_ids : (limits : Bounds) (ids : List (List ℕ)) (aad : List ℕ) (old new : Devices)
     (asked asked' : List (List ℕ)) (status : ℕ)
     → RanJudged limits (record { allows = allows ids; decided = decided; before = asked; after = asked' })
     aad old new status
@@ -149,7 +149,7 @@ below_two : (b : Bool) (n : ℕ) → n ≡ cond {A = ℕ} b 0 1 → n < 2
 below_two true n e = let h : n ≡ 0 = e in omega arith
 below_two false n e = let h : n ≡ 1 = e in omega arith
 
-over_status : (limits : Limits) (says : Question → Bool) (aad : List ℕ) (old new : Devices)
+over_status : (limits : Bounds) (says : Question → Bool) (aad : List ℕ) (old new : Devices)
     (b : List ℕ) (steps : List Step) (status : ℕ)
     → RanOver limits says aad old new b steps status → (status < 2) ⊎ (status ≡ 4)
 over_status limits says aad old new b steps status r = elim r [
@@ -164,7 +164,7 @@ between n more less s = elim s [
 ]
 
 -- with the statuses 2 and 3 it was not run
-pub untouched : (limits : Limits) (says : List KeyFields → Question → Bool)
+pub untouched : (limits : Bounds) (says : List KeyFields → Question → Bool)
     (keys aad : Option (List ℕ)) (old new : Devices) (status : ℕ)
     → EndsWithin limits says keys aad old new status → 1 < status → status < 4 → new ≡ old
 untouched limits says keys aad old new status (no_file k s same) more less = same
@@ -181,7 +181,7 @@ all_pass true n e = let h : 0 + n ≡ 0 = e in (refl, omega (arith, h))
 all_pass false n e = let h : 1 + n ≡ 0 = e in absurd (let k : ⊥ = omega (arith, h) in k)
 
 -- under limits that exclude what isn't already as it would be written
-module _ (limits : Limits) (says : Question → Bool) (aad : List ℕ) (exact : ExcludesInexact limits) where
+module _ (limits : Bounds) (says : Question → Bool) (aad : List ℕ) (exact : ExcludesInexact limits) where
   as_received : (f : Finding) (b : List ℕ) (t : Tree) → Finds limits b t f → passes says aad f ≡ true
       → written_of says aad f ≡ b
   as_received (judged m) b t finds p =
@@ -208,7 +208,7 @@ module _ (limits : Limits) (says : Question → Bool) (aad : List ℕ) (exact : 
 none_of : (n : ℕ) → 0 ≡ cond {A = ℕ} (nat_eq n 0) 0 1 → n ≡ 0
 none_of n e = grind (arith, nat_tests, e)
 
-all_written : (limits : Limits) (says : Question → Bool) (aad : List ℕ) (old new : Devices)
+all_written : (limits : Bounds) (says : Question → Bool) (aad : List ℕ) (old new : Devices)
     (b : List ℕ) (steps : List Step) (status : ℕ) → ExcludesInexact limits
     → RanOver limits says aad old new b steps status → status ≡ 0 → Appends old.written new.written b
 all_written limits says aad old new b steps status exact over none = elim over [
@@ -222,7 +222,7 @@ all_written limits says aad old new b steps status exact over none = elim over [
 ]
 
 -- with the status 0 a strict run wrote all that it read
-pub handed_on : (limits : Limits) (says : List KeyFields → Question → Bool) (keys aad : List ℕ)
+pub handed_on : (limits : Bounds) (says : List KeyFields → Question → Bool) (keys aad : List ℕ)
     (old new : Devices) (status : ℕ) → ExcludesInexact limits
     → EndsOver limits says keys aad old new status → status ≡ 0 → IsHandedOn old new
 handed_on limits says keys aad old new status exact e none input is = elim e [

@@ -1,9 +1,9 @@
 -- What is asked and passed where the answers come from elsewhere.
-use Rattle.std.specs.Prelude.{◌≡◌, ◌⊎◌, ◌<◌, ℕ, List, [], ◌++◌, flat_map, Option, Some, Bool, true}
+use Rattle.std.specs.Prelude.{◌≡◌, ◌⊎◌, ◌<◌, ℕ, List, [], ◌++◌, flat_map, Some, Bool, true}
 use Rattle.std.specs.Io.KnownBytes.{Appends}
 use Rattle.cose_gate.specs.Asked.{IsFront}
 use Rattle.cose_gate.specs.Counts.{Counts}
-use Rattle.cose_gate.specs.Findings.{Limits, usual}
+use Rattle.cose_gate.specs.Findings.{Bounds, usual}
 use Rattle.cose_gate.specs.Program.{Devices, RanOn}
 use Rattle.cose_gate.specs.Questions.{Question}
 use Rattle.cose_gate.specs.RecordFraming.{framed}
@@ -57,7 +57,7 @@ IsPassed accepted aad input output counts =
 
 -- the program ran with a judge by key ids. What it wrote, its status, and the ids that the judge was
 -- asked about belong to one course of steps; about all of them where the status is 0 or 1.
-pub record RanByIds (limits : Limits) (ids : List (List ℕ)) (aad : List ℕ) (old new : Devices)
+pub record RanByIds (limits : Bounds) (ids : List (List ℕ)) (aad : List ℕ) (old new : Devices)
     (asked asked' : List (List ℕ)) (status : ℕ) : Type 0 where
   pub on : RanOn limits (allows ids) aad old new status
   pub front : List Question
@@ -67,7 +67,7 @@ pub record RanByIds (limits : Limits) (ids : List (List ℕ)) (aad : List ℕ) (
 
 -- how the program ends with the records that were accepted: where they are records after a run that
 -- passes what they are of; else nothing was read and nothing written
-abbrev pub EndsAccepted : Limits → List ℕ → List ℕ → Devices → Devices → ℕ → Type 0
+abbrev pub EndsAccepted : Bounds → List ℕ → List ℕ → Devices → Devices → ℕ → Type 0
 EndsAccepted limits accepted aad old new status =
     (AreNoRecords accepted × (status ≡ 3) × (new ≡ old))
     ⊎ ((status ≡ 4) × (new ≡ old))

@@ -4,6 +4,7 @@ pub mod Gatings
 pub mod Heads
 pub mod Judging
 pub mod Keeping
+pub mod Kinds
 pub mod Sides
 pub mod Signing
 pub mod Tallies

@@ -1,7 +1,8 @@
 -- What is said about a signature or a tag.
-use Rattle.std.specs.Prelude.{ℕ, List, Option, IsSomeAnd, Result, Ok, Err}
+use Rattle.std.specs.Prelude.{◌≡◌, ◌↔◌, ℕ, List, Option, Some, Bool, IsTrue, IsSomeAnd, Result, Ok, Err}
 use Rattle.coset_messages.specs.CallerFault.{Fault}
 use Rattle.coset_messages.specs.CallerFault.TheVariants as fault
+use Rattle.coset_messages.specs.CoseError.{CoseError}
 use Rattle.coset_messages.specs.Faults.{CantWrite}
 use Rattle.callers.specs.declared.signing.Refused.{Refused}
 
@@ -14,3 +15,8 @@ abbrev pub Verified : (List ℕ → List ℕ → Type 0) → Option (List ℕ) �
 Verified good covered signature (Ok u) = IsGood good covered signature
 Verified good covered signature (Err (fault.Caller e)) = IsGood (λ b s. good b s → ⊥) covered signature
 Verified good covered signature (Err (fault.Cose c)) = CantWrite covered c
+
+-- whether the bytes are the covered ones, or why these can't be written
+abbrev pub SaysCovered : Option (List ℕ) → List ℕ → Result Bool CoseError → Type 0
+SaysCovered covered b (Ok same) = IsTrue same ↔ (covered ≡ Some b)
+SaysCovered covered b (Err e) = CantWrite covered e

@@ -5,12 +5,14 @@
 pub mod asking;
 pub mod checking;
 pub mod covering;
+pub mod covers;
 pub mod gatings;
 pub mod heading;
 pub mod heads;
 pub mod items;
 pub mod judging;
 pub mod keeping;
+pub mod kinds;
 pub mod once;
 pub mod relaying;
 pub mod signing;

@@ -53,7 +53,8 @@ impl<T> Io<T> {
     fn read_fault(&mut self, fault: IoFault) -> IoFault
         ensures fault { result ≡ fault }
         ensures device { device_of self.new ≡ device_of self.old }
-        ensures failed { device_failures self.new ≡ read_failures {T = ℕ} is_end_fault (Err fault) (device_failures self.old) }
+        ensures failed { device_failures self.new ≡ read_failures {T = ℕ} is_end_fault (Err fault)
+            (device_failures self.old) }
     {
         if let IoFault::Io(_) = fault {
             self.failed = self.failed.and_one();

@@ -30,7 +30,8 @@ impl<R> From<R> for Decoder<R> {
     ghost use Rattle.std.specs.Prelude.{◌≡◌, None, true};
     ghost use Rattle.ciborium_ll.specs.Views.{reader_of, offset_of, waiting_of, shortest_of};
 
-    ghost from_gives = { λ reader d. (reader_of d ≡ reader) × (offset_of d ≡ 0) × (waiting_of d ≡ None)
+    ghost from_gives = { λ reader d. (reader_of d ≡ reader) × (offset_of d ≡ 0)
+        × (waiting_of d ≡ None)
         × (shortest_of d ≡ true) };
 
     fn from(reader: R) -> Decoder<R> {
@@ -50,14 +51,17 @@ impl<R: Read> Decoder<R> {
 
     fn fill(&mut self, data: &mut [u8]) -> Result<(), Error<R::Error>>
         requires { self.old.waiting ≡ None }
-        ensures ok { OnOk result (Consumes (R.left self.old.reader) (R.left self.new.reader) «data».new) }
+        ensures ok { OnOk result (Consumes (R.left self.old.reader)
+            (R.left self.new.reader) «data».new) }
         ensures bytes { (i : ℕ) → slice_index_or «data».new i 0 < 256 }
         ensures grown { OnOk result (self.new.read ≡ self.old.read + length «data».old) }
-        ensures fault { IfErr result (Tells R.ends (IsShort (R.left self.old.reader) (length «data».old)) (λ p. ⊥)
+        ensures fault { IfErr result (Tells R.ends
+            (IsShort (R.left self.old.reader) (length «data».old)) (λ p. ⊥)
             (2 ^ 64 ≤ self.old.read + length «data».old)) }
         ensures long { 2 ^ 64 ≤ self.old.read + length «data».old → result ≡ Err TooLong }
         ensures one { IfErr result (Tells R.ends
-            (length «data».old ≡ 1 → Keeps (R.left self.old.reader) (R.left self.new.reader)) (λ p. ⊥) ⊤) }
+            (length «data».old ≡ 1 → Keeps (R.left self.old.reader) (R.left self.new.reader))
+            (λ p. ⊥) ⊤) }
         ensures place { OnErr result (self.new.read ≡ self.old.read) }
         ensures untouched { IfRefused result ((self.new ≡ self.old) × («data».new ≡ «data».old)) }
         ensures steady { Steady R.ends result (raw R.Read self.old) (raw R.Read self.new) }
@@ -79,8 +83,10 @@ impl<R: Read> Decoder<R> {
     fn number(&mut self, info: u8) -> Result<u64, Error<R::Error>>
         requires small { info < 28 }
         requires fresh { self.old.waiting ≡ None }
-        ensures ok { IfOk result (λ n. Takes (raw R.Read self.old) (raw R.Read self.new) (λ bytes. NumberAt info bytes n)) }
-        ensures fault { IfErr result (Tells R.ends (IsShort (R.left self.old.reader) (bytes_after info)) (λ p. ⊥)
+        ensures ok { IfOk result (λ n. Takes (raw R.Read self.old) (raw R.Read self.new)
+            (λ bytes. NumberAt info bytes n)) }
+        ensures fault { IfErr result (Tells R.ends
+            (IsShort (R.left self.old.reader) (bytes_after info)) (λ p. ⊥)
             (2 ^ 64 ≤ self.old.read + 8)) }
         ensures wide { OnErr result (0 < bytes_after info) }
         ensures place { OnErr result (self.new.read ≡ self.old.read) }
@@ -120,8 +126,10 @@ impl<R: Read> Decoder<R> {
     /// the bytes among them; `TooLong` where the offset could pass `usize::MAX`. At both the offset stays, or it has grown by
     /// one, for the first byte of a title whose others did not come.
     pub fn pull(&mut self) -> Result<Header, Error<R::Error>>
-        ensures ok { IfOk result (λ h. Takes (seen R.Read self.old) (seen R.Read self.new) (λ b. Title b h)) }
-        ensures fault { IfErr result (TitleTells R.ends (seen R.Read self.old) (seen R.Read self.new)) }
+        ensures ok { IfOk result (λ h. Takes (seen R.Read self.old) (seen R.Read self.new)
+            (λ b. Title b h)) }
+        ensures fault { IfErr result (TitleTells R.ends (seen R.Read self.old)
+            (seen R.Read self.new)) }
         ensures stops { IfErr result (TitleStops (seen R.Read self.old) (seen R.Read self.new)) }
         ensures within { IfOk result (λ h. length (title_of h) ≤ offset_of self.new) }
         ensures grows { offset_of self.old ≤ offset_of self.new }
@@ -150,14 +158,18 @@ impl<R: Read> Decoder<R> {
     /// nothing has changed. `Io` for a fault of the reader; an end comes only where fewer bytes are left than the buffer
     /// holds. The offset stays at each of them.
     pub fn read_exact(&mut self, data: &mut [u8]) -> Result<(), Error<R::Error>>
-        ensures ok { OnOk result (Consumes (left_of R.left self.old) (left_of R.left self.new) «data».new) }
+        ensures ok { OnOk result (Consumes (left_of R.left self.old)
+            (left_of R.left self.new) «data».new) }
         ensures bytes { (i : ℕ) → slice_index_or «data».new i 0 < 256 }
         ensures grown { OnOk result (offset_of self.new ≡ offset_of self.old + length «data».old) }
-        ensures fault { IfErr result (ReadTells R.ends (length «data».old) (seen R.Read self.old) (seen R.Read self.new)) }
+        ensures fault { IfErr result (ReadTells R.ends (length «data».old) (seen R.Read self.old)
+            (seen R.Read self.new)) }
         ensures one { IfErr result (RawFault R.ends
-            (length «data».old ≡ 1 → Keeps (left_of R.left self.old) (left_of R.left self.new)) ⊤ ⊤) }
+            (length «data».old ≡ 1 → Keeps (left_of R.left self.old)
+            (left_of R.left self.new)) ⊤ ⊤) }
         ensures waiting { waiting_of self.old ≢ None → result ≡ Err Waiting }
-        ensures long { waiting_of self.old ≡ None → 2 ^ 64 ≤ offset_of self.old + length «data».old → result ≡ Err TooLong }
+        ensures long { waiting_of self.old ≡ None → 2 ^ 64 ≤ offset_of self.old + length «data».old
+            → result ≡ Err TooLong }
         ensures place { OnErr result (offset_of self.new ≡ offset_of self.old) }
         ensures untouched { IfRefused result ((self.new ≡ self.old) × («data».new ≡ «data».old)) }
         ensures fits { offset_of self.new < 2 ^ 64 }
@@ -176,7 +188,8 @@ impl<R: Read> Decoder<R> {
         requires within { length (title_of header) ≤ offset_of self.old }
         ensures waiting { waiting_of self.new ≡ Some header }
         ensures reader { reader_of self.new ≡ reader_of self.old }
-        ensures left { left_of R.left self.new ≡ prepend_known (title_of header) (left_of R.left self.old) }
+        ensures left { left_of R.left self.new ≡ prepend_known (title_of header)
+            (left_of R.left self.old) }
         ensures offset { offset_of self.new + length (title_of header) ≡ offset_of self.old }
         ensures same { shortest_of self.new ≡ shortest_of self.old }
     {
@@ -219,8 +232,10 @@ impl<R: Read> Decoder<R> {
 
     fn pull_title(&mut self) -> Result<Header, Error<R::Error>>
         requires { self.old.waiting ≡ None }
-        ensures ok { IfOk result (λ h. Takes (raw R.Read self.old) (raw R.Read self.new) (λ b. Title b h)) }
-        ensures fault { IfErr result (TitleTells R.ends (raw R.Read self.old) (raw R.Read self.new)) }
+        ensures ok { IfOk result (λ h. Takes (raw R.Read self.old) (raw R.Read self.new)
+            (λ b. Title b h)) }
+        ensures fault { IfErr result (TitleTells R.ends (raw R.Read self.old)
+            (raw R.Read self.new)) }
         ensures stops { IfErr result (TitleStops (raw R.Read self.old) (raw R.Read self.new)) }
         ensures grows { self.old.read ≤ self.new.read }
         ensures steady { Steady R.ends result (raw R.Read self.old) (raw R.Read self.new) }
@@ -274,7 +289,8 @@ fn with_number(major: u8, info: u8, n: u64) -> Header
     requires major { major < 8 }
     requires info { info < 28 }
     requires number { (bytes : List ℕ) × NumberAt info bytes n }
-    ensures title { (bytes : List ℕ) → NumberAt info bytes n → Title (first_byte major info ∷ bytes) result }
+    ensures title { (bytes : List ℕ) → NumberAt info bytes n
+        → Title (first_byte major info ∷ bytes) result }
     ensures shortest { (bytes : List ℕ) → NumberAt info bytes n
         → IsShortest (needs_width major info n) (first_byte major info ∷ bytes) result }
 {

@@ -33,10 +33,13 @@ impl<W: Write> Encoder<W> {
     /// The writer's; a beginning of the title was written then.
     #[inline(always)]
     pub fn push(&mut self, header: Header) -> Result<(), W::Error>
-        ensures ok { OnOk result (Appends (W.written (writer_of self.old)) (W.written (writer_of self.new)) (title_of header)) }
-        ensures err { OnErr result (AppendsFront (W.written (writer_of self.old)) (W.written (writer_of self.new)) (title_of header)) }
+        ensures ok { OnOk result (Appends (W.written (writer_of self.old))
+            (W.written (writer_of self.new)) (title_of header)) }
+        ensures err { OnErr result (AppendsFront (W.written (writer_of self.old))
+            (W.written (writer_of self.new)) (title_of header)) }
         ensures kept { W.handle (writer_of self.new) ≡ W.handle (writer_of self.old) }
-        ensures failed { W.failed (writer_of self.new) ≡ write_failures result (W.failed (writer_of self.old)) }
+        ensures failed { W.failed (writer_of self.new) ≡ write_failures result
+            (W.failed (writer_of self.old)) }
     {
         match header {
             Header::Positive(n) => self.number(0, n),
@@ -57,10 +60,13 @@ impl<W: Write> Encoder<W> {
     #[inline]
     fn sized(&mut self, major: u8, len: Option<usize>) -> Result<(), W::Error>
         requires { major < 8 }
-        ensures ok { OnOk result (Appends (W.written (writer_of self.old)) (W.written (writer_of self.new)) (shortest_sized major len)) }
-        ensures err { OnErr result (AppendsFront (W.written (writer_of self.old)) (W.written (writer_of self.new)) (shortest_sized major len)) }
+        ensures ok { OnOk result (Appends (W.written (writer_of self.old))
+            (W.written (writer_of self.new)) (shortest_sized major len)) }
+        ensures err { OnErr result (AppendsFront (W.written (writer_of self.old))
+            (W.written (writer_of self.new)) (shortest_sized major len)) }
         ensures kept { W.handle (writer_of self.new) ≡ W.handle (writer_of self.old) }
-        ensures failed { W.failed (writer_of self.new) ≡ write_failures result (W.failed (writer_of self.old)) }
+        ensures failed { W.failed (writer_of self.new) ≡ write_failures result
+            (W.failed (writer_of self.old)) }
     {
         match len {
             Some(n) => self.number(major, n as u64),
@@ -72,10 +78,13 @@ impl<W: Write> Encoder<W> {
     #[tactic(auto, unfolding(crate::specs::Title::shortest))]
     fn number(&mut self, major: u8, n: u64) -> Result<(), W::Error>
         requires { major < 8 }
-        ensures ok { OnOk result (Appends (W.written (writer_of self.old)) (W.written (writer_of self.new)) (shortest major n)) }
-        ensures err { OnErr result (AppendsFront (W.written (writer_of self.old)) (W.written (writer_of self.new)) (shortest major n)) }
+        ensures ok { OnOk result (Appends (W.written (writer_of self.old))
+            (W.written (writer_of self.new)) (shortest major n)) }
+        ensures err { OnErr result (AppendsFront (W.written (writer_of self.old))
+            (W.written (writer_of self.new)) (shortest major n)) }
         ensures kept { W.handle (writer_of self.new) ≡ W.handle (writer_of self.old) }
-        ensures failed { W.failed (writer_of self.new) ≡ write_failures result (W.failed (writer_of self.old)) }
+        ensures failed { W.failed (writer_of self.new) ≡ write_failures result
+            (W.failed (writer_of self.old)) }
     {
         if n < 24 {
             self.writer.write_all(&[32 * major + n as u8])

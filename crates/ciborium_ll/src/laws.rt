@@ -19,7 +19,8 @@ pub fn header_fits(header: Header)
 
 /// No title begins another, and one title gives one header.
 pub fn one_title()
-    ensures { (a b x y : List ℕ) (h k : Header) → Title a h → Title b k → a ++ x ≡ b ++ y → (a ≡ b) × (h ≡ k) }
+    ensures { (a b x y : List ℕ) (h k : Header) → Title a h → Title b k → a ++ x ≡ b ++ y
+        → (a ≡ b) × (h ≡ k) }
 {}
 
 /// Bytes that a title begins are not cut inside it, and do not begin badly.
@@ -32,69 +33,88 @@ pub fn one_outcome()
 pub fn read_again()
     ensures shortest { (h : Header) (b : List ℕ) → Title b h → length (title_of h) ≤ length b }
     ensures title { (h : Header) → FitsHeader h → Title (title_of h) h }
-    ensures only { (h k : Header) (b x y : List ℕ) → FitsHeader h → Title b k → title_of h ++ x ≡ b ++ y → (k ≡ h) × (y ≡ x) }
+    ensures only { (h k : Header) (b x y : List ℕ) → FitsHeader h → Title b k
+        → title_of h ++ x ≡ b ++ y → (k ≡ h) × (y ≡ x) }
 {}
 
 /// No string begins another, and a string has one list of bodies.
 pub fn one_framing()
-    ensures bytes { (a b x y : List ℕ) (xs ys : List (List ℕ)) → Frame Bytes Any a xs → Frame Bytes Any b ys → a ++ x ≡ b ++ y
+    ensures bytes { (a b x y : List ℕ) (xs ys : List (List ℕ)) → Frame Bytes Any a xs
+        → Frame Bytes Any b ys → a ++ x ≡ b ++ y
         → (a ≡ b) × (xs ≡ ys) }
-    ensures text { (a b x y : List ℕ) (xs ys : List (List ℕ)) → Frame Text IsUtf8 a xs → Frame Text IsUtf8 b ys → a ++ x ≡ b ++ y
+    ensures text { (a b x y : List ℕ) (xs ys : List (List ℕ)) → Frame Text IsUtf8 a xs
+        → Frame Text IsUtf8 b ys → a ++ x ≡ b ++ y
         → (a ≡ b) × (xs ≡ ys) }
 {}
 
 /// What may follow a head, with these bodies, is exactly what makes it a string with them. So what `Segments` reads behind a head
 /// is one.
 pub fn rests_are_framed()
-    ensures bytes { (len : Option ℕ) (title b : List ℕ) (bodies : List (List ℕ)) → Title title (Bytes len)
+    ensures bytes { (len : Option ℕ) (title b : List ℕ) (bodies : List (List ℕ))
+        → Title title (Bytes len)
         → Rest Bytes Any (stage_of len) b bodies → Frame Bytes Any (title ++ b) bodies }
-    ensures text { (len : Option ℕ) (title b : List ℕ) (bodies : List (List ℕ)) → Title title (Text len)
+    ensures text { (len : Option ℕ) (title b : List ℕ) (bodies : List (List ℕ))
+        → Title title (Text len)
         → Rest Text IsUtf8 (stage_of len) b bodies → Frame Text IsUtf8 (title ++ b) bodies }
-    ensures back { (len : Option ℕ) (title b : List ℕ) (bodies : List (List ℕ)) → Title title (Bytes len)
+    ensures back { (len : Option ℕ) (title b : List ℕ) (bodies : List (List ℕ))
+        → Title title (Bytes len)
         → Frame Bytes Any (title ++ b) bodies → Rest Bytes Any (stage_of len) b bodies }
-    ensures back_text { (len : Option ℕ) (title b : List ℕ) (bodies : List (List ℕ)) → Title title (Text len)
+    ensures back_text { (len : Option ℕ) (title b : List ℕ) (bodies : List (List ℕ))
+        → Title title (Text len)
         → Frame Text IsUtf8 (title ++ b) bodies → Rest Text IsUtf8 (stage_of len) b bodies }
 {}
 
 /// Where a stray head was met, or an end inside an open string, no string of that kind goes on.
 pub fn no_rest()
-    ensures stray { (stage : Stage) (place p : ℕ) (a l b after : List ℕ) (bodies : List (List ℕ)) → Strays Bytes Any stage place p a
+    ensures stray { (stage : Stage) (place p : ℕ) (a l b after : List ℕ) (bodies : List (List ℕ))
+        → Strays Bytes Any stage place p a
         → Rest Bytes Any stage b bodies → a ++ l ≡ b ++ after → ⊥ }
-    ensures stray_text { (stage : Stage) (place p : ℕ) (a l b after : List ℕ) (bodies : List (List ℕ)) → Strays Text IsUtf8 stage place p a
+    ensures stray_text { (stage : Stage) (place p : ℕ) (a l b after : List ℕ)
+        (bodies : List (List ℕ)) → Strays Text IsUtf8 stage place p a
         → Rest Text IsUtf8 stage b bodies → a ++ l ≡ b ++ after → ⊥ }
-    ensures end { (stage : Stage) (l b after : List ℕ) (bodies : List (List ℕ)) → EndsInside Bytes Any stage (Some l)
+    ensures end { (stage : Stage) (l b after : List ℕ) (bodies : List (List ℕ))
+        → EndsInside Bytes Any stage (Some l)
         → Rest Bytes Any stage b bodies → l ≡ b ++ after → ⊥ }
-    ensures end_text { (stage : Stage) (l b after : List ℕ) (bodies : List (List ℕ)) → EndsInside Text IsUtf8 stage (Some l)
+    ensures end_text { (stage : Stage) (l b after : List ℕ) (bodies : List (List ℕ))
+        → EndsInside Text IsUtf8 stage (Some l)
         → Rest Text IsUtf8 stage b bodies → l ≡ b ++ after → ⊥ }
 {}
 
 /// What an encoder writes of a byte string or a text is one, each body of a text is UTF-8, and the bodies join to the value.
 pub fn strings_are_framed()
-    ensures bytes { (limit : Option ℕ) (value xs : List ℕ) → length value < 2 ^ 64 → IsString Bytes FitBytes limit value xs
+    ensures bytes { (limit : Option ℕ) (value xs : List ℕ) → length value < 2 ^ 64
+        → IsString Bytes FitBytes limit value xs
         → (bodies : List (List ℕ)) × Frame Bytes Any xs bodies × (joined bodies ≡ value) }
     ensures text { (limit : Option ℕ) (value xs : List ℕ) → length value < 2 ^ 64 → IsUtf8 value
         → IsString Text IsCharBoundary limit value xs
         → (bodies : List (List ℕ)) × Frame Text IsUtf8 xs bodies × (joined bodies ≡ value) }
-    ensures once { (limit : Option ℕ) (value xs ys : List ℕ) → IsString Bytes FitBytes limit value xs
+    ensures once { (limit : Option ℕ) (value xs ys : List ℕ)
+        → IsString Bytes FitBytes limit value xs
         → IsString Bytes FitBytes limit value ys → xs ≡ ys }
-    ensures once_text { (limit : Option ℕ) (value xs ys : List ℕ) → IsString Text IsCharBoundary limit value xs
+    ensures once_text { (limit : Option ℕ) (value xs ys : List ℕ)
+        → IsString Text IsCharBoundary limit value xs
         → IsString Text IsCharBoundary limit value ys → xs ≡ ys }
 {}
 
 /// A copy is its own copy and has no other, so that recoding it changes nothing; and it is never longer than what was copied.
 pub fn copies_stay()
     ensures again { (n : ℕ) (a x : List ℕ) → Copies n a x → Copies n x x }
-    ensures once { (n : ℕ) (a b u v x y : List ℕ) → Copies n a x → Copies n b y → a ++ u ≡ b ++ v → (a ≡ b) × (x ≡ y) }
+    ensures once { (n : ℕ) (a b u v x y : List ℕ) → Copies n a x → Copies n b y → a ++ u ≡ b ++ v
+        → (a ≡ b) × (x ≡ y) }
     ensures shorter { (n : ℕ) (a x : List ℕ) → Copies n a x → length x ≤ length a }
 {}
 
 /// Where a copy halted, what stands written begins the copy of all that begins with what was read, and so does the text that was
 /// refused behind it. The bytes ended, or a fault stands, only where so many heads and strings are not.
 pub fn halted_copies()
-    ensures paused { (n : ℕ) (b x c y u v : List ℕ) → CopiesHalt n paused b x → Copies n c y → b ++ u ≡ c ++ v
+    ensures paused { (n : ℕ) (b x c y u v : List ℕ) → CopiesHalt n paused b x → Copies n c y
+        → b ++ u ≡ c ++ v
         → (z : List ℕ) × (y ≡ x ++ z) }
-    ensures refused { (n : ℕ) (last b x c y u v : List ℕ) → CopiesHalt n (refused last) b x → Copies n c y → b ++ u ≡ c ++ v
+    ensures refused { (n : ℕ) (last b x c y u v : List ℕ) → CopiesHalt n (refused last) b x
+        → Copies n c y → b ++ u ≡ c ++ v
         → (z : List ℕ) × (y ≡ (x ++ last) ++ z) }
-    ensures ended { (n : ℕ) (rest b x c y v : List ℕ) → CopiesHalt n (ended rest) b x → Copies n c y → b ++ rest ≡ c ++ v → ⊥ }
-    ensures damaged { (n p : ℕ) (b x c y u v : List ℕ) → CopiesHalt n (damaged p) b x → Copies n c y → b ++ u ≡ c ++ v → ⊥ }
+    ensures ended { (n : ℕ) (rest b x c y v : List ℕ) → CopiesHalt n (ended rest) b x → Copies n c y
+        → b ++ rest ≡ c ++ v → ⊥ }
+    ensures damaged { (n p : ℕ) (b x c y u v : List ℕ) → CopiesHalt n (damaged p) b x → Copies n c y
+        → b ++ u ≡ c ++ v → ⊥ }
 {}

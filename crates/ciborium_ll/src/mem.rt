@@ -84,9 +84,11 @@ impl Write for Mem<Vec<u8>> {
 
     /// Appends all of the data, or nothing where memory is refused.
     fn write_all(&mut self, data: &[u8]) -> Result<(), AllocError>
-        ensures ok { OnOk result ((memory_of self.new).items ≡ (memory_of self.old).items ++ «data».now) }
+        ensures ok { OnOk result ((memory_of self.new).items
+            ≡ (memory_of self.old).items ++ «data».now) }
         ensures err { OnErr result ((memory_of self.new).items ≡ (memory_of self.old).items) }
-        ensures failed { memory_failures self.new ≡ write_failures result (memory_failures self.old) }
+        ensures failed { memory_failures self.new ≡ write_failures result
+            (memory_failures self.old) }
     {
         match self.inner.extend_from_slice(data) {
             Ok(()) => Ok(()),
@@ -114,12 +116,16 @@ impl Write for Mem<&mut [u8]> {
     /// Writes all of the data, or nothing where it is longer than the room that is left.
     fn write_all(&mut self, data: &[u8]) -> Result<(), Full>
         ensures ok { OnOk result (filled_of self.new ≡ filled_of self.old ++ «data».now) }
-        ensures err { OnErr result (AppendsFront (Some (filled_of self.old)) (Some (filled_of self.new)) «data».now) }
+        ensures err { OnErr result (AppendsFront (Some (filled_of self.old))
+            (Some (filled_of self.new)) «data».now) }
         ensures kept { OnErr result (filled_of self.new ≡ filled_of self.old) }
-        ensures untouched { OnErr result (((memory_of self.new).now ≡ (memory_of self.old).now) × (taken_of self.new ≡ taken_of self.old)) }
+        ensures untouched { OnErr result
+            (((memory_of self.new).now ≡ (memory_of self.old).now)
+            × (taken_of self.new ≡ taken_of self.old)) }
         ensures full { OnErr result (room_of self.old < length «data».now) }
         ensures room { OnOk result (room_of self.new ≡ room_of self.old - length «data».now) }
-        ensures failed { memory_failures self.new ≡ write_failures result (memory_failures self.old) }
+        ensures failed { memory_failures self.new ≡ write_failures result
+            (memory_failures self.old) }
     {
         if data.is_empty() {
             return Ok(());

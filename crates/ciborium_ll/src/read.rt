@@ -33,8 +33,10 @@ pub trait Read {
     /// Any other fault is a failure of the device. After a fault it is open which bytes are left.
     fn read_exact(&mut self, data: &mut [u8]) -> Result<(), Self::Error>
         ensures ok { OnOk result (Consumes (left self.old) (left self.new) «data».new) }
-        ensures end { IfErr result (λ e. IsTrue (ends e) → IsShort (left self.old) (length «data».old)) }
-        ensures one { IfErr result (λ e. IsTrue (ends e) → length «data».old ≡ 1 → Keeps (left self.old) (left self.new)) }
+        ensures end { IfErr result (λ e. IsTrue (ends e)
+            → IsShort (left self.old) (length «data».old)) }
+        ensures one { IfErr result (λ e. IsTrue (ends e) → length «data».old ≡ 1
+            → Keeps (left self.old) (left self.new)) }
         ensures kept { handle self.new ≡ handle self.old }
         ensures failed { failed self.new ≡ read_failures ends result (failed self.old) };
 
@@ -59,8 +61,10 @@ impl Read for &[u8] {
 
     fn read_exact(&mut self, data: &mut [u8]) -> Result<(), End>
         ensures ok { OnOk result (Consumes (Some self.old.now) (Some self.new.now) «data».new) }
-        ensures end { IfErr result (λ e. IsTrue true → IsShort (Some self.old.now) (length «data».old)) }
-        ensures one { IfErr result (λ e. IsTrue true → length «data».old ≡ 1 → Keeps (Some self.old.now) (Some self.new.now)) }
+        ensures end { IfErr result (λ e. IsTrue true
+            → IsShort (Some self.old.now) (length «data».old)) }
+        ensures one { IfErr result (λ e. IsTrue true → length «data».old ≡ 1
+            → Keeps (Some self.old.now) (Some self.new.now)) }
         ensures failed { 0 ≡ read_failures (λ _. true) result 0 }
         ensures err { OnErr result ((self.new ≡ self.old) × («data».new ≡ «data».old)) }
     {

@@ -48,12 +48,16 @@ trait CopyBody: StringKind {
         ensures same_decoder { name_of segments.new ≡ name_of segments.old }
         ensures stage { OnOk result (stage_at segments.new ≡ stage_at segments.old) }
         ensures ok { OnOk result (Copied (BodyCopy Self.allows (unread_of body.old))
-            (sides_in R.Read W.Write segments.old encoder.old) (sides_in R.Read W.Write segments.new encoder.new)) }
-        ensures fault { IfErr result (HaltedAt R.ends (BodyHalt Self.allows keeps (unread_of body.old))
+            (sides_in R.Read W.Write segments.old encoder.old)
+            (sides_in R.Read W.Write segments.new encoder.new)) }
+        ensures fault { IfErr result (HaltedAt R.ends
+            (BodyHalt Self.allows keeps (unread_of body.old))
             (length buffer.old) (start_of body.old)
-            (sides_in R.Read W.Write segments.old encoder.old) (sides_in R.Read W.Write segments.new encoder.new)) }
+            (sides_in R.Read W.Write segments.old encoder.old)
+            (sides_in R.Read W.Write segments.new encoder.new)) }
         ensures steady { CopySteady R.ends result
-            (sides_in R.Read W.Write segments.old encoder.old) (sides_in R.Read W.Write segments.new encoder.new) };
+            (sides_in R.Read W.Write segments.old encoder.old)
+            (sides_in R.Read W.Write segments.new encoder.new) };
 }
 
 impl CopyBody for Bytes {
@@ -122,11 +126,14 @@ pub fn recode<R: Read, W: Write>(
 ) -> Result<(), RecodeError<R::Error, W::Error>>
     requires room { 4 ≤ length buffer.old }
     ensures ok { OnOk result (Copied (Copies count)
-        (sides R.Read W.Write decoder.old encoder.old) (sides R.Read W.Write decoder.new encoder.new)) }
+        (sides R.Read W.Write decoder.old encoder.old)
+        (sides R.Read W.Write decoder.new encoder.new)) }
     ensures fault { IfErr result (Halted R.ends (CopiesHalt count) (9 + length buffer.old)
-        (sides R.Read W.Write decoder.old encoder.old) (sides R.Read W.Write decoder.new encoder.new)) }
+        (sides R.Read W.Write decoder.old encoder.old)
+        (sides R.Read W.Write decoder.new encoder.new)) }
     ensures steady { CopySteady R.ends result
-        (sides R.Read W.Write decoder.old encoder.old) (sides R.Read W.Write decoder.new encoder.new) }
+        (sides R.Read W.Write decoder.old encoder.old)
+        (sides R.Read W.Write decoder.new encoder.new) }
 {
     for _ in 0..count {
         match copy_one(decoder, encoder, buffer) {
@@ -144,11 +151,14 @@ fn copy_one<R: Read, W: Write>(
     buffer: &mut [u8],
 ) -> Result<(), RecodeError<R::Error, W::Error>>
     requires room { 4 ≤ length buffer.old }
-    ensures ok { OnOk result (Copied Copy (sides R.Read W.Write decoder.old encoder.old) (sides R.Read W.Write decoder.new encoder.new)) }
+    ensures ok { OnOk result (Copied Copy (sides R.Read W.Write decoder.old encoder.old)
+        (sides R.Read W.Write decoder.new encoder.new)) }
     ensures fault { IfErr result (Halted R.ends CopyHalt (9 + length buffer.old)
-        (sides R.Read W.Write decoder.old encoder.old) (sides R.Read W.Write decoder.new encoder.new)) }
+        (sides R.Read W.Write decoder.old encoder.old)
+        (sides R.Read W.Write decoder.new encoder.new)) }
     ensures steady { CopySteady R.ends result
-        (sides R.Read W.Write decoder.old encoder.old) (sides R.Read W.Write decoder.new encoder.new) }
+        (sides R.Read W.Write decoder.old encoder.old)
+        (sides R.Read W.Write decoder.new encoder.new) }
     ensures fresh { waiting_of decoder.new ≡ None }
 {
     let header = match decoder.pull() {
@@ -175,11 +185,15 @@ fn copy_string<R: Read, W: Write, P: CopyBody>(
     requires room { 4 ≤ length buffer.old }
     requires fresh { waiting_of decoder.old ≡ None }
     ensures ok { OnOk result (Copied (RestCopy P.titled P.allows len)
-        (sides R.Read W.Write decoder.old encoder.old) (sides R.Read W.Write decoder.new encoder.new)) }
-    ensures fault { IfErr result (Halted R.ends (RestHalt P.titled P.allows P.keeps len) (9 + length buffer.old)
-        (sides R.Read W.Write decoder.old encoder.old) (sides R.Read W.Write decoder.new encoder.new)) }
+        (sides R.Read W.Write decoder.old encoder.old)
+        (sides R.Read W.Write decoder.new encoder.new)) }
+    ensures fault { IfErr result (Halted R.ends (RestHalt P.titled P.allows P.keeps len)
+        (9 + length buffer.old)
+        (sides R.Read W.Write decoder.old encoder.old)
+        (sides R.Read W.Write decoder.new encoder.new)) }
     ensures steady { CopySteady R.ends result
-        (sides R.Read W.Write decoder.old encoder.old) (sides R.Read W.Write decoder.new encoder.new) }
+        (sides R.Read W.Write decoder.old encoder.old)
+        (sides R.Read W.Write decoder.new encoder.new) }
 {
     match encoder.push(P::header(len)) {
         Ok(()) => {}
@@ -201,11 +215,15 @@ fn copy_whole<R: Read, W: Write, P: CopyBody>(
     requires room { 4 ≤ length buffer.old }
     requires fresh { waiting_of decoder.old ≡ None }
     ensures ok { OnOk result (Copied (BodyCopy P.allows len)
-        (sides R.Read W.Write decoder.old encoder.old) (sides R.Read W.Write decoder.new encoder.new)) }
-    ensures fault { IfErr result (Halted R.ends (BodyHalt P.allows P.keeps len) (9 + length buffer.old)
-        (sides R.Read W.Write decoder.old encoder.old) (sides R.Read W.Write decoder.new encoder.new)) }
+        (sides R.Read W.Write decoder.old encoder.old)
+        (sides R.Read W.Write decoder.new encoder.new)) }
+    ensures fault { IfErr result (Halted R.ends (BodyHalt P.allows P.keeps len)
+        (9 + length buffer.old)
+        (sides R.Read W.Write decoder.old encoder.old)
+        (sides R.Read W.Write decoder.new encoder.new)) }
     ensures steady { CopySteady R.ends result
-        (sides R.Read W.Write decoder.old encoder.old) (sides R.Read W.Write decoder.new encoder.new) }
+        (sides R.Read W.Write decoder.old encoder.old)
+        (sides R.Read W.Write decoder.new encoder.new) }
 {
     let mut body = Body::new(len, decoder.offset());
     let mut segments = Segments::<R, P>::behind(decoder, Some(len));
@@ -221,11 +239,15 @@ fn copy_opened<R: Read, W: Write, P: CopyBody>(
     requires room { 4 ≤ length buffer.old }
     requires fresh { waiting_of decoder.old ≡ None }
     ensures ok { OnOk result (Copied (BodiesCopy P.titled P.allows)
-        (sides R.Read W.Write decoder.old encoder.old) (sides R.Read W.Write decoder.new encoder.new)) }
-    ensures fault { IfErr result (Halted R.ends (OpenHalt P.titled P.allows P.keeps) (9 + length buffer.old)
-        (sides R.Read W.Write decoder.old encoder.old) (sides R.Read W.Write decoder.new encoder.new)) }
+        (sides R.Read W.Write decoder.old encoder.old)
+        (sides R.Read W.Write decoder.new encoder.new)) }
+    ensures fault { IfErr result (Halted R.ends (OpenHalt P.titled P.allows P.keeps)
+        (9 + length buffer.old)
+        (sides R.Read W.Write decoder.old encoder.old)
+        (sides R.Read W.Write decoder.new encoder.new)) }
     ensures steady { CopySteady R.ends result
-        (sides R.Read W.Write decoder.old encoder.old) (sides R.Read W.Write decoder.new encoder.new) }
+        (sides R.Read W.Write decoder.old encoder.old)
+        (sides R.Read W.Write decoder.new encoder.new) }
 {
     let mut segments = Segments::<R, P>::behind(decoder, None);
     loop {

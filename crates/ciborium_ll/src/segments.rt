@@ -86,17 +86,25 @@ impl<'r, R: Read, P: StringKind> Segments<'r, R, P> {
     /// as the heads say that were taken, so it can't be taken for whole.
     pub fn advance(&mut self) -> Result<Option<Body>, Error<R::Error>>
         ensures same_reference { name_of self.new ≡ name_of self.old }
-        ensures some { IfOk result (λ o. IfSome o (FindsBody P.titled P.allows (progress R.Read self.old) (progress R.Read self.new))) }
-        ensures none { IfOk result (λ o. IfNone o (FindsEnd P.titled P.allows (progress R.Read self.old) (progress R.Read self.new))) }
-        ensures fault { IfErr result (StageTells R.ends P.titled P.allows (progress R.Read self.old) (progress R.Read self.new)) }
-        ensures stops { IfErr result (StageStops P.titled P.allows (progress R.Read self.old) (progress R.Read self.new)) }
-        ensures moved { IfOk result (λ o. IfSome o (λ body. Nears (progress R.Read self.old) (progress R.Read self.new))) }
-        ensures unstuck { IfOk result (λ o. IfSome o (λ body. (p : ℕ) → stage_at self.new ≢ Stuck p)) }
+        ensures some { IfOk result (λ o. IfSome o
+            (FindsBody P.titled P.allows (progress R.Read self.old) (progress R.Read self.new))) }
+        ensures none { IfOk result (λ o. IfNone o
+            (FindsEnd P.titled P.allows (progress R.Read self.old) (progress R.Read self.new))) }
+        ensures fault { IfErr result (StageTells R.ends P.titled P.allows (progress R.Read self.old)
+            (progress R.Read self.new)) }
+        ensures stops { IfErr result (StageStops P.titled P.allows (progress R.Read self.old)
+            (progress R.Read self.new)) }
+        ensures moved { IfOk result (λ o. IfSome o
+            (λ body. Nears (progress R.Read self.old) (progress R.Read self.new))) }
+        ensures unstuck { IfOk result (λ o. IfSome o
+            (λ body. (p : ℕ) → stage_at self.new ≢ Stuck p)) }
         ensures room { HasRoom (progress R.Read self.old) (progress R.Read self.new) }
         ensures done { stage_at self.old ≡ Inside 0
-            → (result ≡ Ok None) × (stage_at self.new ≡ stage_at self.old) × (decoder_of self.new ≡ decoder_of self.old) }
+            → (result ≡ Ok None) × (stage_at self.new ≡ stage_at self.old)
+            × (decoder_of self.new ≡ decoder_of self.old) }
         ensures stuck { (p : ℕ) → stage_at self.old ≡ Stuck p
-            → (result ≡ Err (Syntax p)) × (stage_at self.new ≡ stage_at self.old) × (decoder_of self.new ≡ decoder_of self.old) }
+            → (result ≡ Err (Syntax p)) × (stage_at self.new ≡ stage_at self.old)
+            × (decoder_of self.new ≡ decoder_of self.old) }
         ensures steady { Steady R.ends result (seen_in R.Read self.old) (seen_in R.Read self.new) }
     {
         next_body::<R, P>(self.decoder, &mut self.stage)
@@ -110,16 +118,23 @@ impl<'r, R: Read, P: StringKind> Segments<'r, R, P> {
         ensures same_reference { IfSegment result (λ s.
             (lent_name s ≡ self.entry.ghost_name) × (name_of (string_of s) ≡ name_of self.old)) }
         ensures some { IfSegment result (λ s.
-            FindsBody P.titled P.allows (progress R.Read self.old) (progress R.Read (string_of s)) (body_of s)) }
-        ensures none { IfNoSegment result ((new : Progress) × FindsEnd P.titled P.allows (progress R.Read self.old) new) }
-        ensures fault { IfFault result (λ e. (new : Progress) × StageTells R.ends P.titled P.allows (progress R.Read self.old) new e
+            FindsBody P.titled P.allows (progress R.Read self.old) (progress R.Read (string_of s))
+            (body_of s)) }
+        ensures none { IfNoSegment result
+            ((new : Progress) × FindsEnd P.titled P.allows (progress R.Read self.old) new) }
+        ensures fault { IfFault result (λ e. (new : Progress) × StageTells R.ends P.titled P.allows
+            (progress R.Read self.old) new e
             × StageStops P.titled P.allows (progress R.Read self.old) new e) }
-        ensures done { stage_at self.old ≡ Inside 0 → IfSegment result (λ s. ⊥) × IfFault result (λ e. ⊥) }
+        ensures done { stage_at self.old ≡ Inside 0
+            → IfSegment result (λ s. ⊥) × IfFault result (λ e. ⊥) }
         ensures stuck { (p : ℕ) → stage_at self.old ≡ Stuck p
-            → IfSegment result (λ s. ⊥) × IfNoSegment result ⊥ × IfFault result (λ e. e ≡ Syntax p) }
-        ensures moved { IfSegment result (λ s. Nears (progress R.Read self.old) (progress R.Read (string_of s))) }
+            → IfSegment result (λ s. ⊥) × IfNoSegment result ⊥
+            × IfFault result (λ e. e ≡ Syntax p) }
+        ensures moved { IfSegment result
+            (λ s. Nears (progress R.Read self.old) (progress R.Read (string_of s))) }
         ensures unstuck { IfSegment result (λ s. (p : ℕ) → stage_at (string_of s) ≢ Stuck p) }
-        ensures steady { IfSegment result (λ s. Steady R.ends result (seen_in R.Read self.old) (seen_in R.Read (string_of s))) }
+        ensures steady { IfSegment result
+            (λ s. Steady R.ends result (seen_in R.Read self.old) (seen_in R.Read (string_of s))) }
     {
         match self.advance()? {
             Some(body) => Ok(Some(Segment {
@@ -149,13 +164,17 @@ impl<'r, R: Read> Segments<'r, R, Bytes> {
         ensures same_decoder { name_of self.new ≡ name_of self.old }
         ensures stage { stage_at self.new ≡ stage_at self.old }
         ensures some { IfOk result (λ o. IfSome o (λ piece.
-            TakesBytes body.old body.new (length buffer.old) (seen_in R.Read self.old) (seen_in R.Read self.new) piece.now)) }
-        ensures none { IfOk result (λ o. IfNone o ((unread_of body.old ≡ 0) × (body.new ≡ body.old) × (self.new ≡ self.old))) }
+            TakesBytes body.old body.new (length buffer.old) (seen_in R.Read self.old)
+            (seen_in R.Read self.new) piece.now)) }
+        ensures none { IfOk result (λ o. IfNone o
+            ((unread_of body.old ≡ 0) × (body.new ≡ body.old) × (self.new ≡ self.old))) }
         ensures fault { IfErr result (ReadTells R.ends (piece_len body.old (length buffer.old))
             (seen_in R.Read self.old) (seen_in R.Read self.new)) }
-        ensures err { OnErr result ((body.new ≡ body.old) × (place_at self.new ≡ place_at self.old)) }
+        ensures err { OnErr result ((body.new ≡ body.old)
+            × (place_at self.new ≡ place_at self.old)) }
         ensures untouched { IfRefused result (self.new ≡ self.old) }
-        ensures waiting { waiting_of (decoder_of self.old) ≢ None → 0 < unread_of body.old → result ≡ Err Waiting }
+        ensures waiting { waiting_of (decoder_of self.old) ≢ None → 0 < unread_of body.old
+            → result ≡ Err Waiting }
         ensures saved { saved_of body.new ≡ saved_of body.old }
         ensures steady { Steady R.ends result (seen_in R.Read self.old) (seen_in R.Read self.new) }
     {
@@ -184,17 +203,24 @@ impl<'s, 'r, R: Read> Segment<'s, 'r, R, Bytes> {
         ensures same_reference { lent_name self.new ≡ lent_name self.old }
         ensures same_decoder { name_of (string_of self.new) ≡ name_of (string_of self.old) }
         ensures stage { stage_at (string_of self.new) ≡ stage_at (string_of self.old) }
-        ensures some { IfOk result (λ o. IfSome o (λ piece. TakesBytes (body_of self.old) (body_of self.new) (length buffer.old)
-            (seen_in R.Read (string_of self.old)) (seen_in R.Read (string_of self.new)) piece.now)) }
-        ensures none { IfOk result (λ o. IfNone o ((unread_of (body_of self.old) ≡ 0) × (self.new ≡ self.old))) }
-        ensures fault { IfErr result (ReadTells R.ends (piece_len (body_of self.old) (length buffer.old))
+        ensures some { IfOk result (λ o. IfSome o
+            (λ piece. TakesBytes (body_of self.old) (body_of self.new) (length buffer.old)
+            (seen_in R.Read (string_of self.old))
+            (seen_in R.Read (string_of self.new)) piece.now)) }
+        ensures none { IfOk result (λ o. IfNone o
+            ((unread_of (body_of self.old) ≡ 0) × (self.new ≡ self.old))) }
+        ensures fault { IfErr result (ReadTells R.ends
+            (piece_len (body_of self.old) (length buffer.old))
             (seen_in R.Read (string_of self.old)) (seen_in R.Read (string_of self.new))) }
         ensures err { OnErr result
-            ((body_of self.new ≡ body_of self.old) × (place_at (string_of self.new) ≡ place_at (string_of self.old))) }
+            ((body_of self.new ≡ body_of self.old)
+            × (place_at (string_of self.new) ≡ place_at (string_of self.old))) }
         ensures untouched { IfRefused result (string_of self.new ≡ string_of self.old) }
-        ensures waiting { waiting_of (decoder_of (string_of self.old)) ≢ None → 0 < unread_of (body_of self.old) → result ≡ Err Waiting }
+        ensures waiting { waiting_of (decoder_of (string_of self.old)) ≢ None
+            → 0 < unread_of (body_of self.old) → result ≡ Err Waiting }
         ensures saved { saved_of (body_of self.new) ≡ saved_of (body_of self.old) }
-        ensures steady { Steady R.ends result (seen_in R.Read (string_of self.old)) (seen_in R.Read (string_of self.new)) }
+        ensures steady { Steady R.ends result (seen_in R.Read (string_of self.old))
+            (seen_in R.Read (string_of self.new)) }
     {
         self.segments.piece(&mut self.body, buffer)
     }
@@ -231,16 +257,21 @@ impl<'r, R: Read> Segments<'r, R, Text> {
         ensures same_decoder { name_of self.new ≡ name_of self.old }
         ensures start { start_of body.new ≡ start_of body.old }
         ensures some { IfOk result (λ o. IfSome o (λ piece. (stage_at self.new ≡ stage_at self.old)
-            × Takes (seen_in R.Read self.old) (seen_in R.Read self.new) (IsPiece body.old body.new piece.now))) }
-        ensures long { IfOk result (λ o. IfSome o (λ piece. Fills body.old (length buffer.old) piece.now)) }
-        ensures none { IfOk result (λ o. IfNone o ((bytes_of body.old ≡ 0) × (body.new ≡ body.old) × (self.new ≡ self.old))) }
+            × Takes (seen_in R.Read self.old) (seen_in R.Read self.new)
+            (IsPiece body.old body.new piece.now))) }
+        ensures long { IfOk result (λ o. IfSome o
+            (λ piece. Fills body.old (length buffer.old) piece.now)) }
+        ensures none { IfOk result (λ o. IfNone o
+            ((bytes_of body.old ≡ 0) × (body.new ≡ body.old) × (self.new ≡ self.old))) }
         ensures fault { IfErr result (TextTells R.ends body.old body.new (length buffer.old)
             (progress R.Read self.old) (progress R.Read self.new)) }
-        ensures stops { IfErr result (TextStops body.old body.new (progress R.Read self.old) (progress R.Read self.new)) }
+        ensures stops { IfErr result (TextStops body.old body.new (progress R.Read self.old)
+            (progress R.Read self.new)) }
         ensures small { length buffer.old < 4 → (self.new ≡ self.old) × (body.new ≡ body.old)
             × IfOk result (λ o. IfSome o (λ piece. piece.now ≡ []))
             × IfErr result (λ e. (p : ℕ) × (e ≡ Syntax p) × (stage_at self.old ≡ Stuck p)) }
-        ensures waiting { waiting_of (decoder_of self.old) ≢ None → 0 < bytes_of body.old → 4 ≤ length buffer.old
+        ensures waiting { waiting_of (decoder_of self.old) ≢ None → 0 < bytes_of body.old
+            → 4 ≤ length buffer.old
             → ((p : ℕ) → stage_at self.old ≢ Stuck p) → result ≡ Err Waiting }
         ensures stuck { (p : ℕ) → stage_at self.old ≡ Stuck p
             → (result ≡ Err (Syntax p)) × (body.new ≡ body.old) × (self.new ≡ self.old) }
@@ -285,21 +316,30 @@ impl<'s, 'r, R: Read> Segment<'s, 'r, R, Text> {
         ensures same_reference { lent_name self.new ≡ lent_name self.old }
         ensures same_decoder { name_of (string_of self.new) ≡ name_of (string_of self.old) }
         ensures start { start_of (body_of self.new) ≡ start_of (body_of self.old) }
-        ensures some { IfOk result (λ o. IfSome o (λ piece. (stage_at (string_of self.new) ≡ stage_at (string_of self.old))
+        ensures some { IfOk result (λ o. IfSome o
+            (λ piece. (stage_at (string_of self.new) ≡ stage_at (string_of self.old))
             × Takes (seen_in R.Read (string_of self.old)) (seen_in R.Read (string_of self.new))
             (IsPiece (body_of self.old) (body_of self.new) piece.now))) }
-        ensures long { IfOk result (λ o. IfSome o (λ piece. Fills (body_of self.old) (length buffer.old) piece.now)) }
-        ensures none { IfOk result (λ o. IfNone o ((bytes_of (body_of self.old) ≡ 0) × (self.new ≡ self.old))) }
-        ensures fault { IfErr result (TextTells R.ends (body_of self.old) (body_of self.new) (length buffer.old)
+        ensures long { IfOk result (λ o. IfSome o
+            (λ piece. Fills (body_of self.old) (length buffer.old) piece.now)) }
+        ensures none { IfOk result (λ o. IfNone o
+            ((bytes_of (body_of self.old) ≡ 0) × (self.new ≡ self.old))) }
+        ensures fault { IfErr result (TextTells R.ends (body_of self.old) (body_of self.new)
+            (length buffer.old)
             (progress R.Read (string_of self.old)) (progress R.Read (string_of self.new))) }
         ensures stops { IfErr result (TextStops (body_of self.old) (body_of self.new)
             (progress R.Read (string_of self.old)) (progress R.Read (string_of self.new))) }
-        ensures small { length buffer.old < 4 → (self.new ≡ self.old) × IfOk result (λ o. IfSome o (λ piece. piece.now ≡ []))
-            × IfErr result (λ e. (p : ℕ) × (e ≡ Syntax p) × (stage_at (string_of self.old) ≡ Stuck p)) }
-        ensures waiting { waiting_of (decoder_of (string_of self.old)) ≢ None → 0 < bytes_of (body_of self.old) → 4 ≤ length buffer.old
+        ensures small { length buffer.old < 4
+            → (self.new ≡ self.old) × IfOk result (λ o. IfSome o (λ piece. piece.now ≡ []))
+            × IfErr result (λ e. (p : ℕ) × (e ≡ Syntax p)
+            × (stage_at (string_of self.old) ≡ Stuck p)) }
+        ensures waiting { waiting_of (decoder_of (string_of self.old)) ≢ None
+            → 0 < bytes_of (body_of self.old) → 4 ≤ length buffer.old
             → ((p : ℕ) → stage_at (string_of self.old) ≢ Stuck p) → result ≡ Err Waiting }
-        ensures stuck { (p : ℕ) → stage_at (string_of self.old) ≡ Stuck p → (result ≡ Err (Syntax p)) × (self.new ≡ self.old) }
-        ensures steady { Steady R.ends result (seen_in R.Read (string_of self.old)) (seen_in R.Read (string_of self.new)) }
+        ensures stuck { (p : ℕ) → stage_at (string_of self.old) ≡ Stuck p
+            → (result ≡ Err (Syntax p)) × (self.new ≡ self.old) }
+        ensures steady { Steady R.ends result (seen_in R.Read (string_of self.old))
+            (seen_in R.Read (string_of self.new)) }
     {
         self.segments.piece(&mut self.body, buffer)
     }

@@ -52,9 +52,12 @@ pub(crate) fn next_body<R: Read, P: StringKind>(
     ensures moved { IfOk result (λ o. IfSome o (λ body.
         Nears (at (seen R.Read decoder.old) stage.old) (at (seen R.Read decoder.new) stage.new))) }
     ensures unstuck { IfOk result (λ o. IfSome o (λ body. (p : ℕ) → stage.new ≢ Stuck p)) }
-    ensures room { HasRoom (at (seen R.Read decoder.old) stage.old) (at (seen R.Read decoder.new) stage.new) }
-    ensures done { stage.old ≡ Inside 0 → (result ≡ Ok None) × (stage.new ≡ stage.old) × (decoder.new ≡ decoder.old) }
-    ensures stuck { (p : ℕ) → stage.old ≡ Stuck p → (result ≡ Err (Syntax p)) × (stage.new ≡ stage.old) × (decoder.new ≡ decoder.old) }
+    ensures room { HasRoom (at (seen R.Read decoder.old) stage.old)
+        (at (seen R.Read decoder.new) stage.new) }
+    ensures done { stage.old ≡ Inside 0 → (result ≡ Ok None) × (stage.new ≡ stage.old)
+        × (decoder.new ≡ decoder.old) }
+    ensures stuck { (p : ℕ) → stage.old ≡ Stuck p
+        → (result ≡ Err (Syntax p)) × (stage.new ≡ stage.old) × (decoder.new ≡ decoder.old) }
     ensures steady { Steady R.ends result (seen R.Read decoder.old) (seen R.Read decoder.new) }
 {
     match *stage {
@@ -91,7 +94,8 @@ fn find_body<R: Read, P: StringKind>(
     ensures moved { IfOk result (λ o. IfSome o (λ body.
         Nears (at (seen R.Read decoder.old) stage.old) (at (seen R.Read decoder.new) stage.new))) }
     ensures unstuck { IfOk result (λ o. IfSome o (λ body. (p : ℕ) → stage.new ≢ Stuck p)) }
-    ensures room { HasRoom (at (seen R.Read decoder.old) stage.old) (at (seen R.Read decoder.new) stage.new) }
+    ensures room { HasRoom (at (seen R.Read decoder.old) stage.old)
+        (at (seen R.Read decoder.new) stage.new) }
     ensures steady { Steady R.ends result (seen R.Read decoder.old) (seen R.Read decoder.new) }
 {
     let mut depth = depth;

@@ -19,14 +19,17 @@ pub(crate) fn fill<R: Read>(
     buffer: &mut [u8],
 ) -> Result<usize, Error<R::Error>>
     requires { 4 ≤ length buffer.old }
-    ensures count { IfOk result (λ n. n ≡ min (length buffer.old) (length (saved_of body.old) + unread_of body.old)) }
+    ensures count { IfOk result (λ n. n ≡ min (length buffer.old)
+        (length (saved_of body.old) + unread_of body.old)) }
     ensures saved { IfOk result (λ n. saved_of body.new ≡ []) }
     ensures ok { IfOk result (λ n. Takes (seen R.Read decoder.old) (seen R.Read decoder.new)
-        (λ b. (saved_of body.old ++ b ≡ take n buffer.new) × (unread_of body.new + length b ≡ unread_of body.old))) }
+        (λ b. (saved_of body.old ++ b ≡ take n buffer.new)
+        × (unread_of body.new + length b ≡ unread_of body.old))) }
     ensures start { start_of body.new ≡ start_of body.old }
     ensures fault { IfErr result (ReadTells R.ends (more_of body.old (length buffer.old))
         (seen R.Read decoder.old) (seen R.Read decoder.new)) }
-    ensures err { OnErr result ((body.new ≡ body.old) × (offset_of decoder.new ≡ offset_of decoder.old)) }
+    ensures err { OnErr result ((body.new ≡ body.old)
+        × (offset_of decoder.new ≡ offset_of decoder.old)) }
     ensures untouched { IfRefused result (decoder.new ≡ decoder.old) }
     ensures waiting { waiting_of decoder.old ≢ None → result ≡ Err Waiting }
     ensures steady { Steady R.ends result (seen R.Read decoder.old) (seen R.Read decoder.new) }

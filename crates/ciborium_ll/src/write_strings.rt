@@ -19,12 +19,15 @@ impl<W: Write> Encoder<W> {
     /// # Errors
     /// The writer's; a beginning of the string was written then.
     pub fn bytes(&mut self, value: &[u8], limit: Option<usize>) -> Result<(), W::Error>
-        ensures ok { OnOk result ((xs : List ℕ) × IsString Bytes FitBytes (at_least 1 limit) value.now xs
+        ensures ok { OnOk result ((xs : List ℕ)
+            × IsString Bytes FitBytes (at_least 1 limit) value.now xs
             × Appends (W.written (writer_of self.old)) (W.written (writer_of self.new)) xs) }
-        ensures err { OnErr result ((xs : List ℕ) → IsString Bytes FitBytes (at_least 1 limit) value.now xs
+        ensures err { OnErr result ((xs : List ℕ)
+            → IsString Bytes FitBytes (at_least 1 limit) value.now xs
             → AppendsFront (W.written (writer_of self.old)) (W.written (writer_of self.new)) xs) }
         ensures kept { W.handle (writer_of self.new) ≡ W.handle (writer_of self.old) }
-        ensures failed { W.failed (writer_of self.new) ≡ write_failures result (W.failed (writer_of self.old)) }
+        ensures failed { W.failed (writer_of self.new) ≡ write_failures result
+            (W.failed (writer_of self.old)) }
     {
         let most = match limit {
             Some(limit) => limit.max(1),
@@ -44,12 +47,15 @@ impl<W: Write> Encoder<W> {
     /// # Errors
     /// The writer's; a beginning of the string was written then.
     pub fn text(&mut self, value: &str, limit: Option<usize>) -> Result<(), W::Error>
-        ensures ok { OnOk result ((xs : List ℕ) × IsString Text IsCharBoundary (at_least 4 limit) value.now xs
+        ensures ok { OnOk result ((xs : List ℕ) × IsString Text IsCharBoundary
+            (at_least 4 limit) value.now xs
             × Appends (W.written (writer_of self.old)) (W.written (writer_of self.new)) xs) }
-        ensures err { OnErr result ((xs : List ℕ) → IsString Text IsCharBoundary (at_least 4 limit) value.now xs
+        ensures err { OnErr result ((xs : List ℕ)
+            → IsString Text IsCharBoundary (at_least 4 limit) value.now xs
             → AppendsFront (W.written (writer_of self.old)) (W.written (writer_of self.new)) xs) }
         ensures kept { W.handle (writer_of self.new) ≡ W.handle (writer_of self.old) }
-        ensures failed { W.failed (writer_of self.new) ≡ write_failures result (W.failed (writer_of self.old)) }
+        ensures failed { W.failed (writer_of self.new) ≡ write_failures result
+            (W.failed (writer_of self.old)) }
     {
         let most = match limit {
             Some(limit) => limit.max(4),
@@ -64,20 +70,26 @@ impl<W: Write> Encoder<W> {
     }
 
     fn whole_bytes(&mut self, value: &[u8]) -> Result<(), W::Error>
-        ensures ok { OnOk result (Appends (W.written (writer_of self.old)) (W.written (writer_of self.new)) (enc_whole Bytes value.now)) }
-        ensures err { OnErr result (AppendsFront (W.written (writer_of self.old)) (W.written (writer_of self.new)) (enc_whole Bytes value.now)) }
+        ensures ok { OnOk result (Appends (W.written (writer_of self.old))
+            (W.written (writer_of self.new)) (enc_whole Bytes value.now)) }
+        ensures err { OnErr result (AppendsFront (W.written (writer_of self.old))
+            (W.written (writer_of self.new)) (enc_whole Bytes value.now)) }
         ensures kept { W.handle (writer_of self.new) ≡ W.handle (writer_of self.old) }
-        ensures failed { W.failed (writer_of self.new) ≡ write_failures result (W.failed (writer_of self.old)) }
+        ensures failed { W.failed (writer_of self.new) ≡ write_failures result
+            (W.failed (writer_of self.old)) }
     {
         self.push(Header::Bytes(Some(value.len())))?;
         self.write_all(value)
     }
 
     fn whole_text(&mut self, value: &str) -> Result<(), W::Error>
-        ensures ok { OnOk result (Appends (W.written (writer_of self.old)) (W.written (writer_of self.new)) (enc_whole Text value.now)) }
-        ensures err { OnErr result (AppendsFront (W.written (writer_of self.old)) (W.written (writer_of self.new)) (enc_whole Text value.now)) }
+        ensures ok { OnOk result (Appends (W.written (writer_of self.old))
+            (W.written (writer_of self.new)) (enc_whole Text value.now)) }
+        ensures err { OnErr result (AppendsFront (W.written (writer_of self.old))
+            (W.written (writer_of self.new)) (enc_whole Text value.now)) }
         ensures kept { W.handle (writer_of self.new) ≡ W.handle (writer_of self.old) }
-        ensures failed { W.failed (writer_of self.new) ≡ write_failures result (W.failed (writer_of self.old)) }
+        ensures failed { W.failed (writer_of self.new) ≡ write_failures result
+            (W.failed (writer_of self.old)) }
     {
         self.push(Header::Text(Some(value.len())))?;
         self.write_all(value.as_bytes())
@@ -86,11 +98,14 @@ impl<W: Write> Encoder<W> {
     fn byte_pieces(&mut self, value: &[u8], most: usize) -> Result<(), W::Error>
         requires { 0 < most }
         ensures ok { OnOk result ((all : List (List ℕ)) × Pieces FitBytes most value.now all
-            × Appends (W.written (writer_of self.old)) (W.written (writer_of self.new)) (enc_pieces Bytes all)) }
+            × Appends (W.written (writer_of self.old)) (W.written (writer_of self.new))
+            (enc_pieces Bytes all)) }
         ensures err { OnErr result ((all : List (List ℕ)) → Pieces FitBytes most value.now all
-            → AppendsFront (W.written (writer_of self.old)) (W.written (writer_of self.new)) (enc_pieces Bytes all)) }
+            → AppendsFront (W.written (writer_of self.old)) (W.written (writer_of self.new))
+            (enc_pieces Bytes all)) }
         ensures kept { W.handle (writer_of self.new) ≡ W.handle (writer_of self.old) }
-        ensures failed { W.failed (writer_of self.new) ≡ write_failures result (W.failed (writer_of self.old)) }
+        ensures failed { W.failed (writer_of self.new) ≡ write_failures result
+            (W.failed (writer_of self.old)) }
     {
         let mut rest = value;
         while rest.len() > 0 {
@@ -104,11 +119,14 @@ impl<W: Write> Encoder<W> {
     fn text_pieces(&mut self, value: &str, most: usize) -> Result<(), W::Error>
         requires { 4 ≤ most }
         ensures ok { OnOk result ((all : List (List ℕ)) × Pieces IsCharBoundary most value.now all
-            × Appends (W.written (writer_of self.old)) (W.written (writer_of self.new)) (enc_pieces Text all)) }
+            × Appends (W.written (writer_of self.old)) (W.written (writer_of self.new))
+            (enc_pieces Text all)) }
         ensures err { OnErr result ((all : List (List ℕ)) → Pieces IsCharBoundary most value.now all
-            → AppendsFront (W.written (writer_of self.old)) (W.written (writer_of self.new)) (enc_pieces Text all)) }
+            → AppendsFront (W.written (writer_of self.old)) (W.written (writer_of self.new))
+            (enc_pieces Text all)) }
         ensures kept { W.handle (writer_of self.new) ≡ W.handle (writer_of self.old) }
-        ensures failed { W.failed (writer_of self.new) ≡ write_failures result (W.failed (writer_of self.old)) }
+        ensures failed { W.failed (writer_of self.new) ≡ write_failures result
+            (W.failed (writer_of self.old)) }
     {
         let mut rest = value;
         while rest.len() > 0 {

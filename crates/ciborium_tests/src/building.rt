@@ -12,8 +12,10 @@ use std::process::Abort;
 /// A map of an array and a map: parts stand where they are written, and a key in front of its value.
 fn in_place(alloc: Global, n: u8) -> Result<Value, Error>
     ensures { IfOk result (λ v. view v
-        ≡ map (pair_more (text (codes "a")) (array (one_more (integer (pos n)) (one_more (simple 21) (one_more (simple 22) no_trees))))
-        (pair_more (integer (pos 7)) (map (pair_more (simple 22) (integer (pos n)) no_pairs)) no_pairs))) }
+        ≡ map (pair_more (text (codes "a"))
+        (array (one_more (integer (pos n)) (one_more (simple 21) (one_more (simple 22) no_trees))))
+        (pair_more (integer (pos 7)) (map (pair_more (simple 22) (integer (pos n)) no_pairs))
+        no_pairs))) }
 {
     cbor!(alloc, {"a" => [n, true, null], 7u8 => {null => n}})
 }

@@ -61,9 +61,11 @@ pub trait Deserialize: Drop {
     /// # Errors
     /// The source's, also where it gave an item that is none of this type.
     fn deserialize<S: Source>(alloc: Global, source: &mut S) -> Result<Self, S::Error>
-        ensures ok { IfOk result (λ x. (t : Tree) × S.gives source.old t source.new × (refusal t ≡ None) × takes t x) }
+        ensures ok { IfOk result (λ x. (t : Tree) × S.gives source.old t source.new
+            × (refusal t ≡ None) × takes t x) }
         ensures err { IfErr result (λ e. S.fails source.old e source.new
-            ⊎ ((t : Tree) × (f : ErrorOf) × S.gives source.old t source.new × IsRefusal grows (refusal t) f × (e ≡ S.refused f))) }
+            ⊎ ((t : Tree) × (f : ErrorOf) × S.gives source.old t source.new
+            × IsRefusal grows (refusal t) f × (e ≡ S.refused f))) }
     {
         let value = source.item()?;
         match Self::take(alloc, value) {

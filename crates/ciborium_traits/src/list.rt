@@ -44,7 +44,8 @@ impl<T: Deserialize> Deserialize for Vec<T> {
 fn take_items<T: Deserialize>(alloc: Global, items: Vec<Value>) -> Result<Vec<T>, Error>
     ensures ok { IfOk result (λ v. (first_refusal T.refusal (views items.items) ≡ None)
         × EachTaken T.takes (views items.items) v.items) }
-    ensures err { IfErr result (λ e. IsRefusal true (first_refusal T.refusal (views items.items)) e) }
+    ensures err { IfErr result (λ e. IsRefusal true
+        (first_refusal T.refusal (views items.items)) e) }
 {
     let mut taken = Vec::new(alloc);
     for item in items {

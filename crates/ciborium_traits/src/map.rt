@@ -48,9 +48,12 @@ fn take_entries<K: Deserialize + Ord, V: Deserialize>(
     alloc: Global,
     entries: Vec<(Value, Value)>,
 ) -> Result<BTreeMap<K, V>, Error>
-    ensures ok { IfOk result (λ m. (first_refusal_of_pairs K.refusal V.refusal (view_pairs entries.items) ≡ None)
-        × ((es : List (K × V)) × EachPairTaken K.takes V.takes (view_pairs entries.items) es × (m.entries ≡ inserted K.cmp es))) }
-    ensures err { IfErr result (λ e. IsRefusal true (first_refusal_of_pairs K.refusal V.refusal (view_pairs entries.items)) e) }
+    ensures ok { IfOk result (λ m. (first_refusal_of_pairs K.refusal V.refusal
+        (view_pairs entries.items) ≡ None)
+        × ((es : List (K × V)) × EachPairTaken K.takes V.takes (view_pairs entries.items) es
+        × (m.entries ≡ inserted K.cmp es))) }
+    ensures err { IfErr result (λ e. IsRefusal true
+        (first_refusal_of_pairs K.refusal V.refusal (view_pairs entries.items)) e) }
 {
     let mut taken = BTreeMap::new(alloc);
     'entries: for entry in entries {

@@ -215,33 +215,40 @@ impl<A: RoundTrip, B: RoundTrip> RoundTrip for (A, B) {
     ghost taken_back = { λ p h. two_back A.put A.refusal A.takes B.put B.refusal B.takes p.0 p.1
         (A.taken_back p.0 h.0) (B.taken_back p.1 h.1) };
 
-    ghost takes_one = { λ t x y. two_once A.put A.takes A.takes_one B.put B.takes B.takes_one (bare t) x.0 y.0 x.1 y.1 };
+    ghost takes_one = { λ t x y. two_once A.put A.takes A.takes_one B.put B.takes B.takes_one
+        (bare t) x.0 y.0 x.1 y.1 };
 }
 
 impl<A: RoundTrip, B: RoundTrip, C: RoundTrip> RoundTrip for (A, B, C) {
     ghost kept = { λ p. A.kept p.0 × B.kept p.1 × C.kept p.2 };
 
-    ghost taken_back = { λ p h. three_back A.put A.refusal A.takes B.put B.refusal B.takes C.put C.refusal C.takes p.0 p.1 p.2
+    ghost taken_back = { λ p h. three_back A.put A.refusal A.takes B.put B.refusal B.takes C.put
+        C.refusal C.takes p.0 p.1 p.2
         (A.taken_back p.0 h.0) (B.taken_back p.1 h.1) (C.taken_back p.2 h.2) };
 
-    ghost takes_one = { λ t x y. three_once A.put A.takes A.takes_one B.put B.takes B.takes_one C.put C.takes C.takes_one
+    ghost takes_one = { λ t x y. three_once A.put A.takes A.takes_one B.put B.takes B.takes_one
+        C.put C.takes C.takes_one
         (bare t) x.0 y.0 x.1 y.1 x.2 y.2 };
 }
 
 impl<A: RoundTrip, B: RoundTrip, C: RoundTrip, D: RoundTrip> RoundTrip for (A, B, C, D) {
     ghost kept = { λ p. A.kept p.0 × B.kept p.1 × C.kept p.2 × D.kept p.3 };
 
-    ghost taken_back = { λ p h. four_back A.put A.refusal A.takes B.put B.refusal B.takes C.put C.refusal C.takes D.put D.refusal D.takes
-        p.0 p.1 p.2 p.3 (A.taken_back p.0 h.0) (B.taken_back p.1 h.1) (C.taken_back p.2 h.2) (D.taken_back p.3 h.3) };
+    ghost taken_back = { λ p h. four_back A.put A.refusal A.takes B.put B.refusal B.takes C.put
+        C.refusal C.takes D.put D.refusal D.takes
+        p.0 p.1 p.2 p.3 (A.taken_back p.0 h.0) (B.taken_back p.1 h.1) (C.taken_back p.2 h.2)
+        (D.taken_back p.3 h.3) };
 
-    ghost takes_one = { λ t x y. four_once A.put A.takes A.takes_one B.put B.takes B.takes_one C.put C.takes C.takes_one D.put D.takes
+    ghost takes_one = { λ t x y. four_once A.put A.takes A.takes_one B.put B.takes B.takes_one C.put
+        C.takes C.takes_one D.put D.takes
         D.takes_one (bare t) x.0 y.0 x.1 y.1 x.2 y.2 x.3 y.3 };
 }
 
 impl<K: MapKey, V: RoundTrip> RoundTrip for BTreeMap<K, V> {
     ghost kept = { λ m. IsOrdered K.cmp m × All (λ e. K.kept e.0 × V.kept e.1) m.entries };
 
-    ghost taken_back = { λ m h. map_kept K.cmp K.total K.put K.refusal K.takes V.put V.refusal V.takes
+    ghost taken_back = { λ m h. map_kept K.cmp K.total K.put K.refusal K.takes V.put V.refusal
+        V.takes
         K.kept V.kept K.taken_back V.taken_back m.entries h.0 h.1 };
 
     ghost takes_one = { λ t m n. map_once K.cmp K.total K.put V.put K.written_alike

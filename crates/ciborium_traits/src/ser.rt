@@ -78,5 +78,6 @@ pub trait Serialize {
     /// The sink's; it took a beginning of the value's events then, and refused the next.
     fn serialize<S: Sink>(&self, sink: &mut S) -> Result<(), S::Error>
         ensures ok { OnOk result (AllAdded S.adds sink.old (events (put self.now)) sink.new) }
-        ensures err { OnErr result (Stopped S.adds S.refuses sink.old (events (put self.now)) sink.new) };
+        ensures err { OnErr result (Stopped S.adds S.refuses sink.old
+            (events (put self.now)) sink.new) };
 }

@@ -17,9 +17,11 @@ use std::vec::IntoIter;
 
 /// The items of an array of this length, the tags around it passed over.
 fn items_of(value: Value, len: usize) -> Result<IntoIter<Value>, Error>
-    ensures ok { IfOk result (λ items. (bare (view value) ≡ spec.array (views (into_iter_items items)))
+    ensures ok { IfOk result (λ items.
+        (bare (view value) ≡ spec.array (views (into_iter_items items)))
         × (into_iter_len items ≡ len)) }
-    ensures err { IfErr result (λ e. IsRefusal false (array_refusal (other_length len) (bare (view value))) e) }
+    ensures err { IfErr result (λ e. IsRefusal false
+        (array_refusal (other_length len) (bare (view value))) e) }
 {
     match bare(value) {
         Value::Array(items) => {
@@ -35,9 +37,11 @@ fn items_of(value: Value, len: usize) -> Result<IntoIter<Value>, Error>
 /// Takes the next of the items.
 fn take_next<T: Deserialize>(alloc: Global, items: &mut IntoIter<Value>) -> Result<T, Error>
     requires { 0 < into_iter_len items.old }
-    ensures ok { IfOk result (λ x. (t : Tree) × (views (into_iter_items items.old) ≡ one_more t (views (into_iter_items items.new)))
+    ensures ok { IfOk result (λ x. (t : Tree)
+        × (views (into_iter_items items.old) ≡ one_more t (views (into_iter_items items.new)))
         × (T.refusal t ≡ None) × T.takes t x) }
-    ensures err { IfErr result (λ e. (t : Tree) × (ts : Trees) × (views (into_iter_items items.old) ≡ one_more t ts)
+    ensures err { IfErr result (λ e. (t : Tree) × (ts : Trees)
+        × (views (into_iter_items items.old) ≡ one_more t ts)
         × IsRefusal T.grows (T.refusal t) e) }
     ensures len { into_iter_len items.new + 1 ≡ into_iter_len items.old }
 {
@@ -83,7 +87,8 @@ impl<A: Serialize, B: Serialize> Serialize for (A, B) {
 impl<A: Deserialize, B: Deserialize> Deserialize for (A, B) {
     ghost refusal = { λ t. array_refusal (tuple_refusal (A.refusal ∷ B.refusal ∷ [])) (bare t) };
 
-    ghost takes = { λ t p. (a b : Tree) × (bare t ≡ spec.array (trees (a ∷ b ∷ []))) × A.takes a p.0 × B.takes b p.1 };
+    ghost takes = { λ t p. (a b : Tree) × (bare t ≡ spec.array (trees (a ∷ b ∷ []))) × A.takes a p.0
+        × B.takes b p.1 };
 
     ghost grows = { A.grows || B.grows };
 
@@ -107,7 +112,8 @@ impl<A: Serialize, B: Serialize, C: Serialize> Serialize for (A, B, C) {
 }
 
 impl<A: Deserialize, B: Deserialize, C: Deserialize> Deserialize for (A, B, C) {
-    ghost refusal = { λ t. array_refusal (tuple_refusal (A.refusal ∷ B.refusal ∷ C.refusal ∷ [])) (bare t) };
+    ghost refusal = { λ t. array_refusal (tuple_refusal (A.refusal ∷ B.refusal ∷ C.refusal ∷ []))
+        (bare t) };
 
     ghost takes = { λ t p. (a b c : Tree) × (bare t ≡ spec.array (trees (a ∷ b ∷ c ∷ [])))
         × A.takes a p.0 × B.takes b p.1 × C.takes c p.2 };
@@ -136,7 +142,8 @@ impl<A: Serialize, B: Serialize, C: Serialize, D: Serialize> Serialize for (A, B
 }
 
 impl<A: Deserialize, B: Deserialize, C: Deserialize, D: Deserialize> Deserialize for (A, B, C, D) {
-    ghost refusal = { λ t. array_refusal (tuple_refusal (A.refusal ∷ B.refusal ∷ C.refusal ∷ D.refusal ∷ [])) (bare t) };
+    ghost refusal = { λ t. array_refusal
+        (tuple_refusal (A.refusal ∷ B.refusal ∷ C.refusal ∷ D.refusal ∷ [])) (bare t) };
 
     ghost takes = { λ t p. (a b c d : Tree) × (bare t ≡ spec.array (trees (a ∷ b ∷ c ∷ d ∷ [])))
         × A.takes a p.0 × B.takes b p.1 × C.takes c p.2 × D.takes d p.3 };

@@ -12,7 +12,8 @@ use std::alloc::Global;
 /// Writes an item.
 fn write_value<S: Sink>(sink: &mut S, value: &Value) -> Result<(), S::Error>
     ensures ok { OnOk result (AllAdded S.adds sink.old (events (view value.now)) sink.new) }
-    ensures err { OnErr result (Stopped S.adds S.refuses sink.old (events (view value.now)) sink.new) }
+    ensures err { OnErr result (Stopped S.adds S.refuses sink.old
+        (events (view value.now)) sink.new) }
 {
     match value {
         Value::Integer(number) => sink.integer(*number),

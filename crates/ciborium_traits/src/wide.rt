@@ -60,8 +60,10 @@ fn whole_number(value: Value) -> Option<Whole>
 
 /// Writes a tag over a byte string.
 fn put_tagged<S: Sink>(sink: &mut S, tag: u64, bytes: &[u8]) -> Result<(), S::Error>
-    ensures ok { OnOk result (AllAdded S.adds sink.old (events (spec.tag tag (spec.bytes bytes.now))) sink.new) }
-    ensures err { OnErr result (Stopped S.adds S.refuses sink.old (events (spec.tag tag (spec.bytes bytes.now))) sink.new) }
+    ensures ok { OnOk result (AllAdded S.adds sink.old
+        (events (spec.tag tag (spec.bytes bytes.now))) sink.new) }
+    ensures err { OnErr result (Stopped S.adds S.refuses sink.old
+        (events (spec.tag tag (spec.bytes bytes.now))) sink.new) }
 {
     sink.tag(tag)?;
     sink.bytes(bytes)
@@ -69,16 +71,20 @@ fn put_tagged<S: Sink>(sink: &mut S, tag: u64, bytes: &[u8]) -> Result<(), S::Er
 
 /// Writes a tag over the fewest bytes of a number, the highest first.
 fn put_bignum<S: Sink>(sink: &mut S, tag: u64, n: u128) -> Result<(), S::Error>
-    ensures ok { OnOk result (AllAdded S.adds sink.old (events (spec.tag tag (spec.bytes (fewest_bytes n)))) sink.new) }
-    ensures err { OnErr result (Stopped S.adds S.refuses sink.old (events (spec.tag tag (spec.bytes (fewest_bytes n)))) sink.new) }
+    ensures ok { OnOk result (AllAdded S.adds sink.old
+        (events (spec.tag tag (spec.bytes (fewest_bytes n)))) sink.new) }
+    ensures err { OnErr result (Stopped S.adds S.refuses sink.old
+        (events (spec.tag tag (spec.bytes (fewest_bytes n)))) sink.new) }
 {
     put_tagged(sink, tag, stripped(&n.to_be_bytes()))
 }
 
 /// Writes an integer where its head can say the number, else a bignum (RFC 8949, section 3.4.3).
 fn put_whole<S: Sink>(sink: &mut S, number: Whole) -> Result<(), S::Error>
-    ensures ok { OnOk result (AllAdded S.adds sink.old (events (number_tree (whole number))) sink.new) }
-    ensures err { OnErr result (Stopped S.adds S.refuses sink.old (events (number_tree (whole number))) sink.new) }
+    ensures ok { OnOk result (AllAdded S.adds sink.old
+        (events (number_tree (whole number))) sink.new) }
+    ensures err { OnErr result (Stopped S.adds S.refuses sink.old
+        (events (number_tree (whole number))) sink.new) }
 {
     match number {
         Whole::Positive(n) => match u64::try_from(n) {

@@ -11,7 +11,8 @@ use std::alloc::{AllocError, Global};
 /// # Errors
 /// Only where memory is refused.
 pub(crate) fn folded(alloc: Global, value: &Value) -> Result<Option<Value>, AllocError>
-    ensures { IfOk result (λ o. MatchOption o (fold (view value.now) ≡ None) (λ v. fold (view value.now) ≡ Some (view v))) }
+    ensures { IfOk result (λ o. MatchOption o (fold (view value.now) ≡ None)
+        (λ v. fold (view value.now) ≡ Some (view v))) }
 {
     match value {
         Value::Integer(number) => Ok(Some(Value::Integer(*number))),

@@ -39,7 +39,8 @@ pub fn items_are_built()
 /// where the value's item is no tag.
 pub fn captured_values_are_taken_back<V: Serialize + Deserialize>(captured: &Captured<V>)
     ensures { IsTakenBack V.Serialize V.Deserialize captured.now.1
-        → MatchOption captured.now.0 (is_tag (V.put captured.now.1) ≡ false) (λ n. opens_none n (V.put captured.now.1) ≡ false)
+        → MatchOption captured.now.0 (is_tag (V.put captured.now.1) ≡ false)
+        (λ n. opens_none n (V.put captured.now.1) ≡ false)
         → IsTakenBack ⟦<Captured<V> as Serialize>⟧ ⟦<Captured<V> as Deserialize>⟧ captured.now }
 {}
 
@@ -47,16 +48,20 @@ pub fn captured_values_are_taken_back<V: Serialize + Deserialize>(captured: &Cap
 pub fn required_values_are_taken_back<V: Serialize + Deserialize, const TAG: u64>(
     required: &Required<V, TAG>,
 )
-    ensures { IsTakenBack V.Serialize V.Deserialize required.now.0 → opens_none TAG (V.put required.now.0) ≡ false
-        → IsTakenBack ⟦<Required<V, TAG> as Serialize>⟧ ⟦<Required<V, TAG> as Deserialize>⟧ required.now }
+    ensures { IsTakenBack V.Serialize V.Deserialize required.now.0
+        → opens_none TAG (V.put required.now.0) ≡ false
+        → IsTakenBack ⟦<Required<V, TAG> as Serialize>⟧ ⟦<Required<V, TAG> as Deserialize>⟧
+        required.now }
 {}
 
 /// A value that may have a tag is taken back where the value is, and the tag is no bignum's over its bytes.
 pub fn accepted_values_are_taken_back<V: Serialize + Deserialize, const TAG: u64>(
     accepted: &Accepted<V, TAG>,
 )
-    ensures { IsTakenBack V.Serialize V.Deserialize accepted.now.0 → opens_none TAG (V.put accepted.now.0) ≡ false
-        → IsTakenBack ⟦<Accepted<V, TAG> as Serialize>⟧ ⟦<Accepted<V, TAG> as Deserialize>⟧ accepted.now }
+    ensures { IsTakenBack V.Serialize V.Deserialize accepted.now.0
+        → opens_none TAG (V.put accepted.now.0) ≡ false
+        → IsTakenBack ⟦<Accepted<V, TAG> as Serialize>⟧ ⟦<Accepted<V, TAG> as Deserialize>⟧
+        accepted.now }
 {}
 
 /// Captured values are equal where their tags are and their values are. Their order is total and goes by the tag, none before any,
@@ -65,12 +70,15 @@ pub fn captured_values_compare<V: Ord + Hash>(a: &Captured<V>, b: &Captured<V>)
     ensures equality { IsTrue (⟦<Captured<V> as std::cmp::PartialEq>⟧.eq a.now b.now)
         ↔ ((a.now.0 ≡ b.now.0) × IsTrue (V.eq a.now.1 b.now.1)) }
     ensures order { ⟦<Captured<V> as std::cmp::Ord>⟧.cmp a.now b.now
-        ≡ ordering_then (⟦<Option<u64> as std::cmp::Ord>⟧.cmp a.now.0 b.now.0) (V.cmp a.now.1 b.now.1) }
+        ≡ ordering_then (⟦<Option<u64> as std::cmp::Ord>⟧.cmp a.now.0 b.now.0)
+        (V.cmp a.now.1 b.now.1) }
     ensures total { IsTotalOrder ⟦<Captured<V> as std::cmp::Ord>⟧.cmp }
     ensures hash { ⟦<Captured<V> as std::hash::Hash>⟧.hash_input a.now
         ≡ ⟦<Option<u64> as std::hash::Hash>⟧.hash_input a.now.0 ++ V.hash_input a.now.1 }
-    ensures agree { Agree ⟦<Captured<V> as std::cmp::PartialEq>⟧.eq ⟦<Captured<V> as std::cmp::Ord>⟧.cmp
-        ⟦<Captured<V> as std::cmp::PartialOrd>⟧.partial_cmp ⟦<Captured<V> as std::hash::Hash>⟧.hash_input a.now b.now }
+    ensures agree { Agree ⟦<Captured<V> as std::cmp::PartialEq>⟧.eq
+        ⟦<Captured<V> as std::cmp::Ord>⟧.cmp
+        ⟦<Captured<V> as std::cmp::PartialOrd>⟧.partial_cmp
+        ⟦<Captured<V> as std::hash::Hash>⟧.hash_input a.now b.now }
 {}
 
 /// Required values are compared and hashed as the values in their tag are, and their order is total.
@@ -78,12 +86,15 @@ pub fn required_values_compare<V: Ord + Hash, const TAG: u64>(
     a: &Required<V, TAG>,
     b: &Required<V, TAG>,
 )
-    ensures equality { IsTrue (⟦<Required<V, TAG> as std::cmp::PartialEq>⟧.eq a.now b.now) ↔ IsTrue (V.eq a.now.0 b.now.0) }
+    ensures equality { IsTrue (⟦<Required<V, TAG> as std::cmp::PartialEq>⟧.eq a.now b.now)
+        ↔ IsTrue (V.eq a.now.0 b.now.0) }
     ensures order { ⟦<Required<V, TAG> as std::cmp::Ord>⟧.cmp a.now b.now ≡ V.cmp a.now.0 b.now.0 }
     ensures total { IsTotalOrder ⟦<Required<V, TAG> as std::cmp::Ord>⟧.cmp }
     ensures hash { ⟦<Required<V, TAG> as std::hash::Hash>⟧.hash_input a.now ≡ V.hash_input a.now.0 }
-    ensures agree { Agree ⟦<Required<V, TAG> as std::cmp::PartialEq>⟧.eq ⟦<Required<V, TAG> as std::cmp::Ord>⟧.cmp
-        ⟦<Required<V, TAG> as std::cmp::PartialOrd>⟧.partial_cmp ⟦<Required<V, TAG> as std::hash::Hash>⟧.hash_input a.now b.now }
+    ensures agree { Agree ⟦<Required<V, TAG> as std::cmp::PartialEq>⟧.eq
+        ⟦<Required<V, TAG> as std::cmp::Ord>⟧.cmp
+        ⟦<Required<V, TAG> as std::cmp::PartialOrd>⟧.partial_cmp
+        ⟦<Required<V, TAG> as std::hash::Hash>⟧.hash_input a.now b.now }
 {}
 
 /// Accepted values are compared and hashed as the values in their tag are, and their order is total.
@@ -91,12 +102,15 @@ pub fn accepted_values_compare<V: Ord + Hash, const TAG: u64>(
     a: &Accepted<V, TAG>,
     b: &Accepted<V, TAG>,
 )
-    ensures equality { IsTrue (⟦<Accepted<V, TAG> as std::cmp::PartialEq>⟧.eq a.now b.now) ↔ IsTrue (V.eq a.now.0 b.now.0) }
+    ensures equality { IsTrue (⟦<Accepted<V, TAG> as std::cmp::PartialEq>⟧.eq a.now b.now)
+        ↔ IsTrue (V.eq a.now.0 b.now.0) }
     ensures order { ⟦<Accepted<V, TAG> as std::cmp::Ord>⟧.cmp a.now b.now ≡ V.cmp a.now.0 b.now.0 }
     ensures total { IsTotalOrder ⟦<Accepted<V, TAG> as std::cmp::Ord>⟧.cmp }
     ensures hash { ⟦<Accepted<V, TAG> as std::hash::Hash>⟧.hash_input a.now ≡ V.hash_input a.now.0 }
-    ensures agree { Agree ⟦<Accepted<V, TAG> as std::cmp::PartialEq>⟧.eq ⟦<Accepted<V, TAG> as std::cmp::Ord>⟧.cmp
-        ⟦<Accepted<V, TAG> as std::cmp::PartialOrd>⟧.partial_cmp ⟦<Accepted<V, TAG> as std::hash::Hash>⟧.hash_input a.now b.now }
+    ensures agree { Agree ⟦<Accepted<V, TAG> as std::cmp::PartialEq>⟧.eq
+        ⟦<Accepted<V, TAG> as std::cmp::Ord>⟧.cmp
+        ⟦<Accepted<V, TAG> as std::cmp::PartialOrd>⟧.partial_cmp
+        ⟦<Accepted<V, TAG> as std::hash::Hash>⟧.hash_input a.now b.now }
 {}
 
 /// Equality, order and hash of a type agree, and its order is total.
@@ -108,12 +122,16 @@ fn comparisons_agree<T: Ord + Hash>(a: &T, b: &T)
 /// Byte strings are equal where their bytes are. Their order is total and goes byte by byte, a beginning before the whole, and they
 /// are hashed as their content is.
 pub fn byte_strings_compare(a: &ByteBuf, b: &ByteBuf)
-    ensures equality { IsTrue (⟦<ByteBuf as std::cmp::PartialEq>⟧.eq a.now b.now) ↔ (a.now.0.items ≡ b.now.0.items) }
-    ensures order { ⟦<ByteBuf as std::cmp::Ord>⟧.cmp a.now b.now ≡ slice_cmp nat_cmp a.now.0.items b.now.0.items }
+    ensures equality { IsTrue (⟦<ByteBuf as std::cmp::PartialEq>⟧.eq a.now b.now)
+        ↔ (a.now.0.items ≡ b.now.0.items) }
+    ensures order { ⟦<ByteBuf as std::cmp::Ord>⟧.cmp a.now b.now
+        ≡ slice_cmp nat_cmp a.now.0.items b.now.0.items }
     ensures total { IsTotalOrder ⟦<ByteBuf as std::cmp::Ord>⟧.cmp }
-    ensures hash { ⟦<ByteBuf as std::hash::Hash>⟧.hash_input a.now ≡ ⟦<Vec<u8> as std::hash::Hash>⟧.hash_input a.now.0 }
+    ensures hash { ⟦<ByteBuf as std::hash::Hash>⟧.hash_input a.now
+        ≡ ⟦<Vec<u8> as std::hash::Hash>⟧.hash_input a.now.0 }
     ensures agree { Agree ⟦<ByteBuf as std::cmp::PartialEq>⟧.eq ⟦<ByteBuf as std::cmp::Ord>⟧.cmp
-        ⟦<ByteBuf as std::cmp::PartialOrd>⟧.partial_cmp ⟦<ByteBuf as std::hash::Hash>⟧.hash_input a.now b.now }
+        ⟦<ByteBuf as std::cmp::PartialOrd>⟧.partial_cmp ⟦<ByteBuf as std::hash::Hash>⟧.hash_input
+        a.now b.now }
 {
     comparisons_agree(a, b);
 }

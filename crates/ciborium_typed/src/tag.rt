@@ -146,9 +146,11 @@ impl<V: Deserialize, const TAG: u64> Deserialize for Accepted<V, TAG> {
 }
 
 impl<V: RoundTrip> RoundTrip for Captured<V> {
-    ghost kept = { λ c. V.kept c.1 × MatchOption c.0 (is_tag (V.put c.1) ≡ false) (λ n. opens_none n (V.put c.1) ≡ false) };
+    ghost kept = { λ c. V.kept c.1 × MatchOption c.0 (is_tag (V.put c.1) ≡ false)
+        (λ n. opens_none n (V.put c.1) ≡ false) };
 
-    ghost taken_back = { λ c h. captured_back V.put V.refusal V.takes c.0 c.1 (V.taken_back c.1 h.0) h.1 };
+    ghost taken_back = { λ c h. captured_back V.put V.refusal V.takes c.0 c.1
+        (V.taken_back c.1 h.0) h.1 };
 
     ghost takes_one = { λ t x y. captured_once V.put V.takes V.takes_one t x.0 y.0 x.1 y.1 };
 }
@@ -156,7 +158,8 @@ impl<V: RoundTrip> RoundTrip for Captured<V> {
 impl<V: RoundTrip, const TAG: u64> RoundTrip for Required<V, TAG> {
     ghost kept = { λ r. V.kept r.0 × (opens_none TAG (V.put r.0) ≡ false) };
 
-    ghost taken_back = { λ r h. required_back V.put V.refusal V.takes TAG r.0 (V.taken_back r.0 h.0) h.1 };
+    ghost taken_back = { λ r h. required_back V.put V.refusal V.takes TAG r.0
+        (V.taken_back r.0 h.0) h.1 };
 
     ghost takes_one = { λ t x y. required_once V.put V.takes V.takes_one TAG t x.0 y.0 };
 }
@@ -164,7 +167,8 @@ impl<V: RoundTrip, const TAG: u64> RoundTrip for Required<V, TAG> {
 impl<V: RoundTrip, const TAG: u64> RoundTrip for Accepted<V, TAG> {
     ghost kept = { λ a. V.kept a.0 × (opens_none TAG (V.put a.0) ≡ false) };
 
-    ghost taken_back = { λ a h. accepted_back V.put V.refusal V.takes TAG a.0 (V.taken_back a.0 h.0) h.1 };
+    ghost taken_back = { λ a h. accepted_back V.put V.refusal V.takes TAG a.0
+        (V.taken_back a.0 h.0) h.1 };
 
     ghost takes_one = { λ t x y. accepted_once V.put V.takes V.takes_one TAG t x.0 y.0 };
 }
@@ -175,8 +179,10 @@ fn serialize_tagged<V: Serialize, S: Sink>(
     value: &V,
     sink: &mut S,
 ) -> Result<(), S::Error>
-    ensures ok { OnOk result (AllAdded S.adds sink.old (events (spec.tag tag (V.put value.now))) sink.new) }
-    ensures err { OnErr result (Stopped S.adds S.refuses sink.old (events (spec.tag tag (V.put value.now))) sink.new) }
+    ensures ok { OnOk result (AllAdded S.adds sink.old
+        (events (spec.tag tag (V.put value.now))) sink.new) }
+    ensures err { OnErr result (Stopped S.adds S.refuses sink.old
+        (events (spec.tag tag (V.put value.now))) sink.new) }
 {
     sink.tag(tag)?;
     value.serialize(sink)

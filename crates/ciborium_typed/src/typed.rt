@@ -31,8 +31,10 @@ pub trait ValueTyped {
     /// # Errors
     /// Why the type doesn't take it, `BigNegative` where it holds a negative bignum below -2^127, or `Memory`.
     fn deserialized<T: Deserialize>(&self, alloc: Global) -> Result<T, Error>
-        ensures ok { IfOk result (λ x. (u : Tree) × (fold (tree self.now) ≡ Some u) × (T.refusal u ≡ None) × T.takes u x) }
-        ensures err { IfErr result (λ e. IsRefusal true (unread T.refusal (fold (tree self.now))) e) };
+        ensures ok { IfOk result (λ x. (u : Tree) × (fold (tree self.now) ≡ Some u)
+            × (T.refusal u ≡ None) × T.takes u x) }
+        ensures err { IfErr result (λ e. IsRefusal true
+            (unread T.refusal (fold (tree self.now))) e) };
 }
 
 impl ValueTyped for Value {

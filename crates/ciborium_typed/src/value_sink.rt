@@ -107,7 +107,8 @@ impl ValueSink {
 
     /// Begins a tag, an array or a map.
     fn begin(&mut self, level: Level) -> Result<(), AllocError>
-        ensures ok { OnOk result (state_of self.new ≡ begun (container_of level) (state_of self.old)) }
+        ensures ok { OnOk result (state_of self.new ≡ begun (container_of level)
+            (state_of self.old)) }
         ensures err { OnErr result (state_of self.new ≡ emptied (state_of self.old)) }
     {
         match self.levels.push(level) {

@@ -35,7 +35,8 @@ impl ValueSource {
 impl Source for ValueSource {
     type Error = Error;
 
-    ghost gives = { λ s t s2. (v : ValueOf) × (s.item ≡ Some v) × (fold (view v) ≡ Some t) × (s2.item ≡ None) };
+    ghost gives = { λ s t s2. (v : ValueOf) × (s.item ≡ Some v) × (fold (view v) ≡ Some t)
+        × (s2.item ≡ None) };
 
     ghost fails = { λ s e s2. IsRefusal true (missing s.item) e × (s2.item ≡ s.item) };
 

@@ -20,7 +20,8 @@ impl Value {
 
     /// The integer, or none for a value of another kind.
     pub fn as_integer(&self) -> Option<Integer>
-        ensures { MatchOption result (is_integer (view self.now) ≡ false) (λ i. view self.now ≡ spec.integer (number_of i)) }
+        ensures { MatchOption result (is_integer (view self.now) ≡ false)
+            (λ i. view self.now ≡ spec.integer (number_of i)) }
     {
         match self {
             Value::Integer(number) => Some(*number),
@@ -51,7 +52,8 @@ impl Value {
 
     /// The bytes of a byte string, or none for a value of another kind.
     pub fn as_bytes(&self) -> Option<&Vec<u8>>
-        ensures { MatchOption result (is_bytes (view self.now) ≡ false) (λ v. view self.now ≡ spec.bytes v.now.items) }
+        ensures { MatchOption result (is_bytes (view self.now) ≡ false)
+            (λ v. view self.now ≡ spec.bytes v.now.items) }
     {
         match self {
             Value::Bytes(content) => Some(content),
@@ -82,7 +84,8 @@ impl Value {
 
     /// The width and bits of a float, or none for a value of another kind.
     pub fn as_float(&self) -> Option<Float>
-        ensures { MatchOption result (is_float (view self.now) ≡ false) (λ f. view self.now ≡ spec.float f) }
+        ensures { MatchOption result (is_float (view self.now) ≡ false)
+            (λ f. view self.now ≡ spec.float f) }
     {
         match self {
             Value::Float(float) => Some(*float),
@@ -95,7 +98,8 @@ impl Value {
     /// # Errors
     /// A value of another kind is given back.
     pub fn into_float(self) -> Result<Float, Value>
-        ensures { MatchResult result (λ f. view self ≡ spec.float f) (λ back. (view back ≡ view self) × (is_float (view self) ≡ false)) }
+        ensures { MatchResult result (λ f. view self ≡ spec.float f)
+            (λ back. (view back ≡ view self) × (is_float (view self) ≡ false)) }
     {
         match self {
             Value::Float(float) => Ok(float),
@@ -112,7 +116,8 @@ impl Value {
 
     /// The text of a text string, or none for a value of another kind.
     pub fn as_text(&self) -> Option<&str>
-        ensures { MatchOption result (is_text (view self.now) ≡ false) (λ s. view self.now ≡ spec.text s.now) }
+        ensures { MatchOption result (is_text (view self.now) ≡ false)
+            (λ s. view self.now ≡ spec.text s.now) }
     {
         match self {
             Value::Text(content) => Some(content.as_str()),
@@ -143,7 +148,8 @@ impl Value {
 
     /// The bool, or none for a value of another kind.
     pub fn as_bool(&self) -> Option<bool>
-        ensures { MatchOption result (is_bool (view self.now) ≡ false) (λ b. view self.now ≡ bool_tree b) }
+        ensures { MatchOption result (is_bool (view self.now) ≡ false)
+            (λ b. view self.now ≡ bool_tree b) }
     {
         match self {
             Value::Bool(truth) => Some(*truth),
@@ -156,7 +162,8 @@ impl Value {
     /// # Errors
     /// A value of another kind is given back.
     pub fn into_bool(self) -> Result<bool, Value>
-        ensures { MatchResult result (λ b. view self ≡ bool_tree b) (λ back. (view back ≡ view self) × (is_bool (view self) ≡ false)) }
+        ensures { MatchResult result (λ b. view self ≡ bool_tree b)
+            (λ back. (view back ≡ view self) × (is_bool (view self) ≡ false)) }
     {
         match self {
             Value::Bool(truth) => Ok(truth),
@@ -180,7 +187,8 @@ impl Value {
 
     /// The number of a tag and its item, or none for a value of another kind.
     pub fn as_tag(&self) -> Option<(u64, &Value)>
-        ensures { MatchOption result (is_tag (view self.now) ≡ false) (λ p. view self.now ≡ spec.tag p.0 (view p.1.now)) }
+        ensures { MatchOption result (is_tag (view self.now) ≡ false)
+            (λ p. view self.now ≡ spec.tag p.0 (view p.1.now)) }
     {
         match self {
             Value::Tag(tag, content) => Some((*tag, content)),
@@ -211,7 +219,8 @@ impl Value {
 
     /// The items of an array, or none for a value of another kind.
     pub fn as_array(&self) -> Option<&Vec<Value>>
-        ensures { MatchOption result (is_array (view self.now) ≡ false) (λ v. view self.now ≡ spec.array (views v.now.items)) }
+        ensures { MatchOption result (is_array (view self.now) ≡ false)
+            (λ v. view self.now ≡ spec.array (views v.now.items)) }
     {
         match self {
             Value::Array(items) => Some(items),
@@ -242,7 +251,8 @@ impl Value {
 
     /// The entries of a map, in their order, or none for a value of another kind.
     pub fn as_map(&self) -> Option<&Vec<(Value, Value)>>
-        ensures { MatchOption result (is_map (view self.now) ≡ false) (λ v. view self.now ≡ spec.map (view_pairs v.now.items)) }
+        ensures { MatchOption result (is_map (view self.now) ≡ false)
+            (λ v. view self.now ≡ spec.map (view_pairs v.now.items)) }
     {
         match self {
             Value::Map(entries) => Some(entries),

@@ -15,8 +15,10 @@ impl Value {
 
     /// The bytes of a byte string, to be changed, or none for a value of another kind, which stays as it was.
     pub fn as_bytes_mut(&mut self) -> Option<&mut Vec<u8>>
-        ensures* writes_back { sem 𝓛 (LendsIf the_row bytes_row self.entry result code.Bytes self.old) }
-        ensures part { MatchOption result (is_bytes (view self.old) ≡ false) (λ v. view self.old ≡ spec.bytes v.now.items) }
+        ensures* writes_back { sem 𝓛 (LendsIf the_row bytes_row self.entry result code.Bytes
+            self.old) }
+        ensures part { MatchOption result (is_bytes (view self.old) ≡ false)
+            (λ v. view self.old ≡ spec.bytes v.now.items) }
     {
         if let Value::Bytes(content) = self {
             Some(content)
@@ -27,8 +29,10 @@ impl Value {
 
     /// The text of a text string, to be changed, or none for a value of another kind, which stays as it was.
     pub fn as_text_mut(&mut self) -> Option<&mut String>
-        ensures* writes_back { sem 𝓛 (LendsIf the_row text_row self.entry result code.Text self.old) }
-        ensures part { MatchOption result (is_text (view self.old) ≡ false) (λ s. view self.old ≡ spec.text (string_bytes s.now)) }
+        ensures* writes_back { sem 𝓛 (LendsIf the_row text_row self.entry result code.Text
+            self.old) }
+        ensures part { MatchOption result (is_text (view self.old) ≡ false)
+            (λ s. view self.old ≡ spec.text (string_bytes s.now)) }
     {
         if let Value::Text(text) = self {
             Some(text)
@@ -39,8 +43,10 @@ impl Value {
 
     /// The items of an array, to be changed, or none for a value of another kind, which stays as it was.
     pub fn as_array_mut(&mut self) -> Option<&mut Vec<Value>>
-        ensures* writes_back { sem 𝓛 (LendsIf the_row items_row self.entry result code.Array self.old) }
-        ensures part { MatchOption result (is_array (view self.old) ≡ false) (λ v. view self.old ≡ spec.array (views v.now.items)) }
+        ensures* writes_back { sem 𝓛 (LendsIf the_row items_row self.entry result code.Array
+            self.old) }
+        ensures part { MatchOption result (is_array (view self.old) ≡ false)
+            (λ v. view self.old ≡ spec.array (views v.now.items)) }
     {
         if let Value::Array(items) = self {
             Some(items)
@@ -51,8 +57,10 @@ impl Value {
 
     /// The entries of a map, to be changed, or none for a value of another kind, which stays as it was.
     pub fn as_map_mut(&mut self) -> Option<&mut Vec<(Value, Value)>>
-        ensures* writes_back { sem 𝓛 (LendsIf the_row entries_row self.entry result code.Map self.old) }
-        ensures part { MatchOption result (is_map (view self.old) ≡ false) (λ v. view self.old ≡ spec.map (view_pairs v.now.items)) }
+        ensures* writes_back { sem 𝓛 (LendsIf the_row entries_row self.entry result code.Map
+            self.old) }
+        ensures part { MatchOption result (is_map (view self.old) ≡ false)
+            (λ v. view self.old ≡ spec.map (view_pairs v.now.items)) }
     {
         if let Value::Map(entries) = self {
             Some(entries)
@@ -67,7 +75,8 @@ impl Value {
     /// the two stands in the tag afterwards, is tested alone: no clause can say it of two parts of one value. `into_tag` is
     /// proved to give a value of another kind back.
     pub fn as_tag_mut(&mut self) -> Option<(&mut u64, &mut Value)>
-        ensures { MatchOption result (is_tag (view self.old) ≡ false) (λ p. view self.old ≡ spec.tag p.0.now (view p.1.now)) }
+        ensures { MatchOption result (is_tag (view self.old) ≡ false)
+            (λ p. view self.old ≡ spec.tag p.0.now (view p.1.now)) }
     {
         if let Value::Tag(tag, content) = self {
             Some((tag, content))

@@ -4,7 +4,8 @@ ghost use Rattle.ciborium_value.specs.Folding.{big_endian_from, without_zeros};
 
 /// The number of at most 16 bytes, the highest first, or none for more bytes.
 pub fn number(bytes: &[u8]) -> Option<u128>
-    ensures { MatchOption result (16 < length bytes.now) (λ n. (n ≡ big_endian_from 0 bytes.now) × (length bytes.now ≤ 16)) }
+    ensures { MatchOption result (16 < length bytes.now)
+        (λ n. (n ≡ big_endian_from 0 bytes.now) × (length bytes.now ≤ 16)) }
 {
     if bytes.len() > 16 {
         return None;

@@ -34,7 +34,8 @@ impl CanonicalValue {
 impl PartialEq for CanonicalValue {
     ghost eq = { on (λ v. view v.0) (eq_by_cmp canonical_cmp) };
 
-    ghost laws = { partial_equiv_from_equiv (on_equiv (λ v. view v.0) (eq_by_cmp_equiv canonical_total)) };
+    ghost laws = { partial_equiv_from_equiv
+        (on_equiv (λ v. view v.0) (eq_by_cmp_equiv canonical_total)) };
 
     fn eq(&self, other: &CanonicalValue) -> bool {
         cmp_value(&self.0, &other.0).is_eq()

@@ -47,7 +47,8 @@ fn fold_number(alloc: Global, tag: u64, bytes: Vec<u8>) -> Result<Option<Value>,
 /// # Errors
 /// Only where memory is refused.
 pub fn fold_tag(alloc: Global, tag: u64, content: Value) -> Result<Option<Value>, AllocError>
-    ensures { IfOk result (λ o. MatchOption o (IsTooNegative tag (view content)) (λ v. tagged tag (view content) ≡ Some (view v))) }
+    ensures { IfOk result (λ o. MatchOption o (IsTooNegative tag (view content))
+        (λ v. tagged tag (view content) ≡ Some (view v))) }
 {
     match content.into_bytes() {
         Ok(bytes) => {

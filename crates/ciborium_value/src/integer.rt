@@ -143,7 +143,8 @@ impl TryFrom<i128> for Integer {
     ghost use Rattle.ciborium_value.specs.Numbers.{IsHeld};
     ghost use Rattle.ciborium_value.specs.View.{number_of};
 
-    ghost try_from_gives = { λ n r. MatchResult r (λ i. (number_of i ≡ n) × IsHeld n) (λ _. ¬ IsHeld n) };
+    ghost try_from_gives = { λ n r. MatchResult r (λ i. (number_of i ≡ n) × IsHeld n)
+        (λ _. ¬ IsHeld n) };
 
     fn try_from(n: i128) -> Result<Integer, TryFromIntError> {
         if n < 0 {
@@ -160,7 +161,8 @@ impl TryFrom<u128> for Integer {
     ghost use Rattle.ciborium_value.specs.Numbers.{IsHeld};
     ghost use Rattle.ciborium_value.specs.View.{number_of};
 
-    ghost try_from_gives = { λ n r. MatchResult r (λ i. (number_of i ≡ pos n) × IsHeld (pos n)) (λ _. ¬ IsHeld (pos n)) };
+    ghost try_from_gives = { λ n r. MatchResult r (λ i. (number_of i ≡ pos n) × IsHeld (pos n))
+        (λ _. ¬ IsHeld (pos n)) };
 
     fn try_from(n: u128) -> Result<Integer, TryFromIntError> {
         Ok(Integer::from(u64::try_from(n)?))
@@ -171,7 +173,8 @@ impl From<Integer> for i128 {
     ghost use Rattle.std.specs.Prelude.{◌≡◌, pos, negsuc, ◌≤ℤ◌};
     ghost use Rattle.ciborium_value.specs.View.{number_of};
 
-    ghost from_gives = { λ i n. (n ≡ number_of i) × (negsuc 0xffff_ffff_ffff_ffff ≤ℤ n) × (n ≤ℤ pos 0xffff_ffff_ffff_ffff) };
+    ghost from_gives = { λ i n. (n ≡ number_of i) × (negsuc 0xffff_ffff_ffff_ffff ≤ℤ n)
+        × (n ≤ℤ pos 0xffff_ffff_ffff_ffff) };
 
     fn from(i: Integer) -> i128 {
         i.number
@@ -185,7 +188,8 @@ impl TryFrom<Integer> for u8 {
     ghost use Rattle.std.specs.Int.{w8, FitsUnsigned};
     ghost use Rattle.ciborium_value.specs.View.{number_of};
 
-    ghost try_from_gives = { λ i r. OkIff r (FitsUnsigned w8 (number_of i)) (unsigned_abs (number_of i)) };
+    ghost try_from_gives = { λ i r. OkIff r (FitsUnsigned w8 (number_of i))
+        (unsigned_abs (number_of i)) };
 
     fn try_from(i: Integer) -> Result<u8, TryFromIntError> {
         u8::try_from(i.number)
@@ -199,7 +203,8 @@ impl TryFrom<Integer> for u16 {
     ghost use Rattle.std.specs.Int.{w16, FitsUnsigned};
     ghost use Rattle.ciborium_value.specs.View.{number_of};
 
-    ghost try_from_gives = { λ i r. OkIff r (FitsUnsigned w16 (number_of i)) (unsigned_abs (number_of i)) };
+    ghost try_from_gives = { λ i r. OkIff r (FitsUnsigned w16 (number_of i))
+        (unsigned_abs (number_of i)) };
 
     fn try_from(i: Integer) -> Result<u16, TryFromIntError> {
         u16::try_from(i.number)
@@ -213,7 +218,8 @@ impl TryFrom<Integer> for u32 {
     ghost use Rattle.std.specs.Int.{w32, FitsUnsigned};
     ghost use Rattle.ciborium_value.specs.View.{number_of};
 
-    ghost try_from_gives = { λ i r. OkIff r (FitsUnsigned w32 (number_of i)) (unsigned_abs (number_of i)) };
+    ghost try_from_gives = { λ i r. OkIff r (FitsUnsigned w32 (number_of i))
+        (unsigned_abs (number_of i)) };
 
     fn try_from(i: Integer) -> Result<u32, TryFromIntError> {
         u32::try_from(i.number)
@@ -227,7 +233,8 @@ impl TryFrom<Integer> for u64 {
     ghost use Rattle.std.specs.Int.{w64, FitsUnsigned};
     ghost use Rattle.ciborium_value.specs.View.{number_of};
 
-    ghost try_from_gives = { λ i r. OkIff r (FitsUnsigned w64 (number_of i)) (unsigned_abs (number_of i)) };
+    ghost try_from_gives = { λ i r. OkIff r (FitsUnsigned w64 (number_of i))
+        (unsigned_abs (number_of i)) };
 
     fn try_from(i: Integer) -> Result<u64, TryFromIntError> {
         u64::try_from(i.number)
@@ -241,7 +248,8 @@ impl TryFrom<Integer> for usize {
     ghost use Rattle.std.specs.Int.{w64, FitsUnsigned};
     ghost use Rattle.ciborium_value.specs.View.{number_of};
 
-    ghost try_from_gives = { λ i r. OkIff r (FitsUnsigned w64 (number_of i)) (unsigned_abs (number_of i)) };
+    ghost try_from_gives = { λ i r. OkIff r (FitsUnsigned w64 (number_of i))
+        (unsigned_abs (number_of i)) };
 
     fn try_from(i: Integer) -> Result<usize, TryFromIntError> {
         usize::try_from(i.number)

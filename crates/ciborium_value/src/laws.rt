@@ -73,28 +73,40 @@ pub fn numbers_are_kept()
 
 /// Values are equal where their trees are, their order is that of the trees, and equal ones hash alike.
 pub fn values_compare(a: &Value, b: &Value)
-    ensures equality { IsTrue (⟦<Value as std::cmp::PartialEq>⟧.eq a.now b.now) ↔ (view a.now ≡ view b.now) }
-    ensures order { ⟦<Value as std::cmp::Ord>⟧.cmp a.now b.now ≡ tree_cmp (view a.now) (view b.now) }
-    ensures partial { ⟦<Value as std::cmp::PartialOrd>⟧.partial_cmp a.now b.now ≡ Some (tree_cmp (view a.now) (view b.now)) }
-    ensures hash { view a.now ≡ view b.now → ⟦<Value as std::hash::Hash>⟧.hash_input a.now ≡ ⟦<Value as std::hash::Hash>⟧.hash_input b.now }
+    ensures equality { IsTrue (⟦<Value as std::cmp::PartialEq>⟧.eq a.now b.now)
+        ↔ (view a.now ≡ view b.now) }
+    ensures order { ⟦<Value as std::cmp::Ord>⟧.cmp a.now b.now ≡ tree_cmp (view a.now)
+        (view b.now) }
+    ensures partial { ⟦<Value as std::cmp::PartialOrd>⟧.partial_cmp a.now b.now
+        ≡ Some (tree_cmp (view a.now) (view b.now)) }
+    ensures hash { view a.now ≡ view b.now → ⟦<Value as std::hash::Hash>⟧.hash_input a.now
+        ≡ ⟦<Value as std::hash::Hash>⟧.hash_input b.now }
 {}
 
 /// Integers are equal where their numbers are, their order is that of the numbers, and equal ones hash alike.
 pub fn integers_compare(a: &Integer, b: &Integer)
-    ensures equality { IsTrue (⟦<Integer as std::cmp::PartialEq>⟧.eq a.now b.now) ↔ (number_of a.now ≡ number_of b.now) }
-    ensures order { ⟦<Integer as std::cmp::Ord>⟧.cmp a.now b.now ≡ int_cmp (number_of a.now) (number_of b.now) }
-    ensures partial { ⟦<Integer as std::cmp::PartialOrd>⟧.partial_cmp a.now b.now ≡ Some (int_cmp (number_of a.now) (number_of b.now)) }
+    ensures equality { IsTrue (⟦<Integer as std::cmp::PartialEq>⟧.eq a.now b.now)
+        ↔ (number_of a.now ≡ number_of b.now) }
+    ensures order { ⟦<Integer as std::cmp::Ord>⟧.cmp a.now b.now ≡ int_cmp (number_of a.now)
+        (number_of b.now) }
+    ensures partial { ⟦<Integer as std::cmp::PartialOrd>⟧.partial_cmp a.now b.now
+        ≡ Some (int_cmp (number_of a.now) (number_of b.now)) }
     ensures hash { number_of a.now ≡ number_of b.now
-        → ⟦<Integer as std::hash::Hash>⟧.hash_input a.now ≡ ⟦<Integer as std::hash::Hash>⟧.hash_input b.now }
+        → ⟦<Integer as std::hash::Hash>⟧.hash_input a.now
+        ≡ ⟦<Integer as std::hash::Hash>⟧.hash_input b.now }
 {}
 
 /// Canonical values are equal where their trees are, their order is that of their encodings, and equal ones hash alike.
 pub fn canonical_values_compare(a: &CanonicalValue, b: &CanonicalValue)
-    ensures equality { IsTrue (⟦<CanonicalValue as std::cmp::PartialEq>⟧.eq a.now b.now) ↔ (view a.now.0 ≡ view b.now.0) }
-    ensures order { ⟦<CanonicalValue as std::cmp::Ord>⟧.cmp a.now b.now ≡ canonical (view a.now.0) (view b.now.0) }
-    ensures partial { ⟦<CanonicalValue as std::cmp::PartialOrd>⟧.partial_cmp a.now b.now ≡ Some (canonical (view a.now.0) (view b.now.0)) }
+    ensures equality { IsTrue (⟦<CanonicalValue as std::cmp::PartialEq>⟧.eq a.now b.now)
+        ↔ (view a.now.0 ≡ view b.now.0) }
+    ensures order { ⟦<CanonicalValue as std::cmp::Ord>⟧.cmp a.now b.now ≡ canonical (view a.now.0)
+        (view b.now.0) }
+    ensures partial { ⟦<CanonicalValue as std::cmp::PartialOrd>⟧.partial_cmp a.now b.now
+        ≡ Some (canonical (view a.now.0) (view b.now.0)) }
     ensures hash { view a.now.0 ≡ view b.now.0
-        → ⟦<CanonicalValue as std::hash::Hash>⟧.hash_input a.now ≡ ⟦<CanonicalValue as std::hash::Hash>⟧.hash_input b.now }
+        → ⟦<CanonicalValue as std::hash::Hash>⟧.hash_input a.now
+        ≡ ⟦<CanonicalValue as std::hash::Hash>⟧.hash_input b.now }
 {
     value_fits(&a.0);
     value_fits(&b.0);
@@ -116,13 +128,15 @@ pub fn orders_of_encodings()
     ensures sized { (t : Tree) → Fits t → Sized t }
     ensures bytes { (t s : Tree) → Sized t → Sized s → bytewise t s ≡ text_cmp t s }
     ensures counted { (t s : Tree) → Sized t → Sized s → canonical t s ≡ canonical_cmp t s }
-    ensures lengths { (t s : Tree) → length (enc t) < 2 ^ 64 → length (enc s) < 2 ^ 64 → canonical t s ≡ length_first t s }
+    ensures lengths { (t s : Tree) → length (enc t) < 2 ^ 64 → length (enc s) < 2 ^ 64
+        → canonical t s ≡ length_first t s }
 {}
 
 /// Trees with one encoding are one, and no encoding begins another.
 pub fn one_encoding()
     ensures once { (t s : Tree) → Fits t → Fits s → enc t ≡ enc s → t ≡ s }
-    ensures prefix { (t s : Tree) (u v : List ℕ) → Fits t → Fits s → enc t ++ u ≡ enc s ++ v → (t ≡ s) × (u ≡ v) }
+    ensures prefix { (t s : Tree) (u v : List ℕ) → Fits t → Fits s → enc t ++ u ≡ enc s ++ v
+        → (t ≡ s) × (u ≡ v) }
 {}
 
 /// The encoding of a tree that fits is bytes.

@@ -119,7 +119,8 @@ fn cmp_entries(a: &[(Value, Value)], b: &[(Value, Value)]) -> Ordering
 /// The order of the entries' keys, and then of their values.
 #[cycle(texts)]
 fn cmp_entry(a: &(Value, Value), b: &(Value, Value)) -> Ordering
-    ensures { result ≡ ordering_then (text_cmp (view a.now.0) (view b.now.0)) (text_cmp (view a.now.1) (view b.now.1)) }
+    ensures { result ≡ ordering_then (text_cmp (view a.now.0) (view b.now.0))
+        (text_cmp (view a.now.1) (view b.now.1)) }
 {
     match cmp_texts(&a.0, &b.0) {
         Ordering::Equal => cmp_texts(&a.1, &b.1),
@@ -142,7 +143,8 @@ pub fn cmp_value(v1: &Value, v2: &Value) -> Ordering
 impl Integer {
     /// The order of the integers' encodings: the shorter first, and then byte by byte (RFC 8949, section 4.2.3).
     pub fn canonical_cmp(&self, other: &Integer) -> Ordering
-        ensures { result ≡ length_first (integer (number_of self.now)) (integer (number_of other.now)) }
+        ensures { result ≡ length_first (integer (number_of self.now))
+            (integer (number_of other.now)) }
     {
         let (place, number) = integer_title(*self);
         let (other_place, other_number) = integer_title(*other);

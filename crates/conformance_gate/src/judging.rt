@@ -2,7 +2,7 @@
 use crate::answers::{Answer, NoAnswer, append, plain, yes_or_no};
 use crate::words;
 use ciborium_value::Value;
-use cose_gate::{About, Header, HmacJudge, Judge, Kind, ProtectedHeader};
+use cose_gate::{About, Header, HmacJudge, Judge, MessageKind, ProtectedHeader};
 use cose_gate_hmac::is_good_tag;
 use coset_keys::CoseKeySet;
 use coset_labels::CborSerializable;
@@ -117,7 +117,12 @@ fn judged(alloc: Global, judge: &mut HmacJudge, case: &Case, word: &str) -> Resu
     Ok(decided(judge, case, kind, &tag)?)
 }
 
-fn decided(judge: &mut HmacJudge, case: &Case, kind: Kind, tag: &[u8]) -> Result<bool, AllocError> {
+fn decided(
+    judge: &mut HmacJudge,
+    case: &Case,
+    kind: MessageKind,
+    tag: &[u8],
+) -> Result<bool, AllocError> {
     let headers = &case.headers;
     let about = About::alone(kind, &headers.protected, &headers.unprotected);
     judge.begin(&about)?;
@@ -127,12 +132,12 @@ fn decided(judge: &mut HmacJudge, case: &Case, kind: Kind, tag: &[u8]) -> Result
     Ok(judge.decide(tag))
 }
 
-fn kind_of(word: &str) -> Result<Kind, NoAnswer> {
+fn kind_of(word: &str) -> Result<MessageKind, NoAnswer> {
     match word {
-        "Sign1" => Ok(Kind::Sign1),
-        "Sign" => Ok(Kind::Sign),
-        "Mac0" => Ok(Kind::Mac0),
-        "Mac" => Ok(Kind::Mac),
+        "Sign1" => Ok(MessageKind::Sign1),
+        "Sign" => Ok(MessageKind::Sign),
+        "Mac0" => Ok(MessageKind::Mac0),
+        "Mac" => Ok(MessageKind::Mac),
         _ => Err(NoAnswer::NoCall),
     }
 }

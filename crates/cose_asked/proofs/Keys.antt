@@ -1,14 +1,14 @@
 -- A key is of one question.
 use Rattle.std.proofs.Common.{◌≡◌, ℕ, ◌<◌, ◌≤◌, ◌+◌, ◌^◌, List, [], ◌∷◌, ◌++◌, length, flat_map, get_or, refl, sym, ap, ◌∙◌, arith, length-append}
 use Rattle.cose_gate_core.specs.Questions.{Question, number_of}
-use Rattle.cose_gate_core.specs.declared.about.Kind.{Kind}
-use Rattle.cose_gate_core.specs.declared.about.Kind.TheVariants as kind
+use Rattle.cose_gate_core.specs.declared.about.MessageKind.{MessageKind}
+use Rattle.cose_gate_core.specs.declared.about.MessageKind.TheVariants as kind
 use Rattle.cose_gate_core.proofs.TagNumbers.{same_kind}
 use Rattle.cose_asked.specs.Framing.{eight, framed, key_by}
 use Rattle.cose_asked.specs.Records.{Texts, texts_of, front_by, key_of}
 use Rattle.cose_asked.proofs.Frames.{length-eight, same_numbered, same_pieces, assoc_six}
 
-small : (k : Kind) → number_of k < 2 ^ 64
+small : (k : MessageKind) → number_of k < 2 ^ 64
 small kind.Sign1 = omega arith
 small kind.Mac0 = omega arith
 small kind.Sign = omega arith

@@ -8,7 +8,7 @@ use Rattle.ciborium.specs.Reading.{IsNoMemory}
 use Rattle.ciborium.specs.declared.de.Error.TheVariants as de
 use Rattle.cose_gate_laws.specs.GateCore.Asked.{folded_over, IsFront}
 use Rattle.cose_gate_laws.specs.GateCore.Calls.{rules_by, sight_of}
-use Rattle.cose_gate_laws.specs.GateCore.Findings.{Limits}
+use Rattle.cose_gate_laws.specs.GateCore.Findings.{Bounds}
 use Rattle.cose_gate_laws.specs.GateCore.Outcome.{Rules, Sight, IsFaultOf}
 use Rattle.cose_gate_laws.specs.GateCore.Questions.{Question}
 use Rattle.cose_gate_laws.specs.GateCore.Run.{Step, Run, passes, text_of, questions_of, output_of, passed_count, refused_count}
@@ -28,7 +28,7 @@ pub record Call (T S E : Type 0) : Type 0 where
   pub new : Sight T S
 
 -- by the words that the bounds of its reader, writer, report and judge bring, within these limits and over this external data
-abbrev pub call_of : {R E W F P J : Type 0} (r : Reads R E) (w : Writes W F) (p : Reports P) (j : Judges J) → Limits → List ℕ
+abbrev pub call_of : {R E W F P J : Type 0} (r : Reads R E) (w : Writes W F) (p : Reports P) (j : Judges J) → Bounds → List ℕ
     → Decoder R → W → P → J → Decoder R → W → P → J → Call j.Told p.State E
 call_of r w p j limits aad decoder out report judge decoder' out' report' judge' = record {
   ends = r.ends;

@@ -9,6 +9,7 @@ pub use Rattle.cose_gate_laws.specs.GateCore.Questions
 pub use Rattle.cose_gate_laws.specs.GateCore.Recorded
 pub use Rattle.cose_gate_laws.specs.GateCore.Run
 pub use Rattle.cose_gate_laws.specs.GateCore.CodeLimits
+pub use Rattle.cose_gate_laws.specs.GateCore.declared.about.MessageKind
 pub use Rattle.cose_gate_laws.specs.GateCore.declared.gating.Counts
 pub use Rattle.cose_gate_laws.specs.GateCore.declared.gating.GateFault
 pub use Rattle.cose_gate_laws.specs.GateCore.declared.report.Entry

@@ -11,7 +11,7 @@ pub use crate::gating::{gate, gate_strict, gate_strict_with, gate_with};
 pub use cose_asked::{Accepted, Asker, Nowhere};
 pub use cose_gate_laws::gate_core::{
     About, Algorithm, Asked, ContentType, CoseError, CoseRecipient, CoseSignature, Counts, Decoder,
-    End, Entry, Full, GateFault, Header, Io, IoFault, Judge, Kind, Label, Limits, Log, Mem,
+    End, Entry, Full, GateFault, Header, Io, IoFault, Judge, Label, Limits, Log, Mem, MessageKind,
     ProtectedHeader, Read, Recorder, Refusal, RegisteredLabel, RegisteredLabelWithPrivate, Report,
     SemanticKind, Silent, Verdict, Write, de,
 };

@@ -1,11 +1,10 @@
 -- The library's answers, from those of a run.
-use Rattle.std.proofs.Common.{◌≡◌, ℕ, ◌<◌, ◌≤◌, ◌++◌, ◌⊎◌, inl, inr, List, [], length, drop, flat_map, Option, Some, None, Bool, true, false, cond, nat_eq, refl, sym, ap, subst, ◌∙◌, arith}
+use Rattle.std.proofs.Common.{◌≡◌, ℕ, ◌<◌, ◌++◌, ◌⊎◌, inl, inr, List, [], length, flat_map, Option, Some, Bool, true, false, cond, nat_eq, refl, sym, ap, subst, ◌∙◌, arith}
 use Rattle.cose_gate_hmac.specs.GateCore.Reading.{IfKnown}
 use Rattle.coset_labels.specs.Limits.{AreLimits, nesting_of, layers_of}
-use Rattle.coset_labels.specs.declared.limits.Limits.{Limits as Chosen}
-use Rattle.cose_gate_hmac.specs.GateCore.Asked.{IsFront}
-use Rattle.cose_gate_hmac.specs.GateCore.Findings.{Limits}
-use Rattle.cose_gate_hmac.specs.GateCore.Run.{Step, Course, questions_of}
+use Rattle.coset_labels.specs.declared.limits.Limits.{Limits}
+use Rattle.cose_gate_hmac.specs.GateCore.Findings.{Bounds}
+use Rattle.cose_gate_hmac.specs.GateCore.Run.{Step, Course}
 use Rattle.cose_gate_hmac.specs.GateCore.Terms.{limits_by}
 use Rattle.cose_gate_hmac.specs.GateCore.Questions.{Question}
 use Rattle.cose_gate_hmac.specs.Judge.{says_yes}
@@ -21,18 +20,18 @@ below_two true n e = let h : n ≡ 0 = e in omega arith
 below_two false n e = let h : n ≡ 1 = e in omega arith
 
 -- the statuses of a run
-over_status : (limits : Limits) (allows : Question → Bool) (aad : List ℕ) (old new : Devices) (b : List ℕ) (steps : List Step) (status : ℕ)
+over_status : (limits : Bounds) (allows : Question → Bool) (aad : List ℕ) (old new : Devices) (b : List ℕ) (steps : List Step) (status : ℕ)
     → RanOver limits allows aad old new b steps status → (status < 2) ⊎ (status ≡ 4)
 over_status limits allows aad old new b steps status r = elim r [
   | inl t ↦ inl (below_two (nat_eq t.0 0) status t.2)
   | inr p ↦ inr p.1
 ]
 
-pub ran_status : (limits : Limits) (allows : Question → Bool) (aad : List ℕ) (old new : Devices) (status : ℕ)
+pub ran_status : (limits : Bounds) (allows : Question → Bool) (aad : List ℕ) (old new : Devices) (status : ℕ)
     → RanOn limits allows aad old new status → (status < 2) ⊎ (status ≡ 4)
 ran_status limits allows aad old new status r = over_status limits allows aad old new r.ran.input r.ran.steps status r.ran.over
 
-run_status : (limits : Limits) (keys aad : List ℕ) (old new : Devices) (status : ℕ) → EndsOver limits says_yes keys aad old new status → IsRunStatus status
+run_status : (limits : Bounds) (keys aad : List ℕ) (old new : Devices) (status : ℕ) → EndsOver limits says_yes keys aad old new status → IsRunStatus status
 run_status limits keys aad old new status e = elim e [
   | inl k ↦ inr (inl k.2)
   | inr m ↦ elim m [
@@ -52,7 +51,7 @@ same_devices : (left : Option (List ℕ)) (w w' : List ℕ) (f f' : ℕ) → w �
 same_devices left w w' f f' e h = ap (λ (z : List ℕ). devices left z f) e ∙ ap (λ (n : ℕ). devices left w' n) h
 
 -- the run's text and status, where the output was empty before and no device failed
-pub runs : (limits : Limits) (keys aad input : List ℕ) (first : List ℕ) (f : ℕ) (left : Option (List ℕ)) (written text : List ℕ) (f' status : ℕ)
+pub runs : (limits : Bounds) (keys aad input : List ℕ) (first : List ℕ) (f : ℕ) (left : Option (List ℕ)) (written text : List ℕ) (f' status : ℕ)
     → first ≡ [] → f ≡ 0 → text ≡ written → f' ≡ 0
     → EndsOver limits says_yes keys aad (devices (Some input) first f) (devices left written f') status
     → Runs limits keys aad input text status
@@ -64,7 +63,7 @@ runs limits keys aad input first f left written text f' status empty none same w
     record { left = left; ends = e2; known = run_status limits keys aad (before input) (after left text) status e2 }
 
 -- the same of a run with the judge by records
-pub runs_by : (limits : Limits) (keys : List (List ℕ)) (aad input : List ℕ) (first : List ℕ) (f : ℕ) (left : Option (List ℕ)) (written text : List ℕ) (f' status : ℕ)
+pub runs_by : (limits : Bounds) (keys : List (List ℕ)) (aad input : List ℕ) (first : List ℕ) (f : ℕ) (left : Option (List ℕ)) (written text : List ℕ) (f' status : ℕ)
     → first ≡ [] → f ≡ 0 → text ≡ written → f' ≡ 0
     → RanOn limits (is_among keys) aad (devices (Some input) first f) (devices left written f') status
     → RunsBy limits keys aad input text status
@@ -79,7 +78,7 @@ runs_by limits keys aad input first f left written text f' status empty none sam
 abbrev asking : List ℕ → List ℕ → Hearing (List ℕ)
 asking first told = record { allows = λ _. true; decided = λ t q. t ++ record_of q; before = first; after = told }
 
-course_to : (limits : Limits) (aad input b : List ℕ) (steps : List Step) (more : List ℕ) → input ≡ b
+course_to : (limits : Bounds) (aad input b : List ℕ) (steps : List Step) (more : List ℕ) → input ≡ b
     → Course limits (λ _. true) aad 0 b steps more → Course limits (λ _. true) aad 0 input steps more
 course_to limits aad input b steps more e c = subst (λ (z : List ℕ). Course limits (λ _. true) aad 0 z steps more) (sym e) c
 
@@ -90,7 +89,7 @@ four_is_more : (n : ℕ) → n < 2 → n ≡ 4 → ⊥
 four_is_more n few four = omega (arith, few, four)
 
 -- what it was told
-pub tells : (limits : Limits) (aad input first told text : List ℕ) (old new : Devices) (status : ℕ) → old.left ≡ Some input → first ≡ [] → text ≡ told
+pub tells : (limits : Bounds) (aad input first told text : List ℕ) (old new : Devices) (status : ℕ) → old.left ≡ Some input → first ≡ [] → text ≡ told
     → RanJudged limits (asking first told) aad old new status → Tells limits aad input text status
 tells limits aad input first told text old new status there empty same r =
     let front : List Question = r.heard.told.front in
@@ -121,13 +120,13 @@ tells limits aad input first told text old new status there empty same r =
     ]
 
 -- the limits that were chosen
-pub answers : (l : Chosen) (nesting layers : ℕ) (strict : Bool) (IsText : Limits → List ℕ → ℕ → Type 0) (old new : List ℕ) (answer : Answer)
+pub answers : (l : Limits) (nesting layers : ℕ) (strict : Bool) (IsText : Bounds → List ℕ → ℕ → Type 0) (old new : List ℕ) (answer : Answer)
     → AreLimits nesting layers × (nesting_of l ≡ nesting) × (layers_of l ≡ layers)
     → ((written : List ℕ) × (status : ℕ) × IsText (limits_by l strict) written status × Places written status old new answer)
     → Answers nesting layers (IsText (within nesting layers strict)) old new answer
 answers l nesting layers strict IsText old new answer are w =
     let same : limits_by l strict ≡ within nesting layers strict = ap (λ (n : ℕ). within n (layers_of l) strict) are.1 ∙ ap (λ (k : ℕ). within nesting k strict) are.2 in
-    inl (are.0, (w.0, w.1, subst (λ (o : Limits). IsText o w.0 w.1) same w.2, w.3))
+    inl (are.0, (w.0, w.1, subst (λ (o : Bounds). IsText o w.0 w.1) same w.2, w.3))
 
 none_below : (n : ℕ) → n < 0 → ⊥
 none_below n few = omega (arith, few)
@@ -141,7 +140,7 @@ places_none status old new answer l s e = record {
 }
 
 -- by the keys that were accepted, or memory was refused
-pub passed : (limits : Limits) (accepted : List ℕ) (keys : List (List ℕ)) (aad input written : List ℕ) (status : ℕ) → accepted ≡ flat_map framed keys
+pub passed : (limits : Bounds) (accepted : List ℕ) (keys : List (List ℕ)) (aad input written : List ℕ) (status : ℕ) → accepted ≡ flat_map framed keys
     → RunsBy limits keys aad input written status ⊎ NoMemory written status → Passed limits accepted aad input written status
 passed limits accepted keys aad input written status e r = elim r [
   | inl ran ↦ inl (keys, e, ran)

@@ -2,7 +2,7 @@
 use Rattle.std.specs.Prelude.{◌≡◌, ℕ, ◌<◌, ◌≤◌, ◌⊎◌, List, [], ◌++◌, length, drop, flat_map, Option, Some, Bool, true}
 use Rattle.coset_labels.specs.Limits.{AreLimits}
 use Rattle.cose_gate_hmac.specs.GateCore.Asked.{IsFront}
-use Rattle.cose_gate_hmac.specs.GateCore.Findings.{Limits, excluded_by}
+use Rattle.cose_gate_hmac.specs.GateCore.Findings.{Bounds, excluded_by}
 use Rattle.cose_gate_hmac.specs.GateCore.Questions.{Question}
 use Rattle.cose_gate_hmac.specs.GateCore.Run.{Step, Course, questions_of}
 use Rattle.cose_gate_hmac.specs.Judge.{says_yes}
@@ -12,7 +12,7 @@ use Rattle.cose_asked.specs.Records.{is_among, record_of}
 use Rattle.cose_gate_c.specs.declared.answer.Answer.{Answer}
 
 -- so many levels and layers; a strict gate passes only what is already as it would be written
-abbrev pub within : ℕ → ℕ → Bool → Limits
+abbrev pub within : ℕ → ℕ → Bool → Bounds
 within nesting layers strict =
     record { nesting = nesting; layers = layers; excludes = λ bytes m. excluded_by strict bytes m }
 
@@ -31,7 +31,7 @@ abbrev pub IsRunStatus : ℕ → Type 0
 IsRunStatus status = (status < 2) ⊎ (status ≡ 3) ⊎ (status ≡ 4)
 
 -- the program's run wrote this text and ended with this status
-pub record Runs (limits : Limits) (keys aad input written : List ℕ) (status : ℕ) : Type 0 where
+pub record Runs (limits : Bounds) (keys aad input written : List ℕ) (status : ℕ) : Type 0 where
   pub left : Option (List ℕ)
   pub ends : EndsOver limits says_yes keys aad (before input) (after left written) status
   pub known : IsRunStatus status
@@ -56,7 +56,7 @@ Answers nesting layers IsText old new answer =
     ⊎ ((AreLimits nesting layers → ⊥) × (answer.status ≡ 2) × (answer.length ≡ 0) × (new ≡ old))
 
 -- the program's run over memory
-abbrev pub Checked : Limits → List ℕ → List ℕ → List ℕ → List ℕ → ℕ → Type 0
+abbrev pub Checked : Bounds → List ℕ → List ℕ → List ℕ → List ℕ → ℕ → Type 0
 Checked limits keys aad input written status =
     Runs limits keys aad input written status ⊎ NoMemory written status
 
@@ -66,7 +66,7 @@ Checks nesting layers strict keys aad input old new answer =
 
 -- the text is the records of the questions that a judge is asked who always says yes, in order: all of them where the run went to its
 -- end, and else a front of them
-pub record Tells (limits : Limits) (aad input text : List ℕ) (status : ℕ) : Type 0 where
+pub record Tells (limits : Bounds) (aad input text : List ℕ) (status : ℕ) : Type 0 where
   pub steps : List Step
   pub more : List ℕ
   pub course : Course limits (λ _. true) aad 0 input steps more
@@ -76,7 +76,7 @@ pub record Tells (limits : Limits) (aad input text : List ℕ) (status : ℕ) : 
   pub whole : status < 2 → (more ≡ []) × (front ≡ questions_of (λ _. true) aad steps)
   pub known : (status < 2) ⊎ (status ≡ 4)
 
-abbrev pub Told : Limits → List ℕ → List ℕ → List ℕ → ℕ → Type 0
+abbrev pub Told : Bounds → List ℕ → List ℕ → List ℕ → ℕ → Type 0
 Told limits aad input written status =
     Tells limits aad input written status ⊎ NoMemory written status
 
@@ -85,14 +85,14 @@ Asks nesting layers strict aad input old new answer =
     Answers nesting layers (Told (within nesting layers strict) aad input) old new answer
 
 -- the run with the judge that says yes where the key of a question is one of these
-pub record RunsBy (limits : Limits) (keys : List (List ℕ)) (aad input written : List ℕ) (status : ℕ)
+pub record RunsBy (limits : Bounds) (keys : List (List ℕ)) (aad input written : List ℕ) (status : ℕ)
     : Type 0 where
   pub left : Option (List ℕ)
   pub ran : RanOn limits (is_among keys) aad (before input) (after left written) status
   pub known : (status < 2) ⊎ (status ≡ 4)
 
 -- where what was accepted is records, one behind another, that run; else nothing was read
-abbrev pub Passed : Limits → List ℕ → List ℕ → List ℕ → List ℕ → ℕ → Type 0
+abbrev pub Passed : Bounds → List ℕ → List ℕ → List ℕ → List ℕ → ℕ → Type 0
 Passed limits accepted aad input written status =
     ((keys : List (List ℕ)) × (accepted ≡ flat_map framed keys)
     × RunsBy limits keys aad input written status)

@@ -16,7 +16,7 @@ use Rattle.coset_maced.specs.RecipientFields.{no_recipients}
 use Rattle.coset_maced.specs.RecipientView.{recipients_view}
 use Rattle.cose_gate_core.specs.Lent.{subject_of, signer_of as lent_signer}
 use Rattle.cose_gate_core.specs.declared.about.About.{About}
-use Rattle.cose_gate_core.specs.declared.about.Kind.{Kind}
+use Rattle.cose_gate_core.specs.declared.about.MessageKind.{MessageKind}
 use Rattle.cose_gate_core.specs.Received.{received_bytes, IsReceived}
 
 -- how a structure begins, and its byte strings
@@ -54,7 +54,7 @@ ok_told (Ok x) decided allows told told' qs q p e f t = told_of decided allows t
 ok_told (Err x) decided allows told told' qs q p e f t = t
 
 -- what a question is about
-pub subject_is : (a : About) (k : Kind) (p : ProtectedHeader) (u : Header) (o : Option (ProtectedFields × HeaderFields)) → a.kind ≡ k → a.protected.now ≡ p → a.unprotected.now ≡ u
+pub subject_is : (a : About) (k : MessageKind) (p : ProtectedHeader) (u : Header) (o : Option (ProtectedFields × HeaderFields)) → a.kind ≡ k → a.protected.now ≡ p → a.unprotected.now ≡ u
     → lent_signer a.signer ≡ o → a.recipients.now ≡ [] → subject_of a ≡ record { kind = k; protected = protected_view p; unprotected = header_view u; signer = o; recipients = no_recipients }
 subject_is a k p u o e f g h r =
     λ i. record { kind = e i; protected = protected_view (f i); unprotected = header_view (g i); signer = h i; recipients = recipients_view (r i) }

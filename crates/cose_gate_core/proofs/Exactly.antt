@@ -13,10 +13,10 @@ use Rattle.coset_headers.proofs.Sound.{reads_sound, sound_reads}
 use Rattle.coset_headers.proofs.Unique.{readable_once}
 use Rattle.coset_labels.specs.Limits.{nesting_of}
 use Rattle.cose_gate_core.specs.Questions.{MessageFields, sign1, mac0, sign, mac, number_of, kind_of, tag_of, message_tree, message_text, or_nothing}
-use Rattle.cose_gate_core.specs.Findings.{Limits, HasMessage, Finds, judged, excluded_by}
+use Rattle.cose_gate_core.specs.Findings.{Bounds, HasMessage, Finds, judged, excluded_by}
 use Rattle.cose_gate_core.specs.Passing.{IsRefused, IsTold}
 use Rattle.cose_gate_core.specs.Terms.{limits_of, IsTaken}
-use Rattle.cose_gate_core.specs.declared.about.Kind.{Kind}
+use Rattle.cose_gate_core.specs.declared.about.MessageKind.{MessageKind}
 use Rattle.cose_gate_core.specs.declared.report.Refusal.{Refusal}
 use Rattle.cose_gate_core.specs.declared.terms.Terms.{Terms}
 use Rattle.cose_gate_core.specs.declared.report.Refusal.TheVariants as refusal
@@ -49,7 +49,7 @@ same_body : (n : ℕ) (u v : Tree) → tag n u ≡ tag n v → u ≡ v
 same_body n u v e = cc
 
 -- an item that is the text of its message is spelled as its value is, and has the value that is written
-module _ (l : Limits) (n : ℕ) (b : List ℕ) (u : Tree) (m : MessageFields) (has : HasMessage l u m) (reads : Reads b n (tag (tag_of m) u)) (fits : Fits u) where
+module _ (l : Bounds) (n : ℕ) (b : List ℕ) (u : Tree) (m : MessageFields) (has : HasMessage l u m) (reads : Reads b n (tag (tag_of m) u)) (fits : Fits u) where
   exact_text : b ≡ message_text m → (b ≡ enc (tag (tag_of m) u)) × (message_tree m ≡ Some u)
   exact_text e =
       let v = tree_there (message_tree m) (has_tree l u m has) in
@@ -65,7 +65,7 @@ module _ (l : Limits) (n : ℕ) (b : List ℕ) (u : Tree) (m : MessageFields) (h
       (is ∙ ap enc (sym one), v.1 ∙ ap Some (sym body))
 
 -- what a gate tells of a message
-module _ (l : Limits) (n : ℕ) (b : List ℕ) (u : Tree) (m : MessageFields) where
+module _ (l : Bounds) (n : ℕ) (b : List ℕ) (u : Tree) (m : MessageFields) where
   abbrev pub Told : Bool → Bool → Bool → Type 0
   Told strict exact through = MatchBool through (strict ≡ true → (exact ≡ true) × (message_tree m ≡ Some u))
       ((strict ≡ true) × Fits u × (exact ≡ true → message_tree m ≡ Some u → ⊥))
@@ -96,12 +96,12 @@ module _ (l : Limits) (n : ℕ) (b : List ℕ) (u : Tree) (m : MessageFields) wh
   told_of true exact false has reads x (q, f, differs) = held_back (not_text exact has reads f (x refl) differs)
 
 -- why a message of a kind is refused that was read under the kind's tag, or that it is judged
-pub found_as : (terms : Terms) (m : MessageFields) (k : Kind) (u : Tree) (b : List ℕ) (exact through : Bool) (r : Option Refusal) → kind_of m ≡ k → HasMessage (limits_of terms) u m
+pub found_as : (terms : Terms) (m : MessageFields) (k : MessageKind) (u : Tree) (b : List ℕ) (exact through : Bool) (r : Option Refusal) → kind_of m ≡ k → HasMessage (limits_of terms) u m
     → IsTaken terms b (tag (number_of k) u) exact → Told (limits_of terms) (nesting_of terms.limits) b u m terms.strict exact through
     → (IsTold (limits_of terms) b m through → MatchOption r (Finds (limits_of terms) b (tag (tag_of m) u) (judged m)) (IsRefused (limits_of terms) b (tag (tag_of m) u)))
     → MatchOption r (Finds (limits_of terms) b (tag (number_of k) u) (judged m)) (IsRefused (limits_of terms) b (tag (number_of k) u))
 found_as terms m k u b exact through r e has taken told bar =
     let l = limits_of terms in
-    let h : IsTaken terms b (tag (tag_of m) u) exact = subst (λ (j : Kind). IsTaken terms b (tag (number_of j) u) exact) (sym e) taken in
-    subst (λ (j : Kind). MatchOption r (Finds l b (tag (number_of j) u) (judged m)) (IsRefused l b (tag (number_of j) u))) e
+    let h : IsTaken terms b (tag (tag_of m) u) exact = subst (λ (j : MessageKind). IsTaken terms b (tag (number_of j) u) exact) (sym e) taken in
+    subst (λ (j : MessageKind). MatchOption r (Finds l b (tag (number_of j) u) (judged m)) (IsRefused l b (tag (number_of j) u))) e
     (bar (told_of l (nesting_of terms.limits) b u m terms.strict exact through has h.0 h.1 told))

@@ -1,23 +1,18 @@
 -- What is written of a header that was read fits heads where the value did, and is no longer.
-use Rattle.std.proofs.Common.{◌≡◌, ℕ, ℤ, pos, ◌+◌, ◌^◌, ◌<◌, ◌≤◌, ◌⊎◌, inl, inr, List, [], ◌∷◌, ◌++◌, length, map, Bool, true, false, cond, Option, Some, None, option_map, option_and_then, refl, sym, ap, subst, ◌∙◌, arith, length-append}
+use Rattle.std.proofs.Common.{◌≡◌, ℕ, pos, ◌+◌, ◌^◌, ◌<◌, ◌≤◌, ◌⊎◌, inl, inr, List, [], ◌∷◌, ◌++◌, length, map, Bool, true, false, cond, Option, Some, None, refl, sym, ap, subst, ◌∙◌, arith, length-append}
 use Rattle.std.specs.Prelude.{◌||◌}
 use Rattle.ciborium_ll.specs.Title.{shortest}
-use Rattle.ciborium_value.specs.Tree.{Tree, integer, bytes, text, array, map as map_tree, tag, simple, float, Trees, no_trees, one_more, Pairs, no_pairs, pair_more, tree_count, pair_count}
-use Rattle.ciborium_value.specs.View.{trees, pairs}
+use Rattle.ciborium_value.specs.Tree.{Tree, bytes, array, map as map_tree, Trees, no_trees, one_more, tree_count, pair_count}
+use Rattle.ciborium_value.specs.View.{pairs}
 use Rattle.ciborium_value.specs.Encoding.{enc, enc_all, enc_pairs, Fits, FitAll, FitPairs}
-use Rattle.cose_iana.specs.Algorithms.{is_algorithm}
-use Rattle.cose_iana.specs.Formats.{coap_content_formats}
-use Rattle.cose_iana.specs.Headers.{header_parameters}
-use Rattle.cose_iana.specs.Registry.{is_private_use}
-use Rattle.coset_labels.specs.Fields.{LabelFields, number, words, Named, private_use, assigned, named}
-use Rattle.coset_labels.specs.Kinds.{some_bytes}
-use Rattle.coset_labels.specs.Labels.{is_i64, label_of, label_tree, named_of, registered_of, named_tree}
+use Rattle.coset_labels.specs.Fields.{LabelFields, number}
+use Rattle.coset_labels.specs.Labels.{label_tree}
 use Rattle.coset_headers.specs.Fields.{Plain, HeaderFields, header, SignatureFields, signature, Signatures, no_signatures, signature_more}
-use Rattle.coset_headers.specs.Headers.{is_at, is_core, alg_of, parameter_of, parameters_of, crit_of, HasContentType, entries, at, IsIn, Distinct, others, IsField, IsPlain, list_of_three, HasHeader, HasSignature, HasSigned, HasSignatures}
-use Rattle.coset_headers.specs.Written.{name_entry, crit_entry, bytes_entry, signs_entry, written_entries, entry_tree, bare_or_list, header_tree, shown, signature_tree, signature_trees}
+use Rattle.coset_headers.specs.Headers.{is_at, is_core, at, IsIn, Distinct, others, IsPlain, list_of_three, HasHeader, HasSignature, HasSigned, HasSignatures}
+use Rattle.coset_headers.specs.Written.{written_entries, entry_tree, bare_or_list, header_tree, shown, signature_tree, signature_trees}
 use Rattle.coset_headers.proofs.Again.{header_parts, signature_parts, trees_parts, prot_again}
 use Rattle.coset_headers.proofs.Entered.{is_at_is, at_none, bool_cases, no_core}
-use Rattle.coset_headers.proofs.Restored.{crit_items}
+use Rattle.coset_headers.proofs.Fielded.{field, entries_are, alg_is, crit_is, type_is, bytes_are, signs_are}
 use Rattle.coset_headers.proofs.Sound.{none_more}
 
 -- u, which is written for t, fits heads where t does, and is no longer
@@ -61,125 +56,13 @@ some_same x y e = cc
 no_some : {A : Type 0} (x : A) → None ≡ Some x → ⊥
 no_some x e = cc
 
-number_back : (c : Bool) (i : ℤ) (m : LabelFields) → cond c (Some (number i)) None ≡ Some m → label_tree m ≡ integer i
-number_back true i m e = ap label_tree (sym (some_same (number i) m e))
-number_back false i m e = absurd (no_some m e)
-
-label_back : (l : Tree) (m : LabelFields) → label_of l ≡ Some m → label_tree m ≡ l
-label_back (integer i) m e = number_back (is_i64 i) i m e
-label_back (text b) m e = ap label_tree (sym (some_same (words b) m e))
-label_back (bytes b) m e = absurd (no_some m e)
-label_back (array ts) m e = absurd (no_some m e)
-label_back (map_tree ps) m e = absurd (no_some m e)
-label_back (tag n t) m e = absurd (no_some m e)
-label_back (simple n) m e = absurd (no_some m e)
-label_back (float f) m e = absurd (no_some m e)
-
-entry_back : (o : Option LabelFields) (q : Option (List (LabelFields × Tree))) (l v : Tree) (ps : Pairs) (es : List (LabelFields × Tree)) → ((m : LabelFields) → o ≡ Some m → label_tree m ≡ l)
-    → ((fs : List (LabelFields × Tree)) → q ≡ Some fs → pairs (map entry_tree fs) ≡ ps) → option_and_then (λ m. option_map (λ es. (m, v) ∷ es) q) o ≡ Some es → pairs (map entry_tree es) ≡ pair_more l v ps
-entry_back None q l v ps es f g e = absurd (no_some es e)
-entry_back (Some m) None l v ps es f g e = absurd (no_some es e)
-entry_back (Some m) (Some fs) l v ps es f g e =
-    ap (λ z. pairs (map entry_tree z)) (sym (some_same ((m, v) ∷ fs) es e)) ∙ ap (λ z. pair_more z v (pairs (map entry_tree fs))) (f m refl) ∙ ap (pair_more l v) (g fs refl)
-
-pub entries_back : (ps : Pairs) (es : List (LabelFields × Tree)) → entries ps ≡ Some es → pairs (map entry_tree es) ≡ ps
-entries_back no_pairs es e = ap (λ z. pairs (map entry_tree z)) (sym (some_same [] es e))
-entries_back (pair_more l v ps) es e = entry_back (label_of l) (entries ps) l v ps es (λ m q. label_back l m q) (λ fs q. entries_back ps fs q) e
-
-named_number_back : (c r p : Bool) (i : ℤ) (m : Named) → cond c (cond r (Some (assigned i)) (cond p (Some (private_use i)) None)) None ≡ Some m → named_tree m ≡ integer i
-named_number_back true true p i m e = ap named_tree (sym (some_same (assigned i) m e))
-named_number_back true false true i m e = ap named_tree (sym (some_same (private_use i) m e))
-named_number_back true false false i m e = absurd (no_some m e)
-named_number_back false r p i m e = absurd (no_some m e)
-
-named_back : (r p : ℤ → Bool) (t : Tree) (m : Named) → named_of r p t ≡ Some m → named_tree m ≡ t
-named_back r p (integer i) m e = named_number_back (is_i64 i) (r i) (p i) i m e
-named_back r p (text b) m e = ap named_tree (sym (some_same (named b) m e))
-named_back r p (bytes b) m e = absurd (no_some m e)
-named_back r p (array ts) m e = absurd (no_some m e)
-named_back r p (map_tree ps) m e = absurd (no_some m e)
-named_back r p (tag n t) m e = absurd (no_some m e)
-named_back r p (simple n) m e = absurd (no_some m e)
-named_back r p (float f) m e = absurd (no_some m e)
-
-registered_number_back : (c r : Bool) (i : ℤ) (m : Named) → cond c (cond r (Some (assigned i)) None) None ≡ Some m → named_tree m ≡ integer i
-registered_number_back true true i m e = ap named_tree (sym (some_same (assigned i) m e))
-registered_number_back true false i m e = absurd (no_some m e)
-registered_number_back false r i m e = absurd (no_some m e)
-
-registered_back : (r : ℤ → Bool) (t : Tree) (m : Named) → registered_of r t ≡ Some m → named_tree m ≡ t
-registered_back r (integer i) m e = registered_number_back (is_i64 i) (r i) i m e
-registered_back r (text b) m e = ap named_tree (sym (some_same (named b) m e))
-registered_back r (bytes b) m e = absurd (no_some m e)
-registered_back r (array ts) m e = absurd (no_some m e)
-registered_back r (map_tree ps) m e = absurd (no_some m e)
-registered_back r (tag n t) m e = absurd (no_some m e)
-registered_back r (simple n) m e = absurd (no_some m e)
-registered_back r (float f) m e = absurd (no_some m e)
-
--- an entry with the value at n, where there is one
-abbrev pub picked : ℕ → Option Tree → List (LabelFields × Tree)
-picked n None = []
-picked n (Some v) = (number (pos n), v) ∷ []
-
-alg_some : (o : Option Named) (t : Tree) (a : Option Named) → ((m : Named) → o ≡ Some m → named_tree m ≡ t) → option_map Some o ≡ Some a → name_entry 1 a ≡ picked 1 (Some t)
-alg_some None t a f e = absurd (no_some a e)
-alg_some (Some m) t a f e = ap (name_entry 1) (sym (some_same (Some m) a e)) ∙ ap (λ z. (number (pos 1), z) ∷ []) (f m refl)
-
-alg_picked : (o : Option Tree) (a : Option Named) → IsField alg_of None o a → name_entry 1 a ≡ picked 1 o
-alg_picked None a h = ap (name_entry 1) h
-alg_picked (Some t) a h = alg_some (named_of is_algorithm is_private_use t) t a (λ m e. named_back is_algorithm is_private_use t m e) h
-
-names_more : (o : Option Named) (q : Option (List Named)) (t : Tree) (ts : Trees) (ms : List Named) → ((m : Named) → o ≡ Some m → named_tree m ≡ t) → ((ns : List Named) → q ≡ Some ns → trees (map named_tree ns) ≡ ts)
-    → option_and_then (λ n. option_map (λ ns. n ∷ ns) q) o ≡ Some ms → trees (map named_tree ms) ≡ one_more t ts
-names_more None q t ts ms f g e = absurd (no_some ms e)
-names_more (Some m) None t ts ms f g e = absurd (no_some ms e)
-names_more (Some m) (Some ns) t ts ms f g e =
-    ap (λ z. trees (map named_tree z)) (sym (some_same (m ∷ ns) ms e)) ∙ ap (λ z. one_more z (trees (map named_tree ns))) (f m refl) ∙ ap (one_more t) (g ns refl)
-
-names_back : (ts : Trees) (ms : List Named) → parameters_of ts ≡ Some ms → trees (map named_tree ms) ≡ ts
-names_back no_trees ms e = ap (λ z. trees (map named_tree z)) (sym (some_same [] ms e))
-names_back (one_more t ts) ms e =
-    names_more (parameter_of t) (parameters_of ts) t ts ms (λ m q. named_back header_parameters.is_registered is_private_use t m q) (λ ns q. names_back ts ns q) e
-
-crit_full : (ms : List Named) (t u : Tree) (us : Trees) → t ≡ array (one_more u us) → trees (map named_tree ms) ≡ one_more u us → crit_entry ms ≡ picked 2 (Some t)
-crit_full [] t u us e f = let h : no_trees ≡ one_more u us = f in absurd (let g : ⊥ = cc in g)
-crit_full (m ∷ ms) t u us e f = ap (λ z. (number (pos 2), array z) ∷ []) f ∙ ap (λ z. (number (pos 2), z) ∷ []) (sym e)
-
-crit_picked : (o : Option Tree) (ms : List Named) → IsField crit_of [] o ms → crit_entry ms ≡ picked 2 o
-crit_picked None ms h = ap crit_entry h
-crit_picked (Some t) ms h = let w = crit_items t ms h in crit_full ms t w.0 w.1 w.2 (names_back (one_more w.0 w.1) ms w.3)
-
-type_picked : (o : Option Tree) (c : Option Named) → HasContentType o c → name_entry 3 c ≡ picked 3 o
-type_picked None c h = ap (name_entry 3) h
-type_picked (Some t) c (f, e, i, q) = ap (name_entry 3) q ∙ ap (λ z. (number (pos 3), z) ∷ []) (registered_back coap_content_formats.is_registered t f e)
-
-bytes_some : (k : ℕ) (t : Tree) (b : List ℕ) → some_bytes t ≡ Some b → bytes_entry k b ≡ picked k (Some t)
-bytes_some k (bytes (x ∷ xs)) b e = ap (bytes_entry k) (sym (some_same (x ∷ xs) b e))
-bytes_some k (bytes []) b e = absurd (no_some b e)
-bytes_some k (integer i) b e = absurd (no_some b e)
-bytes_some k (text c) b e = absurd (no_some b e)
-bytes_some k (array ts) b e = absurd (no_some b e)
-bytes_some k (map_tree ps) b e = absurd (no_some b e)
-bytes_some k (tag n t) b e = absurd (no_some b e)
-bytes_some k (simple n) b e = absurd (no_some b e)
-bytes_some k (float f) b e = absurd (no_some b e)
-
-bytes_picked : (k : ℕ) (o : Option Tree) (b : List ℕ) → IsField some_bytes [] o b → bytes_entry k b ≡ picked k o
-bytes_picked k None b h = ap (bytes_entry k) h
-bytes_picked k (Some t) b h = bytes_some k t b h
-
-signs_picked : (o : Option Tree) → signs_entry o ≡ picked 7 o
-signs_picked None = refl
-signs_picked (Some t) = refl
-
 -- the entries that are written: those of the labels 1 to 6 as they were read, the signatures, and the others
 abbrev in_order : List (LabelFields × Tree) → Option Tree → List (LabelFields × Tree)
-in_order es o = picked 1 (at 1 es) ++ (picked 2 (at 2 es) ++ (picked 3 (at 3 es) ++ (picked 4 (at 4 es) ++ (picked 5 (at 5 es) ++ (picked 6 (at 6 es) ++ (picked 7 o ++ others es))))))
+in_order es o = field 1 (at 1 es) ++ (field 2 (at 2 es) ++ (field 3 (at 3 es) ++ (field 4 (at 4 es) ++ (field 5 (at 5 es) ++ (field 6 (at 6 es) ++ (field 7 o ++ others es))))))
 
 written_is : (es : List (LabelFields × Tree)) (p : Plain) (o : Option Tree) → IsPlain es p → written_entries p o ≡ in_order es o
-written_is es p o h = λ i. alg_picked (at 1 es) p.alg h.alg i ++ (crit_picked (at 2 es) p.crit h.crit i ++ (type_picked (at 3 es) p.content_type h.content_type i ++ (bytes_picked 4 (at 4 es) p.key_id h.key_id i
-    ++ (bytes_picked 5 (at 5 es) p.iv h.iv i ++ (bytes_picked 6 (at 6 es) p.partial_iv h.partial_iv i ++ (signs_picked o i ++ h.rest i))))))
+written_is es p o h = λ i. alg_is (at 1 es) p.alg h.alg i ++ (crit_is (at 2 es) p.crit h.crit i ++ (type_is (at 3 es) p.content_type h.content_type i ++ (bytes_are 4 (at 4 es) p.key_id h.key_id i
+    ++ (bytes_are 5 (at 5 es) p.iv h.iv i ++ (bytes_are 6 (at 6 es) p.partial_iv h.partial_iv i ++ (signs_are o i ++ h.rest i))))))
 
 -- ---- the place of a label
 data Place : LabelFields → Type 0 where
@@ -220,25 +103,25 @@ module _ (size_of : LabelFields × Tree → ℕ) where
   sum_append (x ∷ xs) ys = let h = sum_append xs ys in omega (arith, h)
 
   abbrev part : ℕ → Option Tree → ℕ
-  part n o = sum (picked n o)
+  part n o = sum (field n o)
 
   abbrev total : List (LabelFields × Tree) → Option Tree → ℕ
   total es o = part 1 (at 1 es) + (part 2 (at 2 es) + (part 3 (at 3 es) + (part 4 (at 4 es) + (part 5 (at 5 es) + (part 6 (at 6 es) + (part 7 o + sum (others es)))))))
 
   total_order : (es : List (LabelFields × Tree)) (o : Option Tree) → sum (in_order es o) ≡ total es o
   total_order es o =
-      let g7 = sum_append (picked 7 o) (others es) in
-      let t7 = picked 7 o ++ others es in
-      let g6 = sum_append (picked 6 (at 6 es)) t7 in
-      let t6 = picked 6 (at 6 es) ++ t7 in
-      let g5 = sum_append (picked 5 (at 5 es)) t6 in
-      let t5 = picked 5 (at 5 es) ++ t6 in
-      let g4 = sum_append (picked 4 (at 4 es)) t5 in
-      let t4 = picked 4 (at 4 es) ++ t5 in
-      let g3 = sum_append (picked 3 (at 3 es)) t4 in
-      let t3 = picked 3 (at 3 es) ++ t4 in
-      let g2 = sum_append (picked 2 (at 2 es)) t3 in
-      let g1 = sum_append (picked 1 (at 1 es)) (picked 2 (at 2 es) ++ t3) in
+      let g7 = sum_append (field 7 o) (others es) in
+      let t7 = field 7 o ++ others es in
+      let g6 = sum_append (field 6 (at 6 es)) t7 in
+      let t6 = field 6 (at 6 es) ++ t7 in
+      let g5 = sum_append (field 5 (at 5 es)) t6 in
+      let t5 = field 5 (at 5 es) ++ t6 in
+      let g4 = sum_append (field 4 (at 4 es)) t5 in
+      let t4 = field 4 (at 4 es) ++ t5 in
+      let g3 = sum_append (field 3 (at 3 es)) t4 in
+      let t3 = field 3 (at 3 es) ++ t4 in
+      let g2 = sum_append (field 2 (at 2 es)) t3 in
+      let g1 = sum_append (field 1 (at 1 es)) (field 2 (at 2 es) ++ t3) in
       omega (arith, g1, g2, g3, g4, g5, g6, g7)
 
   -- the part of a label that stands in front
@@ -318,25 +201,25 @@ at_fit : (n : ℕ) (es : List (LabelFields × Tree)) (t : Tree) → EntriesFit e
 at_fit n [] t s e = absurd (no_some t e)
 at_fit n (x ∷ es) t s e = first_fit (is_at n x.0) x.1 t (at n es) s.1 (λ h. at_fit n es t s.2 h) e
 
-picked_fit : (n : ℕ) (o : Option Tree) → n < 2 ^ 64 → ((t : Tree) → o ≡ Some t → Fits t) → EntriesFit (picked n o)
-picked_fit n None l f = tt
-picked_fit n (Some t) l f = (l, f t refl, tt)
+field_fit : (n : ℕ) (o : Option Tree) → n < 2 ^ 64 → ((t : Tree) → o ≡ Some t → Fits t) → EntriesFit (field n o)
+field_fit n None l f = tt
+field_fit n (Some t) l f = (l, f t refl, tt)
 
 order_fit : (es : List (LabelFields × Tree)) (o : Option Tree) → EntriesFit es → ((t : Tree) → o ≡ Some t → Fits t) → EntriesFit (in_order es o)
 order_fit es o f g =
-    let t7 = picked 7 o ++ others es in
-    let t6 = picked 6 (at 6 es) ++ t7 in
-    let t5 = picked 5 (at 5 es) ++ t6 in
-    let t4 = picked 4 (at 4 es) ++ t5 in
-    let t3 = picked 3 (at 3 es) ++ t4 in
-    let t2 = picked 2 (at 2 es) ++ t3 in
-    fit_append (picked 1 (at 1 es)) t2 (picked_fit 1 (at 1 es) (omega arith) (λ t e. at_fit 1 es t f e))
-    (fit_append (picked 2 (at 2 es)) t3 (picked_fit 2 (at 2 es) (omega arith) (λ t e. at_fit 2 es t f e))
-    (fit_append (picked 3 (at 3 es)) t4 (picked_fit 3 (at 3 es) (omega arith) (λ t e. at_fit 3 es t f e))
-    (fit_append (picked 4 (at 4 es)) t5 (picked_fit 4 (at 4 es) (omega arith) (λ t e. at_fit 4 es t f e))
-    (fit_append (picked 5 (at 5 es)) t6 (picked_fit 5 (at 5 es) (omega arith) (λ t e. at_fit 5 es t f e))
-    (fit_append (picked 6 (at 6 es)) t7 (picked_fit 6 (at 6 es) (omega arith) (λ t e. at_fit 6 es t f e))
-    (fit_append (picked 7 o) (others es) (picked_fit 7 o (omega arith) g) (others_fit es f)))))))
+    let t7 = field 7 o ++ others es in
+    let t6 = field 6 (at 6 es) ++ t7 in
+    let t5 = field 5 (at 5 es) ++ t6 in
+    let t4 = field 4 (at 4 es) ++ t5 in
+    let t3 = field 3 (at 3 es) ++ t4 in
+    let t2 = field 2 (at 2 es) ++ t3 in
+    fit_append (field 1 (at 1 es)) t2 (field_fit 1 (at 1 es) (omega arith) (λ t e. at_fit 1 es t f e))
+    (fit_append (field 2 (at 2 es)) t3 (field_fit 2 (at 2 es) (omega arith) (λ t e. at_fit 2 es t f e))
+    (fit_append (field 3 (at 3 es)) t4 (field_fit 3 (at 3 es) (omega arith) (λ t e. at_fit 3 es t f e))
+    (fit_append (field 4 (at 4 es)) t5 (field_fit 4 (at 4 es) (omega arith) (λ t e. at_fit 4 es t f e))
+    (fit_append (field 5 (at 5 es)) t6 (field_fit 5 (at 5 es) (omega arith) (λ t e. at_fit 5 es t f e))
+    (fit_append (field 6 (at 6 es)) t7 (field_fit 6 (at 6 es) (omega arith) (λ t e. at_fit 6 es t f e))
+    (fit_append (field 7 o) (others es) (field_fit 7 o (omega arith) g) (others_fit es f)))))))
 
 -- ---- a map
 -- the value at 7 and what is written for it
@@ -406,7 +289,7 @@ mutual
       let w = header_parts p (signature_trees ss) u e in
       let o = bare_or_list w.0 in
       let m = map_kept a.1 p o a.4 a.5 (signed_kept n ss (at 7 a.1) w.0 k a.6 w.1) in
-      let from : map_tree (pairs (map entry_tree a.1)) ≡ t = ap map_tree (entries_back a.0 a.1 a.3) ∙ sym a.2 in
+      let from : map_tree (pairs (map entry_tree a.1)) ≡ t = ap map_tree (entries_are a.0 a.1 a.3) ∙ sym a.2 in
       subst (λ z. Kept z u) from (subst (λ z. Kept (map_tree (pairs (map entry_tree a.1))) z) w.2 m)
 
   pub sig_kept : (n : ℕ) (s : SignatureFields) (t u : Tree) (k : ℕ) → HasSignature n t s k → signature_tree s ≡ Some u → Kept t u

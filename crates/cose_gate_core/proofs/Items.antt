@@ -10,7 +10,7 @@ use Rattle.coset_labels.specs.declared.error.CoseError.{CoseError}
 use Rattle.coset_labels.specs.declared.error.CoseError.TheVariants as code
 use Rattle.cose_gate_core.specs.Questions.{Question, MessageFields, tag_of, payload_of, questions, message_text}
 use Rattle.cose_gate_core.specs.Asked.{asked, first_no, folded_over, ToldFront}
-use Rattle.cose_gate_core.specs.Findings.{Reason, not_tagged, encrypted, other_tag, shape, detached, no_signature, judged, barred, excluded, Limits, HasMessage, IsCarried, IsUnsigned, IsJudged, IsBarred, Finds}
+use Rattle.cose_gate_core.specs.Findings.{Reason, not_tagged, encrypted, other_tag, shape, detached, no_signature, judged, barred, excluded, Bounds, HasMessage, IsCarried, IsUnsigned, IsJudged, IsBarred, Finds}
 use Rattle.cose_gate_core.specs.Run.{IsVerdict, judged_by, written_of}
 use Rattle.cose_gate_core.specs.Passing.{IsRefused, WentThrough, Half, IsWriteFault, ItemFails}
 use Rattle.cose_gate_core.specs.declared.passing.ItemFault.{ItemFault}
@@ -25,18 +25,18 @@ not_memory Wrong e (inl memory) other = absurd (other memory)
 not_memory Wrong e (inr wrong) other = wrong
 
 -- a message that doesn't carry its payload
-pub is_detached : (limits : Limits) (u : Tree) (m : MessageFields) → HasMessage limits u m → payload_of m ≡ None → IsBarred limits (tag (tag_of m) u) detached
+pub is_detached : (limits : Bounds) (u : Tree) (m : MessageFields) → HasMessage limits u m → payload_of m ≡ None → IsBarred limits (tag (tag_of m) u) detached
 is_detached limits u m h n = (m, (u, refl, h), n)
 
 -- a message that carries its payload and has no signature
-pub is_unsigned : (limits : Limits) (u : Tree) (m : MessageFields) → HasMessage limits u m → IsCarried m → IsUnsigned m → IsBarred limits (tag (tag_of m) u) no_signature
+pub is_unsigned : (limits : Bounds) (u : Tree) (m : MessageFields) → HasMessage limits u m → IsCarried m → IsUnsigned m → IsBarred limits (tag (tag_of m) u) no_signature
 is_unsigned limits u m h p s = (m, (u, refl, h), p, s)
 
 -- a message that is judged
-pub is_judged : (limits : Limits) (u : Tree) (m : MessageFields) → HasMessage limits u m → IsCarried m → (IsUnsigned m → ⊥) → IsJudged limits (tag (tag_of m) u) m
+pub is_judged : (limits : Bounds) (u : Tree) (m : MessageFields) → HasMessage limits u m → IsCarried m → (IsUnsigned m → ⊥) → IsJudged limits (tag (tag_of m) u) m
 is_judged limits u m h p s = ((u, refl, h), p, s)
 
-module _ {T : Type 0} (limits : Limits) (decided : T → Question → T) (allows : Question → Bool) (aad : List ℕ) where
+module _ {T : Type 0} (limits : Bounds) (decided : T → Question → T) (allows : Question → Bool) (aad : List ℕ) where
   barred_as : (b : List ℕ) (t : Tree) (told : T) (w : Option (List ℕ)) (r : Reason) (v : Refusal) → IsBarred limits t r
       → IsVerdict limits allows aad t (barred r) (Refused v) → WentThrough limits decided allows aad b t told told w w (Refused v)
   barred_as b t told w r v is says = record { finding = barred r; finds = is; verdict = says; tells = refl; writes = Appends-nil w }

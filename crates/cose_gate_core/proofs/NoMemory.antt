@@ -14,9 +14,9 @@ use Rattle.cose_gate_core.specs.WrongRecipients.{WrongRecipient, WrongList}
 use Rattle.cose_gate_core.specs.WrongRecipients as recipients
 use Rattle.cose_gate_core.specs.WrongSigned.{IsNoSignature, whatever, WrongSignatureList}
 use Rattle.cose_gate_core.specs.WrongSigned as signed
-use Rattle.cose_gate_core.specs.Findings.{Limits, WrongMessage, IsMisshapen}
-use Rattle.cose_gate_core.specs.declared.about.Kind.{Kind}
-use Rattle.cose_gate_core.specs.declared.about.Kind.TheVariants as kind
+use Rattle.cose_gate_core.specs.Findings.{Bounds, WrongMessage, IsMisshapen}
+use Rattle.cose_gate_core.specs.declared.about.MessageKind.{MessageKind}
+use Rattle.cose_gate_core.specs.declared.about.MessageKind.TheVariants as kind
 
 -- any fault but want of memory
 abbrev Named : CoseFault → Type 0
@@ -162,7 +162,7 @@ signature_list n t k _ (signed.in_list ts e p w) = one e w.tree w.wrong
     one : (e : CoseFault) (u : Tree) → IsNoSignature n u k e → Named e
     one _ u (whatever e w) = tt
 
-message_fault : (l : Limits) (k : Kind) (u : Tree) (e : CoseFault) → WrongMessage l k u e → Named e
+message_fault : (l : Bounds) (k : MessageKind) (u : Tree) (e : CoseFault) → WrongMessage l k u e → Named e
 message_fault l kind.Sign1 u e w = whole_fault l.nesting u _ l.layers e w (no_bytes_named, tt)
 message_fault l kind.Mac0 u e w = whole_fault l.nesting u _ l.layers e w (no_bytes_named, tt)
 message_fault l kind.Mac u e w = whole_fault l.nesting u _ l.layers e w (no_bytes_named, (λ t f x. recipient_list l.nesting t l.layers f x, tt))
@@ -175,5 +175,5 @@ header_is_named n t k e w m = subst Named m (header n t k e w)
 pub protected_is_named : (n : ℕ) (t : Tree) (k : ℕ) (e : CoseFault) → WrongProtected n t k e → e ≡ no_memory → ⊥
 protected_is_named n t k e w m = subst Named m (protected n t k e w)
 
-pub misshapen_is_named : (l : Limits) (t : Tree) (e : CoseFault) → IsMisshapen l t e → e ≡ no_memory → ⊥
+pub misshapen_is_named : (l : Bounds) (t : Tree) (e : CoseFault) → IsMisshapen l t e → e ≡ no_memory → ⊥
 misshapen_is_named l t e (k, u, p, w) m = subst Named m (message_fault l k u e w)

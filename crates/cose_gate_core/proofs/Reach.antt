@@ -15,7 +15,7 @@ use Rattle.cose_gate_core.specs.declared.report.Entry.{Entry}
 use Rattle.cose_gate_core.specs.declared.report.Verdict.{Verdict}
 use Rattle.cose_gate_core.specs.Questions.{Question, questions}
 use Rattle.cose_gate_core.specs.Asked.{first_no, folded_over}
-use Rattle.cose_gate_core.specs.Findings.{Finding, judged, barred, excluded, not_tagged, encrypted, other_tag, shape, detached, no_signature, Limits, Finds}
+use Rattle.cose_gate_core.specs.Findings.{Finding, judged, barred, excluded, not_tagged, encrypted, other_tag, shape, detached, no_signature, Bounds, Finds}
 use Rattle.cose_gate_core.specs.Run.{Step, Steps, IsVerdict, judged_by, has_passed, passes, asked_of, written_of, questions_of, output_of, entries_of, passed_count, refused_count}
 use Rattle.cose_gate_core.specs.Outcome.{Rules, Sight, Made}
 
@@ -72,7 +72,7 @@ reads_some k x v r = front_some x [] k v (record { spelling = x; whole = sym (ap
 pub item_grows : (k : ℕ) (l l' : Option (List ℕ)) (p p' : ℕ) (v : Tree) → Moves l l' p p' (λ (b : List ℕ). Reads b k v) → p < p'
 item_grows k l l' p p' v t = let s = reads_some k t.bytes v t.has in let g = t.grown in omega arith
 
-module _ (limits : Limits) (allows : Question → Bool) (aad : List ℕ) where
+module _ (limits : Bounds) (allows : Question → Bool) (aad : List ℕ) where
   -- a verdict has passed exactly where what is found passes
   pub verdict_passes : (t : Tree) (f : Finding) (v : Verdict) → IsVerdict limits allows aad t f v → has_passed v ≡ passes allows aad f
   verdict_passes t (judged m) v e = ap has_passed e ∙ each (first_no allows (questions m aad))

@@ -6,19 +6,19 @@ use Rattle.cose_iana.specs.Tags.{cbor_tags}
 use Rattle.cose_iana.specs.declared.tags.CborTag.TheVariants.{CoseEncrypt0, CoseEncrypt}
 use Rattle.cose_gate_core.specs.Questions.{number_of}
 use Rattle.cose_gate_core.specs.Findings.{IsMessageTag, IsEncryptedTag}
-use Rattle.cose_gate_core.specs.declared.about.Kind.{Kind}
-use Rattle.cose_gate_core.specs.declared.about.Kind.TheVariants as kind
+use Rattle.cose_gate_core.specs.declared.about.MessageKind.{MessageKind}
+use Rattle.cose_gate_core.specs.declared.about.MessageKind.TheVariants as kind
 
 -- the first of these kinds that has the tag
-kind_among : List Kind → ℕ → Option Kind
+kind_among : List MessageKind → ℕ → Option MessageKind
 kind_among [] n = None
 kind_among (k ∷ ks) n = cond (nat_eq (number_of k) n) (Some k) (kind_among ks n)
 
-kind_at : ℕ → Option Kind
+kind_at : ℕ → Option MessageKind
 kind_at n = kind_among (kind.Sign1 ∷ kind.Mac0 ∷ kind.Sign ∷ kind.Mac ∷ []) n
 
 -- the tags are distinct: each leads to its kind
-kind_there : (k : Kind) → kind_at (number_of k) ≡ Some k
+kind_there : (k : MessageKind) → kind_at (number_of k) ≡ Some k
 unfolding kind_at kind_among
 kind_there kind.Sign1 = refl
 kind_there kind.Mac0 = refl
@@ -26,7 +26,7 @@ kind_there kind.Sign = refl
 kind_there kind.Mac = refl
 
 -- so kinds with one tag are one
-pub same_kind : (j k : Kind) → number_of j ≡ number_of k → j ≡ k
+pub same_kind : (j k : MessageKind) → number_of j ≡ number_of k → j ≡ k
 same_kind j k e =
     let there : Some j ≡ Some k = sym (kind_there j) ∙ ap kind_at e ∙ kind_there k in
     cc

@@ -8,8 +8,8 @@ use Rattle.coset_signed.proofs.Excludes.{sign1_not, sign_not}
 use Rattle.coset_signed.proofs.Unique.{sign1_once, sign_once}
 use Rattle.coset_maced.proofs.Unique.{mac0_once, mac0_not, mac_once, mac_not}
 use Rattle.cose_gate_core.specs.Questions.{Question, MessageFields, sign1, mac0, sign, mac, number_of, kind_of, tag_of, payload_of}
-use Rattle.cose_gate_core.specs.Findings.{Finding, judged, barred, excluded, not_tagged, encrypted, other_tag, shape, detached, no_signature, Finds, IsMessageTag, IsEncryptedTag, Limits, HasMessage, WrongMessage, IsMessage, IsUnsigned}
-use Rattle.cose_gate_core.specs.declared.about.Kind.{Kind}
+use Rattle.cose_gate_core.specs.Findings.{Finding, judged, barred, excluded, not_tagged, encrypted, other_tag, shape, detached, no_signature, Finds, IsMessageTag, IsEncryptedTag, Bounds, HasMessage, WrongMessage, IsMessage, IsUnsigned}
+use Rattle.cose_gate_core.specs.declared.about.MessageKind.{MessageKind}
 use Rattle.cose_gate_core.specs.declared.report.Refusal.{Refusal}
 use Rattle.cose_gate_core.specs.Run.{Step, Steps, Run, asked_of, written_of, questions_of, output_of}
 use Rattle.cose_gate_core.proofs.TagNumbers.{same_kind, not_both}
@@ -35,7 +35,7 @@ InGroup t secret = (n : ℕ) × (u : Tree) × (t ≡ tag n u) × IsEncryptedTag 
 InGroup t message = (n : ℕ) × (u : Tree) × (t ≡ tag n u) × IsMessageTag n
 InGroup t (other n) = (u : Tree) × (t ≡ tag n u) × (IsEncryptedTag n → ⊥) × (IsMessageTag n → ⊥)
 
-in_group : (l : Limits) (b : List ℕ) (t : Tree) (f : Finding) → Finds l b t f → InGroup t (group f)
+in_group : (l : Bounds) (b : List ℕ) (t : Tree) (f : Finding) → Finds l b t f → InGroup t (group f)
 in_group l b t (judged m) (((u, e, h), p, s), x) = (tag_of m, u, e, (kind_of m, refl))
 in_group l b t (barred not_tagged) h = h
 in_group l b t (barred encrypted) h = h
@@ -93,7 +93,7 @@ is_message message = inl refl
 is_message (other n) = inr (λ e. (let h : other n ≡ message = e in cc))
 
 -- a value has the fields of one message of each kind, and no fault as that message
-same_message : (l : Limits) (u : Tree) (a b : MessageFields) → kind_of a ≡ kind_of b → HasMessage l u a → HasMessage l u b → a ≡ b
+same_message : (l : Bounds) (u : Tree) (a b : MessageFields) → kind_of a ≡ kind_of b → HasMessage l u a → HasMessage l u b → a ≡ b
 same_message l u (sign1 a) (sign1 b) e h g = ap sign1 (sign1_once l.nesting l.layers u a b h g)
 same_message l u (sign1 a) (mac0 b) e h g = cc
 same_message l u (sign1 a) (sign b) e h g = cc
@@ -111,7 +111,7 @@ same_message l u (mac a) (mac0 b) e h g = cc
 same_message l u (mac a) (sign b) e h g = cc
 same_message l u (mac a) (mac b) e h g = ap mac (mac_once l.nesting a b u l.layers h g)
 
-no_fault : (l : Limits) (u : Tree) (m : MessageFields) (f : CoseFault) → HasMessage l u m → WrongMessage l (kind_of m) u f → ⊥
+no_fault : (l : Bounds) (u : Tree) (m : MessageFields) (f : CoseFault) → HasMessage l u m → WrongMessage l (kind_of m) u f → ⊥
 no_fault l u (sign1 m) f h w = sign1_not l.nesting l.layers u f m w h
 no_fault l u (mac0 m) f h w = mac0_not l.nesting u l.layers f w m h
 no_fault l u (sign m) f h w = sign_not l.nesting l.layers u f m w h
@@ -135,7 +135,7 @@ is_unsigned (sign m) = has_none m.signatures
 is_unsigned (mac m) = false
 
 -- the finding of an item that is this message
-abbrev pub finding_of : Limits → List ℕ → MessageFields → Finding
+abbrev pub finding_of : Bounds → List ℕ → MessageFields → Finding
 finding_of l b m = message_finding m (payload_of m) (is_unsigned m) (l.excludes b m)
 
 unsigned_true : (m : MessageFields) → IsUnsigned m → is_unsigned m ≡ true
@@ -155,16 +155,16 @@ unsigned_false (sign m) n = not_empty m.signatures n
 unsigned_false (mac m) n = refl
 
 -- what is found under the tag of a message
-data Body (l : Limits) (b : List ℕ) (t : Tree) (f : Finding) : Type 0 where
+data Body (l : Bounds) (b : List ℕ) (t : Tree) (f : Finding) : Type 0 where
   fits : (m : MessageFields) → IsMessage l t m → f ≡ finding_of l b m → Body l b t f
-  wrong : (k : Kind) (u : Tree) (e : CoseFault) → t ≡ tag (number_of k) u → WrongMessage l k u e → f ≡ barred shape → Body l b t f
+  wrong : (k : MessageKind) (u : Tree) (e : CoseFault) → t ≡ tag (number_of k) u → WrongMessage l k u e → f ≡ barred shape → Body l b t f
 
-of_three : (l : Limits) (b : List ℕ) (m : MessageFields) (p : Option (List ℕ)) (u : Bool) (r : Option Refusal) → payload_of m ≡ p → is_unsigned m ≡ u → l.excludes b m ≡ r
+of_three : (l : Bounds) (b : List ℕ) (m : MessageFields) (p : Option (List ℕ)) (u : Bool) (r : Option Refusal) → payload_of m ≡ p → is_unsigned m ≡ u → l.excludes b m ≡ r
     → message_finding m p u r ≡ finding_of l b m
 of_three l b m p u r e f g =
     sym (ap (λ z. message_finding m z (is_unsigned m) (l.excludes b m)) e ∙ ap (λ z. message_finding m p z (l.excludes b m)) f ∙ ap (message_finding m p u) g)
 
-body : (l : Limits) (b : List ℕ) (t : Tree) (f : Finding) → Finds l b t f → group f ≡ message → Body l b t f
+body : (l : Bounds) (b : List ℕ) (t : Tree) (f : Finding) → Finds l b t f → group f ≡ message → Body l b t f
 body l b t (judged m) ((i, (p, e), s), x) g = fits m i (of_three l b m (Some p) false None e (unsigned_false m s) x)
 body l b t (barred not_tagged) h g = cc
 body l b t (barred encrypted) h g = cc
@@ -174,24 +174,24 @@ body l b t (barred detached) (m, i, e) g = fits m i (ap (λ z. message_finding m
 body l b t (barred no_signature) (m, i, (p, e), s) g = fits m i (of_three l b m (Some p) true (l.excludes b m) e (unsigned_true m s) refl)
 body l b t (excluded m r) ((i, (p, e), s), x) g = fits m i (of_three l b m (Some p) false (Some r) e (unsigned_false m s) x)
 
-module _ (l : Limits) (t : Tree) where
+module _ (l : Bounds) (t : Tree) where
   same_fields : (a b : MessageFields) → IsMessage l t a → IsMessage l t b → a ≡ b
   same_fields a b (u, p, h) (v, q, g) =
       let kinds : kind_of a ≡ kind_of b = same_kind (kind_of a) (kind_of b) (same_tag t (tag_of a) (tag_of b) u v p q) in
       same_message l u a b kinds h (subst (λ z. HasMessage l z b) (sym (same_body t (tag_of a) (tag_of b) u v p q)) g)
 
-  no_wrong : (m : MessageFields) (k : Kind) (v : Tree) (e : CoseFault) → IsMessage l t m → t ≡ tag (number_of k) v → WrongMessage l k v e → ⊥
+  no_wrong : (m : MessageFields) (k : MessageKind) (v : Tree) (e : CoseFault) → IsMessage l t m → t ≡ tag (number_of k) v → WrongMessage l k v e → ⊥
   no_wrong m k v e (u, p, h) q w =
       let kinds : k ≡ kind_of m = same_kind k (kind_of m) (same_tag t (number_of k) (tag_of m) v u q p) in
       no_fault l v m e (subst (λ z. HasMessage l z m) (same_body t (tag_of m) (number_of k) u v p q) h) (subst (λ j. WrongMessage l j v e) kinds w)
 
-body_once : (l : Limits) (b : List ℕ) (t : Tree) (f g : Finding) → Body l b t f → Body l b t g → f ≡ g
+body_once : (l : Bounds) (b : List ℕ) (t : Tree) (f g : Finding) → Body l b t f → Body l b t g → f ≡ g
 body_once l b t f g (fits m i c) (fits n k d) = c ∙ ap (finding_of l b) (same_fields l t m n i k) ∙ sym d
 body_once l b t f g (fits m i c) (wrong k v e q w d) = absurd (no_wrong l t m k v e i q w)
 body_once l b t f g (wrong k v e q w c) (fits m i d) = absurd (no_wrong l t m k v e i q w)
 body_once l b t f g (wrong k u e q w c) (wrong j v x p y d) = c ∙ sym d
 
-pub finding_once : (l : Limits) (b : List ℕ) (t : Tree) (f g : Finding) → Finds l b t f → Finds l b t g → f ≡ g
+pub finding_once : (l : Bounds) (b : List ℕ) (t : Tree) (f g : Finding) → Finds l b t f → Finds l b t g → f ≡ g
 finding_once l b t f g h k = by_group (is_message (group f))
   where
     one : group f ≡ group g
@@ -205,7 +205,7 @@ finding_once l b t f g h k = by_group (is_message (group f))
 abbrev Same : (Question → Bool) → List ℕ → List Step → List Step → Type 0
 Same allows aad ss rs = (questions_of allows aad ss ≡ questions_of allows aad rs) × (output_of allows aad ss ≡ output_of allows aad rs)
 
-steps_once : (l : Limits) (allows : Question → Bool) (aad : List ℕ) (n : ℕ) (ss rs : List Step) → map (λ s. s.item) ss ≡ map (λ s. s.item) rs
+steps_once : (l : Bounds) (allows : Question → Bool) (aad : List ℕ) (n : ℕ) (ss rs : List Step) → map (λ s. s.item) ss ≡ map (λ s. s.item) rs
     → Steps l allows aad n ss → Steps l allows aad n rs → Same allows aad ss rs
 steps_once l allows aad n [] [] e a b = (refl, refl)
 steps_once l allows aad n [] (r ∷ rs) e a b = let h : [] ≡ r.item ∷ map (λ s. s.item) rs = e in cc
@@ -223,7 +223,7 @@ steps_once l allows aad n (s ∷ ss) (r ∷ rs) e a b =
       ap (λ x. x ++ output_of allows aad ss) w ∙ ap (λ x. written_of allows aad r.finding ++ x) v,
     )
 
-pub run_once : (l : Limits) (allows : Question → Bool) (aad : List ℕ) (at : ℕ) (b : List ℕ) (ss rs : List Step) (rest more : List ℕ)
+pub run_once : (l : Bounds) (allows : Question → Bool) (aad : List ℕ) (at : ℕ) (b : List ℕ) (ss rs : List Step) (rest more : List ℕ)
     → Run l allows aad at b ss rest → Run l allows aad at b rs more
     → (questions_of allows aad ss ≡ questions_of allows aad rs) × (output_of allows aad ss ≡ output_of allows aad rs) × (rest ≡ more)
 run_once l allows aad at b ss rs rest more a c =

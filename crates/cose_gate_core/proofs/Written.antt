@@ -7,47 +7,48 @@ use Rattle.coset_headers.specs.Headers.{HasProtected, HasSignatures}
 use Rattle.coset_headers.proofs.Writable.{some_is, map_some, and_some}
 use Rattle.coset_maced.specs.PartShapes.{one_held}
 use Rattle.coset_maced.specs.PartsWritten.{content_bytes}
+use Rattle.coset_maced.specs.Structure.{mac0_covered, mac_covered}
 use Rattle.coset_signed.specs.Fields.{SignFields}
 use Rattle.coset_signed.specs.Shapes.{HasSign}
 use Rattle.coset_signed.specs.Structure.{sign1_covered, sign_covered}
 use Rattle.coset_signed.proofs.Writable.{sign1_some, sign1_covers, sign_some, sign_covers}
 use Rattle.coset_maced.proofs.Writable.{mac0_some, mac0_covers, mac_some, mac_covers}
-use Rattle.cose_gate_core.specs.Findings.{Limits, HasMessage, IsJudged}
-use Rattle.cose_gate_core.specs.Questions.{MessageFields, sign1, mac0, sign, mac, sign1_question, mac0_question, mac_question, sign_questions, mac0_own, mac_own, all_questions, questions, message_tree, tag_of, tagged_tree, message_text, or_nothing}
+use Rattle.cose_gate_core.specs.Findings.{Bounds, HasMessage, IsJudged}
+use Rattle.cose_gate_core.specs.Questions.{MessageFields, sign1, mac0, sign, mac, sign1_question, mac0_question, mac_question, sign_questions, all_questions, questions, message_tree, tag_of, tagged_tree, message_text, or_nothing}
 use Rattle.cose_gate_core.specs.Received.{IsReceived, AreReceived, IsReceivedMessage}
 
 there : {A : Type 0} (o : Option (List A)) → o ≢ None → o ≡ Some (or_nothing o)
 there None n = absurd (n refl)
 there (Some xs) n = refl
 
-has_all : (l : Limits) (u : Tree) (m : SignFields) (aad : List ℕ) → HasSign l.nesting u m l.layers → (ts : Trees) (ss : List SignatureFields) → HasSignatures l.nesting ts (signatures ss) l.layers
+has_all : (l : Bounds) (u : Tree) (m : SignFields) (aad : List ℕ) → HasSign l.nesting u m l.layers → (ts : Trees) (ss : List SignatureFields) → HasSignatures l.nesting ts (signatures ss) l.layers
     → sign_questions m aad ss ≢ None
 has_all l u m aad h ts [] w = some_is []
 has_all l u m aad h ts (s ∷ ss) w =
     and_some _ (sign_covered m s aad) (sign_covers l.nesting l.layers u w.0 m s (content_bytes m.payload) aad h w.3) (λ c. map_some _ (sign_questions m aad ss) (has_all l u m aad h w.1 ss w.4))
 
-has_questions : (l : Limits) (u : Tree) (m : MessageFields) (aad : List ℕ) → HasMessage l u m → all_questions m aad ≢ None
+has_questions : (l : Bounds) (u : Tree) (m : MessageFields) (aad : List ℕ) → HasMessage l u m → all_questions m aad ≢ None
 has_questions l u (sign1 m) aad h = map_some (λ c. sign1_question m c ∷ []) (sign1_covered m aad) (sign1_covers l.nesting l.layers u m (content_bytes m.payload) aad h)
-has_questions l u (mac0 m) aad h = map_some (λ c. mac0_question m c ∷ []) (mac0_own m aad) (mac0_covers l.nesting m u l.layers (content_bytes m.payload) aad h)
+has_questions l u (mac0 m) aad h = map_some (λ c. mac0_question m c ∷ []) (mac0_covered m aad) (mac0_covers l.nesting m u l.layers (content_bytes m.payload) aad h)
 has_questions l u (sign m) aad h = let list = (one_held _ h.lasts h.hold).2 in has_all l u m aad h list.0 m.signatures list.2
-has_questions l u (mac m) aad h = map_some (λ c. mac_question m c ∷ []) (mac_own m aad) (mac_covers l.nesting m u l.layers (content_bytes m.payload) aad h)
+has_questions l u (mac m) aad h = map_some (λ c. mac_question m c ∷ []) (mac_covered m aad) (mac_covers l.nesting m u l.layers (content_bytes m.payload) aad h)
 
-pub has_tree : (l : Limits) (u : Tree) (m : MessageFields) → HasMessage l u m → message_tree m ≢ None
+pub has_tree : (l : Bounds) (u : Tree) (m : MessageFields) → HasMessage l u m → message_tree m ≢ None
 has_tree l u (sign1 m) h = sign1_some l.nesting l.layers u m h
 has_tree l u (mac0 m) h = mac0_some l.nesting m u l.layers h
 has_tree l u (sign m) h = sign_some l.nesting l.layers u m h
 has_tree l u (mac m) h = mac_some l.nesting m u l.layers h
 
-pub judged_asked : (l : Limits) (t : Tree) (m : MessageFields) (aad : List ℕ) → IsJudged l t m → all_questions m aad ≢ None
+pub judged_asked : (l : Bounds) (t : Tree) (m : MessageFields) (aad : List ℕ) → IsJudged l t m → all_questions m aad ≢ None
 judged_asked l t m aad ((u, e, h), p, s) = has_questions l u m aad h
 
-pub message_tagged : (l : Limits) (u : Tree) (m : MessageFields) → HasMessage l u m → tagged_tree m ≢ None
+pub message_tagged : (l : Bounds) (u : Tree) (m : MessageFields) → HasMessage l u m → tagged_tree m ≢ None
 message_tagged l u m h = map_some (λ t. tag (tag_of m) t) (message_tree m) (has_tree l u m h)
 
-pub judged_questions : (l : Limits) (t : Tree) (m : MessageFields) (aad : List ℕ) → IsJudged l t m → all_questions m aad ≡ Some (questions m aad)
+pub judged_questions : (l : Bounds) (t : Tree) (m : MessageFields) (aad : List ℕ) → IsJudged l t m → all_questions m aad ≡ Some (questions m aad)
 judged_questions l t m aad j = there (all_questions m aad) (judged_asked l t m aad j)
 
-pub judged_text : (l : Limits) (t : Tree) (m : MessageFields) → IsJudged l t m → option_map enc (tagged_tree m) ≡ Some (message_text m)
+pub judged_text : (l : Bounds) (t : Tree) (m : MessageFields) → IsJudged l t m → option_map enc (tagged_tree m) ≡ Some (message_text m)
 judged_text l t m ((u, e, h), p, s) = there (option_map enc (tagged_tree m)) (map_some enc (tagged_tree m) (message_tagged l u m h))
 
 -- received bytes
@@ -59,7 +60,7 @@ are_received : (n k : ℕ) (ts : Trees) (ss : List SignatureFields) → HasSigna
 are_received n k ts [] w = tt
 are_received n k ts (signature p h c ∷ ss) (u, us, e, (a, b, d, x, y), z) = (has_received n k a p x, are_received n k us ss z)
 
-pub message_received : (l : Limits) (u : Tree) (m : MessageFields) → HasMessage l u m → IsReceivedMessage m
+pub message_received : (l : Bounds) (u : Tree) (m : MessageFields) → HasMessage l u m → IsReceivedMessage m
 message_received l u (sign1 m) h = has_received l.nesting l.layers h.first m.protected h.parts.protected
 message_received l u (mac0 m) h = has_received l.nesting l.layers h.first m.protected h.parts.protected
 message_received l u (sign m) h =

@@ -5,22 +5,22 @@ use Rattle.ciborium_ll.specs.declared.dec.Decoder.{Decoder}
 use Rattle.ciborium_ll.specs.declared.read.Read.{Ghosts as Reads}
 use Rattle.ciborium_ll.specs.declared.write.Write.{Ghosts as Writes}
 use Rattle.coset_labels.specs.Limits.{nesting_of, layers_of}
-use Rattle.coset_labels.specs.declared.limits.Limits.{Limits as Chosen}
-use Rattle.cose_gate_core.specs.Findings.{Limits, plain, only_exact}
+use Rattle.coset_labels.specs.declared.limits.Limits.{Limits}
+use Rattle.cose_gate_core.specs.Findings.{Bounds, plain, only_exact}
 use Rattle.cose_gate_core.specs.Outcome.{Rules, Sight}
 use Rattle.cose_gate_core.specs.declared.report.Report.{Ghosts as Reports}
 use Rattle.cose_gate_core.specs.declared.judge.Judge.{Ghosts as Judges}
 
 -- the limits that a caller chose, for the gate and for the strict gate
-abbrev pub within : Chosen → Limits
+abbrev pub within : Limits → Bounds
 within limits = plain (nesting_of limits) (layers_of limits)
 
-abbrev pub exact_within : Chosen → Limits
+abbrev pub exact_within : Limits → Bounds
 exact_within limits = only_exact (nesting_of limits) (layers_of limits)
 
 -- what a call of the gate goes by; `P.Report` and `J.Judge` are the words that the bounds of its
 -- report and its judge bring
-abbrev pub rules_by : {P J : Type 0} → Limits → (p : Reports P) (j : Judges J) → J → List ℕ
+abbrev pub rules_by : {P J : Type 0} → Bounds → (p : Reports P) (j : Judges J) → J → List ℕ
     → Rules j.Told p.State
 rules_by limits p j judge aad = record {
   limits = limits;

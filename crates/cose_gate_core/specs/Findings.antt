@@ -9,8 +9,8 @@ use Rattle.coset_signed.specs.Wrong.{WrongSign1, WrongSign}
 use Rattle.coset_maced.specs.Shapes.{HasMac0, HasMac}
 use Rattle.coset_maced.specs.Wrong.{WrongMac0, WrongMac}
 use Rattle.cose_gate_core.specs.Questions.{MessageFields, sign1, mac0, sign, mac, number_of, tag_of, payload_of, message_text}
-use Rattle.cose_gate_core.specs.declared.about.Kind.{Kind}
-use Rattle.cose_gate_core.specs.declared.about.Kind.TheVariants as kind
+use Rattle.cose_gate_core.specs.declared.about.MessageKind.{MessageKind}
+use Rattle.cose_gate_core.specs.declared.about.MessageKind.TheVariants as kind
 use Rattle.cose_gate_core.specs.declared.report.Refusal.{Refusal}
 use Rattle.cose_gate_core.specs.declared.report.Refusal.TheVariants as refusal
 
@@ -27,7 +27,7 @@ pub data Finding : Type 0 where
 
 -- the tags of messages that are judged
 abbrev pub IsMessageTag : ℕ → Type 0
-IsMessageTag n = (k : Kind) × (n ≡ number_of k)
+IsMessageTag n = (k : MessageKind) × (n ≡ number_of k)
 
 -- the tags of encrypted messages
 abbrev pub IsEncryptedTag : ℕ → Type 0
@@ -35,7 +35,7 @@ IsEncryptedTag n = (n ≡ 16) ⊎ (n ≡ 96)
 
 -- how many levels an item may open, and anew the one in a protected header; how many protected headers may lie inside one another; and
 -- which messages are refused that would else be judged, by the bytes of their item and their fields
-pub record Limits : Type 0 where
+pub record Bounds : Type 0 where
   pub nesting : ℕ
   pub layers : ℕ
   pub excludes : List ℕ → MessageFields → Option Refusal
@@ -47,11 +47,11 @@ excluded_by true b m =
     if pointwise nat_eq b (message_text m) then None else Some refusal.NotShortest
 
 -- so many levels and layers, and no further rule
-abbrev pub plain : ℕ → ℕ → Limits
+abbrev pub plain : ℕ → ℕ → Bounds
 plain nesting layers = record { nesting = nesting; layers = layers; excludes = λ bytes m. None }
 
 -- so many levels and layers, where a message's item has to be the text that would be written
-abbrev pub only_exact : ℕ → ℕ → Limits
+abbrev pub only_exact : ℕ → ℕ → Bounds
 only_exact nesting layers = record {
   nesting = nesting;
   layers = layers;
@@ -59,28 +59,28 @@ only_exact nesting layers = record {
 }
 
 -- the limits where none are chosen, for the gate and for the strict gate
-abbrev pub usual : Limits
+abbrev pub usual : Bounds
 usual = plain usual_nesting usual_layers
 
-abbrev pub usual_exact : Limits
+abbrev pub usual_exact : Bounds
 usual_exact = only_exact usual_nesting usual_layers
 
 -- which fields a value has as a message of their kind
-abbrev pub HasMessage : Limits → Tree → MessageFields → Type 0
+abbrev pub HasMessage : Bounds → Tree → MessageFields → Type 0
 HasMessage limits u (sign1 m) = HasSign1 limits.nesting u m limits.layers
 HasMessage limits u (mac0 m) = HasMac0 limits.nesting u m limits.layers
 HasMessage limits u (sign m) = HasSign limits.nesting u m limits.layers
 HasMessage limits u (mac m) = HasMac limits.nesting u m limits.layers
 
 -- which fault a value has as a message of a kind
-abbrev pub WrongMessage : Limits → Kind → Tree → CoseFault → Type 0
+abbrev pub WrongMessage : Bounds → MessageKind → Tree → CoseFault → Type 0
 WrongMessage limits kind.Sign1 u f = WrongSign1 limits.nesting u limits.layers f
 WrongMessage limits kind.Mac0 u f = WrongMac0 limits.nesting u limits.layers f
 WrongMessage limits kind.Sign u f = WrongSign limits.nesting u limits.layers f
 WrongMessage limits kind.Mac u f = WrongMac limits.nesting u limits.layers f
 
 -- a tagged message
-abbrev pub IsMessage : Limits → Tree → MessageFields → Type 0
+abbrev pub IsMessage : Bounds → Tree → MessageFields → Type 0
 IsMessage limits t m = (u : Tree) × (t ≡ tag (tag_of m) u) × HasMessage limits u m
 
 -- a message that carries its payload
@@ -95,15 +95,15 @@ IsUnsigned (sign m) = m.signatures ≡ []
 IsUnsigned (mac m) = ⊥
 
 -- a tagged message that carries its payload, and has a signature or tag
-abbrev pub IsJudged : Limits → Tree → MessageFields → Type 0
+abbrev pub IsJudged : Bounds → Tree → MessageFields → Type 0
 IsJudged limits t m = IsMessage limits t m × IsCarried m × (IsUnsigned m → ⊥)
 
 -- a value under the tag of a message that has this fault as one
-abbrev pub IsMisshapen : Limits → Tree → CoseFault → Type 0
+abbrev pub IsMisshapen : Bounds → Tree → CoseFault → Type 0
 IsMisshapen limits t f =
-    (k : Kind) × (u : Tree) × (t ≡ tag (number_of k) u) × WrongMessage limits k u f
+    (k : MessageKind) × (u : Tree) × (t ≡ tag (number_of k) u) × WrongMessage limits k u f
 
-abbrev pub IsBarred : Limits → Tree → Reason → Type 0
+abbrev pub IsBarred : Bounds → Tree → Reason → Type 0
 IsBarred limits t not_tagged = (n : ℕ) (u : Tree) → t ≢ tag n u
 IsBarred limits t encrypted = (n : ℕ) × (u : Tree) × (t ≡ tag n u) × IsEncryptedTag n
 IsBarred limits t (other_tag n) =
@@ -114,7 +114,7 @@ IsBarred limits t no_signature =
     (m : MessageFields) × IsMessage limits t m × IsCarried m × IsUnsigned m
 
 -- what is found of an item of these bytes and the value t
-abbrev pub Finds : Limits → List ℕ → Tree → Finding → Type 0
+abbrev pub Finds : Bounds → List ℕ → Tree → Finding → Type 0
 Finds limits b t (judged m) = IsJudged limits t m × (limits.excludes b m ≡ None)
 Finds limits b t (barred r) = IsBarred limits t r
 Finds limits b t (excluded m r) = IsJudged limits t m × (limits.excludes b m ≡ Some r)

@@ -10,7 +10,7 @@ use Rattle.ciborium.specs.declared.de.Error.{Error}
 use Rattle.ciborium.specs.declared.de.Error.TheVariants as de
 use Rattle.cose_gate_core.specs.Questions.{Question}
 use Rattle.cose_gate_core.specs.Asked.{folded_over, IsFront}
-use Rattle.cose_gate_core.specs.Findings.{Limits}
+use Rattle.cose_gate_core.specs.Findings.{Bounds}
 use Rattle.cose_gate_core.specs.Terms.{IsTaken}
 use Rattle.cose_gate_core.specs.Run.{Step, Course, questions_of, output_of, written_of, passes, entries_of, passed_count, refused_count}
 use Rattle.cose_gate_core.specs.declared.report.Entry.{Entry}
@@ -21,7 +21,7 @@ use Rattle.cose_gate_core.specs.declared.gating.GateFault.TheVariants.{Decode, W
 
 -- the limits, how a judge's and a report's states go on, what the judge allows, and the external data
 pub record Rules (T S : Type 0) : Type 0 where
-  pub limits : Limits
+  pub limits : Bounds
   pub decided : T → Question → T
   pub folded : S → Entry → S
   pub allows : Question → Bool

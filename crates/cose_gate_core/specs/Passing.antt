@@ -8,7 +8,7 @@ use Rattle.ciborium.specs.declared.de.Error.{Error}
 use Rattle.ciborium.specs.declared.de.Error.TheVariants as de
 use Rattle.cose_gate_core.specs.Questions.{Question, MessageFields}
 use Rattle.cose_gate_core.specs.Asked.{folded_over, IsFront}
-use Rattle.cose_gate_core.specs.Findings.{not_tagged, encrypted, other_tag, detached, no_signature, Finding, judged, Limits, IsJudged, IsBarred, IsMisshapen, Finds}
+use Rattle.cose_gate_core.specs.Findings.{not_tagged, encrypted, other_tag, detached, no_signature, Finding, judged, Bounds, IsJudged, IsBarred, IsMisshapen, Finds}
 use Rattle.cose_gate_core.specs.Run.{IsVerdict, asked_of, passes, written_of}
 use Rattle.cose_gate_core.specs.declared.report.Refusal.{Refusal}
 use Rattle.cose_gate_core.specs.declared.report.Refusal.TheVariants as refusal
@@ -19,7 +19,7 @@ use Rattle.cose_gate_core.specs.declared.gating.GateFault.{GateFault}
 use Rattle.cose_gate_core.specs.declared.gating.GateFault.TheVariants as gating
 
 -- a refusal that is made before the judge is asked
-abbrev pub IsRefused : Limits → List ℕ → Tree → Refusal → Type 0
+abbrev pub IsRefused : Bounds → List ℕ → Tree → Refusal → Type 0
 IsRefused limits b t refusal.NotTagged = IsBarred limits t not_tagged
 IsRefused limits b t (refusal.OtherTag n) = IsBarred limits t (other_tag n)
 IsRefused limits b t refusal.Encrypted = IsBarred limits t encrypted
@@ -31,12 +31,12 @@ IsRefused limits b t refusal.NotShortest =
     (m : MessageFields) × IsJudged limits t m × (limits.excludes b m ≡ Some refusal.NotShortest)
 
 -- what is told of a message: whether the further rule lets it through
-abbrev pub IsTold : Limits → List ℕ → MessageFields → Bool → Type 0
+abbrev pub IsTold : Bounds → List ℕ → MessageFields → Bool → Type 0
 IsTold limits b m through = MatchBool through (limits.excludes b m ≡ None)
     (limits.excludes b m ≡ Some refusal.NotShortest)
 
 -- the item went through: what was found, told and written
-pub record WentThrough {T : Type 0} (limits : Limits) (decided : T → Question → T) (allows : Question → Bool)
+pub record WentThrough {T : Type 0} (limits : Bounds) (decided : T → Question → T) (allows : Question → Bool)
     (aad : List ℕ) (bytes : List ℕ) (t : Tree)
     (told told' : T) (written written' : Option (List ℕ)) (v : Verdict) : Type 0 where
   pub finding : Finding
@@ -46,7 +46,7 @@ pub record WentThrough {T : Type 0} (limits : Limits) (decided : T → Question 
   pub writes : Appends written written' (written_of allows aad finding)
 
 -- the item is a message, and the judge was told a beginning of the questions about it
-pub record Half {T : Type 0} (limits : Limits) (decided : T → Question → T) (allows : Question → Bool)
+pub record Half {T : Type 0} (limits : Bounds) (decided : T → Question → T) (allows : Question → Bool)
     (aad : List ℕ) (bytes : List ℕ) (t : Tree)
     (told told' : T) : Type 0 where
   pub message : MessageFields
@@ -56,7 +56,7 @@ pub record Half {T : Type 0} (limits : Limits) (decided : T → Question → T) 
   pub tells : told' ≡ folded_over decided told asked
 
 -- the item is a message that passes, the judge was told all questions about it, and a beginning of its text was written
-pub record HalfWritten {T : Type 0} (limits : Limits) (decided : T → Question → T) (allows : Question → Bool)
+pub record HalfWritten {T : Type 0} (limits : Bounds) (decided : T → Question → T) (allows : Question → Bool)
     (aad : List ℕ) (bytes : List ℕ) (t : Tree)
     (told told' : T) (written written' : Option (List ℕ)) : Type 0 where
   pub message : MessageFields
@@ -67,7 +67,7 @@ pub record HalfWritten {T : Type 0} (limits : Limits) (decided : T → Question 
   pub front_is : IsFront front (written_of allows aad (judged message))
   pub writes : Appends written written' front
 
-abbrev pub ItemFails : {T : Type 0} → Limits → (T → Question → T) → (Question → Bool) → List ℕ → List ℕ
+abbrev pub ItemFails : {T : Type 0} → Bounds → (T → Question → T) → (Question → Bool) → List ℕ → List ℕ
     → Tree → T → T → Option (List ℕ) → Option (List ℕ) → ItemFault → Type 0
 ItemFails limits decided allows aad bytes t told told' written written' fault.Write =
     HalfWritten limits decided allows aad bytes t told told' written written'

@@ -10,12 +10,12 @@ use Rattle.coset_maced.specs.Fields.{Mac0Fields, MacFields}
 use Rattle.coset_maced.specs.Structure.{mac0_covered, mac_covered}
 use Rattle.coset_maced.specs.Written.{mac0_tree, mac_tree}
 use Rattle.coset_maced.specs.RecipientFields.{RecipientsFields, no_recipients}
-use Rattle.cose_gate_core.specs.declared.about.Kind.{Kind}
-use Rattle.cose_gate_core.specs.declared.about.Kind.TheVariants as kind
+use Rattle.cose_gate_core.specs.declared.about.MessageKind.{MessageKind}
+use Rattle.cose_gate_core.specs.declared.about.MessageKind.TheVariants as kind
 
 -- what a question is about: the message's headers, the signer's where there is a signer, and the recipients
 pub record Subject : Type 0 where
-  pub kind : Kind
+  pub kind : MessageKind
   pub protected : ProtectedFields
   pub unprotected : HeaderFields
   pub signer : Option (ProtectedFields × HeaderFields)
@@ -35,14 +35,14 @@ pub data MessageFields : Type 0 where
   mac : MacFields → MessageFields
 
 -- the tag of a kind of message (RFC 9052, section 2)
-abbrev pub number_of : Kind → ℕ
+abbrev pub number_of : MessageKind → ℕ
 number_of kind.Sign1 = 18
 number_of kind.Mac0 = 17
 number_of kind.Sign = 98
 number_of kind.Mac = 97
 
 -- the kind of a message, and its tag
-abbrev pub kind_of : MessageFields → Kind
+abbrev pub kind_of : MessageFields → MessageKind
 kind_of (sign1 m) = kind.Sign1
 kind_of (mac0 m) = kind.Mac0
 kind_of (sign m) = kind.Sign
@@ -58,7 +58,7 @@ payload_of (sign m) = m.payload
 payload_of (mac m) = m.payload
 
 -- a message with neither signers of its own nor recipients
-abbrev pub alone : Kind → ProtectedFields → HeaderFields → Subject
+abbrev pub alone : MessageKind → ProtectedFields → HeaderFields → Subject
 alone k p u = record {
   kind = k;
   protected = p;
@@ -115,13 +115,6 @@ sign_question m s covered = record {
 abbrev pub mac_question : MacFields → List ℕ → Question
 mac_question m covered = record { subject = mac_subject m; covered = covered; signature = m.tag }
 
--- what the tag of a message covers, with its own payload
-abbrev pub mac0_own : Mac0Fields → List ℕ → Option (List ℕ)
-mac0_own m aad = mac0_covered m aad
-
-abbrev pub mac_own : MacFields → List ℕ → Option (List ℕ)
-mac_own m aad = mac_covered m aad
-
 -- the questions about the signatures of a COSE_Sign, in order; none where a structure can't be written
 abbrev pub sign_questions : SignFields → List ℕ → List SignatureFields → Option (List Question)
 sign_questions m aad [] = Some []
@@ -134,9 +127,9 @@ sign_questions m aad (s ∷ ss) =
 abbrev pub all_questions : MessageFields → List ℕ → Option (List Question)
 all_questions (sign1 m) aad =
     option_map (λ covered. sign1_question m covered ∷ []) (sign1_covered m aad)
-all_questions (mac0 m) aad = option_map (λ covered. mac0_question m covered ∷ []) (mac0_own m aad)
+all_questions (mac0 m) aad = option_map (λ covered. mac0_question m covered ∷ []) (mac0_covered m aad)
 all_questions (sign m) aad = sign_questions m aad m.signatures
-all_questions (mac m) aad = option_map (λ covered. mac_question m covered ∷ []) (mac_own m aad)
+all_questions (mac m) aad = option_map (λ covered. mac_question m covered ∷ []) (mac_covered m aad)
 
 -- the value that a message is written as, and with its tag; none where a header of it can't be written
 abbrev pub message_tree : MessageFields → Option Tree

@@ -3,13 +3,13 @@ use Rattle.std.specs.Global.{Vec}
 use Rattle.std.specs.Prelude.{◌≡◌, ℕ, List, ◌++◌, ◌-◌, ◌<◌, vec_len, vec_capacity, Option, Some, None, Bool, true, not, length, map, take, replicate}
 use Rattle.std.specs.Cmp.Lexicographic.{pointwise}
 use Rattle.std.specs.Bool.{nat_eq}
-use Rattle.cose_gate_core.specs.declared.about.Kind.{Kind}
+use Rattle.cose_gate_core.specs.declared.about.MessageKind.{MessageKind}
 use Rattle.cose_gate_core.specs.declared.recorder.Asked.{Asked}
 use Rattle.cose_gate_core.specs.declared.recorder.Recorder.{Recorder}
 use Rattle.cose_gate_core.specs.Questions.{Subject, Question}
 
 pub record AskedFields : Type 0 where
-  pub kind : Kind
+  pub kind : MessageKind
   pub structure : List ℕ
   pub tag_len : ℕ
   pub tag : List ℕ

@@ -6,7 +6,7 @@ use Rattle.coset_labels.specs.Faults.{fault_of}
 use Rattle.coset_labels.specs.declared.error.CoseError.{CoseError}
 use Rattle.cose_gate_core.specs.Questions.{Question, questions, message_text}
 use Rattle.cose_gate_core.specs.Asked.{asked, first_no}
-use Rattle.cose_gate_core.specs.Findings.{not_tagged, encrypted, other_tag, shape, detached, no_signature, Finding, judged, barred, excluded, Limits, Finds, IsMisshapen}
+use Rattle.cose_gate_core.specs.Findings.{not_tagged, encrypted, other_tag, shape, detached, no_signature, Finding, judged, barred, excluded, Bounds, Finds, IsMisshapen}
 use Rattle.cose_gate_core.specs.declared.report.Entry.{Entry}
 use Rattle.cose_gate_core.specs.declared.report.Verdict.{Verdict}
 use Rattle.cose_gate_core.specs.declared.report.Verdict.TheVariants.{Passed, Refused}
@@ -28,7 +28,7 @@ has_passed Passed = true
 has_passed (Refused r) = false
 
 -- which verdict stands for what is found; of a shape's fault it is open which of the value's faults is named
-abbrev pub IsVerdict : Limits → (Question → Bool) → List ℕ → Tree → Finding → Verdict → Type 0
+abbrev pub IsVerdict : Bounds → (Question → Bool) → List ℕ → Tree → Finding → Verdict → Type 0
 IsVerdict limits allows aad t (judged m) v = v ≡ judged_by (first_no allows (questions m aad))
 IsVerdict limits allows aad t (barred not_tagged) v = v ≡ Refused refusal.NotTagged
 IsVerdict limits allows aad t (barred encrypted) v = v ≡ Refused refusal.Encrypted
@@ -39,7 +39,7 @@ IsVerdict limits allows aad t (barred no_signature) v = v ≡ Refused refusal.No
 IsVerdict limits allows aad t (excluded m r) v = v ≡ Refused r
 
 -- the steps from number n on: each finds what is there, and its entry says so
-abbrev pub Steps : Limits → (Question → Bool) → List ℕ → ℕ → List Step → Type 0
+abbrev pub Steps : Bounds → (Question → Bool) → List ℕ → ℕ → List Step → Type 0
 Steps limits allows aad n [] = Unit {0}
 Steps limits allows aad n (s ∷ ss) =
     Finds limits s.item.bytes s.item.value s.finding × (s.entry.number ≡ n) × (s.entry.offset ≡ s.item.offset)
@@ -83,11 +83,11 @@ abbrev pub refused_count : (Question → Bool) → List ℕ → List Step → �
 refused_count allows aad ss = count_by (λ s. not (passes allows aad s.finding)) ss
 
 -- the input b, which begins at the offset `at`, is gone through by these steps, up to `more`
-pub record Course (limits : Limits) (allows : Question → Bool) (aad : List ℕ) (at : ℕ) (b : List ℕ) (ss : List Step) (more : List ℕ) : Type 0 where
+pub record Course (limits : Bounds) (allows : Question → Bool) (aad : List ℕ) (at : ℕ) (b : List ℕ) (ss : List Step) (more : List ℕ) : Type 0 where
   pub sequence : SequenceWithin limits.nesting at b (map (λ s. s.item) ss) more
   pub steps : Steps limits allows aad 1 ss
 
 -- the whole run over b: the steps over all its items
-pub record Run (limits : Limits) (allows : Question → Bool) (aad : List ℕ) (at : ℕ) (b : List ℕ) (ss : List Step) (rest : List ℕ) : Type 0 where
+pub record Run (limits : Bounds) (allows : Question → Bool) (aad : List ℕ) (at : ℕ) (b : List ℕ) (ss : List Step) (rest : List ℕ) : Type 0 where
   pub items : ItemsWithin limits.nesting at b (map (λ s. s.item) ss) rest
   pub steps : Steps limits allows aad 1 ss

@@ -4,15 +4,15 @@ use Rattle.ciborium_value.specs.Tree.{Tree}
 use Rattle.ciborium_value.specs.Encoding.{enc}
 use Rattle.ciborium.specs.Front.{Reads}
 use Rattle.coset_labels.specs.Limits.{nesting_of, layers_of}
-use Rattle.coset_labels.specs.declared.limits.Limits.{Limits as Chosen}
-use Rattle.cose_gate_core.specs.Findings.{Limits, excluded_by}
+use Rattle.coset_labels.specs.declared.limits.Limits.{Limits}
+use Rattle.cose_gate_core.specs.Findings.{Bounds, excluded_by}
 use Rattle.cose_gate_core.specs.declared.terms.Terms.{Terms}
 
 -- the limits that a caller chose, with the further rule of a gate
-abbrev pub limits_by : Chosen → Bool → Limits
+abbrev pub limits_by : Limits → Bool → Bounds
 limits_by chosen strict = record { nesting = nesting_of chosen; layers = layers_of chosen; excludes = λ bytes m. excluded_by strict bytes m }
 
-abbrev pub limits_of : Terms → Limits
+abbrev pub limits_of : Terms → Bounds
 limits_of terms = limits_by terms.limits terms.strict
 
 -- an item was read of these bytes, and where it is asked it is told whether they are the one encoding of its value

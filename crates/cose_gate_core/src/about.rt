@@ -11,7 +11,7 @@ use coset_signed::{CoseSign, CoseSign1};
 
 /// Which kind of message it is (RFC 9052, section 2).
 #[derive(Debug, Clone, Copy, PartialEq, Eq)]
-pub enum Kind {
+pub enum MessageKind {
     /// A COSE_Sign1, tag 18.
     Sign1,
     /// A COSE_Mac0, tag 17.
@@ -22,16 +22,16 @@ pub enum Kind {
     Mac,
 }
 
-impl Kind {
+impl MessageKind {
     /// The tag of such a message.
     pub fn tag(self) -> u64
         ensures { result ≡ number_of self }
     {
         match self {
-            Kind::Sign1 => CoseSign1::TAG,
-            Kind::Mac0 => CoseMac0::TAG,
-            Kind::Sign => CoseSign::TAG,
-            Kind::Mac => CoseMac::TAG,
+            MessageKind::Sign1 => CoseSign1::TAG,
+            MessageKind::Mac0 => CoseMac0::TAG,
+            MessageKind::Sign => CoseSign::TAG,
+            MessageKind::Mac => CoseMac::TAG,
         }
     }
 }
@@ -40,7 +40,7 @@ impl Kind {
 #[derive(Clone, Copy)]
 pub struct About<'a> {
     /// The kind of the message.
-    pub kind: Kind,
+    pub kind: MessageKind,
     /// The message's protected header.
     pub protected: &'a ProtectedHeader,
     /// The message's unprotected header.
@@ -53,7 +53,11 @@ pub struct About<'a> {
 
 impl<'a> About<'a> {
     /// About a message with neither signers of its own nor recipients.
-    pub fn alone(kind: Kind, protected: &'a ProtectedHeader, unprotected: &'a Header) -> About<'a>
+    pub fn alone(
+        kind: MessageKind,
+        protected: &'a ProtectedHeader,
+        unprotected: &'a Header,
+    ) -> About<'a>
         ensures kind { result.kind ≡ kind }
         ensures protected { result.protected.now ≡ protected.now }
         ensures unprotected { result.unprotected.now ≡ unprotected.now }
@@ -70,7 +74,7 @@ impl<'a> About<'a> {
     }
     /// About one signature of a message with signers of its own, by the signer's headers. Such a message has no recipients.
     pub fn with_signer(
-        kind: Kind,
+        kind: MessageKind,
         protected: &'a ProtectedHeader,
         unprotected: &'a Header,
         signer: (&'a ProtectedHeader, &'a Header),
@@ -92,7 +96,7 @@ impl<'a> About<'a> {
     }
     /// About a message that has recipients and no signers of its own.
     pub fn with_recipients(
-        kind: Kind,
+        kind: MessageKind,
         protected: &'a ProtectedHeader,
         unprotected: &'a Header,
         recipients: &'a [CoseRecipient],

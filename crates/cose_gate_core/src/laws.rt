@@ -3,27 +3,27 @@ ghost use Rattle.std.specs.Prelude.{◌≡◌, ℕ, List, Bool, Some, option_map
 ghost use Rattle.ciborium_value.specs.Encoding.{enc};
 ghost use Rattle.ciborium_value.specs.Tree.{Tree};
 ghost use Rattle.cose_gate_core.specs.Questions.{Question, MessageFields, all_questions, questions, tagged_tree, message_text};
-ghost use Rattle.cose_gate_core.specs.Findings.{Limits, Finding, IsJudged, Finds};
+ghost use Rattle.cose_gate_core.specs.Findings.{Bounds, Finding, IsJudged, Finds};
 ghost use Rattle.cose_gate_core.specs.Run.{Step, Run, questions_of, output_of};
 
 /// What is found of an item is one.
 pub fn one_finding()
-    ensures { (limits : Limits) (b : List ℕ) (t : Tree) (f g : Finding) → Finds limits b t f
+    ensures { (limits : Bounds) (b : List ℕ) (t : Tree) (f g : Finding) → Finds limits b t f
         → Finds limits b t g → f ≡ g }
 {}
 
 /// A message that was read has all its questions, and a text to be written.
 pub fn judged_can_be_written()
-    ensures questions { (limits : Limits) (t : Tree) (m : MessageFields) (aad : List ℕ)
+    ensures questions { (limits : Bounds) (t : Tree) (m : MessageFields) (aad : List ℕ)
         → IsJudged limits t m → all_questions m aad ≡ Some (questions m aad) }
-    ensures text { (limits : Limits) (t : Tree) (m : MessageFields) → IsJudged limits t m
+    ensures text { (limits : Bounds) (t : Tree) (m : MessageFields) → IsJudged limits t m
         → option_map enc (tagged_tree m) ≡ Some (message_text m) }
 {}
 
 /// What is asked and written for one input is one: all runs over it ask the same questions in the same order, and write the same
 /// bytes.
 pub fn one_run()
-    ensures { (limits : Limits) (allows : Question → Bool) (aad : List ℕ) (at : ℕ) (b : List ℕ)
+    ensures { (limits : Bounds) (allows : Question → Bool) (aad : List ℕ) (at : ℕ) (b : List ℕ)
         (ss rs : List Step) (rest more : List ℕ) → Run limits allows aad at b ss rest
         → Run limits allows aad at b rs more
         → (questions_of allows aad ss ≡ questions_of allows aad rs)

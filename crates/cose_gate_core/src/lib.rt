@@ -16,7 +16,7 @@ mod sign;
 mod sign1;
 mod terms;
 
-pub use crate::about::{About, Kind};
+pub use crate::about::{About, MessageKind};
 pub use crate::asking::received;
 pub use crate::gating::{Counts, GateFault, gate, gate_strict, gate_strict_with, gate_with};
 pub use crate::judge::Judge;

@@ -2,7 +2,7 @@
 ghost use Rattle.coset_maced.specs.View.{mac_view};
 ghost use Rattle.cose_gate_core.specs.Questions.{mac};
 
-use crate::about::{About, Kind};
+use crate::about::{About, MessageKind};
 use crate::asking::ask_alone;
 use crate::judge::Judge;
 use crate::message::{Message, tagged};
@@ -14,7 +14,7 @@ use coset_structures::MacContext;
 use std::alloc::{AllocError, Global};
 
 impl Message for CoseMac {
-    ghost use Rattle.cose_gate_core.specs.declared.about.Kind.TheVariants.{Mac};
+    ghost use Rattle.cose_gate_core.specs.declared.about.MessageKind.TheVariants.{Mac};
 
     ghost kind = { Mac };
 
@@ -43,7 +43,7 @@ impl Message for CoseMac {
         judge: &mut J,
     ) -> Result<Option<usize>, AllocError> {
         let about = About::with_recipients(
-            Kind::Mac,
+            MessageKind::Mac,
             &self.protected,
             &self.unprotected,
             &self.recipients,

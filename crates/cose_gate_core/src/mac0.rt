@@ -2,7 +2,7 @@
 ghost use Rattle.coset_maced.specs.View.{mac0_view};
 ghost use Rattle.cose_gate_core.specs.Questions.{mac0};
 
-use crate::about::{About, Kind};
+use crate::about::{About, MessageKind};
 use crate::asking::ask_alone;
 use crate::judge::Judge;
 use crate::message::{Message, tagged};
@@ -14,7 +14,7 @@ use coset_structures::MacContext;
 use std::alloc::{AllocError, Global};
 
 impl Message for CoseMac0 {
-    ghost use Rattle.cose_gate_core.specs.declared.about.Kind.TheVariants.{Mac0};
+    ghost use Rattle.cose_gate_core.specs.declared.about.MessageKind.TheVariants.{Mac0};
 
     ghost kind = { Mac0 };
 
@@ -42,7 +42,7 @@ impl Message for CoseMac0 {
         aad: &'a [u8],
         judge: &mut J,
     ) -> Result<Option<usize>, AllocError> {
-        let about = About::alone(Kind::Mac0, &self.protected, &self.unprotected);
+        let about = About::alone(MessageKind::Mac0, &self.protected, &self.unprotected);
         let prefix = MacContext::CoseMac0.prefix();
         ask_alone(judge, &about, prefix, aad, &self.payload, &self.tag)
     }

@@ -5,11 +5,11 @@ ghost use Rattle.ciborium_value.specs.View.{view};
 ghost use Rattle.coset_labels.specs.Faults.{OrMemory};
 ghost use Rattle.coset_labels.specs.declared.error.CoseError.TheVariants.{Memory};
 ghost use Rattle.cose_gate_core.specs.Asked.{asked, first_no, folded_over, ToldFront};
-ghost use Rattle.cose_gate_core.specs.Findings.{Limits as Within, HasMessage, WrongMessage, IsCarried, IsUnsigned};
+ghost use Rattle.cose_gate_core.specs.Findings.{Bounds, HasMessage, WrongMessage, IsCarried, IsUnsigned};
 ghost use Rattle.cose_gate_core.specs.Questions.{MessageFields, kind_of, payload_of, questions, message_tree, tagged_tree};
 ghost use Rattle.cose_gate_core.specs.Received.{IsReceivedMessage};
 ghost use Rattle.cose_gate_core.specs.Terms.{limits_of};
-ghost use Rattle.cose_gate_core.specs.declared.about.Kind.{Kind};
+ghost use Rattle.cose_gate_core.specs.declared.about.MessageKind.{MessageKind};
 
 use crate::judge::Judge;
 use crate::terms::Terms;
@@ -20,7 +20,7 @@ use std::alloc::{AllocError, Global};
 /// A message of a kind that is judged (RFC 9052, section 2).
 pub trait Message: Drop + Sized {
     /// Its kind.
-    ghost kind: { Kind };
+    ghost kind: { MessageKind };
 
     /// What it says.
     ghost message: { Self → MessageFields };
@@ -38,7 +38,7 @@ pub trait Message: Drop + Sized {
     /// Whether the content of the tag is already the value that would be written of the message that it is read as. It takes no
     /// memory.
     fn is_as_written(content: &Value) -> bool
-        ensures { (limits : Within) (m : Self) → HasMessage limits (view content.now) (message m)
+        ensures { (limits : Bounds) (m : Self) → HasMessage limits (view content.now) (message m)
             → MatchBool result (message_tree (message m) ≡ Some (view content.now))
             (message_tree (message m) ≡ Some (view content.now) → ⊥) };
 

@@ -7,7 +7,7 @@ ghost use Rattle.ciborium_value.specs.Tree.{Tree, tag};
 ghost use Rattle.ciborium_value.specs.View.{view};
 ghost use Rattle.cose_iana.specs.Tags.{cbor_tags};
 ghost use Rattle.coset_labels.specs.declared.error.CoseError.TheVariants.{Memory};
-ghost use Rattle.cose_gate_core.specs.Findings.{Limits as Within, judged, HasMessage, IsEncryptedTag, Finds};
+ghost use Rattle.cose_gate_core.specs.Findings.{Bounds, judged, HasMessage, IsEncryptedTag, Finds};
 ghost use Rattle.cose_gate_core.specs.Passing.{IsRefused, IsTold, WentThrough, ItemFails, IsWriteFault, item_failures};
 ghost use Rattle.cose_gate_core.specs.Questions.{number_of, tag_of, message_tree, tagged_tree, message_text};
 ghost use Rattle.cose_gate_core.specs.Received.{IsReceivedMessage};
@@ -65,7 +65,7 @@ fn shape_refusal(error: CoseError) -> Result<Refusal, AllocError>
 
 /// Whether a strict gate may pass a message of this content of its tag. A gate that isn't strict doesn't ask.
 fn is_shortest<M: Message>(strict: bool, exact: bool, content: &Value) -> bool
-    ensures { (limits : Within) (m : M) → HasMessage limits (view content.now) (M.message m)
+    ensures { (limits : Bounds) (m : M) → HasMessage limits (view content.now) (M.message m)
         → MatchBool result (strict ≡ true → (exact ≡ true)
         × (message_tree (M.message m) ≡ Some (view content.now)))
         ((strict ≡ true) × Fits (view content.now)
@@ -86,7 +86,7 @@ fn is_shortest<M: Message>(strict: bool, exact: bool, content: &Value) -> bool
 /// Why a message that was read is not judged, if it isn't. One without a payload is detached, whether it has signatures or not; only one
 /// that would else be judged is spelled otherwise.
 fn bar_of<M: Message>(message: &M, shortest: bool) -> Option<Refusal>
-    ensures { (limits : Within) (b : List ℕ) (u : Tree)
+    ensures { (limits : Bounds) (b : List ℕ) (u : Tree)
         → HasMessage limits u (M.message message.now)
         → IsTold limits b (M.message message.now) shortest
         → MatchOption result
@@ -137,11 +137,11 @@ fn pass_message<M: Message, W: Write, J: Judge>(
 ) -> Result<Verdict, ItemFault>
     requires received { IsReceivedMessage (M.message message) }
     requires text { tagged_tree (M.message message) ≢ None }
-    ensures ok { (limits : Within) (bytes : List ℕ) (t : Tree)
+    ensures ok { (limits : Bounds) (bytes : List ℕ) (t : Tree)
         → Finds limits bytes t (judged (M.message message))
         → IfOk result (WentThrough limits J.decided (J.yes (J.who judge.old)) aad.now bytes t
         (J.told judge.old) (J.told judge.new) (W.written out.old) (W.written out.new)) }
-    ensures err { (limits : Within) (bytes : List ℕ) (t : Tree)
+    ensures err { (limits : Bounds) (bytes : List ℕ) (t : Tree)
         → Finds limits bytes t (judged (M.message message))
         → IfErr result (ItemFails limits J.decided (J.yes (J.who judge.old)) aad.now bytes t
         (J.told judge.old) (J.told judge.new) (W.written out.old) (W.written out.new)) }

@@ -2,7 +2,7 @@
 ghost use Rattle.std.specs.Prelude.{◌≡◌, ℕ, List, [], ◌∷◌, ◌++◌, OnOk, OnErr, length, map, Option};
 ghost use Rattle.cose_gate_core.specs.Recorded.{AskedFields, asked_view, kept_of, front_of, is_other, bytes_of};
 
-use crate::about::{About, Kind};
+use crate::about::{About, MessageKind};
 use crate::judge::Judge;
 use ciborium_ll::log::Log;
 use std::alloc::{AllocError, Global};
@@ -12,7 +12,7 @@ use std::mem;
 #[derive(Debug, PartialEq, Eq, Drop)]
 pub struct Asked {
     /// The kind of the message.
-    pub kind: Kind,
+    pub kind: MessageKind,
     /// The bytes that the signature or tag covers.
     pub structure: Vec<u8>,
     /// The length of the signature or tag.
@@ -26,7 +26,7 @@ pub struct Asked {
 pub struct Recorder {
     no: Option<Vec<u8>>,
     asked: Vec<Asked>,
-    kind: Kind,
+    kind: MessageKind,
     structure: Vec<u8>,
     pieces: Log<usize>,
 }
@@ -52,7 +52,7 @@ impl Recorder {
         Recorder {
             no,
             asked: Vec::new(alloc),
-            kind: Kind::Sign1,
+            kind: MessageKind::Sign1,
             structure: Vec::new(alloc),
             pieces: Log::new(),
         }

@@ -6,7 +6,7 @@ ghost use Rattle.coset_signed.specs.View.{sign_view};
 ghost use Rattle.cose_gate_core.specs.Questions.{one_question, sign};
 ghost use Rattle.cose_gate_core.specs.Received.{IsReceived};
 
-use crate::about::{About, Kind};
+use crate::about::{About, MessageKind};
 use crate::asking::{ask, received};
 use crate::judge::Judge;
 use crate::message::{Message, tagged};
@@ -20,7 +20,7 @@ use coset_structures::SignatureContext;
 use std::alloc::{AllocError, Global};
 
 impl Message for CoseSign {
-    ghost use Rattle.cose_gate_core.specs.declared.about.Kind.TheVariants.{Sign};
+    ghost use Rattle.cose_gate_core.specs.declared.about.MessageKind.TheVariants.{Sign};
 
     ghost kind = { Sign };
 
@@ -78,7 +78,7 @@ fn ask_signature<'a, J: Judge>(
     ensures who { J.who judge.new ≡ J.who judge.old }
 {
     let about = About::with_signer(
-        Kind::Sign,
+        MessageKind::Sign,
         &message.protected,
         &message.unprotected,
         (&signature.protected, &signature.unprotected),

@@ -2,7 +2,7 @@
 ghost use Rattle.coset_signed.specs.View.{sign1_view};
 ghost use Rattle.cose_gate_core.specs.Questions.{sign1};
 
-use crate::about::{About, Kind};
+use crate::about::{About, MessageKind};
 use crate::asking::ask_alone;
 use crate::judge::Judge;
 use crate::message::{Message, tagged};
@@ -14,7 +14,7 @@ use coset_structures::SignatureContext;
 use std::alloc::{AllocError, Global};
 
 impl Message for CoseSign1 {
-    ghost use Rattle.cose_gate_core.specs.declared.about.Kind.TheVariants.{Sign1};
+    ghost use Rattle.cose_gate_core.specs.declared.about.MessageKind.TheVariants.{Sign1};
 
     ghost kind = { Sign1 };
 
@@ -42,7 +42,7 @@ impl Message for CoseSign1 {
         aad: &'a [u8],
         judge: &mut J,
     ) -> Result<Option<usize>, AllocError> {
-        let about = About::alone(Kind::Sign1, &self.protected, &self.unprotected);
+        let about = About::alone(MessageKind::Sign1, &self.protected, &self.unprotected);
         let prefix = SignatureContext::CoseSign1.prefix(false);
         ask_alone(judge, &about, prefix, aad, &self.payload, &self.signature)
     }

@@ -4,11 +4,11 @@ use Rattle.cose_hmac.specs.View.{Holds}
 use Rattle.cose_hmac.specs.declared.mac.HmacSha256.{HmacSha256}
 use Rattle.coset_keys.specs.Fields.{KeyFields}
 use Rattle.cose_gate_core.specs.Questions.{Subject, Question}
-use Rattle.cose_gate_core.specs.declared.about.Kind.{Kind}
-use Rattle.cose_gate_core.specs.declared.about.Kind.TheVariants as kind
+use Rattle.cose_gate_core.specs.declared.about.MessageKind.{MessageKind}
+use Rattle.cose_gate_core.specs.declared.about.MessageKind.TheVariants as kind
 use Rattle.cose_gate_hmac.specs.Judging.{secret_for, is_tag_under}
 
-abbrev pub is_mac0 : Kind → Bool
+abbrev pub is_mac0 : MessageKind → Bool
 is_mac0 kind.Sign1 = false
 is_mac0 kind.Mac0 = true
 is_mac0 kind.Sign = false

@@ -12,7 +12,7 @@ ghost use Rattle.cose_gate_hmac.specs.Keeps.{keys_of, keys_in};
 use crate::ready::Keys;
 use crate::tags::{all_ready, begun, begun_about};
 use crate::verdict::secret_for;
-use cose_gate_core::{About, Judge, Kind, Log};
+use cose_gate_core::{About, Judge, Log, MessageKind};
 use cose_hmac::{HmacSha256, same_tag};
 use coset_keys::CoseKeySet;
 use std::alloc::{AllocError, Global};
@@ -73,8 +73,8 @@ fn secret_about<'a>(keys: &'a CoseKeySet, about: &About) -> Option<&'a [u8]>
         ≡ spec.secret_about (key_set_view keys.now) (subject_of about.now) }
 {
     match about.kind {
-        Kind::Mac0 => secret_for(keys, about.protected, about.unprotected),
-        Kind::Sign1 | Kind::Sign | Kind::Mac => None,
+        MessageKind::Mac0 => secret_for(keys, about.protected, about.unprotected),
+        MessageKind::Sign1 | MessageKind::Sign | MessageKind::Mac => None,
     }
 }
 

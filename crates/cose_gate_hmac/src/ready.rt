@@ -13,7 +13,8 @@ use coset_keys::{CoseKey, CoseKeySet};
 pub(crate) struct Ready<'a> {
     pub(crate) key: &'a CoseKey,
     pub(crate) mac: Option<HmacSha256>,
-    ghost begun: { Makes mac (secret (key_view key.now)) [] } by { makes-prop mac (secret (key_view key.now)) [] },
+    ghost begun: { Makes mac (secret (key_view key.now)) [] } by { makes-prop mac
+        (secret (key_view key.now)) [] },
 }
 
 /// The keys of a judge.

@@ -15,7 +15,7 @@ use crate::keys::{fits, secret_of};
 use crate::messages::message_id;
 use crate::ready::Ready;
 use crate::verdict::may_judge;
-use cose_gate_core::{About, Header, Kind, ProtectedHeader};
+use cose_gate_core::{About, Header, MessageKind, ProtectedHeader};
 use cose_hmac::HmacSha256;
 use coset_keys::CoseKey;
 use std::alloc::Global;
@@ -97,7 +97,7 @@ pub(crate) fn begun_about(all: &[Ready], about: &About) -> Option<HmacSha256>
     ensures { Makes result (spec.secret_about (map ready_view all.now) (subject_of about.now)) [] }
 {
     match about.kind {
-        Kind::Mac0 => begun_for(all, about.protected, about.unprotected),
-        Kind::Sign1 | Kind::Sign | Kind::Mac => None,
+        MessageKind::Mac0 => begun_for(all, about.protected, about.unprotected),
+        MessageKind::Sign1 | MessageKind::Sign | MessageKind::Mac => None,
     }
 }

@@ -17,10 +17,10 @@ use Rattle.cose_gate_core.specs.SignedShapes.{HasSign1, HasSign}
 use Rattle.cose_gate_core.specs.MacedShapes.{HasMac0, HasMac}
 use Rattle.cose_gate_core.specs.Questions.{Question, MessageFields, sign1, mac0, sign, mac, number_of, kind_of, payload_of, questions}
 use Rattle.cose_gate_core.specs.Asked.{first_no}
-use Rattle.cose_gate_core.specs.Findings.{Finding, judged, barred, excluded, not_tagged, encrypted, other_tag, shape, detached, no_signature, Limits, HasMessage, WrongMessage, IsMessage, IsMessageTag, IsEncryptedTag, IsCarried, IsUnsigned, Finds}
+use Rattle.cose_gate_core.specs.Findings.{Finding, judged, barred, excluded, not_tagged, encrypted, other_tag, shape, detached, no_signature, Bounds, HasMessage, WrongMessage, IsMessage, IsMessageTag, IsEncryptedTag, IsCarried, IsUnsigned, Finds}
 use Rattle.cose_gate_core.specs.Run.{Step, Steps, Run, Course, IsVerdict, judged_by}
-use Rattle.cose_gate_core.specs.declared.about.Kind.{Kind}
-use Rattle.cose_gate_core.specs.declared.about.Kind.TheVariants as kind
+use Rattle.cose_gate_core.specs.declared.about.MessageKind.{MessageKind}
+use Rattle.cose_gate_core.specs.declared.about.MessageKind.TheVariants as kind
 use Rattle.cose_gate_core.specs.declared.report.Refusal.{Refusal}
 use Rattle.cose_gate_core.specs.declared.report.Refusal.TheVariants as refusal
 use Rattle.cose_gate_core.specs.declared.report.Verdict.{Verdict}
@@ -38,18 +38,18 @@ list_cases : {A : Type 0} (xs : List A) → (xs ≡ []) ⊎ (xs ≢ [])
 list_cases [] = inl refl
 list_cases (x ∷ xs) = inr (λ e. let h : x ∷ xs ≡ [] = e in cc)
 
-module _ (l : Limits) where
+module _ (l : Bounds) where
   -- ---- by kind
-  abbrev MessageCase : Kind → Tree → Type 0
+  abbrev MessageCase : MessageKind → Tree → Type 0
   MessageCase k u = ((m : MessageFields) × (kind_of m ≡ k) × HasMessage l u m) ⊎ ((f : CoseFault) × WrongMessage l k u f)
 
   -- a case of messages of one kind, made of their fields
-  of_kind : {A : Type 0} (k : Kind) (u : Tree) (make : A → MessageFields) (Has : A → Type 0) → ((x : A) → Has x → (kind_of (make x) ≡ k) × HasMessage l u (make x))
+  of_kind : {A : Type 0} (k : MessageKind) (u : Tree) (make : A → MessageFields) (Has : A → Type 0) → ((x : A) → Has x → (kind_of (make x) ≡ k) × HasMessage l u (make x))
       → ((x : A) × Has x) ⊎ ((f : CoseFault) × WrongMessage l k u f) → MessageCase k u
   of_kind k u make Has has (inl (x, h)) = let is = has x h in inl (make x, is.0, is.1)
   of_kind k u make Has has (inr (f, w)) = inr (f, w)
 
-  message_case : (k : Kind) (u : Tree) → Low u → MessageCase k u
+  message_case : (k : MessageKind) (u : Tree) → Low u → MessageCase k u
   message_case kind.Sign1 u low = of_kind kind.Sign1 u sign1 (λ m. HasSign1 l.nesting u m l.layers) (λ m h. (refl, h)) (sign1_case l.nesting l.layers u low)
   message_case kind.Mac0 u low = of_kind kind.Mac0 u mac0 (λ m. HasMac0 l.nesting u m l.layers) (λ m h. (refl, h)) (mac0_case l.nesting l.layers u low)
   message_case kind.Sign u low = of_kind kind.Sign u sign (λ m. HasSign l.nesting u m l.layers) (λ m h. (refl, h)) (sign_case l.nesting l.layers u low)
@@ -93,7 +93,7 @@ module _ (l : Limits) where
   judged_or_not b t m i (inr c) (inr u) (inl x) = (judged m, ((i, c, u), x))
   judged_or_not b t m i (inr c) (inr u) (inr (r, x)) = (excluded m r, ((i, c, u), x))
 
-  message_found : (b : List ℕ) (k : Kind) (u : Tree) → MessageCase k u → Found b (tag (number_of k) u)
+  message_found : (b : List ℕ) (k : MessageKind) (u : Tree) → MessageCase k u → Found b (tag (number_of k) u)
   message_found b k u (inl (m, e, h)) =
       judged_or_not b (tag (number_of k) u) m (u, ap (λ j. tag (number_of j) u) (sym e), h) (option_cases (payload_of m)) (unsigned_cases m) (option_cases (l.excludes b m))
   message_found b k u (inr (f, w)) = (barred shape, (f, (k, u, refl, w)))
@@ -137,7 +137,7 @@ error_there no_memory = (code.Memory, refl)
 error_there too_many_layers = (code.TooManyLayers, refl)
 error_there misplaced = (code.DecodeFailed (de.Semantic (Some 0) semantic_kind.WrongType), refl)
 
-module _ (l : Limits) (allows : Question → Bool) (aad : List ℕ) where
+module _ (l : Bounds) (allows : Question → Bool) (aad : List ℕ) where
   verdict_there : (b : List ℕ) (t : Tree) (f : Finding) → Finds l b t f → (v : Verdict) × IsVerdict l allows aad t f v
   verdict_there b t (judged m) h = (judged_by (first_no allows (questions m aad)), refl)
   verdict_there b t (excluded m r) h = (Refused r, refl)

@@ -15,7 +15,7 @@ use Rattle.cose_gate_core.specs.declared.report.Verdict.{Verdict}
 use Rattle.cose_gate_core.specs.declared.report.Verdict.TheVariants.{Passed}
 use Rattle.cose_gate_core.specs.Questions.{Question, MessageFields, questions, message_text}
 use Rattle.cose_gate_core.specs.Asked.{first_no}
-use Rattle.cose_gate_core.specs.Findings.{Finding, judged, barred, excluded, Limits, Finds}
+use Rattle.cose_gate_core.specs.Findings.{Finding, judged, barred, excluded, Bounds, Finds}
 use Rattle.cose_gate_core.specs.Run.{Step, Steps, Run, IsVerdict, judged_by, asked_of, passes, text_of, written_of, questions_of, output_of, entries_of, passed_count, refused_count}
 use Rattle.cose_gate_core.proofs.Unique.{finding_once, run_once}
 use Rattle.cose_gate_laws.specs.Anew.{bytes_of, AreEntries}
@@ -48,7 +48,7 @@ placed_count p n at (s ∷ ss) =
     one_more_counted p (put n at s) (placed (n + 1) (at + length s.item.bytes) ss) ∙ ap (λ z. cond (p s.finding) 1 0 + z) (placed_count p (n + 1) (at + length s.item.bytes) ss)
     ∙ sym (one_more_counted p s ss)
 
-module _ (l : Limits) (allows : Question → Bool) (aad : List ℕ) where
+module _ (l : Bounds) (allows : Question → Bool) (aad : List ℕ) where
   -- ---- steps that all pass
   abbrev Through : List Step → Type 0
   Through [] = Unit {0}
@@ -113,7 +113,7 @@ module _ (l : Limits) (allows : Question → Bool) (aad : List ℕ) where
   abbrev asked_through : Finding → List Question
   asked_through f = cond (passes allows aad f) (asked_of allows aad f) []
 
-module _ (l k : Limits) (allows : Question → Bool) (aad : List ℕ) where
+module _ (l k : Bounds) (allows : Question → Bool) (aad : List ℕ) where
   -- what becomes of a step: nothing is written of it, or the text of a message that is found in that text again
   data Becomes (f : Finding) : Type 0 where
     nothing : passes allows aad f ≡ false → passed_of allows aad f ≡ [] → Becomes f

@@ -9,14 +9,14 @@ use Rattle.coset_headers.proofs.Unique.{reads_once}
 use Rattle.cose_gate_core.specs.declared.report.Verdict.{Verdict}
 use Rattle.cose_gate_core.specs.Questions.{Question}
 use Rattle.cose_gate_core.specs.Asked.{IsFront}
-use Rattle.cose_gate_core.specs.Findings.{Limits, Finding, judged, barred, excluded, not_tagged, encrypted, other_tag, shape, detached, no_signature, Finds}
+use Rattle.cose_gate_core.specs.Findings.{Bounds, Finding, judged, barred, excluded, not_tagged, encrypted, other_tag, shape, detached, no_signature, Finds}
 use Rattle.cose_gate_core.specs.Run.{Step, Steps, Run, Course, IsVerdict, asked_of, written_of, text_of, passes, questions_of, output_of, entries_of}
 use Rattle.cose_gate_core.proofs.Unique.{finding_once, run_once}
 use Rattle.cose_gate_laws.specs.Anew.{bytes_of, moved, SameVerdict, SameEntries, SameVerdicts, EntriesBegin, IgnoresSpelling}
 use Rattle.cose_gate_laws.proofs.Placed.{placed, placed_append, placed_asks, placed_writes, bytes_append, Stand, stand_entries, stand_same, IsStep, AllSteps, Told, all_append, all_split, run_told, run_again}
 
 -- one verdict stands for a finding, but for the fault of a shape
-module _ (limits : Limits) (allows : Question → Bool) (aad : List ℕ) (t : Tree) where
+module _ (limits : Bounds) (allows : Question → Bool) (aad : List ℕ) (t : Tree) where
   verdict_once : (f : Finding) (v w : Verdict) → IsVerdict limits allows aad t f v → IsVerdict limits allows aad t f w → SameVerdict v w
   verdict_once (judged m) v w a b = inl (a ∙ sym b)
   verdict_once (barred not_tagged) v w a b = inl (a ∙ sym b)
@@ -33,7 +33,7 @@ asks_append allows aad ss rs = flat_map-append (λ s. asked_of allows aad s.find
 pub writes_append : (allows : Question → Bool) (aad : List ℕ) (ss rs : List Step) → output_of allows aad (ss ++ rs) ≡ output_of allows aad ss ++ output_of allows aad rs
 writes_append allows aad ss rs = flat_map-append (λ s. written_of allows aad s.finding) ss rs
 
-module _ (limits : Limits) (allows : Question → Bool) (aad : List ℕ) where
+module _ (limits : Bounds) (allows : Question → Bool) (aad : List ℕ) where
   abbrev Sound : Step → Type 0
   Sound s = IsStep limits allows aad s
 

@@ -10,7 +10,7 @@ use Rattle.ciborium.proofs.Excludes.{excludes}
 use Rattle.coset_headers.proofs.Entered.{bool_cases}
 use Rattle.coset_headers.proofs.Sound.{reads_sound, sound_reads}
 use Rattle.cose_gate_core.specs.Questions.{Question, MessageFields, tagged_tree, message_text}
-use Rattle.cose_gate_core.specs.Findings.{Finding, judged, barred, excluded, Limits, IsJudged, Finds}
+use Rattle.cose_gate_core.specs.Findings.{Finding, judged, barred, excluded, Bounds, IsJudged, Finds}
 use Rattle.cose_gate_core.specs.Run.{Step, Run, passes, written_of, output_of}
 use Rattle.cose_gate_core.proofs.Rewritten.{rewritten}
 use Rattle.cose_gate_laws.specs.Anew.{bytes_of}
@@ -18,7 +18,7 @@ use Rattle.cose_gate_laws.specs.Output.{passed_of, passed_messages, AreMessages}
 use Rattle.cose_gate_laws.proofs.Placed.{AllSteps, run_told}
 use Rattle.cose_gate_laws.proofs.Lows.{IsByte, before, behind, reads_fits}
 
-module _ (l : Limits) (allows : Question → Bool) (aad : List ℕ) where
+module _ (l : Bounds) (allows : Question → Bool) (aad : List ℕ) where
   -- what is written for one step
   data Wrote (f : Finding) : Type 0 where
     nothing : written_of allows aad f ≡ [] → passed_of allows aad f ≡ [] → Wrote f

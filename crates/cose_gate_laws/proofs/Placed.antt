@@ -5,7 +5,7 @@ use Rattle.ciborium.specs.Items.{SequenceWithin, IsUnreadableWithin, item_at}
 use Rattle.cose_gate_core.specs.declared.report.Entry.{Entry}
 use Rattle.cose_gate_core.specs.declared.report.Verdict.{Verdict}
 use Rattle.cose_gate_core.specs.Questions.{Question}
-use Rattle.cose_gate_core.specs.Findings.{Limits, Finds}
+use Rattle.cose_gate_core.specs.Findings.{Bounds, Finds}
 use Rattle.cose_gate_core.specs.Run.{Step, Steps, Run, Course, IsVerdict, asked_of, written_of, questions_of, output_of, entries_of}
 use Rattle.cose_gate_laws.specs.Anew.{bytes_of, moved}
 
@@ -73,7 +73,7 @@ stand_same n at (s ∷ ss) h =
     ap (λ z. z ∷ entries_of (placed (n + 1) (at + length s.item.bytes) ss)) (same_entry s.entry n at s.entry.verdict (sym h.0) (sym h.1) refl)
     ∙ ap (λ z. s.entry ∷ z) (stand_same (n + 1) (at + length s.item.bytes) ss h.2)
 
-module _ (limits : Limits) (allows : Question → Bool) (aad : List ℕ) where
+module _ (limits : Bounds) (allows : Question → Bool) (aad : List ℕ) where
   -- what is true of a step wherever it stands
   abbrev pub IsStep : Step → Type 0
   IsStep s = Reads s.item.bytes limits.nesting s.item.value × Finds limits s.item.bytes s.item.value s.finding × IsVerdict limits allows aad s.item.value s.finding s.entry.verdict

@@ -5,7 +5,7 @@ use Rattle.ciborium_value.specs.Tree.{Tree}
 use Rattle.ciborium.specs.Front.{Reads}
 use Rattle.coset_headers.proofs.Entered.{bool_cases}
 use Rattle.cose_gate_core.specs.Questions.{Question, MessageFields, message_text}
-use Rattle.cose_gate_core.specs.Findings.{Finding, judged, barred, excluded, Limits, IsJudged, Finds}
+use Rattle.cose_gate_core.specs.Findings.{Finding, judged, barred, excluded, Bounds, IsJudged, Finds}
 use Rattle.cose_gate_core.specs.Run.{Step, Run, passes, written_of, output_of}
 use Rattle.cose_gate_laws.specs.Anew.{bytes_of}
 use Rattle.cose_gate_laws.specs.Narrow.{IsNarrow, PassedAreNarrow, passed_bytes}
@@ -14,7 +14,7 @@ use Rattle.cose_gate_laws.proofs.Lows.{IsByte, before, behind}
 use Rattle.cose_gate_laws.proofs.Narrowed.{narrow_reads}
 use Rattle.cose_gate_core.proofs.Rewritten.{rewritten}
 
-module _ (l : Limits) (allows : Question → Bool) (aad : List ℕ) where
+module _ (l : Bounds) (allows : Question → Bool) (aad : List ℕ) where
   abbrev IsLess : List ℕ → Finding → Type 0
   IsLess b f = length (written_of allows aad f) ≤ length (cond (passes allows aad f) b [])
 

@@ -13,7 +13,7 @@ use Rattle.cose_gate_core.specs.SignedShapes.{HasSign1, HasSign}
 use Rattle.cose_gate_core.specs.MacedFields.{Mac0Fields, MacFields}
 use Rattle.cose_gate_core.specs.MacedShapes.{HasMac0, HasMac}
 use Rattle.cose_gate_core.specs.Questions.{MessageFields, sign1, mac0, sign, mac}
-use Rattle.cose_gate_core.specs.Findings.{Limits, HasMessage, IsJudged}
+use Rattle.cose_gate_core.specs.Findings.{Bounds, HasMessage, IsJudged}
 
 module _ (n w : ℕ) (deep : n ≤ w) where
   pub reads_wider : (b : List ℕ) (v : Tree) → Reads b n v → Reads b w v
@@ -105,11 +105,11 @@ module _ (n w : ℕ) (deep : n ≤ w) where
         hold = (q.3, ((list.0, list.1, recipients_wider m.recipients list.0 k l e list.2), tt));
       }
 
-message_wider : (a b : Limits) → a.nesting ≤ b.nesting → a.layers ≤ b.layers → (u : Tree) (m : MessageFields) → HasMessage a u m → HasMessage b u m
+message_wider : (a b : Bounds) → a.nesting ≤ b.nesting → a.layers ≤ b.layers → (u : Tree) (m : MessageFields) → HasMessage a u m → HasMessage b u m
 message_wider a b n k u (sign1 m) h = sign1_wider a.nesting b.nesting n m u a.layers b.layers k h
 message_wider a b n k u (mac0 m) h = mac0_wider a.nesting b.nesting n m u a.layers b.layers k h
 message_wider a b n k u (sign m) h = sign_wider a.nesting b.nesting n m u a.layers b.layers k h
 message_wider a b n k u (mac m) h = mac_wider a.nesting b.nesting n m u a.layers b.layers k h
 
-pub judged_wider : (a b : Limits) → a.nesting ≤ b.nesting → a.layers ≤ b.layers → (t : Tree) (m : MessageFields) → IsJudged a t m → IsJudged b t m
+pub judged_wider : (a b : Bounds) → a.nesting ≤ b.nesting → a.layers ≤ b.layers → (t : Tree) (m : MessageFields) → IsJudged a t m → IsJudged b t m
 judged_wider a b n k t m ((u, is, has), carried, signed) = ((u, is, message_wider a b n k u m has), carried, signed)

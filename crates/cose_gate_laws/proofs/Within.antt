@@ -6,7 +6,7 @@ use Rattle.std.proofs.lemmas.List.Sums.{sum_by-cons}
 use Rattle.ciborium.specs.Items.{Item, SequenceWithin, IsUnreadableWithin}
 use Rattle.coset_headers.proofs.Unique.{reads_once}
 use Rattle.cose_gate_core.specs.Questions.{Question}
-use Rattle.cose_gate_core.specs.Findings.{Limits, Finding, Finds}
+use Rattle.cose_gate_core.specs.Findings.{Bounds, Finding, Finds}
 use Rattle.cose_gate_core.specs.Run.{Step, Steps, Run, Course, IsVerdict, asked_of, written_of, questions_of, output_of, entries_of}
 use Rattle.cose_gate_core.proofs.Reach.{reads_some}
 use Rattle.cose_gate_core.proofs.Unique.{finding_once}
@@ -15,7 +15,7 @@ use Rattle.cose_gate_laws.specs.Anew.{AreEntries}
 same_item : (i j : Item) → i.offset ≡ j.offset → i.bytes ≡ j.bytes → i.value ≡ j.value → i ≡ j
 same_item i j o b v = λ k. record { offset = o k; bytes = b k; value = v k }
 
-module _ (limits : Limits) (allows : Question → Bool) (aad : List ℕ) where
+module _ (limits : Bounds) (allows : Question → Bool) (aad : List ℕ) where
   -- a step that was made, beside one of a run: the same item and finding, and an entry that stands for it
   pub record Twin (made one : Step) : Type 0 where
     pub item : made.item ≡ one.item

@@ -2,7 +2,7 @@
 use Rattle.std.specs.Prelude.{◌≡◌, ℕ, List, [], ◌∷◌, flat_map, Some, Bool, if◌then◌else◌}
 use Rattle.ciborium_value.specs.Tree.{Tree}
 use Rattle.cose_gate_core.specs.Questions.{Question, MessageFields, tagged_tree}
-use Rattle.cose_gate_core.specs.Findings.{Limits, Finding, judged, barred, excluded, IsJudged}
+use Rattle.cose_gate_core.specs.Findings.{Bounds, Finding, judged, barred, excluded, IsJudged}
 use Rattle.cose_gate_core.specs.Run.{Step, passes}
 
 -- the message of a finding, where it passes
@@ -16,7 +16,7 @@ abbrev pub passed_messages : (Question → Bool) → List ℕ → List Step → 
 passed_messages allows aad ss = flat_map (λ s. passed_of allows aad s.finding) ss
 
 -- the trees are what these messages are written as, in order, and each has the fields of its message again
-abbrev pub AreMessages : Limits → List Tree → List MessageFields → Type 0
+abbrev pub AreMessages : Bounds → List Tree → List MessageFields → Type 0
 AreMessages limits [] [] = Unit {0}
 AreMessages limits [] (m ∷ ms) = ⊥
 AreMessages limits (t ∷ ts) [] = ⊥

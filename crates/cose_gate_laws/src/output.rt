@@ -2,7 +2,7 @@
 ghost use Rattle.std.specs.Prelude.{◌≡◌, ℕ, ◌^◌, ◌<◌, ◌≤◌, List, [], length, map, All, Bool};
 ghost use Rattle.ciborium.specs.Items.{Item, ItemsWithin};
 ghost use Rattle.cose_gate_core.specs.Questions.{Question};
-ghost use Rattle.cose_gate_core.specs.Findings.{Limits, usual, plain, only_exact};
+ghost use Rattle.cose_gate_core.specs.Findings.{Bounds, usual, plain, only_exact};
 ghost use Rattle.cose_gate_core.specs.Run.{Step, Run, output_of};
 ghost use Rattle.cose_gate_laws.specs.Fixed.{Admits, ExcludesInexact, FixedPoint};
 ghost use Rattle.cose_gate_laws.specs.Narrow.{PassedAreNarrow, passed_bytes};
@@ -12,7 +12,7 @@ ghost use Rattle.cose_gate_laws.specs.Output.{passed_messages, AreMessages};
 /// as, in order, each a message with the same fields, received bytes included, and nothing is left. So for an input of fewer than 2^64
 /// bytes.
 pub fn output_is_passed_messages()
-    ensures { (limits : Limits) (allows : Question → Bool) (aad : List ℕ) (at : ℕ) (b : List ℕ)
+    ensures { (limits : Bounds) (allows : Question → Bool) (aad : List ℕ) (at : ℕ) (b : List ℕ)
         (ss : List Step) (rest : List ℕ) → Run limits allows aad at b ss rest → All (λ x. x < 256) b
         → length b < 2 ^ 64
         → (is : List Item) × ItemsWithin limits.nesting 0 (output_of allows aad ss) is []
@@ -23,7 +23,7 @@ pub fn output_is_passed_messages()
 /// spelled in 5 or 6 bytes, the output is never longer than the items that pass. Such a bignum is written as an integer of nine bytes,
 /// and may stand in seven or eight.
 pub fn output_is_no_longer()
-    ensures { (limits : Limits) (allows : Question → Bool) (aad : List ℕ) (at : ℕ) (b : List ℕ)
+    ensures { (limits : Bounds) (allows : Question → Bool) (aad : List ℕ) (at : ℕ) (b : List ℕ)
         (ss : List Step) (rest : List ℕ) → Run limits allows aad at b ss rest → All (λ x. x < 256) b
         → PassedAreNarrow allows aad ss
         → length (output_of allows aad ss) ≤ length (passed_bytes allows aad ss) }
@@ -35,11 +35,11 @@ pub fn output_is_no_longer()
 /// ones do so after themselves.
 pub fn output_is_fixed()
     ensures usual { Admits usual usual }
-    ensures there { (one two : Limits) (allows : Question → Bool) (aad : List ℕ) (at to : ℕ)
+    ensures there { (one two : Bounds) (allows : Question → Bool) (aad : List ℕ) (at to : ℕ)
         (b : List ℕ) (ss : List Step) (rest : List ℕ) → Admits one two
         → Run one allows aad at b ss rest → All (λ x. x < 256) b → length b < 2 ^ 64
         → (rs : List Step) × Run two allows aad to (output_of allows aad ss) rs [] }
-    ensures fixed { (one two : Limits) (allows : Question → Bool) (aad : List ℕ) (at to : ℕ)
+    ensures fixed { (one two : Bounds) (allows : Question → Bool) (aad : List ℕ) (at to : ℕ)
         (b : List ℕ) (ss rs : List Step) (rest more : List ℕ) → Admits one two
         → Run one allows aad at b ss rest → All (λ x. x < 256) b → length b < 2 ^ 64
         → Run two allows aad to (output_of allows aad ss) rs more
@@ -51,11 +51,11 @@ pub fn output_is_fixed()
 /// through; and what the strict ones wrote, the usual ones.
 pub fn output_is_received()
     ensures strict { (nesting layers : ℕ) → ExcludesInexact (only_exact nesting layers) }
-    ensures received { (limits : Limits) (allows : Question → Bool) (aad : List ℕ) (at : ℕ)
+    ensures received { (limits : Bounds) (allows : Question → Bool) (aad : List ℕ) (at : ℕ)
         (b : List ℕ) (ss : List Step) (rest : List ℕ) → ExcludesInexact limits
         → Run limits allows aad at b ss rest
         → output_of allows aad ss ≡ passed_bytes allows aad ss }
-    ensures strict_after { (limits : Limits) → Admits limits
+    ensures strict_after { (limits : Bounds) → Admits limits
         (only_exact limits.nesting limits.layers) }
     ensures usual_after { Admits (only_exact usual.nesting usual.layers) usual }
 {}
@@ -63,8 +63,8 @@ pub fn output_is_received()
 /// What was written within any limits, gates within the same or wider ones let through, a strict one too: so `output_is_fixed` holds of
 /// the gate over the output of a gate, of the strict gate over it, and of either over the output of a strict gate.
 pub fn wider_limits_admit()
-    ensures plain { (limits : Limits) (nesting layers : ℕ) → limits.nesting ≤ nesting
+    ensures plain { (limits : Bounds) (nesting layers : ℕ) → limits.nesting ≤ nesting
         → limits.layers ≤ layers → Admits limits (plain nesting layers) }
-    ensures strict { (limits : Limits) (nesting layers : ℕ) → limits.nesting ≤ nesting
+    ensures strict { (limits : Bounds) (nesting layers : ℕ) → limits.nesting ≤ nesting
         → limits.layers ≤ layers → Admits limits (only_exact nesting layers) }
 {}

@@ -16,11 +16,10 @@ use Rattle.ciborium_value.specs.Tree.{Tree}
 use Rattle.cose_gate_hmac.specs.KeySets.Fields.{KeyFields}
 use Rattle.cose_gate_hmac.specs.GateCore.Questions.{Question}
 use Rattle.cose_gate_hmac.specs.GateCore.Asked.{IsFront}
-use Rattle.cose_gate_hmac.specs.GateCore.Findings.{Limits, usual, plain}
+use Rattle.cose_gate_hmac.specs.GateCore.Findings.{Bounds, usual, plain}
 use Rattle.cose_gate_hmac.specs.GateCore.Terms.{limits_by}
 use Rattle.cose_gate_hmac.specs.GateCore.Run.{Step, Course, asked_of, questions_of, written_of, output_of, refused_count}
 use Rattle.cose_gate_hmac.specs.GateCore.Outcome.{Rules, Sight, Outcome, Answers, IfMemoryRefused, writer_failures}
-use Rattle.cose_gate_hmac.specs.GateCore.declared.report.Entry.{Entry}
 use Rattle.cose_gate_hmac.specs.GateCore.declared.gating.Counts.{Counts}
 use Rattle.cose_gate_hmac.specs.GateCore.declared.gating.GateFault.{GateFault}
 use Rattle.cose_gate_hmac.specs.GateCore.declared.gating.GateFault.TheVariants as gating
@@ -35,7 +34,7 @@ use Rattle.cose_gate_program.specs.declared.beginning.NotBegun.TheVariants.{NoFi
 use Rattle.coset_labels.specs.Faults.{fault_of}
 use Rattle.coset_labels.specs.Limits.{nesting, layers, nesting_of, layers_of}
 use Rattle.coset_labels.specs.Reading.{HasItem}
-use Rattle.coset_labels.specs.declared.limits.Limits.{Limits as Chosen}
+use Rattle.coset_labels.specs.declared.limits.Limits.{Limits}
 
 -- a list is a beginning of itself, and of itself and more
 whole_front : {A : Type 0} (xs : List A) → IsFront xs xs
@@ -170,7 +169,7 @@ module _ {T S E : Type 0} (ends : E → Bool) (by : Rules T S) (old new : Sight 
   }
 
   -- the gate's answer over a decoder that began here; the output is seen where it was lent from
-  pub gated : (limits : Limits) (waiting : Option Header) (l l' w' : Option (List ℕ)) (n n' f f' fails : ℕ)
+  pub gated : (limits : Bounds) (waiting : Option Header) (l l' w' : Option (List ℕ)) (n n' f f' fails : ℕ)
       (r r' : Result Counts (GateFault E)) → limits ≡ by.limits → old.offset ≡ 0 → waiting ≡ None
       → old.left ≡ due l waiting → r' ≡ r → Answers ends by old new r → fails ≡ f + writer_failures r
       → w' ≡ new.written → f' ≡ fails
@@ -184,7 +183,7 @@ module _ {T S E : Type 0} (ends : E → Bool) (by : Rules T S) (old new : Sight 
         heard = heard_over a.input r a.outcome;
       } in
       let there : Gated limits heard_by by.aad (devices l old.written n f) (devices l' new.written n' f') r
-      = subst (λ (o : Limits). Gated o heard_by by.aad (devices l old.written n f) (devices l' new.written n' f') r) (sym same) whole in
+      = subst (λ (o : Bounds). Gated o heard_by by.aad (devices l old.written n f) (devices l' new.written n' f') r) (sym same) whole in
       let lent : Gated limits heard_by by.aad (devices l old.written n f) (devices l' w' n' f') r
       = subst (λ (o : Option (List ℕ)). Gated limits heard_by by.aad (devices l old.written n f) (devices l' o n' f') r) (sym sent) there in
       subst (λ (o : Result Counts (GateFault E)). Gated limits heard_by by.aad (devices l old.written n f) (devices l' w' n' f') o) (sym answer) lent
@@ -212,7 +211,7 @@ between : (a b c : ℕ) → a ≤ b → b ≤ c → c ≡ a → b ≡ a
 between a b c p q e = omega arith
 
 -- the output was flushed
-then_flushed : (limits : Limits) (allows : Question → Bool) (aad : List ℕ) (old mid new : Devices) (b : List ℕ) (steps : List Step) (n : ℕ)
+then_flushed : (limits : Bounds) (allows : Question → Bool) (aad : List ℕ) (old mid new : Devices) (b : List ℕ) (steps : List Step) (n : ℕ)
     → Keeps mid.written new.written → Through limits allows aad old mid b steps n → Through limits allows aad old new b steps n
 then_flushed limits allows aad old mid new b steps n keeps t = record {
   course = t.course;
@@ -229,7 +228,7 @@ pub flush_passed : {X F : Type 0} (answer : Result X F) (m n : ℕ) → false �
 flush_passed (Ok x) m n is e = e
 flush_passed (Err x) m n is e = absurd (true≢false (sym is))
 
-module _ {T : Type 0} (limits : Limits) (hearing : Hearing T) (aad : List ℕ) (old mid new : Devices) where
+module _ {T : Type 0} (limits : Bounds) (hearing : Hearing T) (aad : List ℕ) (old mid new : Devices) where
   -- some items were refused
   pub ran_some : (counts : Counts) {E : Type 0} → (let r : Result Counts (GateFault E) = Ok counts in Gated limits hearing aad old mid r)
       → counts.refused ≢ 0 → (old.left ≡ Some [] → counts.refused ≡ 0) → Keeps mid.written new.written
@@ -306,7 +305,7 @@ module _ {T : Type 0} (limits : Limits) (hearing : Hearing T) (aad : List ℕ) (
         whole = λ same. o.whole (same_then same);
       }
 
-module _ {T : Type 0} (limits : Limits) (hearing : Hearing T) (aad : List ℕ) (old mid : Devices) where
+module _ {T : Type 0} (limits : Bounds) (hearing : Hearing T) (aad : List ℕ) (old mid : Devices) where
   -- of nothing no item is refused
   pub none_refused : (counts : Counts) {E : Type 0} → (let r : Result Counts (GateFault E) = Ok counts in Gated limits hearing aad old mid r)
       → old.left ≡ Some [] → counts.refused ≡ 0
@@ -325,14 +324,14 @@ module _ {T : Type 0} (limits : Limits) (hearing : Hearing T) (aad : List ℕ) (
       of t = t.refused_is ∙ empty g.steps t.course.sequence
 
 -- the gate isn't run
-pub ended : (limits : Limits) (allows : List KeyFields → Question → Bool) (keys aad : Option (List ℕ)) (why : NotBegun) (old new : Devices) (status : ℕ) → BeginsNot keys aad why → status ≡ status_of why → new ≡ old → EndsWithin limits allows keys aad old new status
+pub ended : (limits : Bounds) (allows : List KeyFields → Question → Bool) (keys aad : Option (List ℕ)) (why : NotBegun) (old new : Devices) (status : ℕ) → BeginsNot keys aad why → status ≡ status_of why → new ≡ old → EndsWithin limits allows keys aad old new status
 ended limits allows keys aad NoFile old new status n st same = no_file n st same
 ended limits allows keys aad NotHex old new status n st same = not_hex n.0 n.1 n.2 st same
 ended limits allows keys aad (NoKeys e) old new status n st same = no_keys n.0 n.1 n.2 n.3 (fault_of e) n.4 st same
 ended limits allows keys aad Memory old new status n st same = no_memory n.0 n.1 st same
 
 -- the gate was run
-pub began : (limits : Limits) (keys aad : Option (List ℕ)) (d : Beginning) (given : List ℕ)
+pub began : (limits : Bounds) (keys aad : Option (List ℕ)) (d : Beginning) (given : List ℕ)
     (ks : List KeyFields) (old new : Devices) (status : ℕ)
     → (let r : Result Beginning NotBegun = Ok d in Begins keys aad r) → given ≡ d.aad.items → ks ≡ key_set_view d.keys
     → RanOn limits (says_yes ks) given old new status → EndsWithin limits says_yes keys aad old new status
@@ -340,23 +339,23 @@ began limits keys aad d given ks old new status b e same r =
     after_run b.0 given b.1 (b.2 ∙ ap Some (sym e)) ks (subst (λ (k : List KeyFields). HasItem HasKeySet b.0 k) (sym same) b.3) r
 
 -- the bytes hold no key set, or memory was refused
-pub over_none : (limits : Limits) (allows : List KeyFields → Question → Bool) (keys aad : List ℕ) (why : NotBegun) (old new : Devices) (status : ℕ) → IsNoKeySet keys why → status ≡ status_of why → new ≡ old → EndsOver limits allows keys aad old new status
+pub over_none : (limits : Bounds) (allows : List KeyFields → Question → Bool) (keys aad : List ℕ) (why : NotBegun) (old new : Devices) (status : ℕ) → IsNoKeySet keys why → status ≡ status_of why → new ≡ old → EndsOver limits allows keys aad old new status
 over_none limits allows keys aad NoFile old new status n st same = absurd n
 over_none limits allows keys aad NotHex old new status n st same = absurd n
 over_none limits allows keys aad (NoKeys e) old new status n st same = inl (fault_of e, n, st, same)
 over_none limits allows keys aad Memory old new status n st same = inr (inl (st, same))
 
 -- the gate was run with the key set of the bytes
-pub over_run : (limits : Limits) (keys aad : List ℕ) (ks held : List KeyFields) (old new : Devices) (status : ℕ)
+pub over_run : (limits : Bounds) (keys aad : List ℕ) (ks held : List KeyFields) (old new : Devices) (status : ℕ)
     → HasItem HasKeySet keys ks → held ≡ ks → RanOn limits (says_yes held) aad old new status
     → EndsOver limits says_yes keys aad old new status
 over_run limits keys aad ks held old new status h same r =
     inr (inr (held, subst (λ (k : List KeyFields). HasItem HasKeySet keys k) (sym same) h, r))
 
 -- the limits where none are chosen
-usually : (l : Chosen) → (nesting_of l ≡ nesting) × (layers_of l ≡ layers) → limits_by l false ≡ usual
+usually : (l : Limits) → (nesting_of l ≡ nesting) × (layers_of l ≡ layers) → limits_by l false ≡ usual
 usually l e = ap (λ (n : ℕ). plain n (layers_of l)) e.0 ∙ ap (λ (k : ℕ). plain nesting k) e.1
 
-pub ends_usually : (l : Chosen) (allows : List KeyFields → Question → Bool) (keys aad : Option (List ℕ)) (old new : Devices) (status : ℕ) → (nesting_of l ≡ nesting) × (layers_of l ≡ layers)
+pub ends_usually : (l : Limits) (allows : List KeyFields → Question → Bool) (keys aad : Option (List ℕ)) (old new : Devices) (status : ℕ) → (nesting_of l ≡ nesting) × (layers_of l ≡ layers)
     → EndsWithin (limits_by l false) allows keys aad old new status → EndsWithin usual allows keys aad old new status
-ends_usually l allows keys aad old new status e w = subst (λ (o : Limits). EndsWithin o allows keys aad old new status) (usually l e) w
+ends_usually l allows keys aad old new status e w = subst (λ (o : Bounds). EndsWithin o allows keys aad old new status) (usually l e) w

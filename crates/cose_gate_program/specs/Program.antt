@@ -6,7 +6,7 @@ use Rattle.ciborium_ll.specs.declared.write.Write.{Ghosts as Writes}
 use Rattle.ciborium.specs.Reading.{IfKnown}
 use Rattle.cose_gate_hmac.specs.GateCore.Questions.{Question}
 use Rattle.cose_gate_hmac.specs.GateCore.Asked.{IsFront, ToldFront}
-use Rattle.cose_gate_hmac.specs.GateCore.Findings.{Limits, usual}
+use Rattle.cose_gate_hmac.specs.GateCore.Findings.{Bounds, usual}
 use Rattle.cose_gate_hmac.specs.GateCore.Run.{Step, Course, questions_of, output_of, refused_count}
 use Rattle.cose_gate_hmac.specs.GateCore.declared.gating.Counts.{Counts}
 use Rattle.cose_gate_hmac.specs.GateCore.declared.gating.GateFault.{GateFault}
@@ -59,7 +59,7 @@ IsOfSteps allows aad steps front =
     (done : List Step) × IsFront done steps × (front ≡ output_of allows aad done)
 
 -- the whole input b was gone through by these steps, and all that passed was written
-pub record Through (limits : Limits) (allows : Question → Bool) (aad : List ℕ) (old new : Devices)
+pub record Through (limits : Bounds) (allows : Question → Bool) (aad : List ℕ) (old new : Devices)
     (b : List ℕ) (steps : List Step) (refused : ℕ) : Type 0 where
   pub course : Course limits allows aad 0 b steps []
   pub writes : Appends old.written new.written (output_of allows aad steps)
@@ -67,7 +67,7 @@ pub record Through (limits : Limits) (allows : Question → Bool) (aad : List �
 
 -- b was gone through by these steps up to some place, and a beginning of the output up to there was
 -- written. A text is torn only where the writer failed.
-pub record InPart (limits : Limits) (allows : Question → Bool) (aad : List ℕ) (old new : Devices)
+pub record InPart (limits : Bounds) (allows : Question → Bool) (aad : List ℕ) (old new : Devices)
     (b : List ℕ) (steps : List Step) : Type 0 where
   pub more : List ℕ
   pub course : Course limits allows aad 0 b steps more
@@ -76,14 +76,14 @@ pub record InPart (limits : Limits) (allows : Question → Bool) (aad : List ℕ
   pub writes : Appends old.written new.written front
   pub whole : new.write_failures ≡ old.write_failures → IsOfSteps allows aad steps front
 
-abbrev pub GatedOver : {E : Type 0} → Limits → (Question → Bool) → List ℕ → Devices → Devices
+abbrev pub GatedOver : {E : Type 0} → Bounds → (Question → Bool) → List ℕ → Devices → Devices
     → List ℕ → List Step → Result Counts (GateFault E) → Type 0
 GatedOver limits allows aad old new b steps (Ok counts) =
     Through limits allows aad old new b steps counts.refused
 GatedOver limits allows aad old new b steps (Err fault) = InPart limits allows aad old new b steps
 
 -- the status: 0 where none is refused, 1 where some are, 4 where it stopped
-abbrev pub RanOver : Limits → (Question → Bool) → List ℕ → Devices → Devices
+abbrev pub RanOver : Bounds → (Question → Bool) → List ℕ → Devices → Devices
     → List ℕ → List Step → ℕ → Type 0
 RanOver limits allows aad old new b steps status =
     ((refused : ℕ) × Through limits allows aad old new b steps refused
@@ -91,7 +91,7 @@ RanOver limits allows aad old new b steps status =
     ⊎ (InPart limits allows aad old new b steps × (status ≡ 4))
 
 -- some bytes were there, those to come where these are known, and the program went over them
-pub record Ran (limits : Limits) (allows : Question → Bool) (aad : List ℕ) (old new : Devices)
+pub record Ran (limits : Bounds) (allows : Question → Bool) (aad : List ℕ) (old new : Devices)
     (status : ℕ) : Type 0 where
   pub input : List ℕ
   pub is : IfKnown old.left (λ b. b ≡ input)
@@ -100,7 +100,7 @@ pub record Ran (limits : Limits) (allows : Question → Bool) (aad : List ℕ) (
 
 -- the program ran. Of nothing it ends with 0 where no device failed, and with 0 or 1 only where none
 -- did.
-pub record RanOn (limits : Limits) (allows : Question → Bool) (aad : List ℕ) (old new : Devices)
+pub record RanOn (limits : Bounds) (allows : Question → Bool) (aad : List ℕ) (old new : Devices)
     (status : ℕ) : Type 0 where
   pub ran : Ran limits allows aad old new status
   pub nothing : old.left ≡ Some [] → new.read_failures ≡ old.read_failures
@@ -118,7 +118,7 @@ pub record Heard {T : Type 0} (hearing : Hearing T) (aad : List ℕ) (steps : Li
 
 -- the gate went over some bytes, those to come where these are known, and the judge was asked about
 -- its steps
-pub record Gated {T E : Type 0} (limits : Limits) (hearing : Hearing T) (aad : List ℕ)
+pub record Gated {T E : Type 0} (limits : Bounds) (hearing : Hearing T) (aad : List ℕ)
     (old new : Devices) (r : Result Counts (GateFault E)) : Type 0 where
   pub input : List ℕ
   pub is : IfKnown old.left (λ b. b ≡ input)
@@ -128,7 +128,7 @@ pub record Gated {T E : Type 0} (limits : Limits) (hearing : Hearing T) (aad : L
 
 -- the program ran with a judge, which was asked about the steps of the run: about all of them where
 -- the status is 0 or 1
-pub record RanJudged {T : Type 0} (limits : Limits) (hearing : Hearing T) (aad : List ℕ)
+pub record RanJudged {T : Type 0} (limits : Bounds) (hearing : Hearing T) (aad : List ℕ)
     (old new : Devices) (status : ℕ) : Type 0 where
   pub on : RanOn limits hearing.allows aad old new status
   pub heard : Heard hearing aad on.ran.steps (status < 2)
@@ -136,7 +136,7 @@ pub record RanJudged {T : Type 0} (limits : Limits) (hearing : Hearing T) (aad :
 -- how the program ends: where KEYS holds a key set, and AADHEX is hex or absent, after a run with
 -- them; else nothing was read and nothing written. KEYS is tested before AADHEX, and AADHEX before
 -- what KEYS holds; memory for these may be refused before the run.
-pub data EndsWithin (limits : Limits) (allows : List KeyFields → Question → Bool)
+pub data EndsWithin (limits : Bounds) (allows : List KeyFields → Question → Bool)
     (keys aad : Option (List ℕ)) (old new : Devices) (status : ℕ) : Type 0 where
   no_file : keys ≡ None → status ≡ 3 → new ≡ old → EndsWithin limits allows keys aad old new status
   not_hex : (b : List ℕ) → keys ≡ Some b → aad_of aad ≡ None → status ≡ 2 → new ≡ old
@@ -157,7 +157,7 @@ Ends allows keys aad old new status = EndsWithin usual allows keys aad old new s
 
 -- how it ends where it is handed the bytes of KEYS, and the external data as bytes: where they hold
 -- a key set after a run with it; else nothing was read and nothing written
-abbrev pub EndsOver : Limits → (List KeyFields → Question → Bool) → List ℕ → List ℕ
+abbrev pub EndsOver : Bounds → (List KeyFields → Question → Bool) → List ℕ → List ℕ
     → Devices → Devices → ℕ → Type 0
 EndsOver limits allows keys aad old new status =
     ((e : CoseFault) × WrongItem WrongKeySet keys e × (status ≡ 3) × (new ≡ old))

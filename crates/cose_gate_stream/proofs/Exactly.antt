@@ -14,7 +14,7 @@ use Rattle.ciborium.proofs.Excludes.{excludes}
 use Rattle.ciborium.proofs.ChildLemmas.{all_count}
 use Rattle.coset_labels.specs.Faults.{CoseFault, unexpected}
 use Rattle.cose_gate_core.specs.Questions.{MessageFields}
-use Rattle.cose_gate_core.specs.Findings.{Limits, judged, barred, shape, IsBarred, IsJudged, plain}
+use Rattle.cose_gate_core.specs.Findings.{Bounds, judged, barred, shape, IsBarred, IsJudged, plain}
 use Rattle.cose_gate_core.proofs.Unique.{finding_once}
 use Rattle.cose_gate_stream.specs.declared.fault.StreamFault.{StreamFault}
 use Rattle.cose_gate_stream.specs.declared.fault.StreamFault.TheVariants as fault
@@ -28,7 +28,7 @@ use Rattle.cose_gate_stream.proofs.Elements.{behind_two}
 stated_first : (b front rest r : List ℕ) (n : ℕ) (h : Header) (s : Stated front n) → b ≡ front ++ rest → Begins b h r → h ≡ Tag s.number
 stated_first b front rest r n h s e t = (split_heads t.title s.tag_title r _ h (Tag s.number) t.is_title s.is_tag (sym t.whole ∙ stated_whole b front rest n s e)).heads
 
-stated_third : (limits : Limits) (b front rest : List ℕ) (n : ℕ) (h : Header) → Stated front n → b ≡ front ++ rest → Opening limits b h → h ≡ Bytes (Some n)
+stated_third : (limits : Bounds) (b front rest : List ℕ) (n : ℕ) (h : Header) → Stated front n → b ≡ front ++ rest → Opening limits b h → h ≡ Bytes (Some n)
 stated_third limits b front rest n h s e o =
     let tail : List ℕ = (s.payload ++ (s.last ++ closing s.count)) ++ rest in
     let a = split_heads o.tag_first.title s.tag_title o.inside (s.array_title ++ (s.headers ++ (s.length_title ++ tail))) (Tag o.number) (Tag s.number) o.tag_first.is_title s.is_tag (sym o.tag_first.whole ∙ stated_whole b front rest n s e) in
@@ -39,7 +39,7 @@ stated_third limits b front rest n h s e o =
     (split_heads o.title.title s.length_title o.behind tail h (Bytes (Some n)) o.title.is_title s.is_length (sym o.title.whole ∙ none)).heads
 
 -- an item of such a tag with a fault is barred
-shape_bars : (limits : Limits) (b : List ℕ) (t : Tree) (e : CoseFault) → IsShapeFault limits b t e → IsBarred limits t shape
+shape_bars : (limits : Bounds) (b : List ℕ) (t : Tree) (e : CoseFault) → IsShapeFault limits b t e → IsBarred limits t shape
 shape_bars limits b t e (inl m) = (e, m)
 shape_bars limits b t e (inr (ts, other, _)) =
     let f = form_by other.number other.is_single in

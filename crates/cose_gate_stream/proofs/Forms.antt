@@ -14,7 +14,7 @@ use Rattle.cose_gate_core.specs.WrongMaced.{WrongMac0, no_array0, in_parts0, in_
 use Rattle.cose_gate_core.specs.WrongMaced as maced
 use Rattle.coset_structures.specs.Structure.{structure}
 use Rattle.cose_gate_core.specs.Questions.{Question, questions, alone}
-use Rattle.cose_gate_core.specs.Findings.{Limits, IsMisshapen, IsJudged, WrongMessage}
+use Rattle.cose_gate_core.specs.Findings.{Bounds, IsMisshapen, IsJudged, WrongMessage}
 use Rattle.cose_gate_stream.specs.declared.form.Form.{Form}
 use Rattle.cose_gate_stream.specs.declared.form.Form.TheVariants as form
 use Rattle.cose_gate_stream.specs.Forms.{tag_number, kind_of, context_of, message_of, received_of}
@@ -37,33 +37,33 @@ single form.Sign1 p u payload s = tt
 single form.Mac0 p u payload s = tt
 
 -- which fault a value has as the message
-abbrev pub WrongForm : Limits → Form → Tree → CoseFault → Type 0
+abbrev pub WrongForm : Bounds → Form → Tree → CoseFault → Type 0
 WrongForm l form.Sign1 u e = WrongSign1 l.nesting u l.layers e
 WrongForm l form.Mac0 u e = WrongMac0 l.nesting u l.layers e
 
-pub shaped : (l : Limits) (f : Form) (t u : Tree) (e : CoseFault) → t ≡ tag (tag_number f) u → WrongForm l f u e → IsMisshapen l t e
+pub shaped : (l : Bounds) (f : Form) (t u : Tree) (e : CoseFault) → t ≡ tag (tag_number f) u → WrongForm l f u e → IsMisshapen l t e
 shaped l f t u e is w = (kind_of f, u, is, wrong f w)
   where
     wrong : (f : Form) → WrongForm l f u e → WrongMessage l (kind_of f) u e
     wrong form.Sign1 w = w
     wrong form.Mac0 w = w
 
-pub no_array : (l : Limits) (f : Form) (u : Tree) → is_array u ≡ false → WrongForm l f u unexpected
+pub no_array : (l : Bounds) (f : Form) (u : Tree) → is_array u ≡ false → WrongForm l f u unexpected
 no_array l form.Sign1 u n = whole.no_array n
 no_array l form.Mac0 u n = no_array0 u l.layers n
 
-pub not_four_items : (l : Limits) (f : Form) (ts : Trees) → tree_count ts ≢ 4 → WrongForm l f (array ts) unexpected
+pub not_four_items : (l : Bounds) (f : Form) (ts : Trees) → tree_count ts ≢ 4 → WrongForm l f (array ts) unexpected
 not_four_items l form.Sign1 ts n = whole.not_as_many ts refl n
 not_four_items l form.Mac0 ts n = maced.not_four ts l.layers n
 
 abbrev pub four_items : Tree → Tree → Tree → Tree → Tree
 four_items a b c d = array (trees (a ∷ b ∷ c ∷ d ∷ []))
 
-pub wrong_parts : (l : Limits) (f : Form) (a b c d : Tree) (e : CoseFault) → WrongParts l.nesting a b c l.layers e → WrongForm l f (four_items a b c d) e
+pub wrong_parts : (l : Bounds) (f : Form) (a b c d : Tree) (e : CoseFault) → WrongParts l.nesting a b c l.layers e → WrongForm l f (four_items a b c d) e
 wrong_parts l form.Sign1 a b c d e w = whole.in_parts a b c (d ∷ []) e refl refl w
 wrong_parts l form.Mac0 a b c d e w = in_parts0 a b c d l.layers e w
 
-pub wrong_last : (l : Limits) (f : Form) (a b c d : Tree) → is_bytes d ≡ false → WrongForm l f (four_items a b c d) unexpected
+pub wrong_last : (l : Bounds) (f : Form) (a b c d : Tree) → is_bytes d ≡ false → WrongForm l f (four_items a b c d) unexpected
 wrong_last l form.Sign1 a b c d n = whole.in_lasts a b c (d ∷ []) unexpected refl refl (inl (n, refl))
 wrong_last l form.Mac0 a b c d n = in_tag0 a b c d l.layers n
 
@@ -73,7 +73,7 @@ form_by n (inl e) = (form.Mac0, e)
 form_by n (inr e) = (form.Sign1, e)
 
 -- the parts of a message make one
-pub judged_of : (l : Limits) (f : Form) (a b : Tree) (p : ProtectedFields) (u : HeaderFields) (payload s : List ℕ) → HasProtected l.nesting a p l.layers → HasHeader l.nesting b u l.layers
+pub judged_of : (l : Bounds) (f : Form) (a b : Tree) (p : ProtectedFields) (u : HeaderFields) (payload s : List ℕ) → HasProtected l.nesting a p l.layers → HasHeader l.nesting b u l.layers
     → IsJudged l (tag (tag_number f) (four_items a b (bytes payload) (bytes s))) (message_of f p u payload s)
 judged_of l form.Sign1 a b p u payload s hp hu = (
   (

@@ -19,7 +19,7 @@ use Rattle.coset_headers.specs.Fields.{HeaderFields, ProtectedFields}
 use Rattle.coset_headers.specs.Headers.{HasProtected, HasHeader}
 use Rattle.cose_gate_core.specs.PartsWritten.{optional_tree}
 use Rattle.cose_gate_core.specs.WrongParts.{in_content}
-use Rattle.cose_gate_core.specs.Findings.{Limits, IsMisshapen}
+use Rattle.cose_gate_core.specs.Findings.{Bounds, IsMisshapen}
 use Rattle.cose_gate_stream.specs.declared.fault.StreamFault.{StreamFault}
 use Rattle.cose_gate_stream.specs.declared.form.Form.{Form}
 use Rattle.cose_gate_stream.specs.Forms.{tag_number}
@@ -33,7 +33,7 @@ use Rattle.cose_gate_stream.proofs.Elements.{append, append_count}
 use Rattle.cose_gate_stream.proofs.Meant.{array_meant, null_meant, message_meant}
 
 -- a value under the tag that is no array of four
-other_shape : (l : Limits) (f : Form) (u : Tree) → ((ts : Trees) → u ≡ array ts → tree_count ts ≢ 4) → WrongForm l f u unexpected
+other_shape : (l : Bounds) (f : Form) (u : Tree) → ((ts : Trees) → u ≡ array ts → tree_count ts ≢ 4) → WrongForm l f u unexpected
 other_shape l f (array ts) n = not_four_items l f ts (n ts refl)
 other_shape l f (integer i) n = no_array l f (integer i) refl
 other_shape l f (bytes b) n = no_array l f (bytes b) refl
@@ -53,7 +53,7 @@ array_title inside r after h ts s st = go st.spells
     go (inl (title, c, p, all, e)) = inl (title_once s.title title r (c ++ after) h (Array (Some (tree_count ts))) s.is_title p (at title c e)).0
     go (inr (title, c, p, all, e)) = inr (title_once s.title title r ((c ++ 255 ∷ []) ++ after) h (Array None) s.is_title p (at title (c ++ 255 ∷ []) e)).0
 
-four_fault : (limits : Limits) → 2 ≤ limits.nesting → (f : Form) (stop : ℕ) (x rest : List ℕ) (w : Why) → Title x (Tag (tag_number f)) → FourFault stop rest w → UnstreamedBy limits stop (x ++ rest) w
+four_fault : (limits : Bounds) → 2 ≤ limits.nesting → (f : Form) (stop : ℕ) (x rest : List ℕ) (w : Why) → Title x (Tag (tag_number f)) → FourFault stop rest w → UnstreamedBy limits stop (x ++ rest) w
 four_fault limits least f stop x rest (damaged e) t d =
     let n = limits.nesting in
     damaged_by stop (x ++ rest) n e (in_tag (x ++ rest) rest n (tag_number f) e (record { title = x; is_title = t; whole = refl }) (omega arith) (inl (not_two f, not_three f)) (in_title rest (n - 1) e d))
@@ -81,7 +81,7 @@ four_fault limits least f stop x rest without_payload t d = absurd d
 four_fault limits least f stop x rest without_length t d = absurd d
 four_fault limits least f stop x rest refused t d = absurd d
 
-pub four_tells : (limits : Limits) → 2 ≤ limits.nesting → {E : Type 0} (ends : E → Bool) (l₀ l₁ : Option (List ℕ)) (o₀ o₁ room : ℕ) (f : Form) (e : StreamFault E) → Moves l₀ l₁ o₀ o₁ (λ (b : List ℕ). Title b (Tag (tag_number f)))
+pub four_tells : (limits : Bounds) → 2 ≤ limits.nesting → {E : Type 0} (ends : E → Bool) (l₀ l₁ : Option (List ℕ)) (o₀ o₁ room : ℕ) (f : Form) (e : StreamFault E) → Moves l₀ l₁ o₀ o₁ (λ (b : List ℕ). Title b (Tag (tag_number f)))
     → Names ends FourFault 0 l₁ o₁ e → Names ends (UnstreamedBy limits) room l₀ o₀ e
 four_tells limits least ends l₀ l₁ o₀ o₁ room f e t k =
     tells_behind ends l₀ l₁ o₀ o₁ 0 room (λ (b : List ℕ). Title b (Tag (tag_number f))) FourFault (UnstreamedBy limits) e t (omega arith) (λ stop x rest w le p d. four_fault limits least f stop x rest w p d) k
@@ -113,7 +113,7 @@ no_string (tag k t) n = refl
 no_string (simple k) n = refl
 no_string (float x) n = refl
 
-payload_shape : (limits : Limits) (f : Form) (o : Option ℕ) (a b : Tree) (rest r : List ℕ) (h : Header) (t : Tree) (e : CoseFault) → Begins rest h r → ((o : Option ℕ) → h ≢ Bytes o) → h ≢ Simple 22 → h ≢ Simple 23
+payload_shape : (limits : Bounds) (f : Form) (o : Option ℕ) (a b : Tree) (rest r : List ℕ) (h : Header) (t : Tree) (e : CoseFault) → Begins rest h r → ((o : Option ℕ) → h ≢ Bytes o) → h ≢ Simple 22 → h ≢ Simple 23
     → Left f o (one_more a (one_more b no_trees)) rest t → e ≡ unexpected → IsMisshapen limits t e
 payload_shape limits f o a b rest r h t e s no_bytes no_null no_undefined l u = go (four_or (tree_count (append two l.means)))
   where
@@ -139,7 +139,7 @@ payload_shape limits f o a b rest r h t e s no_bytes no_null no_undefined l u = 
     go (inr n) = not_four_shape limits f two l.means t e l.is n u
 
 -- the headers were accepted
-module _ (limits : Limits) (f : Form) (o : Option ℕ) (a b : Tree) (p : ProtectedFields) (u : HeaderFields) (first : HasProtected limits.nesting a p limits.layers) (second : HasHeader limits.nesting b u limits.layers) where
+module _ (limits : Bounds) (f : Form) (o : Option ℕ) (a b : Tree) (p : ProtectedFields) (u : HeaderFields) (first : HasProtected limits.nesting a p limits.layers) (second : HasHeader limits.nesting b u limits.layers) where
   opens : (x rest r : List ℕ) (h : Header) → Within limits f o (one_more a (one_more b no_trees)) x → Begins rest h r → Opening limits (x ++ rest) h
   opens x rest r h w s = record {
     number = tag_number f;

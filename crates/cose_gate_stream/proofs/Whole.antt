@@ -23,10 +23,10 @@ use Rattle.coset_headers.specs.declared.header.ProtectedHeader.{ProtectedHeader}
 use Rattle.cose_gate_core.specs.RecipientView.{recipients_view}
 use Rattle.cose_gate_core.specs.CoseRecipient.{CoseRecipient}
 use Rattle.cose_gate_core.specs.Asked.{first_no, folded_over}
-use Rattle.cose_gate_core.specs.Findings.{Limits}
+use Rattle.cose_gate_core.specs.Findings.{Bounds}
 use Rattle.cose_gate_core.specs.Questions.{Question, Subject, alone}
 use Rattle.cose_gate_core.specs.declared.about.About.{About}
-use Rattle.cose_gate_core.specs.declared.about.Kind.{Kind}
+use Rattle.cose_gate_core.specs.declared.about.MessageKind.{MessageKind}
 use Rattle.cose_gate_core.specs.Lent.{subject_of, signer_of}
 use Rattle.cose_gate_core.specs.Received.{received_bytes}
 use Rattle.cose_gate_stream.specs.declared.form.Form.{Form}
@@ -37,7 +37,7 @@ use Rattle.cose_gate_stream.specs.Parts.{IsPart, Split}
 use Rattle.cose_gate_stream.proofs.Forms.{single_tag, single, judged_of, question_of, one_question}
 
 -- the tag of a message, the title of an array, and the elements that are read so far
-pub record Within (limits : Limits) (f : Form) (o : Option ℕ) (done : Trees) (b : List ℕ) : Type 0 where
+pub record Within (limits : Bounds) (f : Form) (o : Option ℕ) (done : Trees) (b : List ℕ) : Type 0 where
   pub tag_title : List ℕ
   pub array_title : List ℕ
   pub inner : List ℕ
@@ -48,7 +48,7 @@ pub record Within (limits : Limits) (f : Form) (o : Option ℕ) (done : Trees) (
   pub whole : b ≡ tag_title ++ (array_title ++ inner)
 
 -- the payload, with its title, and with what P says of its bytes
-pub record Paid (limits : Limits) (f : Form) (o : Option ℕ) (a b : Tree) (n : ℕ) (P : List ℕ → Type 0) (x : List ℕ) : Type 0 where
+pub record Paid (limits : Bounds) (f : Form) (o : Option ℕ) (a b : Tree) (n : ℕ) (P : List ℕ → Type 0) (x : List ℕ) : Type 0 where
   pub front : List ℕ
   pub title : List ℕ
   pub payload : List ℕ
@@ -75,7 +75,7 @@ pub received_is : (p : ProtectedFields) (body : List ℕ) → received_of p ≢ 
 received_is (protected None h) body there is = absurd (there refl)
 received_is (protected (Some b) h) body there is = ap Some (sym is)
 
-module _ (limits : Limits) where
+module _ (limits : Bounds) where
   pub within_start : (l₀ l₁ l₂ : Option (List ℕ)) (o₀ o₁ o₂ : ℕ) (f : Form) (o : Option ℕ) → Moves l₀ l₁ o₀ o₁ (λ (b : List ℕ). Title b (Tag (tag_number f))) → Moves l₁ l₂ o₁ o₂ (λ (b : List ℕ). Title b (Array o)) → IsFour o
       → Moves l₀ l₂ o₀ o₂ (Within limits f o no_trees)
   within_start l₀ l₁ l₂ o₀ o₁ o₂ f o t a four =
@@ -139,7 +139,7 @@ first_alone : (b : Bool) → b ≡ is_none (cond b (option_map (λ (n : ℕ). n 
 first_alone true = refl
 first_alone false = refl
 
-pub checked : {T : Type 0} (limits : Limits) → 2 ≤ limits.nesting → (decided : T → Question → T) (allows : Question → Bool) (aad body : List ℕ) (told told' : T) (room : ℕ) (lengths : List ℕ) (says : Bool) (l₀ l₁ l₂ l₃ : Option (List ℕ)) (o₀ o₁ o₂ o₃ n : ℕ) (f : Form) (o : Option ℕ) (a b : Tree)
+pub checked : {T : Type 0} (limits : Bounds) → 2 ≤ limits.nesting → (decided : T → Question → T) (allows : Question → Bool) (aad body : List ℕ) (told told' : T) (room : ℕ) (lengths : List ℕ) (says : Bool) (l₀ l₁ l₂ l₃ : Option (List ℕ)) (o₀ o₁ o₂ o₃ n : ℕ) (f : Form) (o : Option ℕ) (a b : Tree)
     (p : ProtectedFields) (h : HeaderFields) (s : List ℕ) (P : List ℕ → Type 0) → HasProtected limits.nesting a p limits.layers → HasHeader limits.nesting b h limits.layers → received_of p ≡ Some body → InPieces n room lengths
     → ((payload : List ℕ) → length payload ≡ n → P payload → (says ≡ allows (question_of f p h body aad payload s)) × (told' ≡ decided told (question_of f p h body aad payload s)))
     → Moves l₀ l₁ o₀ o₁ (Paid limits f o a b n P) → Moves l₁ l₂ o₁ o₂ (λ (x : List ℕ). Reads x (limits.nesting - 2) (bytes s)) → Moves l₂ l₃ o₂ o₃ (λ (x : List ℕ). x ≡ closing o)
@@ -200,10 +200,10 @@ checked limits two_below decided allows aad body told told' room lengths says l�
         }
 
 -- what the judge is told of the message
-pub subject_is : (a : About) (k : Kind) (p : ProtectedHeader) (h : Header) → a.kind ≡ k → a.protected.now ≡ p → a.unprotected.now ≡ h → a.signer ≡ None → a.recipients.now ≡ []
+pub subject_is : (a : About) (k : MessageKind) (p : ProtectedHeader) (h : Header) → a.kind ≡ k → a.protected.now ≡ p → a.unprotected.now ≡ h → a.signer ≡ None → a.recipients.now ≡ []
     → subject_of a ≡ alone k (protected_view p) (header_view h)
 subject_is a k p h ek ep eh es er =
-    let made : Kind → ProtectedHeader → Header → Option (Bor ProtectedHeader × Bor Header) → List CoseRecipient → Subject =
+    let made : MessageKind → ProtectedHeader → Header → Option (Bor ProtectedHeader × Bor Header) → List CoseRecipient → Subject =
     λ k p h s r. record { kind = k; protected = protected_view p; unprotected = header_view h; signer = signer_of s; recipients = recipients_view r } in
     ap (λ z. made z a.protected.now a.unprotected.now a.signer a.recipients.now) ek ∙ ap (λ z. made k z a.unprotected.now a.signer a.recipients.now) ep
     ∙ ap (λ z. made k p z a.signer a.recipients.now) eh ∙ ap (λ z. made k p h z a.recipients.now) es ∙ ap (λ z. made k p h None z) er

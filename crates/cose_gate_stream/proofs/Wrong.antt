@@ -21,7 +21,7 @@ use Rattle.ciborium.proofs.ChildLemmas.{all_count, title_no_break, begun_no_brea
 use Rattle.coset_labels.specs.Faults.{CoseFault, unexpected}
 use Rattle.coset_headers.specs.Wrong.{WrongProtected, WrongHeader}
 use Rattle.cose_gate_core.specs.WrongParts.{in_protected, in_unprotected}
-use Rattle.cose_gate_core.specs.Findings.{Limits, IsMisshapen}
+use Rattle.cose_gate_core.specs.Findings.{Bounds, IsMisshapen}
 use Rattle.cose_gate_stream.specs.declared.fault.StreamFault.{StreamFault}
 use Rattle.cose_gate_stream.specs.declared.form.Form.{Form}
 use Rattle.cose_gate_stream.specs.Forms.{tag_number}
@@ -59,7 +59,7 @@ four_or n = go (nat_eq n 4) refl
 
 -- an element that is wrong in its place: where there are four elements the message has this fault, and where there are more or fewer it
 -- is that of a header, or the one of their number
-abbrev pub Place : Limits → Form → Trees → (CoseFault → Tree → Type 0) → Type 0
+abbrev pub Place : Bounds → Form → Trees → (CoseFault → Tree → Type 0) → Type 0
 Place limits f done W = (e : CoseFault) (v : Tree) (ms : Trees) → W e v
     → (tree_count (append done (one_more v ms)) ≡ 4 → WrongForm limits f (array (append done (one_more v ms))) e)
     × ((e ≡ unexpected) ⊎ IsHeaderFault limits (append done (one_more v ms)) e)
@@ -83,7 +83,7 @@ pub short_tells_part : {E : Type 0} (k : ℕ) (ends : E → Bool) (l₀ l₁ : O
     → Names ends (λ stop b. ShortFault n b) room l₁ o₁ e → Names ends (PartFault k NoneWrong) room l₀ o₀ e
 short_tells_part k ends l₀ l₁ o₀ o₁ n room e t names = tells_behind ends l₀ l₁ o₀ o₁ room room (λ (b : List ℕ). Title b (Bytes (Some n))) (λ stop b. ShortFault n b) (PartFault k NoneWrong) e t (omega arith) (λ stop x rest w le p d. short_fault k n stop x rest w p d) names
 
-module _ (limits : Limits) where
+module _ (limits : Bounds) where
   -- the first title
   pub first_fault : (stop : ℕ) (b : List ℕ) (w : Why) → TagFault stop b w → UnstreamedBy limits stop b w
   first_fault stop b (damaged f) d = damaged_by stop b limits.nesting f (in_title b limits.nesting f d)

@@ -6,12 +6,12 @@ use Rattle.coset_structures.specs.Contexts.{signature_text, mac_text}
 use Rattle.coset_structures.specs.declared.context.SignatureContext.TheVariants.{CoseSign1}
 use Rattle.coset_structures.specs.declared.context.MacContext.TheVariants.{CoseMac0}
 use Rattle.cose_gate_core.specs.Questions.{MessageFields, sign1, mac0, number_of}
-use Rattle.cose_gate_core.specs.declared.about.Kind.{Kind}
-use Rattle.cose_gate_core.specs.declared.about.Kind.TheVariants as kind
+use Rattle.cose_gate_core.specs.declared.about.MessageKind.{MessageKind}
+use Rattle.cose_gate_core.specs.declared.about.MessageKind.TheVariants as kind
 use Rattle.cose_gate_stream.specs.declared.form.Form.{Form}
 use Rattle.cose_gate_stream.specs.declared.form.Form.TheVariants as form
 
-abbrev pub kind_of : Form → Kind
+abbrev pub kind_of : Form → MessageKind
 kind_of form.Sign1 = kind.Sign1
 kind_of form.Mac0 = kind.Mac0
 

@@ -19,14 +19,14 @@ use Rattle.coset_labels.specs.declared.error.CoseError.{CoseError}
 use Rattle.coset_labels.specs.declared.error.CoseError.TheVariants as cose
 use Rattle.cose_gate_core.specs.Questions.{Question, MessageFields, questions}
 use Rattle.cose_gate_core.specs.Asked.{first_no, folded_over}
-use Rattle.cose_gate_core.specs.Findings.{Limits, usual, IsJudged, IsMisshapen}
+use Rattle.cose_gate_core.specs.Findings.{Bounds, usual, IsJudged, IsMisshapen}
 use Rattle.cose_gate_stream.specs.Stated.{IsSingleTag, IsSingle, IsFour, Stated, InPieces}
 use Rattle.cose_gate_stream.specs.declared.fault.StreamFault.{StreamFault}
 use Rattle.cose_gate_stream.specs.declared.fault.StreamFault.TheVariants as fault
 
 -- the bytes are one message of a stated length within these limits that was asked about: the
 -- answer, what the judge was told, and the lengths of the pieces that it was fed
-pub record CheckedBy {T : Type 0} (limits : Limits) (decided : T → Question → T)
+pub record CheckedBy {T : Type 0} (limits : Bounds) (decided : T → Question → T)
     (allows : Question → Bool) (aad : List ℕ) (told told' : T) (room : ℕ) (lengths : List ℕ)
     (yes : Bool) (b : List ℕ) : Type 0 where
   pub item : Tree
@@ -95,7 +95,7 @@ NamesWhy ends D room old f =
 
 -- the bytes begin with a tag of such a message, an array of four, a protected header, a header, and
 -- a title of h; the tag and the array stand open round the headers
-pub record Opening (limits : Limits) (b : List ℕ) (h : Header) : Type 0 where
+pub record Opening (limits : Bounds) (b : List ℕ) (h : Header) : Type 0 where
   pub number : ℕ
   pub inside : List ℕ
   pub items : List ℕ
@@ -127,7 +127,7 @@ pub record IsOtherCount (b : List ℕ) (t : Tree) (elements : Trees) : Type 0 wh
   pub other : tree_count elements ≢ 4
 
 -- a fault of the first element as a protected header, or of the second as a header
-abbrev pub IsHeaderFault : Limits → Trees → CoseFault → Type 0
+abbrev pub IsHeaderFault : Bounds → Trees → CoseFault → Type 0
 IsHeaderFault limits no_trees e = ⊥
 IsHeaderFault limits (one_more a no_trees) e = WrongProtected limits.nesting a limits.layers e
 IsHeaderFault limits (one_more a (one_more b ts)) e =
@@ -135,7 +135,7 @@ IsHeaderFault limits (one_more a (one_more b ts)) e =
 
 -- a fault that the item has as a message of its tag. Where an open array ends at another length,
 -- that is seen behind its headers, and so a fault of one of these may be named in its place.
-abbrev pub IsShapeFault : Limits → List ℕ → Tree → CoseFault → Type 0
+abbrev pub IsShapeFault : Bounds → List ℕ → Tree → CoseFault → Type 0
 IsShapeFault limits b t e =
     IsMisshapen limits t e
     ⊎ ((elements : Trees) × IsOtherCount b t elements × IsHeaderFault limits elements e)
@@ -147,7 +147,7 @@ IsBegun b = (n : ℕ) × (rest : List ℕ) × Begins b (Tag n) rest × IsSingleT
 -- why the bytes are no message that is checked within these limits. Of a fault of shape it is open
 -- which of those that the item has is named, and where no item is readable it says no more than
 -- want of memory does: that a message was begun.
-abbrev pub UnstreamedBy : Limits → ℕ → List ℕ → Why → Type 0
+abbrev pub UnstreamedBy : Bounds → ℕ → List ℕ → Why → Type 0
 UnstreamedBy limits stop b (damaged f) = Damaged stop b limits.nesting f
 UnstreamedBy limits stop b untagged =
     (h : Header) × (rest : List ℕ) × Begins b h rest × ((n : ℕ) → h ≢ Tag n)
@@ -210,7 +210,7 @@ Answered ends long (Err fault.Unsized) = ⊥
 Answered ends long (Err fault.Memory) = Unit {0}
 
 -- where a judged message of a stated length begins, nothing but Ok is due
-abbrev pub AnswersStatedBy : {E : Type 0} → Limits → (E → Bool) → ℕ → Seen
+abbrev pub AnswersStatedBy : {E : Type 0} → Bounds → (E → Bool) → ℕ → Seen
     → Result Bool (StreamFault E) → Type 0
 AnswersStatedBy limits ends room old result =
     IfKnown old.left (λ b. (item : Tree) (front rest : List ℕ) (message : MessageFields) (size : ℕ)

@@ -4,7 +4,7 @@ ghost use Rattle.coset_structures.specs.Structure.{structure, behind_prefix};
 ghost use Rattle.cose_gate_stream.specs.Forms.{tag_number, kind_of, context_of};
 ghost use Rattle.cose_gate_stream.specs.Stated.{IsSingleTag};
 
-use cose_gate_core::Kind;
+use cose_gate_core::MessageKind;
 use coset_labels::TaggedCborSerializable;
 use coset_maced::CoseMac0;
 use coset_signed::CoseSign1;
@@ -34,12 +34,12 @@ pub fn form_of(number: u64) -> Option<Form>
 
 impl Form {
     /// What a judge is told that it is.
-    pub fn kind(self) -> Kind
+    pub fn kind(self) -> MessageKind
         ensures { result ≡ kind_of self }
     {
         match self {
-            Form::Sign1 => Kind::Sign1,
-            Form::Mac0 => Kind::Mac0,
+            Form::Sign1 => MessageKind::Sign1,
+            Form::Mac0 => MessageKind::Mac0,
         }
     }
 

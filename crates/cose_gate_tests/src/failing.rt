@@ -1,6 +1,6 @@
 //! Readers and writers that fail in mid-stream.
 use crate::memory::{INPUT, OUTPUT};
-use crate::seen::{Answer, Seen, Way, answered_by, reached, run, same, ways, whole};
+use crate::seen::{Answer, Observed, Way, answered_by, reached, run, same, ways, whole};
 use ciborium::de;
 use cose_gate::{Counts, End, GateFault, Io, Recorder, Silent};
 use std::alloc::Global;
@@ -96,7 +96,7 @@ fn bytes_may_come_one_by_one(rt: HostRuntime) {
 }
 
 /// A run over two messages with a value between them whose writer fails at one call, the one after so many.
-fn torn(alloc: Global, way: Way, calls: usize) -> Seen<End> {
+fn torn(alloc: Global, way: Way, calls: usize) -> Observed<End> {
     let mut out = Sink::new(alloc, calls);
     let mut entries = Vec::new(alloc);
     let mut recorder = Recorder::new(alloc, None);
@@ -109,7 +109,7 @@ fn torn(alloc: Global, way: Way, calls: usize) -> Seen<End> {
         &[],
         &mut recorder,
     );
-    Seen {
+    Observed {
         recorder,
         output: out.bytes,
         entries,

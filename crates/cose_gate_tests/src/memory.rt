@@ -1,6 +1,6 @@
 //! Memory that is refused to the judge, to the report, and to the run.
-use crate::seen::{Answer, Seen, answered, reached, same, whole};
-use cose_gate::{Asked, End, Entry, GateFault, Kind, Mem, Recorder, Refusal, Verdict};
+use crate::seen::{Answer, Observed, answered, reached, same, whole};
+use cose_gate::{Asked, End, Entry, GateFault, Mem, MessageKind, Recorder, Refusal, Verdict};
 use std::alloc::Global;
 use std::process::Abort;
 use test_tools::Nth;
@@ -44,7 +44,7 @@ const NOTED: [Entry; 3] = [
 
 /// Whether the question is the one about each of the messages.
 fn is_expected(asked: &Asked) -> bool {
-    asked.kind == Kind::Sign1
+    asked.kind == MessageKind::Sign1
         && asked.structure.as_slice() == STRUCTURE
         && asked.tag_len == 3
         && asked.tag == [1, 2, 3, 0, 0, 0, 0, 0]
@@ -98,7 +98,7 @@ fn refused_memory_is_the_answer(rt: HostRuntime) {
 }
 
 /// A run over this input, where the judge and the report are refused memory once, after so many calls.
-fn refused(alloc: Global, input: &[u8], judge_calls: usize, report_calls: usize) -> Seen<End> {
+fn refused(alloc: Global, input: &[u8], judge_calls: usize, report_calls: usize) -> Observed<End> {
     let mut judge = Nth {
         inner: Recorder::new(alloc, None),
         calls: judge_calls,
@@ -109,7 +109,7 @@ fn refused(alloc: Global, input: &[u8], judge_calls: usize, report_calls: usize)
     };
     let mut out = Mem::new(Vec::new(alloc));
     let answer = answered(alloc, input, &mut out, &mut report, &[], &mut judge);
-    Seen {
+    Observed {
         recorder: judge.inner,
         output: out.into_inner(),
         entries: report.inner,
@@ -162,7 +162,7 @@ const COVERED: &[u8] = &[
 
 /// Whether the question is the one about its first signature, h'00'.
 fn is_first(asked: &Asked) -> bool {
-    asked.kind == Kind::Sign
+    asked.kind == MessageKind::Sign
         && asked.structure.as_slice() == COVERED
         && asked.tag_len == 1
         && asked.tag == [0; 8]

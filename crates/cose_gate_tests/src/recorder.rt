@@ -1,12 +1,12 @@
 //! A recorder that is refused memory, at each allocation in turn (`scripts/fail-alloc.sh`).
-use cose_gate::{About, Header, Judge, Kind, ProtectedHeader, Recorder};
+use cose_gate::{About, Header, Judge, MessageKind, ProtectedHeader, Recorder};
 
 #[test]
 fn refused_memory_leaves_a_recorders_question(rt: HostRuntime) {
     let alloc = rt.alloc();
     let protected = ProtectedHeader::new(alloc);
     let unprotected = Header::new(alloc);
-    let about = About::alone(Kind::Mac0, &protected, &unprotected);
+    let about = About::alone(MessageKind::Mac0, &protected, &unprotected);
     let mut recorder = Recorder::new(alloc, None);
     for _ in 0..8 {
         let before = recorder.asked().len();
@@ -25,6 +25,6 @@ fn refused_memory_leaves_a_recorders_question(rt: HostRuntime) {
         };
         let asked = recorder.asked().last().expect(&rt, "the question");
         assert_eq!(rt; asked.structure.as_slice(), want);
-        assert_eq!(rt; (asked.kind, asked.tag_len), (Kind::Mac0, 1));
+        assert_eq!(rt; (asked.kind, asked.tag_len), (MessageKind::Mac0, 1));
     }
 }

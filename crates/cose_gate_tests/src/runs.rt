@@ -1,6 +1,8 @@
 //! Long inputs, and what a judge is told of a message that stands alone.
 use crate::seen::{MESSAGE, Way, answered, run, same, whole};
-use cose_gate::{About, Entry, Header, Kind, Mem, ProtectedHeader, Recorder, Silent, Verdict};
+use cose_gate::{
+    About, Entry, Header, Mem, MessageKind, ProtectedHeader, Recorder, Silent, Verdict,
+};
 use std::alloc::Global;
 use std::process::Abort;
 
@@ -8,8 +10,8 @@ use std::process::Abort;
 fn a_message_stands_alone(rt: HostRuntime) {
     let protected = ProtectedHeader::new(rt.alloc());
     let unprotected = Header::new(rt.alloc());
-    let about = About::alone(Kind::Mac0, &protected, &unprotected);
-    assert!(rt; about.kind == Kind::Mac0 && about.kind != Kind::Mac);
+    let about = About::alone(MessageKind::Mac0, &protected, &unprotected);
+    assert!(rt; about.kind == MessageKind::Mac0 && about.kind != MessageKind::Mac);
     assert!(rt; about.signer.is_none() && about.recipients.is_empty());
 }
 

@@ -70,7 +70,7 @@ pub fn answered<R: Read + Drop, W: Write, P: Report, J: Judge>(
 
 /// What a run asked, wrote, noted and answered.
 #[derive(Drop)]
-pub struct Seen<E> {
+pub struct Observed<E> {
     pub recorder: Recorder,
     pub output: Vec<u8>,
     pub entries: Vec<Entry>,
@@ -78,7 +78,7 @@ pub struct Seen<E> {
 }
 
 /// A run by this call over what this reader gives, with a judge that says yes to each signature.
-pub fn run<R: Read + Drop>(alloc: Global, way: Way, reader: R) -> Seen<R::Error> {
+pub fn run<R: Read + Drop>(alloc: Global, way: Way, reader: R) -> Observed<R::Error> {
     let mut recorder = Recorder::new(alloc, None);
     let mut out = Mem::new(Vec::new(alloc));
     let mut entries = Vec::new(alloc);
@@ -91,7 +91,7 @@ pub fn run<R: Read + Drop>(alloc: Global, way: Way, reader: R) -> Seen<R::Error>
         &[],
         &mut recorder,
     );
-    Seen {
+    Observed {
         recorder,
         output: out.into_inner(),
         entries,
@@ -100,7 +100,7 @@ pub fn run<R: Read + Drop>(alloc: Global, way: Way, reader: R) -> Seen<R::Error>
 }
 
 /// How far a run came: its questions, bytes and entries.
-pub fn reached<E>(seen: &Seen<E>) -> (usize, usize, usize) {
+pub fn reached<E>(seen: &Observed<E>) -> (usize, usize, usize) {
     (
         seen.recorder.asked().len(),
         seen.output.len(),

@@ -28,7 +28,8 @@ impl HmacSha256 {
 
     /// Feeds the next piece of the text.
     pub fn update(&mut self, piece: &[u8])
-        ensures { (key text : List ℕ) → Holds self.old key text → Holds self.new key (text ++ piece.now) }
+        ensures { (key text : List ℕ) → Holds self.old key text
+            → Holds self.new key (text ++ piece.now) }
     {
         self.inner.update(piece);
     }

@@ -17,7 +17,8 @@ pub trait EnumI64: Copy + Ord {
     /// The entry with this number, or none where the registry has no such number.
     fn from_i64(i: i64) -> Option<Self>
         ensures entry { result ≡ entry i }
-        ensures found { MatchOption result (is_registered i ≡ false) (λ x. (number x ≡ i) × (is_registered i ≡ true)) };
+        ensures found { MatchOption result (is_registered i ≡ false)
+            (λ x. (number x ≡ i) × (is_registered i ≡ true)) };
 
     /// The number of this entry.
     fn to_i64(self) -> i64
@@ -28,7 +29,8 @@ pub trait EnumI64: Copy + Ord {
     ghost there_and_back: { (x : Self) → entry (number x) ≡ Some x };
 
     /// The entry with a number has that number, and there is none exactly where the registry has no such number.
-    ghost back_and_there: { (i : ℤ) → MatchOption (entry i) (is_registered i ≡ false) (λ x. (number x ≡ i) × (is_registered i ≡ true)) };
+    ghost back_and_there: { (i : ℤ) → MatchOption (entry i) (is_registered i ≡ false)
+        (λ x. (number x ≡ i) × (is_registered i ≡ true)) };
 
     /// The order is that of the numbers.
     ghost in_order: { (x y : Self) → Self.cmp x y ≡ int_cmp (number x) (number y) };
@@ -44,7 +46,8 @@ pub trait WithPrivateRange: EnumI64 {
         ensures { result ≡ is_private_number i };
 
     /// No entry of the registry has a number for private use.
-    ghost no_entry_is_private: { (i : ℤ) → is_private_number i ≡ true → Self.is_registered i ≡ false };
+    ghost no_entry_is_private: { (i : ℤ) → is_private_number i ≡ true
+        → Self.is_registered i ≡ false };
 }
 
 /// The entry in the row with this number.

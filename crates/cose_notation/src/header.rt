@@ -1,7 +1,7 @@
 //! Headers and claims, with their registered names.
 use crate::line::{begin_line, write_bytes, write_len};
 use crate::names::{algorithm, claim, content_format, parameter};
-use crate::parts::{Parts, entries, integer, is_bytes, joined};
+use crate::parts::{Members, entries, integer, is_bytes, joined};
 use cbor_diag::{NotWritten, Style, item_len, write_item};
 use std::alloc::Global;
 use std::fmt;
@@ -103,7 +103,7 @@ pub fn show_entries<P: fmt::Write>(
 /// Shows the next entry, where there is one.
 fn show_entry<P: fmt::Write>(
     alloc: Global,
-    parts: &mut Parts<'_>,
+    parts: &mut Members<'_>,
     level: usize,
     labels: Labels,
     first: bool,

@@ -2,7 +2,7 @@
 use crate::header::{Labels, name_of as label_name, value_name};
 use crate::json::{write_hex_text, write_name, write_notation, write_word};
 use crate::message::{Form, Part, message_of, name_of};
-use crate::parts::{Parts, entries, integer, is_bytes, is_null, items, joined};
+use crate::parts::{Members, entries, integer, is_bytes, is_null, items, joined};
 use crate::payload::has_claims;
 use cbor_diag::NotWritten;
 use std::alloc::Global;
@@ -33,7 +33,7 @@ pub fn write_message<P: fmt::Write>(
 fn write_parts<P: fmt::Write>(
     alloc: Global,
     form: Form,
-    parts: &mut Parts<'_>,
+    parts: &mut Members<'_>,
     page: &mut P,
 ) -> Result<(), NotWritten> {
     write_headers(alloc, parts, page)?;
@@ -49,7 +49,7 @@ fn write_parts<P: fmt::Write>(
 /// Writes the two headers.
 fn write_headers<P: fmt::Write>(
     alloc: Global,
-    parts: &mut Parts<'_>,
+    parts: &mut Members<'_>,
     page: &mut P,
 ) -> Result<(), NotWritten> {
     if let Some(item) = parts.next()? {

@@ -1,7 +1,7 @@
 //! What a COSE message holds (RFC 9052).
 use crate::header::{show_map, show_protected};
 use crate::line::{begin_line, write_bytes};
-use crate::parts::{Parts, is_bytes, is_null, items, joined, tagged};
+use crate::parts::{Members, is_bytes, is_null, items, joined, tagged};
 use crate::payload::show_payload;
 use cbor_diag::{NotWritten, Style, write_item};
 use std::alloc::Global;
@@ -114,7 +114,7 @@ pub fn show_message<P: fmt::Write>(
 fn show_parts<P: fmt::Write>(
     alloc: Global,
     form: Form,
-    parts: &mut Parts<'_>,
+    parts: &mut Members<'_>,
     page: &mut P,
 ) -> Result<(), NotWritten> {
     show_headers(alloc, parts, 2, page)?;
@@ -133,7 +133,7 @@ fn show_parts<P: fmt::Write>(
 /// Items that have no place in the message.
 fn show_more<P: fmt::Write>(
     alloc: Global,
-    parts: &mut Parts<'_>,
+    parts: &mut Members<'_>,
     level: usize,
     page: &mut P,
 ) -> Result<(), NotWritten> {
@@ -149,7 +149,7 @@ fn show_more<P: fmt::Write>(
 /// The two headers.
 fn show_headers<P: fmt::Write>(
     alloc: Global,
-    parts: &mut Parts<'_>,
+    parts: &mut Members<'_>,
     level: usize,
     page: &mut P,
 ) -> Result<(), NotWritten> {

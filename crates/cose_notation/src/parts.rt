@@ -5,13 +5,13 @@ use std::alloc::Global;
 
 /// The items of an array, or the keys and values of a map, one after another.
 #[derive(Drop)]
-pub struct Parts<'a> {
+pub struct Members<'a> {
     alloc: Global,
     rest: &'a [u8],
     left: usize,
 }
 
-impl<'a> Parts<'a> {
+impl<'a> Members<'a> {
     /// The next one. Of bytes that are cut there is none.
     ///
     /// # Errors
@@ -54,10 +54,10 @@ pub fn header_of(item: &[u8]) -> Option<Header> {
 }
 
 /// The items of an array.
-pub fn items(alloc: Global, item: &[u8]) -> Option<Parts<'_>> {
+pub fn items(alloc: Global, item: &[u8]) -> Option<Members<'_>> {
     match head_of(item) {
         Ok(head) => match head.header {
-            Header::Array(count) => Some(Parts {
+            Header::Array(count) => Some(Members {
                 alloc,
                 rest: behind(item, head.len),
                 left: count.unwrap_or(usize::MAX),
@@ -69,10 +69,10 @@ pub fn items(alloc: Global, item: &[u8]) -> Option<Parts<'_>> {
 }
 
 /// The keys and values of a map, in turns.
-pub fn entries(alloc: Global, item: &[u8]) -> Option<Parts<'_>> {
+pub fn entries(alloc: Global, item: &[u8]) -> Option<Members<'_>> {
     match head_of(item) {
         Ok(head) => match head.header {
-            Header::Map(count) => Some(Parts {
+            Header::Map(count) => Some(Members {
                 alloc,
                 rest: behind(item, head.len),
                 left: count.map_or(usize::MAX, |count| count.saturating_mul(2)),

@@ -92,7 +92,8 @@ impl HeaderBuilder {
     pub fn add_critical(self, label: iana::HeaderParameter) -> Result<HeaderBuilder, CoseError>
         ensures { MatchResult result (λ b. header_so_far b
             ≡ given (λ p. record p
-            { crit = p.crit ++ assigned (header_parameters.number label) ∷ [] }) (header_so_far self))
+            { crit = p.crit ++ assigned (header_parameters.number label) ∷ [] })
+            (header_so_far self))
             (λ e. e ≡ Memory) }
     {
         self.add_critical_label(RegisteredLabelWithPrivate::Assigned(label))
@@ -108,7 +109,8 @@ impl HeaderBuilder {
     ) -> Result<HeaderBuilder, CoseError>
         ensures { MatchResult result (λ b. header_so_far b
             ≡ given (λ p. record p
-            { crit = p.crit ++ named_view header_parameters.number label ∷ [] }) (header_so_far self))
+            { crit = p.crit ++ named_view header_parameters.number label ∷ [] })
+            (header_so_far self))
             (λ e. e ≡ Memory) }
     {
         self.crit.push(label)?;
@@ -203,7 +205,8 @@ impl HeaderBuilder {
     pub fn text_value(mut self, label: String, value: Value) -> Result<HeaderBuilder, CoseError>
         ensures { MatchResult result (λ b. header_so_far b
             ≡ given (λ p. record p
-            { rest = p.rest ++ (words (string_bytes label), view value) ∷ [] }) (header_so_far self))
+            { rest = p.rest ++ (words (string_bytes label), view value) ∷ [] })
+            (header_so_far self))
             (λ e. e ≡ Memory) }
     {
         self.rest.push((Label::Text(label), value))?;

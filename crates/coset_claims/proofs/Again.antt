@@ -6,8 +6,9 @@ use Rattle.cose_iana.specs.Registry.{is_private_use}
 use Rattle.ciborium_value.specs.Tree.{Tree, integer, bytes, text, array, map as map_tree, tag, simple, float, Pairs, no_pairs, pair_more}
 use Rattle.ciborium_value.specs.View.{pairs}
 use Rattle.coset_labels.specs.Entries.{IsIn, Distinct}
+use Rattle.coset_labels.specs.Facts.Back.{named_back}
 use Rattle.coset_labels.specs.Facts.Entries.{kept, distinct_others}
-use Rattle.coset_labels.specs.Fields.{Named, private_use, assigned, named}
+use Rattle.coset_labels.specs.Fields.{Named, assigned}
 use Rattle.coset_labels.specs.Labels.{is_i64, named_tree}
 use Rattle.coset_claims.specs.Fields.{TimeFields, whole_seconds, fractional_seconds, ClaimsFields}
 use Rattle.coset_claims.specs.Claims.{is_at, is_core, name_of, text_of, time_of, bytes_of, entries, at, others, IsField, IsClaims, HasClaims}
@@ -15,22 +16,6 @@ use Rattle.coset_claims.specs.Written.{time_tree, field_entry, written_entries, 
 use Rattle.coset_claims.proofs.Entered.{is_at_is, no_core}
 
 -- ---- what is read of a value is written as that value
-number_back : (small registered private : Bool) (i : ℤ) (m : Named) → cond small (cond registered (Some (assigned i)) (cond private (Some (private_use i)) None)) None ≡ Some m → named_tree m ≡ integer i
-number_back true true p i m e = let h : Some (assigned i) ≡ Some m = e in let k : assigned i ≡ m = cc in ap named_tree (sym k)
-number_back true false true i m e = let h : Some (private_use i) ≡ Some m = e in let k : private_use i ≡ m = cc in ap named_tree (sym k)
-number_back true false false i m e = let h : None ≡ Some m = e in cc
-number_back false r p i m e = let h : None ≡ Some m = e in cc
-
-name_back : (l : Tree) (m : Named) → name_of l ≡ Some m → named_tree m ≡ l
-name_back (integer i) m e = number_back (is_i64 i) (cwt_claim_names.is_registered i) (is_private_use i) i m e
-name_back (text b) m e = let h : Some (named b) ≡ Some m = e in let k : named b ≡ m = cc in ap named_tree (sym k)
-name_back (bytes b) m e = let h : None ≡ Some m = e in cc
-name_back (array ts) m e = let h : None ≡ Some m = e in cc
-name_back (map_tree ps) m e = let h : None ≡ Some m = e in cc
-name_back (tag n t) m e = let h : None ≡ Some m = e in cc
-name_back (simple n) m e = let h : None ≡ Some m = e in cc
-name_back (float f) m e = let h : None ≡ Some m = e in cc
-
 text_back : (t : Tree) (b : List ℕ) → text_of t ≡ Some b → text b ≡ t
 text_back (text c) b e = let h : Some c ≡ Some b = e in let k : c ≡ b = cc in ap text (sym k)
 text_back (integer i) b e = let h : None ≡ Some b = e in cc
@@ -80,7 +65,7 @@ Names [] = Unit {0}
 Names (e ∷ es) = (name_of (named_tree e.0) ≡ Some e.0) × Names es
 
 name_again : (l : Tree) (m : Named) → name_of l ≡ Some m → name_of (named_tree m) ≡ Some m
-name_again l m e = ap name_of (name_back l m e) ∙ e
+name_again l m e = ap name_of (named_back cwt_claim_names.is_registered is_private_use l m e) ∙ e
 
 names_step : (l v : Tree) (o : Option Named) (w : Option (List (Named × Tree))) (es : List (Named × Tree)) → name_of l ≡ o → ((fs : List (Named × Tree)) → w ≡ Some fs → Names fs)
     → option_and_then (λ m. option_map (λ es. (m, v) ∷ es) w) o ≡ Some es → Names es

@@ -10,7 +10,7 @@ use Rattle.coset_labels.specs.Fields.{Named}
 use Rattle.coset_labels.specs.Faults.{CoseFault, OrMemory, fault_of, unexpected}
 use Rattle.coset_labels.specs.Kinds.{is_map}
 use Rattle.coset_labels.specs.declared.error.CoseError.{CoseError}
-use Rattle.coset_labels.specs.declared.seen.Seen.{Seen}
+use Rattle.coset_labels.specs.declared.seen_labels.SeenLabels.{SeenLabels}
 use Rattle.coset_claims.specs.Claims.{name_of, entries, IsClaims, HasClaims}
 use Rattle.coset_claims.specs.Fields.{ClaimsFields, no_claims}
 use Rattle.coset_claims.specs.Steps.{Fills, ClaimName, Sees, KnownIn, Added, HasEntries}
@@ -29,7 +29,7 @@ entry_name es l v e w = passed_on (WrongName l) (WrongEntry es l v) e (λ x. bad
 pub entry_field : (es : List (Named × Tree)) (l v : Tree) (m : Named) (e : CoseError) → name_of l ≡ Some m → OrMemory (WrongField v m) e → OrMemory (WrongEntry es l v) e
 entry_field es l v m e q w = passed_on (WrongField v m) (WrongEntry es l v) e (λ x. bad_field m (fault_of e) q x) w
 
-pub known_filled : (es : List (Named × Tree)) (l v : Tree) (s r : Seen ClaimName) (old new : ClaimsSet) (m : Named)
+pub known_filled : (es : List (Named × Tree)) (l v : Tree) (s r : SeenLabels ClaimName) (old new : ClaimsSet) (m : Named)
     → KnownIn es s old → name_of l ≡ Some m → (IsIn m es → ⊥) → ((v : Tree) → Sees r (es ++ (m, v) ∷ [])) → Fills m v (claims_view old) (claims_view new) → Added es l v r new
 known_filled es l v s r old new m w q d z f = record {
   name = m;
@@ -54,9 +54,9 @@ claims_inside t ps e q w = passed_on (WrongEntries ps) (WrongClaims t) e (λ x. 
 pub claims_have : (t : Tree) (ps : Pairs) (c : ClaimsFields) → t ≡ map_tree ps → HasEntries ps c → HasClaims t c
 claims_have t ps c q w = (ps, w.es, q, w.entries_are, w.known.distinct, w.known.claims)
 
-pub entries_pushed : (xs : List (Value × Value)) (x : Value × Value) (es : List (Named × Tree)) (s : Seen ClaimName) (c : ClaimsSet)
+pub entries_pushed : (xs : List (Value × Value)) (x : Value × Value) (es : List (Named × Tree)) (s : SeenLabels ClaimName) (c : ClaimsSet)
     → entries (view_pairs xs) ≡ Some es → Added es (view x.0) (view x.1) s c → (fs : List (Named × Tree)) × (entries (view_pairs (xs ++ x ∷ [])) ≡ Some fs) × KnownIn fs s c
 entries_pushed xs x es s c r a = (es ++ (a.name, view x.1) ∷ [], entry_read name_of xs x es a.name r a.is, a.known)
 
-pub none_known : (s : Seen ClaimName) (c : ClaimsSet) → Sees s [] → claims_view c ≡ no_claims → KnownIn [] s c
+pub none_known : (s : SeenLabels ClaimName) (c : ClaimsSet) → Sees s [] → claims_view c ≡ no_claims → KnownIn [] s c
 none_known s c w e = record { sees = w; known = record { distinct = tt; claims = subst (IsClaims []) (sym e) none_set } }

@@ -6,10 +6,10 @@ use Rattle.ciborium_value.specs.Tree.{Tree, Pairs}
 use Rattle.coset_labels.specs.Entries.{Distinct}
 use Rattle.coset_labels.specs.Fields.{Named, assigned}
 use Rattle.coset_labels.specs.Orders.{named_cmp}
-use Rattle.coset_labels.specs.Seen as keys
+use Rattle.coset_labels.specs.SeenLabels as keys
 use Rattle.coset_labels.specs.Walks as walks
 use Rattle.coset_labels.specs.declared.registered.RegisteredLabelWithPrivate.{RegisteredLabelWithPrivate}
-use Rattle.coset_labels.specs.declared.seen.Seen.{Seen}
+use Rattle.coset_labels.specs.declared.seen_labels.SeenLabels.{SeenLabels}
 use Rattle.coset_claims.specs.Claims.{is_core, text_of, time_of, bytes_of, name_of, IsClaims}
 use Rattle.coset_claims.specs.Fields.{TimeFields, ClaimsFields}
 use Rattle.coset_claims.specs.View.{name_view, claims_view}
@@ -44,7 +44,7 @@ abbrev pub ClaimName : Type 0
 ClaimName = RegisteredLabelWithPrivate CwtClaimName
 
 -- the names of these entries, and no others, were seen
-abbrev pub Sees : Seen ClaimName → List (Named × Tree) → Type 0
+abbrev pub Sees : SeenLabels ClaimName → List (Named × Tree) → Type 0
 Sees = keys.Sees (on name_view named_cmp) name_view
 
 -- the fields are those of these entries
@@ -53,12 +53,12 @@ pub record Known (es : List (Named × Tree)) (c : ClaimsFields) : Type 0 where
   pub claims : IsClaims es c
 
 -- and so are the names that were seen
-pub record KnownIn (es : List (Named × Tree)) (s : Seen ClaimName) (c : ClaimsSet) : Type 0 where
+pub record KnownIn (es : List (Named × Tree)) (s : SeenLabels ClaimName) (c : ClaimsSet) : Type 0 where
   pub sees : Sees s es
   pub known : Known es (claims_view c)
 
 -- one more entry is read
-pub record Added (es : List (Named × Tree)) (l v : Tree) (s : Seen ClaimName) (c : ClaimsSet) : Type 0 where
+pub record Added (es : List (Named × Tree)) (l v : Tree) (s : SeenLabels ClaimName) (c : ClaimsSet) : Type 0 where
   pub name : Named
   pub is : name_of l ≡ Some name
   pub known : KnownIn (es ++ (name, v) ∷ []) s c

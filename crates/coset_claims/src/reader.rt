@@ -12,7 +12,7 @@ ghost use Rattle.coset_claims.specs.Wrong.{WrongClaims, WrongEntries, WrongEntry
 use crate::cwt::{ClaimName, ClaimsSet, Timestamp};
 use ciborium_value::Value;
 use coset_labels::iana::EnumI64;
-use coset_labels::{AsCborValue, CoseError, Seen, ValueTryAs};
+use coset_labels::{AsCborValue, CoseError, SeenLabels, ValueTryAs};
 use std::alloc::Global;
 
 /// Where the value of a claim belongs.
@@ -67,7 +67,7 @@ fn read_entries(alloc: Global, entries: Vec<(Value, Value)>) -> Result<ClaimsSet
     ensures { MatchResult result (λ c. HasEntries (view_pairs entries.items) (claims_view c))
         (λ e. OrMemory (WrongEntries (view_pairs entries.items)) e) }
 {
-    let mut seen = Seen::new(alloc);
+    let mut seen = SeenLabels::new(alloc);
     let mut claims = ClaimsSet::new(alloc);
     'entries: for entry in entries {
         read_entry(alloc, &mut seen, &mut claims, entry.0, entry.1)?;
@@ -78,7 +78,7 @@ fn read_entries(alloc: Global, entries: Vec<(Value, Value)>) -> Result<ClaimsSet
 /// Reads one entry behind those that were seen: its name, whether that stood before, its value.
 fn read_entry(
     alloc: Global,
-    seen: &mut Seen<ClaimName>,
+    seen: &mut SeenLabels<ClaimName>,
     claims: &mut ClaimsSet,
     key: Value,
     value: Value,

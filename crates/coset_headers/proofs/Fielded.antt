@@ -1,65 +1,21 @@
 -- What was read of a value is written as that value: labels, names, and the fields of a header.
-use Rattle.std.proofs.Common.{◌≡◌, ℕ, zero, suc, ℤ, pos, List, [], ◌∷◌, ◌++◌, map, Bool, true, false, cond, Option, Some, None, option_map, option_and_then, refl, sym, ap, subst, ◌∙◌}
+use Rattle.std.proofs.Common.{◌≡◌, ℕ, zero, suc, pos, List, [], ◌∷◌, ◌++◌, map, Option, Some, None, option_map, option_and_then, refl, sym, ap, subst, ◌∙◌}
 use Rattle.ciborium_value.specs.Tree.{Tree, integer, bytes, text, array, map as map_tree, tag, simple, float, Trees, no_trees, one_more, Pairs, no_pairs, pair_more}
 use Rattle.ciborium_value.specs.View.{trees, pairs}
 use Rattle.cose_iana.specs.Algorithms.{is_algorithm}
 use Rattle.cose_iana.specs.Formats.{coap_content_formats}
 use Rattle.cose_iana.specs.Headers.{header_parameters}
 use Rattle.cose_iana.specs.Registry.{is_private_use}
-use Rattle.coset_labels.specs.Fields.{LabelFields, number, words, Named, private_use, assigned, named}
+use Rattle.coset_labels.specs.Facts.Back.{label_back, named_back, registered_back}
+use Rattle.coset_labels.specs.Fields.{LabelFields, number, Named}
 use Rattle.coset_labels.specs.Kinds.{some_bytes}
-use Rattle.coset_labels.specs.Labels.{is_i64, label_of, label_tree, named_tree, named_of, registered_of}
+use Rattle.coset_labels.specs.Labels.{label_of, named_tree, named_of}
 use Rattle.coset_headers.specs.Fields.{Plain}
 use Rattle.coset_headers.specs.Headers.{alg_of, parameter_of, parameters_of, crit_of, HasContentType, entries, at, others, IsField, IsPlain}
 use Rattle.coset_headers.specs.Written.{name_entry, crit_entry, bytes_entry, signs_entry, written_entries, entry_tree}
 use Rattle.coset_headers.proofs.Restored.{crit_items}
 
--- ---- names and labels
-named_is : (r p : ℤ → Bool) (t : Tree) (m : Named) → named_of r p t ≡ Some m → named_tree m ≡ t
-named_is r p (integer i) m e = go (is_i64 i) (r i) (p i) e
-  where
-    go : (a b c : Bool) → cond a (cond b (Some (assigned i)) (cond c (Some (private_use i)) None)) None ≡ Some m → named_tree m ≡ integer i
-    go true true c e = let h : assigned i ≡ m = (let k : Some (assigned i) ≡ Some m = e in cc) in subst (λ z. named_tree z ≡ integer i) h refl
-    go true false true e = let h : private_use i ≡ m = (let k : Some (private_use i) ≡ Some m = e in cc) in subst (λ z. named_tree z ≡ integer i) h refl
-    go true false false e = let h : None ≡ Some m = e in cc
-    go false b c e = let h : None ≡ Some m = e in cc
-named_is r p (text b) m e = let h : named b ≡ m = (let k : Some (named b) ≡ Some m = e in cc) in subst (λ z. named_tree z ≡ text b) h refl
-named_is r p (bytes b) m e = let h : None ≡ Some m = e in cc
-named_is r p (array ts) m e = let h : None ≡ Some m = e in cc
-named_is r p (map_tree ps) m e = let h : None ≡ Some m = e in cc
-named_is r p (tag n t) m e = let h : None ≡ Some m = e in cc
-named_is r p (simple n) m e = let h : None ≡ Some m = e in cc
-named_is r p (float f) m e = let h : None ≡ Some m = e in cc
-
-registered_is : (r : ℤ → Bool) (t : Tree) (m : Named) → registered_of r t ≡ Some m → named_tree m ≡ t
-registered_is r (integer i) m e = go (is_i64 i) (r i) e
-  where
-    go : (a b : Bool) → cond a (cond b (Some (assigned i)) None) None ≡ Some m → named_tree m ≡ integer i
-    go true true e = let h : assigned i ≡ m = (let k : Some (assigned i) ≡ Some m = e in cc) in subst (λ z. named_tree z ≡ integer i) h refl
-    go true false e = let h : None ≡ Some m = e in cc
-    go false b e = let h : None ≡ Some m = e in cc
-registered_is r (text b) m e = let h : named b ≡ m = (let k : Some (named b) ≡ Some m = e in cc) in subst (λ z. named_tree z ≡ text b) h refl
-registered_is r (bytes b) m e = let h : None ≡ Some m = e in cc
-registered_is r (array ts) m e = let h : None ≡ Some m = e in cc
-registered_is r (map_tree ps) m e = let h : None ≡ Some m = e in cc
-registered_is r (tag n t) m e = let h : None ≡ Some m = e in cc
-registered_is r (simple n) m e = let h : None ≡ Some m = e in cc
-registered_is r (float f) m e = let h : None ≡ Some m = e in cc
-
-pub label_is : (t : Tree) (l : LabelFields) → label_of t ≡ Some l → label_tree l ≡ t
-label_is (integer i) l e = go (is_i64 i) e
-  where
-    go : (a : Bool) → cond a (Some (number i)) None ≡ Some l → label_tree l ≡ integer i
-    go true e = let h : number i ≡ l = (let k : Some (number i) ≡ Some l = e in cc) in subst (λ z. label_tree z ≡ integer i) h refl
-    go false e = let h : None ≡ Some l = e in cc
-label_is (text b) l e = let h : words b ≡ l = (let k : Some (words b) ≡ Some l = e in cc) in subst (λ z. label_tree z ≡ text b) h refl
-label_is (bytes b) l e = let h : None ≡ Some l = e in cc
-label_is (array ts) l e = let h : None ≡ Some l = e in cc
-label_is (map_tree ps) l e = let h : None ≡ Some l = e in cc
-label_is (tag n t) l e = let h : None ≡ Some l = e in cc
-label_is (simple n) l e = let h : None ≡ Some l = e in cc
-label_is (float f) l e = let h : None ≡ Some l = e in cc
-
+-- ---- parameters
 parameter_step : (t : Tree) (ts : Trees) (m : Option Named) (o : Option (List Named)) (ms : List Named) → ((ns : List Named) → o ≡ Some ns → trees (map named_tree ns) ≡ ts) → parameter_of t ≡ m
     → option_and_then (λ n. option_map (λ ns. n ∷ ns) o) m ≡ Some ms → trees (map named_tree ms) ≡ one_more t ts
 parameter_step t ts None o ms k a e = let h : None ≡ Some ms = e in cc
@@ -67,7 +23,7 @@ parameter_step t ts (Some n) None ms k a e = let h : None ≡ Some ms = e in cc
 parameter_step t ts (Some n) (Some ns) ms k a e =
     let h : n ∷ ns ≡ ms = (let g : Some (n ∷ ns) ≡ Some ms = e in cc) in
     subst (λ z. trees (map named_tree z) ≡ one_more t ts) h
-    (ap (λ z. one_more z (trees (map named_tree ns))) (named_is header_parameters.is_registered is_private_use t n a) ∙ ap (λ z. one_more t z) (k ns refl))
+    (ap (λ z. one_more z (trees (map named_tree ns))) (named_back header_parameters.is_registered is_private_use t n a) ∙ ap (λ z. one_more t z) (k ns refl))
 
 parameters_are : (ts : Trees) (ms : List Named) → parameters_of ts ≡ Some ms → trees (map named_tree ms) ≡ ts
 parameters_are no_trees ms e = let h : [] ≡ ms = (let k : Some [] ≡ Some ms = e in cc) in subst (λ z. trees (map named_tree z) ≡ no_trees) h refl
@@ -81,7 +37,7 @@ entry_step l v ps (Some m) None es k a e = let h : None ≡ Some es = e in cc
 entry_step l v ps (Some m) (Some fs) es k a e =
     let h : (m, v) ∷ fs ≡ es = (let g : Some ((m, v) ∷ fs) ≡ Some es = e in cc) in
     subst (λ z. pairs (map entry_tree z) ≡ pair_more l v ps) h
-    (ap (λ z. pair_more z v (pairs (map entry_tree fs))) (label_is l m a) ∙ ap (λ z. pair_more l v z) (k fs refl))
+    (ap (λ z. pair_more z v (pairs (map entry_tree fs))) (label_back l m a) ∙ ap (λ z. pair_more l v z) (k fs refl))
 
 pub entries_are : (ps : Pairs) (es : List (LabelFields × Tree)) → entries ps ≡ Some es → pairs (map entry_tree es) ≡ ps
 entries_are no_pairs es e = let h : [] ≡ es = (let k : Some [] ≡ Some es = e in cc) in subst (λ z. pairs (map entry_tree z) ≡ no_pairs) h refl
@@ -92,7 +48,7 @@ abbrev pub field : ℕ → Option Tree → List (LabelFields × Tree)
 field n None = []
 field n (Some v) = (number (pos n), v) ∷ []
 
-alg_is : (o : Option Tree) (a : Option Named) → IsField alg_of None o a → name_entry 1 a ≡ field 1 o
+pub alg_is : (o : Option Tree) (a : Option Named) → IsField alg_of None o a → name_entry 1 a ≡ field 1 o
 alg_is None a h = ap (name_entry 1) h
 alg_is (Some t) a h = go (named_of is_algorithm is_private_use t) refl h
   where
@@ -100,19 +56,19 @@ alg_is (Some t) a h = go (named_of is_algorithm is_private_use t) refl h
     go None x e = let k : None ≡ Some a = e in cc
     go (Some m) x e =
         let k : Some m ≡ a = (let f : Some (Some m) ≡ Some a = e in cc) in
-        subst (λ z. name_entry 1 z ≡ field 1 (Some t)) k (ap (λ z. (number (pos 1), z) ∷ []) (named_is is_algorithm is_private_use t m x))
+        subst (λ z. name_entry 1 z ≡ field 1 (Some t)) k (ap (λ z. (number (pos 1), z) ∷ []) (named_back is_algorithm is_private_use t m x))
 
 crit_full : (c : List Named) (u : Tree) (us : Trees) (t : Tree) → t ≡ array (one_more u us) → trees (map named_tree c) ≡ one_more u us → crit_entry c ≡ field 2 (Some t)
 crit_full [] u us t q e = let h : no_trees ≡ one_more u us = e in absurd (let f : ⊥ = cc in f)
 crit_full (m ∷ ms) u us t q e = ap (λ z. (number (pos 2), z) ∷ []) (ap array e ∙ sym q)
 
-crit_is : (o : Option Tree) (c : List Named) → IsField crit_of [] o c → crit_entry c ≡ field 2 o
+pub crit_is : (o : Option Tree) (c : List Named) → IsField crit_of [] o c → crit_entry c ≡ field 2 o
 crit_is None c h = ap crit_entry h
 crit_is (Some t) c h = let w = crit_items t c h in crit_full c w.0 w.1 t w.2 (parameters_are (one_more w.0 w.1) c w.3)
 
-type_is : (o : Option Tree) (c : Option Named) → HasContentType o c → name_entry 3 c ≡ field 3 o
+pub type_is : (o : Option Tree) (c : Option Named) → HasContentType o c → name_entry 3 c ≡ field 3 o
 type_is None c h = ap (name_entry 3) h
-type_is (Some t) c h = ap (name_entry 3) h.3 ∙ ap (λ z. (number (pos 3), z) ∷ []) (registered_is coap_content_formats.is_registered t h.0 h.1)
+type_is (Some t) c h = ap (name_entry 3) h.3 ∙ ap (λ z. (number (pos 3), z) ∷ []) (registered_back coap_content_formats.is_registered t h.0 h.1)
 
 some_is : (n : ℕ) (t : Tree) (b : List ℕ) → some_bytes t ≡ Some b → bytes_entry n b ≡ field n (Some t)
 some_is n (bytes []) b e = let h : None ≡ Some b = e in cc
@@ -127,11 +83,11 @@ some_is n (tag m t) b e = let h : None ≡ Some b = e in cc
 some_is n (simple m) b e = let h : None ≡ Some b = e in cc
 some_is n (float f) b e = let h : None ≡ Some b = e in cc
 
-bytes_are : (n : ℕ) (o : Option Tree) (b : List ℕ) → IsField some_bytes [] o b → bytes_entry n b ≡ field n o
+pub bytes_are : (n : ℕ) (o : Option Tree) (b : List ℕ) → IsField some_bytes [] o b → bytes_entry n b ≡ field n o
 bytes_are n None b h = ap (bytes_entry n) h
 bytes_are n (Some t) b h = some_is n t b h
 
-signs_are : (o : Option Tree) → signs_entry o ≡ field 7 o
+pub signs_are : (o : Option Tree) → signs_entry o ≡ field 7 o
 signs_are None = refl
 signs_are (Some t) = refl
 

@@ -5,6 +5,7 @@ use Rattle.std.proofs.lemmas.Bool.Decides.{nat_tests}
 use borrow.Author.Tests.{eqb-true}
 use Rattle.ciborium_value.specs.Tree.{Tree, bytes, array, map as map_tree, Trees, no_trees, one_more, Pairs, no_pairs, pair_more}
 use Rattle.ciborium_value.specs.View.{pairs}
+use Rattle.coset_labels.specs.Facts.Back.{label_back}
 use Rattle.coset_labels.specs.Fields.{LabelFields}
 use Rattle.coset_labels.specs.Labels.{label_of}
 use Rattle.coset_headers.specs.AsWritten.{place_of, is_several, header_stands, entries_stand, signed_stand, signatures_stand, signature_stands}
@@ -13,7 +14,7 @@ use Rattle.coset_headers.specs.Headers.{is_at, entries, at, Distinct, IsBare, Is
 use Rattle.coset_headers.specs.Written.{twice, entry_tree, tree_of, written_entries, bare_or_list, header_of, header_tree, shown, signature_tree, signature_trees}
 use Rattle.coset_headers.proofs.Again.{signature_parts, trees_parts}
 use Rattle.coset_headers.proofs.Entered.{bool_cases, at_none}
-use Rattle.coset_headers.proofs.Fielded.{label_is, entries_are, gather, fields_are}
+use Rattle.coset_headers.proofs.Fielded.{entries_are, gather, fields_are}
 use Rattle.coset_headers.proofs.Ranked.{rank, Sorted, at_rank, rank_at, gather_sorted, sorted_gathered}
 use Rattle.coset_headers.proofs.Writable.{distinct_others, signed_some}
 use Rattle.coset_headers.proofs.Written.{once_only}
@@ -99,7 +100,7 @@ entries_step l v ps r None o es k a e d = let h : None ≡ Some es = e in absurd
 entries_step l v ps r (Some m) None es k a e d = let h : None ≡ Some es = e in absurd (let f : ⊥ = cc in f)
 entries_step l v ps r (Some m) (Some fs) es k a e d =
     let h : (m, v) ∷ fs ≡ es = (let g : Some ((m, v) ∷ fs) ≡ Some es = e in cc) in
-    let q : place_of l ≡ rank m = ap place_of (sym (label_is l m a)) in
+    let q : place_of l ≡ rank m = ap place_of (sym (label_back l m a)) in
     let c : Distinct ((m, v) ∷ fs) = subst Distinct (sym h) d in
     let w = k fs (rank m) refl c.1 in
     subst (λ z. Decides (entries_stand r (pair_more l v ps)) (EntriesStand r z)) h (λ x. more_to r (place_of l) m v ps fs q x w.0, λ y. more_from r (place_of l) m v ps fs q c w.1 y)

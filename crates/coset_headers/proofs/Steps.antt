@@ -15,7 +15,7 @@ use Rattle.coset_labels.specs.Reading.{NotReadable}
 use Rattle.coset_labels.specs.declared.error.CoseError.{CoseError}
 use Rattle.coset_labels.specs.declared.error.CoseError.TheVariants as code
 use Rattle.coset_labels.specs.declared.label.Label.{Label}
-use Rattle.coset_labels.specs.declared.seen.Seen.{Seen}
+use Rattle.coset_labels.specs.declared.seen_labels.SeenLabels.{SeenLabels}
 use Rattle.coset_headers.specs.AsWritten.{is_bare}
 use Rattle.coset_headers.specs.Fields.{Plain, HeaderFields, header, no_plain, no_header, SignatureFields, signatures, Signatures, no_signatures, signature_more}
 use Rattle.coset_headers.specs.Headers.{is_at, entries, at, IsIn, IsPlain, IsBare, IsList, list_of_three, HasHeader, HasSignature, HasSigned, HasSignatures}
@@ -62,7 +62,7 @@ known_more : (n : ℕ) (es : List (LabelFields × Tree)) (p q : Plain) (ss us : 
     → Known n es p ss k → (IsIn m es → ⊥) → IsPlain (es ++ (m, v) ∷ []) q → HasSigned n (at 7 (es ++ (m, v) ∷ [])) us k → Known n (es ++ (m, v) ∷ []) q us k
 known_more n es p q ss us k m v w d pl sg = record { distinct = distinct_snoc es m v w.distinct d; plain = pl; signed = sg }
 
-pub known_filled : (n : ℕ) (es : List (LabelFields × Tree)) (l v : Tree) (seen : Seen Label) (old new : HeaderParts) (k : ℕ) (m : LabelFields)
+pub known_filled : (n : ℕ) (es : List (LabelFields × Tree)) (l v : Tree) (seen : SeenLabels Label) (old new : HeaderParts) (k : ℕ) (m : LabelFields)
     → Known n es (plain_of old) (signs_of old) k → label_of l ≡ Some m → (IsIn m es → ⊥) → ((v : Tree) → Sees seen (es ++ (m, v) ∷ [])) → is_at 7 m ≡ false → Filled m v old new → Added n es l v seen new k
 known_filled n es l v seen old new k m w q d z s f = record {
   label = m;
@@ -75,7 +75,7 @@ known_filled n es l v seen old new k m w q d z s f = record {
   };
 }
 
-pub known_signed : (n : ℕ) (es : List (LabelFields × Tree)) (l v : Tree) (seen : Seen Label) (old new : HeaderParts) (k : ℕ) (m : LabelFields) (ss : Signatures)
+pub known_signed : (n : ℕ) (es : List (LabelFields × Tree)) (l v : Tree) (seen : SeenLabels Label) (old new : HeaderParts) (k : ℕ) (m : LabelFields) (ss : Signatures)
     → Known n es (plain_of old) (signs_of old) k → label_of l ≡ Some m → (IsIn m es → ⊥) → ((v : Tree) → Sees seen (es ++ (m, v) ∷ [])) → is_at 7 m ≡ true → HasSigned n (Some v) ss k
     → plain_of new ≡ plain_of old → signs_of new ≡ ss → Added n es l v seen new k
 known_signed n es l v seen old new k m ss w q d z s g a b =
@@ -91,7 +91,7 @@ known_signed n es l v seen old new k m ss w q d z s g a b =
       };
     }
 
-pub entries_pushed : (n : ℕ) (xs : List (Value × Value)) (x : Value × Value) (es : List (LabelFields × Tree)) (s : Seen Label) (p : HeaderParts) (k : ℕ)
+pub entries_pushed : (n : ℕ) (xs : List (Value × Value)) (x : Value × Value) (es : List (LabelFields × Tree)) (s : SeenLabels Label) (p : HeaderParts) (k : ℕ)
     → entries (view_pairs xs) ≡ Some es → Added n es (view x.0) (view x.1) s p k → (fs : List (LabelFields × Tree)) × (entries (view_pairs (xs ++ x ∷ [])) ≡ Some fs) × KnownIn n fs s p k
 entries_pushed n xs x es s p k r a =
     (es ++ (a.label, view x.1) ∷ [], entry_read label_of xs x es a.label r a.is, a.known)

@@ -14,7 +14,7 @@ use Rattle.coset_labels.specs.Orders.{label_cmp, labels_same}
 use Rattle.coset_labels.specs.View.{label_view}
 use Rattle.coset_labels.specs.declared.error.CoseError.{CoseError}
 use Rattle.coset_labels.specs.declared.label.Label.{Label}
-use Rattle.coset_labels.specs.declared.seen.Seen.{Seen}
+use Rattle.coset_labels.specs.declared.seen_labels.SeenLabels.{SeenLabels}
 use Rattle.coset_labels.proofs.Arrays.{written_none}
 use Rattle.coset_headers.specs.Fields.{SignatureFields, signatures}
 use Rattle.coset_headers.specs.Headers.{IsIn, Distinct}
@@ -108,7 +108,7 @@ cant_by o p e q w = subst (λ z. CantWrite z e) (sym q) w
 taken : (xs : List (Label × Value)) (i : ℕ) (d : Label × Value) → i < length xs → map entry_view (take (i + 1) xs) ≡ map entry_view (take i xs) ++ (label_view (get_or xs i d).0, view (get_or xs i d).1) ∷ []
 taken xs i d h = ap (map entry_view) (take_more xs i d h) ∙ map-append entry_view (take i xs) (get_or xs i d ∷ [])
 
-pub sees_next : (s : Seen Label) (xs : List (Label × Value)) (i : ℕ) (d : Label × Value) → i < length xs
+pub sees_next : (s : SeenLabels Label) (xs : List (Label × Value)) (i : ℕ) (d : Label × Value) → i < length xs
     → ((v : Tree) → Sees s (map entry_view (take i xs) ++ (label_view (get_or xs i d).0, v) ∷ [])) → Sees s (map entry_view (take (i + 1) xs))
 sees_next s xs i d h w = subst (Sees s) (sym (taken xs i d h)) (w (view (get_or xs i d).1))
 

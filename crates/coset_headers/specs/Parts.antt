@@ -9,17 +9,17 @@ use Rattle.coset_labels.specs.Fields.{LabelFields, number, Named}
 use Rattle.coset_labels.specs.Kinds.{some_bytes}
 use Rattle.coset_labels.specs.Labels.{label_of}
 use Rattle.coset_labels.specs.Orders.{label_cmp}
-use Rattle.coset_labels.specs.Seen as keys
+use Rattle.coset_labels.specs.SeenLabels as keys
 use Rattle.coset_labels.specs.View.{label_view, registered_view, named_view}
 use Rattle.coset_labels.specs.declared.label.Label.{Label}
-use Rattle.coset_labels.specs.declared.seen.Seen.{Seen}
+use Rattle.coset_labels.specs.declared.seen_labels.SeenLabels.{SeenLabels}
 use Rattle.coset_headers.specs.Fields.{Plain, Signatures}
 use Rattle.coset_headers.specs.Headers.{is_core, alg_of, crit_of, HasContentType, at, Distinct, IsPlain, HasSigned}
 use Rattle.coset_headers.specs.View.{entry_view, signatures_view}
 use Rattle.coset_headers.specs.declared.parts.HeaderParts.{HeaderParts}
 
 -- the labels of these entries, and no others, were seen
-abbrev pub Sees : Seen Label → List (LabelFields × Tree) → Type 0
+abbrev pub Sees : SeenLabels Label → List (LabelFields × Tree) → Type 0
 Sees = keys.Sees (on label_view label_cmp) label_view
 
 abbrev pub plain_of : HeaderParts → Plain
@@ -43,12 +43,12 @@ pub record Known (n : ℕ) (es : List (LabelFields × Tree)) (p : Plain) (ss : S
   pub signed : HasSigned n (at 7 es) ss k
 
 -- and so are the labels that were seen
-pub record KnownIn (n : ℕ) (es : List (LabelFields × Tree)) (s : Seen Label) (p : HeaderParts) (k : ℕ) : Type 0 where
+pub record KnownIn (n : ℕ) (es : List (LabelFields × Tree)) (s : SeenLabels Label) (p : HeaderParts) (k : ℕ) : Type 0 where
   pub sees : Sees s es
   pub known : Known n es (plain_of p) (signs_of p) k
 
 -- one more entry is read
-pub record Added (n : ℕ) (es : List (LabelFields × Tree)) (l v : Tree) (s : Seen Label) (p : HeaderParts) (k : ℕ) : Type 0 where
+pub record Added (n : ℕ) (es : List (LabelFields × Tree)) (l v : Tree) (s : SeenLabels Label) (p : HeaderParts) (k : ℕ) : Type 0 where
   pub label : LabelFields
   pub is : label_of l ≡ Some label
   pub known : KnownIn n (es ++ (label, v) ∷ []) s p k

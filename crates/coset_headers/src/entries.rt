@@ -15,8 +15,8 @@ ghost use Rattle.coset_headers.specs.Written.{name_entry, crit_entry, bytes_entr
 use crate::parts::HeaderParts;
 use ciborium_value::{Integer, Value};
 use coset_labels::{
-    Algorithm, AsCborValue, ContentType, CoseError, Label, RegisteredLabelWithPrivate, Seen, iana,
-    to_cbor_array,
+    Algorithm, AsCborValue, ContentType, CoseError, Label, RegisteredLabelWithPrivate, SeenLabels,
+    iana, to_cbor_array,
 };
 use std::alloc::Global;
 
@@ -52,7 +52,7 @@ impl HeaderParts {
 pub fn repeats(alloc: Global, entries: &[(Label, Value)]) -> Result<bool, CoseError>
     ensures { MatchResult result (λ r. r ≡ twice (map entry_view entries.now)) (λ e. e ≡ Memory) }
 {
-    let mut seen = Seen::new(alloc);
+    let mut seen = SeenLabels::new(alloc);
     'entries: for entry in entries {
         let fresh = seen.add(alloc, &entry.0)?;
         if !fresh {

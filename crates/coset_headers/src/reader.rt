@@ -15,7 +15,7 @@ use crate::parts::{HeaderParts, is_counter_signatures};
 use crate::values::is_bare;
 use ciborium_value::Value;
 use coset_labels::tuples::three;
-use coset_labels::{AsCborValue, CoseError, Label, Seen, ValueTryAs, read_to_value};
+use coset_labels::{AsCborValue, CoseError, Label, SeenLabels, ValueTryAs, read_to_value};
 use std::alloc::Global;
 
 /// Reads a header, with a nesting limit and some protected layers left.
@@ -45,7 +45,7 @@ fn read_entries(
         (λ p. HasEntries nesting (view_pairs entries.items) (plain_of p) (signs_of p) layers)
         (λ e. OrMemory (WrongEntries nesting (view_pairs entries.items) layers) e) }
 {
-    let mut seen = Seen::new(alloc);
+    let mut seen = SeenLabels::new(alloc);
     let mut parts = HeaderParts::new(alloc);
     'entries: for entry in entries {
         read_entry(
@@ -59,7 +59,7 @@ fn read_entries(
 #[cycle(reader)]
 fn read_entry(
     alloc: Global,
-    seen: &mut Seen<Label>,
+    seen: &mut SeenLabels<Label>,
     parts: &mut HeaderParts,
     key: Value,
     value: Value,

@@ -6,30 +6,14 @@ use Rattle.cose_iana.specs.Algorithms.{is_algorithm}
 use Rattle.cose_iana.specs.Registry.{is_private_use}
 use Rattle.ciborium_value.specs.Tree.{Tree, integer, bytes, text, array, map as map_tree, tag, simple, float, one_more}
 use Rattle.ciborium_value.specs.View.{trees}
-use Rattle.coset_labels.specs.Fields.{Named, private_use, assigned, named}
-use Rattle.coset_labels.specs.Labels.{is_i64, named_of, named_tree}
+use Rattle.coset_labels.specs.Facts.Back.{named_back}
+use Rattle.coset_labels.specs.Labels.{is_i64, named_tree}
 use Rattle.coset_headers.specs.Fields.{ProtectedFields, protected}
 use Rattle.coset_headers.specs.Headers.{HasProtected, list_of_three}
 use Rattle.coset_headers.specs.Written.{shown}
 use Rattle.coset_kdf.specs.Contexts.{bytes_or_nil, nonce_of, HasParty, length_of, maybe_bytes, HasPublic, four_and, HasContext}
 use Rattle.coset_kdf.specs.Fields.{NonceFields, nonce_bytes, nonce_integer, PartyFields, PublicFields, ContextFields}
 use Rattle.coset_kdf.specs.Written.{bytes_or_nil_tree, nonce_tree, party_tree, public_tree, context_tree}
-
-number_back : (small registered private : Bool) (i : ℤ) (m : Named) → cond small (cond registered (Some (assigned i)) (cond private (Some (private_use i)) None)) None ≡ Some m → named_tree m ≡ integer i
-number_back true true p i m e = let h : Some (assigned i) ≡ Some m = e in let k : assigned i ≡ m = cc in ap named_tree (sym k)
-number_back true false true i m e = let h : Some (private_use i) ≡ Some m = e in let k : private_use i ≡ m = cc in ap named_tree (sym k)
-number_back true false false i m e = let h : None ≡ Some m = e in cc
-number_back false r p i m e = let h : None ≡ Some m = e in cc
-
-name_back : (l : Tree) (m : Named) → named_of is_algorithm is_private_use l ≡ Some m → named_tree m ≡ l
-name_back (integer i) m e = number_back (is_i64 i) (is_algorithm i) (is_private_use i) i m e
-name_back (text b) m e = let h : Some (named b) ≡ Some m = e in let k : named b ≡ m = cc in ap named_tree (sym k)
-name_back (bytes b) m e = let h : None ≡ Some m = e in cc
-name_back (array ts) m e = let h : None ≡ Some m = e in cc
-name_back (map_tree ps) m e = let h : None ≡ Some m = e in cc
-name_back (tag n t) m e = let h : None ≡ Some m = e in cc
-name_back (simple n) m e = let h : None ≡ Some m = e in cc
-name_back (float f) m e = let h : None ≡ Some m = e in cc
 
 nil_back : (n : ℕ) (o : Option (List ℕ)) (b : Bool) → nat_eq n 22 ≡ b → cond b (Some None) None ≡ Some o → bytes_or_nil_tree o ≡ simple n
 nil_back n o true q e = let h : Some None ≡ Some o = e in let k : None ≡ o = cc in ap bytes_or_nil_tree (sym k) ∙ ap simple (sym (eqb-true n 22 q))
@@ -95,6 +79,6 @@ public_back n k t s (a, b, q, l, p) =
 
 pub context_back : (n k : ℕ) (t : Tree) (c : ContextFields) → HasContext n t c k → context_tree c ≡ Some t
 context_back n k t c (a, u, v, s, q, f, g, h, j) =
-    let x = name_back a c.algorithm f in let y = party_back u c.party_u g in let z = party_back v c.party_v h in
+    let x = named_back is_algorithm is_private_use a c.algorithm f in let y = party_back u c.party_u g in let z = party_back v c.party_v h in
     ap (option_map (λ s. array (four_and (named_tree c.algorithm) (party_tree c.party_u) (party_tree c.party_v) s (trees (map bytes c.privates))))) (public_back n k s c.public j)
     ∙ ap Some ((λ i. array (four_and (x i) (y i) (z i) s (trees (map bytes c.privates)))) ∙ sym q)

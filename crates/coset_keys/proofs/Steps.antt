@@ -18,7 +18,7 @@ use Rattle.coset_labels.specs.Labels.{label_of, WrongLabel, WrongRegistered}
 use Rattle.coset_labels.specs.Orders.{named_cmp}
 use Rattle.coset_labels.specs.declared.error.CoseError.{CoseError}
 use Rattle.coset_labels.specs.declared.label.Label.{Label}
-use Rattle.coset_labels.specs.declared.seen.Seen.{Seen}
+use Rattle.coset_labels.specs.declared.seen_labels.SeenLabels.{SeenLabels}
 use Rattle.coset_headers.specs.Headers.{entries, at}
 use Rattle.coset_headers.specs.Parts.{Sees}
 use Rattle.coset_keys.specs.Fields.{KeyFields, reserved}
@@ -83,12 +83,12 @@ entry_label es l v e w = passed_on (WrongLabel l) (WrongEntry es l v) e (λ x. b
 pub entry_value : (es : List (LabelFields × Tree)) (l v : Tree) (m : LabelFields) (e : CoseError) → label_of l ≡ Some m → OrMemory (WrongValue v m) e → OrMemory (WrongEntry es l v) e
 entry_value es l v m e q w = passed_on (WrongValue v m) (WrongEntry es l v) e (λ x. bad_value m q x) w
 
-pub entry_added : (es : List (LabelFields × Tree)) (l v : Tree) (s : Seen Label) (old new : CoseKey) (m : LabelFields) → Known es (key_view old) → label_of l ≡ Some m → (IsIn m es → ⊥)
+pub entry_added : (es : List (LabelFields × Tree)) (l v : Tree) (s : SeenLabels Label) (old new : CoseKey) (m : LabelFields) → Known es (key_view old) → label_of l ≡ Some m → (IsIn m es → ⊥)
     → ((v : Tree) → Sees s (es ++ (m, v) ∷ [])) → Fills m v (key_view old) (key_view new) → Added es l v s new
 entry_added es l v s old new m w q d z f = record { label = m; is = q; known = record { sees = z v; known = known_more es (key_view old) (key_view new) m v w d f } }
 
 -- ---- the entries of a map
-pub entries_pushed : (xs : List (Value × Value)) (x : Value × Value) (es : List (LabelFields × Tree)) (s : Seen Label) (k : CoseKey) → entries (view_pairs xs) ≡ Some es → Added es (view x.0) (view x.1) s k
+pub entries_pushed : (xs : List (Value × Value)) (x : Value × Value) (es : List (LabelFields × Tree)) (s : SeenLabels Label) (k : CoseKey) → entries (view_pairs xs) ≡ Some es → Added es (view x.0) (view x.1) s k
     → (fs : List (LabelFields × Tree)) × (entries (view_pairs (xs ++ x ∷ [])) ≡ Some fs) × KnownIn fs s k
 entries_pushed xs x es s k r a =
     (es ++ (a.label, view x.1) ∷ [], entry_read label_of xs x es a.label r a.is, a.known)

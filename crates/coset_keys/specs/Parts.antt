@@ -7,7 +7,7 @@ use Rattle.coset_labels.specs.Kinds.{some_bytes}
 use Rattle.coset_labels.specs.Labels.{label_of}
 use Rattle.coset_labels.specs.Walks as walks
 use Rattle.coset_labels.specs.declared.label.Label.{Label}
-use Rattle.coset_labels.specs.declared.seen.Seen.{Seen}
+use Rattle.coset_labels.specs.declared.seen_labels.SeenLabels.{SeenLabels}
 use Rattle.coset_headers.specs.Headers.{alg_of}
 use Rattle.coset_headers.specs.Parts.{Sees}
 use Rattle.coset_keys.specs.Fields.{KeyFields}
@@ -30,12 +30,12 @@ pub record Known (es : List (LabelFields × Tree)) (k : KeyFields) : Type 0 wher
   pub fields : AreFields es k
 
 -- and so are the labels that were seen
-pub record KnownIn (es : List (LabelFields × Tree)) (s : Seen Label) (k : CoseKey) : Type 0 where
+pub record KnownIn (es : List (LabelFields × Tree)) (s : SeenLabels Label) (k : CoseKey) : Type 0 where
   pub sees : Sees s es
   pub known : Known es (key_view k)
 
 -- one more entry is read
-pub record Added (es : List (LabelFields × Tree)) (l v : Tree) (s : Seen Label) (k : CoseKey) : Type 0 where
+pub record Added (es : List (LabelFields × Tree)) (l v : Tree) (s : SeenLabels Label) (k : CoseKey) : Type 0 where
   pub label : LabelFields
   pub is : label_of l ≡ Some label
   pub known : KnownIn (es ++ (label, v) ∷ []) s k

@@ -11,7 +11,7 @@ ghost use Rattle.coset_keys.specs.Wrong.{WrongKey, WrongEntries, WrongEntry, Wro
 
 use crate::key::{CoseKey, CoseKeySet};
 use ciborium_value::Value;
-use coset_labels::{AsCborValue, CoseError, KeyType, Label, Seen, ValueTryAs};
+use coset_labels::{AsCborValue, CoseError, KeyType, Label, SeenLabels, ValueTryAs};
 use std::alloc::Global;
 
 /// Reads a key. That it has a type is seen after all entries.
@@ -31,7 +31,7 @@ fn read_entries(alloc: Global, entries: Vec<(Value, Value)>) -> Result<CoseKey, 
     ensures { MatchResult result (λ k. HasEntries (view_pairs entries.items) (key_view k))
         (λ e. OrMemory (WrongEntries (view_pairs entries.items)) e) }
 {
-    let mut seen = Seen::new(alloc);
+    let mut seen = SeenLabels::new(alloc);
     let mut key = CoseKey::new(alloc);
     'entries: for entry in entries {
         read_entry(alloc, &mut seen, &mut key, entry.0, entry.1)?;
@@ -42,7 +42,7 @@ fn read_entries(alloc: Global, entries: Vec<(Value, Value)>) -> Result<CoseKey, 
 /// Reads one entry behind those that were seen: its label, whether it stood before, its value.
 fn read_entry(
     alloc: Global,
-    seen: &mut Seen<Label>,
+    seen: &mut SeenLabels<Label>,
     key: &mut CoseKey,
     label: Value,
     value: Value,

@@ -6,11 +6,11 @@ use Rattle.std.specs.declared.cmp.Ordering.{Ordering}
 use Rattle.ciborium_value.specs.Tree.{Tree}
 use Rattle.coset_labels.specs.Entries.{IsIn}
 use Rattle.coset_labels.specs.Facts.Entries.{bool_cases, in_front, in_last, in_snoc}
-use Rattle.coset_labels.specs.Seen.{has_seen, Sees, Grows}
-use Rattle.coset_labels.specs.declared.seen.Seen.{Seen}
+use Rattle.coset_labels.specs.SeenLabels.{has_seen, Sees, Grows}
+use Rattle.coset_labels.specs.declared.seen_labels.SeenLabels.{SeenLabels}
 
 module _ {K L : Type 0} (cmp : K → K → Ordering) (fields : K → L) (same : (a b : K) → IsTrue (is_eq (cmp a b)) ↔ (fields a ≡ fields b)) where
-  module _ (old new : Seen K) (k : K) (l : L) (es : List (L × Tree)) (is : fields k ≡ l) (grows : Grows cmp old new k) (w : Sees cmp fields old es) where
+  module _ (old new : SeenLabels K) (k : K) (l : L) (es : List (L × Tree)) (is : fields k ≡ l) (grows : Grows cmp old new k) (w : Sees cmp fields old es) where
     now_seen : (v : Tree) (q : K) → has_seen cmp new q ≡ true → (is_eq (cmp k q) ≡ true) ⊎ (is_eq (cmp k q) ≡ false) → IsIn (fields q) (es ++ (l, v) ∷ [])
     now_seen v q h (inl t) = in_last (fields q) l es v (sym ((same k q).0 t) ∙ is)
     now_seen v q h (inr f) = in_front (fields q) es ((l, v) ∷ []) (w.seen q (sym (grows q ∙ ap (λ b. b || has_seen cmp old q) f) ∙ h))
@@ -27,7 +27,7 @@ module _ {K L : Type 0} (cmp : K → K → Ordering) (fields : K → L) (same : 
       unseen = λ q h. still_unseen v q h (bool_cases (is_eq (cmp k q)));
     }
 
-  pub added_is : (old new : Seen K) (k : K) (l : L) (es : List (L × Tree)) → fields k ≡ l → Sees cmp fields old es → (b : Bool)
+  pub added_is : (old new : SeenLabels K) (k : K) (l : L) (es : List (L × Tree)) → fields k ≡ l → Sees cmp fields old es → (b : Bool)
       → MatchBool b ((has_seen cmp old k ≡ false) × Grows cmp old new k) (has_seen cmp old k ≡ true)
       → MatchBool b ((IsIn l es → ⊥) × ((v : Tree) → Sees cmp fields new (es ++ (l, v) ∷ []))) (IsIn l es)
   added_is old new k l es is w true h = (subst (λ z. IsIn z es → ⊥) is (w.unseen k h.0), sees_more old new k l es is h.1 w)

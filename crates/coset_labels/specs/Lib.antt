@@ -10,7 +10,7 @@ pub mod Limits
 pub mod Names
 pub mod Orders
 pub mod Reading
-pub mod Seen
+pub mod SeenLabels
 pub mod Told
 pub mod View
 pub mod Walks

@@ -2,7 +2,7 @@
 ghost use Rattle.std.specs.Prelude.{◌≡◌, IfOk, map, option_map};
 ghost use Rattle.coset_labels.specs.View.{entry_view};
 
-use crate::seen::EntryKey;
+use crate::seen_labels::EntryKey;
 use ciborium_value::Value;
 use std::alloc::{AllocError, Global};
 

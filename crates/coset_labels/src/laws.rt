@@ -111,7 +111,8 @@ pub fn names_compare<T: EnumI64>(
     ensures order { ⟦<RegisteredLabelWithPrivate<T> as std::cmp::Ord>⟧.cmp a.now b.now
         ≡ ordering_then (bytewise (named_tree (named_view T.number a.now))
         (named_tree (named_view T.number b.now)))
-        (bool_cmp (is_own_number (named_view T.number a.now)) (is_own_number (named_view T.number b.now))) }
+        (bool_cmp (is_own_number (named_view T.number a.now))
+        (is_own_number (named_view T.number b.now))) }
 {
     name_fits(a);
     name_fits(b);

@@ -12,7 +12,7 @@ mod limits;
 mod order;
 mod reading;
 mod registered;
-mod seen;
+mod seen_labels;
 mod traits;
 pub mod tuples;
 
@@ -27,6 +27,6 @@ pub use crate::reading::{read_to_value, write_to_vec};
 pub use crate::registered::{
     Algorithm, ContentType, KeyType, RegisteredLabel, RegisteredLabelWithPrivate,
 };
-pub use crate::seen::{EntryKey, Seen};
+pub use crate::seen_labels::{EntryKey, SeenLabels};
 pub use crate::traits::{AsCborValue, CborSerializable, TaggedCborSerializable, to_cbor_array};
 pub use cose_iana as iana;

@@ -93,7 +93,8 @@ impl<T: WithPrivateRange> RegisteredLabelWithPrivate<T> {
 impl<T: EnumI64> PartialEq for RegisteredLabel<T> {
     ghost eq = { on (registered_view T.number) (eq_by_cmp named_cmp) };
 
-    ghost laws = { partial_equiv_from_equiv (on_equiv (registered_view T.number) (eq_by_cmp_equiv named_total)) };
+    ghost laws = { partial_equiv_from_equiv
+        (on_equiv (registered_view T.number) (eq_by_cmp_equiv named_total)) };
 
     fn eq(&self, other: &RegisteredLabel<T>) -> bool {
         self.cmp(other).is_eq()
@@ -132,7 +133,8 @@ impl<T: EnumI64> PartialOrd for RegisteredLabel<T> {
 impl<T: EnumI64> PartialEq for RegisteredLabelWithPrivate<T> {
     ghost eq = { on (named_view T.number) (eq_by_cmp named_cmp) };
 
-    ghost laws = { partial_equiv_from_equiv (on_equiv (named_view T.number) (eq_by_cmp_equiv named_total)) };
+    ghost laws = { partial_equiv_from_equiv
+        (on_equiv (named_view T.number) (eq_by_cmp_equiv named_total)) };
 
     fn eq(&self, other: &RegisteredLabelWithPrivate<T>) -> bool {
         self.cmp(other).is_eq()

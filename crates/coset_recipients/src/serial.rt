@@ -49,7 +49,8 @@ impl CoseRecipient {
         limits: Limits,
     ) -> Result<CoseRecipient, CoseError>
         ensures { MatchResult result
-            (λ r. HasRecipient (nesting_of limits) (view value) (recipient_view r) (layers_of limits))
+            (λ r. HasRecipient (nesting_of limits) (view value) (recipient_view r)
+            (layers_of limits))
             (λ e. OrMemory (WrongRecipient (nesting_of limits) (view value) (layers_of limits)) e) }
     {
         read_recipient(alloc, value, limits)

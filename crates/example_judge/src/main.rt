@@ -46,7 +46,8 @@ impl Judge for KeyId<'_> {
 
     ghost told = { λ _. tt };
 
-    ghost holds = { λ j subject _. j.is_found ≡ bytes_eq (header_key_id subject.unprotected) j.id.now };
+    ghost holds = { λ j subject _. j.is_found
+        ≡ bytes_eq (header_key_id subject.unprotected) j.id.now };
 
     ghost pieces = { λ j. j.pieces.items };
 

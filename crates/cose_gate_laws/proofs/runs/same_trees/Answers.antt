@@ -1,13 +1,13 @@
 use Rattle.std.proofs.Common.{◌≡◌, ℕ, List, Bool, map, refl}
 use Rattle.cose_gate_core.specs.Questions.{Question}
-use Rattle.cose_gate_core.specs.Findings.{Limits}
+use Rattle.cose_gate_core.specs.Findings.{Bounds}
 use Rattle.cose_gate_core.specs.Run.{Step, Run}
 use Rattle.cose_gate_laws.specs.Anew.{IgnoresSpelling}
 use Rattle.cose_gate_laws.proofs.Placed.{run_told}
 use Rattle.cose_gate_laws.proofs.Fronts.{Alike, alike}
 use Rattle.cose_gate_laws.proofs.runs.same_trees.Goals as goal
 
-same : (limits : Limits) (allows : Question → Bool) (aad : List ℕ) (at to : ℕ) (a b : List ℕ) (ss rs : List Step) (rest more : List ℕ)
+same : (limits : Bounds) (allows : Question → Bool) (aad : List ℕ) (at to : ℕ) (a b : List ℕ) (ss rs : List Step) (rest more : List ℕ)
     → IgnoresSpelling limits → Run limits allows aad at a ss rest → Run limits allows aad to b rs more → map (λ s. s.item.value) ss ≡ map (λ s. s.item.value) rs → Alike limits allows aad ss rs
 same limits allows aad at to a b ss rs rest more i p q e =
     alike limits allows aad i ss rs e (run_told limits allows aad at a ss rest p).all (run_told limits allows aad to b rs more q).all

@@ -1,4 +1,4 @@
-use Rattle.std.proofs.Common.{◌≡◌, ◌+◌, ℕ, arith, sym, ◌∙◌}
+use Rattle.std.proofs.Common.{sym, ◌∙◌}
 use Rattle.std.proofs.lemmas.Bool.{true≢false}
 use Rattle.cose_gate_program.proofs.Runs.{ran_none, ran_some, ran_stopped, none_refused, flush_failed, flush_passed, one_more}
 use Rattle.cose_gate_program.proofs.program.run_judged.Goals as goal

@@ -4,7 +4,7 @@ ghost use Rattle.std.specs.Ordering.{is_eq};
 ghost use Rattle.ciborium_value.specs.Tree.{Tree};
 ghost use Rattle.coset_labels.specs.Entries.{IsIn};
 ghost use Rattle.coset_labels.specs.Orders.{labels_same, names_same};
-ghost use Rattle.coset_labels.specs.Seen.{Sees, Grows, holds, has_seen};
+ghost use Rattle.coset_labels.specs.SeenLabels.{Sees, Grows, holds, has_seen};
 ghost use Rattle.coset_labels.specs.View.{label_view, named_view};
 ghost use Rattle.coset_labels.specs.declared.error.CoseError.TheVariants.{Memory};
 
@@ -48,18 +48,18 @@ impl<T: WithPrivateRange> EntryKey for RegisteredLabelWithPrivate<T> {
 /// The keys of some entries. The first two take no memory here, and a key is found among the others in as many steps as their number has
 /// digits.
 #[derive(Drop)]
-pub struct Seen<K: Ord> {
+pub struct SeenLabels<K: Ord> {
     pub(crate) first: Option<K>,
     pub(crate) second: Option<K>,
     pub(crate) others: BTreeSet<K>,
 }
 
-impl<K: EntryKey> Seen<K> {
+impl<K: EntryKey> SeenLabels<K> {
     /// No key. It takes no memory.
-    pub fn new(alloc: Global) -> Seen<K>
+    pub fn new(alloc: Global) -> SeenLabels<K>
         ensures { Sees K.cmp K.fields result [] }
     {
-        Seen {
+        SeenLabels {
             first: None,
             second: None,
             others: BTreeSet::new(alloc),
