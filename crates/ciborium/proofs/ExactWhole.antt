@@ -161,10 +161,6 @@ mutual
         x,
       )
 
--- both ways
-pub exact_is : (b : List ℕ) (t v : Tree) → Spells b t → meaning t ≡ Some v → IsExact b t → b ≡ enc v
-exact_is b t v s e x = let w = exact_enc b t v x e in w.0 ∙ ap enc w.1
-
 pub is_exact : (b : List ℕ) (t v : Tree) → Spells b t → meaning t ≡ Some v → Sound v → b ≡ enc v → IsExact b t
 is_exact b t v s e f x =
     let w = once t v b (enc v) [] [] s (sound_spells v f) (ap (λ z. z ++ []) x) in

@@ -97,27 +97,6 @@ fails_pull ends (Some b) l₁ o₀ o₁ e f i w = subst (λ (z : Error _). Fails
     go b l₁ below.TooLong w = omega arith
     go b l₁ below.Waiting w = absurd w
 
--- too few bytes behind some that were taken
-pub short_behind : {E : Type 0} (ends : E → Bool) (l₀ l₁ l₂ : Option (List ℕ)) (o₀ o₁ o₂ n got m : ℕ) (P : List ℕ → Type 0) (e : HeadError E) (f : Error E) → f ≡ lifted e
-    → Moves l₀ l₁ o₀ o₁ P → ((x : List ℕ) → P x → length x ≡ got) → got + m ≤ n → m ≤ 4096 → o₂ ≡ o₁
-    → Tells ends (IsShort l₁ m) (λ p. ⊥) (2 ^ 64 ≤ o₁ + m) e → IfKnown l₀ (λ b. Fails ends (o₀ ≤ o₂) (ShortBy n (o₀ + length b) b) (IsLong o₀ b) f)
-short_behind ends None l₁ l₂ o₀ o₁ o₂ n got m P e f i t len le few same w = tt
-short_behind ends (Some b) None l₂ o₀ o₁ o₂ n got m P e f i t len le few same w = absurd t.taken
-short_behind ends (Some b) (Some rest) l₂ o₀ o₁ o₂ n got m P e f i t len le few same w =
-    subst (λ (z : Error _). Fails ends (o₀ ≤ o₂) (ShortBy n (o₀ + length b) b) (IsLong o₀ b) z) (sym i) (go e w)
-  where
-    total : length b ≡ got + length rest
-    total = ap length t.taken ∙ length-append t.bytes rest ∙ ap (λ z. z + length rest) (len t.bytes t.has)
-
-    grew : o₁ ≡ o₀ + got
-    grew = t.grown ∙ ap (λ z. o₀ + z) (len t.bytes t.has)
-
-    go : (e : HeadError _) → Tells ends (IsShort (Some rest) m) (λ p. ⊥) (2 ^ 64 ≤ o₁ + m) e → Fails ends (o₀ ≤ o₂) (ShortBy n (o₀ + length b) b) (IsLong o₀ b) (lifted e)
-    go (below.Io e) w = λ t. let s : length rest < m = w t in let u = total in let v = grew in (omega arith, omega arith)
-    go (below.Syntax p) w = absurd w
-    go below.TooLong w = let u = total in let v = grew in omega arith
-    go below.Waiting w = absurd w
-
 -- the faults behind a title, from those of the whole with any such title in front
 pub behind_title : {E : Type 0} (ends : E → Bool) (h : Header) (at : ℕ) (l : Option (List ℕ)) (o o' : ℕ) (D : ℕ → List ℕ → Fault → Type 0) (e : Error E)
     → ((title : List ℕ) → Title title h → IfKnown l (λ b. FailsAt ends b o o' (λ stop b f. D stop (title ++ b) f) e)) → FailsBehind ends h at o l o' D e
