@@ -1,5 +1,5 @@
 -- The item of a title is begun.
-use Rattle.std.proofs.Common.{◌≡◌, ◌≤◌, ◌<◌, ◌+◌, ◌-◌, ◌*◌, inl, inr, ℕ, Bool, true, false, List, [], ◌∷◌, ◌++◌, length, Option, None, Some, refl, sym, ap, subst, ◌∙◌, arith, length-append, reverse}
+use Rattle.std.proofs.Common.{◌≡◌, ◌<◌, ◌+◌, ◌-◌, inl, inr, ℕ, Bool, true, false, List, [], ◌∷◌, ◌++◌, length, Option, None, Some, refl, sym, ap, subst, ◌∙◌, arith, reverse}
 use Rattle.std.proofs.lemmas.List.{length-reverse}
 use Rattle.ciborium_ll.specs.Reading.{Moves}
 use Rattle.ciborium_ll.specs.Seen.{Seen, Takes}
@@ -16,12 +16,12 @@ use Rattle.ciborium.specs.declared.frames.Frame.TheVariants as code
 use Rattle.ciborium.specs.declared.frames.Opened.TheVariants as opens
 use Rattle.ciborium.specs.Damage.{Fault, Damage}
 use Rattle.ciborium.specs.Levels.{Level, Fits, Within}
-use Rattle.ciborium.specs.Reading.{FailsAt, FailsBehind, NamesFaultBehind, IfKnown, IsFoldFault, ReadsBehind, TaggedBehind, TagDamage, IsLeaf}
+use Rattle.ciborium.specs.Reading.{FailsAt, FailsBehind, NamesFaultBehind, IfKnown, IsFoldFault, ReadsBehind, TagDamage, IsLeaf}
+use Rattle.ciborium.proofs.Words.{TaggedBehind}
 use Rattle.ciborium.specs.Exact.{LevelsExact, ItemExact}
-use Rattle.ciborium.specs.Frames.{halves, opened, Rooted, Stage, IsBegun, IsLow, Opening, Begins, BeginFails, in_hand, rank, Told, InHand, IsKept}
+use Rattle.ciborium.specs.Frames.{halves, opened, Rooted, Stage, IsBegun, IsLow, Opening, Begins, BeginFails, Told, InHand, IsKept}
 use Rattle.ciborium.proofs.ToldLemmas.{told_opened, told_titled, told_leaf, told_tagged}
 use Rattle.ciborium.proofs.Once.{append_nil}
-use Rattle.ciborium.proofs.StringLemmas.{title_some}
 use Rattle.ciborium.proofs.Taking.{takes_as, takes_then}
 use Rattle.ciborium.proofs.TagLemmas.{tag_read, tag_level, tag_free, level_item, free_item, tag_fails}
 use Rattle.ciborium.proofs.ReaderLemmas.{fold_fails}

@@ -1,24 +1,22 @@
 -- How the answer "exact so far" goes on, from title to title and from fold to fold.
-use Rattle.std.proofs.Common.{◌≡◌, ◌≢◌, ◌≤◌, ◌<◌, ℕ, ℤ, pos, negsuc, suc, ◌-◌, ◌^◌, Bool, true, false, cond, List, [], ◌∷◌, ◌++◌, length, Some, None, refl, sym, ap, subst, ◌∙◌, arith, nat_eq, nat_lt, nat_le, ◌&&◌, ◌||◌, append_assoc}
+use Rattle.std.proofs.Common.{◌≡◌, ◌≢◌, ◌≤◌, ◌<◌, ℕ, pos, negsuc, suc, ◌-◌, ◌^◌, Bool, true, false, cond, List, [], ◌∷◌, ◌++◌, length, Some, None, refl, sym, ap, subst, ◌∙◌, arith, nat_eq, nat_lt, nat_le, ◌&&◌, ◌||◌, append_assoc}
 use Rattle.std.specs.Prelude.{MatchBool}
 use Rattle.std.proofs.lemmas.List.{append_cancel_left}
 use Rattle.ciborium_ll.specs.declared.hdr.Header.{Header}
-use Rattle.ciborium_ll.specs.declared.hdr.Header.TheVariants.{Simple, Tag, Bytes, Text, Array, Map}
+use Rattle.ciborium_ll.specs.declared.hdr.Header.TheVariants.{Bytes, Text, Array, Map}
 use Rattle.ciborium_ll.specs.Title.{Title, title_of, FitsHeader}
 use Rattle.ciborium_ll.proofs.Shortest.{title_of_is}
-use Rattle.ciborium_value.specs.Tree.{Tree, integer, bytes, text, array, map, tag, simple, Trees, no_trees, one_more, Pairs, no_pairs, pair_more, tree_count, pair_count, flat}
-use Rattle.ciborium_value.specs.Encoding.{int_head, enc, enc_all, enc_pairs}
+use Rattle.ciborium_value.specs.Tree.{Tree, integer, bytes, text, array, map, tag, Trees, no_trees, one_more, Pairs, no_pairs, pair_more, tree_count, pair_count, flat}
+use Rattle.ciborium_value.specs.Encoding.{enc, enc_all, enc_pairs}
 use Rattle.ciborium_value.specs.Folding.{tagged, fold_bytes, fold_number, big_endian_from, without_zeros}
 use Rattle.ciborium.specs.Spelling.{Spells, SpellsAll}
 use Rattle.ciborium.specs.Meaning.{meaning, meanings}
-use Rattle.ciborium.specs.Front.{Reads, ReadsAll}
+use Rattle.ciborium.specs.Front.{ReadsAll}
 use Rattle.ciborium.proofs.Once.{append_nil, once, title_once}
 use Rattle.ciborium.proofs.ExactSound.{sound_spells}
 use Rattle.ciborium.specs.Frames.{snoc}
 use Rattle.ciborium.proofs.ReadLemmas.{meanings_parts}
-use Rattle.ciborium.proofs.Folded.{means_again}
-use Rattle.ciborium.proofs.ExactWhole.{then_some, over_itself}
-use Rattle.ciborium.specs.Exact.{Sound, AllSound, Says, level_enc, LevelExact, levels_enc, AllEncoded, AllFit, LevelsExact, IsEncoded}
+use Rattle.ciborium.specs.Exact.{Sound, AllSound, Says, level_enc, levels_enc, AllFit}
 use Rattle.ciborium.specs.Levels.{Level, Begun, Within}
 
 -- answers

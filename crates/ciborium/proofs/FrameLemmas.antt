@@ -29,9 +29,10 @@ use Rattle.ciborium.specs.Damage.{semantic, Damage, in_title, TitleDamage, Due}
 use Rattle.ciborium.specs.Exact.{encoded, LevelsExact, ItemExact}
 use Rattle.ciborium.specs.Levels.{Level, Within, Fits, Stands, Handing}
 use Rattle.ciborium.proofs.ToldLemmas.{told_handed, told_tag, told_array, told_map, told_titled}
-use Rattle.ciborium.specs.Reading.{IsFoldFault, Closes, IsNext, NamesFault, FitsIn, is_full, fault_failures}
+use Rattle.ciborium.specs.Reading.{IsFoldFault, Closes, IsNext, NamesFault, is_full}
+use Rattle.ciborium.proofs.Words.{FitsIn}
 use Rattle.ciborium.proofs.StringLemmas.{title_some}
-use Rattle.ciborium.specs.Frames.{in_hand, snoc, front, halves, halves_of, HasHalf, opened, Stage, Hands, HandFails, Faults, IsClosed, AskEnds, AskGives, AskFails, Told, InHand, IsFlagged, IsKept, CloseGives}
+use Rattle.ciborium.specs.Frames.{in_hand, snoc, front, halves, halves_of, HasHalf, opened, Stage, Hands, HandFails, Faults, AskEnds, AskGives, AskFails, Told, InHand, IsFlagged, IsKept, CloseGives}
 use Rattle.ciborium.proofs.ReadLemmas.{snoc_count, pushed, pushed_pair, count_views, count_flat}
 use Rattle.ciborium.proofs.LevelLemmas.{level_more, level_whole, due_fails, tag_whole, negative_damage, array_more, map_more}
 

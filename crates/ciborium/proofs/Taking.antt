@@ -1,10 +1,9 @@
 -- Parts that are taken one after another, and faults behind them.
-use Rattle.std.proofs.Common.{◌≡◌, ◌≤◌, ◌<◌, ◌+◌, ◌^◌, ℕ, Bool, List, [], ◌∷◌, ◌++◌, length, Option, None, Some, refl, sym, ap, subst, ◌∙◌, arith, length-append}
+use Rattle.std.proofs.Common.{◌≡◌, ◌≤◌, ◌+◌, ◌^◌, ℕ, Bool, List, [], ◌∷◌, ◌++◌, length, Option, None, Some, refl, sym, ap, subst, ◌∙◌, arith, length-append}
 use Rattle.std.specs.Prelude.{min}
 use Rattle.std.specs.Io.KnownBytes.{Consumes}
 use Rattle.std.proofs.KnownBytes.{Consumes-trans}
 use Rattle.ciborium_ll.specs.Reading.{Moves, Tells, Ends, IsBadByte}
-use Rattle.ciborium_ll.specs.Device.{IsShort}
 use Rattle.ciborium_ll.specs.declared.hdr.Header.{Header}
 use Rattle.ciborium_ll.specs.declared.hdr.Error.{Error as HeadError}
 use Rattle.ciborium_ll.specs.declared.hdr.Error.TheVariants as below
@@ -12,7 +11,7 @@ use Rattle.ciborium_ll.specs.Title.{Title, IsCut, StartsBad}
 use Rattle.ciborium.specs.declared.de.Error.{Error}
 use Rattle.ciborium.specs.declared.de.Error.TheVariants as code
 use Rattle.ciborium.specs.Damage.{Fault, end, deep, syntax, semantic, TitleDamage}
-use Rattle.ciborium.specs.Reading.{Fails, FailsAt, FailsBehind, EndPlace, IfKnown, IsLong, ShortBy, lifted}
+use Rattle.ciborium.specs.Reading.{Fails, FailsAt, FailsBehind, EndPlace, IfKnown, lifted}
 
 pub takes_then : (l₀ l₁ l₂ : Option (List ℕ)) (o₀ o₁ o₂ : ℕ) (P Q S : List ℕ → Type 0) → Moves l₀ l₁ o₀ o₁ P → Moves l₁ l₂ o₁ o₂ Q
     → ((x y : List ℕ) → P x → Q y → S (x ++ y)) → Moves l₀ l₂ o₀ o₂ S

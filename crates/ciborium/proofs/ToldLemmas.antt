@@ -16,7 +16,7 @@ use Rattle.ciborium.proofs.ChildLemmas.{flat_count}
 use Rattle.ciborium.proofs.ExactSound.{reads_sound, all_sound, title_fits, within_fits}
 use Rattle.std.specs.Prelude.{MatchOption, MatchBool}
 use Rattle.ciborium.proofs.ExactSteps.{says_and, bignum_stays}
-use Rattle.ciborium.proofs.ExactTurns.{plain_stays, turn_titled, turn_opened, turn_leaf, turn_handed, turn_closed, turn_array_broken, turn_map_broken, turn_folded, turn_bignum, turn_done, leaf_exact, array_enc, map_enc}
+use Rattle.ciborium.proofs.ExactTurns.{plain_stays, turn_titled, turn_opened, turn_leaf, turn_handed, turn_closed, turn_array_broken, turn_map_broken, turn_folded, turn_bignum, leaf_exact, array_enc, map_enc}
 use Rattle.ciborium.proofs.LevelLemmas.{joined_up, none_read, tag_whole}
 
 pub told_step : (k w w' : Bool) (n m : ℕ) (P Q : Type 0) → n ≤ m → (m < 2 ^ 64 → Says w P → Says w' Q) → Told k w n P → Told k w' m Q

@@ -28,19 +28,17 @@ pub trait Exactness {
 
 /// The answer, where it is asked.
 #[derive(Drop)]
-pub struct Asked {
-    pub exact: bool,
-}
+pub struct Asked(pub bool);
 
 impl Exactness for Asked {
-    ghost flag = { λ s. s.exact };
+    ghost flag = { λ s. s.0 };
 
     fn title<R: Read>(&mut self, decoder: &Decoder<R>, header: Header) {
-        self.exact = both(self.exact, is_shortest(decoder, header));
+        self.0 = both(self.0, is_shortest(decoder, header));
     }
 
     fn fold(&mut self, whole: &Value, tag: u64, length: Option<usize>) {
-        self.exact = both(self.exact, is_over(whole, tag, length));
+        self.0 = both(self.0, is_over(whole, tag, length));
     }
 }
 

@@ -2,18 +2,18 @@
 ghost use Rattle.std.specs.Prelude.{◌≡◌, ◌<◌, ◌≤◌, ◌+◌, ◌*◌, ◌∷◌, ℕ, Bool, true};
 ghost use Rattle.std.specs.Prelude.{false, List, None, Some, reverse, length};
 ghost use Rattle.std.specs.Prelude.{IfOk, IfErr, OnOk, OnErr, IfSome, IfNone};
-ghost use Rattle.std.specs.Prelude.{MatchOption, MatchBool, ◌&&◌};
+ghost use Rattle.std.specs.Prelude.{MatchOption, ◌&&◌};
 ghost use Rattle.ciborium_ll.specs.Seen.{Takes};
 ghost use Rattle.ciborium_ll.specs.Title.{Title, IsShortest};
 ghost use Rattle.ciborium_ll.specs.Views.{offset_of, waiting_of, seen, shortest_of};
 ghost use Rattle.ciborium_value.specs.View.{view};
 ghost use Rattle.ciborium.specs.declared.de.Error.TheVariants.{Memory};
 ghost use Rattle.ciborium.specs.Damage.{Damage, TitleDamage};
-ghost use Rattle.ciborium.specs.Reading.{Steady, NamesFault, NamesFaultBehind, ReadsBehind, Closes};
+ghost use Rattle.ciborium.specs.Reading.{Steady, NamesFault, NamesFaultBehind, Closes};
 ghost use Rattle.ciborium_value.specs.Folding.{tagged};
 ghost use Rattle.ciborium.specs.Reading.{IsNext, is_full, fault_failures, IsFoldFault};
 ghost use Rattle.ciborium.specs.Frames.{snoc, halves_of, HasHalf, IsStaged, IsClosed};
-ghost use Rattle.ciborium.specs.Frames.{ClosedStage, Stage, Hands};
+ghost use Rattle.ciborium.specs.Frames.{Hands};
 ghost use Rattle.ciborium.specs.Exact.{encoded};
 ghost use Rattle.ciborium.specs.Frames.{IsKept, CloseGives, ReadExact, HandFails, AskEnds};
 ghost use Rattle.ciborium.specs.Frames.{AskGives, AskFails, Opening, Begins, BeginFails};
@@ -22,8 +22,8 @@ ghost use Rattle.ciborium.specs.Frames.{Holds, in_hand, rank, room_of, Falls};
 use crate::de::Error;
 use crate::exactness::Exactness;
 use crate::reader::{
-    ROOM, folded, is_encoded, is_leaf, is_low, is_over, length_of, next_part, read_leaf,
-    reserved, room_left, tagged_title,
+    ROOM, folded, is_leaf, is_low, length_of, next_part, read_leaf, reserved, room_left,
+    tagged_title,
 };
 use crate::strings::next_title;
 use crate::value::Value;
