@@ -74,7 +74,7 @@ Told true w n P = n < 2 ^ 64 → Says w P
 abbrev pub IsFlagged : Bool → Bool → Header → List ℕ → Type 0
 IsFlagged w w' h y = (u : Bool) × IsShortest u y h × (w' ≡ (w && (u && encoded h)))
 
--- the same with the fold of a tag n over c, which is v then
+-- the same with the fold of a tag n over c, which is v then: it stays true where the tag stays over its content
 abbrev pub IsKept : ℕ → Tree → Tree → Bool → Bool → Type 0
 IsKept n c v w w' = MatchBool w (Says w' (v ≡ tag n c)) (w' ≡ false)
 
@@ -188,7 +188,7 @@ room_of (code.Items l) = l.room - (claimed l.count (l.room / 2) - length l.items
 room_of (code.Entries l) = l.room - (claimed l.count (l.room / 4) - length l.entries.items) * 2
 room_of (code.Tag n at h) = 0
 
--- a level that is opened in such a room holds no more than its part of it
+-- an array that is opened in such a room reserves of half of it, and a map of a quarter
 abbrev pub Holds : ℕ → Opened → Type 0
 Holds room (opens.Level (code.Whole at h)) = Unit {0}
 Holds room (opens.Level (code.Items l)) = (l.room ≡ room) × (vec_capacity l.items ≡ claimed l.count (room / 2))
