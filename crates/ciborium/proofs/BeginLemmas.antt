@@ -1,5 +1,5 @@
 -- The item of a title is begun.
-use Rattle.std.proofs.Common.{◌≡◌, ◌≤◌, ◌<◌, ◌+◌, ◌-◌, ◌*◌, inl, inr, ℕ, Bool, true, false, List, [], ◌∷◌, ◌++◌, length, Option, None, Some, refl, sym, ap, subst, ◌∙◌, arith, length-append, reverse}
+use Rattle.std.proofs.Common.{◌≡◌, ◌<◌, ◌+◌, ◌-◌, inl, inr, ℕ, Bool, true, false, List, [], ◌∷◌, ◌++◌, length, Option, None, Some, refl, sym, ap, subst, ◌∙◌, arith, reverse}
 use Rattle.std.proofs.lemmas.List.{length-reverse}
 use Rattle.ciborium_ll.specs.Reading.{Moves}
 use Rattle.ciborium_ll.specs.Seen.{Seen, Takes}
@@ -16,12 +16,12 @@ use Rattle.ciborium.specs.declared.frames.Frame.TheVariants as code
 use Rattle.ciborium.specs.declared.frames.Opened.TheVariants as opens
 use Rattle.ciborium.specs.Damage.{Fault, Damage}
 use Rattle.ciborium.specs.Levels.{Level, Fits, Within}
-use Rattle.ciborium.specs.Reading.{FailsAt, FailsBehind, NamesFaultBehind, IfKnown, IsFoldFault, ReadsBehind, TaggedBehind, TagDamage, IsLeaf}
+use Rattle.ciborium.specs.Reading.{FailsAt, FailsBehind, NamesFaultBehind, IfKnown, IsFoldFault, ReadsBehind, TagDamage, IsLeaf}
+use Rattle.ciborium.proofs.Words.{TaggedBehind}
 use Rattle.ciborium.specs.Exact.{LevelsExact, ItemExact}
-use Rattle.ciborium.specs.Frames.{halves, opened, Rooted, Stage, IsBegun, IsLow, Opening, Begins, BeginFails, in_hand, rank, Told, InHand, IsKept}
+use Rattle.ciborium.specs.Frames.{halves, opened, Rooted, Stage, IsBegun, IsLow, Opening, Begins, BeginFails, Told, InHand, IsKept}
 use Rattle.ciborium.proofs.ToldLemmas.{told_opened, told_titled, told_leaf, told_tagged}
 use Rattle.ciborium.proofs.Once.{append_nil}
-use Rattle.ciborium.proofs.StringLemmas.{title_some}
 use Rattle.ciborium.proofs.Taking.{takes_as, takes_then}
 use Rattle.ciborium.proofs.TagLemmas.{tag_read, tag_level, tag_free, level_item, free_item, tag_fails}
 use Rattle.ciborium.proofs.ReaderLemmas.{fold_fails}
@@ -117,19 +117,6 @@ level_begun limit left at now h f x xs ys read w w' y same e none i k from b r t
     let low : length (opened (x ∷ reverse xs)) < limit = omega (arith, i.0, left_is limit left x xs same r) in
     subst (λ (z : Option Value). Stage k w' limit (f ∷ reverse ys) z from (now + length y) (b ++ y)) (sym none)
     (subst (λ (z : List Frame). Stage k w' limit (f ∷ z) None from (now + length y) (b ++ y)) (sym (last_pushed xs ys x e)) (level_begins limit at now h f (x ∷ reverse xs) w w' y i.1 k from b r low t))
-
-pub level_rises : (h : Header) (at left : ℕ) (f x : Frame) (xs ys : List Frame) (read : Option Value) (w w' : Bool) (l₀ l₁ : Option (List ℕ)) (o₀ o₁ : ℕ) → ys ≡ xs ++ x ∷ [] → read ≡ None → Moves l₀ l₁ o₀ o₁ (Opening h at o₀ left w w' (opens.Level f))
-    → rank ys f read + 4 * o₀ ≤ 2 * length xs + 2 + 4 * o₁
-level_rises h at left f x xs ys read w w' l₀ l₁ o₀ o₁ e none t = let s = hands f t.bytes t.has in omega (arith, ap length e, length-append xs (x ∷ []), t.grown)
-  where
-    hands : (f : Frame) (y : List ℕ) → Opening h at o₀ left w w' (opens.Level f) y → in_hand read f ≤ 4 * length y
-    hands f y i = subst (λ (z : Option Value). in_hand z f ≤ 4 * length y) (sym none) (go f i)
-      where
-        go : (f : Frame) → Opening h at o₀ left w w' (opens.Level f) y → in_hand None f ≤ 4 * length y
-        go (code.Whole p k) i = absurd i.1
-        go (code.Items l) i = omega arith
-        go (code.Entries l) i = omega arith
-        go (code.Tag n p k) i = let s = title_some y k i.1.2 in omega arith
 
 -- a leaf is read
 pub plain_leaf : (limit left at now place : ℕ) (h j : Header) (fs : List Frame) (v : Value) (read : Option Value) (w w' : Bool) (x y : List ℕ) → read ≡ Some v → Opening h at now left w w' (opens.Leaf None place j) x

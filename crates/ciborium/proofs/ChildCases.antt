@@ -6,7 +6,8 @@ use Rattle.ciborium_ll.specs.declared.hdr.Header.TheVariants.{Break, Array, Map}
 use Rattle.ciborium_value.specs.Tree.{Tree, Trees, no_trees, one_more, Pairs, no_pairs, pair_more, flat, tree_count}
 use Rattle.ciborium.specs.Damage.{Fault, Damage}
 use Rattle.ciborium.specs.Front.{ReadsAll, Front}
-use Rattle.ciborium.specs.Reading.{ChildrenBehind, ChildDamage, is_full, FitsIn}
+use Rattle.ciborium.specs.Reading.{ChildrenBehind, is_full}
+use Rattle.ciborium.proofs.Words.{ChildDamage, FitsIn}
 use Rattle.ciborium_ll.proofs.Closings.{break_title}
 use Rattle.ciborium.proofs.Once.{first}
 use Rattle.ciborium.proofs.StringLemmas.{title_some}

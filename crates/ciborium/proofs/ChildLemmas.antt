@@ -16,7 +16,8 @@ use Rattle.ciborium.specs.Meaning.{meaning, meanings, pair_meanings}
 use Rattle.ciborium.specs.Damage.{Fault, end, deep, syntax, semantic, Damage, TitleDamage, Due}
 use Rattle.ciborium.specs.Front.{ReadsAll}
 use Rattle.ciborium_ll.specs.Title.{Begins}
-use Rattle.ciborium.specs.Reading.{EndPlace, IsLong, FailsAt, FailsBehind, IfKnown, ReadsBehind, ChildrenBehind, ChildDamage, is_full, FitsIn}
+use Rattle.ciborium.specs.Reading.{EndPlace, IsLong, FailsAt, FailsBehind, IfKnown, ReadsBehind, ChildrenBehind, is_full}
+use Rattle.ciborium.proofs.Words.{ChildDamage, FitsIn}
 use Rattle.ciborium_ll.proofs.Closings.{break_title}
 use Rattle.ciborium.proofs.Once.{title_once}
 use Rattle.ciborium.proofs.Taking.{fails_as}

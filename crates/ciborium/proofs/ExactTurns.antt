@@ -14,14 +14,14 @@ use Rattle.ciborium.specs.Meaning.{meaning}
 use Rattle.ciborium.specs.Front.{Reads}
 use Rattle.ciborium.proofs.Once.{append_nil, once, title_once}
 use Rattle.ciborium.proofs.ExactSound.{sound_spells}
-use Rattle.ciborium.specs.Frames.{snoc}
+use Rattle.ciborium.specs.Frames.{snoc, IsKept}
 use Rattle.ciborium.proofs.Folded.{means_again}
 use Rattle.ciborium.proofs.ExactWhole.{then_some, over_itself}
 use Rattle.ciborium.specs.Exact.{Sound, Says, level_enc, levels_enc, AllEncoded, AllFit, LevelsExact, TitleExact, ItemExact, IsEncoded, head_of, behind}
 use Rattle.ciborium_ll.specs.Framing.{Frame, whole, cut, joined, Any}
 use Rattle.std.specs.Str.{IsUtf8}
 use Rattle.ciborium.specs.Reading.{IsLeaf}
-use Rattle.ciborium.proofs.ExactSteps.{says_and, says_as, title_front, levels_front, enc_snoc, open_array, open_map}
+use Rattle.ciborium.proofs.ExactSteps.{says_and, says_as, says_kept, title_front, levels_front, enc_snoc, open_array, open_map}
 use Rattle.ciborium.proofs.ExactWhole.{simple_kept, simple_not}
 use Rattle.ciborium.specs.Levels.{Level, Within}
 
@@ -173,15 +173,15 @@ turn_map_broken w limit fs ps b title inner within fit t few p =
     (λ x. absurd x.0.1)
     (λ x. let k = levels_front limit fs b (title ++ (inner ++ 255 ∷ [])) (enc (map ps)) within fit x.1 in absurd (open_map title (inner ++ 255 ∷ []) ps t few k.1)) p
 
--- the content of a tag is in hand: the tag is folded, and `k` tells whether it stays
-pub turn_folded : (w k : Bool) (limit low : ℕ) (fs : List Level) (n : ℕ) (c v : Tree) (b title inner : List ℕ) → Within limit fs b → AllFit fs → Title title (Tag n) → n < 2 ^ 64
+-- the content of a tag is in hand: the tag is folded, and `w'` tells whether it stays
+pub turn_folded : (w w' : Bool) (limit low : ℕ) (fs : List Level) (n : ℕ) (c v : Tree) (b title inner : List ℕ) → Within limit fs b → AllFit fs → Title title (Tag n) → n < 2 ^ 64
     → Reads inner low c → tagged n c ≡ Some v → Sound v
-    → Says w (ItemExact (record { head = Tag n; done = no_trees } ∷ fs) c ((b ++ title) ++ inner)) → Says k (v ≡ tag n c) → Says (w && k) (ItemExact fs v ((b ++ title) ++ inner))
-turn_folded w k limit low fs n c v b title inner within fit t fn r folds fv p q =
-    says_as (w && k) (ItemExact (record { head = Tag n; done = no_trees } ∷ fs) c ((b ++ title) ++ inner) × (v ≡ tag n c)) (ItemExact fs v ((b ++ title) ++ inner))
+    → Says w (ItemExact (record { head = Tag n; done = no_trees } ∷ fs) c ((b ++ title) ++ inner)) → IsKept n c v w w' → Says w' (ItemExact fs v ((b ++ title) ++ inner))
+turn_folded w w' limit low fs n c v b title inner within fit t fn r folds fv p q =
+    says_as w' (ItemExact (record { head = Tag n; done = no_trees } ∷ fs) c ((b ++ title) ++ inner) × (v ≡ tag n c)) (ItemExact fs v ((b ++ title) ++ inner))
     (λ x. (x.0.0.0, x.0.1 ∙ whole_is ∙ ap (λ z. levels_enc fs ++ enc z) (sym x.1)))
     (λ x. back x.0 x.1)
-    (says_and w k (ItemExact (record { head = Tag n; done = no_trees } ∷ fs) c ((b ++ title) ++ inner)) (v ≡ tag n c) p q)
+    (says_kept w w' (ItemExact (record { head = Tag n; done = no_trees } ∷ fs) c ((b ++ title) ++ inner)) (v ≡ tag n c) p q)
   where
     whole_is : (levels_enc fs ++ level_enc (Tag n) no_trees) ++ enc c ≡ levels_enc fs ++ enc (tag n c)
     whole_is = append_assoc (levels_enc fs) (level_enc (Tag n) no_trees) (enc c) ∙ ap (λ z. levels_enc fs ++ (z ++ enc c)) (sym (append_nil (title_of (Tag n))))
@@ -227,25 +227,16 @@ tag_back limit n c v title inner t fn r folds fv e =
     (f.0, (f.1 ∙ ap enc (i ∙ l), sym w.0 ∙ ap (tag n) (i ∙ l)))
 
 -- a bignum that was read behind its tag, in one piece: the tag opens no level
-pub turn_bignum : (w k : Bool) (limit low : ℕ) (fs : List Level) (n : ℕ) (c v : Tree) (b title inner : List ℕ) → Within limit fs b → AllFit fs → Title title (Tag n) → n < 2 ^ 64
+pub turn_bignum : (w w' : Bool) (limit low : ℕ) (fs : List Level) (n : ℕ) (c v : Tree) (b title inner : List ℕ) → Within limit fs b → AllFit fs → Title title (Tag n) → n < 2 ^ 64
     → Reads inner low c → tagged n c ≡ Some v → Sound v
-    → Says w (TitleExact fs (Tag n) b title × (inner ≡ enc c)) → Says k (v ≡ tag n c) → Says (w && k) (ItemExact fs v (b ++ (title ++ inner)))
-turn_bignum w k limit low fs n c v b title inner within fit t fn r folds fv p q =
-    says_as (w && k) ((TitleExact fs (Tag n) b title × (inner ≡ enc c)) × (v ≡ tag n c)) (ItemExact fs v (b ++ (title ++ inner)))
+    → Says w (TitleExact fs (Tag n) b title × (inner ≡ enc c)) → IsKept n c v w w' → Says w' (ItemExact fs v (b ++ (title ++ inner)))
+turn_bignum w w' limit low fs n c v b title inner within fit t fn r folds fv p q =
+    says_as w' ((TitleExact fs (Tag n) b title × (inner ≡ enc c)) × (v ≡ tag n c)) (ItemExact fs v (b ++ (title ++ inner)))
     (λ x. (x.0.0.0.0, ap (λ z. z ++ (title ++ inner)) x.0.0.0.1 ∙ ap (λ z. levels_enc fs ++ (z ++ inner)) x.0.0.1 ∙ ap (λ z. levels_enc fs ++ (title_of (Tag n) ++ z)) x.0.1 ∙ ap (λ z. levels_enc fs ++ enc z) (sym x.1)))
     (λ x. let k = levels_front limit fs b (title ++ inner) (enc v) within fit x.1 in
     let c = tag_back low n c v title inner t fn r folds fv k.1 in
     ((((x.0, k.0), c.0, tt), c.1.0), c.1.1))
-    (says_and w k (TitleExact fs (Tag n) b title × (inner ≡ enc c)) (v ≡ tag n c) p q)
-
--- the same where nothing is open around it: how a reader that recurs goes on
-pub tag_exact : (w k : Bool) (low n : ℕ) (c v : Tree) (title inner : List ℕ) → Title title (Tag n) → n < 2 ^ 64 → Reads inner low c → tagged n c ≡ Some v → Sound v
-    → Says w ((title ≡ title_of (Tag n)) × (inner ≡ enc c)) → Says k (v ≡ tag n c) → Says (w && k) (title ++ inner ≡ enc v)
-tag_exact w k low n c v title inner t fn r folds fv p q =
-    says_as (w && k) (((title ≡ title_of (Tag n)) × (inner ≡ enc c)) × (v ≡ tag n c)) (title ++ inner ≡ enc v)
-    (λ x. ap (λ z. z ++ inner) x.0.0 ∙ ap (λ z. title_of (Tag n) ++ z) x.0.1 ∙ ap enc (sym x.1))
-    (λ e. let c = tag_back low n c v title inner t fn r folds fv e in ((c.0, c.1.0), c.1.1))
-    (says_and w k ((title ≡ title_of (Tag n)) × (inner ≡ enc c)) (v ≡ tag n c) p q)
+    (says_kept w w' (TitleExact fs (Tag n) b title × (inner ≡ enc c)) (v ≡ tag n c) p q)
 
 -- no level is open any more
 pub turn_done : (w : Bool) (v : Tree) (b : List ℕ) → Says w (ItemExact [] v b) → Says w (b ≡ enc v)

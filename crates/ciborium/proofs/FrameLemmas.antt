@@ -28,12 +28,13 @@ use Rattle.ciborium.specs.declared.frames.Handed.TheVariants as handed
 use Rattle.ciborium.specs.Damage.{semantic, Damage, in_title, TitleDamage, Due}
 use Rattle.ciborium.specs.Exact.{encoded, LevelsExact, ItemExact}
 use Rattle.ciborium.specs.Levels.{Level, Within, Fits, Stands, Handing}
-use Rattle.ciborium.proofs.ToldLemmas.{told_handed, told_tag, told_done, told_array, told_map, told_titled}
-use Rattle.ciborium.specs.Reading.{IsFoldFault, Closes, IsNext, NamesFault, FitsIn, is_full, fault_failures}
+use Rattle.ciborium.proofs.ToldLemmas.{told_handed, told_tag, told_array, told_map, told_titled}
+use Rattle.ciborium.specs.Reading.{IsFoldFault, Closes, IsNext, NamesFault, is_full}
+use Rattle.ciborium.proofs.Words.{FitsIn}
 use Rattle.ciborium.proofs.StringLemmas.{title_some}
-use Rattle.ciborium.specs.Frames.{in_hand, snoc, front, halves, halves_of, HasHalf, opened, Stage, Hands, HandFails, Faults, IsClosed, AskEnds, AskGives, AskFails, Told, InHand, IsFlagged, IsKept, CloseGives}
+use Rattle.ciborium.specs.Frames.{in_hand, snoc, front, halves, halves_of, HasHalf, opened, Stage, Hands, HandFails, Faults, AskEnds, AskGives, AskFails, Told, InHand, IsFlagged, IsKept, CloseGives}
 use Rattle.ciborium.proofs.ReadLemmas.{snoc_count, pushed, pushed_pair, count_views, count_flat}
-use Rattle.ciborium.proofs.LevelLemmas.{all_whole, level_more, level_whole, due_fails, tag_whole, negative_damage, array_more, map_more}
+use Rattle.ciborium.proofs.LevelLemmas.{level_more, level_whole, due_fails, tag_whole, negative_damage, array_more, map_more}
 
 -- the frame that was pushed last is the innermost
 pub last_pushed : {A : Type 0} (xs ys : List A) (x : A) → ys ≡ xs ++ x ∷ [] → reverse ys ≡ x ∷ reverse xs
@@ -85,15 +86,6 @@ tag_folds fs n at h v (error.Semantic o k) w ends limit from b left now same s =
 tag_folds fs n at h v error.RecursionLimitExceeded w ends limit from b left now same s = absurd w
 tag_folds fs n at h v error.Memory w ends limit from b left now same s = faults_memory ends limit from b left now
 tag_folds fs n at h v error.TooLong w ends limit from b left now same s = absurd w
-
--- the whole is done
-pub whole_done : (fs : List Frame) (at : ℕ) (h : Header) (v : Value) (w : Bool) → Hands (code.Whole at h ∷ fs) (code.Whole at h ∷ fs) (Some v) (Some v) w w handed.Done
-whole_done fs at h v w k limit from now b (r, p, q) = (
-  v,
-  refl,
-  all_whole limit (view v) b (subst (λ (z : List Frame). Handing limit (opened z) (view v) b) r p),
-  told_done k w (view v) b (subst (λ (z : List Frame). Told k w (length b) (ItemExact (opened z) (view v) b)) r q),
-)
 
 -- a key, and then its value
 front_snoc : (ts : Trees) (t : Tree) → front (snoc ts t) ≡ ts
@@ -154,22 +146,6 @@ map_closed xs ys x l e k w limit from now b (p, y, r, within, ends, whole, told)
       subst (λ (z : Tree). Told k w (length b) (ItemExact (opened (reverse ys)) z b)) (sym (view_map l.entries))
           (told_map k w l.count limit (opened (reverse ys)) (view_pairs l.entries.items) (length l.entries.items) p y b (count_flat view_pair l.entries.items) within' ends.1 whole told'),
     )
-
--- the whole and a tag are not closed, and no level stands alone
-pub not_alone : (f : Frame) (fs : List Frame) → fs ≡ [] → IsClosed (f ∷ reverse fs) → ⊥
-not_alone f fs e c = go f (subst (λ (z : List Frame). IsClosed (f ∷ reverse z)) e c)
-  where
-    go : (f : Frame) → IsClosed (f ∷ []) → ⊥
-    go (code.Whole at h) (limit, b, c) = c.4
-    go (code.Items l) (limit, b, c) = c.2
-    go (code.Entries l) (limit, b, c) = c.2.1
-    go (code.Tag n at h) (limit, b, c) = c.4
-
-pub whole_stays : (at : ℕ) (h : Header) (fs : List Frame) → IsClosed (code.Whole at h ∷ fs) → ⊥
-whole_stays at h fs (limit, b, c) = c.4
-
-pub tag_stays : (n at : ℕ) (h : Header) (fs : List Frame) → IsClosed (code.Tag n at h ∷ fs) → ⊥
-tag_stays n at h fs (limit, b, c) = c.4
 
 -- what an array is asked
 pub items_end : (l : Items) (n : ℕ) (y : List ℕ) → n ≡ length l.items.items → Closes l.count n y → AskEnds (code.Items l) y
@@ -271,14 +247,6 @@ entries_ends l (Some r) old new t = tt
 pub part_same : (o : Option (ℕ × Header)) (w w' u : Bool) → MatchOption o (w' ≡ w) (λ r. w' ≡ (w && (u && encoded r.1))) → IfNone o (w' ≡ w)
 part_same None w w' u flag = flag
 part_same (Some r) w w' u flag = tt
-
-pub fold_quiet : {E : Type 0} (n : ℕ) (t : Tree) (e : Error E) → IsFoldFault n t e → (ends : E → Bool) (m : ℕ) → fault_failures ends e m ≡ m
-fold_quiet n t (error.Io e) w ends m = absurd w
-fold_quiet n t (error.Syntax p) w ends m = absurd w
-fold_quiet n t (error.Semantic o k) w ends m = refl
-fold_quiet n t error.RecursionLimitExceeded w ends m = absurd w
-fold_quiet n t error.Memory w ends m = refl
-fold_quiet n t error.TooLong w ends m = absurd w
 
 -- a title in hand that is not begun
 in_hand_still : (k w : Bool) (limit : ℕ) (fs : List Level) (h : Header) (at from now : ℕ) (b : List ℕ) → InHand k w limit fs h at from now b → InHand k w limit fs h at from (now + length {A = ℕ} []) (b ++ [])

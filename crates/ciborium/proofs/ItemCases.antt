@@ -17,7 +17,8 @@ use Rattle.ciborium.specs.Spelling.{Spells}
 use Rattle.ciborium.specs.Meaning.{meaning, simple_meaning}
 use Rattle.ciborium.specs.Damage.{Fault, end, deep, syntax, semantic, Damage, in_title, in_bytes, in_text, unassigned, stray_break, too_negative, too_deep, in_child, in_tag, in_free, IsLevel, Opens}
 use Rattle.ciborium.specs.Front.{Front}
-use Rattle.ciborium.specs.Reading.{TaggedBehind, ReadsBehind}
+use Rattle.ciborium.specs.Reading.{ReadsBehind}
+use Rattle.ciborium.proofs.Words.{TaggedBehind}
 use Rattle.ciborium.proofs.StringLemmas.{title_some}
 use Rattle.ciborium.proofs.ChildLemmas.{array_read, map_read}
 use Rattle.ciborium.proofs.TagLemmas.{tag_read, tag_level, free_depth, bytes_meant}

@@ -202,12 +202,6 @@ tag_whole limit n f fs c v b is none p e =
       whole = p.whole ∙ joined_up p.before w.0 w.1 q.title q.inner (p.title ++ p.rest) w.6 q.whole ∙ ap (λ z. w.0 ++ (q.title ++ (z ++ (p.title ++ p.rest)))) nothing;
     }
 
--- the whole item
-pub all_whole : (limit : ℕ) (v : Tree) (b : List ℕ) → Handing limit [] v b → Reads b limit v
-all_whole limit v b p =
-    let same : limit - 0 ≡ limit = omega arith in
-    subst (λ (z : List ℕ). Reads z limit v) (sym (p.whole ∙ ap (λ z. z ++ (p.title ++ p.rest)) p.within)) (subst (λ (z : ℕ). Reads (p.title ++ p.rest) z v) same p.reads)
-
 -- a number that is too negative
 pub negative_damage : (limit n : ℕ) (f : Level) (fs : List Level) (c : Tree) (b rest : List ℕ) (stop : ℕ) → f.head ≡ Tag n → f.done ≡ no_trees → Handing limit (f ∷ fs) c b → IsTooNegative n c
     → Damage stop (b ++ rest) limit (semantic kind.BigNegative)

@@ -1,4 +1,5 @@
 pub mod Building
+pub mod Words
 pub mod Once
 pub mod Taking
 pub mod StringLemmas

@@ -119,12 +119,6 @@ all_more a b limit vs v p q = record {
   means = snoc_means p.trees vs q.tree v p.means q.means;
 }
 
--- an item behind those that were read, with its title
-pub step_item : (l₀ l₁ l₂ l₃ : Option (List ℕ)) (o₀ o₁ o₂ o₃ limit : ℕ) (vs : Trees) (v : Tree) (h : Header) → Moves l₀ l₁ o₀ o₁ (λ (b : List ℕ). ReadsAll b limit vs)
-    → Moves l₁ l₂ o₁ o₂ (λ (b : List ℕ). Title b h) → Moves l₂ l₃ o₂ o₃ (λ (b : List ℕ). ReadsBehind h limit v b) → Moves l₀ l₃ o₀ o₃ (λ (b : List ℕ). ReadsAll b limit (snoc vs v))
-step_item l₀ l₁ l₂ l₃ o₀ o₁ o₂ o₃ limit vs v h p t q =
-    takes_then l₀ l₁ l₃ o₀ o₁ o₃ _ (λ z. Reads z limit v) _ p (takes_then l₁ l₂ l₃ o₁ o₂ o₃ _ _ _ t q (λ x y a b. b x a)) (λ x y a b. all_more x y limit vs v a b)
-
 pub item_read : (l₁ l₂ l₃ : Option (List ℕ)) (o₁ o₂ o₃ limit : ℕ) (v : Tree) (h : Header)
     → Moves l₁ l₂ o₁ o₂ (λ (b : List ℕ). Title b h) → Moves l₂ l₃ o₂ o₃ (λ (b : List ℕ). ReadsBehind h limit v b) → Moves l₁ l₃ o₁ o₃ (λ (b : List ℕ). Reads b limit v)
 item_read l₁ l₂ l₃ o₁ o₂ o₃ limit v h t q = takes_then l₁ l₂ l₃ o₁ o₂ o₃ _ _ _ t q (λ x y a b. b x a)

@@ -7,7 +7,8 @@ use Rattle.ciborium.specs.declared.de.Error.{Error}
 use Rattle.ciborium.specs.declared.de.Error.TheVariants as code
 use Rattle.ciborium.specs.Damage.{Fault, Damage}
 use Rattle.ciborium.specs.Front.{ReadsAll}
-use Rattle.ciborium.specs.Reading.{FailsAt, IfKnown, FailsBehind, IsFoldFault, TaggedBehind, ChildrenBehind, Closes}
+use Rattle.ciborium.specs.Reading.{FailsAt, IfKnown, FailsBehind, IsFoldFault, ChildrenBehind, Closes}
+use Rattle.ciborium.proofs.Words.{TaggedBehind}
 use Rattle.ciborium.proofs.Once.{append_nil}
 use Rattle.ciborium.proofs.TagLemmas.{negative_fails}
 

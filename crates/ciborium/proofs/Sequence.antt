@@ -70,9 +70,6 @@ items_below n (suc m) at b few low = by_item (item_case (length b) n b (omega ar
 pub items_there_within : (n at : ℕ) (b : List ℕ) → All (λ x. x < 256) b → (is : List Item) × (rest : List ℕ) × ItemsWithin n at b is rest
 items_there_within n at b low = items_below n (suc (length b)) at b (omega arith) low
 
-pub items_there : (at : ℕ) (b : List ℕ) → All (λ x. x < 256) b → (is : List Item) × (rest : List ℕ) × Items at b is rest
-items_there at b low = items_there_within nesting at b low
-
 -- an encoding is one item and nothing else
 pub encoding_item_within : (n at : ℕ) (t u : Tree) → Fits t → Assigned t → depth t ≤ n → fold t ≡ Some u
     → ItemsWithin n at (enc t) (item_at at (enc t) u ∷ []) []
@@ -82,6 +79,3 @@ encoding_item_within n at t u fits assigned shallow e =
       sequence = (refl, record { tree = t; spells = m.0; shallow = shallow; means = m.1 }, ([], append_nil (enc t), refl));
       ends = λ v rest f. excludes 0 [] n end (in_title [] n end tt) v rest f;
     }
-
-pub encoding_item : (at : ℕ) (t u : Tree) → Fits t → Assigned t → depth t ≤ nesting → fold t ≡ Some u → Items at (enc t) (item_at at (enc t) u ∷ []) []
-encoding_item at t u fits assigned shallow e = encoding_item_within nesting at t u fits assigned shallow e

@@ -15,7 +15,8 @@ use Rattle.ciborium_value.specs.Folding.{tagged, fold_bytes}
 use Rattle.ciborium.specs.Damage.{Fault, end, deep, syntax, semantic, Damage, in_title, too_negative, too_deep, in_tag, in_free, TitleDamage, IsFree, IsLevel}
 use Rattle.ciborium.specs.Front.{Reads}
 use Rattle.ciborium_ll.specs.Title.{Begins}
-use Rattle.ciborium.specs.Reading.{FailsAt, FailsBehind, IfKnown, ReadsBehind, TaggedBehind, TagDamage, OpensOver}
+use Rattle.ciborium.specs.Reading.{FailsAt, FailsBehind, IfKnown, ReadsBehind, TagDamage, OpensOver}
+use Rattle.ciborium.proofs.Words.{TaggedBehind}
 use Rattle.ciborium_value.specs.Folding.{IsTooNegative}
 use Rattle.ciborium.proofs.Taking.{fails_as}
 use Rattle.ciborium.proofs.ReadLemmas.{behind_rest}

@@ -1,10 +1,9 @@
 -- Parts that are taken one after another, and faults behind them.
-use Rattle.std.proofs.Common.{◌≡◌, ◌≤◌, ◌<◌, ◌+◌, ◌^◌, ℕ, Bool, List, [], ◌∷◌, ◌++◌, length, Option, None, Some, refl, sym, ap, subst, ◌∙◌, arith, length-append}
+use Rattle.std.proofs.Common.{◌≡◌, ◌≤◌, ◌+◌, ◌^◌, ℕ, Bool, List, [], ◌∷◌, ◌++◌, length, Option, None, Some, refl, sym, ap, subst, ◌∙◌, arith, length-append}
 use Rattle.std.specs.Prelude.{min}
 use Rattle.std.specs.Io.KnownBytes.{Consumes}
 use Rattle.std.proofs.KnownBytes.{Consumes-trans}
 use Rattle.ciborium_ll.specs.Reading.{Moves, Tells, Ends, IsBadByte}
-use Rattle.ciborium_ll.specs.Device.{IsShort}
 use Rattle.ciborium_ll.specs.declared.hdr.Header.{Header}
 use Rattle.ciborium_ll.specs.declared.hdr.Error.{Error as HeadError}
 use Rattle.ciborium_ll.specs.declared.hdr.Error.TheVariants as below
@@ -12,7 +11,7 @@ use Rattle.ciborium_ll.specs.Title.{Title, IsCut, StartsBad}
 use Rattle.ciborium.specs.declared.de.Error.{Error}
 use Rattle.ciborium.specs.declared.de.Error.TheVariants as code
 use Rattle.ciborium.specs.Damage.{Fault, end, deep, syntax, semantic, TitleDamage}
-use Rattle.ciborium.specs.Reading.{Fails, FailsAt, FailsBehind, EndPlace, IfKnown, IsLong, ShortBy, lifted}
+use Rattle.ciborium.specs.Reading.{Fails, FailsAt, FailsBehind, EndPlace, IfKnown, lifted}
 
 pub takes_then : (l₀ l₁ l₂ : Option (List ℕ)) (o₀ o₁ o₂ : ℕ) (P Q S : List ℕ → Type 0) → Moves l₀ l₁ o₀ o₁ P → Moves l₁ l₂ o₁ o₂ Q
     → ((x y : List ℕ) → P x → Q y → S (x ++ y)) → Moves l₀ l₂ o₀ o₂ S
@@ -96,27 +95,6 @@ fails_pull ends (Some b) l₁ o₀ o₁ e f i w = subst (λ (z : Error _). Fails
     go b l₁ (below.Syntax p) w = (bad b l₁ w.1, ap (λ z. z + length b) w.0)
     go b l₁ below.TooLong w = omega arith
     go b l₁ below.Waiting w = absurd w
-
--- too few bytes behind some that were taken
-pub short_behind : {E : Type 0} (ends : E → Bool) (l₀ l₁ l₂ : Option (List ℕ)) (o₀ o₁ o₂ n got m : ℕ) (P : List ℕ → Type 0) (e : HeadError E) (f : Error E) → f ≡ lifted e
-    → Moves l₀ l₁ o₀ o₁ P → ((x : List ℕ) → P x → length x ≡ got) → got + m ≤ n → m ≤ 4096 → o₂ ≡ o₁
-    → Tells ends (IsShort l₁ m) (λ p. ⊥) (2 ^ 64 ≤ o₁ + m) e → IfKnown l₀ (λ b. Fails ends (o₀ ≤ o₂) (ShortBy n (o₀ + length b) b) (IsLong o₀ b) f)
-short_behind ends None l₁ l₂ o₀ o₁ o₂ n got m P e f i t len le few same w = tt
-short_behind ends (Some b) None l₂ o₀ o₁ o₂ n got m P e f i t len le few same w = absurd t.taken
-short_behind ends (Some b) (Some rest) l₂ o₀ o₁ o₂ n got m P e f i t len le few same w =
-    subst (λ (z : Error _). Fails ends (o₀ ≤ o₂) (ShortBy n (o₀ + length b) b) (IsLong o₀ b) z) (sym i) (go e w)
-  where
-    total : length b ≡ got + length rest
-    total = ap length t.taken ∙ length-append t.bytes rest ∙ ap (λ z. z + length rest) (len t.bytes t.has)
-
-    grew : o₁ ≡ o₀ + got
-    grew = t.grown ∙ ap (λ z. o₀ + z) (len t.bytes t.has)
-
-    go : (e : HeadError _) → Tells ends (IsShort (Some rest) m) (λ p. ⊥) (2 ^ 64 ≤ o₁ + m) e → Fails ends (o₀ ≤ o₂) (ShortBy n (o₀ + length b) b) (IsLong o₀ b) (lifted e)
-    go (below.Io e) w = λ t. let s : length rest < m = w t in let u = total in let v = grew in (omega arith, omega arith)
-    go (below.Syntax p) w = absurd w
-    go below.TooLong w = let u = total in let v = grew in omega arith
-    go below.Waiting w = absurd w
 
 -- the faults behind a title, from those of the whole with any such title in front
 pub behind_title : {E : Type 0} (ends : E → Bool) (h : Header) (at : ℕ) (l : Option (List ℕ)) (o o' : ℕ) (D : ℕ → List ℕ → Fault → Type 0) (e : Error E)

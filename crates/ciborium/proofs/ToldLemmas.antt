@@ -10,13 +10,13 @@ use Rattle.ciborium_value.specs.Tree.{Tree, Trees, Pairs, array, bytes, map, tag
 use Rattle.ciborium.specs.Exact.{Says, IsEncoded, encoded, LevelsExact, TitleExact, ItemExact, AllFit}
 use Rattle.ciborium.specs.Levels.{Level, Within, Titled, Handing}
 use Rattle.ciborium.specs.Reading.{IsLeaf, ReadsBehind, Closes}
-use Rattle.ciborium.specs.Frames.{snoc, Told, IsFlagged, IsKept, InHand}
+use Rattle.ciborium.specs.Frames.{snoc, Told, IsFlagged, IsKept, IsLengthOf, InHand}
 use Rattle.ciborium.proofs.Once.{append_nil}
 use Rattle.ciborium.proofs.ChildLemmas.{flat_count}
 use Rattle.ciborium.proofs.ExactSound.{reads_sound, all_sound, title_fits, within_fits}
 use Rattle.std.specs.Prelude.{MatchOption, MatchBool}
 use Rattle.ciborium.proofs.ExactSteps.{says_and, bignum_stays}
-use Rattle.ciborium.proofs.ExactTurns.{plain_stays, turn_titled, turn_opened, turn_leaf, turn_handed, turn_closed, turn_array_broken, turn_map_broken, turn_folded, turn_bignum, turn_done, leaf_exact, array_enc, map_enc}
+use Rattle.ciborium.proofs.ExactTurns.{plain_stays, turn_titled, turn_opened, turn_leaf, turn_handed, turn_closed, turn_array_broken, turn_map_broken, turn_folded, turn_bignum, leaf_exact, array_enc, map_enc}
 use Rattle.ciborium.proofs.LevelLemmas.{joined_up, none_read, tag_whole}
 
 pub told_step : (k w w' : Bool) (n m : ℕ) (P Q : Type 0) → n ≤ m → (m < 2 ^ 64 → Says w P → Says w' Q) → Told k w n P → Told k w' m Q
@@ -110,7 +110,7 @@ told_map k w None limit fs ps d p y b count (x, z, within, child, low, begun, is
 -- a tag is whole with its item
 pub told_tag : (k w w' : Bool) (limit n : ℕ) (fs : List Level) (c v : Tree) (b : List ℕ) → Handing limit (record { head = Tag n; done = no_trees } ∷ fs) c b → tagged n c ≡ Some v → IsKept n c v w w'
     → Told k w (length b) (ItemExact (record { head = Tag n; done = no_trees } ∷ fs) c b) → Told k w' (length b) (ItemExact fs v b)
-told_tag k w w' limit n fs c v b p e (s, says, is) told =
+told_tag k w w' limit n fs c v b p e kept told =
     told_step k w w' (length b) (length b) (ItemExact (record { head = Tag n; done = no_trees } ∷ fs) c b) (ItemExact fs v b) (omega arith)
     (λ l q.
     let t = p.within in
@@ -121,11 +121,10 @@ told_tag k w w' limit n fs c v b p e (s, says, is) told =
     p.whole ∙ ap (λ z. z ++ (p.title ++ p.rest)) (t.6 ∙ ap (λ z. t.0 ++ z) (g.whole ∙ ap (λ z. g.title ++ z) nothing ∙ sym (append_nil g.title))) in
     let few : length t.0 < 2 ^ 64 = omega (arith, ap length bytes, length-append (t.0 ++ g.title) (p.title ++ p.rest), length-append t.0 g.title) in
     let lw : length (whole.title ++ whole.rest) < 2 ^ 64 = omega (arith, ap length whole.whole, length-append whole.before (whole.title ++ whole.rest)) in
-    subst (λ (z : Bool). Says z (ItemExact fs v b)) (sym is)
-    (subst (λ (z : List ℕ). Says (w && s) (ItemExact fs v z)) (sym bytes)
-    (turn_folded w s limit (limit - length (record { head = Tag n; done = no_trees } ∷ fs)) fs n c v t.0 g.title (p.title ++ p.rest) t.2 (within_fits limit fs t.0 t.2 few) g.is_title (title_fits (Tag n) g.title g.is_title)
+    subst (λ (z : List ℕ). Says w' (ItemExact fs v z)) (sym bytes)
+    (turn_folded w w' limit (limit - length (record { head = Tag n; done = no_trees } ∷ fs)) fs n c v t.0 g.title (p.title ++ p.rest) t.2 (within_fits limit fs t.0 t.2 few) g.is_title (title_fits (Tag n) g.title g.is_title)
     p.reads e (reads_sound (limit - length fs) v (whole.title ++ whole.rest) whole.reads lw)
-    (subst (λ (z : List ℕ). Says w (ItemExact (record { head = Tag n; done = no_trees } ∷ fs) c z)) bytes q) says))) told
+    (subst (λ (z : List ℕ). Says w (ItemExact (record { head = Tag n; done = no_trees } ∷ fs) c z)) bytes q) kept)) told
 
 -- a leaf
 behind_title : (limit : ℕ) (fs : List Level) (h : Header) (at from now : ℕ) (b y : List ℕ) (t : Titled limit fs h at from now b) → b ++ y ≡ t.before ++ (t.title ++ y)
@@ -144,7 +143,7 @@ told_leaf k w limit low fs h v at from now b y (t, p) leaf r =
 -- a leaf behind its tag
 pub told_tagged : (k w w₁ w' : Bool) (limit low : ℕ) (fs : List Level) (n : ℕ) (j : Header) (c v : Tree) (at from now : ℕ) (b x y : List ℕ) → InHand k w limit fs (Tag n) at from now b → IsLeaf j → Title x j
     → IsFlagged w w₁ j x → ((deep : ℕ) → ReadsBehind j deep c y) → ReadsBehind (Tag n) low v (x ++ y) → tagged n c ≡ Some v → IsKept n c v w₁ w' → Told k w' (length (b ++ (x ++ y))) (ItemExact fs v (b ++ (x ++ y)))
-told_tagged k w w₁ w' limit low fs n j c v at from now b x y (t, p) leaf title (u, short, flag) r whole e (s, says, is) =
+told_tagged k w w₁ w' limit low fs n j c v at from now b x y (t, p) leaf title (u, short, flag) r whole e kept =
     told_step k w w' (length b) (length (b ++ (x ++ y))) (TitleExact fs (Tag n) t.before t.title) (ItemExact fs v (b ++ (x ++ y))) (longer b (x ++ y))
     (λ l q.
     let bytes = behind_title limit fs (Tag n) at from now b (x ++ y) t in
@@ -152,23 +151,26 @@ told_tagged k w w₁ w' limit low fs n j c v at from now b x y (t, p) leaf title
     let lxy : length (x ++ y) < 2 ^ 64 = omega (arith, length-append b (x ++ y)) in
     let lw : length (t.title ++ (x ++ y)) < 2 ^ 64 = omega (arith, ap length bytes, length-append t.before (t.title ++ (x ++ y))) in
     let told = leaf_exact (u && encoded j) j low c x y leaf title (r low x title) (reads_sound low c (x ++ y) (r low x title) lxy) (says_and u (encoded j) (x ≡ title_of j) (IsEncoded j) short (encoded_says j)) in
-    subst (λ (z : Bool). Says z (ItemExact fs v (b ++ (x ++ y)))) (sym is)
-    (subst (λ (z : List ℕ). Says (w₁ && s) (ItemExact fs v z)) (sym bytes)
-    (turn_bignum w₁ s limit low fs n c v t.before t.title (x ++ y) t.within (before_few limit fs (Tag n) at from now b t lb) t.is_title (title_fits (Tag n) t.title t.is_title)
+    subst (λ (z : List ℕ). Says w' (ItemExact fs v z)) (sym bytes)
+    (turn_bignum w₁ w' limit low fs n c v t.before t.title (x ++ y) t.within (before_few limit fs (Tag n) at from now b t lb) t.is_title (title_fits (Tag n) t.title t.is_title)
     (r low x title) e (reads_sound low v (t.title ++ (x ++ y)) (whole t.title t.is_title) lw)
-    (subst (λ (z : Bool). Says z (TitleExact fs (Tag n) t.before t.title × (x ++ y ≡ enc c))) (sym flag) (says_and w (u && encoded j) (TitleExact fs (Tag n) t.before t.title) (x ++ y ≡ enc c) q told)) says))) p
-
--- the whole is read
-pub told_done : (k w : Bool) (v : Tree) (b : List ℕ) → Told k w (length b) (ItemExact [] v b) → Told k w (length b) (b ≡ enc v)
-told_done k w v b p = told_step k w w (length b) (length b) (ItemExact [] v b) (b ≡ enc v) (omega arith) (λ l q. turn_done w v b q) p
+    (subst (λ (z : Bool). Says z (TitleExact fs (Tag n) t.before t.title × (x ++ y ≡ enc c))) (sym flag) (says_and w (u && encoded j) (TitleExact fs (Tag n) t.before t.title) (x ++ y ≡ enc c) q told)) kept)) p
 
 -- a fold that keeps its content
-pub fold_kept : (n : ℕ) (o : Option ℕ) (s : Bool) (c v : Tree) → tagged n c ≡ Some v → MatchOption o ((x : List ℕ) → c ≢ bytes x) (λ m. (x : List ℕ) × (c ≡ bytes x) × (length x ≡ m))
+fold_says : (n : ℕ) (o : Option ℕ) (s : Bool) (c v : Tree) → tagged n c ≡ Some v → IsLengthOf o c
     → MatchOption o (s ≡ true) (λ m. MatchBool s ((x : List ℕ) × (v ≡ tag n (bytes x)) × (length x ≡ m)) ((x : List ℕ) → length x ≡ m → v ≢ tag n (bytes x))) → Says s (v ≡ tag n c)
-fold_kept n None s c v e other is = subst (λ (z : Bool). Says z (v ≡ tag n c)) (sym is) (plain_stays n c v other e)
-fold_kept n (Some m) true c v e (x, of, len) (y, is, same) =
+fold_says n None s c v e other is = subst (λ (z : Bool). Says z (v ≡ tag n c)) (sym is) (plain_stays n c v other e)
+fold_says n (Some m) true c v e (x, of, len) (y, is, same) =
     bignum_kept x y of (bignum_stays n x y v (ap (tagged n) (sym of) ∙ e) is (same ∙ sym len))
   where
     bignum_kept : (x y : List ℕ) → c ≡ bytes x → v ≡ tag n (bytes x) → v ≡ tag n c
     bignum_kept x y of p = p ∙ ap (tag n) (sym of)
-fold_kept n (Some m) false c v e (x, of, len) not = λ p. not x len (p ∙ ap (tag n) of)
+fold_says n (Some m) false c v e (x, of, len) not = λ p. not x len (p ∙ ap (tag n) of)
+
+and_kept : (w s w' : Bool) (P : Type 0) → w' ≡ (w && s) → Says s P → MatchBool w (Says w' P) (w' ≡ false)
+and_kept true s w' P e q = subst (λ (z : Bool). Says z P) (sym e) q
+and_kept false s w' P e q = e
+
+pub fold_kept : (n : ℕ) (o : Option ℕ) (w s w' : Bool) (c v : Tree) → tagged n c ≡ Some v → IsLengthOf o c
+    → MatchOption o (s ≡ true) (λ m. MatchBool s ((x : List ℕ) × (v ≡ tag n (bytes x)) × (length x ≡ m)) ((x : List ℕ) → length x ≡ m → v ≢ tag n (bytes x))) → w' ≡ (w && s) → IsKept n c v w w'
+fold_kept n o w s w' c v e of is kept = and_kept w s w' (v ≡ tag n c) kept (fold_says n o s c v e of is)

@@ -97,11 +97,6 @@ turn_done {limit} {h} {at} {old} {new} {u} {w} {fs} {read} gs read' w' v some t 
 pub done_some : (fs gs : List Frame) (read read' : Option Value) (w w' : Bool) → read' ≡ None → IsStaged fs read → Hands fs gs read read' w w' handed.Done → ⊥
 done_some fs gs read read' w w' none (limit, from, now, b, p) s = let q = s false limit from now b (unasked_as false w limit fs read from now b p) in let e : None ≡ Some q.0 = sym none ∙ q.1 in cc
 
--- a tag is whole
-pub turn_up : {limit : ℕ} {h : Header} {at : ℕ} {old new : Seen} {u w : Bool} {fs : List Frame} {read : Option Value} (gs : List Frame) (read' : Option Value) (w' : Bool) → Turn limit h at old new u w fs read → Hands fs gs read read' w w' handed.Up → Turn limit h at old new u w' gs read'
-turn_up {limit} {h} {at} {old} {new} {u} {w} {fs} {read} gs read' w' t s =
-    record { taken = takes_as old.left new.left old.offset new.offset (Behind limit h at old new u w fs read) (Behind limit h at old new u w' gs read') t.taken (λ y b k title i f. s k limit at new.offset (title ++ y) (b k title i f)) }
-
 -- a value was taken
 pub turn_taken : {limit : ℕ} {h : Header} {at : ℕ} {old new : Seen} {u w : Bool} {fs : List Frame} {read : Option Value} (gs : List Frame) (read' : Option Value) (w' : Bool) → Turn limit h at old new u w fs read → Hands fs gs read read' w w' handed.Taken → Turn limit h at old new u w' gs None
 turn_taken {limit} {h} {at} {old} {new} {u} {w} {fs} {read} gs read' w' t s =

@@ -1,5 +1,5 @@
--- When a spelling is the encoding of what it means: each title is the shortest of its header, no title is open, no simple value is
--- undefined, and each tag stays over its content as it is.
+-- When the bytes of an item so far are a beginning of its encoding: each title is the shortest of its header, no title is open, no simple
+-- value is undefined, and each tag stays over its content as it is.
 use Rattle.std.specs.Prelude.{◌≡◌, ◌≢◌, ℕ, ◌^◌, ◌<◌, List, [], ◌∷◌, ◌++◌, length, Some, None, Bool, true, not, nat_eq, is_some, MatchBool}
 use Rattle.std.specs.Str.{IsUtf8}
 use Rattle.ciborium_ll.specs.declared.hdr.Header.{Header}
@@ -7,27 +7,7 @@ use Rattle.ciborium_ll.specs.declared.hdr.Header.TheVariants.{Positive, Negative
 use Rattle.ciborium_ll.specs.Title.{title_of, FitsHeader}
 use Rattle.ciborium_value.specs.Tree.{Tree, integer, bytes, text, array, map, tag, simple, float, Trees, no_trees, one_more, Pairs, no_pairs, pair_more, tree_count, pair_count}
 use Rattle.ciborium_value.specs.Encoding.{int_head, enc, enc_all, enc_pairs}
-use Rattle.ciborium_value.specs.Folding.{tagged}
 use Rattle.ciborium.specs.Levels.{Level}
-
-abbrev mutual
-  pub IsExact : List ℕ → Tree → Type 0
-  IsExact b (integer i) = b ≡ title_of (int_head i)
-  IsExact b (bytes body) = b ≡ title_of (Bytes (Some (length body))) ++ body
-  IsExact b (text body) = b ≡ title_of (Text (Some (length body))) ++ body
-  IsExact b (array ts) = (inner : List ℕ) × AllExact inner ts × (b ≡ title_of (Array (Some (tree_count ts))) ++ inner)
-  IsExact b (map ps) = (inner : List ℕ) × PairsExact inner ps × (b ≡ title_of (Map (Some (pair_count ps))) ++ inner)
-  IsExact b (tag n t) = (inner : List ℕ) × IsExact inner t × (b ≡ title_of (Tag n) ++ inner) × (tagged n t ≡ Some (tag n t))
-  IsExact b (simple n) = (b ≡ title_of (Simple n)) × (n ≢ 23)
-  IsExact b (float f) = b ≡ title_of (Float f)
-
-  pub AllExact : List ℕ → Trees → Type 0
-  AllExact b no_trees = b ≡ []
-  AllExact b (one_more t ts) = (front rest : List ℕ) × IsExact front t × AllExact rest ts × (b ≡ front ++ rest)
-
-  pub PairsExact : List ℕ → Pairs → Type 0
-  PairsExact b no_pairs = b ≡ []
-  PairsExact b (pair_more k v ps) = (one two rest : List ℕ) × IsExact one k × IsExact two v × PairsExact rest ps × (b ≡ one ++ (two ++ rest))
 
 -- Each number lies in its range, each text is UTF-8, and each length is one that a head can have; a byte string may be of any numbers.
 abbrev mutual
@@ -86,10 +66,6 @@ encoded (Map o) = is_some o
 -- the bytes of a level so far, where it is encoded
 abbrev pub level_enc : Header → Trees → List ℕ
 level_enc h done = title_of h ++ enc_all done
-
--- the bytes of a level so far are the encoding of its header and of its items
-abbrev pub LevelExact : Header → Trees → List ℕ → Type 0
-LevelExact h done b = IsEncoded h × (b ≡ level_enc h done)
 
 -- the same of all open levels, the innermost first
 abbrev pub levels_enc : List Level → List ℕ

@@ -1,11 +1,12 @@
 -- The frames of the reader, and what they stand for.
-use Rattle.std.specs.Prelude.{◌≡◌, ◌<◌, ◌≤◌, ◌⊎◌, ℕ, ◌+◌, ◌*◌, ◌^◌, ◌&&◌, List, [], ◌∷◌, ◌++◌, length, Bool, true, false, Option, Some, None}
+use Rattle.std.specs.Prelude.{◌≡◌, ◌≢◌, ◌<◌, ◌≤◌, ◌⊎◌, ℕ, ◌+◌, ◌-◌, ◌*◌, ◌/◌, ◌^◌, ◌&&◌, min, List, [], ◌∷◌, ◌++◌, length, Bool, true, false, MatchBool, Option, Some, None}
+use Rattle.std.specs.Vec.{vec_capacity}
 use Rattle.ciborium_ll.specs.Seen.{Seen}
 use Rattle.ciborium_ll.specs.declared.hdr.Header.{Header}
 use Rattle.ciborium_ll.specs.declared.hdr.Header.TheVariants.{Tag, Bytes, Array, Map}
 use Rattle.ciborium_ll.specs.Title.{Title, title_of, IsShortest}
 use Rattle.ciborium_value.specs.declared.value.Value.{Value}
-use Rattle.ciborium_value.specs.Tree.{Tree, Trees, no_trees, one_more, flat, tag}
+use Rattle.ciborium_value.specs.Tree.{Tree, Trees, no_trees, one_more, flat, bytes, tag}
 use Rattle.ciborium_value.specs.Encoding.{enc}
 use Rattle.ciborium_value.specs.View.{view, views, view_pairs}
 use Rattle.ciborium.specs.declared.de.Error.{Error}
@@ -73,9 +74,14 @@ Told true w n P = n < 2 ^ 64 → Says w P
 abbrev pub IsFlagged : Bool → Bool → Header → List ℕ → Type 0
 IsFlagged w w' h y = (u : Bool) × IsShortest u y h × (w' ≡ (w && (u && encoded h)))
 
--- the same with the fold of a tag n over c, which is v then
+-- the same with the fold of a tag n over c, which is v then: it stays true where the tag stays over its content
 abbrev pub IsKept : ℕ → Tree → Tree → Bool → Bool → Type 0
-IsKept n c v w w' = (s : Bool) × Says s (v ≡ tag n c) × (w' ≡ (w && s))
+IsKept n c v w w' = MatchBool w (Says w' (v ≡ tag n c)) (w' ≡ false)
+
+-- the length of a byte string, and none of anything else
+abbrev pub IsLengthOf : Option ℕ → Tree → Type 0
+IsLengthOf None c = (x : List ℕ) → c ≢ bytes x
+IsLengthOf (Some n) c = (x : List ℕ) × (c ≡ bytes x) × (length x ≡ n)
 
 -- a title is in hand
 abbrev pub InHand : Bool → Bool → ℕ → List Level → Header → ℕ → ℕ → ℕ → List ℕ → Type 0
@@ -168,6 +174,27 @@ IsTitle (Some n) h at now left w w' place j y = (h ≡ Tag n) × IsLow left n j 
 abbrev pub Opening : Header → ℕ → ℕ → ℕ → Bool → Bool → Opened → List ℕ → Type 0
 Opening h at now left w w' (opens.Level f) y = (0 < left) × IsBegun f h now w w' y
 Opening h at now left w w' (opens.Leaf n place j) y = IsLeaf j × IsTitle n h at now left w w' place j y
+
+-- of the parts that a head claims, so many are reserved in such a room
+abbrev pub claimed : Option ℕ → ℕ → ℕ
+claimed None room = 0
+claimed (Some n) room = min n room
+
+-- The room of an item in a level, by the items that fit: what the level itself holds for parts that have not come is not free,
+-- and behind a tag there is none. Around all levels it is that of 128 items.
+abbrev pub room_of : Frame → ℕ
+room_of (code.Whole at h) = 128
+room_of (code.Items l) = l.room - (claimed l.count (l.room / 2) - length l.items.items)
+room_of (code.Entries l) = l.room - (claimed l.count (l.room / 4) - length l.entries.items) * 2
+room_of (code.Tag n at h) = 0
+
+-- an array that is opened in such a room reserves of half of it, and a map of a quarter
+abbrev pub Holds : ℕ → Opened → Type 0
+Holds room (opens.Level (code.Whole at h)) = Unit {0}
+Holds room (opens.Level (code.Items l)) = (l.room ≡ room) × (vec_capacity l.items ≡ claimed l.count (room / 2))
+Holds room (opens.Level (code.Entries l)) = (l.room ≡ room) × (vec_capacity l.entries ≡ claimed l.count (room / 4))
+Holds room (opens.Level (code.Tag n at h)) = Unit {0}
+Holds room (opens.Leaf n place h) = Unit {0}
 
 -- the item of a title is begun
 abbrev pub Begins : List Frame → List Frame → ℕ → Header → ℕ → ℕ → Option Value → Bool → Bool → List ℕ → Type 0

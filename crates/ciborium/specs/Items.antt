@@ -31,12 +31,5 @@ pub record ItemsWithin (n at : ℕ) (b : List ℕ) (is : List Item) (rest : List
   pub sequence : SequenceWithin n at b is rest
   pub ends : IsUnreadableWithin n rest
 
--- the same at the usual limit
-abbrev pub IsUnreadable : List ℕ → Type 0
-IsUnreadable = IsUnreadableWithin nesting
-
-abbrev pub Sequence : ℕ → List ℕ → List Item → List ℕ → Type 0
-Sequence = SequenceWithin nesting
-
 abbrev pub Items : ℕ → List ℕ → List Item → List ℕ → Type 0
 Items = ItemsWithin nesting

@@ -12,14 +12,12 @@ use Rattle.ciborium.specs.declared.de.Error.{Error}
 use Rattle.ciborium.specs.declared.de.Error.TheVariants as code
 use Rattle.ciborium.specs.declared.strings.Part.{Part}
 use Rattle.ciborium.specs.declared.strings.Part.TheVariants as part
-use Rattle.ciborium_value.specs.Tree.{Tree, Trees, tree_count, depth, tag}
+use Rattle.ciborium_value.specs.Tree.{Tree, Trees}
 use Rattle.ciborium_value.specs.Folding.{IsTooNegative}
 use Rattle.ciborium_ll.specs.Framing.{Frame, joined}
-use Rattle.ciborium.specs.Spelling.{Spells}
-use Rattle.ciborium.specs.Meaning.{meaning}
-use Rattle.ciborium.specs.Damage.{Fault, end, deep, syntax, semantic, Damage, Due, IsFree, IsLevel}
+use Rattle.ciborium.specs.Damage.{Fault, end, deep, syntax, semantic, Damage, IsFree, IsLevel}
 use Rattle.ciborium_ll.specs.Framing.{Opened}
-use Rattle.ciborium.specs.Front.{Reads, ReadsAll, Fronts}
+use Rattle.ciborium.specs.Front.{Reads, ReadsAll}
 
 abbrev pub lifted : {E : Type 0} → HeadError E → Error E
 lifted (below.Io e) = code.Io e
@@ -186,18 +184,6 @@ pub record IsNext (o : Option ℕ) (done : ℕ) (h : Header) : Type 0 where
   pub due : is_full o done ≡ false
   pub stays : o ≡ None → h ≢ Break
 
--- some children are there, and the next is damaged
-pub record ChildDamage (h : Header) (limit stop : ℕ) (b : List ℕ) (f : Fault) : Type 0 where
-  pub done : Trees
-  pub rest : List ℕ
-  pub fronts : Fronts b limit done rest
-  pub due : Due h (tree_count done) rest
-  pub damage : Damage stop rest limit f
-
-abbrev pub FitsIn : Option ℕ → ℕ → Type 0
-FitsIn (Some n) done = done ≤ n
-FitsIn None done = Unit {0}
-
 -- a tag that opens a level over an item with this header
 abbrev pub OpensOver : ℕ → Header → Type 0
 OpensOver n h = ((n ≢ 2) × (n ≢ 3)) ⊎ ((o : Option ℕ) → h ≢ Bytes o)
@@ -210,13 +196,6 @@ IsFoldFault n t (code.Semantic o k) = (o ≡ None) × (k ≡ kind.BigNegative) �
 IsFoldFault n t code.RecursionLimitExceeded = ⊥
 IsFoldFault n t code.Memory = Unit {0}
 IsFoldFault n t code.TooLong = ⊥
-
--- the item behind a tag
-pub record TaggedBehind (n limit : ℕ) (v : Tree) (inner : List ℕ) : Type 0 where
-  pub tree : Tree
-  pub spells : Spells inner tree
-  pub shallow : depth (tag n tree) ≤ limit
-  pub means : meaning tree ≡ Some v
 
 abbrev pub TagDamage : ℕ → ℕ → ℕ → List ℕ → Fault → Type 0
 TagDamage n limit stop b f =

@@ -2,27 +2,28 @@
 ghost use Rattle.std.specs.Prelude.{◌≡◌, ◌<◌, ◌≤◌, ◌+◌, ◌*◌, ◌∷◌, ℕ, Bool, true};
 ghost use Rattle.std.specs.Prelude.{false, List, None, Some, reverse, length};
 ghost use Rattle.std.specs.Prelude.{IfOk, IfErr, OnOk, OnErr, IfSome, IfNone};
-ghost use Rattle.std.specs.Prelude.{MatchOption, MatchBool, ◌&&◌};
+ghost use Rattle.std.specs.Prelude.{MatchOption, ◌&&◌};
 ghost use Rattle.ciborium_ll.specs.Seen.{Takes};
 ghost use Rattle.ciborium_ll.specs.Title.{Title, IsShortest};
 ghost use Rattle.ciborium_ll.specs.Views.{offset_of, waiting_of, seen, shortest_of};
 ghost use Rattle.ciborium_value.specs.View.{view};
 ghost use Rattle.ciborium.specs.declared.de.Error.TheVariants.{Memory};
 ghost use Rattle.ciborium.specs.Damage.{Damage, TitleDamage};
-ghost use Rattle.ciborium.specs.Reading.{Steady, NamesFault, NamesFaultBehind, ReadsBehind, Closes};
+ghost use Rattle.ciborium.specs.Reading.{Steady, NamesFault, NamesFaultBehind, Closes};
 ghost use Rattle.ciborium_value.specs.Folding.{tagged};
 ghost use Rattle.ciborium.specs.Reading.{IsNext, is_full, fault_failures, IsFoldFault};
 ghost use Rattle.ciborium.specs.Frames.{snoc, halves_of, HasHalf, IsStaged, IsClosed};
-ghost use Rattle.ciborium.specs.Frames.{ClosedStage, Stage, Hands};
+ghost use Rattle.ciborium.specs.Frames.{Hands};
 ghost use Rattle.ciborium.specs.Exact.{encoded};
 ghost use Rattle.ciborium.specs.Frames.{IsKept, CloseGives, ReadExact, HandFails, AskEnds};
 ghost use Rattle.ciborium.specs.Frames.{AskGives, AskFails, Opening, Begins, BeginFails};
-ghost use Rattle.ciborium.specs.Frames.{in_hand, rank, Falls};
+ghost use Rattle.ciborium.specs.Frames.{Holds, in_hand, rank, room_of, Falls};
 
 use crate::de::Error;
+use crate::exactness::Exactness;
 use crate::reader::{
-    ROOM, both, folded, is_encoded, is_leaf, is_low, is_over, length_of, next_part, read_leaf,
-    reserved, room_left, tagged_title,
+    ROOM, folded, is_leaf, is_low, length_of, next_part, read_leaf, reserved, room_left,
+    tagged_title,
 };
 use crate::strings::next_title;
 use crate::value::Value;
@@ -53,18 +54,24 @@ pub struct Entries {
 /// the title behind them.
 #[derive(Drop)]
 pub enum Frame {
+    /// The whole around all levels: one item, of this title.
     Whole(usize, Header),
+    /// An array.
     Items(Items),
+    /// A map.
     Entries(Entries),
+    /// A tag of this number, over an item of that title.
     Tag(u64, usize, Header),
 }
 
-/// What became of a value that was handed to the innermost level: it was taken, or it is a tag's
-/// content, and the tag is to be handed over, or it is the whole.
+/// What became of a value that was handed to the innermost level.
 #[derive(Drop)]
 pub enum Handed {
+    /// It was taken, or there was none.
     Taken,
+    /// It was the content of a tag, which is at hand in its place.
     Up,
+    /// It is the whole, and is still at hand.
     Done,
 }
 
@@ -93,16 +100,17 @@ fn put_half<E>(list: &mut Entries, half: Value) -> Result<(), Error<E>>
 
 /// Hands a value, where one was read, to the innermost level. A tag is whole with it, and the level
 /// around it the innermost then.
-fn hand<E>(
+fn hand<E, X: Exactness>(
     alloc: Global,
     below: &mut Vec<Frame>,
     top: &mut Frame,
     read: &mut Option<Value>,
-    exact: &mut bool,
+    exact: &mut X,
 ) -> Result<Handed, Error<E>>
     requires staged { IsStaged (top.old ∷ reverse below.old.items) read.old }
     ensures ok { IfOk result (Hands (top.old ∷ reverse below.old.items)
-        (top.new ∷ reverse below.new.items) read.old read.new exact.old exact.new) }
+        (top.new ∷ reverse below.new.items) read.old read.new
+        (X.flag exact.old) (X.flag exact.new)) }
     ensures falls { IfOk result (Falls (rank below.old.items top.old read.old)
         (rank below.new.items top.new read.new)) }
     ensures err { IfErr result (HandFails (top.old ∷ reverse below.old.items) read.old) }
@@ -189,55 +197,53 @@ fn next_half<R: Read>(
     next_part(decoder, list.count, list.entries.len())
 }
 
-/// Whether the text is still the shortest with the title that was read.
-pub fn is_still<R: Read>(decoder: &Decoder<R>, header: Header, exact: bool) -> bool
-    ensures { result ≡ (exact && (shortest_of decoder.now && encoded header)) }
+/// Takes in the title that was read, where there was one.
+fn take_title<R: Read, X: Exactness>(
+    decoder: &Decoder<R>,
+    part: Option<(usize, Header)>,
+    exact: &mut X,
+)
+    ensures { MatchOption part (X.flag exact.new ≡ X.flag exact.old)
+        (λ r. X.flag exact.new ≡ (X.flag exact.old && (shortest_of decoder.now && encoded r.1))) }
 {
-    exact && decoder.was_shortest() && is_encoded(header)
-}
-
-/// The same, where there was one.
-fn is_exact_after<R: Read>(decoder: &Decoder<R>, part: Option<(usize, Header)>, exact: bool) -> bool
-    ensures { MatchOption part (result ≡ exact)
-        (λ r. result ≡ (exact && (shortest_of decoder.now && encoded r.1))) }
-{
-    match part {
-        None => exact,
-        Some(title) => is_still(decoder, title.1, exact),
+    if let Some((_, header)) = part {
+        exact.title(decoder, header);
     }
 }
 
 /// The value of a tag over its content. Where the fold changes a byte string, its text was not the
 /// shortest.
-fn tag_value<E>(
+fn tag_value<E, X: Exactness>(
     alloc: Global,
     tag: u64,
     content: Value,
-    exact: &mut bool,
+    exact: &mut X,
 ) -> Result<Value, Error<E>>
     ensures ok { IfOk result (λ v. tagged tag (view content) ≡ Some (view v)) }
-    ensures kept { IfOk result (λ v. IsKept tag (view content) (view v) exact.old exact.new) }
+    ensures kept { IfOk result (λ v. IsKept tag (view content) (view v)
+        (X.flag exact.old) (X.flag exact.new)) }
     ensures err { IfErr result (IsFoldFault tag (view content)) }
 {
     let length = length_of(&content);
     let whole = folded(alloc, tag, content)?;
-    *exact = both(*exact, is_over(&whole, tag, length));
+    exact.fold(&whole, tag, length);
     Ok(whole)
 }
 
 /// The next title in the innermost level; none where it is whole.
-fn ask<R: Read>(
+fn ask<R: Read, X: Exactness>(
     decoder: &mut Decoder<R>,
     top: &Frame,
-    exact: &mut bool,
+    exact: &mut X,
 ) -> Result<Option<(usize, Header)>, Error<R::Error>>
     requires fresh { waiting_of decoder.old ≡ None }
     ensures none { IfOk result (λ o. IfNone o
         (Takes (seen R.Read decoder.old) (seen R.Read decoder.new) (AskEnds top.now))) }
     ensures some { IfOk result (λ o. IfSome o (λ r.
         Takes (seen R.Read decoder.old) (seen R.Read decoder.new)
-        (AskGives top.now r.1 r.0 (offset_of decoder.old) exact.old exact.new))) }
-    ensures same { IfOk result (λ o. IfNone o (exact.new ≡ exact.old)) }
+        (AskGives top.now r.1 r.0 (offset_of decoder.old)
+        (X.flag exact.old) (X.flag exact.new)))) }
+    ensures same { IfOk result (λ o. IfNone o (X.flag exact.new ≡ X.flag exact.old)) }
     ensures moved { IfOk result (λ o. IfSome o (λ _.
         offset_of decoder.old + 1 ≤ offset_of decoder.new + in_hand None top.now)) }
     ensures err { IfErr result (AskFails R.ends top.now
@@ -248,12 +254,12 @@ fn ask<R: Read>(
         Frame::Whole(at, header) => Ok(Some((*at, *header))),
         Frame::Items(list) => {
             let part = next_part(decoder, list.count, list.items.len())?;
-            *exact = is_exact_after(decoder, part, *exact);
+            take_title(decoder, part, exact);
             Ok(part)
         }
         Frame::Entries(list) => {
             let part = next_half(decoder, list)?;
-            *exact = is_exact_after(decoder, part, *exact);
+            take_title(decoder, part, exact);
             Ok(part)
         }
         Frame::Tag(_, at, header) => Ok(Some((*at, *header))),
@@ -261,7 +267,9 @@ fn ask<R: Read>(
 }
 
 /// The room that an item may reserve of in this level.
-fn room_in(top: &Frame) -> usize {
+fn room_in(top: &Frame) -> usize
+    ensures { result ≡ room_of top.now }
+{
     match top {
         Frame::Whole(_, _) => ROOM,
         Frame::Items(list) => {
@@ -284,26 +292,29 @@ fn room_in(top: &Frame) -> usize {
     }
 }
 
-/// What an item opens: a level, or none, and then its title, or that behind its tag, is in hand.
+/// What an item opens.
 #[derive(Drop)]
 enum Opened {
+    /// A level.
     Level(Frame),
+    /// None: its title, or that behind its tag, is at hand.
     Leaf(Option<u64>, usize, Header),
 }
 
 /// What the item of a title opens, where so many levels are left.
-fn opening<R: Read>(
+fn opening<R: Read, X: Exactness>(
     alloc: Global,
     decoder: &mut Decoder<R>,
     top: &Frame,
     at: usize,
     header: Header,
     left: usize,
-    exact: &mut bool,
+    exact: &mut X,
 ) -> Result<Opened, Error<R::Error>>
     requires fresh { waiting_of decoder.old ≡ None }
     ensures ok { IfOk result (λ o. Takes (seen R.Read decoder.old) (seen R.Read decoder.new)
-        (Opening header at (offset_of decoder.old) left exact.old exact.new o)) }
+        (Opening header at (offset_of decoder.old) left (X.flag exact.old) (X.flag exact.new) o)) }
+    ensures room { IfOk result (Holds (room_of top.now)) }
     ensures err { IfErr result (NamesFaultBehind R.ends header at (λ stop b f. Damage stop b left f)
         (seen R.Read decoder.old) (seen R.Read decoder.new)) }
     ensures steady { Steady R.ends result (seen R.Read decoder.old) (seen R.Read decoder.new) }
@@ -336,7 +347,7 @@ fn opening<R: Read>(
         }
         Header::Tag(n) => {
             let (place, inner) = tagged_title(decoder, n, left)?;
-            *exact = is_still(decoder, inner, *exact);
+            exact.title(decoder, inner);
             let low = is_low(left, n, inner);
             if !low {
                 return Err(Error::RecursionLimitExceeded);
@@ -351,7 +362,7 @@ fn opening<R: Read>(
 }
 
 /// Begins the item of a title: opens its level, or reads its value.
-fn begin<R: Read>(
+fn begin<R: Read, X: Exactness>(
     alloc: Global,
     decoder: &mut Decoder<R>,
     below: &mut Vec<Frame>,
@@ -359,13 +370,13 @@ fn begin<R: Read>(
     read: &mut Option<Value>,
     title: (usize, Header),
     limit: usize,
-    exact: &mut bool,
+    exact: &mut X,
 ) -> Result<(), Error<R::Error>>
     requires fresh { waiting_of decoder.old ≡ None }
     requires empty { read.old ≡ None }
     ensures ok { OnOk result (Takes (seen R.Read decoder.old) (seen R.Read decoder.new)
         (Begins (top.old ∷ reverse below.old.items) (top.new ∷ reverse below.new.items) limit
-        title.1 title.0 (offset_of decoder.old) read.new exact.old exact.new)) }
+        title.1 title.0 (offset_of decoder.old) read.new (X.flag exact.old) (X.flag exact.new))) }
     ensures rises { OnOk result (rank below.new.items top.new read.new + 4 * offset_of decoder.old
         ≤ 2 * length below.old.items + 2 + 4 * offset_of decoder.new) }
     ensures err { IfErr result (BeginFails R.ends limit (top.old ∷ reverse below.old.items)
@@ -399,18 +410,18 @@ fn begin<R: Read>(
 
 /// The item behind the title of `header`, which begins at the place `at`. `exact` tells whether the
 /// text is the shortest so far, and stays false once it is not.
-pub fn read_item<R: Read>(
+pub fn read_item<R: Read, X: Exactness>(
     alloc: Global,
     decoder: &mut Decoder<R>,
     header: Header,
     at: usize,
     limit: usize,
-    exact: &mut bool,
+    exact: &mut X,
 ) -> Result<Value, Error<R::Error>>
     requires fresh { waiting_of decoder.old ≡ None }
     requires titled { (title : List ℕ) × Title title header }
     ensures ok { IfOk result (λ v. Takes (seen R.Read decoder.old) (seen R.Read decoder.new)
-        (ReadExact header limit (view v) exact.old exact.new)) }
+        (ReadExact header limit (view v) (X.flag exact.old) (X.flag exact.new))) }
     ensures err { IfErr result (NamesFaultBehind R.ends header at
         (λ stop b f. Damage stop b limit f) (seen R.Read decoder.old) (seen R.Read decoder.new)) }
     ensures steady { Steady R.ends result (seen R.Read decoder.old) (seen R.Read decoder.new) }

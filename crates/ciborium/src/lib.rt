@@ -7,6 +7,7 @@
 
 pub mod build;
 pub mod de;
+mod exactness;
 mod frames;
 pub mod laws;
 mod macros;

@@ -9,7 +9,7 @@ ghost use Rattle.ciborium_ll.specs.declared.hdr.Header.TheVariants.{Bytes, Break
 ghost use Rattle.ciborium_value.specs.Folding.{tagged};
 ghost use Rattle.ciborium_value.specs.Tree.{bytes, tag};
 ghost use Rattle.ciborium.specs.Exact.{encoded};
-ghost use Rattle.ciborium.specs.Frames.{IsLow};
+ghost use Rattle.ciborium.specs.Frames.{IsLengthOf, IsLow};
 ghost use Rattle.ciborium_value.specs.View.{view};
 ghost use Rattle.ciborium.specs.Meaning.{simple_meaning};
 ghost use Rattle.ciborium.specs.Damage.{Damage, TitleDamage};
@@ -114,8 +114,7 @@ pub fn is_encoded(header: Header) -> bool
 
 /// The length of a byte string.
 pub fn length_of(value: &Value) -> Option<usize>
-    ensures { MatchOption result ((x : List ℕ) → view value.now ≢ bytes x)
-        (λ n. (x : List ℕ) × (view value.now ≡ bytes x) × (length x ≡ n)) }
+    ensures { IsLengthOf result (view value.now) }
 {
     match value {
         Value::Bytes(bytes) => Some(bytes.len()),
@@ -136,13 +135,6 @@ pub fn is_over(value: &Value, number: u64, size: Option<usize>) -> bool
             _ => false,
         },
     }
-}
-
-/// Both, the first asked first.
-pub fn both(one: bool, two: bool) -> bool
-    ensures { result ≡ (one && two) }
-{
-    one && two
 }
 
 fn all_read(count: Option<usize>, done: usize) -> bool

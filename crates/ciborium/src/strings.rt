@@ -116,9 +116,13 @@ fn read_chunk<R: Read>(
 
 /// What a header is inside an open string.
 pub enum Part {
+    /// The break.
     Close,
+    /// An open string of the same kind.
     Open,
+    /// A string of the same kind, of this length.
     Chunk(usize),
+    /// Anything else.
     Other,
 }
 

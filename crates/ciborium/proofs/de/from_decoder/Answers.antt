@@ -12,4 +12,4 @@ returns-in_err-at-clause-err g c =
     rw (p.1, p.2) (item_title_fails g.R.Read.ends _ _ _ _ _ c.in_err-at.ensures.err)
 
 pub returns-clause-ok : goal.returns-clause-ok
-returns-clause-ok g c = item_read _ _ _ _ _ _ _ _ _ c.in_ok-at.ensures.ok (behind_read c.in_ok-at.header c.args.limit (view c.in_ok-value.value) false c.read_item.new.exact (seen g.R.Read c.next_title.new.decoder) (seen g.R.Read c.read_item.new.decoder) c.in_ok-value.ensures.ok)
+returns-clause-ok g c = item_read _ _ _ _ _ _ _ _ _ c.in_ok-at.ensures.ok (behind_read c.in_ok-at.header c.args.limit (view c.in_ok-value.value) false false (seen g.R.Read c.next_title.new.decoder) (seen g.R.Read c.read_item.new.decoder) c.in_ok-value.ensures.ok)

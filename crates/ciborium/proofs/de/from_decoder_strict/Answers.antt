@@ -20,6 +20,6 @@ returns-in_err-value-clause-err g c =
 
 pub returns-clause-ok : goal.returns-clause-ok
 returns-clause-ok g c =
-    exact_read c.in_ok-place.header c.args.limit (view c.in_ok-value.value) c.read_item.new.exact c.is_still-exact.result (shortest_of c.next_title.new.decoder)
+    exact_read c.in_ok-place.header c.args.limit (view c.in_ok-value.value) c.read_item.new.exact.0 c.is_shortest.result (shortest_of c.next_title.new.decoder)
     (seen g.R.Read c.args.decoder.now) (seen g.R.Read c.next_title.new.decoder) (seen g.R.Read c.read_item.new.decoder)
-    (omega (arith, c.read_item.new.decoder.fits)) c.is_still-exact.ensures (c.in_ok-place.ensures.shortest c.requires.fresh) c.in_ok-value.ensures.ok
+    (omega (arith, c.read_item.new.decoder.fits)) c.is_shortest.ensures (c.in_ok-place.ensures.shortest c.requires.fresh) c.in_ok-value.ensures.ok

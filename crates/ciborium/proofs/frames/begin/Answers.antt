@@ -18,7 +18,7 @@ returns-in_err-value-in-Leaf-clause-err g c =
     let p = err_from_is_err_and c.from_residual-in_err-value-in-Leaf.result c.from_residual-in_err-value-in-Leaf.ensures.1 in
     rw (p.1, p.2)
     (begin_fails g.R.Read.ends c.args.limit c.saturating_sub-left.result c.args.title.0 c.args.title.1 c.args.top.now c.args.below.now.items (seen g.R.Read c.args.decoder.now) (seen g.R.Read c.read_leaf.new.decoder) _ same
-    (leaf_fails g.R.Read.ends c.saturating_sub-left.result c.args.title.0 c.in-Leaf.at c.in-Leaf.tag c.args.title.1 c.in-Leaf.header c.args.exact.now c.opening.new.exact (seen g.R.Read c.args.decoder.now) (seen g.R.Read c.opening.new.decoder) (seen g.R.Read c.read_leaf.new.decoder) _
+    (leaf_fails g.R.Read.ends c.saturating_sub-left.result c.args.title.0 c.in-Leaf.at c.in-Leaf.tag c.args.title.1 c.in-Leaf.header (g.X.Exactness.flag c.args.exact.now) (g.X.Exactness.flag c.opening.new.exact) (seen g.R.Read c.args.decoder.now) (seen g.R.Read c.opening.new.decoder) (seen g.R.Read c.read_leaf.new.decoder) _
     (rw c.in-Leaf.is at c.in_ok-frame.ensures.ok) c.in_err-value-in-Leaf.ensures.err))
 
 pub returns-in_err-whole-in-Some-clause-err : goal.returns-in_err-whole-in-Some-clause-err
@@ -27,22 +27,22 @@ returns-in_err-whole-in-Some-clause-err g c =
     let p = err_from_is_err_and c.from_residual-in_err-whole-in-Some.result c.from_residual-in_err-whole-in-Some.ensures.1 in
     rw (p.1, p.2)
     (begin_fails g.R.Read.ends c.args.limit c.saturating_sub-left.result c.args.title.0 c.args.title.1 c.args.top.now c.args.below.now.items (seen g.R.Read c.args.decoder.now) (seen g.R.Read c.read_leaf.new.decoder) _ same
-    (leaf_folds g.R.Read.ends c.saturating_sub-left.result c.args.title.0 c.in-Leaf.at c.in-Some.n c.args.title.1 c.in-Leaf.header _ c.args.exact.now c.opening.new.exact (seen g.R.Read c.args.decoder.now) (seen g.R.Read c.opening.new.decoder) (seen g.R.Read c.read_leaf.new.decoder) _
+    (leaf_folds g.R.Read.ends c.saturating_sub-left.result c.args.title.0 c.in-Leaf.at c.in-Some.n c.args.title.1 c.in-Leaf.header _ (g.X.Exactness.flag c.args.exact.now) (g.X.Exactness.flag c.opening.new.exact) (seen g.R.Read c.args.decoder.now) (seen g.R.Read c.opening.new.decoder) (seen g.R.Read c.read_leaf.new.decoder) _
     (rw (c.in-Leaf.is, c.in-Some.is) at c.in_ok-frame.ensures.ok) c.in_ok-value-in-Leaf.ensures.ok c.in_ok-value-in-Leaf.ensures.bytes c.in_err-whole-in-Some.ensures.err))
 
 pub returns-in-Ok-clause-ok : goal.returns-in-Ok-clause-ok
 returns-in-Ok-clause-ok g c =
     let same : c.saturating_sub-left.result ≡ c.args.limit - length c.args.below.now.items = omega (arith, c.len.ensures, c.saturating_sub-left.ensures, c.args.below.now.ok.0) in
     rw c.replace.ensures.after (takes_as _ _ _ _ _ _ (rw c.in-Level.is at c.in_ok-frame.ensures.ok)
-    (λ y i. level_begun c.args.limit c.saturating_sub-left.result c.args.title.0 _ c.args.title.1 c.in-Level.frame c.args.top.now c.args.below.now.items c.push.new.self.items c.args.read.now c.args.exact.now c.opening.new.exact y same (rw c.replace.ensures.value at c.in-Ok.ensures.items) c.requires.empty i))
+    (λ y i. level_begun c.args.limit c.saturating_sub-left.result c.args.title.0 _ c.args.title.1 c.in-Level.frame c.args.top.now c.args.below.now.items c.push.new.self.items c.args.read.now (g.X.Exactness.flag c.args.exact.now) (g.X.Exactness.flag c.opening.new.exact) y same (rw c.replace.ensures.value at c.in-Ok.ensures.items) c.requires.empty i))
 
 pub returns-in-None-clause-ok : goal.returns-in-None-clause-ok
 returns-in-None-clause-ok g c =
     takes_then _ _ _ _ _ _ _ _ _ (rw (c.in-Leaf.is, c.in-None.is) at c.in_ok-frame.ensures.ok) c.in_ok-value-in-Leaf.ensures.ok
-    (λ x y i s. plain_leaf c.args.limit c.saturating_sub-left.result c.args.title.0 _ c.in-Leaf.at c.args.title.1 c.in-Leaf.header (c.args.top.now ∷ reverse c.args.below.now.items) c.in_ok-value-in-Leaf.value (Some c.in_ok-value-in-Leaf.value) c.args.exact.now c.opening.new.exact x y refl i s)
+    (λ x y i s. plain_leaf c.args.limit c.saturating_sub-left.result c.args.title.0 _ c.in-Leaf.at c.args.title.1 c.in-Leaf.header (c.args.top.now ∷ reverse c.args.below.now.items) c.in_ok-value-in-Leaf.value (Some c.in_ok-value-in-Leaf.value) (g.X.Exactness.flag c.args.exact.now) (g.X.Exactness.flag c.opening.new.exact) x y refl i s)
 
 pub returns-in_ok-whole-in-Some-clause-ok : goal.returns-in_ok-whole-in-Some-clause-ok
 returns-in_ok-whole-in-Some-clause-ok g c =
     let same : c.saturating_sub-left.result ≡ c.args.limit - length c.args.below.now.items = omega (arith, c.len.ensures, c.saturating_sub-left.ensures, c.args.below.now.ok.0) in
     takes_then _ _ _ _ _ _ _ _ _ (rw (c.in-Leaf.is, c.in-Some.is) at c.in_ok-frame.ensures.ok) c.in_ok-value-in-Leaf.ensures.ok
-    (λ x y i s. tagged_leaf c.args.limit c.saturating_sub-left.result c.args.title.0 _ c.in-Leaf.at c.in-Some.n c.args.title.1 c.in-Leaf.header c.args.top.now c.args.below.now.items c.in_ok-value-in-Leaf.value c.in_ok-whole-in-Some.whole (Some c.in_ok-whole-in-Some.whole) c.args.exact.now c.opening.new.exact c.tag_value.new.exact x y same refl i c.in_ok-value-in-Leaf.ensures.bytes c.in_ok-whole-in-Some.ensures.ok c.in_ok-whole-in-Some.ensures.kept s)
+    (λ x y i s. tagged_leaf c.args.limit c.saturating_sub-left.result c.args.title.0 _ c.in-Leaf.at c.in-Some.n c.args.title.1 c.in-Leaf.header c.args.top.now c.args.below.now.items c.in_ok-value-in-Leaf.value c.in_ok-whole-in-Some.whole (Some c.in_ok-whole-in-Some.whole) (g.X.Exactness.flag c.args.exact.now) (g.X.Exactness.flag c.opening.new.exact) (g.X.Exactness.flag c.tag_value.new.exact) x y same refl i c.in_ok-value-in-Leaf.ensures.bytes c.in_ok-whole-in-Some.ensures.ok c.in_ok-whole-in-Some.ensures.kept s)

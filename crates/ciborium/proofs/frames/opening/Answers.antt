@@ -34,4 +34,4 @@ returns-then-is_leaf-clause-ok g c =
     let low = rw c.if-not-low.false at c.is_low-low.ensures in
     let leaf = rw c.if-is_leaf.true at c.is_leaf.ensures in
     takes_as _ _ _ _ (λ b. Title b c.in_ok-place-in-Tag.inner × IsShortest (shortest_of c.tagged_title.new.decoder) b c.in_ok-place-in-Tag.inner) _
-    c.in_ok-place-in-Tag.ensures.ok (λ y q. (leaf, (c.in-Tag.is, low, q.0, c.in_ok-place-in-Tag.ensures.at, (shortest_of c.tagged_title.new.decoder, q.1, c.is_still.ensures))))
+    c.in_ok-place-in-Tag.ensures.ok (λ y q. (leaf, (c.in-Tag.is, low, q.0, c.in_ok-place-in-Tag.ensures.at, (shortest_of c.tagged_title.new.decoder, q.1, c.title.ensures))))
