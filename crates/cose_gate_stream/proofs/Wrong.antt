@@ -291,7 +291,7 @@ module _ (limits : Bounds) where
 
   pub signature_place : (f : Form) (a b : Tree) (payload : List ℕ) → IsProtected limits a → IsHeader limits b → Place limits f (one_more a (one_more b (one_more (bytes payload) no_trees))) NoBytes
   signature_place f a b payload first second = record {
-    in_place = (first, second, (tt, tt));
+    in_place = (first, second, (refl, tt));
     shows = λ all items rest o v e right there wrong. subst (ShowsFault limits all) (sym wrong.0) (no_signature o (one_more a (one_more b (one_more (bytes payload) no_trees))) v items rest right refl there wrong.1);
     has = has;
   }

@@ -93,6 +93,7 @@ NamesWhy ends D room old f =
     × IfKnown old.left (λ b. Tells ends (D (old.offset + length b) b)
     (IsLongFor room old.offset b) f)
 
+-- an element that is a protected header, or a header
 abbrev pub IsProtected : Bounds → Tree → Type 0
 IsProtected limits t = (p : ProtectedFields) × HasProtected limits.nesting t p limits.layers
 

@@ -84,7 +84,7 @@ returns-in_err-close-clause-err g c =
     let paying = paid (plain c.args.limits.nesting c.args.limits.layers) _ _ _ _ _ _ _ _ _ _ _ _ _ _ w2 c.in_ok-size.ensures.ok c.in_ok-feed_payload.ensures.ok in
     let w3 = paid_within (plain c.args.limits.nesting c.args.limits.layers) _ _ _ _ _ _ _ _ _ _ paying in
     let w4 = within_more (plain c.args.limits.nesting c.args.limits.layers) _ _ _ _ _ _ _ _ _ _ w3.1 c.in_ok-signature.ensures.ok in
-    rw (p.1, p.2) (close_tells (plain c.args.limits.nesting c.args.limits.layers) c.args.limits.least_nesting g.R.Read.ends _ _ _ _ _ _ _ _ _ w4 ((_, a.2), (_, b.2), (tt, (tt, tt))) refl c.in_err-close.ensures.open c.in_err-close.ensures.err)
+    rw (p.1, p.2) (close_tells (plain c.args.limits.nesting c.args.limits.layers) c.args.limits.least_nesting g.R.Read.ends _ _ _ _ _ _ _ _ _ w4 ((_, a.2), (_, b.2), (refl, (refl, tt))) refl c.in_err-close.ensures.open c.in_err-close.ensures.err)
 
 pub returns-clause-ok : goal.returns-clause-ok
 returns-clause-ok g c =
