@@ -26,7 +26,7 @@ use Rattle.cose_gate_stream.specs.declared.fault.StreamFault.{StreamFault}
 use Rattle.cose_gate_stream.specs.declared.form.Form.{Form}
 use Rattle.cose_gate_stream.specs.Forms.{tag_number}
 use Rattle.cose_gate_stream.specs.Stated.{IsFour}
-use Rattle.cose_gate_stream.specs.Streaming.{Why, damaged, untagged, tagged, shape, without_payload, without_length, refused, UnstreamedBy, IsBegun, IsProtected, IsHeader, AreInPlace, RightUpTo, ShowsFault, break_too_early, no_protected, no_header, no_signature, no_break, IsShapeFault, IsHeaderFault}
+use Rattle.cose_gate_stream.specs.Streaming.{Why, damaged, untagged, tagged, shape, without_payload, without_length, refused, UnstreamedBy, IsBegun, IsProtected, IsHeader, AreInPlace, RightUpTo, ShowsFault, break_too_early, no_protected, no_header, no_signature, not_closed, IsShapeFault, IsHeaderFault}
 use Rattle.cose_gate_stream.specs.ElementFaults.{PartFault, TagFault, NoBreak, WrongPart, NoneWrong, NoBytes, ShortFault, CloseFault}
 use Rattle.cose_gate_stream.proofs.Faults.{Names, known_tells, tells_behind}
 use Rattle.cose_gate_stream.proofs.Forms.{WrongForm, shaped, not_four_items, wrong_parts, wrong_last, not_two, not_three, single_tag}
@@ -313,7 +313,7 @@ module _ (limits : Bounds) where
   close_fault least f o done right unsized four stop x rest untagged w d = absurd d
   close_fault least f o done right unsized four stop x rest (tagged n) w d = absurd d
   close_fault least f o done right unsized four stop x rest (shape e) w (u, d) = (
-    subst (ShowsFault limits (x ++ rest)) (sym u) (no_break done d.0 rest d.1 (subst (λ (z : Option ℕ). RightUpTo limits (x ++ rest) z done rest) unsized (right_up_to f o done x rest w right)) four d.2 d.3),
+    subst (ShowsFault limits (x ++ rest)) (sym u) (not_closed done d.0 rest d.1 (subst (λ (z : Option ℕ). RightUpTo limits (x ++ rest) z done rest) unsized (right_up_to f o done x rest w right)) four d.2 d.3),
     λ t after i. inl (go t (left f o done x rest after t w (omega arith) i)),
   )
     where

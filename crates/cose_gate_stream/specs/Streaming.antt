@@ -158,7 +158,7 @@ pub data ShowsFault (limits : Bounds) (b : List ℕ) : CoseFault → Type 0 wher
       → RightUpTo limits b count three items → tree_count three ≡ 3
       → Front items (limits.nesting - 2) t rest → is_bytes t ≡ false
       → ShowsFault limits b unexpected
-  no_break : (four : Trees) (h : Header) (last rest : List ℕ) → RightUpTo limits b None four last
+  not_closed : (four : Trees) (h : Header) (last rest : List ℕ) → RightUpTo limits b None four last
       → tree_count four ≡ 4 → Begins last h rest → h ≢ Break → ShowsFault limits b unexpected
 
 -- the bytes begin with such a tag and an open array, of which there are other than four elements
