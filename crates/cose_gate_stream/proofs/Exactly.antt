@@ -1,11 +1,11 @@
--- Where a judged message of a stated length begins, nothing but Ok is due, and its stated length is one.
+-- Where a judged message of a stated length begins, nothing but Ok is due.
 use Rattle.std.proofs.Common.{◌≡◌, ◌+◌, inl, inr, ℕ, Bool, List, ◌++◌, length, Option, None, Some, Result, Ok, Err, IfErr, refl, sym, ap, subst, ◌∙◌}
 use Rattle.ciborium_ll.specs.declared.hdr.Header.{Header}
 use Rattle.ciborium_ll.specs.declared.hdr.Header.TheVariants.{Tag, Bytes, Array, Simple}
 use Rattle.ciborium_ll.specs.Seen.{Seen}
 use Rattle.ciborium_ll.specs.Title.{Begins}
 use Rattle.ciborium_ll.proofs.Closings.{split_heads}
-use Rattle.ciborium_value.specs.Tree.{Tree, array, tag, no_trees, one_more, tree_count}
+use Rattle.ciborium_value.specs.Tree.{Tree, array, tag, tree_count}
 use Rattle.ciborium.specs.declared.de.Error.TheVariants as de
 use Rattle.ciborium.specs.Front.{Reads, Front}
 use Rattle.ciborium.specs.Damage.{end, deep, syntax, semantic}
@@ -31,10 +31,11 @@ stated_first b front rest r n h s e t = (split_heads t.title s.tag_title r _ h (
 stated_third : (limits : Bounds) (b front rest : List ℕ) (n : ℕ) (h : Header) → Stated front n → b ≡ front ++ rest → Opening limits b h → h ≡ Bytes (Some n)
 stated_third limits b front rest n h s e o =
     let tail : List ℕ = (s.payload ++ (s.last ++ closing s.count)) ++ rest in
-    let a = split_heads o.tag_first.title s.tag_title o.inside (s.array_title ++ (s.headers ++ (s.length_title ++ tail))) (Tag o.number) (Tag s.number) o.tag_first.is_title s.is_tag (sym o.tag_first.whole ∙ stated_whole b front rest n s e) in
-    let c = split_heads o.array_next.title s.array_title o.items (s.headers ++ (s.length_title ++ tail)) (Array o.count) (Array s.count) o.array_next.is_title s.is_array (sym o.array_next.whole ∙ a.rests) in
-    let f = o.fronts in
-    let d : tree_count f.reads.trees ≡ 2 = all_count f.reads.trees (one_more o.first (one_more o.second no_trees)) f.reads.means in
+    let p = o.right in
+    let a = split_heads p.tag_first.title s.tag_title p.inside (s.array_title ++ (s.headers ++ (s.length_title ++ tail))) (Tag p.number) (Tag s.number) p.tag_first.is_title s.is_tag (sym p.tag_first.whole ∙ stated_whole b front rest n s e) in
+    let c = split_heads p.array_next.title s.array_title p.items (s.headers ++ (s.length_title ++ tail)) (Array o.count) (Array s.count) p.array_next.is_title s.is_array (sym p.array_next.whole ∙ a.rests) in
+    let f = p.fronts in
+    let d : tree_count f.reads.trees ≡ 2 = all_count f.reads.trees o.headers f.reads.means ∙ o.are_two in
     let none : o.third ≡ s.length_title ++ tail = behind_two f.reads.trees s.two o.third (s.length_title ++ tail) f.spelling s.headers f.reads.spells s.spells d s.are_two (sym f.whole ∙ c.rests) in
     (split_heads o.title.title s.length_title o.behind tail h (Bytes (Some n)) o.title.is_title s.is_length (sym o.title.whole ∙ none)).heads
 

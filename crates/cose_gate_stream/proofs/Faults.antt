@@ -24,8 +24,8 @@ use Rattle.coset_labels.specs.declared.error.CoseError.{CoseError}
 use Rattle.coset_labels.specs.declared.error.CoseError.TheVariants as cose
 use Rattle.cose_gate_stream.specs.declared.fault.StreamFault.{StreamFault}
 use Rattle.cose_gate_stream.specs.declared.fault.StreamFault.TheVariants as fault
-use Rattle.cose_gate_stream.specs.Streaming.{Why, damaged, untagged, tagged, misshapen, without_payload, without_length, refused, HoldsNoMemory, Tells, IsLongFor, fault_by, shape_by}
-use Rattle.cose_gate_stream.specs.Parts.{TitleFault, PartFault, NoBreak, IsUnexpected, WrongPart, NoneWrong}
+use Rattle.cose_gate_stream.specs.Streaming.{Why, damaged, untagged, tagged, shape, without_payload, without_length, refused, HoldsNoMemory, Tells, IsLongFor, fault_by, shape_by}
+use Rattle.cose_gate_stream.specs.ElementFaults.{TitleFault, PartFault, NoBreak, IsUnexpected, WrongPart, NoneWrong}
 
 -- what a fault says where l was left and o was the offset
 abbrev pub Names : {E : Type 0} → (E → Bool) → (ℕ → List ℕ → Why → Type 0) → ℕ → Option (List ℕ) → ℕ → StreamFault E → Type 0
@@ -70,7 +70,7 @@ tells_as ends D D' long long' (fault.Decode de.Memory) d l t = t
 tells_as ends D D' long long' (fault.Decode de.TooLong) d l t = l t
 tells_as ends D D' long long' fault.NotTagged d l t = d untagged t
 tells_as ends D D' long long' (fault.OtherTag n) d l t = d (tagged n) t
-tells_as ends D D' long long' (fault.Shape e) d l t = d (misshapen (fault_of e)) t
+tells_as ends D D' long long' (fault.Shape e) d l t = d (shape (fault_of e)) t
 tells_as ends D D' long long' fault.Detached d l t = d without_payload t
 tells_as ends D D' long long' fault.Unsized d l t = d without_length t
 tells_as ends D D' long long' fault.Memory d l t = d refused t
@@ -137,7 +137,7 @@ part_title : (k : ℕ) (W : CoseFault → Tree → Type 0) (stop : ℕ) (b : Lis
 part_title k W stop b (damaged f) d = (title_no_break stop b f d, damaged_by stop b k f (in_title b k f d))
 part_title k W stop b untagged d = absurd d
 part_title k W stop b (tagged n) d = absurd d
-part_title k W stop b (misshapen e) d = absurd d
+part_title k W stop b (shape e) d = absurd d
 part_title k W stop b without_payload d = absurd d
 part_title k W stop b without_length d = absurd d
 part_title k W stop b refused d = absurd d
@@ -224,15 +224,15 @@ part_weaker ends k W l o f names = known_tells ends l o 0 0 (PartFault k NoneWro
     go stop b (damaged f) le d = d
     go stop b untagged le d = d
     go stop b (tagged n) le d = d
-    go stop b (misshapen e) le (inl d) = inl d
-    go stop b (misshapen e) le (inr d) = absurd d.3
+    go stop b (shape e) le (inl d) = inl d
+    go stop b (shape e) le (inr d) = absurd d.3
     go stop b without_payload le d = d
     go stop b without_length le d = d
     go stop b refused le d = d
 
 -- a fault of a shape that was not expected
-unexpected_tells : {E : Type 0} (ends : E → Bool) (D : Why → Type 0) (long : Type 0) (f : StreamFault E) → IsUnexpected f → D (misshapen unexpected) → Tells ends D long f
-unexpected_tells ends D long (fault.Shape e) u d = subst (λ (z : CoseFault). D (misshapen z)) (sym u) d
+unexpected_tells : {E : Type 0} (ends : E → Bool) (D : Why → Type 0) (long : Type 0) (f : StreamFault E) → IsUnexpected f → D (shape unexpected) → Tells ends D long f
+unexpected_tells ends D long (fault.Shape e) u d = subst (λ (z : CoseFault). D (shape z)) (sym u) d
 unexpected_tells ends D long (fault.Decode e) u d = absurd u
 unexpected_tells ends D long fault.NotTagged u d = absurd u
 unexpected_tells ends D long (fault.OtherTag n) u d = absurd u
@@ -246,7 +246,7 @@ absent_tells b rest h (inr e) s = inr (rest, subst (λ (z : Header). Begins b z 
 
 -- a title that is not one that was expected
 pub unexpected_here : {E : Type 0} (ends : E → Bool) (l₀ l₁ : Option (List ℕ)) (o₀ o₁ : ℕ) (h : Header) (D : ℕ → List ℕ → Why → Type 0) (f : StreamFault E) → Moves l₀ l₁ o₀ o₁ (λ (b : List ℕ). Title b h) → IsUnexpected f
-    → ((stop : ℕ) (b rest : List ℕ) → Begins b h rest → D stop b (misshapen unexpected)) → Names ends D 0 l₀ o₀ f
+    → ((stop : ℕ) (b rest : List ℕ) → Begins b h rest → D stop b (shape unexpected)) → Names ends D 0 l₀ o₀ f
 unexpected_here ends l₀ l₁ o₀ o₁ h D f t u d = (unexpected_holds f u, go l₀ l₁ t)
   where
     go : (l₀ l₁ : Option (List ℕ)) → Moves l₀ l₁ o₀ o₁ (λ (b : List ℕ). Title b h) → IfKnown l₀ (λ b. Tells ends (D (o₀ + length b) b) (IsLongFor 0 o₀ b) f)

@@ -15,7 +15,7 @@ use Rattle.ciborium.proofs.Taking.{takes_then, takes_as, takes_none}
 use Rattle.cose_gate_core.specs.Questions.{Subject}
 use Rattle.cose_gate_stream.specs.Stated.{Cut}
 use Rattle.cose_gate_stream.specs.Streaming.{Tells, IsLongFor, fault_by}
-use Rattle.cose_gate_stream.specs.Parts.{Split, ShortFault}
+use Rattle.cose_gate_stream.specs.ElementFaults.{Split, ShortFault}
 use Rattle.cose_gate_stream.proofs.Faults.{Names, fault_holds}
 
 -- the bytes b of a payload of `size` were fed, and `due` are to come

@@ -15,20 +15,18 @@ use Rattle.ciborium.proofs.ReadLemmas.{meanings_parts}
 use Rattle.ciborium.proofs.ChildLemmas.{all_count, title_no_break}
 use Rattle.ciborium.proofs.TagLemmas.{bytes_meant}
 use Rattle.coset_labels.specs.Faults.{CoseFault, unexpected}
-use Rattle.coset_headers.specs.Fields.{HeaderFields, ProtectedFields}
-use Rattle.coset_headers.specs.Headers.{HasProtected, HasHeader}
 use Rattle.cose_gate_core.specs.PartsWritten.{optional_tree}
 use Rattle.cose_gate_core.specs.WrongParts.{in_content}
 use Rattle.cose_gate_core.specs.Findings.{Bounds, IsMisshapen}
 use Rattle.cose_gate_stream.specs.declared.fault.StreamFault.{StreamFault}
 use Rattle.cose_gate_stream.specs.declared.form.Form.{Form}
 use Rattle.cose_gate_stream.specs.Forms.{tag_number}
-use Rattle.cose_gate_stream.specs.Streaming.{Why, damaged, untagged, tagged, misshapen, without_payload, without_length, refused, UnstreamedBy, Opening}
-use Rattle.cose_gate_stream.specs.Parts.{FourFault, SizeFault}
+use Rattle.cose_gate_stream.specs.Streaming.{Why, damaged, untagged, tagged, shape, without_payload, without_length, refused, UnstreamedBy, IsProtected, IsHeader, Opening, ShowsFault, no_array_of_four, no_payload}
+use Rattle.cose_gate_stream.specs.ElementFaults.{FourFault, SizeFault}
 use Rattle.cose_gate_stream.proofs.Faults.{Names, tells_behind}
 use Rattle.cose_gate_stream.proofs.Forms.{WrongForm, shaped, no_array, not_four_items, wrong_parts, not_two, not_three, single_tag}
 use Rattle.cose_gate_stream.proofs.Whole.{Within}
-use Rattle.cose_gate_stream.proofs.Wrong.{within_tag, within_array, begun, within_damage, four_due, Left, left, not_four_shape, four_or}
+use Rattle.cose_gate_stream.proofs.Wrong.{right_up_to, within_damage, four_due, Left, left, not_four_shape, four_or}
 use Rattle.cose_gate_stream.proofs.Elements.{append, append_count}
 use Rattle.cose_gate_stream.proofs.Meant.{array_meant, null_meant, message_meant}
 
@@ -59,8 +57,8 @@ four_fault limits least f stop x rest (damaged e) t d =
     damaged_by stop (x ++ rest) n e (in_tag (x ++ rest) rest n (tag_number f) e (record { title = x; is_title = t; whole = refl }) (omega arith) (inl (not_two f, not_three f)) (in_title rest (n - 1) e d))
 four_fault limits least f stop x rest untagged t d = absurd d
 four_fault limits least f stop x rest (tagged n) t d = absurd d
-four_fault limits least f stop x rest (misshapen e) t (u, d) = (
-  (tag_number f, rest, record { title = x; is_title = t; whole = refl }, single_tag f),
+four_fault limits least f stop x rest (shape e) t (u, d) = (
+  subst (ShowsFault limits (x ++ rest)) (sym u) (no_array_of_four (tag_number f) rest d.1 d.0 (single_tag f) (record { title = x; is_title = t; whole = refl }) d.2 d.3),
   λ v after i.
       let c = tag_parts (x ++ rest) rest after (tag_number f) i.reads.tree (record { title = x; is_title = t; whole = refl }) (record { spelling = i.spelling; whole = i.whole; spells = i.reads.spells }) in
       let m = message_meant f (meaning c.under) v (ap meaning (sym c.is) ∙ i.reads.means) in
@@ -139,26 +137,15 @@ payload_shape limits f o a b rest r h t e s no_bytes no_null no_undefined l u = 
     go (inr n) = not_four_shape limits f two l.means t e l.is n u
 
 -- the headers were accepted
-module _ (limits : Bounds) (f : Form) (o : Option ℕ) (a b : Tree) (p : ProtectedFields) (u : HeaderFields) (first : HasProtected limits.nesting a p limits.layers) (second : HasHeader limits.nesting b u limits.layers) where
+module _ (limits : Bounds) (f : Form) (o : Option ℕ) (a b : Tree) (first : IsProtected limits a) (second : IsHeader limits b) where
   opens : (x rest r : List ℕ) (h : Header) → Within limits f o (one_more a (one_more b no_trees)) x → Begins rest h r → Opening limits (x ++ rest) h
   opens x rest r h w s = record {
-    number = tag_number f;
-    inside = w.array_title ++ (w.inner ++ rest);
-    items = w.inner ++ rest;
+    count = o;
+    headers = one_more a (one_more b no_trees);
     third = rest;
     behind = r;
-    count = o;
-    first = a;
-    second = b;
-    protected = p;
-    unprotected = u;
-    is_single = single_tag f;
-    tag_first = within_tag limits f o (one_more a (one_more b no_trees)) x rest w;
-    array_next = within_array limits f o (one_more a (one_more b no_trees)) x rest w;
-    is_four = w.is_four;
-    fronts = record { spelling = w.inner; whole = refl; reads = w.reads };
-    is_protected = first;
-    is_header = second;
+    right = right_up_to limits f o (one_more a (one_more b no_trees)) x rest w (first, second, tt);
+    are_two = refl;
     title = s;
   }
 
@@ -167,8 +154,8 @@ module _ (limits : Bounds) (f : Form) (o : Option ℕ) (a b : Tree) (p : Protect
       damaged_by stop (x ++ rest) limits.nesting e (within_damage limits least stop f o (one_more a (one_more b no_trees)) x rest e w (four_due o 2 rest w.is_four (omega arith) (title_no_break stop rest e d)) (in_title rest (limits.nesting - 2) e d))
   size_fault least stop x rest untagged w d = absurd d
   size_fault least stop x rest (tagged n) w d = absurd d
-  size_fault least stop x rest (misshapen e) w (is, d) = (
-    begun limits f o (one_more a (one_more b no_trees)) x rest w,
+  size_fault least stop x rest (shape e) w (is, d) = (
+    subst (ShowsFault limits (x ++ rest)) (sym is) (no_payload d.0 (opens x rest d.1 d.0 w d.2) d.3 d.4 d.5),
     λ t after i. inl (payload_shape limits f o a b rest d.1 d.0 t e d.2 d.3 d.4 d.5 (left limits f o (one_more a (one_more b no_trees)) x rest after t w (omega arith) i) is),
   )
   size_fault least stop x rest without_payload w (inl d) = inl (opens x rest d.0 (Simple 22) w d.1)

@@ -33,7 +33,7 @@ use Rattle.cose_gate_stream.specs.declared.form.Form.{Form}
 use Rattle.cose_gate_stream.specs.Forms.{tag_number, message_of, received_of}
 use Rattle.cose_gate_stream.specs.Stated.{IsFour, closing, InPieces}
 use Rattle.cose_gate_stream.specs.Streaming.{CheckedBy}
-use Rattle.cose_gate_stream.specs.Parts.{IsPart, Split}
+use Rattle.cose_gate_stream.specs.ElementFaults.{IsPart, Split}
 use Rattle.cose_gate_stream.proofs.Forms.{single_tag, single, judged_of, question_of, one_question}
 
 -- the tag of a message, the title of an array, and the elements that are read so far

@@ -6,7 +6,7 @@ use borrow.Author.Tests.{eqb-true}
 use Rattle.ciborium_ll.specs.declared.hdr.Header.TheVariants.{Tag, Bytes, Array}
 use Rattle.ciborium_ll.specs.Reading.{Moves}
 use Rattle.ciborium_ll.specs.Title.{Title, Begins}
-use Rattle.ciborium_value.specs.Tree.{Tree, array, tag, Trees, no_trees, one_more, tree_count}
+use Rattle.ciborium_value.specs.Tree.{Tree, bytes, array, tag, Trees, no_trees, one_more, tree_count}
 use Rattle.ciborium_value.specs.Folding.{tagged as tagged_by}
 use Rattle.ciborium.specs.Spelling.{SpellsAll}
 use Rattle.ciborium.specs.Meaning.{meaning, meanings}
@@ -26,8 +26,8 @@ use Rattle.cose_gate_stream.specs.declared.fault.StreamFault.{StreamFault}
 use Rattle.cose_gate_stream.specs.declared.form.Form.{Form}
 use Rattle.cose_gate_stream.specs.Forms.{tag_number}
 use Rattle.cose_gate_stream.specs.Stated.{IsFour}
-use Rattle.cose_gate_stream.specs.Streaming.{Why, damaged, untagged, tagged, misshapen, without_payload, without_length, refused, UnstreamedBy, IsBegun, IsShapeFault, IsHeaderFault}
-use Rattle.cose_gate_stream.specs.Parts.{PartFault, TagFault, NoBreak, WrongPart, NoneWrong, NoBytes, ShortFault, CloseFault}
+use Rattle.cose_gate_stream.specs.Streaming.{Why, damaged, untagged, tagged, shape, without_payload, without_length, refused, UnstreamedBy, IsBegun, IsProtected, IsHeader, AreInPlace, RightUpTo, ShowsFault, break_too_early, no_protected, no_header, no_signature, not_closed, IsShapeFault, IsHeaderFault}
+use Rattle.cose_gate_stream.specs.ElementFaults.{PartFault, TagFault, NoBreak, WrongPart, NoneWrong, NoBytes, ShortFault, CloseFault}
 use Rattle.cose_gate_stream.proofs.Faults.{Names, known_tells, tells_behind}
 use Rattle.cose_gate_stream.proofs.Forms.{WrongForm, shaped, not_four_items, wrong_parts, wrong_last, not_two, not_three, single_tag}
 use Rattle.cose_gate_stream.proofs.Whole.{Within}
@@ -57,12 +57,15 @@ four_or n = go (nat_eq n 4) refl
     go true e = inl (eqb-true n 4 e)
     go false e = inr (λ f. absurd (grind (arith, nat_tests, e, f)))
 
--- an element that is wrong in its place: where there are four elements the message has this fault, and where there are more or fewer it
--- is that of a header, or the one of their number
-abbrev pub Place : Bounds → Form → Trees → (CoseFault → Tree → Type 0) → Type 0
-Place limits f done W = (e : CoseFault) (v : Tree) (ms : Trees) → W e v
-    → (tree_count (append done (one_more v ms)) ≡ 4 → WrongForm limits f (array (append done (one_more v ms))) e)
-    × ((e ≡ unexpected) ⊎ IsHeaderFault limits (append done (one_more v ms)) e)
+-- The place behind these elements, where W is wrong: the bytes up to it show the fault. Where there
+-- are four elements the message has it. Where there are more or fewer, it is that of a header, or
+-- the one of their number.
+pub record Place (limits : Bounds) (f : Form) (done : Trees) (W : CoseFault → Tree → Type 0) : Type 0 where
+  pub in_place : AreInPlace limits done
+  pub shows : (b items rest : List ℕ) (o : Option ℕ) (v : Tree) (e : CoseFault) → RightUpTo limits b o done items → Front items (limits.nesting - 2) v rest → W e v → ShowsFault limits b e
+  pub has : (e : CoseFault) (v : Tree) (ms : Trees) → W e v
+      → (tree_count (append done (one_more v ms)) ≡ 4 → WrongForm limits f (array (append done (one_more v ms))) e)
+      × ((e ≡ unexpected) ⊎ IsHeaderFault limits (append done (one_more v ms)) e)
 
 -- the payload is cut, or memory was refused while it was fed
 short_fault : (k n stop : ℕ) (x rest : List ℕ) (w : Why) → Title x (Bytes (Some n)) → ShortFault n rest w → PartFault k NoneWrong stop (x ++ rest) w
@@ -74,7 +77,7 @@ short_fault k n stop x rest (damaged (syntax p)) t d = absurd d
 short_fault k n stop x rest (damaged (semantic s)) t d = absurd d
 short_fault k n stop x rest untagged t d = absurd d
 short_fault k n stop x rest (tagged i) t d = absurd d
-short_fault k n stop x rest (misshapen e) t d = absurd d
+short_fault k n stop x rest (shape e) t d = absurd d
 short_fault k n stop x rest without_payload t d = absurd d
 short_fault k n stop x rest without_length t d = absurd d
 short_fault k n stop x rest refused t d = tt
@@ -89,7 +92,7 @@ module _ (limits : Bounds) where
   first_fault stop b (damaged f) d = damaged_by stop b limits.nesting f (in_title b limits.nesting f d)
   first_fault stop b untagged d = d
   first_fault stop b (tagged n) d = d
-  first_fault stop b (misshapen e) d = absurd d
+  first_fault stop b (shape e) d = absurd d
   first_fault stop b without_payload d = absurd d
   first_fault stop b without_length d = absurd d
   first_fault stop b refused d = absurd d
@@ -108,6 +111,20 @@ module _ (limits : Bounds) where
 
   pub within_array : (f : Form) (o : Option ℕ) (done : Trees) (x rest : List ℕ) (w : Within limits f o done x) → Begins (w.array_title ++ (w.inner ++ rest)) (Array o) (w.inner ++ rest)
   within_array f o done x rest w = record { title = w.array_title; is_title = w.is_array; whole = refl }
+
+  -- the elements that are read are right in their places
+  pub right_up_to : (f : Form) (o : Option ℕ) (done : Trees) (x rest : List ℕ) → Within limits f o done x → AreInPlace limits done → RightUpTo limits (x ++ rest) o done rest
+  right_up_to f o done x rest w right = record {
+    number = tag_number f;
+    inside = w.array_title ++ (w.inner ++ rest);
+    items = w.inner ++ rest;
+    is_single = single_tag f;
+    tag_first = within_tag f o done x rest w;
+    array_next = within_array f o done x rest w;
+    is_four = w.is_four;
+    fronts = record { spelling = w.inner; whole = refl; reads = w.reads };
+    in_place = right;
+  }
 
   -- a message of this kind is begun
   pub begun : (f : Form) (o : Option ℕ) (done : Trees) (x rest : List ℕ) → Within limits f o done x → IsBegun (x ++ rest)
@@ -224,7 +241,7 @@ module _ (limits : Bounds) where
           let j : y.0 ≡ v = cc in
           let ms : l.means ≡ one_more v y.1 = y.4 ∙ ap (λ z. one_more z y.1) j in
           by (one_more v y.1) (l.is ∙ ap (λ z. tag (tag_number f) (array (append done z))) ms) (subst (λ (z : Trees). (o ≡ None) ⊎ (tree_count (append done z) ≡ 4)) ms l.counted)
-          (place e v y.1 wrong) (four_or (tree_count (append done (one_more v y.1))))
+          (place.has e v y.1 wrong) (four_or (tree_count (append done (one_more v y.1))))
 
   -- a fault at the next element is one of the whole
   part_fault : 2 ≤ limits.nesting → (f : Form) (o : Option ℕ) (done : Trees) (W : CoseFault → Tree → Type 0) → tree_count done < 4 → Place limits f done W
@@ -233,8 +250,14 @@ module _ (limits : Bounds) where
       damaged_as stop rest (x ++ rest) (limits.nesting - 2) limits.nesting e (λ g b. within_damage least stop f o done x rest g w (four_due o (tree_count done) rest w.is_four few d.0) b) d.1
   part_fault least f o done W few place stop x rest untagged w d = absurd d
   part_fault least f o done W few place stop x rest (tagged n) w d = absurd d
-  part_fault least f o done W few place stop x rest (misshapen e) w (inl (u, (r, b))) = (begun f o done x rest w, λ t after i. inl (break_shape f o done rest r t e few (left f o done x rest after t w (omega arith) i) u b))
-  part_fault least f o done W few place stop x rest (misshapen e) w (inr (v, behind, there, wrong)) = (begun f o done x rest w, λ t after i. wrong_shape f o done W place x rest behind v t e w few (left f o done x rest after t w (omega arith) i) there wrong)
+  part_fault least f o done W few place stop x rest (shape e) w (inl (u, (r, b))) = (
+    subst (ShowsFault limits (x ++ rest)) (sym u) (break_too_early o done r (subst (RightUpTo limits (x ++ rest) o done) b (right_up_to f o done x rest w place.in_place)) few),
+    λ t after i. inl (break_shape f o done rest r t e few (left f o done x rest after t w (omega arith) i) u b),
+  )
+  part_fault least f o done W few place stop x rest (shape e) w (inr (v, behind, there, wrong)) = (
+    place.shows (x ++ rest) rest behind o v e (right_up_to f o done x rest w place.in_place) there wrong,
+    λ t after i. wrong_shape f o done W place x rest behind v t e w few (left f o done x rest after t w (omega arith) i) there wrong,
+  )
   part_fault least f o done W few place stop x rest without_payload w d = absurd d
   part_fault least f o done W few place stop x rest without_length w d = absurd d
   part_fault least f o done W few place stop x rest refused w d = begun f o done x rest w
@@ -246,33 +269,53 @@ module _ (limits : Bounds) where
 
   -- the places of the elements
   pub protected_place : (f : Form) → Place limits f no_trees (WrongPart (λ v e. WrongProtected limits.nesting v limits.layers e))
-  protected_place f e v no_trees w = (λ n. absurd (omega arith), inr w)
-  protected_place f e v (one_more b no_trees) w = (λ n. absurd (omega arith), inr (inl w))
-  protected_place f e v (one_more b (one_more c no_trees)) w = (λ n. absurd (omega arith), inr (inl w))
-  protected_place f e v (one_more b (one_more c (one_more d no_trees))) w = (λ n. wrong_parts limits f v b c d e (in_protected e w), inr (inl w))
-  protected_place f e v (one_more b (one_more c (one_more d (one_more x xs)))) w = (λ n. absurd (omega arith), inr (inl w))
+  protected_place f = record { in_place = tt; shows = λ b items rest o v e right there wrong. no_protected o v items rest e right there wrong; has = has }
+    where
+      has : (e : CoseFault) (v : Tree) (ms : Trees) → WrongProtected limits.nesting v limits.layers e
+          → (tree_count (one_more v ms) ≡ 4 → WrongForm limits f (array (one_more v ms)) e) × ((e ≡ unexpected) ⊎ IsHeaderFault limits (one_more v ms) e)
+      has e v no_trees w = (λ n. absurd (omega arith), inr w)
+      has e v (one_more b no_trees) w = (λ n. absurd (omega arith), inr (inl w))
+      has e v (one_more b (one_more c no_trees)) w = (λ n. absurd (omega arith), inr (inl w))
+      has e v (one_more b (one_more c (one_more d no_trees))) w = (λ n. wrong_parts limits f v b c d e (in_protected e w), inr (inl w))
+      has e v (one_more b (one_more c (one_more d (one_more x xs)))) w = (λ n. absurd (omega arith), inr (inl w))
 
-  pub unprotected_place : (f : Form) (a : Tree) → Place limits f (one_more a no_trees) (WrongPart (λ v e. WrongHeader limits.nesting v limits.layers e))
-  unprotected_place f a e v no_trees w = (λ n. absurd (omega arith), inr (inr w))
-  unprotected_place f a e v (one_more c no_trees) w = (λ n. absurd (omega arith), inr (inr w))
-  unprotected_place f a e v (one_more c (one_more d no_trees)) w = (λ n. wrong_parts limits f a v c d e (in_unprotected e w), inr (inr w))
-  unprotected_place f a e v (one_more c (one_more d (one_more x xs))) w = (λ n. absurd (omega arith), inr (inr w))
+  pub unprotected_place : (f : Form) (a : Tree) → IsProtected limits a → Place limits f (one_more a no_trees) (WrongPart (λ v e. WrongHeader limits.nesting v limits.layers e))
+  unprotected_place f a first = record { in_place = first; shows = λ b items rest o v e right there wrong. no_header o a v items rest e right there wrong; has = has }
+    where
+      has : (e : CoseFault) (v : Tree) (ms : Trees) → WrongHeader limits.nesting v limits.layers e
+          → (tree_count (one_more a (one_more v ms)) ≡ 4 → WrongForm limits f (array (one_more a (one_more v ms))) e) × ((e ≡ unexpected) ⊎ IsHeaderFault limits (one_more a (one_more v ms)) e)
+      has e v no_trees w = (λ n. absurd (omega arith), inr (inr w))
+      has e v (one_more c no_trees) w = (λ n. absurd (omega arith), inr (inr w))
+      has e v (one_more c (one_more d no_trees)) w = (λ n. wrong_parts limits f a v c d e (in_unprotected e w), inr (inr w))
+      has e v (one_more c (one_more d (one_more x xs))) w = (λ n. absurd (omega arith), inr (inr w))
 
-  pub signature_place : (f : Form) (a b c : Tree) → Place limits f (one_more a (one_more b (one_more c no_trees))) NoBytes
-  signature_place f a b c e v no_trees w = (λ n. subst (WrongForm limits f (array (one_more a (one_more b (one_more c (one_more v no_trees)))))) (sym w.0) (wrong_last limits f a b c v w.1), inl w.0)
-  signature_place f a b c e v (one_more d ms) w = (λ n. absurd (omega arith), inl w.0)
+  pub signature_place : (f : Form) (a b : Tree) (payload : List ℕ) → IsProtected limits a → IsHeader limits b → Place limits f (one_more a (one_more b (one_more (bytes payload) no_trees))) NoBytes
+  signature_place f a b payload first second = record {
+    in_place = (first, second, (refl, tt));
+    shows = λ all items rest o v e right there wrong. subst (ShowsFault limits all) (sym wrong.0) (no_signature o (one_more a (one_more b (one_more (bytes payload) no_trees))) v items rest right refl there wrong.1);
+    has = has;
+  }
+    where
+      has : (e : CoseFault) (v : Tree) (ms : Trees) → NoBytes e v
+          → (tree_count (one_more a (one_more b (one_more (bytes payload) (one_more v ms)))) ≡ 4 → WrongForm limits f (array (one_more a (one_more b (one_more (bytes payload) (one_more v ms))))) e)
+          × ((e ≡ unexpected) ⊎ IsHeaderFault limits (one_more a (one_more b (one_more (bytes payload) (one_more v ms)))) e)
+      has e v no_trees w = (λ n. subst (WrongForm limits f (array (one_more a (one_more b (one_more (bytes payload) (one_more v no_trees)))))) (sym w.0) (wrong_last limits f a b (bytes payload) v w.1), inl w.0)
+      has e v (one_more d ms) w = (λ n. absurd (omega arith), inl w.0)
 
-  pub any_place : (f : Form) (done : Trees) → Place limits f done NoneWrong
-  any_place f done e v ms w = absurd w
+  pub any_place : (f : Form) (done : Trees) → AreInPlace limits done → Place limits f done NoneWrong
+  any_place f done right = record { in_place = right; shows = λ b items rest o v e before there wrong. absurd wrong; has = λ e v ms w. absurd w }
 
   -- the end of an open array
-  close_fault : 2 ≤ limits.nesting → (f : Form) (o : Option ℕ) (done : Trees) → o ≡ None → tree_count done ≡ 4 → (stop : ℕ) (x rest : List ℕ) (w : Why) → Within limits f o done x → CloseFault stop rest w
+  close_fault : 2 ≤ limits.nesting → (f : Form) (o : Option ℕ) (done : Trees) → AreInPlace limits done → o ≡ None → tree_count done ≡ 4 → (stop : ℕ) (x rest : List ℕ) (w : Why) → Within limits f o done x → CloseFault stop rest w
       → UnstreamedBy limits stop (x ++ rest) w
-  close_fault least f o done unsized four stop x rest (damaged e) w d =
+  close_fault least f o done right unsized four stop x rest (damaged e) w d =
       damaged_by stop (x ++ rest) limits.nesting e (within_damage least stop f o done x rest e w (subst (λ (z : Option ℕ). Due (Array z) (tree_count done) rest) (sym unsized) (title_no_break stop rest e d)) (in_title rest (limits.nesting - 2) e d))
-  close_fault least f o done unsized four stop x rest untagged w d = absurd d
-  close_fault least f o done unsized four stop x rest (tagged n) w d = absurd d
-  close_fault least f o done unsized four stop x rest (misshapen e) w (u, d) = (begun f o done x rest w, λ t after i. inl (go t (left f o done x rest after t w (omega arith) i)))
+  close_fault least f o done right unsized four stop x rest untagged w d = absurd d
+  close_fault least f o done right unsized four stop x rest (tagged n) w d = absurd d
+  close_fault least f o done right unsized four stop x rest (shape e) w (u, d) = (
+    subst (ShowsFault limits (x ++ rest)) (sym u) (not_closed done d.0 rest d.1 (subst (λ (z : Option ℕ). RightUpTo limits (x ++ rest) z done rest) unsized (right_up_to f o done x rest w right)) four d.2 d.3),
+    λ t after i. inl (go t (left f o done x rest after t w (omega arith) i)),
+  )
     where
       go : (t : Tree) → Left f o done rest t → IsMisshapen limits t e
       go t l = cases l.more l.spells l.mean
@@ -285,14 +328,14 @@ module _ (limits : Bounds) where
               let k = meanings_parts s ss l.means m in
               let c : tree_count l.means ≡ 1 + tree_count k.1 = ap tree_count k.4 in
               not_four_shape f done l.means t e l.is (λ x. let a = append_count done l.means in omega arith) u
-  close_fault least f o done unsized four stop x rest without_payload w d = absurd d
-  close_fault least f o done unsized four stop x rest without_length w d = absurd d
-  close_fault least f o done unsized four stop x rest refused w d = absurd d
+  close_fault least f o done right unsized four stop x rest without_payload w d = absurd d
+  close_fault least f o done right unsized four stop x rest without_length w d = absurd d
+  close_fault least f o done right unsized four stop x rest refused w d = absurd d
 
   pub close_tells : 2 ≤ limits.nesting → {E : Type 0} (ends : E → Bool) (l₀ l₁ : Option (List ℕ)) (o₀ o₁ room : ℕ) (f : Form) (o : Option ℕ) (done : Trees) (e : StreamFault E) → Moves l₀ l₁ o₀ o₁ (Within limits f o done)
-      → tree_count done ≡ 4 → o ≡ None → Names ends CloseFault 0 l₁ o₁ e → Names ends (UnstreamedBy limits) room l₀ o₀ e
-  close_tells least ends l₀ l₁ o₀ o₁ room f o done e t four unsized k =
-      tells_behind ends l₀ l₁ o₀ o₁ 0 room (Within limits f o done) CloseFault (UnstreamedBy limits) e t (omega arith) (λ stop x rest w le p d. close_fault least f o done unsized four stop x rest w p d) k
+      → AreInPlace limits done → tree_count done ≡ 4 → o ≡ None → Names ends CloseFault 0 l₁ o₁ e → Names ends (UnstreamedBy limits) room l₀ o₀ e
+  close_tells least ends l₀ l₁ o₀ o₁ room f o done e t right four unsized k =
+      tells_behind ends l₀ l₁ o₀ o₁ 0 room (Within limits f o done) CloseFault (UnstreamedBy limits) e t (omega arith) (λ stop x rest w le p d. close_fault least f o done right unsized four stop x rest w p d) k
 
   -- memory was refused where nothing is read
   pub refused_tells : (l₀ l₁ : Option (List ℕ)) (o₀ o₁ : ℕ) (f : Form) (o : Option ℕ) (done : Trees) → Moves l₀ l₁ o₀ o₁ (Within limits f o done)

@@ -1,4 +1,4 @@
+pub mod ElementFaults
 pub mod Forms
-pub mod Parts
 pub mod Stated
 pub mod Streaming

@@ -5,11 +5,12 @@ use Rattle.ciborium_ll.specs.declared.hdr.Header.TheVariants.{Tag, Bytes, Array}
 use Rattle.ciborium_ll.specs.Title.{Title}
 use Rattle.ciborium_value.specs.Tree.{Tree, Trees, tree_count}
 use Rattle.ciborium.specs.Spelling.{Spells, SpellsAll}
-use Rattle.cose_gate_core.specs.Questions.{MessageFields, sign1, mac0}
+use Rattle.cose_gate_core.specs.Questions.{MessageFields, sign1, mac0, number_of}
+use Rattle.cose_gate_core.specs.declared.about.MessageKind.TheVariants as kind
 
 -- the tags of a COSE_Mac0 and a COSE_Sign1 (RFC 9052, section 2)
 abbrev pub IsSingleTag : ℕ → Type 0
-IsSingleTag n = (n ≡ 17) ⊎ (n ≡ 18)
+IsSingleTag n = (n ≡ number_of kind.Mac0) ⊎ (n ≡ number_of kind.Sign1)
 
 -- a message of one of these two
 abbrev pub IsSingle : MessageFields → Type 0

@@ -1,10 +1,10 @@
 -- What the streaming road answers, over the bytes that were to come.
-use Rattle.std.specs.Prelude.{◌≡◌, ◌≢◌, ℕ, ◌+◌, ◌-◌, ◌^◌, ◌≤◌, max, ◌⊎◌, List, ◌++◌, length, Option, None, Bool, IsTrue, Result, Ok, Err, is_none, if◌then◌else◌}
+use Rattle.std.specs.Prelude.{◌≡◌, ◌≢◌, ℕ, ◌+◌, ◌-◌, ◌^◌, ◌<◌, ◌≤◌, max, ◌⊎◌, List, ◌∷◌, ◌++◌, length, Option, None, Bool, false, IsTrue, Result, Ok, Err, is_none, if◌then◌else◌}
 use Rattle.ciborium_ll.specs.declared.hdr.Header.{Header}
-use Rattle.ciborium_ll.specs.declared.hdr.Header.TheVariants.{Simple, Tag, Bytes, Array}
+use Rattle.ciborium_ll.specs.declared.hdr.Header.TheVariants.{Simple, Tag, Bytes, Array, Break}
 use Rattle.ciborium_ll.specs.Seen.{Seen}
 use Rattle.ciborium_ll.specs.Title.{Begins}
-use Rattle.ciborium_value.specs.Tree.{Tree, array, tag, Trees, no_trees, one_more, tree_count}
+use Rattle.ciborium_value.specs.Tree.{Tree, array, tag, Trees, no_trees, one_more, tree_count, is_bytes}
 use Rattle.ciborium.specs.Front.{Reads, Front, Fronts}
 use Rattle.ciborium.specs.Damage.{Fault, end, deep, syntax, semantic}
 use Rattle.ciborium.specs.Damaged.{Damaged}
@@ -14,7 +14,7 @@ use Rattle.ciborium.specs.declared.de.Error.TheVariants as de
 use Rattle.coset_headers.specs.Fields.{HeaderFields, ProtectedFields}
 use Rattle.coset_headers.specs.Headers.{HasProtected, HasHeader}
 use Rattle.coset_headers.specs.Wrong.{WrongProtected, WrongHeader}
-use Rattle.coset_labels.specs.Faults.{CoseFault, fault_of, no_memory}
+use Rattle.coset_labels.specs.Faults.{CoseFault, fault_of, no_memory, unexpected}
 use Rattle.coset_labels.specs.declared.error.CoseError.{CoseError}
 use Rattle.coset_labels.specs.declared.error.CoseError.TheVariants as cose
 use Rattle.cose_gate_core.specs.Questions.{Question, MessageFields, questions}
@@ -51,7 +51,7 @@ pub data Why : Type 0 where
   damaged : Fault → Why
   untagged : Why
   tagged : ℕ → Why
-  misshapen : CoseFault → Why
+  shape : CoseFault → Why
   without_payload without_length refused : Why
 
 -- a fault of decoding and one of shape never hold want of memory
@@ -75,7 +75,7 @@ Tells ends D long (fault.Decode de.Memory) = ⊥
 Tells ends D long (fault.Decode de.TooLong) = long
 Tells ends D long fault.NotTagged = D untagged
 Tells ends D long (fault.OtherTag n) = D (tagged n)
-Tells ends D long (fault.Shape e) = D (misshapen (fault_of e))
+Tells ends D long (fault.Shape e) = D (shape (fault_of e))
 Tells ends D long fault.Detached = D without_payload
 Tells ends D long fault.Unsized = D without_length
 Tells ends D long fault.Memory = D refused
@@ -93,27 +93,73 @@ NamesWhy ends D room old f =
     × IfKnown old.left (λ b. Tells ends (D (old.offset + length b) b)
     (IsLongFor room old.offset b) f)
 
--- the bytes begin with a tag of such a message, an array of four, a protected header, a header, and
--- a title of h; the tag and the array stand open round the headers
-pub record Opening (limits : Bounds) (b : List ℕ) (h : Header) : Type 0 where
+-- an element that is a protected header, or a header
+abbrev pub IsProtected : Bounds → Tree → Type 0
+IsProtected limits t = (p : ProtectedFields) × HasProtected limits.nesting t p limits.layers
+
+abbrev pub IsHeader : Bounds → Tree → Type 0
+IsHeader limits t = (h : HeaderFields) × HasHeader limits.nesting t h limits.layers
+
+abbrev pub AreStrings : Trees → Type 0
+AreStrings no_trees = Unit {0}
+AreStrings (one_more t ts) = IsTrue (is_bytes t) × AreStrings ts
+
+-- elements that are right in their places: a protected header, a header, and two byte strings, the
+-- payload and the signature or tag (RFC 9052, sections 4.2 and 6.2)
+abbrev pub AreInPlace : Bounds → Trees → Type 0
+AreInPlace limits no_trees = Unit {0}
+AreInPlace limits (one_more a no_trees) = IsProtected limits a
+AreInPlace limits (one_more a (one_more b ts)) =
+    IsProtected limits a × IsHeader limits b × AreStrings ts
+
+-- the bytes begin with a tag of such a message, an array of four, and these elements of it, each
+-- right in its place; the tag and the array stand open round them
+pub record RightUpTo (limits : Bounds) (b : List ℕ) (count : Option ℕ) (elements : Trees)
+    (rest : List ℕ) : Type 0 where
   pub number : ℕ
   pub inside : List ℕ
   pub items : List ℕ
-  pub third : List ℕ
-  pub behind : List ℕ
-  pub count : Option ℕ
-  pub first : Tree
-  pub second : Tree
-  pub protected : ProtectedFields
-  pub unprotected : HeaderFields
   pub is_single : IsSingleTag number
   pub tag_first : Begins b (Tag number) inside
   pub array_next : Begins inside (Array count) items
   pub is_four : IsFour count
-  pub fronts : Fronts items (limits.nesting - 2) (one_more first (one_more second no_trees)) third
-  pub is_protected : HasProtected limits.nesting first protected limits.layers
-  pub is_header : HasHeader limits.nesting second unprotected limits.layers
+  pub fronts : Fronts items (limits.nesting - 2) elements rest
+  pub in_place : AreInPlace limits elements
+
+-- the bytes are right up to the payload, and a title of h stands in its place
+pub record Opening (limits : Bounds) (b : List ℕ) (h : Header) : Type 0 where
+  pub count : Option ℕ
+  pub headers : Trees
+  pub third : List ℕ
+  pub behind : List ℕ
+  pub right : RightUpTo limits b count headers third
+  pub are_two : tree_count headers ≡ 2
   pub title : Begins third h behind
+
+-- what shows that bytes with the tag of such a message begin none. In front of the fault all is
+-- right; what stands behind it may be cut or damaged.
+pub data ShowsFault (limits : Bounds) (b : List ℕ) : CoseFault → Type 0 where
+  no_array_of_four : (number : ℕ) (inside items : List ℕ) (h : Header) → IsSingleTag number
+      → Begins b (Tag number) inside → Begins inside h items
+      → ((o : Option ℕ) → IsFour o → h ≢ Array o) → ShowsFault limits b unexpected
+  break_too_early : (count : Option ℕ) (elements : Trees) (rest : List ℕ)
+      → RightUpTo limits b count elements (255 ∷ rest) → tree_count elements < 4
+      → ShowsFault limits b unexpected
+  no_protected : (count : Option ℕ) (t : Tree) (items rest : List ℕ) (e : CoseFault)
+      → RightUpTo limits b count no_trees items → Front items (limits.nesting - 2) t rest
+      → WrongProtected limits.nesting t limits.layers e → ShowsFault limits b e
+  no_header : (count : Option ℕ) (first t : Tree) (items rest : List ℕ) (e : CoseFault)
+      → RightUpTo limits b count (one_more first no_trees) items
+      → Front items (limits.nesting - 2) t rest
+      → WrongHeader limits.nesting t limits.layers e → ShowsFault limits b e
+  no_payload : (h : Header) → Opening limits b h → ((o : Option ℕ) → h ≢ Bytes o)
+      → h ≢ Simple 22 → h ≢ Simple 23 → ShowsFault limits b unexpected
+  no_signature : (count : Option ℕ) (three : Trees) (t : Tree) (items rest : List ℕ)
+      → RightUpTo limits b count three items → tree_count three ≡ 3
+      → Front items (limits.nesting - 2) t rest → is_bytes t ≡ false
+      → ShowsFault limits b unexpected
+  not_closed : (four : Trees) (h : Header) (last rest : List ℕ) → RightUpTo limits b None four last
+      → tree_count four ≡ 4 → Begins last h rest → h ≢ Break → ShowsFault limits b unexpected
 
 -- the bytes begin with such a tag and an open array, of which there are other than four elements
 pub record IsOtherCount (b : List ℕ) (t : Tree) (elements : Trees) : Type 0 where
@@ -144,17 +190,17 @@ IsShapeFault limits b t e =
 abbrev pub IsBegun : List ℕ → Type 0
 IsBegun b = (n : ℕ) × (rest : List ℕ) × Begins b (Tag n) rest × IsSingleTag n
 
--- why the bytes are no message that is checked within these limits. Of a fault of shape it is open
--- which of those that the item has is named, and where no item is readable it says no more than
--- want of memory does: that a message was begun.
+-- why the bytes are no message that is checked within these limits. A fault of shape is shown by
+-- the bytes up to the first part that is wrong, whether or not an item is readable, and where one
+-- is, it has this fault.
 abbrev pub UnstreamedBy : Bounds → ℕ → List ℕ → Why → Type 0
 UnstreamedBy limits stop b (damaged f) = Damaged stop b limits.nesting f
 UnstreamedBy limits stop b untagged =
     (h : Header) × (rest : List ℕ) × Begins b h rest × ((n : ℕ) → h ≢ Tag n)
 UnstreamedBy limits stop b (tagged n) =
     (rest : List ℕ) × Begins b (Tag n) rest × (IsSingleTag n → ⊥)
-UnstreamedBy limits stop b (misshapen e) =
-    IsBegun b
+UnstreamedBy limits stop b (shape e) =
+    ShowsFault limits b e
     × ((t : Tree) (rest : List ℕ) → Front b limits.nesting t rest → IsShapeFault limits b t e)
 UnstreamedBy limits stop b without_payload =
     Opening limits b (Simple 22) ⊎ Opening limits b (Simple 23)

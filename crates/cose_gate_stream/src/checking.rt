@@ -57,11 +57,12 @@ fn streamed<R: Read, J: Judge>(
 /// how much of the input was taken then is open.
 ///
 /// # Errors
-/// `NotTagged` and `OtherTag` by the first title; `Detached` and `Unsized` by the title in the
-/// payload's place, behind two headers; `Shape` with a fault that the item has as a message of its
-/// tag (of an open array that ends at another length, also with one of its headers' faults), and
-/// `Decode` where no item is readable, or the reader failed; `Memory`. This and `Shape` never come
-/// before the tag of such a message.
+/// `NotTagged` and `OtherTag` by the first title. `Detached` and `Unsized` by the title in the
+/// payload's place, behind two headers. `Shape` with the fault of the first part that is wrong,
+/// also where what follows is damaged. Where an item is readable, it has this fault as a message
+/// of its tag; of an open array that ends at another length, the fault may be one of a header.
+/// `Decode` where no item is readable, or the reader failed. `Memory`. Neither this nor `Shape`
+/// comes before the tag of such a message.
 pub fn stream_check<R: Read, J: Judge>(
     alloc: Global,
     decoder: &mut Decoder<R>,

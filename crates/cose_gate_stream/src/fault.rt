@@ -1,5 +1,5 @@
 //! Why a message was not checked.
-ghost use Rattle.cose_gate_stream.specs.Parts.{IsUnexpected};
+ghost use Rattle.cose_gate_stream.specs.ElementFaults.{IsUnexpected};
 
 use ciborium::de;
 use ciborium_ll::{Header, simple};

@@ -4,8 +4,8 @@ ghost use Rattle.ciborium_ll.specs.Seen.{Takes};
 ghost use Rattle.ciborium_ll.specs.Views.{waiting_of, seen};
 ghost use Rattle.coset_structures.specs.Structure.{structure};
 ghost use Rattle.cose_gate_core.specs.Questions.{Subject};
+ghost use Rattle.cose_gate_stream.specs.ElementFaults.{ShortFault, Split};
 ghost use Rattle.cose_gate_stream.specs.Forms.{context_of};
-ghost use Rattle.cose_gate_stream.specs.Parts.{ShortFault, Split};
 ghost use Rattle.cose_gate_stream.specs.Streaming.{NamesWhy, Steady};
 
 use crate::fault::StreamFault;

@@ -4,8 +4,8 @@ ghost use Rattle.ciborium_ll.specs.Seen.{Takes};
 ghost use Rattle.ciborium_ll.specs.Title.{Title, title_of};
 ghost use Rattle.ciborium_ll.specs.Views.{offset_of, waiting_of, seen};
 ghost use Rattle.ciborium_ll.specs.declared.hdr.Header.TheVariants.{Tag, Bytes, Array};
+ghost use Rattle.cose_gate_stream.specs.ElementFaults.{TitleFault, TagFault, FourFault, SizeFault, CloseFault, IsPayload, IsUnexpected};
 ghost use Rattle.cose_gate_stream.specs.Forms.{tag_number};
-ghost use Rattle.cose_gate_stream.specs.Parts.{TitleFault, TagFault, FourFault, SizeFault, CloseFault, IsPayload, IsUnexpected};
 ghost use Rattle.cose_gate_stream.specs.Stated.{IsFour, closing};
 ghost use Rattle.cose_gate_stream.specs.Streaming.{NamesWhy, Steady};
 
@@ -97,8 +97,7 @@ fn payload_of(header: Header) -> Payload
     match header {
         Header::Bytes(Some(size)) => Payload::Sized(size),
         Header::Bytes(None) => Payload::Open,
-        Header::Simple(simple::NULL) => Payload::Absent,
-        Header::Simple(simple::UNDEFINED) => Payload::Absent,
+        Header::Simple(simple::NULL | simple::UNDEFINED) => Payload::Absent,
         _ => Payload::Other,
     }
 }

@@ -8,9 +8,9 @@ use std::alloc::Global;
 use std::fmt::{Debug, Display};
 use std::process::Abort;
 
-/// The answer of a check of what this reader gives, within limits where there are some, and how many
-/// bytes were taken. It has no clause but the room, so that a test that calls it carries none of
-/// `stream_check`'s.
+/// The answer of a check of what this reader gives, within limits where there are some, and how
+/// many bytes were taken. It has no clause but the room, so that a test that calls it carries none
+/// of `stream_check`'s.
 pub fn checked<R: Read + Drop, J: Judge>(
     alloc: Global,
     limits: Option<Limits>,

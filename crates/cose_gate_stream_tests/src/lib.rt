@@ -1,6 +1,6 @@
-//! Tests of `cose_gate_stream` beside the rows of `conformance_gate`: readers that fail in mid-stream,
-//! memory that is refused, long payloads, and a device that checks its firmware. Expected bytes are
-//! written out by hand.
+//! Tests of `cose_gate_stream` beside the rows of `conformance_gate`: readers that fail in
+//! mid-stream, memory that is refused, long payloads, and a device that checks its firmware.
+//! Expected bytes are written out by hand.
 #![tactic(auto)]
 
 #[cfg(test)]

@@ -1,9 +1,9 @@
 use Rattle.std.proofs.Common.{refl, sym, ◌∙◌, arith, le_refl}
 use Rattle.std.proofs.lemmas.Result.{err_from_is_err_and}
 use Rattle.ciborium_value.specs.Tree.{no_trees, one_more, bytes}
-use Rattle.coset_headers.specs.View.{protected_view}
+use Rattle.coset_headers.specs.View.{header_view, protected_view}
 use Rattle.coset_headers.specs.Wrong.{WrongProtected, WrongHeader}
-use Rattle.cose_gate_stream.specs.Parts.{WrongPart, NoneWrong, NoBytes}
+use Rattle.cose_gate_stream.specs.ElementFaults.{WrongPart, NoneWrong, NoBytes}
 use Rattle.cose_gate_stream.proofs.Wrong.{first_tells, part_tells, protected_place, unprotected_place, signature_place, any_place, short_tells_part, close_tells, refused_tells}
 use Rattle.cose_gate_stream.proofs.Heads.{four_tells, size_tells}
 use Rattle.cose_gate_stream.proofs.Whole.{within_start, within_more, part_is, paid, paid_within, checked, received_is, subject_is, question_is, in_pieces, asked_as}
@@ -31,7 +31,7 @@ returns-in_err-unprotected-clause-err g c =
     let p = err_from_is_err_and c.from_residual-in_err-unprotected.result c.from_residual-in_err-unprotected.ensures.1 in
     let w0 = within_start (plain c.args.limits.nesting c.args.limits.layers) _ _ _ _ _ _ _ _ c.in_ok-form.ensures.ok c.in_ok-count.ensures.ok c.in_ok-count.ensures.is in
     let a = part_is _ _ _ _ _ _ c.in_ok-protected.ensures.ok in
-    rw (p.1, p.2) (part_tells (plain c.args.limits.nesting c.args.limits.layers) c.args.limits.least_nesting g.R.Read.ends _ _ _ _ 0 _ _ _ (one_more a.0 no_trees) (WrongPart (λ v e. WrongHeader c.args.limits.nesting v c.args.limits.layers e)) _ (omega arith) (within_more (plain c.args.limits.nesting c.args.limits.layers) _ _ _ _ _ _ _ _ _ _ w0 a.1) (omega arith) (unprotected_place (plain c.args.limits.nesting c.args.limits.layers) _ a.0) c.in_err-unprotected.ensures.err)
+    rw (p.1, p.2) (part_tells (plain c.args.limits.nesting c.args.limits.layers) c.args.limits.least_nesting g.R.Read.ends _ _ _ _ 0 _ _ _ (one_more a.0 no_trees) (WrongPart (λ v e. WrongHeader c.args.limits.nesting v c.args.limits.layers e)) _ (omega arith) (within_more (plain c.args.limits.nesting c.args.limits.layers) _ _ _ _ _ _ _ _ _ _ w0 a.1) (omega arith) (unprotected_place (plain c.args.limits.nesting c.args.limits.layers) _ a.0 (protected_view c.in_ok-protected.protected, a.2)) c.in_err-unprotected.ensures.err)
 
 pub returns-in_err-size-clause-err : goal.returns-in_err-size-clause-err
 returns-in_err-size-clause-err g c =
@@ -40,7 +40,7 @@ returns-in_err-size-clause-err g c =
     let a = part_is _ _ _ _ _ _ c.in_ok-protected.ensures.ok in
     let b = part_is _ _ _ _ _ _ c.in_ok-unprotected.ensures.ok in
     let w2 = within_more (plain c.args.limits.nesting c.args.limits.layers) _ _ _ _ _ _ _ _ _ _ (within_more (plain c.args.limits.nesting c.args.limits.layers) _ _ _ _ _ _ _ _ _ _ w0 a.1) b.1 in
-    rw (p.1, p.2) (size_tells (plain c.args.limits.nesting c.args.limits.layers) _ _ a.0 b.0 _ _ a.2 b.2 c.args.limits.least_nesting g.R.Read.ends _ _ _ _ _ _ w2 c.in_err-size.ensures.err)
+    rw (p.1, p.2) (size_tells (plain c.args.limits.nesting c.args.limits.layers) _ _ a.0 b.0 (protected_view c.in_ok-protected.protected, a.2) (header_view c.in_ok-unprotected.unprotected, b.2) c.args.limits.least_nesting g.R.Read.ends _ _ _ _ _ _ w2 c.in_err-size.ensures.err)
 
 pub returns-in_err-begin-clause-err : goal.returns-in_err-begin-clause-err
 returns-in_err-begin-clause-err g c =
@@ -61,7 +61,7 @@ returns-in_err-feed_payload-clause-err g c =
     let a = part_is _ _ _ _ _ _ c.in_ok-protected.ensures.ok in
     let b = part_is _ _ _ _ _ _ c.in_ok-unprotected.ensures.ok in
     let w2 = within_more (plain c.args.limits.nesting c.args.limits.layers) _ _ _ _ _ _ _ _ _ _ (within_more (plain c.args.limits.nesting c.args.limits.layers) _ _ _ _ _ _ _ _ _ _ w0 a.1) b.1 in
-    rw (p.1, p.2) (part_tells (plain c.args.limits.nesting c.args.limits.layers) c.args.limits.least_nesting g.R.Read.ends _ _ _ _ _ _ _ _ (one_more a.0 (one_more b.0 no_trees)) NoneWrong _ (le_refl _) w2 (omega arith) (any_place (plain c.args.limits.nesting c.args.limits.layers) _ (one_more a.0 (one_more b.0 no_trees))) (short_tells_part _ g.R.Read.ends _ _ _ _ _ _ _ c.in_ok-size.ensures.ok c.in_err-feed_payload.ensures.err))
+    rw (p.1, p.2) (part_tells (plain c.args.limits.nesting c.args.limits.layers) c.args.limits.least_nesting g.R.Read.ends _ _ _ _ _ _ _ _ (one_more a.0 (one_more b.0 no_trees)) NoneWrong _ (le_refl _) w2 (omega arith) (any_place (plain c.args.limits.nesting c.args.limits.layers) _ (one_more a.0 (one_more b.0 no_trees)) ((protected_view c.in_ok-protected.protected, a.2), (header_view c.in_ok-unprotected.unprotected, b.2), tt)) (short_tells_part _ g.R.Read.ends _ _ _ _ _ _ _ c.in_ok-size.ensures.ok c.in_err-feed_payload.ensures.err))
 
 pub returns-in_err-signature-clause-err : goal.returns-in_err-signature-clause-err
 returns-in_err-signature-clause-err g c =
@@ -72,7 +72,7 @@ returns-in_err-signature-clause-err g c =
     let w2 = within_more (plain c.args.limits.nesting c.args.limits.layers) _ _ _ _ _ _ _ _ _ _ (within_more (plain c.args.limits.nesting c.args.limits.layers) _ _ _ _ _ _ _ _ _ _ w0 a.1) b.1 in
     let paying = paid (plain c.args.limits.nesting c.args.limits.layers) _ _ _ _ _ _ _ _ _ _ _ _ _ _ w2 c.in_ok-size.ensures.ok c.in_ok-feed_payload.ensures.ok in
     let w3 = paid_within (plain c.args.limits.nesting c.args.limits.layers) _ _ _ _ _ _ _ _ _ _ paying in
-    rw (p.1, p.2) (part_tells (plain c.args.limits.nesting c.args.limits.layers) c.args.limits.least_nesting g.R.Read.ends _ _ _ _ 0 _ _ _ (one_more a.0 (one_more b.0 (one_more (bytes w3.0) no_trees))) NoBytes _ (omega arith) w3.1 (omega arith) (signature_place (plain c.args.limits.nesting c.args.limits.layers) _ _ _ _) c.in_err-signature.ensures.err)
+    rw (p.1, p.2) (part_tells (plain c.args.limits.nesting c.args.limits.layers) c.args.limits.least_nesting g.R.Read.ends _ _ _ _ 0 _ _ _ (one_more a.0 (one_more b.0 (one_more (bytes w3.0) no_trees))) NoBytes _ (omega arith) w3.1 (omega arith) (signature_place (plain c.args.limits.nesting c.args.limits.layers) _ a.0 b.0 w3.0 (protected_view c.in_ok-protected.protected, a.2) (header_view c.in_ok-unprotected.unprotected, b.2)) c.in_err-signature.ensures.err)
 
 pub returns-in_err-close-clause-err : goal.returns-in_err-close-clause-err
 returns-in_err-close-clause-err g c =
@@ -84,7 +84,7 @@ returns-in_err-close-clause-err g c =
     let paying = paid (plain c.args.limits.nesting c.args.limits.layers) _ _ _ _ _ _ _ _ _ _ _ _ _ _ w2 c.in_ok-size.ensures.ok c.in_ok-feed_payload.ensures.ok in
     let w3 = paid_within (plain c.args.limits.nesting c.args.limits.layers) _ _ _ _ _ _ _ _ _ _ paying in
     let w4 = within_more (plain c.args.limits.nesting c.args.limits.layers) _ _ _ _ _ _ _ _ _ _ w3.1 c.in_ok-signature.ensures.ok in
-    rw (p.1, p.2) (close_tells (plain c.args.limits.nesting c.args.limits.layers) c.args.limits.least_nesting g.R.Read.ends _ _ _ _ _ _ _ _ _ w4 refl c.in_err-close.ensures.open c.in_err-close.ensures.err)
+    rw (p.1, p.2) (close_tells (plain c.args.limits.nesting c.args.limits.layers) c.args.limits.least_nesting g.R.Read.ends _ _ _ _ _ _ _ _ _ w4 ((protected_view c.in_ok-protected.protected, a.2), (header_view c.in_ok-unprotected.unprotected, b.2), (refl, (refl, tt))) refl c.in_err-close.ensures.open c.in_err-close.ensures.err)
 
 pub returns-clause-ok : goal.returns-clause-ok
 returns-clause-ok g c =

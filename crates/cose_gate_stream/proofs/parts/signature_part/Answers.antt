@@ -1,7 +1,7 @@
 use Rattle.std.proofs.Common.{◌≡◌, sym, ◌∙◌}
 use Rattle.std.proofs.lemmas.Result.{err_from_is_err_and}
 use Rattle.coset_labels.specs.Faults.{unexpected, no_memory}
-use Rattle.cose_gate_stream.specs.Parts.{NoBytes}
+use Rattle.cose_gate_stream.specs.ElementFaults.{NoBytes}
 use Rattle.cose_gate_stream.proofs.Faults.{part_wrong}
 use Rattle.cose_gate_stream.proofs.parts.signature_part.Goals as goal
 

@@ -1,5 +1,5 @@
 use Rattle.std.proofs.Common.{refl}
-use Rattle.cose_gate_stream.specs.Parts.{CloseFault}
+use Rattle.cose_gate_stream.specs.ElementFaults.{CloseFault}
 use Rattle.cose_gate_stream.proofs.Faults.{unexpected_here}
 use Rattle.cose_gate_stream.proofs.titles.close.Goals as goal
 

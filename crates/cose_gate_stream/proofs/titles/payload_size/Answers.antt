@@ -1,5 +1,5 @@
 use Rattle.std.proofs.Common.{refl}
-use Rattle.cose_gate_stream.specs.Parts.{SizeFault}
+use Rattle.cose_gate_stream.specs.ElementFaults.{SizeFault}
 use Rattle.cose_gate_stream.proofs.Faults.{title_tells, unexpected_here, absent_tells}
 use Rattle.cose_gate_stream.proofs.titles.payload_size.Goals as goal
 

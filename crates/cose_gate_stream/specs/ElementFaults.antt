@@ -1,4 +1,4 @@
--- What the parts of the streaming road show. Each is over its own bytes.
+-- What the titles and the elements of a message show, each over its own bytes.
 use Rattle.std.specs.Prelude.{◌≡◌, ◌≢◌, ℕ, ◌<◌, ◌⊎◌, List, ◌∷◌, ◌++◌, length, Option, Some, None, false}
 use Rattle.ciborium_ll.specs.declared.hdr.Header.{Header}
 use Rattle.ciborium_ll.specs.declared.hdr.Header.TheVariants.{Simple, Tag, Bytes, Array, Break}
@@ -13,14 +13,14 @@ use Rattle.cose_gate_stream.specs.declared.fault.StreamFault.TheVariants as faul
 use Rattle.cose_gate_stream.specs.declared.titles.Payload.{Payload}
 use Rattle.cose_gate_stream.specs.declared.titles.Payload.TheVariants as payload
 use Rattle.cose_gate_stream.specs.Stated.{IsSingleTag, IsFour, Cut}
-use Rattle.cose_gate_stream.specs.Streaming.{Why, damaged, untagged, tagged, misshapen, without_payload, without_length, refused}
+use Rattle.cose_gate_stream.specs.Streaming.{Why, damaged, untagged, tagged, shape, without_payload, without_length, refused}
 
 -- the next title
 abbrev pub TitleFault : ℕ → List ℕ → Why → Type 0
 TitleFault stop b (damaged f) = TitleDamage stop b f
 TitleFault stop b untagged = ⊥
 TitleFault stop b (tagged n) = ⊥
-TitleFault stop b (misshapen e) = ⊥
+TitleFault stop b (shape e) = ⊥
 TitleFault stop b without_payload = ⊥
 TitleFault stop b without_length = ⊥
 TitleFault stop b refused = ⊥
@@ -30,7 +30,7 @@ abbrev pub TagFault : ℕ → List ℕ → Why → Type 0
 TagFault stop b (damaged f) = TitleDamage stop b f
 TagFault stop b untagged = (h : Header) × (rest : List ℕ) × Begins b h rest × ((n : ℕ) → h ≢ Tag n)
 TagFault stop b (tagged n) = (rest : List ℕ) × Begins b (Tag n) rest × (IsSingleTag n → ⊥)
-TagFault stop b (misshapen e) = ⊥
+TagFault stop b (shape e) = ⊥
 TagFault stop b without_payload = ⊥
 TagFault stop b without_length = ⊥
 TagFault stop b refused = ⊥
@@ -40,7 +40,7 @@ abbrev pub FourFault : ℕ → List ℕ → Why → Type 0
 FourFault stop b (damaged f) = TitleDamage stop b f
 FourFault stop b untagged = ⊥
 FourFault stop b (tagged n) = ⊥
-FourFault stop b (misshapen e) =
+FourFault stop b (shape e) =
     (e ≡ unexpected) × ((h : Header) × (rest : List ℕ) × Begins b h rest
     × ((o : Option ℕ) → IsFour o → h ≢ Array o))
 FourFault stop b without_payload = ⊥
@@ -56,7 +56,7 @@ abbrev pub PartFault : ℕ → (CoseFault → Tree → Type 0) → ℕ → List 
 PartFault limit Wrong stop b (damaged f) = NoBreak b × Damaged stop b limit f
 PartFault limit Wrong stop b untagged = ⊥
 PartFault limit Wrong stop b (tagged n) = ⊥
-PartFault limit Wrong stop b (misshapen e) =
+PartFault limit Wrong stop b (shape e) =
     ((e ≡ unexpected) × ((r : List ℕ) × (b ≡ 255 ∷ r)))
     ⊎ ((v : Tree) × (rest : List ℕ) × Front b limit v rest × Wrong e v)
 PartFault limit Wrong stop b without_payload = ⊥
@@ -83,7 +83,7 @@ abbrev pub SizeFault : ℕ → List ℕ → Why → Type 0
 SizeFault stop b (damaged f) = TitleDamage stop b f
 SizeFault stop b untagged = ⊥
 SizeFault stop b (tagged n) = ⊥
-SizeFault stop b (misshapen e) =
+SizeFault stop b (shape e) =
     (e ≡ unexpected) × ((h : Header) × (rest : List ℕ) × Begins b h rest
     × ((o : Option ℕ) → h ≢ Bytes o) × (h ≢ Simple 22) × (h ≢ Simple 23))
 SizeFault stop b without_payload =
@@ -99,7 +99,7 @@ ShortFault n b (damaged (syntax p)) = ⊥
 ShortFault n b (damaged (semantic k)) = ⊥
 ShortFault n b untagged = ⊥
 ShortFault n b (tagged k) = ⊥
-ShortFault n b (misshapen e) = ⊥
+ShortFault n b (shape e) = ⊥
 ShortFault n b without_payload = ⊥
 ShortFault n b without_length = ⊥
 ShortFault n b refused = Unit {0}
@@ -109,7 +109,7 @@ abbrev pub CloseFault : ℕ → List ℕ → Why → Type 0
 CloseFault stop b (damaged f) = TitleDamage stop b f
 CloseFault stop b untagged = ⊥
 CloseFault stop b (tagged n) = ⊥
-CloseFault stop b (misshapen e) =
+CloseFault stop b (shape e) =
     (e ≡ unexpected) × ((h : Header) × (rest : List ℕ) × Begins b h rest × (h ≢ Break))
 CloseFault stop b without_payload = ⊥
 CloseFault stop b without_length = ⊥
