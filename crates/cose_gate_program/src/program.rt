@@ -41,7 +41,7 @@ fn gate_lines<R: Read, W: Write, E: Write, J: Judge>(
     let mut output = Output { writer: out };
     let mut lines = Lines { out: err };
     if strict {
-        return match gate_strict_with(
+        return gate_strict_with(
             alloc,
             limits,
             &mut decoder,
@@ -49,12 +49,9 @@ fn gate_lines<R: Read, W: Write, E: Write, J: Judge>(
             &mut lines,
             aad,
             judge,
-        ) {
-            Ok(counts) => Ok(counts),
-            Err(fault) => Err(fault),
-        };
+        );
     }
-    match gate_with(
+    gate_with(
         alloc,
         limits,
         &mut decoder,
@@ -62,10 +59,7 @@ fn gate_lines<R: Read, W: Write, E: Write, J: Judge>(
         &mut lines,
         aad,
         judge,
-    ) {
-        Ok(counts) => Ok(counts),
-        Err(fault) => Err(fault),
-    }
+    )
 }
 
 /// The program's run with any judge: the gate over the input within these limits, and strict where that is asked, with `aad` as external
@@ -120,9 +114,11 @@ pub fn run_over<R: Read, W: Write, E: Write>(
     out: &mut W,
     err: &mut E,
 ) -> u8
-    ensures { EndsOver (limits_by limits strict) says_yes keys.now aad.now
+    ensures ran { EndsOver (limits_by limits strict) says_yes keys.now aad.now
         (devices_of R.Read W.Write input.old out.old)
         (devices_of R.Read W.Write input.new out.new) result }
+    ensures kept { R.handle input.new ≡ R.handle input.old }
+    ensures lent { W.handle out.new ≡ W.handle out.old }
 {
     match read_keys(alloc, keys) {
         Ok(set) => {
@@ -148,10 +144,12 @@ pub fn run_with<R: Read, W: Write, E: Write>(
     out: &mut W,
     err: &mut E,
 ) -> u8
-    ensures { EndsWithin (limits_by limits strict) says_yes
+    ensures ran { EndsWithin (limits_by limits strict) says_yes
         (option_copied keys.entry) (option_copied aad.entry)
         (devices_of R.Read W.Write input.old out.old)
         (devices_of R.Read W.Write input.new out.new) result }
+    ensures kept { R.handle input.new ≡ R.handle input.old }
+    ensures lent { W.handle out.new ≡ W.handle out.old }
 {
     match begin(alloc, keys, aad) {
         Ok(beginning) => {
@@ -185,9 +183,11 @@ pub fn run<R: Read, W: Write, E: Write>(
     out: &mut W,
     err: &mut E,
 ) -> u8
-    ensures { Ends says_yes (option_copied keys.entry) (option_copied aad.entry)
+    ensures ran { Ends says_yes (option_copied keys.entry) (option_copied aad.entry)
         (devices_of R.Read W.Write input.old out.old)
         (devices_of R.Read W.Write input.new out.new) result }
+    ensures kept { R.handle input.new ≡ R.handle input.old }
+    ensures lent { W.handle out.new ≡ W.handle out.old }
 {
     run_with(alloc, Limits::default(), false, keys, aad, input, out, err)
 }
