@@ -222,7 +222,8 @@ module _ {T S : Type 0} (by : Rules T S) (old new : Sight T S) where
     all = λ whole. absurd (true≢false (sym whole));
   }
 
-  -- the gate's answer over a decoder that began here; the devices are seen where they were lent from
+  -- the gate's answer over a decoder that began here; the devices are seen where they were lent
+  -- from
   pub gated : (limits : Bounds) (before after : Devices) (n n' f f' : ℕ) (r : Result Counts (GateFault InputFault))
       → limits ≡ by.limits → old.offset ≡ 0 → before ≡ devices old.left old.written n f
       → after ≡ devices new.left new.written n' f' → Answers is_end by old new r

@@ -56,13 +56,13 @@ hearing_of j old new = record {
   after = j.told new;
 }
 
--- no item of at most n levels begins at the bytes `more`, with which the input b ends; or b is too long
--- for its offsets
+-- no item of at most n levels begins at the bytes `more`, with which the input b ends; or b is too
+-- long for its offsets
 abbrev pub IsUnreadable : ℕ → List ℕ → List ℕ → Type 0
 IsUnreadable n b more = (e : Error InputFault) × IsFaultOf (λ _. true) n (length b) more e
 
--- the whole input b was gone through by these steps, all that passed was written, and nothing is left
--- where the reader tells
+-- the whole input b was gone through by these steps, all that passed was written, and nothing is
+-- left where the reader tells
 pub record Through (limits : Bounds) (allows : Question → Bool) (aad : List ℕ) (old new : Devices)
     (b : List ℕ) (steps : List Step) (refused : ℕ) : Type 0 where
   pub course : Course limits allows aad 0 b steps []
@@ -119,8 +119,8 @@ pub record Ran (limits : Bounds) (allows : Question → Bool) (aad : List ℕ) (
   pub steps : List Step
   pub over : RanOver limits allows aad old new input steps status
 
--- the program ran. Of nothing it ends with 0 where no device failed, and with 0 or 1 only where none
--- did.
+-- the program ran. Of nothing it ends with 0 where no device failed, and with 0 or 1 only where
+-- none did.
 pub record RanOn (limits : Bounds) (allows : Question → Bool) (aad : List ℕ) (old new : Devices)
     (status : ℕ) : Type 0 where
   pub ran : Ran limits allows aad old new status
