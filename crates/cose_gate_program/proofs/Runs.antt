@@ -177,7 +177,7 @@ module _ {T S : Type 0} (by : Rules T S) (old new : Sight T S) where
     last = [];
     parts = sym (append-nil w.steps);
     one = omega arith;
-    before = whole_front (questions_of by.allows by.aad w.steps);
+    all_before = whole_front (questions_of by.allows by.aad w.steps);
     all = λ _. refl;
   }
   heard_over b (Err (gating.Decode e)) w = record {
@@ -190,7 +190,7 @@ module _ {T S : Type 0} (by : Rules T S) (old new : Sight T S) where
     last = [];
     parts = sym (append-nil w.steps);
     one = omega arith;
-    before = whole_front (questions_of by.allows by.aad w.steps);
+    all_before = whole_front (questions_of by.allows by.aad w.steps);
     all = λ _. refl;
   }
   heard_over b (Err gating.Write) w = record {
@@ -203,7 +203,7 @@ module _ {T S : Type 0} (by : Rules T S) (old new : Sight T S) where
     last = w.last ∷ [];
     parts = refl;
     one = omega arith;
-    before = front_then (questions_of by.allows by.aad w.done) (questions_of by.allows by.aad (w.last ∷ []))
+    all_before = front_then (questions_of by.allows by.aad w.done) (questions_of by.allows by.aad (w.last ∷ []))
         (questions_of by.allows by.aad (w.done ++ w.last ∷ [])) (questions_then by.allows by.aad w.done (w.last ∷ []));
     all = λ _. refl;
   }
@@ -218,7 +218,7 @@ module _ {T S : Type 0} (by : Rules T S) (old new : Sight T S) where
     last = w.last;
     parts = refl;
     one = w.one;
-    before = front_then (questions_of by.allows by.aad w.done) w.asked (questions_of by.allows by.aad w.done ++ w.asked) refl;
+    all_before = front_then (questions_of by.allows by.aad w.done) w.asked (questions_of by.allows by.aad w.done ++ w.asked) refl;
     all = λ whole. absurd (true≢false (sym whole));
   }
 
@@ -313,7 +313,7 @@ heard_then h then = record {
   last = h.last;
   parts = h.parts;
   one = h.one;
-  before = h.before;
+  all_before = h.all_before;
   all = λ q. h.all (then q);
 }
 

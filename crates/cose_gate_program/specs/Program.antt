@@ -139,7 +139,7 @@ pub record Heard {T : Type 0} (hearing : Hearing T) (aad : List ℕ) (steps : Li
   pub last : List Step
   pub parts : steps ≡ done ++ last
   pub one : length last ≤ 1
-  pub before : IsFront (questions_of hearing.allows aad done) told.front
+  pub all_before : IsFront (questions_of hearing.allows aad done) told.front
   pub all : Whole → told.front ≡ questions_of hearing.allows aad steps
 
 -- the gate went over some bytes, those to come where these are known, and the judge was asked about
