@@ -1,4 +1,4 @@
-use Rattle.std.proofs.Common.{sym, ◌∙◌, refl, rules, ap, ℕ, cond, nat_eq}
+use Rattle.std.proofs.Common.{sym, ◌∙◌, refl, rules}
 use Rattle.std.proofs.lemmas.Bool.{true≢false}
 use Rattle.cose_gate_program.proofs.Runs.{ran_through, ran_stopped, ran_unflushed, none_refused, not_zero, flush_failed, flush_passed, is_flushed}
 use Rattle.cose_gate_program.proofs.program.run_judged.Goals as goal
