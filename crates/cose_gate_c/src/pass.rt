@@ -64,16 +64,16 @@ fn pass_within(
         × Places written status «out».old «out».new result }
 {
     let Ok(judge) = Accepted::new(alloc, accepted) else {
-        return place_none(out, 4, said(lines, STOPPED));
+        return place_none(out, 4, lone_line(lines, STOPPED));
     };
     match judge {
         Some(judge) => pass_by(alloc, limits, strict, judge, aad, input, out, lines),
-        None => place_none(out, 3, said(lines, b"accepted: no records\n")),
+        None => place_none(out, 3, lone_line(lines, b"accepted: no records\n")),
     }
 }
 
-/// Writes a line that stands alone. How long it is.
-fn said(lines: &mut [u8], line: &[u8]) -> usize {
+/// Writes a line that stands alone, and gives its length.
+fn lone_line(lines: &mut [u8], line: &[u8]) -> usize {
     let mut told = Lines::new(lines);
     told.say(line);
     told.length()

@@ -7,7 +7,8 @@ use Rattle.coset_keys.specs.Fields.{KeyFields}
 use Rattle.cose_gate_hmac.specs.Keys.{secret, first_fit}
 use Rattle.cose_gate_hmac.specs.Messages.{header_in, alg_is_hmac, crit_is_known, message_id}
 
--- the message is one that may be judged: its algorithm is HMAC with SHA-256, and all that has to be understood is
+-- the message is one that may be judged: its algorithm is HMAC with SHA-256, and all that has to be
+-- understood is
 abbrev pub may_judge : ProtectedFields → HeaderFields → Bool
 may_judge p u = alg_is_hmac p && (crit_is_known (header_in p) && crit_is_known u)
 

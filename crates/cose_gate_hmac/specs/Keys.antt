@@ -1,4 +1,5 @@
--- Which keys serve to verify a tag by HMAC with SHA-256 (RFC 9052, section 7.1; RFC 9053, sections 3.1 and 7.3).
+-- Which keys serve to verify a tag by HMAC with SHA-256 (RFC 9052, section 7.1; RFC 9053, sections
+-- 3.1 and 7.3).
 use Rattle.std.specs.Prelude.{ℕ, List, Bool, ◌&&◌, Option, is_some}
 use Rattle.std.specs.List.{find}
 use Rattle.std.specs.Str.{bytes_eq}
@@ -13,7 +14,8 @@ secret k = secret_in k.params
 abbrev pub fits : List ℕ → KeyFields → Bool
 fits id k =
     bytes_eq k.key_id id
-    && (is_symmetric k.kty && (is_some (secret k) && (allows_hmac k.alg && allows_verify k.key_ops)))
+    && (is_symmetric k.kty
+    && (is_some (secret k) && (allows_hmac k.alg && allows_verify k.key_ops)))
 
 -- the first that fits
 abbrev pub first_fit : List ℕ → List KeyFields → Option KeyFields

@@ -5,7 +5,8 @@ use Rattle.cose_hmac.specs.Once.{holds-prop}
 use Rattle.cose_hmac.specs.declared.mac.HmacSha256.{HmacSha256}
 use Rattle.cose_gate_hmac.specs.Judge.{Makes}
 
-pub makes-prop : (mac : Option HmacSha256) (key : Option (List ℕ)) (text : List ℕ) → IsProp (Makes mac key text)
+pub makes-prop : (mac : Option HmacSha256) (key : Option (List ℕ)) (text : List ℕ)
+    → IsProp (Makes mac key text)
 makes-prop None None text = hlevel props
 makes-prop None (Some key) text = hlevel props
 makes-prop (Some mac) None text = hlevel props

@@ -1,5 +1,6 @@
 //! A judge by HMAC.
-ghost use Rattle.std.specs.Prelude.{◌≡◌, ℕ, List, [], ◌∷◌, ◌++◌, length, Option, option_copied, IsOk, OnOk, OnErr};
+ghost use Rattle.std.specs.Prelude.{◌≡◌, ℕ, List, [], ◌∷◌, ◌++◌, length};
+ghost use Rattle.std.specs.Prelude.{Option, option_copied, IsOk, OnOk, OnErr};
 ghost use Rattle.coset_keys.specs.Fields.{KeyFields};
 ghost use Rattle.coset_keys.specs.View.{key_set_view};
 ghost use Rattle.cose_gate_core.specs.Lent.{subject_of};
@@ -17,8 +18,8 @@ use cose_hmac::{HmacSha256, same_tag};
 use coset_keys::CoseKeySet;
 use std::alloc::{AllocError, Global};
 
-/// Says yes to a COSE_Mac0 whose tag is the whole HMAC with SHA-256 under the first key that fits it, and no to anything else (RFC 9052,
-/// section 6.3). It takes no memory while it judges.
+/// Says yes to a COSE_Mac0 whose tag is the whole HMAC with SHA-256 under the first key that fits
+/// it, and no to anything else (RFC 9052, section 6.3). It takes no memory while it judges.
 #[derive(Drop)]
 pub struct HmacJudge<'a> {
     keys: Keys<'a>,
@@ -34,8 +35,8 @@ impl<'a> HmacJudge<'a> {
         judge_by(Keys::Set(keys))
     }
 
-    /// A judge by the keys of this set that hashes each key once, for many messages. Where memory for that is refused it is one that hashes
-    /// a key anew for each.
+    /// A judge by the keys of this set that hashes each key once, for many messages. Where memory
+    /// for that is refused it is one that hashes a key anew for each.
     pub fn prepared(alloc: Global, keys: &'a CoseKeySet) -> HmacJudge<'a>
         ensures { keys_of result ≡ key_set_view keys.now }
     {

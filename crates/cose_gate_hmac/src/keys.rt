@@ -23,8 +23,9 @@ fn first_that_fits<'a>(keys: &'a [CoseKey], id: &[u8]) -> Option<&'a CoseKey>
     keys.iter().find(|key| fits(key, id))
 }
 
-/// Whether a key has this id, which may be empty, and serves to verify tags by HMAC with SHA-256: it is symmetric and has a secret, it is
-/// for this algorithm or for any, and to verify or for any operation (RFC 9052, section 7.1).
+/// Whether a key has this id, which may be empty, and serves to verify tags by HMAC with SHA-256:
+/// it is symmetric and has a secret, it is for this algorithm or for any, and to verify or for any
+/// operation (RFC 9052, section 7.1).
 pub fn fits(key: &CoseKey, id: &[u8]) -> bool
     ensures { result ≡ spec.fits id.now (key_view key.now) }
 {
@@ -41,7 +42,8 @@ fn has_secret(key: &CoseKey) -> bool
     secret_of(key).is_some()
 }
 
-/// The secret of a key: the first of its `params` with the label -1, where that is a byte string (RFC 9053, section 7.3).
+/// The secret of a key: the first of its `params` with the label -1, where that is a byte string
+/// (RFC 9053, section 7.3).
 pub fn secret_of(key: &CoseKey) -> Option<&[u8]>
     ensures { option_copied result ≡ secret (key_view key.now) }
 {

@@ -1,5 +1,6 @@
-//! A judge by HMAC: which tags of a COSE_Mac0 are good, with SHA-256 and under the key of a set that fits the message (RFC 9052, sections
-//! 6.2, 6.3 and 7). It passes on the gate that asks it, as `gate_core`, and `CoseKeySet`.
+//! A judge by HMAC: which tags of a COSE_Mac0 are good, with SHA-256 and under the key of a set
+//! that fits the message (RFC 9052, sections 6.2, 6.3 and 7). It passes on the gate that asks it,
+//! as `gate_core`, and `CoseKeySet`.
 #![tactic(auto)]
 
 mod judge;

@@ -6,21 +6,24 @@ ghost use Rattle.cose_gate_hmac.specs.Messages as spec;
 use crate::names::{all_understood, is_some_hmac};
 use cose_gate_core::{Header, ProtectedHeader};
 
-/// Whether no label has to be understood but those of the algorithm, of the list itself and of the key id (RFC 9052, section 3.1).
+/// Whether no label has to be understood but those of the algorithm, of the list itself and of the
+/// key id (RFC 9052, section 3.1).
 pub fn crit_is_known(header: &Header) -> bool
     ensures { result ≡ spec.crit_is_known (header_view header.now) }
 {
     all_understood(&header.crit)
 }
 
-/// Whether the algorithm of a protected header is HMAC with SHA-256, of which no tag is cut (RFC 9053, section 3.1).
+/// Whether the algorithm of a protected header is HMAC with SHA-256, of which no tag is cut (RFC
+/// 9053, section 3.1).
 pub fn alg_is_hmac(protected: &ProtectedHeader) -> bool
     ensures { result ≡ spec.alg_is_hmac (protected_view protected.now) }
 {
     is_some_hmac(&protected.header.alg)
 }
 
-/// The key id of a message: that of its protected header, or of the other where that one has none (RFC 9052, section 3.1).
+/// The key id of a message: that of its protected header, or of the other where that one has none
+/// (RFC 9052, section 3.1).
 pub fn message_id<'a>(protected: &'a ProtectedHeader, unprotected: &'a Header) -> &'a [u8]
     ensures { result.now
         ≡ spec.message_id (protected_view protected.now) (header_view unprotected.now) }

@@ -10,7 +10,8 @@ ghost use Rattle.cose_gate_hmac.specs.Names as spec;
 use coset_labels::{Algorithm, KeyType, RegisteredLabel, RegisteredLabelWithPrivate, iana};
 use std::collections::BTreeSet;
 
-/// Whether a label of headers is understood: that of the algorithm, of the labels to be understood, of the key id.
+/// Whether a label of headers is understood: that of the algorithm, of the labels to be understood,
+/// of the key id.
 pub(crate) fn is_understood(label: &RegisteredLabelWithPrivate<iana::HeaderParameter>) -> bool
     ensures { result ≡ spec.is_understood (named_view header_parameters.number label.now) }
 {
@@ -19,8 +20,7 @@ pub(crate) fn is_understood(label: &RegisteredLabelWithPrivate<iana::HeaderParam
             entry,
             iana::HeaderParameter::Alg | iana::HeaderParameter::Crit | iana::HeaderParameter::Kid
         ),
-        RegisteredLabelWithPrivate::PrivateUse(_) => false,
-        RegisteredLabelWithPrivate::Text(_) => false,
+        RegisteredLabelWithPrivate::PrivateUse(_) | RegisteredLabelWithPrivate::Text(_) => false,
     }
 }
 
@@ -32,8 +32,7 @@ pub(crate) fn is_hmac(alg: &Algorithm) -> bool
         RegisteredLabelWithPrivate::Assigned(entry) => {
             matches!(entry, iana::Algorithm::HMAC_256_256)
         }
-        RegisteredLabelWithPrivate::PrivateUse(_) => false,
-        RegisteredLabelWithPrivate::Text(_) => false,
+        RegisteredLabelWithPrivate::PrivateUse(_) | RegisteredLabelWithPrivate::Text(_) => false,
     }
 }
 

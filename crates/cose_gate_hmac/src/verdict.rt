@@ -11,8 +11,8 @@ use cose_gate_core::{Header, ProtectedHeader};
 use cose_hmac::{hmac_sha256, same_tag};
 use coset_keys::CoseKeySet;
 
-/// The secret of the first key that fits a message, or none where no key does, the message's algorithm is another than HMAC with SHA-256,
-/// or something that isn't known has to be understood.
+/// The secret of the first key that fits a message, or none where no key does, the message's
+/// algorithm is another than HMAC with SHA-256, or something that isn't known has to be understood.
 pub fn secret_for<'a>(
     keys: &'a CoseKeySet,
     protected: &ProtectedHeader,
@@ -30,6 +30,8 @@ pub fn secret_for<'a>(
     }
 }
 
+/// Whether the judge may look for a key: the message's algorithm is HMAC with SHA-256, and all that
+/// has to be understood is known.
 #[tactic(auto, using(crate::proofs::Headers::header_inside))]
 pub(crate) fn may_judge(protected: &ProtectedHeader, unprotected: &Header) -> bool
     ensures { result ≡ may_judge (protected_view protected.now) (header_view unprotected.now) }
@@ -37,8 +39,8 @@ pub(crate) fn may_judge(protected: &ProtectedHeader, unprotected: &Header) -> bo
     alg_is_hmac(protected) && crit_is_known(&protected.header) && crit_is_known(unprotected)
 }
 
-/// Whether a tag over the covered bytes of a COSE_Mac0 with these headers is good (RFC 9052, section 6.3): the whole HMAC under the first
-/// key that fits. No later key is tried.
+/// Whether a tag over the covered bytes of a COSE_Mac0 with these headers is good (RFC 9052,
+/// section 6.3): the whole HMAC under the first key that fits. No later key is tried.
 pub fn is_good_tag(
     keys: &CoseKeySet,
     protected: &ProtectedHeader,

@@ -1,5 +1,5 @@
 -- The program's answers, from the gate's.
-use Rattle.std.proofs.Common.{◌≡◌, ◌≢◌, ℕ, ◌+◌, ◌<◌, ◌≤◌, inl, inr, List, [], ◌∷◌, ◌++◌, length, map, Option, None, Some, Bool, cond, false, true, nat_eq, refl, sym, ap, subst, ◌∙◌, arith, append-nil, append_assoc, length-append}
+use Rattle.std.proofs.Common.{◌≡◌, ◌≢◌, ℕ, ◌+◌, ◌<◌, ◌≤◌, inl, inr, List, [], ◌∷◌, ◌++◌, length, map, Option, None, Some, Bool, cond, false, true, nat_eq, refl, sym, ap, subst, ◌∙◌, arith, append-nil, append_assoc, length-append, zero-add}
 use Rattle.std.proofs.lemmas.Bool.Decides.{nat_tests}
 use Rattle.std.proofs.lemmas.Bool.{true≢false}
 use Rattle.std.specs.Prelude.{Result, Ok, Err, IsOk, is_err}
@@ -11,6 +11,8 @@ use Rattle.ciborium_ll.specs.Reading.{due}
 use Rattle.ciborium.specs.Front.{Reads}
 use Rattle.ciborium.specs.Items.{SequenceWithin}
 use Rattle.ciborium.specs.Reading.{IfKnown}
+use Rattle.ciborium.specs.declared.de.Error.{Error}
+use Rattle.ciborium.specs.declared.de.Error.TheVariants as de
 use Rattle.ciborium.proofs.ChildCases.{front_some}
 use Rattle.ciborium_value.specs.Tree.{Tree}
 use Rattle.cose_gate_hmac.specs.KeySets.Fields.{KeyFields}
@@ -19,7 +21,7 @@ use Rattle.cose_gate_hmac.specs.GateCore.Asked.{IsFront}
 use Rattle.cose_gate_hmac.specs.GateCore.Findings.{Bounds, usual, plain}
 use Rattle.cose_gate_hmac.specs.GateCore.Terms.{limits_by}
 use Rattle.cose_gate_hmac.specs.GateCore.Run.{Step, Course, asked_of, questions_of, written_of, output_of, refused_count}
-use Rattle.cose_gate_hmac.specs.GateCore.Outcome.{Rules, Sight, Outcome, Answers, IfMemoryRefused, writer_failures}
+use Rattle.cose_gate_hmac.specs.GateCore.Outcome.{Rules, Sight, Outcome, Answers, IsFaultOf, reader_failures, writer_failures}
 use Rattle.cose_gate_hmac.specs.GateCore.declared.gating.Counts.{Counts}
 use Rattle.cose_gate_hmac.specs.GateCore.declared.gating.GateFault.{GateFault}
 use Rattle.cose_gate_hmac.specs.GateCore.declared.gating.GateFault.TheVariants as gating
@@ -28,7 +30,10 @@ use Rattle.cose_gate_hmac.specs.KeySets.Keys.{HasKeySet}
 use Rattle.cose_gate_hmac.specs.KeySets.View.{key_set_view}
 use Rattle.cose_gate_program.specs.Beginning.{status_of, Begins, BeginsNot, IsNoKeySet}
 use Rattle.cose_gate_program.specs.declared.beginning.Beginning.{Beginning}
-use Rattle.cose_gate_program.specs.Program.{GatedOver, Gated, Heard, Hearing, Through, InPart, RanOn, RanJudged, Devices, EndsWithin, EndsOver, no_file, not_hex, no_keys, no_memory, after_run}
+use Rattle.cose_gate_program.specs.Faults.{is_end}
+use Rattle.cose_gate_program.specs.Program.{GatedOver, Gated, Heard, Hearing, Through, IsUnreadable, Stops, writer, reader, no_item, memory, InPart, RanOn, RanJudged, Devices, EndsWithin, EndsOver, no_file, not_hex, no_keys, no_memory, after_run}
+use Rattle.cose_gate_program.specs.declared.devices.InputFault.{InputFault}
+use Rattle.cose_gate_program.specs.declared.devices.InputFault.TheVariants as fault
 use Rattle.cose_gate_program.specs.declared.beginning.NotBegun.{NotBegun}
 use Rattle.cose_gate_program.specs.declared.beginning.NotBegun.TheVariants.{NoFile, NotHex, NoKeys, Memory}
 use Rattle.coset_labels.specs.Faults.{fault_of}
@@ -57,15 +62,18 @@ reads_some x n v r = front_some x [] n v (record { spelling = x; whole = sym (ap
 abbrev devices : Option (List ℕ) → Option (List ℕ) → ℕ → ℕ → Devices
 devices left written n f = record { left = left; written = written; read_failures = n; write_failures = f }
 
+pub same_devices : (l l' w w' : Option (List ℕ)) (n n' f f' : ℕ) → l ≡ l' → w ≡ w' → n ≡ n' → f ≡ f'
+    → devices l w n f ≡ devices l' w' n' f'
+same_devices l l' w w' n n' f f' a b c d =
+    ap (λ (z : Option (List ℕ)). devices z w n f) a ∙ ap (λ (z : Option (List ℕ)). devices l' z n f) b
+    ∙ ap (λ (z : ℕ). devices l' w' z f) c ∙ ap (λ (z : ℕ). devices l' w' n' z) d
+
+-- where no header waits, what is to come is what the reader has left
+pub no_title : (l k : Option (List ℕ)) (waiting : Option Header) → k ≡ due l waiting → waiting ≡ None → k ≡ l
+no_title l k waiting is none = is ∙ ap (due l) none ∙ due_none l
+
 module _ (allows : Question → Bool) (aad : List ℕ) where
   -- the output of a beginning of the steps is a beginning of the output
-  output_front : (done steps : List Step) → IsFront done steps
-      → IsFront (output_of allows aad done) (output_of allows aad steps)
-  output_front done steps f = record {
-    more = output_of allows aad f.more;
-    whole = ap (output_of allows aad) f.whole ∙ flat_map-append (λ s. written_of allows aad s.finding) done f.more;
-  }
-
   output_then : (ss : List Step) (s : Step)
       → output_of allows aad (ss ++ s ∷ []) ≡ output_of allows aad ss ++ written_of allows aad s.finding
   output_then ss s =
@@ -76,63 +84,88 @@ module _ (allows : Question → Bool) (aad : List ℕ) where
       → questions_of allows aad (ss ++ ts) ≡ questions_of allows aad ss ++ questions_of allows aad ts
   questions_then ss ts = flat_map-append (λ s. asked_of allows aad s.finding) ss ts
 
-module _ {T S E : Type 0} (ends : E → Bool) (by : Rules T S) (old new : Sight T S) where
+-- a fault that is due is named at its place
+fault_at : {E : Type 0} (ends : E → Bool) (n at : ℕ) (more : List ℕ) (e : Error E) (l : Option (List ℕ)) → at ≡ 0
+    → IfKnown l (λ b. IsFaultOf ends n (at + length b) more e) → IfKnown l (λ b. IsFaultOf ends n (length b) more e)
+fault_at ends n at more e None z w = tt
+fault_at ends n at more e (Some b) z w =
+    subst (λ (stop : ℕ). IsFaultOf ends n stop more e) (ap (λ (o : ℕ). o + length b) z ∙ zero-add (length b)) w
+
+unreadable : (n : ℕ) (more : List ℕ) (e : Error InputFault) (l : Option (List ℕ))
+    → IfKnown l (λ b. IsFaultOf (λ _. true) n (length b) more e) → IfKnown l (λ b. IsUnreadable n b more)
+unreadable n more e None w = tt
+unreadable n more e (Some b) w = (e, w)
+
+-- the next item can't be read
+module _ (limits : Bounds) (allows : Question → Bool) (aad : List ℕ) (old new : Devices) (steps : List Step) (more : List ℕ) where
+  stops_at : (e : Error InputFault)
+      → (let r : Result Counts (GateFault InputFault) = Err (gating.Decode e) in
+      new.read_failures ≡ old.read_failures + reader_failures is_end r)
+      → IfKnown old.left (λ b. IsFaultOf is_end limits.nesting (length b) more e)
+      → Stops limits allows aad old new steps more (output_of allows aad steps)
+  stops_at (de.Io fault.End) grown w = no_item (unreadable limits.nesting more (de.Io fault.End) old.left w) refl
+  stops_at (de.Io fault.Failed) grown w =
+      let once : new.read_failures ≡ old.read_failures + 1 = grown in reader (omega arith) refl
+  stops_at (de.Syntax p) grown w = no_item (unreadable limits.nesting more (de.Syntax p) old.left w) refl
+  stops_at (de.Semantic o k) grown w = no_item (unreadable limits.nesting more (de.Semantic o k) old.left w) refl
+  stops_at de.RecursionLimitExceeded grown w = no_item (unreadable limits.nesting more de.RecursionLimitExceeded old.left w) refl
+  stops_at de.Memory grown w = no_item (unreadable limits.nesting more de.Memory old.left w) refl
+  stops_at de.TooLong grown w = no_item (unreadable limits.nesting more de.TooLong old.left w) refl
+
+module _ {T S : Type 0} (by : Rules T S) (old new : Sight T S) where
   abbrev heard_by : Hearing T
   heard_by = record { allows = by.allows; decided = by.decided; before = old.told; after = new.told }
-
-  texts_front : (b : List ℕ) (w : IfMemoryRefused by old new b) → IsFront w.texts (w.done ++ w.last)
-  texts_front b w = elim w.texts_are [
-    | inl e ↦ front_then w.texts w.last (w.done ++ w.last) (ap (λ ss. ss ++ w.last) (sym e))
-    | inr e ↦ front_then w.texts [] (w.done ++ w.last) (sym e.0 ∙ sym (append-nil w.texts))
-  ]
 
   from_place : (b : List ℕ) (steps : List Step) (more : List ℕ) → old.offset ≡ 0
       → Course by.limits by.allows by.aad old.offset b steps more → Course by.limits by.allows by.aad 0 b steps more
   from_place b steps more z c = subst (λ (n : ℕ). Course by.limits by.allows by.aad n b steps more) z c
 
   -- the steps that were gone by
-  abbrev steps_by : (b : List ℕ) (r : Result Counts (GateFault E)) → Outcome ends by old new b r → List Step
+  abbrev steps_by : (b : List ℕ) (r : Result Counts (GateFault InputFault)) → Outcome is_end by old new b r → List Step
   steps_by b (Ok counts) w = w.steps
   steps_by b (Err (gating.Decode e)) w = w.steps
   steps_by b (Err gating.Write) w = w.done ++ w.last ∷ []
   steps_by b (Err gating.Memory) w = w.done ++ w.last
 
-  gated_over : (l l' : Option (List ℕ)) (n n' f f' : ℕ) (b : List ℕ) (r : Result Counts (GateFault E))
-      → (w : Outcome ends by old new b r) → old.offset ≡ 0 → f' ≡ f + writer_failures r
-      → GatedOver by.limits by.allows by.aad (devices l old.written n f) (devices l' new.written n' f') b (steps_by b r w) r
-  gated_over l l' n n' f f' b (Ok counts) w z fails = record {
+  gated_over : (n n' f f' : ℕ) (b : List ℕ) (r : Result Counts (GateFault InputFault))
+      → (w : Outcome is_end by old new b r) → old.offset ≡ 0 → n' ≡ n + reader_failures is_end r → f' ≡ f + writer_failures r
+      → GatedOver by.limits by.allows by.aad (devices old.left old.written n f) (devices new.left new.written n' f') b (steps_by b r w) r
+  gated_over n n' f f' b (Ok counts) w z reads writes = record {
     course = from_place b w.steps [] z w.course;
     writes = w.made.written;
     refused_is = w.refused;
+    ended = w.ended;
   }
-  gated_over l l' n n' f f' b (Err (gating.Decode e)) w z fails = record {
+  gated_over n n' f f' b (Err (gating.Decode e)) w z reads writes = record {
     more = w.more;
     course = from_place b w.steps w.more z w.course;
     front = output_of by.allows by.aad w.steps;
-    front_is = whole_front (output_of by.allows by.aad w.steps);
     writes = w.made.written;
-    whole = λ same. (w.steps, whole_front w.steps, refl);
+    stops = stops_at by.limits by.allows by.aad (devices old.left old.written n f) (devices new.left new.written n' f') w.steps w.more e reads
+        (fault_at is_end by.limits.nesting old.offset w.more e old.left z w.fault);
   }
-  gated_over l l' n n' f f' b (Err gating.Write) w z fails = record {
+  gated_over n n' f f' b (Err gating.Write) w z reads writes = record {
     more = w.more;
     course = from_place b (w.done ++ w.last ∷ []) w.more z w.course;
     front = output_of by.allows by.aad w.done ++ w.front;
-    front_is = front_within (output_of by.allows by.aad w.done) w.front (written_of by.allows by.aad w.last.finding)
-        (output_of by.allows by.aad (w.done ++ w.last ∷ [])) (output_then by.allows by.aad w.done w.last) w.front_is;
     writes = w.written;
-    whole = λ (same : f' ≡ f). let one : f' ≡ f + 1 = fails in absurd (omega arith);
+    stops = let once : f' ≡ f + 1 = writes in
+        writer (omega arith) (front_within (output_of by.allows by.aad w.done) w.front (written_of by.allows by.aad w.last.finding)
+        (output_of by.allows by.aad (w.done ++ w.last ∷ [])) (output_then by.allows by.aad w.done w.last) w.front_is);
   }
-  gated_over l l' n n' f f' b (Err gating.Memory) w z fails = record {
+  gated_over n n' f f' b (Err gating.Memory) w z reads writes = record {
     more = w.more;
     course = from_place b (w.done ++ w.last) w.more z w.course;
     front = output_of by.allows by.aad w.texts;
-    front_is = output_front by.allows by.aad w.texts (w.done ++ w.last) (texts_front b w);
     writes = w.written;
-    whole = λ same. (w.texts, texts_front b w, refl);
+    stops = memory w.done w.last refl w.one w.due (elim w.texts_are [
+      | inl e ↦ inl (ap (output_of by.allows by.aad) e)
+      | inr e ↦ inr (ap (output_of by.allows by.aad) e.0)
+    ]);
   }
 
   -- what the judge was told
-  heard_over : (b : List ℕ) (r : Result Counts (GateFault E)) → (w : Outcome ends by old new b r)
+  heard_over : (b : List ℕ) (r : Result Counts (GateFault InputFault)) → (w : Outcome is_end by old new b r)
       → Heard heard_by by.aad (steps_by b r w) (IsOk r)
   heard_over b (Ok counts) w = record {
     told = record {
@@ -140,6 +173,11 @@ module _ {T S E : Type 0} (ends : E → Bool) (by : Rules T S) (old new : Sight 
       is_front = whole_front (questions_of by.allows by.aad w.steps);
       tells = w.made.told;
     };
+    done = w.steps;
+    last = [];
+    parts = sym (append-nil w.steps);
+    one = omega arith;
+    all_before = whole_front (questions_of by.allows by.aad w.steps);
     all = λ _. refl;
   }
   heard_over b (Err (gating.Decode e)) w = record {
@@ -148,6 +186,11 @@ module _ {T S E : Type 0} (ends : E → Bool) (by : Rules T S) (old new : Sight 
       is_front = whole_front (questions_of by.allows by.aad w.steps);
       tells = w.made.told;
     };
+    done = w.steps;
+    last = [];
+    parts = sym (append-nil w.steps);
+    one = omega arith;
+    all_before = whole_front (questions_of by.allows by.aad w.steps);
     all = λ _. refl;
   }
   heard_over b (Err gating.Write) w = record {
@@ -156,6 +199,12 @@ module _ {T S E : Type 0} (ends : E → Bool) (by : Rules T S) (old new : Sight 
       is_front = whole_front (questions_of by.allows by.aad (w.done ++ w.last ∷ []));
       tells = w.told;
     };
+    done = w.done;
+    last = w.last ∷ [];
+    parts = refl;
+    one = omega arith;
+    all_before = front_then (questions_of by.allows by.aad w.done) (questions_of by.allows by.aad (w.last ∷ []))
+        (questions_of by.allows by.aad (w.done ++ w.last ∷ [])) (questions_then by.allows by.aad w.done (w.last ∷ []));
     all = λ _. refl;
   }
   heard_over b (Err gating.Memory) w = record {
@@ -165,30 +214,36 @@ module _ {T S E : Type 0} (ends : E → Bool) (by : Rules T S) (old new : Sight 
           (questions_of by.allows by.aad (w.done ++ w.last)) (questions_then by.allows by.aad w.done w.last) w.asked_front;
       tells = w.told;
     };
+    done = w.done;
+    last = w.last;
+    parts = refl;
+    one = w.one;
+    all_before = front_then (questions_of by.allows by.aad w.done) w.asked (questions_of by.allows by.aad w.done ++ w.asked) refl;
     all = λ whole. absurd (true≢false (sym whole));
   }
 
-  -- the gate's answer over a decoder that began here; the output is seen where it was lent from
-  pub gated : (limits : Bounds) (waiting : Option Header) (l l' w' : Option (List ℕ)) (n n' f f' fails : ℕ)
-      (r r' : Result Counts (GateFault E)) → limits ≡ by.limits → old.offset ≡ 0 → waiting ≡ None
-      → old.left ≡ due l waiting → r' ≡ r → Answers ends by old new r → fails ≡ f + writer_failures r
-      → w' ≡ new.written → f' ≡ fails
-      → Gated limits heard_by by.aad (devices l old.written n f) (devices l' w' n' f') r'
-  gated limits waiting l l' w' n n' f f' fails r r' same z w is answer a grown sent counted =
-      let whole : Gated by.limits heard_by by.aad (devices l old.written n f) (devices l' new.written n' f') r = record {
+  -- the gate's answer over a decoder that began here; the devices are seen where they were lent
+  -- from
+  pub gated : (limits : Bounds) (before after : Devices) (n n' f f' : ℕ) (r : Result Counts (GateFault InputFault))
+      → limits ≡ by.limits → old.offset ≡ 0 → before ≡ devices old.left old.written n f
+      → after ≡ devices new.left new.written n' f' → Answers is_end by old new r
+      → n' ≡ n + reader_failures is_end r → f' ≡ f + writer_failures r
+      → Gated limits heard_by by.aad before after r
+  gated limits before after n n' f f' r same z first last a reads writes =
+      let here : Gated by.limits heard_by by.aad (devices old.left old.written n f) (devices new.left new.written n' f') r = record {
         input = a.input;
-        is = subst (λ (o : Option (List ℕ)). IfKnown o (λ b. b ≡ a.input)) (is ∙ ap (due l) w ∙ due_none l) a.is;
+        is = a.is;
         steps = steps_by a.input r a.outcome;
-        over = gated_over l l' n n' f f' a.input r a.outcome z (counted ∙ grown);
+        over = gated_over n n' f f' a.input r a.outcome z reads writes;
         heard = heard_over a.input r a.outcome;
       } in
-      let there : Gated limits heard_by by.aad (devices l old.written n f) (devices l' new.written n' f') r
-      = subst (λ (o : Bounds). Gated o heard_by by.aad (devices l old.written n f) (devices l' new.written n' f') r) (sym same) whole in
-      let lent : Gated limits heard_by by.aad (devices l old.written n f) (devices l' w' n' f') r
-      = subst (λ (o : Option (List ℕ)). Gated limits heard_by by.aad (devices l old.written n f) (devices l' o n' f') r) (sym sent) there in
-      subst (λ (o : Result Counts (GateFault E)). Gated limits heard_by by.aad (devices l old.written n f) (devices l' w' n' f') o) (sym answer) lent
+      let begun : Gated by.limits heard_by by.aad before (devices new.left new.written n' f') r
+      = subst (λ (d : Devices). Gated by.limits heard_by by.aad d (devices new.left new.written n' f') r) (sym first) here in
+      let there : Gated by.limits heard_by by.aad before after r
+      = subst (λ (d : Devices). Gated by.limits heard_by by.aad before d r) (sym last) begun in
+      subst (λ (o : Bounds). Gated o heard_by by.aad before after r) (sym same) there
 
-not_zero : (n : ℕ) → n ≢ 0 → ◌≡◌ {A = ℕ} 1 (cond {A = ℕ} (nat_eq n 0) 0 1)
+pub not_zero : (n : ℕ) → n ≢ 0 → ◌≡◌ {A = ℕ} 1 (cond {A = ℕ} (nat_eq n 0) 0 1)
 not_zero n not = grind (arith, nat_tests)
 
 -- a flush adds nothing
@@ -207,16 +262,20 @@ grows (Err x) m n e = let h : n ≡ m + 1 = e in omega arith
 pub one_more : (a b c : ℕ) → a ≤ b → c ≡ b + 1 → c ≡ a → ⊥
 one_more a b c p q e = absurd (omega arith)
 
-between : (a b c : ℕ) → a ≤ b → b ≤ c → c ≡ a → b ≡ a
-between a b c p q e = omega arith
-
 -- the output was flushed
-then_flushed : (limits : Bounds) (allows : Question → Bool) (aad : List ℕ) (old mid new : Devices) (b : List ℕ) (steps : List Step) (n : ℕ)
-    → Keeps mid.written new.written → Through limits allows aad old mid b steps n → Through limits allows aad old new b steps n
-then_flushed limits allows aad old mid new b steps n keeps t = record {
-  course = t.course;
-  writes = flushed old.written mid.written new.written (output_of allows aad steps) keeps t.writes;
-  refused_is = t.refused_is;
+pub record IsFlushed (mid new : Devices) : Type 0 where
+  pub left : new.left ≡ mid.left
+  pub kept : Keeps mid.written new.written
+  pub reads : new.read_failures ≡ mid.read_failures
+  pub writes : mid.write_failures ≤ new.write_failures
+
+pub is_flushed : {X F : Type 0} (mid new : Devices) (answer : Result X F) → new.left ≡ mid.left → Keeps mid.written new.written
+    → new.read_failures ≡ mid.read_failures → new.write_failures ≡ write_failures answer mid.write_failures → IsFlushed mid new
+is_flushed mid new answer left kept reads failed = record {
+  left = left;
+  kept = kept;
+  reads = reads;
+  writes = grows answer mid.write_failures new.write_failures failed;
 }
 
 -- a flush that failed counts, and one that didn't doesn't
@@ -228,63 +287,91 @@ pub flush_passed : {X F : Type 0} (answer : Result X F) (m n : ℕ) → false �
 flush_passed (Ok x) m n is e = e
 flush_passed (Err x) m n is e = absurd (true≢false (sym is))
 
+then_flushed : (limits : Bounds) (allows : Question → Bool) (aad : List ℕ) (old mid new : Devices) (b : List ℕ) (steps : List Step) (n : ℕ)
+    → IsFlushed mid new → Through limits allows aad old mid b steps n → Through limits allows aad old new b steps n
+then_flushed limits allows aad old mid new b steps n flush t = record {
+  course = t.course;
+  writes = flushed old.written mid.written new.written (output_of allows aad steps) flush.kept t.writes;
+  refused_is = t.refused_is;
+  ended = subst (λ (l : Option (List ℕ)). IfKnown old.left (λ b. l ≡ Some [])) (sym flush.left) t.ended;
+}
+
+stops_flushed : (limits : Bounds) (allows : Question → Bool) (aad : List ℕ) (old mid new : Devices) (steps : List Step) (more front : List ℕ)
+    → IsFlushed mid new → Stops limits allows aad old mid steps more front → Stops limits allows aad old new steps more front
+stops_flushed limits allows aad old mid new steps more front flush s = elim s [
+  | writer rose part ↦ writer (let w = flush.writes in omega arith) part
+  | reader rose all ↦ reader (let n = flush.reads in omega arith) all
+  | no_item why all ↦ no_item why all
+  | memory done last parts one due texts ↦ memory done last parts one due texts
+]
+
+heard_then : {T : Type 0} {hearing : Hearing T} {aad : List ℕ} {steps : List Step} {P Q : Type 0} → Heard hearing aad steps P → (Q → P)
+    → Heard hearing aad steps Q
+heard_then h then = record {
+  told = h.told;
+  done = h.done;
+  last = h.last;
+  parts = h.parts;
+  one = h.one;
+  all_before = h.all_before;
+  all = λ q. h.all (then q);
+}
+
 module _ {T : Type 0} (limits : Bounds) (hearing : Hearing T) (aad : List ℕ) (old mid new : Devices) where
-  -- some items were refused
-  pub ran_some : (counts : Counts) {E : Type 0} → (let r : Result Counts (GateFault E) = Ok counts in Gated limits hearing aad old mid r)
-      → counts.refused ≢ 0 → (old.left ≡ Some [] → counts.refused ≡ 0) → Keeps mid.written new.written
+  -- the input was gone through, and the status is as many were refused
+  pub ran_through : (counts : Counts) (status : ℕ) {E : Type 0}
+      → (let r : Result Counts (GateFault E) = Ok counts in Gated limits hearing aad old mid r)
+      → status ≡ cond (nat_eq counts.refused 0) 0 1 → (old.left ≡ Some [] → counts.refused ≡ 0) → IsFlushed mid new
       → (new.read_failures ≡ old.read_failures) × (new.write_failures ≡ old.write_failures)
-      → RanJudged limits hearing aad old new 1
-  ran_some counts g not none keeps steady = record {
+      → RanJudged limits hearing aad old new status
+  ran_through counts status g is none flush steady = record {
     on = record {
       ran = record {
         input = g.input;
         is = g.is;
         steps = g.steps;
-        over = inl (counts.refused, then_flushed limits hearing.allows aad old mid new g.input g.steps counts.refused keeps g.over, not_zero counts.refused not);
+        over = inl (counts.refused, then_flushed limits hearing.allows aad old mid new g.input g.steps counts.refused flush g.over, is);
       };
-      nothing = λ empty _ _. absurd (not (none empty));
+      nothing = λ empty _ _. is ∙ ap (λ (n : ℕ). cond {A = ℕ} (nat_eq n 0) 0 1) (none empty);
       steady = λ _. steady;
     };
-    heard = record { told = g.heard.told; all = λ _. g.heard.all refl };
+    heard = heard_then g.heard (λ _. refl);
   }
 
-  -- none was
-  pub ran_none : (counts : Counts) {E : Type 0} → (let r : Result Counts (GateFault E) = Ok counts in Gated limits hearing aad old mid r)
-      → counts.refused ≡ 0 → Keeps mid.written new.written
-      → (new.read_failures ≡ old.read_failures) × (new.write_failures ≡ old.write_failures)
-      → RanJudged limits hearing aad old new 0
-  ran_none counts g zero keeps steady = record {
-    on = record {
-      ran = record {
-        input = g.input;
-        is = g.is;
-        steps = g.steps;
-        over = inl (counts.refused, then_flushed limits hearing.allows aad old mid new g.input g.steps counts.refused keeps g.over, sym (ap (λ (n : ℕ). cond {A = ℕ} (nat_eq n 0) 0 1) zero));
-      };
-      nothing = λ _ _ _. refl;
-      steady = λ _. steady;
-    };
-    heard = record { told = g.heard.told; all = λ _. g.heard.all refl };
-  }
-
-  -- it stopped, or the flush failed
-  pub ran_stopped : {E : Type 0} (r : Result Counts (GateFault E)) {X F : Type 0} (answer : Result X F) → Gated limits hearing aad old mid r
-      → old.write_failures ≤ mid.write_failures → new.write_failures ≡ write_failures answer mid.write_failures
-      → Keeps mid.written new.written
+  -- it stopped
+  stopped : {E : Type 0} (r : Result Counts (GateFault E)) → (g : Gated limits hearing aad old mid r)
+      → InPart limits hearing.allows aad old new g.input g.steps
       → (old.left ≡ Some [] → new.read_failures ≡ old.read_failures → new.write_failures ≡ old.write_failures → ⊥)
       → RanJudged limits hearing aad old new 4
-  ran_stopped {E = E} r answer g more fails keeps fault = record {
+  stopped r g part some = record {
     on = record {
-      ran = record { input = g.input; is = g.is; steps = g.steps; over = inr (part r g.over, refl) };
-      nothing = λ empty reads writes. absurd (fault empty reads writes);
+      ran = record { input = g.input; is = g.is; steps = g.steps; over = inr (part, refl) };
+      nothing = λ empty reads writes. absurd (some empty reads writes);
       steady = λ (low : 4 < 2). absurd (omega arith);
     };
-    heard = record { told = g.heard.told; all = λ (low : 4 < 2). absurd (omega arith) };
+    heard = heard_then g.heard (λ (low : 4 < 2). absurd (omega arith));
   }
+
+  pub ran_stopped : {E : Type 0} (fault : GateFault E)
+      → (let r : Result Counts (GateFault E) = Err fault in Gated limits hearing aad old mid r) → IsFlushed mid new
+      → (old.left ≡ Some [] → new.read_failures ≡ old.read_failures → new.write_failures ≡ old.write_failures → ⊥)
+      → RanJudged limits hearing aad old new 4
+  ran_stopped fault g flush some = stopped (Err fault) g (record {
+    more = g.over.more;
+    course = g.over.course;
+    front = g.over.front;
+    writes = flushed old.written mid.written new.written g.over.front flush.kept g.over.writes;
+    stops = stops_flushed limits hearing.allows aad old mid new g.steps g.over.more g.over.front flush g.over.stops;
+  }) some
+
+  -- the flush failed
+  pub ran_unflushed : {E : Type 0} (r : Result Counts (GateFault E)) → Gated limits hearing aad old mid r → IsFlushed mid new
+      → old.write_failures ≤ mid.write_failures → new.write_failures ≡ mid.write_failures + 1
+      → RanJudged limits hearing aad old new 4
+  ran_unflushed {E = E} r g flush more once = stopped r g (part r g.over) (λ empty reads writes. one_more old.write_failures mid.write_failures new.write_failures more once writes)
     where
-      same_then : new.write_failures ≡ old.write_failures → mid.write_failures ≡ old.write_failures
-      same_then same = between old.write_failures mid.write_failures new.write_failures more
-          (grows answer mid.write_failures new.write_failures fails) same
+      rose : old.write_failures < new.write_failures
+      rose = omega arith
 
       part : (r : Result Counts (GateFault E)) → GatedOver limits hearing.allows aad old mid g.input g.steps r
           → InPart limits hearing.allows aad old new g.input g.steps
@@ -292,17 +379,15 @@ module _ {T : Type 0} (limits : Bounds) (hearing : Hearing T) (aad : List ℕ) (
         more = [];
         course = o.course;
         front = output_of hearing.allows aad g.steps;
-        front_is = whole_front (output_of hearing.allows aad g.steps);
-        writes = flushed old.written mid.written new.written (output_of hearing.allows aad g.steps) keeps o.writes;
-        whole = λ same. (g.steps, whole_front g.steps, refl);
+        writes = flushed old.written mid.written new.written (output_of hearing.allows aad g.steps) flush.kept o.writes;
+        stops = writer rose (whole_front (output_of hearing.allows aad g.steps));
       }
       part (Err fault) o = record {
         more = o.more;
         course = o.course;
         front = o.front;
-        front_is = o.front_is;
-        writes = flushed old.written mid.written new.written o.front keeps o.writes;
-        whole = λ same. o.whole (same_then same);
+        writes = flushed old.written mid.written new.written o.front flush.kept o.writes;
+        stops = stops_flushed limits hearing.allows aad old mid new g.steps o.more o.front flush o.stops;
       }
 
 module _ {T : Type 0} (limits : Bounds) (hearing : Hearing T) (aad : List ℕ) (old mid : Devices) where

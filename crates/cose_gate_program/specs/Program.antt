@@ -1,12 +1,14 @@
 -- What the program does with a whole input.
-use Rattle.std.specs.Prelude.{◌≡◌, ◌⊎◌, ◌<◌, ℕ, List, [], Option, None, Some, Bool, Result, Ok, Err, IsOk, if◌then◌else◌, nat_eq}
+use Rattle.std.specs.Prelude.{◌≡◌, ◌≢◌, ◌⊎◌, ◌<◌, ◌≤◌, ℕ, List, [], ◌++◌, length, Option, None, Some, Bool, true, Result, Ok, Err, IsOk, if◌then◌else◌, nat_eq}
 use Rattle.std.specs.Io.KnownBytes.{Appends}
 use Rattle.ciborium_ll.specs.declared.read.Read.{Ghosts as Reads}
 use Rattle.ciborium_ll.specs.declared.write.Write.{Ghosts as Writes}
 use Rattle.ciborium.specs.Reading.{IfKnown}
+use Rattle.ciborium.specs.declared.de.Error.{Error}
 use Rattle.cose_gate_hmac.specs.GateCore.Questions.{Question}
 use Rattle.cose_gate_hmac.specs.GateCore.Asked.{IsFront, ToldFront}
 use Rattle.cose_gate_hmac.specs.GateCore.Findings.{Bounds, usual}
+use Rattle.cose_gate_hmac.specs.GateCore.Outcome.{IsFaultOf}
 use Rattle.cose_gate_hmac.specs.GateCore.Run.{Step, Course, questions_of, output_of, refused_count}
 use Rattle.cose_gate_hmac.specs.GateCore.declared.gating.Counts.{Counts}
 use Rattle.cose_gate_hmac.specs.GateCore.declared.gating.GateFault.{GateFault}
@@ -17,6 +19,7 @@ use Rattle.cose_gate_hmac.specs.KeySets.Fields.{KeyFields}
 use Rattle.cose_gate_hmac.specs.KeySets.Keys.{HasKeySet}
 use Rattle.cose_gate_hmac.specs.KeySets.Wrong.{WrongKeySet}
 use Rattle.cose_gate_program.specs.Beginning.{aad_of}
+use Rattle.cose_gate_program.specs.declared.devices.InputFault.{InputFault}
 
 -- what the reader and the writer have given and taken: the bytes to come and those written, where
 -- they are known, and how often each has failed
@@ -53,17 +56,36 @@ hearing_of j old new = record {
   after = j.told new;
 }
 
--- what was written is the output of a beginning of the steps
-abbrev pub IsOfSteps : (Question → Bool) → List ℕ → List Step → List ℕ → Type 0
-IsOfSteps allows aad steps front =
-    (done : List Step) × IsFront done steps × (front ≡ output_of allows aad done)
+-- no item of at most n levels begins at the bytes `more`, with which the input b ends; or b is too
+-- long for its offsets
+abbrev pub IsUnreadable : ℕ → List ℕ → List ℕ → Type 0
+IsUnreadable n b more = (e : Error InputFault) × IsFaultOf (λ _. true) n (length b) more e
 
--- the whole input b was gone through by these steps, and all that passed was written
+-- the whole input b was gone through by these steps, all that passed was written, and nothing is
+-- left where the reader tells
 pub record Through (limits : Bounds) (allows : Question → Bool) (aad : List ℕ) (old new : Devices)
     (b : List ℕ) (steps : List Step) (refused : ℕ) : Type 0 where
   pub course : Course limits allows aad 0 b steps []
   pub writes : Appends old.written new.written (output_of allows aad steps)
   pub refused_is : refused ≡ refused_count allows aad steps
+  pub ended : IfKnown old.left (λ b. new.left ≡ Some [])
+
+-- why a run stopped behind these steps, with `more` to come, and what was written of their output:
+-- a beginning where the writer failed, also at the flush; all of it where the reader failed, or no
+-- readable item comes; and where memory was refused, all or that before the last step. Where each
+-- step was done then, an item was to come.
+pub data Stops (limits : Bounds) (allows : Question → Bool) (aad : List ℕ) (old new : Devices)
+    (steps : List Step) (more front : List ℕ) : Type 0 where
+  writer : old.write_failures < new.write_failures → IsFront front (output_of allows aad steps)
+      → Stops limits allows aad old new steps more front
+  reader : old.read_failures < new.read_failures → front ≡ output_of allows aad steps
+      → Stops limits allows aad old new steps more front
+  no_item : IfKnown old.left (λ b. IsUnreadable limits.nesting b more)
+      → front ≡ output_of allows aad steps → Stops limits allows aad old new steps more front
+  memory : (done last : List Step) → steps ≡ done ++ last → length last ≤ 1
+      → (last ≡ [] → IfKnown old.left (λ b. more ≢ []))
+      → (front ≡ output_of allows aad done) ⊎ (front ≡ output_of allows aad steps)
+      → Stops limits allows aad old new steps more front
 
 -- b was gone through by these steps up to some place, and a beginning of the output up to there was
 -- written. A text is torn only where the writer failed.
@@ -72,9 +94,8 @@ pub record InPart (limits : Bounds) (allows : Question → Bool) (aad : List ℕ
   pub more : List ℕ
   pub course : Course limits allows aad 0 b steps more
   pub front : List ℕ
-  pub front_is : IsFront front (output_of allows aad steps)
   pub writes : Appends old.written new.written front
-  pub whole : new.write_failures ≡ old.write_failures → IsOfSteps allows aad steps front
+  pub stops : Stops limits allows aad old new steps more front
 
 abbrev pub GatedOver : {E : Type 0} → Bounds → (Question → Bool) → List ℕ → Devices → Devices
     → List ℕ → List Step → Result Counts (GateFault E) → Type 0
@@ -98,8 +119,8 @@ pub record Ran (limits : Bounds) (allows : Question → Bool) (aad : List ℕ) (
   pub steps : List Step
   pub over : RanOver limits allows aad old new input steps status
 
--- the program ran. Of nothing it ends with 0 where no device failed, and with 0 or 1 only where none
--- did.
+-- the program ran. Of nothing it ends with 0 where no device failed, and with 0 or 1 only where
+-- none did.
 pub record RanOn (limits : Bounds) (allows : Question → Bool) (aad : List ℕ) (old new : Devices)
     (status : ℕ) : Type 0 where
   pub ran : Ran limits allows aad old new status
@@ -108,12 +129,17 @@ pub record RanOn (limits : Bounds) (allows : Question → Bool) (aad : List ℕ)
   pub steady : status < 2
       → (new.read_failures ≡ old.read_failures) × (new.write_failures ≡ old.write_failures)
 
--- a judge was told a beginning of the questions about these steps, in order, and all of them where
--- the steps were made whole
+-- a judge was told a beginning of the questions about these steps, in order: all of them where the
+-- steps were made whole, and always all about the steps before the last
 pub record Heard {T : Type 0} (hearing : Hearing T) (aad : List ℕ) (steps : List Step)
     (Whole : Type 0) : Type 0 where
   pub told : ToldFront hearing.decided hearing.before hearing.after
       (questions_of hearing.allows aad steps)
+  pub done : List Step
+  pub last : List Step
+  pub parts : steps ≡ done ++ last
+  pub one : length last ≤ 1
+  pub all_before : IsFront (questions_of hearing.allows aad done) told.front
   pub all : Whole → told.front ≡ questions_of hearing.allows aad steps
 
 -- the gate went over some bytes, those to come where these are known, and the judge was asked about

@@ -45,6 +45,30 @@ impl NotBegun {
     }
 }
 
+/// AADHEX can't be read.
+impl From<FromHexError> for NotBegun {
+    ghost from_gives = { λ error why. why ≡ spec.aad_fault error };
+
+    fn from(error: FromHexError) -> NotBegun {
+        match error {
+            FromHexError::OutOfMemory => NotBegun::Memory,
+            _ => NotBegun::NotHex,
+        }
+    }
+}
+
+/// The key set can't be read.
+impl From<CoseError> for NotBegun {
+    ghost from_gives = { λ error why. why ≡ spec.key_set_fault error };
+
+    fn from(error: CoseError) -> NotBegun {
+        match error {
+            CoseError::Memory => NotBegun::Memory,
+            _ => NotBegun::NoKeys(error),
+        }
+    }
+}
+
 /// Reads the external data, and then the key set. Without AADHEX the external data is empty.
 pub(crate) fn begin(
     alloc: Global,
@@ -69,21 +93,8 @@ fn read_aad(alloc: Global, aad: Option<&str>) -> Result<Vec<u8>, NotBegun>
         (IsNoAad (option_copied aad.entry)) }
 {
     match aad {
-        Some(text) => match hex::decode(alloc, text) {
-            Ok(bytes) => Ok(bytes),
-            Err(error) => Err(aad_fault(error)),
-        },
+        Some(text) => Ok(hex::decode(alloc, text)?),
         None => Ok(Vec::new(alloc)),
-    }
-}
-
-/// Why the gate isn't run where AADHEX can't be read.
-fn aad_fault(error: FromHexError) -> NotBegun
-    ensures { result ≡ spec.aad_fault error }
-{
-    match error {
-        FromHexError::OutOfMemory => NotBegun::Memory,
-        _ => NotBegun::NotHex,
     }
 }
 
@@ -92,18 +103,5 @@ pub(crate) fn read_keys(alloc: Global, bytes: &[u8]) -> Result<CoseKeySet, NotBe
     ensures { MatchResult result (λ s. HasItem HasKeySet bytes.now (key_set_view s))
         (IsNoKeySet bytes.now) }
 {
-    match CoseKeySet::from_slice(alloc, bytes) {
-        Ok(keys) => Ok(keys),
-        Err(error) => Err(key_set_fault(error)),
-    }
-}
-
-/// Why the gate isn't run where the key set can't be read.
-fn key_set_fault(error: CoseError) -> NotBegun
-    ensures { result ≡ spec.key_set_fault error }
-{
-    match error {
-        CoseError::Memory => NotBegun::Memory,
-        _ => NotBegun::NoKeys(error),
-    }
+    Ok(CoseKeySet::from_slice(alloc, bytes)?)
 }

@@ -1,4 +1,5 @@
-//! The input of the program in blocks: bytes that the block at hand holds are taken from it at once.
+//! The input of the program in blocks: bytes that the block at hand holds are taken from it at
+//! once.
 ghost use Rattle.std.specs.Prelude.{◌≡◌, ◌<◌, MatchBool, OnOk, IfErr, IsTrue, length};
 ghost use Rattle.std.specs.Io.KnownBytes.{Consumes, Keeps};
 ghost use Rattle.std.specs.Io.Buffered.{reader_buffer};
@@ -12,8 +13,8 @@ use ciborium_ll::count::Count;
 use std::io;
 use std::io::BufReader;
 
-/// A reader of std that reads in blocks. It costs less than `Io` where many reads are of a few bytes: a read that the block holds whole is
-/// no call of std's reader, and its fault is small.
+/// A reader of std that reads in blocks. It costs less than `Io` where many reads are of a few
+/// bytes: a read that the block holds whole is no call of std's reader, and its fault is small.
 #[derive(Drop)]
 pub struct Blocks<R> {
     reader: BufReader<R>,

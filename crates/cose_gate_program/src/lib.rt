@@ -1,5 +1,5 @@
-//! The program `cose-gate KEYS [AADHEX]` over any reader and writers: its words, and a run of the gate with the judge by HMAC, or with any
-//! other. A user names `cose_gate`, which passes it on.
+//! The program `cose-gate KEYS [AADHEX]` over any reader and writers: its words, and a run of the
+//! gate with the judge by HMAC, or with any other. A user names `cose_gate`, which passes it on.
 #![tactic(auto)]
 
 mod arguments;

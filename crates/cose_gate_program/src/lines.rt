@@ -1,4 +1,6 @@
 //! The lines on standard error. A fault of what they are written to is passed over.
+ghost use Rattle.std.specs.Prelude.{◌≤◌};
+
 use crate::beginning::NotBegun;
 use crate::devices::InputFault;
 use ciborium_ll::Write;
@@ -7,18 +9,54 @@ use std::alloc::AllocError;
 use std::fmt;
 use std::fmt::Write as _;
 
-/// Text to a writer.
+/// How many bytes of a line are held back: a whole line, unless a number or a fault is long.
+const HELD: usize = 128;
+
+/// Text to a writer, in as few calls as hold it.
 #[derive(Drop)]
 struct Text<'a, W> {
     out: &'a mut W,
+    held: [u8; HELD],
+    len: usize,
+    ghost within: { len ≤ 128 },
+}
+
+impl<'a, W: Write> Text<'a, W> {
+    fn new(out: &'a mut W) -> Text<'a, W> {
+        Text {
+            out,
+            held: [0; HELD],
+            len: 0,
+        }
+    }
+
+    /// Writes what is held back.
+    fn pass_on(&mut self) -> fmt::Result {
+        let held = &self.held[..self.len];
+        self.len = 0;
+        self.out.write_all(held).map_err(|_| fmt::Error)
+    }
+
+    /// Writes what is held back, and flushes the writer.
+    fn flush(&mut self) {
+        let _ = self.pass_on();
+        let _ = self.out.flush();
+    }
 }
 
 impl<'a, W: Write> fmt::Write for Text<'a, W> {
     fn write_str(&mut self, text: &str) -> fmt::Result {
-        match self.out.write_all(text.as_bytes()) {
-            Ok(()) => Ok(()),
-            Err(_) => Err(fmt::Error),
+        let bytes = text.as_bytes();
+        if bytes.len() > HELD - self.len {
+            self.pass_on()?;
         }
+        if bytes.len() > HELD - self.len {
+            return self.out.write_all(bytes).map_err(|_| fmt::Error);
+        }
+        let end = self.len + bytes.len();
+        self.held[self.len..end].copy_from_slice(bytes);
+        self.len = end;
+        Ok(())
     }
 }
 
@@ -43,7 +81,7 @@ impl<'a, W: Write> Report for Lines<'a, W> {
 
 /// The line of an item.
 fn say_entry<W: Write>(entry: Entry, out: &mut W) {
-    let mut text = Text { out };
+    let mut text = Text::new(out);
     let number = entry.number;
     let offset = entry.offset;
     let _ = match entry.verdict {
@@ -53,6 +91,7 @@ fn say_entry<W: Write>(entry: Entry, out: &mut W) {
             writeln!(text, "item {number} at {offset}: refused: {name}")
         }
     };
+    let _ = text.pass_on();
 }
 
 /// The name of a refusal, without what it holds.
@@ -71,16 +110,16 @@ fn name_of(refusal: Refusal) -> &'static str {
 
 /// The last line, which counts the items. It is flushed, with those before it.
 pub(crate) fn say_counts<W: Write>(counts: Counts, out: &mut W) {
-    let mut text = Text { out };
+    let mut text = Text::new(out);
     let passed = counts.passed;
     let refused = counts.refused;
     let _ = writeln!(text, "passed {passed}, refused {refused}");
-    let _ = text.out.flush();
+    text.flush();
 }
 
 /// The last line, which says what stopped the gate. It is flushed, with those before it.
 pub(crate) fn say_fault<W: Write>(fault: GateFault<InputFault>, out: &mut W) {
-    let mut text = Text { out };
+    let mut text = Text::new(out);
     let _ = match fault {
         GateFault::Decode(de::Error::Io(InputFault::Failed)) => {
             writeln!(text, "stopped: decode: Io")
@@ -89,17 +128,17 @@ pub(crate) fn say_fault<W: Write>(fault: GateFault<InputFault>, out: &mut W) {
             writeln!(text, "stopped: {fault}")
         }
     };
-    let _ = text.out.flush();
+    text.flush();
 }
 
 /// The last line, which says why the gate isn't run. It is flushed.
 pub(crate) fn say_not_begun<W: Write>(why: NotBegun, out: &mut W) {
-    let mut text = Text { out };
+    let mut text = Text::new(out);
     let _ = match why {
         NotBegun::NoFile => writeln!(text, "keys: cannot be read"),
         NotBegun::NotHex => writeln!(text, "aad: not hex"),
         NotBegun::NoKeys(error) => writeln!(text, "keys: {error}"),
         NotBegun::Memory => writeln!(text, "stopped: memory"),
     };
-    let _ = text.out.flush();
+    text.flush();
 }

@@ -41,7 +41,7 @@ fn gate_lines<R: Read, W: Write, E: Write, J: Judge>(
     let mut output = Output { writer: out };
     let mut lines = Lines { out: err };
     if strict {
-        return match gate_strict_with(
+        return gate_strict_with(
             alloc,
             limits,
             &mut decoder,
@@ -49,12 +49,9 @@ fn gate_lines<R: Read, W: Write, E: Write, J: Judge>(
             &mut lines,
             aad,
             judge,
-        ) {
-            Ok(counts) => Ok(counts),
-            Err(fault) => Err(fault),
-        };
+        );
     }
-    match gate_with(
+    gate_with(
         alloc,
         limits,
         &mut decoder,
@@ -62,17 +59,16 @@ fn gate_lines<R: Read, W: Write, E: Write, J: Judge>(
         &mut lines,
         aad,
         judge,
-    ) {
-        Ok(counts) => Ok(counts),
-        Err(fault) => Err(fault),
-    }
+    )
 }
 
-/// The program's run with any judge: the gate over the input within these limits, and strict where that is asked, with `aad` as external
-/// data. The messages that passed go to `out`, which is flushed, and on `err` there are the lines that `run` tells of. The judge is asked
-/// about the items in order, about all of them where the status is 0 or 1.
+/// The program's run with any judge: the gate over the input within these limits, and strict where
+/// that is asked, with `aad` as external data. The messages that passed go to `out`, which is
+/// flushed, and on `err` there are the lines that `run` tells of. The judge is asked about the
+/// items in order, about all of them where the status is 0 or 1.
 ///
-/// The status is 0 where no item was refused, 1 where some were, and 4 where the gate stopped or memory was refused.
+/// The status is 0 where no item was refused, 1 where some were, and 4 where the gate stopped or
+/// memory was refused.
 pub fn run_judged<R: Read, W: Write, E: Write, J: Judge>(
     alloc: Global,
     limits: Limits,
@@ -108,8 +104,9 @@ pub fn run_judged<R: Read, W: Write, E: Write, J: Judge>(
     }
 }
 
-/// As `run_with`, with the bytes of KEYS and the external data handed over as they are. The status is 3 where the bytes hold no key set, 4
-/// where the gate stopped or memory was refused, and else 0 or 1.
+/// As `run_with`, with the bytes of KEYS and the external data handed over as they are. The status
+/// is 3 where the bytes hold no key set, 4 where the gate stopped or memory was refused, and else 0
+/// or 1.
 pub fn run_over<R: Read, W: Write, E: Write>(
     alloc: Global,
     limits: Limits,
@@ -120,9 +117,11 @@ pub fn run_over<R: Read, W: Write, E: Write>(
     out: &mut W,
     err: &mut E,
 ) -> u8
-    ensures { EndsOver (limits_by limits strict) says_yes keys.now aad.now
+    ensures ran { EndsOver (limits_by limits strict) says_yes keys.now aad.now
         (devices_of R.Read W.Write input.old out.old)
         (devices_of R.Read W.Write input.new out.new) result }
+    ensures kept { R.handle input.new ≡ R.handle input.old }
+    ensures lent { W.handle out.new ≡ W.handle out.old }
 {
     match read_keys(alloc, keys) {
         Ok(set) => {
@@ -136,8 +135,8 @@ pub fn run_over<R: Read, W: Write, E: Write>(
     }
 }
 
-/// As `run`, within these limits, and strict where that is asked: then a message passes only where its item is already the text that would
-/// be written, and is refused as `NotShortest` else.
+/// As `run`, within these limits, and strict where that is asked: then a message passes only where
+/// its item is already the text that would be written, and is refused as `NotShortest` else.
 pub fn run_with<R: Read, W: Write, E: Write>(
     alloc: Global,
     limits: Limits,
@@ -148,10 +147,12 @@ pub fn run_with<R: Read, W: Write, E: Write>(
     out: &mut W,
     err: &mut E,
 ) -> u8
-    ensures { EndsWithin (limits_by limits strict) says_yes
+    ensures ran { EndsWithin (limits_by limits strict) says_yes
         (option_copied keys.entry) (option_copied aad.entry)
         (devices_of R.Read W.Write input.old out.old)
         (devices_of R.Read W.Write input.new out.new) result }
+    ensures kept { R.handle input.new ≡ R.handle input.old }
+    ensures lent { W.handle out.new ≡ W.handle out.old }
 {
     match begin(alloc, keys, aad) {
         Ok(beginning) => {
@@ -166,17 +167,20 @@ pub fn run_with<R: Read, W: Write, E: Write>(
     }
 }
 
-/// Runs the gate over the input with the judge by HMAC: `keys` are the bytes of KEYS, which hold a key set, or none where they can't be read,
-/// and `aad` is AADHEX, the external data in hex of either case; without it they are empty. The messages that passed go to `out`, which is
-/// flushed.
+/// Runs the gate over the input with the judge by HMAC: `keys` are the bytes of KEYS, which hold a
+/// key set, or none where they can't be read, and `aad` is AADHEX, the external data in hex of
+/// either case; without it they are empty. The messages that passed go to `out`, which is flushed.
 ///
-/// On `err` there is a line for each item, `item N at OFFSET: passed` or `item N at OFFSET: refused: NAME`, and then `passed P, refused R`, or
-/// `stopped: decode: WORD`, `stopped: write` or `stopped: memory`. Where the gate isn't run, the one line is `keys: cannot be read`,
-/// `aad: not hex`, `keys: ` and what is wrong with the key set, or `stopped: memory`; these are tested in this order. Lines are written as
-/// the items come, and flushed at the end; a fault of `err` is passed over.
+/// On `err` there is a line for each item, `item N at OFFSET: passed` or `item N at OFFSET:
+/// refused: NAME`, and then `passed P, refused R`, or `stopped: decode: WORD`, `stopped: write` or
+/// `stopped: memory`. Where the gate isn't run, the one line is `keys: cannot be read`, `aad: not
+/// hex`, `keys: ` and what is wrong with the key set, or `stopped: memory`; these are tested in
+/// this order. Lines are written as the items come, and flushed at the end; a fault of `err` is
+/// passed over.
 ///
-/// The status is 0 where no item was refused, 1 where some were, 2 where AADHEX is no hex, 3 where there is no key set, and 4 where the gate
-/// stopped or memory was refused. A flush that fails is `stopped: write`, whatever stopped the gate before.
+/// The status is 0 where no item was refused, 1 where some were, 2 where AADHEX is no hex, 3 where
+/// there is no key set, and 4 where the gate stopped or memory was refused. A flush that fails is
+/// `stopped: write`, whatever stopped the gate before.
 pub fn run<R: Read, W: Write, E: Write>(
     alloc: Global,
     keys: Option<&[u8]>,
@@ -185,9 +189,11 @@ pub fn run<R: Read, W: Write, E: Write>(
     out: &mut W,
     err: &mut E,
 ) -> u8
-    ensures { Ends says_yes (option_copied keys.entry) (option_copied aad.entry)
+    ensures ran { Ends says_yes (option_copied keys.entry) (option_copied aad.entry)
         (devices_of R.Read W.Write input.old out.old)
         (devices_of R.Read W.Write input.new out.new) result }
+    ensures kept { R.handle input.new ≡ R.handle input.old }
+    ensures lent { W.handle out.new ≡ W.handle out.old }
 {
     run_with(alloc, Limits::default(), false, keys, aad, input, out, err)
 }

@@ -10,7 +10,8 @@ use test_tools::OneByOne;
 /// How many bytes each read asks for, and what it gives: its last byte, or its fault.
 type Row = (usize, Result<u8, InputFault>);
 
-/// Over the bytes 1 to 9 in blocks of 4: inside a block, over its end, a whole one, more than are left, and at the end.
+/// Over the bytes 1 to 9 in blocks of 4: inside a block, over its end, a whole one, more than are
+/// left, and at the end.
 const ENDS: [Row; 6] = [
     (1, Ok(1)),
     (3, Ok(4)),

@@ -7,7 +7,8 @@ use coset_maced::CoseMac0Builder;
 use std::alloc::Global;
 use std::process::Abort;
 
-/// The tagged COSE_Mac0 over "hi" with the external data 01 and the protected algorithm HMAC 256/256, and its tag under this key.
+/// The tagged COSE_Mac0 over "hi" with the external data 01 and the protected algorithm HMAC
+/// 256/256, and its tag under this key.
 fn message(rt: &impl Abort, alloc: Global, id: &[u8], key: &[u8]) -> Vec<u8> {
     let protected = HeaderBuilder::new(alloc)
         .algorithm(iana::Algorithm::HMAC_256_256)

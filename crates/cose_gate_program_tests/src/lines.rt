@@ -1,9 +1,10 @@
-//! The program over readers and writers that fail, and what it flushes. The tag was made by another program.
+//! The program over readers and writers that fail, and what it flushes. The tag was made by another
+//! program.
 use ciborium_ll::{Mem, Read, Write};
-use cose_gate_program::{Limits, run, run_over, run_with};
+use cose_gate_program::{Limits, run, run_judged, run_over, run_with};
 use std::alloc::Global;
 use std::process::Abort;
-use test_tools::{FailAfter, Held, Sink, Source};
+use test_tools::{Counting, FailAfter, Held, Nth, Sink, Source};
 
 /// The key set [{1: 4, -1: h'00'}], a key without an id.
 const KEYS: &[u8] = &[0x81, 0xa2, 0x01, 0x04, 0x20, 0x41, 0x00];
@@ -15,7 +16,8 @@ pub const GOOD: &[u8] = &[
     0x5e, 0x6c, 0xa0, 0x67, 0xae, 0x32, 0xd0, 0x75, 0xae, 0x9f, 0xf5, 0x6e,
 ];
 
-/// The status of a run with the key and the external data 01. It has no clause, so that a test that calls it carries none of the program's.
+/// The status of a run with the key and the external data 01. It has no clause, so that a test that
+/// calls it carries none of the program's.
 pub fn status<R: Read, W: Write, E: Write>(
     alloc: Global,
     input: &mut R,
@@ -25,8 +27,8 @@ pub fn status<R: Read, W: Write, E: Write>(
     run(alloc, Some(KEYS), Some("01"), input, out, err)
 }
 
-/// A run over this input whose output is flushed so many times before it fails ends with this status and these lines, when so many bytes
-/// were shown.
+/// A run over this input whose output is flushed so many times before it fails ends with this
+/// status and these lines, when so many bytes were shown.
 fn is_flushed(
     rt: &impl Abort,
     alloc: Global,
@@ -95,6 +97,35 @@ fn a_full_writer_is_told(rt: HostRuntime) {
     assert_eq!(rt; out.bytes.as_slice(), [0xd1, 0x84, 0x43].as_slice());
 }
 
+/// The status of a run whose judge is refused memory at its first call.
+fn refused_status(alloc: Global, out: &mut Mem<Vec<u8>>, err: &mut Mem<Vec<u8>>) -> u8 {
+    let mut judge = Nth {
+        inner: Counting::new(),
+        calls: 0,
+    };
+    let mut input = GOOD;
+    run_judged(
+        alloc,
+        Limits::default(),
+        false,
+        &[1],
+        &mut input,
+        out,
+        err,
+        &mut judge,
+    )
+}
+
+#[test]
+fn memory_that_a_judge_is_refused_is_told(rt: HostRuntime) {
+    let alloc = rt.alloc();
+    let mut out = Mem::new(Vec::new(alloc));
+    let mut err = Mem::new(Vec::new(alloc));
+    assert_eq!(rt; refused_status(alloc, &mut out, &mut err), 4);
+    assert_eq!(rt; err.as_written(), b"stopped: memory\n".as_slice());
+    assert_eq!(rt; out.as_written(), [].as_slice());
+}
+
 #[test]
 fn a_fault_of_the_lines_is_passed_over(rt: HostRuntime) {
     let alloc = rt.alloc();
@@ -113,7 +144,8 @@ const OPEN: &[u8] = &[
     0x5e, 0x6c, 0xa0, 0x67, 0xae, 0x32, 0xd0, 0x75, 0xae, 0x9f, 0xf5, 0x6e, 0xff,
 ];
 
-/// A run within limits, strict or not: by `run_with`, which takes the external data in hex, or by `run_over`.
+/// A run within limits, strict or not: by `run_with`, which takes the external data in hex, or by
+/// `run_over`.
 #[derive(Debug, Clone, Copy, PartialEq, Eq)]
 struct Run {
     takes_hex: bool,
@@ -139,7 +171,8 @@ impl Run {
         }
     }
 
-    /// Over this input it ends with this status and these lines, and has written these bytes, of which the writer takes so many.
+    /// Over this input it ends with this status and these lines, and has written these bytes, of
+    /// which the writer takes so many.
     fn ends<R: Read>(
         self,
         rt: &impl Abort,
@@ -157,7 +190,8 @@ impl Run {
     }
 }
 
-/// These runs pass an open spelling where they aren't strict, and refuse it where they are; within two levels no message is read.
+/// These runs pass an open spelling where they aren't strict, and refuse it where they are; within
+/// two levels no message is read.
 fn all_so(rt: &impl Abort, alloc: Global, takes_hex: bool) {
     let plain = Run {
         takes_hex,

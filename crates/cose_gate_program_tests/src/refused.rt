@@ -3,9 +3,10 @@ use crate::lines::{GOOD, status};
 use ciborium_ll::Mem;
 use std::io;
 
-/// All memory here is asked for by the run: its output and its lines have theirs. So where one allocation is refused, whichever it is, the run
-/// says so, or goes without, as the judge does that keeps its keys prepared: the status and the lines fit together. A line says whether
-/// the run stopped.
+/// All memory here is asked for by the run: its output and its lines have theirs. So where one
+/// allocation is refused, whichever it is, the run says so, or goes without, as the judge does that
+/// keeps its keys prepared: the status and the lines fit together. A line says whether the run
+/// stopped.
 #[test]
 fn refused_memory_is_told(rt: HostRuntime) -> io::Result<()> {
     let (mut shown, mut said) = ([0; 64], [0; 64]);

@@ -5,4 +5,4 @@ use Rattle.callers.proofs.asking.run_exact.Goals as goal
 pub returns-clause-handed_on : goal.returns-clause-handed_on
 returns-clause-handed_on g c =
     handed_on _ _ c.args.keys.now c.args.aad.now _ _ _
-    (c.output_is_received.ensures.strict (nesting_of c.args.limits) (layers_of c.args.limits)) c.run_over.ensures
+    (c.output_is_received.ensures.strict (nesting_of c.args.limits) (layers_of c.args.limits)) c.run_over.ensures.ran

@@ -20,7 +20,7 @@ returns g c =
     record {
       new = new;
       ends = subst (λ r. over (reader_remaining g.R.Read.remaining r) 0) c.new-blocks.ensures.reader
-          (subst (over (left_of_blocks g.R.Read.remaining c.new-blocks.result)) c.new-blocks.ensures.failed c.run.ensures);
+          (subst (over (left_of_blocks g.R.Read.remaining c.new-blocks.result)) c.new-blocks.ensures.failed c.run.ensures.ran);
       written_is = refl;
       failures_is = refl;
     }

@@ -15,6 +15,6 @@ returns c = (
   c.as_written.result.now,
   c.run_over-status.result,
   inl (runs _ _ _ _ _ _ _ _ _ _ _ c.new-output.ensures.text c.new-output.ensures.failures c.as_written.ensures
-      (c.is_refused.ensures.never c.if-is_refused.false) c.run_over-status.ensures),
+      (c.is_refused.ensures.never c.if-is_refused.false) c.run_over-status.ensures.ran),
   record { length_is = c.place.ensures.length; fits = c.place.ensures.fits; no_room = c.place.ensures.no_room },
 )

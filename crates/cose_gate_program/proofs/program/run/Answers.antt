@@ -1,5 +1,5 @@
 use Rattle.cose_gate_program.proofs.Runs.{ends_usually}
 use Rattle.cose_gate_program.proofs.program.run.Goals as goal
 
-pub returns : goal.returns
-returns g c = ends_usually c.default.result _ _ _ _ _ _ c.default.ensures c.run_with.ensures
+pub returns-clause-ran : goal.returns-clause-ran
+returns-clause-ran g c = ends_usually c.default.result _ _ _ _ _ _ c.default.ensures c.run_with.ensures.ran

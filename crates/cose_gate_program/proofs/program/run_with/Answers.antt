@@ -2,9 +2,9 @@ use Rattle.std.proofs.Common.{refl}
 use Rattle.cose_gate_program.proofs.Runs.{began, ended}
 use Rattle.cose_gate_program.proofs.program.run_with.Goals as goal
 
-pub returns-in-Ok : goal.returns-in-Ok
-returns-in-Ok g c =
+pub returns-in-Ok-clause-ran : goal.returns-in-Ok-clause-ran
+returns-in-Ok-clause-ran g c =
     began _ _ _ c.in-Ok.beginning _ _ _ _ _ c.in-Ok.ensures c.as_slice-aad.ensures.value c.prepared-judge.ensures c.run_judged.ensures.ran.on
 
-pub returns-in-Err : goal.returns-in-Err
-returns-in-Err g c = ended _ _ _ _ _ _ _ _ c.in-Err.ensures c.status.ensures refl
+pub returns-in-Err-clause-ran : goal.returns-in-Err-clause-ran
+returns-in-Err-clause-ran g c = ended _ _ _ _ _ _ _ _ c.in-Err.ensures c.status.ensures refl
