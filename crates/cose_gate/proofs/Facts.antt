@@ -1,11 +1,11 @@
 -- The facts of a call of the gate, from its answer by cases.
-use Rattle.std.proofs.Common.{◌≡◌, ℕ, ◌+◌, ◌⊎◌, inl, inr, List, [], ◌∷◌, ◌++◌, length, map, Option, Some, Bool, not, cond, refl, sym, ap, subst, ◌∙◌, arith, append_assoc, append-nil}
-use Rattle.std.specs.Prelude.{Result, Ok, Err, IfOk, IfErr}
+use Rattle.std.proofs.Common.{◌≡◌, ℕ, ◌+◌, ◌<◌, ◌⊎◌, inl, inr, List, [], ◌∷◌, ◌++◌, length, map, Option, Some, Bool, not, cond, refl, sym, ap, subst, ◌∙◌, arith, append_assoc, append-nil}
+use Rattle.std.specs.Prelude.{Result, Ok, Err, IfOk, IfErr, IsTrue}
 use Rattle.std.specs.Io.KnownBytes.{Appends}
 use Rattle.std.proofs.lemmas.Grind.{flat_map-append}
 use Rattle.ciborium.specs.Damage.{Fault, Damage}
 use Rattle.ciborium.specs.Items.{Item, SequenceWithin, IsUnreadableWithin}
-use Rattle.ciborium.specs.Reading.{IfKnown}
+use Rattle.ciborium.specs.Reading.{IfKnown, IfEnd}
 use Rattle.ciborium.specs.declared.de.Error.{Error}
 use Rattle.ciborium.specs.declared.de.Error.TheVariants as de
 use Rattle.ciborium.proofs.Excludes.{excludes}
@@ -113,26 +113,36 @@ module _ {T S : Type 0} (rules : Rules T S) where
             → IsFaultOf ends rules.limits.nesting (old.offset + length b) more e → IsFaultOf ends rules.limits.nesting (old.offset + length b) rest e
         rest_at cs more e c u f = subst (λ (z : List ℕ). IsFaultOf ends rules.limits.nesting (old.offset + length b) z e) (sym (full cs more c u).1) f
 
+        -- at an end, where the offset stands
+        end_at : (cs : List Step) (more : List ℕ) (e : E) → Course rules.limits rules.allows rules.aad old.offset b cs more → IsUnreadableWithin rules.limits.nesting more
+            → IfKnown old.left (λ a. IfEnd ends (old.offset + length b < new.offset + length more) (de.Io e)) → IsTrue (ends e) → old.offset + length b < new.offset + length rest
+        end_at cs more e c u k t =
+            let less = subst (λ (l : Option (List ℕ)). IfKnown l (λ a. IfEnd ends (old.offset + length b < new.offset + length more) (de.Io e))) is k in
+            subst (λ (z : List ℕ). old.offset + length b < new.offset + length z) (sym (full cs more c u).1) (less t)
+
         stops : (r : Result Counts (GateFault E)) → Outcome ends rules old new b r → StopsAt ends rules.limits.nesting old new b rest r
         stops (Ok counts) o = (
           (full o.steps [] o.course (nothing_unreadable rules.limits rules.allows rules.aad [] refl)).1,
           o.grown,
           subst (λ (l : Option (List ℕ)). IfKnown l (λ a. new.left ≡ Some [])) is o.ended,
         )
-        stops (Err (Decode (de.Io e))) o = λ t.
+        stops (Err (Decode (de.Io e))) o =
             let f = fault_here o.more (de.Io e) o.fault in
-            rest_at o.steps o.more (de.Io e) o.course (damaged _ _ o.more _ (f t).0) f t
+            (
+              λ t. rest_at o.steps o.more (de.Io e) o.course (damaged _ _ o.more _ (f t).0) f t,
+              λ t. end_at o.steps o.more e o.course (damaged _ _ o.more _ (f t).0) o.behind t,
+            )
         stops (Err (Decode (de.Syntax p))) o =
             let f = fault_here o.more (de.Syntax p) o.fault in
-            rest_at o.steps o.more (de.Syntax p) o.course (damaged _ _ o.more _ f) f
+            (rest_at o.steps o.more (de.Syntax p) o.course (damaged _ _ o.more _ f) f, tt)
         stops (Err (Decode (de.Semantic q k))) o =
             let f = fault_here o.more (de.Semantic q k) o.fault in
-            rest_at o.steps o.more (de.Semantic q k) o.course (damaged _ _ o.more _ f.1) f
+            (rest_at o.steps o.more (de.Semantic q k) o.course (damaged _ _ o.more _ f.1) f, tt)
         stops (Err (Decode de.RecursionLimitExceeded)) o =
             let f = fault_here o.more de.RecursionLimitExceeded o.fault in
-            rest_at o.steps o.more de.RecursionLimitExceeded o.course (damaged _ _ o.more _ f) f
-        stops (Err (Decode de.Memory)) o = fault_here o.more de.Memory o.fault
-        stops (Err (Decode de.TooLong)) o = fault_here o.more de.TooLong o.fault
+            (rest_at o.steps o.more de.RecursionLimitExceeded o.course (damaged _ _ o.more _ f) f, tt)
+        stops (Err (Decode de.Memory)) o = (fault_here o.more de.Memory o.fault, tt)
+        stops (Err (Decode de.TooLong)) o = (fault_here o.more de.TooLong o.fault, tt)
         stops (Err Write) o = tt
         stops (Err Memory) o = tt
 

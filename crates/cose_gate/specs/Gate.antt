@@ -1,17 +1,19 @@
 -- What the clauses of `gate` say, over the run of the input.
-use Rattle.std.specs.Prelude.{◌≡◌, ℕ, ◌+◌, ◌≤◌, ◌⊎◌, List, [], ◌∷◌, ◌++◌, length, Some, Bool, true, IsTrue, Result, Ok, Err, IfOk, IfErr}
+use Rattle.std.specs.Prelude.{◌≡◌, ℕ, ◌+◌, ◌<◌, ◌≤◌, ◌⊎◌, List, [], ◌∷◌, ◌++◌, length, Some, Bool, true}
+use Rattle.std.specs.Prelude.{IsTrue, Result, Ok, Err, IfOk, IfErr}
 use Rattle.std.specs.Io.KnownBytes.{Appends}
 use Rattle.ciborium_ll.specs.declared.dec.Decoder.{Decoder}
 use Rattle.ciborium_ll.specs.declared.read.Read.{Ghosts as Reads}
 use Rattle.ciborium_ll.specs.declared.write.Write.{Ghosts as Writes}
-use Rattle.ciborium.specs.Reading.{IsNoMemory}
+use Rattle.ciborium.specs.Reading.{IfEnd, IsNoMemory}
 use Rattle.ciborium.specs.declared.de.Error.TheVariants as de
 use Rattle.cose_gate_laws.specs.GateCore.Asked.{folded_over, IsFront}
 use Rattle.cose_gate_laws.specs.GateCore.Calls.{rules_by, sight_of}
 use Rattle.cose_gate_laws.specs.GateCore.Findings.{Bounds}
 use Rattle.cose_gate_laws.specs.GateCore.Outcome.{Rules, Sight, IsFaultOf}
 use Rattle.cose_gate_laws.specs.GateCore.Questions.{Question}
-use Rattle.cose_gate_laws.specs.GateCore.Run.{Step, Run, passes, text_of, questions_of, output_of, passed_count, refused_count}
+use Rattle.cose_gate_laws.specs.GateCore.Run.{Step, Run, passes, text_of, questions_of, output_of}
+use Rattle.cose_gate_laws.specs.GateCore.Run.{passed_count, refused_count}
 use Rattle.cose_gate_laws.specs.GateCore.declared.report.Entry.{Entry}
 use Rattle.cose_gate_laws.specs.GateCore.declared.gating.Counts.{Counts}
 use Rattle.cose_gate_laws.specs.GateCore.declared.gating.GateFault.{GateFault}
@@ -20,15 +22,18 @@ use Rattle.cose_gate_laws.specs.GateCore.declared.report.Report.{Ghosts as Repor
 use Rattle.cose_gate_laws.specs.GateCore.declared.judge.Judge.{Ghosts as Judges}
 use Rattle.cose_gate_laws.specs.Anew.{AreEntries}
 
--- a call of the gate: which faults are an end, what it goes by, and what is seen as it begins and as it returns
+-- a call of the gate: which faults are an end, what it goes by, and what is seen as it begins and
+-- as it returns
 pub record Call (T S E : Type 0) : Type 0 where
   pub ends : E → Bool
   pub rules : Rules T S
   pub old : Sight T S
   pub new : Sight T S
 
--- by the words that the bounds of its reader, writer, report and judge bring, within these limits and over this external data
-abbrev pub call_of : {R E W F P J : Type 0} (r : Reads R E) (w : Writes W F) (p : Reports P) (j : Judges J) → Bounds → List ℕ
+-- by the words that the bounds of its reader, writer, report and judge bring, within these limits
+-- and over this external data
+abbrev pub call_of : {R E W F P J : Type 0} (r : Reads R E) (w : Writes W F) (p : Reports P)
+    (j : Judges J) → Bounds → List ℕ
     → Decoder R → W → P → J → Decoder R → W → P → J → Call j.Told p.State E
 call_of r w p j limits aad decoder out report judge decoder' out' report' judge' = record {
   ends = r.ends;
@@ -37,10 +42,13 @@ call_of r w p j limits aad decoder out report judge decoder' out' report' judge'
   new = sight_of r w p j decoder' out' report' judge';
 }
 
--- P holds of the bytes to come, where these are known, of the steps of the run over them, and of what is left behind its items. Of a
--- step's entry it is open which of a shape's faults is named, and so P holds of each way to say it.
-abbrev pub OverRun : {T S : Type 0} → Rules T S → Sight T S → (List ℕ → List Step → List ℕ → Type 0) → Type 0
-OverRun rules old P = (b : List ℕ) (ss : List Step) (rest : List ℕ) → old.left ≡ Some b → Run rules.limits rules.allows rules.aad old.offset b ss rest → P b ss rest
+-- P holds of the bytes to come, where these are known, of the steps of the run over them, and of what
+-- is left behind its items. Of a step's entry it is open which of a shape's faults is named, and so P holds of each way to say it.
+abbrev pub OverRun : {T S : Type 0} → Rules T S → Sight T S
+    → (List ℕ → List Step → List ℕ → Type 0) → Type 0
+OverRun rules old P =
+    (b : List ℕ) (ss : List Step) (rest : List ℕ) → old.left ≡ Some b
+    → Run rules.limits rules.allows rules.aad old.offset b ss rest → P b ss rest
 
 -- the gate went through all items: neither device failed, memory was found, and offsets fit
 abbrev pub IfThrough : {E : Type 0} → (E → Bool) → Result Counts (GateFault E) → Type 0 → Type 0
@@ -55,38 +63,44 @@ IfThrough ends (Err Write) P = Unit {0}
 IfThrough ends (Err Memory) P = Unit {0}
 
 -- a report was told these steps' entries
-pub record Noted {T S : Type 0} (rules : Rules T S) (old new : Sight T S) (ss : List Step) : Type 0 where
+pub record Noted {T S : Type 0} (rules : Rules T S) (old new : Sight T S)
+    (ss : List Step) : Type 0 where
   pub entries : List Entry
   pub are : AreEntries rules.limits rules.allows rules.aad ss entries
   pub state : new.state ≡ folded_over rules.folded old.state entries
 
 -- a judge was told a beginning of these steps' questions
-pub record AskedFront {T S : Type 0} (rules : Rules T S) (old new : Sight T S) (ss : List Step) : Type 0 where
+pub record AskedFront {T S : Type 0} (rules : Rules T S) (old new : Sight T S)
+    (ss : List Step) : Type 0 where
   pub asked : List Question
   pub front : IsFront asked (questions_of rules.allows rules.aad ss)
   pub told : new.told ≡ folded_over rules.decided old.told asked
 
 -- a report was told the entries of a beginning of these steps
-pub record NotedFront {T S : Type 0} (rules : Rules T S) (old new : Sight T S) (ss : List Step) : Type 0 where
+pub record NotedFront {T S : Type 0} (rules : Rules T S) (old new : Sight T S)
+    (ss : List Step) : Type 0 where
   pub steps : List Step
   pub front : IsFront steps ss
   pub noted : Noted rules old new steps
 
 -- a beginning of these steps' output was written
-pub record WrittenFront {T S : Type 0} (rules : Rules T S) (old new : Sight T S) (ss : List Step) : Type 0 where
+pub record WrittenFront {T S : Type 0} (rules : Rules T S) (old new : Sight T S)
+    (ss : List Step) : Type 0 where
   pub text : List ℕ
   pub front : IsFront text (output_of rules.allows rules.aad ss)
   pub written : Appends old.written new.written text
 
 -- the text of one message that passes is torn: what stands before it was done whole, all was asked about it, it wasn't noted, a
 -- beginning of its text was written, and the offset is the one behind its item
-pub record Torn {T S : Type 0} (rules : Rules T S) (old new : Sight T S) (ss : List Step) : Type 0 where
+pub record Torn {T S : Type 0} (rules : Rules T S) (old new : Sight T S)
+    (ss : List Step) : Type 0 where
   pub done : List Step
   pub last : Step
   pub behind : List Step
   pub whole : ss ≡ done ++ last ∷ behind
   pub passed : passes rules.allows rules.aad last.finding ≡ true
-  pub told : new.told ≡ folded_over rules.decided old.told (questions_of rules.allows rules.aad (done ++ last ∷ []))
+  pub told : new.told
+      ≡ folded_over rules.decided old.told (questions_of rules.allows rules.aad (done ++ last ∷ []))
   pub noted : Noted rules old new done
   pub text : List ℕ
   pub front : IsFront text (text_of last.finding)
@@ -96,7 +110,8 @@ pub record Torn {T S : Type 0} (rules : Rules T S) (old new : Sight T S) (ss : L
 -- memory was refused at one item, or between items: what stands before was done whole; of the item's questions a beginning was asked;
 -- its text was written whole, and then all was asked about it, or not at all; it wasn't noted. At an item the offset is the one
 -- behind it; between items it is open how much of the next was taken.
-pub record Refused {T S : Type 0} (rules : Rules T S) (old new : Sight T S) (ss : List Step) : Type 0 where
+pub record Refused {T S : Type 0} (rules : Rules T S) (old new : Sight T S)
+    (ss : List Step) : Type 0 where
   pub done : List Step
   pub last : List Step
   pub behind : List Step
@@ -104,18 +119,25 @@ pub record Refused {T S : Type 0} (rules : Rules T S) (old new : Sight T S) (ss 
   pub one : length last ≤ 1
   pub asked : List Question
   pub front : IsFront asked (questions_of rules.allows rules.aad last)
-  pub told : new.told ≡ folded_over rules.decided old.told (questions_of rules.allows rules.aad done ++ asked)
+  pub told : new.told
+      ≡ folded_over rules.decided old.told (questions_of rules.allows rules.aad done ++ asked)
   pub noted : Noted rules old new done
   pub texts : List Step
-  pub texts_are : (texts ≡ done) ⊎ ((texts ≡ done ++ last) × (asked ≡ questions_of rules.allows rules.aad last))
+  pub texts_are : (texts ≡ done)
+      ⊎ ((texts ≡ done ++ last) × (asked ≡ questions_of rules.allows rules.aad last))
   pub written : Appends old.written new.written (output_of rules.allows rules.aad texts)
   pub stands : (s : Step) → last ≡ s ∷ [] → new.offset ≡ s.item.offset + length s.item.bytes
 
--- where the gate stops: Ok exactly where nothing is left behind the items, with all bytes taken, and the reader tells that nothing is left;
--- else with the fault of what is left
-abbrev pub StopsAt : {T S E : Type 0} → (E → Bool) → ℕ → Sight T S → Sight T S → List ℕ → List ℕ → Result Counts (GateFault E) → Type 0
-StopsAt ends n old new b rest (Ok counts) = (rest ≡ []) × (new.offset ≡ old.offset + length b) × (new.left ≡ Some [])
-StopsAt ends n old new b rest (Err (Decode e)) = IsFaultOf ends n (old.offset + length b) rest e
+-- where the gate stops: Ok exactly where nothing is left behind the items, with all bytes taken, and
+-- the reader tells that nothing is left; else with the fault of what is left. Of an item that is cut
+-- some bytes were taken.
+abbrev pub StopsAt : {T S E : Type 0} → (E → Bool) → ℕ → Sight T S → Sight T S → List ℕ → List ℕ
+    → Result Counts (GateFault E) → Type 0
+StopsAt ends n old new b rest (Ok counts) =
+    (rest ≡ []) × (new.offset ≡ old.offset + length b) × (new.left ≡ Some [])
+StopsAt ends n old new b rest (Err (Decode e)) =
+    IsFaultOf ends n (old.offset + length b) rest e
+    × IfEnd ends (old.offset + length b < new.offset + length rest) e
 StopsAt ends n old new b rest (Err Write) = Unit {0}
 StopsAt ends n old new b rest (Err Memory) = Unit {0}
 
@@ -137,34 +159,44 @@ IfMemory (Err Memory) P = P
 -- through all items: the judge was asked exactly the run's questions, in order
 abbrev pub AsksAll : {T S E : Type 0} → Call T S E → Result Counts (GateFault E) → Type 0
 AsksAll c r =
-    OverRun c.rules c.old (λ b ss rest. IfThrough c.ends r (c.new.told ≡ folded_over c.rules.decided c.old.told (questions_of c.rules.allows c.rules.aad ss)))
+    OverRun c.rules c.old (λ b ss rest. IfThrough c.ends r (c.new.told
+    ≡ folded_over c.rules.decided c.old.told (questions_of c.rules.allows c.rules.aad ss)))
 
 -- through all items: exactly the passed messages were written, each as its one shortest text
 abbrev pub WritesAll : {T S E : Type 0} → Call T S E → Result Counts (GateFault E) → Type 0
-WritesAll c r = OverRun c.rules c.old (λ b ss rest. IfThrough c.ends r (Appends c.old.written c.new.written (output_of c.rules.allows c.rules.aad ss)))
+WritesAll c r =
+    OverRun c.rules c.old (λ b ss rest. IfThrough c.ends r
+    (Appends c.old.written c.new.written (output_of c.rules.allows c.rules.aad ss)))
 
 -- through all items: each was noted
 abbrev pub NotesAll : {T S E : Type 0} → Call T S E → Result Counts (GateFault E) → Type 0
-NotesAll c r = OverRun c.rules c.old (λ b ss rest. IfThrough c.ends r (Noted c.rules c.old c.new ss))
+NotesAll c r =
+    OverRun c.rules c.old (λ b ss rest. IfThrough c.ends r (Noted c.rules c.old c.new ss))
 
 -- Ok: so many passed, and so many were refused
 abbrev pub CountsAll : {T S E : Type 0} → Call T S E → Result Counts (GateFault E) → Type 0
 CountsAll c r =
-    OverRun c.rules c.old (λ b ss rest. IfOk r (λ n. (n.passed ≡ passed_count c.rules.allows c.rules.aad ss) × (n.refused ≡ refused_count c.rules.allows c.rules.aad ss)))
+    OverRun c.rules c.old (λ b ss rest. IfOk r (λ n.
+    (n.passed ≡ passed_count c.rules.allows c.rules.aad ss)
+    × (n.refused ≡ refused_count c.rules.allows c.rules.aad ss)))
 
 -- where it stops
 abbrev pub Stops : {T S E : Type 0} → Call T S E → Result Counts (GateFault E) → Type 0
-Stops c r = OverRun c.rules c.old (λ b ss rest. StopsAt c.ends c.rules.limits.nesting c.old c.new b rest r)
+Stops c r =
+    OverRun c.rules c.old (λ b ss rest. StopsAt c.ends c.rules.limits.nesting c.old c.new b rest r)
 
 -- after any fault: a beginning was asked, noted and written
 abbrev pub AsksFront : {T S E : Type 0} → Call T S E → Result Counts (GateFault E) → Type 0
-AsksFront c r = OverRun c.rules c.old (λ b ss rest. IfErr r (λ fault. AskedFront c.rules c.old c.new ss))
+AsksFront c r =
+    OverRun c.rules c.old (λ b ss rest. IfErr r (λ fault. AskedFront c.rules c.old c.new ss))
 
 abbrev pub NotesFront : {T S E : Type 0} → Call T S E → Result Counts (GateFault E) → Type 0
-NotesFront c r = OverRun c.rules c.old (λ b ss rest. IfErr r (λ fault. NotedFront c.rules c.old c.new ss))
+NotesFront c r =
+    OverRun c.rules c.old (λ b ss rest. IfErr r (λ fault. NotedFront c.rules c.old c.new ss))
 
 abbrev pub WritesFront : {T S E : Type 0} → Call T S E → Result Counts (GateFault E) → Type 0
-WritesFront c r = OverRun c.rules c.old (λ b ss rest. IfErr r (λ fault. WrittenFront c.rules c.old c.new ss))
+WritesFront c r =
+    OverRun c.rules c.old (λ b ss rest. IfErr r (λ fault. WrittenFront c.rules c.old c.new ss))
 
 -- after Write: one text is torn
 abbrev pub Tears : {T S E : Type 0} → Call T S E → Result Counts (GateFault E) → Type 0

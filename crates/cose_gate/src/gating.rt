@@ -13,22 +13,28 @@ use ciborium_ll::{Decoder, Read, Write};
 use cose_gate_laws::gate_core::{Counts, GateFault, Judge, Limits, Report};
 use std::alloc::Global;
 
-/// Asks the judge about each tagged COSE_Sign1, COSE_Mac0, COSE_Sign and COSE_Mac of a CBOR sequence that carries its payload, over
-/// exactly the bytes that its signature or tag covers, with `aad` as external data, and writes those that passed, each as its one
-/// shortest text (RFC 8742, RFC 9052). About a COSE_Sign it asks once for each signature, in order up to the first no, with that
-/// signature's headers as the signer's; it has passed where the answer to each is yes, and one without a signature is refused. Every item
-/// is noted in the report; one that is no such message is refused there, and the gate goes on. It doesn't flush.
+/// Asks the judge about each tagged COSE_Sign1, COSE_Mac0, COSE_Sign and COSE_Mac of a CBOR sequence
+/// that carries its payload, over exactly the bytes that its signature or tag covers, with `aad` as
+/// external data, and writes those that passed, each as its one shortest text (RFC 8742, RFC 9052).
+/// About a COSE_Sign it asks once for each signature, in order up to the first no, with that
+/// signature's headers as the signer's; it has passed where the answer to each is yes, and one
+/// without a signature is refused. Every item is noted in the report; one that is no such message is
+/// refused there, and the gate goes on. It doesn't flush.
 ///
-/// It ends with `Ok` exactly where nothing is left behind an item: the offset has grown by all bytes then, and a reader that tells what is
-/// to come tells that nothing is. No header waits after any answer. What the clause `ran` says holds of the bytes that were there, also
-/// over a reader that doesn't tell which are to come; where they are known, it holds of those, and the other clauses say it fact by fact
-/// over the run of the input.
+/// It ends with `Ok` exactly where nothing is left behind an item: the offset has grown by all bytes
+/// then, and a reader that tells what is to come tells that nothing is. No header waits after any
+/// answer. What the clause `ran` says holds of the bytes that were there, also over a reader that
+/// doesn't tell which are to come; where they are known, it holds of those, and the other clauses say
+/// it fact by fact over the run of the input.
 ///
 /// # Errors
-/// `Decode` where no readable item begins, or the reader failed: all items before it were asked about, noted and written. `Write` where
-/// the writer failed: a beginning of the text of a message that passes was written behind the output before it, and the reader stands
-/// behind that message. `Memory` where memory was refused: whole texts were written, and of the questions about the item at hand a
-/// beginning was asked.
+/// `Decode` where no readable item begins: all items before it were asked about, noted and written.
+/// How much of it was taken is open, but that an item which is cut lost some bytes; so don't read on
+/// from there. `Decode` also where the reader failed: all that was asked, noted and written are the
+/// first items then. `Write` where the writer failed: a beginning of the text of a message that
+/// passes was written behind the output before it, and the reader stands behind that message.
+/// `Memory` where memory was refused: whole texts were written, and of the questions about the item
+/// at hand a beginning was asked.
 pub fn gate<R: Read, W: Write, P: Report, J: Judge>(
     alloc: Global,
     decoder: &mut Decoder<R>,
