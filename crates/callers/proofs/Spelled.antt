@@ -14,6 +14,7 @@ use Rattle.coset.specs.KeyFields.{KeyFields}
 use Rattle.coset.specs.Keys.{HasKey}
 use Rattle.coset.specs.KeysSorted.{Canonicalized, SameButOrder}
 use Rattle.coset.specs.KeysWritten.{key_tree}
+use Rattle.coset.specs.LimitsView.{nesting, layers}
 use Rattle.coset.specs.Reading.{HasItem}
 use Rattle.coset.specs.Tree.{Tree}
 use Rattle.coset.specs.Written.{header_tree}
@@ -43,7 +44,7 @@ err_of (Ok x) P Q R f m = tt
 err_of (Err e) P Q R f m = f e m
 
 abbrev pub IsOneHeader : List ℕ → HeaderFields → Type 0
-IsOneHeader b h = HasItem (λ t f. HasHeader 256 t f 16) b h
+IsOneHeader b h = HasItem (λ t f. HasHeader nesting t f layers) b h
 
 -- what was read of bytes is read of what it is written as
 pub rewritten : {E : Type 0} (r : Result (Vec ℕ) E) (Q : E → Type 0) (b : List ℕ) (h : HeaderFields) → IsOneHeader b h
