@@ -86,6 +86,18 @@ something_left None l' b c some = tt
 something_left (Some a) None b c some = absurd c
 something_left (Some a) (Some r) b c some = λ e. some (ap Some e)
 
+-- at an end the place lies behind all that was consumed, seen from where the bytes began
+end_behind : {E : Type 0} (ends : E → Bool) (P Q : Type 0) (l l' : Option (List ℕ)) (b : List ℕ) (e : Error E) → Consumes l l' b → (P → Q)
+    → IfKnown l' (λ r. IfEnd ends P e) → IfKnown l (λ a. IfEnd ends Q e)
+end_behind ends P Q None l' b e c f k = tt
+end_behind ends P Q (Some a) None b e c f k = absurd c
+end_behind ends P Q (Some a) (Some r) b (de.Io x) c f k = λ t. f (k t)
+end_behind ends P Q (Some a) (Some r) b (de.Syntax q) c f k = tt
+end_behind ends P Q (Some a) (Some r) b (de.Semantic o j) c f k = tt
+end_behind ends P Q (Some a) (Some r) b de.RecursionLimitExceeded c f k = tt
+end_behind ends P Q (Some a) (Some r) b de.Memory c f k = tt
+end_behind ends P Q (Some a) (Some r) b de.TooLong c f k = tt
+
 -- no item is read of nothing
 pub nothing_read : (k : ℕ) (l₁ l₂ : Option (List ℕ)) (p₁ p₂ : ℕ) (v : Tree) → l₁ ≡ Some [] → Moves l₁ l₂ p₁ p₂ (λ (b : List ℕ). Reads b k v) → ⊥
 nothing_read k l₁ l₂ p₁ p₂ v e t = go l₂ (subst (λ (l : Option (List ℕ)). Consumes l l₂ t.bytes) e t.taken)
@@ -213,7 +225,7 @@ module _ {T S : Type 0} (rules : Rules T S) where
 
   -- the fault of the bytes, or Memory of the reader
   pub answer_read : {E : Type 0} (ends : E → Bool) (old new newer : Sight T S) (passed refused : ℕ) → Reached rules old new passed refused
-      → newer.told ≡ new.told → newer.state ≡ new.state → newer.written ≡ new.written → (f : GateFault E) → IsReadFault ends rules.limits.nesting new.left new.offset f
+      → newer.told ≡ new.told → newer.state ≡ new.state → newer.written ≡ new.written → (f : GateFault E) → IsReadFault ends rules.limits.nesting new.left new.offset newer.offset f
       → (new.left ≡ Some [] → f ≢ Memory) → Answers ends rules old newer (Err f)
   answer_read ends old new newer passed refused r told state writes (Decode e) d some =
       let w = left_after old new r.done r.taken r.steps (rest_of new.left) refl in
@@ -227,6 +239,8 @@ module _ {T S : Type 0} (rules : Rules T S) where
           made = still old new newer r.done told state writes r.made;
           no_memory = d.0;
           fault = fault_from ends rules.limits.nesting old.left new.left r.taken.bytes old.offset new.offset e r.taken.taken r.taken.grown d.1;
+          behind = (let s = w.stop in end_behind ends (new.offset < newer.offset) (old.offset + length w.input < newer.offset + length (rest_of new.left))
+              old.left new.left r.taken.bytes e r.taken.taken (λ less. omega arith) d.2);
         };
       }
   answer_read ends old new newer passed refused r told state writes Write d some = absurd d

@@ -1,11 +1,11 @@
 -- What the contract of `gate` says of each answer.
-use Rattle.std.specs.Prelude.{◌≡◌, ◌≢◌, ℕ, ◌+◌, ◌^◌, ◌≤◌, ◌⊎◌, List, [], ◌∷◌, ◌++◌, length, Option, Some, None, Bool, true, IsTrue, Result, Ok, Err, if◌then◌else◌}
+use Rattle.std.specs.Prelude.{◌≡◌, ◌≢◌, ℕ, ◌+◌, ◌^◌, ◌<◌, ◌≤◌, ◌⊎◌, List, [], ◌∷◌, ◌++◌, length, Option, Some, None, Bool, true, IsTrue, Result, Ok, Err, if◌then◌else◌}
 use Rattle.std.specs.Io.KnownBytes.{Appends}
 use Rattle.ciborium_ll.specs.Reading.{Moves}
 use Rattle.ciborium_value.specs.declared.value.Value.{Value}
 use Rattle.ciborium_value.specs.View.{view}
 use Rattle.ciborium.specs.Damage.{end, deep, syntax, semantic, Damage}
-use Rattle.ciborium.specs.Reading.{IfKnown, IsNoMemory}
+use Rattle.ciborium.specs.Reading.{IfKnown, IfEnd, IsNoMemory}
 use Rattle.ciborium.specs.declared.de.Error.{Error}
 use Rattle.ciborium.specs.declared.de.Error.TheVariants as de
 use Rattle.cose_gate_core.specs.Questions.{Question}
@@ -56,11 +56,16 @@ abbrev pub IsNext : Terms → Option (List ℕ) → Option (List ℕ) → ℕ �
 IsNext terms left left' at at' None = IfKnown left (λ b. (b ≡ []) × (left' ≡ Some [])) × (at' ≡ at)
 IsNext terms left left' at at' (Some r) = Moves left left' at at' (λ b. IsTaken terms b (view r.0) r.1)
 
--- what reading the next item ends with: a fault of the bytes that were to come, where they are known, or want of memory
-abbrev pub IsReadFault : {E : Type 0} → (E → Bool) → ℕ → Option (List ℕ) → ℕ → GateFault E → Type 0
-IsReadFault ends n left at (Decode e) = IsNoMemory e × IfKnown left (λ b. IsFaultOf ends n (at + length b) b e)
-IsReadFault ends n left at Write = ⊥
-IsReadFault ends n left at Memory = Unit {0}
+-- what reading the next item ends with, at the offset at' then: a fault of the bytes that were to
+-- come, where they are known, or want of memory. At an end some of them were taken.
+abbrev pub IsReadFault : {E : Type 0} → (E → Bool) → ℕ → Option (List ℕ) → ℕ → ℕ → GateFault E
+    → Type 0
+IsReadFault ends n left at at' (Decode e) =
+    IsNoMemory e
+    × IfKnown left (λ b. IsFaultOf ends n (at + length b) b e)
+    × IfKnown left (λ b. IfEnd ends (at < at') e)
+IsReadFault ends n left at at' Write = ⊥
+IsReadFault ends n left at at' Memory = Unit {0}
 
 -- Ok: the steps go through the whole input, all of them were made, the offset has grown by all bytes, and the reader tells that nothing is
 -- left, where it tells what is to come
@@ -73,14 +78,19 @@ pub record Whole {T S : Type 0} (rules : Rules T S) (old new : Sight T S) (input
   pub grown : new.offset ≡ old.offset + length input
   pub ended : IfKnown old.left (λ b. new.left ≡ Some [])
 
--- Decode: the steps go up to where the fault stands, and all of them were made
-pub record IfDecodeFailed {T S E : Type 0} (ends : E → Bool) (rules : Rules T S) (old new : Sight T S) (input : List ℕ) (e : Error E) : Type 0 where
+-- Decode: the steps go up to where the fault stands, and all of them were made. At an end the offset
+-- is behind that place: some bytes of the item that is cut were taken.
+pub record IfDecodeFailed {T S E : Type 0} (ends : E → Bool) (rules : Rules T S)
+    (old new : Sight T S) (input : List ℕ) (e : Error E) : Type 0 where
   pub steps : List Step
   pub more : List ℕ
   pub course : Course rules.limits rules.allows rules.aad old.offset input steps more
   pub made : Made rules old new steps
   pub no_memory : IsNoMemory e
-  pub fault : IfKnown old.left (λ b. IsFaultOf ends rules.limits.nesting (old.offset + length b) more e)
+  pub fault : IfKnown old.left (λ b.
+      IsFaultOf ends rules.limits.nesting (old.offset + length b) more e)
+  pub behind : IfKnown old.left (λ b.
+      IfEnd ends (old.offset + length input < new.offset + length more) e)
 
 -- Write: `done` were made; the message of the next step passes, all was asked about it, and a beginning of its text was written. The
 -- offset is the one behind its item, and `more` is to come.

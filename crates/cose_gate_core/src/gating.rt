@@ -141,7 +141,7 @@ fn next_item<R: Read>(
         (left_of R.left decoder.old) (left_of R.left decoder.new)
         (offset_of decoder.old) (offset_of decoder.new)) }
     ensures err { IfErr result (IsReadFault R.ends (nesting_of terms.limits)
-        (left_of R.left decoder.old) (offset_of decoder.old)) }
+        (left_of R.left decoder.old) (offset_of decoder.old) (offset_of decoder.new)) }
     ensures nothing { left_of R.left decoder.old ≡ Some []
         → R.failed (reader_of decoder.new) ≡ R.failed (reader_of decoder.old)
         → offset_of decoder.old + 4096 < 2 ^ 64 → result ≡ Ok None }
@@ -250,9 +250,12 @@ fn gate_by<R: Read, W: Write, P: Report, J: Judge>(
 /// known, it holds of those.
 ///
 /// # Errors
-/// `Decode` where no readable item begins, or the reader failed: all items before it were asked about, noted and written. `Write` where
-/// the writer failed: a beginning of the text of a message was written behind the output before it, and the reader stands behind that
-/// message. `Memory` where memory was refused: whole texts were written, and of the questions about the item at hand a beginning was
+/// `Decode` where no readable item begins: all items before it were asked about, noted and written.
+/// How much of it was taken is open, but that an item which is cut lost some bytes; so don't read on
+/// from there. `Decode` also where the reader failed: then all that was asked, noted and written are
+/// the first items. `Write` where the writer failed: a beginning of the text of a message was written
+/// behind the output before it, and the reader stands behind that message. `Memory` where memory was
+/// refused: whole texts were written, and of the questions about the item at hand a beginning was
 /// asked.
 pub fn gate<R: Read, W: Write, P: Report, J: Judge>(
     alloc: Global,

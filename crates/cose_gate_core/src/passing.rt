@@ -74,10 +74,8 @@ fn is_shortest<M: Message>(strict: bool, exact: bool, content: &Value) -> bool
     if !strict {
         return true;
     }
-    if exact {
-        if M::is_as_written(content) {
-            return true;
-        }
+    if exact && M::is_as_written(content) {
+        return true;
     }
     value_fits(content);
     false
