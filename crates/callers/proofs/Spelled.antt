@@ -1,8 +1,8 @@
 -- What is written of keys and headers that were read.
-use Rattle.std.proofs.Common.{◌≡◌, ◌↔◌, ℕ, List, Option, None, Some, IsTrue, refl, sym, ap, subst, ◌∙◌, inl, inr}
+use Rattle.std.proofs.Common.{◌≡◌, ◌↔◌, ℕ, List, Option, None, Some, Bool, true, false, IsTrue, refl, sym, ap, subst, ◌∙◌, inl, inr}
 use Rattle.std.proofs.lemmas.Slice.Eq.{bytes_eq-Decides}
 use Rattle.std.specs.Global.{Vec}
-use Rattle.std.specs.Prelude.{option_map, Result, Ok, Err, IfOk, IfErr, MatchResult}
+use Rattle.std.specs.Prelude.{option_map, Result, Ok, Err, IfOk, IfErr, MatchBool, MatchResult}
 use Rattle.std.specs.Str.{bytes_eq}
 use Rattle.coset.specs.CborOrdering.{CborOrdering}
 use Rattle.coset.specs.CoseError.{CoseError}
@@ -14,6 +14,7 @@ use Rattle.coset.specs.KeyFields.{KeyFields}
 use Rattle.coset.specs.Keys.{HasKey}
 use Rattle.coset.specs.KeysSorted.{Canonicalized, SameButOrder}
 use Rattle.coset.specs.KeysWritten.{key_tree}
+use Rattle.coset.specs.LimitsView.{nesting, layers}
 use Rattle.coset.specs.Reading.{HasItem}
 use Rattle.coset.specs.Tree.{Tree}
 use Rattle.coset.specs.Written.{header_tree}
@@ -43,7 +44,7 @@ err_of (Ok x) P Q R f m = tt
 err_of (Err e) P Q R f m = f e m
 
 abbrev pub IsOneHeader : List ℕ → HeaderFields → Type 0
-IsOneHeader b h = HasItem (λ t f. HasHeader 256 t f 16) b h
+IsOneHeader b h = HasItem (λ t f. HasHeader nesting t f layers) b h
 
 -- what was read of bytes is read of what it is written as
 pub rewritten : {E : Type 0} (r : Result (Vec ℕ) E) (Q : E → Type 0) (b : List ℕ) (h : HeaderFields) → IsOneHeader b h
@@ -62,3 +63,8 @@ alike t s x y S e f law = (
   λ h. law.0 (e ∙ ap Some ((bytes_eq-Decides x y).0 h) ∙ sym f),
   λ h. let q : Some x ≡ Some y = sym e ∙ (law.1 h ∙ f) in let i : x ≡ y = cc in (bytes_eq-Decides x y).1 i,
 )
+
+-- an answer that is yes just where P holds
+pub is_so : (b : Bool) (P : Type 0) → MatchBool b P (P → ⊥) → IsTrue b ↔ P
+is_so true P h = (λ _. h, λ _. refl)
+is_so false P h = (λ e. let no : false ≡ true = e in absurd (let f : ⊥ = cc in f), λ p. absurd (h p))

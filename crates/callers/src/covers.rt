@@ -35,8 +35,8 @@ pub fn sign1_covers(
     aad: &[u8],
     bytes: &[u8],
 ) -> Result<bool, CoseError>
-    ensures { SaysCovered (sign1_covered_with (sign1_view message.now) payload.now aad.now) bytes.now
-        result }
+    ensures { SaysCovered (sign1_covered_with (sign1_view message.now) payload.now aad.now)
+        bytes.now result }
 {
     told(message.covered(alloc, payload, aad), bytes)
 }

@@ -1,7 +1,7 @@
 //! Relays by the strict gate, and within limits of the caller's. `cose_gate` is the one crate that it names.
 ghost use Rattle.std.specs.Prelude.{◌≡◌, ℕ, List, IfOk};
 ghost use Rattle.cose_gate.specs.CodeLimits.{nesting_of, layers_of};
-ghost use Rattle.cose_gate.specs.Findings.{plain, only_exact};
+ghost use Rattle.cose_gate.specs.Findings.{plain, only_exact, usual_exact};
 ghost use Rattle.cose_gate.specs.Run.{Step, Run};
 ghost use Rattle.callers.specs.Gatings.{limits_of};
 ghost use Rattle.callers.specs.Judging.{RelayedRun, allows};
@@ -32,7 +32,7 @@ pub fn relay_strict(
     tally: &mut Tally,
 ) -> Result<(Vec<u8>, Counts), GateFault<End>>
     ensures run { (ss : List Step) (rest : List ℕ)
-        → Run (only_exact 256 16) (allows (known_of judge.old)) aad.now 0 input.now ss rest
+        → Run usual_exact (allows (known_of judge.old)) aad.now 0 input.now ss rest
         → IfOk result (λ r. RelayedRun (known_of judge.old) aad.now ss rest r.0.items r.1) }
     ensures known { known_of judge.new ≡ known_of judge.old }
 {

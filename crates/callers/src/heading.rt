@@ -6,6 +6,7 @@ ghost use Rattle.coset_base.specs.Faults.{OrMemory};
 ghost use Rattle.coset_base.specs.Fields.{HeaderFields, header, no_plain, no_signatures};
 ghost use Rattle.coset_base.specs.Headers.{HasHeader};
 ghost use Rattle.coset_base.specs.LabelFields.{assigned};
+ghost use Rattle.coset_base.specs.LimitsView.{nesting, layers};
 ghost use Rattle.coset_base.specs.Reading.{HasItem, WrongItem};
 ghost use Rattle.coset_base.specs.View.{header_view};
 ghost use Rattle.coset_base.specs.Written.{header_tree};
@@ -40,9 +41,11 @@ pub fn made(alloc: Global, alg: iana::Algorithm, key_id: &[u8]) -> Result<Header
 /// # Errors
 /// A fault of the bytes, or `Memory`.
 pub fn header_of(alloc: Global, bytes: &[u8]) -> Result<Header, CoseError>
-    ensures ok { IfOk result (λ h. HasItem (λ t f. HasHeader 256 t f 16) bytes.now (header_view h)
+    ensures ok { IfOk result (λ h.
+        HasItem (λ t f. HasHeader nesting t f layers) bytes.now (header_view h)
         × (header_tree (header_view h) ≢ None)) }
-    ensures err { IfErr result (OrMemory (WrongItem (λ t e. WrongHeader 256 t 16 e) bytes.now)) }
+    ensures err { IfErr result
+        (OrMemory (WrongItem (λ t e. WrongHeader nesting t layers e) bytes.now)) }
 {
     read_can_be_written();
     Header::from_slice(alloc, bytes)
@@ -54,10 +57,11 @@ pub fn header_of(alloc: Global, bytes: &[u8]) -> Result<Header, CoseError>
 /// A fault of the bytes, or `Memory`. Never that a label stands twice in what was read.
 pub fn rewritten(alloc: Global, bytes: &[u8]) -> Result<Vec<u8>, CoseError>
     ensures ok { IfOk result (λ out. (h : HeaderFields)
-        × HasItem (λ t f. HasHeader 256 t f 16) bytes.now h
+        × HasItem (λ t f. HasHeader nesting t f layers) bytes.now h
         × (option_map enc (header_tree h) ≡ Some out.items)
-        × HasItem (λ t f. HasHeader 256 t f 16) out.items h) }
-    ensures err { IfErr result (OrMemory (WrongItem (λ t e. WrongHeader 256 t 16 e) bytes.now)) }
+        × HasItem (λ t f. HasHeader nesting t f layers) out.items h) }
+    ensures err { IfErr result
+        (OrMemory (WrongItem (λ t e. WrongHeader nesting t layers e) bytes.now)) }
 {
     let header = header_of(alloc, bytes)?;
     header_reads_again(&header);

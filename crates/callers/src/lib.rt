@@ -6,6 +6,7 @@ pub mod asking;
 pub mod checking;
 pub mod covering;
 pub mod covers;
+pub mod exact;
 pub mod gatings;
 pub mod heading;
 pub mod heads;

@@ -1,6 +1,7 @@
 //! Messages signed, tagged and verified. It names `coset_messages`, and `cose_hmac` for a key of its own.
 ghost use Rattle.std.specs.Prelude.{◌≡◌, ◌↔◌, ℕ, List, None, Some, IsTrue, IfOk, MatchResult};
 ghost use Rattle.coset_messages.specs.Fields.{protected};
+ghost use Rattle.coset_messages.specs.LimitsView.{nesting, layers};
 ghost use Rattle.coset_messages.specs.MacedFields.{Mac0Fields};
 ghost use Rattle.coset_messages.specs.MacedShapes.{HasMac0};
 ghost use Rattle.coset_messages.specs.MacedStructure.{mac0_covered_with};
@@ -107,7 +108,7 @@ pub fn signed_payload<K: Key>(
     key: &K,
 ) -> Result<Vec<u8>, Fault<Refused>>
     ensures { IfOk result (λ payload. (m : Sign1Fields)
-        × HasItem (Tagged 18 (λ t f. HasSign1 256 t f 16)) bytes.now m
+        × HasItem (Tagged 18 (λ t f. HasSign1 nesting t f layers)) bytes.now m
         × (m.payload ≡ Some payload.items)
         × IsGood (K.good key.now) (sign1_covered m aad.now) m.signature) }
 {
@@ -127,7 +128,7 @@ pub fn tagged_payload<K: Key>(
     key: &K,
 ) -> Result<Vec<u8>, Fault<Refused>>
     ensures { IfOk result (λ payload. (m : Mac0Fields)
-        × HasItem (Tagged 17 (λ t f. HasMac0 256 t f 16)) bytes.now m
+        × HasItem (Tagged 17 (λ t f. HasMac0 nesting t f layers)) bytes.now m
         × (m.payload ≡ Some payload.items)
         × IsGood (K.good key.now) (mac0_covered_with m payload.items aad.now) m.tag) }
 {

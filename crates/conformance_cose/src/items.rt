@@ -1,5 +1,6 @@
 //! Items that are read and written back.
 use crate::answers::{Answer, NoAnswer, fault, made, plain, yes_or_no};
+use crate::protected;
 use coset::cbor::Value;
 use coset::cwt::ClaimsSet;
 use coset::{
@@ -90,6 +91,11 @@ where
 pub fn new(alloc: Global, kind: &str) -> Answer {
     match kind {
         "header" => written(alloc, Header::new(alloc)),
+        "protected-header" => made(
+            alloc,
+            protected::encoded(alloc, ProtectedHeader::new(alloc)),
+        ),
+        "signature" => written(alloc, CoseSignature::new(alloc)),
         "recipient" => written(alloc, CoseRecipient::new(alloc)),
         "sign1" => written(alloc, CoseSign1::new(alloc)),
         "sign" => written(alloc, CoseSign::new(alloc)),

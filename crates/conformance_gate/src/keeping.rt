@@ -2,7 +2,8 @@
 use crate::answers::{Answer, NoAnswer, append, in_hex, plain, yes_or_no};
 use crate::words;
 use callers::keeping::KeyStore;
-use cose_gate::iana;
+use ciborium_value::Value;
+use cose_gate::{Limits, iana};
 use coset_labels::CborSerializable;
 use std::alloc::Global;
 
@@ -27,6 +28,16 @@ pub fn rewritten(alloc: Global, header: &str) -> Answer {
     let header = words::bytes(alloc, header)?;
     let written = callers::heading::rewritten(alloc, &header)?;
     Ok(in_hex(alloc, &written)?)
+}
+
+/// A header within limits as it is written, and whether it came so.
+pub fn header_within(alloc: Global, limits: Limits, header: &str) -> Answer {
+    let header = words::bytes(alloc, header)?;
+    let value = Value::from_slice(alloc, &header)?;
+    let (read, is_as_written) = callers::exact::header_within(alloc, value, limits)?;
+    let mut text = in_hex(alloc, &read.to_vec(alloc)?)?;
+    append(&mut text, " as written: ", yes_or_no(is_as_written))?;
+    Ok(text)
 }
 
 /// Whether two keys are one.

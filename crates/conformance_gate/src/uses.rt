@@ -1,6 +1,6 @@
 //! Calls of `callers`, by their names.
 use crate::answers::{Answer, NoAnswer};
-use crate::{checking, heads, items, keeping, relaying, signing};
+use crate::{checking, heads, items, keeping, relaying, signing, words};
 use std::alloc::Global;
 
 /// What the call answers that the first word names.
@@ -23,6 +23,9 @@ fn of_cose(alloc: Global, row: &[&str]) -> Answer {
         ["header", key_id] => keeping::header(alloc, key_id),
         ["is-header", key_id, header] => keeping::is_header(alloc, key_id, header),
         ["rewritten", header] => keeping::rewritten(alloc, header),
+        ["header-within", nesting, layers, header] => {
+            keeping::header_within(alloc, words::limits(nesting, layers)?, header)
+        }
         ["is-same-key", a, b] => keeping::is_same_key(alloc, a, b),
         ["spelling", key] => keeping::spelling(alloc, key),
         ["are-new", keys @ ..] => keeping::are_new(alloc, keys),

@@ -1,7 +1,7 @@
 //! Encrypted messages by builders, and what their ciphers are handed. Expected bytes are written out by hand.
 use crate::tools::{
-    ASKED, Encrypted, MISSING, Message, Met, asked, decrypts, gives, is_asked_for, is_decrypted,
-    joined, makes, meets_in_order, missing, owned, read, repeated, same, with_algorithm,
+    ASKED, Encrypted, LONG, MISSING, Message, Met, decrypts, fails, give, gives, is_decrypted,
+    join, makes, meets_in_order, missing, owned, read, repeated, same, watched, with_algorithm,
 };
 use coset_builders::HeaderBuilder;
 use coset_encrypted::{CoseEncrypt, CoseEncrypt0, CoseEncrypt0Builder, CoseEncryptBuilder};
@@ -14,13 +14,17 @@ use std::process::Abort;
 fn encrypt0_sealed(
     alloc: Global,
     builder: CoseEncrypt0Builder,
+    plain: &[u8],
     aad: &[u8],
 ) -> Result<CoseEncrypt0, Met> {
-    let built = builder.try_create_ciphertext(
-        alloc,
-        b"hi",
-        aad,
-        move |plain, data| joined(alloc, plain, data),
+    let built = watched!(
+        asked,
+        builder.try_create_ciphertext(
+            alloc,
+            plain,
+            aad,
+            move |plain, data| join(alloc, plain, data, asked),
+        )
     )?;
     Ok(built.build())
 }
@@ -29,13 +33,17 @@ fn encrypt0_sealed(
 fn encrypt_sealed(
     alloc: Global,
     builder: CoseEncryptBuilder,
+    plain: &[u8],
     aad: &[u8],
 ) -> Result<CoseEncrypt, Met> {
-    let built = builder.try_create_ciphertext(
-        alloc,
-        b"hi",
-        aad,
-        move |plain, data| joined(alloc, plain, data),
+    let built = watched!(
+        asked,
+        builder.try_create_ciphertext(
+            alloc,
+            plain,
+            aad,
+            move |plain, data| join(alloc, plain, data, asked),
+        )
     )?;
     Ok(built.build())
 }
@@ -46,7 +54,7 @@ impl Message for CoseEncrypt0 {
     }
 
     fn meets(&self, alloc: Global) -> Option<Met> {
-        self.decrypt_ciphertext(alloc, &[], missing, asked).err()
+        self.decrypt_ciphertext(alloc, &[], missing, fails).err()
     }
 
     fn fill(&mut self, part: Vec<u8>) {
@@ -67,17 +75,27 @@ impl Message for CoseEncrypt0 {
 
 impl Encrypted for CoseEncrypt0 {
     fn opened(&self, alloc: Global, aad: &[u8]) -> Result<Vec<u8>, Met> {
-        self.decrypt_ciphertext(
-            alloc,
-            aad,
-            missing,
-            move |sealed, data| joined(alloc, sealed, data),
+        watched!(
+            asked,
+            self.decrypt_ciphertext(
+                alloc,
+                aad,
+                missing,
+                move |sealed, data| join(alloc, sealed, data, asked),
+            )
         )
     }
 
     fn decrypted(&self, alloc: Global, aad: &[u8]) -> Result<Vec<u8>, Met> {
         match &self.ciphertext {
-            Some(_) => self.decrypt(alloc, aad, move |sealed, data| joined(alloc, sealed, data)),
+            Some(_) => watched!(
+                asked,
+                self.decrypt(
+                    alloc,
+                    aad,
+                    move |sealed, data| join(alloc, sealed, data, asked)
+                )
+            ),
             None => Err(Fault::Caller(MISSING)),
         }
     }
@@ -89,7 +107,7 @@ impl Message for CoseEncrypt {
     }
 
     fn meets(&self, alloc: Global) -> Option<Met> {
-        self.decrypt_ciphertext(alloc, &[], missing, asked).err()
+        self.decrypt_ciphertext(alloc, &[], missing, fails).err()
     }
 
     fn fill(&mut self, part: Vec<u8>) {
@@ -114,17 +132,27 @@ impl Message for CoseEncrypt {
 
 impl Encrypted for CoseEncrypt {
     fn opened(&self, alloc: Global, aad: &[u8]) -> Result<Vec<u8>, Met> {
-        self.decrypt_ciphertext(
-            alloc,
-            aad,
-            missing,
-            move |sealed, data| joined(alloc, sealed, data),
+        watched!(
+            asked,
+            self.decrypt_ciphertext(
+                alloc,
+                aad,
+                missing,
+                move |sealed, data| join(alloc, sealed, data, asked),
+            )
         )
     }
 
     fn decrypted(&self, alloc: Global, aad: &[u8]) -> Result<Vec<u8>, Met> {
         match &self.ciphertext {
-            Some(_) => self.decrypt(alloc, aad, move |sealed, data| joined(alloc, sealed, data)),
+            Some(_) => watched!(
+                asked,
+                self.decrypt(
+                    alloc,
+                    aad,
+                    move |sealed, data| join(alloc, sealed, data, asked)
+                )
+            ),
             None => Err(Fault::Caller(MISSING)),
         }
     }
@@ -216,71 +244,63 @@ fn messages_are_built_and_decrypted(rt: HostRuntime) {
 fn encrypt0_fails(alloc: Global) -> Option<Met> {
     CoseEncrypt0Builder::new(alloc)
         .ciphertext(Vec::new(alloc))
-        .try_create_ciphertext(alloc, b"hi", &[], asked)
+        .try_create_ciphertext(alloc, b"hi", &[], fails)
         .err()
 }
 
 #[test]
 fn a_cipher_that_may_fail_is_handed_the_plaintext(rt: HostRuntime) {
     let alloc = rt.alloc();
-    let built = encrypt0_sealed(alloc, CoseEncrypt0Builder::new(alloc), &[]);
+    let built = encrypt0_sealed(alloc, CoseEncrypt0Builder::new(alloc), b"hi", &[]);
     makes(&rt, alloc, built, "68698368456e6372797074304040");
     let builder = CoseEncryptBuilder::new(alloc).ciphertext(Vec::new(alloc));
-    let built = encrypt_sealed(alloc, builder, &[]);
+    let built = encrypt_sealed(alloc, builder, b"hi", &[]);
     makes(&rt, alloc, built, "68698367456e63727970744040");
     // its error is kept
     let want = Some(Fault::Caller(ASKED));
     same(&rt, &encrypt0_fails(alloc), &want, "COSE_Encrypt0");
 }
 
-/// The plaintext, and three times the structure that each of the ciphers is handed.
+/// Three times the structure that each of the ciphers is handed.
 const THRICE0: &[u8] =
-    b"hi\x83\x68Encrypt0\x40\x43aad\x83\x68Encrypt0\x40\x43aad\x83\x68Encrypt0\x40\x43aad";
+    b"\x83\x68Encrypt0\x40\x43aad\x83\x68Encrypt0\x40\x43aad\x83\x68Encrypt0\x40\x43aad";
 
 /// Whether a message is built, decrypted, and decrypted again.
 pub(crate) fn encrypt0_is_decrypted(alloc: Global) -> Result<bool, Met> {
-    let sealed = encrypt0_sealed(alloc, CoseEncrypt0Builder::new(alloc), b"aad");
+    let sealed = encrypt0_sealed(alloc, CoseEncrypt0Builder::new(alloc), LONG, b"aad");
     is_decrypted(alloc, sealed, THRICE0)
 }
 
 /// As `THRICE0`.
 const THRICE: &[u8] =
-    b"hi\x83\x67Encrypt\x40\x43aad\x83\x67Encrypt\x40\x43aad\x83\x67Encrypt\x40\x43aad";
+    b"\x83\x67Encrypt\x40\x43aad\x83\x67Encrypt\x40\x43aad\x83\x67Encrypt\x40\x43aad";
 
 /// As `encrypt0_is_decrypted`, of a message with a recipient.
 pub(crate) fn encrypt_is_decrypted(alloc: Global) -> Result<bool, Met> {
-    let sealed = encrypt_sealed(alloc, with_recipient(alloc)?, b"aad");
+    let sealed = encrypt_sealed(alloc, with_recipient(alloc)?, LONG, b"aad");
     is_decrypted(alloc, sealed, THRICE)
 }
 
-/// Whether a cipher that can't fail is asked where something is built, and not where memory is refused.
-pub(crate) fn encrypt0_is_asked(alloc: Global) -> Result<bool, CoseError> {
-    let mut is_told = false;
-    let told = &mut is_told;
-    let answer = CoseEncrypt0Builder::new(alloc).create_ciphertext(
-        alloc,
-        b"hi",
-        &[],
-        move |_plain, _data| {
-            *told = true;
-            Vec::new(alloc)
-        },
-    );
-    is_asked_for(is_told, answer.err())
+/// Whether the ciphertext is what a cipher gives that can't fail.
+pub(crate) fn encrypt0_is_given(alloc: Global) -> Result<bool, Met> {
+    let made = LONG.to_vec(alloc)?;
+    let built = watched!(
+        asked,
+        CoseEncrypt0Builder::new(alloc)
+            .create_ciphertext(alloc, b"hi", &[], move |_, _| give(made, asked))
+            .map_err(Fault::Cose)
+    )?;
+    Ok(built.build().made() == LONG)
 }
 
-/// As `encrypt0_is_asked`.
-pub(crate) fn encrypt_is_asked(alloc: Global) -> Result<bool, CoseError> {
-    let mut is_told = false;
-    let told = &mut is_told;
-    let answer = CoseEncryptBuilder::new(alloc).create_ciphertext(
-        alloc,
-        b"hi",
-        &[],
-        move |_plain, _data| {
-            *told = true;
-            Vec::new(alloc)
-        },
-    );
-    is_asked_for(is_told, answer.err())
+/// As `encrypt0_is_given`.
+pub(crate) fn encrypt_is_given(alloc: Global) -> Result<bool, Met> {
+    let made = LONG.to_vec(alloc)?;
+    let built = watched!(
+        asked,
+        CoseEncryptBuilder::new(alloc)
+            .create_ciphertext(alloc, b"hi", &[], move |_, _| give(made, asked))
+            .map_err(Fault::Cose)
+    )?;
+    Ok(built.build().made() == LONG)
 }

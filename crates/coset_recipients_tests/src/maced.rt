@@ -1,7 +1,7 @@
 //! Authenticated messages by builders, and what their closures are handed. Expected bytes are written out by hand.
 use crate::tools::{
-    ASKED, MISSING, Maced, Message, Met, asked, content, gives, is_asked_for, is_verified, makes,
-    meets_in_order, missing, owned, repeated, same, with_algorithm,
+    ASKED, LONG, MISSING, Maced, Message, Met, content, fails, give, gives, is_verified, join,
+    makes, meets_in_order, missing, owned, repeated, same, watched, with_algorithm,
 };
 use coset_builders::HeaderBuilder;
 use coset_headers::Header;
@@ -115,9 +115,11 @@ fn mac0_tagged(
     payload: Vec<u8>,
     aad: &[u8],
 ) -> Result<CoseMac0, Met> {
-    let built = builder
-        .payload(payload)
-        .try_create_tag(alloc, aad, move |data| Ok(data.to_vec(alloc)?))?;
+    let builder = builder.payload(payload);
+    let built = watched!(
+        asked,
+        builder.try_create_tag(alloc, aad, move |data| join(alloc, data, &[], asked))
+    )?;
     Ok(built.build())
 }
 
@@ -128,9 +130,11 @@ fn mac_tagged(
     payload: Vec<u8>,
     aad: &[u8],
 ) -> Result<CoseMac, Met> {
-    let built = builder
-        .payload(payload)
-        .try_create_tag(alloc, aad, move |data| Ok(data.to_vec(alloc)?))?;
+    let builder = builder.payload(payload);
+    let built = watched!(
+        asked,
+        builder.try_create_tag(alloc, aad, move |data| join(alloc, data, &[], asked))
+    )?;
     Ok(built.build())
 }
 
@@ -159,7 +163,7 @@ impl Message for CoseMac0 {
     }
 
     fn meets(&self, alloc: Global) -> Option<Met> {
-        self.verify_payload_tag(alloc, &[], missing, asked).err()
+        self.verify_payload_tag(alloc, &[], missing, fails).err()
     }
 
     fn fill(&mut self, part: Vec<u8>) {
@@ -181,7 +185,7 @@ impl Message for CoseMac {
     }
 
     fn meets(&self, alloc: Global) -> Option<Met> {
-        self.verify_payload_tag(alloc, &[], missing, asked).err()
+        self.verify_payload_tag(alloc, &[], missing, fails).err()
     }
 
     fn fill(&mut self, part: Vec<u8>) {
@@ -212,16 +216,28 @@ pub(crate) fn a_missing_payload_is_first(rt: &impl Abort, alloc: Global) {
     same(rt, &met, &want, "a signer of a COSE_Mac");
 }
 
-/// A verifier that wants what `mac0_tagged` gives.
-fn equal(tag: &[u8], data: &[u8]) -> Result<(), CoseError> {
+/// A verifier that wants what `mac0_tagged` gives, and tells that it was asked.
+fn equal(tag: &[u8], data: &[u8], asked: &mut bool) -> Result<(), CoseError> {
+    *asked = true;
     content(tag == data)
 }
 
 impl Maced for CoseMac0 {
     fn verified_twice(&self, alloc: Global) -> Result<(), Met> {
-        self.verify_payload_tag(alloc, b"aad", missing, equal)?;
+        watched!(
+            asked,
+            self.verify_payload_tag(
+                alloc,
+                b"aad",
+                missing,
+                move |tag, data| equal(tag, data, asked),
+            )
+        )?;
         match &self.payload {
-            Some(_) => self.verify_tag(alloc, b"aad", equal),
+            Some(_) => watched!(
+                asked,
+                self.verify_tag(alloc, b"aad", move |tag, data| equal(tag, data, asked))
+            ),
             None => Err(Fault::Caller(MISSING)),
         }
     }
@@ -229,9 +245,20 @@ impl Maced for CoseMac0 {
 
 impl Maced for CoseMac {
     fn verified_twice(&self, alloc: Global) -> Result<(), Met> {
-        self.verify_payload_tag(alloc, b"aad", missing, equal)?;
+        watched!(
+            asked,
+            self.verify_payload_tag(
+                alloc,
+                b"aad",
+                missing,
+                move |tag, data| equal(tag, data, asked),
+            )
+        )?;
         match &self.payload {
-            Some(_) => self.verify_tag(alloc, b"aad", equal),
+            Some(_) => watched!(
+                asked,
+                self.verify_tag(alloc, b"aad", move |tag, data| equal(tag, data, asked))
+            ),
             None => Err(Fault::Caller(MISSING)),
         }
     }
@@ -244,40 +271,40 @@ fn with_recipient(alloc: Global) -> Result<CoseMacBuilder, CoseError> {
 
 /// Whether a message is built with a signer that gives what it is handed, and verified.
 pub(crate) fn mac0_is_verified(alloc: Global) -> Result<bool, Met> {
-    let payload = b"hi".to_vec(alloc)?;
+    let payload = LONG.to_vec(alloc)?;
     let tagged = mac0_tagged(alloc, CoseMac0Builder::new(alloc), payload, b"aad");
     is_verified(alloc, tagged)
 }
 
 /// As `mac0_is_verified`, of a message with a recipient.
 pub(crate) fn mac_is_verified(alloc: Global) -> Result<bool, Met> {
-    let payload = b"hi".to_vec(alloc)?;
+    let payload = LONG.to_vec(alloc)?;
     let tagged = mac_tagged(alloc, with_recipient(alloc)?, payload, b"aad");
     is_verified(alloc, tagged)
 }
 
-/// Whether a signer that can't fail is asked where something is built, and not where memory is refused.
-pub(crate) fn mac0_is_asked(alloc: Global) -> Result<bool, CoseError> {
-    let mut is_told = false;
-    let told = &mut is_told;
-    let answer = CoseMac0Builder::new(alloc)
-        .payload(Vec::new(alloc))
-        .create_tag(alloc, &[], move |_data| {
-            *told = true;
-            Vec::new(alloc)
-        });
-    is_asked_for(is_told, answer.err())
+/// Whether the tag is what a signer gives that can't fail.
+pub(crate) fn mac0_is_given(alloc: Global) -> Result<bool, Met> {
+    let made = LONG.to_vec(alloc)?;
+    let built = watched!(
+        asked,
+        CoseMac0Builder::new(alloc)
+            .payload(Vec::new(alloc))
+            .create_tag(alloc, &[], move |_data| give(made, asked))
+            .map_err(Fault::Cose)
+    )?;
+    Ok(built.build().made() == LONG)
 }
 
-/// As `mac0_is_asked`.
-pub(crate) fn mac_is_asked(alloc: Global) -> Result<bool, CoseError> {
-    let mut is_told = false;
-    let told = &mut is_told;
-    let answer = CoseMacBuilder::new(alloc)
-        .payload(Vec::new(alloc))
-        .create_tag(alloc, &[], move |_data| {
-            *told = true;
-            Vec::new(alloc)
-        });
-    is_asked_for(is_told, answer.err())
+/// As `mac0_is_given`.
+pub(crate) fn mac_is_given(alloc: Global) -> Result<bool, Met> {
+    let made = LONG.to_vec(alloc)?;
+    let built = watched!(
+        asked,
+        CoseMacBuilder::new(alloc)
+            .payload(Vec::new(alloc))
+            .create_tag(alloc, &[], move |_data| give(made, asked))
+            .map_err(Fault::Cose)
+    )?;
+    Ok(built.build().made() == LONG)
 }

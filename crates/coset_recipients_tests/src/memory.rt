@@ -1,11 +1,11 @@
-//! Each call that asks for memory, with memory enough and where it is refused: the answer is then `Memory`, and no cipher or signer was
-//! asked. All memory here is asked for in functions that answer `Memory` themselves, so `refused_memory_is_the_answer` also holds where
-//! one allocation is refused, whichever it is.
+//! Each call that asks for memory, with memory enough and where it is refused: the answer is then `Memory`, and no cipher, signer or
+//! verifier was asked (`watched!`). All memory here is asked for in functions that answer `Memory` themselves, so
+//! `refused_memory_is_the_answer` also holds where one allocation is refused, whichever it is.
 use crate::encrypted::{
-    encrypt_is_asked, encrypt_is_decrypted, encrypt0_is_asked, encrypt0_is_decrypted,
+    encrypt_is_decrypted, encrypt_is_given, encrypt0_is_decrypted, encrypt0_is_given,
 };
-use crate::maced::{mac_is_asked, mac_is_verified, mac0_is_asked, mac0_is_verified};
-use crate::recipients::{recipient_is_asked, recipient_is_decrypted};
+use crate::maced::{mac_is_given, mac_is_verified, mac0_is_given, mac0_is_verified};
+use crate::recipients::{recipient_is_decrypted, recipient_is_given};
 use crate::tools::{Met, is_read_again, is_written_back, same};
 use ciborium_value::Value;
 use coset_encrypted::{CoseEncrypt, CoseEncrypt0};
@@ -86,7 +86,7 @@ fn of_recipients(alloc: Global) -> [Result<bool, CoseError>; 3] {
     [
         are_written_back(alloc),
         flat(recipient_is_decrypted(alloc)),
-        recipient_is_asked(alloc),
+        flat(recipient_is_given(alloc)),
     ]
 }
 
@@ -97,8 +97,8 @@ fn of_encrypted(alloc: Global) -> [Result<bool, CoseError>; 6] {
         is_written_back::<CoseEncrypt>(alloc, ENCRYPT, 1),
         flat(encrypt0_is_decrypted(alloc)),
         flat(encrypt_is_decrypted(alloc)),
-        encrypt0_is_asked(alloc),
-        encrypt_is_asked(alloc),
+        flat(encrypt0_is_given(alloc)),
+        flat(encrypt_is_given(alloc)),
     ]
 }
 
@@ -109,8 +109,8 @@ fn of_maced(alloc: Global) -> [Result<bool, CoseError>; 6] {
         is_written_back::<CoseMac>(alloc, MAC, 1),
         flat(mac0_is_verified(alloc)),
         flat(mac_is_verified(alloc)),
-        mac0_is_asked(alloc),
-        mac_is_asked(alloc),
+        flat(mac0_is_given(alloc)),
+        flat(mac_is_given(alloc)),
     ]
 }
 

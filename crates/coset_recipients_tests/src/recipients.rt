@@ -2,8 +2,8 @@
 ghost use Rattle.coset_recipients.specs.Structure.{IsRecipientContext};
 
 use crate::tools::{
-    Encrypted, MISSING, Message, Met, asked, copy_gives, gives, is_asked_for, is_decrypted, joined,
-    makes, meets_in_order, missing, owned, repeated, with_algorithm,
+    Encrypted, LONG, MISSING, Message, Met, copy_gives, fails, give, gives, is_decrypted, join,
+    makes, meets_in_order, missing, owned, repeated, watched, with_algorithm,
 };
 use crate::{encrypted, maced};
 use coset_builders::HeaderBuilder;
@@ -23,12 +23,15 @@ fn sealed(
 ) -> Result<CoseRecipient, Met>
     requires { IsRecipientContext context }
 {
-    let built = builder.try_create_ciphertext(
-        alloc,
-        context,
-        plain,
-        aad,
-        move |plain, data| joined(alloc, plain, data),
+    let built = watched!(
+        asked,
+        builder.try_create_ciphertext(
+            alloc,
+            context,
+            plain,
+            aad,
+            move |plain, data| join(alloc, plain, data, asked),
+        )
     )?;
     Ok(built.build())
 }
@@ -42,12 +45,15 @@ fn opened(
 ) -> Result<Vec<u8>, Met>
     requires { IsRecipientContext context }
 {
-    recipient.decrypt_ciphertext(
-        alloc,
-        context,
-        aad,
-        missing,
-        move |sealed, data| joined(alloc, sealed, data),
+    watched!(
+        asked,
+        recipient.decrypt_ciphertext(
+            alloc,
+            context,
+            aad,
+            missing,
+            move |sealed, data| join(alloc, sealed, data, asked),
+        )
     )
 }
 
@@ -61,11 +67,14 @@ fn decrypted(
     requires { IsRecipientContext context }
 {
     match &recipient.ciphertext {
-        Some(_) => recipient.decrypt(
-            alloc,
-            context,
-            aad,
-            move |sealed, data| joined(alloc, sealed, data),
+        Some(_) => watched!(
+            asked,
+            recipient.decrypt(
+                alloc,
+                context,
+                aad,
+                move |sealed, data| join(alloc, sealed, data, asked),
+            )
         ),
         None => Err(Fault::Caller(MISSING)),
     }
@@ -137,7 +146,7 @@ impl Message for CoseRecipient {
 
     fn meets(&self, alloc: Global) -> Option<Met> {
         let context = EncryptionContext::EncRecipient;
-        self.decrypt_ciphertext(alloc, context, &[], missing, asked)
+        self.decrypt_ciphertext(alloc, context, &[], missing, fails)
             .err()
     }
 
@@ -181,9 +190,9 @@ fn a_missing_part_is_met_first(rt: HostRuntime) {
     maced::a_missing_payload_is_first(&rt, alloc);
 }
 
-/// The plaintext, and three times the structure that each of the ciphers is handed.
+/// Three times the structure that each of the ciphers is handed.
 const THRICE: &[u8] =
-    b"key\x83\x6dEnc_Recipient\x40\x43aad\x83\x6dEnc_Recipient\x40\x43aad\x83\x6dEnc_Recipient\x40\x43aad";
+    b"\x83\x6dEnc_Recipient\x40\x43aad\x83\x6dEnc_Recipient\x40\x43aad\x83\x6dEnc_Recipient\x40\x43aad";
 
 /// A recipient while it is built, with a recipient of its own.
 fn with_one(alloc: Global) -> Result<CoseRecipientBuilder, CoseError> {
@@ -193,23 +202,19 @@ fn with_one(alloc: Global) -> Result<CoseRecipientBuilder, CoseError> {
 /// Whether a recipient is built, decrypted, and decrypted again.
 pub(crate) fn recipient_is_decrypted(alloc: Global) -> Result<bool, Met> {
     let context = EncryptionContext::EncRecipient;
-    let sealed = sealed(alloc, with_one(alloc)?, context, b"key", b"aad");
+    let sealed = sealed(alloc, with_one(alloc)?, context, LONG, b"aad");
     is_decrypted(alloc, sealed, THRICE)
 }
 
-/// Whether a cipher that can't fail is asked where something is built, and not where memory is refused.
-pub(crate) fn recipient_is_asked(alloc: Global) -> Result<bool, CoseError> {
-    let mut is_told = false;
-    let told = &mut is_told;
-    let answer = CoseRecipientBuilder::new(alloc).create_ciphertext(
-        alloc,
-        EncryptionContext::RecRecipient,
-        b"key",
-        &[],
-        move |_plain, _data| {
-            *told = true;
-            Vec::new(alloc)
-        },
-    );
-    is_asked_for(is_told, answer.err())
+/// Whether the ciphertext is what a cipher gives that can't fail.
+pub(crate) fn recipient_is_given(alloc: Global) -> Result<bool, Met> {
+    let made = LONG.to_vec(alloc)?;
+    let context = EncryptionContext::RecRecipient;
+    let built = watched!(
+        asked,
+        CoseRecipientBuilder::new(alloc)
+            .create_ciphertext(alloc, context, b"key", &[], move |_, _| give(made, asked))
+            .map_err(Fault::Cose)
+    )?;
+    Ok(built.build().made() == LONG)
 }

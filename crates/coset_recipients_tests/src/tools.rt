@@ -22,7 +22,7 @@ pub(crate) fn missing() -> CoseError {
 }
 
 /// A cipher or a verifier that fails.
-pub(crate) fn asked<T>(_first: &[u8], _second: &[u8]) -> Result<T, CoseError> {
+pub(crate) fn fails<T>(_first: &[u8], _second: &[u8]) -> Result<T, CoseError> {
     Err(ASKED)
 }
 
@@ -31,11 +31,54 @@ pub(crate) fn content(is_content: bool) -> Result<(), CoseError> {
     if is_content { Ok(()) } else { Err(ASKED) }
 }
 
-/// Two byte strings, one behind the other: what a closure was handed.
-pub(crate) fn joined(alloc: Global, first: &[u8], second: &[u8]) -> Result<Vec<u8>, CoseError> {
+/// Two byte strings, one behind the other.
+fn joined(alloc: Global, first: &[u8], second: &[u8]) -> Result<Vec<u8>, CoseError> {
     let mut all = first.to_vec(alloc)?;
     all.extend_from_slice(second)?;
     Ok(all)
+}
+
+/// 300 bytes: a plaintext or a payload, so that a closure which gives what it is handed gives more, or what a closure gives.
+pub(crate) const LONG: &[u8] = &[7; 300];
+
+/// The error of a call that asked and then met a fault of its own, or answered for a closure that it hadn't asked.
+const UNTRUE: CoseError = CoseError::UnexpectedItem("a call", "another one");
+
+/// What a call answers, where its closure was asked exactly if the answer isn't the call's own fault, such as want of memory.
+pub(crate) fn watch<T: Drop>(is_asked: bool, answer: Result<T, Met>) -> Result<T, Met> {
+    if is_asked == matches!(answer, Err(Fault::Cose(_))) {
+        return Err(Fault::Caller(UNTRUE));
+    }
+    answer
+}
+
+/// What a call answers whose closure sets this flag: `watched!(asked, CALL)`.
+macro_rules! watched {
+    ($asked:ident, $call:expr) => {{
+        let mut is_asked = false;
+        let $asked = &mut is_asked;
+        let answer = $call;
+        $crate::tools::watch(is_asked, answer)
+    }};
+}
+
+pub(crate) use watched;
+
+/// Two byte strings, one behind the other: what a closure was handed, which tells that it was asked.
+pub(crate) fn join(
+    alloc: Global,
+    first: &[u8],
+    second: &[u8],
+    asked: &mut bool,
+) -> Result<Vec<u8>, CoseError> {
+    *asked = true;
+    joined(alloc, first, second)
+}
+
+/// A closure that gives these bytes, and tells that it was asked.
+pub(crate) fn give(made: Vec<u8>, asked: &mut bool) -> Vec<u8> {
+    *asked = true;
+    made
 }
 
 /// A header with this algorithm.
@@ -240,14 +283,14 @@ fn opened_again<T: Encrypted>(alloc: Global, mut message: T) -> Result<Vec<u8>, 
     message.decrypted(alloc, b"aad")
 }
 
-/// Whether these are what a cipher is handed where a message is decrypted, and what was handed is decrypted again.
+/// Whether a cipher is handed `LONG` and then these where a message is decrypted, and what was handed is decrypted again.
 pub(crate) fn is_decrypted<T: Encrypted>(
     alloc: Global,
     sealed: Result<T, Met>,
     want: &[u8],
 ) -> Result<bool, Met> {
     let again = opened_again(alloc, sealed?)?;
-    Ok(again.as_slice() == want)
+    Ok(again == joined(alloc, LONG, want)?)
 }
 
 /// Whether a message is verified whose tag is what it covers.
@@ -255,13 +298,4 @@ pub(crate) fn is_verified<T: Maced>(alloc: Global, tagged: Result<T, Met>) -> Re
     let message = tagged?;
     message.verified_twice(alloc)?;
     Ok(true)
-}
-
-/// Whether a closure was asked where something was built, and not where memory was refused.
-pub(crate) fn is_asked_for(is_asked: bool, error: Option<CoseError>) -> Result<bool, CoseError> {
-    match error {
-        None => Ok(is_asked),
-        Some(_) if is_asked => Ok(false),
-        Some(error) => Err(error),
-    }
 }

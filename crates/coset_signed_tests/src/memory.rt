@@ -1,11 +1,11 @@
-//! Each call that asks for memory, with memory enough and where it is refused: the answer is then `Memory`, and no signer was asked. All
-//! memory here is asked for in functions that answer `Memory` themselves, so `refused_memory_is_the_answer` also holds where one
-//! allocation is refused, whichever it is.
+//! Each call that asks for memory, with memory enough and where it is refused: the answer is then `Memory`, and no signer and no verifier
+//! was asked (`watched!`). All memory here is asked for in functions that answer `Memory` themselves, so `refused_memory_is_the_answer`
+//! also holds where one allocation is refused, whichever it is.
 use crate::sign::{
-    sign_is_asked, sign_is_asked_elsewhere, sign_is_verified, sign_is_verified_elsewhere,
+    sign_is_given, sign_is_given_elsewhere, sign_is_verified, sign_is_verified_elsewhere,
 };
 use crate::sign1::{
-    sign1_is_asked, sign1_is_asked_elsewhere, sign1_is_verified, sign1_is_verified_elsewhere,
+    sign1_is_given, sign1_is_given_elsewhere, sign1_is_verified, sign1_is_verified_elsewhere,
 };
 use crate::tools::{Met, is_written_back, same};
 use coset_labels::{CoseError, Fault};
@@ -40,8 +40,8 @@ fn of_sign1(alloc: Global) -> [Result<bool, CoseError>; 5] {
         is_written_back::<CoseSign1>(alloc, SIGN1),
         flat(sign1_is_verified(alloc)),
         flat(sign1_is_verified_elsewhere(alloc)),
-        sign1_is_asked(alloc),
-        sign1_is_asked_elsewhere(alloc),
+        flat(sign1_is_given(alloc)),
+        flat(sign1_is_given_elsewhere(alloc)),
     ]
 }
 
@@ -51,8 +51,8 @@ fn of_sign(alloc: Global) -> [Result<bool, CoseError>; 5] {
         is_written_back::<CoseSign>(alloc, SIGN),
         flat(sign_is_verified(alloc)),
         flat(sign_is_verified_elsewhere(alloc)),
-        sign_is_asked(alloc),
-        sign_is_asked_elsewhere(alloc),
+        flat(sign_is_given(alloc)),
+        flat(sign_is_given_elsewhere(alloc)),
     ]
 }
 

@@ -1,8 +1,8 @@
 //! Messages with several signatures. Expected bytes and texts are written out by hand.
-use crate::sign1::{LONG, sign1_repeated};
+use crate::sign1::sign1_repeated;
 use crate::tools::{
-    MISMATCH, Message, Met, Row, UNFIT, echo, equal, es256, gives, is_asked_for, is_elsewhere,
-    is_not_signed, is_verified, is_verified_elsewhere, never, repeated, same, tell, verifies,
+    LONG, MISMATCH, Message, Met, Row, UNFIT, echo, equal, es256, give, gives, is_elsewhere,
+    is_not_signed, is_verified, is_verified_elsewhere, never, repeated, same, verifies, watched,
     writes, writes_untagged,
 };
 use coset_builders::CoseSignatureBuilder;
@@ -65,7 +65,15 @@ impl Message for CoseSign {
         if which >= self.signatures.len() {
             return Err(Fault::Caller(UNFIT));
         }
-        self.verify_signature(alloc, which, aad, equal)
+        watched!(
+            asked,
+            self.verify_signature(
+                alloc,
+                which,
+                aad,
+                move |signature, data| equal(signature, data, asked),
+            )
+        )
     }
 
     fn verified_elsewhere(
@@ -81,7 +89,16 @@ impl Message for CoseSign {
         if which >= self.signatures.len() {
             return Err(Fault::Caller(UNFIT));
         }
-        self.verify_detached_signature(alloc, which, payload, aad, equal)
+        watched!(
+            asked,
+            self.verify_detached_signature(
+                alloc,
+                which,
+                payload,
+                aad,
+                move |signature, data| equal(signature, data, asked),
+            )
+        )
     }
 
     fn refused(&self, alloc: Global) -> Result<(), Met> {
@@ -134,11 +151,14 @@ fn by_two(rt: &impl Abort, alloc: Global) -> CoseSignBuilder {
 
 /// What is built with one more signature, of a signer that gives what it is handed.
 fn signed(alloc: Global, builder: CoseSignBuilder, aad: &[u8]) -> Result<CoseSign, Met> {
-    let built = builder.try_add_created_signature(
-        alloc,
-        signer(alloc),
-        aad,
-        move |data| echo(alloc, data),
+    let built = watched!(
+        asked,
+        builder.try_add_created_signature(
+            alloc,
+            signer(alloc),
+            aad,
+            move |data| echo(alloc, data, asked),
+        )
     )?;
     Ok(built.build())
 }
@@ -184,12 +204,15 @@ fn a_message_is_signed_by_several(rt: HostRuntime) {
 
 /// What is built for the payload "hi", which is carried elsewhere, with a signer that gives what it is handed.
 fn signed_elsewhere(alloc: Global, aad: &[u8]) -> Result<CoseSign, Met> {
-    let built = CoseSignBuilder::new(alloc).try_add_detached_signature(
-        alloc,
-        signer(alloc),
-        b"hi",
-        aad,
-        move |data| echo(alloc, data),
+    let built = watched!(
+        asked,
+        CoseSignBuilder::new(alloc).try_add_detached_signature(
+            alloc,
+            signer(alloc),
+            b"hi",
+            aad,
+            move |data| echo(alloc, data, asked),
+        )
     )?;
     Ok(built.build())
 }
@@ -258,29 +281,32 @@ pub(crate) fn sign_is_verified_elsewhere(alloc: Global) -> Result<bool, Met> {
     is_verified_elsewhere(alloc, signed_elsewhere(alloc, b"aad"))
 }
 
-/// Whether a signer that can't fail is asked where something is built, and not where memory is refused.
-pub(crate) fn sign_is_asked(alloc: Global) -> Result<bool, CoseError> {
-    let mut is_told = false;
-    let told = &mut is_told;
-    let answer = CoseSignBuilder::new(alloc).add_created_signature(
-        alloc,
-        signer(alloc),
-        &[],
-        move |_data| tell(alloc, told),
-    );
-    is_asked_for(is_told, answer.err())
+/// Whether the signature is what a signer gives that can't fail.
+pub(crate) fn sign_is_given(alloc: Global) -> Result<bool, Met> {
+    let made = LONG.to_vec(alloc)?;
+    let built = watched!(
+        asked,
+        CoseSignBuilder::new(alloc)
+            .add_created_signature(alloc, signer(alloc), &[], move |_data| give(made, asked))
+            .map_err(Fault::Cose)
+    )?;
+    Ok(built.build().signature(0) == LONG)
 }
 
-/// As `sign_is_asked`, of a payload that is carried elsewhere.
-pub(crate) fn sign_is_asked_elsewhere(alloc: Global) -> Result<bool, CoseError> {
-    let mut is_told = false;
-    let told = &mut is_told;
-    let answer = CoseSignBuilder::new(alloc).add_detached_signature(
-        alloc,
-        signer(alloc),
-        b"hi",
-        &[],
-        move |_data| tell(alloc, told),
-    );
-    is_asked_for(is_told, answer.err())
+/// As `sign_is_given`, of a payload that is carried elsewhere.
+pub(crate) fn sign_is_given_elsewhere(alloc: Global) -> Result<bool, Met> {
+    let made = LONG.to_vec(alloc)?;
+    let built = watched!(
+        asked,
+        CoseSignBuilder::new(alloc)
+            .add_detached_signature(
+                alloc,
+                signer(alloc),
+                b"hi",
+                &[],
+                move |_data| give(made, asked),
+            )
+            .map_err(Fault::Cose)
+    )?;
+    Ok(built.build().signature(0) == LONG)
 }

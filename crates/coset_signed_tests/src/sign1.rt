@@ -1,7 +1,7 @@
 //! Messages with one signature. Expected bytes and texts are written out by hand.
 use crate::tools::{
-    Message, Met, UNFIT, echo, equal, es256, gives, is_asked_for, is_elsewhere, is_verified,
-    is_verified_elsewhere, never, repeated, same, tell, writes, writes_untagged,
+    LONG, Message, Met, UNFIT, echo, equal, es256, give, gives, is_elsewhere, is_verified,
+    is_verified_elsewhere, never, repeated, same, watched, writes, writes_untagged,
 };
 use coset_headers::{CoseSignature, Header};
 use coset_labels::{CoseError, Fault};
@@ -53,7 +53,14 @@ impl Message for CoseSign1 {
     }
 
     fn verified(&self, alloc: Global, _which: usize, aad: &[u8]) -> Result<(), Met> {
-        self.verify_signature(alloc, aad, equal)
+        watched!(
+            asked,
+            self.verify_signature(
+                alloc,
+                aad,
+                move |signature, data| equal(signature, data, asked)
+            )
+        )
     }
 
     fn verified_elsewhere(
@@ -65,7 +72,15 @@ impl Message for CoseSign1 {
     ) -> Result<(), Met> {
         match &self.payload {
             Some(_) => Err(Fault::Caller(UNFIT)),
-            None => self.verify_detached_signature(alloc, payload, aad, equal),
+            None => watched!(
+                asked,
+                self.verify_detached_signature(
+                    alloc,
+                    payload,
+                    aad,
+                    move |signature, data| equal(signature, data, asked),
+                )
+            ),
         }
     }
 
@@ -107,7 +122,10 @@ fn a_message_is_signed_and_written(rt: HostRuntime) {
 
 /// What is built with a signer that gives what it is handed.
 fn signed(alloc: Global, builder: CoseSign1Builder, aad: &[u8]) -> Result<CoseSign1, Met> {
-    let built = builder.try_create_signature(alloc, aad, move |data| echo(alloc, data))?;
+    let built = watched!(
+        asked,
+        builder.try_create_signature(alloc, aad, move |data| echo(alloc, data, asked))
+    )?;
     Ok(built.build())
 }
 
@@ -126,11 +144,19 @@ fn signed_elsewhere(
     signature: Vec<u8>,
     aad: &[u8],
 ) -> Result<CoseSign1, Met> {
-    let built = CoseSign1Builder::new(alloc)
+    let builder = CoseSign1Builder::new(alloc)
         .protected(protected)
         .unprotected(unprotected)
-        .signature(signature)
-        .try_create_detached_signature(alloc, b"hi", aad, move |data| echo(alloc, data))?;
+        .signature(signature);
+    let built = watched!(
+        asked,
+        builder.try_create_detached_signature(
+            alloc,
+            b"hi",
+            aad,
+            move |data| echo(alloc, data, asked),
+        )
+    )?;
     Ok(built.build())
 }
 
@@ -175,9 +201,6 @@ fn a_payload_is_carried_elsewhere(rt: HostRuntime) {
     writes_untagged(&rt, alloc, built_elsewhere(&rt, alloc), "8440a0f64107");
 }
 
-/// A payload of 300 bytes, so that a signer which gives what it is handed gives more.
-pub(crate) const LONG: &[u8] = &[7; 300];
-
 /// Whether a message is built with a signer that gives what it is handed, and verified.
 pub(crate) fn sign1_is_verified(alloc: Global) -> Result<bool, Met> {
     let payload = LONG.to_vec(alloc)?;
@@ -192,29 +215,28 @@ pub(crate) fn sign1_is_verified_elsewhere(alloc: Global) -> Result<bool, Met> {
     is_verified_elsewhere(alloc, signed)
 }
 
-/// Whether a signer that can't fail is asked where something is built, and not where memory is refused.
-pub(crate) fn sign1_is_asked(alloc: Global) -> Result<bool, CoseError> {
-    let mut is_told = false;
-    let told = &mut is_told;
-    let answer = CoseSign1Builder::new(alloc).create_signature(
-        alloc,
-        &[],
-        move |_data| tell(alloc, told),
-    );
-    is_asked_for(is_told, answer.err())
+/// Whether the signature is what a signer gives that can't fail.
+pub(crate) fn sign1_is_given(alloc: Global) -> Result<bool, Met> {
+    let made = LONG.to_vec(alloc)?;
+    let built = watched!(
+        asked,
+        CoseSign1Builder::new(alloc)
+            .create_signature(alloc, &[], move |_data| give(made, asked))
+            .map_err(Fault::Cose)
+    )?;
+    Ok(built.build().signature.as_slice() == LONG)
 }
 
-/// As `sign1_is_asked`, of a payload that is carried elsewhere.
-pub(crate) fn sign1_is_asked_elsewhere(alloc: Global) -> Result<bool, CoseError> {
-    let mut is_told = false;
-    let told = &mut is_told;
-    let answer = CoseSign1Builder::new(alloc).create_detached_signature(
-        alloc,
-        b"hi",
-        &[],
-        move |_data| tell(alloc, told),
-    );
-    is_asked_for(is_told, answer.err())
+/// As `sign1_is_given`, of a payload that is carried elsewhere.
+pub(crate) fn sign1_is_given_elsewhere(alloc: Global) -> Result<bool, Met> {
+    let made = LONG.to_vec(alloc)?;
+    let built = watched!(
+        asked,
+        CoseSign1Builder::new(alloc)
+            .create_detached_signature(alloc, b"hi", &[], move |_data| give(made, asked))
+            .map_err(Fault::Cose)
+    )?;
+    Ok(built.build().signature.as_slice() == LONG)
 }
 
 /// What is met where a message is not verified, as an error of any kind.

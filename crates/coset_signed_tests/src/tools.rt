@@ -16,8 +16,9 @@ pub(crate) const MISMATCH: CoseError = CoseError::UnexpectedItem("a signature", 
 /// The error of a message that has no such signature, or a payload of its own where it should be carried elsewhere.
 pub(crate) const UNFIT: CoseError = CoseError::UnexpectedItem("a message", "another one");
 
-/// A verifier that wants a signature that is what it covers.
-pub(crate) fn equal(signature: &[u8], data: &[u8]) -> Result<(), CoseError> {
+/// A verifier that wants a signature that is what it covers, and tells that it was asked.
+pub(crate) fn equal(signature: &[u8], data: &[u8], asked: &mut bool) -> Result<(), CoseError> {
+    *asked = true;
     if signature == data {
         Ok(())
     } else {
@@ -72,15 +73,42 @@ pub(crate) fn gives<E: Debug + Drop>(
 /// Two texts of bytes in hex.
 pub(crate) type Row = (&'static str, &'static str);
 
-/// A signer that gives what it is handed.
-pub(crate) fn echo(alloc: Global, data: &[u8]) -> Result<Vec<u8>, CoseError> {
+/// 300 bytes: a payload, so that a signer which gives what it is handed gives more, or what a signer gives.
+pub(crate) const LONG: &[u8] = &[7; 300];
+
+/// The error of a call that asked and then met a fault of its own, or answered for a closure that it hadn't asked.
+const UNTRUE: CoseError = CoseError::UnexpectedItem("a call", "another one");
+
+/// What a call answers, where its closure was asked exactly if the answer isn't the call's own fault, such as want of memory.
+pub(crate) fn watch<T: Drop>(is_asked: bool, answer: Result<T, Met>) -> Result<T, Met> {
+    if is_asked == matches!(answer, Err(Fault::Cose(_))) {
+        return Err(Fault::Caller(UNTRUE));
+    }
+    answer
+}
+
+/// What a call answers whose closure sets this flag: `watched!(asked, CALL)`.
+macro_rules! watched {
+    ($asked:ident, $call:expr) => {{
+        let mut is_asked = false;
+        let $asked = &mut is_asked;
+        let answer = $call;
+        $crate::tools::watch(is_asked, answer)
+    }};
+}
+
+pub(crate) use watched;
+
+/// A signer that gives what it is handed, and tells that it was asked.
+pub(crate) fn echo(alloc: Global, data: &[u8], asked: &mut bool) -> Result<Vec<u8>, CoseError> {
+    *asked = true;
     Ok(data.to_vec(alloc)?)
 }
 
-/// A signer that gives nothing, and tells that it was asked.
-pub(crate) fn tell(alloc: Global, told: &mut bool) -> Vec<u8> {
-    *told = true;
-    Vec::new(alloc)
+/// A signer that gives these bytes, and tells that it was asked.
+pub(crate) fn give(made: Vec<u8>, asked: &mut bool) -> Vec<u8> {
+    *asked = true;
+    made
 }
 
 /// A signed message, as the tests see it. Where it has one signature, that is the one at 0.
@@ -307,14 +335,5 @@ pub(crate) fn is_verified_elsewhere<T: Message>(
     match signed {
         Ok(message) => is_verified_without(alloc, &message),
         Err(error) => Err(error),
-    }
-}
-
-/// Whether a signer was asked where something was built, and not where memory was refused.
-pub(crate) fn is_asked_for(is_asked: bool, error: Option<CoseError>) -> Result<bool, CoseError> {
-    match error {
-        None => Ok(is_asked),
-        Some(_) if is_asked => Ok(false),
-        Some(error) => Err(error),
     }
 }
