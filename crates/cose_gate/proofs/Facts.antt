@@ -127,8 +127,7 @@ module _ {T S : Type 0} (rules : Rules T S) where
           subst (λ (l : Option (List ℕ)). IfKnown l (λ a. new.left ≡ Some [])) is o.ended,
         )
         stops (Err (Decode (de.Io e))) o =
-            let f = fault_here o.more (de.Io e) o.fault in
-            (
+            let f = fault_here o.more (de.Io e) o.fault in (
               λ t. rest_at o.steps o.more (de.Io e) o.course (damaged _ _ o.more _ (f t).0) f t,
               λ t. end_at o.steps o.more e o.course (damaged _ _ o.more _ (f t).0) o.behind t,
             )
