@@ -1,4 +1,4 @@
-//! The laws of parts, each at a concrete type.
+//! The laws of parts, each called at a concrete type: that the calls are proved is the test.
 use ciborium_typed::laws::{
     accepted_values_are_taken_back, accepted_values_compare, captured_values_are_taken_back,
     captured_values_compare, lists_are_taken_back, maps_are_taken_back, options_are_taken_back,
