@@ -7,7 +7,8 @@
 #   memory                the C test under ASan, under valgrind, and with each malloc refused in turn, over the worked examples and 1,000
 #                         mutated ones; stack, archive and time to link
 #   all                   all of these (what stands where no word is given)
-# Status 1 where something differs. Everything that it makes lies in crates/cose_gate_c/out.
+# Status 1 where something differs. What it makes lies in crates/cose_gate_c/out; beside that `go` makes examples/go/lib, `rust`
+# examples/rust/Cargo.lock, `python` examples/python/__pycache__, and `compare` builds the program in its own out/.
 set -eu
 top=$(cd "$(dirname "$(readlink -f "${BASH_SOURCE[0]}")")/.." && pwd)
 what=${1:-all}
