@@ -1,5 +1,5 @@
 //! Writers over memory.
-ghost use Rattle.std.specs.Prelude.{◌≡◌, ◌<◌, ◌-◌, ◌++◌, Some, OnOk, OnErr, take, length};
+ghost use Rattle.std.specs.Prelude.{◌≡◌, ◌<◌, ◌-◌, ◌++◌, Some, OnOk, OnErr, take, drop, length};
 ghost use Rattle.std.specs.Io.KnownBytes.{Keeps, Appends};
 ghost use Rattle.ciborium_ll.specs.Device.{AppendsFront, write_failures};
 
@@ -122,6 +122,8 @@ impl Write for Mem<&mut [u8]> {
         ensures untouched { OnErr result
             (((memory_of self.new).now ≡ (memory_of self.old).now)
             × (taken_of self.new ≡ taken_of self.old)) }
+        ensures behind { OnOk result (drop (taken_of self.new) (memory_of self.new).now
+            ≡ drop (taken_of self.new) (memory_of self.old).now) }
         ensures full { OnErr result (room_of self.old < length «data».now) }
         ensures room { OnOk result (room_of self.new ≡ room_of self.old - length «data».now) }
         ensures failed { memory_failures self.new ≡ write_failures result

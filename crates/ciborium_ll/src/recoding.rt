@@ -1,5 +1,5 @@
 //! Copies heads and strings to shortest titles.
-ghost use Rattle.std.specs.Prelude.{◌≡◌, ◌≢◌, ◌≤◌, ◌+◌, [], ℕ, length, OnOk, IfErr, None};
+ghost use Rattle.std.specs.Prelude.{◌≡◌, ◌≢◌, ◌<◌, ◌≤◌, ◌+◌, [], ℕ, length, OnOk, IfErr, None};
 ghost use Rattle.ciborium_ll.specs.Views.{waiting_of};
 ghost use Rattle.ciborium_ll.specs.Sent.{sides, sides_in};
 ghost use Rattle.ciborium_ll.specs.declared.stage.Stage.TheVariants.{Stuck};
@@ -134,6 +134,7 @@ pub fn recode<R: Read, W: Write>(
     ensures steady { CopySteady R.ends result
         (sides R.Read W.Write decoder.old encoder.old)
         (sides R.Read W.Write decoder.new encoder.new) }
+    ensures fresh { 0 < count → waiting_of decoder.new ≡ None }
 {
     for _ in 0..count {
         match copy_one(decoder, encoder, buffer) {

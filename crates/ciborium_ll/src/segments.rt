@@ -1,8 +1,8 @@
 //! Strings that are read in pieces (RFC 8949, section 3.2.3).
-ghost use Rattle.std.specs.Prelude.{◌≡◌, ◌≢◌, ◌<◌, ◌≤◌, ◌-◌, ◌^◌, ℕ, min, length, [], OnErr, IfOk, IfErr, IfSome, IfNone};
+ghost use Rattle.std.specs.Prelude.{◌≡◌, ◌≢◌, ◌<◌, ◌≤◌, ◌-◌, ◌^◌, ℕ, min, length, [], OnOk, OnErr, IfOk, IfErr, IfSome, IfNone};
 ghost use Rattle.ciborium_ll.specs.Reading.{IfRefused};
 ghost use Rattle.ciborium_ll.specs.Seen.{Takes, Steady, ReadTells};
-ghost use Rattle.ciborium_ll.specs.Stages.{Progress, StageTells, StageStops, FindsEnd, Nears, HasRoom, stage_of};
+ghost use Rattle.ciborium_ll.specs.Stages.{Progress, StageTells, StageStops, FindsEnd, Nears, HasRoom, opens, stage_of};
 ghost use Rattle.ciborium_ll.specs.declared.stage.Stage.TheVariants.{Inside, Stuck};
 ghost use Rattle.ciborium_ll.specs.declared.hdr.Error.TheVariants.{Syntax, Waiting};
 
@@ -77,6 +77,7 @@ impl<'r, R: Read, P: StringKind> Segments<'r, R, P> {
     ghost use Rattle.ciborium_ll.specs.Segments.{decoder_of, name_of, stage_at, seen_in, progress, string_of, lent_name, body_of};
     ghost use Rattle.ciborium_ll.specs.Segments.{IfSegment, IfNoSegment, IfFault};
     ghost use Rattle.ciborium_ll.specs.Bodies.{FindsBody};
+    ghost use Rattle.ciborium_ll.specs.Views.{waiting_of};
 
     /// Goes on to the next body, or gives none at the end of the string, and then always.
     ///
@@ -99,6 +100,8 @@ impl<'r, R: Read, P: StringKind> Segments<'r, R, P> {
         ensures unstuck { IfOk result (λ o. IfSome o
             (λ body. (p : ℕ) → stage_at self.new ≢ Stuck p)) }
         ensures room { HasRoom (progress R.Read self.old) (progress R.Read self.new) }
+        ensures fresh { 0 < opens (stage_at self.old)
+            → OnOk result (waiting_of (decoder_of self.new) ≡ None) }
         ensures done { stage_at self.old ≡ Inside 0
             → (result ≡ Ok None) × (stage_at self.new ≡ stage_at self.old)
             × (decoder_of self.new ≡ decoder_of self.old) }
@@ -149,7 +152,7 @@ impl<'r, R: Read, P: StringKind> Segments<'r, R, P> {
 impl<'r, R: Read> Segments<'r, R, Bytes> {
     ghost use Rattle.ciborium_ll.specs.Segments.{decoder_of, name_of, stage_at, place_at, seen_in};
     ghost use Rattle.ciborium_ll.specs.Bodies.{unread_of, saved_of, piece_len, TakesBytes};
-    ghost use Rattle.ciborium_ll.specs.Views.{waiting_of};
+    ghost use Rattle.ciborium_ll.specs.Views.{waiting_of, shortest_of};
 
     /// The next piece of the body, at the front of the buffer: as many bytes as the buffer holds or the body has left. None
     /// at the end of the body.
@@ -168,6 +171,7 @@ impl<'r, R: Read> Segments<'r, R, Bytes> {
             (seen_in R.Read self.new) piece.now)) }
         ensures none { IfOk result (λ o. IfNone o
             ((unread_of body.old ≡ 0) × (body.new ≡ body.old) × (self.new ≡ self.old))) }
+        ensures ended { unread_of body.old ≡ 0 → result ≡ Ok None }
         ensures fault { IfErr result (ReadTells R.ends (piece_len body.old (length buffer.old))
             (seen_in R.Read self.old) (seen_in R.Read self.new)) }
         ensures err { OnErr result ((body.new ≡ body.old)
@@ -176,6 +180,7 @@ impl<'r, R: Read> Segments<'r, R, Bytes> {
         ensures waiting { waiting_of (decoder_of self.old) ≢ None → 0 < unread_of body.old
             → result ≡ Err Waiting }
         ensures saved { saved_of body.new ≡ saved_of body.old }
+        ensures same { shortest_of (decoder_of self.new) ≡ shortest_of (decoder_of self.old) }
         ensures steady { Steady R.ends result (seen_in R.Read self.old) (seen_in R.Read self.new) }
     {
         if body.unread == 0 {
@@ -192,7 +197,7 @@ impl<'r, R: Read> Segments<'r, R, Bytes> {
 impl<'s, 'r, R: Read> Segment<'s, 'r, R, Bytes> {
     ghost use Rattle.ciborium_ll.specs.Segments.{decoder_of, name_of, stage_at, place_at, seen_in, string_of, lent_name, body_of};
     ghost use Rattle.ciborium_ll.specs.Bodies.{unread_of, saved_of, piece_len, TakesBytes};
-    ghost use Rattle.ciborium_ll.specs.Views.{waiting_of};
+    ghost use Rattle.ciborium_ll.specs.Views.{waiting_of, shortest_of};
 
     /// The next piece of the segment, at the front of the buffer: as many bytes as the buffer holds or the segment has left.
     /// None at the end of the segment.
@@ -209,6 +214,7 @@ impl<'s, 'r, R: Read> Segment<'s, 'r, R, Bytes> {
             (seen_in R.Read (string_of self.new)) piece.now)) }
         ensures none { IfOk result (λ o. IfNone o
             ((unread_of (body_of self.old) ≡ 0) × (self.new ≡ self.old))) }
+        ensures ended { unread_of (body_of self.old) ≡ 0 → result ≡ Ok None }
         ensures fault { IfErr result (ReadTells R.ends
             (piece_len (body_of self.old) (length buffer.old))
             (seen_in R.Read (string_of self.old)) (seen_in R.Read (string_of self.new))) }
@@ -219,6 +225,8 @@ impl<'s, 'r, R: Read> Segment<'s, 'r, R, Bytes> {
         ensures waiting { waiting_of (decoder_of (string_of self.old)) ≢ None
             → 0 < unread_of (body_of self.old) → result ≡ Err Waiting }
         ensures saved { saved_of (body_of self.new) ≡ saved_of (body_of self.old) }
+        ensures same { shortest_of (decoder_of (string_of self.new))
+            ≡ shortest_of (decoder_of (string_of self.old)) }
         ensures steady { Steady R.ends result (seen_in R.Read (string_of self.old))
             (seen_in R.Read (string_of self.new)) }
     {
@@ -241,7 +249,7 @@ impl<'s, 'r, R: Read, P: StringKind> Segment<'s, 'r, R, P> {
 impl<'r, R: Read> Segments<'r, R, Text> {
     ghost use Rattle.ciborium_ll.specs.Segments.{decoder_of, name_of, stage_at, seen_in, progress};
     ghost use Rattle.ciborium_ll.specs.Bodies.{start_of, bytes_of, IsPiece, Fills, TextTells, TextStops};
-    ghost use Rattle.ciborium_ll.specs.Views.{waiting_of};
+    ghost use Rattle.ciborium_ll.specs.Views.{waiting_of, shortest_of};
 
     /// The next piece of the body, at the front of the buffer: whole characters, so up to three bytes fewer than the buffer
     /// holds or the body has left. None at the end of the body. In a buffer of fewer than 4 bytes the piece is empty.
@@ -263,6 +271,8 @@ impl<'r, R: Read> Segments<'r, R, Text> {
             (λ piece. Fills body.old (length buffer.old) piece.now)) }
         ensures none { IfOk result (λ o. IfNone o
             ((bytes_of body.old ≡ 0) × (body.new ≡ body.old) × (self.new ≡ self.old))) }
+        ensures ended { bytes_of body.old ≡ 0 → ((p : ℕ) → stage_at self.old ≢ Stuck p)
+            → result ≡ Ok None }
         ensures fault { IfErr result (TextTells R.ends body.old body.new (length buffer.old)
             (progress R.Read self.old) (progress R.Read self.new)) }
         ensures stops { IfErr result (TextStops body.old body.new (progress R.Read self.old)
@@ -275,6 +285,7 @@ impl<'r, R: Read> Segments<'r, R, Text> {
             → ((p : ℕ) → stage_at self.old ≢ Stuck p) → result ≡ Err Waiting }
         ensures stuck { (p : ℕ) → stage_at self.old ≡ Stuck p
             → (result ≡ Err (Syntax p)) × (body.new ≡ body.old) × (self.new ≡ self.old) }
+        ensures same { shortest_of (decoder_of self.new) ≡ shortest_of (decoder_of self.old) }
         ensures steady { Steady R.ends result (seen_in R.Read self.old) (seen_in R.Read self.new) }
     {
         if let Stage::Stuck(place) = self.stage {
@@ -303,7 +314,7 @@ impl<'r, R: Read> Segments<'r, R, Text> {
 impl<'s, 'r, R: Read> Segment<'s, 'r, R, Text> {
     ghost use Rattle.ciborium_ll.specs.Segments.{decoder_of, name_of, stage_at, seen_in, progress, string_of, lent_name, body_of};
     ghost use Rattle.ciborium_ll.specs.Bodies.{start_of, bytes_of, IsPiece, Fills, TextTells, TextStops};
-    ghost use Rattle.ciborium_ll.specs.Views.{waiting_of};
+    ghost use Rattle.ciborium_ll.specs.Views.{waiting_of, shortest_of};
 
     /// The next piece of the segment, at the front of the buffer: whole characters, so up to three bytes fewer than the
     /// buffer holds or the segment has left. None at the end of the segment. In a buffer of fewer than 4 bytes the piece is
@@ -324,6 +335,8 @@ impl<'s, 'r, R: Read> Segment<'s, 'r, R, Text> {
             (λ piece. Fills (body_of self.old) (length buffer.old) piece.now)) }
         ensures none { IfOk result (λ o. IfNone o
             ((bytes_of (body_of self.old) ≡ 0) × (self.new ≡ self.old))) }
+        ensures ended { bytes_of (body_of self.old) ≡ 0
+            → ((p : ℕ) → stage_at (string_of self.old) ≢ Stuck p) → result ≡ Ok None }
         ensures fault { IfErr result (TextTells R.ends (body_of self.old) (body_of self.new)
             (length buffer.old)
             (progress R.Read (string_of self.old)) (progress R.Read (string_of self.new))) }
@@ -338,6 +351,8 @@ impl<'s, 'r, R: Read> Segment<'s, 'r, R, Text> {
             → ((p : ℕ) → stage_at (string_of self.old) ≢ Stuck p) → result ≡ Err Waiting }
         ensures stuck { (p : ℕ) → stage_at (string_of self.old) ≡ Stuck p
             → (result ≡ Err (Syntax p)) × (self.new ≡ self.old) }
+        ensures same { shortest_of (decoder_of (string_of self.new))
+            ≡ shortest_of (decoder_of (string_of self.old)) }
         ensures steady { Steady R.ends result (seen_in R.Read (string_of self.old))
             (seen_in R.Read (string_of self.new)) }
     {

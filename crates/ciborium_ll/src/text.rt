@@ -3,7 +3,7 @@ ghost use Rattle.std.specs.Prelude.{◌≡◌, ◌≢◌, ◌+◌, ◌≤◌, �
 ghost use Rattle.ciborium_ll.specs.declared.hdr.Error.TheVariants.{Waiting};
 ghost use Rattle.ciborium_ll.specs.Reading.{IfRefused};
 ghost use Rattle.ciborium_ll.specs.Seen.{Takes, Steady, ReadTells};
-ghost use Rattle.ciborium_ll.specs.Views.{offset_of, waiting_of, seen};
+ghost use Rattle.ciborium_ll.specs.Views.{offset_of, waiting_of, shortest_of, seen};
 ghost use Rattle.ciborium_ll.specs.Bodies.{saved_bytes, unread_of, saved_of, start_of, more_of};
 
 use crate::body::{Body, Saved};
@@ -32,6 +32,7 @@ pub(crate) fn fill<R: Read>(
         × (offset_of decoder.new ≡ offset_of decoder.old)) }
     ensures untouched { IfRefused result (decoder.new ≡ decoder.old) }
     ensures waiting { waiting_of decoder.old ≢ None → result ≡ Err Waiting }
+    ensures same { shortest_of decoder.new ≡ shortest_of decoder.old }
     ensures steady { Steady R.ends result (seen R.Read decoder.old) (seen R.Read decoder.new) }
 {
     body.saved.put(buffer);
