@@ -1,8 +1,10 @@
 //! Strings that are read in pieces (RFC 8949, section 3.2.3).
-ghost use Rattle.std.specs.Prelude.{◌≡◌, ◌≢◌, ◌<◌, ◌≤◌, ◌-◌, ◌^◌, ℕ, min, length, [], OnOk, OnErr, IfOk, IfErr, IfSome, IfNone};
+ghost use Rattle.std.specs.Prelude.{◌≡◌, ◌≢◌, ◌<◌, ◌≤◌, ◌-◌, ◌^◌, ℕ, min, length, [], OnOk, OnErr};
+ghost use Rattle.std.specs.Prelude.{IfOk, IfErr, IfSome, IfNone};
 ghost use Rattle.ciborium_ll.specs.Reading.{IfRefused};
 ghost use Rattle.ciborium_ll.specs.Seen.{Takes, Steady, ReadTells};
-ghost use Rattle.ciborium_ll.specs.Stages.{Progress, StageTells, StageStops, FindsEnd, Nears, HasRoom, opens, stage_of};
+ghost use Rattle.ciborium_ll.specs.Stages.{Progress, StageTells, StageStops, FindsEnd, Nears};
+ghost use Rattle.ciborium_ll.specs.Stages.{HasRoom, opens, stage_of};
 ghost use Rattle.ciborium_ll.specs.declared.stage.Stage.TheVariants.{Inside, Stuck};
 ghost use Rattle.ciborium_ll.specs.declared.hdr.Error.TheVariants.{Syntax, Waiting};
 
@@ -15,11 +17,11 @@ use crate::stage::{Stage, next_body};
 use crate::text::{cut, fill};
 use std::marker::PhantomData;
 
-/// A string behind its head, read body by body: a definite string is one segment, and an open one has a segment for each
-/// definite string in it, at any depth.
+/// A string behind its head, read body by body: a definite string is one segment, and an open one
+/// has a segment for each definite string in it, at any depth.
 ///
-/// `advance` and `piece` lend nothing out, so that a proof can go on after them. `pull` and `Segment::pull` do the same
-/// steps as values that borrow.
+/// `advance` and `piece` lend nothing out, so that a proof can go on after them. `pull` and
+/// `Segment::pull` do the same steps as values that borrow.
 #[derive(Drop)]
 pub struct Segments<'r, R, P> {
     decoder: &'r mut Decoder<R>,
@@ -74,7 +76,8 @@ impl<'r, R, P> Segments<'r, R, P> {
 }
 
 impl<'r, R: Read, P: StringKind> Segments<'r, R, P> {
-    ghost use Rattle.ciborium_ll.specs.Segments.{decoder_of, name_of, stage_at, seen_in, progress, string_of, lent_name, body_of};
+    ghost use Rattle.ciborium_ll.specs.Segments.{decoder_of, name_of, stage_at, seen_in, progress};
+    ghost use Rattle.ciborium_ll.specs.Segments.{string_of, lent_name, body_of};
     ghost use Rattle.ciborium_ll.specs.Segments.{IfSegment, IfNoSegment, IfFault};
     ghost use Rattle.ciborium_ll.specs.Bodies.{FindsBody};
     ghost use Rattle.ciborium_ll.specs.Views.{waiting_of};
@@ -82,9 +85,10 @@ impl<'r, R: Read, P: StringKind> Segments<'r, R, P> {
     /// Goes on to the next body, or gives none at the end of the string, and then always.
     ///
     /// # Errors
-    /// `Syntax` with the place of a head that the string can't hold, and then always. `Io` for a fault of the reader, an end
-    /// of the bytes among them. `TooLong` where the offset could pass `usize::MAX`. After these two the string is as far open
-    /// as the heads say that were taken, so it can't be taken for whole.
+    /// `Syntax` with the place of a head that the string can't hold, and then always. `Io` for a
+    /// fault of the reader, an end of the bytes among them. `TooLong` where the offset could pass
+    /// `usize::MAX`. After these two the string is as far open as the heads say that were taken, so
+    /// it can't be taken for whole.
     pub fn advance(&mut self) -> Result<Option<Body>, Error<R::Error>>
         ensures same_reference { name_of self.new ≡ name_of self.old }
         ensures some { IfOk result (λ o. IfSome o
@@ -154,8 +158,8 @@ impl<'r, R: Read> Segments<'r, R, Bytes> {
     ghost use Rattle.ciborium_ll.specs.Bodies.{unread_of, saved_of, piece_len, TakesBytes};
     ghost use Rattle.ciborium_ll.specs.Views.{waiting_of, shortest_of};
 
-    /// The next piece of the body, at the front of the buffer: as many bytes as the buffer holds or the body has left. None
-    /// at the end of the body.
+    /// The next piece of the body, at the front of the buffer: as many bytes as the buffer holds or
+    /// the body has left. None at the end of the body.
     ///
     /// # Errors
     /// Those of `Decoder::read_exact`; the body stays as it is.
@@ -195,12 +199,13 @@ impl<'r, R: Read> Segments<'r, R, Bytes> {
 }
 
 impl<'s, 'r, R: Read> Segment<'s, 'r, R, Bytes> {
-    ghost use Rattle.ciborium_ll.specs.Segments.{decoder_of, name_of, stage_at, place_at, seen_in, string_of, lent_name, body_of};
+    ghost use Rattle.ciborium_ll.specs.Segments.{decoder_of, name_of, stage_at, place_at, seen_in};
+    ghost use Rattle.ciborium_ll.specs.Segments.{string_of, lent_name, body_of};
     ghost use Rattle.ciborium_ll.specs.Bodies.{unread_of, saved_of, piece_len, TakesBytes};
     ghost use Rattle.ciborium_ll.specs.Views.{waiting_of, shortest_of};
 
-    /// The next piece of the segment, at the front of the buffer: as many bytes as the buffer holds or the segment has left.
-    /// None at the end of the segment.
+    /// The next piece of the segment, at the front of the buffer: as many bytes as the buffer holds
+    /// or the segment has left. None at the end of the segment.
     ///
     /// # Errors
     /// Those of `Decoder::read_exact`; nothing is lost of the segment.
@@ -248,15 +253,17 @@ impl<'s, 'r, R: Read, P: StringKind> Segment<'s, 'r, R, P> {
 
 impl<'r, R: Read> Segments<'r, R, Text> {
     ghost use Rattle.ciborium_ll.specs.Segments.{decoder_of, name_of, stage_at, seen_in, progress};
-    ghost use Rattle.ciborium_ll.specs.Bodies.{start_of, bytes_of, IsPiece, Fills, TextTells, TextStops};
+    ghost use Rattle.ciborium_ll.specs.Bodies.{start_of, bytes_of, IsPiece, Fills, TextTells};
+    ghost use Rattle.ciborium_ll.specs.Bodies.{TextStops};
     ghost use Rattle.ciborium_ll.specs.Views.{waiting_of, shortest_of};
 
-    /// The next piece of the body, at the front of the buffer: whole characters, so up to three bytes fewer than the buffer
-    /// holds or the body has left. None at the end of the body. In a buffer of fewer than 4 bytes the piece is empty.
+    /// The next piece of the body, at the front of the buffer: whole characters, so up to three
+    /// bytes fewer than the buffer holds or the body has left. None at the end of the body. In a
+    /// buffer of fewer than 4 bytes the piece is empty.
     ///
     /// # Errors
-    /// `Syntax` with the segment's place where the body is no UTF-8, and then always. Those of `Decoder::read_exact`; the
-    /// body stays as it is then.
+    /// `Syntax` with the segment's place where the body is no UTF-8, and then always. Those of
+    /// `Decoder::read_exact`; the body stays as it is then.
     pub fn piece<'a>(
         &mut self,
         body: &mut Body,
@@ -312,17 +319,19 @@ impl<'r, R: Read> Segments<'r, R, Text> {
 }
 
 impl<'s, 'r, R: Read> Segment<'s, 'r, R, Text> {
-    ghost use Rattle.ciborium_ll.specs.Segments.{decoder_of, name_of, stage_at, seen_in, progress, string_of, lent_name, body_of};
-    ghost use Rattle.ciborium_ll.specs.Bodies.{start_of, bytes_of, IsPiece, Fills, TextTells, TextStops};
+    ghost use Rattle.ciborium_ll.specs.Segments.{decoder_of, name_of, stage_at, seen_in, progress};
+    ghost use Rattle.ciborium_ll.specs.Segments.{string_of, lent_name, body_of};
+    ghost use Rattle.ciborium_ll.specs.Bodies.{start_of, bytes_of, IsPiece, Fills, TextTells};
+    ghost use Rattle.ciborium_ll.specs.Bodies.{TextStops};
     ghost use Rattle.ciborium_ll.specs.Views.{waiting_of, shortest_of};
 
-    /// The next piece of the segment, at the front of the buffer: whole characters, so up to three bytes fewer than the
-    /// buffer holds or the segment has left. None at the end of the segment. In a buffer of fewer than 4 bytes the piece is
-    /// empty.
+    /// The next piece of the segment, at the front of the buffer: whole characters, so up to three
+    /// bytes fewer than the buffer holds or the segment has left. None at the end of the segment.
+    /// In a buffer of fewer than 4 bytes the piece is empty.
     ///
     /// # Errors
-    /// `Syntax` with the segment's place where it is no UTF-8, and then always. Those of `Decoder::read_exact`; nothing is
-    /// lost of the segment then.
+    /// `Syntax` with the segment's place where it is no UTF-8, and then always. Those of
+    /// `Decoder::read_exact`; nothing is lost of the segment then.
     pub fn pull<'a>(&mut self, buffer: &'a mut [u8]) -> Result<Option<&'a str>, Error<R::Error>>
         ensures same_reference { lent_name self.new ≡ lent_name self.old }
         ensures same_decoder { name_of (string_of self.new) ≡ name_of (string_of self.old) }

@@ -1,8 +1,9 @@
 //! How far a string has been read.
 ghost use Rattle.std.specs.Prelude.{ℕ, ◌≡◌, ◌≢◌, ◌<◌, OnOk, IfOk, IfErr, IfSome, IfNone};
 ghost use Rattle.ciborium_ll.specs.Seen.{Steady};
-ghost use Rattle.ciborium_ll.specs.Stages.{StageTells, StageStops, FindsEnd, Nears, HasRoom, at, opens, stage_after, stage_of};
-ghost use Rattle.ciborium_ll.specs.Bodies.{unread_of, saved_of, start_of, FindsBody};
+ghost use Rattle.ciborium_ll.specs.Stages.{StageTells, StageStops, FindsEnd, Nears, HasRoom, at};
+ghost use Rattle.ciborium_ll.specs.Stages.{opens, stage_after, stage_of};
+ghost use Rattle.ciborium_ll.specs.Bodies.{FindsBody};
 ghost use Rattle.ciborium_ll.specs.declared.stage.Stage.TheVariants.{Inside, Stuck};
 ghost use Rattle.ciborium_ll.specs.declared.hdr.Error.TheVariants.{Syntax};
 ghost use Rattle.ciborium_ll.specs.Views.{seen, waiting_of};
