@@ -1,12 +1,12 @@
 //! Strings that are read in pieces (RFC 8949, section 3.2.3).
-ghost use Rattle.std.specs.Prelude.{◌≡◌, ◌≢◌, ◌<◌, ◌≤◌, ◌-◌, ◌^◌, ℕ, min, length, [], OnOk, OnErr};
+ghost use Rattle.std.specs.Prelude.{◌≡◌, ◌≢◌, ◌<◌, ◌≤◌, ◌-◌, ◌^◌, ℕ, min, length, [], OnErr};
 ghost use Rattle.std.specs.Prelude.{IfOk, IfErr, IfSome, IfNone};
 ghost use Rattle.ciborium_ll.specs.Reading.{IfRefused};
 ghost use Rattle.ciborium_ll.specs.Seen.{Takes, Steady, ReadTells};
 ghost use Rattle.ciborium_ll.specs.Stages.{Progress, StageTells, StageStops, FindsEnd, Nears};
 ghost use Rattle.ciborium_ll.specs.Stages.{HasRoom, opens, stage_of};
 ghost use Rattle.ciborium_ll.specs.declared.stage.Stage.TheVariants.{Inside, Stuck};
-ghost use Rattle.ciborium_ll.specs.declared.hdr.Error.TheVariants.{Syntax, Waiting};
+ghost use Rattle.ciborium_ll.specs.declared.hdr.Error.TheVariants.{Syntax, TooLong, Waiting};
 
 use crate::body::Body;
 use crate::dec::Decoder;
@@ -105,7 +105,8 @@ impl<'r, R: Read, P: StringKind> Segments<'r, R, P> {
             (λ body. (p : ℕ) → stage_at self.new ≢ Stuck p)) }
         ensures room { HasRoom (progress R.Read self.old) (progress R.Read self.new) }
         ensures fresh { 0 < opens (stage_at self.old)
-            → OnOk result (waiting_of (decoder_of self.new) ≡ None) }
+            → result ≢ Err TooLong → waiting_of (decoder_of self.new) ≡ None }
+        ensures kept { opens (stage_at self.old) ≡ 0 → decoder_of self.new ≡ decoder_of self.old }
         ensures done { stage_at self.old ≡ Inside 0
             → (result ≡ Ok None) × (stage_at self.new ≡ stage_at self.old)
             × (decoder_of self.new ≡ decoder_of self.old) }
@@ -140,6 +141,10 @@ impl<'r, R: Read, P: StringKind> Segments<'r, R, P> {
         ensures moved { IfSegment result
             (λ s. Nears (progress R.Read self.old) (progress R.Read (string_of s))) }
         ensures unstuck { IfSegment result (λ s. (p : ℕ) → stage_at (string_of s) ≢ Stuck p) }
+        ensures fresh { 0 < opens (stage_at self.old)
+            → IfSegment result (λ s. waiting_of (decoder_of (string_of s)) ≡ None) }
+        ensures kept { opens (stage_at self.old) ≡ 0
+            → IfSegment result (λ s. decoder_of (string_of s) ≡ decoder_of self.old) }
         ensures steady { IfSegment result
             (λ s. Steady R.ends result (seen_in R.Read self.old) (seen_in R.Read (string_of s))) }
     {
