@@ -211,8 +211,8 @@ impl<R: Read> Decoder<R> {
     /// Whether the title that `pull` last read is the one that `Encoder::push` writes for its
     /// header, the shortest (RFC 8949, section 4.1). True before the first title.
     ///
-    /// A header that is pushed back and pulled again changes nothing. After an error of `pull` the
-    /// answer is open.
+    /// A header that is pushed back and pulled again changes nothing, nor do bytes that are read.
+    /// After an error of `pull`, and behind strings that are open, `recode` and items, it is open.
     pub fn was_shortest(&self) -> bool
         ensures { result ≡ shortest_of self.now }
     {

@@ -82,7 +82,8 @@ impl<'r, R: Read, P: StringKind> Segments<'r, R, P> {
     ghost use Rattle.ciborium_ll.specs.Bodies.{FindsBody};
     ghost use Rattle.ciborium_ll.specs.Views.{waiting_of};
 
-    /// Goes on to the next body, or gives none at the end of the string, and then always.
+    /// Goes on to the next body, or gives none at the end of the string, and then always. Where no
+    /// string is open it leaves the decoder as it was.
     ///
     /// # Errors
     /// `Syntax` with the place of a head that the string can't hold, and then always. `Io` for a
