@@ -28,13 +28,15 @@ PAGES = {
 
 
 def passed_on(crate):
-    """The names that a crate's public modules declare by pub use, and its public modules."""
+    """The names that a crate's public modules declare or pass on by pub use, and its public modules."""
     names, modules = set(), set()
     source = CRATES / crate / "src"
     root = (source / "lib.rt").read_text(encoding="utf-8")
     modules.update(set(re.findall(r"^pub mod (\w+);", root, re.M)) - {"laws"})
     for file in [source / "lib.rt", *[source / f"{it}.rt" for it in modules]]:
-        for group in re.findall(r"^pub use ([^;]+);", file.read_text(encoding="utf-8"), re.M):
+        text = file.read_text(encoding="utf-8")
+        names.update(re.findall(r"^pub (?:struct|enum|trait) (\w+)", text, re.M))
+        for group in re.findall(r"^pub use ([^;]+);", text, re.M):
             names.update(re.findall(r"\w+", group))
     return names, modules
 

@@ -1,5 +1,5 @@
 //! Readers and writers of std.
-ghost use Rattle.std.specs.Prelude.{◌≡◌, ◌+◌, ℕ, Result};
+ghost use Rattle.std.specs.Prelude.{◌≡◌, ◌+◌, ℕ};
 ghost use Rattle.ciborium_ll.specs.Device.{read_failures};
 ghost use Rattle.ciborium_ll.specs.Fault.{is_end_fault, moved_of};
 
@@ -73,7 +73,8 @@ impl<T> Io<T> {
     }
 }
 
-/// What one answer of std's reader or writer means: it moved so many bytes, none at all, or it failed.
+/// What one answer of std's reader or writer means: it moved so many bytes, none at all, or it
+/// failed.
 fn moved(answer: io::Result<usize>) -> Result<usize, IoFault>
     ensures { result ≡ moved_of answer }
 {

@@ -1,11 +1,13 @@
 //! Reads heads and bytes.
-ghost use Rattle.std.specs.Prelude.{◌≡◌, ◌≢◌, ◌<◌, ◌≤◌, ◌+◌, ◌-◌, ◌^◌, ◌∷◌, [], ℕ, List, ⊤, OnOk, OnErr, IfOk, IfErr, IfSome, IfNone};
+ghost use Rattle.std.specs.Prelude.{◌≡◌, ◌≢◌, ◌<◌, ◌≤◌, ◌+◌, ◌^◌, ◌∷◌, [], ℕ, List, ⊤, OnOk, OnErr};
+ghost use Rattle.std.specs.Prelude.{IfOk, IfErr, IfSome, IfNone};
 ghost use Rattle.std.specs.Prelude.{is_some, length, slice_index_or};
 ghost use Rattle.std.specs.Io.KnownBytes.{Consumes, Keeps, prepend_known};
 ghost use Rattle.ciborium_ll.specs.Device.{IsShort};
 ghost use Rattle.ciborium_ll.specs.declared.hdr.Header.{Header};
 ghost use Rattle.ciborium_ll.specs.declared.hdr.Error.TheVariants.{TooLong, Waiting};
-ghost use Rattle.ciborium_ll.specs.Title.{Title, NumberAt, title_of, first_byte, bytes_after, IsBadFirst, IsShortest, needs_width};
+ghost use Rattle.ciborium_ll.specs.Title.{Title, NumberAt, title_of, first_byte, bytes_after};
+ghost use Rattle.ciborium_ll.specs.Title.{IsBadFirst, IsShortest, needs_width};
 ghost use Rattle.ciborium_ll.specs.Reading.{Tells, RawFault, IfRefused, waiting_title, place};
 
 use crate::hdr::{Error, Float, Header};
@@ -14,7 +16,8 @@ use crate::read::Read;
 
 /// Reads headers and bytes from a reader, and keeps the offset: how many bytes it has taken.
 ///
-/// A header that was pushed back waits for the next `pull`. It counts as its shortest title in front of the bytes to come.
+/// A header that was pushed back waits for the next `pull`. It counts as its shortest title in
+/// front of the bytes to come.
 #[derive(Drop)]
 pub struct Decoder<R> {
     reader: R,
@@ -47,7 +50,8 @@ impl<R> From<R> for Decoder<R> {
 
 impl<R: Read> Decoder<R> {
     ghost use Rattle.ciborium_ll.specs.Seen.{Takes, Steady, TitleTells, TitleStops, ReadTells};
-    ghost use Rattle.ciborium_ll.specs.Views.{left_of, offset_of, waiting_of, shortest_of, reader_of, seen, raw};
+    ghost use Rattle.ciborium_ll.specs.Views.{left_of, offset_of, waiting_of, shortest_of};
+    ghost use Rattle.ciborium_ll.specs.Views.{reader_of, seen, raw};
 
     fn fill(&mut self, data: &mut [u8]) -> Result<(), Error<R::Error>>
         requires { self.old.waiting ≡ None }
@@ -122,9 +126,10 @@ impl<R: Read> Decoder<R> {
     /// Takes the next title, and gives its header (RFC 8949, section 3).
     ///
     /// # Errors
-    /// `Syntax` where the byte at the offset begins no title; that byte is taken. `Io` for a fault of the reader, an end of
-    /// the bytes among them; `TooLong` where the offset could pass `usize::MAX`. At both the offset stays, or it has grown by
-    /// one, for the first byte of a title whose others did not come.
+    /// `Syntax` where the byte at the offset begins no title; that byte is taken. `Io` for a fault
+    /// of the reader, an end of the bytes among them; `TooLong` where the offset could pass
+    /// `usize::MAX`. At both the offset stays, or it has grown by one, for the first byte of a
+    /// title whose others did not come.
     pub fn pull(&mut self) -> Result<Header, Error<R::Error>>
         ensures ok { IfOk result (λ h. Takes (seen R.Read self.old) (seen R.Read self.new)
             (λ b. Title b h)) }
@@ -154,9 +159,9 @@ impl<R: Read> Decoder<R> {
     /// Fills the buffer with the next bytes, and takes them.
     ///
     /// # Errors
-    /// `Waiting` exactly where a header waits, and `TooLong` exactly before a read whose end would pass `usize::MAX`; then
-    /// nothing has changed. `Io` for a fault of the reader; an end comes only where fewer bytes are left than the buffer
-    /// holds. The offset stays at each of them.
+    /// `Waiting` exactly where a header waits, and `TooLong` exactly before a read whose end would
+    /// pass `usize::MAX`; then nothing has changed. `Io` for a fault of the reader; an end comes
+    /// only where fewer bytes are left than the buffer holds. The offset stays at each of them.
     pub fn read_exact(&mut self, data: &mut [u8]) -> Result<(), Error<R::Error>>
         ensures ok { OnOk result (Consumes (left_of R.left self.old)
             (left_of R.left self.new) «data».new) }
@@ -203,10 +208,11 @@ impl<R: Read> Decoder<R> {
         self.waiting.is_some()
     }
 
-    /// Whether the title that `pull` last read is the one that `Encoder::push` writes for its header, the shortest (RFC 8949,
-    /// section 4.1). True before the first title.
+    /// Whether the title that `pull` last read is the one that `Encoder::push` writes for its
+    /// header, the shortest (RFC 8949, section 4.1). True before the first title.
     ///
-    /// A header that is pushed back and pulled again changes nothing. After an error of `pull` the answer is open.
+    /// A header that is pushed back and pulled again changes nothing, nor do bytes that are read.
+    /// After an error of `pull`, and behind strings that are open, `recode` and items, it is open.
     pub fn was_shortest(&self) -> bool
         ensures { result ≡ shortest_of self.now }
     {

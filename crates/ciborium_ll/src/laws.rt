@@ -29,7 +29,8 @@ pub fn one_outcome()
     ensures bad { (b rest : List ℕ) (h : Header) → Title b h → StartsBad (b ++ rest) → ⊥ }
 {}
 
-/// The shortest title of a header is read as that header, whatever follows, and no title of that header is shorter.
+/// The shortest title of a header is read as that header, whatever follows, and no title of that
+/// header is shorter.
 pub fn read_again()
     ensures shortest { (h : Header) (b : List ℕ) → Title b h → length (title_of h) ≤ length b }
     ensures title { (h : Header) → FitsHeader h → Title (title_of h) h }
@@ -47,8 +48,8 @@ pub fn one_framing()
         → (a ≡ b) × (xs ≡ ys) }
 {}
 
-/// What may follow a head, with these bodies, is exactly what makes it a string with them. So what `Segments` reads behind a head
-/// is one.
+/// What may follow a head, with these bodies, is exactly what makes it a string with them. So what
+/// `Segments` reads behind a head is one.
 pub fn rests_are_framed()
     ensures bytes { (len : Option ℕ) (title b : List ℕ) (bodies : List (List ℕ))
         → Title title (Bytes len)
@@ -80,7 +81,8 @@ pub fn no_rest()
         → Rest Text IsUtf8 stage b bodies → l ≡ b ++ after → ⊥ }
 {}
 
-/// What an encoder writes of a byte string or a text is one, each body of a text is UTF-8, and the bodies join to the value.
+/// What an encoder writes of a byte string or a text is one, each body of a text is UTF-8, and the
+/// bodies join to the value.
 pub fn strings_are_framed()
     ensures bytes { (limit : Option ℕ) (value xs : List ℕ) → length value < 2 ^ 64
         → IsString Bytes FitBytes limit value xs
@@ -96,7 +98,8 @@ pub fn strings_are_framed()
         → IsString Text IsCharBoundary limit value ys → xs ≡ ys }
 {}
 
-/// A copy is its own copy and has no other, so that recoding it changes nothing; and it is never longer than what was copied.
+/// A copy is its own copy and has no other, so that recoding it changes nothing; and it is never
+/// longer than what was copied.
 pub fn copies_stay()
     ensures again { (n : ℕ) (a x : List ℕ) → Copies n a x → Copies n x x }
     ensures once { (n : ℕ) (a b u v x y : List ℕ) → Copies n a x → Copies n b y → a ++ u ≡ b ++ v
@@ -104,8 +107,9 @@ pub fn copies_stay()
     ensures shorter { (n : ℕ) (a x : List ℕ) → Copies n a x → length x ≤ length a }
 {}
 
-/// Where a copy halted, what stands written begins the copy of all that begins with what was read, and so does the text that was
-/// refused behind it. The bytes ended, or a fault stands, only where so many heads and strings are not.
+/// Where a copy halted, what stands written begins the copy of all that begins with what was read,
+/// and so does the text that was refused behind it. The bytes ended, or a fault stands, only where
+/// so many heads and strings are not.
 pub fn halted_copies()
     ensures paused { (n : ℕ) (b x c y u v : List ℕ) → CopiesHalt n paused b x → Copies n c y
         → b ++ u ≡ c ++ v

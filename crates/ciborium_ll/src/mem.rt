@@ -1,6 +1,5 @@
 //! Writers over memory.
-ghost use Rattle.std.specs.Prelude.{◌≡◌, ◌<◌, ◌-◌, ◌++◌, Some, OnOk, OnErr, take, length};
-ghost use Rattle.std.specs.Io.KnownBytes.{Keeps, Appends};
+ghost use Rattle.std.specs.Prelude.{◌≡◌, ◌<◌, ◌-◌, ◌++◌, Some, OnOk, OnErr, take, drop, length};
 ghost use Rattle.ciborium_ll.specs.Device.{AppendsFront, write_failures};
 
 use crate::count::Count;
@@ -8,7 +7,8 @@ use crate::write::Write;
 use std::alloc::AllocError;
 use thiserror::Error;
 
-/// A writer over memory: over a `Vec<u8>`, at whose end it writes, or over a `&mut [u8]`, which it fills from the front.
+/// A writer over memory: over a `Vec<u8>`, at whose end it writes, or over a `&mut [u8]`, which it
+/// fills from the front.
 #[derive(Drop)]
 pub struct Mem<T> {
     inner: T,
@@ -24,7 +24,8 @@ pub struct Full;
 impl<T> Mem<T> {
     ghost use Rattle.ciborium_ll.specs.Views.{memory_of, taken_of, memory_failures};
 
-    /// A writer over this memory, with no failure yet. What stands in a `Vec` counts as written, and nothing in a slice.
+    /// A writer over this memory, with no failure yet. What stands in a `Vec` counts as written,
+    /// and nothing in a slice.
     pub fn new(inner: T) -> Mem<T>
         ensures inner { memory_of result ≡ inner }
         ensures taken { taken_of result ≡ 0 }
@@ -111,7 +112,8 @@ impl Write for Mem<&mut [u8]> {
 
     ghost failed = { λ m. m.failed.total };
 
-    ghost use Rattle.ciborium_ll.specs.Views.{memory_of, taken_of, filled_of, room_of, memory_failures};
+    ghost use Rattle.ciborium_ll.specs.Views.{memory_of, taken_of, filled_of, room_of};
+    ghost use Rattle.ciborium_ll.specs.Views.{memory_failures};
 
     /// Writes all of the data, or nothing where it is longer than the room that is left.
     fn write_all(&mut self, data: &[u8]) -> Result<(), Full>
@@ -122,6 +124,8 @@ impl Write for Mem<&mut [u8]> {
         ensures untouched { OnErr result
             (((memory_of self.new).now ≡ (memory_of self.old).now)
             × (taken_of self.new ≡ taken_of self.old)) }
+        ensures behind { OnOk result (drop (taken_of self.new) (memory_of self.new).now
+            ≡ drop (taken_of self.new) (memory_of self.old).now) }
         ensures full { OnErr result (room_of self.old < length «data».now) }
         ensures room { OnOk result (room_of self.new ≡ room_of self.old - length «data».now) }
         ensures failed { memory_failures self.new ≡ write_failures result

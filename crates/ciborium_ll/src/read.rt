@@ -1,5 +1,6 @@
 //! What bytes are read from.
-ghost use Rattle.std.specs.Prelude.{◌≡◌, ◌<◌, ◌∷◌, [], ℕ, List, length, Bool, true, Some, OnOk, OnErr, IfErr, IsTrue};
+ghost use Rattle.std.specs.Prelude.{◌≡◌, ◌∷◌, [], ℕ, List, length, Bool, true, Some, OnOk, OnErr};
+ghost use Rattle.std.specs.Prelude.{IfErr, IsTrue};
 ghost use Rattle.std.specs.Io.KnownBytes.{Keeps, Consumes};
 ghost use Rattle.ciborium_ll.specs.Device.{IsShort, read_failures};
 ghost use Rattle.std.specs.declared.option.Option.{Option};
@@ -8,8 +9,9 @@ use thiserror::Error;
 
 /// A source of bytes.
 ///
-/// `left` are the bytes to come; a file or a pipe doesn't tell them, and then the clauses that name them say nothing.
-/// `failed` counts the failures; it stands in contracts alone. An end of the bytes is no failure.
+/// `left` are the bytes to come; a file or a pipe doesn't tell them, and then the clauses that name
+/// them say nothing. `failed` counts the failures; it stands in contracts alone. An end of the
+/// bytes is no failure.
 pub trait Read {
     /// Why bytes were not read.
     type Error: Drop;
@@ -23,14 +25,16 @@ pub trait Read {
     /// Whether a fault is an end of the bytes.
     ghost ends: { Self.Error → Bool };
 
-    /// Which references it goes through, the outermost first: a reader that is lent comes back as itself.
+    /// Which references it goes through, the outermost first: a reader that is lent comes back as
+    /// itself.
     ghost handle: { Self → List ℕ } = { λ _. [] };
 
     /// Fills the buffer with the next bytes, and takes them.
     ///
     /// # Errors
-    /// An end only where fewer bytes are left than the buffer holds; an end that a buffer of one byte meets takes nothing.
-    /// Any other fault is a failure of the device. After a fault it is open which bytes are left.
+    /// An end only where fewer bytes are left than the buffer holds; an end that a buffer of one
+    /// byte meets takes nothing. Any other fault is a failure of the device. After a fault it is
+    /// open which bytes are left.
     fn read_exact(&mut self, data: &mut [u8]) -> Result<(), Self::Error>
         ensures ok { OnOk result (Consumes (left self.old) (left self.new) «data».new) }
         ensures end { IfErr result (λ e. IsTrue (ends e)

@@ -1,11 +1,13 @@
 //! Copies heads and strings to shortest titles.
-ghost use Rattle.std.specs.Prelude.{◌≡◌, ◌≢◌, ◌≤◌, ◌+◌, [], ℕ, length, OnOk, IfErr, None};
+ghost use Rattle.std.specs.Prelude.{◌≡◌, ◌≢◌, ◌<◌, ◌≤◌, ◌+◌, [], ℕ, length, OnOk, IfErr, None};
 ghost use Rattle.ciborium_ll.specs.Views.{waiting_of};
 ghost use Rattle.ciborium_ll.specs.Sent.{sides, sides_in};
 ghost use Rattle.ciborium_ll.specs.declared.stage.Stage.TheVariants.{Stuck};
 ghost use Rattle.ciborium_ll.specs.Segments.{decoder_of, name_of, stage_at};
 ghost use Rattle.ciborium_ll.specs.Bodies.{unread_of, saved_of, start_of};
-ghost use Rattle.ciborium_ll.specs.Copies.{Copy, Copies, BodyCopy, BodiesCopy, RestCopy, CopyHalt, CopiesHalt, BodyHalt, OpenHalt, RestHalt, Copied, Halted, HaltedAt, CopySteady};
+ghost use Rattle.ciborium_ll.specs.Copies.{Copy, Copies, BodyCopy, BodiesCopy, RestCopy, CopyHalt};
+ghost use Rattle.ciborium_ll.specs.Copies.{CopiesHalt, BodyHalt, OpenHalt, RestHalt, Copied};
+ghost use Rattle.ciborium_ll.specs.Copies.{Halted, HaltedAt, CopySteady};
 
 use crate::body::Body;
 use crate::dec::Decoder;
@@ -61,8 +63,6 @@ trait CopyBody: StringKind {
 }
 
 impl CopyBody for Bytes {
-    ghost use Rattle.ciborium_ll.specs.Framing.{Any};
-
     ghost keeps = { 0 };
 
     fn copy_body<R: Read, W: Write>(
@@ -85,8 +85,6 @@ impl CopyBody for Bytes {
 }
 
 impl CopyBody for Text {
-    ghost use Rattle.std.specs.Str.{IsUtf8};
-
     ghost keeps = { 3 };
 
     fn copy_body<R: Read, W: Write>(
@@ -108,16 +106,18 @@ impl CopyBody for Text {
     }
 }
 
-/// Copies the next `count` heads, a string with its whole framing as one, to shortest titles. An open string stays open, with
-/// one definite string for each body, empty ones too, and nested opens are joined into one. A definite string stays definite.
+/// Copies the next `count` heads, a string with its whole framing as one, to shortest titles. An
+/// open string stays open, with one definite string for each body, empty ones too, and nested opens
+/// are joined into one. A definite string stays definite.
 ///
 /// The buffer is any of at least 4 bytes; a body goes through it in pieces.
 ///
 /// # Errors
-/// At each, so many whole heads and strings were copied, and then a beginning of the next one. `Read` with an end where the
-/// bytes end before a head or body that is due, or in one; `Read` with `Syntax` and the place of a byte that begins no title, of
-/// a head that the open string can't hold, or of a body that is no UTF-8; `TooLong` where the offset could pass `usize::MAX`.
-/// `Write` with the writer's fault, behind a beginning of the head, piece or break that was due.
+/// At each, so many whole heads and strings were copied, and then a beginning of the next one.
+/// `Read` with an end where the bytes end before a head or body that is due, or in one; `Read` with
+/// `Syntax` and the place of a byte that begins no title, of a head that the open string can't
+/// hold, or of a body that is no UTF-8; `TooLong` where the offset could pass `usize::MAX`. `Write`
+/// with the writer's fault, behind a beginning of the head, piece or break that was due.
 pub fn recode<R: Read, W: Write>(
     decoder: &mut Decoder<R>,
     encoder: &mut Encoder<W>,
@@ -134,6 +134,7 @@ pub fn recode<R: Read, W: Write>(
     ensures steady { CopySteady R.ends result
         (sides R.Read W.Write decoder.old encoder.old)
         (sides R.Read W.Write decoder.new encoder.new) }
+    ensures fresh { 0 < count → waiting_of decoder.new ≡ None }
 {
     for _ in 0..count {
         match copy_one(decoder, encoder, buffer) {

@@ -1,10 +1,12 @@
 //! Strings that are read in pieces (RFC 8949, section 3.2.3).
-ghost use Rattle.std.specs.Prelude.{◌≡◌, ◌≢◌, ◌<◌, ◌≤◌, ◌-◌, ◌^◌, ℕ, min, length, [], OnErr, IfOk, IfErr, IfSome, IfNone};
+ghost use Rattle.std.specs.Prelude.{◌≡◌, ◌≢◌, ◌<◌, ◌≤◌, ◌-◌, ◌^◌, ℕ, min, length, [], OnErr};
+ghost use Rattle.std.specs.Prelude.{IfOk, IfErr, IfSome, IfNone};
 ghost use Rattle.ciborium_ll.specs.Reading.{IfRefused};
 ghost use Rattle.ciborium_ll.specs.Seen.{Takes, Steady, ReadTells};
-ghost use Rattle.ciborium_ll.specs.Stages.{Progress, StageTells, StageStops, FindsEnd, Nears, HasRoom, stage_of};
+ghost use Rattle.ciborium_ll.specs.Stages.{Progress, StageTells, StageStops, FindsEnd, Nears};
+ghost use Rattle.ciborium_ll.specs.Stages.{HasRoom, opens, stage_of};
 ghost use Rattle.ciborium_ll.specs.declared.stage.Stage.TheVariants.{Inside, Stuck};
-ghost use Rattle.ciborium_ll.specs.declared.hdr.Error.TheVariants.{Syntax, Waiting};
+ghost use Rattle.ciborium_ll.specs.declared.hdr.Error.TheVariants.{Syntax, TooLong, Waiting};
 
 use crate::body::Body;
 use crate::dec::Decoder;
@@ -15,11 +17,11 @@ use crate::stage::{Stage, next_body};
 use crate::text::{cut, fill};
 use std::marker::PhantomData;
 
-/// A string behind its head, read body by body: a definite string is one segment, and an open one has a segment for each
-/// definite string in it, at any depth.
+/// A string behind its head, read body by body: a definite string is one segment, and an open one
+/// has a segment for each definite string in it, at any depth.
 ///
-/// `advance` and `piece` lend nothing out, so that a proof can go on after them. `pull` and `Segment::pull` do the same
-/// steps as values that borrow.
+/// `advance` and `piece` lend nothing out, so that a proof can go on after them. `pull` and
+/// `Segment::pull` do the same steps as values that borrow.
 #[derive(Drop)]
 pub struct Segments<'r, R, P> {
     decoder: &'r mut Decoder<R>,
@@ -74,16 +76,20 @@ impl<'r, R, P> Segments<'r, R, P> {
 }
 
 impl<'r, R: Read, P: StringKind> Segments<'r, R, P> {
-    ghost use Rattle.ciborium_ll.specs.Segments.{decoder_of, name_of, stage_at, seen_in, progress, string_of, lent_name, body_of};
+    ghost use Rattle.ciborium_ll.specs.Segments.{decoder_of, name_of, stage_at, seen_in, progress};
+    ghost use Rattle.ciborium_ll.specs.Segments.{string_of, lent_name, body_of};
     ghost use Rattle.ciborium_ll.specs.Segments.{IfSegment, IfNoSegment, IfFault};
     ghost use Rattle.ciborium_ll.specs.Bodies.{FindsBody};
+    ghost use Rattle.ciborium_ll.specs.Views.{waiting_of};
 
-    /// Goes on to the next body, or gives none at the end of the string, and then always.
+    /// Goes on to the next body, or gives none at the end of the string, and then always. Where no
+    /// string is open it leaves the decoder as it was.
     ///
     /// # Errors
-    /// `Syntax` with the place of a head that the string can't hold, and then always. `Io` for a fault of the reader, an end
-    /// of the bytes among them. `TooLong` where the offset could pass `usize::MAX`. After these two the string is as far open
-    /// as the heads say that were taken, so it can't be taken for whole.
+    /// `Syntax` with the place of a head that the string can't hold, and then always. `Io` for a
+    /// fault of the reader, an end of the bytes among them. `TooLong` where the offset could pass
+    /// `usize::MAX`. After these two the string is as far open as the heads say that were taken, so
+    /// it can't be taken for whole.
     pub fn advance(&mut self) -> Result<Option<Body>, Error<R::Error>>
         ensures same_reference { name_of self.new ≡ name_of self.old }
         ensures some { IfOk result (λ o. IfSome o
@@ -99,6 +105,9 @@ impl<'r, R: Read, P: StringKind> Segments<'r, R, P> {
         ensures unstuck { IfOk result (λ o. IfSome o
             (λ body. (p : ℕ) → stage_at self.new ≢ Stuck p)) }
         ensures room { HasRoom (progress R.Read self.old) (progress R.Read self.new) }
+        ensures fresh { 0 < opens (stage_at self.old)
+            → result ≢ Err TooLong → waiting_of (decoder_of self.new) ≡ None }
+        ensures kept { opens (stage_at self.old) ≡ 0 → decoder_of self.new ≡ decoder_of self.old }
         ensures done { stage_at self.old ≡ Inside 0
             → (result ≡ Ok None) × (stage_at self.new ≡ stage_at self.old)
             × (decoder_of self.new ≡ decoder_of self.old) }
@@ -133,6 +142,10 @@ impl<'r, R: Read, P: StringKind> Segments<'r, R, P> {
         ensures moved { IfSegment result
             (λ s. Nears (progress R.Read self.old) (progress R.Read (string_of s))) }
         ensures unstuck { IfSegment result (λ s. (p : ℕ) → stage_at (string_of s) ≢ Stuck p) }
+        ensures fresh { 0 < opens (stage_at self.old)
+            → IfSegment result (λ s. waiting_of (decoder_of (string_of s)) ≡ None) }
+        ensures kept { opens (stage_at self.old) ≡ 0
+            → IfSegment result (λ s. decoder_of (string_of s) ≡ decoder_of self.old) }
         ensures steady { IfSegment result
             (λ s. Steady R.ends result (seen_in R.Read self.old) (seen_in R.Read (string_of s))) }
     {
@@ -149,10 +162,10 @@ impl<'r, R: Read, P: StringKind> Segments<'r, R, P> {
 impl<'r, R: Read> Segments<'r, R, Bytes> {
     ghost use Rattle.ciborium_ll.specs.Segments.{decoder_of, name_of, stage_at, place_at, seen_in};
     ghost use Rattle.ciborium_ll.specs.Bodies.{unread_of, saved_of, piece_len, TakesBytes};
-    ghost use Rattle.ciborium_ll.specs.Views.{waiting_of};
+    ghost use Rattle.ciborium_ll.specs.Views.{waiting_of, shortest_of};
 
-    /// The next piece of the body, at the front of the buffer: as many bytes as the buffer holds or the body has left. None
-    /// at the end of the body.
+    /// The next piece of the body, at the front of the buffer: as many bytes as the buffer holds or
+    /// the body has left. None at the end of the body.
     ///
     /// # Errors
     /// Those of `Decoder::read_exact`; the body stays as it is.
@@ -168,6 +181,7 @@ impl<'r, R: Read> Segments<'r, R, Bytes> {
             (seen_in R.Read self.new) piece.now)) }
         ensures none { IfOk result (λ o. IfNone o
             ((unread_of body.old ≡ 0) × (body.new ≡ body.old) × (self.new ≡ self.old))) }
+        ensures ended { unread_of body.old ≡ 0 → result ≡ Ok None }
         ensures fault { IfErr result (ReadTells R.ends (piece_len body.old (length buffer.old))
             (seen_in R.Read self.old) (seen_in R.Read self.new)) }
         ensures err { OnErr result ((body.new ≡ body.old)
@@ -176,6 +190,7 @@ impl<'r, R: Read> Segments<'r, R, Bytes> {
         ensures waiting { waiting_of (decoder_of self.old) ≢ None → 0 < unread_of body.old
             → result ≡ Err Waiting }
         ensures saved { saved_of body.new ≡ saved_of body.old }
+        ensures same { shortest_of (decoder_of self.new) ≡ shortest_of (decoder_of self.old) }
         ensures steady { Steady R.ends result (seen_in R.Read self.old) (seen_in R.Read self.new) }
     {
         if body.unread == 0 {
@@ -190,12 +205,13 @@ impl<'r, R: Read> Segments<'r, R, Bytes> {
 }
 
 impl<'s, 'r, R: Read> Segment<'s, 'r, R, Bytes> {
-    ghost use Rattle.ciborium_ll.specs.Segments.{decoder_of, name_of, stage_at, place_at, seen_in, string_of, lent_name, body_of};
+    ghost use Rattle.ciborium_ll.specs.Segments.{decoder_of, name_of, stage_at, place_at, seen_in};
+    ghost use Rattle.ciborium_ll.specs.Segments.{string_of, lent_name, body_of};
     ghost use Rattle.ciborium_ll.specs.Bodies.{unread_of, saved_of, piece_len, TakesBytes};
-    ghost use Rattle.ciborium_ll.specs.Views.{waiting_of};
+    ghost use Rattle.ciborium_ll.specs.Views.{waiting_of, shortest_of};
 
-    /// The next piece of the segment, at the front of the buffer: as many bytes as the buffer holds or the segment has left.
-    /// None at the end of the segment.
+    /// The next piece of the segment, at the front of the buffer: as many bytes as the buffer holds
+    /// or the segment has left. None at the end of the segment.
     ///
     /// # Errors
     /// Those of `Decoder::read_exact`; nothing is lost of the segment.
@@ -209,6 +225,7 @@ impl<'s, 'r, R: Read> Segment<'s, 'r, R, Bytes> {
             (seen_in R.Read (string_of self.new)) piece.now)) }
         ensures none { IfOk result (λ o. IfNone o
             ((unread_of (body_of self.old) ≡ 0) × (self.new ≡ self.old))) }
+        ensures ended { unread_of (body_of self.old) ≡ 0 → result ≡ Ok None }
         ensures fault { IfErr result (ReadTells R.ends
             (piece_len (body_of self.old) (length buffer.old))
             (seen_in R.Read (string_of self.old)) (seen_in R.Read (string_of self.new))) }
@@ -219,6 +236,8 @@ impl<'s, 'r, R: Read> Segment<'s, 'r, R, Bytes> {
         ensures waiting { waiting_of (decoder_of (string_of self.old)) ≢ None
             → 0 < unread_of (body_of self.old) → result ≡ Err Waiting }
         ensures saved { saved_of (body_of self.new) ≡ saved_of (body_of self.old) }
+        ensures same { shortest_of (decoder_of (string_of self.new))
+            ≡ shortest_of (decoder_of (string_of self.old)) }
         ensures steady { Steady R.ends result (seen_in R.Read (string_of self.old))
             (seen_in R.Read (string_of self.new)) }
     {
@@ -240,15 +259,17 @@ impl<'s, 'r, R: Read, P: StringKind> Segment<'s, 'r, R, P> {
 
 impl<'r, R: Read> Segments<'r, R, Text> {
     ghost use Rattle.ciborium_ll.specs.Segments.{decoder_of, name_of, stage_at, seen_in, progress};
-    ghost use Rattle.ciborium_ll.specs.Bodies.{start_of, bytes_of, IsPiece, Fills, TextTells, TextStops};
-    ghost use Rattle.ciborium_ll.specs.Views.{waiting_of};
+    ghost use Rattle.ciborium_ll.specs.Bodies.{start_of, bytes_of, IsPiece, Fills, TextTells};
+    ghost use Rattle.ciborium_ll.specs.Bodies.{TextStops};
+    ghost use Rattle.ciborium_ll.specs.Views.{waiting_of, shortest_of};
 
-    /// The next piece of the body, at the front of the buffer: whole characters, so up to three bytes fewer than the buffer
-    /// holds or the body has left. None at the end of the body. In a buffer of fewer than 4 bytes the piece is empty.
+    /// The next piece of the body, at the front of the buffer: whole characters, so up to three
+    /// bytes fewer than the buffer holds or the body has left. None at the end of the body. In a
+    /// buffer of fewer than 4 bytes the piece is empty.
     ///
     /// # Errors
-    /// `Syntax` with the segment's place where the body is no UTF-8, and then always. Those of `Decoder::read_exact`; the
-    /// body stays as it is then.
+    /// `Syntax` with the segment's place where the body is no UTF-8, and then always. Those of
+    /// `Decoder::read_exact`; the body stays as it is then.
     pub fn piece<'a>(
         &mut self,
         body: &mut Body,
@@ -263,6 +284,8 @@ impl<'r, R: Read> Segments<'r, R, Text> {
             (λ piece. Fills body.old (length buffer.old) piece.now)) }
         ensures none { IfOk result (λ o. IfNone o
             ((bytes_of body.old ≡ 0) × (body.new ≡ body.old) × (self.new ≡ self.old))) }
+        ensures ended { bytes_of body.old ≡ 0 → ((p : ℕ) → stage_at self.old ≢ Stuck p)
+            → result ≡ Ok None }
         ensures fault { IfErr result (TextTells R.ends body.old body.new (length buffer.old)
             (progress R.Read self.old) (progress R.Read self.new)) }
         ensures stops { IfErr result (TextStops body.old body.new (progress R.Read self.old)
@@ -275,6 +298,7 @@ impl<'r, R: Read> Segments<'r, R, Text> {
             → ((p : ℕ) → stage_at self.old ≢ Stuck p) → result ≡ Err Waiting }
         ensures stuck { (p : ℕ) → stage_at self.old ≡ Stuck p
             → (result ≡ Err (Syntax p)) × (body.new ≡ body.old) × (self.new ≡ self.old) }
+        ensures same { shortest_of (decoder_of self.new) ≡ shortest_of (decoder_of self.old) }
         ensures steady { Steady R.ends result (seen_in R.Read self.old) (seen_in R.Read self.new) }
     {
         if let Stage::Stuck(place) = self.stage {
@@ -301,17 +325,19 @@ impl<'r, R: Read> Segments<'r, R, Text> {
 }
 
 impl<'s, 'r, R: Read> Segment<'s, 'r, R, Text> {
-    ghost use Rattle.ciborium_ll.specs.Segments.{decoder_of, name_of, stage_at, seen_in, progress, string_of, lent_name, body_of};
-    ghost use Rattle.ciborium_ll.specs.Bodies.{start_of, bytes_of, IsPiece, Fills, TextTells, TextStops};
-    ghost use Rattle.ciborium_ll.specs.Views.{waiting_of};
+    ghost use Rattle.ciborium_ll.specs.Segments.{decoder_of, name_of, stage_at, seen_in, progress};
+    ghost use Rattle.ciborium_ll.specs.Segments.{string_of, lent_name, body_of};
+    ghost use Rattle.ciborium_ll.specs.Bodies.{start_of, bytes_of, IsPiece, Fills, TextTells};
+    ghost use Rattle.ciborium_ll.specs.Bodies.{TextStops};
+    ghost use Rattle.ciborium_ll.specs.Views.{waiting_of, shortest_of};
 
-    /// The next piece of the segment, at the front of the buffer: whole characters, so up to three bytes fewer than the
-    /// buffer holds or the segment has left. None at the end of the segment. In a buffer of fewer than 4 bytes the piece is
-    /// empty.
+    /// The next piece of the segment, at the front of the buffer: whole characters, so up to three
+    /// bytes fewer than the buffer holds or the segment has left. None at the end of the segment.
+    /// In a buffer of fewer than 4 bytes the piece is empty.
     ///
     /// # Errors
-    /// `Syntax` with the segment's place where it is no UTF-8, and then always. Those of `Decoder::read_exact`; nothing is
-    /// lost of the segment then.
+    /// `Syntax` with the segment's place where it is no UTF-8, and then always. Those of
+    /// `Decoder::read_exact`; nothing is lost of the segment then.
     pub fn pull<'a>(&mut self, buffer: &'a mut [u8]) -> Result<Option<&'a str>, Error<R::Error>>
         ensures same_reference { lent_name self.new ≡ lent_name self.old }
         ensures same_decoder { name_of (string_of self.new) ≡ name_of (string_of self.old) }
@@ -324,6 +350,8 @@ impl<'s, 'r, R: Read> Segment<'s, 'r, R, Text> {
             (λ piece. Fills (body_of self.old) (length buffer.old) piece.now)) }
         ensures none { IfOk result (λ o. IfNone o
             ((bytes_of (body_of self.old) ≡ 0) × (self.new ≡ self.old))) }
+        ensures ended { bytes_of (body_of self.old) ≡ 0
+            → ((p : ℕ) → stage_at (string_of self.old) ≢ Stuck p) → result ≡ Ok None }
         ensures fault { IfErr result (TextTells R.ends (body_of self.old) (body_of self.new)
             (length buffer.old)
             (progress R.Read (string_of self.old)) (progress R.Read (string_of self.new))) }
@@ -338,6 +366,8 @@ impl<'s, 'r, R: Read> Segment<'s, 'r, R, Text> {
             → ((p : ℕ) → stage_at (string_of self.old) ≢ Stuck p) → result ≡ Err Waiting }
         ensures stuck { (p : ℕ) → stage_at (string_of self.old) ≡ Stuck p
             → (result ≡ Err (Syntax p)) × (self.new ≡ self.old) }
+        ensures same { shortest_of (decoder_of (string_of self.new))
+            ≡ shortest_of (decoder_of (string_of self.old)) }
         ensures steady { Steady R.ends result (seen_in R.Read (string_of self.old))
             (seen_in R.Read (string_of self.new)) }
     {

@@ -1,11 +1,12 @@
 //! How far a string has been read.
 ghost use Rattle.std.specs.Prelude.{ℕ, ◌≡◌, ◌≢◌, ◌<◌, IfOk, IfErr, IfSome, IfNone};
 ghost use Rattle.ciborium_ll.specs.Seen.{Steady};
-ghost use Rattle.ciborium_ll.specs.Stages.{StageTells, StageStops, FindsEnd, Nears, HasRoom, at, stage_after, stage_of};
-ghost use Rattle.ciborium_ll.specs.Bodies.{unread_of, saved_of, start_of, FindsBody};
+ghost use Rattle.ciborium_ll.specs.Stages.{StageTells, StageStops, FindsEnd, Nears, HasRoom, at};
+ghost use Rattle.ciborium_ll.specs.Stages.{opens, stage_after, stage_of};
+ghost use Rattle.ciborium_ll.specs.Bodies.{FindsBody};
 ghost use Rattle.ciborium_ll.specs.declared.stage.Stage.TheVariants.{Inside, Stuck};
-ghost use Rattle.ciborium_ll.specs.declared.hdr.Error.TheVariants.{Syntax};
-ghost use Rattle.ciborium_ll.specs.Views.{seen};
+ghost use Rattle.ciborium_ll.specs.declared.hdr.Error.TheVariants.{Syntax, TooLong};
+ghost use Rattle.ciborium_ll.specs.Views.{seen, waiting_of};
 
 use crate::body::Body;
 use crate::dec::Decoder;
@@ -54,6 +55,8 @@ pub(crate) fn next_body<R: Read, P: StringKind>(
     ensures unstuck { IfOk result (λ o. IfSome o (λ body. (p : ℕ) → stage.new ≢ Stuck p)) }
     ensures room { HasRoom (at (seen R.Read decoder.old) stage.old)
         (at (seen R.Read decoder.new) stage.new) }
+    ensures fresh { 0 < opens stage.old → result ≢ Err TooLong → waiting_of decoder.new ≡ None }
+    ensures kept { opens stage.old ≡ 0 → decoder.new ≡ decoder.old }
     ensures done { stage.old ≡ Inside 0 → (result ≡ Ok None) × (stage.new ≡ stage.old)
         × (decoder.new ≡ decoder.old) }
     ensures stuck { (p : ℕ) → stage.old ≡ Stuck p
@@ -96,6 +99,7 @@ fn find_body<R: Read, P: StringKind>(
     ensures unstuck { IfOk result (λ o. IfSome o (λ body. (p : ℕ) → stage.new ≢ Stuck p)) }
     ensures room { HasRoom (at (seen R.Read decoder.old) stage.old)
         (at (seen R.Read decoder.new) stage.new) }
+    ensures fresh { result ≢ Err TooLong → waiting_of decoder.new ≡ None }
     ensures steady { Steady R.ends result (seen R.Read decoder.old) (seen R.Read decoder.new) }
 {
     let mut depth = depth;

@@ -6,8 +6,8 @@ ghost use Rattle.std.specs.declared.option.Option.{Option};
 
 /// A sink of bytes.
 ///
-/// `written` are the bytes that it has taken; a file or a pipe doesn't tell them, and then the clauses that name them say
-/// nothing. `failed` counts the failures; it stands in contracts alone.
+/// `written` are the bytes that it has taken; a file or a pipe doesn't tell them, and then the
+/// clauses that name them say nothing. `failed` counts the failures; it stands in contracts alone.
 pub trait Write {
     /// Why bytes were not written.
     type Error: Drop;
@@ -18,7 +18,8 @@ pub trait Write {
     /// How often it has failed.
     ghost failed: { Self → ℕ };
 
-    /// Which references it goes through, the outermost first: a writer that is lent comes back as itself.
+    /// Which references it goes through, the outermost first: a writer that is lent comes back as
+    /// itself.
     ghost handle: { Self → List ℕ } = { λ _. [] };
 
     /// Writes all of the data.

@@ -1,10 +1,11 @@
 //! Writes strings, whole or in pieces.
-ghost use Rattle.std.specs.Prelude.{◌≡◌, ◌<◌, ◌≤◌, ◌++◌, ℕ, List, max, length, OnOk, OnErr, Some};
+ghost use Rattle.std.specs.Prelude.{◌≡◌, ◌<◌, ◌≤◌, ℕ, List, length, OnOk, OnErr};
 ghost use Rattle.std.specs.Str.{IsCharBoundary};
 ghost use Rattle.std.specs.Io.KnownBytes.{Appends};
 ghost use Rattle.ciborium_ll.specs.Device.{AppendsFront, write_failures};
 ghost use Rattle.ciborium_ll.specs.declared.hdr.Header.TheVariants.{Bytes, Text};
-ghost use Rattle.ciborium_ll.specs.Pieces.{IsString, FitBytes, Pieces, enc_pieces, enc_whole, at_least};
+ghost use Rattle.ciborium_ll.specs.Pieces.{IsString, FitBytes, Pieces, enc_pieces, enc_whole};
+ghost use Rattle.ciborium_ll.specs.Pieces.{at_least};
 
 use crate::enc::Encoder;
 use crate::hdr::Header;
@@ -13,8 +14,8 @@ use crate::write::Write;
 impl<W: Write> Encoder<W> {
     ghost use Rattle.ciborium_ll.specs.Views.{writer_of};
 
-    /// Writes a byte string: whole where it is no longer than the limit, or where there is none; else open, in pieces of at
-    /// most the limit. A limit of 0 acts as 1.
+    /// Writes a byte string: whole where it is no longer than the limit, or where there is none;
+    /// else open, in pieces of at most the limit. A limit of 0 acts as 1.
     ///
     /// # Errors
     /// The writer's; a beginning of the string was written then.
@@ -41,8 +42,9 @@ impl<W: Write> Encoder<W> {
         self.push(Header::Break)
     }
 
-    /// Writes a text: whole where it is no longer than the limit, or where there is none; else open, in pieces of at most
-    /// the limit, cut between characters, each as long as fits. A limit under 4 acts as 4.
+    /// Writes a text: whole where it is no longer than the limit, or where there is none; else
+    /// open, in pieces of at most the limit, cut between characters, each as long as fits. A limit
+    /// under 4 acts as 4.
     ///
     /// # Errors
     /// The writer's; a beginning of the string was written then.

@@ -19,6 +19,7 @@ loop-depth-preserved-in-Break g c = record {
   room = search rules;
   failed = search rules;
   fresh = search rules;
+  behind = λ e. c.in-Ok.ensures.fresh;
   kept = search rules;
 }
 
@@ -28,6 +29,7 @@ loop-depth-preserved g c = record {
   room = search rules;
   failed = search rules;
   fresh = search rules;
+  behind = λ e. c.in-Ok.ensures.fresh;
   kept = search rules;
 }
 
@@ -42,6 +44,7 @@ returns-in-None g c = record {
   stops = tt;
   moved = tt;
   unstuck = tt;
+  fresh = λ e. c.in-Ok.ensures.fresh;
   room = omega (arith, c.loop-depth.invariant.took.grown, c.in-Ok.ensures.grows);
   steady = record { failed = search rules; handle = search rules; waiting = search rules };
 }
@@ -58,6 +61,7 @@ returns-in-Some-Some g c = record {
   stops = tt;
   moved = moved_on _ _ _ _ _ _ c.loop-depth.invariant.took _ c.in-Ok.ensures.ok _ _ c.offset-place.result c.offset-place.ensures (search rules) c.requires.inside;
   unstuck = λ p e. cc;
+  fresh = λ e. c.in-Ok.ensures.fresh;
   room = omega (arith, c.loop-depth.invariant.room, c.in-Ok.ensures.grows);
   steady = record { failed = search rules; handle = search rules; waiting = search rules };
 }

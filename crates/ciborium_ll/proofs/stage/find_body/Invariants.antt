@@ -11,6 +11,7 @@ invariant-loop-depth g l = record {
   room : HasRoom (at (seen g.R.Read l.fn.decoder) l.fn.stage) (at (seen g.R.Read l.decoder) (Inside l.depth));
   failed : g.R.Read.failed (reader_of l.decoder) ≡ g.R.Read.failed (reader_of l.fn.decoder);
   fresh : waiting_of l.fn.decoder ≡ None → waiting_of l.decoder ≡ None;
+  behind : l.depth ≡ 0 → waiting_of l.decoder ≡ None;
   kept : g.R.Read.handle (reader_of l.decoder) ≡ g.R.Read.handle (reader_of l.fn.decoder);
 }
 
