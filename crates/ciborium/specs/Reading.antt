@@ -5,6 +5,7 @@ use Rattle.ciborium_ll.specs.declared.hdr.Header.{Header}
 use Rattle.ciborium_ll.specs.declared.hdr.Header.TheVariants.{Positive, Negative, Float, Simple, Tag, Break, Bytes, Text, Array, Map}
 use Rattle.ciborium_ll.specs.declared.hdr.Error.{Error as HeadError}
 use Rattle.ciborium_ll.specs.declared.hdr.Error.TheVariants as below
+use Rattle.ciborium_ll.specs.Reading.{Stops}
 use Rattle.ciborium_ll.specs.Seen.{Seen}
 use Rattle.ciborium_ll.specs.Title.{Title}
 use Rattle.ciborium_value.specs.declared.kind.Kind.TheVariants as kind
@@ -43,6 +44,11 @@ pub record Steady {T E : Type 0} (ends : E → Bool) (answer : Result T (Error E
   pub failed : new.failed ≡ failures ends answer old.failed
   pub handle : new.handle ≡ old.handle
   pub waiting : new.waiting ≡ None
+
+-- where a fault leaves a decoder: bytes that were to come were taken, and the offset has grown by their count; what is left behind
+-- them is open
+abbrev pub Halts : Seen → Seen → Type 0
+Halts old new = Stops old.left old.offset new.offset (λ _. Unit {0})
 
 -- any fault but want of memory
 abbrev pub IsNoMemory : {E : Type 0} → Error E → Type 0

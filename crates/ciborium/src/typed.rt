@@ -1,9 +1,9 @@
 //! Reads items as types.
-ghost use Rattle.std.specs.Prelude.{◌≡◌, ◌⊎◌, Some, IfOk, IfErr, []};
+ghost use Rattle.std.specs.Prelude.{◌≡◌, ◌⊎◌, Some, IfOk, IfErr, OnErr, []};
 ghost use Rattle.ciborium_ll.specs.Seen.{Takes};
 ghost use Rattle.ciborium_ll.specs.Views.{left_of, seen};
 ghost use Rattle.ciborium.specs.Damage.{Damage};
-ghost use Rattle.ciborium.specs.Reading.{NamesFault, Steady, IsNoMemory};
+ghost use Rattle.ciborium.specs.Reading.{NamesFault, Steady, Halts, IsNoMemory, IfEnd};
 ghost use Rattle.ciborium.specs.Typed.{ReadsAs, IsRefused};
 
 use crate::de::{Error, from_decoder};
@@ -25,6 +25,9 @@ pub fn typed_item<T: Deserialize, R: Read>(
         (seen R.Read decoder.old) (seen R.Read decoder.new) e
         ⊎ Takes (seen R.Read decoder.old) (seen R.Read decoder.new) (IsRefused T.refusal limit e)) }
     ensures nothing { left_of R.left decoder.old ≡ Some [] → IfErr result IsNoMemory }
+    ensures ended { left_of R.left decoder.old ≡ Some []
+        → IfErr result (IfEnd R.ends (left_of R.left decoder.new ≡ Some [])) }
+    ensures stops { OnErr result (Halts (seen R.Read decoder.old) (seen R.Read decoder.new)) }
     ensures steady { Steady R.ends result (seen R.Read decoder.old) (seen R.Read decoder.new) }
 {
     let value = from_decoder(alloc, decoder, limit)?;
