@@ -45,10 +45,10 @@ pub record Steady {T E : Type 0} (ends : E → Bool) (answer : Result T (Error E
   pub handle : new.handle ≡ old.handle
   pub waiting : new.waiting ≡ None
 
--- where a fault leaves a decoder: bytes that were to come were taken, and the offset has grown by their count; what is left behind
--- them is open
-abbrev pub Halts : Seen → Seen → Type 0
-Halts old new = Stops old.left old.offset new.offset (λ _. Unit {0})
+-- where a fault leaves a decoder: some of the bytes that were to come were taken, or none, and the offset has grown by their count;
+-- what is left then is open
+abbrev pub TakesSome : Seen → Seen → Type 0
+TakesSome old new = Stops old.left old.offset new.offset (λ _. Unit {0})
 
 -- any fault but want of memory
 abbrev pub IsNoMemory : {E : Type 0} → Error E → Type 0
