@@ -4,7 +4,7 @@ use Rattle.ciborium_ll.specs.Reading.{Moves}
 use Rattle.ciborium_value.specs.declared.kind.Kind.{Kind}
 use Rattle.ciborium_value.specs.Tree.{Tree}
 use Rattle.ciborium.specs.declared.de.Error.{Error}
-use Rattle.ciborium.specs.Damage.{Fault, Damage}
+use Rattle.ciborium.specs.Damage.{Damage}
 use Rattle.ciborium.specs.Reading.{FailsAt, IfKnown}
 use Rattle.ciborium.specs.Typed.{IsRefused, IsUnread}
 use Rattle.ciborium.proofs.Taking.{fails_as}
