@@ -2,6 +2,8 @@ pub mod Building
 pub mod Words
 pub mod Once
 pub mod Taking
+pub mod Halting
+pub mod Unread
 pub mod StringLemmas
 pub mod ReadLemmas
 pub mod ReaderLemmas

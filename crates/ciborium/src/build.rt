@@ -11,6 +11,9 @@ use ciborium_typed::{Serialize, ValueTyped};
 use std::alloc::Global;
 
 /// The item that a value is written as.
+///
+/// # Errors
+/// Only `Memory`.
 pub fn leaf<T: Serialize>(alloc: Global, value: &T) -> Result<Value, Error>
     ensures ok { IfOk result (λ v. view v ≡ T.put value.now) }
     ensures err { IfErr result (λ e. e ≡ error.Memory) }
@@ -18,7 +21,7 @@ pub fn leaf<T: Serialize>(alloc: Global, value: &T) -> Result<Value, Error>
     Value::serialized(alloc, value)
 }
 
-/// Null.
+/// Null. Never an error.
 pub fn null() -> Result<Value, Error>
     ensures ok { IfOk result (λ v. view v ≡ tree.simple 22) }
     ensures made { OnErr result ⊥ }
@@ -26,7 +29,7 @@ pub fn null() -> Result<Value, Error>
     Ok(Value::Null)
 }
 
-/// No items yet.
+/// No items yet. Never an error.
 pub fn no_items(alloc: Global) -> Result<Vec<Value>, Error>
     ensures ok { IfOk result (λ v. views v.items ≡ no_trees) }
     ensures made { OnErr result ⊥ }
@@ -55,6 +58,9 @@ pub fn with_item(
 }
 
 /// The array of the items.
+///
+/// # Errors
+/// The first of the parts': that of the items, handed on.
 pub fn array(items: Result<Vec<Value>, Error>) -> Result<Value, Error>
     ensures ok { (ts : Trees) → IfOk items (λ v. views v.items ≡ ts)
         → IfOk result (λ v. view v ≡ tree.array ts) }
@@ -64,7 +70,7 @@ pub fn array(items: Result<Vec<Value>, Error>) -> Result<Value, Error>
     Ok(Value::Array(items?))
 }
 
-/// No entries yet.
+/// No entries yet. Never an error.
 pub fn no_entries(alloc: Global) -> Result<Vec<(Value, Value)>, Error>
     ensures ok { IfOk result (λ v. view_pairs v.items ≡ no_pairs) }
     ensures made { OnErr result ⊥ }
@@ -97,6 +103,9 @@ pub fn with_entry(
 }
 
 /// The map of the entries.
+///
+/// # Errors
+/// The first of the parts': that of the entries, handed on.
 pub fn map(entries: Result<Vec<(Value, Value)>, Error>) -> Result<Value, Error>
     ensures ok { (ps : Pairs) → IfOk entries (λ v. view_pairs v.items ≡ ps)
         → IfOk result (λ v. view v ≡ tree.map ps) }

@@ -1,10 +1,12 @@
 //! Items of a decoder, one after another.
-ghost use Rattle.std.specs.Prelude.{◌≡◌};
+ghost use Rattle.std.specs.Prelude.{◌≡◌, Some, [], IfOk, IfErr, OnOk};
 ghost use Rattle.ciborium_ll.specs.Seen.{Takes};
-ghost use Rattle.ciborium_ll.specs.Views.{reader_of, seen};
+ghost use Rattle.ciborium_ll.specs.Views.{left_of, reader_of, seen};
+ghost use Rattle.ciborium_value.specs.View.{view};
 ghost use Rattle.ciborium.specs.Front.{Reads};
 ghost use Rattle.ciborium.specs.Damage.{Damage};
-ghost use Rattle.ciborium.specs.Reading.{NamesFault, fault_failures};
+ghost use Rattle.ciborium.specs.Reading.{NamesFault, Steady, TakesSome, IsNoMemory, IfEnd};
+ghost use Rattle.ciborium.specs.Reading.{fault_failures};
 ghost use Rattle.ciborium.specs.Typed.{refusing};
 
 use crate::de::{Error, from_decoder};
@@ -63,7 +65,29 @@ impl<R: Read> Source for Deserializer<R> {
 
     ghost refused = { refusing };
 
-    fn item(&mut self) -> Result<Value, Error<R::Error>> {
+    /// The next item.
+    ///
+    /// # Errors
+    /// Those of `from_decoder`. Behind one but an end with nothing left the decoder may stand in an
+    /// item: don't ask on.
+    fn item(&mut self) -> Result<Value, Error<R::Error>>
+        ensures ok { IfOk result (λ v.
+            Takes (seen R.Read (decoder_of self.old)) (seen R.Read (decoder_of self.new))
+            (λ b. Reads b (limit_of self.old) (view v))) }
+        ensures err { IfErr result
+            (NamesFault R.ends (λ stop b f. Damage stop b (limit_of self.old) f)
+            (seen R.Read (decoder_of self.old)) (seen R.Read (decoder_of self.new))) }
+        ensures nothing { left_of R.left (decoder_of self.old) ≡ Some []
+            → IfErr result IsNoMemory }
+        ensures some { left_of R.left (decoder_of self.old) ≡ Some [] → OnOk result ⊥ }
+        ensures ended { left_of R.left (decoder_of self.old) ≡ Some []
+            → IfErr result (IfEnd R.ends (left_of R.left (decoder_of self.new) ≡ Some [])) }
+        ensures stops { IfErr result (TakesSome (seen R.Read (decoder_of self.old))
+            (seen R.Read (decoder_of self.new))) }
+        ensures steady { Steady R.ends result (seen R.Read (decoder_of self.old))
+            (seen R.Read (decoder_of self.new)) }
+        ensures limit { limit_of self.new ≡ limit_of self.old }
+    {
         from_decoder(self.alloc, &mut self.decoder, self.recursion_limit)
     }
 

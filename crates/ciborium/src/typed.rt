@@ -3,7 +3,7 @@ ghost use Rattle.std.specs.Prelude.{◌≡◌, ◌⊎◌, Some, IfOk, IfErr, []}
 ghost use Rattle.ciborium_ll.specs.Seen.{Takes};
 ghost use Rattle.ciborium_ll.specs.Views.{left_of, seen};
 ghost use Rattle.ciborium.specs.Damage.{Damage};
-ghost use Rattle.ciborium.specs.Reading.{NamesFault, Steady, IsNoMemory};
+ghost use Rattle.ciborium.specs.Reading.{NamesFault, Steady, TakesSome, IsNoMemory, IfEnd};
 ghost use Rattle.ciborium.specs.Typed.{ReadsAs, IsRefused};
 
 use crate::de::{Error, from_decoder};
@@ -14,6 +14,10 @@ use std::alloc::Global;
 
 /// Reads the item at the front of the bytes to come as a value of the type, and leaves what follows
 /// it.
+///
+/// # Errors
+/// Those of `from_decoder`; `Semantic` with the type's fault where the item is none of it, and it
+/// was taken then.
 pub fn typed_item<T: Deserialize, R: Read>(
     alloc: Global,
     decoder: &mut Decoder<R>,
@@ -25,6 +29,9 @@ pub fn typed_item<T: Deserialize, R: Read>(
         (seen R.Read decoder.old) (seen R.Read decoder.new) e
         ⊎ Takes (seen R.Read decoder.old) (seen R.Read decoder.new) (IsRefused T.refusal limit e)) }
     ensures nothing { left_of R.left decoder.old ≡ Some [] → IfErr result IsNoMemory }
+    ensures ended { left_of R.left decoder.old ≡ Some []
+        → IfErr result (IfEnd R.ends (left_of R.left decoder.new ≡ Some [])) }
+    ensures stops { IfErr result (TakesSome (seen R.Read decoder.old) (seen R.Read decoder.new)) }
     ensures steady { Steady R.ends result (seen R.Read decoder.old) (seen R.Read decoder.new) }
 {
     let value = from_decoder(alloc, decoder, limit)?;
