@@ -14,7 +14,7 @@ use coset_headers::{Header, ProtectedHeader};
 use coset_labels::{Algorithm, CoseError, iana};
 use std::alloc::Global;
 
-/// What a party brings, while it is built. No call takes memory.
+/// What a party brings, while it is built (RFC 9053, section 5.2, PartyInfo). No call takes memory.
 #[derive(Drop)]
 pub struct PartyInfoBuilder {
     info: PartyInfo,
@@ -64,7 +64,8 @@ impl PartyInfoBuilder {
     }
 }
 
-/// What both parties know, while it is built. No call takes memory.
+/// What both parties know, while it is built (RFC 9053, section 5.2, SuppPubInfo). No call takes
+/// memory.
 #[derive(Drop)]
 pub struct SuppPubInfoBuilder {
     info: SuppPubInfo,
@@ -118,7 +119,8 @@ impl SuppPubInfoBuilder {
     }
 }
 
-/// A context while it is built. The call that appends can be refused memory; the others take none.
+/// A context while it is built (RFC 9053, section 5.2, COSE_KDF_Context). The call that appends can be
+/// refused memory; the others take none.
 #[derive(Drop)]
 pub struct CoseKdfContextBuilder {
     context: CoseKdfContext,

@@ -30,7 +30,7 @@ const FIRST: i64 = -1;
 /// The label of the private key of a key over an elliptic curve (RFC 9053, section 7.1.1).
 const D: i64 = -4;
 
-/// A key while it is built. The setters take no memory.
+/// A key while it is built (RFC 9052, section 7). The setters take no memory.
 #[derive(Drop)]
 pub struct CoseKeyBuilder {
     key: CoseKey,
@@ -235,7 +235,8 @@ impl CoseKeyBuilder {
         Ok(self)
     }
 
-    /// Appends an entry with a label that has no field of its own, and is not 0.
+    /// Appends an entry with a label outside 0 to 5: 0 is reserved, and the others have fields of their own
+    /// (RFC 9052, section 7.1).
     ///
     /// # Errors
     /// Only where memory is refused.

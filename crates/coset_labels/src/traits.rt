@@ -31,7 +31,8 @@ pub trait AsCborValue: Drop + Sized {
     /// The tree that fields are written as; none where a label would be written twice in one map.
     ghost written: { Fields → Option Tree };
 
-    /// Reads a value. No byte string of it is copied.
+    /// Reads a value. Its byte strings are moved, which is only read in the code; what is inside that of
+    /// a protected header is decoded anew.
     ///
     /// # Errors
     /// A fault that the value has, or `Memory`.
