@@ -185,7 +185,8 @@ impl HeaderBuilder {
         Ok(self)
     }
 
-    /// Appends an entry with a label outside 1 to 7, which have fields of their own (RFC 9052, section 3.1).
+    /// Appends an entry with a label outside 1 to 7, which have fields of their own (RFC 9052,
+    /// section 3.1).
     ///
     /// # Errors
     /// Only where memory is refused.

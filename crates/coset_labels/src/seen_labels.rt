@@ -1,5 +1,6 @@
 //! Which keys of a map stood before.
-ghost use Rattle.std.specs.Prelude.{◌≡◌, ◌↔◌, List, [], ◌∷◌, ◌++◌, IsTrue, IfOk, MatchResult, MatchBool, true, false};
+ghost use Rattle.std.specs.Prelude.{◌≡◌, ◌↔◌, List, [], ◌∷◌, ◌++◌, IsTrue, IfOk, MatchResult};
+ghost use Rattle.std.specs.Prelude.{MatchBool, true, false};
 ghost use Rattle.std.specs.Ordering.{is_eq};
 ghost use Rattle.ciborium_value.specs.Tree.{Tree};
 ghost use Rattle.coset_labels.specs.Entries.{IsIn};
@@ -45,8 +46,8 @@ impl<T: WithPrivateRange> EntryKey for RegisteredLabelWithPrivate<T> {
     }
 }
 
-/// The keys of some entries. The first two stand here and take no memory but that of their texts, which are copied; a key is found
-/// among the others in as many steps as their number has digits.
+/// The keys of some entries. The first two stand here and take no memory but that of their texts,
+/// which are copied; a key is found among the others in as many steps as their number has digits.
 #[derive(Drop)]
 pub struct SeenLabels<K: Ord> {
     pub(crate) first: Option<K>,
@@ -66,7 +67,8 @@ impl<K: EntryKey> SeenLabels<K> {
         }
     }
 
-    /// Adds a copy of the key, and tells whether it is new. A key that stood before changes nothing.
+    /// Adds a copy of the key, and tells whether it is new. A key that stood before changes
+    /// nothing.
     ///
     /// # Errors
     /// Only where memory is refused.
