@@ -91,9 +91,13 @@ def owner_of(head):
 def signatures(page):
     """The lines of a page's part, and how many methods are left out."""
     names, _ = passed_on(page)
+    root = (CRATES / page / "src/lib.rt").read_text(encoding="utf-8")
     found, below = {}, set()
     for crate in PAGES[page]:
         _, modules = passed_on(crate)
+        # (of a crate below its modules are there where it is passed on as a whole, or they by name)
+        if crate != page and not re.search(rf"^pub use {crate}( as \w+)?;", root, re.M):
+            modules &= names
         for file in sorted((CRATES / crate / "src").rglob("*.rt")):
             if "laws" in file.parts or file.stem == "laws":
                 continue

@@ -19,7 +19,8 @@ use coset_labels::{
 };
 use std::alloc::Global;
 
-/// A header while it is built. Calls that append can be refused memory; the others take none.
+/// A header while it is built (RFC 9052, section 3.1), with one call for each field. Calls
+/// that append can be refused memory; the others take none.
 #[derive(Drop)]
 pub struct HeaderBuilder {
     alg: Option<Algorithm>,
@@ -184,7 +185,8 @@ impl HeaderBuilder {
         Ok(self)
     }
 
-    /// Appends an entry with a label that has no field of its own.
+    /// Appends an entry with a label outside 1 to 7, which have fields of their own (RFC 9052,
+    /// section 3.1).
     ///
     /// # Errors
     /// Only where memory is refused.

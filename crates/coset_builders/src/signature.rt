@@ -7,7 +7,7 @@ ghost use Rattle.coset_builders.specs.Builders.{signature_so_far};
 use coset_headers::{CoseSignature, Header, ProtectedHeader};
 use std::alloc::Global;
 
-/// A signature while it is built. No call takes memory.
+/// A signature with its headers while it is built (RFC 9052, section 4.1). No call takes memory.
 #[derive(Drop)]
 pub struct CoseSignatureBuilder {
     protected: ProtectedHeader,

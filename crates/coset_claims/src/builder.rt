@@ -1,5 +1,5 @@
 //! A builder of claims.
-ghost use Rattle.std.specs.Prelude.{◌≡◌, ◌++◌, ◌∷◌, [], false, true, Some, MatchResult, string_bytes};
+ghost use Rattle.std.specs.Prelude.{◌≡◌, false, true, Some, MatchResult, string_bytes};
 ghost use Rattle.cose_iana.specs.Claims.{cwt_claim_names};
 ghost use Rattle.cose_iana.specs.Registry.{is_private_use};
 ghost use Rattle.ciborium_value.specs.View.{view};
@@ -15,7 +15,8 @@ use ciborium_value::Value;
 use coset_labels::{CoseError, iana};
 use std::alloc::Global;
 
-/// Claims while they are built. Calls that append can be refused memory; the others take none.
+/// Claims while they are built (RFC 8392, section 3.1). Calls that append can be refused memory;
+/// the others take none.
 #[derive(Drop)]
 pub struct ClaimsSetBuilder {
     claims: ClaimsSet,
@@ -94,7 +95,8 @@ impl ClaimsSetBuilder {
         self
     }
 
-    /// Appends a claim that has no field of its own.
+    /// Appends a claim with a number outside 1 to 7, which have fields of their own (RFC 8392,
+    /// section 3.1).
     ///
     /// # Errors
     /// Only where memory is refused.
@@ -126,7 +128,8 @@ impl ClaimsSetBuilder {
         Ok(self)
     }
 
-    /// Appends a claim whose name is a number for private use.
+    /// Appends a claim whose name is a number for private use, below -65536 (RFC 8392, section
+    /// 9.1).
     ///
     /// # Errors
     /// Only where memory is refused.

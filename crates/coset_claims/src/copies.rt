@@ -1,5 +1,5 @@
 //! Copies of times and claims.
-ghost use Rattle.std.specs.Prelude.{◌≡◌, IfOk, option_map, string_bytes};
+ghost use Rattle.std.specs.Prelude.{◌≡◌, IfOk, IsOkAnd, option_map, string_bytes};
 ghost use Rattle.coset_claims.specs.View.{claims_view, time_view};
 
 use crate::cwt::{ClaimsSet, Timestamp};
@@ -31,7 +31,7 @@ impl Timestamp {
     /// # Errors
     /// None.
     pub fn clone(&self, _alloc: Global) -> Result<Timestamp, AllocError>
-        ensures { IfOk result (λ copy. time_view copy ≡ time_view self.now) }
+        ensures { IsOkAnd result (λ copy. time_view copy ≡ time_view self.now) }
     {
         match self {
             Timestamp::WholeSeconds(seconds) => Ok(Timestamp::WholeSeconds(*seconds)),

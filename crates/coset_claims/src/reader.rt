@@ -1,5 +1,5 @@
 //! Reads claims. Values are moved into their fields, and nothing but names is copied.
-ghost use Rattle.std.specs.Prelude.{◌≡◌, pos, List, MatchResult};
+ghost use Rattle.std.specs.Prelude.{List, MatchResult};
 ghost use Rattle.ciborium_value.specs.Tree.{Tree};
 ghost use Rattle.ciborium_value.specs.View.{view, view_pairs};
 ghost use Rattle.coset_labels.specs.Faults.{OrMemory};

@@ -1,7 +1,10 @@
 //! Whether the value of a header or a signature is already the one that would be written.
-ghost use Rattle.std.specs.Prelude.{◌≡◌};
+ghost use Rattle.std.specs.Prelude.{◌≡◌, refl};
 ghost use Rattle.ciborium_value.specs.View.{view, views, view_pairs};
-ghost use Rattle.coset_headers.specs.AsWritten.{place_of, header_stands, entries_stand, signed_stand, signatures_stand, signature_stands, elements_stand};
+ghost use Rattle.coset_labels.specs.Limits.{nesting, layers};
+ghost use Rattle.coset_headers.specs.AsWritten.{place_of, header_stands, entries_stand};
+ghost use Rattle.coset_headers.specs.AsWritten.{signed_stand, signatures_stand, signature_stands};
+ghost use Rattle.coset_headers.specs.AsWritten.{elements_stand};
 ghost use Rattle.coset_headers.specs.Fields.{HeaderFields, SignatureFields};
 ghost use Rattle.coset_headers.specs.Headers.{HasHeader, HasSignature};
 ghost use Rattle.coset_headers.specs.Written.{header_tree, signature_tree};
@@ -11,7 +14,8 @@ use crate::values::is_one_signature;
 use ciborium_value::Value;
 use coset_labels::AsWritten;
 
-/// The labels 1 to 7 come first, in this order, and counter signatures are one by itself or two and more in a list.
+/// The labels 1 to 7 come first, in this order, and counter signatures are one by itself or two and
+/// more in a list.
 impl AsWritten for Header {
     ghost Content = { HeaderFields };
 
@@ -22,6 +26,8 @@ impl AsWritten for Header {
     fn is_as_written(value: &Value) -> bool {
         header_stands(value)
     }
+
+    ghost read = { λ t x s. (nesting, layers, x, s, refl) };
 }
 
 /// The unprotected header is as written; a protected one always is.
@@ -35,6 +41,8 @@ impl AsWritten for CoseSignature {
     fn is_as_written(value: &Value) -> bool {
         signature_stands(value)
     }
+
+    ghost read = { λ t x s. (nesting, layers, x, s, refl) };
 }
 
 #[cycle(stands)]
@@ -65,7 +73,8 @@ fn entries_stand(entries: &[(Value, Value)]) -> bool
     true
 }
 
-/// The place of an entry in a header, by its key: 1 to 7 for a label with a field of its own, and 8 for all others.
+/// The place of an entry in a header, by its key: 1 to 7 for a label with a field of its own, and 8
+/// for all others.
 fn place_of(key: &Value) -> u8
     ensures { result ≡ place_of (view key.now) }
 {
@@ -108,7 +117,8 @@ pub fn signatures_stand(items: &[Value]) -> bool
     true
 }
 
-/// Whether the value of a signature, or another array whose second element is an unprotected header, is as it would be written.
+/// Whether the value of a signature, or another array whose second element is an unprotected
+/// header, is as it would be written.
 #[cycle(stands)]
 pub fn signature_stands(value: &Value) -> bool
     ensures { result ≡ signature_stands (view value.now) }
@@ -119,7 +129,8 @@ pub fn signature_stands(value: &Value) -> bool
     }
 }
 
-/// Whether the second of the elements of a signature or a message, its unprotected header, is as it would be written.
+/// Whether the second of the elements of a signature or a message, its unprotected header, is as it
+/// would be written.
 #[cycle(stands)]
 pub fn elements_stand(items: &[Value]) -> bool
     ensures { result ≡ elements_stand (views items.now) }

@@ -1,5 +1,5 @@
 //! Writes the entries of a header in their fixed order (RFC 9052, section 3.1).
-ghost use Rattle.std.specs.Prelude.{◌≡◌, ℕ, List, Some, map, option_map, MatchResult};
+ghost use Rattle.std.specs.Prelude.{◌≡◌, Some, map, option_map, MatchResult};
 ghost use Rattle.cose_iana.specs.Algorithms.{algorithm_number};
 ghost use Rattle.cose_iana.specs.Formats.{coap_content_formats};
 ghost use Rattle.cose_iana.specs.Headers.{header_parameters};
@@ -10,7 +10,8 @@ ghost use Rattle.coset_labels.specs.declared.error.CoseError.TheVariants.{Memory
 ghost use Rattle.coset_headers.specs.Entries.{Appends};
 ghost use Rattle.coset_headers.specs.Parts.{plain_of};
 ghost use Rattle.coset_headers.specs.View.{entry_view};
-ghost use Rattle.coset_headers.specs.Written.{name_entry, crit_entry, bytes_entry, signs_entry, bare_or_list, header_of, twice};
+ghost use Rattle.coset_headers.specs.Written.{name_entry, crit_entry, bytes_entry, signs_entry};
+ghost use Rattle.coset_headers.specs.Written.{bare_or_list, header_of, twice};
 
 use crate::parts::HeaderParts;
 use ciborium_value::{Integer, Value};

@@ -1,14 +1,18 @@
 //! Reads headers. Values are moved into their fields, and nothing but labels is copied.
-ghost use Rattle.std.specs.Prelude.{◌≡◌, List, Some, MatchResult};
+ghost use Rattle.std.specs.Prelude.{List, Some, MatchResult};
 ghost use Rattle.ciborium_value.specs.Tree.{Tree};
 ghost use Rattle.ciborium_value.specs.View.{view, views, view_pairs};
 ghost use Rattle.coset_labels.specs.Faults.{OrMemory};
 ghost use Rattle.coset_labels.specs.Fields.{LabelFields};
-ghost use Rattle.coset_headers.specs.Headers.{HasHeader, HasProtected, HasSignature, HasSigned, HasSignatures};
+ghost use Rattle.coset_headers.specs.Headers.{HasHeader, HasProtected, HasSignature, HasSigned};
+ghost use Rattle.coset_headers.specs.Headers.{HasSignatures};
 ghost use Rattle.coset_headers.specs.Parts.{plain_of, signs_of, KnownIn, Added};
-ghost use Rattle.coset_headers.specs.View.{header_view, protected_view, signature_view, signatures_view};
-ghost use Rattle.coset_headers.specs.Walks.{Inside, WrongInside, HasEntries, WrongEntries, WrongSignatures};
-ghost use Rattle.coset_headers.specs.Wrong.{WrongHeader, WrongEntry, WrongSigned, WrongSignature, WrongProtected};
+ghost use Rattle.coset_headers.specs.View.{header_view, protected_view, signature_view};
+ghost use Rattle.coset_headers.specs.View.{signatures_view};
+ghost use Rattle.coset_headers.specs.Walks.{Inside, WrongInside, HasEntries, WrongEntries};
+ghost use Rattle.coset_headers.specs.Walks.{WrongSignatures};
+ghost use Rattle.coset_headers.specs.Wrong.{WrongHeader, WrongEntry, WrongSigned, WrongSignature};
+ghost use Rattle.coset_headers.specs.Wrong.{WrongProtected};
 
 use crate::header::{CoseSignature, Header, ProtectedHeader};
 use crate::parts::{HeaderParts, is_counter_signatures};

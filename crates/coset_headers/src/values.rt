@@ -1,5 +1,5 @@
 //! The values of single fields.
-ghost use Rattle.std.specs.Prelude.{◌≡◌, ◌≢◌, [], Some, map, option_map, MatchResult, MatchBool, string_bytes, false};
+ghost use Rattle.std.specs.Prelude.{◌≡◌, ◌≢◌, [], Some, map, MatchResult, MatchBool, false};
 ghost use Rattle.std.specs.List.{count_by};
 ghost use Rattle.cose_iana.specs.Formats.{coap_content_formats};
 ghost use Rattle.cose_iana.specs.Headers.{header_parameters};
@@ -10,7 +10,8 @@ ghost use Rattle.coset_labels.specs.Fields.{named};
 ghost use Rattle.coset_labels.specs.Kinds.{is_array};
 ghost use Rattle.coset_labels.specs.View.{registered_view, named_view};
 ghost use Rattle.coset_headers.specs.AsWritten.{is_bare};
-ghost use Rattle.coset_headers.specs.Headers.{is_slash, crit_of, parameters_of, HasContentType, IsContentType, IsBare, IsList};
+ghost use Rattle.coset_headers.specs.Headers.{is_slash, crit_of, HasContentType, IsContentType};
+ghost use Rattle.coset_headers.specs.Headers.{IsBare, IsList};
 ghost use Rattle.coset_headers.specs.Wrong.{WrongCrit, WrongContentType, NoSignature};
 
 use ciborium_value::Value;

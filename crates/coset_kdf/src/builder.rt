@@ -5,7 +5,8 @@ ghost use Rattle.coset_labels.specs.Fields.{assigned};
 ghost use Rattle.coset_labels.specs.declared.error.CoseError.TheVariants.{Memory};
 ghost use Rattle.coset_headers.specs.Fields.{protected};
 ghost use Rattle.coset_headers.specs.View.{header_view};
-ghost use Rattle.coset_kdf.specs.Builders.{context_so_far, party_so_far, public_so_far, with_private};
+ghost use Rattle.coset_kdf.specs.Builders.{context_so_far, party_so_far, public_so_far};
+ghost use Rattle.coset_kdf.specs.Builders.{with_private};
 ghost use Rattle.coset_kdf.specs.Fields.{no_context, no_party, no_public};
 ghost use Rattle.coset_kdf.specs.View.{context_view, nonce_view, party_view, public_view};
 
@@ -14,7 +15,7 @@ use coset_headers::{Header, ProtectedHeader};
 use coset_labels::{Algorithm, CoseError, iana};
 use std::alloc::Global;
 
-/// What a party brings, while it is built. No call takes memory.
+/// What a party brings, while it is built (RFC 9053, section 5.2, PartyInfo). No call takes memory.
 #[derive(Drop)]
 pub struct PartyInfoBuilder {
     info: PartyInfo,
@@ -64,7 +65,8 @@ impl PartyInfoBuilder {
     }
 }
 
-/// What both parties know, while it is built. No call takes memory.
+/// What both parties know, while it is built (RFC 9053, section 5.2, SuppPubInfo). No call takes
+/// memory.
 #[derive(Drop)]
 pub struct SuppPubInfoBuilder {
     info: SuppPubInfo,
@@ -118,7 +120,8 @@ impl SuppPubInfoBuilder {
     }
 }
 
-/// A context while it is built. The call that appends can be refused memory; the others take none.
+/// A context while it is built (RFC 9053, section 5.2, COSE_KDF_Context). The call that appends can
+/// be refused memory; the others take none.
 #[derive(Drop)]
 pub struct CoseKdfContextBuilder {
     context: CoseKdfContext,

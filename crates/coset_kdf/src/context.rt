@@ -7,7 +7,8 @@ use coset_headers::ProtectedHeader;
 use coset_labels::{Algorithm, iana};
 use std::alloc::Global;
 
-/// A nonce.
+/// A nonce of a party: a byte string or an integer, which is new each time a key is derived (RFC
+/// 9053, section 5.2).
 #[derive(Debug, PartialEq, Eq, Drop)]
 pub enum Nonce {
     /// A byte string.

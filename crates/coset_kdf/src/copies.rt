@@ -1,5 +1,6 @@
 //! Copies of KDF contexts and their parts.
-ghost use Rattle.std.specs.Prelude.{◌≡◌, IfOk, map, option_map};
+ghost use Rattle.std.specs.Prelude.{◌≡◌, ℤ, IfOk, IsOk, map, option_map};
+ghost use Rattle.coset_kdf.specs.Fields.{nonce_integer};
 ghost use Rattle.coset_kdf.specs.View.{context_view, nonce_view, party_view, public_view};
 
 use crate::context::{CoseKdfContext, Nonce, PartyInfo, SuppPubInfo};
@@ -45,9 +46,10 @@ impl Nonce {
     /// A nonce equal to this one. That of an integer takes no memory.
     ///
     /// # Errors
-    /// Only where memory is refused.
+    /// Only where memory is refused, and of bytes alone.
     pub fn clone(&self, alloc: Global) -> Result<Nonce, AllocError>
-        ensures { IfOk result (λ copy. nonce_view copy ≡ nonce_view self.now) }
+        ensures ok { IfOk result (λ copy. nonce_view copy ≡ nonce_view self.now) }
+        ensures number { (i : ℤ) → nonce_view self.now ≡ nonce_integer i → IsOk result }
     {
         match self {
             Nonce::Bytes(bytes) => Ok(Nonce::Bytes(bytes.as_slice().to_vec(alloc)?)),

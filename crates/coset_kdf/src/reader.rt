@@ -1,12 +1,13 @@
 //! Reads KDF contexts and their parts, elements from the last to the first.
-ghost use Rattle.std.specs.Prelude.{◌≡◌, ◌≤◌, map, option_map, Some, MatchResult};
+ghost use Rattle.std.specs.Prelude.{◌≡◌, option_map, Some, MatchResult};
 ghost use Rattle.ciborium_value.specs.View.{view};
 ghost use Rattle.coset_labels.specs.Faults.{OrMemory, fault_of};
 ghost use Rattle.coset_labels.specs.Limits.{nesting, layers};
 ghost use Rattle.coset_kdf.specs.Contexts.{HasContext, HasParty, HasPublic, length_of, nonce_of};
 ghost use Rattle.coset_kdf.specs.Steps.{HasTwo, WrongTwo};
 ghost use Rattle.coset_kdf.specs.View.{context_view, nonce_view, party_view, public_view};
-ghost use Rattle.coset_kdf.specs.Wrong.{WrongContext, WrongLength, WrongNonce, WrongParty, WrongPublic};
+ghost use Rattle.coset_kdf.specs.Wrong.{WrongContext, WrongLength, WrongNonce, WrongParty};
+ghost use Rattle.coset_kdf.specs.Wrong.{WrongPublic};
 
 use crate::context::{CoseKdfContext, Nonce, PartyInfo, SuppPubInfo};
 use crate::items::pop_private;

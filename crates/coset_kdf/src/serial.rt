@@ -1,6 +1,5 @@
 //! KDF contexts and their parts as values and bytes.
 ghost use Rattle.std.specs.Prelude.{Some};
-ghost use Rattle.coset_labels.specs.Faults.{fault_of};
 ghost use Rattle.coset_labels.specs.Limits.{nesting, layers};
 ghost use Rattle.coset_kdf.specs.Contexts.{HasContext, HasParty, HasPublic};
 ghost use Rattle.coset_kdf.specs.Fields.{ContextFields, PartyFields, PublicFields};

@@ -9,8 +9,9 @@ ghost use Rattle.coset_labels.specs.Fields.{number, assigned};
 ghost use Rattle.coset_labels.specs.Orders.{named_cmp};
 ghost use Rattle.coset_labels.specs.View.{registered_view};
 ghost use Rattle.coset_labels.specs.declared.error.CoseError.TheVariants.{Memory};
-ghost use Rattle.coset_keys.specs.Builders.{so_far, is_common, with_param, symmetric_key, ml_dsa_key, okp_key};
-ghost use Rattle.coset_keys.specs.Fields.{KeyFields, no_key};
+ghost use Rattle.coset_keys.specs.Builders.{so_far, is_common, with_param, symmetric_key};
+ghost use Rattle.coset_keys.specs.Builders.{ml_dsa_key, okp_key};
+ghost use Rattle.coset_keys.specs.Fields.{no_key};
 ghost use Rattle.coset_keys.specs.Points as spec;
 ghost use Rattle.coset_keys.specs.Points.{IsSec1, ec2_key, ec2_params, signed, both, d_label};
 ghost use Rattle.coset_keys.specs.View.{key_view};
@@ -24,13 +25,14 @@ use coset_labels::iana::EnumI64;
 use coset_labels::{CoseError, KeyType, Label, RegisteredLabel, RegisteredLabelWithPrivate, iana};
 use std::alloc::{AllocError, Global};
 
-/// The label of the curve of a key over an elliptic curve, and of the key itself of some other types (RFC 9053, section 7).
+/// The label of the curve of a key over an elliptic curve, and of the key itself of some other
+/// types (RFC 9053, section 7).
 const FIRST: i64 = -1;
 
 /// The label of the private key of a key over an elliptic curve (RFC 9053, section 7.1.1).
 const D: i64 = -4;
 
-/// A key while it is built. The setters take no memory.
+/// A key while it is built (RFC 9052, section 7). The setters take no memory.
 #[derive(Drop)]
 pub struct CoseKeyBuilder {
     key: CoseKey,
@@ -87,8 +89,8 @@ impl CoseKeyBuilder {
         Ok(ec2_builder(alloc, curve, x, Value::Bool(y_sign))?)
     }
 
-    /// A public key over an elliptic curve, by the octet string of its point (SEC 1, section 2.3.3). The coordinates may have any
-    /// length.
+    /// A public key over an elliptic curve, by the octet string of its point (SEC 1, section
+    /// 2.3.3). The coordinates may have any length.
     ///
     /// # Errors
     /// `Malformed` for an octet string of no point, or `Memory`.
@@ -235,7 +237,8 @@ impl CoseKeyBuilder {
         Ok(self)
     }
 
-    /// Appends an entry with a label that has no field of its own, and is not 0.
+    /// Appends an entry with a label outside 0 to 5: 0 is reserved, and the others have fields of
+    /// their own (RFC 9052, section 7.1).
     ///
     /// # Errors
     /// Only where memory is refused.

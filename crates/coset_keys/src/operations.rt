@@ -1,5 +1,5 @@
 //! The operations of a key.
-ghost use Rattle.std.specs.Prelude.{◌≡◌, ◌≢◌, [], map, MatchResult};
+ghost use Rattle.std.specs.Prelude.{◌≢◌, [], map, MatchResult};
 ghost use Rattle.cose_iana.specs.Keys.{key_operations};
 ghost use Rattle.ciborium_value.specs.Tree as spec;
 ghost use Rattle.ciborium_value.specs.View.{view, views};

@@ -19,6 +19,10 @@ module _ {K : Type 0} (cmp : K → K → Ordering) where
   abbrev pub Grows : SeenLabels K → SeenLabels K → K → Type 0
   Grows old new k = (q : K) → has_seen new q ≡ (holds (Some k) q || has_seen old q)
 
+  -- every key is as before
+  abbrev pub Keeps : SeenLabels K → SeenLabels K → Type 0
+  Keeps old new = (q : K) → has_seen new q ≡ has_seen old q
+
 -- the keys of these entries, and no others, were seen
 pub record Sees {K L : Type 0} (cmp : K → K → Ordering) (fields : K → L) (s : SeenLabels K) (es : List (L × Tree)) : Type 0 where
   pub seen : (k : K) → has_seen cmp s k ≡ true → IsIn (fields k) es

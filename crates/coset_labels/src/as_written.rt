@@ -6,21 +6,27 @@ ghost use Rattle.ciborium_value.specs.View.{view};
 use crate::traits::AsCborValue;
 use ciborium_value::Value;
 
-/// A type whose value can be asked, before it is read, whether it is already the one that would be written.
+/// A type whose value can be asked, before it is read, whether it is already the one that would be
+/// written.
 pub trait AsWritten: AsCborValue {
     /// What a value of the type says: its `Fields`.
     ghost Content: { Type 0 };
 
-    /// Which content a tree has as this type, under a nesting limit of protected bytes and so many layers of them.
+    /// Which content a tree has as this type, under a nesting limit of protected bytes and so many
+    /// layers of them.
     ghost has: { ℕ → Tree → Content → ℕ → Type 0 };
 
     /// The tree that content is written as: `written`.
     ghost tree_of: { Content → Option Tree };
 
-    /// Whether the value is the very one that would be written of what it is read as: true exactly where it is. Of a value that isn't
-    /// read as this type it says nothing. It takes no memory.
+    /// Whether the value is the very one that would be written of what it is read as: true exactly
+    /// where it is. Of a value that isn't read as this type it says nothing. It takes no memory.
     fn is_as_written(value: &Value) -> bool
         ensures { (n k : ℕ) (x : Content) → has n (view value.now) x k
             → MatchBool result (tree_of x ≡ Some (view value.now))
             (tree_of x ≡ Some (view value.now) → ⊥) };
+
+    /// Fields that a value is read as are a content that it has, and are written as that content.
+    ghost read: { (t : Tree) (x : Self.Fields) → Self.shape t x
+        → (n : ℕ) × (k : ℕ) × (c : Content) × has n t c k × (tree_of c ≡ Self.written x) };
 }

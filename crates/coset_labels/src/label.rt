@@ -1,10 +1,11 @@
 //! Labels of headers and keys.
-ghost use Rattle.std.specs.Prelude.{◌≡◌, refl, Some, IfOk, length};
-ghost use Rattle.std.specs.Cmp.{partial_equiv_from_equiv, on_equiv, eq_by_cmp_equiv, on_total, partial_order_from_agreeing_total};
+ghost use Rattle.std.specs.Prelude.{◌≡◌, ℤ, refl, Some, IfOk, IsOk, length};
+ghost use Rattle.std.specs.Cmp.{partial_equiv_from_equiv, on_equiv, eq_by_cmp_equiv, on_total};
+ghost use Rattle.std.specs.Cmp.{partial_order_from_agreeing_total};
 ghost use Rattle.std.specs.Ordering.{on, eq_by_cmp, as_partial_cmp};
 ghost use Rattle.ciborium_value.specs.Encoding.{enc};
 ghost use Rattle.ciborium_value.specs.Tree.{integer, text};
-ghost use Rattle.coset_labels.specs.Fields.{LabelFields};
+ghost use Rattle.coset_labels.specs.Fields.{LabelFields, number};
 ghost use Rattle.coset_labels.specs.Labels.{label_of, label_tree, WrongLabel};
 ghost use Rattle.coset_labels.specs.Orders.{label_cmp, label_length_first, label_total};
 ghost use Rattle.coset_labels.specs.View.{label_view};
@@ -20,7 +21,8 @@ use ciborium_value::{Integer, Value};
 use std::alloc::{AllocError, Global};
 use std::cmp::Ordering;
 
-/// The label of an entry of a header or a key (RFC 9052, section 1.4). Labels are ordered as the bytes of their encodings are.
+/// The label of an entry of a header or a key (RFC 9052, section 1.4). Labels are ordered as the
+/// bytes of their encodings are.
 #[derive(Debug, Drop)]
 pub enum Label {
     /// An integer.
@@ -33,9 +35,10 @@ impl Label {
     /// A label equal to this one. That of an integer takes no memory.
     ///
     /// # Errors
-    /// Only where memory is refused.
+    /// Only where memory is refused, and of a text alone.
     pub fn clone(&self, alloc: Global) -> Result<Label, AllocError>
-        ensures { IfOk result (λ copy. label_view copy ≡ label_view self.now) }
+        ensures ok { IfOk result (λ copy. label_view copy ≡ label_view self.now) }
+        ensures number { (i : ℤ) → label_view self.now ≡ number i → IsOk result }
     {
         match self {
             Label::Int(i) => Ok(Label::Int(*i)),
@@ -43,7 +46,8 @@ impl Label {
         }
     }
 
-    /// The other order: the shorter encoding first, and then byte by byte (RFC 8949, section 4.2.3). It takes no memory.
+    /// The other order: the shorter encoding first, and then byte by byte (RFC 8949, section
+    /// 4.2.3). It takes no memory.
     pub fn cmp_canonical(&self, other: &Label) -> Ordering
         ensures { result ≡ label_length_first (label_view self.now) (label_view other.now) }
     {

@@ -1,6 +1,6 @@
 //! The orders of labels.
-ghost use Rattle.std.specs.Prelude.{◌≡◌, ℤ, ℕ, List};
-ghost use Rattle.ciborium_value.specs.Tree.{Tree, integer, text};
+ghost use Rattle.std.specs.Prelude.{◌≡◌};
+ghost use Rattle.ciborium_value.specs.Tree.{integer, text};
 ghost use Rattle.ciborium_value.specs.Canonical.{place, number, text_cmp};
 
 use std::cmp::Ordering;

@@ -1,11 +1,13 @@
 //! Numbers of registries, or texts.
-ghost use Rattle.std.specs.Prelude.{◌≡◌, refl, Some, IfOk};
-ghost use Rattle.std.specs.Cmp.{partial_equiv_from_equiv, on_equiv, eq_by_cmp_equiv, on_total, partial_order_from_agreeing_total};
+ghost use Rattle.std.specs.Prelude.{◌≡◌, ℤ, refl, Some, IfOk, IsOk};
+ghost use Rattle.std.specs.Cmp.{partial_equiv_from_equiv, on_equiv, eq_by_cmp_equiv, on_total};
+ghost use Rattle.std.specs.Cmp.{partial_order_from_agreeing_total};
 ghost use Rattle.std.specs.Ordering.{on, eq_by_cmp, as_partial_cmp};
 ghost use Rattle.ciborium_value.specs.Tree.{integer};
 ghost use Rattle.ciborium_value.specs.Canonical.{text_cmp};
-ghost use Rattle.coset_labels.specs.Fields.{Named};
-ghost use Rattle.coset_labels.specs.Labels.{registered_of, named_of, named_tree, WrongRegistered, WrongNamed};
+ghost use Rattle.coset_labels.specs.Fields.{Named, private_use, assigned};
+ghost use Rattle.coset_labels.specs.Labels.{registered_of, named_of, named_tree, WrongRegistered};
+ghost use Rattle.coset_labels.specs.Labels.{WrongNamed};
 ghost use Rattle.coset_labels.specs.Orders.{is_own_number, named_cmp, named_total};
 ghost use Rattle.coset_labels.specs.Names.{name_view};
 ghost use Rattle.coset_labels.specs.View.{registered_view, named_view};
@@ -29,8 +31,9 @@ pub enum RegisteredLabel<T> {
     Text(String),
 }
 
-/// A number of a registry or of its private range, or a text (RFC 9052, section 3.1). They are ordered as the bytes of their encodings
-/// are; of two with one encoding the entry of the registry is first.
+/// A number of a registry or of its private range, or a text (RFC 9052, section 3.1). They are
+/// ordered as the bytes of their encodings are; of two with one encoding the entry of the registry
+/// is first.
 #[derive(Debug, Drop)]
 pub enum RegisteredLabelWithPrivate<T> {
     /// A number of the private range.
@@ -54,10 +57,11 @@ impl<T: EnumI64> RegisteredLabel<T> {
     /// A value equal to this one. That of a number takes no memory.
     ///
     /// # Errors
-    /// Only where memory is refused.
+    /// Only where memory is refused, and of a text alone.
     pub fn clone(&self, alloc: Global) -> Result<RegisteredLabel<T>, AllocError>
-        ensures { IfOk result
+        ensures ok { IfOk result
             (λ copy. registered_view T.number copy ≡ registered_view T.number self.now) }
+        ensures number { (i : ℤ) → registered_view T.number self.now ≡ assigned i → IsOk result }
     {
         match self {
             RegisteredLabel::Assigned(entry) => Ok(RegisteredLabel::Assigned(*entry)),
@@ -72,9 +76,11 @@ impl<T: WithPrivateRange> RegisteredLabelWithPrivate<T> {
     /// A value equal to this one. That of a number takes no memory.
     ///
     /// # Errors
-    /// Only where memory is refused.
+    /// Only where memory is refused, and of a text alone.
     pub fn clone(&self, alloc: Global) -> Result<RegisteredLabelWithPrivate<T>, AllocError>
-        ensures { IfOk result (λ copy. named_view T.number copy ≡ named_view T.number self.now) }
+        ensures ok { IfOk result (λ copy. named_view T.number copy ≡ named_view T.number self.now) }
+        ensures number { (i : ℤ) → named_view T.number self.now ≡ assigned i → IsOk result }
+        ensures own { (i : ℤ) → named_view T.number self.now ≡ private_use i → IsOk result }
     {
         match self {
             RegisteredLabelWithPrivate::PrivateUse(i) => {

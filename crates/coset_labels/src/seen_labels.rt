@@ -1,10 +1,11 @@
 //! Which keys of a map stood before.
-ghost use Rattle.std.specs.Prelude.{◌≡◌, ◌↔◌, List, [], ◌∷◌, ◌++◌, IsTrue, IfOk, MatchResult, MatchBool, true, false};
+ghost use Rattle.std.specs.Prelude.{◌≡◌, ◌↔◌, List, [], ◌∷◌, ◌++◌, IsTrue, IfOk, MatchResult};
+ghost use Rattle.std.specs.Prelude.{MatchBool, true, false};
 ghost use Rattle.std.specs.Ordering.{is_eq};
 ghost use Rattle.ciborium_value.specs.Tree.{Tree};
 ghost use Rattle.coset_labels.specs.Entries.{IsIn};
 ghost use Rattle.coset_labels.specs.Orders.{labels_same, names_same};
-ghost use Rattle.coset_labels.specs.SeenLabels.{Sees, Grows, holds, has_seen};
+ghost use Rattle.coset_labels.specs.SeenLabels.{Sees, Grows, Keeps, holds, has_seen};
 ghost use Rattle.coset_labels.specs.View.{label_view, named_view};
 ghost use Rattle.coset_labels.specs.declared.error.CoseError.TheVariants.{Memory};
 
@@ -45,8 +46,8 @@ impl<T: WithPrivateRange> EntryKey for RegisteredLabelWithPrivate<T> {
     }
 }
 
-/// The keys of some entries. The first two take no memory here, and a key is found among the others in as many steps as their number has
-/// digits.
+/// The keys of some entries. The first two stand here and take no memory but that of their texts,
+/// which are copied; a key is found among the others in as many steps as their number has digits.
 #[derive(Drop)]
 pub struct SeenLabels<K: Ord> {
     pub(crate) first: Option<K>,
@@ -66,7 +67,8 @@ impl<K: EntryKey> SeenLabels<K> {
         }
     }
 
-    /// Adds a copy of the key, and tells whether it is new.
+    /// Adds a copy of the key, and tells whether it is new. A key that stood before changes
+    /// nothing.
     ///
     /// # Errors
     /// Only where memory is refused.
@@ -75,7 +77,7 @@ impl<K: EntryKey> SeenLabels<K> {
             → MatchResult result
             (λ fresh. MatchBool fresh ((IsIn (K.fields key.now) es → ⊥)
             × ((v : Tree) → Sees K.cmp K.fields self.new (es ++ (K.fields key.now, v) ∷ [])))
-            (IsIn (K.fields key.now) es))
+            (IsIn (K.fields key.now) es × Sees K.cmp K.fields self.new es))
             (λ e. e ≡ Memory) }
     {
         let copy = key.clone_in(alloc)?;
@@ -87,7 +89,7 @@ impl<K: EntryKey> SeenLabels<K> {
         ensures { IfOk result
             (λ fresh. MatchBool fresh
             ((has_seen K.cmp self.old key ≡ false) × Grows K.cmp self.old self.new key)
-            (has_seen K.cmp self.old key ≡ true)) }
+            ((has_seen K.cmp self.old key ≡ true) × Keeps K.cmp self.old self.new)) }
     {
         if is_same(&self.first, &key) || is_same(&self.second, &key) {
             return Ok(false);

@@ -31,7 +31,8 @@ pub trait AsCborValue: Drop + Sized {
     /// The tree that fields are written as; none where a label would be written twice in one map.
     ghost written: { Fields → Option Tree };
 
-    /// Reads a value. No byte string of it is copied.
+    /// Reads a value. Its byte strings are moved, which is only read in the code; what is inside
+    /// that of a protected header is decoded anew.
     ///
     /// # Errors
     /// A fault that the value has, or `Memory`.
@@ -53,8 +54,8 @@ pub trait CborSerializable: AsCborValue {
     /// Reads the one item that the bytes are, of at most 256 levels.
     ///
     /// # Errors
-    /// `DecodeFailed` with the damage of the bytes, `ExtraneousData` where they go on behind their item, a fault that the item has, or
-    /// `Memory`.
+    /// `DecodeFailed` with the damage of the bytes, `ExtraneousData` where they go on behind their
+    /// item, a fault that the item has, or `Memory`.
     fn from_slice(alloc: Global, slice: &[u8]) -> Result<Self, CoseError>
         ensures { MatchResult result (λ x. HasItem Self.shape slice.now (Self.fields x))
             (λ e. OrMemory (WrongItem Self.wrong slice.now) e) }
@@ -108,7 +109,8 @@ pub trait TaggedCborSerializable: AsCborValue {
     /// The number of the tag.
     const TAG: u64;
 
-    /// Reads the one item that the bytes are: the tag, and the value in it. The item has at most 256 levels.
+    /// Reads the one item that the bytes are: the tag, and the value in it. The item has at most
+    /// 256 levels.
     ///
     /// # Errors
     /// As `from_slice`; `UnexpectedItem` for an item without the tag.
@@ -144,7 +146,8 @@ pub trait TaggedCborSerializable: AsCborValue {
 /// The array of the values that the items stand for.
 ///
 /// # Errors
-/// `DuplicateMapKey` exactly where a label would be written twice in one map of an item, or `Memory`.
+/// `DuplicateMapKey` exactly where a label would be written twice in one map of an item, or
+/// `Memory`.
 pub fn to_cbor_array<T: AsCborValue>(alloc: Global, items: Vec<T>) -> Result<Value, CoseError>
     ensures { MatchResult result
         (λ v. array_of T.written (map T.fields items.items) ≡ Some (view v))

@@ -18,7 +18,7 @@ pub returns-then-not-fresh : goal.returns-then-not-fresh
 returns-then-not-fresh c =
     let w = rw c.if-not-fresh.true at (c.in_ok-fresh.ensures _ c.entries.invariant.sees) in
     sym (twice_there c.args.entries.now c.entries.entry-index c.entry-item.result c.entries-test.true
-    (subst (λ z. IsIn (label_view z.0) (map entry_view (take c.entries.entry-index c.args.entries.now))) c.entry-item.is w))
+    (subst (λ z. IsIn (label_view z.0) (map entry_view (take c.entries.entry-index c.args.entries.now))) c.entry-item.is w.0))
 
 pub entries-preserved : goal.entries-preserved
 entries-preserved c =

@@ -66,7 +66,7 @@ read_entry-returns-in_err-fresh t c =
     λ es w. rw (p.1, p.2) (inl (c.in_err-fresh.ensures es w.sees))
 
 pub read_entry-returns-then-not-fresh : goal.read_entry-returns-then-not-fresh
-read_entry-returns-then-not-fresh t c = λ es w. inr (label_again es _ _ _ _ c.in_ok-label.ensures (rw c.if-not-fresh.true at (c.in_ok-fresh.ensures es w.sees)))
+read_entry-returns-then-not-fresh t c = λ es w. inr (label_again es _ _ _ _ c.in_ok-label.ensures (rw c.if-not-fresh.true at (c.in_ok-fresh.ensures es w.sees)).0)
 
 pub read_entry-returns-in_err-signatures : goal.read_entry-returns-in_err-signatures
 read_entry-returns-in_err-signatures t c =

@@ -14,7 +14,7 @@ operations-preserved c =
     let given = c.into_iter-operation-iterator.ensures.into_iter_gives in
     let front = rest_so_far deref c.operations.yielded _ _ c.operations.yielded_by in
     let first = rest_more deref _ _ c.next.result c.in-Some.operation c.in-Some.is c.next.ensures.steps in
-    copied_more (registered_view key_operations.number) _ _ c.operations.yielded c.in-Some.operation _ _ _ given.4 (sym given.0 ∙ front ∙ ap (λ z. map deref c.operations.yielded ++ z) first) c.operations.invariant c.in_ok-insert.ensures.keys c.in_ok-clone.ensures
+    copied_more (registered_view key_operations.number) _ _ c.operations.yielded c.in-Some.operation _ _ _ given.4 (sym given.0 ∙ front ∙ ap (λ z. map deref c.operations.yielded ++ z) first) c.operations.invariant c.in_ok-insert.ensures.keys c.in_ok-clone.ensures.ok
 
 pub returns : goal.returns
 returns c =

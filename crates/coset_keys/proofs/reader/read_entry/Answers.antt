@@ -16,7 +16,7 @@ returns-in_err-fresh c =
     λ es w. rw (p.1, p.2) (inl (c.in_err-fresh.ensures es w.sees))
 
 pub returns-then-not-fresh : goal.returns-then-not-fresh
-returns-then-not-fresh c = λ es w. inr (label_again _ c.in_ok-label.ensures (rw c.if-not-fresh.true at (c.in_ok-fresh.ensures es w.sees)) refl)
+returns-then-not-fresh c = λ es w. inr (label_again _ c.in_ok-label.ensures (rw c.if-not-fresh.true at (c.in_ok-fresh.ensures es w.sees)).0 refl)
 
 pub returns : goal.returns
 returns c =
