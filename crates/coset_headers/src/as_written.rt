@@ -1,6 +1,7 @@
 //! Whether the value of a header or a signature is already the one that would be written.
-ghost use Rattle.std.specs.Prelude.{◌≡◌};
+ghost use Rattle.std.specs.Prelude.{◌≡◌, refl};
 ghost use Rattle.ciborium_value.specs.View.{view, views, view_pairs};
+ghost use Rattle.coset_labels.specs.Limits.{nesting, layers};
 ghost use Rattle.coset_headers.specs.AsWritten.{place_of, header_stands, entries_stand, signed_stand, signatures_stand, signature_stands, elements_stand};
 ghost use Rattle.coset_headers.specs.Fields.{HeaderFields, SignatureFields};
 ghost use Rattle.coset_headers.specs.Headers.{HasHeader, HasSignature};
@@ -22,6 +23,8 @@ impl AsWritten for Header {
     fn is_as_written(value: &Value) -> bool {
         header_stands(value)
     }
+
+    ghost read = { λ t x s. (nesting, layers, x, s, refl) };
 }
 
 /// The unprotected header is as written; a protected one always is.
@@ -35,6 +38,8 @@ impl AsWritten for CoseSignature {
     fn is_as_written(value: &Value) -> bool {
         signature_stands(value)
     }
+
+    ghost read = { λ t x s. (nesting, layers, x, s, refl) };
 }
 
 #[cycle(stands)]

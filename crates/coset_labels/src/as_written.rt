@@ -23,4 +23,8 @@ pub trait AsWritten: AsCborValue {
         ensures { (n k : ℕ) (x : Content) → has n (view value.now) x k
             → MatchBool result (tree_of x ≡ Some (view value.now))
             (tree_of x ≡ Some (view value.now) → ⊥) };
+
+    /// Fields that a value is read as are a content that it has, and are written as that content.
+    ghost read: { (t : Tree) (x : Self.Fields) → Self.shape t x
+        → (n : ℕ) × (k : ℕ) × (c : Content) × has n t c k × (tree_of c ≡ Self.written x) };
 }
