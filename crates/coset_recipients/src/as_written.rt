@@ -2,7 +2,8 @@
 ghost use Rattle.std.specs.Prelude.{◌≡◌, refl};
 ghost use Rattle.ciborium_value.specs.View.{view, views};
 ghost use Rattle.coset_labels.specs.Limits.{nesting, layers};
-ghost use Rattle.coset_recipients.specs.AsWritten.{recipient_stands, fourth_stands, list_stands, recipients_stand};
+ghost use Rattle.coset_recipients.specs.AsWritten.{recipient_stands, fourth_stands, list_stands};
+ghost use Rattle.coset_recipients.specs.AsWritten.{recipients_stand};
 ghost use Rattle.coset_recipients.specs.Fields.{RecipientFields};
 ghost use Rattle.coset_recipients.specs.Shapes.{HasRecipient};
 ghost use Rattle.coset_recipients.specs.Written.{recipient_tree};

@@ -1,5 +1,5 @@
 //! Messages with several signatures as values and bytes.
-ghost use Rattle.std.specs.Prelude.{◌≡◌, MatchResult, map};
+ghost use Rattle.std.specs.Prelude.{MatchResult, map};
 ghost use Rattle.ciborium_value.specs.View.{view, views};
 ghost use Rattle.coset_labels.specs.Faults.{OrMemory};
 ghost use Rattle.coset_labels.specs.Limits.{nesting, layers, nesting_of, layers_of};
@@ -139,10 +139,7 @@ fn read_signature(alloc: Global, value: Value, limits: Limits) -> Result<CoseSig
         (λ s. HasSignature (nesting_of limits) (view value) (signature_view s) (layers_of limits))
         (λ e. OrMemory (IsNoSignature (nesting_of limits) (view value) (layers_of limits)) e) }
 {
-    match CoseSignature::from_cbor_value_with(alloc, value, limits) {
-        Ok(signature) => Ok(signature),
-        Err(error) => Err(hide(error)),
-    }
+    CoseSignature::from_cbor_value_with(alloc, value, limits).map_err(hide)
 }
 
 /// What is wrong in a signature is not told, but for want of memory.

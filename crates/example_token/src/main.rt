@@ -1,6 +1,6 @@
-//! `example_token NOW`: reads CBOR web tokens (RFC 8392) from standard input, one a line and in hex,
-//! and prints the claims of each whose tag is good and whose time isn't over at NOW, in seconds
-//! since 1970.
+//! `example_token NOW`: reads CBOR web tokens (RFC 8392) from standard input, one a line and in
+//! hex, and prints the claims of each whose tag is good and whose time isn't over at NOW, in
+//! seconds since 1970.
 #![tactic(auto)]
 
 use cose_hmac::{hmac_sha256, same_tag};
