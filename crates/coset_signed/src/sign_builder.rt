@@ -169,9 +169,10 @@ impl CoseSignBuilder {
             ≡ also_signed (sign_so_far self) (signed_by (signature_view signature) v.items))
             result }
     {
-        self.with_room()?
-            .try_asked(signature, covered, signer)
-            .map_err(Fault::Caller)
+        match self.with_room()?.try_asked(signature, covered, signer) {
+            Ok(builder) => Ok(builder),
+            Err(error) => Err(Fault::Caller(error)),
+        }
     }
 
     /// Appends this signature with the bytes that the signer gives over what it covers (RFC 9052,

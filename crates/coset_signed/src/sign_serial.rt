@@ -139,7 +139,10 @@ fn read_signature(alloc: Global, value: Value, limits: Limits) -> Result<CoseSig
         (λ s. HasSignature (nesting_of limits) (view value) (signature_view s) (layers_of limits))
         (λ e. OrMemory (IsNoSignature (nesting_of limits) (view value) (layers_of limits)) e) }
 {
-    CoseSignature::from_cbor_value_with(alloc, value, limits).map_err(hide)
+    match CoseSignature::from_cbor_value_with(alloc, value, limits) {
+        Ok(signature) => Ok(signature),
+        Err(error) => Err(hide(error)),
+    }
 }
 
 /// What is wrong in a signature is not told, but for want of memory.
