@@ -1,5 +1,5 @@
 """Signatures that the caller checks: COSE_Sign1 with ES256 (RFC 9053, section 2.1), by `ask` and `pass_accepted` of cose_gate.py. It makes a
-key and two messages with Debian's python3-cbor2 and python3-cryptography, spoils one, and prints what passes:
+key and messages with Debian's python3-cbor2 and python3-cryptography, spoils one, and prints what passes:
 es256.py LIBRARY. Build and run: `bash scripts/c-library.sh python`."""
 
 import sys
@@ -11,7 +11,7 @@ from cryptography.hazmat.primitives.asymmetric import ec, utils
 
 from cose_gate import Gate
 
-ALG, KID, ES256, SIGN1 = 1, 4, -7, 18
+ALG, CRIT, KID, ES256, SIGN1 = 1, 2, 4, -7, 18
 
 
 def covered_by(protected, aad, payload):
@@ -19,9 +19,9 @@ def covered_by(protected, aad, payload):
     return cbor2.dumps(["Signature1", protected, aad, payload])
 
 
-def sign(key, kid, aad, payload):
-    """A COSE_Sign1, as the signer makes it."""
-    protected = cbor2.dumps({ALG: ES256})
+def sign(key, kid, aad, payload, more={}):
+    """A COSE_Sign1, as the signer makes it, with more labels in its protected header."""
+    protected = cbor2.dumps({ALG: ES256, **more})
     der = key.sign(covered_by(protected, aad, payload), ec.ECDSA(hashes.SHA256()))
     r, s = utils.decode_dss_signature(der)
     signature = r.to_bytes(32, "big") + s.to_bytes(32, "big")
@@ -29,10 +29,13 @@ def sign(key, kid, aad, payload):
 
 
 def is_good(question, keys):
-    """Whether the signature is good, under the key of the message's key id."""
-    if question.kind != SIGN1 or not question.protected or cbor2.loads(question.protected).get(ALG) != ES256:
+    """Whether the signature is good, under the key of the message's key id. No critical label is known here (RFC 9052, section 3.1)."""
+    if question.kind != SIGN1 or not question.protected:
         return False
-    key = keys.get(cbor2.loads(question.unprotected).get(KID))
+    header, other = cbor2.loads(question.protected), cbor2.loads(question.unprotected)
+    if header.get(ALG) != ES256 or CRIT in header or CRIT in other:
+        return False
+    key = keys.get(other.get(KID))
     if key is None or len(question.signature) != 64:
         return False
     r, s = (int.from_bytes(part, "big") for part in (question.signature[:32], question.signature[32:]))
@@ -51,12 +54,13 @@ def main(words):
     good = sign(signer, b"01", aad, b"open the door")
     spoiled = good.replace(b"open", b"lock")
     renamed = good.replace(b"\x42\x30\x31", b"\x42\x30\x32")
-    input = good + spoiled + renamed
+    critical = sign(signer, b"01", aad, b"open the door", {CRIT: ["room"], "room": 1})
+    input = good + spoiled + renamed + critical
 
     questions = gate.ask(aad, input)
     accepted = [question for question in questions if is_good(question, keys)]
     checked = gate.pass_accepted(accepted, aad, input)
-    assert len(questions) == 3 and len(accepted) == 1, (len(questions), len(accepted))
+    assert len(questions) == 4 and len(accepted) == 1, (len(questions), len(accepted))
     assert checked.passed == good and checked.some_refused, checked
     # A yes to one message is none to the same bytes under another key id, which no signature covers.
     assert gate.pass_accepted(accepted, aad, renamed).passed == b""

@@ -1,5 +1,6 @@
 //! The COSE_Encrypt0 message.
-ghost use Rattle.std.specs.Prelude.{◌≡◌, IsSome, IfSome, IfNone, IsSomeAnd, IfOk, MatchOption, MatchResult, Some};
+ghost use Rattle.std.specs.Prelude.{◌≡◌, IsSome, IfSome, IfNone, IsSomeAnd, IfOk, MatchOption};
+ghost use Rattle.std.specs.Prelude.{MatchResult, Some};
 ghost use Rattle.coset_labels.specs.Faults.{CantWrite};
 ghost use Rattle.coset_message_parts.specs.Calls.{TakesPairWhere, AnswersWhere, AnswersMissing};
 ghost use Rattle.coset_encrypted.specs.Fields.{no_encrypt0};
@@ -52,10 +53,12 @@ impl CoseEncrypt0 {
         })
     }
 
-    /// The bytes that the ciphertext covers beside the plaintext, the Enc_structure (RFC 9052, section 5.3).
+    /// The bytes that the ciphertext covers beside the plaintext, the Enc_structure (RFC 9052,
+    /// section 5.3).
     ///
     /// # Errors
-    /// `DuplicateMapKey` exactly where a label stands twice in a protected header that has to be encoded, or `Memory`.
+    /// `DuplicateMapKey` exactly where a label stands twice in a protected header that has to be
+    /// encoded, or `Memory`.
     pub fn covered(&self, alloc: Global, aad: &[u8]) -> Result<Vec<u8>, CoseError>
         ensures { MatchResult result
             (λ v. encrypt0_covered (encrypt0_view self.now) aad.now ≡ Some v.items)
@@ -64,12 +67,14 @@ impl CoseEncrypt0 {
         enc_structure_data(alloc, EncryptionContext::CoseEncrypt0, &self.protected, aad)
     }
 
-    /// Asks the cipher for the plaintext (RFC 9052, section 5.3). The cipher is handed the ciphertext and the Enc_structure of the
-    /// protected header and the external data.
+    /// Asks the cipher for the plaintext (RFC 9052, section 5.3). The cipher is handed the
+    /// ciphertext and the Enc_structure of the protected header and the external data. A ciphertext
+    /// is carried.
     ///
     /// # Errors
-    /// `Caller` with the cipher's error. `Cose`, before the cipher is asked, with `DuplicateMapKey` exactly where a label stands twice in
-    /// a protected header that has to be encoded, or with `Memory`.
+    /// `Caller` with the cipher's error. `Cose`, before the cipher is asked, with `DuplicateMapKey`
+    /// exactly where a label stands twice in a protected header that has to be encoded, or with
+    /// `Memory`.
     pub fn decrypt<E, C: FnOnce(&[u8], &[u8]) -> Result<Vec<u8>, E>>(
         &self,
         alloc: Global,

@@ -13,7 +13,7 @@ use coset_headers::{Header, ProtectedHeader};
 use coset_labels::{CoseError, Fault};
 use std::alloc::Global;
 
-/// A message while it is built. Plain setters take no memory.
+/// A COSE_Encrypt0 (RFC 9052, section 5.2) while it is built. Plain setters take no memory.
 #[derive(Drop)]
 pub struct CoseEncrypt0Builder {
     message: CoseEncrypt0,
@@ -65,11 +65,13 @@ impl CoseEncrypt0Builder {
         self
     }
 
-    /// Sets the ciphertext that the cipher gives for a plaintext (RFC 9052, section 5.3). The cipher is handed the plaintext and the
-    /// Enc_structure of the protected header and the external data.
+    /// Sets the ciphertext that the cipher gives for a plaintext (RFC 9052, section 5.3). The
+    /// cipher is handed the plaintext and the Enc_structure of the protected header and the
+    /// external data.
     ///
     /// # Errors
-    /// Before the cipher is asked: `DuplicateMapKey` exactly where a label stands twice in the protected header, or `Memory`.
+    /// Before the cipher is asked: `DuplicateMapKey` exactly where a label stands twice in the
+    /// protected header, or `Memory`.
     pub fn create_ciphertext<C: FnOnce(&[u8], &[u8]) -> Vec<u8>>(
         self,
         alloc: Global,

@@ -17,7 +17,7 @@ use coset_labels::{CoseError, Fault};
 use coset_recipients::CoseRecipient;
 use std::alloc::Global;
 
-/// A message while it is built. Plain setters take no memory.
+/// A COSE_Encrypt (RFC 9052, section 5.1) while it is built. Plain setters take no memory.
 #[derive(Drop)]
 pub struct CoseEncryptBuilder {
     message: CoseEncrypt,
@@ -89,11 +89,13 @@ impl CoseEncryptBuilder {
         Ok(self)
     }
 
-    /// Sets the ciphertext that the cipher gives for a plaintext (RFC 9052, section 5.3). The cipher is handed the plaintext and the
-    /// Enc_structure of the protected header and the external data.
+    /// Sets the ciphertext that the cipher gives for a plaintext (RFC 9052, section 5.3). The
+    /// cipher is handed the plaintext and the Enc_structure of the protected header and the
+    /// external data.
     ///
     /// # Errors
-    /// Before the cipher is asked: `DuplicateMapKey` exactly where a label stands twice in the protected header, or `Memory`.
+    /// Before the cipher is asked: `DuplicateMapKey` exactly where a label stands twice in the
+    /// protected header, or `Memory`.
     pub fn create_ciphertext<C: FnOnce(&[u8], &[u8]) -> Vec<u8>>(
         self,
         alloc: Global,

@@ -55,7 +55,8 @@ pub fn written_has_same()
         → encrypt_tree m ≡ Some u → HasEncrypt n u m k }
 {}
 
-/// So are the bytes: the encoding of what is written nests no deeper than what was read, and is read again with the same fields.
+/// So are the bytes: the encoding of what is written nests no deeper than what was read, and is
+/// read again with the same fields.
 pub fn written_reads_same()
     ensures encrypt0 { (n k limit : ℕ) (b : List ℕ) (t u : Tree) (m : Encrypt0Fields)
         → Reads b limit t → HasEncrypt0 n t m k → encrypt0_tree m ≡ Some u → Fits u
@@ -73,8 +74,8 @@ pub fn read_is_short()
         → EncryptShort m }
 {}
 
-/// What is written of this message fits heads, if each protected header in it that has no received bytes is encoded in fewer than 2^64
-/// bytes.
+/// What is written of this message fits heads, if each protected header in it that has no received
+/// bytes is encoded in fewer than 2^64 bytes.
 pub fn encrypt0_fits(message: &CoseEncrypt0)
     ensures { (u : Tree) → encrypt0_tree (encrypt0_view message.now) ≡ Some u
         → Encrypt0Short (encrypt0_view message.now) → Fits u }
@@ -99,8 +100,8 @@ pub fn encrypt_fits(message: &CoseEncrypt)
     recipients_fit(&message.recipients);
 }
 
-/// A message that was read from bytes is read again of the bytes that it is written as, the same, received bytes included. So is one that
-/// was read behind its tag and is written with it.
+/// A message that was read from bytes is read again of the bytes that it is written as, the same,
+/// received bytes included. So is one that was read behind its tag and is written with it.
 pub fn encrypt0_reads_again(message: &CoseEncrypt0)
     ensures item { (b : List ℕ) (u : Tree)
         → HasItem (λ t m. HasEncrypt0 nesting t m layers) b (encrypt0_view message.now)
@@ -132,7 +133,8 @@ pub fn encrypt_reads_again(message: &CoseEncrypt)
     read_is_short();
 }
 
-/// Messages are equal where they say the same and their protected headers have the same received bytes, or none.
+/// Messages are equal where they say the same and their protected headers have the same received
+/// bytes, or none.
 pub fn encrypt0_compare(a: &CoseEncrypt0, b: &CoseEncrypt0)
     ensures { IsTrue (⟦<CoseEncrypt0 as std::cmp::PartialEq>⟧.eq a.now b.now)
         ↔ (encrypt0_view a.now ≡ encrypt0_view b.now) }

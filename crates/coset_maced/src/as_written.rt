@@ -1,6 +1,7 @@
 //! Whether the value of an authenticated message is already the one that would be written.
-ghost use Rattle.std.specs.Prelude.{◌≡◌};
+ghost use Rattle.std.specs.Prelude.{◌≡◌, refl};
 ghost use Rattle.ciborium_value.specs.View.{view, views};
+ghost use Rattle.coset_labels.specs.Limits.{nesting, layers};
 ghost use Rattle.coset_maced.specs.AsWritten.{mac_stands, last_stands, list_stands};
 ghost use Rattle.coset_maced.specs.Fields.{Mac0Fields, MacFields};
 ghost use Rattle.coset_maced.specs.Shapes.{HasMac0, HasMac};
@@ -24,6 +25,8 @@ impl AsWritten for CoseMac0 {
     fn is_as_written(value: &Value) -> bool {
         signature_stands(value)
     }
+
+    ghost read = { λ t x s. (nesting, layers, x, s, refl) };
 }
 
 /// The unprotected header is as written, and so are the recipients.
@@ -37,6 +40,8 @@ impl AsWritten for CoseMac {
     fn is_as_written(value: &Value) -> bool {
         mac_stands(value)
     }
+
+    ghost read = { λ t x s. (nesting, layers, x, s, refl) };
 }
 
 fn mac_stands(value: &Value) -> bool

@@ -55,7 +55,8 @@ pub fn written_has_same()
         → HasMac n u m k }
 {}
 
-/// So are the bytes: the encoding of what is written nests no deeper than what was read, and is read again with the same fields.
+/// So are the bytes: the encoding of what is written nests no deeper than what was read, and is
+/// read again with the same fields.
 pub fn written_reads_same()
     ensures mac0 { (n k limit : ℕ) (b : List ℕ) (t u : Tree) (m : Mac0Fields) → Reads b limit t
         → HasMac0 n t m k → mac0_tree m ≡ Some u → Fits u
@@ -70,8 +71,8 @@ pub fn read_is_short()
     ensures mac { (n k : ℕ) (t : Tree) (m : MacFields) → HasMac n t m k → MacShort m }
 {}
 
-/// What is written of this message fits heads, if each protected header in it that has no received bytes is encoded in fewer than 2^64
-/// bytes.
+/// What is written of this message fits heads, if each protected header in it that has no received
+/// bytes is encoded in fewer than 2^64 bytes.
 pub fn mac0_fits(message: &CoseMac0)
     ensures { (u : Tree) → mac0_tree (mac0_view message.now) ≡ Some u
         → Mac0Short (mac0_view message.now) → Fits u }
@@ -90,8 +91,8 @@ pub fn mac_fits(message: &CoseMac)
     recipients_fit(&message.recipients);
 }
 
-/// A message that was read from bytes is read again of the bytes that it is written as, the same, received bytes included. So is one that
-/// was read behind its tag and is written with it.
+/// A message that was read from bytes is read again of the bytes that it is written as, the same,
+/// received bytes included. So is one that was read behind its tag and is written with it.
 pub fn mac0_reads_again(message: &CoseMac0)
     ensures item { (b : List ℕ) (u : Tree)
         → HasItem (λ t m. HasMac0 nesting t m layers) b (mac0_view message.now)
@@ -123,7 +124,8 @@ pub fn mac_reads_again(message: &CoseMac)
     read_is_short();
 }
 
-/// Messages are equal where they say the same and their protected headers have the same received bytes, or none.
+/// Messages are equal where they say the same and their protected headers have the same received
+/// bytes, or none.
 pub fn mac0_compare(a: &CoseMac0, b: &CoseMac0)
     ensures { IsTrue (⟦<CoseMac0 as std::cmp::PartialEq>⟧.eq a.now b.now)
         ↔ (mac0_view a.now ≡ mac0_view b.now) }

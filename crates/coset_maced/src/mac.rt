@@ -1,5 +1,6 @@
 //! The COSE_Mac message.
-ghost use Rattle.std.specs.Prelude.{◌≡◌, IsSome, IfSome, IfNone, IsSomeAnd, IfOk, MatchOption, MatchResult, Some};
+ghost use Rattle.std.specs.Prelude.{◌≡◌, IsSome, IfSome, IfNone, IsSomeAnd, IfOk, MatchOption};
+ghost use Rattle.std.specs.Prelude.{MatchResult, Some};
 ghost use Rattle.coset_labels.specs.Faults.{CantWrite};
 ghost use Rattle.coset_message_parts.specs.Calls.{TakesPairWhere, AnswersWhere, AnswersMissing};
 ghost use Rattle.coset_maced.specs.Fields.{no_mac};
@@ -66,7 +67,8 @@ impl CoseMac {
     /// The bytes that the tag covers with this payload, the MAC_structure (RFC 9052, section 6.3).
     ///
     /// # Errors
-    /// `DuplicateMapKey` exactly where a label stands twice in a protected header that has to be encoded, or `Memory`.
+    /// `DuplicateMapKey` exactly where a label stands twice in a protected header that has to be
+    /// encoded, or `Memory`.
     pub fn covered(&self, alloc: Global, payload: &[u8], aad: &[u8]) -> Result<Vec<u8>, CoseError>
         ensures { MatchResult result
             (λ v. mac_covered_with (mac_view self.now) payload.now aad.now ≡ Some v.items)
@@ -75,8 +77,12 @@ impl CoseMac {
         mac_structure_data(alloc, MacContext::CoseMac, &self.protected, aad, payload)
     }
 
-    /// As `covered`, with the message's own payload. One that isn't there counts as empty.
-    pub(crate) fn carried(&self, alloc: Global, aad: &[u8]) -> Result<Vec<u8>, CoseError>
+    /// The bytes that the tag covers, to be MACed (RFC 9052, section 6.3). A payload that is
+    /// carried elsewhere counts as empty.
+    ///
+    /// # Errors
+    /// As of `covered`.
+    pub fn tbm_data(&self, alloc: Global, aad: &[u8]) -> Result<Vec<u8>, CoseError>
         ensures { MatchResult result
             (λ v. mac_covered (mac_view self.now) aad.now ≡ Some v.items)
             (λ e. CantWrite (mac_covered (mac_view self.now) aad.now) e) }
@@ -84,12 +90,14 @@ impl CoseMac {
         self.covered(alloc, content_bytes(&self.payload), aad)
     }
 
-    /// Asks the verifier about the tag (RFC 9052, section 6.3). The verifier is handed the tag and the MAC_structure of the protected
-    /// header, the external data and the payload.
+    /// Asks the verifier about the tag (RFC 9052, section 6.3). The verifier is handed the tag and
+    /// the MAC_structure of the protected header, the external data and the payload. A payload is
+    /// carried.
     ///
     /// # Errors
-    /// `Caller` with the verifier's error. `Cose`, before the verifier is asked, with `DuplicateMapKey` exactly where a label stands twice
-    /// in a protected header that has to be encoded, or with `Memory`.
+    /// `Caller` with the verifier's error. `Cose`, before the verifier is asked, with
+    /// `DuplicateMapKey` exactly where a label stands twice in a protected header that has to be
+    /// encoded, or with `Memory`.
     pub fn verify_tag<E, V: FnOnce(&[u8], &[u8]) -> Result<(), E>>(
         &self,
         alloc: Global,
@@ -104,7 +112,7 @@ impl CoseMac {
             (λ b. AnswersWhere V.FnOnce verifier self.now.tag.items
             (mac_covered_with (mac_view self.now) b.items aad.now) result) }
     {
-        let data = self.covered(alloc, content_bytes(&self.payload), aad)?;
+        let data = self.tbm_data(alloc, aad)?;
         verifier(self.tag.as_slice(), data.as_slice()).map_err(Fault::Caller)
     }
 

@@ -13,7 +13,7 @@ use coset_headers::{Header, ProtectedHeader};
 use coset_labels::{CoseError, Fault};
 use std::alloc::Global;
 
-/// A message while it is built. Plain setters take no memory.
+/// A COSE_Mac0 (RFC 9052, section 6.2) while it is built. Plain setters take no memory.
 #[derive(Drop)]
 pub struct CoseMac0Builder {
     message: CoseMac0,
@@ -73,11 +73,13 @@ impl CoseMac0Builder {
         self
     }
 
-    /// Sets the tag that the signer gives (RFC 9052, section 6.3). The signer is handed the MAC_structure of the protected header, the
-    /// external data and the payload.
+    /// Sets the tag that the signer gives (RFC 9052, section 6.3). The signer is handed the
+    /// MAC_structure of the protected header, the external data and the payload. A payload is
+    /// carried.
     ///
     /// # Errors
-    /// Before the signer is asked: `DuplicateMapKey` exactly where a label stands twice in the protected header, or `Memory`.
+    /// Before the signer is asked: `DuplicateMapKey` exactly where a label stands twice in the
+    /// protected header, or `Memory`.
     pub fn create_tag<S: FnOnce(&[u8]) -> Vec<u8>>(
         self,
         alloc: Global,
@@ -90,12 +92,12 @@ impl CoseMac0Builder {
             (λ b. b.message.tag)
             (λ b. b.message ≡ record self.message { tag = b.message.tag }) result }
     {
-        let data = self.message.carried(alloc, aad)?;
+        let data = self.message.tbm_data(alloc, aad)?;
         let tag = signer(data.as_slice());
         Ok(self.tag(tag))
     }
 
-    /// As `create_tag`, with a signer that may fail.
+    /// As `create_tag`, with a signer that may fail. A payload is carried.
     ///
     /// # Errors
     /// `Caller` with the signer's error; `Cose` with an error of `create_tag`.
@@ -111,7 +113,7 @@ impl CoseMac0Builder {
             (λ b. b.message.tag)
             (λ b. b.message ≡ record self.message { tag = b.message.tag }) result }
     {
-        let data = self.message.carried(alloc, aad)?;
+        let data = self.message.tbm_data(alloc, aad)?;
         let tag = signer(data.as_slice()).map_err(Fault::Caller)?;
         Ok(self.tag(tag))
     }

@@ -17,7 +17,7 @@ use coset_labels::{CoseError, Fault};
 use coset_recipients::CoseRecipient;
 use std::alloc::Global;
 
-/// A message while it is built. Plain setters take no memory.
+/// A COSE_Mac (RFC 9052, section 6.1) while it is built. Plain setters take no memory.
 #[derive(Drop)]
 pub struct CoseMacBuilder {
     message: CoseMac,
@@ -94,11 +94,13 @@ impl CoseMacBuilder {
         Ok(self)
     }
 
-    /// Sets the tag that the signer gives (RFC 9052, section 6.3). The signer is handed the MAC_structure of the protected header, the
-    /// external data and the payload.
+    /// Sets the tag that the signer gives (RFC 9052, section 6.3). The signer is handed the
+    /// MAC_structure of the protected header, the external data and the payload. A payload is
+    /// carried.
     ///
     /// # Errors
-    /// Before the signer is asked: `DuplicateMapKey` exactly where a label stands twice in the protected header, or `Memory`.
+    /// Before the signer is asked: `DuplicateMapKey` exactly where a label stands twice in the
+    /// protected header, or `Memory`.
     pub fn create_tag<S: FnOnce(&[u8]) -> Vec<u8>>(
         self,
         alloc: Global,
@@ -111,12 +113,12 @@ impl CoseMacBuilder {
             (λ b. b.message.tag)
             (λ b. b.message ≡ record self.message { tag = b.message.tag }) result }
     {
-        let data = self.message.carried(alloc, aad)?;
+        let data = self.message.tbm_data(alloc, aad)?;
         let tag = signer(data.as_slice());
         Ok(self.tag(tag))
     }
 
-    /// As `create_tag`, with a signer that may fail.
+    /// As `create_tag`, with a signer that may fail. A payload is carried.
     ///
     /// # Errors
     /// `Caller` with the signer's error; `Cose` with an error of `create_tag`.
@@ -132,7 +134,7 @@ impl CoseMacBuilder {
             (λ b. b.message.tag)
             (λ b. b.message ≡ record self.message { tag = b.message.tag }) result }
     {
-        let data = self.message.carried(alloc, aad)?;
+        let data = self.message.tbm_data(alloc, aad)?;
         let tag = signer(data.as_slice()).map_err(Fault::Caller)?;
         Ok(self.tag(tag))
     }

@@ -7,7 +7,7 @@ use Rattle.coset_labels.specs.Facts.Equal.{both}
 use Rattle.coset_headers.specs.Same.{same_header, same_protected}
 use Rattle.coset_headers.specs.View.{header_view, protected_view}
 use Rattle.coset_message_parts.proofs.Equal.{parts_and}
-use Rattle.coset_recipients.specs.Fields.{recipient, recipients, no_recipients, recipient_more}
+use Rattle.coset_recipients.specs.Fields.{recipient, no_recipients, recipient_more}
 use Rattle.coset_recipients.specs.View.{recipient_view, recipients_view, fields_of}
 use Rattle.coset_recipients.specs.declared.recipient.CoseRecipient.{CoseRecipient, out-CoseRecipient, roll-CoseRecipient}
 use Rattle.coset_recipients.specs.declared.recipient.CoseRecipient.TheBlock as block

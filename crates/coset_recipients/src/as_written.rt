@@ -1,7 +1,9 @@
 //! Whether the value of a recipient is already the one that would be written.
-ghost use Rattle.std.specs.Prelude.{◌≡◌};
+ghost use Rattle.std.specs.Prelude.{◌≡◌, refl};
 ghost use Rattle.ciborium_value.specs.View.{view, views};
-ghost use Rattle.coset_recipients.specs.AsWritten.{recipient_stands, fourth_stands, list_stands, recipients_stand};
+ghost use Rattle.coset_labels.specs.Limits.{nesting, layers};
+ghost use Rattle.coset_recipients.specs.AsWritten.{recipient_stands, fourth_stands, list_stands};
+ghost use Rattle.coset_recipients.specs.AsWritten.{recipients_stand};
 ghost use Rattle.coset_recipients.specs.Fields.{RecipientFields};
 ghost use Rattle.coset_recipients.specs.Shapes.{HasRecipient};
 ghost use Rattle.coset_recipients.specs.Written.{recipient_tree};
@@ -22,6 +24,8 @@ impl AsWritten for CoseRecipient {
     fn is_as_written(value: &Value) -> bool {
         recipient_stands(value)
     }
+
+    ghost read = { λ t x s. (nesting, layers, x, s, refl) };
 }
 
 #[cycle(stands)]

@@ -4,7 +4,8 @@ ghost use Rattle.coset_labels.specs.declared.error.CoseError.TheVariants.{Memory
 ghost use Rattle.coset_headers.specs.View.{header_view};
 ghost use Rattle.coset_message_parts.specs.Calls.{TakesPairWhere, BuiltPairWhere, MadePairWhere};
 ghost use Rattle.coset_recipients.specs.Builders.{no_recipient, recipient_so_far};
-ghost use Rattle.coset_recipients.specs.Builders.{with_protected, with_unprotected, with_ciphertext, with_one_more};
+ghost use Rattle.coset_recipients.specs.Builders.{with_protected, with_unprotected};
+ghost use Rattle.coset_recipients.specs.Builders.{with_ciphertext, with_one_more};
 ghost use Rattle.coset_recipients.specs.Fields.{ciphertext_of};
 ghost use Rattle.coset_recipients.specs.Structure.{IsRecipientContext, recipient_structure};
 ghost use Rattle.coset_recipients.specs.View.{recipient_view};
@@ -15,7 +16,7 @@ use coset_labels::{CoseError, Fault};
 use coset_structures::{EncryptionContext, enc_structure_data};
 use std::alloc::Global;
 
-/// A recipient while it is built. Plain setters take no memory.
+/// A COSE_recipient (RFC 9052, section 5.1) while it is built. Plain setters take no memory.
 #[derive(Drop)]
 pub struct CoseRecipientBuilder {
     protected: ProtectedHeader,
@@ -97,11 +98,13 @@ impl CoseRecipientBuilder {
         Ok(self)
     }
 
-    /// Sets the ciphertext that the cipher gives for a plaintext (RFC 9052, section 5.3). The cipher is handed the plaintext and the
-    /// Enc_structure of this context, the protected header and the external data.
+    /// Sets the ciphertext that the cipher gives for a plaintext (RFC 9052, section 5.3). The
+    /// cipher is handed the plaintext and the Enc_structure of this context, the protected header
+    /// and the external data. The context is one of recipients.
     ///
     /// # Errors
-    /// Before the cipher is asked: `DuplicateMapKey` exactly where a label stands twice in the protected header, or `Memory`.
+    /// Before the cipher is asked: `DuplicateMapKey` exactly where a label stands twice in the
+    /// protected header, or `Memory`.
     pub fn create_ciphertext<C: FnOnce(&[u8], &[u8]) -> Vec<u8>>(
         self,
         alloc: Global,
@@ -125,7 +128,7 @@ impl CoseRecipientBuilder {
         Ok(self.ciphertext(ciphertext))
     }
 
-    /// As `create_ciphertext`, with a cipher that may fail.
+    /// As `create_ciphertext`, with a cipher that may fail. The context is one of recipients.
     ///
     /// # Errors
     /// `Caller` with the cipher's error; `Cose` with an error of `create_ciphertext`.

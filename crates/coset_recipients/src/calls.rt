@@ -12,12 +12,14 @@ use coset_structures::{EncryptionContext, enc_structure_data};
 use std::alloc::Global;
 
 impl CoseRecipient {
-    /// Asks the cipher for the plaintext (RFC 9052, section 5.3). The cipher is handed the ciphertext and the Enc_structure of this
-    /// context, the protected header and the external data.
+    /// Asks the cipher for the plaintext (RFC 9052, section 5.3). The cipher is handed the
+    /// ciphertext and the Enc_structure of this context, the protected header and the external
+    /// data. A ciphertext is carried, and the context is one of recipients.
     ///
     /// # Errors
-    /// `Caller` with the cipher's error. `Cose`, before the cipher is asked, with `DuplicateMapKey` exactly where a label stands twice in
-    /// a protected header that has to be encoded, or with `Memory`.
+    /// `Caller` with the cipher's error. `Cose`, before the cipher is asked, with `DuplicateMapKey`
+    /// exactly where a label stands twice in a protected header that has to be encoded, or with
+    /// `Memory`.
     pub fn decrypt<E, C: FnOnce(&[u8], &[u8]) -> Result<Vec<u8>, E>>(
         &self,
         alloc: Global,
@@ -39,7 +41,7 @@ impl CoseRecipient {
         cipher(ciphertext, data.as_slice()).map_err(Fault::Caller)
     }
 
-    /// As `decrypt`, also where no ciphertext is carried.
+    /// As `decrypt`, also where no ciphertext is carried. The context is one of recipients.
     ///
     /// # Errors
     /// `Caller` with the error of a missing ciphertext, before anything else; else as of `decrypt`.

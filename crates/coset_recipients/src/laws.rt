@@ -39,7 +39,8 @@ pub fn wrong_has_none()
         → HasList n t rs k → ⊥ }
 {}
 
-/// A recipient that was read can be written, and so can a list of them. What its ciphertext covers is there in each context.
+/// A recipient that was read can be written, and so can a list of them. What its ciphertext covers
+/// is there in each context.
 pub fn read_can_be_written()
     ensures recipient { (n k : ℕ) (t : Tree) (r : RecipientFields) → HasRecipient n t r k
         → recipient_tree r ≢ None }
@@ -49,8 +50,8 @@ pub fn read_can_be_written()
         (aad : List ℕ) → HasRecipient n t r k → recipient_structure x r aad ≢ None }
 {}
 
-/// What is written of a recipient that was read has its fields again, received bytes included, and so has what is written of a list. A
-/// fourth element that was read as an empty list isn't written.
+/// What is written of a recipient that was read has its fields again, received bytes included, and
+/// so has what is written of a list. A fourth element that was read as an empty list isn't written.
 pub fn written_has_same()
     ensures recipient { (n k : ℕ) (t u : Tree) (r : RecipientFields) → HasRecipient n t r k
         → recipient_tree r ≡ Some u → HasRecipient n u r k }
@@ -58,7 +59,8 @@ pub fn written_has_same()
         → list_tree rs ≡ Some u → HasList n u rs k }
 {}
 
-/// So are the bytes: the encoding of what is written nests no deeper than what was read, and is read again with the same fields.
+/// So are the bytes: the encoding of what is written nests no deeper than what was read, and is
+/// read again with the same fields.
 pub fn written_reads_same()
     ensures { (n k limit : ℕ) (b : List ℕ) (t u : Tree) (r : RecipientFields) → Reads b limit t
         → HasRecipient n t r k → recipient_tree r ≡ Some u → Fits u
@@ -73,8 +75,8 @@ pub fn read_is_short()
         → RecipientsShort rs }
 {}
 
-/// What is written of this recipient fits heads, if each protected header in it that has no received bytes is encoded in fewer than 2^64
-/// bytes.
+/// What is written of this recipient fits heads, if each protected header in it that has no
+/// received bytes is encoded in fewer than 2^64 bytes.
 #[cycle(fits)]
 pub fn recipient_fits(recipient: &CoseRecipient)
     ensures { (u : Tree) → recipient_tree (recipient_view recipient.now) ≡ Some u
@@ -109,7 +111,8 @@ pub fn recipients_fit(recipients: &[CoseRecipient])
     all_fit(recipients);
 }
 
-/// A recipient that was read from bytes is read again of the bytes that it is written as, the same, received bytes included.
+/// A recipient that was read from bytes is read again of the bytes that it is written as, the same,
+/// received bytes included.
 pub fn recipient_reads_again(recipient: &CoseRecipient)
     ensures { (b : List ℕ) (u : Tree)
         → HasItem (λ t r. HasRecipient nesting t r layers) b (recipient_view recipient.now)
@@ -121,8 +124,8 @@ pub fn recipient_reads_again(recipient: &CoseRecipient)
     read_is_short();
 }
 
-/// Recipients are equal where they say the same and their protected headers have the same received bytes, or none; so do all recipients
-/// in them, in the same order.
+/// Recipients are equal where they say the same and their protected headers have the same received
+/// bytes, or none; so do all recipients in them, in the same order.
 pub fn recipient_compare(a: &CoseRecipient, b: &CoseRecipient)
     ensures { IsTrue (⟦<CoseRecipient as std::cmp::PartialEq>⟧.eq a.now b.now)
         ↔ (recipient_view a.now ≡ recipient_view b.now) }

@@ -16,8 +16,8 @@ use ciborium_value::Value;
 use coset_labels::{AsCborValue, CborSerializable, CoseError, Limits};
 use std::alloc::Global;
 
-/// The elements are read from the last to the first, and the recipients of a list from the first to the last. A recipient without
-/// recipients of its own is written with three elements.
+/// The elements are read from the last to the first, and the recipients of a list from the first to
+/// the last. A recipient without recipients of its own is written with three elements.
 impl AsCborValue for CoseRecipient {
     ghost Fields = { RecipientFields };
 

@@ -11,7 +11,8 @@ use coset_labels::CoseError;
 use coset_message_parts::{Parts, write_parts};
 use std::alloc::Global;
 
-/// The array that stands for a recipient. It has no fourth element where the recipient has no recipients of its own.
+/// The array that stands for a recipient. It has no fourth element where the recipient has no
+/// recipients of its own.
 #[cycle(writer)]
 pub(crate) fn write_recipient(alloc: Global, recipient: CoseRecipient) -> Result<Value, CoseError>
     ensures { MatchResult result (λ v. recipient_tree (recipient_view recipient) ≡ Some (view v))
@@ -56,7 +57,8 @@ fn write_items(alloc: Global, recipients: Vec<CoseRecipient>) -> Result<Vec<Valu
 /// The array of the values that recipients stand for, which may be empty.
 ///
 /// # Errors
-/// `DuplicateMapKey` exactly where a label stands twice in a header that has to be encoded, or `Memory`.
+/// `DuplicateMapKey` exactly where a label stands twice in a header that has to be encoded, or
+/// `Memory`.
 pub fn write_recipients(alloc: Global, recipients: Vec<CoseRecipient>) -> Result<Value, CoseError>
     ensures { MatchResult result (λ v. list_tree (recipients_view recipients.items) ≡ Some (view v))
         (λ e. CantWrite (list_tree (recipients_view recipients.items)) e) }

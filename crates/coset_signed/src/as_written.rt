@@ -1,6 +1,7 @@
 //! Whether the value of a signed message is already the one that would be written.
-ghost use Rattle.std.specs.Prelude.{◌≡◌};
+ghost use Rattle.std.specs.Prelude.{◌≡◌, refl};
 ghost use Rattle.ciborium_value.specs.View.{view, views};
+ghost use Rattle.coset_labels.specs.Limits.{nesting, layers};
 ghost use Rattle.coset_signed.specs.AsWritten.{sign_stands, last_stands, list_stands};
 ghost use Rattle.coset_signed.specs.Fields.{Sign1Fields, SignFields};
 ghost use Rattle.coset_signed.specs.Shapes.{HasSign1, HasSign};
@@ -23,6 +24,8 @@ impl AsWritten for CoseSign1 {
     fn is_as_written(value: &Value) -> bool {
         signature_stands(value)
     }
+
+    ghost read = { λ t x s. (nesting, layers, x, s, refl) };
 }
 
 /// The unprotected header is as written, and so are the signatures.
@@ -36,6 +39,8 @@ impl AsWritten for CoseSign {
     fn is_as_written(value: &Value) -> bool {
         sign_stands(value)
     }
+
+    ghost read = { λ t x s. (nesting, layers, x, s, refl) };
 }
 
 fn sign_stands(value: &Value) -> bool

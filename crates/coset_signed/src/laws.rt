@@ -1,8 +1,8 @@
 //! Laws of the definitions.
-ghost use Rattle.std.specs.Prelude.{◌≡◌, ◌≢◌, ◌↔◌, ◌^◌, ◌<◌, ℕ, List, IsTrue, Some, None, map};
+ghost use Rattle.std.specs.Prelude.{◌≡◌, ◌≢◌, ◌↔◌, ℕ, List, IsTrue, Some, None, map};
 ghost use Rattle.ciborium.specs.Front.{Reads};
-ghost use Rattle.ciborium_value.specs.Encoding.{enc, Fits, FitAll};
-ghost use Rattle.ciborium_value.specs.Tree.{Tree, array, tag, tree_count};
+ghost use Rattle.ciborium_value.specs.Encoding.{enc, Fits};
+ghost use Rattle.ciborium_value.specs.Tree.{Tree, array, tag};
 ghost use Rattle.ciborium_value.specs.View.{trees};
 ghost use Rattle.coset_labels.specs.Arrays.{all_written};
 ghost use Rattle.coset_labels.specs.Faults.{CoseFault};
@@ -64,7 +64,8 @@ pub fn written_has_same()
         → HasSign n u m k }
 {}
 
-/// So are the bytes: the encoding of what is written nests no deeper than what was read, and is read again with the same fields.
+/// So are the bytes: the encoding of what is written nests no deeper than what was read, and is
+/// read again with the same fields.
 pub fn written_reads_same()
     ensures sign1 { (n k limit : ℕ) (b : List ℕ) (t u : Tree) (m : Sign1Fields) → Reads b limit t
         → HasSign1 n t m k → sign1_tree m ≡ Some u → Fits u
@@ -80,8 +81,8 @@ pub fn read_is_short()
     ensures sign { (n k : ℕ) (t : Tree) (m : SignFields) → HasSign n t m k → SignShort m }
 {}
 
-/// What is written of this message fits heads, if each protected header in it that has no received bytes is encoded in fewer than 2^64
-/// bytes.
+/// What is written of this message fits heads, if each protected header in it that has no received
+/// bytes is encoded in fewer than 2^64 bytes.
 pub fn sign1_fits(message: &CoseSign1)
     ensures { (u : Tree) → sign1_tree (sign1_view message.now) ≡ Some u
         → Sign1Short (sign1_view message.now) → Fits u }
@@ -110,8 +111,8 @@ pub fn sign_fits(message: &CoseSign)
     signatures_fit(&message.signatures);
 }
 
-/// A message that was read from bytes is read again of the bytes that it is written as, the same, received bytes included. So is one that
-/// was read behind its tag and is written with it.
+/// A message that was read from bytes is read again of the bytes that it is written as, the same,
+/// received bytes included. So is one that was read behind its tag and is written with it.
 pub fn sign1_reads_again(message: &CoseSign1)
     ensures item { (b : List ℕ) (u : Tree)
         → HasItem (λ t m. HasSign1 nesting t m layers) b (sign1_view message.now)
@@ -143,7 +144,8 @@ pub fn sign_reads_again(message: &CoseSign)
     read_is_short();
 }
 
-/// Messages are equal where they say the same and their protected headers have the same received bytes, or none.
+/// Messages are equal where they say the same and their protected headers have the same received
+/// bytes, or none.
 pub fn sign1_compare(a: &CoseSign1, b: &CoseSign1)
     ensures { IsTrue (⟦<CoseSign1 as std::cmp::PartialEq>⟧.eq a.now b.now)
         ↔ (sign1_view a.now ≡ sign1_view b.now) }

@@ -1,5 +1,6 @@
 //! Messages with several signatures.
-ghost use Rattle.std.specs.Prelude.{◌≡◌, ◌<◌, None, Some, IfOk, IfSome, IsSomeAnd, MatchResult, length, map};
+ghost use Rattle.std.specs.Prelude.{◌≡◌, ◌<◌, None, Some, IfOk, IfSome, IsSomeAnd, MatchResult};
+ghost use Rattle.std.specs.Prelude.{length, map};
 ghost use Rattle.std.specs.List.{slice_get};
 ghost use Rattle.coset_headers.specs.View.{signature_view};
 ghost use Rattle.coset_labels.specs.Faults.{CantWrite};
@@ -59,8 +60,8 @@ impl CoseSign {
         })
     }
 
-    /// The bytes that a signature with the headers of this one covers (RFC 9052, section 4.4). A payload that is carried elsewhere
-    /// counts as empty.
+    /// The bytes that a signature with the headers of this one covers (RFC 9052, section 4.4). A
+    /// payload that is carried elsewhere counts as empty.
     ///
     /// # Errors
     /// `DuplicateMapKey` exactly where one of the protected headers can't be written, or `Memory`.
@@ -79,8 +80,8 @@ impl CoseSign {
         self.covered(alloc, content_bytes(&self.payload), aad, signature)
     }
 
-    /// The bytes that a signature with the headers of this one covers where the payload is carried elsewhere: this payload (RFC 9052,
-    /// section 4.4).
+    /// The bytes that a signature with the headers of this one covers where the payload is carried
+    /// elsewhere: this payload (RFC 9052, section 4.4). The message carries no payload.
     ///
     /// # Errors
     /// As of `tbs_data`.
@@ -103,8 +104,8 @@ impl CoseSign {
         self.covered(alloc, payload, aad, signature)
     }
 
-    /// The bytes that a signature with the headers of this one covers with this payload (RFC 9052, section 4.4), wherever it is
-    /// carried.
+    /// The bytes that a signature with the headers of this one covers with this payload (RFC 9052,
+    /// section 4.4), wherever it is carried.
     ///
     /// # Errors
     /// As of `tbs_data`.
@@ -133,11 +134,14 @@ impl CoseSign {
         )
     }
 
-    /// Asks the verifier about one of the signatures and the bytes that it covers. It is called at most once.
+    /// Asks the verifier about one of the signatures and the bytes that it covers (RFC 9052,
+    /// section 4.4). It is called at most once. `which` counts from 0 and is below the number of
+    /// signatures.
     ///
     /// # Errors
-    /// `Caller` with the verifier's error. `Cose` with `DuplicateMapKey` exactly where one of the protected headers can't be written, or
-    /// with `Memory`; both are met before the verifier is called.
+    /// `Caller` with the verifier's error. `Cose` with `DuplicateMapKey` exactly where one of the
+    /// protected headers can't be written, or with `Memory`; both are met before the verifier is
+    /// called.
     pub fn verify_signature<E, V: FnOnce(&[u8], &[u8]) -> Result<(), E>>(
         &self,
         alloc: Global,
@@ -158,7 +162,8 @@ impl CoseSign {
         verifier(signature_bytes(signature), data.as_slice()).map_err(Fault::Caller)
     }
 
-    /// As `verify_signature`, of a payload that is carried elsewhere.
+    /// As `verify_signature`, of a payload that is carried elsewhere: this one. `which` counts from
+    /// 0 and is below the number of signatures. The message carries no payload.
     ///
     /// # Errors
     /// As of `verify_signature`.

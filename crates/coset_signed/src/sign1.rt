@@ -57,7 +57,8 @@ impl CoseSign1 {
         })
     }
 
-    /// The bytes that the signature covers (RFC 9052, section 4.4). A payload that is carried elsewhere counts as empty.
+    /// The bytes that the signature covers (RFC 9052, section 4.4). A payload that is carried
+    /// elsewhere counts as empty.
     ///
     /// # Errors
     /// `DuplicateMapKey` exactly where the protected header can't be written, or `Memory`.
@@ -69,7 +70,8 @@ impl CoseSign1 {
         self.covered(alloc, content_bytes(&self.payload), aad)
     }
 
-    /// The bytes that the signature covers where the payload is carried elsewhere: this payload (RFC 9052, section 4.4).
+    /// The bytes that the signature covers where the payload is carried elsewhere: this payload
+    /// (RFC 9052, section 4.4). The message carries no payload.
     ///
     /// # Errors
     /// As of `tbs_data`.
@@ -87,7 +89,8 @@ impl CoseSign1 {
         self.covered(alloc, payload, aad)
     }
 
-    /// The bytes that the signature covers with this payload (RFC 9052, section 4.4), wherever it is carried.
+    /// The bytes that the signature covers with this payload (RFC 9052, section 4.4), wherever it
+    /// is carried.
     ///
     /// # Errors
     /// As of `tbs_data`.
@@ -106,11 +109,13 @@ impl CoseSign1 {
         )
     }
 
-    /// Asks the verifier about the signature and the bytes that it covers. It is called at most once.
+    /// Asks the verifier about the signature and the bytes that it covers (RFC 9052, section 4.4).
+    /// It is called at most once.
     ///
     /// # Errors
-    /// `Caller` with the verifier's error. `Cose` with `DuplicateMapKey` exactly where the protected header can't be written, or with
-    /// `Memory`; both are met before the verifier is called.
+    /// `Caller` with the verifier's error. `Cose` with `DuplicateMapKey` exactly where the
+    /// protected header can't be written, or with `Memory`; both are met before the verifier is
+    /// called.
     pub fn verify_signature<E, V: FnOnce(&[u8], &[u8]) -> Result<(), E>>(
         &self,
         alloc: Global,
@@ -126,7 +131,8 @@ impl CoseSign1 {
         verifier(self.signature.as_slice(), data.as_slice()).map_err(Fault::Caller)
     }
 
-    /// As `verify_signature`, of a payload that is carried elsewhere.
+    /// As `verify_signature`, of a payload that is carried elsewhere: this one. The message carries
+    /// no payload.
     ///
     /// # Errors
     /// As of `verify_signature`.

@@ -13,7 +13,8 @@ use coset_headers::{Header, ProtectedHeader};
 use coset_labels::{CoseError, Fault};
 use std::alloc::Global;
 
-/// A message with one signature while it is built. Calls that sign take memory; the others take none.
+/// A COSE_Sign1 (RFC 9052, section 4.2) while it is built. Calls that sign take memory; the others
+/// take none.
 #[derive(Drop)]
 pub struct CoseSign1Builder {
     message: CoseSign1,
@@ -74,10 +75,12 @@ impl CoseSign1Builder {
         self
     }
 
-    /// Sets the signature that the signer gives over the bytes that it covers. Header and payload are set before.
+    /// Sets the signature that the signer gives over the bytes that it covers (RFC 9052, section
+    /// 4.4). Header and payload are set before.
     ///
     /// # Errors
-    /// `DuplicateMapKey` exactly where the protected header can't be written, or `Memory`; then the signer isn't called.
+    /// `DuplicateMapKey` exactly where the protected header can't be written, or `Memory`; then the
+    /// signer isn't called.
     pub fn create_signature<S: FnOnce(&[u8]) -> Vec<u8>>(
         self,
         alloc: Global,
@@ -114,7 +117,8 @@ impl CoseSign1Builder {
         Ok(self.signature(signature))
     }
 
-    /// As `create_signature`, of a payload that is carried elsewhere.
+    /// As `create_signature`, of a payload that is carried elsewhere: this one. The message carries
+    /// no payload.
     ///
     /// # Errors
     /// As of `create_signature`.
@@ -138,7 +142,7 @@ impl CoseSign1Builder {
         Ok(self.signature(signature))
     }
 
-    /// As `create_detached_signature`, with a signer that may fail.
+    /// As `create_detached_signature`, with a signer that may fail. The message carries no payload.
     ///
     /// # Errors
     /// `Caller` with the signer's error. `Cose` with what `create_detached_signature` answers.

@@ -16,7 +16,8 @@ use coset_headers::{CoseSignature, Header, ProtectedHeader};
 use coset_labels::{CoseError, Fault};
 use std::alloc::Global;
 
-/// A message with several signatures while it is built. Calls that add a signature take memory; the others take none.
+/// A COSE_Sign (RFC 9052, section 4.1) while it is built. Calls that add a signature take memory;
+/// the others take none.
 #[derive(Drop)]
 pub struct CoseSignBuilder {
     message: CoseSign,
@@ -102,7 +103,8 @@ impl CoseSignBuilder {
         self
     }
 
-    /// Appends this signature with the bytes that the signer gives over what it covers. Room for it was made before.
+    /// Appends this signature with the bytes that the signer gives over what it covers. Room for it
+    /// was made before.
     fn asked<S: FnOnce(&[u8]) -> Vec<u8>>(
         self,
         signature: CoseSignature,
@@ -173,10 +175,12 @@ impl CoseSignBuilder {
         }
     }
 
-    /// Appends this signature with the bytes that the signer gives over what it covers. Headers and payload are set before.
+    /// Appends this signature with the bytes that the signer gives over what it covers (RFC 9052,
+    /// section 4.4). Headers and payload are set before.
     ///
     /// # Errors
-    /// `DuplicateMapKey` exactly where one of the protected headers can't be written, or `Memory`; then the signer isn't called.
+    /// `DuplicateMapKey` exactly where one of the protected headers can't be written, or `Memory`;
+    /// then the signer isn't called.
     pub fn add_created_signature<S: FnOnce(&[u8]) -> Vec<u8>>(
         self,
         alloc: Global,
@@ -219,7 +223,8 @@ impl CoseSignBuilder {
         self.try_add_made(signature, data.as_slice(), signer)
     }
 
-    /// As `add_created_signature`, of a payload that is carried elsewhere.
+    /// As `add_created_signature`, of a payload that is carried elsewhere: this one. The message
+    /// carries no payload.
     ///
     /// # Errors
     /// As of `add_created_signature`.
@@ -246,7 +251,7 @@ impl CoseSignBuilder {
         self.add_made(signature, data.as_slice(), signer)
     }
 
-    /// As `add_detached_signature`, with a signer that may fail.
+    /// As `add_detached_signature`, with a signer that may fail. The message carries no payload.
     ///
     /// # Errors
     /// `Caller` with the signer's error. `Cose` with what `add_detached_signature` answers.

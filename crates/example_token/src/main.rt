@@ -1,5 +1,6 @@
-//! `example_token NOW`: reads CBOR web tokens (RFC 8392) from standard input, one a line and in hex, and prints the claims of each whose tag
-//! is good and whose time isn't over at NOW, in seconds since 1970.
+//! `example_token NOW`: reads CBOR web tokens (RFC 8392) from standard input, one a line and in
+//! hex, and prints the claims of each whose tag is good and whose time isn't over at NOW, in
+//! seconds since 1970.
 #![tactic(auto)]
 
 use cose_hmac::{hmac_sha256, same_tag};
@@ -26,6 +27,8 @@ enum Refused {
     Hex,
     /// It is tagged by another algorithm than HMAC 256/64.
     Algorithm,
+    /// It has labels that are critical, and none is known here (RFC 9052, section 3.1).
+    Critical,
     /// Its tag isn't good.
     Tag,
     /// It carries no claims.
@@ -60,6 +63,9 @@ fn check(alloc: Global, text: &str, now: i64) -> Result<ClaimsSet, Fault<Refused
     {
         return Err(Fault::Caller(Refused::Algorithm));
     }
+    if !message.protected.header.crit.is_empty() || !message.unprotected.crit.is_empty() {
+        return Err(Fault::Caller(Refused::Critical));
+    }
     message.verify_payload_tag(
         alloc,
         b"",
@@ -74,7 +80,8 @@ fn check(alloc: Global, text: &str, now: i64) -> Result<ClaimsSet, Fault<Refused
     Ok(claims)
 }
 
-/// Looks whether a tag is the first eight bytes of the HMAC over what it covers: HMAC 256/64 (RFC 9053, section 3.1).
+/// Looks whether a tag is the first eight bytes of the HMAC over what it covers: HMAC 256/64
+/// (RFC 9053, section 3.1).
 fn verified(tag: &[u8], covered: &[u8]) -> Result<(), Refused> {
     if same_tag(&hmac_sha256(KEY, covered)[..8], tag) {
         Ok(())
