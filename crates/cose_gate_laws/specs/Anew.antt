@@ -14,8 +14,8 @@ abbrev pub bytes_of : List Step → List ℕ
 bytes_of ss = flat_map (λ s. s.item.bytes) ss
 
 -- an entry further on by so many items and bytes
-abbrev pub moved : ℕ → ℕ → Entry → Entry
-moved items bytes e = record { number = e.number + items; offset = e.offset + bytes; verdict = e.verdict }
+abbrev pub entry_behind : ℕ → ℕ → Entry → Entry
+entry_behind items bytes e = record { number = e.number + items; offset = e.offset + bytes; verdict = e.verdict }
 
 -- the same verdict; of a shape's fault it is open which of the value's faults is named
 abbrev pub SameVerdict : Verdict → Verdict → Type 0
