@@ -34,7 +34,8 @@ pub fn joined_runs()
         (a b : List ℕ) (ss rs : List Step) (rest : List ℕ) → Run limits allows aad at a ss []
         → Run limits allows aad at b rs rest → (ts : List Step)
         × Run limits allows aad at (a ++ b) ts rest
-        × (entries_of ts ≡ entries_of ss ++ map (entry_behind (length ss) (length a)) (entries_of rs)) }
+        × (entries_of ts
+        ≡ entries_of ss ++ map (entry_behind (length ss) (length a)) (entries_of rs)) }
     ensures questions { (limits : Bounds) (allows : Question → Bool) (aad : List ℕ) (at : ℕ)
         (a b : List ℕ) (ss rs ts : List Step) (rest more : List ℕ)
         → Run limits allows aad at a ss [] → Run limits allows aad at b rs rest
