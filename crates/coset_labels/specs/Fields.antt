@@ -1,4 +1,4 @@
--- Labels, and numbers of registries, as values that hold no memory (RFC 9052, section 1.4).
+-- Labels, and numbers of registries, as values that hold no memory (RFC 9052, section 1.5).
 use Rattle.std.specs.Prelude.{ℕ, ℤ, List}
 
 -- an integer or a text

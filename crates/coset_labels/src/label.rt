@@ -21,7 +21,7 @@ use ciborium_value::{Integer, Value};
 use std::alloc::{AllocError, Global};
 use std::cmp::Ordering;
 
-/// The label of an entry of a header or a key (RFC 9052, section 1.4). Labels are ordered as the
+/// The label of an entry of a header or a key (RFC 9052, section 1.5). Labels are ordered as the
 /// bytes of their encodings are.
 #[derive(Debug, Drop)]
 pub enum Label {
