@@ -24,8 +24,8 @@ pub record IsAsked (aad input told told' : List ℕ) (counts : Counts) : Type 0 
   pub passed : counts.passed ≡ passed_count always aad steps
   pub refused : counts.refused ≡ refused_count always aad steps
 
--- the input was gone through up to some place, and the records of a beginning of the questions up to
--- there were told
+-- the input was gone through up to some place, and the records of a beginning of the questions up
+-- to there were told
 pub record IsAskedInPart (aad input told told' : List ℕ) : Type 0 where
   pub steps : List Step
   pub more : List ℕ
@@ -55,8 +55,8 @@ abbrev pub IsPassed : List ℕ → List ℕ → List ℕ → List ℕ → Counts
 IsPassed accepted aad input output counts =
     (keys : List (List ℕ)) × AreRecords accepted keys × IsPassedBy keys aad input output counts
 
--- the program ran with a judge by key ids. What it wrote, its status, and the ids that the judge was
--- asked about belong to one course of steps; about all of them where the status is 0 or 1.
+-- the program ran with a judge by key ids. What it wrote, its status, and the ids that the judge
+-- was asked about belong to one course of steps; about all of them where the status is 0 or 1.
 pub record RanByIds (limits : Bounds) (ids : List (List ℕ)) (aad : List ℕ) (old new : Devices)
     (asked asked' : List (List ℕ)) (status : ℕ) : Type 0 where
   pub on : RanOn limits (allows ids) aad old new status
@@ -76,4 +76,5 @@ EndsAccepted limits accepted aad old new status =
 
 -- all of the bytes that were to come, where these are known, were written as they came
 abbrev pub IsHandedOn : Devices → Devices → Type 0
-IsHandedOn old new = (input : List ℕ) → old.left ≡ Some input → Appends old.written new.written input
+IsHandedOn old new =
+    (input : List ℕ) → old.left ≡ Some input → Appends old.written new.written input

@@ -10,7 +10,8 @@ use Rattle.cose_gate.specs.Tree.{Tree}
 use Rattle.cose_gate.specs.Program.{Devices, Ends}
 
 -- the bytes are one message, it has one question, and the answer is the one to that question
-pub record IsAnswered (allows : Question → Bool) (aad : List ℕ) (yes : Bool) (b : List ℕ) : Type 0 where
+pub record IsAnswered (allows : Question → Bool) (aad : List ℕ) (yes : Bool)
+    (b : List ℕ) : Type 0 where
   pub item : Tree
   pub message : MessageFields
   pub question : Question
@@ -19,7 +20,8 @@ pub record IsAnswered (allows : Question → Bool) (aad : List ℕ) (yes : Bool)
   pub asked : all_questions message aad ≡ Some (question ∷ [])
   pub answer : yes ≡ allows question
 
--- the bytes are a message whose payload has n bytes, and these were fed last, in no more pieces than so many bytes take in this room
+-- the bytes are a message whose payload has n bytes, and these were fed last, in no more pieces
+-- than so many bytes take in this room
 pub record IsFedInFew (room : ℕ) (lengths b : List ℕ) : Type 0 where
   pub n : ℕ
   pub stated : Stated b n
@@ -29,14 +31,23 @@ pub record IsFedInFew (room : ℕ) (lengths b : List ℕ) : Type 0 where
   pub all : sum pieces ≡ n
   pub few : length pieces * room < n + room
 
--- the words say how to run; without them the status is that of a wrong call, and no device was touched
-abbrev pub EndsBy : Option (List ℕ × Option (List ℕ)) → Option (List ℕ) → Devices → Devices → ℕ → Type 0
+-- the words say how to run; without them the status is that of a wrong call, and no device was
+-- touched
+abbrev pub EndsBy : Option (List ℕ × Option (List ℕ)) → Option (List ℕ) → Devices → Devices → ℕ
+    → Type 0
 EndsBy None keys old new status = (status ≡ 2) × (new ≡ old)
 EndsBy (Some w) keys old new status = Ends says_yes keys w.1 old new status
 
--- the program ended so over these bytes, where they are known, with these keys and no external data; its reader had not failed before
-pub record EndsOver (left : Option (List ℕ)) (keys : List ℕ) (written written' : Option (List ℕ)) (failures failures' status : ℕ) : Type 0 where
+-- the program ended so over these bytes, where they are known, with these keys and no external
+-- data; its reader had not failed before
+pub record EndsOver (left : Option (List ℕ)) (keys : List ℕ) (written written' : Option (List ℕ))
+    (failures failures' status : ℕ) : Type 0 where
   pub new : Devices
-  pub ends : Ends says_yes (Some keys) None (record { left = left; written = written; read_failures = 0; write_failures = failures }) new status
+  pub ends : Ends says_yes (Some keys) None (record {
+    left = left;
+    written = written;
+    read_failures = 0;
+    write_failures = failures;
+  }) new status
   pub written_is : new.written ≡ written'
   pub failures_is : new.write_failures ≡ failures'

@@ -13,7 +13,8 @@ use Rattle.cose_gate.specs.GateFault.{GateFault}
 use Rattle.cose_gate.specs.GateFault.TheVariants.{Decode, Write, Memory}
 use Rattle.callers.specs.Tallies.{Tallied, tallied}
 
--- the key id of a message: the protected one where there is one, else the unprotected one (RFC 9052, section 3.1)
+-- the key id of a message: the protected one where there is one, else the unprotected one (RFC
+-- 9052, section 3.1)
 abbrev pub id_or : List ℕ → List ℕ → List ℕ
 id_or [] other = other
 id_or (b ∷ bs) other = b ∷ bs
@@ -47,9 +48,10 @@ pub record Sides : Type 0 where
 abbrev pub key_ids_of : List Question → List (List ℕ)
 key_ids_of qs = map (λ q. key_id_of q.subject) qs
 
--- the whole input was gone through: the output is that of its steps under this rule, and the counts are theirs; the judge was asked
--- their questions, and the tally counts them
-pub record Relayed (ids : List (List ℕ)) (aad input : List ℕ) (old new : Sides) (output : List ℕ) (counts : Counts) : Type 0 where
+-- the whole input was gone through: the output is that of its steps under this rule, and the counts
+-- are theirs; the judge was asked their questions, and the tally counts them
+pub record Relayed (ids : List (List ℕ)) (aad input : List ℕ) (old new : Sides) (output : List ℕ)
+    (counts : Counts) : Type 0 where
   pub steps : List Step
   pub course : Course usual (allows ids) aad 0 input steps []
   pub output_is : output ≡ output_of (allows ids) aad steps
@@ -58,14 +60,17 @@ pub record Relayed (ids : List (List ℕ)) (aad input : List ℕ) (old new : Sid
   pub asked : new.asked ≡ old.asked ++ key_ids_of (questions_of (allows ids) aad steps)
   pub tally : new.tally ≡ folded_over tallied old.tally (entries_of steps)
 
--- what is relayed of a run of the whole input: its output, with nothing left, and as many passed and refused as its steps
-pub record RelayedRun (ids : List (List ℕ)) (aad : List ℕ) (ss : List Step) (rest output : List ℕ) (counts : Counts) : Type 0 where
+-- what is relayed of a run of the whole input: its output, with nothing left, and as many passed
+-- and refused as its steps
+pub record RelayedRun (ids : List (List ℕ)) (aad : List ℕ) (ss : List Step) (rest output : List ℕ)
+    (counts : Counts) : Type 0 where
   pub output_is : output ≡ output_of (allows ids) aad ss
   pub rest_is : rest ≡ []
   pub passed : counts.passed ≡ passed_count (allows ids) aad ss
   pub refused : counts.refused ≡ refused_count (allows ids) aad ss
 
--- a relay of what a relay wrote changes nothing: the same bytes, as many messages pass as passed, and none is refused
+-- a relay of what a relay wrote changes nothing: the same bytes, as many messages pass as passed,
+-- and none is refused
 pub record Unchanged (once again : List ℕ) (first second : Counts) : Type 0 where
   pub output : again ≡ once
   pub passed : second.passed ≡ first.passed
@@ -77,9 +82,10 @@ IsDue ends stop more last (Decode e) = (last ≡ []) × IsFaultOf ends usual.nes
 IsDue ends stop more last Write = Unit {0}
 IsDue ends stop more last Memory = Unit {0}
 
--- the input was gone through up to some place: the judge was asked the questions of the steps that are done and a beginning of those
--- of the last, and the tally counts the steps that are done
-pub record Halted {E : Type 0} (ends : E → Bool) (ids : List (List ℕ)) (aad input : List ℕ) (old new : Sides) (fault : GateFault E) : Type 0 where
+-- the input was gone through up to some place: the judge was asked the questions of the steps that
+-- are done and a beginning of those of the last, and the tally counts the steps that are done
+pub record Halted {E : Type 0} (ends : E → Bool) (ids : List (List ℕ)) (aad input : List ℕ)
+    (old new : Sides) (fault : GateFault E) : Type 0 where
   pub done : List Step
   pub last : List Step
   pub more : List ℕ

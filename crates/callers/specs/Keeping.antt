@@ -11,7 +11,8 @@ use Rattle.coset.specs.KeysWritten.{key_tree}
 use Rattle.coset.specs.Reading.{HasItem}
 use Rattle.callers.specs.declared.keeping.KeyStore.{KeyStore}
 
--- the fields are those of the key that the bytes are, its other entries in the order of their labels' encodings
+-- the fields are those of the key that the bytes are, its other entries in the order of their
+-- labels' encodings
 pub record IsOrdered (bytes : List ℕ) (ordered : KeyFields) : Type 0 where
   pub key : KeyFields
   pub read : HasItem HasKey bytes key
@@ -19,7 +20,8 @@ pub record IsOrdered (bytes : List ℕ) (ordered : KeyFields) : Type 0 where
 
 -- what that key is written as
 abbrev pub IsSpelling : List ℕ → List ℕ → Type 0
-IsSpelling bytes spelled = (k : KeyFields) × IsOrdered bytes k × (option_map enc (key_tree k) ≡ Some spelled)
+IsSpelling bytes spelled =
+    (k : KeyFields) × IsOrdered bytes k × (option_map enc (key_tree k) ≡ Some spelled)
 
 abbrev pub kept_of : KeyStore → List (List ℕ)
 kept_of s = map (λ v. v.items) s.kept.items

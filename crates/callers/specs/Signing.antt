@@ -10,10 +10,13 @@ use Rattle.callers.specs.declared.signing.Refused.{Refused}
 abbrev pub IsGood : (List ℕ → List ℕ → Type 0) → Option (List ℕ) → List ℕ → Type 0
 IsGood good covered signature = IsSomeAnd covered (λ b. good b signature)
 
--- it is good, or it isn't; where the covered bytes can't be written, or memory was refused, nobody was asked
-abbrev pub Verified : (List ℕ → List ℕ → Type 0) → Option (List ℕ) → List ℕ → Result (Unit {0}) (Fault Refused) → Type 0
+-- it is good, or it isn't; where the covered bytes can't be written, or memory was refused, nobody
+-- was asked
+abbrev pub Verified : (List ℕ → List ℕ → Type 0) → Option (List ℕ) → List ℕ
+    → Result (Unit {0}) (Fault Refused) → Type 0
 Verified good covered signature (Ok u) = IsGood good covered signature
-Verified good covered signature (Err (fault.Caller e)) = IsGood (λ b s. good b s → ⊥) covered signature
+Verified good covered signature (Err (fault.Caller e)) =
+    IsGood (λ b s. good b s → ⊥) covered signature
 Verified good covered signature (Err (fault.Cose c)) = CantWrite covered c
 
 -- whether the bytes are the covered ones, or why these can't be written

@@ -14,12 +14,14 @@ abbrev pub has : List (List ℕ) → List ℕ → Bool
 has seen message = list_any (λ one. bytes_eq one message) seen
 
 -- bytes that were not there are kept behind the others
-pub record Admitted (seen : List (List ℕ)) (message : List ℕ) (seen' : List (List ℕ)) (is_new : Bool) : Type 0 where
+pub record Admitted (seen : List (List ℕ)) (message : List ℕ) (seen' : List (List ℕ))
+    (is_new : Bool) : Type 0 where
   pub answer : is_new ≡ not (has seen message)
   pub keeps : seen' ≡ (if is_new then seen ++ message ∷ [] else seen)
 
 -- the whole input was relayed; its output is the answer, and is kept, where it was not there before
-pub record Once (ids : List (List ℕ)) (aad input : List ℕ) (old new : Sides) (seen seen' : List (List ℕ)) (answer : Option (List ℕ)) : Type 0 where
+pub record Once (ids : List (List ℕ)) (aad input : List ℕ) (old new : Sides)
+    (seen seen' : List (List ℕ)) (answer : Option (List ℕ)) : Type 0 where
   pub output : List ℕ
   pub counts : Counts
   pub relayed : Relayed ids aad input old new output counts

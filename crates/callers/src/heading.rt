@@ -20,7 +20,11 @@ use std::alloc::{AllocError, Global};
 ///
 /// # Errors
 /// Only where memory is refused.
-pub fn made(alloc: Global, alg: iana::Algorithm, key_id: &[u8]) -> Result<Header, AllocError>
+pub fn plain_header(
+    alloc: Global,
+    alg: iana::Algorithm,
+    key_id: &[u8],
+) -> Result<Header, AllocError>
     ensures { IfOk result (λ h. header_view h
         ≡ header (record no_plain {
           alg = Some (assigned (algorithm_number alg));

@@ -46,7 +46,7 @@ pub enum Refused {
 }
 
 /// What the key says, as the calls of a message take it.
-fn said<K: Key>(key: &K, signature: &[u8], covered: &[u8]) -> Result<(), Refused>
+fn key_answer<K: Key>(key: &K, signature: &[u8], covered: &[u8]) -> Result<(), Refused>
     ensures { MatchResult result (λ _. K.good key.now covered.now signature.now)
         (λ _. K.good key.now covered.now signature.now → ⊥) }
 {
@@ -93,7 +93,7 @@ pub fn verified<K: Key>(
         message.now.signature.items result }
 {
     message.verify_signature(alloc, aad, move |signature, covered| {
-        said(key, signature, covered)
+        key_answer(key, signature, covered)
     })
 }
 
@@ -137,7 +137,7 @@ pub fn tagged_payload<K: Key>(
         alloc,
         aad,
         || Refused::Detached,
-        move |tag, covered| said(key, tag, covered),
+        move |tag, covered| key_answer(key, tag, covered),
     )?;
     message.payload.ok_or(Fault::Caller(Refused::Detached))
 }

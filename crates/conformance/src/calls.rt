@@ -1,7 +1,7 @@
 //! Calls by name.
 use crate::answers::{Answer, CallError, bytes, size, value};
 use crate::typed::{self, Route};
-use crate::{heads, items, labels, notation, orders, pieces, registries, shown, values};
+use crate::{accessors, heads, items, labels, notation, orders, pieces, registries, shown, values};
 use cbor_diag::Style;
 use std::alloc::Global;
 
@@ -21,6 +21,7 @@ fn of_one(alloc: Global, call: &str, argument: &str) -> Answer {
     match call {
         "entries" => registries::entry(alloc, argument, None),
         "kinds" => values::kinds(alloc, &value(alloc, argument)?),
+        "accessors" => accessors::accessors(alloc, argument),
         _ => of_bytes(alloc, call, argument),
     }
 }

@@ -2,6 +2,7 @@
 //! `item 256 1818 -> 1818 taken 2`, and prints each row whose answer is another, and how many rows there were.
 #![tactic(auto)]
 
+mod accessors;
 mod answers;
 mod calls;
 mod heads;

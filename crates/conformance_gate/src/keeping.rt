@@ -10,7 +10,7 @@ use std::alloc::Global;
 /// A header with the algorithm HMAC 256/256 and this key id.
 pub fn header(alloc: Global, key_id: &str) -> Answer {
     let key_id = words::bytes(alloc, key_id)?;
-    let made = callers::heading::made(alloc, iana::Algorithm::HMAC_256_256, &key_id)?;
+    let made = callers::heading::plain_header(alloc, iana::Algorithm::HMAC_256_256, &key_id)?;
     let written = made.to_vec(alloc)?;
     Ok(in_hex(alloc, &written)?)
 }
@@ -18,7 +18,7 @@ pub fn header(alloc: Global, key_id: &str) -> Answer {
 /// Whether the header that these bytes are is that one.
 pub fn is_header(alloc: Global, key_id: &str, header: &str) -> Answer {
     let (key_id, header) = (words::bytes(alloc, key_id)?, words::bytes(alloc, header)?);
-    let made = callers::heading::made(alloc, iana::Algorithm::HMAC_256_256, &key_id)?;
+    let made = callers::heading::plain_header(alloc, iana::Algorithm::HMAC_256_256, &key_id)?;
     let read = callers::heading::header_of(alloc, &header)?;
     plain(alloc, yes_or_no(read == made))
 }

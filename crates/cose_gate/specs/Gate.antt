@@ -109,7 +109,7 @@ pub record Torn {T S : Type 0} (rules : Rules T S) (old new : Sight T S)
 
 -- memory was refused at one item, or between items: what stands before was done whole; of the item's questions a beginning was asked;
 -- its text was written whole, and then all was asked about it, or not at all; it wasn't noted. At an item the offset is the one
--- behind it; between items it is open how much of the next was taken.
+-- behind it; between items it is open how much was taken behind the last item that was done.
 pub record Refused {T S : Type 0} (rules : Rules T S) (old new : Sight T S)
     (ss : List Step) : Type 0 where
   pub done : List Step

@@ -67,7 +67,7 @@ either_encrypted n true a e = encrypt_is n e
 either_encrypted n false a e = not_encrypted n a e
 
 -- a tag that is none of the four is that of no message
-pub no_message_tag : (n : ℕ) → n ≢ 18 → n ≢ 17 → n ≢ 98 → n ≢ 97 → IsMessageTag n → ⊥
+pub no_message_tag : (n : ℕ) → n ≢ number_of kind.Sign1 → n ≢ number_of kind.Mac0 → n ≢ number_of kind.Sign → n ≢ number_of kind.Mac → IsMessageTag n → ⊥
 no_message_tag n a b c d (kind.Sign1, e) = a e
 no_message_tag n a b c d (kind.Mac0, e) = b e
 no_message_tag n a b c d (kind.Sign, e) = c e

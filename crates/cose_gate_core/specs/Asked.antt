@@ -22,7 +22,8 @@ pub record IsFront {A : Type 0} (xs ys : List A) : Type 0 where
   pub whole : ys ≡ xs ++ more
 
 -- of these questions a beginning was told
-pub record ToldFront {T Q : Type 0} (decided : T → Q → T) (told told' : T) (all : List Q) : Type 0 where
+pub record ToldFront {T Q : Type 0} (decided : T → Q → T) (told told' : T)
+    (all : List Q) : Type 0 where
   pub front : List Q
   pub is_front : IsFront front all
   pub tells : told' ≡ folded_over decided told front

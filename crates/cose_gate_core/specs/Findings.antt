@@ -1,4 +1,5 @@
--- What is found of an item before a judge is asked: a message that is judged, or why it is none (RFC 9052, section 2, has the tags).
+-- What is found of an item before a judge is asked: a message that is judged, or why it is none
+-- (RFC 9052, section 2, has the tags).
 use Rattle.std.specs.Prelude.{◌≡◌, ◌≢◌, ℕ, ◌⊎◌, List, [], Option, Some, None, Bool, true, false, if◌then◌else◌, nat_eq}
 use Rattle.std.specs.Cmp.Lexicographic.{pointwise}
 use Rattle.ciborium_value.specs.Tree.{Tree, tag}
@@ -19,7 +20,8 @@ pub data Reason : Type 0 where
   not_tagged encrypted shape detached no_signature : Reason
   other_tag : ℕ → Reason
 
--- a message about which the judge is asked, an item that is none, or a message that is refused by a further rule before the judge is asked
+-- a message about which the judge is asked, an item that is none, or a message that is refused by a
+-- further rule before the judge is asked
 pub data Finding : Type 0 where
   judged : MessageFields → Finding
   barred : Reason → Finding
@@ -33,14 +35,16 @@ IsMessageTag n = (k : MessageKind) × (n ≡ number_of k)
 abbrev pub IsEncryptedTag : ℕ → Type 0
 IsEncryptedTag n = (n ≡ 16) ⊎ (n ≡ 96)
 
--- how many levels an item may open, and anew the one in a protected header; how many protected headers may lie inside one another; and
--- which messages are refused that would else be judged, by the bytes of their item and their fields
+-- how many levels an item may open, and anew the one in a protected header; how many protected
+-- headers may lie inside one another; and which messages are refused that would else be judged, by
+-- the bytes of their item and their fields
 pub record Bounds : Type 0 where
   pub nesting : ℕ
   pub layers : ℕ
   pub excludes : List ℕ → MessageFields → Option Refusal
 
--- the further rule of a gate, which may be strict: a message is refused whose item isn't already the text that would be written
+-- the further rule of a gate, which may be strict: a message is refused whose item isn't already
+-- the text that would be written
 abbrev pub excluded_by : Bool → List ℕ → MessageFields → Option Refusal
 excluded_by false b m = None
 excluded_by true b m =

@@ -11,7 +11,8 @@ use Rattle.coset_structures.specs.Structure.{behind_prefix}
 use Rattle.cose_gate_core.specs.Questions.{Subject, Question}
 use Rattle.cose_gate_core.specs.Received.{received_bytes}
 
-abbrev pub signer_of : Option (Bor ProtectedHeader × Bor Header) → Option (ProtectedFields × HeaderFields)
+abbrev pub signer_of : Option (Bor ProtectedHeader × Bor Header)
+    → Option (ProtectedFields × HeaderFields)
 signer_of None = None
 signer_of (Some s) = Some (protected_view s.0.now, header_view s.1.now)
 
@@ -24,10 +25,12 @@ subject_of a = record {
   recipients = recipients_view a.recipients.now;
 }
 
--- the question over a structure without a signer, which begins with the prefix and shows the received bytes
+-- the question over a structure without a signer, which begins with the prefix and shows the
+-- received bytes
 abbrev pub asked_alone : About → List ℕ → List ℕ → List ℕ → List ℕ → Question
 asked_alone a prefix aad payload signature = record {
   subject = subject_of a;
-  covered = prefix ++ behind_prefix (received_bytes (protected_view a.protected.now)) None aad payload;
+  covered = prefix
+      ++ behind_prefix (received_bytes (protected_view a.protected.now)) None aad payload;
   signature = signature;
 }

@@ -19,7 +19,8 @@ use Rattle.cose_gate_core.specs.declared.gating.Counts.{Counts}
 use Rattle.cose_gate_core.specs.declared.gating.GateFault.{GateFault}
 use Rattle.cose_gate_core.specs.declared.gating.GateFault.TheVariants.{Decode, Write, Memory}
 
--- the limits, how a judge's and a report's states go on, what the judge allows, and the external data
+-- the limits, how a judge's and a report's states go on, what the judge allows, and the external
+-- data
 pub record Rules (T S : Type 0) : Type 0 where
   pub limits : Bounds
   pub decided : T → Question → T
@@ -27,7 +28,8 @@ pub record Rules (T S : Type 0) : Type 0 where
   pub allows : Question → Bool
   pub aad : List ℕ
 
--- what the judge was told, what the report was told, what was written, the offset, and the bytes to come
+-- what the judge was told, what the report was told, what was written, the offset, and the bytes to
+-- come
 pub record Sight (T S : Type 0) : Type 0 where
   pub told : T
   pub state : S
@@ -36,13 +38,15 @@ pub record Sight (T S : Type 0) : Type 0 where
   pub left : Option (List ℕ)
 
 -- all of these steps were made: their questions asked, their entries noted, their output written
-pub record Made {T S : Type 0} (rules : Rules T S) (old new : Sight T S) (ss : List Step) : Type 0 where
+pub record Made {T S : Type 0} (rules : Rules T S) (old new : Sight T S)
+    (ss : List Step) : Type 0 where
   pub told : new.told ≡ folded_over rules.decided old.told (questions_of rules.allows rules.aad ss)
   pub state : new.state ≡ folded_over rules.folded old.state (entries_of ss)
   pub written : Appends old.written new.written (output_of rules.allows rules.aad ss)
 
--- the fault of the bytes `more`, where no item of at most n levels begins; `stop` is the place behind them. A failure of the device says
--- nothing of the bytes, and want of memory is no such fault.
+-- the fault of the bytes `more`, where no item of at most n levels begins; `stop` is the place
+-- behind them. A failure of the device says nothing of the bytes, and want of memory is no such
+-- fault.
 abbrev pub IsFaultOf : {E : Type 0} → (E → Bool) → ℕ → ℕ → List ℕ → Error E → Type 0
 IsFaultOf ends n stop more (de.Io e) = IsTrue (ends e) → Damage stop more n end × (more ≢ [])
 IsFaultOf ends n stop more (de.Syntax p) = Damage stop more n (syntax p)
@@ -51,10 +55,13 @@ IsFaultOf ends n stop more de.RecursionLimitExceeded = Damage stop more n deep
 IsFaultOf ends n stop more de.Memory = ⊥
 IsFaultOf ends n stop more de.TooLong = 2 ^ 64 ≤ stop + 4096
 
--- what reading the next item gives: it was taken, or no byte was left, and the reader tells so where it tells what is to come
-abbrev pub IsNext : Terms → Option (List ℕ) → Option (List ℕ) → ℕ → ℕ → Option (Value × Bool) → Type 0
+-- what reading the next item gives: it was taken, or no byte was left, and the reader tells so
+-- where it tells what is to come
+abbrev pub IsNext : Terms → Option (List ℕ) → Option (List ℕ) → ℕ → ℕ → Option (Value × Bool)
+    → Type 0
 IsNext terms left left' at at' None = IfKnown left (λ b. (b ≡ []) × (left' ≡ Some [])) × (at' ≡ at)
-IsNext terms left left' at at' (Some r) = Moves left left' at at' (λ b. IsTaken terms b (view r.0) r.1)
+IsNext terms left left' at at' (Some r) =
+    Moves left left' at at' (λ b. IsTaken terms b (view r.0) r.1)
 
 -- what reading the next item ends with, at the offset at' then: a fault of the bytes that were to
 -- come, where they are known, or want of memory. At an end some of them were taken.
@@ -67,9 +74,10 @@ IsReadFault ends n left at at' (Decode e) =
 IsReadFault ends n left at at' Write = ⊥
 IsReadFault ends n left at at' Memory = Unit {0}
 
--- Ok: the steps go through the whole input, all of them were made, the offset has grown by all bytes, and the reader tells that nothing is
--- left, where it tells what is to come
-pub record Whole {T S : Type 0} (rules : Rules T S) (old new : Sight T S) (input : List ℕ) (counts : Counts) : Type 0 where
+-- Ok: the steps go through the whole input, all of them were made, the offset has grown by all
+-- bytes, and the reader tells that nothing is left, where it tells what is to come
+pub record Whole {T S : Type 0} (rules : Rules T S) (old new : Sight T S) (input : List ℕ)
+    (counts : Counts) : Type 0 where
   pub steps : List Step
   pub course : Course rules.limits rules.allows rules.aad old.offset input steps []
   pub made : Made rules old new steps
@@ -78,8 +86,8 @@ pub record Whole {T S : Type 0} (rules : Rules T S) (old new : Sight T S) (input
   pub grown : new.offset ≡ old.offset + length input
   pub ended : IfKnown old.left (λ b. new.left ≡ Some [])
 
--- Decode: the steps go up to where the fault stands, and all of them were made. At an end the offset
--- is behind that place: some bytes of the item that is cut were taken.
+-- Decode: the steps go up to where the fault stands, and all of them were made. At an end the
+-- offset is behind that place: some bytes of the item that is cut were taken.
 pub record IfDecodeFailed {T S E : Type 0} (ends : E → Bool) (rules : Rules T S)
     (old new : Sight T S) (input : List ℕ) (e : Error E) : Type 0 where
   pub steps : List Step
@@ -92,15 +100,17 @@ pub record IfDecodeFailed {T S E : Type 0} (ends : E → Bool) (rules : Rules T 
   pub behind : IfKnown old.left (λ b.
       IfEnd ends (old.offset + length input < new.offset + length more) e)
 
--- Write: `done` were made; the message of the next step passes, all was asked about it, and a beginning of its text was written. The
--- offset is the one behind its item, and `more` is to come.
-pub record IfWriteFailed {T S : Type 0} (rules : Rules T S) (old new : Sight T S) (input : List ℕ) : Type 0 where
+-- Write: `done` were made; the message of the next step passes, all was asked about it, and a
+-- beginning of its text was written. The offset is the one behind its item, and `more` is to come.
+pub record IfWriteFailed {T S : Type 0} (rules : Rules T S) (old new : Sight T S)
+    (input : List ℕ) : Type 0 where
   pub done : List Step
   pub last : Step
   pub more : List ℕ
   pub course : Course rules.limits rules.allows rules.aad old.offset input (done ++ last ∷ []) more
   pub passed : passes rules.allows rules.aad last.finding ≡ true
-  pub told : new.told ≡ folded_over rules.decided old.told (questions_of rules.allows rules.aad (done ++ last ∷ []))
+  pub told : new.told
+      ≡ folded_over rules.decided old.told (questions_of rules.allows rules.aad (done ++ last ∷ []))
   pub state : new.state ≡ folded_over rules.folded old.state (entries_of done)
   pub front : List ℕ
   pub front_is : IsFront front (written_of rules.allows rules.aad last.finding)
@@ -108,10 +118,12 @@ pub record IfWriteFailed {T S : Type 0} (rules : Rules T S) (old new : Sight T S
   pub stands : new.offset + length more ≡ old.offset + length input
   pub behind : IfKnown new.left (λ b. b ≡ more)
 
--- Memory: `done` were made; of the questions of the next step a beginning was asked, and its text was written whole or not at all. The
--- offset is the one behind its item then, and `more` is to come. Where there is no such step, an item was due: it was being read, or
--- looked at, and it is open how much of it was taken.
-pub record IfMemoryRefused {T S : Type 0} (rules : Rules T S) (old new : Sight T S) (input : List ℕ) : Type 0 where
+-- Memory: `done` were made; of the questions of the next step a beginning was asked, and its text
+-- was written whole or not at all. The offset is the one behind its item then, and `more` is to
+-- come. Where there is no such step, an item was due: it was being read, or looked at, and it is
+-- open how much was taken behind the last item that was done.
+pub record IfMemoryRefused {T S : Type 0} (rules : Rules T S) (old new : Sight T S)
+    (input : List ℕ) : Type 0 where
   pub done : List Step
   pub last : List Step
   pub one : length last ≤ 1
@@ -119,23 +131,28 @@ pub record IfMemoryRefused {T S : Type 0} (rules : Rules T S) (old new : Sight T
   pub course : Course rules.limits rules.allows rules.aad old.offset input (done ++ last) more
   pub asked : List Question
   pub asked_front : IsFront asked (questions_of rules.allows rules.aad last)
-  pub told : new.told ≡ folded_over rules.decided old.told (questions_of rules.allows rules.aad done ++ asked)
+  pub told : new.told
+      ≡ folded_over rules.decided old.told (questions_of rules.allows rules.aad done ++ asked)
   pub state : new.state ≡ folded_over rules.folded old.state (entries_of done)
   pub texts : List Step
-  pub texts_are : (texts ≡ done) ⊎ ((texts ≡ done ++ last) × (asked ≡ questions_of rules.allows rules.aad last))
+  pub texts_are : (texts ≡ done)
+      ⊎ ((texts ≡ done ++ last) × (asked ≡ questions_of rules.allows rules.aad last))
   pub written : Appends old.written new.written (output_of rules.allows rules.aad texts)
   pub due : last ≡ [] → IfKnown old.left (λ b. more ≢ [])
   pub stands : last ≢ [] → new.offset + length more ≡ old.offset + length input
   pub behind : last ≢ [] → IfKnown new.left (λ b. b ≡ more)
 
-abbrev pub Outcome : {T S E : Type 0} → (E → Bool) → Rules T S → Sight T S → Sight T S → List ℕ → Result Counts (GateFault E) → Type 0
+abbrev pub Outcome : {T S E : Type 0} → (E → Bool) → Rules T S → Sight T S → Sight T S → List ℕ
+    → Result Counts (GateFault E) → Type 0
 Outcome ends rules old new input (Ok counts) = Whole rules old new input counts
 Outcome ends rules old new input (Err (Decode e)) = IfDecodeFailed ends rules old new input e
 Outcome ends rules old new input (Err Write) = IfWriteFailed rules old new input
 Outcome ends rules old new input (Err Memory) = IfMemoryRefused rules old new input
 
--- some bytes were there, those to come where these are known, and the answer has its outcome over them
-pub record Answers {T S E : Type 0} (ends : E → Bool) (rules : Rules T S) (old new : Sight T S) (r : Result Counts (GateFault E)) : Type 0 where
+-- some bytes were there, those to come where these are known, and the answer has its outcome over
+-- them
+pub record Answers {T S E : Type 0} (ends : E → Bool) (rules : Rules T S) (old new : Sight T S)
+    (r : Result Counts (GateFault E)) : Type 0 where
   pub input : List ℕ
   pub is : IfKnown old.left (λ b. b ≡ input)
   pub outcome : Outcome ends rules old new input r

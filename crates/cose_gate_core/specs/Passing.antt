@@ -36,8 +36,8 @@ IsTold limits b m through = MatchBool through (limits.excludes b m ≡ None)
     (limits.excludes b m ≡ Some refusal.NotShortest)
 
 -- the item went through: what was found, told and written
-pub record WentThrough {T : Type 0} (limits : Bounds) (decided : T → Question → T) (allows : Question → Bool)
-    (aad : List ℕ) (bytes : List ℕ) (t : Tree)
+pub record WentThrough {T : Type 0} (limits : Bounds) (decided : T → Question → T)
+    (allows : Question → Bool) (aad : List ℕ) (bytes : List ℕ) (t : Tree)
     (told told' : T) (written written' : Option (List ℕ)) (v : Verdict) : Type 0 where
   pub finding : Finding
   pub finds : Finds limits bytes t finding
@@ -46,8 +46,8 @@ pub record WentThrough {T : Type 0} (limits : Bounds) (decided : T → Question 
   pub writes : Appends written written' (written_of allows aad finding)
 
 -- the item is a message, and the judge was told a beginning of the questions about it
-pub record Half {T : Type 0} (limits : Bounds) (decided : T → Question → T) (allows : Question → Bool)
-    (aad : List ℕ) (bytes : List ℕ) (t : Tree)
+pub record Half {T : Type 0} (limits : Bounds) (decided : T → Question → T)
+    (allows : Question → Bool) (aad : List ℕ) (bytes : List ℕ) (t : Tree)
     (told told' : T) : Type 0 where
   pub message : MessageFields
   pub is : Finds limits bytes t (judged message)
@@ -55,9 +55,10 @@ pub record Half {T : Type 0} (limits : Bounds) (decided : T → Question → T) 
   pub asked_front : IsFront asked (asked_of allows aad (judged message))
   pub tells : told' ≡ folded_over decided told asked
 
--- the item is a message that passes, the judge was told all questions about it, and a beginning of its text was written
-pub record HalfWritten {T : Type 0} (limits : Bounds) (decided : T → Question → T) (allows : Question → Bool)
-    (aad : List ℕ) (bytes : List ℕ) (t : Tree)
+-- the item is a message that passes, the judge was told all questions about it, and a beginning of
+-- its text was written
+pub record HalfWritten {T : Type 0} (limits : Bounds) (decided : T → Question → T)
+    (allows : Question → Bool) (aad : List ℕ) (bytes : List ℕ) (t : Tree)
     (told told' : T) (written written' : Option (List ℕ)) : Type 0 where
   pub message : MessageFields
   pub is : Finds limits bytes t (judged message)
@@ -67,8 +68,8 @@ pub record HalfWritten {T : Type 0} (limits : Bounds) (decided : T → Question 
   pub front_is : IsFront front (written_of allows aad (judged message))
   pub writes : Appends written written' front
 
-abbrev pub ItemFails : {T : Type 0} → Bounds → (T → Question → T) → (Question → Bool) → List ℕ → List ℕ
-    → Tree → T → T → Option (List ℕ) → Option (List ℕ) → ItemFault → Type 0
+abbrev pub ItemFails : {T : Type 0} → Bounds → (T → Question → T) → (Question → Bool) → List ℕ
+    → List ℕ → Tree → T → T → Option (List ℕ) → Option (List ℕ) → ItemFault → Type 0
 ItemFails limits decided allows aad bytes t told told' written written' fault.Write =
     HalfWritten limits decided allows aad bytes t told told' written written'
 ItemFails limits decided allows aad bytes t told told' written written' fault.Memory =

@@ -15,7 +15,8 @@ pub record AskedFields : Type 0 where
   pub tag : List ℕ
 
 abbrev pub asked_view : Asked → AskedFields
-asked_view a = record { kind = a.kind; structure = a.structure.items; tag_len = a.tag_len; tag = a.tag }
+asked_view a =
+    record { kind = a.kind; structure = a.structure.items; tag_len = a.tag_len; tag = a.tag }
 
 -- the first eight bytes, with zeros in place of those that are missing
 abbrev pub front_of : List ℕ → List ℕ
@@ -23,7 +24,12 @@ front_of bytes = take 8 bytes ++ replicate (8 - length bytes) 0
 
 -- what is kept of a question: its kind, the covered bytes, and how the signature begins
 abbrev pub kept_of : Question → AskedFields
-kept_of q = record { kind = q.subject.kind; structure = q.covered; tag_len = length q.signature; tag = front_of q.signature }
+kept_of q = record {
+  kind = q.subject.kind;
+  structure = q.covered;
+  tag_len = length q.signature;
+  tag = front_of q.signature;
+}
 
 -- whether a signature is another than the one that is refused
 abbrev pub is_other : Option (List ℕ) → List ℕ → Bool
@@ -49,9 +55,11 @@ pieces_of r = r.pieces.items
 
 -- it holds a begun question, with these covered bytes, and has room for it
 abbrev pub holds_question : Recorder → Subject → List ℕ → Type 0
-holds_question r subject bytes = (r.kind ≡ subject.kind) × (r.structure.items ≡ bytes) × (vec_len r.asked < vec_capacity r.asked)
+holds_question r subject bytes =
+    (r.kind ≡ subject.kind) × (r.structure.items ≡ bytes) × (vec_len r.asked < vec_capacity r.asked)
 
 -- it holds what it held
 abbrev pub IsKept : Recorder → Recorder → Type 0
 IsKept old new = (pieces_of new ≡ pieces_of old)
-    × ((subject : Subject) (bytes : List ℕ) → holds_question old subject bytes → holds_question new subject bytes)
+    × ((subject : Subject) (bytes : List ℕ) → holds_question old subject bytes
+    → holds_question new subject bytes)

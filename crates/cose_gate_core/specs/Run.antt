@@ -1,4 +1,5 @@
--- What a gate does with a whole input: the items in order, with what is found, asked, written and noted of each.
+-- What a gate does with a whole input: the items in order, with what is found, asked, written and
+-- noted of each.
 use Rattle.std.specs.Prelude.{◌≡◌, ℕ, ◌+◌, List, [], ◌∷◌, map, flat_map, Option, Some, None, Bool, true, false, not, if◌then◌else◌, is_none, count_by}
 use Rattle.ciborium_value.specs.Tree.{Tree}
 use Rattle.ciborium.specs.Items.{Item, SequenceWithin, ItemsWithin}
@@ -27,13 +28,15 @@ abbrev pub has_passed : Verdict → Bool
 has_passed Passed = true
 has_passed (Refused r) = false
 
--- which verdict stands for what is found; of a shape's fault it is open which of the value's faults is named
+-- which verdict stands for what is found; of a shape's fault it is open which of the value's faults
+-- is named
 abbrev pub IsVerdict : Bounds → (Question → Bool) → List ℕ → Tree → Finding → Verdict → Type 0
 IsVerdict limits allows aad t (judged m) v = v ≡ judged_by (first_no allows (questions m aad))
 IsVerdict limits allows aad t (barred not_tagged) v = v ≡ Refused refusal.NotTagged
 IsVerdict limits allows aad t (barred encrypted) v = v ≡ Refused refusal.Encrypted
 IsVerdict limits allows aad t (barred (other_tag n)) v = v ≡ Refused (refusal.OtherTag n)
-IsVerdict limits allows aad t (barred shape) v = (e : CoseError) × (v ≡ Refused (refusal.Shape e)) × IsMisshapen limits t (fault_of e)
+IsVerdict limits allows aad t (barred shape) v =
+    (e : CoseError) × (v ≡ Refused (refusal.Shape e)) × IsMisshapen limits t (fault_of e)
 IsVerdict limits allows aad t (barred detached) v = v ≡ Refused refusal.Detached
 IsVerdict limits allows aad t (barred no_signature) v = v ≡ Refused refusal.NoSignature
 IsVerdict limits allows aad t (excluded m r) v = v ≡ Refused r
@@ -42,8 +45,11 @@ IsVerdict limits allows aad t (excluded m r) v = v ≡ Refused r
 abbrev pub Steps : Bounds → (Question → Bool) → List ℕ → ℕ → List Step → Type 0
 Steps limits allows aad n [] = Unit {0}
 Steps limits allows aad n (s ∷ ss) =
-    Finds limits s.item.bytes s.item.value s.finding × (s.entry.number ≡ n) × (s.entry.offset ≡ s.item.offset)
-    × IsVerdict limits allows aad s.item.value s.finding s.entry.verdict × Steps limits allows aad (n + 1) ss
+    Finds limits s.item.bytes s.item.value s.finding
+    × (s.entry.number ≡ n)
+    × (s.entry.offset ≡ s.item.offset)
+    × IsVerdict limits allows aad s.item.value s.finding s.entry.verdict
+    × Steps limits allows aad (n + 1) ss
 
 -- the questions that are asked of one finding, up to the first no
 abbrev pub asked_of : (Question → Bool) → List ℕ → Finding → List Question
@@ -83,11 +89,13 @@ abbrev pub refused_count : (Question → Bool) → List ℕ → List Step → �
 refused_count allows aad ss = count_by (λ s. not (passes allows aad s.finding)) ss
 
 -- the input b, which begins at the offset `at`, is gone through by these steps, up to `more`
-pub record Course (limits : Bounds) (allows : Question → Bool) (aad : List ℕ) (at : ℕ) (b : List ℕ) (ss : List Step) (more : List ℕ) : Type 0 where
+pub record Course (limits : Bounds) (allows : Question → Bool) (aad : List ℕ) (at : ℕ) (b : List ℕ)
+    (ss : List Step) (more : List ℕ) : Type 0 where
   pub sequence : SequenceWithin limits.nesting at b (map (λ s. s.item) ss) more
   pub steps : Steps limits allows aad 1 ss
 
 -- the whole run over b: the steps over all its items
-pub record Run (limits : Bounds) (allows : Question → Bool) (aad : List ℕ) (at : ℕ) (b : List ℕ) (ss : List Step) (rest : List ℕ) : Type 0 where
+pub record Run (limits : Bounds) (allows : Question → Bool) (aad : List ℕ) (at : ℕ) (b : List ℕ)
+    (ss : List Step) (rest : List ℕ) : Type 0 where
   pub items : ItemsWithin limits.nesting at b (map (λ s. s.item) ss) rest
   pub steps : Steps limits allows aad 1 ss

@@ -10,11 +10,18 @@ use Rattle.cose_gate_core.specs.declared.terms.Terms.{Terms}
 
 -- the limits that a caller chose, with the further rule of a gate
 abbrev pub limits_by : Limits → Bool → Bounds
-limits_by chosen strict = record { nesting = nesting_of chosen; layers = layers_of chosen; excludes = λ bytes m. excluded_by strict bytes m }
+limits_by chosen strict = record {
+  nesting = nesting_of chosen;
+  layers = layers_of chosen;
+  excludes = λ bytes m. excluded_by strict bytes m;
+}
 
 abbrev pub limits_of : Terms → Bounds
 limits_of terms = limits_by terms.limits terms.strict
 
--- an item was read of these bytes, and where it is asked it is told whether they are the one encoding of its value
+-- an item was read of these bytes, and where it is asked it is told whether they are the one
+-- encoding of its value
 abbrev pub IsTaken : Terms → List ℕ → Tree → Bool → Type 0
-IsTaken terms b t exact = Reads b (nesting_of terms.limits) t × (terms.strict ≡ true → MatchBool exact (b ≡ enc t) (b ≡ enc t → ⊥))
+IsTaken terms b t exact =
+    Reads b (nesting_of terms.limits) t
+    × (terms.strict ≡ true → MatchBool exact (b ≡ enc t) (b ≡ enc t → ⊥))

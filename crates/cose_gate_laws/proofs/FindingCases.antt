@@ -62,9 +62,15 @@ module _ (l : Bounds) where
   unsigned_cases (mac m) = inr (λ u. u)
 
   tag_cases : (n : ℕ) → IsMessageTag n ⊎ (IsMessageTag n → ⊥)
-  tag_cases n = go (cases_eq n 18) (cases_eq n 17) (cases_eq n 98) (cases_eq n 97)
+  tag_cases n = go (of_kind_or kind.Sign1) (of_kind_or kind.Mac0) (of_kind_or kind.Sign) (of_kind_or kind.Mac)
     where
-      go : (n ≡ 18) ⊎ (n ≡ 18 → ⊥) → (n ≡ 17) ⊎ (n ≡ 17 → ⊥) → (n ≡ 98) ⊎ (n ≡ 98 → ⊥) → (n ≡ 97) ⊎ (n ≡ 97 → ⊥) → IsMessageTag n ⊎ (IsMessageTag n → ⊥)
+      HasKind : MessageKind → Type 0
+      HasKind k = n ≡ number_of k
+
+      of_kind_or : (k : MessageKind) → HasKind k ⊎ (HasKind k → ⊥)
+      of_kind_or k = cases_eq n (number_of k)
+
+      go : HasKind kind.Sign1 ⊎ (HasKind kind.Sign1 → ⊥) → HasKind kind.Mac0 ⊎ (HasKind kind.Mac0 → ⊥) → HasKind kind.Sign ⊎ (HasKind kind.Sign → ⊥) → HasKind kind.Mac ⊎ (HasKind kind.Mac → ⊥) → IsMessageTag n ⊎ (IsMessageTag n → ⊥)
       go (inl e) b c d = inl (kind.Sign1, e)
       go (inr a) (inl e) c d = inl (kind.Mac0, e)
       go (inr a) (inr b) (inl e) d = inl (kind.Sign, e)

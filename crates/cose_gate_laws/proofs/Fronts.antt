@@ -12,7 +12,7 @@ use Rattle.cose_gate_core.specs.Asked.{IsFront}
 use Rattle.cose_gate_core.specs.Findings.{Bounds, Finding, judged, barred, excluded, not_tagged, encrypted, other_tag, shape, detached, no_signature, Finds}
 use Rattle.cose_gate_core.specs.Run.{Step, Steps, Run, Course, IsVerdict, asked_of, written_of, text_of, passes, questions_of, output_of, entries_of}
 use Rattle.cose_gate_core.proofs.Unique.{finding_once, run_once}
-use Rattle.cose_gate_laws.specs.Anew.{bytes_of, moved, SameVerdict, SameEntries, SameVerdicts, EntriesBegin, IgnoresSpelling}
+use Rattle.cose_gate_laws.specs.Anew.{bytes_of, entry_behind, SameVerdict, SameEntries, SameVerdicts, EntriesBegin, IgnoresSpelling}
 use Rattle.cose_gate_laws.proofs.Placed.{placed, placed_append, placed_asks, placed_writes, bytes_append, Stand, stand_entries, stand_same, IsStep, AllSteps, Told, all_append, all_split, run_told, run_again}
 
 -- one verdict stands for a finding, but for the fault of a shape
@@ -199,7 +199,7 @@ module _ (limits : Bounds) (allows : Question → Bool) (aad : List ℕ) where
         subst (λ z. Run limits allows aad at z (placed 1 at (ss ++ rs)) rest) whole_is
         (run_again limits allows aad at (ss ++ rs) rest (all_append limits allows aad ss rs here.all there.all) q.items.ends)
 
-    pub joined_entries : entries_of (placed 1 at (ss ++ rs)) ≡ entries_of ss ++ map (moved (length ss) (length a)) (entries_of rs)
+    pub joined_entries : entries_of (placed 1 at (ss ++ rs)) ≡ entries_of ss ++ map (entry_behind (length ss) (length a)) (entries_of rs)
     joined_entries =
         ap entries_of (placed_append 1 at ss rs) ∙ map-append (λ s. s.entry) (placed 1 at ss) (placed (1 + length ss) (at + length (bytes_of ss)) rs)
         ∙ ap (λ z. z ++ entries_of (placed (1 + length ss) (at + length (bytes_of ss)) rs)) (stand_same 1 at ss here.stand)
@@ -217,7 +217,7 @@ module _ (limits : Bounds) (allows : Question → Bool) (aad : List ℕ) where
       pub joined_rest : more ≡ rest
       joined_rest = (run_once limits allows aad at (a ++ b) ts (placed 1 at (ss ++ rs)) more rest r joined_run).2
 
-      pub joined_alike : SameEntries (entries_of ts) (entries_of ss ++ map (moved (length ss) (length a)) (entries_of rs))
+      pub joined_alike : SameEntries (entries_of ts) (entries_of ss ++ map (entry_behind (length ss) (length a)) (entries_of rs))
       joined_alike = subst (SameEntries (entries_of ts)) joined_entries (runs_alike at (a ++ b) ts (placed 1 at (ss ++ rs)) more rest r joined_run)
 
   -- an item taken out

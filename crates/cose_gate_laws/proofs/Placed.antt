@@ -7,7 +7,7 @@ use Rattle.cose_gate_core.specs.declared.report.Verdict.{Verdict}
 use Rattle.cose_gate_core.specs.Questions.{Question}
 use Rattle.cose_gate_core.specs.Findings.{Bounds, Finds}
 use Rattle.cose_gate_core.specs.Run.{Step, Steps, Run, Course, IsVerdict, asked_of, written_of, questions_of, output_of, entries_of}
-use Rattle.cose_gate_laws.specs.Anew.{bytes_of, moved}
+use Rattle.cose_gate_laws.specs.Anew.{bytes_of, entry_behind}
 
 -- the step as the item with this number, at this offset
 abbrev pub put : ℕ → ℕ → Step → Step
@@ -58,14 +58,14 @@ abbrev pub Stand : ℕ → ℕ → List Step → Type 0
 Stand n at [] = Unit {0}
 Stand n at (s ∷ ss) = (s.entry.number ≡ n) × (s.entry.offset ≡ at) × Stand (n + 1) (at + length s.item.bytes) ss
 
-pub stand_entries : (n at k o items bytes : ℕ) (ss : List Step) → Stand n at ss → k ≡ n + items → o ≡ at + bytes → entries_of (placed k o ss) ≡ map (moved items bytes) (entries_of ss)
+pub stand_entries : (n at k o items bytes : ℕ) (ss : List Step) → Stand n at ss → k ≡ n + items → o ≡ at + bytes → entries_of (placed k o ss) ≡ map (entry_behind items bytes) (entries_of ss)
 stand_entries n at k o items bytes [] h a b = refl
 stand_entries n at k o items bytes (s ∷ ss) h a b =
-    let head = same_entry (moved items bytes s.entry) k o s.entry.verdict (a ∙ ap (λ z. z + items) (sym h.0)) (b ∙ ap (λ z. z + bytes) (sym h.1)) refl in
+    let head = same_entry (entry_behind items bytes s.entry) k o s.entry.verdict (a ∙ ap (λ z. z + items) (sym h.0)) (b ∙ ap (λ z. z + bytes) (sym h.1)) refl in
     let c : k + 1 ≡ n + 1 + items = omega arith in
     let d : o + length s.item.bytes ≡ at + length s.item.bytes + bytes = omega arith in
     ap (λ z. z ∷ entries_of (placed (k + 1) (o + length s.item.bytes) ss)) head
-    ∙ ap (λ z. moved items bytes s.entry ∷ z) (stand_entries (n + 1) (at + length s.item.bytes) (k + 1) (o + length s.item.bytes) items bytes ss h.2 c d)
+    ∙ ap (λ z. entry_behind items bytes s.entry ∷ z) (stand_entries (n + 1) (at + length s.item.bytes) (k + 1) (o + length s.item.bytes) items bytes ss h.2 c d)
 
 pub stand_same : (n at : ℕ) (ss : List Step) → Stand n at ss → entries_of (placed n at ss) ≡ entries_of ss
 stand_same n at [] h = refl

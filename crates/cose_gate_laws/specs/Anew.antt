@@ -14,12 +14,15 @@ abbrev pub bytes_of : List Step → List ℕ
 bytes_of ss = flat_map (λ s. s.item.bytes) ss
 
 -- an entry further on by so many items and bytes
-abbrev pub moved : ℕ → ℕ → Entry → Entry
-moved items bytes e = record { number = e.number + items; offset = e.offset + bytes; verdict = e.verdict }
+abbrev pub entry_behind : ℕ → ℕ → Entry → Entry
+entry_behind items bytes e =
+    record { number = e.number + items; offset = e.offset + bytes; verdict = e.verdict }
 
 -- the same verdict; of a shape's fault it is open which of the value's faults is named
 abbrev pub SameVerdict : Verdict → Verdict → Type 0
-SameVerdict v w = (v ≡ w) ⊎ ((e f : CoseError) × (v ≡ Refused (refusal.Shape e)) × (w ≡ Refused (refusal.Shape f)))
+SameVerdict v w =
+    (v ≡ w)
+    ⊎ ((e f : CoseError) × (v ≡ Refused (refusal.Shape e)) × (w ≡ Refused (refusal.Shape f)))
 
 abbrev pub SameEntry : Entry → Entry → Type 0
 SameEntry e f = (e.number ≡ f.number) × (e.offset ≡ f.offset) × SameVerdict e.verdict f.verdict
@@ -45,15 +48,19 @@ pub record EntriesBegin (es fs : List Entry) : Type 0 where
   pub whole : fs ≡ front ++ more
   pub same : SameEntries es front
 
--- the entries of these steps: each has its item's number and offset, and a verdict that stands for what is found of it; of a shape's
--- fault it is open which of the value's faults is named
+-- the entries of these steps: each has its item's number and offset, and a verdict that stands for
+-- what is found of it; of a shape's fault it is open which of the value's faults is named
 abbrev pub AreEntries : Bounds → (Question → Bool) → List ℕ → List Step → List Entry → Type 0
 AreEntries limits allows aad [] [] = Unit {0}
 AreEntries limits allows aad [] (e ∷ es) = ⊥
 AreEntries limits allows aad (s ∷ ss) [] = ⊥
 AreEntries limits allows aad (s ∷ ss) (e ∷ es) =
-    (e.number ≡ s.entry.number) × (e.offset ≡ s.entry.offset) × IsVerdict limits allows aad s.item.value s.finding e.verdict × AreEntries limits allows aad ss es
+    (e.number ≡ s.entry.number)
+    × (e.offset ≡ s.entry.offset)
+    × IsVerdict limits allows aad s.item.value s.finding e.verdict
+    × AreEntries limits allows aad ss es
 
 -- what else bars a message doesn't hang on how its item is spelled
 abbrev pub IgnoresSpelling : Bounds → Type 0
-IgnoresSpelling limits = (b c : List ℕ) (m : MessageFields) → limits.excludes b m ≡ limits.excludes c m
+IgnoresSpelling limits =
+    (b c : List ℕ) (m : MessageFields) → limits.excludes b m ≡ limits.excludes c m

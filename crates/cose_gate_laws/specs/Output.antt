@@ -15,9 +15,11 @@ passed_of allows aad (excluded m r) = []
 abbrev pub passed_messages : (Question → Bool) → List ℕ → List Step → List MessageFields
 passed_messages allows aad ss = flat_map (λ s. passed_of allows aad s.finding) ss
 
--- the trees are what these messages are written as, in order, and each has the fields of its message again
+-- the trees are what these messages are written as, in order, and each has the fields of its
+-- message again
 abbrev pub AreMessages : Bounds → List Tree → List MessageFields → Type 0
 AreMessages limits [] [] = Unit {0}
 AreMessages limits [] (m ∷ ms) = ⊥
 AreMessages limits (t ∷ ts) [] = ⊥
-AreMessages limits (t ∷ ts) (m ∷ ms) = (tagged_tree m ≡ Some t) × IsJudged limits t m × AreMessages limits ts ms
+AreMessages limits (t ∷ ts) (m ∷ ms) =
+    (tagged_tree m ≡ Some t) × IsJudged limits t m × AreMessages limits ts ms

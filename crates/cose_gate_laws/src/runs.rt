@@ -4,7 +4,7 @@ ghost use Rattle.cose_gate_core.specs.Questions.{Question};
 ghost use Rattle.cose_gate_core.specs.Asked.{IsFront};
 ghost use Rattle.cose_gate_core.specs.Findings.{Bounds, usual};
 ghost use Rattle.cose_gate_core.specs.Run.{Step, Course, Run, asked_of, passes, questions_of, output_of, entries_of};
-ghost use Rattle.cose_gate_laws.specs.Anew.{bytes_of, moved, SameEntries, SameVerdicts, EntriesBegin, IgnoresSpelling};
+ghost use Rattle.cose_gate_laws.specs.Anew.{bytes_of, entry_behind, SameEntries, SameVerdicts, EntriesBegin, IgnoresSpelling};
 
 /// What was gone through at a fault is a beginning of the run: its items, its questions, its output and its entries. Of an entry's
 /// `Shape` it is open which of the value's faults it names.
@@ -34,7 +34,8 @@ pub fn joined_runs()
         (a b : List ℕ) (ss rs : List Step) (rest : List ℕ) → Run limits allows aad at a ss []
         → Run limits allows aad at b rs rest → (ts : List Step)
         × Run limits allows aad at (a ++ b) ts rest
-        × (entries_of ts ≡ entries_of ss ++ map (moved (length ss) (length a)) (entries_of rs)) }
+        × (entries_of ts
+        ≡ entries_of ss ++ map (entry_behind (length ss) (length a)) (entries_of rs)) }
     ensures questions { (limits : Bounds) (allows : Question → Bool) (aad : List ℕ) (at : ℕ)
         (a b : List ℕ) (ss rs ts : List Step) (rest more : List ℕ)
         → Run limits allows aad at a ss [] → Run limits allows aad at b rs rest
@@ -49,7 +50,7 @@ pub fn joined_runs()
         (a b : List ℕ) (ss rs ts : List Step) (rest more : List ℕ)
         → Run limits allows aad at a ss [] → Run limits allows aad at b rs rest
         → Run limits allows aad at (a ++ b) ts more
-        → SameEntries (entries_of ts) (entries_of ss ++ map (moved (length ss) (length a))
+        → SameEntries (entries_of ts) (entries_of ss ++ map (entry_behind (length ss) (length a))
         (entries_of rs)) }
     ensures rest { (limits : Bounds) (allows : Question → Bool) (aad : List ℕ) (at : ℕ)
         (a b : List ℕ) (ss rs ts : List Step) (rest more : List ℕ)

@@ -126,9 +126,18 @@ module _ (limits : Bounds) where
     in_place = right;
   }
 
-  -- a message of this kind is begun
+  -- a message of this kind is begun, with its array
   pub begun : (f : Form) (o : Option ℕ) (done : Trees) (x rest : List ℕ) → Within limits f o done x → IsBegun (x ++ rest)
-  begun f o done x rest w = (tag_number f, w.array_title ++ (w.inner ++ rest), within_tag f o done x rest w, single_tag f)
+  begun f o done x rest w = record {
+    number = tag_number f;
+    inside = w.array_title ++ (w.inner ++ rest);
+    count = o;
+    items = w.inner ++ rest;
+    is_single = single_tag f;
+    tag_first = within_tag f o done x rest w;
+    array_next = within_array f o done x rest w;
+    is_four = w.is_four;
+  }
 
   -- damage behind the elements that are read
   pub within_damage : 2 ≤ limits.nesting → (stop : ℕ) (f : Form) (o : Option ℕ) (done : Trees) (x rest : List ℕ) (e : Fault) → Within limits f o done x → Due (Array o) (tree_count done) rest

@@ -186,9 +186,16 @@ IsShapeFault limits b t e =
     IsMisshapen limits t e
     ⊎ ((elements : Trees) × IsOtherCount b t elements × IsHeaderFault limits elements e)
 
--- the bytes begin with the tag of a message that is checked
-abbrev pub IsBegun : List ℕ → Type 0
-IsBegun b = (n : ℕ) × (rest : List ℕ) × Begins b (Tag n) rest × IsSingleTag n
+-- the bytes begin with the tag of a message that is checked, and an array of four
+pub record IsBegun (b : List ℕ) : Type 0 where
+  pub number : ℕ
+  pub inside : List ℕ
+  pub count : Option ℕ
+  pub items : List ℕ
+  pub is_single : IsSingleTag number
+  pub tag_first : Begins b (Tag number) inside
+  pub array_next : Begins inside (Array count) items
+  pub is_four : IsFour count
 
 -- why the bytes are no message that is checked within these limits. A fault of shape is shown by
 -- the bytes up to the first part that is wrong, whether or not an item is readable, and where one

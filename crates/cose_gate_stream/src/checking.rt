@@ -61,8 +61,8 @@ fn streamed<R: Read, J: Judge>(
 /// payload's place, behind two headers. `Shape` with the fault of the first part that is wrong,
 /// also where what follows is damaged. Where an item is readable, it has this fault as a message
 /// of its tag; of an open array that ends at another length, the fault may be one of a header.
-/// `Decode` where no item is readable, or the reader failed. `Memory`. Neither this nor `Shape`
-/// comes before the tag of such a message.
+/// `Decode` where no item is readable, or the reader failed. `Memory`: behind the tag of such a
+/// message and the title of an array of four. `Shape` comes behind such a tag too.
 pub fn stream_check<R: Read, J: Judge>(
     alloc: Global,
     decoder: &mut Decoder<R>,

@@ -12,8 +12,6 @@ mod firmware;
 #[cfg(test)]
 mod long;
 #[cfg(test)]
-mod made;
-#[cfg(test)]
 mod memory;
 #[cfg(test)]
 mod refused;

@@ -1,6 +1,5 @@
 //! A payload takes no memory: each allocation is refused in turn (`scripts/fail-alloc.sh`).
 use crate::checks::{checked, same};
-use crate::made::Made;
 use cose_gate_hmac::HmacJudge;
 use cose_gate_stream::StreamFault;
 use cose_gate_stream::gate_core::{About, Judge};
@@ -9,6 +8,7 @@ use coset_labels::CborSerializable;
 use std::alloc::{AllocError, Global};
 use std::io;
 use std::process::Abort;
+use test_tools::LongMessage;
 
 /// A judge that counts the bytes that another is fed, and its decisions.
 #[derive(Drop)]
@@ -73,7 +73,7 @@ fn long(
         fed: 0,
         decisions: 0,
     };
-    let made = Made {
+    let made = LongMessage {
         front,
         payload,
         back: &[0x41, 0xaa],

@@ -28,3 +28,21 @@ fn refused_memory_leaves_a_recorders_question(rt: HostRuntime) {
         assert_eq!(rt; (asked.kind, asked.tag_len), (MessageKind::Mac0, 1));
     }
 }
+
+// A refused `begin` can't be had over a held question: that has its room, so the next `begin` takes no memory. It forgets what was fed.
+#[test]
+fn refused_memory_leaves_a_held_question_its_room(rt: HostRuntime) {
+    let alloc = rt.alloc();
+    let protected = ProtectedHeader::new(alloc);
+    let unprotected = Header::new(alloc);
+    let about = About::alone(MessageKind::Mac0, &protected, &unprotected);
+    let mut recorder = Recorder::new(alloc, None);
+    if recorder.begin(&about).is_err() {
+        return;
+    }
+    let _ = recorder.feed(b"gone");
+    assert!(rt; recorder.begin(&about).is_ok());
+    assert!(rt; recorder.decide(&[7]));
+    let asked = recorder.asked().last().expect(&rt, "the question");
+    assert!(rt; asked.structure.is_empty());
+}

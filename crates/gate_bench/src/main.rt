@@ -3,7 +3,6 @@
 #![tactic(auto)]
 
 mod message;
-mod source;
 
 use crate::message::{checked, room, tag};
 use coset_keys::CoseKeySet;

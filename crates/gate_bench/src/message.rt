@@ -1,7 +1,6 @@
 //! One COSE_Mac0 (RFC 9052, section 6.2), and the tag over what it covers.
 ghost use Rattle.std.specs.Prelude.{◌<◌, IfOk, length};
 
-use crate::source::Source;
 use ciborium_ll::{Decoder, End, Read};
 use cose_gate_hmac::HmacJudge;
 use cose_gate_stream::{StreamFault, stream_check};
@@ -9,6 +8,7 @@ use cose_hmac::HmacSha256;
 use coset_keys::CoseKeySet;
 use coset_structures::{MacContext, bytes_title};
 use std::alloc::{AllocError, Global};
+use test_tools::LongMessage;
 
 /// The bytes that pass at a time.
 const ROOM: usize = 65536;
@@ -41,7 +41,7 @@ pub fn tag(buffer: &mut [u8], size: usize) -> Result<[u8; 32], End>
     mac.update(MacContext::CoseMac0.prefix());
     mac.update(COVERED);
     mac.update(bytes_title(size).as_slice());
-    let mut source = Source {
+    let mut source = LongMessage {
         front: &[],
         payload: size,
         back: &[],
@@ -52,7 +52,7 @@ pub fn tag(buffer: &mut [u8], size: usize) -> Result<[u8; 32], End>
 
 /// Feeds the bytes of a payload.
 fn feed(
-    source: &mut Source,
+    source: &mut LongMessage,
     buffer: &mut [u8],
     size: usize,
     mac: &mut HmacSha256,
@@ -84,7 +84,7 @@ pub fn checked(
     front.extend_from_slice(bytes_title(size).as_slice())?;
     let mut back = TAG_TITLE.to_vec(alloc)?;
     back.extend_from_slice(tag)?;
-    let mut decoder = Decoder::from(Source {
+    let mut decoder = Decoder::from(LongMessage {
         front: &front,
         payload: size,
         back: &back,

@@ -1,6 +1,8 @@
 use Rattle.std.proofs.Common.{◌≡◌, ◌≢◌, true, false, sym, ap, ◌∙◌, rules}
 use Rattle.ciborium_value.specs.Kinds.{is_tag}
 use Rattle.ciborium_value.specs.View.{view}
+use Rattle.cose_gate_core.specs.Questions.{number_of}
+use Rattle.cose_gate_core.specs.declared.about.MessageKind.TheVariants as kind
 use Rattle.cose_gate_core.specs.declared.report.Refusal.TheVariants.{NotTagged, Encrypted, OtherTag}
 use Rattle.cose_gate_core.proofs.Items.{taken_barred}
 use Rattle.cose_gate_core.proofs.TagNumbers.{no_message_tag}
@@ -17,8 +19,8 @@ returns-in_default-number-clause-ok g c = λ b h.
 pub returns-clause-ok : goal.returns-clause-ok
 returns-clause-ok g c = λ b h.
     let n = c.in-Ok.number in
-    let a : n ≢ 18 = search rules in
-    let d : n ≢ 17 = search rules in
-    let e : n ≢ 98 = search rules in
-    let f : n ≢ 97 = search rules in
+    let a : n ≢ number_of kind.Sign1 = search rules in
+    let d : n ≢ number_of kind.Mac0 = search rules in
+    let e : n ≢ number_of kind.Sign = search rules in
+    let f : n ≢ number_of kind.Mac = search rules in
     taken_barred _ _ _ _ b _ _ _ (OtherTag n) (view c.in-Ok.content.value, c.in-Ok.ensures, c.if-is_encrypted.ensures, no_message_tag n a d e f)

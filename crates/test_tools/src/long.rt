@@ -1,18 +1,15 @@
 //! A message that isn't held in memory.
 use ciborium_ll::{End, Read};
 
-/// The byte of which the payload is made.
-const BYTE: u8 = 0x5a;
-
-/// Gives the bytes in front, a payload of so many bytes, and the bytes behind it.
+/// A reader that gives the bytes in front, a payload of so many zeros, and the bytes behind it. It takes no memory.
 #[derive(Drop)]
-pub struct Source<'a> {
+pub struct LongMessage<'a> {
     pub front: &'a [u8],
     pub payload: usize,
     pub back: &'a [u8],
 }
 
-/// Takes as many bytes as fit, and gives the room that is left.
+/// Moves as many bytes as fit, and gives the room that is left.
 fn give<'a>(bytes: &mut &[u8], data: &'a mut [u8]) -> &'a mut [u8] {
     let all: &[u8] = *bytes;
     let count = data.len().min(all.len());
@@ -23,7 +20,7 @@ fn give<'a>(bytes: &mut &[u8], data: &'a mut [u8]) -> &'a mut [u8] {
     left
 }
 
-impl Read for Source<'_> {
+impl Read for LongMessage<'_> {
     ghost use Rattle.std.specs.Prelude.{◌≡◌, None, true};
 
     type Error = End;
@@ -38,7 +35,7 @@ impl Read for Source<'_> {
         let room = give(&mut self.front, data);
         let count = room.len().min(self.payload);
         let (payload, room) = room.split_at_mut(count);
-        payload.fill(BYTE);
+        payload.fill(0);
         self.payload -= count;
         let room = give(&mut self.back, room);
         if room.is_empty() { Ok(()) } else { Err(End) }
