@@ -1,7 +1,11 @@
 -- Where a fault leaves the decoder, from step to step.
-use Rattle.std.proofs.Common.{◌≡◌, ◌+◌, ℕ, List, ◌++◌, length, Option, None, Some, sym, ap, ◌∙◌, arith, append_assoc, length-append}
+use Rattle.std.proofs.Common.{ℕ, List, ◌++◌, Option, None, Some, sym, ap, ◌∙◌, arith, append_assoc, length-append}
 use Rattle.std.specs.Io.KnownBytes.{Consumes}
-use Rattle.ciborium_ll.specs.Reading.{Moves, Starts, Stops}
+use Rattle.ciborium_ll.specs.Reading.{Moves, Starts}
+use Rattle.ciborium.specs.declared.de.Error.{Error}
+use Rattle.ciborium.specs.declared.de.Error.TheVariants as code
+use Rattle.ciborium.specs.Reading.{SomeTaken}
+use Rattle.ciborium.proofs.Taking.{takes_then}
 
 starts_then : (l m : Option (List ℕ)) (x y : List ℕ) → Consumes l m x → Starts m y → Starts l (x ++ y)
 starts_then None m x y t s = tt
@@ -13,15 +17,38 @@ starts_with None m x t = tt
 starts_with (Some b) None x t = absurd t
 starts_with (Some b) (Some c) x t = (c, t)
 
+-- something was taken
+pub was_taken : {l₀ l₁ : Option (List ℕ)} {o₀ o₁ : ℕ} {P : List ℕ → Type 0} → Moves l₀ l₁ o₀ o₁ P → Moves l₀ l₁ o₀ o₁ (λ _. Unit {0})
+was_taken t = record { bytes = t.bytes; has = tt; taken = t.taken; grown = t.grown }
+
+pub both_taken : {l₀ l₁ l₂ : Option (List ℕ)} {o₀ o₁ o₂ : ℕ} {P Q : List ℕ → Type 0} → Moves l₀ l₁ o₀ o₁ P → Moves l₁ l₂ o₁ o₂ Q → Moves l₀ l₂ o₀ o₂ (λ _. Unit {0})
+both_taken {l₀} {l₁} {l₂} {o₀} {o₁} {o₂} {P} {Q} t u = takes_then l₀ l₁ l₂ o₀ o₁ o₂ P Q (λ _. Unit {0}) t u (λ x y p q. tt)
+
 -- a fault behind what was taken
-pub halts_then : {l₀ l₁ : Option (List ℕ)} {o₀ o₁ o₂ : ℕ} {P Q : List ℕ → Type 0} → Moves l₀ l₁ o₀ o₁ P → Stops l₁ o₁ o₂ Q → Stops l₀ o₀ o₂ (λ _. Unit {0})
-halts_then {l₀} {l₁} t s = record {
-  bytes = t.bytes ++ s.bytes;
-  has = tt;
-  there = starts_then l₀ l₁ t.bytes s.bytes t.taken s.there;
-  grown = omega (arith, t.grown, s.grown, length-append t.bytes s.bytes);
-}
+pub some_then : {E : Type 0} {l₀ l₁ : Option (List ℕ)} {o₀ o₁ : ℕ} {P : List ℕ → Type 0} (l₂ : Option (List ℕ)) (o₂ : ℕ) (e : Error E) → Moves l₀ l₁ o₀ o₁ P → SomeTaken l₁ l₂ o₁ o₂ e → SomeTaken l₀ l₂ o₀ o₂ e
+some_then {E} {l₀} {l₁} {o₀} {o₁} {P} l₂ o₂ e t s = go e s
+  where
+    go : (e : Error E) → SomeTaken l₁ l₂ o₁ o₂ e → SomeTaken l₀ l₂ o₀ o₂ e
+    go (code.Io e) s = record {
+      bytes = t.bytes ++ s.bytes;
+      has = tt;
+      there = starts_then l₀ l₁ t.bytes s.bytes t.taken s.there;
+      grown = omega (arith, t.grown, s.grown, length-append t.bytes s.bytes);
+    }
+    go (code.Syntax p) s = both_taken t s
+    go (code.Semantic o k) s = both_taken t s
+    go code.RecursionLimitExceeded s = both_taken t s
+    go code.Memory s = both_taken t s
+    go code.TooLong s = both_taken t s
 
 -- a fault where no more was asked for
-pub halts_taken : {l₀ l₁ : Option (List ℕ)} {o₀ o₁ : ℕ} {P : List ℕ → Type 0} → Moves l₀ l₁ o₀ o₁ P → Stops l₀ o₀ o₁ (λ _. Unit {0})
-halts_taken {l₀} {l₁} t = record { bytes = t.bytes; has = tt; there = starts_with l₀ l₁ t.bytes t.taken; grown = t.grown }
+pub some_taken : {E : Type 0} {l₀ l₁ : Option (List ℕ)} {o₀ o₁ : ℕ} {P : List ℕ → Type 0} (e : Error E) → Moves l₀ l₁ o₀ o₁ P → SomeTaken l₀ l₁ o₀ o₁ e
+some_taken {E} {l₀} {l₁} {o₀} {o₁} {P} e t = go e
+  where
+    go : (e : Error E) → SomeTaken l₀ l₁ o₀ o₁ e
+    go (code.Io e) = record { bytes = t.bytes; has = tt; there = starts_with l₀ l₁ t.bytes t.taken; grown = t.grown }
+    go (code.Syntax p) = was_taken t
+    go (code.Semantic o k) = was_taken t
+    go code.RecursionLimitExceeded = was_taken t
+    go code.Memory = was_taken t
+    go code.TooLong = was_taken t

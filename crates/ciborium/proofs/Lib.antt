@@ -3,6 +3,7 @@ pub mod Words
 pub mod Once
 pub mod Taking
 pub mod Halting
+pub mod Unread
 pub mod StringLemmas
 pub mod ReadLemmas
 pub mod ReaderLemmas

@@ -5,7 +5,7 @@ use Rattle.ciborium_ll.specs.declared.hdr.Header.{Header}
 use Rattle.ciborium_ll.specs.declared.hdr.Header.TheVariants.{Positive, Negative, Float, Simple, Tag, Break, Bytes, Text, Array, Map}
 use Rattle.ciborium_ll.specs.declared.hdr.Error.{Error as HeadError}
 use Rattle.ciborium_ll.specs.declared.hdr.Error.TheVariants as below
-use Rattle.ciborium_ll.specs.Reading.{Stops}
+use Rattle.ciborium_ll.specs.Reading.{Moves, Stops}
 use Rattle.ciborium_ll.specs.Seen.{Seen}
 use Rattle.ciborium_ll.specs.Title.{Title}
 use Rattle.ciborium_value.specs.declared.kind.Kind.TheVariants as kind
@@ -45,10 +45,19 @@ pub record Steady {T E : Type 0} (ends : E → Bool) (answer : Result T (Error E
   pub handle : new.handle ≡ old.handle
   pub waiting : new.waiting ≡ None
 
--- where a fault leaves a decoder: some of the bytes that were to come were taken, or none, and the offset has grown by their count;
--- what is left then is open
-abbrev pub TakesSome : Seen → Seen → Type 0
-TakesSome old new = Stops old.left old.offset new.offset (λ _. Unit {0})
+-- some of the bytes that were to come were taken, or none, and the place has grown by their count; the rest of them is left, but
+-- behind a fault of the reader what is left is open
+abbrev pub SomeTaken : {E : Type 0} → Option (List ℕ) → Option (List ℕ) → ℕ → ℕ → Error E → Type 0
+SomeTaken left left' place place' (code.Io e) = Stops left place place' (λ _. Unit {0})
+SomeTaken left left' place place' (code.Syntax p) = Moves left left' place place' (λ _. Unit {0})
+SomeTaken left left' place place' (code.Semantic o k) = Moves left left' place place' (λ _. Unit {0})
+SomeTaken left left' place place' code.RecursionLimitExceeded = Moves left left' place place' (λ _. Unit {0})
+SomeTaken left left' place place' code.Memory = Moves left left' place place' (λ _. Unit {0})
+SomeTaken left left' place place' code.TooLong = Moves left left' place place' (λ _. Unit {0})
+
+-- where a fault leaves a decoder
+abbrev pub TakesSome : {E : Type 0} → Seen → Seen → Error E → Type 0
+TakesSome old new = SomeTaken old.left new.left old.offset new.offset
 
 -- any fault but want of memory
 abbrev pub IsNoMemory : {E : Type 0} → Error E → Type 0

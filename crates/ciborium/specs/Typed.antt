@@ -42,6 +42,16 @@ pub record IsRefused {E : Type 0} (refusal : Tree → Option Kind) (limit : ℕ)
 abbrev pub Gives : Option (List ℕ) → Option (List ℕ) → (List ℕ → Type 0) → Type 0
 Gives old new P = (b : List ℕ) × Consumes old new b × P b
 
+-- where a fault leaves a reader: some of its bytes were taken, or none, and the rest of them is left; behind a fault of its own that
+-- is open
+abbrev pub LeavesRest : {E : Type 0} → Option (List ℕ) → Option (List ℕ) → Error E → Type 0
+LeavesRest old new (code.Io e) = Unit {0}
+LeavesRest old new (code.Syntax p) = Gives old new (λ _. Unit {0})
+LeavesRest old new (code.Semantic o k) = Gives old new (λ _. Unit {0})
+LeavesRest old new code.RecursionLimitExceeded = Gives old new (λ _. Unit {0})
+LeavesRest old new code.Memory = Gives old new (λ _. Unit {0})
+LeavesRest old new code.TooLong = Gives old new (λ _. Unit {0})
+
 -- the error for the bytes to come: the fault of the item that is due at their front, with places counted from their beginning, or
 -- the type's fault where the item there was taken
 abbrev pub IsUnread : {E : Type 0} → (E → Bool) → (Tree → Option Kind) → ℕ → Option (List ℕ) → Option (List ℕ) → Error E → Type 0

@@ -188,7 +188,7 @@ fn next_half<R: Read>(
         (seen R.Read decoder.old) (seen R.Read decoder.new)) }
     ensures due { OnErr result (list.now.half ≡ false
         → is_full list.now.count (length list.now.entries.items) ≡ false) }
-    ensures stops { OnErr result (TakesSome (seen R.Read decoder.old) (seen R.Read decoder.new)) }
+    ensures stops { IfErr result (TakesSome (seen R.Read decoder.old) (seen R.Read decoder.new)) }
     ensures steady { Steady R.ends result (seen R.Read decoder.old) (seen R.Read decoder.new) }
 {
     if list.half {
@@ -249,7 +249,7 @@ fn ask<R: Read, X: Exactness>(
         offset_of decoder.old + 1 ≤ offset_of decoder.new + in_hand None top.now)) }
     ensures err { IfErr result (AskFails R.ends top.now
         (seen R.Read decoder.old) (seen R.Read decoder.new)) }
-    ensures stops { OnErr result (TakesSome (seen R.Read decoder.old) (seen R.Read decoder.new)) }
+    ensures stops { IfErr result (TakesSome (seen R.Read decoder.old) (seen R.Read decoder.new)) }
     ensures steady { Steady R.ends result (seen R.Read decoder.old) (seen R.Read decoder.new) }
 {
     match top {
@@ -319,7 +319,7 @@ fn opening<R: Read, X: Exactness>(
     ensures room { IfOk result (Holds (room_of top.now)) }
     ensures err { IfErr result (NamesFaultBehind R.ends header at (λ stop b f. Damage stop b left f)
         (seen R.Read decoder.old) (seen R.Read decoder.new)) }
-    ensures stops { OnErr result (TakesSome (seen R.Read decoder.old) (seen R.Read decoder.new)) }
+    ensures stops { IfErr result (TakesSome (seen R.Read decoder.old) (seen R.Read decoder.new)) }
     ensures steady { Steady R.ends result (seen R.Read decoder.old) (seen R.Read decoder.new) }
 {
     match header {
@@ -384,7 +384,7 @@ fn begin<R: Read, X: Exactness>(
         ≤ 2 * length below.old.items + 2 + 4 * offset_of decoder.new) }
     ensures err { IfErr result (BeginFails R.ends limit (top.old ∷ reverse below.old.items)
         title.1 title.0 (seen R.Read decoder.old) (seen R.Read decoder.new)) }
-    ensures stops { OnErr result (TakesSome (seen R.Read decoder.old) (seen R.Read decoder.new)) }
+    ensures stops { IfErr result (TakesSome (seen R.Read decoder.old) (seen R.Read decoder.new)) }
     ensures steady { Steady R.ends result (seen R.Read decoder.old) (seen R.Read decoder.new) }
 {
     let left = limit.saturating_sub(below.len());
@@ -428,7 +428,7 @@ pub fn read_item<R: Read, X: Exactness>(
         (ReadExact header limit (view v) (X.flag exact.old) (X.flag exact.new))) }
     ensures err { IfErr result (NamesFaultBehind R.ends header at
         (λ stop b f. Damage stop b limit f) (seen R.Read decoder.old) (seen R.Read decoder.new)) }
-    ensures stops { OnErr result (TakesSome (seen R.Read decoder.old) (seen R.Read decoder.new)) }
+    ensures stops { IfErr result (TakesSome (seen R.Read decoder.old) (seen R.Read decoder.new)) }
     ensures steady { Steady R.ends result (seen R.Read decoder.old) (seen R.Read decoder.new) }
 {
     let mut below: Vec<Frame> = Vec::new(alloc);

@@ -13,8 +13,8 @@ ghost use Rattle.ciborium.specs.Frames.{IsLengthOf, IsLow};
 ghost use Rattle.ciborium_value.specs.View.{view};
 ghost use Rattle.ciborium.specs.Meaning.{simple_meaning};
 ghost use Rattle.ciborium.specs.Damage.{Damage, TitleDamage};
-ghost use Rattle.ciborium.specs.Reading.{NamesFault, NamesFaultBehind, Steady, TakesSome, ReadsBehind};
-ghost use Rattle.ciborium.specs.Reading.{TagDamage, is_full, IsLeaf, Closes};
+ghost use Rattle.ciborium.specs.Reading.{NamesFault, NamesFaultBehind, Steady, TakesSome};
+ghost use Rattle.ciborium.specs.Reading.{ReadsBehind, TagDamage, is_full, IsLeaf, Closes};
 ghost use Rattle.ciborium.specs.Reading.{IsNext, OpensOver, IsFoldFault};
 
 use crate::de::Error;
@@ -58,7 +58,7 @@ pub fn read_leaf<R: Read>(
         (seen R.Read decoder.old) (seen R.Read decoder.new) e) }
     ensures bytes { IfOk result (λ v. (o : Option ℕ) → header ≡ Bytes o
         → (x : List ℕ) × (view v ≡ bytes x)) }
-    ensures stops { OnErr result (TakesSome (seen R.Read decoder.old) (seen R.Read decoder.new)) }
+    ensures stops { IfErr result (TakesSome (seen R.Read decoder.old) (seen R.Read decoder.new)) }
     ensures steady { Steady R.ends result (seen R.Read decoder.old) (seen R.Read decoder.new) }
 {
     match header {
@@ -172,7 +172,7 @@ pub fn next_part<R: Read>(
     ensures err { IfErr result (NamesFault R.ends TitleDamage
         (seen R.Read decoder.old) (seen R.Read decoder.new)) }
     ensures due { OnErr result (is_full count done ≡ false) }
-    ensures stops { OnErr result (TakesSome (seen R.Read decoder.old) (seen R.Read decoder.new)) }
+    ensures stops { IfErr result (TakesSome (seen R.Read decoder.old) (seen R.Read decoder.new)) }
     ensures steady { Steady R.ends result (seen R.Read decoder.old) (seen R.Read decoder.new) }
 {
     if all_read(count, done) {
@@ -263,7 +263,7 @@ pub fn tagged_title<R: Read>(
     ensures at { IfOk result (λ r. r.0 ≡ offset_of decoder.old) }
     ensures err { IfErr result (NamesFault R.ends (TagDamage tag limit)
         (seen R.Read decoder.old) (seen R.Read decoder.new)) }
-    ensures stops { OnErr result (TakesSome (seen R.Read decoder.old) (seen R.Read decoder.new)) }
+    ensures stops { IfErr result (TakesSome (seen R.Read decoder.old) (seen R.Read decoder.new)) }
     ensures steady { Steady R.ends result (seen R.Read decoder.old) (seen R.Read decoder.new) }
 {
     if is_plain(tag) {

@@ -1,5 +1,5 @@
 //! Items of a decoder, one after another.
-ghost use Rattle.std.specs.Prelude.{◌≡◌, Some, [], IfOk, IfErr, OnOk, OnErr};
+ghost use Rattle.std.specs.Prelude.{◌≡◌, Some, [], IfOk, IfErr, OnOk};
 ghost use Rattle.ciborium_ll.specs.Seen.{Takes};
 ghost use Rattle.ciborium_ll.specs.Views.{left_of, reader_of, seen};
 ghost use Rattle.ciborium_value.specs.View.{view};
@@ -68,8 +68,8 @@ impl<R: Read> Source for Deserializer<R> {
     /// The next item.
     ///
     /// # Errors
-    /// Those of `from_decoder`. Behind one that isn't an end with nothing left the decoder may stand
-    /// inside an item: don't ask on.
+    /// Those of `from_decoder`. Behind one but an end with nothing left the decoder may stand in an
+    /// item: don't ask on.
     fn item(&mut self) -> Result<Value, Error<R::Error>>
         ensures ok { IfOk result (λ v.
             Takes (seen R.Read (decoder_of self.old)) (seen R.Read (decoder_of self.new))
@@ -82,7 +82,7 @@ impl<R: Read> Source for Deserializer<R> {
         ensures some { left_of R.left (decoder_of self.old) ≡ Some [] → OnOk result ⊥ }
         ensures ended { left_of R.left (decoder_of self.old) ≡ Some []
             → IfErr result (IfEnd R.ends (left_of R.left (decoder_of self.new) ≡ Some [])) }
-        ensures stops { OnErr result (TakesSome (seen R.Read (decoder_of self.old))
+        ensures stops { IfErr result (TakesSome (seen R.Read (decoder_of self.old))
             (seen R.Read (decoder_of self.new))) }
         ensures steady { Steady R.ends result (seen R.Read (decoder_of self.old))
             (seen R.Read (decoder_of self.new)) }

@@ -1,6 +1,6 @@
 //! Reads titles and strings.
 ghost use Rattle.std.specs.Prelude.{◌≡◌, ◌≤◌, ◌<◌, ◌+◌, ◌++◌, ◌^◌, ℕ, None, Some, OnOk};
-ghost use Rattle.std.specs.Prelude.{OnErr, IfOk, IfErr, IfSome, IfNone, length, Bool, true, []};
+ghost use Rattle.std.specs.Prelude.{IfOk, IfErr, IfSome, IfNone, length, Bool, true, []};
 ghost use Rattle.std.specs.Prelude.{string_bytes};
 ghost use Rattle.std.specs.Str.{IsUtf8};
 ghost use Rattle.ciborium_ll.specs.Title.{Title, title_of, IsShortest};
@@ -37,7 +37,7 @@ pub fn next_title<R: Read>(decoder: &mut Decoder<R>) -> Result<(usize, Header), 
         (seen R.Read decoder.old) (seen R.Read decoder.new)) }
     ensures ended { left_of R.left decoder.old ≡ Some []
         → IfErr result (IfEnd R.ends (left_of R.left decoder.new ≡ Some [])) }
-    ensures stops { OnErr result (TakesSome (seen R.Read decoder.old) (seen R.Read decoder.new)) }
+    ensures stops { IfErr result (TakesSome (seen R.Read decoder.old) (seen R.Read decoder.new)) }
     ensures steady { Steady R.ends result (seen R.Read decoder.old) (seen R.Read decoder.new) }
 {
     let at = decoder.offset();
@@ -60,7 +60,7 @@ fn read_piece<R: Read>(
         (λ b. (length b ≡ size) × (into.new.items ≡ into.old.items ++ b))) }
     ensures err { IfErr result (NamesShort R.ends size
         (seen R.Read decoder.old) (seen R.Read decoder.new)) }
-    ensures stops { OnErr result (TakesSome (seen R.Read decoder.old) (seen R.Read decoder.new)) }
+    ensures stops { IfErr result (TakesSome (seen R.Read decoder.old) (seen R.Read decoder.new)) }
     ensures steady { Steady R.ends result (seen R.Read decoder.old) (seen R.Read decoder.new) }
 {
     let at = into.len();
@@ -82,7 +82,7 @@ fn read_bytes<R: Read>(
         (λ b. (length b ≡ n) × (into.new.items ≡ into.old.items ++ b))) }
     ensures err { IfErr result (NamesShort R.ends n
         (seen R.Read decoder.old) (seen R.Read decoder.new)) }
-    ensures stops { OnErr result (TakesSome (seen R.Read decoder.old) (seen R.Read decoder.new)) }
+    ensures stops { IfErr result (TakesSome (seen R.Read decoder.old) (seen R.Read decoder.new)) }
     ensures steady { Steady R.ends result (seen R.Read decoder.old) (seen R.Read decoder.new) }
 {
     let mut got = 0;
@@ -108,7 +108,7 @@ fn read_chunk<R: Read>(
     ensures err { IfErr result (NamesFaultBehind R.ends (string_head text (Some n)) at
         (ChunkDamage (string_head text) (IsBody text))
         (seen R.Read decoder.old) (seen R.Read decoder.new)) }
-    ensures stops { OnErr result (TakesSome (seen R.Read decoder.old) (seen R.Read decoder.new)) }
+    ensures stops { IfErr result (TakesSome (seen R.Read decoder.old) (seen R.Read decoder.new)) }
     ensures steady { Steady R.ends result (seen R.Read decoder.old) (seen R.Read decoder.new) }
 {
     let start = into.len();
@@ -177,7 +177,7 @@ pub fn read_string<R: Read>(
     ensures err { IfErr result (NamesFaultBehind R.ends (string_head text length) at
         (StringDamage (string_head text) (IsBody text))
         (seen R.Read decoder.old) (seen R.Read decoder.new)) }
-    ensures stops { OnErr result (TakesSome (seen R.Read decoder.old) (seen R.Read decoder.new)) }
+    ensures stops { IfErr result (TakesSome (seen R.Read decoder.old) (seen R.Read decoder.new)) }
     ensures steady { Steady R.ends result (seen R.Read decoder.old) (seen R.Read decoder.new) }
 {
     let mut bytes = Vec::new(alloc);
@@ -207,7 +207,7 @@ fn read_open<R: Read>(
     ensures err { IfErr result (NamesFaultBehind R.ends (string_head text None) at
         (StringDamage (string_head text) (IsBody text))
         (seen R.Read decoder.old) (seen R.Read decoder.new)) }
-    ensures stops { OnErr result (TakesSome (seen R.Read decoder.old) (seen R.Read decoder.new)) }
+    ensures stops { IfErr result (TakesSome (seen R.Read decoder.old) (seen R.Read decoder.new)) }
     ensures steady { Steady R.ends result (seen R.Read decoder.old) (seen R.Read decoder.new) }
 {
     let mut inner: usize = 0;
@@ -252,7 +252,7 @@ pub fn read_text<R: Read>(
         (λ b. StringBehind true length (string_bytes v) b)) }
     ensures err { IfErr result (NamesFaultBehind R.ends (Text length) at (StringDamage Text IsUtf8)
         (seen R.Read decoder.old) (seen R.Read decoder.new)) }
-    ensures stops { OnErr result (TakesSome (seen R.Read decoder.old) (seen R.Read decoder.new)) }
+    ensures stops { IfErr result (TakesSome (seen R.Read decoder.old) (seen R.Read decoder.new)) }
     ensures steady { Steady R.ends result (seen R.Read decoder.old) (seen R.Read decoder.new) }
 {
     match length {
@@ -274,7 +274,7 @@ fn read_whole_text<R: Read>(
         (λ b. StringBehind true (Some n) (string_bytes v) b)) }
     ensures err { IfErr result (NamesFaultBehind R.ends (Text (Some n)) at
         (StringDamage Text IsUtf8) (seen R.Read decoder.old) (seen R.Read decoder.new)) }
-    ensures stops { OnErr result (TakesSome (seen R.Read decoder.old) (seen R.Read decoder.new)) }
+    ensures stops { IfErr result (TakesSome (seen R.Read decoder.old) (seen R.Read decoder.new)) }
     ensures steady { Steady R.ends result (seen R.Read decoder.old) (seen R.Read decoder.new) }
 {
     let mut bytes = Vec::new(alloc);
@@ -296,7 +296,7 @@ fn read_cut_text<R: Read>(
         (λ b. StringBehind true None (string_bytes v) b)) }
     ensures err { IfErr result (NamesFaultBehind R.ends (Text None) at (StringDamage Text IsUtf8)
         (seen R.Read decoder.old) (seen R.Read decoder.new)) }
-    ensures stops { OnErr result (TakesSome (seen R.Read decoder.old) (seen R.Read decoder.new)) }
+    ensures stops { IfErr result (TakesSome (seen R.Read decoder.old) (seen R.Read decoder.new)) }
     ensures steady { Steady R.ends result (seen R.Read decoder.old) (seen R.Read decoder.new) }
 {
     let bytes = read_string(alloc, decoder, true, None, at)?;

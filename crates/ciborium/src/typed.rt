@@ -1,5 +1,5 @@
 //! Reads items as types.
-ghost use Rattle.std.specs.Prelude.{◌≡◌, ◌⊎◌, Some, IfOk, IfErr, OnErr, []};
+ghost use Rattle.std.specs.Prelude.{◌≡◌, ◌⊎◌, Some, IfOk, IfErr, []};
 ghost use Rattle.ciborium_ll.specs.Seen.{Takes};
 ghost use Rattle.ciborium_ll.specs.Views.{left_of, seen};
 ghost use Rattle.ciborium.specs.Damage.{Damage};
@@ -16,8 +16,8 @@ use std::alloc::Global;
 /// it.
 ///
 /// # Errors
-/// Those of `from_decoder`; `Semantic` with the type's fault where the item is none of it, and it was
-/// taken then.
+/// Those of `from_decoder`; `Semantic` with the type's fault where the item is none of it, and it
+/// was taken then.
 pub fn typed_item<T: Deserialize, R: Read>(
     alloc: Global,
     decoder: &mut Decoder<R>,
@@ -31,7 +31,7 @@ pub fn typed_item<T: Deserialize, R: Read>(
     ensures nothing { left_of R.left decoder.old ≡ Some [] → IfErr result IsNoMemory }
     ensures ended { left_of R.left decoder.old ≡ Some []
         → IfErr result (IfEnd R.ends (left_of R.left decoder.new ≡ Some [])) }
-    ensures stops { OnErr result (TakesSome (seen R.Read decoder.old) (seen R.Read decoder.new)) }
+    ensures stops { IfErr result (TakesSome (seen R.Read decoder.old) (seen R.Read decoder.new)) }
     ensures steady { Steady R.ends result (seen R.Read decoder.old) (seen R.Read decoder.new) }
 {
     let value = from_decoder(alloc, decoder, limit)?;

@@ -4,8 +4,7 @@ use Rattle.std.proofs.lemmas.Result.{err_from_is_err_and}
 use Rattle.ciborium_ll.specs.Views.{seen, shortest_of}
 use Rattle.ciborium.proofs.ReadLemmas.{item_title_fails}
 use Rattle.ciborium.proofs.TurnLemmas.{exact_read, item_fails}
-use Rattle.ciborium_ll.proofs.Appending.{at_err}
-use Rattle.ciborium.proofs.Halting.{halts_then}
+use Rattle.ciborium.proofs.Halting.{some_then}
 use Rattle.ciborium.proofs.de.from_decoder_strict.Goals as goal
 
 pub returns-in_err-place-clause-err : goal.returns-in_err-place-clause-err
@@ -27,4 +26,6 @@ returns-clause-ok g c =
     (omega (arith, c.read_item.new.decoder.fits)) c.is_shortest.ensures (c.in_ok-place.ensures.shortest c.requires.fresh) c.in_ok-value.ensures.ok
 
 pub returns-in_err-value-clause-stops : goal.returns-in_err-value-clause-stops
-returns-in_err-value-clause-stops g c = at_err _ _ (halts_then c.in_ok-place.ensures.ok c.in_err-value.ensures.stops)
+returns-in_err-value-clause-stops g c =
+    let p = err_from_is_err_and c.from_residual-in_err-value.result c.from_residual-in_err-value.ensures.1 in
+    rw (p.1, p.2) (some_then _ _ _ c.in_ok-place.ensures.ok c.in_err-value.ensures.stops)

@@ -3,8 +3,7 @@ use Rattle.std.proofs.lemmas.Result.{err_from_is_err_and}
 use Rattle.ciborium_ll.specs.Views.{seen}
 use Rattle.ciborium.proofs.Taking.{takes_as, takes_then}
 use Rattle.ciborium.proofs.BeginLemmas.{begin_fails, level_begun, plain_leaf, tagged_leaf, leaf_fails, leaf_folds}
-use Rattle.ciborium_ll.proofs.Appending.{at_err}
-use Rattle.ciborium.proofs.Halting.{halts_then, halts_taken}
+use Rattle.ciborium.proofs.Halting.{some_then, some_taken}
 use Rattle.ciborium.proofs.frames.begin.Goals as goal
 
 pub returns-in_err-frame-clause-err : goal.returns-in_err-frame-clause-err
@@ -50,7 +49,11 @@ returns-in_ok-whole-in-Some-clause-ok g c =
     (λ x y i s. tagged_leaf c.args.limit c.saturating_sub-left.result c.args.title.0 _ c.in-Leaf.at c.in-Some.n c.args.title.1 c.in-Leaf.header c.args.top.now c.args.below.now.items c.in_ok-value-in-Leaf.value c.in_ok-whole-in-Some.whole (Some c.in_ok-whole-in-Some.whole) (g.X.Exactness.flag c.args.exact.now) (g.X.Exactness.flag c.opening.new.exact) (g.X.Exactness.flag c.tag_value.new.exact) x y same refl i c.in_ok-value-in-Leaf.ensures.bytes c.in_ok-whole-in-Some.ensures.ok c.in_ok-whole-in-Some.ensures.kept s)
 
 pub returns-in_err-value-in-Leaf-clause-stops : goal.returns-in_err-value-in-Leaf-clause-stops
-returns-in_err-value-in-Leaf-clause-stops g c = at_err _ _ (halts_then c.in_ok-frame.ensures.ok c.in_err-value-in-Leaf.ensures.stops)
+returns-in_err-value-in-Leaf-clause-stops g c =
+    let p = err_from_is_err_and c.from_residual-in_err-value-in-Leaf.result c.from_residual-in_err-value-in-Leaf.ensures.1 in
+    rw (p.1, p.2) (some_then _ _ _ c.in_ok-frame.ensures.ok c.in_err-value-in-Leaf.ensures.stops)
 
 pub returns-in_err-whole-in-Some-clause-stops : goal.returns-in_err-whole-in-Some-clause-stops
-returns-in_err-whole-in-Some-clause-stops g c = at_err _ _ (halts_then c.in_ok-frame.ensures.ok (halts_taken c.in_ok-value-in-Leaf.ensures.ok))
+returns-in_err-whole-in-Some-clause-stops g c =
+    let p = err_from_is_err_and c.from_residual-in_err-whole-in-Some.result c.from_residual-in_err-whole-in-Some.ensures.1 in
+    rw (p.1, p.2) (some_then _ _ _ c.in_ok-frame.ensures.ok (some_taken _ c.in_ok-value-in-Leaf.ensures.ok))

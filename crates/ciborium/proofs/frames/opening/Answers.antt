@@ -6,7 +6,7 @@ use Rattle.ciborium.proofs.Taking.{takes_as}
 use Rattle.ciborium.specs.declared.de.Error.TheVariants.{RecursionLimitExceeded}
 use Rattle.ciborium.proofs.ReadLemmas.{deep_fails}
 use Rattle.ciborium.proofs.TagLemmas.{level_deep, tag_fails}
-use Rattle.ciborium.proofs.Halting.{halts_taken}
+use Rattle.ciborium.proofs.Halting.{was_taken}
 use Rattle.ciborium.proofs.frames.opening.Goals as goal
 
 pub returns-then-left-eq0-clause-err : goal.returns-then-left-eq0-clause-err
@@ -38,4 +38,4 @@ returns-then-is_leaf-clause-ok g c =
     c.in_ok-place-in-Tag.ensures.ok (λ y q. (leaf, (c.in-Tag.is, low, q.0, c.in_ok-place-in-Tag.ensures.at, (shortest_of c.tagged_title.new.decoder, q.1, c.title.ensures))))
 
 pub returns-then-not-low-clause-stops : goal.returns-then-not-low-clause-stops
-returns-then-not-low-clause-stops g c = halts_taken c.in_ok-place-in-Tag.ensures.ok
+returns-then-not-low-clause-stops g c = was_taken c.in_ok-place-in-Tag.ensures.ok

@@ -2,8 +2,7 @@ use Rattle.std.proofs.Common.{rules, refl, reverse, ◌∷◌, arith}
 use Rattle.std.proofs.lemmas.Result.{err_from_is_err_and}
 use Rattle.ciborium_ll.specs.Views.{seen}
 use Rattle.ciborium.proofs.TurnLemmas.{turn_start, turn_staged, turn_taken, taken_none, turn_ended, turn_closed, turn_begun, turn_done, done_some, turn_fails, begun_fails, turn_less}
-use Rattle.ciborium_ll.proofs.Appending.{at_err}
-use Rattle.ciborium.proofs.Halting.{halts_then, halts_taken}
+use Rattle.ciborium.proofs.Halting.{some_then, some_taken}
 use Rattle.ciborium.proofs.frames.read_item.Goals as goal
 
 pub turns-init : goal.turns-init
@@ -87,10 +86,16 @@ returns-in_err-begin-in-Some-part-clause-err g c =
     (rw c.in-Some-part.is at c.in_ok-part-in-Taken.ensures.some) c.in_err-begin-in-Some-part.ensures.err)
 
 pub returns-in_err-hand-clause-stops : goal.returns-in_err-hand-clause-stops
-returns-in_err-hand-clause-stops g c = at_err _ _ (halts_taken c.turns.invariant.turn.taken)
+returns-in_err-hand-clause-stops g c =
+    let p = err_from_is_err_and c.from_residual.result c.from_residual.ensures.1 in
+    rw (p.1, p.2) (some_taken _ c.turns.invariant.turn.taken)
 
 pub returns-in_err-part-in-Taken-clause-stops : goal.returns-in_err-part-in-Taken-clause-stops
-returns-in_err-part-in-Taken-clause-stops g c = at_err _ _ (halts_then c.turns.invariant.turn.taken c.in_err-part-in-Taken.ensures.stops)
+returns-in_err-part-in-Taken-clause-stops g c =
+    let p = err_from_is_err_and c.from_residual-in_err-part-in-Taken.result c.from_residual-in_err-part-in-Taken.ensures.1 in
+    rw (p.1, p.2) (some_then _ _ _ c.turns.invariant.turn.taken c.in_err-part-in-Taken.ensures.stops)
 
 pub returns-in_err-begin-in-Some-part-clause-stops : goal.returns-in_err-begin-in-Some-part-clause-stops
-returns-in_err-begin-in-Some-part-clause-stops g c = at_err _ _ (halts_then c.turns.invariant.turn.taken (halts_then (rw c.in-Some-part.is at c.in_ok-part-in-Taken.ensures.some) c.in_err-begin-in-Some-part.ensures.stops))
+returns-in_err-begin-in-Some-part-clause-stops g c =
+    let p = err_from_is_err_and c.from_residual-in_err-begin-in-Some-part.result c.from_residual-in_err-begin-in-Some-part.ensures.1 in
+    rw (p.1, p.2) (some_then _ _ _ c.turns.invariant.turn.taken (some_then _ _ _ (rw c.in-Some-part.is at c.in_ok-part-in-Taken.ensures.some) c.in_err-begin-in-Some-part.ensures.stops))

@@ -2,8 +2,7 @@ use Rattle.std.proofs.Common.{◌≡◌, ◌+◌, arith, rules, refl}
 use Rattle.std.proofs.lemmas.Result.{err_from_is_err_and}
 use Rattle.ciborium.proofs.Taking.{takes_none}
 use Rattle.ciborium.proofs.StringLemmas.{open_start, title_grows, step_done, step_less, step_more, step_chunk, open_title_fails, open_chunk_fails, open_other_fails}
-use Rattle.ciborium_ll.proofs.Appending.{at_err}
-use Rattle.ciborium.proofs.Halting.{halts_then, halts_taken}
+use Rattle.ciborium.proofs.Halting.{some_then, both_taken}
 use Rattle.ciborium.proofs.strings.read_open.Goals as goal
 
 pub parts-init : goal.parts-init
@@ -43,10 +42,14 @@ returns-in-Other-clause-err g c =
     open_other_fails g.R.Read.ends _ _ _ _ _ _ _ _ _ _ _ _ c.parts.invariant.taken c.in_ok-place.ensures.ok c.in-Other.ensures c.in_ok-place.ensures.at
 
 pub returns-in_err-place-clause-stops : goal.returns-in_err-place-clause-stops
-returns-in_err-place-clause-stops g c = at_err _ _ (halts_then c.parts.invariant.taken c.in_err-place.ensures.stops)
+returns-in_err-place-clause-stops g c =
+    let p = err_from_is_err_and c.from_residual.result c.from_residual.ensures.1 in
+    rw (p.1, p.2) (some_then _ _ _ c.parts.invariant.taken c.in_err-place.ensures.stops)
 
 pub returns-in_err-read_chunk-in-Chunk-clause-stops : goal.returns-in_err-read_chunk-in-Chunk-clause-stops
-returns-in_err-read_chunk-in-Chunk-clause-stops g c = at_err _ _ (halts_then c.parts.invariant.taken (halts_then c.in_ok-place.ensures.ok c.in_err-read_chunk-in-Chunk.ensures.stops))
+returns-in_err-read_chunk-in-Chunk-clause-stops g c =
+    let p = err_from_is_err_and c.from_residual-in_err-read_chunk-in-Chunk.result c.from_residual-in_err-read_chunk-in-Chunk.ensures.1 in
+    rw (p.1, p.2) (some_then _ _ _ c.parts.invariant.taken (some_then _ _ _ c.in_ok-place.ensures.ok c.in_err-read_chunk-in-Chunk.ensures.stops))
 
 pub returns-in-Other-clause-stops : goal.returns-in-Other-clause-stops
-returns-in-Other-clause-stops g c = halts_then c.parts.invariant.taken (halts_taken c.in_ok-place.ensures.ok)
+returns-in-Other-clause-stops g c = both_taken c.parts.invariant.taken c.in_ok-place.ensures.ok

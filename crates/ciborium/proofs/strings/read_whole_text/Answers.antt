@@ -1,6 +1,6 @@
 use Rattle.ciborium.proofs.Taking.{takes_as}
 use Rattle.ciborium.proofs.StringLemmas.{whole_text, whole_text_fails}
-use Rattle.ciborium.proofs.Halting.{halts_taken}
+use Rattle.ciborium.proofs.Halting.{was_taken}
 use Rattle.ciborium.proofs.strings.read_whole_text.Goals as goal
 
 pub returns-in-Some-clause-ok : goal.returns-in-Some-clause-ok
@@ -12,4 +12,4 @@ returns-in-None-clause-err g c =
     whole_text_fails g.R.Read.ends _ _ _ _ _ _ _ _ c.new-bytes.ensures.items c.in_ok-read_bytes.ensures.ok c.in-None.ensures.none
 
 pub returns-in-None-clause-stops : goal.returns-in-None-clause-stops
-returns-in-None-clause-stops g c = halts_taken c.in_ok-read_bytes.ensures.ok
+returns-in-None-clause-stops g c = was_taken c.in_ok-read_bytes.ensures.ok
