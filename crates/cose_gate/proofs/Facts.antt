@@ -11,11 +11,13 @@ use Rattle.ciborium.specs.declared.de.Error.TheVariants as de
 use Rattle.ciborium.proofs.Excludes.{excludes}
 use Rattle.cose_gate_laws.specs.GateCore.Asked.{folded_over, IsFront}
 use Rattle.cose_gate_laws.specs.GateCore.Questions.{Question}
-use Rattle.cose_gate_laws.specs.GateCore.Outcome.{Rules, Sight, Made, IsFaultOf, Outcome, Answers}
+use Rattle.cose_gate_laws.specs.GateCore.Outcome.{Rules, Sight, Made, IsFaultOf, StandsIn, IsNoRead, Outcome, Answers}
 use Rattle.cose_gate_laws.specs.GateCore.Run.{Step, Run, Course, asked_of, written_of, text_of, passes, questions_of, output_of, entries_of, passed_count, refused_count}
 use Rattle.cose_gate_laws.specs.GateCore.declared.gating.Counts.{Counts}
 use Rattle.cose_gate_laws.specs.GateCore.declared.gating.GateFault.{GateFault}
 use Rattle.cose_gate_laws.specs.GateCore.declared.gating.GateFault.TheVariants.{Decode, Write, Memory}
+use Rattle.cose_gate_laws.specs.Anew.{bytes_of}
+use Rattle.cose_gate_laws.proofs.Placed.{told}
 use Rattle.cose_gate_laws.proofs.Within.{Twin, Twins, Within, Split, course_within, unreadable_ends, nothing_unreadable, twins_questions, twins_output, twins_entries, twins_count, twins_split, place_behind}
 use Rattle.cose_gate.specs.Gate.{Call, IfThrough, IfWrite, IfMemory, StopsAt, Noted, AskedFront, NotedFront, WrittenFront, Torn, Refused, AsksAll, WritesAll, NotesAll, CountsAll, Stops, AsksFront, NotesFront, WritesFront, Tears, WritesWhole, HoldsNoMemory}
 
@@ -49,6 +51,18 @@ module _ {T S : Type 0} (rules : Rules T S) where
   same_output : (cs ss : List Step) → Pair cs ss → output_of rules.allows rules.aad cs ≡ output_of rules.allows rules.aad ss
   same_output cs ss t = twins_output rules.limits rules.allows rules.aad cs ss t
 
+  same_bytes : (cs ss : List Step) → Pair cs ss → bytes_of cs ≡ bytes_of ss
+  same_bytes [] [] t = refl
+  same_bytes [] (s ∷ ss) t = absurd t
+  same_bytes (c ∷ cs) [] t = absurd t
+  same_bytes (c ∷ cs) (s ∷ ss) t = ap (λ (i : Item). i.bytes ++ bytes_of cs) t.0.item ∙ ap (λ z. s.item.bytes ++ z) (same_bytes cs ss t.1)
+
+  -- none are the twins of none
+  pair_none : (cs ds : List Step) → Pair cs ds → ds ≡ [] → cs ≡ []
+  pair_none [] ds t e = refl
+  pair_none (c ∷ cs) [] t e = absurd t
+  pair_none (c ∷ cs) (d ∷ ds) t e = absurd (let no : d ∷ ds ≡ [] = e in cc)
+
   module _ (old new : Sight T S) where
     noted : (cs ss : List Step) → Pair cs ss → new.state ≡ folded_over rules.folded old.state (entries_of cs) → Noted rules old new ss
     noted cs ss t e = record { entries = entries_of cs; are = twins_entries rules.limits rules.allows rules.aad cs ss t; state = e }
@@ -81,6 +95,25 @@ module _ {T S : Type 0} (rules : Rules T S) where
           let w = within_of cs more c in
           let e = unreadable_ends rules.limits rules.allows rules.aad w.place more rest w.behind u w.left in
           (subst (λ z. Pair cs z) (sym (w.whole ∙ ap (λ x. w.front ++ x) e.0 ∙ append-nil w.front)) w.twins, e.1)
+
+      -- the input is the bytes of the steps and what is to come behind them
+      bytes_then : (cs : List Step) (more : List ℕ) → Course rules.limits rules.allows rules.aad old.offset b cs more → b ≡ bytes_of cs ++ more
+      bytes_then cs more c = (told rules.limits rules.allows rules.aad 1 old.offset b cs more c.sequence c.steps).whole
+
+      -- where the gate stands in what is left behind the items of the run, and in the whole input
+      stands_behind : (cs : List Step) (more : List ℕ) (P : Type 0) → Course rules.limits rules.allows rules.aad old.offset b cs more → IsUnreadableWithin rules.limits.nesting more
+          → StandsIn more (old.offset + length b) new P → StandsIn rest (old.offset + length b) new P
+      stands_behind cs more P c u s = subst (λ (z : List ℕ). StandsIn z (old.offset + length b) new P) (sym (full cs more c u).1) s
+
+      stands_whole : (cs : List Step) (more : List ℕ) (P : Type 0) → Course rules.limits rules.allows rules.aad old.offset b cs more
+          → StandsIn more (old.offset + length b) new P → StandsIn b (old.offset + length b) new P
+      stands_whole cs more P c s = record {
+        taken = bytes_of cs ++ s.taken;
+        rest = s.rest;
+        whole = bytes_then cs more c ∙ ap (λ z. bytes_of cs ++ z) s.whole ∙ sym (append_assoc (bytes_of cs) s.taken s.rest);
+        stands = s.stands;
+        behind = s.behind;
+      }
 
       begun : (cs : List Step) (more : List ℕ) → Course rules.limits rules.allows rules.aad old.offset b cs more → Made rules old new cs → Begun ss more rest
       begun cs more c m = let w = within_of cs more c in record { made = cs; front = w.front; behind = w.behind; whole = w.whole; twins = w.twins; all = m }
@@ -130,18 +163,32 @@ module _ {T S : Type 0} (rules : Rules T S) where
             let f = fault_here o.more (de.Io e) o.fault in (
               λ t. rest_at o.steps o.more (de.Io e) o.course (damaged _ _ o.more _ (f t).0) f t,
               λ t. end_at o.steps o.more e o.course (damaged _ _ o.more _ (f t).0) o.behind t,
+              λ t. stands_behind o.steps o.more (IsNoRead (de.Io e)) o.course (damaged _ _ o.more _ (f t).0) o.stands,
+              stands_whole o.steps o.more (IsNoRead (de.Io e)) o.course o.stands,
             )
         stops (Err (Decode (de.Syntax p))) o =
-            let f = fault_here o.more (de.Syntax p) o.fault in
-            (rest_at o.steps o.more (de.Syntax p) o.course (damaged _ _ o.more _ f) f, tt)
+            let f = fault_here o.more (de.Syntax p) o.fault in (
+              rest_at o.steps o.more (de.Syntax p) o.course (damaged _ _ o.more _ f) f,
+              tt,
+              stands_behind o.steps o.more (IsNoRead (de.Syntax p)) o.course (damaged _ _ o.more _ f) o.stands,
+              stands_whole o.steps o.more (IsNoRead (de.Syntax p)) o.course o.stands,
+            )
         stops (Err (Decode (de.Semantic q k))) o =
-            let f = fault_here o.more (de.Semantic q k) o.fault in
-            (rest_at o.steps o.more (de.Semantic q k) o.course (damaged _ _ o.more _ f.1) f, tt)
+            let f = fault_here o.more (de.Semantic q k) o.fault in (
+              rest_at o.steps o.more (de.Semantic q k) o.course (damaged _ _ o.more _ f.1) f,
+              tt,
+              stands_behind o.steps o.more (IsNoRead (de.Semantic q k)) o.course (damaged _ _ o.more _ f.1) o.stands,
+              stands_whole o.steps o.more (IsNoRead (de.Semantic q k)) o.course o.stands,
+            )
         stops (Err (Decode de.RecursionLimitExceeded)) o =
-            let f = fault_here o.more de.RecursionLimitExceeded o.fault in
-            (rest_at o.steps o.more de.RecursionLimitExceeded o.course (damaged _ _ o.more _ f) f, tt)
-        stops (Err (Decode de.Memory)) o = (fault_here o.more de.Memory o.fault, tt)
-        stops (Err (Decode de.TooLong)) o = (fault_here o.more de.TooLong o.fault, tt)
+            let f = fault_here o.more de.RecursionLimitExceeded o.fault in (
+              rest_at o.steps o.more de.RecursionLimitExceeded o.course (damaged _ _ o.more _ f) f,
+              tt,
+              stands_behind o.steps o.more (IsNoRead de.RecursionLimitExceeded) o.course (damaged _ _ o.more _ f) o.stands,
+              stands_whole o.steps o.more (IsNoRead de.RecursionLimitExceeded) o.course o.stands,
+            )
+        stops (Err (Decode de.Memory)) o = (fault_here o.more de.Memory o.fault, tt, tt, stands_whole o.steps o.more (IsNoRead de.Memory) o.course o.stands)
+        stops (Err (Decode de.TooLong)) o = (fault_here o.more de.TooLong o.fault, tt, tt, stands_whole o.steps o.more (IsNoRead de.TooLong) o.course o.stands)
         stops (Err Write) o = tt
         stops (Err Memory) o = tt
 
@@ -305,6 +352,10 @@ module _ {T S : Type 0} (rules : Rules T S) where
                 here ∙ ap (λ (i : Item). i.offset + length i.bytes) t.0.item ∙ ap (λ (s : Step). s.item.offset + length s.item.bytes) same
             stands_at d (c ∷ more ∷ cs) e ds t is = absurd (let one = o.one in let two : length o.last ≡ length (c ∷ more ∷ cs) = ap length e in omega arith)
 
+            -- the bytes to come, seen from the steps of the run
+            input : b ≡ bytes_of (s.front ++ s.behind) ++ o.more
+            input = bytes_then (o.done ++ o.last) o.more o.course ∙ ap (λ z. z ++ o.more) (same_bytes (o.done ++ o.last) w.front w.twins ∙ ap bytes_of s.whole)
+
             refused : (texts : List Step) → (texts ≡ s.front) ⊎ ((texts ≡ s.front ++ s.behind) × (o.asked ≡ questions_of rules.allows rules.aad s.behind))
                 → Appends old.written new.written (output_of rules.allows rules.aad texts) → Refused rules old new ss
             refused texts are a = record {
@@ -321,6 +372,9 @@ module _ {T S : Type 0} (rules : Rules T S) where
               texts_are = are;
               written = a;
               stands = λ d is. stands_at d o.last refl s.behind s.then is;
+              more = o.more;
+              come = is ∙ ap Some input;
+              between = λ none. subst (λ (z : List ℕ). StandsIn o.more (old.offset + length z) new (Unit {0})) input (o.between (pair_none o.last s.behind s.then none));
             }
 
             by_texts : (o.texts ≡ o.done) ⊎ ((o.texts ≡ o.done ++ o.last) × (o.asked ≡ questions_of rules.allows rules.aad o.last)) → Refused rules old new ss

@@ -10,7 +10,7 @@ use Rattle.ciborium.specs.declared.de.Error.TheVariants as de
 use Rattle.cose_gate_laws.specs.GateCore.Asked.{folded_over, IsFront}
 use Rattle.cose_gate_laws.specs.GateCore.Calls.{rules_by, sight_of}
 use Rattle.cose_gate_laws.specs.GateCore.Findings.{Bounds}
-use Rattle.cose_gate_laws.specs.GateCore.Outcome.{Rules, Sight, IsFaultOf}
+use Rattle.cose_gate_laws.specs.GateCore.Outcome.{Rules, Sight, IsFaultOf, StandsIn, IsNoRead}
 use Rattle.cose_gate_laws.specs.GateCore.Questions.{Question}
 use Rattle.cose_gate_laws.specs.GateCore.Run.{Step, Run, passes, text_of, questions_of, output_of}
 use Rattle.cose_gate_laws.specs.GateCore.Run.{passed_count, refused_count}
@@ -20,7 +20,7 @@ use Rattle.cose_gate_laws.specs.GateCore.declared.gating.GateFault.{GateFault}
 use Rattle.cose_gate_laws.specs.GateCore.declared.gating.GateFault.TheVariants.{Decode, Write, Memory}
 use Rattle.cose_gate_laws.specs.GateCore.declared.report.Report.{Ghosts as Reports}
 use Rattle.cose_gate_laws.specs.GateCore.declared.judge.Judge.{Ghosts as Judges}
-use Rattle.cose_gate_laws.specs.Anew.{AreEntries}
+use Rattle.cose_gate_laws.specs.Anew.{bytes_of, AreEntries}
 
 -- a call of the gate: which faults are an end, what it goes by, and what is seen as it begins and
 -- as it returns
@@ -107,9 +107,10 @@ pub record Torn {T S : Type 0} (rules : Rules T S) (old new : Sight T S)
   pub written : Appends old.written new.written (output_of rules.allows rules.aad done ++ text)
   pub stands : new.offset ≡ last.item.offset + length last.item.bytes
 
--- memory was refused at one item, or between items: what stands before was done whole; of the item's questions a beginning was asked;
--- its text was written whole, and then all was asked about it, or not at all; it wasn't noted. At an item the offset is the one
--- behind it; between items it is open how much was taken behind the last item that was done.
+-- memory was refused at one item, or between items: what stands before was done whole; of the
+-- item's questions a beginning was asked; its text was written whole, and then all was asked about
+-- it, or not at all; it wasn't noted. At an item the offset is the one behind it; between items the
+-- gate stands in the bytes `more`, those to come behind the last item that was done.
 pub record Refused {T S : Type 0} (rules : Rules T S) (old new : Sight T S)
     (ss : List Step) : Type 0 where
   pub done : List Step
@@ -127,10 +128,15 @@ pub record Refused {T S : Type 0} (rules : Rules T S) (old new : Sight T S)
       ⊎ ((texts ≡ done ++ last) × (asked ≡ questions_of rules.allows rules.aad last))
   pub written : Appends old.written new.written (output_of rules.allows rules.aad texts)
   pub stands : (s : Step) → last ≡ s ∷ [] → new.offset ≡ s.item.offset + length s.item.bytes
+  pub more : List ℕ
+  pub come : old.left ≡ Some (bytes_of (done ++ last) ++ more)
+  pub between : last ≡ [] → StandsIn more
+      (old.offset + length (bytes_of (done ++ last) ++ more)) new (Unit {0})
 
--- where the gate stops: Ok exactly where nothing is left behind the items, with all bytes taken, and
--- the reader tells that nothing is left; else with the fault of what is left. Of an item that is cut
--- some bytes were taken.
+-- where the gate stops: Ok exactly where nothing is left behind the items, with all bytes taken,
+-- and the reader tells that nothing is left; else with the fault of what is left. Of an item that is
+-- cut some bytes were taken. Where all items were gone through the gate stands in what is left
+-- behind them, and in any case in the bytes that were to come.
 abbrev pub StopsAt : {T S E : Type 0} → (E → Bool) → ℕ → Sight T S → Sight T S → List ℕ → List ℕ
     → Result Counts (GateFault E) → Type 0
 StopsAt ends n old new b rest (Ok counts) =
@@ -138,6 +144,8 @@ StopsAt ends n old new b rest (Ok counts) =
 StopsAt ends n old new b rest (Err (Decode e)) =
     IsFaultOf ends n (old.offset + length b) rest e
     × IfEnd ends (old.offset + length b < new.offset + length rest) e
+    × IfThrough ends (Err (Decode e)) (StandsIn rest (old.offset + length b) new (IsNoRead e))
+    × StandsIn b (old.offset + length b) new (IsNoRead e)
 StopsAt ends n old new b rest (Err Write) = Unit {0}
 StopsAt ends n old new b rest (Err Memory) = Unit {0}
 

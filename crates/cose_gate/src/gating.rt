@@ -29,12 +29,13 @@ use std::alloc::Global;
 ///
 /// # Errors
 /// `Decode` where no readable item begins: all items before it were asked about, noted and written.
-/// How much of it was taken is open, but that an item which is cut lost some bytes; so don't read on
-/// from there. `Decode` also where the reader failed: all that was asked, noted and written are the
-/// first items then. `Write` where the writer failed: a beginning of the text of a message that
-/// passes was written behind the output before it, and the reader stands behind that message.
-/// `Memory` where memory was refused: whole texts were written, and of the questions about the item
-/// at hand a beginning was asked.
+/// Of the bytes behind these some were taken, or none, but of an item that is cut some; the offset
+/// has grown by their count. They may end inside an item, so don't read on from there. `Decode` also
+/// where the reader failed: all that was asked, noted and written are the first items then. `Write`
+/// where the writer failed: a beginning of the text of a message that passes was written behind the
+/// output before it, and the reader stands behind that message. `Memory` where memory was refused:
+/// whole texts were written, and of the questions about the item at hand a beginning was asked;
+/// where there is no such item, some of the bytes behind the last one were taken, or none.
 pub fn gate<R: Read, W: Write, P: Report, J: Judge>(
     alloc: Global,
     decoder: &mut Decoder<R>,

@@ -4,12 +4,12 @@ use Rattle.std.specs.Prelude.{Result, Ok, Err, IfOk}
 use Rattle.std.specs.Io.KnownBytes.{Consumes, Appends}
 use Rattle.std.proofs.KnownBytes.{Appends-trans}
 use Rattle.std.proofs.lemmas.Grind.{flat_map-append}
-use Rattle.ciborium_ll.specs.Reading.{Moves}
+use Rattle.ciborium_ll.specs.Reading.{Moves, Starts, Stops}
 use Rattle.ciborium_value.specs.Tree.{Tree}
 use Rattle.ciborium.specs.Front.{Reads}
 use Rattle.ciborium.specs.Items.{SequenceWithin}
 use Rattle.ciborium.specs.Damage.{end, deep, syntax, semantic, Damage}
-use Rattle.ciborium.specs.Reading.{IfKnown, IfEnd, FailsAt, IsNoMemory, fault_failures}
+use Rattle.ciborium.specs.Reading.{IfKnown, IfEnd, FailsAt, IsNoMemory, SomeTaken, fault_failures}
 use Rattle.ciborium.specs.declared.de.Error.{Error}
 use Rattle.ciborium.specs.declared.de.Error.TheVariants as de
 use Rattle.cose_gate_core.specs.declared.report.Entry.{Entry}
@@ -23,7 +23,7 @@ use Rattle.cose_gate_core.specs.Questions.{Question, MessageFields, questions}
 use Rattle.cose_gate_core.specs.Asked.{first_no, folded_over, IsFront}
 use Rattle.cose_gate_core.specs.Findings.{judged}
 use Rattle.cose_gate_core.specs.Run.{Step, Steps, judged_by, has_passed, passes, asked_of, written_of, questions_of, output_of, entries_of, passed_count, refused_count, Course}
-use Rattle.cose_gate_core.specs.Outcome.{Rules, Sight, Made, IsFaultOf, IsReadFault, Answers}
+use Rattle.cose_gate_core.specs.Outcome.{Rules, Sight, Made, IsFaultOf, IsReadFault, StandsIn, IsNoRead, Answers}
 use Rattle.cose_gate_core.specs.Passing.{WentThrough, Half, HalfWritten, ItemFails, at_end, stopped_by}
 use Rattle.coset_labels.specs.Limits.{nesting_of}
 use Rattle.cose_gate_core.specs.Terms.{IsTaken}
@@ -50,10 +50,6 @@ rest_known : (l : Option (List ℕ)) → IfKnown l (λ b. b ≡ rest_of l)
 rest_known None = tt
 rest_known (Some b) = refl
 
-rest_none : (l : Option (List ℕ)) → IfKnown l (λ b. b ≡ []) → rest_of l ≡ []
-rest_none None k = refl
-rest_none (Some b) k = k
-
 -- nothing is left behind what was consumed
 nothing_behind : (l l' m : Option (List ℕ)) (b : List ℕ) → Consumes l l' b → IfKnown l' (λ a. (a ≡ []) × (m ≡ Some [])) → IfKnown l (λ a. m ≡ Some [])
 nothing_behind None l' m b c k = tt
@@ -65,26 +61,60 @@ none_first : (Q : Type 0) (l : Option (List ℕ)) → IfKnown l (λ b. (b ≡ []
 none_first Q None k = tt
 none_first Q (Some b) k = k.0
 
-consumed : (l l' : Option (List ℕ)) (b : List ℕ) → Consumes l l' b → IfKnown l (λ a. a ≡ b ++ rest_of l')
-consumed None l' b c = tt
-consumed (Some a) None b c = absurd c
-consumed (Some a) (Some r) b c = c
+consumed : (l l' : Option (List ℕ)) (b more : List ℕ) → Consumes l l' b → IfKnown l' (λ r. r ≡ more) → IfKnown l (λ a. a ≡ b ++ more)
+consumed None l' b more c m = tt
+consumed (Some a) None b more c m = absurd c
+consumed (Some a) (Some r) b more c m = c ∙ ap (λ z. b ++ z) m
+
+-- of the bytes `more` that were to come some were taken, and where P the rest is left
+record Partly (l l' : Option (List ℕ)) (p p' : ℕ) (P : Type 0) : Type 0 where
+  pub more : List ℕ
+  pub is : IfKnown l (λ b. b ≡ more)
+  pub taken : List ℕ
+  pub rest : List ℕ
+  pub whole : more ≡ taken ++ rest
+  pub grown : p' ≡ p + length taken
+  pub behind : P → IfKnown l' (λ b. b ≡ rest)
+
+moved : (l l' : Option (List ℕ)) (p p' : ℕ) (P : Type 0) (Q : List ℕ → Type 0) → Moves l l' p p' Q → Partly l l' p p' P
+moved l l' p p' P Q t = record {
+  more = t.bytes ++ rest_of l';
+  is = consumed l l' t.bytes (rest_of l') t.taken (rest_known l');
+  taken = t.bytes;
+  rest = rest_of l';
+  whole = refl;
+  grown = t.grown;
+  behind = λ is. rest_known l';
+}
+
+-- what was taken of the bytes to come, and what follows it there
+stopped : (l l' : Option (List ℕ)) (p p' : ℕ) (P : Type 0) → (P → ⊥) → (b : List ℕ) → Starts l b → p' ≡ p + length b → Partly l l' p p' P
+stopped None l' p p' P not b s g = record { more = b; is = tt; taken = b; rest = []; whole = sym (append-nil b); grown = g; behind = λ is. absurd (not is) }
+stopped (Some a) l' p p' P not b s g = record { more = a; is = refl; taken = b; rest = s.0; whole = s.1; grown = g; behind = λ is. absurd (not is) }
+
+partly : {E : Type 0} (l l' : Option (List ℕ)) (p p' : ℕ) (e : Error E) → SomeTaken l l' p p' e → Partly l l' p p' (IsNoRead e)
+partly l l' p p' (de.Io x) s = stopped l l' p p' (IsNoRead (de.Io x)) (λ no. no x refl) s.bytes s.there s.grown
+partly l l' p p' (de.Syntax q) s = moved l l' p p' (IsNoRead (de.Syntax q)) (λ _. Unit {0}) s
+partly l l' p p' (de.Semantic o j) s = moved l l' p p' (IsNoRead (de.Semantic o j)) (λ _. Unit {0}) s
+partly l l' p p' de.RecursionLimitExceeded s = moved l l' p p' (IsNoRead de.RecursionLimitExceeded) (λ _. Unit {0}) s
+partly l l' p p' de.Memory s = moved l l' p p' (IsNoRead de.Memory) (λ _. Unit {0}) s
+partly l l' p p' de.TooLong s = moved l l' p p' (IsNoRead de.TooLong) (λ _. Unit {0}) s
 
 -- a fault of the bytes to come, seen from where the bytes began
-fault_from : {E : Type 0} (ends : E → Bool) (k : ℕ) (l l' : Option (List ℕ)) (b : List ℕ) (p p' : ℕ) (e : Error E) → Consumes l l' b → p' ≡ p + length b
-    → IfKnown l' (λ r. IsFaultOf ends k (p' + length r) r e) → IfKnown l (λ a. IsFaultOf ends k (p + length a) (rest_of l') e)
-fault_from ends k None l' b p p' e c g f = tt
-fault_from ends k (Some a) None b p p' e c g f = absurd c
-fault_from ends k (Some a) (Some r) b p p' e c g f =
+fault_from : {E : Type 0} (ends : E → Bool) (k : ℕ) (l l' : Option (List ℕ)) (b more : List ℕ) (p p' : ℕ) (e : Error E) → Consumes l l' b → IfKnown l' (λ r. r ≡ more)
+    → p' ≡ p + length b → IfKnown l' (λ r. IsFaultOf ends k (p' + length r) r e) → IfKnown l (λ a. IsFaultOf ends k (p + length a) more e)
+fault_from ends k None l' b more p p' e c m g f = tt
+fault_from ends k (Some a) None b more p p' e c m g f = absurd c
+fault_from ends k (Some a) (Some r) b more p p' e c m g f =
     let l : length a ≡ length b + length r = ap length c ∙ length-append b r in
     let s : p' + length r ≡ p + length a = omega arith in
-    subst (λ (n : ℕ). IsFaultOf ends k n r e) s f
+    subst (λ (z : List ℕ). IsFaultOf ends k (p + length a) z e) m (subst (λ (n : ℕ). IsFaultOf ends k n r e) s f)
 
 -- something is left behind what was consumed
-something_left : (l l' : Option (List ℕ)) (b : List ℕ) → Consumes l l' b → (l' ≡ Some [] → ⊥) → IfKnown l (λ a. rest_of l' ≢ [])
-something_left None l' b c some = tt
-something_left (Some a) None b c some = absurd c
-something_left (Some a) (Some r) b c some = λ e. some (ap Some e)
+something_left : (l l' : Option (List ℕ)) (b more : List ℕ) → Consumes l l' b → IfKnown l' (λ r. r ≡ more) → (l' ≡ Some [] → ⊥) → IfKnown l (λ a. more ≢ [])
+something_left None l' b more c m some = tt
+something_left (Some a) None b more c m some = absurd c
+something_left (Some a) (Some r) b more c m some = λ e. some (ap Some (m ∙ e))
 
 -- at an end the place lies behind all that was consumed, seen from where the bytes began
 end_behind : {E : Type 0} (ends : E → Bool) (P Q : Type 0) (l l' : Option (List ℕ)) (b : List ℕ) (e : Error E) → Consumes l l' b → (P → Q)
@@ -160,14 +190,14 @@ module _ {T S : Type 0} (rules : Rules T S) where
     pub stop : new.offset + length more ≡ old.offset + length input
 
   left_after : (old new : Sight T S) (steps : List Step) → Moves old.left new.left old.offset new.offset (λ (b : List ℕ). SequenceWithin rules.limits.nesting old.offset b (map (λ s. s.item) steps) [])
-      → Steps rules.limits rules.allows rules.aad 1 steps → (more : List ℕ) → rest_of new.left ≡ more → Left old new steps more
-  left_after old new steps t s more e =
+      → Steps rules.limits rules.allows rules.aad 1 steps → (more : List ℕ) → IfKnown new.left (λ r. r ≡ more) → Left old new steps more
+  left_after old new steps t s more m =
       let g = t.grown in
       let l : length (t.bytes ++ more) ≡ length t.bytes + length more = length-append t.bytes more in
       record {
         input = t.bytes ++ more;
-        is = subst (λ (m : List ℕ). IfKnown old.left (λ a. a ≡ t.bytes ++ m)) e (consumed old.left new.left t.bytes t.taken);
-        behind = subst (λ (m : List ℕ). IfKnown new.left (λ a. a ≡ m)) e (rest_known new.left);
+        is = consumed old.left new.left t.bytes more t.taken m;
+        behind = m;
         course = record { sequence = sequence_more rules.limits.nesting old.offset t.bytes more (map (λ s. s.item) steps) t.has; steps = s };
         stop = omega arith;
       }
@@ -180,7 +210,7 @@ module _ {T S : Type 0} (rules : Rules T S) where
   pub answer_whole : {E : Type 0} (ends : E → Bool) (old new newer : Sight T S) (counts : Counts) → Reached rules old new counts.passed counts.refused
       → newer.told ≡ new.told → newer.state ≡ new.state → newer.written ≡ new.written → IfKnown new.left (λ b. (b ≡ []) × (newer.left ≡ Some [])) × (newer.offset ≡ new.offset) → Answers ends rules old newer (Ok counts)
   answer_whole ends old new newer counts r told state writes (none, stays) =
-      let w = left_after old new r.done r.taken r.steps [] (rest_none new.left (none_first (newer.left ≡ Some []) new.left none)) in
+      let w = left_after old new r.done r.taken r.steps [] (none_first (newer.left ≡ Some []) new.left none) in
       record {
         input = w.input;
         is = w.is;
@@ -195,11 +225,24 @@ module _ {T S : Type 0} (rules : Rules T S) where
         };
       }
 
+  -- where the gate stands in what was to come behind the steps
+  stands_in : (old new newer : Sight T S) (P : Type 0) (input : List ℕ) (k : Partly new.left newer.left new.offset newer.offset P)
+      → new.offset + length k.more ≡ old.offset + length input → StandsIn k.more (old.offset + length input) newer P
+  stands_in old new newer P input k s = record {
+    taken = k.taken;
+    rest = k.rest;
+    whole = k.whole;
+    stands = (let l : length k.more ≡ length k.taken + length k.rest = ap length k.whole ∙ length-append k.taken k.rest in let g = k.grown in omega arith);
+    behind = k.behind;
+  }
+
   -- Memory, where all steps so far are made
   memory_between : {E : Type 0} (ends : E → Bool) (old new newer : Sight T S) (passed refused : ℕ) → Reached rules old new passed refused
-      → newer.told ≡ new.told → newer.state ≡ new.state → newer.written ≡ new.written → (new.left ≡ Some [] → ⊥) → Answers ends rules old newer (Err Memory)
-  memory_between ends old new newer passed refused r told state writes some =
-      let w = left_after old new r.done r.taken r.steps (rest_of new.left) refl in
+      → newer.told ≡ new.told → newer.state ≡ new.state → newer.written ≡ new.written → (new.left ≡ Some [] → ⊥)
+      → (Q : List ℕ → Type 0) → Moves new.left newer.left new.offset newer.offset Q → Answers ends rules old newer (Err Memory)
+  memory_between ends old new newer passed refused r told state writes some Q t =
+      let k = moved new.left newer.left new.offset newer.offset (Unit {0}) Q t in
+      let w = left_after old new r.done r.taken r.steps k.more k.is in
       let m = still old new newer r.done told state writes r.made in
       record {
         input = w.input;
@@ -208,8 +251,8 @@ module _ {T S : Type 0} (rules : Rules T S) where
           done = r.done;
           last = [];
           one = omega arith;
-          more = rest_of new.left;
-          course = subst (λ (ss : List Step). Course rules.limits rules.allows rules.aad old.offset w.input ss (rest_of new.left)) (sym (append-nil r.done)) w.course;
+          more = k.more;
+          course = subst (λ (ss : List Step). Course rules.limits rules.allows rules.aad old.offset w.input ss k.more) (sym (append-nil r.done)) w.course;
           asked = [];
           asked_front = front_then [] (questions_of rules.allows rules.aad []) (questions_of rules.allows rules.aad []) refl;
           told = m.told ∙ ap (folded_over rules.decided old.told) (sym (append-nil (questions_of rules.allows rules.aad r.done)));
@@ -217,34 +260,37 @@ module _ {T S : Type 0} (rules : Rules T S) where
           texts = r.done;
           texts_are = inl refl;
           written = m.written;
-          due = λ none. something_left old.left new.left r.taken.bytes r.taken.taken some;
+          due = λ none. something_left old.left new.left r.taken.bytes k.more r.taken.taken k.is some;
           stands = λ one. absurd (one refl);
           behind = λ one. absurd (one refl);
+          between = λ none. stands_in old new newer (Unit {0}) w.input k w.stop;
         };
       }
 
   -- the fault of the bytes, or Memory of the reader
   pub answer_read : {E : Type 0} (ends : E → Bool) (old new newer : Sight T S) (passed refused : ℕ) → Reached rules old new passed refused
-      → newer.told ≡ new.told → newer.state ≡ new.state → newer.written ≡ new.written → (f : GateFault E) → IsReadFault ends rules.limits.nesting new.left new.offset newer.offset f
+      → newer.told ≡ new.told → newer.state ≡ new.state → newer.written ≡ new.written → (f : GateFault E) → IsReadFault ends rules.limits.nesting new.left newer.left new.offset newer.offset f
       → (new.left ≡ Some [] → f ≢ Memory) → Answers ends rules old newer (Err f)
   answer_read ends old new newer passed refused r told state writes (Decode e) d some =
-      let w = left_after old new r.done r.taken r.steps (rest_of new.left) refl in
+      let k = partly new.left newer.left new.offset newer.offset e d.3 in
+      let w = left_after old new r.done r.taken r.steps k.more k.is in
       record {
         input = w.input;
         is = w.is;
         outcome = record {
           steps = r.done;
-          more = rest_of new.left;
+          more = k.more;
           course = w.course;
           made = still old new newer r.done told state writes r.made;
           no_memory = d.0;
-          fault = fault_from ends rules.limits.nesting old.left new.left r.taken.bytes old.offset new.offset e r.taken.taken r.taken.grown d.1;
-          behind = (let s = w.stop in end_behind ends (new.offset < newer.offset) (old.offset + length w.input < newer.offset + length (rest_of new.left))
+          fault = fault_from ends rules.limits.nesting old.left new.left r.taken.bytes k.more old.offset new.offset e r.taken.taken k.is r.taken.grown d.1;
+          behind = (let s = w.stop in end_behind ends (new.offset < newer.offset) (old.offset + length w.input < newer.offset + length k.more)
               old.left new.left r.taken.bytes e r.taken.taken (λ less. omega arith) d.2);
+          stands = stands_in old new newer (IsNoRead e) w.input k w.stop;
         };
       }
   answer_read ends old new newer passed refused r told state writes Write d some = absurd d
-  answer_read ends old new newer passed refused r told state writes Memory d some = memory_between ends old new newer passed refused r told state writes (λ none. some none refl)
+  answer_read ends old new newer passed refused r told state writes Memory d some = memory_between ends old new newer passed refused r told state writes (λ none. some none refl) (λ _. Unit {0}) d
 
   -- Memory, where the judge was told a beginning of the questions about one more message
   memory_asking : {E : Type 0} (ends : E → Bool) (old new newer : Sight T S) (passed refused : ℕ) → Reached rules old new passed refused
@@ -254,7 +300,7 @@ module _ {T S : Type 0} (rules : Rules T S) where
   memory_asking ends old new newer passed refused r v t h state writes =
       let s = judged_step (passed + refused + 1) new.offset t.bytes v h.message in
       let f = further rules old new newer passed refused r v t (judged h.message) (judged_by (first_no rules.allows (questions h.message rules.aad))) h.is refl in
-      let w = left_after old newer (r.done ++ s ∷ []) f.taken f.steps (rest_of newer.left) refl in
+      let w = left_after old newer (r.done ++ s ∷ []) f.taken f.steps (rest_of newer.left) (rest_known newer.left) in
       record {
         input = w.input;
         is = w.is;
@@ -274,6 +320,7 @@ module _ {T S : Type 0} (rules : Rules T S) where
           due = λ none. cc;
           stands = λ one. w.stop;
           behind = λ one. w.behind;
+          between = λ none. cc;
         };
       }
 
@@ -285,7 +332,7 @@ module _ {T S : Type 0} (rules : Rules T S) where
   write_within ends old new newer passed refused r v t h state =
       let s = judged_step (passed + refused + 1) new.offset t.bytes v h.message in
       let f = further rules old new newer passed refused r v t (judged h.message) (judged_by (first_no rules.allows (questions h.message rules.aad))) h.is refl in
-      let w = left_after old newer (r.done ++ s ∷ []) f.taken f.steps (rest_of newer.left) refl in
+      let w = left_after old newer (r.done ++ s ∷ []) f.taken f.steps (rest_of newer.left) (rest_known newer.left) in
       record {
         input = w.input;
         is = w.is;
@@ -312,6 +359,7 @@ module _ {T S : Type 0} (rules : Rules T S) where
   answer_item ends old new newer passed refused r v t fault.Write h state = write_within ends old new newer passed refused r v t h state
   answer_item ends old new newer passed refused r v t fault.Memory (writes, inl told) state =
       memory_between ends old new newer passed refused r told state writes (λ none. nothing_read rules.limits.nesting new.left newer.left new.offset newer.offset v none t)
+          (λ (b : List ℕ). Reads b rules.limits.nesting v) t
   answer_item ends old new newer passed refused r v t fault.Memory (writes, inr half) state = memory_asking ends old new newer passed refused r v t half state writes
 
   -- Memory, where the item went through and the report refused its entry
@@ -322,7 +370,7 @@ module _ {T S : Type 0} (rules : Rules T S) where
   answer_noting ends old new newer passed refused r v t verdict k state =
       let s = step_at new.offset t.bytes v k.finding (entry_at (passed + refused + 1) new.offset verdict) in
       let f = further rules old new newer passed refused r v t k.finding verdict k.finds k.verdict in
-      let w = left_after old newer (r.done ++ s ∷ []) f.taken f.steps (rest_of newer.left) refl in
+      let w = left_after old newer (r.done ++ s ∷ []) f.taken f.steps (rest_of newer.left) (rest_known newer.left) in
       record {
         input = w.input;
         is = w.is;
@@ -343,6 +391,7 @@ module _ {T S : Type 0} (rules : Rules T S) where
           due = λ none. cc;
           stands = λ one. w.stop;
           behind = λ one. w.behind;
+          between = λ none. cc;
         };
       }
 

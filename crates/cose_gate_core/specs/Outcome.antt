@@ -5,7 +5,7 @@ use Rattle.ciborium_ll.specs.Reading.{Moves}
 use Rattle.ciborium_value.specs.declared.value.Value.{Value}
 use Rattle.ciborium_value.specs.View.{view}
 use Rattle.ciborium.specs.Damage.{end, deep, syntax, semantic, Damage}
-use Rattle.ciborium.specs.Reading.{IfKnown, IfEnd, IsNoMemory}
+use Rattle.ciborium.specs.Reading.{IfKnown, IfEnd, IsNoMemory, SomeTaken}
 use Rattle.ciborium.specs.declared.de.Error.{Error}
 use Rattle.ciborium.specs.declared.de.Error.TheVariants as de
 use Rattle.cose_gate_core.specs.Questions.{Question}
@@ -64,15 +64,32 @@ IsNext terms left left' at at' (Some r) =
     Moves left left' at at' (λ b. IsTaken terms b (view r.0) r.1)
 
 -- what reading the next item ends with, at the offset at' then: a fault of the bytes that were to
--- come, where they are known, or want of memory. At an end some of them were taken.
-abbrev pub IsReadFault : {E : Type 0} → (E → Bool) → ℕ → Option (List ℕ) → ℕ → ℕ → GateFault E
-    → Type 0
-IsReadFault ends n left at at' (Decode e) =
+-- come, where they are known, or want of memory. Some of these bytes were taken, or none, but at an
+-- end some were.
+abbrev pub IsReadFault : {E : Type 0} → (E → Bool) → ℕ → Option (List ℕ) → Option (List ℕ) → ℕ → ℕ
+    → GateFault E → Type 0
+IsReadFault ends n left left' at at' (Decode e) =
     IsNoMemory e
     × IfKnown left (λ b. IsFaultOf ends n (at + length b) b e)
     × IfKnown left (λ b. IfEnd ends (at < at') e)
-IsReadFault ends n left at at' Write = ⊥
-IsReadFault ends n left at at' Memory = Unit {0}
+    × SomeTaken left left' at at' e
+IsReadFault ends n left left' at at' Write = ⊥
+IsReadFault ends n left left' at at' Memory = Moves left left' at at' (λ _. Unit {0})
+
+-- the gate stands in the bytes `more`, which end at the place `stop`: some of them were taken, none
+-- or all as it may be, and the offset is as far before `stop` as the rest of them is long. Where P,
+-- it is this rest that is left, as far as that is known.
+pub record StandsIn {T S : Type 0} (more : List ℕ) (stop : ℕ) (new : Sight T S)
+    (P : Type 0) : Type 0 where
+  pub taken : List ℕ
+  pub rest : List ℕ
+  pub whole : more ≡ taken ++ rest
+  pub stands : new.offset + length rest ≡ stop
+  pub behind : P → IfKnown new.left (λ b. b ≡ rest)
+
+-- the fault isn't one of the reader, and no end of it
+abbrev pub IsNoRead : {E : Type 0} → Error E → Type 0
+IsNoRead {E} e = (x : E) → e ≢ de.Io x
 
 -- Ok: the steps go through the whole input, all of them were made, the offset has grown by all
 -- bytes, and the reader tells that nothing is left, where it tells what is to come
@@ -86,8 +103,9 @@ pub record Whole {T S : Type 0} (rules : Rules T S) (old new : Sight T S) (input
   pub grown : new.offset ≡ old.offset + length input
   pub ended : IfKnown old.left (λ b. new.left ≡ Some [])
 
--- Decode: the steps go up to where the fault stands, and all of them were made. At an end the
--- offset is behind that place: some bytes of the item that is cut were taken.
+-- Decode: the steps go up to where the fault stands, and all of them were made. Of the bytes `more`,
+-- which begin there, some were taken, or none, but at an end some; the rest is left, but where the
+-- reader failed or came to an end.
 pub record IfDecodeFailed {T S E : Type 0} (ends : E → Bool) (rules : Rules T S)
     (old new : Sight T S) (input : List ℕ) (e : Error E) : Type 0 where
   pub steps : List Step
@@ -99,6 +117,7 @@ pub record IfDecodeFailed {T S E : Type 0} (ends : E → Bool) (rules : Rules T 
       IsFaultOf ends rules.limits.nesting (old.offset + length b) more e)
   pub behind : IfKnown old.left (λ b.
       IfEnd ends (old.offset + length input < new.offset + length more) e)
+  pub stands : StandsIn more (old.offset + length input) new (IsNoRead e)
 
 -- Write: `done` were made; the message of the next step passes, all was asked about it, and a
 -- beginning of its text was written. The offset is the one behind its item, and `more` is to come.
@@ -120,8 +139,8 @@ pub record IfWriteFailed {T S : Type 0} (rules : Rules T S) (old new : Sight T S
 
 -- Memory: `done` were made; of the questions of the next step a beginning was asked, and its text
 -- was written whole or not at all. The offset is the one behind its item then, and `more` is to
--- come. Where there is no such step, an item was due: it was being read, or looked at, and it is
--- open how much was taken behind the last item that was done.
+-- come. Where there is no such step, an item was due: it was being read, or looked at, and some of
+-- the bytes `more` were taken, the rest is left.
 pub record IfMemoryRefused {T S : Type 0} (rules : Rules T S) (old new : Sight T S)
     (input : List ℕ) : Type 0 where
   pub done : List Step
@@ -141,6 +160,7 @@ pub record IfMemoryRefused {T S : Type 0} (rules : Rules T S) (old new : Sight T
   pub due : last ≡ [] → IfKnown old.left (λ b. more ≢ [])
   pub stands : last ≢ [] → new.offset + length more ≡ old.offset + length input
   pub behind : last ≢ [] → IfKnown new.left (λ b. b ≡ more)
+  pub between : last ≡ [] → StandsIn more (old.offset + length input) new (Unit {0})
 
 abbrev pub Outcome : {T S E : Type 0} → (E → Bool) → Rules T S → Sight T S → Sight T S → List ℕ
     → Result Counts (GateFault E) → Type 0

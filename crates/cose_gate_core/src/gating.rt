@@ -2,7 +2,7 @@
 ghost use Rattle.std.specs.Prelude.{◌≡◌, ◌≢◌, ◌+◌, ◌<◌, ◌^◌, [], Some, None, Ok, Err};
 ghost use Rattle.std.specs.Prelude.{IsOk, IfOk, IfErr, OnOk, true, not, if◌then◌else◌};
 ghost use Rattle.ciborium.specs.Damage.{Damage};
-ghost use Rattle.ciborium.specs.Reading.{NamesFault, Steady, IsNoMemory, IfEnd};
+ghost use Rattle.ciborium.specs.Reading.{NamesFault, Steady, TakesSome, IsNoMemory, IfEnd};
 ghost use Rattle.ciborium_ll.specs.Seen.{Takes};
 ghost use Rattle.ciborium_ll.specs.Views.{left_of, offset_of, waiting_of, reader_of, seen};
 ghost use Rattle.ciborium_value.specs.View.{view};
@@ -119,6 +119,7 @@ fn read_item<R: Read>(
     ensures some { left_of R.left decoder.old ≡ Some [] → OnOk result ⊥ }
     ensures ended { left_of R.left decoder.old ≡ Some []
         → IfErr result (IfEnd R.ends (left_of R.left decoder.new ≡ Some [])) }
+    ensures stops { IfErr result (TakesSome (seen R.Read decoder.old) (seen R.Read decoder.new)) }
     ensures steady { Steady R.ends result (seen R.Read decoder.old) (seen R.Read decoder.new) }
     ensures fits { offset_of decoder.new < 2 ^ 64 }
 {
@@ -141,7 +142,8 @@ fn next_item<R: Read>(
         (left_of R.left decoder.old) (left_of R.left decoder.new)
         (offset_of decoder.old) (offset_of decoder.new)) }
     ensures err { IfErr result (IsReadFault R.ends (nesting_of terms.limits)
-        (left_of R.left decoder.old) (offset_of decoder.old) (offset_of decoder.new)) }
+        (left_of R.left decoder.old) (left_of R.left decoder.new)
+        (offset_of decoder.old) (offset_of decoder.new)) }
     ensures nothing { left_of R.left decoder.old ≡ Some []
         → R.failed (reader_of decoder.new) ≡ R.failed (reader_of decoder.old)
         → offset_of decoder.old + 4096 < 2 ^ 64 → result ≡ Ok None }
@@ -251,12 +253,13 @@ fn gate_by<R: Read, W: Write, P: Report, J: Judge>(
 ///
 /// # Errors
 /// `Decode` where no readable item begins: all items before it were asked about, noted and written.
-/// How much of it was taken is open, but that an item which is cut lost some bytes; so don't read on
-/// from there. `Decode` also where the reader failed: then all that was asked, noted and written are
-/// the first items. `Write` where the writer failed: a beginning of the text of a message was written
-/// behind the output before it, and the reader stands behind that message. `Memory` where memory was
-/// refused: whole texts were written, and of the questions about the item at hand a beginning was
-/// asked.
+/// Of the bytes behind these some were taken, or none, but of an item that is cut some; the offset
+/// has grown by their count. They may end inside an item, so don't read on from there. `Decode` also
+/// where the reader failed: then all that was asked, noted and written are the first items. `Write`
+/// where the writer failed: a beginning of the text of a message was written behind the output
+/// before it, and the reader stands behind that message. `Memory` where memory was refused: whole
+/// texts were written, and of the questions about the item at hand a beginning was asked; where
+/// there is no such item, some of the bytes behind the last one were taken, or none.
 pub fn gate<R: Read, W: Write, P: Report, J: Judge>(
     alloc: Global,
     decoder: &mut Decoder<R>,
