@@ -32,7 +32,7 @@ entry_field es l v m e q w = passed_on (WrongField v m) (WrongEntry es l v) e (�
 pub known_filled : (es : List (Named × Tree)) (l v : Tree) (s r : SeenLabels ClaimName) (old new : ClaimsSet) (m : Named)
     → KnownIn es s old → name_of l ≡ Some m → (IsIn m es → ⊥) → ((v : Tree) → Sees r (es ++ (m, v) ∷ [])) → Fills m v (claims_view old) (claims_view new) → Added es l v r new
 known_filled es l v s r old new m w q d z f = record {
-  name = m;
+  key = m;
   is = q;
   known = record {
     sees = z v;
@@ -56,7 +56,7 @@ claims_have t ps c q w = (ps, w.es, q, w.entries_are, w.known.distinct, w.known.
 
 pub entries_pushed : (xs : List (Value × Value)) (x : Value × Value) (es : List (Named × Tree)) (s : SeenLabels ClaimName) (c : ClaimsSet)
     → entries (view_pairs xs) ≡ Some es → Added es (view x.0) (view x.1) s c → (fs : List (Named × Tree)) × (entries (view_pairs (xs ++ x ∷ [])) ≡ Some fs) × KnownIn fs s c
-entries_pushed xs x es s c r a = (es ++ (a.name, view x.1) ∷ [], entry_read name_of xs x es a.name r a.is, a.known)
+entries_pushed xs x es s c r a = (es ++ (a.key, view x.1) ∷ [], entry_read name_of xs x es a.key r a.is, a.known)
 
 pub none_known : (s : SeenLabels ClaimName) (c : ClaimsSet) → Sees s [] → claims_view c ≡ no_claims → KnownIn [] s c
 none_known s c w e = record { sees = w; known = record { distinct = tt; claims = subst (IsClaims []) (sym e) none_set } }

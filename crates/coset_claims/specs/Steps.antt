@@ -53,15 +53,12 @@ pub record Known (es : List (Named × Tree)) (c : ClaimsFields) : Type 0 where
   pub claims : IsClaims es c
 
 -- and so are the names that were seen
-pub record KnownIn (es : List (Named × Tree)) (s : SeenLabels ClaimName) (c : ClaimsSet) : Type 0 where
-  pub sees : Sees s es
-  pub known : Known es (claims_view c)
+abbrev pub KnownIn : List (Named × Tree) → SeenLabels ClaimName → ClaimsSet → Type 0
+KnownIn = walks.KnownIn Sees (λ fs c. Known fs (claims_view c))
 
 -- one more entry is read
-pub record Added (es : List (Named × Tree)) (l v : Tree) (s : SeenLabels ClaimName) (c : ClaimsSet) : Type 0 where
-  pub name : Named
-  pub is : name_of l ≡ Some name
-  pub known : KnownIn (es ++ (name, v) ∷ []) s c
+abbrev pub Added : List (Named × Tree) → Tree → Tree → SeenLabels ClaimName → ClaimsSet → Type 0
+Added = walks.Added name_of Sees (λ fs c. Known fs (claims_view c))
 
 -- the fields of all entries of a map
 abbrev pub HasEntries : Pairs → ClaimsFields → Type 0

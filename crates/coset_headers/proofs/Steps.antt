@@ -65,7 +65,7 @@ known_more n es p q ss us k m v w d pl sg = record { distinct = distinct_snoc es
 pub known_filled : (n : ℕ) (es : List (LabelFields × Tree)) (l v : Tree) (seen : SeenLabels Label) (old new : HeaderParts) (k : ℕ) (m : LabelFields)
     → Known n es (plain_of old) (signs_of old) k → label_of l ≡ Some m → (IsIn m es → ⊥) → ((v : Tree) → Sees seen (es ++ (m, v) ∷ [])) → is_at 7 m ≡ false → Filled m v old new → Added n es l v seen new k
 known_filled n es l v seen old new k m w q d z s f = record {
-  label = m;
+  key = m;
   is = q;
   known = record {
     sees = z v;
@@ -81,7 +81,7 @@ pub known_signed : (n : ℕ) (es : List (LabelFields × Tree)) (l v : Tree) (see
 known_signed n es l v seen old new k m ss w q d z s g a b =
     let e = is_at_is 7 m s in
     record {
-      label = m;
+      key = m;
       is = q;
       known = record {
         sees = z v;
@@ -94,7 +94,7 @@ known_signed n es l v seen old new k m ss w q d z s g a b =
 pub entries_pushed : (n : ℕ) (xs : List (Value × Value)) (x : Value × Value) (es : List (LabelFields × Tree)) (s : SeenLabels Label) (p : HeaderParts) (k : ℕ)
     → entries (view_pairs xs) ≡ Some es → Added n es (view x.0) (view x.1) s p k → (fs : List (LabelFields × Tree)) × (entries (view_pairs (xs ++ x ∷ [])) ≡ Some fs) × KnownIn n fs s p k
 entries_pushed n xs x es s p k r a =
-    (es ++ (a.label, view x.1) ∷ [], entry_read label_of xs x es a.label r a.is, a.known)
+    (es ++ (a.key, view x.1) ∷ [], entry_read label_of xs x es a.key r a.is, a.known)
 
 pub header_none : (n : ℕ) (p : Plain) (ss : Signatures) (k : ℕ) → Known n [] p ss k → header p ss ≡ no_header
 header_none n p ss k w = let a = plain_once [] p no_plain w.plain none_plain in let b = signed_once n ss no_signatures None k w.signed refl in λ i. header (a i) (b i)

@@ -10,6 +10,7 @@ use Rattle.coset_labels.specs.Kinds.{some_bytes}
 use Rattle.coset_labels.specs.Labels.{label_of}
 use Rattle.coset_labels.specs.Orders.{label_cmp}
 use Rattle.coset_labels.specs.SeenLabels as keys
+use Rattle.coset_labels.specs.Walks as walks
 use Rattle.coset_labels.specs.View.{label_view, registered_view, named_view}
 use Rattle.coset_labels.specs.declared.label.Label.{Label}
 use Rattle.coset_labels.specs.declared.seen_labels.SeenLabels.{SeenLabels}
@@ -43,15 +44,12 @@ pub record Known (n : ℕ) (es : List (LabelFields × Tree)) (p : Plain) (ss : S
   pub signed : HasSigned n (at 7 es) ss k
 
 -- and so are the labels that were seen
-pub record KnownIn (n : ℕ) (es : List (LabelFields × Tree)) (s : SeenLabels Label) (p : HeaderParts) (k : ℕ) : Type 0 where
-  pub sees : Sees s es
-  pub known : Known n es (plain_of p) (signs_of p) k
+abbrev pub KnownIn : ℕ → List (LabelFields × Tree) → SeenLabels Label → HeaderParts → ℕ → Type 0
+KnownIn n es s p k = walks.KnownIn Sees (λ fs q. Known n fs (plain_of q) (signs_of q) k) es s p
 
 -- one more entry is read
-pub record Added (n : ℕ) (es : List (LabelFields × Tree)) (l v : Tree) (s : SeenLabels Label) (p : HeaderParts) (k : ℕ) : Type 0 where
-  pub label : LabelFields
-  pub is : label_of l ≡ Some label
-  pub known : KnownIn n (es ++ (label, v) ∷ []) s p k
+abbrev pub Added : ℕ → List (LabelFields × Tree) → Tree → Tree → SeenLabels Label → HeaderParts → ℕ → Type 0
+Added n es l v s p k = walks.Added label_of Sees (λ fs q. Known n fs (plain_of q) (signs_of q) k) es l v s p
 
 -- the entry gives one field, and the others stay
 pub data Fills (l : LabelFields) (v : Tree) (p q : Plain) : Type 0 where

@@ -85,13 +85,13 @@ entry_value es l v m e q w = passed_on (WrongValue v m) (WrongEntry es l v) e (�
 
 pub entry_added : (es : List (LabelFields × Tree)) (l v : Tree) (s : SeenLabels Label) (old new : CoseKey) (m : LabelFields) → Known es (key_view old) → label_of l ≡ Some m → (IsIn m es → ⊥)
     → ((v : Tree) → Sees s (es ++ (m, v) ∷ [])) → Fills m v (key_view old) (key_view new) → Added es l v s new
-entry_added es l v s old new m w q d z f = record { label = m; is = q; known = record { sees = z v; known = known_more es (key_view old) (key_view new) m v w d f } }
+entry_added es l v s old new m w q d z f = record { key = m; is = q; known = record { sees = z v; known = known_more es (key_view old) (key_view new) m v w d f } }
 
 -- ---- the entries of a map
 pub entries_pushed : (xs : List (Value × Value)) (x : Value × Value) (es : List (LabelFields × Tree)) (s : SeenLabels Label) (k : CoseKey) → entries (view_pairs xs) ≡ Some es → Added es (view x.0) (view x.1) s k
     → (fs : List (LabelFields × Tree)) × (entries (view_pairs (xs ++ x ∷ [])) ≡ Some fs) × KnownIn fs s k
 entries_pushed xs x es s k r a =
-    (es ++ (a.label, view x.1) ∷ [], entry_read label_of xs x es a.label r a.is, a.known)
+    (es ++ (a.key, view x.1) ∷ [], entry_read label_of xs x es a.key r a.is, a.known)
 
 -- ---- a key
 pub key_kind : (t : Tree) (e : CoseError) → (fault_of e ≡ unexpected) × (is_map t ≡ false) → OrMemory (WrongKey t) e

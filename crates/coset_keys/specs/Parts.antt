@@ -30,15 +30,12 @@ pub record Known (es : List (LabelFields × Tree)) (k : KeyFields) : Type 0 wher
   pub fields : AreFields es k
 
 -- and so are the labels that were seen
-pub record KnownIn (es : List (LabelFields × Tree)) (s : SeenLabels Label) (k : CoseKey) : Type 0 where
-  pub sees : Sees s es
-  pub known : Known es (key_view k)
+abbrev pub KnownIn : List (LabelFields × Tree) → SeenLabels Label → CoseKey → Type 0
+KnownIn = walks.KnownIn Sees (λ fs k. Known fs (key_view k))
 
 -- one more entry is read
-pub record Added (es : List (LabelFields × Tree)) (l v : Tree) (s : SeenLabels Label) (k : CoseKey) : Type 0 where
-  pub label : LabelFields
-  pub is : label_of l ≡ Some label
-  pub known : KnownIn (es ++ (label, v) ∷ []) s k
+abbrev pub Added : List (LabelFields × Tree) → Tree → Tree → SeenLabels Label → CoseKey → Type 0
+Added = walks.Added label_of Sees (λ fs k. Known fs (key_view k))
 
 -- the fields of all entries of a map
 abbrev pub HasEntries : Pairs → KeyFields → Type 0
