@@ -112,7 +112,7 @@ impl CoseMac {
             (λ b. AnswersWhere V.FnOnce verifier self.now.tag.items
             (mac_covered_with (mac_view self.now) b.items aad.now) result) }
     {
-        let data = self.tbm_data(alloc, aad)?;
+        let data = self.covered(alloc, content_bytes(&self.payload), aad)?;
         verifier(self.tag.as_slice(), data.as_slice()).map_err(Fault::Caller)
     }
 

@@ -106,7 +106,7 @@ impl CoseMac0 {
             (λ b. AnswersWhere V.FnOnce verifier self.now.tag.items
             (mac0_covered_with (mac0_view self.now) b.items aad.now) result) }
     {
-        let data = self.tbm_data(alloc, aad)?;
+        let data = self.covered(alloc, content_bytes(&self.payload), aad)?;
         verifier(self.tag.as_slice(), data.as_slice()).map_err(Fault::Caller)
     }
 
