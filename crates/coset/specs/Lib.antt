@@ -1,5 +1,6 @@
 pub use Rattle.coset_messages.specs.Damage
 pub use Rattle.coset_messages.specs.Front
+pub use Rattle.coset_messages.specs.Canonical
 pub use Rattle.coset_messages.specs.Encoding
 pub use Rattle.coset_messages.specs.Tree
 pub use Rattle.coset_messages.specs.ValueView
@@ -24,6 +25,7 @@ pub use Rattle.coset_messages.specs.CoseSignature
 pub use Rattle.coset_messages.specs.Header
 pub use Rattle.coset_messages.specs.ProtectedHeader
 pub use Rattle.coset_messages.specs.Arrays
+pub use Rattle.coset_messages.specs.Converting
 pub use Rattle.coset_messages.specs.Faults
 pub use Rattle.coset_messages.specs.LabelFields
 pub use Rattle.coset_messages.specs.Kinds
@@ -32,6 +34,7 @@ pub use Rattle.coset_messages.specs.LimitsView
 pub use Rattle.coset_messages.specs.Names
 pub use Rattle.coset_messages.specs.Orders
 pub use Rattle.coset_messages.specs.Reading
+pub use Rattle.coset_messages.specs.Told
 pub use Rattle.coset_messages.specs.LabelView
 pub use Rattle.coset_messages.specs.CoseError
 pub use Rattle.coset_messages.specs.EndOfFile
@@ -42,11 +45,13 @@ pub use Rattle.coset_messages.specs.RegisteredLabel
 pub use Rattle.coset_messages.specs.RegisteredLabelWithPrivate
 pub use Rattle.coset_messages.specs.Calls
 pub use Rattle.coset_messages.specs.PartShapes
+pub use Rattle.coset_messages.specs.PartsShort
 pub use Rattle.coset_messages.specs.PartsWritten
 pub use Rattle.coset_messages.specs.WrongParts
 pub use Rattle.coset_messages.specs.RecipientBuilders
 pub use Rattle.coset_messages.specs.RecipientFields
 pub use Rattle.coset_messages.specs.RecipientShapes
+pub use Rattle.coset_messages.specs.RecipientShort
 pub use Rattle.coset_messages.specs.RecipientStructure
 pub use Rattle.coset_messages.specs.RecipientView
 pub use Rattle.coset_messages.specs.RecipientWritten
@@ -56,6 +61,7 @@ pub use Rattle.coset_messages.specs.CoseRecipientBuilder
 pub use Rattle.coset_messages.specs.Added
 pub use Rattle.coset_messages.specs.SignedFields
 pub use Rattle.coset_messages.specs.SignedShapes
+pub use Rattle.coset_messages.specs.SignedShort
 pub use Rattle.coset_messages.specs.SignedStructure
 pub use Rattle.coset_messages.specs.SignedBuilders
 pub use Rattle.coset_messages.specs.SignedView
@@ -68,6 +74,7 @@ pub use Rattle.coset_messages.specs.CoseSignBuilder
 pub use Rattle.coset_messages.specs.MacedBuilders
 pub use Rattle.coset_messages.specs.MacedFields
 pub use Rattle.coset_messages.specs.MacedShapes
+pub use Rattle.coset_messages.specs.MacedShort
 pub use Rattle.coset_messages.specs.MacedStructure
 pub use Rattle.coset_messages.specs.MacedView
 pub use Rattle.coset_messages.specs.MacedWritten
@@ -79,6 +86,7 @@ pub use Rattle.coset_messages.specs.CoseMacBuilder
 pub use Rattle.coset_messages.specs.EncryptedBuilders
 pub use Rattle.coset_messages.specs.EncryptedFields
 pub use Rattle.coset_messages.specs.EncryptedShapes
+pub use Rattle.coset_messages.specs.EncryptedShort
 pub use Rattle.coset_messages.specs.EncryptedStructure
 pub use Rattle.coset_messages.specs.EncryptedView
 pub use Rattle.coset_messages.specs.EncryptedWritten

@@ -1,5 +1,6 @@
 pub use Rattle.ciborium.specs.Damage
 pub use Rattle.ciborium.specs.Front
+pub use Rattle.ciborium_value.specs.Canonical
 pub use Rattle.ciborium_value.specs.Encoding
 pub use Rattle.ciborium_value.specs.Tree
 pub use Rattle.ciborium_value.specs.View as ValueView
@@ -24,6 +25,7 @@ pub use Rattle.coset_headers.specs.declared.header.CoseSignature
 pub use Rattle.coset_headers.specs.declared.header.Header
 pub use Rattle.coset_headers.specs.declared.header.ProtectedHeader
 pub use Rattle.coset_labels.specs.Arrays
+pub use Rattle.coset_labels.specs.Converting
 pub use Rattle.coset_labels.specs.Faults
 pub use Rattle.coset_labels.specs.Fields as LabelFields
 pub use Rattle.coset_labels.specs.Kinds
@@ -32,6 +34,7 @@ pub use Rattle.coset_labels.specs.Limits as LimitsView
 pub use Rattle.coset_labels.specs.Names
 pub use Rattle.coset_labels.specs.Orders
 pub use Rattle.coset_labels.specs.Reading
+pub use Rattle.coset_labels.specs.Told
 pub use Rattle.coset_labels.specs.View as LabelView
 pub use Rattle.coset_labels.specs.declared.error.CoseError
 pub use Rattle.coset_labels.specs.declared.error.EndOfFile

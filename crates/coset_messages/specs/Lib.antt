@@ -1,6 +1,6 @@
 pub use Rattle.coset_base.specs.Damage
 pub use Rattle.coset_base.specs.Front
-pub use Rattle.ciborium_value.specs.Canonical
+pub use Rattle.coset_base.specs.Canonical
 pub use Rattle.coset_base.specs.Encoding
 pub use Rattle.coset_base.specs.Tree
 pub use Rattle.coset_base.specs.ValueView
@@ -33,8 +33,8 @@ pub use Rattle.coset_base.specs.LimitsView
 pub use Rattle.coset_base.specs.Names
 pub use Rattle.coset_base.specs.Orders
 pub use Rattle.coset_base.specs.Reading
-pub use Rattle.coset_labels.specs.Converting
-pub use Rattle.coset_labels.specs.Told
+pub use Rattle.coset_base.specs.Converting
+pub use Rattle.coset_base.specs.Told
 pub use Rattle.coset_base.specs.LabelView
 pub use Rattle.coset_base.specs.CoseError
 pub use Rattle.coset_base.specs.EndOfFile
