@@ -230,8 +230,7 @@ module _ {T S : Type 0} (by : Rules T S) (old new : Sight T S) where
       asked_at by.limits by.allows by.aad (devices old.left old.written n f) (devices new.left new.written n' f') w.steps w.more e reads
       (fault_at is_end by.limits.nesting old.offset w.more e old.left z w.fault)
   asked_over n n' f f' b (Err gating.Write) w z reads writes = refl
-  asked_over n n' f f' b (Err gating.Memory) w z reads writes =
-      (
+  asked_over n n' f f' b (Err gating.Memory) w z reads writes = (
     front_then (questions_of by.allows by.aad w.done) w.asked (questions_of by.allows by.aad w.done ++ w.asked) refl,
     front_within (questions_of by.allows by.aad w.done) w.asked (questions_of by.allows by.aad w.last)
         (questions_of by.allows by.aad (w.done ++ w.last)) (questions_then by.allows by.aad w.done w.last) w.asked_front,
@@ -358,7 +357,7 @@ module _ (limits : Bounds) (allows : Question → Bool) (aad : List ℕ) (old mi
   asked_flushed (no_item why all) asked a = a
   asked_flushed (memory done last parts one due behind texts) asked a = a
 
-heard_then : {T : Type 0} {hearing : Hearing T} {aad : List ℕ} {steps : List Step} {P Q : Type 0} → Heard hearing aad steps P → (Q → P)
+abbrev heard_then : {T : Type 0} {hearing : Hearing T} {aad : List ℕ} {steps : List Step} {P Q : Type 0} → Heard hearing aad steps P → (Q → P)
     → Heard hearing aad steps Q
 heard_then h then = record { told = h.told; all = λ q. h.all (then q) }
 
