@@ -73,7 +73,8 @@ cose_gate_answer cose_gate_check(const uint8_t *keys, size_t keys_length,
  *
  * cose_gate_ask tells the questions of the input: of each signature or tag over a message that is well formed, a record in `questions`,
  * one behind another, in order. `lines` are those of a run in which every signature is good. With the statuses 0 and 1 all are told, with
- * COSE_GATE_STOPPED those before the place where the run stopped, and none where memory was refused to the records.
+ * COSE_GATE_STOPPED those before the place where the run stopped (where memory was refused at a message, perhaps some of its own too), and
+ * none where memory was refused to the records.
  *
  * A record is its length in eight bytes, the lowest first, and behind it so many bytes, its key: eight bytes with the message's tag, and
  * seven texts, each behind its length in eight bytes. cose_gate_next reads one. No signature covers the unprotected headers and the

@@ -1,5 +1,5 @@
 -- What is held and kept of questions.
-use Rattle.std.specs.Prelude.{◌≡◌, ℕ, List, map}
+use Rattle.std.specs.Prelude.{◌≡◌, ℕ, List, map, Bool, true, false}
 use Rattle.cose_gate_core.specs.Questions.{Subject}
 use Rattle.cose_asked.specs.Records.{front_of}
 use Rattle.cose_asked.specs.declared.held.Held.{Held}
@@ -23,6 +23,14 @@ told_of (Lost told) = told.items
 
 abbrev pub told_by : Asker → List ℕ
 told_by asker = told_of asker.text
+
+-- whether the records are lost, since memory was refused for one
+abbrev pub was_lost : Text → Bool
+was_lost (Whole text) = false
+was_lost (Lost told) = true
+
+abbrev pub is_lost : Asker → Bool
+is_lost asker = was_lost asker.text
 
 -- the keys that were accepted
 abbrev pub keys_of : Accepted → List (List ℕ)

@@ -1,8 +1,9 @@
 //! A judge that tells each question.
-ghost use Rattle.std.specs.Prelude.{◌≡◌, ◌++◌, ℕ, List, [], ◌∷◌, true, OnOk, OnErr, MatchOption, length};
+ghost use Rattle.std.specs.Prelude.{◌≡◌, ◌++◌, ℕ, List, [], ◌∷◌, true, false, IsErr, OnOk, OnErr};
+ghost use Rattle.std.specs.Prelude.{MatchOption, is_none, length};
 ghost use Rattle.cose_gate_core.specs.Lent.{subject_of};
 ghost use Rattle.cose_gate_core.specs.Questions.{Subject};
-ghost use Rattle.cose_asked.specs.Kept.{IsHeld, pieces_of, told_by};
+ghost use Rattle.cose_asked.specs.Kept.{IsHeld, pieces_of, told_by, is_lost};
 ghost use Rattle.cose_asked.specs.Records.{record_of};
 
 use crate::held::Held;
@@ -22,7 +23,8 @@ pub struct Asker {
 impl Asker {
     /// A judge that was asked nothing yet.
     pub fn new(alloc: Global) -> Asker
-        ensures { told_by result ≡ [] }
+        ensures told { told_by result ≡ [] }
+        ensures lost { is_lost result ≡ false }
     {
         Asker {
             alloc,
@@ -31,9 +33,11 @@ impl Asker {
         }
     }
 
-    /// The records of the questions, in order; `None` where memory was refused for one.
+    /// The records of the questions, in order; `None` where they are lost, since memory was refused
+    /// for one.
     pub fn records(&self) -> Option<&[u8]>
-        ensures { MatchOption result (Unit {0}) (λ records. records.now ≡ told_by self.now) }
+        ensures records { MatchOption result (Unit {0}) (λ records. records.now ≡ told_by self.now) }
+        ensures lost { is_none result ≡ is_lost self.now }
     {
         match &self.text {
             Text::Whole(text) => Some(text),
@@ -41,8 +45,10 @@ impl Asker {
         }
     }
 
-    /// Whether memory was refused for a record.
-    fn is_lost(&self) -> bool {
+    /// Whether the records are lost, since memory was refused for one.
+    fn is_lost(&self) -> bool
+        ensures { result ≡ is_lost self.now }
+    {
         matches!(self.text, Text::Lost(_))
     }
 }
@@ -65,7 +71,13 @@ impl Judge for Asker {
     ghost decided = { λ told q. told ++ record_of q };
 
     /// Begins a question. Where memory was refused for a record before, it is refused for this one.
-    fn begin(&mut self, about: &About) -> Result<(), AllocError> {
+    fn begin(&mut self, about: &About) -> Result<(), AllocError>
+        ensures holds { OnOk result (IsHeld self.new.held (subject_of about.now) []) }
+        ensures pieces { OnOk result (pieces_of self.new.held ≡ []) }
+        ensures told { told_by self.new ≡ told_by self.old }
+        ensures lost { is_lost self.old ≡ true → IsErr result }
+        ensures stays { is_lost self.new ≡ is_lost self.old }
+    {
         if self.is_lost() {
             return Err(AllocError);
         }

@@ -1,18 +1,19 @@
 -- The library's answers, from those of a run.
-use Rattle.std.proofs.Common.{◌≡◌, ℕ, ◌<◌, ◌++◌, ◌⊎◌, inl, inr, List, [], length, flat_map, Option, Some, Bool, true, false, cond, nat_eq, refl, sym, ap, subst, ◌∙◌, arith}
+use Rattle.std.proofs.Common.{◌≡◌, ◌≢◌, ℕ, ◌<◌, ◌++◌, ◌⊎◌, inl, inr, List, [], length, flat_map, Option, Some, Bool, true, false, cond, nat_eq, refl, sym, ap, subst, ◌∙◌, arith}
 use Rattle.cose_gate_hmac.specs.GateCore.Reading.{IfKnown}
 use Rattle.coset_labels.specs.Limits.{AreLimits, nesting_of, layers_of}
 use Rattle.coset_labels.specs.declared.limits.Limits.{Limits}
 use Rattle.cose_gate_hmac.specs.GateCore.Findings.{Bounds}
-use Rattle.cose_gate_hmac.specs.GateCore.Run.{Step, Course}
+use Rattle.cose_gate_hmac.specs.GateCore.Asked.{IsFront}
+use Rattle.cose_gate_hmac.specs.GateCore.Run.{Step, Course, questions_of}
 use Rattle.cose_gate_hmac.specs.GateCore.Terms.{limits_by}
 use Rattle.cose_gate_hmac.specs.GateCore.Questions.{Question}
 use Rattle.cose_gate_hmac.specs.Judge.{says_yes}
-use Rattle.cose_gate_program.specs.Program.{Devices, EndsOver, RanOver, RanOn, RanJudged, Hearing}
+use Rattle.cose_gate_program.specs.Program.{Devices, EndsOver, IsUnreadable, Stops, writer, flush, reader, no_item, memory, RanOver, RanOn, RanJudged, Hearing, IsAskedAt, IsAskedIn}
 use Rattle.cose_asked.specs.Framing.{framed}
 use Rattle.cose_asked.specs.Records.{record_of, is_among}
 use Rattle.cose_asked.proofs.Asked.{told_all}
-use Rattle.cose_gate_c.specs.Library.{within, before, after, IsRunStatus, Runs, RunsBy, NoMemory, Passed, Tells, Places, Answers}
+use Rattle.cose_gate_c.specs.Library.{within, before, after, IsRunStatus, Runs, RunsBy, NoMemory, Passed, ToldUpTo, Tells, Places, Answers}
 use Rattle.cose_gate_c.specs.declared.answer.Answer.{Answer}
 
 below_two : (b : Bool) (n : ℕ) → n ≡ cond {A = ℕ} b 0 1 → n < 2
@@ -88,36 +89,70 @@ known left input b there is = subst (λ (o : Option (List ℕ)). IfKnown o (λ z
 four_is_more : (n : ℕ) → n < 2 → n ≡ 4 → ⊥
 four_is_more n few four = omega (arith, few, four)
 
--- what it was told
-pub tells : (limits : Bounds) (aad input first told text : List ℕ) (old new : Devices) (status : ℕ) → old.left ≡ Some input → first ≡ [] → text ≡ told
-    → RanJudged limits (asking first told) aad old new status → Tells limits aad input text status
-tells limits aad input first told text old new status there empty same r =
-    let front : List Question = r.heard.told.front in
-    let all : told ≡ first ++ flat_map record_of front = r.heard.told.tells ∙ told_all first front in
-    let is : text ≡ flat_map record_of front = same ∙ (all ∙ ap (λ (z : List ℕ). z ++ flat_map record_of front) empty) in
-    let here : input ≡ r.on.ran.input = known old.left input r.on.ran.input there r.on.ran.is in
-    elim r.on.ran.over [
-      | inl t ↦ record {
-        steps = r.on.ran.steps;
-        more = [];
-        course = course_to limits aad input r.on.ran.input r.on.ran.steps [] here t.1.course;
-        front = front;
-        is_front = r.heard.told.is_front;
-        text_is = is;
-        whole = λ few. (refl, r.heard.all few);
-        known = inl (below_two (nat_eq t.0 0) status t.2);
-      }
-      | inr p ↦ record {
-        steps = r.on.ran.steps;
-        more = p.0.more;
-        course = course_to limits aad input r.on.ran.input r.on.ran.steps p.0.more here p.0.course;
-        front = front;
-        is_front = r.heard.told.is_front;
-        text_is = is;
-        whole = λ few. elim (four_is_more status few p.1) [ ];
-        known = inr p.1;
-      }
-    ]
+-- no device failed, so the run stopped at an item that can't be read, or memory was refused
+rose_never : (n m : ℕ) → m ≡ n → n < m → ⊥
+rose_never n m same rose = omega (arith, same, rose)
+
+told_up_to : (limits : Bounds) (aad : List ℕ) (old new : Devices) (steps : List Step) (more text : List ℕ) (front : List Question) (input : List ℕ)
+    → old.left ≡ Some input → new.read_failures ≡ old.read_failures → new.write_failures ≡ old.write_failures
+    → (s : Stops limits (λ _. true) aad old new steps more text) → IsAskedAt (λ _. true) aad steps text s front
+    → ToldUpTo limits.nesting aad input steps more front
+told_up_to limits aad old new steps more text front input there reads writes (writer rose torn) asked =
+    absurd (rose_never old.write_failures new.write_failures writes rose)
+told_up_to limits aad old new steps more text front input there reads writes (flush rose end all ended) asked =
+    absurd (rose_never old.write_failures new.write_failures writes rose)
+told_up_to limits aad old new steps more text front input there reads writes (reader rose all) asked =
+    absurd (rose_never old.read_failures new.read_failures reads rose)
+told_up_to limits aad old new steps more text front input there reads writes (no_item why all) asked =
+    inl (subst (λ (l : Option (List ℕ)). IfKnown l (λ b. IsUnreadable limits.nesting b more)) there why, asked)
+told_up_to limits aad old new steps more text front input there reads writes (memory done last parts one due behind texts) asked =
+    inr (record {
+      done = done;
+      last = last;
+      parts = parts;
+      one = one;
+      due = λ none. subst (λ (l : Option (List ℕ)). IfKnown l (λ b. more ≢ [])) there (due none);
+      all_before = asked.0;
+    })
+
+module _ (limits : Bounds) (aad input first told text : List ℕ) (old new : Devices) (status : ℕ) where
+  tells_over : (b : List ℕ) (steps : List Step) (front : List Question) → input ≡ b → old.left ≡ Some input
+      → new.read_failures ≡ old.read_failures → new.write_failures ≡ old.write_failures
+      → IsFront front (questions_of (λ _. true) aad steps) → (status < 2 → front ≡ questions_of (λ _. true) aad steps)
+      → text ≡ flat_map record_of front → (over : RanOver limits (λ _. true) aad old new b steps status)
+      → IsAskedIn limits (λ _. true) aad old new b steps status over front → Tells limits aad input text status
+  tells_over b steps front here there reads writes is_front all is (inl t) asked = record {
+    steps = steps;
+    more = [];
+    course = course_to limits aad input b steps [] here t.1.course;
+    front = front;
+    is_front = is_front;
+    text_is = is;
+    whole = λ few. (refl, all few);
+    stopped = λ four. absurd (four_is_more status (below_two (nat_eq t.0 0) status t.2) four);
+    known = inl (below_two (nat_eq t.0 0) status t.2);
+  }
+  tells_over b steps front here there reads writes is_front all is (inr p) asked = record {
+    steps = steps;
+    more = p.0.more;
+    course = course_to limits aad input b steps p.0.more here p.0.course;
+    front = front;
+    is_front = is_front;
+    text_is = is;
+    whole = λ few. absurd (four_is_more status few p.1);
+    stopped = λ _. told_up_to limits aad old new steps p.0.more p.0.front front input there reads writes p.0.stops asked;
+    known = inr p.1;
+  }
+
+  -- what it was told
+  pub tells : old.left ≡ Some input → new.read_failures ≡ old.read_failures → new.write_failures ≡ old.write_failures
+      → first ≡ [] → text ≡ told → RanJudged limits (asking first told) aad old new status → Tells limits aad input text status
+  tells there reads writes empty same r =
+      let front : List Question = r.heard.told.front in
+      let all : told ≡ first ++ flat_map record_of front = r.heard.told.tells ∙ told_all first front in
+      let is : text ≡ flat_map record_of front = same ∙ (all ∙ ap (λ (z : List ℕ). z ++ flat_map record_of front) empty) in
+      let here : input ≡ r.on.ran.input = known old.left input r.on.ran.input there r.on.ran.is in
+      tells_over r.on.ran.input r.on.ran.steps front here there reads writes r.heard.told.is_front r.heard.all is r.on.ran.over r.asked
 
 -- the limits that were chosen
 pub answers : (l : Limits) (nesting layers : ℕ) (strict : Bool) (IsText : Bounds → List ℕ → ℕ → Type 0) (old new : List ℕ) (answer : Answer)

@@ -1,12 +1,12 @@
 -- What the library answers over memory.
-use Rattle.std.specs.Prelude.{◌≡◌, ℕ, ◌<◌, ◌≤◌, ◌⊎◌, List, [], ◌++◌, length, drop, flat_map, Option, Some, Bool, true}
+use Rattle.std.specs.Prelude.{◌≡◌, ◌≢◌, ℕ, ◌<◌, ◌≤◌, ◌⊎◌, List, [], ◌++◌, length, drop, flat_map, Option, Some, Bool, true}
 use Rattle.coset_labels.specs.Limits.{AreLimits}
 use Rattle.cose_gate_hmac.specs.GateCore.Asked.{IsFront}
 use Rattle.cose_gate_hmac.specs.GateCore.Findings.{Bounds, excluded_by}
 use Rattle.cose_gate_hmac.specs.GateCore.Questions.{Question}
 use Rattle.cose_gate_hmac.specs.GateCore.Run.{Step, Course, questions_of}
 use Rattle.cose_gate_hmac.specs.Judge.{says_yes}
-use Rattle.cose_gate_program.specs.Program.{Devices, EndsOver, RanOn}
+use Rattle.cose_gate_program.specs.Program.{Devices, EndsOver, RanOn, IsUnreadable}
 use Rattle.cose_asked.specs.Framing.{framed}
 use Rattle.cose_asked.specs.Records.{is_among, record_of}
 use Rattle.cose_gate_c.specs.declared.answer.Answer.{Answer}
@@ -64,8 +64,25 @@ abbrev pub Checks : ℕ → ℕ → Bool → List ℕ → List ℕ → List ℕ 
 Checks nesting layers strict keys aad input old new answer =
     Answers nesting layers (Checked (within nesting layers strict) keys aad input) old new answer
 
+-- memory was refused: at the last step, or behind all of them, with more to come. All questions about the steps before it were told.
+pub record ToldBefore (aad : List ℕ) (steps : List Step) (more : List ℕ) (front : List Question)
+    : Type 0 where
+  pub done : List Step
+  pub last : List Step
+  pub parts : steps ≡ done ++ last
+  pub one : length last ≤ 1
+  pub due : last ≡ [] → more ≢ []
+  pub all_before : IsFront (questions_of (λ _. true) aad done) front
+
+-- how far questions are told where the run stopped: all that stand before an item that can't be read, or all before the one where memory
+-- was refused
+abbrev pub ToldUpTo : ℕ → List ℕ → List ℕ → List Step → List ℕ → List Question → Type 0
+ToldUpTo nesting aad input steps more front =
+    (IsUnreadable nesting input more × (front ≡ questions_of (λ _. true) aad steps))
+    ⊎ ToldBefore aad steps more front
+
 -- the text is the records of the questions that a judge is asked who always says yes, in order: all of them where the run went to its
--- end, and else a front of them
+-- end, and else a front of them, up to where it stopped
 pub record Tells (limits : Bounds) (aad input text : List ℕ) (status : ℕ) : Type 0 where
   pub steps : List Step
   pub more : List ℕ
@@ -74,6 +91,7 @@ pub record Tells (limits : Bounds) (aad input text : List ℕ) (status : ℕ) : 
   pub is_front : IsFront front (questions_of (λ _. true) aad steps)
   pub text_is : text ≡ flat_map record_of front
   pub whole : status < 2 → (more ≡ []) × (front ≡ questions_of (λ _. true) aad steps)
+  pub stopped : status ≡ 4 → ToldUpTo limits.nesting aad input steps more front
   pub known : (status < 2) ⊎ (status ≡ 4)
 
 abbrev pub Told : Bounds → List ℕ → List ℕ → List ℕ → ℕ → Type 0

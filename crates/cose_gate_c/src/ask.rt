@@ -53,8 +53,9 @@ fn ask_within(
 /// written.
 ///
 /// `lines` takes the lines of a run in which every signature is good: it names each item that is refused for its form. With the statuses 0
-/// and 1 all questions are told. With 4 they are those up to where the run stopped; where memory was refused to the records, there are
-/// none, and `stopped: memory` stands in place of the whole last line.
+/// and 1 all questions are told. With 4 they are those up to where the run stopped: all before an item that can't be read; where memory was
+/// refused at an item, all before it, and some about it. Where memory was refused to the records, there are none, and `stopped: memory`
+/// stands in place of the whole last line.
 ///
 /// Where the records are longer than `questions`, and only then, the status is 5: `questions` stays as it was, and `length` is the room
 /// that is needed.

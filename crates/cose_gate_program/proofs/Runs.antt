@@ -1,5 +1,5 @@
 -- The program's answers, from the gate's.
-use Rattle.std.proofs.Common.{◌≡◌, ◌≢◌, ℕ, ◌+◌, ◌<◌, ◌≤◌, inl, inr, List, [], ◌∷◌, ◌++◌, length, map, Option, None, Some, Bool, cond, false, true, nat_eq, refl, sym, ap, subst, ◌∙◌, arith, append-nil, append_assoc, length-append, zero-add}
+use Rattle.std.proofs.Common.{◌≡◌, ◌≢◌, ℕ, ◌+◌, ◌<◌, ◌≤◌, ◌⊎◌, inl, inr, List, [], ◌∷◌, ◌++◌, length, map, Option, None, Some, Bool, cond, false, true, nat_eq, refl, sym, ap, subst, ◌∙◌, arith, append-nil, append_assoc, length-append, zero-add}
 use Rattle.std.proofs.lemmas.Bool.Decides.{nat_tests}
 use Rattle.std.proofs.lemmas.Bool.{true≢false}
 use Rattle.std.specs.Prelude.{Result, Ok, Err, IsOk, is_err}
@@ -17,10 +17,10 @@ use Rattle.ciborium.proofs.ChildCases.{front_some}
 use Rattle.ciborium_value.specs.Tree.{Tree}
 use Rattle.cose_gate_hmac.specs.KeySets.Fields.{KeyFields}
 use Rattle.cose_gate_hmac.specs.GateCore.Questions.{Question}
-use Rattle.cose_gate_hmac.specs.GateCore.Asked.{IsFront}
+use Rattle.cose_gate_hmac.specs.GateCore.Asked.{IsFront, ToldFront, folded_over}
 use Rattle.cose_gate_hmac.specs.GateCore.Findings.{Bounds, usual, plain}
 use Rattle.cose_gate_hmac.specs.GateCore.Terms.{limits_by}
-use Rattle.cose_gate_hmac.specs.GateCore.Run.{Step, Course, asked_of, questions_of, written_of, output_of, refused_count}
+use Rattle.cose_gate_hmac.specs.GateCore.Run.{Step, Course, asked_of, questions_of, output_of, refused_count}
 use Rattle.cose_gate_hmac.specs.GateCore.Outcome.{Rules, Sight, Outcome, Answers, IsFaultOf, reader_failures, writer_failures}
 use Rattle.cose_gate_hmac.specs.GateCore.declared.gating.Counts.{Counts}
 use Rattle.cose_gate_hmac.specs.GateCore.declared.gating.GateFault.{GateFault}
@@ -31,7 +31,7 @@ use Rattle.cose_gate_hmac.specs.KeySets.View.{key_set_view}
 use Rattle.cose_gate_program.specs.Beginning.{status_of, Begins, BeginsNot, IsNoKeySet}
 use Rattle.cose_gate_program.specs.declared.beginning.Beginning.{Beginning}
 use Rattle.cose_gate_program.specs.Faults.{is_end}
-use Rattle.cose_gate_program.specs.Program.{GatedOver, Gated, Heard, Hearing, Through, IsUnreadable, Stops, writer, reader, no_item, memory, InPart, RanOn, RanJudged, Devices, EndsWithin, EndsOver, no_file, not_hex, no_keys, no_memory, after_run}
+use Rattle.cose_gate_program.specs.Program.{GatedOver, Gated, Heard, Hearing, Through, IsUnreadable, Torn, Stops, writer, flush, reader, no_item, memory, InPart, IsAskedAt, IsAskedBy, RanOn, RanJudged, Devices, EndsWithin, EndsOver, no_file, not_hex, no_keys, no_memory, after_run}
 use Rattle.cose_gate_program.specs.declared.devices.InputFault.{InputFault}
 use Rattle.cose_gate_program.specs.declared.devices.InputFault.TheVariants as fault
 use Rattle.cose_gate_program.specs.declared.beginning.NotBegun.{NotBegun}
@@ -73,13 +73,7 @@ pub no_title : (l k : Option (List ℕ)) (waiting : Option Header) → k ≡ due
 no_title l k waiting is none = is ∙ ap (due l) none ∙ due_none l
 
 module _ (allows : Question → Bool) (aad : List ℕ) where
-  -- the output of a beginning of the steps is a beginning of the output
-  output_then : (ss : List Step) (s : Step)
-      → output_of allows aad (ss ++ s ∷ []) ≡ output_of allows aad ss ++ written_of allows aad s.finding
-  output_then ss s =
-      let one : List ℕ = written_of allows aad s.finding in
-      flat_map-append (λ s. written_of allows aad s.finding) ss (s ∷ []) ∙ ap (λ z. output_of allows aad ss ++ z) (append-nil one)
-
+  -- the questions about a beginning of the steps are a beginning of the questions
   questions_then : (ss ts : List Step)
       → questions_of allows aad (ss ++ ts) ≡ questions_of allows aad ss ++ questions_of allows aad ts
   questions_then ss ts = flat_map-append (λ s. asked_of allows aad s.finding) ss ts
@@ -91,6 +85,9 @@ fault_at ends n at more e None z w = tt
 fault_at ends n at more e (Some b) z w =
     subst (λ (stop : ℕ). IsFaultOf ends n stop more e) (ap (λ (o : ℕ). o + length b) z ∙ zero-add (length b)) w
 
+once_more : (m n : ℕ) → n ≡ m + 1 → m < n
+once_more m n e = omega (arith, e)
+
 unreadable : (n : ℕ) (more : List ℕ) (e : Error InputFault) (l : Option (List ℕ))
     → IfKnown l (λ b. IsFaultOf (λ _. true) n (length b) more e) → IfKnown l (λ b. IsUnreadable n b more)
 unreadable n more e None w = tt
@@ -98,19 +95,32 @@ unreadable n more e (Some b) w = (e, w)
 
 -- the next item can't be read
 module _ (limits : Bounds) (allows : Question → Bool) (aad : List ℕ) (old new : Devices) (steps : List Step) (more : List ℕ) where
-  stops_at : (e : Error InputFault)
+  abbrev stops_at : (e : Error InputFault)
       → (let r : Result Counts (GateFault InputFault) = Err (gating.Decode e) in
       new.read_failures ≡ old.read_failures + reader_failures is_end r)
       → IfKnown old.left (λ b. IsFaultOf is_end limits.nesting (length b) more e)
       → Stops limits allows aad old new steps more (output_of allows aad steps)
   stops_at (de.Io fault.End) grown w = no_item (unreadable limits.nesting more (de.Io fault.End) old.left w) refl
-  stops_at (de.Io fault.Failed) grown w =
-      let once : new.read_failures ≡ old.read_failures + 1 = grown in reader (omega arith) refl
+  stops_at (de.Io fault.Failed) grown w = reader (once_more old.read_failures new.read_failures grown) refl
   stops_at (de.Syntax p) grown w = no_item (unreadable limits.nesting more (de.Syntax p) old.left w) refl
   stops_at (de.Semantic o k) grown w = no_item (unreadable limits.nesting more (de.Semantic o k) old.left w) refl
   stops_at de.RecursionLimitExceeded grown w = no_item (unreadable limits.nesting more de.RecursionLimitExceeded old.left w) refl
   stops_at de.Memory grown w = no_item (unreadable limits.nesting more de.Memory old.left w) refl
   stops_at de.TooLong grown w = no_item (unreadable limits.nesting more de.TooLong old.left w) refl
+
+  -- all was asked then
+  asked_at : (e : Error InputFault)
+      → (grown : (let r : Result Counts (GateFault InputFault) = Err (gating.Decode e) in
+      new.read_failures ≡ old.read_failures + reader_failures is_end r))
+      → (w : IfKnown old.left (λ b. IsFaultOf is_end limits.nesting (length b) more e))
+      → IsAskedAt allows aad steps (output_of allows aad steps) (stops_at e grown w) (questions_of allows aad steps)
+  asked_at (de.Io fault.End) grown w = refl
+  asked_at (de.Io fault.Failed) grown w = refl
+  asked_at (de.Syntax p) grown w = refl
+  asked_at (de.Semantic o k) grown w = refl
+  asked_at de.RecursionLimitExceeded grown w = refl
+  asked_at de.Memory grown w = refl
+  asked_at de.TooLong grown w = refl
 
 module _ {T S : Type 0} (by : Rules T S) (old new : Sight T S) where
   abbrev heard_by : Hearing T
@@ -127,7 +137,15 @@ module _ {T S : Type 0} (by : Rules T S) (old new : Sight T S) where
   steps_by b (Err gating.Write) w = w.done ++ w.last ∷ []
   steps_by b (Err gating.Memory) w = w.done ++ w.last
 
-  gated_over : (n n' f f' : ℕ) (b : List ℕ) (r : Result Counts (GateFault InputFault))
+  -- the texts of the steps, or of those before the last, where memory was refused
+  texts : (done last given : List Step) (asked : List Question)
+      → (given ≡ done) ⊎ ((given ≡ done ++ last) × (asked ≡ questions_of by.allows by.aad last))
+      → (output_of by.allows by.aad given ≡ output_of by.allows by.aad done)
+      ⊎ (output_of by.allows by.aad given ≡ output_of by.allows by.aad (done ++ last))
+  texts done last given asked (inl e) = inl (ap (output_of by.allows by.aad) e)
+  texts done last given asked (inr e) = inr (ap (output_of by.allows by.aad) e.0)
+
+  abbrev gated_over : (n n' f f' : ℕ) (b : List ℕ) (r : Result Counts (GateFault InputFault))
       → (w : Outcome is_end by old new b r) → old.offset ≡ 0 → n' ≡ n + reader_failures is_end r → f' ≡ f + writer_failures r
       → GatedOver by.limits by.allows by.aad (devices old.left old.written n f) (devices new.left new.written n' f') b (steps_by b r w) r
   gated_over n n' f f' b (Ok counts) w z reads writes = record {
@@ -149,64 +167,39 @@ module _ {T S : Type 0} (by : Rules T S) (old new : Sight T S) where
     course = from_place b (w.done ++ w.last ∷ []) w.more z w.course;
     front = output_of by.allows by.aad w.done ++ w.front;
     writes = w.written;
-    stops = let once : f' ≡ f + 1 = writes in
-        writer (omega arith) (front_within (output_of by.allows by.aad w.done) w.front (written_of by.allows by.aad w.last.finding)
-        (output_of by.allows by.aad (w.done ++ w.last ∷ [])) (output_then by.allows by.aad w.done w.last) w.front_is);
+    stops = writer (once_more f f' writes) (record {
+      done = w.done;
+      last = w.last;
+      parts = refl;
+      passed = w.passed;
+      text = w.front;
+      is_front = w.front_is;
+      front_is = refl;
+      behind = w.behind;
+    });
   }
   gated_over n n' f f' b (Err gating.Memory) w z reads writes = record {
     more = w.more;
     course = from_place b (w.done ++ w.last) w.more z w.course;
     front = output_of by.allows by.aad w.texts;
     writes = w.written;
-    stops = memory w.done w.last refl w.one w.due (elim w.texts_are [
-      | inl e ↦ inl (ap (output_of by.allows by.aad) e)
-      | inr e ↦ inr (ap (output_of by.allows by.aad) e.0)
-    ]);
+    stops = memory w.done w.last refl w.one w.due w.behind (texts w.done w.last w.texts w.asked w.texts_are);
   }
 
   -- what the judge was told
-  heard_over : (b : List ℕ) (r : Result Counts (GateFault InputFault)) → (w : Outcome is_end by old new b r)
+  abbrev told_over : (steps : List Step) → new.told ≡ folded_over by.decided old.told (questions_of by.allows by.aad steps)
+      → ToldFront by.decided old.told new.told (questions_of by.allows by.aad steps)
+  told_over steps e = record {
+    front = questions_of by.allows by.aad steps;
+    is_front = whole_front (questions_of by.allows by.aad steps);
+    tells = e;
+  }
+
+  abbrev heard_over : (b : List ℕ) (r : Result Counts (GateFault InputFault)) → (w : Outcome is_end by old new b r)
       → Heard heard_by by.aad (steps_by b r w) (IsOk r)
-  heard_over b (Ok counts) w = record {
-    told = record {
-      front = questions_of by.allows by.aad w.steps;
-      is_front = whole_front (questions_of by.allows by.aad w.steps);
-      tells = w.made.told;
-    };
-    done = w.steps;
-    last = [];
-    parts = sym (append-nil w.steps);
-    one = omega arith;
-    all_before = whole_front (questions_of by.allows by.aad w.steps);
-    all = λ _. refl;
-  }
-  heard_over b (Err (gating.Decode e)) w = record {
-    told = record {
-      front = questions_of by.allows by.aad w.steps;
-      is_front = whole_front (questions_of by.allows by.aad w.steps);
-      tells = w.made.told;
-    };
-    done = w.steps;
-    last = [];
-    parts = sym (append-nil w.steps);
-    one = omega arith;
-    all_before = whole_front (questions_of by.allows by.aad w.steps);
-    all = λ _. refl;
-  }
-  heard_over b (Err gating.Write) w = record {
-    told = record {
-      front = questions_of by.allows by.aad (w.done ++ w.last ∷ []);
-      is_front = whole_front (questions_of by.allows by.aad (w.done ++ w.last ∷ []));
-      tells = w.told;
-    };
-    done = w.done;
-    last = w.last ∷ [];
-    parts = refl;
-    one = omega arith;
-    all_before = front_then (questions_of by.allows by.aad w.done) (questions_of by.allows by.aad (w.last ∷ []))
-        (questions_of by.allows by.aad (w.done ++ w.last ∷ [])) (questions_then by.allows by.aad w.done (w.last ∷ []));
-    all = λ _. refl;
-  }
+  heard_over b (Ok counts) w = record { told = told_over w.steps w.made.told; all = λ _. refl }
+  heard_over b (Err (gating.Decode e)) w = record { told = told_over w.steps w.made.told; all = λ _. refl }
+  heard_over b (Err gating.Write) w = record { told = told_over (w.done ++ w.last ∷ []) w.told; all = λ _. refl }
   heard_over b (Err gating.Memory) w = record {
     told = record {
       front = questions_of by.allows by.aad w.done ++ w.asked;
@@ -214,13 +207,35 @@ module _ {T S : Type 0} (by : Rules T S) (old new : Sight T S) where
           (questions_of by.allows by.aad (w.done ++ w.last)) (questions_then by.allows by.aad w.done w.last) w.asked_front;
       tells = w.told;
     };
-    done = w.done;
-    last = w.last;
-    parts = refl;
-    one = w.one;
-    all_before = front_then (questions_of by.allows by.aad w.done) w.asked (questions_of by.allows by.aad w.done ++ w.asked) refl;
     all = λ whole. absurd (true≢false (sym whole));
   }
+
+  -- all were asked where the last one's text was written
+  asked_all : (done last given : List Step) (asked : List Question)
+      → (given ≡ done) ⊎ ((given ≡ done ++ last) × (asked ≡ questions_of by.allows by.aad last))
+      → output_of by.allows by.aad given ≢ output_of by.allows by.aad done
+      → questions_of by.allows by.aad done ++ asked ≡ questions_of by.allows by.aad (done ++ last)
+  asked_all done last given asked (inl e) other = absurd (other (ap (output_of by.allows by.aad) e))
+  asked_all done last given asked (inr e) other =
+      ap (λ (qs : List Question). questions_of by.allows by.aad done ++ qs) e.1 ∙ sym (questions_then by.allows by.aad done last)
+
+  -- which questions these were, by how the run went
+  asked_over : (n n' f f' : ℕ) (b : List ℕ) (r : Result Counts (GateFault InputFault))
+      → (w : Outcome is_end by old new b r) → (z : old.offset ≡ 0) → (reads : n' ≡ n + reader_failures is_end r)
+      → (writes : f' ≡ f + writer_failures r)
+      → IsAskedBy by.limits by.allows by.aad (devices old.left old.written n f) (devices new.left new.written n' f') b (steps_by b r w) r
+      (gated_over n n' f f' b r w z reads writes) (heard_over b r w).told.front
+  asked_over n n' f f' b (Ok counts) w z reads writes = refl
+  asked_over n n' f f' b (Err (gating.Decode e)) w z reads writes =
+      asked_at by.limits by.allows by.aad (devices old.left old.written n f) (devices new.left new.written n' f') w.steps w.more e reads
+      (fault_at is_end by.limits.nesting old.offset w.more e old.left z w.fault)
+  asked_over n n' f f' b (Err gating.Write) w z reads writes = refl
+  asked_over n n' f f' b (Err gating.Memory) w z reads writes = (
+    front_then (questions_of by.allows by.aad w.done) w.asked (questions_of by.allows by.aad w.done ++ w.asked) refl,
+    front_within (questions_of by.allows by.aad w.done) w.asked (questions_of by.allows by.aad w.last)
+        (questions_of by.allows by.aad (w.done ++ w.last)) (questions_then by.allows by.aad w.done w.last) w.asked_front,
+    asked_all w.done w.last w.texts w.asked w.texts_are,
+  )
 
   -- the gate's answer over a decoder that began here; the devices are seen where they were lent
   -- from
@@ -236,6 +251,7 @@ module _ {T S : Type 0} (by : Rules T S) (old new : Sight T S) where
         steps = steps_by a.input r a.outcome;
         over = gated_over n n' f f' a.input r a.outcome z reads writes;
         heard = heard_over a.input r a.outcome;
+        asked = asked_over n n' f f' a.input r a.outcome z reads writes;
       } in
       let begun : Gated by.limits heard_by by.aad before (devices new.left new.written n' f') r
       = subst (λ (d : Devices). Gated by.limits heard_by by.aad d (devices new.left new.written n' f') r) (sym first) here in
@@ -261,6 +277,9 @@ grows (Err x) m n e = let h : n ≡ m + 1 = e in omega arith
 -- one that has failed once more isn't where it was
 pub one_more : (a b c : ℕ) → a ≤ b → c ≡ b + 1 → c ≡ a → ⊥
 one_more a b c p q e = absurd (omega arith)
+
+risen : (a b c : ℕ) → a ≤ b → c ≡ b + 1 → a < c
+risen a b c p q = omega (arith, p, q)
 
 -- the output was flushed
 pub record IsFlushed (mid new : Devices) : Type 0 where
@@ -289,33 +308,58 @@ flush_passed (Err x) m n is e = absurd (true≢false (sym is))
 
 then_flushed : (limits : Bounds) (allows : Question → Bool) (aad : List ℕ) (old mid new : Devices) (b : List ℕ) (steps : List Step) (n : ℕ)
     → IsFlushed mid new → Through limits allows aad old mid b steps n → Through limits allows aad old new b steps n
-then_flushed limits allows aad old mid new b steps n flush t = record {
+then_flushed limits allows aad old mid new b steps n flushes t = record {
   course = t.course;
-  writes = flushed old.written mid.written new.written (output_of allows aad steps) flush.kept t.writes;
+  writes = flushed old.written mid.written new.written (output_of allows aad steps) flushes.kept t.writes;
   refused_is = t.refused_is;
-  ended = subst (λ (l : Option (List ℕ)). IfKnown old.left (λ b. l ≡ Some [])) (sym flush.left) t.ended;
+  ended = subst (λ (l : Option (List ℕ)). IfKnown old.left (λ b. l ≡ Some [])) (sym flushes.left) t.ended;
 }
 
-stops_flushed : (limits : Bounds) (allows : Question → Bool) (aad : List ℕ) (old mid new : Devices) (steps : List Step) (more front : List ℕ)
-    → IsFlushed mid new → Stops limits allows aad old mid steps more front → Stops limits allows aad old new steps more front
-stops_flushed limits allows aad old mid new steps more front flush s = elim s [
-  | writer rose part ↦ writer (let w = flush.writes in omega arith) part
-  | reader rose all ↦ reader (let n = flush.reads in omega arith) all
-  | no_item why all ↦ no_item why all
-  | memory done last parts one due texts ↦ memory done last parts one due texts
-]
+-- where the reader stands stays
+stands_flushed : (l l' : Option (List ℕ)) (more : List ℕ) → l' ≡ l → IfKnown l (λ b. b ≡ more) → IfKnown l' (λ b. b ≡ more)
+stands_flushed l l' more e = subst (λ (k : Option (List ℕ)). IfKnown k (λ b. b ≡ more)) (sym e)
 
-heard_then : {T : Type 0} {hearing : Hearing T} {aad : List ℕ} {steps : List Step} {P Q : Type 0} → Heard hearing aad steps P → (Q → P)
+more_often : (a b c : ℕ) → b ≤ c → a < b → a < c
+more_often a b c grown rose = omega (arith, grown, rose)
+
+as_often : (a b c : ℕ) → c ≡ b → a < b → a < c
+as_often a b c same rose = omega (arith, same, rose)
+
+module _ (limits : Bounds) (allows : Question → Bool) (aad : List ℕ) (old mid new : Devices) (steps : List Step) (more front : List ℕ)
+    (flushes : IsFlushed mid new) where
+  torn_flushed : Torn allows aad mid.left steps more front → Torn allows aad new.left steps more front
+  torn_flushed t = record {
+    done = t.done;
+    last = t.last;
+    parts = t.parts;
+    passed = t.passed;
+    text = t.text;
+    is_front = t.is_front;
+    front_is = t.front_is;
+    behind = stands_flushed mid.left new.left more flushes.left t.behind;
+  }
+
+  abbrev stops_flushed : Stops limits allows aad old mid steps more front → Stops limits allows aad old new steps more front
+  stops_flushed (writer rose torn) =
+      writer (more_often old.write_failures mid.write_failures new.write_failures flushes.writes rose) (torn_flushed torn)
+  stops_flushed (flush rose end all ended) = flush (more_often old.write_failures mid.write_failures new.write_failures flushes.writes rose)
+      end all (subst (λ (l : Option (List ℕ)). IfKnown old.left (λ b. l ≡ Some [])) (sym flushes.left) ended)
+  stops_flushed (reader rose all) = reader (as_often old.read_failures mid.read_failures new.read_failures flushes.reads rose) all
+  stops_flushed (no_item why all) = no_item why all
+  stops_flushed (memory done last parts one due behind texts) =
+      memory done last parts one due (λ some. stands_flushed mid.left new.left more flushes.left (behind some)) texts
+
+  asked_flushed : (s : Stops limits allows aad old mid steps more front) (asked : List Question)
+      → IsAskedAt allows aad steps front s asked → IsAskedAt allows aad steps front (stops_flushed s) asked
+  asked_flushed (writer rose torn) asked a = a
+  asked_flushed (flush rose end all ended) asked a = a
+  asked_flushed (reader rose all) asked a = a
+  asked_flushed (no_item why all) asked a = a
+  asked_flushed (memory done last parts one due behind texts) asked a = a
+
+abbrev heard_then : {T : Type 0} {hearing : Hearing T} {aad : List ℕ} {steps : List Step} {P Q : Type 0} → Heard hearing aad steps P → (Q → P)
     → Heard hearing aad steps Q
-heard_then h then = record {
-  told = h.told;
-  done = h.done;
-  last = h.last;
-  parts = h.parts;
-  one = h.one;
-  all_before = h.all_before;
-  all = λ q. h.all (then q);
-}
+heard_then h then = record { told = h.told; all = λ q. h.all (then q) }
 
 module _ {T : Type 0} (limits : Bounds) (hearing : Hearing T) (aad : List ℕ) (old mid new : Devices) where
   -- the input was gone through, and the status is as many were refused
@@ -324,71 +368,69 @@ module _ {T : Type 0} (limits : Bounds) (hearing : Hearing T) (aad : List ℕ) (
       → status ≡ cond (nat_eq counts.refused 0) 0 1 → (old.left ≡ Some [] → counts.refused ≡ 0) → IsFlushed mid new
       → (new.read_failures ≡ old.read_failures) × (new.write_failures ≡ old.write_failures)
       → RanJudged limits hearing aad old new status
-  ran_through counts status g is none flush steady = record {
+  ran_through counts status g is none flushes steady = record {
     on = record {
       ran = record {
         input = g.input;
         is = g.is;
         steps = g.steps;
-        over = inl (counts.refused, then_flushed limits hearing.allows aad old mid new g.input g.steps counts.refused flush g.over, is);
+        over = inl (counts.refused, then_flushed limits hearing.allows aad old mid new g.input g.steps counts.refused flushes g.over, is);
       };
       nothing = λ empty _ _. is ∙ ap (λ (n : ℕ). cond {A = ℕ} (nat_eq n 0) 0 1) (none empty);
       steady = λ _. steady;
     };
     heard = heard_then g.heard (λ _. refl);
+    asked = g.asked;
   }
 
   -- it stopped
   stopped : {E : Type 0} (r : Result Counts (GateFault E)) → (g : Gated limits hearing aad old mid r)
-      → InPart limits hearing.allows aad old new g.input g.steps
+      → (part : InPart limits hearing.allows aad old new g.input g.steps)
+      → IsAskedAt hearing.allows aad g.steps part.front part.stops g.heard.told.front
       → (old.left ≡ Some [] → new.read_failures ≡ old.read_failures → new.write_failures ≡ old.write_failures → ⊥)
       → RanJudged limits hearing aad old new 4
-  stopped r g part some = record {
+  stopped r g part asked some = record {
     on = record {
       ran = record { input = g.input; is = g.is; steps = g.steps; over = inr (part, refl) };
       nothing = λ empty reads writes. absurd (some empty reads writes);
       steady = λ (low : 4 < 2). absurd (omega arith);
     };
     heard = heard_then g.heard (λ (low : 4 < 2). absurd (omega arith));
+    asked = asked;
+  }
+
+  -- what the gate left, once the output was flushed
+  abbrev left_flushed : (b : List ℕ) (steps : List Step) → IsFlushed mid new → InPart limits hearing.allows aad old mid b steps
+      → InPart limits hearing.allows aad old new b steps
+  left_flushed b steps flushes p = record {
+    more = p.more;
+    course = p.course;
+    front = p.front;
+    writes = flushed old.written mid.written new.written p.front flushes.kept p.writes;
+    stops = stops_flushed limits hearing.allows aad old mid new steps p.more p.front flushes p.stops;
   }
 
   pub ran_stopped : {E : Type 0} (fault : GateFault E)
       → (let r : Result Counts (GateFault E) = Err fault in Gated limits hearing aad old mid r) → IsFlushed mid new
       → (old.left ≡ Some [] → new.read_failures ≡ old.read_failures → new.write_failures ≡ old.write_failures → ⊥)
       → RanJudged limits hearing aad old new 4
-  ran_stopped fault g flush some = stopped (Err fault) g (record {
-    more = g.over.more;
-    course = g.over.course;
-    front = g.over.front;
-    writes = flushed old.written mid.written new.written g.over.front flush.kept g.over.writes;
-    stops = stops_flushed limits hearing.allows aad old mid new g.steps g.over.more g.over.front flush g.over.stops;
-  }) some
+  ran_stopped fault g flushes some = stopped (Err fault) g (left_flushed g.input g.steps flushes g.over)
+      (asked_flushed limits hearing.allows aad old mid new g.steps g.over.more g.over.front flushes g.over.stops g.heard.told.front g.asked) some
 
   -- the flush failed
   pub ran_unflushed : {E : Type 0} (r : Result Counts (GateFault E)) → Gated limits hearing aad old mid r → IsFlushed mid new
       → old.write_failures ≤ mid.write_failures → new.write_failures ≡ mid.write_failures + 1
       → RanJudged limits hearing aad old new 4
-  ran_unflushed {E = E} r g flush more once = stopped r g (part r g.over) (λ empty reads writes. one_more old.write_failures mid.write_failures new.write_failures more once writes)
-    where
-      rose : old.write_failures < new.write_failures
-      rose = omega arith
-
-      part : (r : Result Counts (GateFault E)) → GatedOver limits hearing.allows aad old mid g.input g.steps r
-          → InPart limits hearing.allows aad old new g.input g.steps
-      part (Ok counts) o = record {
-        more = [];
-        course = o.course;
-        front = output_of hearing.allows aad g.steps;
-        writes = flushed old.written mid.written new.written (output_of hearing.allows aad g.steps) flush.kept o.writes;
-        stops = writer rose (whole_front (output_of hearing.allows aad g.steps));
-      }
-      part (Err fault) o = record {
-        more = o.more;
-        course = o.course;
-        front = o.front;
-        writes = flushed old.written mid.written new.written o.front flush.kept o.writes;
-        stops = stops_flushed limits hearing.allows aad old mid new g.steps o.more o.front flush o.stops;
-      }
+  ran_unflushed {E = E} (Ok counts) g flushes more once = stopped (Ok counts) g (record {
+    more = [];
+    course = g.over.course;
+    front = output_of hearing.allows aad g.steps;
+    writes = flushed old.written mid.written new.written (output_of hearing.allows aad g.steps) flushes.kept g.over.writes;
+    stops = flush (risen old.write_failures mid.write_failures new.write_failures more once) refl refl
+        (subst (λ (l : Option (List ℕ)). IfKnown old.left (λ b. l ≡ Some [])) (sym flushes.left) g.over.ended);
+  }) g.asked (λ empty reads writes. one_more old.write_failures mid.write_failures new.write_failures more once writes)
+  ran_unflushed {E = E} (Err fault) g flushes more once = ran_stopped fault g flushes
+      (λ empty reads writes. one_more old.write_failures mid.write_failures new.write_failures more once writes)
 
 module _ {T : Type 0} (limits : Bounds) (hearing : Hearing T) (aad : List ℕ) (old mid : Devices) where
   -- of nothing no item is refused

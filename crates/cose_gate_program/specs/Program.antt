@@ -1,5 +1,6 @@
 -- What the program does with a whole input.
-use Rattle.std.specs.Prelude.{◌≡◌, ◌≢◌, ◌⊎◌, ◌<◌, ◌≤◌, ℕ, List, [], ◌++◌, length, Option, None, Some, Bool, true, Result, Ok, Err, IsOk, if◌then◌else◌, nat_eq}
+use Rattle.std.specs.Prelude.{◌≡◌, ◌≢◌, ◌⊎◌, ◌<◌, ◌≤◌, ℕ, List, [], ◌∷◌, ◌++◌, length, Option, None, Some, Bool, true, Result, Ok, Err, IsOk, if◌then◌else◌, nat_eq}
+use Rattle.std.proofs.Common.{inl, inr}
 use Rattle.std.specs.Io.KnownBytes.{Appends}
 use Rattle.ciborium_ll.specs.declared.read.Read.{Ghosts as Reads}
 use Rattle.ciborium_ll.specs.declared.write.Write.{Ghosts as Writes}
@@ -9,7 +10,7 @@ use Rattle.cose_gate_hmac.specs.GateCore.Questions.{Question}
 use Rattle.cose_gate_hmac.specs.GateCore.Asked.{IsFront, ToldFront}
 use Rattle.cose_gate_hmac.specs.GateCore.Findings.{Bounds, usual}
 use Rattle.cose_gate_hmac.specs.GateCore.Outcome.{IsFaultOf}
-use Rattle.cose_gate_hmac.specs.GateCore.Run.{Step, Course, questions_of, output_of, refused_count}
+use Rattle.cose_gate_hmac.specs.GateCore.Run.{Step, Course, questions_of, output_of, written_of, passes, refused_count}
 use Rattle.cose_gate_hmac.specs.GateCore.declared.gating.Counts.{Counts}
 use Rattle.cose_gate_hmac.specs.GateCore.declared.gating.GateFault.{GateFault}
 use Rattle.cose_gate_hmac.specs.GateCore.declared.judge.Judge.{Ghosts as Judges}
@@ -70,13 +71,30 @@ pub record Through (limits : Bounds) (allows : Question → Bool) (aad : List �
   pub refused_is : refused ≡ refused_count allows aad steps
   pub ended : IfKnown old.left (λ b. new.left ≡ Some [])
 
+-- the writer failed at the last step, whose message passes: a beginning of its text was written behind
+-- the output before it, and the reader stands behind its item, where it tells what is to come
+pub record Torn (allows : Question → Bool) (aad : List ℕ) (left : Option (List ℕ))
+    (steps : List Step) (more front : List ℕ) : Type 0 where
+  pub done : List Step
+  pub last : Step
+  pub parts : steps ≡ done ++ last ∷ []
+  pub passed : passes allows aad last.finding ≡ true
+  pub text : List ℕ
+  pub is_front : IsFront text (written_of allows aad last.finding)
+  pub front_is : front ≡ output_of allows aad done ++ text
+  pub behind : IfKnown left (λ b. b ≡ more)
+
 -- why a run stopped behind these steps, with `more` to come, and what was written of their output:
--- a beginning where the writer failed, also at the flush; all of it where the reader failed, or no
--- readable item comes; and where memory was refused, all or that before the last step. Where each
--- step was done then, an item was to come.
+-- a torn text where the writer failed; all of it where the whole input was gone through and the
+-- flush failed, where the reader failed, or no readable item comes; and where memory was refused,
+-- all or that before the last step. Then the reader stands behind that step's item, and where each
+-- step was done, an item was to come.
 pub data Stops (limits : Bounds) (allows : Question → Bool) (aad : List ℕ) (old new : Devices)
     (steps : List Step) (more front : List ℕ) : Type 0 where
-  writer : old.write_failures < new.write_failures → IsFront front (output_of allows aad steps)
+  writer : old.write_failures < new.write_failures → Torn allows aad new.left steps more front
+      → Stops limits allows aad old new steps more front
+  flush : old.write_failures < new.write_failures → more ≡ []
+      → front ≡ output_of allows aad steps → IfKnown old.left (λ b. new.left ≡ Some [])
       → Stops limits allows aad old new steps more front
   reader : old.read_failures < new.read_failures → front ≡ output_of allows aad steps
       → Stops limits allows aad old new steps more front
@@ -84,11 +102,12 @@ pub data Stops (limits : Bounds) (allows : Question → Bool) (aad : List ℕ) (
       → front ≡ output_of allows aad steps → Stops limits allows aad old new steps more front
   memory : (done last : List Step) → steps ≡ done ++ last → length last ≤ 1
       → (last ≡ [] → IfKnown old.left (λ b. more ≢ []))
+      → (last ≢ [] → IfKnown new.left (λ b. b ≡ more))
       → (front ≡ output_of allows aad done) ⊎ (front ≡ output_of allows aad steps)
       → Stops limits allows aad old new steps more front
 
--- b was gone through by these steps up to some place, and a beginning of the output up to there was
--- written. A text is torn only where the writer failed.
+-- b was gone through by these steps up to some place, and what was written is a beginning of their
+-- output. A text is torn only where the writer failed.
 pub record InPart (limits : Bounds) (allows : Question → Bool) (aad : List ℕ) (old new : Devices)
     (b : List ℕ) (steps : List Step) : Type 0 where
   pub more : List ℕ
@@ -129,17 +148,43 @@ pub record RanOn (limits : Bounds) (allows : Question → Bool) (aad : List ℕ)
   pub steady : status < 2
       → (new.read_failures ≡ old.read_failures) × (new.write_failures ≡ old.write_failures)
 
+-- which questions were asked where a run stopped so: all about its steps. Where memory was refused,
+-- all about those before the last, and some about the last; all about it where its text was written.
+abbrev pub IsAskedAt : {limits : Bounds} {old new : Devices} {more : List ℕ}
+    (allows : Question → Bool) (aad : List ℕ) (steps : List Step) (front : List ℕ)
+    → Stops limits allows aad old new steps more front → List Question → Type 0
+IsAskedAt allows aad steps front (writer rose torn) asked = asked ≡ questions_of allows aad steps
+IsAskedAt allows aad steps front (flush rose end all ended) asked =
+    asked ≡ questions_of allows aad steps
+IsAskedAt allows aad steps front (reader rose all) asked = asked ≡ questions_of allows aad steps
+IsAskedAt allows aad steps front (no_item why all) asked = asked ≡ questions_of allows aad steps
+IsAskedAt allows aad steps front (memory done last parts one due behind texts) asked =
+    IsFront (questions_of allows aad done) asked × IsFront asked (questions_of allows aad steps)
+    × (front ≢ output_of allows aad done → asked ≡ questions_of allows aad steps)
+
+-- which were asked in a run: all about its steps where it went through the whole input
+abbrev pub IsAskedBy : {E : Type 0} (limits : Bounds) (allows : Question → Bool) (aad : List ℕ)
+    (old new : Devices) (b : List ℕ) (steps : List Step) (r : Result Counts (GateFault E))
+    → GatedOver limits allows aad old new b steps r → List Question → Type 0
+IsAskedBy limits allows aad old new b steps (Ok counts) through asked =
+    asked ≡ questions_of allows aad steps
+IsAskedBy limits allows aad old new b steps (Err fault) part asked =
+    IsAskedAt allows aad steps part.front part.stops asked
+
+abbrev pub IsAskedIn : (limits : Bounds) (allows : Question → Bool) (aad : List ℕ)
+    (old new : Devices) (b : List ℕ) (steps : List Step) (status : ℕ)
+    → RanOver limits allows aad old new b steps status → List Question → Type 0
+IsAskedIn limits allows aad old new b steps status (inl through) asked =
+    asked ≡ questions_of allows aad steps
+IsAskedIn limits allows aad old new b steps status (inr part) asked =
+    IsAskedAt allows aad steps part.0.front part.0.stops asked
+
 -- a judge was told a beginning of the questions about these steps, in order: all of them where the
--- steps were made whole, and always all about the steps before the last
+-- steps were made whole
 pub record Heard {T : Type 0} (hearing : Hearing T) (aad : List ℕ) (steps : List Step)
     (Whole : Type 0) : Type 0 where
   pub told : ToldFront hearing.decided hearing.before hearing.after
       (questions_of hearing.allows aad steps)
-  pub done : List Step
-  pub last : List Step
-  pub parts : steps ≡ done ++ last
-  pub one : length last ≤ 1
-  pub all_before : IsFront (questions_of hearing.allows aad done) told.front
   pub all : Whole → told.front ≡ questions_of hearing.allows aad steps
 
 -- the gate went over some bytes, those to come where these are known, and the judge was asked about
@@ -151,13 +196,16 @@ pub record Gated {T E : Type 0} (limits : Bounds) (hearing : Hearing T) (aad : L
   pub steps : List Step
   pub over : GatedOver limits hearing.allows aad old new input steps r
   pub heard : Heard hearing aad steps (IsOk r)
+  pub asked : IsAskedBy limits hearing.allows aad old new input steps r over heard.told.front
 
 -- the program ran with a judge, which was asked about the steps of the run: about all of them where
--- the status is 0 or 1
+-- the status is 0 or 1, and else up to where it stopped
 pub record RanJudged {T : Type 0} (limits : Bounds) (hearing : Hearing T) (aad : List ℕ)
     (old new : Devices) (status : ℕ) : Type 0 where
   pub on : RanOn limits hearing.allows aad old new status
   pub heard : Heard hearing aad on.ran.steps (status < 2)
+  pub asked : IsAskedIn limits hearing.allows aad old new on.ran.input on.ran.steps status
+      on.ran.over heard.told.front
 
 -- how the program ends: where KEYS holds a key set, and AADHEX is hex or absent, after a run with
 -- them; else nothing was read and nothing written. KEYS is tested before AADHEX, and AADHEX before

@@ -65,7 +65,8 @@ fn gate_lines<R: Read, W: Write, E: Write, J: Judge>(
 /// The program's run with any judge: the gate over the input within these limits, and strict where
 /// that is asked, with `aad` as external data. The messages that passed go to `out`, which is
 /// flushed, and on `err` there are the lines that `run` tells of. The judge is asked about the
-/// items in order, about all of them where the status is 0 or 1.
+/// items in order: about all of them where the status is 0 or 1, and with 4 about all up to where
+/// the run stopped; where memory was refused at an item, it may be asked in part about that one.
 ///
 /// The status is 0 where no item was refused, 1 where some were, and 4 where the gate stopped or
 /// memory was refused.
