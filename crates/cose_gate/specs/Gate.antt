@@ -10,7 +10,7 @@ use Rattle.ciborium.specs.declared.de.Error.TheVariants as de
 use Rattle.cose_gate_laws.specs.GateCore.Asked.{folded_over, IsFront}
 use Rattle.cose_gate_laws.specs.GateCore.Calls.{rules_by, sight_of}
 use Rattle.cose_gate_laws.specs.GateCore.Findings.{Bounds}
-use Rattle.cose_gate_laws.specs.GateCore.Outcome.{Rules, Sight, IsFaultOf, StandsIn, IsNoRead}
+use Rattle.cose_gate_laws.specs.GateCore.Outcome.{Rules, Sight, IsFaultOf, StandsIn, IsNoReaderFault}
 use Rattle.cose_gate_laws.specs.GateCore.Questions.{Question}
 use Rattle.cose_gate_laws.specs.GateCore.Run.{Step, Run, passes, text_of, questions_of, output_of}
 use Rattle.cose_gate_laws.specs.GateCore.Run.{passed_count, refused_count}
@@ -130,12 +130,11 @@ pub record Refused {T S : Type 0} (rules : Rules T S) (old new : Sight T S)
   pub stands : (s : Step) → last ≡ s ∷ [] → new.offset ≡ s.item.offset + length s.item.bytes
   pub more : List ℕ
   pub come : old.left ≡ Some (bytes_of (done ++ last) ++ more)
-  pub between : last ≡ [] → StandsIn more
-      (old.offset + length (bytes_of (done ++ last) ++ more)) new (Unit {0})
+  pub between : last ≡ [] → StandsIn old new (bytes_of (done ++ last) ++ more) more (Unit {0})
 
 -- where the gate stops: Ok exactly where nothing is left behind the items, with all bytes taken,
--- and the reader tells that nothing is left; else with the fault of what is left. Of an item that is
--- cut some bytes were taken. Where all items were gone through the gate stands in what is left
+-- and the reader tells that nothing is left; else with the fault of what is left. Of an item that
+-- is cut some bytes were taken. Where all items were gone through the gate stands in what is left
 -- behind them, and in any case in the bytes that were to come.
 abbrev pub StopsAt : {T S E : Type 0} → (E → Bool) → ℕ → Sight T S → Sight T S → List ℕ → List ℕ
     → Result Counts (GateFault E) → Type 0
@@ -144,8 +143,8 @@ StopsAt ends n old new b rest (Ok counts) =
 StopsAt ends n old new b rest (Err (Decode e)) =
     IsFaultOf ends n (old.offset + length b) rest e
     × IfEnd ends (old.offset + length b < new.offset + length rest) e
-    × IfThrough ends (Err (Decode e)) (StandsIn rest (old.offset + length b) new (IsNoRead e))
-    × StandsIn b (old.offset + length b) new (IsNoRead e)
+    × IfThrough ends (Err (Decode e)) (StandsIn old new b rest (IsNoReaderFault e))
+    × StandsIn old new b b (IsNoReaderFault e)
 StopsAt ends n old new b rest (Err Write) = Unit {0}
 StopsAt ends n old new b rest (Err Memory) = Unit {0}
 
