@@ -42,8 +42,9 @@ call_of r w p j limits aad decoder out report judge decoder' out' report' judge'
   new = sight_of r w p j decoder' out' report' judge';
 }
 
--- P holds of the bytes to come, where these are known, of the steps of the run over them, and of what
--- is left behind its items. Of a step's entry it is open which of a shape's faults is named, and so P holds of each way to say it.
+-- P holds of the bytes to come, where these are known, of the steps of the run over them, and of
+-- what is left behind its items. Of a step's entry it is open which of a shape's faults is named,
+-- and so P holds of each way to say it.
 abbrev pub OverRun : {T S : Type 0} → Rules T S → Sight T S
     → (List ℕ → List Step → List ℕ → Type 0) → Type 0
 OverRun rules old P =
@@ -90,8 +91,9 @@ pub record WrittenFront {T S : Type 0} (rules : Rules T S) (old new : Sight T S)
   pub front : IsFront text (output_of rules.allows rules.aad ss)
   pub written : Appends old.written new.written text
 
--- the text of one message that passes is torn: what stands before it was done whole, all was asked about it, it wasn't noted, a
--- beginning of its text was written, and the offset is the one behind its item
+-- the text of one message that passes is torn: what stands before it was done whole, all was asked
+-- about it, it wasn't noted, a beginning of its text was written, and the offset is the one behind
+-- its item
 pub record Torn {T S : Type 0} (rules : Rules T S) (old new : Sight T S)
     (ss : List Step) : Type 0 where
   pub done : List Step

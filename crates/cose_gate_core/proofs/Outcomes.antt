@@ -370,7 +370,7 @@ module _ {T S : Type 0} (rules : Rules T S) where
   answer_item ends old new newer passed refused r v t fault.Write h state = write_within ends old new newer passed refused r v t h state
   answer_item ends old new newer passed refused r v t fault.Memory (writes, inl told) state =
       memory_between ends old new newer passed refused r told state writes (λ none. nothing_read rules.limits.nesting new.left newer.left new.offset newer.offset v none t)
-          (λ (b : List ℕ). Reads b rules.limits.nesting v) t
+      (λ (b : List ℕ). Reads b rules.limits.nesting v) t
   answer_item ends old new newer passed refused r v t fault.Memory (writes, inr half) state = memory_asking ends old new newer passed refused r v t half state writes
 
   -- Memory, where the item went through and the report refused its entry
