@@ -11,7 +11,7 @@ use Rattle.ciborium.specs.declared.de.Error.TheVariants as de
 use Rattle.ciborium.proofs.Excludes.{excludes}
 use Rattle.cose_gate_laws.specs.GateCore.Asked.{folded_over, IsFront}
 use Rattle.cose_gate_laws.specs.GateCore.Questions.{Question}
-use Rattle.cose_gate_laws.specs.GateCore.Outcome.{Rules, Sight, Made, IsFaultOf, StandsIn, IsNoRead, Outcome, Answers}
+use Rattle.cose_gate_laws.specs.GateCore.Outcome.{Rules, Sight, Made, IsFaultOf, StandsIn, IsNoReaderFault, Outcome, Answers}
 use Rattle.cose_gate_laws.specs.GateCore.Run.{Step, Run, Course, asked_of, written_of, text_of, passes, questions_of, output_of, entries_of, passed_count, refused_count}
 use Rattle.cose_gate_laws.specs.GateCore.declared.gating.Counts.{Counts}
 use Rattle.cose_gate_laws.specs.GateCore.declared.gating.GateFault.{GateFault}
@@ -102,11 +102,11 @@ module _ {T S : Type 0} (rules : Rules T S) where
 
       -- where the gate stands in what is left behind the items of the run, and in the whole input
       stands_behind : (cs : List Step) (more : List ℕ) (P : Type 0) → Course rules.limits rules.allows rules.aad old.offset b cs more → IsUnreadableWithin rules.limits.nesting more
-          → StandsIn more (old.offset + length b) new P → StandsIn rest (old.offset + length b) new P
-      stands_behind cs more P c u s = subst (λ (z : List ℕ). StandsIn z (old.offset + length b) new P) (sym (full cs more c u).1) s
+          → StandsIn old new b more P → StandsIn old new b rest P
+      stands_behind cs more P c u s = subst (λ (z : List ℕ). StandsIn old new b z P) (sym (full cs more c u).1) s
 
       stands_whole : (cs : List Step) (more : List ℕ) (P : Type 0) → Course rules.limits rules.allows rules.aad old.offset b cs more
-          → StandsIn more (old.offset + length b) new P → StandsIn b (old.offset + length b) new P
+          → StandsIn old new b more P → StandsIn old new b b P
       stands_whole cs more P c s = record {
         taken = bytes_of cs ++ s.taken;
         rest = s.rest;
@@ -163,32 +163,32 @@ module _ {T S : Type 0} (rules : Rules T S) where
             let f = fault_here o.more (de.Io e) o.fault in (
               λ t. rest_at o.steps o.more (de.Io e) o.course (damaged _ _ o.more _ (f t).0) f t,
               λ t. end_at o.steps o.more e o.course (damaged _ _ o.more _ (f t).0) o.behind t,
-              λ t. stands_behind o.steps o.more (IsNoRead (de.Io e)) o.course (damaged _ _ o.more _ (f t).0) o.stands,
-              stands_whole o.steps o.more (IsNoRead (de.Io e)) o.course o.stands,
+              λ t. stands_behind o.steps o.more (IsNoReaderFault (de.Io e)) o.course (damaged _ _ o.more _ (f t).0) o.stands,
+              stands_whole o.steps o.more (IsNoReaderFault (de.Io e)) o.course o.stands,
             )
         stops (Err (Decode (de.Syntax p))) o =
             let f = fault_here o.more (de.Syntax p) o.fault in (
               rest_at o.steps o.more (de.Syntax p) o.course (damaged _ _ o.more _ f) f,
               tt,
-              stands_behind o.steps o.more (IsNoRead (de.Syntax p)) o.course (damaged _ _ o.more _ f) o.stands,
-              stands_whole o.steps o.more (IsNoRead (de.Syntax p)) o.course o.stands,
+              stands_behind o.steps o.more (IsNoReaderFault (de.Syntax p)) o.course (damaged _ _ o.more _ f) o.stands,
+              stands_whole o.steps o.more (IsNoReaderFault (de.Syntax p)) o.course o.stands,
             )
         stops (Err (Decode (de.Semantic q k))) o =
             let f = fault_here o.more (de.Semantic q k) o.fault in (
               rest_at o.steps o.more (de.Semantic q k) o.course (damaged _ _ o.more _ f.1) f,
               tt,
-              stands_behind o.steps o.more (IsNoRead (de.Semantic q k)) o.course (damaged _ _ o.more _ f.1) o.stands,
-              stands_whole o.steps o.more (IsNoRead (de.Semantic q k)) o.course o.stands,
+              stands_behind o.steps o.more (IsNoReaderFault (de.Semantic q k)) o.course (damaged _ _ o.more _ f.1) o.stands,
+              stands_whole o.steps o.more (IsNoReaderFault (de.Semantic q k)) o.course o.stands,
             )
         stops (Err (Decode de.RecursionLimitExceeded)) o =
             let f = fault_here o.more de.RecursionLimitExceeded o.fault in (
               rest_at o.steps o.more de.RecursionLimitExceeded o.course (damaged _ _ o.more _ f) f,
               tt,
-              stands_behind o.steps o.more (IsNoRead de.RecursionLimitExceeded) o.course (damaged _ _ o.more _ f) o.stands,
-              stands_whole o.steps o.more (IsNoRead de.RecursionLimitExceeded) o.course o.stands,
+              stands_behind o.steps o.more (IsNoReaderFault de.RecursionLimitExceeded) o.course (damaged _ _ o.more _ f) o.stands,
+              stands_whole o.steps o.more (IsNoReaderFault de.RecursionLimitExceeded) o.course o.stands,
             )
-        stops (Err (Decode de.Memory)) o = (fault_here o.more de.Memory o.fault, tt, tt, stands_whole o.steps o.more (IsNoRead de.Memory) o.course o.stands)
-        stops (Err (Decode de.TooLong)) o = (fault_here o.more de.TooLong o.fault, tt, tt, stands_whole o.steps o.more (IsNoRead de.TooLong) o.course o.stands)
+        stops (Err (Decode de.Memory)) o = (fault_here o.more de.Memory o.fault, tt, tt, stands_whole o.steps o.more (IsNoReaderFault de.Memory) o.course o.stands)
+        stops (Err (Decode de.TooLong)) o = (fault_here o.more de.TooLong o.fault, tt, tt, stands_whole o.steps o.more (IsNoReaderFault de.TooLong) o.course o.stands)
         stops (Err Write) o = tt
         stops (Err Memory) o = tt
 
@@ -374,7 +374,7 @@ module _ {T S : Type 0} (rules : Rules T S) where
               stands = λ d is. stands_at d o.last refl s.behind s.then is;
               more = o.more;
               come = is ∙ ap Some input;
-              between = λ none. subst (λ (z : List ℕ). StandsIn o.more (old.offset + length z) new (Unit {0})) input (o.between (pair_none o.last s.behind s.then none));
+              between = λ none. subst (λ (z : List ℕ). StandsIn old new z o.more (Unit {0})) input (o.between (pair_none o.last s.behind s.then none));
             }
 
             by_texts : (o.texts ≡ o.done) ⊎ ((o.texts ≡ o.done ++ o.last) × (o.asked ≡ questions_of rules.allows rules.aad o.last)) → Refused rules old new ss

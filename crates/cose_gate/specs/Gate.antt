@@ -10,7 +10,7 @@ use Rattle.ciborium.specs.declared.de.Error.TheVariants as de
 use Rattle.cose_gate_laws.specs.GateCore.Asked.{folded_over, IsFront}
 use Rattle.cose_gate_laws.specs.GateCore.Calls.{rules_by, sight_of}
 use Rattle.cose_gate_laws.specs.GateCore.Findings.{Bounds}
-use Rattle.cose_gate_laws.specs.GateCore.Outcome.{Rules, Sight, IsFaultOf, StandsIn, IsNoRead}
+use Rattle.cose_gate_laws.specs.GateCore.Outcome.{Rules, Sight, IsFaultOf, StandsIn, IsNoReaderFault}
 use Rattle.cose_gate_laws.specs.GateCore.Questions.{Question}
 use Rattle.cose_gate_laws.specs.GateCore.Run.{Step, Run, passes, text_of, questions_of, output_of}
 use Rattle.cose_gate_laws.specs.GateCore.Run.{passed_count, refused_count}
@@ -42,8 +42,9 @@ call_of r w p j limits aad decoder out report judge decoder' out' report' judge'
   new = sight_of r w p j decoder' out' report' judge';
 }
 
--- P holds of the bytes to come, where these are known, of the steps of the run over them, and of what
--- is left behind its items. Of a step's entry it is open which of a shape's faults is named, and so P holds of each way to say it.
+-- P holds of the bytes to come, where these are known, of the steps of the run over them, and of
+-- what is left behind its items. Of a step's entry it is open which of a shape's faults is named,
+-- and so P holds of each way to say it.
 abbrev pub OverRun : {T S : Type 0} → Rules T S → Sight T S
     → (List ℕ → List Step → List ℕ → Type 0) → Type 0
 OverRun rules old P =
@@ -90,8 +91,9 @@ pub record WrittenFront {T S : Type 0} (rules : Rules T S) (old new : Sight T S)
   pub front : IsFront text (output_of rules.allows rules.aad ss)
   pub written : Appends old.written new.written text
 
--- the text of one message that passes is torn: what stands before it was done whole, all was asked about it, it wasn't noted, a
--- beginning of its text was written, and the offset is the one behind its item
+-- the text of one message that passes is torn: what stands before it was done whole, all was asked
+-- about it, it wasn't noted, a beginning of its text was written, and the offset is the one behind
+-- its item
 pub record Torn {T S : Type 0} (rules : Rules T S) (old new : Sight T S)
     (ss : List Step) : Type 0 where
   pub done : List Step
@@ -130,12 +132,11 @@ pub record Refused {T S : Type 0} (rules : Rules T S) (old new : Sight T S)
   pub stands : (s : Step) → last ≡ s ∷ [] → new.offset ≡ s.item.offset + length s.item.bytes
   pub more : List ℕ
   pub come : old.left ≡ Some (bytes_of (done ++ last) ++ more)
-  pub between : last ≡ [] → StandsIn more
-      (old.offset + length (bytes_of (done ++ last) ++ more)) new (Unit {0})
+  pub between : last ≡ [] → StandsIn old new (bytes_of (done ++ last) ++ more) more (Unit {0})
 
 -- where the gate stops: Ok exactly where nothing is left behind the items, with all bytes taken,
--- and the reader tells that nothing is left; else with the fault of what is left. Of an item that is
--- cut some bytes were taken. Where all items were gone through the gate stands in what is left
+-- and the reader tells that nothing is left; else with the fault of what is left. Of an item that
+-- is cut some bytes were taken. Where all items were gone through the gate stands in what is left
 -- behind them, and in any case in the bytes that were to come.
 abbrev pub StopsAt : {T S E : Type 0} → (E → Bool) → ℕ → Sight T S → Sight T S → List ℕ → List ℕ
     → Result Counts (GateFault E) → Type 0
@@ -144,8 +145,8 @@ StopsAt ends n old new b rest (Ok counts) =
 StopsAt ends n old new b rest (Err (Decode e)) =
     IsFaultOf ends n (old.offset + length b) rest e
     × IfEnd ends (old.offset + length b < new.offset + length rest) e
-    × IfThrough ends (Err (Decode e)) (StandsIn rest (old.offset + length b) new (IsNoRead e))
-    × StandsIn b (old.offset + length b) new (IsNoRead e)
+    × IfThrough ends (Err (Decode e)) (StandsIn old new b rest (IsNoReaderFault e))
+    × StandsIn old new b b (IsNoReaderFault e)
 StopsAt ends n old new b rest (Err Write) = Unit {0}
 StopsAt ends n old new b rest (Err Memory) = Unit {0}
 

@@ -23,7 +23,7 @@ use Rattle.cose_gate_core.specs.Questions.{Question, MessageFields, questions}
 use Rattle.cose_gate_core.specs.Asked.{first_no, folded_over, IsFront}
 use Rattle.cose_gate_core.specs.Findings.{judged}
 use Rattle.cose_gate_core.specs.Run.{Step, Steps, judged_by, has_passed, passes, asked_of, written_of, questions_of, output_of, entries_of, passed_count, refused_count, Course}
-use Rattle.cose_gate_core.specs.Outcome.{Rules, Sight, Made, IsFaultOf, IsReadFault, StandsIn, IsNoRead, Answers}
+use Rattle.cose_gate_core.specs.Outcome.{Rules, Sight, Made, IsFaultOf, IsReadFault, StandsIn, IsNoReaderFault, Answers}
 use Rattle.cose_gate_core.specs.Passing.{WentThrough, Half, HalfWritten, ItemFails, at_end, stopped_by}
 use Rattle.coset_labels.specs.Limits.{nesting_of}
 use Rattle.cose_gate_core.specs.Terms.{IsTaken}
@@ -74,7 +74,18 @@ record Partly (l l' : Option (List ℕ)) (p p' : ℕ) (P : Type 0) : Type 0 wher
   pub rest : List ℕ
   pub whole : more ≡ taken ++ rest
   pub grown : p' ≡ p + length taken
-  pub behind : P → IfKnown l' (λ b. b ≡ rest)
+  pub behind : P → IfKnown l (λ b. l' ≡ Some rest)
+
+-- what is left is told where it was told what was to come
+rest_told : (l l' : Option (List ℕ)) (b : List ℕ) → Consumes l l' b → IfKnown l (λ a. l' ≡ Some (rest_of l'))
+rest_told None l' b c = tt
+rest_told (Some a) None b c = absurd c
+rest_told (Some a) (Some r) b c = refl
+
+known_before : (Q : Type 0) (l l' : Option (List ℕ)) (b : List ℕ) → Consumes l l' b → IfKnown l' (λ r. Q) → IfKnown l (λ a. Q)
+known_before Q None l' b c k = tt
+known_before Q (Some a) None b c k = absurd c
+known_before Q (Some a) (Some r) b c k = k
 
 moved : (l l' : Option (List ℕ)) (p p' : ℕ) (P : Type 0) (Q : List ℕ → Type 0) → Moves l l' p p' Q → Partly l l' p p' P
 moved l l' p p' P Q t = record {
@@ -84,7 +95,7 @@ moved l l' p p' P Q t = record {
   rest = rest_of l';
   whole = refl;
   grown = t.grown;
-  behind = λ is. rest_known l';
+  behind = λ is. rest_told l l' t.bytes t.taken;
 }
 
 -- what was taken of the bytes to come, and what follows it there
@@ -92,13 +103,13 @@ stopped : (l l' : Option (List ℕ)) (p p' : ℕ) (P : Type 0) → (P → ⊥) �
 stopped None l' p p' P not b s g = record { more = b; is = tt; taken = b; rest = []; whole = sym (append-nil b); grown = g; behind = λ is. absurd (not is) }
 stopped (Some a) l' p p' P not b s g = record { more = a; is = refl; taken = b; rest = s.0; whole = s.1; grown = g; behind = λ is. absurd (not is) }
 
-partly : {E : Type 0} (l l' : Option (List ℕ)) (p p' : ℕ) (e : Error E) → SomeTaken l l' p p' e → Partly l l' p p' (IsNoRead e)
-partly l l' p p' (de.Io x) s = stopped l l' p p' (IsNoRead (de.Io x)) (λ no. no x refl) s.bytes s.there s.grown
-partly l l' p p' (de.Syntax q) s = moved l l' p p' (IsNoRead (de.Syntax q)) (λ _. Unit {0}) s
-partly l l' p p' (de.Semantic o j) s = moved l l' p p' (IsNoRead (de.Semantic o j)) (λ _. Unit {0}) s
-partly l l' p p' de.RecursionLimitExceeded s = moved l l' p p' (IsNoRead de.RecursionLimitExceeded) (λ _. Unit {0}) s
-partly l l' p p' de.Memory s = moved l l' p p' (IsNoRead de.Memory) (λ _. Unit {0}) s
-partly l l' p p' de.TooLong s = moved l l' p p' (IsNoRead de.TooLong) (λ _. Unit {0}) s
+partly : {E : Type 0} (l l' : Option (List ℕ)) (p p' : ℕ) (e : Error E) → SomeTaken l l' p p' e → Partly l l' p p' (IsNoReaderFault e)
+partly l l' p p' (de.Io x) s = stopped l l' p p' (IsNoReaderFault (de.Io x)) (λ no. no x refl) s.bytes s.there s.grown
+partly l l' p p' (de.Syntax q) s = moved l l' p p' (IsNoReaderFault (de.Syntax q)) (λ _. Unit {0}) s
+partly l l' p p' (de.Semantic o j) s = moved l l' p p' (IsNoReaderFault (de.Semantic o j)) (λ _. Unit {0}) s
+partly l l' p p' de.RecursionLimitExceeded s = moved l l' p p' (IsNoReaderFault de.RecursionLimitExceeded) (λ _. Unit {0}) s
+partly l l' p p' de.Memory s = moved l l' p p' (IsNoReaderFault de.Memory) (λ _. Unit {0}) s
+partly l l' p p' de.TooLong s = moved l l' p p' (IsNoReaderFault de.TooLong) (λ _. Unit {0}) s
 
 -- a fault of the bytes to come, seen from where the bytes began
 fault_from : {E : Type 0} (ends : E → Bool) (k : ℕ) (l l' : Option (List ℕ)) (b more : List ℕ) (p p' : ℕ) (e : Error E) → Consumes l l' b → IfKnown l' (λ r. r ≡ more)
@@ -226,14 +237,14 @@ module _ {T S : Type 0} (rules : Rules T S) where
       }
 
   -- where the gate stands in what was to come behind the steps
-  stands_in : (old new newer : Sight T S) (P : Type 0) (input : List ℕ) (k : Partly new.left newer.left new.offset newer.offset P)
-      → new.offset + length k.more ≡ old.offset + length input → StandsIn k.more (old.offset + length input) newer P
-  stands_in old new newer P input k s = record {
+  stands_in : (old new newer : Sight T S) (P : Type 0) (input b : List ℕ) → Consumes old.left new.left b → (k : Partly new.left newer.left new.offset newer.offset P)
+      → new.offset + length k.more ≡ old.offset + length input → StandsIn old newer input k.more P
+  stands_in old new newer P input b c k s = record {
     taken = k.taken;
     rest = k.rest;
     whole = k.whole;
     stands = (let l : length k.more ≡ length k.taken + length k.rest = ap length k.whole ∙ length-append k.taken k.rest in let g = k.grown in omega arith);
-    behind = k.behind;
+    behind = λ is. known_before (newer.left ≡ Some k.rest) old.left new.left b c (k.behind is);
   }
 
   -- Memory, where all steps so far are made
@@ -263,7 +274,7 @@ module _ {T S : Type 0} (rules : Rules T S) where
           due = λ none. something_left old.left new.left r.taken.bytes k.more r.taken.taken k.is some;
           stands = λ one. absurd (one refl);
           behind = λ one. absurd (one refl);
-          between = λ none. stands_in old new newer (Unit {0}) w.input k w.stop;
+          between = λ none. stands_in old new newer (Unit {0}) w.input r.taken.bytes r.taken.taken k w.stop;
         };
       }
 
@@ -286,7 +297,7 @@ module _ {T S : Type 0} (rules : Rules T S) where
           fault = fault_from ends rules.limits.nesting old.left new.left r.taken.bytes k.more old.offset new.offset e r.taken.taken k.is r.taken.grown d.1;
           behind = (let s = w.stop in end_behind ends (new.offset < newer.offset) (old.offset + length w.input < newer.offset + length k.more)
               old.left new.left r.taken.bytes e r.taken.taken (λ less. omega arith) d.2);
-          stands = stands_in old new newer (IsNoRead e) w.input k w.stop;
+          stands = stands_in old new newer (IsNoReaderFault e) w.input r.taken.bytes r.taken.taken k w.stop;
         };
       }
   answer_read ends old new newer passed refused r told state writes Write d some = absurd d
@@ -359,7 +370,7 @@ module _ {T S : Type 0} (rules : Rules T S) where
   answer_item ends old new newer passed refused r v t fault.Write h state = write_within ends old new newer passed refused r v t h state
   answer_item ends old new newer passed refused r v t fault.Memory (writes, inl told) state =
       memory_between ends old new newer passed refused r told state writes (λ none. nothing_read rules.limits.nesting new.left newer.left new.offset newer.offset v none t)
-          (λ (b : List ℕ). Reads b rules.limits.nesting v) t
+      (λ (b : List ℕ). Reads b rules.limits.nesting v) t
   answer_item ends old new newer passed refused r v t fault.Memory (writes, inr half) state = memory_asking ends old new newer passed refused r v t half state writes
 
   -- Memory, where the item went through and the report refused its entry

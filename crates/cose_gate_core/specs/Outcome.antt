@@ -76,20 +76,20 @@ IsReadFault ends n left left' at at' (Decode e) =
 IsReadFault ends n left left' at at' Write = ⊥
 IsReadFault ends n left left' at at' Memory = Moves left left' at at' (λ _. Unit {0})
 
--- the gate stands in the bytes `more`, which end at the place `stop`: some of them were taken, none
--- or all as it may be, and the offset is as far before `stop` as the rest of them is long. Where P,
--- it is this rest that is left, as far as that is known.
-pub record StandsIn {T S : Type 0} (more : List ℕ) (stop : ℕ) (new : Sight T S)
+-- the gate stands in `more`, the last bytes of the input: some of them were taken, none or all as
+-- it may be, and the offset is as far before the end of the input as the rest of them is long.
+-- Where P, this rest is what the reader tells to come, if it told what was to come at the call.
+pub record StandsIn {T S : Type 0} (old new : Sight T S) (input more : List ℕ)
     (P : Type 0) : Type 0 where
   pub taken : List ℕ
   pub rest : List ℕ
   pub whole : more ≡ taken ++ rest
-  pub stands : new.offset + length rest ≡ stop
-  pub behind : P → IfKnown new.left (λ b. b ≡ rest)
+  pub stands : new.offset + length rest ≡ old.offset + length input
+  pub behind : P → IfKnown old.left (λ b. new.left ≡ Some rest)
 
--- the fault isn't one of the reader, and no end of it
-abbrev pub IsNoRead : {E : Type 0} → Error E → Type 0
-IsNoRead {E} e = (x : E) → e ≢ de.Io x
+-- a fault that isn't the reader's: it neither failed nor came to an end
+abbrev pub IsNoReaderFault : {E : Type 0} → Error E → Type 0
+IsNoReaderFault {E} e = (x : E) → e ≢ de.Io x
 
 -- Ok: the steps go through the whole input, all of them were made, the offset has grown by all
 -- bytes, and the reader tells that nothing is left, where it tells what is to come
@@ -103,9 +103,9 @@ pub record Whole {T S : Type 0} (rules : Rules T S) (old new : Sight T S) (input
   pub grown : new.offset ≡ old.offset + length input
   pub ended : IfKnown old.left (λ b. new.left ≡ Some [])
 
--- Decode: the steps go up to where the fault stands, and all of them were made. Of the bytes `more`,
--- which begin there, some were taken, or none, but at an end some; the rest is left, but where the
--- reader failed or came to an end.
+-- Decode: the steps go up to where the fault stands, and all of them were made. Of the bytes
+-- `more`, which begin there, some were taken, or none, but at an end some; the rest is left, but
+-- behind a fault of the reader what is left is open.
 pub record IfDecodeFailed {T S E : Type 0} (ends : E → Bool) (rules : Rules T S)
     (old new : Sight T S) (input : List ℕ) (e : Error E) : Type 0 where
   pub steps : List Step
@@ -117,7 +117,7 @@ pub record IfDecodeFailed {T S E : Type 0} (ends : E → Bool) (rules : Rules T 
       IsFaultOf ends rules.limits.nesting (old.offset + length b) more e)
   pub behind : IfKnown old.left (λ b.
       IfEnd ends (old.offset + length input < new.offset + length more) e)
-  pub stands : StandsIn more (old.offset + length input) new (IsNoRead e)
+  pub stands : StandsIn old new input more (IsNoReaderFault e)
 
 -- Write: `done` were made; the message of the next step passes, all was asked about it, and a
 -- beginning of its text was written. The offset is the one behind its item, and `more` is to come.
@@ -160,7 +160,7 @@ pub record IfMemoryRefused {T S : Type 0} (rules : Rules T S) (old new : Sight T
   pub due : last ≡ [] → IfKnown old.left (λ b. more ≢ [])
   pub stands : last ≢ [] → new.offset + length more ≡ old.offset + length input
   pub behind : last ≢ [] → IfKnown new.left (λ b. b ≡ more)
-  pub between : last ≡ [] → StandsIn more (old.offset + length input) new (Unit {0})
+  pub between : last ≡ [] → StandsIn old new input more (Unit {0})
 
 abbrev pub Outcome : {T S E : Type 0} → (E → Bool) → Rules T S → Sight T S → Sight T S → List ℕ
     → Result Counts (GateFault E) → Type 0
