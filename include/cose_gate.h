@@ -1,5 +1,5 @@
 /* cose_gate.h: the gate of COSE messages over memory (RFC 9052, RFC 8949). The library is out/libcose_gate_c.a of crates/cose_gate_c,
- * linked together with the kit's liblibc_c.a, which calls malloc, realloc and free. README.md, "From C, Rust, Go and Python".
+ * linked together with the kit's liblibc_c.a, which calls malloc, realloc and free. docs/LIBRARY.md.
  *
  * Buffers: all belong to the caller. A pointer is never NULL, also where its length is 0. `out`, `questions` and `lines` overlap nothing
  *   that is handed over in the same call; what is read may overlap. No length is above PTRDIFF_MAX. Nothing is kept after a call.
@@ -7,7 +7,7 @@
  *   of the lines is `stopped: memory`, in place of the one that the run ended with.
  *   The three are those of one allocator, and malloc and realloc align to each power of two up to 16 that divides the size.
  * Stack: within the limits of the program cose_gate_check was seen to take up to 116 KB, and the other two up to 190 KB: 61 and 155 for
- *   256 levels of arrays or maps, the most where 16 layers of protected headers hold such maps. Wider limits take more (docs/TIMES.md).
+ *   256 levels of arrays or maps, the most where 16 layers of protected headers hold such maps. Wider limits take more (docs/TIMES.md, "Stack").
  * Threads: any number of threads may call at once, each with buffers of its own. The library has no state, and starts no thread.
  * Signals and fork: not from a signal handler, and not in the forked child of a process with threads, as malloc isn't safe there.
  */
@@ -57,7 +57,7 @@ COSE_GATE_ASSERT(offsetof(cose_gate_answer, lines) == 16, "lines");
 COSE_GATE_ASSERT(sizeof(cose_gate_answer) == 24, "cose_gate_answer");
 
 /* Runs cose-gate over memory. `keys` is the text of a COSE_KeySet (RFC 9052, section 7), `aad` the external data as bytes, and `input` a
- * CBOR sequence. The messages that pass stand at the front of `out`, each as its one shortest text. `lines` takes what the program writes
+ * CBOR sequence. The messages that pass stand at the front of `out`, each as its shortest text. `lines` takes what the program writes
  * on standard error, as far as it fits. `nesting` is 2 to 4096 and `layers` 1 to 64; where `strict` is true, a message passes only where
  * it is already as it would be written.
  * The output may be longer than the input, as `c2450100000000` is written as `1b0000000100000000`; room of the input's length mostly

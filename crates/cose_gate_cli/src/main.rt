@@ -14,7 +14,7 @@ const BLOCK: usize = 65536;
 /// What `-h` and `--help` answer. The script `cose-gate` answers the same.
 const HELP: &str = "\
 usage: cose-gate KEYS [AADHEX] < INPUT > PASSED
-Reads a CBOR sequence, and writes the messages that pass, each in its one shortest form.
+Reads a CBOR sequence, and writes the messages that pass, each as its shortest text.
 What passes: a COSE_Mac0 behind its tag 17, whose MAC is HMAC with SHA-256 under the first key that fits it.
 KEYS: a file with a COSE_KeySet. AADHEX: the external data in hex, empty where it is left out.
 On standard error: a line for each item, and at the end how many passed and were refused.
