@@ -6,7 +6,7 @@ pub returns-in-Some : goal.returns-in-Some
 returns-in-Some c = (
   c.in-Some.records.now,
   c.run_judged-status.result,
-  inl (tells _ _ _ _ _ _ _ _ refl refl refl c.new-asker.ensures.told c.in-Some.ensures.records c.run_judged-status.ensures.ran),
+  inl (tells _ _ _ _ _ _ _ _ _ refl refl refl c.new-asker.ensures.told c.in-Some.ensures.records c.run_judged-status.ensures.ran),
   record { length_is = c.place.ensures.length; fits = c.place.ensures.fits; no_room = c.place.ensures.no_room },
 )
 
