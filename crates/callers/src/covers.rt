@@ -3,6 +3,7 @@ ghost use Rattle.std.specs.Prelude.{◌≡◌, ℕ, List, Option, Some, MatchRes
 ghost use Rattle.coset_messages.specs.EncryptedStructure.{encrypt0_covered, encrypt_covered};
 ghost use Rattle.coset_messages.specs.EncryptedView.{encrypt0_view, encrypt_view};
 ghost use Rattle.coset_messages.specs.Faults.{CantWrite};
+ghost use Rattle.coset_messages.specs.MacedStructure.{mac0_covered, mac_covered};
 ghost use Rattle.coset_messages.specs.MacedStructure.{mac0_covered_with, mac_covered_with};
 ghost use Rattle.coset_messages.specs.MacedView.{mac0_view, mac_view};
 ghost use Rattle.coset_messages.specs.SignedStructure.{sign1_covered_with, sign_covered_with};
@@ -91,6 +92,37 @@ pub fn mac_covers(
         result }
 {
     told(message.covered(alloc, payload, aad), bytes)
+}
+
+/// Whether the bytes are those that the message's tag covers with the payload that it carries. One
+/// that is carried elsewhere counts as empty.
+///
+/// # Errors
+/// As of `sign1_covers`.
+pub fn mac0_tags(
+    alloc: Global,
+    message: &CoseMac0,
+    aad: &[u8],
+    bytes: &[u8],
+) -> Result<bool, CoseError>
+    ensures { SaysCovered (mac0_covered (mac0_view message.now) aad.now) bytes.now result }
+{
+    told(message.tbm_data(alloc, aad), bytes)
+}
+
+/// As `mac0_tags`, of a message with recipients.
+///
+/// # Errors
+/// As of `sign1_covers`.
+pub fn mac_tags(
+    alloc: Global,
+    message: &CoseMac,
+    aad: &[u8],
+    bytes: &[u8],
+) -> Result<bool, CoseError>
+    ensures { SaysCovered (mac_covered (mac_view message.now) aad.now) bytes.now result }
+{
+    told(message.tbm_data(alloc, aad), bytes)
 }
 
 /// Whether the bytes are those that the message's cipher is handed beside the ciphertext.

@@ -1,5 +1,6 @@
 //! Items read and written. `ciborium` is the one crate that it names.
-ghost use Rattle.std.specs.Prelude.{◌≡◌, ◌≢◌, ◌++◌, ℕ, List, [], Option, None, Some, IfOk, IfErr, IfSome, IfNone, OnOk, MatchOption, pos, string_bytes, codes};
+ghost use Rattle.std.specs.Prelude.{◌≡◌, ◌≢◌, ◌≤◌, ◌++◌, ℕ, List, [], length, Option, None, Some};
+ghost use Rattle.std.specs.Prelude.{IfOk, IfErr, IfSome, IfNone, OnOk, MatchOption, pos, string_bytes, codes};
 ghost use Rattle.ciborium.specs.Tree as tree;
 ghost use Rattle.ciborium.specs.Tree.{Tree};
 ghost use Rattle.ciborium.specs.Front.{Reads};
@@ -8,7 +9,7 @@ ghost use Rattle.ciborium.specs.Items.{nesting};
 ghost use Rattle.ciborium.specs.Typed.{ReadsAs};
 ghost use Rattle.ciborium.specs.Encoding.{enc};
 
-use ciborium::de::{self, Deserialize};
+use ciborium::de::{self, Deserialize, Deserializer, Source};
 use ciborium::laws::one_spelling;
 use ciborium::ll::Decoder;
 use ciborium::ser::Serialize;
@@ -46,6 +47,29 @@ pub fn read_encoded(alloc: Global, input: &[u8]) -> Result<Option<Value>, de::Er
         return Ok(Some(value));
     }
     Ok(None)
+}
+
+/// The value at the front of the input, or why none was read, with the count of the bytes that were
+/// taken up to there.
+pub fn front_value(alloc: Global, input: &[u8]) -> Result<Value, (de::Error<End>, usize)>
+    ensures { IfErr result (λ r. r.1 ≤ length input.now) }
+{
+    let mut decoder = Decoder::from(input);
+    match de::from_decoder(alloc, &mut decoder, de::RECURSION_LIMIT) {
+        Ok(value) => Ok(value),
+        Err(fault) => Err((fault, decoder.offset())),
+    }
+}
+
+/// The first two values of the input.
+pub fn two_values(alloc: Global, input: &[u8]) -> Result<(Value, Value), de::Error<End>>
+    ensures { IfOk result (λ r. (one two rest : List ℕ) × (input.now ≡ one ++ (two ++ rest))
+        × Reads one nesting (view r.0) × Reads two nesting (view r.1)) }
+{
+    let mut values = Deserializer::new(alloc, Decoder::from(input), de::RECURSION_LIMIT);
+    let one = values.item()?;
+    let two = values.item()?;
+    Ok((one, two))
 }
 
 /// The text of the item that a value is written as.

@@ -1,7 +1,8 @@
 //! Items that are read as typed values.
-use crate::answers::Answer;
+use crate::answers::{Answer, append, in_hex};
 use crate::words;
 use ciborium::tag::Captured;
+use coset_labels::CborSerializable;
 use std::alloc::Global;
 
 /// The points of a name in a map, and how many bytes are left.
@@ -46,5 +47,26 @@ pub fn whole(alloc: Global, input: &str) -> Answer {
         Ok(number) => format!(in alloc; "{number:?}")?,
         Err(error) => format!(in alloc; "{error:?}")?,
     };
+    Ok(text)
+}
+
+/// The value at the front in its shortest text, or why there is none and how many bytes were taken.
+pub fn front(alloc: Global, input: &str) -> Answer {
+    let input = words::bytes(alloc, input)?;
+    match callers::items::front_value(alloc, &input) {
+        Ok(value) => Ok(in_hex(alloc, &value.to_vec(alloc)?)?),
+        Err((error, taken)) => Ok(format!(in alloc; "{error:?} after {taken}")?),
+    }
+}
+
+/// The first two values, each in its shortest text.
+pub fn two(alloc: Global, input: &str) -> Answer {
+    let input = words::bytes(alloc, input)?;
+    let (one, two) = match callers::items::two_values(alloc, &input) {
+        Ok(values) => values,
+        Err(error) => return Ok(format!(in alloc; "{error:?}")?),
+    };
+    let mut text = in_hex(alloc, &one.to_vec(alloc)?)?;
+    append(&mut text, " ", &in_hex(alloc, &two.to_vec(alloc)?)?)?;
     Ok(text)
 }

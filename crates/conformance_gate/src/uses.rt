@@ -14,6 +14,8 @@ pub fn answer(alloc: Global, row: &[&str]) -> Answer {
         ["first-time", input] => items::first_time(alloc, input),
         ["labelled", input] => items::labelled(alloc, input),
         ["whole-byte", input] => items::whole(alloc, input),
+        ["front-value", input] => items::front(alloc, input),
+        ["two-values", input] => items::two(alloc, input),
         _ => of_cose(alloc, row),
     }
 }

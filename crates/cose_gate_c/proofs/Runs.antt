@@ -9,7 +9,7 @@ use Rattle.cose_gate_hmac.specs.GateCore.Run.{Step, Course, questions_of}
 use Rattle.cose_gate_hmac.specs.GateCore.Terms.{limits_by}
 use Rattle.cose_gate_hmac.specs.GateCore.Questions.{Question}
 use Rattle.cose_gate_hmac.specs.Judge.{says_yes}
-use Rattle.cose_gate_program.specs.Program.{Devices, EndsOver, IsUnreadable, Stops, writer, flush, reader, no_item, memory, RanOver, RanOn, RanJudged, Hearing, IsAskedAt, IsAskedIn}
+use Rattle.cose_gate_program.specs.Program.{Devices, EndsOver, IsUnreadableBy, Stops, writer, flush, reader, no_item, memory, RanOver, RanOn, RanJudged, Hearing, IsAskedAt, IsAskedIn}
 use Rattle.cose_asked.specs.Framing.{framed}
 use Rattle.cose_asked.specs.Records.{record_of, is_among}
 use Rattle.cose_asked.proofs.Asked.{told_all}
@@ -103,15 +103,15 @@ told_up_to limits aad old new steps more text front input there reads writes (fl
     absurd (rose_never old.write_failures new.write_failures writes rose)
 told_up_to limits aad old new steps more text front input there reads writes (reader rose all) asked =
     absurd (rose_never old.read_failures new.read_failures reads rose)
-told_up_to limits aad old new steps more text front input there reads writes (no_item why all) asked =
-    inl (subst (λ (l : Option (List ℕ)). IfKnown l (λ b. IsUnreadable limits.nesting b more)) there why, asked)
+told_up_to limits aad old new steps more text front input there reads writes (no_item e why stands all) asked =
+    inl ((e, subst (λ (l : Option (List ℕ)). IfKnown l (λ b. IsUnreadableBy e limits.nesting b more)) there why), asked)
 told_up_to limits aad old new steps more text front input there reads writes (memory done last parts one due behind texts) asked =
     inr (record {
       done = done;
       last = last;
       parts = parts;
       one = one;
-      due = λ none. subst (λ (l : Option (List ℕ)). IfKnown l (λ b. more ≢ [])) there (due none);
+      due = λ none. subst (λ (l : Option (List ℕ)). IfKnown l (λ b. more ≢ [])) there (due none).0;
       all_before = asked.0;
     })
 

@@ -21,7 +21,7 @@ use Rattle.cose_gate_hmac.specs.GateCore.Asked.{IsFront, ToldFront, folded_over}
 use Rattle.cose_gate_hmac.specs.GateCore.Findings.{Bounds, usual, plain}
 use Rattle.cose_gate_hmac.specs.GateCore.Terms.{limits_by}
 use Rattle.cose_gate_hmac.specs.GateCore.Run.{Step, Course, asked_of, questions_of, output_of, refused_count}
-use Rattle.cose_gate_hmac.specs.GateCore.Outcome.{Rules, Sight, Outcome, Answers, IsFaultOf, reader_failures, writer_failures}
+use Rattle.cose_gate_hmac.specs.GateCore.Outcome.{Rules, Sight, Outcome, Answers, IsFaultOf, StandsIn, IsNoReaderFault, reader_failures, writer_failures}
 use Rattle.cose_gate_hmac.specs.GateCore.declared.gating.Counts.{Counts}
 use Rattle.cose_gate_hmac.specs.GateCore.declared.gating.GateFault.{GateFault}
 use Rattle.cose_gate_hmac.specs.GateCore.declared.gating.GateFault.TheVariants as gating
@@ -31,7 +31,7 @@ use Rattle.cose_gate_hmac.specs.KeySets.View.{key_set_view}
 use Rattle.cose_gate_program.specs.Beginning.{status_of, Begins, BeginsNot, IsNoKeySet}
 use Rattle.cose_gate_program.specs.declared.beginning.Beginning.{Beginning}
 use Rattle.cose_gate_program.specs.Faults.{is_end}
-use Rattle.cose_gate_program.specs.Program.{GatedOver, Gated, Heard, Hearing, Through, IsUnreadable, Torn, Stops, writer, flush, reader, no_item, memory, InPart, IsAskedAt, IsAskedBy, RanOn, RanJudged, Devices, EndsWithin, EndsOver, no_file, not_hex, no_keys, no_memory, after_run}
+use Rattle.cose_gate_program.specs.Program.{GatedOver, Gated, Heard, Hearing, Through, StandsWithin, Torn, Stops, writer, flush, reader, no_item, memory, InPart, IsAskedAt, IsAskedBy, RanOn, RanJudged, Devices, EndsWithin, EndsOver, no_file, not_hex, no_keys, no_memory, after_run}
 use Rattle.cose_gate_program.specs.declared.devices.InputFault.{InputFault}
 use Rattle.cose_gate_program.specs.declared.devices.InputFault.TheVariants as fault
 use Rattle.cose_gate_program.specs.declared.beginning.NotBegun.{NotBegun}
@@ -88,10 +88,10 @@ fault_at ends n at more e (Some b) z w =
 once_more : (m n : ℕ) → n ≡ m + 1 → m < n
 once_more m n e = omega (arith, e)
 
-unreadable : (n : ℕ) (more : List ℕ) (e : Error InputFault) (l : Option (List ℕ))
-    → IfKnown l (λ b. IsFaultOf (λ _. true) n (length b) more e) → IfKnown l (λ b. IsUnreadable n b more)
-unreadable n more e None w = tt
-unreadable n more e (Some b) w = (e, w)
+-- the reader stands in these bytes
+stands_within : {T S : Type 0} (old new : Sight T S) (b more : List ℕ) (P : Type 0) → P → StandsIn old new b more P
+    → StandsWithin old.left new.left more
+stands_within old new b more P p s = record { taken = s.taken; rest = s.rest; whole = s.whole; left = s.behind p }
 
 -- the next item can't be read
 module _ (limits : Bounds) (allows : Question → Bool) (aad : List ℕ) (old new : Devices) (steps : List Step) (more : List ℕ) where
@@ -99,28 +99,30 @@ module _ (limits : Bounds) (allows : Question → Bool) (aad : List ℕ) (old ne
       → (let r : Result Counts (GateFault InputFault) = Err (gating.Decode e) in
       new.read_failures ≡ old.read_failures + reader_failures is_end r)
       → IfKnown old.left (λ b. IsFaultOf is_end limits.nesting (length b) more e)
+      → (IsNoReaderFault e → StandsWithin old.left new.left more)
       → Stops limits allows aad old new steps more (output_of allows aad steps)
-  stops_at (de.Io fault.End) grown w = no_item (unreadable limits.nesting more (de.Io fault.End) old.left w) refl
-  stops_at (de.Io fault.Failed) grown w = reader (once_more old.read_failures new.read_failures grown) refl
-  stops_at (de.Syntax p) grown w = no_item (unreadable limits.nesting more (de.Syntax p) old.left w) refl
-  stops_at (de.Semantic o k) grown w = no_item (unreadable limits.nesting more (de.Semantic o k) old.left w) refl
-  stops_at de.RecursionLimitExceeded grown w = no_item (unreadable limits.nesting more de.RecursionLimitExceeded old.left w) refl
-  stops_at de.Memory grown w = no_item (unreadable limits.nesting more de.Memory old.left w) refl
-  stops_at de.TooLong grown w = no_item (unreadable limits.nesting more de.TooLong old.left w) refl
+  stops_at (de.Io fault.End) grown w stands = no_item (de.Io fault.End) w stands refl
+  stops_at (de.Io fault.Failed) grown w stands = reader (once_more old.read_failures new.read_failures grown) refl
+  stops_at (de.Syntax p) grown w stands = no_item (de.Syntax p) w stands refl
+  stops_at (de.Semantic o k) grown w stands = no_item (de.Semantic o k) w stands refl
+  stops_at de.RecursionLimitExceeded grown w stands = no_item de.RecursionLimitExceeded w stands refl
+  stops_at de.Memory grown w stands = no_item de.Memory w stands refl
+  stops_at de.TooLong grown w stands = no_item de.TooLong w stands refl
 
   -- all was asked then
   asked_at : (e : Error InputFault)
       → (grown : (let r : Result Counts (GateFault InputFault) = Err (gating.Decode e) in
       new.read_failures ≡ old.read_failures + reader_failures is_end r))
       → (w : IfKnown old.left (λ b. IsFaultOf is_end limits.nesting (length b) more e))
-      → IsAskedAt allows aad steps (output_of allows aad steps) (stops_at e grown w) (questions_of allows aad steps)
-  asked_at (de.Io fault.End) grown w = refl
-  asked_at (de.Io fault.Failed) grown w = refl
-  asked_at (de.Syntax p) grown w = refl
-  asked_at (de.Semantic o k) grown w = refl
-  asked_at de.RecursionLimitExceeded grown w = refl
-  asked_at de.Memory grown w = refl
-  asked_at de.TooLong grown w = refl
+      → (stands : IsNoReaderFault e → StandsWithin old.left new.left more)
+      → IsAskedAt allows aad steps (output_of allows aad steps) (stops_at e grown w stands) (questions_of allows aad steps)
+  asked_at (de.Io fault.End) grown w stands = refl
+  asked_at (de.Io fault.Failed) grown w stands = refl
+  asked_at (de.Syntax p) grown w stands = refl
+  asked_at (de.Semantic o k) grown w stands = refl
+  asked_at de.RecursionLimitExceeded grown w stands = refl
+  asked_at de.Memory grown w stands = refl
+  asked_at de.TooLong grown w stands = refl
 
 module _ {T S : Type 0} (by : Rules T S) (old new : Sight T S) where
   abbrev heard_by : Hearing T
@@ -160,7 +162,8 @@ module _ {T S : Type 0} (by : Rules T S) (old new : Sight T S) where
     front = output_of by.allows by.aad w.steps;
     writes = w.made.written;
     stops = stops_at by.limits by.allows by.aad (devices old.left old.written n f) (devices new.left new.written n' f') w.steps w.more e reads
-        (fault_at is_end by.limits.nesting old.offset w.more e old.left z w.fault);
+        (fault_at is_end by.limits.nesting old.offset w.more e old.left z w.fault)
+        (λ other. stands_within old new b w.more (IsNoReaderFault e) other w.stands);
   }
   gated_over n n' f f' b (Err gating.Write) w z reads writes = record {
     more = w.more;
@@ -183,7 +186,8 @@ module _ {T S : Type 0} (by : Rules T S) (old new : Sight T S) where
     course = from_place b (w.done ++ w.last) w.more z w.course;
     front = output_of by.allows by.aad w.texts;
     writes = w.written;
-    stops = memory w.done w.last refl w.one w.due w.behind (texts w.done w.last w.texts w.asked w.texts_are);
+    stops = memory w.done w.last refl w.one (λ none. (w.due none, stands_within old new b w.more (Unit {0}) tt (w.between none))) w.behind
+        (texts w.done w.last w.texts w.asked w.texts_are);
   }
 
   -- what the judge was told
@@ -229,6 +233,7 @@ module _ {T S : Type 0} (by : Rules T S) (old new : Sight T S) where
   asked_over n n' f f' b (Err (gating.Decode e)) w z reads writes =
       asked_at by.limits by.allows by.aad (devices old.left old.written n f) (devices new.left new.written n' f') w.steps w.more e reads
       (fault_at is_end by.limits.nesting old.offset w.more e old.left z w.fault)
+      (λ other. stands_within old new b w.more (IsNoReaderFault e) other w.stands)
   asked_over n n' f f' b (Err gating.Write) w z reads writes = refl
   asked_over n n' f f' b (Err gating.Memory) w z reads writes = (
     front_then (questions_of by.allows by.aad w.done) w.asked (questions_of by.allows by.aad w.done ++ w.asked) refl,
@@ -315,6 +320,9 @@ then_flushed limits allows aad old mid new b steps n flushes t = record {
   ended = subst (λ (l : Option (List ℕ)). IfKnown old.left (λ b. l ≡ Some [])) (sym flushes.left) t.ended;
 }
 
+within_flushed : (old l l' : Option (List ℕ)) (more : List ℕ) → l' ≡ l → StandsWithin old l more → StandsWithin old l' more
+within_flushed old l l' more e = subst (λ (k : Option (List ℕ)). StandsWithin old k more) (sym e)
+
 -- where the reader stands stays
 stands_flushed : (l l' : Option (List ℕ)) (more : List ℕ) → l' ≡ l → IfKnown l (λ b. b ≡ more) → IfKnown l' (λ b. b ≡ more)
 stands_flushed l l' more e = subst (λ (k : Option (List ℕ)). IfKnown k (λ b. b ≡ more)) (sym e)
@@ -345,16 +353,17 @@ module _ (limits : Bounds) (allows : Question → Bool) (aad : List ℕ) (old mi
   stops_flushed (flush rose end all ended) = flush (more_often old.write_failures mid.write_failures new.write_failures flushes.writes rose)
       end all (subst (λ (l : Option (List ℕ)). IfKnown old.left (λ b. l ≡ Some [])) (sym flushes.left) ended)
   stops_flushed (reader rose all) = reader (as_often old.read_failures mid.read_failures new.read_failures flushes.reads rose) all
-  stops_flushed (no_item why all) = no_item why all
+  stops_flushed (no_item e why stands all) =
+      no_item e why (λ other. within_flushed old.left mid.left new.left more flushes.left (stands other)) all
   stops_flushed (memory done last parts one due behind texts) =
-      memory done last parts one due (λ some. stands_flushed mid.left new.left more flushes.left (behind some)) texts
+      memory done last parts one (λ none. ((due none).0, within_flushed old.left mid.left new.left more flushes.left (due none).1)) (λ some. stands_flushed mid.left new.left more flushes.left (behind some)) texts
 
   asked_flushed : (s : Stops limits allows aad old mid steps more front) (asked : List Question)
       → IsAskedAt allows aad steps front s asked → IsAskedAt allows aad steps front (stops_flushed s) asked
   asked_flushed (writer rose torn) asked a = a
   asked_flushed (flush rose end all ended) asked a = a
   asked_flushed (reader rose all) asked a = a
-  asked_flushed (no_item why all) asked a = a
+  asked_flushed (no_item e why stands all) asked a = a
   asked_flushed (memory done last parts one due behind texts) asked a = a
 
 abbrev heard_then : {T : Type 0} {hearing : Hearing T} {aad : List ℕ} {steps : List Step} {P Q : Type 0} → Heard hearing aad steps P → (Q → P)

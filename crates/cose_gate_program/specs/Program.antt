@@ -9,7 +9,7 @@ use Rattle.ciborium.specs.declared.de.Error.{Error}
 use Rattle.cose_gate_hmac.specs.GateCore.Questions.{Question}
 use Rattle.cose_gate_hmac.specs.GateCore.Asked.{IsFront, ToldFront}
 use Rattle.cose_gate_hmac.specs.GateCore.Findings.{Bounds, usual}
-use Rattle.cose_gate_hmac.specs.GateCore.Outcome.{IsFaultOf}
+use Rattle.cose_gate_hmac.specs.GateCore.Outcome.{IsFaultOf, IsNoReaderFault}
 use Rattle.cose_gate_hmac.specs.GateCore.Run.{Step, Course, questions_of, output_of, written_of, passes, refused_count}
 use Rattle.cose_gate_hmac.specs.GateCore.declared.gating.Counts.{Counts}
 use Rattle.cose_gate_hmac.specs.GateCore.declared.gating.GateFault.{GateFault}
@@ -57,10 +57,21 @@ hearing_of j old new = record {
   after = j.told new;
 }
 
--- no item of at most n levels begins at the bytes `more`, with which the input b ends; or b is too
--- long for its offsets
+-- no item of at most n levels begins at the bytes `more`, with which the input b ends, and this is
+-- the fault; or b is too long for its offsets
+abbrev pub IsUnreadableBy : Error InputFault → ℕ → List ℕ → List ℕ → Type 0
+IsUnreadableBy e n b more = IsFaultOf (λ _. true) n (length b) more e
+
 abbrev pub IsUnreadable : ℕ → List ℕ → List ℕ → Type 0
-IsUnreadable n b more = (e : Error InputFault) × IsFaultOf (λ _. true) n (length b) more e
+IsUnreadable n b more = (e : Error InputFault) × IsUnreadableBy e n b more
+
+-- the reader stands in these bytes: some of them were taken, none or all as it may be, and it tells
+-- the rest to come, where it told what was to come before
+pub record StandsWithin (old new : Option (List ℕ)) (more : List ℕ) : Type 0 where
+  pub taken : List ℕ
+  pub rest : List ℕ
+  pub whole : more ≡ taken ++ rest
+  pub left : IfKnown old (λ b. new ≡ Some rest)
 
 -- the whole input b was gone through by these steps, all that passed was written, and nothing is
 -- left where the reader tells
@@ -87,8 +98,9 @@ pub record Torn (allows : Question → Bool) (aad : List ℕ) (left : Option (Li
 -- why a run stopped behind these steps, with `more` to come, and what was written of their output:
 -- a torn text where the writer failed; all of it where the whole input was gone through and the
 -- flush failed, where the reader failed, or no readable item comes; and where memory was refused,
--- all or that before the last step. Then the reader stands behind that step's item, and where each
--- step was done, an item was to come.
+-- all or that before the last step. Then the reader stands behind that step's item. Where each step
+-- was done, an item was to come, and the reader stands in it; so it does where no readable item
+-- comes, but at an end. What is left behind a reader that failed or ended is open.
 pub data Stops (limits : Bounds) (allows : Question → Bool) (aad : List ℕ) (old new : Devices)
     (steps : List Step) (more front : List ℕ) : Type 0 where
   writer : old.write_failures < new.write_failures → Torn allows aad new.left steps more front
@@ -98,10 +110,11 @@ pub data Stops (limits : Bounds) (allows : Question → Bool) (aad : List ℕ) (
       → Stops limits allows aad old new steps more front
   reader : old.read_failures < new.read_failures → front ≡ output_of allows aad steps
       → Stops limits allows aad old new steps more front
-  no_item : IfKnown old.left (λ b. IsUnreadable limits.nesting b more)
+  no_item : (e : Error InputFault) → IfKnown old.left (λ b. IsUnreadableBy e limits.nesting b more)
+      → (IsNoReaderFault e → StandsWithin old.left new.left more)
       → front ≡ output_of allows aad steps → Stops limits allows aad old new steps more front
   memory : (done last : List Step) → steps ≡ done ++ last → length last ≤ 1
-      → (last ≡ [] → IfKnown old.left (λ b. more ≢ []))
+      → (last ≡ [] → IfKnown old.left (λ b. more ≢ []) × StandsWithin old.left new.left more)
       → (last ≢ [] → IfKnown new.left (λ b. b ≡ more))
       → (front ≡ output_of allows aad done) ⊎ (front ≡ output_of allows aad steps)
       → Stops limits allows aad old new steps more front
@@ -157,7 +170,8 @@ IsAskedAt allows aad steps front (writer rose torn) asked = asked ≡ questions_
 IsAskedAt allows aad steps front (flush rose end all ended) asked =
     asked ≡ questions_of allows aad steps
 IsAskedAt allows aad steps front (reader rose all) asked = asked ≡ questions_of allows aad steps
-IsAskedAt allows aad steps front (no_item why all) asked = asked ≡ questions_of allows aad steps
+IsAskedAt allows aad steps front (no_item e why stands all) asked =
+    asked ≡ questions_of allows aad steps
 IsAskedAt allows aad steps front (memory done last parts one due behind texts) asked =
     IsFront (questions_of allows aad done) asked × IsFront asked (questions_of allows aad steps)
     × (front ≢ output_of allows aad done → asked ≡ questions_of allows aad steps)
