@@ -1,6 +1,7 @@
 pub mod Again
 pub mod Checked
 pub mod Encoded
+pub mod Further
 pub mod Ids
 pub mod Keys
 pub mod Relay

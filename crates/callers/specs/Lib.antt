@@ -2,6 +2,7 @@ pub mod Asking
 pub mod Checking
 pub mod Gatings
 pub mod Heads
+pub mod Items
 pub mod Judging
 pub mod Keeping
 pub mod Kinds

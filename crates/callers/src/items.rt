@@ -1,6 +1,7 @@
 //! Items read and written. `ciborium` is the one crate that it names.
 ghost use Rattle.std.specs.Prelude.{◌≡◌, ◌≢◌, ◌≤◌, ◌++◌, ℕ, List, [], length, Option, None, Some};
-ghost use Rattle.std.specs.Prelude.{IfOk, IfErr, IfSome, IfNone, OnOk, MatchOption, pos, string_bytes, codes};
+ghost use Rattle.std.specs.Prelude.{IfOk, IfErr, IfSome, IfNone, OnOk, MatchOption};
+ghost use Rattle.std.specs.Prelude.{pos, string_bytes, codes};
 ghost use Rattle.ciborium.specs.Tree as tree;
 ghost use Rattle.ciborium.specs.Tree.{Tree};
 ghost use Rattle.ciborium.specs.Front.{Reads};
@@ -8,6 +9,7 @@ ghost use Rattle.ciborium.specs.View.{view};
 ghost use Rattle.ciborium.specs.Items.{nesting};
 ghost use Rattle.ciborium.specs.Typed.{ReadsAs};
 ghost use Rattle.ciborium.specs.Encoding.{enc};
+ghost use Rattle.callers.specs.Items.{NoValue, Fewer};
 
 use ciborium::de::{self, Deserialize, Deserializer, Source};
 use ciborium::laws::one_spelling;
@@ -49,10 +51,13 @@ pub fn read_encoded(alloc: Global, input: &[u8]) -> Result<Option<Value>, de::Er
     Ok(None)
 }
 
-/// The value at the front of the input, or why none was read, with the count of the bytes that were
+/// The value at the front of the input, or why there is none, with the count of the bytes that were
 /// taken up to there.
 pub fn front_value(alloc: Global, input: &[u8]) -> Result<Value, (de::Error<End>, usize)>
-    ensures { IfErr result (λ r. r.1 ≤ length input.now) }
+    ensures ok { IfOk result (λ v. (front rest : List ℕ)
+        × (input.now ≡ front ++ rest) × Reads front nesting (view v)) }
+    ensures err { IfErr result (λ r. NoValue 0 input.now r.1 r.0) }
+    ensures taken { IfErr result (λ r. r.1 ≤ length input.now) }
 {
     let mut decoder = Decoder::from(input);
     match de::from_decoder(alloc, &mut decoder, de::RECURSION_LIMIT) {
@@ -61,10 +66,11 @@ pub fn front_value(alloc: Global, input: &[u8]) -> Result<Value, (de::Error<End>
     }
 }
 
-/// The first two values of the input.
+/// The first two values of the input, or why there are not two.
 pub fn two_values(alloc: Global, input: &[u8]) -> Result<(Value, Value), de::Error<End>>
-    ensures { IfOk result (λ r. (one two rest : List ℕ) × (input.now ≡ one ++ (two ++ rest))
+    ensures ok { IfOk result (λ r. (one two rest : List ℕ) × (input.now ≡ one ++ (two ++ rest))
         × Reads one nesting (view r.0) × Reads two nesting (view r.1)) }
+    ensures err { IfErr result (Fewer 2 input.now) }
 {
     let mut values = Deserializer::new(alloc, Decoder::from(input), de::RECURSION_LIMIT);
     let one = values.item()?;
