@@ -1,11 +1,12 @@
 //! Items read and written. `ciborium` is the one crate that it names.
-ghost use Rattle.std.specs.Prelude.{◌≡◌, ◌≢◌, ◌≤◌, ◌++◌, ℕ, List, [], length, Option, None, Some};
-ghost use Rattle.std.specs.Prelude.{IfOk, IfErr, IfSome, IfNone, OnOk, MatchOption};
-ghost use Rattle.std.specs.Prelude.{pos, string_bytes, codes};
+ghost use Rattle.std.specs.Prelude.{◌≡◌, ◌≢◌, ◌≤◌, ◌++◌, ◌∷◌, ℕ, List, [], length, Option, None, Some};
+ghost use Rattle.std.specs.Prelude.{IfOk, IfErr, IfSome, IfNone, OnOk, OnErr, MatchOption};
+ghost use Rattle.std.specs.Prelude.{IsTrue, false, pos, string_bytes, codes};
 ghost use Rattle.ciborium.specs.Tree as tree;
 ghost use Rattle.ciborium.specs.Tree.{Tree};
+ghost use Rattle.ciborium.specs.Kinds.{is_array};
 ghost use Rattle.ciborium.specs.Front.{Reads};
-ghost use Rattle.ciborium.specs.View.{view};
+ghost use Rattle.ciborium.specs.View.{view, views};
 ghost use Rattle.ciborium.specs.Items.{nesting};
 ghost use Rattle.ciborium.specs.Typed.{ReadsAs};
 ghost use Rattle.ciborium.specs.Encoding.{enc};
@@ -164,8 +165,19 @@ pub fn labelled(alloc: Global, input: &mut &[u8]) -> Result<Captured<(String, u6
     from_reader(alloc, input)
 }
 
-/// Puts a value into the array that another is, and says whether that one is an array.
-pub fn push_into(array: &mut Value, item: Value) -> Result<bool, AllocError> {
+/// Puts a value behind the items of the array that another is, and says whether that one is an array.
+/// Another value stays as it was.
+///
+/// # Errors
+/// Only where memory is refused; the items stay then.
+pub fn push_into(array: &mut Value, item: Value) -> Result<bool, AllocError>
+    ensures which { IfOk result (λ b. b ≡ is_array (view array.old)) }
+    ensures pushed { IfOk result (λ b. IsTrue b → (items : List Value)
+        × (view array.old ≡ tree.array (views items))
+        × (view array.new ≡ tree.array (views (items ++ item ∷ [])))) }
+    ensures same { IfOk result (λ b. b ≡ false → array.new ≡ array.old) }
+    ensures refused { OnErr result (view array.new ≡ view array.old) }
+{
     match array.as_array_mut() {
         Some(items) => {
             items.push(item)?;
