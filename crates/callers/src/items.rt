@@ -1,7 +1,8 @@
 //! Items read and written. `ciborium` is the one crate that it names.
-ghost use Rattle.std.specs.Prelude.{◌≡◌, ◌≢◌, ◌≤◌, ◌++◌, ◌∷◌, ℕ, List, [], length, Option, None, Some};
+ghost use Rattle.std.specs.Prelude.{◌≡◌, ◌≢◌, ◌≤◌, ◌++◌, ◌∷◌, ℕ, List, [], length, Option, None};
 ghost use Rattle.std.specs.Prelude.{IfOk, IfErr, IfSome, IfNone, OnOk, OnErr, MatchOption};
-ghost use Rattle.std.specs.Prelude.{IsTrue, false, pos, string_bytes, codes};
+ghost use Rattle.std.specs.Prelude.{Some, IsTrue, false, pos, string_bytes, codes};
+ghost use Rattle.std.specs.BTreeMap.{get_by_text};
 ghost use Rattle.ciborium.specs.Tree as tree;
 ghost use Rattle.ciborium.specs.Tree.{Tree};
 ghost use Rattle.ciborium.specs.Kinds.{is_array};
@@ -35,8 +36,8 @@ pub fn read_whole<T: Deserialize>(alloc: Global, input: &[u8]) -> Result<Option<
     }
 }
 
-/// The value whose one encoding the whole input is (RFC 8949, section 4.1), or none where the item is written in another way, or bytes
-/// follow it.
+/// The value whose one encoding the whole input is (RFC 8949, section 4.1), or none where the item
+/// is written in another way, or bytes follow it.
 pub fn read_encoded(alloc: Global, input: &[u8]) -> Result<Option<Value>, de::Error<End>>
     ensures some { IfOk result (λ o. IfSome o
         (λ v. Reads input.now nesting (view v) × (input.now ≡ enc (view v)))) }
@@ -137,7 +138,13 @@ pub fn points_of(
     alloc: Global,
     input: &mut &[u8],
     name: &str,
-) -> Result<Option<u64>, de::Error<End>> {
+) -> Result<Option<u64>, de::Error<End>>
+    ensures { IfOk result (λ o. (front : List ℕ) × (points : _)
+        × (input.old.now ≡ front ++ input.new.now)
+        × ReadsAs ⟦<BTreeMap<String, u64> as Deserialize>⟧.refusal
+        ⟦<BTreeMap<String, u64> as Deserialize>⟧.takes nesting points front
+        × (o ≡ get_by_text points name.now)) }
+{
     let points: BTreeMap<String, u64> = from_reader(alloc, input)?;
     Ok(points.get(name).copied())
 }
@@ -165,8 +172,8 @@ pub fn labelled(alloc: Global, input: &mut &[u8]) -> Result<Captured<(String, u6
     from_reader(alloc, input)
 }
 
-/// Puts a value behind the items of the array that another is, and says whether that one is an array.
-/// Another value stays as it was.
+/// Puts a value behind the items of an array, and says whether the value is an array. Another value
+/// stays as it was.
 ///
 /// # Errors
 /// Only where memory is refused; the items stay then.
