@@ -1,17 +1,68 @@
 #!/bin/sh
-# capped.sh [BINARY]: heads that claim more than follows them, read by cbor_bench under a capped heap.
+# capped.sh [BENCH [GATE [TOKEN]]]: how much memory the programs `bench`, `cose_gate_cli` and `example_token` take, each under the least
+# heap that a small input needs and little more. They are those that `rt run` leaves in `out/` of these crates, unless others are given.
 #
-# Each input must end as bytes that are cut off, and not as refused memory, where the process may hold little more than for an empty
-# array or, 256 levels deep, for maps of one entry each. Where valgrind is there, it also counts the bytes that reading asks of the heap:
-# beside the input itself at most 4,096 over those of the empty array or, 256 levels deep, over those of as many open arrays, which claim
-# nothing.
+# - Heads that claim more than follows them end as bytes that are cut off, and not as refused memory: under the least heap for an empty
+#   array or, 256 levels deep, for maps of one entry each.
+# - The gate reads 1,000,000 items under the least heap for 1,000 of them, and a message with 64 text labels under that for one with none.
+#   The streaming check reads a payload of 16 MiB under the least heap for one of 0 bytes.
+# - The gate holds a payload once. A program that makes the bytes that a tag covers holds it once more.
+#
+# With valgrind it also counts the bytes that `bench` asks of the heap: for claims at most 4,096 over those of the empty array or,
+# 256 levels deep, over those of as many open arrays, which claim nothing; for each further round of reading an integer or a short text at
+# most 64, and of writing a text of 1 MiB at most 4,096 over its length.
 set -u
 here=$(cd "$(dirname "$0")/.." && pwd)
-bench=${1:-$here/crates/cbor_bench/out/cbor_bench}
-[ -x "$bench" ] || { echo "capped.sh: no $bench; run 'rt run' in crates/cbor_bench first" >&2; exit 2; }
+bench=${1:-$here/crates/bench/out/bench}
+gate=${2:-$here/crates/cose_gate_cli/out/cose_gate_cli}
+token=${3:-$here/crates/example_token/out/example_token}
+for it in "$bench" "$gate" "$token"; do
+  [ -x "$it" ] || { echo "capped.sh: no $it; run 'rt run' in its crate first" >&2; exit 2; }
+done
 folder=$(mktemp -d) && trap 'rm -rf "$folder"' EXIT || exit 2
-levels() { i=0; while [ $i -lt "$1" ]; do printf "$2"; i=$((i + 1)); done; }
+bad=0
+SLACK=64
 
+# the standard input of a command, and what its standard output has to contain, if something
+input=/dev/null
+expected=
+
+# limited KIB STATUS COMMAND..: whether the command, under so many KiB, ends with this status and that output
+limited() {
+  kib=$1 wanted=$2; shift 2
+  (ulimit -v "$kib"; exec "$@") > "$folder/out" 2> "$folder/err" < "$input"
+  [ $? = "$wanted" ] && { [ -z "$expected" ] || grep -q -e "$expected" "$folder/out"; }
+}
+
+# least STATUS COMMAND..: `cap` is the least number of KiB under which it does, and SLACK more
+least() {
+  status=$1; shift
+  low=0 high=1048576
+  limited $high "$status" "$@" || { echo "capped.sh: $* fails under 1 GiB" >&2; exit 1; }
+  while [ $((high - low)) -gt 4 ]; do
+    middle=$(((low + high) / 2))
+    if limited $middle "$status" "$@" 2> /dev/null; then high=$middle; else low=$middle; fi
+  done
+  cap=$((high + SLACK))
+}
+
+# within NAME KIB STATUS COMMAND..: it does so under so many KiB
+within() {
+  name=$1; shift
+  if limited "$@"; then
+    echo "$name: within $1 KiB"
+  else
+    echo "$name: not within $1 KiB: $(tail -n 1 "$folder/err")"
+    bad=1
+  fi
+}
+
+heap() { valgrind "$bench" cbor "$@" 2>&1 | sed -n 's/.*frees, \([0-9,]*\) bytes allocated.*/\1/p' | tr -d ,; }
+counts=
+command -v valgrind > /dev/null && counts=yes
+
+# claims
+levels() { i=0; while [ $i -lt "$1" ]; do printf "$2"; i=$((i + 1)); done; }
 printf '\200' > "$folder/empty"
 printf '\233\377\377\377\377\377\377\377\377' > "$folder/9b"
 printf '\273\377\377\377\377\377\377\377\377' > "$folder/bb"
@@ -19,43 +70,99 @@ printf '\273\377\377\377\377\377\377\377\377' > "$folder/bb"
 levels 256 '\237' > "$folder/9f-256"
 levels 256 '\250' > "$folder/a8-256"
 levels 256 '\233\377\377\377\377\377\377\377\377' > "$folder/9b-256"
-
-reads() { (ulimit -v "$1"; "$bench" decode "$2" 1) > "$folder/out" 2> "$folder/err"; }
-
-# the least number of KiB under which this input is read, and 64 more
-cap_of() {
-  low=0 high=1048576
-  reads $high "$1" || { echo "capped.sh: $1 is not read" >&2; exit 1; }
-  while [ $((high - low)) -gt 4 ]; do
-    middle=$(((low + high) / 2))
-    if reads $middle "$1" 2> /dev/null; then high=$middle; else low=$middle; fi
-  done
-  cap=$((high + 64))
-}
-
-heap() { valgrind "$bench" decode "$1" 1 2>&1 | sed -n 's/.*frees, \([0-9,]*\) bytes allocated.*/\1/p' | tr -d ,; }
-bad=0
-flat= deep=
-if command -v valgrind > /dev/null; then
-  flat=$(heap "$folder/empty")
-  deep=$(heap "$folder/9f-256")
+flat= nested=
+if [ -n "$counts" ]; then
+  flat=$(heap decode "$folder/empty" 1)
+  nested=$(heap decode "$folder/9f-256" 1)
 fi
+least 0 "$bench" cbor decode "$folder/empty" 1
+small=$cap
+# what is 256 levels deep may take what maps of that depth take: the list of open levels, and the stack to drop them
+least 0 "$bench" cbor decode "$folder/deep" 1
+deep=$cap
 for name in 9b bb a8-256 9b-256; do
-  # what is 256 levels deep may take what maps of that depth take: the list of open levels, and the stack to drop them
   case $name in
-    *-256) cap_of "$folder/deep"; base=$deep claims="so many open arrays" ;;
-    *) cap_of "$folder/empty"; base=$flat claims="an empty array" ;;
+    *-256) cap=$deep base=$nested claims="so many open arrays" ;;
+    *) cap=$small base=$flat claims="an empty array" ;;
   esac
-  reads $cap "$folder/$name"
-  answer=$(cat "$folder/err")
+  limited "$cap" 1 "$bench" cbor decode "$folder/$name" 1
+  said=$(cat "$folder/err")
   more=
-  if [ -n "$base" ]; then
+  if [ -n "$counts" ]; then
     size=$(wc -c < "$folder/$name")
-    more=$(($(heap "$folder/$name") - base))
+    more=$(($(heap decode "$folder/$name" 1) - base))
     # the input is read into a buffer that may double as it grows
     [ $more -le $((4096 + 4 * size)) ] || bad=1
   fi
-  echo "$name: $answer under $cap KiB${more:+; $more bytes more of the heap than $claims}"
-  case $answer in *"Io(End)"*) ;; *) bad=1 ;; esac
+  echo "$name: $said under $cap KiB${more:+; $more bytes more of the heap than $claims}"
+  case $said in *"Io(End)"*) ;; *) bad=1 ;; esac
 done
+
+# rounds NAME TASK BYTES: a further round asks at most so many bytes of the heap
+rounds() {
+  [ -n "$counts" ] || return 0
+  more=$(($(heap "$2" "$folder/$1" 2) - $(heap "$2" "$folder/$1" 1)))
+  echo "$1: $more bytes of the heap to $2, of at most $3"
+  [ $more -le "$3" ] || bad=1
+}
+printf '\000' > "$folder/integer"
+printf '\141a' > "$folder/text"
+{ printf '\172\000\020\000\000'; head -c 1048576 /dev/zero; } > "$folder/long-text"
+rounds integer decode 64
+rounds text decode 64
+rounds long-text encode $((1048576 + 4096))
+
+# the streaming check
+least 0 "$bench" gate 0
+within "a payload of 16 MiB in pieces" "$cap" 0 "$bench" gate 16777216
+
+# the gate: 17([h'a10105', {}, PAYLOAD, TAG]), tagged under the secret 00 (HMAC with SHA-256, by Python), passes, and is what is written
+printf '\201\242\001\004\040\101\000' > "$folder/keys"
+{ printf '\321\204\103\241\001\005\240\100\130\040'
+  printf '\167\363\142\027\074\267\262\377\350\010\155\054\216\370\116\044'
+  printf '\021\160\241\067\205\332\374\224\227\030\343\052\121\363\073\307'
+} > "$folder/message"
+# a payload of 8 MiB of zeros
+{ printf '\321\204\103\241\001\005\240\132\000\200\000\000'
+  head -c 8388608 /dev/zero
+  printf '\130\040\205\073\327\201\211\165\215\244\005\037\270\025\147\213\321\077'
+  printf '\370\052\164\207\341\006\053\164\066\254\224\022\035\012\055\365'
+} > "$folder/large"
+# the payload 'hi', and an unprotected header of 64 text labels, each with a text
+{ printf '\321\204\103\241\001\005\270\100'
+  for one in a b c d e f g h; do
+    for two in a b c d e f g h; do printf '\142%s%s\141x' $one $two; done
+  done
+  printf '\102hi\130\040\266\372\267\103\316\133\062\153\136\347\113\064\076\046\250\273'
+  printf '\007\326\320\327\370\260\313\172\005\023\043\011\055\044\202\223'
+} > "$folder/labels"
+passes() {
+  input=$folder/$2
+  within "$1" "$3" 0 "$gate" "$folder/keys"
+  cmp -s "$folder/out" "$input" || { echo "$1: another output" >&2; bad=1; }
+}
+input=$folder/message
+least 0 "$gate" "$folder/keys"
+message=$cap
+# half of a second copy is too much
+passes "a payload of 8 MiB through the gate" large $((message + 8192 + 4096))
+passes "64 text labels through the gate" labels "$message"
+head -c 1000 /dev/zero > "$folder/items"
+input=$folder/items
+least 1 "$gate" "$folder/keys"
+head -c 1000000 /dev/zero > "$folder/items"
+within "1,000,000 items through the gate" "$cap" 1 "$gate" "$folder/keys"
+
+# a token with a wrong tag: its line in hex (twice the payload, in a buffer that doubles), its bytes, the payload, and what its tag covers
+expected='refused: Caller(Tag)'
+hex_of() { od -An -v -tx1 | tr -d ' \n'; echo; }
+printf '\321\204\103\241\001\004\240\100\110\000\000\000\000\000\000\000\000' | hex_of > "$folder/token"
+input=$folder/token
+least 0 "$token" 0
+{ printf '\321\204\103\241\001\004\240\132\000\077\377\300'
+  head -c 4194240 /dev/zero
+  printf '\110\000\000\000\000\000\000\000\000'
+} | hex_of > "$folder/token"
+within "a token with a payload of 4 MiB" $((cap + 5 * 4096 + 2048)) 0 "$token" 0
+
 [ $bad = 0 ] && echo 'capped.sh: all within' || { echo 'capped.sh: too much' >&2; exit 1; }

@@ -1,8 +1,10 @@
 #!/usr/bin/env bash
-# Refuses each allocation in turn, from the first to the last, to each test of some crates, unproved:
-#   scripts/fail-alloc.sh cose_gate_tests cose_gate_stream_tests cose_gate_program_tests coset_signed_tests coset_recipients_tests coset_tests
+# Refuses each allocation in turn, from the first to the last, to each test of some crates, or of one module of a crate, unproved:
+#   scripts/fail-alloc.sh cose_gate_tests coset_signed_tests coset_recipients_tests coset_tests
+#   scripts/fail-alloc.sh coset_tests::keys cbor_tests::items
 # A test in a module `refused`, or named `refused_memory..`, holds whichever allocation is refused; the former print "memory was refused"
-# where their subject was refused one. Of a crate with such tests these alone are run. Others may fail where their own preparation is refused.
+# if their subject was refused one. Of a crate or module with such tests these alone are run. Others may fail if their own preparation is
+# refused.
 # Each test is a process of its own, and its allocations are counted alone. Of each it tells how many allocations it makes (some are the
 # runtime's), and of how many the refusal was told or failed it. The status is 1 where a test that holds has failed.
 # `rt try --test --fail-alloc N` builds the tests anew for each N. Here they are built once, with a number that stands nowhere else in
@@ -14,11 +16,11 @@ room=$(mktemp -d)
 trap 'rm -rf "$room"' EXIT
 mark=1515118275
 
-# Builds the tests of the crate of this folder, as "$room/program", and lists their names in "$room/names".
+# Builds the tests of the crate of this folder, as "$room/program", and lists in "$room/names" those whose names begin with this.
 build() {
   rm -rf "${room:?}"/*
   mkdir "$room/tmp"
-  ( TMPDIR=$room/tmp rt try --test --fail-alloc "$mark" > "$room/log" 2>&1 < /dev/null; : > "$room/ended" ) &
+  ( TMPDIR=$room/tmp rt try --test --fail-alloc "$mark" ${1:+-- "$1"} > "$room/log" 2>&1 < /dev/null; : > "$room/ended" ) &
   until [ -e "$room/ended" ]; do
     for it in "$room"/tmp/*/*/program; do
       [ -e "$it" ] && ln -f "$it" "$room/program" 2> /dev/null
@@ -30,7 +32,7 @@ build() {
     cat "$room/log"
     exit 2
   fi
-  awk '/^test .* ok$/ { print $2 }' "$room/log" > "$room/names"
+  awk -v front="$1" '/^test .* ok$/ && index($2, front) == 1 { print $2 }' "$room/log" > "$room/names"
 }
 
 # Makes "$room/tests", which is refused this allocation.
@@ -60,7 +62,7 @@ each() {
       continue
     fi
     not=$(( not + 1 ))
-    if [[ $1 == refused::* || $1 == *refused_memory* ]]; then
+    if [[ ::$1 == *::refused::* || ::$1 == *::refused_memory* ]]; then
       echo "$1, allocation $n: FAILED"
       cat "$room/log"
       status=1
@@ -70,11 +72,14 @@ each() {
 }
 
 status=0
-for crate in "$@"; do
+for what in "$@"; do
+  crate=${what%%::*}
+  module=${what#"$crate"}
+  module=${module#::}
   cd "$top/crates/$crate" || exit 2
-  build
-  echo "$crate:"
-  grep -E '^refused::|refused_memory' "$room/names" > "$room/holding" || cp "$room/names" "$room/holding"
+  build "${module:+$module::}"
+  echo "$what:"
+  grep -E '(^|::)(refused::|refused_memory)' "$room/names" > "$room/holding" || cp "$room/names" "$room/holding"
   while read -r name; do
     each "$name"
   done < "$room/holding"

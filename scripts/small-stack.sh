@@ -1,29 +1,162 @@
 #!/usr/bin/env bash
-# small-stack.sh: reads an item of 100,000 levels, arrays, tags and maps in turn, at that limit under a stack of 256 KiB, where a reader that
-# recurses would end. It is the test `levels` of ciborium_tests, unproved: built by `rt try`, whose program is kept when rt is done with it.
+# small-stack.sh: how much stack the messages of worst-messages.py take, in which as much lies inside one another as the limits let through.
+# The programs cose-gate, cose-show and conformance_cose (which reads each message, copies it, compares both and writes the copy) and the
+# library for C are proved and built, by LLVM and by Rattle's own compiler. Each message must be answered as in 64 MiB of stack: by the first
+# two and by the library's calls in 256 KiB, by the third in 1 MiB, and with the widest limits (4,096 levels, 64 layers) in 8 MiB. A table
+# shows the least number of KiB that each answers in. Last an item of 100,000 levels is read in 256 KiB, unproved: a test of cbor_tests.
+# Status 1 if one of these fails, and 2 if something isn't built.
 set -u
 ulimit -c 0
-top=$(cd "$(dirname "$0")/.." && pwd)
-room=$(mktemp -d) && trap 'rm -rf "$room"' EXIT || exit 2
-mkdir "$room/tmp"
-cd "$top/crates/ciborium_tests" || exit 2
-( TMPDIR=$room/tmp rt try --test > "$room/log" 2>&1 < /dev/null; : > "$room/ended" ) &
-until [ -e "$room/ended" ]; do
-  for it in "$room"/tmp/*/*/program; do
-    [ -e "$it" ] && ln -f "$it" "$room/program" 2> /dev/null
+top=$(cd "$(dirname "$(readlink -f "${BASH_SOURCE[0]}")")/.." && pwd)
+kit=${RT_KIT:-$(dirname "$(dirname "$(readlink -f "$(command -v rt)")")")}
+folder=$(mktemp -d) && trap 'rm -rf "$folder"' EXIT || exit 2
+bad=0
+fails() {
+  echo "small-stack.sh: $1" >&2
+  bad=1
+}
+
+# Proves and builds a program or static library with each compiler, into $folder/CRATE.COMPILER. What stays in out/ is LLVM's.
+build() {
+  local crate=$top/crates/$1 made=$top/crates/$1/out/$2 compiler
+  for compiler in rattle llvm; do
+    rm -f "$made"
+    (cd "$crate" && "${@:3}" --backend $compiler < /dev/null) > "$folder/log" 2>&1
+    if ! [ -e "$made" ]; then
+      tail -n 20 "$folder/log" >&2
+      echo "small-stack.sh: $1 was not built" >&2
+      exit 2
+    fi
+    cp "$made" "$folder/$1.$compiler"
+  done
+}
+
+# Of a run with so many KiB of stack: a sum of what it wrote and of its status.
+answer() {
+  local kib=$1 input=$2
+  shift 2
+  { (ulimit -s "$kib" && exec env -i "$@") < "$input" 2>&1; echo "status $?"; } 2> /dev/null | cksum
+}
+
+# The least number of KiB in which a run is the same as in 64 MiB.
+least() {
+  local whole low=3 high=16384 middle
+  whole=$(answer 65536 "$@")
+  while [ $((high - low)) -gt 1 ]; do
+    middle=$(((low + high) / 2))
+    if [ "$(answer $((4 * middle)) "$@")" = "$whole" ]; then high=$middle; else low=$middle; fi
+  done
+  echo $((4 * high))
+}
+
+# Runs the least of the words behind the limit, and adds it to the line of the table.
+within() {
+  local limit=$1 name=$2
+  shift 2
+  local kib
+  kib=$(least "$@")
+  line="$line | $kib"
+  [ "$kib" -le "$limit" ] || fails "$name takes $kib KiB, and not $limit"
+}
+
+build cose_gate_cli cose_gate_cli rt run
+build cose_show cose_show rt run
+build conformance_cose conformance_cose rt run
+compilers="llvm rattle"
+if command -v gcc > /dev/null; then
+  build cose_gate_c libcose_gate_c.a rt lib
+  for compiler in $compilers; do
+    cp "$folder/cose_gate_c.$compiler" "$folder/lib$compiler.a"
+    gcc -std=c11 -O2 -I "$top/include" "$top/scripts/c-stack.c" "$folder/lib$compiler.a" "$kit/c/liblibc_c.a" -pthread -o "$folder/c-stack.$compiler" || exit 2
+  done
+else
+  echo "small-stack.sh: no gcc here, so the library for C is left out"
+fi
+
+keys=$top/examples/keys.cbor
+# The call of conformance_cose that reads a message, copies it, compares both and writes the copy.
+call_of() {
+  case $1 in
+    pass-*) echo mac0-tagged ;;
+    *) echo "${1%%-*}-tagged" ;;
+  esac
+}
+echo "KiB of stack, by LLVM and by Rattle's own compiler"
+echo "| message | cose-gate | | cose-show | | conformance_cose | | C: check, ask, pass | |"
+echo "|---|---|---|---|---|---|---|---|---|"
+python3 "$top/scripts/worst-messages.py" "$folder/usual" > "$folder/said" || exit 2
+while read -r name said; do
+  message=$folder/usual/$name
+  echo "$(call_of "$name") $(od -An -v -tx1 "$message" | tr -d ' \n')" > "$folder/row"
+  line="| $name"
+  for compiler in $compilers; do
+    within 256 "cose-gate ($compiler) on $name" "$message" "$folder/cose_gate_cli.$compiler" "$keys"
+    "$folder/cose_gate_cli.$compiler" "$keys" < "$message" 2>&1 > /dev/null | grep -q "^item 1 at 0: .*$said" || fails "$name: not $said"
+  done
+  for compiler in $compilers; do
+    within 256 "cose-show ($compiler) on $name" "$message" "$folder/cose_show.$compiler"
+  done
+  for compiler in $compilers; do
+    within 1024 "conformance_cose ($compiler) on $name" "$folder/row" "$folder/conformance_cose.$compiler"
+  done
+  for compiler in $compilers; do
+    [ -e "$folder/c-stack.$compiler" ] || continue
+    read -r check ask pass is < <("$folder/c-stack.$compiler" "$keys" 256 16 "$message")
+    case $is in *"$said"*) ;; *) fails "the library on $name: not $said" ;; esac
+    for bytes in "$check" "$ask" "$pass"; do
+      [ "${bytes:-262145}" -le 262144 ] || fails "the library ($compiler) on $name takes ${bytes:-too many} bytes"
+    done
+    line="$line | $((check / 1024)), $((ask / 1024)), $((pass / 1024))"
+  done
+  echo "$line |"
+done < "$folder/said"
+
+echo
+echo "with 4,096 levels and 64 layers"
+python3 "$top/scripts/worst-messages.py" "$folder/widest" 4096 64 > "$folder/said" || exit 2
+while read -r name said; do
+  message=$folder/widest/$name
+  line="| $name"
+  for compiler in $compilers; do
+    [ -e "$folder/c-stack.$compiler" ] || continue
+    read -r check ask pass is < <("$folder/c-stack.$compiler" "$keys" 4096 64 "$message")
+    case $is in *"$said"*) ;; *) fails "the library on $name: not $said" ;; esac
+    for bytes in "$check" "$ask" "$pass"; do
+      [ "${bytes:-8388609}" -le 8388608 ] || fails "the library ($compiler) on $name takes ${bytes:-too many} bytes"
+    done
+    line="$line | $((check / 1024)), $((ask / 1024)), $((pass / 1024))"
+  done
+  echo "$line |"
+done < "$folder/said"
+# conformance_cose reads the item itself within 256 levels
+for kind in sign1 mac0; do
+  echo "within 4096 64 $kind $(od -An -v -tx1 "$folder/widest/$kind-protected" | tr -d ' \n' | cut -c 3-)" > "$folder/row"
+  line="| $kind-protected: read, copied, compared, written"
+  for compiler in $compilers; do
+    within 8192 "conformance_cose ($compiler) on $kind-protected" "$folder/row" "$folder/conformance_cose.$compiler"
+  done
+  echo "$line |"
+done
+
+echo
+mkdir "$folder/tmp"
+cd "$top/crates/cbor_tests" || exit 2
+( TMPDIR=$folder/tmp rt try --test -- items::levels:: > "$folder/log" 2>&1 < /dev/null; : > "$folder/ended" ) &
+until [ -e "$folder/ended" ]; do
+  for it in "$folder"/tmp/*/*/program; do
+    [ -e "$it" ] && ln -f "$it" "$folder/program" 2> /dev/null
   done
   sleep 0.02
 done
 wait
-if ! grep -q '^test result: ok' "$room/log" || [ ! -s "$room/program" ]; then
-  cat "$room/log"
+if ! grep -q '^test result: ok' "$folder/log" || [ ! -s "$folder/program" ]; then
+  cat "$folder/log"
   exit 2
 fi
-cd "$room/tmp" || exit 2
-ulimit -s 256
-if env -i timeout 60 "$room/program" levels::many_levels_are_read < /dev/null; then
-  echo "small-stack.sh: read in $(ulimit -s) KiB"
+cd "$folder/tmp" || exit 2
+if (ulimit -s 256 && exec env -i timeout 60 "$folder/program" items::levels::many_levels_are_read) < /dev/null; then
+  echo "small-stack.sh: 100,000 levels are read in 256 KiB"
 else
-  echo "small-stack.sh: it was not read in $(ulimit -s) KiB" >&2
-  exit 1
+  fails "100,000 levels are not read in 256 KiB"
 fi
+exit $bad

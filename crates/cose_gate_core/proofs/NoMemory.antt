@@ -96,9 +96,9 @@ mutual
   entry : (n : ℕ) (es : List (LabelFields × Tree)) (l v : Tree) (k : ℕ) (e : CoseFault) → WrongEntry n es l v k e → Named e
   entry n _ _ _ _ _ (bad_label es l v k e w) = label l e w
   entry n _ _ _ _ _ (label_again es l v k m p w) = tt
-  entry n _ _ _ _ _ (bad_field es l v k m e p w) = field v m e w
-  entry n _ _ _ _ _ (two_ivs es l v b c k m p q w) = tt
-  entry n _ _ _ _ _ (bad_signatures es l v k m e p q w) = counter n v k e w
+  entry n _ _ _ _ _ (bad_field es l v k m e p f w) = field v m e w
+  entry n _ _ _ _ _ (two_ivs es l v b c k m p f q w) = tt
+  entry n _ _ _ _ _ (bad_signatures es l v k m e p f q w) = counter n v k e w
 
   counter : (n : ℕ) (t : Tree) (k : ℕ) (e : CoseFault) → WrongSigned n t k e → Named e
   counter n _ _ _ (no_list t k w) = tt

@@ -212,7 +212,7 @@ module _ (n w : ℕ) (lighter : (u : Tree) (j : ℕ) → weight u < w → Low u 
     })
 
     signed_entry : is_at 7 m ≡ true → SignedCase k v → EntryCase k es l v
-    signed_entry o (inr (e, x)) = inr (e, bad_signatures es l v k m e is o x)
+    signed_entry o (inr (e, x)) = inr (e, bad_signatures es l v k m e is fresh o x)
     signed_entry o (inl (s, us, x)) = inl (record {
       label = m;
       is = is;

@@ -1,20 +1,18 @@
-//! Tests of `cose_gate`, by its public names alone, beside the rows of `conformance_gate`: readers, writers, judges and reports that fail
-//! in mid-stream, memory that is refused, a judge by length, long inputs, and texts of faults.
+//! Tests of the gate, by the public names of `cose_gate`: the gate, the check of one large message,
+//! the program, and the calls of `callers`, beside the rows of `conformance_gate`.
 #![tactic(auto)]
 
 #[cfg(test)]
-mod failing;
+mod calling;
 #[cfg(test)]
-mod judges;
+mod checks;
 #[cfg(test)]
-mod memory;
+mod equal;
 #[cfg(test)]
-mod recorder;
+mod gate;
 #[cfg(test)]
-mod refused;
+mod messages;
 #[cfg(test)]
-mod runs;
+mod program;
 #[cfg(test)]
-mod seen;
-#[cfg(test)]
-mod texts;
+mod stream;

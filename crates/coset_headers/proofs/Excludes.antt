@@ -157,9 +157,9 @@ mutual
       → (all : List (LabelFields × Tree)) (p : Plain) (ss : Signatures) → Splits label_of l v es all → Distinct all → IsPlain all p → HasSigned n (at 7 all) ss k → ⊥
   entry_not n es l v k e (bad_label _ _ _ _ _ w) all p ss s d a g = let x : Some s.key ≡ None = sym s.is ∙ no_label l e w in cc
   entry_not n es l v k e (label_again _ _ _ _ m q i) all p ss s d a g = again_not label_of es all l v s d m q i
-  entry_not n es l v k e (bad_field _ _ _ _ m _ q w) all p ss s d a g = value_not es all l v s d m e p q w a
-  entry_not n es l v k e (two_ivs _ _ _ b c _ m q x y) all p ss s d a g = ivs_not es all l v b c m p s q x y a
-  entry_not n es l v k e (bad_signatures _ _ _ _ m _ q r w) all p ss s d a g =
+  entry_not n es l v k e (bad_field _ _ _ _ m _ q _ w) all p ss s d a g = value_not es all l v s d m e p q w a
+  entry_not n es l v k e (two_ivs _ _ _ b c _ m q _ x y) all p ss s d a g = ivs_not es all l v b c m p s q x y a
+  entry_not n es l v k e (bad_signatures _ _ _ _ m _ q _ r w) all p ss s d a g =
       signed_not n v k e w (signs_by n v ss k (subst (λ o. HasSigned n o ss k) (there_at es all l v s d 7 m q r) g))
 
   signed_not : (n : ℕ) (t : Tree) (k : ℕ) (e : CoseFault) → WrongSigned n t k e → Signs n t k → ⊥

@@ -27,7 +27,7 @@ use Rattle.coset_headers.specs.declared.header.Header.{Header, out-Header}
 use Rattle.coset_headers.specs.declared.header.ProtectedHeader.{ProtectedHeader, out-ProtectedHeader, roll-out-ProtectedHeader, fold-roll-ProtectedHeader}
 use Rattle.coset_headers.specs.declared.header.CoseSignature.{CoseSignature, out-CoseSignature, roll-out-CoseSignature, fold-roll-CoseSignature}
 use Rattle.coset_headers.proofs.Again.{header_parts, signature_parts, trees_parts}
-use Rattle.coset_headers.proofs.Unset.{header_is}
+use Rattle.coset_headers.proofs.Alike.{header_is}
 use Rattle.coset_headers.proofs.Wrote.{from2, from3, from4, from5, from6, from7}
 
 -- ---- entries

@@ -6,7 +6,9 @@ pub mod Excludes
 pub mod Fielded
 pub mod Fit
 pub mod Items
+pub mod Levels
 pub mod Names
+pub mod Nested
 pub mod Pushed
 pub mod Ranked
 pub mod Restored

@@ -17,12 +17,13 @@ use Rattle.coset_labels.specs.Orders.{label_cmp}
 use Rattle.coset_labels.specs.View.{label_view, registered_view, named_view}
 use Rattle.coset_labels.specs.declared.label.Label.{Label}
 use Rattle.coset_headers.specs.Decided.{trees_decided}
-use Rattle.coset_headers.specs.Fields.{plain_part}
-use Rattle.coset_headers.specs.Same.{same_name, same_tree, same_entry, same_plain, same_signatures}
-use Rattle.coset_headers.specs.View.{header_view, signatures_view, entry_view}
+use Rattle.coset_headers.specs.Copies.{unsigned}
+use Rattle.coset_headers.specs.Fields.{plain_part, SignatureFields, signature, protected, header, Signatures}
+use Rattle.coset_headers.specs.Same.{same_name, same_tree, same_entry, same_plain, same_signature, same_signatures}
+use Rattle.coset_headers.specs.View.{header_view, signature_view, signatures_view, entry_view}
 use Rattle.coset_headers.specs.declared.header.Header.{Header, out-Header}
 use Rattle.coset_headers.specs.declared.header.CoseSignature.{CoseSignature}
-use Rattle.coset_headers.proofs.Unset.{header_is}
+use Rattle.coset_headers.proofs.Alike.{header_is, of_protected, of_unprotected, signature_seen}
 
 options_on : {A B : Type 0} (E : B → B → Bool) (f : A → B) (x y : Option A) → option_eq (λ a b. E (f a) (f b)) x y ≡ option_eq E (option_map f x) (option_map f y)
 options_on E f None None = refl
@@ -101,3 +102,72 @@ unlike_long [] (y ∷ ys) h = refl
 unlike_long (x ∷ xs) [] h = refl
 unlike_long (x ∷ xs) (y ∷ ys) h =
     unlike_more _ _ (unlike_long xs ys (λ e. h (omega (arith, e))))
+
+-- two signatures by all but the counter signatures in their headers, and by these
+regroup : (a b c d e f : Bool) → (a && (b && c) && (d && e) && f) ≡ ((a && (b && true) && (d && true) && f) && c && e)
+regroup false b c d e f = refl
+regroup true false c d e f = refl
+regroup true true true true true true = refl
+regroup true true true true true false = refl
+regroup true true true true false true = refl
+regroup true true true true false false = refl
+regroup true true true false e f = refl
+regroup true true false true e true = refl
+regroup true true false true e false = refl
+regroup true true false false e f = refl
+
+abbrev in_protected : SignatureFields → Signatures
+in_protected (signature (protected o (header p ss)) h c) = ss
+
+abbrev in_unprotected : SignatureFields → Signatures
+in_unprotected (signature q (header p ss) c) = ss
+
+same_by : (s u : SignatureFields) → same_signature s u
+    ≡ (same_signature (unsigned s) (unsigned u) && same_signatures (in_protected s) (in_protected u) && same_signatures (in_unprotected s) (in_unprotected u))
+same_by (signature (protected o (header p ss)) (header q us) c) (signature (protected w (header x ys)) (header y zs) d) =
+    regroup (option_eq (pointwise nat_eq) o w) (same_plain p x) (same_signatures ss ys) (same_plain q y) (same_signatures us zs) (pointwise nat_eq c d)
+
+nested_protected : (s : CoseSignature) → in_protected (signature_view s) ≡ signatures_view (of_protected s).counter_signatures.items
+nested_protected s = ap in_protected (signature_seen s)
+
+nested_unprotected : (s : CoseSignature) → in_unprotected (signature_view s) ≡ signatures_view (of_unprotected s).counter_signatures.items
+nested_unprotected s = ap in_unprotected (signature_seen s)
+
+-- the first of two lists of signatures, by what was compared of them
+module _ (xs ys xt yt : List CoseSignature) (x y : CoseSignature) (ps qs us vs : List CoseSignature) where
+  abbrev first_same : Bool
+  first_same = same_signatures (signatures_view ps) (signatures_view qs) && same_signatures (signatures_view us) (signatures_view vs)
+
+  first_by : xs ≡ x ∷ xt → ys ≡ y ∷ yt → true ≡ same_signature (unsigned (signature_view x)) (unsigned (signature_view y))
+      → ps ≡ (of_protected x).counter_signatures.items → qs ≡ (of_protected y).counter_signatures.items
+      → us ≡ (of_unprotected x).counter_signatures.items → vs ≡ (of_unprotected y).counter_signatures.items
+      → same_signatures (signatures_view xs) (signatures_view ys) ≡ (first_same && same_signatures (signatures_view xt) (signatures_view yt))
+  first_by a b f p q u v =
+      (λ i. same_signatures (signatures_view (a i)) (signatures_view (b i)))
+      ∙ ap (λ z. z && same_signatures (signatures_view xt) (signatures_view yt)) (
+      same_by (signature_view x) (signature_view y)
+      ∙ (λ i. sym f i && same_signatures ((nested_protected x ∙ ap signatures_view (sym p)) i) ((nested_protected y ∙ ap signatures_view (sym q)) i)
+      && same_signatures ((nested_unprotected x ∙ ap signatures_view (sym u)) i) ((nested_unprotected y ∙ ap signatures_view (sym v)) i))
+      )
+
+  pub unlike_protected : xs ≡ x ∷ xt → ys ≡ y ∷ yt → true ≡ same_signature (unsigned (signature_view x)) (unsigned (signature_view y))
+      → ps ≡ (of_protected x).counter_signatures.items → qs ≡ (of_protected y).counter_signatures.items
+      → us ≡ (of_unprotected x).counter_signatures.items → vs ≡ (of_unprotected y).counter_signatures.items
+      → false ≡ same_signatures (signatures_view ps) (signatures_view qs) → false ≡ same_signatures (signatures_view xs) (signatures_view ys)
+  unlike_protected a b f p q u v e = sym (first_by a b f p q u v
+      ∙ (λ i. (sym e i && same_signatures (signatures_view us) (signatures_view vs)) && same_signatures (signatures_view xt) (signatures_view yt)))
+
+  pub unlike_unprotected : xs ≡ x ∷ xt → ys ≡ y ∷ yt → true ≡ same_signature (unsigned (signature_view x)) (unsigned (signature_view y))
+      → ps ≡ (of_protected x).counter_signatures.items → qs ≡ (of_protected y).counter_signatures.items
+      → us ≡ (of_unprotected x).counter_signatures.items → vs ≡ (of_unprotected y).counter_signatures.items
+      → true ≡ same_signatures (signatures_view ps) (signatures_view qs) → false ≡ same_signatures (signatures_view us) (signatures_view vs)
+      → false ≡ same_signatures (signatures_view xs) (signatures_view ys)
+  unlike_unprotected a b f p q u v d e = sym (first_by a b f p q u v
+      ∙ (λ i. (sym d i && sym e i) && same_signatures (signatures_view xt) (signatures_view yt)))
+
+  pub like_first : xs ≡ x ∷ xt → ys ≡ y ∷ yt → true ≡ same_signature (unsigned (signature_view x)) (unsigned (signature_view y))
+      → ps ≡ (of_protected x).counter_signatures.items → qs ≡ (of_protected y).counter_signatures.items
+      → us ≡ (of_unprotected x).counter_signatures.items → vs ≡ (of_unprotected y).counter_signatures.items
+      → true ≡ same_signatures (signatures_view ps) (signatures_view qs) → true ≡ same_signatures (signatures_view us) (signatures_view vs)
+      → same_signatures (signatures_view xs) (signatures_view ys) ≡ same_signatures (signatures_view xt) (signatures_view yt)
+  like_first a b f p q u v d e = first_by a b f p q u v ∙ (λ i. (sym d i && sym e i) && same_signatures (signatures_view xt) (signatures_view yt))

@@ -1,12 +1,14 @@
 -- What one step of the reader shows, over plain variables.
-use Rattle.std.proofs.Common.{◌≡◌, ◌≢◌, ℕ, ℤ, pos, cond, ◌-◌, ◌<◌, inl, inr, List, [], ◌∷◌, ◌++◌, map, Bool, true, false, Option, Some, None, refl, sym, ap, subst, ◌∙◌}
-use Rattle.std.proofs.lemmas.List.{map-append}
-use Rattle.ciborium_value.specs.Tree.{Tree, integer, bytes, text, array, map as map_tree, tag, simple, float, Trees, no_trees, one_more, Pairs, tree_count, is_bytes}
-use Rattle.ciborium_value.specs.View.{trees, view, views, view_pairs}
+use Rattle.std.proofs.Common.{◌≡◌, ◌≢◌, ℕ, ℤ, pos, cond, ◌-◌, ◌<◌, inl, inr, List, [], ◌∷◌, ◌++◌, Bool, true, false, Option, Some, None, refl, sym, ap, subst, ◌∙◌, map}
+use Rattle.coset_headers.specs.declared.header.CoseSignature.{CoseSignature}
+use Rattle.coset_headers.specs.View.{signature_view, signatures_view}
 use Rattle.ciborium_value.specs.declared.value.Value.{Value}
+use Rattle.std.proofs.lemmas.List.{map-append}
+use Rattle.ciborium_value.specs.Tree.{Tree, integer, bytes, text, array, map as map_tree, tag, simple, float, Trees, no_trees, one_more, is_bytes}
+use Rattle.ciborium_value.specs.View.{trees, view, views}
 use Rattle.ciborium.specs.Front.{Reads}
 use Rattle.coset_labels.specs.Fields.{LabelFields, number, Named, assigned, named}
-use Rattle.coset_labels.specs.Facts.Walks.{at_fault, entry_read}
+use Rattle.coset_labels.specs.Facts.Walks.{at_fault}
 pub use Rattle.coset_labels.specs.Facts.Walks.{passed_on, views_count}
 use Rattle.coset_labels.specs.Faults.{CoseFault, OrMemory, fault_of, unexpected}
 use Rattle.coset_labels.specs.Kinds.{is_map, is_array, some_bytes}
@@ -17,13 +19,11 @@ use Rattle.coset_labels.specs.declared.error.CoseError.TheVariants as code
 use Rattle.coset_labels.specs.declared.label.Label.{Label}
 use Rattle.coset_labels.specs.declared.seen_labels.SeenLabels.{SeenLabels}
 use Rattle.coset_headers.specs.AsWritten.{is_bare}
-use Rattle.coset_headers.specs.Fields.{Plain, HeaderFields, header, no_plain, no_header, SignatureFields, signatures, Signatures, no_signatures, signature_more}
-use Rattle.coset_headers.specs.Headers.{is_at, entries, at, IsIn, IsPlain, IsBare, IsList, list_of_three, HasHeader, HasSignature, HasSigned, HasSignatures}
-use Rattle.coset_headers.specs.Parts.{plain_of, signs_of, Sees, Known, KnownIn, Added, Filled}
-use Rattle.coset_headers.specs.View.{signature_view, signatures_view}
-use Rattle.coset_headers.specs.Walks.{WrongFill, field_wrong, iv_second, partial_iv_second, WrongInside, is_unreadable, is_wrong, HasEntries, WrongEntries, WrongSignatures}
-use Rattle.coset_headers.specs.Wrong.{WrongField, WrongHeader, no_map, at_entry, WrongEntry, bad_label, bad_field, two_ivs, bad_signatures, WrongSigned, no_list, no_first, in_bare, in_list, NoSignature, WrongSignature, no_array, not_three, in_protected, in_unprotected, no_bytes, WrongProtected, no_string, too_deep, unreadable, inside}
-use Rattle.coset_headers.specs.declared.header.CoseSignature.{CoseSignature}
+use Rattle.coset_headers.specs.Fields.{Plain, header, no_plain, no_header, SignatureFields, signatures, Signatures, no_signatures, signature_more}
+use Rattle.coset_headers.specs.Headers.{is_at, at, IsIn, IsPlain, IsBare, IsList, list_of_three, HasSignature, HasSigned, HasSignatures}
+use Rattle.coset_headers.specs.Parts.{plain_of, signs_of, Sees, Known, Added, Filled}
+use Rattle.coset_headers.specs.Walks.{WrongFill, field_wrong, iv_second, partial_iv_second, WrongInside, is_unreadable, is_wrong}
+use Rattle.coset_headers.specs.Wrong.{WrongField, WrongHeader, no_map, WrongEntry, bad_label, bad_field, two_ivs, WrongSigned, no_list, no_first, NoSignature, WrongSignature, in_protected, in_unprotected, WrongProtected, no_string, too_deep, unreadable, inside}
 use Rattle.coset_headers.specs.declared.parts.HeaderParts.{HeaderParts}
 use Rattle.coset_headers.proofs.Entered.{is_at_is, at_old, at_new, at_none, distinct_snoc, there, filled_plain, signed_plain, none_plain}
 use Rattle.coset_headers.proofs.Unique.{plain_once, signed_once}
@@ -32,31 +32,21 @@ use Rattle.coset_headers.proofs.Unique.{plain_once, signed_once}
 pub header_kind : (n : ℕ) (t : Tree) (k : ℕ) (e : CoseError) → (fault_of e ≡ unexpected) × (is_map t ≡ false) → OrMemory (WrongHeader n t k) e
 header_kind n t k e p = at_fault (WrongHeader n t k) _ e p.0 (no_map t k p.1)
 
-pub header_inside : (n : ℕ) (t : Tree) (ps : Pairs) (k : ℕ) (e : CoseError) → t ≡ map_tree ps → OrMemory (WrongEntries n ps k) e → OrMemory (WrongHeader n t k) e
-header_inside n t ps k e q w = passed_on (WrongEntries n ps k) (WrongHeader n t k) e
-    (λ x. subst (λ z. WrongHeader n z k (fault_of e)) (ap map_tree (sym x.are) ∙ sym q) (at_entry x.before x.after x.key x.value x.es k (fault_of e) x.read_before x.wrong)) w
-
-pub header_has : (n : ℕ) (t : Tree) (ps : Pairs) (h : HeaderFields) (p : Plain) (ss : Signatures) (k : ℕ) → t ≡ map_tree ps → h ≡ header p ss → HasEntries n ps p ss k → HasHeader n t h k
-header_has n t ps h p ss k q e w = subst (λ z. HasHeader n t z k) (sym e) (ps, w.es, q, w.entries_are, w.known.distinct, w.known.plain, w.known.signed)
-
 -- ---- an entry
 pub entry_label : (n : ℕ) (es : List (LabelFields × Tree)) (l v : Tree) (k : ℕ) (e : CoseError) → OrMemory (WrongLabel l) e → OrMemory (WrongEntry n es l v k) e
 entry_label n es l v k e w = passed_on (WrongLabel l) (WrongEntry n es l v k) e (λ x. bad_label es l v k (fault_of e) x) w
 
-pub entry_signatures : (n : ℕ) (es : List (LabelFields × Tree)) (l v : Tree) (k : ℕ) (m : LabelFields) (e : CoseError) → label_of l ≡ Some m → is_at 7 m ≡ true → OrMemory (WrongSigned n v k) e → OrMemory (WrongEntry n es l v k) e
-entry_signatures n es l v k m e q r w = passed_on (WrongSigned n v k) (WrongEntry n es l v k) e (λ x. bad_signatures es l v k m (fault_of e) q r x) w
-
 pub entry_filled : (n : ℕ) (es : List (LabelFields × Tree)) (l v : Tree) (k : ℕ) (m : LabelFields) (p : Plain) (ss : Signatures) (e : CoseFault)
     → Known n es p ss k → label_of l ≡ Some m → (IsIn m es → ⊥) → WrongFill m v p e → WrongEntry n es l v k e
-entry_filled n es l v k m p ss e w q d (field_wrong x) = bad_field es l v k m e q x
+entry_filled n es l v k m p ss e w q d (field_wrong x) = bad_field es l v k m e q d x
 entry_filled n es l v k m p ss e w q d (iv_second b i f x y) =
     let c = there some_bytes [] (at 6 es) p.partial_iv w.plain.partial_iv x in
     let s : is_at 5 m ≡ true = ap (is_at 5) i in let t : is_at 6 m ≡ false = ap (is_at 6) i in
-    subst (WrongEntry n es l v k) (sym y) (two_ivs es l v v c.0 k m q (at_new 5 es m v s (at_none 5 es m s d)) (at_old 6 es m v t ∙ c.1))
+    subst (WrongEntry n es l v k) (sym y) (two_ivs es l v v c.0 k m q d (at_new 5 es m v s (at_none 5 es m s d)) (at_old 6 es m v t ∙ c.1))
 entry_filled n es l v k m p ss e w q d (partial_iv_second b i f x y) =
     let c = there some_bytes [] (at 5 es) p.iv w.plain.iv x in
     let s : is_at 6 m ≡ true = ap (is_at 6) i in let t : is_at 5 m ≡ false = ap (is_at 5) i in
-    subst (WrongEntry n es l v k) (sym y) (two_ivs es l v c.0 v k m q (at_old 5 es m v t ∙ c.1) (at_new 6 es m v s (at_none 6 es m s d)))
+    subst (WrongEntry n es l v k) (sym y) (two_ivs es l v c.0 v k m q d (at_old 5 es m v t ∙ c.1) (at_new 6 es m v s (at_none 6 es m s d)))
 
 known_more : (n : ℕ) (es : List (LabelFields × Tree)) (p q : Plain) (ss us : Signatures) (k : ℕ) (m : LabelFields) (v : Tree)
     → Known n es p ss k → (IsIn m es → ⊥) → IsPlain (es ++ (m, v) ∷ []) q → HasSigned n (at 7 (es ++ (m, v) ∷ [])) us k → Known n (es ++ (m, v) ∷ []) q us k
@@ -91,11 +81,6 @@ known_signed n es l v seen old new k m ss w q d z s g a b =
       };
     }
 
-pub entries_pushed : (n : ℕ) (xs : List (Value × Value)) (x : Value × Value) (es : List (LabelFields × Tree)) (s : SeenLabels Label) (p : HeaderParts) (k : ℕ)
-    → entries (view_pairs xs) ≡ Some es → Added n es (view x.0) (view x.1) s p k → (fs : List (LabelFields × Tree)) × (entries (view_pairs (xs ++ x ∷ [])) ≡ Some fs) × KnownIn n fs s p k
-entries_pushed n xs x es s p k r a =
-    (es ++ (a.key, view x.1) ∷ [], entry_read label_of xs x es a.key r a.is, a.known)
-
 pub header_none : (n : ℕ) (p : Plain) (ss : Signatures) (k : ℕ) → Known n [] p ss k → header p ss ≡ no_header
 header_none n p ss k w = let a = plain_once [] p no_plain w.plain none_plain in let b = signed_once n ss no_signatures None k w.signed refl in λ i. header (a i) (b i)
 
@@ -106,13 +91,6 @@ signed_kind n t k e p = at_fault (WrongSigned n t k) _ e p.0 (no_list t k p.1)
 pub signed_first : (n : ℕ) (t : Tree) (ts : Trees) (k : ℕ) (e : CoseError) → t ≡ array ts → (fault_of e ≡ unexpected) × NoSignature ts → OrMemory (WrongSigned n t k) e
 signed_first n t ts k e q p = at_fault (WrongSigned n t k) _ e p.0 (subst (λ z. WrongSigned n z k unexpected) (sym q) (no_first ts k p.1))
 
-pub signed_bare : (n : ℕ) (t : Tree) (ts : Trees) (k : ℕ) (e : CoseError) → t ≡ array ts → IsBare ts → OrMemory (WrongSignature n (array ts) k) e → OrMemory (WrongSigned n t k) e
-signed_bare n t ts k e q b w = passed_on (WrongSignature n (array ts) k) (WrongSigned n t k) e (λ x. subst (λ z. WrongSigned n z k (fault_of e)) (sym q) (in_bare ts k (fault_of e) b x)) w
-
-pub signed_list : (n : ℕ) (t : Tree) (ts : Trees) (k : ℕ) (e : CoseError) → t ≡ array ts → IsList ts → OrMemory (WrongSignatures n ts k) e → OrMemory (WrongSigned n t k) e
-signed_list n t ts k e q b w = passed_on (WrongSignatures n ts k) (WrongSigned n t k) e
-    (λ x. subst (λ z. WrongSigned n z k (fault_of e)) (ap array (sym x.are) ∙ sym q) (in_list x.before x.after x.tree k (fault_of e) (subst IsList x.are b) x.wrong)) w
-
 pub signed_one : (n : ℕ) (t : Tree) (ts us : Trees) (ss : Signatures) (s : SignatureFields) (k : ℕ) → t ≡ array ts → IsBare ts → ss ≡ signature_more s no_signatures → HasSignature n (array ts) s k → HasSigned n (Some t) ss k
 signed_one n t ts us ss s k q b e w = subst (λ z. HasSigned n (Some t) z k) (sym e) (ts, ap Some q, inl (b, refl, w))
 
@@ -120,7 +98,7 @@ pub signed_all : (n : ℕ) (t : Tree) (ts : Trees) (ss : Signatures) (k : ℕ) �
 signed_all n t ts no_signatures k q b w = let e : one_more (array b.0) b.1 ≡ no_trees = sym b.2 ∙ w in cc
 signed_all n t ts (signature_more s ss) k q b w = (ts, ap Some q, inr (b, w))
 
-sigs_snoc : (n : ℕ) (ts : List Tree) (t : Tree) (ss : List SignatureFields) (s : SignatureFields) (k : ℕ) → HasSignatures n (trees ts) (signatures ss) k → HasSignature n t s k → HasSignatures n (trees (ts ++ t ∷ [])) (signatures (ss ++ s ∷ [])) k
+pub sigs_snoc : (n : ℕ) (ts : List Tree) (t : Tree) (ss : List SignatureFields) (s : SignatureFields) (k : ℕ) → HasSignatures n (trees ts) (signatures ss) k → HasSignature n t s k → HasSignatures n (trees (ts ++ t ∷ [])) (signatures (ss ++ s ∷ [])) k
 sigs_snoc n [] t [] s k a b = (t, no_trees, refl, b, refl)
 sigs_snoc n [] t (u ∷ us) s k a b = let e : no_trees ≡ one_more a.0 a.1 = a.2 in cc
 sigs_snoc n (x ∷ xs) t [] s k a b = let e : one_more x (trees xs) ≡ no_trees = a in cc
@@ -138,15 +116,6 @@ sigs_pushed n xs x ss us s k e a b =
     (sigs_snoc n (map view xs) (view x) (map signature_view ss) (signature_view s) k a b))
 
 -- ---- a signature
-pub sig_kind : (n : ℕ) (t : Tree) (k : ℕ) (e : CoseError) → (fault_of e ≡ unexpected) × (is_array t ≡ false) → OrMemory (WrongSignature n t k) e
-sig_kind n t k e p = at_fault (WrongSignature n t k) _ e p.0 (no_array t k p.1)
-
-pub sig_count : (n : ℕ) (t : Tree) (ts : Trees) (k : ℕ) → t ≡ array ts → tree_count ts ≢ 3 → WrongSignature n t k unexpected
-sig_count n t ts k q d = subst (λ z. WrongSignature n z k unexpected) (sym q) (not_three ts k d)
-
-pub sig_bytes : (n : ℕ) (t a b c : Tree) (ts : Trees) (k : ℕ) (e : CoseError) → t ≡ array ts → ts ≡ list_of_three a b c → (fault_of e ≡ unexpected) × (is_bytes c ≡ false) → OrMemory (WrongSignature n t k) e
-sig_bytes n t a b c ts k e q r p = at_fault (WrongSignature n t k) _ e p.0 (subst (λ z. WrongSignature n z k unexpected) (sym (q ∙ ap array r)) (no_bytes a b c k p.1))
-
 pub sig_unprotected : (n : ℕ) (t a b c : Tree) (ts : Trees) (k : ℕ) (e : CoseError) → t ≡ array ts → ts ≡ list_of_three a b c → OrMemory (WrongHeader n b k) e → OrMemory (WrongSignature n t k) e
 sig_unprotected n t a b c ts k e q r w = passed_on (WrongHeader n b k) (WrongSignature n t k) e (λ x. subst (λ z. WrongSignature n z k (fault_of e)) (sym (q ∙ ap array r)) (in_unprotected a b c k (fault_of e) x)) w
 

@@ -7,21 +7,10 @@ use Rattle.cose_iana.specs.Formats.{coap_content_formats}
 use Rattle.cose_iana.specs.Headers.{header_parameters}
 use Rattle.coset_labels.specs.Fields.{Named}
 use Rattle.coset_labels.specs.View.{registered_view, named_view}
-use Rattle.coset_headers.specs.Fields.{SignatureFields, HeaderFields, ProtectedFields, header}
-use Rattle.coset_headers.specs.View.{header_view, signatures_view, entry_view, signature_step, header_step, protected_step}
+use Rattle.coset_headers.specs.View.{header_view, signatures_view, entry_view}
 use Rattle.coset_headers.specs.Written.{is_absent, is_nil, is_unsigned, is_empty}
-use Rattle.coset_headers.specs.declared.header.Header.{Header, out-Header, roll-out-Header, fold-roll-Header}
-
-pub header_is : (h : Header) → header_view h ≡ header (record {
-  alg = option_map (named_view algorithm_number) (out-Header h).alg;
-  crit = map (named_view header_parameters.number) (out-Header h).crit.items;
-  content_type = option_map (registered_view coap_content_formats.number) (out-Header h).content_type;
-  key_id = (out-Header h).key_id.items;
-  iv = (out-Header h).iv.items;
-  partial_iv = (out-Header h).partial_iv.items;
-  rest = map entry_view (out-Header h).rest.items;
-}) (signatures_view (out-Header h).counter_signatures.items)
-header_is h = ap header_view (sym (roll-out-Header h)) ∙ fold-roll-Header SignatureFields HeaderFields ProtectedFields signature_step header_step protected_step (out-Header h)
+use Rattle.coset_headers.specs.declared.header.Header.{Header, out-Header}
+use Rattle.coset_headers.proofs.Alike.{header_is}
 
 chain : (a b c d e f g : Bool) → a ≡ true → b ≡ true → c ≡ true → d ≡ true → e ≡ true → f ≡ true → (a && (b && (c && (d && (e && (f && g)))))) ≡ g
 chain a b c d e f g p q r s t u = λ i. p i && (q i && (r i && (s i && (t i && (u i && g)))))

@@ -8,7 +8,7 @@ use Rattle.ciborium_ll.specs.Title.{Title}
 use Rattle.ciborium_ll.specs.Framing.{Frame, Frames, whole, cut, no_frames, frame_more, joined}
 use Rattle.ciborium_ll.proofs.Walk.{title_some}
 use Rattle.ciborium_value.specs.Tree.{Tree, integer, bytes, text, array, map as map_tree, tag, simple, float, Trees, no_trees, one_more, Pairs, no_pairs, pair_more}
-use Rattle.ciborium_value.specs.View.{trees, pairs, view, view_pair}
+use Rattle.ciborium_value.specs.View.{trees, view}
 use Rattle.ciborium_value.specs.declared.value.Value.{Value}
 use Rattle.ciborium_value.specs.Folding.{fold_by, fold_all_by, fold_pairs_by, fold_bytes, fold_number, tagged, big_endian_from, without_zeros}
 use Rattle.ciborium_value.specs.Encoding.{int_head}
@@ -184,7 +184,3 @@ reads_long b n v r =
 pub weight_among : (xs ys : List Value) (x : Value) → weight (view x) ≤ weight_all (trees (map view (xs ++ x ∷ ys)))
 weight_among [] ys x = omega arith
 weight_among (z ∷ zs) ys x = let h : weight (view x) ≤ weight_all (trees (map view (zs ++ x ∷ ys))) = weight_among zs ys x in omega arith
-
-pub weight_pair_among : (xs ys : List (Value × Value)) (x : Value × Value) → weight (view x.0) + weight (view x.1) ≤ weight_pairs (pairs (map view_pair (xs ++ x ∷ ys)))
-weight_pair_among [] ys x = omega arith
-weight_pair_among (z ∷ zs) ys x = let h : weight (view x.0) + weight (view x.1) ≤ weight_pairs (pairs (map view_pair (zs ++ x ∷ ys))) = weight_pair_among zs ys x in omega arith

@@ -15,7 +15,7 @@ use Rattle.coset_labels.specs.View.{label_view}
 use Rattle.coset_labels.specs.declared.error.CoseError.{CoseError}
 use Rattle.coset_labels.specs.declared.label.Label.{Label}
 use Rattle.coset_labels.specs.declared.seen_labels.SeenLabels.{SeenLabels}
-use Rattle.coset_labels.proofs.Arrays.{written_none}
+use Rattle.coset_labels.proofs.Arrays.{written_none, written_pushed}
 use Rattle.coset_headers.specs.Fields.{SignatureFields, signatures}
 use Rattle.coset_headers.specs.Headers.{IsIn, Distinct}
 use Rattle.coset_headers.specs.Parts.{Sees}
@@ -82,6 +82,13 @@ signature_list (s ∷ ss) = go (signature_tree s) (signature_trees (signatures s
 
 pub signatures_done : (all : List CoseSignature) (vs : List Value) → all_written signature_tree (map signature_view all) ≡ Some (map view vs) → signature_trees (signatures_view all) ≡ Some (views vs)
 signatures_done all vs e = signature_list (map signature_view all) ∙ ap (option_map trees) e
+
+pub written_more : (all : List CoseSignature) (i : ℕ) (d : CoseSignature) (vs ws : List Value) (v : Value) → i < length all → ws ≡ vs ++ v ∷ []
+    → all_written signature_tree (map signature_view (take i all)) ≡ Some (map view vs) → signature_tree (signature_view (get_or all i d)) ≡ Some (view v)
+    → all_written signature_tree (map signature_view (take (i + 1) all)) ≡ Some (map view ws)
+written_more all i d vs ws v h q e s =
+    ap (λ z. all_written signature_tree (map signature_view z)) (take_more all i d h)
+    ∙ written_pushed signature_tree signature_view (take i all) (get_or all i d) vs ws v q e s
 
 pub signatures_fault : (all xs ys : List CoseSignature) (x : CoseSignature) (e : CoseError) → all ≡ xs ++ x ∷ ys → CantWrite (signature_tree (signature_view x)) e → CantWrite (signature_trees (signatures_view all)) e
 signatures_fault all xs ys x e q (inl m) = inl m

@@ -1,9 +1,11 @@
 pub mod Alone
 pub mod AsWritten
+pub mod Copies
 pub mod Decided
 pub mod Entries
 pub mod Fields
 pub mod Headers
+pub mod Levels
 pub mod Parts
 pub mod Places
 pub mod Same

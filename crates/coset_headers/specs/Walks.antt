@@ -1,17 +1,14 @@
 -- What the parts of the reader show.
 use Rattle.std.specs.Prelude.{◌≡◌, ◌≢◌, ℕ, pos, ◌⊎◌, List, [], Some}
-use Rattle.ciborium_value.specs.Tree.{Tree, Trees, Pairs}
+use Rattle.ciborium_value.specs.Tree.{Tree}
 use Rattle.ciborium.specs.Front.{Reads}
 use Rattle.coset_labels.specs.Faults.{CoseFault, unexpected}
 use Rattle.coset_labels.specs.Fields.{LabelFields, number}
 use Rattle.coset_labels.specs.Kinds.{some_bytes}
-use Rattle.coset_labels.specs.Labels.{label_of}
 use Rattle.coset_labels.specs.Reading.{NotReadable}
-use Rattle.coset_labels.specs.Walks as walks
-use Rattle.coset_headers.specs.Fields.{Plain, HeaderFields, Signatures, no_header}
+use Rattle.coset_headers.specs.Fields.{Plain, HeaderFields, no_header}
 use Rattle.coset_headers.specs.Headers.{HasHeader}
-use Rattle.coset_headers.specs.Parts.{Known}
-use Rattle.coset_headers.specs.Wrong.{WrongField, WrongHeader, WrongEntry, WrongSignature}
+use Rattle.coset_headers.specs.Wrong.{WrongField, WrongHeader}
 
 -- the value of a label but 7, where the fields p are set
 pub data WrongFill (l : LabelFields) (v : Tree) (p : Plain) (e : CoseFault) : Type 0 where
@@ -29,15 +26,3 @@ Inside n h b k = ((b ≡ []) × (h ≡ no_header))
 pub data WrongInside (n : ℕ) (b : List ℕ) (k : ℕ) (e : CoseFault) : Type 0 where
   is_unreadable : b ≢ [] → NotReadable b n e → WrongInside n b k e
   is_wrong : (t : Tree) → b ≢ [] → Reads b n t → WrongHeader n t k e → WrongInside n b k e
-
--- the fields of all entries of a map
-abbrev pub HasEntries : ℕ → Pairs → Plain → Signatures → ℕ → Type 0
-HasEntries n ps p ss k = walks.HasEntries label_of (λ es. Known n es p ss k) ps
-
--- one of the entries has a fault, and those before it have labels
-abbrev pub WrongEntries : ℕ → Pairs → ℕ → CoseFault → Type 0
-WrongEntries n ps k = walks.WrongEntries label_of (λ es l v. WrongEntry n es l v k) ps
-
--- one of the signatures has a fault
-abbrev pub WrongSignatures : ℕ → Trees → ℕ → CoseFault → Type 0
-WrongSignatures n ts k = walks.WrongItems (λ t. WrongSignature n t k) ts

@@ -51,17 +51,17 @@ mutual
     at_entry : (before after : List (Tree × Tree)) (l v : Tree) (es : List (LabelFields × Tree)) (k : ℕ) (e : CoseFault)
         → entries (pairs before) ≡ Some es → WrongEntry n es l v k e → WrongHeader n (map_tree (pairs (before ++ (l, v) ∷ after))) k e
 
-  -- the entry (l, v) behind the entries `es`
+  -- the entry (l, v) after the entries `es`; of a label that comes again no other fault counts
   pub data WrongEntry (n : ℕ) : List (LabelFields × Tree) → Tree → Tree → ℕ → CoseFault → Type 0 where
     bad_label : (es : List (LabelFields × Tree)) (l v : Tree) (k : ℕ) (e : CoseFault) → WrongLabel l e → WrongEntry n es l v k e
     label_again : (es : List (LabelFields × Tree)) (l v : Tree) (k : ℕ) (m : LabelFields) → label_of l ≡ Some m → IsIn m es
         → WrongEntry n es l v k duplicate_key
     bad_field : (es : List (LabelFields × Tree)) (l v : Tree) (k : ℕ) (m : LabelFields) (e : CoseFault) → label_of l ≡ Some m
-        → WrongField v m e → WrongEntry n es l v k e
+        → (IsIn m es → ⊥) → WrongField v m e → WrongEntry n es l v k e
     two_ivs : (es : List (LabelFields × Tree)) (l v b c : Tree) (k : ℕ) (m : LabelFields) → label_of l ≡ Some m
-        → at 5 (es ++ (m, v) ∷ []) ≡ Some b → at 6 (es ++ (m, v) ∷ []) ≡ Some c → WrongEntry n es l v k unexpected
+        → (IsIn m es → ⊥) → at 5 (es ++ (m, v) ∷ []) ≡ Some b → at 6 (es ++ (m, v) ∷ []) ≡ Some c → WrongEntry n es l v k unexpected
     bad_signatures : (es : List (LabelFields × Tree)) (l v : Tree) (k : ℕ) (m : LabelFields) (e : CoseFault) → label_of l ≡ Some m
-        → is_at 7 m ≡ true → WrongSigned n v k e → WrongEntry n es l v k e
+        → (IsIn m es → ⊥) → is_at 7 m ≡ true → WrongSigned n v k e → WrongEntry n es l v k e
 
   -- counter signatures
   pub data WrongSigned (n : ℕ) : Tree → ℕ → CoseFault → Type 0 where

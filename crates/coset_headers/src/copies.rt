@@ -1,8 +1,9 @@
 //! Copies of headers and signatures.
-ghost use Rattle.std.specs.Prelude.{◌≡◌, IfOk, map, option_map};
+ghost use Rattle.std.specs.Prelude.{◌≡◌, ◌++◌, IfOk, map, option_map};
 ghost use Rattle.cose_iana.specs.Formats.{coap_content_formats};
 ghost use Rattle.cose_iana.specs.Headers.{header_parameters};
 ghost use Rattle.coset_labels.specs.View.{registered_view, named_view};
+ghost use Rattle.coset_headers.specs.Copies.{PushesPlain, unsigned_header};
 ghost use Rattle.coset_headers.specs.View.{header_view, protected_view, signature_view};
 
 use crate::header::{CoseSignature, Header, ProtectedHeader};
@@ -38,49 +39,91 @@ fn clone_crit(
     Ok(copies)
 }
 
+/// A copy of a header but for its counter signatures, of which it has none.
+fn clone_plain(alloc: Global, header: &Header) -> Result<Header, AllocError>
+    ensures { IfOk result (λ copy. header_view copy ≡ unsigned_header (header_view header.now)) }
+{
+    Ok(Header {
+        alg: clone_key(alloc, &header.alg)?,
+        crit: clone_crit(alloc, &header.crit)?,
+        content_type: clone_content_type(alloc, &header.content_type)?,
+        key_id: header.key_id.as_slice().to_vec(alloc)?,
+        iv: header.iv.as_slice().to_vec(alloc)?,
+        partial_iv: header.partial_iv.as_slice().to_vec(alloc)?,
+        counter_signatures: Vec::new(alloc),
+        rest: clone_entries(alloc, &header.rest)?,
+    })
+}
+
+/// Appends a copy of a signature but for the counter signatures in its headers, which have none.
+#[inline(never)]
+fn push_plain(
+    alloc: Global,
+    signature: &CoseSignature,
+    copies: &mut Vec<CoseSignature>,
+) -> Result<(), AllocError>
+    ensures { IfOk result (λ _. PushesPlain signature.now copies.old.items copies.new.items) }
+{
+    let original_data = clone_bytes(alloc, &signature.protected.original_data)?;
+    let header = clone_plain(alloc, &signature.protected.header)?;
+    let unprotected = clone_plain(alloc, &signature.unprotected)?;
+    let bytes = signature.signature.as_slice().to_vec(alloc)?;
+    copies.push(CoseSignature {
+        protected: ProtectedHeader {
+            original_data,
+            header,
+        },
+        unprotected,
+        signature: bytes,
+    })?;
+    Ok(())
+}
+
+/// Appends copies of signatures. What a level of them keeps on the stack is small.
+#[cycle(copies)]
+fn copy_signatures(
+    alloc: Global,
+    signatures: &[CoseSignature],
+    copies: &mut Vec<CoseSignature>,
+) -> Result<(), AllocError>
+    ensures { IfOk result (λ _. map signature_view copies.new.items
+        ≡ map signature_view copies.old.items ++ map signature_view signatures.now) }
+{
+    'signatures: for signature in signatures {
+        push_plain(alloc, signature, copies)?;
+        let last = copies.len() - 1;
+        copy_signatures(
+            alloc,
+            &signature.protected.header.counter_signatures,
+            &mut copies[last].protected.header.counter_signatures,
+        )?;
+        // Computed again, so that nothing is kept on the stack for it.
+        let last = copies.len() - 1;
+        copy_signatures(
+            alloc,
+            &signature.unprotected.counter_signatures,
+            &mut copies[last].unprotected.counter_signatures,
+        )?;
+    }
+    Ok(())
+}
+
 impl Header {
     /// A header equal to this one.
     ///
     /// # Errors
     /// Only where memory is refused.
-    #[cycle(copies)]
     pub fn clone(&self, alloc: Global) -> Result<Header, AllocError>
         ensures { IfOk result (λ copy. header_view copy ≡ header_view self.now) }
     {
-        let alg = clone_key(alloc, &self.alg)?;
-        let crit = clone_crit(alloc, &self.crit)?;
-        let content_type = clone_content_type(alloc, &self.content_type)?;
-        let key_id = self.key_id.as_slice().to_vec(alloc)?;
-        let iv = self.iv.as_slice().to_vec(alloc)?;
-        let partial_iv = self.partial_iv.as_slice().to_vec(alloc)?;
-        let counter_signatures = clone_signatures(alloc, &self.counter_signatures)?;
-        let rest = clone_entries(alloc, &self.rest)?;
-        Ok(Header {
-            alg,
-            crit,
-            content_type,
-            key_id,
-            iv,
-            partial_iv,
-            counter_signatures,
-            rest,
-        })
+        let mut copy = clone_plain(alloc, self)?;
+        copy_signatures(
+            alloc,
+            &self.counter_signatures,
+            &mut copy.counter_signatures,
+        )?;
+        Ok(copy)
     }
-}
-
-#[cycle(copies)]
-fn clone_signatures(
-    alloc: Global,
-    signatures: &[CoseSignature],
-) -> Result<Vec<CoseSignature>, AllocError>
-    ensures { IfOk result
-        (λ copies. map signature_view copies.items ≡ map signature_view signatures.now) }
-{
-    let mut copies = Vec::new(alloc);
-    'signatures: for signature in signatures {
-        copies.push(signature.clone(alloc)?)?;
-    }
-    Ok(copies)
 }
 
 impl ProtectedHeader {
@@ -88,7 +131,6 @@ impl ProtectedHeader {
     ///
     /// # Errors
     /// Only where memory is refused.
-    #[cycle(copies)]
     pub fn clone(&self, alloc: Global) -> Result<ProtectedHeader, AllocError>
         ensures { IfOk result (λ copy. protected_view copy ≡ protected_view self.now) }
     {
@@ -106,7 +148,6 @@ impl CoseSignature {
     ///
     /// # Errors
     /// Only where memory is refused.
-    #[cycle(copies)]
     pub fn clone(&self, alloc: Global) -> Result<CoseSignature, AllocError>
         ensures { IfOk result (λ copy. signature_view copy ≡ signature_view self.now) }
     {

@@ -2,6 +2,7 @@
 ghost use Rattle.std.specs.Prelude.{◌≡◌};
 ghost use Rattle.std.specs.Cmp.{partial_equiv_from_equiv, on_equiv};
 ghost use Rattle.std.specs.Ordering.{on};
+ghost use Rattle.coset_headers.specs.Copies.{unsigned};
 ghost use Rattle.coset_headers.specs.Decided.{headers_equiv, protected_equiv, signature_equiv};
 ghost use Rattle.coset_headers.specs.Fields.{plain_part};
 ghost use Rattle.coset_headers.specs.Same.{same_plain, same_header, same_protected, same_signature, same_signatures};
@@ -68,21 +69,18 @@ fn same_plain(a: &Header, b: &Header) -> bool
         && a.rest == b.rest
 }
 
-#[cycle(equality)]
 fn same_header(a: &Header, b: &Header) -> bool
     ensures { result ≡ same_header (header_view a.now) (header_view b.now) }
 {
     same_plain(a, b) && same_signatures(&a.counter_signatures, &b.counter_signatures)
 }
 
-#[cycle(equality)]
 fn same_protected(a: &ProtectedHeader, b: &ProtectedHeader) -> bool
     ensures { result ≡ same_protected (protected_view a.now) (protected_view b.now) }
 {
     a.original_data == b.original_data && same_header(&a.header, &b.header)
 }
 
-#[cycle(equality)]
 fn same_signature(a: &CoseSignature, b: &CoseSignature) -> bool
     ensures { result ≡ same_signature (signature_view a.now) (signature_view b.now) }
 {
@@ -91,6 +89,19 @@ fn same_signature(a: &CoseSignature, b: &CoseSignature) -> bool
         && a.signature == b.signature
 }
 
+/// Whether two signatures are equal but for the counter signatures in their headers.
+#[inline(never)]
+fn same_fields(a: &CoseSignature, b: &CoseSignature) -> bool
+    ensures { result
+        ≡ same_signature (unsigned (signature_view a.now)) (unsigned (signature_view b.now)) }
+{
+    a.protected.original_data == b.protected.original_data
+        && same_plain(&a.protected.header, &b.protected.header)
+        && same_plain(&a.unprotected, &b.unprotected)
+        && a.signature == b.signature
+}
+
+/// What a level keeps on the stack is small.
 #[cycle(equality)]
 fn same_signatures(a: &[CoseSignature], b: &[CoseSignature]) -> bool
     ensures { result ≡ same_signatures (signatures_view a.now) (signatures_view b.now) }
@@ -99,7 +110,19 @@ fn same_signatures(a: &[CoseSignature], b: &[CoseSignature]) -> bool
         return false;
     }
     for (x, y) in a.iter().zip(b) {
-        if !same_signature(x, y) {
+        if !same_fields(x, y) {
+            return false;
+        }
+        if !same_signatures(
+            &x.protected.header.counter_signatures,
+            &y.protected.header.counter_signatures,
+        ) {
+            return false;
+        }
+        if !same_signatures(
+            &x.unprotected.counter_signatures,
+            &y.unprotected.counter_signatures,
+        ) {
             return false;
         }
     }

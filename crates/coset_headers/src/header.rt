@@ -1,4 +1,8 @@
 //! Headers and signatures as they stand in memory.
+ghost use Rattle.std.specs.Prelude.{◌≡◌, []};
+ghost use Rattle.coset_headers.specs.Fields.{signature};
+ghost use Rattle.coset_headers.specs.View.{header_view, protected_view, signature_view};
+
 use ciborium_value::Value;
 use coset_labels::{Algorithm, ContentType, Label, RegisteredLabelWithPrivate, iana};
 
@@ -35,8 +39,11 @@ pub struct ProtectedHeader {
 }
 
 /// A signature with its headers (RFC 9052, section 4.1).
+///
+/// Dropping it takes little stack, however many counter signatures lie inside one another in its headers. So it can't be taken apart by a
+/// pattern outside of this crate: [`CoseSignature::into_parts`] does that.
 #[cycle(header)]
-#[derive(Debug, Drop)]
+#[derive(Debug)]
 pub struct CoseSignature {
     /// The protected header.
     pub protected: ProtectedHeader,
@@ -44,4 +51,52 @@ pub struct CoseSignature {
     pub unprotected: Header,
     /// The signature.
     pub signature: Vec<u8>,
+}
+
+/// Lets go of signatures and of those in their headers, the innermost first. What a level keeps on the stack is small.
+#[cycle(drops)]
+fn let_go(signatures: &mut Vec<CoseSignature>)
+    ensures { signatures.new.items ≡ [] }
+{
+    'each: for signature in signatures.iter_mut() {
+        let_go(&mut signature.protected.header.counter_signatures);
+        let_go(&mut signature.unprotected.counter_signatures);
+    }
+    drain(signatures);
+}
+
+#[cycle(drops)]
+#[inline(never)]
+fn drain(signatures: &mut Vec<CoseSignature>)
+    ensures { signatures.new.items ≡ [] }
+{
+    'signatures: while let Some(_signature) = signatures.pop() {}
+}
+
+impl Drop for CoseSignature {
+    #[cycle(drops)]
+    fn drop(mut self) {
+        let_go(&mut self.protected.header.counter_signatures);
+        let_go(&mut self.unprotected.counter_signatures);
+        let CoseSignature {
+            protected: _,
+            unprotected: _,
+            signature: _,
+        } = self;
+    }
+}
+
+impl CoseSignature {
+    /// The protected header, the unprotected one, and the signature.
+    pub fn into_parts(self) -> (ProtectedHeader, Header, Vec<u8>)
+        ensures { signature_view self
+            ≡ signature (protected_view result.0) (header_view result.1) result.2.items }
+    {
+        let CoseSignature {
+            protected,
+            unprotected,
+            signature,
+        } = self;
+        (protected, unprotected, signature)
+    }
 }

@@ -1,18 +1,22 @@
-//! Reads headers. Values are moved into their fields, and nothing but labels is copied.
-ghost use Rattle.std.specs.Prelude.{List, Some, MatchResult};
+//! Reads headers. Values are moved into their fields, and nothing but labels is copied. What lies inside one another is read by a loop, so
+//! that it takes no stack.
+ghost use Rattle.std.specs.Prelude.{◌≡◌, ◌≢◌, ◌+◌, ◌*◌, ◌<◌, ◌≤◌, ℕ, [], MatchOption};
+ghost use Rattle.std.specs.Prelude.{MatchResult, IfOk, OnOk};
+ghost use Rattle.std.specs.Vec.Iter.{into_iter_items};
+ghost use Rattle.ciborium.specs.Front.{Reads};
+ghost use Rattle.ciborium_value.specs.Tree as spec;
 ghost use Rattle.ciborium_value.specs.Tree.{Tree};
 ghost use Rattle.ciborium_value.specs.View.{view, views, view_pairs};
-ghost use Rattle.coset_labels.specs.Faults.{OrMemory};
-ghost use Rattle.coset_labels.specs.Fields.{LabelFields};
-ghost use Rattle.coset_headers.specs.Headers.{HasHeader, HasProtected, HasSignature, HasSigned};
-ghost use Rattle.coset_headers.specs.Headers.{HasSignatures};
-ghost use Rattle.coset_headers.specs.Parts.{plain_of, signs_of, KnownIn, Added};
+ghost use Rattle.coset_labels.specs.Faults.{OrMemory, fault_of};
+ghost use Rattle.coset_labels.specs.declared.error.CoseError.TheVariants.{Memory};
+ghost use Rattle.coset_headers.specs.Fields.{header};
+ghost use Rattle.coset_headers.specs.Headers.{HasHeader, HasProtected, HasSignature, list_of_three};
+ghost use Rattle.coset_headers.specs.Levels.{Going, Signed, IsNext, Reading, ReadingSigned};
+ghost use Rattle.coset_headers.specs.Levels.{ReadingInside, open_left, signing_left, work};
+ghost use Rattle.coset_headers.specs.Parts.{plain_of, signs_of};
 ghost use Rattle.coset_headers.specs.View.{header_view, protected_view, signature_view};
-ghost use Rattle.coset_headers.specs.View.{signatures_view};
-ghost use Rattle.coset_headers.specs.Walks.{Inside, WrongInside, HasEntries, WrongEntries};
-ghost use Rattle.coset_headers.specs.Walks.{WrongSignatures};
-ghost use Rattle.coset_headers.specs.Wrong.{WrongHeader, WrongEntry, WrongSigned, WrongSignature};
-ghost use Rattle.coset_headers.specs.Wrong.{WrongProtected};
+ghost use Rattle.coset_headers.specs.Weight.{weight, weight_all, weight_pairs};
+ghost use Rattle.coset_headers.specs.Wrong.{WrongHeader, WrongProtected, WrongSignature};
 
 use crate::header::{CoseSignature, Header, ProtectedHeader};
 use crate::parts::{HeaderParts, is_counter_signatures};
@@ -21,9 +25,91 @@ use ciborium_value::Value;
 use coset_labels::tuples::three;
 use coset_labels::{AsCborValue, CoseError, Label, SeenLabels, ValueTryAs, read_to_value};
 use std::alloc::Global;
+use std::mem;
+use std::vec::IntoIter;
+
+/// A header whose entries are being read: those that are left, the labels that were seen, the fields so far, and the protected layers
+/// that are left in it.
+#[derive(Drop)]
+pub(crate) struct Open {
+    entries: IntoIter<(Value, Value)>,
+    seen: SeenLabels<Label>,
+    parts: HeaderParts,
+    layers: usize,
+}
+
+/// Counter signatures of which one is being read: the values that come after it, the signatures before it, and its own bytes and half.
+#[derive(Drop)]
+pub(crate) struct Signing {
+    items: IntoIter<Value>,
+    done: Vec<CoseSignature>,
+    signature: Vec<u8>,
+    half: Half,
+}
+
+/// What a signature has while one of its headers is being read: its first element while that is the unprotected header, and then its
+/// unprotected header and the bytes of the protected one.
+#[derive(Drop)]
+pub(crate) enum Half {
+    Unprotected(Value),
+    Protected(Header, Vec<u8>),
+}
+
+/// A header that waits for one inside it, and the counter signatures in which that is.
+#[derive(Drop)]
+pub(crate) struct Level {
+    header: Open,
+    signing: Signing,
+}
+
+impl Open {
+    fn new(alloc: Global, entries: Vec<(Value, Value)>, layers: usize) -> Open
+        ensures going { (n : ℕ) → Going n (spec.map (view_pairs entries.items)) result }
+        ensures layers { result.layers ≡ layers }
+        ensures left { open_left result ≡ weight_pairs (view_pairs entries.items) }
+    {
+        Open {
+            entries: entries.into_iter(),
+            seen: SeenLabels::new(alloc),
+            parts: HeaderParts::new(alloc),
+            layers,
+        }
+    }
+
+    /// The header of the entries that were read.
+    fn header(self) -> Header
+        ensures { header_view result ≡ header (plain_of self.parts) (signs_of self.parts) }
+    {
+        self.parts.header()
+    }
+
+    /// Reads entries up to the next counter signatures, and gives their value; none at the end.
+    fn next_signed(&mut self, alloc: Global) -> Result<Option<Value>, CoseError>
+        ensures read { (n : ℕ) (t : Tree) → Going n t self.old → MatchResult result
+            (λ v. MatchOption v (HasHeader n t
+            (header (plain_of self.new.parts) (signs_of self.new.parts)) self.new.layers)
+            (λ value. Signed n t self.new (view value)))
+            (λ e. OrMemory (WrongHeader n t self.old.layers) e) }
+        ensures layers { self.new.layers ≡ self.old.layers }
+        ensures left { IfOk result (λ v. MatchOption v (open_left self.new ≤ open_left self.old)
+            (λ value. open_left self.new + weight (view value) < open_left self.old)) }
+    {
+        'entries: while let Some((key, value)) = self.entries.next() {
+            let label = Label::from_cbor_value(alloc, key)?;
+            let fresh = self.seen.add(alloc, &label)?;
+            if !fresh {
+                return Err(CoseError::DuplicateMapKey);
+            }
+            if is_counter_signatures(&label) {
+                return Ok(Some(value));
+            }
+            self.parts.fill(alloc, label, value)?;
+        }
+        Ok(None)
+    }
+}
 
 /// Reads a header, with a nesting limit and some protected layers left.
-#[cycle(reader)]
 pub(crate) fn read_header(
     alloc: Global,
     value: Value,
@@ -34,104 +120,250 @@ pub(crate) fn read_header(
         (λ e. OrMemory (WrongHeader nesting (view value) layers) e) }
 {
     let entries = value.try_as_map()?;
-    let parts = read_entries(alloc, entries, nesting, layers)?;
-    Ok(parts.header())
+    read_entries(alloc, entries, nesting, layers)
 }
 
-#[cycle(reader)]
+/// Reads the header of these entries, by a loop over the headers inside one another.
 fn read_entries(
     alloc: Global,
     entries: Vec<(Value, Value)>,
     nesting: usize,
     layers: usize,
-) -> Result<HeaderParts, CoseError>
+) -> Result<Header, CoseError>
     ensures { MatchResult result
-        (λ p. HasEntries nesting (view_pairs entries.items) (plain_of p) (signs_of p) layers)
-        (λ e. OrMemory (WrongEntries nesting (view_pairs entries.items) layers) e) }
+        (λ h. HasHeader nesting (spec.map (view_pairs entries.items)) (header_view h) layers)
+        (λ e. OrMemory (WrongHeader nesting (spec.map (view_pairs entries.items)) layers) e) }
 {
-    let mut seen = SeenLabels::new(alloc);
-    let mut parts = HeaderParts::new(alloc);
-    'entries: for entry in entries {
-        read_entry(
-            alloc, &mut seen, &mut parts, entry.0, entry.1, nesting, layers,
-        )?;
+    let mut below: Vec<Level> = Vec::new(alloc);
+    let mut top = Open::new(alloc, entries, layers);
+    'turns: loop {
+        match top.next_signed(alloc)? {
+            Some(value) => begin_signatures(alloc, &mut below, &mut top, value)?,
+            None => match below.pop() {
+                None => return Ok(top.header()),
+                Some(Level { header, signing }) => {
+                    let whole = mem::replace(&mut top, header).header();
+                    close(alloc, nesting, &mut below, &mut top, signing, whole)?;
+                }
+            },
+        }
     }
-    Ok(parts)
 }
 
-/// Reads one entry behind those that were seen: its label, whether it stood before, its value.
-#[cycle(reader)]
-fn read_entry(
+/// Begins counter signatures of the innermost header: one by itself, or a list.
+fn begin_signatures(
     alloc: Global,
-    seen: &mut SeenLabels<Label>,
-    parts: &mut HeaderParts,
-    key: Value,
+    below: &mut Vec<Level>,
+    top: &mut Open,
     value: Value,
-    nesting: usize,
-    layers: usize,
 ) -> Result<(), CoseError>
-    ensures { (es : List (LabelFields × Tree)) → KnownIn nesting es seen.old parts.old layers
-        → MatchResult result
-        (λ _. Added nesting es (view key) (view value) seen.new parts.new layers)
-        (λ e. OrMemory (WrongEntry nesting es (view key) (view value) layers) e) }
-{
-    let label = Label::from_cbor_value(alloc, key)?;
-    let fresh = seen.add(alloc, &label)?;
-    if !fresh {
-        return Err(CoseError::DuplicateMapKey);
-    }
-    if is_counter_signatures(&label) {
-        let signatures = read_signatures(alloc, value, nesting, layers)?;
-        parts.sign(signatures);
-        return Ok(());
-    }
-    parts.fill(alloc, label, value)
-}
-
-/// Reads counter signatures: one by itself, or a list.
-#[cycle(reader)]
-fn read_signatures(
-    alloc: Global,
-    value: Value,
-    nesting: usize,
-    layers: usize,
-) -> Result<Vec<CoseSignature>, CoseError>
-    ensures { MatchResult result
-        (λ v. HasSigned nesting (Some (view value)) (signatures_view v.items) layers)
-        (λ e. OrMemory (WrongSigned nesting (view value) layers) e) }
+    ensures read { (n k : ℕ) (t : Tree)
+        → ReadingSigned n t k below.old.items top.old (view value) → MatchResult result
+        (λ _. Reading n t k below.new.items top.new) (λ e. OrMemory (WrongHeader n t k) e) }
+    ensures left { OnOk result (work below.new.items top.new
+        < work below.old.items top.old + 2 * weight (view value)) }
 {
     let items = value.try_as_array()?;
+    let done = Vec::new(alloc);
     if is_bare(&items)? {
-        let signature = read_signature(alloc, Value::Array(items), nesting, layers)?;
-        let mut signatures = Vec::new(alloc);
-        signatures.push(signature)?;
-        Ok(signatures)
-    } else {
-        read_list(alloc, items, nesting, layers)
+        let none = Vec::new(alloc).into_iter();
+        return begin(alloc, below, top, Value::Array(items), none, done);
+    }
+    let mut items = items.into_iter();
+    match items.next() {
+        Some(first) => begin(alloc, below, top, first, items, done),
+        None => unreachable!(),
     }
 }
 
-#[cycle(reader)]
-fn read_list(
+/// Begins a counter signature of the innermost header, after those that are done: its unprotected header is the innermost then.
+fn begin(
     alloc: Global,
-    items: Vec<Value>,
+    below: &mut Vec<Level>,
+    top: &mut Open,
+    item: Value,
+    items: IntoIter<Value>,
+    done: Vec<CoseSignature>,
+) -> Result<(), CoseError>
+    ensures read { (n k : ℕ) (t v : Tree) → ReadingSigned n t k below.old.items top.old v
+        → IsNext n top.old.layers v (view item) done.items (into_iter_items items)
+        → MatchResult result (λ _. Reading n t k below.new.items top.new)
+        (λ e. OrMemory (WrongHeader n t k) e) }
+    ensures left { OnOk result (work below.new.items top.new < work below.old.items top.old
+        + 2 * (weight (view item) + weight_all (views (into_iter_items items)))) }
+{
+    let (first, entries, signature) = split(item)?;
+    let layers = top.layers;
+    let half = Half::Unprotected(first);
+    let signing = Signing {
+        items,
+        done,
+        signature,
+        half,
+    };
+    descend(alloc, below, top, entries, layers, signing)
+}
+
+/// Opens a header inside the innermost one, which waits for it with its counter signatures.
+fn descend(
+    alloc: Global,
+    below: &mut Vec<Level>,
+    top: &mut Open,
+    entries: Vec<(Value, Value)>,
+    layers: usize,
+    signing: Signing,
+) -> Result<(), CoseError>
+    ensures read { (n k : ℕ) (t : Tree) → ReadingInside n t k below.old.items top.old signing
+        (spec.map (view_pairs entries.items)) layers → MatchResult result
+        (λ _. Reading n t k below.new.items top.new) (λ e. e ≡ Memory) }
+    ensures left { OnOk result (work below.new.items top.new ≡ work below.old.items top.old
+        + 2 * (weight_pairs (view_pairs entries.items) + signing_left signing) + 1) }
+{
+    let header = mem::replace(top, Open::new(alloc, entries, layers));
+    below.push(Level { header, signing })?;
+    Ok(())
+}
+
+/// Takes a header that is whole into the signature that waits for it in the innermost one: after the unprotected header comes the
+/// protected one, and then the signature is done.
+fn close(
+    alloc: Global,
+    nesting: usize,
+    below: &mut Vec<Level>,
+    top: &mut Open,
+    signing: Signing,
+    header: Header,
+) -> Result<(), CoseError>
+    ensures read { (k i : ℕ) (t w : Tree)
+        → ReadingInside nesting t k below.old.items top.old signing w i
+        → HasHeader nesting w (header_view header) i → MatchResult result
+        (λ _. Reading nesting t k below.new.items top.new)
+        (λ e. OrMemory (WrongHeader nesting t k) e) }
+    ensures left { OnOk result (work below.new.items top.new
+        ≤ work below.old.items top.old + 2 * signing_left signing) }
+{
+    let Signing {
+        items,
+        done,
+        signature,
+        half,
+    } = signing;
+    match half {
+        Half::Protected(unprotected, bytes) => {
+            let protected = ProtectedHeader {
+                original_data: Some(bytes),
+                header,
+            };
+            let signature = CoseSignature {
+                protected,
+                unprotected,
+                signature,
+            };
+            finish(alloc, below, top, items, done, signature)
+        }
+        Half::Unprotected(first) => {
+            let (bytes, inside) = open_protected(alloc, first, nesting, top.layers)?;
+            match inside {
+                Some(entries) => {
+                    let layers = top.layers - 1;
+                    let half = Half::Protected(header, bytes);
+                    let signing = Signing {
+                        items,
+                        done,
+                        signature,
+                        half,
+                    };
+                    descend(alloc, below, top, entries, layers, signing)
+                }
+                None => {
+                    let protected = ProtectedHeader {
+                        original_data: Some(bytes),
+                        header: Header::new(alloc),
+                    };
+                    let signature = CoseSignature {
+                        protected,
+                        unprotected: header,
+                        signature,
+                    };
+                    finish(alloc, below, top, items, done, signature)
+                }
+            }
+        }
+    }
+}
+
+/// Takes a signature that is done, and begins the next; after the last the innermost header has them all.
+fn finish(
+    alloc: Global,
+    below: &mut Vec<Level>,
+    top: &mut Open,
+    items: IntoIter<Value>,
+    done: Vec<CoseSignature>,
+    signature: CoseSignature,
+) -> Result<(), CoseError>
+    ensures read { (n k : ℕ) (t v s : Tree) → ReadingSigned n t k below.old.items top.old v
+        → IsNext n top.old.layers v s done.items (into_iter_items items)
+        → HasSignature n s (signature_view signature) top.old.layers → MatchResult result
+        (λ _. Reading n t k below.new.items top.new) (λ e. OrMemory (WrongHeader n t k) e) }
+    ensures left { OnOk result (work below.new.items top.new
+        ≤ work below.old.items top.old + 2 * weight_all (views (into_iter_items items))) }
+{
+    let mut done = done;
+    done.push(signature)?;
+    let mut items = items;
+    match items.next() {
+        Some(item) => begin(alloc, below, top, item, items, done),
+        None => {
+            top.parts.sign(done);
+            Ok(())
+        }
+    }
+}
+
+/// The elements of a signature: the first, the entries of its unprotected header, and its bytes. The last is looked at first.
+fn split(value: Value) -> Result<(Value, Vec<(Value, Value)>, Vec<u8>), CoseError>
+    ensures { MatchResult result
+        (λ p. view value ≡ spec.array (list_of_three (view p.0)
+        (spec.map (view_pairs p.1.items)) (spec.bytes p.2.items)))
+        (λ e. (n k : ℕ) → WrongSignature n (view value) k (fault_of e)) }
+{
+    let items = value.try_as_array()?;
+    match three(items) {
+        Some((first, second, third)) => {
+            let signature = third.try_as_bytes()?;
+            let entries = second.try_as_map()?;
+            Ok((first, entries, signature))
+        }
+        None => Err(CoseError::UnexpectedItem("array", "array with 3 items")),
+    }
+}
+
+/// The bytes of a protected header, and the entries of the header in them: none where they are empty.
+fn open_protected(
+    alloc: Global,
+    value: Value,
     nesting: usize,
     layers: usize,
-) -> Result<Vec<CoseSignature>, CoseError>
+) -> Result<(Vec<u8>, Option<Vec<(Value, Value)>>), CoseError>
     ensures { MatchResult result
-        (λ v. HasSignatures nesting (views items.items) (signatures_view v.items) layers)
-        (λ e. OrMemory (WrongSignatures nesting (views items.items) layers) e) }
+        (λ p. (view value ≡ spec.bytes p.0.items) × (0 < layers)
+        × MatchOption p.1 (p.0.items ≡ []) (λ es. (p.0.items ≢ [])
+        × Reads p.0.items nesting (spec.map (view_pairs es.items))))
+        (λ e. OrMemory (WrongProtected nesting (view value) layers) e) }
 {
-    let mut signatures = Vec::new(alloc);
-    'list: for item in items {
-        let signature = read_signature(alloc, item, nesting, layers)?;
-        signatures.push(signature)?;
+    let bytes = value.try_as_bytes()?;
+    if layers == 0 {
+        return Err(CoseError::TooManyLayers);
     }
-    Ok(signatures)
+    if bytes.is_empty() {
+        return Ok((bytes, None));
+    }
+    let value = read_to_value(alloc, bytes.as_slice(), nesting)?;
+    let entries = value.try_as_map()?;
+    Ok((bytes, Some(entries)))
 }
 
 /// Reads a signature, its elements from the last to the first.
-#[cycle(reader)]
 pub(crate) fn read_signature(
     alloc: Global,
     value: Value,
@@ -141,24 +373,17 @@ pub(crate) fn read_signature(
     ensures { MatchResult result (λ s. HasSignature nesting (view value) (signature_view s) layers)
         (λ e. OrMemory (WrongSignature nesting (view value) layers) e) }
 {
-    let items = value.try_as_array()?;
-    match three(items) {
-        Some((first, second, third)) => {
-            let signature = third.try_as_bytes()?;
-            let unprotected = read_header(alloc, second, nesting, layers)?;
-            let protected = read_protected(alloc, first, nesting, layers)?;
-            Ok(CoseSignature {
-                protected,
-                unprotected,
-                signature,
-            })
-        }
-        None => Err(CoseError::UnexpectedItem("array", "array with 3 items")),
-    }
+    let (first, entries, signature) = split(value)?;
+    let unprotected = read_entries(alloc, entries, nesting, layers)?;
+    let protected = read_protected(alloc, first, nesting, layers)?;
+    Ok(CoseSignature {
+        protected,
+        unprotected,
+        signature,
+    })
 }
 
 /// Reads the byte string of a protected header, and keeps its bytes.
-#[cycle(reader)]
 pub(crate) fn read_protected(
     alloc: Global,
     value: Value,
@@ -168,31 +393,13 @@ pub(crate) fn read_protected(
     ensures { MatchResult result (λ p. HasProtected nesting (view value) (protected_view p) layers)
         (λ e. OrMemory (WrongProtected nesting (view value) layers) e) }
 {
-    let bytes = value.try_as_bytes()?;
-    if layers == 0 {
-        return Err(CoseError::TooManyLayers);
-    }
-    let header = read_inside(alloc, bytes.as_slice(), nesting, layers - 1)?;
+    let (bytes, inside) = open_protected(alloc, value, nesting, layers)?;
+    let header = match inside {
+        Some(entries) => read_entries(alloc, entries, nesting, layers - 1)?,
+        None => Header::new(alloc),
+    };
     Ok(ProtectedHeader {
         original_data: Some(bytes),
         header,
     })
-}
-
-/// Reads the header inside the byte string of a protected one: an empty string is an empty header.
-#[cycle(reader)]
-fn read_inside(
-    alloc: Global,
-    bytes: &[u8],
-    nesting: usize,
-    layers: usize,
-) -> Result<Header, CoseError>
-    ensures { MatchResult result (λ h. Inside nesting (header_view h) bytes.now layers)
-        (λ e. OrMemory (WrongInside nesting bytes.now layers) e) }
-{
-    if bytes.is_empty() {
-        return Ok(HeaderParts::new(alloc).header());
-    }
-    let value = read_to_value(alloc, bytes, nesting)?;
-    read_header(alloc, value, nesting, layers)
 }

@@ -4,15 +4,19 @@ ghost use Rattle.ciborium_value.specs.Tree as spec;
 ghost use Rattle.ciborium_value.specs.View.{view, views};
 ghost use Rattle.coset_labels.specs.Faults.{CantWrite};
 ghost use Rattle.coset_labels.specs.declared.error.CoseError.TheVariants.{Memory};
+ghost use Rattle.coset_headers.specs.Fields.{plain_part};
 ghost use Rattle.coset_headers.specs.Headers.{list_of_three};
-ghost use Rattle.coset_headers.specs.View.{header_view, protected_view, signature_view, signatures_view};
-ghost use Rattle.coset_headers.specs.Written.{header_tree, shown, signature_tree, signature_trees, is_empty, is_unsigned};
+ghost use Rattle.coset_headers.specs.View.{header_view, protected_view, signature_view};
+ghost use Rattle.coset_headers.specs.View.{signatures_view};
+ghost use Rattle.coset_headers.specs.Written.{header_of, header_tree, shown, signature_tree};
+ghost use Rattle.coset_headers.specs.Written.{signature_trees, is_empty, is_unsigned};
 
 use crate::header::{CoseSignature, Header, ProtectedHeader};
 use crate::parts::HeaderParts;
 use ciborium_value::Value;
 use coset_labels::{CoseError, write_to_vec};
 use std::alloc::Global;
+use std::mem;
 
 impl Header {
     /// Whether no field is set.
@@ -51,10 +55,35 @@ fn is_unsigned(signatures: &[CoseSignature]) -> bool
 }
 
 /// The map that stands for a header.
-#[cycle(writer)]
 pub(crate) fn write_header(alloc: Global, header: Header) -> Result<Value, CoseError>
     ensures { MatchResult result (λ v. header_tree (header_view header) ≡ Some (view v))
         (λ e. CantWrite (header_tree (header_view header)) e) }
+{
+    let mut header = header;
+    take_header(alloc, &mut header)
+}
+
+/// The map of a header, which is emptied. What a level of headers keeps on the stack is small.
+#[cycle(writer)]
+fn take_header(alloc: Global, header: &mut Header) -> Result<Value, CoseError>
+    ensures { MatchResult result (λ v. header_tree (header_view header.old) ≡ Some (view v))
+        (λ e. CantWrite (header_tree (header_view header.old)) e) }
+{
+    let signatures = take_signatures(alloc, &mut header.counter_signatures)?;
+    take_parts(alloc, header, signatures)
+}
+
+/// The map of the other fields of a header, which is emptied, and of the values of its counter signatures.
+#[inline(never)]
+fn take_parts(
+    alloc: Global,
+    header: &mut Header,
+    signatures: Vec<Value>,
+) -> Result<Value, CoseError>
+    ensures { MatchResult result (λ v. header_of (plain_part (header_view header.old))
+        (views signatures.items) ≡ Some (view v))
+        (λ e. CantWrite (header_of (plain_part (header_view header.old)) (views signatures.items))
+        e) }
 {
     let Header {
         alg,
@@ -63,10 +92,9 @@ pub(crate) fn write_header(alloc: Global, header: Header) -> Result<Value, CoseE
         key_id,
         iv,
         partial_iv,
-        counter_signatures,
+        counter_signatures: _,
         rest,
-    } = header;
-    let signatures = write_signatures(alloc, counter_signatures)?;
+    } = mem::replace(header, Header::new(alloc));
     let parts = HeaderParts {
         alg,
         crit,
@@ -80,34 +108,44 @@ pub(crate) fn write_header(alloc: Global, header: Header) -> Result<Value, CoseE
     parts.write(alloc, signatures)
 }
 
+/// The values of signatures, which are emptied.
 #[cycle(writer)]
-fn write_signatures(alloc: Global, signatures: Vec<CoseSignature>) -> Result<Vec<Value>, CoseError>
+fn take_signatures(
+    alloc: Global,
+    signatures: &mut Vec<CoseSignature>,
+) -> Result<Vec<Value>, CoseError>
     ensures { MatchResult result
-        (λ v. signature_trees (signatures_view signatures.items) ≡ Some (views v.items))
-        (λ e. CantWrite (signature_trees (signatures_view signatures.items)) e) }
+        (λ v. signature_trees (signatures_view signatures.old.items) ≡ Some (views v.items))
+        (λ e. CantWrite (signature_trees (signatures_view signatures.old.items)) e) }
 {
     let mut values = Vec::new(alloc);
-    'signatures: for signature in signatures {
-        let value = write_signature(alloc, signature)?;
+    'signatures: for signature in signatures.iter_mut() {
+        let value = take_signature(alloc, signature)?;
         values.push(value)?;
     }
     Ok(values)
 }
 
 /// The array that stands for a signature.
-#[cycle(writer)]
 pub(crate) fn write_signature(alloc: Global, signature: CoseSignature) -> Result<Value, CoseError>
     ensures { MatchResult result (λ v. signature_tree (signature_view signature) ≡ Some (view v))
         (λ e. CantWrite (signature_tree (signature_view signature)) e) }
 {
-    let CoseSignature {
-        protected,
-        unprotected,
-        signature,
-    } = signature;
-    let protected = show_protected(alloc, protected)?;
-    let unprotected = write_header(alloc, unprotected)?;
-    three_items(alloc, protected, unprotected, signature)
+    let mut signature = signature;
+    take_signature(alloc, &mut signature)
+}
+
+/// The array of a signature, which is emptied.
+#[cycle(writer)]
+fn take_signature(alloc: Global, signature: &mut CoseSignature) -> Result<Value, CoseError>
+    ensures { MatchResult result
+        (λ v. signature_tree (signature_view signature.old) ≡ Some (view v))
+        (λ e. CantWrite (signature_tree (signature_view signature.old)) e) }
+{
+    let protected = take_protected(alloc, &mut signature.protected)?;
+    let unprotected = take_header(alloc, &mut signature.unprotected)?;
+    let content = mem::replace(&mut signature.signature, Vec::new(alloc));
+    three_items(alloc, protected, unprotected, content)
 }
 
 fn three_items(
@@ -132,22 +170,27 @@ fn three_items(
 ///
 /// # Errors
 /// `DuplicateMapKey` exactly where a label stands twice in a header that has to be encoded, or `Memory`.
-#[cycle(writer)]
 pub fn show_protected(alloc: Global, protected: ProtectedHeader) -> Result<Vec<u8>, CoseError>
     ensures { MatchResult result (λ b. shown (protected_view protected) ≡ Some b.items)
         (λ e. CantWrite (shown (protected_view protected)) e) }
 {
-    let ProtectedHeader {
-        original_data,
-        header,
-    } = protected;
-    match original_data {
+    let mut protected = protected;
+    take_protected(alloc, &mut protected)
+}
+
+/// The bytes that are shown for a protected header, which is emptied.
+#[cycle(writer)]
+fn take_protected(alloc: Global, protected: &mut ProtectedHeader) -> Result<Vec<u8>, CoseError>
+    ensures { MatchResult result (λ b. shown (protected_view protected.old) ≡ Some b.items)
+        (λ e. CantWrite (shown (protected_view protected.old)) e) }
+{
+    match mem::replace(&mut protected.original_data, None) {
         Some(bytes) => Ok(bytes),
         None => {
-            if header.is_empty() {
+            if protected.header.is_empty() {
                 return Ok(Vec::new(alloc));
             }
-            let value = write_header(alloc, header)?;
+            let value = take_header(alloc, &mut protected.header)?;
             write_to_vec(alloc, &value)
         }
     }

@@ -1,4 +1,5 @@
 pub mod Again
+pub mod Copied
 pub mod Equal
 pub mod Excludes
 pub mod Fit

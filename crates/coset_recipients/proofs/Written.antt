@@ -1,6 +1,7 @@
 -- What writing recipients shows.
-use Rattle.std.proofs.Common.{◌≡◌, ◌≢◌, inr, inl, List, [], ◌∷◌, ◌++◌, map, Option, Some, None, option_map, option_and_then, refl, sym, ap, ◌∙◌, Vec, Global}
-use Rattle.std.proofs.lemmas.List.{map-append}
+use Rattle.std.proofs.Common.{◌≡◌, ◌≢◌, ℕ, ◌+◌, ◌<◌, suc, inr, inl, List, [], ◌∷◌, ◌++◌, length, get_or, take, drop, map, Option, Some, None, option_map, option_and_then, refl, sym, ap, ◌∙◌, Vec, Global}
+use Rattle.std.proofs.lemmas.List.{map-append, append-nil, take_more, take-append-drop}
+use Rattle.std.proofs.Math.Seq.{drop-cons}
 use Rattle.ciborium_value.specs.Tree.{Tree, array, Trees, one_more}
 use Rattle.ciborium_value.specs.View.{trees, view, views}
 use Rattle.ciborium_value.specs.declared.value.Value.{Value}
@@ -9,13 +10,15 @@ use Rattle.ciborium_value.proofs.Views.{view_array}
 use Rattle.coset_labels.specs.Arrays.{all_written}
 use Rattle.coset_labels.specs.Faults.{CantWrite}
 use Rattle.coset_labels.specs.declared.error.CoseError.{CoseError}
-use Rattle.coset_labels.proofs.Arrays.{written_none}
+use Rattle.coset_labels.proofs.Arrays.{written_none, written_pushed}
 use Rattle.coset_headers.specs.View.{header_view, protected_view}
 use Rattle.coset_message_parts.specs.Written.{parts_trees}
 use Rattle.coset_recipients.specs.Fields.{RecipientFields, recipients}
 use Rattle.coset_recipients.specs.View.{recipient_view, recipients_view}
+use Rattle.coset_recipients.specs.Walks.{parts_of}
 use Rattle.coset_recipients.specs.Written.{fourth, whole, recipient_tree, recipients_trees, list_tree}
-use Rattle.coset_recipients.specs.declared.recipient.CoseRecipient.{CoseRecipient, out-CoseRecipient}
+use Rattle.coset_recipients.specs.declared.recipient.CoseRecipient.{CoseRecipient, out-CoseRecipient, roll-CoseRecipient}
+use Rattle.coset_recipients.specs.declared.recipient.CoseRecipient.TheViews.{out-roll-CoseRecipient}
 use Rattle.coset_recipients.proofs.Parts.{recipient_out}
 
 -- ---- lists
@@ -40,13 +43,20 @@ recipients_fault all xs ys x e q (inr (d, n)) =
           ∙ ap (option_map trees) (ap (all_written recipient_tree) (ap (map recipient_view) q ∙ map-append recipient_view xs (x ∷ ys)) ∙ written_none recipient_tree (map recipient_view xs) (map recipient_view ys) (recipient_view x) n),
     )
 
+-- the item of a turn, between those before it and those after it
+pub parted : (all : List CoseRecipient) (i : ℕ) (x d : CoseRecipient) → i < length all → x ≡ get_or all i d → all ≡ take i all ++ x ∷ drop (suc i) all
+parted all i x d h e = sym (take-append-drop i all) ∙ ap (λ z. take i all ++ z) (drop-cons all i d h ∙ ap (λ z. z ∷ drop (suc i) all) (sym e))
+
+pub recipients_more : (all : List CoseRecipient) (i : ℕ) (x d : CoseRecipient) (vs ws : List Value) (v : Value) → i < length all → x ≡ get_or all i d → ws ≡ vs ++ v ∷ [] → all_written recipient_tree (map recipient_view (take i all)) ≡ Some (map view vs)
+    → recipient_tree (recipient_view x) ≡ Some (view v) → all_written recipient_tree (map recipient_view (take (i + 1) all)) ≡ Some (map view ws)
+recipients_more all i x d vs ws v h e q a b =
+    ap (λ z. all_written recipient_tree (map recipient_view z)) (take_more all i d h ∙ ap (λ z. take i all ++ z ∷ []) (sym e))
+    ∙ written_pushed recipient_tree recipient_view (take i all) x vs ws v q a b
+
 -- ---- one recipient
 none_inside : {A B C : Type 0} (f : A → B → C) (o : Option A) (p : Option B) → p ≡ None → option_and_then (λ a. option_map (λ b. f a b) p) o ≡ None
 none_inside f None p e = refl
 none_inside f (Some a) p e = ap (option_map (λ b. f a b)) e
-
-abbrev parts_of : CoseRecipient → Option (List Tree)
-parts_of r = parts_trees (protected_view (out-CoseRecipient r).protected) (header_view (out-CoseRecipient r).unprotected) (option_map (λ v. v.items) (out-CoseRecipient r).ciphertext)
 
 abbrev inner_of : CoseRecipient → Option Trees
 inner_of r = recipients_trees (recipients_view (out-CoseRecipient r).recipients.items)
@@ -62,26 +72,30 @@ pub parts_fault : (r : CoseRecipient) (e : CoseError) → CantWrite (parts_of r)
 parts_fault r e (inl m) = inl m
 parts_fault r e (inr (d, n)) = inr (d, tree_out r ∙ ap (option_and_then (λ parts. option_map (λ ts. whole parts ts) (inner_of r))) n)
 
-wrote : (r : CoseRecipient) (ps : List Tree) (ts : Trees) → parts_of r ≡ Some ps → inner_of r ≡ Some ts → recipient_tree (recipient_view r) ≡ Some (whole ps ts)
-wrote r ps ts p q =
-    tree_out r ∙ ap (option_and_then (λ parts. option_map (λ us. whole parts us) (inner_of r))) p ∙ ap (option_map (λ us. whole ps us)) q
+some_inside : {A B : Type 0} (f : A → B) (o : Option A) → option_and_then (λ a. Some (f a)) o ≡ option_map f o
+some_inside f None = refl
+some_inside f (Some a) = refl
 
-pub append_nil : {A : Type 0} (xs : List A) → xs ++ [] ≡ xs
-append_nil [] = refl
-append_nil (x ∷ xs) = ap (λ z. x ∷ z) (append_nil xs)
+pub recipient_wrote : (r : CoseRecipient) (ts : Trees) (t : Tree) → inner_of r ≡ Some ts → option_map (λ parts. whole parts ts) (parts_of r) ≡ Some t → recipient_tree (recipient_view r) ≡ Some t
+recipient_wrote r ts t q e =
+    tree_out r ∙ ap (λ o. option_and_then (λ parts. option_map (λ us. whole parts us) o) (parts_of r)) q ∙ some_inside (λ parts. whole parts ts) (parts_of r) ∙ e
 
-pub wrote_three : (r : CoseRecipient) (v w : Vec Value Global) → parts_of r ≡ Some (map view v.items) → inner_of r ≡ Some (views w.items) → w.items ≡ [] → recipient_tree (recipient_view r) ≡ Some (view (code.Array v))
-wrote_three r v w p q e =
-    wrote r (map view v.items) (views w.items) p q ∙ ap (λ z. Some (array (trees (map view v.items ++ fourth (views z))))) e
-    ∙ ap (λ z. Some (array (trees z))) (append_nil (map view v.items)) ∙ ap Some (sym (view_array v))
+-- other recipients in it
+pub parts_kept : (r : CoseRecipient) (rs : Vec CoseRecipient Global) → parts_of (roll-CoseRecipient (record (out-CoseRecipient r) { recipients = rs })) ≡ parts_of r
+parts_kept r rs = ap (λ o. parts_trees (protected_view o.protected) (header_view o.unprotected) (option_map (λ v. v.items) o.ciphertext)) (out-roll-CoseRecipient (record (out-CoseRecipient r) { recipients = rs }))
+
+pub wrote_three : (p : Option (List Tree)) (v w : Vec Value Global) → p ≡ Some (map view v.items) → w.items ≡ [] → option_map (λ parts. whole parts (views w.items)) p ≡ Some (view (code.Array v))
+wrote_three p v w q e =
+    ap (option_map (λ parts. whole parts (views w.items))) q ∙ ap (λ z. Some (array (trees (map view v.items ++ fourth (views z))))) e
+    ∙ ap (λ z. Some (array (trees z))) (append-nil (map view v.items)) ∙ ap Some (sym (view_array v))
 
 some_fourth : (xs : List Value) (w : Vec Value Global) → xs ≡ w.items → xs ≢ [] → fourth (views xs) ≡ view (code.Array w) ∷ []
 some_fourth [] w e n = absurd (n refl)
 some_fourth (x ∷ xs) w e n = ap (λ z. array (views z) ∷ []) e ∙ ap (λ z. z ∷ []) (sym (view_array w))
 
-pub wrote_four : (r : CoseRecipient) (u v w : Vec Value Global) → parts_of r ≡ Some (map view u.items) → inner_of r ≡ Some (views w.items) → w.items ≢ [] → v.items ≡ u.items ++ code.Array w ∷ [] → recipient_tree (recipient_view r) ≡ Some (view (code.Array v))
-wrote_four r u v w p q n e =
-    wrote r (map view u.items) (views w.items) p q ∙ ap (λ z. Some (array (trees (map view u.items ++ z)))) (some_fourth w.items w refl n)
+pub wrote_four : (p : Option (List Tree)) (u v w : Vec Value Global) → p ≡ Some (map view u.items) → w.items ≢ [] → v.items ≡ u.items ++ code.Array w ∷ [] → option_map (λ parts. whole parts (views w.items)) p ≡ Some (view (code.Array v))
+wrote_four p u v w q n e =
+    ap (option_map (λ parts. whole parts (views w.items))) q ∙ ap (λ z. Some (array (trees (map view u.items ++ z)))) (some_fourth w.items w refl n)
     ∙ ap (λ z. Some (array (trees z))) (sym (map-append view u.items (code.Array w ∷ []))) ∙ ap (λ z. Some (array (views z))) (sym e) ∙ ap Some (sym (view_array v))
 
 pub list_wrote : (rs : List CoseRecipient) (v : Vec Value Global) → recipients_trees (recipients_view rs) ≡ Some (views v.items) → list_tree (recipients_view rs) ≡ Some (view (code.Array v))

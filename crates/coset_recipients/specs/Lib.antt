@@ -1,5 +1,6 @@
 pub mod AsWritten
 pub mod Builders
+pub mod Copies
 pub mod Fields
 pub mod Shapes
 pub mod Short

@@ -1,15 +1,29 @@
--- What the parts of the reader show.
-use Rattle.std.specs.Prelude.{ℕ, Option, Some, None}
+-- What the parts of the reader and of the writer show.
+use Rattle.std.specs.Prelude.{◌≡◌, ℕ, List, [], ◌∷◌, ◌++◌, Option, option_map}
 use Rattle.ciborium_value.specs.Tree.{Tree}
-use Rattle.coset_labels.specs.Faults.{CoseFault}
-use Rattle.coset_headers.specs.Weight.{weight}
-use Rattle.coset_recipients.specs.Wrong.{WrongList}
+use Rattle.coset_labels.specs.Faults.{CoseFault, unexpected}
+use Rattle.coset_headers.specs.View.{header_view, protected_view}
+use Rattle.coset_message_parts.specs.Shapes.{HasParts}
+use Rattle.coset_message_parts.specs.Written.{parts_trees}
+use Rattle.coset_message_parts.specs.Wrong.{WrongParts}
+use Rattle.coset_recipients.specs.Fields.{RecipientFields, recipient, RecipientsFields}
+use Rattle.coset_recipients.specs.View.{recipient_view}
+use Rattle.coset_recipients.specs.declared.recipient.CoseRecipient.{CoseRecipient, out-CoseRecipient}
 
--- the fourth element has a fault
-abbrev pub WrongInner : ℕ → Option Tree → ℕ → CoseFault → Type 0
-WrongInner n None k e = ⊥
-WrongInner n (Some t) k e = WrongList n t k e
+-- one recipient more, at the end, of which P holds
+abbrev pub Pushes : (RecipientFields → Type 0) → List CoseRecipient → List CoseRecipient → Type 0
+Pushes P old new = (r : CoseRecipient) × (new ≡ old ++ r ∷ []) × P (recipient_view r)
 
-abbrev pub weight_of : Option Tree → ℕ
-weight_of None = 0
-weight_of (Some t) = weight t
+-- the recipient of three elements and of the recipients in it
+abbrev pub HasThree : ℕ → List Tree → RecipientsFields → RecipientFields → ℕ → Type 0
+HasThree n (x ∷ y ∷ z ∷ []) inner (recipient p u c rs) k = HasParts n x y z p u c k × (rs ≡ inner)
+HasThree n _ inner r k = ⊥
+
+-- the fault of three elements, and of a list of another length
+abbrev pub WrongThree : ℕ → List Tree → ℕ → CoseFault → Type 0
+WrongThree n (x ∷ y ∷ z ∷ []) k e = WrongParts n x y z k e
+WrongThree n _ k e = e ≡ unexpected
+
+-- the values of the first three elements; none if a header can't be written
+abbrev pub parts_of : CoseRecipient → Option (List Tree)
+parts_of r = parts_trees (protected_view (out-CoseRecipient r).protected) (header_view (out-CoseRecipient r).unprotected) (option_map (λ v. v.items) (out-CoseRecipient r).ciphertext)

@@ -1,40 +1,22 @@
 //! Reads recipients. No byte string of a value is copied.
-ghost use Rattle.std.specs.Prelude.{◌≡◌, ◌≢◌, MatchOption, MatchResult, option_map};
-ghost use Rattle.ciborium_value.specs.Tree.{tree_count};
-ghost use Rattle.ciborium_value.specs.View.{view, views};
+ghost use Rattle.std.specs.Prelude.{◌≡◌, ◌≢◌, [], ◌∷◌, ◌++◌, length, map};
+ghost use Rattle.std.specs.Prelude.{MatchOption, MatchResult, OnErr};
+ghost use Rattle.ciborium_value.specs.View.{view};
 ghost use Rattle.coset_labels.specs.Faults.{OrMemory};
 ghost use Rattle.coset_labels.specs.Limits.{nesting_of, layers_of};
-ghost use Rattle.coset_labels.specs.Walks.{WrongItems};
-ghost use Rattle.coset_recipients.specs.Shapes.{three_or_four, HasRecipient, HasRecipients};
-ghost use Rattle.coset_recipients.specs.Shapes.{HasInner, HasList};
+ghost use Rattle.coset_recipients.specs.Shapes.{HasRecipient, HasList};
 ghost use Rattle.coset_recipients.specs.View.{recipient_view, recipients_view};
-ghost use Rattle.coset_recipients.specs.Walks.{WrongInner};
+ghost use Rattle.coset_recipients.specs.Walks.{Pushes, HasThree, WrongThree};
 ghost use Rattle.coset_recipients.specs.Wrong.{WrongRecipient, WrongList};
 
 use crate::recipient::CoseRecipient;
 use ciborium_value::Value;
-use coset_labels::tuples::{four, three};
+use coset_labels::tuples::three;
 use coset_labels::{CoseError, Limits, ValueTryAs};
 use coset_message_parts::read_parts;
 use std::alloc::Global;
 
-/// The items of a list of three or four; none where it has another length. Nothing is copied.
-fn split(items: Vec<Value>) -> Option<(Value, Value, Value, Option<Value>)>
-    ensures { MatchOption result
-        ((tree_count (views items.items) ≢ 3) × (tree_count (views items.items) ≢ 4))
-        (λ t. views items.items
-        ≡ three_or_four (view t.0) (view t.1) (view t.2) (option_map view t.3)) }
-{
-    if items.len() == 4 {
-        let (protected, unprotected, ciphertext, inner) = four(items)?;
-        return Some((protected, unprotected, ciphertext, Some(inner)));
-    }
-    let (protected, unprotected, ciphertext) = three(items)?;
-    Some((protected, unprotected, ciphertext, None))
-}
-
 /// Reads a recipient, its elements from the last to the first.
-#[cycle(reader)]
 pub(crate) fn read_recipient(
     alloc: Global,
     value: Value,
@@ -44,46 +26,87 @@ pub(crate) fn read_recipient(
         (λ r. HasRecipient (nesting_of limits) (view value) (recipient_view r) (layers_of limits))
         (λ e. OrMemory (WrongRecipient (nesting_of limits) (view value) (layers_of limits)) e) }
 {
-    let items = value.try_as_array()?;
-    match split(items) {
-        Some((protected, unprotected, ciphertext, inner)) => {
-            let recipients = read_inner(alloc, inner, limits)?;
-            let parts = read_parts(
-                alloc,
-                protected,
-                unprotected,
-                ciphertext,
-                limits,
-                "bstr / null",
-            )?;
-            Ok(CoseRecipient {
-                protected: parts.protected,
-                unprotected: parts.unprotected,
-                ciphertext: parts.content,
-                recipients,
-            })
-        }
-        None => Err(CoseError::UnexpectedItem("array", "array with 3 or 4 items")),
+    let mut recipients = Vec::new(alloc);
+    read_into(alloc, value, limits, &mut recipients)?;
+    match recipients.pop() {
+        Some(recipient) => Ok(recipient),
+        None => unreachable!(),
     }
 }
 
-/// Reads the recipients of a fourth element; none where there isn't one.
+/// Reads a recipient, and appends it to a list. After an error the list is as it was. What a level
+/// of recipients keeps on the stack is small.
 #[cycle(reader)]
-fn read_inner(
+fn read_into(
     alloc: Global,
-    inner: Option<Value>,
+    value: Value,
     limits: Limits,
-) -> Result<Vec<CoseRecipient>, CoseError>
-    ensures { MatchResult result
-        (λ rs. HasInner (nesting_of limits) (option_map view inner) (recipients_view rs.items)
-        (layers_of limits))
-        (λ e. OrMemory (WrongInner (nesting_of limits) (option_map view inner) (layers_of limits))
-        e) }
+    recipients: &mut Vec<CoseRecipient>,
+) -> Result<(), CoseError>
+    ensures read { MatchResult result
+        (λ _. Pushes
+        (λ r. HasRecipient (nesting_of limits) (view value) r (layers_of limits))
+        recipients.old.items recipients.new.items)
+        (λ e. OrMemory (WrongRecipient (nesting_of limits) (view value) (layers_of limits)) e) }
+    ensures err { OnErr result (recipients.new.items ≡ recipients.old.items) }
 {
-    match inner {
-        Some(list) => read_recipients(alloc, list, limits),
-        None => Ok(Vec::new(alloc)),
+    let mut items = value.try_as_array()?;
+    match take_fourth(&mut items) {
+        Some(list) => {
+            let inner = read_recipients(alloc, list, limits)?;
+            push_read(alloc, items, inner, limits, recipients)
+        }
+        None => push_read(alloc, items, Vec::new(alloc), limits, recipients),
     }
+}
+
+/// The last of four items, which is taken from them; none if there are fewer or more.
+#[inline(never)]
+fn take_fourth(items: &mut Vec<Value>) -> Option<Value>
+    ensures { MatchOption result
+        ((items.new.items ≡ items.old.items) × (length items.old.items ≢ 4))
+        (λ v. (items.old.items ≡ items.new.items ++ v ∷ []) × (length items.new.items ≡ 3)) }
+{
+    if items.len() == 4 { items.pop() } else { None }
+}
+
+/// Reads the three other elements of a recipient, and appends it to a list with these recipients in
+/// it. After an error the list is as it was.
+#[inline(never)]
+fn push_read(
+    alloc: Global,
+    items: Vec<Value>,
+    inner: Vec<CoseRecipient>,
+    limits: Limits,
+    recipients: &mut Vec<CoseRecipient>,
+) -> Result<(), CoseError>
+    ensures read { MatchResult result
+        (λ _. Pushes
+        (λ r. HasThree (nesting_of limits) (map view items.items) (recipients_view inner.items) r
+        (layers_of limits))
+        recipients.old.items recipients.new.items)
+        (λ e. OrMemory (WrongThree (nesting_of limits) (map view items.items) (layers_of limits))
+        e) }
+    ensures err { OnErr result (recipients.new.items ≡ recipients.old.items) }
+{
+    let Some((protected, unprotected, ciphertext)) = three(items) else {
+        return Err(CoseError::UnexpectedItem("array", "array with 3 or 4 items"));
+    };
+    let parts = read_parts(
+        alloc,
+        protected,
+        unprotected,
+        ciphertext,
+        limits,
+        "bstr / null",
+    )?;
+    recipients.push(CoseRecipient {
+        protected: parts.protected,
+        unprotected: parts.unprotected,
+        ciphertext: parts.content,
+        recipients: inner,
+    })?;
+    Ok(())
 }
 
 /// Reads an array of recipients within these limits, from the first to the last.
@@ -102,27 +125,9 @@ pub fn read_recipients(
         (λ e. OrMemory (WrongList (nesting_of limits) (view value) (layers_of limits)) e) }
 {
     let items = value.try_as_array()?;
-    read_items(alloc, items, limits)
-}
-
-#[cycle(reader)]
-fn read_items(
-    alloc: Global,
-    items: Vec<Value>,
-    limits: Limits,
-) -> Result<Vec<CoseRecipient>, CoseError>
-    ensures { MatchResult result
-        (λ rs. HasRecipients (nesting_of limits) (views items.items) (recipients_view rs.items)
-        (layers_of limits))
-        (λ e. OrMemory
-        (WrongItems
-        (λ t. WrongRecipient (nesting_of limits) t (layers_of limits)) (views items.items))
-        e) }
-{
     let mut recipients = Vec::new(alloc);
     'items: for item in items {
-        let recipient = read_recipient(alloc, item, limits)?;
-        recipients.push(recipient)?;
+        read_into(alloc, item, limits, &mut recipients)?;
     }
     Ok(recipients)
 }

@@ -1,30 +1,75 @@
 //! Writes recipients. They are moved into the values that stand for them.
-ghost use Rattle.std.specs.Prelude.{◌≡◌, Some, MatchResult};
+ghost use Rattle.std.specs.Prelude.{◌≡◌, Some, MatchResult, option_map};
 ghost use Rattle.ciborium_value.specs.View.{view, views};
 ghost use Rattle.coset_labels.specs.Faults.{CantWrite};
 ghost use Rattle.coset_recipients.specs.View.{recipient_view, recipients_view};
-ghost use Rattle.coset_recipients.specs.Written.{recipient_tree, recipients_trees, list_tree};
+ghost use Rattle.coset_recipients.specs.Walks.{parts_of};
+ghost use Rattle.coset_recipients.specs.Written.{whole, recipient_tree, recipients_trees};
+ghost use Rattle.coset_recipients.specs.Written.{list_tree};
 
 use crate::recipient::CoseRecipient;
 use ciborium_value::Value;
 use coset_labels::CoseError;
 use coset_message_parts::{Parts, write_parts};
 use std::alloc::Global;
+use std::mem;
 
 /// The array that stands for a recipient. It has no fourth element where the recipient has no
 /// recipients of its own.
-#[cycle(writer)]
 pub(crate) fn write_recipient(alloc: Global, recipient: CoseRecipient) -> Result<Value, CoseError>
     ensures { MatchResult result (λ v. recipient_tree (recipient_view recipient) ≡ Some (view v))
         (λ e. CantWrite (recipient_tree (recipient_view recipient)) e) }
+{
+    let mut recipient = recipient;
+    take_recipient(alloc, &mut recipient)
+}
+
+/// The array of a recipient, whose parts are moved out of it: nothing is said of what is left. What
+/// a level of recipients keeps on the stack is small.
+#[cycle(writer)]
+fn take_recipient(alloc: Global, recipient: &mut CoseRecipient) -> Result<Value, CoseError>
+    ensures { MatchResult result
+        (λ v. recipient_tree (recipient_view recipient.old) ≡ Some (view v))
+        (λ e. CantWrite (recipient_tree (recipient_view recipient.old)) e) }
+{
+    let inner = take_recipients(alloc, &mut recipient.recipients)?;
+    take_parts(alloc, recipient, inner)
+}
+
+/// The arrays of recipients, in their order, by `take_recipient`.
+#[cycle(writer)]
+fn take_recipients(alloc: Global, recipients: &mut [CoseRecipient]) -> Result<Vec<Value>, CoseError>
+    ensures { MatchResult result
+        (λ v. recipients_trees (recipients_view recipients.old) ≡ Some (views v.items))
+        (λ e. CantWrite (recipients_trees (recipients_view recipients.old)) e) }
+{
+    let mut values = Vec::new(alloc);
+    'recipients: for recipient in recipients.iter_mut() {
+        let value = take_recipient(alloc, recipient)?;
+        values.push(value)?;
+    }
+    Ok(values)
+}
+
+/// The array of a recipient, whose recipients have these values. Its other parts are moved out of
+/// it.
+#[inline(never)]
+fn take_parts(
+    alloc: Global,
+    recipient: &mut CoseRecipient,
+    inner: Vec<Value>,
+) -> Result<Value, CoseError>
+    ensures { MatchResult result
+        (λ v. option_map (λ parts. whole parts (views inner.items)) (parts_of recipient.old)
+        ≡ Some (view v))
+        (λ e. CantWrite (parts_of recipient.old) e) }
 {
     let CoseRecipient {
         protected,
         unprotected,
         ciphertext,
-        recipients,
-    } = recipient;
-    let inner = write_items(alloc, recipients)?;
+        recipients: _,
+    } = mem::replace(recipient, CoseRecipient::new(alloc));
     let mut items = write_parts(
         alloc,
         Parts {
@@ -40,20 +85,6 @@ pub(crate) fn write_recipient(alloc: Global, recipient: CoseRecipient) -> Result
     Ok(Value::Array(items))
 }
 
-#[cycle(writer)]
-fn write_items(alloc: Global, recipients: Vec<CoseRecipient>) -> Result<Vec<Value>, CoseError>
-    ensures { MatchResult result
-        (λ v. recipients_trees (recipients_view recipients.items) ≡ Some (views v.items))
-        (λ e. CantWrite (recipients_trees (recipients_view recipients.items)) e) }
-{
-    let mut values = Vec::new(alloc);
-    'recipients: for recipient in recipients {
-        let value = write_recipient(alloc, recipient)?;
-        values.push(value)?;
-    }
-    Ok(values)
-}
-
 /// The array of the values that recipients stand for, which may be empty.
 ///
 /// # Errors
@@ -63,6 +94,7 @@ pub fn write_recipients(alloc: Global, recipients: Vec<CoseRecipient>) -> Result
     ensures { MatchResult result (λ v. list_tree (recipients_view recipients.items) ≡ Some (view v))
         (λ e. CantWrite (list_tree (recipients_view recipients.items)) e) }
 {
-    let values = write_items(alloc, recipients)?;
+    let mut recipients = recipients;
+    let values = take_recipients(alloc, &mut recipients)?;
     Ok(Value::Array(values))
 }

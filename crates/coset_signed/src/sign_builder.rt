@@ -283,14 +283,7 @@ impl CoseSignBuilder {
 fn signed_by(signature: CoseSignature, bytes: Vec<u8>) -> CoseSignature
     ensures { signature_view result ≡ signed_by (signature_view signature) bytes.items }
 {
-    let CoseSignature {
-        protected,
-        unprotected,
-        signature: _,
-    } = signature;
-    CoseSignature {
-        protected,
-        unprotected,
-        signature: bytes,
-    }
+    let mut signature = signature;
+    signature.signature = bytes;
+    signature
 }

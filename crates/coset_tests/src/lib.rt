@@ -1,9 +1,19 @@
-//! Tests of messages, keys and claims together, as a user of `coset` writes them, and of memory that is refused to them.
+//! Tests of COSE, by the public names of `coset`: values by builders, large values, copies, and
+//! messages, keys and claims together. `coset_signed_tests` and `coset_recipients_tests` test the
+//! messages.
 #![tactic(auto)]
 
 #[cfg(test)]
-mod memory;
+mod checks;
 #[cfg(test)]
-mod signature;
+mod claims;
 #[cfg(test)]
-mod tokens;
+mod headers;
+#[cfg(test)]
+mod kdf;
+#[cfg(test)]
+mod keys;
+#[cfg(test)]
+mod labels;
+#[cfg(test)]
+mod together;

@@ -6,8 +6,8 @@ use Rattle.coset_headers.specs.View.{signatures_view}
 use Rattle.coset_headers.proofs.equal.+equality.Given as goal
 
 -- what is left decides
-abbrev pub invariant-same_signatures-loop-x : goal.invariant-same_signatures-loop-x
-invariant-same_signatures-loop-x l = record {
+abbrev pub invariant-loop-x : goal.invariant-loop-x
+invariant-loop-x l = record {
   same : same_signatures (signatures_view l.a) (signatures_view l.b)
       ≡ same_signatures (signatures_view (iter_rest (zip_first l.x-iterator))) (signatures_view (iter_rest (zip_second l.x-iterator)));
   long : length (iter_rest (zip_first l.x-iterator)) ≡ length (iter_rest (zip_second l.x-iterator));

@@ -1,0 +1,51 @@
+//! How the tests compare, and what is written of a value.
+use ciborium::ser::Serialize;
+use ciborium::{Mem, into_writer};
+use std::alloc::Global;
+use std::fmt::{Debug, Display};
+use std::process::Abort;
+
+/// This is so.
+pub fn holds(rt: &impl Abort, is_so: bool, what: &str) {
+    assert!(rt; is_so, "{what}");
+}
+
+/// Both are the same.
+pub fn same<T: PartialEq + Debug>(rt: &impl Abort, got: &T, want: &T, at: &str) {
+    assert_eq!(rt; *got, *want, "at {at}");
+}
+
+/// Each value is equal to itself, and to no other one of the list.
+pub fn all_differ<T: PartialEq>(rt: &impl Abort, values: &[T], what: &str) {
+    for (index, one) in values.iter().enumerate() {
+        for (other_index, other) in values.iter().enumerate() {
+            let is_same = index == other_index;
+            holds(rt, (*one == *other) == is_same, what);
+            holds(rt, (*one != *other) != is_same, what);
+        }
+    }
+}
+
+/// The value prints like this.
+pub fn prints<T: Display>(rt: &impl Abort, alloc: Global, value: &T, want: &str) {
+    let text = format!(in alloc; "{value}").expect(rt, "memory");
+    same(rt, &text.as_str(), &want, want);
+}
+
+/// The bytes of which this is the hex.
+pub fn of_hex(rt: &impl Abort, alloc: Global, text: &str) -> Vec<u8> {
+    hex::decode(alloc, text).expect(rt, "hex")
+}
+
+/// The text of a value in hex.
+fn written<T: Serialize>(rt: &impl Abort, alloc: Global, value: &T) -> String {
+    let mut out = Mem::new(Vec::new(alloc));
+    into_writer(value, &mut out).expect(rt, "memory");
+    hex::encode(alloc, out.as_written()).expect(rt, "memory")
+}
+
+/// The text of a value is this in hex.
+pub fn is_written<T: Serialize>(rt: &impl Abort, alloc: Global, value: &T, want: &str, at: &str) {
+    let text = written(rt, alloc, value);
+    same(rt, &text.as_str(), &want, at);
+}

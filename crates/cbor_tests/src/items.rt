@@ -1,0 +1,9 @@
+//! Tests of `ciborium`: readers that end or fail in mid-stream, writers that are full, buffers and
+//! limits of the caller's, and values in place.
+
+mod building;
+mod devices;
+mod levels;
+mod round_trips;
+mod typed;
+mod writing;

@@ -1,0 +1,18 @@
+//! Tests of `ciborium_ll`, `ciborium_value`, `ciborium_typed` (with `ciborium_traits`), `ciborium`
+//! and `cbor_diag`, by their public names: what no clause and no row of `conformance` says.
+#![tactic(auto)]
+
+#[cfg(test)]
+mod checks;
+#[cfg(test)]
+mod diag;
+#[cfg(test)]
+mod equal;
+#[cfg(test)]
+mod items;
+#[cfg(test)]
+mod ll;
+#[cfg(test)]
+mod typed;
+#[cfg(test)]
+mod value;

@@ -1,0 +1,82 @@
+//! What a relay wrote, relayed again.
+use crate::calling::{BOTH, INPUT};
+use callers::gatings::Gating;
+use callers::judging::KeyIds;
+use callers::tally::Tally;
+use callers::twice::{relay_then_strictly, relay_twice, relay_wider, strictly_then_relay};
+use cose_gate::{Counts, Limits};
+
+/// The first message of the input.
+const ONE: &[u8] = &[
+    0xd2, 0x84, 0x40, 0xa1, 0x04, 0x41, 0x11, 0x42, 0x68, 0x69, 0x41, 0x01,
+];
+
+/// The id that the judge knows.
+const KNOWN: [&[u8]; 1] = [&[0x11]];
+
+/// So many passed, and so many were refused.
+fn counts(passed: usize, refused: usize) -> Counts {
+    Counts { passed, refused }
+}
+
+#[test]
+fn a_relay_of_the_output_writes_the_same(rt: HostRuntime) {
+    let alloc = rt.alloc();
+    let mut judge = KeyIds::new(alloc, &KNOWN);
+    let mut tally = Tally::new();
+    let (once, again) = relay_twice(alloc, &INPUT, b"", &mut judge, &mut tally).expect(
+        &rt, "no fault",
+    );
+    assert_eq!(rt; once.0.as_slice(), BOTH);
+    assert_eq!(rt; once.1, counts(2, 1));
+    assert_eq!(rt; again.0.as_slice(), BOTH);
+    assert_eq!(rt; again.1, counts(2, 0));
+}
+
+#[test]
+fn a_strict_relay_of_the_output_writes_the_same(rt: HostRuntime) {
+    let alloc = rt.alloc();
+    let mut judge = KeyIds::new(alloc, &KNOWN);
+    let mut tally = Tally::new();
+    let (once, again) = relay_then_strictly(alloc, &INPUT, b"", &mut judge, &mut tally).expect(
+        &rt, "no fault",
+    );
+    assert_eq!(rt; once.0.as_slice(), BOTH);
+    assert_eq!(rt; again.0.as_slice(), BOTH);
+    assert_eq!(rt; again.1, counts(2, 0));
+}
+
+#[test]
+fn a_relay_of_strict_output_writes_the_same(rt: HostRuntime) {
+    let alloc = rt.alloc();
+    let mut judge = KeyIds::new(alloc, &KNOWN);
+    let mut tally = Tally::new();
+    let (once, again) = strictly_then_relay(alloc, &INPUT, b"", &mut judge, &mut tally).expect(
+        &rt, "no fault",
+    );
+    assert_eq!(rt; once.0.as_slice(), ONE);
+    assert_eq!(rt; once.1, counts(1, 2));
+    assert_eq!(rt; again.0.as_slice(), ONE);
+    assert_eq!(rt; again.1, counts(1, 0));
+}
+
+#[test]
+fn a_relay_within_wider_limits_writes_the_same(rt: HostRuntime) {
+    let alloc = rt.alloc();
+    let mut judge = KeyIds::new(alloc, &KNOWN);
+    let mut tally = Tally::new();
+    let gating = Gating {
+        limits: Limits::new(3, 1).expect(&rt, "limits"),
+        strict: false,
+    };
+    let wider = Gating {
+        limits: Limits::new(4, 2).expect(&rt, "limits"),
+        strict: true,
+    };
+    let (once, again) = relay_wider(
+        alloc, gating, wider, &INPUT, b"", &mut judge, &mut tally,
+    ).expect(&rt, "no fault");
+    assert_eq!(rt; once.0.as_slice(), BOTH);
+    assert_eq!(rt; again.0.as_slice(), BOTH);
+    assert_eq!(rt; again.1, counts(2, 0));
+}

@@ -1,0 +1,196 @@
+//! Memory that is refused to the judge, to the report, and to the run.
+use crate::checks::same;
+use crate::gate::seen::{Answer, Observed, answered, reached, whole};
+use cose_gate::{Asked, End, Entry, GateFault, Mem, MessageKind, Recorder, Refusal, Verdict};
+use std::alloc::Global;
+use std::process::Abort;
+use test_tools::Nth;
+
+/// Two messages with an integer between them.
+pub const INPUT: &[u8] = &[
+    0xd2, 0x84, 0x43, 0xa1, 1, 0x26, 0xa0, 0x42, 0x68, 0x69, 0x43, 1, 2, 3, 1, 0xd2, 0x84, 0x43,
+    0xa1, 1, 0x26, 0xa0, 0x42, 0x68, 0x69, 0x43, 1, 2, 3,
+];
+
+/// The two messages.
+pub const OUTPUT: &[u8] = &[
+    0xd2, 0x84, 0x43, 0xa1, 1, 0x26, 0xa0, 0x42, 0x68, 0x69, 0x43, 1, 2, 3, 0xd2, 0x84, 0x43, 0xa1,
+    1, 0x26, 0xa0, 0x42, 0x68, 0x69, 0x43, 1, 2, 3,
+];
+
+/// What the signature of each covers.
+const STRUCTURE: &[u8] = &[
+    0x84, 0x6a, 0x53, 0x69, 0x67, 0x6e, 0x61, 0x74, 0x75, 0x72, 0x65, 0x31, 0x43, 0xa1, 1, 0x26,
+    0x40, 0x42, 0x68, 0x69,
+];
+
+/// What is noted of them.
+const NOTED: [Entry; 3] = [
+    Entry {
+        number: 1,
+        offset: 0,
+        verdict: Verdict::Passed,
+    },
+    Entry {
+        number: 2,
+        offset: 14,
+        verdict: Verdict::Refused(Refusal::NotTagged),
+    },
+    Entry {
+        number: 3,
+        offset: 15,
+        verdict: Verdict::Passed,
+    },
+];
+
+/// Whether the question is the one about each of the messages.
+fn is_expected(asked: &Asked) -> bool {
+    asked.kind == MessageKind::Sign1
+        && asked.structure.as_slice() == STRUCTURE
+        && asked.tag_len == 3
+        && asked.tag == [1, 2, 3, 0, 0, 0, 0, 0]
+}
+
+/// What was asked, written and noted is the beginning of what a whole run asks, writes and notes.
+fn is_front(rt: &impl Abort, asked: &[Asked], written: &[u8], entries: &[Entry]) {
+    for question in asked {
+        assert!(rt; is_expected(question), "{question:?}");
+    }
+    assert!(rt; OUTPUT.starts_with(written), "{written:?}");
+    assert!(rt; NOTED.starts_with(entries), "{entries:?}");
+}
+
+/// How far a run can be when memory is refused: how many questions, bytes and entries there are.
+/// At the last one it is whole.
+const PLACES: [(usize, usize, usize); 8] = [
+    (0, 0, 0),
+    (1, 0, 0),
+    (1, 14, 0),
+    (1, 14, 1),
+    (1, 14, 2),
+    (2, 14, 2),
+    (2, 28, 2),
+    (2, 28, 3),
+];
+
+/// The run ended for want of memory at one of the places, or whole.
+fn ends_at(rt: &impl Abort, answer: &Answer<End>, place: (usize, usize, usize)) {
+    let want = if place.2 == 3 {
+        whole(2, 1)
+    } else {
+        Err(GateFault::Memory)
+    };
+    same(rt, answer, &want, "answer", &"two messages");
+    assert!(rt; PLACES.contains(&place), "{place:?}");
+}
+
+/// All memory here is asked for by the run. So this holds also if one allocation is refused,
+/// whichever it is.
+#[test]
+fn refused_memory_is_the_answer(rt: HostRuntime) {
+    let alloc = rt.alloc();
+    let mut memory = [0u8; 28];
+    let mut out = Mem::new(&mut memory[..]);
+    let mut entries = Vec::new(alloc);
+    let mut recorder = Recorder::new(alloc, None);
+    let answer = answered(alloc, INPUT, &mut out, &mut entries, &[], &mut recorder);
+    let asked = recorder.asked();
+    let written = out.as_written();
+    ends_at(&rt, &answer, (asked.len(), written.len(), entries.len()));
+    is_front(&rt, asked, written, &entries);
+}
+
+/// A run over this input; the judge and the report are each refused memory once, after so many
+/// calls.
+fn refused(alloc: Global, input: &[u8], judge_calls: usize, report_calls: usize) -> Observed<End> {
+    let mut judge = Nth {
+        inner: Recorder::new(alloc, None),
+        calls: judge_calls,
+    };
+    let mut report = Nth {
+        inner: Vec::new(alloc),
+        calls: report_calls,
+    };
+    let mut out = Mem::new(Vec::new(alloc));
+    let answer = answered(alloc, input, &mut out, &mut report, &[], &mut judge);
+    Observed {
+        recorder: judge.inner,
+        output: out.into_inner(),
+        entries: report.inner,
+        answer,
+    }
+}
+
+/// A run over two messages with an integer between them comes so far, if memory is refused after so
+/// many calls.
+fn is_refused(rt: &impl Abort, alloc: Global, calls: (usize, usize), want: (usize, usize, usize)) {
+    let seen = refused(alloc, INPUT, calls.0, calls.1);
+    assert_eq!(rt; (calls, reached(&seen)), (calls, want));
+    ends_at(rt, &seen.answer, want);
+    is_front(rt, seen.recorder.asked(), &seen.output, &seen.entries);
+}
+
+/// How many calls of the judge and of the report come before memory is refused, and how far the run
+/// comes. A question takes eight calls of the judge: it begins, and is fed the prefix, and of three
+/// byte strings the title and the bytes.
+const REFUSALS: [((usize, usize), (usize, usize, usize)); 11] = [
+    ((0, 3), (0, 0, 0)),
+    ((1, 3), (0, 0, 0)),
+    ((3, 3), (0, 0, 0)),
+    ((7, 3), (0, 0, 0)),
+    ((8, 3), (1, 14, 2)),
+    ((15, 3), (1, 14, 2)),
+    ((16, 0), (1, 14, 0)),
+    ((16, 1), (1, 14, 1)),
+    ((16, 2), (2, 28, 2)),
+    ((16, 3), (2, 28, 3)),
+    ((17, 3), (2, 28, 3)),
+];
+
+#[test]
+fn memory_refused_to_the_judge_or_the_report_is_the_answer(rt: HostRuntime) {
+    for (calls, want) in &REFUSALS {
+        is_refused(&rt, rt.alloc(), *calls, *want);
+    }
+}
+
+/// 98([h'', {}, 'hi', [[h'a10126', {}, h'00'], [h'a10126', {}, h'01']]]).
+const TWO: &[u8] = &[
+    0xd8, 98, 0x84, 0x40, 0xa0, 0x42, 0x68, 0x69, 0x82, 0x83, 0x43, 0xa1, 1, 0x26, 0xa0, 0x41, 0,
+    0x83, 0x43, 0xa1, 1, 0x26, 0xa0, 0x41, 1,
+];
+
+/// What its first signature covers: ['Signature', h'', h'a10126', h'', 'hi'].
+const COVERED: &[u8] = &[
+    0x85, 0x69, 0x53, 0x69, 0x67, 0x6e, 0x61, 0x74, 0x75, 0x72, 0x65, 0x40, 0x43, 0xa1, 1, 0x26,
+    0x40, 0x42, 0x68, 0x69,
+];
+
+/// Whether the question is the one about its first signature, h'00'.
+fn is_first(asked: &Asked) -> bool {
+    asked.kind == MessageKind::Sign
+        && asked.structure.as_slice() == COVERED
+        && asked.tag_len == 1
+        && asked.tag == [0; 8]
+}
+
+/// A run over it in which memory is refused to the judge after so many calls asks so many
+/// questions, the first at most, and writes nothing.
+fn is_left(rt: &impl Abort, alloc: Global, calls: usize, asked: usize) {
+    let seen = refused(alloc, TWO, calls, 3);
+    same(rt, &seen.answer, &Err(GateFault::Memory), "answer", &calls);
+    same(rt, &reached(&seen), &(asked, 0, 0), "place", &calls);
+    for question in seen.recorder.asked() {
+        assert!(rt; is_first(question), "{question:?}");
+    }
+}
+
+/// A question about a signature takes ten calls of the judge: it begins, and is fed the prefix, and
+/// of four byte strings the title and the bytes. If memory is refused to the judge, the
+/// questions before were asked, and nothing is written.
+#[test]
+fn memory_may_be_refused_between_signatures(rt: HostRuntime) {
+    for (calls, asked) in [(0, 0), (1, 0), (9, 0), (10, 1), (19, 1)] {
+        is_left(&rt, rt.alloc(), calls, asked);
+    }
+}

@@ -1,0 +1,108 @@
+//! What a run asks, writes, notes and answers, and the checks of it that tests share.
+use cose_gate::{
+    Counts, Decoder, Entry, GateFault, Judge, Limits, Mem, Read, Recorder, Report, Write, gate,
+    gate_strict, gate_strict_with, gate_with,
+};
+use std::alloc::Global;
+
+/// What a run answers.
+pub type Answer<E> = Result<Counts, GateFault<E>>;
+
+/// The answer of a run that went through its input.
+pub fn whole<E>(passed: usize, refused: usize) -> Answer<E> {
+    Ok(Counts { passed, refused })
+}
+
+/// By which call a run goes.
+#[derive(Debug, Clone, Copy, PartialEq, Eq)]
+pub enum Way {
+    Plain,
+    Within(Limits),
+    Strict,
+    StrictWithin(Limits),
+}
+
+/// Each of the four calls, with the default limits where it takes some.
+pub fn ways() -> [Way; 4] {
+    let limits = Limits::default();
+    [
+        Way::Plain,
+        Way::Within(limits),
+        Way::Strict,
+        Way::StrictWithin(limits),
+    ]
+}
+
+/// What a run by this call over this reader returns. It has no clause, so that a test that calls it
+/// carries none of the gate's.
+pub fn answered_by<R: Read + Drop, W: Write, P: Report, J: Judge>(
+    alloc: Global,
+    way: Way,
+    reader: R,
+    out: &mut W,
+    report: &mut P,
+    aad: &[u8],
+    judge: &mut J,
+) -> Answer<R::Error> {
+    let mut decoder = Decoder::from(reader);
+    match way {
+        Way::Plain => gate(alloc, &mut decoder, out, report, aad, judge),
+        Way::Within(limits) => gate_with(alloc, limits, &mut decoder, out, report, aad, judge),
+        Way::Strict => gate_strict(alloc, &mut decoder, out, report, aad, judge),
+        Way::StrictWithin(limits) => {
+            gate_strict_with(alloc, limits, &mut decoder, out, report, aad, judge)
+        }
+    }
+}
+
+/// The answer of a run over what this reader gives.
+pub fn answered<R: Read + Drop, W: Write, P: Report, J: Judge>(
+    alloc: Global,
+    reader: R,
+    out: &mut W,
+    report: &mut P,
+    aad: &[u8],
+    judge: &mut J,
+) -> Answer<R::Error> {
+    answered_by(alloc, Way::Plain, reader, out, report, aad, judge)
+}
+
+/// What a run asked, wrote, noted and answered.
+#[derive(Drop)]
+pub struct Observed<E> {
+    pub recorder: Recorder,
+    pub output: Vec<u8>,
+    pub entries: Vec<Entry>,
+    pub answer: Answer<E>,
+}
+
+/// A run by this call over what this reader gives, with a judge that says yes to each signature.
+pub fn run<R: Read + Drop>(alloc: Global, way: Way, reader: R) -> Observed<R::Error> {
+    let mut recorder = Recorder::new(alloc, None);
+    let mut out = Mem::new(Vec::new(alloc));
+    let mut entries = Vec::new(alloc);
+    let answer = answered_by(
+        alloc,
+        way,
+        reader,
+        &mut out,
+        &mut entries,
+        &[],
+        &mut recorder,
+    );
+    Observed {
+        recorder,
+        output: out.into_inner(),
+        entries,
+        answer,
+    }
+}
+
+/// How far a run came: its questions, bytes and entries.
+pub fn reached<E>(seen: &Observed<E>) -> (usize, usize, usize) {
+    (
+        seen.recorder.asked().len(),
+        seen.output.len(),
+        seen.entries.len(),
+    )
+}

@@ -1,0 +1,7 @@
+//! Tests of the program over memory: devices that fail, output that is flushed, a reader in blocks,
+//! and how the tags of examples/ were made.
+
+mod blocks;
+mod examples;
+mod lines;
+mod refused;

@@ -1,0 +1,60 @@
+//! A reader of std in blocks: what is read is the same as without blocks, whatever a block holds.
+use cose_gate::{Blocks, InputFault, Read};
+use std::alloc::Global;
+use std::io;
+use std::io::BufReader;
+use std::process::Abort;
+use test_tools::OneByOne;
+
+/// How many bytes each read asks for, and what it gives: its last byte, or its fault.
+type Row = (usize, Result<u8, InputFault>);
+
+/// Over the bytes 1 to 9 in blocks of 4: inside a block, over its end, a whole one, more than are
+/// left, and at the end.
+const ENDS: [Row; 6] = [
+    (1, Ok(1)),
+    (3, Ok(4)),
+    (3, Ok(7)),
+    (0, Ok(0)),
+    (4, Err(InputFault::End)),
+    (1, Err(InputFault::End)),
+];
+
+/// Over the bytes 1 to 3 and a failure.
+const FAILS: [Row; 4] = [
+    (2, Ok(2)),
+    (1, Ok(3)),
+    (1, Err(InputFault::Failed)),
+    (2, Err(InputFault::Failed)),
+];
+
+/// What a read of so many bytes gives; 0 is the last byte of none.
+fn last_read<R: io::Read>(blocks: &mut Blocks<R>, len: usize) -> Result<u8, InputFault> {
+    let mut data = [0; 4];
+    let part = &mut data[..len.min(4)];
+    blocks.read_exact(part)?;
+    match part.last() {
+        Some(byte) => Ok(*byte),
+        None => Ok(0),
+    }
+}
+
+/// Each read of the rows gives what stands there.
+fn all_so<R: io::Read + Drop>(rt: &impl Abort, alloc: Global, reader: R, rows: &[Row]) {
+    let buffered = BufReader::with_capacity(alloc, 4, reader).expect(rt, "no memory");
+    let mut blocks = Blocks::new(buffered);
+    for row in rows {
+        assert!(rt; last_read(&mut blocks, row.0) == row.1);
+    }
+}
+
+#[test]
+fn reads_over_blocks_ends_and_faults(rt: HostRuntime) {
+    let bytes: &[u8] = &[1, 2, 3, 4, 5, 6, 7, 8, 9];
+    all_so(&rt, rt.alloc(), bytes, &ENDS);
+    let reader = OneByOne {
+        bytes: &[1, 2, 3],
+        is_broken: true,
+    };
+    all_so(&rt, rt.alloc(), reader, &FAILS);
+}

@@ -1,0 +1,35 @@
+//! A judge begins no question about a message that isn't streamed.
+use crate::checks::{same, unhex};
+use crate::stream::checks::checked;
+use std::alloc::Global;
+use std::process::Abort;
+use test_tools::Counting;
+
+/// A message that carries no payload, one whose length isn't stated, and one with another item in
+/// its place; one with another header, and one with another tag.
+const UNSTREAMED: [&str; 5] = [
+    "d28440a0f640",
+    "d28440a05f41684169ff40",
+    "d28440a00040",
+    "d28440f64040",
+    "d08340a040",
+];
+
+/// No question is begun about this one.
+fn is_unbegun(rt: &impl Abort, alloc: Global, text: &str) {
+    let message = unhex(rt, alloc, text);
+    let mut buffer = [0; 8];
+    let mut judge = Counting::new();
+    let reader = message.as_slice();
+    let (answer, _) = checked(alloc, None, reader, &mut buffer, &[], &mut judge);
+    assert!(rt; answer.is_err());
+    let asked = (judge.begun, judge.decided);
+    same(rt, &asked, &(0, 0), "questions", &text);
+}
+
+#[test]
+fn no_question_is_begun_in_vain(rt: HostRuntime) {
+    for text in &UNSTREAMED {
+        is_unbegun(&rt, rt.alloc(), text);
+    }
+}

@@ -1,0 +1,33 @@
+use Rattle.std.proofs.Common.{sym, subst, ap, ◌∙◌, ◌++◌, ◌∷◌, [], arith, length, length-append, ◌≡◌}
+use Rattle.ciborium_value.specs.Tree.{map}
+use Rattle.ciborium_value.specs.View.{view_pairs}
+use Rattle.coset_headers.specs.Levels.{Going, Within, levels_left, open_left}
+use Rattle.coset_headers.specs.declared.reader.Level.{Level}
+use Rattle.coset_headers.proofs.Levels.{within_pushed, levels_pushed}
+use Rattle.coset_headers.proofs.reader.descend.Goals as goal
+
+pub returns-clause-read : goal.returns-clause-read
+returns-clause-read c = λ n k t r.
+    let inside = map (view_pairs c.args.entries.items) in
+    let level : Level = record { header = c.args.top.now; signing = c.args.signing } in
+    let pushed : c.push.new.self.items ≡ c.args.below.now.items ++ level ∷ [] =
+    c.in_ok-push.ensures.items ∙ ap (λ z. c.args.below.now.items ++ record { header = z; signing = c.args.signing } ∷ []) c.replace-header.ensures.value in
+    let layers : c.replace-header.new.dest.layers ≡ c.args.layers = ap (λ z. z.layers) c.replace-header.ensures.after ∙ c.new.ensures.layers in
+    record {
+      inner = inside;
+      within = subst (λ z. Within n t k z inside c.replace-header.new.dest.layers) (sym pushed)
+          (subst (λ z. Within n t k (c.args.below.now.items ++ level ∷ []) inside z) (sym layers)
+          (within_pushed n t k c.args.below.now.items level r.inner inside c.args.layers r.within r.around));
+      going = subst (Going n inside) (sym c.replace-header.ensures.after) (c.new.ensures.going n);
+    }
+
+pub returns-clause-left : goal.returns-clause-left
+returns-clause-left c =
+    let level : Level = record { header = c.replace-header.result; signing = c.args.signing } in
+    let a = ap levels_left c.in_ok-push.ensures.items in
+    let b = levels_pushed c.args.below.now.items level in
+    let d = ap length c.in_ok-push.ensures.items in
+    let e = length-append c.args.below.now.items (level ∷ []) in
+    let f = ap open_left c.replace-header.ensures.value in
+    let g = ap open_left c.replace-header.ensures.after in
+    omega (arith, a, b, d, e, f, g, c.new.ensures.left)
