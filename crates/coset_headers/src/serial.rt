@@ -12,7 +12,6 @@ ghost use Rattle.coset_headers.specs.Written.{header_tree, signature_tree, shown
 ghost use Rattle.coset_headers.specs.Wrong.{WrongHeader, WrongProtected, WrongSignature};
 
 use crate::header::{CoseSignature, Header, ProtectedHeader};
-use crate::parts::HeaderParts;
 use crate::reader::{read_header, read_protected, read_signature};
 use crate::writer::{show_protected, write_header, write_signature};
 use ciborium_value::Value;
@@ -24,7 +23,16 @@ impl Header {
     pub fn new(alloc: Global) -> Header
         ensures { header_view result ≡ no_header }
     {
-        HeaderParts::new(alloc).header()
+        Header {
+            alg: None,
+            crit: Vec::new(alloc),
+            content_type: None,
+            key_id: Vec::new(alloc),
+            iv: Vec::new(alloc),
+            partial_iv: Vec::new(alloc),
+            counter_signatures: Vec::new(alloc),
+            rest: Vec::new(alloc),
+        }
     }
 
     /// As `from_cbor_value`, within these limits.
