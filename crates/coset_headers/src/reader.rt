@@ -1,7 +1,7 @@
 //! Reads headers. Values are moved into the fields of the header that is filled, and no label is copied before the 65th without a field of
 //! its own. What lies inside one another is read by a loop, so that it takes no stack.
 ghost use Rattle.std.specs.Prelude.{◌≡◌, ◌≢◌, ◌+◌, ◌*◌, ◌<◌, ◌≤◌, ℕ, [], MatchOption};
-ghost use Rattle.std.specs.Prelude.{MatchResult, IfOk, OnOk};
+ghost use Rattle.std.specs.Prelude.{MatchResult, IfOk, OnOk, None};
 ghost use Rattle.std.specs.Vec.Iter.{into_iter_items};
 ghost use Rattle.ciborium.specs.Front.{Reads};
 ghost use Rattle.ciborium_value.specs.Tree as spec;
@@ -9,7 +9,7 @@ ghost use Rattle.ciborium_value.specs.Tree.{Tree};
 ghost use Rattle.ciborium_value.specs.View.{view, views, view_pairs};
 ghost use Rattle.coset_labels.specs.Faults.{OrMemory, fault_of};
 ghost use Rattle.coset_labels.specs.declared.error.CoseError.TheVariants.{Memory};
-ghost use Rattle.coset_headers.specs.Fields.{no_header};
+ghost use Rattle.coset_headers.specs.Fields.{no_header, protected};
 ghost use Rattle.coset_headers.specs.Headers.{HasHeader, HasProtected, HasSignature, list_of_three};
 ghost use Rattle.coset_headers.specs.Levels.{Going, Signed, IsNext, Reading, ReadingSigned};
 ghost use Rattle.coset_headers.specs.Levels.{ReadingInside, open_left, signing_left, work};
@@ -124,7 +124,7 @@ pub(crate) fn fill_header(
     layers: usize,
     into: &mut Header,
 ) -> Result<(), CoseError>
-    requires { header_view into ≡ no_header }
+    requires empty { header_view into ≡ no_header }
     ensures { MatchResult result
         (λ _. HasHeader nesting (view value) (header_view into.new) layers)
         (λ e. OrMemory (WrongHeader nesting (view value) layers) e) }
@@ -141,7 +141,7 @@ fn fill_entries(
     layers: usize,
     into: &mut Header,
 ) -> Result<(), CoseError>
-    requires { header_view into ≡ no_header }
+    requires empty { header_view into ≡ no_header }
     ensures { MatchResult result
         (λ _. HasHeader nesting (spec.map (view_pairs entries.items)) (header_view into.new) layers)
         (λ e. OrMemory (WrongHeader nesting (spec.map (view_pairs entries.items)) layers) e) }
@@ -423,13 +423,28 @@ pub(crate) fn read_protected(
     ensures { MatchResult result (λ p. HasProtected nesting (view value) (protected_view p) layers)
         (λ e. OrMemory (WrongProtected nesting (view value) layers) e) }
 {
+    let mut protected = ProtectedHeader::new(alloc);
+    fill_protected(alloc, value, nesting, layers, &mut protected)?;
+    Ok(protected)
+}
+
+/// Reads the byte string of a protected header into an empty one, and keeps its bytes.
+pub(crate) fn fill_protected(
+    alloc: Global,
+    value: Value,
+    nesting: usize,
+    layers: usize,
+    into: &mut ProtectedHeader,
+) -> Result<(), CoseError>
+    requires empty { protected_view into ≡ protected None no_header }
+    ensures { MatchResult result
+        (λ _. HasProtected nesting (view value) (protected_view into.new) layers)
+        (λ e. OrMemory (WrongProtected nesting (view value) layers) e) }
+{
     let (bytes, inside) = open_protected(alloc, value, nesting, layers)?;
-    let mut header = Header::new(alloc);
     if let Some(entries) = inside {
-        fill_entries(alloc, entries, nesting, layers - 1, &mut header)?;
+        fill_entries(alloc, entries, nesting, layers - 1, &mut into.header)?;
     }
-    Ok(ProtectedHeader {
-        original_data: Some(bytes),
-        header,
-    })
+    into.original_data = Some(bytes);
+    Ok(())
 }

@@ -13,6 +13,6 @@ returns-in-None-clause-read c = λ n k t v s r x h.
     record {
       inner = r.inner;
       within = r.within;
-      going = signed_done n r.inner c.args.top.now _ v _ r.signed (next_done n _ v s c.args.done.items _ _ c.args.signature x none h c.in_ok-push.ensures.items) refl refl refl
+      going = signed_done n r.inner c.args.top.now _ c.args.into.now _ v _ r.signed (next_done n _ v s c.args.done.items _ _ c.args.signature x none h c.in_ok-push.ensures.items) refl refl refl
           c.sign.ensures.plain c.sign.ensures.signs;
     }

@@ -9,7 +9,7 @@ use Rattle.coset_headers.specs.Walks.{iv_second, partial_iv_second}
 use Rattle.coset_headers.specs.Wrong.{WrongCrit, WrongContentType, wrong_alg, wrong_crit, wrong_content_type, wrong_key_id, wrong_iv, wrong_partial_iv}
 use Rattle.coset_headers.proofs.Empty.{full_vec, empty_vec}
 use Rattle.coset_headers.proofs.Steps.{fill_wrong, field_fault}
-use Rattle.coset_headers.proofs.parts.HeaderParts.fill.Goals as goal
+use Rattle.coset_headers.proofs.parts.Header.set.Goals as goal
 
 pub returns-in_err-alg-in-Alg : goal.returns-in_err-alg-in-Alg
 returns-in_err-alg-in-Alg c =

@@ -4,7 +4,7 @@ use Rattle.coset_headers.specs.Parts.{plain_of}
 use Rattle.coset_headers.specs.View.{entry_view}
 use Rattle.coset_headers.specs.Written.{twice}
 use Rattle.coset_headers.proofs.Pushed.{map_done}
-use Rattle.coset_headers.proofs.parts.HeaderParts.write.Goals as goal
+use Rattle.coset_headers.proofs.entries.Header.write.Goals as goal
 
 pub returns : goal.returns
 returns c =
