@@ -1,27 +1,26 @@
 -- Whether the label of an entry is new, by the fields that the entries before gave.
-use Rattle.std.proofs.Common.{◌≡◌, ℕ, pos, cond, inl, inr, ◌⊎◌, List, [], ◌∷◌, ◌++◌, length, map, Bool, true, false, Option, Some, None, option_map, option_and_then, refl, sym, ap, subst, ◌∙◌, arith, append_assoc, append-nil, length-append, length-map, take, drop}
+use Rattle.std.proofs.Common.{◌≡◌, ℕ, pos, cond, inl, inr, ◌⊎◌, ⊎_elim, ◌+◌, ◌<◌, ◌≤◌, zero, suc, List, [], ◌∷◌, ◌++◌, length, map, Bool, true, false, Option, Some, None, option_map, option_and_then, refl, sym, ap, subst, ◌∙◌, arith, append_assoc, append-nil, length-append, take, take_all, get_or}
 use Rattle.std.specs.Prelude.{MatchBool}
-use Rattle.std.specs.Ordering.{on}
+use Rattle.std.proofs.lemmas.List.{map-append, take_more, take-append-le}
+use Rattle.ciborium_value.specs.declared.value.Value.{Value}
 use Rattle.ciborium_value.specs.Tree.{Tree, integer, bytes, text, array, map as map_tree, tag, simple, float, Trees, no_trees, one_more}
 use Rattle.coset_labels.specs.Facts.Entries.{label_only, in_front, in_snoc}
 use Rattle.coset_labels.specs.Fields.{LabelFields, number, Named}
 use Rattle.coset_labels.specs.Kinds.{some_bytes}
-use Rattle.coset_labels.specs.Orders.{label_cmp}
-use Rattle.coset_labels.specs.SeenLabels as keys
 use Rattle.coset_labels.specs.View.{label_view}
 use Rattle.coset_labels.specs.declared.label.Label.{Label}
 use Rattle.coset_labels.specs.declared.seen_labels.SeenLabels.{SeenLabels}
 use Rattle.coset_headers.specs.Fields.{Plain, header, no_plain, no_header, Signatures, no_signatures, signature_more}
 use Rattle.coset_headers.specs.Headers.{is_at, is_core, alg_of, crit_of, parameter_of, parameters_of, at, IsIn, others, IsField, HasContentType, IsPlain, HasSigned}
-use Rattle.coset_headers.specs.Parts.{plain_of, signs_of, Sees, SeesMany, IsFresh, Known}
-use Rattle.coset_headers.specs.View.{header_view}
+use Rattle.coset_headers.specs.Parts.{plain_of, signs_of, SeesLabels, Sees, SeesMany, IsFresh, Known}
+use Rattle.coset_headers.specs.View.{header_view, entry_view}
 use Rattle.coset_headers.specs.Written.{is_absent, is_nil, is_unsigned}
 use Rattle.coset_headers.specs.declared.header.Header.{Header}
 use Rattle.coset_headers.proofs.Alike.{header_is}
 use Rattle.coset_headers.proofs.Entered.{cond_none, bool_cases, is_at_is, none_plain, others_core, others_more}
 
 -- ---- at the beginning
-pub sees_none : (s : SeenLabels Label) → keys.Sees (on label_view label_cmp) label_view s [] → Sees s []
+pub sees_none : (s : SeenLabels Label) → SeesLabels s [] → Sees s []
 sees_none s a = record { few = []; more = []; are = refl; at_most = omega arith; full = inr refl; sees = a }
 
 pub known_none : (n : ℕ) (h : Header) (k : ℕ) → header_view h ≡ no_header → Known n [] (plain_of h) (signs_of h) k
@@ -156,3 +155,71 @@ pub fresh_other : (es rest : List (LabelFields × Tree)) (m : LabelFields) (s : 
 fresh_other es rest m s true c r g =
     (λ p. g.0 (subst (IsIn m) (sym r) (in_other es m c p)), λ v. subst (SeesMany s) (ap (λ z. z ++ (m, v) ∷ []) r ∙ sym (others_more es m v c)) (g.1 v))
 fresh_other es rest m s false c r g = other_in es m (subst (IsIn m) r g)
+
+-- ---- the first 64, and those after them
+in_both : (m : LabelFields) (xs ys : List (LabelFields × Tree)) → IsIn m (xs ++ ys) → IsIn m xs ⊎ IsIn m ys
+in_both m [] ys p = inr p
+in_both m (x ∷ xs) ys (inl q) = inl (inl q)
+in_both m (x ∷ xs) ys (inr p) = ⊎_elim (λ a. inl (inr a)) (λ b. inr b) (in_both m xs ys p)
+
+in_back : (m : LabelFields) (xs ys : List (LabelFields × Tree)) → IsIn m ys → IsIn m (xs ++ ys)
+in_back m [] ys p = p
+in_back m (x ∷ xs) ys p = inr (in_back m xs ys p)
+
+more_none : (few more rest : List (LabelFields × Tree)) → rest ≡ few ++ more → length rest < 64 → (length few ≡ 64) ⊎ (more ≡ []) → more ≡ []
+more_none few more rest q h (inr e) = e
+more_none few more rest q h (inl e) = let a = ap length q in let b = length-append few more in absurd (omega (arith, a, b, e, h))
+
+-- there is no more than the first 64
+pub few_fresh : (s : SeenLabels Label) (rest : List (LabelFields × Tree)) (m : LabelFields) → SeesMany s rest → length rest < 64 → (v : Tree) → SeesMany s (rest ++ (m, v) ∷ [])
+few_fresh s rest m g h v =
+    let none = more_none g.few g.more rest g.are h g.full in
+    let l = length-append rest ((m, v) ∷ []) in
+    record { few = rest ++ (m, v) ∷ []; more = []; are = sym (append-nil (rest ++ (m, v) ∷ [])); at_most = omega (arith, l, h); full = inr refl; sees = subst (SeesLabels s) none g.sees }
+
+front_full : (few more rest : List (LabelFields × Tree)) → rest ≡ few ++ more → 64 ≤ length rest → length few ≤ 64 → (length few ≡ 64) ⊎ (more ≡ []) → length few ≡ 64
+front_full few more rest q h k (inl e) = e
+front_full few more rest q h k (inr e) = let a = ap length q in let b = length-append few more in let d = ap length e in omega (arith, a, b, d, h, k)
+
+take_front : (few more : List (LabelFields × Tree)) (n : ℕ) → length few ≡ n → take n (few ++ more) ≡ few
+take_front few more n e = take-append-le n few more (omega (arith, e)) ∙ take_all n few (omega (arith, e))
+
+module _ (s : SeenLabels Label) (rest : List (LabelFields × Tree)) (m : LabelFields) (g : SeesMany s rest) (h : 64 ≤ length rest) where
+  full_front : length g.few ≡ 64
+  full_front = front_full g.few g.more rest g.are h g.at_most g.full
+
+  front_is : take 64 rest ≡ g.few
+  front_is = ap (take 64) g.are ∙ take_front g.few g.more 64 full_front
+
+  -- it is among the first
+  pub front_again : IsIn m (take 64 rest) → IsIn m rest
+  front_again p = subst (IsIn m) (sym g.are) (in_front m g.few g.more (subst (IsIn m) front_is p))
+
+  -- it is not, and was looked for among the others
+  pub more_fresh : (new : SeenLabels Label) (b : Bool) → (IsIn m (take 64 rest) → ⊥)
+      → MatchBool b ((IsIn m g.more → ⊥) × ((v : Tree) → SeesLabels new (g.more ++ (m, v) ∷ []))) (IsIn m g.more × SeesLabels new g.more)
+      → MatchBool b ((IsIn m rest → ⊥) × ((v : Tree) → SeesMany new (rest ++ (m, v) ∷ []))) (IsIn m rest)
+  more_fresh new true n w = (
+    λ p. ⊎_elim (λ a. n (subst (IsIn m) (sym front_is) a)) w.0 (in_both m g.few g.more (subst (IsIn m) g.are p)),
+    λ v. record {
+      few = g.few;
+      more = g.more ++ (m, v) ∷ [];
+      are = ap (λ z. z ++ (m, v) ∷ []) g.are ∙ append_assoc g.few g.more ((m, v) ∷ []);
+      at_most = g.at_most;
+      full = inl full_front;
+      sees = w.1 v;
+    },
+  )
+  more_fresh new false n w = subst (IsIn m) (sym g.are) (in_back m g.few g.more w.0)
+
+-- ---- a label among entries that are compared one by one
+pub among_here : (m : LabelFields) (es : List (Label × Value)) (i : ℕ) (d : Label × Value) → i < length es → m ≡ label_view (get_or es i d).0 → IsIn m (map entry_view es)
+among_here m [] i d h e = absurd (omega (arith, h))
+among_here m (x ∷ es) zero d h e = inl e
+among_here m (x ∷ es) (suc i) d h e = inr (among_here m es i d (omega (arith, h)) e)
+
+pub among_more : (m : LabelFields) (es : List (Label × Value)) (i : ℕ) (d : Label × Value) → i < length es → (IsIn m (map entry_view (take i es)) → ⊥) → (m ≡ label_view (get_or es i d).0 → ⊥)
+    → IsIn m (map entry_view (take (i + 1) es)) → ⊥
+among_more m es i d h n k p =
+    let same : map entry_view (take (i + 1) es) ≡ map entry_view (take i es) ++ entry_view (get_or es i d) ∷ [] = ap (map entry_view) (take_more i es d h) ∙ map-append entry_view (take i es) (get_or es i d ∷ []) in
+    ⊎_elim n k (in_snoc m (label_view (get_or es i d).0) (map entry_view (take i es)) (entry_view (get_or es i d)).1 (subst (IsIn m) same p))

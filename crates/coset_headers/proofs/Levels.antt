@@ -10,17 +10,13 @@ use Rattle.ciborium.specs.Front.{Reads}
 use Rattle.coset_labels.specs.Faults.{CoseFault, OrMemory, fault_of}
 use Rattle.coset_labels.specs.Fields.{LabelFields}
 use Rattle.coset_labels.specs.Labels.{label_of}
-use Rattle.std.specs.Ordering.{on}
-use Rattle.coset_labels.specs.Orders.{label_cmp}
-use Rattle.coset_labels.specs.SeenLabels as keys
-use Rattle.coset_labels.specs.View.{label_view}
 use Rattle.coset_labels.specs.declared.error.CoseError.{CoseError}
 use Rattle.coset_labels.specs.declared.label.Label.{Label}
 use Rattle.coset_labels.specs.declared.seen_labels.SeenLabels.{SeenLabels}
 use Rattle.coset_headers.specs.Fields.{HeaderFields, no_header, protected, signature, Signatures, signatures}
 use Rattle.coset_headers.specs.Headers.{is_at, IsIn, IsBare, IsList, list_of_three, HasHeader, HasSignature, HasSigned, HasSignatures}
 use Rattle.coset_headers.specs.Levels.{Going, Signed, IsNext, alone, listed, IsHalf, Around, Within, ReadingSigned, ReadingInside, open_left, signing_left, levels_left}
-use Rattle.coset_headers.specs.Parts.{plain_of, signs_of, Sees, Known, Added}
+use Rattle.coset_headers.specs.Parts.{plain_of, signs_of, SeesLabels, Sees, Known, Added}
 use Rattle.coset_headers.specs.View.{header_view, signature_view, signatures_view}
 use Rattle.coset_headers.specs.Wrong.{WrongHeader, at_entry, WrongEntry, bad_signatures, WrongSigned, in_bare, in_list, WrongSignature, in_protected, in_unprotected, WrongProtected, inside}
 use Rattle.coset_headers.specs.declared.header.CoseSignature.{CoseSignature, roll-CoseSignature}
@@ -38,7 +34,7 @@ use Rattle.coset_headers.proofs.Steps.{passed_on, known_signed, signed_one, sign
 
 -- ---- one open header
 pub starts : (n : ℕ) (es : List (Value × Value)) (it : IntoIter (Value × Value) Global) (s : SeenLabels Label) (h : Header) (k : ℕ) → into_iter_items it ≡ es
-    → keys.Sees (on label_view label_cmp) label_view s [] → header_view h ≡ no_header → Going n (map_tree (view_pairs es)) (record { entries = it; seen = s; layers = k }) h
+    → SeesLabels s [] → header_view h ≡ no_header → Going n (map_tree (view_pairs es)) (record { entries = it; seen = s; layers = k }) h
 starts n es it s h k e a q = record { before = []; es = []; is = ap (λ z. map_tree (view_pairs z)) (sym e); read_before = refl; known = record { sees = sees_none s a; known = known_none n h k q } }
 
 -- a fault of the next entry

@@ -16,6 +16,10 @@ use Rattle.coset_headers.specs.Headers.{is_core, alg_of, crit_of, HasContentType
 use Rattle.coset_headers.specs.View.{plain_parts, signatures_view}
 use Rattle.coset_headers.specs.declared.header.Header.{Header, out-Header}
 
+-- the labels of these entries, and no others, were seen
+abbrev pub SeesLabels : SeenLabels Label → List (LabelFields × Tree) → Type 0
+SeesLabels = keys.Sees (on label_view label_cmp) label_view
+
 -- the labels of the entries that come after the first 64 were seen, and no others
 pub record SeesMany (s : SeenLabels Label) (es : List (LabelFields × Tree)) : Type 0 where
   pub few : List (LabelFields × Tree)
@@ -23,7 +27,7 @@ pub record SeesMany (s : SeenLabels Label) (es : List (LabelFields × Tree)) : T
   pub are : es ≡ few ++ more
   pub at_most : length few ≤ 64
   pub full : (length few ≡ 64) ⊎ (more ≡ [])
-  pub sees : keys.Sees (on label_view label_cmp) label_view s more
+  pub sees : SeesLabels s more
 
 -- and so were those of the labels without a field among these entries
 abbrev pub Sees : SeenLabels Label → List (LabelFields × Tree) → Type 0
