@@ -1,7 +1,10 @@
 -- Whether the label of an entry is new, by the fields that the entries before gave.
-use Rattle.std.proofs.Common.{◌≡◌, ℕ, pos, cond, inl, inr, ◌⊎◌, ⊎_elim, ◌+◌, ◌<◌, ◌≤◌, zero, suc, List, [], ◌∷◌, ◌++◌, length, map, Bool, true, false, Option, Some, None, option_map, option_and_then, refl, sym, ap, subst, ◌∙◌, arith, append_assoc, append-nil, length-append, take, take_all, get_or}
-use Rattle.std.specs.Prelude.{MatchBool}
-use Rattle.std.proofs.lemmas.List.{map-append, take_more, take-append-le}
+use Rattle.std.proofs.Common.{◌≡◌, ℕ, pos, cond, inl, inr, ◌⊎◌, ⊎_elim, ◌+◌, ◌<◌, ◌≤◌, zero, suc, List, [], ◌∷◌, ◌++◌, length, map, Bool, true, false, Option, Some, None, option_map, option_and_then, refl, sym, ap, subst, ◌∙◌, arith, append_assoc, append-nil, length-append, take, take_all, get_or, is_some, not, is_eq, vec_len, Vec, Global}
+use Rattle.std.specs.Prelude.{MatchBool, ◌==◌}
+use borrow.Author.Tests.{eqb-true}
+use Rattle.coset_labels.specs.Orders.{label_cmp, labels_same}
+use Rattle.coset_headers.specs.declared.header.CoseSignature.{CoseSignature}
+use Rattle.std.proofs.lemmas.List.{length-map, map-append, take_more, take-append-le}
 use Rattle.ciborium_value.specs.declared.value.Value.{Value}
 use Rattle.ciborium_value.specs.Tree.{Tree, integer, bytes, text, array, map as map_tree, tag, simple, float, Trees, no_trees, one_more}
 use Rattle.coset_labels.specs.Facts.Entries.{label_only, in_front, in_snoc}
@@ -13,7 +16,7 @@ use Rattle.coset_labels.specs.declared.seen_labels.SeenLabels.{SeenLabels}
 use Rattle.coset_headers.specs.Fields.{Plain, header, no_plain, no_header, Signatures, no_signatures, signature_more}
 use Rattle.coset_headers.specs.Headers.{is_at, is_core, alg_of, crit_of, parameter_of, parameters_of, at, IsIn, others, IsField, HasContentType, IsPlain, HasSigned}
 use Rattle.coset_headers.specs.Parts.{plain_of, signs_of, SeesLabels, Sees, SeesMany, IsFresh, Known}
-use Rattle.coset_headers.specs.View.{header_view, entry_view}
+use Rattle.coset_headers.specs.View.{header_view, entry_view, signatures_view}
 use Rattle.coset_headers.specs.Written.{is_absent, is_nil, is_unsigned}
 use Rattle.coset_headers.specs.declared.header.Header.{Header}
 use Rattle.coset_headers.proofs.Alike.{header_is}
@@ -37,15 +40,14 @@ none_in i (x ∷ es) m s e (inl q) =
     let h : Some x.1 ≡ None = sym (ap (λ b. cond {A = Option Tree} b (Some x.1) (at i es)) (ap (is_at i) (sym q) ∙ s)) ∙ e in cc
 none_in i (x ∷ es) m s e (inr p) = let c = cond_none (is_at i x.0) x.1 (at i es) None e in none_in i es m s c.0 p
 
-mutual
-  some_in : (i : ℕ) (es : List (LabelFields × Tree)) (m : LabelFields) (c : Tree) → is_at i m ≡ true → at i es ≡ Some c → IsIn m es
-  some_in i [] m c s e = let h : None ≡ Some c = e in cc
-  some_in i (x ∷ es) m c s e = some_by i x es m c s e (bool_cases (is_at i x.0))
+some_step : (i : ℕ) (x : LabelFields × Tree) (es : List (LabelFields × Tree)) (m : LabelFields) (c : Tree) → is_at i m ≡ true → (at i es ≡ Some c → IsIn m es) → at i (x ∷ es) ≡ Some c
+    → (is_at i x.0 ≡ true) ⊎ (is_at i x.0 ≡ false) → IsIn m (x ∷ es)
+some_step i x es m c s r e (inl t) = inl (label_only i m s x.0 t)
+some_step i x es m c s r e (inr f) = inr (r (sym (ap (λ b. cond {A = Option Tree} b (Some x.1) (at i es)) f) ∙ e))
 
-  some_by : (i : ℕ) (x : LabelFields × Tree) (es : List (LabelFields × Tree)) (m : LabelFields) (c : Tree) → is_at i m ≡ true → at i (x ∷ es) ≡ Some c
-      → (is_at i x.0 ≡ true) ⊎ (is_at i x.0 ≡ false) → IsIn m (x ∷ es)
-  some_by i x es m c s e (inl t) = inl (label_only i m s x.0 t)
-  some_by i x es m c s e (inr f) = inr (some_in i es m c s (sym (ap (λ b. cond {A = Option Tree} b (Some x.1) (at i es)) f) ∙ e))
+some_in : (i : ℕ) (es : List (LabelFields × Tree)) (m : LabelFields) (c : Tree) → is_at i m ≡ true → at i es ≡ Some c → IsIn m es
+some_in i [] m c s e = let h : None ≡ Some c = e in cc
+some_in i (x ∷ es) m c s e = some_step i x es m c s (some_in i es m c s) e (bool_cases (is_at i x.0))
 
 fresh_true : (es : List (LabelFields × Tree)) (m : LabelFields) (s : SeenLabels Label) (b : Bool) (i : ℕ) → is_at i m ≡ true → is_core m ≡ true → Sees s es → b ≡ true → at i es ≡ None → IsFresh m es s b
 fresh_true es m s b i a c g e o = subst (IsFresh m es s) (sym e) (none_in i es m a o, λ v. subst (SeesMany s) (sym (others_core es m v c)) g)
@@ -125,29 +127,32 @@ module _ (n k : ℕ) (es : List (LabelFields × Tree)) (p : Plain) (ss : Signatu
   fresh_signs q e = at_number 7 q (signs_by n k es s b ss g w.signed e)
 
 -- ---- a label without one
-mutual
-  in_other : (es : List (LabelFields × Tree)) (m : LabelFields) → is_core m ≡ false → IsIn m es → IsIn m (others es)
-  in_other [] m c p = p
-  in_other (x ∷ es) m c p = in_other_by x es m c p (bool_cases (is_core x.0))
+others_by : (x : LabelFields × Tree) (es : List (LabelFields × Tree)) (b : Bool) → is_core x.0 ≡ b → others (x ∷ es) ≡ cond b (others es) (x ∷ others es)
+others_by x es b e = ap (λ z. cond {A = List (LabelFields × Tree)} z (others es) (x ∷ others es)) e
 
-  in_other_by : (x : LabelFields × Tree) (es : List (LabelFields × Tree)) (m : LabelFields) → is_core m ≡ false → IsIn m (x ∷ es) → (is_core x.0 ≡ true) ⊎ (is_core x.0 ≡ false) → IsIn m (others (x ∷ es))
-  in_other_by x es m c (inl q) (inl t) = let h : true ≡ false = sym t ∙ ap is_core (sym q) ∙ c in cc
-  in_other_by x es m c (inr p) (inl t) = subst (IsIn m) (ap (λ b. cond {A = List (LabelFields × Tree)} b (others es) (x ∷ others es)) (sym t)) (in_other es m c p)
-  in_other_by x es m c (inl q) (inr f) = subst (IsIn m) (ap (λ b. cond {A = List (LabelFields × Tree)} b (others es) (x ∷ others es)) (sym f)) (inl q)
-  in_other_by x es m c (inr p) (inr f) = subst (IsIn m) (ap (λ b. cond {A = List (LabelFields × Tree)} b (others es) (x ∷ others es)) (sym f)) (inr (in_other es m c p))
+other_step : (x : LabelFields × Tree) (es : List (LabelFields × Tree)) (m : LabelFields) → is_core m ≡ false → (IsIn m es → IsIn m (others es)) → IsIn m (x ∷ es)
+    → (is_core x.0 ≡ true) ⊎ (is_core x.0 ≡ false) → IsIn m (others (x ∷ es))
+other_step x es m c r (inl q) (inl t) = let h : true ≡ false = sym t ∙ ap is_core (sym q) ∙ c in cc
+other_step x es m c r (inr p) (inl t) = subst (IsIn m) (sym (others_by x es true t)) (r p)
+other_step x es m c r (inl q) (inr f) = subst (IsIn m) (sym (others_by x es false f)) (inl q)
+other_step x es m c r (inr p) (inr f) = subst (IsIn m) (sym (others_by x es false f)) (inr (r p))
 
-mutual
-  other_in : (es : List (LabelFields × Tree)) (m : LabelFields) → IsIn m (others es) → IsIn m es
-  other_in [] m p = p
-  other_in (x ∷ es) m p = other_in_by x es m p (bool_cases (is_core x.0))
+in_other : (es : List (LabelFields × Tree)) (m : LabelFields) → is_core m ≡ false → IsIn m es → IsIn m (others es)
+in_other [] m c p = p
+in_other (x ∷ es) m c p = other_step x es m c (in_other es m c) p (bool_cases (is_core x.0))
 
-  other_in_by : (x : LabelFields × Tree) (es : List (LabelFields × Tree)) (m : LabelFields) → IsIn m (others (x ∷ es)) → (is_core x.0 ≡ true) ⊎ (is_core x.0 ≡ false) → IsIn m (x ∷ es)
-  other_in_by x es m p (inl t) = inr (other_in es m (subst (IsIn m) (ap (λ b. cond {A = List (LabelFields × Tree)} b (others es) (x ∷ others es)) t) p))
-  other_in_by x es m p (inr f) = kept_in x es m (subst (IsIn m) (ap (λ b. cond {A = List (LabelFields × Tree)} b (others es) (x ∷ others es)) f) p)
+kept_in : (x : LabelFields × Tree) (es : List (LabelFields × Tree)) (m : LabelFields) → (IsIn m (others es) → IsIn m es) → IsIn m (x ∷ others es) → IsIn m (x ∷ es)
+kept_in x es m r (inl q) = inl q
+kept_in x es m r (inr p) = inr (r p)
 
-  kept_in : (x : LabelFields × Tree) (es : List (LabelFields × Tree)) (m : LabelFields) → IsIn m (x ∷ others es) → IsIn m (x ∷ es)
-  kept_in x es m (inl q) = inl q
-  kept_in x es m (inr p) = inr (other_in es m p)
+in_step : (x : LabelFields × Tree) (es : List (LabelFields × Tree)) (m : LabelFields) → (IsIn m (others es) → IsIn m es) → IsIn m (others (x ∷ es))
+    → (is_core x.0 ≡ true) ⊎ (is_core x.0 ≡ false) → IsIn m (x ∷ es)
+in_step x es m r p (inl t) = inr (r (subst (IsIn m) (others_by x es true t) p))
+in_step x es m r p (inr f) = kept_in x es m r (subst (IsIn m) (others_by x es false f) p)
+
+other_in : (es : List (LabelFields × Tree)) (m : LabelFields) → IsIn m (others es) → IsIn m es
+other_in [] m p = p
+other_in (x ∷ es) m p = in_step x es m (other_in es m) p (bool_cases (is_core x.0))
 
 -- what is known of the entries without a field is known of all
 pub fresh_other : (es rest : List (LabelFields × Tree)) (m : LabelFields) (s : SeenLabels Label) (b : Bool) → is_core m ≡ false → rest ≡ others es
@@ -221,5 +226,36 @@ among_here m (x ∷ es) (suc i) d h e = inr (among_here m es i d (omega (arith, 
 pub among_more : (m : LabelFields) (es : List (Label × Value)) (i : ℕ) (d : Label × Value) → i < length es → (IsIn m (map entry_view (take i es)) → ⊥) → (m ≡ label_view (get_or es i d).0 → ⊥)
     → IsIn m (map entry_view (take (i + 1) es)) → ⊥
 among_more m es i d h n k p =
-    let same : map entry_view (take (i + 1) es) ≡ map entry_view (take i es) ++ entry_view (get_or es i d) ∷ [] = ap (map entry_view) (take_more i es d h) ∙ map-append entry_view (take i es) (get_or es i d ∷ []) in
+    let same : map entry_view (take (i + 1) es) ≡ map entry_view (take i es) ++ entry_view (get_or es i d) ∷ [] = ap (map entry_view) (take_more es i d h) ∙ map-append entry_view (take i es) (get_or es i d ∷ []) in
     ⊎_elim n k (in_snoc m (label_view (get_or es i d).0) (map entry_view (take i es)) (entry_view (get_or es i d)).1 (subst (IsIn m) same p))
+
+pub differs : (l m : LabelFields) → is_eq (label_cmp l m) ≡ false → (l ≡ m) → ⊥
+differs l m e q = let h : is_eq (label_cmp l m) ≡ true = (labels_same l m).1 q in let k : true ≡ false = sym h ∙ e in cc
+
+pub front_long : (es : List (Label × Value)) → 64 ≤ length es → 64 ≤ length (map entry_view es)
+front_long es h = let e = length-map es entry_view in omega (arith, e, h)
+
+-- ---- what a field is tested by
+pub none_absent : {A : Type 0} (f : A → Named) (o : Option A) (b : Bool) → is_some o ≡ not b → b ≡ is_absent (option_map f o)
+none_absent f None true e = refl
+none_absent f None false e = let h : false ≡ true = e in cc
+none_absent f (Some x) true e = let h : true ≡ false = e in cc
+none_absent f (Some x) false e = refl
+
+not_true : (b : Bool) → (b ≡ true → ⊥) → b ≡ false
+not_true true h = absurd (h refl)
+not_true false h = refl
+
+nil_count : (xs : List ℕ) → (length xs == 0) ≡ is_nil xs
+nil_count [] = refl
+nil_count (x ∷ xs) = not_true (length (x ∷ xs) == 0) (λ h. let e : length (x ∷ xs) ≡ 0 = eqb-true (length (x ∷ xs)) 0 h in absurd (omega (arith, e)))
+
+pub nil_items : (v : Vec ℕ Global) (b : Bool) → b ≡ (vec_len v == 0) → b ≡ is_nil v.items
+nil_items v b e = e ∙ ap (λ n. n == 0) v.ok.0 ∙ nil_count v.items
+
+unsigned_count : (ss : List CoseSignature) → (length ss == 0) ≡ is_unsigned (signatures_view ss)
+unsigned_count [] = refl
+unsigned_count (s ∷ ss) = not_true (length (s ∷ ss) == 0) (λ h. let e : length (s ∷ ss) ≡ 0 = eqb-true (length (s ∷ ss)) 0 h in absurd (omega (arith, e)))
+
+pub nil_signs : (v : Vec CoseSignature Global) (b : Bool) → b ≡ (vec_len v == 0) → b ≡ is_unsigned (signatures_view v.items)
+nil_signs v b e = e ∙ ap (λ n. n == 0) v.ok.0 ∙ unsigned_count v.items

@@ -35,15 +35,25 @@ impl Header {
         if repeats(alloc, &self.rest)? {
             return Err(CoseError::DuplicateMapKey);
         }
+        let Header {
+            alg,
+            crit,
+            content_type,
+            key_id,
+            iv,
+            partial_iv,
+            counter_signatures: _,
+            rest,
+        } = self;
         let mut entries = Vec::new(alloc);
-        push_alg(alloc, &mut entries, self.alg)?;
-        push_crit(alloc, &mut entries, self.crit)?;
-        push_content_type(alloc, &mut entries, self.content_type)?;
-        push_bytes(&mut entries, 4, self.key_id)?;
-        push_bytes(&mut entries, 5, self.iv)?;
-        push_bytes(&mut entries, 6, self.partial_iv)?;
+        push_alg(alloc, &mut entries, alg)?;
+        push_crit(alloc, &mut entries, crit)?;
+        push_content_type(alloc, &mut entries, content_type)?;
+        push_bytes(&mut entries, 4, key_id)?;
+        push_bytes(&mut entries, 5, iv)?;
+        push_bytes(&mut entries, 6, partial_iv)?;
         push_signatures(&mut entries, signatures)?;
-        push_rest(alloc, &mut entries, self.rest)?;
+        push_rest(alloc, &mut entries, rest)?;
         Ok(Value::Map(entries))
     }
 }

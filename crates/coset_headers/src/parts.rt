@@ -142,16 +142,33 @@ impl Header {
             (λ e. OrMemory (WrongFill (label_view label) (view value) (plain_of self.old)) e) }
     {
         match place {
-            Place::Alg => self.alg = Some(Algorithm::from_cbor_value(alloc, value)?),
-            Place::Crit => self.crit = read_crit(alloc, value)?,
-            Place::ContentType => self.content_type = Some(read_content_type(alloc, value)?),
-            Place::KeyId => self.key_id = value.try_as_nonempty_bytes()?,
+            Place::Alg => {
+                let alg = Algorithm::from_cbor_value(alloc, value)?;
+                self.alg = Some(alg);
+                Ok(())
+            }
+            Place::Crit => {
+                let crit = read_crit(alloc, value)?;
+                self.crit = crit;
+                Ok(())
+            }
+            Place::ContentType => {
+                let content_type = read_content_type(alloc, value)?;
+                self.content_type = Some(content_type);
+                Ok(())
+            }
+            Place::KeyId => {
+                let key_id = value.try_as_nonempty_bytes()?;
+                self.key_id = key_id;
+                Ok(())
+            }
             Place::Iv => {
                 let iv = value.try_as_nonempty_bytes()?;
                 if !self.partial_iv.is_empty() {
                     return Err(two_ivs());
                 }
                 self.iv = iv;
+                Ok(())
             }
             Place::PartialIv => {
                 let partial_iv = value.try_as_nonempty_bytes()?;
@@ -159,11 +176,14 @@ impl Header {
                     return Err(two_ivs());
                 }
                 self.partial_iv = partial_iv;
+                Ok(())
             }
             Place::CounterSignatures => unreachable!(),
-            Place::Rest => self.rest.push((label, value))?,
+            Place::Rest => {
+                self.rest.push((label, value))?;
+                Ok(())
+            }
         }
-        Ok(())
     }
 }
 

@@ -124,7 +124,7 @@ pub(crate) fn fill_header(
     layers: usize,
     into: &mut Header,
 ) -> Result<(), CoseError>
-    requires empty { header_view into ≡ no_header }
+    requires empty { header_view into.old ≡ no_header }
     ensures { MatchResult result
         (λ _. HasHeader nesting (view value) (header_view into.new) layers)
         (λ e. OrMemory (WrongHeader nesting (view value) layers) e) }
@@ -141,7 +141,7 @@ fn fill_entries(
     layers: usize,
     into: &mut Header,
 ) -> Result<(), CoseError>
-    requires empty { header_view into ≡ no_header }
+    requires empty { header_view into.old ≡ no_header }
     ensures { MatchResult result
         (λ _. HasHeader nesting (spec.map (view_pairs entries.items)) (header_view into.new) layers)
         (λ e. OrMemory (WrongHeader nesting (spec.map (view_pairs entries.items)) layers) e) }
@@ -436,7 +436,7 @@ pub(crate) fn fill_protected(
     layers: usize,
     into: &mut ProtectedHeader,
 ) -> Result<(), CoseError>
-    requires empty { protected_view into ≡ protected None no_header }
+    requires empty { protected_view into.old ≡ protected None no_header }
     ensures { MatchResult result
         (λ _. HasProtected nesting (view value) (protected_view into.new) layers)
         (λ e. OrMemory (WrongProtected nesting (view value) layers) e) }

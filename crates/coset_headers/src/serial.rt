@@ -57,7 +57,7 @@ impl Header {
     /// # Errors
     /// A fault that the value has, or `Memory`.
     pub fn fill(&mut self, alloc: Global, value: Value, limits: Limits) -> Result<(), CoseError>
-        requires empty { header_view self ≡ no_header }
+        requires empty { header_view self.old ≡ no_header }
         ensures read { MatchResult result
             (λ _. HasHeader (nesting_of limits) (view value) (header_view self.new)
             (layers_of limits))
@@ -243,7 +243,7 @@ impl ProtectedHeader {
         value: Value,
         limits: Limits,
     ) -> Result<(), CoseError>
-        requires empty { protected_view self ≡ protected None no_header }
+        requires empty { protected_view self.old ≡ protected None no_header }
         ensures read { MatchResult result
             (λ _. HasProtected (nesting_of limits) (view value) (protected_view self.new)
             (layers_of limits))

@@ -15,7 +15,7 @@ turns-init c =
     record {
       inner = t;
       within = subst (λ z. Within c.args.nesting t c.args.layers z t c.new-top.result.layers) (sym c.new-below.ensures.items) (refl, c.new-top.ensures.layers);
-      going = c.new-top.ensures.going c.args.nesting c.args.into.now c.args.empty;
+      going = c.new-top.ensures.going c.args.nesting c.args.into.now c.requires.empty;
     }
 
 pub returns-in_err-value : goal.returns-in_err-value

@@ -38,7 +38,7 @@ returns-then-is_counter_signatures-clause-read c = λ n t r.
     let g = c.entries.invariant.going n t r in
     let d = rw c.if-not-fresh.false at (c.in_ok-fresh.ensures n c.entries.self.layers g.es g.known.known g.known.sees) in
     signs_next n t c.entries.self _ c.entries.into (c.in-Some.key, c.in-Some.value) _ _ g c.in-Some.ensures.items refl refl c.in_ok-label.ensures
-    (sym (c.is_counter_signatures.ensures _ c.place_of.ensures) ∙ c.if-is_counter_signatures.true) d.0 d.1
+    (sym (c.is_counter_signatures.ensures _ c.place_of-place.ensures) ∙ c.if-is_counter_signatures.true) d.0 d.1
 
 pub returns-in_err-set-clause-read : goal.returns-in_err-set-clause-read
 returns-in_err-set-clause-read c =
@@ -58,7 +58,7 @@ entries-preserved c = record {
       let g = c.entries.invariant.going n t r in
       let d = rw c.if-not-fresh.false at (c.in_ok-fresh.ensures n c.entries.self.layers g.es g.known.known g.known.sees) in
       filled n t c.entries.self _ c.entries.into _ (c.in-Some.key, c.in-Some.value) _ g c.in-Some.ensures.items refl
-      (known_filled n g.es _ _ _ c.entries.into _ _ _ g.known.known c.in_ok-label.ensures d.0 d.1 (sym (c.is_counter_signatures.ensures _ c.place_of.ensures) ∙ c.if-is_counter_signatures.false) c.in_ok-set.ensures);
+      (known_filled n g.es _ _ _ c.entries.into _ _ _ g.known.known c.in_ok-label.ensures d.0 d.1 (sym (c.is_counter_signatures.ensures _ c.place_of-place.ensures) ∙ c.if-is_counter_signatures.false) c.in_ok-set.ensures);
   layers = c.entries.invariant.layers;
   left = let e = ap (λ z. weight_pairs (view_pairs z)) c.in-Some.ensures.items in omega (arith, e, c.entries.invariant.left);
 }
