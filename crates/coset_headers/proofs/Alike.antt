@@ -7,7 +7,7 @@ use Rattle.cose_iana.specs.Formats.{coap_content_formats}
 use Rattle.cose_iana.specs.Headers.{header_parameters}
 use Rattle.coset_labels.specs.View.{registered_view, named_view}
 use Rattle.coset_headers.specs.Copies.{unsigned_header, unsigned}
-use Rattle.coset_headers.specs.Fields.{Plain, SignatureFields, HeaderFields, header, ProtectedFields, protected, signature, no_signatures, signature_more, signatures}
+use Rattle.coset_headers.specs.Fields.{SignatureFields, HeaderFields, header, ProtectedFields, protected, signature, no_signatures, signature_more, signatures}
 use Rattle.coset_headers.specs.View.{header_view, protected_view, signature_view, signatures_view, entry_view, plain_parts, signature_step, header_step, protected_step}
 use Rattle.coset_headers.specs.declared.header.Header.{Header, out-Header, roll-Header, roll-out-Header, out-roll-Header, fold-roll-Header}
 use Rattle.coset_headers.specs.declared.header.ProtectedHeader.{ProtectedHeader, out-ProtectedHeader, roll-ProtectedHeader, roll-out-ProtectedHeader, fold-roll-ProtectedHeader}

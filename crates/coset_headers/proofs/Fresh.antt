@@ -6,7 +6,7 @@ use Rattle.coset_labels.specs.Orders.{label_cmp, labels_same}
 use Rattle.coset_headers.specs.declared.header.CoseSignature.{CoseSignature}
 use Rattle.std.proofs.lemmas.List.{length-map, map-append, take_more, take-append-le}
 use Rattle.ciborium_value.specs.declared.value.Value.{Value}
-use Rattle.ciborium_value.specs.Tree.{Tree, integer, bytes, text, array, map as map_tree, tag, simple, float, Trees, no_trees, one_more}
+use Rattle.ciborium_value.specs.Tree.{Tree, integer, bytes, text, array, map as map_tree, tag, simple, float, no_trees, one_more}
 use Rattle.coset_labels.specs.Facts.Entries.{label_only, in_front, in_snoc}
 use Rattle.coset_labels.specs.Fields.{LabelFields, number, Named}
 use Rattle.coset_labels.specs.Kinds.{some_bytes}
@@ -20,7 +20,7 @@ use Rattle.coset_headers.specs.View.{header_view, entry_view, signatures_view}
 use Rattle.coset_headers.specs.Written.{is_absent, is_nil, is_unsigned}
 use Rattle.coset_headers.specs.declared.header.Header.{Header}
 use Rattle.coset_headers.proofs.Alike.{header_is}
-use Rattle.coset_headers.proofs.Entered.{cond_none, bool_cases, is_at_is, none_plain, others_core, others_more}
+use Rattle.coset_headers.proofs.Entered.{cond_none, bool_cases, none_plain, others_core, others_more}
 
 -- ---- at the beginning
 pub sees_none : (s : SeenLabels Label) → SeesLabels s [] → Sees s []

@@ -1,4 +1,4 @@
-use Rattle.std.proofs.Common.{[], ap, sym, subst, ◌∙◌, map}
+use Rattle.std.proofs.Common.{sym, subst, map}
 use Rattle.std.proofs.lemmas.List.{take-map}
 use Rattle.coset_labels.proofs.Items.{match_map}
 use Rattle.coset_labels.specs.View.{label_view}

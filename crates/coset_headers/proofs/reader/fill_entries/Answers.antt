@@ -1,10 +1,10 @@
-use Rattle.std.proofs.Common.{◌≡◌, [], ◌∷◌, refl, subst, sym, ap, ◌∙◌, arith, length, length-append}
+use Rattle.std.proofs.Common.{◌≡◌, [], ◌∷◌, refl, subst, sym, ap, arith, length, length-append}
 use Rattle.std.proofs.lemmas.Result.{err_from_is_err_and}
 use Rattle.ciborium_value.specs.Tree.{map}
 use Rattle.ciborium_value.specs.View.{view_pairs}
 use Rattle.coset_headers.specs.Headers.{HasHeader}
 use Rattle.coset_headers.specs.View.{header_view}
-use Rattle.coset_headers.specs.Levels.{Within, levels_left, open_left}
+use Rattle.coset_headers.specs.Levels.{Within, levels_left}
 use Rattle.coset_headers.proofs.Levels.{within_wrong, outermost, closes, levels_pushed}
 use Rattle.coset_headers.proofs.Empty.{length_zero}
 use Rattle.coset_headers.proofs.reader.fill_entries.Goals as goal

@@ -1,4 +1,4 @@
-use Rattle.std.proofs.Common.{rules, ap, inr, refl, Some, option_map}
+use Rattle.std.proofs.Common.{rules, ap, inr, Some, option_map}
 use Rattle.std.proofs.lemmas.Result.{err_from_is_err_and}
 use Rattle.cose_iana.specs.Algorithms.{is_algorithm}
 use Rattle.cose_iana.specs.Registry.{is_private_use}
