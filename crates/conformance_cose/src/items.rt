@@ -194,28 +194,28 @@ fn are_same_parts(to: &mut Out, first: &str, second: &str) {
 /// The parts that messages begin with, or none after the text of their error.
 fn parts(to: &mut Out, item: &str) -> Option<Parts> {
     match read::<Value>(to, item) {
-        Some(value) => parts_of(to, value),
+        Some(value) => {
+            let parts = parts_of(to.alloc(), value);
+            to.value(parts)
+        }
         None => None,
     }
 }
 
-fn parts_of(to: &mut Out, value: Value) -> Option<Parts> {
-    let items = value.try_as_array();
-    let parts = match to.value(items) {
-        None => return None,
-        Some(items) => match three(items) {
-            Some((protected, unprotected, content)) => read_parts(
-                to.alloc(),
+fn parts_of(alloc: Global, value: Value) -> Result<Parts, CoseError> {
+    match three(value.try_as_array()?) {
+        Some((protected, unprotected, content)) => {
+            read_parts(
+                alloc,
                 protected,
                 unprotected,
                 content,
                 Limits::default(),
                 "bstr",
-            ),
-            None => Err(CoseError::UnexpectedItem("array", "array with 3 items")),
-        },
-    };
-    to.value(parts)
+            )
+        }
+        None => Err(CoseError::UnexpectedItem("array", "array with 3 items")),
+    }
 }
 
 /// Whether what two items are read as is the same.
