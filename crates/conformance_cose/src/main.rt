@@ -1,5 +1,6 @@
-//! `conformance_cose`: reads rows from standard input, each a call with its arguments and the answer that is due, as
-//! `header a10126 -> a10126`. It prints each row whose answer is another, and last how many rows there were and how many differ.
+//! `conformance_cose`: reads rows from standard input, each a call with its arguments and the
+//! answer that is due, as `header a10126 -> a10126`. It prints each row whose answer is another,
+//! and last how many rows there were and how many differ.
 #![tactic(auto)]
 
 mod calls;

@@ -117,7 +117,8 @@ impl Out {
         }
     }
 
-    /// Appends what a copy is written as, and what the value itself is, where that is something else.
+    /// Appends what a copy is written as, and what the value itself is, where that is something
+    /// else.
     pub fn both(&mut self, copy: &Out, value: &Out) {
         self.append(copy);
         if copy.as_str() != value.as_str() {

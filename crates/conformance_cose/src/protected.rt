@@ -1,4 +1,5 @@
-//! Protected headers. An item stands for each: a byte string for one that was received, and a map for one that was not.
+//! Protected headers. An item stands for each: a byte string for one that was received, and a map
+//! for one that was not.
 use crate::items;
 use crate::out::Out;
 use coset::cbor::Value;
@@ -32,7 +33,8 @@ pub fn bstr(to: &mut Out, item: &str) {
     }
 }
 
-/// The byte string that a copy of what was read is written as, and that of the value itself, where that is another.
+/// The byte string that a copy of what was read is written as, and that of the value itself, where
+/// that is another.
 pub fn copied(to: &mut Out, read: Result<ProtectedHeader, CoseError>) {
     if let Some(read) = to.value(read) {
         let copied = read.clone(to.alloc());

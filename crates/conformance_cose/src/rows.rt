@@ -42,8 +42,9 @@ fn is_row(line: &str) -> bool {
     !line.is_empty() && !line.starts_with('#')
 }
 
-/// Whether the row's answer is the one that is due. If not, it is told: the number of the line, what was asked, and what was answered.
-/// No answer is empty, so a row without one that is due differs.
+/// Whether the row's answer is the one that is due. If not, it is told: the number of the line,
+/// what was asked, and what was answered. No answer is empty, so a row without one that is due
+/// differs.
 fn compare(told: &mut Out, index: usize, line: &str) -> bool {
     let (asked, due) = match line.split_once(" -> ") {
         Some(row) => row,

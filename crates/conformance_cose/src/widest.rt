@@ -4,8 +4,9 @@ use crate::out::{NoAnswer, Out};
 use coset::{Limits, bytes_title, read_to_value};
 use std::alloc::Global;
 
-/// The length of a message of some kind, in whose unprotected header as many counter signatures lie inside one another as a nesting and
-/// layers let through, if a copy of it is written back as the same bytes.
+/// The length of a message of some kind, in whose unprotected header as many counter signatures lie
+/// inside one another as a nesting and layers let through, if a copy of it is written back as the
+/// same bytes.
 pub fn written_back(to: &mut Out, nesting: &str, layers: &str, kind: &str) {
     match limits::limits(to, nesting, layers) {
         Some(limits) => of_kind(to, kind, limits),
@@ -29,7 +30,8 @@ fn of_kind(to: &mut Out, kind: &str, limits: Limits) {
     }
 }
 
-/// What stands before and behind the unprotected header of a message, in hex. Of a header nothing does.
+/// What stands before and behind the unprotected header of a message, in hex. Of a header nothing
+/// does.
 fn frame(kind: &str) -> (&'static str, &'static str) {
     match kind {
         "sign1" | "mac0" => ("8440", "4040"),
@@ -55,7 +57,7 @@ fn message(alloc: Global, kind: &str, limits: Limits) -> Out {
     message
 }
 
-/// A protected header of one layer less than the limit, in hex: with the message's own header around it there are as many as the limit.
+/// As many protected headers inside one another as the limit, in hex. The innermost is empty.
 fn protected(alloc: Global, limits: Limits) -> Out {
     let count = limits.nesting().saturating_sub(1) / 2;
     let mut inside = Out::new(alloc);
@@ -71,8 +73,8 @@ fn protected(alloc: Global, limits: Limits) -> Out {
     inside
 }
 
-/// Appends a header with so many counter signatures inside one another, each in the unprotected header of the one around it, and in the
-/// innermost this protected header.
+/// Appends a header with so many counter signatures inside one another, each in the unprotected
+/// header of the one around it, and in the innermost this protected header.
 fn header(to: &mut Out, count: usize, protected: &str) {
     for _ in 1..count {
         to.text("a1078340");
