@@ -6,7 +6,6 @@ use cose_gate::{About, Header, HmacJudge, Judge, MessageKind, ProtectedHeader};
 use cose_gate_hmac::is_good_tag;
 use coset_keys::CoseKeySet;
 use coset_labels::CborSerializable;
-use std::alloc::AllocError;
 
 /// The protected header that the next word is in hex, as received.
 fn read_protected(to: &mut Out, row: &mut &str) -> ProtectedHeader {
@@ -105,24 +104,19 @@ fn add_answer(to: &mut Out, judge: &mut HmacJudge, case: &Case, word: &str) {
     };
     let kind = kind_of(to, kind);
     let tag = words::decoded(to, tag);
-    match decided(judge, case, kind, &tag) {
-        Ok(yes) => to.yes_or_no(yes),
-        Err(_) => to.refuse(NoAnswer::Memory),
-    }
+    ask(to, judge, case, kind);
+    to.yes_or_no(judge.decide(&tag));
 }
 
-fn decided(
-    judge: &mut HmacJudge,
-    case: &Case,
-    kind: MessageKind,
-    tag: &[u8],
-) -> Result<bool, AllocError> {
+/// Begins a question, and feeds what is covered.
+fn ask(to: &mut Out, judge: &mut HmacJudge, case: &Case, kind: MessageKind) {
     let about = About::alone(kind, &case.protected, &case.unprotected);
-    judge.begin(&about)?;
+    let begun = judge.begin(&about);
+    to.note(begun);
     for piece in case.covered.chunks(case.size.max(1)) {
-        judge.feed(piece)?;
+        let fed = judge.feed(piece);
+        to.note(fed);
     }
-    Ok(judge.decide(tag))
 }
 
 fn kind_of(to: &mut Out, word: &str) -> MessageKind {
