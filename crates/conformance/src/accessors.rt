@@ -1,8 +1,7 @@
 //! What a value gives by its accessors.
-use crate::answers::{Answer, CallError, plain, value};
-use crate::notation::noted;
+use crate::notation::note;
+use crate::out::{CallError, Out};
 use ciborium_value::Value;
-use std::alloc::{AllocError, Global};
 
 /// The accessors that take a value apart.
 const TAKING: [&str; 5] = [
@@ -15,88 +14,102 @@ const TAKING: [&str; 5] = [
 
 /// Each accessor that gives something of the item, with what it gives: of an array or a map that is seen how long it is, and of a part
 /// that is changed the value then, a text with a mark behind it, a map without entries. `lost` where one gives another value back.
-pub fn accessors(alloc: Global, item: &str) -> Answer {
-    let mut text = String::new(alloc);
-    add_seen(alloc, &mut text, &value(alloc, item)?)?;
+pub fn accessors(to: &mut Out, item: &str) {
+    let value = to.value(item);
+    tell_parts(to, &value);
+    tell_lengths(to, &value);
     for name in TAKING {
-        match taken(name, value(alloc, item)?) {
-            Ok(content) => add(&mut text, name, noted(alloc, &content)?.as_str())?,
-            Err(back) if back == value(alloc, item)? => {}
-            Err(_) => add(&mut text, name, "lost")?,
-        }
+        tell_taken(to, name, &value, item);
     }
-    let mut value = value(alloc, item)?;
-    if let Some(name) = changed(&mut value)? {
-        add(&mut text, name, noted(alloc, &value)?.as_str())?;
+    tell_changed(to, value);
+    if to.is_empty() {
+        to.text("none");
     }
-    if text.is_empty() {
-        return plain(alloc, "none");
-    }
-    Ok(text)
 }
 
-/// Adds what one of them gives.
-fn add(text: &mut String, name: &str, given: &str) -> Result<(), AllocError> {
-    if !text.is_empty() {
-        text.push_str(", ")?;
-    }
-    text.push_str(name)?;
-    text.push_str(" ")?;
-    text.push_str(given)
+/// The name of one of them, in front of what it gives.
+fn name(to: &mut Out, name: &str) {
+    to.divide(", ");
+    to.text(name);
+    to.text(" ");
 }
 
-/// Adds what is seen of a value.
-fn add_seen(alloc: Global, text: &mut String, value: &Value) -> Result<(), CallError> {
+/// What is seen of a float, a text or a truth value.
+fn tell_parts(to: &mut Out, value: &Value) {
     if let Some(float) = value.as_float() {
-        add(
-            text,
-            "as_float",
-            noted(alloc, &Value::Float(float))?.as_str(),
-        )?;
+        name(to, "as_float");
+        note(to, &Value::Float(float));
     }
     if let Some(content) = value.as_text() {
-        add(text, "as_text", format!(in alloc; "{content:?}")?.as_str())?;
+        name(to, "as_text");
+        to.debug(&content);
     }
     if let Some(truth) = value.as_bool() {
-        add(text, "as_bool", if truth { "true" } else { "false" })?;
+        name(to, "as_bool");
+        to.show(&truth);
     }
+}
+
+/// How long an array or a map is that is seen.
+fn tell_lengths(to: &mut Out, value: &Value) {
     if let Some(items) = value.as_array() {
-        add(
-            text,
-            "as_array",
-            format!(in alloc; "{}", items.len())?.as_str(),
-        )?;
+        name(to, "as_array");
+        to.show(&items.len());
     }
     if let Some(entries) = value.as_map() {
-        add(
-            text,
-            "as_map",
-            format!(in alloc; "{}", entries.len())?.as_str(),
-        )?;
+        name(to, "as_map");
+        to.show(&entries.len());
     }
-    Ok(())
+}
+
+/// What this accessor takes out of the item, or that it gives another value back.
+fn tell_taken(to: &mut Out, accessor: &str, value: &Value, item: &str) {
+    let taken = to.value(item);
+    match taken_by(accessor, taken) {
+        Ok(content) => {
+            name(to, accessor);
+            note(to, &content);
+        }
+        Err(back) => {
+            if back != *value {
+                name(to, accessor);
+                to.text("lost");
+            }
+        }
+    }
 }
 
 /// What this accessor takes out of a value, as a value again, or the value that it gives back.
-fn taken(name: &str, value: Value) -> Result<Value, Value> {
-    match name {
-        "into_integer" => Ok(Value::Integer(value.into_integer()?)),
-        "into_float" => Ok(Value::Float(value.into_float()?)),
-        "into_bool" => Ok(Value::Bool(value.into_bool()?)),
-        "into_array" => Ok(Value::Array(value.into_array()?)),
-        _ => Ok(Value::Map(value.into_map()?)),
+fn taken_by(accessor: &str, value: Value) -> Result<Value, Value> {
+    match accessor {
+        "into_integer" => value.into_integer().map(Value::Integer),
+        "into_float" => value.into_float().map(Value::Float),
+        "into_bool" => value.into_bool().map(Value::Bool),
+        "into_array" => value.into_array().map(Value::Array),
+        _ => value.into_map().map(Value::Map),
+    }
+}
+
+/// The value with its text or its map changed.
+fn tell_changed(to: &mut Out, value: Value) {
+    let mut value = value;
+    if let Some(accessor) = changed(to, &mut value) {
+        name(to, accessor);
+        note(to, &value);
     }
 }
 
 /// Changes a text or a map, and names the accessor by which it did.
-fn changed(value: &mut Value) -> Result<Option<&'static str>, AllocError> {
+fn changed(to: &mut Out, value: &mut Value) -> Option<&'static str> {
     if let Some(content) = value.as_text_mut() {
-        content.push_str("!")?;
-        return Ok(Some("as_text_mut"));
+        if content.push_str("!").is_err() {
+            to.refuse(CallError::Memory);
+        }
+        return Some("as_text_mut");
     }
     if let Some(entries) = value.as_map_mut() {
         entries.clear();
-        return Ok(Some("as_map_mut"));
+        return Some("as_map_mut");
     }
-    Ok(None)
+    None
 }

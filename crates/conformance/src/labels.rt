@@ -1,100 +1,99 @@
 //! Labels, and values that are taken by kind.
-use crate::answers::{Answer, CallError, failure, made};
-use crate::notation::noted;
+use crate::notation::note;
+use crate::out::{CallError, Out};
 use ciborium::Value;
 use coset_labels::{
     Algorithm, AsCborValue, CborSerializable, ContentType, CoseError, KeyType, Label,
     RegisteredLabel, ValueTryAs, iana, to_cbor_array,
 };
-use std::alloc::Global;
 use std::fmt::Debug;
 
 /// The label that these bytes are, as Rust shows it, and as it is written.
-pub fn label(alloc: Global, kind: &str, bytes: &[u8]) -> Answer {
+pub fn label(to: &mut Out, kind: &str, bytes: &[u8]) {
     match kind {
-        "label" => read::<Label>(alloc, bytes),
-        "algorithm" => read::<Algorithm>(alloc, bytes),
-        "content-type" => read::<ContentType>(alloc, bytes),
-        "key-type" => read::<KeyType>(alloc, bytes),
-        "curve" => read::<RegisteredLabel<iana::EllipticCurve>>(alloc, bytes),
-        _ => Err(CallError::NoCall),
+        "label" => read::<Label>(to, bytes),
+        "algorithm" => read::<Algorithm>(to, bytes),
+        "content-type" => read::<ContentType>(to, bytes),
+        "key-type" => read::<KeyType>(to, bytes),
+        "curve" => read::<RegisteredLabel<iana::EllipticCurve>>(to, bytes),
+        _ => to.refuse(CallError::NoCall),
     }
 }
 
-fn read<T: CborSerializable + Debug>(alloc: Global, bytes: &[u8]) -> Answer {
-    match T::from_slice(alloc, bytes) {
-        Ok(label) => written(alloc, label),
-        Err(error) => failure(alloc, &error),
+fn read<T: CborSerializable + Debug>(to: &mut Out, bytes: &[u8]) {
+    match T::from_slice(to.alloc(), bytes) {
+        Ok(label) => {
+            to.debug(&label);
+            to.text(" written ");
+            let written = label.to_vec(to.alloc());
+            to.made(written);
+        }
+        Err(error) => to.failure(&error),
     }
-}
-
-fn written<T: CborSerializable + Debug>(alloc: Global, label: T) -> Answer {
-    let shown = format!(in alloc; "{label:?}")?;
-    let bytes = made(alloc, label.to_vec(alloc))?;
-    Ok(format!(in alloc; "{shown} written {bytes}")?)
 }
 
 /// The value that the label of these bytes is made, in diagnostic notation.
-pub fn item(alloc: Global, kind: &str, bytes: &[u8]) -> Answer {
+pub fn item(to: &mut Out, kind: &str, bytes: &[u8]) {
     match kind {
-        "label" => through_value::<Label>(alloc, bytes),
-        "algorithm" => through_value::<Algorithm>(alloc, bytes),
-        "content-type" => through_value::<ContentType>(alloc, bytes),
-        "key-type" => through_value::<KeyType>(alloc, bytes),
-        _ => Err(CallError::NoCall),
+        "label" => through_value::<Label>(to, bytes),
+        "algorithm" => through_value::<Algorithm>(to, bytes),
+        "content-type" => through_value::<ContentType>(to, bytes),
+        "key-type" => through_value::<KeyType>(to, bytes),
+        _ => to.refuse(CallError::NoCall),
     }
 }
 
-fn through_value<T: CborSerializable>(alloc: Global, bytes: &[u8]) -> Answer {
-    match T::from_slice(alloc, bytes) {
-        Ok(label) => told(alloc, label.to_cbor_value(alloc)),
-        Err(error) => failure(alloc, &error),
-    }
-}
-
-fn told(alloc: Global, value: Result<Value, CoseError>) -> Answer {
-    match value {
-        Ok(value) => noted(alloc, &value),
-        Err(error) => failure(alloc, &error),
-    }
-}
-
-/// What a value is as one of this kind, in diagnostic notation.
-pub fn taken(alloc: Global, kind: &str, value: Value) -> Answer {
-    match as_kind(alloc, kind, value) {
-        Ok(Some(value)) => noted(alloc, &value),
-        Ok(None) => Err(CallError::NoCall),
-        Err(error) => failure(alloc, &error),
-    }
-}
-
-/// The value as one of this kind, where the kind has a name.
-fn as_kind(alloc: Global, kind: &str, value: Value) -> Result<Option<Value>, CoseError> {
-    match kind {
-        "integer" => Ok(Some(Value::Integer(value.try_as_integer()?))),
-        "bytes" => Ok(Some(Value::Bytes(value.try_as_bytes()?))),
-        "nonempty-bytes" => Ok(Some(Value::Bytes(value.try_as_nonempty_bytes()?))),
-        "bytes-or-nil" => match value.try_as_bytes_or_nil("bstr or nil")? {
-            Some(bytes) => Ok(Some(Value::Bytes(bytes))),
-            None => Ok(Some(Value::Null)),
-        },
-        "array" => Ok(Some(Value::Array(value.try_as_array()?))),
-        "map" => Ok(Some(Value::Map(value.try_as_map()?))),
-        "tag" => {
-            let (number, content) = value.try_as_tag()?;
-            Ok(Some(Value::Tag(number, content)))
+fn through_value<T: CborSerializable>(to: &mut Out, bytes: &[u8]) {
+    match T::from_slice(to.alloc(), bytes) {
+        Ok(label) => {
+            let value = label.to_cbor_value(to.alloc());
+            told(to, value);
         }
-        "text" => Ok(Some(Value::Text(value.try_as_string()?))),
-        "labels" => Ok(Some(labels(alloc, value)?)),
-        _ => Ok(None),
+        Err(error) => to.failure(&error),
     }
+}
+
+fn told(to: &mut Out, value: Result<Value, CoseError>) {
+    match value {
+        Ok(value) => note(to, &value),
+        Err(error) => to.failure(&error),
+    }
+}
+
+/// What an item is as one of this kind, in diagnostic notation.
+pub fn taken(to: &mut Out, kind: &str, item: &str) {
+    let value = to.value(item);
+    match kind {
+        "integer" => told(to, value.try_as_integer().map(Value::Integer)),
+        "bytes" => told(to, value.try_as_bytes().map(Value::Bytes)),
+        "nonempty-bytes" => told(to, value.try_as_nonempty_bytes().map(Value::Bytes)),
+        "bytes-or-nil" => told(to, value.try_as_bytes_or_nil("bstr or nil").map(or_null)),
+        "array" => told(to, value.try_as_array().map(Value::Array)),
+        "map" => told(to, value.try_as_map().map(Value::Map)),
+        "tag" => told(to, value.try_as_tag().map(tagged)),
+        "text" => told(to, value.try_as_string().map(Value::Text)),
+        "labels" => labels(to, value),
+        _ => to.refuse(CallError::NoCall),
+    }
+}
+
+fn or_null(bytes: Option<Vec<u8>>) -> Value {
+    match bytes {
+        Some(bytes) => Value::Bytes(bytes),
+        None => Value::Null,
+    }
+}
+
+fn tagged(tag: (u64, Box<Value>)) -> Value {
+    let (number, content) = tag;
+    Value::Tag(number, content)
 }
 
 /// The array that is made of the labels in an array.
-fn labels(alloc: Global, value: Value) -> Result<Value, CoseError> {
-    let labels = value.try_as_array_then_convert(
-        alloc,
-        |item| Label::from_cbor_value(alloc, item),
-    )?;
-    to_cbor_array(alloc, labels)
+fn labels(to: &mut Out, value: Value) {
+    let alloc = to.alloc();
+    match value.try_as_array_then_convert(alloc, move |item| Label::from_cbor_value(alloc, item)) {
+        Ok(labels) => told(to, to_cbor_array(alloc, labels)),
+        Err(error) => to.failure(&error),
+    }
 }

@@ -3,13 +3,13 @@
 #![tactic(auto)]
 
 mod accessors;
-mod answers;
 mod calls;
 mod heads;
 mod items;
 mod labels;
 mod notation;
 mod orders;
+mod out;
 mod pieces;
 mod registries;
 mod rows;
@@ -21,6 +21,10 @@ use std::io;
 
 fn main(rt: HostRuntime) -> io::Result<()> {
     let text = io::read_to_string(rt.alloc(), rt.stdin())?;
-    let report = rows::report(rt.alloc(), text.as_str())?;
+    let report = rows::report(rt.alloc(), text.as_str());
+    if report.fault().is_some() {
+        return Err(io::Error::from(io::ErrorKind::OutOfMemory));
+    }
+    let report = report.as_str();
     print!(rt; "{report}")
 }

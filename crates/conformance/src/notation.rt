@@ -1,77 +1,69 @@
 //! Diagnostic notation (RFC 8949, section 8).
-use crate::answers::{Answer, failure};
+use crate::out::Out;
 use ciborium::{Float, Value};
 use coset_labels::read_to_value;
-use std::alloc::{AllocError, Global};
 
 /// The item that all of these bytes are in diagnostic notation, or the text of the error.
-pub fn diagnostic(alloc: Global, bytes: &[u8], limit: usize) -> Answer {
-    match read_to_value(alloc, bytes, limit) {
-        Ok(value) => noted(alloc, &value),
-        Err(error) => failure(alloc, &error),
+pub fn diagnostic(to: &mut Out, bytes: &[u8], limit: usize) {
+    match read_to_value(to.alloc(), bytes, limit) {
+        Ok(value) => note(to, &value),
+        Err(error) => to.failure(&error),
     }
 }
 
 /// A value in diagnostic notation. A float stands by its bits in hex, so that its width is seen.
-pub fn noted(alloc: Global, value: &Value) -> Answer {
-    let mut text = String::new(alloc);
-    note(alloc, value, &mut text)?;
-    Ok(text)
-}
-
-fn note(alloc: Global, value: &Value, text: &mut String) -> Result<(), AllocError> {
+pub fn note(to: &mut Out, value: &Value) {
     match value {
         Value::Array(items) => {
-            text.push_str("[")?;
+            to.text("[");
             for (index, item) in items.iter().enumerate() {
-                note_comma(index, text)?;
-                note(alloc, item, text)?;
+                note_comma(to, index);
+                note(to, item);
             }
-            text.push_str("]")
+            to.text("]");
         }
         Value::Map(entries) => {
-            text.push_str("{")?;
+            to.text("{");
             for (index, (key, item)) in entries.iter().enumerate() {
-                note_comma(index, text)?;
-                note(alloc, key, text)?;
-                text.push_str(": ")?;
-                note(alloc, item, text)?;
+                note_comma(to, index);
+                note(to, key);
+                to.text(": ");
+                note(to, item);
             }
-            text.push_str("}")
+            to.text("}");
         }
         Value::Tag(number, content) => {
-            let number = format!(in alloc; "{number}(")?;
-            text.push_str(number.as_str())?;
-            note(alloc, content, text)?;
-            text.push_str(")")
+            to.show(number);
+            to.text("(");
+            note(to, content);
+            to.text(")");
         }
-        leaf => {
-            let leaf = leaf_note(alloc, leaf)?;
-            text.push_str(leaf.as_str())
-        }
+        leaf => note_leaf(to, leaf),
     }
 }
 
-fn note_comma(index: usize, text: &mut String) -> Result<(), AllocError> {
+fn note_comma(to: &mut Out, index: usize) {
     if index > 0 {
-        text.push_str(", ")
-    } else {
-        Ok(())
+        to.text(", ");
     }
 }
 
-fn leaf_note(alloc: Global, value: &Value) -> Result<String, AllocError> {
+fn note_leaf(to: &mut Out, value: &Value) {
     match value {
-        Value::Integer(n) => format!(in alloc; "{}", i128::from(*n)),
-        Value::Bytes(bytes) => {
-            let bytes = hex::encode(alloc, bytes.as_slice())?;
-            format!(in alloc; "h'{bytes}'")
-        }
-        Value::Text(text) => format!(in alloc; "{:?}", text.as_str()),
-        Value::Float(Float::Half(bits)) => format!(in alloc; "float'{bits:04x}'"),
-        Value::Float(Float::Single(bits)) => format!(in alloc; "float'{bits:08x}'"),
-        Value::Float(Float::Double(bits)) => format!(in alloc; "float'{bits:016x}'"),
-        Value::Bool(value) => format!(in alloc; "{value}"),
-        _ => String::from_str(alloc, "null"),
+        Value::Integer(n) => to.show(&i128::from(*n)),
+        Value::Bytes(bytes) => note_digits(to, "h'", bytes),
+        Value::Text(text) => to.debug(&text.as_str()),
+        Value::Float(Float::Half(bits)) => note_digits(to, "float'", &bits.to_be_bytes()),
+        Value::Float(Float::Single(bits)) => note_digits(to, "float'", &bits.to_be_bytes()),
+        Value::Float(Float::Double(bits)) => note_digits(to, "float'", &bits.to_be_bytes()),
+        Value::Bool(value) => to.show(value),
+        _ => to.text("null"),
     }
+}
+
+/// Bytes in hex between this and a mark.
+fn note_digits(to: &mut Out, front: &str, bytes: &[u8]) {
+    to.text(front);
+    to.digits(bytes);
+    to.text("'");
 }

@@ -1,5 +1,5 @@
 //! Entries of registries.
-use crate::answers::{Answer, CallError, plain};
+use crate::out::{CallError, Out};
 use cose_iana::{
     ALGORITHM_PRIVATE_USE_MAX, AkpKeyParameter, Algorithm, CWT_CLAIM_PRIVATE_USE_MAX, CborTag,
     CoapContentFormat, CwtClaimName, ELLIPTIC_CURVE_PRIVATE_USE_MAX, Ec2KeyParameter,
@@ -7,82 +7,93 @@ use cose_iana::{
     HeaderParameter, HssLmsKeyParameter, KeyOperation, KeyParameter, KeyType, OkpKeyParameter,
     RsaKeyParameter, SymmetricKeyParameter, WalnutDsaKeyParameter, WithPrivateRange,
 };
-use std::alloc::Global;
 use std::fmt::Debug;
 
-/// The number that a word is.
-pub fn number(word: &str) -> Result<i64, CallError> {
-    match word.parse::<i64>() {
-        Ok(number) => Ok(number),
-        Err(_) => Err(CallError::NotNumber),
-    }
+/// The name of the registry's entry with the number that a word is, and the number again.
+pub fn named(to: &mut Out, registry: &str, word: &str) {
+    let number = to.number(word);
+    entry(to, registry, Some(number));
 }
 
 /// The name of the registry's entry with this number, and the number again; with no number, how many entries it has from -70,000 to
 /// 70,000.
-pub fn entry(alloc: Global, registry: &str, number: Option<i64>) -> Answer {
+pub fn entry(to: &mut Out, registry: &str, number: Option<i64>) {
     match registry {
-        "header-parameter" => told::<HeaderParameter>(alloc, number),
-        "header-algorithm-parameter" => told::<HeaderAlgorithmParameter>(alloc, number),
-        "algorithm" => told::<Algorithm>(alloc, number),
-        "key-parameter" => told::<KeyParameter>(alloc, number),
-        "okp" => told::<OkpKeyParameter>(alloc, number),
-        "ec2" => told::<Ec2KeyParameter>(alloc, number),
-        "rsa" => told::<RsaKeyParameter>(alloc, number),
-        "symmetric" => told::<SymmetricKeyParameter>(alloc, number),
-        "hss-lms" => told::<HssLmsKeyParameter>(alloc, number),
-        "akp" => told::<AkpKeyParameter>(alloc, number),
-        "walnut-dsa" => told::<WalnutDsaKeyParameter>(alloc, number),
-        "key-type" => told::<KeyType>(alloc, number),
-        "curve" => told::<EllipticCurve>(alloc, number),
-        "key-operation" => told::<KeyOperation>(alloc, number),
-        "tag" => told::<CborTag>(alloc, number),
-        "content-format" => told::<CoapContentFormat>(alloc, number),
-        "claim" => told::<CwtClaimName>(alloc, number),
-        _ => Err(CallError::NoCall),
+        "header-parameter" => told::<HeaderParameter>(to, number),
+        "header-algorithm-parameter" => told::<HeaderAlgorithmParameter>(to, number),
+        "algorithm" => told::<Algorithm>(to, number),
+        "key-parameter" => told::<KeyParameter>(to, number),
+        "okp" => told::<OkpKeyParameter>(to, number),
+        "ec2" => told::<Ec2KeyParameter>(to, number),
+        "rsa" => told::<RsaKeyParameter>(to, number),
+        "symmetric" => told::<SymmetricKeyParameter>(to, number),
+        "hss-lms" => told::<HssLmsKeyParameter>(to, number),
+        "akp" => told::<AkpKeyParameter>(to, number),
+        "walnut-dsa" => told::<WalnutDsaKeyParameter>(to, number),
+        "key-type" => told::<KeyType>(to, number),
+        "curve" => told::<EllipticCurve>(to, number),
+        "key-operation" => told::<KeyOperation>(to, number),
+        "tag" => told::<CborTag>(to, number),
+        "content-format" => told::<CoapContentFormat>(to, number),
+        "claim" => told::<CwtClaimName>(to, number),
+        _ => to.refuse(CallError::NoCall),
     }
 }
 
-fn told<T: EnumI64 + Debug>(alloc: Global, number: Option<i64>) -> Answer {
+fn told<T: EnumI64 + Debug>(to: &mut Out, number: Option<i64>) {
     match number {
-        Some(number) => named::<T>(alloc, number),
+        Some(number) => tell_entry::<T>(to, number),
         None => {
             let count = (-70_000..=70_000)
                 .filter(|i| T::from_i64(*i).is_some())
                 .count();
-            Ok(format!(in alloc; "{count}")?)
+            to.show(&count);
         }
     }
 }
 
-fn named<T: EnumI64 + Debug>(alloc: Global, number: i64) -> Answer {
+fn tell_entry<T: EnumI64 + Debug>(to: &mut Out, number: i64) {
     match T::from_i64(number) {
-        Some(entry) => Ok(format!(in alloc; "{entry:?} {}", entry.to_i64())?),
-        None => plain(alloc, "none"),
+        Some(entry) => {
+            to.debug(&entry);
+            to.text(" ");
+            to.show(&entry.to_i64());
+        }
+        None => to.text("none"),
     }
 }
 
 /// Whether the number is for private use, and the bound that such numbers lie below.
-pub fn private(alloc: Global, registry: &str, word: &str) -> Answer {
-    let n = number(word)?;
-    let (is_private, bound) = match registry {
-        "header-parameter" => (
+pub fn private(to: &mut Out, registry: &str, word: &str) {
+    let n = to.number(word);
+    match registry {
+        "header-parameter" => tell_private(
+            to,
             HeaderParameter::is_private(n),
             HEADER_PARAMETER_PRIVATE_USE_MAX,
         ),
-        "algorithm" => (Algorithm::is_private(n), ALGORITHM_PRIVATE_USE_MAX),
-        "curve" => (EllipticCurve::is_private(n), ELLIPTIC_CURVE_PRIVATE_USE_MAX),
-        "claim" => (CwtClaimName::is_private(n), CWT_CLAIM_PRIVATE_USE_MAX),
-        _ => return Err(CallError::NoCall),
-    };
-    let answer = if is_private { "yes" } else { "no" };
-    Ok(format!(in alloc; "{answer} below {bound}")?)
+        "algorithm" => tell_private(to, Algorithm::is_private(n), ALGORITHM_PRIVATE_USE_MAX),
+        "curve" => tell_private(
+            to,
+            EllipticCurve::is_private(n),
+            ELLIPTIC_CURVE_PRIVATE_USE_MAX,
+        ),
+        "claim" => tell_private(to, CwtClaimName::is_private(n), CWT_CLAIM_PRIVATE_USE_MAX),
+        _ => to.refuse(CallError::NoCall),
+    }
+}
+
+fn tell_private(to: &mut Out, is_private: bool, bound: i64) {
+    to.text(if is_private { "yes" } else { "no" });
+    to.text(" below ");
+    to.show(&bound);
 }
 
 /// The entry with the number that a word is.
-pub fn found<T: EnumI64>(word: &str) -> Result<T, CallError> {
-    match T::from_i64(number(word)?) {
-        Some(entry) => Ok(entry),
-        None => Err(CallError::NotItem),
+pub fn found<T: EnumI64>(to: &mut Out, word: &str) -> Option<T> {
+    let entry = T::from_i64(to.number(word));
+    if entry.is_none() {
+        to.refuse(CallError::NotItem);
     }
+    entry
 }

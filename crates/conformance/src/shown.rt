@@ -1,54 +1,56 @@
 //! What is shown of an item: its notation from its heads, the members of a message, what isn't shortest in it, and where items end.
-use crate::answers::{Answer, CallError, plain};
-use cbor_diag::{Ends, Excess, Fault, NotWritten, Style, first_excess, write_item};
+use crate::out::{CallError, Out};
+use cbor_diag::{Ends, Fault, NotWritten, Style, first_excess, write_item};
 use cose_notation::write_message;
-use std::alloc::{AllocError, Global};
 
 /// The notation of an item from its heads. Of damaged bytes what stands in front of the fault, and the fault.
-pub fn noted(alloc: Global, bytes: &[u8], style: Style) -> Answer {
-    let mut text = String::new(alloc);
-    match write_item(alloc, bytes, style, 0, &mut text) {
-        Ok(len) if len == bytes.len() => Ok(text),
-        Ok(_) => Err(CallError::NotItem),
-        Err(NotWritten::Fault(fault)) => {
-            let fault = fault_note(alloc, fault)?;
-            Ok(format!(in alloc; "{text}... {fault}")?)
+pub fn noted(to: &mut Out, bytes: &[u8], style: Style) {
+    match write_item(to.alloc(), bytes, style, 0, to) {
+        Ok(len) => {
+            if len != bytes.len() {
+                to.refuse(CallError::NotItem);
+            }
         }
-        Err(_) => Err(CallError::Memory),
+        Err(NotWritten::Fault(fault)) => {
+            to.text("... ");
+            note_fault(to, fault);
+        }
+        Err(_) => to.refuse(CallError::Memory),
     }
 }
 
-fn fault_note(alloc: Global, fault: Fault) -> Result<String, AllocError> {
-    format!(in alloc; "{:?} at {}", fault.why, fault.at)
+fn note_fault(to: &mut Out, fault: Fault) {
+    to.debug(&fault.why);
+    to.text(" at ");
+    to.show(&fault.at);
 }
 
 /// The members of a message, as a JSON object has them. `-` of any other item.
-pub fn members(alloc: Global, bytes: &[u8]) -> Answer {
-    let mut text = String::new(alloc);
-    match write_message(alloc, bytes, &mut text) {
-        Ok(()) if text.is_empty() => plain(alloc, "-"),
-        Ok(()) => Ok(text),
-        Err(_) => Err(CallError::Memory),
+pub fn members(to: &mut Out, bytes: &[u8]) {
+    if write_message(to.alloc(), bytes, to).is_err() {
+        to.refuse(CallError::Memory);
+    }
+    if to.is_empty() {
+        to.text("-");
     }
 }
 
 /// What comes first in an item that its shortest text hasn't, and where.
-pub fn excess(alloc: Global, bytes: &[u8]) -> Answer {
-    match first_excess(alloc, bytes) {
-        Ok(None) => plain(alloc, "none"),
-        Ok(Some((excess, at))) => excess_note(alloc, excess, at),
-        Err(fault) => Ok(fault_note(alloc, fault)?),
+pub fn excess(to: &mut Out, bytes: &[u8]) {
+    match first_excess(to.alloc(), bytes) {
+        Ok(None) => to.text("none"),
+        Ok(Some((excess, at))) => {
+            to.show(&excess);
+            to.text(" at ");
+            to.show(&at);
+        }
+        Err(fault) => note_fault(to, fault),
     }
 }
 
-fn excess_note(alloc: Global, excess: Excess, at: usize) -> Answer {
-    Ok(format!(in alloc; "{excess} at {at}")?)
-}
-
 /// Where the items of a sequence end that comes in blocks of at most so many bytes, and at last how the last block leaves it.
-pub fn ends(alloc: Global, bytes: &[u8], block: usize) -> Answer {
-    let mut ends = Ends::new(alloc);
-    let mut text = String::new(alloc);
+pub fn ends(to: &mut Out, bytes: &[u8], block: usize) {
+    let mut ends = Ends::new(to.alloc());
     let mut at = 0usize;
     for _ in 0..=bytes.len() {
         let rest = bytes.get(at..).unwrap_or(&[]);
@@ -56,22 +58,20 @@ pub fn ends(alloc: Global, bytes: &[u8], block: usize) -> Answer {
         match ends.find(front) {
             Ok(Some(len)) => {
                 at = at.saturating_add(len);
-                let place = format!(in alloc; "{at}, ")?;
-                text.push_str(place.as_str())?;
+                to.show(&at);
+                to.text(", ");
             }
             Ok(None) if front.is_empty() => break,
             Ok(None) => at = at.saturating_add(front.len()),
             Err(fault) => {
-                let fault = fault_note(alloc, fault)?;
-                text.push_str(fault.as_str())?;
-                return Ok(text);
+                note_fault(to, fault);
+                return;
             }
         }
     }
-    text.push_str(if ends.is_inside() {
+    to.text(if ends.is_inside() {
         "inside"
     } else {
         "between"
-    })?;
-    Ok(text)
+    });
 }

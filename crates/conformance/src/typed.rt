@@ -1,13 +1,12 @@
 //! Items read as types of Rust, and written.
-use crate::answers::{Answer, CallError, LIMIT, failure, made, shown};
+use crate::out::{CallError, Out};
 use ciborium::de::{Deserialize, Error};
 use ciborium::ser::Serialize;
 use ciborium::tag::{Accepted, Captured, Required};
-use ciborium::value::ValueTyped;
+use ciborium::value::{self, ValueTyped};
 use ciborium::{End, Mem, Value, from_reader, into_writer};
 use ciborium_typed::ByteBuf;
-use coset_labels::{read_to_value, write_to_vec};
-use std::alloc::Global;
+use coset_labels::write_to_vec;
 use std::collections::BTreeMap;
 use std::fmt::Debug;
 
@@ -25,112 +24,105 @@ pub enum Route {
 }
 
 /// What is read as the type with this name.
-pub fn typed(alloc: Global, route: Route, name: &str, bytes: &[u8]) -> Answer {
+pub fn typed(to: &mut Out, route: Route, name: &str, bytes: &[u8]) {
     match name {
-        "bool" => read::<bool>(alloc, route, bytes),
-        "u8" => read::<u8>(alloc, route, bytes),
-        "u16" => read::<u16>(alloc, route, bytes),
-        "u32" => read::<u32>(alloc, route, bytes),
-        "u64" => read::<u64>(alloc, route, bytes),
-        "u128" => read::<u128>(alloc, route, bytes),
-        "usize" => read::<usize>(alloc, route, bytes),
-        "i8" => read::<i8>(alloc, route, bytes),
-        "i16" => read::<i16>(alloc, route, bytes),
-        "i32" => read::<i32>(alloc, route, bytes),
-        "i64" => read::<i64>(alloc, route, bytes),
-        "i128" => read::<i128>(alloc, route, bytes),
-        "isize" => read::<isize>(alloc, route, bytes),
-        "char" => read::<char>(alloc, route, bytes),
-        "()" => read::<()>(alloc, route, bytes),
-        "String" => read::<String>(alloc, route, bytes),
-        "ByteBuf" => read::<ByteBuf>(alloc, route, bytes),
-        "Value" => read::<Value>(alloc, route, bytes),
-        _ => composite(alloc, route, name, bytes),
+        "bool" => read::<bool>(to, route, bytes),
+        "u8" => read::<u8>(to, route, bytes),
+        "u16" => read::<u16>(to, route, bytes),
+        "u32" => read::<u32>(to, route, bytes),
+        "u64" => read::<u64>(to, route, bytes),
+        "u128" => read::<u128>(to, route, bytes),
+        "usize" => read::<usize>(to, route, bytes),
+        "i8" => read::<i8>(to, route, bytes),
+        "i16" => read::<i16>(to, route, bytes),
+        "i32" => read::<i32>(to, route, bytes),
+        "i64" => read::<i64>(to, route, bytes),
+        "i128" => read::<i128>(to, route, bytes),
+        "isize" => read::<isize>(to, route, bytes),
+        "char" => read::<char>(to, route, bytes),
+        "()" => read::<()>(to, route, bytes),
+        "String" => read::<String>(to, route, bytes),
+        "ByteBuf" => read::<ByteBuf>(to, route, bytes),
+        "Value" => read::<Value>(to, route, bytes),
+        _ => composite(to, route, name, bytes),
     }
 }
 
-fn composite(alloc: Global, route: Route, name: &str, bytes: &[u8]) -> Answer {
+fn composite(to: &mut Out, route: Route, name: &str, bytes: &[u8]) {
     match name {
-        "Option<bool>" => read::<Option<bool>>(alloc, route, bytes),
-        "Vec<u8>" => read::<Vec<u8>>(alloc, route, bytes),
-        "Vec<bool>" => read::<Vec<bool>>(alloc, route, bytes),
-        "Vec<(bool,)>" => read::<Vec<(bool,)>>(alloc, route, bytes),
-        "(bool,)" => read::<(bool,)>(alloc, route, bytes),
-        "(bool,bool)" => read::<(bool, bool)>(alloc, route, bytes),
-        "(u8,u8)" => read::<(u8, u8)>(alloc, route, bytes),
-        "(bool,bool,bool)" => read::<(bool, bool, bool)>(alloc, route, bytes),
-        "(bool,bool,bool,bool)" => read::<(bool, bool, bool, bool)>(alloc, route, bytes),
-        "BTreeMap<bool,bool>" => read::<BTreeMap<bool, bool>>(alloc, route, bytes),
-        "BTreeMap<u8,u8>" => read::<BTreeMap<u8, u8>>(alloc, route, bytes),
-        "Captured<bool>" => read::<Captured<bool>>(alloc, route, bytes),
-        "Required<bool,5>" => read::<Required<bool, 5>>(alloc, route, bytes),
-        "Accepted<bool,5>" => read::<Accepted<bool, 5>>(alloc, route, bytes),
-        "Accepted<u8,5>" => read::<Accepted<u8, 5>>(alloc, route, bytes),
-        _ => Err(CallError::NoCall),
+        "Option<bool>" => read::<Option<bool>>(to, route, bytes),
+        "Vec<u8>" => read::<Vec<u8>>(to, route, bytes),
+        "Vec<bool>" => read::<Vec<bool>>(to, route, bytes),
+        "Vec<(bool,)>" => read::<Vec<(bool,)>>(to, route, bytes),
+        "(bool,)" => read::<(bool,)>(to, route, bytes),
+        "(bool,bool)" => read::<(bool, bool)>(to, route, bytes),
+        "(u8,u8)" => read::<(u8, u8)>(to, route, bytes),
+        "(bool,bool,bool)" => read::<(bool, bool, bool)>(to, route, bytes),
+        "(bool,bool,bool,bool)" => read::<(bool, bool, bool, bool)>(to, route, bytes),
+        "BTreeMap<bool,bool>" => read::<BTreeMap<bool, bool>>(to, route, bytes),
+        "BTreeMap<u8,u8>" => read::<BTreeMap<u8, u8>>(to, route, bytes),
+        "Captured<bool>" => read::<Captured<bool>>(to, route, bytes),
+        "Required<bool,5>" => read::<Required<bool, 5>>(to, route, bytes),
+        "Accepted<bool,5>" => read::<Accepted<bool, 5>>(to, route, bytes),
+        "Accepted<u8,5>" => read::<Accepted<u8, 5>>(to, route, bytes),
+        _ => to.refuse(CallError::NoCall),
     }
 }
 
-fn read<T: Deserialize + Serialize + Debug>(alloc: Global, route: Route, bytes: &[u8]) -> Answer {
+fn read<T: Deserialize + Serialize + Debug>(to: &mut Out, route: Route, bytes: &[u8]) {
     match route {
-        Route::Reader => by_reader::<T>(alloc, bytes),
-        Route::Rest => rest::<T>(alloc, bytes),
-        Route::Take => by_value::<T>(alloc, false, bytes),
-        Route::Deserialized => by_value::<T>(alloc, true, bytes),
-    }
-}
-
-fn by_reader<T: Deserialize + Serialize + Debug>(alloc: Global, bytes: &[u8]) -> Answer {
-    let mut rest = bytes;
-    let read: Result<T, Error<End>> = from_reader(alloc, &mut rest);
-    match read {
-        Ok(value) => written(alloc, &value),
-        Err(error) => failure(alloc, &error),
-    }
-}
-
-fn written<T: Serialize + Debug>(alloc: Global, value: &T) -> Answer {
-    let mut out = Mem::new(Vec::new(alloc));
-    match into_writer(value, &mut out) {
-        Ok(()) => {
-            let bytes = shown(alloc, out.as_written())?;
-            Ok(format!(in alloc; "{value:?} written {bytes}")?)
+        Route::Reader => by_reader::<T>(to, bytes),
+        Route::Rest => rest::<T>(to, bytes),
+        Route::Take => {
+            let value = to.item(bytes);
+            serialized(to, T::take(to.alloc(), value));
         }
-        Err(_) => Err(CallError::Memory),
+        Route::Deserialized => {
+            let value = to.item(bytes);
+            serialized(to, value.deserialized::<T>(to.alloc()));
+        }
     }
 }
 
-fn rest<T: Deserialize>(alloc: Global, bytes: &[u8]) -> Answer {
+fn by_reader<T: Deserialize + Serialize + Debug>(to: &mut Out, bytes: &[u8]) {
     let mut rest = bytes;
-    let _read: Result<T, Error<End>> = from_reader(alloc, &mut rest);
-    shown(alloc, rest)
-}
-
-fn by_value<T: Deserialize + Serialize + Debug>(
-    alloc: Global,
-    is_folded: bool,
-    bytes: &[u8],
-) -> Answer {
-    let value = match read_to_value(alloc, bytes, LIMIT) {
-        Ok(value) => value,
-        Err(_) => return Err(CallError::NotItem),
-    };
-    let read = if is_folded {
-        value.deserialized::<T>(alloc)
-    } else {
-        T::take(alloc, value)
-    };
+    let read: Result<T, Error<End>> = from_reader(to.alloc(), &mut rest);
     match read {
-        Ok(value) => serialized(alloc, &value),
-        Err(error) => failure(alloc, &error),
+        Ok(value) => written(to, &value),
+        Err(error) => to.failure(&error),
     }
 }
 
-fn serialized<T: Serialize + Debug>(alloc: Global, value: &T) -> Answer {
-    match Value::serialized(alloc, value) {
+fn written<T: Serialize + Debug>(to: &mut Out, value: &T) {
+    let mut out = Mem::new(Vec::new(to.alloc()));
+    if into_writer(value, &mut out).is_err() {
+        to.refuse(CallError::Memory);
+    }
+    to.debug(value);
+    to.text(" written ");
+    to.hex(out.as_written());
+}
+
+fn rest<T: Deserialize>(to: &mut Out, bytes: &[u8]) {
+    let mut rest = bytes;
+    let _read: Result<T, Error<End>> = from_reader(to.alloc(), &mut rest);
+    to.hex(rest);
+}
+
+fn serialized<T: Deserialize + Serialize + Debug>(to: &mut Out, read: Result<T, value::Error>) {
+    match read {
+        Ok(value) => written_as_value(to, &value),
+        Err(error) => to.failure(&error),
+    }
+}
+
+fn written_as_value<T: Serialize + Debug>(to: &mut Out, value: &T) {
+    match Value::serialized(to.alloc(), value) {
         Ok(item) => {
-            let bytes = made(alloc, write_to_vec(alloc, &item))?;
-            Ok(format!(in alloc; "{value:?} written {bytes}")?)
+            to.debug(value);
+            to.text(" written ");
+            to.made(write_to_vec(to.alloc(), &item));
         }
-        Err(_) => Err(CallError::Memory),
+        Err(_) => to.refuse(CallError::Memory),
     }
 }

@@ -1,100 +1,106 @@
 //! Integers, and values: their kinds, what they are made of, and bignums.
-use crate::answers::{Answer, CallError, bytes, plain, shown, size};
-use crate::notation::noted;
+use crate::notation::note;
+use crate::out::{CallError, Out};
 use ciborium_value::{Integer, Value, bignum, fold_tag};
-use std::alloc::Global;
+use std::alloc::AllocError;
 use std::num::TryFromIntError;
 
 /// The kinds that a value says it is of.
-pub fn kinds(alloc: Global, value: &Value) -> Answer {
-    let kinds = [
-        (value.is_integer(), "integer"),
-        (value.is_bytes(), "bytes"),
-        (value.is_float(), "float"),
-        (value.is_text(), "text"),
-        (value.is_bool(), "bool"),
-        (value.is_null(), "null"),
-        (value.is_tag(), "tag"),
-        (value.is_array(), "array"),
-        (value.is_map(), "map"),
-    ];
-    let mut text = String::new(alloc);
-    for (is_so, name) in kinds {
-        if is_so {
-            if !text.is_empty() {
-                text.push_str(" ")?;
-            }
-            text.push_str(name)?;
-        }
+pub fn kinds(to: &mut Out, item: &str) {
+    let value = to.value(item);
+    tell_kind(to, value.is_integer(), "integer");
+    tell_kind(to, value.is_bytes(), "bytes");
+    tell_kind(to, value.is_float(), "float");
+    tell_kind(to, value.is_text(), "text");
+    tell_kind(to, value.is_bool(), "bool");
+    tell_kind(to, value.is_null(), "null");
+    tell_kind(to, value.is_tag(), "tag");
+    tell_kind(to, value.is_array(), "array");
+    tell_kind(to, value.is_map(), "map");
+}
+
+fn tell_kind(to: &mut Out, is_so: bool, name: &str) {
+    if is_so {
+        to.divide(" ");
+        to.text(name);
     }
-    Ok(text)
 }
 
 /// The value that is made of a number, a text, a character or bytes, in diagnostic notation.
-pub fn made_from(alloc: Global, kind: &str, word: &str) -> Answer {
-    let value = match kind {
-        "i128" => Value::from_i128(alloc, signed(word)?)?,
-        "u128" => Value::from_u128(alloc, unsigned(word)?)?,
-        "str" => Value::from_str(alloc, word)?,
-        "char" => Value::from_char(alloc, character(word)?)?,
-        "bytes" => Value::from_byte_slice(alloc, bytes(alloc, word)?.as_slice())?,
-        _ => return Err(CallError::NoCall),
-    };
-    noted(alloc, &value)
+pub fn made_from(to: &mut Out, kind: &str, word: &str) {
+    let alloc = to.alloc();
+    match kind {
+        "i128" => {
+            let value = Value::from_i128(alloc, to.number(word));
+            tell_made(to, value);
+        }
+        "u128" => {
+            let value = Value::from_u128(alloc, to.number(word));
+            tell_made(to, value);
+        }
+        "str" => tell_made(to, Value::from_str(alloc, word)),
+        "char" => of_character(to, word),
+        "bytes" => {
+            let bytes = to.bytes(word);
+            tell_made(to, Value::from_byte_slice(alloc, &bytes));
+        }
+        _ => to.refuse(CallError::NoCall),
+    }
 }
 
-fn character(word: &str) -> Result<char, CallError> {
+fn of_character(to: &mut Out, word: &str) {
     match word.chars().next() {
-        Some(character) => Ok(character),
-        None => Err(CallError::NoCall),
+        Some(character) => tell_made(to, Value::from_char(to.alloc(), character)),
+        None => to.refuse(CallError::NoCall),
+    }
+}
+
+fn tell_made(to: &mut Out, value: Result<Value, AllocError>) {
+    match value {
+        Ok(value) => note(to, &value),
+        Err(_) => to.refuse(CallError::Memory),
     }
 }
 
 /// What a tag over this value becomes, in diagnostic notation.
-pub fn folded(alloc: Global, tag: &str, content: Value) -> Answer {
-    match fold_tag(alloc, size(tag)? as u64, content)? {
-        Some(value) => noted(alloc, &value),
-        None => plain(alloc, "none"),
+pub fn folded(to: &mut Out, tag: &str, item: &str) {
+    let tag = to.number(tag);
+    let content = to.value(item);
+    match fold_tag(to.alloc(), tag, content) {
+        Ok(Some(value)) => note(to, &value),
+        Ok(None) => to.text("none"),
+        Err(_) => to.refuse(CallError::Memory),
     }
 }
 
 /// The number of which these are the bytes, and the bytes without zeros in front.
-pub fn bignum(alloc: Global, bytes: &[u8]) -> Answer {
-    let rest = shown(alloc, bignum::stripped(bytes))?;
+pub fn bignum(to: &mut Out, bytes: &[u8]) {
     match bignum::number(bytes) {
-        Some(number) => Ok(format!(in alloc; "{number} {rest}")?),
-        None => Ok(format!(in alloc; "none {rest}")?),
+        Some(number) => to.show(&number),
+        None => to.text("none"),
     }
+    to.text(" ");
+    to.hex(bignum::stripped(bytes));
 }
 
 /// The integer that is made of a number of this type, as a number.
-pub fn integer(alloc: Global, kind: &str, number: &str) -> Answer {
+pub fn integer(to: &mut Out, kind: &str, word: &str) {
     match kind {
-        "i128" => of_integer(alloc, Integer::try_from(signed(number)?)),
-        "u128" => of_integer(alloc, Integer::try_from(unsigned(number)?)),
-        _ => Err(CallError::NoCall),
+        "i128" => {
+            let integer = Integer::try_from(to.number::<i128>(word));
+            tell_integer(to, integer);
+        }
+        "u128" => {
+            let integer = Integer::try_from(to.number::<u128>(word));
+            tell_integer(to, integer);
+        }
+        _ => to.refuse(CallError::NoCall),
     }
 }
 
-fn of_integer(alloc: Global, integer: Result<Integer, TryFromIntError>) -> Answer {
+fn tell_integer(to: &mut Out, integer: Result<Integer, TryFromIntError>) {
     match integer {
-        Ok(integer) => Ok(format!(in alloc; "{}", i128::from(integer))?),
-        Err(_) => plain(alloc, "out of range"),
-    }
-}
-
-/// The signed number that a word is.
-fn signed(number: &str) -> Result<i128, CallError> {
-    match number.parse::<i128>() {
-        Ok(number) => Ok(number),
-        Err(_) => Err(CallError::NotNumber),
-    }
-}
-
-/// The unsigned number that a word is.
-fn unsigned(number: &str) -> Result<u128, CallError> {
-    match number.parse::<u128>() {
-        Ok(number) => Ok(number),
-        Err(_) => Err(CallError::NotNumber),
+        Ok(integer) => to.show(&i128::from(integer)),
+        Err(_) => to.text("out of range"),
     }
 }

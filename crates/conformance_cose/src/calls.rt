@@ -1,134 +1,157 @@
 //! Calls by name.
-use crate::answers::{Answer, NoAnswer, bytes};
-use crate::{errors, exact, items, keys, limits, messages, parts, protected, structures, tags};
-use std::alloc::Global;
+use crate::out::{NoAnswer, Out};
+use crate::{
+    errors, exact, items, keys, limits, messages, parts, protected, structures, tags, widest,
+};
+
+/// The next word of a row, which has the others then.
+fn word<'a>(row: &mut &'a str) -> &'a str {
+    match row.split_once(' ') {
+        Some((word, rest)) => {
+            *row = rest;
+            word
+        }
+        None => {
+            let word = *row;
+            *row = "";
+            word
+        }
+    }
+}
 
 /// What the call answers that the first word names.
-pub fn answer(alloc: Global, words: &[&str]) -> Answer {
-    match words {
-        ["okp-key"] => keys::octet_pair(alloc),
-        [call, word] => one(alloc, call, word),
-        [call, first, second] => two(alloc, call, first, second),
-        [call, first, second, third] => three(alloc, call, first, second, third),
-        [call, first, second, third, fourth] => {
-            four(alloc, call, [*first, *second, *third, *fourth])
-        }
-        ["sig-structure", context, body, signer, aad, payload] => {
-            structures::signature(alloc, context, [*body, *signer, *aad, *payload])
-        }
-        _ => Err(NoAnswer::NoCall),
+pub fn answer(to: &mut Out, row: &str) {
+    let mut row = row;
+    let call = word(&mut row);
+    if row.is_empty() {
+        none(to, call);
+        return;
+    }
+    let first = word(&mut row);
+    if row.is_empty() {
+        one(to, call, first);
+        return;
+    }
+    let second = word(&mut row);
+    if row.is_empty() {
+        two(to, call, first, second);
+    } else {
+        more(to, call, [first, second], row);
     }
 }
 
-fn one(alloc: Global, call: &str, word: &str) -> Answer {
-    match call {
-        "new" => items::new(alloc, word),
-        "error" => errors::text(alloc, word),
-        "error-debug" => errors::debug_text(alloc, word),
-        "prefix" => structures::prefix(alloc, word),
-        "signer-prefix" => structures::signer_prefix(alloc, word),
-        "bytes-title" => structures::title(alloc, word),
-        "ml-dsa-algorithm" => keys::ml_dsa_algorithm(alloc, word),
-        "ml-dsa-variant" => keys::ml_dsa_variant(alloc, word),
-        "symmetric-key" => keys::symmetric(alloc, bytes(alloc, word)?),
-        _ => {
-            let item = bytes(alloc, word)?;
-            of_item(alloc, call, item.as_slice())
-        }
+fn more(to: &mut Out, call: &str, [first, second]: [&str; 2], row: &str) {
+    let mut row = row;
+    let third = word(&mut row);
+    if row.is_empty() {
+        three(to, call, first, second, third);
+        return;
+    }
+    let fourth = word(&mut row);
+    if row.is_empty() {
+        four(to, call, [first, second, third, fourth]);
+    } else {
+        five(to, call, first, [second, third, fourth, row]);
     }
 }
 
-fn of_item(alloc: Global, call: &str, item: &[u8]) -> Answer {
+fn none(to: &mut Out, call: &str) {
     match call {
-        "empty-header" => items::is_empty_header(alloc, item),
-        "protected-header" => protected::bstr(alloc, item),
-        "empty-protected-header" => protected::is_empty(alloc, item),
-        "received-bytes" => protected::received(alloc, item),
-        "point-of-key" => keys::point_of_key(alloc, item),
-        "expiration-time" => parts::expiration(alloc, item),
-        "timestamp" => parts::time(alloc, item),
-        "nonce" => parts::nonce(alloc, item),
-        "key-data-length" => parts::key_data_length(alloc, item),
-        _ => items::written_back(alloc, call, item),
+        "okp-key" => keys::octet_pair(to),
+        _ => to.refuse(NoAnswer::NoCall),
     }
 }
 
-fn two(alloc: Global, call: &str, first: &str, second: &str) -> Answer {
+fn one(to: &mut Out, call: &str, word: &str) {
     match call {
-        "canonical-key" => keys::canonical(alloc, first, second),
-        "limits" => limits::new(alloc, first, second),
-        "key-of-point" => keys::key_of_point(alloc, first, second),
-        "ml-dsa-key" => keys::ml_dsa(alloc, first, second),
-        "same-error" => errors::are_same(alloc, first, second),
-        "same-context" => structures::are_same(alloc, first, second),
-        "same-order" => keys::are_same_orders(alloc, first, second),
-        "same-ml-dsa-variant" => keys::are_same_variants(alloc, first, second),
-        "as-written" => exact::is_as_written(alloc, first, &bytes(alloc, second)?),
-        _ => {
-            let (first, second) = (bytes(alloc, first)?, bytes(alloc, second)?);
-            of_two_items(alloc, call, first.as_slice(), second.as_slice())
-        }
+        "new" => items::new(to, word),
+        "error" => errors::text(to, word),
+        "error-debug" => errors::debug_text(to, word),
+        "prefix" => structures::prefix(to, word),
+        "signer-prefix" => structures::signer_prefix(to, word),
+        "bytes-title" => structures::title(to, word),
+        "ml-dsa-algorithm" => keys::ml_dsa_algorithm(to, word),
+        "ml-dsa-variant" => keys::ml_dsa_variant(to, word),
+        "symmetric-key" => keys::symmetric(to, word),
+        _ => of_item(to, call, word),
     }
 }
 
-fn of_two_items(alloc: Global, call: &str, first: &[u8], second: &[u8]) -> Answer {
+fn of_item(to: &mut Out, call: &str, item: &str) {
     match call {
-        "same-protected-header" => protected::are_same(alloc, first, second),
-        "sign1-tbs" => messages::sign1_covered(alloc, first, second),
-        "sign1-verifier" => messages::sign1_handed(alloc, first, second),
-        "sign-verifier" => messages::sign_handed(alloc, first, second),
-        "mac0-verifier" => messages::mac0_handed(alloc, first, second),
-        "mac-verifier" => messages::mac_handed(alloc, first, second),
-        "encrypt0-cipher" => messages::encrypt0_handed(alloc, first, second),
-        "encrypt-cipher" => messages::encrypt_handed(alloc, first, second),
-        "hmac" => tags::whole(alloc, first, second),
-        "hmac-of-clone" => tags::of_clone(alloc, first, second),
-        "same-tag" => tags::are_same(alloc, first, second),
-        _ => items::same(alloc, call, first, second),
+        "empty-header" => items::is_empty_header(to, item),
+        "protected-header" => protected::bstr(to, item),
+        "empty-protected-header" => protected::is_empty(to, item),
+        "received-bytes" => protected::received(to, item),
+        "point-of-key" => keys::point_of_key(to, item),
+        "expiration-time" => parts::expiration(to, item),
+        "timestamp" => parts::time(to, item),
+        "nonce" => parts::nonce(to, item),
+        "key-data-length" => parts::key_data_length(to, item),
+        _ => items::written_back(to, call, item),
     }
 }
 
-fn three(alloc: Global, call: &str, first: &str, second: &str, third: &str) -> Answer {
+fn two(to: &mut Out, call: &str, first: &str, second: &str) {
     match call {
-        "enc-structure" => structures::encryption(alloc, first, second, third),
-        "ec2-key" => keys::public(alloc, first, second, third),
-        "ec2-key-by-sign" => keys::public_by_sign(alloc, first, second, third),
-        _ => {
-            let (second, third) = (bytes(alloc, second)?, bytes(alloc, third)?);
-            of_pair(alloc, call, first, second.as_slice(), third.as_slice())
-        }
+        "canonical-key" => keys::canonical(to, first, second),
+        "limits" => limits::new(to, first, second),
+        "key-of-point" => keys::key_of_point(to, first, second),
+        "ml-dsa-key" => keys::ml_dsa(to, first, second),
+        "same-error" => errors::are_same(to, first, second),
+        "same-context" => structures::are_same(to, first, second),
+        "same-order" => keys::are_same_orders(to, first, second),
+        "same-ml-dsa-variant" => keys::are_same_variants(to, first, second),
+        "as-written" => exact::is_as_written(to, first, second),
+        _ => of_two_items(to, call, first, second),
     }
 }
 
-fn of_pair(alloc: Global, call: &str, word: &str, first: &[u8], second: &[u8]) -> Answer {
+fn of_two_items(to: &mut Out, call: &str, first: &str, second: &str) {
     match call {
-        "recipient-cipher" => messages::recipient_handed(alloc, word, first, second),
-        "hmac-in-pieces" => tags::in_pieces(alloc, word, first, second),
-        _ => {
-            let message = bytes(alloc, word)?;
-            of_message(alloc, call, message.as_slice(), first, second)
-        }
+        "same-protected-header" => protected::are_same(to, first, second),
+        "sign1-tbs" => messages::sign1_covered(to, first, second),
+        "sign1-verifier" => messages::sign1_handed(to, first, second),
+        "sign-verifier" => messages::sign_handed(to, first, second),
+        "mac0-verifier" => messages::mac0_handed(to, first, second),
+        "mac-verifier" => messages::mac_handed(to, first, second),
+        "encrypt0-cipher" => messages::encrypt0_handed(to, first, second),
+        "encrypt-cipher" => messages::encrypt_handed(to, first, second),
+        "hmac" => tags::whole(to, first, second),
+        "hmac-of-clone" => tags::of_clone(to, first, second),
+        "same-tag" => tags::are_same(to, first, second),
+        _ => items::same(to, call, first, second),
     }
 }
 
-fn of_message(alloc: Global, call: &str, message: &[u8], first: &[u8], second: &[u8]) -> Answer {
+fn three(to: &mut Out, call: &str, first: &str, second: &str, third: &str) {
     match call {
-        "sign1-tbs-detached" => messages::sign1_covered_detached(alloc, message, first, second),
-        "sign-tbs" => messages::sign_covered(alloc, message, first, second),
-        _ => Err(NoAnswer::NoCall),
+        "enc-structure" => structures::encryption(to, first, second, third),
+        "ec2-key" => keys::public(to, first, second, third),
+        "ec2-key-by-sign" => keys::public_by_sign(to, first, second, third),
+        "recipient-cipher" => messages::recipient_handed(to, first, second, third),
+        "hmac-in-pieces" => tags::in_pieces(to, first, second, third),
+        "sign1-tbs-detached" => messages::sign1_covered_detached(to, first, second, third),
+        "sign-tbs" => messages::sign_covered(to, first, second, third),
+        "widest" => widest::written_back(to, first, second, third),
+        _ => to.refuse(NoAnswer::NoCall),
     }
 }
 
-fn four(alloc: Global, call: &str, [first, second, third, fourth]: [&str; 4]) -> Answer {
+fn four(to: &mut Out, call: &str, words: [&str; 4]) {
+    let [first, second, third, fourth] = words;
     match call {
-        "mac-structure" => structures::mac(alloc, first, second, third, fourth),
-        "within" => limits::written_back(alloc, [first, second, third, fourth]),
-        "ec2-private-key" => keys::private(alloc, first, second, third, fourth),
-        "sign-tbs-detached" => {
-            let (message, signature) = (bytes(alloc, first)?, bytes(alloc, second)?);
-            let (payload, aad) = (bytes(alloc, third)?, bytes(alloc, fourth)?);
-            messages::sign_covered_detached(alloc, &message, &signature, &payload, &aad)
-        }
-        _ => Err(NoAnswer::NoCall),
+        "mac-structure" => structures::mac(to, first, second, third, fourth),
+        "within" => limits::written_back(to, words),
+        "ec2-private-key" => keys::private(to, first, second, third, fourth),
+        "sign-tbs-detached" => messages::sign_covered_detached(to, words),
+        _ => to.refuse(NoAnswer::NoCall),
+    }
+}
+
+fn five(to: &mut Out, call: &str, first: &str, others: [&str; 4]) {
+    match call {
+        "sig-structure" => structures::signature(to, first, others),
+        _ => to.refuse(NoAnswer::NoCall),
     }
 }

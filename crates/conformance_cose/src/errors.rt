@@ -1,10 +1,8 @@
 //! The texts of errors.
-use crate::answers::{Answer, NoAnswer, yes_or_no};
+use crate::out::{NoAnswer, Out};
 use coset::cbor::de;
 use coset::cbor::values::Kind;
 use coset::{CoseError, EndOfFile, Fault, ParseSec1OctetStringError, ToSec1OctetStringError};
-use std::alloc::Global;
-use std::fmt::{Debug, Display};
 
 /// Errors by name.
 const ERRORS: &[(&str, CoseError)] = &[
@@ -50,34 +48,39 @@ const ERRORS: &[(&str, CoseError)] = &[
 ];
 
 /// The text of the error with this name.
-pub fn text(alloc: Global, name: &str) -> Answer {
+pub fn text(to: &mut Out, name: &str) {
     match name {
-        "ParseSec1OctetStringError.Memory" => { written(alloc, &ParseSec1OctetStringError::Memory) }
-        "ToSec1OctetStringError.Memory" => written(alloc, &ToSec1OctetStringError::Memory),
-        _ => written(alloc, &named(name)?),
+        "ParseSec1OctetStringError.Memory" => to.show(&ParseSec1OctetStringError::Memory),
+        "ToSec1OctetStringError.Memory" => to.show(&ToSec1OctetStringError::Memory),
+        _ => {
+            let error = named(to, name);
+            to.show(&error);
+        }
     }
 }
 
 /// The text that a failing test shows of the error with this name.
-pub fn debug_text(alloc: Global, name: &str) -> Answer {
-    let error = named(name)?;
-    Ok(format!(in alloc; "{error:?}")?)
+pub fn debug_text(to: &mut Out, name: &str) {
+    let error = named(to, name);
+    to.debug(&error);
 }
 
-fn named(name: &str) -> Result<CoseError, NoAnswer> {
+fn named(to: &mut Out, name: &str) -> CoseError {
     for (known, error) in ERRORS {
         if *known == name {
-            return Ok(*error);
+            return *error;
         }
     }
-    Err(NoAnswer::NoArgument)
+    to.refuse(NoAnswer::NoArgument);
+    CoseError::Memory
 }
 
-/// The fault with this name, which is that of its error, behind `Caller.` where the caller's code gave it.
-fn fault(name: &str) -> Result<Fault<CoseError>, NoAnswer> {
+/// The fault with this name, which is that of its error, behind `Caller.` where the caller's code
+/// gave it.
+fn fault(to: &mut Out, name: &str) -> Fault<CoseError> {
     match name.strip_prefix("Caller.") {
-        Some(name) => Ok(Fault::Caller(named(name)?)),
-        None => Ok(Fault::Cose(named(name)?)),
+        Some(name) => Fault::Caller(named(to, name)),
+        None => Fault::Cose(named(to, name)),
     }
 }
 
@@ -100,16 +103,13 @@ fn of_octets(name: &str) -> Option<ParseSec1OctetStringError> {
 }
 
 /// Whether the errors or faults with these names are the same.
-pub fn are_same(alloc: Global, first: &str, second: &str) -> Answer {
+pub fn are_same(to: &mut Out, first: &str, second: &str) {
     if let (Some(first), Some(second)) = (of_point(first), of_point(second)) {
-        return yes_or_no(alloc, first == second);
+        to.yes_or_no(first == second);
+    } else if let (Some(first), Some(second)) = (of_octets(first), of_octets(second)) {
+        to.yes_or_no(first == second);
+    } else {
+        let (first, second) = (fault(to, first), fault(to, second));
+        to.yes_or_no(first == second);
     }
-    if let (Some(first), Some(second)) = (of_octets(first), of_octets(second)) {
-        return yes_or_no(alloc, first == second);
-    }
-    yes_or_no(alloc, fault(first)? == fault(second)?)
-}
-
-fn written<E: Display>(alloc: Global, error: &E) -> Answer {
-    Ok(format!(in alloc; "{error}")?)
 }

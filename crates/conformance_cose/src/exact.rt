@@ -1,28 +1,28 @@
 //! Whether items are as they would be written.
-use crate::answers::{Answer, NoAnswer, fault, yes_or_no};
+use crate::out::{NoAnswer, Out};
 use coset::{
     AsWritten, CoseMac, CoseMac0, CoseRecipient, CoseSign, CoseSign1, CoseSignature, Header,
     read_to_value,
 };
-use std::alloc::Global;
 
 /// Whether the value of an item is already the one that would be written of what it is read as.
-pub fn is_as_written(alloc: Global, kind: &str, item: &[u8]) -> Answer {
+pub fn is_as_written(to: &mut Out, kind: &str, item: &str) {
     match kind {
-        "header" => of_kind::<Header>(alloc, item),
-        "signature" => of_kind::<CoseSignature>(alloc, item),
-        "recipient" => of_kind::<CoseRecipient>(alloc, item),
-        "sign1" => of_kind::<CoseSign1>(alloc, item),
-        "sign" => of_kind::<CoseSign>(alloc, item),
-        "mac0" => of_kind::<CoseMac0>(alloc, item),
-        "mac" => of_kind::<CoseMac>(alloc, item),
-        _ => Err(NoAnswer::NoArgument),
+        "header" => of_kind::<Header>(to, item),
+        "signature" => of_kind::<CoseSignature>(to, item),
+        "recipient" => of_kind::<CoseRecipient>(to, item),
+        "sign1" => of_kind::<CoseSign1>(to, item),
+        "sign" => of_kind::<CoseSign>(to, item),
+        "mac0" => of_kind::<CoseMac0>(to, item),
+        "mac" => of_kind::<CoseMac>(to, item),
+        _ => to.refuse(NoAnswer::NoArgument),
     }
 }
 
-fn of_kind<T: AsWritten>(alloc: Global, item: &[u8]) -> Answer {
-    match read_to_value(alloc, item, 256) {
-        Ok(value) => yes_or_no(alloc, T::is_as_written(&value)),
-        Err(error) => fault(alloc, error),
+fn of_kind<T: AsWritten>(to: &mut Out, item: &str) {
+    let item = to.bytes(item);
+    let value = read_to_value(to.alloc(), &item, 256);
+    if let Some(value) = to.value(value) {
+        to.yes_or_no(T::is_as_written(&value));
     }
 }

@@ -1,5 +1,5 @@
 //! Items that are read and written back.
-use crate::answers::{Answer, NoAnswer, fault, made, plain, yes_or_no};
+use crate::out::{NoAnswer, Out};
 use crate::protected;
 use coset::cbor::Value;
 use coset::cwt::ClaimsSet;
@@ -12,148 +12,199 @@ use coset_labels::tuples::three;
 use coset_message_parts::{Parts, read_parts};
 use std::alloc::{AllocError, Global};
 
+/// What an item is read as, or none after the text of its error.
+pub fn read<T: CborSerializable>(to: &mut Out, item: &str) -> Option<T> {
+    let item = to.bytes(item);
+    let read = T::from_slice(to.alloc(), &item);
+    to.value(read)
+}
+
 /// The item that is written of a copy of what this item of some kind is read as.
-pub fn written_back(alloc: Global, kind: &str, item: &[u8]) -> Answer {
+pub fn written_back(to: &mut Out, kind: &str, item: &str) {
     match kind {
-        "label" => back(alloc, item, Label::clone),
-        "header" => back(alloc, item, Header::clone),
-        "protected-map" => back(alloc, item, ProtectedHeader::clone),
-        "signature" => back(alloc, item, CoseSignature::clone),
-        "recipient" => back(alloc, item, CoseRecipient::clone),
-        "key" => back(alloc, item, CoseKey::clone),
-        "key-set" => back(alloc, item, CoseKeySet::clone),
-        "claims" => back(alloc, item, ClaimsSet::clone),
-        "kdf-context" => back(alloc, item, CoseKdfContext::clone),
-        "party-info" => back(alloc, item, PartyInfo::clone),
-        "supp-pub-info" => back(alloc, item, SuppPubInfo::clone),
-        _ => message_back(alloc, kind, item),
+        "label" => back(to, item, Label::clone),
+        "header" => back(to, item, Header::clone),
+        "protected-map" => back(to, item, ProtectedHeader::clone),
+        "signature" => back(to, item, CoseSignature::clone),
+        "recipient" => back(to, item, CoseRecipient::clone),
+        "key" => back(to, item, CoseKey::clone),
+        "key-set" => back(to, item, CoseKeySet::clone),
+        "claims" => back(to, item, ClaimsSet::clone),
+        "kdf-context" => back(to, item, CoseKdfContext::clone),
+        "party-info" => back(to, item, PartyInfo::clone),
+        "supp-pub-info" => back(to, item, SuppPubInfo::clone),
+        _ => message_back(to, kind, item),
     }
 }
 
 /// As `written_back`, of messages.
-fn message_back(alloc: Global, kind: &str, item: &[u8]) -> Answer {
+fn message_back(to: &mut Out, kind: &str, item: &str) {
     match kind {
-        "sign1" => back(alloc, item, CoseSign1::clone),
-        "sign" => back(alloc, item, CoseSign::clone),
-        "mac0" => back(alloc, item, CoseMac0::clone),
-        "mac" => back(alloc, item, CoseMac::clone),
-        "encrypt0" => back(alloc, item, CoseEncrypt0::clone),
-        "encrypt" => back(alloc, item, CoseEncrypt::clone),
-        "sign1-tagged" => tagged_back(alloc, item, CoseSign1::clone),
-        "sign-tagged" => tagged_back(alloc, item, CoseSign::clone),
-        "mac0-tagged" => tagged_back(alloc, item, CoseMac0::clone),
-        "mac-tagged" => tagged_back(alloc, item, CoseMac::clone),
-        "encrypt0-tagged" => tagged_back(alloc, item, CoseEncrypt0::clone),
-        "encrypt-tagged" => tagged_back(alloc, item, CoseEncrypt::clone),
-        _ => Err(NoAnswer::NoCall),
+        "sign1" => back(to, item, CoseSign1::clone),
+        "sign" => back(to, item, CoseSign::clone),
+        "mac0" => back(to, item, CoseMac0::clone),
+        "mac" => back(to, item, CoseMac::clone),
+        "encrypt0" => back(to, item, CoseEncrypt0::clone),
+        "encrypt" => back(to, item, CoseEncrypt::clone),
+        "sign1-tagged" => tagged_back(to, item, CoseSign1::clone),
+        "sign-tagged" => tagged_back(to, item, CoseSign::clone),
+        "mac0-tagged" => tagged_back(to, item, CoseMac0::clone),
+        "mac-tagged" => tagged_back(to, item, CoseMac::clone),
+        "encrypt0-tagged" => tagged_back(to, item, CoseEncrypt0::clone),
+        "encrypt-tagged" => tagged_back(to, item, CoseEncrypt::clone),
+        _ => to.refuse(NoAnswer::NoCall),
     }
 }
 
 /// What is written of a copy.
-fn back<T, C>(alloc: Global, item: &[u8], copy: C) -> Answer
+fn back<T, C>(to: &mut Out, item: &str, copy: C)
 where
     T: CborSerializable + PartialEq,
     C: FnOnce(&T, Global) -> Result<T, AllocError>,
     requires { C.IsAlwaysCallable copy }
 {
-    match T::from_slice(alloc, item) {
-        Ok(read) => {
-            let copied = copy(&read, alloc)?;
-            if copied != read {
-                return plain(alloc, "another copy");
+    let item = to.bytes(item);
+    let read = T::from_slice(to.alloc(), &item);
+    copied(to, read, copy);
+}
+
+/// What is written of a copy of what was read, and what is written of the value itself, where that
+/// is something else.
+pub fn copied<T, C>(to: &mut Out, read: Result<T, CoseError>, copy: C)
+where
+    T: CborSerializable + PartialEq,
+    C: FnOnce(&T, Global) -> Result<T, AllocError>,
+    requires { C.IsAlwaysCallable copy }
+{
+    if let Some(read) = to.value(read) {
+        let copied = copy(&read, to.alloc());
+        if let Some(copied) = to.kept(copied) {
+            if copied == read {
+                let copied = writing(to.alloc(), copied);
+                let read = writing(to.alloc(), read);
+                to.both(&copied, &read);
+            } else {
+                to.text("another copy");
             }
-            made(alloc, copied.to_vec(alloc))
         }
-        Err(error) => fault(alloc, error),
     }
 }
 
+/// What is written of a value.
+fn writing<T: CborSerializable>(alloc: Global, value: T) -> Out {
+    let mut out = Out::new(alloc);
+    out.made(value.to_vec(alloc));
+    out
+}
+
 /// What is written of a copy, with its tag.
-fn tagged_back<T, C>(alloc: Global, item: &[u8], copy: C) -> Answer
+fn tagged_back<T, C>(to: &mut Out, item: &str, copy: C)
 where
     T: TaggedCborSerializable + PartialEq,
     C: FnOnce(&T, Global) -> Result<T, AllocError>,
     requires { C.IsAlwaysCallable copy }
 {
-    match T::from_tagged_slice(alloc, item) {
-        Ok(read) => {
-            let copied = copy(&read, alloc)?;
-            if copied != read {
-                return plain(alloc, "another copy");
+    let item = to.bytes(item);
+    let read = T::from_tagged_slice(to.alloc(), &item);
+    if let Some(read) = to.value(read) {
+        let copied = copy(&read, to.alloc());
+        if let Some(copied) = to.kept(copied) {
+            if copied == read {
+                to.made(copied.to_tagged_vec(to.alloc()));
+            } else {
+                to.text("another copy");
             }
-            made(alloc, copied.to_tagged_vec(alloc))
         }
-        Err(error) => fault(alloc, error),
     }
 }
 
 /// The item that is written of a new value of some kind.
-pub fn new(alloc: Global, kind: &str) -> Answer {
+pub fn new(to: &mut Out, kind: &str) {
+    let alloc = to.alloc();
     match kind {
-        "header" => written(alloc, Header::new(alloc)),
-        "protected-header" => made(
-            alloc,
-            protected::encoded(alloc, ProtectedHeader::new(alloc)),
-        ),
-        "signature" => written(alloc, CoseSignature::new(alloc)),
-        "recipient" => written(alloc, CoseRecipient::new(alloc)),
-        "sign1" => written(alloc, CoseSign1::new(alloc)),
-        "sign" => written(alloc, CoseSign::new(alloc)),
-        "mac0" => written(alloc, CoseMac0::new(alloc)),
-        "mac" => written(alloc, CoseMac::new(alloc)),
-        "encrypt0" => written(alloc, CoseEncrypt0::new(alloc)),
-        "encrypt" => written(alloc, CoseEncrypt::new(alloc)),
-        "key-set" => written(alloc, CoseKeySet::new(alloc)),
-        "claims" => written(alloc, ClaimsSet::new(alloc)),
-        "kdf-context" => written(alloc, CoseKdfContext::new(alloc)),
-        "party-info" => written(alloc, PartyInfo::new(alloc)),
-        "supp-pub-info" => written(alloc, SuppPubInfo::new(alloc)),
-        _ => Err(NoAnswer::NoArgument),
+        "header" => written(to, Header::new(alloc)),
+        "protected-header" => {
+            let encoded = protected::encoded(alloc, ProtectedHeader::new(alloc));
+            to.append(&encoded);
+        }
+        "signature" => written(to, CoseSignature::new(alloc)),
+        "recipient" => written(to, CoseRecipient::new(alloc)),
+        "key-set" => written(to, CoseKeySet::new(alloc)),
+        "claims" => written(to, ClaimsSet::new(alloc)),
+        "kdf-context" => written(to, CoseKdfContext::new(alloc)),
+        "party-info" => written(to, PartyInfo::new(alloc)),
+        "supp-pub-info" => written(to, SuppPubInfo::new(alloc)),
+        _ => new_message(to, kind),
     }
 }
 
-fn written<T: CborSerializable>(alloc: Global, new: T) -> Answer {
-    made(alloc, new.to_vec(alloc))
+/// As `new`, of messages.
+fn new_message(to: &mut Out, kind: &str) {
+    let alloc = to.alloc();
+    match kind {
+        "sign1" => written(to, CoseSign1::new(alloc)),
+        "sign" => written(to, CoseSign::new(alloc)),
+        "mac0" => written(to, CoseMac0::new(alloc)),
+        "mac" => written(to, CoseMac::new(alloc)),
+        "encrypt0" => written(to, CoseEncrypt0::new(alloc)),
+        "encrypt" => written(to, CoseEncrypt::new(alloc)),
+        _ => to.refuse(NoAnswer::NoArgument),
+    }
+}
+
+fn written<T: CborSerializable>(to: &mut Out, new: T) {
+    to.made(new.to_vec(to.alloc()));
 }
 
 /// Whether a header has no field.
-pub fn is_empty_header(alloc: Global, item: &[u8]) -> Answer {
-    match Header::from_slice(alloc, item) {
-        Ok(header) => yes_or_no(alloc, header.is_empty()),
-        Err(error) => fault(alloc, error),
+pub fn is_empty_header(to: &mut Out, item: &str) {
+    if let Some(header) = read::<Header>(to, item) {
+        to.yes_or_no(header.is_empty());
     }
 }
 
 /// Whether what two items are read as is the same, for the kind that the call names.
-pub fn same(alloc: Global, call: &str, first: &[u8], second: &[u8]) -> Answer {
+pub fn same(to: &mut Out, call: &str, first: &str, second: &str) {
     match call {
-        "same-header" => are_same::<Header>(alloc, first, second),
-        "same-signature" => are_same::<CoseSignature>(alloc, first, second),
-        "same-parts" => are_same_parts(alloc, first, second),
-        "same-recipient" => are_same::<CoseRecipient>(alloc, first, second),
-        "same-sign1" => are_same::<CoseSign1>(alloc, first, second),
-        "same-sign" => are_same::<CoseSign>(alloc, first, second),
-        "same-mac0" => are_same::<CoseMac0>(alloc, first, second),
-        "same-mac" => are_same::<CoseMac>(alloc, first, second),
-        "same-encrypt0" => are_same::<CoseEncrypt0>(alloc, first, second),
-        "same-encrypt" => are_same::<CoseEncrypt>(alloc, first, second),
-        "same-key-set" => are_same::<CoseKeySet>(alloc, first, second),
-        "same-claims" => are_same::<ClaimsSet>(alloc, first, second),
-        "same-kdf-context" => are_same::<CoseKdfContext>(alloc, first, second),
-        _ => Err(NoAnswer::NoCall),
+        "same-header" => are_same::<Header>(to, first, second),
+        "same-signature" => are_same::<CoseSignature>(to, first, second),
+        "same-parts" => are_same_parts(to, first, second),
+        "same-recipient" => are_same::<CoseRecipient>(to, first, second),
+        "same-sign1" => are_same::<CoseSign1>(to, first, second),
+        "same-sign" => are_same::<CoseSign>(to, first, second),
+        "same-mac0" => are_same::<CoseMac0>(to, first, second),
+        "same-mac" => are_same::<CoseMac>(to, first, second),
+        "same-encrypt0" => are_same::<CoseEncrypt0>(to, first, second),
+        "same-encrypt" => are_same::<CoseEncrypt>(to, first, second),
+        "same-key-set" => are_same::<CoseKeySet>(to, first, second),
+        "same-claims" => are_same::<ClaimsSet>(to, first, second),
+        "same-kdf-context" => are_same::<CoseKdfContext>(to, first, second),
+        _ => to.refuse(NoAnswer::NoCall),
     }
 }
 
 /// Whether two lists of the parts that messages begin with are the same.
-fn are_same_parts(alloc: Global, first: &[u8], second: &[u8]) -> Answer {
-    match (parts_of(alloc, first), parts_of(alloc, second)) {
-        (Ok(first), Ok(second)) => yes_or_no(alloc, first == second),
-        (Err(error), _) | (_, Err(error)) => fault(alloc, error),
+fn are_same_parts(to: &mut Out, first: &str, second: &str) {
+    if let Some(first) = parts(to, first) {
+        if let Some(second) = parts(to, second) {
+            to.yes_or_no(first == second);
+        }
     }
 }
 
-fn parts_of(alloc: Global, item: &[u8]) -> Result<Parts, CoseError> {
-    match three(Value::from_slice(alloc, item)?.try_as_array()?) {
+/// The parts that messages begin with, or none after the text of their error.
+fn parts(to: &mut Out, item: &str) -> Option<Parts> {
+    match read::<Value>(to, item) {
+        Some(value) => {
+            let parts = parts_of(to.alloc(), value);
+            to.value(parts)
+        }
+        None => None,
+    }
+}
+
+fn parts_of(alloc: Global, value: Value) -> Result<Parts, CoseError> {
+    match three(value.try_as_array()?) {
         Some((protected, unprotected, content)) => {
             read_parts(
                 alloc,
@@ -169,19 +220,10 @@ fn parts_of(alloc: Global, item: &[u8]) -> Result<Parts, CoseError> {
 }
 
 /// Whether what two items are read as is the same.
-fn are_same<T: CborSerializable + PartialEq>(alloc: Global, first: &[u8], second: &[u8]) -> Answer {
-    match both::<T>(alloc, first, second) {
-        Ok((first, second)) => yes_or_no(alloc, first == second),
-        Err(error) => fault(alloc, error),
+fn are_same<T: CborSerializable + PartialEq>(to: &mut Out, first: &str, second: &str) {
+    if let Some(first) = read::<T>(to, first) {
+        if let Some(second) = read::<T>(to, second) {
+            to.yes_or_no(first == second);
+        }
     }
-}
-
-fn both<T: CborSerializable>(
-    alloc: Global,
-    first: &[u8],
-    second: &[u8],
-) -> Result<(T, T), CoseError> {
-    let first = T::from_slice(alloc, first)?;
-    let second = T::from_slice(alloc, second)?;
-    Ok((first, second))
 }

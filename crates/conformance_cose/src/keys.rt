@@ -1,156 +1,164 @@
 //! Keys, their order and their points.
-use crate::answers::{Answer, NoAnswer, bytes, fault, made, number, plain, shown, yes_or_no};
+use crate::items::read;
+use crate::out::{NoAnswer, Out};
 use coset::iana::{Algorithm, EllipticCurve, EnumI64};
 use coset::{CborOrdering, CborSerializable, CoseError, CoseKey, CoseKeyBuilder, MlDsaVariant};
-use std::alloc::Global;
 
 /// The order with this name.
-fn order(name: &str) -> Result<CborOrdering, NoAnswer> {
+fn order(to: &mut Out, name: &str) -> CborOrdering {
     match name {
-        "bytewise" => Ok(CborOrdering::Lexicographic),
-        "length-first" => Ok(CborOrdering::LengthFirstLexicographic),
-        _ => Err(NoAnswer::NoArgument),
+        "bytewise" => CborOrdering::Lexicographic,
+        "length-first" => CborOrdering::LengthFirstLexicographic,
+        _ => {
+            to.refuse(NoAnswer::NoArgument);
+            CborOrdering::Lexicographic
+        }
     }
 }
 
 /// Whether two orders are the same.
-pub fn are_same_orders(alloc: Global, first: &str, second: &str) -> Answer {
-    yes_or_no(alloc, order(first)? == order(second)?)
+pub fn are_same_orders(to: &mut Out, first: &str, second: &str) {
+    let (first, second) = (order(to, first), order(to, second));
+    to.yes_or_no(first == second);
 }
 
 /// A key with its params in canonical order.
-pub fn canonical(alloc: Global, ordering: &str, key: &str) -> Answer {
-    let key = bytes(alloc, key)?;
-    made(alloc, sorted(alloc, &key, order(ordering)?))
-}
-
-fn sorted(alloc: Global, key: &[u8], ordering: CborOrdering) -> Result<Vec<u8>, CoseError> {
-    let mut key = CoseKey::from_slice(alloc, key)?;
-    key.canonicalize(alloc, ordering)?;
-    key.to_vec(alloc)
+pub fn canonical(to: &mut Out, ordering: &str, key: &str) {
+    let ordering = order(to, ordering);
+    if let Some(mut key) = read::<CoseKey>(to, key) {
+        match key.canonicalize(to.alloc(), ordering) {
+            Ok(()) => to.made(key.to_vec(to.alloc())),
+            Err(error) => to.failure(&error),
+        }
+    }
 }
 
 /// The octet string of a key's point (SEC 1, section 2.3.3).
-pub fn point_of_key(alloc: Global, key: &[u8]) -> Answer {
-    match CoseKey::from_slice(alloc, key) {
-        Ok(key) => match key.to_sec1_octet_string(alloc) {
-            Ok(octets) => shown(alloc, octets.as_slice()),
-            Err(error) => fault(alloc, error),
-        },
-        Err(error) => fault(alloc, error),
+pub fn point_of_key(to: &mut Out, key: &str) {
+    if let Some(key) = read::<CoseKey>(to, key) {
+        match key.to_sec1_octet_string(to.alloc()) {
+            Ok(octets) => to.hex(octets.as_slice()),
+            Err(error) => to.failure(&error),
+        }
     }
 }
 
 /// The curve with this number.
-fn curve(text: &str) -> Result<EllipticCurve, NoAnswer> {
-    match EllipticCurve::from_i64(number(text)?) {
-        Some(curve) => Ok(curve),
-        None => Err(NoAnswer::NoArgument),
+fn curve(to: &mut Out, number: &str) -> EllipticCurve {
+    match EllipticCurve::from_i64(to.number(number)) {
+        Some(curve) => curve,
+        None => {
+            to.refuse(NoAnswer::NoArgument);
+            EllipticCurve::P_256
+        }
     }
 }
 
 /// The key of a point's octet string.
-pub fn key_of_point(alloc: Global, on: &str, octets: &str) -> Answer {
-    let on = curve(on)?;
-    let octets = bytes(alloc, octets)?;
-    match CoseKeyBuilder::new_ec2_pub_key_sec1_octet_string(alloc, on, &octets) {
-        Ok(builder) => made(alloc, builder.build().to_vec(alloc)),
-        Err(error) => fault(alloc, error),
+pub fn key_of_point(to: &mut Out, on: &str, octets: &str) {
+    let on = curve(to, on);
+    let octets = to.bytes(octets);
+    match CoseKeyBuilder::new_ec2_pub_key_sec1_octet_string(to.alloc(), on, &octets) {
+        Ok(builder) => to.made(builder.build().to_vec(to.alloc())),
+        Err(error) => to.failure(&error),
     }
 }
 
 /// What is written of a key that was built.
-fn built(alloc: Global, builder: Result<CoseKeyBuilder, CoseError>) -> Answer {
+fn built(to: &mut Out, builder: Result<CoseKeyBuilder, CoseError>) {
     match builder {
-        Ok(builder) => made(alloc, builder.build().to_vec(alloc)),
-        Err(error) => fault(alloc, error),
+        Ok(builder) => to.made(builder.build().to_vec(to.alloc())),
+        Err(error) => to.failure(&error),
     }
 }
 
 /// A public key by both coordinates.
-pub fn public(alloc: Global, on: &str, x: &str, y: &str) -> Answer {
-    let (x, y) = (bytes(alloc, x)?, bytes(alloc, y)?);
-    built(
-        alloc,
-        CoseKeyBuilder::new_ec2_pub_key(alloc, curve(on)?, x, y),
-    )
+pub fn public(to: &mut Out, on: &str, x: &str, y: &str) {
+    let on = curve(to, on);
+    let x = to.bytes(x);
+    let y = to.bytes(y);
+    built(to, CoseKeyBuilder::new_ec2_pub_key(to.alloc(), on, x, y));
 }
 
 /// A public key by x and the sign of y, which is 0 or 1.
-pub fn public_by_sign(alloc: Global, on: &str, x: &str, sign: &str) -> Answer {
-    let x = bytes(alloc, x)?;
-    let sign = match sign {
-        "0" => false,
-        "1" => true,
-        _ => return Err(NoAnswer::NoArgument),
-    };
-    built(
-        alloc,
-        CoseKeyBuilder::new_ec2_pub_key_y_sign(alloc, curve(on)?, x, sign),
-    )
+pub fn public_by_sign(to: &mut Out, on: &str, x: &str, sign: &str) {
+    if sign != "0" && sign != "1" {
+        to.refuse(NoAnswer::NoArgument);
+    }
+    let on = curve(to, on);
+    let x = to.bytes(x);
+    let builder = CoseKeyBuilder::new_ec2_pub_key_y_sign(to.alloc(), on, x, sign == "1");
+    built(to, builder);
 }
 
 /// A private key.
-pub fn private(alloc: Global, on: &str, x: &str, y: &str, d: &str) -> Answer {
-    let (x, y, d) = (bytes(alloc, x)?, bytes(alloc, y)?, bytes(alloc, d)?);
+pub fn private(to: &mut Out, on: &str, x: &str, y: &str, d: &str) {
+    let on = curve(to, on);
+    let x = to.bytes(x);
+    let y = to.bytes(y);
+    let d = to.bytes(d);
     built(
-        alloc,
-        CoseKeyBuilder::new_ec2_priv_key(alloc, curve(on)?, x, y, d),
-    )
+        to,
+        CoseKeyBuilder::new_ec2_priv_key(to.alloc(), on, x, y, d),
+    );
 }
 
 /// A symmetric key.
-pub fn symmetric(alloc: Global, secret: Vec<u8>) -> Answer {
-    built(alloc, CoseKeyBuilder::new_symmetric_key(alloc, secret))
+pub fn symmetric(to: &mut Out, secret: &str) {
+    let secret = to.bytes(secret);
+    built(to, CoseKeyBuilder::new_symmetric_key(to.alloc(), secret));
 }
 
 /// An octet key pair of nothing but its type.
-pub fn octet_pair(alloc: Global) -> Answer {
-    made(
-        alloc,
-        CoseKeyBuilder::new_okp_key(alloc).build().to_vec(alloc),
-    )
+pub fn octet_pair(to: &mut Out) {
+    let builder = CoseKeyBuilder::new_okp_key(to.alloc());
+    to.made(builder.build().to_vec(to.alloc()));
 }
 
 /// The variant of ML-DSA with this number.
-fn variant(text: &str) -> Result<MlDsaVariant, NoAnswer> {
-    match text {
-        "44" => Ok(MlDsaVariant::MlDsa44),
-        "65" => Ok(MlDsaVariant::MlDsa65),
-        "87" => Ok(MlDsaVariant::MlDsa87),
-        _ => Err(NoAnswer::NoArgument),
+fn variant(to: &mut Out, number: &str) -> MlDsaVariant {
+    match number {
+        "44" => MlDsaVariant::MlDsa44,
+        "65" => MlDsaVariant::MlDsa65,
+        "87" => MlDsaVariant::MlDsa87,
+        _ => {
+            to.refuse(NoAnswer::NoArgument);
+            MlDsaVariant::MlDsa44
+        }
     }
 }
 
 /// Whether two variants of ML-DSA are the same.
-pub fn are_same_variants(alloc: Global, first: &str, second: &str) -> Answer {
-    yes_or_no(alloc, variant(first)? == variant(second)?)
+pub fn are_same_variants(to: &mut Out, first: &str, second: &str) {
+    let (first, second) = (variant(to, first), variant(to, second));
+    to.yes_or_no(first == second);
 }
 
 /// A public key of ML-DSA.
-pub fn ml_dsa(alloc: Global, of: &str, public: &str) -> Answer {
-    let public = bytes(alloc, public)?;
+pub fn ml_dsa(to: &mut Out, of: &str, public: &str) {
+    let of = variant(to, of);
+    let public = to.bytes(public);
     built(
-        alloc,
-        CoseKeyBuilder::new_mldsa_pub_key(alloc, variant(of)?, public),
-    )
+        to,
+        CoseKeyBuilder::new_mldsa_pub_key(to.alloc(), of, public),
+    );
 }
 
 /// The number of the algorithm of a variant.
-pub fn ml_dsa_algorithm(alloc: Global, of: &str) -> Answer {
-    let algorithm = Algorithm::from(variant(of)?);
-    Ok(format!(in alloc; "{}", algorithm.to_i64())?)
+pub fn ml_dsa_algorithm(to: &mut Out, of: &str) {
+    let algorithm = Algorithm::from(variant(to, of));
+    to.show(&algorithm.to_i64());
 }
 
 /// The variant of the algorithm with this number.
-pub fn ml_dsa_variant(alloc: Global, algorithm: &str) -> Answer {
-    match Algorithm::from_i64(number(algorithm)?) {
+pub fn ml_dsa_variant(to: &mut Out, algorithm: &str) {
+    match Algorithm::from_i64(to.number(algorithm)) {
         Some(algorithm) => match MlDsaVariant::try_from(algorithm) {
-            Ok(MlDsaVariant::MlDsa44) => plain(alloc, "44"),
-            Ok(MlDsaVariant::MlDsa65) => plain(alloc, "65"),
-            Ok(MlDsaVariant::MlDsa87) => plain(alloc, "87"),
-            Err(error) => fault(alloc, error),
+            Ok(MlDsaVariant::MlDsa44) => to.text("44"),
+            Ok(MlDsaVariant::MlDsa65) => to.text("65"),
+            Ok(MlDsaVariant::MlDsa87) => to.text("87"),
+            Err(error) => to.failure(&error),
         },
-        None => Err(NoAnswer::NoArgument),
+        None => to.refuse(NoAnswer::NoArgument),
     }
 }

@@ -1,86 +1,93 @@
 //! Reading within limits.
-use crate::answers::{Answer, NoAnswer, bytes, fault, made, plain};
+use crate::items::{copied, read};
+use crate::out::{NoAnswer, Out};
 use crate::protected;
 use coset::cbor::Value;
 use coset::{
-    CborSerializable, CoseEncrypt, CoseEncrypt0, CoseError, CoseMac, CoseMac0, CoseRecipient,
-    CoseSign, CoseSign1, CoseSignature, Header, Limits, ProtectedHeader,
+    CoseEncrypt, CoseEncrypt0, CoseMac, CoseMac0, CoseRecipient, CoseSign, CoseSign1,
+    CoseSignature, Header, Limits, ProtectedHeader,
 };
-use std::alloc::Global;
 
-/// The number that an argument stands for.
-fn size(text: &str) -> Result<usize, NoAnswer> {
-    match text.parse::<usize>() {
-        Ok(number) => Ok(number),
-        Err(_) => Err(NoAnswer::NoArgument),
-    }
+/// The limits that two words are.
+pub fn limits(to: &mut Out, nesting: &str, layers: &str) -> Option<Limits> {
+    let nesting = to.size(nesting);
+    let layers = to.size(layers);
+    Limits::new(nesting, layers)
 }
 
 /// The nesting and the layers, or `none` where they are no limits.
-pub fn new(alloc: Global, nesting: &str, layers: &str) -> Answer {
-    match Limits::new(size(nesting)?, size(layers)?) {
-        Some(limits) => Ok(format!(in alloc; "{} {}", limits.nesting(), limits.layers())?),
-        None => plain(alloc, "none"),
+pub fn new(to: &mut Out, nesting: &str, layers: &str) {
+    match limits(to, nesting, layers) {
+        Some(limits) => {
+            to.show(&limits.nesting());
+            to.text(" ");
+            to.show(&limits.layers());
+        }
+        None => to.text("none"),
     }
 }
 
-/// What is written of what an item of some kind is read as, within a nesting and layers.
-pub fn written_back(alloc: Global, [nesting, layers, kind, item]: [&str; 4]) -> Answer {
-    let item = bytes(alloc, item)?;
-    match Limits::new(size(nesting)?, size(layers)?) {
-        Some(limits) => match Value::from_slice(alloc, item.as_slice()) {
-            Ok(value) => of_kind(alloc, kind, value, limits),
-            Err(error) => fault(alloc, error),
-        },
-        None => Err(NoAnswer::NoArgument),
+/// What is written of a copy of what an item of some kind is read as, within a nesting and layers.
+pub fn written_back(to: &mut Out, [nesting, layers, kind, item]: [&str; 4]) {
+    match limits(to, nesting, layers) {
+        Some(limits) => {
+            if let Some(value) = read::<Value>(to, item) {
+                of_kind(to, kind, value, limits);
+            }
+        }
+        None => to.refuse(NoAnswer::NoArgument),
     }
 }
 
-fn of_kind(alloc: Global, kind: &str, value: Value, limits: Limits) -> Answer {
+/// What is written of a copy of what a value of some kind is read as, within limits.
+pub fn of_kind(to: &mut Out, kind: &str, value: Value, limits: Limits) {
     match kind {
-        "header" => back(alloc, Header::from_cbor_value_with(alloc, value, limits)),
-        "protected-header" => protected_back(alloc, value, limits),
-        "signature" => back(
-            alloc,
-            CoseSignature::from_cbor_value_with(alloc, value, limits),
-        ),
-        "recipient" => back(
-            alloc,
-            CoseRecipient::from_cbor_value_with(alloc, value, limits),
-        ),
-        _ => message(alloc, kind, value, limits),
+        "header" => {
+            let read = Header::from_cbor_value_with(to.alloc(), value, limits);
+            copied(to, read, Header::clone);
+        }
+        "signature" => {
+            let read = CoseSignature::from_cbor_value_with(to.alloc(), value, limits);
+            copied(to, read, CoseSignature::clone);
+        }
+        "recipient" => {
+            let read = CoseRecipient::from_cbor_value_with(to.alloc(), value, limits);
+            copied(to, read, CoseRecipient::clone);
+        }
+        "protected-header" => {
+            let read = ProtectedHeader::from_cbor_bstr_with(to.alloc(), value, limits);
+            protected::copied(to, read);
+        }
+        _ => of_message(to, kind, value, limits),
     }
 }
 
-fn message(alloc: Global, kind: &str, value: Value, limits: Limits) -> Answer {
+fn of_message(to: &mut Out, kind: &str, value: Value, limits: Limits) {
     match kind {
-        "sign1" => back(alloc, CoseSign1::from_cbor_value_with(alloc, value, limits)),
-        "sign" => back(alloc, CoseSign::from_cbor_value_with(alloc, value, limits)),
-        "mac0" => back(alloc, CoseMac0::from_cbor_value_with(alloc, value, limits)),
-        "mac" => back(alloc, CoseMac::from_cbor_value_with(alloc, value, limits)),
-        "encrypt0" => back(
-            alloc,
-            CoseEncrypt0::from_cbor_value_with(alloc, value, limits),
-        ),
-        "encrypt" => back(
-            alloc,
-            CoseEncrypt::from_cbor_value_with(alloc, value, limits),
-        ),
-        _ => Err(NoAnswer::NoArgument),
-    }
-}
-
-/// What is written of what was read.
-fn back<T: CborSerializable>(alloc: Global, read: Result<T, CoseError>) -> Answer {
-    match read {
-        Ok(read) => made(alloc, read.to_vec(alloc)),
-        Err(error) => fault(alloc, error),
-    }
-}
-
-fn protected_back(alloc: Global, value: Value, limits: Limits) -> Answer {
-    match ProtectedHeader::from_cbor_bstr_with(alloc, value, limits) {
-        Ok(header) => made(alloc, protected::encoded(alloc, header)),
-        Err(error) => fault(alloc, error),
+        "sign1" => {
+            let read = CoseSign1::from_cbor_value_with(to.alloc(), value, limits);
+            copied(to, read, CoseSign1::clone);
+        }
+        "sign" => {
+            let read = CoseSign::from_cbor_value_with(to.alloc(), value, limits);
+            copied(to, read, CoseSign::clone);
+        }
+        "mac0" => {
+            let read = CoseMac0::from_cbor_value_with(to.alloc(), value, limits);
+            copied(to, read, CoseMac0::clone);
+        }
+        "mac" => {
+            let read = CoseMac::from_cbor_value_with(to.alloc(), value, limits);
+            copied(to, read, CoseMac::clone);
+        }
+        "encrypt0" => {
+            let read = CoseEncrypt0::from_cbor_value_with(to.alloc(), value, limits);
+            copied(to, read, CoseEncrypt0::clone);
+        }
+        "encrypt" => {
+            let read = CoseEncrypt::from_cbor_value_with(to.alloc(), value, limits);
+            copied(to, read, CoseEncrypt::clone);
+        }
+        _ => to.refuse(NoAnswer::NoArgument),
     }
 }

@@ -1,8 +1,8 @@
-//! `conformance_cose`: reads rows from standard input, each a call with its arguments and the answer that is due, as
-//! `header a10126 -> a10126`. It prints each row whose answer is another, and last how many rows there were and how many differ.
+//! `conformance_cose`: reads rows from standard input, each a call with its arguments and the
+//! answer that is due, as `header a10126 -> a10126`. It prints each row whose answer is another,
+//! and last how many rows there were and how many differ.
 #![tactic(auto)]
 
-mod answers;
 mod calls;
 mod errors;
 mod exact;
@@ -10,16 +10,19 @@ mod items;
 mod keys;
 mod limits;
 mod messages;
+mod out;
 mod parts;
 mod protected;
 mod rows;
 mod structures;
 mod tags;
+mod widest;
 
 use std::io;
 
 fn main(rt: HostRuntime) -> io::Result<()> {
     let text = io::read_to_string(rt.alloc(), rt.stdin())?;
-    let report = rows::report(rt.alloc(), text.as_str())?;
+    let report = rows::report(rt.alloc(), text.as_str());
+    let report = report.as_str();
     print!(rt; "{report}")
 }

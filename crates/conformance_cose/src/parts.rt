@@ -1,102 +1,109 @@
 //! Parts of claims and of contexts of key derivation.
-use crate::answers::{Answer, fault, plain, shown};
+use crate::items::read;
+use crate::out::Out;
 use coset::cbor::{Float, Value};
 use coset::cwt::{ClaimsSet, Timestamp};
-use coset::{AsCborValue, CborSerializable, CoseError, Nonce, PartyInfo, SuppPubInfo};
-use std::alloc::Global;
+use coset::{AsCborValue, Nonce, PartyInfo, SuppPubInfo};
 
 /// When a token expires.
-pub fn expiration(alloc: Global, claims: &[u8]) -> Answer {
-    match ClaimsSet::from_slice(alloc, claims) {
-        Ok(claims) => match &claims.expiration_time {
-            Some(time) => of_time(alloc, time),
-            None => plain(alloc, "none"),
-        },
-        Err(error) => fault(alloc, error),
+pub fn expiration(to: &mut Out, claims: &str) {
+    if let Some(claims) = read::<ClaimsSet>(to, claims) {
+        match &claims.expiration_time {
+            Some(time) => of_time(to, time),
+            None => to.text("none"),
+        }
     }
 }
 
-fn of_time(alloc: Global, time: &Timestamp) -> Answer {
+fn of_time(to: &mut Out, time: &Timestamp) {
     match time {
-        Timestamp::WholeSeconds(seconds) => Ok(format!(in alloc; "{seconds}")?),
-        Timestamp::FractionalSeconds(seconds) => of_float(alloc, *seconds),
+        Timestamp::WholeSeconds(seconds) => to.show(seconds),
+        Timestamp::FractionalSeconds(seconds) => of_float(to, *seconds),
     }
 }
 
 /// A float by its width and its bits.
-fn of_float(alloc: Global, float: Float) -> Answer {
+fn of_float(to: &mut Out, float: Float) {
     match float {
-        Float::Half(bits) => Ok(format!(in alloc; "half {bits:04x}")?),
-        Float::Single(bits) => Ok(format!(in alloc; "single {bits:08x}")?),
-        Float::Double(bits) => Ok(format!(in alloc; "double {bits:016x}")?),
+        Float::Half(bits) => {
+            to.text("half ");
+            to.hex(&bits.to_be_bytes());
+        }
+        Float::Single(bits) => {
+            to.text("single ");
+            to.hex(&bits.to_be_bytes());
+        }
+        Float::Double(bits) => {
+            to.text("double ");
+            to.hex(&bits.to_be_bytes());
+        }
     }
 }
 
 /// A copy of a time, and the value that it is made.
-pub fn time(alloc: Global, item: &[u8]) -> Answer {
-    match read_time(alloc, item) {
-        Ok(time) => copied_time(alloc, time),
-        Err(error) => fault(alloc, error),
-    }
-}
-
-fn read_time(alloc: Global, item: &[u8]) -> Result<Timestamp, CoseError> {
-    let value = Value::from_slice(alloc, item)?;
-    Timestamp::from_cbor_value(alloc, value)
-}
-
-fn copied_time(alloc: Global, time: Timestamp) -> Answer {
-    let copy = time.clone(alloc)?;
-    if copy != time {
-        return plain(alloc, "another copy");
-    }
-    let text = of_time(alloc, &copy)?;
-    match copy.to_cbor_value(alloc) {
-        Ok(value) => {
-            let value = of_value(alloc, &value)?;
-            Ok(format!(in alloc; "{text}, value {value}")?)
+pub fn time(to: &mut Out, item: &str) {
+    if let Some(value) = read::<Value>(to, item) {
+        let time = Timestamp::from_cbor_value(to.alloc(), value);
+        if let Some(time) = to.value(time) {
+            copied_time(to, &time);
         }
-        Err(error) => fault(alloc, error),
     }
 }
 
-fn of_value(alloc: Global, value: &Value) -> Answer {
+fn copied_time(to: &mut Out, time: &Timestamp) {
+    let copy = time.clone(to.alloc());
+    if let Some(copy) = to.kept(copy) {
+        if copy != *time {
+            to.text("another copy");
+            return;
+        }
+        of_time(to, &copy);
+        to.text(", value ");
+        let value = copy.to_cbor_value(to.alloc());
+        if let Some(value) = to.value(value) {
+            of_value(to, &value);
+        }
+    }
+}
+
+fn of_value(to: &mut Out, value: &Value) {
     match value {
-        Value::Integer(number) => Ok(format!(in alloc; "{}", i128::from(*number))?),
-        Value::Float(float) => of_float(alloc, *float),
-        _ => plain(alloc, "no time"),
+        Value::Integer(number) => to.show(&i128::from(*number)),
+        Value::Float(float) => of_float(to, *float),
+        _ => to.text("no time"),
     }
 }
 
 /// The nonce of a party.
-pub fn nonce(alloc: Global, party: &[u8]) -> Answer {
-    match PartyInfo::from_slice(alloc, party) {
-        Ok(party) => match &party.nonce {
-            Some(nonce) => of_nonce(alloc, nonce),
-            None => plain(alloc, "none"),
-        },
-        Err(error) => fault(alloc, error),
+pub fn nonce(to: &mut Out, party: &str) {
+    if let Some(party) = read::<PartyInfo>(to, party) {
+        match &party.nonce {
+            Some(nonce) => of_nonce(to, nonce),
+            None => to.text("none"),
+        }
     }
 }
 
-fn of_nonce(alloc: Global, nonce: &Nonce) -> Answer {
-    let copy = nonce.clone(alloc)?;
-    if copy != *nonce {
-        return plain(alloc, "another copy");
-    }
-    match &copy {
-        Nonce::Bytes(bytes) => {
-            let bytes = shown(alloc, bytes.as_slice())?;
-            Ok(format!(in alloc; "bytes {bytes}")?)
+fn of_nonce(to: &mut Out, nonce: &Nonce) {
+    let copy = nonce.clone(to.alloc());
+    if let Some(copy) = to.kept(copy) {
+        if copy != *nonce {
+            to.text("another copy");
+            return;
         }
-        Nonce::Integer(number) => Ok(format!(in alloc; "{number}")?),
+        match &copy {
+            Nonce::Bytes(bytes) => {
+                to.text("bytes ");
+                to.hex(bytes.as_slice());
+            }
+            Nonce::Integer(number) => to.show(number),
+        }
     }
 }
 
 /// The length of a derived key in bits.
-pub fn key_data_length(alloc: Global, info: &[u8]) -> Answer {
-    match SuppPubInfo::from_slice(alloc, info) {
-        Ok(info) => Ok(format!(in alloc; "{}", info.key_data_length)?),
-        Err(error) => fault(alloc, error),
+pub fn key_data_length(to: &mut Out, info: &str) {
+    if let Some(info) = read::<SuppPubInfo>(to, info) {
+        to.show(&info.key_data_length);
     }
 }

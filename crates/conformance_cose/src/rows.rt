@@ -1,7 +1,7 @@
 //! Rows of text.
-use crate::answers::NoAnswer;
 use crate::calls;
-use std::alloc::{AllocError, Global};
+use crate::out::{NoAnswer, Out};
+use std::alloc::Global;
 
 /// How many rows there were, and how many of them differ.
 #[derive(Clone, Copy)]
@@ -21,18 +21,20 @@ impl Counts {
 }
 
 /// What is printed: each row that differs, and the counts.
-pub fn report(alloc: Global, text: &str) -> Result<String, AllocError> {
-    let mut told = String::new(alloc);
+pub fn report(alloc: Global, text: &str) -> Out {
+    let mut told = Out::new(alloc);
     let mut counts = Counts { rows: 0, differ: 0 };
     for (index, line) in text.lines().enumerate() {
         if is_row(line) {
-            let is_so = compare(alloc, index, line, &mut told)?;
+            let is_so = compare(&mut told, index, line);
             counts = counts.with(is_so);
         }
     }
-    let last = format!(in alloc; "{} rows, {} differ\n", counts.rows, counts.differ)?;
-    told.push_str(last.as_str())?;
-    Ok(told)
+    told.show(&counts.rows);
+    told.text(" rows, ");
+    told.show(&counts.differ);
+    told.text(" differ\n");
+    told
 }
 
 /// Whether the line is a row: no comment, and not empty.
@@ -40,40 +42,36 @@ fn is_row(line: &str) -> bool {
     !line.is_empty() && !line.starts_with('#')
 }
 
-/// Whether the row's answer is the one that is due. If not, it is told.
-fn compare(alloc: Global, index: usize, line: &str, told: &mut String) -> Result<bool, AllocError> {
-    match line.split_once(" -> ") {
-        Some((asked, due)) => {
-            let got = answer(alloc, asked)?;
-            if got.as_str() == due {
-                return Ok(true);
-            }
-            tell(alloc, index, asked, got.as_str(), told)?;
-        }
-        None => tell(alloc, index, line, "no answer is due", told)?,
+/// Whether the row's answer is the one that is due. If not, it is told: the number of the line,
+/// what was asked, and what was answered. No answer is empty, so a row without one that is due
+/// differs.
+fn compare(told: &mut Out, index: usize, line: &str) -> bool {
+    let (asked, due) = match line.split_once(" -> ") {
+        Some(row) => row,
+        None => (line, ""),
+    };
+    let mut answer = Out::new(told.alloc());
+    calls::answer(&mut answer, asked);
+    let got = match answer.fault() {
+        None => answer.as_str(),
+        Some(why) => reason(why),
+    };
+    if got == due {
+        return true;
     }
-    Ok(false)
+    told.show(&index.wrapping_add(1));
+    told.text(": ");
+    told.text(asked);
+    told.text(" -> ");
+    told.text(got);
+    told.text("\n");
+    false
 }
 
-/// Tells of a row: the number of its line, what was asked, and what was answered.
-fn tell(
-    alloc: Global,
-    index: usize,
-    asked: &str,
-    got: &str,
-    told: &mut String,
-) -> Result<(), AllocError> {
-    let line = format!(in alloc; "{}: {asked} -> {got}\n", index.wrapping_add(1))?;
-    told.push_str(line.as_str())
-}
-
-/// What the call with these arguments answers.
-fn answer(alloc: Global, asked: &str) -> Result<String, AllocError> {
-    let words = asked.split(' ').collect::<Vec<&str>>(alloc)?;
-    match calls::answer(alloc, words.as_slice()) {
-        Ok(answer) => Ok(answer),
-        Err(NoAnswer::Memory) => Err(AllocError),
-        Err(NoAnswer::NoCall) => String::from_str(alloc, "no such call"),
-        Err(NoAnswer::NoArgument) => String::from_str(alloc, "no such argument"),
+fn reason(why: NoAnswer) -> &'static str {
+    match why {
+        NoAnswer::Memory => "out of memory",
+        NoAnswer::NoCall => "no such call",
+        NoAnswer::NoArgument => "no such argument",
     }
 }

@@ -1,151 +1,142 @@
 //! The structures that signatures, tags and encryptions cover. A context is named by its text.
-use crate::answers::{Answer, NoAnswer, bytes, made, shown, yes_or_no};
+use crate::out::{NoAnswer, Out};
 use crate::protected::read;
 use coset::{
-    CoseError, EncryptionContext, MacContext, SignatureContext, bytes_title, enc_structure_data,
+    EncryptionContext, MacContext, SignatureContext, bytes_title, enc_structure_data,
     mac_structure_data, sig_structure_data,
 };
-use std::alloc::Global;
 
-fn signature_context(text: &str) -> Result<SignatureContext, NoAnswer> {
+fn signature_context(text: &str) -> Option<SignatureContext> {
     match text {
-        "Signature" => Ok(SignatureContext::CoseSignature),
-        "Signature1" => Ok(SignatureContext::CoseSign1),
-        "CounterSignature" => Ok(SignatureContext::CounterSignature),
-        _ => Err(NoAnswer::NoArgument),
+        "Signature" => Some(SignatureContext::CoseSignature),
+        "Signature1" => Some(SignatureContext::CoseSign1),
+        "CounterSignature" => Some(SignatureContext::CounterSignature),
+        _ => None,
     }
 }
 
-fn mac_context(text: &str) -> Result<MacContext, NoAnswer> {
+fn mac_context(text: &str) -> Option<MacContext> {
     match text {
-        "MAC" => Ok(MacContext::CoseMac),
-        "MAC0" => Ok(MacContext::CoseMac0),
-        _ => Err(NoAnswer::NoArgument),
+        "MAC" => Some(MacContext::CoseMac),
+        "MAC0" => Some(MacContext::CoseMac0),
+        _ => None,
     }
 }
 
-fn encryption_context(text: &str) -> Result<EncryptionContext, NoAnswer> {
+fn encryption_context(text: &str) -> Option<EncryptionContext> {
     match text {
-        "Encrypt" => Ok(EncryptionContext::CoseEncrypt),
-        "Encrypt0" => Ok(EncryptionContext::CoseEncrypt0),
-        "Enc_Recipient" => Ok(EncryptionContext::EncRecipient),
-        "Mac_Recipient" => Ok(EncryptionContext::MacRecipient),
-        "Rec_Recipient" => Ok(EncryptionContext::RecRecipient),
-        _ => Err(NoAnswer::NoArgument),
+        "Encrypt" => Some(EncryptionContext::CoseEncrypt),
+        "Encrypt0" => Some(EncryptionContext::CoseEncrypt0),
+        "Enc_Recipient" => Some(EncryptionContext::EncRecipient),
+        "Mac_Recipient" => Some(EncryptionContext::MacRecipient),
+        "Rec_Recipient" => Some(EncryptionContext::RecRecipient),
+        _ => None,
     }
 }
 
 /// Whether two contexts of one kind are the same.
-pub fn are_same(alloc: Global, first: &str, second: &str) -> Answer {
-    if let Ok(first) = signature_context(first) {
-        return yes_or_no(alloc, first == signature_context(second)?);
+pub fn are_same(to: &mut Out, first: &str, second: &str) {
+    if let (Some(a), Some(b)) = (signature_context(first), signature_context(second)) {
+        to.yes_or_no(a == b);
+    } else if let (Some(a), Some(b)) = (mac_context(first), mac_context(second)) {
+        to.yes_or_no(a == b);
+    } else if let (Some(a), Some(b)) = (encryption_context(first), encryption_context(second)) {
+        to.yes_or_no(a == b);
+    } else {
+        to.refuse(NoAnswer::NoArgument);
     }
-    if let Ok(first) = mac_context(first) {
-        return yes_or_no(alloc, first == mac_context(second)?);
-    }
-    yes_or_no(
-        alloc,
-        encryption_context(first)? == encryption_context(second)?,
-    )
 }
 
 /// A Sig_structure. The signer's protected header is `none` where there is no signer.
-pub fn signature(alloc: Global, context: &str, [body, signer, aad, payload]: [&str; 4]) -> Answer {
-    let context = signature_context(context)?;
-    let body = bytes(alloc, body)?;
-    let aad = bytes(alloc, aad)?;
-    let payload = bytes(alloc, payload)?;
-    if signer == "none" {
-        return made(alloc, of_body(alloc, context, &body, &aad, &payload));
+pub fn signature(to: &mut Out, context: &str, [body, signer, aad, payload]: [&str; 4]) {
+    let aad = to.bytes(aad);
+    let payload = to.bytes(payload);
+    match signature_context(context) {
+        None => to.refuse(NoAnswer::NoArgument),
+        Some(context) if signer == "none" => of_body(to, context, body, &aad, &payload),
+        Some(context) => of_signer(to, context, [body, signer], &aad, &payload),
     }
-    let signer = bytes(alloc, signer)?;
-    made(
-        alloc,
-        of_signer(alloc, context, [&body, &signer], &aad, &payload),
-    )
 }
 
-fn of_body(
-    alloc: Global,
-    context: SignatureContext,
-    body: &[u8],
-    aad: &[u8],
-    payload: &[u8],
-) -> Result<Vec<u8>, CoseError> {
-    let body = read(alloc, body)?;
-    sig_structure_data(alloc, context, &body, None, aad, payload)
+fn of_body(to: &mut Out, context: SignatureContext, body: &str, aad: &[u8], payload: &[u8]) {
+    if let Some(body) = read(to, body) {
+        let structure = sig_structure_data(to.alloc(), context, &body, None, aad, payload);
+        to.made(structure);
+    }
 }
 
 fn of_signer(
-    alloc: Global,
+    to: &mut Out,
     context: SignatureContext,
-    [body, signer]: [&[u8]; 2],
+    [body, signer]: [&str; 2],
     aad: &[u8],
     payload: &[u8],
-) -> Result<Vec<u8>, CoseError> {
-    let body = read(alloc, body)?;
-    let signer = read(alloc, signer)?;
-    sig_structure_data(alloc, context, &body, Some(&signer), aad, payload)
+) {
+    if let Some(body) = read(to, body) {
+        if let Some(signer) = read(to, signer) {
+            let signer = Some(&signer);
+            let structure = sig_structure_data(to.alloc(), context, &body, signer, aad, payload);
+            to.made(structure);
+        }
+    }
 }
 
 /// A MAC_structure.
-pub fn mac(alloc: Global, context: &str, body: &str, aad: &str, payload: &str) -> Answer {
-    let context = mac_context(context)?;
-    let body = bytes(alloc, body)?;
-    let aad = bytes(alloc, aad)?;
-    let payload = bytes(alloc, payload)?;
-    made(alloc, of_tag(alloc, context, &body, &aad, &payload))
+pub fn mac(to: &mut Out, context: &str, body: &str, aad: &str, payload: &str) {
+    match mac_context(context) {
+        Some(context) => of_tag(to, context, body, aad, payload),
+        None => to.refuse(NoAnswer::NoArgument),
+    }
 }
 
-fn of_tag(
-    alloc: Global,
-    context: MacContext,
-    body: &[u8],
-    aad: &[u8],
-    payload: &[u8],
-) -> Result<Vec<u8>, CoseError> {
-    let body = read(alloc, body)?;
-    mac_structure_data(alloc, context, &body, aad, payload)
+fn of_tag(to: &mut Out, context: MacContext, body: &str, aad: &str, payload: &str) {
+    let aad = to.bytes(aad);
+    let payload = to.bytes(payload);
+    if let Some(body) = read(to, body) {
+        let structure = mac_structure_data(to.alloc(), context, &body, &aad, &payload);
+        to.made(structure);
+    }
 }
 
 /// An Enc_structure.
-pub fn encryption(alloc: Global, context: &str, body: &str, aad: &str) -> Answer {
-    let context = encryption_context(context)?;
-    let body = bytes(alloc, body)?;
-    let aad = bytes(alloc, aad)?;
-    made(alloc, of_ciphertext(alloc, context, &body, &aad))
+pub fn encryption(to: &mut Out, context: &str, body: &str, aad: &str) {
+    match encryption_context(context) {
+        Some(context) => of_ciphertext(to, context, body, aad),
+        None => to.refuse(NoAnswer::NoArgument),
+    }
 }
 
-fn of_ciphertext(
-    alloc: Global,
-    context: EncryptionContext,
-    body: &[u8],
-    aad: &[u8],
-) -> Result<Vec<u8>, CoseError> {
-    let body = read(alloc, body)?;
-    enc_structure_data(alloc, context, &body, aad)
+fn of_ciphertext(to: &mut Out, context: EncryptionContext, body: &str, aad: &str) {
+    let aad = to.bytes(aad);
+    if let Some(body) = read(to, body) {
+        let structure = enc_structure_data(to.alloc(), context, &body, &aad);
+        to.made(structure);
+    }
 }
 
 /// How a structure of the context begins, without a signer.
-pub fn prefix(alloc: Global, context: &str) -> Answer {
-    if let Ok(context) = signature_context(context) {
-        return shown(alloc, context.prefix(false));
+pub fn prefix(to: &mut Out, context: &str) {
+    if let Some(context) = signature_context(context) {
+        to.hex(context.prefix(false));
+    } else if let Some(context) = mac_context(context) {
+        to.hex(context.prefix());
+    } else if let Some(context) = encryption_context(context) {
+        to.hex(context.prefix());
+    } else {
+        to.refuse(NoAnswer::NoArgument);
     }
-    if let Ok(context) = mac_context(context) {
-        return shown(alloc, context.prefix());
-    }
-    shown(alloc, encryption_context(context)?.prefix())
 }
 
 /// How a Sig_structure with a signer begins.
-pub fn signer_prefix(alloc: Global, context: &str) -> Answer {
-    shown(alloc, signature_context(context)?.prefix(true))
+pub fn signer_prefix(to: &mut Out, context: &str) {
+    match signature_context(context) {
+        Some(context) => to.hex(context.prefix(true)),
+        None => to.refuse(NoAnswer::NoArgument),
+    }
 }
 
 /// The title of a byte string of that length.
-pub fn title(alloc: Global, length: &str) -> Answer {
-    match length.parse::<usize>() {
-        Ok(length) => shown(alloc, bytes_title(length).as_slice()),
-        Err(_) => Err(NoAnswer::NoArgument),
-    }
+pub fn title(to: &mut Out, length: &str) {
+    let length = to.size(length);
+    to.hex(bytes_title(length).as_slice());
 }

@@ -1,39 +1,47 @@
 //! Tags by HMAC with SHA-256.
-use crate::answers::{Answer, NoAnswer, plain, shown, yes_or_no};
+use crate::out::{NoAnswer, Out};
 use cose_hmac::{HmacSha256, hmac_sha256, same_tag};
-use std::alloc::Global;
 
 /// The tag of a text.
-pub fn whole(alloc: Global, key: &[u8], text: &[u8]) -> Answer {
-    shown(alloc, hmac_sha256(key, text).as_slice())
+pub fn whole(to: &mut Out, key: &str, text: &str) {
+    let key = to.bytes(key);
+    let text = to.bytes(text);
+    let tag = hmac_sha256(&key, &text);
+    to.hex(tag.as_slice());
 }
 
 /// The tag of a text that comes in pieces of this length, begun as a clone.
-pub fn in_pieces(alloc: Global, length: &str, key: &[u8], text: &[u8]) -> Answer {
-    let Ok(length) = length.parse::<usize>() else {
-        return Err(NoAnswer::NoArgument);
-    };
+pub fn in_pieces(to: &mut Out, length: &str, key: &str, text: &str) {
+    let length = to.size(length);
+    let key = to.bytes(key);
+    let text = to.bytes(text);
     if length == 0 {
-        return Err(NoAnswer::NoArgument);
+        to.refuse(NoAnswer::NoArgument);
+        return;
     }
-    let mut mac = HmacSha256::new(key);
+    let mut mac = HmacSha256::new(&key);
     for piece in text.chunks(length) {
         mac.update(piece);
     }
-    shown(alloc, mac.finalize().as_slice())
+    to.hex(mac.finalize().as_slice());
 }
 
 /// The tag of a text by a clone of a tag that was begun.
-pub fn of_clone(alloc: Global, key: &[u8], text: &[u8]) -> Answer {
-    let empty = HmacSha256::new(key);
+pub fn of_clone(to: &mut Out, key: &str, text: &str) {
+    let key = to.bytes(key);
+    let text = to.bytes(text);
+    let empty = HmacSha256::new(&key);
     let Ok(mut mac) = empty.clone() else {
-        return plain(alloc, "no clone");
+        to.text("no clone");
+        return;
     };
-    mac.update(text);
-    shown(alloc, mac.finalize().as_slice())
+    mac.update(&text);
+    to.hex(mac.finalize().as_slice());
 }
 
 /// Whether two tags are the same.
-pub fn are_same(alloc: Global, first: &[u8], second: &[u8]) -> Answer {
-    yes_or_no(alloc, same_tag(first, second))
+pub fn are_same(to: &mut Out, first: &str, second: &str) {
+    let first = to.bytes(first);
+    let second = to.bytes(second);
+    to.yes_or_no(same_tag(&first, &second));
 }

@@ -1,58 +1,63 @@
 //! Calls by their names.
-use crate::answers::Answer;
-use crate::gating::Way;
-use crate::{asking, cutting, gating, judging, program, streaming, uses, words};
-use std::alloc::Global;
+use crate::out::{NoAnswer, Out};
+use crate::{asking, cutting, gating, judging, program, showing, streaming, uses, words};
 
 /// What the call answers that the first word names.
-pub fn answer(alloc: Global, row: &[&str]) -> Answer {
-    match row {
-        ["cut", place, row @ ..] => cutting::answers(alloc, place, row),
-        _ => uncut(alloc, row),
+pub fn answer(to: &mut Out, row: &str) {
+    let mut row = row;
+    let name = words::word(to, &mut row);
+    if name == "cut" {
+        cutting::answers(to, &mut row);
+    } else {
+        named(to, name, &mut row);
     }
+    end(to, row);
 }
 
 /// What the call answers, with its input whole.
-pub fn uncut(alloc: Global, row: &[&str]) -> Answer {
-    match row {
-        ["gate", input, aad] => gating::run(alloc, Way::Plain, input, aad, None),
-        ["gate", input, aad, no] => {
-            let no = words::bytes(alloc, no)?;
-            gating::run(alloc, Way::Plain, input, aad, Some(no))
-        }
-        ["gate-with", nesting, layers, input, aad] => {
-            let limits = words::limits(nesting, layers)?;
-            gating::run(alloc, Way::Within(limits), input, aad, None)
-        }
-        ["gate-strict", input, aad] => gating::run(alloc, Way::Strict, input, aad, None),
-        ["gate-strict-with", nesting, layers, input, aad] => {
-            let limits = words::limits(nesting, layers)?;
-            gating::run(alloc, Way::StrictWithin(limits), input, aad, None)
-        }
-        ["gate-again", input, aad] => gating::run_again(alloc, input, aad),
-        ["ask", input, aad] => asking::ask(alloc, input, aad),
-        ["pass", accepted, input, aad] => asking::pass(alloc, accepted, input, aad),
-        ["gate-room", room, input] => gating::run_in_room(alloc, room, input),
-        ["stream", room, input, aad] => streaming::check(alloc, None, room, input, aad, None),
-        ["stream", room, input, aad, no] => {
-            let no = words::bytes(alloc, no)?;
-            streaming::check(alloc, None, room, input, aad, Some(no))
-        }
-        ["stream-with", nesting, layers, room, input, aad] => {
-            let limits = words::limits(nesting, layers)?;
-            streaming::check(alloc, Some(limits), room, input, aad, None)
-        }
-        ["stream-fault", input] => streaming::fault(alloc, input),
-        ["run", keys, aad, input] => program::run(alloc, keys, aad, input),
-        ["run-room", room, keys, aad, input] => {
-            program::run_in_room(alloc, room, keys, aad, input)
-        }
-        ["words", all @ ..] => program::arguments(alloc, all),
-        ["tag", keys, protected, unprotected, covered, tag] => {
-            judging::tag(alloc, keys, protected, unprotected, covered, tag)
-        }
-        ["judge", row @ ..] => judging::judge(alloc, row),
-        ["judge-prepared", row @ ..] => judging::prepared_judge(alloc, row),
-        _ => uses::answer(alloc, row),
+pub fn uncut(to: &mut Out, row: &str) {
+    let mut row = row;
+    let name = words::word(to, &mut row);
+    named(to, name, &mut row);
+    end(to, row);
+}
+
+/// No call has words that are left.
+fn end(to: &mut Out, row: &str) {
+    if !row.is_empty() {
+        to.refuse(NoAnswer::NoCall);
+    }
+}
+
+/// The gate's calls.
+fn named(to: &mut Out, name: &str, row: &mut &str) {
+    match name {
+        "gate" => gating::run(to, row),
+        "gate-with" => gating::run_within(to, row),
+        "gate-strict" => gating::run_strict(to, row),
+        "gate-strict-with" => gating::run_strict_within(to, row),
+        "gate-again" => gating::run_again(to, row),
+        "gate-room" => gating::run_in_room(to, row),
+        "ask" => asking::ask(to, row),
+        "pass" => asking::pass(to, row),
+        "stream" => streaming::check(to, row),
+        "stream-with" => streaming::check_within(to, row),
+        "stream-fault" => streaming::fault(to, row),
+        _ => of_program(to, name, row),
+    }
+}
+
+/// Calls of the program, of the judge, and of what is shown.
+fn of_program(to: &mut Out, name: &str, row: &mut &str) {
+    match name {
+        "run" => program::run(to, row),
+        "run-room" => program::run_in_room(to, row),
+        "words" => program::arguments(to, row),
+        "tag" => judging::tag(to, row),
+        "judge" => judging::judge(to, row),
+        "judge-prepared" => judging::prepared_judge(to, row),
+        "show" => showing::show(to, row),
+        "pieces" => showing::pieces(to, row),
+        _ => uses::answer(to, name, row),
     }
 }

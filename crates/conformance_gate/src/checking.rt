@@ -1,45 +1,52 @@
 //! Messages checked under the keys of a set.
-use crate::answers::{Answer, plain, yes_or_no};
 use crate::judging::read_keys;
-use crate::program::{ended, owned};
+use crate::out::Out;
+use crate::program::add_ended;
 use crate::words;
 use cose_gate::{Decoder, HmacJudge, Limits, Mem};
-use std::alloc::Global;
 
 /// Whether the message in front carries a good tag, read through four bytes, and how many bytes were taken.
-pub fn is_tagged(alloc: Global, keys: &str, aad: &str, input: &str) -> Answer {
-    let keys = read_keys(alloc, keys)?;
-    let (aad, input) = (words::bytes(alloc, aad)?, words::bytes(alloc, input)?);
+pub fn is_tagged(to: &mut Out, row: &mut &str) {
+    let keys = read_keys(to, row);
+    let aad = words::bytes(to, row);
+    let input = words::bytes(to, row);
     let mut buffer = [0; 4];
     let mut decoder = Decoder::from(input.as_slice());
-    let answer = callers::checking::is_tagged(alloc, &mut decoder, &mut buffer, &aad, &keys);
-    let taken = decoder.offset();
-    let text = match answer {
-        Ok(yes) => format!(in alloc; "{}, {taken} taken", yes_or_no(yes))?,
-        Err(fault) => format!(in alloc; "{fault:?}")?,
-    };
-    Ok(text)
+    let answer = callers::checking::is_tagged(to.alloc(), &mut decoder, &mut buffer, &aad, &keys);
+    match answer {
+        Ok(yes) => {
+            to.yes_or_no(yes);
+            to.text(", ");
+            to.show(&decoder.offset());
+            to.text(" taken");
+        }
+        Err(fault) => to.debug(&fault),
+    }
 }
 
 /// The answer of a judge that was fed through four bytes.
-pub fn is_fed(alloc: Global, keys: &str, aad: &str, input: &str) -> Answer {
-    let keys = read_keys(alloc, keys)?;
-    let (aad, input) = (words::bytes(alloc, aad)?, words::bytes(alloc, input)?);
+pub fn is_fed(to: &mut Out, row: &mut &str) {
+    let keys = read_keys(to, row);
+    let aad = words::bytes(to, row);
+    let input = words::bytes(to, row);
+    let alloc = to.alloc();
     let mut buffer = [0; 4];
     let mut judge = HmacJudge::prepared(alloc, &keys);
     let mut decoder = Decoder::from(input.as_slice());
     let limits = Limits::default();
     let answer = callers::checking::fed(alloc, limits, &mut decoder, &mut buffer, &aad, &mut judge);
     match answer {
-        Ok(yes) => plain(alloc, yes_or_no(yes)),
-        Err(fault) => Ok(format!(in alloc; "{fault:?}")?),
+        Ok(yes) => to.yes_or_no(yes),
+        Err(fault) => to.debug(&fault),
     }
 }
 
 /// The program over these words: its status, its output, and its lines.
-pub fn program(alloc: Global, keys: &str, input: &str, row: &[&str]) -> Answer {
-    let (keys, input) = (words::optional(alloc, keys)?, words::bytes(alloc, input)?);
-    let all = owned(alloc, row)?;
+pub fn program(to: &mut Out, row: &mut &str) {
+    let keys = words::optional(to, row);
+    let input = words::bytes(to, row);
+    let all = words::owned(to, row);
+    let alloc = to.alloc();
     let mut reader = input.as_slice();
     let mut out = Mem::new(Vec::new(alloc));
     let mut err = Mem::new(Vec::new(alloc));
@@ -51,5 +58,5 @@ pub fn program(alloc: Global, keys: &str, input: &str, row: &[&str]) -> Answer {
         &mut out,
         &mut err,
     );
-    Ok(ended(alloc, status, out.as_written(), err.as_written())?)
+    add_ended(to, status, out.as_written(), err.as_written());
 }

@@ -1,35 +1,39 @@
 //! Calls whose input ends early.
-use crate::answers::{Answer, NoAnswer, append};
+use crate::out::{NoAnswer, Out};
 use crate::{calls, words};
-use std::alloc::{AllocError, Global};
+
+/// A call, and the argument in it that is cut.
+#[derive(Clone, Copy)]
+struct Call<'a> {
+    before: &'a str,
+    input: &'a str,
+    behind: &'a str,
+}
 
 /// One answer to an input that is cut to each of these numbers of bytes, from the first to the last.
 #[derive(Drop)]
 struct Stretch {
     first: usize,
     last: usize,
-    answer: String,
+    answer: Out,
 }
 
 /// What a call answers whose argument at this place is cut to each number of bytes, up to the whole: equal answers in a row are told once, and
 /// the others are parted by ` / `.
-pub fn answers(alloc: Global, place: &str, row: &[&str]) -> Answer {
-    let place = words::number(place)?;
-    let Some(input) = row.get(place) else {
-        return Err(NoAnswer::NoCall);
-    };
-    let mut text = String::new(alloc);
+pub fn answers(to: &mut Out, row: &mut &str) {
+    let place = words::number(to, row);
+    let call = parted(to, place, words::rest(row));
     let mut stretch = Stretch {
         first: 0,
         last: 0,
-        answer: cut_to(alloc, place, row, 0)?,
+        answer: cut_to(to, &call, 0),
     };
-    for count in 1..(input.len() / 2).saturating_add(1) {
-        let answer = cut_to(alloc, place, row, count)?;
-        if answer == stretch.answer {
+    for count in 1..(call.input.len() / 2).saturating_add(1) {
+        let answer = cut_to(to, &call, count);
+        if answer.as_str() == stretch.answer.as_str() {
             stretch.last = count;
         } else {
-            add(alloc, &mut text, &stretch)?;
+            add(to, &stretch);
             stretch = Stretch {
                 first: count,
                 last: count,
@@ -37,34 +41,58 @@ pub fn answers(alloc: Global, place: &str, row: &[&str]) -> Answer {
             };
         }
     }
-    add(alloc, &mut text, &stretch)?;
-    Ok(text)
+    add(to, &stretch);
 }
 
-/// What the call answers whose argument at this place is cut to so many bytes.
-fn cut_to(alloc: Global, place: usize, row: &[&str], count: usize) -> Answer {
-    let mut cut = row.to_vec(alloc)?;
-    if let Some(word) = cut.get_mut(place) {
-        *word = front(word, count)?;
+/// A call with its argument at this place apart.
+fn parted<'a>(to: &mut Out, place: usize, call: &'a str) -> Call<'a> {
+    let mut behind = call;
+    for _ in 0..place {
+        let _ = words::word(to, &mut behind);
     }
-    calls::uncut(alloc, &cut)
+    let before = call.len().saturating_sub(behind.len());
+    Call {
+        before: call.get(..before).unwrap_or(""),
+        input: words::word(to, &mut behind),
+        behind,
+    }
+}
+
+/// What the call answers whose argument is cut to so many bytes.
+fn cut_to(to: &mut Out, call: &Call<'_>, count: usize) -> Out {
+    let mut row = Out::new(to.alloc());
+    row.text(call.before);
+    row.text(front(to, call.input, count));
+    if !call.behind.is_empty() {
+        row.text(" ");
+        row.text(call.behind);
+    }
+    let mut answer = Out::new(to.alloc());
+    calls::uncut(&mut answer, row.as_str());
+    to.refuse_as(&row);
+    to.refuse_as(&answer);
+    answer
 }
 
 /// The first bytes of a word in hex.
-fn front(word: &str, count: usize) -> Result<&str, NoAnswer> {
+fn front<'a>(to: &mut Out, word: &'a str, count: usize) -> &'a str {
     match word.get(..count.saturating_mul(2)) {
-        Some("") => Ok("-"),
-        Some(front) => Ok(front),
-        None => Err(NoAnswer::NotHex),
+        Some("") => "-",
+        Some(front) => front,
+        None => {
+            to.refuse(NoAnswer::NotHex);
+            "-"
+        }
     }
 }
 
-fn add(alloc: Global, text: &mut String, stretch: &Stretch) -> Result<(), AllocError> {
-    let (first, last) = (stretch.first, stretch.last);
-    let part = if first == last {
-        format!(in alloc; "{first}: {}", stretch.answer)?
-    } else {
-        format!(in alloc; "{first} to {last}: {}", stretch.answer)?
-    };
-    append(text, " / ", part.as_str())
+fn add(to: &mut Out, stretch: &Stretch) {
+    to.apart(" / ");
+    to.show(&stretch.first);
+    if stretch.first != stretch.last {
+        to.text(" to ");
+        to.show(&stretch.last);
+    }
+    to.text(": ");
+    to.text(stretch.answer.as_str());
 }

@@ -1,14 +1,23 @@
 //! Runs of the gate with a judge that records its questions.
-use crate::answers::{Answer, append, in_hex};
+use crate::out::Out;
 use crate::words;
 use cose_gate::{
     Asked, Counts, Decoder, End, Entry, GateFault, Limits, Mem, Recorder, Refusal, Report, Silent,
     Verdict, Write, gate, gate_strict, gate_strict_with, gate_with,
 };
-use std::alloc::{AllocError, Global};
+use std::alloc::Global;
 
 /// How a run ends.
 pub type Ended = Result<Counts, GateFault<End>>;
+
+/// By which call a run goes.
+#[derive(Clone, Copy)]
+enum Way {
+    Plain,
+    Within(Limits),
+    Strict,
+    StrictWithin(Limits),
+}
 
 /// It has no clause, so that its callers carry none of the gate's.
 fn gated<W: Write, P: Report>(
@@ -44,124 +53,168 @@ fn gated_by<W: Write, P: Report>(
     }
 }
 
-/// By which call a run goes.
-#[derive(Clone, Copy)]
-pub enum Way {
-    Plain,
-    Within(Limits),
-    Strict,
-    StrictWithin(Limits),
+/// A run of `gate`.
+pub fn run(to: &mut Out, row: &mut &str) {
+    run_by(to, Way::Plain, row);
 }
 
-/// A run over this input with this external data, where the judge says no to this signature alone: its questions, its output, what was
-/// noted of each item, and how it ended.
-pub fn run(alloc: Global, way: Way, input: &str, aad: &str, no: Option<Vec<u8>>) -> Answer {
-    let (input, aad) = (words::bytes(alloc, input)?, words::bytes(alloc, aad)?);
+/// A run of `gate_with`.
+pub fn run_within(to: &mut Out, row: &mut &str) {
+    let limits = words::limits(to, row);
+    run_by(to, Way::Within(limits), row);
+}
+
+/// A run of `gate_strict`.
+pub fn run_strict(to: &mut Out, row: &mut &str) {
+    run_by(to, Way::Strict, row);
+}
+
+/// A run of `gate_strict_with`.
+pub fn run_strict_within(to: &mut Out, row: &mut &str) {
+    let limits = words::limits(to, row);
+    run_by(to, Way::StrictWithin(limits), row);
+}
+
+/// A run over this input with this external data, where the judge says no to the signature that may stand behind them: its questions, its
+/// output, what was noted of each item, and how it ended.
+fn run_by(to: &mut Out, way: Way, row: &mut &str) {
+    let input = words::bytes(to, row);
+    let aad = words::bytes(to, row);
+    let no = words::last(to, row);
+    let alloc = to.alloc();
     let mut judge = Recorder::new(alloc, no);
     let mut out = Mem::new(Vec::new(alloc));
     let mut entries = Vec::new(alloc);
     let ended = gated_by(alloc, way, &input, &aad, &mut out, &mut entries, &mut judge);
-    let mut text = questions(alloc, judge.asked())?;
-    add_output(alloc, &mut text, out.as_written())?;
-    add_entries(alloc, &mut text, entries.as_slice())?;
-    add_end(alloc, &mut text, ended)?;
-    Ok(text)
+    add_questions(to, judge.asked());
+    add_output(to, out.as_written());
+    add_entries(to, entries.as_slice());
+    add_end(to, ended);
 }
 
 /// A run whose output has room for so many bytes, 64 at most, and whose report keeps nothing: its output, and how it ended.
-pub fn run_in_room(alloc: Global, room: &str, input: &str) -> Answer {
-    let (room, input) = (words::number(room)?, words::bytes(alloc, input)?);
+pub fn run_in_room(to: &mut Out, row: &mut &str) {
+    let room = words::number(to, row);
+    let input = words::bytes(to, row);
     let mut memory = [0; 64];
     let mut out = Mem::new(&mut memory[..room.min(64)]);
-    let mut judge = Recorder::new(alloc, None);
-    let ended = gated(alloc, &input, &[], &mut out, &mut Silent, &mut judge);
-    let mut text = String::new(alloc);
-    add_output(alloc, &mut text, out.as_written())?;
-    add_end(alloc, &mut text, ended)?;
-    Ok(text)
+    let mut judge = Recorder::new(to.alloc(), None);
+    let ended = gated(to.alloc(), &input, &[], &mut out, &mut Silent, &mut judge);
+    add_output(to, out.as_written());
+    add_end(to, ended);
 }
 
 /// What a run asks and writes.
-#[derive(PartialEq, Eq, Drop)]
+#[derive(Drop)]
 struct Trace {
-    asked: String,
+    asked: Out,
     output: Vec<u8>,
 }
 
-fn traced(alloc: Global, input: &[u8], aad: &[u8]) -> Result<Trace, AllocError> {
+fn traced(alloc: Global, input: &[u8], aad: &[u8]) -> Trace {
     let mut judge = Recorder::new(alloc, None);
     let mut out = Mem::new(Vec::new(alloc));
     let _ = gated(alloc, input, aad, &mut out, &mut Silent, &mut judge);
-    let asked = questions(alloc, judge.asked())?;
-    Ok(Trace {
+    let mut asked = Out::new(alloc);
+    add_questions(&mut asked, judge.asked());
+    Trace {
         asked,
         output: out.into_inner(),
-    })
+    }
 }
 
 /// The output of a run, and whether a run over it asks and writes the same.
-pub fn run_again(alloc: Global, input: &str, aad: &str) -> Answer {
-    let (input, aad) = (words::bytes(alloc, input)?, words::bytes(alloc, aad)?);
-    let once = traced(alloc, &input, &aad)?;
-    let again = traced(alloc, &once.output, &aad)?;
-    let output = in_hex(alloc, &once.output)?;
-    if once == again {
-        return Ok(format!(in alloc; "{output}, and the same again")?);
-    }
-    let other = in_hex(alloc, &again.output)?;
-    Ok(format!(in alloc; "{output}, and then {other} with {}", again.asked)?)
+pub fn run_again(to: &mut Out, row: &mut &str) {
+    let input = words::bytes(to, row);
+    let aad = words::bytes(to, row);
+    let once = traced(to.alloc(), &input, &aad);
+    let again = traced(to.alloc(), &once.output, &aad);
+    to.refuse_as(&once.asked);
+    to.refuse_as(&again.asked);
+    compare(to, &once, &again);
 }
 
-/// The questions that were asked: the kind, the covered bytes, and the length and the first eight bytes of the signature or tag.
-pub fn questions(alloc: Global, asked: &[Asked]) -> Result<String, AllocError> {
-    let mut text = String::new(alloc);
+fn compare(to: &mut Out, once: &Trace, again: &Trace) {
+    to.hex(&once.output);
+    if once.asked.as_str() == again.asked.as_str() && once.output == again.output {
+        to.text(", and the same again");
+    } else {
+        to.text(", and then ");
+        to.hex(&again.output);
+        to.text(" with ");
+        to.text(again.asked.as_str());
+    }
+}
+
+/// Appends the questions that were asked: the kind, the covered bytes, and the length and the first eight bytes of the signature or tag.
+pub fn add_questions(to: &mut Out, asked: &[Asked]) {
     for question in asked {
-        let part = question_text(alloc, question)?;
-        append(&mut text, "; ", part.as_str())?;
+        add_question(to, question);
     }
-    Ok(text)
 }
 
-fn question_text(alloc: Global, asked: &Asked) -> Result<String, AllocError> {
-    let covered = in_hex(alloc, &asked.structure)?;
-    let front = in_hex(alloc, asked.tag.as_slice())?;
-    format!(in alloc; "{:?} {covered} {} {front}", asked.kind, asked.tag_len)
+fn add_question(to: &mut Out, asked: &Asked) {
+    to.apart("; ");
+    to.debug(&asked.kind);
+    to.text(" ");
+    to.hex(&asked.structure);
+    to.text(" ");
+    to.show(&asked.tag_len);
+    to.text(" ");
+    to.hex(asked.tag.as_slice());
 }
 
 /// Appends an output.
-pub fn add_output(alloc: Global, text: &mut String, output: &[u8]) -> Result<(), AllocError> {
-    let output = in_hex(alloc, output)?;
-    let part = format!(in alloc; "out {output}")?;
-    append(text, "; ", part.as_str())
+pub fn add_output(to: &mut Out, output: &[u8]) {
+    to.apart("; ");
+    to.text("out ");
+    to.hex(output);
 }
 
-fn add_entries(alloc: Global, text: &mut String, entries: &[Entry]) -> Result<(), AllocError> {
+fn add_entries(to: &mut Out, entries: &[Entry]) {
     for entry in entries {
-        let part = entry_text(alloc, *entry)?;
-        append(text, "; ", part.as_str())?;
+        add_entry(to, *entry);
     }
-    Ok(())
 }
 
-/// The number, the offset and the verdict, and what a refusal holds that its text doesn't show.
-fn entry_text(alloc: Global, entry: Entry) -> Result<String, AllocError> {
-    let (number, offset, verdict) = (entry.number, entry.offset, entry.verdict);
+/// Appends the number, the offset and the verdict, and what a refusal holds that its text doesn't show.
+fn add_entry(to: &mut Out, entry: Entry) {
+    to.apart("; ");
+    to.show(&entry.number);
+    to.text(" at ");
+    to.show(&entry.offset);
+    to.text(" ");
+    to.show(&entry.verdict);
+    add_held(to, entry.verdict);
+}
+
+fn add_held(to: &mut Out, verdict: Verdict) {
     match verdict {
         Verdict::Refused(Refusal::OtherTag(tag)) => {
-            format!(in alloc; "{number} at {offset} {verdict} {tag}")
+            to.text(" ");
+            to.show(&tag);
         }
         Verdict::Refused(Refusal::Judged(index)) => {
-            format!(in alloc; "{number} at {offset} {verdict} {index}")
+            to.text(" ");
+            to.show(&index);
         }
-        _ => format!(in alloc; "{number} at {offset} {verdict}"),
+        _ => {}
     }
 }
 
 /// Appends how a run ended.
-pub fn add_end(alloc: Global, text: &mut String, ended: Ended) -> Result<(), AllocError> {
-    let part = match ended {
-        Ok(counts) => format!(in alloc; "passed {}, refused {}", counts.passed, counts.refused)?,
-        Err(fault) => format!(in alloc; "stopped {fault:?}")?,
-    };
-    append(text, "; ", part.as_str())
+pub fn add_end(to: &mut Out, ended: Ended) {
+    to.apart("; ");
+    match ended {
+        Ok(counts) => {
+            to.text("passed ");
+            to.show(&counts.passed);
+            to.text(", refused ");
+            to.show(&counts.refused);
+        }
+        Err(fault) => {
+            to.text("stopped ");
+            to.debug(&fault);
+        }
+    }
 }

@@ -1,52 +1,49 @@
 //! Heads.
-use crate::answers::{Answer, NoAnswer, in_hex};
+use crate::out::{NoAnswer, Out};
 use crate::words;
 use cose_gate::Mem;
-use std::alloc::{AllocError, Global};
 
 /// The first head.
-pub fn first(alloc: Global, input: &str) -> Answer {
-    let input = words::bytes(alloc, input)?;
-    let text = match callers::heads::first_head(&input) {
-        Ok(head) => format!(in alloc; "{head:?}")?,
-        Err(error) => format!(in alloc; "{error:?}")?,
-    };
-    Ok(text)
+pub fn first(to: &mut Out, row: &mut &str) {
+    let input = words::bytes(to, row);
+    match callers::heads::first_head(&input) {
+        Ok(head) => to.debug(&head),
+        Err(error) => to.debug(&error),
+    }
 }
 
 /// The length that the first head, of an array, states.
-pub fn array_len(alloc: Global, input: &str) -> Answer {
-    let input = words::bytes(alloc, input)?;
-    let text = match callers::heads::array_len(&input) {
-        Ok(len) => format!(in alloc; "{len:?}")?,
-        Err(error) => format!(in alloc; "{error:?}")?,
-    };
-    Ok(text)
+pub fn array_len(to: &mut Out, row: &mut &str) {
+    let input = words::bytes(to, row);
+    match callers::heads::array_len(&input) {
+        Ok(len) => to.debug(&len),
+        Err(error) => to.debug(&error),
+    }
 }
 
 /// An array of numbers.
-pub fn numbers(alloc: Global, row: &[&str]) -> Answer {
-    let mut numbers = Vec::new(alloc);
-    for word in row {
-        add(&mut numbers, words::number(word)?)?;
+pub fn numbers(to: &mut Out, row: &mut &str) {
+    let mut numbers = Vec::new(to.alloc());
+    for word in words::rest(row).split(' ') {
+        let number = words::parsed(to, word) as u64;
+        if numbers.push(number).is_err() {
+            to.refuse(NoAnswer::Memory);
+        }
     }
-    let mut out = Mem::new(Vec::new(alloc));
-    callers::heads::write_numbers(&mut out, &numbers)?;
-    Ok(in_hex(alloc, out.as_written())?)
-}
-
-fn add(numbers: &mut Vec<u64>, number: usize) -> Result<(), AllocError> {
-    numbers.push(number as u64)?;
-    Ok(())
+    let mut out = Mem::new(Vec::new(to.alloc()));
+    let done = callers::heads::write_numbers(&mut out, &numbers);
+    to.note(done);
+    to.hex(out.as_written());
 }
 
 /// So many heads and strings in their shortest heads, behind bytes that stand in front.
-pub fn shortened(alloc: Global, front: &str, count: &str, input: &str) -> Answer {
-    let (front, input) = (words::bytes(alloc, front)?, words::bytes(alloc, input)?);
-    let count = words::number(count)?;
+pub fn shortened(to: &mut Out, row: &mut &str) {
+    let front = words::bytes(to, row);
+    let count = words::number(to, row);
+    let input = words::bytes(to, row);
     let mut out = Mem::new(front);
     match callers::heads::shortened(&input, count, &mut out) {
-        Ok(()) => Ok(in_hex(alloc, out.as_written())?),
-        Err(_) => Err(NoAnswer::NoCall),
+        Ok(()) => to.hex(out.as_written()),
+        Err(_) => to.refuse(NoAnswer::NoCall),
     }
 }

@@ -1,72 +1,82 @@
 //! Items that are read as typed values.
-use crate::answers::{Answer, append, in_hex};
+use crate::out::Out;
 use crate::words;
 use ciborium::tag::Captured;
 use coset_labels::CborSerializable;
-use std::alloc::Global;
 
 /// The points of a name in a map, and how many bytes are left.
-pub fn points(alloc: Global, name: &str, input: &str) -> Answer {
-    let input = words::bytes(alloc, input)?;
+pub fn points(to: &mut Out, row: &mut &str) {
+    let name = words::word(to, row);
+    let input = words::bytes(to, row);
     let mut left = input.as_slice();
-    let text = match callers::items::points_of(alloc, &mut left, name) {
-        Ok(points) => format!(in alloc; "{points:?}, {} left", left.len())?,
-        Err(error) => format!(in alloc; "{error:?}")?,
-    };
-    Ok(text)
+    match callers::items::points_of(to.alloc(), &mut left, name) {
+        Ok(points) => {
+            to.debug(&points);
+            to.text(", ");
+            to.show(&left.len());
+            to.text(" left");
+        }
+        Err(error) => to.debug(&error),
+    }
 }
 
 /// The first time of a list.
-pub fn first_time(alloc: Global, input: &str) -> Answer {
-    let input = words::bytes(alloc, input)?;
+pub fn first_time(to: &mut Out, row: &mut &str) {
+    let input = words::bytes(to, row);
     let mut left = input.as_slice();
-    let text = match callers::items::first_time(alloc, &mut left) {
-        Ok(time) => format!(in alloc; "{time:?}")?,
-        Err(error) => format!(in alloc; "{error:?}")?,
-    };
-    Ok(text)
+    match callers::items::first_time(to.alloc(), &mut left) {
+        Ok(time) => to.debug(&time),
+        Err(error) => to.debug(&error),
+    }
 }
 
 /// A pair of a text and a number, and its tag.
-pub fn labelled(alloc: Global, input: &str) -> Answer {
-    let input = words::bytes(alloc, input)?;
+pub fn labelled(to: &mut Out, row: &mut &str) {
+    let input = words::bytes(to, row);
     let mut left = input.as_slice();
-    let text = match callers::items::labelled(alloc, &mut left) {
+    match callers::items::labelled(to.alloc(), &mut left) {
         Ok(Captured(tag, (text, number))) => {
-            format!(in alloc; "{tag:?} {:?} {number}", text.as_str())?
+            to.debug(&tag);
+            to.text(" ");
+            to.debug(&text.as_str());
+            to.text(" ");
+            to.show(&number);
         }
-        Err(error) => format!(in alloc; "{error:?}")?,
-    };
-    Ok(text)
+        Err(error) => to.debug(&error),
+    }
 }
 
 /// The number of one byte that the whole input is.
-pub fn whole(alloc: Global, input: &str) -> Answer {
-    let input = words::bytes(alloc, input)?;
-    let text = match callers::items::read_whole::<u8>(alloc, &input) {
-        Ok(number) => format!(in alloc; "{number:?}")?,
-        Err(error) => format!(in alloc; "{error:?}")?,
-    };
-    Ok(text)
+pub fn whole(to: &mut Out, row: &mut &str) {
+    let input = words::bytes(to, row);
+    match callers::items::read_whole::<u8>(to.alloc(), &input) {
+        Ok(number) => to.debug(&number),
+        Err(error) => to.debug(&error),
+    }
 }
 
 /// The value at the front in its shortest text, or why there is none and how many bytes were taken.
-pub fn front(alloc: Global, input: &str) -> Answer {
-    let input = words::bytes(alloc, input)?;
-    match callers::items::front_value(alloc, &input) {
-        Ok(value) => Ok(in_hex(alloc, &value.to_vec(alloc)?)?),
-        Err((error, taken)) => Ok(format!(in alloc; "{error:?} after {taken}")?),
+pub fn front(to: &mut Out, row: &mut &str) {
+    let input = words::bytes(to, row);
+    match callers::items::front_value(to.alloc(), &input) {
+        Ok(value) => to.written(value.to_vec(to.alloc())),
+        Err((error, taken)) => {
+            to.debug(&error);
+            to.text(" after ");
+            to.show(&taken);
+        }
     }
 }
 
 /// The first two values, each in its shortest text.
-pub fn two(alloc: Global, input: &str) -> Answer {
-    let input = words::bytes(alloc, input)?;
-    let (one, two) = match callers::items::two_values(alloc, &input) {
-        Ok(values) => values,
-        Err(error) => return Ok(format!(in alloc; "{error:?}")?),
-    };
-    let mut text = in_hex(alloc, &one.to_vec(alloc)?)?;
-    append(&mut text, " ", &in_hex(alloc, &two.to_vec(alloc)?)?)?;
-    Ok(text)
+pub fn two(to: &mut Out, row: &mut &str) {
+    let input = words::bytes(to, row);
+    match callers::items::two_values(to.alloc(), &input) {
+        Ok((one, two)) => {
+            to.written(one.to_vec(to.alloc()));
+            to.text(" ");
+            to.written(two.to_vec(to.alloc()));
+        }
+        Err(error) => to.debug(&error),
+    }
 }

@@ -1,143 +1,133 @@
 //! Answers of the judge by HMAC.
-use crate::answers::{Answer, NoAnswer, append, plain, yes_or_no};
+use crate::out::{NoAnswer, Out};
 use crate::words;
 use ciborium_value::Value;
 use cose_gate::{About, Header, HmacJudge, Judge, MessageKind, ProtectedHeader};
 use cose_gate_hmac::is_good_tag;
 use coset_keys::CoseKeySet;
 use coset_labels::CborSerializable;
-use std::alloc::{AllocError, Global};
 
-/// The headers of a message.
-#[derive(Drop)]
-struct Headers {
-    protected: ProtectedHeader,
-    unprotected: Header,
+/// The protected header that the next word is in hex, as received.
+fn read_protected(to: &mut Out, row: &mut &str) -> ProtectedHeader {
+    let bytes = words::bytes(to, row);
+    match ProtectedHeader::from_cbor_bstr(to.alloc(), Value::Bytes(bytes)) {
+        Ok(header) => header,
+        Err(error) => {
+            to.not_read(error);
+            ProtectedHeader::new(to.alloc())
+        }
+    }
 }
 
-/// The headers that these words are in hex: a protected one as received, and another.
-fn read_headers(alloc: Global, protected: &str, unprotected: &str) -> Result<Headers, NoAnswer> {
-    let protected = words::bytes(alloc, protected)?;
-    let unprotected = words::bytes(alloc, unprotected)?;
-    Ok(Headers {
-        protected: ProtectedHeader::from_cbor_bstr(alloc, Value::Bytes(protected))?,
-        unprotected: Header::from_slice(alloc, &unprotected)?,
-    })
+/// The header that the next word is in hex.
+fn read_header(to: &mut Out, row: &mut &str) -> Header {
+    let bytes = words::bytes(to, row);
+    match Header::from_slice(to.alloc(), &bytes) {
+        Ok(header) => header,
+        Err(error) => {
+            to.not_read(error);
+            Header::new(to.alloc())
+        }
+    }
 }
 
-/// The key set that this word is in hex.
-pub fn read_keys(alloc: Global, keys: &str) -> Result<CoseKeySet, NoAnswer> {
-    let keys = words::bytes(alloc, keys)?;
-    Ok(CoseKeySet::from_slice(alloc, &keys)?)
+/// The key set that the next word is in hex.
+pub fn read_keys(to: &mut Out, row: &mut &str) -> CoseKeySet {
+    let bytes = words::bytes(to, row);
+    match CoseKeySet::from_slice(to.alloc(), &bytes) {
+        Ok(keys) => keys,
+        Err(error) => {
+            to.not_read(error);
+            CoseKeySet::new(to.alloc())
+        }
+    }
 }
 
 /// Whether a tag over the covered bytes of a COSE_Mac0 with these headers is good under one of these keys.
-pub fn tag(
-    alloc: Global,
-    keys: &str,
-    protected: &str,
-    unprotected: &str,
-    covered: &str,
-    tag: &str,
-) -> Answer {
-    let keys = read_keys(alloc, keys)?;
-    let headers = read_headers(alloc, protected, unprotected)?;
-    let (covered, tag) = (words::bytes(alloc, covered)?, words::bytes(alloc, tag)?);
-    let is_good = is_good_tag(
-        &keys,
-        &headers.protected,
-        &headers.unprotected,
-        &covered,
-        &tag,
-    );
-    plain(alloc, yes_or_no(is_good))
+pub fn tag(to: &mut Out, row: &mut &str) {
+    let keys = read_keys(to, row);
+    let protected = read_protected(to, row);
+    let unprotected = read_header(to, row);
+    let covered = words::bytes(to, row);
+    let tag = words::bytes(to, row);
+    to.yes_or_no(is_good_tag(&keys, &protected, &unprotected, &covered, &tag));
 }
 
 /// What a judge is asked about.
 #[derive(Drop)]
 struct Case {
     keys: CoseKeySet,
-    headers: Headers,
+    protected: ProtectedHeader,
+    unprotected: Header,
     /// The covered bytes, and the length of the pieces in which they come.
     covered: Vec<u8>,
     size: usize,
 }
 
-/// The case that these words are.
-fn read_case(
-    alloc: Global,
-    keys: &str,
-    protected: &str,
-    unprotected: &str,
-    covered: &str,
-    size: &str,
-) -> Result<Case, NoAnswer> {
-    Ok(Case {
-        keys: read_keys(alloc, keys)?,
-        headers: read_headers(alloc, protected, unprotected)?,
-        covered: words::bytes(alloc, covered)?,
-        size: words::number(size)?,
-    })
+/// The case that the next words are.
+fn read_case(to: &mut Out, row: &mut &str) -> Case {
+    Case {
+        keys: read_keys(to, row),
+        protected: read_protected(to, row),
+        unprotected: read_header(to, row),
+        covered: words::bytes(to, row),
+        size: words::number(to, row),
+    }
 }
 
 /// The answers of a judge that hashes its keys anew for each message.
-pub fn judge(alloc: Global, row: &[&str]) -> Answer {
-    let [keys, protected, unprotected, covered, size, asked @ ..] = row else {
-        return Err(NoAnswer::NoCall);
-    };
-    let case = read_case(alloc, keys, protected, unprotected, covered, size)?;
-    answers(alloc, &mut HmacJudge::new(&case.keys), &case, asked)
+pub fn judge(to: &mut Out, row: &mut &str) {
+    let case = read_case(to, row);
+    let mut judge = HmacJudge::new(&case.keys);
+    add_answers(to, &mut judge, &case, words::rest(row));
 }
 
 /// The answers of a judge that hashes each key once.
-pub fn prepared_judge(alloc: Global, row: &[&str]) -> Answer {
-    let [keys, protected, unprotected, covered, size, asked @ ..] = row else {
-        return Err(NoAnswer::NoCall);
-    };
-    let case = read_case(alloc, keys, protected, unprotected, covered, size)?;
-    let mut judge = HmacJudge::prepared(alloc, &case.keys);
-    answers(alloc, &mut judge, &case, asked)
+pub fn prepared_judge(to: &mut Out, row: &mut &str) {
+    let case = read_case(to, row);
+    let mut judge = HmacJudge::prepared(to.alloc(), &case.keys);
+    add_answers(to, &mut judge, &case, words::rest(row));
 }
 
 /// The answers of one judge to questions about messages of these kinds with these tags, each a word as `Mac0:aa`.
-fn answers(alloc: Global, judge: &mut HmacJudge, case: &Case, asked: &[&str]) -> Answer {
-    let mut text = String::new(alloc);
-    for word in asked {
-        let yes = judged(alloc, judge, case, word)?;
-        append(&mut text, " ", yes_or_no(yes))?;
+fn add_answers(to: &mut Out, judge: &mut HmacJudge, case: &Case, asked: &str) {
+    for word in asked.split(' ') {
+        to.apart(" ");
+        add_answer(to, judge, case, word);
     }
-    Ok(text)
 }
 
-fn judged(alloc: Global, judge: &mut HmacJudge, case: &Case, word: &str) -> Result<bool, NoAnswer> {
+fn add_answer(to: &mut Out, judge: &mut HmacJudge, case: &Case, word: &str) {
     let Some((kind, tag)) = word.split_once(':') else {
-        return Err(NoAnswer::NoCall);
+        to.refuse(NoAnswer::NoCall);
+        return;
     };
-    let (kind, tag) = (kind_of(kind)?, words::bytes(alloc, tag)?);
-    Ok(decided(judge, case, kind, &tag)?)
+    let kind = kind_of(to, kind);
+    let tag = words::decoded(to, tag);
+    ask(to, judge, case, kind);
+    to.yes_or_no(judge.decide(&tag));
 }
 
-fn decided(
-    judge: &mut HmacJudge,
-    case: &Case,
-    kind: MessageKind,
-    tag: &[u8],
-) -> Result<bool, AllocError> {
-    let headers = &case.headers;
-    let about = About::alone(kind, &headers.protected, &headers.unprotected);
-    judge.begin(&about)?;
+/// Begins a question, and feeds what is covered.
+fn ask(to: &mut Out, judge: &mut HmacJudge, case: &Case, kind: MessageKind) {
+    let about = About::alone(kind, &case.protected, &case.unprotected);
+    let begun = judge.begin(&about);
+    to.note(begun);
     for piece in case.covered.chunks(case.size.max(1)) {
-        judge.feed(piece)?;
+        let fed = judge.feed(piece);
+        to.note(fed);
     }
-    Ok(judge.decide(tag))
 }
 
-fn kind_of(word: &str) -> Result<MessageKind, NoAnswer> {
+fn kind_of(to: &mut Out, word: &str) -> MessageKind {
     match word {
-        "Sign1" => Ok(MessageKind::Sign1),
-        "Sign" => Ok(MessageKind::Sign),
-        "Mac0" => Ok(MessageKind::Mac0),
-        "Mac" => Ok(MessageKind::Mac),
-        _ => Err(NoAnswer::NoCall),
+        "Sign1" => MessageKind::Sign1,
+        "Sign" => MessageKind::Sign,
+        "Mac0" => MessageKind::Mac0,
+        "Mac" => MessageKind::Mac,
+        _ => {
+            to.refuse(NoAnswer::NoCall);
+            MessageKind::Mac
+        }
     }
 }

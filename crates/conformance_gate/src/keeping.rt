@@ -1,80 +1,102 @@
 //! Headers, keys and claims.
-use crate::answers::{Answer, NoAnswer, append, in_hex, plain, yes_or_no};
+use crate::out::{NoAnswer, Out};
 use crate::words;
 use callers::keeping::KeyStore;
 use ciborium_value::Value;
-use cose_gate::{Limits, iana};
+use cose_gate::{CoseError, Header, iana};
 use coset_labels::CborSerializable;
-use std::alloc::Global;
+
+/// A header with the algorithm HMAC 256/256 and the key id that the next word is.
+fn made(to: &mut Out, row: &mut &str) -> Header {
+    let key_id = words::bytes(to, row);
+    match callers::heading::plain_header(to.alloc(), iana::Algorithm::HMAC_256_256, &key_id) {
+        Ok(made) => made,
+        Err(_) => {
+            to.refuse(NoAnswer::Memory);
+            Header::new(to.alloc())
+        }
+    }
+}
 
 /// A header with the algorithm HMAC 256/256 and this key id.
-pub fn header(alloc: Global, key_id: &str) -> Answer {
-    let key_id = words::bytes(alloc, key_id)?;
-    let made = callers::heading::plain_header(alloc, iana::Algorithm::HMAC_256_256, &key_id)?;
-    let written = made.to_vec(alloc)?;
-    Ok(in_hex(alloc, &written)?)
+pub fn header(to: &mut Out, row: &mut &str) {
+    let made = made(to, row);
+    to.written(made.to_vec(to.alloc()));
 }
 
 /// Whether the header that these bytes are is that one.
-pub fn is_header(alloc: Global, key_id: &str, header: &str) -> Answer {
-    let (key_id, header) = (words::bytes(alloc, key_id)?, words::bytes(alloc, header)?);
-    let made = callers::heading::plain_header(alloc, iana::Algorithm::HMAC_256_256, &key_id)?;
-    let read = callers::heading::header_of(alloc, &header)?;
-    plain(alloc, yes_or_no(read == made))
+pub fn is_header(to: &mut Out, row: &mut &str) {
+    let made = made(to, row);
+    let header = words::bytes(to, row);
+    match callers::heading::header_of(to.alloc(), &header) {
+        Ok(read) => to.yes_or_no(read == made),
+        Err(error) => to.not_read(error),
+    }
 }
 
 /// A header in its one shortest text.
-pub fn rewritten(alloc: Global, header: &str) -> Answer {
-    let header = words::bytes(alloc, header)?;
-    let written = callers::heading::rewritten(alloc, &header)?;
-    Ok(in_hex(alloc, &written)?)
+pub fn rewritten(to: &mut Out, row: &mut &str) {
+    let header = words::bytes(to, row);
+    to.written(callers::heading::rewritten(to.alloc(), &header));
 }
 
 /// A header within limits as it is written, and whether it came so.
-pub fn header_within(alloc: Global, limits: Limits, header: &str) -> Answer {
-    let header = words::bytes(alloc, header)?;
-    let value = Value::from_slice(alloc, &header)?;
-    let (read, is_as_written) = callers::exact::header_within(alloc, value, limits)?;
-    let mut text = in_hex(alloc, &read.to_vec(alloc)?)?;
-    append(&mut text, " as written: ", yes_or_no(is_as_written))?;
-    Ok(text)
+pub fn header_within(to: &mut Out, row: &mut &str) {
+    let limits = words::limits(to, row);
+    let header = words::bytes(to, row);
+    match Value::from_slice(to.alloc(), &header) {
+        Ok(value) => add_header(to, callers::exact::header_within(to.alloc(), value, limits)),
+        Err(error) => to.not_read(error),
+    }
+}
+
+fn add_header(to: &mut Out, read: Result<(Header, bool), CoseError>) {
+    match read {
+        Ok((header, is_as_written)) => {
+            to.written(header.to_vec(to.alloc()));
+            to.text(" as written: ");
+            to.yes_or_no(is_as_written);
+        }
+        Err(error) => to.not_read(error),
+    }
 }
 
 /// Whether two keys are one.
-pub fn is_same_key(alloc: Global, a: &str, b: &str) -> Answer {
-    let (a, b) = (words::bytes(alloc, a)?, words::bytes(alloc, b)?);
-    let is_same = callers::keeping::is_same_key(alloc, &a, &b)?;
-    plain(alloc, yes_or_no(is_same))
+pub fn is_same_key(to: &mut Out, row: &mut &str) {
+    let a = words::bytes(to, row);
+    let b = words::bytes(to, row);
+    told(to, callers::keeping::is_same_key(to.alloc(), &a, &b));
+}
+
+fn told(to: &mut Out, yes: Result<bool, CoseError>) {
+    match yes {
+        Ok(yes) => to.yes_or_no(yes),
+        Err(error) => to.not_read(error),
+    }
 }
 
 /// A key in its one spelling.
-pub fn spelling(alloc: Global, key: &str) -> Answer {
-    let key = words::bytes(alloc, key)?;
-    let spelling = callers::keeping::spelling(alloc, &key)?;
-    Ok(in_hex(alloc, &spelling)?)
+pub fn spelling(to: &mut Out, row: &mut &str) {
+    let key = words::bytes(to, row);
+    to.written(callers::keeping::spelling(to.alloc(), &key));
 }
 
 /// Whether each of the keys is new.
-pub fn are_new(alloc: Global, keys: &[&str]) -> Answer {
-    let mut store = KeyStore::new(alloc);
-    let mut text = String::new(alloc);
-    for key in keys {
-        let is_new = kept(alloc, &mut store, key)?;
-        append(&mut text, " ", yes_or_no(is_new))?;
+pub fn are_new(to: &mut Out, row: &mut &str) {
+    let mut store = KeyStore::new(to.alloc());
+    for word in words::rest(row).split(' ') {
+        let key = words::decoded(to, word);
+        to.apart(" ");
+        told(to, store.keep(to.alloc(), &key));
     }
-    Ok(text)
-}
-
-fn kept(alloc: Global, store: &mut KeyStore, key: &str) -> Result<bool, NoAnswer> {
-    let key = words::bytes(alloc, key)?;
-    Ok(store.keep(alloc, &key)?)
 }
 
 /// Whom claims are about.
-pub fn subject(alloc: Global, claims: &str) -> Answer {
-    let claims = words::bytes(alloc, claims)?;
-    match callers::keeping::subject_of(alloc, &claims)? {
-        Some(subject) => Ok(subject),
-        None => plain(alloc, "none"),
+pub fn subject(to: &mut Out, row: &mut &str) {
+    let claims = words::bytes(to, row);
+    match callers::keeping::subject_of(to.alloc(), &claims) {
+        Ok(Some(subject)) => to.text(subject.as_str()),
+        Ok(None) => to.text("none"),
+        Err(error) => to.not_read(error),
     }
 }

@@ -2,7 +2,6 @@
 //! how many rows there were. README.md beside src/ says which calls there are.
 #![tactic(auto)]
 
-mod answers;
 mod asking;
 mod calls;
 mod checking;
@@ -12,9 +11,11 @@ mod heads;
 mod items;
 mod judging;
 mod keeping;
+mod out;
 mod program;
 mod relaying;
 mod rows;
+mod showing;
 mod signing;
 mod streaming;
 mod uses;
@@ -24,6 +25,7 @@ use std::io;
 
 fn main(rt: HostRuntime) -> io::Result<()> {
     let text = io::read_to_string(rt.alloc(), rt.stdin())?;
-    let findings = rows::findings(rt.alloc(), text.as_str())?;
+    let findings = rows::findings(rt.alloc(), text.as_str());
+    let findings = findings.as_str();
     print!(rt; "{findings}")
 }

@@ -1,43 +1,34 @@
 //! Runs of the program over memory.
-use crate::answers::{Answer, in_hex};
+use crate::out::Out;
 use crate::words;
 use cose_gate::Mem;
-use std::alloc::{AllocError, Global};
 
 /// A run with these keys and this word of external data: its status, its output, and its lines.
-pub fn run(alloc: Global, keys: &str, aad: &str, input: &str) -> Answer {
-    let (keys, input) = (words::optional(alloc, keys)?, words::bytes(alloc, input)?);
+pub fn run(to: &mut Out, row: &mut &str) {
+    let keys = words::optional(to, row);
+    let aad = aad_word(words::word(to, row));
+    let input = words::bytes(to, row);
+    let alloc = to.alloc();
     let mut out = Mem::new(Vec::new(alloc));
     let mut err = Mem::new(Vec::new(alloc));
     let mut reader = input.as_slice();
-    let status = cose_gate::run(
-        alloc,
-        keys.as_deref(),
-        aad_word(aad),
-        &mut reader,
-        &mut out,
-        &mut err,
-    );
-    Ok(ended(alloc, status, out.as_written(), err.as_written())?)
+    let status = cose_gate::run(alloc, keys.as_deref(), aad, &mut reader, &mut out, &mut err);
+    add_ended(to, status, out.as_written(), err.as_written());
 }
 
 /// The same, where the output has room for so many bytes, 64 at most.
-pub fn run_in_room(alloc: Global, room: &str, keys: &str, aad: &str, input: &str) -> Answer {
-    let room = words::number(room)?;
-    let (keys, input) = (words::optional(alloc, keys)?, words::bytes(alloc, input)?);
+pub fn run_in_room(to: &mut Out, row: &mut &str) {
+    let room = words::number(to, row);
+    let keys = words::optional(to, row);
+    let aad = aad_word(words::word(to, row));
+    let input = words::bytes(to, row);
+    let alloc = to.alloc();
     let mut memory = [0; 64];
     let mut out = Mem::new(&mut memory[..room.min(64)]);
     let mut err = Mem::new(Vec::new(alloc));
     let mut reader = input.as_slice();
-    let status = cose_gate::run(
-        alloc,
-        keys.as_deref(),
-        aad_word(aad),
-        &mut reader,
-        &mut out,
-        &mut err,
-    );
-    Ok(ended(alloc, status, out.as_written(), err.as_written())?)
+    let status = cose_gate::run(alloc, keys.as_deref(), aad, &mut reader, &mut out, &mut err);
+    add_ended(to, status, out.as_written(), err.as_written());
 }
 
 /// The word AADHEX. `-` is the empty word, and `none` is no word.
@@ -49,48 +40,32 @@ fn aad_word(word: &str) -> Option<&str> {
     }
 }
 
-/// How a run ended.
-pub fn ended(alloc: Global, status: u8, out: &[u8], err: &[u8]) -> Result<String, AllocError> {
-    let output = in_hex(alloc, out)?;
-    let lines = lines(alloc, err)?;
-    format!(in alloc; "{status}; out {output}; {lines}")
-}
-
-/// Lines of text, each with a `|` in place of its line feed.
-fn lines(alloc: Global, bytes: &[u8]) -> Result<String, AllocError> {
-    match std::str::from_utf8(bytes) {
-        Ok(text) => joined(alloc, text),
-        Err(_) => in_hex(alloc, bytes),
+/// Appends how a run ended.
+pub fn add_ended(to: &mut Out, status: u8, out: &[u8], err: &[u8]) {
+    to.show(&status);
+    to.text("; out ");
+    to.hex(out);
+    to.text("; ");
+    match std::str::from_utf8(err) {
+        Ok(lines) => to.lines(lines),
+        Err(_) => to.hex(err),
     }
-}
-
-fn joined(alloc: Global, text: &str) -> Result<String, AllocError> {
-    let mut all = String::new(alloc);
-    for (index, line) in text.split('\n').enumerate() {
-        if index > 0 {
-            all.push_str("|")?;
-        }
-        all.push_str(line)?;
-    }
-    Ok(all)
 }
 
 /// KEYS and AADHEX of the words of a command line.
-pub fn arguments(alloc: Global, all: &[&str]) -> Answer {
-    let owned = owned(alloc, all)?;
-    let text = match cose_gate::words(owned.as_slice()) {
-        Some((keys, Some(aad))) => format!(in alloc; "KEYS {keys} AADHEX {aad}")?,
-        Some((keys, None)) => format!(in alloc; "KEYS {keys}")?,
-        None => String::from_str(alloc, "usage")?,
-    };
-    Ok(text)
-}
-
-/// Words of a command line.
-pub fn owned(alloc: Global, all: &[&str]) -> Result<Vec<String>, AllocError> {
-    let mut owned = Vec::new(alloc);
-    for word in all {
-        owned.push(String::from_str(alloc, word)?)?;
+pub fn arguments(to: &mut Out, row: &mut &str) {
+    let all = words::owned(to, row);
+    match cose_gate::words(all.as_slice()) {
+        Some((keys, Some(aad))) => {
+            to.text("KEYS ");
+            to.text(keys);
+            to.text(" AADHEX ");
+            to.text(aad);
+        }
+        Some((keys, None)) => {
+            to.text("KEYS ");
+            to.text(keys);
+        }
+        None => to.text("usage"),
     }
-    Ok(owned)
 }

@@ -1,74 +1,66 @@
 //! The gate with a judge by key ids.
-use crate::answers::{Answer, NoAnswer, append, in_hex};
+use crate::gating::{add_end, add_output};
+use crate::out::{NoAnswer, Out};
 use crate::words;
 use callers::judging::KeyIds;
 use callers::once::{Window, relay_once};
 use callers::relaying::relay;
 use callers::tally::Tally;
 use cose_gate::{Counts, End, GateFault};
-use std::alloc::{AllocError, Global};
 
 /// A relay that knows one key id: its output and counts or its fault, its tally, and the key ids that its judge was asked about.
-pub fn run(alloc: Global, key_id: &str, input: &str) -> Answer {
-    let (key_id, input) = (words::bytes(alloc, key_id)?, words::bytes(alloc, input)?);
+pub fn run(to: &mut Out, row: &mut &str) {
+    let key_id = words::bytes(to, row);
+    let input = words::bytes(to, row);
     let known = [key_id.as_slice()];
-    let mut judge = KeyIds::new(alloc, &known);
+    let mut judge = KeyIds::new(to.alloc(), &known);
     let mut tally = Tally::new();
-    let relayed = relay(alloc, &input, &[], &mut judge, &mut tally);
-    let mut text = relayed_text(alloc, relayed)?;
-    let tallied = format!(in alloc; "tally {} {}", tally.passed, tally.refused)?;
-    append(&mut text, "; ", tallied.as_str())?;
-    add_ids(alloc, &mut text, judge.asked())?;
-    Ok(text)
+    let relayed = relay(to.alloc(), &input, &[], &mut judge, &mut tally);
+    add_relayed(to, relayed);
+    to.text("; tally ");
+    to.show(&tally.passed);
+    to.text(" ");
+    to.show(&tally.refused);
+    add_ids(to, judge.asked());
 }
 
-fn relayed_text(
-    alloc: Global,
-    relayed: Result<(Vec<u8>, Counts), GateFault<End>>,
-) -> Result<String, AllocError> {
+fn add_relayed(to: &mut Out, relayed: Result<(Vec<u8>, Counts), GateFault<End>>) {
     match relayed {
         Ok((output, counts)) => {
-            let output = in_hex(alloc, &output)?;
-            let (passed, refused) = (counts.passed, counts.refused);
-            format!(in alloc; "out {output}; passed {passed}, refused {refused}")
+            add_output(to, &output);
+            add_end(to, Ok(counts));
         }
-        Err(fault) => format!(in alloc; "stopped {fault:?}"),
+        Err(fault) => add_end(to, Err(fault)),
     }
 }
 
-fn add_ids(alloc: Global, text: &mut String, ids: &[Vec<u8>]) -> Result<(), AllocError> {
-    append(text, "; ", "asked")?;
+fn add_ids(to: &mut Out, ids: &[Vec<u8>]) {
+    to.text("; asked");
     for id in ids {
-        let id = in_hex(alloc, id)?;
-        append(text, " ", id.as_str())?;
+        to.text(" ");
+        to.hex(id);
     }
-    Ok(())
 }
 
 /// What a relay that knows one key id and lets no output through twice gives for each of these inputs.
-pub fn run_once(alloc: Global, key_id: &str, inputs: &[&str]) -> Answer {
-    let key_id = words::bytes(alloc, key_id)?;
+pub fn run_once(to: &mut Out, row: &mut &str) {
+    let key_id = words::bytes(to, row);
     let known = [key_id.as_slice()];
-    let mut judge = KeyIds::new(alloc, &known);
+    let mut judge = KeyIds::new(to.alloc(), &known);
     let mut tally = Tally::new();
-    let mut window = Window::new(alloc);
-    let mut text = String::new(alloc);
-    for input in inputs {
-        let input = words::bytes(alloc, input)?;
-        let output = relay_once(alloc, &input, &[], &mut judge, &mut tally, &mut window);
-        let part = output_text(alloc, output)?;
-        append(&mut text, "; ", part.as_str())?;
+    let mut window = Window::new(to.alloc());
+    for word in words::rest(row).split(' ') {
+        let input = words::decoded(to, word);
+        let output = relay_once(to.alloc(), &input, &[], &mut judge, &mut tally, &mut window);
+        to.apart("; ");
+        add_once(to, output);
     }
-    Ok(text)
 }
 
-fn output_text(
-    alloc: Global,
-    output: Result<Option<Vec<u8>>, GateFault<End>>,
-) -> Result<String, NoAnswer> {
+fn add_once(to: &mut Out, output: Result<Option<Vec<u8>>, GateFault<End>>) {
     match output {
-        Ok(Some(output)) => Ok(in_hex(alloc, &output)?),
-        Ok(None) => Ok(String::from_str(alloc, "nothing")?),
-        Err(_) => Err(NoAnswer::NoCall),
+        Ok(Some(output)) => to.hex(&output),
+        Ok(None) => to.text("nothing"),
+        Err(_) => to.refuse(NoAnswer::NoCall),
     }
 }

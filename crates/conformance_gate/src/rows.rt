@@ -1,7 +1,7 @@
 //! Rows: a call, ` -> `, and its answer. A line that begins with `#` is a comment.
-use crate::answers::NoAnswer;
 use crate::calls;
-use std::alloc::{AllocError, Global};
+use crate::out::{NoAnswer, Out};
+use std::alloc::Global;
 
 /// How many rows there were, and how many of them differ.
 #[derive(Clone, Copy)]
@@ -10,70 +10,81 @@ struct Counts {
     differ: usize,
 }
 
+impl Counts {
+    fn and(self, differs: bool) -> Counts {
+        Counts {
+            rows: self.rows.wrapping_add(1),
+            differ: self.differ.wrapping_add(usize::from(differs)),
+        }
+    }
+}
+
 /// A line for each row that differs, and one that counts them.
-pub fn findings(alloc: Global, text: &str) -> Result<String, AllocError> {
-    let mut findings = String::new(alloc);
+pub fn findings(alloc: Global, text: &str) -> Out {
+    let mut findings = Out::new(alloc);
     let mut counts = Counts { rows: 0, differ: 0 };
     for (index, line) in text.lines().enumerate() {
         if !is_comment(line) {
-            let differs = compare(alloc, index, line, &mut findings)?;
-            counts = counted(counts, differs);
+            let differs = compare(alloc, index, line, &mut findings);
+            counts = counts.and(differs);
         }
     }
-    let last = format!(in alloc; "{} rows, {} differ\n", counts.rows, counts.differ)?;
-    findings.push_str(last.as_str())?;
-    Ok(findings)
+    findings.show(&counts.rows);
+    findings.text(" rows, ");
+    findings.show(&counts.differ);
+    findings.text(" differ\n");
+    findings
 }
 
 fn is_comment(line: &str) -> bool {
     line.is_empty() || line.starts_with('#')
 }
 
-fn counted(counts: Counts, differs: bool) -> Counts {
-    Counts {
-        rows: counts.rows.wrapping_add(1),
-        differ: counts.differ.wrapping_add(usize::from(differs)),
-    }
-}
-
 /// Whether the row in this line differs. If so, it is found.
-fn compare(
-    alloc: Global,
-    index: usize,
-    line: &str,
-    findings: &mut String,
-) -> Result<bool, AllocError> {
-    let finding = match line.split_once(" -> ") {
-        Some((call, answer)) => difference(alloc, call, answer)?,
-        None => Some(String::from_str(alloc, "no row")?),
+fn compare(alloc: Global, index: usize, line: &str, findings: &mut Out) -> bool {
+    let Some((call, due)) = line.split_once(" -> ") else {
+        number(index, findings);
+        findings.text("no row\n");
+        return true;
     };
-    let Some(text) = finding else {
-        return Ok(false);
-    };
-    let line = format!(in alloc; "{}: {text}\n", index.wrapping_add(1))?;
-    findings.push_str(line.as_str())?;
-    Ok(true)
+    let got = answer_of(alloc, call);
+    if got.as_str() == due {
+        return false;
+    }
+    number(index, findings);
+    findings.text(call);
+    findings.text(" -> ");
+    findings.text(got.as_str());
+    findings.text("\n");
+    true
 }
 
-/// What the call answers, where that is another answer.
-fn difference(alloc: Global, call: &str, answer: &str) -> Result<Option<String>, AllocError> {
-    let got = answer_of(alloc, call)?;
-    if got.as_str() == answer {
-        return Ok(None);
-    }
-    let text = format!(in alloc; "{call} -> {got}")?;
-    Ok(Some(text))
+fn number(index: usize, findings: &mut Out) {
+    findings.show(&index.wrapping_add(1));
+    findings.text(": ");
 }
 
-/// What a call answers.
-fn answer_of(alloc: Global, call: &str) -> Result<String, AllocError> {
-    let words = call.split(' ').collect::<Vec<&str>>(alloc)?;
-    match calls::answer(alloc, words.as_slice()) {
-        Ok(answer) => Ok(answer),
-        Err(NoAnswer::Memory) => String::from_str(alloc, "no memory"),
-        Err(NoAnswer::NoCall) => String::from_str(alloc, "no such call"),
-        Err(NoAnswer::NotHex) => String::from_str(alloc, "not hex"),
-        Err(NoAnswer::NoNumber) => String::from_str(alloc, "no number"),
-        Err(NoAnswer::NotRead(error)) => format!(in alloc; "argument not read: {error}"),
+/// What a call answers, or why there is no answer.
+fn answer_of(alloc: Global, call: &str) -> Out {
+    let mut answer = Out::new(alloc);
+    calls::answer(&mut answer, call);
+    match answer.fault() {
+        None => answer,
+        Some(why) => reason(alloc, why),
     }
+}
+
+fn reason(alloc: Global, why: NoAnswer) -> Out {
+    let mut reason = Out::new(alloc);
+    match why {
+        NoAnswer::Memory => reason.text("no memory"),
+        NoAnswer::NoCall => reason.text("no such call"),
+        NoAnswer::NotHex => reason.text("not hex"),
+        NoAnswer::NoNumber => reason.text("no number"),
+        NoAnswer::NotRead(error) => {
+            reason.text("argument not read: ");
+            reason.show(&error);
+        }
+    }
+    reason
 }

@@ -1,53 +1,51 @@
 //! Messages under a secret.
-use crate::answers::{Answer, NoAnswer, in_hex};
+use crate::out::{NoAnswer, Out};
 use crate::words;
 use callers::signing::{Refused, Secret};
 use cose_gate::Header;
 use coset_labels::{Fault, TaggedCborSerializable};
-use std::alloc::{AllocError, Global};
 
-fn read_secret(alloc: Global, secret: &str) -> Result<Secret, NoAnswer> {
-    let bytes = words::bytes(alloc, secret)?;
-    Ok(Secret { bytes })
+fn read_secret(to: &mut Out, row: &mut &str) -> Secret {
+    Secret {
+        bytes: words::bytes(to, row),
+    }
 }
 
 /// A tagged COSE_Sign1 with empty headers.
-pub fn signed(alloc: Global, secret: &str, aad: &str, payload: &str) -> Answer {
-    let secret = read_secret(alloc, secret)?;
-    let (aad, payload) = (words::bytes(alloc, aad)?, words::bytes(alloc, payload)?);
-    match callers::signing::signed(alloc, Header::new(alloc), payload, &aad, &secret) {
-        Ok(message) => {
-            let bytes = message.to_tagged_vec(alloc)?;
-            Ok(in_hex(alloc, &bytes)?)
-        }
-        Err(Fault::Caller(_)) => Err(NoAnswer::Memory),
-        Err(Fault::Cose(error)) => Err(NoAnswer::NotRead(error)),
+pub fn signed(to: &mut Out, row: &mut &str) {
+    let secret = read_secret(to, row);
+    let aad = words::bytes(to, row);
+    let payload = words::bytes(to, row);
+    let header = Header::new(to.alloc());
+    match callers::signing::signed(to.alloc(), header, payload, &aad, &secret) {
+        Ok(message) => to.written(message.to_tagged_vec(to.alloc())),
+        Err(Fault::Caller(_)) => to.refuse(NoAnswer::Memory),
+        Err(Fault::Cose(error)) => to.not_read(error),
     }
 }
 
 /// The payload of a tagged COSE_Sign1.
-pub fn signed_payload(alloc: Global, secret: &str, aad: &str, message: &str) -> Answer {
-    let secret = read_secret(alloc, secret)?;
-    let (aad, message) = (words::bytes(alloc, aad)?, words::bytes(alloc, message)?);
-    let payload = callers::signing::signed_payload(alloc, &message, &aad, &secret);
-    Ok(payload_text(alloc, payload)?)
+pub fn signed_payload(to: &mut Out, row: &mut &str) {
+    let secret = read_secret(to, row);
+    let aad = words::bytes(to, row);
+    let message = words::bytes(to, row);
+    let payload = callers::signing::signed_payload(to.alloc(), &message, &aad, &secret);
+    add_payload(to, payload);
 }
 
 /// The payload of a tagged COSE_Mac0.
-pub fn tagged_payload(alloc: Global, secret: &str, aad: &str, message: &str) -> Answer {
-    let secret = read_secret(alloc, secret)?;
-    let (aad, message) = (words::bytes(alloc, aad)?, words::bytes(alloc, message)?);
-    let payload = callers::signing::tagged_payload(alloc, &message, &aad, &secret);
-    Ok(payload_text(alloc, payload)?)
+pub fn tagged_payload(to: &mut Out, row: &mut &str) {
+    let secret = read_secret(to, row);
+    let aad = words::bytes(to, row);
+    let message = words::bytes(to, row);
+    let payload = callers::signing::tagged_payload(to.alloc(), &message, &aad, &secret);
+    add_payload(to, payload);
 }
 
-fn payload_text(
-    alloc: Global,
-    payload: Result<Vec<u8>, Fault<Refused>>,
-) -> Result<String, AllocError> {
+fn add_payload(to: &mut Out, payload: Result<Vec<u8>, Fault<Refused>>) {
     match payload {
-        Ok(payload) => in_hex(alloc, &payload),
-        Err(Fault::Caller(refused)) => format!(in alloc; "{refused:?}"),
-        Err(Fault::Cose(error)) => format!(in alloc; "{error}"),
+        Ok(payload) => to.hex(&payload),
+        Err(Fault::Caller(refused)) => to.debug(&refused),
+        Err(Fault::Cose(error)) => to.show(&error),
     }
 }

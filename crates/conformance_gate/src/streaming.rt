@@ -1,8 +1,8 @@
 //! Checks of one message while its payload passes through a buffer.
 ghost use Rattle.std.specs.Prelude.{◌<◌, length};
 
-use crate::answers::{Answer, append, plain, yes_or_no};
-use crate::gating::questions;
+use crate::gating::add_questions;
+use crate::out::Out;
 use crate::words;
 use cose_gate::{
     About, Decoder, End, Judge, Limits, Recorder, StreamFault, stream_check, stream_check_with,
@@ -68,64 +68,65 @@ fn checked<J: Judge>(
     (answer, decoder.offset())
 }
 
-/// A check, within limits where there are some, with a buffer of so many bytes, from 1 to 64, where
-/// the judge says no to this signature alone: its answer, how many bytes were taken, the question,
-/// and the lengths of the pieces in which the covered bytes came; or its fault.
-pub fn check(
-    alloc: Global,
-    limits: Option<Limits>,
-    room: &str,
-    input: &str,
-    aad: &str,
-    no: Option<Vec<u8>>,
-) -> Answer {
-    let room = words::number(room)?;
-    let (input, aad) = (words::bytes(alloc, input)?, words::bytes(alloc, aad)?);
+/// A check with a buffer of so many bytes, from 1 to 64.
+pub fn check(to: &mut Out, row: &mut &str) {
+    check_by(to, None, row);
+}
+
+/// The same, within limits.
+pub fn check_within(to: &mut Out, row: &mut &str) {
+    let limits = words::limits(to, row);
+    check_by(to, Some(limits), row);
+}
+
+/// A check, within limits where there are some, where the judge says no to the signature that may stand behind the other words: its
+/// answer, how many bytes were taken, the question, and the lengths of the pieces in which the covered bytes came; or its fault.
+fn check_by(to: &mut Out, limits: Option<Limits>, row: &mut &str) {
+    let room = words::number(to, row);
+    let input = words::bytes(to, row);
+    let aad = words::bytes(to, row);
+    let no = words::last(to, row);
     let mut memory = [0; 64];
     let buffer = &mut memory[..room.max(1).min(64)];
     let mut judge = Pieces {
-        inner: Recorder::new(alloc, no),
-        lengths: Vec::new(alloc),
+        inner: Recorder::new(to.alloc(), no),
+        lengths: Vec::new(to.alloc()),
     };
-    let (answer, taken) = checked(alloc, limits, &input, buffer, &aad, &mut judge);
-    let mut text = answer_text(alloc, &answer, taken)?;
-    let asked = questions(alloc, judge.inner.asked())?;
-    if !asked.is_empty() {
-        append(&mut text, "; ", asked.as_str())?;
-    }
+    let (answer, taken) = checked(to.alloc(), limits, &input, buffer, &aad, &mut judge);
+    add_answer(to, &answer, taken);
+    add_questions(to, judge.inner.asked());
     if answer.is_ok() {
-        add_pieces(alloc, &mut text, judge.lengths.as_slice())?;
+        add_pieces(to, judge.lengths.as_slice());
     }
-    Ok(text)
 }
 
 /// The text of a check's fault; `yes` or `no` where there is none.
-pub fn fault(alloc: Global, input: &str) -> Answer {
-    let input = words::bytes(alloc, input)?;
-    let mut judge = Recorder::new(alloc, None);
-    let (answer, _) = checked(alloc, None, &input, &mut [0; 1], &[], &mut judge);
+pub fn fault(to: &mut Out, row: &mut &str) {
+    let input = words::bytes(to, row);
+    let mut judge = Recorder::new(to.alloc(), None);
+    let (answer, _) = checked(to.alloc(), None, &input, &mut [0; 1], &[], &mut judge);
     match answer {
-        Ok(yes) => plain(alloc, yes_or_no(yes)),
-        Err(fault) => Ok(format!(in alloc; "{fault}")?),
+        Ok(yes) => to.yes_or_no(yes),
+        Err(fault) => to.show(&fault),
     }
 }
 
-fn answer_text(
-    alloc: Global,
-    answer: &Result<bool, StreamFault<End>>,
-    taken: usize,
-) -> Result<String, AllocError> {
+fn add_answer(to: &mut Out, answer: &Result<bool, StreamFault<End>>, taken: usize) {
     match answer {
-        Ok(yes) => format!(in alloc; "{}, {taken} taken", yes_or_no(*yes)),
-        Err(fault) => format!(in alloc; "{fault:?}"),
+        Ok(yes) => {
+            to.yes_or_no(*yes);
+            to.text(", ");
+            to.show(&taken);
+            to.text(" taken");
+        }
+        Err(fault) => to.debug(fault),
     }
 }
 
-fn add_pieces(alloc: Global, text: &mut String, lengths: &[usize]) -> Result<(), AllocError> {
-    text.push_str("; pieces")?;
+fn add_pieces(to: &mut Out, lengths: &[usize]) {
+    to.text("; pieces");
     for length in lengths {
-        let part = format!(in alloc; "{length}")?;
-        append(text, " ", part.as_str())?;
+        to.text(" ");
+        to.show(length);
     }
-    Ok(())
 }

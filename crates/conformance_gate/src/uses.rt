@@ -1,55 +1,48 @@
 //! Calls of `callers`, by their names.
-use crate::answers::{Answer, NoAnswer};
-use crate::{checking, heads, items, keeping, relaying, signing, words};
-use std::alloc::Global;
+use crate::out::{NoAnswer, Out};
+use crate::{checking, heads, items, keeping, relaying, signing};
 
-/// What the call answers that the first word names.
-pub fn answer(alloc: Global, row: &[&str]) -> Answer {
-    match row {
-        ["first-head", input] => heads::first(alloc, input),
-        ["array-len", input] => heads::array_len(alloc, input),
-        ["numbers", numbers @ ..] => heads::numbers(alloc, numbers),
-        ["shortened", front, count, input] => heads::shortened(alloc, front, count, input),
-        ["points", name, input] => items::points(alloc, name, input),
-        ["first-time", input] => items::first_time(alloc, input),
-        ["labelled", input] => items::labelled(alloc, input),
-        ["whole-byte", input] => items::whole(alloc, input),
-        ["front-value", input] => items::front(alloc, input),
-        ["two-values", input] => items::two(alloc, input),
-        _ => of_cose(alloc, row),
+/// What the call with this name answers.
+pub fn answer(to: &mut Out, name: &str, row: &mut &str) {
+    match name {
+        "first-head" => heads::first(to, row),
+        "array-len" => heads::array_len(to, row),
+        "numbers" => heads::numbers(to, row),
+        "shortened" => heads::shortened(to, row),
+        "points" => items::points(to, row),
+        "first-time" => items::first_time(to, row),
+        "labelled" => items::labelled(to, row),
+        "whole-byte" => items::whole(to, row),
+        "front-value" => items::front(to, row),
+        "two-values" => items::two(to, row),
+        _ => of_cose(to, name, row),
     }
 }
 
-fn of_cose(alloc: Global, row: &[&str]) -> Answer {
-    match row {
-        ["header", key_id] => keeping::header(alloc, key_id),
-        ["is-header", key_id, header] => keeping::is_header(alloc, key_id, header),
-        ["rewritten", header] => keeping::rewritten(alloc, header),
-        ["header-within", nesting, layers, header] => {
-            keeping::header_within(alloc, words::limits(nesting, layers)?, header)
-        }
-        ["is-same-key", a, b] => keeping::is_same_key(alloc, a, b),
-        ["spelling", key] => keeping::spelling(alloc, key),
-        ["are-new", keys @ ..] => keeping::are_new(alloc, keys),
-        ["subject", claims] => keeping::subject(alloc, claims),
-        ["signed", secret, aad, payload] => signing::signed(alloc, secret, aad, payload),
-        ["signed-payload", secret, aad, message] => {
-            signing::signed_payload(alloc, secret, aad, message)
-        }
-        ["tagged-payload", secret, aad, message] => {
-            signing::tagged_payload(alloc, secret, aad, message)
-        }
-        _ => of_gate(alloc, row),
+fn of_cose(to: &mut Out, name: &str, row: &mut &str) {
+    match name {
+        "header" => keeping::header(to, row),
+        "is-header" => keeping::is_header(to, row),
+        "rewritten" => keeping::rewritten(to, row),
+        "header-within" => keeping::header_within(to, row),
+        "is-same-key" => keeping::is_same_key(to, row),
+        "spelling" => keeping::spelling(to, row),
+        "are-new" => keeping::are_new(to, row),
+        "subject" => keeping::subject(to, row),
+        "signed" => signing::signed(to, row),
+        "signed-payload" => signing::signed_payload(to, row),
+        "tagged-payload" => signing::tagged_payload(to, row),
+        _ => of_gate(to, name, row),
     }
 }
 
-fn of_gate(alloc: Global, row: &[&str]) -> Answer {
-    match row {
-        ["relay", key_id, input] => relaying::run(alloc, key_id, input),
-        ["relay-once", key_id, inputs @ ..] => relaying::run_once(alloc, key_id, inputs),
-        ["is-tagged", keys, aad, input] => checking::is_tagged(alloc, keys, aad, input),
-        ["is-fed", keys, aad, input] => checking::is_fed(alloc, keys, aad, input),
-        ["program", keys, input, words @ ..] => checking::program(alloc, keys, input, words),
-        _ => Err(NoAnswer::NoCall),
+fn of_gate(to: &mut Out, name: &str, row: &mut &str) {
+    match name {
+        "relay" => relaying::run(to, row),
+        "relay-once" => relaying::run_once(to, row),
+        "is-tagged" => checking::is_tagged(to, row),
+        "is-fed" => checking::is_fed(to, row),
+        "program" => checking::program(to, row),
+        _ => to.refuse(NoAnswer::NoCall),
     }
 }

@@ -1,34 +1,113 @@
-//! Words of a row: arguments of a call.
-use crate::answers::NoAnswer;
+//! Words of a row: arguments of a call, each taken from its front.
+use crate::out::{NoAnswer, Out};
 use cose_gate::Limits;
-use std::alloc::Global;
 
-/// The bytes that a word is in hex. `-` is none.
-pub fn bytes(alloc: Global, word: &str) -> Result<Vec<u8>, NoAnswer> {
-    if word == "-" {
-        return Ok(Vec::new(alloc));
+/// The next word.
+pub fn word<'a>(to: &mut Out, row: &mut &'a str) -> &'a str {
+    if row.is_empty() {
+        to.refuse(NoAnswer::NoCall);
     }
-    match hex::decode(alloc, word) {
-        Ok(bytes) => Ok(bytes),
-        Err(_) => Err(NoAnswer::NotHex),
+    match row.split_once(' ') {
+        Some((word, rest)) => {
+            *row = rest;
+            word
+        }
+        None => rest(row),
     }
 }
 
-/// The bytes that a word is in hex. `none` is no bytes at all.
-pub fn optional(alloc: Global, word: &str) -> Result<Option<Vec<u8>>, NoAnswer> {
-    if word == "none" {
-        return Ok(None);
+/// All words that are left.
+pub fn rest<'a>(row: &mut &'a str) -> &'a str {
+    let rest = *row;
+    *row = "";
+    rest
+}
+
+/// The bytes that a word is in hex. `-` is none.
+pub fn decoded(to: &mut Out, word: &str) -> Vec<u8> {
+    if word == "-" {
+        return Vec::new(to.alloc());
     }
-    let bytes = bytes(alloc, word)?;
-    Ok(Some(bytes))
+    match hex::decode(to.alloc(), word) {
+        Ok(bytes) => bytes,
+        Err(_) => {
+            to.refuse(NoAnswer::NotHex);
+            Vec::new(to.alloc())
+        }
+    }
+}
+
+/// The bytes that the next word is.
+pub fn bytes(to: &mut Out, row: &mut &str) -> Vec<u8> {
+    let word = word(to, row);
+    decoded(to, word)
+}
+
+/// The bytes that the next word is. `none` is no bytes at all.
+pub fn optional(to: &mut Out, row: &mut &str) -> Option<Vec<u8>> {
+    let word = word(to, row);
+    if word == "none" {
+        return None;
+    }
+    Some(decoded(to, word))
+}
+
+/// The bytes that the last word is, if there is one.
+pub fn last(to: &mut Out, row: &mut &str) -> Option<Vec<u8>> {
+    if row.is_empty() {
+        return None;
+    }
+    Some(bytes(to, row))
 }
 
 /// The number that a word is.
-pub fn number(word: &str) -> Result<usize, NoAnswer> {
-    word.parse::<usize>().map_err(|_| NoAnswer::NoNumber)
+pub fn parsed(to: &mut Out, word: &str) -> usize {
+    match word.parse::<usize>() {
+        Ok(number) => number,
+        Err(_) => {
+            to.refuse(NoAnswer::NoNumber);
+            0
+        }
+    }
 }
 
-/// The limits that two words are.
-pub fn limits(nesting: &str, layers: &str) -> Result<Limits, NoAnswer> {
-    Limits::new(number(nesting)?, number(layers)?).ok_or(NoAnswer::NoNumber)
+/// The number that the next word is.
+pub fn number(to: &mut Out, row: &mut &str) -> usize {
+    let word = word(to, row);
+    parsed(to, word)
+}
+
+/// The limits that the next two words are.
+pub fn limits(to: &mut Out, row: &mut &str) -> Limits {
+    let nesting = number(to, row);
+    let layers = number(to, row);
+    match Limits::new(nesting, layers) {
+        Some(limits) => limits,
+        None => {
+            to.refuse(NoAnswer::NoNumber);
+            Limits::default()
+        }
+    }
+}
+
+/// All words that are left, as those of a command line.
+pub fn owned(to: &mut Out, row: &mut &str) -> Vec<String> {
+    let mut owned = Vec::new(to.alloc());
+    for word in rest(row).split(' ') {
+        if !word.is_empty() {
+            add(to, &mut owned, word);
+        }
+    }
+    owned
+}
+
+fn add(to: &mut Out, owned: &mut Vec<String>, word: &str) {
+    match String::from_str(to.alloc(), word) {
+        Ok(word) => {
+            if owned.push(word).is_err() {
+                to.refuse(NoAnswer::Memory);
+            }
+        }
+        Err(_) => to.refuse(NoAnswer::Memory),
+    }
 }

@@ -9,19 +9,8 @@ use Rattle.coset_headers.specs.View.{header_view, protected_view, entry_view, si
 use Rattle.coset_builders.specs.declared.header.HeaderBuilder.{HeaderBuilder}
 use Rattle.coset_builders.specs.declared.signature.CoseSignatureBuilder.{CoseSignatureBuilder}
 
-abbrev pub plain_so_far : HeaderBuilder → Plain
-plain_so_far b = record {
-  alg = option_map (named_view algorithm_number) b.alg;
-  crit = map (named_view header_parameters.number) b.crit.items;
-  content_type = option_map (registered_view coap_content_formats.number) b.content_type;
-  key_id = b.key_id.items;
-  iv = b.iv.items;
-  partial_iv = b.partial_iv.items;
-  rest = map entry_view b.rest.items;
-}
-
 abbrev pub header_so_far : HeaderBuilder → HeaderFields
-header_so_far b = header (plain_so_far b) (signatures_view b.counter_signatures.items)
+header_so_far b = header_view b.header
 
 abbrev pub signature_so_far : CoseSignatureBuilder → SignatureFields
 signature_so_far b = signature (protected_view b.protected) (header_view b.unprotected) b.signature.items

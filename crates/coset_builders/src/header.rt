@@ -23,14 +23,7 @@ use std::alloc::Global;
 /// that append can be refused memory; the others take none.
 #[derive(Drop)]
 pub struct HeaderBuilder {
-    alg: Option<Algorithm>,
-    crit: Vec<RegisteredLabelWithPrivate<iana::HeaderParameter>>,
-    content_type: Option<ContentType>,
-    key_id: Vec<u8>,
-    iv: Vec<u8>,
-    partial_iv: Vec<u8>,
-    counter_signatures: Vec<CoseSignature>,
-    rest: Vec<(Label, Value)>,
+    header: Header,
 }
 
 impl HeaderBuilder {
@@ -39,14 +32,7 @@ impl HeaderBuilder {
         ensures { header_so_far result ≡ no_header }
     {
         HeaderBuilder {
-            alg: None,
-            crit: Vec::new(alloc),
-            content_type: None,
-            key_id: Vec::new(alloc),
-            iv: Vec::new(alloc),
-            partial_iv: Vec::new(alloc),
-            counter_signatures: Vec::new(alloc),
-            rest: Vec::new(alloc),
+            header: Header::new(alloc),
         }
     }
 
@@ -54,16 +40,7 @@ impl HeaderBuilder {
     pub fn build(self) -> Header
         ensures { header_view result ≡ header_so_far self }
     {
-        Header {
-            alg: self.alg,
-            crit: self.crit,
-            content_type: self.content_type,
-            key_id: self.key_id,
-            iv: self.iv,
-            partial_iv: self.partial_iv,
-            counter_signatures: self.counter_signatures,
-            rest: self.rest,
-        }
+        self.header
     }
 
     /// Sets the algorithm.
@@ -72,7 +49,7 @@ impl HeaderBuilder {
             ≡ given (λ p. record p { alg = Some (assigned (algorithm_number alg)) })
             (header_so_far self) }
     {
-        self.alg = Some(RegisteredLabelWithPrivate::Assigned(alg));
+        self.header.alg = Some(RegisteredLabelWithPrivate::Assigned(alg));
         self
     }
 
@@ -82,7 +59,7 @@ impl HeaderBuilder {
             ≡ given (λ p. record p { alg = Some (named_view algorithm_number alg) })
             (header_so_far self) }
     {
-        self.alg = Some(alg);
+        self.header.alg = Some(alg);
         self
     }
 
@@ -114,7 +91,7 @@ impl HeaderBuilder {
             (header_so_far self))
             (λ e. e ≡ Memory) }
     {
-        self.crit.push(label)?;
+        self.header.crit.push(label)?;
         Ok(self)
     }
 
@@ -125,7 +102,7 @@ impl HeaderBuilder {
             (λ p. record p { content_type = Some (assigned (coap_content_formats.number format)) })
             (header_so_far self) }
     {
-        self.content_type = Some(RegisteredLabel::Assigned(format));
+        self.header.content_type = Some(RegisteredLabel::Assigned(format));
         self
     }
 
@@ -135,7 +112,7 @@ impl HeaderBuilder {
             ≡ given (λ p. record p { content_type = Some (named (string_bytes text)) })
             (header_so_far self) }
     {
-        self.content_type = Some(RegisteredLabel::Text(text));
+        self.header.content_type = Some(RegisteredLabel::Text(text));
         self
     }
 
@@ -144,7 +121,7 @@ impl HeaderBuilder {
         ensures { header_so_far result
             ≡ given (λ p. record p { key_id = key_id.items }) (header_so_far self) }
     {
-        self.key_id = key_id;
+        self.header.key_id = key_id;
         self
     }
 
@@ -153,8 +130,8 @@ impl HeaderBuilder {
         ensures { header_so_far result
             ≡ given (λ p. record p { iv = iv.items; partial_iv = [] }) (header_so_far self) }
     {
-        self.iv = iv;
-        self.partial_iv.clear();
+        self.header.iv = iv;
+        self.header.partial_iv.clear();
         self
     }
 
@@ -164,8 +141,8 @@ impl HeaderBuilder {
             ≡ given (λ p. record p { iv = []; partial_iv = partial_iv.items })
             (header_so_far self) }
     {
-        self.partial_iv = partial_iv;
-        self.iv.clear();
+        self.header.partial_iv = partial_iv;
+        self.header.iv.clear();
         self
     }
 
@@ -181,7 +158,7 @@ impl HeaderBuilder {
             (λ b. header_so_far b ≡ also_signed (signature_view signature) (header_so_far self))
             (λ e. e ≡ Memory) }
     {
-        self.counter_signatures.push(signature)?;
+        self.header.counter_signatures.push(signature)?;
         Ok(self)
     }
 
@@ -196,7 +173,7 @@ impl HeaderBuilder {
             ≡ given (λ p. record p { rest = p.rest ++ (number label, view value) ∷ [] })
             (header_so_far self)) (λ e. e ≡ Memory) }
     {
-        self.rest.push((Label::Int(label), value))?;
+        self.header.rest.push((Label::Int(label), value))?;
         Ok(self)
     }
 
@@ -211,7 +188,7 @@ impl HeaderBuilder {
             (header_so_far self))
             (λ e. e ≡ Memory) }
     {
-        self.rest.push((Label::Text(label), value))?;
+        self.header.rest.push((Label::Text(label), value))?;
         Ok(self)
     }
 }

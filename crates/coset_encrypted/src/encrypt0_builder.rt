@@ -3,7 +3,7 @@ ghost use Rattle.std.specs.Prelude.{◌≡◌, Some, None};
 ghost use Rattle.coset_headers.specs.Fields.{protected};
 ghost use Rattle.coset_headers.specs.View.{header_view};
 ghost use Rattle.coset_message_parts.specs.Calls.{TakesPairWhere, BuiltPairWhere, MadePairWhere};
-ghost use Rattle.coset_encrypted.specs.Builders.{encrypt0_so_far};
+ghost use Rattle.coset_encrypted.specs.Builders.{encrypt0_so_far, encrypt0_ciphertext};
 ghost use Rattle.coset_encrypted.specs.Fields.{no_encrypt0};
 ghost use Rattle.coset_encrypted.specs.Structure.{encrypt0_covered};
 ghost use Rattle.coset_encrypted.specs.View.{encrypt0_view};
@@ -59,7 +59,9 @@ impl CoseEncrypt0Builder {
 
     /// Sets the ciphertext.
     pub fn ciphertext(mut self, ciphertext: Vec<u8>) -> CoseEncrypt0Builder
-        ensures { result.message ≡ record self.message { ciphertext = Some ciphertext } }
+        ensures built { encrypt0_so_far result
+            ≡ record (encrypt0_so_far self) { ciphertext = Some ciphertext.items } }
+        ensures given { encrypt0_ciphertext result ≡ Some ciphertext }
     {
         self.message.ciphertext = Some(ciphertext);
         self
@@ -83,8 +85,9 @@ impl CoseEncrypt0Builder {
             (encrypt0_covered (encrypt0_so_far self) aad.now) }
         ensures { BuiltPairWhere C.FnOnce cipher plaintext.now
             (encrypt0_covered (encrypt0_so_far self) aad.now)
-            (λ b. b.message.ciphertext)
-            (λ b. b.message ≡ record self.message { ciphertext = b.message.ciphertext }) result }
+            encrypt0_ciphertext
+            (λ b. encrypt0_so_far b
+            ≡ record (encrypt0_so_far self) { ciphertext = (encrypt0_so_far b).ciphertext }) result }
     {
         let data = self.message.covered(alloc, aad)?;
         let ciphertext = cipher(plaintext, data.as_slice());
@@ -106,8 +109,9 @@ impl CoseEncrypt0Builder {
             (encrypt0_covered (encrypt0_so_far self) aad.now) }
         ensures { MadePairWhere C.FnOnce cipher plaintext.now
             (encrypt0_covered (encrypt0_so_far self) aad.now)
-            (λ b. b.message.ciphertext)
-            (λ b. b.message ≡ record self.message { ciphertext = b.message.ciphertext }) result }
+            encrypt0_ciphertext
+            (λ b. encrypt0_so_far b
+            ≡ record (encrypt0_so_far self) { ciphertext = (encrypt0_so_far b).ciphertext }) result }
     {
         let data = self.message.covered(alloc, aad)?;
         let ciphertext = cipher(plaintext, data.as_slice()).map_err(Fault::Caller)?;

@@ -6,7 +6,7 @@ ghost use Rattle.coset_headers.specs.View.{header_view};
 ghost use Rattle.coset_message_parts.specs.Calls.{TakesPairWhere, BuiltPairWhere, MadePairWhere};
 ghost use Rattle.coset_recipients.specs.Builders.{recipients_and};
 ghost use Rattle.coset_recipients.specs.View.{recipient_view};
-ghost use Rattle.coset_encrypted.specs.Builders.{encrypt_so_far};
+ghost use Rattle.coset_encrypted.specs.Builders.{encrypt_so_far, encrypt_ciphertext};
 ghost use Rattle.coset_encrypted.specs.Fields.{no_encrypt};
 ghost use Rattle.coset_encrypted.specs.Structure.{encrypt_covered};
 ghost use Rattle.coset_encrypted.specs.View.{encrypt_view};
@@ -63,7 +63,9 @@ impl CoseEncryptBuilder {
 
     /// Sets the ciphertext.
     pub fn ciphertext(mut self, ciphertext: Vec<u8>) -> CoseEncryptBuilder
-        ensures { result.message ≡ record self.message { ciphertext = Some ciphertext } }
+        ensures built { encrypt_so_far result
+            ≡ record (encrypt_so_far self) { ciphertext = Some ciphertext.items } }
+        ensures given { encrypt_ciphertext result ≡ Some ciphertext }
     {
         self.message.ciphertext = Some(ciphertext);
         self
@@ -107,8 +109,9 @@ impl CoseEncryptBuilder {
             (encrypt_covered (encrypt_so_far self) aad.now) }
         ensures { BuiltPairWhere C.FnOnce cipher plaintext.now
             (encrypt_covered (encrypt_so_far self) aad.now)
-            (λ b. b.message.ciphertext)
-            (λ b. b.message ≡ record self.message { ciphertext = b.message.ciphertext }) result }
+            encrypt_ciphertext
+            (λ b. encrypt_so_far b
+            ≡ record (encrypt_so_far self) { ciphertext = (encrypt_so_far b).ciphertext }) result }
     {
         let data = self.message.covered(alloc, aad)?;
         let ciphertext = cipher(plaintext, data.as_slice());
@@ -130,8 +133,9 @@ impl CoseEncryptBuilder {
             (encrypt_covered (encrypt_so_far self) aad.now) }
         ensures { MadePairWhere C.FnOnce cipher plaintext.now
             (encrypt_covered (encrypt_so_far self) aad.now)
-            (λ b. b.message.ciphertext)
-            (λ b. b.message ≡ record self.message { ciphertext = b.message.ciphertext }) result }
+            encrypt_ciphertext
+            (λ b. encrypt_so_far b
+            ≡ record (encrypt_so_far self) { ciphertext = (encrypt_so_far b).ciphertext }) result }
     {
         let data = self.message.covered(alloc, aad)?;
         let ciphertext = cipher(plaintext, data.as_slice()).map_err(Fault::Caller)?;

@@ -7,23 +7,12 @@ use Rattle.cose_iana.specs.Formats.{coap_content_formats}
 use Rattle.cose_iana.specs.Headers.{header_parameters}
 use Rattle.coset_labels.specs.View.{registered_view, named_view}
 use Rattle.coset_headers.specs.Copies.{unsigned_header, unsigned}
-use Rattle.coset_headers.specs.Fields.{Plain, SignatureFields, HeaderFields, header, ProtectedFields, protected, signature, no_signatures, signature_more, signatures}
-use Rattle.coset_headers.specs.View.{header_view, protected_view, signature_view, signatures_view, entry_view, signature_step, header_step, protected_step}
-use Rattle.coset_headers.specs.declared.header.Header.{Header, out-Header, roll-Header, roll-out-Header, fold-roll-Header}
+use Rattle.coset_headers.specs.Fields.{SignatureFields, HeaderFields, header, ProtectedFields, protected, signature, no_signatures, signature_more, signatures}
+use Rattle.coset_headers.specs.View.{header_view, protected_view, signature_view, signatures_view, entry_view, plain_parts, signature_step, header_step, protected_step}
+use Rattle.coset_headers.specs.declared.header.Header.{Header, out-Header, roll-Header, roll-out-Header, out-roll-Header, fold-roll-Header}
 use Rattle.coset_headers.specs.declared.header.ProtectedHeader.{ProtectedHeader, out-ProtectedHeader, roll-ProtectedHeader, roll-out-ProtectedHeader, fold-roll-ProtectedHeader}
 use Rattle.coset_headers.specs.declared.header.CoseSignature.{CoseSignature, out-CoseSignature, roll-CoseSignature, roll-out-CoseSignature, out-roll-CoseSignature, fold-roll-CoseSignature}
 use Rattle.coset_headers.specs.declared.header.CoseSignature.TheOpen.{Header-F, ProtectedHeader-F, CoseSignature-F}
-
-abbrev pub plain_parts : Header-F CoseSignature Header ProtectedHeader → Plain
-plain_parts x = record {
-  alg = option_map (named_view algorithm_number) x.alg;
-  crit = map (named_view header_parameters.number) x.crit.items;
-  content_type = option_map (registered_view coap_content_formats.number) x.content_type;
-  key_id = x.key_id.items;
-  iv = x.iv.items;
-  partial_iv = x.partial_iv.items;
-  rest = map entry_view x.rest.items;
-}
 
 -- the views of what is put together
 pub header_of : (x : Header-F CoseSignature Header ProtectedHeader) → header_view (roll-Header x) ≡ header (plain_parts x) (signatures_view x.counter_signatures.items)
@@ -34,6 +23,12 @@ protected_of x = fold-roll-ProtectedHeader SignatureFields HeaderFields Protecte
 
 pub signature_of : (x : CoseSignature-F CoseSignature Header ProtectedHeader) → signature_view (roll-CoseSignature x) ≡ signature (protected_view x.protected) (header_view x.unprotected) x.signature.items
 signature_of x = fold-roll-CoseSignature SignatureFields HeaderFields ProtectedFields signature_step header_step protected_step x
+
+pub plain_rolled : (x : Header-F CoseSignature Header ProtectedHeader) → plain_parts (out-Header (roll-Header x)) ≡ plain_parts x
+plain_rolled x = ap plain_parts (out-roll-Header x)
+
+pub signs_rolled : (x : Header-F CoseSignature Header ProtectedHeader) → signatures_view (out-Header (roll-Header x)).counter_signatures.items ≡ signatures_view x.counter_signatures.items
+signs_rolled x = ap (λ z. signatures_view z.counter_signatures.items) (out-roll-Header x)
 
 -- the views of what is taken apart
 pub header_is : (h : Header) → header_view h ≡ header (plain_parts (out-Header h)) (signatures_view (out-Header h).counter_signatures.items)

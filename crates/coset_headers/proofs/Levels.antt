@@ -13,17 +13,17 @@ use Rattle.coset_labels.specs.Labels.{label_of}
 use Rattle.coset_labels.specs.declared.error.CoseError.{CoseError}
 use Rattle.coset_labels.specs.declared.label.Label.{Label}
 use Rattle.coset_labels.specs.declared.seen_labels.SeenLabels.{SeenLabels}
-use Rattle.coset_headers.specs.Fields.{HeaderFields, header, no_header, protected, signature, Signatures, signatures}
+use Rattle.coset_headers.specs.Fields.{HeaderFields, no_header, protected, signature, Signatures, signatures}
 use Rattle.coset_headers.specs.Headers.{is_at, IsIn, IsBare, IsList, list_of_three, HasHeader, HasSignature, HasSigned, HasSignatures}
 use Rattle.coset_headers.specs.Levels.{Going, Signed, IsNext, alone, listed, IsHalf, Around, Within, ReadingSigned, ReadingInside, open_left, signing_left, levels_left}
-use Rattle.coset_headers.specs.Parts.{plain_of, signs_of, Sees, Known, Added}
+use Rattle.coset_headers.specs.Parts.{plain_of, signs_of, SeesLabels, Sees, Known, Added}
 use Rattle.coset_headers.specs.View.{header_view, signature_view, signatures_view}
 use Rattle.coset_headers.specs.Wrong.{WrongHeader, at_entry, WrongEntry, bad_signatures, WrongSigned, in_bare, in_list, WrongSignature, in_protected, in_unprotected, WrongProtected, inside}
 use Rattle.coset_headers.specs.declared.header.CoseSignature.{CoseSignature, roll-CoseSignature}
 use Rattle.coset_headers.specs.declared.header.ProtectedHeader.{roll-ProtectedHeader}
-use Rattle.coset_headers.proofs.Alike.{protected_of, signature_of}
+use Rattle.coset_headers.proofs.Alike.{header_is, protected_of, signature_of}
+use Rattle.coset_headers.proofs.Fresh.{sees_none, known_none}
 use Rattle.coset_headers.specs.declared.header.Header.{Header}
-use Rattle.coset_headers.specs.declared.parts.HeaderParts.{HeaderParts}
 use Rattle.coset_headers.specs.declared.reader.Half.{Half}
 use Rattle.coset_headers.specs.declared.reader.Half.TheVariants as half
 use Rattle.coset_headers.specs.declared.reader.Level.{Level}
@@ -33,21 +33,21 @@ use Rattle.coset_headers.proofs.Entered.{entries_snoc}
 use Rattle.coset_headers.proofs.Steps.{passed_on, known_signed, signed_one, signed_all, sigs_snoc}
 
 -- ---- one open header
-pub starts : (n : ℕ) (es : List (Value × Value)) (it : IntoIter (Value × Value) Global) (s : SeenLabels Label) (p : HeaderParts) (k : ℕ) → into_iter_items it ≡ es → Sees s []
-    → Known n [] (plain_of p) (signs_of p) k → Going n (map_tree (view_pairs es)) (record { entries = it; seen = s; parts = p; layers = k })
-starts n es it s p k e a b = record { before = []; es = []; is = ap (λ z. map_tree (view_pairs z)) (sym e); read_before = refl; known = record { sees = a; known = b } }
+pub starts : (n : ℕ) (es : List (Value × Value)) (it : IntoIter (Value × Value) Global) (s : SeenLabels Label) (h : Header) (k : ℕ) → into_iter_items it ≡ es
+    → SeesLabels s [] → header_view h ≡ no_header → Going n (map_tree (view_pairs es)) (record { entries = it; seen = s; layers = k }) h
+starts n es it s h k e a q = record { before = []; es = []; is = ap (λ z. map_tree (view_pairs z)) (sym e); read_before = refl; known = record { sees = sees_none s a; known = known_none n h k q } }
 
 -- a fault of the next entry
-pub entry_wrong : (n : ℕ) (t : Tree) (o : Open) (x : Value × Value) (xs : List (Value × Value)) (e : CoseError) (g : Going n t o) → into_iter_items o.entries ≡ x ∷ xs
+pub entry_wrong : (n : ℕ) (t : Tree) (o : Open) (h : Header) (x : Value × Value) (xs : List (Value × Value)) (e : CoseError) (g : Going n t o h) → into_iter_items o.entries ≡ x ∷ xs
     → OrMemory (WrongEntry n g.es (view x.0) (view x.1) o.layers) e → OrMemory (WrongHeader n t o.layers) e
-entry_wrong n t o x xs e g q w = passed_on (WrongEntry n g.es (view x.0) (view x.1) o.layers) (WrongHeader n t o.layers) e (λ y.
+entry_wrong n t o h x xs e g q w = passed_on (WrongEntry n g.es (view x.0) (view x.1) o.layers) (WrongHeader n t o.layers) e (λ y.
     subst (λ z. WrongHeader n z o.layers (fault_of e)) (sym (g.is ∙ ap (λ z. map_tree (pairs (g.before ++ map view_pair z))) q))
     (at_entry g.before (map view_pair xs) (view x.0) (view x.1) g.es o.layers (fault_of e) g.read_before y)) w
 
 -- the next entry is read
-pub filled : (n : ℕ) (t : Tree) (o p : Open) (x : Value × Value) (xs : List (Value × Value)) (g : Going n t o) → into_iter_items o.entries ≡ x ∷ xs → into_iter_items p.entries ≡ xs
-    → Added n g.es (view x.0) (view x.1) p.seen p.parts p.layers → Going n t p
-filled n t o p x xs g q r a = record {
+pub filled : (n : ℕ) (t : Tree) (o p : Open) (h u : Header) (x : Value × Value) (xs : List (Value × Value)) (g : Going n t o h) → into_iter_items o.entries ≡ x ∷ xs → into_iter_items p.entries ≡ xs
+    → Added n g.es (view x.0) (view x.1) p.seen u p.layers → Going n t p u
+filled n t o p h u x xs g q r a = record {
   before = g.before ++ view_pair x ∷ [];
   es = g.es ++ (a.key, view x.1) ∷ [];
   is = g.is ∙ ap (λ z. map_tree (pairs (g.before ++ map view_pair z))) (q ∙ ap (λ z. x ∷ z) (sym r))
@@ -57,10 +57,10 @@ filled n t o p x xs g q r a = record {
 }
 
 -- the label of the next entry is that of counter signatures
-pub signs_next : (n : ℕ) (t : Tree) (o p : Open) (x : Value × Value) (xs : List (Value × Value)) (m : LabelFields) (g : Going n t o) → into_iter_items o.entries ≡ x ∷ xs
-    → into_iter_items p.entries ≡ xs → p.parts ≡ o.parts → p.layers ≡ o.layers → label_of (view x.0) ≡ Some m → is_at 7 m ≡ true → (IsIn m g.es → ⊥)
-    → ((w : Tree) → Sees p.seen (g.es ++ (m, w) ∷ [])) → Signed n t p (view x.1)
-signs_next n t o p x xs m g q r a b l s f w = record {
+pub signs_next : (n : ℕ) (t : Tree) (o p : Open) (h : Header) (x : Value × Value) (xs : List (Value × Value)) (m : LabelFields) (g : Going n t o h) → into_iter_items o.entries ≡ x ∷ xs
+    → into_iter_items p.entries ≡ xs → p.layers ≡ o.layers → label_of (view x.0) ≡ Some m → is_at 7 m ≡ true → (IsIn m g.es → ⊥)
+    → ((w : Tree) → Sees p.seen (g.es ++ (m, w) ∷ [])) → Signed n t p h (view x.1)
+signs_next n t o p h x xs m g q r b l s f w = record {
   before = g.before;
   es = g.es;
   key = view x.0;
@@ -71,17 +71,17 @@ signs_next n t o p x xs m g q r a b l s f w = record {
   signs = s;
   fresh = f;
   sees = w;
-  known = subst (λ z. Known n g.es (plain_of p.parts) (signs_of p.parts) z) (sym b) (subst (λ z. Known n g.es (plain_of z) (signs_of z) o.layers) (sym a) g.known.known);
+  known = subst (λ z. Known n g.es (plain_of h) (signs_of h) z) (sym b) g.known.known;
 }
 
 -- its counter signatures are read
-pub signed_done : (n : ℕ) (t : Tree) (o p : Open) (v : Tree) (ss : Signatures) → Signed n t o v → HasSigned n (Some v) ss o.layers
-    → p.entries ≡ o.entries → p.seen ≡ o.seen → p.layers ≡ o.layers → plain_of p.parts ≡ plain_of o.parts → signs_of p.parts ≡ ss → Going n t p
-signed_done n t o p v ss g h a b d e f =
-    let k : HasSigned n (Some v) ss p.layers = subst (λ z. HasSigned n (Some v) ss z) (sym d) h in
-    let w : Known n g.es (plain_of o.parts) (signs_of o.parts) p.layers = subst (λ z. Known n g.es (plain_of o.parts) (signs_of o.parts) z) (sym d) g.known in
+pub signed_done : (n : ℕ) (t : Tree) (o p : Open) (h u : Header) (v : Tree) (ss : Signatures) → Signed n t o h v → HasSigned n (Some v) ss o.layers
+    → p.entries ≡ o.entries → p.seen ≡ o.seen → p.layers ≡ o.layers → plain_of u ≡ plain_of h → signs_of u ≡ ss → Going n t p u
+signed_done n t o p h u v ss g x a b d e f =
+    let k : HasSigned n (Some v) ss p.layers = subst (λ z. HasSigned n (Some v) ss z) (sym d) x in
+    let w : Known n g.es (plain_of h) (signs_of h) p.layers = subst (λ z. Known n g.es (plain_of h) (signs_of h) z) (sym d) g.known in
     let sees : (w : Tree) → Sees p.seen (g.es ++ (g.label, w) ∷ []) = subst (λ z. (w : Tree) → Sees z (g.es ++ (g.label, w) ∷ [])) (sym b) g.sees in
-    let m = known_signed n g.es g.key v p.seen o.parts p.parts p.layers g.label ss w g.label_is g.fresh sees g.signs k e f in
+    let m = known_signed n g.es g.key v p.seen h u p.layers g.label ss w g.label_is g.fresh sees g.signs k e f in
     record {
       before = g.before ++ (g.key, v) ∷ [];
       es = g.es ++ (m.key, v) ∷ [];
@@ -92,14 +92,15 @@ signed_done n t o p v ss g h a b d e f =
     }
 
 -- no entry is left
-pub whole : (n : ℕ) (t : Tree) (o : Open) → Going n t o → into_iter_items o.entries ≡ [] → HasHeader n t (header (plain_of o.parts) (signs_of o.parts)) o.layers
-whole n t o g e =
+pub whole : (n : ℕ) (t : Tree) (o : Open) (h : Header) → Going n t o h → into_iter_items o.entries ≡ [] → HasHeader n t (header_view h) o.layers
+whole n t o h g e =
     let all : g.before ++ map view_pair (into_iter_items o.entries) ≡ g.before = ap (λ z. g.before ++ map view_pair z) e ∙ append-nil g.before in
+    subst (λ z. HasHeader n t z o.layers) (sym (header_is h))
     (pairs g.before, g.es, g.is ∙ ap (λ z. map_tree (pairs z)) all, g.read_before, g.known.known.distinct, g.known.known.plain, g.known.known.signed)
 
 -- ---- faults inside
-signed_wrong : (n : ℕ) (t : Tree) (o : Open) (v : Tree) (e : CoseFault) → Signed n t o v → WrongSigned n v o.layers e → WrongHeader n t o.layers e
-signed_wrong n t o v e g w = subst (λ z. WrongHeader n z o.layers e) (sym g.is)
+signed_wrong : (n : ℕ) (t : Tree) (o : Open) (h : Header) (v : Tree) (e : CoseFault) → Signed n t o h v → WrongSigned n v o.layers e → WrongHeader n t o.layers e
+signed_wrong n t o h v e g w = subst (λ z. WrongHeader n z o.layers e) (sym g.is)
     (at_entry g.before (map view_pair (into_iter_items o.entries)) g.key v g.es o.layers e g.read_before (bad_signatures g.es g.key v o.layers g.label e g.label_is g.fresh g.signs w))
 
 next_wrong : (n k : ℕ) (v s : Tree) (done : List CoseSignature) (left : List Value) (e : CoseFault) → IsNext n k v s done left → WrongSignature n s k e → WrongSigned n v k e
@@ -112,32 +113,32 @@ half_wrong n k s c (half.Protected u b) w i e h x =
     subst (λ z. WrongSignature n z k e) (sym h.1)
     (in_protected (bytes b.items) h.0 (bytes c) k e (inside b.items w k e h.3 h.4 h.5 (subst (λ z. WrongHeader n w z e) h.6 x)))
 
-pub around_wrong : (n : ℕ) (t : Tree) (o : Open) (g : Signing) (w : Tree) (i : ℕ) (e : CoseFault) → Around n t o g w i → WrongHeader n w i e → WrongHeader n t o.layers e
-around_wrong n t o g w i e r x =
-    signed_wrong n t o r.value e r.signed
+pub around_wrong : (n : ℕ) (t : Tree) (o : Open) (h : Header) (g : Signing) (w : Tree) (i : ℕ) (e : CoseFault) → Around n t o h g w i → WrongHeader n w i e → WrongHeader n t o.layers e
+around_wrong n t o h g w i e r x =
+    signed_wrong n t o h r.value e r.signed
     (next_wrong n o.layers r.value r.signature g.done.items (into_iter_items g.items) e r.next (half_wrong n o.layers r.signature g.signature.items g.half w i e r.half x))
 
 within_wrong_by : (n : ℕ) (t : Tree) (k : ℕ) (ls : List Level) (u : Tree) (j : ℕ) (e : CoseFault) → Within n t k ls u j → WrongHeader n u j e → WrongHeader n t k e
 within_wrong_by n t k [] u j e p x = subst (λ z. WrongHeader n z k e) p.0 (subst (λ z. WrongHeader n u z e) p.1 x)
 within_wrong_by n t k (l ∷ ls) u j e p x =
-    subst (λ z. WrongHeader n t z e) p.2 (around_wrong n t l.header l.signing p.0 p.1 e p.3 (within_wrong_by n p.0 p.1 ls u j e p.4 x))
+    subst (λ z. WrongHeader n t z e) p.2 (around_wrong n t l.left l.header l.signing p.0 p.1 e p.3 (within_wrong_by n p.0 p.1 ls u j e p.4 x))
 
 -- a fault of the innermost header is one of the outermost
 pub within_wrong : (n : ℕ) (t : Tree) (k : ℕ) (ls : List Level) (u : Tree) (j : ℕ) (e : CoseError) → Within n t k ls u j → OrMemory (WrongHeader n u j) e → OrMemory (WrongHeader n t k) e
 within_wrong n t k ls u j e p w = passed_on (WrongHeader n u j) (WrongHeader n t k) e (within_wrong_by n t k ls u j (fault_of e) p) w
 
 -- ---- levels that are opened and closed
-pub within_pushed : (n : ℕ) (t : Tree) (k : ℕ) (ls : List Level) (l : Level) (u w : Tree) (i : ℕ) → Within n t k ls u l.header.layers → Around n u l.header l.signing w i → Within n t k (ls ++ l ∷ []) w i
-within_pushed n t k [] l u w i p r = (w, i, p.1, subst (λ z. Around n z l.header l.signing w i) p.0 r, (refl, refl))
+pub within_pushed : (n : ℕ) (t : Tree) (k : ℕ) (ls : List Level) (l : Level) (u w : Tree) (i : ℕ) → Within n t k ls u l.left.layers → Around n u l.left l.header l.signing w i → Within n t k (ls ++ l ∷ []) w i
+within_pushed n t k [] l u w i p r = (w, i, p.1, subst (λ z. Around n z l.left l.header l.signing w i) p.0 r, (refl, refl))
 within_pushed n t k (m ∷ ms) l u w i p r = (p.0, p.1, p.2, p.3, within_pushed n p.0 p.1 ms l u w i p.4 r)
 
 pub within_popped : (n : ℕ) (t : Tree) (k : ℕ) (ls : List Level) (l : Level) (w : Tree) (i : ℕ) → Within n t k (ls ++ l ∷ []) w i
-    → (u : Tree) × Within n t k ls u l.header.layers × Around n u l.header l.signing w i
-within_popped n t k [] l w i p = (t, (refl, p.2), subst (λ z. Around n t l.header l.signing w z) (sym p.4.1) (subst (λ z. Around n t l.header l.signing z p.1) (sym p.4.0) p.3))
+    → (u : Tree) × Within n t k ls u l.left.layers × Around n u l.left l.header l.signing w i
+within_popped n t k [] l w i p = (t, (refl, p.2), subst (λ z. Around n t l.left l.header l.signing w z) (sym p.4.1) (subst (λ z. Around n t l.left l.header l.signing z p.1) (sym p.4.0) p.3))
 within_popped n t k (m ∷ ms) l w i p = let h = within_popped n p.0 p.1 ms l w i p.4 in (h.0, (p.0, p.1, p.2, p.3, h.1), h.2)
 
 -- what is left below
-pub levels_pushed : (ls : List Level) (l : Level) → levels_left (ls ++ l ∷ []) ≡ levels_left ls + (open_left l.header + signing_left l.signing)
+pub levels_pushed : (ls : List Level) (l : Level) → levels_left (ls ++ l ∷ []) ≡ levels_left ls + (open_left l.left + signing_left l.signing)
 levels_pushed [] l = omega arith
 levels_pushed (m ∷ ms) l = let h = levels_pushed ms l in omega (arith, h)
 
@@ -187,39 +188,39 @@ half_empty n k s c first b w i h f g q p m =
 
 -- ---- faults and steps of the whole
 -- a fault of the signature that is next
-pub signature_wrong : (n k : ℕ) (t v s : Tree) (below : List Level) (top : Open) (done : List CoseSignature) (left : List Value) (e : CoseError) → ReadingSigned n t k below top v
+pub signature_wrong : (n k : ℕ) (t v s : Tree) (below : List Level) (top : Open) (h : Header) (done : List CoseSignature) (left : List Value) (e : CoseError) → ReadingSigned n t k below top h v
     → IsNext n top.layers v s done left → OrMemory (WrongSignature n s top.layers) e → OrMemory (WrongHeader n t k) e
-signature_wrong n k t v s below top done left e r x w = within_wrong n t k below r.inner top.layers e r.within
-    (passed_on (WrongSignature n s top.layers) (WrongHeader n r.inner top.layers) e (λ y. signed_wrong n r.inner top v (fault_of e) r.signed (next_wrong n top.layers v s done left (fault_of e) x y)) w)
+signature_wrong n k t v s below top h done left e r x w = within_wrong n t k below r.inner top.layers e r.within
+    (passed_on (WrongSignature n s top.layers) (WrongHeader n r.inner top.layers) e (λ y. signed_wrong n r.inner top h v (fault_of e) r.signed (next_wrong n top.layers v s done left (fault_of e) x y)) w)
 
 -- a fault of the counter signatures
-pub signatures_wrong : (n k : ℕ) (t v : Tree) (below : List Level) (top : Open) (e : CoseError) → ReadingSigned n t k below top v → OrMemory (WrongSigned n v top.layers) e → OrMemory (WrongHeader n t k) e
-signatures_wrong n k t v below top e r w = within_wrong n t k below r.inner top.layers e r.within
-    (passed_on (WrongSigned n v top.layers) (WrongHeader n r.inner top.layers) e (λ y. signed_wrong n r.inner top v (fault_of e) r.signed y) w)
+pub signatures_wrong : (n k : ℕ) (t v : Tree) (below : List Level) (top : Open) (h : Header) (e : CoseError) → ReadingSigned n t k below top h v → OrMemory (WrongSigned n v top.layers) e → OrMemory (WrongHeader n t k) e
+signatures_wrong n k t v below top h e r w = within_wrong n t k below r.inner top.layers e r.within
+    (passed_on (WrongSigned n v top.layers) (WrongHeader n r.inner top.layers) e (λ y. signed_wrong n r.inner top h v (fault_of e) r.signed y) w)
 
 -- the unprotected header of the next signature is inside
-pub begins : (n k : ℕ) (t v s w : Tree) (below : List Level) (top : Open) (g : Signing) → ReadingSigned n t k below top v → IsNext n top.layers v s g.done.items (into_iter_items g.items)
-    → IsHalf n top.layers s g.signature.items g.half w top.layers → ReadingInside n t k below top g w top.layers
-begins n k t v s w below top g r x h = record { inner = r.inner; within = r.within; around = record { value = v; signature = s; signed = r.signed; next = x; half = h } }
+pub begins : (n k : ℕ) (t v s w : Tree) (below : List Level) (top : Open) (h : Header) (g : Signing) → ReadingSigned n t k below top h v → IsNext n top.layers v s g.done.items (into_iter_items g.items)
+    → IsHalf n top.layers s g.signature.items g.half w top.layers → ReadingInside n t k below top h g w top.layers
+begins n k t v s w below top h g r x q = record { inner = r.inner; within = r.within; around = record { value = v; signature = s; signed = r.signed; next = x; half = q } }
 
 -- the counter signature in which the header is that is read
-pub signs_of_inside : (n k : ℕ) (t w : Tree) (i : ℕ) (below : List Level) (top : Open) (g : Signing) (r : ReadingInside n t k below top g w i) → ReadingSigned n t k below top r.around.value
-signs_of_inside n k t w i below top g r = record { inner = r.inner; within = r.within; signed = r.around.signed }
+pub signs_of_inside : (n k : ℕ) (t w : Tree) (i : ℕ) (below : List Level) (top : Open) (h : Header) (g : Signing) (r : ReadingInside n t k below top h g w i) → ReadingSigned n t k below top h r.around.value
+signs_of_inside n k t w i below top h g r = record { inner = r.inner; within = r.within; signed = r.around.signed }
 
 -- a fault of its protected header, after the unprotected one
-pub protected_wrong : (n k : ℕ) (t w : Tree) (i : ℕ) (below : List Level) (top : Open) (g : Signing) (first : Value) (e : CoseError) → ReadingInside n t k below top g w i → g.half ≡ half.Unprotected first
+pub protected_wrong : (n k : ℕ) (t w : Tree) (i : ℕ) (below : List Level) (top : Open) (u : Header) (g : Signing) (first : Value) (e : CoseError) → ReadingInside n t k below top u g w i → g.half ≡ half.Unprotected first
     → OrMemory (WrongProtected n (view first) top.layers) e → OrMemory (WrongHeader n t k) e
-protected_wrong n k t w i below top g first e r q x =
+protected_wrong n k t w i below top u g first e r q x =
     let h = subst (λ z. IsHalf n top.layers r.around.signature g.signature.items z w i) q r.around.half in
-    signature_wrong n k t r.around.value r.around.signature below top g.done.items (into_iter_items g.items) e (signs_of_inside n k t w i below top g r) r.around.next
+    signature_wrong n k t r.around.value r.around.signature below top u g.done.items (into_iter_items g.items) e (signs_of_inside n k t w i below top u g r) r.around.next
     (passed_on (WrongProtected n (view first) top.layers) (WrongSignature n r.around.signature top.layers) e
     (λ y. subst (λ z. WrongSignature n z top.layers (fault_of e)) (sym h.0) (in_protected (view first) w (bytes g.signature.items) top.layers (fault_of e) y)) x)
 
 -- its protected header is read after the unprotected one
-pub turns : (n k : ℕ) (t w x : Tree) (i : ℕ) (below : List Level) (top : Open) (g f : Signing) (first : Value) (h : Header) (b : Vec ℕ Global) → ReadingInside n t k below top g w i → g.half ≡ half.Unprotected first
+pub turns : (n k : ℕ) (t w x : Tree) (i : ℕ) (below : List Level) (top : Open) (u : Header) (g f : Signing) (first : Value) (h : Header) (b : Vec ℕ Global) → ReadingInside n t k below top u g w i → g.half ≡ half.Unprotected first
     → HasHeader n w (header_view h) i → view first ≡ bytes b.items → 0 < top.layers → b.items ≢ [] → Reads b.items n x
-    → f.items ≡ g.items → f.done ≡ g.done → f.signature ≡ g.signature → f.half ≡ half.Protected h b → ReadingInside n t k below top f x (top.layers - 1)
-turns n k t w x i below top g f first h b r q a v p m d fi fd fs fh =
+    → f.items ≡ g.items → f.done ≡ g.done → f.signature ≡ g.signature → f.half ≡ half.Protected h b → ReadingInside n t k below top u f x (top.layers - 1)
+turns n k t w x i below top u g f first h b r q a v p m d fi fd fs fh =
     let old = subst (λ z. IsHalf n top.layers r.around.signature g.signature.items z w i) q r.around.half in
     record {
       inner = r.inner;
@@ -251,7 +252,9 @@ outermost n k t u below j h p e x =
     subst (λ z. HasHeader n z h k) q.0 (subst (λ z. HasHeader n u h z) q.1 x)
 
 -- a level is closed: the header in it is inside the one around
-pub closes : (n k : ℕ) (t u : Tree) (old new : List Level) (l : Level) (top : Open) (j : ℕ) → Within n t k old u j → old ≡ new ++ l ∷ [] → top ≡ l.header → ReadingInside n t k new top l.signing u j
-closes n k t u old new l top j p e q =
-    let h = within_popped n t k new l u j (subst (λ z. Within n t k z u j) e p) in
-    subst (λ z. ReadingInside n t k new z l.signing u j) (sym q) (record { inner = h.0; within = h.1; around = h.2 })
+pub closes : (n k : ℕ) (t u : Tree) (old new : List Level) (l : Level) (top : Open) (h : Header) (j : ℕ) → Within n t k old u j → old ≡ new ++ l ∷ [] → top ≡ l.left → h ≡ l.header
+    → ReadingInside n t k new top h l.signing u j
+closes n k t u old new l top h j p e q f =
+    let r = within_popped n t k new l u j (subst (λ z. Within n t k z u j) e p) in
+    subst (λ z. ReadingInside n t k new top z l.signing u j) (sym f)
+    (subst (λ z. ReadingInside n t k new z l.header l.signing u j) (sym q) (record { inner = r.0; within = r.1; around = r.2 }))

@@ -5,6 +5,7 @@ pub mod Entered
 pub mod Excludes
 pub mod Fielded
 pub mod Fit
+pub mod Fresh
 pub mod Items
 pub mod Levels
 pub mod Names

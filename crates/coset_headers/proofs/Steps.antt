@@ -24,7 +24,7 @@ use Rattle.coset_headers.specs.Headers.{is_at, at, IsIn, IsPlain, IsBare, IsList
 use Rattle.coset_headers.specs.Parts.{plain_of, signs_of, Sees, Known, Added, Filled}
 use Rattle.coset_headers.specs.Walks.{WrongFill, field_wrong, iv_second, partial_iv_second, WrongInside, is_unreadable, is_wrong}
 use Rattle.coset_headers.specs.Wrong.{WrongField, WrongHeader, no_map, WrongEntry, bad_label, bad_field, two_ivs, WrongSigned, no_list, no_first, NoSignature, WrongSignature, in_protected, in_unprotected, WrongProtected, no_string, too_deep, unreadable, inside}
-use Rattle.coset_headers.specs.declared.parts.HeaderParts.{HeaderParts}
+use Rattle.coset_headers.specs.declared.header.Header.{Header}
 use Rattle.coset_headers.proofs.Entered.{is_at_is, at_old, at_new, at_none, distinct_snoc, there, filled_plain, signed_plain, none_plain}
 use Rattle.coset_headers.proofs.Unique.{plain_once, signed_once}
 
@@ -52,7 +52,7 @@ known_more : (n : ℕ) (es : List (LabelFields × Tree)) (p q : Plain) (ss us : 
     → Known n es p ss k → (IsIn m es → ⊥) → IsPlain (es ++ (m, v) ∷ []) q → HasSigned n (at 7 (es ++ (m, v) ∷ [])) us k → Known n (es ++ (m, v) ∷ []) q us k
 known_more n es p q ss us k m v w d pl sg = record { distinct = distinct_snoc es m v w.distinct d; plain = pl; signed = sg }
 
-pub known_filled : (n : ℕ) (es : List (LabelFields × Tree)) (l v : Tree) (seen : SeenLabels Label) (old new : HeaderParts) (k : ℕ) (m : LabelFields)
+pub known_filled : (n : ℕ) (es : List (LabelFields × Tree)) (l v : Tree) (seen : SeenLabels Label) (old new : Header) (k : ℕ) (m : LabelFields)
     → Known n es (plain_of old) (signs_of old) k → label_of l ≡ Some m → (IsIn m es → ⊥) → ((v : Tree) → Sees seen (es ++ (m, v) ∷ [])) → is_at 7 m ≡ false → Filled m v old new → Added n es l v seen new k
 known_filled n es l v seen old new k m w q d z s f = record {
   key = m;
@@ -65,7 +65,7 @@ known_filled n es l v seen old new k m w q d z s f = record {
   };
 }
 
-pub known_signed : (n : ℕ) (es : List (LabelFields × Tree)) (l v : Tree) (seen : SeenLabels Label) (old new : HeaderParts) (k : ℕ) (m : LabelFields) (ss : Signatures)
+pub known_signed : (n : ℕ) (es : List (LabelFields × Tree)) (l v : Tree) (seen : SeenLabels Label) (old new : Header) (k : ℕ) (m : LabelFields) (ss : Signatures)
     → Known n es (plain_of old) (signs_of old) k → label_of l ≡ Some m → (IsIn m es → ⊥) → ((v : Tree) → Sees seen (es ++ (m, v) ∷ [])) → is_at 7 m ≡ true → HasSigned n (Some v) ss k
     → plain_of new ≡ plain_of old → signs_of new ≡ ss → Added n es l v seen new k
 known_signed n es l v seen old new k m ss w q d z s g a b =

@@ -18,7 +18,7 @@ use Rattle.coset_labels.specs.declared.seen_labels.SeenLabels.{SeenLabels}
 use Rattle.coset_labels.proofs.Arrays.{written_none, written_pushed}
 use Rattle.coset_headers.specs.Fields.{SignatureFields, signatures}
 use Rattle.coset_headers.specs.Headers.{IsIn, Distinct}
-use Rattle.coset_headers.specs.Parts.{Sees}
+use Rattle.coset_headers.specs.Parts.{SeesLabels}
 use Rattle.coset_headers.specs.View.{entry_view, signature_view, signatures_view}
 use Rattle.coset_headers.specs.Written.{stands, twice, is_unsigned, signature_tree, signature_trees}
 use Rattle.coset_headers.specs.declared.header.CoseSignature.{CoseSignature}
@@ -116,8 +116,8 @@ taken : (xs : List (Label × Value)) (i : ℕ) (d : Label × Value) → i < leng
 taken xs i d h = ap (map entry_view) (take_more xs i d h) ∙ map-append entry_view (take i xs) (get_or xs i d ∷ [])
 
 pub sees_next : (s : SeenLabels Label) (xs : List (Label × Value)) (i : ℕ) (d : Label × Value) → i < length xs
-    → ((v : Tree) → Sees s (map entry_view (take i xs) ++ (label_view (get_or xs i d).0, v) ∷ [])) → Sees s (map entry_view (take (i + 1) xs))
-sees_next s xs i d h w = subst (Sees s) (sym (taken xs i d h)) (w (view (get_or xs i d).1))
+    → ((v : Tree) → SeesLabels s (map entry_view (take i xs) ++ (label_view (get_or xs i d).0, v) ∷ [])) → SeesLabels s (map entry_view (take (i + 1) xs))
+sees_next s xs i d h w = subst (SeesLabels s) (sym (taken xs i d h)) (w (view (get_or xs i d).1))
 
 pub distinct_next : (xs : List (Label × Value)) (i : ℕ) (d : Label × Value) → i < length xs → Distinct (map entry_view (take i xs)) → (IsIn (label_view (get_or xs i d).0) (map entry_view (take i xs)) → ⊥)
     → Distinct (map entry_view (take (i + 1) xs))

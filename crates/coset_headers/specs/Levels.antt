@@ -12,6 +12,7 @@ use Rattle.coset_headers.specs.Parts.{plain_of, signs_of, Sees, Known, KnownIn}
 use Rattle.coset_headers.specs.View.{header_view, signatures_view}
 use Rattle.coset_headers.specs.Weight.{weight, weight_all, weight_pairs}
 use Rattle.coset_headers.specs.declared.header.CoseSignature.{CoseSignature}
+use Rattle.coset_headers.specs.declared.header.Header.{Header}
 use Rattle.coset_headers.specs.declared.reader.Half.{Half}
 use Rattle.coset_headers.specs.declared.reader.Half.TheVariants as half
 use Rattle.coset_headers.specs.declared.reader.Level.{Level}
@@ -19,16 +20,16 @@ use Rattle.coset_headers.specs.declared.reader.Open.{Open}
 use Rattle.coset_headers.specs.declared.reader.Signing.{Signing}
 
 -- ---- one open header
--- of the header t some entries were read, and gave what o has; the others are still to come
-pub record Going (n : ℕ) (t : Tree) (o : Open) : Type 0 where
+-- of the header t some entries were read, and gave the fields of h; the others are still to come
+pub record Going (n : ℕ) (t : Tree) (o : Open) (h : Header) : Type 0 where
   pub before : List (Tree × Tree)
   pub es : List (LabelFields × Tree)
   pub is : t ≡ map_tree (pairs (before ++ map view_pair (into_iter_items o.entries)))
   pub read_before : entries (pairs before) ≡ Some es
-  pub known : KnownIn n es o.seen o.parts o.layers
+  pub known : KnownIn n es o.seen h o.layers
 
 -- and so was the label of the next, which is that of counter signatures; v is their value
-pub record Signed (n : ℕ) (t : Tree) (o : Open) (v : Tree) : Type 0 where
+pub record Signed (n : ℕ) (t : Tree) (o : Open) (h : Header) (v : Tree) : Type 0 where
   pub before : List (Tree × Tree)
   pub es : List (LabelFields × Tree)
   pub key : Tree
@@ -39,7 +40,7 @@ pub record Signed (n : ℕ) (t : Tree) (o : Open) (v : Tree) : Type 0 where
   pub signs : is_at 7 label ≡ true
   pub fresh : IsIn label es → ⊥
   pub sees : (w : Tree) → Sees o.seen (es ++ (label, w) ∷ [])
-  pub known : Known n es (plain_of o.parts) (signs_of o.parts) o.layers
+  pub known : Known n es (plain_of h) (signs_of h) o.layers
 
 -- ---- the header that one inside it belongs to
 -- s is that one of the counter signatures v that comes after those that are done, and before those that are left
@@ -55,36 +56,36 @@ IsHalf n k s c (half.Protected h b) w i = (u : Tree) × (s ≡ array (list_of_th
     × (0 < k) × (b.items ≢ []) × Reads b.items n w × (i ≡ k - 1)
 
 -- w is a header of a counter signature of the header t
-pub record Around (n : ℕ) (t : Tree) (o : Open) (g : Signing) (w : Tree) (i : ℕ) : Type 0 where
+pub record Around (n : ℕ) (t : Tree) (o : Open) (h : Header) (g : Signing) (w : Tree) (i : ℕ) : Type 0 where
   pub value : Tree
   pub signature : Tree
-  pub signed : Signed n t o value
+  pub signed : Signed n t o h value
   pub next : IsNext n o.layers value signature g.done.items (into_iter_items g.items)
   pub half : IsHalf n o.layers signature g.signature.items g.half w i
 
 -- u, to be read with j layers, lies inside t as the levels say, and is t itself without any
 abbrev pub Within : ℕ → Tree → ℕ → List Level → Tree → ℕ → Type 0
 Within n t k [] u j = (u ≡ t) × (j ≡ k)
-Within n t k (l ∷ ls) u j = (w : Tree) × (i : ℕ) × (l.header.layers ≡ k) × Around n t l.header l.signing w i × Within n w i ls u j
+Within n t k (l ∷ ls) u j = (w : Tree) × (i : ℕ) × (l.left.layers ≡ k) × Around n t l.left l.header l.signing w i × Within n w i ls u j
 
 -- ---- the whole
 -- the innermost header is being read
-pub record Reading (n : ℕ) (t : Tree) (k : ℕ) (below : List Level) (top : Open) : Type 0 where
+pub record Reading (n : ℕ) (t : Tree) (k : ℕ) (below : List Level) (top : Open) (h : Header) : Type 0 where
   pub inner : Tree
   pub within : Within n t k below inner top.layers
-  pub going : Going n inner top
+  pub going : Going n inner top h
 
 -- its counter signatures are next
-pub record ReadingSigned (n : ℕ) (t : Tree) (k : ℕ) (below : List Level) (top : Open) (v : Tree) : Type 0 where
+pub record ReadingSigned (n : ℕ) (t : Tree) (k : ℕ) (below : List Level) (top : Open) (h : Header) (v : Tree) : Type 0 where
   pub inner : Tree
   pub within : Within n t k below inner top.layers
-  pub signed : Signed n inner top v
+  pub signed : Signed n inner top h v
 
 -- a header of one of these is next
-pub record ReadingInside (n : ℕ) (t : Tree) (k : ℕ) (below : List Level) (top : Open) (g : Signing) (w : Tree) (i : ℕ) : Type 0 where
+pub record ReadingInside (n : ℕ) (t : Tree) (k : ℕ) (below : List Level) (top : Open) (h : Header) (g : Signing) (w : Tree) (i : ℕ) : Type 0 where
   pub inner : Tree
   pub within : Within n t k below inner top.layers
-  pub around : Around n inner top g w i
+  pub around : Around n inner top h g w i
 
 -- ---- what is still to be read
 abbrev pub open_left : Open → ℕ
@@ -99,7 +100,7 @@ signing_left g = weight_all (views (into_iter_items g.items)) + half_left g.half
 
 abbrev pub levels_left : List Level → ℕ
 levels_left [] = 0
-levels_left (l ∷ ls) = open_left l.header + signing_left l.signing + levels_left ls
+levels_left (l ∷ ls) = open_left l.left + signing_left l.signing + levels_left ls
 
 abbrev pub work : List Level → Open → ℕ
 work below top = 2 * (levels_left below + open_left top) + length below

@@ -1,9 +1,6 @@
 -- The fields that the entries of a header that are read so far have given.
-use Rattle.std.specs.Prelude.{◌≡◌, ℕ, pos, List, [], ◌∷◌, ◌++◌, map, false, Some, option_map}
+use Rattle.std.specs.Prelude.{◌≡◌, ℕ, pos, ◌≤◌, ◌⊎◌, List, [], ◌∷◌, ◌++◌, length, Bool, false, MatchBool, Some}
 use Rattle.std.specs.Ordering.{on}
-use Rattle.cose_iana.specs.Algorithms.{algorithm_number}
-use Rattle.cose_iana.specs.Formats.{coap_content_formats}
-use Rattle.cose_iana.specs.Headers.{header_parameters}
 use Rattle.ciborium_value.specs.Tree.{Tree}
 use Rattle.coset_labels.specs.Fields.{LabelFields, number, Named}
 use Rattle.coset_labels.specs.Kinds.{some_bytes}
@@ -11,31 +8,40 @@ use Rattle.coset_labels.specs.Labels.{label_of}
 use Rattle.coset_labels.specs.Orders.{label_cmp}
 use Rattle.coset_labels.specs.SeenLabels as keys
 use Rattle.coset_labels.specs.Walks as walks
-use Rattle.coset_labels.specs.View.{label_view, registered_view, named_view}
+use Rattle.coset_labels.specs.View.{label_view}
 use Rattle.coset_labels.specs.declared.label.Label.{Label}
 use Rattle.coset_labels.specs.declared.seen_labels.SeenLabels.{SeenLabels}
 use Rattle.coset_headers.specs.Fields.{Plain, Signatures}
-use Rattle.coset_headers.specs.Headers.{is_core, alg_of, crit_of, HasContentType, at, Distinct, IsPlain, HasSigned}
-use Rattle.coset_headers.specs.View.{entry_view, signatures_view}
-use Rattle.coset_headers.specs.declared.parts.HeaderParts.{HeaderParts}
+use Rattle.coset_headers.specs.Headers.{is_core, alg_of, crit_of, HasContentType, at, others, IsIn, Distinct, IsPlain, HasSigned}
+use Rattle.coset_headers.specs.View.{plain_parts, signatures_view}
+use Rattle.coset_headers.specs.declared.header.Header.{Header, out-Header}
 
 -- the labels of these entries, and no others, were seen
+abbrev pub SeesLabels : SeenLabels Label → List (LabelFields × Tree) → Type 0
+SeesLabels = keys.Sees (on label_view label_cmp) label_view
+
+-- the labels of the entries that come after the first 64 were seen, and no others
+pub record SeesMany (s : SeenLabels Label) (es : List (LabelFields × Tree)) : Type 0 where
+  pub few : List (LabelFields × Tree)
+  pub more : List (LabelFields × Tree)
+  pub are : es ≡ few ++ more
+  pub at_most : length few ≤ 64
+  pub full : (length few ≡ 64) ⊎ (more ≡ [])
+  pub sees : SeesLabels s more
+
+-- and so were those of the labels without a field among these entries
 abbrev pub Sees : SeenLabels Label → List (LabelFields × Tree) → Type 0
-Sees = keys.Sees (on label_view label_cmp) label_view
+Sees s es = SeesMany s (others es)
 
-abbrev pub plain_of : HeaderParts → Plain
-plain_of p = record {
-  alg = option_map (named_view algorithm_number) p.alg;
-  crit = map (named_view header_parameters.number) p.crit.items;
-  content_type = option_map (registered_view coap_content_formats.number) p.content_type;
-  key_id = p.key_id.items;
-  iv = p.iv.items;
-  partial_iv = p.partial_iv.items;
-  rest = map entry_view p.rest.items;
-}
+-- the label of the next entry is new where b is true, and then it is taken for seen
+abbrev pub IsFresh : LabelFields → List (LabelFields × Tree) → SeenLabels Label → Bool → Type 0
+IsFresh m es s b = MatchBool b ((IsIn m es → ⊥) × ((v : Tree) → Sees s (es ++ (m, v) ∷ []))) (IsIn m es)
 
-abbrev pub signs_of : HeaderParts → Signatures
-signs_of p = signatures_view p.counter_signatures.items
+abbrev pub plain_of : Header → Plain
+plain_of h = plain_parts (out-Header h)
+
+abbrev pub signs_of : Header → Signatures
+signs_of h = signatures_view (out-Header h).counter_signatures.items
 
 -- the fields are those of these entries
 pub record Known (n : ℕ) (es : List (LabelFields × Tree)) (p : Plain) (ss : Signatures) (k : ℕ) : Type 0 where
@@ -44,11 +50,11 @@ pub record Known (n : ℕ) (es : List (LabelFields × Tree)) (p : Plain) (ss : S
   pub signed : HasSigned n (at 7 es) ss k
 
 -- and so are the labels that were seen
-abbrev pub KnownIn : ℕ → List (LabelFields × Tree) → SeenLabels Label → HeaderParts → ℕ → Type 0
+abbrev pub KnownIn : ℕ → List (LabelFields × Tree) → SeenLabels Label → Header → ℕ → Type 0
 KnownIn n es s p k = walks.KnownIn Sees (λ fs q. Known n fs (plain_of q) (signs_of q) k) es s p
 
 -- one more entry is read
-abbrev pub Added : ℕ → List (LabelFields × Tree) → Tree → Tree → SeenLabels Label → HeaderParts → ℕ → Type 0
+abbrev pub Added : ℕ → List (LabelFields × Tree) → Tree → Tree → SeenLabels Label → Header → ℕ → Type 0
 Added n es l v s p k = walks.Added label_of Sees (λ fs q. Known n fs (plain_of q) (signs_of q) k) es l v s p
 
 -- the entry gives one field, and the others stay
@@ -62,6 +68,6 @@ pub data Fills (l : LabelFields) (v : Tree) (p q : Plain) : Type 0 where
   fills_partial_iv : (b : List ℕ) → l ≡ number (pos 6) → some_bytes v ≡ Some b → p.iv ≡ [] → q ≡ record p { partial_iv = b } → Fills l v p q
   fills_rest : is_core l ≡ false → q ≡ record p { rest = p.rest ++ (l, v) ∷ [] } → Fills l v p q
 
-pub record Filled (l : LabelFields) (v : Tree) (old new : HeaderParts) : Type 0 where
+pub record Filled (l : LabelFields) (v : Tree) (old new : Header) : Type 0 where
   pub fields : Fills l v (plain_of old) (plain_of new)
   pub signs : signs_of new ≡ signs_of old

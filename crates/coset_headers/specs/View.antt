@@ -9,7 +9,7 @@ use Rattle.ciborium_value.specs.declared.value.Value.{Value}
 use Rattle.coset_labels.specs.Fields.{LabelFields}
 use Rattle.coset_labels.specs.View.{label_view, registered_view, named_view}
 use Rattle.coset_labels.specs.declared.label.Label.{Label}
-use Rattle.coset_headers.specs.Fields.{HeaderFields, header, ProtectedFields, protected, SignatureFields, signature, Signatures, signatures}
+use Rattle.coset_headers.specs.Fields.{Plain, HeaderFields, header, ProtectedFields, protected, SignatureFields, signature, Signatures, signatures}
 use Rattle.coset_headers.specs.declared.header.Header.{Header, fold-Header}
 use Rattle.coset_headers.specs.declared.header.ProtectedHeader.{ProtectedHeader, fold-ProtectedHeader}
 use Rattle.coset_headers.specs.declared.header.CoseSignature.{CoseSignature, fold-CoseSignature}
@@ -21,8 +21,9 @@ entry_view e = (label_view e.0, view e.1)
 abbrev pub signature_step : CoseSignature-F SignatureFields HeaderFields ProtectedFields → SignatureFields
 signature_step s = signature s.protected s.unprotected s.signature.items
 
-abbrev pub header_step : Header-F SignatureFields HeaderFields ProtectedFields → HeaderFields
-header_step h = header (record {
+-- the fields of a header but for its counter signatures
+abbrev pub plain_parts : {S H P : Type 0} → Header-F S H P → Plain
+plain_parts h = record {
   alg = option_map (named_view algorithm_number) h.alg;
   crit = map (named_view header_parameters.number) h.crit.items;
   content_type = option_map (registered_view coap_content_formats.number) h.content_type;
@@ -30,7 +31,10 @@ header_step h = header (record {
   iv = h.iv.items;
   partial_iv = h.partial_iv.items;
   rest = map entry_view h.rest.items;
-}) (signatures h.counter_signatures.items)
+}
+
+abbrev pub header_step : Header-F SignatureFields HeaderFields ProtectedFields → HeaderFields
+header_step h = header (plain_parts h) (signatures h.counter_signatures.items)
 
 abbrev pub protected_step : ProtectedHeader-F SignatureFields HeaderFields ProtectedFields → ProtectedFields
 protected_step p = protected (option_map (λ v. v.items) p.original_data) p.header

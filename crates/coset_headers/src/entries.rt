@@ -8,12 +8,12 @@ ghost use Rattle.coset_labels.specs.Faults.{CantWrite};
 ghost use Rattle.coset_labels.specs.View.{registered_view, named_view};
 ghost use Rattle.coset_labels.specs.declared.error.CoseError.TheVariants.{Memory};
 ghost use Rattle.coset_headers.specs.Entries.{Appends};
-ghost use Rattle.coset_headers.specs.Parts.{plain_of};
-ghost use Rattle.coset_headers.specs.View.{entry_view};
+ghost use Rattle.coset_headers.specs.Fields.{plain_part};
+ghost use Rattle.coset_headers.specs.View.{entry_view, header_view};
 ghost use Rattle.coset_headers.specs.Written.{name_entry, crit_entry, bytes_entry, signs_entry};
 ghost use Rattle.coset_headers.specs.Written.{bare_or_list, header_of, twice};
 
-use crate::parts::HeaderParts;
+use crate::header::Header;
 use ciborium_value::{Integer, Value};
 use coset_labels::{
     Algorithm, AsCborValue, ContentType, CoseError, Label, RegisteredLabelWithPrivate, SeenLabels,
@@ -23,25 +23,37 @@ use std::alloc::Global;
 
 type Entries = Vec<(Value, Value)>;
 
-impl HeaderParts {
-    /// The map of these fields and of the counter signatures' values.
+impl Header {
+    /// The map of its fields and of these values of counter signatures. Its own counter signatures are ignored.
     pub(crate) fn write(self, alloc: Global, signatures: Vec<Value>) -> Result<Value, CoseError>
         ensures { MatchResult result
-            (λ v. header_of (plain_of self) (views signatures.items) ≡ Some (view v))
-            (λ e. CantWrite (header_of (plain_of self) (views signatures.items)) e) }
+            (λ v. header_of (plain_part (header_view self)) (views signatures.items)
+            ≡ Some (view v))
+            (λ e. CantWrite (header_of (plain_part (header_view self)) (views signatures.items))
+            e) }
     {
         if repeats(alloc, &self.rest)? {
             return Err(CoseError::DuplicateMapKey);
         }
+        let Header {
+            alg,
+            crit,
+            content_type,
+            key_id,
+            iv,
+            partial_iv,
+            counter_signatures: _,
+            rest,
+        } = self;
         let mut entries = Vec::new(alloc);
-        push_alg(alloc, &mut entries, self.alg)?;
-        push_crit(alloc, &mut entries, self.crit)?;
-        push_content_type(alloc, &mut entries, self.content_type)?;
-        push_bytes(&mut entries, 4, self.key_id)?;
-        push_bytes(&mut entries, 5, self.iv)?;
-        push_bytes(&mut entries, 6, self.partial_iv)?;
+        push_alg(alloc, &mut entries, alg)?;
+        push_crit(alloc, &mut entries, crit)?;
+        push_content_type(alloc, &mut entries, content_type)?;
+        push_bytes(&mut entries, 4, key_id)?;
+        push_bytes(&mut entries, 5, iv)?;
+        push_bytes(&mut entries, 6, partial_iv)?;
         push_signatures(&mut entries, signatures)?;
-        push_rest(alloc, &mut entries, self.rest)?;
+        push_rest(alloc, &mut entries, rest)?;
         Ok(Value::Map(entries))
     }
 }

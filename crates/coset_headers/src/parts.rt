@@ -1,39 +1,31 @@
-//! The fields of a header while its entries are read.
-ghost use Rattle.std.specs.Prelude.{◌≡◌, ℕ, [], false, MatchResult};
+//! The entries of a header that is being read: where each belongs, whether its label is new, and its value in its field.
+ghost use Rattle.std.specs.Prelude.{◌≡◌, ℕ, List, [], ◌∷◌, ◌++◌, map, false, MatchBool};
+ghost use Rattle.std.specs.Prelude.{MatchResult};
+ghost use Rattle.ciborium_value.specs.Tree.{Tree};
 ghost use Rattle.ciborium_value.specs.View.{view};
 ghost use Rattle.coset_labels.specs.Faults.{OrMemory, fault_of, unexpected};
+ghost use Rattle.coset_labels.specs.Fields.{LabelFields};
 ghost use Rattle.coset_labels.specs.View.{label_view};
-ghost use Rattle.coset_headers.specs.Fields.{header};
-ghost use Rattle.coset_headers.specs.Headers.{is_at};
-ghost use Rattle.coset_headers.specs.Parts.{plain_of, signs_of, Known, Filled};
+ghost use Rattle.coset_labels.specs.declared.error.CoseError.TheVariants.{Memory};
+ghost use Rattle.coset_headers.specs.Headers.{is_at, IsIn};
+ghost use Rattle.coset_headers.specs.Parts.{plain_of, signs_of, IsFresh, Known, Filled};
+ghost use Rattle.coset_headers.specs.Parts.{Sees, SeesMany};
 ghost use Rattle.coset_headers.specs.Places.{Names};
-ghost use Rattle.coset_headers.specs.View.{header_view, signatures_view};
+ghost use Rattle.coset_headers.specs.View.{entry_view};
 ghost use Rattle.coset_headers.specs.Walks.{WrongFill};
 
-use crate::header::{CoseSignature, Header};
+use crate::header::Header;
 use crate::values::{read_content_type, read_crit};
 use ciborium_value::Value;
-use coset_labels::{
-    Algorithm, AsCborValue, ContentType, CoseError, Label, RegisteredLabelWithPrivate, ValueTryAs,
-    iana,
-};
+use coset_labels::{Algorithm, AsCborValue, CoseError, Label, SeenLabels, ValueTryAs};
 use std::alloc::Global;
 
-/// The fields that some entries have given.
-#[derive(Drop)]
-pub(crate) struct HeaderParts {
-    pub(crate) alg: Option<Algorithm>,
-    pub(crate) crit: Vec<RegisteredLabelWithPrivate<iana::HeaderParameter>>,
-    pub(crate) content_type: Option<ContentType>,
-    pub(crate) key_id: Vec<u8>,
-    pub(crate) iv: Vec<u8>,
-    pub(crate) partial_iv: Vec<u8>,
-    pub(crate) counter_signatures: Vec<CoseSignature>,
-    pub(crate) rest: Vec<(Label, Value)>,
-}
+/// How many labels without a field of their own are compared one by one. Those that come after are looked for in a set, so that time
+/// grows as n log n.
+const FEW: usize = 64;
 
 /// Where the value of an entry belongs.
-#[derive(Drop)]
+#[derive(Clone, Copy)]
 pub(crate) enum Place {
     Alg,
     Crit,
@@ -45,8 +37,17 @@ pub(crate) enum Place {
     Rest,
 }
 
-/// Where the value behind this label belongs (RFC 9052, section 3.1).
-fn place_of(label: &Label) -> Place
+impl Place {
+    /// Whether counter signatures belong there.
+    pub(crate) fn is_counter_signatures(self) -> bool
+        ensures { (l : LabelFields) → Names self l → result ≡ is_at 7 l }
+    {
+        matches!(self, Place::CounterSignatures)
+    }
+}
+
+/// Where the value of this label belongs (RFC 9052, section 3.1).
+pub(crate) fn place_of(label: &Label) -> Place
     ensures { Names result (label_view label.now) }
 {
     match label {
@@ -61,67 +62,86 @@ fn place_of(label: &Label) -> Place
     }
 }
 
-/// Whether the label is that of counter signatures.
-pub(crate) fn is_counter_signatures(label: &Label) -> bool
-    ensures { result ≡ is_at 7 (label_view label.now) }
+/// Whether one of these entries has the label.
+fn is_among(entries: &[(Label, Value)], label: &Label) -> bool
+    ensures { MatchBool result (IsIn (label_view label.now) (map entry_view entries.now))
+        (IsIn (label_view label.now) (map entry_view entries.now) → ⊥) }
 {
-    match label {
-        Label::Int(i) => *i == 7,
-        Label::Text(_) => false,
+    'entries: for entry in entries {
+        if entry.0.cmp(label).is_eq() {
+            return true;
+        }
     }
+    false
 }
 
-impl HeaderParts {
-    pub(crate) fn new(alloc: Global) -> HeaderParts
-        ensures { (n k : ℕ) → Known n [] (plain_of result) (signs_of result) k }
+/// Whether no entry of these had the label. The set holds the labels after the first ones, and then this one too.
+fn is_new_among(
+    alloc: Global,
+    rest: &[(Label, Value)],
+    seen: &mut SeenLabels<Label>,
+    label: &Label,
+) -> Result<bool, CoseError>
+    ensures { SeesMany seen.old (map entry_view rest.now) → MatchResult result
+        (λ fresh. MatchBool fresh ((IsIn (label_view label.now) (map entry_view rest.now) → ⊥)
+        × ((v : Tree) → SeesMany seen.new
+        (map entry_view rest.now ++ (label_view label.now, v) ∷ [])))
+        (IsIn (label_view label.now) (map entry_view rest.now))) (λ e. e ≡ Memory) }
+{
+    if rest.len() < FEW {
+        return Ok(!is_among(rest, label));
+    }
+    if is_among(&rest[..FEW], label) {
+        return Ok(false);
+    }
+    seen.add(alloc, label)
+}
+
+impl Header {
+    /// Whether no entry before had the label, which belongs there. A label with a field is told by its field; the others are compared, and
+    /// `seen` holds those that are too many for that.
+    ///
+    /// # Errors
+    /// Only if memory is refused.
+    pub(crate) fn is_new(
+        &self,
+        alloc: Global,
+        seen: &mut SeenLabels<Label>,
+        place: Place,
+        label: &Label,
+    ) -> Result<bool, CoseError>
+        requires { Names place (label_view label.now) }
+        ensures { (n k : ℕ) (es : List (LabelFields × Tree))
+            → Known n es (plain_of self.now) (signs_of self.now) k → Sees seen.old es
+            → MatchResult result (λ fresh. IsFresh (label_view label.now) es seen.new fresh)
+            (λ e. e ≡ Memory) }
     {
-        HeaderParts {
-            alg: None,
-            crit: Vec::new(alloc),
-            content_type: None,
-            key_id: Vec::new(alloc),
-            iv: Vec::new(alloc),
-            partial_iv: Vec::new(alloc),
-            counter_signatures: Vec::new(alloc),
-            rest: Vec::new(alloc),
+        match place {
+            Place::Alg => Ok(self.alg.is_none()),
+            Place::Crit => Ok(self.crit.is_empty()),
+            Place::ContentType => Ok(self.content_type.is_none()),
+            Place::KeyId => Ok(self.key_id.is_empty()),
+            Place::Iv => Ok(self.iv.is_empty()),
+            Place::PartialIv => Ok(self.partial_iv.is_empty()),
+            Place::CounterSignatures => Ok(self.counter_signatures.is_empty()),
+            Place::Rest => is_new_among(alloc, &self.rest, seen, label),
         }
     }
 
-    pub(crate) fn header(self) -> Header
-        ensures { header_view result ≡ header (plain_of self) (signs_of self) }
-    {
-        Header {
-            alg: self.alg,
-            crit: self.crit,
-            content_type: self.content_type,
-            key_id: self.key_id,
-            iv: self.iv,
-            partial_iv: self.partial_iv,
-            counter_signatures: self.counter_signatures,
-            rest: self.rest,
-        }
-    }
-
-    /// Takes the counter signatures.
-    pub(crate) fn sign(&mut self, signatures: Vec<CoseSignature>)
-        ensures plain { plain_of self.new ≡ plain_of self.old }
-        ensures signs { signs_of self.new ≡ signatures_view signatures.items }
-    {
-        self.counter_signatures = signatures;
-    }
-
-    /// Takes the value of another label.
-    pub(crate) fn fill(
+    /// Takes the value of a label which belongs there, and is not that of counter signatures.
+    pub(crate) fn set(
         &mut self,
         alloc: Global,
+        place: Place,
         label: Label,
         value: Value,
     ) -> Result<(), CoseError>
-        requires { is_at 7 (label_view label) ≡ false }
+        requires names { Names place (label_view label) }
+        requires unsigned { is_at 7 (label_view label) ≡ false }
         ensures { MatchResult result (λ _. Filled (label_view label) (view value) self.old self.new)
             (λ e. OrMemory (WrongFill (label_view label) (view value) (plain_of self.old)) e) }
     {
-        match place_of(&label) {
+        match place {
             Place::Alg => {
                 let alg = Algorithm::from_cbor_value(alloc, value)?;
                 self.alg = Some(alg);

@@ -1,7 +1,7 @@
-//! Reads headers. Values are moved into their fields, and nothing but labels is copied. What lies inside one another is read by a loop, so
-//! that it takes no stack.
+//! Reads headers. Values are moved into the fields of the header that is filled, and no label is copied before the 65th without a field of
+//! its own. What lies inside one another is read by a loop, so that it takes no stack.
 ghost use Rattle.std.specs.Prelude.{◌≡◌, ◌≢◌, ◌+◌, ◌*◌, ◌<◌, ◌≤◌, ℕ, [], MatchOption};
-ghost use Rattle.std.specs.Prelude.{MatchResult, IfOk, OnOk};
+ghost use Rattle.std.specs.Prelude.{MatchResult, IfOk, OnOk, None};
 ghost use Rattle.std.specs.Vec.Iter.{into_iter_items};
 ghost use Rattle.ciborium.specs.Front.{Reads};
 ghost use Rattle.ciborium_value.specs.Tree as spec;
@@ -9,17 +9,16 @@ ghost use Rattle.ciborium_value.specs.Tree.{Tree};
 ghost use Rattle.ciborium_value.specs.View.{view, views, view_pairs};
 ghost use Rattle.coset_labels.specs.Faults.{OrMemory, fault_of};
 ghost use Rattle.coset_labels.specs.declared.error.CoseError.TheVariants.{Memory};
-ghost use Rattle.coset_headers.specs.Fields.{header};
+ghost use Rattle.coset_headers.specs.Fields.{no_header, protected};
 ghost use Rattle.coset_headers.specs.Headers.{HasHeader, HasProtected, HasSignature, list_of_three};
 ghost use Rattle.coset_headers.specs.Levels.{Going, Signed, IsNext, Reading, ReadingSigned};
 ghost use Rattle.coset_headers.specs.Levels.{ReadingInside, open_left, signing_left, work};
-ghost use Rattle.coset_headers.specs.Parts.{plain_of, signs_of};
 ghost use Rattle.coset_headers.specs.View.{header_view, protected_view, signature_view};
 ghost use Rattle.coset_headers.specs.Weight.{weight, weight_all, weight_pairs};
 ghost use Rattle.coset_headers.specs.Wrong.{WrongHeader, WrongProtected, WrongSignature};
 
 use crate::header::{CoseSignature, Header, ProtectedHeader};
-use crate::parts::{HeaderParts, is_counter_signatures};
+use crate::parts::place_of;
 use crate::values::is_bare;
 use ciborium_value::Value;
 use coset_labels::tuples::three;
@@ -28,13 +27,12 @@ use std::alloc::Global;
 use std::mem;
 use std::vec::IntoIter;
 
-/// A header whose entries are being read: those that are left, the labels that were seen, the fields so far, and the protected layers
-/// that are left in it.
+/// What is left of a header that is being read: its entries, the labels that are too many to be compared, and the protected layers that
+/// are left in it.
 #[derive(Drop)]
 pub(crate) struct Open {
     entries: IntoIter<(Value, Value)>,
     seen: SeenLabels<Label>,
-    parts: HeaderParts,
     layers: usize,
 }
 
@@ -55,40 +53,33 @@ pub(crate) enum Half {
     Protected(Header, Vec<u8>),
 }
 
-/// A header that waits for one inside it, and the counter signatures in which that is.
+/// A header that waits for one inside it: what is left of it, its fields so far, and the counter signatures in which that one is.
 #[derive(Drop)]
 pub(crate) struct Level {
-    header: Open,
+    left: Open,
+    header: Header,
     signing: Signing,
 }
 
 impl Open {
     fn new(alloc: Global, entries: Vec<(Value, Value)>, layers: usize) -> Open
-        ensures going { (n : ℕ) → Going n (spec.map (view_pairs entries.items)) result }
+        ensures going { (n : ℕ) (h : Header) → header_view h ≡ no_header
+            → Going n (spec.map (view_pairs entries.items)) result h }
         ensures layers { result.layers ≡ layers }
         ensures left { open_left result ≡ weight_pairs (view_pairs entries.items) }
     {
         Open {
             entries: entries.into_iter(),
             seen: SeenLabels::new(alloc),
-            parts: HeaderParts::new(alloc),
             layers,
         }
     }
 
-    /// The header of the entries that were read.
-    fn header(self) -> Header
-        ensures { header_view result ≡ header (plain_of self.parts) (signs_of self.parts) }
-    {
-        self.parts.header()
-    }
-
-    /// Reads entries up to the next counter signatures, and gives their value; none at the end.
-    fn next_signed(&mut self, alloc: Global) -> Result<Option<Value>, CoseError>
-        ensures read { (n : ℕ) (t : Tree) → Going n t self.old → MatchResult result
-            (λ v. MatchOption v (HasHeader n t
-            (header (plain_of self.new.parts) (signs_of self.new.parts)) self.new.layers)
-            (λ value. Signed n t self.new (view value)))
+    /// Reads entries into the header up to the next counter signatures, and gives their value; none at the end.
+    fn next_signed(&mut self, alloc: Global, into: &mut Header) -> Result<Option<Value>, CoseError>
+        ensures read { (n : ℕ) (t : Tree) → Going n t self.old into.old → MatchResult result
+            (λ v. MatchOption v (HasHeader n t (header_view into.new) self.new.layers)
+            (λ value. Signed n t self.new into.new (view value)))
             (λ e. OrMemory (WrongHeader n t self.old.layers) e) }
         ensures layers { self.new.layers ≡ self.old.layers }
         ensures left { IfOk result (λ v. MatchOption v (open_left self.new ≤ open_left self.old)
@@ -96,14 +87,15 @@ impl Open {
     {
         'entries: while let Some((key, value)) = self.entries.next() {
             let label = Label::from_cbor_value(alloc, key)?;
-            let fresh = self.seen.add(alloc, &label)?;
+            let place = place_of(&label);
+            let fresh = into.is_new(alloc, &mut self.seen, place, &label)?;
             if !fresh {
                 return Err(CoseError::DuplicateMapKey);
             }
-            if is_counter_signatures(&label) {
+            if place.is_counter_signatures() {
                 return Ok(Some(value));
             }
-            self.parts.fill(alloc, label, value)?;
+            into.set(alloc, place, label, value)?;
         }
         Ok(None)
     }
@@ -119,31 +111,58 @@ pub(crate) fn read_header(
     ensures { MatchResult result (λ h. HasHeader nesting (view value) (header_view h) layers)
         (λ e. OrMemory (WrongHeader nesting (view value) layers) e) }
 {
-    let entries = value.try_as_map()?;
-    read_entries(alloc, entries, nesting, layers)
+    let mut header = Header::new(alloc);
+    fill_header(alloc, value, nesting, layers, &mut header)?;
+    Ok(header)
 }
 
-/// Reads the header of these entries, by a loop over the headers inside one another.
-fn read_entries(
+/// Reads a header into an empty one.
+pub(crate) fn fill_header(
+    alloc: Global,
+    value: Value,
+    nesting: usize,
+    layers: usize,
+    into: &mut Header,
+) -> Result<(), CoseError>
+    requires empty { header_view into.old ≡ no_header }
+    ensures { MatchResult result
+        (λ _. HasHeader nesting (view value) (header_view into.new) layers)
+        (λ e. OrMemory (WrongHeader nesting (view value) layers) e) }
+{
+    let entries = value.try_as_map()?;
+    fill_entries(alloc, entries, nesting, layers, into)
+}
+
+/// Reads the header of these entries into an empty one, by a loop over the headers inside one another.
+fn fill_entries(
     alloc: Global,
     entries: Vec<(Value, Value)>,
     nesting: usize,
     layers: usize,
-) -> Result<Header, CoseError>
+    into: &mut Header,
+) -> Result<(), CoseError>
+    requires empty { header_view into.old ≡ no_header }
     ensures { MatchResult result
-        (λ h. HasHeader nesting (spec.map (view_pairs entries.items)) (header_view h) layers)
+        (λ _. HasHeader nesting (spec.map (view_pairs entries.items)) (header_view into.new) layers)
         (λ e. OrMemory (WrongHeader nesting (spec.map (view_pairs entries.items)) layers) e) }
 {
     let mut below: Vec<Level> = Vec::new(alloc);
     let mut top = Open::new(alloc, entries, layers);
     'turns: loop {
-        match top.next_signed(alloc)? {
-            Some(value) => begin_signatures(alloc, &mut below, &mut top, value)?,
+        match top.next_signed(alloc, into)? {
+            Some(value) => begin_signatures(alloc, &mut below, &mut top, into, value)?,
             None => match below.pop() {
-                None => return Ok(top.header()),
-                Some(Level { header, signing }) => {
-                    let whole = mem::replace(&mut top, header).header();
-                    close(alloc, nesting, &mut below, &mut top, signing, whole)?;
+                None => return Ok(()),
+                Some(
+                    Level {
+                        left,
+                        header,
+                        signing,
+                    },
+                ) => {
+                    top = left;
+                    let whole = mem::replace(into, header);
+                    close(alloc, nesting, &mut below, &mut top, into, signing, whole)?;
                 }
             },
         }
@@ -155,11 +174,12 @@ fn begin_signatures(
     alloc: Global,
     below: &mut Vec<Level>,
     top: &mut Open,
+    into: &mut Header,
     value: Value,
 ) -> Result<(), CoseError>
     ensures read { (n k : ℕ) (t : Tree)
-        → ReadingSigned n t k below.old.items top.old (view value) → MatchResult result
-        (λ _. Reading n t k below.new.items top.new) (λ e. OrMemory (WrongHeader n t k) e) }
+        → ReadingSigned n t k below.old.items top.old into.old (view value) → MatchResult result
+        (λ _. Reading n t k below.new.items top.new into.new) (λ e. OrMemory (WrongHeader n t k) e) }
     ensures left { OnOk result (work below.new.items top.new
         < work below.old.items top.old + 2 * weight (view value)) }
 {
@@ -167,11 +187,11 @@ fn begin_signatures(
     let done = Vec::new(alloc);
     if is_bare(&items)? {
         let none = Vec::new(alloc).into_iter();
-        return begin(alloc, below, top, Value::Array(items), none, done);
+        return begin(alloc, below, top, into, Value::Array(items), none, done);
     }
     let mut items = items.into_iter();
     match items.next() {
-        Some(first) => begin(alloc, below, top, first, items, done),
+        Some(first) => begin(alloc, below, top, into, first, items, done),
         None => unreachable!(),
     }
 }
@@ -181,13 +201,14 @@ fn begin(
     alloc: Global,
     below: &mut Vec<Level>,
     top: &mut Open,
+    into: &mut Header,
     item: Value,
     items: IntoIter<Value>,
     done: Vec<CoseSignature>,
 ) -> Result<(), CoseError>
-    ensures read { (n k : ℕ) (t v : Tree) → ReadingSigned n t k below.old.items top.old v
+    ensures read { (n k : ℕ) (t v : Tree) → ReadingSigned n t k below.old.items top.old into.old v
         → IsNext n top.old.layers v (view item) done.items (into_iter_items items)
-        → MatchResult result (λ _. Reading n t k below.new.items top.new)
+        → MatchResult result (λ _. Reading n t k below.new.items top.new into.new)
         (λ e. OrMemory (WrongHeader n t k) e) }
     ensures left { OnOk result (work below.new.items top.new < work below.old.items top.old
         + 2 * (weight (view item) + weight_all (views (into_iter_items items)))) }
@@ -201,7 +222,7 @@ fn begin(
         signature,
         half,
     };
-    descend(alloc, below, top, entries, layers, signing)
+    descend(alloc, below, top, into, entries, layers, signing)
 }
 
 /// Opens a header inside the innermost one, which waits for it with its counter signatures.
@@ -209,18 +230,24 @@ fn descend(
     alloc: Global,
     below: &mut Vec<Level>,
     top: &mut Open,
+    into: &mut Header,
     entries: Vec<(Value, Value)>,
     layers: usize,
     signing: Signing,
 ) -> Result<(), CoseError>
-    ensures read { (n k : ℕ) (t : Tree) → ReadingInside n t k below.old.items top.old signing
+    ensures read { (n k : ℕ) (t : Tree) → ReadingInside n t k below.old.items top.old into.old signing
         (spec.map (view_pairs entries.items)) layers → MatchResult result
-        (λ _. Reading n t k below.new.items top.new) (λ e. e ≡ Memory) }
+        (λ _. Reading n t k below.new.items top.new into.new) (λ e. e ≡ Memory) }
     ensures left { OnOk result (work below.new.items top.new ≡ work below.old.items top.old
         + 2 * (weight_pairs (view_pairs entries.items) + signing_left signing) + 1) }
 {
-    let header = mem::replace(top, Open::new(alloc, entries, layers));
-    below.push(Level { header, signing })?;
+    let left = mem::replace(top, Open::new(alloc, entries, layers));
+    let header = mem::replace(into, Header::new(alloc));
+    below.push(Level {
+        left,
+        header,
+        signing,
+    })?;
     Ok(())
 }
 
@@ -231,13 +258,14 @@ fn close(
     nesting: usize,
     below: &mut Vec<Level>,
     top: &mut Open,
+    into: &mut Header,
     signing: Signing,
     header: Header,
 ) -> Result<(), CoseError>
     ensures read { (k i : ℕ) (t w : Tree)
-        → ReadingInside nesting t k below.old.items top.old signing w i
+        → ReadingInside nesting t k below.old.items top.old into.old signing w i
         → HasHeader nesting w (header_view header) i → MatchResult result
-        (λ _. Reading nesting t k below.new.items top.new)
+        (λ _. Reading nesting t k below.new.items top.new into.new)
         (λ e. OrMemory (WrongHeader nesting t k) e) }
     ensures left { OnOk result (work below.new.items top.new
         ≤ work below.old.items top.old + 2 * signing_left signing) }
@@ -259,7 +287,7 @@ fn close(
                 unprotected,
                 signature,
             };
-            finish(alloc, below, top, items, done, signature)
+            finish(alloc, below, top, into, items, done, signature)
         }
         Half::Unprotected(first) => {
             let (bytes, inside) = open_protected(alloc, first, nesting, top.layers)?;
@@ -273,7 +301,7 @@ fn close(
                         signature,
                         half,
                     };
-                    descend(alloc, below, top, entries, layers, signing)
+                    descend(alloc, below, top, into, entries, layers, signing)
                 }
                 None => {
                     let protected = ProtectedHeader {
@@ -285,7 +313,7 @@ fn close(
                         unprotected: header,
                         signature,
                     };
-                    finish(alloc, below, top, items, done, signature)
+                    finish(alloc, below, top, into, items, done, signature)
                 }
             }
         }
@@ -297,14 +325,15 @@ fn finish(
     alloc: Global,
     below: &mut Vec<Level>,
     top: &mut Open,
+    into: &mut Header,
     items: IntoIter<Value>,
     done: Vec<CoseSignature>,
     signature: CoseSignature,
 ) -> Result<(), CoseError>
-    ensures read { (n k : ℕ) (t v s : Tree) → ReadingSigned n t k below.old.items top.old v
+    ensures read { (n k : ℕ) (t v s : Tree) → ReadingSigned n t k below.old.items top.old into.old v
         → IsNext n top.old.layers v s done.items (into_iter_items items)
         → HasSignature n s (signature_view signature) top.old.layers → MatchResult result
-        (λ _. Reading n t k below.new.items top.new) (λ e. OrMemory (WrongHeader n t k) e) }
+        (λ _. Reading n t k below.new.items top.new into.new) (λ e. OrMemory (WrongHeader n t k) e) }
     ensures left { OnOk result (work below.new.items top.new
         ≤ work below.old.items top.old + 2 * weight_all (views (into_iter_items items))) }
 {
@@ -312,9 +341,9 @@ fn finish(
     done.push(signature)?;
     let mut items = items;
     match items.next() {
-        Some(item) => begin(alloc, below, top, item, items, done),
+        Some(item) => begin(alloc, below, top, into, item, items, done),
         None => {
-            top.parts.sign(done);
+            into.counter_signatures = done;
             Ok(())
         }
     }
@@ -374,7 +403,8 @@ pub(crate) fn read_signature(
         (λ e. OrMemory (WrongSignature nesting (view value) layers) e) }
 {
     let (first, entries, signature) = split(value)?;
-    let unprotected = read_entries(alloc, entries, nesting, layers)?;
+    let mut unprotected = Header::new(alloc);
+    fill_entries(alloc, entries, nesting, layers, &mut unprotected)?;
     let protected = read_protected(alloc, first, nesting, layers)?;
     Ok(CoseSignature {
         protected,
@@ -393,13 +423,28 @@ pub(crate) fn read_protected(
     ensures { MatchResult result (λ p. HasProtected nesting (view value) (protected_view p) layers)
         (λ e. OrMemory (WrongProtected nesting (view value) layers) e) }
 {
+    let mut protected = ProtectedHeader::new(alloc);
+    fill_protected(alloc, value, nesting, layers, &mut protected)?;
+    Ok(protected)
+}
+
+/// Reads the byte string of a protected header into an empty one, and keeps its bytes.
+pub(crate) fn fill_protected(
+    alloc: Global,
+    value: Value,
+    nesting: usize,
+    layers: usize,
+    into: &mut ProtectedHeader,
+) -> Result<(), CoseError>
+    requires empty { protected_view into.old ≡ protected None no_header }
+    ensures { MatchResult result
+        (λ _. HasProtected nesting (view value) (protected_view into.new) layers)
+        (λ e. OrMemory (WrongProtected nesting (view value) layers) e) }
+{
     let (bytes, inside) = open_protected(alloc, value, nesting, layers)?;
-    let header = match inside {
-        Some(entries) => read_entries(alloc, entries, nesting, layers - 1)?,
-        None => Header::new(alloc),
-    };
-    Ok(ProtectedHeader {
-        original_data: Some(bytes),
-        header,
-    })
+    if let Some(entries) = inside {
+        fill_entries(alloc, entries, nesting, layers - 1, &mut into.header)?;
+    }
+    into.original_data = Some(bytes);
+    Ok(())
 }

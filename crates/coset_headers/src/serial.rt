@@ -1,5 +1,6 @@
 //! Headers and signatures as values and bytes.
-ghost use Rattle.std.specs.Prelude.{◌≡◌, [], Some, None, MatchResult, option_map};
+ghost use Rattle.std.specs.Prelude.{◌≡◌, [], Some, None, MatchResult, OnErr};
+ghost use Rattle.std.specs.Prelude.{option_map};
 ghost use Rattle.ciborium_value.specs.Tree as spec;
 ghost use Rattle.ciborium_value.specs.View.{view};
 ghost use Rattle.coset_labels.specs.Faults.{OrMemory, CantWrite};
@@ -12,8 +13,7 @@ ghost use Rattle.coset_headers.specs.Written.{header_tree, signature_tree, shown
 ghost use Rattle.coset_headers.specs.Wrong.{WrongHeader, WrongProtected, WrongSignature};
 
 use crate::header::{CoseSignature, Header, ProtectedHeader};
-use crate::parts::HeaderParts;
-use crate::reader::{read_header, read_protected, read_signature};
+use crate::reader::{fill_header, fill_protected, read_header, read_protected, read_signature};
 use crate::writer::{show_protected, write_header, write_signature};
 use ciborium_value::Value;
 use coset_labels::{AsCborValue, CborSerializable, CoseError, Limits};
@@ -24,7 +24,16 @@ impl Header {
     pub fn new(alloc: Global) -> Header
         ensures { header_view result ≡ no_header }
     {
-        HeaderParts::new(alloc).header()
+        Header {
+            alg: None,
+            crit: Vec::new(alloc),
+            content_type: None,
+            key_id: Vec::new(alloc),
+            iv: Vec::new(alloc),
+            partial_iv: Vec::new(alloc),
+            counter_signatures: Vec::new(alloc),
+            rest: Vec::new(alloc),
+        }
     }
 
     /// As `from_cbor_value`, within these limits.
@@ -41,6 +50,25 @@ impl Header {
             (λ e. OrMemory (WrongHeader (nesting_of limits) (view value) (layers_of limits)) e) }
     {
         read_header(alloc, value, limits.nesting(), limits.layers())
+    }
+
+    /// Reads a header into this one, which has no field, within these limits. After an error it has none again.
+    ///
+    /// # Errors
+    /// A fault that the value has, or `Memory`.
+    pub fn fill(&mut self, alloc: Global, value: Value, limits: Limits) -> Result<(), CoseError>
+        requires empty { header_view self.old ≡ no_header }
+        ensures read { MatchResult result
+            (λ _. HasHeader (nesting_of limits) (view value) (header_view self.new)
+            (layers_of limits))
+            (λ e. OrMemory (WrongHeader (nesting_of limits) (view value) (layers_of limits)) e) }
+        ensures err { OnErr result (header_view self.new ≡ no_header) }
+    {
+        let filled = fill_header(alloc, value, limits.nesting(), limits.layers(), self);
+        if filled.is_err() {
+            *self = Header::new(alloc);
+        }
+        filled
     }
 }
 
@@ -202,6 +230,31 @@ impl ProtectedHeader {
             (λ e. OrMemory (WrongProtected (nesting_of limits) (view value) (layers_of limits)) e) }
     {
         read_protected(alloc, value, limits.nesting(), limits.layers())
+    }
+
+    /// Reads the byte string of a protected header into this one, which has no field and no bytes received, within these limits. After an
+    /// error it is as before.
+    ///
+    /// # Errors
+    /// Those of `from_cbor_bstr_with`.
+    pub fn fill_bstr(
+        &mut self,
+        alloc: Global,
+        value: Value,
+        limits: Limits,
+    ) -> Result<(), CoseError>
+        requires empty { protected_view self.old ≡ protected None no_header }
+        ensures read { MatchResult result
+            (λ _. HasProtected (nesting_of limits) (view value) (protected_view self.new)
+            (layers_of limits))
+            (λ e. OrMemory (WrongProtected (nesting_of limits) (view value) (layers_of limits)) e) }
+        ensures err { OnErr result (protected_view self.new ≡ protected None no_header) }
+    {
+        let filled = fill_protected(alloc, value, limits.nesting(), limits.layers(), self);
+        if filled.is_err() {
+            *self = ProtectedHeader::new(alloc);
+        }
+        filled
     }
 
     /// The byte string that stands for this header: the bytes that were received; else an empty string for an empty header, and the

@@ -12,7 +12,6 @@ ghost use Rattle.coset_headers.specs.Written.{header_of, header_tree, shown, sig
 ghost use Rattle.coset_headers.specs.Written.{signature_trees, is_empty, is_unsigned};
 
 use crate::header::{CoseSignature, Header, ProtectedHeader};
-use crate::parts::HeaderParts;
 use ciborium_value::Value;
 use coset_labels::{CoseError, write_to_vec};
 use std::alloc::Global;
@@ -85,27 +84,7 @@ fn take_parts(
         (λ e. CantWrite (header_of (plain_part (header_view header.old)) (views signatures.items))
         e) }
 {
-    let Header {
-        alg,
-        crit,
-        content_type,
-        key_id,
-        iv,
-        partial_iv,
-        counter_signatures: _,
-        rest,
-    } = mem::replace(header, Header::new(alloc));
-    let parts = HeaderParts {
-        alg,
-        crit,
-        content_type,
-        key_id,
-        iv,
-        partial_iv,
-        counter_signatures: Vec::new(alloc),
-        rest,
-    };
-    parts.write(alloc, signatures)
+    mem::replace(header, Header::new(alloc)).write(alloc, signatures)
 }
 
 /// The values of signatures, which are emptied.

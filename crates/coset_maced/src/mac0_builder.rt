@@ -3,7 +3,7 @@ ghost use Rattle.std.specs.Prelude.{◌≡◌, Some, None, IsSome};
 ghost use Rattle.coset_headers.specs.Fields.{protected};
 ghost use Rattle.coset_headers.specs.View.{header_view};
 ghost use Rattle.coset_message_parts.specs.Calls.{TakesWhere, BuiltWhere, MadeWhere};
-ghost use Rattle.coset_maced.specs.Builders.{mac0_so_far};
+ghost use Rattle.coset_maced.specs.Builders.{mac0_so_far, mac0_tag};
 ghost use Rattle.coset_maced.specs.Fields.{no_mac0};
 ghost use Rattle.coset_maced.specs.Structure.{mac0_covered};
 ghost use Rattle.coset_maced.specs.View.{mac0_view};
@@ -67,7 +67,8 @@ impl CoseMac0Builder {
 
     /// Sets the tag.
     pub fn tag(mut self, tag: Vec<u8>) -> CoseMac0Builder
-        ensures { result.message ≡ record self.message { tag = tag } }
+        ensures built { mac0_so_far result ≡ record (mac0_so_far self) { tag = tag.items } }
+        ensures given { mac0_tag result ≡ tag }
     {
         self.message.tag = tag;
         self
@@ -86,11 +87,11 @@ impl CoseMac0Builder {
         aad: &[u8],
         signer: S,
     ) -> Result<CoseMac0Builder, CoseError>
-        requires present { IsSome self.message.payload }
+        requires present { IsSome (mac0_so_far self).payload }
         requires signer { TakesWhere S.FnOnce signer (mac0_covered (mac0_so_far self) aad.now) }
         ensures { BuiltWhere S.FnOnce signer (mac0_covered (mac0_so_far self) aad.now)
-            (λ b. b.message.tag)
-            (λ b. b.message ≡ record self.message { tag = b.message.tag }) result }
+            mac0_tag
+            (λ b. mac0_so_far b ≡ record (mac0_so_far self) { tag = (mac0_so_far b).tag }) result }
     {
         let data = self.message.tbm_data(alloc, aad)?;
         let tag = signer(data.as_slice());
@@ -107,11 +108,11 @@ impl CoseMac0Builder {
         aad: &[u8],
         signer: S,
     ) -> Result<CoseMac0Builder, Fault<E>>
-        requires present { IsSome self.message.payload }
+        requires present { IsSome (mac0_so_far self).payload }
         requires signer { TakesWhere S.FnOnce signer (mac0_covered (mac0_so_far self) aad.now) }
         ensures { MadeWhere S.FnOnce signer (mac0_covered (mac0_so_far self) aad.now)
-            (λ b. b.message.tag)
-            (λ b. b.message ≡ record self.message { tag = b.message.tag }) result }
+            mac0_tag
+            (λ b. mac0_so_far b ≡ record (mac0_so_far self) { tag = (mac0_so_far b).tag }) result }
     {
         let data = self.message.tbm_data(alloc, aad)?;
         let tag = signer(data.as_slice()).map_err(Fault::Caller)?;

@@ -6,7 +6,7 @@ ghost use Rattle.coset_headers.specs.View.{header_view};
 ghost use Rattle.coset_message_parts.specs.Calls.{TakesWhere, BuiltWhere, MadeWhere};
 ghost use Rattle.coset_recipients.specs.Builders.{recipients_and};
 ghost use Rattle.coset_recipients.specs.View.{recipient_view};
-ghost use Rattle.coset_maced.specs.Builders.{mac_so_far};
+ghost use Rattle.coset_maced.specs.Builders.{mac_so_far, mac_tag};
 ghost use Rattle.coset_maced.specs.Fields.{no_mac};
 ghost use Rattle.coset_maced.specs.Structure.{mac_covered};
 ghost use Rattle.coset_maced.specs.View.{mac_view};
@@ -71,7 +71,8 @@ impl CoseMacBuilder {
 
     /// Sets the tag.
     pub fn tag(mut self, tag: Vec<u8>) -> CoseMacBuilder
-        ensures { result.message ≡ record self.message { tag = tag } }
+        ensures built { mac_so_far result ≡ record (mac_so_far self) { tag = tag.items } }
+        ensures given { mac_tag result ≡ tag }
     {
         self.message.tag = tag;
         self
@@ -107,11 +108,11 @@ impl CoseMacBuilder {
         aad: &[u8],
         signer: S,
     ) -> Result<CoseMacBuilder, CoseError>
-        requires present { IsSome self.message.payload }
+        requires present { IsSome (mac_so_far self).payload }
         requires signer { TakesWhere S.FnOnce signer (mac_covered (mac_so_far self) aad.now) }
         ensures { BuiltWhere S.FnOnce signer (mac_covered (mac_so_far self) aad.now)
-            (λ b. b.message.tag)
-            (λ b. b.message ≡ record self.message { tag = b.message.tag }) result }
+            mac_tag
+            (λ b. mac_so_far b ≡ record (mac_so_far self) { tag = (mac_so_far b).tag }) result }
     {
         let data = self.message.tbm_data(alloc, aad)?;
         let tag = signer(data.as_slice());
@@ -128,11 +129,11 @@ impl CoseMacBuilder {
         aad: &[u8],
         signer: S,
     ) -> Result<CoseMacBuilder, Fault<E>>
-        requires present { IsSome self.message.payload }
+        requires present { IsSome (mac_so_far self).payload }
         requires signer { TakesWhere S.FnOnce signer (mac_covered (mac_so_far self) aad.now) }
         ensures { MadeWhere S.FnOnce signer (mac_covered (mac_so_far self) aad.now)
-            (λ b. b.message.tag)
-            (λ b. b.message ≡ record self.message { tag = b.message.tag }) result }
+            mac_tag
+            (λ b. mac_so_far b ≡ record (mac_so_far self) { tag = (mac_so_far b).tag }) result }
     {
         let data = self.message.tbm_data(alloc, aad)?;
         let tag = signer(data.as_slice()).map_err(Fault::Caller)?;

@@ -3,7 +3,7 @@ ghost use Rattle.std.specs.Prelude.{◌≡◌, None, Some};
 ghost use Rattle.coset_headers.specs.Fields.{protected};
 ghost use Rattle.coset_headers.specs.View.{header_view};
 ghost use Rattle.coset_message_parts.specs.Calls.{TakesWhere, BuiltWhere, MadeWhere};
-ghost use Rattle.coset_signed.specs.Builders.{sign1_so_far};
+ghost use Rattle.coset_signed.specs.Builders.{sign1_so_far, sign1_signature};
 ghost use Rattle.coset_signed.specs.Fields.{no_sign1};
 ghost use Rattle.coset_signed.specs.Structure.{sign1_covered, sign1_covered_with};
 ghost use Rattle.coset_signed.specs.View.{sign1_view};
@@ -69,7 +69,9 @@ impl CoseSign1Builder {
 
     /// Sets the signature.
     pub fn signature(mut self, signature: Vec<u8>) -> CoseSign1Builder
-        ensures { result.message ≡ record self.message { signature = signature } }
+        ensures built { sign1_so_far result
+            ≡ record (sign1_so_far self) { signature = signature.items } }
+        ensures given { sign1_signature result ≡ signature }
     {
         self.message.signature = signature;
         self
@@ -89,8 +91,9 @@ impl CoseSign1Builder {
     ) -> Result<CoseSign1Builder, CoseError>
         requires { TakesWhere S.FnOnce signer (sign1_covered (sign1_so_far self) aad.now) }
         ensures { BuiltWhere S.FnOnce signer (sign1_covered (sign1_so_far self) aad.now)
-            (λ b. b.message.signature)
-            (λ b. b.message ≡ record self.message { signature = b.message.signature }) result }
+            sign1_signature
+            (λ b. sign1_so_far b
+            ≡ record (sign1_so_far self) { signature = (sign1_so_far b).signature }) result }
     {
         let data = self.message.tbs_data(alloc, aad)?;
         let signature = signer(data.as_slice());
@@ -109,8 +112,9 @@ impl CoseSign1Builder {
     ) -> Result<CoseSign1Builder, Fault<E>>
         requires { TakesWhere S.FnOnce signer (sign1_covered (sign1_so_far self) aad.now) }
         ensures { MadeWhere S.FnOnce signer (sign1_covered (sign1_so_far self) aad.now)
-            (λ b. b.message.signature)
-            (λ b. b.message ≡ record self.message { signature = b.message.signature }) result }
+            sign1_signature
+            (λ b. sign1_so_far b
+            ≡ record (sign1_so_far self) { signature = (sign1_so_far b).signature }) result }
     {
         let data = self.message.tbs_data(alloc, aad)?;
         let signature = signer(data.as_slice()).map_err(Fault::Caller)?;
@@ -134,8 +138,9 @@ impl CoseSign1Builder {
             (sign1_covered_with (sign1_so_far self) payload.now aad.now) }
         ensures { BuiltWhere S.FnOnce signer
             (sign1_covered_with (sign1_so_far self) payload.now aad.now)
-            (λ b. b.message.signature)
-            (λ b. b.message ≡ record self.message { signature = b.message.signature }) result }
+            sign1_signature
+            (λ b. sign1_so_far b
+            ≡ record (sign1_so_far self) { signature = (sign1_so_far b).signature }) result }
     {
         let data = self.message.tbs_detached_data(alloc, payload, aad)?;
         let signature = signer(data.as_slice());
@@ -158,8 +163,9 @@ impl CoseSign1Builder {
             (sign1_covered_with (sign1_so_far self) payload.now aad.now) }
         ensures { MadeWhere S.FnOnce signer
             (sign1_covered_with (sign1_so_far self) payload.now aad.now)
-            (λ b. b.message.signature)
-            (λ b. b.message ≡ record self.message { signature = b.message.signature }) result }
+            sign1_signature
+            (λ b. sign1_so_far b
+            ≡ record (sign1_so_far self) { signature = (sign1_so_far b).signature }) result }
     {
         let data = self.message.tbs_detached_data(alloc, payload, aad)?;
         let signature = signer(data.as_slice()).map_err(Fault::Caller)?;

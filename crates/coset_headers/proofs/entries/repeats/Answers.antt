@@ -3,7 +3,7 @@ use Rattle.std.proofs.lemmas.Result.{err_from_is_err_and}
 use Rattle.ciborium_value.specs.Tree.{Tree}
 use Rattle.coset_labels.specs.View.{label_view}
 use Rattle.coset_headers.specs.Headers.{IsIn}
-use Rattle.coset_headers.specs.Parts.{Sees}
+use Rattle.coset_headers.specs.Parts.{SeesLabels}
 use Rattle.coset_headers.specs.View.{entry_view}
 use Rattle.coset_headers.specs.Written.{twice}
 use Rattle.coset_headers.proofs.Written.{once_only, twice_there, sees_next, distinct_next}
@@ -25,7 +25,7 @@ entries-preserved c =
     let w = rw c.if-not-fresh.false at (c.in_ok-fresh.ensures _ c.entries.invariant.sees) in
     record {
       sees = sees_next c.add.new.self c.args.entries.now c.entries.entry-index c.entry-item.result c.entries-test.true
-          (subst (λ z. (v : Tree) → Sees c.add.new.self (map entry_view (take c.entries.entry-index c.args.entries.now) ++ (label_view z.0, v) ∷ [])) c.entry-item.is w.1);
+          (subst (λ z. (v : Tree) → SeesLabels c.add.new.self (map entry_view (take c.entries.entry-index c.args.entries.now) ++ (label_view z.0, v) ∷ [])) c.entry-item.is w.1);
       distinct = distinct_next c.args.entries.now c.entries.entry-index c.entry-item.result c.entries-test.true c.entries.invariant.distinct
           (subst (λ z. IsIn (label_view z.0) (map entry_view (take c.entries.entry-index c.args.entries.now)) → ⊥) c.entry-item.is w.0);
     }

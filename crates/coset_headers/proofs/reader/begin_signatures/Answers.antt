@@ -14,12 +14,12 @@ use Rattle.coset_headers.proofs.reader.begin_signatures.Goals as goal
 pub returns-in_err-items-clause-read : goal.returns-in_err-items-clause-read
 returns-in_err-items-clause-read c =
     let p = err_from_is_err_and c.from_residual.result c.from_residual.ensures.1 in
-    rw (p.1, p.2) (λ n k t r. signatures_wrong n k t (view c.args.value) c.args.below.now.items c.args.top.now _ r (signed_kind n _ _ _ c.in_err-items.ensures))
+    rw (p.1, p.2) (λ n k t r. signatures_wrong n k t (view c.args.value) c.args.below.now.items c.args.top.now c.args.into.now _ r (signed_kind n _ _ _ c.in_err-items.ensures))
 
 pub returns-in_err-is_bare-clause-read : goal.returns-in_err-is_bare-clause-read
 returns-in_err-is_bare-clause-read c =
     let p = err_from_is_err_and c.from_residual-in_err-is_bare.result c.from_residual-in_err-is_bare.ensures.1 in
-    rw (p.1, p.2) (λ n k t r. signatures_wrong n k t (view c.args.value) c.args.below.now.items c.args.top.now _ r (signed_first n _ (views c.in_ok-items.items.items) _ _ c.in_ok-items.ensures
+    rw (p.1, p.2) (λ n k t r. signatures_wrong n k t (view c.args.value) c.args.below.now.items c.args.top.now c.args.into.now _ r (signed_first n _ (views c.in_ok-items.items.items) _ _ c.in_ok-items.ensures
     (subst (λ z. (fault_of c.in_err-is_bare.field-0.0 ≡ unexpected) × NoSignature (views z)) c.deref.ensures.value c.in_err-is_bare.ensures)))
 
 pub returns-then-branch-clause-read : goal.returns-then-branch-clause-read

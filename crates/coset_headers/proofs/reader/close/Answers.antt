@@ -13,12 +13,12 @@ use Rattle.coset_headers.proofs.reader.close.Goals as goal
 pub returns-in_err-bytes-in-Unprotected-clause-read : goal.returns-in_err-bytes-in-Unprotected-clause-read
 returns-in_err-bytes-in-Unprotected-clause-read c =
     let p = err_from_is_err_and c.from_residual.result c.from_residual.ensures.1 in
-    rw (p.1, p.2) (λ k i t w r h. protected_wrong c.args.nesting k t w i c.args.below.now.items c.args.top.now c.args.signing c.in-Unprotected.first _ r c.in-Unprotected.is c.in_err-bytes-in-Unprotected.ensures)
+    rw (p.1, p.2) (λ k i t w r h. protected_wrong c.args.nesting k t w i c.args.below.now.items c.args.top.now c.args.into.now c.args.signing c.in-Unprotected.first _ r c.in-Unprotected.is c.in_err-bytes-in-Unprotected.ensures)
 
 pub returns-in-Protected-clause-read : goal.returns-in-Protected-clause-read
 returns-in-Protected-clause-read c = λ k i t w r h.
     let f = subst (λ z. IsHalf c.args.nesting c.args.top.now.layers r.around.signature c.args.signing.signature.items z w i) c.in-Protected.is r.around.half in
-    c.finish.ensures.read c.args.nesting k t r.around.value r.around.signature (signs_of_inside c.args.nesting k t w i _ _ _ r) r.around.next
+    c.finish.ensures.read c.args.nesting k t r.around.value r.around.signature (signs_of_inside c.args.nesting k t w i _ _ _ _ r) r.around.next
     (subst (λ z. HasSignature c.args.nesting r.around.signature z c.args.top.now.layers) (sym (built c.in-Protected.bytes c.args.header c.in-Protected.unprotected c.args.signing.signature))
     (half_done c.args.nesting c.args.top.now.layers r.around.signature c.args.signing.signature.items c.in-Protected.unprotected c.in-Protected.bytes w i (header_view c.args.header) f h))
 
@@ -27,7 +27,7 @@ returns-in-Some-clause-read c = λ k i t w r h.
     let o = c.in_ok-bytes-in-Unprotected.ensures in
     let s = rw c.in-Some.is at o.2 in
     match_map c.descend.result _ _ _ _ (λ u z. z) (λ e z. inl z)
-    (c.descend.ensures.read c.args.nesting k t (turns c.args.nesting k t w _ i _ _ c.args.signing _ c.in-Unprotected.first c.args.header c.in_ok-bytes-in-Unprotected.bytes r c.in-Unprotected.is h o.0 o.1 s.0 s.1 refl refl refl refl))
+    (c.descend.ensures.read c.args.nesting k t (turns c.args.nesting k t w _ i _ _ _ c.args.signing _ c.in-Unprotected.first c.args.header c.in_ok-bytes-in-Unprotected.bytes r c.in-Unprotected.is h o.0 o.1 s.0 s.1 refl refl refl refl))
 
 pub returns-in-Some-clause-left : goal.returns-in-Some-clause-left
 returns-in-Some-clause-left c =
@@ -42,7 +42,7 @@ pub returns-in-None-clause-read : goal.returns-in-None-clause-read
 returns-in-None-clause-read c = λ k i t w r h.
     let o = c.in_ok-bytes-in-Unprotected.ensures in
     let f = subst (λ z. IsHalf c.args.nesting c.args.top.now.layers r.around.signature c.args.signing.signature.items z w i) c.in-Unprotected.is r.around.half in
-    c.finish-in-None.ensures.read c.args.nesting k t r.around.value r.around.signature (signs_of_inside c.args.nesting k t w i _ _ _ r) r.around.next
+    c.finish-in-None.ensures.read c.args.nesting k t r.around.value r.around.signature (signs_of_inside c.args.nesting k t w i _ _ _ _ r) r.around.next
     (subst (λ z. HasSignature c.args.nesting r.around.signature z c.args.top.now.layers)
     (sym (built c.in_ok-bytes-in-Unprotected.bytes c.new.result c.args.header c.args.signing.signature
     ∙ ap (λ z. signature (protected (Some c.in_ok-bytes-in-Unprotected.bytes.items) z) (header_view c.args.header) c.args.signing.signature.items) c.new.ensures))

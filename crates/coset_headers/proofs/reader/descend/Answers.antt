@@ -2,6 +2,7 @@ use Rattle.std.proofs.Common.{sym, subst, ap, ◌∙◌, ◌++◌, ◌∷◌, []
 use Rattle.ciborium_value.specs.Tree.{map}
 use Rattle.ciborium_value.specs.View.{view_pairs}
 use Rattle.coset_headers.specs.Levels.{Going, Within, levels_left, open_left}
+use Rattle.coset_headers.specs.View.{header_view}
 use Rattle.coset_headers.specs.declared.reader.Level.{Level}
 use Rattle.coset_headers.proofs.Levels.{within_pushed, levels_pushed}
 use Rattle.coset_headers.proofs.reader.descend.Goals as goal
@@ -9,25 +10,26 @@ use Rattle.coset_headers.proofs.reader.descend.Goals as goal
 pub returns-clause-read : goal.returns-clause-read
 returns-clause-read c = λ n k t r.
     let inside = map (view_pairs c.args.entries.items) in
-    let level : Level = record { header = c.args.top.now; signing = c.args.signing } in
+    let level : Level = record { left = c.args.top.now; header = c.args.into.now; signing = c.args.signing } in
     let pushed : c.push.new.self.items ≡ c.args.below.now.items ++ level ∷ [] =
-    c.in_ok-push.ensures.items ∙ ap (λ z. c.args.below.now.items ++ record { header = z; signing = c.args.signing } ∷ []) c.replace-header.ensures.value in
-    let layers : c.replace-header.new.dest.layers ≡ c.args.layers = ap (λ z. z.layers) c.replace-header.ensures.after ∙ c.new.ensures.layers in
+    c.in_ok-push.ensures.items ∙ (λ i. c.args.below.now.items ++ record { left = c.replace-left.ensures.value i; header = c.replace-header.ensures.value i; signing = c.args.signing } ∷ []) in
+    let layers : c.replace-left.new.dest.layers ≡ c.args.layers = ap (λ z. z.layers) c.replace-left.ensures.after ∙ c.new.ensures.layers in
     record {
       inner = inside;
-      within = subst (λ z. Within n t k z inside c.replace-header.new.dest.layers) (sym pushed)
+      within = subst (λ z. Within n t k z inside c.replace-left.new.dest.layers) (sym pushed)
           (subst (λ z. Within n t k (c.args.below.now.items ++ level ∷ []) inside z) (sym layers)
           (within_pushed n t k c.args.below.now.items level r.inner inside c.args.layers r.within r.around));
-      going = subst (Going n inside) (sym c.replace-header.ensures.after) (c.new.ensures.going n);
+      going = subst (λ z. Going n inside z c.replace-header.new.dest) (sym c.replace-left.ensures.after)
+          (c.new.ensures.going n c.replace-header.new.dest (ap header_view c.replace-header.ensures.after ∙ c.new-2.ensures));
     }
 
 pub returns-clause-left : goal.returns-clause-left
 returns-clause-left c =
-    let level : Level = record { header = c.replace-header.result; signing = c.args.signing } in
+    let level : Level = record { left = c.replace-left.result; header = c.replace-header.result; signing = c.args.signing } in
     let a = ap levels_left c.in_ok-push.ensures.items in
     let b = levels_pushed c.args.below.now.items level in
     let d = ap length c.in_ok-push.ensures.items in
     let e = length-append c.args.below.now.items (level ∷ []) in
-    let f = ap open_left c.replace-header.ensures.value in
-    let g = ap open_left c.replace-header.ensures.after in
+    let f = ap open_left c.replace-left.ensures.value in
+    let g = ap open_left c.replace-left.ensures.after in
     omega (arith, a, b, d, e, f, g, c.new.ensures.left)

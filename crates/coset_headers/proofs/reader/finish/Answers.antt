@@ -1,4 +1,5 @@
 use Rattle.std.proofs.Common.{refl}
+use Rattle.coset_headers.proofs.Alike.{plain_rolled, signs_rolled}
 use Rattle.coset_headers.proofs.Empty.{none_left}
 use Rattle.coset_headers.proofs.Levels.{next_more, next_done, signed_done}
 use Rattle.coset_headers.proofs.reader.finish.Goals as goal
@@ -13,6 +14,6 @@ returns-in-None-clause-read c = λ n k t v s r x h.
     record {
       inner = r.inner;
       within = r.within;
-      going = signed_done n r.inner c.args.top.now _ v _ r.signed (next_done n _ v s c.args.done.items _ _ c.args.signature x none h c.in_ok-push.ensures.items) refl refl refl
-          c.sign.ensures.plain c.sign.ensures.signs;
+      going = signed_done n r.inner c.args.top.now _ c.args.into.now _ v _ r.signed (next_done n _ v s c.args.done.items _ _ c.args.signature x none h c.in_ok-push.ensures.items) refl refl refl
+          (plain_rolled _) (signs_rolled _);
     }

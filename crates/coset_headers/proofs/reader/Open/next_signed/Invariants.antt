@@ -6,7 +6,7 @@ use Rattle.coset_headers.proofs.reader.Open.next_signed.Given as goal
 
 abbrev pub invariant-entries : goal.invariant-entries
 invariant-entries l = record {
-  going : (n : ℕ) (t : Tree) → Going n t l.fn.self → Going n t l.self;
+  going : (n : ℕ) (t : Tree) → Going n t l.fn.self l.fn.into → Going n t l.self l.into;
   layers : l.self.layers ≡ l.fn.self.layers;
   left : open_left l.self ≤ open_left l.fn.self;
 }

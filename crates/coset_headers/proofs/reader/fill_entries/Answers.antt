@@ -1,14 +1,13 @@
-use Rattle.std.proofs.Common.{◌≡◌, [], ◌∷◌, refl, subst, sym, ap, ◌∙◌, arith, length, length-append}
+use Rattle.std.proofs.Common.{◌≡◌, [], ◌∷◌, refl, subst, sym, ap, arith, length, length-append}
 use Rattle.std.proofs.lemmas.Result.{err_from_is_err_and}
 use Rattle.ciborium_value.specs.Tree.{map}
 use Rattle.ciborium_value.specs.View.{view_pairs}
-use Rattle.coset_headers.specs.Fields.{header}
 use Rattle.coset_headers.specs.Headers.{HasHeader}
-use Rattle.coset_headers.specs.Parts.{plain_of, signs_of}
-use Rattle.coset_headers.specs.Levels.{Within, levels_left, open_left}
+use Rattle.coset_headers.specs.View.{header_view}
+use Rattle.coset_headers.specs.Levels.{Within, levels_left}
 use Rattle.coset_headers.proofs.Levels.{within_wrong, outermost, closes, levels_pushed}
 use Rattle.coset_headers.proofs.Empty.{length_zero}
-use Rattle.coset_headers.proofs.reader.read_entries.Goals as goal
+use Rattle.coset_headers.proofs.reader.fill_entries.Goals as goal
 
 pub turns-init : goal.turns-init
 turns-init c =
@@ -16,7 +15,7 @@ turns-init c =
     record {
       inner = t;
       within = subst (λ z. Within c.args.nesting t c.args.layers z t c.new-top.result.layers) (sym c.new-below.ensures.items) (refl, c.new-top.ensures.layers);
-      going = c.new-top.ensures.going c.args.nesting;
+      going = c.new-top.ensures.going c.args.nesting c.args.into.now c.requires.empty;
     }
 
 pub returns-in_err-value : goal.returns-in_err-value
@@ -51,8 +50,7 @@ returns-in-None-pop c =
     let r = c.turns.invariant in
     let has = rw c.in-None.is at (c.in_ok-value.ensures.read c.args.nesting r.inner r.going) in
     let none : c.turns.below.items ≡ [] = length_zero c.turns.below.items (omega (arith, c.in-None-pop.ensures.cases, c.turns.below.ok.0)) in
-    subst (λ z. HasHeader c.args.nesting (map (view_pairs c.args.entries.items)) z c.args.layers) (sym c.header.ensures)
-    (outermost _ _ _ r.inner c.turns.below.items c.next_signed.new.self.layers (header (plain_of c.next_signed.new.self.parts) (signs_of c.next_signed.new.self.parts)) (subst (λ z. Within c.args.nesting (map (view_pairs c.args.entries.items)) c.args.layers c.turns.below.items r.inner z) (sym c.in_ok-value.ensures.layers) r.within) none has)
+    outermost _ _ _ r.inner c.turns.below.items c.next_signed.new.self.layers _ (subst (λ z. Within c.args.nesting (map (view_pairs c.args.entries.items)) c.args.layers c.turns.below.items r.inner z) (sym c.in_ok-value.ensures.layers) r.within) none has
 
 pub turns-smaller : goal.turns-smaller
 turns-smaller c =
@@ -61,8 +59,7 @@ turns-smaller c =
     let b = levels_pushed c.pop.new.self.items level in
     let d = ap length c.in-Some-pop.ensures.items in
     let e = length-append c.pop.new.self.items (level ∷ []) in
-    let f = ap open_left c.replace.ensures.after in
-    omega (arith, a, b, d, e, f, c.in_ok-close-in-Some-pop.ensures.left)
+    omega (arith, a, b, d, e, c.in_ok-close-in-Some-pop.ensures.left)
 
 pub turns-preserved : goal.turns-preserved
 turns-preserved c =
@@ -72,8 +69,8 @@ turns-preserved c =
     let within = subst (λ z. Within c.args.nesting t c.args.layers c.turns.below.items r.inner z) (sym c.in_ok-value.ensures.layers) r.within in
     let has = rw c.in-None.is at (c.in_ok-value.ensures.read c.args.nesting r.inner r.going) in
     c.in_ok-close-in-Some-pop.ensures.read c.args.layers top.layers t r.inner
-    (closes c.args.nesting c.args.layers t r.inner c.turns.below.items c.pop.new.self.items c.in-Some-pop.field-0 c.replace.new.dest top.layers within c.in-Some-pop.ensures.items c.replace.ensures.after)
-    (subst (λ z. HasHeader c.args.nesting r.inner z top.layers) (ap (λ z. header (plain_of z.parts) (signs_of z.parts)) (sym c.replace.ensures.value) ∙ sym c.header-whole.ensures) has)
+    (closes c.args.nesting c.args.layers t r.inner c.turns.below.items c.pop.new.self.items c.in-Some-pop.field-0 _ c.replace-whole.new.dest top.layers within c.in-Some-pop.ensures.items refl c.replace-whole.ensures.after)
+    (subst (λ z. HasHeader c.args.nesting r.inner z top.layers) (ap header_view (sym c.replace-whole.ensures.value)) has)
 
 pub returns-in_err-close-in-Some-pop : goal.returns-in_err-close-in-Some-pop
 returns-in_err-close-in-Some-pop c =
@@ -84,5 +81,5 @@ returns-in_err-close-in-Some-pop c =
     let within = subst (λ z. Within c.args.nesting t c.args.layers c.turns.below.items r.inner z) (sym c.in_ok-value.ensures.layers) r.within in
     let has = rw c.in-None.is at (c.in_ok-value.ensures.read c.args.nesting r.inner r.going) in
     rw (p.1, p.2) (c.in_err-close-in-Some-pop.ensures.read c.args.layers top.layers t r.inner
-    (closes c.args.nesting c.args.layers t r.inner c.turns.below.items c.pop.new.self.items c.in-Some-pop.field-0 c.replace.new.dest top.layers within c.in-Some-pop.ensures.items c.replace.ensures.after)
-    (subst (λ z. HasHeader c.args.nesting r.inner z top.layers) (ap (λ z. header (plain_of z.parts) (signs_of z.parts)) (sym c.replace.ensures.value) ∙ sym c.header-whole.ensures) has))
+    (closes c.args.nesting c.args.layers t r.inner c.turns.below.items c.pop.new.self.items c.in-Some-pop.field-0 _ c.replace-whole.new.dest top.layers within c.in-Some-pop.ensures.items refl c.replace-whole.ensures.after)
+    (subst (λ z. HasHeader c.args.nesting r.inner z top.layers) (ap header_view (sym c.replace-whole.ensures.value)) has))

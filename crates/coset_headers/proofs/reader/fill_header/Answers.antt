@@ -1,6 +1,6 @@
 use Rattle.std.proofs.lemmas.Result.{err_from_is_err_and}
 use Rattle.coset_headers.proofs.Steps.{header_kind}
-use Rattle.coset_headers.proofs.reader.read_header.Goals as goal
+use Rattle.coset_headers.proofs.reader.fill_header.Goals as goal
 
 pub returns-in_err-entries : goal.returns-in_err-entries
 returns-in_err-entries c =

@@ -1,0 +1,82 @@
+//! What `cose-show` shows, and where it cuts.
+use crate::out::{NoAnswer, Out};
+use crate::words;
+use cose_display::{Cutter, Options, Stop, Words, read_words, show_as};
+use std::io::BufReader;
+
+/// What is shown of an input with these words of a command line: the status, the text with a `|` for each line feed, and why it ended early.
+pub fn show(to: &mut Out, row: &mut &str) {
+    let input = words::bytes(to, row);
+    let all = words::owned(to, row);
+    match read_words(all.as_slice()) {
+        Some(Words::Run(options)) => add_page(to, options, input.as_slice()),
+        Some(Words::Help) => to.text("help"),
+        None => to.text("usage"),
+    }
+}
+
+fn add_page(to: &mut Out, options: Options<'_>, input: &[u8]) {
+    let mut page = String::new(to.alloc());
+    match BufReader::new(to.alloc(), input) {
+        Ok(input) => {
+            let end = show_as(to.alloc(), options, input, &mut page);
+            add_ended(to, page.as_str(), end);
+        }
+        Err(_) => to.refuse(NoAnswer::Memory),
+    }
+}
+
+/// Appends the status, a text (`-` for none), and why it ended early.
+fn add_ended(to: &mut Out, text: &str, end: Result<(), Stop>) {
+    match end {
+        Ok(()) => to.text("0; "),
+        Err(stop) => {
+            to.show(&stop.status());
+            to.text("; ");
+        }
+    }
+    to.lines(if text.is_empty() { "-" } else { text });
+    if let Err(stop) = end {
+        to.text("; ");
+        to.show(&stop);
+    }
+}
+
+/// The pieces of an input that comes in blocks, each but the last of this size at least, parted by spaces; and how it ended.
+pub fn pieces(to: &mut Out, row: &mut &str) {
+    let size = words::number(to, row);
+    let block = words::number(to, row);
+    let input = words::bytes(to, row);
+    if block == 0 {
+        to.refuse(NoAnswer::NoNumber);
+    }
+    let mut cutter = Cutter::new(to.alloc(), size);
+    let mut pieces = Out::new(to.alloc());
+    let end = cut(&mut pieces, &mut cutter, block, &input);
+    to.refuse_as(&pieces);
+    add_ended(to, pieces.as_str(), end);
+}
+
+/// Cuts an input that comes in blocks, and appends its pieces.
+fn cut(to: &mut Out, cutter: &mut Cutter, block: usize, input: &[u8]) -> Result<(), Stop> {
+    let (mut from, mut at) = (0_usize, 0_usize);
+    for _ in 0..input.len() {
+        let rest = input.get(at..).unwrap_or(&[]);
+        let share = cutter.take(rest.get(..block).unwrap_or(rest))?;
+        at = at.saturating_add(share.len);
+        if share.ends {
+            add_piece(to, input.get(from..at).unwrap_or(&[]));
+            from = at;
+        }
+    }
+    add_piece(to, input.get(from..).unwrap_or(&[]));
+    cutter.end()
+}
+
+/// Appends a piece, if it has bytes.
+fn add_piece(to: &mut Out, piece: &[u8]) {
+    if !piece.is_empty() {
+        to.apart(" ");
+        to.digits(piece);
+    }
+}
