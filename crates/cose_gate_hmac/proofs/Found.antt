@@ -13,8 +13,6 @@ use Rattle.cose_gate_core.specs.HeaderView.{entry_view}
 use Rattle.coset_keys.specs.View.{key_view}
 use Rattle.coset_keys.specs.declared.key.CoseKey.{CoseKey}
 use Rattle.cose_gate_hmac.specs.Keys.{fits, first_fit}
-use Rattle.cose_gate_hmac.specs.ReadyKeys.{ready_view}
-use Rattle.cose_gate_hmac.specs.declared.ready.Ready.{Ready}
 use Rattle.cose_gate_hmac.specs.Names.{is_verify, allows_verify}
 use Rattle.cose_gate_hmac.specs.Secrets.{is_secret_label, bytes_of, secret_in}
 
@@ -72,6 +70,3 @@ allows_none f (k ∷ ks) e = absurd (omega (arith, e))
 pub allows_some : {E : Type 0} (f : E → Named) (ks : List E) (b : Bool) → (length ks ≡ 0 → ⊥) → b ≡ list_any (λ k. is_verify (f k)) ks → b ≡ allows_verify (map f ks)
 allows_some f [] b other e = absurd (other refl)
 allows_some f (k ∷ ks) b other e = e ∙ any_map f (k ∷ ks)
-
-pub ready_by : (id : List ℕ) (rs : List Ready) (r : Option Ready) → r ≡ find (λ r. fits id (ready_view r)) rs → option_map ready_view r ≡ first_fit id (map ready_view rs)
-ready_by id rs r e = ap (λ z. option_map ready_view z) e ∙ sym (find_map ready_view (fits id) rs)

@@ -1,3 +1,4 @@
+pub mod Added
 pub mod Found
 pub mod Headers
 pub mod Numbers

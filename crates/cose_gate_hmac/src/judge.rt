@@ -10,8 +10,8 @@ ghost use Rattle.cose_gate_hmac.specs.Judge.{Makes, says_yes};
 ghost use Rattle.cose_gate_hmac.specs.Judging.{is_tag_under};
 ghost use Rattle.cose_gate_hmac.specs.Keeps.{keys_of, keys_in};
 
-use crate::ready::Keys;
-use crate::tags::{all_ready, begun, begun_about};
+use crate::index::{KeyIndex, Keys};
+use crate::macs::{mac_about, mac_under};
 use crate::verdict::secret_for;
 use cose_gate_core::{About, Judge, Log, MessageKind};
 use cose_hmac::{HmacSha256, same_tag};
@@ -28,31 +28,31 @@ pub struct HmacJudge<'a> {
 }
 
 impl<'a> HmacJudge<'a> {
-    /// A judge by the keys of this set. It hashes a key anew for each message.
+    /// A judge by the keys of this set. For each message it looks through them, and hashes a key anew.
     pub fn new(keys: &'a CoseKeySet) -> HmacJudge<'a>
         ensures { keys_of result ≡ key_set_view keys.now }
     {
         judge_by(Keys::Set(keys))
     }
 
-    /// A judge by the keys of this set that hashes each key once, for many messages. Where memory
-    /// for that is refused it is one that hashes a key anew for each.
+    /// A judge by the keys of this set that sorts them by their ids, and hashes each once, for many
+    /// messages. Where memory for that is refused it is what `new` gives.
     pub fn prepared(alloc: Global, keys: &'a CoseKeySet) -> HmacJudge<'a>
         ensures { keys_of result ≡ key_set_view keys.now }
     {
-        match all_ready(alloc, &keys.0) {
-            Some(all) => judge_by(Keys::Ready(all)),
+        match KeyIndex::new(alloc, keys) {
+            Some(index) => judge_by(Keys::Index(index)),
             None => judge_by(Keys::Set(keys)),
         }
     }
 
     /// The tag of a message, of no text yet.
-    fn begun_about(&self, about: &About) -> Option<HmacSha256>
+    fn fresh_mac(&self, about: &About) -> Option<HmacSha256>
         ensures { Makes result (spec.secret_about (keys_of self.now) (subject_of about.now)) [] }
     {
         match &self.keys {
-            Keys::Set(keys) => begun(secret_about(keys, about)),
-            Keys::Ready(all) => begun_about(all, about),
+            Keys::Set(keys) => mac_under(secret_about(keys, about)),
+            Keys::Index(index) => mac_about(index, about),
         }
     }
 }
@@ -123,7 +123,7 @@ impl Judge for HmacJudge<'_> {
         ensures pieces { OnOk result (self.new.pieces.items ≡ []) }
         ensures who { keys_of self.new ≡ keys_of self.old }
     {
-        self.mac = self.begun_about(about);
+        self.mac = self.fresh_mac(about);
         self.pieces = Log::new();
         Ok(())
     }

@@ -1,5 +1,5 @@
 //! The keys of a set.
-ghost use Rattle.std.specs.Prelude.{◌≡◌, option_map, option_copied, is_some};
+ghost use Rattle.std.specs.Prelude.{◌≡◌, option_map, option_copied, is_some, if◌then◌else◌, None};
 ghost use Rattle.std.specs.List.{find};
 ghost use Rattle.coset_keys.specs.View.{key_view, key_set_view};
 ghost use Rattle.cose_gate_hmac.specs.Keys as spec;
@@ -29,11 +29,28 @@ fn first_that_fits<'a>(keys: &'a [CoseKey], id: &[u8]) -> Option<&'a CoseKey>
 pub fn fits(key: &CoseKey, id: &[u8]) -> bool
     ensures { result ≡ spec.fits id.now (key_view key.now) }
 {
-    key.key_id.as_slice() == id
-        && is_symmetric(&key.kty)
+    key.key_id.as_slice() == id && serves(key)
+}
+
+/// Whether a key serves to verify tags of the messages that have its id.
+fn serves(key: &CoseKey) -> bool
+    ensures { result ≡ spec.serves (key_view key.now) }
+{
+    is_symmetric(&key.kty)
         && has_secret(key)
         && allows_hmac(&key.alg)
         && allows_verify(&key.key_ops)
+}
+
+/// The secret of a key that serves; none of another.
+pub(crate) fn serving_secret(key: &CoseKey) -> Option<&[u8]>
+    ensures { option_copied result
+        ≡ (if spec.serves (key_view key.now) then secret (key_view key.now) else None) }
+{
+    if !serves(key) {
+        return None;
+    }
+    secret_of(key)
 }
 
 fn has_secret(key: &CoseKey) -> bool

@@ -3,13 +3,14 @@
 //! as `gate_core`, and `CoseKeySet`.
 #![tactic(auto)]
 
+mod index;
 mod judge;
 mod keys;
+mod macs;
 mod messages;
 mod names;
-mod ready;
+mod prepared;
 mod secrets;
-mod tags;
 mod verdict;
 
 pub use crate::judge::HmacJudge;
