@@ -19,12 +19,11 @@ any_now k [] = refl
 any_now k (x ∷ xs) = ap (λ (b : Bool). bytes_eq x.now k || b) (any_now k xs)
 
 -- the answer by the keys, of the question that is held
-pub answers_by : (keys keys' : List (Bor (List ℕ))) (front covered signature : List ℕ) (s : Subject) (bytes : List ℕ) (r : Bool)
-    → keys ≡ keys' → front ≡ front_of s → covered ≡ bytes
+pub answers_by : (keys : List (Bor (List ℕ))) (front covered signature : List ℕ) (s : Subject) (bytes : List ℕ) (r : Bool)
+    → front ≡ front_of s → covered ≡ bytes
     → r ≡ list_any (λ key. bytes_eq key.now (key_by front covered signature)) keys
-    → r ≡ is_among (map (λ key. key.now) keys') (record { subject = s; covered = bytes; signature = signature })
-answers_by keys keys' front covered signature s bytes r e f c a =
+    → r ≡ is_among (map (λ key. key.now) keys) (record { subject = s; covered = bytes; signature = signature })
+answers_by keys front covered signature s bytes r f c a =
     a ∙ (any_now (key_by front covered signature) keys
-    ∙ (ap (λ (ks : List (Bor (List ℕ))). list_any (λ key. bytes_eq key (key_by front covered signature)) (map (λ key. key.now) ks)) e
-    ∙ (ap (λ (z : List ℕ). list_any (λ key. bytes_eq key (key_by z covered signature)) (map (λ key. key.now) keys')) f
-    ∙ ap (λ (z : List ℕ). list_any (λ key. bytes_eq key (key_by (front_of s) z signature)) (map (λ key. key.now) keys')) c)))
+    ∙ (ap (λ (z : List ℕ). list_any (λ key. bytes_eq key (key_by z covered signature)) (map (λ key. key.now) keys)) f
+    ∙ ap (λ (z : List ℕ). list_any (λ key. bytes_eq key (key_by (front_of s) z signature)) (map (λ key. key.now) keys)) c))

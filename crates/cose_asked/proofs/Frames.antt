@@ -1,12 +1,7 @@
 -- Framed bytes are split in one way.
-use Rattle.std.proofs.Common.{rules, ◌≡◌, ℕ, ◌<◌, ◌≤◌, ◌+◌, ◌^◌, List, [], ◌∷◌, ◌++◌, length, take, drop, get_or, flat_map, Bool, true, false, nat_eq, refl, sym, ap, ◌∙◌, arith, append_assoc, length-append}
-use Rattle.std.specs.Bool.{Decides}
+use Rattle.std.proofs.Common.{◌≡◌, ℕ, ◌<◌, ◌≤◌, ◌+◌, ◌^◌, List, [], ◌∷◌, ◌++◌, length, take, drop, get_or, flat_map, refl, sym, ap, ◌∙◌, arith, append_assoc, length-append}
 use Rattle.std.specs.Int.{w64, to_le_bytes, from_le_bytes}
-use Rattle.std.specs.Str.{bytes_eq}
-use Rattle.std.specs.Cmp.{unsigned_Decides}
-use Rattle.std.specs.Cmp.Lexicographic.{pointwise}
 use Rattle.std.proofs.lemmas.Nat.{le_bytes_8, from_le_bytes-to_le_bytes_8}
-use Rattle.std.proofs.lemmas.Slice.Eq.{slice_eq-Decides, bytes_eq-Decides}
 use Rattle.std.proofs.lemmas.List.{append_cancel_left, append-nil, take-append-drop}
 use Rattle.std.proofs.Math.Seq.{take-append_seam, drop-append_seam}
 use Rattle.cose_asked.specs.Framing.{eight, framed, key_by}
@@ -23,22 +18,6 @@ eight-back n h = from_le_bytes-to_le_bytes_8 n h
 pub eight_of : (bs : List ℕ) (n : ℕ) → length bs ≡ 8 → ((i : ℕ) → get_or bs i 0 < 256) → n ≡ from_le_bytes w64 bs → eight n ≡ bs
 unfolding eight
 eight_of bs n l b e = le_bytes_8 bs n l b e
-
--- what `==` of bytes says
-pub same_bytes : (xs ys : List ℕ) → Decides (pointwise nat_eq xs ys) (xs ≡ ys)
-same_bytes xs ys = slice_eq-Decides unsigned_Decides xs ys (pointwise nat_eq xs ys) refl
-
-pub front_is : (text front : List ℕ) → pointwise nat_eq (take (length front) text) front ≡ true → text ≡ front ++ drop (length front) text
-front_is text front h =
-    sym (take-append-drop (length front) text) ∙ ap (λ (z : List ℕ). z ++ drop (length front) text) ((same_bytes (take (length front) text) front).0 h)
-
-true_false : (b : Bool) → b ≡ true → b ≡ false → ⊥
-true_false b t f = search (rules, t, f)
-
-pub no_front : (text front rest : List ℕ) → pointwise nat_eq (take (length front) text) front ≡ false → text ≡ front ++ rest → ⊥
-no_front text front rest h e =
-    let same : take (length front) text ≡ front = ap (λ (z : List ℕ). take (length front) z) e ∙ take-append_seam front rest in
-    true_false (pointwise nat_eq (take (length front) text) front) ((same_bytes (take (length front) text) front).1 same) h
 
 -- two fronts of one length
 fronts : (p q x y : List ℕ) → length p ≡ length q → p ++ x ≡ q ++ y → p ≡ q
@@ -122,7 +101,7 @@ frame_is bytes head rest piece more n hd rs is lp tk dr =
     let h : eight (length piece) ≡ head = ap (λ (k : ℕ). eight k) lp ∙ is in
     sym all ∙ (ap (λ (z : List ℕ). head ++ z) (sym whole) ∙ (ap (λ (z : List ℕ). z ++ (piece ++ more)) (sym h) ∙ sym (append_assoc (eight (length piece)) piece more)))
 
--- the length of a key, and where a text is none
+-- the length of a key
 pub length-key : (front covered signature : List ℕ) → length (key_by front covered signature) ≡ 16 + (length front + length covered + length signature)
 length-key front covered signature =
     let a = length-append front (framed covered ++ framed signature) in
@@ -130,18 +109,6 @@ length-key front covered signature =
     let c = length-framed covered in
     let d = length-framed signature in
     omega (arith, a, b, c, d)
-
-pub no_covered : (key front rest covered signature : List ℕ) → key ≡ front ++ rest → ((r : List ℕ) → rest ≡ framed covered ++ r → ⊥)
-    → key ≡ key_by front covered signature → ⊥
-no_covered key front rest covered signature is none e =
-    none (framed signature) (append_cancel_left front rest (framed covered ++ framed signature) (sym is ∙ e))
-
-pub no_signature : (key front rest more covered signature : List ℕ) → key ≡ front ++ rest → rest ≡ framed covered ++ more
-    → ((r : List ℕ) → more ≡ framed signature ++ r → ⊥) → key ≡ key_by front covered signature → ⊥
-no_signature key front rest more covered signature is is1 none e =
-    let a : rest ≡ framed covered ++ framed signature = append_cancel_left front rest (framed covered ++ framed signature) (sym is ∙ e) in
-    let b : more ≡ framed signature = append_cancel_left (framed covered) more (framed signature) (sym is1 ∙ a) in
-    none [] (b ∙ sym (append-nil (framed signature)))
 
 -- what stands behind a frame is shorter
 pub shorter : (rest piece more : List ℕ) → rest ≡ framed piece ++ more → length more < length rest
@@ -174,32 +141,3 @@ same_numbered m n x y hm hn e =
 -- a key as a number and framed pieces
 pub assoc_six : (a b c d e f g h : List ℕ) → (a ++ (b ++ (c ++ (d ++ (e ++ f))))) ++ (g ++ h) ≡ a ++ (b ++ (c ++ (d ++ (e ++ (f ++ (g ++ (h ++ [])))))))
 assoc_six a b c d e f g h = simp (append_assoc, append-nil) refl
-
-not_true : (b : Bool) → (b ≡ true → ⊥) → b ≡ false
-not_true true none = elim (none refl) [ ]
-not_true false none = refl
-
--- what `==` answers of keys
-pub differs : (xs ys : List ℕ) → (xs ≡ ys → ⊥) → bytes_eq xs ys ≡ false
-differs xs ys none = not_true (bytes_eq xs ys) (λ t. none ((bytes_eq-Decides xs ys).0 t))
-
-pub equals : (xs ys : List ℕ) → xs ≡ ys → bytes_eq xs ys ≡ true
-equals xs ys e = (bytes_eq-Decides xs ys).1 e
-
--- whether a text is a key, where it begins with all that the key has
-pub ends_so : (b : Bool) (key front rest more last covered signature : List ℕ) → key ≡ front ++ rest → rest ≡ framed covered ++ more
-    → more ≡ framed signature ++ last → b ≡ nat_eq (length last) 0 → b ≡ bytes_eq key (key_by front covered signature)
-ends_so b key front rest more [] covered signature is is1 is2 e =
-    let same : key ≡ key_by front covered signature
-    = is ∙ (ap (λ (z : List ℕ). front ++ z) (is1 ∙ ap (λ (z : List ℕ). framed covered ++ z) (is2 ∙ append-nil (framed signature)))) in
-    e ∙ sym (equals key (key_by front covered signature) same)
-ends_so b key front rest more (x ∷ xs) covered signature is is1 is2 e =
-    let other : key ≡ key_by front covered signature → ⊥
-    = λ (s : key ≡ key_by front covered signature).
-    let a : rest ≡ framed covered ++ framed signature = append_cancel_left front rest (framed covered ++ framed signature) (sym is ∙ s) in
-    let c : more ≡ framed signature = append_cancel_left (framed covered) more (framed signature) (sym is1 ∙ a) in
-    let l : length (framed signature ++ (x ∷ xs)) ≡ length (framed signature) = ap (λ (z : List ℕ). length z) (sym is2 ∙ c) in
-    let k : length (framed signature ++ (x ∷ xs)) ≡ length (framed signature) + length (x ∷ xs) = length-append (framed signature) (x ∷ xs) in
-    omega (arith, l, k) in
-    let f : b ≡ false = grind (arith, e) in
-    f ∙ sym (differs key (key_by front covered signature) other)

@@ -1,3 +1,4 @@
 pub mod Asked
 pub mod Frames
 pub mod Keys
+pub mod Order

@@ -32,6 +32,6 @@ was_lost (Lost told) = true
 abbrev pub is_lost : Asker → Bool
 is_lost asker = was_lost asker.text
 
--- the keys that were accepted
+-- the keys that were accepted, as they were received
 abbrev pub keys_of : Accepted → List (List ℕ)
-keys_of accepted = map (λ key. key.now) accepted.keys.items
+keys_of accepted = map (λ key. key.now) accepted.keys.received.items

@@ -1,4 +1,5 @@
 pub mod Framing
 pub mod Growing
 pub mod Kept
+pub mod Order
 pub mod Records

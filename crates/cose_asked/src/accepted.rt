@@ -1,24 +1,24 @@
 //! A judge by the records of the questions that were accepted.
 ghost use Rattle.std.specs.Prelude.{◌≡◌, ◌++◌, ℕ, List, [], ◌∷◌, OnOk, OnErr, IfOk, MatchOption, flat_map, length};
-ghost use Rattle.std.specs.List.{list_any};
-ghost use Rattle.std.specs.Str.{bytes_eq};
 ghost use Rattle.cose_gate_core.specs.Lent.{subject_of};
 ghost use Rattle.cose_gate_core.specs.Questions.{Subject};
-ghost use Rattle.cose_asked.specs.Framing.{framed, key_by};
+ghost use Rattle.cose_asked.specs.Framing.{framed};
 ghost use Rattle.cose_asked.specs.Kept.{IsHeld, pieces_of, keys_of};
 ghost use Rattle.cose_asked.specs.Records.{is_among};
 
 use crate::framing::split;
 use crate::held::Held;
+use crate::ordered::Ordered;
 use cose_gate_core::{About, Judge};
 use std::alloc::{AllocError, Global};
 
-/// Says yes to the questions whose records were accepted, and no to any other. It takes no memory to answer.
+/// Says yes to the questions whose records were accepted, and no to any other. It takes no memory to answer. To be made takes it time as
+/// n log n of the records, and a question as log n.
 #[derive(Drop)]
 pub struct Accepted<'a> {
     alloc: Global,
     held: Held,
-    keys: Vec<&'a [u8]>,
+    keys: Ordered<'a>,
 }
 
 impl<'a> Accepted<'a> {
@@ -35,25 +35,11 @@ impl<'a> Accepted<'a> {
             Some(keys) => Ok(Some(Accepted {
                 alloc,
                 held: Held::new(alloc),
-                keys,
+                keys: Ordered::new(keys),
             })),
             None => Ok(None),
         }
     }
-}
-
-/// Whether the key of the question that is held, with this signature, is one of these.
-fn is_one_of(keys: &[&[u8]], held: &Held, signature: &[u8]) -> bool
-    ensures { result ≡ list_any
-        (λ key. bytes_eq key.now (key_by held.now.front.items held.now.covered.items signature.now))
-        keys.now }
-{
-    for key in keys {
-        if held.is_key(key, signature) {
-            return true;
-        }
-    }
-    false
 }
 
 impl<'a> Judge for Accepted<'a> {
@@ -82,6 +68,6 @@ impl<'a> Judge for Accepted<'a> {
     }
 
     fn decide(&mut self, signature: &[u8]) -> bool {
-        is_one_of(&self.keys, &self.held, signature)
+        self.keys.is_among(&self.held, signature)
     }
 }

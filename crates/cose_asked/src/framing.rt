@@ -1,8 +1,11 @@
 //! Bytes behind their length: eight bytes, the lowest first.
 ghost use Rattle.std.specs.Prelude.{◌≡◌, ◌++◌, ℕ, List, MatchOption, IfOk, OnOk, OnErr, map, flat_map};
+ghost use Rattle.std.specs.Ordering.{ordering_then};
 ghost use Rattle.cose_asked.specs.Framing.{eight, framed};
+ghost use Rattle.cose_asked.specs.Order.{bytes_cmp};
 
 use std::alloc::{AllocError, Global};
+use std::cmp::Ordering;
 
 /// The length in eight bytes.
 pub(crate) fn eight(length: usize) -> [u8; 8]
@@ -55,23 +58,23 @@ pub(crate) fn split(alloc: Global, bytes: &[u8]) -> Result<Option<Vec<&[u8]>>, A
     Ok(Some(pieces))
 }
 
-/// What stands behind these bytes, where the text begins with them.
-pub(crate) fn behind<'a>(text: &'a [u8], front: &[u8]) -> Option<&'a [u8]>
-    ensures { MatchOption result
-        ((rest : List ℕ) → text.now ≡ front.now ++ rest → ⊥)
-        (λ rest. text.now ≡ front.now ++ rest.now) }
+/// How the text stands to any text that begins with these bytes, where they tell; else what of it stands behind as many.
+pub(crate) fn order_to<'a>(text: &'a [u8], front: &[u8]) -> (Ordering, &'a [u8])
+    ensures { (more : List ℕ) → bytes_cmp text.now (front.now ++ more)
+        ≡ ordering_then result.0 (bytes_cmp result.1.now more) }
 {
-    let rest = text.strip_prefix(front)?;
-    Some(rest)
+    let (head, rest) = text.split_at(text.len().min(front.len()));
+    (head.cmp(&front), rest)
 }
 
-/// What stands behind the framed bytes, where the text begins with them.
-pub(crate) fn behind_framed<'a>(text: &'a [u8], piece: &[u8]) -> Option<&'a [u8]>
-    ensures { MatchOption result
-        ((rest : List ℕ) → text.now ≡ framed piece.now ++ rest → ⊥)
-        (λ rest. text.now ≡ framed piece.now ++ rest.now) }
+/// How the text stands to any text that begins with the framed bytes, where they tell; else what of it stands behind as many.
+pub(crate) fn order_to_framed<'a>(text: &'a [u8], piece: &[u8]) -> (Ordering, &'a [u8])
+    ensures { (more : List ℕ) → bytes_cmp text.now (framed piece.now ++ more)
+        ≡ ordering_then result.0 (bytes_cmp result.1.now more) }
 {
-    let text = behind(text, &eight(piece.len()))?;
-    let rest = behind(text, piece)?;
-    Some(rest)
+    let (order, rest) = order_to(text, &eight(piece.len()));
+    if order.is_ne() {
+        return (order, rest);
+    }
+    order_to(rest, piece)
 }

@@ -1,15 +1,16 @@
 //! A begun question.
 ghost use Rattle.std.specs.Prelude.{◌≡◌, ◌++◌, ℕ, List, [], ◌∷◌, IfOk, OnOk, OnErr, length};
-ghost use Rattle.std.specs.Str.{bytes_eq};
 ghost use Rattle.cose_gate_core.specs.Lent.{subject_of};
 ghost use Rattle.cose_gate_core.specs.Questions.{Subject};
 ghost use Rattle.cose_asked.specs.Framing.{key_by};
 ghost use Rattle.cose_asked.specs.Kept.{IsHeld, pieces_of};
+ghost use Rattle.cose_asked.specs.Order.{bytes_cmp};
 
-use crate::framing::{append, behind, behind_framed};
+use crate::framing::{append, order_to, order_to_framed};
 use crate::front::front_of;
 use cose_gate_core::{About, Log};
 use std::alloc::{AllocError, Global};
+use std::cmp::Ordering;
 
 /// What is held of a question: the front of its key, which says what it is about, and the covered bytes so far.
 #[derive(Drop)]
@@ -65,20 +66,20 @@ impl Held {
         Ok(key)
     }
 
-    /// Whether this is the key of the question with this signature.
-    pub(crate) fn is_key(&self, key: &[u8], signature: &[u8]) -> bool
-        ensures { result ≡ bytes_eq key.now
+    /// How this key stands to that of the question with this signature, which is not built.
+    pub(crate) fn order(&self, key: &[u8], signature: &[u8]) -> Ordering
+        ensures { result ≡ bytes_cmp key.now
             (key_by self.now.front.items self.now.covered.items signature.now) }
     {
-        let Some(rest) = behind(key, &self.front) else {
-            return false;
-        };
-        let Some(rest) = behind_framed(rest, &self.covered) else {
-            return false;
-        };
-        match behind_framed(rest, signature) {
-            Some(rest) => rest.is_empty(),
-            None => false,
+        let (order, rest) = order_to(key, &self.front);
+        if order.is_ne() {
+            return order;
         }
+        let (order, rest) = order_to_framed(rest, &self.covered);
+        if order.is_ne() {
+            return order;
+        }
+        let (order, rest) = order_to_framed(rest, signature);
+        order.then(rest.len().cmp(&0))
     }
 }

@@ -10,6 +10,7 @@ mod growing;
 mod held;
 pub mod laws;
 mod nowhere;
+mod ordered;
 mod text;
 
 pub use crate::accepted::Accepted;

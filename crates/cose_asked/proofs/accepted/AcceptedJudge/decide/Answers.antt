@@ -3,4 +3,4 @@ use Rattle.cose_asked.proofs.Asked.{answers_by}
 use Rattle.cose_asked.proofs.accepted.AcceptedJudge.decide.Goals as goal
 
 pub returns-clause-answer : goal.returns-clause-answer
-returns-clause-answer c = λ subject bytes held. answers_by _ _ _ _ _ subject bytes _ c.deref.ensures.value held.0 held.1 c.is_one_of.ensures
+returns-clause-answer c = λ subject bytes held. answers_by _ _ _ _ subject bytes _ held.0 held.1 c.is_among.ensures
