@@ -13,5 +13,5 @@ returns c =
     let found = c.binary_search_by in
     let there = found.ensures.position (λ p. bytes_cmp p.now key) (always_returns_same _ _ _ (λ a r g called. search rules)) in
     c.is_ok.ensures.value ∙ (found_by_halves self.places.items key found.result self.ordered
-    (subst (λ (z : List (Bor (List ℕ))). IsFound key z found.result) c.as_slice.ensures.value (found.ensures.bound, there))
+    (subst (λ (z : List (Bor (List ℕ))). IsFound key z found.result) c.as_slice-places.ensures.value (found.ensures.bound, there))
     ∙ sym (same_among self.received.items self.places.items key self.same))
