@@ -3,6 +3,7 @@
 # - Each line in a block of Rattle of a CALLING.md stands in the crate callers or in an example program.
 # - The signatures of a CALLING.md are those of the sources (scripts/signatures.py writes them).
 # - The scripts cose-gate and cose-show have the help of their programs.
+# - The clauses of the crate copied_clauses are those of the functions that it copies.
 cd "$(dirname "$0")/.." || exit 2
 lines=${TMPDIR:-/tmp}/quotes.$$
 trap 'rm -f "$lines"' EXIT
@@ -28,5 +29,12 @@ has_help() {
 }
 has_help cose-gate crates/cose_gate_cli/src/main.rt
 has_help cose-show crates/cose_display/src/words.rt
+
+# The clauses between a function's line and its body.
+clauses() {
+  awk -v name="fn $1(" 'index($0, name) { inside = 1; next } inside && /^ *[{]$/ { exit } inside' "$2" | sed 's/^ *//; s/one[.]now/self.now/g'
+}
+copied=$(clauses cmp_canonical crates/copied_clauses/src/labels.rt)
+[ -n "$copied" ] && [ "$copied" = "$(clauses cmp_canonical crates/coset_labels/src/label.rt)" ] || { echo "copied_clauses: cmp_canonical has other clauses than Label::cmp_canonical"; status=1; }
 
 exit $status

@@ -64,7 +64,7 @@ module _ (es all : List (Named × Tree)) (l v : Tree) (s : Splits name_of l v es
   entry_not : (e : CoseFault) (c : ClaimsFields) → WrongEntry es l v e → IsClaims all c → ⊥
   entry_not e c (bad_name _ w) a = let h : None ≡ Some s.key = sym (no_named _ is_private_use l e w) ∙ s.is in cc
   entry_not e c (name_again m q i) a = again_not name_of es all l v s d m q i
-  entry_not e c (bad_field m _ q w) a = value_not m e c q w a
+  entry_not e c (bad_field m _ q _ w) a = value_not m e c q w a
 
 pub claims_not : (t : Tree) (e : CoseFault) (c : ClaimsFields) → WrongClaims t e → HasClaims t c → ⊥
 claims_not t e c (no_map _ k) (ps, es, q, r, d, a) = let h : is_map t ≡ true = ap is_map q in let x : true ≡ false = sym h ∙ k in cc

@@ -26,8 +26,8 @@ claims_kind t e p = at_fault (WrongClaims t) unexpected e p.0 (no_map t p.1)
 pub entry_name : (es : List (Named × Tree)) (l v : Tree) (e : CoseError) → OrMemory (WrongName l) e → OrMemory (WrongEntry es l v) e
 entry_name es l v e w = passed_on (WrongName l) (WrongEntry es l v) e (λ x. bad_name (fault_of e) x) w
 
-pub entry_field : (es : List (Named × Tree)) (l v : Tree) (m : Named) (e : CoseError) → name_of l ≡ Some m → OrMemory (WrongField v m) e → OrMemory (WrongEntry es l v) e
-entry_field es l v m e q w = passed_on (WrongField v m) (WrongEntry es l v) e (λ x. bad_field m (fault_of e) q x) w
+pub entry_field : (es : List (Named × Tree)) (l v : Tree) (m : Named) (e : CoseError) → name_of l ≡ Some m → (IsIn m es → ⊥) → OrMemory (WrongField v m) e → OrMemory (WrongEntry es l v) e
+entry_field es l v m e q d w = passed_on (WrongField v m) (WrongEntry es l v) e (λ x. bad_field m (fault_of e) q d x) w
 
 pub known_filled : (es : List (Named × Tree)) (l v : Tree) (s r : SeenLabels ClaimName) (old new : ClaimsSet) (m : Named)
     → KnownIn es s old → name_of l ≡ Some m → (IsIn m es → ⊥) → ((v : Tree) → Sees r (es ++ (m, v) ∷ [])) → Fills m v (claims_view old) (claims_view new) → Added es l v r new

@@ -30,11 +30,11 @@ pub data WrongField (v : Tree) : Named → CoseFault → Type 0 where
   wrong_issued_at : (e : CoseFault) → WrongTime v e → WrongField v (assigned (pos 6)) e
   wrong_cwt_id : is_bytes v ≡ false → WrongField v (assigned (pos 7)) unexpected
 
--- the entry (l, v) behind the entries `es`
+-- the entry (l, v) after the entries `es`; of a name that comes again no other fault counts
 pub data WrongEntry (es : List (Named × Tree)) (l v : Tree) : CoseFault → Type 0 where
   bad_name : (e : CoseFault) → WrongName l e → WrongEntry es l v e
   name_again : (m : Named) → name_of l ≡ Some m → IsIn m es → WrongEntry es l v duplicate_key
-  bad_field : (m : Named) (e : CoseFault) → name_of l ≡ Some m → WrongField v m e → WrongEntry es l v e
+  bad_field : (m : Named) (e : CoseFault) → name_of l ≡ Some m → (IsIn m es → ⊥) → WrongField v m e → WrongEntry es l v e
 
 -- one of the entries has a fault, and those before it have names
 abbrev pub WrongEntries : Pairs → CoseFault → Type 0

@@ -97,7 +97,7 @@ module _ (es all : List (LabelFields × Tree)) (l v : Tree) (s : Splits label_of
 entry_not : (es : List (LabelFields × Tree)) (l v : Tree) (e : CoseFault) → WrongEntry es l v e → (all : List (LabelFields × Tree)) (k : KeyFields) → Splits label_of l v es all → Distinct all → AreFields all k → ⊥
 entry_not es l v e (bad_label w) all k s d a = let x : Some s.key ≡ None = sym s.is ∙ no_label l e w in cc
 entry_not es l v e (label_again m q i _) all k s d a = again_not label_of es all l v s d m q i
-entry_not es l v e (bad_value m q w) all k s d a = value_not es all l v s d m e k q w a
+entry_not es l v e (bad_value m q _ w) all k s d a = value_not es all l v s d m e k q w a
 
 untyped_not : (o : Option Tree) (n : Named) → IsField type_of reserved o reserved → IsField type_of reserved o n → n ≢ reserved → ⊥
 untyped_not None n a b d = d b

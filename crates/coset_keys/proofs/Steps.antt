@@ -20,7 +20,7 @@ use Rattle.coset_labels.specs.declared.error.CoseError.{CoseError}
 use Rattle.coset_labels.specs.declared.label.Label.{Label}
 use Rattle.coset_labels.specs.declared.seen_labels.SeenLabels.{SeenLabels}
 use Rattle.coset_headers.specs.Headers.{entries, at}
-use Rattle.coset_headers.specs.Parts.{Sees}
+use Rattle.coset_headers.specs.Parts.{SeesLabels}
 use Rattle.coset_keys.specs.Fields.{KeyFields, reserved}
 use Rattle.coset_keys.specs.Keys.{type_of, operation_of, operations_of, Rises, HasOperations, HasKey, HaveKeys}
 use Rattle.coset_keys.specs.Parts.{Fills, Known, KnownIn, Added, HasEntries}
@@ -80,11 +80,11 @@ value_ops v l e q w = passed_on (WrongOperations v) (WrongValue v l) e (λ x. wr
 pub entry_label : (es : List (LabelFields × Tree)) (l v : Tree) (e : CoseError) → OrMemory (WrongLabel l) e → OrMemory (WrongEntry es l v) e
 entry_label es l v e w = passed_on (WrongLabel l) (WrongEntry es l v) e (λ x. bad_label x) w
 
-pub entry_value : (es : List (LabelFields × Tree)) (l v : Tree) (m : LabelFields) (e : CoseError) → label_of l ≡ Some m → OrMemory (WrongValue v m) e → OrMemory (WrongEntry es l v) e
-entry_value es l v m e q w = passed_on (WrongValue v m) (WrongEntry es l v) e (λ x. bad_value m q x) w
+pub entry_value : (es : List (LabelFields × Tree)) (l v : Tree) (m : LabelFields) (e : CoseError) → label_of l ≡ Some m → (IsIn m es → ⊥) → OrMemory (WrongValue v m) e → OrMemory (WrongEntry es l v) e
+entry_value es l v m e q d w = passed_on (WrongValue v m) (WrongEntry es l v) e (λ x. bad_value m q d x) w
 
 pub entry_added : (es : List (LabelFields × Tree)) (l v : Tree) (s : SeenLabels Label) (old new : CoseKey) (m : LabelFields) → Known es (key_view old) → label_of l ≡ Some m → (IsIn m es → ⊥)
-    → ((v : Tree) → Sees s (es ++ (m, v) ∷ [])) → Fills m v (key_view old) (key_view new) → Added es l v s new
+    → ((v : Tree) → SeesLabels s (es ++ (m, v) ∷ [])) → Fills m v (key_view old) (key_view new) → Added es l v s new
 entry_added es l v s old new m w q d z f = record { key = m; is = q; known = record { sees = z v; known = known_more es (key_view old) (key_view new) m v w d f } }
 
 -- ---- the entries of a map

@@ -9,7 +9,7 @@ use Rattle.coset_labels.specs.Walks as walks
 use Rattle.coset_labels.specs.declared.label.Label.{Label}
 use Rattle.coset_labels.specs.declared.seen_labels.SeenLabels.{SeenLabels}
 use Rattle.coset_headers.specs.Headers.{alg_of}
-use Rattle.coset_headers.specs.Parts.{Sees}
+use Rattle.coset_headers.specs.Parts.{SeesLabels}
 use Rattle.coset_keys.specs.Fields.{KeyFields}
 use Rattle.coset_keys.specs.Keys.{is_own, type_of, HasOperations, AreFields}
 use Rattle.coset_keys.specs.View.{key_view}
@@ -31,11 +31,11 @@ pub record Known (es : List (LabelFields × Tree)) (k : KeyFields) : Type 0 wher
 
 -- and so are the labels that were seen
 abbrev pub KnownIn : List (LabelFields × Tree) → SeenLabels Label → CoseKey → Type 0
-KnownIn = walks.KnownIn Sees (λ fs k. Known fs (key_view k))
+KnownIn = walks.KnownIn SeesLabels (λ fs k. Known fs (key_view k))
 
 -- one more entry is read
 abbrev pub Added : List (LabelFields × Tree) → Tree → Tree → SeenLabels Label → CoseKey → Type 0
-Added = walks.Added label_of Sees (λ fs k. Known fs (key_view k))
+Added = walks.Added label_of SeesLabels (λ fs k. Known fs (key_view k))
 
 -- the fields of all entries of a map
 abbrev pub HasEntries : Pairs → KeyFields → Type 0

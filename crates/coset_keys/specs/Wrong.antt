@@ -33,11 +33,11 @@ pub data WrongValue (v : Tree) (l : LabelFields) (e : CoseFault) : Type 0 where
   wrong_key_ops : l ≡ number (pos 4) → WrongOperations v e → WrongValue v l e
   wrong_base_iv : l ≡ number (pos 5) → WrongBytes v e → WrongValue v l e
 
--- the entry (l, v) behind the entries `es`
+-- the entry (l, v) after the entries `es`; of a label that comes again no other fault counts
 pub data WrongEntry (es : List (LabelFields × Tree)) (l v : Tree) (e : CoseFault) : Type 0 where
   bad_label : WrongLabel l e → WrongEntry es l v e
   label_again : (m : LabelFields) → label_of l ≡ Some m → IsIn m es → e ≡ duplicate_key → WrongEntry es l v e
-  bad_value : (m : LabelFields) → label_of l ≡ Some m → WrongValue v m e → WrongEntry es l v e
+  bad_value : (m : LabelFields) → label_of l ≡ Some m → (IsIn m es → ⊥) → WrongValue v m e → WrongEntry es l v e
 
 -- one of the entries has a fault, and those before it have labels
 abbrev pub WrongEntries : Pairs → CoseFault → Type 0

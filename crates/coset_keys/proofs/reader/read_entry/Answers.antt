@@ -22,4 +22,4 @@ pub returns : goal.returns
 returns c =
     λ es w. let d = rw c.if-not-fresh.false at (c.in_ok-fresh.ensures es w.sees) in
     match_map c.fill.result _ _ _ _ (λ a s. entry_added es _ _ _ c.args.key.now _ _ w.known c.in_ok-label.ensures d.0 d.1 s)
-    (λ e x. entry_value es _ _ _ e c.in_ok-label.ensures x) c.fill.ensures
+    (λ e x. entry_value es _ _ _ e c.in_ok-label.ensures d.0 x) c.fill.ensures
