@@ -1,5 +1,5 @@
 -- How texts stand in order, piece by piece, and what a search by halves finds among texts in order.
-use Rattle.std.proofs.Common.{◌≡◌, ℕ, ◌<◌, ◌≤◌, List, [], ◌∷◌, ◌++◌, length, true, false, Result, Ok, Err, Ordering, Less, Equal, Greater, nat_cmp, is_eq, Bor, get_or, refl, sym, ap, ◌∙◌, ⊎_elim, arith, append_assoc, append-nil}
+use Rattle.std.proofs.Common.{◌≡◌, ℕ, ◌<◌, ◌≤◌, List, [], ◌∷◌, ◌++◌, length, Bool, true, false, Result, Ok, Err, Ordering, Less, Equal, Greater, nat_cmp, is_eq, Bor, get_or, refl, sym, ap, subst, ◌∙◌, ⊎_elim, arith, append_assoc, append-nil}
 use Rattle.std.specs.Ordering.{is_ne, ordering_then}
 use Rattle.std.specs.Result.{is_ok}
 use Rattle.std.specs.List.{list_any}

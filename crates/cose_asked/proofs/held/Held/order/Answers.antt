@@ -1,4 +1,4 @@
-use Rattle.std.proofs.Common.{List, ℕ, sym, subst, ◌∙◌}
+use Rattle.std.proofs.Common.{◌≡◌, List, ℕ, sym, subst, ◌∙◌}
 use Rattle.cose_asked.specs.Framing.{framed}
 use Rattle.cose_asked.proofs.Order.{TellsOf, told_by_signature}
 use Rattle.cose_asked.proofs.held.Held.order.Goals as goal

@@ -1,5 +1,6 @@
-use Rattle.std.proofs.Common.{List, ℕ, Bor, rules, sym, subst, ◌∙◌}
+use Rattle.std.proofs.Common.{◌≡◌, List, ℕ, Bor, rules, sym, subst, ◌∙◌}
 use Rattle.std.proofs.lemmas.Fn.{always_returns_same}
+use Rattle.std.specs.List.Sorted.{IsSorted, IsSearchInRange, IsBinarySearchResult}
 use Rattle.cose_asked.specs.Framing.{key_by}
 use Rattle.cose_asked.specs.Order.{bytes_cmp}
 use Rattle.cose_asked.proofs.Order.{IsFound, found_by_halves, same_among}
