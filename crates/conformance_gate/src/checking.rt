@@ -5,7 +5,8 @@ use crate::program::add_ended;
 use crate::words;
 use cose_gate::{Decoder, HmacJudge, Limits, Mem};
 
-/// Whether the message in front carries a good tag, read through four bytes, and how many bytes were taken.
+/// Whether the message in front carries a good tag, read through four bytes, and how many bytes
+/// were taken.
 pub fn is_tagged(to: &mut Out, row: &mut &str) {
     let keys = read_keys(to, row);
     let aad = words::bytes(to, row);

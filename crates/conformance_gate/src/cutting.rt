@@ -10,7 +10,8 @@ struct Call<'a> {
     behind: &'a str,
 }
 
-/// One answer to an input that is cut to each of these numbers of bytes, from the first to the last.
+/// One answer to an input that is cut to each of these numbers of bytes, from the first to the
+/// last.
 #[derive(Drop)]
 struct Stretch {
     first: usize,
@@ -18,8 +19,8 @@ struct Stretch {
     answer: Out,
 }
 
-/// What a call answers whose argument at this place is cut to each number of bytes, up to the whole: equal answers in a row are told once, and
-/// the others are parted by ` / `.
+/// What a call answers whose argument at this place is cut to each number of bytes, up to the
+/// whole: equal answers in a row are told once, and the others are parted by ` / `.
 pub fn answers(to: &mut Out, row: &mut &str) {
     let place = words::number(to, row);
     let call = parted(to, place, words::rest(row));

@@ -75,8 +75,8 @@ pub fn run_strict_within(to: &mut Out, row: &mut &str) {
     run_by(to, Way::StrictWithin(limits), row);
 }
 
-/// A run over this input with this external data, where the judge says no to the signature that may stand behind them: its questions, its
-/// output, what was noted of each item, and how it ended.
+/// A run over this input with this external data, where the judge says no to the signature that may
+/// stand behind them: its questions, its output, what was noted of each item, and how it ended.
 fn run_by(to: &mut Out, way: Way, row: &mut &str) {
     let input = words::bytes(to, row);
     let aad = words::bytes(to, row);
@@ -92,7 +92,8 @@ fn run_by(to: &mut Out, way: Way, row: &mut &str) {
     add_end(to, ended);
 }
 
-/// A run whose output has room for so many bytes, 64 at most, and whose report keeps nothing: its output, and how it ended.
+/// A run whose output has room for so many bytes, 64 at most, and whose report keeps nothing: its
+/// output, and how it ended.
 pub fn run_in_room(to: &mut Out, row: &mut &str) {
     let room = words::number(to, row);
     let input = words::bytes(to, row);
@@ -146,7 +147,8 @@ fn compare(to: &mut Out, once: &Trace, again: &Trace) {
     }
 }
 
-/// Appends the questions that were asked: the kind, the covered bytes, and the length and the first eight bytes of the signature or tag.
+/// Appends the questions that were asked: the kind, the covered bytes, and the length and the first
+/// eight bytes of the signature or tag.
 pub fn add_questions(to: &mut Out, asked: &[Asked]) {
     for question in asked {
         add_question(to, question);
@@ -177,7 +179,8 @@ fn add_entries(to: &mut Out, entries: &[Entry]) {
     }
 }
 
-/// Appends the number, the offset and the verdict, and what a refusal holds that its text doesn't show.
+/// Appends the number, the offset and the verdict, and what a refusal holds that its text doesn't
+/// show.
 fn add_entry(to: &mut Out, entry: Entry) {
     to.apart("; ");
     to.show(&entry.number);

@@ -43,7 +43,8 @@ pub fn read_keys(to: &mut Out, row: &mut &str) -> CoseKeySet {
     }
 }
 
-/// Whether a tag over the covered bytes of a COSE_Mac0 with these headers is good under one of these keys.
+/// Whether a tag over the covered bytes of a COSE_Mac0 with these headers is good under one of
+/// these keys.
 pub fn tag(to: &mut Out, row: &mut &str) {
     let keys = read_keys(to, row);
     let protected = read_protected(to, row);
@@ -89,7 +90,8 @@ pub fn prepared_judge(to: &mut Out, row: &mut &str) {
     add_answers(to, &mut judge, &case, words::rest(row));
 }
 
-/// The answers of one judge to questions about messages of these kinds with these tags, each a word as `Mac0:aa`.
+/// The answers of one judge to questions about messages of these kinds with these tags, each a word
+/// as `Mac0:aa`.
 fn add_answers(to: &mut Out, judge: &mut HmacJudge, case: &Case, asked: &str) {
     for word in asked.split(' ') {
         to.apart(" ");

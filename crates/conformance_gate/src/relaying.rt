@@ -8,7 +8,8 @@ use callers::relaying::relay;
 use callers::tally::Tally;
 use cose_gate::{Counts, End, GateFault};
 
-/// A relay that knows one key id: its output and counts or its fault, its tally, and the key ids that its judge was asked about.
+/// A relay that knows one key id: its output and counts or its fault, its tally, and the key ids
+/// that its judge was asked about.
 pub fn run(to: &mut Out, row: &mut &str) {
     let key_id = words::bytes(to, row);
     let input = words::bytes(to, row);
@@ -42,7 +43,8 @@ fn add_ids(to: &mut Out, ids: &[Vec<u8>]) {
     }
 }
 
-/// What a relay that knows one key id and lets no output through twice gives for each of these inputs.
+/// What a relay that knows one key id and lets no output through twice gives for each of these
+/// inputs.
 pub fn run_once(to: &mut Out, row: &mut &str) {
     let key_id = words::bytes(to, row);
     let known = [key_id.as_slice()];

@@ -4,7 +4,8 @@ use crate::words;
 use cose_display::{Cutter, Options, Stop, Words, read_words, show_as};
 use std::io::BufReader;
 
-/// What is shown of an input with these words of a command line: the status, the text with a `|` for each line feed, and why it ended early.
+/// What is shown of an input with these words of a command line: the status, the text with a `|`
+/// for each line feed, and why it ended early.
 pub fn show(to: &mut Out, row: &mut &str) {
     let input = words::bytes(to, row);
     let all = words::owned(to, row);
@@ -42,7 +43,8 @@ fn add_ended(to: &mut Out, text: &str, end: Result<(), Stop>) {
     }
 }
 
-/// The pieces of an input that comes in blocks, each but the last of this size at least, parted by spaces; and how it ended.
+/// The pieces of an input that comes in blocks, each but the last of this size at least, parted by
+/// spaces; and how it ended.
 pub fn pieces(to: &mut Out, row: &mut &str) {
     let size = words::number(to, row);
     let block = words::number(to, row);

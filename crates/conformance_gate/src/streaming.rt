@@ -79,8 +79,9 @@ pub fn check_within(to: &mut Out, row: &mut &str) {
     check_by(to, Some(limits), row);
 }
 
-/// A check, within limits where there are some, where the judge says no to the signature that may stand behind the other words: its
-/// answer, how many bytes were taken, the question, and the lengths of the pieces in which the covered bytes came; or its fault.
+/// A check, within limits where there are some, where the judge says no to the signature that may
+/// stand behind the other words: its answer, how many bytes were taken, the question, and the
+/// lengths of the pieces in which the covered bytes came; or its fault.
 fn check_by(to: &mut Out, limits: Option<Limits>, row: &mut &str) {
     let room = words::number(to, row);
     let input = words::bytes(to, row);

@@ -2,6 +2,7 @@
 //! out by hand. Here are headers.
 
 mod signatures;
+mod sinks;
 
 use crate::checks::{holds, owned, text, writes, written};
 use coset::cbor::value::{Integer, Value};
