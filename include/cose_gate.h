@@ -6,8 +6,8 @@
  * Memory: a call takes memory by malloc, realloc and free, and has given all of it back when it returns. Where it is refused, the last
  *   of the lines is `stopped: memory`, in place of the one that the run ended with.
  *   The three are those of one allocator, and malloc and realloc align to each power of two up to 16 that divides the size.
- * Stack: within the limits of the program cose_gate_check was seen to take up to 116 KB, and the other two up to 190 KB: 61 and 155 for
- *   256 levels of arrays or maps, the most where 16 layers of protected headers hold such maps. Wider limits take more (docs/TIMES.md, "Stack").
+ * Stack: with 256 levels and 16 layers each call was seen to take up to 179 KiB, on the worst message of each shape; with the widest limits,
+ *   4,096 and 64, up to 6,157 KiB. What Rattle's own compiler builds takes up to 3,530 KiB and more (docs/TIMES.md, "Stack").
  * Threads: any number of threads may call at once, each with buffers of its own. The library has no state, and starts no thread.
  * Signals and fork: not from a signal handler, and not in the forked child of a process with threads, as malloc isn't safe there.
  */

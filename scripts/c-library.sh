@@ -5,7 +5,7 @@
 #   compare               what each example answers against the program's answers, over examples/*.cbor; the library's shared object against
 #                         the program over the rows `run` of conformance_gate, and over 1,000 mutated sequences
 #   memory                the C test under ASan, under valgrind, and with each malloc refused in turn, over the worked examples and 1,000
-#                         mutated ones; stack, archive and time to link
+#                         mutated ones; archive and time to link
 #   all                   all of these (what stands where no word is given)
 # Status 1 where something differs. What it makes lies in crates/cose_gate_c/out; beside that `go` makes examples/go/lib, `rust`
 # examples/rust/Cargo.lock, `python` examples/python/__pycache__, and `compare` builds the program in its own out/.
@@ -152,7 +152,7 @@ if wants memory && has gcc; then
   fi
   gcc -std=c11 -O1 -g -fsanitize=address,undefined -fno-sanitize-recover=all -I "$top/include" "$test" "$archive" "$libc" -o "$made/memory_asan"
   "$made/memory_asan" "$keys" "${inputs[@]}"
-  gcc -std=c11 -O1 -g -DREFUSE -I "$top/include" "$test" "$archive" "$libc" -Wl,--wrap=malloc,--wrap=realloc,--wrap=free -pthread -o "$made/memory"
+  gcc -std=c11 -O1 -g -DREFUSE -I "$top/include" "$test" "$archive" "$libc" -Wl,--wrap=malloc,--wrap=realloc,--wrap=free -o "$made/memory"
   "$made/memory" "$keys" "${inputs[@]}"
   if has valgrind; then
     gcc -std=c11 -O1 -g -I "$top/include" "$test" "$archive" "$libc" -o "$made/memory_plain"

@@ -1,12 +1,10 @@
 /* c-memory.c: KEYS FILE..: the library under tools that watch memory, over each file: output room from none to more than is needed, with bytes
  * behind it that must stay as they are; and the questions, all of which are then accepted. With -DREFUSE each malloc and realloc is refused
- * in turn, over the first file, no block may be left, and the last line has to say it, behind whole lines of the run; and the stack is
- * measured. */
+ * in turn, over the first file, no block may be left, and the last line has to say it, after whole lines of the run. */
 #define _GNU_SOURCE
 #include "cose_gate.h"
 
 #include <assert.h>
-#include <pthread.h>
 #include <stdio.h>
 #include <stdlib.h>
 #include <string.h>
@@ -178,113 +176,6 @@ static void each_refused(int which, bytes given, bytes input) {
   printf("c-memory: %s: %ld mallocs, each refused in turn: %ld times stopped, as the last line says, %ld times all the same (a key that "
          "isn't prepared), no block left\n", names[which], all, memory, same);
 }
-
-/* An input that goes as deep as the limits allow. */
-static bytes deep;
-static int deep_call;
-static cose_gate_answer deep_answer;
-static char deep_line[256];
-static void *on_stack(void *unused) {
-  static uint8_t room[MOST];
-  (void)unused;
-  bytes out = {room, sizeof room}, lines = {(uint8_t *)deep_line, sizeof deep_line - 1};
-  bytes nothing = {keys.at, 0};
-  deep_answer = call(deep_call, deep_call == 2 ? nothing : keys, deep, out, lines);
-  return NULL;
-}
-
-static size_t stack_of(int which, const char *line) {
-  size_t room = 1 << 22;
-  uint8_t *stack = aligned_alloc(4096, room);
-  deep_call = which;
-  memset(stack, 0xa5, room);
-  memset(deep_line, 0, sizeof deep_line);
-  pthread_attr_t how;
-  pthread_t thread;
-  pthread_attr_init(&how);
-  assert(pthread_attr_setstack(&how, stack, room) == 0);
-  assert(pthread_create(&thread, &how, on_stack, NULL) == 0);
-  pthread_join(thread, NULL);
-  size_t left = 0;
-  while (left < room && stack[left] == 0xa5) left++;
-  assert(strncmp(deep_line, line, strlen(line)) == 0);
-  free(stack);
-  return room - left;
-}
-
-static void measure_stack(const char *what) {
-  size_t check = stack_of(0, "item 1 at 0: refused: Judged\n"), ask = stack_of(1, "item 1 at 0: passed\n"),
-         pass = stack_of(2, "item 1 at 0: refused: Judged\n");
-  printf("c-memory: %s take %zu bytes of stack in cose_gate_check, %zu in cose_gate_ask and %zu in cose_gate_pass, those of a thread's start "
-         "among them\n", what, check, ask, pass);
-}
-
-static uint8_t text[MOST];
-static size_t length;
-static void add(const uint8_t *bytes, size_t count) {
-  memcpy(text + length, bytes, count);
-  length += count;
-}
-static void add_byte(uint8_t byte) { add(&byte, 1); }
-
-/* So many levels, arrays or maps, round a 0. */
-static void add_levels(int levels, bool are_maps) {
-  for (int i = 0; i < levels; i++) {
-    add_byte(are_maps ? 0xa1 : 0x81);
-    if (are_maps) add_byte(0);
-  }
-  add_byte(0);
-}
-
-/* A byte string round what stands from `from` on. */
-static void enclose(size_t from) {
-  size_t count = length - from;
-  const uint8_t head[] = {0x5a, (uint8_t)(count >> 24), (uint8_t)(count >> 16), (uint8_t)(count >> 8), (uint8_t)count};
-  memmove(text + from + sizeof head, text + from, count);
-  memcpy(text + from, head, sizeof head);
-  length += sizeof head;
-}
-
-/* A header that holds maps, and a counter signature with such a protected header, and so on. */
-static void add_layers(int layers, int levels, bool is_protected) {
-  size_t from = length;
-  add_byte(layers > 1 ? 0xa2 : 0xa1);
-  if (layers > 1) {
-    add_byte(0x07);
-    add_byte(0x83);
-    add_layers(layers - 1, levels, true);
-    add_byte(0xa0);
-    add_byte(0x41);
-    add_byte(0x00);
-  }
-  add_byte(0x18);
-  add_byte(0x63);
-  add_levels(levels, true);
-  if (is_protected) enclose(from);
-}
-
-static void measure_stacks(void) {
-  for (int are_maps = 0; are_maps < 2; are_maps++) {
-    length = 0;
-    add((const uint8_t[]){0xd1, 0x84, 0x40, 0xa1, 0x18, 0x63}, 6);
-    add_levels(253, are_maps);
-    add((const uint8_t[]){0x40, 0x40}, 2);
-    deep = (bytes){text, length};
-    measure_stack(are_maps ? "256 levels, the inner ones maps," : "256 levels, the inner ones arrays,");
-  }
-  length = 0;
-  add((const uint8_t[]){0xd1, 0x84}, 2);
-  add_layers(16, 255, true);
-  add((const uint8_t[]){0xa0, 0x40, 0x40}, 3);
-  deep = (bytes){text, length};
-  measure_stack("16 layers of protected headers, each with 256 levels of maps,");
-  length = 0;
-  add((const uint8_t[]){0xd1, 0x84, 0x40}, 3);
-  add_layers(17, 253, false);
-  add((const uint8_t[]){0x40, 0x40}, 2);
-  deep = (bytes){text, length};
-  measure_stack("16 such layers in an unprotected header");
-}
 #endif
 
 int main(int count, char **words) {
@@ -304,7 +195,6 @@ int main(int count, char **words) {
   each_refused(0, keys, input);
   each_refused(1, keys, input);
   each_refused(2, records, input);
-  measure_stacks();
   free(input.at);
   free(lines.at);
   free(records.at);

@@ -10,7 +10,7 @@
 #include <stdlib.h>
 #include <string.h>
 
-enum { MOST = 1 << 20, STACK = 1 << 24 };
+enum { MOST = 1 << 24, STACK = 1 << 24 };
 
 typedef struct bytes {
   uint8_t at[MOST];
