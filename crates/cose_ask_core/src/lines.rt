@@ -26,7 +26,7 @@ pub fn write_lines<W: Write>(records: &[u8], out: &mut W) -> Result<(), W::Error
 /// The first record with its length, and the rest.
 fn first_record(records: &[u8]) -> Option<(&[u8], &[u8])> {
     let (_, rest) = split_first(records)?;
-    records.split_at_checked(records.len() - rest.len())
+    records.split_at_checked(records.len().checked_sub(rest.len())?)
 }
 
 /// Writes the line of a question.
