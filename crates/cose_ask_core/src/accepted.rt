@@ -110,3 +110,39 @@ fn read_record(alloc: Global, field: &[u8], line: u64) -> Result<Vec<u8>, NotRun
     }
     Ok(record)
 }
+
+#[cfg(test)]
+mod tests {
+    use super::*;
+
+    #[test]
+    fn files_that_are_not_records(rt: HostRuntime) {
+        let alloc = rt.alloc();
+        for (file, fault) in [
+            (b"00".as_slice(), NotRun::LineNoRecord(1)),
+            (b"\n \t\r\nSign1 - -".as_slice(), NotRun::LineNotHex(3)),
+            (b"\nSign1 0011 \n00".as_slice(), NotRun::LineNoRecord(2)),
+            (b"001\n".as_slice(), NotRun::LineNotHex(1)),
+        ] {
+            let mut bytes = Vec::new(alloc);
+            bytes.extend_from_slice(file).expect(&rt, "memory");
+            let read = read_accepted(alloc, bytes);
+            assert_eq!(rt; read.err(), Some(fault));
+        }
+    }
+
+    #[test]
+    fn files_without_lines(rt: HostRuntime) {
+        let alloc = rt.alloc();
+        for (file, count) in [
+            (b"".as_slice(), 0),
+            (b"\n\n \r\n".as_slice(), 0),
+            (b"\x02\0\0\0\0\0\0\0ab".as_slice(), 10),
+        ] {
+            let mut bytes = Vec::new(alloc);
+            bytes.extend_from_slice(file).expect(&rt, "memory");
+            let read = read_accepted(alloc, bytes).expect(&rt, "records");
+            assert_eq!(rt; read.len(), count);
+        }
+    }
+}

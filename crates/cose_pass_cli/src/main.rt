@@ -26,9 +26,10 @@ A message passes if each signature or MAC of it has its record in ACCEPTED.
 ACCEPTED: a file with records of cose-ask, run on the same input with the same
 AADHEX, in any order. If its eighth byte is 0 they are binary, one after another.
 Else it is text: the last field of each line is a record in hex, as cose-ask
---lines writes it; other fields and blank lines don't count. (The eighth byte of
-a record is the highest byte of its length, and always 0.) If it is empty
-nothing was accepted.
+--lines writes it; other fields and blank lines don't count. Each line accepts its
+record, so a check writes no line for a bad signature. (The eighth byte of a
+record is the highest byte of its length, and always 0.) An empty file accepts
+nothing.
 AADHEX: the external data in hex, empty if it is left out.
   --strict  refuse messages that are not in canonical encoding
 Standard error has a line for each item, and at the end how many passed and were
