@@ -12,7 +12,7 @@ ALG, CRIT, KID, ES256, EDDSA, SIGN1 = 1, 2, 4, -7, -8, 18
 
 
 def head(major, value):
-    """The head of an item in its shortest form (RFC 8949, section 3)."""
+    """The head of an item in canonical encoding (RFC 8949, section 4.2.1)."""
     if value < 24:
         return bytes([major << 5 | value])
     size = 1 if value < 2**8 else 2
