@@ -1,15 +1,23 @@
 #!/usr/bin/env bash
 # run.sh sh|py: makes keys and signed messages in a folder of its own, checks the signatures with es256.sh or es256.py, and compares what
-# passes with what should. ASK and PASS name other programs than cose-ask and cose-pass at the top.
+# passes with what should. ASK and PASS are other programs than cose-ask and cose-pass at the top, if they are set.
 set -u
 here=$(cd "$(dirname "$(readlink -f "${BASH_SOURCE[0]}")")" && pwd)
-ASK=${ASK:-$here/../../cose-ask}
-PASS=${PASS:-$here/../../cose-pass}
+top=$here/../..
 case ${1-} in
   sh) check=(bash "$here/es256.sh") ;;
   py) check=(python3 "$here/es256.py") ;;
   *) echo "usage: run.sh sh|py" >&2; exit 2 ;;
 esac
+# The programs are built first, so that what a build says is not among their lines.
+if [ -z "${ASK-}" ]; then
+  bash "$top/scripts/proved.sh" cose-ask cose_ask_cli || exit
+  ASK=$top/cose-ask
+fi
+if [ -z "${PASS-}" ]; then
+  bash "$top/scripts/proved.sh" cose-pass cose_pass_cli || exit
+  PASS=$top/cose-pass
+fi
 work=$(mktemp -d) || exit
 trap 'rm -rf "$work"' EXIT
 cd "$work" || exit
