@@ -1,6 +1,6 @@
 #!/usr/bin/env bash
-# scripts/install.sh PREFIX: puts the program cose-gate into PREFIX/bin and its manual page into PREFIX/share/man/man1. The program is
-# proved and built first where a source of it has changed; where that fails nothing is installed, and the status is 70.
+# scripts/install.sh PREFIX: puts the programs cose-gate, cose-ask and cose-pass into PREFIX/bin and the manual page of cose-gate into
+# PREFIX/share/man/man1. They are proved and built first if a source has changed; if that fails nothing is installed, and the status is 70.
 set -u
 top=$(cd "$(dirname "$(readlink -f "${BASH_SOURCE[0]}")")/.." && pwd)
 
@@ -10,12 +10,14 @@ if [ $# -ne 1 ] || [ -z "$1" ] || [ "${1#-}" != "$1" ]; then
 fi
 prefix=$1
 
-bash "$top/scripts/proved.sh" cose-gate cose_gate_cli
-status=$?
-if [ $status -ne 0 ]; then
-  echo "install.sh: the program is not proved, so nothing is installed" >&2
-  exit $status
-fi
+for name in gate ask pass; do
+  bash "$top/scripts/proved.sh" "cose-$name" "cose_${name}_cli"
+  status=$?
+  if [ $status -ne 0 ]; then
+    echo "install.sh: cose-$name is not proved, so nothing is installed" >&2
+    exit $status
+  fi
+done
 
 # Copies a file, with a mode, and says so.
 put() {
@@ -26,7 +28,9 @@ put() {
   echo "install.sh: wrote $3"
 }
 
-put 755 "$top/crates/cose_gate_cli/out/cose_gate_cli" "$prefix/bin/cose-gate"
+for name in gate ask pass; do
+  put 755 "$top/crates/cose_${name}_cli/out/cose_${name}_cli" "$prefix/bin/cose-$name"
+done
 put 644 "$top/docs/cose-gate.1" "$prefix/share/man/man1/cose-gate.1"
 case ":$PATH:" in
   *":$(cd "$prefix/bin" && pwd):"*) ;;

@@ -2,7 +2,7 @@
 # quotes.sh: says what the pages and the help quote otherwise than it stands. Status 1 where there is something.
 # - Each line in a block of Rattle of a CALLING.md stands in the crate callers or in an example program.
 # - The signatures of a CALLING.md are those of the sources (scripts/signatures.py writes them).
-# - The scripts cose-gate and cose-show have the help of their programs.
+# - The scripts cose-gate, cose-show, cose-ask and cose-pass have the help of their programs.
 # - The clauses of the crate copied_clauses are those of the functions that it copies.
 cd "$(dirname "$0")/.." || exit 2
 lines=${TMPDIR:-/tmp}/quotes.$$
@@ -29,6 +29,8 @@ has_help() {
 }
 has_help cose-gate crates/cose_gate_cli/src/main.rt
 has_help cose-show crates/cose_display/src/words.rt
+has_help cose-ask crates/cose_ask_cli/src/main.rt
+has_help cose-pass crates/cose_pass_cli/src/main.rt
 
 # The clauses between a function's line and its body.
 clauses() {
