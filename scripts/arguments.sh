@@ -1,0 +1,35 @@
+# arguments.sh: for the scripts cose-gate, cose-ask and cose-pass: what they find in arguments before a program is built. To be sourced, with
+# the top of the repository in $top.
+
+# The name of a program, the commit of the sources, and the kit.
+say_version() {
+  echo "$1 (commit $(git -C "$top" rev-parse --short HEAD 2> /dev/null || echo unknown), $(rt version 2> /dev/null || echo 'no kit in PATH'))"
+}
+
+# Whether an argument is an option, and no file.
+is_option() {
+  [ "${1#-}" != "$1" ] && ! [ -e "$1" ]
+}
+
+# Ends with status 3 if a file can't be read: the program's own line NAME, and then why.
+needs_file() {
+  local why
+  if ! [ -e "$2" ]; then
+    why="no such file"
+  elif [ -d "$2" ]; then
+    why="a folder"
+  elif ! [ -r "$2" ]; then
+    why="no permission"
+  else
+    return 0
+  fi
+  printf '%s: cannot be read\n  %s: %s\n' "$1" "$2" "$why" >&2
+  exit 3
+}
+
+# Ends with status 2 and the program's own line if this isn't bytes in hex.
+needs_hex() {
+  [[ $1 =~ ^([0-9a-fA-F][0-9a-fA-F])*$ ]] && return
+  echo "aad: not hex" >&2
+  exit 2
+}
