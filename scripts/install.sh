@@ -1,5 +1,5 @@
 #!/usr/bin/env bash
-# scripts/install.sh PREFIX: puts the programs cose-gate, cose-ask and cose-pass into PREFIX/bin and the manual page of cose-gate into
+# scripts/install.sh PREFIX: puts the programs cose-gate, cose-ask and cose-pass into PREFIX/bin and their manual pages into
 # PREFIX/share/man/man1. They are proved and built first if a source has changed; if that fails nothing is installed, and the status is 70.
 set -u
 top=$(cd "$(dirname "$(readlink -f "${BASH_SOURCE[0]}")")/.." && pwd)
@@ -30,8 +30,8 @@ put() {
 
 for name in gate ask pass; do
   put 755 "$top/crates/cose_${name}_cli/out/cose_${name}_cli" "$prefix/bin/cose-$name"
+  put 644 "$top/docs/cose-$name.1" "$prefix/share/man/man1/cose-$name.1"
 done
-put 644 "$top/docs/cose-gate.1" "$prefix/share/man/man1/cose-gate.1"
 case ":$PATH:" in
   *":$(cd "$prefix/bin" && pwd):"*) ;;
   *) echo "install.sh: $prefix/bin is not in PATH" ;;
