@@ -1,0 +1,59 @@
+#!/usr/bin/env bash
+# scripts/package.sh FOLDER: makes cose-gate_VERSION_amd64.deb and cose-gate_VERSION_amd64.tar.gz in FOLDER: the programs cose-gate, cose-ask
+# and cose-pass as they were proved and built, their manual pages, LICENSE and NOTICE. They are proved and built first if a source has changed; if
+# that fails nothing is made, and the status is 70. VERSION is the day of the last commit. The same commit gives the same bytes.
+set -eu
+top=$(cd "$(dirname "$(readlink -f "${BASH_SOURCE[0]}")")/.." && pwd)
+if [ $# -ne 1 ] || [ -z "$1" ] || [ "${1#-}" != "$1" ]; then
+  echo "usage: scripts/package.sh FOLDER" >&2
+  exit 2
+fi
+mkdir -p "$1"
+folder=$(cd "$1" && pwd)
+
+for name in gate ask pass; do
+  bash "$top/scripts/proved.sh" "cose-$name" "cose_${name}_cli" || exit
+done
+
+time=$(git -C "$top" log -1 --format=%ct)
+version=$(date -u -d "@$time" +%Y.%m.%d)
+name=cose-gate_${version}_amd64
+tree=$(mktemp -d)
+trap 'rm -rf "$tree"' EXIT
+chmod 755 "$tree"
+put() {
+  install -D -m "$1" "$2" "$tree/$name/$3"
+}
+for program in gate ask pass; do
+  put 755 "$top/crates/cose_${program}_cli/out/cose_${program}_cli" "usr/bin/cose-$program"
+  mkdir -p "$tree/$name/usr/share/man/man1"
+  gzip -9 -n < "$top/docs/cose-$program.1" > "$tree/$name/usr/share/man/man1/cose-$program.1.gz"
+done
+put 644 "$top/LICENSE" usr/share/doc/cose-gate/copyright
+put 644 "$top/NOTICE" usr/share/doc/cose-gate/NOTICE
+find "$tree/$name" -type d -exec chmod 755 {} +
+find "$tree/$name/usr/share" -type f -exec chmod 644 {} +
+
+tar -C "$tree/$name" --sort=name --mtime="@$time" --owner=0 --group=0 --numeric-owner -cf - usr | gzip -9 -n > "$folder/$name.tar.gz"
+echo "package.sh: wrote $folder/$name.tar.gz"
+
+if command -v dpkg-deb > /dev/null; then
+  mkdir "$tree/$name/DEBIAN"
+  cat > "$tree/$name/DEBIAN/control" <<CONTROL
+Package: cose-gate
+Version: $version
+Architecture: amd64
+Maintainer: Pitchhour maintainers <pitchhour@localhost>
+Depends: libc6
+Section: utils
+Priority: optional
+Description: let through the COSE messages of a CBOR sequence that are good
+ cose-gate checks the HMAC of each COSE_Mac0; cose-ask and cose-pass let any
+ program check signatures. The library that they run is proved for every input.
+CONTROL
+  find "$tree/$name" -exec touch -h -d "@$time" {} +
+  SOURCE_DATE_EPOCH=$time dpkg-deb --root-owner-group -Zxz --build "$tree/$name" "$folder/$name.deb" > /dev/null
+  echo "package.sh: wrote $folder/$name.deb"
+else
+  echo "package.sh: no dpkg-deb here, so no .deb is made" >&2
+fi
