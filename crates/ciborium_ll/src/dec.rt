@@ -77,13 +77,9 @@ impl<R: Read> Decoder<R> {
         if usize::MAX - self.read < data.len() {
             return Err(Error::TooLong);
         }
-        match self.reader.read_exact(data) {
-            Ok(()) => {
-                self.read += data.len();
-                Ok(())
-            }
-            Err(e) => Err(Error::Io(e)),
-        }
+        self.reader.read_exact(data).map_err(Error::Io)?;
+        self.read += data.len();
+        Ok(())
     }
 
     fn number(&mut self, info: u8) -> Result<u64, Error<R::Error>>
