@@ -36,6 +36,7 @@ pub fn answer(to: &mut Out, row: &str) {
 fn of_one(to: &mut Out, call: &str, argument: &str) {
     match call {
         "entries" => registries::entry(to, argument, None),
+        "cast" => registries::cast(to, argument),
         "kinds" => values::kinds(to, argument),
         "accessors" => accessors::accessors(to, argument),
         _ => {

@@ -63,6 +63,43 @@ fn tell_entry<T: EnumI64 + Debug>(to: &mut Out, number: i64) {
     }
 }
 
+/// An entry, and the number that `as` makes of it.
+macro_rules! tell_cast {
+    ($to:expr, $entry:expr) => {
+        told_cast($to, &$entry, $entry as i64)
+    };
+}
+
+/// One entry of the registry, and the number that `as` makes of it.
+pub fn cast(to: &mut Out, registry: &str) {
+    match registry {
+        "header-parameter" => tell_cast!(to, HeaderParameter::CounterSignature0),
+        "header-algorithm-parameter" => tell_cast!(to, HeaderAlgorithmParameter::StaticKeyId),
+        "algorithm" => tell_cast!(to, Algorithm::A128GCM),
+        "key-parameter" => tell_cast!(to, KeyParameter::BaseIv),
+        "okp" => tell_cast!(to, OkpKeyParameter::D),
+        "ec2" => tell_cast!(to, Ec2KeyParameter::Y),
+        "rsa" => tell_cast!(to, RsaKeyParameter::QInv),
+        "symmetric" => tell_cast!(to, SymmetricKeyParameter::K),
+        "hss-lms" => tell_cast!(to, HssLmsKeyParameter::Pub),
+        "akp" => tell_cast!(to, AkpKeyParameter::Pub),
+        "walnut-dsa" => tell_cast!(to, WalnutDsaKeyParameter::N),
+        "key-type" => tell_cast!(to, KeyType::AKP),
+        "curve" => tell_cast!(to, EllipticCurve::BrainpoolP256R1),
+        "key-operation" => tell_cast!(to, KeyOperation::MacVerify),
+        "tag" => tell_cast!(to, CborTag::CoseSign),
+        "content-format" => tell_cast!(to, CoapContentFormat::Cbor),
+        "claim" => tell_cast!(to, CwtClaimName::PsaClientId),
+        _ => to.refuse(CallError::NoCall),
+    }
+}
+
+fn told_cast<T: Debug>(to: &mut Out, entry: &T, number: i64) {
+    to.debug(entry);
+    to.text(" ");
+    to.show(&number);
+}
+
 /// Whether the number is for private use, and the bound that such numbers lie below.
 pub fn private(to: &mut Out, registry: &str, word: &str) {
     let n = to.number(word);

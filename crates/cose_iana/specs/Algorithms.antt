@@ -10,7 +10,7 @@ use Rattle.cose_iana.specs.Table.{registry, InOrder, in_order, not_below}
 unfoldable pub algorithms : Registry Algorithm
 algorithms = registry algorithms_enum tt ALGORITHMS.now refl
 
-pub algorithms_in_order : InOrder algorithms_enum algorithms
+pub algorithms_in_order : InOrder algorithms_enum ALGORITHMS.now algorithms
 unfolding algorithms
 algorithms_in_order = in_order algorithms_enum tt ALGORITHMS.now refl
 

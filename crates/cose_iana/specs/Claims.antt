@@ -10,7 +10,7 @@ use Rattle.cose_iana.specs.Table.{registry, InOrder, in_order, not_below}
 unfoldable pub cwt_claim_names : Registry CwtClaimName
 cwt_claim_names = registry cwt_claim_names_enum tt CWT_CLAIM_NAMES.now refl
 
-pub cwt_claim_names_in_order : InOrder cwt_claim_names_enum cwt_claim_names
+pub cwt_claim_names_in_order : InOrder cwt_claim_names_enum CWT_CLAIM_NAMES.now cwt_claim_names
 unfolding cwt_claim_names
 cwt_claim_names_in_order = in_order cwt_claim_names_enum tt CWT_CLAIM_NAMES.now refl
 

@@ -10,6 +10,6 @@ use Rattle.cose_iana.specs.Table.{registry, InOrder, in_order}
 unfoldable pub coap_content_formats : Registry CoapContentFormat
 coap_content_formats = registry coap_content_formats_enum tt COAP_CONTENT_FORMATS.now refl
 
-pub coap_content_formats_in_order : InOrder coap_content_formats_enum coap_content_formats
+pub coap_content_formats_in_order : InOrder coap_content_formats_enum COAP_CONTENT_FORMATS.now coap_content_formats
 unfolding coap_content_formats
 coap_content_formats_in_order = in_order coap_content_formats_enum tt COAP_CONTENT_FORMATS.now refl

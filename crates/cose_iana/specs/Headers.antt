@@ -12,7 +12,7 @@ use Rattle.cose_iana.specs.Table.{registry, InOrder, in_order, not_below}
 unfoldable pub header_parameters : Registry HeaderParameter
 header_parameters = registry header_parameters_enum tt HEADER_PARAMETERS.now refl
 
-pub header_parameters_in_order : InOrder header_parameters_enum header_parameters
+pub header_parameters_in_order : InOrder header_parameters_enum HEADER_PARAMETERS.now header_parameters
 unfolding header_parameters
 header_parameters_in_order = in_order header_parameters_enum tt HEADER_PARAMETERS.now refl
 
@@ -24,6 +24,6 @@ header_parameters_not_private = not_below (negsuc 65535) HEADER_PARAMETERS.now r
 unfoldable pub header_algorithm_parameters : Registry HeaderAlgorithmParameter
 header_algorithm_parameters = registry header_algorithm_parameters_enum tt HEADER_ALGORITHM_PARAMETERS.now refl
 
-pub header_algorithm_parameters_in_order : InOrder header_algorithm_parameters_enum header_algorithm_parameters
+pub header_algorithm_parameters_in_order : InOrder header_algorithm_parameters_enum HEADER_ALGORITHM_PARAMETERS.now header_algorithm_parameters
 unfolding header_algorithm_parameters
 header_algorithm_parameters_in_order = in_order header_algorithm_parameters_enum tt HEADER_ALGORITHM_PARAMETERS.now refl

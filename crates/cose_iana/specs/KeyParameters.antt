@@ -26,7 +26,7 @@ use Rattle.cose_iana.specs.Table.{registry, InOrder, in_order}
 unfoldable pub okp_key_parameters : Registry OkpKeyParameter
 okp_key_parameters = registry okp_key_parameters_enum tt OKP_KEY_PARAMETERS.now refl
 
-pub okp_key_parameters_in_order : InOrder okp_key_parameters_enum okp_key_parameters
+pub okp_key_parameters_in_order : InOrder okp_key_parameters_enum OKP_KEY_PARAMETERS.now okp_key_parameters
 unfolding okp_key_parameters
 okp_key_parameters_in_order = in_order okp_key_parameters_enum tt OKP_KEY_PARAMETERS.now refl
 
@@ -34,7 +34,7 @@ okp_key_parameters_in_order = in_order okp_key_parameters_enum tt OKP_KEY_PARAME
 unfoldable pub ec2_key_parameters : Registry Ec2KeyParameter
 ec2_key_parameters = registry ec2_key_parameters_enum tt EC2_KEY_PARAMETERS.now refl
 
-pub ec2_key_parameters_in_order : InOrder ec2_key_parameters_enum ec2_key_parameters
+pub ec2_key_parameters_in_order : InOrder ec2_key_parameters_enum EC2_KEY_PARAMETERS.now ec2_key_parameters
 unfolding ec2_key_parameters
 ec2_key_parameters_in_order = in_order ec2_key_parameters_enum tt EC2_KEY_PARAMETERS.now refl
 
@@ -42,7 +42,7 @@ ec2_key_parameters_in_order = in_order ec2_key_parameters_enum tt EC2_KEY_PARAME
 unfoldable pub rsa_key_parameters : Registry RsaKeyParameter
 rsa_key_parameters = registry rsa_key_parameters_enum tt RSA_KEY_PARAMETERS.now refl
 
-pub rsa_key_parameters_in_order : InOrder rsa_key_parameters_enum rsa_key_parameters
+pub rsa_key_parameters_in_order : InOrder rsa_key_parameters_enum RSA_KEY_PARAMETERS.now rsa_key_parameters
 unfolding rsa_key_parameters
 rsa_key_parameters_in_order = in_order rsa_key_parameters_enum tt RSA_KEY_PARAMETERS.now refl
 
@@ -68,7 +68,7 @@ hss_lms_key_parameters_in_order hss_lms_key_parameters_entry.Pub hss_lms_key_par
 unfoldable pub walnut_dsa_key_parameters : Registry WalnutDsaKeyParameter
 walnut_dsa_key_parameters = registry walnut_dsa_key_parameters_enum tt WALNUT_DSA_KEY_PARAMETERS.now refl
 
-pub walnut_dsa_key_parameters_in_order : InOrder walnut_dsa_key_parameters_enum walnut_dsa_key_parameters
+pub walnut_dsa_key_parameters_in_order : InOrder walnut_dsa_key_parameters_enum WALNUT_DSA_KEY_PARAMETERS.now walnut_dsa_key_parameters
 unfolding walnut_dsa_key_parameters
 walnut_dsa_key_parameters_in_order = in_order walnut_dsa_key_parameters_enum tt WALNUT_DSA_KEY_PARAMETERS.now refl
 
@@ -76,6 +76,6 @@ walnut_dsa_key_parameters_in_order = in_order walnut_dsa_key_parameters_enum tt 
 unfoldable pub akp_key_parameters : Registry AkpKeyParameter
 akp_key_parameters = registry akp_key_parameters_enum tt AKP_KEY_PARAMETERS.now refl
 
-pub akp_key_parameters_in_order : InOrder akp_key_parameters_enum akp_key_parameters
+pub akp_key_parameters_in_order : InOrder akp_key_parameters_enum AKP_KEY_PARAMETERS.now akp_key_parameters
 unfolding akp_key_parameters
 akp_key_parameters_in_order = in_order akp_key_parameters_enum tt AKP_KEY_PARAMETERS.now refl

@@ -16,7 +16,7 @@ use Rattle.cose_iana.specs.Table.{registry, InOrder, in_order, not_below}
 unfoldable pub key_parameters : Registry KeyParameter
 key_parameters = registry key_parameters_enum tt KEY_PARAMETERS.now refl
 
-pub key_parameters_in_order : InOrder key_parameters_enum key_parameters
+pub key_parameters_in_order : InOrder key_parameters_enum KEY_PARAMETERS.now key_parameters
 unfolding key_parameters
 key_parameters_in_order = in_order key_parameters_enum tt KEY_PARAMETERS.now refl
 
@@ -24,7 +24,7 @@ key_parameters_in_order = in_order key_parameters_enum tt KEY_PARAMETERS.now ref
 unfoldable pub key_types : Registry KeyType
 key_types = registry key_types_enum tt KEY_TYPES.now refl
 
-pub key_types_in_order : InOrder key_types_enum key_types
+pub key_types_in_order : InOrder key_types_enum KEY_TYPES.now key_types
 unfolding key_types
 key_types_in_order = in_order key_types_enum tt KEY_TYPES.now refl
 
@@ -32,7 +32,7 @@ key_types_in_order = in_order key_types_enum tt KEY_TYPES.now refl
 unfoldable pub elliptic_curves : Registry EllipticCurve
 elliptic_curves = registry elliptic_curves_enum tt ELLIPTIC_CURVES.now refl
 
-pub elliptic_curves_in_order : InOrder elliptic_curves_enum elliptic_curves
+pub elliptic_curves_in_order : InOrder elliptic_curves_enum ELLIPTIC_CURVES.now elliptic_curves
 unfolding elliptic_curves
 elliptic_curves_in_order = in_order elliptic_curves_enum tt ELLIPTIC_CURVES.now refl
 
@@ -44,6 +44,6 @@ elliptic_curves_not_private = not_below (negsuc 65535) ELLIPTIC_CURVES.now refl
 unfoldable pub key_operations : Registry KeyOperation
 key_operations = registry key_operations_enum tt KEY_OPERATIONS.now refl
 
-pub key_operations_in_order : InOrder key_operations_enum key_operations
+pub key_operations_in_order : InOrder key_operations_enum KEY_OPERATIONS.now key_operations
 unfolding key_operations
 key_operations_in_order = in_order key_operations_enum tt KEY_OPERATIONS.now refl

@@ -3,15 +3,12 @@ use Rattle.std.proofs.Common.{◌≡◌, ℕ, zero, suc, ◌+◌, ◌<◌, ◌�
 use Rattle.std.specs.List.{list_any, find}
 use Rattle.std.specs.Prelude.{int_lt}
 use Rattle.std.specs.Ordering.{int_eq, int_cmp, is_eq}
-use Rattle.std.specs.declared.cmp.Ordering.{Ordering}
 use Rattle.std.specs.declared.cmp.Ordering.TheVariants.{Less, Equal, Greater}
 use Rattle.std.proofs.lemmas.Bool.{and_parts, cases_Bool, true≢false, eqb-true, eq-eqb, ne_eqb}
 use Rattle.std.proofs.lemmas.Bool.Decides.{Decides-int_eq}
 use Rattle.std.proofs.lemmas.Int.{ints}
-use denote.Struct.Field.{Field}
-use denote.Enum.Enum.{tag, tag_below}
-use denote.Enum.Declared.{Record, Declared, Choice, declared, rowss, intoss, variants, tag_of}
-use denote.Enum.Compared.{Each, by}
+use denote.Enum.Enum.{tag_below}
+use denote.Enum.Declared.{Record, Declared, declared, variants, tag_of}
 use denote.Enum.Bare.{Bare, sameb, tag_one}
 use Rattle.cose_iana.specs.Registry.{number_of, has_number, entry_of, Registry}
 
@@ -92,47 +89,9 @@ above z (row ∷ rows) (suc j) r l =
     let up = and_parts (int_lt z row.0) (rises row.0 rows) r in
     lt_through z row.0 (get_or (numbers_of rows) j (pos 0)) up.0 (above row.0 rows j up.1 (omega arith))
 
-cmp_less : (a b : ℤ) → int_lt a b ≡ true → int_cmp a b ≡ Less
-cmp_less a b h = ap (λ s. cond s Less (cond (int_lt b a) Greater Equal)) h
-
-cmp_greater : (a b : ℤ) → int_lt a b ≡ true → int_cmp b a ≡ Greater
-cmp_greater a b h =
-    let n : int_lt b a ≡ false = grind (arith, ints) in
-    ap (λ s. cond s Less (cond (int_lt a b) Greater Equal)) n ∙ ap (λ s. cond s Greater Equal) h
-
-cmp_same : (a : ℤ) → int_cmp a a ≡ Equal
-cmp_same a =
-    let n : int_lt a a ≡ false = grind (arith, ints) in
-    ap (λ s. cond s Less (cond s Greater Equal)) n
-
--- two entries of one name are equal
-abbrev pub same_entry : (Fss : List (List Field)) → Each Ordering Fss
-same_entry [] = tt
-same_entry (Fs ∷ Fss) = (λ x y. Equal, same_entry Fss)
-
--- which of the names of an enum comes first
-abbrev pub by_place : (Fss : List (List Field)) → Choice Fss → Choice Fss → Ordering
-by_place Fss = by Less Greater Fss (same_entry Fss)
-
-abbrev place : (Fss : List (List Field)) → Choice Fss → ℕ
-place Fss c = tag (rowss Fss) (intoss Fss c)
-
--- where the numbers rise, the order of the names is that of their numbers
-by_number : {E : Type 0} (Fss : List (List Field)) (table : List (ℤ × E)) → length table ≡ length (rowss Fss) → rising table ≡ true → (c d : Choice Fss) → by_place Fss c d ≡ int_cmp (get_or (numbers_of table) (place Fss c) (pos 0)) (get_or (numbers_of table) (place Fss d) (pos 0))
-by_number [] table l r c d = absurd c
-by_number (Fs ∷ Fss) [] l r c d = absurd (omega (arith, l))
-by_number (Fs ∷ Fss) (row ∷ rows) l r (inl x) (inl y) = sym (cmp_same row.0)
-by_number (Fs ∷ Fss) (row ∷ rows) l r (inl x) (inr y) =
-    let b : place Fss y < length (rowss Fss) = tag_below (rowss Fss) (intoss Fss y) in
-    sym (cmp_less row.0 (get_or (numbers_of rows) (place Fss y) (pos 0)) (above row.0 rows (place Fss y) r (omega arith)))
-by_number (Fs ∷ Fss) (row ∷ rows) l r (inr x) (inl y) =
-    let b : place Fss x < length (rowss Fss) = tag_below (rowss Fss) (intoss Fss x) in
-    sym (cmp_greater row.0 (get_or (numbers_of rows) (place Fss x) (pos 0)) (above row.0 rows (place Fss x) r (omega arith)))
-by_number (Fs ∷ Fss) (row ∷ rows) l r (inr x) (inr y) = by_number Fss rows (omega arith) (rises_rising row.0 rows r) x y
-
--- an enum's own order is that of the registry's numbers
-abbrev pub InOrder : (N : Record) → Registry N.D → Type 0
-InOrder N r = (x y : N.D) → by_place N.parts (N.as_values x) (N.as_values y) ≡ int_cmp (r.number x) (r.number y)
+-- an enum orders its entries by the numbers that it gives them, as its rows have them, and so does the registry
+abbrev pub InOrder : (N : Record) → List (ℤ × N.D) → Registry N.D → Type 0
+InOrder N table r = (x y : N.D) → int_cmp (get_or (numbers_of table) (tag_of (declared N) x) (pos 0)) (get_or (numbers_of table) (tag_of (declared N) y) (pos 0)) ≡ int_cmp (r.number x) (r.number y)
 
 module _ (D : Declared) (bare : Bare D.parts) where
   number_here : (row : ℤ × D.D) (rows : List (ℤ × D.D)) (x : D.D) → tag_of D row.1 ≡ tag_of D x → number_of (sameb D) (row ∷ rows) x ≡ row.0
@@ -243,8 +202,7 @@ module _ (N : Record) (bare : Bare N.parts) (table : List (ℤ × N.D)) (whole :
   pub numbers : (x : N.D) → get_or (numbers_of table) (tag_of D x) (pos 0) ≡ number_of (sameb D) table x
   numbers x = sym (number_at D bare table 0 (tag_of D x) x in_place (place_is x) (in_table x))
 
-  pub in_order : InOrder N registry
+  pub in_order : InOrder N table registry
   in_order x y =
-      by_number N.parts table as_long in_rise (N.as_values x) (N.as_values y)
-      ∙ ap (λ z. int_cmp z (get_or (numbers_of table) (tag_of D y) (pos 0))) (numbers x)
+      ap (λ z. int_cmp z (get_or (numbers_of table) (tag_of D y) (pos 0))) (numbers x)
       ∙ ap (int_cmp (number_of (sameb D) table x)) (numbers y)

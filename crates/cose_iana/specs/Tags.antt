@@ -10,6 +10,6 @@ use Rattle.cose_iana.specs.Table.{registry, InOrder, in_order}
 unfoldable pub cbor_tags : Registry CborTag
 cbor_tags = registry cbor_tags_enum tt CBOR_TAGS.now refl
 
-pub cbor_tags_in_order : InOrder cbor_tags_enum cbor_tags
+pub cbor_tags_in_order : InOrder cbor_tags_enum CBOR_TAGS.now cbor_tags
 unfolding cbor_tags
 cbor_tags_in_order = in_order cbor_tags_enum tt CBOR_TAGS.now refl

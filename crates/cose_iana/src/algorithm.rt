@@ -2,7 +2,7 @@
 ghost use Rattle.cose_iana.specs.Registry.{is_private_use};
 ghost use Rattle.cose_iana.specs.Algorithms.{algorithms, algorithms_in_order, algorithms_not_private};
 
-use crate::number::{EnumI64, WithPrivateRange, entry_with, number_at};
+use crate::number::{EnumI64, WithPrivateRange, entry_with, rows};
 
 /// The numbers below this one are for private use.
 pub const ALGORITHM_PRIVATE_USE_MAX: i64 = -65536;
@@ -11,258 +11,187 @@ pub const ALGORITHM_PRIVATE_USE_MAX: i64 = -65536;
 #[derive(Debug, Clone, Copy, PartialEq, Eq, PartialOrd, Ord, Hash)]
 pub enum Algorithm {
     /// RSASSA-PKCS1-v1_5 with SHA-1.
-    RS1,
+    RS1 = -65535,
     /// AES-CTR with a 128-bit key.
-    AesCtr128,
+    AesCtr128 = -65534,
     /// AES-CTR with a 192-bit key.
-    AesCtr192,
+    AesCtr192 = -65533,
     /// AES-CTR with a 256-bit key.
-    AesCtr256,
+    AesCtr256 = -65532,
     /// AES-CBC with a 128-bit key.
-    AesCbc128,
+    AesCbc128 = -65531,
     /// AES-CBC with a 192-bit key.
-    AesCbc192,
+    AesCbc192 = -65530,
     /// AES-CBC with a 256-bit key.
-    AesCbc256,
+    AesCbc256 = -65529,
     /// ECDSA over brainpoolP512r1 with SHA-512.
-    ESB512,
+    ESB512 = -268,
     /// ECDSA over brainpoolP384r1 with SHA-384.
-    ESB384,
+    ESB384 = -267,
     /// ECDSA over brainpoolP320r1 with SHA-384.
-    ESB320,
+    ESB320 = -266,
     /// ECDSA over brainpoolP256r1 with SHA-256.
-    ESB256,
+    ESB256 = -265,
     /// WalnutDSA.
-    WalnutDSA,
+    WalnutDSA = -260,
     /// RSASSA-PKCS1-v1_5 with SHA-512.
-    RS512,
+    RS512 = -259,
     /// RSASSA-PKCS1-v1_5 with SHA-384.
-    RS384,
+    RS384 = -258,
     /// RSASSA-PKCS1-v1_5 with SHA-256.
-    RS256,
+    RS256 = -257,
     /// EdDSA over Ed448.
-    Ed448,
+    Ed448 = -53,
     /// ECDSA over P-521 with SHA-512.
-    ESP512,
+    ESP512 = -52,
     /// ECDSA over P-384 with SHA-384.
-    ESP384,
+    ESP384 = -51,
     /// ML-DSA-87.
-    ML_DSA_87,
+    ML_DSA_87 = -50,
     /// ML-DSA-65.
-    ML_DSA_65,
+    ML_DSA_65 = -49,
     /// ML-DSA-44.
-    ML_DSA_44,
+    ML_DSA_44 = -48,
     /// ECDSA over secp256k1 with SHA-256.
-    ES256K,
+    ES256K = -47,
     /// HSS/LMS, a hash-based signature.
-    HSS_LMS,
+    HSS_LMS = -46,
     /// SHAKE256 with 512 bits of output.
-    SHAKE256,
+    SHAKE256 = -45,
     /// SHA-512.
-    SHA_512,
+    SHA_512 = -44,
     /// SHA-384.
-    SHA_384,
+    SHA_384 = -43,
     /// RSAES-OAEP with SHA-512.
-    RSAES_OAEP_SHA_512,
+    RSAES_OAEP_SHA_512 = -42,
     /// RSAES-OAEP with SHA-256.
-    RSAES_OAEP_SHA_256,
+    RSAES_OAEP_SHA_256 = -41,
     /// RSAES-OAEP with the default parameters of RFC 8017.
-    RSAES_OAEP_RFC_8017_default,
+    RSAES_OAEP_RFC_8017_default = -40,
     /// RSASSA-PSS with SHA-512.
-    PS512,
+    PS512 = -39,
     /// RSASSA-PSS with SHA-384.
-    PS384,
+    PS384 = -38,
     /// RSASSA-PSS with SHA-256.
-    PS256,
+    PS256 = -37,
     /// ECDSA with SHA-512.
-    ES512,
+    ES512 = -36,
     /// ECDSA with SHA-384.
-    ES384,
+    ES384 = -35,
     /// ECDH of two static keys, and AES key wrap with a 256-bit key.
-    ECDH_SS_A256KW,
+    ECDH_SS_A256KW = -34,
     /// ECDH of two static keys, and AES key wrap with a 192-bit key.
-    ECDH_SS_A192KW,
+    ECDH_SS_A192KW = -33,
     /// ECDH of two static keys, and AES key wrap with a 128-bit key.
-    ECDH_SS_A128KW,
+    ECDH_SS_A128KW = -32,
     /// ECDH with an ephemeral key, and AES key wrap with a 256-bit key.
-    ECDH_ES_A256KW,
+    ECDH_ES_A256KW = -31,
     /// ECDH with an ephemeral key, and AES key wrap with a 192-bit key.
-    ECDH_ES_A192KW,
+    ECDH_ES_A192KW = -30,
     /// ECDH with an ephemeral key, and AES key wrap with a 128-bit key.
-    ECDH_ES_A128KW,
+    ECDH_ES_A128KW = -29,
     /// ECDH of two static keys, with HKDF over SHA-512.
-    ECDH_SS_HKDF_512,
+    ECDH_SS_HKDF_512 = -28,
     /// ECDH of two static keys, with HKDF over SHA-256.
-    ECDH_SS_HKDF_256,
+    ECDH_SS_HKDF_256 = -27,
     /// ECDH with an ephemeral key, with HKDF over SHA-512.
-    ECDH_ES_HKDF_512,
+    ECDH_ES_HKDF_512 = -26,
     /// ECDH with an ephemeral key, with HKDF over SHA-256.
-    ECDH_ES_HKDF_256,
+    ECDH_ES_HKDF_256 = -25,
     /// EdDSA over Ed25519.
-    Ed25519,
+    Ed25519 = -19,
     /// SHAKE128 with 256 bits of output.
-    SHAKE128,
+    SHAKE128 = -18,
     /// SHA-512, cut to 256 bits.
-    SHA_512_256,
+    SHA_512_256 = -17,
     /// SHA-256.
-    SHA_256,
+    SHA_256 = -16,
     /// SHA-256, cut to 64 bits.
-    SHA_256_64,
+    SHA_256_64 = -15,
     /// SHA-1.
-    SHA_1,
+    SHA_1 = -14,
     /// A shared secret with HKDF over AES-MAC, with a 256-bit key.
-    Direct_HKDF_AES_256,
+    Direct_HKDF_AES_256 = -13,
     /// A shared secret with HKDF over AES-MAC, with a 128-bit key.
-    Direct_HKDF_AES_128,
+    Direct_HKDF_AES_128 = -12,
     /// A shared secret with HKDF over SHA-512.
-    Direct_HKDF_SHA_512,
+    Direct_HKDF_SHA_512 = -11,
     /// A shared secret with HKDF over SHA-256.
-    Direct_HKDF_SHA_256,
+    Direct_HKDF_SHA_256 = -10,
     /// ECDSA over P-256 with SHA-256.
-    ESP256,
+    ESP256 = -9,
     /// EdDSA.
-    EdDSA,
+    EdDSA = -8,
     /// ECDSA with SHA-256.
-    ES256,
+    ES256 = -7,
     /// The shared key encrypts the content directly.
-    Direct,
+    Direct = -6,
     /// AES key wrap with a 256-bit key.
-    A256KW,
+    A256KW = -5,
     /// AES key wrap with a 192-bit key.
-    A192KW,
+    A192KW = -4,
     /// AES key wrap with a 128-bit key.
-    A128KW,
+    A128KW = -3,
     /// Reserved.
-    Reserved,
+    Reserved = 0,
     /// AES-GCM with a 128-bit key and a 128-bit tag.
-    A128GCM,
+    A128GCM = 1,
     /// AES-GCM with a 192-bit key and a 128-bit tag.
-    A192GCM,
+    A192GCM = 2,
     /// AES-GCM with a 256-bit key and a 128-bit tag.
-    A256GCM,
+    A256GCM = 3,
     /// HMAC with SHA-256, the tag cut to 64 bits.
-    HMAC_256_64,
+    HMAC_256_64 = 4,
     /// HMAC with SHA-256.
-    HMAC_256_256,
+    HMAC_256_256 = 5,
     /// HMAC with SHA-384.
-    HMAC_384_384,
+    HMAC_384_384 = 6,
     /// HMAC with SHA-512.
-    HMAC_512_512,
+    HMAC_512_512 = 7,
     /// AES-CCM with a 128-bit key, a 64-bit tag and a 13-byte nonce.
-    AES_CCM_16_64_128,
+    AES_CCM_16_64_128 = 10,
     /// AES-CCM with a 256-bit key, a 64-bit tag and a 13-byte nonce.
-    AES_CCM_16_64_256,
+    AES_CCM_16_64_256 = 11,
     /// AES-CCM with a 128-bit key, a 64-bit tag and a 7-byte nonce.
-    AES_CCM_64_64_128,
+    AES_CCM_64_64_128 = 12,
     /// AES-CCM with a 256-bit key, a 64-bit tag and a 7-byte nonce.
-    AES_CCM_64_64_256,
+    AES_CCM_64_64_256 = 13,
     /// AES-MAC with a 128-bit key and a 64-bit tag.
-    AES_MAC_128_64,
+    AES_MAC_128_64 = 14,
     /// AES-MAC with a 256-bit key and a 64-bit tag.
-    AES_MAC_256_64,
+    AES_MAC_256_64 = 15,
     /// ChaCha20 and Poly1305 with a 256-bit key and a 128-bit tag.
-    ChaCha20Poly1305,
+    ChaCha20Poly1305 = 24,
     /// AES-MAC with a 128-bit key and a 128-bit tag.
-    AES_MAC_128_128,
+    AES_MAC_128_128 = 25,
     /// AES-MAC with a 256-bit key and a 128-bit tag.
-    AES_MAC_256_128,
+    AES_MAC_256_128 = 26,
     /// AES-CCM with a 128-bit key, a 128-bit tag and a 13-byte nonce.
-    AES_CCM_16_128_128,
+    AES_CCM_16_128_128 = 30,
     /// AES-CCM with a 256-bit key, a 128-bit tag and a 13-byte nonce.
-    AES_CCM_16_128_256,
+    AES_CCM_16_128_256 = 31,
     /// AES-CCM with a 128-bit key, a 128-bit tag and a 7-byte nonce.
-    AES_CCM_64_128_128,
+    AES_CCM_64_128_128 = 32,
     /// AES-CCM with a 256-bit key, a 128-bit tag and a 7-byte nonce.
-    AES_CCM_64_128_256,
+    AES_CCM_64_128_256 = 33,
     /// Generation of initialization vectors.
-    IV_GENERATION,
+    IV_GENERATION = 34,
 }
 
-/// Each entry with its number, by rising numbers.
-static ALGORITHMS: &[(i64, Algorithm)] = &[
-    (-65535, Algorithm::RS1),
-    (-65534, Algorithm::AesCtr128),
-    (-65533, Algorithm::AesCtr192),
-    (-65532, Algorithm::AesCtr256),
-    (-65531, Algorithm::AesCbc128),
-    (-65530, Algorithm::AesCbc192),
-    (-65529, Algorithm::AesCbc256),
-    (-268, Algorithm::ESB512),
-    (-267, Algorithm::ESB384),
-    (-266, Algorithm::ESB320),
-    (-265, Algorithm::ESB256),
-    (-260, Algorithm::WalnutDSA),
-    (-259, Algorithm::RS512),
-    (-258, Algorithm::RS384),
-    (-257, Algorithm::RS256),
-    (-53, Algorithm::Ed448),
-    (-52, Algorithm::ESP512),
-    (-51, Algorithm::ESP384),
-    (-50, Algorithm::ML_DSA_87),
-    (-49, Algorithm::ML_DSA_65),
-    (-48, Algorithm::ML_DSA_44),
-    (-47, Algorithm::ES256K),
-    (-46, Algorithm::HSS_LMS),
-    (-45, Algorithm::SHAKE256),
-    (-44, Algorithm::SHA_512),
-    (-43, Algorithm::SHA_384),
-    (-42, Algorithm::RSAES_OAEP_SHA_512),
-    (-41, Algorithm::RSAES_OAEP_SHA_256),
-    (-40, Algorithm::RSAES_OAEP_RFC_8017_default),
-    (-39, Algorithm::PS512),
-    (-38, Algorithm::PS384),
-    (-37, Algorithm::PS256),
-    (-36, Algorithm::ES512),
-    (-35, Algorithm::ES384),
-    (-34, Algorithm::ECDH_SS_A256KW),
-    (-33, Algorithm::ECDH_SS_A192KW),
-    (-32, Algorithm::ECDH_SS_A128KW),
-    (-31, Algorithm::ECDH_ES_A256KW),
-    (-30, Algorithm::ECDH_ES_A192KW),
-    (-29, Algorithm::ECDH_ES_A128KW),
-    (-28, Algorithm::ECDH_SS_HKDF_512),
-    (-27, Algorithm::ECDH_SS_HKDF_256),
-    (-26, Algorithm::ECDH_ES_HKDF_512),
-    (-25, Algorithm::ECDH_ES_HKDF_256),
-    (-19, Algorithm::Ed25519),
-    (-18, Algorithm::SHAKE128),
-    (-17, Algorithm::SHA_512_256),
-    (-16, Algorithm::SHA_256),
-    (-15, Algorithm::SHA_256_64),
-    (-14, Algorithm::SHA_1),
-    (-13, Algorithm::Direct_HKDF_AES_256),
-    (-12, Algorithm::Direct_HKDF_AES_128),
-    (-11, Algorithm::Direct_HKDF_SHA_512),
-    (-10, Algorithm::Direct_HKDF_SHA_256),
-    (-9, Algorithm::ESP256),
-    (-8, Algorithm::EdDSA),
-    (-7, Algorithm::ES256),
-    (-6, Algorithm::Direct),
-    (-5, Algorithm::A256KW),
-    (-4, Algorithm::A192KW),
-    (-3, Algorithm::A128KW),
-    (0, Algorithm::Reserved),
-    (1, Algorithm::A128GCM),
-    (2, Algorithm::A192GCM),
-    (3, Algorithm::A256GCM),
-    (4, Algorithm::HMAC_256_64),
-    (5, Algorithm::HMAC_256_256),
-    (6, Algorithm::HMAC_384_384),
-    (7, Algorithm::HMAC_512_512),
-    (10, Algorithm::AES_CCM_16_64_128),
-    (11, Algorithm::AES_CCM_16_64_256),
-    (12, Algorithm::AES_CCM_64_64_128),
-    (13, Algorithm::AES_CCM_64_64_256),
-    (14, Algorithm::AES_MAC_128_64),
-    (15, Algorithm::AES_MAC_256_64),
-    (24, Algorithm::ChaCha20Poly1305),
-    (25, Algorithm::AES_MAC_128_128),
-    (26, Algorithm::AES_MAC_256_128),
-    (30, Algorithm::AES_CCM_16_128_128),
-    (31, Algorithm::AES_CCM_16_128_256),
-    (32, Algorithm::AES_CCM_64_128_128),
-    (33, Algorithm::AES_CCM_64_128_256),
-    (34, Algorithm::IV_GENERATION),
+/// Each entry, by rising numbers.
+static ALGORITHMS: &[(i64, Algorithm)] = rows![Algorithm:
+    RS1, AesCtr128, AesCtr192, AesCtr256, AesCbc128, AesCbc192, AesCbc256, ESB512, ESB384, ESB320,
+    ESB256, WalnutDSA, RS512, RS384, RS256, Ed448, ESP512, ESP384, ML_DSA_87, ML_DSA_65, ML_DSA_44,
+    ES256K, HSS_LMS, SHAKE256, SHA_512, SHA_384, RSAES_OAEP_SHA_512, RSAES_OAEP_SHA_256,
+    RSAES_OAEP_RFC_8017_default, PS512, PS384, PS256, ES512, ES384, ECDH_SS_A256KW, ECDH_SS_A192KW,
+    ECDH_SS_A128KW, ECDH_ES_A256KW, ECDH_ES_A192KW, ECDH_ES_A128KW, ECDH_SS_HKDF_512,
+    ECDH_SS_HKDF_256, ECDH_ES_HKDF_512, ECDH_ES_HKDF_256, Ed25519, SHAKE128, SHA_512_256, SHA_256,
+    SHA_256_64, SHA_1, Direct_HKDF_AES_256, Direct_HKDF_AES_128, Direct_HKDF_SHA_512,
+    Direct_HKDF_SHA_256, ESP256, EdDSA, ES256, Direct, A256KW, A192KW, A128KW, Reserved, A128GCM,
+    A192GCM, A256GCM, HMAC_256_64, HMAC_256_256, HMAC_384_384, HMAC_512_512, AES_CCM_16_64_128,
+    AES_CCM_16_64_256, AES_CCM_64_64_128, AES_CCM_64_64_256, AES_MAC_128_64, AES_MAC_256_64,
+    ChaCha20Poly1305, AES_MAC_128_128, AES_MAC_256_128, AES_CCM_16_128_128, AES_CCM_16_128_256,
+    AES_CCM_64_128_128, AES_CCM_64_128_256, IV_GENERATION,
 ];
 
 impl EnumI64 for Algorithm {
@@ -282,8 +211,9 @@ impl EnumI64 for Algorithm {
         entry_with(ALGORITHMS, i)
     }
 
+    #[tactic(auto, unfolding(crate::specs::Algorithms::algorithms, crate::specs::Registry::number_of, crate::specs::Registry::has_number))]
     fn to_i64(self) -> i64 {
-        number_at(ALGORITHMS, self as usize)
+        self as i64
     }
 }
 

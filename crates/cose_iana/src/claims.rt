@@ -2,7 +2,7 @@
 ghost use Rattle.cose_iana.specs.Registry.{is_private_use};
 ghost use Rattle.cose_iana.specs.Claims.{cwt_claim_names, cwt_claim_names_in_order, cwt_claim_names_not_private};
 
-use crate::number::{EnumI64, WithPrivateRange, entry_with, number_at};
+use crate::number::{EnumI64, WithPrivateRange, entry_with, rows};
 
 /// The numbers below this one are for private use.
 pub const CWT_CLAIM_PRIVATE_USE_MAX: i64 = -65536;
@@ -11,219 +11,159 @@ pub const CWT_CLAIM_PRIVATE_USE_MAX: i64 = -65536;
 #[derive(Debug, Clone, Copy, PartialEq, Eq, PartialOrd, Ord, Hash)]
 pub enum CwtClaimName {
     /// Components in the sense of GlobalPlatform.
-    GlobalPlatformComponents,
+    GlobalPlatformComponents = -261,
     /// A health certificate.
-    Hcert,
+    Hcert = -260,
     /// A nonce of FIDO Device Onboard.
-    EuphNonce,
+    EuphNonce = -259,
     /// A prefix of what FIDO Device Onboard signs.
-    EatMaroePrefix,
+    EatMaroePrefix = -258,
     /// Data of FIDO Device Onboard.
-    EatFido,
+    EatFido = -257,
     /// Reserved.
-    Reserved,
+    Reserved = 0,
     /// The issuer (RFC 8392).
-    Iss,
+    Iss = 1,
     /// The subject (RFC 8392).
-    Sub,
+    Sub = 2,
     /// The audience (RFC 8392).
-    Aud,
+    Aud = 3,
     /// The time from which the token is no longer accepted (RFC 8392).
-    Exp,
+    Exp = 4,
     /// The time before which the token is not accepted (RFC 8392).
-    Nbf,
+    Nbf = 5,
     /// The time at which the token was issued (RFC 8392).
-    Iat,
+    Iat = 6,
     /// The identifier of the token (RFC 8392).
-    Cti,
+    Cti = 7,
     /// The key of which possession is confirmed (RFC 8747).
-    Cnf,
+    Cnf = 8,
     /// The scope of an access token (RFC 9200).
-    Scope,
+    Scope = 9,
     /// A nonce (RFC 9711).
-    Nonce,
+    Nonce = 10,
     /// The profile of ACE to use (RFC 9200).
-    AceProfile,
+    AceProfile = 38,
     /// The client's nonce (RFC 9200).
-    CNonce,
+    CNonce = 39,
     /// For how many seconds the token holds from its receipt on (RFC 9200).
-    Exi,
+    Exi = 40,
     /// The universal identifier of the entity (RFC 9711).
-    UEID,
+    UEID = 256,
     /// Further universal identifiers of the entity (RFC 9711).
-    SUEIDs,
+    SUEIDs = 257,
     /// The maker of the hardware (RFC 9711).
-    HardwareOemid,
+    HardwareOemid = 258,
     /// The model of the hardware (RFC 9711).
-    HardwareModel,
+    HardwareModel = 259,
     /// The version of the hardware (RFC 9711).
-    HardwareVersion,
+    HardwareVersion = 260,
     /// The seconds since the last boot (RFC 9711).
-    Uptime,
+    Uptime = 261,
     /// Whether the boot was authorized by the maker (RFC 9711).
-    OemAuthorizedBoot,
+    OemAuthorizedBoot = 262,
     /// The state of the debugging facilities (RFC 9711).
-    DebugStatus,
+    DebugStatus = 263,
     /// The geographic location (RFC 9711).
-    Location,
+    Location = 264,
     /// The profile that the token follows (RFC 9711).
-    EatProfile,
+    EatProfile = 265,
     /// The section of submodules (RFC 9711).
-    SubmodulesSection,
+    SubmodulesSection = 266,
     /// How often the entity has booted (RFC 9711).
-    BootCount,
+    BootCount = 267,
     /// A value that stands for one boot (RFC 9711).
-    BootSeed,
+    BootSeed = 268,
     /// Certifications by digital letters of approval (RFC 9711).
-    DLoAs,
+    DLoAs = 269,
     /// The name of the software (RFC 9711).
-    SoftwareName,
+    SoftwareName = 270,
     /// The version of the software (RFC 9711).
-    SoftwareVersion,
+    SoftwareVersion = 271,
     /// Manifests of the software (RFC 9711).
-    SoftwareManifests,
+    SoftwareManifests = 272,
     /// Measurements of the software or its configuration (RFC 9711).
-    Measurements,
+    Measurements = 273,
     /// Results of comparing measurements with reference values (RFC 9711).
-    SoftwareMeasurementResults,
+    SoftwareMeasurementResults = 274,
     /// What the token is meant for (RFC 9711).
-    IntendedUse,
+    IntendedUse = 275,
     /// A geohash.
-    Geohash,
+    Geohash = 282,
     /// The version of a watermarking token.
-    WmVersion,
+    WmVersion = 300,
     /// The vendor of the watermark.
-    WmVendor,
+    WmVendor = 301,
     /// The length of the watermark's pattern.
-    WmPatternLen,
+    WmPatternLen = 302,
     /// The duration of a watermarked segment.
-    WmSegmentDuration,
+    WmSegmentDuration = 303,
     /// The watermark's pattern.
-    WmPattern,
+    WmPattern = 304,
     /// An input from which the pattern of the watermark is derived.
-    WmId,
+    WmId = 305,
     /// A further input from which the pattern of the watermark is derived.
-    WmOpId,
+    WmOpId = 306,
     /// The key by which the pattern of the watermark is derived.
-    WmKeyVer,
+    WmKeyVer = 307,
     /// Replay of a Common Access Token.
-    CatReplay,
+    CatReplay = 308,
     /// Probability of rejection of a Common Access Token.
-    CatPor,
+    CatPor = 309,
     /// The version of a Common Access Token.
-    CatVersion,
+    CatVersion = 310,
     /// Network addresses of a Common Access Token.
-    CatNetworkIp,
+    CatNetworkIp = 311,
     /// The URI of a Common Access Token.
-    CatUri,
+    CatUri = 312,
     /// The HTTP methods of a Common Access Token.
-    CatMethod,
+    CatMethod = 313,
     /// The ALPN of a Common Access Token.
-    CatAlpn,
+    CatAlpn = 314,
     /// The HTTP headers of a Common Access Token.
-    CatHeader,
+    CatHeader = 315,
     /// The countries and regions of a Common Access Token.
-    CatGeoIso3166,
+    CatGeoIso3166 = 316,
     /// The geographic coordinates of a Common Access Token.
-    CatGeoCoord,
+    CatGeoCoord = 317,
     /// The altitude of a Common Access Token.
-    CatGeoAlt,
+    CatGeoAlt = 318,
     /// The TLS public key of a Common Access Token.
-    CatTlsPublicKey,
+    CatTlsPublicKey = 319,
     /// Data for the conditions of a Common Access Token.
-    CatIfData,
+    CatIfData = 320,
     /// Proof of possession in a Common Access Token.
-    CatDPoP,
+    CatDPoP = 321,
     /// The conditions of a Common Access Token.
-    CatIf,
+    CatIf = 322,
     /// The renewal of a Common Access Token.
-    CatRenewal,
+    CatRenewal = 323,
     /// The client of a PSA token (RFC 9783).
-    PsaClientId,
+    PsaClientId = 2394,
     /// The security lifecycle in a PSA token (RFC 9783).
-    PsaSecurityLifecycle,
+    PsaSecurityLifecycle = 2395,
     /// The implementation in a PSA token (RFC 9783).
-    PsaImplementationId,
+    PsaImplementationId = 2396,
     /// The certification reference in a PSA token (RFC 9783).
-    PsaCertificationReference,
+    PsaCertificationReference = 2398,
     /// The software components in a PSA token (RFC 9783).
-    PsaSoftwareComponents,
+    PsaSoftwareComponents = 2399,
     /// The verification service of a PSA token (RFC 9783).
-    PsaVerificationServiceIndicator,
+    PsaVerificationServiceIndicator = 2400,
 }
 
-/// Each entry with its number, by rising numbers.
-static CWT_CLAIM_NAMES: &[(i64, CwtClaimName)] = &[
-    (-261, CwtClaimName::GlobalPlatformComponents),
-    (-260, CwtClaimName::Hcert),
-    (-259, CwtClaimName::EuphNonce),
-    (-258, CwtClaimName::EatMaroePrefix),
-    (-257, CwtClaimName::EatFido),
-    (0, CwtClaimName::Reserved),
-    (1, CwtClaimName::Iss),
-    (2, CwtClaimName::Sub),
-    (3, CwtClaimName::Aud),
-    (4, CwtClaimName::Exp),
-    (5, CwtClaimName::Nbf),
-    (6, CwtClaimName::Iat),
-    (7, CwtClaimName::Cti),
-    (8, CwtClaimName::Cnf),
-    (9, CwtClaimName::Scope),
-    (10, CwtClaimName::Nonce),
-    (38, CwtClaimName::AceProfile),
-    (39, CwtClaimName::CNonce),
-    (40, CwtClaimName::Exi),
-    (256, CwtClaimName::UEID),
-    (257, CwtClaimName::SUEIDs),
-    (258, CwtClaimName::HardwareOemid),
-    (259, CwtClaimName::HardwareModel),
-    (260, CwtClaimName::HardwareVersion),
-    (261, CwtClaimName::Uptime),
-    (262, CwtClaimName::OemAuthorizedBoot),
-    (263, CwtClaimName::DebugStatus),
-    (264, CwtClaimName::Location),
-    (265, CwtClaimName::EatProfile),
-    (266, CwtClaimName::SubmodulesSection),
-    (267, CwtClaimName::BootCount),
-    (268, CwtClaimName::BootSeed),
-    (269, CwtClaimName::DLoAs),
-    (270, CwtClaimName::SoftwareName),
-    (271, CwtClaimName::SoftwareVersion),
-    (272, CwtClaimName::SoftwareManifests),
-    (273, CwtClaimName::Measurements),
-    (274, CwtClaimName::SoftwareMeasurementResults),
-    (275, CwtClaimName::IntendedUse),
-    (282, CwtClaimName::Geohash),
-    (300, CwtClaimName::WmVersion),
-    (301, CwtClaimName::WmVendor),
-    (302, CwtClaimName::WmPatternLen),
-    (303, CwtClaimName::WmSegmentDuration),
-    (304, CwtClaimName::WmPattern),
-    (305, CwtClaimName::WmId),
-    (306, CwtClaimName::WmOpId),
-    (307, CwtClaimName::WmKeyVer),
-    (308, CwtClaimName::CatReplay),
-    (309, CwtClaimName::CatPor),
-    (310, CwtClaimName::CatVersion),
-    (311, CwtClaimName::CatNetworkIp),
-    (312, CwtClaimName::CatUri),
-    (313, CwtClaimName::CatMethod),
-    (314, CwtClaimName::CatAlpn),
-    (315, CwtClaimName::CatHeader),
-    (316, CwtClaimName::CatGeoIso3166),
-    (317, CwtClaimName::CatGeoCoord),
-    (318, CwtClaimName::CatGeoAlt),
-    (319, CwtClaimName::CatTlsPublicKey),
-    (320, CwtClaimName::CatIfData),
-    (321, CwtClaimName::CatDPoP),
-    (322, CwtClaimName::CatIf),
-    (323, CwtClaimName::CatRenewal),
-    (2394, CwtClaimName::PsaClientId),
-    (2395, CwtClaimName::PsaSecurityLifecycle),
-    (2396, CwtClaimName::PsaImplementationId),
-    (2398, CwtClaimName::PsaCertificationReference),
-    (2399, CwtClaimName::PsaSoftwareComponents),
-    (2400, CwtClaimName::PsaVerificationServiceIndicator),
+/// Each entry, by rising numbers.
+static CWT_CLAIM_NAMES: &[(i64, CwtClaimName)] = rows![CwtClaimName:
+    GlobalPlatformComponents, Hcert, EuphNonce, EatMaroePrefix, EatFido, Reserved, Iss, Sub, Aud,
+    Exp, Nbf, Iat, Cti, Cnf, Scope, Nonce, AceProfile, CNonce, Exi, UEID, SUEIDs, HardwareOemid,
+    HardwareModel, HardwareVersion, Uptime, OemAuthorizedBoot, DebugStatus, Location, EatProfile,
+    SubmodulesSection, BootCount, BootSeed, DLoAs, SoftwareName, SoftwareVersion,
+    SoftwareManifests, Measurements, SoftwareMeasurementResults, IntendedUse, Geohash, WmVersion,
+    WmVendor, WmPatternLen, WmSegmentDuration, WmPattern, WmId, WmOpId, WmKeyVer, CatReplay,
+    CatPor, CatVersion, CatNetworkIp, CatUri, CatMethod, CatAlpn, CatHeader, CatGeoIso3166,
+    CatGeoCoord, CatGeoAlt, CatTlsPublicKey, CatIfData, CatDPoP, CatIf, CatRenewal, PsaClientId,
+    PsaSecurityLifecycle, PsaImplementationId, PsaCertificationReference, PsaSoftwareComponents,
+    PsaVerificationServiceIndicator,
 ];
 
 impl EnumI64 for CwtClaimName {
@@ -243,8 +183,9 @@ impl EnumI64 for CwtClaimName {
         entry_with(CWT_CLAIM_NAMES, i)
     }
 
+    #[tactic(auto, unfolding(crate::specs::Claims::cwt_claim_names, crate::specs::Registry::number_of, crate::specs::Registry::has_number))]
     fn to_i64(self) -> i64 {
-        number_at(CWT_CLAIM_NAMES, self as usize)
+        self as i64
     }
 }
 

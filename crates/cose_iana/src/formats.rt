@@ -1,253 +1,186 @@
 //! Types of contents.
 ghost use Rattle.cose_iana.specs.Formats.{coap_content_formats, coap_content_formats_in_order};
 
-use crate::number::{EnumI64, entry_with, number_at};
+use crate::number::{EnumI64, entry_with, rows};
 
 /// Types of contents: the registry "CoAP Content-Formats" (RFC 7252, section 12.3). These are names;
 /// nothing is read or compressed in them.
 #[derive(Debug, Clone, Copy, PartialEq, Eq, PartialOrd, Ord, Hash)]
 pub enum CoapContentFormat {
     /// `text/plain; charset=utf-8`.
-    TextPlainUtf8,
+    TextPlainUtf8 = 0,
     /// `application/cose; cose-type="cose-encrypt0"`.
-    CoseEncrypt0,
+    CoseEncrypt0 = 16,
     /// `application/cose; cose-type="cose-mac0"`.
-    CoseMac0,
+    CoseMac0 = 17,
     /// `application/cose; cose-type="cose-sign1"`.
-    CoseSign1,
+    CoseSign1 = 18,
     /// `application/ace+cbor`.
-    AceCbor,
+    AceCbor = 19,
     /// `image/gif`.
-    ImageGif,
+    ImageGif = 21,
     /// `image/jpeg`.
-    ImageJpeg,
+    ImageJpeg = 22,
     /// `image/png`.
-    ImagePng,
+    ImagePng = 23,
     /// `application/link-format`.
-    LinkFormat,
+    LinkFormat = 40,
     /// `application/xml`.
-    Xml,
+    Xml = 41,
     /// `application/octet-stream`.
-    OctetStream,
+    OctetStream = 42,
     /// `application/exi`.
-    Exi,
+    Exi = 47,
     /// `application/json`.
-    Json,
+    Json = 50,
     /// `application/json-patch+json`.
-    JsonPatchJson,
+    JsonPatchJson = 51,
     /// `application/merge-patch+json`.
-    MergePatchJson,
+    MergePatchJson = 52,
     /// `application/cbor`.
-    Cbor,
+    Cbor = 60,
     /// `application/cwt`.
-    Cwt,
+    Cwt = 61,
     /// `application/multipart-core`.
-    MultipartCore,
+    MultipartCore = 62,
     /// `application/cbor-seq`.
-    CborSeq,
+    CborSeq = 63,
     /// `application/edhoc+cbor-seq`.
-    EdhocCborSeq,
+    EdhocCborSeq = 64,
     /// `application/cid-edhoc+cbor-seq`.
-    CidEdhocCborSeq,
+    CidEdhocCborSeq = 65,
     /// `application/cose; cose-type="cose-encrypt"`.
-    CoseEncrypt,
+    CoseEncrypt = 96,
     /// `application/cose; cose-type="cose-mac"`.
-    CoseMac,
+    CoseMac = 97,
     /// `application/cose; cose-type="cose-sign"`.
-    CoseSign,
+    CoseSign = 98,
     /// `application/cose-key`.
-    CoseKey,
+    CoseKey = 101,
     /// `application/cose-key-set`.
-    CoseKeySet,
+    CoseKeySet = 102,
     /// `application/senml+json`.
-    SenmlJson,
+    SenmlJson = 110,
     /// `application/sensml+json`.
-    SensmlJson,
+    SensmlJson = 111,
     /// `application/senml+cbor`.
-    SenmlCbor,
+    SenmlCbor = 112,
     /// `application/sensml+cbor`.
-    SensmlCbor,
+    SensmlCbor = 113,
     /// `application/senml-exi`.
-    SenmlExi,
+    SenmlExi = 114,
     /// `application/sensml-exi`.
-    SensmlExi,
+    SensmlExi = 115,
     /// `application/yang-data+cbor; id=sid`.
-    YangData,
+    YangData = 140,
     /// `application/coap-group+json`.
-    CoapGroupJson,
+    CoapGroupJson = 256,
     /// `application/concise-problem-details+cbor`.
-    ConciseProblemDetailsCbor,
+    ConciseProblemDetailsCbor = 257,
     /// `application/swid+cbor`.
-    SwidCbor,
+    SwidCbor = 258,
     /// `application/pkixcmp`.
-    PkixCmp,
+    PkixCmp = 259,
     /// `application/yang-sid+json`.
-    YangSidJson,
+    YangSidJson = 260,
     /// `application/ace-groupcomm+cbor`.
-    AceGroupcommCbor,
+    AceGroupcommCbor = 261,
     /// `application/ace-trl+cbor`.
-    AceTrlCbor,
+    AceTrlCbor = 262,
     /// `application/eat+cwt`.
-    EatCwt,
+    EatCwt = 263,
     /// `application/eat+jwt`.
-    EatJwt,
+    EatJwt = 264,
     /// `application/eat-bun+cbor`.
-    EatBunCbor,
+    EatBunCbor = 265,
     /// `application/eat-bun+json`.
-    EatBunJson,
+    EatBunJson = 266,
     /// `application/eat-ucs+cbor`.
-    EatUcsCbor,
+    EatUcsCbor = 267,
     /// `application/eat-ucs+json`.
-    EatUcsJson,
+    EatUcsJson = 268,
     /// `application/dots+cbor`.
-    DotsCbor,
+    DotsCbor = 271,
     /// `application/missing-blocks+cbor-seq`.
-    MissingBlocksCborSeq,
+    MissingBlocksCborSeq = 272,
     /// `application/pkcs7-mime; smime-type=server-generated-key`.
-    Pkcs7MimeSmimeTypeServerGeneratedKey,
+    Pkcs7MimeSmimeTypeServerGeneratedKey = 280,
     /// `application/pkcs7-mime; smime-type=certs-only`.
-    Pkcs7MimeSmimeTypeCertsOnly,
+    Pkcs7MimeSmimeTypeCertsOnly = 281,
     /// `application/pkcs7-mime; smime-type=CMC-Request`.
-    Pkcs7MimeSmimeTypeCmcRequest,
+    Pkcs7MimeSmimeTypeCmcRequest = 282,
     /// `application/pkcs7-mime; smime-type=CMC-Response`.
-    Pkcs7MimeSmimeTypeCmcResponse,
+    Pkcs7MimeSmimeTypeCmcResponse = 283,
     /// `application/pkcs8`.
-    Pkcs8,
+    Pkcs8 = 284,
     /// `application/csrattrs`.
-    Csrattrs,
+    Csrattrs = 285,
     /// `application/pkcs10`.
-    Pkcs10,
+    Pkcs10 = 286,
     /// `application/pkix-cert`.
-    PkixCert,
+    PkixCert = 287,
     /// `application/aif+cbor`.
-    AifCbor,
+    AifCbor = 290,
     /// `application/aif+json`.
-    AifJson,
+    AifJson = 291,
     /// `application/senml+xml`.
-    SenmlXml,
+    SenmlXml = 310,
     /// `application/sensml+xml`.
-    SensmlXml,
+    SensmlXml = 311,
     /// `application/senml-etch+json`.
-    SenmlEtchJson,
+    SenmlEtchJson = 320,
     /// `application/senml-etch+cbor`.
-    SenmlEtchCbor,
+    SenmlEtchCbor = 322,
     /// `application/yang-data+cbor`.
-    YangDataCbor,
+    YangDataCbor = 340,
     /// `application/yang-data+cbor; id=name`.
-    YangDataCborName,
+    YangDataCborName = 341,
     /// `application/td+json`.
-    TdJson,
+    TdJson = 432,
     /// `application/tm+json`.
-    TmJson,
+    TmJson = 433,
     /// `application/uccs+cbor`.
-    UccsCbor,
+    UccsCbor = 601,
     /// `application/vnd.ocf+cbor`.
-    VndOcfCbor,
+    VndOcfCbor = 10000,
     /// `application/oscore`.
-    Oscore,
+    Oscore = 10001,
     /// `application/javascript`.
-    Javascript,
+    Javascript = 10002,
     /// `application/eat+cwt` in the profile of PSA.
-    EatCwtTfm,
+    EatCwtTfm = 10003,
     /// `application/eat+cwt` in the earlier profile of PSA.
-    EatCwtLegacy,
+    EatCwtLegacy = 10004,
     /// `application/json`, compressed by deflate.
-    JsonDeflate,
+    JsonDeflate = 11050,
     /// `application/cbor`, compressed by deflate.
-    CborDeflate,
+    CborDeflate = 11060,
     /// `application/vnd.oma.lwm2m+tlv`.
-    VndOmaLwm2mTlv,
+    VndOmaLwm2mTlv = 11542,
     /// `application/vnd.oma.lwm2m+json`.
-    VndOmaLwm2mJson,
+    VndOmaLwm2mJson = 11543,
     /// `application/vnd.oma.lwm2m+cbor`.
-    VndOmaLwm2mCbor,
+    VndOmaLwm2mCbor = 11544,
     /// `text/css`.
-    TextCss,
+    TextCss = 20000,
     /// `image/svg+xml`.
-    ImageSvgXml,
+    ImageSvgXml = 30000,
 }
 
-/// Each entry with its number, by rising numbers.
-static COAP_CONTENT_FORMATS: &[(i64, CoapContentFormat)] = &[
-    (0, CoapContentFormat::TextPlainUtf8),
-    (16, CoapContentFormat::CoseEncrypt0),
-    (17, CoapContentFormat::CoseMac0),
-    (18, CoapContentFormat::CoseSign1),
-    (19, CoapContentFormat::AceCbor),
-    (21, CoapContentFormat::ImageGif),
-    (22, CoapContentFormat::ImageJpeg),
-    (23, CoapContentFormat::ImagePng),
-    (40, CoapContentFormat::LinkFormat),
-    (41, CoapContentFormat::Xml),
-    (42, CoapContentFormat::OctetStream),
-    (47, CoapContentFormat::Exi),
-    (50, CoapContentFormat::Json),
-    (51, CoapContentFormat::JsonPatchJson),
-    (52, CoapContentFormat::MergePatchJson),
-    (60, CoapContentFormat::Cbor),
-    (61, CoapContentFormat::Cwt),
-    (62, CoapContentFormat::MultipartCore),
-    (63, CoapContentFormat::CborSeq),
-    (64, CoapContentFormat::EdhocCborSeq),
-    (65, CoapContentFormat::CidEdhocCborSeq),
-    (96, CoapContentFormat::CoseEncrypt),
-    (97, CoapContentFormat::CoseMac),
-    (98, CoapContentFormat::CoseSign),
-    (101, CoapContentFormat::CoseKey),
-    (102, CoapContentFormat::CoseKeySet),
-    (110, CoapContentFormat::SenmlJson),
-    (111, CoapContentFormat::SensmlJson),
-    (112, CoapContentFormat::SenmlCbor),
-    (113, CoapContentFormat::SensmlCbor),
-    (114, CoapContentFormat::SenmlExi),
-    (115, CoapContentFormat::SensmlExi),
-    (140, CoapContentFormat::YangData),
-    (256, CoapContentFormat::CoapGroupJson),
-    (257, CoapContentFormat::ConciseProblemDetailsCbor),
-    (258, CoapContentFormat::SwidCbor),
-    (259, CoapContentFormat::PkixCmp),
-    (260, CoapContentFormat::YangSidJson),
-    (261, CoapContentFormat::AceGroupcommCbor),
-    (262, CoapContentFormat::AceTrlCbor),
-    (263, CoapContentFormat::EatCwt),
-    (264, CoapContentFormat::EatJwt),
-    (265, CoapContentFormat::EatBunCbor),
-    (266, CoapContentFormat::EatBunJson),
-    (267, CoapContentFormat::EatUcsCbor),
-    (268, CoapContentFormat::EatUcsJson),
-    (271, CoapContentFormat::DotsCbor),
-    (272, CoapContentFormat::MissingBlocksCborSeq),
-    (280, CoapContentFormat::Pkcs7MimeSmimeTypeServerGeneratedKey),
-    (281, CoapContentFormat::Pkcs7MimeSmimeTypeCertsOnly),
-    (282, CoapContentFormat::Pkcs7MimeSmimeTypeCmcRequest),
-    (283, CoapContentFormat::Pkcs7MimeSmimeTypeCmcResponse),
-    (284, CoapContentFormat::Pkcs8),
-    (285, CoapContentFormat::Csrattrs),
-    (286, CoapContentFormat::Pkcs10),
-    (287, CoapContentFormat::PkixCert),
-    (290, CoapContentFormat::AifCbor),
-    (291, CoapContentFormat::AifJson),
-    (310, CoapContentFormat::SenmlXml),
-    (311, CoapContentFormat::SensmlXml),
-    (320, CoapContentFormat::SenmlEtchJson),
-    (322, CoapContentFormat::SenmlEtchCbor),
-    (340, CoapContentFormat::YangDataCbor),
-    (341, CoapContentFormat::YangDataCborName),
-    (432, CoapContentFormat::TdJson),
-    (433, CoapContentFormat::TmJson),
-    (601, CoapContentFormat::UccsCbor),
-    (10000, CoapContentFormat::VndOcfCbor),
-    (10001, CoapContentFormat::Oscore),
-    (10002, CoapContentFormat::Javascript),
-    (10003, CoapContentFormat::EatCwtTfm),
-    (10004, CoapContentFormat::EatCwtLegacy),
-    (11050, CoapContentFormat::JsonDeflate),
-    (11060, CoapContentFormat::CborDeflate),
-    (11542, CoapContentFormat::VndOmaLwm2mTlv),
-    (11543, CoapContentFormat::VndOmaLwm2mJson),
-    (11544, CoapContentFormat::VndOmaLwm2mCbor),
-    (20000, CoapContentFormat::TextCss),
-    (30000, CoapContentFormat::ImageSvgXml),
+/// Each entry, by rising numbers.
+static COAP_CONTENT_FORMATS: &[(i64, CoapContentFormat)] = rows![CoapContentFormat:
+    TextPlainUtf8, CoseEncrypt0, CoseMac0, CoseSign1, AceCbor, ImageGif, ImageJpeg, ImagePng,
+    LinkFormat, Xml, OctetStream, Exi, Json, JsonPatchJson, MergePatchJson, Cbor, Cwt,
+    MultipartCore, CborSeq, EdhocCborSeq, CidEdhocCborSeq, CoseEncrypt, CoseMac, CoseSign, CoseKey,
+    CoseKeySet, SenmlJson, SensmlJson, SenmlCbor, SensmlCbor, SenmlExi, SensmlExi, YangData,
+    CoapGroupJson, ConciseProblemDetailsCbor, SwidCbor, PkixCmp, YangSidJson, AceGroupcommCbor,
+    AceTrlCbor, EatCwt, EatJwt, EatBunCbor, EatBunJson, EatUcsCbor, EatUcsJson, DotsCbor,
+    MissingBlocksCborSeq, Pkcs7MimeSmimeTypeServerGeneratedKey, Pkcs7MimeSmimeTypeCertsOnly,
+    Pkcs7MimeSmimeTypeCmcRequest, Pkcs7MimeSmimeTypeCmcResponse, Pkcs8, Csrattrs, Pkcs10, PkixCert,
+    AifCbor, AifJson, SenmlXml, SensmlXml, SenmlEtchJson, SenmlEtchCbor, YangDataCbor,
+    YangDataCborName, TdJson, TmJson, UccsCbor, VndOcfCbor, Oscore, Javascript, EatCwtTfm,
+    EatCwtLegacy, JsonDeflate, CborDeflate, VndOmaLwm2mTlv, VndOmaLwm2mJson, VndOmaLwm2mCbor,
+    TextCss, ImageSvgXml,
 ];
 
 impl EnumI64 for CoapContentFormat {
@@ -267,7 +200,8 @@ impl EnumI64 for CoapContentFormat {
         entry_with(COAP_CONTENT_FORMATS, i)
     }
 
+    #[tactic(auto, unfolding(crate::specs::Formats::coap_content_formats, crate::specs::Registry::number_of, crate::specs::Registry::has_number))]
     fn to_i64(self) -> i64 {
-        number_at(COAP_CONTENT_FORMATS, self as usize)
+        self as i64
     }
 }

@@ -2,7 +2,7 @@
 ghost use Rattle.cose_iana.specs.Registry.{is_private_use};
 ghost use Rattle.cose_iana.specs.Headers.{header_parameters, header_parameters_in_order, header_parameters_not_private, header_algorithm_parameters, header_algorithm_parameters_in_order};
 
-use crate::number::{EnumI64, WithPrivateRange, entry_with, number_at};
+use crate::number::{EnumI64, WithPrivateRange, entry_with, rows};
 
 /// The numbers below this one are for private use.
 pub const HEADER_PARAMETER_PRIVATE_USE_MAX: i64 = -65536;
@@ -11,75 +11,56 @@ pub const HEADER_PARAMETER_PRIVATE_USE_MAX: i64 = -65536;
 #[derive(Debug, Clone, Copy, PartialEq, Eq, PartialOrd, Ord, Hash)]
 pub enum HeaderParameter {
     /// Reserved.
-    Reserved,
+    Reserved = 0,
     /// The algorithm of the message (RFC 9052).
-    Alg,
+    Alg = 1,
     /// Labels that a receiver has to understand (RFC 9052).
-    Crit,
+    Crit = 2,
     /// The type of the content (RFC 9052).
-    ContentType,
+    ContentType = 3,
     /// The identifier of the key (RFC 9052).
-    Kid,
+    Kid = 4,
     /// The whole initialization vector (RFC 9052).
-    Iv,
+    Iv = 5,
     /// A part of the initialization vector (RFC 9052).
-    PartialIv,
+    PartialIv = 6,
     /// A counter signature in its first version (RFC 8152).
-    CounterSignature,
+    CounterSignature = 7,
     /// An abbreviated counter signature in its first version (RFC 8152).
-    CounterSignature0,
+    CounterSignature0 = 9,
     /// The context of the key identifier (RFC 8613).
-    KidContext,
+    KidContext = 10,
     /// A counter signature (RFC 9338).
-    CounterSignatureV2,
+    CounterSignatureV2 = 11,
     /// An abbreviated counter signature (RFC 9338).
-    CounterSignature0V2,
+    CounterSignature0V2 = 12,
     /// A CWT that holds a key (RFC 9528).
-    KeyCwt,
+    KeyCwt = 13,
     /// A CWT claims set that holds a key (RFC 9528).
-    KeyCwtClaimsSet,
+    KeyCwtClaimsSet = 14,
     /// Claims of a CWT in a header (RFC 9597).
-    CwtClaims,
+    CwtClaims = 15,
     /// The type of the whole COSE object (RFC 9596).
-    ObjectContentType,
+    ObjectContentType = 16,
     /// Certificates in no order (RFC 9360).
-    X5Bag,
+    X5Bag = 32,
     /// Certificates that form a chain, in order (RFC 9360).
-    X5Chain,
+    X5Chain = 33,
     /// The hash of a certificate (RFC 9360).
-    X5T,
+    X5T = 34,
     /// The address of a certificate (RFC 9360).
-    X5U,
+    X5U = 35,
     /// A nonce of FIDO Device Onboard.
-    CuphNonce,
+    CuphNonce = 256,
     /// The owner's public key in FIDO Device Onboard.
-    CuphOwnerPubKey,
+    CuphOwnerPubKey = 257,
 }
 
-/// Each entry with its number, by rising numbers.
-static HEADER_PARAMETERS: &[(i64, HeaderParameter)] = &[
-    (0, HeaderParameter::Reserved),
-    (1, HeaderParameter::Alg),
-    (2, HeaderParameter::Crit),
-    (3, HeaderParameter::ContentType),
-    (4, HeaderParameter::Kid),
-    (5, HeaderParameter::Iv),
-    (6, HeaderParameter::PartialIv),
-    (7, HeaderParameter::CounterSignature),
-    (9, HeaderParameter::CounterSignature0),
-    (10, HeaderParameter::KidContext),
-    (11, HeaderParameter::CounterSignatureV2),
-    (12, HeaderParameter::CounterSignature0V2),
-    (13, HeaderParameter::KeyCwt),
-    (14, HeaderParameter::KeyCwtClaimsSet),
-    (15, HeaderParameter::CwtClaims),
-    (16, HeaderParameter::ObjectContentType),
-    (32, HeaderParameter::X5Bag),
-    (33, HeaderParameter::X5Chain),
-    (34, HeaderParameter::X5T),
-    (35, HeaderParameter::X5U),
-    (256, HeaderParameter::CuphNonce),
-    (257, HeaderParameter::CuphOwnerPubKey),
+/// Each entry, by rising numbers.
+static HEADER_PARAMETERS: &[(i64, HeaderParameter)] = rows![HeaderParameter:
+    Reserved, Alg, Crit, ContentType, Kid, Iv, PartialIv, CounterSignature, CounterSignature0,
+    KidContext, CounterSignatureV2, CounterSignature0V2, KeyCwt, KeyCwtClaimsSet, CwtClaims,
+    ObjectContentType, X5Bag, X5Chain, X5T, X5U, CuphNonce, CuphOwnerPubKey,
 ];
 
 impl EnumI64 for HeaderParameter {
@@ -99,8 +80,9 @@ impl EnumI64 for HeaderParameter {
         entry_with(HEADER_PARAMETERS, i)
     }
 
+    #[tactic(auto, unfolding(crate::specs::Headers::header_parameters, crate::specs::Registry::number_of, crate::specs::Registry::has_number))]
     fn to_i64(self) -> i64 {
-        number_at(HEADER_PARAMETERS, self as usize)
+        self as i64
     }
 }
 
@@ -119,48 +101,38 @@ impl WithPrivateRange for HeaderParameter {
 #[derive(Debug, Clone, Copy, PartialEq, Eq, PartialOrd, Ord, Hash)]
 pub enum HeaderAlgorithmParameter {
     /// The sender's certificates in order (RFC 9360).
-    X5ChainSender,
+    X5ChainSender = -29,
     /// The address of the sender's certificate (RFC 9360).
-    X5USender,
+    X5USender = -28,
     /// The hash of the sender's certificate (RFC 9360).
-    X5TSender,
+    X5TSender = -27,
     /// Other information of party V (RFC 9053).
-    PartyVOther,
+    PartyVOther = -26,
     /// The nonce of party V (RFC 9053).
-    PartyVNonce,
+    PartyVNonce = -25,
     /// The identity of party V (RFC 9053).
-    PartyVIdentity,
+    PartyVIdentity = -24,
     /// Other information of party U (RFC 9053).
-    PartyUOther,
+    PartyUOther = -23,
     /// The nonce of party U (RFC 9053).
-    PartyUNonce,
+    PartyUNonce = -22,
     /// The identity of party U (RFC 9053).
-    PartyUIdentity,
+    PartyUIdentity = -21,
     /// A salt for key derivation (RFC 9053).
-    Salt,
+    Salt = -20,
     /// The identifier of the sender's static key (RFC 9053).
-    StaticKeyId,
+    StaticKeyId = -3,
     /// The sender's static key (RFC 9053).
-    StaticKey,
+    StaticKey = -2,
     /// The sender's ephemeral key (RFC 9053).
-    EphemeralKey,
+    EphemeralKey = -1,
 }
 
-/// Each entry with its number, by rising numbers.
-static HEADER_ALGORITHM_PARAMETERS: &[(i64, HeaderAlgorithmParameter)] = &[
-    (-29, HeaderAlgorithmParameter::X5ChainSender),
-    (-28, HeaderAlgorithmParameter::X5USender),
-    (-27, HeaderAlgorithmParameter::X5TSender),
-    (-26, HeaderAlgorithmParameter::PartyVOther),
-    (-25, HeaderAlgorithmParameter::PartyVNonce),
-    (-24, HeaderAlgorithmParameter::PartyVIdentity),
-    (-23, HeaderAlgorithmParameter::PartyUOther),
-    (-22, HeaderAlgorithmParameter::PartyUNonce),
-    (-21, HeaderAlgorithmParameter::PartyUIdentity),
-    (-20, HeaderAlgorithmParameter::Salt),
-    (-3, HeaderAlgorithmParameter::StaticKeyId),
-    (-2, HeaderAlgorithmParameter::StaticKey),
-    (-1, HeaderAlgorithmParameter::EphemeralKey),
+/// Each entry, by rising numbers.
+static HEADER_ALGORITHM_PARAMETERS: &[(i64, HeaderAlgorithmParameter)] =
+    rows![HeaderAlgorithmParameter:
+    X5ChainSender, X5USender, X5TSender, PartyVOther, PartyVNonce, PartyVIdentity, PartyUOther,
+    PartyUNonce, PartyUIdentity, Salt, StaticKeyId, StaticKey, EphemeralKey,
 ];
 
 impl EnumI64 for HeaderAlgorithmParameter {
@@ -180,7 +152,8 @@ impl EnumI64 for HeaderAlgorithmParameter {
         entry_with(HEADER_ALGORITHM_PARAMETERS, i)
     }
 
+    #[tactic(auto, unfolding(crate::specs::Headers::header_algorithm_parameters, crate::specs::Registry::number_of, crate::specs::Registry::has_number))]
     fn to_i64(self) -> i64 {
-        number_at(HEADER_ALGORITHM_PARAMETERS, self as usize)
+        self as i64
     }
 }

@@ -1,26 +1,22 @@
 //! Labels of keys of one type.
 ghost use Rattle.cose_iana.specs.KeyParameters.{okp_key_parameters, okp_key_parameters_in_order, ec2_key_parameters, ec2_key_parameters_in_order, rsa_key_parameters, rsa_key_parameters_in_order, symmetric_key_parameters, symmetric_key_parameters_in_order, hss_lms_key_parameters, hss_lms_key_parameters_in_order, walnut_dsa_key_parameters, walnut_dsa_key_parameters_in_order, akp_key_parameters, akp_key_parameters_in_order};
 
-use crate::number::{EnumI64, entry_with, number_at};
+use crate::number::{EnumI64, entry_with, rows};
 
 /// Labels of keys of the type OKP, from the registry "COSE Key Type Parameters" (RFC 9053, section
 /// 7.2).
 #[derive(Debug, Clone, Copy, PartialEq, Eq, PartialOrd, Ord, Hash)]
 pub enum OkpKeyParameter {
     /// The private key.
-    D,
+    D = -4,
     /// The public key.
-    X,
+    X = -2,
     /// The curve.
-    Crv,
+    Crv = -1,
 }
 
-/// Each entry with its number, by rising numbers.
-static OKP_KEY_PARAMETERS: &[(i64, OkpKeyParameter)] = &[
-    (-4, OkpKeyParameter::D),
-    (-2, OkpKeyParameter::X),
-    (-1, OkpKeyParameter::Crv),
-];
+/// Each entry, by rising numbers.
+static OKP_KEY_PARAMETERS: &[(i64, OkpKeyParameter)] = rows![OkpKeyParameter: D, X, Crv];
 
 impl EnumI64 for OkpKeyParameter {
     ghost number = { okp_key_parameters.number };
@@ -39,8 +35,9 @@ impl EnumI64 for OkpKeyParameter {
         entry_with(OKP_KEY_PARAMETERS, i)
     }
 
+    #[tactic(auto, unfolding(crate::specs::KeyParameters::okp_key_parameters, crate::specs::Registry::number_of, crate::specs::Registry::has_number))]
     fn to_i64(self) -> i64 {
-        number_at(OKP_KEY_PARAMETERS, self as usize)
+        self as i64
     }
 }
 
@@ -49,22 +46,17 @@ impl EnumI64 for OkpKeyParameter {
 #[derive(Debug, Clone, Copy, PartialEq, Eq, PartialOrd, Ord, Hash)]
 pub enum Ec2KeyParameter {
     /// The private key.
-    D,
+    D = -4,
     /// The y-coordinate, or its sign.
-    Y,
+    Y = -3,
     /// The x-coordinate.
-    X,
+    X = -2,
     /// The curve.
-    Crv,
+    Crv = -1,
 }
 
-/// Each entry with its number, by rising numbers.
-static EC2_KEY_PARAMETERS: &[(i64, Ec2KeyParameter)] = &[
-    (-4, Ec2KeyParameter::D),
-    (-3, Ec2KeyParameter::Y),
-    (-2, Ec2KeyParameter::X),
-    (-1, Ec2KeyParameter::Crv),
-];
+/// Each entry, by rising numbers.
+static EC2_KEY_PARAMETERS: &[(i64, Ec2KeyParameter)] = rows![Ec2KeyParameter: D, Y, X, Crv];
 
 impl EnumI64 for Ec2KeyParameter {
     ghost number = { ec2_key_parameters.number };
@@ -83,8 +75,9 @@ impl EnumI64 for Ec2KeyParameter {
         entry_with(EC2_KEY_PARAMETERS, i)
     }
 
+    #[tactic(auto, unfolding(crate::specs::KeyParameters::ec2_key_parameters, crate::specs::Registry::number_of, crate::specs::Registry::has_number))]
     fn to_i64(self) -> i64 {
-        number_at(EC2_KEY_PARAMETERS, self as usize)
+        self as i64
     }
 }
 
@@ -92,45 +85,34 @@ impl EnumI64 for Ec2KeyParameter {
 #[derive(Debug, Clone, Copy, PartialEq, Eq, PartialOrd, Ord, Hash)]
 pub enum RsaKeyParameter {
     /// The CRT coefficient of another prime.
-    TI,
+    TI = -12,
     /// The CRT exponent of another prime.
-    DI,
+    DI = -11,
     /// Another prime.
-    RI,
+    RI = -10,
     /// The other primes, with their exponents and coefficients.
-    Other,
+    Other = -9,
     /// The first CRT coefficient.
-    QInv,
+    QInv = -8,
     /// The CRT exponent of the second prime.
-    DQ,
+    DQ = -7,
     /// The CRT exponent of the first prime.
-    DP,
+    DP = -6,
     /// The second prime.
-    Q,
+    Q = -5,
     /// The first prime.
-    P,
+    P = -4,
     /// The private exponent.
-    D,
+    D = -3,
     /// The public exponent.
-    E,
+    E = -2,
     /// The modulus.
-    N,
+    N = -1,
 }
 
-/// Each entry with its number, by rising numbers.
-static RSA_KEY_PARAMETERS: &[(i64, RsaKeyParameter)] = &[
-    (-12, RsaKeyParameter::TI),
-    (-11, RsaKeyParameter::DI),
-    (-10, RsaKeyParameter::RI),
-    (-9, RsaKeyParameter::Other),
-    (-8, RsaKeyParameter::QInv),
-    (-7, RsaKeyParameter::DQ),
-    (-6, RsaKeyParameter::DP),
-    (-5, RsaKeyParameter::Q),
-    (-4, RsaKeyParameter::P),
-    (-3, RsaKeyParameter::D),
-    (-2, RsaKeyParameter::E),
-    (-1, RsaKeyParameter::N),
+/// Each entry, by rising numbers.
+static RSA_KEY_PARAMETERS: &[(i64, RsaKeyParameter)] = rows![RsaKeyParameter:
+    TI, DI, RI, Other, QInv, DQ, DP, Q, P, D, E, N,
 ];
 
 impl EnumI64 for RsaKeyParameter {
@@ -150,8 +132,9 @@ impl EnumI64 for RsaKeyParameter {
         entry_with(RSA_KEY_PARAMETERS, i)
     }
 
+    #[tactic(auto, unfolding(crate::specs::KeyParameters::rsa_key_parameters, crate::specs::Registry::number_of, crate::specs::Registry::has_number))]
     fn to_i64(self) -> i64 {
-        number_at(RSA_KEY_PARAMETERS, self as usize)
+        self as i64
     }
 }
 
@@ -159,14 +142,11 @@ impl EnumI64 for RsaKeyParameter {
 #[derive(Debug, Clone, Copy, PartialEq, Eq, PartialOrd, Ord, Hash)]
 pub enum SymmetricKeyParameter {
     /// The key.
-    K,
+    K = -1,
 }
 
-/// Each entry with its number, by rising numbers.
-static SYMMETRIC_KEY_PARAMETERS: &[(i64, SymmetricKeyParameter)] = &[(
-    -1,
-    SymmetricKeyParameter::K,
-)];
+/// Each entry, by rising numbers.
+static SYMMETRIC_KEY_PARAMETERS: &[(i64, SymmetricKeyParameter)] = rows![SymmetricKeyParameter: K];
 
 impl EnumI64 for SymmetricKeyParameter {
     ghost number = { symmetric_key_parameters.number };
@@ -185,8 +165,9 @@ impl EnumI64 for SymmetricKeyParameter {
         entry_with(SYMMETRIC_KEY_PARAMETERS, i)
     }
 
+    #[tactic(auto, unfolding(crate::specs::KeyParameters::symmetric_key_parameters, crate::specs::Registry::number_of, crate::specs::Registry::has_number))]
     fn to_i64(self) -> i64 {
-        number_at(SYMMETRIC_KEY_PARAMETERS, self as usize)
+        self as i64
     }
 }
 
@@ -194,11 +175,11 @@ impl EnumI64 for SymmetricKeyParameter {
 #[derive(Debug, Clone, Copy, PartialEq, Eq, PartialOrd, Ord, Hash)]
 pub enum HssLmsKeyParameter {
     /// The public key.
-    Pub,
+    Pub = -1,
 }
 
-/// Each entry with its number, by rising numbers.
-static HSS_LMS_KEY_PARAMETERS: &[(i64, HssLmsKeyParameter)] = &[(-1, HssLmsKeyParameter::Pub)];
+/// Each entry, by rising numbers.
+static HSS_LMS_KEY_PARAMETERS: &[(i64, HssLmsKeyParameter)] = rows![HssLmsKeyParameter: Pub];
 
 impl EnumI64 for HssLmsKeyParameter {
     ghost number = { hss_lms_key_parameters.number };
@@ -217,8 +198,9 @@ impl EnumI64 for HssLmsKeyParameter {
         entry_with(HSS_LMS_KEY_PARAMETERS, i)
     }
 
+    #[tactic(auto, unfolding(crate::specs::KeyParameters::hss_lms_key_parameters, crate::specs::Registry::number_of, crate::specs::Registry::has_number))]
     fn to_i64(self) -> i64 {
-        number_at(HSS_LMS_KEY_PARAMETERS, self as usize)
+        self as i64
     }
 }
 
@@ -226,27 +208,22 @@ impl EnumI64 for HssLmsKeyParameter {
 #[derive(Debug, Clone, Copy, PartialEq, Eq, PartialOrd, Ord, Hash)]
 pub enum WalnutDsaKeyParameter {
     /// The second matrix.
-    Matrix2,
+    Matrix2 = -6,
     /// The permutation that belongs to the first matrix.
-    Permutation1,
+    Permutation1 = -5,
     /// The first matrix.
-    Matrix1,
+    Matrix1 = -4,
     /// The T-values.
-    TValues,
+    TValues = -3,
     /// The size of the field.
-    Q,
+    Q = -2,
     /// The size of the group and of the matrices.
-    N,
+    N = -1,
 }
 
-/// Each entry with its number, by rising numbers.
-static WALNUT_DSA_KEY_PARAMETERS: &[(i64, WalnutDsaKeyParameter)] = &[
-    (-6, WalnutDsaKeyParameter::Matrix2),
-    (-5, WalnutDsaKeyParameter::Permutation1),
-    (-4, WalnutDsaKeyParameter::Matrix1),
-    (-3, WalnutDsaKeyParameter::TValues),
-    (-2, WalnutDsaKeyParameter::Q),
-    (-1, WalnutDsaKeyParameter::N),
+/// Each entry, by rising numbers.
+static WALNUT_DSA_KEY_PARAMETERS: &[(i64, WalnutDsaKeyParameter)] = rows![WalnutDsaKeyParameter:
+    Matrix2, Permutation1, Matrix1, TValues, Q, N,
 ];
 
 impl EnumI64 for WalnutDsaKeyParameter {
@@ -266,8 +243,9 @@ impl EnumI64 for WalnutDsaKeyParameter {
         entry_with(WALNUT_DSA_KEY_PARAMETERS, i)
     }
 
+    #[tactic(auto, unfolding(crate::specs::KeyParameters::walnut_dsa_key_parameters, crate::specs::Registry::number_of, crate::specs::Registry::has_number))]
     fn to_i64(self) -> i64 {
-        number_at(WALNUT_DSA_KEY_PARAMETERS, self as usize)
+        self as i64
     }
 }
 
@@ -275,16 +253,13 @@ impl EnumI64 for WalnutDsaKeyParameter {
 #[derive(Debug, Clone, Copy, PartialEq, Eq, PartialOrd, Ord, Hash)]
 pub enum AkpKeyParameter {
     /// The private key.
-    Priv,
+    Priv = -2,
     /// The public key.
-    Pub,
+    Pub = -1,
 }
 
-/// Each entry with its number, by rising numbers.
-static AKP_KEY_PARAMETERS: &[(i64, AkpKeyParameter)] = &[
-    (-2, AkpKeyParameter::Priv),
-    (-1, AkpKeyParameter::Pub),
-];
+/// Each entry, by rising numbers.
+static AKP_KEY_PARAMETERS: &[(i64, AkpKeyParameter)] = rows![AkpKeyParameter: Priv, Pub];
 
 impl EnumI64 for AkpKeyParameter {
     ghost number = { akp_key_parameters.number };
@@ -303,7 +278,8 @@ impl EnumI64 for AkpKeyParameter {
         entry_with(AKP_KEY_PARAMETERS, i)
     }
 
+    #[tactic(auto, unfolding(crate::specs::KeyParameters::akp_key_parameters, crate::specs::Registry::number_of, crate::specs::Registry::has_number))]
     fn to_i64(self) -> i64 {
-        number_at(AKP_KEY_PARAMETERS, self as usize)
+        self as i64
     }
 }

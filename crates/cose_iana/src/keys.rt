@@ -2,33 +2,28 @@
 ghost use Rattle.cose_iana.specs.Registry.{is_private_use};
 ghost use Rattle.cose_iana.specs.Keys.{key_parameters, key_parameters_in_order, key_types, key_types_in_order, elliptic_curves, elliptic_curves_in_order, elliptic_curves_not_private, key_operations, key_operations_in_order};
 
-use crate::number::{EnumI64, WithPrivateRange, entry_with, number_at};
+use crate::number::{EnumI64, WithPrivateRange, entry_with, rows};
 
 /// Labels of keys of every type: the registry "COSE Key Common Parameters" (RFC 9052, section 7.1).
 #[derive(Debug, Clone, Copy, PartialEq, Eq, PartialOrd, Ord, Hash)]
 pub enum KeyParameter {
     /// Reserved.
-    Reserved,
+    Reserved = 0,
     /// The type of the key.
-    Kty,
+    Kty = 1,
     /// The identifier of the key.
-    Kid,
+    Kid = 2,
     /// The algorithm that the key is for.
-    Alg,
+    Alg = 3,
     /// The operations that the key is for.
-    KeyOps,
+    KeyOps = 4,
     /// The base of initialization vectors.
-    BaseIv,
+    BaseIv = 5,
 }
 
-/// Each entry with its number, by rising numbers.
-static KEY_PARAMETERS: &[(i64, KeyParameter)] = &[
-    (0, KeyParameter::Reserved),
-    (1, KeyParameter::Kty),
-    (2, KeyParameter::Kid),
-    (3, KeyParameter::Alg),
-    (4, KeyParameter::KeyOps),
-    (5, KeyParameter::BaseIv),
+/// Each entry, by rising numbers.
+static KEY_PARAMETERS: &[(i64, KeyParameter)] = rows![KeyParameter:
+    Reserved, Kty, Kid, Alg, KeyOps, BaseIv,
 ];
 
 impl EnumI64 for KeyParameter {
@@ -48,8 +43,9 @@ impl EnumI64 for KeyParameter {
         entry_with(KEY_PARAMETERS, i)
     }
 
+    #[tactic(auto, unfolding(crate::specs::Keys::key_parameters, crate::specs::Registry::number_of, crate::specs::Registry::has_number))]
     fn to_i64(self) -> i64 {
-        number_at(KEY_PARAMETERS, self as usize)
+        self as i64
     }
 }
 
@@ -57,33 +53,26 @@ impl EnumI64 for KeyParameter {
 #[derive(Debug, Clone, Copy, PartialEq, Eq, PartialOrd, Ord, Hash)]
 pub enum KeyType {
     /// Reserved.
-    Reserved,
+    Reserved = 0,
     /// An octet key pair.
-    OKP,
+    OKP = 1,
     /// A key over an elliptic curve, with an x- and a y-coordinate.
-    EC2,
+    EC2 = 2,
     /// An RSA key.
-    RSA,
+    RSA = 3,
     /// A symmetric key.
-    Symmetric,
+    Symmetric = 4,
     /// A public key of HSS/LMS.
-    HSS_LMS,
+    HSS_LMS = 5,
     /// A public key of WalnutDSA.
-    WalnutDSA,
+    WalnutDSA = 6,
     /// A key pair of one algorithm.
-    AKP,
+    AKP = 7,
 }
 
-/// Each entry with its number, by rising numbers.
-static KEY_TYPES: &[(i64, KeyType)] = &[
-    (0, KeyType::Reserved),
-    (1, KeyType::OKP),
-    (2, KeyType::EC2),
-    (3, KeyType::RSA),
-    (4, KeyType::Symmetric),
-    (5, KeyType::HSS_LMS),
-    (6, KeyType::WalnutDSA),
-    (7, KeyType::AKP),
+/// Each entry, by rising numbers.
+static KEY_TYPES: &[(i64, KeyType)] = rows![KeyType:
+    Reserved, OKP, EC2, RSA, Symmetric, HSS_LMS, WalnutDSA, AKP,
 ];
 
 impl EnumI64 for KeyType {
@@ -103,8 +92,9 @@ impl EnumI64 for KeyType {
         entry_with(KEY_TYPES, i)
     }
 
+    #[tactic(auto, unfolding(crate::specs::Keys::key_types, crate::specs::Registry::number_of, crate::specs::Registry::has_number))]
     fn to_i64(self) -> i64 {
-        number_at(KEY_TYPES, self as usize)
+        self as i64
     }
 }
 
@@ -115,48 +105,37 @@ pub const ELLIPTIC_CURVE_PRIVATE_USE_MAX: i64 = -65536;
 #[derive(Debug, Clone, Copy, PartialEq, Eq, PartialOrd, Ord, Hash)]
 pub enum EllipticCurve {
     /// Reserved.
-    Reserved,
+    Reserved = 0,
     /// NIST's P-256, secp256r1.
-    P_256,
+    P_256 = 1,
     /// NIST's P-384, secp384r1.
-    P_384,
+    P_384 = 2,
     /// NIST's P-521, secp521r1.
-    P_521,
+    P_521 = 3,
     /// X25519, for ECDH alone.
-    X25519,
+    X25519 = 4,
     /// X448, for ECDH alone.
-    X448,
+    X448 = 5,
     /// Ed25519, for EdDSA alone.
-    Ed25519,
+    Ed25519 = 6,
     /// Ed448, for EdDSA alone.
-    Ed448,
+    Ed448 = 7,
     /// Secp256k1.
-    Secp256k1,
+    Secp256k1 = 8,
     /// The curve brainpoolP256r1.
-    BrainpoolP256R1,
+    BrainpoolP256R1 = 256,
     /// The curve brainpoolP320r1.
-    BrainpoolP320R1,
+    BrainpoolP320R1 = 257,
     /// The curve brainpoolP384r1.
-    BrainpoolP384R1,
+    BrainpoolP384R1 = 258,
     /// The curve brainpoolP512r1.
-    BrainpoolP512R1,
+    BrainpoolP512R1 = 259,
 }
 
-/// Each entry with its number, by rising numbers.
-static ELLIPTIC_CURVES: &[(i64, EllipticCurve)] = &[
-    (0, EllipticCurve::Reserved),
-    (1, EllipticCurve::P_256),
-    (2, EllipticCurve::P_384),
-    (3, EllipticCurve::P_521),
-    (4, EllipticCurve::X25519),
-    (5, EllipticCurve::X448),
-    (6, EllipticCurve::Ed25519),
-    (7, EllipticCurve::Ed448),
-    (8, EllipticCurve::Secp256k1),
-    (256, EllipticCurve::BrainpoolP256R1),
-    (257, EllipticCurve::BrainpoolP320R1),
-    (258, EllipticCurve::BrainpoolP384R1),
-    (259, EllipticCurve::BrainpoolP512R1),
+/// Each entry, by rising numbers.
+static ELLIPTIC_CURVES: &[(i64, EllipticCurve)] = rows![EllipticCurve:
+    Reserved, P_256, P_384, P_521, X25519, X448, Ed25519, Ed448, Secp256k1, BrainpoolP256R1,
+    BrainpoolP320R1, BrainpoolP384R1, BrainpoolP512R1,
 ];
 
 impl EnumI64 for EllipticCurve {
@@ -176,8 +155,9 @@ impl EnumI64 for EllipticCurve {
         entry_with(ELLIPTIC_CURVES, i)
     }
 
+    #[tactic(auto, unfolding(crate::specs::Keys::elliptic_curves, crate::specs::Registry::number_of, crate::specs::Registry::has_number))]
     fn to_i64(self) -> i64 {
-        number_at(ELLIPTIC_CURVES, self as usize)
+        self as i64
     }
 }
 
@@ -195,39 +175,31 @@ impl WithPrivateRange for EllipticCurve {
 #[derive(Debug, Clone, Copy, PartialEq, Eq, PartialOrd, Ord, Hash)]
 pub enum KeyOperation {
     /// To make signatures.
-    Sign,
+    Sign = 1,
     /// To verify signatures.
-    Verify,
+    Verify = 2,
     /// To encrypt content.
-    Encrypt,
+    Encrypt = 3,
     /// To decrypt content.
-    Decrypt,
+    Decrypt = 4,
     /// To encrypt keys.
-    WrapKey,
+    WrapKey = 5,
     /// To decrypt keys.
-    UnwrapKey,
+    UnwrapKey = 6,
     /// To derive keys.
-    DeriveKey,
+    DeriveKey = 7,
     /// To derive bits that are no key.
-    DeriveBits,
+    DeriveBits = 8,
     /// To make authentication tags.
-    MacCreate,
+    MacCreate = 9,
     /// To verify authentication tags.
-    MacVerify,
+    MacVerify = 10,
 }
 
-/// Each entry with its number, by rising numbers.
-static KEY_OPERATIONS: &[(i64, KeyOperation)] = &[
-    (1, KeyOperation::Sign),
-    (2, KeyOperation::Verify),
-    (3, KeyOperation::Encrypt),
-    (4, KeyOperation::Decrypt),
-    (5, KeyOperation::WrapKey),
-    (6, KeyOperation::UnwrapKey),
-    (7, KeyOperation::DeriveKey),
-    (8, KeyOperation::DeriveBits),
-    (9, KeyOperation::MacCreate),
-    (10, KeyOperation::MacVerify),
+/// Each entry, by rising numbers.
+static KEY_OPERATIONS: &[(i64, KeyOperation)] = rows![KeyOperation:
+    Sign, Verify, Encrypt, Decrypt, WrapKey, UnwrapKey, DeriveKey, DeriveBits, MacCreate,
+    MacVerify,
 ];
 
 impl EnumI64 for KeyOperation {
@@ -247,7 +219,8 @@ impl EnumI64 for KeyOperation {
         entry_with(KEY_OPERATIONS, i)
     }
 
+    #[tactic(auto, unfolding(crate::specs::Keys::key_operations, crate::specs::Registry::number_of, crate::specs::Registry::has_number))]
     fn to_i64(self) -> i64 {
-        number_at(KEY_OPERATIONS, self as usize)
+        self as i64
     }
 }

@@ -1,13 +1,13 @@
 //! Registries of IANA for COSE: enums whose entries have the registered numbers.
 //!
-//! Each registry is an enum of its entries, and a table with a row for each: its number, which stands nowhere else, and the entry. Both
-//! directions read the table. It is proved once for every table that each direction undoes the other, that no number stands twice, and
-//! that the entries are ordered by their numbers (`EnumI64`). The tables decide where a registry of IANA says otherwise.
+//! Each registry is an enum of its entries, with a number for each, which stands nowhere else, and a table of all of them. Both
+//! directions read the enum's numbers: `as i64` is the number of an entry, and so is `to_i64`. It is proved once for every table that
+//! each direction undoes the other, that no number stands twice, and that the entries are ordered by their numbers (`EnumI64`). The
+//! enums decide where a registry of IANA says otherwise.
 //!
-//! A new entry is its name in the enum and its row in the table, `(number, entry)`, both in the place of its number, since the numbers
+//! A new entry is its name with its number in the enum and its name in the table, both in the place of its number, since the numbers
 //! rise. No proof changes, except that the law of the order of an enum of one entry, once it has two, is written as that of the others.
-//! A check refuses a name without a row, a row in another place, and a number that stands twice. `as` gives the place of an entry and
-//! not its number: take `to_i64`.
+//! A check refuses a name that isn't in the table, a name in another place, and a number that stands twice.
 #![tactic(auto)]
 
 mod algorithm;

@@ -1,6 +1,6 @@
 //! Entries and their numbers.
 ghost use Rattle.std.specs.Ordering.{int_cmp};
-ghost use Rattle.std.specs.Prelude.{◌≡◌, ◌<◌, ℤ, pos, Bool, true, false, length, map, get_or, Option, Some, MatchOption};
+ghost use Rattle.std.specs.Prelude.{◌≡◌, ℤ, Bool, true, false, Option, Some, MatchOption};
 ghost use Rattle.cose_iana.specs.Registry.{entry_of};
 
 /// A registry: each entry has a number, each number of the registry is that of one entry, and the entries are ordered by their numbers.
@@ -20,7 +20,7 @@ pub trait EnumI64: Copy + Ord {
         ensures found { MatchOption result (is_registered i ≡ false)
             (λ x. (number x ≡ i) × (is_registered i ≡ true)) };
 
-    /// The number of this entry.
+    /// The number of this entry, which `as i64` gives too.
     fn to_i64(self) -> i64
         ensures number { result ≡ number self }
         ensures registered { is_registered result ≡ true };
@@ -58,10 +58,11 @@ pub(crate) fn entry_with<E: Copy>(table: &[(i64, E)], i: i64) -> Option<E>
     table.iter().find(|row| row.0 == i).map(|row| row.1)
 }
 
-/// The number in the row at this place: that of the entry there, since rows stand in the order of the enum.
-pub(crate) fn number_at<E: Copy>(table: &[(i64, E)], place: usize) -> i64
-    requires { place < length table.now }
-    ensures { result ≡ get_or (map (λ row. row.0) table.now) place (pos 0) }
-{
-    table[place].0
+/// A row for each entry of an enum: its number, which the enum gives, and the entry.
+macro_rules! rows {
+    ($registry:ident: $($entry:ident),* $(,)?) => {
+        &[$(($registry::$entry as i64, $registry::$entry)),*]
+    };
 }
+
+pub(crate) use rows;

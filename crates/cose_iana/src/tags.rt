@@ -1,39 +1,32 @@
 //! Tags.
 ghost use Rattle.cose_iana.specs.Tags.{cbor_tags, cbor_tags_in_order};
 
-use crate::number::{EnumI64, entry_with, number_at};
+use crate::number::{EnumI64, entry_with, rows};
 
 /// Tags of COSE and of CBOR Web Tokens, from the registry "CBOR Tags" (RFC 8949, section 9.2).
 #[derive(Debug, Clone, Copy, PartialEq, Eq, PartialOrd, Ord, Hash)]
 pub enum CborTag {
     /// A COSE_Encrypt0 (RFC 9052).
-    CoseEncrypt0,
+    CoseEncrypt0 = 16,
     /// A COSE_Mac0 (RFC 9052).
-    CoseMac0,
+    CoseMac0 = 17,
     /// A COSE_Sign1 (RFC 9052).
-    CoseSign1,
+    CoseSign1 = 18,
     /// A counter signature that stands alone (RFC 9338).
-    CoseCountersignature,
+    CoseCountersignature = 19,
     /// A CBOR Web Token (RFC 8392).
-    Cwt,
+    Cwt = 61,
     /// A COSE_Encrypt (RFC 9052).
-    CoseEncrypt,
+    CoseEncrypt = 96,
     /// A COSE_Mac (RFC 9052).
-    CoseMac,
+    CoseMac = 97,
     /// A COSE_Sign (RFC 9052).
-    CoseSign,
+    CoseSign = 98,
 }
 
-/// Each entry with its number, by rising numbers.
-static CBOR_TAGS: &[(i64, CborTag)] = &[
-    (16, CborTag::CoseEncrypt0),
-    (17, CborTag::CoseMac0),
-    (18, CborTag::CoseSign1),
-    (19, CborTag::CoseCountersignature),
-    (61, CborTag::Cwt),
-    (96, CborTag::CoseEncrypt),
-    (97, CborTag::CoseMac),
-    (98, CborTag::CoseSign),
+/// Each entry, by rising numbers.
+static CBOR_TAGS: &[(i64, CborTag)] = rows![CborTag:
+    CoseEncrypt0, CoseMac0, CoseSign1, CoseCountersignature, Cwt, CoseEncrypt, CoseMac, CoseSign,
 ];
 
 impl EnumI64 for CborTag {
@@ -53,7 +46,8 @@ impl EnumI64 for CborTag {
         entry_with(CBOR_TAGS, i)
     }
 
+    #[tactic(auto, unfolding(crate::specs::Tags::cbor_tags, crate::specs::Registry::number_of, crate::specs::Registry::has_number))]
     fn to_i64(self) -> i64 {
-        number_at(CBOR_TAGS, self as usize)
+        self as i64
     }
 }
