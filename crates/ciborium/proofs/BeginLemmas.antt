@@ -34,7 +34,7 @@ levels [] r = absurd r
 levels (code.Whole at h ∷ fs) r = let e : length (opened fs) ≡ 0 = ap (λ z. length (opened z)) r in let f : length fs ≡ 0 = ap length r in omega arith
 levels (code.Items l ∷ fs) r = let h = levels fs r in omega arith
 levels (code.Entries l ∷ fs) r = let h = levels fs r.1 in omega arith
-levels (code.Tag n at k ∷ fs) r = let h = levels fs r in omega arith
+levels (code.Tag n at k room ∷ fs) r = let h = levels fs r in omega arith
 
 -- what is left of the limit
 left_is : (limit left : ℕ) (x : Frame) (xs : List Frame) → left ≡ limit - length xs → Rooted (x ∷ reverse xs) → left ≡ limit - length (opened (x ∷ reverse xs))
@@ -93,7 +93,7 @@ level_begins limit at now h (code.Entries l) fs w w' y i k from b r low t = (
         (ap (λ z. halves z (flat (view_pairs l.entries.items))) i.2 ∙ ap (λ z. flat (view_pairs z)) i.1) i.3 i.4 (told_opened k w limit (opened fs) h at from now b t),
   ),
 )
-level_begins limit at now h (code.Tag n p j) fs w w' y i k from b r low t = (
+level_begins limit at now h (code.Tag n p j room) fs w w' y i k from b r low t = (
   r,
   (
     record {

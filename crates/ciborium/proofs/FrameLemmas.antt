@@ -60,9 +60,9 @@ entries_more fs l m v w same half more k limit from now b (r, p, q) =
     (refl, ((half, r.1), (x, y)))
 
 -- a tag is whole
-pub tag_up : (xs ys : List Frame) (x : Frame) (n at : ℕ) (h : Header) (v u : Value) (w w' : Bool) → ys ≡ xs ++ x ∷ [] → tagged n (view v) ≡ Some (view u) → IsKept n (view v) (view u) w w'
-    → Hands (code.Tag n at h ∷ reverse ys) (x ∷ reverse xs) (Some v) (Some u) w w' handed.Up
-tag_up xs ys x n at h v u w w' e f kept k limit from now b (r, p, q) =
+pub tag_up : (xs ys : List Frame) (x : Frame) (n at room : ℕ) (h : Header) (v u : Value) (w w' : Bool) → ys ≡ xs ++ x ∷ [] → tagged n (view v) ≡ Some (view u) → IsKept n (view v) (view u) w w'
+    → Hands (code.Tag n at h room ∷ reverse ys) (x ∷ reverse xs) (Some v) (Some u) w w' handed.Up
+tag_up xs ys x n at room h v u w w' e f kept k limit from now b (r, p, q) =
     subst (λ (z : List Frame). Stage k w' limit z (Some u) from now b) (last_pushed xs ys x e)
     (r, tag_whole limit n _ (opened (reverse ys)) (view v) (view u) b refl refl p f, told_tag k w w' limit n (opened (reverse ys)) (view v) (view u) b p f kept q)
 
@@ -76,16 +76,16 @@ faults_memory : {E : Type 0} (ends : E → Bool) (limit from : ℕ) (b : List �
 faults_memory ends limit from b None place = tt
 faults_memory ends limit from b (Some rest) place = tt
 
-pub tag_folds : {E : Type 0} (fs : List Frame) (n at : ℕ) (h : Header) (v : Value) (e : Error E) → IsFoldFault n (view v) e → HandFails (code.Tag n at h ∷ fs) (Some v) e
-tag_folds fs n at h v (error.Io e) w ends limit from b left now same s = absurd w
-tag_folds fs n at h v (error.Syntax p) w ends limit from b left now same s = absurd w
-tag_folds fs n at h v (error.Semantic o k) w ends limit from b left now same s =
+pub tag_folds : {E : Type 0} (fs : List Frame) (n at room : ℕ) (h : Header) (v : Value) (e : Error E) → IsFoldFault n (view v) e → HandFails (code.Tag n at h room ∷ fs) (Some v) e
+tag_folds fs n at room h v (error.Io e) w ends limit from b left now same s = absurd w
+tag_folds fs n at room h v (error.Syntax p) w ends limit from b left now same s = absurd w
+tag_folds fs n at room h v (error.Semantic o k) w ends limit from b left now same s =
     subst (λ z. Faults ends limit from b left now (error.Semantic z k)) (sym w.0)
     (subst (λ z. Faults ends limit from b left now (error.Semantic None z)) (sym w.1)
     (faults_semantic ends limit from b left now (λ stop rest. negative_damage limit n _ (opened fs) (view v) b rest stop refl refl s.1 w.2)))
-tag_folds fs n at h v error.RecursionLimitExceeded w ends limit from b left now same s = absurd w
-tag_folds fs n at h v error.Memory w ends limit from b left now same s = faults_memory ends limit from b left now
-tag_folds fs n at h v error.TooLong w ends limit from b left now same s = absurd w
+tag_folds fs n at room h v error.RecursionLimitExceeded w ends limit from b left now same s = absurd w
+tag_folds fs n at room h v error.Memory w ends limit from b left now same s = faults_memory ends limit from b left now
+tag_folds fs n at room h v error.TooLong w ends limit from b left now same s = absurd w
 
 -- a key, and then its value
 front_snoc : (ts : Trees) (t : Tree) → front (snoc ts t) ≡ ts
@@ -254,8 +254,8 @@ in_hand_still k w limit fs h at from now b i =
     let z : now ≡ now + length {A = ℕ} [] = omega arith in
     subst (λ (x : List ℕ). InHand k w limit fs h at from (now + length {A = ℕ} []) x) (append_nil b) (subst (λ (x : ℕ). InHand k w limit fs h at from x b) z i)
 
-pub tag_gives : (n : ℕ) (h : Header) (at now : ℕ) (w : Bool) → AskGives (code.Tag n at h) h at now w w []
-tag_gives n h at now w k limit from fs b (r, i) = (r, in_hand_still k w limit (opened (code.Tag n at h ∷ fs)) h at from now b i)
+pub tag_gives : (n room : ℕ) (h : Header) (at now : ℕ) (w : Bool) → AskGives (code.Tag n at h room) h at now w w []
+tag_gives n room h at now w k limit from fs b (r, i) = (r, in_hand_still k w limit (opened (code.Tag n at h room ∷ fs)) h at from now b i)
 
 pub whole_gives : (h : Header) (at now : ℕ) (w : Bool) → AskGives (code.Whole at h) h at now w w []
 whole_gives h at now w k limit from fs b (r, i) = (r, in_hand_still k w limit (opened (code.Whole at h ∷ fs)) h at from now b i)

@@ -42,7 +42,7 @@ asks_as w w' limit [] from now b p = p
 asks_as w w' limit (code.Whole at h ∷ fs) from now b p = (p.0, tt)
 asks_as w w' limit (code.Items l ∷ fs) from now b p = (p.0, tt)
 asks_as w w' limit (code.Entries l ∷ fs) from now b p = (p.0, tt)
-asks_as w w' limit (code.Tag n at h ∷ fs) from now b p = (p.0, tt)
+asks_as w w' limit (code.Tag n at h room ∷ fs) from now b p = (p.0, tt)
 
 unasked_as : (w w' : Bool) (limit : ℕ) (fs : List Frame) (read : Option Value) (from now : ℕ) (b : List ℕ) → Stage false w limit fs read from now b → Stage false w' limit fs read from now b
 unasked_as w w' limit fs None from now b p = (p.0, asks_as w w' limit fs from now b p.1)
@@ -171,7 +171,7 @@ hand_less : (f : Frame) (o₀ o₁ n m : ℕ) → o₀ ≤ o₁ → o₀ + 1 ≤
 hand_less (code.Whole at h) o₀ o₁ n m a b c = omega arith
 hand_less (code.Items l) o₀ o₁ n m a b c = omega arith
 hand_less (code.Entries l) o₀ o₁ n m a b c = omega arith
-hand_less (code.Tag k at h) o₀ o₁ n m a b c = omega arith
+hand_less (code.Tag k at h room) o₀ o₁ n m a b c = omega arith
 
 pub turn_less : (xs ys zs : List Frame) (x f g : Frame) (read read' read'' : Option Value) (o₀ o₁ o₂ : ℕ) → read' ≡ None → o₂ < 2 ^ 64 → o₀ ≤ o₁ → o₁ ≤ o₂ → rank ys f read' ≤ rank xs x read → o₀ + 1 ≤ o₁ + in_hand None f
     → rank zs g read'' + 4 * o₁ ≤ 2 * length ys + 2 + 4 * o₂ → 4 * (2 ^ 64 - o₂) + rank zs g read'' < 4 * (2 ^ 64 - o₀) + rank xs x read

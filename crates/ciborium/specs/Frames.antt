@@ -50,7 +50,7 @@ abbrev pub put_level : Frame → List Level → List Level
 put_level (code.Whole at h) ls = ls
 put_level (code.Items l) ls = record { head = Array l.count; done = views l.items.items } ∷ ls
 put_level (code.Entries l) ls = record { head = Map l.count; done = halves_of l } ∷ ls
-put_level (code.Tag n at h) ls = record { head = Tag n; done = no_trees } ∷ ls
+put_level (code.Tag n at h room) ls = record { head = Tag n; done = no_trees } ∷ ls
 
 -- the levels that are open, the innermost first
 abbrev pub opened : List Frame → List Level
@@ -63,7 +63,7 @@ Rooted [] = ⊥
 Rooted (code.Whole at h ∷ fs) = fs ≡ []
 Rooted (code.Items l ∷ fs) = Rooted fs
 Rooted (code.Entries l ∷ fs) = HasHalf l × Rooted fs
-Rooted (code.Tag n at h ∷ fs) = Rooted fs
+Rooted (code.Tag n at h room ∷ fs) = Rooted fs
 
 -- What the flag w, whether the text is the shortest so far, tells of n bytes where it is asked (k): whether P.
 abbrev pub Told : Bool → Bool → ℕ → Type 0 → Type 0
@@ -93,7 +93,7 @@ Asks k w limit [] from now b = ⊥
 Asks k w limit (code.Whole at h ∷ fs) from now b = InHand k w limit (opened (code.Whole at h ∷ fs)) h at from now b
 Asks k w limit (code.Items l ∷ fs) from now b = Within limit (opened (code.Items l ∷ fs)) b × Told k w (length b) (LevelsExact (opened (code.Items l ∷ fs)) b)
 Asks k w limit (code.Entries l ∷ fs) from now b = Within limit (opened (code.Entries l ∷ fs)) b × Told k w (length b) (LevelsExact (opened (code.Entries l ∷ fs)) b)
-Asks k w limit (code.Tag n at h ∷ fs) from now b = InHand k w limit (opened (code.Tag n at h ∷ fs)) h at from now b
+Asks k w limit (code.Tag n at h room ∷ fs) from now b = InHand k w limit (opened (code.Tag n at h room ∷ fs)) h at from now b
 
 -- the bytes of the whole up to the place `now`: of the frames, and of an item that is to be handed over
 abbrev pub Stage : Bool → Bool → ℕ → List Frame → Option Value → ℕ → ℕ → List ℕ → Type 0
@@ -128,7 +128,7 @@ Ended [] y = ⊥
 Ended (code.Whole at h ∷ fs) y = ⊥
 Ended (code.Items l ∷ fs) y = Closes l.count (length l.items.items) y
 Ended (code.Entries l ∷ fs) y = (l.half ≡ false) × Closes l.count (length l.entries.items) y
-Ended (code.Tag n at h ∷ fs) y = ⊥
+Ended (code.Tag n at h room ∷ fs) y = ⊥
 
 -- it is closed
 abbrev pub ClosedStage : Bool → Bool → ℕ → List Frame → List ℕ → Type 0
@@ -159,7 +159,7 @@ abbrev pub IsBegun : Frame → Header → ℕ → Bool → Bool → List ℕ →
 IsBegun (code.Whole at j) h now w w' y = ⊥
 IsBegun (code.Items l) h now w w' y = (h ≡ Array l.count) × (l.items.items ≡ []) × (y ≡ []) × (w' ≡ w)
 IsBegun (code.Entries l) h now w w' y = (h ≡ Map l.count) × (l.entries.items ≡ []) × (l.half ≡ false) × (y ≡ []) × (w' ≡ w)
-IsBegun (code.Tag n at j) h now w w' y = (h ≡ Tag n) × OpensOver n j × Title y j × (at ≡ now) × IsFlagged w w' j y
+IsBegun (code.Tag n at j room) h now w w' y = (h ≡ Tag n) × OpensOver n j × Title y j × (at ≡ now) × IsFlagged w w' j y
 
 -- a tag whose level is within the limit, or that opens none
 abbrev pub IsLow : ℕ → ℕ → Header → Type 0
@@ -180,20 +180,20 @@ abbrev pub claimed : Option ℕ → ℕ → ℕ
 claimed None room = 0
 claimed (Some n) room = min n room
 
--- The room of an item in a level, by the items that fit: what the level itself holds for parts that have not come is not free,
--- and behind a tag there is none. Around all levels it is that of 128 items.
+-- The room of an item in a level, by the items that fit: what the level itself holds for parts that have not come is not free.
+-- A tag holds nothing, so its item has the room of the tag. Around all levels it is that of 128 items.
 abbrev pub room_of : Frame → ℕ
 room_of (code.Whole at h) = 128
 room_of (code.Items l) = l.room - (claimed l.count (l.room / 2) - length l.items.items)
 room_of (code.Entries l) = l.room - (claimed l.count (l.room / 4) - length l.entries.items) * 2
-room_of (code.Tag n at h) = 0
+room_of (code.Tag n at h room) = room
 
--- an array that is opened in such a room reserves of half of it, and a map of a quarter
+-- an array that is opened in such a room reserves of half of it, a map of a quarter, and a tag nothing
 abbrev pub Holds : ℕ → Opened → Type 0
 Holds room (opens.Level (code.Whole at h)) = Unit {0}
 Holds room (opens.Level (code.Items l)) = (l.room ≡ room) × (vec_capacity l.items ≡ claimed l.count (room / 2))
 Holds room (opens.Level (code.Entries l)) = (l.room ≡ room) × (vec_capacity l.entries ≡ claimed l.count (room / 4))
-Holds room (opens.Level (code.Tag n at h)) = Unit {0}
+Holds room (opens.Level (code.Tag n at h inner)) = inner ≡ room
 Holds room (opens.Leaf n place h) = Unit {0}
 
 -- the item of a title is begun
@@ -216,7 +216,7 @@ in_hand (Some v) f = 0
 in_hand None (code.Whole at h) = 3
 in_hand None (code.Items l) = 0
 in_hand None (code.Entries l) = 0
-in_hand None (code.Tag n at h) = 3
+in_hand None (code.Tag n at h room) = 3
 
 abbrev pub rank : List Frame → Frame → Option Value → ℕ
 rank below top read = 2 * length below + in_hand read top

@@ -60,8 +60,8 @@ pub enum Frame {
     Items(Items),
     /// A map.
     Entries(Entries),
-    /// A tag of this number, over an item of that title.
-    Tag(u64, usize, Header),
+    /// A tag of this number, over an item of that title, and the room that the item may reserve of.
+    Tag(u64, usize, Header, usize),
 }
 
 /// What became of a value that was handed to the innermost level.
@@ -134,7 +134,7 @@ fn hand<E, X: Exactness>(
             put_half(list, value)?;
             Ok(Handed::Taken)
         }
-        Frame::Tag(n, _, _) => {
+        Frame::Tag(n, _, _, _) => {
             let whole = tag_value(alloc, *n, value, exact)?;
             *read = Some(whole);
             match below.pop() {
@@ -163,7 +163,7 @@ fn close(below: &mut Vec<Frame>, top: &mut Frame) -> Value
                 Frame::Items(list) => Value::Array(list.items),
                 Frame::Entries(list) => Value::Map(list.entries),
                 Frame::Whole(_, _) => unreachable!(),
-                Frame::Tag(_, _, _) => unreachable!(),
+                Frame::Tag(_, _, _, _) => unreachable!(),
             }
         }
     }
@@ -264,7 +264,7 @@ fn ask<R: Read, X: Exactness>(
             take_title(decoder, part, exact);
             Ok(part)
         }
-        Frame::Tag(_, at, header) => Ok(Some((*at, *header))),
+        Frame::Tag(_, at, header, _) => Ok(Some((*at, *header))),
     }
 }
 
@@ -290,7 +290,7 @@ fn room_in(top: &Frame) -> usize
                 2,
             )
         }
-        Frame::Tag(_, _, _) => 0,
+        Frame::Tag(_, _, _, room) => *room,
     }
 }
 
@@ -358,7 +358,7 @@ fn opening<R: Read, X: Exactness>(
             if is_leaf(inner) {
                 return Ok(Opened::Leaf(Some(n), place, inner));
             }
-            Ok(Opened::Level(Frame::Tag(n, place, inner)))
+            Ok(Opened::Level(Frame::Tag(n, place, inner, room_in(top))))
         }
         _ => Ok(Opened::Leaf(None, at, header)),
     }

@@ -6,7 +6,7 @@ use Rattle.ciborium.proofs.frames.hand.Goals as goal
 pub returns-in_err-whole-in-Tag-clause-err : goal.returns-in_err-whole-in-Tag-clause-err
 returns-in_err-whole-in-Tag-clause-err g c =
     let p = err_from_is_err_and c.from_residual-in_err-whole-in-Tag.result c.from_residual-in_err-whole-in-Tag.ensures.1 in
-    rw (p.1, p.2) (rw (sym c.take.ensures.value, c.in-Some.is, c.in-Tag.is) (tag_folds (reverse c.args.below.now.items) _ c.in-Tag.field-1 c.in-Tag.field-2 _ _ c.in_err-whole-in-Tag.ensures.err))
+    rw (p.1, p.2) (rw (sym c.take.ensures.value, c.in-Some.is, c.in-Tag.is) (tag_folds (reverse c.args.below.now.items) _ c.in-Tag.field-1 c.in-Tag.field-3 c.in-Tag.field-2 _ _ c.in_err-whole-in-Tag.ensures.err))
 
 pub returns-in-Ok-clause-ok : goal.returns-in-Ok-clause-ok
 returns-in-Ok-clause-ok g c =
@@ -17,4 +17,4 @@ returns-in_ok-put_half-in-Entries-clause-ok g c =
     rw (sym c.take.ensures.value, c.in-Some.is, c.in-Entries.is, c.take.ensures.after) (entries_more (reverse c.args.below.now.items) c.in-Entries.list c.put_half.new.list c.in-Some.value (g.X.Exactness.flag c.args.exact.now) c.put_half.ensures.count c.in_ok-put_half-in-Entries.ensures.half c.in_ok-put_half-in-Entries.ensures.ok)
 
 pub returns-in-Some-pop-clause-ok : goal.returns-in-Some-pop-clause-ok
-returns-in-Some-pop-clause-ok g c = rw (sym c.take.ensures.value, c.in-Some.is, c.in-Tag.is) (tag_up _ _ _ _ c.in-Tag.field-1 c.in-Tag.field-2 _ _ _ _ c.in-Some-pop.ensures.items c.in_ok-whole-in-Tag.ensures.ok c.in_ok-whole-in-Tag.ensures.kept)
+returns-in-Some-pop-clause-ok g c = rw (sym c.take.ensures.value, c.in-Some.is, c.in-Tag.is) (tag_up _ _ _ _ c.in-Tag.field-1 c.in-Tag.field-3 c.in-Tag.field-2 _ _ _ _ c.in-Some-pop.ensures.items c.in_ok-whole-in-Tag.ensures.ok c.in_ok-whole-in-Tag.ensures.kept)
