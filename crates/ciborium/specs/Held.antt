@@ -16,7 +16,7 @@ abbrev pub IsFitting : Option ℕ → List ℕ → ℕ → Type 0
 IsFitting None items capacity = IsEarned (length items) capacity
 IsFitting (Some n) items capacity = capacity ≤ n
 
--- P holds whatever the answer, but not where memory was refused
+-- P holds at any result but `Memory`
 abbrev pub UnlessMemory : {T E : Type 0} → Result T (Error E) → Type 0 → Type 0
 UnlessMemory (Ok x) P = P
 UnlessMemory (Err (code.Io e)) P = P
