@@ -66,6 +66,11 @@ levels() { i=0; while [ $i -lt "$1" ]; do printf "$2"; i=$((i + 1)); done; }
 printf '\200' > "$folder/empty"
 printf '\233\377\377\377\377\377\377\377\377' > "$folder/9b"
 printf '\273\377\377\377\377\377\377\377\377' > "$folder/bb"
+# strings of 1 GiB, and such bodies of open strings
+printf '\132\100\000\000\000' > "$folder/5a"
+printf '\172\100\000\000\000' > "$folder/7a"
+printf '\137\132\100\000\000\000' > "$folder/5f5a"
+printf '\177\172\100\000\000\000' > "$folder/7f7a"
 { levels 256 '\241\000'; printf '\000'; } > "$folder/deep"
 levels 256 '\237' > "$folder/9f-256"
 levels 256 '\250' > "$folder/a8-256"
@@ -80,7 +85,7 @@ small=$cap
 # what is 256 levels deep may take what maps of that depth take: the list of open levels, and the stack to drop them
 least 0 "$bench" cbor decode "$folder/deep" 1
 deep=$cap
-for name in 9b bb a8-256 9b-256; do
+for name in 9b bb 5a 7a 5f5a 7f7a a8-256 9b-256; do
   case $name in
     *-256) cap=$deep base=$nested claims="so many open arrays" ;;
     *) cap=$small base=$flat claims="an empty array" ;;

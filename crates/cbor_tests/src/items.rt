@@ -5,5 +5,6 @@ mod building;
 mod devices;
 mod levels;
 mod round_trips;
+mod strings;
 mod typed;
 mod writing;

@@ -15,6 +15,7 @@ use Rattle.ciborium_ll.specs.Framing.{joined, Frame, whole, cut, Frames, no_fram
 use Rattle.ciborium.specs.Damage.{Fault, Never, TitleDamage, ChunkDamage, OtherDamage, StringDamage}
 use Rattle.ciborium_ll.specs.Framing.{Opened, opened, deeper}
 use Rattle.ciborium.specs.Reading.{FailsAt, FailsBehind, IfKnown, string_head, IsBody, StringBehind, OpenBehind, ChunkBody}
+use Rattle.ciborium.specs.Held.{IsEarned, IsEarnedSince}
 use Rattle.ciborium.proofs.Once.{append_nil}
 use Rattle.ciborium.proofs.ReadLemmas.{behind_as}
 use Rattle.ciborium.proofs.Taking.{fails_as, fails_behind, fails_titled, behind_title, takes_then}
@@ -247,6 +248,11 @@ step_chunk text n m items items' h l₀ l₁ l₂ l₃ o₀ o₁ o₂ o₃ t u e
     takes_then l₀ l₁ l₃ o₀ o₁ o₃ _ (λ z. (x y : List ℕ) × Title x h × ChunkBody text m items items' y × (z ≡ x ++ y)) _ t
     (takes_then l₁ l₂ l₃ o₁ o₂ o₃ _ _ _ u w (λ x y p q. (x, y, p, q, refl)))
     (λ x z p q. subst (λ (r : List ℕ). OpenBehind text n items' (x ++ r)) (sym q.4) (open_chunk text n m items items' x q.0 q.1 p (subst (λ (r : Header). Title q.0 r) e q.2) q.3))
+
+-- what is held after one more body
+pub chunk_earned : (text : Bool) (n : ℕ) (items items' : List ℕ) (l l' : Option (List ℕ)) (o o' capacity : ℕ)
+    → Moves l l' o o' (λ (b : List ℕ). ChunkBody text n items items' b) → IsEarnedSince (length items) o o' capacity → IsEarned (length items') capacity
+chunk_earned text n items items' l l' o o' capacity t e = omega (arith, t.grown, ap length t.has.is, length-append items t.bytes)
 
 pub utf8_no : {S T : Type 0} (r : Result S T) (P : S → Type 0) (Q : T → Type 0) (bad : List ℕ) (w : MatchResult r P (λ e. (IsUtf8 bad → ⊥) × Q e)) (v : Bool) → v ≡ is_err r → v ≡ true → IsUtf8 bad → ⊥
 utf8_no (Ok x) P Q bad w v e f = let k : false ≡ true = sym e ∙ f in λ u. absurd (false≢true k)

@@ -5,6 +5,7 @@ pub mod Exact
 pub mod Fitting
 pub mod Frames
 pub mod Front
+pub mod Held
 pub mod Items
 pub mod Levels
 pub mod Meaning

@@ -1,5 +1,5 @@
 -- What reading as a type gives.
-use Rattle.std.specs.Prelude.{◌≡◌, ℕ, ◌⊎◌, List, length, Option, Some, None, Bool}
+use Rattle.std.specs.Prelude.{◌≡◌, ℕ, ◌⊎◌, List, length, Option, Some, None, Bool, IsTrue}
 use Rattle.std.specs.Io.KnownBytes.{Consumes}
 use Rattle.ciborium_value.specs.declared.kind.Kind.{Kind}
 use Rattle.ciborium_value.specs.Tree.{Tree}
@@ -16,14 +16,14 @@ abbrev pub refusing : {E : Type 0} → ValueError → Error E
 refusing (value.Kind k) = code.Semantic None k
 refusing value.Memory = code.Memory
 
--- an error says why a type does not take an item, or that memory was refused
-abbrev pub IsTypeFault : {E : Type 0} → Option Kind → Error E → Type 0
-IsTypeFault why (code.Semantic o k) = (o ≡ None) × (why ≡ Some k)
-IsTypeFault why code.Memory = Unit {0}
-IsTypeFault why (code.Io e) = ⊥
-IsTypeFault why (code.Syntax p) = ⊥
-IsTypeFault why code.RecursionLimitExceeded = ⊥
-IsTypeFault why code.TooLong = ⊥
+-- an error says why a type does not take an item, or, of a type that grows, that it is out of memory
+abbrev pub IsTypeFault : {E : Type 0} → Bool → Option Kind → Error E → Type 0
+IsTypeFault grows why (code.Semantic o k) = (o ≡ None) × (why ≡ Some k)
+IsTypeFault grows why code.Memory = IsTrue grows
+IsTypeFault grows why (code.Io e) = ⊥
+IsTypeFault grows why (code.Syntax p) = ⊥
+IsTypeFault grows why code.RecursionLimitExceeded = ⊥
+IsTypeFault grows why code.TooLong = ⊥
 
 -- `b` is an item of at most `limit` levels, and x is taken of what it means
 pub record ReadsAs {T : Type 0} (refusal : Tree → Option Kind) (takes : Tree → T → Type 0) (limit : ℕ) (x : T) (b : List ℕ) : Type 0 where
@@ -33,10 +33,10 @@ pub record ReadsAs {T : Type 0} (refusal : Tree → Option Kind) (takes : Tree �
   pub taken : takes item x
 
 -- `b` is an item of at most `limit` levels, and the error says why the type does not take what it means
-pub record IsRefused {E : Type 0} (refusal : Tree → Option Kind) (limit : ℕ) (e : Error E) (b : List ℕ) : Type 0 where
+pub record IsRefused {E : Type 0} (grows : Bool) (refusal : Tree → Option Kind) (limit : ℕ) (e : Error E) (b : List ℕ) : Type 0 where
   pub item : Tree
   pub reads : Reads b limit item
-  pub why : IsTypeFault (refusal item) e
+  pub why : IsTypeFault grows (refusal item) e
 
 -- a reader gave bytes that have P
 abbrev pub Gives : Option (List ℕ) → Option (List ℕ) → (List ℕ → Type 0) → Type 0
@@ -54,6 +54,6 @@ LeavesRest old new code.TooLong = Gives old new (λ _. Unit {0})
 
 -- the error for the bytes to come: the fault of the item that is due at their front, with places counted from their beginning, or
 -- the type's fault where the item there was taken
-abbrev pub IsUnread : {E : Type 0} → (E → Bool) → (Tree → Option Kind) → ℕ → Option (List ℕ) → Option (List ℕ) → Error E → Type 0
-IsUnread ends refusal limit old new e =
-    IfKnown old (λ b. Fails ends (Unit {0}) (λ f. Damage (length b) b limit f) (IsLong 0 b) e) ⊎ Gives old new (IsRefused refusal limit e)
+abbrev pub IsUnread : {E : Type 0} → (E → Bool) → Bool → (Tree → Option Kind) → ℕ → Option (List ℕ) → Option (List ℕ) → Error E → Type 0
+IsUnread ends grows refusal limit old new e =
+    IfKnown old (λ b. Fails ends (Unit {0}) (λ f. Damage (length b) b limit f) (IsLong 0 b) e) ⊎ Gives old new (IsRefused grows refusal limit e)

@@ -26,7 +26,8 @@ pub struct Deserializer<R> {
 impl<R: Read> Deserializer<R> {
     ghost use Rattle.ciborium.specs.Streams.{decoder_of, limit_of};
 
-    /// The items of the bytes that the decoder has to come.
+    /// The items of the bytes that the decoder has to come. Dropping, copying and comparing a value
+    /// recurse over its levels: the stack has to bear the limit.
     pub fn new(alloc: Global, decoder: Decoder<R>, recursion_limit: usize) -> Deserializer<R>
         ensures decoder { decoder_of result ≡ decoder }
         ensures limit { limit_of result ≡ recursion_limit }

@@ -1,8 +1,10 @@
 //! Reads titles and strings.
 ghost use Rattle.std.specs.Prelude.{◌≡◌, ◌≤◌, ◌<◌, ◌+◌, ◌++◌, ◌^◌, ℕ, None, Some, OnOk};
-ghost use Rattle.std.specs.Prelude.{IfOk, IfErr, IfSome, IfNone, length, Bool, true, []};
+ghost use Rattle.std.specs.Prelude.{IfOk, IfErr, IfSome, IfNone, length, min, max, Bool, true, []};
 ghost use Rattle.std.specs.Prelude.{string_bytes};
 ghost use Rattle.std.specs.Str.{IsUtf8};
+ghost use Rattle.std.specs.String.{string_capacity};
+ghost use Rattle.std.specs.Vec.{vec_capacity};
 ghost use Rattle.ciborium_ll.specs.Title.{Title, title_of, IsShortest};
 ghost use Rattle.ciborium_ll.specs.declared.hdr.Header.{Header};
 ghost use Rattle.ciborium_ll.specs.declared.hdr.Header.TheVariants.{Text};
@@ -10,13 +12,14 @@ ghost use Rattle.ciborium_ll.specs.Seen.{Takes};
 ghost use Rattle.ciborium_ll.specs.Views.{left_of, offset_of, waiting_of};
 ghost use Rattle.ciborium_ll.specs.Views.{reader_of, seen, shortest_of};
 ghost use Rattle.ciborium.specs.Damage.{TitleDamage, ChunkDamage, StringDamage};
+ghost use Rattle.ciborium.specs.Held.{IsEarned, IsEarnedSince, IsFitting, UnlessMemory};
 ghost use Rattle.ciborium.specs.Reading.{NamesFault, NamesFaultBehind, NamesShort};
 ghost use Rattle.ciborium.specs.Reading.{Steady, TakesSome, IsNoMemory, IfEnd};
 ghost use Rattle.ciborium.specs.Reading.{string_head, IsBody, StringBehind, ChunkBody, IsPart};
 
 use crate::de::Error;
 use ciborium_ll::{Decoder, Header, Read};
-use std::alloc::Global;
+use std::alloc::{AllocError, Global};
 
 /// The next title, and its place.
 #[inline(always)]
@@ -45,10 +48,34 @@ pub fn next_title<R: Read>(decoder: &mut Decoder<R>) -> Result<(usize, Header), 
     Ok((at, header))
 }
 
-/// So many bytes are asked for at a time, and no more of a length that a head claims is reserved.
+/// So many bytes are asked for at a time.
 const PIECE: usize = 4096;
 
-/// The next bytes, so many, in one piece.
+/// Makes room for the next piece of a string of which so many bytes have come and so many are to
+/// come. No length is believed: at most as much is reserved as is held, or one piece. A string that
+/// is alone in the buffer gets no more than its own size.
+fn make_room(into: &mut Vec<u8>, got: usize, rest: usize) -> Result<(), AllocError>
+    ensures items { into.new.items ≡ into.old.items }
+    ensures room { OnOk result (length into.new.items + min rest 4096 ≤ vec_capacity into.new) }
+    ensures earned { IsEarned (length into.old.items) (vec_capacity into.old)
+        → IsEarned (length into.old.items) (vec_capacity into.new) }
+    ensures alone { length into.old.items ≡ got
+        → vec_capacity into.new ≤ max (vec_capacity into.old) (got + rest) }
+{
+    let held = into.len();
+    let piece = rest.min(PIECE);
+    if into.capacity() - held >= piece {
+        return Ok(());
+    }
+    let more = if held == got {
+        rest.min(held.max(PIECE))
+    } else {
+        piece.max(held)
+    };
+    into.reserve_exact(more)
+}
+
+/// The next bytes, so many, in one piece, in the room that there is for them.
 fn read_piece<R: Read>(
     decoder: &mut Decoder<R>,
     size: usize,
@@ -58,15 +85,22 @@ fn read_piece<R: Read>(
     requires small { size ≤ 4096 }
     ensures ok { OnOk result (Takes (seen R.Read decoder.old) (seen R.Read decoder.new)
         (λ b. (length b ≡ size) × (into.new.items ≡ into.old.items ++ b))) }
+    ensures held { UnlessMemory result (vec_capacity into.new ≤ vec_capacity into.old) }
+    ensures grows { offset_of decoder.old ≤ offset_of decoder.new }
     ensures err { IfErr result (NamesShort R.ends size
         (seen R.Read decoder.old) (seen R.Read decoder.new)) }
     ensures stops { IfErr result (TakesSome (seen R.Read decoder.old) (seen R.Read decoder.new)) }
     ensures steady { Steady R.ends result (seen R.Read decoder.old) (seen R.Read decoder.new) }
 {
     let at = into.len();
+    let room = into.capacity();
     let Ok(()) = into.resize(at + size, 0) else {
         return Err(Error::Memory);
     };
+    // No contract of `resize` says that the capacity stays where it is enough.
+    if into.capacity() > room {
+        return Err(Error::Memory);
+    }
     decoder.read_exact(&mut into[at..])?;
     Ok(())
 }
@@ -78,8 +112,13 @@ fn read_bytes<R: Read>(
     into: &mut Vec<u8>,
 ) -> Result<(), Error<R::Error>>
     requires fresh { waiting_of decoder.old ≡ None }
+    requires earned { IsEarned (length into.old.items) (vec_capacity into.old) }
     ensures ok { OnOk result (Takes (seen R.Read decoder.old) (seen R.Read decoder.new)
         (λ b. (length b ≡ n) × (into.new.items ≡ into.old.items ++ b))) }
+    ensures held { UnlessMemory result (IsEarnedSince (length into.old.items)
+        (offset_of decoder.old) (offset_of decoder.new) (vec_capacity into.new)) }
+    ensures alone { into.old.items ≡ [] → UnlessMemory result
+        (vec_capacity into.new ≤ max (vec_capacity into.old) n) }
     ensures err { IfErr result (NamesShort R.ends n
         (seen R.Read decoder.old) (seen R.Read decoder.new)) }
     ensures stops { IfErr result (TakesSome (seen R.Read decoder.old) (seen R.Read decoder.new)) }
@@ -87,7 +126,11 @@ fn read_bytes<R: Read>(
 {
     let mut got = 0;
     'pieces: while got < n {
-        let size = if n - got < PIECE { n - got } else { PIECE };
+        let rest = n - got;
+        let Ok(()) = make_room(into, got, rest) else {
+            return Err(Error::Memory);
+        };
+        let size = rest.min(PIECE);
         read_piece(decoder, size, into)?;
         got += size;
     }
@@ -103,8 +146,13 @@ fn read_chunk<R: Read>(
     into: &mut Vec<u8>,
 ) -> Result<(), Error<R::Error>>
     requires fresh { waiting_of decoder.old ≡ None }
+    requires earned { IsEarned (length into.old.items) (vec_capacity into.old) }
     ensures ok { OnOk result (Takes (seen R.Read decoder.old) (seen R.Read decoder.new)
         (λ b. ChunkBody text n into.old.items into.new.items b)) }
+    ensures held { UnlessMemory result (IsEarnedSince (length into.old.items)
+        (offset_of decoder.old) (offset_of decoder.new) (vec_capacity into.new)) }
+    ensures alone { into.old.items ≡ [] → UnlessMemory result
+        (vec_capacity into.new ≤ max (vec_capacity into.old) n) }
     ensures err { IfErr result (NamesFaultBehind R.ends (string_head text (Some n)) at
         (ChunkDamage (string_head text) (IsBody text))
         (seen R.Read decoder.old) (seen R.Read decoder.new)) }
@@ -174,6 +222,7 @@ pub fn read_string<R: Read>(
     requires fresh { waiting_of decoder.old ≡ None }
     ensures ok { IfOk result (λ v. Takes (seen R.Read decoder.old) (seen R.Read decoder.new)
         (λ b. StringBehind text length v.items b)) }
+    ensures held { IfOk result (λ v. IsFitting length v.items (vec_capacity v)) }
     ensures err { IfErr result (NamesFaultBehind R.ends (string_head text length) at
         (StringDamage (string_head text) (IsBody text))
         (seen R.Read decoder.old) (seen R.Read decoder.new)) }
@@ -202,8 +251,10 @@ fn read_open<R: Read>(
 ) -> Result<(), Error<R::Error>>
     requires fresh { waiting_of decoder.old ≡ None }
     requires empty { into.old.items ≡ [] }
+    requires earned { IsEarned 0 (vec_capacity into.old) }
     ensures ok { OnOk result (Takes (seen R.Read decoder.old) (seen R.Read decoder.new)
         (λ b. StringBehind text None into.new.items b)) }
+    ensures held { OnOk result (IsEarned (length into.new.items) (vec_capacity into.new)) }
     ensures err { IfErr result (NamesFaultBehind R.ends (string_head text None) at
         (StringDamage (string_head text) (IsBody text))
         (seen R.Read decoder.old) (seen R.Read decoder.new)) }
@@ -232,6 +283,7 @@ fn text_of(bytes: Vec<u8>) -> Option<String>
     ensures none { IfNone result (IsUtf8 bytes.items → ⊥) }
     ensures text { IfSome result (λ s. string_bytes s ≡ bytes.items) }
     ensures valid { IfSome result (λ s. IsUtf8 (string_bytes s)) }
+    ensures capacity { IfSome result (λ s. string_capacity s ≡ vec_capacity bytes) }
 {
     if simdutf8::basic::from_utf8(&bytes).is_err() {
         return None;
@@ -250,6 +302,7 @@ pub fn read_text<R: Read>(
     requires fresh { waiting_of decoder.old ≡ None }
     ensures ok { IfOk result (λ v. Takes (seen R.Read decoder.old) (seen R.Read decoder.new)
         (λ b. StringBehind true length (string_bytes v) b)) }
+    ensures held { IfOk result (λ v. IsFitting length (string_bytes v) (string_capacity v)) }
     ensures err { IfErr result (NamesFaultBehind R.ends (Text length) at (StringDamage Text IsUtf8)
         (seen R.Read decoder.old) (seen R.Read decoder.new)) }
     ensures stops { IfErr result (TakesSome (seen R.Read decoder.old) (seen R.Read decoder.new)) }
@@ -272,6 +325,7 @@ fn read_whole_text<R: Read>(
     requires fresh { waiting_of decoder.old ≡ None }
     ensures ok { IfOk result (λ v. Takes (seen R.Read decoder.old) (seen R.Read decoder.new)
         (λ b. StringBehind true (Some n) (string_bytes v) b)) }
+    ensures held { IfOk result (λ v. string_capacity v ≤ n) }
     ensures err { IfErr result (NamesFaultBehind R.ends (Text (Some n)) at
         (StringDamage Text IsUtf8) (seen R.Read decoder.old) (seen R.Read decoder.new)) }
     ensures stops { IfErr result (TakesSome (seen R.Read decoder.old) (seen R.Read decoder.new)) }
@@ -294,6 +348,7 @@ fn read_cut_text<R: Read>(
     requires fresh { waiting_of decoder.old ≡ None }
     ensures ok { IfOk result (λ v. Takes (seen R.Read decoder.old) (seen R.Read decoder.new)
         (λ b. StringBehind true None (string_bytes v) b)) }
+    ensures held { IfOk result (λ v. IsEarned (length (string_bytes v)) (string_capacity v)) }
     ensures err { IfErr result (NamesFaultBehind R.ends (Text None) at (StringDamage Text IsUtf8)
         (seen R.Read decoder.old) (seen R.Read decoder.new)) }
     ensures stops { IfErr result (TakesSome (seen R.Read decoder.old) (seen R.Read decoder.new)) }

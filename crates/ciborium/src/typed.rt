@@ -17,7 +17,7 @@ use std::alloc::Global;
 ///
 /// # Errors
 /// Those of `from_decoder`; `Semantic` with the type's fault where the item is none of it, and it
-/// was taken then.
+/// was taken then; `Memory` also for an item that was taken, if the type grows.
 pub fn typed_item<T: Deserialize, R: Read>(
     alloc: Global,
     decoder: &mut Decoder<R>,
@@ -27,7 +27,8 @@ pub fn typed_item<T: Deserialize, R: Read>(
         (ReadsAs T.refusal T.takes limit x)) }
     ensures err { IfErr result (λ e. NamesFault R.ends (λ stop b f. Damage stop b limit f)
         (seen R.Read decoder.old) (seen R.Read decoder.new) e
-        ⊎ Takes (seen R.Read decoder.old) (seen R.Read decoder.new) (IsRefused T.refusal limit e)) }
+        ⊎ Takes (seen R.Read decoder.old) (seen R.Read decoder.new)
+        (IsRefused T.grows T.refusal limit e)) }
     ensures nothing { left_of R.left decoder.old ≡ Some [] → IfErr result IsNoMemory }
     ensures ended { left_of R.left decoder.old ≡ Some []
         → IfErr result (IfEnd R.ends (left_of R.left decoder.new ≡ Some [])) }

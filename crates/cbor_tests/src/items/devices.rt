@@ -75,12 +75,16 @@ fn read_in_pieces(
     answer
 }
 
-/// Heads that claim 2^64 - 1 bytes, items or entries.
+/// Heads that claim 2^64 - 1 bytes, items or entries, or 1 GiB, also inside open strings.
 const CLAIMS: &[&str] = &[
     "5bffffffffffffffff",
     "7bffffffffffffffff",
     "9bffffffffffffffff",
     "bbffffffffffffffff",
+    "5a40000000",
+    "7a40000000",
+    "5f5a40000000",
+    "7f7a40000000",
 ];
 
 /// A byte string of 10,000 bytes as an item.

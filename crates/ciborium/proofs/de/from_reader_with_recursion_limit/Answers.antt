@@ -6,4 +6,4 @@ pub returns-clause-ok : goal.returns-clause-ok
 returns-clause-ok g c = search rules
 
 pub returns-clause-err : goal.returns-clause-err
-returns-clause-err g c = unread _ _ _ c.typed_item.result _ _ _ _ _ _ c.typed_item.ensures.err (search rules) (search rules) (search rules)
+returns-clause-err g c = unread _ _ _ _ c.typed_item.result _ _ _ _ _ _ c.typed_item.ensures.err (search rules) (search rules) (search rules)

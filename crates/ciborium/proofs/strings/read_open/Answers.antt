@@ -1,12 +1,12 @@
 use Rattle.std.proofs.Common.{◌≡◌, ◌+◌, arith, rules, refl}
 use Rattle.std.proofs.lemmas.Result.{err_from_is_err_and}
 use Rattle.ciborium.proofs.Taking.{takes_none}
-use Rattle.ciborium.proofs.StringLemmas.{open_start, title_grows, step_done, step_less, step_more, step_chunk, open_title_fails, open_chunk_fails, open_other_fails}
+use Rattle.ciborium.proofs.StringLemmas.{open_start, title_grows, step_done, step_less, step_more, step_chunk, chunk_earned, open_title_fails, open_chunk_fails, open_other_fails}
 use Rattle.ciborium.proofs.Halting.{some_then, both_taken}
 use Rattle.ciborium.proofs.strings.read_open.Goals as goal
 
 pub parts-init : goal.parts-init
-parts-init g c = record { few = omega arith; taken = takes_none _ _ _ (open_start _ _ c.requires.empty); failed = refl; kept = refl; fresh = c.requires.fresh }
+parts-init g c = record { few = omega arith; taken = takes_none _ _ _ (open_start _ _ c.requires.empty); earned = omega (arith, c.requires.earned); failed = refl; kept = refl; fresh = c.requires.fresh }
 
 pub returns-in_err-place-clause-err : goal.returns-in_err-place-clause-err
 returns-in_err-place-clause-err g c =
@@ -19,18 +19,18 @@ returns-then-inner-eq0-clause-ok g c = step_done _ _ _ _ _ _ _ _ _ _ c.parts.inv
 pub parts-preserved-in-Close : goal.parts-preserved-in-Close
 parts-preserved-in-Close g c =
     let m = title_grows _ _ _ _ _ c.in_ok-place.ensures.ok in
-    record { few = omega arith; taken = step_less _ (c.parts.inner + 1) _ _ _ _ _ _ _ _ _ c.parts.invariant.taken c.in_ok-place.ensures.ok c.in-Close.ensures (omega arith) (omega arith); failed = search rules; kept = search rules; fresh = search rules }
+    record { few = omega arith; taken = step_less _ (c.parts.inner + 1) _ _ _ _ _ _ _ _ _ c.parts.invariant.taken c.in_ok-place.ensures.ok c.in-Close.ensures (omega arith) (omega arith); earned = c.parts.invariant.earned; failed = search rules; kept = search rules; fresh = search rules }
 
 pub parts-preserved-in-Open : goal.parts-preserved-in-Open
 parts-preserved-in-Open g c =
     let m = title_grows _ _ _ _ _ c.in_ok-place.ensures.ok in
-    record { few = omega arith; taken = step_more _ (c.parts.inner + 1) _ _ _ _ _ _ _ _ c.parts.invariant.taken c.in_ok-place.ensures.ok c.in-Open.ensures; failed = search rules; kept = search rules; fresh = search rules }
+    record { few = omega arith; taken = step_more _ (c.parts.inner + 1) _ _ _ _ _ _ _ _ c.parts.invariant.taken c.in_ok-place.ensures.ok c.in-Open.ensures; earned = c.parts.invariant.earned; failed = search rules; kept = search rules; fresh = search rules }
 
 pub parts-preserved : goal.parts-preserved
 parts-preserved g c =
     let m = title_grows _ _ _ _ _ c.in_ok-place.ensures.ok in
     let k = c.in_ok-read_chunk-in-Chunk.ensures.ok.grown in
-    record { few = omega arith; taken = step_chunk _ (c.parts.inner + 1) _ _ _ _ _ _ _ _ _ _ _ _ c.parts.invariant.taken c.in_ok-place.ensures.ok c.in-Chunk.ensures c.in_ok-read_chunk-in-Chunk.ensures.ok; failed = search rules; kept = search rules; fresh = search rules }
+    record { few = omega arith; taken = step_chunk _ (c.parts.inner + 1) _ _ _ _ _ _ _ _ _ _ _ _ c.parts.invariant.taken c.in_ok-place.ensures.ok c.in-Chunk.ensures c.in_ok-read_chunk-in-Chunk.ensures.ok; earned = chunk_earned _ _ _ _ _ _ _ _ _ c.in_ok-read_chunk-in-Chunk.ensures.ok c.in_ok-read_chunk-in-Chunk.ensures.held; failed = search rules; kept = search rules; fresh = search rules }
 
 pub returns-in_err-read_chunk-in-Chunk-clause-err : goal.returns-in_err-read_chunk-in-Chunk-clause-err
 returns-in_err-read_chunk-in-Chunk-clause-err g c =

@@ -1,3 +1,4 @@
+use Rattle.std.proofs.Common.{arith}
 use Rattle.ciborium.proofs.Taking.{takes_as}
 use Rattle.ciborium.proofs.StringLemmas.{chunk_done}
 use Rattle.ciborium.proofs.strings.read_string.Goals as goal
@@ -5,3 +6,7 @@ use Rattle.ciborium.proofs.strings.read_string.Goals as goal
 pub returns-in_ok-read_chunk-in-Some-clause-ok : goal.returns-in_ok-read_chunk-in-Some-clause-ok
 returns-in_ok-read_chunk-in-Some-clause-ok g c =
     rw c.in-Some.is (takes_as _ _ _ _ _ _ c.in_ok-read_chunk-in-Some.ensures.ok (λ x p. chunk_done _ _ _ _ x c.new-bytes.ensures.items p))
+
+pub returns-in_ok-read_chunk-in-Some-clause-held : goal.returns-in_ok-read_chunk-in-Some-clause-held
+returns-in_ok-read_chunk-in-Some-clause-held g c =
+    rw c.in-Some.is (omega (arith, c.in_ok-read_chunk-in-Some.ensures.alone c.new-bytes.ensures.items, c.new-bytes.ensures.capacity))
