@@ -156,13 +156,16 @@ header_fit h u cs ks is qs rs ss e1 e2 e3 e4 e5 e6 a c l t k i q r n s m e short
     (λ ts g. s' ts g all) m' (sym (ap header_tree same) ∙ e)
 
 -- ---- protected headers and signatures
+abbrev AreBytes : List ℕ → Type 0
+AreBytes = All (λ x. x < 256)
+
 pub protected_fit : (h : HeaderFields) (b : List ℕ) → ((u : Tree) → header_tree h ≡ Some u → IsShort h → Fits u) → shown (protected None h) ≡ Some b → ShowsShort (protected None h) → Fits (bytes b)
 protected_fit h b f e s = (s.1 b e, go (is_empty h) (header_tree h) refl e)
   where
-    go : (c : Bool) (o : Option Tree) → header_tree h ≡ o → cond c (Some []) (option_map enc o) ≡ Some b → All (λ x. x < 256) b
-    go true o g e = let k : [] ≡ b = (let m : Some [] ≡ Some b = e in cc) in subst (All (λ x. x < 256)) k (λ n d l. absurd (omega (arith, l)))
+    go : (c : Bool) (o : Option Tree) → header_tree h ≡ o → cond c (Some []) (option_map enc o) ≡ Some b → AreBytes b
+    go true o g e = let k : [] ≡ b = (let m : Some [] ≡ Some b = e in cc) in subst AreBytes k (λ n d l. absurd (omega (arith, l)))
     go false None g e = let k : None ≡ Some b = e in absurd (let m : ⊥ = cc in m)
-    go false (Some u) g e = let k : enc u ≡ b = (let m : Some (enc u) ≡ Some b = e in cc) in subst (All (λ x. x < 256)) k (enc_low u (f u g s.0))
+    go false (Some u) g e = let k : enc u ≡ b = (let m : Some (enc u) ≡ Some b = e in cc) in subst AreBytes k (enc_low u (f u g s.0))
 
 pub signature_fit : (p : ProtectedFields) (h : HeaderFields) (c d : List ℕ) (u : Tree) → ((b : List ℕ) → shown p ≡ Some b → ShowsShort p → Fits (bytes b))
     → ((v : Tree) → header_tree h ≡ Some v → IsShort h → Fits v) → d ≡ c → Fits (bytes d) → signature_tree (signature p h c) ≡ Some u → SignatureShort (signature p h c) → Fits u

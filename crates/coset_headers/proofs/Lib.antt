@@ -15,6 +15,7 @@ pub mod Ranked
 pub mod Restored
 pub mod SameParts
 pub mod Signed
+pub mod Small
 pub mod Sound
 pub mod Standing
 pub mod Stands

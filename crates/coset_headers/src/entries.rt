@@ -24,7 +24,8 @@ use std::alloc::Global;
 type Entries = Vec<(Value, Value)>;
 
 impl Header {
-    /// The map of its fields and of these values of counter signatures. Its own counter signatures are ignored.
+    /// The map of its fields and of these values of counter signatures. Its own counter signatures
+    /// are ignored.
     pub(crate) fn write(self, alloc: Global, signatures: Vec<Value>) -> Result<Value, CoseError>
         ensures { MatchResult result
             (λ v. header_of (plain_part (header_view self)) (views signatures.items)

@@ -5,8 +5,10 @@ ghost use Rattle.std.specs.Ordering.{on};
 ghost use Rattle.coset_headers.specs.Copies.{unsigned};
 ghost use Rattle.coset_headers.specs.Decided.{headers_equiv, protected_equiv, signature_equiv};
 ghost use Rattle.coset_headers.specs.Fields.{plain_part};
-ghost use Rattle.coset_headers.specs.Same.{same_plain, same_header, same_protected, same_signature, same_signatures};
-ghost use Rattle.coset_headers.specs.View.{header_view, protected_view, signature_view, signatures_view};
+ghost use Rattle.coset_headers.specs.Same.{same_plain, same_header, same_protected, same_signature};
+ghost use Rattle.coset_headers.specs.Same.{same_signatures};
+ghost use Rattle.coset_headers.specs.View.{header_view, protected_view, signature_view};
+ghost use Rattle.coset_headers.specs.View.{signatures_view};
 
 use crate::header::{CoseSignature, Header, ProtectedHeader};
 

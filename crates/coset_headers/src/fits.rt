@@ -1,4 +1,5 @@
-//! That what is written of a header fits heads: each number lies in its range, each length is one that a head can have.
+//! That what is written of a header fits heads: each number lies in its range, each length is one
+//! that a head can have.
 ghost use Rattle.std.specs.Prelude.{◌≡◌, ◌+◌, ◌^◌, ◌<◌, ℕ, List, length, map, option_map, Some};
 ghost use Rattle.cose_iana.specs.Algorithms.{algorithm_number};
 ghost use Rattle.cose_iana.specs.Formats.{coap_content_formats};
@@ -11,7 +12,8 @@ ghost use Rattle.coset_labels.specs.Labels.{named_tree};
 ghost use Rattle.coset_labels.specs.View.{registered_view, named_view};
 ghost use Rattle.coset_headers.specs.Entries.{AllFit};
 ghost use Rattle.coset_headers.specs.Short.{IsShort, ShowsShort, SignatureShort, AllShort};
-ghost use Rattle.coset_headers.specs.View.{header_view, protected_view, signature_view, signatures_view, entry_view};
+ghost use Rattle.coset_headers.specs.View.{header_view, protected_view, signature_view};
+ghost use Rattle.coset_headers.specs.View.{signatures_view, entry_view};
 ghost use Rattle.coset_headers.specs.Written.{header_tree, shown, signature_tree, signature_trees};
 
 use crate::header::{CoseSignature, Header, ProtectedHeader};
@@ -61,8 +63,8 @@ fn rest_fits(rest: &[(Label, Value)])
     }
 }
 
-/// What is written of this header fits heads, if each protected header in it that has no received bytes is encoded in fewer than 2^64
-/// bytes.
+/// What is written of this header fits heads, if each protected header in it that has no received
+/// bytes is encoded in fewer than 2^64 bytes.
 #[cycle(fits)]
 pub fn header_fits(header: &Header)
     ensures { (u : Tree) → header_tree (header_view header.now) ≡ Some u

@@ -40,8 +40,9 @@ pub struct ProtectedHeader {
 
 /// A signature with its headers (RFC 9052, section 4.1).
 ///
-/// Dropping it takes little stack, however many counter signatures lie inside one another in its headers. So it can't be taken apart by a
-/// pattern outside of this crate: [`CoseSignature::into_parts`] does that.
+/// Dropping it takes little stack, however many counter signatures lie inside one another in its
+/// headers. So it can't be taken apart by a pattern outside of this crate:
+/// [`CoseSignature::into_parts`] does that.
 #[cycle(header)]
 #[derive(Debug)]
 pub struct CoseSignature {
@@ -53,7 +54,8 @@ pub struct CoseSignature {
     pub signature: Vec<u8>,
 }
 
-/// Lets go of signatures and of those in their headers, the innermost first. What a level keeps on the stack is small.
+/// Lets go of signatures and of those in their headers, the innermost first. What a level keeps on
+/// the stack is small.
 #[cycle(drops)]
 fn let_go(signatures: &mut Vec<CoseSignature>)
     ensures { signatures.new.items ≡ [] }

@@ -1,5 +1,5 @@
 //! Laws of the definitions.
-ghost use Rattle.std.specs.Prelude.{◌≡◌, ◌≢◌, ◌↔◌, IsTrue, ℕ, List, Some, None};
+ghost use Rattle.std.specs.Prelude.{◌≡◌, ◌≢◌, ◌↔◌, ◌^◌, ◌<◌, IsTrue, ℕ, List, length, Some, None};
 ghost use Rattle.ciborium.specs.Front.{Reads};
 ghost use Rattle.ciborium_value.specs.Encoding.{enc, Fits};
 ghost use Rattle.ciborium_value.specs.Tree.{Tree, bytes};
@@ -16,7 +16,8 @@ ghost use Rattle.coset_headers.specs.Wrong.{WrongHeader, WrongProtected, WrongSi
 pub use crate::fits::{header_fits, protected_fits, signature_fits};
 use crate::header::{CoseSignature, Header, ProtectedHeader};
 
-/// A value has the fields of at most one header, one protected header, one signature. So have the bytes of one item.
+/// A value has the fields of at most one header, one protected header, one signature. So have the
+/// bytes of one item.
 pub fn one_header()
     ensures header { (n k : ℕ) (t : Tree) (h g : HeaderFields) → HasHeader n t h k
         → HasHeader n t g k → h ≡ g }
@@ -32,7 +33,8 @@ pub fn one_header()
         → HasItem (λ t s. HasSignature nesting t s layers) b u → s ≡ u }
 {}
 
-/// A value with a fault has no fields. Nor have bytes that are not one readable item, or whose item has a fault.
+/// A value with a fault has no fields. Nor have bytes that are not one readable item, or whose item
+/// has a fault.
 pub fn wrong_has_none()
     ensures header { (n k : ℕ) (t : Tree) (e : CoseFault) (h : HeaderFields) → WrongHeader n t k e
         → HasHeader n t h k → ⊥ }
@@ -48,8 +50,8 @@ pub fn wrong_has_none()
         → HasItem (λ t s. HasSignature nesting t s layers) b s → ⊥ }
 {}
 
-/// A header that was read can be written, and so can a signature, and the bytes that a protected one shows are there: no label of what was
-/// read would be written twice in one map.
+/// A header that was read can be written, and so can a signature, and the bytes that a protected
+/// one shows are there: no label of what was read would be written twice in one map.
 pub fn read_can_be_written()
     ensures header { (n k : ℕ) (t : Tree) (h : HeaderFields) → HasHeader n t h k
         → header_tree h ≢ None }
@@ -59,8 +61,8 @@ pub fn read_can_be_written()
         → signature_tree s ≢ None }
 {}
 
-/// What is written of a header or a signature that was read has its fields again, received bytes included. A protected one shows the very
-/// bytes that it was read of.
+/// What is written of a header or a signature that was read has its fields again, received bytes
+/// included. A protected one shows the very bytes that it was read of.
 pub fn written_has_same()
     ensures header { (n k : ℕ) (t u : Tree) (h : HeaderFields) → HasHeader n t h k
         → header_tree h ≡ Some u → HasHeader n u h k }
@@ -70,7 +72,8 @@ pub fn written_has_same()
         → signature_tree s ≡ Some u → HasSignature n u s k }
 {}
 
-/// So are the bytes: the encoding of what is written nests no deeper than what was read, and is read again with the same fields.
+/// So are the bytes: the encoding of what is written nests no deeper than what was read, and is
+/// read again with the same fields.
 pub fn written_reads_same()
     ensures header { (n k limit : ℕ) (b : List ℕ) (t u : Tree) (h : HeaderFields) → Reads b limit t
         → HasHeader n t h k
@@ -80,7 +83,7 @@ pub fn written_reads_same()
         → signature_tree s ≡ Some u → Fits u → Reads (enc u) limit u × HasSignature n u s k }
 {}
 
-/// What was read has its received bytes, as `header_fits` and its like ask.
+/// What was read has its received bytes, so it is short, as `header_fits` and its like ask.
 pub fn read_is_short()
     ensures header { (n k : ℕ) (t : Tree) (h : HeaderFields) → HasHeader n t h k → IsShort h }
     ensures protected { (n k : ℕ) (t : Tree) (p : ProtectedFields) → HasProtected n t p k
@@ -89,7 +92,38 @@ pub fn read_is_short()
         → SignatureShort s }
 {}
 
-/// A header that was read from bytes is read again of the bytes that it is written as, the same, received bytes included.
+/// So is what is written in fewer than 2^64 bytes, with or without received bytes.
+pub fn small_is_short()
+    ensures header { (h : HeaderFields) (u : Tree) → header_tree h ≡ Some u
+        → length (enc u) < 2 ^ 64 → IsShort h }
+    ensures protected { (p : ProtectedFields) (b : List ℕ) → shown p ≡ Some b
+        → length b < 2 ^ 64 → ShowsShort p }
+    ensures signature { (s : SignatureFields) (u : Tree) → signature_tree s ≡ Some u
+        → length (enc u) < 2 ^ 64 → SignatureShort s }
+{}
+
+/// What is written of this header fits heads, if these are its bytes.
+pub fn written_header_fits(header: &Header, written: &[u8])
+    ensures { (u : Tree) → header_tree (header_view header.now) ≡ Some u → enc u ≡ written.now
+        → Fits u }
+{
+    header_fits(header);
+    small_is_short();
+    let _len = written.len();
+}
+
+/// As `written_header_fits`, of a signature.
+pub fn written_signature_fits(signature: &CoseSignature, written: &[u8])
+    ensures { (u : Tree) → signature_tree (signature_view signature.now) ≡ Some u
+        → enc u ≡ written.now → Fits u }
+{
+    signature_fits(signature);
+    small_is_short();
+    let _len = written.len();
+}
+
+/// A header that was read from bytes is read again of the bytes that it is written as, the same,
+/// received bytes included.
 pub fn header_reads_again(header: &Header)
     ensures { (b : List ℕ) (u : Tree)
         → HasItem (λ t h. HasHeader nesting t h layers) b (header_view header.now)
@@ -119,7 +153,8 @@ pub fn headers_compare(a: &Header, b: &Header)
         ↔ (header_view a.now ≡ header_view b.now) }
 {}
 
-/// Protected headers are equal where they say the same and both have the same received bytes, or none.
+/// Protected headers are equal where they say the same and both have the same received bytes, or
+/// none.
 pub fn protected_compare(a: &ProtectedHeader, b: &ProtectedHeader)
     ensures { IsTrue (⟦<ProtectedHeader as std::cmp::PartialEq>⟧.eq a.now b.now)
         ↔ (protected_view a.now ≡ protected_view b.now) }

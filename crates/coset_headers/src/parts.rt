@@ -1,4 +1,5 @@
-//! The entries of a header that is being read: where each belongs, whether its label is new, and its value in its field.
+//! The entries of a header that is being read: where each belongs, whether its label is new, and
+//! its value in its field.
 ghost use Rattle.std.specs.Prelude.{◌≡◌, ℕ, List, [], ◌∷◌, ◌++◌, map, false, MatchBool};
 ghost use Rattle.std.specs.Prelude.{MatchResult};
 ghost use Rattle.ciborium_value.specs.Tree.{Tree};
@@ -20,8 +21,8 @@ use ciborium_value::Value;
 use coset_labels::{Algorithm, AsCborValue, CoseError, Label, SeenLabels, ValueTryAs};
 use std::alloc::Global;
 
-/// How many labels without a field of their own are compared one by one. Those that come after are looked for in a set, so that time
-/// grows as n log n.
+/// How many labels without a field of their own are compared one by one. Those that come after are
+/// looked for in a set, so that time grows as n log n.
 const FEW: usize = 64;
 
 /// Where the value of an entry belongs.
@@ -75,7 +76,8 @@ fn is_among(entries: &[(Label, Value)], label: &Label) -> bool
     false
 }
 
-/// Whether no entry of these had the label. The set holds the labels after the first ones, and then this one too.
+/// Whether no entry of these had the label. The set holds the labels after the first ones, and then
+/// this one too.
 fn is_new_among(
     alloc: Global,
     rest: &[(Label, Value)],
@@ -98,8 +100,8 @@ fn is_new_among(
 }
 
 impl Header {
-    /// Whether no entry before had the label, which belongs there. A label with a field is told by its field; the others are compared, and
-    /// `seen` holds those that are too many for that.
+    /// Whether no entry before had the label, which belongs there. A label with a field is told by
+    /// its field; the others are compared, and `seen` holds those that are too many for that.
     ///
     /// # Errors
     /// Only if memory is refused.

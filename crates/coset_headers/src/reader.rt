@@ -1,5 +1,6 @@
-//! Reads headers. Values are moved into the fields of the header that is filled, and no label is copied before the 65th without a field of
-//! its own. What lies inside one another is read by a loop, so that it takes no stack.
+//! Reads headers. Values are moved into the fields of the header that is filled, and no label is
+//! copied before the 65th without a field of its own. What lies inside one another is read by a
+//! loop, so that it takes no stack.
 ghost use Rattle.std.specs.Prelude.{◌≡◌, ◌≢◌, ◌+◌, ◌*◌, ◌<◌, ◌≤◌, ℕ, [], MatchOption};
 ghost use Rattle.std.specs.Prelude.{MatchResult, IfOk, OnOk, None};
 ghost use Rattle.std.specs.Vec.Iter.{into_iter_items};
@@ -27,8 +28,8 @@ use std::alloc::Global;
 use std::mem;
 use std::vec::IntoIter;
 
-/// What is left of a header that is being read: its entries, the labels that are too many to be compared, and the protected layers that
-/// are left in it.
+/// What is left of a header that is being read: its entries, the labels that are too many to be
+/// compared, and the protected layers that are left in it.
 #[derive(Drop)]
 pub(crate) struct Open {
     entries: IntoIter<(Value, Value)>,
@@ -36,7 +37,8 @@ pub(crate) struct Open {
     layers: usize,
 }
 
-/// Counter signatures of which one is being read: the values that come after it, the signatures before it, and its own bytes and half.
+/// Counter signatures of which one is being read: the values that come after it, the signatures
+/// before it, and its own bytes and half.
 #[derive(Drop)]
 pub(crate) struct Signing {
     items: IntoIter<Value>,
@@ -45,15 +47,16 @@ pub(crate) struct Signing {
     half: Half,
 }
 
-/// What a signature has while one of its headers is being read: its first element while that is the unprotected header, and then its
-/// unprotected header and the bytes of the protected one.
+/// What a signature has while one of its headers is being read: its first element while that is the
+/// unprotected header, and then its unprotected header and the bytes of the protected one.
 #[derive(Drop)]
 pub(crate) enum Half {
     Unprotected(Value),
     Protected(Header, Vec<u8>),
 }
 
-/// A header that waits for one inside it: what is left of it, its fields so far, and the counter signatures in which that one is.
+/// A header that waits for one inside it: what is left of it, its fields so far, and the counter
+/// signatures in which that one is.
 #[derive(Drop)]
 pub(crate) struct Level {
     left: Open,
@@ -75,7 +78,8 @@ impl Open {
         }
     }
 
-    /// Reads entries into the header up to the next counter signatures, and gives their value; none at the end.
+    /// Reads entries into the header up to the next counter signatures, and gives their value; none
+    /// at the end.
     fn next_signed(&mut self, alloc: Global, into: &mut Header) -> Result<Option<Value>, CoseError>
         ensures read { (n : ℕ) (t : Tree) → Going n t self.old into.old → MatchResult result
             (λ v. MatchOption v (HasHeader n t (header_view into.new) self.new.layers)
@@ -133,7 +137,8 @@ pub(crate) fn fill_header(
     fill_entries(alloc, entries, nesting, layers, into)
 }
 
-/// Reads the header of these entries into an empty one, by a loop over the headers inside one another.
+/// Reads the header of these entries into an empty one, by a loop over the headers inside one
+/// another.
 fn fill_entries(
     alloc: Global,
     entries: Vec<(Value, Value)>,
@@ -179,7 +184,8 @@ fn begin_signatures(
 ) -> Result<(), CoseError>
     ensures read { (n k : ℕ) (t : Tree)
         → ReadingSigned n t k below.old.items top.old into.old (view value) → MatchResult result
-        (λ _. Reading n t k below.new.items top.new into.new) (λ e. OrMemory (WrongHeader n t k) e) }
+        (λ _. Reading n t k below.new.items top.new into.new)
+        (λ e. OrMemory (WrongHeader n t k) e) }
     ensures left { OnOk result (work below.new.items top.new
         < work below.old.items top.old + 2 * weight (view value)) }
 {
@@ -196,7 +202,8 @@ fn begin_signatures(
     }
 }
 
-/// Begins a counter signature of the innermost header, after those that are done: its unprotected header is the innermost then.
+/// Begins a counter signature of the innermost header, after those that are done: its unprotected
+/// header is the innermost then.
 fn begin(
     alloc: Global,
     below: &mut Vec<Level>,
@@ -235,7 +242,8 @@ fn descend(
     layers: usize,
     signing: Signing,
 ) -> Result<(), CoseError>
-    ensures read { (n k : ℕ) (t : Tree) → ReadingInside n t k below.old.items top.old into.old signing
+    ensures read { (n k : ℕ) (t : Tree)
+        → ReadingInside n t k below.old.items top.old into.old signing
         (spec.map (view_pairs entries.items)) layers → MatchResult result
         (λ _. Reading n t k below.new.items top.new into.new) (λ e. e ≡ Memory) }
     ensures left { OnOk result (work below.new.items top.new ≡ work below.old.items top.old
@@ -251,8 +259,8 @@ fn descend(
     Ok(())
 }
 
-/// Takes a header that is whole into the signature that waits for it in the innermost one: after the unprotected header comes the
-/// protected one, and then the signature is done.
+/// Takes a header that is whole into the signature that waits for it in the innermost one: after
+/// the unprotected header comes the protected one, and then the signature is done.
 fn close(
     alloc: Global,
     nesting: usize,
@@ -320,7 +328,8 @@ fn close(
     }
 }
 
-/// Takes a signature that is done, and begins the next; after the last the innermost header has them all.
+/// Takes a signature that is done, and begins the next; after the last the innermost header has
+/// them all.
 fn finish(
     alloc: Global,
     below: &mut Vec<Level>,
@@ -333,7 +342,8 @@ fn finish(
     ensures read { (n k : ℕ) (t v s : Tree) → ReadingSigned n t k below.old.items top.old into.old v
         → IsNext n top.old.layers v s done.items (into_iter_items items)
         → HasSignature n s (signature_view signature) top.old.layers → MatchResult result
-        (λ _. Reading n t k below.new.items top.new into.new) (λ e. OrMemory (WrongHeader n t k) e) }
+        (λ _. Reading n t k below.new.items top.new into.new)
+        (λ e. OrMemory (WrongHeader n t k) e) }
     ensures left { OnOk result (work below.new.items top.new
         ≤ work below.old.items top.old + 2 * weight_all (views (into_iter_items items))) }
 {
@@ -349,7 +359,8 @@ fn finish(
     }
 }
 
-/// The elements of a signature: the first, the entries of its unprotected header, and its bytes. The last is looked at first.
+/// The elements of a signature: the first, the entries of its unprotected header, and its bytes.
+/// The last is looked at first.
 fn split(value: Value) -> Result<(Value, Vec<(Value, Value)>, Vec<u8>), CoseError>
     ensures { MatchResult result
         (λ p. view value ≡ spec.array (list_of_three (view p.0)
@@ -367,7 +378,8 @@ fn split(value: Value) -> Result<(Value, Vec<(Value, Value)>, Vec<u8>), CoseErro
     }
 }
 
-/// The bytes of a protected header, and the entries of the header in them: none where they are empty.
+/// The bytes of a protected header, and the entries of the header in them: none where they are
+/// empty.
 fn open_protected(
     alloc: Global,
     value: Value,

@@ -6,7 +6,8 @@ ghost use Rattle.ciborium_value.specs.View.{view};
 ghost use Rattle.coset_labels.specs.Faults.{OrMemory, CantWrite};
 ghost use Rattle.coset_labels.specs.Limits.{nesting, layers, nesting_of, layers_of};
 ghost use Rattle.coset_headers.specs.Alone.{HasUnsent, unsent_tree, is_unset};
-ghost use Rattle.coset_headers.specs.Fields.{HeaderFields, ProtectedFields, SignatureFields, protected, signature, no_header};
+ghost use Rattle.coset_headers.specs.Fields.{HeaderFields, ProtectedFields, SignatureFields};
+ghost use Rattle.coset_headers.specs.Fields.{protected, signature, no_header};
 ghost use Rattle.coset_headers.specs.Headers.{HasHeader, HasProtected, HasSignature};
 ghost use Rattle.coset_headers.specs.View.{header_view, protected_view, signature_view};
 ghost use Rattle.coset_headers.specs.Written.{header_tree, signature_tree, shown};
@@ -52,7 +53,8 @@ impl Header {
         read_header(alloc, value, limits.nesting(), limits.layers())
     }
 
-    /// Reads a header into this one, which has no field, within these limits. After an error it has none again.
+    /// Reads a header into this one, which has no field, within these limits. After an error it has
+    /// none again.
     ///
     /// # Errors
     /// A fault that the value has, or `Memory`.
@@ -72,8 +74,8 @@ impl Header {
     }
 }
 
-/// A header is read from its map, its entries in their order: of each first its label, then whether it stood before, its value, and IV
-/// against partial IV.
+/// A header is read from its map, its entries in their order: of each first its label, then whether
+/// it stood before, its value, and IV against partial IV.
 impl AsCborValue for Header {
     ghost Fields = { HeaderFields };
 
@@ -203,7 +205,8 @@ impl ProtectedHeader {
     /// one another.
     ///
     /// # Errors
-    /// A fault that the value has, or `Memory`. `ExtraneousData` where bytes go on behind the header.
+    /// A fault that the value has, or `Memory`. `ExtraneousData` if bytes follow the
+    /// header.
     pub fn from_cbor_bstr(alloc: Global, value: Value) -> Result<ProtectedHeader, CoseError>
         ensures { MatchResult result
             (λ p. HasProtected nesting (view value) (protected_view p) layers)
@@ -217,8 +220,8 @@ impl ProtectedHeader {
     /// another, this one among them.
     ///
     /// # Errors
-    /// A fault that the value has, or `Memory`. `ExtraneousData` where bytes go on behind the header,
-    /// `TooManyLayers` where more protected headers lie inside one another.
+    /// A fault that the value has, or `Memory`. `ExtraneousData` if bytes follow the
+    /// header, `TooManyLayers` where more protected headers lie inside one another.
     pub fn from_cbor_bstr_with(
         alloc: Global,
         value: Value,
@@ -232,8 +235,8 @@ impl ProtectedHeader {
         read_protected(alloc, value, limits.nesting(), limits.layers())
     }
 
-    /// Reads the byte string of a protected header into this one, which has no field and no bytes received, within these limits. After an
-    /// error it is as before.
+    /// Reads the byte string of a protected header into this one, which has no field and no bytes
+    /// received, within these limits. After an error it is as before.
     ///
     /// # Errors
     /// Those of `from_cbor_bstr_with`.
@@ -257,11 +260,12 @@ impl ProtectedHeader {
         filled
     }
 
-    /// The byte string that stands for this header: the bytes that were received; else an empty string for an empty header, and the
-    /// encoded map for another.
+    /// The byte string that stands for this header: the bytes that were received; else an empty
+    /// string for an empty header, and the encoded map for another.
     ///
     /// # Errors
-    /// `DuplicateMapKey` exactly where a label stands twice in a header that has to be encoded, or `Memory`.
+    /// `DuplicateMapKey` exactly where a label stands twice in a header that has to be encoded, or
+    /// `Memory`.
     pub fn cbor_bstr(self, alloc: Global) -> Result<Value, CoseError>
         ensures { MatchResult result
             (λ v. option_map spec.bytes (shown (protected_view self)) ≡ Some (view v))

@@ -72,7 +72,8 @@ fn take_header(alloc: Global, header: &mut Header) -> Result<Value, CoseError>
     take_parts(alloc, header, signatures)
 }
 
-/// The map of the other fields of a header, which is emptied, and of the values of its counter signatures.
+/// The map of the other fields of a header, which is emptied, and of the values of its counter
+/// signatures.
 #[inline(never)]
 fn take_parts(
     alloc: Global,
@@ -144,11 +145,12 @@ fn three_items(
     Ok(Value::Array(items))
 }
 
-/// The bytes that are shown for a protected header: those that were received; else none for an empty header, and the encoded map for
-/// another (RFC 9052, section 3).
+/// The bytes that are shown for a protected header: those that were received; else none for an
+/// empty header, and the encoded map for another (RFC 9052, section 3).
 ///
 /// # Errors
-/// `DuplicateMapKey` exactly where a label stands twice in a header that has to be encoded, or `Memory`.
+/// `DuplicateMapKey` exactly where a label stands twice in a header that has to be encoded, or
+/// `Memory`.
 pub fn show_protected(alloc: Global, protected: ProtectedHeader) -> Result<Vec<u8>, CoseError>
     ensures { MatchResult result (λ b. shown (protected_view protected) ≡ Some b.items)
         (λ e. CantWrite (shown (protected_view protected)) e) }
