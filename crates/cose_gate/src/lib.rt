@@ -13,7 +13,7 @@ pub use cose_gate_laws::gate_core::{
     About, Algorithm, Asked, ContentType, CoseError, CoseRecipient, CoseSignature, Counts, Decoder,
     End, Entry, Full, GateFault, Header, Io, IoFault, Judge, Label, Limits, Log, Mem, MessageKind,
     ProtectedHeader, Read, Recorder, Refusal, RegisteredLabel, RegisteredLabelWithPrivate, Report,
-    SemanticKind, Silent, Verdict, Write, de,
+    SemanticKind, Silent, Terms, Verdict, Write, de,
 };
 pub use cose_gate_program::judge::HmacJudge;
 pub use cose_gate_program::{Blocks, InputFault, run, run_judged, run_over, run_with, words};
