@@ -16,7 +16,8 @@ pub record BeginsRun (allows : Question → Bool) (aad : List ℕ) (ss rs : List
 -- ts is what is left after rs
 pub record JoinsRuns (allows : Question → Bool) (aad : List ℕ) (bytes : ℕ) (ss rs ts : List Step)
     (rest more : List ℕ) : Type 0 where
-  pub questions : questions_of allows aad ts ≡ questions_of allows aad ss ++ questions_of allows aad rs
+  pub questions : questions_of allows aad ts
+      ≡ questions_of allows aad ss ++ questions_of allows aad rs
   pub output : output_of allows aad ts ≡ output_of allows aad ss ++ output_of allows aad rs
   pub entries : SameEntries (entries_of ts)
       (entries_of ss ++ map (entry_behind (length ss) bytes) (entries_of rs))
@@ -28,7 +29,8 @@ pub record LeavesOut (allows : Question → Bool) (aad : List ℕ) (xs : List St
     (ys ts : List Step) (rest more : List ℕ) : Type 0 where
   pub questions : questions_of allows aad (xs ++ s ∷ ys) ≡ questions_of allows aad xs
       ++ (asked_of allows aad s.finding ++ questions_of allows aad ys)
-  pub others : questions_of allows aad ts ≡ questions_of allows aad xs ++ questions_of allows aad ys
+  pub others : questions_of allows aad ts
+      ≡ questions_of allows aad xs ++ questions_of allows aad ys
   pub output : passes allows aad s.finding ≡ false
       → output_of allows aad ts ≡ output_of allows aad (xs ++ s ∷ ys)
   pub rest_is : more ≡ rest
