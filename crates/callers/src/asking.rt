@@ -13,8 +13,8 @@ use crate::gatings::Gating;
 use crate::judging::KeyIds;
 use cose_gate::laws::output_is_received;
 use cose_gate::{
-    Accepted, Asker, Counts, Decoder, End, GateFault, Limits, Mem, Nowhere, Read, Silent, Write,
-    gate, run_judged, run_over, run_with,
+    Accepted, Asker, Counts, Decoder, End, GateFault, Limits, Mem, Nowhere, Read, Silent, Terms,
+    Write, gate, run_judged, run_over, run_with,
 };
 use std::alloc::Global;
 
@@ -103,7 +103,7 @@ pub fn run_by_ids<R: Read, W: Write, E: Write>(
     ensures known { known_of judge.new ≡ known_of judge.old }
 {
     let Gating { limits, strict } = gating;
-    run_judged(alloc, limits, strict, aad, input, out, err, judge)
+    run_judged(alloc, Terms { limits, strict }, aad, input, out, err, judge)
 }
 
 /// The program's run that passes what these records were accepted for, gated so. Without records it reads nothing, and its status is 3, as
@@ -128,7 +128,8 @@ pub fn run_accepted<R: Read, W: Write, E: Write>(
         Some(judge) => {
             let mut judge = judge;
             let Gating { limits, strict } = gating;
-            run_judged(alloc, limits, strict, aad, input, out, err, &mut judge)
+            let terms = Terms { limits, strict };
+            run_judged(alloc, terms, aad, input, out, err, &mut judge)
         }
         None => 3,
     }
@@ -153,7 +154,7 @@ pub fn run_gated<R: Read, W: Write, E: Write>(
         ≡ devices_of R.Read W.Write input.old out.old }
 {
     let Gating { limits, strict } = gating;
-    run_with(alloc, limits, strict, keys, aad, input, out, err)
+    run_with(alloc, Terms { limits, strict }, keys, aad, input, out, err)
 }
 
 /// The strict program under a key set's bytes. With the status 0 it wrote all that it read, as it came.
@@ -174,5 +175,9 @@ pub fn run_exact<R: Read, W: Write, E: Write>(
         (devices_of R.Read W.Write input.new out.new) }
 {
     output_is_received();
-    run_over(alloc, limits, true, keys, aad, input, out, err)
+    let terms = Terms {
+        limits,
+        strict: true,
+    };
+    run_over(alloc, terms, keys, aad, input, out, err)
 }

@@ -5,7 +5,7 @@
 use ciborium_ll::{Io, Write};
 use cose_ask_core::{AskArguments, NotRun, ask_arguments, asks_for_help, read_aad, write_lines};
 use cose_asked::{Asker, Nowhere};
-use cose_gate_program::{Blocks, Limits, run_judged};
+use cose_gate_program::{Blocks, Limits, Terms, run_judged};
 use std::io::{BufReader, BufWriter};
 use std::process::ExitCode;
 use std::{env, io};
@@ -99,8 +99,10 @@ fn ask(rt: &HostRuntime, arguments: AskArguments<'_>) -> Result<u8, NotRun> {
     let mut asker = Asker::new(alloc);
     let status = run_judged(
         alloc,
-        Limits::default(),
-        arguments.strict,
+        Terms {
+            limits: Limits::default(),
+            strict: arguments.strict,
+        },
         aad.as_slice(),
         &mut Blocks::new(input),
         &mut Nowhere,

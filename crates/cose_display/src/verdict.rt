@@ -2,7 +2,9 @@
 use crate::show::Request;
 use crate::stop::Stop;
 use cbor_diag::{Excess, first_excess};
-use cose_gate_core::{Asked, Decoder, End, Entry, GateFault, Mem, Recorder, Verdict, gate};
+use cose_gate_core::{
+    Asked, Decoder, End, Entry, GateFault, Limits, Mem, Recorder, Terms, Verdict, gate_by,
+};
 use cose_notation::write_bytes;
 use std::alloc::Global;
 use std::fmt;
@@ -37,7 +39,20 @@ pub fn rule(alloc: Global, aad: &[u8], item: &[u8]) -> Result<Ruling, Stop> {
     let mut decoder = Decoder::from(item);
     let mut out = Mem::new(Vec::new(alloc));
     let mut entries = Vec::<Entry>::new(alloc);
-    let verdict = match gate(alloc, &mut decoder, &mut out, &mut entries, aad, &mut judge) {
+    let terms = Terms {
+        limits: Limits::default(),
+        strict: false,
+    };
+    let gated = gate_by(
+        alloc,
+        terms,
+        &mut decoder,
+        &mut out,
+        &mut entries,
+        aad,
+        &mut judge,
+    );
+    let verdict = match gated {
         Ok(_) => Ok(entries.as_slice().first().map(|entry| entry.verdict)),
         Err(GateFault::Memory) => return Err(Stop::Memory),
         Err(GateFault::Write) => return Err(Stop::Memory),

@@ -1,7 +1,8 @@
 -- What the clauses of `gate` say, over the run of the input.
-use Rattle.std.specs.Prelude.{◌≡◌, ℕ, ◌+◌, ◌<◌, ◌≤◌, ◌⊎◌, List, [], ◌∷◌, ◌++◌, length, Some, Bool, true}
-use Rattle.std.specs.Prelude.{IsTrue, Result, Ok, Err, IfOk, IfErr}
+use Rattle.std.specs.Prelude.{◌≡◌, ◌≢◌, ℕ, ◌+◌, ◌^◌, ◌<◌, ◌≤◌, ◌⊎◌, List, [], ◌∷◌, ◌++◌, length}
+use Rattle.std.specs.Prelude.{Some, None, Bool, true, IsTrue, Result, Ok, Err, IsOk, IfOk, IfErr}
 use Rattle.std.specs.Io.KnownBytes.{Appends}
+use Rattle.ciborium_ll.specs.Views.{left_of, offset_of, waiting_of, reader_of}
 use Rattle.ciborium_ll.specs.declared.dec.Decoder.{Decoder}
 use Rattle.ciborium_ll.specs.declared.read.Read.{Ghosts as Reads}
 use Rattle.ciborium_ll.specs.declared.write.Write.{Ghosts as Writes}
@@ -10,7 +11,8 @@ use Rattle.ciborium.specs.declared.de.Error.TheVariants as de
 use Rattle.cose_gate_laws.specs.GateCore.Asked.{folded_over, IsFront}
 use Rattle.cose_gate_laws.specs.GateCore.Calls.{rules_by, sight_of}
 use Rattle.cose_gate_laws.specs.GateCore.Findings.{Bounds}
-use Rattle.cose_gate_laws.specs.GateCore.Outcome.{Rules, Sight, IsFaultOf, StandsIn, IsNoReaderFault}
+use Rattle.cose_gate_laws.specs.GateCore.Outcome.{Rules, Sight, Answers, IsFaultOf, StandsIn}
+use Rattle.cose_gate_laws.specs.GateCore.Outcome.{IsNoReaderFault, reader_failures, writer_failures}
 use Rattle.cose_gate_laws.specs.GateCore.Questions.{Question}
 use Rattle.cose_gate_laws.specs.GateCore.Run.{Step, Run, passes, text_of, questions_of, output_of}
 use Rattle.cose_gate_laws.specs.GateCore.Run.{passed_count, refused_count}
@@ -220,3 +222,55 @@ abbrev pub HoldsNoMemory : {E : Type 0} → GateFault E → Type 0
 HoldsNoMemory (Decode e) = IsNoMemory e
 HoldsNoMemory Write = Unit {0}
 HoldsNoMemory Memory = Unit {0}
+
+-- what a call of the gate promises, by the words that the bounds of its reader, writer, report and
+-- judge bring, within these limits and over this external data; by what it works on as the call
+-- begins and as it returns, and by what it returns
+pub record Gates {R E W F P J : Type 0}
+    (r : Reads R E) (w : Writes W F) (p : Reports P) (j : Judges J)
+    (limits : Bounds) (aad : List ℕ)
+    (decoder : Decoder R) (out : W) (report : P) (judge : J)
+    (decoder' : Decoder R) (out' : W) (report' : P) (judge' : J)
+    (result : Result Counts (GateFault E)) : Type 0 where
+  -- neither device fails, memory is found and offsets fit: the run's questions, its output, and an
+  -- entry for each item
+  pub asked : AsksAll (call_of r w p j limits aad
+      decoder out report judge decoder' out' report' judge') result
+  pub written : WritesAll (call_of r w p j limits aad
+      decoder out report judge decoder' out' report' judge') result
+  pub noted : NotesAll (call_of r w p j limits aad
+      decoder out report judge decoder' out' report' judge') result
+  pub counted : CountsAll (call_of r w p j limits aad
+      decoder out report judge decoder' out' report' judge') result
+  pub stops : Stops (call_of r w p j limits aad
+      decoder out report judge decoder' out' report' judge') result
+  -- after a fault: beginnings of these
+  pub asked_front : AsksFront (call_of r w p j limits aad
+      decoder out report judge decoder' out' report' judge') result
+  pub noted_front : NotesFront (call_of r w p j limits aad
+      decoder out report judge decoder' out' report' judge') result
+  pub written_front : WritesFront (call_of r w p j limits aad
+      decoder out report judge decoder' out' report' judge') result
+  pub torn : Tears (call_of r w p j limits aad
+      decoder out report judge decoder' out' report' judge') result
+  pub texts : WritesWhole (call_of r w p j limits aad
+      decoder out report judge decoder' out' report' judge') result
+  -- which fault it is
+  pub no_memory : IfErr result HoldsNoMemory
+  pub nothing : left_of r.left decoder ≡ Some []
+      → r.failed (reader_of decoder') ≡ r.failed (reader_of decoder)
+      → offset_of decoder + 4096 < 2 ^ 64 → IsOk result
+  pub no_memory_of_nothing : left_of r.left decoder ≡ Some [] → result ≢ Err Memory
+  pub reader : r.failed (reader_of decoder')
+      ≡ r.failed (reader_of decoder) + reader_failures r.ends result
+  pub writer : w.failed out' ≡ w.failed out + writer_failures result
+  -- what stays, and how the decoder is left
+  pub who : j.who judge' ≡ j.who judge
+  pub kept : r.handle (reader_of decoder') ≡ r.handle (reader_of decoder)
+  pub lent : w.handle out' ≡ w.handle out
+  pub fits : offset_of decoder' < 2 ^ 64
+  pub fresh : waiting_of decoder' ≡ None
+  -- all of it by what is returned, also over a reader that doesn't tell which bytes are to come
+  pub ran : Answers r.ends (rules_by limits p j judge aad)
+      (sight_of r w p j decoder out report judge)
+      (sight_of r w p j decoder' out' report' judge') result

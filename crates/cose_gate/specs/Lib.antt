@@ -18,6 +18,7 @@ pub use Rattle.cose_gate_laws.specs.Anew
 pub use Rattle.cose_gate_laws.specs.Fixed
 pub use Rattle.cose_gate_laws.specs.Narrow
 pub use Rattle.cose_gate_laws.specs.Output
+pub use Rattle.cose_gate_laws.specs.Runs
 pub use Rattle.cose_gate_laws.specs.GateCore.DeviceFault
 pub use Rattle.cose_gate_laws.specs.GateCore.Framing
 pub use Rattle.cose_gate_laws.specs.GateCore.Title

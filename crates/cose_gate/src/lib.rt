@@ -1,7 +1,7 @@
-//! The gate: a CBOR sequence goes in, a judge is asked about each message with a signature or a tag in it, and those that passed come
-//! out, each as its one shortest text (RFC 8742, RFC 9052).
+//! The gate: a CBOR sequence goes in, a judge is asked about each message with a signature or a tag
+//! in it, and those that passed come out, each as its canonical encoding (RFC 8742, RFC 9052).
 //!
-//! A user names this crate alone: what stands in the crates below it is here under the same names.
+//! A user names this crate alone: what is in the crates below it is here under the same names.
 #![tactic(auto)]
 
 mod gating;
@@ -13,8 +13,10 @@ pub use cose_gate_laws::gate_core::{
     About, Algorithm, Asked, ContentType, CoseError, CoseRecipient, CoseSignature, Counts, Decoder,
     End, Entry, Full, GateFault, Header, Io, IoFault, Judge, Label, Limits, Log, Mem, MessageKind,
     ProtectedHeader, Read, Recorder, Refusal, RegisteredLabel, RegisteredLabelWithPrivate, Report,
-    SemanticKind, Silent, Verdict, Write, de,
+    SemanticKind, Silent, Terms, Verdict, Write, de,
 };
+/// The kind of a message, under its short name.
+pub use cose_gate_laws::gate_core::MessageKind as Kind;
 pub use cose_gate_program::judge::HmacJudge;
 pub use cose_gate_program::{Blocks, InputFault, run, run_judged, run_over, run_with, words};
 pub use cose_gate_stream::{StreamFault, laws as stream_laws, stream_check, stream_check_with};

@@ -1,27 +1,26 @@
 //! The questions of a run, for a caller who checks signatures by himself.
 ghost use Rattle.std.specs.Prelude.{◌≡◌, ℕ, List};
-ghost use Rattle.cose_gate_hmac.specs.GateCore.Terms.{limits_by};
+ghost use Rattle.cose_gate_hmac.specs.GateCore.Terms.{limits_of};
 ghost use Rattle.cose_gate_c.specs.Library.{Asks, Told, Places};
 
 use crate::answer::{Answer, no_limits};
 use crate::lines::Lines;
 use crate::place::{place, place_none};
 use cose_asked::{Asker, Nowhere};
-use cose_gate_program::{Limits, run_judged};
+use cose_gate_program::{Limits, Terms, run_judged};
 use std::alloc::Global;
 
-/// Asks within these limits.
+/// Asks by these terms.
 fn ask_within(
     alloc: Global,
-    limits: Limits,
-    strict: bool,
+    terms: Terms,
     aad: &[u8],
     input: &[u8],
     questions: &mut [u8],
     lines: &mut [u8],
 ) -> Answer
     ensures { (written : List ℕ) × (status : ℕ)
-        × Told (limits_by limits strict) aad.now input.now written status
+        × Told (limits_of terms) aad.now input.now written status
         × Places written status «questions».old «questions».new result }
 {
     let mut reader = input;
@@ -30,8 +29,7 @@ fn ask_within(
     let mut asker = Asker::new(alloc);
     let status = run_judged(
         alloc,
-        limits,
-        strict,
+        terms,
         aad,
         &mut reader,
         &mut nowhere,
@@ -73,7 +71,10 @@ pub extern "C" fn cose_gate_ask(
     ensures { Asks nesting layers strict aad.now input.now «questions».old «questions».new result }
 {
     match Limits::new(nesting, layers) {
-        Some(limits) => ask_within(alloc, limits, strict, aad, input, questions, lines),
+        Some(limits) => {
+            let terms = Terms { limits, strict };
+            ask_within(alloc, terms, aad, input, questions, lines)
+        }
         None => no_limits(),
     }
 }

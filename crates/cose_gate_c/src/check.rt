@@ -1,20 +1,19 @@
 //! The program's run over memory.
 ghost use Rattle.std.specs.Prelude.{◌≡◌, ℕ, List};
-ghost use Rattle.cose_gate_hmac.specs.GateCore.Terms.{limits_by};
+ghost use Rattle.cose_gate_hmac.specs.GateCore.Terms.{limits_of};
 ghost use Rattle.cose_gate_c.specs.Library.{Checks, Checked, Places};
 
 use crate::answer::{Answer, no_limits};
 use crate::lines::Lines;
 use crate::place::{place, place_none};
 use cose_asked::Growing;
-use cose_gate_program::{Limits, run_over};
+use cose_gate_program::{Limits, Terms, run_over};
 use std::alloc::Global;
 
-/// Runs the gate within these limits.
+/// Runs the gate by these terms.
 fn check_within(
     alloc: Global,
-    limits: Limits,
-    strict: bool,
+    terms: Terms,
     keys: &[u8],
     aad: &[u8],
     input: &[u8],
@@ -22,22 +21,13 @@ fn check_within(
     lines: &mut [u8],
 ) -> Answer
     ensures { (written : List ℕ) × (status : ℕ)
-        × Checked (limits_by limits strict) keys.now aad.now input.now written status
+        × Checked (limits_of terms) keys.now aad.now input.now written status
         × Places written status «out».old «out».new result }
 {
     let mut reader = input;
     let mut output = Growing::new(alloc);
     let mut told = Lines::new(lines);
-    let status = run_over(
-        alloc,
-        limits,
-        strict,
-        keys,
-        aad,
-        &mut reader,
-        &mut output,
-        &mut told,
-    );
+    let status = run_over(alloc, terms, keys, aad, &mut reader, &mut output, &mut told);
     if output.is_refused() {
         told.stopped_for_memory();
         return place_none(out, 4, told.length());
@@ -71,7 +61,10 @@ pub extern "C" fn cose_gate_check(
     ensures { Checks nesting layers strict keys.now aad.now input.now «out».old «out».new result }
 {
     match Limits::new(nesting, layers) {
-        Some(limits) => check_within(alloc, limits, strict, keys, aad, input, out, lines),
+        Some(limits) => {
+            let terms = Terms { limits, strict };
+            check_within(alloc, terms, keys, aad, input, out, lines)
+        }
         None => no_limits(),
     }
 }

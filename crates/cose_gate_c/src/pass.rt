@@ -1,6 +1,6 @@
 //! The messages whose questions were accepted.
 ghost use Rattle.std.specs.Prelude.{◌≡◌, ◌⊎◌, ℕ, List};
-ghost use Rattle.cose_gate_hmac.specs.GateCore.Terms.{limits_by};
+ghost use Rattle.cose_gate_hmac.specs.GateCore.Terms.{limits_of};
 ghost use Rattle.cose_asked.specs.Kept.{keys_of};
 ghost use Rattle.cose_gate_c.specs.Library.{NoMemory, Passes, Passed, Places, RunsBy};
 
@@ -8,14 +8,13 @@ use crate::answer::{Answer, no_limits};
 use crate::lines::{Lines, STOPPED};
 use crate::place::{place, place_none};
 use cose_asked::{Accepted, Growing};
-use cose_gate_program::{Limits, run_judged};
+use cose_gate_program::{Limits, Terms, run_judged};
 use std::alloc::Global;
 
 /// Passes what this judge accepts.
 fn pass_by(
     alloc: Global,
-    limits: Limits,
-    strict: bool,
+    terms: Terms,
     judge: Accepted,
     aad: &[u8],
     input: &[u8],
@@ -23,7 +22,7 @@ fn pass_by(
     lines: &mut [u8],
 ) -> Answer
     ensures { (written : List ℕ) × (status : ℕ)
-        × (RunsBy (limits_by limits strict) (keys_of judge.entry) aad.now input.now written status
+        × (RunsBy (limits_of terms) (keys_of judge.entry) aad.now input.now written status
         ⊎ NoMemory written status)
         × Places written status «out».old «out».new result }
 {
@@ -33,8 +32,7 @@ fn pass_by(
     let mut told = Lines::new(lines);
     let status = run_judged(
         alloc,
-        limits,
-        strict,
+        terms,
         aad,
         &mut reader,
         &mut output,
@@ -48,11 +46,10 @@ fn pass_by(
     place(out, output.as_written(), status, told.length())
 }
 
-/// Passes what was accepted, within these limits.
+/// Passes what was accepted, by these terms.
 fn pass_within(
     alloc: Global,
-    limits: Limits,
-    strict: bool,
+    terms: Terms,
     accepted: &[u8],
     aad: &[u8],
     input: &[u8],
@@ -60,14 +57,14 @@ fn pass_within(
     lines: &mut [u8],
 ) -> Answer
     ensures { (written : List ℕ) × (status : ℕ)
-        × Passed (limits_by limits strict) accepted.now aad.now input.now written status
+        × Passed (limits_of terms) accepted.now aad.now input.now written status
         × Places written status «out».old «out».new result }
 {
     let Ok(judge) = Accepted::new(alloc, accepted) else {
         return place_none(out, 4, lone_line(lines, STOPPED));
     };
     match judge {
-        Some(judge) => pass_by(alloc, limits, strict, judge, aad, input, out, lines),
+        Some(judge) => pass_by(alloc, terms, judge, aad, input, out, lines),
         None => place_none(out, 3, lone_line(lines, b"accepted: no records\n")),
     }
 }
@@ -100,7 +97,10 @@ pub extern "C" fn cose_gate_pass(
         «out».old «out».new result }
 {
     match Limits::new(nesting, layers) {
-        Some(limits) => pass_within(alloc, limits, strict, accepted, aad, input, out, lines),
+        Some(limits) => {
+            let terms = Terms { limits, strict };
+            pass_within(alloc, terms, accepted, aad, input, out, lines)
+        }
         None => no_limits(),
     }
 }

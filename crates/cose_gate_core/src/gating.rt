@@ -7,8 +7,7 @@ ghost use Rattle.ciborium_ll.specs.Seen.{Takes};
 ghost use Rattle.ciborium_ll.specs.Views.{left_of, offset_of, waiting_of, reader_of, seen};
 ghost use Rattle.ciborium_value.specs.View.{view};
 ghost use Rattle.coset_labels.specs.Limits.{nesting_of};
-ghost use Rattle.cose_gate_core.specs.Calls.{rules_by, sight_of, within, exact_within};
-ghost use Rattle.cose_gate_core.specs.Findings.{usual, usual_exact};
+ghost use Rattle.cose_gate_core.specs.Calls.{rules_by, sight_of};
 ghost use Rattle.cose_gate_core.specs.Outcome.{Answers, IsNext, IsReadFault};
 ghost use Rattle.cose_gate_core.specs.Outcome.{reader_failures, writer_failures};
 ghost use Rattle.cose_gate_core.specs.Passing.{at_end};
@@ -22,7 +21,6 @@ use crate::report::{Entry, Report, Verdict};
 use crate::terms::Terms;
 use ciborium::{Value, de};
 use ciborium_ll::{Decoder, Read, Write};
-use coset_labels::Limits;
 use std::alloc::{AllocError, Global};
 use std::fmt;
 use thiserror::Error;
@@ -196,8 +194,36 @@ fn entry_of(counts: Counts, offset: usize, verdict: Verdict) -> Entry
     }
 }
 
-/// The gate, by these terms.
-fn gate_by<R: Read, W: Write, P: Report, J: Judge>(
+/// Asks the judge about each tagged COSE_Sign1, COSE_Mac0, COSE_Sign and COSE_Mac of a CBOR
+/// sequence that carries its payload, over exactly the bytes that its signature or tag covers, with
+/// `aad` as external data, and writes those that passed, each as its canonical encoding (definite
+/// lengths, shortest heads, header fields in fixed order; RFC 8949, section 4.2). About a COSE_Sign
+/// it asks once for each signature, in order up to the first no, with that signature's headers as
+/// the signer's; it has passed if the answer to each is yes, and one without a signature is refused.
+/// Every item is noted in the report; one that is no such message is refused there, and the gate
+/// goes on. It doesn't flush.
+///
+/// Items, and anew those in protected headers, nest no deeper than `terms.limits.nesting()` levels,
+/// and no more than `terms.limits.layers()` protected headers are inside one another. If
+/// `terms.strict`, a message passes only if its item is already what would be written; any other is
+/// refused as `NotShortest`, and the judge isn't asked about it. Then no header may wait in the
+/// decoder. No copy of an item's bytes is kept.
+///
+/// It ends with `Ok` if nothing is left after an item: the offset has grown by all bytes then, and a
+/// reader that tells what is to come tells that nothing is. No header waits after any result.
+/// What the clause `ran` says holds of the bytes that were there, also over a reader that doesn't
+/// tell which are to come; if they are known, it holds of those.
+///
+/// # Errors
+/// `Decode` if no readable item begins: all items before it were asked about, noted and written.
+/// Of the bytes after these some were taken, or none, but of an item that is cut some; the offset
+/// has grown by their count. They may end inside an item, so don't read on from there. `Decode` also
+/// if the reader failed: then all that was asked, noted and written are the first items. `Write`
+/// if the writer failed: a beginning of the encoding of a message was written after the output
+/// before it, and the reader is after that message. `Memory` if out of memory: whole encodings were
+/// written, and of the questions about the item at hand a beginning was asked; if there is no such
+/// item, some of the bytes after the last one were taken, or none.
+pub fn gate_by<R: Read, W: Write, P: Report, J: Judge>(
     alloc: Global,
     terms: Terms,
     decoder: &mut Decoder<R>,
@@ -238,158 +264,4 @@ fn gate_by<R: Read, W: Write, P: Report, J: Judge>(
         counts = counted(counts, verdict);
         report.note(&entry_of(counts, offset, verdict))?;
     }
-}
-
-/// Asks the judge about each tagged COSE_Sign1, COSE_Mac0, COSE_Sign and COSE_Mac of a CBOR sequence that carries its payload, over
-/// exactly the bytes that its signature or tag covers, with `aad` as external data, and writes those that passed, each as its one
-/// shortest text. About a COSE_Sign it asks once for each signature, in order up to the first no, with that signature's headers as the
-/// signer's; it has passed where the answer to each is yes, and one without a signature is refused. Every item is noted in the report;
-/// one that is no such message is refused there, and the gate goes on. It doesn't flush.
-///
-/// It ends with `Ok` where nothing is left behind an item: the offset has grown by all bytes then, and a reader that tells what is to come
-/// tells that nothing is. No header waits after any answer.
-/// What the clause `ran` says holds of the bytes that were there, also over a reader that doesn't tell which are to come; where they are
-/// known, it holds of those.
-///
-/// # Errors
-/// `Decode` where no readable item begins: all items before it were asked about, noted and written.
-/// Of the bytes behind these some were taken, or none, but of an item that is cut some; the offset
-/// has grown by their count. They may end inside an item, so don't read on from there. `Decode` also
-/// where the reader failed: then all that was asked, noted and written are the first items. `Write`
-/// where the writer failed: a beginning of the text of a message was written behind the output
-/// before it, and the reader stands behind that message. `Memory` where memory was refused: whole
-/// texts were written, and of the questions about the item at hand a beginning was asked; where
-/// there is no such item, some of the bytes behind the last one were taken, or none.
-pub fn gate<R: Read, W: Write, P: Report, J: Judge>(
-    alloc: Global,
-    decoder: &mut Decoder<R>,
-    out: &mut W,
-    report: &mut P,
-    aad: &[u8],
-    judge: &mut J,
-) -> Result<Counts, GateFault<R::Error>>
-    ensures ran { Answers R.ends
-        (rules_by usual P.Report J.Judge judge.old aad.now)
-        (sight_of R.Read W.Write P.Report J.Judge decoder.old out.old report.old judge.old)
-        (sight_of R.Read W.Write P.Report J.Judge decoder.new out.new report.new judge.new) result }
-    ensures nothing { left_of R.left decoder.old ≡ Some []
-        → R.failed (reader_of decoder.new) ≡ R.failed (reader_of decoder.old)
-        → offset_of decoder.old + 4096 < 2 ^ 64 → IsOk result }
-    ensures no_memory_of_nothing { left_of R.left decoder.old ≡ Some []
-        → result ≢ Err Memory }
-    ensures reader { R.failed (reader_of decoder.new)
-        ≡ R.failed (reader_of decoder.old) + reader_failures R.ends result }
-    ensures writer { W.failed out.new ≡ W.failed out.old + writer_failures result }
-    ensures who { J.who judge.new ≡ J.who judge.old }
-    ensures kept { R.handle (reader_of decoder.new) ≡ R.handle (reader_of decoder.old) }
-    ensures lent { W.handle out.new ≡ W.handle out.old }
-    ensures fits { offset_of decoder.new < 2 ^ 64 }
-    ensures fresh { waiting_of decoder.new ≡ None }
-{
-    gate_with(alloc, Limits::default(), decoder, out, report, aad, judge)
-}
-
-/// As `gate`, within these limits: items and the items in protected headers nest no deeper than `limits.nesting()` levels, and no more
-/// than `limits.layers()` protected headers lie inside one another.
-pub fn gate_with<R: Read, W: Write, P: Report, J: Judge>(
-    alloc: Global,
-    limits: Limits,
-    decoder: &mut Decoder<R>,
-    out: &mut W,
-    report: &mut P,
-    aad: &[u8],
-    judge: &mut J,
-) -> Result<Counts, GateFault<R::Error>>
-    ensures ran { Answers R.ends
-        (rules_by (within limits) P.Report J.Judge judge.old aad.now)
-        (sight_of R.Read W.Write P.Report J.Judge decoder.old out.old report.old judge.old)
-        (sight_of R.Read W.Write P.Report J.Judge decoder.new out.new report.new judge.new) result }
-    ensures nothing { left_of R.left decoder.old ≡ Some []
-        → R.failed (reader_of decoder.new) ≡ R.failed (reader_of decoder.old)
-        → offset_of decoder.old + 4096 < 2 ^ 64 → IsOk result }
-    ensures no_memory_of_nothing { left_of R.left decoder.old ≡ Some []
-        → result ≢ Err Memory }
-    ensures reader { R.failed (reader_of decoder.new)
-        ≡ R.failed (reader_of decoder.old) + reader_failures R.ends result }
-    ensures writer { W.failed out.new ≡ W.failed out.old + writer_failures result }
-    ensures who { J.who judge.new ≡ J.who judge.old }
-    ensures kept { R.handle (reader_of decoder.new) ≡ R.handle (reader_of decoder.old) }
-    ensures lent { W.handle out.new ≡ W.handle out.old }
-    ensures fits { offset_of decoder.new < 2 ^ 64 }
-    ensures fresh { waiting_of decoder.new ≡ None }
-{
-    let terms = Terms {
-        limits,
-        strict: false,
-    };
-    gate_by(alloc, terms, decoder, out, report, aad, judge)
-}
-
-/// As `gate`, and strict: a message passes only where its item is already the text that would be written. One that is spelled otherwise
-/// is refused as `NotShortest`, and the judge isn't asked about it. So what is written is the received bytes of the messages that pass.
-/// No header may wait in the decoder. No copy of an item's bytes is kept.
-pub fn gate_strict<R: Read, W: Write, P: Report, J: Judge>(
-    alloc: Global,
-    decoder: &mut Decoder<R>,
-    out: &mut W,
-    report: &mut P,
-    aad: &[u8],
-    judge: &mut J,
-) -> Result<Counts, GateFault<R::Error>>
-    requires { waiting_of decoder.old ≡ None }
-    ensures ran { Answers R.ends
-        (rules_by usual_exact P.Report J.Judge judge.old aad.now)
-        (sight_of R.Read W.Write P.Report J.Judge decoder.old out.old report.old judge.old)
-        (sight_of R.Read W.Write P.Report J.Judge decoder.new out.new report.new judge.new) result }
-    ensures nothing { left_of R.left decoder.old ≡ Some []
-        → R.failed (reader_of decoder.new) ≡ R.failed (reader_of decoder.old)
-        → offset_of decoder.old + 4096 < 2 ^ 64 → IsOk result }
-    ensures no_memory_of_nothing { left_of R.left decoder.old ≡ Some []
-        → result ≢ Err Memory }
-    ensures reader { R.failed (reader_of decoder.new)
-        ≡ R.failed (reader_of decoder.old) + reader_failures R.ends result }
-    ensures writer { W.failed out.new ≡ W.failed out.old + writer_failures result }
-    ensures who { J.who judge.new ≡ J.who judge.old }
-    ensures kept { R.handle (reader_of decoder.new) ≡ R.handle (reader_of decoder.old) }
-    ensures lent { W.handle out.new ≡ W.handle out.old }
-    ensures fits { offset_of decoder.new < 2 ^ 64 }
-    ensures fresh { waiting_of decoder.new ≡ None }
-{
-    gate_strict_with(alloc, Limits::default(), decoder, out, report, aad, judge)
-}
-
-/// As `gate_strict`, within these limits.
-pub fn gate_strict_with<R: Read, W: Write, P: Report, J: Judge>(
-    alloc: Global,
-    limits: Limits,
-    decoder: &mut Decoder<R>,
-    out: &mut W,
-    report: &mut P,
-    aad: &[u8],
-    judge: &mut J,
-) -> Result<Counts, GateFault<R::Error>>
-    requires { waiting_of decoder.old ≡ None }
-    ensures ran { Answers R.ends
-        (rules_by (exact_within limits) P.Report J.Judge judge.old aad.now)
-        (sight_of R.Read W.Write P.Report J.Judge decoder.old out.old report.old judge.old)
-        (sight_of R.Read W.Write P.Report J.Judge decoder.new out.new report.new judge.new) result }
-    ensures nothing { left_of R.left decoder.old ≡ Some []
-        → R.failed (reader_of decoder.new) ≡ R.failed (reader_of decoder.old)
-        → offset_of decoder.old + 4096 < 2 ^ 64 → IsOk result }
-    ensures no_memory_of_nothing { left_of R.left decoder.old ≡ Some []
-        → result ≢ Err Memory }
-    ensures reader { R.failed (reader_of decoder.new)
-        ≡ R.failed (reader_of decoder.old) + reader_failures R.ends result }
-    ensures writer { W.failed out.new ≡ W.failed out.old + writer_failures result }
-    ensures who { J.who judge.new ≡ J.who judge.old }
-    ensures kept { R.handle (reader_of decoder.new) ≡ R.handle (reader_of decoder.old) }
-    ensures lent { W.handle out.new ≡ W.handle out.old }
-    ensures fits { offset_of decoder.new < 2 ^ 64 }
-    ensures fresh { waiting_of decoder.new ≡ None }
-{
-    let terms = Terms {
-        limits,
-        strict: true,
-    };
-    gate_by(alloc, terms, decoder, out, report, aad, judge)
 }

@@ -1,4 +1,5 @@
-//! The gate itself, the judge's trait, and what a judge is asked (RFC 8742, RFC 9052). A user names `cose_gate`, which passes it on.
+//! The gate itself, the judge's trait, and what a judge is asked (RFC 8742, RFC 9052). A user names
+//! `cose_gate`, which passes it on.
 #![tactic(auto)]
 
 mod about;
@@ -18,10 +19,11 @@ mod terms;
 
 pub use crate::about::{About, MessageKind};
 pub use crate::asking::received;
-pub use crate::gating::{Counts, GateFault, gate, gate_strict, gate_strict_with, gate_with};
+pub use crate::gating::{Counts, GateFault, gate_by};
 pub use crate::judge::Judge;
 pub use crate::recorder::{Asked, Recorder};
 pub use crate::report::{Entry, Refusal, Report, Silent, Verdict};
+pub use crate::terms::Terms;
 pub use ciborium::de;
 pub use ciborium_ll::log::Log;
 pub use ciborium_ll::{Decoder, End, Full, Io, IoFault, Mem, Read, Write};

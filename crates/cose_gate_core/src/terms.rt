@@ -2,11 +2,11 @@
 
 use coset_labels::Limits;
 
-/// The limits of a gate, and whether it is strict: passes only what is already as it would be written.
+/// What a gate goes by: its limits, and whether it is strict.
 #[derive(Debug, Clone, Copy)]
 pub struct Terms {
-    /// How deep items and their headers are followed.
+    /// How deep items and their headers may nest.
     pub limits: Limits,
-    /// Whether only messages pass whose bytes are already those that would be written.
+    /// Whether a message passes only if its bytes are already those that would be written.
     pub strict: bool,
 }

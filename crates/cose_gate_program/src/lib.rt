@@ -14,4 +14,4 @@ pub use crate::blocks::Blocks;
 pub use crate::devices::InputFault;
 pub use crate::program::{run, run_judged, run_over, run_with};
 pub use cose_gate_hmac as judge;
-pub use cose_gate_hmac::gate_core::Limits;
+pub use cose_gate_hmac::gate_core::{Limits, Terms};

@@ -1,6 +1,6 @@
 //! The program: the gate over one input, a line for each item, and one that says how it ended.
 ghost use Rattle.std.specs.Prelude.{◌≡◌, ◌≤◌, [], Some, IsOk, OnOk, option_copied};
-ghost use Rattle.cose_gate_hmac.specs.GateCore.Terms.{limits_by};
+ghost use Rattle.cose_gate_hmac.specs.GateCore.Terms.{limits_of};
 ghost use Rattle.cose_gate_hmac.specs.Judge.{says_yes};
 ghost use Rattle.cose_gate_program.specs.Program.{devices_of, hearing_of, Gated, RanJudged};
 ghost use Rattle.cose_gate_program.specs.Program.{Ends, EndsWithin, EndsOver};
@@ -10,21 +10,20 @@ use crate::devices::{Input, InputFault, Output};
 use crate::lines::{Lines, say_counts, say_fault, say_not_begun};
 use ciborium_ll::{Decoder, Read, Write};
 use cose_gate_hmac::HmacJudge;
-use cose_gate_hmac::gate_core::{Counts, GateFault, Judge, Limits, gate_strict_with, gate_with};
+use cose_gate_hmac::gate_core::{Counts, GateFault, Judge, Limits, Terms, gate_by};
 use std::alloc::Global;
 
 /// The gate through devices with small faults, and a line for each item.
 fn gate_lines<R: Read, W: Write, E: Write, J: Judge>(
     alloc: Global,
-    limits: Limits,
-    strict: bool,
+    terms: Terms,
     aad: &[u8],
     input: &mut R,
     out: &mut W,
     err: &mut E,
     judge: &mut J,
 ) -> Result<Counts, GateFault<InputFault>>
-    ensures ran { Gated (limits_by limits strict)
+    ensures ran { Gated (limits_of terms)
         (hearing_of J.Judge judge.old judge.new) aad.now
         (devices_of R.Read W.Write input.old out.old)
         (devices_of R.Read W.Write input.new out.new) result }
@@ -40,20 +39,9 @@ fn gate_lines<R: Read, W: Write, E: Write, J: Judge>(
     let mut decoder = Decoder::from(Input { reader: input });
     let mut output = Output { writer: out };
     let mut lines = Lines { out: err };
-    if strict {
-        return gate_strict_with(
-            alloc,
-            limits,
-            &mut decoder,
-            &mut output,
-            &mut lines,
-            aad,
-            judge,
-        );
-    }
-    gate_with(
+    gate_by(
         alloc,
-        limits,
+        terms,
         &mut decoder,
         &mut output,
         &mut lines,
@@ -62,8 +50,8 @@ fn gate_lines<R: Read, W: Write, E: Write, J: Judge>(
     )
 }
 
-/// The program's run with any judge: the gate over the input within these limits, and strict where
-/// that is asked, with `aad` as external data. The messages that passed go to `out`, which is
+/// The program's run with any judge: the gate over the input by these terms, with `aad` as external
+/// data. The messages that passed go to `out`, which is
 /// flushed, and on `err` there are the lines that `run` tells of. The judge is asked about the
 /// items in order: about all of them where the status is 0 or 1, and with 4 about all up to where
 /// the run stopped; where memory was refused at an item, it may be asked in part about that one.
@@ -72,15 +60,14 @@ fn gate_lines<R: Read, W: Write, E: Write, J: Judge>(
 /// memory was refused.
 pub fn run_judged<R: Read, W: Write, E: Write, J: Judge>(
     alloc: Global,
-    limits: Limits,
-    strict: bool,
+    terms: Terms,
     aad: &[u8],
     input: &mut R,
     out: &mut W,
     err: &mut E,
     judge: &mut J,
 ) -> u8
-    ensures ran { RanJudged (limits_by limits strict)
+    ensures ran { RanJudged (limits_of terms)
         (hearing_of J.Judge judge.old judge.new) aad.now
         (devices_of R.Read W.Write input.old out.old)
         (devices_of R.Read W.Write input.new out.new) result }
@@ -88,7 +75,7 @@ pub fn run_judged<R: Read, W: Write, E: Write, J: Judge>(
     ensures kept { R.handle input.new ≡ R.handle input.old }
     ensures lent { W.handle out.new ≡ W.handle out.old }
 {
-    let gated = gate_lines(alloc, limits, strict, aad, input, out, err, judge);
+    let gated = gate_lines(alloc, terms, aad, input, out, err, judge);
     if out.flush().is_err() {
         say_fault(GateFault::Write, err);
         return 4;
@@ -110,15 +97,14 @@ pub fn run_judged<R: Read, W: Write, E: Write, J: Judge>(
 /// or 1.
 pub fn run_over<R: Read, W: Write, E: Write>(
     alloc: Global,
-    limits: Limits,
-    strict: bool,
+    terms: Terms,
     keys: &[u8],
     aad: &[u8],
     input: &mut R,
     out: &mut W,
     err: &mut E,
 ) -> u8
-    ensures ran { EndsOver (limits_by limits strict) says_yes keys.now aad.now
+    ensures ran { EndsOver (limits_of terms) says_yes keys.now aad.now
         (devices_of R.Read W.Write input.old out.old)
         (devices_of R.Read W.Write input.new out.new) result }
     ensures kept { R.handle input.new ≡ R.handle input.old }
@@ -127,7 +113,7 @@ pub fn run_over<R: Read, W: Write, E: Write>(
     match read_keys(alloc, keys) {
         Ok(set) => {
             let mut judge = HmacJudge::prepared(alloc, &set);
-            run_judged(alloc, limits, strict, aad, input, out, err, &mut judge)
+            run_judged(alloc, terms, aad, input, out, err, &mut judge)
         }
         Err(why) => {
             say_not_begun(why, err);
@@ -136,19 +122,18 @@ pub fn run_over<R: Read, W: Write, E: Write>(
     }
 }
 
-/// As `run`, within these limits, and strict where that is asked: then a message passes only where
-/// its item is already the text that would be written, and is refused as `NotShortest` else.
+/// As `run`, by these terms: if they are strict, a message passes only if its item is already what
+/// would be written, and is refused as `NotShortest` else.
 pub fn run_with<R: Read, W: Write, E: Write>(
     alloc: Global,
-    limits: Limits,
-    strict: bool,
+    terms: Terms,
     keys: Option<&[u8]>,
     aad: Option<&str>,
     input: &mut R,
     out: &mut W,
     err: &mut E,
 ) -> u8
-    ensures ran { EndsWithin (limits_by limits strict) says_yes
+    ensures ran { EndsWithin (limits_of terms) says_yes
         (option_copied keys.entry) (option_copied aad.entry)
         (devices_of R.Read W.Write input.old out.old)
         (devices_of R.Read W.Write input.new out.new) result }
@@ -159,7 +144,7 @@ pub fn run_with<R: Read, W: Write, E: Write>(
         Ok(beginning) => {
             let mut judge = HmacJudge::prepared(alloc, &beginning.keys);
             let aad = beginning.aad.as_slice();
-            run_judged(alloc, limits, strict, aad, input, out, err, &mut judge)
+            run_judged(alloc, terms, aad, input, out, err, &mut judge)
         }
         Err(why) => {
             say_not_begun(why, err);
@@ -196,5 +181,9 @@ pub fn run<R: Read, W: Write, E: Write>(
     ensures kept { R.handle input.new ≡ R.handle input.old }
     ensures lent { W.handle out.new ≡ W.handle out.old }
 {
-    run_with(alloc, Limits::default(), false, keys, aad, input, out, err)
+    let terms = Terms {
+        limits: Limits::default(),
+        strict: false,
+    };
+    run_with(alloc, terms, keys, aad, input, out, err)
 }

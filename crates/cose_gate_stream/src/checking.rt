@@ -39,7 +39,7 @@ fn streamed<R: Read, J: Judge>(
     let count = four(decoder)?;
     let protected = protected_part(alloc, limits, decoder)?;
     let unprotected = unprotected_part(alloc, limits, decoder)?;
-    let size = payload_size(decoder)?;
+    let size = payload_size(decoder, form)?;
     let about = About::alone(form.kind(), &protected, &unprotected);
     judge.begin(&about)?;
     feed_front(form, received(&protected), aad, size, judge)?;

@@ -43,6 +43,14 @@ impl Form {
         }
     }
 
+    /// What a fault says that was expected in the place of its payload, as the gate says it.
+    pub fn payload(self) -> &'static str {
+        match self {
+            Form::Sign1 => "bstr or nil",
+            Form::Mac0 => "bstr",
+        }
+    }
+
     /// How its structure begins: the title of the array and the context's text (RFC 9052, sections
     /// 4.4 and 6.3).
     pub fn prefix(self) -> &'static [u8]

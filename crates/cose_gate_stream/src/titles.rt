@@ -102,18 +102,21 @@ fn payload_of(header: Header) -> Payload
     }
 }
 
-/// The fault of a title that is none of a payload.
-fn no_payload<E>(header: Header) -> StreamFault<E>
+/// The fault of a title that is none of a payload, by what was expected.
+fn no_payload<E>(header: Header, want: &'static str) -> StreamFault<E>
     ensures { IsUnexpected result }
 {
     match header {
         Header::Break => not_four(),
-        _ => other_kind(header, "bstr or nil"),
+        _ => other_kind(header, want),
     }
 }
 
-/// The length of the payload, from its title.
-pub fn payload_size<R: Read>(decoder: &mut Decoder<R>) -> Result<usize, StreamFault<R::Error>>
+/// The length of the payload of such a message, from its title.
+pub fn payload_size<R: Read>(
+    decoder: &mut Decoder<R>,
+    form: Form,
+) -> Result<usize, StreamFault<R::Error>>
     ensures ok { IfOk result (λ n. Takes (seen R.Read decoder.old) (seen R.Read decoder.new)
         (λ b. Title b (Bytes (Some n)))) }
     ensures err { IfErr result (NamesWhy R.ends SizeFault 0 (seen R.Read decoder.old)) }
@@ -124,7 +127,7 @@ pub fn payload_size<R: Read>(decoder: &mut Decoder<R>) -> Result<usize, StreamFa
         Payload::Sized(size) => Ok(size),
         Payload::Open => Err(StreamFault::Unsized),
         Payload::Absent => Err(StreamFault::Detached),
-        Payload::Other => Err(no_payload(header)),
+        Payload::Other => Err(no_payload(header, form.payload())),
     }
 }
 

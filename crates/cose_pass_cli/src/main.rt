@@ -7,7 +7,7 @@ use cose_ask_core::{
     NotRun, PassArguments, asks_for_help, pass_arguments, read_aad, read_accepted,
 };
 use cose_asked::Accepted;
-use cose_gate_program::{Blocks, Limits, run_judged};
+use cose_gate_program::{Blocks, Limits, Terms, run_judged};
 use std::io::{BufReader, BufWriter};
 use std::process::ExitCode;
 use std::{env, fs, io};
@@ -130,8 +130,10 @@ fn run(rt: &HostRuntime, strict: bool, aad: &[u8], judge: Accepted<'_>) -> Resul
     };
     Ok(run_judged(
         alloc,
-        Limits::default(),
-        strict,
+        Terms {
+            limits: Limits::default(),
+            strict,
+        },
         aad,
         &mut Blocks::new(input),
         &mut Io::new(output),

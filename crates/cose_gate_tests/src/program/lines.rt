@@ -1,6 +1,6 @@
 //! The program over readers and writers that fail, and what it flushes.
 use crate::messages::{KEYS, TAGGED};
-use cose_gate::{Limits, Mem, Read, Write, run, run_judged, run_over, run_with};
+use cose_gate::{Limits, Mem, Read, Terms, Write, run, run_judged, run_over, run_with};
 use std::alloc::Global;
 use std::process::Abort;
 use test_tools::{Counting, FailAfter, Held, Nth, Sink, Source};
@@ -111,8 +111,10 @@ fn refused_status(alloc: Global, out: &mut Mem<Vec<u8>>, err: &mut Mem<Vec<u8>>)
     let mut input = TAGGED;
     run_judged(
         alloc,
-        Limits::default(),
-        false,
+        Terms {
+            limits: Limits::default(),
+            strict: false,
+        },
         &[1],
         &mut input,
         out,
@@ -167,12 +169,15 @@ impl Run {
         out: &mut W,
         err: &mut E,
     ) -> u8 {
-        let (limits, strict) = (self.limits, self.strict);
+        let terms = Terms {
+            limits: self.limits,
+            strict: self.strict,
+        };
         if self.takes_hex {
             let (keys, aad) = (Some(KEYS), Some("01"));
-            run_with(alloc, limits, strict, keys, aad, input, out, err)
+            run_with(alloc, terms, keys, aad, input, out, err)
         } else {
-            run_over(alloc, limits, strict, KEYS, &[1], input, out, err)
+            run_over(alloc, terms, KEYS, &[1], input, out, err)
         }
     }
 

@@ -2,4 +2,9 @@ use Rattle.cose_gate_laws.proofs.Fronts.{begins_items, begins_questions, begins_
 use Rattle.cose_gate_laws.proofs.runs.course_begins_run.Goals as goal
 
 pub returns : goal.returns
-returns c = record { items = begins_items; questions = begins_questions; output = begins_output; entries = begins_entries }
+returns c = λ limits allows aad at b ss rs more rest p q. record {
+  items = begins_items limits allows aad at b ss rs more rest p q;
+  questions = begins_questions limits allows aad at b ss rs more rest p q;
+  output = begins_output limits allows aad at b ss rs more rest p q;
+  entries = begins_entries limits allows aad at b ss rs more rest p q;
+}

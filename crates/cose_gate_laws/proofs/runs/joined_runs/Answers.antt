@@ -7,8 +7,10 @@ pub returns : goal.returns
 returns c = record {
   there = λ limits allows aad at a b ss rs rest p q.
       (placed 1 at (ss ++ rs), joined_run limits allows aad at a b ss rs rest p q, joined_entries limits allows aad at a b ss rs rest p q);
-  questions = λ limits allows aad at a b ss rs ts rest more p q r. joined_questions limits allows aad at a b ss rs rest p q ts more r;
-  output = λ limits allows aad at a b ss rs ts rest more p q r. joined_output limits allows aad at a b ss rs rest p q ts more r;
-  entries = λ limits allows aad at a b ss rs ts rest more p q r. joined_alike limits allows aad at a b ss rs rest p q ts more r;
-  rest = λ limits allows aad at a b ss rs ts rest more p q r. joined_rest limits allows aad at a b ss rs rest p q ts more r;
+  joined = λ limits allows aad at a b ss rs ts rest more p q r. record {
+    questions = joined_questions limits allows aad at a b ss rs rest p q ts more r;
+    output = joined_output limits allows aad at a b ss rs rest p q ts more r;
+    entries = joined_alike limits allows aad at a b ss rs rest p q ts more r;
+    rest_is = joined_rest limits allows aad at a b ss rs rest p q ts more r;
+  };
 }

@@ -7,8 +7,10 @@ pub returns : goal.returns
 returns c = record {
   whole = λ limits allows aad at b ss rest p. (run_told limits allows aad at b ss rest p).whole;
   there = λ limits allows aad at b xs s ys rest p. (placed 1 at (xs ++ ys), without_run limits allows aad at b xs s ys rest p);
-  questions = λ limits allows aad at b xs s ys ts rest more p r.
-      (with_questions limits allows aad at b xs s ys rest p, without_questions limits allows aad at b xs s ys rest p ts more r);
-  output = λ limits allows aad at b xs s ys ts rest more p e r. without_output limits allows aad at b xs s ys rest p ts more r e;
-  rest = λ limits allows aad at b xs s ys ts rest more p r. without_rest limits allows aad at b xs s ys rest p ts more r;
+  left_out = λ limits allows aad at b xs s ys ts rest more p r. record {
+    questions = with_questions limits allows aad at b xs s ys rest p;
+    others = without_questions limits allows aad at b xs s ys rest p ts more r;
+    output = λ e. without_output limits allows aad at b xs s ys rest p ts more r e;
+    rest_is = without_rest limits allows aad at b xs s ys rest p ts more r;
+  };
 }

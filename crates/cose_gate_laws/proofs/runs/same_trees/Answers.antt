@@ -15,7 +15,9 @@ same limits allows aad at to a b ss rs rest more i p q e =
 pub returns : goal.returns
 returns c = record {
   usual = λ b c m. refl;
-  questions = λ limits allows aad at to a b ss rs rest more i p q e. (same limits allows aad at to a b ss rs rest more i p q e).asks;
-  output = λ limits allows aad at to a b ss rs rest more i p q e. (same limits allows aad at to a b ss rs rest more i p q e).writes;
-  verdicts = λ limits allows aad at to a b ss rs rest more i p q e. (same limits allows aad at to a b ss rs rest more i p q e).verdicts;
+  same = λ limits allows aad at to a b ss rs rest more i p q e. let all = same limits allows aad at to a b ss rs rest more i p q e in record {
+    questions = all.asks;
+    output = all.writes;
+    verdicts = all.verdicts;
+  };
 }
