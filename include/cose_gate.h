@@ -1,13 +1,14 @@
 /* cose_gate.h: the gate of COSE messages over memory (RFC 9052, RFC 8949). The library is out/libcose_gate_c.a of crates/cose_gate_c,
  * linked together with the kit's liblibc_c.a, which calls malloc, realloc and free. docs/LIBRARY.md.
  *
- * Buffers: all belong to the caller. A pointer is never NULL, also where its length is 0. `out`, `questions` and `lines` overlap nothing
- *   that is handed over in the same call; what is read may overlap. No length is above PTRDIFF_MAX. Nothing is kept after a call.
- * Memory: a call takes memory by malloc, realloc and free, and has given all of it back when it returns. Where it is refused, the last
- *   of the lines is `stopped: memory`, in place of the one that the run ended with.
- *   The three are those of one allocator, and malloc and realloc align to each power of two up to 16 that divides the size.
- * Stack: with 256 levels and 16 layers each call was seen to take up to 179 KiB, on the worst message of each shape; with the widest limits,
- *   4,096 and 64, up to 6,157 KiB. What Rattle's own compiler builds takes up to 3,530 KiB and more (docs/TIMES.md, "Stack").
+ * Buffers: all belong to the caller. A pointer is never NULL, not even with the length 0. `out`, `questions` and `lines` overlap nothing else
+ *   that is passed in the same call; inputs may overlap. No length is above PTRDIFF_MAX. Nothing is kept after a call.
+ * Memory: a call takes memory by malloc, realloc and free, and has given all of it back when it returns. If it runs out of memory, the last
+ *   line is `stopped: memory`, in place of the one that the run ended with. A call holds one item, which a sender can make large: an item of
+ *   small integers takes 32 times its bytes, one of many small signatures or recipients up to 180 times (docs/TIMES.md, "Memory").
+ *   The three functions are those of one allocator, and malloc and realloc align to each power of two up to 16 that divides the size.
+ * Stack: with 256 levels and 16 layers each call was seen to take up to 179 KiB, on the worst messages of each shape that we could make; with
+ *   the widest limits, 4,096 and 64, up to 6,157 KiB. What Rattle's own compiler builds takes up to 3,530 KiB and more (docs/TIMES.md, "Stack").
  * Threads: any number of threads may call at once, each with buffers of its own. The library has no state, and starts no thread.
  * Signals and fork: not from a signal handler, and not in the forked child of a process with threads, as malloc isn't safe there.
  */
@@ -28,10 +29,10 @@ enum {
   COSE_GATE_ALL_PASSED = 0,   /* no item was refused */
   COSE_GATE_SOME_REFUSED = 1, /* some were; what passed is written */
   COSE_GATE_LIMITS = 2,       /* `nesting` or `layers` is out of range; nothing was read */
-  COSE_GATE_KEYS = 3,         /* the bytes are no key set, or no records; nothing was read */
-  COSE_GATE_STOPPED = 4,      /* the input is no CBOR, or memory was refused. What passed before is written; nothing where memory was
-                                 refused to the output, or for the keys or records */
-  COSE_GATE_NO_ROOM = 5       /* the output is longer than its room, which stays as it was */
+  COSE_GATE_KEYS = 3,         /* the bytes are not a key set, or not records; nothing was read */
+  COSE_GATE_STOPPED = 4,      /* an item can't be read, or out of memory. What passed before is written; nothing if memory ran out for the
+                                 output, the keys or the records */
+  COSE_GATE_NO_ROOM = 5       /* the output is longer than its buffer, which stays as it was */
 };
 
 /* The limits of the program. */
@@ -40,8 +41,8 @@ enum {
 
 typedef struct cose_gate_answer {
   uint32_t status; /* one of the above */
-  size_t length;   /* bytes of output; with COSE_GATE_NO_ROOM the room that is needed */
-  size_t lines;    /* bytes of the report's lines, also of those that had no room in `lines` */
+  size_t length;   /* bytes of output; with COSE_GATE_NO_ROOM the size that the buffer needs */
+  size_t lines;    /* bytes of the report's lines, also of those that didn't fit into `lines` */
 } cose_gate_answer;
 
 #if defined(__cplusplus)
@@ -56,12 +57,12 @@ COSE_GATE_ASSERT(offsetof(cose_gate_answer, length) == 8, "length");
 COSE_GATE_ASSERT(offsetof(cose_gate_answer, lines) == 16, "lines");
 COSE_GATE_ASSERT(sizeof(cose_gate_answer) == 24, "cose_gate_answer");
 
-/* Runs cose-gate over memory. `keys` is the text of a COSE_KeySet (RFC 9052, section 7), `aad` the external data as bytes, and `input` a
- * CBOR sequence. The messages that pass stand at the front of `out`, each as its shortest text. `lines` takes what the program writes
- * on standard error, as far as it fits. `nesting` is 2 to 4096 and `layers` 1 to 64; where `strict` is true, a message passes only where
- * it is already as it would be written.
- * The output may be longer than the input, as `c2450100000000` is written as `1b0000000100000000`; room of the input's length mostly
- * serves, and with COSE_GATE_NO_ROOM a second call with room of `length` bytes does. */
+/* Runs cose-gate over memory. `keys` is an encoded COSE_KeySet (RFC 9052, section 7), `aad` the external_aad, and `input` a CBOR sequence.
+ * The messages that pass are written to the front of `out`, one after another, each in canonical encoding: shortest heads, definite lengths,
+ * header fields in a fixed order. Payloads and protected headers keep their bytes. `lines` takes what the program writes on standard error, as
+ * far as it fits. `nesting` is 2 to 4096 and `layers` 1 to 64; if `strict` is true, only messages that are already in canonical encoding pass.
+ * The output may be longer than the input: `c2450100000000`, say, is written as `1b0000000100000000`. A buffer of the input's length mostly
+ * serves, and with COSE_GATE_NO_ROOM a second call with a buffer of `length` bytes does. */
 cose_gate_answer cose_gate_check(const uint8_t *keys, size_t keys_length,
                                  const uint8_t *aad, size_t aad_length,
                                  const uint8_t *input, size_t input_length,
@@ -69,21 +70,23 @@ cose_gate_answer cose_gate_check(const uint8_t *keys, size_t keys_length,
                                  uint8_t *lines, size_t lines_length,
                                  size_t nesting, size_t layers, bool strict);
 
-/* The two calls for signatures that the caller checks by himself.
+/* The two calls for signatures that the caller checks himself.
  *
- * cose_gate_ask tells the questions of the input: of each signature or tag over a message that is well formed, a record in `questions`,
- * one behind another, in order. `lines` are those of a run in which every signature is good. With the statuses 0 and 1 all are told, with
- * COSE_GATE_STOPPED those before the place where the run stopped (where memory was refused at a message, perhaps some of its own too), and
- * none where memory was refused to the records.
+ * cose_gate_ask tells the questions of the input: a record in `questions` for each signature or MAC over a message that is well formed, one
+ * after another, in order. `lines` are those of a run in which every signature is good. With the statuses 0 and 1 all are told. With
+ * COSE_GATE_STOPPED those before the place where the run stopped are told (if memory ran out at a message, perhaps some of its own too), and
+ * none if memory ran out for the records.
  *
- * A record is its length in eight bytes, the lowest first, and behind it so many bytes, its key: eight bytes with the message's tag, and
- * seven texts, each behind its length in eight bytes. cose_gate_next reads one. No signature covers the unprotected headers and the
- * recipients, but a caller finds his key by them: so they are part of the key, and a record that was accepted counts for no message with
- * others.
+ * A record is its length in eight bytes, the lowest first, and then that many bytes, its key: eight bytes with the message's tag, and seven
+ * byte strings, each after its length in eight bytes. cose_gate_next reads one. No signature covers the unprotected headers and the recipients,
+ * but a caller finds his key by them. So they are part of the key, and a record that was accepted doesn't count for a message with others.
  *
- * cose_gate_pass takes the records that the caller accepts, copied as they are, one behind another, and writes the messages all of whose
- * questions are among them. `aad`, the limits and `strict` are those of the call before. Each question is looked for among all that was
- * accepted, so the time is that of the one number by the other. COSE_GATE_KEYS: these are no records. */
+ * A protected header that was received as an encoded empty map, the one byte `a0`, is shown and covered as `a0`. (RFC 9052, section 4.4, asks
+ * for an empty string there; a signature over that is over other bytes.)
+ *
+ * cose_gate_pass takes the records that the caller accepts, copied as they are, one after another, and writes the messages all of whose
+ * questions are among them. `aad`, the limits and `strict` are those of the call before. The records are sorted once, so each question is
+ * found in as many steps as the logarithm of their number. COSE_GATE_KEYS: these are not records. */
 cose_gate_answer cose_gate_ask(const uint8_t *aad, size_t aad_length,
                                const uint8_t *input, size_t input_length,
                                uint8_t *questions, size_t questions_length,
@@ -100,7 +103,7 @@ cose_gate_answer cose_gate_pass(const uint8_t *accepted, size_t accepted_length,
 /* The kinds of messages that are asked about, by their tags (RFC 9052, section 2). */
 enum { COSE_GATE_MAC0 = 17, COSE_GATE_SIGN1 = 18, COSE_GATE_MAC = 97, COSE_GATE_SIGN = 98 };
 
-/* Bytes that lie in a record. */
+/* Bytes in a record. */
 typedef struct cose_gate_text {
   const uint8_t *at;
   size_t length;
@@ -110,13 +113,13 @@ typedef struct cose_gate_text {
 typedef struct cose_gate_question {
   cose_gate_text record;
   uint64_t kind;                     /* the message's tag */
-  cose_gate_text protected_header;   /* as it was received: an encoded map, or nothing */
+  cose_gate_text protected_header;   /* as it was received: an encoded map (`a0` stays `a0`), or nothing */
   cose_gate_text unprotected_header; /* an encoded map */
-  cose_gate_text signer_protected;   /* of a COSE_Sign; else nothing */
-  cose_gate_text signer_unprotected; /* of a COSE_Sign an encoded map; else nothing */
-  cose_gate_text recipients;         /* an encoded array, of a COSE_Mac */
-  cose_gate_text covered;            /* what the signature or tag is over (sections 4.4 and 6.3) */
-  cose_gate_text signature;          /* the signature or tag */
+  cose_gate_text signer_protected;   /* of a COSE_Sign; else empty */
+  cose_gate_text signer_unprotected; /* of a COSE_Sign an encoded map; else empty */
+  cose_gate_text recipients;         /* an encoded array: of a COSE_Mac its recipients, of the other kinds the empty one, `80` */
+  cose_gate_text covered;            /* what the signature or MAC covers (sections 4.4 and 6.3) */
+  cose_gate_text signature;          /* the signature or MAC */
 } cose_gate_question;
 
 static inline uint64_t cose_gate_number(const uint8_t *at) {
@@ -127,7 +130,7 @@ static inline uint64_t cose_gate_number(const uint8_t *at) {
   return number;
 }
 
-/* Takes a text behind its length off the front of `*rest`. */
+/* Takes a byte string with its length off the front of `*rest`. */
 static inline bool cose_gate_next_text(cose_gate_text *rest, cose_gate_text *text) {
   if (rest->length < 8) {
     return false;
@@ -143,7 +146,7 @@ static inline bool cose_gate_next_text(cose_gate_text *rest, cose_gate_text *tex
   return true;
 }
 
-/* Takes the next record off the front of `*rest`; false where there is none. */
+/* Takes the next record off the front of `*rest`; false if there is none. */
 static inline bool cose_gate_next(cose_gate_text *rest, cose_gate_question *question) {
   cose_gate_text key;
   question->record.at = rest->at;

@@ -1,6 +1,6 @@
 #!/usr/bin/env bash
-# scripts/proved.sh NAME CRATE: proves and builds the program NAME, which is CRATE, where a source of it has changed since. While it works it
-# says on standard error which crates are proved, and each minute what is left. Status 0 where the program stands then, and 70 where the
+# scripts/proved.sh NAME CRATE: proves and builds the program NAME, which is CRATE, if a source of it has changed since. While it works it
+# says on standard error which crates are proved, and each minute what is left. Status 0 if the program is there then, and 70 if the
 # build failed.
 set -u
 top=$(cd "$(dirname "$(readlink -f "${BASH_SOURCE[0]}")")/.." && pwd)
@@ -10,7 +10,7 @@ program=$crate/out/$2
 log=$crate/out/build.log
 
 # The crates of the repository that a build's log shows to be proved, the lower ones first: those that it has a sum of, and those below one
-# that was begun, also where they stood or were taken from another checkout. With a name behind it, that crate and those below it.
+# that was begun, also those that were there or taken from another checkout. With a name after it, that crate and those below it.
 crates_in() {
   awk -v whole="${2-}" '
     function add(name,  n, i, of) {
@@ -38,7 +38,7 @@ changed() {
   done
 }
 
-# The words of the second list that aren't in the first.
+# The names of the second list that aren't in the first.
 others() {
   local name
   for name in $2; do
@@ -71,7 +71,7 @@ if [ -x "$program" ] && [ -z "$(changed $all)" ]; then
 fi
 mkdir -p "$crate/out"
 : > "$log"
-echo "$name_of_program: building the program. Its $(echo "$all" | wc -w) crates are proved first, but for those that stand: about an hour the first time." >&2
+echo "$name_of_program: building the program. Its $(echo "$all" | wc -w) crates are proved first, unless they are already: some 70 CPU minutes the first time." >&2
 echo "$name_of_program: the log is $log" >&2
 # Once it is built the program is run, and rt ends with its status; that of help is 0.
 (cd "$crate" && exec rt run -- --help < /dev/null) >> "$log" 2>&1 &

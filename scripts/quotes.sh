@@ -1,24 +1,19 @@
 #!/bin/sh
-# quotes.sh: says what the pages and the help quote otherwise than it stands. Status 1 where there is something.
-# - Each line in a block of Rattle of a CALLING.md stands in the crate callers or in an example program.
+# quotes.sh: says what the pages and the help quote otherwise than it is. Status 1 if there is anything.
+# - The blocks of Rattle on the pages are whole parts of the crate callers, of an example or of a test (scripts/quotes.py).
 # - The signatures of a CALLING.md are those of the sources (scripts/signatures.py writes them).
 # - The scripts cose-gate, cose-show, cose-ask and cose-pass have the help of their programs.
 # - The clauses of the crate copied_clauses are those of the functions that it copies.
+# - What is said in several places is said in all of them (scripts/places.py).
 cd "$(dirname "$0")/.." || exit 2
-lines=${TMPDIR:-/tmp}/quotes.$$
-trap 'rm -f "$lines"' EXIT
-cat crates/callers/src/*.rt crates/example_*/src/*.rt | sed 's/^ *//' | sort -u > "$lines" || exit 2
 status=0
 
-for page in crates/*/CALLING.md; do
-  lost=$(awk '/^```rust$/ { inside = 1; next } /^```$/ { inside = 0 } inside && NF' "$page" | sed 's/^ *//' | grep -vxFf "$lines")
-  [ -z "$lost" ] || { printf '%s quotes what stands neither in crates/callers nor in an example:\n%s\n' "$page" "$lost"; status=1; }
-done
-
 if command -v python3 > /dev/null; then
+  python3 scripts/quotes.py || status=1
   python3 scripts/signatures.py --check || status=1
+  python3 scripts/places.py || status=1
 else
-  echo "quotes.sh: python3 isn't there, so the signatures are not looked at" >&2
+  echo "quotes.sh: python3 isn't there, so blocks of code and signatures are not compared" >&2
 fi
 
 # Whether a script and the file with its program's text HELP have the same help.

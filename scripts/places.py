@@ -1,0 +1,71 @@
+#!/usr/bin/env python3
+"""Compares what is said in several places: the names of refusals, the statuses of the program and the library, and the limits. It names each
+place that says otherwise: status 1 if there is one."""
+import pathlib
+import re
+import sys
+
+TOP = pathlib.Path(__file__).resolve().parent.parent
+status = 0
+
+
+def text(file):
+    return (TOP / file).read_text(encoding="utf-8")
+
+
+def found(file, pattern):
+    """What the groups of a pattern match in a file, in order."""
+    return re.findall(pattern, text(file), re.M | re.S)
+
+
+def same(what, wanted, file, said):
+    global status
+    if wanted != said:
+        print(f"{file}: {what} {said}, and not {wanted}")
+        status = 1
+
+
+def refusals():
+    report = "crates/cose_gate_core/src/report.rt"
+    variants = found(report, r"^    (\w+)(?:\(\w+\))?,$")[:8]
+    order = re.findall(r"`(\w+)`", re.search(r"tested in the order (.*?)\.", text(report), re.S)[1])
+    same("the refusals are", sorted(variants), report, sorted(order))
+    same("the names of refusals are", sorted(order), "crates/cose_gate_program/src/lines.rt",
+         sorted(found("crates/cose_gate_program/src/lines.rt", r'^        Refusal::\w+(?:\(_\))? => "(\w+)"')))
+    # cose-gate isn't strict
+    order.remove("NotShortest")
+    same("the refusals are", order, "README.md", found("README.md", r"^\| `(\w+)` \| (?:has|is|was|does)"))
+    same("the refusals are", order, "docs/cose-gate.1", found("docs/cose-gate.1", r"^\.TP\n\.B ([A-Z]\w+)$"))
+
+
+def statuses():
+    header = "include/cose_gate.h"
+    numbers = dict(found(header, r"^  (COSE_GATE_\w+) = (\d),? +/\*"))
+    same("the statuses are", ["0", "1", "2", "3", "4", "5"], header, list(numbers.values()))
+    same("the errors have the statuses", ["2", "3", "4", "5"], "examples/python/cose_gate.py",
+         found("examples/python/cose_gate.py", r"^    status = (\d)$"))
+    same("the statuses are", ["0 | 1", "2", "3", "5", "_"], "examples/rust/src/main.rs",
+         re.findall(r"^        (\S.*?) => \w+\(", re.search(r"match answer\.status \{.*?\n    \}", text("examples/rust/src/main.rs"), re.S)[0], re.M))
+    for name in ["gate", "pass"]:
+        same("the statuses are", ["0", "1", "2", "3", "4"], f"docs/cose-{name}.1", found(f"docs/cose-{name}.1", r"^\.B (\d)$"))
+    same("the statuses are", ["0", "1", "2", "4"], "docs/cose-ask.1", found("docs/cose-ask.1", r"^\.B (\d)$"))
+
+
+def limits():
+    nesting = found("crates/ciborium/src/de.rt", r"RECURSION_LIMIT: usize = (\d+);")
+    layers = found("crates/coset_labels/src/limits.rt", r"^const LAYERS: usize = (\d+);")
+    for file, of_nesting, of_layers in [
+        ("include/cose_gate.h", r"define COSE_GATE_NESTING (\d+)", r"define COSE_GATE_LAYERS (\d+)"),
+        ("examples/rust/src/main.rs", r"^const NESTING: usize = (\d+);", r"^const LAYERS: usize = (\d+);"),
+        ("examples/python/cose_gate.py", r"^NESTING, LAYERS = (\d+),", r"^NESTING, LAYERS = \d+, (\d+)"),
+    ]:
+        same("the limits are", nesting + layers, file, found(file, of_nesting) + found(file, of_layers))
+    bounds = found("crates/coset_labels/src/limits.rt", r"nesting < (\d+) \|\| nesting > (\d+) \|\| layers < (\d+) \|\| layers > (\d+)")
+    same("the bounds of the limits are", bounds, "include/cose_gate.h",
+         found("include/cose_gate.h", r"`nesting` is (\d+) to (\d+) and `layers` (\d+) to (\d+)"))
+
+
+refusals()
+statuses()
+limits()
+sys.exit(status)

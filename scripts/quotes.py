@@ -1,0 +1,79 @@
+#!/usr/bin/env python3
+"""Compares each block of Rattle in crates/*/CALLING.md, docs/PORTING.md and docs/TOKENS.md with the crate callers, the example programs and
+the tests of the gate. It names each part that differs: status 1 if there is one.
+
+A part is the lines between two blank lines, such as a function. Its lines have to follow one another in one source file, so that none is left
+out; margins and blank lines don't count. Of imports each has to stand in a source, and a block that begins with its `//!` lines or imports has
+to have those of its source file whose names it uses."""
+import pathlib
+import re
+import sys
+
+TOP = pathlib.Path(__file__).resolve().parent.parent
+PAGES = ["crates/*/CALLING.md", "docs/PORTING.md", "docs/TOKENS.md"]
+SOURCES = ["crates/callers/src/*.rt", "crates/example_*/src/*.rt", "crates/cose_gate_tests/src/program/*.rt",
+           "crates/coset_tests/src/together/*.rt"]
+
+
+def files(patterns):
+    return [file for pattern in patterns for file in sorted(TOP.glob(pattern))]
+
+
+def lines(text):
+    """The lines of a text, without margins and blank lines."""
+    return [line.strip() for line in text.split("\n") if line.strip()]
+
+
+def stands_in(part, source):
+    """Whether the lines of a part follow one another in a source."""
+    return any(source[at:at + len(part)] == part for at in range(len(source) - len(part) + 1))
+
+
+IMPORT = re.compile(r"^(?:pub )?(?:ghost )?use ([^;]+);\n?", re.M)
+
+
+def imports(text):
+    """The imports at the head of a source: each with the names that it brings in."""
+    found = []
+    for it in IMPORT.finditer(text):
+        path = re.sub(r"\s+", " ", it[1]).strip()
+        group = re.search(r"\{(.*)\}$", path)
+        names = [name.split(" as ")[-1].split("::")[-1].strip() for name in (group[1] if group else path).split(",")]
+        found.append((lines(it[0]), [name.split(".")[-1] for name in names if name]))
+    return found
+
+
+def uses(name, body):
+    """Whether a text uses a name, or an operator such as ◌++◌."""
+    if re.fullmatch(r"\w+", name):
+        return re.search(rf"(?<!\w){name}(?!\w)", body) is not None
+    return all(sign in body for sign in name.split("◌") if sign)
+
+
+def main():
+    sources = {file: lines(file.read_text(encoding="utf-8")) for file in files(SOURCES)}
+    status = 0
+    for page in files(PAGES):
+        for block in re.findall(r"^```rust\n(.*?)^```$", page.read_text(encoding="utf-8"), re.M | re.S):
+            rest = re.sub(r"^//!.*\n", "", IMPORT.sub("", block), flags=re.M)
+            parts = [part for part in map(lines, re.split(r"\n\s*\n", rest)) if part]
+            head = [lines(it[0]) for it in re.finditer(rf"{IMPORT.pattern}|^//!.*\n", block, re.M)]
+            for part in head + parts:
+                if not any(stands_in(part, source) for source in sources.values()):
+                    print(f"{page.relative_to(TOP)} quotes what stands so in no source:\n  " + "\n  ".join(part))
+                    status = 1
+            if not re.match(r"//!|(ghost )?use ", block):
+                continue
+            for file, source in sources.items():
+                if not all(stands_in(part, source) for part in parts):
+                    continue
+                for statement, names in imports(file.read_text(encoding="utf-8")):
+                    if statement not in head and any(uses(name, rest) for name in names):
+                        print(f"{page.relative_to(TOP)} quotes {file.relative_to(TOP)} without a line that it needs:\n  "
+                              + "\n  ".join(statement))
+                        status = 1
+    return status
+
+
+if __name__ == "__main__":
+    sys.exit(main())
