@@ -56,6 +56,7 @@ fn of_program(to: &mut Out, name: &str, row: &mut &str) {
         "tag" => judging::tag(to, row),
         "judge" => judging::judge(to, row),
         "judge-prepared" => judging::prepared_judge(to, row),
+        "why" => judging::why(to, row),
         "show" => showing::show(to, row),
         "pieces" => showing::pieces(to, row),
         _ => uses::answer(to, name, row),

@@ -194,7 +194,7 @@ fn write_no_key<P: fmt::Write>(book: &KeyBook<'_>, id: &[u8], page: &mut P) -> f
 /// A key id, of which no more than 64 bytes are shown.
 fn write_id<P: fmt::Write>(id: &[u8], page: &mut P) -> fmt::Result {
     if id.is_empty() {
-        return page.write_str("none");
+        return page.write_str("(none)");
     }
     page.write_str("h'")?;
     match id.get(..CUT) {
