@@ -51,6 +51,7 @@ fn named(to: &mut Out, name: &str, row: &mut &str) {
 fn of_program(to: &mut Out, name: &str, row: &mut &str) {
     match name {
         "run" => program::run(to, row),
+        "run-strict" => program::run_strict(to, row),
         "run-room" => program::run_in_room(to, row),
         "words" => program::arguments(to, row),
         "tag" => judging::tag(to, row),

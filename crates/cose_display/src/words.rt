@@ -2,7 +2,9 @@
 use std::slice;
 
 /// The lines for words that it doesn't know.
-pub const USAGE: &str = "usage: cose-show [--questions] [--strict] [--json] [--aad HEX] [FILE]
+pub const USAGE: &str =
+    "usage: cose-show [--questions] [--strict] [--json] [--aad HEX] [--keys KEYS]
+                 [--full] [--secrets] [FILE]
        cose-show --cut SIZE DIR [FILE]";
 
 /// What `--help` writes.

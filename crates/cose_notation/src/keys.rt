@@ -29,8 +29,8 @@ impl Keys {
     }
 }
 
-/// Whether an item is a key, or an array with a key in it. A key is told by a registered type (label 1), beside which there is a label of
-/// its type (below 0) or a key id (label 2).
+/// Whether an item is a key, or an array with a key in it. A key is told by a type (label 1), beside which there is a label of its type (below
+/// 0), or, if the type is registered, a key id (label 2).
 ///
 /// # Errors
 /// `Memory`.
@@ -69,12 +69,13 @@ fn first_in(front: &[u8]) -> Option<Header> {
 }
 
 fn is_key(alloc: Global, item: &[u8]) -> Result<bool, NotWritten> {
-    if key_type_of(alloc, item)?.is_none() {
+    let Some(kty) = kty_in(alloc, item)? else {
         return Ok(false);
-    }
+    };
     let Some(mut parts) = entries(alloc, item) else {
         return Ok(false);
     };
+    let registered = registered_type(kty).is_some();
     for _ in 0..u64::MAX {
         let Some(label) = parts.next()? else {
             break;
@@ -82,26 +83,23 @@ fn is_key(alloc: Global, item: &[u8]) -> Result<bool, NotWritten> {
         let Some(value) = parts.next()? else {
             break;
         };
-        if is_of_key(integer(label), value) {
+        if is_of_key(registered, integer(label), value) {
             return Ok(true);
         }
     }
     Ok(false)
 }
 
-fn is_of_key(label: Option<i64>, value: &[u8]) -> bool {
+fn is_of_key(registered: bool, label: Option<i64>, value: &[u8]) -> bool {
     match label {
-        Some(2) => is_bytes(value),
+        Some(2) => registered && is_bytes(value),
         Some(number) => number < 0,
         None => false,
     }
 }
 
-/// The type of the key that a map is, where it has a registered one.
-///
-/// # Errors
-/// `Memory`.
-pub fn key_type_of(alloc: Global, item: &[u8]) -> Result<Option<KeyType>, NotWritten> {
+/// The value of label 1 in a map, if it is a number or a text.
+fn kty_in(alloc: Global, item: &[u8]) -> Result<Option<&[u8]>, NotWritten> {
     let Some(mut parts) = entries(alloc, item) else {
         return Ok(None);
     };
@@ -113,10 +111,21 @@ pub fn key_type_of(alloc: Global, item: &[u8]) -> Result<Option<KeyType>, NotWri
             break;
         };
         if integer(label) == Some(1) {
-            return Ok(registered_type(value));
+            return Ok(if is_label(value) { Some(value) } else { None });
         }
     }
     Ok(None)
+}
+
+/// The type of the key that a map is, where it has a registered one.
+///
+/// # Errors
+/// `Memory`.
+pub fn key_type_of(alloc: Global, item: &[u8]) -> Result<Option<KeyType>, NotWritten> {
+    match kty_in(alloc, item)? {
+        Some(value) => Ok(registered_type(value)),
+        None => Ok(None),
+    }
 }
 
 fn registered_type(value: &[u8]) -> Option<KeyType> {
