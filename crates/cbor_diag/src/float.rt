@@ -73,6 +73,27 @@ fn parts_of(float: Float) -> Parts {
     }
 }
 
+/// A float without its fraction; none below 0, from 2^64 on, and of what is no number.
+pub fn whole_part(float: Float) -> Option<u64> {
+    let parts = parts_of(float);
+    match parts.size {
+        Size::Finite(count, power) if !parts.negative => doubled(count, power),
+        _ => None,
+    }
+}
+
+/// So many times two to this power, without a fraction.
+fn doubled(count: u64, power: i32) -> Option<u64> {
+    match u32::try_from(power) {
+        Ok(by) if by <= count.leading_zeros() => count.checked_shl(by),
+        Ok(_) => None,
+        Err(_) => {
+            let by = u32::try_from(0i32.wrapping_sub(power)).unwrap_or(64);
+            Some(shifted(count, by))
+        }
+    }
+}
+
 /// The encoding indicator of a float: 2 or 3 where fewer bits would do.
 pub fn wide(float: Float) -> Option<u8> {
     let size = parts_of(float).size;

@@ -13,6 +13,9 @@ const SHORT: usize = 24;
 /// From this depth on everything stands on one line, so that the notation of deep items stays about as long as they are.
 const DEEP: usize = 32;
 
+/// A string of more bytes than these is cut to them, if strings are cut.
+pub const CUT: usize = 64;
+
 /// How the notation is written.
 #[derive(Debug, Clone, Copy, PartialEq, Eq)]
 pub struct Style {
@@ -24,6 +27,8 @@ pub struct Style {
     pub ascii: bool,
     /// Tags 2 and 3 around at most 16 bytes are shown as numbers.
     pub bignums: bool,
+    /// Strings of more than 64 bytes are cut to 64, and a comment has their length. Of a string of open length each piece is cut by itself.
+    pub cut: bool,
 }
 
 impl Style {
@@ -34,6 +39,7 @@ impl Style {
             widths: true,
             ascii: false,
             bignums: false,
+            cut: false,
         }
     }
 
@@ -44,6 +50,7 @@ impl Style {
             widths: true,
             ascii: false,
             bignums: false,
+            cut: false,
         }
     }
 
@@ -54,6 +61,20 @@ impl Style {
             widths: false,
             ascii: true,
             bignums: true,
+            cut: false,
+        }
+    }
+}
+
+impl Style {
+    /// The same with long strings cut.
+    pub fn shortened(self) -> Style {
+        Style {
+            lines: self.lines,
+            widths: self.widths,
+            ascii: self.ascii,
+            bignums: self.bignums,
+            cut: true,
         }
     }
 }
@@ -223,6 +244,9 @@ impl<'a, W: fmt::Write> Notation<'a, W> {
 
     /// A string of stated length.
     fn body(&mut self, head: Head, body: &[u8]) -> fmt::Result {
+        if self.style.cut && body.len() > CUT {
+            return self.cut_body(head, body);
+        }
         match head.header {
             Header::Text(_) => match str::from_utf8(body) {
                 Ok(text) => write_text(text, self.style.ascii, self.out)?,
@@ -231,6 +255,17 @@ impl<'a, W: fmt::Write> Notation<'a, W> {
             _ => self.bytes(body)?,
         }
         self.indicator(head.wide())
+    }
+
+    /// The front of a long string, and its length.
+    fn cut_body(&mut self, head: Head, body: &[u8]) -> fmt::Result {
+        match head.header {
+            Header::Text(_) => write_text(front_text(body), self.style.ascii, self.out)?,
+            _ => self.bytes(body.get(..CUT).unwrap_or(body))?,
+        }
+        self.indicator(head.wide())?;
+        let len = body.len();
+        write!(self.out, "... /{len} bytes, --full shows all/")
     }
 
     fn bytes(&mut self, body: &[u8]) -> fmt::Result {
@@ -379,6 +414,17 @@ fn number_of(bytes: &[u8]) -> u128 {
         number = number.wrapping_mul(256).wrapping_add(u128::from(*byte));
     }
     number
+}
+
+/// The front of a text of more than 64 bytes: as many of its characters as have at most 64 bytes.
+pub fn front_text(body: &[u8]) -> &str {
+    for less in 0..4usize {
+        let front = body.get(..CUT.saturating_sub(less)).unwrap_or(body);
+        if let Ok(text) = str::from_utf8(front) {
+            return text;
+        }
+    }
+    ""
 }
 
 /// Writes bytes as hex digits.

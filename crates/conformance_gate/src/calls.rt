@@ -51,11 +51,13 @@ fn named(to: &mut Out, name: &str, row: &mut &str) {
 fn of_program(to: &mut Out, name: &str, row: &mut &str) {
     match name {
         "run" => program::run(to, row),
+        "run-strict" => program::run_strict(to, row),
         "run-room" => program::run_in_room(to, row),
         "words" => program::arguments(to, row),
         "tag" => judging::tag(to, row),
         "judge" => judging::judge(to, row),
         "judge-prepared" => judging::prepared_judge(to, row),
+        "why" => judging::why(to, row),
         "show" => showing::show(to, row),
         "pieces" => showing::pieces(to, row),
         _ => uses::answer(to, name, row),

@@ -2,6 +2,7 @@
 use crate::out::{NoAnswer, Out};
 use crate::words;
 use ciborium_value::Value;
+use cose_display::{KeyBook, Question, reason};
 use cose_gate::{About, Header, HmacJudge, Judge, MessageKind, ProtectedHeader};
 use cose_gate_hmac::is_good_tag;
 use coset_keys::CoseKeySet;
@@ -88,6 +89,39 @@ pub fn prepared_judge(to: &mut Out, row: &mut &str) {
     let case = read_case(to, row);
     let mut judge = HmacJudge::prepared(to.alloc(), &case.keys);
     add_answers(to, &mut judge, &case, words::rest(row));
+}
+
+/// What a judge answers about a COSE_Mac0 with this tag and so many bytes of external data, and the
+/// reason that cose-show gives, `-` for none.
+pub fn why(to: &mut Out, row: &mut &str) {
+    let case = read_case(to, row);
+    let tag = words::bytes(to, row);
+    let aad_len = words::number(to, row);
+    let mut judge = HmacJudge::prepared(to.alloc(), &case.keys);
+    ask(to, &mut judge, &case, MessageKind::Mac0);
+    to.yes_or_no(judge.decide(&tag));
+    to.text(": ");
+    let question = Question {
+        protected: &case.protected,
+        unprotected: &case.unprotected,
+        covered: case.covered.as_slice(),
+        tag: tag.as_slice(),
+        aad_len,
+    };
+    add_reason(to, &case.keys, question);
+}
+
+/// Appends why a judge by these keys says no, `-` for no reason.
+fn add_reason(to: &mut Out, keys: &CoseKeySet, question: Question<'_>) {
+    let Ok(book) = KeyBook::new(to.alloc(), keys) else {
+        to.refuse(NoAnswer::Memory);
+        return;
+    };
+    match reason(to.alloc(), &book, question) {
+        Ok(Some(text)) => to.text(text.as_str()),
+        Ok(None) => to.text("-"),
+        Err(_) => to.refuse(NoAnswer::Memory),
+    }
 }
 
 /// The answers of one judge to questions about messages of these kinds with these tags, each a word

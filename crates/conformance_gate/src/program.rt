@@ -1,7 +1,7 @@
 //! Runs of the program over memory.
 use crate::out::Out;
 use crate::words;
-use cose_gate::Mem;
+use cose_gate::{Limits, Mem};
 
 /// A run with these keys and this word of external data: its status, its output, and its lines.
 pub fn run(to: &mut Out, row: &mut &str) {
@@ -16,7 +16,29 @@ pub fn run(to: &mut Out, row: &mut &str) {
     add_ended(to, status, out.as_written(), err.as_written());
 }
 
-/// The same, where the output has room for so many bytes, 64 at most.
+/// The same, strict.
+pub fn run_strict(to: &mut Out, row: &mut &str) {
+    let keys = words::optional(to, row);
+    let aad = aad_word(words::word(to, row));
+    let input = words::bytes(to, row);
+    let alloc = to.alloc();
+    let mut out = Mem::new(Vec::new(alloc));
+    let mut err = Mem::new(Vec::new(alloc));
+    let mut reader = input.as_slice();
+    let status = cose_gate::run_with(
+        alloc,
+        Limits::default(),
+        true,
+        keys.as_deref(),
+        aad,
+        &mut reader,
+        &mut out,
+        &mut err,
+    );
+    add_ended(to, status, out.as_written(), err.as_written());
+}
+
+/// The same, not strict, where the output has room for so many bytes, 64 at most.
 pub fn run_in_room(to: &mut Out, row: &mut &str) {
     let room = words::number(to, row);
     let keys = words::optional(to, row);

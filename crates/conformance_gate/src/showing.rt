@@ -10,17 +10,28 @@ pub fn show(to: &mut Out, row: &mut &str) {
     let input = words::bytes(to, row);
     let all = words::owned(to, row);
     match read_words(all.as_slice()) {
-        Some(Words::Run(options)) => add_page(to, options, input.as_slice()),
+        Some(Words::Run(options)) => {
+            let keys = keys_of(to, options);
+            add_page(to, options, keys.as_deref(), input.as_slice());
+        }
         Some(Words::Help) => to.text("help"),
         None => to.text("usage"),
     }
 }
 
-fn add_page(to: &mut Out, options: Options<'_>, input: &[u8]) {
+/// The bytes of KEYS, whose name is those bytes in hex here.
+fn keys_of(to: &mut Out, options: Options<'_>) -> Option<Vec<u8>> {
+    match options.keys {
+        Some(word) => Some(words::decoded(to, word)),
+        None => None,
+    }
+}
+
+fn add_page(to: &mut Out, options: Options<'_>, keys: Option<&[u8]>, input: &[u8]) {
     let mut page = String::new(to.alloc());
     match BufReader::new(to.alloc(), input) {
         Ok(input) => {
-            let end = show_as(to.alloc(), options, input, &mut page);
+            let end = show_as(to.alloc(), options, keys, input, &mut page);
             add_ended(to, page.as_str(), end);
         }
         Err(_) => to.refuse(NoAnswer::Memory),

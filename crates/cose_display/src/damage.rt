@@ -1,20 +1,22 @@
 //! What is shown of damaged input.
 use crate::source::Source;
 use crate::stop::Stop;
-use cbor_diag::{Fault, NotWritten, Style, write_item};
-use cose_notation::begin_line;
+use cbor_diag::{Fault, NotWritten, write_item};
+use cose_notation::{Look, begin_line, may_be_keys};
 use std::alloc::Global;
 use std::{fmt, io};
 
 /// So many bytes are shown before the fault, and so many from it on.
 pub const AROUND: usize = 16;
 
-/// Shows what could be read of the item at hand, the fault, and the bytes around it.
+/// Shows what could be read of the item at hand, the fault, and the bytes around it. Of what may be keys only the fault is shown, unless
+/// secrets are asked for.
 ///
 /// # Errors
 /// `Damaged` where nothing else fails.
 pub fn show_damage<R: io::Read + Drop, P: fmt::Write>(
     alloc: Global,
+    look: Look,
     number: u64,
     fault: Fault,
     source: &mut Source<R>,
@@ -24,18 +26,28 @@ pub fn show_damage<R: io::Read + Drop, P: fmt::Write>(
     let offset = source.offset();
     let held = source.held();
     writeln!(page, "item {number} at {offset}, damaged")?;
-    begin_line(1, page)?;
-    show_front(alloc, held, page)?;
     let place = offset.saturating_add(fault.at);
     let why = fault.why;
+    if !look.secrets && may_be_keys(held) {
+        page.write_str("  not shown, as it may hold secrets of keys (--secrets shows it)\n")?;
+        writeln!(page, "  fault at {place}: {why}")?;
+        return Err(Stop::of_fault(fault, offset));
+    }
+    begin_line(1, page)?;
+    show_front(alloc, look, held, page)?;
     writeln!(page, "\n  fault at {place}: {why}")?;
     show_around(held, offset, fault.at, page)?;
     Err(Stop::of_fault(fault, offset))
 }
 
 /// The notation up to the fault.
-fn show_front<P: fmt::Write>(alloc: Global, held: &[u8], page: &mut P) -> Result<(), Stop> {
-    match write_item(alloc, held, Style::full(), 1, page) {
+fn show_front<P: fmt::Write>(
+    alloc: Global,
+    look: Look,
+    held: &[u8],
+    page: &mut P,
+) -> Result<(), Stop> {
+    match write_item(alloc, held, look.lines(), 1, page) {
         Ok(_) => {}
         Err(NotWritten::Fault(_)) => {}
         Err(NotWritten::Output) => return Err(Stop::Output),

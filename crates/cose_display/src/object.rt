@@ -1,12 +1,17 @@
 //! An item as a JSON object.
+use crate::asking::{Answer, Asking};
 use crate::damage::{AROUND, around};
+use crate::shape::wrong_part;
 use crate::show::Request;
 use crate::source::Source;
 use crate::stop::Stop;
 use crate::verdict::{Ruling, Spelling, rule};
 use cbor_diag::{Fault, NotWritten};
-use cose_gate_core::Verdict;
-use cose_notation::{write_hex_text, write_message, write_name, write_notation};
+use cose_gate_core::{Refusal, Verdict};
+use cose_notation::{
+    Look, keys_in, may_be_keys, write_hex_text, write_keys, write_keys_notation, write_message,
+    write_name, write_notation, write_word,
+};
 use std::alloc::Global;
 use std::{fmt, io};
 
@@ -17,6 +22,7 @@ use std::{fmt, io};
 pub fn write_object<P: fmt::Write>(
     alloc: Global,
     request: Request<'_>,
+    asking: &mut Option<Asking<'_>>,
     number: u64,
     offset: usize,
     item: &[u8],
@@ -27,19 +33,43 @@ pub fn write_object<P: fmt::Write>(
         page,
         "{{\"number\":{number},\"offset\":{offset},\"length\":{len},\"notation\":"
     )?;
-    write_notation(alloc, item, page)?;
-    write_message(alloc, item, page)?;
-    write_ruling(alloc, request, offset, item, page)?;
+    write_content(alloc, request.look, item, page)?;
+    write_ruling(alloc, request, asking, offset, item, page)?;
     page.write_str("}\n")?;
     Ok(())
 }
 
-/// Writes what is read of a damaged item, and the fault.
+/// The notation, and the members of keys or of a message.
+fn write_content<P: fmt::Write>(
+    alloc: Global,
+    look: Look,
+    item: &[u8],
+    page: &mut P,
+) -> Result<(), Stop> {
+    match keys_in(alloc, item)? {
+        Some(keys) => {
+            if look.secrets {
+                write_notation(alloc, item, page)?;
+            } else {
+                write_keys_notation(alloc, keys, item, page)?;
+            }
+            write_keys(alloc, look.secrets, keys, item, page)?;
+        }
+        None => {
+            write_notation(alloc, item, page)?;
+            write_message(alloc, item, page)?;
+        }
+    }
+    Ok(())
+}
+
+/// Writes what is read of a damaged item, and the fault. Of what may be keys only the fault is written, unless secrets are asked for.
 ///
 /// # Errors
 /// `Damaged` where nothing else fails.
 pub fn write_damage<R: io::Read + Drop, P: fmt::Write>(
     alloc: Global,
+    look: Look,
     number: u64,
     fault: Fault,
     source: &mut Source<R>,
@@ -48,10 +78,14 @@ pub fn write_damage<R: io::Read + Drop, P: fmt::Write>(
     source.hold(fault.at.saturating_add(AROUND))?;
     let offset = source.offset();
     let held = source.held();
-    write!(
-        page,
-        "{{\"number\":{number},\"offset\":{offset},\"notation\":"
-    )?;
+    write!(page, "{{\"number\":{number},\"offset\":{offset}")?;
+    if !look.secrets && may_be_keys(held) {
+        let place = offset.saturating_add(fault.at);
+        let why = fault.why;
+        writeln!(page, ",\"fault\":\"{why}\",\"fault_offset\":{place}}}")?;
+        return Err(Stop::of_fault(fault, offset));
+    }
+    write_name("notation", page)?;
     match write_notation(alloc, held, page) {
         Err(NotWritten::Fault(_)) => {}
         written => written?,
@@ -82,12 +116,21 @@ fn write_fault<P: fmt::Write>(
 fn write_ruling<P: fmt::Write>(
     alloc: Global,
     request: Request<'_>,
+    asking: &mut Option<Asking<'_>>,
     offset: usize,
     item: &[u8],
     page: &mut P,
 ) -> Result<(), Stop> {
     let ruling = rule(alloc, request.aad, item)?;
     write_verdict(&ruling, page)?;
+    if let Ok(Some(Verdict::Refused(Refusal::Shape(_)))) = &ruling.verdict {
+        write_wrong_part(alloc, item, page)?;
+    }
+    if let Some(asking) = asking {
+        if let Some(answer) = asking.answer(alloc, request.aad, item, ruling.asked())? {
+            write_answer(&answer, page)?;
+        }
+    }
     if request.strict {
         if let Some(spelling) = ruling.spelling(alloc, item)? {
             write_spelling(spelling, offset, page)?;
@@ -110,6 +153,27 @@ fn write_verdict<P: fmt::Write>(ruling: &Ruling, page: &mut P) -> fmt::Result {
     }
 }
 
+/// The part that is wrong, and what is wrong in it.
+fn write_wrong_part<P: fmt::Write>(alloc: Global, item: &[u8], page: &mut P) -> Result<(), Stop> {
+    if let Some(wrong) = wrong_part(alloc, item)? {
+        let fault = wrong.fault;
+        write_word("part", wrong.name.as_str(), page)?;
+        write!(page, ",\"part_fault\":\"{fault}\"")?;
+    }
+    Ok(())
+}
+
+/// What the judge answers.
+fn write_answer<P: fmt::Write>(answer: &Answer, page: &mut P) -> fmt::Result {
+    match answer {
+        Answer::Yes => write_word("judge", "yes", page),
+        Answer::No(why) => {
+            write_word("judge", "no", page)?;
+            write_word("reason", why.as_str(), page)
+        }
+    }
+}
+
 fn write_spelling<P: fmt::Write>(spelling: Spelling, offset: usize, page: &mut P) -> fmt::Result {
     match spelling {
         Spelling::Shortest => page.write_str(",\"shortest\":true"),
@@ -120,11 +184,12 @@ fn write_spelling<P: fmt::Write>(spelling: Spelling, offset: usize, page: &mut P
                 ",\"shortest\":false,\"excess\":\"{excess}\",\"excess_offset\":{place}"
             )
         }
-        Spelling::Order(at) => {
+        Spelling::Form(form, at) => {
             let place = offset.saturating_add(at);
+            let word = form.word();
             write!(
                 page,
-                ",\"shortest\":false,\"excess\":\"order\",\"excess_offset\":{place}"
+                ",\"shortest\":false,\"excess\":\"{word}\",\"excess_offset\":{place}"
             )
         }
     }

@@ -1,12 +1,14 @@
 //! The items, one after another.
+use crate::asking::Asking;
 use crate::damage::show_damage;
+use crate::keys::read_keys;
 use crate::object::{write_damage, write_object};
 use crate::source::{Found, Source};
 use crate::stop::Stop;
 use crate::verdict::show_verdict;
 use crate::words::Options;
-use cbor_diag::{Style, write_item};
-use cose_notation::{begin_line, show_message, write_len};
+use cbor_diag::write_item;
+use cose_notation::{Look, begin_line, is_message, keys_in, show_keys, show_message, write_len};
 use std::alloc::Global;
 use std::io::BufReader;
 use std::{fmt, io};
@@ -20,17 +22,20 @@ pub struct Request<'a> {
     pub strict: bool,
     /// JSON.
     pub json: bool,
+    /// How much of an item.
+    pub look: Look,
     /// The external data.
     pub aad: &'a [u8],
 }
 
-/// Shows all items of the input, as the options say.
+/// Shows all items of the input, as the options say. `keys` are the bytes of the file of keys, if the judge is to be asked.
 ///
 /// # Errors
-/// `NotHex` of external data, and nothing is shown; `Input`, `Memory`, `Output` and `Damaged`, and what was read before is shown.
+/// `NotHex` of external data, `NoKeys` and `OneKey`, and nothing is shown; `Input`, `Memory`, `Output` and `Damaged`, and what was read before is shown.
 pub fn show_as<R: io::Read + Drop, P: fmt::Write>(
     alloc: Global,
     options: Options<'_>,
+    keys: Option<&[u8]>,
     input: BufReader<R>,
     page: &mut P,
 ) -> Result<(), Stop> {
@@ -43,15 +48,25 @@ pub fn show_as<R: io::Read + Drop, P: fmt::Write>(
         questions: options.questions,
         strict: options.strict,
         json: options.json,
+        look: Look {
+            full: options.full,
+            secrets: options.secrets,
+        },
         aad: aad.as_slice(),
     };
     let mut source = Source::new(alloc, input);
-    show(alloc, request, &mut source, page)
+    let Some(bytes) = keys else {
+        return show(alloc, request, &mut None, &mut source, page);
+    };
+    let set = read_keys(alloc, bytes)?;
+    let mut asking = Some(Asking::new(alloc, &set)?);
+    show(alloc, request, &mut asking, &mut source, page)
 }
 
 fn show<R: io::Read + Drop, P: fmt::Write>(
     alloc: Global,
     request: Request<'_>,
+    asking: &mut Option<Asking<'_>>,
     source: &mut Source<R>,
     page: &mut P,
 ) -> Result<(), Stop> {
@@ -60,14 +75,16 @@ fn show<R: io::Read + Drop, P: fmt::Write>(
             Found::Item(len) => {
                 let item = source.held().get(..len).unwrap_or(&[]);
                 let offset = source.offset();
-                show_item(alloc, request, number, offset, item, page)?;
+                show_item(alloc, request, asking, number, offset, item, page)?;
                 source.leave(len);
             }
             Found::End => return Ok(()),
             Found::Damaged(fault) if request.json => {
-                return write_damage(alloc, number, fault, source, page);
+                return write_damage(alloc, request.look, number, fault, source, page);
             }
-            Found::Damaged(fault) => return show_damage(alloc, number, fault, source, page),
+            Found::Damaged(fault) => {
+                return show_damage(alloc, request.look, number, fault, source, page);
+            }
         }
     }
     Ok(())
@@ -77,20 +94,40 @@ fn show<R: io::Read + Drop, P: fmt::Write>(
 fn show_item<P: fmt::Write>(
     alloc: Global,
     request: Request<'_>,
+    asking: &mut Option<Asking<'_>>,
     number: u64,
     offset: usize,
     item: &[u8],
     page: &mut P,
 ) -> Result<(), Stop> {
     if request.json {
-        return write_object(alloc, request, number, offset, item, page);
+        return write_object(alloc, request, asking, number, offset, item, page);
     }
     write!(page, "item {number} at {offset}, ")?;
     write_len(item.len(), page)?;
     page.write_str("\n")?;
-    begin_line(1, page)?;
-    write_item(alloc, item, Style::full(), 1, page)?;
-    page.write_str("\n")?;
-    show_message(alloc, item, page)?;
-    show_verdict(alloc, request, offset, item, page)
+    show_content(alloc, request.look, item, page)?;
+    show_verdict(alloc, request, asking, offset, item, page)
+}
+
+/// Shows what an item holds: keys, the parts of a message, or its notation.
+fn show_content<P: fmt::Write>(
+    alloc: Global,
+    look: Look,
+    item: &[u8],
+    page: &mut P,
+) -> Result<(), Stop> {
+    let keys = keys_in(alloc, item)?;
+    let is_shown_by_parts = keys.is_some() || is_message(item);
+    let may_show = look.secrets || keys.is_none();
+    if may_show && (look.full || !is_shown_by_parts) {
+        begin_line(1, page)?;
+        write_item(alloc, item, look.lines(), 1, page)?;
+        page.write_str("\n")?;
+    }
+    match keys {
+        Some(keys) => show_keys(alloc, look, keys, item, page)?,
+        None => show_message(alloc, look, item, page)?,
+    }
+    Ok(())
 }

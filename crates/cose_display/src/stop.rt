@@ -1,5 +1,6 @@
 //! Why the program ends early.
 use cbor_diag::{Fault, NotWritten, Why};
+use cose_gate_core::CoseError;
 use std::alloc::{AllocError, AllocFailed};
 use std::{fmt, io};
 
@@ -12,6 +13,12 @@ pub enum Stop {
     NotHex,
     /// The file can't be opened.
     NoFile,
+    /// The file with the keys can't be read.
+    NoKeyFile,
+    /// The file with the keys holds no key set.
+    NoKeys(CoseError),
+    /// The file with the keys holds one key, and no set.
+    OneKey,
     /// The input failed.
     Input,
     /// The output failed.
@@ -35,6 +42,9 @@ impl Stop {
             Stop::Usage => 2,
             Stop::NotHex => 2,
             Stop::NoFile => 3,
+            Stop::NoKeyFile => 3,
+            Stop::NoKeys(_) => 3,
+            Stop::OneKey => 3,
             _ => 4,
         }
     }
@@ -62,6 +72,11 @@ impl fmt::Display for Stop {
             Stop::Usage => f.write_str("usage"),
             Stop::NotHex => f.write_str("the external data is no hex"),
             Stop::NoFile => f.write_str("the file can't be opened"),
+            Stop::NoKeyFile => f.write_str("KEYS can't be read"),
+            Stop::NoKeys(error) => write!(f, "KEYS is no key set: {error}"),
+            Stop::OneKey => {
+                f.write_str("KEYS is one key: a key set is an array of keys, also of one")
+            }
             Stop::Input => f.write_str("the input can't be read"),
             Stop::Output => f.write_str("the output can't be written"),
             Stop::NoFolder => f.write_str("the folder DIR can't be made"),

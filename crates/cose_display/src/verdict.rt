@@ -1,9 +1,12 @@
 //! What the gate says of an item.
+use crate::asking::{Answer, Asking};
+use crate::shape::wrong_part;
 use crate::show::Request;
 use crate::stop::Stop;
-use cbor_diag::{Excess, first_excess};
+use cbor_diag::{Event, Excess, Fault, Place, Step, Walk, first_excess};
+use ciborium_ll::Header;
 use cose_gate_core::{
-    Asked, Decoder, End, Entry, GateFault, Limits, Mem, Recorder, Terms, Verdict, gate_by,
+    Asked, Decoder, End, Entry, GateFault, Limits, Mem, Recorder, Refusal, Terms, Verdict, gate_by,
 };
 use cose_notation::write_bytes;
 use std::alloc::Global;
@@ -26,8 +29,33 @@ pub enum Spelling {
     Shortest,
     /// This stands first in it, here.
     Excess(Excess, usize),
-    /// Each head is the shortest, and the texts differ from here on.
-    Order(usize),
+    /// This is the first difference, and it begins here. All in front of it is as in that text.
+    Form(Form, usize),
+}
+
+/// How a message can differ from its canonical encoding when each head is the shortest.
+#[derive(Debug, Clone, Copy, PartialEq, Eq)]
+pub enum Form {
+    /// A header's entries are in another order.
+    Order,
+    /// One counter signature is a list of one.
+    ListOfOne,
+    /// A recipient has a list of recipients, and it is empty.
+    NoRecipients,
+    /// Something else.
+    Other,
+}
+
+impl Form {
+    /// Its word in JSON.
+    pub fn word(self) -> &'static str {
+        match self {
+            Form::Order => "order",
+            Form::ListOfOne => "a list of one counter signature",
+            Form::NoRecipients => "an empty list of recipients",
+            Form::Other => "another text",
+        }
+    }
 }
 
 /// Runs the gate over one item.
@@ -82,11 +110,46 @@ impl Ruling {
         if self.written.as_slice() == item {
             return Ok(Some(Spelling::Shortest));
         }
-        match first_excess(alloc, item) {
-            Ok(Some((excess, at))) => Ok(Some(Spelling::Excess(excess, at))),
-            Ok(None) => Ok(Some(Spelling::Order(first_other(self.written.as_slice(), item)))),
+        let place = first_other(self.written.as_slice(), item);
+        match first_difference(alloc, item, place) {
+            Ok(spelling) => Ok(Some(spelling)),
             Err(fault) => Err(Stop::of_fault(fault, 0)),
         }
+    }
+}
+
+/// What is first in a message that its canonical encoding hasn't: an excess, unless the two differ before it, from this place on.
+fn first_difference(alloc: Global, item: &[u8], place: usize) -> Result<Spelling, Fault> {
+    match first_excess(alloc, item)? {
+        Some((excess, at)) if at <= place => Ok(Spelling::Excess(excess, at)),
+        _ => Ok(Spelling::Form(form_at(alloc, item, place)?, place)),
+    }
+}
+
+/// What it is at this place that is in another form.
+fn form_at(alloc: Global, item: &[u8], place: usize) -> Result<Form, Fault> {
+    let mut walk = Walk::new(alloc);
+    for _ in 0..u64::MAX {
+        let step = walk.step(item)?;
+        if walk.at() > place {
+            return Ok(form_of(step));
+        }
+        if walk.is_done() {
+            break;
+        }
+    }
+    Ok(Form::Other)
+}
+
+/// Labels are keys of maps; a counter signature has three parts, and a recipient with recipients four.
+fn form_of(step: Step) -> Form {
+    if matches!(step.place, Place::Key { .. }) {
+        return Form::Order;
+    }
+    match step.event {
+        Event::Begin(Header::Array(Some(1))) => Form::ListOfOne,
+        Event::Begin(Header::Array(Some(4))) => Form::NoRecipients,
+        _ => Form::Other,
     }
 }
 
@@ -102,12 +165,21 @@ fn first_other(a: &[u8], b: &[u8]) -> usize {
 pub fn show_verdict<P: fmt::Write>(
     alloc: Global,
     request: Request<'_>,
+    asking: &mut Option<Asking<'_>>,
     offset: usize,
     item: &[u8],
     page: &mut P,
 ) -> Result<(), Stop> {
     let ruling = rule(alloc, request.aad, item)?;
     say_verdict(&ruling, page)?;
+    if let Ok(Some(Verdict::Refused(Refusal::Shape(_)))) = &ruling.verdict {
+        say_wrong_part(alloc, item, page)?;
+    }
+    if let Some(asking) = asking {
+        if let Some(answer) = asking.answer(alloc, request.aad, item, ruling.asked())? {
+            say_answer(&answer, page)?;
+        }
+    }
     if request.strict {
         if let Some(spelling) = ruling.spelling(alloc, item)? {
             say_spelling(spelling, offset, page)?;
@@ -137,6 +209,23 @@ fn say_verdict<P: fmt::Write>(ruling: &Ruling, page: &mut P) -> fmt::Result {
     }
 }
 
+/// The part that is wrong, and what is wrong in it.
+fn say_wrong_part<P: fmt::Write>(alloc: Global, item: &[u8], page: &mut P) -> Result<(), Stop> {
+    if let Some(wrong) = wrong_part(alloc, item)? {
+        let (name, fault) = (wrong.name, wrong.fault);
+        writeln!(page, "    {name}: {fault}")?;
+    }
+    Ok(())
+}
+
+/// What the judge answers.
+fn say_answer<P: fmt::Write>(answer: &Answer, page: &mut P) -> fmt::Result {
+    match answer {
+        Answer::Yes => page.write_str("  judge: yes\n"),
+        Answer::No(why) => writeln!(page, "  judge: no: {why}"),
+    }
+}
+
 fn say_spelling<P: fmt::Write>(spelling: Spelling, offset: usize, page: &mut P) -> fmt::Result {
     match spelling {
         Spelling::Shortest => page.write_str("  strict: it is its shortest text\n"),
@@ -144,13 +233,30 @@ fn say_spelling<P: fmt::Write>(spelling: Spelling, offset: usize, page: &mut P) 
             let place = offset.saturating_add(at);
             writeln!(page, "  strict: not its shortest text: {excess} at {place}")
         }
-        Spelling::Order(at) => {
+        Spelling::Form(form, at) => {
             let place = offset.saturating_add(at);
+            say_form(form, place, page)
+        }
+    }
+}
+
+fn say_form<P: fmt::Write>(form: Form, place: usize, page: &mut P) -> fmt::Result {
+    page.write_str("  strict: not its shortest text: ")?;
+    match form {
+        Form::Order => {
             writeln!(
                 page,
-                "  strict: not its shortest text: a header's entries stand in another order, from {place} on"
+                "a header's entries stand in another order, from {place} on"
             )
         }
+        Form::ListOfOne => writeln!(page, "a list of one counter signature at {place}"),
+        Form::NoRecipients => {
+            writeln!(
+                page,
+                "a recipient with an empty list of recipients at {place}"
+            )
+        }
+        Form::Other => writeln!(page, "another text from {place} on"),
     }
 }
 

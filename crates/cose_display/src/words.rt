@@ -2,29 +2,38 @@
 use std::slice;
 
 /// The lines for words that it doesn't know.
-pub const USAGE: &str = "usage: cose-show [--questions] [--strict] [--json] [--aad HEX] [FILE]
+pub const USAGE: &str =
+    "usage: cose-show [--questions] [--strict] [--json] [--aad HEX] [--keys KEYS]
+                 [--full] [--secrets] [FILE]
        cose-show --cut SIZE DIR [FILE]";
 
 /// What `--help` writes.
-pub const HELP: &str = "usage: cose-show [--questions] [--strict] [--json] [--aad HEX] [FILE]
+pub const HELP: &str = "usage: cose-show [--questions] [--strict] [--json] [--aad HEX] [--keys KEYS]
+                 [--full] [--secrets] [FILE]
        cose-show --cut SIZE DIR [FILE]
 
 Shows each item of a CBOR sequence, from FILE or standard input: its number,
-offset and length, its diagnostic notation with encoding indicators, what a
-COSE message holds, and what the gate says of its shape.
+offset and length, what a COSE message or a key set holds, of any other item
+its diagnostic notation with encoding indicators, and what the gate says of
+its shape. Strings of more than 64 bytes are cut; secrets of keys are left out.
 
+  --keys KEYS  also what cose-gate answers about each message by the key set in
+               the file KEYS, and the first reason if it is no
   --questions  also the bytes that each signature or tag covers, in hex
   --aad HEX    the external data of the questions, in hex; without it empty
   --strict     also whether a message that may pass is its one shortest text,
                and the first place where it isn't
-  --json       one JSON object a line for each item
+  --full       strings whole, and the diagnostic notation of messages too
+  --secrets    also the secrets of keys
+  --json       one JSON object a line for each item; strings are whole
   --cut SIZE DIR
                shows nothing: writes the items to files DIR/000001.cbor and so
                on, whole items each, of at least SIZE bytes but for the last
   -h, --help   this text
 
-Status 0, or 2 for unknown words, 3 where FILE can't be opened, 4 where the
-input is damaged or can't be read, or the output can't be written.
+Status 0, or 2 for unknown words, 3 where FILE or KEYS can't be opened or KEYS
+is no key set, 4 where the input is damaged or can't be read, or the output
+can't be written.
 ";
 
 /// What is asked for.
@@ -45,8 +54,14 @@ pub struct Options<'a> {
     pub strict: bool,
     /// As JSON.
     pub json: bool,
+    /// With strings whole, and the notation of messages.
+    pub full: bool,
+    /// With the secrets of keys.
+    pub secrets: bool,
     /// The external data in hex.
     pub aad: &'a str,
+    /// The file with the keys of the judge, if it is to be asked.
+    pub keys: Option<&'a str>,
     /// Whole items go to files, and nothing is shown.
     pub cut: Option<Cut<'a>>,
     /// The file; standard input without one.
@@ -68,7 +83,10 @@ pub fn read_words(all: &[String]) -> Option<Words<'_>> {
         questions: false,
         strict: false,
         json: false,
+        full: false,
+        secrets: false,
         aad: "",
+        keys: None,
         cut: None,
         path: None,
     };
@@ -96,6 +114,9 @@ fn read_word<'a>(
         "--questions" => options.questions = true,
         "--strict" => options.strict = true,
         "--json" => options.json = true,
+        "--full" => options.full = true,
+        "--secrets" => options.secrets = true,
+        "--keys" => options.keys = Some(words.next()?.as_str()),
         "--aad" => options.aad = words.next()?.as_str(),
         "--cut" => options.cut = Some(read_cut(words)?),
         "-" => {}

@@ -1,9 +1,9 @@
-//! `cose-gate KEYS [AADHEX]`: reads a CBOR sequence from standard input, and writes the messages whose tags are good under the keys of the
-//! file KEYS to standard output. AADHEX is the external data in hex.
+//! `cose-gate [--strict] KEYS [AADHEX]`: reads a CBOR sequence from standard input, and writes the messages whose tags are good under the keys of the
+//! file KEYS to standard output. AADHEX is the external data in hex. With `--strict` only messages in canonical encoding pass.
 #![tactic(auto)]
 
 use ciborium_ll::Io;
-use cose_gate_program::{Blocks, run, words};
+use cose_gate_program::{Blocks, Limits, Terms, run_with, words};
 use std::io::{BufReader, BufWriter};
 use std::process::ExitCode;
 use std::{env, fs, io};
@@ -17,6 +17,7 @@ usage: cose-gate KEYS [AADHEX] < INPUT > PASSED
 Reads a CBOR sequence, and writes the messages that pass, each as its shortest text.
 What passes: a COSE_Mac0 behind its tag 17, whose MAC is HMAC with SHA-256 under the first key that fits it.
 KEYS: a file with a COSE_KeySet. AADHEX: the external data in hex, empty where it is left out.
+With --strict in front of KEYS a message passes only if its item is that text already; any other is refused: NotShortest.
 On standard error: a line for each item, and at the end how many passed and were refused.
 Status 0: no item was refused. 1: some were. 2: wrong words, or AADHEX is no hex.
 3: KEYS can't be read, or is no key set. 4: the input is no CBOR, or input, output or memory failed.
@@ -63,7 +64,8 @@ fn start(rt: &HostRuntime) -> Result<u8, NotRun> {
     if asks_for_help(all.as_slice()) {
         return Ok(say_help(rt));
     }
-    let Some((path, aad)) = words(all.as_slice()) else {
+    let (strict, rest) = strictness(all.as_slice());
+    let Some((path, aad)) = words(rest) else {
         return Err(NotRun::Usage);
     };
     let keys = read_file(rt, path)?;
@@ -76,14 +78,26 @@ fn start(rt: &HostRuntime) -> Result<u8, NotRun> {
     let Ok(lines) = BufWriter::with_capacity(rt.alloc(), BLOCK, rt.stderr()) else {
         return Err(NotRun::Memory);
     };
-    Ok(run(
+    Ok(run_with(
         rt.alloc(),
+        Terms {
+            limits: Limits::default(),
+            strict,
+        },
         keys.as_deref(),
         aad,
         &mut Blocks::new(input),
         &mut Io::new(output),
         &mut Io::new(lines),
     ))
+}
+
+/// Whether the first word asks for a strict run, and the words after it. A file of such a name is `./--strict`.
+fn strictness(all: &[String]) -> (bool, &[String]) {
+    match all.split_first() {
+        Some((first, rest)) if first.as_str() == "--strict" => (true, rest),
+        _ => (false, all),
+    }
 }
 
 /// Whether the one word asks for help. A file of such a name is `./-h`.

@@ -1,8 +1,10 @@
 //! Headers and claims, with their registered names.
-use crate::line::{begin_line, write_bytes, write_len};
+use crate::line::{begin_line, write_len, write_string};
+use crate::look::Look;
 use crate::names::{algorithm, claim, content_format, parameter};
 use crate::parts::{Members, entries, integer, is_bytes, joined};
-use cbor_diag::{NotWritten, Style, item_len, write_item};
+use crate::time::claim_time;
+use cbor_diag::{NotWritten, item_len, write_item};
 use std::alloc::Global;
 use std::fmt;
 
@@ -21,6 +23,7 @@ pub enum Labels {
 /// `Output` and `Memory`.
 pub fn show_protected<P: fmt::Write>(
     alloc: Global,
+    look: Look,
     item: &[u8],
     level: usize,
     page: &mut P,
@@ -28,16 +31,17 @@ pub fn show_protected<P: fmt::Write>(
     if !is_bytes(item) {
         begin_line(level, page)?;
         page.write_str("protected, not bytes: ")?;
-        write_item(alloc, item, Style::full(), level, page)?;
+        write_item(alloc, item, look.lines(), level, page)?;
         page.write_str("\n")?;
         return Ok(());
     }
     let bytes = joined(alloc, item)?;
-    show_protected_bytes(alloc, &bytes, level, page)
+    show_protected_bytes(alloc, look, &bytes, level, page)
 }
 
 fn show_protected_bytes<P: fmt::Write>(
     alloc: Global,
+    look: Look,
     bytes: &[u8],
     level: usize,
     page: &mut P,
@@ -46,12 +50,12 @@ fn show_protected_bytes<P: fmt::Write>(
     page.write_str("protected, ")?;
     if item_len(alloc, bytes) == Ok(bytes.len()) {
         write_len(bytes.len(), page)?;
-        return show_entries(alloc, bytes, level, Labels::Headers, page);
+        return show_entries(alloc, look, bytes, level, Labels::Headers, page);
     }
     if !bytes.is_empty() {
         page.write_str("not one item, ")?;
     }
-    write_bytes(bytes, page)?;
+    write_string(look, bytes, page)?;
     Ok(())
 }
 
@@ -61,6 +65,7 @@ fn show_protected_bytes<P: fmt::Write>(
 /// `Output` and `Memory`.
 pub fn show_map<P: fmt::Write>(
     alloc: Global,
+    look: Look,
     name: &str,
     item: &[u8],
     level: usize,
@@ -68,7 +73,7 @@ pub fn show_map<P: fmt::Write>(
 ) -> Result<(), NotWritten> {
     begin_line(level, page)?;
     page.write_str(name)?;
-    show_entries(alloc, item, level, Labels::Headers, page)
+    show_entries(alloc, look, item, level, Labels::Headers, page)
 }
 
 /// Shows the entries of a map, a line each, behind what stands in the line at hand.
@@ -77,6 +82,7 @@ pub fn show_map<P: fmt::Write>(
 /// `Output` and `Memory`.
 pub fn show_entries<P: fmt::Write>(
     alloc: Global,
+    look: Look,
     item: &[u8],
     level: usize,
     labels: Labels,
@@ -84,12 +90,12 @@ pub fn show_entries<P: fmt::Write>(
 ) -> Result<(), NotWritten> {
     let Some(mut parts) = entries(alloc, item) else {
         page.write_str(", not a map: ")?;
-        write_item(alloc, item, Style::full(), level, page)?;
+        write_item(alloc, item, look.lines(), level, page)?;
         page.write_str("\n")?;
         return Ok(());
     };
     for number in 0..u64::MAX {
-        let shown = show_entry(alloc, &mut parts, level, labels, number == 0, page)?;
+        let shown = show_entry(alloc, look, &mut parts, level, labels, number == 0, page)?;
         if !shown {
             if number == 0 {
                 page.write_str(", empty\n")?;
@@ -103,6 +109,7 @@ pub fn show_entries<P: fmt::Write>(
 /// Shows the next entry, where there is one.
 fn show_entry<P: fmt::Write>(
     alloc: Global,
+    look: Look,
     parts: &mut Members<'_>,
     level: usize,
     labels: Labels,
@@ -120,13 +127,13 @@ fn show_entry<P: fmt::Write>(
     }
     let inner = level.saturating_add(1);
     begin_line(inner, page)?;
-    write_item(alloc, label, Style::line(), 0, page)?;
+    write_item(alloc, label, look.line(), 0, page)?;
     let number = integer(label);
     if let Some(name) = name_of(labels, number) {
         write!(page, " {name}")?;
     }
     page.write_str(": ")?;
-    show_value(alloc, labels, number, value, inner, page)?;
+    show_value(alloc, look, labels, number, value, inner, page)?;
     page.write_str("\n")?;
     Ok(true)
 }
@@ -143,6 +150,7 @@ pub fn name_of(labels: Labels, number: Option<i64>) -> Option<&'static str> {
 /// A value, with its registered name where its label has a registry.
 fn show_value<P: fmt::Write>(
     alloc: Global,
+    look: Look,
     labels: Labels,
     label: Option<i64>,
     value: &[u8],
@@ -152,12 +160,15 @@ fn show_value<P: fmt::Write>(
     match value_name(labels, label, integer(value)) {
         Some(name) => {
             write!(page, "{name} (")?;
-            write_item(alloc, value, Style::line(), level, page)?;
+            write_item(alloc, value, look.line(), level, page)?;
             page.write_str(")")?;
         }
         None => {
-            write_item(alloc, value, Style::full(), level, page)?;
+            write_item(alloc, value, look.lines(), level, page)?;
         }
+    }
+    if let Some(time) = claim_time(labels, label, value) {
+        write!(page, " ({time})")?;
     }
     Ok(())
 }

@@ -5,8 +5,9 @@ use std::fmt;
 
 /// What stands between the quotes of a JSON text.
 #[derive(Drop)]
-struct Quoted<'a, P> {
-    page: &'a mut P,
+pub struct Quoted<'a, P> {
+    /// What the text is written to.
+    pub page: &'a mut P,
 }
 
 impl<'a, P: fmt::Write> fmt::Write for Quoted<'a, P> {

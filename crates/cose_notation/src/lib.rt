@@ -3,14 +3,24 @@
 
 mod header;
 mod json;
+mod key_labels;
+mod key_members;
+mod keys;
 mod line;
+mod look;
 mod members;
 mod message;
 mod names;
 mod parts;
 mod payload;
+mod time;
 
-pub use crate::json::{write_hex_text, write_name, write_notation};
+pub use crate::json::{write_hex_text, write_name, write_notation, write_word};
+pub use crate::key_members::{write_keys, write_keys_notation};
+pub use crate::keys::{Keys, keys_in, may_be_keys, show_keys};
 pub use crate::line::{begin_line, write_bytes, write_len};
+pub use crate::look::Look;
 pub use crate::members::write_message;
-pub use crate::message::show_message;
+pub use crate::message::{Form, Part, is_message, message_of, show_message};
+pub use crate::names::{algorithm, key_operation, key_type, parameter};
+pub use crate::parts::{Members, entries, integer, is_bytes, items, joined};

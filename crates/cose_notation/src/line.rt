@@ -1,5 +1,6 @@
 //! Lines of text.
-use cbor_diag::write_hex;
+use crate::look::Look;
+use cbor_diag::{CUT, write_hex};
 use std::fmt;
 
 /// Begins a line, so many levels inside.
@@ -36,4 +37,20 @@ pub fn write_bytes<P: fmt::Write>(bytes: &[u8], page: &mut P) -> fmt::Result {
         write_hex(bytes, page)?;
     }
     page.write_str("\n")
+}
+
+/// The same, of which no more than 64 bytes are shown, unless strings are shown whole.
+///
+/// # Errors
+/// Those of the writer.
+pub fn write_string<P: fmt::Write>(look: Look, bytes: &[u8], page: &mut P) -> fmt::Result {
+    match bytes.get(..CUT) {
+        Some(front) if !look.full && bytes.len() > CUT => {
+            write_len(bytes.len(), page)?;
+            page.write_str(": ")?;
+            write_hex(front, page)?;
+            page.write_str("... (--full shows all)\n")
+        }
+        _ => write_bytes(bytes, page),
+    }
 }

@@ -4,6 +4,7 @@ use crate::json::{write_hex_text, write_name, write_notation, write_word};
 use crate::message::{Form, Part, message_of, name_of};
 use crate::parts::{Members, entries, integer, is_bytes, is_null, items, joined};
 use crate::payload::has_claims;
+use crate::time::claim_time;
 use cbor_diag::NotWritten;
 use std::alloc::Global;
 use std::fmt;
@@ -127,6 +128,9 @@ fn write_entry<P: fmt::Write>(
     write_notation(alloc, value, page)?;
     if let Some(name) = value_name(labels, number, integer(value)) {
         write_word("value_name", name, page)?;
+    }
+    if let Some(time) = claim_time(labels, number, value) {
+        write!(page, ",\"time\":\"{time}\"")?;
     }
     page.write_str("}")?;
     Ok(())

@@ -1,9 +1,11 @@
 //! What a COSE message holds (RFC 9052).
 use crate::header::{show_map, show_protected};
-use crate::line::{begin_line, write_bytes};
-use crate::parts::{Members, is_bytes, is_null, items, joined, tagged};
+use crate::line::{begin_line, write_string};
+use crate::look::Look;
+use crate::parts::{Members, header_of, is_bytes, is_null, items, joined, tagged};
 use crate::payload::show_payload;
-use cbor_diag::{NotWritten, Style, write_item};
+use cbor_diag::{NotWritten, write_item};
+use ciborium_ll::Header;
 use std::alloc::Global;
 use std::fmt;
 
@@ -88,12 +90,21 @@ pub fn message_of(item: &[u8]) -> Option<(Form, u64, &[u8])> {
     Some((form_of(tag)?, tag, content))
 }
 
+/// Whether an item is a message whose parts can be shown.
+pub fn is_message(item: &[u8]) -> bool {
+    match message_of(item) {
+        Some((_, _, content)) => matches!(header_of(content), Some(Header::Array(_))),
+        None => false,
+    }
+}
+
 /// Shows the parts of the message that an item is, and nothing of another item.
 ///
 /// # Errors
 /// `Output` and `Memory`.
 pub fn show_message<P: fmt::Write>(
     alloc: Global,
+    look: Look,
     item: &[u8],
     page: &mut P,
 ) -> Result<(), NotWritten> {
@@ -103,7 +114,7 @@ pub fn show_message<P: fmt::Write>(
     let name = form.name;
     writeln!(page, "  {name}, tag {tag}")?;
     match items(alloc, content) {
-        Some(mut parts) => show_parts(alloc, form, &mut parts, page),
+        Some(mut parts) => show_parts(alloc, look, form, &mut parts, page),
         None => {
             page.write_str("    not an array\n")?;
             Ok(())
@@ -113,33 +124,35 @@ pub fn show_message<P: fmt::Write>(
 
 fn show_parts<P: fmt::Write>(
     alloc: Global,
+    look: Look,
     form: Form,
     parts: &mut Members<'_>,
     page: &mut P,
 ) -> Result<(), NotWritten> {
-    show_headers(alloc, parts, 2, page)?;
+    show_headers(alloc, look, parts, 2, page)?;
     for part in form.parts {
         match parts.next()? {
-            Some(item) => show_part(alloc, *part, item, page)?,
+            Some(item) => show_part(alloc, look, *part, item, page)?,
             None => {
                 let name = name_of(*part);
                 writeln!(page, "    {name}: missing")?;
             }
         }
     }
-    show_more(alloc, parts, 2, page)
+    show_more(alloc, look, parts, 2, page)
 }
 
 /// Items that have no place in the message.
 fn show_more<P: fmt::Write>(
     alloc: Global,
+    look: Look,
     parts: &mut Members<'_>,
     level: usize,
     page: &mut P,
 ) -> Result<(), NotWritten> {
     for _ in 0..u64::MAX {
         match parts.next()? {
-            Some(item) => show_other(alloc, "more", item, level, page)?,
+            Some(item) => show_other(alloc, look, "more", item, level, page)?,
             None => break,
         }
     }
@@ -149,16 +162,17 @@ fn show_more<P: fmt::Write>(
 /// The two headers.
 fn show_headers<P: fmt::Write>(
     alloc: Global,
+    look: Look,
     parts: &mut Members<'_>,
     level: usize,
     page: &mut P,
 ) -> Result<(), NotWritten> {
     match parts.next()? {
-        Some(item) => show_protected(alloc, item, level, page)?,
+        Some(item) => show_protected(alloc, look, item, level, page)?,
         None => missing("protected", level, page)?,
     }
     match parts.next()? {
-        Some(item) => show_map(alloc, "unprotected", item, level, page)?,
+        Some(item) => show_map(alloc, look, "unprotected", item, level, page)?,
         None => missing("unprotected", level, page)?,
     }
     Ok(())
@@ -183,6 +197,7 @@ pub fn name_of(part: Part) -> &'static str {
 
 fn show_part<P: fmt::Write>(
     alloc: Global,
+    look: Look,
     part: Part,
     item: &[u8],
     page: &mut P,
@@ -193,11 +208,11 @@ fn show_part<P: fmt::Write>(
         Part::Ciphertext if is_null(item) => page.write_str("    ciphertext: detached\n")?,
         Part::Payload if is_bytes(item) => {
             let payload = joined(alloc, item)?;
-            show_payload(alloc, &payload, page)?;
+            show_payload(alloc, look, &payload, page)?;
         }
-        Part::Signatures => show_list(alloc, "signature", item, page)?,
-        Part::Recipients => show_list(alloc, "recipient", item, page)?,
-        _ => show_bytes(alloc, name, item, 2, page)?,
+        Part::Signatures => show_list(alloc, look, "signature", item, page)?,
+        Part::Recipients => show_list(alloc, look, "recipient", item, page)?,
+        _ => show_bytes(alloc, look, name, item, 2, page)?,
     }
     Ok(())
 }
@@ -205,24 +220,26 @@ fn show_part<P: fmt::Write>(
 /// A byte string in hex.
 fn show_bytes<P: fmt::Write>(
     alloc: Global,
+    look: Look,
     name: &str,
     item: &[u8],
     level: usize,
     page: &mut P,
 ) -> Result<(), NotWritten> {
     if !is_bytes(item) {
-        return show_other(alloc, name, item, level, page);
+        return show_other(alloc, look, name, item, level, page);
     }
     let bytes = joined(alloc, item)?;
     begin_line(level, page)?;
     write!(page, "{name}, ")?;
-    write_bytes(&bytes, page)?;
+    write_string(look, &bytes, page)?;
     Ok(())
 }
 
 /// An item in its notation.
 fn show_other<P: fmt::Write>(
     alloc: Global,
+    look: Look,
     name: &str,
     item: &[u8],
     level: usize,
@@ -230,7 +247,7 @@ fn show_other<P: fmt::Write>(
 ) -> Result<(), NotWritten> {
     begin_line(level, page)?;
     write!(page, "{name}: ")?;
-    write_item(alloc, item, Style::full(), level, page)?;
+    write_item(alloc, item, look.lines(), level, page)?;
     page.write_str("\n")?;
     Ok(())
 }
@@ -238,18 +255,19 @@ fn show_other<P: fmt::Write>(
 /// Signatures or recipients: arrays of a protected header, an unprotected one, and bytes.
 fn show_list<P: fmt::Write>(
     alloc: Global,
+    look: Look,
     name: &str,
     item: &[u8],
     page: &mut P,
 ) -> Result<(), NotWritten> {
     let Some(mut list) = items(alloc, item) else {
-        return show_other(alloc, name, item, 2, page);
+        return show_other(alloc, look, name, item, 2, page);
     };
     for number in 1..u64::MAX {
         match list.next()? {
             Some(one) => {
                 writeln!(page, "    {name} {number}")?;
-                show_one(alloc, name, one, page)?;
+                show_one(alloc, look, name, one, page)?;
             }
             None if number == 1 => {
                 writeln!(page, "    no {name}")?;
@@ -263,22 +281,23 @@ fn show_list<P: fmt::Write>(
 
 fn show_one<P: fmt::Write>(
     alloc: Global,
+    look: Look,
     name: &str,
     one: &[u8],
     page: &mut P,
 ) -> Result<(), NotWritten> {
     let Some(mut parts) = items(alloc, one) else {
-        return show_other(alloc, "not an array", one, 3, page);
+        return show_other(alloc, look, "not an array", one, 3, page);
     };
-    show_headers(alloc, &mut parts, 3, page)?;
+    show_headers(alloc, look, &mut parts, 3, page)?;
     let last = if name == "recipient" {
         "ciphertext"
     } else {
         name
     };
     match parts.next()? {
-        Some(item) => show_bytes(alloc, last, item, 3, page)?,
+        Some(item) => show_bytes(alloc, look, last, item, 3, page)?,
         None => missing(last, 3, page)?,
     }
-    show_more(alloc, &mut parts, 3, page)
+    show_more(alloc, look, &mut parts, 3, page)
 }

@@ -111,6 +111,16 @@ pub fn is_bytes(item: &[u8]) -> bool {
     matches!(header_of(item), Some(Header::Bytes(_)))
 }
 
+/// Whether an item may be a label: a number or a text.
+pub fn is_label(item: &[u8]) -> bool {
+    match header_of(item) {
+        Some(Header::Positive(_)) => true,
+        Some(Header::Negative(_)) => true,
+        Some(Header::Text(_)) => true,
+        _ => false,
+    }
+}
+
 /// Whether an item is null.
 pub fn is_null(item: &[u8]) -> bool {
     matches!(header_of(item), Some(Header::Simple(22)))

@@ -1,9 +1,10 @@
 //! What a payload is.
 use crate::header::{Labels, show_entries};
 use crate::line::write_len;
-use crate::parts::{entries, header_of, integer};
-use cbor_diag::{NotWritten, Style, item_len, write_hex, write_item, write_text};
-use ciborium_ll::Header;
+use crate::look::Look;
+use crate::names::claim;
+use crate::parts::{entries, integer, is_label};
+use cbor_diag::{CUT, NotWritten, front_text, item_len, write_hex, write_item, write_text};
 use std::alloc::Global;
 use std::fmt;
 
@@ -13,6 +14,7 @@ use std::fmt;
 /// `Output` and `Memory`.
 pub fn show_payload<P: fmt::Write>(
     alloc: Global,
+    look: Look,
     payload: &[u8],
     page: &mut P,
 ) -> Result<(), NotWritten> {
@@ -22,35 +24,54 @@ pub fn show_payload<P: fmt::Write>(
     let is_item = len > 0 && item_len(alloc, payload) == Ok(len);
     if is_item && is_claims(alloc, payload)? {
         page.write_str(", claims")?;
-        return show_entries(alloc, payload, 2, Labels::Claims, page);
+        return show_entries(alloc, look, payload, 2, Labels::Claims, page);
     }
     if let Some(text) = plain_text(payload) {
         page.write_str(", text: ")?;
-        write_text(text, false, page)?;
+        show_text(look, text, page)?;
         page.write_str("\n")?;
-        return show_as_item(alloc, payload, is_item, page);
+        return show_as_item(alloc, look, payload, is_item, page);
     }
     if is_item {
         page.write_str(", CBOR: ")?;
-        write_item(alloc, payload, Style::full(), 2, page)?;
+        write_item(alloc, payload, look.lines(), 2, page)?;
     } else if len > 0 {
         page.write_str(", hex: ")?;
-        write_hex(payload, page)?;
+        show_hex(look, payload, page)?;
     }
     page.write_str("\n")?;
     Ok(())
 }
 
+fn show_text<P: fmt::Write>(look: Look, text: &str, page: &mut P) -> fmt::Result {
+    if look.full || text.len() <= CUT {
+        return write_text(text, false, page);
+    }
+    write_text(front_text(text.as_bytes()), false, page)?;
+    page.write_str("... (--full shows all)")
+}
+
+fn show_hex<P: fmt::Write>(look: Look, bytes: &[u8], page: &mut P) -> fmt::Result {
+    match bytes.get(..CUT) {
+        Some(front) if !look.full && bytes.len() > CUT => {
+            write_hex(front, page)?;
+            page.write_str("... (--full shows all)")
+        }
+        _ => write_hex(bytes, page),
+    }
+}
+
 /// A text can also be an item; one of a byte is hardly meant as one.
 fn show_as_item<P: fmt::Write>(
     alloc: Global,
+    look: Look,
     payload: &[u8],
     is_item: bool,
     page: &mut P,
 ) -> Result<(), NotWritten> {
     if is_item && payload.len() > 1 {
         page.write_str("      also CBOR: ")?;
-        write_item(alloc, payload, Style::line(), 0, page)?;
+        write_item(alloc, payload, look.line(), 0, page)?;
         page.write_str("\n")?;
     }
     Ok(())
@@ -95,7 +116,7 @@ pub fn has_claims(alloc: Global, payload: &[u8]) -> Result<bool, NotWritten> {
     }
 }
 
-/// Whether an item is a claims set (RFC 8392): a map whose keys are numbers and texts, one of the claims 1 to 7 among them.
+/// Whether an item is a claims set (RFC 8392): a map whose keys are numbers and texts, a registered claim among them.
 fn is_claims(alloc: Global, item: &[u8]) -> Result<bool, NotWritten> {
     let Some(mut parts) = entries(alloc, item) else {
         return Ok(false);
@@ -114,15 +135,10 @@ fn is_claims(alloc: Global, item: &[u8]) -> Result<bool, NotWritten> {
     Ok(found)
 }
 
-fn is_label(key: &[u8]) -> bool {
-    match header_of(key) {
-        Some(Header::Positive(_)) => true,
-        Some(Header::Negative(_)) => true,
-        Some(Header::Text(_)) => true,
-        _ => false,
-    }
-}
-
+/// Whether the registry of claims has this number, which isn't the reserved one.
 fn is_known_claim(number: Option<i64>) -> bool {
-    matches!(number, Some(1..=7))
+    match number {
+        Some(number) => number != 0 && claim(number).is_some(),
+        None => false,
+    }
 }

@@ -1,0 +1,123 @@
+//! What the judge of the program `cose-gate` answers.
+use crate::keys::KeyBook;
+use crate::stop::Stop;
+use crate::why::{Question, reason};
+use cose_gate_core::{
+    Asked, CoseError, Decoder, Entry, GateFault, Limits, Mem, MessageKind, Refusal, Terms, Verdict,
+    gate_by,
+};
+use cose_gate_hmac::{CoseKeySet, HmacJudge};
+use coset_labels::TaggedCborSerializable;
+use coset_maced::CoseMac0;
+use std::alloc::Global;
+
+/// What the judge answers.
+#[derive(Drop)]
+pub enum Answer {
+    /// The message passes.
+    Yes,
+    /// It doesn't, and why.
+    No(String),
+}
+
+/// The judge of the program, and its keys.
+#[derive(Drop)]
+pub struct Asking<'a> {
+    judge: HmacJudge<'a>,
+    book: KeyBook<'a>,
+}
+
+impl<'a> Asking<'a> {
+    /// The judge by these keys.
+    ///
+    /// # Errors
+    /// `Memory`.
+    pub fn new(alloc: Global, keys: &'a CoseKeySet) -> Result<Asking<'a>, Stop> {
+        let book = KeyBook::new(alloc, keys)?;
+        let judge = HmacJudge::prepared(alloc, keys);
+        Ok(Asking { judge, book })
+    }
+
+    /// What the judge answers about an item about which the gate asks this; none where it asks nothing.
+    ///
+    /// # Errors
+    /// `Memory`.
+    pub fn answer(
+        &mut self,
+        alloc: Global,
+        aad: &[u8],
+        item: &[u8],
+        asked: &[Asked],
+    ) -> Result<Option<Answer>, Stop> {
+        let Some(first) = asked.first() else {
+            return Ok(None);
+        };
+        match judged(alloc, aad, item, &mut self.judge)? {
+            Some(Verdict::Passed) => Ok(Some(Answer::Yes)),
+            Some(Verdict::Refused(Refusal::Judged(_))) => {
+                let why = why_not(alloc, &self.book, aad, item, first)?;
+                Ok(Some(Answer::No(why)))
+            }
+            _ => Ok(None),
+        }
+    }
+}
+
+/// What the gate says of an item with this judge.
+fn judged(
+    alloc: Global,
+    aad: &[u8],
+    item: &[u8],
+    judge: &mut HmacJudge<'_>,
+) -> Result<Option<Verdict>, Stop> {
+    let mut decoder = Decoder::from(item);
+    let mut out = Mem::new(Vec::new(alloc));
+    let mut entries = Vec::<Entry>::new(alloc);
+    let terms = Terms {
+        limits: Limits::default(),
+        strict: false,
+    };
+    match gate_by(
+        alloc,
+        terms,
+        &mut decoder,
+        &mut out,
+        &mut entries,
+        aad,
+        judge,
+    ) {
+        Ok(_) => Ok(entries.as_slice().first().map(|entry| entry.verdict)),
+        Err(GateFault::Memory) => Err(Stop::Memory),
+        Err(GateFault::Write) => Err(Stop::Memory),
+        Err(_) => Ok(None),
+    }
+}
+
+/// Why the judge says no.
+fn why_not(
+    alloc: Global,
+    book: &KeyBook<'_>,
+    aad: &[u8],
+    item: &[u8],
+    first: &Asked,
+) -> Result<String, Stop> {
+    if first.kind != MessageKind::Mac0 {
+        return Ok(String::from_str(alloc, "the program judges COSE_Mac0 alone")?);
+    }
+    let message = match CoseMac0::from_tagged_slice(alloc, item) {
+        Ok(message) => message,
+        Err(CoseError::Memory) => return Err(Stop::Memory),
+        Err(_) => return Ok(String::new(alloc)),
+    };
+    let question = Question {
+        protected: &message.protected,
+        unprotected: &message.unprotected,
+        covered: first.structure.as_slice(),
+        tag: message.tag.as_slice(),
+        aad_len: aad.len(),
+    };
+    match reason(alloc, book, question)? {
+        Some(why) => Ok(why),
+        None => Ok(String::new(alloc)),
+    }
+}

@@ -1,0 +1,242 @@
+//! Which part of a message is wrong.
+use crate::stop::Stop;
+use cbor_diag::{Style, write_item};
+use ciborium_value::Value;
+use cose_gate_core::{CoseError, CoseRecipient, CoseSignature, Header, ProtectedHeader};
+use cose_notation::{Part, entries, is_bytes, items, joined, message_of};
+use coset_labels::{CborSerializable, ValueTryAs, read_to_value};
+use std::alloc::Global;
+
+/// So many levels are read.
+const NESTING: usize = 256;
+
+/// A part of a message, and what is wrong in it.
+#[derive(Drop)]
+pub struct WrongPart {
+    /// The part, in words.
+    pub name: String,
+    /// What is wrong.
+    pub fault: CoseError,
+}
+
+/// The first part that is wrong, in the order in which the parts of a message are read: from the last to the first, and in a list from the
+/// first to the last. None where the parts are not those of the message, since then it is the whole that is wrong.
+///
+/// # Errors
+/// `Memory`.
+pub fn wrong_part(alloc: Global, item: &[u8]) -> Result<Option<WrongPart>, Stop> {
+    let Some((form, _, content)) = message_of(item) else {
+        return Ok(None);
+    };
+    let parts = parts_of(alloc, content)?;
+    if parts.len() != form.parts.len().saturating_add(2) {
+        return Ok(None);
+    }
+    for (part, item) in form.parts.iter().zip(parts.iter().skip(2)).rev() {
+        let wrong = wrong_in(alloc, *part, item)?;
+        if wrong.is_some() {
+            return Ok(wrong);
+        }
+    }
+    wrong_header(alloc, "", &parts)
+}
+
+/// The items of an array; of another item there are none.
+fn parts_of(alloc: Global, item: &[u8]) -> Result<Vec<&[u8]>, Stop> {
+    let mut parts = Vec::new(alloc);
+    let Some(mut list) = items(alloc, item) else {
+        return Ok(parts);
+    };
+    for _ in 0..u64::MAX {
+        match list.next()? {
+            Some(part) => parts.push(part)?,
+            None => break,
+        }
+    }
+    Ok(parts)
+}
+
+/// What is wrong in a part behind the headers.
+fn wrong_in(alloc: Global, part: Part, item: &[u8]) -> Result<Option<WrongPart>, Stop> {
+    match part {
+        Part::Signatures => wrong_in_list(alloc, "signature", item),
+        Part::Recipients => wrong_in_list(alloc, "recipient", item),
+        Part::Signature => wrong_bytes(alloc, "signature", item),
+        Part::Tag => wrong_bytes(alloc, "tag", item),
+        Part::Payload => wrong_content(alloc, "payload", item),
+        Part::Ciphertext => wrong_content(alloc, "ciphertext", item),
+    }
+}
+
+/// The value that an item is.
+fn value_of(alloc: Global, item: &[u8]) -> Result<Option<Value>, Stop> {
+    match read_to_value(alloc, item, NESTING) {
+        Ok(value) => Ok(Some(value)),
+        Err(CoseError::Memory) => Err(Stop::Memory),
+        Err(_) => Ok(None),
+    }
+}
+
+fn named(alloc: Global, name: &str, fault: CoseError) -> Result<Option<WrongPart>, Stop> {
+    if fault == CoseError::Memory {
+        return Err(Stop::Memory);
+    }
+    let name = String::from_str(alloc, name)?;
+    Ok(Some(WrongPart { name, fault }))
+}
+
+fn wrong_bytes(alloc: Global, name: &str, item: &[u8]) -> Result<Option<WrongPart>, Stop> {
+    match value_of(alloc, item)? {
+        Some(value) => match value.try_as_bytes() {
+            Ok(_) => Ok(None),
+            Err(fault) => named(alloc, name, fault),
+        },
+        None => Ok(None),
+    }
+}
+
+fn wrong_content(alloc: Global, name: &str, item: &[u8]) -> Result<Option<WrongPart>, Stop> {
+    match value_of(alloc, item)? {
+        Some(value) => match value.try_as_bytes_or_nil("bstr") {
+            Ok(_) => Ok(None),
+            Err(fault) => named(alloc, name, fault),
+        },
+        None => Ok(None),
+    }
+}
+
+/// The first signature or recipient of a list that is wrong.
+fn wrong_in_list(alloc: Global, name: &str, item: &[u8]) -> Result<Option<WrongPart>, Stop> {
+    let Some(mut list) = items(alloc, item) else {
+        return wrong_list(alloc, name, item);
+    };
+    for number in 1..u64::MAX {
+        let Some(one) = list.next()? else {
+            break;
+        };
+        if let Some(fault) = fault_of(alloc, name, one)? {
+            return wrong_one(alloc, name, number, one, fault);
+        }
+    }
+    Ok(None)
+}
+
+/// A list that is no array.
+fn wrong_list(alloc: Global, name: &str, item: &[u8]) -> Result<Option<WrongPart>, Stop> {
+    match value_of(alloc, item)? {
+        Some(value) => match value.try_as_array() {
+            Ok(_) => Ok(None),
+            Err(fault) => {
+                let name = format!(in alloc; "{name}s")?;
+                named(alloc, name.as_str(), fault)
+            }
+        },
+        None => Ok(None),
+    }
+}
+
+/// What is wrong in a signature or a recipient.
+fn fault_of(alloc: Global, name: &str, one: &[u8]) -> Result<Option<CoseError>, Stop> {
+    let fault = if name == "signature" {
+        CoseSignature::from_slice(alloc, one).err()
+    } else {
+        CoseRecipient::from_slice(alloc, one).err()
+    };
+    match fault {
+        Some(CoseError::Memory) => Err(Stop::Memory),
+        fault => Ok(fault),
+    }
+}
+
+/// A signature or a recipient that is wrong: its header where that is, and else the whole.
+fn wrong_one(
+    alloc: Global,
+    name: &str,
+    number: u64,
+    one: &[u8],
+    fault: CoseError,
+) -> Result<Option<WrongPart>, Stop> {
+    let parts = parts_of(alloc, one)?;
+    if parts.len() == 3 || parts.len() == 4 {
+        let prefix = format!(in alloc; "{name} {number}, ")?;
+        let wrong = wrong_header(alloc, prefix.as_str(), &parts)?;
+        if wrong.is_some() {
+            return Ok(wrong);
+        }
+    }
+    let name = format!(in alloc; "{name} {number}")?;
+    named(alloc, name.as_str(), fault)
+}
+
+/// What is wrong in the two headers that parts begin with.
+fn wrong_header(alloc: Global, prefix: &str, parts: &[&[u8]]) -> Result<Option<WrongPart>, Stop> {
+    let [protected, unprotected, ..] = parts else {
+        return Ok(None);
+    };
+    if let Some(fault) = Header::from_slice(alloc, unprotected).err() {
+        let name = format!(in alloc; "{prefix}unprotected header")?;
+        return wrong_label(alloc, name, unprotected, fault);
+    }
+    let Some(value) = value_of(alloc, protected)? else {
+        return Ok(None);
+    };
+    match ProtectedHeader::from_cbor_bstr(alloc, value) {
+        Ok(_) => Ok(None),
+        Err(fault) => {
+            let name = format!(in alloc; "{prefix}protected header")?;
+            if !is_bytes(protected) {
+                return named(alloc, name.as_str(), fault);
+            }
+            let bytes = joined(alloc, protected)?;
+            wrong_label(alloc, name, &bytes, fault)
+        }
+    }
+}
+
+/// The label of the first entry that is wrong by itself, behind the name of its header.
+fn wrong_label(
+    alloc: Global,
+    name: String,
+    map: &[u8],
+    fault: CoseError,
+) -> Result<Option<WrongPart>, Stop> {
+    let Some(mut list) = entries(alloc, map) else {
+        return named(alloc, name.as_str(), fault);
+    };
+    for _ in 0..u64::MAX {
+        let Some(label) = list.next()? else {
+            break;
+        };
+        let Some(value) = list.next()? else {
+            break;
+        };
+        if let Some(fault) = entry_fault(alloc, label, value)? {
+            return labeled(alloc, name, label, fault);
+        }
+    }
+    named(alloc, name.as_str(), fault)
+}
+
+/// What is wrong in a header of this one entry.
+fn entry_fault(alloc: Global, label: &[u8], value: &[u8]) -> Result<Option<CoseError>, Stop> {
+    let mut map = Vec::new(alloc);
+    map.push(0xa1u8)?;
+    map.extend_from_slice(label)?;
+    map.extend_from_slice(value)?;
+    match Header::from_slice(alloc, &map) {
+        Ok(_) => Ok(None),
+        Err(CoseError::Memory) => Err(Stop::Memory),
+        Err(fault) => Ok(Some(fault)),
+    }
+}
+
+fn labeled(
+    alloc: Global,
+    mut name: String,
+    label: &[u8],
+    fault: CoseError,
+) -> Result<Option<WrongPart>, Stop> {
+    name.push_str(", label ")?;
+    write_item(alloc, label, Style::line().shortened(), 0, &mut name)?;
+    Ok(Some(WrongPart { name, fault }))
+}

@@ -1,0 +1,281 @@
+//! Why the judge of the program `cose-gate` says no to a COSE_Mac0.
+use crate::keys::KeyBook;
+use crate::stop::Stop;
+use cbor_diag::{CUT, front_text, write_hex, write_text};
+use cose_gate_core::{
+    Algorithm, Header, ProtectedHeader, RegisteredLabel, RegisteredLabelWithPrivate,
+};
+use cose_gate_hmac::{alg_is_hmac, crit_is_known, fits, message_id, secret_of};
+use cose_hmac::{hmac_sha256, same_tag};
+use cose_iana::EnumI64;
+use cose_notation::{algorithm, key_type, parameter, write_len};
+use coset_keys::CoseKey;
+use std::alloc::Global;
+use std::fmt;
+
+/// So many ids of a set are named.
+const IDS: usize = 8;
+
+/// How many bytes a whole tag has.
+const TAG: usize = 32;
+
+/// A question about a COSE_Mac0.
+#[derive(Clone, Copy)]
+pub struct Question<'a> {
+    /// Its protected header.
+    pub protected: &'a ProtectedHeader,
+    /// Its unprotected header.
+    pub unprotected: &'a Header,
+    /// The bytes that its tag covers.
+    pub covered: &'a [u8],
+    /// Its tag.
+    pub tag: &'a [u8],
+    /// How many bytes of external data are covered.
+    pub aad_len: usize,
+}
+
+/// The first reason for which a judge by these keys says no, in words; none where it says yes.
+///
+/// # Errors
+/// `Memory`.
+pub fn reason(
+    alloc: Global,
+    book: &KeyBook<'_>,
+    question: Question<'_>,
+) -> Result<Option<String>, Stop> {
+    let mut text = String::new(alloc);
+    match write_reason(book, question, &mut text) {
+        Ok(true) => Ok(Some(text)),
+        Ok(false) => Ok(None),
+        Err(_) => Err(Stop::Memory),
+    }
+}
+
+/// Writes the first reason, if there is one, in the order in which the judge decides.
+fn write_reason<P: fmt::Write>(
+    book: &KeyBook<'_>,
+    question: Question<'_>,
+    page: &mut P,
+) -> Result<bool, fmt::Error> {
+    let protected = question.protected;
+    let unprotected = question.unprotected;
+    if !alg_is_hmac(protected) {
+        write_other_alg(&protected.header.alg, &unprotected.alg, page)?;
+        return Ok(true);
+    }
+    if !crit_is_known(&protected.header) {
+        write_crit("protected", &protected.header, page)?;
+        return Ok(true);
+    }
+    if !crit_is_known(unprotected) {
+        write_crit("unprotected", unprotected, page)?;
+        return Ok(true);
+    }
+    let id = message_id(protected, unprotected);
+    let Some(key) = book.find(id) else {
+        write_no_key(book, id, page)?;
+        return Ok(true);
+    };
+    if fits(key, id) {
+        return write_wrong_tag(key, question, page);
+    }
+    write_key_id(id, page)?;
+    write_bar(key, page)?;
+    Ok(true)
+}
+
+/// The algorithm of the protected header isn't HMAC 256/256.
+fn write_other_alg<P: fmt::Write>(
+    protected: &Option<Algorithm>,
+    unprotected: &Option<Algorithm>,
+    page: &mut P,
+) -> fmt::Result {
+    match (protected, unprotected) {
+        (Some(alg), _) => {
+            page.write_str("alg in the protected header is ")?;
+            write_alg(alg, page)?;
+            page.write_str(", not HMAC 256/256 (5)")
+        }
+        (None, Some(alg)) => {
+            page.write_str("alg isn't in the protected header; in the unprotected one it is ")?;
+            write_alg(alg, page)
+        }
+        (None, None) => page.write_str("alg isn't in the protected header, nor in the other"),
+    }
+}
+
+fn write_alg<P: fmt::Write>(alg: &Algorithm, page: &mut P) -> fmt::Result {
+    match alg {
+        RegisteredLabelWithPrivate::Assigned(entry) => {
+            let number = (*entry).to_i64();
+            write_named(algorithm(number), number, page)
+        }
+        RegisteredLabelWithPrivate::PrivateUse(number) => write!(page, "{number}"),
+        RegisteredLabelWithPrivate::Text(text) => write_front(text.as_str(), page),
+    }
+}
+
+/// A number, in front of which its registered name is.
+fn write_named<P: fmt::Write>(
+    name: Option<&'static str>,
+    number: i64,
+    page: &mut P,
+) -> fmt::Result {
+    match name {
+        Some(name) => write!(page, "{name} ({number})"),
+        None => write!(page, "{number}"),
+    }
+}
+
+/// A text, of which no more than 64 bytes are shown.
+fn write_front<P: fmt::Write>(text: &str, page: &mut P) -> fmt::Result {
+    if text.len() <= CUT {
+        return write_text(text, false, page);
+    }
+    write_text(front_text(text.as_bytes()), false, page)?;
+    page.write_str("...")
+}
+
+/// A critical label isn't known.
+fn write_crit<P: fmt::Write>(name: &str, header: &Header, page: &mut P) -> fmt::Result {
+    write!(page, "crit of the {name} header has the label ")?;
+    for label in &header.crit {
+        match label {
+            RegisteredLabelWithPrivate::Assigned(entry) => {
+                let number = (*entry).to_i64();
+                if !is_known(number) {
+                    write_named(parameter(number), number, page)?;
+                    break;
+                }
+            }
+            RegisteredLabelWithPrivate::PrivateUse(number) => {
+                write!(page, "{number}")?;
+                break;
+            }
+            RegisteredLabelWithPrivate::Text(text) => {
+                write_front(text.as_str(), page)?;
+                break;
+            }
+        }
+    }
+    page.write_str(", which isn't known")
+}
+
+/// Whether this is the label of alg, crit or kid.
+fn is_known(number: i64) -> bool {
+    matches!(number, 1 | 2 | 4)
+}
+
+/// No key has the id of the message.
+fn write_no_key<P: fmt::Write>(book: &KeyBook<'_>, id: &[u8], page: &mut P) -> fmt::Result {
+    if id.is_empty() {
+        page.write_str("the message has no key id, and no key of the set is without one")?;
+    } else {
+        page.write_str("no key of the set has the id ")?;
+        write_id(id, page)?;
+    }
+    let count = book.ids().len();
+    if count == 0 {
+        return page.write_str("; the set is empty");
+    }
+    let mut mark = "; its ids are ";
+    for entry in book.ids().iter().take(IDS) {
+        page.write_str(mark)?;
+        write_id(entry.0, page)?;
+        mark = ", ";
+    }
+    if count > IDS {
+        let more = count.saturating_sub(IDS);
+        write!(page, " and {more} more")?;
+    }
+    Ok(())
+}
+
+/// A key id, of which no more than 64 bytes are shown.
+fn write_id<P: fmt::Write>(id: &[u8], page: &mut P) -> fmt::Result {
+    if id.is_empty() {
+        return page.write_str("(none)");
+    }
+    page.write_str("h'")?;
+    match id.get(..CUT) {
+        Some(front) if id.len() > CUT => {
+            write_hex(front, page)?;
+            page.write_str("'...")
+        }
+        _ => {
+            write_hex(id, page)?;
+            page.write_str("'")
+        }
+    }
+}
+
+fn write_key_id<P: fmt::Write>(id: &[u8], page: &mut P) -> fmt::Result {
+    if id.is_empty() {
+        return page.write_str("the key without an id ");
+    }
+    page.write_str("the key with the id ")?;
+    write_id(id, page)?;
+    page.write_str(" ")
+}
+
+/// Why a key doesn't fit that has the id.
+fn write_bar<P: fmt::Write>(key: &CoseKey, page: &mut P) -> fmt::Result {
+    match &key.kty {
+        RegisteredLabel::Assigned(cose_iana::KeyType::Symmetric) => {}
+        RegisteredLabel::Assigned(entry) => {
+            let number = (*entry).to_i64();
+            page.write_str("isn't symmetric: its kty is ")?;
+            return write_named(key_type(number), number, page);
+        }
+        RegisteredLabel::Text(text) => {
+            page.write_str("isn't symmetric: its kty is ")?;
+            return write_front(text.as_str(), page);
+        }
+    }
+    if secret_of(key).is_none() {
+        return page.write_str("has no secret (k)");
+    }
+    match &key.alg {
+        None => {}
+        Some(RegisteredLabelWithPrivate::Assigned(cose_iana::Algorithm::HMAC_256_256)) => {}
+        Some(alg) => {
+            page.write_str("has another alg: ")?;
+            return write_alg(alg, page);
+        }
+    }
+    page.write_str("has no MAC verify (10) among its key_ops")
+}
+
+/// The tag isn't the whole tag under the key. Whether there is anything to say.
+fn write_wrong_tag<P: fmt::Write>(
+    key: &CoseKey,
+    question: Question<'_>,
+    page: &mut P,
+) -> Result<bool, fmt::Error> {
+    let Some(secret) = secret_of(key) else {
+        return Ok(false);
+    };
+    let tag = question.tag;
+    let whole = hmac_sha256(secret, question.covered);
+    if same_tag(&whole, tag) {
+        return Ok(false);
+    }
+    let len = tag.len();
+    let is_front = match whole.as_slice().get(..len) {
+        Some(front) => same_tag(front, tag),
+        None => false,
+    };
+    if is_front {
+        page.write_str("the tag is cut to ")?;
+        write_len(len, page)?;
+    } else if len != TAG {
+        page.write_str("the tag has ")?;
+        write_len(len, page)?;
+        page.write_str(" in place of 32")?;
+    } else {
+        page.write_str("the tag isn't that of the first key that fits, with ")?;
+        write_len(question.aad_len, page)?;
+        page.write_str(" of external data")?;
+    }
+    Ok(true)
+}

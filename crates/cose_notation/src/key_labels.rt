@@ -1,0 +1,163 @@
+//! Labels of keys: their names, and whether their values may be shown.
+use crate::names::key_parameter;
+use cose_iana::{
+    AkpKeyParameter, Ec2KeyParameter, EnumI64, HssLmsKeyParameter, KeyType, OkpKeyParameter,
+    RsaKeyParameter, SymmetricKeyParameter, WalnutDsaKeyParameter,
+};
+
+/// What the value of a label of keys is.
+#[derive(Debug, Clone, Copy, PartialEq, Eq)]
+pub enum KeyPart {
+    /// The type of the key.
+    Type,
+    /// The algorithm that it is for.
+    Alg,
+    /// The operations that it is for.
+    Operations,
+    /// A curve.
+    Curve,
+    /// Anything else that is no secret.
+    Public,
+    /// A secret, or something unknown.
+    Secret,
+}
+
+/// A label of keys.
+#[derive(Debug, Clone, Copy, PartialEq, Eq)]
+pub struct KeyLabel {
+    /// Its registered name.
+    pub name: Option<&'static str>,
+    /// What its value is.
+    pub part: KeyPart,
+}
+
+/// A label that has no name. Its value may be a secret.
+const UNKNOWN: KeyLabel = KeyLabel {
+    name: None,
+    part: KeyPart::Secret,
+};
+
+fn labeled(name: &'static str, part: KeyPart) -> KeyLabel {
+    KeyLabel {
+        name: Some(name),
+        part,
+    }
+}
+
+/// What a label is in a key of this type: the registries "COSE Key Common Parameters" and "COSE Key Type Parameters".
+pub fn key_label(kty: Option<KeyType>, label: Option<i64>) -> KeyLabel {
+    let Some(number) = label else {
+        return UNKNOWN;
+    };
+    match key_parameter(number) {
+        Some(name) => labeled(name, common_part(number)),
+        None => match kty {
+            Some(kty) => label_of_type(kty, number),
+            None => UNKNOWN,
+        },
+    }
+}
+
+fn common_part(number: i64) -> KeyPart {
+    match number {
+        1 => KeyPart::Type,
+        2 => KeyPart::Public,
+        3 => KeyPart::Alg,
+        4 => KeyPart::Operations,
+        5 => KeyPart::Public,
+        _ => KeyPart::Secret,
+    }
+}
+
+fn label_of_type(kty: KeyType, number: i64) -> KeyLabel {
+    match kty {
+        KeyType::Reserved => UNKNOWN,
+        KeyType::OKP => okp(number),
+        KeyType::EC2 => ec2(number),
+        KeyType::RSA => rsa(number),
+        KeyType::Symmetric => symmetric(number),
+        KeyType::HSS_LMS => hss_lms(number),
+        KeyType::WalnutDSA => walnut_dsa(number),
+        KeyType::AKP => akp(number),
+    }
+}
+
+fn okp(number: i64) -> KeyLabel {
+    match OkpKeyParameter::from_i64(number) {
+        Some(OkpKeyParameter::Crv) => labeled("crv", KeyPart::Curve),
+        Some(OkpKeyParameter::X) => labeled("x", KeyPart::Public),
+        Some(OkpKeyParameter::D) => labeled("d", KeyPart::Secret),
+        None => UNKNOWN,
+    }
+}
+
+fn ec2(number: i64) -> KeyLabel {
+    match Ec2KeyParameter::from_i64(number) {
+        Some(Ec2KeyParameter::Crv) => labeled("crv", KeyPart::Curve),
+        Some(Ec2KeyParameter::X) => labeled("x", KeyPart::Public),
+        Some(Ec2KeyParameter::Y) => labeled("y", KeyPart::Public),
+        Some(Ec2KeyParameter::D) => labeled("d", KeyPart::Secret),
+        None => UNKNOWN,
+    }
+}
+
+fn rsa(number: i64) -> KeyLabel {
+    match RsaKeyParameter::from_i64(number) {
+        Some(RsaKeyParameter::N) => labeled("n", KeyPart::Public),
+        Some(RsaKeyParameter::E) => labeled("e", KeyPart::Public),
+        Some(secret) => labeled(rsa_secret(secret), KeyPart::Secret),
+        None => UNKNOWN,
+    }
+}
+
+/// The name of a label of RSA keys that is no part of the public key.
+fn rsa_secret(label: RsaKeyParameter) -> &'static str {
+    match label {
+        RsaKeyParameter::N => "n",
+        RsaKeyParameter::E => "e",
+        RsaKeyParameter::D => "d",
+        RsaKeyParameter::P => "p",
+        RsaKeyParameter::Q => "q",
+        RsaKeyParameter::DP => "dP",
+        RsaKeyParameter::DQ => "dQ",
+        RsaKeyParameter::QInv => "qInv",
+        RsaKeyParameter::Other => "other",
+        RsaKeyParameter::RI => "r_i",
+        RsaKeyParameter::DI => "d_i",
+        RsaKeyParameter::TI => "t_i",
+    }
+}
+
+fn symmetric(number: i64) -> KeyLabel {
+    match SymmetricKeyParameter::from_i64(number) {
+        Some(SymmetricKeyParameter::K) => labeled("k", KeyPart::Secret),
+        None => UNKNOWN,
+    }
+}
+
+fn hss_lms(number: i64) -> KeyLabel {
+    match HssLmsKeyParameter::from_i64(number) {
+        Some(HssLmsKeyParameter::Pub) => labeled("pub", KeyPart::Public),
+        None => UNKNOWN,
+    }
+}
+
+fn walnut_dsa(number: i64) -> KeyLabel {
+    match WalnutDsaKeyParameter::from_i64(number) {
+        Some(WalnutDsaKeyParameter::N) => labeled("N", KeyPart::Public),
+        Some(WalnutDsaKeyParameter::Q) => labeled("q", KeyPart::Public),
+        Some(WalnutDsaKeyParameter::TValues) => labeled("t-values", KeyPart::Public),
+        Some(WalnutDsaKeyParameter::Matrix1) => labeled("matrix 1", KeyPart::Public),
+        Some(WalnutDsaKeyParameter::Permutation1) => labeled("permutation 1", KeyPart::Public),
+        Some(WalnutDsaKeyParameter::Matrix2) => labeled("matrix 2", KeyPart::Public),
+        None => UNKNOWN,
+    }
+}
+
+fn akp(number: i64) -> KeyLabel {
+    match AkpKeyParameter::from_i64(number) {
+        Some(AkpKeyParameter::Pub) => labeled("pub", KeyPart::Public),
+        Some(AkpKeyParameter::Priv) => labeled("priv", KeyPart::Secret),
+        None => UNKNOWN,
+    }
+}

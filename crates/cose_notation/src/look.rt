@@ -1,0 +1,31 @@
+//! How much of an item is shown.
+use cbor_diag::Style;
+
+/// How much of an item is shown.
+#[derive(Debug, Clone, Copy, PartialEq, Eq)]
+pub struct Look {
+    /// Strings of more than 64 bytes are shown whole.
+    pub full: bool,
+    /// What may be secret in a key is shown.
+    pub secrets: bool,
+}
+
+impl Look {
+    /// Notation on several lines.
+    pub fn lines(self) -> Style {
+        if self.full {
+            Style::full()
+        } else {
+            Style::full().shortened()
+        }
+    }
+
+    /// Notation on one line.
+    pub fn line(self) -> Style {
+        if self.full {
+            Style::line()
+        } else {
+            Style::line().shortened()
+        }
+    }
+}
