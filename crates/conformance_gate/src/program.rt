@@ -1,7 +1,7 @@
 //! Runs of the program over memory.
 use crate::out::Out;
 use crate::words;
-use cose_gate::{Limits, Mem};
+use cose_gate::{Limits, Mem, Terms};
 
 /// A run with these keys and this word of external data: its status, its output, and its lines.
 pub fn run(to: &mut Out, row: &mut &str) {
@@ -27,8 +27,10 @@ pub fn run_strict(to: &mut Out, row: &mut &str) {
     let mut reader = input.as_slice();
     let status = cose_gate::run_with(
         alloc,
-        Limits::default(),
-        true,
+        Terms {
+            limits: Limits::default(),
+            strict: true,
+        },
         keys.as_deref(),
         aad,
         &mut reader,
