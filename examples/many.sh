@@ -4,12 +4,12 @@
 #   examples/many.sh [-s SIZE] [-j JOBS] [-x] [-S LOGINS] [-c] KEYS AADHEX INPUT PASSED LINES
 #
 # PASSED gets the messages that pass, LINES the lines of the gate. SIZE: how many bytes a piece has at least (without it 64 MB). JOBS: how
-# many gates run at a time (as many as there are processors). -x: by xargs, also where GNU parallel is there. -S: on these machines, as
+# many gates run at a time (as many as there are processors). -x: by xargs, even if GNU parallel is there. -S: on these machines, as
 # `parallel --sshlogin` names them (this one as localhost, not as `:`): KEYS and the pieces are copied there, and what is said of them comes
 # back; JOBS, if given, is for each machine. -c: does one run too, here, and says whether it wrote the same.
 #
-# The status is the gate's; it is 5 where the two runs differ, and 6 where the input can't be cut, or no answer came of a piece. COSE_GATE
-# and COSE_SHOW name other programs than those of this repository; with -S the former stands at the same absolute path on each machine.
+# The status is the gate's; it is 5 if the two runs differ, and 6 if the input can't be cut, or a piece gave no answer. COSE_GATE
+# and COSE_SHOW name other programs than those of this repository; with -S the former is at the same absolute path on each machine.
 set -u
 top=$(cd "$(dirname "$(readlink -f "${BASH_SOURCE[0]}")")/.." && pwd)
 size=67108864 jobs=$(nproc) compare=no by=xargs logins=
@@ -92,7 +92,7 @@ else
 fi
 say_time "gated, $jobs at a time by $by"
 
-# Joins the pieces up to the first one where the gate stopped: its item numbers and offsets are moved behind those of the pieces before it.
+# Joins the pieces up to the first one in which the gate stopped: its item numbers and offsets are moved up by those of the pieces before it.
 status=0 items=0 offset=0 good=0 refused=0
 : > "$passed"
 : > "$lines"

@@ -1,13 +1,13 @@
 #!/usr/bin/env bash
-# c-library.sh [c|rust|go|python|compare|memory|all]: proves and builds the static library cose_gate_c where a source of it has changed, and
+# c-library.sh [c|rust|go|python|compare|memory|all]: proves and builds the static library cose_gate_c if a source of it has changed, and
 # then builds and runs what is asked, with the tools that are there; it says which are not.
 #   c, rust, go, python   the example of that language on examples/mixed.cbor: status 1, four messages passed; of Python also es256.py
-#   compare               what each example answers against the program's answers, over examples/*.cbor; the library's shared object against
+#   compare               what each example gives against what the program gives, over examples/*.cbor; the library's shared object against
 #                         the program over the rows `run` of conformance_gate, and over 1,000 mutated sequences
 #   memory                the C test under ASan, under valgrind, and with each malloc refused in turn, over the worked examples and 1,000
 #                         mutated ones; archive and time to link
-#   all                   all of these (what stands where no word is given)
-# Status 1 where something differs. What it makes lies in crates/cose_gate_c/out; beside that `go` makes examples/go/lib, `rust`
+#   all                   all of these (the default)
+# Status 1 if something differs. What it makes lies in crates/cose_gate_c/out; beside that `go` makes examples/go/lib, `rust`
 # examples/rust/Cargo.lock, `python` examples/python/__pycache__, and `compare` builds the program in its own out/.
 set -eu
 top=$(cd "$(dirname "$(readlink -f "${BASH_SOURCE[0]}")")/.." && pwd)
@@ -15,7 +15,7 @@ what=${1:-all}
 crate=$top/crates/cose_gate_c
 out=$crate/out
 archive=$out/libcose_gate_c.a
-# The kit's C code for memory stands beside its rt.
+# The kit's C code for memory is beside its rt.
 kit=${RT_KIT:-$(dirname "$(dirname "$(readlink -f "$(command -v rt)")")")}
 libc=$kit/c/liblibc_c.a
 made=$out/examples
@@ -34,7 +34,7 @@ case $what in
   *) fails "no word $what; the head of this script has them" ;;
 esac
 
-# Proves and builds the library, where a source has changed since.
+# Proves and builds the library, if a source has changed since.
 mkdir -p "$made"
 is_old() {
   [ ! -f "$archive" ] || [ -n "$(find "$top"/crates/*/src "$top"/crates/*/specs "$top"/crates/*/proofs "$top/crates.txt" -newer "$archive" -print -quit)" ]
@@ -77,7 +77,7 @@ for language in c rust go python; do
   fi
 done
 
-# What a program answers on $input: its output, its lines and its status, each in a file beside NAME.
+# What a program gives on $input: its output, its lines and its status, each in a file beside NAME.
 ask() {
   local name=$1 status=0
   shift

@@ -1,5 +1,5 @@
-/* c-memory.c: KEYS FILE..: the library under tools that watch memory, over each file: output room from none to more than is needed, with bytes
- * behind it that must stay as they are; and the questions, all of which are then accepted. With -DREFUSE each malloc and realloc is refused
+/* c-memory.c: KEYS FILE..: the library under tools that watch memory, over each file: output buffers from none to more than is needed, with bytes
+ * after them that must stay as they are; and the questions, all of which are then accepted. With -DREFUSE each malloc and realloc is refused
  * in turn, over the first file, no block may be left, and the last line has to say it, after whole lines of the run. */
 #define _GNU_SOURCE
 #include "cose_gate.h"
@@ -76,7 +76,7 @@ static bytes room_of(size_t length) {
   return room;
 }
 
-/* A call with just the room that it needs: blocks of just that length, so that a tool sees each byte that is read or written beside them. */
+/* A call with just the buffers that it needs: blocks of just that length, so that a tool sees each byte that is read or written beside them. */
 static bytes exactly(int which, bytes given, bytes input, bytes *lines, uint32_t *status) {
   bytes none = room_of(0);
   cose_gate_answer needed = call(which, given, input, none, none);

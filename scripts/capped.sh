@@ -2,7 +2,7 @@
 # capped.sh [BENCH [GATE [TOKEN]]]: how much memory the programs `bench`, `cose_gate_cli` and `example_token` take, each under the least
 # heap that a small input needs and little more. They are those that `rt run` leaves in `out/` of these crates, unless others are given.
 #
-# - Heads that claim more than follows them end as bytes that are cut off, and not as refused memory: under the least heap for an empty
+# - Heads that claim more than follows them end as bytes that are cut off, and not as out-of-memory: under the least heap for an empty
 #   array or, 256 levels deep, for maps of one entry each.
 # - The gate reads 1,000,000 items under the least heap for 1,000 of them, and a message with 64 text labels under that for one with none.
 #   The streaming check reads a payload of 16 MiB under the least heap for one of 0 bytes.

@@ -6,8 +6,8 @@
 # if their subject was refused one. Of a crate or module with such tests these alone are run. Others may fail if their own preparation is
 # refused.
 # Each test is a process of its own, and its allocations are counted alone. Of each it tells how many allocations it makes (some are the
-# runtime's), and of how many the refusal was told or failed it. The status is 1 where a test that holds has failed.
-# `rt try --test --fail-alloc N` builds the tests anew for each N. Here they are built once, with a number that stands nowhere else in
+# runtime's), and of how many the refusal was told or failed it. The status is 1 if a test that holds has failed.
+# `rt try --test --fail-alloc N` builds the tests anew for each N. Here they are built once, with a number that occurs nowhere else in
 # them, their program is kept when rt is done with it, and each N takes that number's place.
 set -u
 ulimit -c 0

@@ -2,8 +2,8 @@
 # more-edits.sh [CRATE..]: tries the edits of edits/CRATE/, which the prover must refuse and which `rt ci` doesn't try, of these crates or
 # of all. It copies these crates and the libraries below them into a scratch folder, with the lines of crates.txt that name them, puts the
 # edits into must-fail/ there in place of all others, and runs `rt check` in each of these crates, since of one that isn't proved every
-# edit would be refused, and then `rt must-fail`. What `rt check` and `rt lib` keep in out/ is copied too: where a library has changed
-# since, it is built anew. It prints each edit that is not refused, and last how many were; status 1 where one is not. docs/MAINTAINING.md
+# edit would be refused, and then `rt must-fail`. What `rt check` and `rt lib` keep in out/ is copied too: if a library has changed
+# since, it is built anew. It prints each edit that is not refused, and last how many were; status 1 if one is not. docs/MAINTAINING.md
 # says when it is run.
 set -eu
 cd "$(dirname "$0")/.."

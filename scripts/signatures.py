@@ -1,6 +1,6 @@
 #!/usr/bin/env python3
-"""Writes the public signatures into each crates/*/CALLING.md, between its two marker lines, each with its clauses as they stand in the
-source. With --check it writes nothing, and says each page that isn't current: status 1 where there is one.
+"""Writes the public signatures into each crates/*/CALLING.md, between its two marker lines, each with its clauses as they are in the
+source. With --check it writes nothing, and says each page that isn't current: status 1 if there is one.
 
 A page has the free functions, the types' own methods and the traits that its crate passes on from the crates named below. By these rules it
 leaves out: implementations of traits; laws; and of builders and types with many methods those with no clause or one without a name, as
@@ -42,7 +42,7 @@ def passed_on(crate):
 
 
 def balanced(text, at):
-    """The place behind the brace that closes the one at this place."""
+    """The place after the brace that closes the one at this place."""
     depth = 0
     while True:
         depth += {"{": 1, "}": -1}.get(text[at], 0)
@@ -70,7 +70,7 @@ def function(text, at):
 
 
 def blocks(text):
-    """The functions of a source: the trait, or the head of the type's own methods, that each stands in, and where it begins."""
+    """The functions of a source: the trait, or the head of the type's own methods, that each is in, and where it begins."""
     head = ""
     for line in re.finditer(r"^.*$", text, re.M):
         if re.match(r"impl\b|pub (unsafe )?trait\b", line[0]):
@@ -95,7 +95,7 @@ def signatures(page):
     found, below = {}, set()
     for crate in PAGES[page]:
         _, modules = passed_on(crate)
-        # (of a crate below its modules are there where it is passed on as a whole, or they by name)
+        # (of a crate below its modules are there if it is passed on as a whole, or they by name)
         if crate != page and not re.search(rf"^pub use {crate}( as \w+)?;", root, re.M):
             modules &= names
         for file in sorted((CRATES / crate / "src").rglob("*.rt")):
@@ -105,7 +105,7 @@ def signatures(page):
             for head, at in blocks(text):
                 one, clauses = function(text, at)
                 name = owner_of(head) or re.match(r"fn (\w+)", one)[1]
-                # (where two crates have a function of one name, the page's own passes on the upper one)
+                # (if two crates have a function of one name, the page's own passes on the upper one)
                 if name in names - (below if not head else set()) or not head and file.stem in modules:
                     found.setdefault(head, []).append((one, clauses))
         below.update(re.match(r"fn (\w+)", it[0])[1] for it in found.get("", []))
@@ -124,7 +124,7 @@ def signatures(page):
 
 
 def part(page):
-    """What stands between a page's marker lines."""
+    """What is between a page's marker lines."""
     out, left_out = signatures(page)
     more = f"\nLeft out: {left_out} methods whose one clause has no name, as setters and looks into a value.\n" if left_out else ""
     return f"{BEGIN}\n\n```text\n" + "\n".join(out) + f"\n```\n{more}\n{END}"

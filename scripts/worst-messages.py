@@ -95,7 +95,7 @@ def main(folder, nesting=256, layers=16):
             message(18, in_layers(layers - 1, opened * (nesting - 1) + bottom), b"\xa1\x18\x63" + opened * (nesting - 3) + bottom, [payload, b"\x40"]),
             "Judged",
         )
-    # with a good tag: what the MAC covers has the protected bytes as they stand
+    # with a good tag: what the MAC covers has the protected bytes as they are
     for name, begin, unprotected in (("signatures", b"\x01\x05", nested(inside, protected, b"\x04\x42" + b"01")), ("protected", b"\x01\x05", b"\xa1\x04\x42" + b"01")):
         header = string(b"\xa1\x01\x05") if name == "signatures" else string(nested(whole, chain(whole, layers - 2), begin))
         covered = b"\x84" + head(3, 4) + b"MAC0" + header + b"\x40" + payload

@@ -18,7 +18,7 @@ static bytes room_of(size_t length) {
   return room;
 }
 
-/* The whole of a stream; NULL where it can't be read, or memory was refused. */
+/* The whole of a stream; NULL if it can't be read, or out of memory. */
 static bytes read_all(FILE *from) {
   bytes all = {malloc(1), 0};
   size_t room = 1;
@@ -54,7 +54,7 @@ static int digit_of(char digit) {
   return -1;
 }
 
-/* The bytes that hex digits stand for; NULL where they are no hex. */
+/* The bytes that hex digits stand for; NULL if they are not hex. */
 static bytes of_hex(const char *text) {
   size_t digits = strlen(text);
   bytes all = room_of(digits / 2);

@@ -133,7 +133,7 @@ class Gate:
             is_longer = a.status == NoRoomError.status and room is None
             if not is_longer and a.lines <= lines_room:
                 return self._checked(a, out.raw[: a.length], lines.raw[: a.lines].decode())
-            # What is written, or told, is longer than the room: the answer names how long.
+            # What is written, or told, is longer than the buffer: the answer names how long.
             out_room = max(out_room, a.length) if is_longer else out_room
             lines_room = max(lines_room, a.lines)
 
