@@ -89,6 +89,8 @@ impl<R: io::Read> Read for Blocks<R> {
 
     ghost left = { λ b. left_of_blocks R.remaining b };
 
+    ghost at_hand = { λ b. length (reader_buffer b.reader) };
+
     ghost failed = { λ b. total b.failed };
 
     ghost ends = { is_end };
@@ -105,6 +107,15 @@ impl<R: io::Read> Read for Blocks<R> {
                 Err(InputFault::Failed)
             }
         }
+    }
+
+    fn held(&self) -> &[u8] {
+        self.reader.buffer()
+    }
+
+    fn take(&mut self, n: usize) -> bool {
+        io::BufRead::consume(&mut self.reader, n);
+        true
     }
 
     fn is_end(error: &InputFault) -> bool
