@@ -49,6 +49,8 @@ impl<'a, R: Read> Read for Input<'a, R> {
 
     ghost left = { λ i. R.left i.reader.now };
 
+    ghost at_hand = { λ i. R.at_hand i.reader.now };
+
     ghost failed = { λ i. R.failed i.reader.now };
 
     ghost ends = { is_end };
@@ -60,6 +62,14 @@ impl<'a, R: Read> Read for Input<'a, R> {
             Ok(()) => Ok(()),
             Err(error) => Err(input_fault(R::is_end(&error))),
         }
+    }
+
+    fn held(&self) -> &[u8] {
+        self.reader.held()
+    }
+
+    fn take(&mut self, n: usize) -> bool {
+        self.reader.take(n)
     }
 
     fn is_end(error: &InputFault) -> bool
