@@ -10,6 +10,7 @@ ghost use Rattle.ciborium_value.specs.Kinds.{is_null};
 ghost use Rattle.ciborium_value.specs.View.{view};
 ghost use Rattle.ciborium_traits.specs.Back.{IsTakenBack, TakesOne};
 ghost use Rattle.ciborium_traits.specs.Reading.{bare};
+ghost use Rattle.ciborium_traits.specs.Facts.Keys.{tied_canonical, tied_character, tied_value};
 ghost use Rattle.ciborium_traits.specs.Facts.Lists.{option_kept, list_kept};
 ghost use Rattle.ciborium_traits.specs.Facts.Maps.{map_kept, map_once};
 ghost use Rattle.ciborium_traits.specs.Facts.Numbers.{unsigned_back, signed_back, wide_once, tied_unsigned, tied_signed};
@@ -301,4 +302,16 @@ impl MapKey for isize {
 
 impl MapKey for String {
     ghost written_alike = { λ x y. tied_text (string_bytes x) (string_bytes y) };
+}
+
+impl MapKey for char {
+    ghost written_alike = { tied_character };
+}
+
+impl MapKey for Value {
+    ghost written_alike = { tied_value };
+}
+
+impl MapKey for CanonicalValue {
+    ghost written_alike = { tied_canonical };
 }
