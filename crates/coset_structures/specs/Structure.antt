@@ -1,11 +1,11 @@
 -- The bytes that signatures, tags and encryptions cover (RFC 9052, sections 4.4, 5.3 and 6.3).
-use Rattle.std.specs.Prelude.{ℕ, List, [], ◌∷◌, ◌++◌, Option, Some, None, option_map, option_and_then}
+use Rattle.std.specs.Prelude.{ℕ, List, [], ◌∷◌, ◌++◌, Bool, true, Option, Some, None, option_map, option_and_then}
 use Rattle.std.specs.Borrow.{Bor}
 use Rattle.ciborium_value.specs.Tree.{bytes, text, array}
 use Rattle.ciborium_value.specs.View.{trees}
 use Rattle.ciborium_value.specs.Encoding.{enc}
-use Rattle.coset_headers.specs.Fields.{ProtectedFields}
-use Rattle.coset_headers.specs.Written.{shown}
+use Rattle.coset_headers.specs.Fields.{ProtectedFields, protected}
+use Rattle.coset_headers.specs.Written.{shown, is_empty}
 
 abbrev pub signer_part : Option (List ℕ) → List ℕ → List ℕ → List ℕ → List ℕ → List ℕ
 signer_part None context body aad payload = enc (array (trees (text context ∷ bytes body ∷ bytes aad ∷ bytes payload ∷ [])))
@@ -19,6 +19,11 @@ structure context body signer aad payload = signer_part signer context body aad 
 -- the Enc_structure (section 5.3): context, the bytes shown for the protected header and external data
 abbrev pub enc_structure : List ℕ → List ℕ → List ℕ → List ℕ
 enc_structure context body aad = enc (array (trees (text context ∷ bytes body ∷ bytes aad ∷ [])))
+
+-- the bytes shown for a protected header are there without encoding it: they were received, or there are none, as of an empty header
+abbrev pub is_at_hand : ProtectedFields → Bool
+is_at_hand (protected (Some b) h) = true
+is_at_hand (protected None h) = is_empty h
 
 -- the bytes shown for a signer, where there is one
 abbrev pub shown_signer : Option ProtectedFields → Option (Option (List ℕ))

@@ -1,13 +1,16 @@
 //! Laws of the definitions.
-ghost use Rattle.std.specs.Prelude.{◌≡◌, ◌≢◌, ◌↔◌, ℕ, ◌<◌, ◌^◌, List, length, Option, Some, None, option_map};
+ghost use Rattle.std.specs.Prelude.{◌≡◌, ◌≢◌, ◌↔◌, ℕ, ◌<◌, ◌^◌, List, length, Option, Some, None};
+ghost use Rattle.std.specs.Prelude.{option_map};
 ghost use Rattle.coset_headers.specs.Fields.{ProtectedFields};
 ghost use Rattle.coset_headers.specs.Written.{shown};
 ghost use Rattle.coset_structures.specs.declared.context.SignatureContext.{SignatureContext};
 ghost use Rattle.coset_structures.specs.declared.context.MacContext.{MacContext};
 ghost use Rattle.coset_structures.specs.declared.context.EncryptionContext.{EncryptionContext};
 ghost use Rattle.coset_structures.specs.Contexts.{signature_text, mac_text, encryption_text};
-ghost use Rattle.coset_structures.specs.Covered.{Covered, covered_bytes, CoveredFits, covered_by_sig, covered_by_mac, covered_by_enc};
-ghost use Rattle.coset_structures.specs.Structure.{sig_structure, mac_structure, encryption_structure};
+ghost use Rattle.coset_structures.specs.Covered.{Covered, covered_bytes, CoveredFits};
+ghost use Rattle.coset_structures.specs.Covered.{covered_by_sig, covered_by_mac, covered_by_enc};
+ghost use Rattle.coset_structures.specs.Structure.{sig_structure, mac_structure};
+ghost use Rattle.coset_structures.specs.Structure.{encryption_structure};
 
 pub use crate::alike::{
     encryption_contexts_compare, mac_contexts_compare, signature_contexts_compare,
@@ -24,8 +27,9 @@ pub fn structures_can_be_written()
         → sig_structure context p (Some q) aad payload ≢ None }
 {}
 
-/// Over all contexts, with and without a signer, two structures have the same bytes exactly where they have the same parts: kind, context,
-/// whether there is a signer, shown protected bytes, external data, and payload where the structure has one. So a Sig_structure is never a
+/// Over all contexts, with and without a signer, two structures have the same bytes exactly where
+/// they have the same parts: kind, context, whether there is a signer, shown protected bytes,
+/// external data, and payload where the structure has one. So a Sig_structure is never a
 /// MAC_structure, and neither is an Enc_structure. Each part has fewer than 2^64 bytes.
 pub fn one_structure()
     ensures same { (x y : Covered) → CoveredFits x → CoveredFits y

@@ -1,13 +1,15 @@
 //! How structures begin.
 ghost use Rattle.std.specs.Prelude.{◌≡◌, ◌++◌, ℕ, List, Option, None, is_some};
 ghost use Rattle.coset_structures.specs.Contexts.{signature_text, mac_text, encryption_text};
-ghost use Rattle.coset_structures.specs.Structure.{structure, enc_structure, behind_prefix, behind_enc_prefix};
+ghost use Rattle.coset_structures.specs.Structure.{structure, enc_structure, behind_prefix};
+ghost use Rattle.coset_structures.specs.Structure.{behind_enc_prefix};
 
 use crate::context::{EncryptionContext, MacContext, SignatureContext};
 
 impl SignatureContext {
-    /// How a structure of this context begins, with or without the header of a signer: the title of its array and the context's text
-    /// (RFC 9052, section 4.4). The byte strings of the protected headers, of the external data and of the payload follow.
+    /// How a structure of this context begins, with or without the header of a signer: the title of
+    /// its array and the context's text (RFC 9052, section 4.4). The byte strings of the protected
+    /// headers, of the external data and of the payload follow.
     #[tactic(auto, unfolding(ciborium_ll::specs::Title::shortest))]
     pub fn prefix(self, signer: bool) -> &'static [u8]
         ensures { (body aad payload : List ℕ) (sign : Option (List ℕ)) → is_some sign ≡ signer
@@ -41,8 +43,9 @@ impl SignatureContext {
 }
 
 impl MacContext {
-    /// How a structure of this context begins: the title of its array and the context's text (RFC 9052, section 6.3). The byte strings of
-    /// the protected header, of the external data and of the payload follow.
+    /// How a structure of this context begins: the title of its array and the context's text (RFC
+    /// 9052, section 6.3). The byte strings of the protected header, of the external data and of
+    /// the payload follow.
     #[tactic(auto, unfolding(ciborium_ll::specs::Title::shortest))]
     pub fn prefix(self) -> &'static [u8]
         ensures { (body aad payload : List ℕ)
@@ -57,8 +60,9 @@ impl MacContext {
 }
 
 impl EncryptionContext {
-    /// How a structure of this context begins: the title of its array and the context's text (RFC 9052, section 5.3). The byte strings of
-    /// the protected header and of the external data follow.
+    /// How a structure of this context begins: the title of its array and the context's text (RFC
+    /// 9052, section 5.3). The byte strings of the protected header and of the external data
+    /// follow.
     #[tactic(auto, unfolding(ciborium_ll::specs::Title::shortest))]
     pub fn prefix(self) -> &'static [u8]
         ensures { (body aad : List ℕ)

@@ -4,7 +4,7 @@ use Rattle.coset_structures.specs.Structure.{byte_string}
 use Rattle.coset_structures.proofs.structure.write.Given as goal
 
 abbrev pub invariant-loop-part : goal.invariant-loop-part
-invariant-loop-part l = record {
+invariant-loop-part g l = record {
   left : l.out.items ++ flat_map byte_string (drop l.part-index l.parts) ≡ l.fn.out.items ++ (l.prefix ++ flat_map byte_string l.parts);
   room : vec_len l.out + length (flat_map byte_string (drop l.part-index l.parts)) ≤ vec_capacity l.out;
 }
