@@ -6,6 +6,7 @@ mod begun;
 mod checks;
 mod failing;
 mod firmware;
+mod interleaved;
 mod long;
 mod memory;
 mod refused;
