@@ -17,11 +17,14 @@ use Rattle.cose_gate.specs.Gate.{Gates}
 module _ {R E W F P J : Type 0} {r : Reads R E} {w : Writes W F} {p : Reports P} {j : Judges J} {aad : List ℕ}
     {decoder : Decoder R} {out : W} {report : P} {judge : J} {decoder' : Decoder R} {out' : W} {report' : P} {judge' : J}
     {result : Result Counts (GateFault E)} where
-  abbrev By : Bounds → Type 0
-  By limits = Gates r w p j limits aad decoder out report judge decoder' out' report' judge' result
+  pub gates_usually : (l : Limits) → (nesting_of l ≡ nesting) × (layers_of l ≡ layers)
+      → Gates r w p j (within l) aad decoder out report judge decoder' out' report' judge' result
+      → Gates r w p j usual aad decoder out report judge decoder' out' report' judge' result
+  gates_usually l e g = subst (λ (limits : Bounds). Gates r w p j limits aad decoder out report judge decoder' out' report' judge' result)
+      (ap (λ (n : ℕ). plain n (layers_of l)) e.0 ∙ ap (λ (k : ℕ). plain nesting k) e.1) g
 
-  pub gates_usually : (l : Limits) → (nesting_of l ≡ nesting) × (layers_of l ≡ layers) → By (within l) → By usual
-  gates_usually l e g = subst By (ap (λ (n : ℕ). plain n (layers_of l)) e.0 ∙ ap (λ (k : ℕ). plain nesting k) e.1) g
-
-  pub gates_exactly : (l : Limits) → (nesting_of l ≡ nesting) × (layers_of l ≡ layers) → By (exact_within l) → By usual_exact
-  gates_exactly l e g = subst By (ap (λ (n : ℕ). only_exact n (layers_of l)) e.0 ∙ ap (λ (k : ℕ). only_exact nesting k) e.1) g
+  pub gates_exactly : (l : Limits) → (nesting_of l ≡ nesting) × (layers_of l ≡ layers)
+      → Gates r w p j (exact_within l) aad decoder out report judge decoder' out' report' judge' result
+      → Gates r w p j usual_exact aad decoder out report judge decoder' out' report' judge' result
+  gates_exactly l e g = subst (λ (limits : Bounds). Gates r w p j limits aad decoder out report judge decoder' out' report' judge' result)
+      (ap (λ (n : ℕ). only_exact n (layers_of l)) e.0 ∙ ap (λ (k : ℕ). only_exact nesting k) e.1) g
