@@ -28,7 +28,7 @@ pub fn show_damage<R: io::Read + Drop, P: fmt::Write>(
     writeln!(page, "item {number} at {offset}, damaged")?;
     let place = offset.saturating_add(fault.at);
     let why = fault.why;
-    if !look.secrets && may_be_keys(held) {
+    if !look.secrets && may_be_keys(alloc, held) {
         page.write_str("  not shown, as it may hold secrets of keys (--secrets shows it)\n")?;
         writeln!(page, "  fault at {place}: {why}")?;
         return Err(Stop::of_fault(fault, offset));

@@ -79,7 +79,7 @@ pub fn write_damage<R: io::Read + Drop, P: fmt::Write>(
     let offset = source.offset();
     let held = source.held();
     write!(page, "{{\"number\":{number},\"offset\":{offset}")?;
-    if !look.secrets && may_be_keys(held) {
+    if !look.secrets && may_be_keys(alloc, held) {
         let place = offset.saturating_add(fault.at);
         let why = fault.why;
         writeln!(page, ",\"fault\":\"{why}\",\"fault_offset\":{place}}}")?;

@@ -32,10 +32,16 @@ pub fn wrong_part(alloc: Global, item: &[u8]) -> Result<Option<WrongPart>, Stop>
     if parts.len() != form.parts.len().saturating_add(2) {
         return Ok(None);
     }
-    for (part, item) in form.parts.iter().zip(parts.iter().skip(2)).rev() {
-        let wrong = wrong_in(alloc, *part, item)?;
-        if wrong.is_some() {
-            return Ok(wrong);
+    for back in 1..=form.parts.len() {
+        let place = form.parts.len().saturating_sub(back);
+        if let (Some(part), Some(item)) = (
+            form.parts.get(place),
+            parts.get(place.saturating_add(2)),
+        ) {
+            let wrong = wrong_in(alloc, *part, item)?;
+            if wrong.is_some() {
+                return Ok(wrong);
+            }
         }
     }
     wrong_header(alloc, "", &parts)

@@ -178,11 +178,14 @@ fn write_no_key<P: fmt::Write>(book: &KeyBook<'_>, id: &[u8], page: &mut P) -> f
     if count == 0 {
         return page.write_str("; the set is empty");
     }
-    let mut mark = "; its ids are ";
-    for entry in book.ids().iter().take(IDS) {
-        page.write_str(mark)?;
+    let mut shown = 0usize;
+    for entry in book.ids().iter() {
+        if shown == IDS {
+            break;
+        }
+        page.write_str(if shown == 0 { "; its ids are " } else { ", " })?;
         write_id(entry.0, page)?;
-        mark = ", ";
+        shown = shown.saturating_add(1);
     }
     if count > IDS {
         let more = count.saturating_sub(IDS);

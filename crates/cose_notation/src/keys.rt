@@ -4,7 +4,7 @@ use crate::line::{begin_line, write_len};
 use crate::look::Look;
 use crate::names::{algorithm, curve, key_operation, key_type};
 use crate::parts::{Members, entries, header_of, integer, is_bytes, is_label, items, joined};
-use cbor_diag::{NotWritten, write_item};
+use cbor_diag::{Event, NotWritten, Place, Step, Walk, Why, write_item};
 use ciborium_ll::Header;
 use cose_iana::{EnumI64, KeyType};
 use std::alloc::Global;
@@ -51,20 +51,30 @@ pub fn keys_in(alloc: Global, item: &[u8]) -> Result<Option<Keys>, NotWritten> {
     Ok(None)
 }
 
-/// Whether the front of an item is as that of a key or of a set of keys: a map, or an array that begins with a map.
-pub fn may_be_keys(front: &[u8]) -> bool {
-    match header_of(front) {
-        Some(Header::Map(_)) => true,
-        Some(Header::Array(_)) => matches!(first_in(front), Some(Header::Map(_))),
-        _ => false,
+/// Whether the front of an item may hold secrets of keys: it is an array or a map, and in it a map has a label below 0. So it is if memory
+/// for the walk is refused.
+pub fn may_be_keys(alloc: Global, front: &[u8]) -> bool {
+    if !matches!(header_of(front), Some(Header::Array(_) | Header::Map(_))) {
+        return false;
     }
+    let mut walk = Walk::new(alloc);
+    for _ in 0..u64::MAX {
+        match walk.step(front) {
+            Ok(step) if is_label_below_zero(step) => return true,
+            Ok(_) => {}
+            Err(fault) => return fault.why == Why::Memory,
+        }
+        if walk.is_done() {
+            break;
+        }
+    }
+    false
 }
 
-/// The head of the first item of an array.
-fn first_in(front: &[u8]) -> Option<Header> {
-    match cbor_diag::head_of(front) {
-        Ok(head) => header_of(front.get(head.len..).unwrap_or(&[])),
-        Err(_) => None,
+fn is_label_below_zero(step: Step) -> bool {
+    match step.place {
+        Place::Key { .. } => matches!(step.event, Event::Leaf(Header::Negative(_))),
+        _ => false,
     }
 }
 
