@@ -1,4 +1,4 @@
--- Where copies halt, part by part.
+-- If copies halt, part by part.
 use Rattle.std.proofs.Common.{◌≡◌, ◌≢◌, ◌≤◌, ◌<◌, ◌+◌, ◌^◌, ℕ, zero, suc, Bool, List, [], ◌∷◌, ◌++◌, inl, inr, length, min, Option, None, Some, refl, ap, sym, ◌∙◌, subst, arith, append_assoc, append-nil, length-append}
 use Rattle.std.specs.Str.{IsUtf8}
 use Rattle.std.specs.Io.KnownBytes.{Consumes, Appends}
@@ -39,7 +39,7 @@ starts_taken None m a c = tt
 starts_taken (Some xs) None a c = absurd c
 starts_taken (Some xs) (Some ys) a c = (ys, c)
 
--- what halts behind a part that was copied whole
+-- what halts after a part that was copied whole
 module _ (S S' : Halt → List ℕ → List ℕ → Type 0) (a y : List ℕ) (d : ℕ) (f : (h : Halt) (b x : List ℕ) → S h b x → S' (behind d h) (a ++ b) (y ++ x)) where
   stood_then : (l m : Option (List ℕ)) (i i' j : ℕ) (w w₁ w' : Option (List ℕ)) → Consumes l m a → i' ≡ i + length a → Appends w w₁ y → Stood S m i' j w₁ w' → Stood S' l i j w w'
   stood_then l m i i' j w w₁ w' c g p s = record {
@@ -388,7 +388,7 @@ module _ (k : Option ℕ → Header) (P : List ℕ → Type 0) (kept : ℕ) wher
   none_behind (damaged p) = ap damaged (omega arith)
   none_behind (refused last) = refl
 
-  -- a fault behind the string's head
+  -- a fault after the string's head
   pub whole_halts : {E F : Type 0} (ends : E → Bool) (e : RecodeError E F) (len : Option ℕ) (n : ℕ) → len ≡ Some n → (l l' : Option (List ℕ)) (i j : ℕ) (w w₁ w' : Option (List ℕ)) (long : Type 0)
       → Appends w w₁ (title_of (k len)) → Halts ends (BodyHalt P kept n) long i l l' i j w₁ w' e → Halts ends (RestHalt k P kept len) long i l l' i j w w' e
   whole_halts ends e len n same l l' i j w w₁ w' long p h =
@@ -437,7 +437,7 @@ text_halts ends e len h same l m l' i i' j w w' long t s =
     halts_then (RestHalt Text IsUtf8 3 len) CopyHalt t.bytes [] (length t.bytes) (λ h b x r. in_text (behind (length t.bytes) h) (t.bytes ++ b) x (string_halt Text IsUtf8 3 len t.bytes t' h b x r))
     ends e l m l' i i' j i i' w w w' long long t.taken t.grown t.grown (Appends-nil w) (λ x. x) s
 
--- a fault where a head was to come
+-- a fault if a head was to come
 pub pull_halts : {E : Type 0} (F : Type 0) (ends : E → Bool) (e : Error E) (l l' : Option (List ℕ)) (i j room : ℕ) (w : Option (List ℕ)) → i ≤ j
     → Tells ends (Ends l l' i j) (λ p. (p ≡ i) × Moves l l' i j IsBadByte) (2 ^ 64 ≤ i + 9) e → TitleHalt l l' i j e
     → Halts {F = F} ends CopyHalt (2 ^ 64 ≤ j + (9 + room)) i l l' i j w w (Read e)
@@ -467,7 +467,7 @@ one_refused ends e h l l' i j w w' long t f g q = (
   q,
 )
 
--- a fault behind so many copies
+-- a fault after so many copies
 pub copies_halt : {E F : Type 0} (ends : E → Bool) (e : RecodeError E F) (n count : ℕ) → count < n → (l m l' : Option (List ℕ)) (i i' j : ℕ) (w w₁ w' : Option (List ℕ)) (long long' : Type 0)
     → Makes (Copies count) l m i i' w w₁ → (long → long') → Halts ends CopyHalt long i' m l' i' j w₁ w' e → Halts ends (CopiesHalt n) long' i l l' i j w w' e
 copies_halt ends e n count few l m l' i i' j w w₁ w' long long' a more s =

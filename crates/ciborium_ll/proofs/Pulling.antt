@@ -81,7 +81,7 @@ waiting_taken left read waiting after h is none within fits =
     let within' : length (title_of h) ≤ read = rw is at within in
     rw (is, none) (waits left read h within' fits)
 
--- the place behind a title lies at least a shortest title in
+-- the place after a title lies at least a shortest title in
 pub title_within : (left left' : Option (List ℕ)) (place place' : ℕ) (h : Header) → Moves left left' place place' (λ b. Title b h) → length (title_of h) ≤ place'
 title_within left left' place place' h t =
     let short = shortest_first t.bytes h t.has in
@@ -114,7 +114,7 @@ halts_before ends left left' read read' short long Q Waiting t r f same = t
 rem_twice : (first : ℕ) → bytes_after (first % 32) ≡ bytes_after first
 rem_twice first = let e : (first % 32) % 32 ≡ first % 32 = omega arith in rw e refl
 
--- a fault behind it
+-- a fault after it
 pub halts_behind : {E : Type 0} (ends : E → Bool) (left left₁ left₂ : Option (List ℕ)) (read read₁ read₂ first : ℕ) (bytes : List ℕ) (short long Q : Type 0) (e : Error E)
     → bytes ≡ first ∷ [] → Consumes left left₁ bytes → read₁ ≡ read + 1 → 0 < bytes_after (first % 32)
     → Tells ends short (λ p. ⊥) long e → Refuses e Q → (Q → left₂ ≡ left₁) → read₂ ≡ read₁ → TitleHalt left left₂ read read₂ e
@@ -143,7 +143,7 @@ hand_taken (Some xs) left' n held front drops within =
     taken : (xs : List ℕ) → take n (take (length held) xs) ≡ take n xs
     taken xs = take-take n (length held) xs within
 
--- the eight bytes at hand behind the first
+-- the eight bytes at hand after the first
 abbrev pub eight_of : List ℕ → List ℕ
 eight_of held = get_or held 1 0 ∷ get_or held 2 0 ∷ get_or held 3 0 ∷ get_or held 4 0 ∷ get_or held 5 0 ∷ get_or held 6 0 ∷ get_or held 7 0 ∷ get_or held 8 0 ∷ []
 

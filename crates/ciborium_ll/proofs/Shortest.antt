@@ -46,7 +46,7 @@ title_of_is (Float (Single n)) fits = (to_be_bytes w32 n, refl, four refl fits r
 title_of_is (Float (Double n)) fits = (to_be_bytes w64 n, refl, eight refl fits refl)
 title_of_is Break fits = refl
 
--- the shortest title is no longer than k, where k leaves room for the number
+-- the shortest title is no longer than k, if k leaves space for the number
 short : (major n k : ℕ) → 1 ≤ k → (24 ≤ n → 2 ≤ k) → (2 ^ 8 ≤ n → 3 ≤ k) → (2 ^ 16 ≤ n → 5 ≤ k) → (2 ^ 32 ≤ n → 9 ≤ k) → length (shortest major n) ≤ k
 unfolding shortest
 short major n k a b c d e =
@@ -129,7 +129,7 @@ needed major info n bytes (eight is lt e) a b c d =
     cond_both (nat_lt n (2 ^ 16)) _ _ P (λ t. absurd (let h : n < 2 ^ 16 = ltb-true n (2 ^ 16) t in omega arith)) (λ _.
     cond_both (nat_lt n (2 ^ 32)) _ _ P (λ t. absurd (let h : n < 2 ^ 32 = ltb-true n (2 ^ 32) t in omega arith)) (λ _. rw (e, is) refl))))
 
--- a title that leaves room for its number is no shortest one
+-- a title that leaves space for its number is no shortest one
 not_needed : (major n k : ℕ) (b : List ℕ) → length (shortest major n) ≤ k → k < length b → b ≡ shortest major n → ⊥
 not_needed major n k b short long e = let l : length b ≡ length (shortest major n) = ap length e in omega arith
 

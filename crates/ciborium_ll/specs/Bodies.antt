@@ -72,8 +72,8 @@ Fills old room piece = 4 ≤ room → (0 < length piece) × (min room (bytes_of 
 abbrev pub Stays : Body → Body → ℕ → ℕ → Type 0
 Stays old new place place' = (new ≡ old) × (place' ≡ place)
 
--- what a fault in a text's body tells: an end; a text that is no UTF-8, whose segment's place stays; an offset that would grow
--- too large; a header that waits
+-- what a fault in a text's body tells: an end; a text that is no UTF-8, whose segment's place
+-- stays; an offset that would grow too large; a header that waits
 abbrev pub TextFault : {E : Type 0} → (E → Bool) → Body → Body → ℕ → Stage → Stage
     → Option (List ℕ) → Option (List ℕ) → ℕ → ℕ → Type 0 → Error E → Type 0
 TextFault ends old new room stage stage' left left' place place' waits (Io e) =
@@ -89,7 +89,8 @@ TextTells ends body body' room old new =
     TextFault ends body body' room old.stage new.stage old.decoder.left new.decoder.left old.decoder.offset new.decoder.offset
     ((old.decoder.waiting ≢ None) × (new.decoder ≡ old.decoder))
 
--- where that fault leaves the string and the body: as they were, but that a text that is no UTF-8 makes the string stuck
+-- where that fault leaves the string and the body: as they were, but that a text that is no UTF-8
+-- makes the string stuck
 abbrev pub TextStops : {E : Type 0} → Body → Body → Progress → Progress → Error E → Type 0
 TextStops body body' old new (Io e) = new.stage ≡ old.stage
 TextStops body body' old new (Syntax p) =

@@ -16,12 +16,12 @@ use Rattle.ciborium_ll.specs.Sent.{Sides}
 use Rattle.ciborium_ll.specs.Stages.{Leads, Parted, IsStray}
 use Rattle.ciborium_ll.specs.declared.stage.Stage.TheVariants.{Inside}
 
--- what stands behind an open string's head, and a copy of it
+-- what is after an open string's head, and a copy of it
 abbrev pub BodiesCopy : (Option ℕ → Header) → (List ℕ → Type 0) → List ℕ → List ℕ → Type 0
 BodiesCopy k P b x = (bodies : List (List ℕ)) × Closing k P 1 b bodies × (x ≡ enc_pieces k bodies ++ 255 ∷ [])
 
--- what stands behind a string's head, and the copy of the whole: a definite string stays definite, and an open one is open with
--- one definite string for each body
+-- what is after a string's head, and the copy of the whole: a definite string stays definite, and
+-- an open one is open with one definite string for each body
 abbrev pub RestCopy : (Option ℕ → Header) → (List ℕ → Type 0) → Option ℕ → List ℕ → List ℕ → Type 0
 RestCopy k P (Some n) b x = (length b ≡ n) × P b × (x ≡ enc_whole k b)
 RestCopy k P None b x = (bodies : List (List ℕ)) × Closing k P 1 b bodies × (x ≡ enc_open k bodies)
@@ -54,8 +54,9 @@ pub record Makes (Q : List ℕ → List ℕ → Type 0) (left left' : Option (Li
   pub grown : place' ≡ place + length bytes
   pub wrote : Appends w w' copy
 
--- Where a copy halts, and why: the reader failed or the offset would grow too large; these bytes alone are left, too few for what is
--- due; a fault that begins behind so many bytes; the writer refused this text.
+-- Where a copy halts, and why: the reader failed or the offset would grow too large; these bytes
+-- alone are left, too few for what is due; a fault that begins after so many bytes; the writer
+-- refused this text.
 pub data Halt : Type 0 where
   paused : Halt
   ended : List ℕ → Halt
@@ -82,7 +83,7 @@ BodyHalt P kept n (ended rest) b x = BodyBegun kept n b x × (length b + length 
 BodyHalt P kept n (damaged p) b x = (p ≡ 0) × (length b ≤ n) × ((y : List ℕ) × (b ≡ x ++ y)) × ((r : List ℕ) → length b + length r ≡ n → ¬ P (b ++ r))
 BodyHalt P kept n (refused last) b x = BodyBegun kept n b (x ++ last)
 
--- behind an open string's head, before the next head that it holds: whole bodies were copied
+-- after an open string's head, before the next head that it holds: whole bodies were copied
 pub record Between (k : Option ℕ → Header) (P : List ℕ → Type 0) (b x : List ℕ) : Type 0 where
   pub opens : ℕ
   pub bodies : List (List ℕ)
@@ -90,7 +91,7 @@ pub record Between (k : Option ℕ → Header) (P : List ℕ → Type 0) (b x : 
   pub leads : Leads (Closing k P 1) (Closing k P opens) b bodies
   pub wrote : x ≡ enc_pieces k bodies
 
--- behind the head of a body in it, which stands behind `before`
+-- after the head of a body in it, which is after `before`
 pub record BodyDue (k : Option ℕ → Header) (P : List ℕ → Type 0) (len : ℕ) (before b x : List ℕ) : Type 0 where
   pub head : List ℕ
   pub opens : ℕ
@@ -134,14 +135,14 @@ pub record HeadRefused (k : Option ℕ → Header) (P : List ℕ → Type 0) (la
 abbrev pub BreakRefused : (Option ℕ → Header) → (List ℕ → Type 0) → List ℕ → List ℕ → List ℕ → Type 0
 BreakRefused k P last b x = (bodies : List (List ℕ)) × Closing k P 1 b bodies × (x ≡ enc_pieces k bodies) × (last ≡ 255 ∷ [])
 
--- behind an open string's head
+-- after an open string's head
 abbrev pub OpenHalt : (Option ℕ → Header) → (List ℕ → Type 0) → ℕ → Halt → List ℕ → List ℕ → Type 0
 OpenHalt k P kept paused b x = Between k P b x ⊎ InBody k P kept paused b x
 OpenHalt k P kept (ended rest) b x = (Between k P b x × IsCut rest) ⊎ InBody k P kept (ended rest) b x
 OpenHalt k P kept (damaged p) b x = Strayed k P p b x ⊎ InBody k P kept (damaged p) b x
 OpenHalt k P kept (refused last) b x = (HeadRefused k P last b x ⊎ BreakRefused k P last b x) ⊎ InBody k P kept (refused last) b x
 
--- behind a string's head, with the copy of that head
+-- after a string's head, with the copy of that head
 abbrev pub HeadHalt : Header → Halt → List ℕ → List ℕ → Type 0
 HeadHalt head paused b x = ⊥
 HeadHalt head (ended rest) b x = ⊥
@@ -202,7 +203,8 @@ pub record Stopped (S : Halt → List ℕ → List ℕ → Type 0) (h : Halt) (l
   pub grown : place' ≡ place + length bytes
   pub wrote : Appends w w' text
 
--- the same, before a read that failed, behind no more than the first byte of a title; what that read took isn't known
+-- the same, before a read that failed, after no more than the first byte of a title; what that read
+-- took isn't known
 pub record Stood (S : Halt → List ℕ → List ℕ → Type 0) (left : Option (List ℕ)) (place place' : ℕ) (w w' : Option (List ℕ)) : Type 0 where
   pub bytes : List ℕ
   pub text : List ℕ
@@ -239,8 +241,8 @@ writer_failures (Ok x) n = n
 writer_failures (Err (Read e)) n = n
 writer_failures (Err (Write f)) n = n + 1
 
--- the same, of what is seen of both sides; places count from `start`, or from where the copy began, and the offset could pass
--- `usize::MAX` within `room` bytes
+-- the same, of what is seen of both sides; places count from `start`, or from where the copy began,
+-- and the offset could pass `usize::MAX` within `room` bytes
 abbrev pub Copied : (List ℕ → List ℕ → Type 0) → Sides → Sides → Type 0
 Copied Q old new = Makes Q old.from.left new.from.left old.from.offset new.from.offset old.to.written new.to.written
 
@@ -251,7 +253,8 @@ HaltedAt ends S room start old new =
 abbrev pub Halted : {E F : Type 0} → (E → Bool) → (Halt → List ℕ → List ℕ → Type 0) → ℕ → Sides → Sides → RecodeError E F → Type 0
 Halted ends S room old new = HaltedAt ends S room old.from.offset old new
 
--- every call: failures are counted exactly where the answer is one, both devices stay the same, and no header waits where none did
+-- every call: failures are counted exactly when the answer is one, both devices stay the same, and
+-- no header waits if none did
 pub record CopySteady {T E F : Type 0} (ends : E → Bool) (answer : Result T (RecodeError E F)) (old new : Sides) : Type 0 where
   pub read_failed : new.from.failed ≡ reader_failures ends answer old.from.failed
   pub write_failed : new.to.failed ≡ writer_failures answer old.to.failed

@@ -1,5 +1,5 @@
--- Strings of definite and of indefinite length, and the bodies that they hold (RFC 8949, section 3.2.3).
--- An open string may stand inside an open string of its kind, to any depth.
+-- Strings of definite and of indefinite length, and the bodies that they hold (RFC 8949, section
+-- 3.2.3). An open string may stand inside an open string of its kind, to any depth.
 use Rattle.std.specs.Prelude.{◌≡◌, ◌≢◌, ℕ, zero, suc, ◌+◌, List, [], ◌∷◌, ◌++◌, length, Option, None, Some}
 use Rattle.ciborium_ll.specs.declared.hdr.Header.{Header}
 use Rattle.ciborium_ll.specs.declared.hdr.Header.TheVariants.{Bytes, Text, Break}
@@ -14,8 +14,8 @@ joined (x ∷ xs) = x ++ joined xs
 abbrev pub Any : List ℕ → Type 0
 Any b = Unit {0}
 
--- `b` is a string of the kind `k` with these bodies, each of which has P: a definite one has one body, and an open one
--- holds strings of its kind up to its break
+-- `b` is a string of the kind `k` with these bodies, each of which has P: a definite one has one
+-- body, and an open one holds strings of its kind up to its break
 mutual
   pub data Frame (k : Option ℕ → Header) (P : List ℕ → Type 0) : List ℕ → List (List ℕ) → Type 0 where
     whole : (b body title : List ℕ) → Title title (k (Some (length body))) → P body → b ≡ title ++ body → Frame k P b (body ∷ [])
@@ -26,7 +26,8 @@ mutual
     no_frames : Frames k P [] []
     frame_more : (a b : List ℕ) (xs ys : List (List ℕ)) → Frame k P a xs → Frames k P b ys → Frames k P (a ++ b) (xs ++ ys)
 
--- what is left of n open strings, each inside the next: the innermost has strings of its kind up to its break, and so on
+-- what is left of n open strings, each inside the next: the innermost has strings of its kind up to
+-- its break, and so on
 abbrev pub Closing : (Option ℕ → Header) → (List ℕ → Type 0) → ℕ → List ℕ → List (List ℕ) → Type 0
 Closing k P zero b bodies = (b ≡ []) × (bodies ≡ [])
 Closing k P (suc n) b bodies =

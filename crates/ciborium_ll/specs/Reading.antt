@@ -19,29 +19,32 @@ abbrev pub Starts : Option (List ℕ) → List ℕ → Type 0
 Starts None bytes = Unit {0}
 Starts (Some xs) bytes = (rest : List ℕ) × (xs ≡ bytes ++ rest)
 
--- the reads that gave something gave bytes that have P, and the place has grown by their count; a fault came then, and it is open
--- what is left behind it
+-- the reads that gave something gave bytes that have P, and the place has grown by their count; a
+-- fault came then, and it is open what is left after it
 pub record Stops (left : Option (List ℕ)) (place place' : ℕ) (P : List ℕ → Type 0) : Type 0 where
   pub bytes : List ℕ
   pub has : P bytes
   pub there : Starts left bytes
   pub grown : place' ≡ place + length bytes
 
--- what a fault of the decoder tells: an end, a syntax fault at a place, and an offset that would grow too large
+-- what a fault of the decoder tells: an end, a syntax fault at a place, and an offset that would
+-- grow too large
 abbrev pub Tells : {E : Type 0} → (E → Bool) → Type 0 → (ℕ → Type 0) → Type 0 → Error E → Type 0
 Tells ends cut syntax long (Io e) = IsTrue (ends e) → cut
 Tells ends cut syntax long (Syntax p) = syntax p
 Tells ends cut syntax long TooLong = long
 Tells ends cut syntax long Waiting = ⊥
 
--- what a fault of a raw read tells: an end, an offset that would grow too large, and a header that waits
+-- what a fault of a raw read tells: an end, an offset that would grow too large, and a header that
+-- waits
 abbrev pub RawFault : {E : Type 0} → (E → Bool) → Type 0 → Type 0 → Type 0 → Error E → Type 0
 RawFault ends short long waits (Io e) = IsTrue (ends e) → short
 RawFault ends short long waits (Syntax p) = ⊥
 RawFault ends short long waits TooLong = long
 RawFault ends short long waits Waiting = waits
 
--- Q holds where the answer is a refusal before any read: the offset would grow too large, or a header waits
+-- Q holds if the answer is a refusal before any read: the offset would grow too large, or a header
+-- waits
 abbrev pub Refuses : {E : Type 0} → Error E → Type 0 → Type 0
 Refuses (Io e) Q = Unit {0}
 Refuses (Syntax p) Q = Unit {0}
@@ -76,8 +79,8 @@ due left waiting = prepend_known (waiting_title waiting) left
 abbrev pub place : ℕ → Option Header → ℕ
 place read waiting = read - length (waiting_title waiting)
 
--- what an end of the bytes tells of those that were to come: it came inside a title or before it, and the place has grown where one
--- was left
+-- what an end of the bytes tells of those that were to come: it came inside a title or before it,
+-- and the place has grown where one was left
 abbrev pub Ends : Option (List ℕ) → Option (List ℕ) → ℕ → ℕ → Type 0
 Ends None new place place' = Unit {0}
 Ends (Some xs) new place place' = IsCut xs × (place' ≡ place + min 1 (length xs)) × (xs ≡ [] → new ≡ Some [])
@@ -92,8 +95,8 @@ IsTitleStart [] = Unit {0}
 IsTitleStart (first ∷ []) = 0 < bytes_after first
 IsTitleStart (first ∷ second ∷ rest) = ⊥
 
--- where a fault leaves a decoder that was to take a title: it took no more than the beginning of one, and where it refused to read
--- on it lost nothing
+-- where a fault leaves a decoder that was to take a title: it took no more than the beginning of
+-- one, and if it refused to read on it lost nothing
 abbrev pub TitleHalt : {E : Type 0} → Option (List ℕ) → Option (List ℕ) → ℕ → ℕ → Error E → Type 0
 TitleHalt left left' place place' (Io e) = Stops left place place' IsTitleStart
 TitleHalt left left' place place' (Syntax p) = Unit {0}

@@ -5,8 +5,9 @@ use Rattle.ciborium_ll.specs.declared.hdr.Header.{Header}
 use Rattle.ciborium_ll.specs.declared.hdr.Error.{Error}
 use Rattle.ciborium_ll.specs.Reading.{Moves, Tells, RawFault, TitleHalt, Ends, IsBadByte, failures}
 
--- what is seen of a decoder: the bytes to come, with the shortest title of a header that waits; the place of the next title; how
--- often the reader has failed; which references it goes through; the header that waits
+-- what is seen of a decoder: the bytes to come, with the shortest title of a header that waits; the
+-- place of the next title; how often the reader has failed; which references it goes through; the
+-- header that waits
 pub record Seen : Type 0 where
   pub left : Option (List ℕ)
   pub offset : ℕ
@@ -18,7 +19,8 @@ pub record Seen : Type 0 where
 abbrev pub Takes : Seen → Seen → (List ℕ → Type 0) → Type 0
 Takes old new P = Moves old.left new.left old.offset new.offset P
 
--- every call: a failure is counted exactly where the answer is one, the reader stays the same, and no header waits where none did
+-- every call: a failure is counted exactly when the answer is one, the reader stays the same, and
+-- no header waits if none did
 pub record Steady {T E : Type 0} (ends : E → Bool) (answer : Result T (Error E)) (old new : Seen) : Type 0 where
   pub failed : new.failed ≡ failures ends answer old.failed
   pub handle : new.handle ≡ old.handle

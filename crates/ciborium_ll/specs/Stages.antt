@@ -1,4 +1,5 @@
--- Strings that are read in pieces (RFC 8949, section 3.2.3): how far one has been read, and what its rest may be.
+-- Strings that are read in pieces (RFC 8949, section 3.2.3): how far one has been read, and what
+-- its rest may be.
 use Rattle.std.specs.Prelude.{◌≡◌, ◌≢◌, ◌⊎◌, ℕ, ◌+◌, ◌-◌, ◌<◌, ◌≤◌, ◌^◌, Bool, IsTrue, List, [], ◌∷◌, ◌++◌, length, Option, None, Some}
 use Rattle.ciborium_ll.specs.Title.{Title, IsCut}
 use Rattle.ciborium_ll.specs.Framing.{Closing}
@@ -19,12 +20,13 @@ pub record Progress : Type 0 where
 abbrev pub at : Seen → Stage → Progress
 at seen stage = record { decoder = seen; stage = stage }
 
--- the stage behind the head of a string
+-- the stage after the head of a string
 abbrev pub stage_of : Option ℕ → Stage
 stage_of None = Inside 1
 stage_of (Some n) = One n
 
--- `b` is the rest of a string, with its bodies: one body of n bytes, what closes n open strings, or nothing where a fault was met
+-- `b` is the rest of a string, with its bodies: one body of n bytes, what closes n open strings, or
+-- nothing if a fault was met
 abbrev pub Rest : (Option ℕ → Header) → (List ℕ → Type 0) → Stage → List ℕ → List (List ℕ) → Type 0
 Rest k P (One n) b bodies = (length b ≡ n) × P b × (bodies ≡ b ∷ [])
 Rest k P (Inside n) b bodies = Closing k P n b bodies
@@ -41,7 +43,8 @@ pub record Parted (k : Option ℕ → Header) (P : List ℕ → Type 0) (len : �
   pub whole : b ≡ body ++ rest
   pub all : bodies ≡ body ∷ more
 
--- `b` is `front` and then bytes that are New, with which `l` begins too; `given` are the bodies up to there
+-- `b` is `front` and then bytes that are New, with which `l` begins too; `given` are the bodies up
+-- to there
 pub record Behind (New : List ℕ → List (List ℕ) → Type 0) (front : List ℕ)
     (given : List (List ℕ)) (l b after : List ℕ) (bodies : List (List ℕ)) : Type 0 where
   pub rest : List ℕ
@@ -51,8 +54,8 @@ pub record Behind (New : List ℕ → List (List ℕ) → Type 0) (front : List 
   pub left : l ≡ rest ++ after
   pub all : bodies ≡ given ++ more
 
--- `front`, with the bodies `given` in it, leads from Old to New: it makes what is New Old, and what is Old and goes on as `front`
--- does is `front` and then what is New
+-- `front`, with the bodies `given` in it, leads from Old to New: it makes what is New Old, and what
+-- is Old and goes on as `front` does is `front` and then what is New
 pub record Leads (Old New : List ℕ → List (List ℕ) → Type 0) (front : List ℕ) (given : List (List ℕ)) : Type 0 where
   pub there : (b : List ℕ) (more : List (List ℕ)) → New b more → Old (front ++ b) (given ++ more)
   pub back : (l b after : List ℕ) (bodies : List (List ℕ))
@@ -65,7 +68,7 @@ Passes k P old new front = Leads (Rest k P old) (Rest k P new) front []
 abbrev pub Reaches : (Option ℕ → Header) → (List ℕ → Type 0) → Stage → ℕ → Stage → List ℕ → Type 0
 Reaches k P old len new front = Leads (Rest k P old) (Parted k P len new) front []
 
--- the segment of that body begins at `start`: with its head, or where a definite string's body does
+-- the segment of that body begins at `start`: with its head, or if a definite string's body does
 abbrev pub StartsAt : (Option ℕ → Header) → ℕ → ℕ → ℕ → List ℕ → Type 0
 StartsAt k place len start front =
     ((front ≡ []) × (start ≡ place))
@@ -75,13 +78,13 @@ StartsAt k place len start front =
 abbrev pub IsStray : (Option ℕ → Header) → List ℕ → Type 0
 IsStray k b = IsBadByte b ⊎ ((h : Header) × Title b h × (h ≢ Break) × ((o : Option ℕ) → h ≢ k o))
 
--- the bytes go up to the end of a stray head, which stands at p
+-- the bytes go up to the end of a stray head, which is at p
 abbrev pub Strays : (Option ℕ → Header) → (List ℕ → Type 0) → Stage → ℕ → ℕ → List ℕ → Type 0
 Strays k P old place p b =
     (front : List ℕ) × (title : List ℕ) × (n : ℕ) × (0 < n) × Passes k P old (Inside n) front × IsStray k title × (b ≡ front ++ title)
     × (p ≡ place + length front)
 
--- the bytes end before a head, or in one, where a string is open
+-- the bytes end before a head, or in one, if a string is open
 abbrev pub EndsInside : (Option ℕ → Header) → (List ℕ → Type 0) → Stage → Option (List ℕ) → Type 0
 EndsInside k P old None = Unit {0}
 EndsInside k P old (Some xs) =
@@ -100,8 +103,8 @@ stage_after depth (Syntax p) = Stuck p
 stage_after depth TooLong = Inside depth
 stage_after depth Waiting = Inside depth
 
--- what a fault on the way to a body tells: an end inside an open string; a stray head, whose place stays; an offset that would
--- grow too large, or more open strings than `usize` counts
+-- what a fault on the way to a body tells: an end inside an open string; a stray head, whose place
+-- stays; an offset that would grow too large, or more open strings than `usize` counts
 abbrev pub StageFault : {E : Type 0} → (E → Bool) → (Option ℕ → Header) → (List ℕ → Type 0) → Stage → Stage
     → Option (List ℕ) → Option (List ℕ) → ℕ → ℕ → Error E → Type 0
 StageFault ends k P old new left left' place place' (Io e) = IsTrue (ends e) → EndsInside k P old left
@@ -114,13 +117,15 @@ abbrev pub StageTells : {E : Type 0} → (E → Bool) → (Option ℕ → Header
 StageTells ends k P old new =
     StageFault ends k P old.stage new.stage old.decoder.left new.decoder.left old.decoder.offset new.decoder.offset
 
--- `b` are titles behind which a string is open, as many as `new` says, and then no more than the beginning of a title
+-- `b` are titles after which a string is open, as many as `new` says, and then no more than the
+-- beginning of a title
 abbrev pub StaysOpen : (Option ℕ → Header) → (List ℕ → Type 0) → Stage → Stage → List ℕ → Type 0
 StaysOpen k P old new b =
     (front : List ℕ) × (last : List ℕ) × (n : ℕ) × (0 < n) × (new ≡ Inside n) × Passes k P old (Inside n) front
     × IsTitleStart last × (b ≡ front ++ last)
 
--- where a fault leaves a string that was on the way to a body: as far open as the titles say that were taken
+-- where a fault leaves a string that was on the way to a body: as far open as the titles say that
+-- were taken
 abbrev pub StageHalt : {E : Type 0} → (Option ℕ → Header) → (List ℕ → Type 0) → Stage → Stage
     → Option (List ℕ) → Option (List ℕ) → ℕ → ℕ → Error E → Type 0
 StageHalt k P old new left left' place place' (Io e) = Stops left place place' (StaysOpen k P old new)

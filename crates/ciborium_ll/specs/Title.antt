@@ -1,12 +1,14 @@
--- Titles: the heads of CBOR items (RFC 8949, section 3; the two-byte simple values below 32 of section 3.3 count as titles here).
+-- Titles: the heads of CBOR items (RFC 8949, section 3; the two-byte simple values below 32 of
+-- section 3.3 count as titles here).
 use Rattle.std.specs.Prelude.{◌≡◌, ℕ, ◌+◌, ◌*◌, ◌^◌, ◌<◌, ◌≤◌, ◌%◌, ◌⊎◌, List, [], ◌∷◌, ◌++◌, length, Option, None, Some, if◌then◌else◌, nat_lt, nat_le, nat_eq, Bool, true, MatchBool, ◌||◌}
 use Rattle.std.specs.Int.{w16, w32, w64, to_be_bytes}
 use Rattle.ciborium_ll.specs.declared.hdr.Float.TheVariants.{Half, Single, Double}
 use Rattle.ciborium_ll.specs.declared.hdr.Header.{Header}
 use Rattle.ciborium_ll.specs.declared.hdr.Header.TheVariants.{Positive, Negative, Float, Simple, Tag, Break, Bytes, Text, Array, Map}
 
--- The number n under additional information info, with the bytes after the first: below 24 the information is the number,
--- and 24 to 27 say that 1, 2, 4 or 8 bytes of it follow, the most significant first.
+-- The number n under additional information info, with the bytes after the first: below 24 the
+-- information is the number, and 24 to 27 say that 1, 2, 4 or 8 bytes of it follow, the most
+-- significant first.
 pub data NumberAt (info : ℕ) (bytes : List ℕ) (n : ℕ) : Type 0 where
   direct : info < 24 → n ≡ info → bytes ≡ [] → NumberAt info bytes n
   one : info ≡ 24 → n < 2 ^ 8 → bytes ≡ n ∷ [] → NumberAt info bytes n
@@ -30,7 +32,8 @@ abbrev pub Sized : ℕ → List ℕ → Option ℕ → Type 0
 Sized major b None = b ≡ first_byte major 31 ∷ []
 Sized major b (Some n) = (n < 2 ^ 64) × Numbered major b n
 
--- b is a head with this header; a list of bytes has at most one, and a header may have several heads
+-- b is a head with this header; a list of bytes has at most one, and a header may have several
+-- heads
 abbrev pub Title : List ℕ → Header → Type 0
 Title b (Positive n) = Numbered 0 b n
 Title b (Negative n) = Numbered 1 b n
@@ -51,7 +54,8 @@ pub record Begins (b : List ℕ) (h : Header) (rest : List ℕ) : Type 0 where
   pub is_title : Title title h
   pub whole : b ≡ title ++ rest
 
--- the 27 first bytes of no title: additional information 28 to 30, and 31 under major types 0, 1 and 6
+-- the 27 first bytes of no title: additional information 28 to 30, and 31 under major types 0, 1
+-- and 6
 abbrev pub IsBadFirst : ℕ → Type 0
 IsBadFirst first =
     (major : ℕ) × (info : ℕ) × (first ≡ first_byte major info) × (major < 8)
@@ -122,7 +126,8 @@ FitsHeader Break = Unit {0}
 abbrev pub IsShortest : Bool → List ℕ → Header → Type 0
 IsShortest answer b h = MatchBool answer (b ≡ title_of h) (b ≡ title_of h → ⊥)
 
--- whether the number n needs the width that additional information info gives it; under major type 7 the bits of a float always do
+-- whether the number n needs the width that additional information info gives it; under major type
+-- 7 the bits of a float always do
 unfoldable pub needs_width : ℕ → ℕ → ℕ → Bool
 needs_width major info n =
     if nat_eq info 24 then nat_le 24 n else

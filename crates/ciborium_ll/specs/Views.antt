@@ -59,7 +59,7 @@ taken_of m = m.len
 abbrev pub memory_failures : {T : Type 0} → Mem T → ℕ
 memory_failures m = total m.failed
 
--- what was written of a slice, and how many bytes it has room for
+-- what was written of a slice, and how many bytes it has space for
 abbrev pub filled_of : Mem (MutBor (List ℕ)) → List ℕ
 filled_of m = take m.len m.inner.now
 

@@ -50,7 +50,7 @@ impl<T> Io<T> {
         inner
     }
 
-    /// Counts a fault of the reader as a failure, where it is no end of the bytes.
+    /// Counts a fault of the reader as a failure, if it is no end of the bytes.
     fn read_fault(&mut self, fault: IoFault) -> IoFault
         ensures fault { result ≡ fault }
         ensures device { device_of self.new ≡ device_of self.old }

@@ -8,7 +8,7 @@ use crate::hdr::Header;
 
 /// A kind of string (RFC 8949, section 3.1): its heads, and what a body of it may be.
 pub trait StringKind {
-    /// The head of a string of this length, where `None` is an indefinite one.
+    /// The head of a string of this length, if `None` is an indefinite one.
     ghost titled: { Option ℕ → Header };
 
     /// What a body may be.

@@ -49,7 +49,7 @@ pub fn one_framing()
 {}
 
 /// What may follow a head, with these bodies, is exactly what makes it a string with them. So what
-/// `Segments` reads behind a head is one.
+/// `Segments` reads after a head is one.
 pub fn rests_are_framed()
     ensures bytes { (len : Option ℕ) (title b : List ℕ) (bodies : List (List ℕ))
         → Title title (Bytes len)
@@ -65,7 +65,7 @@ pub fn rests_are_framed()
         → Frame Text IsUtf8 (title ++ b) bodies → Rest Text IsUtf8 (stage_of len) b bodies }
 {}
 
-/// Where a stray head was met, or an end inside an open string, no string of that kind goes on.
+/// If a stray head was met, or an end inside an open string, no string of that kind goes on.
 pub fn no_rest()
     ensures stray { (stage : Stage) (place p : ℕ) (a l b after : List ℕ) (bodies : List (List ℕ))
         → Strays Bytes Any stage place p a
@@ -107,9 +107,9 @@ pub fn copies_stay()
     ensures shorter { (n : ℕ) (a x : List ℕ) → Copies n a x → length x ≤ length a }
 {}
 
-/// Where a copy halted, what stands written begins the copy of all that begins with what was read,
-/// and so does the text that was refused behind it. The bytes ended, or a fault stands, only where
-/// so many heads and strings are not.
+/// If a copy halted, what is written begins the copy of all that begins with what was read, and so
+/// does the text that was refused after it. The bytes ended, or a fault stands, only if so many
+/// heads and strings are not.
 pub fn halted_copies()
     ensures paused { (n : ℕ) (b x c y u v : List ℕ) → CopiesHalt n paused b x → Copies n c y
         → b ++ u ≡ c ++ v

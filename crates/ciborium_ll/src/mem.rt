@@ -17,7 +17,7 @@ pub struct Mem<T> {
     failed: Count,
 }
 
-/// The data is longer than the room that is left in a slice.
+/// The data is longer than the space that is left in a slice.
 #[derive(Debug, Clone, Copy, PartialEq, Eq, Drop, Error)]
 #[error("full")]
 pub struct Full;
@@ -25,8 +25,8 @@ pub struct Full;
 impl<T> Mem<T> {
     ghost use Rattle.ciborium_ll.specs.Views.{memory_of, taken_of, memory_failures};
 
-    /// A writer over this memory, with no failure yet. What stands in a `Vec` counts as written,
-    /// and nothing in a slice.
+    /// A writer over this memory, with no failure yet. What is in a `Vec` counts as written, and
+    /// nothing in a slice.
     pub fn new(inner: T) -> Mem<T>
         ensures inner { memory_of result ≡ inner }
         ensures taken { taken_of result ≡ 0 }
@@ -84,7 +84,7 @@ impl Write for Mem<Vec<u8>> {
 
     ghost use Rattle.ciborium_ll.specs.Views.{memory_of, memory_failures};
 
-    /// Appends all of the data, or nothing where memory is refused.
+    /// Appends all of the data, or nothing if out of memory.
     fn write_all(&mut self, data: &[u8]) -> Result<(), AllocError>
         ensures ok { OnOk result ((memory_of self.new).items
             ≡ (memory_of self.old).items ++ «data».now) }
@@ -116,7 +116,7 @@ impl Write for Mem<&mut [u8]> {
     ghost use Rattle.ciborium_ll.specs.Views.{memory_of, taken_of, filled_of, room_of};
     ghost use Rattle.ciborium_ll.specs.Views.{memory_failures};
 
-    /// Writes all of the data, or nothing where it is longer than the room that is left.
+    /// Writes all of the data, or nothing if it is longer than the space that is left.
     fn write_all(&mut self, data: &[u8]) -> Result<(), Full>
         ensures ok { OnOk result (filled_of self.new ≡ filled_of self.old ++ «data».now) }
         ensures err { OnErr result (AppendsFront (Some (filled_of self.old))

@@ -12,13 +12,13 @@ use thiserror::Error;
 /// A source of bytes.
 ///
 /// `left` are the bytes to come; a file or a pipe doesn't tell them, and then the clauses that name
-/// them say nothing. `failed` counts the failures; it stands in contracts alone. An end of the
-/// bytes is no failure.
+/// them say nothing. `failed` counts the failures; it is in contracts alone. An end of the bytes is
+/// no failure.
 pub trait Read {
     /// Why bytes were not read.
     type Error: Drop;
 
-    /// The bytes to come, where they are known.
+    /// The bytes to come, if they are known.
     ghost left: { Self → Option (List ℕ) };
 
     /// How often it has failed.
@@ -37,9 +37,9 @@ pub trait Read {
     /// Fills the buffer with the next bytes, and takes them.
     ///
     /// # Errors
-    /// An end only where fewer bytes are left than the buffer holds; an end that a buffer of one
-    /// byte meets takes nothing. Any other fault is a failure of the device. After a fault it is
-    /// open which bytes are left.
+    /// An end only if fewer bytes are left than the buffer holds; an end that a buffer of one byte
+    /// meets takes nothing. Any other fault is a failure of the device. After a fault it is open
+    /// which bytes are left.
     fn read_exact(&mut self, data: &mut [u8]) -> Result<(), Self::Error>
         ensures ok { OnOk result (Consumes (left self.old) (left self.new) «data».new) }
         ensures end { IfErr result (λ e. IsTrue (ends e)

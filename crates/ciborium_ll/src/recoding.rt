@@ -114,10 +114,10 @@ impl CopyBody for Text {
 ///
 /// # Errors
 /// At each, so many whole heads and strings were copied, and then a beginning of the next one.
-/// `Read` with an end where the bytes end before a head or body that is due, or in one; `Read` with
+/// `Read` with an end if the bytes end before a head or body that is due, or in one; `Read` with
 /// `Syntax` and the place of a byte that begins no title, of a head that the open string can't
-/// hold, or of a body that is no UTF-8; `TooLong` where the offset could pass `usize::MAX`. `Write`
-/// with the writer's fault, behind a beginning of the head, piece or break that was due.
+/// hold, or of a body that is no UTF-8; `TooLong` if the offset could pass `usize::MAX`. `Write`
+/// with the writer's fault, after a beginning of the head, piece or break that was due.
 pub fn recode<R: Read, W: Write>(
     decoder: &mut Decoder<R>,
     encoder: &mut Encoder<W>,
@@ -176,7 +176,7 @@ fn copy_one<R: Read, W: Write>(
     }
 }
 
-/// Copies a string behind its head.
+/// Copies a string after its head.
 fn copy_string<R: Read, W: Write, P: CopyBody>(
     decoder: &mut Decoder<R>,
     encoder: &mut Encoder<W>,

@@ -17,7 +17,7 @@ use crate::stage::{Stage, next_body};
 use crate::text::{cut, fill};
 use std::marker::PhantomData;
 
-/// A string behind its head, read body by body: a definite string is one segment, and an open one
+/// A string after its head, read body by body: a definite string is one segment, and an open one
 /// has a segment for each definite string in it, at any depth.
 ///
 /// `advance` and `piece` lend nothing out, so that a proof can go on after them. `pull` and
@@ -29,7 +29,7 @@ pub struct Segments<'r, R, P> {
     kind: PhantomData<P>,
 }
 
-/// One body of a string. Where it is dropped early, its bytes are left to the decoder.
+/// One body of a string. If it is dropped early, its bytes are left to the decoder.
 #[derive(Drop)]
 pub struct Segment<'s, 'r, R, P> {
     segments: &'s mut Segments<'r, R, P>,
@@ -39,7 +39,7 @@ pub struct Segment<'s, 'r, R, P> {
 impl<R: Read> Decoder<R> {
     ghost use Rattle.ciborium_ll.specs.Segments.{decoder_of, name_of, stage_at};
 
-    /// The byte string behind a head with this length, where `None` is an indefinite one.
+    /// The byte string after a head with this length, if `None` is an indefinite one.
     pub fn bytes<'r>(&'r mut self, len: Option<usize>) -> Segments<'r, R, Bytes>
         ensures same_reference { name_of result ≡ self.entry.ghost_name }
         ensures decoder { decoder_of result ≡ self.old }
@@ -48,7 +48,7 @@ impl<R: Read> Decoder<R> {
         Segments::behind(self, len)
     }
 
-    /// The text behind a head with this length, where `None` is an indefinite one.
+    /// The text after a head with this length, if `None` is an indefinite one.
     pub fn text<'r>(&'r mut self, len: Option<usize>) -> Segments<'r, R, Text>
         ensures same_reference { name_of result ≡ self.entry.ghost_name }
         ensures decoder { decoder_of result ≡ self.old }
@@ -61,7 +61,7 @@ impl<R: Read> Decoder<R> {
 impl<'r, R, P> Segments<'r, R, P> {
     ghost use Rattle.ciborium_ll.specs.Segments.{decoder_of, name_of, stage_at};
 
-    /// The string behind a head with this length.
+    /// The string after a head with this length.
     pub(crate) fn behind(decoder: &'r mut Decoder<R>, len: Option<usize>) -> Segments<'r, R, P>
         ensures same_reference { name_of result ≡ decoder.entry.ghost_name }
         ensures decoder { decoder_of result ≡ decoder.old }
@@ -87,7 +87,7 @@ impl<'r, R: Read, P: StringKind> Segments<'r, R, P> {
     ///
     /// # Errors
     /// `Syntax` with the place of a head that the string can't hold, and then always. `Io` for a
-    /// fault of the reader, an end of the bytes among them. `TooLong` where the offset could pass
+    /// fault of the reader, an end of the bytes among them. `TooLong` if the offset could pass
     /// `usize::MAX`. After these two the string is as far open as the heads say that were taken, so
     /// it can't be taken for whole.
     pub fn advance(&mut self) -> Result<Option<Body>, Error<R::Error>>

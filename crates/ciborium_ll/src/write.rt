@@ -7,12 +7,12 @@ ghost use Rattle.std.specs.declared.option.Option.{Option};
 /// A sink of bytes.
 ///
 /// `written` are the bytes that it has taken; a file or a pipe doesn't tell them, and then the
-/// clauses that name them say nothing. `failed` counts the failures; it stands in contracts alone.
+/// clauses that name them say nothing. `failed` counts the failures; it is in contracts alone.
 pub trait Write {
     /// Why bytes were not written.
     type Error: Drop;
 
-    /// The bytes that were written, where they are known.
+    /// The bytes that were written, if they are known.
     ghost written: { Self → Option (List ℕ) };
 
     /// How often it has failed.
