@@ -39,7 +39,7 @@ pub struct Segment<'s, 'r, R, P> {
 impl<R: Read> Decoder<R> {
     ghost use Rattle.ciborium_ll.specs.Segments.{decoder_of, name_of, stage_at};
 
-    /// The byte string after a head with this length, if `None` is an indefinite one.
+    /// The byte string after a head with this length, `None` for an indefinite one.
     pub fn bytes<'r>(&'r mut self, len: Option<usize>) -> Segments<'r, R, Bytes>
         ensures same_reference { name_of result ≡ self.entry.ghost_name }
         ensures decoder { decoder_of result ≡ self.old }
@@ -48,7 +48,7 @@ impl<R: Read> Decoder<R> {
         Segments::behind(self, len)
     }
 
-    /// The text after a head with this length, if `None` is an indefinite one.
+    /// The text after a head with this length, `None` for an indefinite one.
     pub fn text<'r>(&'r mut self, len: Option<usize>) -> Segments<'r, R, Text>
         ensures same_reference { name_of result ≡ self.entry.ghost_name }
         ensures decoder { decoder_of result ≡ self.old }
