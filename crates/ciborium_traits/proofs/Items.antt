@@ -21,7 +21,7 @@ pub none_length : {A : Type 0} (xs : List A) → length xs ≡ 0 → xs ≡ []
 none_length [] e = refl
 none_length (x ∷ xs) e = absurd (omega (arith, e))
 
--- the refusal of a part is one of the whole, which grows where the part does
+-- the refusal of a part is one of the whole, which grows if the part does
 pub refused_first : (g h : Bool) (p q : Option Kind) (e : Error) → (IsTrue g → IsTrue h) → IsRefusal g p e → IsRefusal h (option_or p q) e
 refused_first g h p q (error.Kind k) w r = ap (λ z. option_or z q) r
 refused_first g h p q error.Memory w r = w r

@@ -1,11 +1,12 @@
--- What a sink is given of an item: an event for each leaf, and for a tag, an array or a map one for itself and then those of its
--- parts, a key before its value.
+-- What a sink is given of an item: an event for each leaf, and for a tag, an array or a map one for
+-- itself and then those of its parts, a key before its value.
 use Rattle.std.specs.Prelude.{◌≡◌, ℕ, ℤ, List, [], ◌∷◌, ◌++◌, ◌⊎◌, Bool, true, false}
 use Rattle.ciborium_ll.specs.declared.hdr.Float.{Float as FloatBits}
 use Rattle.ciborium_value.specs.Tree as tree
 use Rattle.ciborium_value.specs.Tree.{Tree, Trees, no_trees, one_more, Pairs, no_pairs, pair_more, tree_count, pair_count}
 
--- false, true and null are the simple values 20, 21 and 22; arrays and maps are given with how many items or entries they have
+-- false, true and null are the simple values 20, 21 and 22; arrays and maps are given with how many
+-- items or entries they have
 pub data Event : Type 0 where
   integer : ℤ → Event
   bytes text : List ℕ → Event

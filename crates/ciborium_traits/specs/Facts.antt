@@ -1,4 +1,5 @@
--- Facts about what is written and taken that the laws in src/ cite. They are proved here: nothing in them has to be believed.
+-- Facts about what is written and taken that the laws in src/ cite. They are proved here: nothing
+-- in them has to be believed.
 pub mod Keys
 pub mod Lists
 pub mod Maps

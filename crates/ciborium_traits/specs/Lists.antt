@@ -9,7 +9,7 @@ use Rattle.ciborium_value.specs.Tree as spec
 use Rattle.ciborium_value.specs.Tree.{Tree, Trees, no_trees, one_more, Pairs, no_pairs, pair_more, tree_count}
 use Rattle.ciborium_value.specs.Kinds.{is_null}
 
--- the first refusal among the items, none where each is one of the type
+-- the first refusal among the items, none if each is one of the type
 abbrev pub first_refusal : (Tree → Option Kind) → Trees → Option Kind
 first_refusal refusal no_trees = None
 first_refusal refusal (one_more t ts) = option_or (refusal t) (first_refusal refusal ts)

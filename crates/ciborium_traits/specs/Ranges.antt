@@ -25,6 +25,6 @@ abbrev pub integer_number : Tree → Option ℤ
 integer_number (integer i) = Some i
 integer_number _ = None
 
--- why an item is none of a type with these numbers, the tags around it passed over
+-- why an item is none of a type with these numbers, the tags around it ignored
 abbrev pub number_refusal : (ℤ → Bool) → Tree → Option Kind
 number_refusal fits t = within fits (integer_number (bare t))

@@ -11,7 +11,8 @@ abbrev pub bare : Tree → Tree
 bare (tag n t) = bare t
 bare t = t
 
--- an error says why a type does not take an item, or, of a type that grows, that memory was refused
+-- an error says why a type does not take an item, or, of a type that grows, that there was no
+-- memory
 abbrev pub IsRefusal : Bool → Option Kind → Error → Type 0
 IsRefusal grows why (error.Kind k) = why ≡ Some k
 IsRefusal grows why error.Memory = IsTrue grows

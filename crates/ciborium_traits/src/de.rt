@@ -12,8 +12,9 @@ use std::alloc::Global;
 
 /// Gives items, one after another.
 ///
-/// An implementation says in its meaning which item a call gives and what it then is (`gives`), how a call fails (`fails`), and which
-/// of its faults stands for the refusal of an item that it gave (`refused`).
+/// An implementation says in its meaning which item a call gives and what it then is (`gives`), how
+/// a call fails (`fails`), and which of its faults stands for the refusal of an item that it gave
+/// (`refused`).
 pub trait Source {
     /// Why no item came, or why the item was refused.
     type Error;
@@ -45,13 +46,14 @@ pub trait Deserialize: Drop {
     /// This value is taken of the item.
     ghost takes: { Tree → Self → Type 0 };
 
-    /// Whether taking may need memory: a type that only moves what the item holds is never refused any.
+    /// Whether taking may need memory: a type that only moves what the item holds is never refused
+    /// any.
     ghost grows: { Bool };
 
     /// Takes the value, whose bignums are folded.
     ///
     /// # Errors
-    /// The value's fault where it is none of this type, or `Memory` where the type grows.
+    /// The value's fault if it is none of this type, or `Memory` if the type grows.
     fn take(alloc: Global, value: Value) -> Result<Self, Error>
         ensures ok { IfOk result (λ x. (refusal (view value) ≡ None) × takes (view value) x) }
         ensures err { IfErr result (λ e. IsRefusal grows (refusal (view value)) e) };
@@ -59,7 +61,7 @@ pub trait Deserialize: Drop {
     /// Takes the next item of the source.
     ///
     /// # Errors
-    /// The source's, also where it gave an item that is none of this type.
+    /// The source's, also if it gave an item that is none of this type.
     fn deserialize<S: Source>(alloc: Global, source: &mut S) -> Result<Self, S::Error>
         ensures ok { IfOk result (λ x. (t : Tree) × S.gives source.old t source.new
             × (refusal t ≡ None) × takes t x) }

@@ -9,7 +9,7 @@ pub enum Error {
     /// The value is none of the type.
     #[error("{0:?}")]
     Kind(Kind),
-    /// Memory was refused.
+    /// Out of memory.
     #[error("out of memory")]
     Memory,
 }

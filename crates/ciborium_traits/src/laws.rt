@@ -65,7 +65,8 @@ pub fn values_are_taken_back()
         → IsTakenBack ⟦<CanonicalValue as Serialize>⟧ ⟦<CanonicalValue as Deserialize>⟧ v }
 {}
 
-/// No value is taken back, and a value is where its own type takes it back and its item is not null.
+/// No value is taken back, and a value is where its own type takes it back and its item is not
+/// null.
 pub fn options_are_taken_back<T: Serialize + Deserialize>(value: &T)
     ensures none { IsTakenBack ⟦<Option<T> as Serialize>⟧ ⟦<Option<T> as Deserialize>⟧ None }
     ensures some { IsTakenBack T.Serialize T.Deserialize value.now
@@ -73,19 +74,19 @@ pub fn options_are_taken_back<T: Serialize + Deserialize>(value: &T)
         → IsTakenBack ⟦<Option<T> as Serialize>⟧ ⟦<Option<T> as Deserialize>⟧ (Some value.now) }
 {}
 
-/// A list is taken back where each of its values is.
+/// A list is taken back if each of its values is.
 pub fn lists_are_taken_back<T: Serialize + Deserialize>(list: &Vec<T>)
     ensures { All (λ x. IsTakenBack T.Serialize T.Deserialize x) list.now.items
         → IsTakenBack ⟦<Vec<T> as Serialize>⟧ ⟦<Vec<T> as Deserialize>⟧ list.now }
 {}
 
-/// A tuple of one is taken back where its value is.
+/// A tuple of one is taken back if its value is.
 pub fn tuples_of_one_are_taken_back<A: Serialize + Deserialize>(tuple: &(A,))
     ensures { IsTakenBack A.Serialize A.Deserialize tuple.now.0
         → IsTakenBack ⟦<(A,) as Serialize>⟧ ⟦<(A,) as Deserialize>⟧ tuple.now }
 {}
 
-/// A tuple of two is taken back where each of its values is.
+/// A tuple of two is taken back if each of its values is.
 pub fn tuples_of_two_are_taken_back<A: Serialize + Deserialize, B: Serialize + Deserialize>(
     tuple: &(A, B),
 )
@@ -94,7 +95,7 @@ pub fn tuples_of_two_are_taken_back<A: Serialize + Deserialize, B: Serialize + D
         → IsTakenBack ⟦<(A, B) as Serialize>⟧ ⟦<(A, B) as Deserialize>⟧ tuple.now }
 {}
 
-/// A tuple of three is taken back where each of its values is.
+/// A tuple of three is taken back if each of its values is.
 pub fn tuples_of_three_are_taken_back<
     A: Serialize + Deserialize,
     B: Serialize + Deserialize,
@@ -106,7 +107,7 @@ pub fn tuples_of_three_are_taken_back<
         → IsTakenBack ⟦<(A, B, C) as Serialize>⟧ ⟦<(A, B, C) as Deserialize>⟧ tuple.now }
 {}
 
-/// A tuple of four is taken back where each of its values is.
+/// A tuple of four is taken back if each of its values is.
 pub fn tuples_of_four_are_taken_back<
     A: Serialize + Deserialize,
     B: Serialize + Deserialize,
@@ -120,7 +121,7 @@ pub fn tuples_of_four_are_taken_back<
         → IsTakenBack ⟦<(A, B, C, D) as Serialize>⟧ ⟦<(A, B, C, D) as Deserialize>⟧ tuple.now }
 {}
 
-/// A map is taken back where each of its keys and values is.
+/// A map is taken back if each of its keys and values is.
 pub fn maps_are_taken_back<K: Serialize + Deserialize + Ord, V: Serialize + Deserialize>(
     map: &BTreeMap<K, V>,
 )

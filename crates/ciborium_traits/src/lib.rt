@@ -1,4 +1,5 @@
-//! What is written to a sink and read from a source, and how Rust's own types and values of CBOR (RFC 8949) are written and read.
+//! What is written to a sink and read from a source, and how Rust's own types and values of CBOR
+//! (RFC 8949) are written and read.
 #![tactic(auto)]
 
 pub mod de;

@@ -26,17 +26,20 @@ use std::collections::BTreeMap;
 
 /// A type whose values are written and read as the same thing.
 pub trait RoundTrip: Serialize + Deserialize {
-    /// The value is read back: a number lies in its type's range, a part is no null where null would mean that there is none, and so on.
+    /// The value is read back: a number lies in its type's range, a part is no null if null would
+    /// mean that there is none, and so on.
     ghost kept: { Self → Type 0 };
 
-    /// The item that a kept value is written as is folded and one of the type, and the value is taken of it.
+    /// The item that a kept value is written as is folded and one of the type, and the value is
+    /// taken of it.
     ghost taken_back: { (x : Self) → kept x → IsTakenBack Self.Serialize Self.Deserialize x };
 
     /// Values that are taken of one item are written as one item.
     ghost takes_one: { TakesOne Self.put Self.takes };
 }
 
-/// A type whose order sees no more of a value than what it is written as, so that maps with such keys are read as one.
+/// A type whose order sees no more of a value than what it is written as, so that maps with such
+/// keys are read as one.
 pub trait MapKey: RoundTrip + Ord {
     /// Keys that are written alike are equal.
     ghost written_alike: { (x y : Self) → Self.put x ≡ Self.put y → Self.cmp x y ≡ Equal };

@@ -8,9 +8,11 @@ ghost use Rattle.ciborium_traits.specs.Events as event;
 use ciborium_ll::Float;
 use ciborium_value::Integer;
 
-/// Takes items piece by piece: each call adds one event, a leaf or the beginning of a tag, an array or a map, whose parts follow it.
+/// Takes items piece by piece: each call adds one event, a leaf or the beginning of a tag, an array
+/// or a map, whose parts follow it.
 ///
-/// An implementation says in its meaning what an event that was taken does to it (`adds`), and what a refused one may (`refuses`).
+/// An implementation says in its meaning what an event that was taken does to it (`adds`), and what
+/// a refused one may (`refuses`).
 pub trait Sink {
     /// Why an event was not taken.
     type Error;

@@ -15,7 +15,7 @@ use ciborium_value::{Kind, Value};
 use std::alloc::Global;
 use std::vec::IntoIter;
 
-/// The items of an array of this length, the tags around it passed over.
+/// The items of an array of this length, the tags around it ignored.
 fn items_of(value: Value, len: usize) -> Result<IntoIter<Value>, Error>
     ensures ok { IfOk result (λ items.
         (bare (view value) ≡ spec.array (views (into_iter_items items)))

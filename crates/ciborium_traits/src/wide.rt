@@ -44,7 +44,8 @@ fn bignum_number(tag: u64, bytes: &[u8]) -> Option<Whole>
     }
 }
 
-/// The number of an integer, or of tag 2 or 3 over at most 16 bytes (RFC 8949, section 3.4.3), whatever other tags are around it.
+/// The number of an integer, or of tag 2 or 3 over at most 16 bytes (RFC 8949, section 3.4.3),
+/// whatever other tags are around it.
 fn whole_number(value: Value) -> Option<Whole>
     ensures { option_map whole result ≡ wide_number (view value) }
 {
@@ -79,7 +80,7 @@ fn put_bignum<S: Sink>(sink: &mut S, tag: u64, n: u128) -> Result<(), S::Error>
     put_tagged(sink, tag, stripped(&n.to_be_bytes()))
 }
 
-/// Writes an integer where its head can say the number, else a bignum (RFC 8949, section 3.4.3).
+/// Writes an integer if its head can say the number, else a bignum (RFC 8949, section 3.4.3).
 fn put_whole<S: Sink>(sink: &mut S, number: Whole) -> Result<(), S::Error>
     ensures ok { OnOk result (AllAdded S.adds sink.old
         (events (number_tree (whole number))) sink.new) }

@@ -1,2 +1,3 @@
--- Facts about values with a tag around them that the laws in src/ cite. They are proved here: nothing in them has to be believed.
+-- Facts about values with a tag around them that the laws in src/ cite. They are proved here:
+-- nothing in them has to be believed.
 pub mod Tags

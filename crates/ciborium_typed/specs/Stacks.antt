@@ -1,4 +1,5 @@
--- What a sink that builds items has been given: whole items, and the tags, arrays and maps that are not full yet.
+-- What a sink that builds items has been given: whole items, and the tags, arrays and maps that are
+-- not full yet.
 use Rattle.std.specs.Prelude.{ℕ, zero, suc, List, [], ◌∷◌, ◌++◌, reverse}
 use Rattle.std.specs.Prelude as std
 use Rattle.ciborium_value.specs.Tree as tree
@@ -10,8 +11,9 @@ use Rattle.ciborium_typed.specs.declared.value_sink.Level.{Level}
 use Rattle.ciborium_typed.specs.declared.value_sink.Level.TheVariants as level
 use Rattle.ciborium_typed.specs.declared.value_sink.ValueSink.{ValueSink}
 
--- A tag waits for its item. An array has its items so far, and waits for the next one and n more. A map has its entries so far, and
--- waits for a key, or has the key of an entry and waits for its value; n more entries come after that one.
+-- A tag waits for its item. An array has its items so far, and waits for the next one and n more. A
+-- map has its entries so far, and waits for a key, or has the key of an entry and waits for its
+-- value; n more entries come after that one.
 pub data Container : Type 0 where
   tag : ℕ → Container
   array : List Tree → ℕ → Container

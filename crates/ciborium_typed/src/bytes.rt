@@ -18,7 +18,7 @@ impl ByteBuf {
     /// A byte string with this content.
     ///
     /// # Errors
-    /// Only where memory is refused.
+    /// Only if out of memory.
     pub fn clone(&self, alloc: Global) -> Result<ByteBuf, AllocError>
         ensures { IfOk result (λ copy. copy.0.items ≡ self.now.0.items) }
     {

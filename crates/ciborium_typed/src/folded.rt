@@ -6,10 +6,11 @@ ghost use Rattle.ciborium_value.specs.View.{view};
 use ciborium_value::{Value, fold_tag};
 use std::alloc::{AllocError, Global};
 
-/// A copy of the value with each bignum in it folded (RFC 8949, section 3.4.3), or none where one is a negative bignum below -2^127.
+/// A copy of the value with each bignum in it folded (RFC 8949, section 3.4.3), or none if one is a
+/// negative bignum below -2^127.
 ///
 /// # Errors
-/// Only where memory is refused.
+/// Only if out of memory.
 pub(crate) fn folded(alloc: Global, value: &Value) -> Result<Option<Value>, AllocError>
     ensures { IfOk result (λ o. MatchOption o (fold (view value.now) ≡ None)
         (λ v. fold (view value.now) ≡ Some (view v))) }

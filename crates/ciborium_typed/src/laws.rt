@@ -35,8 +35,8 @@ pub fn items_are_built()
         → state_of s2 ≡ added t (state_of s) }
 {}
 
-/// A value with the tag around it is taken back where the value is, and the tag is no bignum's over its bytes. With no tag it is
-/// where the value's item is no tag.
+/// A value with the tag around it is taken back if the value is, and the tag is no bignum's over
+/// its bytes. With no tag it is where the value's item is no tag.
 pub fn captured_values_are_taken_back<V: Serialize + Deserialize>(captured: &Captured<V>)
     ensures { IsTakenBack V.Serialize V.Deserialize captured.now.1
         → MatchOption captured.now.0 (is_tag (V.put captured.now.1) ≡ false)
@@ -44,7 +44,8 @@ pub fn captured_values_are_taken_back<V: Serialize + Deserialize>(captured: &Cap
         → IsTakenBack ⟦<Captured<V> as Serialize>⟧ ⟦<Captured<V> as Deserialize>⟧ captured.now }
 {}
 
-/// A value that must have a tag is taken back where the value is, and the tag is no bignum's over its bytes.
+/// A value that must have a tag is taken back if the value is, and the tag is no bignum's over its
+/// bytes.
 pub fn required_values_are_taken_back<V: Serialize + Deserialize, const TAG: u64>(
     required: &Required<V, TAG>,
 )
@@ -54,7 +55,8 @@ pub fn required_values_are_taken_back<V: Serialize + Deserialize, const TAG: u64
         required.now }
 {}
 
-/// A value that may have a tag is taken back where the value is, and the tag is no bignum's over its bytes.
+/// A value that may have a tag is taken back if the value is, and the tag is no bignum's over its
+/// bytes.
 pub fn accepted_values_are_taken_back<V: Serialize + Deserialize, const TAG: u64>(
     accepted: &Accepted<V, TAG>,
 )
@@ -64,8 +66,8 @@ pub fn accepted_values_are_taken_back<V: Serialize + Deserialize, const TAG: u64
         accepted.now }
 {}
 
-/// Captured values are equal where their tags are and their values are. Their order is total and goes by the tag, none before any,
-/// and then by the value, and they are hashed in that order.
+/// Captured values are equal if their tags are and their values are. Their order is total and goes
+/// by the tag, none before any, and then by the value, and they are hashed in that order.
 pub fn captured_values_compare<V: Ord + Hash>(a: &Captured<V>, b: &Captured<V>)
     ensures equality { IsTrue (⟦<Captured<V> as std::cmp::PartialEq>⟧.eq a.now b.now)
         ↔ ((a.now.0 ≡ b.now.0) × IsTrue (V.eq a.now.1 b.now.1)) }
@@ -81,7 +83,8 @@ pub fn captured_values_compare<V: Ord + Hash>(a: &Captured<V>, b: &Captured<V>)
         ⟦<Captured<V> as std::hash::Hash>⟧.hash_input a.now b.now }
 {}
 
-/// Required values are compared and hashed as the values in their tag are, and their order is total.
+/// Required values are compared and hashed as the values in their tag are, and their order is
+/// total.
 pub fn required_values_compare<V: Ord + Hash, const TAG: u64>(
     a: &Required<V, TAG>,
     b: &Required<V, TAG>,
@@ -97,7 +100,8 @@ pub fn required_values_compare<V: Ord + Hash, const TAG: u64>(
         ⟦<Required<V, TAG> as std::hash::Hash>⟧.hash_input a.now b.now }
 {}
 
-/// Accepted values are compared and hashed as the values in their tag are, and their order is total.
+/// Accepted values are compared and hashed as the values in their tag are, and their order is
+/// total.
 pub fn accepted_values_compare<V: Ord + Hash, const TAG: u64>(
     a: &Accepted<V, TAG>,
     b: &Accepted<V, TAG>,
@@ -119,8 +123,8 @@ fn comparisons_agree<T: Ord + Hash>(a: &T, b: &T)
     ensures agree { Agree T.eq T.cmp T.partial_cmp T.hash_input a.now b.now }
 {}
 
-/// Byte strings are equal where their bytes are. Their order is total and goes byte by byte, a beginning before the whole, and they
-/// are hashed as their content is.
+/// Byte strings are equal if their bytes are. Their order is total and goes byte by byte, a
+/// beginning before the whole, and they are hashed as their content is.
 pub fn byte_strings_compare(a: &ByteBuf, b: &ByteBuf)
     ensures equality { IsTrue (⟦<ByteBuf as std::cmp::PartialEq>⟧.eq a.now b.now)
         ↔ (a.now.0.items ≡ b.now.0.items) }

@@ -28,7 +28,7 @@ impl Captured<Value> {
     /// A value with the same tag around it, if there is one.
     ///
     /// # Errors
-    /// Only where memory is refused.
+    /// Only if out of memory.
     pub fn clone(&self, alloc: Global) -> Result<Captured<Value>, AllocError>
         ensures { IfOk result (λ copy. (copy.0 ≡ self.now.0) × (view copy.1 ≡ view self.now.1)) }
     {
@@ -40,7 +40,7 @@ impl<const TAG: u64> Required<Value, TAG> {
     /// The same value with the tag around it.
     ///
     /// # Errors
-    /// Only where memory is refused.
+    /// Only if out of memory.
     pub fn clone(&self, alloc: Global) -> Result<Required<Value, TAG>, AllocError>
         ensures { IfOk result (λ copy. view copy.0 ≡ view self.now.0) }
     {
@@ -52,7 +52,7 @@ impl<const TAG: u64> Accepted<Value, TAG> {
     /// The same value.
     ///
     /// # Errors
-    /// Only where memory is refused.
+    /// Only if out of memory.
     pub fn clone(&self, alloc: Global) -> Result<Accepted<Value, TAG>, AllocError>
         ensures { IfOk result (λ copy. view copy.0 ≡ view self.now.0) }
     {

@@ -26,10 +26,12 @@ pub trait ValueTyped {
         ensures ok { IfOk result (λ v. tree v ≡ T.put value.now) }
         ensures err { IfErr result (λ e. e ≡ Memory) };
 
-    /// The typed value that this one is read as; its bignums are folded first (RFC 8949, section 3.4.3).
+    /// The typed value that this one is read as; its bignums are folded first (RFC 8949, section
+    /// 3.4.3).
     ///
     /// # Errors
-    /// Why the type doesn't take it, `BigNegative` where it holds a negative bignum below -2^127, or `Memory`.
+    /// Why the type doesn't take it, `BigNegative` where it holds a negative bignum below -2^127,
+    /// or `Memory`.
     fn deserialized<T: Deserialize>(&self, alloc: Global) -> Result<T, Error>
         ensures ok { IfOk result (λ x. (u : Tree) × (fold (tree self.now) ≡ Some u)
             × (T.refusal u ≡ None) × T.takes u x) }

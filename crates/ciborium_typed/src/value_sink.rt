@@ -8,7 +8,8 @@ use ciborium_traits::Sink;
 use ciborium_value::{Integer, Value};
 use std::alloc::{AllocError, Global};
 
-/// A tag, an array or a map that is not full yet. A number says how many items or entries come after the next one.
+/// A tag, an array or a map that is not full yet. A number says how many items or entries come
+/// after the next one.
 #[derive(Drop)]
 enum Level {
     /// A tag, whose item comes.
@@ -21,8 +22,9 @@ enum Level {
     Entry(Vec<(Value, Value)>, Value, usize),
 }
 
-/// Builds values of what is written to it. Each event is taken, also after a whole item; only memory may be refused, and what was
-/// not whole is dropped then. Memory is taken for what has come, never by a claimed length.
+/// Builds values of what is written to it. Each event is taken, also after a whole item; only
+/// memory may be refused, and what was not whole is dropped then. Memory is taken for what has
+/// come, never by a claimed length.
 #[derive(Drop)]
 pub struct ValueSink {
     alloc: Global,
@@ -49,7 +51,7 @@ impl ValueSink {
         self.items
     }
 
-    /// Puts an item where it is awaited, and each container that is full then.
+    /// Puts an item if it is awaited, and each container that is full then.
     fn fill(&mut self, item: Value) -> Result<(), AllocError>
         ensures ok { OnOk result (state_of self.new ≡ added (view item) (state_of self.old)) }
         ensures err { OnErr result (emptied (state_of self.new) ≡ emptied (state_of self.old)) }

@@ -30,8 +30,8 @@ impl ValueSource {
     }
 }
 
-/// After an error the source is as it was: `Memory`, `BigNegative` where the value holds a negative bignum below -2^127, or `Length`
-/// where the value was given.
+/// After an error the source is as it was: `Memory`, `BigNegative` if the value holds a negative
+/// bignum below -2^127, or `Length` if the value was given.
 impl Source for ValueSource {
     type Error = Error;
 

@@ -11,7 +11,7 @@ use Rattle.ciborium_value.specs.declared.value.Value.TheVariants as code
 use Rattle.ciborium_value.proofs.Views.{view_array, view_map}
 use Rattle.ciborium_value.proofs.Fitting.{count_items, count_entries}
 
--- a head and what stands behind it
+-- a head and what is after it
 joined_len : (a b : List ℕ) (n m : ℕ) → n ≡ length a → m ≡ counted b → min (n + m) 0xffff_ffff_ffff_ffff ≡ counted (a ++ b)
 joined_len a b n m e f = omega (arith, e, f, length-append a b)
 

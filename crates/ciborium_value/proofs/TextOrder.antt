@@ -74,7 +74,8 @@ be_8 n m p q S = sym (lowest_byte n m S ∙ next_byte n m 256 _ ∙ next_byte n 
 
 -- ---- heads
 
--- the low five bits of the first byte, and the bytes behind it, of the shortest head with the number n
+-- the low five bits of the first byte, and the bytes after it, of the shortest head with the number
+-- n
 pub data Form (n : ℕ) : ℕ → List ℕ → Type 0 where
   in_short : n < 24 → Form n n []
   in_one : 24 ≤ n → n < 256 → Form n 24 (n ∷ [])
@@ -142,7 +143,7 @@ formed m n f =
     (λ l. choose m n (nat_lt n 4294967296) 4294967296 _ _ refl (λ p. record { info = 26; more = to_be_bytes w32 n; form = in_four l p; is = refl })
     (λ l. record { info = 27; more = to_be_bytes w64 n; form = in_eight l f; is = refl }))))
 
--- the first byte of a tree's head, and those behind it, by its place and number
+-- the first byte of a tree's head, and those after it, by its place and number
 data Lead (n : ℕ) : ℕ → ℕ → List ℕ → Type 0 where
   counts : (m i : ℕ) (a : List ℕ) → m < 7 → Form n i a → Lead n m (32 * m + i) a
   plain : (i : ℕ) (a : List ℕ) → n < 256 → Form n i a → Lead n 7 (32 * 7 + i) a
@@ -186,7 +187,7 @@ lead_cmp r q n l x y a b u v (in_double p0) (in_half p1) = both_greater 251 249 
 lead_cmp r q n l x y a b u v (in_double p0) (in_single p1) = both_greater 251 250 10 9 (bytes_cmp (a ++ u) (b ++ v)) (ordering_then (nat_cmp n l) (bytes_cmp u v)) (omega arith) (omega arith)
 lead_cmp r q n l x y a b u v (in_double p0) (in_double p1) = be_8 n l p0 p1 _
 
--- what stands behind the head
+-- what is after the head
 abbrev inner : Tree → List ℕ
 inner (integer i) = []
 inner (bytes b) = b

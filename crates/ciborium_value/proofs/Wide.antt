@@ -45,7 +45,7 @@ number_kept (negsuc n) l =
     let P : Tree → Type 0 = λ t. tree_number t ≡ Some (negsuc n) in
     cond_both (nat_lt n (2 ^ 64)) (integer (negsuc n)) (tag 3 (bytes (fewest_bytes n))) P (λ _. refl) (λ _. ap (λ m. Some (negsuc m)) (fewest_number n (omega arith)))
 
--- a tag over bytes with no zero in front folds to itself, where no integer's head can say the number
+-- a tag over bytes with no zero in front folds to itself, if no integer's head can say the number
 tag_kept : (k n : ℕ) (c : List ℕ) → without_zeros c ≡ c → 2 ^ 64 ≤ n → (nat_eq k 3 && nat_le 170141183460469231731687303715884105728 n) ≡ false → fold_number k n c ≡ Some (tag k (bytes c))
 tag_kept k n c s l f =
     let P : Option Tree → Type 0 = λ z. z ≡ Some (tag k (bytes c)) in

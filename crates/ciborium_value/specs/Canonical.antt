@@ -26,9 +26,10 @@ counted b = min (length b) 0xffff_ffff_ffff_ffff
 abbrev pub canonical : Tree → Tree → Ordering
 canonical t s = ordering_then (nat_cmp (counted (enc t)) (counted (enc s))) (bytewise t s)
 
--- The same orders by trees, without their encodings. They are those of encodings where each number in a head lies in its range.
+-- The same orders by trees, without their encodings. They are those of encodings if each number in
+-- a head lies in its range.
 
--- the place of a tree's head among heads: its major type, and floats behind simple values, by width
+-- the place of a tree's head among heads: its major type, and floats after simple values, by width
 abbrev pub int_place : ℤ → ℕ
 int_place (pos n) = 0
 int_place (negsuc n) = 1
@@ -61,7 +62,7 @@ number (float f) = pattern f
 abbrev pub head_cmp : Tree → Tree → Ordering
 head_cmp t s = ordering_then (nat_cmp (place t) (place s)) (nat_cmp (number t) (number s))
 
--- by heads, then by what stands behind them
+-- by heads, then by what is after them
 abbrev mutual
   pub text_cmp : Tree → Tree → Ordering
   text_cmp (bytes a) (bytes b) = ordering_then (head_cmp (bytes a) (bytes b)) (slice_cmp nat_cmp a b)

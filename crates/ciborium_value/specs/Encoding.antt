@@ -1,5 +1,5 @@
--- The one shortest definite text of a tree (RFC 8949, section 4.1): shortest heads, definite lengths, entries in their order,
--- floats in their width.
+-- The one shortest definite text of a tree (RFC 8949, section 4.1): shortest heads, definite
+-- lengths, entries in their order, floats in their width.
 use Rattle.std.specs.Prelude.{ℕ, ℤ, pos, negsuc, ◌^◌, ◌<◌, List, [], ◌++◌, length, All, Some}
 use Rattle.std.specs.Str.{IsUtf8}
 use Rattle.ciborium_ll.specs.declared.hdr.Header.{Header}
@@ -32,7 +32,8 @@ abbrev mutual
   enc_pairs no_pairs = []
   enc_pairs (pair_more k v ps) = enc k ++ (enc v ++ enc_pairs ps)
 
--- each number lies in its range, a byte string is bytes, each text is UTF-8, and each length is one that a head can have
+-- each number lies in its range, a byte string is bytes, each text is UTF-8, and each length is one
+-- that a head can have
 abbrev mutual
   pub Fits : Tree → Type 0
   Fits (integer i) = FitsHeader (int_head i)

@@ -1,10 +1,11 @@
--- What bignum tags fold to (RFC 8949, section 3.4.3). Tag 2 over bytes is their unsigned number n, tag 3 is -1 - n. Over at most
--- 16 bytes the tag folds: to an integer where the number lies in -2^64 to 2^64 - 1, else to the tag over the bytes without the
--- zeros in front. Tag 3 over 16 bytes with the top bit set has no folding. Over 17 bytes or more the tag stays as it is.
+-- What bignum tags fold to (RFC 8949, section 3.4.3). Tag 2 over bytes is their unsigned number n,
+-- tag 3 is -1 - n. Over at most 16 bytes the tag folds: to an integer where the number lies in
+-- -2^64 to 2^64 - 1, else to the tag over the bytes without the zeros in front. Tag 3 over 16 bytes
+-- with the top bit set has no folding. Over 17 bytes or more the tag stays as it is.
 use Rattle.std.specs.Prelude.{◌≡◌, ℕ, pos, negsuc, ◌+◌, ◌*◌, List, [], ◌∷◌, length, Option, Some, None, if◌then◌else◌, nat_eq, nat_lt, nat_le, option_map, option_and_then, ◌||◌, ◌&&◌}
 use Rattle.ciborium_value.specs.Tree.{Tree, integer, bytes, text, array, map, tag, simple, float, Trees, no_trees, one_more, Pairs, no_pairs, pair_more}
 
--- the number of bytes, the highest first, behind the number n
+-- the number of bytes, the highest first, after the number n
 abbrev pub big_endian_from : ℕ → List ℕ → ℕ
 big_endian_from n [] = n
 big_endian_from n (x ∷ xs) = big_endian_from (256 * n + x) xs
@@ -32,7 +33,8 @@ tagged n t = Some (tag n t)
 abbrev pub IsTooNegative : ℕ → Tree → Type 0
 IsTooNegative n t = (n ≡ 3) × (b : List ℕ) × (t ≡ bytes b) × (fold_bytes 3 b ≡ None)
 
--- a tree with each bignum in it folded, and each simple value read by `s`; none where one part has no reading
+-- a tree with each bignum in it folded, and each simple value read by `s`; none if one part has no
+-- reading
 abbrev mutual
   pub fold_by : (ℕ → Option Tree) → Tree → Option Tree
   fold_by s (integer i) = Some (integer i)

@@ -17,7 +17,7 @@ IsWide (negsuc n) = n < 2 ^ 127
 abbrev pub fewest_bytes : ℕ → List ℕ
 fewest_bytes n = without_zeros (to_be_bytes w128 n)
 
--- an integer where its head can say the number, else a bignum: tag 2 over n, and tag 3 for -1 - n
+-- an integer if its head can say the number, else a bignum: tag 2 over n, and tag 3 for -1 - n
 abbrev pub number_tree : ℤ → Tree
 number_tree (pos n) = if nat_lt n (2 ^ 64) then integer (pos n) else tag 2 (bytes (fewest_bytes n))
 number_tree (negsuc n) = if nat_lt n (2 ^ 64) then integer (negsuc n) else tag 3 (bytes (fewest_bytes n))

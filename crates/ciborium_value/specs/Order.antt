@@ -1,5 +1,5 @@
--- The order of trees by kind, then by content. The kinds come as a value's variants are listed: integers, bytes, floats, texts,
--- simple values (false, true, null), tags, arrays, maps.
+-- The order of trees by kind, then by content. The kinds come as a value's variants are listed:
+-- integers, bytes, floats, texts, simple values (false, true, null), tags, arrays, maps.
 use Rattle.std.specs.Prelude.{ℕ}
 use Rattle.std.specs.Cmp.Lexicographic.{slice_cmp}
 use Rattle.std.specs.declared.cmp.Ordering.{Ordering}

@@ -1,8 +1,10 @@
--- A data item as a tree, and how deep it nests (RFC 8949, section 3). Widths of heads, cuts of strings and open lengths are forgotten.
+-- A data item as a tree, and how deep it nests (RFC 8949, section 3). Widths of heads, cuts of
+-- strings and open lengths are forgotten.
 use Rattle.std.specs.Prelude.{ℕ, ℤ, suc, ◌+◌, max, List, Bool, true, false, ◌&&◌, ◌||◌, if◌then◌else◌, nat_eq}
 use Rattle.ciborium_ll.specs.declared.hdr.Float.{Float as FloatBits}
 
--- Bytes and texts are the joined bodies. A float is its width and its bits; false, true and null are the simple values 20, 21 and 22.
+-- Bytes and texts are the joined bodies. A float is its width and its bits; false, true and null
+-- are the simple values 20, 21 and 22.
 mutual
   pub data Tree : Type 0 where
     integer : ℤ → Tree

@@ -13,7 +13,8 @@ impl Value {
     ghost use Rattle.ciborium_value.specs.contracts.value.Value.{the_row};
     ghost use Rattle.ciborium_value.specs.declared.value.Value.TheVariants as code;
 
-    /// The bytes of a byte string, to be changed, or none for a value of another kind, which stays as it was.
+    /// The bytes of a byte string, to be changed, or none for a value of another kind, which stays
+    /// as it was.
     pub fn as_bytes_mut(&mut self) -> Option<&mut Vec<u8>>
         ensures* writes_back { sem 𝓛 (LendsIf the_row bytes_row self.entry result code.Bytes
             self.old) }
@@ -27,7 +28,8 @@ impl Value {
         }
     }
 
-    /// The text of a text string, to be changed, or none for a value of another kind, which stays as it was.
+    /// The text of a text string, to be changed, or none for a value of another kind, which stays
+    /// as it was.
     pub fn as_text_mut(&mut self) -> Option<&mut String>
         ensures* writes_back { sem 𝓛 (LendsIf the_row text_row self.entry result code.Text
             self.old) }
@@ -41,7 +43,8 @@ impl Value {
         }
     }
 
-    /// The items of an array, to be changed, or none for a value of another kind, which stays as it was.
+    /// The items of an array, to be changed, or none for a value of another kind, which stays as it
+    /// was.
     pub fn as_array_mut(&mut self) -> Option<&mut Vec<Value>>
         ensures* writes_back { sem 𝓛 (LendsIf the_row items_row self.entry result code.Array
             self.old) }
@@ -55,7 +58,8 @@ impl Value {
         }
     }
 
-    /// The entries of a map, to be changed, or none for a value of another kind, which stays as it was.
+    /// The entries of a map, to be changed, or none for a value of another kind, which stays as it
+    /// was.
     pub fn as_map_mut(&mut self) -> Option<&mut Vec<(Value, Value)>>
         ensures* writes_back { sem 𝓛 (LendsIf the_row entries_row self.entry result code.Map
             self.old) }
@@ -71,9 +75,10 @@ impl Value {
 
     /// The number of a tag and its item, to be changed, or none for a value of another kind.
     ///
-    /// What the two are at the call is proved. That a value of another kind stays as it was, and that what is written through
-    /// the two stands in the tag afterwards, is tested alone: no clause can say it of two parts of one value. `into_tag` is
-    /// proved to give a value of another kind back.
+    /// What the two are at the call is proved. That a value of another kind stays as it was, and
+    /// that what is written through the two stands in the tag afterwards, is tested alone: no
+    /// clause can say it of two parts of one value. `into_tag` is proved to give a value of another
+    /// kind back.
     pub fn as_tag_mut(&mut self) -> Option<(&mut u64, &mut Value)>
         ensures { MatchOption result (is_tag (view self.old) ≡ false)
             (λ p. view self.old ≡ spec.tag p.0.now (view p.1.now)) }

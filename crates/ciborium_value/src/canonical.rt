@@ -23,7 +23,7 @@ impl CanonicalValue {
     /// A value equal to this one.
     ///
     /// # Errors
-    /// Only where memory is refused.
+    /// Only if out of memory.
     pub fn clone(&self, alloc: Global) -> Result<CanonicalValue, AllocError>
         ensures { IfOk result (λ copy. view copy.0 ≡ view self.now.0) }
     {

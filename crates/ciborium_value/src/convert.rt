@@ -12,10 +12,11 @@ use ciborium_ll::{Float, tag};
 use std::alloc::{AllocError, Global};
 
 impl Value {
-    /// The value of a number: an integer up to 2^64 - 1, else tag 2 over the fewest bytes (RFC 8949, section 3.4.3).
+    /// The value of a number: an integer up to 2^64 - 1, else tag 2 over the fewest bytes (RFC
+    /// 8949, section 3.4.3).
     ///
     /// # Errors
-    /// Only where memory is refused.
+    /// Only if out of memory.
     pub fn from_u128(alloc: Global, n: u128) -> Result<Value, AllocError>
         ensures { IfOk result (λ v. view v ≡ number_tree (pos n)) }
     {
@@ -25,11 +26,11 @@ impl Value {
         }
     }
 
-    /// The value of a number: an integer from -2^64 to 2^64 - 1, else tag 2 over the fewest bytes of it, or tag 3 over those of
-    /// -1 - n (RFC 8949, section 3.4.3).
+    /// The value of a number: an integer from -2^64 to 2^64 - 1, else tag 2 over the fewest bytes
+    /// of it, or tag 3 over those of -1 - n (RFC 8949, section 3.4.3).
     ///
     /// # Errors
-    /// Only where memory is refused.
+    /// Only if out of memory.
     pub fn from_i128(alloc: Global, n: i128) -> Result<Value, AllocError>
         ensures { IfOk result (λ v. view v ≡ number_tree n) }
     {
@@ -42,7 +43,7 @@ impl Value {
     /// A text string with a copy of this text.
     ///
     /// # Errors
-    /// Only where memory is refused.
+    /// Only if out of memory.
     pub fn from_str(alloc: Global, text: &str) -> Result<Value, AllocError>
         ensures { IfOk result (λ v. view v ≡ spec.text text.now) }
     {
@@ -52,7 +53,7 @@ impl Value {
     /// A byte string with a copy of these bytes.
     ///
     /// # Errors
-    /// Only where memory is refused.
+    /// Only if out of memory.
     pub fn from_byte_slice(alloc: Global, bytes: &[u8]) -> Result<Value, AllocError>
         ensures { IfOk result (λ v. view v ≡ spec.bytes bytes.now) }
     {
@@ -62,7 +63,7 @@ impl Value {
     /// A text string of one character.
     ///
     /// # Errors
-    /// Only where memory is refused.
+    /// Only if out of memory.
     pub fn from_char(alloc: Global, character: char) -> Result<Value, AllocError>
         ensures { IfOk result (λ v. view v ≡ spec.text (encode_utf8 character)) }
     {

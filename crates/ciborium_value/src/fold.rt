@@ -17,7 +17,7 @@ pub(crate) fn tag_over(alloc: Global, tag: u64, content: Value) -> Result<Value,
     Ok(Value::Tag(tag, Box::new(alloc, content)?))
 }
 
-/// The value of tag 2 or 3 over bytes, or none where it is too negative.
+/// The value of tag 2 or 3 over bytes, or none if it is too negative.
 fn fold_number(alloc: Global, tag: u64, bytes: Vec<u8>) -> Result<Option<Value>, AllocError>
     requires { (tag ≡ 2) ⊎ (tag ≡ 3) }
     ensures { IfOk result (λ o. MatchOption o ((tag ≡ 3) × (fold_bytes 3 bytes.items ≡ None))
@@ -41,11 +41,11 @@ fn fold_number(alloc: Global, tag: u64, bytes: Vec<u8>) -> Result<Option<Value>,
     Ok(Some(tag_over(alloc, tag, Value::Bytes(rest))?))
 }
 
-/// The value of a tag over a value that is folded: tags 2 and 3 over at most 16 bytes fold (RFC 8949, section 3.4.3). None where
-/// the number is a negative bignum below -2^127.
+/// The value of a tag over a value that is folded: tags 2 and 3 over at most 16 bytes fold (RFC
+/// 8949, section 3.4.3). None if the number is a negative bignum below -2^127.
 ///
 /// # Errors
-/// Only where memory is refused.
+/// Only if out of memory.
 pub fn fold_tag(alloc: Global, tag: u64, content: Value) -> Result<Option<Value>, AllocError>
     ensures { IfOk result (λ o. MatchOption o (IsTooNegative tag (view content))
         (λ v. tagged tag (view content) ≡ Some (view v))) }

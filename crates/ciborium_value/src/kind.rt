@@ -8,7 +8,7 @@ pub enum Kind {
     /// A simple value that is not assigned (RFC 8949, section 3.3).
     #[error("Simple")]
     Simple,
-    /// A break where an item is due.
+    /// A break if an item is due.
     #[error("Break")]
     Break,
     /// A negative bignum below -2^127.

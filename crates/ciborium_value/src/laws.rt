@@ -17,7 +17,8 @@ use crate::value::Value;
 use ciborium_ll::Header;
 use ciborium_ll::laws::header_fits;
 
-/// Each number of a value lies in its range, a byte string is bytes, each text is UTF-8, and each length is one that a head can have.
+/// Each number of a value lies in its range, a byte string is bytes, each text is UTF-8, and each
+/// length is one that a head can have.
 pub fn value_fits(value: &Value)
     ensures { Fits (view value.now) }
 {
@@ -71,7 +72,8 @@ pub fn numbers_are_kept()
     ensures folded { (i : ℤ) → IsWide i → fold (number_tree i) ≡ Some (number_tree i) }
 {}
 
-/// Values are equal where their trees are, their order is that of the trees, and equal ones hash alike.
+/// Values are equal if their trees are, their order is that of the trees, and equal ones hash
+/// alike.
 pub fn values_compare(a: &Value, b: &Value)
     ensures equality { IsTrue (⟦<Value as std::cmp::PartialEq>⟧.eq a.now b.now)
         ↔ (view a.now ≡ view b.now) }
@@ -83,7 +85,8 @@ pub fn values_compare(a: &Value, b: &Value)
         ≡ ⟦<Value as std::hash::Hash>⟧.hash_input b.now }
 {}
 
-/// Integers are equal where their numbers are, their order is that of the numbers, and equal ones hash alike.
+/// Integers are equal if their numbers are, their order is that of the numbers, and equal ones hash
+/// alike.
 pub fn integers_compare(a: &Integer, b: &Integer)
     ensures equality { IsTrue (⟦<Integer as std::cmp::PartialEq>⟧.eq a.now b.now)
         ↔ (number_of a.now ≡ number_of b.now) }
@@ -96,7 +99,8 @@ pub fn integers_compare(a: &Integer, b: &Integer)
         ≡ ⟦<Integer as std::hash::Hash>⟧.hash_input b.now }
 {}
 
-/// Canonical values are equal where their trees are, their order is that of their encodings, and equal ones hash alike.
+/// Canonical values are equal if their trees are, their order is that of their encodings, and equal
+/// ones hash alike.
 pub fn canonical_values_compare(a: &CanonicalValue, b: &CanonicalValue)
     ensures equality { IsTrue (⟦<CanonicalValue as std::cmp::PartialEq>⟧.eq a.now b.now)
         ↔ (view a.now.0 ≡ view b.now.0) }
@@ -122,8 +126,8 @@ pub fn orders_are_total()
     ensures texts_tie { (t s : Tree) → text_cmp t s ≡ Equal → t ≡ s }
 {}
 
-/// The orders of trees by heads and contents are those of their encodings. While an encoding is shorter than 2^64 bytes, its
-/// counted length is its length.
+/// The orders of trees by heads and contents are those of their encodings. While an encoding is
+/// shorter than 2^64 bytes, its counted length is its length.
 pub fn orders_of_encodings()
     ensures sized { (t : Tree) → Fits t → Sized t }
     ensures bytes { (t s : Tree) → Sized t → Sized s → bytewise t s ≡ text_cmp t s }

@@ -128,8 +128,9 @@ fn cmp_entry(a: &(Value, Value), b: &(Value, Value)) -> Ordering
     }
 }
 
-/// The order of the values' encodings: the shorter first, with lengths counted to `u64::MAX`, and then byte by byte (RFC 8949,
-/// section 4.2.3). Nothing is encoded and no memory is taken: one pass finds each length, and one more compares.
+/// The order of the values' encodings: the shorter first, with lengths counted to `u64::MAX`, and
+/// then byte by byte (RFC 8949, section 4.2.3). Nothing is encoded and no memory is taken: one pass
+/// finds each length, and one more compares.
 pub fn cmp_value(v1: &Value, v2: &Value) -> Ordering
     ensures by_trees { result ≡ canonical_cmp (view v1.now) (view v2.now) }
     ensures by_texts { result ≡ canonical (view v1.now) (view v2.now) }
@@ -141,7 +142,8 @@ pub fn cmp_value(v1: &Value, v2: &Value) -> Ordering
 }
 
 impl Integer {
-    /// The order of the integers' encodings: the shorter first, and then byte by byte (RFC 8949, section 4.2.3).
+    /// The order of the integers' encodings: the shorter first, and then byte by byte (RFC 8949,
+    /// section 4.2.3).
     pub fn canonical_cmp(&self, other: &Integer) -> Ordering
         ensures { result ≡ length_first (integer (number_of self.now))
             (integer (number_of other.now)) }

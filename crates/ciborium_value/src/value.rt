@@ -5,7 +5,8 @@ use crate::integer::Integer;
 use ciborium_ll::Float;
 use std::alloc::{AllocError, Global};
 
-/// A data item as a user holds it (RFC 8949). Equality and order go by the variant, then by what it holds.
+/// A data item as a user holds it (RFC 8949). Equality and order go by the variant, then by what it
+/// holds.
 #[derive(Debug, PartialEq, Eq, PartialOrd, Ord, Hash, Drop)]
 pub enum Value {
     /// An integer from -2^64 to 2^64 - 1.
@@ -34,7 +35,7 @@ impl Value {
     /// A value equal to this one.
     ///
     /// # Errors
-    /// Only where memory is refused.
+    /// Only if out of memory.
     pub fn clone(&self, alloc: Global) -> Result<Value, AllocError>
         ensures { IfOk result (λ copy. view copy ≡ view self.now) }
     {

@@ -6,8 +6,8 @@ use Rattle.cose_iana.specs.declared.claims.TheConstants.{CWT_CLAIM_NAMES}
 use Rattle.cose_iana.specs.Registry.{Registry, is_private_use}
 use Rattle.cose_iana.specs.Table.{registry, InOrder, in_order, not_below}
 
--- Names of claims: the registry "CBOR Web Token (CWT) Claims" (RFC 8392, section 9.1).
--- It is open, so that a condition on the number of an entry, as that of `claim`, computes at a caller.
+-- Names of claims: the registry "CBOR Web Token (CWT) Claims" (RFC 8392, section 9.1). It is open,
+-- so that a condition on the number of an entry, as that of `claim`, computes at a caller.
 abbrev pub cwt_claim_names : Registry CwtClaimName
 cwt_claim_names = registry cwt_claim_names_enum tt CWT_CLAIM_NAMES.now refl
 

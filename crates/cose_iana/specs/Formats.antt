@@ -6,7 +6,8 @@ use Rattle.cose_iana.specs.declared.formats.TheConstants.{COAP_CONTENT_FORMATS}
 use Rattle.cose_iana.specs.Registry.{Registry}
 use Rattle.cose_iana.specs.Table.{registry, InOrder, in_order}
 
--- Types of contents: the registry "CoAP Content-Formats" (RFC 7252, section 12.3). These are names; nothing is read or compressed in them.
+-- Types of contents: the registry "CoAP Content-Formats" (RFC 7252, section 12.3). These are names;
+-- nothing is read or compressed in them.
 unfoldable pub coap_content_formats : Registry CoapContentFormat
 coap_content_formats = registry coap_content_formats_enum tt COAP_CONTENT_FORMATS.now refl
 

@@ -20,7 +20,8 @@ pub header_parameters_not_private : (i : ℤ) → is_private_use i ≡ true → 
 unfolding header_parameters
 header_parameters_not_private = not_below (negsuc 65535) HEADER_PARAMETERS.now refl
 
--- Labels of headers that one algorithm or another needs: the registry "COSE Header Algorithm Parameters" (RFC 9053, sections 5 and 6).
+-- Labels of headers that one algorithm or another needs: the registry "COSE Header Algorithm
+-- Parameters" (RFC 9053, sections 5 and 6).
 unfoldable pub header_algorithm_parameters : Registry HeaderAlgorithmParameter
 header_algorithm_parameters = registry header_algorithm_parameters_enum tt HEADER_ALGORITHM_PARAMETERS.now refl
 

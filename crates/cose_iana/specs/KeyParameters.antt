@@ -22,7 +22,8 @@ use Rattle.cose_iana.specs.declared.key_parameters.TheConstants.{OKP_KEY_PARAMET
 use Rattle.cose_iana.specs.Registry.{number_of, Registry}
 use Rattle.cose_iana.specs.Table.{registry, InOrder, in_order}
 
--- Labels of keys of the type OKP, from the registry "COSE Key Type Parameters" (RFC 9053, section 7.2).
+-- Labels of keys of the type OKP, from the registry "COSE Key Type Parameters" (RFC 9053, section
+-- 7.2).
 unfoldable pub okp_key_parameters : Registry OkpKeyParameter
 okp_key_parameters = registry okp_key_parameters_enum tt OKP_KEY_PARAMETERS.now refl
 
@@ -30,7 +31,8 @@ pub okp_key_parameters_in_order : InOrder okp_key_parameters_enum OKP_KEY_PARAME
 unfolding okp_key_parameters
 okp_key_parameters_in_order = in_order okp_key_parameters_enum tt OKP_KEY_PARAMETERS.now refl
 
--- Labels of keys of the type EC2, from the registry "COSE Key Type Parameters" (RFC 9053, section 7.1.1).
+-- Labels of keys of the type EC2, from the registry "COSE Key Type Parameters" (RFC 9053, section
+-- 7.1.1).
 unfoldable pub ec2_key_parameters : Registry Ec2KeyParameter
 ec2_key_parameters = registry ec2_key_parameters_enum tt EC2_KEY_PARAMETERS.now refl
 

@@ -16,7 +16,8 @@ has_number table i = list_any (λ row. int_eq row.0 i) table
 unfoldable pub entry_of : {E : Type 0} → List (ℤ × E) → ℤ → Option E
 entry_of table i = option_map (λ row. row.1) (find (λ row. int_eq row.0 i) table)
 
--- what a registry says of its entries: each has a number, and each number that is registered is that of one entry
+-- what a registry says of its entries: each has a number, and each number that is registered is
+-- that of one entry
 pub record Registry (E : Type 0) : Type 0 where
   pub number : E → ℤ
   pub is_registered : ℤ → Bool
@@ -24,6 +25,7 @@ pub record Registry (E : Type 0) : Type 0 where
   pub there_and_back : (x : E) → entry (number x) ≡ Some x
   pub back_and_there : (i : ℤ) → MatchOption (entry i) (is_registered i ≡ false) (λ x. (number x ≡ i) × (is_registered i ≡ true))
 
--- numbers below -65536 are for private use (RFC 9052, section 11, which keeps these registries; RFC 8392, section 9.1)
+-- numbers below -65536 are for private use (RFC 9052, section 11, which keeps these registries; RFC
+-- 8392, section 9.1)
 abbrev pub is_private_use : ℤ → Bool
 is_private_use i = int_lt i (negsuc 65535)

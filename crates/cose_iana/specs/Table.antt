@@ -89,7 +89,8 @@ above z (row ∷ rows) (suc j) r l =
     let up = and_parts (int_lt z row.0) (rises row.0 rows) r in
     lt_through z row.0 (get_or (numbers_of rows) j (pos 0)) up.0 (above row.0 rows j up.1 (omega arith))
 
--- an enum orders its entries by the numbers that it gives them, as its rows have them, and so does the registry
+-- an enum orders its entries by the numbers that it gives them, as its rows have them, and so does
+-- the registry
 abbrev pub InOrder : (N : Record) → List (ℤ × N.D) → Registry N.D → Type 0
 InOrder N table r = (x y : N.D) → int_cmp (get_or (numbers_of table) (tag_of (declared N) x) (pos 0)) (get_or (numbers_of table) (tag_of (declared N) y) (pos 0)) ≡ int_cmp (r.number x) (r.number y)
 

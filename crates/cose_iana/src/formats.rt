@@ -3,8 +3,8 @@ ghost use Rattle.cose_iana.specs.Formats.{coap_content_formats, coap_content_for
 
 use crate::number::{EnumI64, entry_with, rows};
 
-/// Types of contents: the registry "CoAP Content-Formats" (RFC 7252, section 12.3). These are names;
-/// nothing is read or compressed in them.
+/// Types of contents: the registry "CoAP Content-Formats" (RFC 7252, section 12.3). These are
+/// names; nothing is read or compressed in them.
 #[derive(Debug, Clone, Copy, PartialEq, Eq, PartialOrd, Ord, Hash)]
 pub enum CoapContentFormat {
     /// `text/plain; charset=utf-8`.

@@ -1,13 +1,15 @@
 //! Registries of IANA for COSE: enums whose entries have the registered numbers.
 //!
-//! Each registry is an enum of its entries, with a number for each, which stands nowhere else, and a table of all of them. Both
-//! directions read the enum's numbers: `as i64` is the number of an entry, and so is `to_i64`. It is proved once for every table that
-//! each direction undoes the other, that no number stands twice, and that the entries are ordered by their numbers (`EnumI64`). The
-//! enums decide where a registry of IANA says otherwise.
+//! Each registry is an enum of its entries, with a number for each, which stands nowhere else, and
+//! a table of all of them. Both directions read the enum's numbers: `as i64` is the number of an
+//! entry, and so is `to_i64`. It is proved once for every table that each direction undoes the
+//! other, that no number is twice, and that the entries are ordered by their numbers (`EnumI64`).
+//! The enums decide if a registry of IANA says otherwise.
 //!
-//! A new entry is its name with its number in the enum and its name in the table, both in the place of its number, since the numbers
-//! rise. No proof changes, except that the law of the order of an enum of one entry, once it has two, is written as that of the others.
-//! A check refuses a name that isn't in the table, a name in another place, and a number that stands twice.
+//! A new entry is its name with its number in the enum and its name in the table, both in the place
+//! of its number, since the numbers rise. No proof changes, except that the law of the order of an
+//! enum of one entry, once it has two, is written as that of the others. A check refuses a name
+//! that isn't in the table, a name in another place, and a number that is twice.
 #![tactic(auto)]
 
 mod algorithm;

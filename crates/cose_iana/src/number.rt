@@ -3,7 +3,8 @@ ghost use Rattle.std.specs.Ordering.{int_cmp};
 ghost use Rattle.std.specs.Prelude.{◌≡◌, ℤ, Bool, true, false, Option, Some, MatchOption};
 ghost use Rattle.cose_iana.specs.Registry.{entry_of};
 
-/// A registry: each entry has a number, each number of the registry is that of one entry, and the entries are ordered by their numbers.
+/// A registry: each entry has a number, each number of the registry is that of one entry, and the
+/// entries are ordered by their numbers.
 pub trait EnumI64: Copy + Ord {
     /// The number of an entry.
     ghost number: { Self → ℤ };
@@ -14,7 +15,7 @@ pub trait EnumI64: Copy + Ord {
     /// The entry with a number, if the registry has it.
     ghost entry: { ℤ → Option Self };
 
-    /// The entry with this number, or none where the registry has no such number.
+    /// The entry with this number, or none if the registry has no such number.
     fn from_i64(i: i64) -> Option<Self>
         ensures entry { result ≡ entry i }
         ensures found { MatchOption result (is_registered i ≡ false)
@@ -28,7 +29,8 @@ pub trait EnumI64: Copy + Ord {
     /// The entry with the number of an entry is that entry.
     ghost there_and_back: { (x : Self) → entry (number x) ≡ Some x };
 
-    /// The entry with a number has that number, and there is none exactly where the registry has no such number.
+    /// The entry with a number has that number, and there is none exactly when the registry has no
+    /// such number.
     ghost back_and_there: { (i : ℤ) → MatchOption (entry i) (is_registered i ≡ false)
         (λ x. (number x ≡ i) × (is_registered i ≡ true)) };
 

@@ -12,7 +12,7 @@ pub enum CborTag {
     CoseMac0 = 17,
     /// A COSE_Sign1 (RFC 9052).
     CoseSign1 = 18,
-    /// A counter signature that stands alone (RFC 9338).
+    /// A counter signature that is alone (RFC 9338).
     CoseCountersignature = 19,
     /// A CBOR Web Token (RFC 8392).
     Cwt = 61,

@@ -1,4 +1,4 @@
--- Orders one behind the other, and the places of heads.
+-- Orders one after the other, and the places of heads.
 use Rattle.std.proofs.Common.{◌≡◌, ◌≢◌, ℕ, ℤ, pos, negsuc, ◌<◌, ◌≤◌, ◌<ℤ◌, List, [], ◌∷◌, ◌++◌, length, true, refl, ap, subst, ◌∙◌, arith}
 use Rattle.std.proofs.lemmas.Bool.{false≢true}
 use Rattle.std.proofs.lemmas.Map.Lookups.{exact_unsigned}
@@ -49,7 +49,7 @@ float_tied (Single n) (Double m) e h = absurd (omega arith)
 float_tied (Double n) (Half m) e h = absurd (omega arith)
 float_tied (Double n) (Single m) e h = absurd (omega arith)
 
--- two lists with one length, and more behind them
+-- two lists with one length, and more after them
 pub same_long : (a b u v : List ℕ) → length a ≡ length b → bytes_cmp (a ++ u) (b ++ v) ≡ ordering_then (bytes_cmp a b) (bytes_cmp u v)
 same_long [] [] u v e = refl
 same_long [] (y ∷ b) u v e = absurd (omega (arith, e))

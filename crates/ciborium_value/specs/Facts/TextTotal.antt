@@ -1,4 +1,5 @@
--- The orders of trees by their encodings are total: each tree has a list of numbers whose order is that of the trees.
+-- The orders of trees by their encodings are total: each tree has a list of numbers whose order is
+-- that of the trees.
 use Rattle.std.proofs.Common.{◌≡◌, ℕ, List, [], ◌∷◌, ◌++◌, length, refl, sym, ap, subst, ◌∙◌, arith, append_assoc, append-nil}
 use Rattle.std.specs.Cmp.{IsTotalOrder, nat_cmp_total, on_total, then_total}
 use Rattle.std.specs.Cmp.Lexicographic.{nat_list_cmp_total}

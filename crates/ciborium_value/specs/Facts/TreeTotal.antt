@@ -1,4 +1,5 @@
--- The order of trees by kind is total: each tree has a list of numbers whose order is that of the trees.
+-- The order of trees by kind is total: each tree has a list of numbers whose order is that of the
+-- trees.
 use Rattle.std.proofs.Common.{◌≡◌, ℕ, ℤ, pos, ◌<◌, ◌<ℤ◌, arith, List, [], ◌∷◌, ◌++◌, refl, sym, ap, subst, ◌∙◌, append_assoc, append-nil}
 use Rattle.std.specs.Cmp.{IsTotalOrder, on_total, nat_cmp_is}
 use Rattle.std.proofs.lemmas.Int.{ints}
