@@ -12,7 +12,7 @@ use Rattle.coset_headers.specs.Headers.{HasProtected, HasSignatures}
 use Rattle.coset_headers.specs.Written.{header_tree, shown, signature_tree}
 use Rattle.coset_headers.proofs.Again.{prot_again, hdr_again, sig_again}
 use Rattle.coset_headers.proofs.Sound.{Sound, SoundAll, array_inside, array_sound, all_none, all_more, all_parts, hdr_sound, sig_sound, folds_all}
-use Rattle.coset_maced.specs.PartShapes.{HasParts, HoldOf, HasWhole}
+use Rattle.coset_maced.specs.PartShapes.{parts, HasParts, HoldOf, HasWhole}
 use Rattle.coset_maced.specs.PartsWritten.{optional_tree, parts_trees, whole_tree}
 use Rattle.coset_maced.specs.RecipientFields.{RecipientFields, recipient, RecipientsFields, no_recipients, recipient_more}
 use Rattle.coset_maced.specs.RecipientShapes.{three_or_four, HasRecipient, HasRecipients, HasInner, HasList}
@@ -67,12 +67,12 @@ record PartsAgain (n : ℕ) (x y z : Tree) (p : ProtectedFields) (u : HeaderFiel
   first : Tree
   second : Tree
   is : first ∷ second ∷ optional_tree c ∷ [] ≡ ts
-  parts : HasParts n first second (optional_tree c) p u c k
+  parts : HasParts n first second (optional_tree c) (parts p u c) k
   one : Rewrite x first
   two : Rewrite y second
   three : Rewrite z (optional_tree c)
 
-parts_again : (n : ℕ) (x y z : Tree) (p : ProtectedFields) (u : HeaderFields) (c : Option (List ℕ)) (ts : List Tree) (k : ℕ) → HasParts n x y z p u c k → parts_trees p u c ≡ Some ts → PartsAgain n x y z p u c ts k
+parts_again : (n : ℕ) (x y z : Tree) (p : ProtectedFields) (u : HeaderFields) (c : Option (List ℕ)) (ts : List Tree) (k : ℕ) → HasParts n x y z (parts p u c) k → parts_trees (parts p u c) ≡ Some ts → PartsAgain n x y z p u c ts k
 parts_again n x y z p u c ts k h e =
     let b = and_made (λ b. option_map (λ t. bytes b ∷ t ∷ optional_tree c ∷ []) (header_tree u)) (shown p) ts e in
     let t = map_made (λ t. bytes b.0 ∷ t ∷ optional_tree c ∷ []) (header_tree u) ts b.2 in
@@ -177,7 +177,7 @@ module _ (n : ℕ) (x y z : Tree) (p : ProtectedFields) (u : HeaderFields) (c : 
 mutual
   recipient_again : (n : ℕ) (r : RecipientFields) (t v : Tree) (k : ℕ) → HasRecipient n t r k → recipient_tree r ≡ Some v → RecipientAgain n t v r k
   recipient_again n (recipient p u c rs) t v k h e =
-      let ps = and_made (λ parts. option_map (λ ts. whole parts ts) (recipients_trees rs)) (parts_trees p u c) v e in
+      let ps = and_made (λ parts. option_map (λ ts. whole parts ts) (recipients_trees rs)) (parts_trees (parts p u c)) v e in
       let vs = map_made (λ ts. whole ps.0 ts) (recipients_trees rs) v ps.2 in
       inner_again n h.0 h.1 h.2 p u c rs ps.0 k (parts_again n h.0 h.1 h.2 p u c ps.0 k h.5 ps.1) t v h.3 vs.0 h.4 h.6 vs.1 vs.2 (λ ts x. recipients_again n rs ts vs.0 k x vs.1)
 
@@ -244,16 +244,16 @@ bytes_follow b x y h e =
     let q : y ≡ bytes b = cc in
     (q, subst (Rewrite x) (h ∙ sym q) (same_rewrite x))
 
-whole_again : (n k : ℕ) (t v : Tree) (p : ProtectedFields) (u : HeaderFields) (c : Option (List ℕ)) (Ps : List (Tree → Type 0)) (os : List (Option Tree)) → HasWhole n t p u c Ps k → whole_tree p u c os ≡ Some v → AllFollow Ps os
-    → Again (λ q. HasWhole n q p u c Ps k) t v
+whole_again : (n k : ℕ) (t v : Tree) (p : ProtectedFields) (u : HeaderFields) (c : Option (List ℕ)) (Ps : List (Tree → Type 0)) (os : List (Option Tree)) → HasWhole n t (parts p u c) Ps k → whole_tree (parts p u c) os ≡ Some v → AllFollow Ps os
+    → Again (λ q. HasWhole n q (parts p u c) Ps k) t v
 whole_again n k t v p u c Ps os h e f =
-    let w = and_made (λ parts. option_map (λ ls. array (trees (parts ++ ls))) (all_written (λ o. o) os)) (parts_trees p u c) v e in
+    let w = and_made (λ parts. option_map (λ ls. array (trees (parts ++ ls))) (all_written (λ o. o) os)) (parts_trees (parts p u c)) v e in
     let l = map_made (λ ls. array (trees (w.0 ++ ls))) (all_written (λ o. o) os) v w.2 in
     let a = parts_again n h.first h.second h.third p u c w.0 k h.parts w.1 in
     let r = follow Ps os h.lasts l.0 f h.hold l.1 in
     let third = optional_tree c in
     let is : v ≡ array (trees (a.first ∷ a.second ∷ third ∷ l.0)) = sym l.2 ∙ ap (λ z. array (trees (z ++ l.0))) (sym a.is) in
-    made (λ q. HasWhole n q p u c Ps k) t v (trees (h.first ∷ h.second ∷ h.third ∷ h.lasts)) (trees (a.first ∷ a.second ∷ third ∷ l.0)) h.is is
+    made (λ q. HasWhole n q (parts p u c) Ps k) t v (trees (h.first ∷ h.second ∷ h.third ∷ h.lasts)) (trees (a.first ∷ a.second ∷ third ∷ l.0)) h.is is
     (record { first = a.first; second = a.second; third = third; lasts = l.0; is = is; parts = a.parts; hold = r.0 })
     (three_rewrite h.first h.second h.third a.first a.second third (trees h.lasts) (trees l.0) a.one a.two a.three r.1)
 

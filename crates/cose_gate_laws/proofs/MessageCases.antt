@@ -8,7 +8,7 @@ use Rattle.coset_labels.specs.Kinds.{is_array}
 use Rattle.coset_headers.specs.Fields.{HeaderFields, ProtectedFields, SignatureFields, signatures, Signatures, no_signatures, signature_more}
 use Rattle.coset_headers.specs.Headers.{HasSignatures}
 use Rattle.coset_headers.specs.Weight.{weight, weight_all}
-use Rattle.cose_gate_core.specs.PartShapes.{HasParts, HasWhole}
+use Rattle.cose_gate_core.specs.PartShapes.{parts, HasParts, HasWhole}
 use Rattle.cose_gate_core.specs.WrongParts.{WrongParts, in_protected, in_unprotected, in_content, WrongWhole}
 use Rattle.cose_gate_core.specs.WrongParts as whole
 use Rattle.cose_gate_core.specs.RecipientFields.{RecipientFields, recipient, RecipientsFields, no_recipients, recipient_more}
@@ -24,7 +24,7 @@ use Rattle.cose_gate_laws.proofs.HeaderCases.{HeaderCase, ProtectedCase, AllLigh
 
 -- ---- the parts
 abbrev pub PartsCase : ℕ → Tree → Tree → Tree → ℕ → Type 0
-PartsCase n x y z k = ((p : ProtectedFields) × (u : HeaderFields) × (c : Option (List ℕ)) × HasParts n x y z p u c k) ⊎ ((e : CoseFault) × WrongParts n x y z k e)
+PartsCase n x y z k = ((p : ProtectedFields) × (u : HeaderFields) × (c : Option (List ℕ)) × HasParts n x y z (parts p u c) k) ⊎ ((e : CoseFault) × WrongParts n x y z k e)
 
 parts_of : (n k : ℕ) (x y z : Tree) → ProtectedCase n x k → HeaderCase n y k → PartsCase n x y z k
 parts_of n k x y z (inr (e, w)) h = inr (e, in_protected e w)
@@ -141,7 +141,7 @@ list_case n k t low = list_step n k (weight t) (λ u l low'. recipient_case n k 
 -- ---- signed messages
 module _ (n k : ℕ) (F : Type 0) (Has : F → Tree → Type 0) (Wrong : Tree → CoseFault → Type 0) (last : (d : Tree) → Low d → ((f : F) × Has f d) ⊎ ((e : CoseFault) × Wrong d e)) where
   abbrev FourCase : Tree → Type 0
-  FourCase t = ((p : ProtectedFields) × (u : HeaderFields) × (c : Option (List ℕ)) × (f : F) × HasWhole n t p u c (Has f ∷ []) k) ⊎ ((e : CoseFault) × WrongWhole n t (Wrong ∷ []) k e)
+  FourCase t = ((p : ProtectedFields) × (u : HeaderFields) × (c : Option (List ℕ)) × (f : F) × HasWhole n t (parts p u c) (Has f ∷ []) k) ⊎ ((e : CoseFault) × WrongWhole n t (Wrong ∷ []) k e)
 
   four_of : (a b c d : Tree) → PartsCase n a b c k → ((f : F) × Has f d) ⊎ ((e : CoseFault) × Wrong d e) → FourCase (array (trees (a ∷ b ∷ c ∷ d ∷ [])))
   four_of a b c d (inr (e, x)) l = inr (e, whole.in_parts a b c (d ∷ []) e refl refl x)

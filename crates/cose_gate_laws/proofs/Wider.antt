@@ -5,7 +5,7 @@ use Rattle.ciborium_value.specs.View.{trees}
 use Rattle.ciborium.specs.Front.{Reads}
 use Rattle.coset_headers.specs.Fields.{HeaderFields, header, ProtectedFields, protected, SignatureFields, signature, Signatures, no_signatures, signature_more, signatures}
 use Rattle.coset_headers.specs.Headers.{at, HasHeader, HasProtected, HasSignature, HasSigned, HasSignatures}
-use Rattle.cose_gate_core.specs.PartShapes.{HasParts, one_held, two_held}
+use Rattle.cose_gate_core.specs.PartShapes.{parts, HasParts, one_held, two_held}
 use Rattle.cose_gate_core.specs.RecipientFields.{RecipientFields, recipient, RecipientsFields, no_recipients, recipient_more}
 use Rattle.cose_gate_core.specs.RecipientShapes.{HasRecipient, HasRecipients}
 use Rattle.cose_gate_core.specs.SignedFields.{Sign1Fields, SignFields}
@@ -42,7 +42,7 @@ module _ (n w : ℕ) (deep : n ≤ w) where
     signatures_wider no_signatures ts k l e h = h
     signatures_wider (signature_more s ss) ts k l e (u, us, more, one, all) = (u, us, more, signature_wider s u k l e one, signatures_wider ss us k l e all)
 
-  parts_wider : (x y z : Tree) (p : ProtectedFields) (u : HeaderFields) (c : Option (List ℕ)) (k l : ℕ) → k ≤ l → HasParts n x y z p u c k → HasParts w x y z p u c l
+  parts_wider : (x y z : Tree) (p : ProtectedFields) (u : HeaderFields) (c : Option (List ℕ)) (k l : ℕ) → k ≤ l → HasParts n x y z (parts p u c) k → HasParts w x y z (parts p u c) l
   parts_wider x y z p u c k l e h = record { protected = protected_wider p x k l e h.protected; unprotected = header_wider u y k l e h.unprotected; content = h.content }
 
   mutual

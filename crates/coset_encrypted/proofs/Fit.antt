@@ -3,6 +3,7 @@ use Rattle.std.proofs.Common.{◌≡◌, ℕ, List, [], ◌∷◌, Some, arith}
 use Rattle.ciborium_value.specs.Tree.{Tree}
 use Rattle.ciborium_value.specs.View.{trees}
 use Rattle.ciborium_value.specs.Encoding.{Fits, FitAll}
+use Rattle.coset_message_parts.specs.Fields.{parts}
 use Rattle.coset_message_parts.specs.Short.{PartsShort}
 use Rattle.coset_message_parts.specs.Written.{parts_trees}
 use Rattle.coset_message_parts.proofs.Fit.{parts_short}
@@ -16,10 +17,10 @@ use Rattle.coset_encrypted.specs.Shapes.{HasEncrypt0, HasEncrypt}
 use Rattle.coset_encrypted.specs.Short.{Encrypt0Short, EncryptShort}
 use Rattle.coset_encrypted.specs.Written.{encrypt0_tree, encrypt_tree}
 
-pub encrypt0_fit : (m : Encrypt0Fields) (v : Tree) → ((ts : List Tree) → parts_trees m.protected m.unprotected m.ciphertext ≡ Some ts → PartsShort m.protected m.unprotected → FitAll (trees ts)) → encrypt0_tree m ≡ Some v → Encrypt0Short m → Fits v
+pub encrypt0_fit : (m : Encrypt0Fields) (v : Tree) → ((ts : List Tree) → parts_trees (parts m.protected m.unprotected m.ciphertext) ≡ Some ts → PartsShort m.protected m.unprotected → FitAll (trees ts)) → encrypt0_tree m ≡ Some v → Encrypt0Short m → Fits v
 encrypt0_fit m v f e s = whole_fits m.protected m.unprotected m.ciphertext [] v f s tt (omega arith) e
 
-pub encrypt_fit : (m : EncryptFields) (v : Tree) → ((ts : List Tree) → parts_trees m.protected m.unprotected m.ciphertext ≡ Some ts → PartsShort m.protected m.unprotected → FitAll (trees ts))
+pub encrypt_fit : (m : EncryptFields) (v : Tree) → ((ts : List Tree) → parts_trees (parts m.protected m.unprotected m.ciphertext) ≡ Some ts → PartsShort m.protected m.unprotected → FitAll (trees ts))
     → ((u : Tree) → list_tree m.recipients ≡ Some u → RecipientsShort m.recipients → Fits u) → encrypt_tree m ≡ Some v → EncryptShort m → Fits v
 encrypt_fit m v f l e s = whole_fits m.protected m.unprotected m.ciphertext (list_tree m.recipients ∷ []) v f s.0 (λ y q. l y q s.1, tt) (omega arith) e
 

@@ -2,14 +2,15 @@
 -- headers.
 use Rattle.std.specs.Prelude.{ℕ, [], ◌∷◌}
 use Rattle.ciborium_value.specs.Tree.{Tree}
+use Rattle.coset_message_parts.specs.Fields.{parts}
 use Rattle.coset_message_parts.specs.Shapes.{HasWhole}
 use Rattle.coset_recipients.specs.Shapes.{HasList}
 use Rattle.coset_encrypted.specs.Fields.{Encrypt0Fields, EncryptFields}
 
 -- an array of a protected header, an unprotected one, and the ciphertext or null
 abbrev pub HasEncrypt0 : ℕ → Tree → Encrypt0Fields → ℕ → Type 0
-HasEncrypt0 n t m k = HasWhole n t m.protected m.unprotected m.ciphertext [] k
+HasEncrypt0 n t m k = HasWhole n t (parts m.protected m.unprotected m.ciphertext) [] k
 
 -- the same, and an array of recipients
 abbrev pub HasEncrypt : ℕ → Tree → EncryptFields → ℕ → Type 0
-HasEncrypt n t m k = HasWhole n t m.protected m.unprotected m.ciphertext ((λ r. HasList n r m.recipients k) ∷ []) k
+HasEncrypt n t m k = HasWhole n t (parts m.protected m.unprotected m.ciphertext) ((λ r. HasList n r m.recipients k) ∷ []) k

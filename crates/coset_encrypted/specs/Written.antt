@@ -2,12 +2,13 @@
 -- written.
 use Rattle.std.specs.Prelude.{[], ◌∷◌, Option}
 use Rattle.ciborium_value.specs.Tree.{Tree}
+use Rattle.coset_message_parts.specs.Fields.{parts}
 use Rattle.coset_message_parts.specs.Written.{whole_tree}
 use Rattle.coset_recipients.specs.Written.{list_tree}
 use Rattle.coset_encrypted.specs.Fields.{Encrypt0Fields, EncryptFields}
 
 abbrev pub encrypt0_tree : Encrypt0Fields → Option Tree
-encrypt0_tree m = whole_tree m.protected m.unprotected m.ciphertext []
+encrypt0_tree m = whole_tree (parts m.protected m.unprotected m.ciphertext) []
 
 abbrev pub encrypt_tree : EncryptFields → Option Tree
-encrypt_tree m = whole_tree m.protected m.unprotected m.ciphertext (list_tree m.recipients ∷ [])
+encrypt_tree m = whole_tree (parts m.protected m.unprotected m.ciphertext) (list_tree m.recipients ∷ [])

@@ -1,8 +1,7 @@
 //! The COSE_Encrypt0 message.
 ghost use Rattle.std.specs.Prelude.{◌≡◌, IsSome, IfSome, IfNone, IsSomeAnd, IfOk, MatchOption};
-ghost use Rattle.std.specs.Prelude.{MatchResult, Some};
-ghost use Rattle.coset_labels.specs.Faults.{CantWrite};
 ghost use Rattle.coset_message_parts.specs.Calls.{TakesPairWhere, AnswersWhere, AnswersMissing};
+ghost use Rattle.coset_message_parts.specs.Results.{Writes};
 ghost use Rattle.coset_encrypted.specs.Fields.{no_encrypt0};
 ghost use Rattle.coset_encrypted.specs.Structure.{encrypt0_covered};
 ghost use Rattle.coset_encrypted.specs.View.{encrypt0_view};
@@ -60,9 +59,7 @@ impl CoseEncrypt0 {
     /// `DuplicateMapKey` exactly where a label stands twice in a protected header that has to be
     /// encoded, or `Memory`.
     pub fn covered(&self, alloc: Global, aad: &[u8]) -> Result<Vec<u8>, CoseError>
-        ensures { MatchResult result
-            (λ v. encrypt0_covered (encrypt0_view self.now) aad.now ≡ Some v.items)
-            (λ e. CantWrite (encrypt0_covered (encrypt0_view self.now) aad.now) e) }
+        ensures { Writes (encrypt0_covered (encrypt0_view self.now) aad.now) (λ v. v.items) result }
     {
         enc_structure_data(alloc, EncryptionContext::CoseEncrypt0, &self.protected, aad)
     }

@@ -87,7 +87,8 @@ impl CoseEncrypt0Builder {
             (encrypt0_covered (encrypt0_so_far self) aad.now)
             encrypt0_ciphertext
             (λ b. encrypt0_so_far b
-            ≡ record (encrypt0_so_far self) { ciphertext = (encrypt0_so_far b).ciphertext }) result }
+            ≡ record (encrypt0_so_far self) { ciphertext = (encrypt0_so_far b).ciphertext })
+            result }
     {
         let data = self.message.covered(alloc, aad)?;
         let ciphertext = cipher(plaintext, data.as_slice());
@@ -111,7 +112,8 @@ impl CoseEncrypt0Builder {
             (encrypt0_covered (encrypt0_so_far self) aad.now)
             encrypt0_ciphertext
             (λ b. encrypt0_so_far b
-            ≡ record (encrypt0_so_far self) { ciphertext = (encrypt0_so_far b).ciphertext }) result }
+            ≡ record (encrypt0_so_far self) { ciphertext = (encrypt0_so_far b).ciphertext })
+            result }
     {
         let data = self.message.covered(alloc, aad)?;
         let ciphertext = cipher(plaintext, data.as_slice()).map_err(Fault::Caller)?;

@@ -1,8 +1,7 @@
 //! COSE_Encrypt0 messages as values and bytes.
-ghost use Rattle.std.specs.Prelude.{MatchResult};
 ghost use Rattle.ciborium_value.specs.View.{view};
-ghost use Rattle.coset_labels.specs.Faults.{OrMemory};
-ghost use Rattle.coset_labels.specs.Limits.{nesting, layers, nesting_of, layers_of};
+ghost use Rattle.coset_labels.specs.Limits.{nesting, layers};
+ghost use Rattle.coset_message_parts.specs.Results.{ReadsWithin};
 ghost use Rattle.coset_encrypted.specs.Fields.{Encrypt0Fields};
 ghost use Rattle.coset_encrypted.specs.Shapes.{HasEncrypt0};
 ghost use Rattle.coset_encrypted.specs.View.{encrypt0_view};
@@ -62,9 +61,7 @@ impl CoseEncrypt0 {
         value: Value,
         limits: Limits,
     ) -> Result<CoseEncrypt0, CoseError>
-        ensures { MatchResult result
-            (λ m. HasEncrypt0 (nesting_of limits) (view value) (encrypt0_view m) (layers_of limits))
-            (λ e. OrMemory (WrongEncrypt0 (nesting_of limits) (view value) (layers_of limits)) e) }
+        ensures { ReadsWithin limits HasEncrypt0 WrongEncrypt0 (view value) encrypt0_view result }
     {
         let items = value.try_as_array()?;
         match three(items) {

@@ -1,8 +1,7 @@
 //! COSE_Encrypt messages as values and bytes.
-ghost use Rattle.std.specs.Prelude.{MatchResult};
 ghost use Rattle.ciborium_value.specs.View.{view};
-ghost use Rattle.coset_labels.specs.Faults.{OrMemory};
-ghost use Rattle.coset_labels.specs.Limits.{nesting, layers, nesting_of, layers_of};
+ghost use Rattle.coset_labels.specs.Limits.{nesting, layers};
+ghost use Rattle.coset_message_parts.specs.Results.{ReadsWithin};
 ghost use Rattle.coset_encrypted.specs.Fields.{EncryptFields};
 ghost use Rattle.coset_encrypted.specs.Shapes.{HasEncrypt};
 ghost use Rattle.coset_encrypted.specs.View.{encrypt_view};
@@ -66,9 +65,7 @@ impl CoseEncrypt {
         value: Value,
         limits: Limits,
     ) -> Result<CoseEncrypt, CoseError>
-        ensures { MatchResult result
-            (λ m. HasEncrypt (nesting_of limits) (view value) (encrypt_view m) (layers_of limits))
-            (λ e. OrMemory (WrongEncrypt (nesting_of limits) (view value) (layers_of limits)) e) }
+        ensures { ReadsWithin limits HasEncrypt WrongEncrypt (view value) encrypt_view result }
     {
         let items = value.try_as_array()?;
         match four(items) {

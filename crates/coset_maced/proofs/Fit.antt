@@ -3,6 +3,7 @@ use Rattle.std.proofs.Common.{◌≡◌, ℕ, List, [], ◌∷◌, Some, arith}
 use Rattle.ciborium_value.specs.Tree.{Tree, bytes}
 use Rattle.ciborium_value.specs.View.{trees}
 use Rattle.ciborium_value.specs.Encoding.{Fits, FitAll}
+use Rattle.coset_message_parts.specs.Fields.{parts}
 use Rattle.coset_message_parts.specs.Short.{PartsShort}
 use Rattle.coset_message_parts.specs.Written.{parts_trees}
 use Rattle.coset_message_parts.proofs.Fit.{parts_short}
@@ -16,10 +17,10 @@ use Rattle.coset_maced.specs.Shapes.{HasMac0, HasMac}
 use Rattle.coset_maced.specs.Short.{Mac0Short, MacShort}
 use Rattle.coset_maced.specs.Written.{mac0_tree, mac_tree}
 
-pub mac0_fit : (m : Mac0Fields) (v : Tree) → ((ts : List Tree) → parts_trees m.protected m.unprotected m.payload ≡ Some ts → PartsShort m.protected m.unprotected → FitAll (trees ts)) → Fits (bytes m.tag) → mac0_tree m ≡ Some v → Mac0Short m → Fits v
+pub mac0_fit : (m : Mac0Fields) (v : Tree) → ((ts : List Tree) → parts_trees (parts m.protected m.unprotected m.payload) ≡ Some ts → PartsShort m.protected m.unprotected → FitAll (trees ts)) → Fits (bytes m.tag) → mac0_tree m ≡ Some v → Mac0Short m → Fits v
 mac0_fit m v f g e s = whole_fits m.protected m.unprotected m.payload (Some (bytes m.tag) ∷ []) v f s (λ y q. some_fits (bytes m.tag) y g q, tt) (omega arith) e
 
-pub mac_fit : (m : MacFields) (v : Tree) → ((ts : List Tree) → parts_trees m.protected m.unprotected m.payload ≡ Some ts → PartsShort m.protected m.unprotected → FitAll (trees ts)) → Fits (bytes m.tag)
+pub mac_fit : (m : MacFields) (v : Tree) → ((ts : List Tree) → parts_trees (parts m.protected m.unprotected m.payload) ≡ Some ts → PartsShort m.protected m.unprotected → FitAll (trees ts)) → Fits (bytes m.tag)
     → ((u : Tree) → list_tree m.recipients ≡ Some u → RecipientsShort m.recipients → Fits u) → mac_tree m ≡ Some v → MacShort m → Fits v
 mac_fit m v f g l e s = whole_fits m.protected m.unprotected m.payload (Some (bytes m.tag) ∷ list_tree m.recipients ∷ []) v f s.0 (λ y q. some_fits (bytes m.tag) y g q, (λ y q. l y q s.1, tt)) (omega arith) e
 

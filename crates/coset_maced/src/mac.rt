@@ -1,8 +1,7 @@
 //! The COSE_Mac message.
 ghost use Rattle.std.specs.Prelude.{◌≡◌, IsSome, IfSome, IfNone, IsSomeAnd, IfOk, MatchOption};
-ghost use Rattle.std.specs.Prelude.{MatchResult, Some};
-ghost use Rattle.coset_labels.specs.Faults.{CantWrite};
 ghost use Rattle.coset_message_parts.specs.Calls.{TakesPairWhere, AnswersWhere, AnswersMissing};
+ghost use Rattle.coset_message_parts.specs.Results.{Writes};
 ghost use Rattle.coset_maced.specs.Fields.{no_mac};
 ghost use Rattle.coset_maced.specs.Structure.{mac_covered, mac_covered_with};
 ghost use Rattle.coset_maced.specs.View.{mac_view};
@@ -70,9 +69,8 @@ impl CoseMac {
     /// `DuplicateMapKey` exactly where a label stands twice in a protected header that has to be
     /// encoded, or `Memory`.
     pub fn covered(&self, alloc: Global, payload: &[u8], aad: &[u8]) -> Result<Vec<u8>, CoseError>
-        ensures { MatchResult result
-            (λ v. mac_covered_with (mac_view self.now) payload.now aad.now ≡ Some v.items)
-            (λ e. CantWrite (mac_covered_with (mac_view self.now) payload.now aad.now) e) }
+        ensures { Writes (mac_covered_with (mac_view self.now) payload.now aad.now) (λ v. v.items)
+            result }
     {
         mac_structure_data(alloc, MacContext::CoseMac, &self.protected, aad, payload)
     }
@@ -83,9 +81,7 @@ impl CoseMac {
     /// # Errors
     /// As of `covered`.
     pub fn tbm_data(&self, alloc: Global, aad: &[u8]) -> Result<Vec<u8>, CoseError>
-        ensures { MatchResult result
-            (λ v. mac_covered (mac_view self.now) aad.now ≡ Some v.items)
-            (λ e. CantWrite (mac_covered (mac_view self.now) aad.now) e) }
+        ensures { Writes (mac_covered (mac_view self.now) aad.now) (λ v. v.items) result }
     {
         self.covered(alloc, content_bytes(&self.payload), aad)
     }

@@ -1,8 +1,7 @@
 //! The COSE_Mac0 message.
 ghost use Rattle.std.specs.Prelude.{◌≡◌, IsSome, IfSome, IfNone, IsSomeAnd, IfOk, MatchOption};
-ghost use Rattle.std.specs.Prelude.{MatchResult, Some};
-ghost use Rattle.coset_labels.specs.Faults.{CantWrite};
 ghost use Rattle.coset_message_parts.specs.Calls.{TakesPairWhere, AnswersWhere, AnswersMissing};
+ghost use Rattle.coset_message_parts.specs.Results.{Writes};
 ghost use Rattle.coset_maced.specs.Fields.{no_mac0};
 ghost use Rattle.coset_maced.specs.Structure.{mac0_covered, mac0_covered_with};
 ghost use Rattle.coset_maced.specs.View.{mac0_view};
@@ -64,9 +63,8 @@ impl CoseMac0 {
     /// `DuplicateMapKey` exactly where a label stands twice in a protected header that has to be
     /// encoded, or `Memory`.
     pub fn covered(&self, alloc: Global, payload: &[u8], aad: &[u8]) -> Result<Vec<u8>, CoseError>
-        ensures { MatchResult result
-            (λ v. mac0_covered_with (mac0_view self.now) payload.now aad.now ≡ Some v.items)
-            (λ e. CantWrite (mac0_covered_with (mac0_view self.now) payload.now aad.now) e) }
+        ensures { Writes (mac0_covered_with (mac0_view self.now) payload.now aad.now) (λ v. v.items)
+            result }
     {
         mac_structure_data(alloc, MacContext::CoseMac0, &self.protected, aad, payload)
     }
@@ -77,9 +75,7 @@ impl CoseMac0 {
     /// # Errors
     /// As of `covered`.
     pub fn tbm_data(&self, alloc: Global, aad: &[u8]) -> Result<Vec<u8>, CoseError>
-        ensures { MatchResult result
-            (λ v. mac0_covered (mac0_view self.now) aad.now ≡ Some v.items)
-            (λ e. CantWrite (mac0_covered (mac0_view self.now) aad.now) e) }
+        ensures { Writes (mac0_covered (mac0_view self.now) aad.now) (λ v. v.items) result }
     {
         self.covered(alloc, content_bytes(&self.payload), aad)
     }

@@ -1,9 +1,9 @@
 //! COSE_Mac0 messages as values and bytes.
-ghost use Rattle.std.specs.Prelude.{MatchResult};
+ghost use Rattle.std.specs.Prelude.{◌≡◌, OnErr};
 ghost use Rattle.ciborium_value.specs.View.{view};
-ghost use Rattle.coset_labels.specs.Faults.{OrMemory};
-ghost use Rattle.coset_labels.specs.Limits.{nesting, layers, nesting_of, layers_of};
-ghost use Rattle.coset_maced.specs.Fields.{Mac0Fields};
+ghost use Rattle.coset_labels.specs.Limits.{nesting, layers};
+ghost use Rattle.coset_message_parts.specs.Results.{ReadsWithin};
+ghost use Rattle.coset_maced.specs.Fields.{Mac0Fields, no_mac0};
 ghost use Rattle.coset_maced.specs.Shapes.{HasMac0};
 ghost use Rattle.coset_maced.specs.View.{mac0_view};
 ghost use Rattle.coset_maced.specs.Written.{mac0_tree};
@@ -15,7 +15,7 @@ use coset_labels::tuples::four;
 use coset_labels::{
     AsCborValue, CborSerializable, CoseError, Limits, TaggedCborSerializable, ValueTryAs,
 };
-use coset_message_parts::{Parts, read_parts, write_parts};
+use coset_message_parts::{Parts, fill_parts, write_parts};
 use std::alloc::Global;
 
 /// The elements are read from the last to the first.
@@ -64,21 +64,41 @@ impl CoseMac0 {
         value: Value,
         limits: Limits,
     ) -> Result<CoseMac0, CoseError>
-        ensures { MatchResult result
-            (λ m. HasMac0 (nesting_of limits) (view value) (mac0_view m) (layers_of limits))
-            (λ e. OrMemory (WrongMac0 (nesting_of limits) (view value) (layers_of limits)) e) }
+        ensures { ReadsWithin limits HasMac0 WrongMac0 (view value) mac0_view result }
     {
+        let mut message = CoseMac0::new(alloc);
+        message.fill(alloc, value, limits)?;
+        Ok(message)
+    }
+
+    /// Reads a message into this one, in place of its fields, within these limits. After an error
+    /// it has no field.
+    ///
+    /// # Errors
+    /// Those of `from_cbor_value_with`.
+    pub fn fill(&mut self, alloc: Global, value: Value, limits: Limits) -> Result<(), CoseError>
+        ensures read { ReadsWithin limits HasMac0 WrongMac0 (view value) (λ _. mac0_view self.new)
+            result }
+        ensures err { OnErr result (mac0_view self.new ≡ no_mac0) }
+    {
+        *self = CoseMac0::new(alloc);
         let items = value.try_as_array()?;
         match four(items) {
             Some((protected, unprotected, payload, tag)) => {
                 let tag = tag.try_as_bytes()?;
-                let parts = read_parts(alloc, protected, unprotected, payload, limits, "bstr")?;
-                Ok(CoseMac0 {
-                    protected: parts.protected,
-                    unprotected: parts.unprotected,
-                    payload: parts.content,
-                    tag,
-                })
+                fill_parts(
+                    alloc,
+                    protected,
+                    unprotected,
+                    payload,
+                    limits,
+                    "bstr",
+                    &mut self.protected,
+                    &mut self.unprotected,
+                    &mut self.payload,
+                )?;
+                self.tag = tag;
+                Ok(())
             }
             None => Err(CoseError::UnexpectedItem("array", "array with 4 items")),
         }

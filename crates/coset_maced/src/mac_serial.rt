@@ -1,9 +1,9 @@
 //! COSE_Mac messages as values and bytes.
-ghost use Rattle.std.specs.Prelude.{MatchResult};
+ghost use Rattle.std.specs.Prelude.{◌≡◌, OnErr};
 ghost use Rattle.ciborium_value.specs.View.{view};
-ghost use Rattle.coset_labels.specs.Faults.{OrMemory};
-ghost use Rattle.coset_labels.specs.Limits.{nesting, layers, nesting_of, layers_of};
-ghost use Rattle.coset_maced.specs.Fields.{MacFields};
+ghost use Rattle.coset_labels.specs.Limits.{nesting, layers};
+ghost use Rattle.coset_message_parts.specs.Results.{ReadsWithin};
+ghost use Rattle.coset_maced.specs.Fields.{MacFields, no_mac};
 ghost use Rattle.coset_maced.specs.Shapes.{HasMac};
 ghost use Rattle.coset_maced.specs.View.{mac_view};
 ghost use Rattle.coset_maced.specs.Written.{mac_tree};
@@ -15,7 +15,7 @@ use coset_labels::tuples::five;
 use coset_labels::{
     AsCborValue, CborSerializable, CoseError, Limits, TaggedCborSerializable, ValueTryAs,
 };
-use coset_message_parts::{Parts, read_parts, write_parts};
+use coset_message_parts::{Parts, fill_parts, write_parts};
 use coset_recipients::{read_recipients, write_recipients};
 use std::alloc::Global;
 
@@ -68,23 +68,43 @@ impl CoseMac {
         value: Value,
         limits: Limits,
     ) -> Result<CoseMac, CoseError>
-        ensures { MatchResult result
-            (λ m. HasMac (nesting_of limits) (view value) (mac_view m) (layers_of limits))
-            (λ e. OrMemory (WrongMac (nesting_of limits) (view value) (layers_of limits)) e) }
+        ensures { ReadsWithin limits HasMac WrongMac (view value) mac_view result }
     {
+        let mut message = CoseMac::new(alloc);
+        message.fill(alloc, value, limits)?;
+        Ok(message)
+    }
+
+    /// Reads a message into this one, in place of its fields, within these limits. After an error
+    /// it has no field.
+    ///
+    /// # Errors
+    /// Those of `from_cbor_value_with`.
+    pub fn fill(&mut self, alloc: Global, value: Value, limits: Limits) -> Result<(), CoseError>
+        ensures read { ReadsWithin limits HasMac WrongMac (view value) (λ _. mac_view self.new)
+            result }
+        ensures err { OnErr result (mac_view self.new ≡ no_mac) }
+    {
+        *self = CoseMac::new(alloc);
         let items = value.try_as_array()?;
         match five(items) {
             Some((protected, unprotected, payload, tag, list)) => {
                 let recipients = read_recipients(alloc, list, limits)?;
                 let tag = tag.try_as_bytes()?;
-                let parts = read_parts(alloc, protected, unprotected, payload, limits, "bstr")?;
-                Ok(CoseMac {
-                    protected: parts.protected,
-                    unprotected: parts.unprotected,
-                    payload: parts.content,
-                    tag,
-                    recipients,
-                })
+                fill_parts(
+                    alloc,
+                    protected,
+                    unprotected,
+                    payload,
+                    limits,
+                    "bstr",
+                    &mut self.protected,
+                    &mut self.unprotected,
+                    &mut self.payload,
+                )?;
+                self.tag = tag;
+                self.recipients = recipients;
+                Ok(())
             }
             None => Err(CoseError::UnexpectedItem("array", "array with 5 items")),
         }

@@ -5,6 +5,7 @@ use Rattle.coset_headers.specs.Fields.{HeaderFields, ProtectedFields}
 use Rattle.coset_headers.specs.Headers.{HasProtected}
 use Rattle.coset_headers.specs.Written.{header_tree, shown}
 use Rattle.coset_headers.proofs.Again.{prot_again, hdr_again}
+use Rattle.coset_message_parts.specs.Fields.{parts}
 use Rattle.coset_message_parts.specs.Shapes.{HasParts}
 use Rattle.coset_message_parts.specs.Written.{optional_tree, parts_trees}
 
@@ -17,7 +18,7 @@ and_made f None y e = let h : None ≡ Some y = e in cc
 and_made f (Some x) y e = (x, refl, e)
 
 -- the bytes and the map that stand for the two headers
-pub parts_split : (p : ProtectedFields) (u : HeaderFields) (c : Option (List ℕ)) (ts : List Tree) → parts_trees p u c ≡ Some ts
+pub parts_split : (p : ProtectedFields) (u : HeaderFields) (c : Option (List ℕ)) (ts : List Tree) → parts_trees (parts p u c) ≡ Some ts
     → (b : List ℕ) × (t : Tree) × (shown p ≡ Some b) × (header_tree u ≡ Some t) × (bytes b ∷ t ∷ optional_tree c ∷ [] ≡ ts)
 parts_split p u c ts e =
     let b = and_made (λ b. option_map (λ t. bytes b ∷ t ∷ optional_tree c ∷ []) (header_tree u)) (shown p) ts e in
@@ -29,9 +30,9 @@ pub record Made (n : ℕ) (p : ProtectedFields) (u : HeaderFields) (c : Option (
   pub first : Tree
   pub second : Tree
   pub is : first ∷ second ∷ optional_tree c ∷ [] ≡ ts
-  pub parts : HasParts n first second (optional_tree c) p u c k
+  pub parts : HasParts n first second (optional_tree c) (parts p u c) k
 
-pub parts_made : (n : ℕ) (x y z : Tree) (p : ProtectedFields) (u : HeaderFields) (c : Option (List ℕ)) (ts : List Tree) (k : ℕ) → HasParts n x y z p u c k → parts_trees p u c ≡ Some ts → Made n p u c ts k
+pub parts_made : (n : ℕ) (x y z : Tree) (p : ProtectedFields) (u : HeaderFields) (c : Option (List ℕ)) (ts : List Tree) (k : ℕ) → HasParts n x y z (parts p u c) k → parts_trees (parts p u c) ≡ Some ts → Made n p u c ts k
 parts_made n x y z p u c ts k h e =
     let w = parts_split p u c ts e in
     record {

@@ -1,5 +1,5 @@
 -- Derived equality of parts is that of what they say, field by field.
-use Rattle.std.proofs.Common.{◌≡◌, ℕ, List, Bool, Option, option_map}
+use Rattle.std.proofs.Common.{◌≡◌, ℕ, List, Bool, Option, option_map, ap}
 use Rattle.std.specs.Prelude.{IsTrue, ◌↔◌, ◌&&◌, nat_eq}
 use Rattle.std.specs.Cmp.Lexicographic.{pointwise}
 use Rattle.std.specs.Option.{option_eq}
@@ -8,6 +8,7 @@ use Rattle.coset_headers.specs.Decided.{headers_decided, protected_decided}
 use Rattle.coset_headers.specs.Fields.{HeaderFields, ProtectedFields}
 use Rattle.coset_headers.specs.Same.{same_header, same_protected}
 use Rattle.coset_headers.specs.View.{header_view, protected_view}
+use Rattle.coset_message_parts.specs.View.{parts_view}
 use Rattle.coset_message_parts.specs.declared.parts.Parts.{Parts}
 use Rattle.coset_message_parts.specs.contracts.parts.PartsPartialEq.TheImpl as equality
 
@@ -17,13 +18,11 @@ pub parts_and : {A Q : Type 0} (f : A → List ℕ) (p q : ProtectedFields) (u v
     ↔ ((p ≡ q) × ((u ≡ v) × ((option_map f c ≡ option_map f d) × Q)))
 parts_and f p q u v c d b e = both _ _ (protected_decided p q) (both _ _ (headers_decided u v) (both _ _ (bytes_options f c d) e))
 
-abbrev pub SameParts : Parts → Parts → Type 0
-SameParts a b = (protected_view a.protected ≡ protected_view b.protected) × (header_view a.unprotected ≡ header_view b.unprotected)
-    × (option_map (λ v. v.items) a.content ≡ option_map (λ v. v.items) b.content)
-
-pub parts : (a b : Parts) → IsTrue (equality.eq-value.it a b) ↔ SameParts a b
-parts a b =
+pub same_parts : (a b : Parts) → IsTrue (equality.eq-value.it a b) ↔ (parts_view a ≡ parts_view b)
+same_parts a b =
     let w = both _ _ (protected_decided (protected_view a.protected) (protected_view b.protected))
     (both _ _ (headers_decided (header_view a.unprotected) (header_view b.unprotected))
-    (bytes_options (λ v. v.items) a.content b.content)) in
-    (λ h. let p = w.0 h in (p.0, p.1.0, p.1.1), λ h. w.1 (h.0, (h.1, h.2)))
+    (bytes_options (λ v. v.items) a.content b.content)) in (
+      λ h. let p = w.0 h in λ i. record { protected = p.0 i; unprotected = p.1.0 i; content = p.1.1 i },
+      λ h. w.1 (ap (λ f. f.protected) h, (ap (λ f. f.unprotected) h, ap (λ f. f.content) h)),
+    )

@@ -11,6 +11,7 @@ use Rattle.coset_labels.specs.Reading.{HasItem, Tagged}
 use Rattle.coset_headers.specs.Fields.{HeaderFields, ProtectedFields}
 use Rattle.coset_headers.proofs.Sound.{Sound, SoundAll, all_none, all_more, all_parts, bytes_sound, reads_sound, sound_reads}
 use Rattle.coset_headers.proofs.Writable.{some_is, map_some, and_some}
+use Rattle.coset_message_parts.specs.Fields.{parts}
 use Rattle.coset_message_parts.specs.Shapes.{HoldOf, HasWhole}
 use Rattle.coset_message_parts.specs.Short.{PartsShort}
 use Rattle.coset_message_parts.specs.Written.{optional_tree, parts_trees, whole_tree}
@@ -88,24 +89,24 @@ lasts_sound d (P ∷ Ps) (o ∷ os) (x ∷ xs) ys a h e s =
 
 -- ---- messages
 pub record Wrote (p : ProtectedFields) (u : HeaderFields) (c : Option (List ℕ)) (os : List (Option Tree)) (v : Tree) : Type 0 where
-  pub parts : List Tree
+  pub firsts : List Tree
   pub lasts : List Tree
-  pub parts_are : parts_trees p u c ≡ Some parts
+  pub firsts_are : parts_trees (parts p u c) ≡ Some firsts
   pub lasts_are : all_written (λ o. o) os ≡ Some lasts
-  pub is : array (trees (parts ++ lasts)) ≡ v
+  pub is : array (trees (firsts ++ lasts)) ≡ v
 
-pub whole_wrote : (p : ProtectedFields) (u : HeaderFields) (c : Option (List ℕ)) (os : List (Option Tree)) (v : Tree) → whole_tree p u c os ≡ Some v → Wrote p u c os v
+pub whole_wrote : (p : ProtectedFields) (u : HeaderFields) (c : Option (List ℕ)) (os : List (Option Tree)) (v : Tree) → whole_tree (parts p u c) os ≡ Some v → Wrote p u c os v
 whole_wrote p u c os v e =
-    let w = and_made (λ parts. option_map (λ ls. array (trees (parts ++ ls))) (all_written (λ o. o) os)) (parts_trees p u c) v e in
+    let w = and_made (λ parts. option_map (λ ls. array (trees (parts ++ ls))) (all_written (λ o. o) os)) (parts_trees (parts p u c)) v e in
     let l = map_made (λ ls. array (trees (w.0 ++ ls))) (all_written (λ o. o) os) v w.2 in
-    record { parts = w.0; lasts = l.0; parts_are = w.1; lasts_are = l.1; is = l.2 }
+    record { firsts = w.0; lasts = l.0; firsts_are = w.1; lasts_are = l.1; is = l.2 }
 
-pub whole_kept : (n : ℕ) (p : ProtectedFields) (u : HeaderFields) (c : Option (List ℕ)) (Ps : List (Tree → Type 0)) (os : List (Option Tree)) (k : ℕ) → AllKept Ps os → Kept (λ t. HasWhole n t p u c Ps k) (whole_tree p u c os)
+pub whole_kept : (n : ℕ) (p : ProtectedFields) (u : HeaderFields) (c : Option (List ℕ)) (Ps : List (Tree → Type 0)) (os : List (Option Tree)) (k : ℕ) → AllKept Ps os → Kept (λ t. HasWhole n t (parts p u c) Ps k) (whole_tree (parts p u c) os)
 whole_kept n p u c Ps os k a = record {
-  some = λ t h. and_some _ (parts_trees p u c) (parts_some n h.first h.second h.third p u c k h.parts) (λ parts. map_some _ (all_written (λ o. o) os) (lasts_some Ps os h.lasts a h.hold));
+  some = λ t h. and_some _ (parts_trees (parts p u c)) (parts_some n h.first h.second h.third p u c k h.parts) (λ parts. map_some _ (all_written (λ o. o) os) (lasts_some Ps os h.lasts a h.hold));
   again = λ t v h e.
       let w = whole_wrote p u c os v e in
-      let q = parts_made n h.first h.second h.third p u c w.parts k h.parts w.parts_are in
+      let q = parts_made n h.first h.second h.third p u c w.firsts k h.parts w.firsts_are in
       record {
         first = q.first;
         second = q.second;
@@ -118,7 +119,7 @@ whole_kept n p u c Ps os k a = record {
   sound = λ d t v h e s.
       let w = whole_wrote p u c os v e in
       subst (Sound d) w.is
-      (whole_sound n h.first h.second h.third p u c (trees h.lasts) w.parts w.lasts k d h.parts w.parts_are (subst (Sound d) h.is s)
+      (whole_sound n h.first h.second h.third p u c (trees h.lasts) w.firsts w.lasts k d h.parts w.firsts_are (subst (Sound d) h.is s)
       (λ r. lasts_sound (d - 1) Ps os h.lasts w.lasts a h.hold w.lasts_are r));
 }
 
@@ -156,9 +157,9 @@ wrote_count written (f ∷ fs) ys e =
     let w = more_wrote written f fs ys e in
     let h = wrote_count written fs w.rest w.rest_are in let g = ap (λ z. tree_count (trees z)) w.are in omega (arith, h, g)
 
-pub whole_fits : (p : ProtectedFields) (u : HeaderFields) (c : Option (List ℕ)) (os : List (Option Tree)) (v : Tree) → ((ts : List Tree) → parts_trees p u c ≡ Some ts → PartsShort p u → FitAll (trees ts)) → PartsShort p u → AllFit os
-    → length os ≤ 2 → whole_tree p u c os ≡ Some v → Fits v
+pub whole_fits : (p : ProtectedFields) (u : HeaderFields) (c : Option (List ℕ)) (os : List (Option Tree)) (v : Tree) → ((ts : List Tree) → parts_trees (parts p u c) ≡ Some ts → PartsShort p u → FitAll (trees ts)) → PartsShort p u → AllFit os
+    → length os ≤ 2 → whole_tree (parts p u c) os ≡ Some v → Fits v
 whole_fits p u c os v f s g l e =
     let w = whole_wrote p u c os v e in
     let m = wrote_count (λ (o : Option Tree). o) os w.lasts w.lasts_are in
-    subst Fits w.is (whole_fit p u c w.parts w.lasts w.parts_are (f w.parts w.parts_are s) (omega (arith, m, l)) (lasts_fit os w.lasts g w.lasts_are))
+    subst Fits w.is (whole_fit p u c w.firsts w.lasts w.firsts_are (f w.firsts w.firsts_are s) (omega (arith, m, l)) (lasts_fit os w.lasts g w.lasts_are))

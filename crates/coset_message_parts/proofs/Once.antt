@@ -7,6 +7,7 @@ use Rattle.coset_labels.specs.Kinds.{is_array}
 use Rattle.coset_headers.specs.Fields.{HeaderFields, ProtectedFields}
 use Rattle.coset_headers.proofs.Excludes.{header_not, prot_not}
 use Rattle.coset_headers.proofs.Unique.{hdr_once, prot_once}
+use Rattle.coset_message_parts.specs.Fields.{parts}
 use Rattle.coset_message_parts.specs.Shapes.{HasParts, HoldOf, HasWhole}
 use Rattle.coset_message_parts.specs.Written.{optional_tree}
 use Rattle.coset_message_parts.specs.Wrong.{WrongParts, in_protected, in_unprotected, in_content, IsNoBytes, how_many, AnyWrong, WrongWhole, no_array, not_as_many, in_parts, in_lasts}
@@ -22,18 +23,18 @@ optional_once (Some a) (Some b) e =
     let s : a ≡ b = cc in
     ap Some s
 
-pub parts_once : (n : ℕ) (x y z : Tree) (p q : ProtectedFields) (u v : HeaderFields) (c d : Option (List ℕ)) (k : ℕ) → HasParts n x y z p u c k → HasParts n x y z q v d k → (p ≡ q) × (u ≡ v) × (c ≡ d)
+pub parts_once : (n : ℕ) (x y z : Tree) (p q : ProtectedFields) (u v : HeaderFields) (c d : Option (List ℕ)) (k : ℕ) → HasParts n x y z (parts p u c) k → HasParts n x y z (parts q v d) k → (p ≡ q) × (u ≡ v) × (c ≡ d)
 parts_once n x y z p q u v c d k a b = (prot_once n p q x k a.protected b.protected, hdr_once n u v y k a.unprotected b.unprotected, optional_once c d (sym a.content ∙ b.content))
 
-pub parts_moved : (n : ℕ) (x y z a b d : Tree) (p : ProtectedFields) (u : HeaderFields) (c : Option (List ℕ)) (k : ℕ) → x ≡ a → y ≡ b → z ≡ d → HasParts n a b d p u c k → HasParts n x y z p u c k
+pub parts_moved : (n : ℕ) (x y z a b d : Tree) (p : ProtectedFields) (u : HeaderFields) (c : Option (List ℕ)) (k : ℕ) → x ≡ a → y ≡ b → z ≡ d → HasParts n a b d (parts p u c) k → HasParts n x y z (parts p u c) k
 parts_moved n x y z a b d p u c k e f g h =
-    subst (λ s. HasParts n s y z p u c k) (sym e) (subst (λ s. HasParts n a s z p u c k) (sym f) (subst (λ s. HasParts n a b s p u c k) (sym g) h))
+    subst (λ s. HasParts n s y z (parts p u c) k) (sym e) (subst (λ s. HasParts n a s z (parts p u c) k) (sym f) (subst (λ s. HasParts n a b s (parts p u c) k) (sym g) h))
 
 content_not : (z : Tree) (c : Option (List ℕ)) → is_bytes z ≡ false → z ≢ simple 22 → z ≡ optional_tree c → ⊥
 content_not z None f g e = g e
 content_not z (Some b) f g e = let d : true ≡ false = sym (ap is_bytes e) ∙ f in cc
 
-pub parts_not : (n : ℕ) (x y z : Tree) (k : ℕ) (e : CoseFault) → WrongParts n x y z k e → (p : ProtectedFields) (u : HeaderFields) (c : Option (List ℕ)) → HasParts n x y z p u c k → ⊥
+pub parts_not : (n : ℕ) (x y z : Tree) (k : ℕ) (e : CoseFault) → WrongParts n x y z k e → (p : ProtectedFields) (u : HeaderFields) (c : Option (List ℕ)) → HasParts n x y z (parts p u c) k → ⊥
 parts_not n x y z k e (in_protected _ w) p u c h = prot_not n x k e w p h.protected
 parts_not n x y z k e (in_unprotected _ w) p u c h = header_not n y k e w u h.unprotected
 parts_not n x y z k e (in_content f g) p u c h = content_not z c f g h.content
@@ -97,7 +98,7 @@ pub record SameWhole (p q : ProtectedFields) (u v : HeaderFields) (c d : Option 
   pub content : c ≡ d
   pub lasts : Shared Ps Qs
 
-pub whole_once : (n : ℕ) (t : Tree) (p q : ProtectedFields) (u v : HeaderFields) (c d : Option (List ℕ)) (Ps Qs : List (Tree → Type 0)) (k : ℕ) → HasWhole n t p u c Ps k → HasWhole n t q v d Qs k
+pub whole_once : (n : ℕ) (t : Tree) (p q : ProtectedFields) (u v : HeaderFields) (c d : Option (List ℕ)) (Ps Qs : List (Tree → Type 0)) (k : ℕ) → HasWhole n t (parts p u c) Ps k → HasWhole n t (parts q v d) Qs k
     → SameWhole p q u v c d Ps Qs
 whole_once n t p q u v c d Ps Qs k a b =
     let s = same_items a.first a.second a.third b.first b.second b.third a.lasts b.lasts (sym a.is ∙ b.is) in
@@ -108,7 +109,7 @@ pub in_array : (ts us : Trees) → array ts ≡ array us → ts ≡ us
 in_array ts us e = cc
 
 pub whole_not : (n : ℕ) (t : Tree) (p : ProtectedFields) (u : HeaderFields) (c : Option (List ℕ)) (Ws : List (Tree → CoseFault → Type 0)) (Ps : List (Tree → Type 0)) (k : ℕ) (e : CoseFault)
-    → WrongWhole n t Ws k e → HasWhole n t p u c Ps k → AllNot Ws Ps e → ⊥
+    → WrongWhole n t Ws k e → HasWhole n t (parts p u c) Ps k → AllNot Ws Ps e → ⊥
 whole_not n t p u c Ws Ps k e (no_array x) h f = let d : true ≡ false = sym (ap is_array h.is) ∙ x in cc
 whole_not n t p u c Ws Ps k e (not_as_many ts q x) h f =
     let m = as_many Ws Ps unexpected h.lasts f h.hold in

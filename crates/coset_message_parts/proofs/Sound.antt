@@ -9,6 +9,7 @@ use Rattle.coset_labels.specs.Limits.{nesting}
 use Rattle.coset_labels.specs.Reading.{HasItem, Tagged}
 use Rattle.coset_headers.specs.Fields.{HeaderFields, ProtectedFields}
 use Rattle.coset_headers.proofs.Sound.{Sound, SoundAll, array_inside, array_sound, all_none, all_more, all_parts, bytes_sound, hdr_sound, reads_sound, sound_reads}
+use Rattle.coset_message_parts.specs.Fields.{parts}
 use Rattle.coset_message_parts.specs.Shapes.{HasParts}
 use Rattle.coset_message_parts.specs.Written.{optional_tree, parts_trees}
 use Rattle.coset_message_parts.proofs.Again.{parts_split}
@@ -21,7 +22,7 @@ appended d (x ∷ xs) ys a b = let w = all_parts d x (trees xs) a in all_more d 
 behind : (d : ℕ) (x y z : Tree) (rest : Trees) → SoundAll d (one_more x (one_more y (one_more z rest))) → SoundAll d rest
 behind d x y z rest s = (all_parts d z rest (all_parts d y (one_more z rest) (all_parts d x (one_more y (one_more z rest)) s).1).1).1
 
-parts_sound : (n : ℕ) (x y z : Tree) (p : ProtectedFields) (u : HeaderFields) (c : Option (List ℕ)) (rest : Trees) (ts : List Tree) (k d : ℕ) → HasParts n x y z p u c k → parts_trees p u c ≡ Some ts
+parts_sound : (n : ℕ) (x y z : Tree) (p : ProtectedFields) (u : HeaderFields) (c : Option (List ℕ)) (rest : Trees) (ts : List Tree) (k d : ℕ) → HasParts n x y z (parts p u c) k → parts_trees (parts p u c) ≡ Some ts
     → SoundAll d (one_more x (one_more y (one_more z rest))) → SoundAll d (trees ts)
 parts_sound n x y z p u c rest ts k d h e s =
     let w = parts_split p u c ts e in
@@ -34,7 +35,7 @@ parts_sound n x y z p u c rest ts k d h e s =
     (all_more d (optional_tree c) no_trees (subst (Sound d) h.content third.0) (all_none d))))
 
 -- an array of the parts and of what stands behind them
-pub whole_sound : (n : ℕ) (x y z : Tree) (p : ProtectedFields) (u : HeaderFields) (c : Option (List ℕ)) (rest : Trees) (ts ys : List Tree) (k d : ℕ) → HasParts n x y z p u c k → parts_trees p u c ≡ Some ts
+pub whole_sound : (n : ℕ) (x y z : Tree) (p : ProtectedFields) (u : HeaderFields) (c : Option (List ℕ)) (rest : Trees) (ts ys : List Tree) (k d : ℕ) → HasParts n x y z (parts p u c) k → parts_trees (parts p u c) ≡ Some ts
     → Sound d (array (one_more x (one_more y (one_more z rest)))) → (SoundAll (d - 1) rest → SoundAll (d - 1) (trees ys)) → Sound d (array (trees (ts ++ ys)))
 whole_sound n x y z p u c rest ts ys k d h e s f =
     let m = array_inside d (one_more x (one_more y (one_more z rest))) s in

@@ -9,6 +9,7 @@ use Rattle.coset_headers.specs.Fields.{HeaderFields, ProtectedFields, protected}
 use Rattle.coset_headers.specs.Headers.{HasProtected}
 use Rattle.coset_headers.specs.Written.{header_tree, shown}
 use Rattle.coset_headers.proofs.Stands.{hdr_stands, first_same, and_left, and_right, both_true}
+use Rattle.coset_message_parts.specs.Fields.{parts}
 use Rattle.coset_message_parts.specs.Shapes.{HasParts, HasWhole}
 use Rattle.coset_message_parts.specs.Written.{optional_tree, parts_trees, whole_tree}
 use Rattle.coset_message_parts.proofs.Again.{parts_split}
@@ -24,7 +25,7 @@ shown_is n (protected (Some b) g) x k a =
 second_of : (a b c x y z : Tree) → a ∷ b ∷ c ∷ [] ≡ x ∷ y ∷ z ∷ [] → b ≡ y
 second_of a b c x y z e = cc
 
-pub parts_stand : (n : ℕ) (x y z : Tree) (p : ProtectedFields) (u : HeaderFields) (c : Option (List ℕ)) (k : ℕ) → HasParts n x y z p u c k → Decides (header_stands y) (parts_trees p u c ≡ Some (x ∷ y ∷ z ∷ []))
+pub parts_stand : (n : ℕ) (x y z : Tree) (p : ProtectedFields) (u : HeaderFields) (c : Option (List ℕ)) (k : ℕ) → HasParts n x y z (parts p u c) k → Decides (header_stands y) (parts_trees (parts p u c) ≡ Some (x ∷ y ∷ z ∷ []))
 parts_stand n x y z p u c k h =
     let d = hdr_stands n u y k h.unprotected in
     let w = shown_is n p x k h.protected in (
@@ -54,8 +55,8 @@ three_same a b c x y z us vs e =
     let r : c ≡ z = cc in
     (ap (λ w. w ∷ b ∷ c ∷ []) p ∙ ap (λ w. x ∷ w ∷ c ∷ []) q ∙ ap (λ w. x ∷ y ∷ w ∷ []) r, (let s : us ≡ vs = cc in s))
 
-pub parts_are : (p : ProtectedFields) (u : HeaderFields) (c : Option (List ℕ)) (ps ls : List Tree) (x y z : Tree) (rest : List Tree) → parts_trees p u c ≡ Some ps → array (trees (ps ++ ls)) ≡ array (trees (x ∷ y ∷ z ∷ rest))
-    → (parts_trees p u c ≡ Some (x ∷ y ∷ z ∷ [])) × (ls ≡ rest)
+pub parts_are : (p : ProtectedFields) (u : HeaderFields) (c : Option (List ℕ)) (ps ls : List Tree) (x y z : Tree) (rest : List Tree) → parts_trees (parts p u c) ≡ Some ps → array (trees (ps ++ ls)) ≡ array (trees (x ∷ y ∷ z ∷ rest))
+    → (parts_trees (parts p u c) ≡ Some (x ∷ y ∷ z ∷ [])) × (ls ≡ rest)
 parts_are p u c ps ls x y z rest e h =
     let s = parts_split p u c ps e in
     let m = three_same (bytes s.0) s.1 (optional_tree c) x y z ls rest (ap (λ us. us ++ ls) s.4 ∙ array_same (ps ++ ls) (x ∷ y ∷ z ∷ rest) h) in
@@ -66,8 +67,8 @@ pub and_true : (a : Bool) → (a && true) ≡ a
 and_true true = refl
 and_true false = refl
 
-pub whole_stands : (n : ℕ) (t : Tree) (p : ProtectedFields) (u : HeaderFields) (c : Option (List ℕ)) (Ps : List (Tree → Type 0)) (os : List (Option Tree)) (k : ℕ) (h : HasWhole n t p u c Ps k) (b : Bool)
-    → Decides b (all_written (λ o. o) os ≡ Some h.lasts) → Decides (header_stands h.second && b) (whole_tree p u c os ≡ Some t)
+pub whole_stands : (n : ℕ) (t : Tree) (p : ProtectedFields) (u : HeaderFields) (c : Option (List ℕ)) (Ps : List (Tree → Type 0)) (os : List (Option Tree)) (k : ℕ) (h : HasWhole n t (parts p u c) Ps k) (b : Bool)
+    → Decides b (all_written (λ o. o) os ≡ Some h.lasts) → Decides (header_stands h.second && b) (whole_tree (parts p u c) os ≡ Some t)
 whole_stands n t p u c Ps os k h b l =
     let d = parts_stand n h.first h.second h.third p u c k h.parts in (
       λ e.
@@ -75,6 +76,6 @@ whole_stands n t p u c Ps os k h b l =
           ∙ ap (option_map (λ ls. array (trees (h.first ∷ h.second ∷ h.third ∷ ls)))) (l.0 (and_right (header_stands h.second) b e)) ∙ ap Some (sym h.is),
       λ e.
           let w = whole_wrote p u c os t e in
-          let v = parts_are p u c w.parts w.lasts h.first h.second h.third h.lasts w.parts_are (w.is ∙ h.is) in
+          let v = parts_are p u c w.firsts w.lasts h.first h.second h.third h.lasts w.firsts_are (w.is ∙ h.is) in
           both_true (header_stands h.second) b (d.1 v.0) (l.1 (w.lasts_are ∙ ap Some v.1)),
     )

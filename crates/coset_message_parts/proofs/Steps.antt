@@ -12,6 +12,7 @@ use Rattle.coset_labels.specs.Faults.{CoseFault, OrMemory, CantWrite, fault_of, 
 use Rattle.coset_labels.specs.Kinds.{is_array}
 use Rattle.coset_labels.specs.declared.error.CoseError.{CoseError}
 use Rattle.coset_headers.specs.Fields.{HeaderFields, ProtectedFields}
+use Rattle.coset_message_parts.specs.Fields.{parts}
 use Rattle.coset_message_parts.specs.Shapes.{HasParts, HoldOf, HasWhole}
 use Rattle.coset_message_parts.specs.Written.{parts_trees, whole_tree}
 use Rattle.coset_message_parts.specs.Wrong.{WrongParts, IsNoBytes, how_many, AnyWrong, WrongWhole, no_array, not_as_many, in_parts, in_lasts}
@@ -36,11 +37,11 @@ pub whole_lasts : (n : ℕ) (t : Tree) (Ws : List (Tree → CoseFault → Type 0
 whole_lasts n t Ws k x y z ls ts W e q h l at w = passed_on W (WrongWhole n t Ws k) e (λ m. in_lasts x y z ls (fault_of e) (q ∙ ap array h) l (at (fault_of e) m)) w
 
 pub whole_has : (n : ℕ) (t : Tree) (p : ProtectedFields) (u : HeaderFields) (c : Option (List ℕ)) (Ps : List (Tree → Type 0)) (k : ℕ) (x y z : Tree) (ls : List Tree) (ts : Trees) → t ≡ array ts → ts ≡ trees (x ∷ y ∷ z ∷ ls)
-    → HasParts n x y z p u c k → HoldOf Ps ls → HasWhole n t p u c Ps k
+    → HasParts n x y z (parts p u c) k → HoldOf Ps ls → HasWhole n t (parts p u c) Ps k
 whole_has n t p u c Ps k x y z ls ts q h parts hold = record { first = x; second = y; third = z; lasts = ls; is = q ∙ ap array h; parts = parts; hold = hold }
 
 -- ---- writing
-pub whole_cant : (p : ProtectedFields) (u : HeaderFields) (c : Option (List ℕ)) (os : List (Option Tree)) (e : CoseError) → CantWrite (parts_trees p u c) e → CantWrite (whole_tree p u c os) e
+pub whole_cant : (p : ProtectedFields) (u : HeaderFields) (c : Option (List ℕ)) (os : List (Option Tree)) (e : CoseError) → CantWrite (parts_trees (parts p u c)) e → CantWrite (whole_tree (parts p u c) os) e
 whole_cant p u c os e (inl a) = inl a
 whole_cant p u c os e (inr (a, b)) = inr (a, ap (option_and_then (λ parts. option_map (λ ls. array (trees (parts ++ ls))) (all_written (λ o. o) os))) b)
 
@@ -48,12 +49,12 @@ none_behind : {A B C : Type 0} (f : A → B → C) (o : Option A) (p : Option B)
 none_behind f None p e = refl
 none_behind f (Some a) p e = ap (option_map (λ b. f a b)) e
 
-pub lasts_cant : (p : ProtectedFields) (u : HeaderFields) (c : Option (List ℕ)) (os : List (Option Tree)) (e : CoseError) → CantWrite (all_written (λ o. o) os) e → CantWrite (whole_tree p u c os) e
+pub lasts_cant : (p : ProtectedFields) (u : HeaderFields) (c : Option (List ℕ)) (os : List (Option Tree)) (e : CoseError) → CantWrite (all_written (λ o. o) os) e → CantWrite (whole_tree (parts p u c) os) e
 lasts_cant p u c os e (inl a) = inl a
-lasts_cant p u c os e (inr (a, b)) = inr (a, none_behind (λ parts ls. array (trees (parts ++ ls))) (parts_trees p u c) (all_written (λ o. o) os) b)
+lasts_cant p u c os e (inr (a, b)) = inr (a, none_behind (λ parts ls. array (trees (parts ++ ls))) (parts_trees (parts p u c)) (all_written (λ o. o) os) b)
 
-pub whole_written : (p : ProtectedFields) (u : HeaderFields) (c : Option (List ℕ)) (os : List (Option Tree)) (vs ls : List Value) (ws : Vec Value Global) → parts_trees p u c ≡ Some (map view vs) → all_written (λ o. o) os ≡ Some (map view ls)
-    → ws.items ≡ vs ++ ls → whole_tree p u c os ≡ Some (view (code.Array ws))
+pub whole_written : (p : ProtectedFields) (u : HeaderFields) (c : Option (List ℕ)) (os : List (Option Tree)) (vs ls : List Value) (ws : Vec Value Global) → parts_trees (parts p u c) ≡ Some (map view vs) → all_written (λ o. o) os ≡ Some (map view ls)
+    → ws.items ≡ vs ++ ls → whole_tree (parts p u c) os ≡ Some (view (code.Array ws))
 whole_written p u c os vs ls ws e f g =
     ap (option_and_then (λ parts. option_map (λ ls. array (trees (parts ++ ls))) (all_written (λ o. o) os))) e ∙ ap (option_map (λ z. array (trees (map view vs ++ z)))) f
     ∙ ap (λ z. Some (array (trees z))) (sym (map-append view vs ls)) ∙ ap (λ z. Some (array (views z))) (sym g) ∙ ap Some (sym (view_array ws))

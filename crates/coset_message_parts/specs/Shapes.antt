@@ -1,17 +1,17 @@
 -- The parts that a message and a recipient begin with: a protected header, an unprotected one, and bytes or null (RFC 9052, sections 4.2,
 -- 5.1 and 6.1). The nesting limit `n` and the layers `k` are those of headers.
-use Rattle.std.specs.Prelude.{◌≡◌, ℕ, List, [], ◌∷◌, Option}
+use Rattle.std.specs.Prelude.{◌≡◌, ℕ, List, [], ◌∷◌}
 use Rattle.std.proofs.Common.{refl}
 use Rattle.ciborium_value.specs.Tree.{Tree, array}
 use Rattle.ciborium_value.specs.View.{trees}
-use Rattle.coset_headers.specs.Fields.{HeaderFields, ProtectedFields}
 use Rattle.coset_headers.specs.Headers.{HasHeader, HasProtected}
+pub use Rattle.coset_message_parts.specs.Fields.{PartsFields, parts}
 use Rattle.coset_message_parts.specs.Written.{optional_tree}
 
-pub record HasParts (n : ℕ) (first second third : Tree) (p : ProtectedFields) (u : HeaderFields) (c : Option (List ℕ)) (k : ℕ) : Type 0 where
-  pub protected : HasProtected n first p k
-  pub unprotected : HasHeader n second u k
-  pub content : third ≡ optional_tree c
+pub record HasParts (n : ℕ) (first second third : Tree) (f : PartsFields) (k : ℕ) : Type 0 where
+  pub protected : HasProtected n first f.protected k
+  pub unprotected : HasHeader n second f.unprotected k
+  pub content : third ≡ optional_tree f.content
 
 -- these hold of the items, one of each
 abbrev pub HoldOf : List (Tree → Type 0) → List Tree → Type 0
@@ -33,11 +33,11 @@ two_held P Q (x ∷ y ∷ []) h = (x, y, refl, h.0, h.1.0)
 two_held P Q (x ∷ y ∷ z ∷ ts) h = absurd h.1.1
 
 -- a message: an array of the parts and, behind them, of the last items, of which these hold
-pub record HasWhole (n : ℕ) (t : Tree) (p : ProtectedFields) (u : HeaderFields) (c : Option (List ℕ)) (Lasts : List (Tree → Type 0)) (k : ℕ) : Type 0 where
+pub record HasWhole (n : ℕ) (t : Tree) (f : PartsFields) (Lasts : List (Tree → Type 0)) (k : ℕ) : Type 0 where
   pub first : Tree
   pub second : Tree
   pub third : Tree
   pub lasts : List Tree
   pub is : t ≡ array (trees (first ∷ second ∷ third ∷ lasts))
-  pub parts : HasParts n first second third p u c k
+  pub parts : HasParts n first second third f k
   pub hold : HoldOf Lasts lasts

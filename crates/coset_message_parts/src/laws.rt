@@ -5,6 +5,7 @@ ghost use Rattle.ciborium_value.specs.Tree.{Tree};
 ghost use Rattle.ciborium_value.specs.View.{trees};
 ghost use Rattle.coset_headers.specs.View.{header_view, protected_view};
 ghost use Rattle.coset_message_parts.specs.Short.{PartsShort};
+ghost use Rattle.coset_message_parts.specs.View.{parts_in, parts_view};
 ghost use Rattle.coset_message_parts.specs.Written.{optional_tree, parts_trees};
 
 use crate::parts::Parts;
@@ -25,8 +26,7 @@ fn optional_fits(content: &Option<Vec<u8>>)
 /// than 2^64 bytes.
 pub fn parts_fit(protected: &ProtectedHeader, unprotected: &Header, content: &Option<Vec<u8>>)
     ensures { (ts : List Tree)
-        → parts_trees (protected_view protected.now) (header_view unprotected.now)
-        (option_map (λ v. v.items) content.now) ≡ Some ts
+        → parts_trees (parts_in protected.now unprotected.now content.now) ≡ Some ts
         → PartsShort (protected_view protected.now) (header_view unprotected.now)
         → FitAll (trees ts) }
 {
@@ -38,7 +38,5 @@ pub fn parts_fit(protected: &ProtectedHeader, unprotected: &Header, content: &Op
 /// Parts are equal where each of them says the same and the protected headers have the same received bytes, or none.
 pub fn parts_compare(a: &Parts, b: &Parts)
     ensures { IsTrue (⟦<Parts as std::cmp::PartialEq>⟧.eq a.now b.now)
-        ↔ ((protected_view a.now.protected ≡ protected_view b.now.protected)
-        × (header_view a.now.unprotected ≡ header_view b.now.unprotected)
-        × (option_map (λ v. v.items) a.now.content ≡ option_map (λ v. v.items) b.now.content)) }
+        ↔ (parts_view a.now ≡ parts_view b.now) }
 {}

@@ -5,4 +5,4 @@
 pub mod laws;
 mod parts;
 
-pub use crate::parts::{Parts, content_bytes, optional_value, read_parts, write_parts};
+pub use crate::parts::{Parts, content_bytes, fill_parts, optional_value, read_parts, write_parts};

@@ -1,10 +1,12 @@
 //! The parts that each message and each recipient begins with.
-ghost use Rattle.std.specs.Prelude.{◌≡◌, Some, MatchResult, map, option_map};
+ghost use Rattle.std.specs.Prelude.{◌≡◌, MatchResult, OnErr, map, option_map};
 ghost use Rattle.ciborium_value.specs.View.{view};
-ghost use Rattle.coset_labels.specs.Faults.{OrMemory, CantWrite};
+ghost use Rattle.coset_labels.specs.Faults.{OrMemory};
 ghost use Rattle.coset_labels.specs.Limits.{nesting_of, layers_of};
-ghost use Rattle.coset_headers.specs.View.{header_view, protected_view};
+ghost use Rattle.coset_message_parts.specs.Fields.{no_parts};
+ghost use Rattle.coset_message_parts.specs.Results.{Writes};
 ghost use Rattle.coset_message_parts.specs.Shapes.{HasParts};
+ghost use Rattle.coset_message_parts.specs.View.{parts_in, parts_view};
 ghost use Rattle.coset_message_parts.specs.Wrong.{WrongParts};
 ghost use Rattle.coset_message_parts.specs.Written.{optional_tree, parts_trees, content_bytes};
 
@@ -39,20 +41,64 @@ pub fn read_parts(
 ) -> Result<Parts, CoseError>
     ensures { MatchResult result
         (λ p. HasParts (nesting_of limits) (view protected) (view unprotected) (view content)
-        (protected_view p.protected) (header_view p.unprotected)
-        (option_map (λ b. b.items) p.content) (layers_of limits))
+        (parts_view p) (layers_of limits))
         (λ e. OrMemory
         (WrongParts (nesting_of limits) (view protected) (view unprotected) (view content)
         (layers_of limits)) e) }
 {
-    let content = content.try_as_bytes_or_nil(want)?;
-    let unprotected = Header::from_cbor_value_with(alloc, unprotected, limits)?;
-    let protected = ProtectedHeader::from_cbor_bstr_with(alloc, protected, limits)?;
-    Ok(Parts {
+    let mut parts = Parts {
+        protected: ProtectedHeader::new(alloc),
+        unprotected: Header::new(alloc),
+        content: None,
+    };
+    fill_parts(
+        alloc,
         protected,
         unprotected,
         content,
-    })
+        limits,
+        want,
+        &mut parts.protected,
+        &mut parts.unprotected,
+        &mut parts.content,
+    )?;
+    Ok(parts)
+}
+
+/// Reads the three parts into their places, which are empty, as `read_parts` does. After an error
+/// they are empty again.
+///
+/// # Errors
+/// Those of `read_parts`.
+pub fn fill_parts(
+    alloc: Global,
+    protected: Value,
+    unprotected: Value,
+    content: Value,
+    limits: Limits,
+    want: &'static str,
+    into_protected: &mut ProtectedHeader,
+    into_unprotected: &mut Header,
+    into_content: &mut Option<Vec<u8>>,
+) -> Result<(), CoseError>
+    requires empty { parts_in into_protected.old into_unprotected.old into_content.old ≡ no_parts }
+    ensures read { MatchResult result
+        (λ _. HasParts (nesting_of limits) (view protected) (view unprotected) (view content)
+        (parts_in into_protected.new into_unprotected.new into_content.new) (layers_of limits))
+        (λ e. OrMemory
+        (WrongParts (nesting_of limits) (view protected) (view unprotected) (view content)
+        (layers_of limits)) e) }
+    ensures err { OnErr result
+        (parts_in into_protected.new into_unprotected.new into_content.new ≡ no_parts) }
+{
+    let content = content.try_as_bytes_or_nil(want)?;
+    into_unprotected.fill(alloc, unprotected, limits)?;
+    if let Err(error) = into_protected.fill_bstr(alloc, protected, limits) {
+        *into_unprotected = Header::new(alloc);
+        return Err(error);
+    }
+    *into_content = content;
+    Ok(())
 }
 
 /// The values of the three parts, in their order.
@@ -60,12 +106,7 @@ pub fn read_parts(
 /// # Errors
 /// `DuplicateMapKey` exactly where a label stands twice in a header that has to be encoded, or `Memory`.
 pub fn write_parts(alloc: Global, parts: Parts) -> Result<Vec<Value>, CoseError>
-    ensures { MatchResult result
-        (λ v. parts_trees (protected_view parts.protected) (header_view parts.unprotected)
-        (option_map (λ b. b.items) parts.content) ≡ Some (map view v.items))
-        (λ e. CantWrite
-        (parts_trees (protected_view parts.protected) (header_view parts.unprotected)
-        (option_map (λ b. b.items) parts.content)) e) }
+    ensures { Writes (parts_trees (parts_view parts)) (λ v. map view v.items) result }
 {
     let Parts {
         protected,

@@ -3,6 +3,7 @@ use Rattle.std.proofs.Common.{◌≡◌, ℕ, inl, inr, List, ◌∷◌, Option,
 use Rattle.ciborium_value.specs.Tree.{Tree, array, Trees, no_trees, one_more}
 use Rattle.ciborium_value.specs.View.{trees}
 use Rattle.coset_headers.proofs.Again.{trees_parts}
+use Rattle.coset_message_parts.specs.Fields.{parts}
 use Rattle.coset_message_parts.specs.Written.{optional_tree, parts_trees}
 use Rattle.coset_message_parts.proofs.Again.{map_made, and_made, parts_made}
 use Rattle.coset_recipients.specs.Fields.{RecipientFields, recipient, RecipientsFields, no_recipients, recipient_more}
@@ -49,7 +50,7 @@ inner_again n rs o ts k f e (inr a) = inner_made n rs ts k (f a.0 a.2)
 mutual
   pub recipient_again : (n : ℕ) (r : RecipientFields) (t u : Tree) (k : ℕ) → HasRecipient n t r k → recipient_tree r ≡ Some u → HasRecipient n u r k
   recipient_again n (recipient p h c rs) t u k a e =
-      let w = wrote_of (parts_trees p h c) rs u e in
+      let w = wrote_of (parts_trees (parts p h c)) rs u e in
       let m = parts_made n a.0 a.1 a.2 p h c w.parts k a.5 w.parts_are in (
         m.first,
         m.second,

@@ -7,6 +7,7 @@ use Rattle.ciborium_value.specs.Encoding.{Fits, FitAll}
 use Rattle.coset_headers.specs.View.{header_view, protected_view}
 use Rattle.coset_headers.proofs.Again.{trees_parts}
 use Rattle.coset_headers.proofs.Fit.{Each}
+use Rattle.coset_message_parts.specs.Fields.{parts}
 use Rattle.coset_message_parts.specs.Short.{PartsShort}
 use Rattle.coset_message_parts.specs.Written.{parts_trees}
 use Rattle.coset_message_parts.proofs.Again.{map_made}
@@ -33,7 +34,7 @@ abbrev content_of : CoseRecipient → Option (List ℕ)
 content_of r = option_map (λ v. v.items) (out-CoseRecipient r).ciphertext
 
 pub recipient_fit : (r : CoseRecipient) (rs : List CoseRecipient) (u : Tree) → rs ≡ (out-CoseRecipient r).recipients.items
-    → ((ts : List Tree) → parts_trees (protected_view (out-CoseRecipient r).protected) (header_view (out-CoseRecipient r).unprotected) (content_of r) ≡ Some ts
+    → ((ts : List Tree) → parts_trees (parts (protected_view (out-CoseRecipient r).protected) (header_view (out-CoseRecipient r).unprotected) (content_of r)) ≡ Some ts
     → PartsShort (protected_view (out-CoseRecipient r).protected) (header_view (out-CoseRecipient r).unprotected) → FitAll (trees ts))
     → ((ts : Trees) → recipients_trees (recipients_view rs) ≡ Some ts → RecipientsShort (recipients_view rs) → FitAll ts)
     → ((ts : Trees) → recipients_trees (recipients_view rs) ≡ Some ts → tree_count ts < 2 ^ 64)
@@ -45,7 +46,7 @@ recipient_fit r rs u q f g l e s =
     let c = content_of r in
     let inner = recipients_view o.recipients.items in
     let same = recipient_out r in
-    let w = wrote_of (parts_trees p h c) inner u (sym (ap recipient_tree same) ∙ e) in
+    let w = wrote_of (parts_trees (parts p h c)) inner u (sym (ap recipient_tree same) ∙ e) in
     let t = subst RecipientShort same s in
     let g' = subst (λ z. (ts : Trees) → recipients_trees (recipients_view z) ≡ Some ts → RecipientsShort (recipients_view z) → FitAll ts) q g in
     let l' = subst (λ z. (ts : Trees) → recipients_trees (recipients_view z) ≡ Some ts → tree_count ts < 2 ^ 64) q l in

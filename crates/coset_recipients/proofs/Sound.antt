@@ -4,6 +4,7 @@ use Rattle.ciborium_value.specs.Tree.{Tree, array, Trees, no_trees, one_more}
 use Rattle.ciborium_value.specs.View.{trees}
 use Rattle.coset_headers.proofs.Again.{trees_parts}
 use Rattle.coset_headers.proofs.Sound.{Sound, SoundAll, array_inside, array_sound, all_none, all_more, all_parts}
+use Rattle.coset_message_parts.specs.Fields.{parts}
 use Rattle.coset_message_parts.specs.Written.{parts_trees}
 use Rattle.coset_message_parts.proofs.Again.{map_made}
 use Rattle.coset_message_parts.proofs.Sound.{whole_sound, one_sound, only}
@@ -27,7 +28,7 @@ inner_sound n rs o ts k d f e (inr a) s =
 mutual
   pub recipient_sound : (n : ℕ) (r : RecipientFields) (t u : Tree) (k d : ℕ) → HasRecipient n t r k → recipient_tree r ≡ Some u → Sound d t → Sound d u
   recipient_sound n (recipient p h c rs) t u k d a e s =
-      let w = wrote_of (parts_trees p h c) rs u e in
+      let w = wrote_of (parts_trees (parts p h c)) rs u e in
       subst (Sound d) w.is
       (whole_sound n a.0 a.1 a.2 p h c (trees (optional_list a.3)) w.parts (fourth w.inner) k d a.5 w.parts_are (subst (Sound d) a.4 s)
       (λ r. inner_sound n rs a.3 w.inner k (d - 1) (λ us b q. recipients_sound n rs us w.inner k (d - 1 - 1) b w.inner_is q) w.inner_is a.6 r))

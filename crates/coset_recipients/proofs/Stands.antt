@@ -7,6 +7,7 @@ use Rattle.coset_headers.specs.AsWritten.{header_stands}
 use Rattle.coset_headers.specs.Fields.{HeaderFields, ProtectedFields}
 use Rattle.coset_headers.proofs.Again.{trees_parts}
 use Rattle.coset_headers.proofs.Stands.{and_left, and_right, both_true, first_same, not_none, some_same}
+use Rattle.coset_message_parts.specs.Fields.{parts}
 use Rattle.coset_message_parts.specs.Written.{parts_trees}
 use Rattle.coset_message_parts.proofs.Again.{map_made, and_made}
 use Rattle.coset_message_parts.proofs.Stands.{parts_stand, parts_are}
@@ -61,15 +62,15 @@ stands_is : (x y z t : Tree) (o : Option Tree) → t ≡ array (three_or_four x 
 stands_is x y z t o e = ap recipient_stands e ∙ ap (λ b. header_stands y && b) (fourth_is x y z o)
 
 wrote_to : (p : ProtectedFields) (u : HeaderFields) (c : Option (List ℕ)) (rs : RecipientsFields) (ts : Trees) (x y z t : Tree) (o : Option Tree) → t ≡ array (three_or_four x y z o)
-    → recipients_trees rs ≡ Some ts → parts_trees p u c ≡ Some (x ∷ y ∷ z ∷ []) → fourth ts ≡ optional_list o → recipient_tree (recipient p u c rs) ≡ Some t
+    → recipients_trees rs ≡ Some ts → parts_trees (parts p u c) ≡ Some (x ∷ y ∷ z ∷ []) → fourth ts ≡ optional_list o → recipient_tree (recipient p u c rs) ≡ Some t
 wrote_to p u c rs ts x y z t o e f g h =
     ap (option_and_then (λ parts. option_map (λ ts. whole parts ts) (recipients_trees rs))) g ∙ ap (option_map (λ ts. whole (x ∷ y ∷ z ∷ []) ts)) f
     ∙ ap (λ w. Some (array (trees (x ∷ y ∷ z ∷ w)))) h ∙ ap Some (sym e)
 
 wrote_from : (p : ProtectedFields) (u : HeaderFields) (c : Option (List ℕ)) (rs : RecipientsFields) (ts : Trees) (x y z t : Tree) (o : Option Tree) → t ≡ array (three_or_four x y z o)
-    → recipients_trees rs ≡ Some ts → recipient_tree (recipient p u c rs) ≡ Some t → (parts_trees p u c ≡ Some (x ∷ y ∷ z ∷ [])) × (fourth ts ≡ optional_list o)
+    → recipients_trees rs ≡ Some ts → recipient_tree (recipient p u c rs) ≡ Some t → (parts_trees (parts p u c) ≡ Some (x ∷ y ∷ z ∷ [])) × (fourth ts ≡ optional_list o)
 wrote_from p u c rs ts x y z t o e f h =
-    let v = and_made (λ parts. option_map (λ ts. whole parts ts) (recipients_trees rs)) (parts_trees p u c) t h in
+    let v = and_made (λ parts. option_map (λ ts. whole parts ts) (recipients_trees rs)) (parts_trees (parts p u c)) t h in
     let w = map_made (λ ts. whole v.0 ts) (recipients_trees rs) t v.2 in
     let q : whole v.0 ts ≡ array (three_or_four x y z o) = ap (λ us. whole v.0 us) (some_same ts w.0 (sym f ∙ w.1)) ∙ w.2 ∙ e in
     parts_are p u c v.0 (fourth ts) x y z (optional_list o) v.1 q

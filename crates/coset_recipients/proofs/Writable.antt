@@ -5,6 +5,7 @@ use Rattle.coset_structures.specs.Contexts.{encryption_text}
 use Rattle.coset_structures.specs.declared.context.EncryptionContext.{EncryptionContext}
 use Rattle.coset_headers.proofs.Writable.{some_is, map_some, and_some, prot_some}
 use Rattle.coset_structures.proofs.Writable.{enc_data_some}
+use Rattle.coset_message_parts.specs.Fields.{parts}
 use Rattle.coset_message_parts.specs.Written.{parts_trees}
 use Rattle.coset_message_parts.proofs.Writable.{parts_some}
 use Rattle.coset_recipients.specs.Fields.{RecipientFields, recipient, RecipientsFields, no_recipients, recipient_more}
@@ -19,7 +20,7 @@ inner_some n rs o k f (inr a) = f a.0 a.2
 mutual
   pub recipient_some : (n : ℕ) (r : RecipientFields) (t : Tree) (k : ℕ) → HasRecipient n t r k → recipient_tree r ≢ None
   recipient_some n (recipient p u c rs) t k a =
-      and_some _ (parts_trees p u c) (parts_some n a.0 a.1 a.2 p u c k a.5)
+      and_some _ (parts_trees (parts p u c)) (parts_some n a.0 a.1 a.2 p u c k a.5)
       (λ ps. map_some (λ ts. whole ps ts) (recipients_trees rs) (inner_some n rs a.3 k (λ ts x. recipients_some n rs ts k x) a.6))
 
   pub recipients_some : (n : ℕ) (rs : RecipientsFields) (ts : Trees) (k : ℕ) → HasRecipients n ts rs k → recipients_trees rs ≢ None

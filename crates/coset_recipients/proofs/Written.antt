@@ -12,6 +12,7 @@ use Rattle.coset_labels.specs.Faults.{CantWrite}
 use Rattle.coset_labels.specs.declared.error.CoseError.{CoseError}
 use Rattle.coset_labels.proofs.Arrays.{written_none, written_pushed}
 use Rattle.coset_headers.specs.View.{header_view, protected_view}
+use Rattle.coset_message_parts.specs.Fields.{parts}
 use Rattle.coset_message_parts.specs.Written.{parts_trees}
 use Rattle.coset_recipients.specs.Fields.{RecipientFields, recipients}
 use Rattle.coset_recipients.specs.View.{recipient_view, recipients_view}
@@ -82,7 +83,7 @@ recipient_wrote r ts t q e =
 
 -- other recipients in it
 pub parts_kept : (r : CoseRecipient) (rs : Vec CoseRecipient Global) → parts_of (roll-CoseRecipient (record (out-CoseRecipient r) { recipients = rs })) ≡ parts_of r
-parts_kept r rs = ap (λ o. parts_trees (protected_view o.protected) (header_view o.unprotected) (option_map (λ v. v.items) o.ciphertext)) (out-roll-CoseRecipient (record (out-CoseRecipient r) { recipients = rs }))
+parts_kept r rs = ap (λ o. parts_trees (parts (protected_view o.protected) (header_view o.unprotected) (option_map (λ v. v.items) o.ciphertext))) (out-roll-CoseRecipient (record (out-CoseRecipient r) { recipients = rs }))
 
 pub wrote_three : (p : Option (List Tree)) (v w : Vec Value Global) → p ≡ Some (map view v.items) → w.items ≡ [] → option_map (λ parts. whole parts (views w.items)) p ≡ Some (view (code.Array v))
 wrote_three p v w q e =

@@ -3,6 +3,7 @@
 use Rattle.std.specs.Prelude.{◌≡◌, ℕ, ◌⊎◌, List, [], ◌∷◌, Option, Some, None}
 use Rattle.ciborium_value.specs.Tree.{Tree, array, Trees, no_trees, one_more}
 use Rattle.ciborium_value.specs.View.{trees}
+use Rattle.coset_message_parts.specs.Fields.{parts}
 use Rattle.coset_message_parts.specs.Shapes.{HasParts}
 use Rattle.coset_recipients.specs.Fields.{RecipientFields, recipient, RecipientsFields, no_recipients, recipient_more}
 
@@ -17,7 +18,7 @@ three_or_four x y z o = trees (x ∷ y ∷ z ∷ optional_list o)
 -- an array of a protected header, an unprotected one, the ciphertext or null, and an array of recipients where a fourth element stands
 abbrev mutual
   pub HasRecipient : ℕ → Tree → RecipientFields → ℕ → Type 0
-  HasRecipient n t (recipient p u c rs) k = (x y z : Tree) × (o : Option Tree) × (t ≡ array (three_or_four x y z o)) × HasParts n x y z p u c k
+  HasRecipient n t (recipient p u c rs) k = (x y z : Tree) × (o : Option Tree) × (t ≡ array (three_or_four x y z o)) × HasParts n x y z (parts p u c) k
       × (((o ≡ None) × (rs ≡ no_recipients)) ⊎ ((ts : Trees) × (o ≡ Some (array ts)) × HasRecipients n ts rs k))
 
   pub HasRecipients : ℕ → Trees → RecipientsFields → ℕ → Type 0

@@ -3,6 +3,7 @@ use Rattle.std.specs.Prelude.{◌≡◌, ℕ, List, [], ◌∷◌, ◌++◌, Opt
 use Rattle.ciborium_value.specs.Tree.{Tree}
 use Rattle.coset_labels.specs.Faults.{CoseFault, unexpected}
 use Rattle.coset_headers.specs.View.{header_view, protected_view}
+use Rattle.coset_message_parts.specs.Fields.{parts}
 use Rattle.coset_message_parts.specs.Shapes.{HasParts}
 use Rattle.coset_message_parts.specs.Written.{parts_trees}
 use Rattle.coset_message_parts.specs.Wrong.{WrongParts}
@@ -16,7 +17,7 @@ Pushes P old new = (r : CoseRecipient) × (new ≡ old ++ r ∷ []) × P (recipi
 
 -- the recipient of three elements and of the recipients in it
 abbrev pub HasThree : ℕ → List Tree → RecipientsFields → RecipientFields → ℕ → Type 0
-HasThree n (x ∷ y ∷ z ∷ []) inner (recipient p u c rs) k = HasParts n x y z p u c k × (rs ≡ inner)
+HasThree n (x ∷ y ∷ z ∷ []) inner (recipient p u c rs) k = HasParts n x y z (parts p u c) k × (rs ≡ inner)
 HasThree n _ inner r k = ⊥
 
 -- the fault of three elements, and of a list of another length
@@ -26,4 +27,4 @@ WrongThree n _ k e = e ≡ unexpected
 
 -- the values of the first three elements; none if a header can't be written
 abbrev pub parts_of : CoseRecipient → Option (List Tree)
-parts_of r = parts_trees (protected_view (out-CoseRecipient r).protected) (header_view (out-CoseRecipient r).unprotected) (option_map (λ v. v.items) (out-CoseRecipient r).ciphertext)
+parts_of r = parts_trees (parts (protected_view (out-CoseRecipient r).protected) (header_view (out-CoseRecipient r).unprotected) (option_map (λ v. v.items) (out-CoseRecipient r).ciphertext))

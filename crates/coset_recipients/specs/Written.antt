@@ -2,6 +2,7 @@
 use Rattle.std.specs.Prelude.{List, [], ◌∷◌, ◌++◌, Option, Some, option_map, option_and_then}
 use Rattle.ciborium_value.specs.Tree.{Tree, array, Trees, no_trees, one_more}
 use Rattle.ciborium_value.specs.View.{trees}
+use Rattle.coset_message_parts.specs.Fields.{parts}
 use Rattle.coset_message_parts.specs.Written.{parts_trees}
 use Rattle.coset_recipients.specs.Fields.{RecipientFields, recipient, RecipientsFields, no_recipients, recipient_more}
 
@@ -15,7 +16,7 @@ whole parts ts = array (trees (parts ++ fourth ts))
 
 abbrev mutual
   pub recipient_tree : RecipientFields → Option Tree
-  recipient_tree (recipient p u c rs) = option_and_then (λ parts. option_map (λ ts. whole parts ts) (recipients_trees rs)) (parts_trees p u c)
+  recipient_tree (recipient p u c rs) = option_and_then (λ parts. option_map (λ ts. whole parts ts) (recipients_trees rs)) (parts_trees (parts p u c))
 
   pub recipients_trees : RecipientsFields → Option Trees
   recipients_trees no_recipients = Some no_trees

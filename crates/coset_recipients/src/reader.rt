@@ -4,6 +4,7 @@ ghost use Rattle.std.specs.Prelude.{MatchOption, MatchResult, OnErr};
 ghost use Rattle.ciborium_value.specs.View.{view};
 ghost use Rattle.coset_labels.specs.Faults.{OrMemory};
 ghost use Rattle.coset_labels.specs.Limits.{nesting_of, layers_of};
+ghost use Rattle.coset_message_parts.specs.Results.{ReadsWithin};
 ghost use Rattle.coset_recipients.specs.Shapes.{HasRecipient, HasList};
 ghost use Rattle.coset_recipients.specs.View.{recipient_view, recipients_view};
 ghost use Rattle.coset_recipients.specs.Walks.{Pushes, HasThree, WrongThree};
@@ -22,9 +23,7 @@ pub(crate) fn read_recipient(
     value: Value,
     limits: Limits,
 ) -> Result<CoseRecipient, CoseError>
-    ensures { MatchResult result
-        (λ r. HasRecipient (nesting_of limits) (view value) (recipient_view r) (layers_of limits))
-        (λ e. OrMemory (WrongRecipient (nesting_of limits) (view value) (layers_of limits)) e) }
+    ensures { ReadsWithin limits HasRecipient WrongRecipient (view value) recipient_view result }
 {
     let mut recipients = Vec::new(alloc);
     read_into(alloc, value, limits, &mut recipients)?;
@@ -119,10 +118,8 @@ pub fn read_recipients(
     value: Value,
     limits: Limits,
 ) -> Result<Vec<CoseRecipient>, CoseError>
-    ensures { MatchResult result
-        (λ rs. HasList (nesting_of limits) (view value) (recipients_view rs.items)
-        (layers_of limits))
-        (λ e. OrMemory (WrongList (nesting_of limits) (view value) (layers_of limits)) e) }
+    ensures { ReadsWithin limits HasList WrongList (view value) (λ rs. recipients_view rs.items)
+        result }
 {
     let items = value.try_as_array()?;
     let mut recipients = Vec::new(alloc);

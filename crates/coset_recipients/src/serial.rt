@@ -1,8 +1,7 @@
 //! Recipients as values and bytes.
-ghost use Rattle.std.specs.Prelude.{MatchResult};
 ghost use Rattle.ciborium_value.specs.View.{view};
-ghost use Rattle.coset_labels.specs.Faults.{OrMemory};
-ghost use Rattle.coset_labels.specs.Limits.{nesting, layers, nesting_of, layers_of};
+ghost use Rattle.coset_labels.specs.Limits.{nesting, layers};
+ghost use Rattle.coset_message_parts.specs.Results.{ReadsWithin};
 ghost use Rattle.coset_recipients.specs.Fields.{RecipientFields};
 ghost use Rattle.coset_recipients.specs.Shapes.{HasRecipient};
 ghost use Rattle.coset_recipients.specs.View.{recipient_view};
@@ -48,10 +47,8 @@ impl CoseRecipient {
         value: Value,
         limits: Limits,
     ) -> Result<CoseRecipient, CoseError>
-        ensures { MatchResult result
-            (λ r. HasRecipient (nesting_of limits) (view value) (recipient_view r)
-            (layers_of limits))
-            (λ e. OrMemory (WrongRecipient (nesting_of limits) (view value) (layers_of limits)) e) }
+        ensures { ReadsWithin limits HasRecipient WrongRecipient (view value) recipient_view
+            result }
     {
         read_recipient(alloc, value, limits)
     }

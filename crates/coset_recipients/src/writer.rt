@@ -2,6 +2,7 @@
 ghost use Rattle.std.specs.Prelude.{◌≡◌, Some, MatchResult, option_map};
 ghost use Rattle.ciborium_value.specs.View.{view, views};
 ghost use Rattle.coset_labels.specs.Faults.{CantWrite};
+ghost use Rattle.coset_message_parts.specs.Results.{Writes};
 ghost use Rattle.coset_recipients.specs.View.{recipient_view, recipients_view};
 ghost use Rattle.coset_recipients.specs.Walks.{parts_of};
 ghost use Rattle.coset_recipients.specs.Written.{whole, recipient_tree, recipients_trees};
@@ -17,8 +18,7 @@ use std::mem;
 /// The array that stands for a recipient. It has no fourth element where the recipient has no
 /// recipients of its own.
 pub(crate) fn write_recipient(alloc: Global, recipient: CoseRecipient) -> Result<Value, CoseError>
-    ensures { MatchResult result (λ v. recipient_tree (recipient_view recipient) ≡ Some (view v))
-        (λ e. CantWrite (recipient_tree (recipient_view recipient)) e) }
+    ensures { Writes (recipient_tree (recipient_view recipient)) view result }
 {
     let mut recipient = recipient;
     take_recipient(alloc, &mut recipient)
@@ -28,9 +28,7 @@ pub(crate) fn write_recipient(alloc: Global, recipient: CoseRecipient) -> Result
 /// a level of recipients keeps on the stack is small.
 #[cycle(writer)]
 fn take_recipient(alloc: Global, recipient: &mut CoseRecipient) -> Result<Value, CoseError>
-    ensures { MatchResult result
-        (λ v. recipient_tree (recipient_view recipient.old) ≡ Some (view v))
-        (λ e. CantWrite (recipient_tree (recipient_view recipient.old)) e) }
+    ensures { Writes (recipient_tree (recipient_view recipient.old)) view result }
 {
     let inner = take_recipients(alloc, &mut recipient.recipients)?;
     take_parts(alloc, recipient, inner)
@@ -39,9 +37,8 @@ fn take_recipient(alloc: Global, recipient: &mut CoseRecipient) -> Result<Value,
 /// The arrays of recipients, in their order, by `take_recipient`.
 #[cycle(writer)]
 fn take_recipients(alloc: Global, recipients: &mut [CoseRecipient]) -> Result<Vec<Value>, CoseError>
-    ensures { MatchResult result
-        (λ v. recipients_trees (recipients_view recipients.old) ≡ Some (views v.items))
-        (λ e. CantWrite (recipients_trees (recipients_view recipients.old)) e) }
+    ensures { Writes (recipients_trees (recipients_view recipients.old)) (λ v. views v.items)
+        result }
 {
     let mut values = Vec::new(alloc);
     'recipients: for recipient in recipients.iter_mut() {
@@ -91,8 +88,7 @@ fn take_parts(
 /// `DuplicateMapKey` exactly where a label stands twice in a header that has to be encoded, or
 /// `Memory`.
 pub fn write_recipients(alloc: Global, recipients: Vec<CoseRecipient>) -> Result<Value, CoseError>
-    ensures { MatchResult result (λ v. list_tree (recipients_view recipients.items) ≡ Some (view v))
-        (λ e. CantWrite (list_tree (recipients_view recipients.items)) e) }
+    ensures { Writes (list_tree (recipients_view recipients.items)) view result }
 {
     let mut recipients = recipients;
     let values = take_recipients(alloc, &mut recipients)?;

@@ -12,6 +12,7 @@ use Rattle.coset_headers.specs.View.{signature_view, signatures_view}
 use Rattle.coset_headers.specs.Written.{signature_tree}
 use Rattle.coset_headers.specs.declared.header.CoseSignature.{CoseSignature}
 use Rattle.coset_headers.proofs.Fit.{Each, SignatureFits, sig_short}
+use Rattle.coset_message_parts.specs.Fields.{parts}
 use Rattle.coset_message_parts.specs.Short.{PartsShort}
 use Rattle.coset_message_parts.specs.Written.{parts_trees}
 use Rattle.coset_message_parts.proofs.Again.{map_made}
@@ -23,11 +24,11 @@ use Rattle.coset_signed.specs.Shapes.{HasSign1, HasSign}
 use Rattle.coset_signed.specs.Short.{Sign1Short, SignShort}
 use Rattle.coset_signed.specs.Written.{sign1_tree, sign_tree}
 
-pub sign1_fit : (m : Sign1Fields) (v : Tree) → ((ts : List Tree) → parts_trees m.protected m.unprotected m.payload ≡ Some ts → PartsShort m.protected m.unprotected → FitAll (trees ts)) → Fits (bytes m.signature)
+pub sign1_fit : (m : Sign1Fields) (v : Tree) → ((ts : List Tree) → parts_trees (parts m.protected m.unprotected m.payload) ≡ Some ts → PartsShort m.protected m.unprotected → FitAll (trees ts)) → Fits (bytes m.signature)
     → sign1_tree m ≡ Some v → Sign1Short m → Fits v
 sign1_fit m v f g e s = whole_fits m.protected m.unprotected m.payload (Some (bytes m.signature) ∷ []) v f s (λ y q. some_fits (bytes m.signature) y g q, tt) (omega arith) e
 
-pub sign_fit : (m : SignFields) (v : Tree) → ((ts : List Tree) → parts_trees m.protected m.unprotected m.payload ≡ Some ts → PartsShort m.protected m.unprotected → FitAll (trees ts))
+pub sign_fit : (m : SignFields) (v : Tree) → ((ts : List Tree) → parts_trees (parts m.protected m.unprotected m.payload) ≡ Some ts → PartsShort m.protected m.unprotected → FitAll (trees ts))
     → ((ts : List Tree) → all_written signature_tree m.signatures ≡ Some ts → AllShort (signatures m.signatures) → Fits (array (trees ts)))
     → sign_tree m ≡ Some v → SignShort m → Fits v
 sign_fit m v f g e s =

@@ -3,11 +3,12 @@ use Rattle.std.specs.Prelude.{[], ◌∷◌, Option, Some}
 use Rattle.ciborium_value.specs.Tree.{Tree, bytes}
 use Rattle.coset_labels.specs.Arrays.{array_of}
 use Rattle.coset_headers.specs.Written.{signature_tree}
+use Rattle.coset_message_parts.specs.Fields.{parts}
 use Rattle.coset_message_parts.specs.Written.{whole_tree}
 use Rattle.coset_signed.specs.Fields.{Sign1Fields, SignFields}
 
 abbrev pub sign1_tree : Sign1Fields → Option Tree
-sign1_tree m = whole_tree m.protected m.unprotected m.payload (Some (bytes m.signature) ∷ [])
+sign1_tree m = whole_tree (parts m.protected m.unprotected m.payload) (Some (bytes m.signature) ∷ [])
 
 abbrev pub sign_tree : SignFields → Option Tree
-sign_tree m = whole_tree m.protected m.unprotected m.payload (array_of signature_tree m.signatures ∷ [])
+sign_tree m = whole_tree (parts m.protected m.unprotected m.payload) (array_of signature_tree m.signatures ∷ [])

@@ -1,10 +1,10 @@
 //! Messages with several signatures.
-ghost use Rattle.std.specs.Prelude.{◌≡◌, ◌<◌, None, Some, IfOk, IfSome, IsSomeAnd, MatchResult};
+ghost use Rattle.std.specs.Prelude.{◌≡◌, ◌<◌, None, IfOk, IfSome, IsSomeAnd};
 ghost use Rattle.std.specs.Prelude.{length, map};
 ghost use Rattle.std.specs.List.{slice_get};
 ghost use Rattle.coset_headers.specs.View.{signature_view};
-ghost use Rattle.coset_labels.specs.Faults.{CantWrite};
 ghost use Rattle.coset_message_parts.specs.Calls.{TakesPairWhere, AnswersWhere};
+ghost use Rattle.coset_message_parts.specs.Results.{Writes};
 ghost use Rattle.coset_signed.specs.Fields.{no_sign, signature_bytes};
 ghost use Rattle.coset_signed.specs.Structure.{sign_covered, sign_covered_with};
 ghost use Rattle.coset_signed.specs.View.{sign_view};
@@ -71,11 +71,8 @@ impl CoseSign {
         aad: &[u8],
         signature: &CoseSignature,
     ) -> Result<Vec<u8>, CoseError>
-        ensures { MatchResult result
-            (λ v. sign_covered (sign_view self.now) (signature_view signature.now) aad.now
-            ≡ Some v.items)
-            (λ e. CantWrite
-            (sign_covered (sign_view self.now) (signature_view signature.now) aad.now) e) }
+        ensures { Writes (sign_covered (sign_view self.now) (signature_view signature.now) aad.now)
+            (λ v. v.items) result }
     {
         self.covered(alloc, content_bytes(&self.payload), aad, signature)
     }
@@ -93,13 +90,9 @@ impl CoseSign {
         signature: &CoseSignature,
     ) -> Result<Vec<u8>, CoseError>
         requires { self.now.payload ≡ None }
-        ensures { MatchResult result
-            (λ v. sign_covered_with (sign_view self.now) (signature_view signature.now) payload.now
-            aad.now
-            ≡ Some v.items)
-            (λ e. CantWrite
+        ensures { Writes
             (sign_covered_with (sign_view self.now) (signature_view signature.now) payload.now
-            aad.now) e) }
+            aad.now) (λ v. v.items) result }
     {
         self.covered(alloc, payload, aad, signature)
     }
@@ -116,13 +109,9 @@ impl CoseSign {
         aad: &[u8],
         signature: &CoseSignature,
     ) -> Result<Vec<u8>, CoseError>
-        ensures { MatchResult result
-            (λ v. sign_covered_with (sign_view self.now) (signature_view signature.now) payload.now
-            aad.now
-            ≡ Some v.items)
-            (λ e. CantWrite
+        ensures { Writes
             (sign_covered_with (sign_view self.now) (signature_view signature.now) payload.now
-            aad.now) e) }
+            aad.now) (λ v. v.items) result }
     {
         sig_structure_data(
             alloc,

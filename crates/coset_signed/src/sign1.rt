@@ -1,7 +1,7 @@
 //! Messages with one signature.
-ghost use Rattle.std.specs.Prelude.{◌≡◌, None, Some, IfOk, MatchResult};
-ghost use Rattle.coset_labels.specs.Faults.{CantWrite};
+ghost use Rattle.std.specs.Prelude.{◌≡◌, None, IfOk};
 ghost use Rattle.coset_message_parts.specs.Calls.{TakesPairWhere, AnswersWhere};
+ghost use Rattle.coset_message_parts.specs.Results.{Writes};
 ghost use Rattle.coset_signed.specs.Fields.{no_sign1};
 ghost use Rattle.coset_signed.specs.Structure.{sign1_covered, sign1_covered_with};
 ghost use Rattle.coset_signed.specs.View.{sign1_view};
@@ -63,9 +63,7 @@ impl CoseSign1 {
     /// # Errors
     /// `DuplicateMapKey` exactly where the protected header can't be written, or `Memory`.
     pub fn tbs_data(&self, alloc: Global, aad: &[u8]) -> Result<Vec<u8>, CoseError>
-        ensures { MatchResult result
-            (λ v. sign1_covered (sign1_view self.now) aad.now ≡ Some v.items)
-            (λ e. CantWrite (sign1_covered (sign1_view self.now) aad.now) e) }
+        ensures { Writes (sign1_covered (sign1_view self.now) aad.now) (λ v. v.items) result }
     {
         self.covered(alloc, content_bytes(&self.payload), aad)
     }
@@ -82,9 +80,8 @@ impl CoseSign1 {
         aad: &[u8],
     ) -> Result<Vec<u8>, CoseError>
         requires { self.now.payload ≡ None }
-        ensures { MatchResult result
-            (λ v. sign1_covered_with (sign1_view self.now) payload.now aad.now ≡ Some v.items)
-            (λ e. CantWrite (sign1_covered_with (sign1_view self.now) payload.now aad.now) e) }
+        ensures { Writes (sign1_covered_with (sign1_view self.now) payload.now aad.now)
+            (λ v. v.items) result }
     {
         self.covered(alloc, payload, aad)
     }
@@ -95,9 +92,8 @@ impl CoseSign1 {
     /// # Errors
     /// As of `tbs_data`.
     pub fn covered(&self, alloc: Global, payload: &[u8], aad: &[u8]) -> Result<Vec<u8>, CoseError>
-        ensures { MatchResult result
-            (λ v. sign1_covered_with (sign1_view self.now) payload.now aad.now ≡ Some v.items)
-            (λ e. CantWrite (sign1_covered_with (sign1_view self.now) payload.now aad.now) e) }
+        ensures { Writes (sign1_covered_with (sign1_view self.now) payload.now aad.now)
+            (λ v. v.items) result }
     {
         sig_structure_data(
             alloc,

@@ -1,9 +1,9 @@
 //! Messages with one signature as values and bytes.
-ghost use Rattle.std.specs.Prelude.{MatchResult};
+ghost use Rattle.std.specs.Prelude.{◌≡◌, OnErr};
 ghost use Rattle.ciborium_value.specs.View.{view};
-ghost use Rattle.coset_labels.specs.Faults.{OrMemory};
-ghost use Rattle.coset_labels.specs.Limits.{nesting, layers, nesting_of, layers_of};
-ghost use Rattle.coset_signed.specs.Fields.{Sign1Fields};
+ghost use Rattle.coset_labels.specs.Limits.{nesting, layers};
+ghost use Rattle.coset_message_parts.specs.Results.{ReadsWithin};
+ghost use Rattle.coset_signed.specs.Fields.{Sign1Fields, no_sign1};
 ghost use Rattle.coset_signed.specs.Shapes.{HasSign1};
 ghost use Rattle.coset_signed.specs.View.{sign1_view};
 ghost use Rattle.coset_signed.specs.Written.{sign1_tree};
@@ -15,7 +15,7 @@ use coset_labels::tuples::four;
 use coset_labels::{
     AsCborValue, CborSerializable, CoseError, Limits, TaggedCborSerializable, ValueTryAs,
 };
-use coset_message_parts::{Parts, read_parts, write_parts};
+use coset_message_parts::{Parts, fill_parts, write_parts};
 use std::alloc::Global;
 
 /// The elements are read from the last to the first.
@@ -62,22 +62,41 @@ impl CoseSign1 {
         value: Value,
         limits: Limits,
     ) -> Result<CoseSign1, CoseError>
-        ensures { MatchResult result
-            (λ m. HasSign1 (nesting_of limits) (view value) (sign1_view m) (layers_of limits))
-            (λ e. OrMemory (WrongSign1 (nesting_of limits) (view value) (layers_of limits)) e) }
+        ensures { ReadsWithin limits HasSign1 WrongSign1 (view value) sign1_view result }
     {
+        let mut message = CoseSign1::new(alloc);
+        message.fill(alloc, value, limits)?;
+        Ok(message)
+    }
+
+    /// Reads a message into this one, in place of its fields, within these limits. After an error
+    /// it has no field.
+    ///
+    /// # Errors
+    /// Those of `from_cbor_value_with`.
+    pub fn fill(&mut self, alloc: Global, value: Value, limits: Limits) -> Result<(), CoseError>
+        ensures read { ReadsWithin limits HasSign1 WrongSign1 (view value)
+            (λ _. sign1_view self.new) result }
+        ensures err { OnErr result (sign1_view self.new ≡ no_sign1) }
+    {
+        *self = CoseSign1::new(alloc);
         let items = value.try_as_array()?;
         match four(items) {
             Some((protected, unprotected, payload, signature)) => {
                 let signature = signature.try_as_bytes()?;
-                let want = "bstr or nil";
-                let parts = read_parts(alloc, protected, unprotected, payload, limits, want)?;
-                Ok(CoseSign1 {
-                    protected: parts.protected,
-                    unprotected: parts.unprotected,
-                    payload: parts.content,
-                    signature,
-                })
+                fill_parts(
+                    alloc,
+                    protected,
+                    unprotected,
+                    payload,
+                    limits,
+                    "bstr or nil",
+                    &mut self.protected,
+                    &mut self.unprotected,
+                    &mut self.payload,
+                )?;
+                self.signature = signature;
+                Ok(())
             }
             None => Err(CoseError::UnexpectedItem("array", "array with 4 items")),
         }

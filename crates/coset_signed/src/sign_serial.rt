@@ -1,12 +1,13 @@
 //! Messages with several signatures as values and bytes.
-ghost use Rattle.std.specs.Prelude.{MatchResult, map};
+ghost use Rattle.std.specs.Prelude.{◌≡◌, MatchResult, OnErr, map};
 ghost use Rattle.ciborium_value.specs.View.{view, views};
 ghost use Rattle.coset_labels.specs.Faults.{OrMemory};
 ghost use Rattle.coset_labels.specs.Limits.{nesting, layers, nesting_of, layers_of};
 ghost use Rattle.coset_labels.specs.Walks.{WrongItems};
 ghost use Rattle.coset_headers.specs.Headers.{HasSignature, HasSignatures};
 ghost use Rattle.coset_headers.specs.View.{signature_view, signatures_view};
-ghost use Rattle.coset_signed.specs.Fields.{SignFields};
+ghost use Rattle.coset_message_parts.specs.Results.{ReadsWithin};
+ghost use Rattle.coset_signed.specs.Fields.{SignFields, no_sign};
 ghost use Rattle.coset_signed.specs.Shapes.{IsSignatureList, HasSign};
 ghost use Rattle.coset_signed.specs.View.{sign_view};
 ghost use Rattle.coset_signed.specs.Written.{sign_tree};
@@ -20,7 +21,7 @@ use coset_labels::{
     AsCborValue, CborSerializable, CoseError, Limits, TaggedCborSerializable, ValueTryAs,
     to_cbor_array,
 };
-use coset_message_parts::{Parts, read_parts, write_parts};
+use coset_message_parts::{Parts, fill_parts, write_parts};
 use std::alloc::Global;
 
 /// The elements are read from the last to the first, and the signatures from the first to the last.
@@ -68,22 +69,41 @@ impl CoseSign {
         value: Value,
         limits: Limits,
     ) -> Result<CoseSign, CoseError>
-        ensures { MatchResult result
-            (λ m. HasSign (nesting_of limits) (view value) (sign_view m) (layers_of limits))
-            (λ e. OrMemory (WrongSign (nesting_of limits) (view value) (layers_of limits)) e) }
+        ensures { ReadsWithin limits HasSign WrongSign (view value) sign_view result }
     {
+        let mut message = CoseSign::new(alloc);
+        message.fill(alloc, value, limits)?;
+        Ok(message)
+    }
+
+    /// Reads a message into this one, in place of its fields, within these limits. After an error
+    /// it has no field.
+    ///
+    /// # Errors
+    /// Those of `from_cbor_value_with`.
+    pub fn fill(&mut self, alloc: Global, value: Value, limits: Limits) -> Result<(), CoseError>
+        ensures read { ReadsWithin limits HasSign WrongSign (view value) (λ _. sign_view self.new)
+            result }
+        ensures err { OnErr result (sign_view self.new ≡ no_sign) }
+    {
+        *self = CoseSign::new(alloc);
         let items = value.try_as_array()?;
         match four(items) {
             Some((protected, unprotected, payload, list)) => {
                 let signatures = read_signatures(alloc, list, limits)?;
-                let want = "bstr or nil";
-                let parts = read_parts(alloc, protected, unprotected, payload, limits, want)?;
-                Ok(CoseSign {
-                    protected: parts.protected,
-                    unprotected: parts.unprotected,
-                    payload: parts.content,
-                    signatures,
-                })
+                fill_parts(
+                    alloc,
+                    protected,
+                    unprotected,
+                    payload,
+                    limits,
+                    "bstr or nil",
+                    &mut self.protected,
+                    &mut self.unprotected,
+                    &mut self.payload,
+                )?;
+                self.signatures = signatures;
+                Ok(())
             }
             None => Err(CoseError::UnexpectedItem("array", "array with 4 items")),
         }
@@ -104,10 +124,8 @@ fn read_signatures(
     value: Value,
     limits: Limits,
 ) -> Result<Vec<CoseSignature>, CoseError>
-    ensures { MatchResult result
-        (λ v. IsSignatureList (nesting_of limits) (view value) (map signature_view v.items)
-        (layers_of limits))
-        (λ e. OrMemory (WrongSignatureList (nesting_of limits) (view value) (layers_of limits)) e) }
+    ensures { ReadsWithin limits IsSignatureList WrongSignatureList (view value)
+        (λ v. map signature_view v.items) result }
 {
     let items = value.try_as_array()?;
     read_list(alloc, items, limits)
@@ -135,9 +153,7 @@ fn read_list(
 }
 
 fn read_signature(alloc: Global, value: Value, limits: Limits) -> Result<CoseSignature, CoseError>
-    ensures { MatchResult result
-        (λ s. HasSignature (nesting_of limits) (view value) (signature_view s) (layers_of limits))
-        (λ e. OrMemory (IsNoSignature (nesting_of limits) (view value) (layers_of limits)) e) }
+    ensures { ReadsWithin limits HasSignature IsNoSignature (view value) signature_view result }
 {
     match CoseSignature::from_cbor_value_with(alloc, value, limits) {
         Ok(signature) => Ok(signature),
