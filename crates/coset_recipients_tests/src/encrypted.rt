@@ -1,4 +1,5 @@
-//! Encrypted messages by builders, and what their ciphers are handed. Expected bytes are written out by hand.
+//! Encrypted messages by builders, and what their ciphers are handed. Expected bytes are written
+//! out by hand.
 use crate::tools::{
     ASKED, Encrypted, LONG, MISSING, Message, Met, decrypts, fails, give, gives, is_decrypted,
     join, makes, meets_in_order, missing, owned, read, repeated, same, watched, with_algorithm,
@@ -174,7 +175,8 @@ fn repeated_encrypt(rt: &impl Abort, alloc: Global) -> CoseEncrypt {
     message
 }
 
-/// A missing ciphertext is met before a header that can't be written, and that before a cipher that fails.
+/// A missing ciphertext is met before a header that can't be written, and that before a cipher that
+/// fails.
 pub(crate) fn a_missing_ciphertext_is_first(rt: &impl Abort, alloc: Global) {
     let message = repeated_encrypt0(rt, alloc);
     meets_in_order(rt, alloc, message, "COSE_Encrypt0");

@@ -1,5 +1,6 @@
-//! Tests of recipients and of encrypted and authenticated messages, by their public names: what ciphers, signers and verifiers are
-//! handed, what is met first, refused memory, and that each call succeeds.
+//! Tests of recipients and of encrypted and authenticated messages, by their public names: what
+//! ciphers, signers and verifiers are handed, what is met first, refused memory, and that each call
+//! succeeds. And how much memory a structure takes.
 #![tactic(auto)]
 
 #[cfg(test)]
@@ -10,5 +11,7 @@ mod maced;
 mod memory;
 #[cfg(test)]
 mod recipients;
+#[cfg(test)]
+mod structures;
 #[cfg(test)]
 mod tools;

@@ -1,4 +1,5 @@
-//! Authenticated messages by builders, and what their closures are handed. Expected bytes are written out by hand.
+//! Authenticated messages by builders, and what their closures are handed. Expected bytes are
+//! written out by hand.
 use crate::tools::{
     ASKED, LONG, MISSING, Maced, Message, Met, content, fails, give, gives, is_verified, join,
     makes, meets_in_order, missing, owned, repeated, same, watched, with_algorithm,
@@ -11,7 +12,8 @@ use coset_recipients::CoseRecipient;
 use std::alloc::{AllocError, Global};
 use std::process::Abort;
 
-/// What the tag of `built_mac0` covers with the external data h'01': 84644d41433043a101054101426869.
+/// What the tag of `built_mac0` covers with the external data h'01':
+/// 84644d41433043a101054101426869.
 const COVERED_MAC0: &[u8] = &[
     0x84, 0x64, 0x4d, 0x41, 0x43, 0x30, 0x43, 0xa1, 0x01, 0x05, 0x41, 0x01, 0x42, 0x68, 0x69,
 ];
@@ -76,7 +78,8 @@ fn built_mac(rt: &impl Abort, alloc: Global) -> CoseMac {
         .build()
 }
 
-/// The verifier is content with the tag of a COSE_Mac0 over its external data, and not over another.
+/// The verifier is content with the tag of a COSE_Mac0 over its external data, and not over
+/// another.
 fn mac0_is_verified_over(rt: &impl Abort, alloc: Global, message: &CoseMac0) {
     let verified = mac0_verified(alloc, message, &[1]);
     same(rt, &verified, &Ok(()), "the same external data");
@@ -205,7 +208,8 @@ impl Message for CoseMac {
     }
 }
 
-/// A missing payload is met before a header that can't be written, and that before a verifier or a signer that fails.
+/// A missing payload is met before a header that can't be written, and that before a verifier or a
+/// signer that fails.
 pub(crate) fn a_missing_payload_is_first(rt: &impl Abort, alloc: Global) {
     let message = CoseMac0Builder::new(alloc).protected(repeated(rt, alloc));
     meets_in_order(rt, alloc, message.build(), "COSE_Mac0");

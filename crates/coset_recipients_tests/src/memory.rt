@@ -1,6 +1,7 @@
-//! Each call that asks for memory, with memory enough and where it is refused: the answer is then `Memory`, and no cipher, signer or
-//! verifier was asked (`watched!`). All memory here is asked for in functions that answer `Memory` themselves, so
-//! `refused_memory_is_the_answer` also holds where one allocation is refused, whichever it is.
+//! Each call that asks for memory, with memory enough and where it is refused: the answer is then
+//! `Memory`, and no cipher, signer or verifier was asked (`watched!`). All memory here is asked for
+//! in functions that answer `Memory` themselves, so `refused_memory_is_the_answer` also holds where
+//! one allocation is refused, whichever it is.
 use crate::encrypted::{
     encrypt_is_decrypted, encrypt_is_given, encrypt0_is_decrypted, encrypt0_is_given,
 };
@@ -72,7 +73,8 @@ fn are_written_back(alloc: Global) -> Result<bool, CoseError> {
     Ok(is_written_back && is_read_again)
 }
 
-/// What was met by a call whose closures fail only where memory is refused, or where a part is missing that isn't.
+/// What was met by a call whose closures fail only where memory is refused, or where a part is
+/// missing that isn't.
 fn flat(answer: Result<bool, Met>) -> Result<bool, CoseError> {
     match answer {
         Ok(is_so) => Ok(is_so),

@@ -1,4 +1,5 @@
-//! Recipients by builders, and what their ciphers are handed. Expected bytes are written out by hand.
+//! Recipients by builders, and what their ciphers are handed. Expected bytes are written out by
+//! hand.
 ghost use Rattle.coset_recipients.specs.Structure.{IsRecipientContext};
 
 use crate::tools::{
@@ -87,7 +88,8 @@ fn inner(rt: &impl Abort, alloc: Global) -> CoseRecipient {
         .build()
 }
 
-/// A recipient while it is built, with the algorithm A128KW, the key id h'31', and a recipient of its own.
+/// A recipient while it is built, with the algorithm A128KW, the key id h'31', and a recipient of
+/// its own.
 fn outer(rt: &impl Abort, alloc: Global) -> CoseRecipientBuilder {
     let key_id = owned(rt, alloc, &[0x31]);
     CoseRecipientBuilder::new(alloc)
@@ -176,7 +178,8 @@ impl Encrypted for CoseRecipient {
     }
 }
 
-/// A missing ciphertext is met before a header that can't be written, and that before a cipher that fails.
+/// A missing ciphertext is met before a header that can't be written, and that before a cipher that
+/// fails.
 fn a_missing_ciphertext_is_first(rt: &impl Abort, alloc: Global) {
     let recipient = CoseRecipientBuilder::new(alloc).protected(repeated(rt, alloc));
     meets_in_order(rt, alloc, recipient.build(), "a recipient");

@@ -38,13 +38,16 @@ fn joined(alloc: Global, first: &[u8], second: &[u8]) -> Result<Vec<u8>, CoseErr
     Ok(all)
 }
 
-/// 300 bytes: a plaintext or a payload, so that a closure which gives what it is handed gives more, or what a closure gives.
+/// 300 bytes: a plaintext or a payload, so that a closure which gives what it is handed gives more,
+/// or what a closure gives.
 pub(crate) const LONG: &[u8] = &[7; 300];
 
-/// The error of a call that asked and then met a fault of its own, or answered for a closure that it hadn't asked.
+/// The error of a call that asked and then met a fault of its own, or answered for a closure that
+/// it hadn't asked.
 const UNTRUE: CoseError = CoseError::UnexpectedItem("a call", "another one");
 
-/// What a call answers, where its closure was asked exactly if the answer isn't the call's own fault, such as want of memory.
+/// What a call answers, where its closure was asked exactly if the answer isn't the call's own
+/// fault, such as want of memory.
 pub(crate) fn watch<T: Drop>(is_asked: bool, answer: Result<T, Met>) -> Result<T, Met> {
     if is_asked == matches!(answer, Err(Fault::Cose(_))) {
         return Err(Fault::Caller(UNTRUE));
@@ -64,7 +67,8 @@ macro_rules! watched {
 
 pub(crate) use watched;
 
-/// Two byte strings, one behind the other: what a closure was handed, which tells that it was asked.
+/// Two byte strings, one behind the other: what a closure was handed, which tells that it was
+/// asked.
 pub(crate) fn join(
     alloc: Global,
     first: &[u8],
@@ -101,7 +105,8 @@ pub(crate) fn repeated(rt: &impl Abort, alloc: Global) -> Header {
         .build()
 }
 
-/// What is met first: a missing part, then a header that can't be written, then the closure's own error.
+/// What is met first: a missing part, then a header that can't be written, then the closure's own
+/// error.
 pub(crate) fn in_order() -> (Option<Met>, Option<Met>, Option<Met>) {
     (
         Some(Fault::Caller(MISSING)),
@@ -148,7 +153,8 @@ pub(crate) trait Message: CborSerializable + PartialEq + Debug {
     /// A copy.
     fn copied(&self, alloc: Global) -> Result<Self, AllocError>;
 
-    /// What a call meets that asks for a part, which may be missing, and then a closure, which fails.
+    /// What a call meets that asks for a part, which may be missing, and then a closure, which
+    /// fails.
     fn meets(&self, alloc: Global) -> Option<Met>;
 
     /// Sets that part: the ciphertext or the payload.
@@ -208,8 +214,8 @@ fn is_tagged_again<T: CborSerializable + TaggedCborSerializable>(
     is_tagged(alloc, read, bytes)
 }
 
-/// Whether a copy of a message with so many recipients is the same, and is written as these bytes where it was written without a tag and
-/// read again.
+/// Whether a copy of a message with so many recipients is the same, and is written as these bytes
+/// where it was written without a tag and read again.
 fn is_copied_and_tagged<T: Message + TaggedCborSerializable>(
     alloc: Global,
     message: &T,
@@ -222,8 +228,8 @@ fn is_copied_and_tagged<T: Message + TaggedCborSerializable>(
     Ok(is_same && is_again)
 }
 
-/// Whether these bytes of a message with so many recipients are read, copied and written back, also where the copy was written without a
-/// tag and read again.
+/// Whether these bytes of a message with so many recipients are read, copied and written back, also
+/// where the copy was written without a tag and read again.
 pub(crate) fn is_written_back<T: Message + TaggedCborSerializable>(
     alloc: Global,
     bytes: &[u8],
@@ -283,7 +289,8 @@ fn opened_again<T: Encrypted>(alloc: Global, mut message: T) -> Result<Vec<u8>, 
     message.decrypted(alloc, b"aad")
 }
 
-/// Whether a cipher is handed `LONG` and then these where a message is decrypted, and what was handed is decrypted again.
+/// Whether a cipher is handed `LONG` and then these where a message is decrypted, and what was
+/// handed is decrypted again.
 pub(crate) fn is_decrypted<T: Encrypted>(
     alloc: Global,
     sealed: Result<T, Met>,

@@ -1,4 +1,5 @@
-//! Tests of signed messages, by their public names: what signers and verifiers are handed, refused memory, and that each call succeeds.
+//! Tests of signed messages, by their public names: what signers and verifiers are handed, refused
+//! memory, and that each call succeeds.
 #![tactic(auto)]
 
 #[cfg(test)]

@@ -1,4 +1,5 @@
-//! A firmware manifest: a message with one signature, which covers an image that is carried elsewhere.
+//! A firmware manifest: a message with one signature, which covers an image that is carried
+//! elsewhere.
 use crate::tools::same;
 use coset_builders::HeaderBuilder;
 use coset_labels::{Fault, TaggedCborSerializable, iana};
@@ -17,7 +18,8 @@ enum Refused {
     Signature,
 }
 
-/// Who may sign firmware. The key stands for a real one: a signature is the byte that makes all bytes come out even.
+/// Who may sign firmware. The key stands for a real one: a signature is the byte that makes all
+/// bytes come out even.
 #[derive(Drop)]
 struct Maker {
     key_id: Vec<u8>,
@@ -41,7 +43,8 @@ impl Maker {
 /// What the signature covers beside the image.
 const PURPOSE: &[u8] = b"firmware";
 
-/// Checks an image against its manifest, which was read. The closure captures one reference, `maker`, and calls a method of it.
+/// Checks an image against its manifest, which was read. The closure captures one reference,
+/// `maker`, and calls a method of it.
 fn check_message(
     alloc: Global,
     message: &CoseSign1,

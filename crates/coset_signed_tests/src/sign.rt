@@ -202,7 +202,8 @@ fn a_message_is_signed_by_several(rt: HostRuntime) {
     );
 }
 
-/// What is built for the payload "hi", which is carried elsewhere, with a signer that gives what it is handed.
+/// What is built for the payload "hi", which is carried elsewhere, with a signer that gives what it
+/// is handed.
 fn signed_elsewhere(alloc: Global, aad: &[u8]) -> Result<CoseSign, Met> {
     let built = watched!(
         asked,

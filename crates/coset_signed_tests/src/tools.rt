@@ -13,7 +13,8 @@ pub(crate) type Met = Fault<CoseError>;
 /// The error of a verifier that wants another signature or structure.
 pub(crate) const MISMATCH: CoseError = CoseError::UnexpectedItem("a signature", "another one");
 
-/// The error of a message that has no such signature, or a payload of its own where it should be carried elsewhere.
+/// The error of a message that has no such signature, or a payload of its own where it should be
+/// carried elsewhere.
 pub(crate) const UNFIT: CoseError = CoseError::UnexpectedItem("a message", "another one");
 
 /// A verifier that wants a signature that is what it covers, and tells that it was asked.
@@ -73,13 +74,16 @@ pub(crate) fn gives<E: Debug + Drop>(
 /// Two texts of bytes in hex.
 pub(crate) type Row = (&'static str, &'static str);
 
-/// 300 bytes: a payload, so that a signer which gives what it is handed gives more, or what a signer gives.
+/// 300 bytes: a payload, so that a signer which gives what it is handed gives more, or what a
+/// signer gives.
 pub(crate) const LONG: &[u8] = &[7; 300];
 
-/// The error of a call that asked and then met a fault of its own, or answered for a closure that it hadn't asked.
+/// The error of a call that asked and then met a fault of its own, or answered for a closure that
+/// it hadn't asked.
 const UNTRUE: CoseError = CoseError::UnexpectedItem("a call", "another one");
 
-/// What a call answers, where its closure was asked exactly if the answer isn't the call's own fault, such as want of memory.
+/// What a call answers, where its closure was asked exactly if the answer isn't the call's own
+/// fault, such as want of memory.
 pub(crate) fn watch<T: Drop>(is_asked: bool, answer: Result<T, Met>) -> Result<T, Met> {
     if is_asked == matches!(answer, Err(Fault::Cose(_))) {
         return Err(Fault::Caller(UNTRUE));
@@ -200,7 +204,8 @@ pub(crate) fn verifies<T: Message>(
     same(rt, &message.verified(alloc, which, aad), want, "verified");
 }
 
-/// The message has no payload, and its one signature is what it covers for "hi", which is these bytes in hex also for this signer.
+/// The message has no payload, and its one signature is what it covers for "hi", which is these
+/// bytes in hex also for this signer.
 fn covers_elsewhere<T: Message>(
     rt: &impl Abort,
     alloc: Global,
@@ -217,8 +222,9 @@ fn covers_elsewhere<T: Message>(
     same(rt, &is_covered, &Ok(true), "what is covered");
 }
 
-/// The message has no payload, and one signature, which is what it covers for "hi", in hex the row's first, and nothing else. The
-/// row's second is what is covered with no payload and no external data.
+/// The message has no payload, and one signature, which is what it covers for "hi", in hex the
+/// row's first, and nothing else. The row's second is what is covered with no payload and no
+/// external data.
 pub(crate) fn is_elsewhere<T: Message>(
     rt: &impl Abort,
     alloc: Global,
@@ -320,14 +326,16 @@ pub(crate) fn is_verified<T: Message>(
     }
 }
 
-/// Whether the signature at 0 is verified, and is what it covers, of a payload that is carried elsewhere.
+/// Whether the signature at 0 is verified, and is what it covers, of a payload that is carried
+/// elsewhere.
 fn is_verified_without<T: Message>(alloc: Global, message: &T) -> Result<bool, Met> {
     message.verified_elsewhere(alloc, 0, b"hi", b"aad")?;
     let is_so = is_covered_elsewhere(alloc, message, b"hi", b"aad")?;
     Ok(is_so && message.is_detached())
 }
 
-/// Whether a message with one signature is verified, which is what it covers, of a payload that is carried elsewhere.
+/// Whether a message with one signature is verified, which is what it covers, of a payload that is
+/// carried elsewhere.
 pub(crate) fn is_verified_elsewhere<T: Message>(
     alloc: Global,
     signed: Result<T, Met>,

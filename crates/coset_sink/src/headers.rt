@@ -1,5 +1,6 @@
 //! Writes headers and signatures to a sink, straight from their fields. That takes no memory.
-ghost use Rattle.std.specs.Prelude.{◌≡◌, ◌≤◌, if◌then◌else◌, not, pos, map, option_map, OnOk, OnErr};
+ghost use Rattle.std.specs.Prelude.{◌≡◌, ◌≤◌, if◌then◌else◌, not, pos, map, option_map, OnOk};
+ghost use Rattle.std.specs.Prelude.{OnErr};
 ghost use Rattle.cose_iana.specs.Algorithms.{algorithm_number};
 ghost use Rattle.cose_iana.specs.Formats.{coap_content_formats};
 ghost use Rattle.cose_iana.specs.Headers.{header_parameters};
@@ -271,8 +272,8 @@ pub fn put_header<S: Sink>(header: &Header, to: &mut S) -> Result<(), S::Error>
     put_rest(&header.rest, to)
 }
 
-/// Writes the received bytes of a protected header, as a byte string; the empty one if there are none, which stands for an empty header
-/// alone (RFC 9052, section 3).
+/// Writes the received bytes of a protected header, as a byte string; the empty one if there are
+/// none, which stands for an empty header alone (RFC 9052, section 3).
 ///
 /// # Errors
 /// The sink's.

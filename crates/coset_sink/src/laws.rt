@@ -10,7 +10,8 @@ ghost use Rattle.coset_sink.specs.Put.{header_put, protected_put, signature_put,
 ghost use Rattle.coset_sink.specs.Put.{HasReceived, ProtectedReceived, SignatureReceived};
 ghost use Rattle.coset_sink.specs.Put.{AllReceived};
 
-/// What is written straight from fields is what is written of them, if each protected header inside has its received bytes or is empty.
+/// What is written straight from fields is what is written of them, if each protected header inside
+/// has its received bytes or is empty.
 pub fn put_is_written()
     ensures header { (h : HeaderFields) (t : Tree) → header_tree h ≡ Some t → HasReceived h
         → header_put h ≡ t }
@@ -32,7 +33,8 @@ pub fn read_is_received()
         → SignatureReceived s }
 {}
 
-/// So what was read is written straight from its fields as the one value that is written of it, and a protected header as it was read.
+/// So what was read is written straight from its fields as the one value that is written of it, and
+/// a protected header as it was read.
 pub fn read_is_put()
     ensures header { (n k : ℕ) (t : Tree) (h : HeaderFields) → HasHeader n t h k
         → header_tree h ≡ Some (header_put h) }

@@ -1,4 +1,5 @@
-//! Headers and signatures of COSE written to a sink, straight from their fields (RFC 9052, sections 3 and 4.1).
+//! Headers and signatures of COSE written to a sink, straight from their fields (RFC 9052, sections
+//! 3 and 4.1).
 #![tactic(auto)]
 
 mod headers;

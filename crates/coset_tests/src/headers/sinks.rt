@@ -1,4 +1,5 @@
-//! Headers that were read are written straight from their fields as the bytes that they were read from.
+//! Headers that were read are written straight from their fields as the bytes that they were read
+//! from.
 use crate::checks::{is_hex, of_hex};
 use coset::cbor::{Mem, into_writer};
 use coset::{CborSerializable, Header};
