@@ -1,7 +1,7 @@
 -- The frames of the reader, and what they stand for.
 use Rattle.std.specs.Prelude.{◌≡◌, ◌≢◌, ◌<◌, ◌≤◌, ◌⊎◌, ℕ, ◌+◌, ◌-◌, ◌*◌, ◌/◌, ◌^◌, ◌&&◌, min, List, [], ◌∷◌, ◌++◌, length, Bool, true, false, MatchBool, Option, Some, None}
 use Rattle.std.specs.Vec.{vec_capacity}
-use Rattle.ciborium_ll.specs.Seen.{Seen}
+use Rattle.ciborium_ll.specs.Seen.{Seen, Takes}
 use Rattle.ciborium_ll.specs.declared.hdr.Header.{Header}
 use Rattle.ciborium_ll.specs.declared.hdr.Header.TheVariants.{Tag, Bytes, Array, Map}
 use Rattle.ciborium_ll.specs.Title.{Title, title_of, IsShortest}
@@ -19,7 +19,7 @@ use Rattle.ciborium.specs.declared.frames.Opened.{Opened}
 use Rattle.ciborium.specs.declared.frames.Opened.TheVariants as opens
 use Rattle.ciborium.specs.Damage.{Damage}
 use Rattle.ciborium.specs.Front.{Reads}
-use Rattle.ciborium.specs.Reading.{IfKnown, FailsAt, Closes, IsLeaf, OpensOver}
+use Rattle.ciborium.specs.Reading.{IfKnown, FailsAt, Closes, IsLeaf, OpensOver, ReadsBehind}
 use Rattle.ciborium.specs.Exact.{Says, IsEncoded, encoded, LevelsExact, TitleExact, ItemExact}
 use Rattle.ciborium.specs.Levels.{Level, Within, Titled, Handing}
 
@@ -153,6 +153,41 @@ AskGives top h at now w w' y = (k : Bool) (limit from : ℕ) (fs : List Frame) (
 abbrev pub AskFails : {E : Type 0} → (E → Bool) → Frame → Seen → Seen → Error E → Type 0
 AskFails ends top old new e = (limit from : ℕ) (fs : List Frame) (b : List ℕ) → from + length b ≡ old.offset → Stage false false limit (top ∷ fs) None from old.offset b
     → Faults ends limit from b old.left new.offset e
+
+-- the innermost frame is an array or a map
+abbrev pub listed : Frame → Bool
+listed (code.Whole at h) = false
+listed (code.Items l) = true
+listed (code.Entries l) = true
+listed (code.Tag n at h room) = false
+
+-- half an entry stands in it where it is a map
+abbrev pub HalfIn : Frame → Type 0
+HalfIn (code.Whole at h) = Unit {0}
+HalfIn (code.Items l) = Unit {0}
+HalfIn (code.Entries l) = HasHalf l
+HalfIn (code.Tag n at h room) = Unit {0}
+
+-- a value is put into it
+abbrev pub Puts : Frame → Frame → Value → Type 0
+Puts old new v = (w : Bool) (fs : List Frame) → Hands (old ∷ fs) (new ∷ fs) (Some v) None w w handed.Taken
+
+-- an item whose title has the header h, and in which no items follow, is read and put into it
+abbrev pub LeafPut : Header → Frame → Frame → Seen → Seen → Type 0
+LeafPut h old new s s' = (v : Value) × Takes s s' (λ b. (limit : ℕ) → ReadsBehind h limit (view v) b) × Puts old new v
+
+-- items that no items follow in, of the bytes y from the place `now` on, were put into it
+abbrev pub Fills : Frame → Frame → ℕ → Bool → Bool → List ℕ → Type 0
+Fills old new now w w' y = (k : Bool) (limit from : ℕ) (fs : List Frame) (b : List ℕ) → Stage k w limit (old ∷ fs) None from now b → Stage k w' limit (new ∷ fs) None from (now + length y) (b ++ y)
+
+-- it is whole behind them
+abbrev pub FillEnds : Frame → Frame → ℕ → Bool → Bool → List ℕ → Type 0
+FillEnds old new now w w' y = (k : Bool) (limit from : ℕ) (fs : List Frame) (b : List ℕ) → Stage k w limit (old ∷ fs) None from now b → ClosedStage k w' limit (new ∷ fs) (b ++ y)
+
+-- the title behind them has the header h and begins at the place `at`
+abbrev pub FillGives : Frame → Frame → Header → ℕ → ℕ → Bool → Bool → List ℕ → Type 0
+FillGives old new h at now w w' y = (k : Bool) (limit from : ℕ) (fs : List Frame) (b : List ℕ) → Stage k w limit (old ∷ fs) None from now b
+    → Rooted (new ∷ fs) × InHand k w' limit (opened (new ∷ fs)) h at from (now + length y) (b ++ y)
 
 -- a frame of an item with the header h that was opened, and y behind its title, which ended at the place `now`
 abbrev pub IsBegun : Frame → Header → ℕ → Bool → Bool → List ℕ → Type 0
