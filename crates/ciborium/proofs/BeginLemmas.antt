@@ -131,7 +131,7 @@ plain_leaf limit left at now place h j fs v read w w' x y some (leaf, p) s k fro
           (told_leaf k w limit low (opened fs) h (view v) at from now b (x ++ y) t (subst IsLeaf p.0 leaf) reads),
     )
 
--- a leaf behind its tag
+-- a leaf after its tag
 pub leaf_tagged : (left at now place n : ℕ) (h j : Header) (c : Tree) (w w' : Bool) (x y : List ℕ) → Opening h at now left w w' (opens.Leaf (Some n) place j) x → ((o : Option ℕ) → j ≡ Bytes o → (z : List ℕ) × (c ≡ bytes z))
     → ((low : ℕ) → ReadsBehind j low c y) → TaggedBehind n left c (x ++ y)
 leaf_tagged left at now place n h j c w w' x y i string s = go i.1.1

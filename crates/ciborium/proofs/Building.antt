@@ -1,4 +1,4 @@
--- One more part behind those of a list, as trees.
+-- One more part after those of a list, as trees.
 use Rattle.std.proofs.Common.{◌≡◌, List, [], ◌∷◌, ◌++◌, refl, ap, ◌∙◌}
 use Rattle.ciborium_value.specs.Tree.{Tree, Trees, one_more, Pairs, pair_more}
 use Rattle.ciborium_value.specs.View.{view, views, view_pairs}

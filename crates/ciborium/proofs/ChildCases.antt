@@ -72,7 +72,7 @@ break_case (x ∷ xs) = by_first (cases_eq x 255)
     by_first (inl e) = inl (xs, ap (λ z. z ∷ xs) e)
     by_first (inr p) = inr (λ r e. p (let f : x ∷ xs ≡ 255 ∷ r = e in let g : x ≡ 255 = cc in g))
 
--- the break that closes an open array or map, where it comes
+-- the break that closes an open array or map, if it comes
 close_case : (o : Option ℕ) (b : List ℕ) → ((o ≡ None) × ((r : List ℕ) × (b ≡ 255 ∷ r))) ⊎ (o ≡ None → (r : List ℕ) → b ≢ 255 ∷ r)
 close_case (Some n) b = inr (λ e. let f : Some n ≡ None = e in cc)
 close_case None b = by_break (break_case b)

@@ -23,7 +23,7 @@ use Rattle.ciborium.proofs.Once.{title_once}
 use Rattle.ciborium.proofs.Taking.{fails_as}
 use Rattle.ciborium.proofs.ReadLemmas.{meanings_parts}
 
--- a fault behind a title that was taken, which it tells
+-- a fault after a title that was taken, which it tells
 abbrev pub Begun : Header → (ℕ → List ℕ → Fault → Type 0) → ℕ → List ℕ → Fault → Type 0
 Begun h D stop b f = ((r : List ℕ) × Begins b h r) × D stop b f
 

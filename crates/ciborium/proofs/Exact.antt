@@ -72,7 +72,7 @@ module _ (k : Option ℕ → Header) (inj : (o p : Option ℕ) → k o ≡ k p �
           absurd (unbroken None v.heads)
       deepen title inner rest zs t fs _ u _ (frame_more c d ps qs f gs) e = into title inner rest c (d ++ (255 ∷ u)) zs ps t fs f (e ∙ append_assoc c d (255 ∷ u))
 
-  -- what stands at a frame
+  -- what is at a frame
   begins_no_short : (b w rest : List ℕ) (n : ℕ) (ys : List (List ℕ)) → Frame k P b ys → Begins (b ++ w) (k (Some n)) rest → length rest < n → ⊥
   begins_no_short b w rest n ys (whole _ body s p has eb) t l =
       let v = split b (t.title ++ rest) s t.title body rest w [] (k (Some (length body))) (k (Some n)) p t.is_title eb refl (t.whole ∙ append_nil (t.title ++ rest)) in

@@ -103,7 +103,7 @@ whole_text w title body t f p =
     says_as w (title ≡ title_of (Text (Some (length body)))) (title ++ body ≡ enc (text body)) (λ e. ap (λ z. z ++ body) e)
     (λ e. (title_front (Text (Some (length body))) title body body t f e).0) p
 
--- a bignum stays exactly where a tag over as many bytes was made of it
+-- a bignum stays exactly when a tag over as many bytes was made of it
 zeros_length : (b : List ℕ) → length (without_zeros b) ≤ length b
 zeros_length [] = omega arith
 zeros_length (x ∷ xs) = go (nat_eq x 0) (zeros_length xs)

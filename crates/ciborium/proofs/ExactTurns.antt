@@ -1,4 +1,5 @@
--- How the answer "encoded so far" goes on in a reader that keeps open levels, from title to title and from fold to fold.
+-- How the answer "encoded so far" goes on in a reader that keeps open levels, from title to title
+-- and from fold to fold.
 use Rattle.std.proofs.Common.{◌≡◌, ◌≢◌, ◌<◌, ℕ, pos, negsuc, ◌^◌, Bool, List, [], ◌∷◌, ◌++◌, length, Some, None, refl, sym, ap, subst, inl, inr, ◌∙◌, ◌&&◌, append_assoc}
 use Rattle.std.proofs.lemmas.List.{append_cancel_left}
 use Rattle.std.specs.Option.{option_and_then}
@@ -158,7 +159,7 @@ pub turn_closed : (w : Bool) (fs : List Level) (f : Level) (v : Tree) (b : List 
 turn_closed w fs f v b s e p =
     says_as w (LevelsExact (f ∷ fs) b) (ItemExact fs v b) (λ x. (x.0.0, x.1 ∙ ap (λ z. levels_enc fs ++ z) e)) (λ x. ((x.0, s), x.1 ∙ ap (λ z. levels_enc fs ++ z) (sym e))) p
 
--- an open one ends, behind its break: the answer was no, and stays so
+-- an open one ends, after its break: the answer was no, and stays so
 pub turn_array_broken : (w : Bool) (limit : ℕ) (fs : List Level) (vs : Trees) (b title inner : List ℕ) → Within limit fs b → AllFit fs → Title title (Array None) → tree_count vs < 2 ^ 64
     → Says w (LevelsExact (record { head = Array None; done = vs } ∷ fs) (b ++ (title ++ inner))) → Says w (ItemExact fs (array vs) (b ++ (title ++ (inner ++ 255 ∷ []))))
 turn_array_broken w limit fs vs b title inner within fit t few p =
@@ -211,7 +212,7 @@ flat_enc (pair_more k v ps) = ap (λ z. enc k ++ (enc v ++ z)) (flat_enc ps)
 pub map_enc : (n : ℕ) (ps : Pairs) → n ≡ pair_count ps → level_enc (Map (Some n)) (flat ps) ≡ enc (map ps)
 map_enc n ps e = ap (λ z. title_of (Map (Some z)) ++ enc_all (flat ps)) e ∙ ap (λ z. title_of (Map (Some (pair_count ps))) ++ z) (flat_enc ps)
 
--- a tag over its content is encoded only where its title and its content are, and it stays
+-- a tag over its content is encoded only if its title and its content are, and it stays
 pub tag_back : (limit n : ℕ) (c v : Tree) (title inner : List ℕ) → Title title (Tag n) → n < 2 ^ 64 → Reads inner limit c → tagged n c ≡ Some v → Sound v → title ++ inner ≡ enc v
     → (title ≡ title_of (Tag n)) × ((inner ≡ enc c) × (v ≡ tag n c))
 tag_back limit n c v title inner t fn r folds fv e =
@@ -226,7 +227,7 @@ tag_back limit n c v title inner t fn r folds fv e =
     let f = title_front (Tag n) title inner (enc r.tree) t fn (e ∙ ap enc (sym w.0)) in
     (f.0, (f.1 ∙ ap enc (i ∙ l), sym w.0 ∙ ap (tag n) (i ∙ l)))
 
--- a bignum that was read behind its tag, in one piece: the tag opens no level
+-- a bignum that was read after its tag, in one piece: the tag opens no level
 pub turn_bignum : (w w' : Bool) (limit low : ℕ) (fs : List Level) (n : ℕ) (c v : Tree) (b title inner : List ℕ) → Within limit fs b → AllFit fs → Title title (Tag n) → n < 2 ^ 64
     → Reads inner low c → tagged n c ≡ Some v → Sound v
     → Says w (TitleExact fs (Tag n) b title × (inner ≡ enc c)) → IsKept n c v w w' → Says w' (ItemExact fs v (b ++ (title ++ inner)))

@@ -1,5 +1,6 @@
--- The faults where an item stands. Damage and a front exclude each other: bytes that begin a readable item have no fault there. An
--- item with assigned simple values has no fault but a negative number that is too large.
+-- The faults where an item stands. Damage and a front exclude each other: bytes that begin a
+-- readable item have no fault there. An item with assigned simple values has no fault but a
+-- negative number that is too large.
 use Rattle.std.proofs.Common.{◌≡◌, ◌≤◌, ◌-◌, inl, inr, ℕ, List, ◌++◌, Option, None, Some, refl, sym, ap, subst, ◌∙◌, arith, append_assoc}
 use Rattle.std.specs.Option.{option_map, option_and_then}
 use Rattle.std.specs.Str.{IsUtf8}

@@ -1,4 +1,4 @@
--- Where each event of an item fits, the item does, and each simple value in it is false, true or null.
+-- If each event of an item fits, the item does, and each simple value in it is false, true or null.
 use Rattle.std.proofs.Common.{◌≤◌, List, [], ◌∷◌, ◌++◌, arith}
 use Rattle.ciborium_value.specs.Tree as tree
 use Rattle.ciborium_value.specs.Tree.{Tree, Trees, no_trees, one_more, Pairs, no_pairs, pair_more}

@@ -1,4 +1,5 @@
--- A meaning is folded, means itself, and has assigned simple values alone. Where simple values are assigned, a meaning is a folding.
+-- A meaning is folded, means itself, and has assigned simple values alone. If simple values are
+-- assigned, a meaning is a folding.
 use Rattle.std.proofs.Common.{◌≡◌, ◌≤◌, ℕ, pos, negsuc, Bool, true, false, cond, List, length, Option, None, Some, refl, sym, ap, subst, ◌∙◌, arith, nat_eq, nat_lt, nat_le, ◌&&◌, ◌||◌}
 use Rattle.std.specs.Option.{option_map, option_and_then}
 use Rattle.std.proofs.lemmas.Bool.Decides.{nat_tests}

@@ -1,4 +1,4 @@
--- Where a fault leaves the decoder, from step to step.
+-- If a fault leaves the decoder, from step to step.
 use Rattle.std.proofs.Common.{ℕ, List, ◌++◌, Option, None, Some, sym, ap, ◌∙◌, arith, append_assoc, length-append}
 use Rattle.std.specs.Io.KnownBytes.{Consumes}
 use Rattle.ciborium_ll.specs.Reading.{Moves, Starts}
@@ -24,7 +24,7 @@ was_taken t = record { bytes = t.bytes; has = tt; taken = t.taken; grown = t.gro
 pub both_taken : {l₀ l₁ l₂ : Option (List ℕ)} {o₀ o₁ o₂ : ℕ} {P Q : List ℕ → Type 0} → Moves l₀ l₁ o₀ o₁ P → Moves l₁ l₂ o₁ o₂ Q → Moves l₀ l₂ o₀ o₂ (λ _. Unit {0})
 both_taken {l₀} {l₁} {l₂} {o₀} {o₁} {o₂} {P} {Q} t u = takes_then l₀ l₁ l₂ o₀ o₁ o₂ P Q (λ _. Unit {0}) t u (λ x y p q. tt)
 
--- a fault behind what was taken
+-- a fault after what was taken
 pub some_then : {E : Type 0} {l₀ l₁ : Option (List ℕ)} {o₀ o₁ : ℕ} {P : List ℕ → Type 0} (l₂ : Option (List ℕ)) (o₂ : ℕ) (e : Error E) → Moves l₀ l₁ o₀ o₁ P → SomeTaken l₁ l₂ o₁ o₂ e → SomeTaken l₀ l₂ o₀ o₂ e
 some_then {E} {l₀} {l₁} {o₀} {o₁} {P} l₂ o₂ e t s = go e s
   where
@@ -41,7 +41,7 @@ some_then {E} {l₀} {l₁} {o₀} {o₁} {P} l₂ o₂ e t s = go e s
     go code.Memory s = both_taken t s
     go code.TooLong s = both_taken t s
 
--- a fault where no more was asked for
+-- a fault if no more was asked for
 pub some_taken : {E : Type 0} {l₀ l₁ : Option (List ℕ)} {o₀ o₁ : ℕ} {P : List ℕ → Type 0} (e : Error E) → Moves l₀ l₁ o₀ o₁ P → SomeTaken l₀ l₁ o₀ o₁ e
 some_taken {E} {l₀} {l₁} {o₀} {o₁} {P} e t = go e
   where

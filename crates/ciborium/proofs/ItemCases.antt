@@ -62,7 +62,7 @@ leaf : (stop limit : ℕ) (b rest : List ℕ) (h : Header) (t v : Tree) (s : Beg
 leaf stop limit b rest h t v s spells low means =
     readable v rest (record { spelling = s.title; whole = s.whole; reads = record { tree = t; spells = spells; shallow = low; means = means } })
 
--- an item behind its title
+-- an item after its title
 behind : (stop limit : ℕ) (b inside read rest : List ℕ) (h : Header) (v : Tree) → Begins b h inside → inside ≡ read ++ rest → ReadsBehind h limit v read → ItemCase stop limit b
 behind stop limit b inside read rest h v s w p =
     readable v rest (record { spelling = s.title ++ read; whole = s.whole ∙ ap (λ z. s.title ++ z) w ∙ sym (append_assoc s.title read rest); reads = p s.title s.is_title })
@@ -98,7 +98,7 @@ map_item stop limit b inside o s some (map_front f) =
     behind stop limit b inside f.read f.rest (Map o) (map f.values) s f.whole (map_read o f.count limit (map f.values) f.values f.read refl f.counts some f.behind)
 map_item stop limit b inside o s some (map_fault e d) = damaged e (in_child b inside d.rest limit (Map o) d.done e s some d.fronts d.due d.damage)
 
--- the item behind a tag is there
+-- the item after a tag is there
 content_case : (stop limit n : ℕ) (b inside read rest : List ℕ) (c : Tree) → Begins b (Tag n) inside → inside ≡ read ++ rest → TaggedBehind n limit c read → ItemCase stop limit b
 content_case stop limit n b inside read rest c s w p = by_fold (tagged n c) refl
   where
@@ -113,7 +113,7 @@ content_case stop limit n b inside read rest c s w p = by_fold (tagged n c) refl
     by_fold (Some v) e = behind stop limit b inside read rest (Tag n) v s w (tag_read n limit c v read p e)
 
 module _ (stop n : ℕ) (decided : Decided stop n) (limit : ℕ) (b : List ℕ) (few : length b ≤ n) (within : length b ≤ stop) (low : All (λ x. x < 256) b) where
-  -- what is behind a title is shorter
+  -- what is after a title is shorter
   less : (h : Header) (inside : List ℕ) → Begins b h inside → length inside < length b
   less h inside s = shorter b s.title inside s.whole (title_some s.title h s.is_title)
 

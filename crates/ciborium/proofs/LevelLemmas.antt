@@ -1,4 +1,5 @@
--- Open levels: a fault in the innermost one is one of the whole, and an item that is whole is handed over.
+-- Open levels: a fault in the innermost one is one of the whole, and an item that is whole is
+-- handed over.
 use Rattle.std.proofs.Common.{◌≡◌, ◌<◌, ◌+◌, ◌-◌, inl, inr, ℕ, Bool, List, [], ◌∷◌, ◌++◌, length, Option, None, Some, refl, sym, ap, subst, ◌∙◌, arith, append_assoc, length-append}
 use Rattle.ciborium_ll.specs.declared.hdr.Header.{Header}
 use Rattle.ciborium_ll.specs.declared.hdr.Header.TheVariants.{Positive, Negative, Float, Simple, Tag, Break, Bytes, Text, Array, Map}
@@ -96,7 +97,7 @@ damaged limit (g ∷ gs) x rest stop f w due d =
     subst (λ (z : List ℕ). Damage stop z limit f) (sym (joined_up x w.0 w.1 p.title p.inner rest w.6 p.whole))
     (damaged limit gs w.0 (p.title ++ (p.inner ++ rest)) stop f w.2 (child_due gs g.head (p.title ++ (p.inner ++ rest)) (p.inner ++ rest) w.3 (begins p.title (p.inner ++ rest) g.head p.is_title)) inside)
 
--- a fault behind a title is one of the whole
+-- a fault after a title is one of the whole
 pub titled_fails : {E : Type 0} (ends : E → Bool) (limit : ℕ) (fs : List Level) (h : Header) (from at o o' : ℕ) (l : Option (List ℕ)) (b : List ℕ) (e : Error E) → from + length b ≡ o → Titled limit fs h at from o b
     → FailsBehind ends h at o l o' (λ stop b f. Damage stop b (limit - length fs) f) e → IfKnown l (λ rest. FailsAt ends (b ++ rest) from o' (λ stop b f. Damage stop b limit f) e)
 titled_fails ends limit fs h from at o o' None b e same t w = tt
@@ -107,7 +108,7 @@ titled_fails ends limit fs h from at o o' (Some rest) b e same t w =
     (λ stop f d. damaged limit fs t.before (t.title ++ rest) stop f t.within (child_due fs h (t.title ++ rest) rest t.child (begins t.title rest h t.is_title)) d)
     (w t.title t.is_title (t.place same)))
 
--- a fault where the next item is due is one of the whole
+-- a fault if the next item is due is one of the whole
 pub due_fails : {E : Type 0} (ends : E → Bool) (limit : ℕ) (fs : List Level) (from o o' : ℕ) (l : Option (List ℕ)) (b : List ℕ) (D : ℕ → List ℕ → Fault → Type 0) (e : Error E) → from + length b ≡ o → Within limit fs b
     → ((stop : ℕ) (rest : List ℕ) (f : Fault) → D stop rest f → IsDue fs rest × Damage stop rest (limit - length fs) f)
     → IfKnown l (λ rest. FailsAt ends rest o o' D e) → IfKnown l (λ rest. FailsAt ends (b ++ rest) from o' (λ stop b f. Damage stop b limit f) e)

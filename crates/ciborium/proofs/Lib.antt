@@ -19,6 +19,7 @@ pub mod ToldLemmas
 pub mod FrameLemmas
 pub mod BeginLemmas
 pub mod TurnLemmas
+pub mod FillLemmas
 pub mod Texts
 pub mod Folded
 pub mod Exact

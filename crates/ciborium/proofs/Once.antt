@@ -107,7 +107,7 @@ no_break t b u v s e =
     let l : tree_kind t < 8 = kind_low t in
     omega arith
 
--- the same number of parts, or a break behind both
+-- the same number of parts, or a break after both
 abbrev Ends : ℕ → ℕ → List ℕ → List ℕ → Type 0
 Ends n m u v = (n ≡ m) ⊎ ((x y : List ℕ) × (u ≡ 255 ∷ x) × (v ≡ 255 ∷ y))
 

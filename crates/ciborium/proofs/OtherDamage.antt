@@ -1,4 +1,5 @@
--- Another title of the same header in the first place has the same faults, the number in Syntax aside.
+-- Another title of the same header in the first place has the same faults, the number in Syntax
+-- aside.
 use Rattle.std.proofs.Common.{◌≡◌, ◌≤◌, ◌-◌, ℕ, inl, inr, List, ◌++◌, length, Option, None, Some, sym, ap, subst, ◌∙◌, arith, append_assoc}
 use Rattle.std.specs.Str.{IsUtf8}
 use Rattle.ciborium_ll.specs.declared.hdr.Header.{Header}

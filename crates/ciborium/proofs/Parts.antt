@@ -1,4 +1,4 @@
--- The parts of an item that stands at the front of some bytes, behind its title.
+-- The parts of an item that is at the front of some bytes, after its title.
 use Rattle.std.proofs.Common.{◌≡◌, ◌≢◌, ◌≤◌, ◌<◌, ◌+◌, ◌-◌, ◌*◌, ◌%◌, ◌⊎◌, inl, inr, ℕ, suc, Bool, true, false, cond, List, [], ◌∷◌, ◌++◌, Option, None, Some, refl, sym, ap, subst, ◌∙◌, arith, append_assoc, nat_eq, ◌&&◌, ◌||◌}
 use Rattle.std.proofs.lemmas.List.{append_cancel_left}
 use Rattle.std.proofs.lemmas.Bool.Decides.{nat_tests}
@@ -79,7 +79,7 @@ tag_parts b inside rest n (tag m c) s f =
     record { under = c; is = ap (λ z. tag z c) k; at = record { spelling = p.1; whole = w.1; spells = p.3 } }
 tag_parts b inside rest n t s f = absurd (let k : 5 ≡ tree_kind t = sym (kind_tag n) ∙ kind_at b inside rest (Tag n) t s f in omega arith)
 
--- the bytes behind a title that says o, around `inner` and before `rest`
+-- the bytes after a title that says o, around `inner` and before `rest`
 abbrev pub Held : Option ℕ → ℕ → List ℕ → List ℕ → List ℕ → Type 0
 Held o n inner inside rest = ((o ≡ Some n) × (inside ≡ inner ++ rest)) ⊎ ((o ≡ None) × (inside ≡ inner ++ (255 ∷ rest)))
 
@@ -104,7 +104,7 @@ pub record Inherited (P : Tree → Type 0) (Q : Trees → Type 0) : Type 0 where
   pub of_tag : (n : ℕ) (t : Tree) → P (tag n t) → P t
   pub of_items : (t : Tree) (ts : Trees) → Q (one_more t ts) → P t × Q ts
 
--- an item of at most `limit` levels that stands at `at`, and has P
+-- an item of at most `limit` levels that is at `at`, and has P
 pub record Standing (P : Tree → Type 0) (at : List ℕ) (limit : ℕ) : Type 0 where
   pub tree : Tree
   pub rest : List ℕ
@@ -123,7 +123,7 @@ record Children (Q : Trees → Type 0) (total : ℕ → ℕ) (o : Option ℕ) (l
   pub count : tree_count trees ≡ total length
   pub held : Held o length inner inside rest
 
--- one more child than `done` stands at `at`, where all of them are n and `behind` follows them
+-- one more child than `done` stands at `at`, if all of them are n and `behind` follows them
 More : ℕ → ℕ → List ℕ → List ℕ → Type 0
 More done n at behind = (done < n) ⊎ (((done ≢ n) ⊎ ((r : List ℕ) → at ≢ 255 ∷ r)) × ((w : List ℕ) × (behind ≡ 255 ∷ w)))
 
@@ -133,7 +133,7 @@ fewer_more n m at behind (inl l) = inl (omega arith)
 fewer_more n m at behind (inr (inl ne, w)) = inr (inl (λ e. ne (ap (λ z. 1 + z) e)), w)
 fewer_more n m at behind (inr (inr not, w)) = inr (inr not, w)
 
--- one more child is due behind d of them
+-- one more child is due after d of them
 abbrev Wanted : (ℕ → ℕ) → Option ℕ → ℕ → List ℕ → Type 0
 Wanted total (Some n) d at = d < total n
 Wanted total None d at = ((m : ℕ) → d ≢ total m) ⊎ ((r : List ℕ) → at ≢ 255 ∷ r)
@@ -205,7 +205,7 @@ module _ (P : Tree → Type 0) (Q : Trees → Type 0) (inherited : Inherited P Q
       record { trees = flat ps; length = pair_count ps; inner = w.0; spells = flat_spells ps w.0 w.1; deep = omega arith; have = inherited.of_map ps p; count = flat_count ps; held = w.2 }
   map_children b inside rest o limit t s f d p = absurd (let k : 4 ≡ tree_kind t = sym (kind_map o) ∙ kind_at b inside rest (Map o) t s f in omega arith)
 
-  -- what holds of all children holds of the one behind those that were read
+  -- what holds of all children holds of the one after those that were read
   next_child : (done ts : Trees) (a at inner behind : List ℕ) (limit : ℕ) → SpellsAll a done → SpellsAll inner ts → a ++ at ≡ inner ++ behind
       → More (tree_count done) (tree_count ts) at behind → depth_all ts ≤ limit → Q ts → Standing P at limit
   unfolding More

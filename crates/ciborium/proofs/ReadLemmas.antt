@@ -43,13 +43,13 @@ text_read o limit v items inner e s title t = record {
   means = ap Some (sym e);
 }
 
--- faults behind a title, by what they are
+-- faults after a title, by what they are
 pub behind_as : {E : Type 0} (ends : E → Bool) (h : Header) (at : ℕ) (l : Option (List ℕ)) (o o' : ℕ) (D D' : ℕ → List ℕ → Fault → Type 0) (e : Error E)
     → ((stop : ℕ) (b : List ℕ) (f : Fault) → D stop b f → D' stop b f) → FailsBehind ends h at o l o' D e → FailsBehind ends h at o l o' D' e
 behind_as ends h at None o o' D D' e step w title t g = tt
 behind_as ends h at (Some b) o o' D D' e step w title t g = fails_as ends _ _ _ _ _ _ e (λ q. q) (step (at + length (title ++ b)) (title ++ b)) (λ l. l) (w title t g)
 
--- from the faults of what is behind
+-- from the faults of what is after
 pub behind_rest : {E : Type 0} (ends : E → Bool) (h : Header) (at : ℕ) (l : Option (List ℕ)) (o o' : ℕ) (D D' : ℕ → List ℕ → Fault → Type 0) (e : Error E)
     → ((stop : ℕ) (b rest : List ℕ) (f : Fault) → Begins b h rest → D stop rest f → D' stop b f) → IfKnown l (λ b. FailsAt ends b o o' D e) → FailsBehind ends h at o l o' D' e
 behind_rest ends h at l o o' D D' e step w = behind_title ends h at l o o' D' e (λ title t. go title t l w)

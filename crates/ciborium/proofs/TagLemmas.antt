@@ -1,4 +1,4 @@
--- The item behind a tag.
+-- The item after a tag.
 use Rattle.std.proofs.Common.{◌≡◌, ◌≢◌, ◌≤◌, ◌<◌, ◌+◌, ◌-◌, ◌⊎◌, inl, inr, ℕ, suc, Bool, true, false, cond, List, ◌++◌, length, Option, None, Some, refl, sym, ap, subst, ◌∙◌, arith, nat_eq, nat_le, ◌&&◌, ℤ}
 use Rattle.std.specs.Option.{option_map, option_and_then}
 use Rattle.ciborium_ll.specs.Reading.{Moves}
@@ -91,7 +91,7 @@ level_item ends n limit at h l₀ l₁ o₀ o₁ o₂ e over low t same w =
     known_as ends l₀ o₀ o₂ (Begun h (λ stop b f. Damage stop b (limit - 1) f)) (TagDamage n limit) e (λ stop b f d. inr (inr (opens_level n h b over d.0.0 d.0.1, low, d.1)))
     (fails_begun ends l₀ l₁ o₀ o₁ o₂ h (λ stop b f. Damage stop b (limit - 1) f) e t (subst (λ (z : ℕ). FailsBehind ends h z o₁ l₁ o₂ (λ stop b f. Damage stop b (limit - 1) f) e) same w))
 
--- a fault behind the tag is one of the item
+-- a fault after the tag is one of the item
 tag_damage : (n limit stop : ℕ) (b rest : List ℕ) (f : Fault) → Begins b (Tag n) rest → TagDamage n limit stop rest f → Damage stop b limit f
 tag_damage n limit stop b rest f s (inl (free, d)) = in_free b rest limit n f s free d
 tag_damage n limit stop b rest f s (inr (inl (lv, e, g))) = subst (λ (z : Fault). Damage stop b limit z) (sym g) (subst (λ (z : ℕ). Damage stop b z deep) (sym e) (too_deep b rest (Tag n) s lv))

@@ -1,4 +1,4 @@
--- Parts that are taken one after another, and faults behind them.
+-- Parts that are taken one after another, and faults after them.
 use Rattle.std.proofs.Common.{◌≡◌, ◌≤◌, ◌+◌, ◌^◌, ℕ, Bool, List, [], ◌∷◌, ◌++◌, length, Option, None, Some, refl, sym, ap, subst, ◌∙◌, arith, length-append}
 use Rattle.std.specs.Prelude.{min}
 use Rattle.std.specs.Io.KnownBytes.{Consumes}
@@ -59,7 +59,7 @@ fails_over ends x rest o₀ o₁ o₂ D D' e g step w =
     let s = stop_same x rest o₀ o₁ g in
     fails_as ends _ _ _ _ _ _ e (place_behind x rest o₀ o₁ o₂ g) (λ f d. subst (λ (z : ℕ). D' z (x ++ rest) f) s (step (o₁ + length rest) f d)) (λ l. omega arith) w
 
--- a fault behind what was taken is a fault of the whole
+-- a fault after what was taken is a fault of the whole
 pub fails_behind : {E : Type 0} (ends : E → Bool) (l₀ l₁ : Option (List ℕ)) (o₀ o₁ o₂ : ℕ) (P : List ℕ → Type 0) (D D' : ℕ → List ℕ → Fault → Type 0) (e : Error E)
     → Moves l₀ l₁ o₀ o₁ P → ((stop : ℕ) (x rest : List ℕ) (f : Fault) → P x → D stop rest f → D' stop (x ++ rest) f)
     → IfKnown l₁ (λ b. FailsAt ends b o₁ o₂ D e) → IfKnown l₀ (λ b. FailsAt ends b o₀ o₂ D' e)
@@ -68,7 +68,7 @@ fails_behind ends (Some b) None o₀ o₁ o₂ P D D' e t step w = absurd t.take
 fails_behind ends (Some b) (Some rest) o₀ o₁ o₂ P D D' e t step w =
     subst (λ (z : List ℕ). FailsAt ends z o₀ o₂ D' e) (sym t.taken) (fails_over ends t.bytes rest o₀ o₁ o₂ D D' e t.grown (λ stop f d. step stop t.bytes rest f t.has d) w)
 
--- the same behind a title that was taken
+-- the same after a title that was taken
 pub fails_titled : {E : Type 0} (ends : E → Bool) (l₀ l₁ : Option (List ℕ)) (o₀ o₁ o₂ : ℕ) (h : Header) (D : ℕ → List ℕ → Fault → Type 0) (e : Error E)
     → Moves l₀ l₁ o₀ o₁ (λ (b : List ℕ). Title b h) → FailsBehind ends h o₀ o₁ l₁ o₂ D e → IfKnown l₀ (λ b. FailsAt ends b o₀ o₂ D e)
 fails_titled ends None l₁ o₀ o₁ o₂ h D e t w = tt
@@ -96,7 +96,7 @@ fails_pull ends (Some b) l₁ o₀ o₁ e f i w = subst (λ (z : Error _). Fails
     go b l₁ below.TooLong w = omega arith
     go b l₁ below.Waiting w = absurd w
 
--- the faults behind a title, from those of the whole with any such title in front
+-- the faults after a title, from those of the whole with any such title in front
 pub behind_title : {E : Type 0} (ends : E → Bool) (h : Header) (at : ℕ) (l : Option (List ℕ)) (o o' : ℕ) (D : ℕ → List ℕ → Fault → Type 0) (e : Error E)
     → ((title : List ℕ) → Title title h → IfKnown l (λ b. FailsAt ends b o o' (λ stop b f. D stop (title ++ b) f) e)) → FailsBehind ends h at o l o' D e
 behind_title ends h at None o o' D e w title t g = tt

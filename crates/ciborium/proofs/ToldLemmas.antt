@@ -140,7 +140,7 @@ told_leaf k w limit low fs h v at from now b y (t, p) leaf r =
     subst (λ (z : List ℕ). Says w (ItemExact fs v z)) (sym whole)
     (turn_leaf w limit low fs h v t.before t.title y t.within (before_few limit fs h at from now b t lb) leaf t.is_title (r t.title t.is_title) (reads_sound low v (t.title ++ y) (r t.title t.is_title) few) q)) p
 
--- a leaf behind its tag
+-- a leaf after its tag
 pub told_tagged : (k w w₁ w' : Bool) (limit low : ℕ) (fs : List Level) (n : ℕ) (j : Header) (c v : Tree) (at from now : ℕ) (b x y : List ℕ) → InHand k w limit fs (Tag n) at from now b → IsLeaf j → Title x j
     → IsFlagged w w₁ j x → ((deep : ℕ) → ReadsBehind j deep c y) → ReadsBehind (Tag n) low v (x ++ y) → tagged n c ≡ Some v → IsKept n c v w₁ w' → Told k w' (length (b ++ (x ++ y))) (ItemExact fs v (b ++ (x ++ y)))
 told_tagged k w w₁ w' limit low fs n j c v at from now b x y (t, p) leaf title (u, short, flag) r whole e kept =

@@ -20,7 +20,7 @@ use Rattle.ciborium_value.specs.Tree.{Tree}
 use Rattle.ciborium_value.specs.Encoding.{enc}
 use Rattle.ciborium.proofs.ExactSteps.{says_as, says_and}
 use Rattle.ciborium.proofs.ToldLemmas.{told_step, longer, encoded_says}
-use Rattle.ciborium.specs.Frames.{Told, InHand, Asks, CloseGives, ReadExact, in_hand, rank, opened, Stage, IsStaged, IsClosed, Hands, Faults, AskEnds, AskGives, Begins, BeginFails}
+use Rattle.ciborium.specs.Frames.{Told, InHand, Asks, CloseGives, ReadExact, in_hand, rank, opened, Stage, IsStaged, IsClosed, Hands, Faults, FillEnds, FillGives, Rooted, HalfIn, Begins, BeginFails}
 use Rattle.ciborium.proofs.Once.{append_nil}
 use Rattle.ciborium.proofs.Taking.{fails_titled, takes_as, takes_then, takes_none}
 
@@ -28,7 +28,7 @@ use Rattle.ciborium.proofs.Taking.{fails_titled, takes_as, takes_then, takes_non
 abbrev pub Starts : Bool → Bool → Header → List ℕ → Type 0
 Starts k w h title = Told k w (length title) ((title ≡ title_of h) × IsEncoded h)
 
--- what was taken behind the title of h, which begins at the place `at`
+-- what was taken after the title of h, which begins at the place `at`
 abbrev pub Behind : ℕ → Header → ℕ → Seen → Seen → Bool → Bool → List Frame → Option Value → List ℕ → Type 0
 Behind limit h at old new u w fs read y = (k : Bool) (title : List ℕ) → Title title h → Starts k u h title → Stage k w limit fs read at new.offset (title ++ y)
 
@@ -44,7 +44,7 @@ asks_as w w' limit (code.Items l ∷ fs) from now b p = (p.0, tt)
 asks_as w w' limit (code.Entries l ∷ fs) from now b p = (p.0, tt)
 asks_as w w' limit (code.Tag n at h room ∷ fs) from now b p = (p.0, tt)
 
-unasked_as : (w w' : Bool) (limit : ℕ) (fs : List Frame) (read : Option Value) (from now : ℕ) (b : List ℕ) → Stage false w limit fs read from now b → Stage false w' limit fs read from now b
+pub unasked_as : (w w' : Bool) (limit : ℕ) (fs : List Frame) (read : Option Value) (from now : ℕ) (b : List ℕ) → Stage false w limit fs read from now b → Stage false w' limit fs read from now b
 unasked_as w w' limit fs None from now b p = (p.0, asks_as w w' limit fs from now b p.1)
 unasked_as w w' limit fs (Some v) from now b p = (p.0, p.1, tt)
 
@@ -105,29 +105,37 @@ turn_taken {limit} {h} {at} {old} {new} {u} {w} {fs} {read} gs read' w' t s =
 pub taken_none : (fs gs : List Frame) (read read' : Option Value) (w w' : Bool) → IsStaged fs read → Hands fs gs read read' w w' handed.Taken → read' ≡ None
 taken_none fs gs read read' w w' (limit, from, now, b, p) s = (s false limit from now b (unasked_as false w limit fs read from now b p)).0
 
--- a level is closed
-pub turn_ended : {limit : ℕ} {h : Header} {at : ℕ} {old mid : Seen} {u w : Bool} {top : Frame} {fs : List Frame} (new : Seen) → Turn limit h at old mid u w (top ∷ fs) None → Takes mid new (AskEnds top) → (title : List ℕ) × Title title h → IsClosed (top ∷ fs)
-turn_ended {limit} {h} {at} {old} {mid} {u} {w} {top} {fs} new t a v =
-    (limit, (v.0 ++ t.taken.bytes) ++ a.bytes, a.has false false limit at mid.offset fs (v.0 ++ t.taken.bytes) (unasked w limit (top ∷ fs) None at mid.offset (v.0 ++ t.taken.bytes) (t.taken.has false v.0 v.1 tt)))
+-- half an entry is in a map
+rooted_half : (f : Frame) (fs : List Frame) → Rooted (f ∷ fs) → HalfIn f
+rooted_half (code.Whole at h) fs r = tt
+rooted_half (code.Items l) fs r = tt
+rooted_half (code.Entries l) fs r = r.0
+rooted_half (code.Tag n at h room) fs r = tt
 
-pub turn_closed : {limit : ℕ} {h : Header} {at : ℕ} {old mid : Seen} {u w : Bool} {top : Frame} {fs : List Frame} (new : Seen) (gs : List Frame) (v : Value) (w' : Bool) → w' ≡ w → Turn limit h at old mid u w (top ∷ fs) None → Takes mid new (AskEnds top)
-    → CloseGives (top ∷ fs) gs v → Turn limit h at old new u w' gs (Some v)
-turn_closed {limit} {h} {at} {old} {mid} {u} {w} {top} {fs} new gs v w' flag t a s =
-    subst (λ (z : Bool). Turn limit h at old new u z gs (Some v)) (sym flag)
-    (record {
-      taken = takes_then old.left mid.left new.left old.offset mid.offset new.offset (Behind limit h at old mid u w (top ∷ fs) None) (AskEnds top) (Behind limit h at old new u w gs (Some v)) t.taken a
-          (λ x y b e k title i f. subst (λ (z : List ℕ). Stage k w limit gs (Some v) at new.offset z) (append_assoc title x y) (s k w limit at new.offset ((title ++ x) ++ y) (e k w limit at mid.offset fs (title ++ x) (b k title i f))));
-    })
+pub turn_half : {limit : ℕ} {h : Header} {at : ℕ} {old new : Seen} {u w : Bool} {top : Frame} {fs : List Frame} → Turn limit h at old new u w (top ∷ fs) None → (title : List ℕ) × Title title h → HalfIn top
+turn_half {limit} {h} {at} {old} {new} {u} {w} {top} {fs} t v = rooted_half top fs (t.taken.has false v.0 v.1 tt).0
+
+-- a level is closed
+pub turn_ended : {limit : ℕ} {h : Header} {at : ℕ} {old mid : Seen} {u w w' : Bool} {top : Frame} {fs : List Frame} (top' : Frame) (new : Seen) → Turn limit h at old mid u w (top ∷ fs) None → Takes mid new (FillEnds top top' mid.offset w w') → (title : List ℕ) × Title title h
+    → IsClosed (top' ∷ fs)
+turn_ended {limit} {h} {at} {old} {mid} {u} {w} {w'} {top} {fs} top' new t a v = (limit, (v.0 ++ t.taken.bytes) ++ a.bytes, a.has false limit at fs (v.0 ++ t.taken.bytes) (t.taken.has false v.0 v.1 tt))
+
+pub turn_closed : {limit : ℕ} {h : Header} {at : ℕ} {old mid : Seen} {u w : Bool} {top : Frame} {fs : List Frame} (top' : Frame) (new : Seen) (gs : List Frame) (v : Value) (w' : Bool) → Turn limit h at old mid u w (top ∷ fs) None
+    → Takes mid new (FillEnds top top' mid.offset w w') → CloseGives (top' ∷ fs) gs v → Turn limit h at old new u w' gs (Some v)
+turn_closed {limit} {h} {at} {old} {mid} {u} {w} {top} {fs} top' new gs v w' t a s = record {
+  taken = takes_then old.left mid.left new.left old.offset mid.offset new.offset (Behind limit h at old mid u w (top ∷ fs) None) (FillEnds top top' mid.offset w w') (Behind limit h at old new u w' gs (Some v)) t.taken a
+      (λ x y b e k title i f. subst (λ (z : List ℕ). Stage k w' limit gs (Some v) at new.offset z) (append_assoc title x y) (s k w' limit at new.offset ((title ++ x) ++ y) (e k limit at fs (title ++ x) (b k title i f))));
+}
 
 -- the item of a title is begun
-pub turn_begun : {limit : ℕ} {h : Header} {at : ℕ} {old s₁ : Seen} {u w : Bool} {top : Frame} {fs : List Frame} (place : ℕ) (j : Header) (s₂ s₃ : Seen) (gs : List Frame) (read : Option Value) (w₂ w₃ : Bool) → Turn limit h at old s₁ u w (top ∷ fs) None
-    → Takes s₁ s₂ (AskGives top j place s₁.offset w w₂) → Takes s₂ s₃ (Begins (top ∷ fs) gs limit j place s₂.offset read w₂ w₃) → Turn limit h at old s₃ u w₃ gs read
-turn_begun {limit} {h} {at} {old} {s₁} {u} {w} {top} {fs} place j s₂ s₃ gs read w₂ w₃ r a p = let t = r.taken in record {
+pub turn_begun : {limit : ℕ} {h : Header} {at : ℕ} {old s₁ : Seen} {u w : Bool} {top : Frame} {fs : List Frame} (top' : Frame) (place : ℕ) (j : Header) (s₂ s₃ : Seen) (gs : List Frame) (read : Option Value) (w₂ w₃ : Bool) → Turn limit h at old s₁ u w (top ∷ fs) None
+    → Takes s₁ s₂ (FillGives top top' j place s₁.offset w w₂) → Takes s₂ s₃ (Begins (top' ∷ fs) gs limit j place s₂.offset read w₂ w₃) → Turn limit h at old s₃ u w₃ gs read
+turn_begun {limit} {h} {at} {old} {s₁} {u} {w} {top} {fs} top' place j s₂ s₃ gs read w₂ w₃ r a p = let t = r.taken in record {
   taken = record {
     bytes = t.bytes ++ (a.bytes ++ p.bytes);
     has = λ k title i f.
         let q = a.has k limit at fs (title ++ t.bytes) (t.has k title i f) in
-        let v = subst (λ (z : ℕ). InHand k w₂ limit (opened (top ∷ fs)) j place at z ((title ++ t.bytes) ++ a.bytes)) (sym a.grown) q.1 in
+        let v = subst (λ (z : ℕ). InHand k w₂ limit (opened (top' ∷ fs)) j place at z ((title ++ t.bytes) ++ a.bytes)) (sym a.grown) q.1 in
         let x = p.has k at ((title ++ t.bytes) ++ a.bytes) q.0 v in
         subst (λ (z : ℕ). Stage k w₃ limit gs read at z (title ++ (t.bytes ++ (a.bytes ++ p.bytes)))) (sym p.grown)
         (subst (λ (z : List ℕ). Stage k w₃ limit gs read at (s₂.offset + length p.bytes) z) (append_assoc (title ++ t.bytes) a.bytes p.bytes ∙ append_assoc title t.bytes (a.bytes ++ p.bytes)) x);
@@ -136,14 +144,14 @@ turn_begun {limit} {h} {at} {old} {s₁} {u} {w} {top} {fs} place j s₂ s₃ gs
   };
 }
 
--- a fault behind what was taken
+-- a fault after what was taken
 fails_from : {E : Type 0} (ends : E → Bool) (limit at o : ℕ) (title x b : List ℕ) (m : Option (List ℕ)) (e : Error E) → Consumes (Some b) m x → Faults ends limit at (title ++ x) m o e
     → FailsAt ends (title ++ b) at o (λ stop b f. Damage stop b limit f) e
 fails_from ends limit at o title x b None e p f = absurd p
 fails_from ends limit at o title x b (Some rest) e p f =
     subst (λ (z : List ℕ). FailsAt ends z at o (λ stop b f. Damage stop b limit f) e) (append_assoc title x rest ∙ ap (λ z. title ++ z) (sym p)) f
 
-known_fails : {E : Type 0} (ends : E → Bool) (limit at o : ℕ) (title x : List ℕ) (l m : Option (List ℕ)) (e : Error E) → Consumes l m x → Faults ends limit at (title ++ x) m o e
+pub known_fails : {E : Type 0} (ends : E → Bool) (limit at o : ℕ) (title x : List ℕ) (l m : Option (List ℕ)) (e : Error E) → Consumes l m x → Faults ends limit at (title ++ x) m o e
     → IfKnown l (λ rest. FailsAt ends (title ++ rest) at o (λ stop b f. Damage stop b limit f) e)
 known_fails ends limit at o title x None m e p f = tt
 known_fails ends limit at o title x (Some b) m e p f = fails_from ends limit at o title x b m e p f
@@ -156,13 +164,13 @@ turn_fails {E} {limit} {h} {at} {old} {mid} {u} {w} {fs} {read} ends o e r s tit
     known_fails ends limit at o title t.bytes old.left mid.left e t.taken (s (title ++ t.bytes) off (unasked w limit fs read at mid.offset (title ++ t.bytes) (t.has false title i tt)))
 
 -- a fault of the item whose title was taken
-pub begun_fails : {E : Type 0} {limit : ℕ} {h : Header} {at : ℕ} {old s₁ : Seen} {u w : Bool} {top : Frame} {fs : List Frame} (ends : E → Bool) (place : ℕ) (k : Header) (s₂ s₃ : Seen) (w₂ : Bool) (e : Error E) → Turn limit h at old s₁ u w (top ∷ fs) None
-    → Takes s₁ s₂ (AskGives top k place s₁.offset w w₂) → BeginFails ends limit (top ∷ fs) k place s₂ s₃ e → FailsBehind ends h at old.offset old.left s₃.offset (λ stop b f. Damage stop b limit f) e
-begun_fails {E} {limit} {h} {at} {old} {s₁} {u} {w} {top} {fs} ends place k s₂ s₃ w₂ e n a v title i g =
+pub begun_fails : {E : Type 0} {limit : ℕ} {h : Header} {at : ℕ} {old s₁ : Seen} {u w : Bool} {top : Frame} {fs : List Frame} (top' : Frame) (ends : E → Bool) (place : ℕ) (k : Header) (s₂ s₃ : Seen) (w₂ : Bool) (e : Error E) → Turn limit h at old s₁ u w (top ∷ fs) None
+    → Takes s₁ s₂ (FillGives top top' k place s₁.offset w w₂) → BeginFails ends limit (top' ∷ fs) k place s₂ s₃ e → FailsBehind ends h at old.offset old.left s₃.offset (λ stop b f. Damage stop b limit f) e
+begun_fails {E} {limit} {h} {at} {old} {s₁} {u} {w} {top} {fs} top' ends place k s₂ s₃ w₂ e n a v title i g =
     let t = n.taken in
     let off : at + length ((title ++ t.bytes) ++ a.bytes) ≡ s₂.offset = omega (arith, g, t.grown, a.grown, length-append (title ++ t.bytes) a.bytes, length-append title t.bytes) in
     let q = a.has false limit at fs (title ++ t.bytes) (t.has false title i tt) in
-    let r = subst (λ (z : ℕ). Titled limit (opened (top ∷ fs)) k place at z ((title ++ t.bytes) ++ a.bytes)) (sym a.grown) q.1.0 in
+    let r = subst (λ (z : ℕ). Titled limit (opened (top' ∷ fs)) k place at z ((title ++ t.bytes) ++ a.bytes)) (sym a.grown) q.1.0 in
     known_fails ends limit at s₃.offset title (t.bytes ++ a.bytes) old.left s₂.left e (Consumes-trans old.left s₁.left s₂.left t.bytes a.bytes t.taken a.taken)
     (subst (λ (z : List ℕ). Faults ends limit at z s₂.left s₃.offset e) (append_assoc title t.bytes a.bytes) (v at ((title ++ t.bytes) ++ a.bytes) off q.0 r))
 
@@ -199,7 +207,7 @@ exact_read h limit v u w s old mid new few flag t r =
       grown = omega (arith, t.grown, r.grown, length-append t.bytes r.bytes);
     }
 
--- a fault behind the title of an item is one of the item
+-- a fault after the title of an item is one of the item
 pub item_fails : {E : Type 0} (ends : E → Bool) (h : Header) (at limit : ℕ) (old mid new : Seen) (e : Error E) → at ≡ old.offset → Takes old mid (λ b. Title b h) → NamesFaultBehind ends h at (λ stop b f. Damage stop b limit f) mid new e
     → NamesFault ends (λ stop b f. Damage stop b limit f) old new e
 item_fails ends h at limit old mid new e same t w =

@@ -20,7 +20,7 @@ abbrev pub FitsIn : Option ℕ → ℕ → Type 0
 FitsIn (Some n) done = done ≤ n
 FitsIn None done = Unit {0}
 
--- the item behind a tag
+-- the item after a tag
 pub record TaggedBehind (n limit : ℕ) (v : Tree) (inner : List ℕ) : Type 0 where
   pub tree : Tree
   pub spells : Spells inner tree

@@ -4,7 +4,8 @@ use Rattle.ciborium_value.specs.Tree.{Tree, Trees, no_trees, one_more, Pairs, no
 use Rattle.ciborium_traits.specs.declared.error.Error.{Error}
 use Rattle.ciborium_traits.specs.declared.error.Error.TheVariants.{Memory}
 
--- a part stands behind those of a list; the first error is handed on, and no other is answered but want of memory
+-- a part stands after those of a list; the first error is handed on, and no other is answered but
+-- being out of memory
 abbrev pub Adds : {L P : Type 0} → (L → List P) → Result L Error → Result P Error → Result L Error → Type 0
 Adds parts (Ok l) (Ok x) (Ok m) = parts m ≡ parts l ++ (x ∷ [])
 Adds parts (Ok l) (Ok x) (Err e) = e ≡ Memory
@@ -17,7 +18,7 @@ entry_of (Ok k) (Ok v) = Ok (k, v)
 entry_of (Ok k) (Err e) = Err e
 entry_of (Err e) r = Err e
 
--- one more tree behind the others
+-- one more tree after the others
 abbrev pub one_last : Trees → Tree → Trees
 one_last no_trees t = one_more t no_trees
 one_last (one_more u us) t = one_more u (one_last us t)

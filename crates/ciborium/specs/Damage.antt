@@ -18,7 +18,8 @@ pub data Fault : Type 0 where
   syntax : ℕ → Fault
   semantic : Kind → Fault
 
--- Below, `stop` is the place behind the last byte, so that `p + length b ≡ stop` says that b begins at the place p.
+-- Below, `stop` is the place after the last byte, so that `p + length b ≡ stop` says that b begins
+-- at the place p.
 abbrev pub TitleDamage : ℕ → List ℕ → Fault → Type 0
 TitleDamage stop b end = IsCut b
 TitleDamage stop b deep = ⊥
@@ -48,7 +49,7 @@ StringDamage k P stop b e =
     ChunkDamage k P stop b e
     ⊎ ((rest : List ℕ) × Inside k P b rest × (TitleDamage stop rest e ⊎ (ChunkDamage k P stop rest e ⊎ OtherDamage k stop rest e)))
 
--- one more child is due behind the header h and `done` children, and `rest` is to come
+-- one more child is due after the header h and `done` children, and `rest` is to come
 abbrev pub Due : Header → ℕ → List ℕ → Type 0
 Due (Positive n) done rest = ⊥
 Due (Negative n) done rest = ⊥

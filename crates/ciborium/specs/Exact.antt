@@ -1,5 +1,6 @@
--- When the bytes of an item so far are a beginning of its encoding: each title is the shortest of its header, no title is open, no simple
--- value is undefined, and each tag stays over its content as it is.
+-- When the bytes of an item so far are a beginning of its encoding: each title is the shortest of
+-- its header, no title is open, no simple value is undefined, and each tag stays over its content
+-- as it is.
 use Rattle.std.specs.Prelude.{◌≡◌, ◌≢◌, ℕ, ◌^◌, ◌<◌, List, [], ◌∷◌, ◌++◌, length, Some, None, Bool, true, not, nat_eq, is_some, MatchBool}
 use Rattle.std.specs.Str.{IsUtf8}
 use Rattle.ciborium_ll.specs.declared.hdr.Header.{Header}
@@ -9,7 +10,8 @@ use Rattle.ciborium_value.specs.Tree.{Tree, integer, bytes, text, array, map, ta
 use Rattle.ciborium_value.specs.Encoding.{int_head, enc, enc_all, enc_pairs}
 use Rattle.ciborium.specs.Levels.{Level}
 
--- Each number lies in its range, each text is UTF-8, and each length is one that a head can have; a byte string may be of any numbers.
+-- Each number lies in its range, each text is UTF-8, and each length is one that a head can have; a
+-- byte string may be of any numbers.
 abbrev mutual
   pub Sound : Tree → Type 0
   Sound (integer i) = FitsHeader (int_head i)
@@ -63,7 +65,7 @@ encoded (Text o) = is_some o
 encoded (Array o) = is_some o
 encoded (Map o) = is_some o
 
--- the bytes of a level so far, where it is encoded
+-- the bytes of a level so far, if it is encoded
 abbrev pub level_enc : Header → Trees → List ℕ
 level_enc h done = title_of h ++ enc_all done
 
@@ -83,11 +85,11 @@ AllFit (f ∷ fs) = AllFit fs × FitsHeader f.head × AllSound f.done
 abbrev pub LevelsExact : List Level → List ℕ → Type 0
 LevelsExact fs b = AllEncoded fs × (b ≡ levels_enc fs)
 
--- a title in hand behind open levels
+-- a title in hand after open levels
 abbrev pub TitleExact : List Level → Header → List ℕ → List ℕ → Type 0
 TitleExact fs h before title = LevelsExact fs before × (title ≡ title_of h) × IsEncoded h
 
--- an item in hand behind open levels
+-- an item in hand after open levels
 abbrev pub ItemExact : List Level → Tree → List ℕ → Type 0
 ItemExact fs v b = AllEncoded fs × (b ≡ levels_enc fs ++ enc v)
 

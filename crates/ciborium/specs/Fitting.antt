@@ -6,8 +6,8 @@ use Rattle.ciborium_ll.specs.declared.hdr.Header.TheVariants as head
 use Rattle.ciborium_value.specs.Encoding.{int_head}
 use Rattle.ciborium_typed.specs.Events.{Event, integer, bytes, text, float, simple, tag, array, map}
 
--- the event's number lies in its range, its string is one, its length is one that a head can have, and a simple value is false,
--- true or null
+-- the event's number lies in its range, its string is one, its length is one that a head can have,
+-- and a simple value is false, true or null
 abbrev pub FitsEvent : Event → Type 0
 FitsEvent (integer i) = FitsHeader (int_head i)
 FitsEvent (bytes b) = (length b < 2 ^ 64) × All (λ x. x < 256) b

@@ -1,7 +1,7 @@
 -- The frames of the reader, and what they stand for.
 use Rattle.std.specs.Prelude.{◌≡◌, ◌≢◌, ◌<◌, ◌≤◌, ◌⊎◌, ℕ, ◌+◌, ◌-◌, ◌*◌, ◌/◌, ◌^◌, ◌&&◌, min, List, [], ◌∷◌, ◌++◌, length, Bool, true, false, MatchBool, Option, Some, None}
 use Rattle.std.specs.Vec.{vec_capacity}
-use Rattle.ciborium_ll.specs.Seen.{Seen}
+use Rattle.ciborium_ll.specs.Seen.{Seen, Takes}
 use Rattle.ciborium_ll.specs.declared.hdr.Header.{Header}
 use Rattle.ciborium_ll.specs.declared.hdr.Header.TheVariants.{Tag, Bytes, Array, Map}
 use Rattle.ciborium_ll.specs.Title.{Title, title_of, IsShortest}
@@ -19,7 +19,7 @@ use Rattle.ciborium.specs.declared.frames.Opened.{Opened}
 use Rattle.ciborium.specs.declared.frames.Opened.TheVariants as opens
 use Rattle.ciborium.specs.Damage.{Damage}
 use Rattle.ciborium.specs.Front.{Reads}
-use Rattle.ciborium.specs.Reading.{IfKnown, FailsAt, Closes, IsLeaf, OpensOver}
+use Rattle.ciborium.specs.Reading.{IfKnown, FailsAt, Closes, IsLeaf, OpensOver, ReadsBehind}
 use Rattle.ciborium.specs.Exact.{Says, IsEncoded, encoded, LevelsExact, TitleExact, ItemExact}
 use Rattle.ciborium.specs.Levels.{Level, Within, Titled, Handing}
 
@@ -41,7 +41,7 @@ halves true ts = front ts
 abbrev pub halves_of : Entries → Trees
 halves_of l = halves l.half (flat (view_pairs l.entries.items))
 
--- half an entry stands in the list
+-- half an entry is in the list
 abbrev pub HasHalf : Entries → Type 0
 HasHalf l = l.half ≡ true → 0 < length l.entries.items
 
@@ -65,7 +65,8 @@ Rooted (code.Items l ∷ fs) = Rooted fs
 Rooted (code.Entries l ∷ fs) = HasHalf l × Rooted fs
 Rooted (code.Tag n at h room ∷ fs) = Rooted fs
 
--- What the flag w, whether the text is the shortest so far, tells of n bytes where it is asked (k): whether P.
+-- What the flag w, whether the text is the shortest so far, tells of n bytes where it is asked (k):
+-- whether P.
 abbrev pub Told : Bool → Bool → ℕ → Type 0 → Type 0
 Told false w n P = Unit {0}
 Told true w n P = n < 2 ^ 64 → Says w P
@@ -74,7 +75,8 @@ Told true w n P = n < 2 ^ 64 → Says w P
 abbrev pub IsFlagged : Bool → Bool → Header → List ℕ → Type 0
 IsFlagged w w' h y = (u : Bool) × IsShortest u y h × (w' ≡ (w && (u && encoded h)))
 
--- the same with the fold of a tag n over c, which is v then: it stays true where the tag stays over its content
+-- the same with the fold of a tag n over c, which is v then: it stays true if the tag stays over
+-- its content
 abbrev pub IsKept : ℕ → Tree → Tree → Bool → Bool → Type 0
 IsKept n c v w w' = MatchBool w (Says w' (v ≡ tag n c)) (w' ≡ false)
 
@@ -95,7 +97,8 @@ Asks k w limit (code.Items l ∷ fs) from now b = Within limit (opened (code.Ite
 Asks k w limit (code.Entries l ∷ fs) from now b = Within limit (opened (code.Entries l ∷ fs)) b × Told k w (length b) (LevelsExact (opened (code.Entries l ∷ fs)) b)
 Asks k w limit (code.Tag n at h room ∷ fs) from now b = InHand k w limit (opened (code.Tag n at h room ∷ fs)) h at from now b
 
--- the bytes of the whole up to the place `now`: of the frames, and of an item that is to be handed over
+-- the bytes of the whole up to the place `now`: of the frames, and of an item that is to be handed
+-- over
 abbrev pub Stage : Bool → Bool → ℕ → List Frame → Option Value → ℕ → ℕ → List ℕ → Type 0
 Stage k w limit fs None from now b = Rooted fs × Asks k w limit fs from now b
 Stage k w limit fs (Some v) from now b = Rooted fs × Handing limit (opened fs) (view v) b × Told k w (length b) (ItemExact (opened fs) (view v) b)
@@ -104,7 +107,8 @@ Stage k w limit fs (Some v) from now b = Rooted fs × Handing limit (opened fs) 
 abbrev pub IsStaged : List Frame → Option Value → Type 0
 IsStaged fs read = (limit from now : ℕ) × (b : List ℕ) × Stage false false limit fs read from now b
 
--- the same behind a value that was handed over: there is one still where it is a tag's content or the whole
+-- the same after a value that was handed over: there is one still if it is a tag's content or the
+-- whole
 abbrev pub HandedStage : Bool → Bool → ℕ → List Frame → Option Value → ℕ → ℕ → List ℕ → Handed → Type 0
 HandedStage k w limit fs read from now b handed.Taken = (read ≡ None) × Stage k w limit fs None from now b
 HandedStage k w limit fs read from now b handed.Up = Stage k w limit fs read from now b
@@ -154,7 +158,43 @@ abbrev pub AskFails : {E : Type 0} → (E → Bool) → Frame → Seen → Seen 
 AskFails ends top old new e = (limit from : ℕ) (fs : List Frame) (b : List ℕ) → from + length b ≡ old.offset → Stage false false limit (top ∷ fs) None from old.offset b
     → Faults ends limit from b old.left new.offset e
 
--- a frame of an item with the header h that was opened, and y behind its title, which ended at the place `now`
+-- the innermost frame is an array or a map
+abbrev pub listed : Frame → Bool
+listed (code.Whole at h) = false
+listed (code.Items l) = true
+listed (code.Entries l) = true
+listed (code.Tag n at h room) = false
+
+-- half an entry is in it if it is a map
+abbrev pub HalfIn : Frame → Type 0
+HalfIn (code.Whole at h) = Unit {0}
+HalfIn (code.Items l) = Unit {0}
+HalfIn (code.Entries l) = HasHalf l
+HalfIn (code.Tag n at h room) = Unit {0}
+
+-- a value is put into it
+abbrev pub Puts : Frame → Frame → Value → Type 0
+Puts old new v = (w : Bool) (fs : List Frame) → Hands (old ∷ fs) (new ∷ fs) (Some v) None w w handed.Taken
+
+-- an item whose title has the header h, and in which no items follow, is read and put into it
+abbrev pub LeafPut : Header → Frame → Frame → Seen → Seen → Type 0
+LeafPut h old new s s' = (v : Value) × Takes s s' (λ b. (limit : ℕ) → ReadsBehind h limit (view v) b) × Puts old new v
+
+-- items that no items follow in, of the bytes y from the place `now` on, were put into it
+abbrev pub Fills : Frame → Frame → ℕ → Bool → Bool → List ℕ → Type 0
+Fills old new now w w' y = (k : Bool) (limit from : ℕ) (fs : List Frame) (b : List ℕ) → Stage k w limit (old ∷ fs) None from now b → Stage k w' limit (new ∷ fs) None from (now + length y) (b ++ y)
+
+-- it is whole after them
+abbrev pub FillEnds : Frame → Frame → ℕ → Bool → Bool → List ℕ → Type 0
+FillEnds old new now w w' y = (k : Bool) (limit from : ℕ) (fs : List Frame) (b : List ℕ) → Stage k w limit (old ∷ fs) None from now b → ClosedStage k w' limit (new ∷ fs) (b ++ y)
+
+-- the title after them has the header h and begins at the place `at`
+abbrev pub FillGives : Frame → Frame → Header → ℕ → ℕ → Bool → Bool → List ℕ → Type 0
+FillGives old new h at now w w' y = (k : Bool) (limit from : ℕ) (fs : List Frame) (b : List ℕ) → Stage k w limit (old ∷ fs) None from now b
+    → Rooted (new ∷ fs) × InHand k w' limit (opened (new ∷ fs)) h at from (now + length y) (b ++ y)
+
+-- a frame of an item with the header h that was opened, and y after its title, which ended at the
+-- place `now`
 abbrev pub IsBegun : Frame → Header → ℕ → Bool → Bool → List ℕ → Type 0
 IsBegun (code.Whole at j) h now w w' y = ⊥
 IsBegun (code.Items l) h now w w' y = (h ≡ Array l.count) × (l.items.items ≡ []) × (y ≡ []) × (w' ≡ w)
@@ -165,30 +205,33 @@ IsBegun (code.Tag n at j room) h now w w' y = (h ≡ Tag n) × OpensOver n j × 
 abbrev pub IsLow : ℕ → ℕ → Header → Type 0
 IsLow left n h = (OpensOver n h × (0 < left)) ⊎ (((n ≡ 2) ⊎ (n ≡ 3)) × ((o : Option ℕ) × (h ≡ Bytes o)))
 
--- the title of a leaf is in hand, that of the item itself or the one behind its tag
+-- the title of a leaf is in hand, that of the item itself or the one after its tag
 abbrev pub IsTitle : Option ℕ → Header → ℕ → ℕ → ℕ → Bool → Bool → ℕ → Header → List ℕ → Type 0
 IsTitle None h at now left w w' place j y = (j ≡ h) × (place ≡ at) × (y ≡ []) × (w' ≡ w)
 IsTitle (Some n) h at now left w w' place j y = (h ≡ Tag n) × IsLow left n j × Title y j × (place ≡ now) × IsFlagged w w' j y
 
--- what the item with the header h opens, and y behind its title, which went from the place `at` to the place `now`
+-- what the item with the header h opens, and y after its title, which went from the place `at` to
+-- the place `now`
 abbrev pub Opening : Header → ℕ → ℕ → ℕ → Bool → Bool → Opened → List ℕ → Type 0
 Opening h at now left w w' (opens.Level f) y = (0 < left) × IsBegun f h now w w' y
 Opening h at now left w w' (opens.Leaf n place j) y = IsLeaf j × IsTitle n h at now left w w' place j y
 
--- of the parts that a head claims, so many are reserved in such a room
+-- of the parts that a head claims, so many are reserved in such a space
 abbrev pub claimed : Option ℕ → ℕ → ℕ
 claimed None room = 0
 claimed (Some n) room = min n room
 
--- The room of an item in a level, by the items that fit: what the level itself holds for parts that have not come is not free.
--- A tag holds nothing, so its item has the room of the tag. Around all levels it is that of 128 items.
+-- The space of an item in a level, by the items that fit: what the level itself holds for parts
+-- that have not come is not free. A tag holds nothing, so its item has the space of the tag. Around
+-- all levels it is that of 128 items.
 abbrev pub room_of : Frame → ℕ
 room_of (code.Whole at h) = 128
 room_of (code.Items l) = l.room - (claimed l.count (l.room / 2) - length l.items.items)
 room_of (code.Entries l) = l.room - (claimed l.count (l.room / 4) - length l.entries.items) * 2
 room_of (code.Tag n at h room) = room
 
--- an array that is opened in such a room reserves of half of it, a map of a quarter, and a tag nothing
+-- an array that is opened in such a space reserves of half of it, a map of a quarter, and a tag
+-- nothing
 abbrev pub Holds : ℕ → Opened → Type 0
 Holds room (opens.Level (code.Whole at h)) = Unit {0}
 Holds room (opens.Level (code.Items l)) = (l.room ≡ room) × (vec_capacity l.items ≡ claimed l.count (room / 2))
@@ -205,12 +248,13 @@ abbrev pub BeginFails : {E : Type 0} → (E → Bool) → ℕ → List Frame →
 BeginFails ends limit fs h at old new e = (from : ℕ) (b : List ℕ) → from + length b ≡ old.offset → Rooted fs → Titled limit (opened fs) h at from old.offset b
     → Faults ends limit from b old.left new.offset e
 
--- the item behind a title of h is read, and the flag tells whether its text is the shortest
+-- the item after a title of h is read, and the flag tells whether its text is the shortest
 abbrev pub ReadExact : Header → ℕ → Tree → Bool → Bool → List ℕ → Type 0
 ReadExact h limit v w w' y = (title : List ℕ) → Title title h
     → Reads (title ++ y) limit v × (length (title ++ y) < 2 ^ 64 → Says w ((title ≡ title_of h) × IsEncoded h) → Says w' (title ++ y ≡ enc v))
 
--- How far the reader is from its end, where no more bytes come: it falls with each turn. A title in hand that is not begun counts.
+-- How far the reader is from its end, where no more bytes come: it falls with each turn. A title in
+-- hand that is not begun counts.
 abbrev pub in_hand : Option Value → Frame → ℕ
 in_hand (Some v) f = 0
 in_hand None (code.Whole at h) = 3

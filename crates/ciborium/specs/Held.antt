@@ -7,7 +7,8 @@ use Rattle.ciborium.specs.declared.de.Error.TheVariants as code
 abbrev pub IsEarned : ℕ → ℕ → Type 0
 IsEarned came capacity = capacity ≤ 2 * came + 4096
 
--- the same of a buffer that had so many bytes, and of those that were read since, from the place `at` to the place at'
+-- the same of a buffer that had so many bytes, and of those that were read since, from the place
+-- `at` to the place at'
 abbrev pub IsEarnedSince : ℕ → ℕ → ℕ → ℕ → Type 0
 IsEarnedSince had at at' capacity = capacity + 2 * at ≤ 2 * (had + at') + 4096
 

@@ -3,7 +3,7 @@ use Rattle.std.specs.Prelude.{◌≡◌, ℕ, ◌+◌, List, [], ◌∷◌, ◌+
 use Rattle.ciborium_value.specs.Tree.{Tree}
 use Rattle.ciborium.specs.Front.{Reads, Front}
 
--- an item: where it begins, its bytes, and what it means
+-- an item: if it begins, its bytes, and what it means
 pub record Item : Type 0 where
   pub offset : ℕ
   pub bytes : List ℕ
@@ -20,7 +20,8 @@ nesting = 256
 abbrev pub IsUnreadableWithin : ℕ → List ℕ → Type 0
 IsUnreadableWithin n b = (v : Tree) (rest : List ℕ) → Front b n v rest → ⊥
 
--- `b`, which begins at the offset `at`, is these readable items of at most n levels one after another, and then `more`
+-- `b`, which begins at the offset `at`, is these readable items of at most n levels one after
+-- another, and then `more`
 abbrev pub SequenceWithin : ℕ → ℕ → List ℕ → List Item → List ℕ → Type 0
 SequenceWithin n at b [] more = b ≡ more
 SequenceWithin n at b (i ∷ is) more = (i.offset ≡ at) × Reads i.bytes n i.value

@@ -7,7 +7,8 @@ use Rattle.ciborium_value.specs.Folding.{fold_by, fold_all_by, fold_pairs_by}
 abbrev pub simple_meaning : ℕ → Option Tree
 simple_meaning n = if nat_eq n 23 then Some (simple 22) else if nat_le 20 n && nat_le n 22 then Some (simple n) else None
 
--- the tree with its bignums folded; none where a simple value is unassigned or a negative bignum too large, anywhere in it
+-- the tree with its bignums folded; none if a simple value is unassigned or a negative bignum too
+-- large, anywhere in it
 abbrev pub meaning : Tree → Option Tree
 meaning = fold_by simple_meaning
 

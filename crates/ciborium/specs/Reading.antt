@@ -39,14 +39,15 @@ abbrev pub failures : {T E : Type 0} → (E → Bool) → Result T (Error E) →
 failures ends (Ok x) n = n
 failures ends (Err e) n = fault_failures ends e n
 
--- every call on a decoder: a failure is counted exactly where the answer is one, the reader stays the same, and no header waits then
+-- every call on a decoder: a failure is counted exactly when the answer is one, the reader stays
+-- the same, and no header waits then
 pub record Steady {T E : Type 0} (ends : E → Bool) (answer : Result T (Error E)) (old new : Seen) : Type 0 where
   pub failed : new.failed ≡ failures ends answer old.failed
   pub handle : new.handle ≡ old.handle
   pub waiting : new.waiting ≡ None
 
--- some of the bytes that were to come were taken, or none, and the place has grown by their count; the rest of them is left, but
--- behind a fault of the reader what is left is open
+-- some of the bytes that were to come were taken, or none, and the place has grown by their count;
+-- the rest of them is left, but after a fault of the reader what is left is open
 abbrev pub SomeTaken : {E : Type 0} → Option (List ℕ) → Option (List ℕ) → ℕ → ℕ → Error E → Type 0
 SomeTaken left left' place place' (code.Io e) = Stops left place place' (λ _. Unit {0})
 SomeTaken left left' place place' (code.Syntax p) = Moves left left' place place' (λ _. Unit {0})
@@ -59,7 +60,7 @@ SomeTaken left left' place place' code.TooLong = Moves left left' place place' (
 abbrev pub TakesSome : {E : Type 0} → Seen → Seen → Error E → Type 0
 TakesSome old new = SomeTaken old.left new.left old.offset new.offset
 
--- any fault but want of memory
+-- any fault but being out of memory
 abbrev pub IsNoMemory : {E : Type 0} → Error E → Type 0
 IsNoMemory (code.Io e) = Unit {0}
 IsNoMemory (code.Syntax p) = Unit {0}
@@ -77,7 +78,7 @@ Fails ends Q D long code.RecursionLimitExceeded = D deep
 Fails ends Q D long code.Memory = Unit {0}
 Fails ends Q D long code.TooLong = long
 
--- P holds where the error is an end of the bytes
+-- P holds if the error is an end of the bytes
 abbrev pub IfEnd : {E : Type 0} → (E → Bool) → Type 0 → Error E → Type 0
 IfEnd ends P (code.Io e) = IsTrue (ends e) → P
 IfEnd ends P (code.Syntax p) = Unit {0}
@@ -86,7 +87,7 @@ IfEnd ends P code.RecursionLimitExceeded = Unit {0}
 IfEnd ends P code.Memory = Unit {0}
 IfEnd ends P code.TooLong = Unit {0}
 
--- at an end the place is the one at the call exactly where no byte was left
+-- at an end the place is the one at the call exactly when no byte was left
 abbrev pub EndPlace : List ℕ → ℕ → ℕ → Type 0
 EndPlace [] at at' = at' ≡ at
 EndPlace (x ∷ xs) at at' = at < at'
@@ -95,7 +96,7 @@ EndPlace (x ∷ xs) at at' = at < at'
 abbrev pub IsLong : ℕ → List ℕ → Type 0
 IsLong at b = 2 ^ 64 ≤ at + length b + 4096
 
--- P holds of the bytes, where they are known
+-- P holds of the bytes, if they are known
 abbrev pub IfKnown : Option (List ℕ) → (List ℕ → Type 0) → Type 0
 IfKnown None P = Unit {0}
 IfKnown (Some b) P = P b
@@ -104,7 +105,7 @@ IfKnown (Some b) P = P b
 abbrev pub FailsAt : {E : Type 0} → (E → Bool) → List ℕ → ℕ → ℕ → (ℕ → List ℕ → Fault → Type 0) → Error E → Type 0
 FailsAt ends b at at' D e = Fails ends (EndPlace b at at') (D (at + length b) b) (IsLong at b) e
 
--- an error names the fault that is due, where the bytes to come are known
+-- an error names the fault that is due, if the bytes to come are known
 abbrev pub NamesFault : {E : Type 0} → (E → Bool) → (ℕ → List ℕ → Fault → Type 0) → Seen → Seen → Error E → Type 0
 NamesFault ends D old new e = IfKnown old.left (λ b. FailsAt ends b old.offset new.offset D e)
 
@@ -124,13 +125,13 @@ ShortBy n stop b deep = ⊥
 ShortBy n stop b (syntax p) = ⊥
 ShortBy n stop b (semantic k) = ⊥
 
--- the bytes behind the head of a string
+-- the bytes after the head of a string
 pub record StringBehind (text : Bool) (o : Option ℕ) (items inner : List ℕ) : Type 0 where
   pub bodies : List (List ℕ)
   pub frame : (title : List ℕ) → Title title (string_head text o) → Frame (string_head text) (IsBody text) (title ++ inner) bodies
   pub is : items ≡ joined bodies
 
--- the bytes behind the head of an open string, in which n opens are due a break
+-- the bytes after the head of an open string, in which n opens are due a break
 pub record OpenBehind (text : Bool) (n : ℕ) (items inner : List ℕ) : Type 0 where
   pub bodies : List (List ℕ)
   pub begun : (title : List ℕ) → Title title (string_head text None) → Opened (string_head text) (IsBody text) n (title ++ inner) bodies
@@ -141,7 +142,7 @@ pub record ChunkBody (text : Bool) (n : ℕ) (old new body : List ℕ) : Type 0 
   pub len : length body ≡ n
   pub is : new ≡ old ++ body
 
--- the faults behind a title of h that begins at the place `at`
+-- the faults after a title of h that begins at the place `at`
 abbrev pub FailsBehind : {E : Type 0} → (E → Bool) → Header → ℕ → ℕ → Option (List ℕ) → ℕ → (ℕ → List ℕ → Fault → Type 0) → Error E → Type 0
 FailsBehind ends h at place left place' D e =
     (title : List ℕ) → Title title h → at + length title ≡ place → IfKnown left (λ rest. FailsAt ends (title ++ rest) at place' D e)
@@ -150,7 +151,7 @@ FailsBehind ends h at place left place' D e =
 abbrev pub NamesFaultBehind : {E : Type 0} → (E → Bool) → Header → ℕ → (ℕ → List ℕ → Fault → Type 0) → Seen → Seen → Error E → Type 0
 NamesFaultBehind ends h at D old new e = FailsBehind ends h at old.offset old.left new.offset D e
 
--- an error where n bytes are due
+-- an error if n bytes are due
 abbrev pub NamesShort : {E : Type 0} → (E → Bool) → ℕ → Seen → Seen → Error E → Type 0
 NamesShort ends n old new e =
     IfKnown old.left (λ b. Fails ends (old.offset ≤ new.offset) (ShortBy n (old.offset + length b) b) (IsLong old.offset b) e)
@@ -175,7 +176,7 @@ IsPart text h part.Open = h ≡ string_head text None
 IsPart text h (part.Chunk n) = h ≡ string_head text (Some n)
 IsPart text h part.Other = (h ≢ Break) × ((o : Option ℕ) → h ≢ string_head text o)
 
--- the bytes behind a title of h
+-- the bytes after a title of h
 abbrev pub ReadsBehind : Header → ℕ → Tree → List ℕ → Type 0
 ReadsBehind h limit v inner = (title : List ℕ) → Title title h → Reads (title ++ inner) limit v
 
@@ -189,7 +190,7 @@ abbrev pub is_full : Option ℕ → ℕ → Bool
 is_full (Some n) done = nat_eq n done
 is_full None done = false
 
--- all children were read, and their break is taken where they are open
+-- all children were read, and their break is taken if they are open
 abbrev pub Closes : Option ℕ → ℕ → List ℕ → Type 0
 Closes (Some n) done b = (n ≡ done) × (b ≡ [])
 Closes None done b = b ≡ 255 ∷ []
@@ -203,7 +204,7 @@ pub record IsNext (o : Option ℕ) (done : ℕ) (h : Header) : Type 0 where
 abbrev pub OpensOver : ℕ → Header → Type 0
 OpensOver n h = ((n ≢ 2) × (n ≢ 3)) ⊎ ((o : Option ℕ) → h ≢ Bytes o)
 
--- memory was refused, or the number is too negative
+-- there was no memory, or the number is too negative
 abbrev pub IsFoldFault : {E : Type 0} → ℕ → Tree → Error E → Type 0
 IsFoldFault n t (code.Io e) = ⊥
 IsFoldFault n t (code.Syntax p) = ⊥

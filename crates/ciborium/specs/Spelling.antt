@@ -1,5 +1,5 @@
--- Which bytes spell an item (RFC 8949, sections 3 and 3.2): any width of head, strings cut or whole, arrays and maps with a length or
--- up to their break.
+-- Which bytes spell an item (RFC 8949, sections 3 and 3.2): any width of head, strings cut or
+-- whole, arrays and maps with a length or up to their break.
 use Rattle.std.specs.Prelude.{◌≡◌, ℕ, ◌⊎◌, List, [], ◌∷◌, ◌++◌, Option, Some, None}
 use Rattle.std.specs.Str.{IsUtf8}
 use Rattle.ciborium_ll.specs.declared.hdr.Header.{Header}

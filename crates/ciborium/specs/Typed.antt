@@ -16,7 +16,8 @@ abbrev pub refusing : {E : Type 0} → ValueError → Error E
 refusing (value.Kind k) = code.Semantic None k
 refusing value.Memory = code.Memory
 
--- an error says why a type does not take an item, or, of a type that grows, that it is out of memory
+-- an error says why a type does not take an item, or, of a type that grows, that it is out of
+-- memory
 abbrev pub IsTypeFault : {E : Type 0} → Bool → Option Kind → Error E → Type 0
 IsTypeFault grows why (code.Semantic o k) = (o ≡ None) × (why ≡ Some k)
 IsTypeFault grows why code.Memory = IsTrue grows
@@ -32,7 +33,8 @@ pub record ReadsAs {T : Type 0} (refusal : Tree → Option Kind) (takes : Tree �
   pub is_one : refusal item ≡ None
   pub taken : takes item x
 
--- `b` is an item of at most `limit` levels, and the error says why the type does not take what it means
+-- `b` is an item of at most `limit` levels, and the error says why the type does not take what it
+-- means
 pub record IsRefused {E : Type 0} (grows : Bool) (refusal : Tree → Option Kind) (limit : ℕ) (e : Error E) (b : List ℕ) : Type 0 where
   pub item : Tree
   pub reads : Reads b limit item
@@ -42,8 +44,8 @@ pub record IsRefused {E : Type 0} (grows : Bool) (refusal : Tree → Option Kind
 abbrev pub Gives : Option (List ℕ) → Option (List ℕ) → (List ℕ → Type 0) → Type 0
 Gives old new P = (b : List ℕ) × Consumes old new b × P b
 
--- where a fault leaves a reader: some of its bytes were taken, or none, and the rest of them is left; behind a fault of its own that
--- is open
+-- where a fault leaves a reader: some of its bytes were taken, or none, and the rest of them is
+-- left; after a fault of its own that is open
 abbrev pub LeavesRest : {E : Type 0} → Option (List ℕ) → Option (List ℕ) → Error E → Type 0
 LeavesRest old new (code.Io e) = Unit {0}
 LeavesRest old new (code.Syntax p) = Gives old new (λ _. Unit {0})
@@ -52,8 +54,8 @@ LeavesRest old new code.RecursionLimitExceeded = Gives old new (λ _. Unit {0})
 LeavesRest old new code.Memory = Gives old new (λ _. Unit {0})
 LeavesRest old new code.TooLong = Gives old new (λ _. Unit {0})
 
--- the error for the bytes to come: the fault of the item that is due at their front, with places counted from their beginning, or
--- the type's fault where the item there was taken
+-- the error for the bytes to come: the fault of the item that is due at their front, with places
+-- counted from their beginning, or the type's fault if the item there was taken
 abbrev pub IsUnread : {E : Type 0} → (E → Bool) → Bool → (Tree → Option Kind) → ℕ → Option (List ℕ) → Option (List ℕ) → Error E → Type 0
 IsUnread ends grows refusal limit old new e =
     IfKnown old (λ b. Fails ends (Unit {0}) (λ f. Damage (length b) b limit f) (IsLong 0 b) e) ⊎ Gives old new (IsRefused grows refusal limit e)

@@ -1,4 +1,5 @@
--- What the contracts of the writer cite: the bytes of each event that a sink is given of an item (RFC 8949, section 4.1).
+-- What the contracts of the writer cite: the bytes of each event that a sink is given of an item
+-- (RFC 8949, section 4.1).
 use Rattle.std.specs.Prelude.{◌≡◌, ℕ, ◌+◌, List, ◌++◌, length, Option, Some}
 use Rattle.std.specs.Io.KnownBytes.{Appends}
 use Rattle.ciborium_ll.specs.Device.{AppendsFront}
@@ -16,7 +17,7 @@ IsIo (Io e) = Unit {0}
 IsIo (Value k) = ⊥
 IsIo Memory = ⊥
 
--- the shortest text of a leaf, or the shortest head of a tag, an array or a map
+-- the canonical encoding of a leaf, or the shortest head of a tag, an array or a map
 abbrev pub event_text : Event → List ℕ
 event_text (integer i) = title_of (int_head i)
 event_text (bytes b) = title_of (Bytes (Some (length b))) ++ b
@@ -27,10 +28,11 @@ event_text (tag n) = title_of (Tag n)
 event_text (array n) = title_of (Array (Some n))
 event_text (map n) = title_of (Map (Some n))
 
--- a writer took the whole text of an event; it was lent and comes back as itself, and it did not fail
+-- a writer took the whole text of an event; it was lent and comes back as itself, and it did not
+-- fail
 abbrev pub IsWritten : {W : Type 0} → (W → Option (List ℕ)) → (W → List ℕ) → (W → ℕ) → W → Event → W → Type 0
 IsWritten written handle failed w e w2 = Appends (written w) (written w2) (event_text e) × (handle w2 ≡ handle w) × (failed w2 ≡ failed w)
 
--- a writer failed and took a beginning of the text of an event
+-- a writer failed and took a beginning of the encoding of an event
 abbrev pub IsTorn : {W : Type 0} → (W → Option (List ℕ)) → (W → List ℕ) → (W → ℕ) → W → Event → W → Type 0
 IsTorn written handle failed w e w2 = AppendsFront (written w) (written w2) (event_text e) × (handle w2 ≡ handle w) × (failed w2 ≡ failed w + 1)

@@ -19,14 +19,14 @@ pub trait Exactness {
     fn title<R: Read>(&mut self, decoder: &Decoder<R>, header: Header)
         ensures { flag self.new ≡ (flag self.old && (shortest_of decoder.now && encoded header)) };
 
-    /// Takes in what a tag over a content became: where the fold changed a byte string, the text
-    /// was not the shortest. `length` is that of the content, if it was one.
+    /// Takes in what a tag over a content became: if the fold changed a byte string, the text was
+    /// not the shortest. `length` is that of the content, if it was one.
     fn fold(&mut self, whole: &Value, tag: u64, length: Option<usize>)
         ensures { (c : Tree) → IsLengthOf length c → tagged tag c ≡ Some (view whole.now)
             → IsKept tag c (view whole.now) (flag self.old) (flag self.new) };
 }
 
-/// The answer, where it is asked.
+/// The answer, if it is asked.
 #[derive(Drop)]
 pub struct Asked(pub bool);
 

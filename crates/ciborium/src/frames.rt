@@ -1,8 +1,8 @@
 //! Reads items over a list of the levels that are open.
-ghost use Rattle.std.specs.Prelude.{◌≡◌, ◌<◌, ◌≤◌, ◌+◌, ◌*◌, ◌∷◌, ℕ, Bool, true};
-ghost use Rattle.std.specs.Prelude.{false, List, None, Some, reverse, length};
+ghost use Rattle.std.specs.Prelude.{◌≡◌, ◌<◌, ◌≤◌, ◌+◌, ◌*◌, ◌∷◌, ◌++◌, ℕ, Bool, true};
+ghost use Rattle.std.specs.Prelude.{false, List, [], None, Some, reverse, length};
 ghost use Rattle.std.specs.Prelude.{IfOk, IfErr, OnOk, OnErr, IfSome, IfNone};
-ghost use Rattle.std.specs.Prelude.{MatchOption, ◌&&◌};
+ghost use Rattle.std.specs.Prelude.{MatchOption, MatchBool, ◌&&◌};
 ghost use Rattle.ciborium_ll.specs.Seen.{Takes};
 ghost use Rattle.ciborium_ll.specs.Title.{Title, IsShortest};
 ghost use Rattle.ciborium_ll.specs.Views.{offset_of, waiting_of, seen, shortest_of};
@@ -11,13 +11,15 @@ ghost use Rattle.ciborium.specs.declared.de.Error.TheVariants.{Memory};
 ghost use Rattle.ciborium.specs.Damage.{Damage, TitleDamage};
 ghost use Rattle.ciborium.specs.Reading.{Steady, TakesSome, NamesFault, NamesFaultBehind, Closes};
 ghost use Rattle.ciborium_value.specs.Folding.{tagged};
-ghost use Rattle.ciborium.specs.Reading.{IsNext, is_full, fault_failures, IsFoldFault};
+ghost use Rattle.ciborium.specs.Reading.{IsNext, is_full, fault_failures, IsFoldFault, IsLeaf};
+ghost use Rattle.ciborium.specs.Reading.{ReadsBehind};
 ghost use Rattle.ciborium.specs.Frames.{snoc, halves_of, HasHalf, IsStaged, IsClosed};
 ghost use Rattle.ciborium.specs.Frames.{Hands};
 ghost use Rattle.ciborium.specs.Exact.{encoded};
 ghost use Rattle.ciborium.specs.Frames.{IsKept, CloseGives, ReadExact, HandFails, AskEnds};
 ghost use Rattle.ciborium.specs.Frames.{AskGives, AskFails, Opening, Begins, BeginFails};
-ghost use Rattle.ciborium.specs.Frames.{Holds, in_hand, rank, room_of, Falls};
+ghost use Rattle.ciborium.specs.Frames.{Holds, in_hand, rank, room_of, Falls, listed, HalfIn};
+ghost use Rattle.ciborium.specs.Frames.{LeafPut, FillEnds, FillGives};
 
 use crate::de::Error;
 use crate::exactness::Exactness;
@@ -25,13 +27,13 @@ use crate::reader::{
     ROOM, folded, is_leaf, is_low, length_of, next_part, read_leaf, reserved, room_left,
     tagged_title,
 };
-use crate::strings::next_title;
-use crate::value::Value;
+use crate::strings::{next_title, read_string, read_text};
+use crate::value::{Integer, Value};
 use ciborium_ll::{Decoder, Header, Read};
 use std::alloc::Global;
 use std::mem;
 
-/// An array that is open: its items so far, how many its head claims, and the room that it may
+/// An array that is open: its items so far, how many its head claims, and the space that it may
 /// reserve of.
 #[derive(Drop)]
 pub struct Items {
@@ -40,7 +42,7 @@ pub struct Items {
     room: usize,
 }
 
-/// A map that is open: its entries so far, how many its head claims, and the room. Where it is at
+/// A map that is open: its entries so far, how many its head claims, and the space. If it is at
 /// `half` an entry, the value of the last key is due, and null stands in its place.
 #[derive(Drop)]
 pub struct Entries {
@@ -51,7 +53,7 @@ pub struct Entries {
 }
 
 /// A level that is open. A tag, and the whole around all levels, hold the place and the header of
-/// the title behind them.
+/// the title after them.
 #[derive(Drop)]
 pub enum Frame {
     /// The whole around all levels: one item, of this title.
@@ -60,7 +62,8 @@ pub enum Frame {
     Items(Items),
     /// A map.
     Entries(Entries),
-    /// A tag of this number, over an item of that title, and the room that the item may reserve of.
+    /// A tag of this number, over an item of that title, and the space that the item may reserve
+    /// of.
     Tag(u64, usize, Header, usize),
 }
 
@@ -98,7 +101,7 @@ fn put_half<E>(list: &mut Entries, half: Value) -> Result<(), Error<E>>
     Ok(())
 }
 
-/// Hands a value, where one was read, to the innermost level. A tag is whole with it, and the level
+/// Hands a value, if one was read, to the innermost level. A tag is whole with it, and the level
 /// around it the innermost then.
 fn hand<E, X: Exactness>(
     alloc: Global,
@@ -198,7 +201,7 @@ fn next_half<R: Read>(
     next_part(decoder, list.count, list.entries.len())
 }
 
-/// Takes in the title that was read, where there was one.
+/// Takes in the title that was read, if there was one.
 fn take_title<R: Read, X: Exactness>(
     decoder: &Decoder<R>,
     part: Option<(usize, Header)>,
@@ -212,7 +215,7 @@ fn take_title<R: Read, X: Exactness>(
     }
 }
 
-/// The value of a tag over its content. Where the fold changes a byte string, its text was not the
+/// The value of a tag over its content. If the fold changes a byte string, its text was not the
 /// shortest.
 fn tag_value<E, X: Exactness>(
     alloc: Global,
@@ -231,7 +234,7 @@ fn tag_value<E, X: Exactness>(
     Ok(whole)
 }
 
-/// The next title in the innermost level; none where it is whole.
+/// The next title in the innermost level; none if it is whole.
 fn ask<R: Read, X: Exactness>(
     decoder: &mut Decoder<R>,
     top: &Frame,
@@ -268,7 +271,213 @@ fn ask<R: Read, X: Exactness>(
     }
 }
 
-/// The room that an item may reserve of in this level.
+/// Whether the item of a title can be read into the level: an array or a map, and no items follow
+/// in it.
+fn takes(top: &Frame, header: Header) -> bool
+    ensures { MatchBool result ((listed top.now ≡ true) × IsLeaf header) (Unit {0}) }
+{
+    match top {
+        Frame::Items(_) => is_leaf(header),
+        Frame::Entries(_) => is_leaf(header),
+        Frame::Whole(_, _) => false,
+        Frame::Tag(_, _, _, _) => false,
+    }
+}
+
+/// Reads the item after a title, in which no items follow, into an array.
+fn push_leaf<R: Read>(
+    alloc: Global,
+    decoder: &mut Decoder<R>,
+    list: &mut Items,
+    header: Header,
+    at: usize,
+) -> Result<(), Error<R::Error>>
+    requires fresh { waiting_of decoder.old ≡ None }
+    requires leaf { IsLeaf header }
+    ensures ok { OnOk result ((v : Value)
+        × Takes (seen R.Read decoder.old) (seen R.Read decoder.new)
+        (λ b. (limit : ℕ) → ReadsBehind header limit (view v) b)
+        × (list.new.items.items ≡ list.old.items.items ++ v ∷ [])) }
+    ensures count { list.new.count ≡ list.old.count }
+    ensures err { IfErr result (λ e. (limit : ℕ)
+        → NamesFaultBehind R.ends header at (λ stop b f. Damage stop b limit f)
+        (seen R.Read decoder.old) (seen R.Read decoder.new) e) }
+    ensures stops { IfErr result (TakesSome (seen R.Read decoder.old) (seen R.Read decoder.new)) }
+    ensures steady { Steady R.ends result (seen R.Read decoder.old) (seen R.Read decoder.new) }
+{
+    match header {
+        Header::Positive(n) => {
+            let Ok(()) = list.items.push(Value::Integer(Integer::from(n))) else {
+                return Err(Error::Memory);
+            };
+            Ok(())
+        }
+        Header::Negative(n) => {
+            let Ok(()) = list.items.push(Value::Integer(Integer::negative(n))) else {
+                return Err(Error::Memory);
+            };
+            Ok(())
+        }
+        Header::Bytes(length) => {
+            let bytes = read_string(alloc, decoder, false, length, at)?;
+            let Ok(()) = list.items.push(Value::Bytes(bytes)) else {
+                return Err(Error::Memory);
+            };
+            Ok(())
+        }
+        Header::Text(length) => {
+            let text = read_text(alloc, decoder, length, at)?;
+            let Ok(()) = list.items.push(Value::Text(text)) else {
+                return Err(Error::Memory);
+            };
+            Ok(())
+        }
+        _ => {
+            let leaf = read_leaf(alloc, decoder, header, at)?;
+            let Ok(()) = list.items.push(leaf) else {
+                return Err(Error::Memory);
+            };
+            Ok(())
+        }
+    }
+}
+
+/// Reads the item after a title, in which no items follow, as a key or the value of the last key.
+fn put_half_leaf<R: Read>(
+    alloc: Global,
+    decoder: &mut Decoder<R>,
+    list: &mut Entries,
+    header: Header,
+    at: usize,
+) -> Result<(), Error<R::Error>>
+    requires fresh { waiting_of decoder.old ≡ None }
+    requires leaf { IsLeaf header }
+    requires half { HasHalf list.old }
+    ensures ok { OnOk result ((v : Value)
+        × Takes (seen R.Read decoder.old) (seen R.Read decoder.new)
+        (λ b. (limit : ℕ) → ReadsBehind header limit (view v) b)
+        × (halves_of list.new ≡ snoc (halves_of list.old) (view v))) }
+    ensures count { list.new.count ≡ list.old.count }
+    ensures half { OnOk result (HasHalf list.new) }
+    ensures err { IfErr result (λ e. (limit : ℕ)
+        → NamesFaultBehind R.ends header at (λ stop b f. Damage stop b limit f)
+        (seen R.Read decoder.old) (seen R.Read decoder.new) e) }
+    ensures stops { IfErr result (TakesSome (seen R.Read decoder.old) (seen R.Read decoder.new)) }
+    ensures steady { Steady R.ends result (seen R.Read decoder.old) (seen R.Read decoder.new) }
+{
+    match header {
+        Header::Positive(n) => {
+            let Ok(()) = put_half::<R::Error>(list, Value::Integer(Integer::from(n))) else {
+                return Err(Error::Memory);
+            };
+            Ok(())
+        }
+        Header::Negative(n) => {
+            let Ok(()) = put_half::<R::Error>(list, Value::Integer(Integer::negative(n))) else {
+                return Err(Error::Memory);
+            };
+            Ok(())
+        }
+        Header::Bytes(length) => {
+            let bytes = read_string(alloc, decoder, false, length, at)?;
+            let Ok(()) = put_half::<R::Error>(list, Value::Bytes(bytes)) else {
+                return Err(Error::Memory);
+            };
+            Ok(())
+        }
+        Header::Text(length) => {
+            let text = read_text(alloc, decoder, length, at)?;
+            let Ok(()) = put_half::<R::Error>(list, Value::Text(text)) else {
+                return Err(Error::Memory);
+            };
+            Ok(())
+        }
+        _ => {
+            let leaf = read_leaf(alloc, decoder, header, at)?;
+            let Ok(()) = put_half::<R::Error>(list, leaf) else {
+                return Err(Error::Memory);
+            };
+            Ok(())
+        }
+    }
+}
+
+/// Reads the item after a title, in which no items follow, into an array or a map.
+fn put_leaf<R: Read>(
+    alloc: Global,
+    decoder: &mut Decoder<R>,
+    top: &mut Frame,
+    header: Header,
+    at: usize,
+) -> Result<(), Error<R::Error>>
+    requires fresh { waiting_of decoder.old ≡ None }
+    requires leaf { IsLeaf header }
+    requires list { listed top.old ≡ true }
+    requires half { HalfIn top.old }
+    ensures ok { OnOk result (LeafPut header top.old top.new
+        (seen R.Read decoder.old) (seen R.Read decoder.new)) }
+    ensures half { OnOk result (HalfIn top.new) }
+    ensures same { OnOk result (in_hand None top.new ≡ in_hand None top.old) }
+    ensures err { IfErr result (λ e. (limit : ℕ)
+        → NamesFaultBehind R.ends header at (λ stop b f. Damage stop b limit f)
+        (seen R.Read decoder.old) (seen R.Read decoder.new) e) }
+    ensures stops { IfErr result (TakesSome (seen R.Read decoder.old) (seen R.Read decoder.new)) }
+    ensures steady { Steady R.ends result (seen R.Read decoder.old) (seen R.Read decoder.new) }
+{
+    match top {
+        Frame::Items(list) => {
+            push_leaf(alloc, decoder, list, header, at)?;
+            Ok(())
+        }
+        Frame::Entries(list) => {
+            put_half_leaf(alloc, decoder, list, header, at)?;
+            Ok(())
+        }
+        Frame::Whole(_, _) => unreachable!(),
+        Frame::Tag(_, _, _, _) => unreachable!(),
+    }
+}
+
+/// Reads items into the innermost level as long as no items follow in them. The title of the item
+/// after them; none if the level is whole.
+fn fill<R: Read, X: Exactness>(
+    alloc: Global,
+    decoder: &mut Decoder<R>,
+    top: &mut Frame,
+    exact: &mut X,
+) -> Result<Option<(usize, Header)>, Error<R::Error>>
+    requires fresh { waiting_of decoder.old ≡ None }
+    requires half { HalfIn top.old }
+    ensures none { IfOk result (λ o. IfNone o
+        (Takes (seen R.Read decoder.old) (seen R.Read decoder.new)
+        (FillEnds top.old top.new (offset_of decoder.old)
+        (X.flag exact.old) (X.flag exact.new)))) }
+    ensures some { IfOk result (λ o. IfSome o (λ r.
+        Takes (seen R.Read decoder.old) (seen R.Read decoder.new)
+        (FillGives top.old top.new r.1 r.0 (offset_of decoder.old)
+        (X.flag exact.old) (X.flag exact.new)))) }
+    ensures moved { IfOk result (λ o. IfSome o (λ _.
+        offset_of decoder.old + 1 ≤ offset_of decoder.new + in_hand None top.old)) }
+    ensures err { IfErr result (AskFails R.ends top.old
+        (seen R.Read decoder.old) (seen R.Read decoder.new)) }
+    ensures stops { IfErr result (TakesSome (seen R.Read decoder.old) (seen R.Read decoder.new)) }
+    ensures steady { Steady R.ends result (seen R.Read decoder.old) (seen R.Read decoder.new) }
+{
+    'parts: loop {
+        let part = ask(decoder, top, exact)?;
+        match part {
+            None => return Ok(None),
+            Some((at, header)) => {
+                if !takes(top, header) {
+                    return Ok(Some((at, header)));
+                }
+                put_leaf(alloc, decoder, top, header, at)?;
+            }
+        }
+    }
+}
+
+/// The space that an item may reserve of in this level.
 fn room_in(top: &Frame) -> usize
     ensures { result ≡ room_of top.now }
 {
@@ -299,7 +508,7 @@ fn room_in(top: &Frame) -> usize
 enum Opened {
     /// A level.
     Level(Frame),
-    /// None: its title, or that behind its tag, is at hand.
+    /// None: its title, or that after its tag, is at hand.
     Leaf(Option<u64>, usize, Header),
 }
 
@@ -412,7 +621,7 @@ fn begin<R: Read, X: Exactness>(
     }
 }
 
-/// The item behind the title of `header`, which begins at the place `at`. `exact` tells whether the
+/// The item after the title of `header`, which begins at the place `at`. `exact` tells whether the
 /// text is the shortest so far, and stays false once it is not.
 pub fn read_item<R: Read, X: Exactness>(
     alloc: Global,
@@ -442,7 +651,7 @@ pub fn read_item<R: Read, X: Exactness>(
                 None => unreachable!(),
             },
             Handed::Taken => {
-                let part = ask(decoder, &top, exact)?;
+                let part = fill(alloc, decoder, &mut top, exact)?;
                 match part {
                     None => {
                         let whole = close(&mut below, &mut top);

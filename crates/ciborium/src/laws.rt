@@ -67,15 +67,15 @@ pub fn encoding_spells()
         → (t ≡ s) × (u ≡ v) }
 {}
 
-/// Bytes begin a readable item, or have a fault there. The place behind the last of them is `stop`.
+/// Bytes begin a readable item, or have a fault there. The place after the last of them is `stop`.
 pub fn front_or_damage()
     ensures { (stop limit : ℕ) (b : List ℕ) → All (λ x. x < 256) b → length b ≤ stop
         → ((v : Tree) × (rest : List ℕ) × Front b limit v rest)
         ⊎ ((e : Fault) × Damage stop b limit e) }
 {}
 
-/// Each input is a list of items that are readable within the limit and then a rest, where nothing
-/// is left or no such item begins.
+/// Each input is a list of items that are readable within the limit and then a rest, if nothing is
+/// left or no such item begins.
 pub fn items_exist()
     ensures { (limit at : ℕ) (b : List ℕ) → All (λ x. x < 256) b
         → (is : List Item) × (rest : List ℕ) × ItemsWithin limit at b is rest }
@@ -123,8 +123,8 @@ pub fn values_are_assigned(value: &Value)
     }
 }
 
-/// A tree with no simple value but false, true and null: its encoding spells it, and where it folds
-/// it means the folded tree. If it does not fold, it means nothing.
+/// A tree with no simple value but false, true and null: its encoding spells it, and if it folds it
+/// means the folded tree. If it does not fold, it means nothing.
 pub fn encodings_mean()
     ensures folded { (t u : Tree) → Fits t → Assigned t → fold t ≡ Some u
         → Spells (enc t) t × (meaning t ≡ Some u) }
@@ -132,8 +132,8 @@ pub fn encodings_mean()
 {}
 
 /// Reading the encoding of such a tree and folding it agree, if it nests no deeper than the limit:
-/// where it folds, the folded tree is read and the bytes behind it are left. Else nothing is read,
-/// and the one fault is a negative number that is too large.
+/// if it folds, the folded tree is read and the bytes after it are left. Else nothing is read, and
+/// the one fault is a negative number that is too large.
 pub fn reading_agrees()
     ensures folded { (limit : ℕ) (rest : List ℕ) (t u : Tree) → Fits t → Assigned t
         → depth t ≤ limit → fold t ≡ Some u → Front (enc t ++ rest) limit u rest }

@@ -24,11 +24,11 @@ use ciborium_ll::{Decoder, Header, Read, simple, tag};
 use ciborium_value::fold_tag;
 use std::alloc::Global;
 
-/// Room for so many items may be reserved before they come, over all arrays and maps that are open:
-/// 4,096 bytes.
+/// Space for so many items may be reserved before they come, over all arrays and maps that are
+/// open: 4,096 bytes.
 pub const ROOM: usize = 128;
 
-/// The value of a simple value, where it is assigned (RFC 8949, section 3.3).
+/// The value of a simple value, if it is assigned (RFC 8949, section 3.3).
 fn simple_value(n: u8) -> Option<Value>
     ensures { MatchOption result (simple_meaning n ≡ None) (λ v. simple_meaning n ≡ Some (view v)) }
 {
@@ -41,8 +41,7 @@ fn simple_value(n: u8) -> Option<Value>
     }
 }
 
-/// The item behind the title of `header`, which begins at the place `at`, where no items follow in
-/// it.
+/// The item after the title of `header`, which begins at the place `at`, if no items follow in it.
 pub fn read_leaf<R: Read>(
     alloc: Global,
     decoder: &mut Decoder<R>,
@@ -98,8 +97,8 @@ pub fn folded<E>(alloc: Global, tag: u64, content: Value) -> Result<Value, Error
     }
 }
 
-/// Whether the shortest text of an item may have the header: an open length, and undefined, are not
-/// in it.
+/// Whether the canonical encoding of an item may have the header: an open length, and undefined,
+/// are not in it.
 pub fn is_encoded(header: Header) -> bool
     ensures { result ≡ encoded header }
 {
@@ -154,8 +153,8 @@ fn closes(count: Option<usize>, header: Header) -> bool
     count.is_none() && header.is_break()
 }
 
-/// The next title in an array or a map whose head has that length, and its place; none where all
-/// parts were read.
+/// The next title in an array or a map whose head has that length, and its place; none if all parts
+/// were read.
 pub fn next_part<R: Read>(
     decoder: &mut Decoder<R>,
     count: Option<usize>,
@@ -185,7 +184,7 @@ pub fn next_part<R: Read>(
     Ok(Some((at, header)))
 }
 
-/// How many parts room is reserved for, of those that a head claims.
+/// How many parts space is reserved for, of those that a head claims.
 pub fn reserved(count: Option<usize>, room: usize) -> usize
     ensures { MatchOption count (result ≡ 0) (λ n. result ≡ min n room) }
 {
@@ -195,8 +194,7 @@ pub fn reserved(count: Option<usize>, room: usize) -> usize
     }
 }
 
-/// The room that is left where so many parts of that many items each are held and so many have
-/// come.
+/// The space that is left if so many parts of that many items each are held and so many have come.
 pub fn room_left(room: usize, held: usize, come: usize, size: usize) -> usize
     ensures { result ≡ room - (held - come) * size }
 {
@@ -250,7 +248,7 @@ pub fn is_leaf(header: Header) -> bool
     !matches!(header, Header::Array(_) | Header::Map(_) | Header::Tag(_))
 }
 
-/// The title behind a tag, and its place. A tag that is none of the bignums' opens a level whatever
+/// The title after a tag, and its place. A tag that is none of the bignums' opens a level whatever
 /// follows it.
 pub fn tagged_title<R: Read>(
     decoder: &mut Decoder<R>,

@@ -26,7 +26,7 @@ pub enum Error<T> {
     /// A value that can't be written.
     #[error("Value({0:?})")]
     Value(Kind),
-    /// Memory was refused.
+    /// Out of memory.
     #[error("Memory")]
     Memory,
 }
@@ -42,7 +42,7 @@ impl<T> From<T> for Error<T> {
     }
 }
 
-/// A sink that writes each event at once, as its shortest text. It takes no memory.
+/// A sink that writes each event at once, as its canonical encoding. It takes no memory.
 #[derive(Drop)]
 pub struct Serializer<W> {
     encoder: Encoder<W>,
@@ -118,7 +118,7 @@ impl<W: Write> Sink for Serializer<W> {
 /// section 4.1). A `Value` takes no memory.
 ///
 /// # Errors
-/// The writer's, as `Io`; a beginning of the text was written then.
+/// The writer's, as `Io`; a beginning of the encoding was written then.
 pub fn into_writer<T: Serialize, W: Write>(value: &T, writer: &mut W) -> Result<(), Error<W::Error>>
     ensures ok { OnOk result (Appends (W.written writer.old) (W.written writer.new)
         (enc (T.put value.now))) }

@@ -69,7 +69,7 @@ impl<R: Read> Source for Deserializer<R> {
     /// The next item.
     ///
     /// # Errors
-    /// Those of `from_decoder`. Behind one but an end with nothing left the decoder may stand in an
+    /// Those of `from_decoder`. After one but an end with nothing left the decoder may stand in an
     /// item: don't ask on.
     fn item(&mut self) -> Result<Value, Error<R::Error>>
         ensures ok { IfOk result (λ v.

@@ -51,7 +51,7 @@ pub fn next_title<R: Read>(decoder: &mut Decoder<R>) -> Result<(usize, Header), 
 /// So many bytes are asked for at a time.
 const PIECE: usize = 4096;
 
-/// Makes room for the next piece of a string of which so many bytes have come and so many are to
+/// Makes space for the next piece of a string of which so many bytes have come and so many are to
 /// come. No length is believed: at most as much is reserved as is held, or one piece. A string that
 /// is alone in the buffer gets no more than its own size.
 fn make_room(into: &mut Vec<u8>, got: usize, rest: usize) -> Result<(), AllocError>
@@ -75,7 +75,7 @@ fn make_room(into: &mut Vec<u8>, got: usize, rest: usize) -> Result<(), AllocErr
     into.reserve_exact(more)
 }
 
-/// The next bytes, so many, in one piece, in the room that there is for them.
+/// The next bytes, so many, in one piece, in the space that there is for them.
 fn read_piece<R: Read>(
     decoder: &mut Decoder<R>,
     size: usize,
@@ -97,7 +97,7 @@ fn read_piece<R: Read>(
     let Ok(()) = into.resize(at + size, 0) else {
         return Err(Error::Memory);
     };
-    // No contract of `resize` says that the capacity stays where it is enough.
+    // No contract of `resize` says that the capacity stays if it is enough.
     if into.capacity() > room {
         return Err(Error::Memory);
     }
@@ -278,7 +278,7 @@ fn read_open<R: Read>(
     }
 }
 
-/// The text of these bytes, where they are UTF-8.
+/// The text of these bytes, if they are UTF-8.
 fn text_of(bytes: Vec<u8>) -> Option<String>
     ensures none { IfNone result (IsUtf8 bytes.items → ⊥) }
     ensures text { IfSome result (λ s. string_bytes s ≡ bytes.items) }

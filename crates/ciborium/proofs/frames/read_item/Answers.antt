@@ -1,7 +1,7 @@
 use Rattle.std.proofs.Common.{rules, refl, reverse, ◌∷◌, arith}
 use Rattle.std.proofs.lemmas.Result.{err_from_is_err_and}
 use Rattle.ciborium_ll.specs.Views.{seen}
-use Rattle.ciborium.proofs.TurnLemmas.{turn_start, turn_staged, turn_taken, taken_none, turn_ended, turn_closed, turn_begun, turn_done, done_some, turn_fails, begun_fails, turn_less}
+use Rattle.ciborium.proofs.TurnLemmas.{turn_start, turn_staged, turn_taken, taken_none, turn_half, turn_ended, turn_closed, turn_begun, turn_done, done_some, turn_fails, begun_fails, turn_less}
 use Rattle.ciborium.proofs.Halting.{some_then, some_taken}
 use Rattle.ciborium.proofs.frames.read_item.Goals as goal
 
@@ -32,19 +32,23 @@ returns-in_err-part-in-Taken-clause-err g c =
     let p = err_from_is_err_and c.from_residual-in_err-part-in-Taken.result c.from_residual-in_err-part-in-Taken.ensures.1 in
     let t = turn_taken (c.hand.new.top ∷ reverse c.hand.new.below.items) c.hand.new.read (g.X.Exactness.flag c.hand.new.exact) c.turns.invariant.turn (rw c.in-Taken.is at c.in_ok-hand.ensures.ok) in
     rw (p.1, p.2)
-    (turn_fails g.R.Read.ends (seen g.R.Read c.ask.new.decoder).offset _ t
+    (turn_fails g.R.Read.ends (seen g.R.Read c.fill.new.decoder).offset _ t
     (λ b off s. c.in_err-part-in-Taken.ensures.err c.args.limit c.args.at (reverse c.hand.new.below.items) b off s))
+
+pub fill-requires-clause-half : goal.fill-requires-clause-half
+fill-requires-clause-half g c =
+    turn_half (turn_taken (c.hand.new.top ∷ reverse c.hand.new.below.items) c.hand.new.read (g.X.Exactness.flag c.hand.new.exact) c.turns.invariant.turn (rw c.in-Taken.is at c.in_ok-hand.ensures.ok)) c.requires.titled
 
 pub close-whole-requires : goal.close-whole-requires
 close-whole-requires g c =
     let t = turn_taken (c.hand.new.top ∷ reverse c.hand.new.below.items) c.hand.new.read (g.X.Exactness.flag c.hand.new.exact) c.turns.invariant.turn (rw c.in-Taken.is at c.in_ok-hand.ensures.ok) in
-    record { closed = turn_ended (seen g.R.Read c.ask.new.decoder) t (rw c.in-None-part.is at c.in_ok-part-in-Taken.ensures.none) c.requires.titled }
+    record { closed = turn_ended c.fill.new.top (seen g.R.Read c.fill.new.decoder) t (rw c.in-None-part.is at c.in_ok-part-in-Taken.ensures.none) c.requires.titled }
 
 pub turns-preserved-in-None-part : goal.turns-preserved-in-None-part
 turns-preserved-in-None-part g c =
     let t = turn_taken (c.hand.new.top ∷ reverse c.hand.new.below.items) c.hand.new.read (g.X.Exactness.flag c.hand.new.exact) c.turns.invariant.turn (rw c.in-Taken.is at c.in_ok-hand.ensures.ok) in
     record {
-      turn = turn_closed (seen g.R.Read c.ask.new.decoder) (c.close-whole.new.top ∷ reverse c.close-whole.new.below.items) c.close-whole.result (g.X.Exactness.flag c.ask.new.exact) (rw c.in-None-part.is at c.in_ok-part-in-Taken.ensures.same) t
+      turn = turn_closed c.fill.new.top (seen g.R.Read c.fill.new.decoder) (c.close-whole.new.top ∷ reverse c.close-whole.new.below.items) c.close-whole.result (g.X.Exactness.flag c.fill.new.exact) t
           (rw c.in-None-part.is at c.in_ok-part-in-Taken.ensures.none) c.close-whole.ensures.value;
       failed = search rules;
       kept = search rules;
@@ -60,7 +64,7 @@ pub turns-preserved : goal.turns-preserved
 turns-preserved g c =
     let t = turn_taken (c.hand.new.top ∷ reverse c.hand.new.below.items) c.hand.new.read (g.X.Exactness.flag c.hand.new.exact) c.turns.invariant.turn (rw c.in-Taken.is at c.in_ok-hand.ensures.ok) in
     record {
-      turn = turn_begun c.in-Some-part.title.0 c.in-Some-part.title.1 (seen g.R.Read c.ask.new.decoder) (seen g.R.Read c.begin.new.decoder) (c.begin.new.top ∷ reverse c.begin.new.below.items) c.begin.new.read (g.X.Exactness.flag c.ask.new.exact) (g.X.Exactness.flag c.begin.new.exact) t
+      turn = turn_begun c.fill.new.top c.in-Some-part.title.0 c.in-Some-part.title.1 (seen g.R.Read c.fill.new.decoder) (seen g.R.Read c.begin.new.decoder) (c.begin.new.top ∷ reverse c.begin.new.below.items) c.begin.new.read (g.X.Exactness.flag c.fill.new.exact) (g.X.Exactness.flag c.begin.new.exact) t
           (rw c.in-Some-part.is at c.in_ok-part-in-Taken.ensures.some) c.in_ok-begin-in-Some-part.ensures.ok;
       failed = search rules;
       kept = search rules;
@@ -72,7 +76,7 @@ turns-smaller g c =
     let some = rw c.in-Some-part.is at c.in_ok-part-in-Taken.ensures.some in
     let ok = c.in_ok-begin-in-Some-part.ensures.ok in
     turn_less c.turns.below.items c.hand.new.below.items c.begin.new.below.items c.turns.top c.hand.new.top c.begin.new.top c.turns.read c.hand.new.read c.begin.new.read
-    (seen g.R.Read c.turns.decoder).offset (seen g.R.Read c.ask.new.decoder).offset (seen g.R.Read c.begin.new.decoder).offset
+    (seen g.R.Read c.turns.decoder).offset (seen g.R.Read c.fill.new.decoder).offset (seen g.R.Read c.begin.new.decoder).offset
     (taken_none (c.turns.top ∷ reverse c.turns.below.items) (c.hand.new.top ∷ reverse c.hand.new.below.items) c.turns.read c.hand.new.read (g.X.Exactness.flag c.turns.exact) (g.X.Exactness.flag c.hand.new.exact)
     (turn_staged c.turns.invariant.turn c.requires.titled) (rw c.in-Taken.is at c.in_ok-hand.ensures.ok))
     (omega (arith, c.begin.new.decoder.fits)) (omega (arith, some.grown)) (omega (arith, ok.grown)) (rw c.in-Taken.is at c.in_ok-hand.ensures.falls) (rw c.in-Some-part.is at c.in_ok-part-in-Taken.ensures.moved) c.in_ok-begin-in-Some-part.ensures.rises
@@ -82,7 +86,7 @@ returns-in_err-begin-in-Some-part-clause-err g c =
     let p = err_from_is_err_and c.from_residual-in_err-begin-in-Some-part.result c.from_residual-in_err-begin-in-Some-part.ensures.1 in
     let t = turn_taken (c.hand.new.top ∷ reverse c.hand.new.below.items) c.hand.new.read (g.X.Exactness.flag c.hand.new.exact) c.turns.invariant.turn (rw c.in-Taken.is at c.in_ok-hand.ensures.ok) in
     rw (p.1, p.2)
-    (begun_fails g.R.Read.ends c.in-Some-part.title.0 c.in-Some-part.title.1 (seen g.R.Read c.ask.new.decoder) (seen g.R.Read c.begin.new.decoder) (g.X.Exactness.flag c.ask.new.exact) _ t
+    (begun_fails c.fill.new.top g.R.Read.ends c.in-Some-part.title.0 c.in-Some-part.title.1 (seen g.R.Read c.fill.new.decoder) (seen g.R.Read c.begin.new.decoder) (g.X.Exactness.flag c.fill.new.exact) _ t
     (rw c.in-Some-part.is at c.in_ok-part-in-Taken.ensures.some) c.in_err-begin-in-Some-part.ensures.err)
 
 pub returns-in_err-hand-clause-stops : goal.returns-in_err-hand-clause-stops

@@ -1,0 +1,71 @@
+use Rattle.std.proofs.Common.{rules, refl, arith}
+use Rattle.std.proofs.lemmas.Result.{err_from_is_err_and}
+use Rattle.ciborium_ll.specs.Views.{seen}
+use Rattle.ciborium.proofs.Taking.{takes_none}
+use Rattle.ciborium.proofs.Halting.{some_then}
+use Rattle.ciborium.proofs.FillLemmas.{fills_none, fills_end, fills_give, fills_leaf, fills_fail, leaf_asked_fails, listed_in_hand}
+use Rattle.ciborium.proofs.frames.fill.Goals as goal
+
+pub parts-init : goal.parts-init
+parts-init g c = record { taken = takes_none _ _ _ (fills_none c.args.top.now _ _); half = c.requires.half; same = refl; failed = refl; kept = refl; fresh = c.requires.fresh }
+
+pub returns-in-None-clause-none : goal.returns-in-None-clause-none
+returns-in-None-clause-none g c =
+    fills_end c.args.top.now c.parts.top (seen g.R.Read c.args.decoder.now) (seen g.R.Read c.parts.decoder) (seen g.R.Read c.ask.new.decoder) (g.X.Exactness.flag c.args.exact.now) (g.X.Exactness.flag c.parts.exact) (g.X.Exactness.flag c.ask.new.exact)
+    (rw c.in-None.is at c.in_ok-part.ensures.same) c.parts.invariant.taken (rw c.in-None.is at c.in_ok-part.ensures.none)
+
+pub returns-then-not-takes-clause-some : goal.returns-then-not-takes-clause-some
+returns-then-not-takes-clause-some g c =
+    fills_give c.args.top.now c.parts.top c.in-Some.header c.in-Some.at (seen g.R.Read c.args.decoder.now) (seen g.R.Read c.parts.decoder) (seen g.R.Read c.ask.new.decoder) (g.X.Exactness.flag c.args.exact.now) (g.X.Exactness.flag c.parts.exact) (g.X.Exactness.flag c.ask.new.exact)
+    c.parts.invariant.taken (rw c.in-Some.is at c.in_ok-part.ensures.some)
+
+pub returns-then-not-takes-clause-moved : goal.returns-then-not-takes-clause-moved
+returns-then-not-takes-clause-moved g c = omega (arith, rw c.in-Some.is at c.in_ok-part.ensures.moved, c.parts.invariant.same, c.parts.invariant.taken.grown)
+
+pub returns-in_err-part-clause-err : goal.returns-in_err-part-clause-err
+returns-in_err-part-clause-err g c =
+    let p = err_from_is_err_and c.from_residual.result c.from_residual.ensures.1 in
+    rw (p.1, p.2)
+    (fills_fail g.R.Read.ends c.args.top.now c.parts.top (seen g.R.Read c.args.decoder.now) (seen g.R.Read c.parts.decoder) (seen g.R.Read c.ask.new.decoder) (g.X.Exactness.flag c.args.exact.now) (g.X.Exactness.flag c.parts.exact) _ c.parts.invariant.taken c.in_err-part.ensures.err)
+
+pub returns-in_err-put_leaf-in-Some-clause-err : goal.returns-in_err-put_leaf-in-Some-clause-err
+returns-in_err-put_leaf-in-Some-clause-err g c =
+    let p = err_from_is_err_and c.from_residual-in_err-put_leaf-in-Some.result c.from_residual-in_err-put_leaf-in-Some.ensures.1 in
+    rw (p.1, p.2)
+    (fills_fail g.R.Read.ends c.args.top.now c.parts.top (seen g.R.Read c.args.decoder.now) (seen g.R.Read c.parts.decoder) (seen g.R.Read c.put_leaf.new.decoder) (g.X.Exactness.flag c.args.exact.now) (g.X.Exactness.flag c.parts.exact) _ c.parts.invariant.taken
+    (leaf_asked_fails g.R.Read.ends c.parts.top c.in-Some.header c.in-Some.at (seen g.R.Read c.parts.decoder) (seen g.R.Read c.ask.new.decoder) (seen g.R.Read c.put_leaf.new.decoder) (g.X.Exactness.flag c.parts.exact) (g.X.Exactness.flag c.ask.new.exact) _
+    (rw c.in-Some.is at c.in_ok-part.ensures.some) c.in_err-put_leaf-in-Some.ensures.err))
+
+pub returns-in_err-part-clause-stops : goal.returns-in_err-part-clause-stops
+returns-in_err-part-clause-stops g c =
+    let p = err_from_is_err_and c.from_residual.result c.from_residual.ensures.1 in
+    rw (p.1, p.2) (some_then _ _ _ c.parts.invariant.taken c.in_err-part.ensures.stops)
+
+pub returns-in_err-put_leaf-in-Some-clause-stops : goal.returns-in_err-put_leaf-in-Some-clause-stops
+returns-in_err-put_leaf-in-Some-clause-stops g c =
+    let p = err_from_is_err_and c.from_residual-in_err-put_leaf-in-Some.result c.from_residual-in_err-put_leaf-in-Some.ensures.1 in
+    rw (p.1, p.2) (some_then _ _ _ c.parts.invariant.taken (some_then _ _ _ (rw c.in-Some.is at c.in_ok-part.ensures.some) c.in_err-put_leaf-in-Some.ensures.stops))
+
+pub put_leaf-requires-clause-list : goal.put_leaf-requires-clause-list
+put_leaf-requires-clause-list g c = (rw c.if-not-takes.false at c.takes.ensures).0
+
+pub put_leaf-requires-clause-leaf : goal.put_leaf-requires-clause-leaf
+put_leaf-requires-clause-leaf g c = (rw c.if-not-takes.false at c.takes.ensures).1
+
+pub parts-preserved : goal.parts-preserved
+parts-preserved g c =
+    let p = c.in_ok-put_leaf-in-Some.ensures.ok in
+    record {
+      taken = fills_leaf c.args.top.now c.parts.top c.put_leaf.new.top c.in-Some.header c.in-Some.at p.0 (seen g.R.Read c.args.decoder.now) (seen g.R.Read c.parts.decoder) (seen g.R.Read c.ask.new.decoder) (seen g.R.Read c.put_leaf.new.decoder)
+          (g.X.Exactness.flag c.args.exact.now) (g.X.Exactness.flag c.parts.exact) (g.X.Exactness.flag c.ask.new.exact) c.parts.invariant.taken (rw c.in-Some.is at c.in_ok-part.ensures.some) (rw c.if-not-takes.false at c.takes.ensures).1 p.1 p.2;
+      half = c.in_ok-put_leaf-in-Some.ensures.half;
+      same = search rules;
+      failed = search rules;
+      kept = search rules;
+      fresh = search rules;
+    }
+
+pub parts-smaller : goal.parts-smaller
+parts-smaller g c =
+    let e = listed_in_hand c.parts.top (rw c.if-not-takes.false at c.takes.ensures).0 in
+    omega (arith, e, rw c.in-Some.is at c.in_ok-part.ensures.moved, c.in_ok-put_leaf-in-Some.ensures.ok.1.grown, c.put_leaf.new.decoder.fits)

@@ -1,0 +1,18 @@
+use Rattle.std.proofs.Common.{◌≡◌, ◌-◌, ◌^◌, None}
+use Rattle.ciborium_ll.specs.Seen.{Takes}
+use Rattle.ciborium_ll.specs.Views.{offset_of, waiting_of, reader_of, seen}
+use Rattle.ciborium.specs.Frames.{HalfIn, in_hand, Fills}
+use Rattle.ciborium.proofs.frames.fill.Given as goal
+
+abbrev pub invariant-parts : goal.invariant-parts
+invariant-parts g l = record {
+  taken : Takes (seen g.R.Read l.fn.decoder) (seen g.R.Read l.decoder) (Fills l.fn.top l.top (offset_of l.fn.decoder) (g.X.Exactness.flag l.fn.exact) (g.X.Exactness.flag l.exact));
+  half : HalfIn l.top;
+  same : in_hand None l.top ≡ in_hand None l.fn.top;
+  failed : g.R.Read.failed (reader_of l.decoder) ≡ g.R.Read.failed (reader_of l.fn.decoder);
+  kept : g.R.Read.handle (reader_of l.decoder) ≡ g.R.Read.handle (reader_of l.fn.decoder);
+  fresh : waiting_of l.decoder ≡ None;
+}
+
+abbrev pub decreases-parts : goal.decreases-parts
+decreases-parts g l = 2 ^ 64 - offset_of l.decoder

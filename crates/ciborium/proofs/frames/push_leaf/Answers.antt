@@ -1,0 +1,39 @@
+use Rattle.std.proofs.Common.{arith, ap, sym, ◌∙◌, Some, pos, negsuc}
+use Rattle.std.proofs.lemmas.Result.{err_from_is_err_and}
+use Rattle.ciborium_ll.specs.declared.hdr.Header.TheVariants.{Positive, Negative}
+use Rattle.ciborium_value.specs.declared.value.Value.TheVariants as value
+use Rattle.ciborium_value.specs.Tree as spec
+use Rattle.ciborium_value.specs.View.{view}
+use Rattle.ciborium_value.proofs.Views.{view_integer, view_bytes, view_text}
+use Rattle.ciborium.proofs.Taking.{takes_as}
+use Rattle.ciborium.proofs.ReadLemmas.{leaf, bytes_read, text_read}
+use Rattle.ciborium.proofs.Steps.{bytes_fail, text_fail}
+use Rattle.ciborium.proofs.frames.push_leaf.Goals as goal
+
+pub returns-in-Ok-clause-ok : goal.returns-in-Ok-clause-ok
+returns-in-Ok-clause-ok g c =
+    rw c.in-Positive.is
+    (value.Integer c.from.result, leaf (Positive c.in-Positive.n) (spec.integer (pos c.in-Positive.n)) (view (value.Integer c.from.result)) _ _ (λ title t. t) (omega arith) (ap Some (sym (view_integer _ ∙ ap spec.integer c.from.ensures))), c.in-Ok.ensures.items)
+
+pub returns-in-Ok-push-clause-ok : goal.returns-in-Ok-push-clause-ok
+returns-in-Ok-push-clause-ok g c =
+    rw c.in-Negative.is
+    (value.Integer c.negative.result, leaf (Negative c.in-Negative.n) (spec.integer (negsuc c.in-Negative.n)) (view (value.Integer c.negative.result)) _ _ (λ title t. t) (omega arith) (ap Some (sym (view_integer _ ∙ ap spec.integer c.negative.ensures))), c.in-Ok-push.ensures.items)
+
+pub returns-in-Ok-push-2-clause-ok : goal.returns-in-Ok-push-2-clause-ok
+returns-in-Ok-push-2-clause-ok g c =
+    rw c.in-Bytes.is (value.Bytes c.in_ok-bytes-in-Bytes.bytes, takes_as _ _ _ _ _ _ c.in_ok-bytes-in-Bytes.ensures.ok (λ x s limit. bytes_read _ limit _ _ x (view_bytes _) s), c.in-Ok-push-2.ensures.items)
+
+pub returns-in-Ok-push-3-clause-ok : goal.returns-in-Ok-push-3-clause-ok
+returns-in-Ok-push-3-clause-ok g c =
+    rw c.in-Text.is (value.Text c.in_ok-text-in-Text.text, takes_as _ _ _ _ _ _ c.in_ok-text-in-Text.ensures.ok (λ x s limit. text_read _ limit _ _ x (view_text _) s), c.in-Ok-push-3.ensures.items)
+
+pub returns-in_err-bytes-in-Bytes-clause-err : goal.returns-in_err-bytes-in-Bytes-clause-err
+returns-in_err-bytes-in-Bytes-clause-err g c =
+    let p = err_from_is_err_and c.from_residual.result c.from_residual.ensures.1 in
+    rw (p.1, p.2) (rw c.in-Bytes.is (λ limit. bytes_fail g.R.Read.ends c.in-Bytes.length _ limit _ _ _ _ c.in_err-bytes-in-Bytes.ensures.err))
+
+pub returns-in_err-text-in-Text-clause-err : goal.returns-in_err-text-in-Text-clause-err
+returns-in_err-text-in-Text-clause-err g c =
+    let p = err_from_is_err_and c.from_residual-in_err-text-in-Text.result c.from_residual-in_err-text-in-Text.ensures.1 in
+    rw (p.1, p.2) (rw c.in-Text.is (λ limit. text_fail g.R.Read.ends c.in-Text.length _ limit _ _ _ _ c.in_err-text-in-Text.ensures.err))
