@@ -1,9 +1,11 @@
 -- Lemmas on a title that is read byte by byte.
-use Rattle.std.proofs.Common.{◌≡◌, ◌≤◌, ◌+◌, ◌/◌, ◌%◌, ◌^◌, ◌<◌, ℕ, Bool, List, [], ◌∷◌, ◌++◌, length, Option, None, Some, Result, Ok, Err, refl, ap, subst, arith, get_or}
-use Rattle.std.specs.Prelude.{⊤, IfOk}
+use Rattle.std.proofs.Common.{◌≡◌, ◌≤◌, suc, ◌+◌, ◌/◌, ◌%◌, ◌^◌, ◌<◌, ℕ, Bool, List, [], ◌∷◌, ◌++◌, length, Option, None, Some, Result, Ok, Err, refl, sym, ◌∙◌, ap, subst, arith, get_or, take, drop, take-append-drop, take-take, length-take-le}
+use Rattle.std.proofs.lemmas.List.{take-append-le}
+use Rattle.std.specs.Prelude.{⊤, IfOk, IfSome}
+use Rattle.std.specs.Io.{StartsWith}
 use Rattle.std.specs.Io.KnownBytes.{Consumes, Keeps}
 use Rattle.std.proofs.KnownBytes.{Consumes-trans, Consumes-nil}
-use Rattle.ciborium_ll.specs.Device.{IsShort}
+use Rattle.ciborium_ll.specs.Device.{IsShort, Drops}
 use Rattle.ciborium_ll.specs.declared.hdr.Header.{Header}
 use Rattle.ciborium_ll.specs.declared.hdr.Error.{Error}
 use Rattle.ciborium_ll.specs.declared.hdr.Error.TheVariants.{Io, Syntax, TooLong, Waiting}
@@ -129,3 +131,50 @@ halts_behind ends left left₁ left₂ read read₁ read₂ first bytes short lo
     go (Syntax p) t r = tt
     go TooLong t r = rw (f r) (record { bytes = first ∷ []; has = wide'; taken = taken'; grown = omega arith })
     go Waiting t r = t
+
+-- the first n bytes at hand are those that were taken
+pub hand_taken : (left left' : Option (List ℕ)) (n : ℕ) (held : List ℕ) → IfSome left (λ xs. StartsWith xs held) → Drops left left' n → n ≤ length held
+    → Consumes left left' (take n held)
+hand_taken None left' n held front drops within = tt
+hand_taken (Some xs) left' n held front drops within =
+    let same : take n held ≡ take n xs = subst (λ (ys : List ℕ). take n ys ≡ take n xs) front (taken xs) in
+    rw drops (sym (take-append-drop n xs) ∙ ap (λ ys. ys ++ drop n xs) (sym same))
+  where
+    taken : (xs : List ℕ) → take n (take (length held) xs) ≡ take n xs
+    taken xs = take-take n (length held) xs within
+
+-- the eight bytes at hand behind the first
+abbrev pub eight_of : List ℕ → List ℕ
+eight_of held = get_or held 1 0 ∷ get_or held 2 0 ∷ get_or held 3 0 ∷ get_or held 4 0 ∷ get_or held 5 0 ∷ get_or held 6 0 ∷ get_or held 7 0 ∷ get_or held 8 0 ∷ []
+
+nine_cells : (held : List ℕ) (size : ℕ) → 9 ≤ length held → size ≤ 8 → take (1 + size) held ≡ get_or held 0 0 ∷ take size (eight_of held)
+nine_cells [] size long small = absurd (omega arith)
+nine_cells (a ∷ []) size long small = absurd (omega arith)
+nine_cells (a ∷ b ∷ []) size long small = absurd (omega arith)
+nine_cells (a ∷ b ∷ c ∷ []) size long small = absurd (omega arith)
+nine_cells (a ∷ b ∷ c ∷ d ∷ []) size long small = absurd (omega arith)
+nine_cells (a ∷ b ∷ c ∷ d ∷ e ∷ []) size long small = absurd (omega arith)
+nine_cells (a ∷ b ∷ c ∷ d ∷ e ∷ f ∷ []) size long small = absurd (omega arith)
+nine_cells (a ∷ b ∷ c ∷ d ∷ e ∷ f ∷ g ∷ []) size long small = absurd (omega arith)
+nine_cells (a ∷ b ∷ c ∷ d ∷ e ∷ f ∷ g ∷ h ∷ []) size long small = absurd (omega arith)
+nine_cells (a ∷ b ∷ c ∷ d ∷ e ∷ f ∷ g ∷ h ∷ i ∷ rest) size long small =
+    let one : 1 + size ≡ suc size = omega arith in
+    rw one (ap (λ ys. a ∷ ys) (take-append-le size (b ∷ c ∷ d ∷ e ∷ f ∷ g ∷ h ∷ i ∷ []) rest small))
+
+-- a title whose bytes are at hand
+pub title_at_hand : (left left' : Option (List ℕ)) (read size n : ℕ) (held : List ℕ) (Q : List ℕ → Type 0)
+    → 9 ≤ length held → IfSome left (λ xs. StartsWith xs held) → Drops left left' (1 + size) → size ≤ 8
+    → NumberAt (get_or held 0 0 % 32) (take size (eight_of held)) n
+    → ((bytes : List ℕ) → NumberAt (get_or held 0 0 % 32) bytes n → Q (first_byte (get_or held 0 0 / 32) (get_or held 0 0 % 32) ∷ bytes))
+    → Moves left left' read (read + (1 + size)) Q
+title_at_hand left left' read size n held Q long front drops small number title =
+    let first = get_or held 0 0 in
+    let whole : first_byte (first / 32) (first % 32) ≡ first = omega arith in
+    let bytes = take size (eight_of held) in
+    let count : length bytes ≡ size = length-take-le size (eight_of held) small in
+    record {
+      bytes = first ∷ bytes;
+      has = subst (λ (x : ℕ). Q (x ∷ bytes)) whole (title bytes number);
+      taken = subst (λ (xs : List ℕ). Consumes left left' xs) (nine_cells held size long small) (hand_taken left left' (1 + size) held front drops (omega arith));
+      grown = omega arith;
+    }

@@ -1,6 +1,7 @@
 -- What a clause sees of a decoder, an encoder and the devices.
 use Rattle.std.specs.Prelude.{ℕ, ◌-◌, ◌/◌, ◌%◌, List, Bool, Option, length, take}
 use denote.MutBor.{MutBor}
+use Rattle.ciborium_ll.specs.Count.{total}
 use Rattle.ciborium_ll.specs.declared.hdr.Header.{Header}
 use Rattle.ciborium_ll.specs.declared.dec.Decoder.{Decoder}
 use Rattle.ciborium_ll.specs.declared.enc.Encoder.{Encoder}
@@ -56,7 +57,7 @@ abbrev pub taken_of : {T : Type 0} → Mem T → ℕ
 taken_of m = m.len
 
 abbrev pub memory_failures : {T : Type 0} → Mem T → ℕ
-memory_failures m = m.failed.total
+memory_failures m = total m.failed
 
 -- what was written of a slice, and how many bytes it has room for
 abbrev pub filled_of : Mem (MutBor (List ℕ)) → List ℕ
@@ -70,4 +71,4 @@ abbrev pub device_of : {T : Type 0} → Io T → T
 device_of d = d.inner
 
 abbrev pub device_failures : {T : Type 0} → Io T → ℕ
-device_failures d = d.failed.total
+device_failures d = total d.failed

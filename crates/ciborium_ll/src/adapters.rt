@@ -2,6 +2,7 @@
 ghost use Rattle.std.specs.Prelude.{◌≡◌, ◌+◌, ℕ};
 ghost use Rattle.ciborium_ll.specs.Device.{read_failures};
 ghost use Rattle.ciborium_ll.specs.Fault.{is_end_fault, moved_of};
+ghost use Rattle.ciborium_ll.specs.Count.{total};
 
 use crate::count::Count;
 use crate::read::Read;
@@ -90,7 +91,7 @@ impl<R: io::Read> Read for Io<R> {
 
     ghost left = { λ r. R.remaining r.inner };
 
-    ghost failed = { λ r. r.failed.total };
+    ghost failed = { λ r. total r.failed };
 
     ghost ends = { is_end_fault };
 
@@ -117,7 +118,7 @@ impl<W: io::Write> Write for Io<W> {
 
     ghost written = { λ w. W.contents w.inner };
 
-    ghost failed = { λ w. w.failed.total };
+    ghost failed = { λ w. total w.failed };
 
     fn write_all(&mut self, data: &[u8]) -> Result<(), IoFault> {
         let mut at = 0;

@@ -1,7 +1,8 @@
 //! Reads heads and bytes.
-ghost use Rattle.std.specs.Prelude.{◌≡◌, ◌≢◌, ◌<◌, ◌≤◌, ◌+◌, ◌^◌, ◌∷◌, [], ℕ, List, ⊤, OnOk, OnErr};
+ghost use Rattle.std.specs.Prelude.{◌≡◌, ◌≢◌, ◌<◌, ◌≤◌, ◌+◌, ◌^◌, ◌∷◌, ◌++◌, [], ℕ, List, ⊤};
+ghost use Rattle.std.specs.Prelude.{OnOk, OnErr, IsTrue, IsFalse};
 ghost use Rattle.std.specs.Prelude.{IfOk, IfErr, IfSome, IfNone};
-ghost use Rattle.std.specs.Prelude.{is_some, length, slice_index_or};
+ghost use Rattle.std.specs.Prelude.{is_some, length, take, slice_index_or};
 ghost use Rattle.std.specs.Io.KnownBytes.{Consumes, Keeps, prepend_known};
 ghost use Rattle.ciborium_ll.specs.Device.{IsShort};
 ghost use Rattle.ciborium_ll.specs.declared.hdr.Header.{Header};
@@ -13,6 +14,7 @@ ghost use Rattle.ciborium_ll.specs.Reading.{Tells, RawFault, IfRefused, waiting_
 use crate::hdr::{Error, Float, Header};
 use crate::laws::header_fits;
 use crate::read::Read;
+use std::alloc::AllocError;
 
 /// Reads headers and bytes from a reader, and keeps the offset: how many bytes it has taken.
 ///
@@ -75,13 +77,9 @@ impl<R: Read> Decoder<R> {
         if usize::MAX - self.read < data.len() {
             return Err(Error::TooLong);
         }
-        match self.reader.read_exact(data) {
-            Ok(()) => {
-                self.read += data.len();
-                Ok(())
-            }
-            Err(e) => Err(Error::Io(e)),
-        }
+        self.reader.read_exact(data).map_err(Error::Io)?;
+        self.read += data.len();
+        Ok(())
     }
 
     fn number(&mut self, info: u8) -> Result<u64, Error<R::Error>>
@@ -187,6 +185,42 @@ impl<R: Read> Decoder<R> {
         self.fill(data)
     }
 
+    /// Appends the next n bytes to a vector and takes them, if the reader has so many at hand, and
+    /// says whether it did. After `Ok(false)` nothing has changed, and the bytes may still come by
+    /// `read_exact`; so it is while a header waits, and where the offset would pass `usize::MAX`.
+    ///
+    /// # Errors
+    /// Out of memory; then no byte is taken, and the vector holds what it held.
+    pub fn append_held(&mut self, n: usize, into: &mut Vec<u8>) -> Result<bool, AllocError>
+        ensures ok { IfOk result (λ done. IsTrue done
+            → Takes (seen R.Read self.old) (seen R.Read self.new)
+            (λ b. (length b ≡ n) × (into.new.items ≡ into.old.items ++ b))) }
+        ensures none { IfOk result (λ done. IsFalse done
+            → (self.new ≡ self.old) × (into.new.items ≡ into.old.items)) }
+        ensures err { OnErr result ((self.new ≡ self.old)
+            × (into.new.items ≡ into.old.items)) }
+        ensures fits { offset_of self.new < 2 ^ 64 }
+        ensures failed { R.failed (reader_of self.new) ≡ R.failed (reader_of self.old) }
+        ensures handle { R.handle (reader_of self.new) ≡ R.handle (reader_of self.old) }
+        ensures waiting { waiting_of self.new ≡ waiting_of self.old }
+        ensures same { shortest_of self.new ≡ shortest_of self.old }
+    {
+        if self.is_waiting() || usize::MAX - self.read < n {
+            return Ok(false);
+        }
+        let Some((front, _)) = self.reader.held().split_at_checked(n) else {
+            return Ok(false);
+        };
+        let len = into.len();
+        into.extend_from_slice(front)?;
+        if !self.reader.take(n) {
+            into.truncate(len);
+            return Ok(false);
+        }
+        self.read += n;
+        Ok(true)
+    }
+
     /// Puts a header back; the next `pull` gives it. The offset goes back by its shortest title.
     pub fn push(&mut self, header: Header)
         requires fresh { waiting_of self.old ≡ None }
@@ -249,6 +283,57 @@ impl<R: Read> Decoder<R> {
         ensures shortest { IfOk result (λ h. Takes (raw R.Read self.old) (raw R.Read self.new)
             (λ b. Title b h × IsShortest (shortest_of self.new) b h)) }
     {
+        match self.held_title() {
+            Some(header) => Ok(header),
+            None => self.read_title(),
+        }
+    }
+
+    /// The next title, if nine bytes are at hand and it has a number; it is taken then.
+    fn held_title(&mut self) -> Option<Header>
+        requires { self.old.waiting ≡ None }
+        ensures some { IfSome result (λ h. Takes (raw R.Read self.old) (raw R.Read self.new)
+            (λ b. Title b h × IsShortest (shortest_of self.new) b h)) }
+        ensures none { IfNone result (self.new ≡ self.old) }
+        ensures failed { R.failed self.new.reader ≡ R.failed self.old.reader }
+        ensures handle { R.handle self.new.reader ≡ R.handle self.old.reader }
+        ensures fresh { self.new.waiting ≡ None }
+    {
+        if self.read > usize::MAX - 9 {
+            return None;
+        }
+        let [first, a, b, c, d, e, f, g, h, ..] = self.reader.held() else {
+            return None;
+        };
+        let first = *first;
+        let next = [*a, *b, *c, *d, *e, *f, *g, *h];
+        let info = first % 32;
+        if info > 27 {
+            return None;
+        }
+        let (number, size) = number_at_hand(info, next);
+        if !self.reader.take(1 + size) {
+            return None;
+        }
+        self.read += 1 + size;
+        self.first = first;
+        self.number = number;
+        Some(with_number(first / 32, info, number))
+    }
+
+    fn read_title(&mut self) -> Result<Header, Error<R::Error>>
+        requires { self.old.waiting ≡ None }
+        ensures ok { IfOk result (λ h. Takes (raw R.Read self.old) (raw R.Read self.new)
+            (λ b. Title b h)) }
+        ensures fault { IfErr result (TitleTells R.ends (raw R.Read self.old)
+            (raw R.Read self.new)) }
+        ensures stops { IfErr result (TitleStops (raw R.Read self.old) (raw R.Read self.new)) }
+        ensures grows { self.old.read ≤ self.new.read }
+        ensures steady { Steady R.ends result (raw R.Read self.old) (raw R.Read self.new) }
+        ensures fresh { self.new.waiting ≡ None }
+        ensures shortest { IfOk result (λ h. Takes (raw R.Read self.old) (raw R.Read self.new)
+            (λ b. Title b h × IsShortest (shortest_of self.new) b h)) }
+    {
         let start = self.read;
         let mut first = [0; 1];
         self.fill(&mut first)?;
@@ -266,6 +351,23 @@ impl<R: Read> Decoder<R> {
         self.first = first;
         self.number = n;
         Ok(with_number(major, info, n))
+    }
+}
+
+/// The number of a title whose first byte has this information, and how many of the next eight
+/// bytes it takes.
+fn number_at_hand(info: u8, next: [u8; 8]) -> (u64, usize)
+    requires { info < 28 }
+    ensures number { NumberAt info (take result.1 next) result.0 }
+    ensures size { result.1 ≤ 8 }
+{
+    let [a, b, c, d, _, _, _, _] = next;
+    match info {
+        24 => (u64::from(a), 1),
+        25 => (u64::from(u16::from_be_bytes([a, b])), 2),
+        26 => (u64::from(u32::from_be_bytes([a, b, c, d])), 4),
+        27 => (u64::from_be_bytes(next), 8),
+        _ => (u64::from(info), 0),
     }
 }
 

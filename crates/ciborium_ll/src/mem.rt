@@ -1,6 +1,7 @@
 //! Writers over memory.
 ghost use Rattle.std.specs.Prelude.{◌≡◌, ◌<◌, ◌-◌, ◌++◌, Some, OnOk, OnErr, take, drop, length};
 ghost use Rattle.ciborium_ll.specs.Device.{AppendsFront, write_failures};
+ghost use Rattle.ciborium_ll.specs.Count.{total};
 
 use crate::count::Count;
 use crate::write::Write;
@@ -79,7 +80,7 @@ impl Write for Mem<Vec<u8>> {
 
     ghost written = { λ m. Some m.inner.items };
 
-    ghost failed = { λ m. m.failed.total };
+    ghost failed = { λ m. total m.failed };
 
     ghost use Rattle.ciborium_ll.specs.Views.{memory_of, memory_failures};
 
@@ -110,7 +111,7 @@ impl Write for Mem<&mut [u8]> {
 
     ghost written = { λ m. Some (take m.len m.inner.now) };
 
-    ghost failed = { λ m. m.failed.total };
+    ghost failed = { λ m. total m.failed };
 
     ghost use Rattle.ciborium_ll.specs.Views.{memory_of, taken_of, filled_of, room_of};
     ghost use Rattle.ciborium_ll.specs.Views.{memory_failures};

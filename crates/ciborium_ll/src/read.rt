@@ -1,8 +1,10 @@
 //! What bytes are read from.
-ghost use Rattle.std.specs.Prelude.{◌≡◌, ◌∷◌, [], ℕ, List, length, Bool, true, Some, OnOk, OnErr};
+ghost use Rattle.std.specs.Prelude.{◌≡◌, ◌≤◌, ◌∷◌, [], ℕ, List, length};
+ghost use Rattle.std.specs.Prelude.{Bool, true, not, Some, OnOk, OnErr, IfSome};
 ghost use Rattle.std.specs.Prelude.{IfErr, IsTrue};
 ghost use Rattle.std.specs.Io.KnownBytes.{Keeps, Consumes};
-ghost use Rattle.ciborium_ll.specs.Device.{IsShort, read_failures};
+ghost use Rattle.std.specs.Io.{StartsWith};
+ghost use Rattle.ciborium_ll.specs.Device.{IsShort, Drops, read_failures};
 ghost use Rattle.std.specs.declared.option.Option.{Option};
 
 use thiserror::Error;
@@ -25,6 +27,9 @@ pub trait Read {
     /// Whether a fault is an end of the bytes.
     ghost ends: { Self.Error → Bool };
 
+    /// How many bytes are at hand at most.
+    ghost at_hand: { Self → ℕ } = { λ _. 0 };
+
     /// Which references it goes through, the outermost first: a reader that is lent comes back as
     /// itself.
     ghost handle: { Self → List ℕ } = { λ _. [] };
@@ -44,6 +49,26 @@ pub trait Read {
         ensures kept { handle self.new ≡ handle self.old }
         ensures failed { failed self.new ≡ read_failures ends result (failed self.old) };
 
+    /// Bytes at hand: the next ones, as far as they can be seen without a read. There may be none.
+    fn held(&self) -> &[u8]
+        ensures front { IfSome (left self.now) (λ xs. StartsWith xs result.now) }
+        ensures within { length result.now ≤ at_hand self.now }
+    {
+        &[]
+    }
+
+    /// Takes the next n bytes, which are at hand, and says whether it did. Otherwise nothing has
+    /// changed. It never fails. A reader with a `held` of its own has a `take` of its own.
+    fn take(&mut self, n: usize) -> bool
+        requires { n ≤ at_hand self.old }
+        ensures taken { IsTrue result → Drops (left self.old) (left self.new) n }
+        ensures none { IsTrue (not result) → self.new ≡ self.old }
+        ensures kept { handle self.new ≡ handle self.old }
+        ensures failed { failed self.new ≡ failed self.old }
+    {
+        false
+    }
+
     /// Whether the fault is an end of the bytes.
     fn is_end(error: &Self::Error) -> bool
         ensures { result ≡ ends error.now };
@@ -58,6 +83,8 @@ impl Read for &[u8] {
     type Error = End;
 
     ghost left = { λ s. Some s.now };
+
+    ghost at_hand = { λ s. length s.now };
 
     ghost failed = { λ _. 0 };
 
@@ -82,6 +109,27 @@ impl Read for &[u8] {
         Ok(())
     }
 
+    fn held(&self) -> &[u8]
+        ensures front { IfSome (Some self.now.now) (λ xs. StartsWith xs result.now) }
+        ensures within { length result.now ≤ length self.now.now }
+        ensures all { result.now ≡ self.now.now }
+    {
+        let all: &[u8] = *self;
+        all
+    }
+
+    fn take(&mut self, n: usize) -> bool
+        requires { n ≤ length self.old.now }
+        ensures taken { IsTrue result → Drops (Some self.old.now) (Some self.new.now) n }
+        ensures none { IsTrue (not result) → self.new ≡ self.old }
+        ensures done { result ≡ true }
+    {
+        let all: &[u8] = *self;
+        let (_, rest) = all.split_at(n);
+        *self = rest;
+        true
+    }
+
     fn is_end(_error: &End) -> bool
         ensures { result ≡ true }
     {
@@ -94,6 +142,8 @@ impl<R: Read> Read for &mut R {
 
     ghost left = { λ r. R.left r.now };
 
+    ghost at_hand = { λ r. R.at_hand r.now };
+
     ghost failed = { λ r. R.failed r.now };
 
     ghost ends = { R.ends };
@@ -102,6 +152,14 @@ impl<R: Read> Read for &mut R {
 
     fn read_exact(&mut self, data: &mut [u8]) -> Result<(), R::Error> {
         (**self).read_exact(data)
+    }
+
+    fn held(&self) -> &[u8] {
+        (**self).held()
+    }
+
+    fn take(&mut self, n: usize) -> bool {
+        (**self).take(n)
     }
 
     fn is_end(error: &R::Error) -> bool {

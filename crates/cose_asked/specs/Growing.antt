@@ -1,5 +1,6 @@
 -- What is seen of a writer over memory.
 use Rattle.std.specs.Prelude.{ℕ, ◌+◌, List, Bool, true, false}
+use Rattle.ciborium_ll.specs.Count.{total}
 use Rattle.cose_asked.specs.declared.growing.Growing.{Growing}
 use Rattle.cose_asked.specs.declared.growing.Refusals.{Refusals}
 use Rattle.cose_asked.specs.declared.growing.Refusals.TheVariants.{Never, AndThen}
@@ -10,7 +11,7 @@ text_of w = w.text.items
 
 abbrev pub times : Refusals → ℕ
 times Never = 0
-times (AndThen count) = count.total + 1
+times (AndThen count) = total count + 1
 
 -- how often memory was refused, and whether it was
 abbrev pub failures_of : Growing → ℕ

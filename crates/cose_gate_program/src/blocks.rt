@@ -3,6 +3,7 @@
 ghost use Rattle.std.specs.Prelude.{◌≡◌, ◌<◌, MatchBool, OnOk, IfErr, IsTrue, length};
 ghost use Rattle.std.specs.Io.KnownBytes.{Consumes, Keeps};
 ghost use Rattle.std.specs.Io.Buffered.{reader_buffer};
+ghost use Rattle.ciborium_ll.specs.Count.{total};
 ghost use Rattle.ciborium_ll.specs.Device.{IsShort};
 ghost use Rattle.cose_gate_program.specs.Faults.{is_end, read_length_of};
 ghost use Rattle.cose_gate_program.specs.InBlocks.{blocks_reader, blocks_failures, left_of_blocks};
@@ -88,7 +89,7 @@ impl<R: io::Read> Read for Blocks<R> {
 
     ghost left = { λ b. left_of_blocks R.remaining b };
 
-    ghost failed = { λ b. b.failed.total };
+    ghost failed = { λ b. total b.failed };
 
     ghost ends = { is_end };
 

@@ -40,12 +40,13 @@ impl<'a> Source<'a> {
 
 impl<'a> Read for Source<'a> {
     ghost use Rattle.std.specs.Prelude.{◌≡◌, Some, false};
+    ghost use Rattle.ciborium_ll.specs.Count.{total};
 
     type Error = Broken;
 
     ghost left = { λ s. Some s.bytes.now };
 
-    ghost failed = { λ s. s.failed.total };
+    ghost failed = { λ s. total s.failed };
 
     ghost ends = { λ _. false };
 
@@ -92,12 +93,13 @@ impl Sink {
 
 impl Write for Sink {
     ghost use Rattle.std.specs.Prelude.{Some};
+    ghost use Rattle.ciborium_ll.specs.Count.{total};
 
     type Error = Broken;
 
     ghost written = { λ s. Some s.bytes.items };
 
-    ghost failed = { λ s. s.failed.total };
+    ghost failed = { λ s. total s.failed };
 
     fn write_all(&mut self, data: &[u8]) -> Result<(), Broken> {
         let is_taken = self.calls > 0;
@@ -137,12 +139,13 @@ impl FailAfter {
 
 impl Write for FailAfter {
     ghost use Rattle.std.specs.Prelude.{Some};
+    ghost use Rattle.ciborium_ll.specs.Count.{total};
 
     type Error = Broken;
 
     ghost written = { λ s. Some s.bytes.items };
 
-    ghost failed = { λ s. s.failed.total };
+    ghost failed = { λ s. total s.failed };
 
     fn write_all(&mut self, data: &[u8]) -> Result<(), Broken> {
         if data.len() <= self.left && self.bytes.extend_from_slice(data).is_ok() {
@@ -185,12 +188,13 @@ impl Held {
 
 impl Write for Held {
     ghost use Rattle.std.specs.Prelude.{Some};
+    ghost use Rattle.ciborium_ll.specs.Count.{total};
 
     type Error = Broken;
 
     ghost written = { λ s. Some s.bytes.items };
 
-    ghost failed = { λ s. s.failed.total };
+    ghost failed = { λ s. total s.failed };
 
     fn write_all(&mut self, data: &[u8]) -> Result<(), Broken> {
         if self.bytes.extend_from_slice(data).is_ok() {

@@ -30,13 +30,14 @@ impl<'a> Device<'a> {
 
 impl<'a> Read for Device<'a> {
     ghost use Rattle.std.specs.Prelude.{◌≡◌, Some};
+    ghost use Rattle.ciborium_ll.specs.Count.{total};
 
     /// Whether a device that gave no bytes ended.
     type Error = bool;
 
     ghost left = { λ d. Some d.bytes.now };
 
-    ghost failed = { λ d. d.failed.total };
+    ghost failed = { λ d. total d.failed };
 
     ghost ends = { λ e. e };
 

@@ -5,7 +5,7 @@ use Rattle.ciborium_ll.proofs.Pulling.{tells_before, open_taken, title_taken, on
 use Rattle.ciborium_ll.proofs.Shortest.{open_needs}
 use Rattle.ciborium_ll.specs.declared.dec.Decoder.{Decoder}
 use Rattle.ciborium_ll.specs.Views.{raw}
-use Rattle.ciborium_ll.proofs.dec.Decoder.pull_title.Goals as goal
+use Rattle.ciborium_ll.proofs.dec.Decoder.read_title.Goals as goal
 
 pub returns-in_err-fill-clause-fault : goal.returns-in_err-fill-clause-fault
 returns-in_err-fill-clause-fault g c =
