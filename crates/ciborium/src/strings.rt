@@ -75,7 +75,38 @@ fn make_room(into: &mut Vec<u8>, got: usize, rest: usize) -> Result<(), AllocErr
     into.reserve_exact(more)
 }
 
-/// The next bytes, so many, in one piece, in the space that there is for them.
+/// The next bytes, so many, in one piece that the reader fills, in this room.
+fn fill_piece<R: Read>(
+    decoder: &mut Decoder<R>,
+    size: usize,
+    into: &mut Vec<u8>,
+    room: usize,
+) -> Result<(), Error<R::Error>>
+    requires fresh { waiting_of decoder.old ≡ None }
+    requires small { size ≤ 4096 }
+    ensures ok { OnOk result (Takes (seen R.Read decoder.old) (seen R.Read decoder.new)
+        (λ b. (length b ≡ size) × (into.new.items ≡ into.old.items ++ b))) }
+    ensures held { UnlessMemory result (vec_capacity into.new ≤ room) }
+    ensures grows { offset_of decoder.old ≤ offset_of decoder.new }
+    ensures err { IfErr result (NamesShort R.ends size
+        (seen R.Read decoder.old) (seen R.Read decoder.new)) }
+    ensures stops { IfErr result (TakesSome (seen R.Read decoder.old) (seen R.Read decoder.new)) }
+    ensures steady { Steady R.ends result (seen R.Read decoder.old) (seen R.Read decoder.new) }
+{
+    let at = into.len();
+    let Ok(()) = into.resize(at + size, 0) else {
+        return Err(Error::Memory);
+    };
+    // No contract of std says that a vector keeps a capacity that is enough.
+    if into.capacity() > room {
+        return Err(Error::Memory);
+    }
+    decoder.read_exact(&mut into[at..])?;
+    Ok(())
+}
+
+/// The next bytes, so many, in one piece, in the room that there is for them. Those at hand are
+/// appended as they are.
 fn read_piece<R: Read>(
     decoder: &mut Decoder<R>,
     size: usize,
@@ -92,16 +123,16 @@ fn read_piece<R: Read>(
     ensures stops { IfErr result (TakesSome (seen R.Read decoder.old) (seen R.Read decoder.new)) }
     ensures steady { Steady R.ends result (seen R.Read decoder.old) (seen R.Read decoder.new) }
 {
-    let at = into.len();
     let room = into.capacity();
-    let Ok(()) = into.resize(at + size, 0) else {
+    let Ok(is_appended) = decoder.append_held(size, into) else {
         return Err(Error::Memory);
     };
-    // No contract of `resize` says that the capacity stays if it is enough.
+    if !is_appended {
+        return fill_piece(decoder, size, into, room);
+    }
     if into.capacity() > room {
         return Err(Error::Memory);
     }
-    decoder.read_exact(&mut into[at..])?;
     Ok(())
 }
 
