@@ -75,7 +75,7 @@ fn make_room(into: &mut Vec<u8>, got: usize, rest: usize) -> Result<(), AllocErr
     into.reserve_exact(more)
 }
 
-/// The next bytes, so many, in one piece that the reader fills, in this room.
+/// The next bytes, so many, in one piece that the reader fills, with this capacity.
 fn fill_piece<R: Read>(
     decoder: &mut Decoder<R>,
     size: usize,
@@ -105,7 +105,7 @@ fn fill_piece<R: Read>(
     Ok(())
 }
 
-/// The next bytes, so many, in one piece, in the room that there is for them. Those at hand are
+/// The next bytes, so many, in one piece, in the capacity that there is for them. Those at hand are
 /// appended as they are.
 fn read_piece<R: Read>(
     decoder: &mut Decoder<R>,
