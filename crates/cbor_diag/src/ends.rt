@@ -3,7 +3,8 @@ use crate::head::{Head, HeadFault, head_of};
 use crate::walk::{Fault, Walk, Why};
 use std::alloc::Global;
 
-/// Finds where items end in bytes that come in blocks. Heads alone are read: of strings nothing is kept, and a text may be no UTF-8.
+/// Finds where items end in bytes that come in blocks. Heads alone are read: of strings nothing is
+/// kept, and a text may be no UTF-8.
 #[derive(Drop)]
 pub struct Ends {
     walk: Walk,
@@ -31,7 +32,8 @@ impl Ends {
         self.begun
     }
 
-    /// How many bytes of the block stand before the end of the item at hand; none where it goes on behind the block.
+    /// How many bytes of the block stand before the end of the item at hand; none where it goes on
+    /// after the block.
     ///
     /// # Errors
     /// The fault of a head, with its place in the item.

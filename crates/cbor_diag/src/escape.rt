@@ -1,7 +1,8 @@
 //! Text between quotes.
 use std::fmt;
 
-/// Whether a character could forge what is shown: a control, a mark of direction, or a break of the line.
+/// Whether a character could forge what is shown: a control, a mark of direction, or a break of the
+/// line.
 fn is_unsafe(c: char) -> bool {
     matches!(
         c,
@@ -16,8 +17,8 @@ fn is_unsafe(c: char) -> bool {
     )
 }
 
-/// Whether a character isn't seen: those that Unicode calls ignorable by default and `is_unsafe` hasn't, as the tags that can spell a
-/// hidden text.
+/// Whether a character isn't seen: those that Unicode calls ignorable by default and `is_unsafe`
+/// hasn't, as the tags that can spell a hidden text.
 fn is_unseen(c: char) -> bool {
     matches!(
         c,
@@ -36,8 +37,9 @@ fn is_unseen(c: char) -> bool {
     )
 }
 
-/// Writes a text between quotes. Quotes, backslashes, control characters, marks of direction, breaks of the line and characters that aren't
-/// seen are escaped as in JSON; with `ascii` each character past U+007E too.
+/// Writes a text between quotes. Quotes, backslashes, control characters, marks of direction,
+/// breaks of the line and characters that aren't seen are escaped as in JSON; with `ascii` each
+/// character past U+007E too.
 ///
 /// # Errors
 /// Those of the writer.

@@ -1,11 +1,12 @@
-//! What keeps an item from being its shortest text.
+//! What keeps an item from being its canonical encoding.
 use crate::head::{Head, head_of};
 use crate::walk::{Event, Fault, Step, Walk};
 use ciborium_ll::Header;
 use std::alloc::Global;
 use std::fmt;
 
-/// Why a text isn't the shortest one of its item. The width of a float is part of the item, so a float is none of these.
+/// Why a text isn't the shortest one of its item. The width of a float is part of the item, so a
+/// float is none of these.
 #[derive(Debug, Clone, Copy, PartialEq, Eq)]
 pub enum Excess {
     /// A head with more bytes than its number needs.
@@ -35,8 +36,8 @@ impl fmt::Display for Excess {
     }
 }
 
-/// What comes first in the item at the front of the bytes that its shortest text hasn't, and its place. What byte strings hold is not
-/// looked into.
+/// What comes first in the item at the front of the bytes that its canonical encoding hasn't, and
+/// its place. What byte strings hold is not looked into.
 ///
 /// # Errors
 /// Those of `Walk::step`.
@@ -79,12 +80,13 @@ fn excess_of(step: Step, bytes: &[u8]) -> Option<Excess> {
     }
 }
 
-/// The bytes behind a head.
+/// The bytes after a head.
 fn content(step: Step, bytes: &[u8]) -> &[u8] {
     bytes.get(step.at.saturating_add(step.len)..).unwrap_or(&[])
 }
 
-/// Whether the content of a tag 2 or 3 is a byte string of at most 16 bytes whose number has 64 bits or begins with a zero.
+/// Whether the content of a tag 2 or 3 is a byte string of at most 16 bytes whose number has 64
+/// bits or begins with a zero.
 fn folds(content: &[u8]) -> bool {
     match head_of(content) {
         Ok(head) => match head.header {

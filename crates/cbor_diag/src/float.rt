@@ -14,11 +14,11 @@ enum Size {
     /// So many times two to this power.
     Finite(u64, i32),
     Infinite,
-    /// No number, with these bits behind the exponent, as of 64 bits.
+    /// No number, with these bits after the exponent, as of 64 bits.
     NoNumber(u64),
 }
 
-/// The parts of a float, by its sign, its exponent and the bits behind it.
+/// The parts of a float, by its sign, its exponent and the bits after it.
 fn apart(bits: u64, exponent_bits: u32, fraction_bits: u32) -> Parts {
     let fraction = bits & mask(fraction_bits);
     let exponent = shifted(bits, fraction_bits) & mask(exponent_bits);
@@ -94,7 +94,7 @@ fn doubled(count: u64, power: i32) -> Option<u64> {
     }
 }
 
-/// The encoding indicator of a float: 2 or 3 where fewer bits would do.
+/// The encoding indicator of a float: 2 or 3 if fewer bits would do.
 pub fn wide(float: Float) -> Option<u8> {
     let size = parts_of(float).size;
     match float {
@@ -114,7 +114,7 @@ struct Width {
     least: i32,
     /// All numbers are below this power of two.
     most: i32,
-    /// How many of the 52 bits behind the exponent of a double it hasn't.
+    /// How many of the 52 bits after the exponent of a double it hasn't.
     lost: u32,
 }
 
@@ -152,7 +152,7 @@ fn to_i32(n: u32) -> i32 {
     i32::try_from(n).unwrap_or(0)
 }
 
-/// So many times two to this power, exactly where a number of 64 bits can be that.
+/// So many times two to this power, exactly when a number of 64 bits can be that.
 fn scaled(count: u64, power: i32) -> f64 {
     let [a, b, c, d, e, f, g, h] = count.to_be_bytes();
     let high = f64::from(u32::from_be_bytes([a, b, c, d]));
@@ -176,7 +176,7 @@ pub fn text_of(alloc: Global, float: Float) -> Result<String, AllocError> {
     }
 }
 
-/// Of a NaN that isn't the usual one the bits stand behind it in a comment.
+/// Of a NaN that isn't the usual one the bits stand after it in a comment.
 fn no_number(
     alloc: Global,
     float: Float,
@@ -204,7 +204,7 @@ fn finite(alloc: Global, sign: &str, value: f64) -> Result<String, AllocError> {
     laid_out(alloc, sign, digits.as_str(), exponent)
 }
 
-/// Digits with the point behind the first of them, times ten to this power.
+/// Digits with the point after the first of them, times ten to this power.
 fn laid_out(alloc: Global, sign: &str, digits: &str, exponent: i32) -> Result<String, AllocError> {
     if exponent < -6 || exponent > 20 {
         let (front, back) = digits.split_at_checked(1).unwrap_or((digits, ""));

@@ -1,5 +1,6 @@
-//! The diagnostic notation of CBOR items (RFC 8949, section 8), from their heads, so that it shows how they are encoded. Items of any
-//! depth and any claimed length are walked in a loop: what is kept is a list of the levels that are open.
+//! The diagnostic notation of CBOR items (RFC 8949, section 8), from their heads, so that it shows
+//! how they are encoded. Items of any depth and any claimed length are walked in a loop: what is
+//! kept is a list of the levels that are open.
 #![tactic(auto)]
 
 mod ends;

@@ -10,7 +10,8 @@ use std::fmt;
 /// An array or a map whose encoding is at most so long stands on one line.
 const SHORT: usize = 24;
 
-/// From this depth on everything stands on one line, so that the notation of deep items stays about as long as they are.
+/// From this depth on everything stands on one line, so that the notation of deep items stays about
+/// as long as they are.
 const DEEP: usize = 32;
 
 /// A string of more bytes than these is cut to them, if strings are cut.
@@ -21,13 +22,15 @@ pub const CUT: usize = 64;
 pub struct Style {
     /// Arrays and maps that aren't short stand on several lines.
     pub lines: bool,
-    /// Widths that aren't the shortest have their encoding indicators (RFC 8949, section 8.1). Those of open lengths are always there.
+    /// Widths that aren't the shortest have their encoding indicators (RFC 8949, section 8.1).
+    /// Those of open lengths are always there.
     pub widths: bool,
     /// Characters past U+007E are escaped.
     pub ascii: bool,
     /// Tags 2 and 3 around at most 16 bytes are shown as numbers.
     pub bignums: bool,
-    /// Strings of more than 64 bytes are cut to 64, and a comment has their length. Of a string of open length each piece is cut by itself.
+    /// Strings of more than 64 bytes are cut to 64, and a comment has their length. Of a string of
+    /// open length each piece is cut by itself.
     pub cut: bool,
 }
 
@@ -79,14 +82,14 @@ impl Style {
     }
 }
 
-/// Why the notation isn't whole. What stands in front of it was written.
+/// Why the notation isn't whole. What is in front of it was written.
 #[derive(Debug, Clone, Copy, PartialEq, Eq)]
 pub enum NotWritten {
     /// The bytes begin no item.
     Fault(Fault),
     /// The writer failed.
     Output,
-    /// Memory was refused.
+    /// Out of memory.
     Memory,
 }
 
@@ -116,11 +119,12 @@ struct Notation<'a, W> {
     shown: usize,
 }
 
-/// Writes the notation of the item that the bytes begin with, and gives the item's length. Lines behind the first begin with `indent` times
-/// two spaces, and more.
+/// Writes the notation of the item that the bytes begin with, and gives the item's length. Lines
+/// after the first begin with `indent` times two spaces, and more.
 ///
 /// # Errors
-/// `Fault` where the bytes begin no item, with the notation of what stands in front of the fault written; `Output` and `Memory`.
+/// `Fault` if the bytes begin no item, with the notation of what is in front of the fault written;
+/// `Output` and `Memory`.
 pub fn write_item<W: fmt::Write>(
     alloc: Global,
     bytes: &[u8],
@@ -174,7 +178,7 @@ impl<'a, W: fmt::Write> Notation<'a, W> {
         Ok(())
     }
 
-    /// What stands between an item and the one before it.
+    /// What is between an item and the one before it.
     fn part(&mut self, place: Place) -> fmt::Result {
         match place {
             Place::Top => Ok(()),
@@ -376,7 +380,7 @@ fn behind(bytes: &[u8], at: usize) -> &[u8] {
     bytes.get(at..).unwrap_or(&[])
 }
 
-/// So many bytes behind the head of a step.
+/// So many bytes after the head of a step.
 fn body_of(bytes: &[u8], step: Step, size: usize) -> &[u8] {
     let rest = behind(bytes, step.at.saturating_add(step.len));
     rest.get(..size).unwrap_or(rest)
@@ -389,7 +393,8 @@ fn is_short(alloc: Global, bytes: &[u8]) -> bool {
     walk.advance(front).is_ok()
 }
 
-/// The number of a bignum's bytes (RFC 8949, section 3.4.3): tag 2 or 3 around a byte string of stated length of at most 16 bytes.
+/// The number of a bignum's bytes (RFC 8949, section 3.4.3): tag 2 or 3 around a byte string of
+/// stated length of at most 16 bytes.
 fn bignum(number: u64, head: Head, rest: &[u8]) -> Option<u128> {
     if number != 2 && number != 3 {
         return None;

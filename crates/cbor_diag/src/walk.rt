@@ -11,7 +11,7 @@ pub enum Why {
     Cut,
     /// No head begins with the byte here.
     NoHead,
-    /// A break stands here, and nothing that is open can end.
+    /// A break is here, and nothing that is open can end.
     Break,
     /// The open string can't hold the head here.
     Chunk,
@@ -19,7 +19,7 @@ pub enum Why {
     NotText,
     /// An offset would pass the greatest one.
     TooLong,
-    /// Memory was refused.
+    /// Out of memory.
     Memory,
 }
 
@@ -61,7 +61,7 @@ pub enum LevelKind {
     Text,
 }
 
-/// Where an item stands in the one around it.
+/// Where an item is in the one around it.
 #[derive(Debug, Clone, Copy, PartialEq, Eq)]
 pub enum Place {
     /// Nothing is around it.
@@ -76,7 +76,7 @@ pub enum Place {
         /// Whether it is the first one.
         first: bool,
     },
-    /// In a map, behind its key.
+    /// In a map, after its key.
     Value,
     /// In a tag.
     Content,
@@ -92,7 +92,7 @@ pub enum Place {
 pub enum Event {
     /// An item that is its head.
     Leaf(Header),
-    /// A string of stated length, with so many bytes behind its head.
+    /// A string of stated length, with so many bytes after its head.
     Body(Header, usize),
     /// An array, a map, a tag or an open string begins.
     Begin(Header),
@@ -105,9 +105,9 @@ pub enum Event {
 pub struct Step {
     /// What was found.
     pub event: Event,
-    /// Where it stands in what is around it; of an end this says nothing.
+    /// Where it is in what is around it; of an end this says nothing.
     pub place: Place,
-    /// Where it stands in the bytes.
+    /// Where it is in the bytes.
     pub at: usize,
     /// How many bytes its head takes.
     pub len: usize,
@@ -119,13 +119,14 @@ struct Level {
     kind: LevelKind,
     /// How many items, of a map entries, are to come. None of an open length.
     left: Option<usize>,
-    /// Whether a value is due, behind its key.
+    /// Whether a value is due, after its key.
     value_due: bool,
     /// Whether an item has come.
     begun: bool,
 }
 
-/// A walk over the heads of one item, which can stop where the bytes at hand end, and go on over more of them.
+/// A walk over the heads of one item, which can stop if the bytes at hand end, and go on over more
+/// of them.
 #[derive(Drop)]
 pub struct Walk {
     levels: Vec<Level>,
@@ -133,7 +134,7 @@ pub struct Walk {
 }
 
 impl Walk {
-    /// A walk that stands before an item.
+    /// A walk that is before an item.
     pub fn new(alloc: Global) -> Walk {
         Walk {
             levels: Vec::new(alloc),
@@ -157,10 +158,11 @@ impl Walk {
         self.at = 0;
     }
 
-    /// The next step over the item at the front of these bytes. They are those of the last step, or more of them.
+    /// The next step over the item at the front of these bytes. They are those of the last step, or
+    /// more of them.
     ///
     /// # Errors
-    /// What `Why` lists. The walk stands where it stood, so after `Cut` it can go on over more bytes.
+    /// What `Why` lists. The walk is where it was, so after `Cut` it can go on over more bytes.
     pub fn step(&mut self, bytes: &[u8]) -> Result<Step, Fault> {
         if self.is_full() {
             return Ok(self.close(0));
@@ -192,7 +194,8 @@ impl Walk {
         Err(self.fault(Why::TooLong))
     }
 
-    /// Steps over a head whose body isn't at hand, and over all that ends behind it. Gives the length of the body.
+    /// Steps over a head whose body isn't at hand, and over all that ends after it. Gives the
+    /// length of the body.
     ///
     /// # Errors
     /// Those of `step`, but for `Cut` and `NotText`.
@@ -272,8 +275,8 @@ impl Walk {
         }
     }
 
-    /// Whether the innermost level can hold an item with this head. An open string inside an open string is read, as the reader of
-    /// values does.
+    /// Whether the innermost level can hold an item with this head. An open string inside an open
+    /// string is read, as the reader of values does.
     fn holds(&self, header: Header) -> bool {
         match self.levels.last() {
             Some(level) => match level.kind {
@@ -285,7 +288,7 @@ impl Walk {
         }
     }
 
-    /// Where the next head stands, behind this one and its body.
+    /// Where the next head stands, after this one and its body.
     fn check_body(&self, head: Head, rest: &[u8]) -> Result<usize, Why> {
         let Some(next) = self.next_at(head) else {
             return Err(Why::TooLong);
@@ -300,7 +303,7 @@ impl Walk {
         Ok(next)
     }
 
-    /// Where the next head stands, where an offset reaches it.
+    /// Where the next head stands, if an offset reaches it.
     fn next_at(&self, head: Head) -> Option<usize> {
         let len = head.len.checked_add(body_len(head.header))?;
         self.at.checked_add(len)
@@ -337,7 +340,7 @@ impl Walk {
     }
 }
 
-/// How many bytes stand behind a head that are its own.
+/// How many bytes are after a head that are its own.
 fn body_len(header: Header) -> usize {
     match header {
         Header::Bytes(Some(size)) => size,

@@ -1,6 +1,8 @@
-//! What all COSE messages share (RFC 9052): errors, labels, headers and the structures that signatures, tags and encryptions cover.
+//! What all COSE messages share (RFC 9052): errors, labels, headers and the structures that
+//! signatures, tags and encryptions cover.
 //!
-//! A user names this crate alone: what stands in the crates below it is here under the same names, and `iana` has the registries.
+//! A user names this crate alone: what is in the crates below it is here under the same names, and
+//! `iana` has the registries.
 #![tactic(auto)]
 
 pub mod laws;

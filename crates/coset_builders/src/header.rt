@@ -66,7 +66,7 @@ impl HeaderBuilder {
     /// Appends a label that has to be understood.
     ///
     /// # Errors
-    /// Only where memory is refused.
+    /// Only if out of memory.
     pub fn add_critical(self, label: iana::HeaderParameter) -> Result<HeaderBuilder, CoseError>
         ensures { MatchResult result (λ b. header_so_far b
             ≡ given (λ p. record p
@@ -80,7 +80,7 @@ impl HeaderBuilder {
     /// Appends a label that has to be understood, which may be for private use or a text.
     ///
     /// # Errors
-    /// Only where memory is refused.
+    /// Only if out of memory.
     pub fn add_critical_label(
         mut self,
         label: RegisteredLabelWithPrivate<iana::HeaderParameter>,
@@ -149,7 +149,7 @@ impl HeaderBuilder {
     /// Appends a counter signature.
     ///
     /// # Errors
-    /// Only where memory is refused.
+    /// Only if out of memory.
     pub fn add_counter_signature(
         mut self,
         signature: CoseSignature,
@@ -166,7 +166,7 @@ impl HeaderBuilder {
     /// section 3.1).
     ///
     /// # Errors
-    /// Only where memory is refused.
+    /// Only if out of memory.
     pub fn value(mut self, label: i64, value: Value) -> Result<HeaderBuilder, CoseError>
         requires { is_core (number label) ≡ false }
         ensures { MatchResult result (λ b. header_so_far b
@@ -180,7 +180,7 @@ impl HeaderBuilder {
     /// Appends an entry with a text as its label.
     ///
     /// # Errors
-    /// Only where memory is refused.
+    /// Only if out of memory.
     pub fn text_value(mut self, label: String, value: Value) -> Result<HeaderBuilder, CoseError>
         ensures { MatchResult result (λ b. header_so_far b
             ≡ given (λ p. record p

@@ -72,7 +72,8 @@ pub signature_seen : (s : CoseSignature) → signature_view s ≡ signature (pro
 signature_seen s = signature_is s ∙ (λ i. signature ((protected_is (out-CoseSignature s).protected
     ∙ (λ j. protected (received s) (header_is (out-ProtectedHeader (out-CoseSignature s).protected).header j))) i) (header_is (out-CoseSignature s).unprotected i) (out-CoseSignature s).signature.items)
 
--- a signature that was copied without the counter signatures in its headers, and into which those were then copied
+-- a signature that was copied without the counter signatures in its headers, and into which those
+-- were then copied
 module _ (copy from : CoseSignature) (is : signature_view copy ≡ unsigned (signature_view from)) where
   both : signature (protected (received copy) (header (plain_parts (of_protected copy)) (signatures_view (of_protected copy).counter_signatures.items)))
       (header (plain_parts (of_unprotected copy)) (signatures_view (of_unprotected copy).counter_signatures.items)) (out-CoseSignature copy).signature.items
@@ -128,7 +129,7 @@ copied_more base xs pushed from i n m x z y s p q r inv h g e =
     ∙ append_assoc (map signature_view base) (map signature_view (take i from)) (signature_view (get_or from i s) ∷ [])
     ∙ ap (λ z. map signature_view base ++ z) (sym (map-append signature_view (take i from) (get_or from i s ∷ [])) ∙ ap (map signature_view) (sym (take_more from i s h)))
 
--- what stands at the end, before and after it was replaced
+-- what is at the end, before and after it was replaced
 pub last_of : (xs pushed : List CoseSignature) (x d : CoseSignature) (n : ℕ) → pushed ≡ xs ++ x ∷ [] → n ≡ length xs → get_or pushed n d ≡ x
 last_of xs pushed x d n p q = (λ i. get_or (p i) (q i) d) ∙ get_or-append_seam xs x [] d
 

@@ -1,4 +1,5 @@
--- The entries of a header by their places: gathered place by place they are in order, and entries in order are as they are gathered.
+-- The entries of a header by their places: gathered place by place they are in order, and entries
+-- in order are as they are gathered.
 use Rattle.std.proofs.Common.{◌≡◌, ℕ, zero, suc, ◌+◌, ◌<◌, ◌≤◌, pos, negsuc, ◌⊎◌, inl, inr, List, [], ◌∷◌, ◌++◌, Bool, true, false, cond, nat_eq, nat_lt, Option, Some, None, refl, sym, ap, subst, ◌∙◌, arith}
 use Rattle.std.specs.Prelude.{◌&&◌}
 use Rattle.std.proofs.lemmas.Bool.Decides.{nat_tests}
@@ -147,7 +148,7 @@ gather_drop (suc f) n k e es q a b h =
 head_is : (n : ℕ) (e : LabelFields × Tree) (es : List (LabelFields × Tree)) → is_at n e.0 ≡ true → at n (e ∷ es) ≡ Some e.1
 head_is n e es t = ap (λ z. cond z (Some e.1) (at n es)) t
 
--- the first entry stands at the place n, or behind it
+-- the first entry is at the place n, or after it
 gathered_step : (f n : ℕ) (x : LabelFields × Tree) (xs : List (LabelFields × Tree)) → n + suc f ≡ 8 → 0 < n → Sorted n (x ∷ xs) → Distinct (x ∷ xs)
     → ((zs : List (LabelFields × Tree)) → Sorted (suc n) zs → Distinct zs → gather f (suc n) zs ≡ zs) → (nat_eq (rank x.0) n ≡ true) ⊎ (nat_eq (rank x.0) n ≡ false) → gather (suc f) n (x ∷ xs) ≡ x ∷ xs
 gathered_step f n x xs e a s d k (inl t) =

@@ -1,5 +1,5 @@
--- What is written of a header that was read is read again: it nests no deeper, its bignums stay folded, and its simple values are those
--- that a value can have.
+-- What is written of a header that was read is read again: it nests no deeper, its bignums stay
+-- folded, and its simple values are those that a value can have.
 use Rattle.std.proofs.Common.{◌≡◌, ℕ, ◌≤◌, ◌-◌, ◌⊎◌, inl, inr, List, [], ◌∷◌, map, Option, Some, None, refl, sym, ap, subst, ◌∙◌, arith}
 use Rattle.ciborium_value.specs.Tree.{Tree, bytes, array, Trees, no_trees, one_more, Pairs}
 use Rattle.ciborium_value.specs.View.{trees, pairs}

@@ -1,4 +1,4 @@
--- A header or a signature that was read is as written exactly where the test on its value says so.
+-- A header or a signature that was read is as written exactly when the test on its value says so.
 use Rattle.std.proofs.Common.{◌≡◌, ◌≢◌, ℕ, ◌≤◌, ◌⊎◌, inl, inr, List, [], ◌∷◌, map, Bool, true, false, cond, nat_eq, nat_lt, Option, Some, None, option_map, option_and_then, refl, sym, ap, subst, ◌∙◌, arith}
 use Rattle.std.specs.Prelude.{◌&&◌, Decides, MatchBool}
 use Rattle.std.proofs.lemmas.Bool.Decides.{nat_tests}

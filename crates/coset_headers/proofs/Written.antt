@@ -24,7 +24,7 @@ use Rattle.coset_headers.specs.Written.{stands, twice, is_unsigned, signature_tr
 use Rattle.coset_headers.specs.declared.header.CoseSignature.{CoseSignature}
 use Rattle.coset_headers.proofs.Entered.{distinct_snoc}
 
--- ---- a label that stands twice
+-- ---- a label that is twice
 or_true : (b : Bool) → (b || true) ≡ true
 or_true true = refl
 or_true false = refl

@@ -1,10 +1,12 @@
--- Whether a value that is read as a header or a signature is already the one that would be written, decided from the value alone: the entries
--- that have fields of their own stand first, in the order of their labels, and counter signatures are bare, or two and more. Of other
--- values these tests say nothing.
+-- Whether a value that is read as a header or a signature is already the one that would be written,
+-- decided from the value alone: the entries that have fields of their own stand first, in the order
+-- of their labels, and counter signatures are bare, or two and more. Of other values these tests
+-- say nothing.
 use Rattle.std.specs.Prelude.{ℕ, pos, Bool, true, false, ◌&&◌, if◌then◌else◌, nat_eq, nat_lt}
 use Rattle.ciborium_value.specs.Tree.{Tree, integer, array, map as map_tree, Trees, no_trees, one_more, Pairs, no_pairs, pair_more, is_bytes}
 
--- the place of an entry by its key: 1 to 7 where the label has a field of its own, and 8 for all others
+-- the place of an entry by its key: 1 to 7 if the label has a field of its own, and 8 for all
+-- others
 abbrev pub place_of : Tree → ℕ
 place_of (integer (pos n)) = if nat_lt 0 n && nat_lt n 8 then n else 8
 place_of _ = 8
@@ -22,7 +24,7 @@ abbrev mutual
   header_stands (map_tree ps) = entries_stand 1 ps
   header_stands _ = false
 
-  -- behind an entry at the place `last`
+  -- after an entry at the place `last`
   pub entries_stand : ℕ → Pairs → Bool
   entries_stand last no_pairs = true
   entries_stand last (pair_more l v ps) = if nat_lt (place_of l) last then false

@@ -1,4 +1,5 @@
--- The fields of headers and signatures, as values that hold no memory (RFC 9052, sections 3 and 4.1).
+-- The fields of headers and signatures, as values that hold no memory (RFC 9052, sections 3 and
+-- 4.1).
 use Rattle.std.specs.Prelude.{ℕ, List, [], ◌∷◌, Option, None}
 use Rattle.ciborium_value.specs.Tree.{Tree}
 use Rattle.coset_labels.specs.Fields.{LabelFields, Named}
@@ -13,7 +14,8 @@ pub record Plain : Type 0 where
   pub partial_iv : List ℕ
   pub rest : List (LabelFields × Tree)
 
--- a header has counter signatures beside, a protected one its bytes where they were received, and a signature has two headers
+-- a header has counter signatures beside, a protected one its bytes if they were received, and a
+-- signature has two headers
 mutual
   pub data HeaderFields : Type 0 where
     header : Plain → Signatures → HeaderFields

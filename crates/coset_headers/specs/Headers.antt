@@ -1,5 +1,6 @@
--- Which fields a value has as a header, a protected header, a signature (RFC 9052, sections 3, 3.1 and 4.1). Each definition has the
--- nesting limit `n` of protected bytes, and how many protected byte strings may still lie inside one another, `k`.
+-- Which fields a value has as a header, a protected header, a signature (RFC 9052, sections 3, 3.1
+-- and 4.1). Each definition has the nesting limit `n` of protected bytes, and how many protected
+-- byte strings may still lie inside one another, `k`.
 use Rattle.std.specs.Prelude.{◌≡◌, ◌≢◌, ℕ, ◌-◌, ◌<◌, ◌⊎◌, List, [], ◌∷◌, Bool, ◌||◌, nat_eq, Option, Some, None, option_map, option_and_then}
 use Rattle.std.specs.Str.{trim}
 use Rattle.std.specs.List.{count_by}
@@ -39,7 +40,8 @@ abbrev pub crit_of : Tree → Option (List Named)
 crit_of (array (one_more t ts)) = parameters_of (one_more t ts)
 crit_of _ = None
 
--- 3: the content type, a registered number or a text of the form type/subtype: no white space at its ends, and one slash
+-- 3: the content type, a registered number or a text of the form type/subtype: no white space at
+-- its ends, and one slash
 abbrev pub is_slash : ℕ → Bool
 is_slash b = nat_eq b 47
 
@@ -54,7 +56,7 @@ abbrev pub HasContentType : Option Tree → Option Named → Type 0
 HasContentType None c = c ≡ None
 HasContentType (Some t) c = (f : Named) × (format_of t ≡ Some f) × IsContentType f × (c ≡ Some f)
 
--- the entries of a map with their labels, or none where a key is no label
+-- the entries of a map with their labels, or none if a key is no label
 abbrev pub entries : Pairs → Option (List (LabelFields × Tree))
 entries = map_entries.entries label_of
 
@@ -65,7 +67,7 @@ at n = map_entries.at (is_at n)
 abbrev pub IsIn : LabelFields → List (LabelFields × Tree) → Type 0
 IsIn = map_entries.IsIn
 
--- no label stands twice
+-- no label is twice
 abbrev pub Distinct : List (LabelFields × Tree) → Type 0
 Distinct = map_entries.Distinct
 
@@ -73,7 +75,7 @@ Distinct = map_entries.Distinct
 abbrev pub others : List (LabelFields × Tree) → List (LabelFields × Tree)
 others = map_entries.others is_core
 
--- the field is what the value there is, and `absent` where none is
+-- the field is what the value there is, and `absent` if none is
 abbrev pub IsField : {A : Type 0} → (Tree → Option A) → A → Option Tree → A → Type 0
 IsField = map_entries.IsField
 
@@ -104,7 +106,8 @@ abbrev mutual
   HasHeader n t (header p ss) k = (ps : Pairs) × (es : List (LabelFields × Tree)) × (t ≡ map_tree ps) × (entries ps ≡ Some es)
       × Distinct es × IsPlain es p × HasSigned n (at 7 es) ss k
 
-  -- a protected one: a byte string, empty or spelled whole by one readable item that is a header with one layer less; its bytes are kept
+  -- a protected one: a byte string, empty or spelled whole by one readable item that is a header
+  -- with one layer less; its bytes are kept
   pub HasProtected : ℕ → Tree → ProtectedFields → ℕ → Type 0
   HasProtected n t (protected o h) k = (b : List ℕ) × (t ≡ bytes b) × (o ≡ Some b) × (0 < k)
       × (((b ≡ []) × (h ≡ no_header)) ⊎ ((b ≢ []) × ((v : Tree) × Reads b n v × HasHeader n v h (k - 1))))

@@ -1,4 +1,5 @@
--- How far the reader of headers is: the headers that are open inside one another, the outermost first.
+-- How far the reader of headers is: the headers that are open inside one another, the outermost
+-- first.
 use Rattle.std.specs.Prelude.{◌≡◌, ◌≢◌, ℕ, ◌+◌, ◌-◌, ◌*◌, ◌<◌, List, [], ◌∷◌, ◌++◌, length, map, true, Some}
 use Rattle.std.specs.Vec.Iter.{into_iter_items}
 use Rattle.ciborium_value.specs.Tree.{Tree, bytes, array, map as map_tree, Trees}
@@ -42,14 +43,15 @@ pub record Signed (n : ℕ) (t : Tree) (o : Open) (h : Header) (v : Tree) : Type
   pub sees : (w : Tree) → Sees o.seen (es ++ (label, w) ∷ [])
   pub known : Known n es (plain_of h) (signs_of h) o.layers
 
--- ---- the header that one inside it belongs to
--- s is that one of the counter signatures v that comes after those that are done, and before those that are left
+-- ---- the header that one inside it belongs to s is that one of the counter signatures v that
+-- comes after those that are done, and before those that are left
 pub data IsNext (n k : ℕ) (v s : Tree) (done : List CoseSignature) (left : List Value) : Type 0 where
   alone : (ts : Trees) → v ≡ array ts → IsBare ts → s ≡ array ts → done ≡ [] → left ≡ [] → IsNext n k v s done left
   listed : (before : List Tree) → v ≡ array (trees (before ++ s ∷ map view left)) → IsList (trees (before ++ s ∷ map view left))
       → HasSignatures n (trees before) (signatures_view done) k → IsNext n k v s done left
 
--- w, to be read with i layers, is the unprotected header of the signature s, or the one inside its protected one; c is its signature
+-- w, to be read with i layers, is the unprotected header of the signature s, or the one inside its
+-- protected one; c is its signature
 abbrev pub IsHalf : ℕ → ℕ → Tree → List ℕ → Half → Tree → ℕ → Type 0
 IsHalf n k s c (half.Unprotected first) w i = (s ≡ array (list_of_three (view first) w (bytes c))) × (i ≡ k)
 IsHalf n k s c (half.Protected h b) w i = (u : Tree) × (s ≡ array (list_of_three (bytes b.items) u (bytes c))) × HasHeader n u (header_view h) k

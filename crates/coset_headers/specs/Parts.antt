@@ -33,7 +33,7 @@ pub record SeesMany (s : SeenLabels Label) (es : List (LabelFields × Tree)) : T
 abbrev pub Sees : SeenLabels Label → List (LabelFields × Tree) → Type 0
 Sees s es = SeesMany s (others es)
 
--- the label of the next entry is new where b is true, and then it is taken for seen
+-- the label of the next entry is new if b is true, and then it is taken for seen
 abbrev pub IsFresh : LabelFields → List (LabelFields × Tree) → SeenLabels Label → Bool → Type 0
 IsFresh m es s b = MatchBool b ((IsIn m es → ⊥) × ((v : Tree) → Sees s (es ++ (m, v) ∷ []))) (IsIn m es)
 

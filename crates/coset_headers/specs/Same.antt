@@ -1,5 +1,6 @@
--- Whether two headers, protected headers or signatures say the same, field by field: texts and byte strings by their bytes, labels and
--- names by their order, values as trees, so a float by its width and bits.
+-- Whether two headers, protected headers or signatures say the same, field by field: texts and byte
+-- strings by their bytes, labels and names by their order, values as trees, so a float by its width
+-- and bits.
 use Rattle.std.specs.Prelude.{nat_eq, Bool, true, false, ◌&&◌}
 use Rattle.std.specs.Cmp.Lexicographic.{pointwise}
 use Rattle.std.specs.Option.{option_eq}

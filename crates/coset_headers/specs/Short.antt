@@ -1,4 +1,5 @@
--- Protected headers inside a header that have no received bytes: each is encoded in fewer bytes than a head can say.
+-- Protected headers inside a header that have no received bytes: each is encoded in fewer bytes
+-- than a head can say.
 use Rattle.std.specs.Prelude.{◌≡◌, ℕ, ◌^◌, ◌<◌, List, length, Some, None}
 use Rattle.coset_headers.specs.Fields.{HeaderFields, header, ProtectedFields, protected, SignatureFields, signature, Signatures, no_signatures, signature_more}
 use Rattle.coset_headers.specs.Written.{shown}

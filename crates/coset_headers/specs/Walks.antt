@@ -10,7 +10,7 @@ use Rattle.coset_headers.specs.Fields.{Plain, HeaderFields, no_header}
 use Rattle.coset_headers.specs.Headers.{HasHeader}
 use Rattle.coset_headers.specs.Wrong.{WrongField, WrongHeader}
 
--- the value of a label but 7, where the fields p are set
+-- the value of a label but 7, if the fields p are set
 pub data WrongFill (l : LabelFields) (v : Tree) (p : Plain) (e : CoseFault) : Type 0 where
   field_wrong : WrongField v l e → WrongFill l v p e
   iv_second : (b : List ℕ) → l ≡ number (pos 5) → some_bytes v ≡ Some b → p.partial_iv ≢ []

@@ -1,5 +1,6 @@
--- Which fault a value has as a header, a protected header, a signature (RFC 9052, sections 3, 3.1 and 4.1). A value may have several. The
--- nesting limit `n` and the layers left `k` are those of the fields.
+-- Which fault a value has as a header, a protected header, a signature (RFC 9052, sections 3, 3.1
+-- and 4.1). A value may have several. The nesting limit `n` and the layers left `k` are those of
+-- the fields.
 use Rattle.std.specs.Prelude.{◌≡◌, ◌≢◌, ℕ, pos, ◌-◌, ◌<◌, List, [], ◌∷◌, ◌++◌, true, false, Some}
 use Rattle.std.specs.List.{count_by}
 use Rattle.std.specs.Str.{trim}
@@ -24,7 +25,8 @@ pub data WrongCrit : Tree → CoseFault → Type 0 where
   bad_crit : (before after : List Tree) (t : Tree) (e : CoseFault) → WrongNamed header_parameters.is_registered is_private_use t e
       → WrongCrit (array (trees (before ++ t ∷ after))) e
 
--- no content type, or a text that is empty, has white space at an end, or another number of slashes than one
+-- no content type, or a text that is empty, has white space at an end, or another number of slashes
+-- than one
 pub data WrongContentType : Tree → CoseFault → Type 0 where
   no_content_type : (t : Tree) (e : CoseFault) → WrongRegistered coap_content_formats.is_registered t e → WrongContentType t e
   empty_text : WrongContentType (text []) unexpected

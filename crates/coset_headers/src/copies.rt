@@ -112,7 +112,7 @@ impl Header {
     /// A header equal to this one.
     ///
     /// # Errors
-    /// Only where memory is refused.
+    /// Only if out of memory.
     pub fn clone(&self, alloc: Global) -> Result<Header, AllocError>
         ensures { IfOk result (λ copy. header_view copy ≡ header_view self.now) }
     {
@@ -130,7 +130,7 @@ impl ProtectedHeader {
     /// A header equal to this one, with the same bytes.
     ///
     /// # Errors
-    /// Only where memory is refused.
+    /// Only if out of memory.
     pub fn clone(&self, alloc: Global) -> Result<ProtectedHeader, AllocError>
         ensures { IfOk result (λ copy. protected_view copy ≡ protected_view self.now) }
     {
@@ -147,7 +147,7 @@ impl CoseSignature {
     /// A signature equal to this one.
     ///
     /// # Errors
-    /// Only where memory is refused.
+    /// Only if out of memory.
     pub fn clone(&self, alloc: Global) -> Result<CoseSignature, AllocError>
         ensures { IfOk result (λ copy. signature_view copy ≡ signature_view self.now) }
     {

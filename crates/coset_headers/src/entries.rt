@@ -59,10 +59,10 @@ impl Header {
     }
 }
 
-/// Whether a label stands twice.
+/// Whether a label is twice.
 ///
 /// # Errors
-/// Only where memory is refused.
+/// Only if out of memory.
 pub fn repeats(alloc: Global, entries: &[(Label, Value)]) -> Result<bool, CoseError>
     ensures { MatchResult result (λ r. r ≡ twice (map entry_view entries.now)) (λ e. e ≡ Memory) }
 {
@@ -121,10 +121,10 @@ fn push_content_type(
     Ok(())
 }
 
-/// Appends the entry of a byte string, or none where it is empty.
+/// Appends the entry of a byte string, or none if it is empty.
 ///
 /// # Errors
-/// Only where memory is refused.
+/// Only if out of memory.
 pub fn push_bytes(entries: &mut Entries, label: u64, bytes: Vec<u8>) -> Result<(), CoseError>
     ensures { MatchResult result
         (λ _. Appends entries.old.items entries.new.items (bytes_entry label bytes.items))
@@ -162,7 +162,7 @@ fn one_or_list(signatures: Vec<Value>) -> Option<Value>
 /// Appends entries that have labels.
 ///
 /// # Errors
-/// Only where memory is refused.
+/// Only if out of memory.
 pub fn push_rest(
     alloc: Global,
     entries: &mut Entries,

@@ -12,7 +12,7 @@ ghost use Rattle.coset_headers.specs.View.{signatures_view};
 
 use crate::header::{CoseSignature, Header, ProtectedHeader};
 
-/// Headers are equal where all their fields are, entries of `rest` in the same order.
+/// Headers are equal if all their fields are, entries of `rest` in the same order.
 impl PartialEq for Header {
     ghost eq = { on header_view same_header };
 
@@ -27,7 +27,7 @@ impl Eq for Header {
     ghost laws = { on_equiv header_view headers_equiv };
 }
 
-/// Protected headers are equal where their headers and their received bytes are.
+/// Protected headers are equal if their headers and their received bytes are.
 impl PartialEq for ProtectedHeader {
     ghost eq = { on protected_view same_protected };
 
@@ -42,7 +42,7 @@ impl Eq for ProtectedHeader {
     ghost laws = { on_equiv protected_view protected_equiv };
 }
 
-/// Signatures are equal where their headers and their bytes are.
+/// Signatures are equal if their headers and their bytes are.
 impl PartialEq for CoseSignature {
     ghost eq = { on signature_view same_signature };
 

@@ -1,4 +1,4 @@
-//! Headers and signatures as they stand in memory.
+//! Headers and signatures as they are in memory.
 ghost use Rattle.std.specs.Prelude.{◌≡◌, []};
 ghost use Rattle.coset_headers.specs.Fields.{signature};
 ghost use Rattle.coset_headers.specs.View.{header_view, protected_view, signature_view};
@@ -28,7 +28,7 @@ pub struct Header {
     pub rest: Vec<(Label, Value)>,
 }
 
-/// A protected header, with its bytes where they were received (RFC 9052, section 3).
+/// A protected header, with its bytes if they were received (RFC 9052, section 3).
 #[cycle(header)]
 #[derive(Debug, Drop)]
 pub struct ProtectedHeader {

@@ -147,20 +147,19 @@ pub fn signature_reads_again(signature: &CoseSignature)
     read_is_short();
 }
 
-/// Headers are equal where they say the same, entries of `rest` in the same order.
+/// Headers are equal if they say the same, entries of `rest` in the same order.
 pub fn headers_compare(a: &Header, b: &Header)
     ensures { IsTrue (⟦<Header as std::cmp::PartialEq>⟧.eq a.now b.now)
         ↔ (header_view a.now ≡ header_view b.now) }
 {}
 
-/// Protected headers are equal where they say the same and both have the same received bytes, or
-/// none.
+/// Protected headers are equal if they say the same and both have the same received bytes, or none.
 pub fn protected_compare(a: &ProtectedHeader, b: &ProtectedHeader)
     ensures { IsTrue (⟦<ProtectedHeader as std::cmp::PartialEq>⟧.eq a.now b.now)
         ↔ (protected_view a.now ≡ protected_view b.now) }
 {}
 
-/// Signatures are equal where they say the same.
+/// Signatures are equal if they say the same.
 pub fn signatures_compare(a: &CoseSignature, b: &CoseSignature)
     ensures { IsTrue (⟦<CoseSignature as std::cmp::PartialEq>⟧.eq a.now b.now)
         ↔ (signature_view a.now ≡ signature_view b.now) }

@@ -378,8 +378,7 @@ fn split(value: Value) -> Result<(Value, Vec<(Value, Value)>, Vec<u8>), CoseErro
     }
 }
 
-/// The bytes of a protected header, and the entries of the header in them: none where they are
-/// empty.
+/// The bytes of a protected header, and the entries of the header in them: none if they are empty.
 fn open_protected(
     alloc: Global,
     value: Value,

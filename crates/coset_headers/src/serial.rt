@@ -220,8 +220,8 @@ impl ProtectedHeader {
     /// another, this one among them.
     ///
     /// # Errors
-    /// A fault that the value has, or `Memory`. `ExtraneousData` if bytes follow the
-    /// header, `TooManyLayers` where more protected headers lie inside one another.
+    /// A fault that the value has, or `Memory`. `ExtraneousData` if bytes follow the header,
+    /// `TooManyLayers` if more protected headers lie inside one another.
     pub fn from_cbor_bstr_with(
         alloc: Global,
         value: Value,
@@ -264,7 +264,7 @@ impl ProtectedHeader {
     /// string for an empty header, and the encoded map for another.
     ///
     /// # Errors
-    /// `DuplicateMapKey` exactly where a label stands twice in a header that has to be encoded, or
+    /// `DuplicateMapKey` exactly when a label is twice in a header that has to be encoded, or
     /// `Memory`.
     pub fn cbor_bstr(self, alloc: Global) -> Result<Value, CoseError>
         ensures { MatchResult result

@@ -3,7 +3,7 @@ use Rattle.std.specs.Prelude.{List, [], ◌∷◌, Option, Some, option_map, opt
 use Rattle.ciborium_value.specs.Tree.{Tree, array}
 use Rattle.ciborium_value.specs.View.{trees}
 
--- the trees that the fields are written as, in order; none where one of them is none
+-- the trees that the fields are written as, in order; none if one of them is none
 abbrev pub all_written : {F : Type 0} → (F → Option Tree) → List F → Option (List Tree)
 all_written written [] = Some []
 all_written written (f ∷ fs) = option_and_then (λ t. option_map (λ ts. t ∷ ts) (all_written written fs)) (written f)

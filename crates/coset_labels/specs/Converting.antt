@@ -30,7 +30,8 @@ pub record Converts {B E : Type 0} (R : Value → Result B E → Type 0) (t : Tr
   pub is : t ≡ array (views values)
   pub given : GivesAll R values ys
 
--- the tree is no array, of which `From` makes the error, or one of its values gives the error, the first that gives one
+-- the tree is no array, of which `From` makes the error, or one of its values gives the error, the
+-- first that gives one
 pub data CantConvert {B E : Type 0} (R : Value → Result B E → Type 0) (From : CoseError → E → Type 0) (t : Tree) (e : E) : Type 0 where
   no_array : (c : CoseError) → fault_of c ≡ unexpected → is_array t ≡ false → From c e → CantConvert R From t e
   item_fails : (values : List Value) → t ≡ array (views values) → FailsFirst R values e → CantConvert R From t e

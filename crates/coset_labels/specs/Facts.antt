@@ -1,4 +1,5 @@
--- Facts about the definitions here that other crates' proofs cite. They are proved here: nothing in them has to be believed.
+-- Facts about the definitions here that other crates' proofs cite. They are proved here: nothing in
+-- them has to be believed.
 pub mod Back
 pub mod Entries
 pub mod Equal

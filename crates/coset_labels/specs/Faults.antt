@@ -8,8 +8,8 @@ use Rattle.ciborium.specs.Damage.{Fault, end, deep, syntax, semantic}
 use Rattle.coset_labels.specs.declared.error.CoseError.{CoseError}
 use Rattle.coset_labels.specs.declared.error.CoseError.TheVariants as code
 
--- `undecodable` tells the damage of bytes that should have been one item. `misplaced` is such damage with an offset where a reader names
--- none; no call answers it
+-- `undecodable` tells the damage of bytes that should have been one item. `misplaced` is such
+-- damage with an offset if a reader names none; no call answers it
 pub data CoseFault : Type 0 where
   undecodable : Fault → CoseFault
   too_long duplicate_key unencodable extraneous out_of_range unexpected : CoseFault
@@ -51,10 +51,10 @@ unwritten (ser.Io e) = code.EncodeFailed
 unwritten (ser.Value k) = code.EncodeFailed
 unwritten ser.Memory = code.Memory
 
--- memory was refused, or the fault is wrong there
+-- there was no memory, or the fault is wrong there
 abbrev pub OrMemory : (CoseFault → Type 0) → CoseError → Type 0
 OrMemory Wrong e = (e ≡ code.Memory) ⊎ Wrong (fault_of e)
 
--- memory was refused, or a label would be written twice and so there is nothing to write
+-- there was no memory, or a label would be written twice and so there is nothing to write
 abbrev pub CantWrite : {A : Type 0} → Option A → CoseError → Type 0
 CantWrite o e = (e ≡ code.Memory) ⊎ ((e ≡ code.DuplicateMapKey) × (o ≡ None))

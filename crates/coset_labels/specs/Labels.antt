@@ -1,4 +1,5 @@
--- Which label or registered name a value is, which fault it has as one, and which value stands for one (RFC 9052, sections 1.4 and 3.1).
+-- Which label or registered name a value is, which fault it has as one, and which value stands for
+-- one (RFC 9052, sections 1.4 and 3.1).
 use Rattle.std.specs.Prelude.{◌≡◌, ℤ, pos, negsuc, ◌⊎◌, Bool, true, false, if◌then◌else◌, nat_lt, Option, Some, None}
 use Rattle.ciborium_value.specs.Tree.{Tree, integer, text}
 use Rattle.coset_labels.specs.Fields.{LabelFields, number, words, Named, private_use, assigned, named}

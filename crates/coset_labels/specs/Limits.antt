@@ -1,9 +1,10 @@
--- Limits of reading: those that a caller chooses, and those where none are chosen.
+-- Limits of reading: those that a caller chooses, and those if none are chosen.
 use Rattle.std.specs.Prelude.{ℕ, ◌≤◌}
 pub use Rattle.ciborium.specs.Items.{nesting}
 use Rattle.coset_labels.specs.declared.limits.Limits.{Limits}
 
--- how many protected headers may lie inside one another, by counter signatures (RFC 9052, section 3.1)
+-- how many protected headers may lie inside one another, by counter signatures (RFC 9052, section
+-- 3.1)
 abbrev pub layers : ℕ
 layers = 16
 

@@ -1,5 +1,5 @@
--- The orders of labels and names: those of their encodings (RFC 8949, section 4.2). Of two names with one encoding that of the registry
--- is before that for private use.
+-- The orders of labels and names: those of their encodings (RFC 8949, section 4.2). Of two names
+-- with one encoding that of the registry is before that for private use.
 use Rattle.std.specs.Prelude.{◌≡◌, ◌↔◌, Bool, true, false, IsTrue, length}
 use Rattle.std.proofs.Common.{ap, ◌∙◌}
 use Rattle.std.proofs.lemmas.Cmp.{tied_itself}
@@ -32,7 +32,8 @@ is_own_number (named b) = false
 abbrev pub named_cmp : Named → Named → Ordering
 named_cmp n m = ordering_then (text_cmp (named_tree n) (named_tree m)) (bool_cmp (is_own_number n) (is_own_number m))
 
--- They are total, and those by heads tie what is equal alone. It is proved here: nothing of it has to be believed.
+-- They are total, and those by heads tie what is equal alone. It is proved here: nothing of it has
+-- to be believed.
 pub label_total : IsTotalOrder label_cmp
 label_total = on_total label_tree text_total
 

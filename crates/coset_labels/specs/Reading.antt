@@ -1,4 +1,4 @@
--- Bytes that are one item, and nothing behind it.
+-- Bytes that are one item, and nothing after it.
 use Rattle.std.specs.Prelude.{◌≡◌, ◌≢◌, ℕ, false, List, [], length}
 use Rattle.ciborium_value.specs.Tree.{Tree, tag}
 use Rattle.ciborium.specs.Front.{Reads, Front}
@@ -7,7 +7,7 @@ use Rattle.ciborium.specs.Items.{nesting}
 use Rattle.coset_labels.specs.Faults.{CoseFault, undecodable, extraneous, unexpected}
 use Rattle.coset_labels.specs.Kinds.{is_tag}
 
--- bytes that are not one readable item: damaged, or going on behind it
+-- bytes that are not one readable item: damaged, or going on after it
 pub data NotReadable (b : List ℕ) (limit : ℕ) : CoseFault → Type 0 where
   damaged : (f : Fault) → Damage (length b) b limit f → NotReadable b limit (undecodable f)
   goes_on : (v : Tree) (rest : List ℕ) → Front b limit v rest → rest ≢ [] → NotReadable b limit extraneous

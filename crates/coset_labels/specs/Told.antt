@@ -26,7 +26,8 @@ told code.UnregisteredIanaNonPrivateValue = plainly unregistered_private
 told code.Memory = plainly no_memory
 told code.TooManyLayers = plainly too_many_layers
 
--- both are the caller's, and equal as its errors are, or both are faults of COSE, and equal as those are
+-- both are the caller's, and equal as its errors are, or both are faults of COSE, and equal as
+-- those are
 abbrev pub SameFault : {E : Type 0} → (E → E → Bool) → (CoseError → CoseError → Bool) → Fault E → Fault E → Type 0
 SameFault f g (fault.Caller x) (fault.Caller y) = IsTrue (f x y)
 SameFault f g (fault.Caller x) (fault.Cose d) = ⊥

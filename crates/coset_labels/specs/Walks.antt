@@ -15,7 +15,7 @@ pub record WrongItems (Wrong : Tree → CoseFault → Type 0) (ts : Trees) (e : 
   pub are : ts ≡ trees (before ++ tree ∷ after)
   pub wrong : Wrong tree e
 
--- one of the entries has a fault behind those before it, which have keys
+-- one of the entries has a fault after those before it, which have keys
 pub record WrongEntries {K : Type 0} (read : Tree → Option K)
     (Wrong : List (K × Tree) → Tree → Tree → CoseFault → Type 0) (ps : Pairs) (e : CoseFault) : Type 0 where
   pub before : List (Tree × Tree)
@@ -34,7 +34,8 @@ pub record HasEntries {K : Type 0} (read : Tree → Option K)
   pub entries_are : entries read ps ≡ Some es
   pub known : Known es
 
--- the keys of these entries, and no others, were seen, and so much is known of them and of what they have given
+-- the keys of these entries, and no others, were seen, and so much is known of them and of what
+-- they have given
 pub record KnownIn {K L H : Type 0} (Sees : SeenLabels K → List (L × Tree) → Type 0)
     (Known : List (L × Tree) → H → Type 0) (es : List (L × Tree)) (s : SeenLabels K) (given : H) : Type 0 where
   pub sees : Sees s es

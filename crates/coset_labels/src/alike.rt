@@ -7,7 +7,7 @@ ghost use Rattle.coset_labels.specs.Told.{told, SameFault};
 use crate::error::{CoseError, EndOfFile, Fault};
 use crate::order::CborOrdering;
 
-/// Orders are equal where they are the same.
+/// Orders are equal if they are the same.
 pub fn orderings_compare(a: CborOrdering, b: CborOrdering)
     ensures { IsTrue (⟦<CborOrdering as std::cmp::PartialEq>⟧.eq a b) ↔ (a ≡ b) }
 {}
@@ -17,12 +17,13 @@ pub fn ends_compare(a: EndOfFile, b: EndOfFile)
     ensures { IsTrue (⟦<EndOfFile as std::cmp::PartialEq>⟧.eq a b) }
 {}
 
-/// Errors are equal where they say the same, texts included.
+/// Errors are equal if they say the same, texts included.
 pub fn errors_compare(a: CoseError, b: CoseError)
     ensures { IsTrue (⟦<CoseError as std::cmp::PartialEq>⟧.eq a b) ↔ (told a ≡ told b) }
 {}
 
-/// Faults are equal where both are the caller's and its errors are equal, or both are of COSE and those errors are equal.
+/// Faults are equal if both are the caller's and its errors are equal, or both are of COSE and
+/// those errors are equal.
 pub fn faults_compare<E: PartialEq>(a: &Fault<E>, b: &Fault<E>)
     ensures { IsTrue (⟦<Fault<E> as std::cmp::PartialEq>⟧.eq a.now b.now)
         ↔ SameFault E.eq ⟦<CoseError as std::cmp::PartialEq>⟧.eq a.now b.now }

@@ -9,7 +9,7 @@ use std::alloc::{AllocError, Global};
 /// A copy of bytes, if there are any.
 ///
 /// # Errors
-/// Only where memory is refused.
+/// Only if out of memory.
 pub fn clone_bytes(alloc: Global, bytes: &Option<Vec<u8>>) -> Result<Option<Vec<u8>>, AllocError>
     ensures { IfOk result
         (λ copy. option_map (λ v. v.items) copy ≡ option_map (λ v. v.items) bytes.now) }
@@ -23,7 +23,7 @@ pub fn clone_bytes(alloc: Global, bytes: &Option<Vec<u8>>) -> Result<Option<Vec<
 /// A copy of a label or a name, if there is one.
 ///
 /// # Errors
-/// Only where memory is refused.
+/// Only if out of memory.
 pub fn clone_key<K: EntryKey>(alloc: Global, key: &Option<K>) -> Result<Option<K>, AllocError>
     ensures { IfOk result (λ copy. option_map K.fields copy ≡ option_map K.fields key.now) }
 {
@@ -36,7 +36,7 @@ pub fn clone_key<K: EntryKey>(alloc: Global, key: &Option<K>) -> Result<Option<K
 /// A copy of the entries of a map, each with its key.
 ///
 /// # Errors
-/// Only where memory is refused.
+/// Only if out of memory.
 pub fn clone_entries<K: EntryKey>(
     alloc: Global,
     entries: &[(K, Value)],

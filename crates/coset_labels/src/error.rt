@@ -15,13 +15,13 @@ pub enum CoseError {
     /// Bytes that should have been one item are none.
     #[error("decode CBOR failure: {0}")]
     DecodeFailed(de::Error<EndOfFile>),
-    /// A label stands twice in one map.
+    /// A label is twice in one map.
     #[error("duplicate map key")]
     DuplicateMapKey,
     /// A value can't be written.
     #[error("encode CBOR failure")]
     EncodeFailed,
-    /// Bytes go on behind their item.
+    /// Bytes go on after their item.
     #[error("extraneous data in CBOR input")]
     ExtraneousData,
     /// An integer outside the range of its type.
@@ -36,10 +36,10 @@ pub enum CoseError {
     /// A number that neither the registry nor its private range has.
     #[error("expected value in IANA or private use range")]
     UnregisteredIanaNonPrivateValue,
-    /// Memory was refused.
+    /// Out of memory.
     #[error("out of memory")]
     Memory,
-    /// Protected headers inside one another, more than the limits allow (16 where none are chosen).
+    /// Protected headers inside one another, more than the limits allow (16 if none are chosen).
     #[error("too many protected layers")]
     TooManyLayers,
 }

@@ -63,7 +63,8 @@ pub trait ValueTryAs {
         ensures { MatchResult result (λ b. some_bytes (tree self) ≡ Some b.items)
             (λ e. WrongBytes (tree self) (fault_of e)) };
 
-    /// The bytes of a byte string, or none for null. The caller names what it wants, for the text of the error.
+    /// The bytes of a byte string, or none for null. The caller names what it wants, for the text
+    /// of the error.
     ///
     /// # Errors
     /// `UnexpectedItem` for a value of another kind.

@@ -35,7 +35,7 @@ impl Label {
     /// A label equal to this one. That of an integer takes no memory.
     ///
     /// # Errors
-    /// Only where memory is refused, and of a text alone.
+    /// Only if out of memory, and of a text alone.
     pub fn clone(&self, alloc: Global) -> Result<Label, AllocError>
         ensures ok { IfOk result (λ copy. label_view copy ≡ label_view self.now) }
         ensures number { (i : ℤ) → label_view self.now ≡ number i → IsOk result }

@@ -41,7 +41,8 @@ pub fn bytes_fit(content: &[u8])
     let _len = content.len();
 }
 
-/// The number of a label lies in its range, and its text is UTF-8 and no longer than a head can say.
+/// The number of a label lies in its range, and its text is UTF-8 and no longer than a head can
+/// say.
 pub fn label_fits(label: &Label)
     ensures { Fits (label_tree (label_view label.now)) }
 {
@@ -72,7 +73,8 @@ pub fn name_fits<T: EnumI64>(label: &RegisteredLabelWithPrivate<T>)
     }
 }
 
-/// Labels are equal where they say the same, and their order is that of their encodings. The length-first order ties equal ones alone.
+/// Labels are equal if they say the same, and their order is that of their encodings. The
+/// length-first order ties equal ones alone.
 pub fn labels_compare(a: &Label, b: &Label)
     ensures equality { IsTrue (⟦<Label as std::cmp::PartialEq>⟧.eq a.now b.now)
         ↔ (label_view a.now ≡ label_view b.now) }
@@ -86,7 +88,7 @@ pub fn labels_compare(a: &Label, b: &Label)
     orders_of_encodings();
 }
 
-/// Registered names are equal where they say the same, and their order is that of their encodings.
+/// Registered names are equal if they say the same, and their order is that of their encodings.
 pub fn registered_compare<T: EnumI64>(a: &RegisteredLabel<T>, b: &RegisteredLabel<T>)
     ensures equality { IsTrue (⟦<RegisteredLabel<T> as std::cmp::PartialEq>⟧.eq a.now b.now)
         ↔ (registered_view T.number a.now ≡ registered_view T.number b.now) }
@@ -99,8 +101,8 @@ pub fn registered_compare<T: EnumI64>(a: &RegisteredLabel<T>, b: &RegisteredLabe
     orders_of_encodings();
 }
 
-/// Names are equal where they say the same, and their order is that of their encodings; of two with one encoding the entry of the
-/// registry is before the number for private use.
+/// Names are equal if they say the same, and their order is that of their encodings; of two with
+/// one encoding the entry of the registry is before the number for private use.
 pub fn names_compare<T: EnumI64>(
     a: &RegisteredLabelWithPrivate<T>,
     b: &RegisteredLabelWithPrivate<T>,
@@ -119,7 +121,7 @@ pub fn names_compare<T: EnumI64>(
     orders_of_encodings();
 }
 
-/// Limits are equal where nesting and layers are.
+/// Limits are equal if nesting and layers are.
 pub fn limits_compare(a: &Limits, b: &Limits)
     ensures { IsTrue (⟦<Limits as std::cmp::PartialEq>⟧.eq a.now b.now)
         ↔ ((nesting_of a.now ≡ nesting_of b.now) × (layers_of a.now ≡ layers_of b.now)) }

@@ -19,7 +19,7 @@ pub struct Limits {
     ghost most_layers: { layers ≤ 64 },
 }
 
-/// The layers where none are chosen.
+/// The layers if none are chosen.
 const LAYERS: usize = 16;
 
 impl Limits {

@@ -17,7 +17,8 @@ use std::alloc::Global;
 /// Reads the one item that the bytes are, of at most `limit` levels.
 ///
 /// # Errors
-/// `DecodeFailed` with the damage of the bytes, `ExtraneousData` where they go on behind their item, or `Memory`.
+/// `DecodeFailed` with the damage of the bytes, `ExtraneousData` if they go on after their item, or
+/// `Memory`.
 pub fn read_to_value(alloc: Global, bytes: &[u8], limit: usize) -> Result<Value, CoseError>
     ensures { MatchResult result (λ v. Reads bytes.now limit (view v))
         (λ e. OrMemory (NotReadable bytes.now limit) e) }
@@ -41,14 +42,14 @@ fn is_short(bytes: &[u8])
 /// The encoded value (RFC 8949, section 4.1).
 ///
 /// # Errors
-/// Only where memory is refused.
+/// Only if out of memory.
 pub fn write_to_vec(alloc: Global, value: &Value) -> Result<Vec<u8>, CoseError>
     ensures { MatchResult result (λ b. b.items ≡ enc (view value.now)) (λ e. e ≡ Memory) }
 {
     let mut out = Mem::new(Vec::new(alloc));
     match into_writer(value, &mut out) {
         Ok(()) => Ok(out.into_inner()),
-        // a writer to memory fails where memory is refused, and no other way
+        // a writer to memory fails if out of memory, and no other way
         Err(_) => Err(CoseError::Memory),
     }
 }

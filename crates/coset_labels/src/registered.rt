@@ -57,7 +57,7 @@ impl<T: EnumI64> RegisteredLabel<T> {
     /// A value equal to this one. That of a number takes no memory.
     ///
     /// # Errors
-    /// Only where memory is refused, and of a text alone.
+    /// Only if out of memory, and of a text alone.
     pub fn clone(&self, alloc: Global) -> Result<RegisteredLabel<T>, AllocError>
         ensures ok { IfOk result
             (λ copy. registered_view T.number copy ≡ registered_view T.number self.now) }
@@ -76,7 +76,7 @@ impl<T: WithPrivateRange> RegisteredLabelWithPrivate<T> {
     /// A value equal to this one. That of a number takes no memory.
     ///
     /// # Errors
-    /// Only where memory is refused, and of a text alone.
+    /// Only if out of memory, and of a text alone.
     pub fn clone(&self, alloc: Global) -> Result<RegisteredLabelWithPrivate<T>, AllocError>
         ensures ok { IfOk result (λ copy. named_view T.number copy ≡ named_view T.number self.now) }
         ensures number { (i : ℤ) → named_view T.number self.now ≡ assigned i → IsOk result }

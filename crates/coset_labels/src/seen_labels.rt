@@ -22,11 +22,11 @@ pub trait EntryKey: AsCborValue + Ord {
     /// A key equal to this one.
     ///
     /// # Errors
-    /// Only where memory is refused.
+    /// Only if out of memory.
     fn clone_in(&self, alloc: Global) -> Result<Self, AllocError>
         ensures { IfOk result (λ copy. Self.fields copy ≡ Self.fields self.now) };
 
-    /// Keys are equal in their order exactly where they say the same.
+    /// Keys are equal in their order exactly when they say the same.
     ghost same: { (a b : Self) → IsTrue (is_eq (Self.cmp a b)) ↔ (Self.fields a ≡ Self.fields b) };
 }
 
@@ -71,7 +71,7 @@ impl<K: EntryKey> SeenLabels<K> {
     /// nothing.
     ///
     /// # Errors
-    /// Only where memory is refused.
+    /// Only if out of memory.
     pub fn add(&mut self, alloc: Global, key: &K) -> Result<bool, CoseError>
         ensures { (es : List (K.Fields × Tree)) → Sees K.cmp K.fields self.old es
             → MatchResult result

@@ -28,7 +28,7 @@ pub trait AsCborValue: Drop + Sized {
     /// Which faults a tree has as this type.
     ghost wrong: { Tree → CoseFault → Type 0 };
 
-    /// The tree that fields are written as; none where a label would be written twice in one map.
+    /// The tree that fields are written as; none if a label would be written twice in one map.
     ghost written: { Fields → Option Tree };
 
     /// Reads a value. Its byte strings are moved, which is only read in the code; what is inside
@@ -43,7 +43,7 @@ pub trait AsCborValue: Drop + Sized {
     /// The value that stands for this one.
     ///
     /// # Errors
-    /// `DuplicateMapKey` exactly where a label would be written twice in one map, or `Memory`.
+    /// `DuplicateMapKey` exactly when a label would be written twice in one map, or `Memory`.
     fn to_cbor_value(self, alloc: Global) -> Result<Value, CoseError>
         ensures { MatchResult result (λ v. written (fields self) ≡ Some (view v))
             (λ e. CantWrite (written (fields self)) e) };
@@ -54,7 +54,7 @@ pub trait CborSerializable: AsCborValue {
     /// Reads the one item that the bytes are, of at most 256 levels.
     ///
     /// # Errors
-    /// `DecodeFailed` with the damage of the bytes, `ExtraneousData` where they go on behind their
+    /// `DecodeFailed` with the damage of the bytes, `ExtraneousData` if they go on after their
     /// item, a fault that the item has, or `Memory`.
     fn from_slice(alloc: Global, slice: &[u8]) -> Result<Self, CoseError>
         ensures { MatchResult result (λ x. HasItem Self.shape slice.now (Self.fields x))
@@ -67,7 +67,7 @@ pub trait CborSerializable: AsCborValue {
     /// The encoded item (RFC 8949, section 4.1).
     ///
     /// # Errors
-    /// `DuplicateMapKey` exactly where a label would be written twice in one map, or `Memory`.
+    /// `DuplicateMapKey` exactly when a label would be written twice in one map, or `Memory`.
     fn to_vec(self, alloc: Global) -> Result<Vec<u8>, CoseError>
         ensures { MatchResult result
             (λ b. option_map enc (Self.written (Self.fields self)) ≡ Some b.items)
@@ -130,7 +130,7 @@ pub trait TaggedCborSerializable: AsCborValue {
     /// The encoded tag over this value (RFC 8949, section 4.1).
     ///
     /// # Errors
-    /// `DuplicateMapKey` exactly where a label would be written twice in one map, or `Memory`.
+    /// `DuplicateMapKey` exactly when a label would be written twice in one map, or `Memory`.
     fn to_tagged_vec(self, alloc: Global) -> Result<Vec<u8>, CoseError>
         ensures { MatchResult result
             (λ b. option_map (λ t. enc (tag TAG t)) (Self.written (Self.fields self))
@@ -146,7 +146,7 @@ pub trait TaggedCborSerializable: AsCborValue {
 /// The array of the values that the items stand for.
 ///
 /// # Errors
-/// `DuplicateMapKey` exactly where a label would be written twice in one map of an item, or
+/// `DuplicateMapKey` exactly when a label would be written twice in one map of an item, or
 /// `Memory`.
 pub fn to_cbor_array<T: AsCborValue>(alloc: Global, items: Vec<T>) -> Result<Value, CoseError>
     ensures { MatchResult result

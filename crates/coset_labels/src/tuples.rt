@@ -1,7 +1,7 @@
 //! Lists of a fixed length, as tuples. Nothing is copied.
 ghost use Rattle.std.specs.Prelude.{◌≡◌, ◌≢◌, [], ◌∷◌, length, MatchOption};
 
-/// The items of a list of two; none where it has another length.
+/// The items of a list of two; none if it has another length.
 pub fn two<T: Drop>(items: Vec<T>) -> Option<(T, T)>
     ensures { MatchOption result (length items.items ≢ 2) (λ t. items.items ≡ t.0 ∷ t.1 ∷ []) }
 {
@@ -14,7 +14,7 @@ pub fn two<T: Drop>(items: Vec<T>) -> Option<(T, T)>
     Some((first, second))
 }
 
-/// The items of a list of three; none where it has another length.
+/// The items of a list of three; none if it has another length.
 pub fn three<T: Drop>(items: Vec<T>) -> Option<(T, T, T)>
     ensures { MatchOption result (length items.items ≢ 3)
         (λ t. items.items ≡ t.0 ∷ t.1 ∷ t.2 ∷ []) }
@@ -29,7 +29,7 @@ pub fn three<T: Drop>(items: Vec<T>) -> Option<(T, T, T)>
     Some((first, second, third))
 }
 
-/// The items of a list of four; none where it has another length.
+/// The items of a list of four; none if it has another length.
 pub fn four<T: Drop>(items: Vec<T>) -> Option<(T, T, T, T)>
     ensures { MatchOption result (length items.items ≢ 4)
         (λ t. items.items ≡ t.0 ∷ t.1 ∷ t.2 ∷ t.3 ∷ []) }
@@ -45,7 +45,7 @@ pub fn four<T: Drop>(items: Vec<T>) -> Option<(T, T, T, T)>
     Some((first, second, third, fourth))
 }
 
-/// The items of a list of five; none where it has another length.
+/// The items of a list of five; none if it has another length.
 pub fn five<T: Drop>(items: Vec<T>) -> Option<(T, T, T, T, T)>
     ensures { MatchOption result (length items.items ≢ 5)
         (λ t. items.items ≡ t.0 ∷ t.1 ∷ t.2 ∷ t.3 ∷ t.4 ∷ []) }

@@ -12,7 +12,7 @@ use Rattle.coset_message_parts.specs.View.{parts_view}
 use Rattle.coset_message_parts.specs.declared.parts.Parts.{Parts}
 use Rattle.coset_message_parts.specs.contracts.parts.PartsPartialEq.TheImpl as equality
 
--- the parts, and what stands behind them
+-- the parts, and what is after them
 pub parts_and : {A Q : Type 0} (f : A → List ℕ) (p q : ProtectedFields) (u v : HeaderFields) (c d : Option A) (b : Bool) → IsTrue b ↔ Q
     → IsTrue (same_protected p q && (same_header u v && (option_eq (λ x y. pointwise nat_eq (f x) (f y)) c d && b)))
     ↔ ((p ≡ q) × ((u ≡ v) × ((option_map f c ≡ option_map f d) × Q)))

@@ -24,7 +24,7 @@ values_fit p u c ts f g h e s =
     let w = parts_split p u c ts e in
     subst (λ z. FitAll (trees z)) w.4 (f w.0 w.2 s.0, (g w.1 w.3 s.1, (h, tt)))
 
--- an array of the parts and at most two items behind them
+-- an array of the parts and at most two items after them
 pub whole_fit : (p : ProtectedFields) (u : HeaderFields) (c : Option (List ℕ)) (ts ys : List Tree) → parts_trees (parts p u c) ≡ Some ts → FitAll (trees ts) → tree_count (trees ys) ≤ 2 → FitAll (trees ys) → Fits (array (trees (ts ++ ys)))
 whole_fit p u c ts ys e f l g =
     let w = parts_split p u c ts e in

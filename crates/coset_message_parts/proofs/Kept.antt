@@ -1,5 +1,5 @@
--- What is written of a message that was read is there, has its fields again, nests no deeper than it did, and is read again. Each of these
--- rests on the same of the parts and of the last items.
+-- What is written of a message that was read is there, has its fields again, nests no deeper than
+-- it did, and is read again. Each of these rests on the same of the parts and of the last items.
 use Rattle.std.proofs.Common.{◌≡◌, ◌≢◌, ℕ, ◌≤◌, ◌<◌, ◌-◌, ◌^◌, List, [], ◌∷◌, ◌++◌, length, false, Option, Some, None, option_map, sym, ap, subst, ◌∙◌, arith}
 use Rattle.std.specs.Prelude.{◌||◌, nat_eq}
 use Rattle.ciborium.specs.Front.{Reads}

@@ -1,4 +1,4 @@
--- A value has the fields of at most one message, and of none where it has a fault.
+-- A value has the fields of at most one message, and of none if it has a fault.
 use Rattle.std.proofs.Common.{◌≡◌, ◌≢◌, ℕ, inl, inr, List, [], ◌∷◌, true, false, Option, None, Some, refl, sym, ap, subst, ◌∙◌, arith}
 use Rattle.ciborium_value.specs.Tree.{Tree, bytes, array, simple, Trees, tree_count, is_bytes}
 use Rattle.ciborium_value.specs.View.{trees}

@@ -1,4 +1,5 @@
--- What is written of parts that were read nests no deeper than they did, and is read again, behind a tag too.
+-- What is written of parts that were read nests no deeper than they did, and is read again, after a
+-- tag too.
 use Rattle.std.proofs.Common.{◌≡◌, ℕ, ◌≤◌, ◌<◌, ◌-◌, ◌^◌, suc, List, [], ◌∷◌, ◌++◌, false, cond, Option, Some, None, option_and_then, refl, sym, ap, subst, ◌∙◌, arith}
 use Rattle.std.specs.Prelude.{◌||◌, ◌&&◌, nat_eq}
 use Rattle.ciborium_value.specs.Tree.{Tree, integer, bytes, text, array, map as map_tree, tag, simple, float, Trees, no_trees, one_more, depth, is_bytes}
@@ -34,7 +35,7 @@ parts_sound n x y z p u c rest ts k d h e s =
     (all_more d w.1 (one_more (optional_tree c) no_trees) (hdr_sound n u y w.1 k d h.unprotected w.3 second.0)
     (all_more d (optional_tree c) no_trees (subst (Sound d) h.content third.0) (all_none d))))
 
--- an array of the parts and of what stands behind them
+-- an array of the parts and of what is after them
 pub whole_sound : (n : ℕ) (x y z : Tree) (p : ProtectedFields) (u : HeaderFields) (c : Option (List ℕ)) (rest : Trees) (ts ys : List Tree) (k d : ℕ) → HasParts n x y z (parts p u c) k → parts_trees (parts p u c) ≡ Some ts
     → Sound d (array (one_more x (one_more y (one_more z rest)))) → (SoundAll (d - 1) rest → SoundAll (d - 1) (trees ys)) → Sound d (array (trees (ts ++ ys)))
 whole_sound n x y z p u c rest ts ys k d h e s f =

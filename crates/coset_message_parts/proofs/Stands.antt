@@ -1,4 +1,4 @@
--- The parts that were read are as written exactly where the unprotected header is.
+-- The parts that were read are as written exactly when the unprotected header is.
 use Rattle.std.proofs.Common.{◌≡◌, ℕ, List, [], ◌∷◌, ◌++◌, Bool, true, false, Option, Some, None, option_map, option_and_then, refl, sym, ap, ◌∙◌}
 use Rattle.std.specs.Prelude.{◌&&◌, Decides}
 use Rattle.ciborium_value.specs.Tree.{Tree, bytes, array, no_trees, one_more}

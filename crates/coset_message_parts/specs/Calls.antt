@@ -1,5 +1,5 @@
--- What calls that ask a caller's code answer. The code is asked at most once, and only at the bytes that a structure has: where there is
--- none, since a header can't be written, it can't be asked.
+-- What calls that ask a caller's code answer. The code is asked at most once, and only at the bytes
+-- that a structure has: if there is none, since a header can't be written, it can't be asked.
 use Rattle.std.specs.Prelude.{◌≡◌, Option, Result, Ok, Err, IfSome, IsSomeAnd}
 use denote.Ref.{Bor}
 use Rattle.std.specs.Fn.{Once, FnOnceReturnsAt, FnOnceReturnsAtPair, FnOnceTakesAt}
@@ -20,7 +20,8 @@ TakesPairWhere g f x o = IfSome o (λ y. TakesPair g f x y)
 abbrev pub TakesWhere : {F T R : Type 0} → Once F (Bor T × Unit {0}) R → F → Option T → Type 0
 TakesWhere g f o = IfSome o (λ y. FnOnceTakesAt g f y)
 
--- the answer is that of f, asked once at x and the bytes of o; or the error of what can't be written, and then there is no answer of f
+-- the answer is that of f, asked once at x and the bytes of o; or the error of what can't be
+-- written, and then there is no answer of f
 abbrev pub AnswersWhere : {F T A E : Type 0} → Once F (Bor T × (Bor T × Unit {0})) (Result A E) → F → T → Option T → Result A (Fault E) → Type 0
 AnswersWhere g f x o (Ok a) = IsSomeAnd o (λ y. FnOnceReturnsAtPair g f x y (Ok a))
 AnswersWhere g f x o (Err (fault.Caller e)) = IsSomeAnd o (λ y. FnOnceReturnsAtPair g f x y (Err e))
@@ -37,13 +38,13 @@ abbrev pub BuiltWhere : {F T A B : Type 0} → Once F (Bor T × Unit {0}) A → 
 BuiltWhere g f o given P (Ok b) = IsSomeAnd o (λ y. FnOnceReturnsAt g f y (given b)) × P b
 BuiltWhere g f o given P (Err c) = CantWrite o c
 
--- alike, where f may give an error of its own
+-- alike, if f may give an error of its own
 abbrev pub MadeWhere : {F T A B E : Type 0} → Once F (Bor T × Unit {0}) (Result A E) → F → Option T → (B → A) → (B → Type 0) → Result B (Fault E) → Type 0
 MadeWhere g f o given P (Ok b) = IsSomeAnd o (λ y. FnOnceReturnsAt g f y (Ok (given b))) × P b
 MadeWhere g f o given P (Err (fault.Caller e)) = IsSomeAnd o (λ y. FnOnceReturnsAt g f y (Err e))
 MadeWhere g f o given P (Err (fault.Cose c)) = CantWrite o c
 
--- alike, of an f that is asked at x and the bytes of o, and of what is built where `given` has it
+-- alike, of an f that is asked at x and the bytes of o, and of what is built if `given` has it
 abbrev pub BuiltPairWhere : {F T A B : Type 0} → Once F (Bor T × (Bor T × Unit {0})) A → F → T → Option T → (B → Option A) → (B → Type 0) → Result B CoseError → Type 0
 BuiltPairWhere g f x o given P (Ok b) = IsSomeAnd o (λ y. IsSomeAnd (given b) (λ a. FnOnceReturnsAtPair g f x y a)) × P b
 BuiltPairWhere g f x o given P (Err c) = CantWrite o c

@@ -1,4 +1,5 @@
--- The parts that a message and a recipient begin with, as values that hold no memory (RFC 9052, sections 4.2, 5.1 and 6.1).
+-- The parts that a message and a recipient begin with, as values that hold no memory (RFC 9052,
+-- sections 4.2, 5.1 and 6.1).
 use Rattle.std.specs.Prelude.{ℕ, List, Option, None}
 use Rattle.coset_headers.specs.Fields.{HeaderFields, ProtectedFields, protected, no_header}
 

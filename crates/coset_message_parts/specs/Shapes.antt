@@ -1,5 +1,6 @@
--- The parts that a message and a recipient begin with: a protected header, an unprotected one, and bytes or null (RFC 9052, sections 4.2,
--- 5.1 and 6.1). The nesting limit `n` and the layers `k` are those of headers.
+-- The parts that a message and a recipient begin with: a protected header, an unprotected one, and
+-- bytes or null (RFC 9052, sections 4.2, 5.1 and 6.1). The nesting limit `n` and the layers `k` are
+-- those of headers.
 use Rattle.std.specs.Prelude.{◌≡◌, ℕ, List, [], ◌∷◌}
 use Rattle.std.proofs.Common.{refl}
 use Rattle.ciborium_value.specs.Tree.{Tree, array}
@@ -32,7 +33,7 @@ two_held P Q (x ∷ []) h = absurd h.1
 two_held P Q (x ∷ y ∷ []) h = (x, y, refl, h.0, h.1.0)
 two_held P Q (x ∷ y ∷ z ∷ ts) h = absurd h.1.1
 
--- a message: an array of the parts and, behind them, of the last items, of which these hold
+-- a message: an array of the parts and, after them, of the last items, of which these hold
 pub record HasWhole (n : ℕ) (t : Tree) (f : PartsFields) (Lasts : List (Tree → Type 0)) (k : ℕ) : Type 0 where
   pub first : Tree
   pub second : Tree

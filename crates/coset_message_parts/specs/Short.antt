@@ -1,4 +1,5 @@
--- Parts in which each protected header that has no received bytes is encoded in fewer bytes than a head can say.
+-- Parts in which each protected header that has no received bytes is encoded in fewer bytes than a
+-- head can say.
 use Rattle.coset_headers.specs.Fields.{HeaderFields, ProtectedFields}
 use Rattle.coset_headers.specs.Short.{IsShort, ShowsShort}
 

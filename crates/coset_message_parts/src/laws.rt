@@ -22,8 +22,8 @@ fn optional_fits(content: &Option<Vec<u8>>)
     }
 }
 
-/// What is written of parts fits heads, if each protected header in them that has no received bytes is encoded in fewer
-/// than 2^64 bytes.
+/// What is written of parts fits heads, if each protected header in them that has no received bytes
+/// is encoded in fewer than 2^64 bytes.
 pub fn parts_fit(protected: &ProtectedHeader, unprotected: &Header, content: &Option<Vec<u8>>)
     ensures { (ts : List Tree)
         → parts_trees (parts_in protected.now unprotected.now content.now) ≡ Some ts
@@ -35,7 +35,8 @@ pub fn parts_fit(protected: &ProtectedHeader, unprotected: &Header, content: &Op
     optional_fits(content);
 }
 
-/// Parts are equal where each of them says the same and the protected headers have the same received bytes, or none.
+/// Parts are equal if each of them says the same and the protected headers have the same received
+/// bytes, or none.
 pub fn parts_compare(a: &Parts, b: &Parts)
     ensures { IsTrue (⟦<Parts as std::cmp::PartialEq>⟧.eq a.now b.now)
         ↔ (parts_view a.now ≡ parts_view b.now) }

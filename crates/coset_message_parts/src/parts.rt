@@ -15,14 +15,15 @@ use coset_headers::{Header, ProtectedHeader};
 use coset_labels::{AsCborValue, CoseError, Limits, ValueTryAs};
 use std::alloc::Global;
 
-/// The headers of a message or a recipient, and what it carries: a payload or a ciphertext, or nothing.
+/// The headers of a message or a recipient, and what it carries: a payload or a ciphertext, or
+/// nothing.
 #[derive(Debug, PartialEq, Eq, Drop)]
 pub struct Parts {
     /// The protected header.
     pub protected: ProtectedHeader,
     /// The unprotected header.
     pub unprotected: Header,
-    /// What is carried; `None` where it is carried elsewhere.
+    /// What is carried; `None` if it is carried elsewhere.
     pub content: Option<Vec<u8>>,
 }
 
@@ -104,7 +105,7 @@ pub fn fill_parts(
 /// The values of the three parts, in their order.
 ///
 /// # Errors
-/// `DuplicateMapKey` exactly where a label stands twice in a header that has to be encoded, or `Memory`.
+/// `DuplicateMapKey` exactly when a label is twice in a header that has to be encoded, or `Memory`.
 pub fn write_parts(alloc: Global, parts: Parts) -> Result<Vec<Value>, CoseError>
     ensures { Writes (parts_trees (parts_view parts)) (λ v. map view v.items) result }
 {
@@ -122,7 +123,7 @@ pub fn write_parts(alloc: Global, parts: Parts) -> Result<Vec<Value>, CoseError>
     Ok(values)
 }
 
-/// The value of bytes, or null where there are none.
+/// The value of bytes, or null if there are none.
 pub fn optional_value(bytes: Option<Vec<u8>>) -> Value
     ensures { view result ≡ optional_tree (option_map (λ v. v.items) bytes) }
 {

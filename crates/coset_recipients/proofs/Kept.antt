@@ -1,4 +1,5 @@
--- What is written of a list of recipients that was read has them again, nests no deeper, and is read again.
+-- What is written of a list of recipients that was read has them again, nests no deeper, and is
+-- read again.
 use Rattle.std.proofs.Common.{ℕ}
 use Rattle.coset_message_parts.proofs.Kept.{Kept}
 use Rattle.coset_recipients.specs.Fields.{RecipientsFields}

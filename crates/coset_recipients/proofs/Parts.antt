@@ -18,7 +18,7 @@ recipients_snoc : (rs : List RecipientFields) (r : RecipientFields) → recipien
 recipients_snoc [] r = refl
 recipients_snoc (s ∷ ss) r = ap (recipient_more s) (recipients_snoc ss r)
 
--- one more recipient, behind the others
+-- one more recipient, after the others
 pub recipients_last : (old new : List CoseRecipient) (r : CoseRecipient) → new ≡ old ++ r ∷ [] → recipients_view new ≡ recipients_and (recipient_view r) (recipients_view old)
 recipients_last old new r e = ap recipients_view e ∙ ap recipients (map-append recipient_view old (r ∷ [])) ∙ recipients_snoc (map recipient_view old) (recipient_view r)
 

@@ -13,7 +13,7 @@ use Rattle.coset_recipients.specs.Shapes.{optional_list, HasRecipient, HasRecipi
 use Rattle.coset_recipients.specs.Written.{fourth, recipient_tree, recipients_trees, list_tree}
 use Rattle.coset_recipients.proofs.Again.{wrote_of, none_written}
 
--- an array of recipients is a fourth element only where it isn't empty
+-- an array of recipients is a fourth element only if it isn't empty
 fourth_sound : (d : ℕ) (ts : Trees) → 1 ≤ d → SoundAll (d - 1) ts → SoundAll d (trees (fourth ts))
 fourth_sound d no_trees l s = all_none d
 fourth_sound d (one_more t ts) l s = one_sound d (array (one_more t ts)) (array_sound d (one_more t ts) l s)

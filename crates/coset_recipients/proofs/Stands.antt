@@ -1,4 +1,4 @@
--- A recipient that was read is as written exactly where the test on its value says so.
+-- A recipient that was read is as written exactly when the test on its value says so.
 use Rattle.std.proofs.Common.{◌≡◌, ℕ, inl, inr, List, [], ◌∷◌, Bool, true, false, Option, Some, None, option_map, option_and_then, refl, sym, ap, subst, ◌∙◌}
 use Rattle.std.specs.Prelude.{◌&&◌, Decides}
 use Rattle.ciborium_value.specs.Tree.{Tree, array, Trees, no_trees, one_more}

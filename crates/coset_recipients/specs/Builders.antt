@@ -23,7 +23,7 @@ with_unprotected h (recipient p u c rs) = recipient p h c rs
 abbrev pub with_ciphertext : Option (List ℕ) → RecipientFields → RecipientFields
 with_ciphertext c (recipient p u d rs) = recipient p u c rs
 
--- one more recipient, behind the others
+-- one more recipient, after the others
 abbrev pub recipients_and : RecipientFields → RecipientsFields → RecipientsFields
 recipients_and r no_recipients = recipient_more r no_recipients
 recipients_and r (recipient_more s ss) = recipient_more s (recipients_and r ss)

@@ -2,7 +2,8 @@
 use Rattle.std.specs.Prelude.{ℕ, List, [], ◌∷◌, Option}
 use Rattle.coset_headers.specs.Fields.{HeaderFields, ProtectedFields}
 
--- a protected header, an unprotected one, the ciphertext where there is one, and the recipients who can find its key
+-- a protected header, an unprotected one, the ciphertext if there is one, and the recipients who
+-- can find its key
 mutual
   pub data RecipientFields : Type 0 where
     recipient : ProtectedFields → HeaderFields → Option (List ℕ) → RecipientsFields → RecipientFields

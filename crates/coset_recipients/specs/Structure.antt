@@ -14,6 +14,7 @@ IsRecipientContext context.EncRecipient = Unit {0}
 IsRecipientContext context.MacRecipient = Unit {0}
 IsRecipientContext context.RecRecipient = Unit {0}
 
--- the Enc_structure of a recipient, in a context and under external data; none where its protected header can't be written
+-- the Enc_structure of a recipient, in a context and under external data; none if its protected
+-- header can't be written
 abbrev pub recipient_structure : EncryptionContext → RecipientFields → List ℕ → Option (List ℕ)
 recipient_structure x (recipient p u c rs) aad = encryption_structure (encryption_text x) p aad

@@ -1,5 +1,5 @@
--- Which fault a value has as a recipient, or as a list of them (RFC 9052, section 5.1). A value may have several. The nesting limit `n` and
--- the layers `k` are those of the fields.
+-- Which fault a value has as a recipient, or as a list of them (RFC 9052, section 5.1). A value may
+-- have several. The nesting limit `n` and the layers `k` are those of the fields.
 use Rattle.std.specs.Prelude.{◌≡◌, ◌≢◌, ℕ, List, ◌∷◌, ◌++◌, false, Option, Some}
 use Rattle.ciborium_value.specs.Tree.{Tree, array, Trees, tree_count}
 use Rattle.ciborium_value.specs.View.{trees}

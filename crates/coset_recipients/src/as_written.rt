@@ -38,7 +38,7 @@ fn recipient_stands(value: &Value) -> bool
     }
 }
 
-/// The fourth element, where there is one.
+/// The fourth element, if there is one.
 #[cycle(stands)]
 fn fourth_stands(items: &[Value]) -> bool
     ensures { result ≡ fourth_stands (views items.now) }

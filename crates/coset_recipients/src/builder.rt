@@ -84,7 +84,7 @@ impl CoseRecipientBuilder {
     /// Appends a recipient of this one.
     ///
     /// # Errors
-    /// Only where memory is refused.
+    /// Only if out of memory.
     pub fn add_recipient(
         mut self,
         recipient: CoseRecipient,
@@ -103,8 +103,8 @@ impl CoseRecipientBuilder {
     /// and the external data. The context is one of recipients.
     ///
     /// # Errors
-    /// Before the cipher is asked: `DuplicateMapKey` exactly where a label stands twice in the
-    /// protected header, or `Memory`.
+    /// Before the cipher is asked: `DuplicateMapKey` exactly when a label is twice in the protected
+    /// header, or `Memory`.
     pub fn create_ciphertext<C: FnOnce(&[u8], &[u8]) -> Vec<u8>>(
         self,
         alloc: Global,

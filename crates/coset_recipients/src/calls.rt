@@ -18,7 +18,7 @@ impl CoseRecipient {
     ///
     /// # Errors
     /// `Caller` with the cipher's error. `Cose`, before the cipher is asked, with `DuplicateMapKey`
-    /// exactly where a label stands twice in a protected header that has to be encoded, or with
+    /// exactly when a label is twice in a protected header that has to be encoded, or with
     /// `Memory`.
     pub fn decrypt<E, C: FnOnce(&[u8], &[u8]) -> Result<Vec<u8>, E>>(
         &self,
@@ -41,7 +41,7 @@ impl CoseRecipient {
         cipher(ciphertext, data.as_slice()).map_err(Fault::Caller)
     }
 
-    /// As `decrypt`, also where no ciphertext is carried. The context is one of recipients.
+    /// As `decrypt`, also if no ciphertext is carried. The context is one of recipients.
     ///
     /// # Errors
     /// `Caller` with the error of a missing ciphertext, before anything else; else as of `decrypt`.

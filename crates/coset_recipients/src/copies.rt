@@ -11,7 +11,7 @@ impl CoseRecipient {
     /// A recipient equal to this one.
     ///
     /// # Errors
-    /// Only where memory is refused.
+    /// Only if out of memory.
     pub fn clone(&self, alloc: Global) -> Result<CoseRecipient, AllocError>
         ensures { IfOk result (λ copy. recipient_view copy ≡ recipient_view self.now) }
     {
@@ -24,7 +24,7 @@ impl CoseRecipient {
 /// The same recipients again.
 ///
 /// # Errors
-/// Only where memory is refused.
+/// Only if out of memory.
 pub fn clone_recipients(
     alloc: Global,
     recipients: &[CoseRecipient],

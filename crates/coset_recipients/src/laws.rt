@@ -124,7 +124,7 @@ pub fn recipient_reads_again(recipient: &CoseRecipient)
     read_is_short();
 }
 
-/// Recipients are equal where they say the same and their protected headers have the same received
+/// Recipients are equal if they say the same and their protected headers have the same received
 /// bytes, or none; so do all recipients in them, in the same order.
 pub fn recipient_compare(a: &CoseRecipient, b: &CoseRecipient)
     ensures { IsTrue (⟦<CoseRecipient as std::cmp::PartialEq>⟧.eq a.now b.now)

@@ -1,4 +1,4 @@
-//! Recipients as they stand in memory.
+//! Recipients as they are in memory.
 ghost use Rattle.std.specs.Prelude.{◌≡◌};
 ghost use Rattle.coset_recipients.specs.Builders.{no_recipient};
 ghost use Rattle.coset_recipients.specs.View.{recipient_view};
@@ -13,7 +13,7 @@ pub struct CoseRecipient {
     pub protected: ProtectedHeader,
     /// The unprotected header.
     pub unprotected: Header,
-    /// The encrypted key; `None` where none is carried.
+    /// The encrypted key; `None` if none is carried.
     pub ciphertext: Option<Vec<u8>>,
     /// The recipients who can find the key that encrypts this one's.
     pub recipients: Vec<CoseRecipient>,

@@ -15,7 +15,7 @@ use coset_message_parts::{Parts, write_parts};
 use std::alloc::Global;
 use std::mem;
 
-/// The array that stands for a recipient. It has no fourth element where the recipient has no
+/// The array that stands for a recipient. It has no fourth element if the recipient has no
 /// recipients of its own.
 pub(crate) fn write_recipient(alloc: Global, recipient: CoseRecipient) -> Result<Value, CoseError>
     ensures { Writes (recipient_tree (recipient_view recipient)) view result }
@@ -85,8 +85,7 @@ fn take_parts(
 /// The array of the values that recipients stand for, which may be empty.
 ///
 /// # Errors
-/// `DuplicateMapKey` exactly where a label stands twice in a header that has to be encoded, or
-/// `Memory`.
+/// `DuplicateMapKey` exactly when a label is twice in a header that has to be encoded, or `Memory`.
 pub fn write_recipients(alloc: Global, recipients: Vec<CoseRecipient>) -> Result<Value, CoseError>
     ensures { Writes (list_tree (recipients_view recipients.items)) view result }
 {

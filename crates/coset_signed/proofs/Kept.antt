@@ -1,4 +1,5 @@
--- What is written of a message that was read is there, has its fields again, nests no deeper than it did, and is read again.
+-- What is written of a message that was read is there, has its fields again, nests no deeper than
+-- it did, and is read again.
 use Rattle.std.proofs.Common.{◌≡◌, ◌≢◌, ℕ, ◌-◌, List, [], ◌∷◌, None, Some, sym, ap, subst}
 use Rattle.ciborium_value.specs.Tree.{Tree, bytes, array, Trees}
 use Rattle.ciborium_value.specs.View.{trees}

@@ -16,7 +16,7 @@ list_kind n t k e p = inr (subst (WrongSignatureList n t k) (sym p.0) (no_list p
 pub list_inside : (n : ℕ) (t : Tree) (ts : Trees) (k : ℕ) (e : CoseError) → t ≡ array ts → OrMemory (WrongItems (λ d. IsNoSignature n d k) ts) e → OrMemory (WrongSignatureList n t k) e
 list_inside n t ts k e q w = passed_on (WrongItems (λ d. IsNoSignature n d k) ts) (WrongSignatureList n t k) e (λ x. in_list ts (fault_of e) q x) w
 
--- a fault that isn't want of memory
+-- a fault that isn't being out of memory
 renamed : (n : ℕ) (t : Tree) (k : ℕ) (e r : CoseError) → e ≢ code.Memory → fault_of r ≡ unexpected → OrMemory (WrongSignature n t k) e → OrMemory (IsNoSignature n t k) r
 renamed n t k e r m q (inl h) = absurd (m h)
 renamed n t k e r m q (inr w) = inr (subst (IsNoSignature n t k) (sym q) (whatever (fault_of e) w))

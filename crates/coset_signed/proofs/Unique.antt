@@ -1,4 +1,4 @@
--- A value has the fields of at most one message, and of none where it has a fault.
+-- A value has the fields of at most one message, and of none if it has a fault.
 use Rattle.std.proofs.Common.{◌≡◌, ℕ, List, [], ◌∷◌, refl, sym, subst, ◌∙◌}
 use Rattle.ciborium_value.specs.Tree.{Tree, array}
 use Rattle.coset_headers.specs.Fields.{SignatureFields, signatures, no_signatures, signature_more}

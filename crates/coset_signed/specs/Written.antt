@@ -1,4 +1,5 @@
--- The values that stand for the fields of signed messages (RFC 9052, sections 4.1 and 4.2); none where a header can't be written.
+-- The values that stand for the fields of signed messages (RFC 9052, sections 4.1 and 4.2); none if
+-- a header can't be written.
 use Rattle.std.specs.Prelude.{[], ◌∷◌, Option, Some}
 use Rattle.ciborium_value.specs.Tree.{Tree, bytes}
 use Rattle.coset_labels.specs.Arrays.{array_of}

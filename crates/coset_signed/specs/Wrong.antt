@@ -1,5 +1,5 @@
--- Which fault a value has as a signed message (RFC 9052, sections 4.1 and 4.2). A value may have several. The nesting limit `n` and the
--- layers `k` are those of the fields.
+-- Which fault a value has as a signed message (RFC 9052, sections 4.1 and 4.2). A value may have
+-- several. The nesting limit `n` and the layers `k` are those of the fields.
 use Rattle.std.specs.Prelude.{◌≡◌, ℕ, [], ◌∷◌, false}
 use Rattle.ciborium_value.specs.Tree.{Tree, array, Trees}
 use Rattle.coset_labels.specs.Faults.{CoseFault, fault_of, unexpected}
@@ -11,11 +11,12 @@ use Rattle.coset_headers.specs.Wrong.{WrongSignature}
 use Rattle.coset_message_parts.specs.Wrong.{WrongWhole}
 pub use Rattle.coset_message_parts.specs.Wrong.{IsNoBytes}
 
--- a value that is wrong as a signature, whatever is wrong in it, is an unexpected item in a list of signatures
+-- a value that is wrong as a signature, whatever is wrong in it, is an unexpected item in a list of
+-- signatures
 pub data IsNoSignature (n : ℕ) (t : Tree) (k : ℕ) : CoseFault → Type 0 where
   whatever : (e : CoseFault) → WrongSignature n t k e → IsNoSignature n t k unexpected
 
--- want of memory stays, and any other error becomes an unexpected item
+-- being out of memory stays, and any other error becomes an unexpected item
 abbrev pub Hides : CoseError → CoseError → Type 0
 Hides code.Memory r = r ≡ code.Memory
 Hides _ r = fault_of r ≡ unexpected

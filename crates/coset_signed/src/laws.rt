@@ -112,7 +112,7 @@ pub fn sign_fits(message: &CoseSign)
 }
 
 /// A message that was read from bytes is read again of the bytes that it is written as, the same,
-/// received bytes included. So is one that was read behind its tag and is written with it.
+/// received bytes included. So is one that was read after its tag and is written with it.
 pub fn sign1_reads_again(message: &CoseSign1)
     ensures item { (b : List ℕ) (u : Tree)
         → HasItem (λ t m. HasSign1 nesting t m layers) b (sign1_view message.now)
@@ -144,7 +144,7 @@ pub fn sign_reads_again(message: &CoseSign)
     read_is_short();
 }
 
-/// Messages are equal where they say the same and their protected headers have the same received
+/// Messages are equal if they say the same and their protected headers have the same received
 /// bytes, or none.
 pub fn sign1_compare(a: &CoseSign1, b: &CoseSign1)
     ensures { IsTrue (⟦<CoseSign1 as std::cmp::PartialEq>⟧.eq a.now b.now)

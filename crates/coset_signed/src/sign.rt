@@ -22,7 +22,7 @@ pub struct CoseSign {
     pub protected: ProtectedHeader,
     /// The header that none covers.
     pub unprotected: Header,
-    /// What is signed; `None` where it is carried elsewhere.
+    /// What is signed; `None` if it is carried elsewhere.
     pub payload: Option<Vec<u8>>,
     /// The signatures, each with headers of its own. There may be none.
     pub signatures: Vec<CoseSignature>,
@@ -44,7 +44,7 @@ impl CoseSign {
     /// A message equal to this one.
     ///
     /// # Errors
-    /// Only where memory is refused.
+    /// Only if out of memory.
     pub fn clone(&self, alloc: Global) -> Result<CoseSign, AllocError>
         ensures { IfOk result (λ copy. sign_view copy ≡ sign_view self.now) }
     {
@@ -64,7 +64,7 @@ impl CoseSign {
     /// payload that is carried elsewhere counts as empty.
     ///
     /// # Errors
-    /// `DuplicateMapKey` exactly where one of the protected headers can't be written, or `Memory`.
+    /// `DuplicateMapKey` exactly when one of the protected headers can't be written, or `Memory`.
     pub fn tbs_data(
         &self,
         alloc: Global,
@@ -77,7 +77,7 @@ impl CoseSign {
         self.covered(alloc, content_bytes(&self.payload), aad, signature)
     }
 
-    /// The bytes that a signature with the headers of this one covers where the payload is carried
+    /// The bytes that a signature with the headers of this one covers if the payload is carried
     /// elsewhere: this payload (RFC 9052, section 4.4). The message carries no payload.
     ///
     /// # Errors
@@ -128,7 +128,7 @@ impl CoseSign {
     /// signatures.
     ///
     /// # Errors
-    /// `Caller` with the verifier's error. `Cose` with `DuplicateMapKey` exactly where one of the
+    /// `Caller` with the verifier's error. `Cose` with `DuplicateMapKey` exactly when one of the
     /// protected headers can't be written, or with `Memory`; both are met before the verifier is
     /// called.
     pub fn verify_signature<E, V: FnOnce(&[u8], &[u8]) -> Result<(), E>>(

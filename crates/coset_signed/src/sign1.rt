@@ -19,7 +19,7 @@ pub struct CoseSign1 {
     pub protected: ProtectedHeader,
     /// The header that it does not cover.
     pub unprotected: Header,
-    /// What is signed; `None` where it is carried elsewhere.
+    /// What is signed; `None` if it is carried elsewhere.
     pub payload: Option<Vec<u8>>,
     /// The signature.
     pub signature: Vec<u8>,
@@ -41,7 +41,7 @@ impl CoseSign1 {
     /// A message equal to this one.
     ///
     /// # Errors
-    /// Only where memory is refused.
+    /// Only if out of memory.
     pub fn clone(&self, alloc: Global) -> Result<CoseSign1, AllocError>
         ensures { IfOk result (λ copy. sign1_view copy ≡ sign1_view self.now) }
     {
@@ -61,15 +61,15 @@ impl CoseSign1 {
     /// elsewhere counts as empty.
     ///
     /// # Errors
-    /// `DuplicateMapKey` exactly where the protected header can't be written, or `Memory`.
+    /// `DuplicateMapKey` exactly when the protected header can't be written, or `Memory`.
     pub fn tbs_data(&self, alloc: Global, aad: &[u8]) -> Result<Vec<u8>, CoseError>
         ensures { Writes (sign1_covered (sign1_view self.now) aad.now) (λ v. v.items) result }
     {
         self.covered(alloc, content_bytes(&self.payload), aad)
     }
 
-    /// The bytes that the signature covers where the payload is carried elsewhere: this payload
-    /// (RFC 9052, section 4.4). The message carries no payload.
+    /// The bytes that the signature covers if the payload is carried elsewhere: this payload (RFC
+    /// 9052, section 4.4). The message carries no payload.
     ///
     /// # Errors
     /// As of `tbs_data`.
@@ -109,9 +109,8 @@ impl CoseSign1 {
     /// It is called at most once.
     ///
     /// # Errors
-    /// `Caller` with the verifier's error. `Cose` with `DuplicateMapKey` exactly where the
-    /// protected header can't be written, or with `Memory`; both are met before the verifier is
-    /// called.
+    /// `Caller` with the verifier's error. `Cose` with `DuplicateMapKey` exactly when the protected
+    /// header can't be written, or with `Memory`; both are met before the verifier is called.
     pub fn verify_signature<E, V: FnOnce(&[u8], &[u8]) -> Result<(), E>>(
         &self,
         alloc: Global,

@@ -81,7 +81,7 @@ impl CoseSign1Builder {
     /// 4.4). Header and payload are set before.
     ///
     /// # Errors
-    /// `DuplicateMapKey` exactly where the protected header can't be written, or `Memory`; then the
+    /// `DuplicateMapKey` exactly when the protected header can't be written, or `Memory`; then the
     /// signer isn't called.
     pub fn create_signature<S: FnOnce(&[u8]) -> Vec<u8>>(
         self,

@@ -72,7 +72,7 @@ impl CoseSignBuilder {
     /// Appends a signature.
     ///
     /// # Errors
-    /// Only where memory is refused.
+    /// Only if out of memory.
     pub fn add_signature(mut self, signature: CoseSignature) -> Result<CoseSignBuilder, CoseError>
         ensures { MatchResult result
             (λ b. sign_so_far b ≡ also_signed (sign_so_far self) (signature_view signature))
@@ -82,7 +82,7 @@ impl CoseSignBuilder {
         Ok(self)
     }
 
-    /// Makes room for a signature, so that none is made in vain.
+    /// Makes space for a signature, so that none is made in vain.
     fn with_room(mut self) -> Result<CoseSignBuilder, CoseError>
         ensures built { MatchResult result
             (λ b. sign_so_far b ≡ sign_so_far self)
@@ -94,7 +94,7 @@ impl CoseSignBuilder {
         Ok(self)
     }
 
-    /// Appends a signature for which there is room.
+    /// Appends a signature for which there is space.
     fn with_signature(mut self, signature: CoseSignature) -> CoseSignBuilder
         requires { vec_len self.message.signatures < vec_capacity self.message.signatures }
         ensures { sign_so_far result ≡ also_signed (sign_so_far self) (signature_view signature) }
@@ -103,8 +103,8 @@ impl CoseSignBuilder {
         self
     }
 
-    /// Appends this signature with the bytes that the signer gives over what it covers. Room for it
-    /// was made before.
+    /// Appends this signature with the bytes that the signer gives over what it covers. Space for
+    /// it was made before.
     fn asked<S: FnOnce(&[u8]) -> Vec<u8>>(
         self,
         signature: CoseSignature,
@@ -140,7 +140,7 @@ impl CoseSignBuilder {
         Ok(self.with_signature(signed_by(signature, made)))
     }
 
-    /// Makes room for a signature, and asks the signer.
+    /// Makes space for a signature, and asks the signer.
     fn add_made<S: FnOnce(&[u8]) -> Vec<u8>>(
         self,
         signature: CoseSignature,
@@ -179,7 +179,7 @@ impl CoseSignBuilder {
     /// section 4.4). Headers and payload are set before.
     ///
     /// # Errors
-    /// `DuplicateMapKey` exactly where one of the protected headers can't be written, or `Memory`;
+    /// `DuplicateMapKey` exactly when one of the protected headers can't be written, or `Memory`;
     /// then the signer isn't called.
     pub fn add_created_signature<S: FnOnce(&[u8]) -> Vec<u8>>(
         self,

@@ -161,7 +161,7 @@ fn read_signature(alloc: Global, value: Value, limits: Limits) -> Result<CoseSig
     }
 }
 
-/// What is wrong in a signature is not told, but for want of memory.
+/// What is wrong in a signature is not told, but for being out of memory.
 fn hide(error: CoseError) -> CoseError
     ensures { Hides error result }
 {

@@ -1,5 +1,6 @@
--- What a header or a signature is written as straight from its fields, and the events of its parts. A protected header is its received bytes;
--- one without any is the empty byte string, which stands for an empty header alone. A label that stands twice is written twice.
+-- What a header or a signature is written as straight from its fields, and the events of its parts.
+-- A protected header is its received bytes; one without any is the empty byte string, which stands
+-- for an empty header alone. A label that is twice is written twice.
 use Rattle.std.specs.Prelude.{◌≡◌, ℕ, pos, List, [], ◌∷◌, ◌++◌, length, map as map_list, true, Some, None}
 use Rattle.ciborium_value.specs.Tree.{Tree, bytes, array, Trees, no_trees, one_more, tree_count}
 use Rattle.ciborium_value.specs.View.{pairs}
@@ -50,7 +51,8 @@ entry_events es = events_pairs (pairs (map_list entry_tree es))
 abbrev pub entry_count : HeaderFields → ℕ
 entry_count (header p ss) = length (written_entries p (bare_or_list (signatures_put ss)))
 
--- the events of the label of counter signatures, and of the beginning of their list if there are several
+-- the events of the label of counter signatures, and of the beginning of their list if there are
+-- several
 abbrev pub signs_begun : Trees → List Event
 signs_begun no_trees = []
 signs_begun (one_more t no_trees) = event.integer (pos 7) ∷ []

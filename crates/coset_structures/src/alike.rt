@@ -3,7 +3,7 @@ ghost use Rattle.std.specs.Prelude.{◌≡◌, ◌↔◌, IsTrue};
 
 use crate::context::{EncryptionContext, MacContext, SignatureContext};
 
-/// Contexts of signatures are equal where they are the same.
+/// Contexts of signatures are equal if they are the same.
 pub fn signature_contexts_compare(a: SignatureContext, b: SignatureContext)
     ensures { IsTrue (⟦<SignatureContext as std::cmp::PartialEq>⟧.eq a b) ↔ (a ≡ b) }
 {}

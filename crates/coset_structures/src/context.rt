@@ -38,7 +38,7 @@ pub enum EncryptionContext {
 }
 
 impl SignatureContext {
-    /// The text that stands first in the structure.
+    /// The text that is first in the structure.
     pub fn text(self) -> &'static str
         ensures { result.now ≡ signature_text self }
     {
@@ -51,7 +51,7 @@ impl SignatureContext {
 }
 
 impl MacContext {
-    /// The text that stands first in the structure.
+    /// The text that is first in the structure.
     pub fn text(self) -> &'static str
         ensures { result.now ≡ mac_text self }
     {
@@ -63,7 +63,7 @@ impl MacContext {
 }
 
 impl EncryptionContext {
-    /// The text that stands first in the structure.
+    /// The text that is first in the structure.
     pub fn text(self) -> &'static str
         ensures { result.now ≡ encryption_text self }
     {

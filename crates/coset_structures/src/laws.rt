@@ -27,9 +27,9 @@ pub fn structures_can_be_written()
         → sig_structure context p (Some q) aad payload ≢ None }
 {}
 
-/// Over all contexts, with and without a signer, two structures have the same bytes exactly where
+/// Over all contexts, with and without a signer, two structures have the same bytes exactly when
 /// they have the same parts: kind, context, whether there is a signer, shown protected bytes,
-/// external data, and payload where the structure has one. So a Sig_structure is never a
+/// external data, and payload if the structure has one. So a Sig_structure is never a
 /// MAC_structure, and neither is an Enc_structure. Each part has fewer than 2^64 bytes.
 pub fn one_structure()
     ensures same { (x y : Covered) → CoveredFits x → CoveredFits y

@@ -24,12 +24,11 @@ use std::alloc::{AllocError, Allocator, Global};
 use std::borrow::CowSlice;
 
 /// The bytes that a signature covers, the Sig_structure (RFC 9052, section 4.4): the context, the
-/// protected header of the body, that of the signer where there is a signer, the external data and
-/// the payload. The payload is copied once, into the result.
+/// protected header of the body, that of the signer if there is a signer, the external data and the
+/// payload. The payload is copied once, into the result.
 ///
 /// # Errors
-/// `DuplicateMapKey` exactly where a label stands twice in a header that has to be encoded, or
-/// `Memory`.
+/// `DuplicateMapKey` exactly when a label is twice in a header that has to be encoded, or `Memory`.
 pub fn sig_structure_data(
     alloc: Global,
     context: SignatureContext,
@@ -73,8 +72,7 @@ pub fn sig_structure_in<A: Allocator>(
 /// result.
 ///
 /// # Errors
-/// `DuplicateMapKey` exactly where a label stands twice in a header that has to be encoded, or
-/// `Memory`.
+/// `DuplicateMapKey` exactly when a label is twice in a header that has to be encoded, or `Memory`.
 pub fn mac_structure_data(
     alloc: Global,
     context: MacContext,
@@ -114,8 +112,7 @@ pub fn mac_structure_in<A: Allocator>(
 /// protected header and the external data.
 ///
 /// # Errors
-/// `DuplicateMapKey` exactly where a label stands twice in a header that has to be encoded, or
-/// `Memory`.
+/// `DuplicateMapKey` exactly when a label is twice in a header that has to be encoded, or `Memory`.
 pub fn enc_structure_data(
     alloc: Global,
     context: EncryptionContext,
@@ -149,7 +146,7 @@ pub fn enc_structure_in<A: Allocator>(
     encrypted(alloc, context.prefix(), &body, aad)
 }
 
-/// The bytes that are shown for a protected header: those that were received, where it was. Only a
+/// The bytes that are shown for a protected header: those that were received, if it was. Only a
 /// header with a field and without received bytes is encoded, in its own allocator's memory.
 fn show(protected: &ProtectedHeader) -> Result<CowSlice<u8, Global>, CoseError>
     ensures shows { MatchResult result
@@ -187,7 +184,7 @@ fn show_signer(signer: Option<&ProtectedHeader>) -> Result<Option<CowSlice<u8, G
     }
 }
 
-/// A Sig_structure with the signer's bytes where there is a signer.
+/// A Sig_structure with the signer's bytes if there is a signer.
 fn over_signer<A: Allocator>(
     alloc: A,
     context: SignatureContext,
@@ -251,8 +248,8 @@ fn encrypted<'a, A: Allocator>(
     Ok(joined(alloc, prefix, &[body, aad])?)
 }
 
-/// A structure: how it begins, and byte strings, in one vector that was reserved with room for just
-/// these.
+/// A structure: how it begins, and byte strings, in one vector that was reserved with space for
+/// just these.
 fn joined<A: Allocator>(alloc: A, prefix: &[u8], parts: &[&[u8]]) -> Result<Vec<u8, A>, AllocError>
     ensures { IfOk result (λ v. v.items ≡ prefix.now ++ flat_map byte_string parts.now) }
 {
@@ -261,7 +258,7 @@ fn joined<A: Allocator>(alloc: A, prefix: &[u8], parts: &[&[u8]]) -> Result<Vec<
     Ok(out)
 }
 
-/// An empty vector with room for just this structure.
+/// An empty vector with space for just this structure.
 fn with_room<A: Allocator>(
     alloc: A,
     prefix: &[u8],
@@ -275,7 +272,7 @@ fn with_room<A: Allocator>(
     Vec::with_capacity(alloc, room)
 }
 
-/// Appends a structure for which there is room, so that no memory is asked for.
+/// Appends a structure for which there is space, so that no memory is asked for.
 fn write<A: Allocator>(out: &mut Vec<u8, A>, prefix: &[u8], parts: &[&[u8]])
     requires { vec_len out.old + length (prefix.now ++ flat_map byte_string parts.now)
         ≤ vec_capacity out.old }
@@ -300,7 +297,7 @@ fn room(prefix: &[u8], parts: &[&[u8]]) -> Option<usize>
     Some(room)
 }
 
-/// Appends a byte string, its title and its bytes, for which there is room.
+/// Appends a byte string, its title and its bytes, for which there is space.
 fn push_bytes<A: Allocator>(out: &mut Vec<u8, A>, bytes: &[u8])
     requires { vec_len out.old + length (enc (spec.bytes bytes.now)) ≤ vec_capacity out.old }
     ensures items { out.new.items ≡ out.old.items ++ enc (spec.bytes bytes.now) }
@@ -310,7 +307,7 @@ fn push_bytes<A: Allocator>(out: &mut Vec<u8, A>, bytes: &[u8])
     append(out, bytes);
 }
 
-/// Appends bytes for which there is room, so that no memory is asked for.
+/// Appends bytes for which there is space, so that no memory is asked for.
 fn append<A: Allocator>(out: &mut Vec<u8, A>, bytes: &[u8])
     requires { vec_len out.old + length bytes.now ≤ vec_capacity out.old }
     ensures items { out.new.items ≡ out.old.items ++ bytes.now }

@@ -1,5 +1,5 @@
--- Trees that are written as they would be read: they nest no deeper than d, their bignums are folded, and their simple values are those
--- that a value can have.
+-- Trees that are written as they would be read: they nest no deeper than d, their bignums are
+-- folded, and their simple values are those that a value can have.
 use Rattle.std.proofs.Common.{◌≡◌, ℕ, ℤ, ◌≤◌, ◌-◌, suc, List, [], ◌∷◌, ◌++◌, map, Bool, true, false, cond, Option, Some, None, option_map, option_and_then, ap, subst, ◌∙◌, refl, arith}
 use Rattle.std.specs.Prelude.{max}
 use Rattle.ciborium_value.specs.Tree.{Tree, integer, bytes, text, array, map as map_tree, simple, float, Trees, no_trees, one_more, Pairs, no_pairs, pair_more, depth, depth_all, depth_pairs}

@@ -1,4 +1,5 @@
--- What a step shows in a walk through the items of a list or the entries of a map, and faults that are passed on.
+-- What a step shows in a walk through the items of a list or the entries of a map, and faults that
+-- are passed on.
 use Rattle.std.proofs.Common.{◌≡◌, inl, inr, List, [], ◌∷◌, ◌++◌, length, map, Option, Some, refl, sym, ap, subst, ◌∙◌, arith}
 use Rattle.std.proofs.lemmas.List.{map-append}
 use Rattle.ciborium_value.specs.Tree.{Tree, tree_count}
@@ -10,7 +11,7 @@ use Rattle.coset_labels.specs.Faults.{CoseFault, OrMemory, fault_of}
 use Rattle.coset_labels.specs.Walks.{WrongItems, WrongEntries}
 use Rattle.coset_labels.specs.declared.error.CoseError.{CoseError}
 
--- the fault that stands there
+-- the fault that is there
 pub at_fault : (P : CoseFault → Type 0) (f : CoseFault) (e : CoseError) → fault_of e ≡ f → P f → OrMemory P e
 at_fault P f e q p = inr (subst P (sym q) p)
 

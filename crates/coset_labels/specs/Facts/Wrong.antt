@@ -1,4 +1,4 @@
--- A value with a fault is no label, no name and no field, also in an entry that stands behind others.
+-- A value with a fault is no label, no name and no field, also in an entry that is after others.
 use Rattle.std.proofs.Common.{◌≡◌, ℤ, inl, inr, List, [], ◌∷◌, ◌++◌, Bool, true, false, cond, Option, Some, None, option_map, option_and_then, refl, sym, ap, subst, ◌∙◌}
 use Rattle.ciborium_value.specs.Tree.{Tree, integer, bytes, text, array, map as map_tree, tag, simple, float}
 use Rattle.ciborium_value.specs.View.{pairs}
@@ -9,7 +9,7 @@ use Rattle.coset_labels.specs.Fields.{LabelFields, number, Named, private_use, a
 use Rattle.coset_labels.specs.Kinds.{some_bytes, WrongBytes}
 use Rattle.coset_labels.specs.Labels.{label_of, named_of, registered_of, WrongLabel, WrongNamed, WrongRegistered}
 
--- ---- the entry behind others in a map whose keys can be read
+-- ---- the entry after others in a map whose keys can be read
 pub record Splits {K : Type 0} (read : Tree → Option K) (l v : Tree) (es all : List (K × Tree)) : Type 0 where
   pub key : K
   pub behind : List (K × Tree)
@@ -60,7 +60,7 @@ at_middle : {K : Type 0} (is : K → Bool) (es : List (K × Tree)) (m : K) (v : 
 at_middle is [] m v fs e h = ap (λ b. cond b (Some v) (at is fs)) e
 at_middle is (x ∷ es) m v fs e h = let c = cond_none (is x.0) x.1 (at is es) (at is (es ++ (m, v) ∷ fs)) h in c.1 ∙ at_middle is es m v fs e c.0
 
--- what stands at a key in front stands there in the whole
+-- what is at a key in front stands there in the whole
 front_step : (b : Bool) (x : Tree) (y z : Option Tree) (t : Tree) → (y ≡ Some t → z ≡ Some t) → cond b (Some x) y ≡ Some t → cond b (Some x) z ≡ Some t
 front_step true x y z t f e = e
 front_step false x y z t f e = f e
