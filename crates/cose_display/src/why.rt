@@ -184,7 +184,8 @@ fn write_no_key<P: fmt::Write>(book: &KeyBook<'_>, id: &[u8], page: &mut P) -> f
             break;
         }
         page.write_str(if shown == 0 { "; its ids are " } else { ", " })?;
-        write_id(entry.0, page)?;
+        let other = entry.0;
+        write_id(other, page)?;
         shown = shown.saturating_add(1);
     }
     if count > IDS {
