@@ -1,4 +1,4 @@
--- What the streaming road's answer says of one message.
+-- What the streaming check's answer says of one message.
 use Rattle.std.proofs.Common.{◌≡◌, ℕ, ◌+◌, ◌*◌, ◌<◌, List, [], ◌∷◌, length, Option, None, Some, Bool, true, false, refl, subst, ◌∙◌}
 use Rattle.std.specs.Prelude.{is_none, option_map, if◌then◌else◌, sum, Result, Ok, Err, IfOk}
 use Rattle.std.specs.Io.KnownBytes.{Consumes}

@@ -40,7 +40,7 @@ none_first input b at at' limit e why is zero same = record {
   why = rw (sym is, sym zero, sym same) why;
 }
 
--- the fault behind a first value
+-- the fault after a first value
 pub none_second : (input : List ℕ) (left left' : Option (List ℕ)) (at at' at'' limit limit' : ℕ) (v : Tree) (e : Error End)
     → Moves left left' at at' (λ b. Reads b limit v)
     → IfKnown left' (λ b. FailsAt (λ _. true) b at' at'' (λ stop c f. Damage stop c limit' f) e)

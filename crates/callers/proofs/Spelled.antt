@@ -29,7 +29,7 @@ mapped f (Some x) y e = let h : Some (f x) ≡ Some y = e in (x, refl, cc)
 pub same : (o : CborOrdering) (k l : KeyFields) → Canonicalized o k l → SameButOrder k l
 same o k l c = record { others = c.others; pairs = c.params.pairs }
 
--- what was read is written, but for want of memory
+-- what was read is written, but for being out of memory
 pub unwritten : (Wrong : CoseFault → Type 0) (b : List ℕ) (k : KeyFields) (e : CoseError) → IsOrdered b k
     → ((b : List ℕ) (l : KeyFields) → HasItem HasKey b l → SameButOrder l k → (t : Tree) × (key_tree k ≡ Some t) × HasItem HasKey (enc t) k)
     → CantWrite (key_tree k) e → OrMemory Wrong e
@@ -56,7 +56,7 @@ rewritten (Ok v) Q b h has law e =
     (h, has, e, subst (λ (x : List ℕ). IsOneHeader x h) m.2 (law b m.0 has m.1))
 rewritten (Err e) Q b h has law m = tt
 
--- two spellings are equal where S holds
+-- two spellings are equal if S holds
 pub alike : (t s : Option Tree) (x y : List ℕ) (S : Type 0) → option_map enc t ≡ Some x → option_map enc s ≡ Some y
     → ((option_map enc t ≡ option_map enc s) ↔ S) → IsTrue (bytes_eq x y) ↔ S
 alike t s x y S e f law = (

@@ -15,8 +15,8 @@ use Rattle.callers.specs.Judging.{allows, key_ids_of}
 abbrev pub always : Question → Bool
 always = λ q. true
 
--- the whole input was gone through, and the records of all questions were told that it has where
--- each answer is yes, in order; so many messages have them
+-- the whole input was gone through, and the records of all questions were told that it has if each
+-- answer is yes, in order; so many messages have them
 pub record IsAsked (aad input told told' : List ℕ) (counts : Counts) : Type 0 where
   pub steps : List Step
   pub course : Course usual always aad 0 input steps []
@@ -44,7 +44,7 @@ pub record IsPassedBy (keys : List (List ℕ)) (aad input output : List ℕ) (co
   pub passed : counts.passed ≡ passed_count (is_among keys) aad steps
   pub refused : counts.refused ≡ refused_count (is_among keys) aad steps
 
--- the bytes are records of these keys, one behind another
+-- the bytes are records of these keys, one after another
 abbrev pub AreRecords : List ℕ → List (List ℕ) → Type 0
 AreRecords accepted keys = accepted ≡ flat_map framed keys
 
@@ -74,7 +74,7 @@ EndsAccepted limits accepted aad old new status =
     ⊎ ((keys : List (List ℕ)) × AreRecords accepted keys
     × RanOn limits (is_among keys) aad old new status)
 
--- all of the bytes that were to come, where these are known, were written as they came
+-- all of the bytes that were to come, if these are known, were written as they came
 abbrev pub IsHandedOn : Devices → Devices → Type 0
 IsHandedOn old new =
     (input : List ℕ) → old.left ≡ Some input → Appends old.written new.written input

@@ -21,7 +21,7 @@ pub record IsAnswered (allows : Question → Bool) (aad : List ℕ) (yes : Bool)
   pub answer : yes ≡ allows question
 
 -- the bytes are a message whose payload has n bytes, and these were fed last, in no more pieces
--- than so many bytes take in this room
+-- than so many bytes take in this space
 pub record IsFedInFew (room : ℕ) (lengths b : List ℕ) : Type 0 where
   pub n : ℕ
   pub stated : Stated b n
@@ -38,8 +38,8 @@ abbrev pub EndsBy : Option (List ℕ × Option (List ℕ)) → Option (List ℕ)
 EndsBy None keys old new status = (status ≡ 2) × (new ≡ old)
 EndsBy (Some w) keys old new status = Ends says_yes keys w.1 old new status
 
--- the program ended so over these bytes, where they are known, with these keys and no external
--- data; its reader had not failed before
+-- the program ended so over these bytes, if they are known, with these keys and no external data;
+-- its reader had not failed before
 pub record EndsOver (left : Option (List ℕ)) (keys : List ℕ) (written written' : Option (List ℕ))
     (failures failures' status : ℕ) : Type 0 where
   pub new : Devices

@@ -8,7 +8,8 @@ use Rattle.ciborium.specs.Items.{nesting}
 use Rattle.ciborium.specs.Reading.{FailsAt}
 use Rattle.ciborium.specs.Tree.{Trees, tree_count}
 
--- why no value is at the front of `rest`, which begins at the place `at`; the fault came at the place `at'`
+-- why no value is at the front of `rest`, which begins at the place `at`; the fault came at the
+-- place `at'`
 abbrev pub NoValue : ℕ → List ℕ → ℕ → Error End → Type 0
 NoValue at rest at' e = FailsAt (λ _. true) rest at at' (λ stop b f. Damage stop b nesting f) e
 

@@ -13,8 +13,8 @@ use Rattle.cose_gate.specs.GateFault.{GateFault}
 use Rattle.cose_gate.specs.GateFault.TheVariants.{Decode, Write, Memory}
 use Rattle.callers.specs.Tallies.{Tallied, tallied}
 
--- the key id of a message: the protected one where there is one, else the unprotected one (RFC
--- 9052, section 3.1)
+-- the key id of a message: the protected one if there is one, else the unprotected one (RFC 9052,
+-- section 3.1)
 abbrev pub id_or : List ℕ → List ℕ → List ℕ
 id_or [] other = other
 id_or (b ∷ bs) other = b ∷ bs

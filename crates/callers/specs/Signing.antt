@@ -10,7 +10,7 @@ use Rattle.callers.specs.declared.signing.Refused.{Refused}
 abbrev pub IsGood : (List ℕ → List ℕ → Type 0) → Option (List ℕ) → List ℕ → Type 0
 IsGood good covered signature = IsSomeAnd covered (λ b. good b signature)
 
--- it is good, or it isn't; where the covered bytes can't be written, or memory was refused, nobody
+-- it is good, or it isn't; if the covered bytes can't be written, or it is out of memory, nobody
 -- was asked
 abbrev pub Verified : (List ℕ → List ℕ → Type 0) → Option (List ℕ) → List ℕ
     → Result (Unit {0}) (Fault Refused) → Type 0

@@ -13,13 +13,13 @@ window_of w = map (λ v. v.items) w.seen.items
 abbrev pub has : List (List ℕ) → List ℕ → Bool
 has seen message = list_any (λ one. bytes_eq one message) seen
 
--- bytes that were not there are kept behind the others
+-- bytes that were not there are kept after the others
 pub record Admitted (seen : List (List ℕ)) (message : List ℕ) (seen' : List (List ℕ))
     (is_new : Bool) : Type 0 where
   pub answer : is_new ≡ not (has seen message)
   pub keeps : seen' ≡ (if is_new then seen ++ message ∷ [] else seen)
 
--- the whole input was relayed; its output is the answer, and is kept, where it was not there before
+-- the whole input was relayed; its output is the answer, and is kept, if it was not there before
 pub record Once (ids : List (List ℕ)) (aad input : List ℕ) (old new : Sides)
     (seen seen' : List (List ℕ)) (answer : Option (List ℕ)) : Type 0 where
   pub output : List ℕ

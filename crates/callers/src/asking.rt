@@ -1,5 +1,6 @@
-//! The gate and the program with judges whose answers come from elsewhere: the questions are told as records, and what passes is what some
-//! of these were accepted for. `cose_gate` is the one crate that it names.
+//! The gate and the program with judges whose answers come from elsewhere: the questions are told
+//! as records, and what passes is what some of these were accepted for. `cose_gate` is the one
+//! crate that it names.
 ghost use Rattle.std.specs.Prelude.{◌≡◌, ◌<◌, true, IfOk, IfErr, MatchOption, option_copied};
 ghost use Rattle.cose_gate.specs.HmacJudges.{says_yes};
 ghost use Rattle.cose_gate.specs.Program.{devices_of, EndsOver, EndsWithin};
@@ -18,7 +19,8 @@ use cose_gate::{
 };
 use std::alloc::Global;
 
-/// Tells the asker each question that the input has where each answer is yes, and how many messages have them.
+/// Tells the asker each question that the input has if each answer is yes, and how many messages
+/// have them.
 ///
 /// # Errors
 /// Those of `gate`. The questions up to there were told then, or a beginning of them.
@@ -40,7 +42,8 @@ pub fn ask(
     }
 }
 
-/// The messages that this judge accepts, each as its one shortest text, and how many passed and were refused.
+/// The messages that this judge accepts, each as its canonical encoding, and how many passed and
+/// were refused.
 fn pass_by(
     alloc: Global,
     input: &[u8],
@@ -59,8 +62,8 @@ fn pass_by(
     }
 }
 
-/// The messages of which each question's record is among those that were accepted, each as its one shortest text, and how many passed and
-/// were refused; `None` where the bytes are no records.
+/// The messages of which each question's record is among those that were accepted, each as its
+/// canonical encoding, and how many passed and were refused; `None` if the bytes are no records.
 ///
 /// # Errors
 /// Those of `gate`, and `Memory` for what is kept of the records.
@@ -106,8 +109,8 @@ pub fn run_by_ids<R: Read, W: Write, E: Write>(
     run_judged(alloc, Terms { limits, strict }, aad, input, out, err, judge)
 }
 
-/// The program's run that passes what these records were accepted for, gated so. Without records it reads nothing, and its status is 3, as
-/// without keys.
+/// The program's run that passes what these records were accepted for, gated so. Without records it
+/// reads nothing, and its status is 3, as without keys.
 pub fn run_accepted<R: Read, W: Write, E: Write>(
     alloc: Global,
     gating: Gating,
@@ -135,7 +138,8 @@ pub fn run_accepted<R: Read, W: Write, E: Write>(
     }
 }
 
-/// The program under its words, gated so. With the statuses 2 and 3 nothing was read, and nothing was written.
+/// The program under its words, gated so. With the statuses 2 and 3 nothing was read, and nothing
+/// was written.
 pub fn run_gated<R: Read, W: Write, E: Write>(
     alloc: Global,
     gating: Gating,
@@ -157,7 +161,8 @@ pub fn run_gated<R: Read, W: Write, E: Write>(
     run_with(alloc, Terms { limits, strict }, keys, aad, input, out, err)
 }
 
-/// The strict program under a key set's bytes. With the status 0 it wrote all that it read, as it came.
+/// The strict program under a key set's bytes. With the status 0 it wrote all that it read, as it
+/// came.
 pub fn run_exact<R: Read, W: Write, E: Write>(
     alloc: Global,
     limits: Limits,

@@ -1,5 +1,5 @@
-//! Messages checked under the keys of a set: one while it is read, and a whole input as a program. `cose_gate` is the one crate that it
-//! names.
+//! Messages checked under the keys of a set: one while it is read, and a whole input as a program.
+//! `cose_gate` is the one crate that it names.
 ghost use Rattle.std.specs.Prelude.{◌<◌, ℕ, List, IfOk, length, map, option_copied, string_bytes};
 ghost use Rattle.std.specs.Io.KnownBytes.{Consumes};
 ghost use Rattle.std.specs.Io.Buffered.{reader_remaining};
@@ -19,8 +19,8 @@ use std::alloc::Global;
 use std::io;
 use std::io::BufReader;
 
-/// Whether the message in front is a COSE_Mac0 whose tag is good under the keys. Its payload passes through the buffer, and the next message
-/// is in front then.
+/// Whether the message in front is a COSE_Mac0 whose tag is good under the keys. Its payload passes
+/// through the buffer, and the next message is in front then.
 ///
 /// # Errors
 /// Those of `stream_check`.
@@ -41,8 +41,8 @@ pub fn is_tagged<R: Read>(
     stream_check(alloc, decoder, buffer, aad, &mut judge)
 }
 
-/// A check by any judge, within these limits, which is fed the payload in as few pieces as its length
-/// and the buffer allow.
+/// A check by any judge, within these limits, which is fed the payload in as few pieces as its
+/// length and the buffer allow.
 ///
 /// # Errors
 /// Those of `stream_check_with`.
@@ -63,8 +63,8 @@ pub fn fed<R: Read, J: Judge>(
     stream_check_with(alloc, limits, decoder, buffer, aad, judge)
 }
 
-/// The program over words, where `keys` is what the file holds that the first of them names. Nothing is read where they are not KEYS, or
-/// KEYS and AADHEX.
+/// The program over words, if `keys` is what the file holds that the first of them names. Nothing
+/// is read if they are not KEYS, or KEYS and AADHEX.
 pub fn program<R: Read, W: Write, E: Write>(
     alloc: Global,
     all: &[String],

@@ -28,7 +28,8 @@ fn told(covered: Result<Vec<u8>, CoseError>, bytes: &[u8]) -> Result<bool, CoseE
 /// Whether the bytes are those that the message's signature covers with this payload.
 ///
 /// # Errors
-/// `DuplicateMapKey` where the protected header can't be encoded, or `Memory`; so it is for the others here.
+/// `DuplicateMapKey` if the protected header can't be encoded, or `Memory`; so it is for the others
+/// here.
 pub fn sign1_covers(
     alloc: Global,
     message: &CoseSign1,

@@ -1,5 +1,5 @@
-//! Values that are read within limits of the caller's, and whether they are as they would be written. `coset` is the one crate that it
-//! names.
+//! Values that are read within limits of the caller's, and whether they are as they would be
+//! written. `coset` is the one crate that it names.
 ghost use Rattle.std.specs.Prelude.{◌≡◌, ◌↔◌, Some, IsTrue, IfOk, IfErr};
 ghost use Rattle.coset.specs.Faults.{OrMemory};
 ghost use Rattle.coset.specs.Headers.{HasHeader};
@@ -13,7 +13,8 @@ use coset::cbor::Value;
 use coset::{AsWritten, CoseError, Header, Limits};
 use std::alloc::Global;
 
-/// The header that a value is within these limits, and whether the value is the one that would be written of it.
+/// The header that a value is within these limits, and whether the value is the one that would be
+/// written of it.
 ///
 /// # Errors
 /// A fault that the value has within these limits, or `Memory`.

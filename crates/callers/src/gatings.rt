@@ -1,4 +1,5 @@
-//! Relays by the strict gate, and within limits of the caller's. `cose_gate` is the one crate that it names.
+//! Relays by the strict gate, and within limits of the caller's. `cose_gate` is the one crate that
+//! it names.
 ghost use Rattle.std.specs.Prelude.{◌≡◌, ℕ, List, IfOk};
 ghost use Rattle.cose_gate.specs.CodeLimits.{nesting_of, layers_of};
 ghost use Rattle.cose_gate.specs.Findings.{plain, only_exact, usual_exact};

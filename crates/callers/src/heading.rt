@@ -19,7 +19,7 @@ use std::alloc::{AllocError, Global};
 /// A header with an algorithm and a key id, and nothing else.
 ///
 /// # Errors
-/// Only where memory is refused.
+/// Only if out of memory.
 pub fn plain_header(
     alloc: Global,
     alg: iana::Algorithm,
@@ -58,7 +58,7 @@ pub fn header_of(alloc: Global, bytes: &[u8]) -> Result<Header, CoseError>
 /// The header that the bytes are, in its one shortest encoding, of which the same header is read.
 ///
 /// # Errors
-/// A fault of the bytes, or `Memory`. Never that a label stands twice in what was read.
+/// A fault of the bytes, or `Memory`. Never that a label is twice in what was read.
 pub fn rewritten(alloc: Global, bytes: &[u8]) -> Result<Vec<u8>, CoseError>
     ensures ok { IfOk result (λ out. (h : HeaderFields)
         × HasItem (λ t f. HasHeader nesting t f layers) bytes.now h

@@ -14,7 +14,7 @@ use std::alloc::AllocError;
 /// The head at the front of the bytes, whatever its width.
 ///
 /// # Errors
-/// `Syntax(0)` where the first byte begins none, `Io` where the bytes end in it.
+/// `Syntax(0)` if the first byte begins none, `Io` if the bytes end in it.
 pub fn first_head(input: &[u8]) -> Result<Header, Error<End>>
     ensures ok { IfOk result (λ h. (rest : List ℕ) × Begins input.now h rest) }
     ensures err { IfErr result (IsNoHead input.now) }
@@ -22,7 +22,8 @@ pub fn first_head(input: &[u8]) -> Result<Header, Error<End>>
     Decoder::from(input).pull()
 }
 
-/// The length in the head of an array at the front of the bytes, or none where another item begins there or the array is open.
+/// The length in the head of an array at the front of the bytes, or none if another item begins
+/// there or the array is open.
 ///
 /// # Errors
 /// Those of `first_head`.
@@ -38,10 +39,10 @@ pub fn array_len(input: &[u8]) -> Result<Option<usize>, Error<End>>
     }
 }
 
-/// Writes an array of numbers in its shortest heads, behind what stands in `out`.
+/// Writes an array of numbers in its shortest heads, after what is in `out`.
 ///
 /// # Errors
-/// Only where memory is refused.
+/// Only if out of memory.
 pub fn write_numbers(out: &mut Mem<Vec<u8>>, numbers: &[u64]) -> Result<(), AllocError>
     ensures { OnOk result ((memory_of out.new).items
         ≡ (memory_of out.old).items ++ (title_of (Array (Some (length numbers.now)))
@@ -55,10 +56,10 @@ pub fn write_numbers(out: &mut Mem<Vec<u8>>, numbers: &[u64]) -> Result<(), Allo
     Ok(())
 }
 
-/// The next `count` heads and strings of the bytes in their shortest heads, behind what stands in `out`.
+/// The next `count` heads and strings of the bytes in their shortest heads, after what is in `out`.
 ///
 /// # Errors
-/// `Read` where the bytes don't begin with so many, and `Write` where memory is refused.
+/// `Read` if the bytes don't begin with so many, and `Write` if out of memory.
 pub fn shortened(
     input: &[u8],
     count: usize,

@@ -23,7 +23,7 @@ use ciborium::{End, Mem, cbor, from_reader, into_writer};
 use std::alloc::{AllocError, Global};
 use std::collections::BTreeMap;
 
-/// The value that the whole input is an item of, or none where bytes follow the item.
+/// The value that the whole input is an item of, or none if bytes follow the item.
 pub fn read_whole<T: Deserialize>(alloc: Global, input: &[u8]) -> Result<Option<T>, de::Error<End>>
     ensures { IfOk result (λ o. IfSome o (λ x. ReadsAs T.refusal T.takes nesting x input.now)) }
 {
@@ -36,8 +36,8 @@ pub fn read_whole<T: Deserialize>(alloc: Global, input: &[u8]) -> Result<Option<
     }
 }
 
-/// The value whose one encoding the whole input is (RFC 8949, section 4.1), or none where the item
-/// is written in another way, or bytes follow it.
+/// The value whose one encoding the whole input is (RFC 8949, section 4.1), or none if the item is
+/// written in another way, or bytes follow it.
 pub fn read_encoded(alloc: Global, input: &[u8]) -> Result<Option<Value>, de::Error<End>>
     ensures some { IfOk result (λ o. IfSome o
         (λ v. Reads input.now nesting (view v) × (input.now ≡ enc (view v)))) }
@@ -83,7 +83,7 @@ pub fn two_values(alloc: Global, input: &[u8]) -> Result<(Value, Value), de::Err
 /// The text of the item that a value is written as.
 ///
 /// # Errors
-/// Only where memory is refused.
+/// Only if out of memory.
 pub fn text_of<T: Serialize>(alloc: Global, value: &T) -> Result<Vec<u8>, AllocError>
     ensures { IfOk result (λ text. text.items ≡ enc (T.put value.now)) }
 {
@@ -97,7 +97,7 @@ pub fn text_of<T: Serialize>(alloc: Global, value: &T) -> Result<Vec<u8>, AllocE
 /// A map of a name.
 ///
 /// # Errors
-/// Only where memory is refused.
+/// Only if out of memory.
 pub fn named(alloc: Global, name: &str) -> Result<Value, Error>
     ensures { IfOk result (λ v. view v
         ≡ tree.map (tree.pair_more (tree.integer (pos 1)) (tree.text name.now) tree.no_pairs)) }
@@ -115,7 +115,7 @@ pub fn natural(value: &Value) -> Option<u64>
     }
 }
 
-/// The text of a value, or the value where it is none.
+/// The text of a value, or the value if it is none.
 pub fn text_or_back(value: Value) -> Result<String, Value>
     ensures ok { IfOk result (λ s. view value ≡ tree.text (string_bytes s)) }
     ensures err { IfErr result (λ back. view back ≡ view value) }
@@ -130,10 +130,10 @@ pub fn value_of<T: Serialize>(alloc: Global, x: &T) -> Result<Value, Error>
     Value::serialized(alloc, x)
 }
 
-/// The points of a name in a map at the front of the input, which goes on behind it.
+/// The points of a name in a map at the front of the input, which goes on after it.
 ///
 /// # Errors
-/// The fault of the bytes, or `Semantic` where the item is no such map.
+/// The fault of the bytes, or `Semantic` if the item is no such map.
 pub fn points_of(
     alloc: Global,
     input: &mut &[u8],
@@ -163,7 +163,7 @@ pub fn first_time(alloc: Global, input: &mut &[u8]) -> Result<Option<u64>, de::E
 /// A pair of a text and a number, whatever tag stands around it.
 ///
 /// # Errors
-/// The fault of the bytes, or `Semantic` where the item is no such pair.
+/// The fault of the bytes, or `Semantic` if the item is no such pair.
 pub fn labelled(alloc: Global, input: &mut &[u8]) -> Result<Captured<(String, u64)>, de::Error<End>>
     ensures { IfOk result (λ c. (front : List ℕ) × (input.old.now ≡ front ++ input.new.now)
         × ReadsAs ⟦<Captured<(String, u64)> as Deserialize>⟧.refusal
@@ -172,11 +172,11 @@ pub fn labelled(alloc: Global, input: &mut &[u8]) -> Result<Captured<(String, u6
     from_reader(alloc, input)
 }
 
-/// Puts a value behind the items of an array, and says whether the value is an array. Another value
+/// Puts a value after the items of an array, and says whether the value is an array. Another value
 /// stays as it was.
 ///
 /// # Errors
-/// Only where memory is refused; the items stay then.
+/// Only if out of memory; the items stay then.
 pub fn push_into(array: &mut Value, item: Value) -> Result<bool, AllocError>
     ensures which { IfOk result (λ b. b ≡ is_array (view array.old)) }
     ensures pushed { IfOk result (λ b. IsTrue b → (items : List Value)

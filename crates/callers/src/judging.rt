@@ -10,7 +10,8 @@ use cose_gate::{About, Header, Judge, Log, ProtectedHeader};
 use std::alloc::{AllocError, Global};
 use std::mem;
 
-/// Says yes to a message whose key id is one of those that it knows. It looks at no signature: put it in front of a judge that does.
+/// Says yes to a message whose key id is one of those that it knows. It looks at no signature: put
+/// it in front of a judge that does.
 #[derive(Drop)]
 pub struct KeyIds<'a> {
     known: &'a [&'a [u8]],
@@ -47,7 +48,7 @@ fn protected_id_of(protected: &ProtectedHeader) -> &[u8]
     id_of(&protected.header)
 }
 
-/// The key id of a message: the protected one where there is one, else the other.
+/// The key id of a message: the protected one if there is one, else the other.
 fn key_id<'a>(about: &About<'a>) -> &'a [u8]
     ensures { result.now ≡ key_id_of (subject_of about.now) }
 {

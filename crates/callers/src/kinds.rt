@@ -3,7 +3,7 @@ ghost use Rattle.callers.specs.Kinds.{HasTag};
 
 use cose_gate::MessageKind;
 
-/// The kind of message that has this tag, where one has it.
+/// The kind of message that has this tag, if one has it.
 pub fn kind_with(tag: u64) -> Option<MessageKind>
     ensures { HasTag tag result }
 {

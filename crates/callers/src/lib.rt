@@ -1,5 +1,5 @@
-//! Callers of the crates of this repository, as a user writes them: what they show is that each public surface can be reached, and
-//! that its contracts are of use.
+//! Callers of the crates of this repository, as a user writes them: what they show is that each
+//! public surface can be reached, and that its contracts are of use.
 #![tactic(auto)]
 
 pub mod asking;

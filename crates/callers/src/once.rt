@@ -1,5 +1,6 @@
-//! A relay that lets no output through twice. What was let through is kept outside of the judge, whose answers hang on the question
-//! alone, as the contract of the gate asks. `cose_gate` is the one crate that it names.
+//! A relay that lets no output through twice. What was let through is kept outside of the judge,
+//! whose answers hang on the question alone, as the contract of the gate asks. `cose_gate` is the
+//! one crate that it names.
 ghost use Rattle.std.specs.Prelude.{◌≡◌, [], IfOk, OnErr, option_map};
 ghost use Rattle.std.specs.List.{list_any};
 ghost use Rattle.std.specs.Str.{bytes_eq};
@@ -45,7 +46,7 @@ impl Window {
     /// Whether these bytes were not there before; they are from now on.
     ///
     /// # Errors
-    /// Memory was refused, and nothing is kept.
+    /// Out of memory, and nothing is kept.
     pub fn admit(&mut self, message: &[u8]) -> Result<bool, AllocError>
         ensures ok { IfOk result (Admitted (window_of self.old) message.now (window_of self.new)) }
         ensures err { OnErr result (window_of self.new ≡ window_of self.old) }
@@ -59,7 +60,8 @@ impl Window {
     }
 }
 
-/// The messages of the input whose key ids are known, or none where the same output was let through before.
+/// The messages of the input whose key ids are known, or none if the same output was let through
+/// before.
 ///
 /// # Errors
 /// Those of `relay`, and `Memory` for what is kept. The window is then as it was.

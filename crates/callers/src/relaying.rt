@@ -11,10 +11,11 @@ use crate::tally::Tally;
 use cose_gate::{Counts, Decoder, End, GateFault, Mem, gate};
 use std::alloc::Global;
 
-/// The messages of the input whose key ids are known, each as its one shortest text, and how many passed and were refused.
+/// The messages of the input whose key ids are known, each as its canonical encoding, and how many
+/// passed and were refused.
 ///
 /// # Errors
-/// `Decode` where an item can't be read, and `Memory`. The judge and the tally tell how far it came.
+/// `Decode` if an item can't be read, and `Memory`. The judge and the tally tell how far it came.
 pub fn relay(
     alloc: Global,
     input: &[u8],

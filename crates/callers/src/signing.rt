@@ -1,4 +1,5 @@
-//! Messages signed, tagged and verified. It names `coset_messages`, and `cose_hmac` for a key of its own.
+//! Messages signed, tagged and verified. It names `coset_messages`, and `cose_hmac` for a key of
+//! its own.
 ghost use Rattle.std.specs.Prelude.{◌≡◌, ◌↔◌, ℕ, List, None, Some, IsTrue, IfOk, MatchResult};
 ghost use Rattle.coset_messages.specs.Fields.{protected};
 ghost use Rattle.coset_messages.specs.LimitsView.{nesting, layers};
@@ -27,7 +28,7 @@ pub trait Key {
     /// A good signature or tag over the bytes.
     ///
     /// # Errors
-    /// Only where memory is refused.
+    /// Only if out of memory.
     fn sign(&self, alloc: Global, covered: &[u8]) -> Result<Vec<u8>, AllocError>
         ensures { IfOk result (λ signature. good self.now covered.now signature.items) };
 
@@ -60,7 +61,7 @@ fn key_answer<K: Key>(key: &K, signature: &[u8], covered: &[u8]) -> Result<(), R
 /// A message that is signed by the key.
 ///
 /// # Errors
-/// `Cose` where the header can't be written, or memory is refused.
+/// `Cose` if the header can't be written, or there is no memory.
 pub fn signed<K: Key>(
     alloc: Global,
     header: Header,
@@ -79,10 +80,11 @@ pub fn signed<K: Key>(
     Ok(builder.build())
 }
 
-/// Whether the signature of a message is good: what the key says of it, over exactly the bytes that it covers.
+/// Whether the signature of a message is good: what the key says of it, over exactly the bytes that
+/// it covers.
 ///
 /// # Errors
-/// `Caller` where it isn't. `Cose` where the protected header can't be written, or memory is refused.
+/// `Caller` if it isn't. `Cose` if the protected header can't be written, or there is no memory.
 pub fn verified<K: Key>(
     alloc: Global,
     message: &CoseSign1,
@@ -97,10 +99,11 @@ pub fn verified<K: Key>(
     })
 }
 
-/// The payload of a tagged message, where its signature is good.
+/// The payload of a tagged message, if its signature is good.
 ///
 /// # Errors
-/// `Caller` where it isn't, or the payload is carried elsewhere. `Cose` where the bytes are no such message, or memory is refused.
+/// `Caller` if it isn't, or the payload is carried elsewhere. `Cose` if the bytes are no such
+/// message, or there is no memory.
 pub fn signed_payload<K: Key>(
     alloc: Global,
     bytes: &[u8],
@@ -117,10 +120,11 @@ pub fn signed_payload<K: Key>(
     message.payload.ok_or(Fault::Caller(Refused::Detached))
 }
 
-/// The payload of a tagged COSE_Mac0, where its tag is good.
+/// The payload of a tagged COSE_Mac0, if its tag is good.
 ///
 /// # Errors
-/// `Caller` where it isn't, or the payload is carried elsewhere. `Cose` where the bytes are no such message, or memory is refused.
+/// `Caller` if it isn't, or the payload is carried elsewhere. `Cose` if the bytes are no such
+/// message, or there is no memory.
 pub fn tagged_payload<K: Key>(
     alloc: Global,
     bytes: &[u8],

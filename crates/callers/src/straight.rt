@@ -1,5 +1,5 @@
-//! Headers read into a place that is there, written straight from their fields, and signatures taken
-//! apart. `coset_base`, `coset_sink` and `ciborium` are the crates that it names.
+//! Headers read into a place that is there, written straight from their fields, and signatures
+//! taken apart. `coset_base`, `coset_sink` and `ciborium` are the crates that it names.
 ghost use Rattle.std.specs.Prelude.{◌≡◌, ℕ, Some, IfOk, IfErr, option_map};
 ghost use Rattle.ciborium_value.specs.Tree.{Tree};
 ghost use Rattle.ciborium_value.specs.View.{view};

@@ -1,5 +1,5 @@
-//! Relays of what a relay wrote: they change nothing, strict or not, within the same limits or wider ones. `cose_gate` is the one crate
-//! that it names.
+//! Relays of what a relay wrote: they change nothing, strict or not, within the same limits or
+//! wider ones. `cose_gate` is the one crate that it names.
 ghost use Rattle.std.specs.Prelude.{◌<◌, ◌≤◌, ◌^◌, length, All, IfOk};
 ghost use Rattle.cose_gate.specs.CodeLimits.{nesting_of, layers_of};
 ghost use Rattle.callers.specs.Judging.{Unchanged};
@@ -88,7 +88,8 @@ pub fn strictly_then_relay(
     Ok(((once, first), (again, second)))
 }
 
-/// What a relay writes within limits, and what one within the same or wider limits writes of that, each strict or not: the same.
+/// What a relay writes within limits, and what one within the same or wider limits writes of that,
+/// each strict or not: the same.
 ///
 /// # Errors
 /// Those of `relay`.

@@ -1,5 +1,6 @@
-//! `cose-ask [--strict] [--lines] [AADHEX]`: reads a CBOR sequence from standard input, and writes the records of all questions that the
-//! gate asks about it to standard output. AADHEX is the external data in hex.
+//! `cose-ask [--strict] [--lines] [AADHEX]`: reads a CBOR sequence from standard input, and writes
+//! the records of all questions that the gate asks about it to standard output. AADHEX is the
+//! external data in hex.
 #![tactic(auto)]
 
 use ciborium_ll::{Io, Write};
@@ -86,7 +87,8 @@ fn all_arguments(rt: &HostRuntime) -> Result<Vec<String>, NotRun> {
     }
 }
 
-/// Runs the gate with a judge that says yes to each question and keeps its record, and writes the records.
+/// Runs the gate with a judge that says yes to each question and keeps its record, and writes the
+/// records.
 fn ask(rt: &HostRuntime, arguments: AskArguments<'_>) -> Result<u8, NotRun> {
     let alloc = rt.alloc();
     let aad = read_aad(alloc, arguments.aad)?;

@@ -7,8 +7,9 @@ use std::mem;
 
 /// The records in the bytes of a file, which has them binary or as lines of text.
 ///
-/// The file is binary if its eighth byte is 0: it is the highest byte of the length of the first record, which is below 2^56, and no text
-/// has it. Else each line that isn't blank has one record as its last field, in hex; spaces and tabs separate fields.
+/// The file is binary if its eighth byte is 0: it is the highest byte of the length of the first
+/// record, which is below 2^56, and no text has it. Else each line that isn't blank has one record
+/// as its last field, in hex; spaces and tabs separate fields.
 ///
 /// Binary bytes are returned as they are: whether they are records is left to the judge.
 ///

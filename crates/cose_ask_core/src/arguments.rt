@@ -33,7 +33,8 @@ pub fn asks_for_help(all: &[String]) -> bool {
     }
 }
 
-/// The arguments `[--strict] [--lines] [AADHEX]`; `None` if they are others. Options may stand before and after AADHEX.
+/// The arguments `[--strict] [--lines] [AADHEX]`; `None` if they are others. Options may stand
+/// before and after AADHEX.
 pub fn ask_arguments(all: &[String]) -> Option<AskArguments<'_>> {
     let mut strict = false;
     let mut lines = false;
@@ -53,7 +54,8 @@ pub fn ask_arguments(all: &[String]) -> Option<AskArguments<'_>> {
     })
 }
 
-/// The arguments `[--strict] ACCEPTED [AADHEX]`; `None` if they are others. Options may stand anywhere.
+/// The arguments `[--strict] ACCEPTED [AADHEX]`; `None` if they are others. Options may stand
+/// anywhere.
 pub fn pass_arguments(all: &[String]) -> Option<PassArguments<'_>> {
     let mut strict = false;
     let mut accepted = None;

@@ -1,4 +1,5 @@
-//! What the programs `cose-ask` and `cose-pass` share: their arguments, questions as lines of text, and the file of accepted records.
+//! What the programs `cose-ask` and `cose-pass` share: their arguments, questions as lines of text,
+//! and the file of accepted records.
 #![tactic(auto)]
 
 mod accepted;

@@ -3,8 +3,9 @@ use crate::framing::split_first;
 use crate::question::{Question, read_question};
 use ciborium_ll::Write;
 
-/// Writes a line for each record: the kind of the message by name, the seven texts of the record, and the record, in hex, with a space
-/// between two. An empty text is `-`. It stops at bytes that are not a record.
+/// Writes a line for each record: the kind of the message by name, the seven texts of the record,
+/// and the record, in hex, with a space between two. An empty text is `-`. It stops at bytes that
+/// are not a record.
 ///
 /// # Errors
 /// Those of the writer.

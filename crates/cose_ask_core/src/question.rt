@@ -10,9 +10,11 @@ pub struct Question<'a> {
     pub protected: &'a [u8],
     /// The unprotected header, encoded.
     pub unprotected: &'a [u8],
-    /// The protected header of the signer as received; empty if the message has no signers of its own.
+    /// The protected header of the signer as received; empty if the message has no signers of its
+    /// own.
     pub signer_protected: &'a [u8],
-    /// The unprotected header of the signer, encoded; empty if the message has no signers of its own.
+    /// The unprotected header of the signer, encoded; empty if the message has no signers of its
+    /// own.
     pub signer_unprotected: &'a [u8],
     /// The recipients, encoded.
     pub recipients: &'a [u8],

@@ -9,7 +9,7 @@ use Rattle.std.specs.List.{list_any}
 use Rattle.std.specs.Str.{bytes_eq}
 use denote.Bor.{Bor}
 
--- records that are appended one behind another
+-- records that are appended one after another
 pub told_all : (told : List ℕ) (qs : List Question) → folded_over (λ t q. t ++ record_of q) told qs ≡ told ++ flat_map record_of qs
 told_all told [] = sym (append-nil told)
 told_all told (q ∷ qs) = told_all (told ++ record_of q) qs ∙ append_assoc told (record_of q) (flat_map record_of qs)

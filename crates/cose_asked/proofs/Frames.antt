@@ -68,7 +68,8 @@ no_frames (d ∷ done) bytes rest h some none e (a ∷ all) e' =
     (omega (arith, l, h)) (omega (arith, k, h)) (sym one ∙ e') in
     no_frames done (flat_map framed done ++ rest) rest (omega (arith, l, h)) some none refl all w.1
 
--- bytes too few for a frame begin with none; nor do those behind which fewer stand than their length says
+-- bytes too few for a frame begin with none; nor do those after which fewer stand than their length
+-- says
 pub too_few : (bytes p r : List ℕ) → length bytes < 8 → bytes ≡ framed p ++ r → ⊥
 too_few bytes p r h e =
     let l : length bytes ≡ (8 + length p) + length r
@@ -110,14 +111,14 @@ length-key front covered signature =
     let d = length-framed signature in
     omega (arith, a, b, c, d)
 
--- what stands behind a frame is shorter
+-- what is after a frame is shorter
 pub shorter : (rest piece more : List ℕ) → rest ≡ framed piece ++ more → length more < length rest
 shorter rest piece more e =
     let l : length rest ≡ (8 + length piece) + length more
     = ap (λ (b : List ℕ). length b) e ∙ (length-append (framed piece) more ∙ ap (λ (k : ℕ). k + length more) (length-framed piece)) in
     omega (arith, l)
 
--- framed pieces, one behind another, are of one list of so many pieces
+-- framed pieces, one after another, are of one list of so many pieces
 pub same_pieces : (ps qs : List (List ℕ)) → length ps ≡ length qs → length (flat_map framed ps) < 2 ^ 64
     → flat_map framed ps ≡ flat_map framed qs → ps ≡ qs
 same_pieces [] [] l h e = refl

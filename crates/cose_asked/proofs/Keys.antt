@@ -14,7 +14,7 @@ small kind.Mac0 = omega arith
 small kind.Sign = omega arith
 small kind.Mac = omega arith
 
--- what stands framed behind the number
+-- what is framed after the number
 abbrev pieces : Texts → List ℕ → List ℕ → List (List ℕ)
 pieces t covered signature = t.protected ∷ t.unprotected ∷ t.signer_protected ∷ t.signer_unprotected ∷ t.recipients ∷ covered ∷ signature ∷ []
 

@@ -32,7 +32,8 @@ tied Less x h = grind (arith, h)
 tied Equal x h = refl
 tied Greater x h = grind (arith, h)
 
--- a text against one that begins with a piece: their heads, as long as the piece where the text is, and then what is behind
+-- a text against one that begins with a piece: their heads, as long as the piece if the text is,
+-- and then what is after
 pub by_heads : (head rest front more : List ℕ) → length head ≤ length front → (0 < length rest → length head ≡ length front)
     → bytes_cmp (head ++ rest) (front ++ more) ≡ ordering_then (bytes_cmp head front) (bytes_cmp rest more)
 by_heads [] rest [] more l h = refl
@@ -43,7 +44,8 @@ by_heads (x ∷ xs) rest (y ∷ ys) more l h =
     ap (ordering_then (nat_cmp x y)) (by_heads xs rest ys more (omega (arith, l)) (λ some. omega (arith, h some)))
     ∙ then_assoc (nat_cmp x y) (bytes_cmp xs ys) (bytes_cmp rest more)
 
--- what the order of a text's head to this front, and what is left of the text, say of the text against any that begins with the front
+-- what the order of a text's head to this front, and what is left of the text, say of the text
+-- against any that begins with the front
 abbrev pub TellsOf : List ℕ → Ordering → List ℕ → List ℕ → Type 0
 TellsOf text o rest front = (more : List ℕ) → bytes_cmp text (front ++ more) ≡ ordering_then o (bytes_cmp rest more)
 

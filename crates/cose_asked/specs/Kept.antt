@@ -24,7 +24,7 @@ told_of (Lost told) = told.items
 abbrev pub told_by : Asker → List ℕ
 told_by asker = told_of asker.text
 
--- whether the records are lost, since memory was refused for one
+-- whether the records are lost, since there was no memory for one
 abbrev pub was_lost : Text → Bool
 was_lost (Whole text) = false
 was_lost (Lost told) = true

@@ -4,6 +4,6 @@ use Rattle.std.specs.Ordering.{nat_cmp}
 use Rattle.std.specs.Cmp.Lexicographic.{slice_cmp}
 use Rattle.std.specs.declared.cmp.Ordering.{Ordering}
 
--- the first byte that differs decides, and where none does, the shorter text stands before the longer
+-- the first byte that differs decides, and if none does, the shorter text is before the longer
 abbrev pub bytes_cmp : List ℕ → List ℕ → Ordering
 bytes_cmp = slice_cmp nat_cmp

@@ -11,14 +11,16 @@ use Rattle.cose_gate_core.specs.Questions.{Question, Subject, number_of, or_noth
 use Rattle.cose_gate_core.specs.Received.{received_bytes}
 use Rattle.cose_asked.specs.Framing.{eight, framed, key_by}
 
--- the encoded map of a header, and the encoded array of recipients, which stands there even where it is empty
+-- the encoded map of a header, and the encoded array of recipients, which is there even if it is
+-- empty
 abbrev pub header_text : HeaderFields → List ℕ
 header_text h = or_nothing (option_map enc (header_tree h))
 
 abbrev pub recipients_text : RecipientsFields → List ℕ
 recipients_text rs = or_nothing (option_map enc (list_tree rs))
 
--- the headers of a signer: nothing where the message has no signers of its own. One that has shows at least an empty map.
+-- the headers of a signer: nothing if the message has no signers of its own. One that has shows at
+-- least an empty map.
 abbrev pub signer_protected : Option (ProtectedFields × HeaderFields) → List ℕ
 signer_protected None = []
 signer_protected (Some s) = received_bytes s.0
@@ -27,8 +29,9 @@ abbrev pub signer_unprotected : Option (ProtectedFields × HeaderFields) → Lis
 signer_unprotected None = []
 signer_unprotected (Some s) = header_text s.1
 
--- what a question is about, as a record shows it: the message's kind, the protected headers as they were received, the unprotected ones
--- and the recipients encoded. The covered bytes hold neither of these two, and a caller finds his key by them.
+-- what a question is about, as a record shows it: the message's kind, the protected headers as they
+-- were received, the unprotected ones and the recipients encoded. The covered bytes hold neither of
+-- these two, and a caller finds his key by them.
 pub record Texts : Type 0 where
   pub number : ℕ
   pub protected : List ℕ
@@ -56,7 +59,7 @@ front_by t =
 abbrev pub front_of : Subject → List ℕ
 front_of s = front_by (texts_of s)
 
--- the key of a question, and its record: the key behind its length
+-- the key of a question, and its record: the key after its length
 abbrev pub key_of : Question → List ℕ
 key_of q = key_by (front_of q.subject) q.covered q.signature
 

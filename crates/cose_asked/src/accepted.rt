@@ -12,8 +12,8 @@ use crate::ordered::Ordered;
 use cose_gate_core::{About, Judge};
 use std::alloc::{AllocError, Global};
 
-/// Says yes to the questions whose records were accepted, and no to any other. It takes no memory to answer. To be made takes it time as
-/// n log n of the records, and a question as log n.
+/// Says yes to the questions whose records were accepted, and no to any other. It takes no memory
+/// to answer. To be made takes it time as n log n of the records, and a question as log n.
 #[derive(Drop)]
 pub struct Accepted<'a> {
     alloc: Global,
@@ -22,10 +22,11 @@ pub struct Accepted<'a> {
 }
 
 impl<'a> Accepted<'a> {
-    /// A judge by these records, one behind another, in any order; `None` where the bytes are no records.
+    /// A judge by these records, one after another, in any order; `None` if the bytes are no
+    /// records.
     ///
     /// # Errors
-    /// Only where memory is refused.
+    /// Only if out of memory.
     pub fn new(alloc: Global, records: &'a [u8]) -> Result<Option<Accepted<'a>>, AllocError>
         ensures { IfOk result (λ judge. MatchOption judge
             ((keys : List (List ℕ)) → records.now ≡ flat_map framed keys → ⊥)

@@ -12,7 +12,7 @@ use cose_gate_core::{About, Judge, Log};
 use std::alloc::{AllocError, Global};
 use std::mem;
 
-/// Says yes to each question, and keeps its record, one behind another.
+/// Says yes to each question, and keeps its record, one after another.
 #[derive(Drop)]
 pub struct Asker {
     alloc: Global,
@@ -33,7 +33,7 @@ impl Asker {
         }
     }
 
-    /// The records of the questions, in order; `None` where they are lost, since memory was refused
+    /// The records of the questions, in order; `None` if they are lost, since there was no memory
     /// for one.
     pub fn records(&self) -> Option<&[u8]>
         ensures records { MatchOption result (Unit {0}) (λ records. records.now ≡ told_by self.now) }
@@ -45,7 +45,7 @@ impl Asker {
         }
     }
 
-    /// Whether the records are lost, since memory was refused for one.
+    /// Whether the records are lost, since there was no memory for one.
     fn is_lost(&self) -> bool
         ensures { result ≡ is_lost self.now }
     {
@@ -70,7 +70,7 @@ impl Judge for Asker {
 
     ghost decided = { λ told q. told ++ record_of q };
 
-    /// Begins a question. Where memory was refused for a record before, it is refused for this one.
+    /// Begins a question. If out of memory for a record before, it is refused for this one.
     fn begin(&mut self, about: &About) -> Result<(), AllocError>
         ensures holds { OnOk result (IsHeld self.new.held (subject_of about.now) []) }
         ensures pieces { OnOk result (pieces_of self.new.held ≡ []) }

@@ -1,4 +1,4 @@
-//! Bytes behind their length: eight bytes, the lowest first.
+//! Bytes after their length: eight bytes, the lowest first.
 ghost use Rattle.std.specs.Prelude.{◌≡◌, ◌++◌, ℕ, List, MatchOption, IfOk, OnOk, OnErr, map, flat_map};
 ghost use Rattle.std.specs.Ordering.{ordering_then};
 ghost use Rattle.cose_asked.specs.Framing.{eight, framed};
@@ -14,7 +14,7 @@ pub(crate) fn eight(length: usize) -> [u8; 8]
     (length as u64).to_le_bytes()
 }
 
-/// Appends the bytes behind their length.
+/// Appends the bytes after their length.
 pub(crate) fn append(text: &mut Vec<u8>, piece: &[u8]) -> Result<(), AllocError>
     ensures { OnOk result («text».new.items ≡ «text».old.items ++ framed piece.now) }
 {
@@ -40,7 +40,8 @@ fn split_first(bytes: &[u8]) -> Option<(&[u8], &[u8])>
     Some((piece, rest))
 }
 
-/// The pieces that the bytes are, each framed, one behind another; `None` where they are no such pieces.
+/// The pieces that the bytes are, each framed, one after another; `None` if they are no such
+/// pieces.
 pub(crate) fn split(alloc: Global, bytes: &[u8]) -> Result<Option<Vec<&[u8]>>, AllocError>
     ensures { IfOk result (λ pieces. MatchOption pieces
         ((all : List (List ℕ)) → bytes.now ≡ flat_map framed all → ⊥)
@@ -58,7 +59,8 @@ pub(crate) fn split(alloc: Global, bytes: &[u8]) -> Result<Option<Vec<&[u8]>>, A
     Ok(Some(pieces))
 }
 
-/// How the text stands to any text that begins with these bytes, where they tell; else what of it stands behind as many.
+/// How the text stands to any text that begins with these bytes, where they tell; else what of it
+/// is after as many.
 pub(crate) fn order_to<'a>(text: &'a [u8], front: &[u8]) -> (Ordering, &'a [u8])
     ensures { (more : List ℕ) → bytes_cmp text.now (front.now ++ more)
         ≡ ordering_then result.0 (bytes_cmp result.1.now more) }
@@ -67,7 +69,8 @@ pub(crate) fn order_to<'a>(text: &'a [u8], front: &[u8]) -> (Ordering, &'a [u8])
     (head.cmp(&front), rest)
 }
 
-/// How the text stands to any text that begins with the framed bytes, where they tell; else what of it stands behind as many.
+/// How the text stands to any text that begins with the framed bytes, where they tell; else what of
+/// it is after as many.
 pub(crate) fn order_to_framed<'a>(text: &'a [u8], piece: &[u8]) -> (Ordering, &'a [u8])
     ensures { (more : List ℕ) → bytes_cmp text.now (framed piece.now ++ more)
         ≡ ordering_then result.0 (bytes_cmp result.1.now more) }

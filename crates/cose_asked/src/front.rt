@@ -38,7 +38,7 @@ fn recipients_text(alloc: Global, recipients: &[CoseRecipient]) -> Result<Vec<u8
     }
 }
 
-/// Appends the headers of a signer, where there is one.
+/// Appends the headers of a signer, if there is one.
 fn append_signer(
     alloc: Global,
     text: &mut Vec<u8>,
@@ -60,7 +60,7 @@ fn append_signer(
     }
 }
 
-/// The front of the key: all that stands in it before the covered bytes.
+/// The front of the key: all that is in it before the covered bytes.
 pub(crate) fn front_of(alloc: Global, about: &About) -> Result<Vec<u8>, AllocError>
     ensures { IfOk result (λ front. front.items ≡ spec.front_of (subject_of about.now)) }
 {

@@ -6,7 +6,7 @@ use ciborium_ll::Write;
 use ciborium_ll::count::Count;
 use std::alloc::{AllocError, Global};
 
-/// How often memory was refused.
+/// How often there was no memory.
 #[derive(Drop)]
 pub(crate) enum Refusals {
     /// It never was.
@@ -15,7 +15,7 @@ pub(crate) enum Refusals {
     AndThen(Count),
 }
 
-/// A writer over memory that knows whether memory was refused to it.
+/// A writer over memory that knows whether there was no memory to it.
 #[derive(Drop)]
 pub struct Growing {
     text: Vec<u8>,
@@ -41,7 +41,7 @@ impl Growing {
         &self.text
     }
 
-    /// Whether memory was refused.
+    /// Whether there was no memory.
     pub fn is_refused(&self) -> bool
         ensures answer { result ≡ is_refused self.now }
         ensures never { result ≡ false → failures_of self.now ≡ 0 }
@@ -70,7 +70,7 @@ impl Write for Growing {
 
     ghost failed = { failures_of };
 
-    /// Appends all of the data, or nothing where memory is refused.
+    /// Appends all of the data, or nothing if out of memory.
     fn write_all(&mut self, data: &[u8]) -> Result<(), AllocError> {
         match self.text.extend_from_slice(data) {
             Ok(()) => Ok(()),

@@ -12,7 +12,8 @@ use cose_gate_core::{About, Log};
 use std::alloc::{AllocError, Global};
 use std::cmp::Ordering;
 
-/// What is held of a question: the front of its key, which says what it is about, and the covered bytes so far.
+/// What is held of a question: the front of its key, which says what it is about, and the covered
+/// bytes so far.
 #[derive(Drop)]
 pub(crate) struct Held {
     pub(crate) front: Vec<u8>,

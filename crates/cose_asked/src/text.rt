@@ -8,12 +8,12 @@ use crate::held::Held;
 use ciborium_ll::log::Log;
 use std::alloc::{AllocError, Global};
 
-/// The records so far, or, where memory was refused for one, nothing but what proofs say of them.
+/// The records so far, or, if out of memory for one, nothing but what proofs say of them.
 #[derive(Drop)]
 pub(crate) enum Text {
     /// All of them.
     Whole(Vec<u8>),
-    /// Memory was refused.
+    /// Out of memory.
     Lost(Log<u8>),
 }
 
@@ -30,7 +30,7 @@ impl Text {
     }
 }
 
-/// The text with the record of a question, where memory is found.
+/// The text with the record of a question, if memory is found.
 fn with_record(text: Vec<u8>, held: &Held, signature: &[u8]) -> Text
     ensures { told_of result ≡ text.items
         ++ framed (key_by held.now.front.items held.now.covered.items signature.now) }

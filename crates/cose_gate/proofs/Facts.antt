@@ -31,7 +31,7 @@ front_of all xs ys e = record { more = ys; whole = e }
 front_then : {A : Type 0} (part xs ys all : List A) → IsFront part xs → all ≡ xs ++ ys → IsFront part all
 front_then part xs ys all f e = record { more = f.more ++ ys; whole = e ∙ ap (λ z. z ++ ys) f.whole ∙ append_assoc part f.more ys }
 
--- a beginning behind what is there
+-- a beginning after what is there
 front_behind : {A : Type 0} (xs part ys : List A) → IsFront part ys → IsFront (xs ++ part) (xs ++ ys)
 front_behind xs part ys f = record { more = f.more; whole = ap (λ z. xs ++ z) f.whole ∙ sym (append_assoc xs part f.more) }
 
@@ -96,11 +96,11 @@ module _ {T S : Type 0} (rules : Rules T S) where
           let e = unreadable_ends rules.limits rules.allows rules.aad w.place more rest w.behind u w.left in
           (subst (λ z. Pair cs z) (sym (w.whole ∙ ap (λ x. w.front ++ x) e.0 ∙ append-nil w.front)) w.twins, e.1)
 
-      -- the input is the bytes of the steps and what is to come behind them
+      -- the input is the bytes of the steps and what is to come after them
       bytes_then : (cs : List Step) (more : List ℕ) → Course rules.limits rules.allows rules.aad old.offset b cs more → b ≡ bytes_of cs ++ more
       bytes_then cs more c = (told rules.limits rules.allows rules.aad 1 old.offset b cs more c.sequence c.steps).whole
 
-      -- where the gate stands in what is left behind the items of the run, and in the whole input
+      -- where the gate is in what is left after the items of the run, and in the whole input
       stands_behind : (cs : List Step) (more : List ℕ) (P : Type 0) → Course rules.limits rules.allows rules.aad old.offset b cs more → IsUnreadableWithin rules.limits.nesting more
           → StandsIn old new b more P → StandsIn old new b rest P
       stands_behind cs more P c u s = subst (λ (z : List ℕ). StandsIn old new b z P) (sym (full cs more c u).1) s
@@ -338,7 +338,7 @@ module _ {T S : Type 0} (rules : Rules T S) where
             s : Split rules.limits rules.allows rules.aad o.done o.last w.front
             s = twins_split rules.limits rules.allows rules.aad o.done o.last w.front w.twins
 
-            -- behind the item at hand
+            -- after the item at hand
             stands_at : (d : Step) (cs : List Step) → o.last ≡ cs → (ds : List Step) → Pair cs ds → ds ≡ d ∷ [] → new.offset ≡ d.item.offset + length d.item.bytes
             stands_at d [] e [] t is = let none : [] ≡ d ∷ [] = is in absurd (cc)
             stands_at d [] e (x ∷ xs) t is = absurd t

@@ -1,4 +1,4 @@
--- The limits where none are chosen.
+-- The limits if none are chosen.
 use Rattle.std.proofs.Common.{◌≡◌, ℕ, List, ap, subst, ◌∙◌}
 use Rattle.std.specs.Prelude.{Result}
 use Rattle.ciborium_ll.specs.declared.dec.Decoder.{Decoder}

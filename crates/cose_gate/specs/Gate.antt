@@ -44,9 +44,9 @@ call_of r w p j limits aad decoder out report judge decoder' out' report' judge'
   new = sight_of r w p j decoder' out' report' judge';
 }
 
--- P holds of the bytes to come, where these are known, of the steps of the run over them, and of
--- what is left behind its items. Of a step's entry it is open which of a shape's faults is named,
--- and so P holds of each way to say it.
+-- P holds of the bytes to come, if these are known, of the steps of the run over them, and of what
+-- is left after its items. Of a step's entry it is open which of a shape's faults is named, and so
+-- P holds of each way to say it.
 abbrev pub OverRun : {T S : Type 0} → Rules T S → Sight T S
     → (List ℕ → List Step → List ℕ → Type 0) → Type 0
 OverRun rules old P =
@@ -93,9 +93,9 @@ pub record WrittenFront {T S : Type 0} (rules : Rules T S) (old new : Sight T S)
   pub front : IsFront text (output_of rules.allows rules.aad ss)
   pub written : Appends old.written new.written text
 
--- the text of one message that passes is torn: what stands before it was done whole, all was asked
--- about it, it wasn't noted, a beginning of its text was written, and the offset is the one behind
--- its item
+-- the text of one message that passes is torn: what is before it was done whole, all was asked
+-- about it, it wasn't noted, a beginning of its encoding was written, and the offset is the one
+-- after its item
 pub record Torn {T S : Type 0} (rules : Rules T S) (old new : Sight T S)
     (ss : List Step) : Type 0 where
   pub done : List Step
@@ -111,10 +111,10 @@ pub record Torn {T S : Type 0} (rules : Rules T S) (old new : Sight T S)
   pub written : Appends old.written new.written (output_of rules.allows rules.aad done ++ text)
   pub stands : new.offset ≡ last.item.offset + length last.item.bytes
 
--- memory was refused at one item, or between items: what stands before was done whole; of the
--- item's questions a beginning was asked; its text was written whole, and then all was asked about
--- it, or not at all; it wasn't noted. At an item the offset is the one behind it; between items the
--- gate stands in the bytes `more`, those to come behind the last item that was done.
+-- there was no memory at one item, or between items: what is before was done whole; of the item's
+-- questions a beginning was asked; its text was written whole, and then all was asked about it, or
+-- not at all; it wasn't noted. At an item the offset is the one after it; between items the gate is
+-- in the bytes `more`, those to come after the last item that was done.
 pub record Refused {T S : Type 0} (rules : Rules T S) (old new : Sight T S)
     (ss : List Step) : Type 0 where
   pub done : List Step
@@ -136,10 +136,10 @@ pub record Refused {T S : Type 0} (rules : Rules T S) (old new : Sight T S)
   pub come : old.left ≡ Some (bytes_of (done ++ last) ++ more)
   pub between : last ≡ [] → StandsIn old new (bytes_of (done ++ last) ++ more) more (Unit {0})
 
--- where the gate stops: Ok exactly where nothing is left behind the items, with all bytes taken,
--- and the reader tells that nothing is left; else with the fault of what is left. Of an item that
--- is cut some bytes were taken. Where all items were gone through the gate stands in what is left
--- behind them, and in any case in the bytes that were to come.
+-- where the gate stops: Ok exactly when nothing is left after the items, with all bytes taken, and
+-- the reader tells that nothing is left; else with the fault of what is left. Of an item that is
+-- cut some bytes were taken. If all items were gone through the gate is in what is left after them,
+-- and in any case in the bytes that were to come.
 abbrev pub StopsAt : {T S E : Type 0} → (E → Bool) → ℕ → Sight T S → Sight T S → List ℕ → List ℕ
     → Result Counts (GateFault E) → Type 0
 StopsAt ends n old new b rest (Ok counts) =
@@ -152,7 +152,7 @@ StopsAt ends n old new b rest (Err (Decode e)) =
 StopsAt ends n old new b rest (Err Write) = Unit {0}
 StopsAt ends n old new b rest (Err Memory) = Unit {0}
 
--- P holds where the writer failed, and where memory was refused
+-- P holds if the writer failed, and if out of memory
 abbrev pub IfWrite : {E : Type 0} → Result Counts (GateFault E) → Type 0 → Type 0
 IfWrite (Ok counts) P = Unit {0}
 IfWrite (Err (Decode e)) P = Unit {0}
@@ -173,7 +173,7 @@ AsksAll c r =
     OverRun c.rules c.old (λ b ss rest. IfThrough c.ends r (c.new.told
     ≡ folded_over c.rules.decided c.old.told (questions_of c.rules.allows c.rules.aad ss)))
 
--- through all items: exactly the passed messages were written, each as its one shortest text
+-- through all items: exactly the passed messages were written, each as its canonical encoding
 abbrev pub WritesAll : {T S E : Type 0} → Call T S E → Result Counts (GateFault E) → Type 0
 WritesAll c r =
     OverRun c.rules c.old (λ b ss rest. IfThrough c.ends r
@@ -217,7 +217,7 @@ Tears c r = OverRun c.rules c.old (λ b ss rest. IfWrite r (Torn c.rules c.old c
 abbrev pub WritesWhole : {T S E : Type 0} → Call T S E → Result Counts (GateFault E) → Type 0
 WritesWhole c r = OverRun c.rules c.old (λ b ss rest. IfMemory r (Refused c.rules c.old c.new ss))
 
--- a fault of decoding is never want of memory
+-- a fault of decoding is never being out of memory
 abbrev pub HoldsNoMemory : {E : Type 0} → GateFault E → Type 0
 HoldsNoMemory (Decode e) = IsNoMemory e
 HoldsNoMemory Write = Unit {0}

@@ -9,30 +9,30 @@ use ciborium_ll::{Decoder, Read, Write};
 use cose_gate_laws::gate_core::{Counts, GateFault, Judge, Limits, Report, Terms, gate_by};
 use std::alloc::Global;
 
-/// Asks the judge about each tagged COSE_Sign1, COSE_Mac0, COSE_Sign and COSE_Mac of a CBOR sequence
-/// that carries its payload, over exactly the bytes that its signature or tag covers, with `aad` as
-/// external data, and writes those that passed, each as its canonical encoding (definite lengths,
-/// shortest heads, header fields in fixed order; RFC 8742, RFC 9052, RFC 8949, section 4.2). About a
-/// COSE_Sign it asks once for each signature, in order up to the first no, with that signature's
-/// headers as the signer's; it has passed if the answer to each is yes, and one without a signature
-/// is refused. Every item is noted in the report; one that is no such message is refused there, and
-/// the gate goes on. It doesn't flush.
+/// Asks the judge about each tagged COSE_Sign1, COSE_Mac0, COSE_Sign and COSE_Mac of a CBOR
+/// sequence that carries its payload, over exactly the bytes that its signature or tag covers, with
+/// `aad` as external data, and writes those that passed, each as its canonical encoding (definite
+/// lengths, shortest heads, header fields in fixed order; RFC 8742, RFC 9052, RFC 8949, section
+/// 4.2). About a COSE_Sign it asks once for each signature, in order up to the first no, with that
+/// signature's headers as the signer's; it has passed if the answer to each is yes, and one without
+/// a signature is refused. Every item is noted in the report; one that is no such message is
+/// refused there, and the gate goes on. It doesn't flush.
 ///
 /// It ends with `Ok` only if nothing is left after an item: the offset has grown by all bytes then,
 /// and a reader that tells what is to come tells that nothing is. No header waits after any result.
-/// The contract is the record `Gates`, a field for each fact. What its field `ran` says holds of the
-/// bytes that were there, also over a reader that doesn't tell which are to come; if they are known,
-/// it holds of those, and the other fields say it fact by fact over the run of the input.
+/// The contract is the record `Gates`, a field for each fact. What its field `ran` says holds of
+/// the bytes that were there, also over a reader that doesn't tell which are to come; if they are
+/// known, it holds of those, and the other fields say it fact by fact over the run of the input.
 ///
 /// # Errors
-/// `Decode` if no readable item begins: all items before it were asked about, noted and written.
-/// Of the bytes after these some were taken, or none, but of an item that is cut some; the offset
-/// has grown by their count. They may end inside an item, so don't read on from there. `Decode` also
-/// if the reader failed: all that was asked, noted and written are the first items then. `Write`
-/// if the writer failed: a beginning of the encoding of a message that passes was written after the
+/// `Decode` if no readable item begins: all items before it were asked about, noted and written. Of
+/// the bytes after these some were taken, or none, but of an item that is cut some; the offset has
+/// grown by their count. They may end inside an item, so don't read on from there. `Decode` also if
+/// the reader failed: all that was asked, noted and written are the first items then. `Write` if
+/// the writer failed: a beginning of the encoding of a message that passes was written after the
 /// output before it, and the reader is after that message. `Memory` if out of memory: whole
-/// encodings were written, and of the questions about the item at hand a beginning was asked;
-/// if there is no such item, some of the bytes after the last one were taken, or none.
+/// encodings were written, and of the questions about the item at hand a beginning was asked; if
+/// there is no such item, some of the bytes after the last one were taken, or none.
 pub fn gate<R: Read, W: Write, P: Report, J: Judge>(
     alloc: Global,
     decoder: &mut Decoder<R>,
@@ -70,10 +70,10 @@ pub fn gate_with<R: Read, W: Write, P: Report, J: Judge>(
 }
 
 /// As `gate`, and strict: a message passes only if its item is already what would be written for it
-/// (RFC 8949, section 4.2, with the fields of headers in fixed order). One that is spelled otherwise
-/// is refused as `NotShortest`, and the judge isn't asked about it. So the output is the received
-/// bytes of the messages that pass, joined: the law `output_is_received`. No header may wait in the
-/// decoder. No copy of an item's bytes is kept.
+/// (RFC 8949, section 4.2, with the fields of headers in fixed order). One that is spelled
+/// otherwise is refused as `NotShortest`, and the judge isn't asked about it. So the output is the
+/// received bytes of the messages that pass, joined: the law `output_is_received`. No header may
+/// wait in the decoder. No copy of an item's bytes is kept.
 pub fn gate_strict<R: Read, W: Write, P: Report, J: Judge>(
     alloc: Global,
     decoder: &mut Decoder<R>,

@@ -1,4 +1,5 @@
-//! Laws of the definitions that the contract of `gate` speaks of. The functions do nothing; a proof calls one to have its law.
+//! Laws of the definitions that the contract of `gate` speaks of. The functions do nothing; a proof
+//! calls one to have its law.
 pub use cose_gate_laws::gate_core::laws::{judged_can_be_written, one_finding, one_run};
 pub use cose_gate_laws::{
     course_begins_run, every_input_run, every_item_found, joined_runs, output_is_fixed,

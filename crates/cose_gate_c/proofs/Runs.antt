@@ -51,7 +51,7 @@ devices left written failures = record { left = left; written = Some written; re
 same_devices : (left : Option (List ℕ)) (w w' : List ℕ) (f f' : ℕ) → w ≡ w' → f ≡ f' → devices left w f ≡ devices left w' f'
 same_devices left w w' f f' e h = ap (λ (z : List ℕ). devices left z f) e ∙ ap (λ (n : ℕ). devices left w' n) h
 
--- the run's text and status, where the output was empty before and no device failed
+-- the run's text and status, if the output was empty before and no device failed
 pub runs : (limits : Bounds) (keys aad input : List ℕ) (first : List ℕ) (f : ℕ) (left : Option (List ℕ)) (written text : List ℕ) (f' status : ℕ)
     → first ≡ [] → f ≡ 0 → text ≡ written → f' ≡ 0
     → EndsOver limits says_yes keys aad (devices (Some input) first f) (devices left written f') status
@@ -89,7 +89,7 @@ known left input b there is = subst (λ (o : Option (List ℕ)). IfKnown o (λ z
 four_is_more : (n : ℕ) → n < 2 → n ≡ 4 → ⊥
 four_is_more n few four = omega (arith, few, four)
 
--- no device failed, so the run stopped at an item that can't be read, or memory was refused
+-- no device failed, so the run stopped at an item that can't be read, or it is out of memory
 rose_never : (n m : ℕ) → m ≡ n → n < m → ⊥
 rose_never n m same rose = omega (arith, same, rose)
 
@@ -174,7 +174,7 @@ places_none status old new answer l s e = record {
   no_room = λ few. elim (none_below (length old) few) [ ];
 }
 
--- by the keys that were accepted, or memory was refused
+-- by the keys that were accepted, or it is out of memory
 pub passed : (limits : Bounds) (accepted : List ℕ) (keys : List (List ℕ)) (aad input written : List ℕ) (status : ℕ) → accepted ≡ flat_map framed keys
     → RunsBy limits keys aad input written status ⊎ NoMemory written status → Passed limits accepted aad input written status
 passed limits accepted keys aad input written status e r = elim r [

@@ -21,7 +21,7 @@ abbrev pub before : List ℕ → Devices
 before input =
     record { left = Some input; written = Some []; read_failures = 0; write_failures = 0 }
 
--- after it, where memory was found for all that was written
+-- after it, if memory was found for all that was written
 abbrev pub after : Option (List ℕ) → List ℕ → Devices
 after left written =
     record { left = left; written = Some written; read_failures = 0; write_failures = 0 }
@@ -36,19 +36,20 @@ pub record Runs (limits : Bounds) (keys aad input written : List ℕ) (status : 
   pub ends : EndsOver limits says_yes keys aad (before input) (after left written) status
   pub known : IsRunStatus status
 
--- memory was refused, and nothing is written
+-- there was no memory, and nothing is written
 abbrev pub NoMemory : List ℕ → ℕ → Type 0
 NoMemory written status = (written ≡ []) × (status ≡ 4)
 
--- the text stands in front of what was there, where it is no longer; else there is no room, and
--- nothing was written
+-- the text is in front of what was there, if it is no longer; else there is no space, and nothing
+-- was written
 pub record Places (written : List ℕ) (status : ℕ) (old new : List ℕ) (answer : Answer) : Type 0 where
   pub length_is : answer.length ≡ length written
   pub fits : length written ≤ length old
       → (answer.status ≡ status) × (new ≡ written ++ drop (length written) old)
   pub no_room : length old < length written → (answer.status ≡ 5) × (new ≡ old)
 
--- where the limits are some that a caller may choose, there is a text with its status, and it is placed; else nothing was read
+-- where the limits are some that a caller may choose, there is a text with its status, and it is
+-- placed; else nothing was read
 abbrev pub Answers : ℕ → ℕ → (List ℕ → ℕ → Type 0) → List ℕ → List ℕ → Answer → Type 0
 Answers nesting layers IsText old new answer =
     (AreLimits nesting layers × ((written : List ℕ) × (status : ℕ) × IsText written status
@@ -64,7 +65,8 @@ abbrev pub Checks : ℕ → ℕ → Bool → List ℕ → List ℕ → List ℕ 
 Checks nesting layers strict keys aad input old new answer =
     Answers nesting layers (Checked (within nesting layers strict) keys aad input) old new answer
 
--- memory was refused: at the last step, or behind all of them, with more to come. All questions about the steps before it were told.
+-- there was no memory: at the last step, or after all of them, with more to come. All questions
+-- about the steps before it were told.
 pub record ToldBefore (aad : List ℕ) (steps : List Step) (more : List ℕ) (front : List Question)
     : Type 0 where
   pub done : List Step
@@ -74,15 +76,15 @@ pub record ToldBefore (aad : List ℕ) (steps : List Step) (more : List ℕ) (fr
   pub due : last ≡ [] → more ≢ []
   pub all_before : IsFront (questions_of (λ _. true) aad done) front
 
--- how far questions are told where the run stopped: all that stand before an item that can't be read, or all before the one where memory
--- was refused
+-- how far questions are told where the run stopped: all that stand before an item that can't be
+-- read, or all before the one where there was no memory
 abbrev pub ToldUpTo : ℕ → List ℕ → List ℕ → List Step → List ℕ → List Question → Type 0
 ToldUpTo nesting aad input steps more front =
     (IsUnreadable nesting input more × (front ≡ questions_of (λ _. true) aad steps))
     ⊎ ToldBefore aad steps more front
 
--- the text is the records of the questions that a judge is asked who always says yes, in order: all of them where the run went to its
--- end, and else a front of them, up to where it stopped
+-- the text is the records of the questions that a judge is asked who always says yes, in order: all
+-- of them if the run went to its end, and else a front of them, up to where it stopped
 pub record Tells (limits : Bounds) (aad input text : List ℕ) (status : ℕ) : Type 0 where
   pub steps : List Step
   pub more : List ℕ
@@ -102,14 +104,14 @@ abbrev pub Asks : ℕ → ℕ → Bool → List ℕ → List ℕ → List ℕ �
 Asks nesting layers strict aad input old new answer =
     Answers nesting layers (Told (within nesting layers strict) aad input) old new answer
 
--- the run with the judge that says yes where the key of a question is one of these
+-- the run with the judge that says yes if the key of a question is one of these
 pub record RunsBy (limits : Bounds) (keys : List (List ℕ)) (aad input written : List ℕ) (status : ℕ)
     : Type 0 where
   pub left : Option (List ℕ)
   pub ran : RanOn limits (is_among keys) aad (before input) (after left written) status
   pub known : (status < 2) ⊎ (status ≡ 4)
 
--- where what was accepted is records, one behind another, that run; else nothing was read
+-- where what was accepted is records, one after another, that run; else nothing was read
 abbrev pub Passed : Bounds → List ℕ → List ℕ → List ℕ → List ℕ → ℕ → Type 0
 Passed limits accepted aad input written status =
     ((keys : List (List ℕ)) × (accepted ≡ flat_map framed keys)

@@ -7,7 +7,7 @@ abbrev pub put : List ℕ → ℕ → List ℕ → List ℕ
 put room place text =
     take place room ++ (take (length room - place) text ++ drop (place + length text) room)
 
--- where the last line begins, where all lines end, and whether the last has its line feed
+-- where the last line begins, if all lines end, and whether the last has its line feed
 pub record Place : Type 0 where
   pub last : ℕ
   pub length : ℕ
@@ -16,7 +16,7 @@ pub record Place : Type 0 where
 abbrev pub place_of : Lines → Place
 place_of w = record { last = w.last; length = w.length; is_ended = w.is_ended }
 
--- whether a line has ended behind a text with this last byte, if it had or not before
+-- whether a line has ended after a text with this last byte, if it had or not before
 abbrev pub ended_at : Option ℕ → Bool → Bool
 ended_at None before = before
 ended_at (Some byte) before = nat_eq byte 10
@@ -28,7 +28,7 @@ ended_by text before = ended_at (slice_get text (length text - 1)) before
 abbrev pub counted : ℕ → ℕ → ℕ
 counted n m = min (n + m) (2 ^ 64 - 1)
 
--- behind this text: where the line before it has ended, the text begins the last line
+-- after this text: if the line before it has ended, the text begins the last line
 abbrev pub place_after : Place → List ℕ → Place
 place_after p [] = p
 place_after p (x ∷ xs) = record {
@@ -37,7 +37,7 @@ place_after p (x ∷ xs) = record {
   is_ended = ended_by (x ∷ xs) p.is_ended;
 }
 
--- the line that says that memory was refused, and where it ends where it is the last
+-- the line that says that there was no memory, and where it ends if it is the last
 abbrev pub stopped : List ℕ
 stopped = codes "stopped: memory\n"
 

@@ -5,12 +5,13 @@ ghost use Rattle.std.specs.Prelude.{◌≡◌};
 #[repr(C)]
 #[derive(Debug, Clone, Copy, PartialEq, Eq)]
 pub struct Answer {
-    /// 0: no item was refused. 1: some were. 2: the limits are none. 3: the bytes are no key set, or no records. 4: the input is no CBOR,
-    /// or memory was refused. 5: the output has no room, and nothing was written.
+    /// 0: no item was refused. 1: some were. 2: the limits are none. 3: the bytes are no key set,
+    /// or no records. 4: the input is no CBOR, or it is out of memory. 5: the output has no space,
+    /// and nothing was written.
     pub status: u32,
-    /// The bytes of output. With 5 it is the room that is needed.
+    /// The bytes of output. With 5 it is the space that is needed.
     pub length: usize,
-    /// The bytes of the report's lines, also of those that had no room.
+    /// The bytes of the report's lines, also of those that had no space.
     pub lines: usize,
 }
 

@@ -45,18 +45,20 @@ fn ask_within(
     }
 }
 
-/// Tells the questions of the input: the gate runs over it as `cose_gate_check` says, and of each signature and tag that it would ask a
-/// judge about, the record stands in `questions`, one behind another. The caller finds the key by what a record shows, checks the
-/// signature over the covered bytes, and hands the records that he accepts to `cose_gate_pass`. `include/cose_gate.h` says how a record is
-/// written.
+/// Tells the questions of the input: the gate runs over it as `cose_gate_check` says, and of each
+/// signature and tag that it would ask a judge about, the record is in `questions`, one after
+/// another. The caller finds the key by what a record shows, checks the signature over the covered
+/// bytes, and hands the records that he accepts to `cose_gate_pass`. `include/cose_gate.h` says how
+/// a record is written.
 ///
-/// `lines` takes the lines of a run in which every signature is good: it names each item that is refused for its form. With the statuses 0
-/// and 1 all questions are told. With 4 they are those up to where the run stopped: all before an item that can't be read; where memory was
-/// refused at an item, all before it, and some about it. Where memory was refused to the records, there are none, and `stopped: memory`
-/// stands in place of the whole last line.
+/// `lines` takes the lines of a run in which every signature is good: it names each item that is
+/// refused for its form. With the statuses 0 and 1 all questions are told. With 4 they are those up
+/// to where the run stopped: all before an item that can't be read; if out of memory at an item,
+/// all before it, and some about it. If there is no memory for the records, there are none, and
+/// `stopped: memory` stands in place of the whole last line.
 ///
-/// Where the records are longer than `questions`, and only then, the status is 5: `questions` stays as it was, and `length` is the room
-/// that is needed.
+/// If the records are longer than `questions`, and only then, the status is 5: `questions` stays as
+/// it was, and `length` is the space that is needed.
 #[unsafe(no_mangle)]
 pub extern "C" fn cose_gate_ask(
     alloc: Global,

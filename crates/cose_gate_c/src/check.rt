@@ -35,17 +35,19 @@ fn check_within(
     place(out, output.as_written(), status, told.length())
 }
 
-/// Runs `cose-gate` over memory: the gate over `input` with the judge by HMAC and the key set of the bytes `keys`, with `aad` as external
-/// data, within these limits: items and the items in protected headers nest no deeper than `nesting` levels, 2 to 4,096, and no more than
-/// `layers` protected headers lie inside one another, 1 to 64; the program's are 256 and 16. Where it is strict a message passes only
-/// where its item is already the text that would be written.
+/// Runs `cose-gate` over memory: the gate over `input` with the judge by HMAC and the key set of
+/// the bytes `keys`, with `aad` as external data, within these limits: items and the items in
+/// protected headers nest no deeper than `nesting` levels, 2 to 4,096, and no more than `layers`
+/// protected headers lie inside one another, 1 to 64; the program's are 256 and 16. Where it is
+/// strict a message passes only if its item is already what would be written.
 ///
-/// The messages that passed stand at the front of `out`, each as its one shortest text; the lines of the program's standard error stand in
-/// `lines`, as far as they fit. Memory that is taken is given back before it returns. Where it is refused to the output, nothing is
-/// written, the status is 4, and `stopped: memory` stands in place of the whole last line.
+/// The messages that passed stand at the front of `out`, each as its canonical encoding; the lines
+/// of the program's standard error stand in `lines`, as far as they fit. Memory that is taken is
+/// given back before it returns. If it is refused to the output, nothing is written, the status is
+/// 4, and `stopped: memory` stands in place of the whole last line.
 ///
-/// Where what would be written is longer than `out`, and only then, the status is 5: `out` stays as it was, and `length` is the room that
-/// is needed.
+/// If what would be written is longer than `out`, and only then, the status is 5: `out` stays as it
+/// was, and `length` is the space that is needed.
 #[unsafe(no_mangle)]
 pub extern "C" fn cose_gate_check(
     alloc: Global,

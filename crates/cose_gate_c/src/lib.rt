@@ -1,4 +1,5 @@
-//! The gate for C, and for languages that call C: over memory that the caller owns. `include/cose_gate.h` declares it.
+//! The gate for C, and for languages that call C: over memory that the caller owns.
+//! `include/cose_gate.h` declares it.
 #![tactic(auto)]
 
 mod answer;

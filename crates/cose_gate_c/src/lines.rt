@@ -4,11 +4,11 @@ ghost use Rattle.cose_gate_c.specs.Lines.{put, ended_by, place_of, place_after, 
 
 use ciborium_ll::{Full, Write};
 
-/// The last line where memory was refused.
+/// The last line if out of memory.
 pub(crate) const STOPPED: &[u8] = b"stopped: memory\n";
 
-/// A writer that keeps what fits from the front, and counts all of it. It never fails. Each line feed ends what is written at once, as it
-/// does in the program's lines.
+/// A writer that keeps what fits from the front, and counts all of it. It never fails. Each line
+/// feed ends what is written at once, as it does in the program's lines.
 #[derive(Drop)]
 pub(crate) struct Lines<'a> {
     pub(crate) room: &'a mut [u8],
@@ -20,7 +20,7 @@ pub(crate) struct Lines<'a> {
     pub(crate) is_ended: bool,
 }
 
-/// Copies the text into the room from this place on, as far as it fits.
+/// Copies the text into the space from this place on, as far as it fits.
 fn put(room: &mut [u8], place: usize, text: &[u8])
     ensures { room.new ≡ put room.old place text.now }
 {
@@ -29,7 +29,7 @@ fn put(room: &mut [u8], place: usize, text: &[u8])
     room[from..from + count].copy_from_slice(&text[..count]);
 }
 
-/// Whether a line has ended behind this text, if it had or not before.
+/// Whether a line has ended after this text, if it had or not before.
 fn is_ended_by(text: &[u8], before: bool) -> bool
     ensures { result ≡ ended_by text.now before }
 {
@@ -52,7 +52,7 @@ impl<'a> Lines<'a> {
         }
     }
 
-    /// Writes a text behind what is there. Behind a line that has ended it begins the next one.
+    /// Writes a text after what is there. After a line that has ended it begins the next one.
     pub(crate) fn say(&mut self, text: &[u8])
         ensures room { self.new.room.now ≡ put self.old.room.now self.old.length text.now }
         ensures place { place_of self.new ≡ place_after (place_of self.old) text.now }
@@ -68,7 +68,8 @@ impl<'a> Lines<'a> {
         self.is_ended = is_ended_by(text, self.is_ended);
     }
 
-    /// Says that memory was refused, in place of the whole last line: what the run ended with counts no more.
+    /// Says that there was no memory, in place of the whole last line: what the run ended with
+    /// counts no more.
     pub(crate) fn stopped_for_memory(&mut self)
         ensures room { self.new.room.now ≡ put self.old.room.now self.old.last stopped }
         ensures place { place_of self.new ≡ stopped_at (place_of self.old) }

@@ -69,18 +69,19 @@ fn pass_within(
     }
 }
 
-/// Writes a line that stands alone, and gives its length.
+/// Writes a line that is alone, and gives its length.
 fn lone_line(lines: &mut [u8], line: &[u8]) -> usize {
     let mut told = Lines::new(lines);
     told.say(line);
     told.length()
 }
 
-/// Passes the messages all of whose questions are among the records `accepted`: some of those that `cose_gate_ask` told of this input, or
-/// of another, copied as they are, one behind another, in any order. The external data and the limits are those of that call. A record
-/// counts for each question that it is the record of. `out`, `lines` and the answer are as of `cose_gate_check`.
+/// Passes the messages all of whose questions are among the records `accepted`: some of those that
+/// `cose_gate_ask` told of this input, or of another, copied as they are, one after another, in any
+/// order. The external data and the limits are those of that call. A record counts for each
+/// question that it is the record of. `out`, `lines` and the answer are as of `cose_gate_check`.
 ///
-/// Where `accepted` is no such records, the status is 3, and nothing is read.
+/// If `accepted` is no such records, the status is 3, and nothing is read.
 #[unsafe(no_mangle)]
 pub extern "C" fn cose_gate_pass(
     alloc: Global,

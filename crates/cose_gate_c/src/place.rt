@@ -1,12 +1,12 @@
-//! A text in the caller's buffer, where it fits.
+//! A text in the caller's buffer, if it fits.
 ghost use Rattle.std.specs.Prelude.{◌≡◌, ◌≤◌, ◌<◌, ◌++◌, MatchBool, length, drop};
 
 use crate::answer::Answer;
 
-/// The status where the output has no room.
+/// The status if the output has no space.
 const NO_ROOM: u32 = 5;
 
-/// Copies the text to the front, where it fits, and says whether it did.
+/// Copies the text to the front, if it fits, and says whether it did.
 fn fill(out: &mut [u8], text: &[u8]) -> bool
     ensures { MatchBool result
         ((length text.now ≤ length «out».old)
@@ -21,7 +21,7 @@ fn fill(out: &mut [u8], text: &[u8]) -> bool
     true
 }
 
-/// Hands out what a run wrote, with its status; or that there is no room.
+/// Hands out what a run wrote, with its status; or that there is no space.
 pub(crate) fn place(out: &mut [u8], text: &[u8], status: u8, lines: usize) -> Answer
     ensures length { result.length ≡ length text.now }
     ensures fits { length text.now ≤ length «out».old

@@ -1,5 +1,6 @@
-//! `cose-gate [--strict] KEYS [AADHEX]`: reads a CBOR sequence from standard input, and writes the messages whose tags are good under the keys of the
-//! file KEYS to standard output. AADHEX is the external data in hex. With `--strict` only messages in canonical encoding pass.
+//! `cose-gate [--strict] KEYS [AADHEX]`: reads a CBOR sequence from standard input, and writes the
+//! messages whose tags are good under the keys of the file KEYS to standard output. AADHEX is the
+//! external data in hex. With `--strict` only messages in canonical encoding pass.
 #![tactic(auto)]
 
 use ciborium_ll::Io;
@@ -28,7 +29,7 @@ Status 0: no item was refused. 1: some were. 2: wrong words, or AADHEX is no hex
 enum NotRun {
     /// The words are not KEYS, or KEYS and AADHEX.
     Usage,
-    /// Memory was refused.
+    /// Out of memory.
     Memory,
 }
 
@@ -92,7 +93,8 @@ fn start(rt: &HostRuntime) -> Result<u8, NotRun> {
     ))
 }
 
-/// Whether the first word asks for a strict run, and the words after it. A file of such a name is `./--strict`.
+/// Whether the first word asks for a strict run, and the words after it. A file of such a name is
+/// `./--strict`.
 fn strictness(all: &[String]) -> (bool, &[String]) {
     match all.split_first() {
         Some((first, rest)) if first.as_str() == "--strict" => (true, rest),
@@ -116,7 +118,7 @@ fn say_help(rt: &HostRuntime) -> u8 {
     }
 }
 
-/// The words behind the program's name. One that isn't UTF-8 is a fault of the usage.
+/// The words after the program's name. One that isn't UTF-8 is a fault of the usage.
 fn all_words(rt: &HostRuntime) -> Result<Vec<String>, NotRun> {
     match env::args(rt) {
         Ok(all) => match all.skip(1).collect::<Vec<String>>(rt.alloc()) {
@@ -130,7 +132,7 @@ fn all_words(rt: &HostRuntime) -> Result<Vec<String>, NotRun> {
     }
 }
 
-/// The bytes of a file; `None` where it can't be read.
+/// The bytes of a file; `None` if it can't be read.
 fn read_file(rt: &HostRuntime, path: &str) -> Result<Option<Vec<u8>>, NotRun> {
     match fs::read(rt, path) {
         Ok(bytes) => Ok(Some(bytes)),

@@ -1,4 +1,5 @@
--- What is asked about a signature or tag of a message that was received: over the structure with the received bytes, piece by piece.
+-- What is asked about a signature or tag of a message that was received: over the structure with
+-- the received bytes, piece by piece.
 use Rattle.std.proofs.Common.{◌≡◌, ℕ, List, [], ◌∷◌, ◌++◌, codes, Option, Some, None, Bool, true, false, cond, refl, sym, ap, ◌∙◌, append-nil}
 use Rattle.std.specs.Prelude.{option_map, option_and_then, Result, Ok, Err, IfOk, OnOk}
 use Rattle.coset_headers.specs.Fields.{HeaderFields, ProtectedFields, SignatureFields, signature}

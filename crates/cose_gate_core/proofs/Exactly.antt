@@ -1,4 +1,5 @@
--- A message's item is the text that is written for it exactly where it is spelled as its value is, and its value is the one that is written.
+-- A message's item is what is written for it exactly when it is spelled as its value is, and its
+-- value is the one that is written.
 use Rattle.std.proofs.Common.{◌≡◌, ◌^◌, ◌<◌, ◌⊎◌, inl, inr, ℕ, List, Bool, true, false, cond, Option, Some, None, option_map, refl, sym, ap, subst, ◌∙◌, nat_eq, arith}
 use Rattle.std.specs.Prelude.{MatchBool, MatchOption}
 use Rattle.std.specs.Ordering.{nat_cmp}
@@ -48,7 +49,8 @@ tree_there (Some v) n = (v, refl)
 same_body : (n : ℕ) (u v : Tree) → tag n u ≡ tag n v → u ≡ v
 same_body n u v e = cc
 
--- an item that is the text of its message is spelled as its value is, and has the value that is written
+-- an item that is the text of its message is spelled as its value is, and has the value that is
+-- written
 module _ (l : Bounds) (n : ℕ) (b : List ℕ) (u : Tree) (m : MessageFields) (has : HasMessage l u m) (reads : Reads b n (tag (tag_of m) u)) (fits : Fits u) where
   exact_text : b ≡ message_text m → (b ≡ enc (tag (tag_of m) u)) × (message_tree m ≡ Some u)
   exact_text e =

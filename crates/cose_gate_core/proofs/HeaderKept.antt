@@ -15,7 +15,7 @@ use Rattle.coset_headers.proofs.Entered.{is_at_is, at_none, bool_cases, no_core}
 use Rattle.coset_headers.proofs.Fielded.{field, entries_are, alg_is, crit_is, type_is, bytes_are, signs_are}
 use Rattle.coset_headers.proofs.Sound.{none_more}
 
--- u, which is written for t, fits heads where t does, and is no longer
+-- u, which is written for t, fits heads if t does, and is no longer
 pub record Kept (t u : Tree) : Type 0 where
   pub fits : Fits t → Fits u
   pub size : length (enc u) ≤ length (enc t)
@@ -56,7 +56,8 @@ some_same x y e = cc
 no_some : {A : Type 0} (x : A) → None ≡ Some x → ⊥
 no_some x e = cc
 
--- the entries that are written: those of the labels 1 to 6 as they were read, the signatures, and the others
+-- the entries that are written: those of the labels 1 to 6 as they were read, the signatures, and
+-- the others
 abbrev in_order : List (LabelFields × Tree) → Option Tree → List (LabelFields × Tree)
 in_order es o = field 1 (at 1 es) ++ (field 2 (at 2 es) ++ (field 3 (at 3 es) ++ (field 4 (at 4 es) ++ (field 5 (at 5 es) ++ (field 6 (at 6 es) ++ (field 7 o ++ others es))))))
 
@@ -124,7 +125,7 @@ module _ (size_of : LabelFields × Tree → ℕ) where
       let g1 = sum_append (field 1 (at 1 es)) (field 2 (at 2 es) ++ t3) in
       omega (arith, g1, g2, g3, g4, g5, g6, g7)
 
-  -- the part of a label that stands in front
+  -- the part of a label that is in front
   none_part : (n : ℕ) (es : List (LabelFields × Tree)) → is_at n (number (pos n)) ≡ true → (IsIn (number (pos n)) es → ⊥) → part n (at n es) ≡ 0
   none_part n es e f = ap (part n) (at_none n es (number (pos n)) e f)
 

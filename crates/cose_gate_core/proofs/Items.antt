@@ -1,4 +1,4 @@
--- One item: what is found of it, and what stands after it.
+-- One item: what is found of it, and what is after it.
 use Rattle.std.proofs.Common.{◌≡◌, ◌≢◌, ℕ, inl, inr, List, [], Option, None, Some, Bool, cond, refl, sym, ap, subst, ◌∙◌, take, drop, append-nil}
 use Rattle.std.specs.Prelude.{is_none}
 use Rattle.std.specs.Io.KnownBytes.{Appends}
@@ -19,7 +19,7 @@ use Rattle.cose_gate_core.specs.declared.report.Refusal.{Refusal}
 use Rattle.cose_gate_core.specs.declared.report.Refusal.TheVariants as refusal
 use Rattle.cose_gate_core.specs.declared.report.Verdict.TheVariants.{Passed, Refused}
 
--- a fault other than want of memory
+-- a fault other than being out of memory
 pub not_memory : (Wrong : CoseFault → Type 0) (e : CoseError) → OrMemory Wrong e → e ≢ code.Memory → Wrong (fault_of e)
 not_memory Wrong e (inl memory) other = absurd (other memory)
 not_memory Wrong e (inr wrong) other = wrong

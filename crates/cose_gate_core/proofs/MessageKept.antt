@@ -1,4 +1,5 @@
--- What is written of a message that was read has its fields again, nests no deeper, fits heads, and is no longer than the value.
+-- What is written of a message that was read has its fields again, nests no deeper, fits heads, and
+-- is no longer than the value.
 use Rattle.std.proofs.Common.{◌≡◌, ℕ, ◌-◌, ◌≤◌, suc, inl, inr, List, [], ◌∷◌, ◌++◌, Bool, true, false, cond, Option, Some, None, option_map, option_and_then, refl, sym, ap, subst, ◌∙◌, arith, length-append}
 use Rattle.std.specs.Prelude.{nat_eq, ◌||◌, ◌&&◌}
 use Rattle.ciborium_ll.specs.Title.{shortest}

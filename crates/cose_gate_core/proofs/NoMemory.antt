@@ -1,4 +1,4 @@
--- No value has a fault that is want of memory.
+-- No value has a fault that is being out of memory.
 use Rattle.std.proofs.Common.{◌≡◌, ℕ, ◌-◌, ℤ, inl, inr, List, [], ◌∷◌, Bool, sym, subst}
 use Rattle.ciborium_value.specs.Tree.{Tree, integer, bytes, text, array, map as map_tree, tag, simple, float}
 use Rattle.coset_labels.specs.Faults.{CoseFault, no_memory}
@@ -18,7 +18,7 @@ use Rattle.cose_gate_core.specs.Findings.{Bounds, WrongMessage, IsMisshapen}
 use Rattle.cose_gate_core.specs.declared.about.MessageKind.{MessageKind}
 use Rattle.cose_gate_core.specs.declared.about.MessageKind.TheVariants as kind
 
--- any fault but want of memory
+-- any fault but being out of memory
 abbrev Named : CoseFault → Type 0
 Named no_memory = ⊥
 Named _ = Unit {0}
@@ -168,7 +168,8 @@ message_fault l kind.Mac0 u e w = whole_fault l.nesting u _ l.layers e w (no_byt
 message_fault l kind.Mac u e w = whole_fault l.nesting u _ l.layers e w (no_bytes_named, (λ t f x. recipient_list l.nesting t l.layers f x, tt))
 message_fault l kind.Sign u e w = whole_fault l.nesting u _ l.layers e w (λ t f x. signature_list l.nesting t l.layers f x, tt)
 
--- a value that can't be read as a header, a protected header or a message has another fault than want of memory
+-- a value that can't be read as a header, a protected header or a message has another fault than
+-- being out of memory
 pub header_is_named : (n : ℕ) (t : Tree) (k : ℕ) (e : CoseFault) → WrongHeader n t k e → e ≡ no_memory → ⊥
 header_is_named n t k e w m = subst Named m (header n t k e w)
 

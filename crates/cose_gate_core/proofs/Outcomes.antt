@@ -41,7 +41,7 @@ front_then xs ys all e = record { more = ys; whole = e }
 pub front_within : {A : Type 0} (xs part ys all : List A) → all ≡ xs ++ ys → IsFront part ys → IsFront (xs ++ part) all
 front_within xs part ys all e f = record { more = f.more; whole = e ∙ ap (λ z. xs ++ z) f.whole ∙ sym (append_assoc xs part f.more) }
 
--- the bytes that are to come, and none where they are not known
+-- the bytes that are to come, and none if they are not known
 abbrev rest_of : Option (List ℕ) → List ℕ
 rest_of None = []
 rest_of (Some b) = b
@@ -50,7 +50,7 @@ rest_known : (l : Option (List ℕ)) → IfKnown l (λ b. b ≡ rest_of l)
 rest_known None = tt
 rest_known (Some b) = refl
 
--- nothing is left behind what was consumed
+-- nothing is left after what was consumed
 nothing_behind : (l l' m : Option (List ℕ)) (b : List ℕ) → Consumes l l' b → IfKnown l' (λ a. (a ≡ []) × (m ≡ Some [])) → IfKnown l (λ a. m ≡ Some [])
 nothing_behind None l' m b c k = tt
 nothing_behind (Some a) None m b c k = absurd c
@@ -66,7 +66,7 @@ consumed None l' b more c m = tt
 consumed (Some a) None b more c m = absurd c
 consumed (Some a) (Some r) b more c m = c ∙ ap (λ z. b ++ z) m
 
--- of the bytes `more` that were to come some were taken, and where P the rest is left
+-- of the bytes `more` that were to come some were taken, and if P the rest is left
 record Partly (l l' : Option (List ℕ)) (p p' : ℕ) (P : Type 0) : Type 0 where
   pub more : List ℕ
   pub is : IfKnown l (λ b. b ≡ more)
@@ -121,13 +121,13 @@ fault_from ends k (Some a) (Some r) b more p p' e c m g f =
     let s : p' + length r ≡ p + length a = omega arith in
     subst (λ (z : List ℕ). IsFaultOf ends k (p + length a) z e) m (subst (λ (n : ℕ). IsFaultOf ends k n r e) s f)
 
--- something is left behind what was consumed
+-- something is left after what was consumed
 something_left : (l l' : Option (List ℕ)) (b more : List ℕ) → Consumes l l' b → IfKnown l' (λ r. r ≡ more) → (l' ≡ Some [] → ⊥) → IfKnown l (λ a. more ≢ [])
 something_left None l' b more c m some = tt
 something_left (Some a) None b more c m some = absurd c
 something_left (Some a) (Some r) b more c m some = λ e. some (ap Some (m ∙ e))
 
--- at an end the place lies behind all that was consumed, seen from where the bytes began
+-- at an end the place lies after all that was consumed, seen from where the bytes began
 end_behind : {E : Type 0} (ends : E → Bool) (P Q : Type 0) (l l' : Option (List ℕ)) (b : List ℕ) (e : Error E) → Consumes l l' b → (P → Q)
     → IfKnown l' (λ r. IfEnd ends P e) → IfKnown l (λ a. IfEnd ends Q e)
 end_behind ends P Q None l' b e c f k = tt
@@ -236,7 +236,7 @@ module _ {T S : Type 0} (rules : Rules T S) where
         };
       }
 
-  -- where the gate stands in what was to come behind the steps
+  -- where the gate is in what was to come after the steps
   stands_in : (old new newer : Sight T S) (P : Type 0) (input b : List ℕ) → Consumes old.left new.left b → (k : Partly new.left newer.left new.offset newer.offset P)
       → new.offset + length k.more ≡ old.offset + length input → StandsIn old newer input k.more P
   stands_in old new newer P input b c k s = record {
@@ -247,7 +247,7 @@ module _ {T S : Type 0} (rules : Rules T S) where
     behind = λ is. known_before (newer.left ≡ Some k.rest) old.left new.left b c (k.behind is);
   }
 
-  -- Memory, where all steps so far are made
+  -- Memory, if all steps so far are made
   memory_between : {E : Type 0} (ends : E → Bool) (old new newer : Sight T S) (passed refused : ℕ) → Reached rules old new passed refused
       → newer.told ≡ new.told → newer.state ≡ new.state → newer.written ≡ new.written → (new.left ≡ Some [] → ⊥)
       → (Q : List ℕ → Type 0) → Moves new.left newer.left new.offset newer.offset Q → Answers ends rules old newer (Err Memory)
@@ -303,7 +303,7 @@ module _ {T S : Type 0} (rules : Rules T S) where
   answer_read ends old new newer passed refused r told state writes Write d some = absurd d
   answer_read ends old new newer passed refused r told state writes Memory d some = memory_between ends old new newer passed refused r told state writes (λ none. some none refl) (λ _. Unit {0}) d
 
-  -- Memory, where the judge was told a beginning of the questions about one more message
+  -- Memory, if the judge was told a beginning of the questions about one more message
   memory_asking : {E : Type 0} (ends : E → Bool) (old new newer : Sight T S) (passed refused : ℕ) → Reached rules old new passed refused
       → (v : Tree) (t : Moves new.left newer.left new.offset newer.offset (λ (b : List ℕ). Reads b rules.limits.nesting v)) → Half rules.limits rules.decided rules.allows rules.aad t.bytes v new.told newer.told
       → newer.state ≡ new.state → newer.written ≡ new.written → Answers ends rules old newer (Err Memory)
@@ -373,7 +373,7 @@ module _ {T S : Type 0} (rules : Rules T S) where
       (λ (b : List ℕ). Reads b rules.limits.nesting v) t
   answer_item ends old new newer passed refused r v t fault.Memory (writes, inr half) state = memory_asking ends old new newer passed refused r v t half state writes
 
-  -- Memory, where the item went through and the report refused its entry
+  -- Memory, if the item went through and the report refused its entry
   pub answer_noting : {E : Type 0} (ends : E → Bool) (old new newer : Sight T S) (passed refused : ℕ) → Reached rules old new passed refused
       → (v : Tree) (t : Moves new.left newer.left new.offset newer.offset (λ (b : List ℕ). Reads b rules.limits.nesting v)) → (verdict : Verdict)
       → WentThrough rules.limits rules.decided rules.allows rules.aad t.bytes v new.told newer.told new.written newer.written verdict → newer.state ≡ new.state → Answers ends rules old newer (Err Memory)
@@ -406,7 +406,8 @@ module _ {T S : Type 0} (rules : Rules T S) where
         };
       }
 
--- where nothing is left, the fault is an end at once, a failure of the device, or an offset that grows too large
+-- where nothing is left, the fault is an end at once, a failure of the device, or an offset that
+-- grows too large
 pub nothing_fails : {E : Type 0} (ends : E → Bool) (k p p' : ℕ) (f : Error E) → FailsAt ends [] p p' (λ stop b f. Damage stop b k f) f → IsNoMemory f
     → p + 4096 < 2 ^ 64 → ((at_end ends f ≡ true) × (p' ≡ p)) ⊎ ((x : E) × (f ≡ de.Io x) × (ends x ≡ false))
 nothing_fails {E = E} ends k p p' (de.Io x) d m small = either (ends x) refl

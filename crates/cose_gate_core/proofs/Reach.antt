@@ -46,7 +46,7 @@ both_counts p (x ∷ xs) =
 flat_then : {X A : Type 0} (f : X → List A) (xs : List X) (x : X) → flat_map f (xs ++ x ∷ []) ≡ flat_map f xs ++ f x
 flat_then f xs x = flat_map-append f xs (x ∷ []) ∙ ap (λ z. flat_map f xs ++ z) (append-nil (f x))
 
--- one item more behind a sequence
+-- one item more after a sequence
 unfoldable pub item_at : ℕ → List ℕ → Tree → Item
 item_at o b v = record { offset = o; bytes = b; value = v }
 
@@ -73,7 +73,7 @@ pub item_grows : (k : ℕ) (l l' : Option (List ℕ)) (p p' : ℕ) (v : Tree) �
 item_grows k l l' p p' v t = let s = reads_some k t.bytes v t.has in let g = t.grown in omega arith
 
 module _ (limits : Bounds) (allows : Question → Bool) (aad : List ℕ) where
-  -- a verdict has passed exactly where what is found passes
+  -- a verdict has passed exactly when what is found passes
   pub verdict_passes : (t : Tree) (f : Finding) (v : Verdict) → IsVerdict limits allows aad t f v → has_passed v ≡ passes allows aad f
   verdict_passes t (judged m) v e = ap has_passed e ∙ each (first_no allows (questions m aad))
     where

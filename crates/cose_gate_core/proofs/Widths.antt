@@ -26,7 +26,7 @@ width_is major n =
     let h = cond_length (nat_lt n 24) u (cond (nat_lt n (2 ^ 8)) v (cond (nat_lt n (2 ^ 16)) x (cond (nat_lt n (2 ^ 32)) y z))) in
     h ∙ ap (λ m. cond (nat_lt n 24) 1 m) (g ∙ ap (λ m. cond (nat_lt n (2 ^ 8)) 2 m) (f ∙ ap (λ m. cond (nat_lt n (2 ^ 16)) 3 m) e))
 
--- no longer than k, where k leaves room for the number
+-- no longer than k, if k leaves space for the number
 pub at_most : (n k : ℕ) → 1 ≤ k → (24 ≤ n → 2 ≤ k) → (2 ^ 8 ≤ n → 3 ≤ k) → (2 ^ 16 ≤ n → 5 ≤ k) → (2 ^ 32 ≤ n → 9 ≤ k) → width n ≤ k
 at_most n k a b c d e =
     let P : ℕ → Type 0 = λ l. l ≤ k in

@@ -1,4 +1,5 @@
--- A message that was read can be written, and its protected headers have the bytes that were received.
+-- A message that was read can be written, and its protected headers have the bytes that were
+-- received.
 use Rattle.std.proofs.Common.{◌≡◌, ◌≢◌, ℕ, List, [], ◌∷◌, Option, Some, None, option_map, refl}
 use Rattle.ciborium_value.specs.Encoding.{enc}
 use Rattle.ciborium_value.specs.Tree.{Tree, tag, Trees}

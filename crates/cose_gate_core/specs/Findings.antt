@@ -44,7 +44,7 @@ pub record Bounds : Type 0 where
   pub excludes : List ℕ → MessageFields → Option Refusal
 
 -- the further rule of a gate, which may be strict: a message is refused whose item isn't already
--- the text that would be written
+-- what would be written
 abbrev pub excluded_by : Bool → List ℕ → MessageFields → Option Refusal
 excluded_by false b m = None
 excluded_by true b m =
@@ -54,7 +54,7 @@ excluded_by true b m =
 abbrev pub plain : ℕ → ℕ → Bounds
 plain nesting layers = record { nesting = nesting; layers = layers; excludes = λ bytes m. None }
 
--- so many levels and layers, where a message's item has to be the text that would be written
+-- so many levels and layers, if a message's item has to be what would be written
 abbrev pub only_exact : ℕ → ℕ → Bounds
 only_exact nesting layers = record {
   nesting = nesting;
@@ -62,7 +62,7 @@ only_exact nesting layers = record {
   excludes = λ bytes m. excluded_by true bytes m;
 }
 
--- the limits where none are chosen, for the gate and for the strict gate
+-- the limits if none are chosen, for the gate and for the strict gate
 abbrev pub usual : Bounds
 usual = plain usual_nesting usual_layers
 

@@ -44,8 +44,8 @@ pub record Made {T S : Type 0} (rules : Rules T S) (old new : Sight T S)
   pub state : new.state ≡ folded_over rules.folded old.state (entries_of ss)
   pub written : Appends old.written new.written (output_of rules.allows rules.aad ss)
 
--- the fault of the bytes `more`, where no item of at most n levels begins; `stop` is the place
--- behind them. A failure of the device says nothing of the bytes, and want of memory is no such
+-- the fault of the bytes `more`, if no item of at most n levels begins; `stop` is the place after
+-- them. A failure of the device says nothing of the bytes, and being out of memory is no such
 -- fault.
 abbrev pub IsFaultOf : {E : Type 0} → (E → Bool) → ℕ → ℕ → List ℕ → Error E → Type 0
 IsFaultOf ends n stop more (de.Io e) = IsTrue (ends e) → Damage stop more n end × (more ≢ [])
@@ -64,8 +64,8 @@ IsNext terms left left' at at' (Some r) =
     Moves left left' at at' (λ b. IsTaken terms b (view r.0) r.1)
 
 -- what reading the next item ends with, at the offset at' then: a fault of the bytes that were to
--- come, where they are known, or want of memory. Some of these bytes were taken, or none, but at an
--- end some were.
+-- come, where they are known, or being out of memory. Some of these bytes were taken, or none, but
+-- at an end some were.
 abbrev pub IsReadFault : {E : Type 0} → (E → Bool) → ℕ → Option (List ℕ) → Option (List ℕ) → ℕ → ℕ
     → GateFault E → Type 0
 IsReadFault ends n left left' at at' (Decode e) =
@@ -76,9 +76,9 @@ IsReadFault ends n left left' at at' (Decode e) =
 IsReadFault ends n left left' at at' Write = ⊥
 IsReadFault ends n left left' at at' Memory = Moves left left' at at' (λ _. Unit {0})
 
--- the gate stands in `more`, the last bytes of the input: some of them were taken, none or all as
--- it may be, and the offset is as far before the end of the input as the rest of them is long.
--- Where P, this rest is what the reader tells to come, if it told what was to come at the call.
+-- the gate is in `more`, the last bytes of the input: some of them were taken, none or all as it
+-- may be, and the offset is as far before the end of the input as the rest of them is long. If P,
+-- this rest is what the reader tells to come, if it told what was to come at the call.
 pub record StandsIn {T S : Type 0} (old new : Sight T S) (input more : List ℕ)
     (P : Type 0) : Type 0 where
   pub taken : List ℕ
@@ -92,7 +92,7 @@ abbrev pub IsNoReaderFault : {E : Type 0} → Error E → Type 0
 IsNoReaderFault {E} e = (x : E) → e ≢ de.Io x
 
 -- Ok: the steps go through the whole input, all of them were made, the offset has grown by all
--- bytes, and the reader tells that nothing is left, where it tells what is to come
+-- bytes, and the reader tells that nothing is left, if it tells what is to come
 pub record Whole {T S : Type 0} (rules : Rules T S) (old new : Sight T S) (input : List ℕ)
     (counts : Counts) : Type 0 where
   pub steps : List Step
@@ -105,7 +105,7 @@ pub record Whole {T S : Type 0} (rules : Rules T S) (old new : Sight T S) (input
 
 -- Decode: the steps go up to where the fault stands, and all of them were made. Of the bytes
 -- `more`, which begin there, some were taken, or none, but at an end some; the rest is left, but
--- behind a fault of the reader what is left is open.
+-- after a fault of the reader what is left is open.
 pub record IfDecodeFailed {T S E : Type 0} (ends : E → Bool) (rules : Rules T S)
     (old new : Sight T S) (input : List ℕ) (e : Error E) : Type 0 where
   pub steps : List Step
@@ -120,7 +120,8 @@ pub record IfDecodeFailed {T S E : Type 0} (ends : E → Bool) (rules : Rules T 
   pub stands : StandsIn old new input more (IsNoReaderFault e)
 
 -- Write: `done` were made; the message of the next step passes, all was asked about it, and a
--- beginning of its text was written. The offset is the one behind its item, and `more` is to come.
+-- beginning of its encoding was written. The offset is the one after its item, and `more` is to
+-- come.
 pub record IfWriteFailed {T S : Type 0} (rules : Rules T S) (old new : Sight T S)
     (input : List ℕ) : Type 0 where
   pub done : List Step
@@ -138,9 +139,9 @@ pub record IfWriteFailed {T S : Type 0} (rules : Rules T S) (old new : Sight T S
   pub behind : IfKnown new.left (λ b. b ≡ more)
 
 -- Memory: `done` were made; of the questions of the next step a beginning was asked, and its text
--- was written whole or not at all. The offset is the one behind its item then, and `more` is to
--- come. Where there is no such step, an item was due: it was being read, or looked at, and some of
--- the bytes `more` were taken, the rest is left.
+-- was written whole or not at all. The offset is the one after its item then, and `more` is to
+-- come. If there is no such step, an item was due: it was being read, or looked at, and some of the
+-- bytes `more` were taken, the rest is left.
 pub record IfMemoryRefused {T S : Type 0} (rules : Rules T S) (old new : Sight T S)
     (input : List ℕ) : Type 0 where
   pub done : List Step
@@ -169,8 +170,7 @@ Outcome ends rules old new input (Err (Decode e)) = IfDecodeFailed ends rules ol
 Outcome ends rules old new input (Err Write) = IfWriteFailed rules old new input
 Outcome ends rules old new input (Err Memory) = IfMemoryRefused rules old new input
 
--- some bytes were there, those to come where these are known, and the answer has its outcome over
--- them
+-- some bytes were there, those to come if these are known, and the answer has its outcome over them
 pub record Answers {T S E : Type 0} (ends : E → Bool) (rules : Rules T S) (old new : Sight T S)
     (r : Result Counts (GateFault E)) : Type 0 where
   pub input : List ℕ

@@ -56,7 +56,7 @@ pub record Half {T : Type 0} (limits : Bounds) (decided : T → Question → T)
   pub tells : told' ≡ folded_over decided told asked
 
 -- the item is a message that passes, the judge was told all questions about it, and a beginning of
--- its text was written
+-- its encoding was written
 pub record HalfWritten {T : Type 0} (limits : Bounds) (decided : T → Question → T)
     (allows : Question → Bool) (aad : List ℕ) (bytes : List ℕ) (t : Tree)
     (told told' : T) (written written' : Option (List ℕ)) : Type 0 where
@@ -75,7 +75,7 @@ ItemFails limits decided allows aad bytes t told told' written written' fault.Wr
 ItemFails limits decided allows aad bytes t told told' written written' fault.Memory =
     (written' ≡ written) × ((told' ≡ told) ⊎ Half limits decided allows aad bytes t told told')
 
--- what a fault of writing a text leaves: a beginning of it, and for want of memory nothing
+-- what a fault of writing a text leaves: a beginning of it, and for being out of memory nothing
 abbrev pub IsWriteFault : Option (List ℕ) → Option (List ℕ) → List ℕ → ItemFault → Type 0
 IsWriteFault written written' text fault.Write = AppendsFront written written' text
 IsWriteFault written written' text fault.Memory = written' ≡ written

@@ -117,8 +117,7 @@ sign_question m s covered = record {
 abbrev pub mac_question : MacFields → List ℕ → Question
 mac_question m covered = record { subject = mac_subject m; covered = covered; signature = m.tag }
 
--- the questions about the signatures of a COSE_Sign, in order; none where a structure can't be
--- written
+-- the questions about the signatures of a COSE_Sign, in order; none if a structure can't be written
 abbrev pub sign_questions : SignFields → List ℕ → List SignatureFields → Option (List Question)
 sign_questions m aad [] = Some []
 sign_questions m aad (s ∷ ss) =
@@ -128,7 +127,7 @@ sign_questions m aad (s ∷ ss) =
 
 -- the questions about a message, in order, each over the structure with the protected bytes as
 -- received: one about the signature of a COSE_Sign1, the tag of a COSE_Mac0 or COSE_Mac, and each
--- signature of a COSE_Sign; none where a structure can't be written
+-- signature of a COSE_Sign; none if a structure can't be written
 abbrev pub all_questions : MessageFields → List ℕ → Option (List Question)
 all_questions (sign1 m) aad =
     option_map (λ covered. sign1_question m covered ∷ []) (sign1_covered m aad)
@@ -137,8 +136,7 @@ all_questions (mac0 m) aad =
 all_questions (sign m) aad = sign_questions m aad m.signatures
 all_questions (mac m) aad = option_map (λ covered. mac_question m covered ∷ []) (mac_covered m aad)
 
--- the value that a message is written as, and with its tag; none where a header of it can't be
--- written
+-- the value that a message is written as, and with its tag; none if a header of it can't be written
 abbrev pub message_tree : MessageFields → Option Tree
 message_tree (sign1 m) = sign1_tree m
 message_tree (mac0 m) = mac0_tree m
@@ -156,8 +154,8 @@ or_nothing (Some xs) = xs
 abbrev pub one_question : SignFields → List ℕ → SignatureFields → Question
 one_question m aad s = sign_question m s (or_nothing (sign_covered m s aad))
 
--- the questions about a message that was read, and its one shortest text: such a message can always
--- be written, by the law `judged_can_be_written`
+-- the questions about a message that was read, and its canonical encoding: such a message can
+-- always be written, by the law `judged_can_be_written`
 abbrev pub questions : MessageFields → List ℕ → List Question
 questions m aad = or_nothing (all_questions m aad)
 

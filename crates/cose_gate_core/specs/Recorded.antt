@@ -53,7 +53,7 @@ refused_of r = bytes_of r.no
 abbrev pub pieces_of : Recorder → List ℕ
 pieces_of r = r.pieces.items
 
--- it holds a begun question, with these covered bytes, and has room for it
+-- it holds a begun question, with these covered bytes, and has space for it
 abbrev pub holds_question : Recorder → Subject → List ℕ → Type 0
 holds_question r subject bytes =
     (r.kind ≡ subject.kind) × (r.structure.items ≡ bytes) × (vec_len r.asked < vec_capacity r.asked)

@@ -19,7 +19,7 @@ pub record Step : Type 0 where
   pub finding : Finding
   pub entry : Entry
 
--- the answers to a message's questions: passed where there is no no, else judged by the first
+-- the answers to a message's questions: passed if there is no no, else judged by the first
 abbrev pub judged_by : Option ℕ → Verdict
 judged_by None = Passed
 judged_by (Some n) = Refused (refusal.Judged n)
@@ -68,7 +68,7 @@ text_of (judged m) = message_text m
 text_of (barred r) = []
 text_of (excluded m r) = []
 
--- what is written of it: where it passes its one shortest definite text
+-- what is written of it: where it passes its canonical encoding
 abbrev pub written_of : (Question → Bool) → List ℕ → Finding → List ℕ
 written_of allows aad f = if passes allows aad f then text_of f else []
 

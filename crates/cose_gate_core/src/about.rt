@@ -45,7 +45,7 @@ pub struct About<'a> {
     pub protected: &'a ProtectedHeader,
     /// The message's unprotected header.
     pub unprotected: &'a Header,
-    /// The headers of the signer, where the message has signers of its own.
+    /// The headers of the signer, if the message has signers of its own.
     pub signer: Option<(&'a ProtectedHeader, &'a Header)>,
     /// The recipients of the message.
     pub recipients: &'a [CoseRecipient],
@@ -72,7 +72,8 @@ impl<'a> About<'a> {
             recipients: &[],
         }
     }
-    /// About one signature of a message with signers of its own, by the signer's headers. Such a message has no recipients.
+    /// About one signature of a message with signers of its own, by the signer's headers. Such a
+    /// message has no recipients.
     pub fn with_signer(
         kind: MessageKind,
         protected: &'a ProtectedHeader,

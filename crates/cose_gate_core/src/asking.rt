@@ -1,5 +1,5 @@
-//! Asks a judge about one message. It is fed what a signature or tag covers piece by piece, from where the pieces lie: no structure is
-//! built.
+//! Asks a judge about one message. It is fed what a signature or tag covers piece by piece, from
+//! where the pieces lie: no structure is built.
 ghost use Rattle.std.specs.Prelude.{◌≡◌, ◌++◌, ℕ, List, OnOk, OnErr, IfOk, [], ◌∷◌, option_map};
 ghost use Rattle.std.specs.List.{flat_map};
 ghost use Rattle.coset_headers.specs.View.{protected_view};
@@ -78,8 +78,8 @@ pub fn ask<J: Judge>(
     Ok(judge.decide(signature))
 }
 
-/// Asks the one question about a message without signers of its own, over what begins with the prefix. The index of the first no, where
-/// there is one.
+/// Asks the one question about a message without signers of its own, over what begins with the
+/// prefix. The index of the first no, if there is one.
 pub fn ask_alone<'a, J: Judge>(
     judge: &mut J,
     about: &About<'a>,

@@ -41,10 +41,10 @@ pub enum GateFault<E> {
     /// No readable item begins here, or the reader failed. It never holds `Memory`.
     #[error("decode: {0}")]
     Decode(de::Error<E>),
-    /// The writer failed; its own want of memory is such a fault too.
+    /// The writer failed; its own being out of memory is such a fault too.
     #[error("write")]
     Write,
-    /// Memory was refused, to the judge or the report too.
+    /// Out of memory, also the judge's or the report's.
     #[error("memory")]
     Memory,
 }
@@ -79,7 +79,7 @@ impl<E> From<ItemFault> for GateFault<E> {
     }
 }
 
-/// The report was refused memory.
+/// The report got no memory.
 impl<E> From<AllocError> for GateFault<E> {
     ghost use Rattle.std.specs.Prelude.{◌≡◌};
     ghost use Rattle.cose_gate_core.specs.declared.gating.GateFault.TheVariants as fault;
@@ -101,7 +101,8 @@ fn is_end<R: Read>(error: &de::Error<R::Error>) -> bool
     }
 }
 
-/// Reads an item, and where a strict gate asks it tells whether its bytes are the one encoding of its value.
+/// Reads an item, and if a strict gate asks it tells whether its bytes are the one encoding of its
+/// value.
 fn read_item<R: Read>(
     alloc: Global,
     terms: Terms,
@@ -129,7 +130,7 @@ fn read_item<R: Read>(
     Ok((value, true))
 }
 
-/// The next item, or `None` where no byte is left.
+/// The next item, or `None` if no byte is left.
 fn next_item<R: Read>(
     alloc: Global,
     terms: Terms,
@@ -199,9 +200,9 @@ fn entry_of(counts: Counts, offset: usize, verdict: Verdict) -> Entry
 /// `aad` as external data, and writes those that passed, each as its canonical encoding (definite
 /// lengths, shortest heads, header fields in fixed order; RFC 8949, section 4.2). About a COSE_Sign
 /// it asks once for each signature, in order up to the first no, with that signature's headers as
-/// the signer's; it has passed if the answer to each is yes, and one without a signature is refused.
-/// Every item is noted in the report; one that is no such message is refused there, and the gate
-/// goes on. It doesn't flush.
+/// the signer's; it has passed if the answer to each is yes, and one without a signature is
+/// refused. Every item is noted in the report; one that is no such message is refused there, and
+/// the gate goes on. It doesn't flush.
 ///
 /// Items, and anew those in protected headers, nest no deeper than `terms.limits.nesting()` levels,
 /// and no more than `terms.limits.layers()` protected headers are inside one another. If
@@ -209,18 +210,18 @@ fn entry_of(counts: Counts, offset: usize, verdict: Verdict) -> Entry
 /// refused as `NotShortest`, and the judge isn't asked about it. Then no header may wait in the
 /// decoder. No copy of an item's bytes is kept.
 ///
-/// It ends with `Ok` if nothing is left after an item: the offset has grown by all bytes then, and a
-/// reader that tells what is to come tells that nothing is. No header waits after any result.
+/// It ends with `Ok` if nothing is left after an item: the offset has grown by all bytes then, and
+/// a reader that tells what is to come tells that nothing is. No header waits after any result.
 /// What the clause `ran` says holds of the bytes that were there, also over a reader that doesn't
 /// tell which are to come; if they are known, it holds of those.
 ///
 /// # Errors
-/// `Decode` if no readable item begins: all items before it were asked about, noted and written.
-/// Of the bytes after these some were taken, or none, but of an item that is cut some; the offset
-/// has grown by their count. They may end inside an item, so don't read on from there. `Decode` also
-/// if the reader failed: then all that was asked, noted and written are the first items. `Write`
-/// if the writer failed: a beginning of the encoding of a message was written after the output
-/// before it, and the reader is after that message. `Memory` if out of memory: whole encodings were
+/// `Decode` if no readable item begins: all items before it were asked about, noted and written. Of
+/// the bytes after these some were taken, or none, but of an item that is cut some; the offset has
+/// grown by their count. They may end inside an item, so don't read on from there. `Decode` also if
+/// the reader failed: then all that was asked, noted and written are the first items. `Write` if
+/// the writer failed: a beginning of the encoding of a message was written after the output before
+/// it, and the reader is after that message. `Memory` if out of memory: whole encodings were
 /// written, and of the questions about the item at hand a beginning was asked; if there is no such
 /// item, some of the bytes after the last one were taken, or none.
 pub fn gate_by<R: Read, W: Write, P: Report, J: Judge>(

@@ -6,15 +6,16 @@ ghost use Rattle.cose_gate_core.specs.Lent.{subject_of};
 use crate::about::About;
 use std::alloc::AllocError;
 
-/// Answers questions about messages: `begin` says what a question is about, `feed` hands over the covered bytes in pieces, and
-/// `decide` hands over the signature or tag and takes the answer.
+/// Answers questions about messages: `begin` says what a question is about, `feed` hands over the
+/// covered bytes in pieces, and `decide` hands over the signature or tag and takes the answer.
 ///
-/// An implementation says in its meaning what it is (`who`, which never changes), which answer it gives to a question (`yes`), what it
-/// keeps of the questions (`told`, and `decided`, which adds one), and when it holds a begun question (`holds`). Its answer hangs on
-/// the question and on `who` alone.
+/// An implementation says in its meaning what it is (`who`, which never changes), which answer it
+/// gives to a question (`yes`), what it keeps of the questions (`told`, and `decided`, which adds
+/// one), and when it holds a begun question (`holds`). Its answer hangs on the question and on
+/// `who` alone.
 ///
-/// What the gate's clauses call asked is what was decided: that no question is begun or fed in vain, as about an item that is
-/// refused, is read in the code (`asking.rt`) and tested.
+/// What the gate's clauses call asked is what was decided: that no question is begun or fed in
+/// vain, as about an item that is refused, is read in the code (`asking.rt`) and tested.
 pub trait Judge {
     /// What a judge is.
     ghost Who: { Type 0 };
@@ -43,7 +44,7 @@ pub trait Judge {
     /// Begins a question, and forgets one that was begun.
     ///
     /// # Errors
-    /// Only where memory is refused.
+    /// Only if out of memory.
     fn begin(&mut self, about: &About) -> Result<(), AllocError>
         ensures holds { OnOk result (holds self.new (subject_of about.now) []) }
         ensures pieces { OnOk result (pieces self.new ≡ []) }
@@ -53,7 +54,7 @@ pub trait Judge {
     /// Takes the next piece of the covered bytes.
     ///
     /// # Errors
-    /// Only where memory is refused.
+    /// Only if out of memory.
     fn feed(&mut self, piece: &[u8]) -> Result<(), AllocError>
         ensures holds { OnOk result ((subject : Subject) (bytes : List ℕ)
             → holds self.old subject bytes → holds self.new subject (bytes ++ piece.now)) }

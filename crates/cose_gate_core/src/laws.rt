@@ -20,8 +20,8 @@ pub fn judged_can_be_written()
         → option_map enc (tagged_tree m) ≡ Some (message_text m) }
 {}
 
-/// What is asked and written for one input is one: all runs over it ask the same questions in the same order, and write the same
-/// bytes.
+/// What is asked and written for one input is one: all runs over it ask the same questions in the
+/// same order, and write the same bytes.
 pub fn one_run()
     ensures { (limits : Bounds) (allows : Question → Bool) (aad : List ℕ) (at : ℕ) (b : List ℕ)
         (ss rs : List Step) (rest more : List ℕ) → Run limits allows aad at b ss rest

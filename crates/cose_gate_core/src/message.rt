@@ -35,8 +35,8 @@ pub trait Message: Drop + Sized {
             × HasMessage (limits_of terms) (view content) (message m))
             (λ e. OrMemory (WrongMessage (limits_of terms) kind (view content)) e) };
 
-    /// Whether the content of the tag is already the value that would be written of the message that it is read as. It takes no
-    /// memory.
+    /// Whether the content of the tag is already the value that would be written of the message
+    /// that it is read as. It takes no memory.
     fn is_as_written(content: &Value) -> bool
         ensures { (limits : Bounds) (m : Self) → HasMessage limits (view content.now) (message m)
             → MatchBool result (message_tree (message m) ≡ Some (view content.now))
@@ -52,10 +52,10 @@ pub trait Message: Drop + Sized {
         ensures { MatchBool result (IsUnsigned (message self.now))
             (IsUnsigned (message self.now) → ⊥) };
 
-    /// Asks about it as it was received, up to the first no. The index of that no, where there is one.
+    /// Asks about it as it was received, up to the first no. The index of that no, if there is one.
     ///
     /// # Errors
-    /// Where memory is refused. A beginning of the questions was asked then.
+    /// Where there is no memory. A beginning of the questions was asked then.
     fn ask<'a, J: Judge>(
         &'a self,
         aad: &'a [u8],
@@ -73,13 +73,13 @@ pub trait Message: Drop + Sized {
     /// The value that it is written as, with its tag.
     ///
     /// # Errors
-    /// Where memory is refused.
+    /// Where there is no memory.
     fn into_tagged(self, alloc: Global) -> Result<Value, AllocError>
         requires { tagged_tree (message self) ≢ None }
         ensures { IfOk result (λ v. tagged_tree (message self) ≡ Some (view v)) };
 }
 
-/// The fault of a call that fails for want of memory alone.
+/// The fault of a call that fails for being out of memory alone.
 fn want_of_memory(_error: CoseError) -> AllocError
     requires { _error ≡ Memory }
 {

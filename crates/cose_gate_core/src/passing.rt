@@ -32,7 +32,7 @@ use std::alloc::{AllocError, Global};
 pub enum ItemFault {
     /// The writer failed.
     Write,
-    /// Memory was refused.
+    /// Out of memory.
     Memory,
 }
 
@@ -63,7 +63,8 @@ fn shape_refusal(error: CoseError) -> Result<Refusal, AllocError>
     Ok(Refusal::Shape(error))
 }
 
-/// Whether a strict gate may pass a message of this content of its tag. A gate that isn't strict doesn't ask.
+/// Whether a strict gate may pass a message of this content of its tag. A gate that isn't strict
+/// doesn't ask.
 fn is_shortest<M: Message>(strict: bool, exact: bool, content: &Value) -> bool
     ensures { (limits : Bounds) (m : M) → HasMessage limits (view content.now) (M.message m)
         → MatchBool result (strict ≡ true → (exact ≡ true)
@@ -81,8 +82,8 @@ fn is_shortest<M: Message>(strict: bool, exact: bool, content: &Value) -> bool
     false
 }
 
-/// Why a message that was read is not judged, if it isn't. One without a payload is detached, whether it has signatures or not; only one
-/// that would else be judged is spelled otherwise.
+/// Why a message that was read is not judged, if it isn't. One without a payload is detached,
+/// whether it has signatures or not; only one that would else be judged is spelled otherwise.
 fn bar_of<M: Message>(message: &M, shortest: bool) -> Option<Refusal>
     ensures { (limits : Bounds) (b : List ℕ) (u : Tree)
         → HasMessage limits u (M.message message.now)
@@ -104,7 +105,7 @@ fn bar_of<M: Message>(message: &M, shortest: bool) -> Option<Refusal>
     None
 }
 
-/// Writes the one shortest text of a message with its tag.
+/// Writes the canonical encoding of a message with its tag.
 fn write_message<M: Message, W: Write>(
     alloc: Global,
     message: M,
@@ -125,7 +126,7 @@ fn write_message<M: Message, W: Write>(
     }
 }
 
-/// Asks the judge about a message, and writes it where it has passed.
+/// Asks the judge about a message, and writes it if it has passed.
 fn pass_message<M: Message, W: Write, J: Judge>(
     alloc: Global,
     message: M,
@@ -156,7 +157,8 @@ fn pass_message<M: Message, W: Write, J: Judge>(
     }
 }
 
-/// Reads the content of a tag as a message of the tag's kind, asks the judge about it, and writes it where it has passed.
+/// Reads the content of a tag as a message of the tag's kind, asks the judge about it, and writes
+/// it if it has passed.
 fn pass_as<M: Message, W: Write, J: Judge>(
     alloc: Global,
     terms: Terms,
@@ -204,7 +206,7 @@ fn is_encrypted(number: u64) -> bool
     is_tag(number, CborTag::CoseEncrypt0) || is_tag(number, CborTag::CoseEncrypt)
 }
 
-/// Tests an item that was read, asks the judge about it, and writes it where it has passed.
+/// Tests an item that was read, asks the judge about it, and writes it if it has passed.
 pub fn pass<W: Write, J: Judge>(
     alloc: Global,
     terms: Terms,

@@ -44,7 +44,8 @@ fn front(signature: &[u8]) -> [u8; 8]
 impl Recorder {
     ghost use Rattle.cose_gate_core.specs.Recorded.{asked_of, refused_of};
 
-    /// A recorder with no question yet, that says no to the signature `no`, where there is one, and yes to any other.
+    /// A recorder with no question yet, that says no to the signature `no`, if there is one, and
+    /// yes to any other.
     pub fn new(alloc: Global, no: Option<Vec<u8>>) -> Recorder
         ensures asked { asked_of result ≡ [] }
         ensures no { refused_of result ≡ bytes_of no }

@@ -6,8 +6,9 @@ use coset_labels::CoseError;
 use std::alloc::AllocError;
 use thiserror::Error;
 
-/// Why an item was refused. The reasons are tested in the order `NotTagged`, `Encrypted`, `OtherTag`, `Shape`, `Detached`,
-/// `NoSignature`, `NotShortest`, `Judged`. Its text is its name, and of a shape the fault's text too.
+/// Why an item was refused. The reasons are tested in the order `NotTagged`, `Encrypted`,
+/// `OtherTag`, `Shape`, `Detached`, `NoSignature`, `NotShortest`, `Judged`. Its text is its name,
+/// and of a shape the fault's text too.
 #[derive(Debug, Clone, Copy, PartialEq, Eq, Error)]
 pub enum Refusal {
     /// The item has no tag.
@@ -31,7 +32,8 @@ pub enum Refusal {
     /// The judge said no to the question with this index, counted from 0.
     #[error("Judged")]
     Judged(usize),
-    /// The item is spelled otherwise than the message would be written. Only a strict gate refuses so.
+    /// The item is spelled otherwise than the message would be written. Only a strict gate refuses
+    /// so.
     #[error("NotShortest")]
     NotShortest,
 }
@@ -58,7 +60,8 @@ pub struct Entry {
     pub verdict: Verdict,
 }
 
-/// Is told of each item, in order. An implementation says in its meaning what it keeps (`state`, and `folded`, which adds one entry).
+/// Is told of each item, in order. An implementation says in its meaning what it keeps (`state`,
+/// and `folded`, which adds one entry).
 pub trait Report {
     /// What a report keeps.
     ghost State: { Type 0 };
@@ -72,7 +75,7 @@ pub trait Report {
     /// Takes the next entry.
     ///
     /// # Errors
-    /// Only where memory is refused. The report is as it was then.
+    /// Only if out of memory. The report is as it was then.
     fn note(&mut self, entry: &Entry) -> Result<(), AllocError>
         ensures ok { OnOk result (state self.new ≡ folded (state self.old) entry.now) }
         ensures err { OnErr result (state self.new ≡ state self.old) };

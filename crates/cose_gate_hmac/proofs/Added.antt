@@ -30,7 +30,7 @@ secret_of p = p.secret.now
 abbrev given : Option PreparedSecret → Option (List ℕ)
 given o = option_map secret_of o
 
--- what is found behind an id, by whether it is the one that was entered
+-- what is found after an id, by whether it is the one that was entered
 found_by : (b : Bool) (o : Option PreparedSecret) (p : PreparedSecret) (s : List ℕ) → p.secret.now ≡ s → (b ≡ true → given o ≡ None)
     → given (cond b (Some p) o) ≡ option_or (given o) (if b then Some s else None)
 found_by true o p s same none = ap (λ (z : List ℕ). Some z) same ∙ sym (ap (λ z. option_or z (Some s)) (none refl))
@@ -78,7 +78,7 @@ first_or : (b : Bool) (k : KeyFields) (o p : Option KeyFields) (r : Option (List
 first_or true k o p r has h = or_some (secret k) r (has refl)
 first_or false k o p r has h = h
 
--- the first of a list and of a key behind it
+-- the first of a list and of a key after it
 behind : (id : List ℕ) (ks : List KeyFields) (k : KeyFields) → secret_under id (ks ++ k ∷ []) ≡ option_or (secret_under id ks) (secret_under id (k ∷ []))
 behind id [] k = refl
 behind id (j ∷ ks) k = first_or (fits id j) j (find (fits id) ks) (find (fits id) (ks ++ k ∷ [])) (secret_under id (k ∷ []))

@@ -20,10 +20,10 @@ secret_at m id = option_map (λ s. s.secret.now) (get_by (λ k. slice_cmp nat_cm
 abbrev pub IsIndexOf : Secrets → List KeyFields → Type 0
 IsIndexOf m keys = (id : List ℕ) → secret_at m id ≡ secret_under id keys
 
--- n has what m has, and this key behind it
+-- n has what m has, and this key after it
 abbrev pub Adds : Secrets → KeyFields → Secrets → Type 0
 Adds m k n = (id : List ℕ) → secret_at n id ≡ option_or (secret_at m id) (secret_under id (k ∷ []))
 
--- n has what m has, and at this id, where m has nothing there, this secret
+-- n has what m has, and at this id, if m has nothing there, this secret
 abbrev pub Enters : Secrets → List ℕ → List ℕ → Secrets → Type 0
 Enters m id s n = (q : List ℕ) → secret_at n q ≡ option_or (secret_at m q) (if bytes_eq id q then Some s else None)

@@ -22,8 +22,8 @@ secret_about keys s = if is_mac0 s.kind then secret_for keys s.protected s.unpro
 abbrev pub says_yes : List KeyFields → Question → Bool
 says_yes keys q = is_tag_under (secret_about keys q.subject) q.covered q.signature
 
--- a tag in the making has been fed the covered bytes under the secret; where there is no secret
--- none is made
+-- a tag in the making has been fed the covered bytes under the secret; if there is no secret none
+-- is made
 abbrev pub Makes : Option HmacSha256 → Option (List ℕ) → List ℕ → Type 0
 Makes None None covered = Unit {0}
 Makes None (Some key) covered = ⊥

@@ -18,7 +18,7 @@ crit_is_known h = list_all is_understood (plain h).crit
 abbrev pub alg_is_hmac : ProtectedFields → Bool
 alg_is_hmac p = is_some_hmac (plain (header_in p)).alg
 
--- the key id of a message: the protected one, or the unprotected one where that is empty
+-- the key id of a message: the protected one, or the unprotected one if that is empty
 abbrev pub first_id : List ℕ → List ℕ → List ℕ
 first_id [] b = b
 first_id (x ∷ xs) b = x ∷ xs

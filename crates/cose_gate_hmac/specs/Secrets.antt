@@ -14,6 +14,6 @@ abbrev pub bytes_of : Tree → Option (List ℕ)
 bytes_of (bytes b) = Some b
 bytes_of _ = None
 
--- the value of the first entry with that label, where it is a byte string
+-- the value of the first entry with that label, if it is a byte string
 abbrev pub secret_in : List (LabelFields × Tree) → Option (List ℕ)
 secret_in es = option_and_then (λ e. bytes_of e.1) (find (λ e. is_secret_label e.0) es)

@@ -30,7 +30,7 @@ pub(crate) enum Keys<'a> {
 }
 
 impl<'a> KeyIndex<'a> {
-    /// The index of a set; none where memory is refused.
+    /// The index of a set; none if out of memory.
     pub(crate) fn new(alloc: Global, set: &'a CoseKeySet) -> Option<KeyIndex<'a>>
         ensures { IfSome result (λ index. key_set_view index.set.now ≡ key_set_view set.now) }
     {
@@ -40,7 +40,8 @@ impl<'a> KeyIndex<'a> {
         }
     }
 
-    /// The secret of the first key that fits a message with this key id, in the time of a search among sorted ids.
+    /// The secret of the first key that fits a message with this key id, in the time of a search
+    /// among sorted ids.
     pub(crate) fn find(&self, id: &[u8]) -> Option<&PreparedSecret<'a>>
         ensures { option_map (λ s. s.secret.now) (option_copied result)
             ≡ secret_under id.now (key_set_view self.now.set.now) }
@@ -49,7 +50,7 @@ impl<'a> KeyIndex<'a> {
     }
 }
 
-/// The secrets of the keys that serve, of each key id the first; none where memory is refused.
+/// The secrets of the keys that serve, of each key id the first; none if out of memory.
 fn secrets_by_id<'a>(
     alloc: Global,
     keys: &'a [CoseKey],
@@ -66,7 +67,7 @@ fn secrets_by_id<'a>(
     Some(by_id)
 }
 
-/// Adds the secret of a key, where it serves and no key before it has its id.
+/// Adds the secret of a key, if it serves and no key before it has its id.
 fn add_key<'a>(
     by_id: &mut BTreeMap<&'a [u8], PreparedSecret<'a>>,
     key: &'a CoseKey,
@@ -79,7 +80,7 @@ fn add_key<'a>(
     }
 }
 
-/// Adds a secret, where its id has none.
+/// Adds a secret, if its id has none.
 fn add_secret<'a>(
     by_id: &mut BTreeMap<&'a [u8], PreparedSecret<'a>>,
     id: &'a [u8],

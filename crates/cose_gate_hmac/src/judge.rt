@@ -28,7 +28,8 @@ pub struct HmacJudge<'a> {
 }
 
 impl<'a> HmacJudge<'a> {
-    /// A judge by the keys of this set. For each message it looks through them, and hashes a key anew.
+    /// A judge by the keys of this set. For each message it looks through them, and hashes a key
+    /// anew.
     pub fn new(keys: &'a CoseKeySet) -> HmacJudge<'a>
         ensures { keys_of result ≡ key_set_view keys.now }
     {

@@ -59,8 +59,8 @@ fn has_secret(key: &CoseKey) -> bool
     secret_of(key).is_some()
 }
 
-/// The secret of a key: the first of its `params` with the label -1, where that is a byte string
-/// (RFC 9053, section 7.3).
+/// The secret of a key: the first of its `params` with the label -1, if that is a byte string (RFC
+/// 9053, section 7.3).
 pub fn secret_of(key: &CoseKey) -> Option<&[u8]>
     ensures { option_copied result ≡ secret (key_view key.now) }
 {

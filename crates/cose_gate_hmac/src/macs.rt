@@ -41,7 +41,7 @@ fn mac_for(
     }
 }
 
-/// The tag of a message, of no text yet; none where it is no COSE_Mac0, or no key fits.
+/// The tag of a message, of no text yet; none if it is no COSE_Mac0, or no key fits.
 pub(crate) fn mac_about(index: &KeyIndex, about: &About) -> Option<HmacSha256>
     ensures { Makes result (spec.secret_about (key_set_view index.now.set.now)
         (subject_of about.now)) [] }

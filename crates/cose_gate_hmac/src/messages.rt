@@ -22,8 +22,8 @@ pub fn alg_is_hmac(protected: &ProtectedHeader) -> bool
     is_some_hmac(&protected.header.alg)
 }
 
-/// The key id of a message: that of its protected header, or of the other where that one has none
-/// (RFC 9052, section 3.1).
+/// The key id of a message: that of its protected header, or of the other if that one has none (RFC
+/// 9052, section 3.1).
 pub fn message_id<'a>(protected: &'a ProtectedHeader, unprotected: &'a Header) -> &'a [u8]
     ensures { result.now
         ≡ spec.message_id (protected_view protected.now) (header_view unprotected.now) }
@@ -31,7 +31,7 @@ pub fn message_id<'a>(protected: &'a ProtectedHeader, unprotected: &'a Header) -
     first_id(&protected.header.key_id, &unprotected.key_id)
 }
 
-/// The first of two ids, or the second where it is empty.
+/// The first of two ids, or the second if it is empty.
 fn first_id<'a>(first: &'a [u8], second: &'a [u8]) -> &'a [u8]
     ensures { result.now ≡ spec.first_id first.now second.now }
 {

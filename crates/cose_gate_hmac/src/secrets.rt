@@ -12,7 +12,7 @@ use coset_labels::Label;
 /// The label of the secret of a symmetric key (RFC 9053, section 7.3).
 const SECRET: i64 = -1;
 
-/// The byte string of the first entry with the label of the secret, where it is one.
+/// The byte string of the first entry with the label of the secret, if it is one.
 pub(crate) fn secret_in(params: &[(Label, Value)]) -> Option<&[u8]>
     ensures { option_copied result ≡ spec.secret_in (map entry_view params.now) }
 {

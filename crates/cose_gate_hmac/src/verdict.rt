@@ -11,8 +11,8 @@ use cose_gate_core::{Header, ProtectedHeader};
 use cose_hmac::{hmac_sha256, same_tag};
 use coset_keys::CoseKeySet;
 
-/// The secret of the first key that fits a message, or none where no key does, the message's
-/// algorithm is another than HMAC with SHA-256, or something that isn't known has to be understood.
+/// The secret of the first key that fits a message, or none if no key does, the message's algorithm
+/// is another than HMAC with SHA-256, or something that isn't known has to be understood.
 pub fn secret_for<'a>(
     keys: &'a CoseKeySet,
     protected: &ProtectedHeader,

@@ -1,4 +1,5 @@
--- A rule that excludes what isn't spelled as it would be written: what passes is written as it was received, and is let through again.
+-- A rule that excludes what isn't spelled as it would be written: what passes is written as it was
+-- received, and is let through again.
 use Rattle.std.proofs.Common.{◌≡◌, ℕ, ◌≤◌, ◌⊎◌, inl, inr, List, [], ◌∷◌, ◌++◌, Bool, true, false, cond, Some, None, refl, sym, ap, ◌∙◌, nat_eq, arith}
 use Rattle.std.specs.Cmp.Lexicographic.{pointwise}
 use Rattle.coset_headers.proofs.Entered.{bool_cases}

@@ -114,7 +114,8 @@ module _ (l : Bounds) (allows : Question → Bool) (aad : List ℕ) where
   asked_through f = cond (passes allows aad f) (asked_of allows aad f) []
 
 module _ (l k : Bounds) (allows : Question → Bool) (aad : List ℕ) where
-  -- what becomes of a step: nothing is written of it, or the text of a message that is found in that text again
+  -- what becomes of a step: nothing is written of it, or the text of a message that is found in
+  -- that text again
   data Becomes (f : Finding) : Type 0 where
     nothing : passes allows aad f ≡ false → passed_of allows aad f ≡ [] → Becomes f
     message : (m : MessageFields) (t : Tree) → f ≡ judged m → passes allows aad (judged m) ≡ true → message_text m ≡ enc t → Reads (enc t) k.nesting t → Finds k (enc t) t (judged m) → Becomes f

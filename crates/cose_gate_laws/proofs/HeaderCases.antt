@@ -1,4 +1,5 @@
--- A value has the fields of a header, or a fault as one; and so of a protected header and of a signature.
+-- A value has the fields of a header, or a fault as one; and so of a protected header and of a
+-- signature.
 use Rattle.std.proofs.Common.{◌≡◌, ◌≢◌, ℕ, zero, suc, ◌-◌, ◌<◌, ◌≤◌, ◌⊎◌, inl, inr, List, [], ◌∷◌, ◌++◌, length, true, false, Some, refl, sym, ap, subst, ◌∙◌, arith, append_assoc, append-nil}
 use Rattle.std.specs.Prelude.{All}
 use Rattle.std.proofs.lemmas.Bool.{cases_eq}

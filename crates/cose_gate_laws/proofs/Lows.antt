@@ -1,4 +1,5 @@
--- What is read of bytes holds bytes: each byte string in it is below 256 at each place, and where the bytes are few it fits heads.
+-- What is read of bytes holds bytes: each byte string in it is below 256 at each place, and where
+-- the bytes are few it fits heads.
 use Rattle.std.proofs.Common.{◌≡◌, ℕ, ◌^◌, ◌<◌, ◌≤◌, inl, inr, List, [], ◌∷◌, ◌++◌, length, take, Bool, true, false, cond, Option, Some, None, option_map, option_and_then, refl, sym, ap, subst, ◌∙◌, arith, append_assoc}
 use Rattle.std.specs.Prelude.{ℤ, All, nat_eq, nat_lt, nat_le, ◌||◌, ◌&&◌, pos, negsuc}
 use Rattle.std.specs.Str.{IsUtf8}
@@ -27,7 +28,8 @@ use Rattle.coset_headers.proofs.Weights.{weight_pos, reads_long}
 abbrev pub IsByte : ℕ → Type 0
 IsByte x = x < 256
 
--- each number lies in its range, a byte string is bytes, and each text is UTF-8; nothing is said of lengths
+-- each number lies in its range, a byte string is bytes, and each text is UTF-8; nothing is said of
+-- lengths
 abbrev mutual
   pub Low : Tree → Type 0
   Low (integer i) = FitsHeader (int_head i)

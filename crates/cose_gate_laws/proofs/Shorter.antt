@@ -1,4 +1,4 @@
--- The output is no longer than the items that pass, where these are narrow.
+-- The output is no longer than the items that pass, if these are narrow.
 use Rattle.std.proofs.Common.{◌≡◌, ℕ, ◌≤◌, ◌⊎◌, inl, inr, List, [], ◌∷◌, ◌++◌, length, Bool, true, false, cond, refl, sym, ap, subst, arith, length-append}
 use Rattle.std.specs.Prelude.{All}
 use Rattle.ciborium_value.specs.Tree.{Tree}

@@ -16,7 +16,8 @@ same_item : (i j : Item) → i.offset ≡ j.offset → i.bytes ≡ j.bytes → i
 same_item i j o b v = λ k. record { offset = o k; bytes = b k; value = v k }
 
 module _ (limits : Bounds) (allows : Question → Bool) (aad : List ℕ) where
-  -- a step that was made, beside one of a run: the same item and finding, and an entry that stands for it
+  -- a step that was made, beside one of a run: the same item and finding, and an entry that stands
+  -- for it
   pub record Twin (made one : Step) : Type 0 where
     pub item : made.item ≡ one.item
     pub finding : made.finding ≡ one.finding
@@ -73,7 +74,8 @@ module _ (limits : Bounds) (allows : Question → Bool) (aad : List ℕ) where
       let w = twins_split cs ds ss t.1 in
       record { front = s ∷ w.front; behind = w.behind; whole = ap (λ x. s ∷ x) w.whole; first = (t.0, w.first); then = w.then }
 
-  -- the steps that were made are twins of the first steps of the run, and what was left is what the others go through
+  -- the steps that were made are twins of the first steps of the run, and what was left is what the
+  -- others go through
   pub record Within (at : ℕ) (cs ss : List Step) (more rest : List ℕ) : Type 0 where
     pub front : List Step
     pub behind : List Step
@@ -129,7 +131,7 @@ module _ (limits : Bounds) (allows : Question → Bool) (aad : List ℕ) where
       → Within at cs ss more rest
   course_within at b cs ss more rest c r = within 1 at b cs ss more rest r.items.ends c.sequence r.items.sequence c.steps r.steps
 
-  -- the place behind the last item
+  -- the place after the last item
   pub place_behind : (at : ℕ) (b : List ℕ) (cs : List Step) (c : Step) (more : List ℕ) → SequenceWithin limits.nesting at b (map (λ s. s.item) (cs ++ c ∷ [])) more
       → c.item.offset + length c.item.bytes + length more ≡ at + length b
   place_behind at b [] c more q =

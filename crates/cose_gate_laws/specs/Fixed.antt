@@ -22,13 +22,13 @@ pub record Admits (one two : Bounds) : Type 0 where
   pub written : (b : List ℕ) (m : MessageFields) → one.excludes b m ≡ None
       → two.excludes (message_text m) m ≡ None
 
--- limits that let a message through only where its item is already the text that is written for it
+-- limits that let a message through only if its item is already what is written for it
 abbrev pub ExcludesInexact : Bounds → Type 0
 ExcludesInexact limits =
     (b : List ℕ) (m : MessageFields) → limits.excludes b m ≡ None → b ≡ message_text m
 
 -- The steps `again`, over what the steps ss wrote and up to `more`, change nothing: nothing is
--- left, and the same is written. Each entry says Passed, also where it was noted elsewhere; as many
+-- left, and the same is written. Each entry says Passed, also if it was noted elsewhere; as many
 -- pass as passed, and none is refused. What is asked is what was asked of the messages that passed.
 -- These have the same fields: headers, recipients and received protected bytes among them.
 pub record FixedPoint (limits : Bounds) (allows : Question → Bool) (aad : List ℕ)

@@ -5,7 +5,7 @@ use Rattle.cose_gate_core.specs.Questions.{Question, MessageFields, tagged_tree}
 use Rattle.cose_gate_core.specs.Findings.{Bounds, Finding, judged, barred, excluded, IsJudged}
 use Rattle.cose_gate_core.specs.Run.{Step, passes}
 
--- the message of a finding, where it passes
+-- the message of a finding, if it passes
 abbrev pub passed_of : (Question → Bool) → List ℕ → Finding → List MessageFields
 passed_of allows aad (judged m) = if passes allows aad (judged m) then m ∷ [] else []
 passed_of allows aad (barred r) = []

@@ -9,8 +9,8 @@ ghost use Rattle.cose_gate_core.specs.Findings.{Bounds, Finding, Finds, IsMissha
 ghost use Rattle.cose_gate_core.specs.Run.{Step, Course, Run, entries_of};
 ghost use Rattle.cose_gate_laws.specs.Anew.{SameEntries};
 
-/// Of every item exactly one thing is found: of a value whose numbers, texts and lengths a head can say, and so of what is read of
-/// bytes.
+/// Of every item exactly one thing is found: of a value whose numbers, texts and lengths a head can
+/// say, and so of what is read of bytes.
 pub fn every_item_found()
     ensures fits { (limits : Bounds) (b : List ℕ) (t : Tree) → Fits t
         → (f : Finding) × Finds limits b t f × ((g : Finding) → Finds limits b t g → f ≡ g) }
@@ -19,15 +19,16 @@ pub fn every_item_found()
         × ((g : Finding) → Finds limits b t g → f ≡ g) }
 {}
 
-/// What a value lacks as a message of its tag is never memory: so no `Shape` that is noted holds want of memory.
+/// What a value lacks as a message of its tag is never memory: so no `Shape` that is noted holds
+/// being out of memory.
 pub fn shape_holds_no_memory()
     ensures { (limits : Bounds) (t : Tree) (f : CoseFault) → IsMisshapen limits t f
         → f ≢ no_memory }
 {}
 
-/// Every input has a run, whatever the judge. All its runs say the same of each item, but that of a `Shape` it is open which of the
-/// value's faults it names; that they ask and write the same is the law `one_run`. What was gone through at a fault can be gone on
-/// with, to a run.
+/// Every input has a run, whatever the judge. All its runs say the same of each item, but that of a
+/// `Shape` it is open which of the value's faults it names; that they ask and write the same is the
+/// law `one_run`. What was gone through at a fault can be gone on with, to a run.
 pub fn every_input_run()
     ensures there { (limits : Bounds) (allows : Question → Bool) (aad : List ℕ) (at : ℕ)
         (b : List ℕ) → All (λ x. x < 256) b → (ss : List Step) × (rest : List ℕ)

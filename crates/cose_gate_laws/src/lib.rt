@@ -1,6 +1,7 @@
-//! Laws of the definitions that the gate's contract speaks of: what is true of any run, whatever the
-//! judge. The functions have no body and do nothing; a proof calls one to have its law. It passes on
-//! the gate that they speak of, as `gate_core`. A user names `cose_gate`, which passes all of it on.
+//! Laws of the definitions that the gate's contract speaks of: what is true of any run, whatever
+//! the judge. The functions have no body and do nothing; a proof calls one to have its law. It
+//! passes on the gate that they speak of, as `gate_core`. A user names `cose_gate`, which passes
+//! all of it on.
 #![tactic(auto)]
 
 mod findings;

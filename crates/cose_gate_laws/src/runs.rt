@@ -16,8 +16,8 @@ pub fn course_begins_run()
 {}
 
 /// If nothing is left after the items of `a`, the run of `a` and then `b` is that of `a` and then
-/// that of `b`: its questions, its output and what is left. The entries of `b` are as many items and
-/// bytes further on as `a` has.
+/// that of `b`: its questions, its output and what is left. The entries of `b` are as many items
+/// and bytes further on as `a` has.
 pub fn joined_runs()
     ensures there { (limits : Bounds) (allows : Question → Bool) (aad : List ℕ) (at : ℕ)
         (a b : List ℕ) (ss rs : List Step) (rest : List ℕ) → Run limits allows aad at a ss []

@@ -28,7 +28,7 @@ abbrev is_memory : CoseError → Bool
 is_memory cose.Memory = true
 is_memory _ = false
 
--- an error that isn't want of memory is a fault of the bytes
+-- an error that isn't being out of memory is a fault of the bytes
 wrong_then : (b : List ℕ) (e : CoseError) → is_memory e ≡ false → OrMemory (WrongItem WrongKeySet b) e → WrongItem WrongKeySet b (fault_of e)
 wrong_then b e not w = elim w [
   | inl m ↦ absurd (true≢false (sym (ap is_memory m) ∙ not))

@@ -88,7 +88,7 @@ fault_at ends n at more e (Some b) z w =
 once_more : (m n : ℕ) → n ≡ m + 1 → m < n
 once_more m n e = omega (arith, e)
 
--- the reader stands in these bytes
+-- the reader is in these bytes
 stands_within : {T S : Type 0} (old new : Sight T S) (b more : List ℕ) (P : Type 0) → P → StandsIn old new b more P
     → StandsWithin old.left new.left more
 stands_within old new b more P p s = record { taken = s.taken; rest = s.rest; whole = s.whole; left = s.behind p }
@@ -139,7 +139,7 @@ module _ {T S : Type 0} (by : Rules T S) (old new : Sight T S) where
   steps_by b (Err gating.Write) w = w.done ++ w.last ∷ []
   steps_by b (Err gating.Memory) w = w.done ++ w.last
 
-  -- the texts of the steps, or of those before the last, where memory was refused
+  -- the texts of the steps, or of those before the last, if out of memory
   texts : (done last given : List Step) (asked : List Question)
       → (given ≡ done) ⊎ ((given ≡ done ++ last) × (asked ≡ questions_of by.allows by.aad last))
       → (output_of by.allows by.aad given ≡ output_of by.allows by.aad done)
@@ -214,7 +214,7 @@ module _ {T S : Type 0} (by : Rules T S) (old new : Sight T S) where
     all = λ whole. absurd (true≢false (sym whole));
   }
 
-  -- all were asked where the last one's text was written
+  -- all were asked if the last one's text was written
   asked_all : (done last given : List Step) (asked : List Question)
       → (given ≡ done) ⊎ ((given ≡ done ++ last) × (asked ≡ questions_of by.allows by.aad last))
       → output_of by.allows by.aad given ≢ output_of by.allows by.aad done
@@ -242,8 +242,7 @@ module _ {T S : Type 0} (by : Rules T S) (old new : Sight T S) where
     asked_all w.done w.last w.texts w.asked w.texts_are,
   )
 
-  -- the gate's answer over a decoder that began here; the devices are seen where they were lent
-  -- from
+  -- the gate's answer over a decoder that began here; the devices are seen if they were lent from
   pub gated : (limits : Bounds) (before after : Devices) (n n' f f' : ℕ) (r : Result Counts (GateFault InputFault))
       → limits ≡ by.limits → old.offset ≡ 0 → before ≡ devices old.left old.written n f
       → after ≡ devices new.left new.written n' f' → Answers is_end by old new r
@@ -279,7 +278,7 @@ grows : {X F : Type 0} (answer : Result X F) (m n : ℕ) → n ≡ write_failure
 grows (Ok x) m n e = let h : n ≡ m = e in omega arith
 grows (Err x) m n e = let h : n ≡ m + 1 = e in omega arith
 
--- one that has failed once more isn't where it was
+-- one that has failed once more isn't if it was
 pub one_more : (a b c : ℕ) → a ≤ b → c ≡ b + 1 → c ≡ a → ⊥
 one_more a b c p q e = absurd (omega arith)
 
@@ -474,7 +473,7 @@ pub began : (limits : Bounds) (keys aad : Option (List ℕ)) (d : Beginning) (gi
 began limits keys aad d given ks old new status b e same r =
     after_run b.0 given b.1 (b.2 ∙ ap Some (sym e)) ks (subst (λ (k : List KeyFields). HasItem HasKeySet b.0 k) (sym same) b.3) r
 
--- the bytes hold no key set, or memory was refused
+-- the bytes hold no key set, or it is out of memory
 pub over_none : (limits : Bounds) (allows : List KeyFields → Question → Bool) (keys aad : List ℕ) (why : NotBegun) (old new : Devices) (status : ℕ) → IsNoKeySet keys why → status ≡ status_of why → new ≡ old → EndsOver limits allows keys aad old new status
 over_none limits allows keys aad NoFile old new status n st same = absurd n
 over_none limits allows keys aad NotHex old new status n st same = absurd n
@@ -488,7 +487,7 @@ pub over_run : (limits : Bounds) (keys aad : List ℕ) (ks held : List KeyFields
 over_run limits keys aad ks held old new status h same r =
     inr (inr (held, subst (λ (k : List KeyFields). HasItem HasKeySet keys k) (sym same) h, r))
 
--- the limits where none are chosen
+-- the limits if none are chosen
 usually : (l : Limits) → (nesting_of l ≡ nesting) × (layers_of l ≡ layers) → limits_by l false ≡ usual
 usually l e = ap (λ (n : ℕ). plain n (layers_of l)) e.0 ∙ ap (λ (k : ℕ). plain nesting k) e.1
 

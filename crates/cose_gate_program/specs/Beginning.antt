@@ -16,7 +16,7 @@ use Rattle.cose_gate_program.specs.declared.beginning.NotBegun.{NotBegun}
 use Rattle.cose_gate_program.specs.declared.beginning.NotBegun.TheVariants.{NoFile, NotHex, NoKeys, Memory}
 
 -- the external data that AADHEX stands for, in hex of either case; none without it, and none at all
--- where it is no hex
+-- if it is no hex
 abbrev pub aad_of : Option (List ℕ) → Option (List ℕ)
 aad_of None = Some []
 aad_of (Some text) = result_ok (decode_of text)
@@ -27,7 +27,7 @@ status_of NotHex = 2
 status_of (NoKeys e) = 3
 status_of Memory = 4
 
--- why the gate isn't run where AADHEX can't be read: it is no hex, but for want of memory
+-- why the gate isn't run where AADHEX can't be read: it is no hex, but for being out of memory
 abbrev pub aad_fault : FromHexError → NotBegun
 aad_fault hex.OutOfMemory = Memory
 aad_fault _ = NotHex
@@ -37,14 +37,14 @@ abbrev pub key_set_fault : CoseError → NotBegun
 key_set_fault cose.Memory = Memory
 key_set_fault e = NoKeys e
 
--- AADHEX is no hex, or memory was refused
+-- AADHEX is no hex, or it is out of memory
 abbrev pub IsNoAad : Option (List ℕ) → NotBegun → Type 0
 IsNoAad aad NoFile = ⊥
 IsNoAad aad NotHex = aad_of aad ≡ None
 IsNoAad aad (NoKeys e) = ⊥
 IsNoAad aad Memory = Unit {0}
 
--- the bytes are no key set, or memory was refused
+-- the bytes are no key set, or it is out of memory
 abbrev pub IsNoKeySet : List ℕ → NotBegun → Type 0
 IsNoKeySet b NoFile = ⊥
 IsNoKeySet b NotHex = ⊥

@@ -14,7 +14,6 @@ blocks_reader b = b.reader
 abbrev pub blocks_failures : {R : Type 0} → Blocks R → ℕ
 blocks_failures b = total b.failed
 
--- the bytes to come: those of the block, and then those of the reader behind it, where these are
--- known
+-- the bytes to come: those of the block, and then those of the reader after it, if these are known
 abbrev pub left_of_blocks : {R : Type 0} → (R → Option (List ℕ)) → Blocks R → Option (List ℕ)
 left_of_blocks remaining b = reader_remaining remaining b.reader

@@ -65,8 +65,8 @@ IsUnreadableBy e n b more = IsFaultOf (λ _. true) n (length b) more e
 abbrev pub IsUnreadable : ℕ → List ℕ → List ℕ → Type 0
 IsUnreadable n b more = (e : Error InputFault) × IsUnreadableBy e n b more
 
--- the reader stands in these bytes: some of them were taken, none or all as it may be, and it tells
--- the rest to come, where it told what was to come before
+-- the reader is in these bytes: some of them were taken, none or all as it may be, and it tells the
+-- rest to come, if it told what was to come before
 pub record StandsWithin (old new : Option (List ℕ)) (more : List ℕ) : Type 0 where
   pub taken : List ℕ
   pub rest : List ℕ
@@ -74,7 +74,7 @@ pub record StandsWithin (old new : Option (List ℕ)) (more : List ℕ) : Type 0
   pub left : IfKnown old (λ b. new ≡ Some rest)
 
 -- the whole input b was gone through by these steps, all that passed was written, and nothing is
--- left where the reader tells
+-- left if the reader tells
 pub record Through (limits : Bounds) (allows : Question → Bool) (aad : List ℕ) (old new : Devices)
     (b : List ℕ) (steps : List Step) (refused : ℕ) : Type 0 where
   pub course : Course limits allows aad 0 b steps []
@@ -82,8 +82,8 @@ pub record Through (limits : Bounds) (allows : Question → Bool) (aad : List �
   pub refused_is : refused ≡ refused_count allows aad steps
   pub ended : IfKnown old.left (λ b. new.left ≡ Some [])
 
--- the writer failed at the last step, whose message passes: a beginning of its text was written behind
--- the output before it, and the reader stands behind its item, where it tells what is to come
+-- the writer failed at the last step, whose message passes: a beginning of its encoding was written
+-- after the output before it, and the reader is after its item, if it tells what is to come
 pub record Torn (allows : Question → Bool) (aad : List ℕ) (left : Option (List ℕ))
     (steps : List Step) (more front : List ℕ) : Type 0 where
   pub done : List Step
@@ -95,12 +95,12 @@ pub record Torn (allows : Question → Bool) (aad : List ℕ) (left : Option (Li
   pub front_is : front ≡ output_of allows aad done ++ text
   pub behind : IfKnown left (λ b. b ≡ more)
 
--- why a run stopped behind these steps, with `more` to come, and what was written of their output:
--- a torn text where the writer failed; all of it where the whole input was gone through and the
--- flush failed, where the reader failed, or no readable item comes; and where memory was refused,
--- all or that before the last step. Then the reader stands behind that step's item. Where each step
--- was done, an item was to come, and the reader stands in it; so it does where no readable item
--- comes, but at an end. What is left behind a reader that failed or ended is open.
+-- why a run stopped after these steps, with `more` to come, and what was written of their output: a
+-- torn text where the writer failed; all of it where the whole input was gone through and the flush
+-- failed, where the reader failed, or no readable item comes; and where there was no memory, all or
+-- that before the last step. Then the reader is after that step's item. If each step was done, an
+-- item was to come, and the reader is in it; so it does if no readable item comes, but at an end.
+-- What is left after a reader that failed or ended is open.
 pub data Stops (limits : Bounds) (allows : Question → Bool) (aad : List ℕ) (old new : Devices)
     (steps : List Step) (more front : List ℕ) : Type 0 where
   writer : old.write_failures < new.write_failures → Torn allows aad new.left steps more front
@@ -120,7 +120,7 @@ pub data Stops (limits : Bounds) (allows : Question → Bool) (aad : List ℕ) (
       → Stops limits allows aad old new steps more front
 
 -- b was gone through by these steps up to some place, and what was written is a beginning of their
--- output. A text is torn only where the writer failed.
+-- output. A text is torn only if the writer failed.
 pub record InPart (limits : Bounds) (allows : Question → Bool) (aad : List ℕ) (old new : Devices)
     (b : List ℕ) (steps : List Step) : Type 0 where
   pub more : List ℕ
@@ -135,7 +135,7 @@ GatedOver limits allows aad old new b steps (Ok counts) =
     Through limits allows aad old new b steps counts.refused
 GatedOver limits allows aad old new b steps (Err fault) = InPart limits allows aad old new b steps
 
--- the status: 0 where none is refused, 1 where some are, 4 where it stopped
+-- the status: 0 if none is refused, 1 if some are, 4 if it stopped
 abbrev pub RanOver : Bounds → (Question → Bool) → List ℕ → Devices → Devices
     → List ℕ → List Step → ℕ → Type 0
 RanOver limits allows aad old new b steps status =
@@ -143,7 +143,7 @@ RanOver limits allows aad old new b steps status =
     × (status ≡ (if nat_eq refused 0 then 0 else 1)))
     ⊎ (InPart limits allows aad old new b steps × (status ≡ 4))
 
--- some bytes were there, those to come where these are known, and the program went over them
+-- some bytes were there, those to come if these are known, and the program went over them
 pub record Ran (limits : Bounds) (allows : Question → Bool) (aad : List ℕ) (old new : Devices)
     (status : ℕ) : Type 0 where
   pub input : List ℕ
@@ -151,8 +151,7 @@ pub record Ran (limits : Bounds) (allows : Question → Bool) (aad : List ℕ) (
   pub steps : List Step
   pub over : RanOver limits allows aad old new input steps status
 
--- the program ran. Of nothing it ends with 0 where no device failed, and with 0 or 1 only where
--- none did.
+-- the program ran. Of nothing it ends with 0 if no device failed, and with 0 or 1 only if none did.
 pub record RanOn (limits : Bounds) (allows : Question → Bool) (aad : List ℕ) (old new : Devices)
     (status : ℕ) : Type 0 where
   pub ran : Ran limits allows aad old new status
@@ -161,8 +160,8 @@ pub record RanOn (limits : Bounds) (allows : Question → Bool) (aad : List ℕ)
   pub steady : status < 2
       → (new.read_failures ≡ old.read_failures) × (new.write_failures ≡ old.write_failures)
 
--- which questions were asked where a run stopped so: all about its steps. Where memory was refused,
--- all about those before the last, and some about the last; all about it where its text was written.
+-- which questions were asked where a run stopped so: all about its steps. If out of memory, all
+-- about those before the last, and some about the last; all about it if its text was written.
 abbrev pub IsAskedAt : {limits : Bounds} {old new : Devices} {more : List ℕ}
     (allows : Question → Bool) (aad : List ℕ) (steps : List Step) (front : List ℕ)
     → Stops limits allows aad old new steps more front → List Question → Type 0
@@ -193,7 +192,7 @@ IsAskedIn limits allows aad old new b steps status (inl through) asked =
 IsAskedIn limits allows aad old new b steps status (inr part) asked =
     IsAskedAt allows aad steps part.0.front part.0.stops asked
 
--- a judge was told a beginning of the questions about these steps, in order: all of them where the
+-- a judge was told a beginning of the questions about these steps, in order: all of them if the
 -- steps were made whole
 pub record Heard {T : Type 0} (hearing : Hearing T) (aad : List ℕ) (steps : List Step)
     (Whole : Type 0) : Type 0 where
@@ -201,7 +200,7 @@ pub record Heard {T : Type 0} (hearing : Hearing T) (aad : List ℕ) (steps : Li
       (questions_of hearing.allows aad steps)
   pub all : Whole → told.front ≡ questions_of hearing.allows aad steps
 
--- the gate went over some bytes, those to come where these are known, and the judge was asked about
+-- the gate went over some bytes, those to come if these are known, and the judge was asked about
 -- its steps
 pub record Gated {T E : Type 0} (limits : Bounds) (hearing : Hearing T) (aad : List ℕ)
     (old new : Devices) (r : Result Counts (GateFault E)) : Type 0 where
@@ -212,7 +211,7 @@ pub record Gated {T E : Type 0} (limits : Bounds) (hearing : Hearing T) (aad : L
   pub heard : Heard hearing aad steps (IsOk r)
   pub asked : IsAskedBy limits hearing.allows aad old new input steps r over heard.told.front
 
--- the program ran with a judge, which was asked about the steps of the run: about all of them where
+-- the program ran with a judge, which was asked about the steps of the run: about all of them if
 -- the status is 0 or 1, and else up to where it stopped
 pub record RanJudged {T : Type 0} (limits : Bounds) (hearing : Hearing T) (aad : List ℕ)
     (old new : Devices) (status : ℕ) : Type 0 where

@@ -20,7 +20,7 @@ pub(crate) enum NotBegun {
     NotHex,
     /// KEYS holds no key set.
     NoKeys(CoseError),
-    /// Memory was refused.
+    /// Out of memory.
     Memory,
 }
 

@@ -14,8 +14,8 @@ use ciborium_ll::count::Count;
 use std::io;
 use std::io::BufReader;
 
-/// A reader of std that reads in blocks. It costs less than `Io` where many reads are of a few
-/// bytes: a read that the block holds whole is no call of std's reader, and its fault is small.
+/// A reader of std that reads in blocks. It costs less than `Io` if many reads are of a few bytes:
+/// a read that the block holds whole is no call of std's reader, and its fault is small.
 #[derive(Drop)]
 pub struct Blocks<R> {
     reader: BufReader<R>,
@@ -34,7 +34,7 @@ impl<R: io::Read> Blocks<R> {
         }
     }
 
-    /// Takes the bytes from the block, where it holds so many.
+    /// Takes the bytes from the block, if it holds so many.
     fn take_held(&mut self, data: &mut [u8]) -> bool
         ensures held { MatchBool result
             (Consumes (left_of_blocks R.remaining self.old)

@@ -1,4 +1,4 @@
-//! The lines on standard error. A fault of what they are written to is passed over.
+//! The lines on standard error. A fault of what they are written to is ignored.
 ghost use Rattle.std.specs.Prelude.{◌≤◌};
 
 use crate::beginning::NotBegun;

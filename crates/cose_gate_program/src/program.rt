@@ -51,13 +51,13 @@ fn gate_lines<R: Read, W: Write, E: Write, J: Judge>(
 }
 
 /// The program's run with any judge: the gate over the input by these terms, with `aad` as external
-/// data. The messages that passed go to `out`, which is
-/// flushed, and on `err` there are the lines that `run` tells of. The judge is asked about the
-/// items in order: about all of them where the status is 0 or 1, and with 4 about all up to where
-/// the run stopped; where memory was refused at an item, it may be asked in part about that one.
+/// data. The messages that passed go to `out`, which is flushed, and on `err` there are the lines
+/// that `run` tells of. The judge is asked about the items in order: about all of them if the
+/// status is 0 or 1, and with 4 about all up to where the run stopped; if out of memory at an item,
+/// it may be asked in part about that one.
 ///
-/// The status is 0 where no item was refused, 1 where some were, and 4 where the gate stopped or
-/// memory was refused.
+/// The status is 0 if no item was refused, 1 if some were, and 4 if the gate stopped or it is out
+/// of memory.
 pub fn run_judged<R: Read, W: Write, E: Write, J: Judge>(
     alloc: Global,
     terms: Terms,
@@ -93,8 +93,8 @@ pub fn run_judged<R: Read, W: Write, E: Write, J: Judge>(
 }
 
 /// As `run_with`, with the bytes of KEYS and the external data handed over as they are. The status
-/// is 3 where the bytes hold no key set, 4 where the gate stopped or memory was refused, and else 0
-/// or 1.
+/// is 3 if the bytes hold no key set, 4 if the gate stopped or it is out of memory, and else 0 or
+/// 1.
 pub fn run_over<R: Read, W: Write, E: Write>(
     alloc: Global,
     terms: Terms,
@@ -154,19 +154,19 @@ pub fn run_with<R: Read, W: Write, E: Write>(
 }
 
 /// Runs the gate over the input with the judge by HMAC: `keys` are the bytes of KEYS, which hold a
-/// key set, or none where they can't be read, and `aad` is AADHEX, the external data in hex of
-/// either case; without it they are empty. The messages that passed go to `out`, which is flushed.
+/// key set, or none if they can't be read, and `aad` is AADHEX, the external data in hex of either
+/// case; without it they are empty. The messages that passed go to `out`, which is flushed.
 ///
 /// On `err` there is a line for each item, `item N at OFFSET: passed` or `item N at OFFSET:
 /// refused: NAME`, and then `passed P, refused R`, or `stopped: decode: WORD`, `stopped: write` or
-/// `stopped: memory`. Where the gate isn't run, the one line is `keys: cannot be read`, `aad: not
+/// `stopped: memory`. If the gate isn't run, the one line is `keys: cannot be read`, `aad: not
 /// hex`, `keys: ` and what is wrong with the key set, or `stopped: memory`; these are tested in
 /// this order. Lines are written as the items come, and flushed at the end; a fault of `err` is
-/// passed over.
+/// ignored.
 ///
-/// The status is 0 where no item was refused, 1 where some were, 2 where AADHEX is no hex, 3 where
-/// there is no key set, and 4 where the gate stopped or memory was refused. A flush that fails is
-/// `stopped: write`, whatever stopped the gate before.
+/// The status is 0 if no item was refused, 1 if some were, 2 if AADHEX is no hex, 3 if there is no
+/// key set, and 4 if the gate stopped or it is out of memory. A flush that fails is `stopped:
+/// write`, whatever stopped the gate before.
 pub fn run<R: Read, W: Write, E: Write>(
     alloc: Global,
     keys: Option<&[u8]>,

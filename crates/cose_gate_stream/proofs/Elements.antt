@@ -21,7 +21,7 @@ pub append_count : (ts more : Trees) → tree_count (append ts more) ≡ tree_co
 append_count no_trees more = omega arith
 append_count (one_more t ts) more = let k = append_count ts more in omega arith
 
--- the elements of an array that stands at the front
+-- the elements of an array that is at the front
 pub record Items (o : Option ℕ) (under : Tree) (items after : List ℕ) : Type 0 where
   pub trees : Trees
   pub is : under ≡ array trees
@@ -75,7 +75,7 @@ pub tag_means : (n : ℕ) (o : Option Trees) (t : Tree) → option_and_then (tag
 tag_means n None t e = cc
 tag_means n (Some vs) t e = let k : Some (tag n (array vs)) ≡ Some t = e in let l : tag n (array vs) ≡ t = cc in (vs, refl, sym l)
 
--- what stands behind two items
+-- what is after two items
 pub behind_two : (xs ys : Trees) (third after : List ℕ) (a c : List ℕ) → SpellsAll a xs → SpellsAll c ys → tree_count xs ≡ 2 → tree_count ys ≡ 2 → a ++ third ≡ c ++ after → third ≡ after
 behind_two xs ys third after a c p q n m e =
     let s = split_items xs ys a third c after p q e (inl (omega arith)) in

@@ -1,4 +1,4 @@
--- What faults of the streaming road tell, step by step.
+-- What faults of the streaming check tell, step by step.
 use Rattle.std.proofs.Common.{is_some, true, false, ◌≡◌, ◌≢◌, ◌≤◌, ◌+◌, ◌-◌, ◌^◌, ◌⊎◌, inl, inr, ℕ, Bool, List, ◌∷◌, ◌++◌, length, Option, None, Some, refl, sym, ap, subst, ◌∙◌, arith, length-append}
 use Rattle.std.specs.Io.KnownBytes.{prepend_known}
 use Rattle.ciborium_ll.specs.declared.hdr.Header.{Header}
@@ -31,7 +31,7 @@ use Rattle.cose_gate_stream.specs.ElementFaults.{TitleFault, PartFault, NoBreak,
 abbrev pub Names : {E : Type 0} → (E → Bool) → (ℕ → List ℕ → Why → Type 0) → ℕ → Option (List ℕ) → ℕ → StreamFault E → Type 0
 Names ends D room l o f = HoldsNoMemory f × IfKnown l (λ b. Tells ends (D (o + length b) b) (IsLongFor room o b) f)
 
--- no fault that is made of another holds want of memory
+-- no fault that is made of another holds being out of memory
 pub fault_holds : {E : Type 0} (e : Error E) → HoldsNoMemory (fault_by e)
 fault_holds (de.Io e) = tt
 fault_holds (de.Syntax p) = tt
@@ -98,7 +98,7 @@ pull_names ends l₀ l₁ o₀ o₁ e w = (fault_holds (lifted e), go l₀ e w (
     go (Some b) below.TooLong w k = omega arith
     go (Some b) below.Waiting w k = absurd w
 
--- a fault behind what was taken is a fault of the whole
+-- a fault after what was taken is a fault of the whole
 pub tells_behind : {E : Type 0} (ends : E → Bool) (l₀ l₁ : Option (List ℕ)) (o₀ o₁ room room' : ℕ) (P : List ℕ → Type 0) (D D' : ℕ → List ℕ → Why → Type 0) (f : StreamFault E)
     → Moves l₀ l₁ o₀ o₁ P → room ≤ room' → ((stop : ℕ) (x rest : List ℕ) (w : Why) → length (x ++ rest) ≤ stop → P x → D stop rest w → D' stop (x ++ rest) w)
     → Names ends D room l₁ o₁ f → Names ends D' room' l₀ o₀ f
@@ -145,7 +145,7 @@ part_title k W stop b refused d = absurd d
 pub part_title_tells : {E : Type 0} (ends : E → Bool) (n : ℕ) (W : CoseFault → Tree → Type 0) (l : Option (List ℕ)) (o : ℕ) (f : StreamFault E) → Names ends TitleFault 0 l o f → Names ends (PartFault n W) 0 l o f
 part_title_tells ends n W l o f k = known_tells ends l o 0 0 TitleFault (PartFault n W) f (omega arith) (λ stop b w le d. part_title n W stop b w d) k
 
--- an element that is damaged behind its title, which was put back
+-- an element that is damaged after its title, which was put back
 pub part_item : {E : Type 0} (ends : E → Bool) (n : ℕ) (W : CoseFault → Tree → Type 0) (l₀ l₁ l₂ : Option (List ℕ)) (o₀ o₁ o₂ o₃ : ℕ) (h : Header) (e : Error E)
     → Moves l₀ l₁ o₀ o₁ (λ (b : List ℕ). Title b h) → h ≢ Break → FitsHeader h → l₂ ≡ prepend_known (title_of h) l₁ → o₂ + length (title_of h) ≡ o₁
     → IfKnown l₂ (λ b. FailsAt ends b o₂ o₃ (λ stop b f. Damage stop b n f) e) → Names ends (PartFault n W) 0 l₀ o₀ (fault_by e)
@@ -186,7 +186,7 @@ pub put_back : (n : ℕ) (l₀ l₁ l₂ l₃ : Option (List ℕ)) (o₀ o₁ o�
 put_back n l₀ l₁ l₂ l₃ o₀ o₁ o₂ o₃ h v t e p r =
     item_read l₀ l₂ l₃ o₀ (o₂ + length (title_of h)) o₃ n v h (subst (λ (z : Option (List ℕ)). Moves l₀ z o₀ (o₂ + length (title_of h)) (λ (b : List ℕ). Title b h)) e (subst (λ (z : ℕ). Moves l₀ l₁ o₀ z (λ (b : List ℕ). Title b h)) (sym p) t)) r
 
--- an element that is there, and wrong, or for which memory was refused
+-- an element that is there, and wrong, or for which there was no memory
 pub part_wrong : {E : Type 0} (ends : E → Bool) (k : ℕ) (W : CoseFault → Tree → Type 0) (l₀ l₁ : Option (List ℕ)) (o₀ o₁ : ℕ) (v : Tree) (e : CoseError) → Moves l₀ l₁ o₀ o₁ (λ (b : List ℕ). Reads b k v)
     → ((f : CoseFault) → W f v → f ≢ no_memory) → (e ≢ cose.Memory → W (fault_of e) v) → Names {E = E} ends (PartFault k W) 0 l₀ o₀ (shape_by e)
 part_wrong {E} ends k W l₀ l₁ o₀ o₁ v e t named wrong = (shape_holds E e (λ other. named (fault_of e) (wrong other)), place l₀ l₁ t)

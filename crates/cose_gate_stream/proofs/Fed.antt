@@ -83,7 +83,7 @@ short_names ends holds a b size due count room l₀ l₁ o₀ o₁ Waits e t le 
 pub take_front : (n : ℕ) (xs ys : List ℕ) → length xs ≡ n → take n (xs ++ ys) ≡ xs
 take_front n xs ys e = take_at xs ys n e
 
--- what stands in front of the payload
+-- what is in front of the payload
 pub front_parts : (p a s b d c y : List ℕ) → p ++ ((a ++ s) ++ ((b ++ d) ++ (c ++ y))) ≡ (((((p ++ a) ++ s) ++ b) ++ d) ++ c) ++ y
 front_parts p a s b d c y =
     ap (λ z. p ++ z) (append_assoc a s ((b ++ d) ++ (c ++ y)) ∙ ap (λ z. a ++ (s ++ z)) (append_assoc b d (c ++ y)))

@@ -57,9 +57,9 @@ four_or n = go (nat_eq n 4) refl
     go true e = inl (eqb-true n 4 e)
     go false e = inr (λ f. absurd (grind (arith, nat_tests, e, f)))
 
--- The place behind these elements, where W is wrong: the bytes up to it show the fault. Where there
--- are four elements the message has it. Where there are more or fewer, it is that of a header, or
--- the one of their number.
+-- The place after these elements, if W is wrong: the bytes up to it show the fault. Where there are
+-- four elements the message has it. If there are more or fewer, it is that of a header, or the one
+-- of their number.
 pub record Place (limits : Bounds) (f : Form) (done : Trees) (W : CoseFault → Tree → Type 0) : Type 0 where
   pub in_place : AreInPlace limits done
   pub shows : (b items rest : List ℕ) (o : Option ℕ) (v : Tree) (e : CoseFault) → RightUpTo limits b o done items → Front items (limits.nesting - 2) v rest → W e v → ShowsFault limits b e
@@ -67,7 +67,7 @@ pub record Place (limits : Bounds) (f : Form) (done : Trees) (W : CoseFault → 
       → (tree_count (append done (one_more v ms)) ≡ 4 → WrongForm limits f (array (append done (one_more v ms))) e)
       × ((e ≡ unexpected) ⊎ IsHeaderFault limits (append done (one_more v ms)) e)
 
--- the payload is cut, or memory was refused while it was fed
+-- the payload is cut, or it is out of memory while it was fed
 short_fault : (k n stop : ℕ) (x rest : List ℕ) (w : Why) → Title x (Bytes (Some n)) → ShortFault n rest w → PartFault k NoneWrong stop (x ++ rest) w
 short_fault k n stop x rest (damaged end) t d =
     let s : Begins (x ++ rest) (Bytes (Some n)) rest = record { title = x; is_title = t; whole = refl } in
@@ -139,7 +139,7 @@ module _ (limits : Bounds) where
     is_four = w.is_four;
   }
 
-  -- damage behind the elements that are read
+  -- damage after the elements that are read
   pub within_damage : 2 ≤ limits.nesting → (stop : ℕ) (f : Form) (o : Option ℕ) (done : Trees) (x rest : List ℕ) (e : Fault) → Within limits f o done x → Due (Array o) (tree_count done) rest
       → Damage stop rest (limits.nesting - 2) e → Damage stop (x ++ rest) limits.nesting e
   within_damage least stop f o done x rest e w due d =
@@ -346,7 +346,7 @@ module _ (limits : Bounds) where
   close_tells least ends l₀ l₁ o₀ o₁ room f o done e t right four unsized k =
       tells_behind ends l₀ l₁ o₀ o₁ 0 room (Within limits f o done) CloseFault (UnstreamedBy limits) e t (omega arith) (λ stop x rest w le p d. close_fault least f o done right unsized four stop x rest w p d) k
 
-  -- memory was refused where nothing is read
+  -- there was no memory if nothing is read
   pub refused_tells : (l₀ l₁ : Option (List ℕ)) (o₀ o₁ : ℕ) (f : Form) (o : Option ℕ) (done : Trees) → Moves l₀ l₁ o₀ o₁ (Within limits f o done)
       → IfKnown l₀ (λ b. UnstreamedBy limits (o₀ + length b) b refused)
   refused_tells l₀ l₁ o₀ o₁ f o done t = go l₀ l₁ t

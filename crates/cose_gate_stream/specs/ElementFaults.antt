@@ -91,7 +91,7 @@ SizeFault stop b without_payload =
 SizeFault stop b without_length = (rest : List ℕ) × Begins b (Bytes None) rest
 SizeFault stop b refused = ⊥
 
--- fewer than n bytes are left, or memory was refused to the judge
+-- fewer than n bytes are left, or it is out of memory to the judge
 abbrev pub ShortFault : ℕ → List ℕ → Why → Type 0
 ShortFault n b (damaged end) = length b < n
 ShortFault n b (damaged deep) = ⊥
@@ -115,7 +115,7 @@ CloseFault stop b without_payload = ⊥
 CloseFault stop b without_length = ⊥
 CloseFault stop b refused = ⊥
 
--- the lengths have grown by those of n bytes that were cut by the room
+-- the lengths have grown by those of n bytes that were cut by the space
 abbrev pub Split : ℕ → ℕ → List ℕ → List ℕ → Type 0
 Split n room old new = (pieces : List ℕ) × (new ≡ old ++ pieces) × Cut room n pieces
 

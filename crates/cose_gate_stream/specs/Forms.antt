@@ -18,7 +18,7 @@ kind_of form.Mac0 = kind.Mac0
 abbrev pub tag_number : Form → ℕ
 tag_number f = number_of (kind_of f)
 
--- the text that stands first in its structure
+-- the text that is first in its structure
 abbrev pub context_of : Form → List ℕ
 context_of form.Sign1 = signature_text CoseSign1
 context_of form.Mac0 = mac_text CoseMac0

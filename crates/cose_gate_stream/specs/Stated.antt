@@ -29,8 +29,8 @@ closing None = 255 ∷ []
 closing (Some n) = []
 
 -- the list is a tag of such a message, the title of an array of four, the spellings of two items,
--- the title of a byte string of the length n, n bytes, the spelling of one item, and a break where
--- the array is open (RFC 8949, section 3)
+-- the title of a byte string of the length n, n bytes, the spelling of one item, and a break if the
+-- array is open (RFC 8949, section 3)
 pub record Stated (b : List ℕ) (n : ℕ) : Type 0 where
   pub number : ℕ
   pub is_single : IsSingleTag number
@@ -54,13 +54,13 @@ pub record Stated (b : List ℕ) (n : ℕ) : Type 0 where
   pub whole : b ≡ tag_title
       ++ (array_title ++ (headers ++ (length_title ++ (payload ++ (last ++ closing count)))))
 
--- the lengths of n bytes that come in pieces: each piece is as long as the room and the bytes to
+-- the lengths of n bytes that come in pieces: each piece is as long as the space and the bytes to
 -- come allow, and none is empty
 abbrev pub Cut : ℕ → ℕ → List ℕ → Type 0
 Cut room n [] = n ≡ 0
 Cut room n (p ∷ ps) = (p ≡ min n room) × (0 < n) × Cut room (n - p) ps
 
--- the lengths end with those of n bytes that were cut by the room
+-- the lengths end with those of n bytes that were cut by the space
 pub record InPieces (n room : ℕ) (lengths : List ℕ) : Type 0 where
   pub front : List ℕ
   pub pieces : List ℕ

@@ -1,4 +1,4 @@
--- What the streaming road answers, over the bytes that were to come.
+-- What the streaming check answers, over the bytes that were to come.
 use Rattle.std.specs.Prelude.{◌≡◌, ◌≢◌, ℕ, ◌+◌, ◌-◌, ◌^◌, ◌<◌, ◌≤◌, max, ◌⊎◌, List, ◌∷◌, ◌++◌, length, Option, None, Bool, false, IsTrue, Result, Ok, Err, is_none, if◌then◌else◌}
 use Rattle.ciborium_ll.specs.declared.hdr.Header.{Header}
 use Rattle.ciborium_ll.specs.declared.hdr.Header.TheVariants.{Simple, Tag, Bytes, Array, Break}
@@ -40,7 +40,7 @@ pub record CheckedBy {T : Type 0} (limits : Bounds) (decided : T → Question �
   pub tells : told' ≡ folded_over decided told (questions message aad)
   pub pieces : InPieces size room lengths
 
--- within the limits where none are chosen
+-- within the limits if none are chosen
 abbrev pub Checked : {T : Type 0} → (T → Question → T) → (Question → Bool) → List ℕ → T → T → ℕ
     → List ℕ → Bool → List ℕ → Type 0
 Checked decided allows aad told told' room lengths answer b =
@@ -54,7 +54,7 @@ pub data Why : Type 0 where
   shape : CoseFault → Why
   without_payload without_length refused : Why
 
--- a fault of decoding and one of shape never hold want of memory
+-- a fault of decoding and one of shape never hold being out of memory
 abbrev pub HoldsNoMemory : {E : Type 0} → StreamFault E → Type 0
 HoldsNoMemory (fault.Decode e) = IsNoMemory e
 HoldsNoMemory fault.NotTagged = Unit {0}
@@ -80,12 +80,12 @@ Tells ends D long fault.Detached = D without_payload
 Tells ends D long fault.Unsized = D without_length
 Tells ends D long fault.Memory = D refused
 
--- offsets pass what they can be, where so many bytes are asked for at a time
+-- offsets pass what they can be, if so many bytes are asked for at a time
 abbrev pub IsLongFor : ℕ → ℕ → List ℕ → Type 0
 IsLongFor room at b = 2 ^ 64 ≤ at + length b + max 4096 room
 
--- what a fault says of the bytes that were to come, where they are known; D is over the place
--- behind them, and over them
+-- what a fault says of the bytes that were to come, where they are known; D is over the place after
+-- them, and over them
 abbrev pub NamesWhy : {E : Type 0} → (E → Bool) → (ℕ → List ℕ → Why → Type 0) → ℕ → Seen
     → StreamFault E → Type 0
 NamesWhy ends D room old f =
@@ -137,7 +137,7 @@ pub record Opening (limits : Bounds) (b : List ℕ) (h : Header) : Type 0 where
   pub title : Begins third h behind
 
 -- what shows that bytes with the tag of such a message begin none. In front of the fault all is
--- right; what stands behind it may be cut or damaged.
+-- right; what is after it may be cut or damaged.
 pub data ShowsFault (limits : Bounds) (b : List ℕ) : CoseFault → Type 0 where
   no_array_of_four : (number : ℕ) (inside items : List ℕ) (h : Header) → IsSingleTag number
       → Begins b (Tag number) inside → Begins inside h items
@@ -179,8 +179,8 @@ IsHeaderFault limits (one_more a no_trees) e = WrongProtected limits.nesting a l
 IsHeaderFault limits (one_more a (one_more b ts)) e =
     WrongProtected limits.nesting a limits.layers e ⊎ WrongHeader limits.nesting b limits.layers e
 
--- a fault that the item has as a message of its tag. Where an open array ends at another length,
--- that is seen behind its headers, and so a fault of one of these may be named in its place.
+-- a fault that the item has as a message of its tag. If an open array ends at another length, that
+-- is seen after its headers, and so a fault of one of these may be named in its place.
 abbrev pub IsShapeFault : Bounds → List ℕ → Tree → CoseFault → Type 0
 IsShapeFault limits b t e =
     IsMisshapen limits t e
@@ -198,8 +198,8 @@ pub record IsBegun (b : List ℕ) : Type 0 where
   pub is_four : IsFour count
 
 -- why the bytes are no message that is checked within these limits. A fault of shape is shown by
--- the bytes up to the first part that is wrong, whether or not an item is readable, and where one
--- is, it has this fault.
+-- the bytes up to the first part that is wrong, whether or not an item is readable, and if one is,
+-- it has this fault.
 abbrev pub UnstreamedBy : Bounds → ℕ → List ℕ → Why → Type 0
 UnstreamedBy limits stop b (damaged f) = Damaged stop b limits.nesting f
 UnstreamedBy limits stop b untagged =
@@ -214,7 +214,7 @@ UnstreamedBy limits stop b without_payload =
 UnstreamedBy limits stop b without_length = Opening limits b (Bytes None)
 UnstreamedBy limits stop b refused = IsBegun b
 
--- within the limits where none are chosen
+-- within the limits if none are chosen
 abbrev pub Unstreamed : ℕ → List ℕ → Why → Type 0
 Unstreamed stop b w = UnstreamedBy usual stop b w
 
@@ -237,7 +237,7 @@ abbrev pub failures : {T E : Type 0} → (E → Bool) → Result T (StreamFault 
 failures ends (Ok x) n = n
 failures ends (Err e) n = fault_failures ends e n
 
--- every call on a decoder: a failure is counted exactly where the answer is one, the reader stays
+-- every call on a decoder: a failure is counted exactly when the answer is one, the reader stays
 -- the same, and no header waits then
 pub record Steady {T E : Type 0} (ends : E → Bool) (answer : Result T (StreamFault E))
     (old new : Seen) : Type 0 where
@@ -245,8 +245,8 @@ pub record Steady {T E : Type 0} (ends : E → Bool) (answer : Result T (StreamF
   pub handle : new.handle ≡ old.handle
   pub waiting : new.waiting ≡ None
 
--- Ok, or a fault that says nothing of the bytes: want of memory, a failure of the device, offsets
--- that grow too long
+-- Ok, or a fault that says nothing of the bytes: being out of memory, a failure of the device,
+-- offsets that grow too long
 abbrev pub Answered : {E : Type 0} → (E → Bool) → Type 0 → Result Bool (StreamFault E) → Type 0
 Answered ends long (Ok answer) = Unit {0}
 Answered ends long (Err (fault.Decode (de.Io e))) = IsTrue (ends e) → ⊥
@@ -270,7 +270,7 @@ AnswersStatedBy limits ends room old result =
     → b ≡ front ++ rest → Reads front limits.nesting item → IsJudged limits item message
     → IsSingle message → Stated front size → Answered ends (IsLongFor room old.offset b) result)
 
--- within the limits where none are chosen
+-- within the limits if none are chosen
 abbrev pub AnswersStated : {E : Type 0} → (E → Bool) → ℕ → Seen → Result Bool (StreamFault E)
     → Type 0
 AnswersStated ends room old result = AnswersStatedBy usual ends room old result

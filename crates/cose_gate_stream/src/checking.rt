@@ -1,4 +1,4 @@
-//! The streaming road.
+//! The streaming check.
 ghost use Rattle.std.specs.Prelude.{◌≡◌, ◌<◌, IfOk, IfErr, OnErr, length};
 ghost use Rattle.ciborium_ll.specs.Seen.{Takes};
 ghost use Rattle.ciborium_ll.specs.Views.{seen};
@@ -58,11 +58,11 @@ fn streamed<R: Read, J: Judge>(
 ///
 /// # Errors
 /// `NotTagged` and `OtherTag` by the first title. `Detached` and `Unsized` by the title in the
-/// payload's place, behind two headers. `Shape` with the fault of the first part that is wrong,
-/// also where what follows is damaged. Where an item is readable, it has this fault as a message
-/// of its tag; of an open array that ends at another length, the fault may be one of a header.
-/// `Decode` where no item is readable, or the reader failed. `Memory`: behind the tag of such a
-/// message and the title of an array of four. `Shape` comes behind such a tag too.
+/// payload's place, after two headers. `Shape` with the fault of the first part that is wrong, also
+/// if what follows is damaged. If an item is readable, it has this fault as a message of its tag;
+/// of an open array that ends at another length, the fault may be one of a header. `Decode` if no
+/// item is readable, or the reader failed. `Memory`: after the tag of such a message and the title
+/// of an array of four. `Shape` comes after such a tag too.
 pub fn stream_check<R: Read, J: Judge>(
     alloc: Global,
     decoder: &mut Decoder<R>,
@@ -85,8 +85,8 @@ pub fn stream_check<R: Read, J: Judge>(
     ensures who { J.who judge.new ≡ J.who judge.old }
     ensures steady { Steady R.ends result (seen R.Read decoder.old) (seen R.Read decoder.new) }
 
-    // Where such a message is in front, it is answered: no fault but want of memory, the device's,
-    // or an offset that grows too long.
+    // If such a message is in front, it is answered: no fault but being out of memory, the
+    // device's, or an offset that grows too long.
     ensures exactly { AnswersStated R.ends (length buffer.old) (seen R.Read decoder.old) result }
 {
     stream_check_with(alloc, Limits::default(), decoder, buffer, aad, judge)
@@ -123,8 +123,8 @@ pub fn stream_check_with<R: Read, J: Judge>(
     ensures who { J.who judge.new ≡ J.who judge.old }
     ensures steady { Steady R.ends result (seen R.Read decoder.old) (seen R.Read decoder.new) }
 
-    // Where such a message is in front, it is answered: no fault but want of memory, the device's,
-    // or an offset that grows too long.
+    // If such a message is in front, it is answered: no fault but being out of memory, the
+    // device's, or an offset that grows too long.
     ensures exactly { AnswersStatedBy (plain (nesting_of limits) (layers_of limits)) R.ends
         (length buffer.old) (seen R.Read decoder.old) result }
 {

@@ -19,8 +19,8 @@ pub enum StreamFault<E> {
     /// The first title is no tag.
     #[error("NotTagged")]
     NotTagged,
-    /// The first title is the tag of no message that this road checks: any but those of a
-    /// COSE_Sign1 and a COSE_Mac0 (RFC 9052, section 2).
+    /// The first title is the tag of no message that this way checks: any but those of a COSE_Sign1
+    /// and a COSE_Mac0 (RFC 9052, section 2).
     #[error("OtherTag: {0}")]
     OtherTag(u64),
     /// The item is no message of its tag. It never holds `Memory`.
@@ -32,7 +32,7 @@ pub enum StreamFault<E> {
     /// The payload is a byte string that doesn't state its length in front.
     #[error("Unsized")]
     Unsized,
-    /// Memory was refused, to the judge too.
+    /// Out of memory, also the judge's.
     #[error("memory")]
     Memory,
 }
@@ -95,7 +95,7 @@ pub fn not_four<E>() -> StreamFault<E>
     StreamFault::Shape(CoseError::UnexpectedItem("array", "array with 4 items"))
 }
 
-/// The fault of an item with this title where another kind was expected.
+/// The fault of an item with this title if another kind was expected.
 pub fn other_kind<E>(header: Header, want: &'static str) -> StreamFault<E>
     ensures { IsUnexpected result }
 {

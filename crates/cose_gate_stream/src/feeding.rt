@@ -15,8 +15,8 @@ use cose_gate_core::Judge;
 use coset_structures::bytes_title;
 use std::alloc::AllocError;
 
-/// Feeds what stands in front of the payload's bytes in the structure (RFC 9052, sections 4.4 and
-/// 6.3). The length of each byte string is written anew, by its shortest title.
+/// Feeds what is in front of the payload's bytes in the structure (RFC 9052, sections 4.4 and 6.3).
+/// The length of each byte string is written anew, by its shortest title.
 pub fn feed_front<J: Judge>(
     form: Form,
     protected: &[u8],

@@ -2,8 +2,8 @@
 ghost use Rattle.std.specs.Prelude.{◌≡◌, ◌≤◌, ◌<◌, ◌+◌, ◌*◌, ℕ, List, All, length, sum, ◌++◌};
 ghost use Rattle.cose_gate_stream.specs.Stated.{Stated, Cut};
 
-/// Pieces by a room are all the bytes: their lengths add up to n, none is longer than the room, and
-/// they are no more than n divided by the room, rounded up.
+/// Pieces by a space are all the bytes: their lengths add up to n, none is longer than the space,
+/// and they are no more than n divided by the space, rounded up.
 pub fn pieces_fit()
     ensures sum { (room n : ℕ) (pieces : List ℕ) → Cut room n pieces → sum pieces ≡ n }
     ensures each { (room n : ℕ) (pieces : List ℕ) → Cut room n pieces

@@ -1,4 +1,4 @@
-//! The streaming road: one message with one signature or tag is checked while its payload passes
+//! The streaming check: one message with one signature or tag is checked while its payload passes
 //! through the caller's buffer, so that a device with little memory gets the gate's verdict on a
 //! payload that it can't hold (RFC 9052, sections 4.2, 4.4, 6.2 and 6.3).
 #![tactic(auto)]

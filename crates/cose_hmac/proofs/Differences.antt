@@ -4,7 +4,7 @@ use Rattle.std.proofs.lemmas.Nat.{and_le_l, and_le_r, le_or_l, le_or_r}
 use Rattle.std.proofs.lemmas.Grind.{same_number_lists}
 use Rattle.std.specs.Int.Bits.{xor_add_and, xor_self, or_zero_l}
 
--- no bit differs exactly where the first n bytes are equal
+-- no bit differs exactly when the first n bytes are equal
 pub record Differs (a b : List ℕ) (n d : ℕ) : Type 0 where
   pub none : d ≡ 0 → (k : ℕ) → k < n → get_or a k 0 ≡ get_or b k 0
   pub some : ((k : ℕ) → k < n → get_or a k 0 ≡ get_or b k 0) → d ≡ 0

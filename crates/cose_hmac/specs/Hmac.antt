@@ -2,7 +2,7 @@
 use Rattle.std.specs.Prelude.{ℕ, ◌-◌, List, ◌++◌, length, map, replicate, bit_xor, nat_lt, if◌then◌else◌}
 use Rattle.sha2.specs.Sha256.{sha256}
 
--- a key with zeros behind it, up to a block
+-- a key with zeros after it, up to a block
 abbrev pub padded : List ℕ → List ℕ
 padded key = key ++ replicate (64 - length key) 0
 

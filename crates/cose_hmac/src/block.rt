@@ -8,7 +8,7 @@ use sha2::{Digest, Sha256};
 /// The bytes of a block.
 const BLOCK: usize = 64;
 
-/// A key with zeros behind it.
+/// A key with zeros after it.
 fn with_zeros(key: &[u8]) -> [u8; BLOCK]
     requires { length key.now ≤ 64 }
     ensures { result ≡ padded key.now }

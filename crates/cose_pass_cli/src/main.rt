@@ -1,5 +1,6 @@
-//! `cose-pass [--strict] ACCEPTED [AADHEX]`: reads a CBOR sequence from standard input, and writes the messages all of whose signatures
-//! were accepted to standard output. ACCEPTED is a file with the accepted records, AADHEX the external data in hex.
+//! `cose-pass [--strict] ACCEPTED [AADHEX]`: reads a CBOR sequence from standard input, and writes
+//! the messages all of whose signatures were accepted to standard output. ACCEPTED is a file with
+//! the accepted records, AADHEX the external data in hex.
 #![tactic(auto)]
 
 use ciborium_ll::Io;

@@ -1,4 +1,5 @@
--- What is written of a message that was read has its fields again, nests no deeper, and is read again.
+-- What is written of a message that was read has its fields again, nests no deeper, and is read
+-- again.
 use Rattle.std.proofs.Common.{ℕ, [], ◌∷◌, Some}
 use Rattle.ciborium_value.specs.Tree.{bytes}
 use Rattle.coset_message_parts.proofs.Kept.{Kept, bytes_kept, whole_kept}

@@ -1,4 +1,4 @@
--- An authenticated message that was read is as written exactly where the test on its value says so.
+-- An authenticated message that was read is as written exactly when the test on its value says so.
 use Rattle.std.proofs.Common.{◌≡◌, ℕ, List, [], ◌∷◌, true, Option, None, Some, option_map, refl, sym, ap, subst, ◌∙◌}
 use Rattle.std.specs.Prelude.{◌&&◌, Decides}
 use Rattle.ciborium_value.specs.Tree.{Tree, bytes, array}

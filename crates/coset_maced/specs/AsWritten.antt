@@ -1,5 +1,6 @@
--- Whether a value that is read as a COSE_Mac is already the one that would be written, decided from the value alone: its unprotected header
--- is, and so are its recipients. Of other values these tests say nothing.
+-- Whether a value that is read as a COSE_Mac is already the one that would be written, decided from
+-- the value alone: its unprotected header is, and so are its recipients. Of other values these
+-- tests say nothing.
 use Rattle.std.specs.Prelude.{Bool, false, ◌&&◌}
 use Rattle.ciborium_value.specs.Tree.{Tree, array, Trees, one_more}
 use Rattle.coset_headers.specs.AsWritten.{elements_stand}

@@ -1,4 +1,5 @@
--- The fields of authenticated messages, as values that hold no memory (RFC 9052, sections 6.1 and 6.2).
+-- The fields of authenticated messages, as values that hold no memory (RFC 9052, sections 6.1 and
+-- 6.2).
 use Rattle.std.specs.Prelude.{ℕ, List, [], Option, None}
 use Rattle.coset_headers.specs.Fields.{HeaderFields, ProtectedFields, protected, no_header}
 use Rattle.coset_recipients.specs.Fields.{RecipientsFields, no_recipients}

@@ -1,5 +1,5 @@
--- Which fields a value has as an authenticated message (RFC 9052, sections 6.1 and 6.2). The nesting limit `n` and the layers `k` are those
--- of headers.
+-- Which fields a value has as an authenticated message (RFC 9052, sections 6.1 and 6.2). The
+-- nesting limit `n` and the layers `k` are those of headers.
 use Rattle.std.specs.Prelude.{◌≡◌, ℕ, [], ◌∷◌}
 use Rattle.ciborium_value.specs.Tree.{Tree, bytes}
 use Rattle.coset_message_parts.specs.Fields.{parts}

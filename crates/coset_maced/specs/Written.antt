@@ -1,5 +1,5 @@
--- The value that stands for the fields of an authenticated message (RFC 9052, sections 6.1 and 6.2). There is none where a header can't be
--- written.
+-- The value that stands for the fields of an authenticated message (RFC 9052, sections 6.1 and
+-- 6.2). There is none if a header can't be written.
 use Rattle.std.specs.Prelude.{[], ◌∷◌, Option, Some}
 use Rattle.ciborium_value.specs.Tree.{Tree, bytes}
 use Rattle.coset_message_parts.specs.Fields.{parts}

@@ -1,5 +1,5 @@
--- Which fault a value has as an authenticated message (RFC 9052, sections 6.1 and 6.2). A value may have several. The nesting limit `n` and
--- the layers `k` are those of the fields.
+-- Which fault a value has as an authenticated message (RFC 9052, sections 6.1 and 6.2). A value may
+-- have several. The nesting limit `n` and the layers `k` are those of the fields.
 use Rattle.std.specs.Prelude.{◌≡◌, ◌≢◌, ℕ, [], ◌∷◌, false}
 use Rattle.std.proofs.Common.{inl, inr, refl}
 use Rattle.ciborium_value.specs.Tree.{Tree, array, Trees, tree_count, is_bytes}

@@ -92,7 +92,7 @@ pub fn mac_fits(message: &CoseMac)
 }
 
 /// A message that was read from bytes is read again of the bytes that it is written as, the same,
-/// received bytes included. So is one that was read behind its tag and is written with it.
+/// received bytes included. So is one that was read after its tag and is written with it.
 pub fn mac0_reads_again(message: &CoseMac0)
     ensures item { (b : List ℕ) (u : Tree)
         → HasItem (λ t m. HasMac0 nesting t m layers) b (mac0_view message.now)
@@ -124,7 +124,7 @@ pub fn mac_reads_again(message: &CoseMac)
     read_is_short();
 }
 
-/// Messages are equal where they say the same and their protected headers have the same received
+/// Messages are equal if they say the same and their protected headers have the same received
 /// bytes, or none.
 pub fn mac0_compare(a: &CoseMac0, b: &CoseMac0)
     ensures { IsTrue (⟦<CoseMac0 as std::cmp::PartialEq>⟧.eq a.now b.now)

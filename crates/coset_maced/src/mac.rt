@@ -20,7 +20,7 @@ pub struct CoseMac {
     pub protected: ProtectedHeader,
     /// The unprotected header.
     pub unprotected: Header,
-    /// What the tag covers; `None` where it is carried elsewhere.
+    /// What the tag covers; `None` if it is carried elsewhere.
     pub payload: Option<Vec<u8>>,
     /// The tag.
     pub tag: Vec<u8>,
@@ -45,7 +45,7 @@ impl CoseMac {
     /// A message equal to this one.
     ///
     /// # Errors
-    /// Only where memory is refused.
+    /// Only if out of memory.
     pub fn clone(&self, alloc: Global) -> Result<CoseMac, AllocError>
         ensures { IfOk result (λ copy. mac_view copy ≡ mac_view self.now) }
     {
@@ -66,7 +66,7 @@ impl CoseMac {
     /// The bytes that the tag covers with this payload, the MAC_structure (RFC 9052, section 6.3).
     ///
     /// # Errors
-    /// `DuplicateMapKey` exactly where a label stands twice in a protected header that has to be
+    /// `DuplicateMapKey` exactly when a label is twice in a protected header that has to be
     /// encoded, or `Memory`.
     pub fn covered(&self, alloc: Global, payload: &[u8], aad: &[u8]) -> Result<Vec<u8>, CoseError>
         ensures { Writes (mac_covered_with (mac_view self.now) payload.now aad.now) (λ v. v.items)
@@ -92,7 +92,7 @@ impl CoseMac {
     ///
     /// # Errors
     /// `Caller` with the verifier's error. `Cose`, before the verifier is asked, with
-    /// `DuplicateMapKey` exactly where a label stands twice in a protected header that has to be
+    /// `DuplicateMapKey` exactly when a label is twice in a protected header that has to be
     /// encoded, or with `Memory`.
     pub fn verify_tag<E, V: FnOnce(&[u8], &[u8]) -> Result<(), E>>(
         &self,
@@ -112,7 +112,7 @@ impl CoseMac {
         verifier(self.tag.as_slice(), data.as_slice()).map_err(Fault::Caller)
     }
 
-    /// As `verify_tag`, also where no payload is carried.
+    /// As `verify_tag`, also if no payload is carried.
     ///
     /// # Errors
     /// `Caller` with the error of a missing payload, before anything else; else as of `verify_tag`.

@@ -19,7 +19,7 @@ pub struct CoseMac0 {
     pub protected: ProtectedHeader,
     /// The unprotected header.
     pub unprotected: Header,
-    /// What the tag covers; `None` where it is carried elsewhere.
+    /// What the tag covers; `None` if it is carried elsewhere.
     pub payload: Option<Vec<u8>>,
     /// The tag.
     pub tag: Vec<u8>,
@@ -41,7 +41,7 @@ impl CoseMac0 {
     /// A message equal to this one.
     ///
     /// # Errors
-    /// Only where memory is refused.
+    /// Only if out of memory.
     pub fn clone(&self, alloc: Global) -> Result<CoseMac0, AllocError>
         ensures { IfOk result (λ copy. mac0_view copy ≡ mac0_view self.now) }
     {
@@ -60,7 +60,7 @@ impl CoseMac0 {
     /// The bytes that the tag covers with this payload, the MAC_structure (RFC 9052, section 6.3).
     ///
     /// # Errors
-    /// `DuplicateMapKey` exactly where a label stands twice in a protected header that has to be
+    /// `DuplicateMapKey` exactly when a label is twice in a protected header that has to be
     /// encoded, or `Memory`.
     pub fn covered(&self, alloc: Global, payload: &[u8], aad: &[u8]) -> Result<Vec<u8>, CoseError>
         ensures { Writes (mac0_covered_with (mac0_view self.now) payload.now aad.now) (λ v. v.items)
@@ -86,7 +86,7 @@ impl CoseMac0 {
     ///
     /// # Errors
     /// `Caller` with the verifier's error. `Cose`, before the verifier is asked, with
-    /// `DuplicateMapKey` exactly where a label stands twice in a protected header that has to be
+    /// `DuplicateMapKey` exactly when a label is twice in a protected header that has to be
     /// encoded, or with `Memory`.
     pub fn verify_tag<E, V: FnOnce(&[u8], &[u8]) -> Result<(), E>>(
         &self,
@@ -106,7 +106,7 @@ impl CoseMac0 {
         verifier(self.tag.as_slice(), data.as_slice()).map_err(Fault::Caller)
     }
 
-    /// As `verify_tag`, also where no payload is carried.
+    /// As `verify_tag`, also if no payload is carried.
     ///
     /// # Errors
     /// `Caller` with the error of a missing payload, before anything else; else as of `verify_tag`.

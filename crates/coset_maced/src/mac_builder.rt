@@ -81,7 +81,7 @@ impl CoseMacBuilder {
     /// Appends a recipient.
     ///
     /// # Errors
-    /// Only where memory is refused.
+    /// Only if out of memory.
     pub fn add_recipient(mut self, recipient: CoseRecipient) -> Result<CoseMacBuilder, CoseError>
         ensures { MatchResult result
             (λ b. mac_so_far b
@@ -100,8 +100,8 @@ impl CoseMacBuilder {
     /// carried.
     ///
     /// # Errors
-    /// Before the signer is asked: `DuplicateMapKey` exactly where a label stands twice in the
-    /// protected header, or `Memory`.
+    /// Before the signer is asked: `DuplicateMapKey` exactly when a label is twice in the protected
+    /// header, or `Memory`.
     pub fn create_tag<S: FnOnce(&[u8]) -> Vec<u8>>(
         self,
         alloc: Global,

@@ -32,7 +32,8 @@ impl<'a> Source<'a> {
         }
     }
 
-    /// `FailAt`: gives so many of these bytes, or all where there are no more, and then fails whenever it is asked for more.
+    /// `FailAt`: gives so many of these bytes, or all if there are no more, and then fails whenever
+    /// it is asked for more.
     pub fn fail_at(bytes: &'a [u8], count: usize) -> Source<'a> {
         Source::new(&bytes[..count.min(bytes.len())], &[])
     }
@@ -117,7 +118,8 @@ impl Write for Sink {
     }
 }
 
-/// A writer that takes so many bytes and then fails: of data that is longer than what is left of them it takes the part that fits.
+/// A writer that takes so many bytes and then fails: of data that is longer than what is left of
+/// them it takes the part that fits.
 #[derive(Drop)]
 pub struct FailAfter {
     /// What was taken.
@@ -164,7 +166,8 @@ impl Write for FailAfter {
     }
 }
 
-/// A writer whose bytes are shown only when it is flushed. It flushes so many times, and then fails.
+/// A writer whose bytes are shown only when it is flushed. It flushes so many times, and then
+/// fails.
 #[derive(Drop)]
 pub struct Held {
     bytes: Vec<u8>,
@@ -220,7 +223,7 @@ impl Write for Held {
 pub struct OneByOne<'a> {
     /// The bytes to come.
     pub bytes: &'a [u8],
-    /// Whether it fails behind them.
+    /// Whether it fails after them.
     pub is_broken: bool,
 }
 

@@ -1,5 +1,6 @@
-//! Fakes for tests: readers and writers that fail in mid-stream, a reader of std that gives one byte a call, a reader of a message
-//! that isn't held in memory, a judge or a report that is refused memory, a judge that goes by a signature's length, and one that counts.
+//! Fakes for tests: readers and writers that fail in mid-stream, a reader of std that gives one
+//! byte a call, a reader of a message that isn't held in memory, a judge or a report that gets no
+//! memory, a judge that goes by a signature's length, and one that counts.
 #![tactic(auto)]
 
 mod devices;

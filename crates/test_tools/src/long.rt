@@ -1,7 +1,8 @@
 //! A message that isn't held in memory.
 use ciborium_ll::{End, Read};
 
-/// A reader that gives the bytes in front, a payload of so many zeros, and the bytes behind it. It takes no memory.
+/// A reader that gives the bytes in front, a payload of so many zeros, and the bytes after it. It
+/// takes no memory.
 #[derive(Drop)]
 pub struct LongMessage<'a> {
     pub front: &'a [u8],
@@ -9,7 +10,7 @@ pub struct LongMessage<'a> {
     pub back: &'a [u8],
 }
 
-/// Moves as many bytes as fit, and gives the room that is left.
+/// Moves as many bytes as fit, and gives the space that is left.
 fn give<'a>(bytes: &mut &[u8], data: &'a mut [u8]) -> &'a mut [u8] {
     let all: &[u8] = *bytes;
     let count = data.len().min(all.len());

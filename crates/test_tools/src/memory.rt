@@ -2,10 +2,10 @@
 use cose_gate_core::{About, Entry, Judge, Report};
 use std::alloc::AllocError;
 
-/// A judge or a report that is refused memory once, after so many calls that ask for it.
+/// A judge or a report that gets no memory once, after so many calls that ask for it.
 #[derive(Drop)]
 pub struct Nth<T> {
-    /// The judge or report that is called where memory isn't refused.
+    /// The judge or report that is called if memory isn't refused.
     pub inner: T,
     /// How many calls come before the refusal.
     pub calls: usize,

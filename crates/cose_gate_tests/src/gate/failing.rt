@@ -32,7 +32,7 @@ fn a_failed_read_is_the_answer(rt: HostRuntime) {
     for way in ways() {
         for count in 0..29 {
             stops(&rt, alloc, way, Source::fail_at(OUTPUT, count), count);
-            // a reader that would give the rest behind its fault
+            // a reader that would give the rest after its fault
             let (front, rest) = OUTPUT.split_at(count);
             stops(&rt, alloc, way, Source::new(front, rest), count);
         }
@@ -125,7 +125,7 @@ fn want_of(written: usize) -> (Answer<End>, (usize, usize, usize)) {
     match written {
         // the writer can't be flushed, and wasn't
         28 => (whole(2, 1), (2, 28, 3)),
-        // the first message was noted, and the value behind it, once it stood there
+        // the first message was noted, and the value after it, once it stood there
         14.. => (Err(GateFault::Write), (2, written, 2)),
         _ => (Err(GateFault::Write), (1, written, 0)),
     }

@@ -60,7 +60,7 @@ fn is_front(rt: &impl Abort, asked: &[Asked], written: &[u8], entries: &[Entry])
     assert!(rt; NOTED.starts_with(entries), "{entries:?}");
 }
 
-/// How far a run can be when memory is refused: how many questions, bytes and entries there are.
+/// How far a run can be when there is no memory: how many questions, bytes and entries there are.
 /// At the last one it is whole.
 const PLACES: [(usize, usize, usize); 8] = [
     (0, 0, 0),
@@ -73,7 +73,7 @@ const PLACES: [(usize, usize, usize); 8] = [
     (2, 28, 3),
 ];
 
-/// The run ended for want of memory at one of the places, or whole.
+/// The run ended for being out of memory at one of the places, or whole.
 fn ends_at(rt: &impl Abort, answer: &Answer<End>, place: (usize, usize, usize)) {
     let want = if place.2 == 3 {
         whole(2, 1)
@@ -121,8 +121,8 @@ fn refused(alloc: Global, input: &[u8], judge_calls: usize, report_calls: usize)
     }
 }
 
-/// A run over two messages with an integer between them comes so far, if memory is refused after so
-/// many calls.
+/// A run over two messages with an integer between them comes so far, if there is no memory after
+/// so many calls.
 fn is_refused(rt: &impl Abort, alloc: Global, calls: (usize, usize), want: (usize, usize, usize)) {
     let seen = refused(alloc, INPUT, calls.0, calls.1);
     assert_eq!(rt; (calls, reached(&seen)), (calls, want));
@@ -130,9 +130,9 @@ fn is_refused(rt: &impl Abort, alloc: Global, calls: (usize, usize), want: (usiz
     is_front(rt, seen.recorder.asked(), &seen.output, &seen.entries);
 }
 
-/// How many calls of the judge and of the report come before memory is refused, and how far the run
-/// comes. A question takes eight calls of the judge: it begins, and is fed the prefix, and of three
-/// byte strings the title and the bytes.
+/// How many calls of the judge and of the report come before there is no memory, and how far the
+/// run comes. A question takes eight calls of the judge: it begins, and is fed the prefix, and of
+/// three byte strings the title and the bytes.
 const REFUSALS: [((usize, usize), (usize, usize, usize)); 11] = [
     ((0, 3), (0, 0, 0)),
     ((1, 3), (0, 0, 0)),
@@ -174,7 +174,7 @@ fn is_first(asked: &Asked) -> bool {
         && asked.tag == [0; 8]
 }
 
-/// A run over it in which memory is refused to the judge after so many calls asks so many
+/// A run over it in which there is no memory to the judge after so many calls asks so many
 /// questions, the first at most, and writes nothing.
 fn is_left(rt: &impl Abort, alloc: Global, calls: usize, asked: usize) {
     let seen = refused(alloc, TWO, calls, 3);
@@ -186,8 +186,8 @@ fn is_left(rt: &impl Abort, alloc: Global, calls: usize, asked: usize) {
 }
 
 /// A question about a signature takes ten calls of the judge: it begins, and is fed the prefix, and
-/// of four byte strings the title and the bytes. If memory is refused to the judge, the
-/// questions before were asked, and nothing is written.
+/// of four byte strings the title and the bytes. If there is no memory to the judge, the questions
+/// before were asked, and nothing is written.
 #[test]
 fn memory_may_be_refused_between_signatures(rt: HostRuntime) {
     for (calls, asked) in [(0, 0), (1, 0), (9, 0), (10, 1), (19, 1)] {

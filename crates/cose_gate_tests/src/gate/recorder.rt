@@ -1,4 +1,4 @@
-//! A recorder that is refused memory, at each allocation in turn (`scripts/fail-alloc.sh`).
+//! A recorder that gets no memory, at each allocation in turn (`scripts/fail-alloc.sh`).
 use cose_gate::{About, Header, Judge, MessageKind, ProtectedHeader, Recorder};
 
 #[test]

@@ -72,7 +72,7 @@ const MAC: Example = Example {
     ],
 };
 
-/// 18([h'a1180126', {}, h'', h'']), whose label stands in two bytes.
+/// 18([h'a1180126', {}, h'', h'']), whose label is in two bytes.
 const WIDE: Example = Example {
     input: &[0xd2, 0x84, 0x44, 0xa1, 0x18, 0x01, 0x26, 0xa0, 0x40, 0x40],
     aad: &[],
@@ -127,9 +127,10 @@ fn judge(alloc: Global, no: Option<&[u8]>) -> Result<Recorder, AllocError> {
     Ok(Recorder::new(alloc, no))
 }
 
-/// The run over the example ends for want of memory, with nothing written, or the whole message if
-/// the report was refused; or as it does with enough memory. All memory is asked for by the run and
-/// its judge, so this holds whichever allocation is refused. It returns whether one was.
+/// The run over the example ends for being out of memory, with nothing written, or the whole
+/// message if the report was refused; or as it does with enough memory. All memory is asked for by
+/// the run and its judge, so this holds whichever allocation is refused. It returns whether one
+/// was.
 fn holds(rt: &impl Abort, alloc: Global, example: &Example) -> &'static str {
     let Ok(mut recorder) = judge(alloc, example.no) else {
         return "memory was refused";

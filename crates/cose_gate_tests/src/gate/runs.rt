@@ -1,4 +1,4 @@
-//! Long inputs, and what a judge is told of a message that stands alone.
+//! Long inputs, and what a judge is told of a message that is alone.
 use crate::checks::same;
 use crate::gate::seen::{Way, answered, run, whole};
 use crate::messages::MESSAGE;

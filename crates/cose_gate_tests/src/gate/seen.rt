@@ -22,7 +22,7 @@ pub enum Way {
     StrictWithin(Limits),
 }
 
-/// Each of the four calls, with the default limits where it takes some.
+/// Each of the four calls, with the default limits if it takes some.
 pub fn ways() -> [Way; 4] {
     let limits = Limits::default();
     [

@@ -39,7 +39,7 @@ fn last_read<R: io::Read>(blocks: &mut Blocks<R>, len: usize) -> Result<u8, Inpu
     }
 }
 
-/// Each read of the rows gives what stands there.
+/// Each read of the rows gives what is there.
 fn all_so<R: io::Read + Drop>(rt: &impl Abort, alloc: Global, reader: R, rows: &[Row]) {
     let buffered = BufReader::with_capacity(alloc, 4, reader).expect(rt, "no memory");
     let mut blocks = Blocks::new(buffered);

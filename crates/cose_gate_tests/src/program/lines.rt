@@ -102,7 +102,7 @@ fn a_full_writer_is_told(rt: HostRuntime) {
     assert_eq!(rt; out.bytes.as_slice(), [0xd1, 0x84, 0x43].as_slice());
 }
 
-/// The status of a run whose judge is refused memory at its first call.
+/// The status of a run whose judge gets no memory at its first call.
 fn refused_status(alloc: Global, out: &mut Mem<Vec<u8>>, err: &mut Mem<Vec<u8>>) -> u8 {
     let mut judge = Nth {
         inner: Counting::new(),
@@ -200,8 +200,8 @@ impl Run {
     }
 }
 
-/// These runs pass an open spelling where they aren't strict, and refuse it where they are; within
-/// two levels no message is read.
+/// These runs pass an open spelling if they aren't strict, and refuse it if they are; within two
+/// levels no message is read.
 fn all_so(rt: &impl Abort, alloc: Global, takes_hex: bool) {
     let plain = Run {
         takes_hex,

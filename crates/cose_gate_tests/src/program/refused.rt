@@ -4,7 +4,7 @@ use crate::program::lines::status;
 use cose_gate::Mem;
 use std::io;
 
-/// All memory here is asked for by the run: its output and its lines have theirs. So where one
+/// All memory here is asked for by the run: its output and its lines have theirs. So if one
 /// allocation is refused, whichever it is, the run says so, or goes without, as the judge does that
 /// keeps its keys prepared: the status and the lines fit together. A line says whether the run
 /// stopped.

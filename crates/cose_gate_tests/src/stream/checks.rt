@@ -6,9 +6,9 @@ use cose_gate::{Decoder, Judge, Limits, Read, StreamFault, stream_check, stream_
 use std::alloc::Global;
 use std::process::Abort;
 
-/// The answer of a check of what this reader gives, within limits where there are some, and how
-/// many bytes were taken. It has no clause but the room, so that a test that calls it carries none
-/// of `stream_check`'s.
+/// The answer of a check of what this reader gives, within limits if there are some, and how many
+/// bytes were taken. It has no clause but the space, so that a test that calls it carries none of
+/// `stream_check`'s.
 pub fn checked<R: Read + Drop, J: Judge>(
     alloc: Global,
     limits: Option<Limits>,

@@ -8,8 +8,7 @@ use std::alloc::Global;
 use std::process::Abort;
 use test_tools::{Broken, Source};
 
-/// A check stops where the reader fails, behind so many bytes of the message, and nothing is
-/// decided.
+/// A check stops if the reader fails, after so many bytes of the message, and nothing is decided.
 fn is_cut_off(
     rt: &impl Abort,
     alloc: Global,

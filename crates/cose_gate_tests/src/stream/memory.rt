@@ -38,7 +38,7 @@ fn is_answered(
     );
 }
 
-/// The judge has answered a question. It is refused memory at each of the next message's calls in
+/// The judge has answered a question. It gets no memory at each of the next message's calls in
 /// turn: `begin`, six pieces of the structure in front of the payload, and two of the payload. What
 /// it was told stays.
 #[test]
