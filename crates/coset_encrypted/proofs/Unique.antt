@@ -1,4 +1,4 @@
--- One value has the fields of at most one message, and none where it has a fault.
+-- One value has the fields of at most one message, and none if it has a fault.
 use Rattle.std.proofs.Common.{◌≡◌, ℕ}
 use Rattle.ciborium_value.specs.Tree.{Tree}
 use Rattle.coset_labels.specs.Faults.{CoseFault}

@@ -1,5 +1,5 @@
--- Which fields a value has as an encrypted message (RFC 9052, sections 5.1 and 5.2). The nesting limit `n` and the layers `k` are those of
--- headers.
+-- Which fields a value has as an encrypted message (RFC 9052, sections 5.1 and 5.2). The nesting
+-- limit `n` and the layers `k` are those of headers.
 use Rattle.std.specs.Prelude.{ℕ, [], ◌∷◌}
 use Rattle.ciborium_value.specs.Tree.{Tree}
 use Rattle.coset_message_parts.specs.Fields.{parts}

@@ -1,5 +1,5 @@
--- The value that stands for the fields of an encrypted message (RFC 9052, sections 5.1 and 5.2). There is none where a header can't be
--- written.
+-- The value that stands for the fields of an encrypted message (RFC 9052, sections 5.1 and 5.2).
+-- There is none if a header can't be written.
 use Rattle.std.specs.Prelude.{[], ◌∷◌, Option}
 use Rattle.ciborium_value.specs.Tree.{Tree}
 use Rattle.coset_message_parts.specs.Fields.{parts}

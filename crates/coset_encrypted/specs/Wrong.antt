@@ -1,5 +1,5 @@
--- Which fault a value has as an encrypted message (RFC 9052, sections 5.1 and 5.2). A value may have several. The nesting limit `n` and the
--- layers `k` are those of the fields.
+-- Which fault a value has as an encrypted message (RFC 9052, sections 5.1 and 5.2). A value may
+-- have several. The nesting limit `n` and the layers `k` are those of the fields.
 use Rattle.std.specs.Prelude.{ℕ, [], ◌∷◌}
 use Rattle.ciborium_value.specs.Tree.{Tree}
 use Rattle.coset_labels.specs.Faults.{CoseFault}

@@ -20,7 +20,7 @@ pub struct CoseEncrypt {
     pub protected: ProtectedHeader,
     /// The unprotected header.
     pub unprotected: Header,
-    /// The ciphertext; `None` where it is carried elsewhere.
+    /// The ciphertext; `None` if it is carried elsewhere.
     pub ciphertext: Option<Vec<u8>>,
     /// The recipients who can find the key.
     pub recipients: Vec<CoseRecipient>,
@@ -42,7 +42,7 @@ impl CoseEncrypt {
     /// A message equal to this one.
     ///
     /// # Errors
-    /// Only where memory is refused.
+    /// Only if out of memory.
     pub fn clone(&self, alloc: Global) -> Result<CoseEncrypt, AllocError>
         ensures { IfOk result (λ copy. encrypt_view copy ≡ encrypt_view self.now) }
     {
@@ -62,7 +62,7 @@ impl CoseEncrypt {
     /// section 5.3).
     ///
     /// # Errors
-    /// `DuplicateMapKey` exactly where a label stands twice in a protected header that has to be
+    /// `DuplicateMapKey` exactly when a label is twice in a protected header that has to be
     /// encoded, or `Memory`.
     pub fn covered(&self, alloc: Global, aad: &[u8]) -> Result<Vec<u8>, CoseError>
         ensures { Writes (encrypt_covered (encrypt_view self.now) aad.now) (λ v. v.items) result }
@@ -76,7 +76,7 @@ impl CoseEncrypt {
     ///
     /// # Errors
     /// `Caller` with the cipher's error. `Cose`, before the cipher is asked, with `DuplicateMapKey`
-    /// exactly where a label stands twice in a protected header that has to be encoded, or with
+    /// exactly when a label is twice in a protected header that has to be encoded, or with
     /// `Memory`.
     pub fn decrypt<E, C: FnOnce(&[u8], &[u8]) -> Result<Vec<u8>, E>>(
         &self,
@@ -97,7 +97,7 @@ impl CoseEncrypt {
         cipher(ciphertext, data.as_slice()).map_err(Fault::Caller)
     }
 
-    /// As `decrypt`, also where no ciphertext is carried.
+    /// As `decrypt`, also if no ciphertext is carried.
     ///
     /// # Errors
     /// `Caller` with the error of a missing ciphertext, before anything else; else as of `decrypt`.

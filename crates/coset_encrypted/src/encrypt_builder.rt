@@ -74,7 +74,7 @@ impl CoseEncryptBuilder {
     /// Appends a recipient.
     ///
     /// # Errors
-    /// Only where memory is refused.
+    /// Only if out of memory.
     pub fn add_recipient(
         mut self,
         recipient: CoseRecipient,
@@ -96,8 +96,8 @@ impl CoseEncryptBuilder {
     /// external data.
     ///
     /// # Errors
-    /// Before the cipher is asked: `DuplicateMapKey` exactly where a label stands twice in the
-    /// protected header, or `Memory`.
+    /// Before the cipher is asked: `DuplicateMapKey` exactly when a label is twice in the protected
+    /// header, or `Memory`.
     pub fn create_ciphertext<C: FnOnce(&[u8], &[u8]) -> Vec<u8>>(
         self,
         alloc: Global,

@@ -101,7 +101,7 @@ pub fn encrypt_fits(message: &CoseEncrypt)
 }
 
 /// A message that was read from bytes is read again of the bytes that it is written as, the same,
-/// received bytes included. So is one that was read behind its tag and is written with it.
+/// received bytes included. So is one that was read after its tag and is written with it.
 pub fn encrypt0_reads_again(message: &CoseEncrypt0)
     ensures item { (b : List ℕ) (u : Tree)
         → HasItem (λ t m. HasEncrypt0 nesting t m layers) b (encrypt0_view message.now)
@@ -133,7 +133,7 @@ pub fn encrypt_reads_again(message: &CoseEncrypt)
     read_is_short();
 }
 
-/// Messages are equal where they say the same and their protected headers have the same received
+/// Messages are equal if they say the same and their protected headers have the same received
 /// bytes, or none.
 pub fn encrypt0_compare(a: &CoseEncrypt0, b: &CoseEncrypt0)
     ensures { IsTrue (⟦<CoseEncrypt0 as std::cmp::PartialEq>⟧.eq a.now b.now)

@@ -1,7 +1,7 @@
 //! The messages of COSE and their recipients (RFC 9052, sections 4 to 6).
 //!
-//! A user names this crate alone: what stands in the crates below it is here under the same names,
-//! and `iana` has the registries.
+//! A user names this crate alone: what is in the crates below it is here under the same names, and
+//! `iana` has the registries.
 #![tactic(auto)]
 
 pub mod laws;
