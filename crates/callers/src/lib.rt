@@ -17,5 +17,6 @@ pub mod kinds;
 pub mod once;
 pub mod relaying;
 pub mod signing;
+pub mod straight;
 pub mod tally;
 pub mod twice;
