@@ -12,8 +12,9 @@ const TAKING: [&str; 5] = [
     "into_map",
 ];
 
-/// Each accessor that gives something of the item, with what it gives: of an array or a map that is seen how long it is, and of a part
-/// that is changed the value then, a text with a mark behind it, a map without entries. `lost` where one gives another value back.
+/// Each accessor that gives something of the item, with what it gives: of an array or a map that is
+/// seen how long it is, and of a part that is changed the value then, a text with a mark after it,
+/// a map without entries. `lost` if one gives another value back.
 pub fn accessors(to: &mut Out, item: &str) {
     let value = to.value(item);
     tell_parts(to, &value);

@@ -4,7 +4,7 @@ use crate::typed::{self, Route};
 use crate::{accessors, heads, items, labels, notation, orders, pieces, registries, shown, values};
 use cbor_diag::Style;
 
-/// The word in front. What stands behind it is left.
+/// The word in front. What is after it is left.
 fn word<'a>(row: &mut &'a str) -> &'a str {
     match row.split_once(' ') {
         Some((word, rest)) => {

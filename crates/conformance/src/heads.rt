@@ -2,7 +2,7 @@
 use crate::out::{CallError, Out};
 use ciborium_ll::{Bytes, Decoder, Encoder, Full, Header, Mem, StringKind, Text, Write, recode};
 
-/// Each header with the offset behind it, and at last the fault with the offset there.
+/// Each header with the offset after it, and at last the fault with the offset there.
 pub fn pulled(to: &mut Out, bytes: &[u8]) {
     let mut decoder = Decoder::from(bytes);
     for _ in 0..bytes.len() {
@@ -52,7 +52,7 @@ pub fn pushed(to: &mut Out, bytes: &[u8]) {
     }
 }
 
-/// The title as a slice with room for nine bytes takes it. A vector takes it first.
+/// The title as a slice with space for nine bytes takes it. A vector takes it first.
 fn title(to: &mut Out, header: Header) {
     let mut encoder = Encoder::from(Mem::new(Vec::new(to.alloc())));
     if encoder.push(header).is_err() {
@@ -76,7 +76,8 @@ fn pushed_and_flushed(out: &mut Mem<&mut [u8]>, header: Header) -> Result<(), Fu
     encoder.flush()
 }
 
-/// The header that this kind of string makes of the length in the first header, or `none` where that is of another kind.
+/// The header that this kind of string makes of the length in the first header, or `none` if that
+/// is of another kind.
 pub fn string_head(to: &mut Out, kind: &str, bytes: &[u8]) {
     let mut decoder = Decoder::from(bytes);
     match (decoder.pull(), kind) {

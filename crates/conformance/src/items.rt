@@ -4,7 +4,7 @@ use ciborium::de::{from_decoder, from_decoder_strict};
 use ciborium::{Decoder, Value};
 use coset_labels::write_to_vec;
 
-/// The shortest text of the front item and how many bytes it took, or the fault.
+/// The canonical encoding of the front item and how many bytes it took, or the fault.
 pub fn item(to: &mut Out, bytes: &[u8], limit: usize) {
     let mut decoder = Decoder::from(bytes);
     match from_decoder(to.alloc(), &mut decoder, limit) {
@@ -33,7 +33,8 @@ pub fn exact(to: &mut Out, bytes: &[u8]) {
     }
 }
 
-/// Each item of a sequence (RFC 8742) with the offset behind it, and at last the fault with the offset there.
+/// Each item of a sequence (RFC 8742) with the offset after it, and at last the fault with the
+/// offset there.
 pub fn sequence(to: &mut Out, bytes: &[u8]) {
     let mut decoder = Decoder::from(bytes);
     for _ in 0..=bytes.len() {

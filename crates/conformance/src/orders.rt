@@ -7,7 +7,7 @@ use coset_labels::{CborSerializable, Label};
 use std::cmp::Ordering;
 use std::hash::{DefaultHasher, Hash, Hasher};
 
-/// `yes` where each pair of these compares as its places do, else the first pair that does not.
+/// `yes` if each pair of these compares as its places do, else the first pair that does not.
 pub fn rising(to: &mut Out, order: &str, items: &str) {
     let mut place = 0usize;
     for a in items.split(' ') {
@@ -19,7 +19,8 @@ pub fn rising(to: &mut Out, order: &str, items: &str) {
     to.text("yes");
 }
 
-/// Whether the one in this place compares with each of these as their places do. If not, the pair is told.
+/// Whether the one in this place compares with each of these as their places do. If not, the pair
+/// is told.
 fn is_in_place(to: &mut Out, order: &str, a: &str, place: usize, items: &str) -> bool {
     let mut other = 0usize;
     for b in items.split(' ') {
@@ -104,7 +105,8 @@ fn label(to: &mut Out, word: &str) -> Label {
     }
 }
 
-/// `yes` where each of these is the same as itself and as no other, else the first pair for which that does not hold.
+/// `yes` if each of these is the same as itself and as no other, else the first pair for which that
+/// does not hold.
 pub fn distinct(to: &mut Out, relation: &str, items: &str) {
     let mut place = 0usize;
     for a in items.split(' ') {
@@ -116,7 +118,8 @@ pub fn distinct(to: &mut Out, relation: &str, items: &str) {
     to.text("yes");
 }
 
-/// Whether the one in this place is the same as itself and as no other of these. If not, the pair is told.
+/// Whether the one in this place is the same as itself and as no other of these. If not, the pair
+/// is told.
 fn is_alone(to: &mut Out, relation: &str, a: &str, place: usize, items: &str) -> bool {
     let mut other = 0usize;
     for b in items.split(' ') {

@@ -16,10 +16,11 @@ pub enum CallError {
     NotItem,
 }
 
-/// The nesting limit where a call names none.
+/// The nesting limit if a call names none.
 pub const LIMIT: usize = 256;
 
-/// A text that is appended to, and why the call has no answer, where that is so. What is appended behind a fault is told to nobody.
+/// A text that is appended to, and why the call has no answer, if that is so. What is appended
+/// after a fault is told to nobody.
 #[derive(Drop)]
 pub struct Out {
     alloc: Global,
@@ -76,7 +77,7 @@ impl Out {
         self.note(done);
     }
 
-    /// Appends this text where it is not the first.
+    /// Appends this text if it is not the first.
     pub fn divide(&mut self, text: &str) {
         if !self.is_empty() {
             self.text(text);

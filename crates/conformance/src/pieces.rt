@@ -5,7 +5,8 @@ use ciborium_ll::{Bytes, Decoder, Header, Segment, Segments, Text};
 /// More segments and more pieces than any row has.
 const MANY: usize = 64;
 
-/// How the byte string comes to a buffer with so much room, where the decoder is then, and what it pulls there.
+/// How the byte string comes to a buffer with so much space, where the decoder is then, and what it
+/// pulls there.
 pub fn of_bytes(to: &mut Out, bytes: &[u8], room: usize) {
     let mut decoder = Decoder::from(bytes);
     match decoder.pull() {
@@ -46,7 +47,8 @@ fn tell_byte_string(to: &mut Out, segments: &mut Segments<'_, &[u8], Bytes>, roo
     let _again = tell_byte_segment(to, segments, room);
 }
 
-/// Whether there was a segment. It stands in brackets: its length, its pieces, and twice that there are no more or why.
+/// Whether there was a segment. It stands in brackets: its length, its pieces, and twice that there
+/// are no more or why.
 fn tell_byte_segment(to: &mut Out, segments: &mut Segments<'_, &[u8], Bytes>, room: usize) -> bool {
     match segments.pull() {
         Ok(Some(mut segment)) => {
@@ -77,7 +79,8 @@ fn tell_byte_pieces(to: &mut Out, segment: &mut Segment<'_, '_, &[u8], Bytes>, r
     to.text("] ");
 }
 
-/// Whether there was a piece that is not empty. It stands behind a comma, with what is left of the segment.
+/// Whether there was a piece that is not empty. It stands after a comma, with what is left of the
+/// segment.
 fn tell_byte_piece(to: &mut Out, segment: &mut Segment<'_, '_, &[u8], Bytes>, room: usize) -> bool {
     let mut buffer = [0u8; 8];
     let mut is_piece = false;

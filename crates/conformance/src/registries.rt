@@ -15,8 +15,8 @@ pub fn named(to: &mut Out, registry: &str, word: &str) {
     entry(to, registry, Some(number));
 }
 
-/// The name of the registry's entry with this number, and the number again; with no number, how many entries it has from -70,000 to
-/// 70,000.
+/// The name of the registry's entry with this number, and the number again; with no number, how
+/// many entries it has from -70,000 to 70,000.
 pub fn entry(to: &mut Out, registry: &str, number: Option<i64>) {
     match registry {
         "header-parameter" => told::<HeaderParameter>(to, number),

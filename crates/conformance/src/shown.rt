@@ -1,9 +1,11 @@
-//! What is shown of an item: its notation from its heads, the members of a message, what isn't shortest in it, and where items end.
+//! What is shown of an item: its notation from its heads, the members of a message, what isn't
+//! shortest in it, and where items end.
 use crate::out::{CallError, Out};
 use cbor_diag::{Ends, Fault, NotWritten, Style, first_excess, write_item};
 use cose_notation::write_message;
 
-/// The notation of an item from its heads. Of damaged bytes what stands in front of the fault, and the fault.
+/// The notation of an item from its heads. Of damaged bytes what is in front of the fault, and the
+/// fault.
 pub fn noted(to: &mut Out, bytes: &[u8], style: Style) {
     match write_item(to.alloc(), bytes, style, 0, to) {
         Ok(len) => {
@@ -35,7 +37,7 @@ pub fn members(to: &mut Out, bytes: &[u8]) {
     }
 }
 
-/// What comes first in an item that its shortest text hasn't, and where.
+/// What comes first in an item that its canonical encoding hasn't, and where.
 pub fn excess(to: &mut Out, bytes: &[u8]) {
     match first_excess(to.alloc(), bytes) {
         Ok(None) => to.text("none"),
@@ -48,7 +50,8 @@ pub fn excess(to: &mut Out, bytes: &[u8]) {
     }
 }
 
-/// Where the items of a sequence end that comes in blocks of at most so many bytes, and at last how the last block leaves it.
+/// If the items of a sequence end that comes in blocks of at most so many bytes, and at last how
+/// the last block leaves it.
 pub fn ends(to: &mut Out, bytes: &[u8], block: usize) {
     let mut ends = Ends::new(to.alloc());
     let mut at = 0usize;

@@ -75,8 +75,8 @@ fn named(to: &mut Out, name: &str) -> CoseError {
     CoseError::Memory
 }
 
-/// The fault with this name, which is that of its error, behind `Caller.` where the caller's code
-/// gave it.
+/// The fault with this name, which is that of its error, after `Caller.` if the caller's code gave
+/// it.
 fn fault(to: &mut Out, name: &str) -> Fault<CoseError> {
     match name.strip_prefix("Caller.") {
         Some(name) => Fault::Caller(named(to, name)),

@@ -15,7 +15,7 @@ pub fn limits(to: &mut Out, nesting: &str, layers: &str) -> Option<Limits> {
     Limits::new(nesting, layers)
 }
 
-/// The nesting and the layers, or `none` where they are no limits.
+/// The nesting and the layers, or `none` if they are no limits.
 pub fn new(to: &mut Out, nesting: &str, layers: &str) {
     match limits(to, nesting, layers) {
         Some(limits) => {

@@ -6,7 +6,7 @@ use std::fmt::{Debug, Display};
 /// Why a row has no answer.
 #[derive(Clone, Copy)]
 pub enum NoAnswer {
-    /// Memory was refused.
+    /// Out of memory.
     Memory,
     /// No call has this name and so many arguments.
     NoCall,
@@ -14,7 +14,7 @@ pub enum NoAnswer {
     NoArgument,
 }
 
-/// A text that is appended to, and the first reason why there is no answer, where there is one.
+/// A text that is appended to, and the first reason why there is no answer, if there is one.
 #[derive(Drop)]
 pub struct Out {
     alloc: Global,
@@ -109,7 +109,7 @@ impl Out {
         }
     }
 
-    /// Appends another text. Where that has no answer, this one has none.
+    /// Appends another text. If that has no answer, this one has none.
     pub fn append(&mut self, other: &Out) {
         self.text(other.as_str());
         if let Some(why) = other.fault() {
@@ -117,8 +117,7 @@ impl Out {
         }
     }
 
-    /// Appends what a copy is written as, and what the value itself is, where that is something
-    /// else.
+    /// Appends what a copy is written as, and what the value itself is, if that is something else.
     pub fn both(&mut self, copy: &Out, value: &Out) {
         self.append(copy);
         if copy.as_str() != value.as_str() {
@@ -138,7 +137,7 @@ impl Out {
         }
     }
 
-    /// The value, or none where memory was refused.
+    /// The value, or none if out of memory.
     pub fn kept<T: Drop>(&mut self, value: Result<T, AllocError>) -> Option<T> {
         match value {
             Ok(value) => Some(value),

@@ -33,7 +33,7 @@ pub fn bstr(to: &mut Out, item: &str) {
     }
 }
 
-/// The byte string that a copy of what was read is written as, and that of the value itself, where
+/// The byte string that a copy of what was read is written as, and that of the value itself, if
 /// that is another.
 pub fn copied(to: &mut Out, read: Result<ProtectedHeader, CoseError>) {
     if let Some(read) = to.value(read) {

@@ -47,7 +47,7 @@ pub fn are_same(to: &mut Out, first: &str, second: &str) {
     }
 }
 
-/// A Sig_structure. The signer's protected header is `none` where there is no signer.
+/// A Sig_structure. The signer's protected header is `none` if there is no signer.
 pub fn signature(to: &mut Out, context: &str, [body, signer, aad, payload]: [&str; 4]) {
     let aad = to.bytes(aad);
     let payload = to.bytes(payload);

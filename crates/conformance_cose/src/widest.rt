@@ -30,8 +30,7 @@ fn of_kind(to: &mut Out, kind: &str, limits: Limits) {
     }
 }
 
-/// What stands before and behind the unprotected header of a message, in hex. Of a header nothing
-/// does.
+/// What is before and after the unprotected header of a message, in hex. Of a header nothing does.
 fn frame(kind: &str) -> (&'static str, &'static str) {
     match kind {
         "sign1" | "mac0" => ("8440", "4040"),

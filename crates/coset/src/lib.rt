@@ -1,7 +1,8 @@
-//! COSE (RFC 9052): messages, keys and their sets, contexts of key derivation (RFC 9053), and the claims of CBOR web tokens (RFC 8392).
+//! COSE (RFC 9052): messages, keys and their sets, contexts of key derivation (RFC 9053), and the
+//! claims of CBOR web tokens (RFC 8392).
 //!
-//! A user names this crate alone: what stands in the crates below it is here under the same names. `cbor` reads and writes CBOR, `iana`
-//! has the registries.
+//! A user names this crate alone: what is in the crates below it is here under the same names.
+//! `cbor` reads and writes CBOR, `iana` has the registries.
 #![tactic(auto)]
 
 pub mod cwt;

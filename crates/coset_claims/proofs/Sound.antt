@@ -1,5 +1,5 @@
--- What claims that were read are written as is read again: it nests no deeper, its bignums stay folded, and its simple values are those
--- that a value can have.
+-- What claims that were read are written as is read again: it nests no deeper, its bignums stay
+-- folded, and its simple values are those that a value can have.
 use Rattle.std.proofs.Common.{◌≡◌, ℕ, ◌-◌, List, ◌++◌, Option, Some, None, sym, subst}
 use Rattle.ciborium_value.specs.Tree.{Tree, bytes, text}
 use Rattle.ciborium_value.specs.Encoding.{enc, Fits}

@@ -36,7 +36,7 @@ abbrev pub bytes_of : Tree → Option (List ℕ)
 bytes_of (bytes b) = Some b
 bytes_of _ = None
 
--- the entries of a map with their names, or none where a key is no name
+-- the entries of a map with their names, or none if a key is no name
 abbrev pub entries : Pairs → Option (List (Named × Tree))
 entries = map_entries.entries name_of
 
@@ -48,7 +48,7 @@ at n = map_entries.at (is_at n)
 abbrev pub others : List (Named × Tree) → List (Named × Tree)
 others = map_entries.others is_core
 
--- the field is what the value there is, and none where none is
+-- the field is what the value there is, and none if none is
 abbrev pub IsField : {A : Type 0} → (Tree → Option A) → Option Tree → Option A → Type 0
 IsField f = map_entries.IsField (λ t. option_map Some (f t)) None
 

@@ -4,7 +4,8 @@ use Rattle.ciborium_ll.specs.declared.hdr.Float.{Float as FloatBits}
 use Rattle.ciborium_value.specs.Tree.{Tree}
 use Rattle.coset_labels.specs.Fields.{Named}
 
--- seconds since the epoch: a number, or a float by its width and its bits (RFC 8392, section 2, NumericDate)
+-- seconds since the epoch: a number, or a float by its width and its bits (RFC 8392, section 2,
+-- NumericDate)
 pub data TimeFields : Type 0 where
   whole_seconds : ℤ → TimeFields
   fractional_seconds : FloatBits → TimeFields

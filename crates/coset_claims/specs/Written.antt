@@ -1,5 +1,5 @@
--- The value that stands for a time or for claims (RFC 8392, sections 2, 3 and 3.1). Claims are written as they are: a name that stands
--- twice is written twice.
+-- The value that stands for a time or for claims (RFC 8392, sections 2, 3 and 3.1). Claims are
+-- written as they are: a name that is twice is written twice.
 use Rattle.std.specs.Prelude.{ℕ, pos, List, [], ◌∷◌, ◌++◌, map, Option, Some, None}
 use Rattle.ciborium_value.specs.Tree.{Tree, integer, bytes, text, float, map as map_tree}
 use Rattle.ciborium_value.specs.View.{pairs}
@@ -12,7 +12,7 @@ abbrev pub time_tree : TimeFields → Tree
 time_tree (whole_seconds i) = integer i
 time_tree (fractional_seconds f) = float f
 
--- the claim n, where it is set
+-- the claim n, if it is set
 abbrev pub field_entry : {A : Type 0} → (A → Tree) → ℕ → Option A → List (Named × Tree)
 field_entry f n None = []
 field_entry f n (Some x) = (assigned (pos n), f x) ∷ []

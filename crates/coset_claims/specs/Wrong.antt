@@ -1,4 +1,5 @@
--- Which fault a value has as a time or as claims (RFC 8392, sections 2, 3 and 3.1). A value may have several.
+-- Which fault a value has as a time or as claims (RFC 8392, sections 2, 3 and 3.1). A value may
+-- have several.
 use Rattle.std.specs.Prelude.{◌≡◌, pos, List, false, Some}
 use Rattle.cose_iana.specs.Claims.{cwt_claim_names}
 use Rattle.cose_iana.specs.Registry.{is_private_use}

@@ -99,7 +99,7 @@ impl ClaimsSetBuilder {
     /// section 3.1).
     ///
     /// # Errors
-    /// Only where memory is refused.
+    /// Only if out of memory.
     pub fn claim(
         mut self,
         name: iana::CwtClaimName,
@@ -118,7 +118,7 @@ impl ClaimsSetBuilder {
     /// Appends a claim whose name is a text.
     ///
     /// # Errors
-    /// Only where memory is refused.
+    /// Only if out of memory.
     pub fn text_claim(mut self, name: String, value: Value) -> Result<ClaimsSetBuilder, CoseError>
         ensures { MatchResult result
             (λ b. so_far b ≡ also (named (string_bytes name), view value) (so_far self))
@@ -132,7 +132,7 @@ impl ClaimsSetBuilder {
     /// 9.1).
     ///
     /// # Errors
-    /// Only where memory is refused.
+    /// Only if out of memory.
     pub fn private_claim(mut self, id: i64, value: Value) -> Result<ClaimsSetBuilder, CoseError>
         requires { is_private_use id ≡ true }
         ensures { MatchResult result

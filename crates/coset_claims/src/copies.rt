@@ -44,7 +44,7 @@ impl ClaimsSet {
     /// Claims equal to these.
     ///
     /// # Errors
-    /// Only where memory is refused.
+    /// Only if out of memory.
     pub fn clone(&self, alloc: Global) -> Result<ClaimsSet, AllocError>
         ensures { IfOk result (λ copy. claims_view copy ≡ claims_view self.now) }
     {

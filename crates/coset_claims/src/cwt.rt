@@ -25,7 +25,8 @@ pub enum Timestamp {
     FractionalSeconds(Float),
 }
 
-/// The name of a claim (RFC 8392, section 3): a number of the registry or of its private range, or a text.
+/// The name of a claim (RFC 8392, section 3): a number of the registry or of its private range, or
+/// a text.
 pub type ClaimName = RegisteredLabelWithPrivate<iana::CwtClaimName>;
 
 /// The claims of a token (RFC 8392, section 3.1).
@@ -97,8 +98,9 @@ impl AsCborValue for Timestamp {
     }
 }
 
-/// Claims are read from their map, its entries in their order: of each first its name, then whether that stood before, then its value.
-/// They are written in the order of their fields, and without a look for a name that stands twice.
+/// Claims are read from their map, its entries in their order: of each first its name, then whether
+/// that stood before, then its value. They are written in the order of their fields, and without a
+/// look for a name that is twice.
 impl AsCborValue for ClaimsSet {
     ghost Fields = { ClaimsFields };
 

@@ -1,4 +1,5 @@
-//! Writes the entries of claims in their fixed order (RFC 8392, section 3.1). They are moved into the map that stands for them.
+//! Writes the entries of claims in their fixed order (RFC 8392, section 3.1). They are moved into
+//! the map that stands for them.
 ghost use Rattle.std.specs.Prelude.{◌≡◌, ◌++◌, map, option_map, string_bytes, MatchResult};
 ghost use Rattle.ciborium_value.specs.Tree.{bytes, text};
 ghost use Rattle.ciborium_value.specs.View.{view, view_pair};

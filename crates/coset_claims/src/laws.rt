@@ -31,13 +31,13 @@ pub fn claims_are_read_again()
     ensures { (t : Tree) (c : ClaimsFields) → HasClaims t c → HasClaims (claims_tree c) c }
 {}
 
-/// Times are equal where they say the same. Floats are the same where their widths and bits are.
+/// Times are equal if they say the same. Floats are the same if their widths and bits are.
 pub fn times_compare(a: &Timestamp, b: &Timestamp)
     ensures { IsTrue (⟦<Timestamp as std::cmp::PartialEq>⟧.eq a.now b.now)
         ↔ (time_view a.now ≡ time_view b.now) }
 {}
 
-/// Claims are equal where they say the same, the others in the same order.
+/// Claims are equal if they say the same, the others in the same order.
 pub fn claims_compare(a: &ClaimsSet, b: &ClaimsSet)
     ensures { IsTrue (⟦<ClaimsSet as std::cmp::PartialEq>⟧.eq a.now b.now)
         ↔ (claims_view a.now ≡ claims_view b.now) }
@@ -97,7 +97,8 @@ fn rest_fits(rest: &[(ClaimName, Value)])
     }
 }
 
-/// What claims are written as fits: each number lies in its range, each text is UTF-8, and each length is one that a head can have.
+/// What claims are written as fits: each number lies in its range, each text is UTF-8, and each
+/// length is one that a head can have.
 pub fn claims_fit(claims: &ClaimsSet)
     ensures { Fits (claims_tree (claims_view claims.now)) }
 {

@@ -1,4 +1,5 @@
--- What was read is written as the value that it was read of, and the encoding of that value is read as it.
+-- What was read is written as the value that it was read of, and the encoding of that value is read
+-- as it.
 use Rattle.std.proofs.Common.{◌≡◌, ℕ, List, Option, Some, sym, subst, ◌∙◌}
 use Rattle.ciborium_value.specs.Tree.{Tree}
 use Rattle.ciborium_value.specs.Encoding.{enc, Fits}

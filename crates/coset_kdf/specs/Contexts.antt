@@ -1,5 +1,5 @@
--- Which fields a value has as a KDF context or a part of one (RFC 9053, section 5.2). The nesting limit `n` and the layers left `k` are
--- those of the protected header.
+-- Which fields a value has as a KDF context or a part of one (RFC 9053, section 5.2). The nesting
+-- limit `n` and the layers left `k` are those of the protected header.
 use Rattle.std.specs.Prelude.{◌≡◌, ℕ, ℤ, pos, negsuc, List, [], ◌∷◌, Bool, false, if◌then◌else◌, nat_eq, nat_lt, Option, Some, None, map}
 use Rattle.cose_iana.specs.Algorithms.{is_algorithm}
 use Rattle.cose_iana.specs.Registry.{is_private_use}
@@ -50,7 +50,7 @@ abbrev pub HasPublic : ℕ → Tree → PublicFields → ℕ → Type 0
 HasPublic n t s k = (a b : Tree) × (t ≡ array (trees (a ∷ b ∷ maybe_bytes s.other)))
     × (length_of a ≡ Some s.key_data_length) × HasProtected n b s.protected_header k
 
--- the four elements, and those behind them
+-- the four elements, and those after them
 abbrev pub four_and : Tree → Tree → Tree → Tree → Trees → Trees
 four_and a u v s ts = one_more a (one_more u (one_more v (one_more s ts)))
 

@@ -18,12 +18,12 @@ pub record HasTwo (a b : Tree) (o : Option (List ℕ)) (s : PublicFields) : Type
 abbrev pub WrongTwo : Tree → Tree → CoseFault → Type 0
 WrongTwo a b e = WrongProtected nesting b layers e ⊎ WrongLength a e
 
--- four items are left, or there were fewer, and those behind them are these byte strings
+-- four items are left, or there were fewer, and those after them are these byte strings
 pub record Popped (old new : List Tree) (bs : List (List ℕ)) : Type 0 where
   pub left : length new ≢ 4 → length old < 4
   pub are : old ≡ new ++ map bytes bs
 
--- an item behind the fourth is no byte string
+-- an item after the fourth is no byte string
 pub record WrongPopped (old : List Tree) (e : CoseFault) : Type 0 where
   pub before : List Tree
   pub after : List Tree

@@ -1,5 +1,5 @@
--- The value that stands for a KDF context or a part of one (RFC 9053, section 5.2). There is none where the protected header can't be
--- written.
+-- The value that stands for a KDF context or a part of one (RFC 9053, section 5.2). There is none
+-- if the protected header can't be written.
 use Rattle.std.specs.Prelude.{ℕ, pos, List, ◌∷◌, map, Option, Some, None, option_map}
 use Rattle.ciborium_value.specs.Tree.{Tree, integer, bytes, array, simple}
 use Rattle.ciborium_value.specs.View.{trees}

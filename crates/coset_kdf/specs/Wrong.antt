@@ -1,5 +1,5 @@
--- Which fault a value has as a KDF context or a part of one (RFC 9053, section 5.2). A value may have several. The nesting limit `n` and
--- the layers left `k` are those of the fields.
+-- Which fault a value has as a KDF context or a part of one (RFC 9053, section 5.2). A value may
+-- have several. The nesting limit `n` and the layers left `k` are those of the fields.
 use Rattle.std.specs.Prelude.{◌≡◌, ◌≢◌, ◌<◌, ℕ, List, ◌∷◌, ◌++◌, false}
 use Rattle.cose_iana.specs.Algorithms.{is_algorithm}
 use Rattle.cose_iana.specs.Registry.{is_private_use}

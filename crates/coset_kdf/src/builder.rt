@@ -183,7 +183,7 @@ impl CoseKdfContextBuilder {
     /// Appends what only the parties know.
     ///
     /// # Errors
-    /// Only where memory is refused.
+    /// Only if out of memory.
     pub fn add_supp_priv_info(mut self, info: Vec<u8>) -> Result<CoseKdfContextBuilder, CoseError>
         ensures { MatchResult result
             (λ b. context_so_far b ≡ with_private info.items (context_so_far self))

@@ -1,4 +1,4 @@
-//! KDF contexts and their parts as they stand in memory.
+//! KDF contexts and their parts as they are in memory.
 ghost use Rattle.std.specs.Prelude.{◌≡◌};
 ghost use Rattle.coset_kdf.specs.Fields.{no_context, no_party, no_public};
 ghost use Rattle.coset_kdf.specs.View.{context_view, party_view, public_view};

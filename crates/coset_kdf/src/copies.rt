@@ -46,7 +46,7 @@ impl Nonce {
     /// A nonce equal to this one. That of an integer takes no memory.
     ///
     /// # Errors
-    /// Only where memory is refused, and of bytes alone.
+    /// Only if out of memory, and of bytes alone.
     pub fn clone(&self, alloc: Global) -> Result<Nonce, AllocError>
         ensures ok { IfOk result (λ copy. nonce_view copy ≡ nonce_view self.now) }
         ensures number { (i : ℤ) → nonce_view self.now ≡ nonce_integer i → IsOk result }
@@ -62,7 +62,7 @@ impl PartyInfo {
     /// A value equal to this one.
     ///
     /// # Errors
-    /// Only where memory is refused.
+    /// Only if out of memory.
     pub fn clone(&self, alloc: Global) -> Result<PartyInfo, AllocError>
         ensures { IfOk result (λ copy. party_view copy ≡ party_view self.now) }
     {
@@ -81,7 +81,7 @@ impl SuppPubInfo {
     /// A value equal to this one, whose header has the same bytes.
     ///
     /// # Errors
-    /// Only where memory is refused.
+    /// Only if out of memory.
     pub fn clone(&self, alloc: Global) -> Result<SuppPubInfo, AllocError>
         ensures { IfOk result (λ copy. public_view copy ≡ public_view self.now) }
     {
@@ -99,7 +99,7 @@ impl CoseKdfContext {
     /// A context equal to this one.
     ///
     /// # Errors
-    /// Only where memory is refused.
+    /// Only if out of memory.
     pub fn clone(&self, alloc: Global) -> Result<CoseKdfContext, AllocError>
         ensures { IfOk result (λ copy. context_view copy ≡ context_view self.now) }
     {

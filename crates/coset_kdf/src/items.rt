@@ -1,4 +1,4 @@
-//! The items of a context behind the fourth.
+//! The items of a context after the fourth.
 ghost use Rattle.std.specs.Prelude.{◌≡◌, ◌≢◌, ◌++◌, ◌∷◌, [], map, MatchResult};
 ghost use Rattle.ciborium_value.specs.View.{view};
 ghost use Rattle.coset_labels.specs.Faults.{OrMemory};
@@ -19,7 +19,8 @@ fn last(items: &mut Vec<Value>) -> Value
     }
 }
 
-/// Takes the items behind the fourth, which have to be byte strings, from the last to the first, and gives them in their order.
+/// Takes the items after the fourth, which have to be byte strings, from the last to the first, and
+/// gives them in their order.
 pub(crate) fn pop_private(alloc: Global, items: &mut Vec<Value>) -> Result<Vec<Vec<u8>>, CoseError>
     ensures { MatchResult result
         (λ v. Popped (map view items.old.items) (map view items.new.items)

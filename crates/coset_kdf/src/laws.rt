@@ -39,7 +39,8 @@ pub fn wrong_has_none()
         → WrongContext n t k e → HasContext n t c k → ⊥ }
 {}
 
-/// What was read is written as the very value that it was read of. So it can be written, and is read again the same.
+/// What was read is written as the very value that it was read of. So it can be written, and is
+/// read again the same.
 pub fn read_is_written_back()
     ensures party { (t : Tree) (p : PartyFields) → HasParty t p → party_tree p ≡ t }
     ensures public { (n k : ℕ) (t : Tree) (s : PublicFields) → HasPublic n t s k
@@ -48,7 +49,7 @@ pub fn read_is_written_back()
         → context_tree c ≡ Some t }
 {}
 
-/// Nonces are equal where they say the same.
+/// Nonces are equal if they say the same.
 pub fn nonces_compare(a: &Nonce, b: &Nonce)
     ensures { IsTrue (⟦<Nonce as std::cmp::PartialEq>⟧.eq a.now b.now)
         ↔ (nonce_view a.now ≡ nonce_view b.now) }
@@ -60,13 +61,13 @@ pub fn parties_compare(a: &PartyInfo, b: &PartyInfo)
         ↔ (party_view a.now ≡ party_view b.now) }
 {}
 
-/// Public information is equal where it says the same, received bytes included.
+/// Public information is equal if it says the same, received bytes included.
 pub fn publics_compare(a: &SuppPubInfo, b: &SuppPubInfo)
     ensures { IsTrue (⟦<SuppPubInfo as std::cmp::PartialEq>⟧.eq a.now b.now)
         ↔ (public_view a.now ≡ public_view b.now) }
 {}
 
-/// Contexts are equal where they say the same, received bytes included.
+/// Contexts are equal if they say the same, received bytes included.
 pub fn contexts_compare(a: &CoseKdfContext, b: &CoseKdfContext)
     ensures { IsTrue (⟦<CoseKdfContext as std::cmp::PartialEq>⟧.eq a.now b.now)
         ↔ (context_view a.now ≡ context_view b.now) }
@@ -97,7 +98,8 @@ fn maybe_nonce_fits(nonce: &Option<Nonce>)
     }
 }
 
-/// What a party is written as fits: each number lies in its range, and each length is one that a head can have.
+/// What a party is written as fits: each number lies in its range, and each length is one that a
+/// head can have.
 pub fn party_fits(info: &PartyInfo)
     ensures { Fits (party_tree (party_view info.now)) }
 {
@@ -106,7 +108,8 @@ pub fn party_fits(info: &PartyInfo)
     maybe_bytes_fit(&info.other);
 }
 
-/// What public information is written as fits where the bytes that its protected header shows do. They do in all that was read.
+/// What public information is written as fits where the bytes that its protected header shows do.
+/// They do in all that was read.
 pub fn public_fits(info: &SuppPubInfo)
     ensures shown { (b : List ℕ) (t : Tree) → shown (protected_view info.now.protected) ≡ Some b
         → Fits (bytes b) → public_tree (public_view info.now) ≡ Some t → Fits t }
@@ -129,7 +132,8 @@ fn private_fit(private: &[Vec<u8>])
     }
 }
 
-/// What a context is written as fits where the bytes that its protected header shows do. They do in all that was read.
+/// What a context is written as fits where the bytes that its protected header shows do. They do in
+/// all that was read.
 pub fn context_fits(context: &CoseKdfContext)
     ensures shown { (b : List ℕ) (t : Tree)
         → shown (protected_view context.now.supp_pub_info.protected) ≡ Some b
@@ -144,7 +148,8 @@ pub fn context_fits(context: &CoseKdfContext)
     private_fit(&context.supp_priv_info);
 }
 
-/// What a party brings, read from bytes, is read again of the bytes that it is written as, the same.
+/// What a party brings, read from bytes, is read again of the bytes that it is written as, the
+/// same.
 pub fn party_reads_again(info: &PartyInfo)
     ensures { (b : List ℕ) → HasItem HasParty b (party_view info.now)
         → HasItem HasParty (enc (party_tree (party_view info.now))) (party_view info.now) }

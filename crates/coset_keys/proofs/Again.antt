@@ -1,4 +1,5 @@
--- A key that was read is read of what it is written as, and so is one with its `params` in another order.
+-- A key that was read is read of what it is written as, and so is one with its `params` in another
+-- order.
 use Rattle.std.proofs.Common.{◌≡◌, ℕ, pos, inl, inr, ⊎_elim, List, [], ◌∷◌, ◌++◌, map, Bool, true, false, cond, Option, Some, None, option_map, option_and_then, refl, sym, ap, subst, ◌∙◌}
 use Rattle.std.specs.List.{Contains, IsDistinct, AllByRecursion}
 use Rattle.std.specs.List.Sorted.{IsStrictlySortedBy}
@@ -26,7 +27,8 @@ use Rattle.coset_keys.proofs.Entered.{not_own}
 use Rattle.coset_keys.proofs.Good.{IsKey}
 use Rattle.coset_keys.proofs.Rising.{contains_head, contains_tail, contains_cases}
 
--- ---- what stands in the entries that are written: at most one at each number, and the others behind them
+-- ---- what is in the entries that are written: at most one at each number, and the others after
+-- them
 data Segment (n : ℕ) (s : List (LabelFields × Tree)) : Type 0 where
   nothing : s ≡ [] → Segment n s
   one : (t : Tree) → s ≡ (number (pos n), t) ∷ [] → Segment n s

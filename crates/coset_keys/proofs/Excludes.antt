@@ -36,7 +36,7 @@ apart n m (x ∷ xs) a c e = ⊎_elim
     (λ d. apart n m xs a.1 d e)
     (contains_cases x xs m c)
 
--- the operation of an item stands in the list
+-- the operation of an item is in the list
 stands : (before after : List Tree) (t : Tree) (all : List Named) (n : Named) → operation_of t ≡ Some n → operations_of (trees (before ++ t ∷ after)) ≡ Some all → Contains all n
 stands [] after t all n q f =
     let w = first_of (λ n. n) (operation_of t) (operations_of (trees after)) all f in
@@ -47,7 +47,7 @@ stands (b ∷ bs) after t all n q f =
     let w = first_of (λ n. n) (operation_of b) (operations_of (trees (bs ++ t ∷ after))) all f in
     subst (λ z. Contains z n) (sym w.whole) (contains_tail w.first w.rest n (stands bs after t w.rest n q w.others))
 
--- an operation that stands in front stands twice
+-- an operation that is in front stands twice
 again_apart : (before after : List Tree) (t : Tree) (ns all : List Named) (n : Named) → operations_of (trees before) ≡ Some ns → operation_of t ≡ Some n → Contains ns n
     → operations_of (trees (before ++ t ∷ after)) ≡ Some all → IsDistinct (eq_by_cmp named_cmp) all → ⊥
 again_apart [] after t ns all n e q c f d = let h : Some [] ≡ Some ns = e in let s : ns ≡ [] = cc in contains_none n (subst (λ z. Contains z n) s c)

@@ -1,4 +1,4 @@
--- Lists that rise by an order: they are one where they have the same elements.
+-- Lists that rise by an order: they are one if they have the same elements.
 use Rattle.std.proofs.Common.{◌≡◌, ◌⊎◌, inl, inr, ⊎_elim, List, [], ◌∷◌, ◌++◌, map, refl, sym, ap, subst, ◌∙◌, arith}
 use Rattle.std.specs.Prelude.{◌↔◌}
 use Rattle.std.specs.Cmp.{IsTotalOrder}
@@ -38,7 +38,7 @@ module _ {X : Type 0} (R : X → X → Ordering) (total : IsTotalOrder R) where
   never_both : (x y : X) → R x y ≡ Less → R y x ≡ Less → ⊥
   never_both x y h k = never_below x (total.trans x y x h k)
 
-  -- an element behind the first is not the first
+  -- an element after the first is not the first
   later : (x y : X) (ys : List X) → IsStrictlySortedBy R (y ∷ ys) → Contains ys x → R y x ≡ Less
   later x y ys s c = by_member (λ z. R y z ≡ Less) ys x (sorted_head R y ys s) c
 
@@ -92,7 +92,7 @@ module _ {X : Type 0} (R : X → X → Ordering) (ties : (x y : X) → R x y ≡
   inserted_only k [] q c = contains_cases k [] q c
   inserted_only k (x ∷ xs) q c = only_by k x xs (insert_key R xs k) q (R k x) (inserted_only k xs q) c
 
--- an element above all others goes behind them
+-- an element above all others goes after them
 pub inserted_last : {X : Type 0} (R : X → X → Ordering) (k : X) (xs : List X) → AllByRecursion (λ x. R k x ≡ Greater) xs → insert_key R xs k ≡ xs ++ k ∷ []
 inserted_last R k [] a = refl
 inserted_last R k (x ∷ xs) a = ap (λ o. match_ordering o (k ∷ x ∷ xs) (x ∷ xs) (x ∷ insert_key R xs k)) a.0 ∙ ap (λ z. x ∷ z) (inserted_last R k xs a.1)

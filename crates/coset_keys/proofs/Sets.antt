@@ -10,7 +10,7 @@ use Rattle.coset_keys.specs.Written.{key_entries, key_tree, key_set_tree}
 use Rattle.coset_keys.proofs.Again.{writes, reads_back}
 use Rattle.coset_keys.proofs.Good.{is_key}
 
--- what keys without a label that stands twice are written as
+-- what keys without a label that is twice are written as
 abbrev pub all_trees : List KeyFields → List Tree
 all_trees = map (λ k. tree_of (key_entries k))
 

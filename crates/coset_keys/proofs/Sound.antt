@@ -1,5 +1,6 @@
--- What a key or a set of keys that was read is written as is read again: it nests no deeper, its bignums stay folded, and its simple
--- values are those that a value can have. So it is with the entries in another order.
+-- What a key or a set of keys that was read is written as is read again: it nests no deeper, its
+-- bignums stay folded, and its simple values are those that a value can have. So it is with the
+-- entries in another order.
 use Rattle.std.proofs.Common.{◌≡◌, ℕ, ◌-◌, ⊎_elim, List, [], ◌∷◌, ◌++◌, map, Option, Some, None, refl, sym, subst}
 use Rattle.std.specs.List.{Contains}
 use Rattle.std.specs.List.Sorted.{IsPermutation}

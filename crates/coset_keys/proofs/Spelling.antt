@@ -1,4 +1,5 @@
--- Keys whose entries are in one order have equal bytes exactly where they differ at most in the order of `params`.
+-- Keys whose entries are in one order have equal bytes exactly when they differ at most in the
+-- order of `params`.
 use Rattle.std.proofs.Common.{◌≡◌, ◌+◌, ◌<◌, List, [], ◌∷◌, length, get_or, map, true, false, Some, option_map, refl, sym, ap, subst, ◌∙◌, arith}
 use Rattle.std.specs.Prelude.{◌↔◌}
 use Rattle.std.specs.List.Sorted.{IsPermutation, IsSorted, IsStrictlySortedBy}

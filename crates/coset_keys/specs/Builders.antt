@@ -26,7 +26,8 @@ with_param l v k = record k { params = k.params ++ (l, v) ∷ [] }
 abbrev pub symmetric_key : List ℕ → KeyFields
 symmetric_key k = record no_key { kty = assigned (pos 4); params = (number (negsuc 0), bytes k) ∷ [] }
 
--- a public key of ML-DSA: the type 7, the algorithm, and the key at -1 (registries "COSE Key Types" and "COSE Key Type Parameters")
+-- a public key of ML-DSA: the type 7, the algorithm, and the key at -1 (registries "COSE Key Types"
+-- and "COSE Key Type Parameters")
 abbrev pub ml_dsa_key : MlDsaVariant → List ℕ → KeyFields
 ml_dsa_key v k = record no_key {
   kty = assigned (pos 7);

@@ -1,4 +1,5 @@
--- Points of keys over elliptic curves, as octet strings (SEC 1, section 2.3.3) and in keys (RFC 9053, section 7.1.1).
+-- Points of keys over elliptic curves, as octet strings (SEC 1, section 2.3.3) and in keys (RFC
+-- 9053, section 7.1.1).
 use Rattle.std.specs.Prelude.{◌≡◌, ◌≢◌, ◌⊎◌, ℕ, ℤ, pos, negsuc, List, [], ◌∷◌, ◌++◌, length, Bool, true, false, if◌then◌else◌, Option, Some, None}
 use Rattle.std.specs.Ordering.{is_eq}
 use Rattle.ciborium_value.specs.Tree.{Tree, integer, bytes, is_bytes}
@@ -75,7 +76,8 @@ pub data WrongCoordinates (x y : Tree) (e : ToSec1OctetStringError) : Type 0 whe
   no_y : is_bytes x ≡ true → is_bytes y ≡ false → is_bool y ≡ false → e ≡ code.InvalidCoordinateType → WrongCoordinates x y e
   unequal : (a b : List ℕ) → x ≡ bytes a → y ≡ bytes b → length a ≢ length b → e ≡ code.UnequalCoordinateLength → WrongCoordinates x y e
 
--- why a key has no octet string of a point: its type first, then what is missing, then the coordinates
+-- why a key has no octet string of a point: its type first, then what is missing, then the
+-- coordinates
 pub data WrongPoint (k : KeyFields) (e : ToSec1OctetStringError) : Type 0 where
   no_ec_key : k.kty ≢ assigned (pos 2) → e ≡ code.NotEcKey → WrongPoint k e
   missing : k.kty ≡ assigned (pos 2) → (x_of k ≡ None) ⊎ (y_of k ≡ None) → e ≡ code.MissingCoordinate → WrongPoint k e

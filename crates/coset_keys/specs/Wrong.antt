@@ -1,4 +1,5 @@
--- Which fault a value has as a key and as a set of keys (RFC 9052, section 7). A value may have several.
+-- Which fault a value has as a key and as a set of keys (RFC 9052, section 7). A value may have
+-- several.
 use Rattle.std.specs.Prelude.{◌≡◌, pos, List, ◌∷◌, ◌++◌, false, Some}
 use Rattle.std.specs.List.{Contains}
 use Rattle.cose_iana.specs.Algorithms.{is_algorithm}

@@ -4,12 +4,12 @@ ghost use Rattle.std.specs.Prelude.{◌≡◌, ◌↔◌, IsTrue};
 use crate::ml_dsa::MlDsaVariant;
 use crate::sec1::{ParseSec1OctetStringError, ToSec1OctetStringError};
 
-/// Variants of ML-DSA are equal where they are the same.
+/// Variants of ML-DSA are equal if they are the same.
 pub fn variants_compare(a: MlDsaVariant, b: MlDsaVariant)
     ensures { IsTrue (⟦<MlDsaVariant as std::cmp::PartialEq>⟧.eq a b) ↔ (a ≡ b) }
 {}
 
-/// Errors of points are equal where they are the same.
+/// Errors of points are equal if they are the same.
 pub fn point_errors_compare(a: ToSec1OctetStringError, b: ToSec1OctetStringError)
     ensures { IsTrue (⟦<ToSec1OctetStringError as std::cmp::PartialEq>⟧.eq a b) ↔ (a ≡ b) }
 {}

@@ -58,7 +58,7 @@ impl CoseKeyBuilder {
     /// A public key over an elliptic curve, by x and y (RFC 9053, section 7.1.1).
     ///
     /// # Errors
-    /// Only where memory is refused.
+    /// Only if out of memory.
     pub fn new_ec2_pub_key(
         alloc: Global,
         curve: iana::EllipticCurve,
@@ -75,7 +75,7 @@ impl CoseKeyBuilder {
     /// A public key over an elliptic curve, by x and the sign of y (RFC 9053, section 7.1.1).
     ///
     /// # Errors
-    /// Only where memory is refused.
+    /// Only if out of memory.
     pub fn new_ec2_pub_key_y_sign(
         alloc: Global,
         curve: iana::EllipticCurve,
@@ -122,7 +122,7 @@ impl CoseKeyBuilder {
     /// A private key over an elliptic curve, by x, y and d (RFC 9053, section 7.1.1).
     ///
     /// # Errors
-    /// Only where memory is refused.
+    /// Only if out of memory.
     pub fn new_ec2_priv_key(
         alloc: Global,
         curve: iana::EllipticCurve,
@@ -143,7 +143,7 @@ impl CoseKeyBuilder {
     /// A public key of ML-DSA (FIPS 204): a key of the type AKP, by the registry "COSE Key Types".
     ///
     /// # Errors
-    /// Only where memory is refused.
+    /// Only if out of memory.
     pub fn new_mldsa_pub_key(
         alloc: Global,
         variant: MlDsaVariant,
@@ -162,7 +162,7 @@ impl CoseKeyBuilder {
     /// A symmetric key (RFC 9053, section 7.3).
     ///
     /// # Errors
-    /// Only where memory is refused.
+    /// Only if out of memory.
     pub fn new_symmetric_key(alloc: Global, k: Vec<u8>) -> Result<CoseKeyBuilder, CoseError>
         ensures { MatchResult result (λ b. so_far b ≡ symmetric_key k.items) (λ e. e ≡ Memory) }
     {
@@ -224,7 +224,7 @@ impl CoseKeyBuilder {
     /// Adds an operation; one that is there already changes nothing.
     ///
     /// # Errors
-    /// Only where memory is refused.
+    /// Only if out of memory.
     pub fn add_key_op(mut self, op: iana::KeyOperation) -> Result<CoseKeyBuilder, CoseError>
         ensures { MatchResult result (λ b. so_far b
             ≡ record (so_far self) {
@@ -241,7 +241,7 @@ impl CoseKeyBuilder {
     /// their own (RFC 9052, section 7.1).
     ///
     /// # Errors
-    /// Only where memory is refused.
+    /// Only if out of memory.
     pub fn param(mut self, label: i64, value: Value) -> Result<CoseKeyBuilder, CoseError>
         requires { is_common (number label) ≡ false }
         ensures { MatchResult result
@@ -261,7 +261,7 @@ impl CoseKeyBuilder {
     }
 }
 
-/// A public key over an elliptic curve, where y may be a sign.
+/// A public key over an elliptic curve, if y may be a sign.
 fn ec2_builder(
     alloc: Global,
     curve: iana::EllipticCurve,

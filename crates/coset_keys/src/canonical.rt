@@ -15,11 +15,12 @@ use std::alloc::{AllocError, Global};
 use std::cmp::Ordering;
 
 impl CoseKey {
-    /// Sorts `params` by the encodings of their labels (RFC 8949, section 4.2). Entries with one label keep their order. The fields
-    /// with labels of their own are written in either order already.
+    /// Sorts `params` by the encodings of their labels (RFC 8949, section 4.2). Entries with one
+    /// label keep their order. The fields with labels of their own are written in either order
+    /// already.
     ///
     /// # Errors
-    /// Only where memory is refused, and then the key is as it was.
+    /// Only if out of memory, and then the key is as it was.
     pub fn canonicalize(&mut self, alloc: Global, ordering: CborOrdering) -> Result<(), CoseError>
         ensures { MatchResult result
             (λ _. Canonicalized ordering (key_view self.old) (key_view self.new))

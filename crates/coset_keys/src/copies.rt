@@ -13,7 +13,7 @@ impl CoseKey {
     /// A key equal to this one.
     ///
     /// # Errors
-    /// Only where memory is refused.
+    /// Only if out of memory.
     pub fn clone(&self, alloc: Global) -> Result<CoseKey, AllocError>
         ensures { IfOk result (λ copy. key_view copy ≡ key_view self.now) }
     {
@@ -32,7 +32,7 @@ impl CoseKeySet {
     /// A set equal to this one.
     ///
     /// # Errors
-    /// Only where memory is refused.
+    /// Only if out of memory.
     pub fn clone(&self, alloc: Global) -> Result<CoseKeySet, AllocError>
         ensures { IfOk result (λ copy. key_set_view copy ≡ key_set_view self.now) }
     {

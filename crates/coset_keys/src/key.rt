@@ -1,4 +1,4 @@
-//! Keys as they stand in memory.
+//! Keys as they are in memory.
 ghost use Rattle.std.specs.Prelude.{◌≡◌, []};
 ghost use Rattle.coset_keys.specs.Fields.{no_key};
 ghost use Rattle.coset_keys.specs.View.{key_view, key_set_view};

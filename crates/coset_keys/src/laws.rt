@@ -40,8 +40,8 @@ pub fn wrong_has_none()
         → HasKeySet t ks → ⊥ }
 {}
 
-/// A key that was read can be written, and of what is written the same key is read; so also where its `params` were put into another
-/// order. The same holds of sets.
+/// A key that was read can be written, and of what is written the same key is read; so also if its
+/// `params` were put into another order. The same holds of sets.
 pub fn written_is_read()
     ensures key { (t : Tree) (k : KeyFields) → HasKey t k
         → (u : Tree) × (key_tree k ≡ Some u) × HasKey u k }
@@ -51,13 +51,13 @@ pub fn written_is_read()
         → (u : Tree) × (key_set_tree ks ≡ Some u) × HasKeySet u ks }
 {}
 
-/// Keys are equal where they say the same, their other entries in the same order.
+/// Keys are equal if they say the same, their other entries in the same order.
 pub fn keys_compare(a: &CoseKey, b: &CoseKey)
     ensures { IsTrue (⟦<CoseKey as std::cmp::PartialEq>⟧.eq a.now b.now)
         ↔ (key_view a.now ≡ key_view b.now) }
 {}
 
-/// Sets are equal where their keys are, in their order.
+/// Sets are equal if their keys are, in their order.
 pub fn key_sets_compare(a: &CoseKeySet, b: &CoseKeySet)
     ensures { IsTrue (⟦<CoseKeySet as std::cmp::PartialEq>⟧.eq a.now b.now)
         ↔ (key_set_view a.now ≡ key_set_view b.now) }
@@ -93,8 +93,8 @@ fn params_fit(params: &[(Label, Value)])
     }
 }
 
-/// What a key is written as fits, and so do its other entries: each number lies in its range, each text is UTF-8, and each length is one
-/// that a head can have.
+/// What a key is written as fits, and so do its other entries: each number lies in its range, each
+/// text is UTF-8, and each length is one that a head can have.
 pub fn key_fits(key: &CoseKey)
     ensures tree { (t : Tree) → key_tree (key_view key.now) ≡ Some t → Fits t }
     ensures params { FitPairs (pairs (map entry_tree (key_view key.now).params)) }
@@ -124,8 +124,8 @@ pub fn key_set_fits(set: &CoseKeySet)
     keys_fit(&set.0);
 }
 
-/// A key that was read from bytes can be written, and of the bytes that it is written as the same key is read; so also where its
-/// `params` were put into another order.
+/// A key that was read from bytes can be written, and of the bytes that it is written as the same
+/// key is read; so also if its `params` were put into another order.
 pub fn key_reads_again(key: &CoseKey)
     ensures same { (b : List ℕ) → HasItem HasKey b (key_view key.now)
         → (t : Tree) × (key_tree (key_view key.now) ≡ Some t)
@@ -138,7 +138,8 @@ pub fn key_reads_again(key: &CoseKey)
     key_fits(key);
 }
 
-/// A set of keys that was read from bytes can be written, and of the bytes that it is written as the same set is read.
+/// A set of keys that was read from bytes can be written, and of the bytes that it is written as
+/// the same set is read.
 pub fn key_set_reads_again(set: &CoseKeySet)
     ensures { (b : List ℕ) → HasItem HasKeySet b (key_set_view set.now)
         → (t : Tree) × (key_set_tree (key_set_view set.now) ≡ Some t)
@@ -147,8 +148,8 @@ pub fn key_set_reads_again(set: &CoseKeySet)
     key_set_fits(set);
 }
 
-/// Two keys that were read, each canonicalized in the same ordering, have equal bytes exactly where they differed at most in the order of
-/// their `params`.
+/// Two keys that were read, each canonicalized in the same ordering, have equal bytes exactly when
+/// they differed at most in the order of their `params`.
 pub fn one_spelling(a: &CoseKey, b: &CoseKey)
     ensures { (o : CborOrdering) (t s : Tree) (k l : KeyFields) → HasKey t k → HasKey s l
         → Canonicalized o k (key_view a.now) → Canonicalized o l (key_view b.now)

@@ -1,4 +1,5 @@
-//! Keys of COSE and sets of them (RFC 9052, section 7), and the points of keys over elliptic curves as octet strings (SEC 1).
+//! Keys of COSE and sets of them (RFC 9052, section 7), and the points of keys over elliptic curves
+//! as octet strings (SEC 1).
 #![tactic(auto)]
 
 mod alike;

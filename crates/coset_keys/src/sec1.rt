@@ -30,7 +30,7 @@ pub enum ToSec1OctetStringError {
     /// x and y differ in length.
     #[error("unequal coordinate lengths")]
     UnequalCoordinateLength,
-    /// Memory was refused.
+    /// Out of memory.
     #[error("out of memory")]
     Memory,
 }
@@ -41,7 +41,7 @@ pub enum ParseSec1OctetStringError {
     /// The octet string is that of no point.
     #[error("ParseSec1OctetStringError")]
     Malformed,
-    /// Memory was refused.
+    /// Out of memory.
     #[error("out of memory")]
     Memory,
 }
@@ -101,12 +101,14 @@ pub(crate) fn parse_point(sec1: &[u8]) -> Option<Point<'_>>
 }
 
 impl CoseKey {
-    /// The octet string of the point of a key over an elliptic curve (SEC 1, section 2.3.3), by the first x and the first y of its
-    /// `params`. The coordinates may have any length, and the curve is not looked at.
+    /// The octet string of the point of a key over an elliptic curve (SEC 1, section 2.3.3), by the
+    /// first x and the first y of its `params`. The coordinates may have any length, and the curve
+    /// is not looked at.
     ///
     /// # Errors
-    /// `NotEcKey` for a key of another type, `MissingCoordinate` where x or y is missing, `InvalidCoordinateType` where x is no byte
-    /// string, or y neither one nor a sign, `UnequalCoordinateLength` where x and y differ in length, or `Memory`.
+    /// `NotEcKey` for a key of another type, `MissingCoordinate` if x or y is missing,
+    /// `InvalidCoordinateType` if x is no byte string, or y neither one nor a sign,
+    /// `UnequalCoordinateLength` if x and y differ in length, or `Memory`.
     pub fn to_sec1_octet_string(&self, alloc: Global) -> Result<Vec<u8>, ToSec1OctetStringError>
         ensures { MatchResult result
             (λ b. (p : spec.Point) × HasPoint (key_view self.now) p × IsSec1 b.items p)

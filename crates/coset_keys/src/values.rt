@@ -25,7 +25,7 @@ pub(crate) enum Place {
     Params,
 }
 
-/// Where the value behind this label belongs (RFC 9052, section 7.1).
+/// Where the value after this label belongs (RFC 9052, section 7.1).
 fn place_of(label: &Label) -> Place
     ensures { Names result (label_view label.now) }
 {

@@ -1,11 +1,10 @@
-//! How much memory a structure takes: its own length, once. A heap (`LocalHeap`) that holds just that
-//! is enough, and a shorter one is not. No clause says so.
+//! How much memory a structure takes: its own length, once. A heap (`LocalHeap`) that holds just
+//! that is enough, and a shorter one is not. No clause says so.
 //!
-//! This fails where the vector of a structure grows while it is written. A body of
-//! `sig_structure_in` or one of its like that takes memory of this allocator for a copy of the
-//! payload, or for a second vector, beside the one that it returns, is a borrow error: the allocator
-//! is moved into that one. A body that copies the received bytes is refused by the clause `lent` of
-//! `show`.
+//! This fails if the vector of a structure grows while it is written. A body of `sig_structure_in`
+//! or one of its like that takes memory of this allocator for a copy of the payload, or for a
+//! second vector, beside the one that it returns, is a borrow error: the allocator is moved into
+//! that one. A body that copies the received bytes is refused by the clause `lent` of `show`.
 use coset_headers::{Header, ProtectedHeader};
 use coset_labels::CoseError;
 use coset_structures::{

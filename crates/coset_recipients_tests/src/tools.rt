@@ -31,7 +31,7 @@ pub(crate) fn content(is_content: bool) -> Result<(), CoseError> {
     if is_content { Ok(()) } else { Err(ASKED) }
 }
 
-/// Two byte strings, one behind the other.
+/// Two byte strings, one after the other.
 fn joined(alloc: Global, first: &[u8], second: &[u8]) -> Result<Vec<u8>, CoseError> {
     let mut all = first.to_vec(alloc)?;
     all.extend_from_slice(second)?;
@@ -47,7 +47,7 @@ pub(crate) const LONG: &[u8] = &[7; 300];
 const UNTRUE: CoseError = CoseError::UnexpectedItem("a call", "another one");
 
 /// What a call answers, where its closure was asked exactly if the answer isn't the call's own
-/// fault, such as want of memory.
+/// fault, such as being out of memory.
 pub(crate) fn watch<T: Drop>(is_asked: bool, answer: Result<T, Met>) -> Result<T, Met> {
     if is_asked == matches!(answer, Err(Fault::Cose(_))) {
         return Err(Fault::Caller(UNTRUE));
@@ -67,8 +67,7 @@ macro_rules! watched {
 
 pub(crate) use watched;
 
-/// Two byte strings, one behind the other: what a closure was handed, which tells that it was
-/// asked.
+/// Two byte strings, one after the other: what a closure was handed, which tells that it was asked.
 pub(crate) fn join(
     alloc: Global,
     first: &[u8],
@@ -270,7 +269,7 @@ pub(crate) fn makes<T: Message>(rt: &impl Abort, alloc: Global, built: Result<T,
     is_hex(rt, alloc, message.made(), want);
 }
 
-/// A cipher is handed these bytes where what was built is decrypted, and it is written as those.
+/// A cipher is handed these bytes if what was built is decrypted, and it is written as those.
 pub(crate) fn decrypts<T: Encrypted + TaggedCborSerializable>(
     rt: &impl Abort,
     alloc: Global,

@@ -135,7 +135,7 @@ fn by_one(rt: &impl Abort, alloc: Global) -> CoseSignBuilder {
         .expect(rt, "no memory")
 }
 
-/// As `by_one`, with another signature, which is h'01' where it covers `COVERED`.
+/// As `by_one`, with another signature, which is h'01' if it covers `COVERED`.
 fn by_two(rt: &impl Abort, alloc: Global) -> CoseSignBuilder {
     let bytes = [1].to_vec(alloc).expect(rt, "no memory");
     by_one(rt, alloc)

@@ -92,8 +92,8 @@ impl Message for CoseSign1 {
 /// What the signature of `built` covers: 846a5369676e61747572653143a1012640426869.
 const COVERED: &[u8] = b"\x84\x6aSignature1\x43\xa1\x01\x26\x40\x42hi";
 
-/// A message with the algorithm ES256, the payload "hi", and the signature h'010203' where it
-/// covers `COVERED`.
+/// A message with the algorithm ES256, the payload "hi", and the signature h'010203' if it covers
+/// `COVERED`.
 fn built(rt: &impl Abort, alloc: Global) -> CoseSign1 {
     let signature = [1, 2, 3].to_vec(alloc).expect(rt, "no memory");
     let payload = b"hi".to_vec(alloc).expect(rt, "no memory");

@@ -13,7 +13,7 @@ pub(crate) type Met = Fault<CoseError>;
 /// The error of a verifier that wants another signature or structure.
 pub(crate) const MISMATCH: CoseError = CoseError::UnexpectedItem("a signature", "another one");
 
-/// The error of a message that has no such signature, or a payload of its own where it should be
+/// The error of a message that has no such signature, or a payload of its own if it should be
 /// carried elsewhere.
 pub(crate) const UNFIT: CoseError = CoseError::UnexpectedItem("a message", "another one");
 
@@ -83,7 +83,7 @@ pub(crate) const LONG: &[u8] = &[7; 300];
 const UNTRUE: CoseError = CoseError::UnexpectedItem("a call", "another one");
 
 /// What a call answers, where its closure was asked exactly if the answer isn't the call's own
-/// fault, such as want of memory.
+/// fault, such as being out of memory.
 pub(crate) fn watch<T: Drop>(is_asked: bool, answer: Result<T, Met>) -> Result<T, Met> {
     if is_asked == matches!(answer, Err(Fault::Cose(_))) {
         return Err(Fault::Caller(UNTRUE));
@@ -115,7 +115,7 @@ pub(crate) fn give(made: Vec<u8>, asked: &mut bool) -> Vec<u8> {
     made
 }
 
-/// A signed message, as the tests see it. Where it has one signature, that is the one at 0.
+/// A signed message, as the tests see it. If it has one signature, that is the one at 0.
 pub(crate) trait Message: CborSerializable + TaggedCborSerializable + PartialEq + Debug {
     /// A copy.
     fn copied(&self, alloc: Global) -> Result<Self, AllocError>;
@@ -126,7 +126,7 @@ pub(crate) trait Message: CborSerializable + TaggedCborSerializable + PartialEq 
     /// The signature there.
     fn signature(&self, which: usize) -> &[u8];
 
-    /// The signer there, where a message has several.
+    /// The signer there, if a message has several.
     fn signer(&self, which: usize) -> Option<&CoseSignature>;
 
     /// Whether the message carries no payload.

@@ -124,7 +124,7 @@ fn point_is(rt: &impl Abort, alloc: Global, key: &CoseKey, want: &str) {
     is_hex(rt, alloc, point.as_slice(), want);
 }
 
-/// A key with both coordinates, and an x of its own behind them.
+/// A key with both coordinates, and an x of its own after them.
 fn both(rt: &impl Abort, alloc: Global) -> CoseKey {
     let curve = iana::EllipticCurve::P_256;
     let (x, y) = (byte(rt, alloc, 1), byte(rt, alloc, 2));

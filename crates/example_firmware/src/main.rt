@@ -1,5 +1,5 @@
-//! `example_firmware KEYS IMAGE..`: says of each file whether it is a COSE_Mac0 whose tag is good under one of the keys. An image passes
-//! through 4 KiB of memory, however long it is.
+//! `example_firmware KEYS IMAGE..`: says of each file whether it is a COSE_Mac0 whose tag is good
+//! under one of the keys. An image passes through 4 KiB of memory, however long it is.
 #![tactic(auto)]
 
 use anyhow::Context;

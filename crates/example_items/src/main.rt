@@ -1,4 +1,5 @@
-//! Values, heads and headers written, and read again: what is written is printed in hex, and what is read as it is.
+//! Values, heads and headers written, and read again: what is written is printed in hex, and what
+//! is read as it is.
 #![tactic(auto)]
 
 use ciborium::value::Value;
@@ -30,7 +31,8 @@ fn reading(alloc: Global) -> anyhow::Result<Vec<u8>> {
     Ok(out.into_inner())
 }
 
-/// The sum of an array of numbers, without memory. There is none where other items stand, or the sum is too large.
+/// The sum of an array of numbers, without memory. There is none if other items stand, or the sum
+/// is too large.
 fn sum(bytes: &[u8]) -> Option<u64> {
     let mut decoder = Decoder::from(bytes);
     let Ok(Head::Array(Some(len))) = decoder.pull() else {

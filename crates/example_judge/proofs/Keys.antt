@@ -1,4 +1,5 @@
--- The key id of a header that was lent. A header can hold headers in its counter signatures, so its fields stand behind `out-Header`.
+-- The key id of a header that was lent. A header can hold headers in its counter signatures, so its
+-- fields are after `out-Header`.
 use Rattle.std.proofs.Common.{◌≡◌, sym, ap, ◌∙◌}
 use Rattle.cose_gate.specs.Fields.{HeaderFields, ProtectedFields, SignatureFields}
 use Rattle.cose_gate.specs.Header.{Header, out-Header, roll-out-Header, fold-roll-Header}

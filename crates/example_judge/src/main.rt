@@ -1,5 +1,6 @@
-//! `example_judge ID`: reads a CBOR sequence from standard input, one item a line and in hex, and says of each item whether it is a message
-//! with this key id. The messages that passed are printed at the end, in hex.
+//! `example_judge ID`: reads a CBOR sequence from standard input, one item a line and in hex, and
+//! says of each item whether it is a message with this key id. The messages that passed are printed
+//! at the end, in hex.
 #![tactic(auto)]
 
 ghost use Rattle.std.specs.Prelude.{◌≡◌, ℕ, List};

@@ -7,7 +7,7 @@ use std::alloc::Global;
 use std::io;
 use std::process::Abort;
 
-/// A reader that gives these bytes, and then an end or, where it breaks, a failure.
+/// A reader that gives these bytes, and then an end or, if it breaks, a failure.
 #[derive(Drop)]
 struct Device<'a> {
     bytes: &'a [u8],

@@ -4,7 +4,7 @@ use ciborium_ll::{Decoder, End, Error, Full, Header, IoFault, Read, RecodeError}
 use std::io;
 use std::process::Abort;
 
-/// A decoder behind the first title of these bytes, which is this.
+/// A decoder after the first title of these bytes, which is this.
 pub fn behind<R: Read>(rt: &impl Abort, reader: R, head: Header) -> Decoder<R> {
     let mut decoder = Decoder::from(reader);
     let is_head = matches!(decoder.pull(), Ok(first) if first == head);

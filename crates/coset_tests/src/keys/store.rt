@@ -26,7 +26,7 @@ impl KeyStore {
     }
 }
 
-/// Keys, and whether each is new behind those before it.
+/// Keys, and whether each is new after those before it.
 const KEYS: &[(&str, bool)] = &[
     // a point, and the same with its entries in another order, wide numbers and an open map
     ("a4010220012142aabb22f5", true),

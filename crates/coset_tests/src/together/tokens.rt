@@ -29,7 +29,7 @@ fn is_over(time: &Option<Timestamp>, now: i64) -> bool {
     }
 }
 
-/// The message, where its signature is that of these external data.
+/// The message, if its signature is that of these external data.
 fn opened(alloc: Global, token: &[u8], aad: &[u8]) -> Result<CoseSign1, Fault<Refused>> {
     let message = CoseSign1::from_slice(alloc, token)?;
     match verifies(alloc, &message, aad) {
@@ -58,7 +58,7 @@ fn is_issued_by(claims: &ClaimsSet, name: &str) -> bool {
     }
 }
 
-/// The claims, where the issuer has this name and their time is not over.
+/// The claims, if the issuer has this name and their time is not over.
 fn taken(claims: ClaimsSet, name: &str, now: i64) -> Result<ClaimsSet, Refused> {
     if !is_issued_by(&claims, name) {
         return Err(Refused::Issuer);
