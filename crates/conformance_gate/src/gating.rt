@@ -32,7 +32,7 @@ fn gated<W: Write, P: Report>(
     gate(alloc, &mut decoder, out, report, aad, judge)
 }
 
-/// As `gated`, within limits where there are some, and strict where it is asked.
+/// As `gated`, within limits if there are some, and strict if it is asked.
 fn gated_by<W: Write, P: Report>(
     alloc: Global,
     way: Way,
@@ -75,8 +75,8 @@ pub fn run_strict_within(to: &mut Out, row: &mut &str) {
     run_by(to, Way::StrictWithin(limits), row);
 }
 
-/// A run over this input with this external data, where the judge says no to the signature that may
-/// stand behind them: its questions, its output, what was noted of each item, and how it ended.
+/// A run over this input with this external data, if the judge says no to the signature that may
+/// stand after them: its questions, its output, what was noted of each item, and how it ended.
 fn run_by(to: &mut Out, way: Way, row: &mut &str) {
     let input = words::bytes(to, row);
     let aad = words::bytes(to, row);
@@ -92,7 +92,7 @@ fn run_by(to: &mut Out, way: Way, row: &mut &str) {
     add_end(to, ended);
 }
 
-/// A run whose output has room for so many bytes, 64 at most, and whose report keeps nothing: its
+/// A run whose output has space for so many bytes, 64 at most, and whose report keeps nothing: its
 /// output, and how it ended.
 pub fn run_in_room(to: &mut Out, row: &mut &str) {
     let room = words::number(to, row);

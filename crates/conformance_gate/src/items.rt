@@ -55,7 +55,8 @@ pub fn whole(to: &mut Out, row: &mut &str) {
     }
 }
 
-/// The value at the front in its shortest text, or why there is none and how many bytes were taken.
+/// The value at the front in its canonical encoding, or why there is none and how many bytes were
+/// taken.
 pub fn front(to: &mut Out, row: &mut &str) {
     let input = words::bytes(to, row);
     match callers::items::front_value(to.alloc(), &input) {
@@ -68,7 +69,7 @@ pub fn front(to: &mut Out, row: &mut &str) {
     }
 }
 
-/// The first two values, each in its shortest text.
+/// The first two values, each in its canonical encoding.
 pub fn two(to: &mut Out, row: &mut &str) {
     let input = words::bytes(to, row);
     match callers::items::two_values(to.alloc(), &input) {

@@ -34,7 +34,7 @@ pub fn is_header(to: &mut Out, row: &mut &str) {
     }
 }
 
-/// A header in its one shortest text.
+/// A header in its canonical encoding.
 pub fn rewritten(to: &mut Out, row: &mut &str) {
     let header = words::bytes(to, row);
     to.written(callers::heading::rewritten(to.alloc(), &header));

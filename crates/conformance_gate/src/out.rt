@@ -6,7 +6,7 @@ use std::fmt;
 /// Why a call has no answer.
 #[derive(Clone, Copy)]
 pub enum NoAnswer {
-    /// Memory was refused.
+    /// Out of memory.
     Memory,
     /// No call has this name and so many arguments.
     NoCall,
@@ -18,7 +18,7 @@ pub enum NoAnswer {
     NotRead(CoseError),
 }
 
-/// A text that is appended to, and why there is no answer, where that is so.
+/// A text that is appended to, and why there is no answer, if that is so.
 #[derive(Drop)]
 pub struct Out {
     alloc: Global,
@@ -63,14 +63,14 @@ impl Out {
         self.refuse(NoAnswer::NotRead(error));
     }
 
-    /// There is no answer where another one, on which this one rests, is none.
+    /// There is no answer if another one, on which this one rests, is none.
     pub fn refuse_as(&mut self, other: &Out) {
         if let Some(why) = other.fault {
             self.refuse(why);
         }
     }
 
-    /// Notes whether memory was refused.
+    /// Notes whether there was no memory.
     pub fn note(&mut self, done: Result<(), AllocError>) {
         if done.is_err() {
             self.refuse(NoAnswer::Memory);

@@ -40,7 +40,7 @@ pub fn run_strict(to: &mut Out, row: &mut &str) {
     add_ended(to, status, out.as_written(), err.as_written());
 }
 
-/// The same, not strict, where the output has room for so many bytes, 64 at most.
+/// The same, not strict, if the output has space for so many bytes, 64 at most.
 pub fn run_in_room(to: &mut Out, row: &mut &str) {
     let room = words::number(to, row);
     let keys = words::optional(to, row);

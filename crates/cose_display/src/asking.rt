@@ -38,7 +38,8 @@ impl<'a> Asking<'a> {
         Ok(Asking { judge, book })
     }
 
-    /// What the judge answers about an item about which the gate asks this; none where it asks nothing.
+    /// What the judge answers about an item about which the gate asks this; none where it asks
+    /// nothing.
     ///
     /// # Errors
     /// `Memory`.

@@ -8,7 +8,7 @@ use std::alloc::Global;
 pub struct Share {
     /// So many bytes of its front: none of an empty block alone.
     pub len: usize,
-    /// Whether the piece ends behind them.
+    /// Whether the piece ends after them.
     pub ends: bool,
 }
 
@@ -23,7 +23,7 @@ pub struct Cutter {
     /// How many bytes were taken, and how many before the item at hand.
     taken: usize,
     item_at: usize,
-    /// Behind a fault all goes to the piece at hand.
+    /// After a fault all goes to the piece at hand.
     fault: Option<Fault>,
 }
 

@@ -9,11 +9,11 @@ use std::{fmt, io};
 /// So many bytes are shown before the fault, and so many from it on.
 pub const AROUND: usize = 16;
 
-/// Shows what could be read of the item at hand, the fault, and the bytes around it. Of what may be keys only the fault is shown, unless
-/// secrets are asked for.
+/// Shows what could be read of the item at hand, the fault, and the bytes around it. Of what may be
+/// keys only the fault is shown, unless secrets are asked for.
 ///
 /// # Errors
-/// `Damaged` where nothing else fails.
+/// `Damaged` if nothing else fails.
 pub fn show_damage<R: io::Read + Drop, P: fmt::Write>(
     alloc: Global,
     look: Look,

@@ -7,7 +7,8 @@ use coset_labels::{CborSerializable, CoseError};
 use std::alloc::Global;
 use std::collections::BTreeMap;
 
-/// The keys of a set by their ids: of each id the first key that fits, or, if none fits, the first that has it.
+/// The keys of a set by their ids: of each id the first key that fits, or, if none fits, the first
+/// that has it.
 #[derive(Drop)]
 pub struct KeyBook<'a> {
     by_id: BTreeMap<&'a [u8], &'a CoseKey>,
@@ -58,7 +59,7 @@ fn add_key<'a>(by_id: &mut BTreeMap<&'a [u8], &'a CoseKey>, key: &'a CoseKey) ->
 /// The key set that the bytes of a file are.
 ///
 /// # Errors
-/// `OneKey` and `NoKeys` where they are none; `Memory`.
+/// `OneKey` and `NoKeys` if they are none; `Memory`.
 pub fn read_keys(alloc: Global, bytes: &[u8]) -> Result<CoseKeySet, Stop> {
     match CoseKeySet::from_slice(alloc, bytes) {
         Ok(keys) => Ok(keys),

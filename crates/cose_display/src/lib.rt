@@ -1,4 +1,5 @@
-//! What `cose-show` shows of a CBOR sequence, item by item, as text or as JSON, and where it may be cut into pieces of whole items.
+//! What `cose-show` shows of a CBOR sequence, item by item, as text or as JSON, and where it may be
+//! cut into pieces of whole items.
 #![tactic(auto)]
 
 mod asking;

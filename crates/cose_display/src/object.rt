@@ -63,10 +63,11 @@ fn write_content<P: fmt::Write>(
     Ok(())
 }
 
-/// Writes what is read of a damaged item, and the fault. Of what may be keys only the fault is written, unless secrets are asked for.
+/// Writes what is read of a damaged item, and the fault. Of what may be keys only the fault is
+/// written, unless secrets are asked for.
 ///
 /// # Errors
-/// `Damaged` where nothing else fails.
+/// `Damaged` if nothing else fails.
 pub fn write_damage<R: io::Read + Drop, P: fmt::Write>(
     alloc: Global,
     look: Look,

@@ -19,8 +19,9 @@ pub struct WrongPart {
     pub fault: CoseError,
 }
 
-/// The first part that is wrong, in the order in which the parts of a message are read: from the last to the first, and in a list from the
-/// first to the last. None where the parts are not those of the message, since then it is the whole that is wrong.
+/// The first part that is wrong, in the order in which the parts of a message are read: from the
+/// last to the first, and in a list from the first to the last. None if the parts are not those of
+/// the message, since then it is the whole that is wrong.
 ///
 /// # Errors
 /// `Memory`.
@@ -62,7 +63,7 @@ fn parts_of(alloc: Global, item: &[u8]) -> Result<Vec<&[u8]>, Stop> {
     Ok(parts)
 }
 
-/// What is wrong in a part behind the headers.
+/// What is wrong in a part after the headers.
 fn wrong_in(alloc: Global, part: Part, item: &[u8]) -> Result<Option<WrongPart>, Stop> {
     match part {
         Part::Signatures => wrong_in_list(alloc, "signature", item),
@@ -154,7 +155,7 @@ fn fault_of(alloc: Global, name: &str, one: &[u8]) -> Result<Option<CoseError>, 
     }
 }
 
-/// A signature or a recipient that is wrong: its header where that is, and else the whole.
+/// A signature or a recipient that is wrong: its header if that is, and else the whole.
 fn wrong_one(
     alloc: Global,
     name: &str,
@@ -199,7 +200,7 @@ fn wrong_header(alloc: Global, prefix: &str, parts: &[&[u8]]) -> Result<Option<W
     }
 }
 
-/// The label of the first entry that is wrong by itself, behind the name of its header.
+/// The label of the first entry that is wrong by itself, after the name of its header.
 fn wrong_label(
     alloc: Global,
     name: String,

@@ -18,7 +18,7 @@ use std::{fmt, io};
 pub struct Request<'a> {
     /// The covered bytes.
     pub questions: bool,
-    /// What keeps a message from being its shortest text.
+    /// What keeps a message from being its canonical encoding.
     pub strict: bool,
     /// JSON.
     pub json: bool,
@@ -28,10 +28,12 @@ pub struct Request<'a> {
     pub aad: &'a [u8],
 }
 
-/// Shows all items of the input, as the options say. `keys` are the bytes of the file of keys, if the judge is to be asked.
+/// Shows all items of the input, as the options say. `keys` are the bytes of the file of keys, if
+/// the judge is to be asked.
 ///
 /// # Errors
-/// `NotHex` of external data, `NoKeys` and `OneKey`, and nothing is shown; `Input`, `Memory`, `Output` and `Damaged`, and what was read before is shown.
+/// `NotHex` of external data, `NoKeys` and `OneKey`, and nothing is shown; `Input`, `Memory`,
+/// `Output` and `Damaged`, and what was read before is shown.
 pub fn show_as<R: io::Read + Drop, P: fmt::Write>(
     alloc: Global,
     options: Options<'_>,

@@ -16,7 +16,7 @@ pub enum Found {
     Damaged(Fault),
 }
 
-/// The input, of which one item is held, and what was read behind it.
+/// The input, of which one item is held, and what was read after it.
 #[derive(Drop)]
 pub struct Source<R> {
     reader: BufReader<R>,
@@ -92,13 +92,13 @@ impl<R: io::Read + Drop> Source<R> {
         Ok(())
     }
 
-    /// Goes on behind an item of so many bytes.
+    /// Goes on after an item of so many bytes.
     pub fn leave(&mut self, len: usize) {
         self.start = self.start.saturating_add(len);
         self.offset = self.offset.saturating_add(len);
     }
 
-    /// Reads what comes next, behind what is held.
+    /// Reads what comes next, after what is held.
     fn read_on(&mut self) -> Result<(), Stop> {
         self.forget();
         let count = match self.reader.fill_buf() {
@@ -115,7 +115,7 @@ impl<R: io::Read + Drop> Source<R> {
         Ok(())
     }
 
-    /// Forgets what stands before the item at hand.
+    /// Forgets what is before the item at hand.
     fn forget(&mut self) {
         let left = self.held().len();
         if self.start > 0 {

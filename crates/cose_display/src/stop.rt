@@ -29,7 +29,7 @@ pub enum Stop {
     NotNew,
     /// A file of whole items can't be made or written.
     Piece,
-    /// Memory was refused.
+    /// Out of memory.
     Memory,
     /// The input is damaged at this offset.
     Damaged(Why, usize),

@@ -118,7 +118,8 @@ impl Ruling {
     }
 }
 
-/// What is first in a message that its canonical encoding hasn't: an excess, unless the two differ before it, from this place on.
+/// What is first in a message that its canonical encoding hasn't: an excess, unless the two differ
+/// before it, from this place on.
 fn first_difference(alloc: Global, item: &[u8], place: usize) -> Result<Spelling, Fault> {
     match first_excess(alloc, item)? {
         Some((excess, at)) if at <= place => Ok(Spelling::Excess(excess, at)),
@@ -141,7 +142,8 @@ fn form_at(alloc: Global, item: &[u8], place: usize) -> Result<Form, Fault> {
     Ok(Form::Other)
 }
 
-/// Labels are keys of maps; a counter signature has three parts, and a recipient with recipients four.
+/// Labels are keys of maps; a counter signature has three parts, and a recipient with recipients
+/// four.
 fn form_of(step: Step) -> Form {
     if matches!(step.place, Place::Key { .. }) {
         return Form::Order;
@@ -158,7 +160,8 @@ fn first_other(a: &[u8], b: &[u8]) -> usize {
     a.iter().zip(b.iter()).take_while(|(x, y)| x == y).count()
 }
 
-/// Shows what the gate would say of the item at this offset, if its judge said yes to each question.
+/// Shows what the gate would say of the item at this offset, if its judge said yes to each
+/// question.
 ///
 /// # Errors
 /// `Output` and `Memory`.

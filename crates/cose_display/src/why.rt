@@ -34,7 +34,7 @@ pub struct Question<'a> {
     pub aad_len: usize,
 }
 
-/// The first reason for which a judge by these keys says no, in words; none where it says yes.
+/// The first reason for which a judge by these keys says no, in words; none if it says yes.
 ///
 /// # Errors
 /// `Memory`.

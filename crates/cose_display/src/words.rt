@@ -1,4 +1,4 @@
-//! The words of the command line.
+//! The arguments of the command line.
 use std::slice;
 
 /// The lines for words that it doesn't know.
@@ -50,7 +50,7 @@ pub enum Words<'a> {
 pub struct Options<'a> {
     /// With the covered bytes.
     pub questions: bool,
-    /// With what keeps a message from being its shortest text.
+    /// With what keeps a message from being its canonical encoding.
     pub strict: bool,
     /// As JSON.
     pub json: bool,
@@ -104,7 +104,7 @@ pub fn read_words(all: &[String]) -> Option<Words<'_>> {
     Some(Words::Run(options))
 }
 
-/// Takes a word, with those behind it that belong to it; none where it isn't known.
+/// Takes a word, with those after it that belong to it; none if it isn't known.
 fn read_word<'a>(
     word: &'a str,
     words: &mut slice::Iter<'a, String>,

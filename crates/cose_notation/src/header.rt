@@ -76,7 +76,7 @@ pub fn show_map<P: fmt::Write>(
     show_entries(alloc, look, item, level, Labels::Headers, page)
 }
 
-/// Shows the entries of a map, a line each, behind what stands in the line at hand.
+/// Shows the entries of a map, a line each, after what is in the line at hand.
 ///
 /// # Errors
 /// `Output` and `Memory`.
@@ -106,7 +106,7 @@ pub fn show_entries<P: fmt::Write>(
     Ok(())
 }
 
-/// Shows the next entry, where there is one.
+/// Shows the next entry, if there is one.
 fn show_entry<P: fmt::Write>(
     alloc: Global,
     look: Look,
@@ -147,7 +147,7 @@ pub fn name_of(labels: Labels, number: Option<i64>) -> Option<&'static str> {
     }
 }
 
-/// A value, with its registered name where its label has a registry.
+/// A value, with its registered name if its label has a registry.
 fn show_value<P: fmt::Write>(
     alloc: Global,
     look: Look,
@@ -173,7 +173,7 @@ fn show_value<P: fmt::Write>(
     Ok(())
 }
 
-/// The registered name of a value, where its label has a registry.
+/// The registered name of a value, if its label has a registry.
 pub fn value_name(labels: Labels, label: Option<i64>, value: Option<i64>) -> Option<&'static str> {
     let value = value?;
     match (labels, label) {

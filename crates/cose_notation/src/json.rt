@@ -1,9 +1,10 @@
-//! Members of JSON objects (RFC 8259). They are written as they come, so that nothing is held beside the item.
+//! Members of JSON objects (RFC 8259). They are written as they come, so that nothing is held
+//! beside the item.
 use cbor_diag::{NotWritten, Style, write_hex, write_item};
 use std::alloc::Global;
 use std::fmt;
 
-/// What stands between the quotes of a JSON text.
+/// What is between the quotes of a JSON text.
 #[derive(Drop)]
 pub struct Quoted<'a, P> {
     /// What the text is written to.
@@ -24,7 +25,7 @@ impl<'a, P: fmt::Write> fmt::Write for Quoted<'a, P> {
     }
 }
 
-/// Writes the name of a member behind others.
+/// Writes the name of a member after others.
 ///
 /// # Errors
 /// Those of the writer.
@@ -54,7 +55,7 @@ pub fn write_hex_text<P: fmt::Write>(bytes: &[u8], page: &mut P) -> fmt::Result 
     page.write_str("\"")
 }
 
-/// Writes the notation of an item between quotes; of a damaged one what stands in front of the fault.
+/// Writes the notation of an item between quotes; of a damaged one what is in front of the fault.
 ///
 /// # Errors
 /// `Output` and `Memory`; `Fault` once the text is ended.

@@ -44,7 +44,8 @@ fn labeled(name: &'static str, part: KeyPart) -> KeyLabel {
     }
 }
 
-/// What a label is in a key of this type: the registries "COSE Key Common Parameters" and "COSE Key Type Parameters".
+/// What a label is in a key of this type: the registries "COSE Key Common Parameters" and "COSE Key
+/// Type Parameters".
 pub fn key_label(kty: Option<KeyType>, label: Option<i64>) -> KeyLabel {
     let Some(number) = label else {
         return UNKNOWN;

@@ -8,8 +8,8 @@ use cose_iana::KeyType;
 use std::alloc::Global;
 use std::fmt;
 
-/// Writes the members of keys: `kind`, and `keys`, a list of lists of entries. What may be a secret has a `length` in place of a `value`,
-/// unless secrets are asked for.
+/// Writes the members of keys: `kind`, and `keys`, a list of lists of entries. What may be a secret
+/// has a `length` in place of a `value`, unless secrets are asked for.
 ///
 /// # Errors
 /// `Output` and `Memory`.

@@ -1,4 +1,5 @@
-//! Keys and sets of keys (RFC 9052, section 7). What may be a secret is shown by its length alone, unless secrets are asked for.
+//! Keys and sets of keys (RFC 9052, section 7). What may be a secret is shown by its length alone,
+//! unless secrets are asked for.
 use crate::key_labels::{KeyPart, key_label};
 use crate::line::{begin_line, write_len};
 use crate::look::Look;
@@ -29,8 +30,9 @@ impl Keys {
     }
 }
 
-/// Whether an item is a key, or an array with a key in it. A key is told by a type (label 1), beside which there is a label of its type (below
-/// 0), or, if the type is registered, a key id (label 2).
+/// Whether an item is a key, or an array with a key in it. A key is told by a type (label 1),
+/// beside which there is a label of its type (below 0), or, if the type is registered, a key id
+/// (label 2).
 ///
 /// # Errors
 /// `Memory`.
@@ -51,8 +53,8 @@ pub fn keys_in(alloc: Global, item: &[u8]) -> Result<Option<Keys>, NotWritten> {
     Ok(None)
 }
 
-/// Whether the front of an item may hold secrets of keys: it is an array or a map, and in it a map has a label below 0. So it is if memory
-/// for the walk is refused.
+/// Whether the front of an item may hold secrets of keys: it is an array or a map, and in it a map
+/// has a label below 0. So it is if memory for the walk is refused.
 pub fn may_be_keys(alloc: Global, front: &[u8]) -> bool {
     if !matches!(header_of(front), Some(Header::Array(_) | Header::Map(_))) {
         return false;
@@ -127,7 +129,7 @@ fn kty_in(alloc: Global, item: &[u8]) -> Result<Option<&[u8]>, NotWritten> {
     Ok(None)
 }
 
-/// The type of the key that a map is, where it has a registered one.
+/// The type of the key that a map is, if it has a registered one.
 ///
 /// # Errors
 /// `Memory`.
@@ -243,7 +245,8 @@ fn show_entry<P: fmt::Write>(
     }
 }
 
-/// Whether a value is no secret. The type, the algorithm, the curve and the operations are numbers and texts.
+/// Whether a value is no secret. The type, the algorithm, the curve and the operations are numbers
+/// and texts.
 ///
 /// # Errors
 /// `Memory`.

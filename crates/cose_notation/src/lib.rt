@@ -1,4 +1,5 @@
-//! What a COSE message holds (RFC 9052), as lines of text and as members of a JSON object, with the registered names.
+//! What a COSE message holds (RFC 9052), as lines of text and as members of a JSON object, with the
+//! registered names.
 #![tactic(auto)]
 
 mod header;

@@ -9,8 +9,8 @@ use cbor_diag::NotWritten;
 use std::alloc::Global;
 use std::fmt;
 
-/// Writes the members of a message behind others: its kind, its headers with the registered names, and its parts. Of another item there are
-/// none.
+/// Writes the members of a message after others: its kind, its headers with the registered names,
+/// and its parts. Of another item there are none.
 ///
 /// # Errors
 /// `Output` and `Memory`.
@@ -64,7 +64,8 @@ fn write_headers<P: fmt::Write>(
     Ok(())
 }
 
-/// A protected header: the entries of the map that it holds, none where it is empty, and else the notation of what stands there.
+/// A protected header: the entries of the map that it holds, none if it is empty, and else the
+/// notation of what is there.
 fn write_protected<P: fmt::Write>(
     alloc: Global,
     item: &[u8],
@@ -150,7 +151,7 @@ fn write_part<P: fmt::Write>(
     }
 }
 
-/// A byte string in hex, null where a part is detached, and the notation of another item.
+/// A byte string in hex, null if a part is detached, and the notation of another item.
 fn write_bytes<P: fmt::Write>(alloc: Global, item: &[u8], page: &mut P) -> Result<(), NotWritten> {
     if is_null(item) {
         page.write_str("null")?;
@@ -164,7 +165,7 @@ fn write_bytes<P: fmt::Write>(alloc: Global, item: &[u8], page: &mut P) -> Resul
     Ok(())
 }
 
-/// A payload, and its claims where it is a claims set.
+/// A payload, and its claims if it is a claims set.
 fn write_payload<P: fmt::Write>(
     alloc: Global,
     item: &[u8],
@@ -182,7 +183,7 @@ fn write_payload<P: fmt::Write>(
     Ok(())
 }
 
-/// Signatures or recipients, with the name of what each holds behind its headers.
+/// Signatures or recipients, with the name of what each holds after its headers.
 fn write_list<P: fmt::Write>(
     alloc: Global,
     last: &str,

@@ -12,7 +12,7 @@ use std::fmt;
 /// The tag of a CBOR Web Token (RFC 8392, section 6).
 const CWT: u64 = 61;
 
-/// What a message's parts behind its headers are.
+/// What a message's parts after its headers are.
 #[derive(Debug, Clone, Copy, PartialEq, Eq)]
 pub struct Form {
     /// Its name.
@@ -21,7 +21,7 @@ pub struct Form {
     pub parts: &'static [Part],
 }
 
-/// A part of a message behind its headers.
+/// A part of a message after its headers.
 #[derive(Debug, Clone, Copy, PartialEq, Eq)]
 pub enum Part {
     /// The payload.
@@ -81,7 +81,8 @@ fn form_of(tag: u64) -> Option<Form> {
     }
 }
 
-/// What kind of message an item is, with its tag, and what the tag is around. The tag of a CWT around it is passed over.
+/// What kind of message an item is, with its tag, and what the tag is around. The tag of a CWT
+/// around it is ignored.
 pub fn message_of(item: &[u8]) -> Option<(Form, u64, &[u8])> {
     let (tag, content) = match tagged(item)? {
         (CWT, content) => tagged(content)?,

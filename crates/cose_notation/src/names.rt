@@ -1,11 +1,12 @@
-//! Registered names, as the registries of IANA write them. Each match is over all entries of a registry, so one without a name doesn't
-//! compile.
+//! Registered names, as the registries of IANA write them. Each match is over all entries of a
+//! registry, so one without a name doesn't compile.
 use cose_iana::{
     Algorithm, CoapContentFormat, CwtClaimName, EllipticCurve, EnumI64, HeaderAlgorithmParameter,
     HeaderParameter, KeyOperation, KeyParameter, KeyType,
 };
 
-/// The name of a header parameter: the registries "COSE Header Parameters" and "COSE Header Algorithm Parameters".
+/// The name of a header parameter: the registries "COSE Header Parameters" and "COSE Header
+/// Algorithm Parameters".
 pub fn parameter(number: i64) -> Option<&'static str> {
     match HeaderParameter::from_i64(number) {
         Some(entry) => Some(header_name(entry)),

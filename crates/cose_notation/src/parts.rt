@@ -94,7 +94,7 @@ pub fn tagged(item: &[u8]) -> Option<(u64, &[u8])> {
     }
 }
 
-/// An integer that an item is, where it is small.
+/// An integer that an item is, if it is small.
 pub fn integer(item: &[u8]) -> Option<i64> {
     match header_of(item) {
         Some(Header::Positive(n)) => i64::try_from(n).ok(),

@@ -77,7 +77,7 @@ fn show_as_item<P: fmt::Write>(
     Ok(())
 }
 
-/// The text that bytes are, where it has no control characters but those between lines and words.
+/// The text that bytes are, if it has no control characters but those between lines and words.
 fn plain_text(bytes: &[u8]) -> Option<&str> {
     if bytes.is_empty() {
         return None;
@@ -116,7 +116,8 @@ pub fn has_claims(alloc: Global, payload: &[u8]) -> Result<bool, NotWritten> {
     }
 }
 
-/// Whether an item is a claims set (RFC 8392): a map whose keys are numbers and texts, a registered claim among them.
+/// Whether an item is a claims set (RFC 8392): a map whose keys are numbers and texts, a registered
+/// claim among them.
 fn is_claims(alloc: Global, item: &[u8]) -> Result<bool, NotWritten> {
     let Some(mut parts) = entries(alloc, item) else {
         return Ok(false);

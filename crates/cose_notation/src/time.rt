@@ -11,7 +11,8 @@ const DAY: u64 = 86_400;
 /// The days of 400 years.
 const ERA: u64 = 146_097;
 
-/// The seconds from the first of March of the year 0 to the first of January 1970, in the calendar of ISO 8601.
+/// The seconds from the first of March of the year 0 to the first of January 1970, in the calendar
+/// of ISO 8601.
 const TO_1970: i64 = 62_162_035_200;
 
 /// The last second of the year 9999, counted from 1970 on.
@@ -42,7 +43,8 @@ impl fmt::Display for Time {
     }
 }
 
-/// The time that a claim is: `exp`, `nbf` or `iat`, a number of seconds from 1970 on (RFC 8392, section 2); a fraction is left out.
+/// The time that a claim is: `exp`, `nbf` or `iat`, a number of seconds from 1970 on (RFC 8392,
+/// section 2); a fraction is left out.
 pub fn claim_time(labels: Labels, label: Option<i64>, value: &[u8]) -> Option<Time> {
     match (labels, label) {
         (Labels::Claims, Some(4..=6)) => time_of(seconds(value)?),
@@ -57,7 +59,8 @@ fn seconds(value: &[u8]) -> Option<i64> {
     }
 }
 
-/// The time so many seconds after 1970 begins; none before March of the year 0 and after the year 9999.
+/// The time so many seconds after 1970 begins; none before March of the year 0 and after the year
+/// 9999.
 fn time_of(seconds: i64) -> Option<Time> {
     if seconds > LAST {
         return None;
@@ -69,7 +72,8 @@ fn time_of(seconds: i64) -> Option<Time> {
     }
 }
 
-/// The time so many seconds after the first of March of the year 0. Years begin with March here, so that a leap day is the last one.
+/// The time so many seconds after the first of March of the year 0. Years begin with March here, so
+/// that a leap day is the last one.
 fn time_after(total: u64) -> Time {
     let days = total / DAY;
     let day_of_era = days % ERA;

@@ -16,7 +16,7 @@ struct Files<'a> {
     open: Option<BufWriter<File>>,
 }
 
-/// Writes whole items to files. The files behind one another are the input, damaged or not.
+/// Writes whole items to files. The files after one another are the input, damaged or not.
 ///
 /// # Errors
 /// `Input`, `Memory`, `NoFolder`, `NotNew`, `Piece`; `Damaged` once all is written.
