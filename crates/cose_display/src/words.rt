@@ -21,7 +21,7 @@ its shape. Strings of more than 64 bytes are cut; secrets of keys are left out.
                the file KEYS, and the first reason if it is no
   --questions  also the bytes that each signature or tag covers, in hex
   --aad HEX    the external data of the questions, in hex; without it empty
-  --strict     also whether a message that may pass is its one shortest text,
+  --strict     also whether a message that may pass is in canonical encoding,
                and the first place where it isn't
   --full       strings whole, and the diagnostic notation of messages too
   --secrets    also the secrets of keys
@@ -31,9 +31,9 @@ its shape. Strings of more than 64 bytes are cut; secrets of keys are left out.
                on, whole items each, of at least SIZE bytes but for the last
   -h, --help   this text
 
-Status 0, or 2 for unknown words, 3 where FILE or KEYS can't be opened or KEYS
-is no key set, 4 where the input is damaged or can't be read, or the output
-can't be written.
+Status 0, or 2 for unknown arguments, 3 if FILE or KEYS can't be opened or KEYS
+is no key set, 4 if the input is damaged or can't be read, or the output can't
+be written.
 ";
 
 /// What is asked for.
