@@ -1,23 +1,39 @@
 #!/usr/bin/env bash
-# scripts/install.sh PREFIX: puts the programs cose-gate, cose-ask and cose-pass into PREFIX/bin and their manual pages into
-# PREFIX/share/man/man1. They are proved and built first if a source has changed; if that fails nothing is installed, and the status is 70.
+# scripts/install.sh [--library] PREFIX: puts the programs cose-gate, cose-ask, cose-pass and cose-show into PREFIX/bin and their manual pages
+# into PREFIX/share/man/man1. With --library also the library for C: PREFIX/lib/libcose_gate.a, PREFIX/include/cose_gate.h and
+# PREFIX/lib/pkgconfig/cose_gate.pc, as in `cc check.c $(pkg-config --cflags --libs cose_gate)`. All are proved and built first if a source
+# has changed; if that fails nothing is installed, and the status is 70.
 set -u
 top=$(cd "$(dirname "$(readlink -f "${BASH_SOURCE[0]}")")/.." && pwd)
 
+library=
+if [ "${1-}" = --library ]; then
+  library=yes
+  shift
+fi
 if [ $# -ne 1 ] || [ -z "$1" ] || [ "${1#-}" != "$1" ]; then
-  echo "usage: scripts/install.sh PREFIX, as in scripts/install.sh ~/.local" >&2
+  echo "usage: scripts/install.sh [--library] PREFIX, as in scripts/install.sh ~/.local" >&2
   exit 2
 fi
 prefix=$1
+programs="gate:cose_gate_cli ask:cose_ask_cli pass:cose_pass_cli show:cose_show"
 
-for name in gate ask pass; do
-  bash "$top/scripts/proved.sh" "cose-$name" "cose_${name}_cli"
+for each in $programs; do
+  name=cose-${each%%:*}
+  bash "$top/scripts/proved.sh" "$name" "${each#*:}"
   status=$?
   if [ $status -ne 0 ]; then
-    echo "install.sh: cose-$name is not proved, so nothing is installed" >&2
+    echo "install.sh: $name is not proved, so nothing is installed" >&2
     exit $status
   fi
 done
+archive=$top/crates/cose_gate_c/out/libcose_gate_c.a
+# The kit's C code for memory is beside its rt.
+kit=${RT_KIT:-$(dirname "$(dirname "$(readlink -f "$(command -v rt || echo /opt/rattle/bin/rt)")")")}
+if [ -n "$library" ] && ! { (cd "$top/crates/cose_gate_c" && rt lib) > /dev/null && [ -f "$archive" ]; }; then
+  echo "install.sh: the library is not proved, so nothing is installed" >&2
+  exit 70
+fi
 
 # Copies a file, with a mode, and says so.
 put() {
@@ -28,10 +44,29 @@ put() {
   echo "install.sh: wrote $3"
 }
 
-for name in gate ask pass; do
-  put 755 "$top/crates/cose_${name}_cli/out/cose_${name}_cli" "$prefix/bin/cose-$name"
-  put 644 "$top/docs/cose-$name.1" "$prefix/share/man/man1/cose-$name.1"
+for each in $programs; do
+  name=cose-${each%%:*}
+  crate=${each#*:}
+  put 755 "$top/crates/$crate/out/$crate" "$prefix/bin/$name"
+  put 644 "$top/docs/$name.1" "$prefix/share/man/man1/$name.1"
 done
+if [ -n "$library" ]; then
+  # One archive: the library, and the kit's C code for memory that it is linked with.
+  made=$(mktemp -d)
+  trap 'rm -rf "$made"' EXIT
+  printf 'create %s\naddlib %s\naddlib %s\nsave\nend\n' "$made/libcose_gate.a" "$archive" "$kit/c/liblibc_c.a" | ar -M || exit 1
+  {
+    echo "prefix=$(mkdir -p "$prefix" && cd "$prefix" && pwd)"
+    echo 'Name: cose_gate'
+    echo 'Description: lets through the COSE messages of a CBOR sequence that are good'
+    echo "Version: $(git -C "$top" log -1 --format=%cd --date=format:%Y.%m.%d 2> /dev/null || echo 0)"
+    echo 'Cflags: -I${prefix}/include'
+    echo 'Libs: -L${prefix}/lib -lcose_gate'
+  } > "$made/cose_gate.pc"
+  put 644 "$made/libcose_gate.a" "$prefix/lib/libcose_gate.a"
+  put 644 "$top/include/cose_gate.h" "$prefix/include/cose_gate.h"
+  put 644 "$made/cose_gate.pc" "$prefix/lib/pkgconfig/cose_gate.pc"
+fi
 case ":$PATH:" in
   *":$(cd "$prefix/bin" && pwd):"*) ;;
   *) echo "install.sh: $prefix/bin is not in PATH" ;;

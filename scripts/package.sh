@@ -1,6 +1,6 @@
 #!/usr/bin/env bash
-# scripts/package.sh FOLDER: makes cose-gate_VERSION_amd64.deb and cose-gate_VERSION_amd64.tar.gz in FOLDER: the programs cose-gate, cose-ask
-# and cose-pass as they were proved and built, their manual pages, LICENSE and NOTICE. They are proved and built first if a source has changed; if
+# scripts/package.sh FOLDER: makes cose-gate_VERSION_amd64.deb and cose-gate_VERSION_amd64.tar.gz in FOLDER: the programs cose-gate, cose-ask,
+# cose-pass and cose-show as they were proved and built, their manual pages, LICENSE and NOTICE. They are proved and built first if a source has changed; if
 # that fails nothing is made, and the status is 70. VERSION is the day of the last commit. The same commit gives the same bytes.
 set -eu
 top=$(cd "$(dirname "$(readlink -f "${BASH_SOURCE[0]}")")/.." && pwd)
@@ -11,8 +11,9 @@ fi
 mkdir -p "$1"
 folder=$(cd "$1" && pwd)
 
-for name in gate ask pass; do
-  bash "$top/scripts/proved.sh" "cose-$name" "cose_${name}_cli" || exit
+programs="gate:cose_gate_cli ask:cose_ask_cli pass:cose_pass_cli show:cose_show"
+for each in $programs; do
+  bash "$top/scripts/proved.sh" "cose-${each%%:*}" "${each#*:}" || exit
 done
 
 time=$(git -C "$top" log -1 --format=%ct)
@@ -24,8 +25,10 @@ chmod 755 "$tree"
 put() {
   install -D -m "$1" "$2" "$tree/$name/$3"
 }
-for program in gate ask pass; do
-  put 755 "$top/crates/cose_${program}_cli/out/cose_${program}_cli" "usr/bin/cose-$program"
+for each in $programs; do
+  program=${each%%:*}
+  crate=${each#*:}
+  put 755 "$top/crates/$crate/out/$crate" "usr/bin/cose-$program"
   mkdir -p "$tree/$name/usr/share/man/man1"
   gzip -9 -n < "$top/docs/cose-$program.1" > "$tree/$name/usr/share/man/man1/cose-$program.1.gz"
 done
@@ -49,7 +52,8 @@ Section: utils
 Priority: optional
 Description: let through the COSE messages of a CBOR sequence that are good
  cose-gate checks the HMAC of each COSE_Mac0; cose-ask and cose-pass let any
- program check signatures. The library that they run is proved for every input.
+ program check signatures; cose-show shows what a sequence holds. The library
+ that the first three run is proved for every input.
 CONTROL
   find "$tree/$name" -exec touch -h -d "@$time" {} +
   SOURCE_DATE_EPOCH=$time dpkg-deb --root-owner-group -Zxz --build "$tree/$name" "$folder/$name.deb" > /dev/null
