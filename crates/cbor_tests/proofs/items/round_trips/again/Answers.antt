@@ -1,4 +1,4 @@
-use Rattle.std.proofs.Common.{◌≡◌, ◌≤◌, ◌<◌, ◌^◌, ℕ, true, List, [], ◌++◌, length, Option, None, Some, Result, Ok, Err, IfOk, IfErr, inl, inr, refl, sym, ap, subst, ◌∙◌, arith, append-nil}
+use Rattle.std.proofs.Common.{◌≡◌, ◌≤◌, ◌<◌, ◌^◌, ℕ, Bool, true, List, [], ◌++◌, length, Option, None, Some, Result, Ok, Err, IfOk, IfErr, inl, inr, refl, sym, ap, subst, ◌∙◌, arith, append-nil}
 use Rattle.ciborium.specs.declared.de.Error.{Error}
 use Rattle.ciborium.specs.declared.de.Error.TheVariants as code
 use Rattle.ciborium.specs.Tree.{Tree, depth}
@@ -42,21 +42,21 @@ module _ {T : Type 0} (put : T → Tree) (refusal : Tree → Option Kind) (takes
     of_bytes code.Memory p = refl
     of_bytes code.TooLong p = absurd (short p)
 
-    of_type : {E : Type 0} (e : Error E) → IsTypeFault None e → e ≡ code.Memory
-    of_type (code.Io e) p = absurd p
-    of_type (code.Syntax n) p = absurd p
-    of_type (code.Semantic o k) p = let q : None ≡ Some k = p.1 in cc
-    of_type code.RecursionLimitExceeded p = absurd p
-    of_type code.Memory p = refl
-    of_type code.TooLong p = absurd p
+    of_type : {E : Type 0} (grows : Bool) (e : Error E) → IsTypeFault grows None e → e ≡ code.Memory
+    of_type grows (code.Io e) p = absurd p
+    of_type grows (code.Syntax n) p = absurd p
+    of_type grows (code.Semantic o k) p = let q : None ≡ Some k = p.1 in cc
+    of_type grows code.RecursionLimitExceeded p = absurd p
+    of_type grows code.Memory p = refl
+    of_type grows code.TooLong p = absurd p
 
-    memory : {E : Type 0} (r : Result T (Error E)) (new : Option (List ℕ)) → IfErr r (IsUnread (λ z. true) refusal nesting (Some b) new) → IfErr r (λ e. e ≡ code.Memory)
-    memory (Ok y) new p = tt
-    memory (Err e) new (inl p) = of_bytes e p
-    memory (Err e) (Some ys) (inr (c, p, q)) =
+    memory : {E : Type 0} (grows : Bool) (r : Result T (Error E)) (new : Option (List ℕ)) → IfErr r (IsUnread (λ z. true) grows refusal nesting (Some b) new) → IfErr r (λ e. e ≡ code.Memory)
+    memory grows (Ok y) new p = tt
+    memory grows (Err e) new (inl p) = of_bytes e p
+    memory grows (Err e) (Some ys) (inr (c, p, q)) =
         let none : refusal q.item ≡ None = (item nesting c [] ys q.item (begins c ys p) q.reads).1 in
-        of_type e (subst (λ (o : Option Kind). IsTypeFault o e) none q.why)
-    memory (Err e) None (inr (c, p, q)) = absurd p
+        of_type grows e (subst (λ (o : Option Kind). IsTypeFault grows o e) none q.why)
+    memory grows (Err e) None (inr (c, p, q)) = absurd p
 
 pub returns-clause-same : goal.returns-clause-same
 returns-clause-same g c =
@@ -75,4 +75,4 @@ returns-clause-memory g c =
     memory g.T.Serialize.put g.T.Deserialize.refusal g.T.Deserialize.takes c.args.value.now c.as_written-bytes.result.now
     (c.as_written-bytes.ensures ∙ c.in-Ok.ensures.ok ∙ ap (λ (z : List ℕ). z ++ enc (g.T.Serialize.put c.args.value.now)) new)
     (c.written_is_read.ensures.whole c.requires.kept) (c.written_is_read.ensures.item c.requires.kept) c.requires.shallow (λ l. omega arith)
-    c.from_reader.result (Some c.from_reader.new.reader.now) c.from_reader.ensures.err
+    g.T.Deserialize.grows c.from_reader.result (Some c.from_reader.new.reader.now) c.from_reader.ensures.err
