@@ -16,9 +16,9 @@ const BLOCK: usize = 65536;
 const HELP: &str = "\
 usage: cose-gate [--strict] KEYS [AADHEX] < INPUT > PASSED
 Reads a CBOR sequence, and writes the messages that pass, each in canonical encoding.
-What passes: a COSE_Mac0 in its tag 17, whose MAC is HMAC with SHA-256 under the first key that matches it.
+What passes: a COSE_Mac0 in its tag 17, whose MAC is HMAC with SHA-256 under its first matching key.
 KEYS: a file with a COSE_KeySet. AADHEX: the external data in hex, empty if it is left out.
-With --strict a message passes only if it is in canonical encoding already; any other is refused: NotShortest.
+With --strict a message that isn't in canonical encoding already is refused: NotShortest.
 On standard error: a line for each item, and at the end how many passed and were refused.
 Status 0: no item was refused. 1: some were. 2: wrong arguments, or AADHEX is not hex.
 3: KEYS can't be read, or is no key set. 4: the input is no CBOR, or input, output or memory failed.
