@@ -23,7 +23,7 @@ has_help() {
   [ -n "$program" ] && [ "$program" = "$script" ] || { echo "$1 and $2 have different help"; status=1; }
 }
 has_help cose-gate crates/cose_gate_cli/src/main.rt
-has_help cose-show crates/cose_display/src/words.rt
+has_help cose-show crates/cose_show_core/src/words.rt
 has_help cose-ask crates/cose_ask_cli/src/main.rt
 has_help cose-pass crates/cose_pass_cli/src/main.rt
 

@@ -1,5 +1,5 @@
 //! Tests of `ciborium_ll`, `ciborium_value`, `ciborium_typed` (with `ciborium_traits`), `ciborium`
-//! and `cbor_diag`, by their public names: what no clause and no row of `conformance` says.
+//! and `cbor_diag`, by their public names: what no clause and no row of `conformance_cbor` says.
 #![tactic(auto)]
 
 #[cfg(test)]

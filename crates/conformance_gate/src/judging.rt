@@ -2,9 +2,9 @@
 use crate::out::{NoAnswer, Out};
 use crate::words;
 use ciborium_value::Value;
-use cose_display::{KeyBook, Question, reason};
 use cose_gate::{About, Header, HmacJudge, Judge, MessageKind, ProtectedHeader};
 use cose_gate_hmac::is_good_tag;
+use cose_show_core::{KeyBook, Question, reason};
 use coset_keys::CoseKeySet;
 use coset_labels::CborSerializable;
 

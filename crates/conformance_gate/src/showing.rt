@@ -1,7 +1,7 @@
 //! What `cose-show` shows, and where it cuts.
 use crate::out::{NoAnswer, Out};
 use crate::words;
-use cose_display::{Cutter, Options, Stop, Words, read_words, show_as};
+use cose_show_core::{Cutter, Options, Stop, Words, read_words, show_as};
 use std::io::BufReader;
 
 /// What is shown of an input with these words of a command line: the status, the text with a `|`

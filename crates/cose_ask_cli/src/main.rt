@@ -5,8 +5,8 @@
 
 use ciborium_ll::{Io, Write};
 use cose_ask_core::{AskArguments, NotRun, ask_arguments, asks_for_help, read_aad, write_lines};
-use cose_asked::{Asker, Nowhere};
 use cose_gate_program::{Blocks, Limits, Terms, run_judged};
+use cose_gate_records::{Asker, Nowhere};
 use std::io::{BufReader, BufWriter};
 use std::process::ExitCode;
 use std::{env, io};

@@ -86,7 +86,7 @@ pub use Rattle.cose_gate_program.specs.Words
 pub use Rattle.cose_gate_stream.specs.Stated
 pub use Rattle.cose_gate_stream.specs.Streaming
 pub use Rattle.cose_gate_stream.specs.declared.fault.StreamFault
-pub use Rattle.cose_asked.specs.Framing as RecordFraming
-pub use Rattle.cose_asked.specs.Kept as RecordsKept
-pub use Rattle.cose_asked.specs.Records
+pub use Rattle.cose_gate_records.specs.Framing as RecordFraming
+pub use Rattle.cose_gate_records.specs.Kept as RecordsKept
+pub use Rattle.cose_gate_records.specs.Records
 pub use Rattle.cose_gate_laws.specs.GateCore.Terms

@@ -8,13 +8,13 @@ mod gating;
 pub mod laws;
 
 pub use crate::gating::{gate, gate_strict, gate_strict_with, gate_with};
-pub use cose_asked::{Accepted, Asker, Nowhere};
 pub use cose_gate_laws::gate_core::{
     About, Algorithm, Asked, ContentType, CoseError, CoseRecipient, CoseSignature, Counts, Decoder,
     End, Entry, Full, GateFault, Header, Io, IoFault, Judge, Label, Limits, Log, Mem, MessageKind,
     ProtectedHeader, Read, Recorder, Refusal, RegisteredLabel, RegisteredLabelWithPrivate, Report,
     SemanticKind, Silent, Terms, Verdict, Write, de,
 };
+pub use cose_gate_records::{Accepted, Asker, Nowhere};
 /// The kind of a message, under its short name.
 pub use cose_gate_laws::gate_core::MessageKind as Kind;
 pub use cose_gate_program::judge::HmacJudge;

@@ -10,9 +10,9 @@ use Rattle.cose_gate_hmac.specs.GateCore.Terms.{limits_by}
 use Rattle.cose_gate_hmac.specs.GateCore.Questions.{Question}
 use Rattle.cose_gate_hmac.specs.Judge.{says_yes}
 use Rattle.cose_gate_program.specs.Program.{Devices, EndsOver, IsUnreadableBy, Stops, writer, flush, reader, no_item, memory, RanOver, RanOn, RanJudged, Hearing, IsAskedAt, IsAskedIn}
-use Rattle.cose_asked.specs.Framing.{framed}
-use Rattle.cose_asked.specs.Records.{record_of, is_among}
-use Rattle.cose_asked.proofs.Asked.{told_all}
+use Rattle.cose_gate_records.specs.Framing.{framed}
+use Rattle.cose_gate_records.specs.Records.{record_of, is_among}
+use Rattle.cose_gate_records.proofs.Asked.{told_all}
 use Rattle.cose_gate_c.specs.Library.{within, before, after, IsRunStatus, Runs, RunsBy, NoMemory, Passed, ToldUpTo, Tells, Places, Answers}
 use Rattle.cose_gate_c.specs.declared.answer.Answer.{Answer}
 

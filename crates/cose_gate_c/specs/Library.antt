@@ -7,8 +7,8 @@ use Rattle.cose_gate_hmac.specs.GateCore.Questions.{Question}
 use Rattle.cose_gate_hmac.specs.GateCore.Run.{Step, Course, questions_of}
 use Rattle.cose_gate_hmac.specs.Judge.{says_yes}
 use Rattle.cose_gate_program.specs.Program.{Devices, EndsOver, RanOn, IsUnreadable}
-use Rattle.cose_asked.specs.Framing.{framed}
-use Rattle.cose_asked.specs.Records.{is_among, record_of}
+use Rattle.cose_gate_records.specs.Framing.{framed}
+use Rattle.cose_gate_records.specs.Records.{is_among, record_of}
 use Rattle.cose_gate_c.specs.declared.answer.Answer.{Answer}
 
 -- so many levels and layers; a strict gate passes only what is already as it would be written

@@ -6,8 +6,8 @@ ghost use Rattle.cose_gate_c.specs.Library.{Asks, Told, Places};
 use crate::answer::{Answer, no_limits};
 use crate::lines::Lines;
 use crate::place::{place, place_none};
-use cose_asked::{Asker, Nowhere};
 use cose_gate_program::{Limits, Terms, run_judged};
+use cose_gate_records::{Asker, Nowhere};
 use std::alloc::Global;
 
 /// Asks by these terms.

@@ -6,8 +6,8 @@ ghost use Rattle.cose_gate_c.specs.Library.{Checks, Checked, Places};
 use crate::answer::{Answer, no_limits};
 use crate::lines::Lines;
 use crate::place::{place, place_none};
-use cose_asked::Growing;
 use cose_gate_program::{Limits, Terms, run_over};
+use cose_gate_records::Growing;
 use std::alloc::Global;
 
 /// Runs the gate by these terms.

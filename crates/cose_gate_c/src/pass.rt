@@ -1,14 +1,14 @@
 //! The messages whose questions were accepted.
 ghost use Rattle.std.specs.Prelude.{◌≡◌, ◌⊎◌, ℕ, List};
 ghost use Rattle.cose_gate_hmac.specs.GateCore.Terms.{limits_of};
-ghost use Rattle.cose_asked.specs.Kept.{keys_of};
+ghost use Rattle.cose_gate_records.specs.Kept.{keys_of};
 ghost use Rattle.cose_gate_c.specs.Library.{NoMemory, Passes, Passed, Places, RunsBy};
 
 use crate::answer::{Answer, no_limits};
 use crate::lines::{Lines, STOPPED};
 use crate::place::{place, place_none};
-use cose_asked::{Accepted, Growing};
 use cose_gate_program::{Limits, Terms, run_judged};
+use cose_gate_records::{Accepted, Growing};
 use std::alloc::Global;
 
 /// Passes what this judge accepts.

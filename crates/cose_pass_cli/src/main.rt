@@ -7,8 +7,8 @@ use ciborium_ll::Io;
 use cose_ask_core::{
     NotRun, PassArguments, asks_for_help, pass_arguments, read_aad, read_accepted,
 };
-use cose_asked::Accepted;
 use cose_gate_program::{Blocks, Limits, Terms, run_judged};
+use cose_gate_records::Accepted;
 use std::io::{BufReader, BufWriter};
 use std::process::ExitCode;
 use std::{env, fs, io};

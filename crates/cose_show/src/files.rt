@@ -1,5 +1,5 @@
 //! Files of whole items.
-use cose_display::{Cut, Cutter, Share, Stop};
+use cose_show_core::{Cut, Cutter, Share, Stop};
 use std::fs::{self, File, OpenOptions};
 use std::io::{self, BufRead, BufReader, BufWriter, Write};
 

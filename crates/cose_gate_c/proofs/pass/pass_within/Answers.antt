@@ -1,7 +1,7 @@
 use Rattle.std.proofs.Common.{◌≡◌, ℕ, List, [], inl, inr, refl, flat_map}
 use Rattle.std.proofs.lemmas.Option.{MatchOption-at_none, MatchOption-at_some}
-use Rattle.cose_asked.specs.Framing.{framed}
-use Rattle.cose_asked.specs.Kept.{keys_of}
+use Rattle.cose_gate_records.specs.Framing.{framed}
+use Rattle.cose_gate_records.specs.Kept.{keys_of}
 use Rattle.cose_gate_c.proofs.Runs.{passed, places_none}
 use Rattle.cose_gate_c.proofs.pass.pass_within.Goals as goal
 

@@ -1,8 +1,0 @@
-use Rattle.std.proofs.Common.{rules, ◌≡◌, ◌++◌, ℕ, List, MatchOption, map, flat_map, ◌+◌, ◌-◌, ◌<◌, ◌≤◌, length, take, drop, get_or, Bool, true, false, nat_eq, [], ◌∷◌, Bor, refl, sym, ap, ◌∙◌, arith, append_assoc}
-use Rattle.cose_asked.specs.Framing.{eight, framed, key_by}
-use Rattle.cose_asked.proofs.Frames as frames
-use Rattle.cose_asked.proofs.text.low_eight.Goals as goal
-
-pub returns : goal.returns
-unfolding eight
-returns c = rw c.to_le_bytes.ensures refl

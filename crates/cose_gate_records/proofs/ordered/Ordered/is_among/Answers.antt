@@ -1,0 +1,17 @@
+use Rattle.std.proofs.Common.{◌≡◌, List, ℕ, Bor, rules, sym, subst, ◌∙◌}
+use Rattle.std.proofs.lemmas.Fn.{always_returns_same}
+use Rattle.std.specs.List.Sorted.{IsSorted, IsSearchInRange, IsBinarySearchResult}
+use Rattle.cose_gate_records.specs.Framing.{key_by}
+use Rattle.cose_gate_records.specs.Order.{bytes_cmp}
+use Rattle.cose_gate_records.proofs.Order.{IsFound, found_by_halves, same_among}
+use Rattle.cose_gate_records.proofs.ordered.Ordered.is_among.Goals as goal
+
+pub returns : goal.returns
+returns c =
+    let self = c.args.self.now in
+    let key = key_by c.args.held.now.front.items c.args.held.now.covered.items c.args.signature.now in
+    let found = c.binary_search_by in
+    let there = found.ensures.position (λ p. bytes_cmp p.now key) (always_returns_same _ _ _ (λ a r g called. search rules)) in
+    c.is_ok.ensures.value ∙ (found_by_halves self.places.items key found.result self.ordered
+    (subst (λ (z : List (Bor (List ℕ))). IsFound key z found.result) c.as_slice-places.ensures.value (found.ensures.bound, there))
+    ∙ sym (same_among self.received.items self.places.items key self.same))

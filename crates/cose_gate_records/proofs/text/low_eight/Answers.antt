@@ -1,0 +1,8 @@
+use Rattle.std.proofs.Common.{rules, ◌≡◌, ◌++◌, ℕ, List, MatchOption, map, flat_map, ◌+◌, ◌-◌, ◌<◌, ◌≤◌, length, take, drop, get_or, Bool, true, false, nat_eq, [], ◌∷◌, Bor, refl, sym, ap, ◌∙◌, arith, append_assoc}
+use Rattle.cose_gate_records.specs.Framing.{eight, framed, key_by}
+use Rattle.cose_gate_records.proofs.Frames as frames
+use Rattle.cose_gate_records.proofs.text.low_eight.Goals as goal
+
+pub returns : goal.returns
+unfolding eight
+returns c = rw c.to_le_bytes.ensures refl

@@ -1,0 +1,86 @@
+//! A begun question.
+ghost use Rattle.std.specs.Prelude.{◌≡◌, ◌++◌, ℕ, List, [], ◌∷◌, IfOk, OnOk, OnErr, length};
+ghost use Rattle.cose_gate_core.specs.Lent.{subject_of};
+ghost use Rattle.cose_gate_core.specs.Questions.{Subject};
+ghost use Rattle.cose_gate_records.specs.Framing.{key_by};
+ghost use Rattle.cose_gate_records.specs.Kept.{IsHeld, pieces_of};
+ghost use Rattle.cose_gate_records.specs.Order.{bytes_cmp};
+
+use crate::framing::{append, order_to, order_to_framed};
+use crate::front::front_of;
+use cose_gate_core::{About, Log};
+use std::alloc::{AllocError, Global};
+use std::cmp::Ordering;
+
+/// What is held of a question: the front of its key, which says what it is about, and the covered
+/// bytes so far.
+#[derive(Drop)]
+pub(crate) struct Held {
+    pub(crate) front: Vec<u8>,
+    pub(crate) covered: Vec<u8>,
+    pub(crate) pieces: Log<usize>,
+}
+
+impl Held {
+    /// No question is held.
+    pub(crate) fn new(alloc: Global) -> Held {
+        Held {
+            front: Vec::new(alloc),
+            covered: Vec::new(alloc),
+            pieces: Log::new(),
+        }
+    }
+
+    /// Begins a question, and forgets one that was begun.
+    pub(crate) fn begin(&mut self, alloc: Global, about: &About) -> Result<(), AllocError>
+        ensures holds { OnOk result (IsHeld self.new (subject_of about.now) []) }
+        ensures pieces { OnOk result (pieces_of self.new ≡ []) }
+    {
+        self.front = front_of(alloc, about)?;
+        self.covered.clear();
+        self.pieces = Log::new();
+        Ok(())
+    }
+
+    /// Takes the next piece of the covered bytes.
+    pub(crate) fn feed(&mut self, piece: &[u8]) -> Result<(), AllocError>
+        ensures holds { OnOk result ((subject : Subject) (covered : List ℕ)
+            → IsHeld self.old subject covered → IsHeld self.new subject (covered ++ piece.now)) }
+        ensures pieces { OnOk result
+            (pieces_of self.new ≡ pieces_of self.old ++ length piece.now ∷ []) }
+        ensures refused { OnErr result (pieces_of self.new ≡ pieces_of self.old) }
+    {
+        self.covered.extend_from_slice(piece)?;
+        self.pieces = self.pieces.and(&piece.len());
+        Ok(())
+    }
+
+    /// The key of the question with this signature.
+    pub(crate) fn key(&self, alloc: Global, signature: &[u8]) -> Result<Vec<u8>, AllocError>
+        ensures { IfOk result (λ key. key.items
+            ≡ key_by self.now.front.items self.now.covered.items signature.now) }
+    {
+        let mut key = Vec::new(alloc);
+        key.extend_from_slice(&self.front)?;
+        append(&mut key, &self.covered)?;
+        append(&mut key, signature)?;
+        Ok(key)
+    }
+
+    /// How this key stands to that of the question with this signature, which is not built.
+    pub(crate) fn order(&self, key: &[u8], signature: &[u8]) -> Ordering
+        ensures { result ≡ bytes_cmp key.now
+            (key_by self.now.front.items self.now.covered.items signature.now) }
+    {
+        let (order, rest) = order_to(key, &self.front);
+        if order.is_ne() {
+            return order;
+        }
+        let (order, rest) = order_to_framed(rest, &self.covered);
+        if order.is_ne() {
+            return order;
+        }
+        let (order, rest) = order_to_framed(rest, signature);
+        order.then(rest.len().cmp(&0))
+    }
+}
