@@ -12,9 +12,7 @@ abbrev pub cwt_claim_names : Registry CwtClaimName
 cwt_claim_names = registry cwt_claim_names_enum tt CWT_CLAIM_NAMES.now refl
 
 pub cwt_claim_names_in_order : InOrder cwt_claim_names_enum CWT_CLAIM_NAMES.now cwt_claim_names
-unfolding cwt_claim_names
 cwt_claim_names_in_order = in_order cwt_claim_names_enum tt CWT_CLAIM_NAMES.now refl
 
 pub cwt_claim_names_not_private : (i : ℤ) → is_private_use i ≡ true → cwt_claim_names.is_registered i ≡ false
-unfolding cwt_claim_names
 cwt_claim_names_not_private = not_below (negsuc 65535) CWT_CLAIM_NAMES.now refl

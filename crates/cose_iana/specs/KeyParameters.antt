@@ -19,7 +19,7 @@ use Rattle.cose_iana.specs.contracts.key_parameters.WalnutDsaKeyParameter.{enum 
 use Rattle.cose_iana.specs.declared.key_parameters.AkpKeyParameter.{AkpKeyParameter}
 use Rattle.cose_iana.specs.contracts.key_parameters.AkpKeyParameter.{enum as akp_key_parameters_enum}
 use Rattle.cose_iana.specs.declared.key_parameters.TheConstants.{OKP_KEY_PARAMETERS, EC2_KEY_PARAMETERS, RSA_KEY_PARAMETERS, SYMMETRIC_KEY_PARAMETERS, HSS_LMS_KEY_PARAMETERS, WALNUT_DSA_KEY_PARAMETERS, AKP_KEY_PARAMETERS}
-use Rattle.cose_iana.specs.Registry.{number_of, Registry}
+use Rattle.cose_iana.specs.Registry.{Registry}
 use Rattle.cose_iana.specs.Table.{registry, InOrder, in_order}
 
 -- Labels of keys of the type OKP, from the registry "COSE Key Type Parameters" (RFC 9053, section
@@ -54,7 +54,7 @@ symmetric_key_parameters = registry symmetric_key_parameters_enum tt SYMMETRIC_K
 
 -- of one entry the order is that it equals itself
 pub symmetric_key_parameters_in_order : (x y : SymmetricKeyParameter) → Equal ≡ int_cmp (symmetric_key_parameters.number x) (symmetric_key_parameters.number y)
-unfolding symmetric_key_parameters number_of
+unfolding symmetric_key_parameters
 symmetric_key_parameters_in_order symmetric_key_parameters_entry.K symmetric_key_parameters_entry.K = refl
 
 -- Labels of keys of the type HSS-LMS, from the registry "COSE Key Type Parameters" (RFC 8778).
@@ -63,7 +63,7 @@ hss_lms_key_parameters = registry hss_lms_key_parameters_enum tt HSS_LMS_KEY_PAR
 
 -- of one entry the order is that it equals itself
 pub hss_lms_key_parameters_in_order : (x y : HssLmsKeyParameter) → Equal ≡ int_cmp (hss_lms_key_parameters.number x) (hss_lms_key_parameters.number y)
-unfolding hss_lms_key_parameters number_of
+unfolding hss_lms_key_parameters
 hss_lms_key_parameters_in_order hss_lms_key_parameters_entry.Pub hss_lms_key_parameters_entry.Pub = refl
 
 -- Labels of keys of the type WalnutDSA, from the registry "COSE Key Type Parameters" (RFC 9021).

@@ -9,7 +9,7 @@ number_of same [] x = pos 0
 number_of same (row ∷ rows) x = if same row.1 x then row.0 else number_of same rows x
 
 -- whether a row has this number
-unfoldable pub has_number : {E : Type 0} → List (ℤ × E) → ℤ → Bool
+abbrev pub has_number : {E : Type 0} → List (ℤ × E) → ℤ → Bool
 has_number table i = list_any (λ row. int_eq row.0 i) table
 
 -- the entry in the row with this number

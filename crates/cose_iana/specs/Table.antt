@@ -49,11 +49,9 @@ unfolding entry_of
 entry_later row rows i e = ap (λ b. option_map (λ r. r.1) (cond b (Some row) (find (λ r. int_eq r.0 i) rows))) e
 
 has_here : {E : Type 0} (row : ℤ × E) (rows : List (ℤ × E)) (i : ℤ) → int_eq row.0 i ≡ true → has_number (row ∷ rows) i ≡ true
-unfolding has_number
 has_here row rows i e = ap (λ b. b || (list_any (λ r. int_eq r.0 i) rows)) e
 
 has_later : {E : Type 0} (row : ℤ × E) (rows : List (ℤ × E)) (i : ℤ) → int_eq row.0 i ≡ false → has_number (row ∷ rows) i ≡ has_number rows i
-unfolding has_number
 has_later row rows i e = ap (λ b. b || (list_any (λ r. int_eq r.0 i) rows)) e
 
 rises_rising : {E : Type 0} (z : ℤ) (table : List (ℤ × E)) → rises z table ≡ true → rising table ≡ true
@@ -69,7 +67,6 @@ lt_again : (i j low : ℤ) → int_eq j i ≡ true → int_lt i low ≡ true →
 lt_again i j low e h k = sym (ap (λ z. not (int_lt z low)) ((Decides-int_eq j i).0 e) ∙ ap not h) ∙ k
 
 pub not_below : {E : Type 0} (low : ℤ) (table : List (ℤ × E)) → none_below low table ≡ true → (i : ℤ) → int_lt i low ≡ true → has_number table i ≡ false
-unfolding has_number
 not_below low [] n i h = refl
 not_below low (row ∷ rows) n i h =
     let parts = and_parts (not (int_lt row.0 low)) (none_below low rows) n in
@@ -147,7 +144,7 @@ module _ (D : Declared) (bare : Bare D.parts) where
   Finds table k i = MatchOption (entry_of table i) (has_number table i ≡ false) (λ x. (number_of (sameb D) table x ≡ i) × (has_number table i ≡ true) × (k ≤ tag_of D x))
 
   found : (table : List (ℤ × D.D)) (k : ℕ) (i : ℤ) → placed D k table ≡ true → Finds table k i
-  unfolding entry_of has_number
+  unfolding entry_of
   found [] k i h = refl
   found (row ∷ rows) k i h =
       let f : tag_of D row.1 ≡ k = first_tag k row rows h in

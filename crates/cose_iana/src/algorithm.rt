@@ -211,7 +211,7 @@ impl EnumI64 for Algorithm {
         entry_with(ALGORITHMS, i)
     }
 
-    #[tactic(auto, unfolding(crate::specs::Algorithms::algorithms, crate::specs::Registry::number_of, crate::specs::Registry::has_number))]
+    #[tactic(auto, unfolding(crate::specs::Algorithms::algorithms))]
     fn to_i64(self) -> i64 {
         self as i64
     }

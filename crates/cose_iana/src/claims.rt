@@ -183,7 +183,6 @@ impl EnumI64 for CwtClaimName {
         entry_with(CWT_CLAIM_NAMES, i)
     }
 
-    #[tactic(auto, unfolding(crate::specs::Claims::cwt_claim_names, crate::specs::Registry::number_of, crate::specs::Registry::has_number))]
     fn to_i64(self) -> i64 {
         self as i64
     }

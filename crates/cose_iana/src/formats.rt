@@ -200,7 +200,7 @@ impl EnumI64 for CoapContentFormat {
         entry_with(COAP_CONTENT_FORMATS, i)
     }
 
-    #[tactic(auto, unfolding(crate::specs::Formats::coap_content_formats, crate::specs::Registry::number_of, crate::specs::Registry::has_number))]
+    #[tactic(auto, unfolding(crate::specs::Formats::coap_content_formats))]
     fn to_i64(self) -> i64 {
         self as i64
     }

@@ -80,7 +80,7 @@ impl EnumI64 for HeaderParameter {
         entry_with(HEADER_PARAMETERS, i)
     }
 
-    #[tactic(auto, unfolding(crate::specs::Headers::header_parameters, crate::specs::Registry::number_of, crate::specs::Registry::has_number))]
+    #[tactic(auto, unfolding(crate::specs::Headers::header_parameters))]
     fn to_i64(self) -> i64 {
         self as i64
     }
@@ -152,7 +152,7 @@ impl EnumI64 for HeaderAlgorithmParameter {
         entry_with(HEADER_ALGORITHM_PARAMETERS, i)
     }
 
-    #[tactic(auto, unfolding(crate::specs::Headers::header_algorithm_parameters, crate::specs::Registry::number_of, crate::specs::Registry::has_number))]
+    #[tactic(auto, unfolding(crate::specs::Headers::header_algorithm_parameters))]
     fn to_i64(self) -> i64 {
         self as i64
     }

@@ -35,7 +35,7 @@ impl EnumI64 for OkpKeyParameter {
         entry_with(OKP_KEY_PARAMETERS, i)
     }
 
-    #[tactic(auto, unfolding(crate::specs::KeyParameters::okp_key_parameters, crate::specs::Registry::number_of, crate::specs::Registry::has_number))]
+    #[tactic(auto, unfolding(crate::specs::KeyParameters::okp_key_parameters))]
     fn to_i64(self) -> i64 {
         self as i64
     }
@@ -75,7 +75,7 @@ impl EnumI64 for Ec2KeyParameter {
         entry_with(EC2_KEY_PARAMETERS, i)
     }
 
-    #[tactic(auto, unfolding(crate::specs::KeyParameters::ec2_key_parameters, crate::specs::Registry::number_of, crate::specs::Registry::has_number))]
+    #[tactic(auto, unfolding(crate::specs::KeyParameters::ec2_key_parameters))]
     fn to_i64(self) -> i64 {
         self as i64
     }
@@ -132,7 +132,7 @@ impl EnumI64 for RsaKeyParameter {
         entry_with(RSA_KEY_PARAMETERS, i)
     }
 
-    #[tactic(auto, unfolding(crate::specs::KeyParameters::rsa_key_parameters, crate::specs::Registry::number_of, crate::specs::Registry::has_number))]
+    #[tactic(auto, unfolding(crate::specs::KeyParameters::rsa_key_parameters))]
     fn to_i64(self) -> i64 {
         self as i64
     }
@@ -165,7 +165,7 @@ impl EnumI64 for SymmetricKeyParameter {
         entry_with(SYMMETRIC_KEY_PARAMETERS, i)
     }
 
-    #[tactic(auto, unfolding(crate::specs::KeyParameters::symmetric_key_parameters, crate::specs::Registry::number_of, crate::specs::Registry::has_number))]
+    #[tactic(auto, unfolding(crate::specs::KeyParameters::symmetric_key_parameters))]
     fn to_i64(self) -> i64 {
         self as i64
     }
@@ -198,7 +198,7 @@ impl EnumI64 for HssLmsKeyParameter {
         entry_with(HSS_LMS_KEY_PARAMETERS, i)
     }
 
-    #[tactic(auto, unfolding(crate::specs::KeyParameters::hss_lms_key_parameters, crate::specs::Registry::number_of, crate::specs::Registry::has_number))]
+    #[tactic(auto, unfolding(crate::specs::KeyParameters::hss_lms_key_parameters))]
     fn to_i64(self) -> i64 {
         self as i64
     }
@@ -243,7 +243,7 @@ impl EnumI64 for WalnutDsaKeyParameter {
         entry_with(WALNUT_DSA_KEY_PARAMETERS, i)
     }
 
-    #[tactic(auto, unfolding(crate::specs::KeyParameters::walnut_dsa_key_parameters, crate::specs::Registry::number_of, crate::specs::Registry::has_number))]
+    #[tactic(auto, unfolding(crate::specs::KeyParameters::walnut_dsa_key_parameters))]
     fn to_i64(self) -> i64 {
         self as i64
     }
@@ -278,7 +278,7 @@ impl EnumI64 for AkpKeyParameter {
         entry_with(AKP_KEY_PARAMETERS, i)
     }
 
-    #[tactic(auto, unfolding(crate::specs::KeyParameters::akp_key_parameters, crate::specs::Registry::number_of, crate::specs::Registry::has_number))]
+    #[tactic(auto, unfolding(crate::specs::KeyParameters::akp_key_parameters))]
     fn to_i64(self) -> i64 {
         self as i64
     }

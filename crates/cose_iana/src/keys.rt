@@ -43,7 +43,7 @@ impl EnumI64 for KeyParameter {
         entry_with(KEY_PARAMETERS, i)
     }
 
-    #[tactic(auto, unfolding(crate::specs::Keys::key_parameters, crate::specs::Registry::number_of, crate::specs::Registry::has_number))]
+    #[tactic(auto, unfolding(crate::specs::Keys::key_parameters))]
     fn to_i64(self) -> i64 {
         self as i64
     }
@@ -92,7 +92,7 @@ impl EnumI64 for KeyType {
         entry_with(KEY_TYPES, i)
     }
 
-    #[tactic(auto, unfolding(crate::specs::Keys::key_types, crate::specs::Registry::number_of, crate::specs::Registry::has_number))]
+    #[tactic(auto, unfolding(crate::specs::Keys::key_types))]
     fn to_i64(self) -> i64 {
         self as i64
     }
@@ -155,7 +155,7 @@ impl EnumI64 for EllipticCurve {
         entry_with(ELLIPTIC_CURVES, i)
     }
 
-    #[tactic(auto, unfolding(crate::specs::Keys::elliptic_curves, crate::specs::Registry::number_of, crate::specs::Registry::has_number))]
+    #[tactic(auto, unfolding(crate::specs::Keys::elliptic_curves))]
     fn to_i64(self) -> i64 {
         self as i64
     }
@@ -219,7 +219,7 @@ impl EnumI64 for KeyOperation {
         entry_with(KEY_OPERATIONS, i)
     }
 
-    #[tactic(auto, unfolding(crate::specs::Keys::key_operations, crate::specs::Registry::number_of, crate::specs::Registry::has_number))]
+    #[tactic(auto, unfolding(crate::specs::Keys::key_operations))]
     fn to_i64(self) -> i64 {
         self as i64
     }

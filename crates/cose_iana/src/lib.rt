@@ -4,7 +4,7 @@
 //! a table of all of them. Both directions read the enum's numbers: `as i64` is the number of an
 //! entry, and so is `to_i64`. It is proved once for every table that each direction undoes the
 //! other, that no number is twice, and that the entries are ordered by their numbers (`EnumI64`).
-//! The enums decide if a registry of IANA says otherwise.
+//! The enums decide, also where a registry of IANA has another entry or number.
 //!
 //! A new entry is its name with its number in the enum and its name in the table, both in the place
 //! of its number, since the numbers rise. No proof changes, except that the law of the order of an

@@ -46,7 +46,7 @@ impl EnumI64 for CborTag {
         entry_with(CBOR_TAGS, i)
     }
 
-    #[tactic(auto, unfolding(crate::specs::Tags::cbor_tags, crate::specs::Registry::number_of, crate::specs::Registry::has_number))]
+    #[tactic(auto, unfolding(crate::specs::Tags::cbor_tags))]
     fn to_i64(self) -> i64 {
         self as i64
     }
