@@ -11,6 +11,7 @@ pub mod Opened
 pub mod Pulling
 pub mod Recoded
 pub mod Shortest
+pub mod Shrinking
 pub mod TitleLaws
 pub mod Titled
 pub mod Utf8

@@ -151,7 +151,7 @@ module _ (k : Option ℕ → Header) (P : List ℕ → Type 0) where
         omega (arith, ap length e, ap length (append-nil (enc_whole k body)), length-append title body, length-append (title_of (k (Some (length body)))) body, shortest_first title (k (Some (length body))) t)
     frame_least b bodies (cut _ inner title _ t f e) = omega (arith, ap length e, length-append (title ++ inner) (255 ∷ []), length-append title inner, frames_least inner bodies f)
 
-    frames_least : (b : List ℕ) (bodies : List (List ℕ)) → Frames k P b bodies → length (enc_pieces k bodies) ≤ length b
+    pub frames_least : (b : List ℕ) (bodies : List (List ℕ)) → Frames k P b bodies → length (enc_pieces k bodies) ≤ length b
     frames_least _ _ no_frames = omega arith
     frames_least _ _ (frame_more a b xs ys f fs) =
         omega (arith, ap length (enc_pieces-append k xs ys), length-append a b, length-append (enc_pieces k xs) (enc_pieces k ys), frame_least a xs f, frames_least b ys fs)

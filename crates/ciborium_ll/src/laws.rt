@@ -5,7 +5,7 @@ ghost use Rattle.ciborium_ll.specs.Title.{FitsHeader, Title, title_of, IsCut, St
 ghost use Rattle.ciborium_ll.specs.Framing.{Frame, Any, joined};
 ghost use Rattle.ciborium_ll.specs.Stages.{Rest, Strays, EndsInside, stage_of};
 ghost use Rattle.ciborium_ll.specs.Pieces.{IsString, FitBytes};
-ghost use Rattle.ciborium_ll.specs.Copies.{Copies, CopiesHalt, paused, refused, ended, damaged};
+ghost use Rattle.ciborium_ll.specs.Copies.{Copies, CopiesHalt, Halt, paused, refused, ended, damaged};
 ghost use Rattle.ciborium_ll.specs.declared.hdr.Header.{Header};
 ghost use Rattle.ciborium_ll.specs.declared.hdr.Header.TheVariants.{Bytes, Text};
 ghost use Rattle.ciborium_ll.specs.declared.stage.Stage.{Stage};
@@ -107,10 +107,14 @@ pub fn copies_stay()
     ensures shorter { (n : ℕ) (a x : List ℕ) → Copies n a x → length x ≤ length a }
 {}
 
-/// If a copy halted, what is written begins the copy of all that begins with what was read, and so
-/// does the text that was refused after it. The bytes ended, or a fault stands, only if so many
-/// heads and strings are not.
+/// If a copy halted, what is written is never longer than what was read, with the text that was
+/// refused after it too. It begins the copy of all that begins with what was read, and so does that
+/// text. The bytes ended, or a fault is there, only if so many heads and strings are not.
 pub fn halted_copies()
+    ensures shorter { (n : ℕ) (halt : Halt) (b x : List ℕ) → CopiesHalt n halt b x
+        → length x ≤ length b }
+    ensures refused_shorter { (n : ℕ) (last b x : List ℕ) → CopiesHalt n (refused last) b x
+        → length (x ++ last) ≤ length b }
     ensures paused { (n : ℕ) (b x c y u v : List ℕ) → CopiesHalt n paused b x → Copies n c y
         → b ++ u ≡ c ++ v
         → (z : List ℕ) × (y ≡ x ++ z) }
