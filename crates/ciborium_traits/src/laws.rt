@@ -65,8 +65,8 @@ pub fn values_are_taken_back()
         → IsTakenBack ⟦<CanonicalValue as Serialize>⟧ ⟦<CanonicalValue as Deserialize>⟧ v }
 {}
 
-/// No value is taken back, and a value is where its own type takes it back and its item is not
-/// null.
+/// `None` is taken back. `Some` of a value is taken back if the value is, by its own type, and its
+/// item is not null.
 pub fn options_are_taken_back<T: Serialize + Deserialize>(value: &T)
     ensures none { IsTakenBack ⟦<Option<T> as Serialize>⟧ ⟦<Option<T> as Deserialize>⟧ None }
     ensures some { IsTakenBack T.Serialize T.Deserialize value.now
