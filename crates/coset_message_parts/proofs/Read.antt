@@ -1,12 +1,10 @@
 -- What reading one of the parts shows.
-use Rattle.std.proofs.Common.{◌≡◌, ◌≢◌, ℕ, inr, List, false, Option, None, sym, subst}
+use Rattle.std.proofs.Common.{◌≡◌, ◌≢◌, ℕ, inr, false, sym, subst}
 use Rattle.ciborium_value.specs.Tree.{Tree, simple, is_bytes}
 use Rattle.coset_labels.specs.Faults.{OrMemory, fault_of, unexpected}
 use Rattle.coset_labels.specs.declared.error.CoseError.{CoseError}
-use Rattle.coset_headers.specs.Fields.{HeaderFields, ProtectedFields, protected, no_header}
 use Rattle.coset_headers.specs.Wrong.{WrongHeader, WrongProtected}
 use Rattle.coset_labels.specs.Facts.Walks.{passed_on}
-use Rattle.coset_message_parts.specs.Fields.{parts, no_parts}
 use Rattle.coset_message_parts.specs.Wrong.{WrongParts, in_protected, in_unprotected, in_content}
 
 pub parts_content : (n : ℕ) (a b c : Tree) (k : ℕ) (e : CoseError) → (fault_of e ≡ unexpected) × (is_bytes c ≡ false) × (c ≢ simple 22) → OrMemory (WrongParts n a b c k) e
@@ -17,7 +15,3 @@ parts_unprotected n a b c k e w = passed_on (WrongHeader n b k) (WrongParts n a 
 
 pub parts_protected : (n : ℕ) (a b c : Tree) (k : ℕ) (e : CoseError) → OrMemory (WrongProtected n a k) e → OrMemory (WrongParts n a b c k) e
 parts_protected n a b c k e w = passed_on (WrongProtected n a k) (WrongParts n a b c k) e (λ x. in_protected (fault_of e) x) w
-
--- ---- empty places
-pub no_fields : (p : ProtectedFields) (u : HeaderFields) (c : Option (List ℕ)) → p ≡ protected None no_header → u ≡ no_header → c ≡ None → parts p u c ≡ no_parts
-no_fields p u c e f g = λ i. record { protected = e i; unprotected = f i; content = g i }
