@@ -333,6 +333,12 @@ fn push_leaf<R: Read>(
             };
             Ok(())
         }
+        Header::Float(f) => {
+            let Ok(()) = list.items.push(Value::Float(f)) else {
+                return Err(Error::Memory);
+            };
+            Ok(())
+        }
         _ => {
             let leaf = read_leaf(alloc, decoder, header, at)?;
             let Ok(()) = list.items.push(leaf) else {
