@@ -2,9 +2,10 @@
 use Rattle.std.proofs.Common.{ℕ, List, ◌++◌, Option, None, Some, sym, ap, ◌∙◌, arith, append_assoc, length-append}
 use Rattle.std.specs.Io.KnownBytes.{Consumes}
 use Rattle.ciborium_ll.specs.Reading.{Moves, Starts}
+use Rattle.ciborium_value.specs.Tree.{Tree}
 use Rattle.ciborium.specs.declared.de.Error.{Error}
 use Rattle.ciborium.specs.declared.de.Error.TheVariants as code
-use Rattle.ciborium.specs.Reading.{SomeTaken}
+use Rattle.ciborium.specs.Reading.{SomeTaken, IsFar, IsNotLong, IsFoldFault}
 use Rattle.ciborium.proofs.Taking.{takes_then}
 
 starts_then : (l m : Option (List ℕ)) (x y : List ℕ) → Consumes l m x → Starts m y → Starts l (x ++ y)
@@ -39,16 +40,25 @@ some_then {E} {l₀} {l₁} {o₀} {o₁} {P} l₂ o₂ e t s = go e s
     go (code.Semantic o k) s = both_taken t s
     go code.RecursionLimitExceeded s = both_taken t s
     go code.Memory s = both_taken t s
-    go code.TooLong s = both_taken t s
+    go code.TooLong s = takes_then l₀ l₁ l₂ o₀ o₁ o₂ P (λ _. IsFar o₂) (λ _. IsFar o₂) t s (λ x y p q. q)
+
+-- a fold never ends with offsets that are too long
+pub fold_not_long : {E : Type 0} (n : ℕ) (c : Tree) (e : Error E) → IsFoldFault n c e → IsNotLong e
+fold_not_long n c (code.Io e) w = absurd w
+fold_not_long n c (code.Syntax p) w = absurd w
+fold_not_long n c (code.Semantic o k) w = tt
+fold_not_long n c code.RecursionLimitExceeded w = absurd w
+fold_not_long n c code.Memory w = tt
+fold_not_long n c code.TooLong w = absurd w
 
 -- a fault if no more was asked for
-pub some_taken : {E : Type 0} {l₀ l₁ : Option (List ℕ)} {o₀ o₁ : ℕ} {P : List ℕ → Type 0} (e : Error E) → Moves l₀ l₁ o₀ o₁ P → SomeTaken l₀ l₁ o₀ o₁ e
-some_taken {E} {l₀} {l₁} {o₀} {o₁} {P} e t = go e
+pub some_taken : {E : Type 0} {l₀ l₁ : Option (List ℕ)} {o₀ o₁ : ℕ} {P : List ℕ → Type 0} (e : Error E) → IsNotLong e → Moves l₀ l₁ o₀ o₁ P → SomeTaken l₀ l₁ o₀ o₁ e
+some_taken {E} {l₀} {l₁} {o₀} {o₁} {P} e n t = go e n
   where
-    go : (e : Error E) → SomeTaken l₀ l₁ o₀ o₁ e
-    go (code.Io e) = record { bytes = t.bytes; has = tt; there = starts_with l₀ l₁ t.bytes t.taken; grown = t.grown }
-    go (code.Syntax p) = was_taken t
-    go (code.Semantic o k) = was_taken t
-    go code.RecursionLimitExceeded = was_taken t
-    go code.Memory = was_taken t
-    go code.TooLong = was_taken t
+    go : (e : Error E) → IsNotLong e → SomeTaken l₀ l₁ o₀ o₁ e
+    go (code.Io e) n = record { bytes = t.bytes; has = tt; there = starts_with l₀ l₁ t.bytes t.taken; grown = t.grown }
+    go (code.Syntax p) n = was_taken t
+    go (code.Semantic o k) n = was_taken t
+    go code.RecursionLimitExceeded n = was_taken t
+    go code.Memory n = was_taken t
+    go code.TooLong n = absurd n

@@ -46,15 +46,20 @@ pub record Steady {T E : Type 0} (ends : E → Bool) (answer : Result T (Error E
   pub handle : new.handle ≡ old.handle
   pub waiting : new.waiting ≡ None
 
+-- the place is less than a piece of 4,096 bytes before what places can be
+abbrev pub IsFar : ℕ → Type 0
+IsFar place = 2 ^ 64 ≤ place + 4096
+
 -- some of the bytes that were to come were taken, or none, and the place has grown by their count;
--- the rest of them is left, but after a fault of the reader what is left is open
+-- the rest of them is left, but after a fault of the reader what is left is open. `TooLong` comes
+-- only where the place is far, whether the reader tells its bytes or not.
 abbrev pub SomeTaken : {E : Type 0} → Option (List ℕ) → Option (List ℕ) → ℕ → ℕ → Error E → Type 0
 SomeTaken left left' place place' (code.Io e) = Stops left place place' (λ _. Unit {0})
 SomeTaken left left' place place' (code.Syntax p) = Moves left left' place place' (λ _. Unit {0})
 SomeTaken left left' place place' (code.Semantic o k) = Moves left left' place place' (λ _. Unit {0})
 SomeTaken left left' place place' code.RecursionLimitExceeded = Moves left left' place place' (λ _. Unit {0})
 SomeTaken left left' place place' code.Memory = Moves left left' place place' (λ _. Unit {0})
-SomeTaken left left' place place' code.TooLong = Moves left left' place place' (λ _. Unit {0})
+SomeTaken left left' place place' code.TooLong = Moves left left' place place' (λ _. IsFar place')
 
 -- where a fault leaves a decoder
 abbrev pub TakesSome : {E : Type 0} → Seen → Seen → Error E → Type 0
@@ -68,6 +73,15 @@ IsNoMemory (code.Semantic o k) = Unit {0}
 IsNoMemory code.RecursionLimitExceeded = Unit {0}
 IsNoMemory code.Memory = ⊥
 IsNoMemory code.TooLong = Unit {0}
+
+-- any fault but that offsets grow too long
+abbrev pub IsNotLong : {E : Type 0} → Error E → Type 0
+IsNotLong (code.Io e) = Unit {0}
+IsNotLong (code.Syntax p) = Unit {0}
+IsNotLong (code.Semantic o k) = Unit {0}
+IsNotLong code.RecursionLimitExceeded = Unit {0}
+IsNotLong code.Memory = Unit {0}
+IsNotLong code.TooLong = ⊥
 
 -- what a fault tells: the fault of the bytes by D, at an end Q too, and that offsets grow too long
 abbrev pub Fails : {E : Type 0} → (E → Bool) → Type 0 → (Fault → Type 0) → Type 0 → Error E → Type 0

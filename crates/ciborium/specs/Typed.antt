@@ -9,7 +9,7 @@ use Rattle.ciborium.specs.declared.de.Error.{Error}
 use Rattle.ciborium.specs.declared.de.Error.TheVariants as code
 use Rattle.ciborium.specs.Front.{Reads}
 use Rattle.ciborium.specs.Damage.{Damage}
-use Rattle.ciborium.specs.Reading.{Fails, IfKnown, IsLong}
+use Rattle.ciborium.specs.Reading.{Fails, IfKnown, IsFar, IsLong}
 
 -- the error for an item that a type does not take
 abbrev pub refusing : {E : Type 0} → ValueError → Error E
@@ -45,14 +45,14 @@ abbrev pub Gives : Option (List ℕ) → Option (List ℕ) → (List ℕ → Typ
 Gives old new P = (b : List ℕ) × Consumes old new b × P b
 
 -- where a fault leaves a reader: some of its bytes were taken, or none, and the rest of them is
--- left; after a fault of its own that is open
+-- left; after a fault of its own that is open. `TooLong` comes only after nearly 2^64 bytes.
 abbrev pub LeavesRest : {E : Type 0} → Option (List ℕ) → Option (List ℕ) → Error E → Type 0
 LeavesRest old new (code.Io e) = Unit {0}
 LeavesRest old new (code.Syntax p) = Gives old new (λ _. Unit {0})
 LeavesRest old new (code.Semantic o k) = Gives old new (λ _. Unit {0})
 LeavesRest old new code.RecursionLimitExceeded = Gives old new (λ _. Unit {0})
 LeavesRest old new code.Memory = Gives old new (λ _. Unit {0})
-LeavesRest old new code.TooLong = Gives old new (λ _. Unit {0})
+LeavesRest old new code.TooLong = Gives old new (λ b. IsFar (length b))
 
 -- the error for the bytes to come: the fault of the item that is due at their front, with places
 -- counted from their beginning, or the type's fault if the item there was taken

@@ -12,7 +12,7 @@ ghost use Rattle.ciborium.specs.Damage.{Damage, TitleDamage};
 ghost use Rattle.ciborium.specs.Reading.{Steady, TakesSome, NamesFault, NamesFaultBehind, Closes};
 ghost use Rattle.ciborium_value.specs.Folding.{tagged};
 ghost use Rattle.ciborium.specs.Reading.{IsNext, is_full, fault_failures, IsFoldFault, IsLeaf};
-ghost use Rattle.ciborium.specs.Reading.{ReadsBehind};
+ghost use Rattle.ciborium.specs.Reading.{IsNotLong, ReadsBehind};
 ghost use Rattle.ciborium.specs.Frames.{snoc, halves_of, HasHalf, IsStaged, IsClosed};
 ghost use Rattle.ciborium.specs.Frames.{Hands};
 ghost use Rattle.ciborium.specs.Exact.{encoded};
@@ -118,6 +118,7 @@ fn hand<E, X: Exactness>(
         (rank below.new.items top.new read.new)) }
     ensures err { IfErr result (HandFails (top.old ∷ reverse below.old.items) read.old) }
     ensures quiet { IfErr result (λ e. (ends : E → Bool) (n : ℕ) → fault_failures ends e n ≡ n) }
+    ensures far { IfErr result IsNotLong }
 {
     let Some(value) = read.take() else {
         return Ok(Handed::Taken);
@@ -328,6 +329,12 @@ fn push_leaf<R: Read>(
         Header::Text(length) => {
             let text = read_text(alloc, decoder, length, at)?;
             let Ok(()) = list.items.push(Value::Text(text)) else {
+                return Err(Error::Memory);
+            };
+            Ok(())
+        }
+        Header::Float(f) => {
+            let Ok(()) = list.items.push(Value::Float(f)) else {
                 return Err(Error::Memory);
             };
             Ok(())

@@ -88,6 +88,12 @@ pub fn folded<E>(alloc: Global, tag: u64, content: Value) -> Result<Value, Error
     ensures ok { IfOk result (λ v. tagged tag (view content) ≡ Some (view v)) }
     ensures err { IfErr result (IsFoldFault tag (view content)) }
 {
+    if is_plain(tag) {
+        let Ok(content) = Box::new(alloc, content) else {
+            return Err(Error::Memory);
+        };
+        return Ok(Value::Tag(tag, content));
+    }
     let Ok(folded) = fold_tag(alloc, tag, content) else {
         return Err(Error::Memory);
     };

@@ -9,7 +9,7 @@ use Rattle.ciborium_value.specs.Tree.{Tree}
 use Rattle.ciborium.specs.Front.{Reads}
 use Rattle.ciborium.specs.Items.{SequenceWithin}
 use Rattle.ciborium.specs.Damage.{end, deep, syntax, semantic, Damage}
-use Rattle.ciborium.specs.Reading.{IfKnown, IfEnd, FailsAt, IsNoMemory, SomeTaken, fault_failures}
+use Rattle.ciborium.specs.Reading.{IfKnown, IfEnd, FailsAt, IsNoMemory, IsFar, SomeTaken, fault_failures}
 use Rattle.ciborium.specs.declared.de.Error.{Error}
 use Rattle.ciborium.specs.declared.de.Error.TheVariants as de
 use Rattle.cose_gate_core.specs.declared.report.Entry.{Entry}
@@ -109,7 +109,7 @@ partly l l' p p' (de.Syntax q) s = moved l l' p p' (IsNoReaderFault (de.Syntax q
 partly l l' p p' (de.Semantic o j) s = moved l l' p p' (IsNoReaderFault (de.Semantic o j)) (λ _. Unit {0}) s
 partly l l' p p' de.RecursionLimitExceeded s = moved l l' p p' (IsNoReaderFault de.RecursionLimitExceeded) (λ _. Unit {0}) s
 partly l l' p p' de.Memory s = moved l l' p p' (IsNoReaderFault de.Memory) (λ _. Unit {0}) s
-partly l l' p p' de.TooLong s = moved l l' p p' (IsNoReaderFault de.TooLong) (λ _. Unit {0}) s
+partly l l' p p' de.TooLong s = moved l l' p p' (IsNoReaderFault de.TooLong) (λ _. IsFar p') s
 
 -- a fault of the bytes to come, seen from where the bytes began
 fault_from : {E : Type 0} (ends : E → Bool) (k : ℕ) (l l' : Option (List ℕ)) (b more : List ℕ) (p p' : ℕ) (e : Error E) → Consumes l l' b → IfKnown l' (λ r. r ≡ more)

@@ -3,7 +3,7 @@ use Rattle.std.proofs.lemmas.Result.{err_from_is_err_and}
 use Rattle.ciborium_ll.specs.Views.{seen}
 use Rattle.ciborium.proofs.Taking.{takes_as, takes_then}
 use Rattle.ciborium.proofs.BeginLemmas.{begin_fails, level_begun, plain_leaf, tagged_leaf, leaf_fails, leaf_folds}
-use Rattle.ciborium.proofs.Halting.{some_then, some_taken}
+use Rattle.ciborium.proofs.Halting.{some_then, some_taken, fold_not_long}
 use Rattle.ciborium.proofs.frames.begin.Goals as goal
 
 pub returns-in_err-frame-clause-err : goal.returns-in_err-frame-clause-err
@@ -56,4 +56,4 @@ returns-in_err-value-in-Leaf-clause-stops g c =
 pub returns-in_err-whole-in-Some-clause-stops : goal.returns-in_err-whole-in-Some-clause-stops
 returns-in_err-whole-in-Some-clause-stops g c =
     let p = err_from_is_err_and c.from_residual-in_err-whole-in-Some.result c.from_residual-in_err-whole-in-Some.ensures.1 in
-    rw (p.1, p.2) (some_then _ _ _ c.in_ok-frame.ensures.ok (some_taken _ c.in_ok-value-in-Leaf.ensures.ok))
+    rw (p.1, p.2) (some_then _ _ _ c.in_ok-frame.ensures.ok (some_taken _ (fold_not_long _ _ _ c.in_err-whole-in-Some.ensures.err) c.in_ok-value-in-Leaf.ensures.ok))

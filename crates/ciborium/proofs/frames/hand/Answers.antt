@@ -1,6 +1,7 @@
 use Rattle.std.proofs.Common.{refl, reverse, sym}
 use Rattle.std.proofs.lemmas.Result.{err_from_is_err_and}
 use Rattle.ciborium.proofs.FrameLemmas.{items_more, entries_more, tag_up, tag_folds}
+use Rattle.ciborium.proofs.Halting.{fold_not_long}
 use Rattle.ciborium.proofs.frames.hand.Goals as goal
 
 pub returns-in_err-whole-in-Tag-clause-err : goal.returns-in_err-whole-in-Tag-clause-err
@@ -18,3 +19,8 @@ returns-in_ok-put_half-in-Entries-clause-ok g c =
 
 pub returns-in-Some-pop-clause-ok : goal.returns-in-Some-pop-clause-ok
 returns-in-Some-pop-clause-ok g c = rw (sym c.take.ensures.value, c.in-Some.is, c.in-Tag.is) (tag_up _ _ _ _ c.in-Tag.field-1 c.in-Tag.field-3 c.in-Tag.field-2 _ _ _ _ c.in-Some-pop.ensures.items c.in_ok-whole-in-Tag.ensures.ok c.in_ok-whole-in-Tag.ensures.kept)
+
+pub returns-in_err-whole-in-Tag-clause-far : goal.returns-in_err-whole-in-Tag-clause-far
+returns-in_err-whole-in-Tag-clause-far g c =
+    let p = err_from_is_err_and c.from_residual-in_err-whole-in-Tag.result c.from_residual-in_err-whole-in-Tag.ensures.1 in
+    rw (p.1, p.2) (fold_not_long _ _ _ c.in_err-whole-in-Tag.ensures.err)

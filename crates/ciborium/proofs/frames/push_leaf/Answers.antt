@@ -1,10 +1,11 @@
 use Rattle.std.proofs.Common.{arith, ap, sym, ◌∙◌, Some, pos, negsuc}
 use Rattle.std.proofs.lemmas.Result.{err_from_is_err_and}
 use Rattle.ciborium_ll.specs.declared.hdr.Header.TheVariants.{Positive, Negative}
+use Rattle.ciborium_ll.specs.declared.hdr.Header.TheVariants as head
 use Rattle.ciborium_value.specs.declared.value.Value.TheVariants as value
 use Rattle.ciborium_value.specs.Tree as spec
 use Rattle.ciborium_value.specs.View.{view}
-use Rattle.ciborium_value.proofs.Views.{view_integer, view_bytes, view_text}
+use Rattle.ciborium_value.proofs.Views.{view_integer, view_float, view_bytes, view_text}
 use Rattle.ciborium.proofs.Taking.{takes_as}
 use Rattle.ciborium.proofs.ReadLemmas.{leaf, bytes_read, text_read}
 use Rattle.ciborium.proofs.Steps.{bytes_fail, text_fail}
@@ -37,3 +38,8 @@ pub returns-in_err-text-in-Text-clause-err : goal.returns-in_err-text-in-Text-cl
 returns-in_err-text-in-Text-clause-err g c =
     let p = err_from_is_err_and c.from_residual-in_err-text-in-Text.result c.from_residual-in_err-text-in-Text.ensures.1 in
     rw (p.1, p.2) (rw c.in-Text.is (λ limit. text_fail g.R.Read.ends c.in-Text.length _ limit _ _ _ _ c.in_err-text-in-Text.ensures.err))
+
+pub returns-in-Ok-push-4-clause-ok : goal.returns-in-Ok-push-4-clause-ok
+returns-in-Ok-push-4-clause-ok g c =
+    rw c.in-Float.is
+    (value.Float c.in-Float.f, leaf (head.Float c.in-Float.f) (spec.float c.in-Float.f) (view (value.Float c.in-Float.f)) _ _ (λ title t. t) (omega arith) (ap Some (sym (view_float _))), c.in-Ok-push-4.ensures.items)

@@ -92,7 +92,7 @@ returns-in_err-begin-in-Some-part-clause-err g c =
 pub returns-in_err-hand-clause-stops : goal.returns-in_err-hand-clause-stops
 returns-in_err-hand-clause-stops g c =
     let p = err_from_is_err_and c.from_residual.result c.from_residual.ensures.1 in
-    rw (p.1, p.2) (some_taken _ c.turns.invariant.turn.taken)
+    rw (p.1, p.2) (some_taken _ c.in_err-hand.ensures.far c.turns.invariant.turn.taken)
 
 pub returns-in_err-part-in-Taken-clause-stops : goal.returns-in_err-part-in-Taken-clause-stops
 returns-in_err-part-in-Taken-clause-stops g c =
