@@ -32,8 +32,8 @@ impl Ends {
         self.begun
     }
 
-    /// How many bytes of the block stand before the end of the item at hand; none where it goes on
-    /// after the block.
+    /// How many bytes of the block are before the end of the item at hand; none if it goes on after
+    /// the block.
     ///
     /// # Errors
     /// The fault of a head, with its place in the item.

@@ -176,7 +176,7 @@ pub fn text_of(alloc: Global, float: Float) -> Result<String, AllocError> {
     }
 }
 
-/// Of a NaN that isn't the usual one the bits stand after it in a comment.
+/// A NaN that isn't the usual one has its bits after it, in a comment.
 fn no_number(
     alloc: Global,
     float: Float,

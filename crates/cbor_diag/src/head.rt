@@ -36,7 +36,7 @@ pub fn head_of(bytes: &[u8]) -> Result<Head, HeadFault> {
 }
 
 impl Head {
-    /// The encoding indicator (RFC 8949, section 8.1): 0 to 3 where the number is in 1, 2, 4 or 8
+    /// The encoding indicator (RFC 8949, section 8.1): 0 to 3 if the number is in 1, 2, 4 or 8
     /// bytes and fewer would do.
     pub fn wide(self) -> Option<u8> {
         if self.len > self.header.title_len() {

@@ -7,11 +7,11 @@ use ciborium_ll::Header;
 use std::alloc::{AllocError, Global};
 use std::fmt;
 
-/// An array or a map whose encoding is at most so long stands on one line.
+/// An array or a map whose encoding is at most so long is written on one line.
 const SHORT: usize = 24;
 
-/// From this depth on everything stands on one line, so that the notation of deep items stays about
-/// as long as they are.
+/// From this depth on everything is written on one line, so that the notation of deep items stays
+/// about as long as they are.
 const DEEP: usize = 32;
 
 /// A string of more bytes than these is cut to them, if strings are cut.
@@ -20,7 +20,7 @@ pub const CUT: usize = 64;
 /// How the notation is written.
 #[derive(Debug, Clone, Copy, PartialEq, Eq)]
 pub struct Style {
-    /// Arrays and maps that aren't short stand on several lines.
+    /// Arrays and maps that aren't short are written on several lines.
     pub lines: bool,
     /// Widths that aren't the shortest have their encoding indicators (RFC 8949, section 8.1).
     /// Those of open lengths are always there.
@@ -111,9 +111,9 @@ struct Notation<'a, W> {
     alloc: Global,
     out: &'a mut W,
     style: Style,
-    /// How many levels stand on several lines.
+    /// How many levels are written on several lines.
     indent: usize,
-    /// How many levels are open since one began that stands on one line.
+    /// How many levels are open since one began that is written on one line.
     flat: usize,
     /// How many steps were shown already.
     shown: usize,

@@ -37,7 +37,7 @@ impl fmt::Display for Why {
     }
 }
 
-/// A fault, and where it stands: in bytes from the front of the item.
+/// A fault, and its place: in bytes from the front of the item.
 #[derive(Debug, Clone, Copy, PartialEq, Eq)]
 pub struct Fault {
     /// Which fault.
@@ -142,7 +142,7 @@ impl Walk {
         }
     }
 
-    /// Where it stands.
+    /// Where it is.
     pub fn at(&self) -> usize {
         self.at
     }
@@ -288,7 +288,7 @@ impl Walk {
         }
     }
 
-    /// Where the next head stands, after this one and its body.
+    /// Where the next head is, after this one and its body.
     fn check_body(&self, head: Head, rest: &[u8]) -> Result<usize, Why> {
         let Some(next) = self.next_at(head) else {
             return Err(Why::TooLong);
@@ -303,7 +303,7 @@ impl Walk {
         Ok(next)
     }
 
-    /// Where the next head stands, if an offset reaches it.
+    /// Where the next head is, if an offset reaches it.
     fn next_at(&self, head: Head) -> Option<usize> {
         let len = head.len.checked_add(body_len(head.header))?;
         self.at.checked_add(len)

@@ -4,7 +4,7 @@ use Rattle.ciborium_value.specs.Tree.{Tree, Trees, no_trees, one_more, Pairs, no
 use Rattle.ciborium_traits.specs.declared.error.Error.{Error}
 use Rattle.ciborium_traits.specs.declared.error.Error.TheVariants.{Memory}
 
--- a part stands after those of a list; the first error is handed on, and no other is answered but
+-- a part is after those of a list; the first error is handed on, and no other is returned but
 -- being out of memory
 abbrev pub Adds : {L P : Type 0} → (L → List P) → Result L Error → Result P Error → Result L Error → Type 0
 Adds parts (Ok l) (Ok x) (Ok m) = parts m ≡ parts l ++ (x ∷ [])

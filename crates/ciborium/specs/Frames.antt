@@ -65,7 +65,7 @@ Rooted (code.Items l ∷ fs) = Rooted fs
 Rooted (code.Entries l ∷ fs) = HasHalf l × Rooted fs
 Rooted (code.Tag n at h room ∷ fs) = Rooted fs
 
--- What the flag w, whether the text is the shortest so far, tells of n bytes where it is asked (k):
+-- What the flag w, whether the bytes are canonical so far, tells of n bytes if it is asked (k):
 -- whether P.
 abbrev pub Told : Bool → Bool → ℕ → Type 0 → Type 0
 Told false w n P = Unit {0}
@@ -253,7 +253,7 @@ abbrev pub ReadExact : Header → ℕ → Tree → Bool → Bool → List ℕ �
 ReadExact h limit v w w' y = (title : List ℕ) → Title title h
     → Reads (title ++ y) limit v × (length (title ++ y) < 2 ^ 64 → Says w ((title ≡ title_of h) × IsEncoded h) → Says w' (title ++ y ≡ enc v))
 
--- How far the reader is from its end, where no more bytes come: it falls with each turn. A title in
+-- How far the reader is from its end, if no more bytes come: it falls with each turn. A title in
 -- hand that is not begun counts.
 abbrev pub in_hand : Option Value → Frame → ℕ
 in_hand (Some v) f = 0

@@ -61,7 +61,7 @@ SomeTaken left left' place place' code.RecursionLimitExceeded = Moves left left'
 SomeTaken left left' place place' code.Memory = Moves left left' place place' (λ _. Unit {0})
 SomeTaken left left' place place' code.TooLong = Moves left left' place place' (λ _. IsFar place')
 
--- where a fault leaves a decoder
+-- what a fault leaves of a decoder
 abbrev pub TakesSome : {E : Type 0} → Seen → Seen → Error E → Type 0
 TakesSome old new = SomeTaken old.left new.left old.offset new.offset
 

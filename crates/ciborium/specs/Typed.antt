@@ -44,7 +44,7 @@ pub record IsRefused {E : Type 0} (grows : Bool) (refusal : Tree → Option Kind
 abbrev pub Gives : Option (List ℕ) → Option (List ℕ) → (List ℕ → Type 0) → Type 0
 Gives old new P = (b : List ℕ) × Consumes old new b × P b
 
--- where a fault leaves a reader: some of its bytes were taken, or none, and the rest of them is
+-- what a fault leaves of a reader: some of its bytes were taken, or none, and the rest of them is
 -- left; after a fault of its own that is open. `TooLong` comes only after nearly 2^64 bytes.
 abbrev pub LeavesRest : {E : Type 0} → Option (List ℕ) → Option (List ℕ) → Error E → Type 0
 LeavesRest old new (code.Io e) = Unit {0}

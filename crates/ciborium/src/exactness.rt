@@ -1,4 +1,4 @@
-//! Whether a text is the shortest so far, where that is asked.
+//! Whether the bytes so far are canonical encoding, if that is asked.
 ghost use Rattle.std.specs.Prelude.{◌≡◌, ◌&&◌, Bool, Some, false};
 ghost use Rattle.ciborium_ll.specs.Views.{shortest_of};
 ghost use Rattle.ciborium_value.specs.Folding.{tagged};

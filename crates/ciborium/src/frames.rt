@@ -43,7 +43,7 @@ pub struct Items {
 }
 
 /// A map that is open: its entries so far, how many its head claims, and the space. If it is at
-/// `half` an entry, the value of the last key is due, and null stands in its place.
+/// `half` an entry, the value of the last key is due, and null is in its place.
 #[derive(Drop)]
 pub struct Entries {
     entries: Vec<(Value, Value)>,
@@ -519,7 +519,7 @@ enum Opened {
     Leaf(Option<u64>, usize, Header),
 }
 
-/// What the item of a title opens, where so many levels are left.
+/// What the item of a title opens, if so many levels are left.
 fn opening<R: Read, X: Exactness>(
     alloc: Global,
     decoder: &mut Decoder<R>,

@@ -1,8 +1,9 @@
 //! CBOR items read and written (RFC 8949).
 //!
-//! A user names this crate alone: `ll` is the crate of heads, whose readers and writers stand here
-//! too, `value` has the values and typed values, `de` and `ser` reading and writing. `values`,
-//! `traits` and `types` are the crates below, whole.
+//! `ll` is the crate of heads, whose readers and writers are here too, `value` has the values and
+//! typed values, `de` and `ser` reading and writing. `values`, `traits` and `types` are the crates
+//! below, whole. A contract over a `Value`, and `i64::try_from` of an `Integer`, also want
+//! `ciborium_value` in `crates.txt`.
 #![tactic(auto)]
 
 pub mod build;

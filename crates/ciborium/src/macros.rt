@@ -1,7 +1,7 @@
 //! `cbor!`.
 
 /// A value in place: `cbor!(alloc, {"a" => [1, true, null]})` is a `Result` of a `Value` or a
-/// `value::Error`. Arrays stand in brackets, maps in braces, and any other part is an expression of
+/// `value::Error`. Arrays are in brackets, maps in braces, and any other part is an expression of
 /// a type that can be written.
 #[macro_export]
 macro_rules! cbor {

@@ -128,7 +128,7 @@ pub fn length_of(value: &Value) -> Option<usize>
     }
 }
 
-/// Whether the value is that tag over a byte string of that length, where there is one.
+/// Whether the value is that tag over a byte string of that length, if there is one.
 pub fn is_over(value: &Value, number: u64, size: Option<usize>) -> bool
     ensures { MatchOption size (result ≡ true) (λ n. MatchBool result
         ((x : List ℕ) × (view value.now ≡ tag number (bytes x)) × (length x ≡ n))
@@ -237,7 +237,7 @@ fn opens(tag: u64, header: Header) -> bool
     is_plain(tag) || !is_bytes(header)
 }
 
-/// Whether a tag over an item of that title is within the limit, where so many levels are left.
+/// Whether a tag over an item of that title is within the limit, if so many levels are left.
 pub fn is_low(left: usize, tag: u64, header: Header) -> bool
     ensures { MatchBool result (IsLow left tag header) ((left ≡ 0) × OpensOver tag header) }
 {

@@ -69,8 +69,8 @@ impl<R: Read> Source for Deserializer<R> {
     /// The next item.
     ///
     /// # Errors
-    /// Those of `from_decoder`. After one but an end with nothing left the decoder may stand in an
-    /// item: don't ask on.
+    /// Those of `from_decoder`. After one but an end with nothing left the decoder may be inside an
+    /// item: don't read on.
     fn item(&mut self) -> Result<Value, Error<R::Error>>
         ensures ok { IfOk result (λ v.
             Takes (seen R.Read (decoder_of self.old)) (seen R.Read (decoder_of self.new))

@@ -89,8 +89,8 @@ TextTells ends body body' room old new =
     TextFault ends body body' room old.stage new.stage old.decoder.left new.decoder.left old.decoder.offset new.decoder.offset
     ((old.decoder.waiting ≢ None) × (new.decoder ≡ old.decoder))
 
--- where that fault leaves the string and the body: as they were, but that a text that is no UTF-8
--- makes the string stuck
+-- what that fault leaves of the string and the body: all as it was, but that a text that isn't
+-- UTF-8 makes the string stuck
 abbrev pub TextStops : {E : Type 0} → Body → Body → Progress → Progress → Error E → Type 0
 TextStops body body' old new (Io e) = new.stage ≡ old.stage
 TextStops body body' old new (Syntax p) =

@@ -70,7 +70,7 @@ behind n (ended rest) = ended rest
 behind n (damaged p) = damaged (n + p)
 behind n (refused last) = refused last
 
--- In what follows `b` was read and `x` stands written for it.
+-- In what follows `b` was read and `x` was written for it.
 
 -- of a body of n bytes: all but the beginning of a character, of at most `kept` bytes, is written
 abbrev pub BodyBegun : ℕ → ℕ → List ℕ → List ℕ → Type 0

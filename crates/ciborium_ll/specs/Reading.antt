@@ -14,7 +14,7 @@ pub record Moves (old new : Option (List ℕ)) (place place' : ℕ) (P : List �
   pub taken : Consumes old new bytes
   pub grown : place' ≡ place + length bytes
 
--- what is left begins with these bytes; this says nothing where it isn't known
+-- what is left begins with these bytes; this says nothing if it isn't known
 abbrev pub Starts : Option (List ℕ) → List ℕ → Type 0
 Starts None bytes = Unit {0}
 Starts (Some xs) bytes = (rest : List ℕ) × (xs ≡ bytes ++ rest)
@@ -80,7 +80,7 @@ abbrev pub place : ℕ → Option Header → ℕ
 place read waiting = read - length (waiting_title waiting)
 
 -- what an end of the bytes tells of those that were to come: it came inside a title or before it,
--- and the place has grown where one was left
+-- and the place has grown if one was left
 abbrev pub Ends : Option (List ℕ) → Option (List ℕ) → ℕ → ℕ → Type 0
 Ends None new place place' = Unit {0}
 Ends (Some xs) new place place' = IsCut xs × (place' ≡ place + min 1 (length xs)) × (xs ≡ [] → new ≡ Some [])
@@ -95,7 +95,7 @@ IsTitleStart [] = Unit {0}
 IsTitleStart (first ∷ []) = 0 < bytes_after first
 IsTitleStart (first ∷ second ∷ rest) = ⊥
 
--- where a fault leaves a decoder that was to take a title: it took no more than the beginning of
+-- what a fault leaves of a decoder that was to take a title: it took no more than the beginning of
 -- one, and if it refused to read on it lost nothing
 abbrev pub TitleHalt : {E : Type 0} → Option (List ℕ) → Option (List ℕ) → ℕ → ℕ → Error E → Type 0
 TitleHalt left left' place place' (Io e) = Stops left place place' IsTitleStart

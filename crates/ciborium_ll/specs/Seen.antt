@@ -31,7 +31,7 @@ abbrev pub TitleTells : {E : Type 0} → (E → Bool) → Seen → Seen → Erro
 TitleTells ends old new =
     Tells ends (Ends old.left new.left old.offset new.offset) (λ p. (p ≡ old.offset) × Takes old new IsBadByte) (2 ^ 64 ≤ old.offset + 9)
 
--- where that fault leaves the decoder
+-- what that fault leaves of the decoder
 abbrev pub TitleStops : {E : Type 0} → Seen → Seen → Error E → Type 0
 TitleStops old new = TitleHalt old.left new.left old.offset new.offset
 

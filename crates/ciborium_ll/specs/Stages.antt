@@ -124,8 +124,8 @@ StaysOpen k P old new b =
     (front : List ℕ) × (last : List ℕ) × (n : ℕ) × (0 < n) × (new ≡ Inside n) × Passes k P old (Inside n) front
     × IsTitleStart last × (b ≡ front ++ last)
 
--- where a fault leaves a string that was on the way to a body: as far open as the titles say that
--- were taken
+-- what a fault leaves of a string that was on the way to a body: as far open as the titles say
+-- that were taken
 abbrev pub StageHalt : {E : Type 0} → (Option ℕ → Header) → (List ℕ → Type 0) → Stage → Stage
     → Option (List ℕ) → Option (List ℕ) → ℕ → ℕ → Error E → Type 0
 StageHalt k P old new left left' place place' (Io e) = Stops left place place' (StaysOpen k P old new)

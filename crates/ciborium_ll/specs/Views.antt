@@ -12,7 +12,7 @@ use Rattle.ciborium_ll.specs.Title.{needs_width}
 use Rattle.ciborium_ll.specs.declared.read.Read.{Ghosts}
 use Rattle.ciborium_ll.specs.Seen.{Seen}
 
--- what is seen of a decoder; `R.Read` are the words that its reader's bound brings
+-- what is seen of a decoder; `R.Read` are the ghost members that its reader's bound brings
 abbrev pub seen : {R E : Type 0} → Ghosts R E → Decoder R → Seen
 seen r d = record {
   left = due (r.left d.reader) d.waiting;

@@ -12,7 +12,7 @@ ghost use Rattle.ciborium_ll.specs.declared.stage.Stage.{Stage};
 
 use crate::hdr::Header;
 
-/// Each number of a header lies in its type's range.
+/// Each number of a header is in its type's range.
 pub fn header_fits(header: Header)
     ensures { FitsHeader header }
 {}

@@ -15,7 +15,7 @@ abbrev pub fits_signed : ℕ → ℤ → Bool
 fits_signed k (pos n) = nat_lt n (2 ^ (k - 1))
 fits_signed k (negsuc n) = nat_lt n (2 ^ (k - 1))
 
--- where there is no number the item is of another type; a number that does not fit is out of range
+-- if there is no number, the item is of another type; a number that does not fit is out of range
 abbrev pub within : (ℤ → Bool) → Option ℤ → Option Kind
 within fits None = Some WrongType
 within fits (Some i) = if fits i then None else Some Range

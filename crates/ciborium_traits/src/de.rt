@@ -40,7 +40,7 @@ pub trait Source {
 
 /// A type whose values can be read.
 pub trait Deserialize: Drop {
-    /// Why an item is none of this type; none where it is one.
+    /// Why an item isn't of this type; none if it is.
     ghost refusal: { Tree → Option KindOf };
 
     /// This value is taken of the item.

@@ -26,7 +26,7 @@ use std::collections::BTreeMap;
 
 /// A type whose values are written and read as the same thing.
 pub trait RoundTrip: Serialize + Deserialize {
-    /// The value is read back: a number lies in its type's range, a part is no null if null would
+    /// The value is read back: a number is in its type's range, a part is no null if null would
     /// mean that there is none, and so on.
     ghost kept: { Self → Type 0 };
 

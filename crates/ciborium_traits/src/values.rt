@@ -1,4 +1,4 @@
-//! Values as they stand.
+//! Values as they are.
 ghost use Rattle.std.specs.Prelude.{◌≡◌, None, OnOk, OnErr, false};
 ghost use Rattle.ciborium_value.specs.View.{view};
 ghost use Rattle.ciborium_traits.specs.Events.{events, AllAdded, Stopped};

@@ -36,7 +36,7 @@ pub fn items_are_built()
 {}
 
 /// A value with the tag around it is taken back if the value is, and the tag is no bignum's over
-/// its bytes. With no tag it is where the value's item is no tag.
+/// its bytes. With no tag it is if the value's item is no tag.
 pub fn captured_values_are_taken_back<V: Serialize + Deserialize>(captured: &Captured<V>)
     ensures { IsTakenBack V.Serialize V.Deserialize captured.now.1
         → MatchOption captured.now.0 (is_tag (V.put captured.now.1) ≡ false)

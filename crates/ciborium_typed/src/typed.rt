@@ -18,7 +18,7 @@ pub trait ValueTyped {
     /// The item that it stands for.
     ghost tree: { Self → Tree };
 
-    /// The value that the typed one is written as. Its bignums stand as they are written.
+    /// The value that the typed one is written as. Its bignums are as they are written.
     ///
     /// # Errors
     /// Only `Memory`.
@@ -30,8 +30,8 @@ pub trait ValueTyped {
     /// 3.4.3).
     ///
     /// # Errors
-    /// Why the type doesn't take it, `BigNegative` where it holds a negative bignum below -2^127,
-    /// or `Memory`.
+    /// Why the type doesn't take it, `BigNegative` if it holds a negative bignum below -2^127, or
+    /// `Memory`.
     fn deserialized<T: Deserialize>(&self, alloc: Global) -> Result<T, Error>
         ensures ok { IfOk result (λ x. (u : Tree) × (fold (tree self.now) ≡ Some u)
             × (T.refusal u ≡ None) × T.takes u x) }

@@ -1,5 +1,5 @@
 -- What bignum tags fold to (RFC 8949, section 3.4.3). Tag 2 over bytes is their unsigned number n,
--- tag 3 is -1 - n. Over at most 16 bytes the tag folds: to an integer where the number lies in
+-- tag 3 is -1 - n. Over at most 16 bytes the tag folds: to an integer if the number is in
 -- -2^64 to 2^64 - 1, else to the tag over the bytes without the zeros in front. Tag 3 over 16 bytes
 -- with the top bit set has no folding. Over 17 bytes or more the tag stays as it is.
 use Rattle.std.specs.Prelude.{◌≡◌, ℕ, pos, negsuc, ◌+◌, ◌*◌, List, [], ◌∷◌, length, Option, Some, None, if◌then◌else◌, nat_eq, nat_lt, nat_le, option_map, option_and_then, ◌||◌, ◌&&◌}

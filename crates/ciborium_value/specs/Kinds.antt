@@ -1,5 +1,5 @@
 -- Which kind of item a tree is (RFC 8949, section 3.1; false, true and null are the simple values
--- 20 to 22, section 3.3). `is_bytes` stands beside the tree.
+-- 20 to 22, section 3.3). `is_bytes` is beside the tree.
 use Rattle.std.specs.Prelude.{Bool, true, false, ◌||◌, nat_eq}
 use Rattle.ciborium_value.specs.Tree.{Tree, integer, text, array, map, tag, simple, float}
 

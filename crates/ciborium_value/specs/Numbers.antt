@@ -22,7 +22,7 @@ abbrev pub number_tree : ℤ → Tree
 number_tree (pos n) = if nat_lt n (2 ^ 64) then integer (pos n) else tag 2 (bytes (fewest_bytes n))
 number_tree (negsuc n) = if nat_lt n (2 ^ 64) then integer (negsuc n) else tag 3 (bytes (fewest_bytes n))
 
--- the number of an integer or a bignum, whatever zeros stand in front
+-- the number of an integer or a bignum, whatever zeros are in front
 abbrev pub tree_number : Tree → Option ℤ
 tree_number (integer i) = Some i
 tree_number (tag n (bytes b)) =

@@ -76,7 +76,7 @@ impl Value {
     /// The number of a tag and its item, to be changed, or none for a value of another kind.
     ///
     /// What the two are at the call is proved. That a value of another kind stays as it was, and
-    /// that what is written through the two stands in the tag afterwards, is tested alone: no
+    /// that what is written through the two is in the tag afterwards, is tested alone: no
     /// clause can say it of two parts of one value. `into_tag` is proved to give a value of another
     /// kind back.
     pub fn as_tag_mut(&mut self) -> Option<(&mut u64, &mut Value)>

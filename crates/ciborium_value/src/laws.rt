@@ -17,7 +17,7 @@ use crate::value::Value;
 use ciborium_ll::Header;
 use ciborium_ll::laws::header_fits;
 
-/// Each number of a value lies in its range, a byte string is bytes, each text is UTF-8, and each
+/// Each number of a value is in its range, a byte string is bytes, each text is UTF-8, and each
 /// length is one that a head can have.
 pub fn value_fits(value: &Value)
     ensures { Fits (view value.now) }

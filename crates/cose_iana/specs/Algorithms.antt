@@ -1,4 +1,4 @@
--- Algorithms. The table stands in src/algorithm.rt.
+-- Algorithms. The table is in src/algorithm.rt.
 use Rattle.std.specs.Prelude.{◌≡◌, refl, ℤ, negsuc, Bool, true, false}
 use Rattle.cose_iana.specs.declared.algorithm.Algorithm.{Algorithm}
 use Rattle.cose_iana.specs.contracts.algorithm.Algorithm.{enum as algorithms_enum}

@@ -1,4 +1,4 @@
--- Names of claims. The table stands in src/claims.rt.
+-- Names of claims. The table is in src/claims.rt.
 use Rattle.std.specs.Prelude.{◌≡◌, refl, ℤ, negsuc, true, false}
 use Rattle.cose_iana.specs.declared.claims.CwtClaimName.{CwtClaimName}
 use Rattle.cose_iana.specs.contracts.claims.CwtClaimName.{enum as cwt_claim_names_enum}

@@ -1,4 +1,4 @@
--- Types of contents. The table stands in src/formats.rt.
+-- Types of contents. The table is in src/formats.rt.
 use Rattle.std.specs.Prelude.{refl}
 use Rattle.cose_iana.specs.declared.formats.CoapContentFormat.{CoapContentFormat}
 use Rattle.cose_iana.specs.contracts.formats.CoapContentFormat.{enum as coap_content_formats_enum}

@@ -1,4 +1,4 @@
--- Labels of headers. The tables stand in src/headers.rt.
+-- Labels of headers. The tables are in src/headers.rt.
 use Rattle.std.specs.Prelude.{◌≡◌, refl, ℤ, negsuc, true, false}
 use Rattle.cose_iana.specs.declared.headers.HeaderParameter.{HeaderParameter}
 use Rattle.cose_iana.specs.contracts.headers.HeaderParameter.{enum as header_parameters_enum}

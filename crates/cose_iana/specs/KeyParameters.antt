@@ -1,4 +1,4 @@
--- Labels of keys of one type. The tables stand in src/key_parameters.rt.
+-- Labels of keys of one type. The tables are in src/key_parameters.rt.
 use Rattle.std.specs.Prelude.{◌≡◌, refl}
 use Rattle.std.specs.Ordering.{int_cmp}
 use Rattle.std.specs.declared.cmp.Ordering.TheVariants.{Equal}

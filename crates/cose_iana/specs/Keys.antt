@@ -1,4 +1,4 @@
--- Labels, types, curves and operations of keys. The tables stand in src/keys.rt.
+-- Labels, types, curves and operations of keys. The tables are in src/keys.rt.
 use Rattle.std.specs.Prelude.{◌≡◌, refl, ℤ, negsuc, true, false}
 use Rattle.cose_iana.specs.declared.keys.KeyParameter.{KeyParameter}
 use Rattle.cose_iana.specs.contracts.keys.KeyParameter.{enum as key_parameters_enum}

@@ -112,7 +112,7 @@ module _ (D : Declared) (bare : Bare D.parts) where
       let e : length rows + suc k ≡ length (variants D) = whole_length rows (suc k) (later_placed k row rows h) in
       omega arith
 
-  -- the number of the entry at place j + k stands in row j
+  -- the number of the entry at place j + k is in row j
   number_at : (table : List (ℤ × D.D)) (k j : ℕ) (x : D.D) → placed D k table ≡ true → tag_of D x ≡ j + k → j < length table → number_of (sameb D) table x ≡ get_or (numbers_of table) j (pos 0)
   number_at [] k j x h e l = absurd (omega arith)
   number_at (row ∷ rows) k zero x h e l =

@@ -1,4 +1,4 @@
--- Tags. The table stands in src/tags.rt.
+-- Tags. The table is in src/tags.rt.
 use Rattle.std.specs.Prelude.{refl}
 use Rattle.cose_iana.specs.declared.tags.CborTag.{CborTag}
 use Rattle.cose_iana.specs.contracts.tags.CborTag.{enum as cbor_tags_enum}

@@ -1,6 +1,6 @@
 //! Registries of IANA for COSE: enums whose entries have the registered numbers.
 //!
-//! Each registry is an enum of its entries, with a number for each, which stands nowhere else, and
+//! Each registry is an enum of its entries, with a number for each, which is nowhere else, and
 //! a table of all of them. Both directions read the enum's numbers: `as i64` is the number of an
 //! entry, and so is `to_i64`. It is proved once for every table that each direction undoes the
 //! other, that no number is twice, and that the entries are ordered by their numbers (`EnumI64`).

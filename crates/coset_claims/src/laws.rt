@@ -43,7 +43,7 @@ pub fn claims_compare(a: &ClaimsSet, b: &ClaimsSet)
         ↔ (claims_view a.now ≡ claims_view b.now) }
 {}
 
-/// The number of a time, or its bits, lie in their range.
+/// The number of a time, or its bits, are in their range.
 pub fn time_fits(time: &Timestamp)
     ensures { Fits (time_tree (time_view time.now)) }
 {
@@ -97,7 +97,7 @@ fn rest_fits(rest: &[(ClaimName, Value)])
     }
 }
 
-/// What claims are written as fits: each number lies in its range, each text is UTF-8, and each
+/// What claims are written as fits: each number is in its range, each text is UTF-8, and each
 /// length is one that a head can have.
 pub fn claims_fit(claims: &ClaimsSet)
     ensures { Fits (claims_tree (claims_view claims.now)) }

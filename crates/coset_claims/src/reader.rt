@@ -75,7 +75,7 @@ fn read_entries(alloc: Global, entries: Vec<(Value, Value)>) -> Result<ClaimsSet
     Ok(claims)
 }
 
-/// Reads one entry after those that were seen: its name, whether that stood before, its value.
+/// Reads one entry after those that were seen: its name, whether that was there before, its value.
 fn read_entry(
     alloc: Global,
     seen: &mut SeenLabels<ClaimName>,

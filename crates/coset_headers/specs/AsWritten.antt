@@ -1,5 +1,5 @@
 -- Whether a value that is read as a header or a signature is already the one that would be written,
--- decided from the value alone: the entries that have fields of their own stand first, in the order
+-- decided from the value alone: the entries that have fields of their own are first, in the order
 -- of their labels, and counter signatures are bare, or two and more. Of other values these tests
 -- say nothing.
 use Rattle.std.specs.Prelude.{ℕ, pos, Bool, true, false, ◌&&◌, if◌then◌else◌, nat_eq, nat_lt}

@@ -79,7 +79,7 @@ others = map_entries.others is_core
 abbrev pub IsField : {A : Type 0} → (Tree → Option A) → A → Option Tree → A → Type 0
 IsField = map_entries.IsField
 
--- the fields that hold no header are those of the entries; IV and partial IV never stand both
+-- the fields that hold no header are those of the entries; never both IV and partial IV
 pub record IsPlain (es : List (LabelFields × Tree)) (p : Plain) : Type 0 where
   pub alg : IsField alg_of None (at 1 es) p.alg
   pub crit : IsField crit_of [] (at 2 es) p.crit
@@ -106,7 +106,7 @@ abbrev mutual
   HasHeader n t (header p ss) k = (ps : Pairs) × (es : List (LabelFields × Tree)) × (t ≡ map_tree ps) × (entries ps ≡ Some es)
       × Distinct es × IsPlain es p × HasSigned n (at 7 es) ss k
 
-  -- a protected one: a byte string, empty or spelled whole by one readable item that is a header
+  -- a protected one: a byte string, empty or just one readable item that is a header
   -- with one layer less; its bytes are kept
   pub HasProtected : ℕ → Tree → ProtectedFields → ℕ → Type 0
   HasProtected n t (protected o h) k = (b : List ℕ) × (t ≡ bytes b) × (o ≡ Some b) × (0 < k)

@@ -1,5 +1,5 @@
 -- The value that stands for the fields of a header or a signature, and the bytes that structures
--- and messages show for a protected header (RFC 9052, sections 3 and 3.1). There is none where a
+-- and messages show for a protected header (RFC 9052, sections 3 and 3.1). There is none if a
 -- label is twice in a `rest` that is written.
 use Rattle.std.specs.Prelude.{ℕ, pos, List, [], ◌∷◌, ◌++◌, map, Bool, true, false, ◌||◌, ◌&&◌, if◌then◌else◌, Option, Some, None, option_map, option_and_then}
 use Rattle.std.specs.Ordering.{is_eq}
@@ -39,7 +39,7 @@ entry_tree e = (label_tree e.0, e.1)
 abbrev pub tree_of : List (LabelFields × Tree) → Tree
 tree_of es = map_tree (pairs (map entry_tree es))
 
--- whether the label stands among the entries, and whether one is twice
+-- whether the label is among the entries, and whether one is twice
 abbrev pub stands : LabelFields → List (LabelFields × Tree) → Bool
 stands l [] = false
 stands l (e ∷ es) = is_eq (label_cmp l e.0) || stands l es
@@ -48,7 +48,7 @@ abbrev pub twice : List (LabelFields × Tree) → Bool
 twice [] = false
 twice (e ∷ es) = stands e.0 es || twice es
 
--- one counter signature stands by itself, and several in a list
+-- one counter signature is by itself, and several are in a list
 abbrev pub bare_or_list : Trees → Option Tree
 bare_or_list no_trees = None
 bare_or_list (one_more t no_trees) = Some t

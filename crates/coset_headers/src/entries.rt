@@ -136,7 +136,7 @@ pub fn push_bytes(entries: &mut Entries, label: u64, bytes: Vec<u8>) -> Result<(
     Ok(())
 }
 
-/// One counter signature stands by itself, and several in a list.
+/// One counter signature is by itself, and several are in a list.
 fn push_signatures(entries: &mut Entries, signatures: Vec<Value>) -> Result<(), CoseError>
     ensures { MatchResult result
         (λ _. Appends entries.old.items entries.new.items

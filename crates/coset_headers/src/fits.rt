@@ -1,4 +1,4 @@
-//! That what is written of a header fits heads: each number lies in its range, each length is one
+//! That what is written of a header fits heads: each number is in its range, each length is one
 //! that a head can have.
 ghost use Rattle.std.specs.Prelude.{◌≡◌, ◌+◌, ◌^◌, ◌<◌, ℕ, List, length, map, option_map, Some};
 ghost use Rattle.cose_iana.specs.Algorithms.{algorithm_number};

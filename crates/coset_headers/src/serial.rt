@@ -75,7 +75,7 @@ impl Header {
 }
 
 /// A header is read from its map, its entries in their order: of each first its label, then whether
-/// it stood before, its value, and IV against partial IV.
+/// it was there before, its value, and IV against partial IV.
 impl AsCborValue for Header {
     ghost Fields = { HeaderFields };
 

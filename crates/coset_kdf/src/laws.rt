@@ -55,7 +55,7 @@ pub fn nonces_compare(a: &Nonce, b: &Nonce)
         ↔ (nonce_view a.now ≡ nonce_view b.now) }
 {}
 
-/// What parties bring is equal where it says the same.
+/// What parties bring is equal exactly if it says the same.
 pub fn parties_compare(a: &PartyInfo, b: &PartyInfo)
     ensures { IsTrue (⟦<PartyInfo as std::cmp::PartialEq>⟧.eq a.now b.now)
         ↔ (party_view a.now ≡ party_view b.now) }
@@ -98,7 +98,7 @@ fn maybe_nonce_fits(nonce: &Option<Nonce>)
     }
 }
 
-/// What a party is written as fits: each number lies in its range, and each length is one that a
+/// What a party is written as fits: each number is in its range, and each length is one that a
 /// head can have.
 pub fn party_fits(info: &PartyInfo)
     ensures { Fits (party_tree (party_view info.now)) }
@@ -108,8 +108,8 @@ pub fn party_fits(info: &PartyInfo)
     maybe_bytes_fit(&info.other);
 }
 
-/// What public information is written as fits where the bytes that its protected header shows do.
-/// They do in all that was read.
+/// What public information is written as fits if the bytes that its protected header shows do. They
+/// do in all that was read.
 pub fn public_fits(info: &SuppPubInfo)
     ensures shown { (b : List ℕ) (t : Tree) → shown (protected_view info.now.protected) ≡ Some b
         → Fits (bytes b) → public_tree (public_view info.now) ≡ Some t → Fits t }
@@ -132,7 +132,7 @@ fn private_fit(private: &[Vec<u8>])
     }
 }
 
-/// What a context is written as fits where the bytes that its protected header shows do. They do in
+/// What a context is written as fits if the bytes that its protected header shows do. They do in
 /// all that was read.
 pub fn context_fits(context: &CoseKdfContext)
     ensures shown { (b : List ℕ) (t : Tree)

@@ -1,4 +1,4 @@
--- Keys whose `params` stand in the order of their labels' encodings (RFC 8949, sections 4.2.1 and
+-- Keys whose `params` are in the order of their labels' encodings (RFC 8949, sections 4.2.1 and
 -- 4.2.3).
 use Rattle.std.specs.Prelude.{◌≡◌, List}
 use Rattle.std.specs.List.{Contains, filter}

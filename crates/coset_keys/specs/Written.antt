@@ -1,5 +1,5 @@
 -- The value that stands for the fields of a key or a set of keys (RFC 9052, section 7). There is
--- none where a label is twice in the `params` of a key.
+-- none if a label is twice in the `params` of a key.
 use Rattle.std.specs.Prelude.{pos, List, [], ◌∷◌, ◌++◌, map, if◌then◌else◌, Option, Some, None}
 use Rattle.ciborium_value.specs.Tree.{Tree, array}
 use Rattle.ciborium_value.specs.View.{trees}
@@ -13,7 +13,7 @@ abbrev pub ops_entry : List Named → List (LabelFields × Tree)
 ops_entry [] = []
 ops_entry (n ∷ ns) = (number (pos 4), array (trees (map named_tree (n ∷ ns)))) ∷ []
 
--- the entries in their fixed order, those of empty fields left away; the type always stands
+-- the entries in their fixed order, those of empty fields left away; the type is always there
 abbrev pub key_entries : KeyFields → List (LabelFields × Tree)
 key_entries k = name_entry 1 (Some k.kty) ++ (bytes_entry 2 k.key_id ++ (name_entry 3 k.alg
     ++ (ops_entry k.key_ops ++ (bytes_entry 5 k.base_iv ++ k.params))))

@@ -93,7 +93,7 @@ fn params_fit(params: &[(Label, Value)])
     }
 }
 
-/// What a key is written as fits, and so do its other entries: each number lies in its range, each
+/// What a key is written as fits, and so do its other entries: each number is in its range, each
 /// text is UTF-8, and each length is one that a head can have.
 pub fn key_fits(key: &CoseKey)
     ensures tree { (t : Tree) → key_tree (key_view key.now) ≡ Some t → Fits t }

@@ -39,7 +39,7 @@ fn read_entries(alloc: Global, entries: Vec<(Value, Value)>) -> Result<CoseKey, 
     Ok(key)
 }
 
-/// Reads one entry after those that were seen: its label, whether it stood before, its value.
+/// Reads one entry after those that were seen: its label, whether it was there before, its value.
 fn read_entry(
     alloc: Global,
     seen: &mut SeenLabels<Label>,

@@ -14,7 +14,7 @@ use coset_labels::{AsCborValue, CborSerializable, CoseError, to_cbor_array};
 use std::alloc::Global;
 
 /// A key is read from its map, its entries in their order: of each first its label, then whether it
-/// stood before, then its value. That the key has a type is seen after all of them.
+/// was there before, then its value. That the key has a type is seen after all of them.
 impl AsCborValue for CoseKey {
     ghost Fields = { KeyFields };
 

@@ -1,4 +1,4 @@
--- What a name says as it is compared, and the names that stand where none is given.
+-- What a name says as it is compared, and the names that are there if none is given.
 use Rattle.cose_iana.specs.declared.algorithm.Algorithm.{Algorithm}
 use Rattle.cose_iana.specs.declared.algorithm.Algorithm.TheVariants as algorithm
 use Rattle.cose_iana.specs.declared.keys.KeyType.{KeyType}

@@ -29,7 +29,7 @@ pub fn faults_compare<E: PartialEq>(a: &Fault<E>, b: &Fault<E>)
         ↔ SameFault E.eq ⟦<CoseError as std::cmp::PartialEq>⟧.eq a.now b.now }
 {}
 
-/// No bytes have the fault `misplaced`: that bytes mean no value is answered without an offset.
+/// No bytes have the fault `misplaced`: that bytes mean no value is returned without an offset.
 pub fn none_is_misplaced()
     ensures { (b : List ℕ) (limit : ℕ) (f : CoseFault) → NotReadable b limit f → f ≢ misplaced }
 {}

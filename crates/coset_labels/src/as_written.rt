@@ -20,7 +20,7 @@ pub trait AsWritten: AsCborValue {
     ghost tree_of: { Content → Option Tree };
 
     /// Whether the value is the very one that would be written of what it is read as: true exactly
-    /// where it is. Of a value that isn't read as this type it says nothing. It takes no memory.
+    /// if it is. Of a value that isn't read as this type it says nothing. It takes no memory.
     fn is_as_written(value: &Value) -> bool
         ensures { (n k : ℕ) (x : Content) → has n (view value.now) x k
             → MatchBool result (tree_of x ≡ Some (view value.now))

@@ -34,7 +34,7 @@ pub fn cbor_type_error(value: &Value, want: &'static str) -> CoseError
     CoseError::UnexpectedItem(cbor_type_name(value), want)
 }
 
-/// What a value holds, where it is of the kind that is asked for. Nothing is copied.
+/// What a value holds, if it is of the kind that is asked for. Nothing is copied.
 pub trait ValueTryAs {
     /// The tree that a value is.
     ghost tree: { Self → Tree };

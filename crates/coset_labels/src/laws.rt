@@ -41,7 +41,7 @@ pub fn bytes_fit(content: &[u8])
     let _len = content.len();
 }
 
-/// The number of a label lies in its range, and its text is UTF-8 and no longer than a head can
+/// The number of a label is in its range, and its text is UTF-8 and no longer than a head can
 /// say.
 pub fn label_fits(label: &Label)
     ensures { Fits (label_tree (label_view label.now)) }

@@ -1,4 +1,4 @@
-//! Which keys of a map stood before.
+//! Which keys of a map were there before.
 ghost use Rattle.std.specs.Prelude.{◌≡◌, ◌↔◌, List, [], ◌∷◌, ◌++◌, IsTrue, IfOk, MatchResult};
 ghost use Rattle.std.specs.Prelude.{MatchBool, true, false};
 ghost use Rattle.std.specs.Ordering.{is_eq};
@@ -46,7 +46,7 @@ impl<T: WithPrivateRange> EntryKey for RegisteredLabelWithPrivate<T> {
     }
 }
 
-/// The keys of some entries. The first two stand here and take no memory but that of their texts,
+/// The keys of some entries. The first two are here and take no memory but that of their texts,
 /// which are copied; a key is found among the others in as many steps as their number has digits.
 #[derive(Drop)]
 pub struct SeenLabels<K: Ord> {
@@ -67,7 +67,7 @@ impl<K: EntryKey> SeenLabels<K> {
         }
     }
 
-    /// Adds a copy of the key, and tells whether it is new. A key that stood before changes
+    /// Adds a copy of the key, and tells whether it is new. A key that was there before changes
     /// nothing.
     ///
     /// # Errors

@@ -1,4 +1,4 @@
--- What calls that ask a caller's code answer. The code is asked at most once, and only at the bytes
+-- What calls that ask a caller's code return. The code is asked at most once, and only at the bytes
 -- that a structure has: if there is none, since a header can't be written, it can't be asked.
 use Rattle.std.specs.Prelude.{◌≡◌, Option, Result, Ok, Err, IfSome, IsSomeAnd}
 use denote.Ref.{Bor}
@@ -20,14 +20,14 @@ TakesPairWhere g f x o = IfSome o (λ y. TakesPair g f x y)
 abbrev pub TakesWhere : {F T R : Type 0} → Once F (Bor T × Unit {0}) R → F → Option T → Type 0
 TakesWhere g f o = IfSome o (λ y. FnOnceTakesAt g f y)
 
--- the answer is that of f, asked once at x and the bytes of o; or the error of what can't be
--- written, and then there is no answer of f
+-- the result is that of f, asked once at x and the bytes of o; or the error of what can't be
+-- written, and then there is no result of f
 abbrev pub AnswersWhere : {F T A E : Type 0} → Once F (Bor T × (Bor T × Unit {0})) (Result A E) → F → T → Option T → Result A (Fault E) → Type 0
 AnswersWhere g f x o (Ok a) = IsSomeAnd o (λ y. FnOnceReturnsAtPair g f x y (Ok a))
 AnswersWhere g f x o (Err (fault.Caller e)) = IsSomeAnd o (λ y. FnOnceReturnsAtPair g f x y (Err e))
 AnswersWhere g f x o (Err (fault.Cose c)) = CantWrite o c
 
--- the answer is the error that f gives for a part that is missing
+-- the result is the error that f gives for a part that is missing
 abbrev pub AnswersMissing : {F A E : Type 0} → Once F (Unit {0}) E → F → Result A (Fault E) → Type 0
 AnswersMissing g f (Ok a) = ⊥
 AnswersMissing g f (Err (fault.Caller e)) = g.post f tt e

@@ -19,7 +19,7 @@ parts_trees f = option_and_then (λ b. option_map (λ t. bytes b ∷ t ∷ optio
 abbrev pub whole_tree : PartsFields → List (Option Tree) → Option Tree
 whole_tree f lasts = option_and_then (λ parts. option_map (λ ls. array (trees (parts ++ ls))) (all_written (λ o. o) lasts)) (parts_trees f)
 
--- what is covered where nothing is carried counts as empty
+-- what is covered counts as empty if nothing is carried
 abbrev pub content_bytes : Option (List ℕ) → List ℕ
 content_bytes None = []
 content_bytes (Some b) = b

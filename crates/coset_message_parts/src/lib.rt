@@ -1,5 +1,5 @@
 //! What messages and recipients of COSE share: the parts that each begins with, and what calls that
-//! ask a caller's code answer (RFC 9052, sections 4 to 6).
+//! ask a caller's code return (RFC 9052, sections 4 to 6).
 #![tactic(auto)]
 
 pub mod laws;

@@ -133,7 +133,7 @@ pub fn optional_value(bytes: Option<Vec<u8>>) -> Value
     }
 }
 
-/// What is carried; empty where it is carried elsewhere.
+/// What is carried; empty if it is carried elsewhere.
 pub fn content_bytes(content: &Option<Vec<u8>>) -> &[u8]
     ensures { result.now ≡ content_bytes (option_map (λ v. v.items) content.now) }
 {

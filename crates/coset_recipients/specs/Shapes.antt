@@ -17,7 +17,7 @@ abbrev pub three_or_four : Tree → Tree → Tree → Option Tree → Trees
 three_or_four x y z o = trees (x ∷ y ∷ z ∷ optional_list o)
 
 -- an array of a protected header, an unprotected one, the ciphertext or null, and an array of
--- recipients if a fourth element stands
+-- recipients if there is a fourth element
 abbrev mutual
   pub HasRecipient : ℕ → Tree → RecipientFields → ℕ → Type 0
   HasRecipient n t (recipient p u c rs) k = (x y z : Tree) × (o : Option Tree) × (t ≡ array (three_or_four x y z o)) × HasParts n x y z (parts p u c) k

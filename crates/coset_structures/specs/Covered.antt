@@ -9,7 +9,7 @@ use Rattle.coset_structures.specs.Contexts.{signature_text, mac_text, encryption
 use Rattle.coset_structures.specs.Structure.{structure, enc_structure, shown_signer}
 
 -- What a structure of each kind covers: its context, the bytes shown for the body's protected
--- header, in a Sig_structure those shown for the signer's where there is a signer, the external
+-- header, in a Sig_structure those shown for the signer's if there is a signer, the external
 -- data, and but for an Enc_structure the payload.
 pub data Covered : Type 0 where
   signed : SignatureContext → List ℕ → Option (List ℕ) → List ℕ → List ℕ → Covered
@@ -33,7 +33,7 @@ CoveredFits (signed context body signer aad payload) =
 CoveredFits (maced context body aad payload) = (length body < 2 ^ 64) × (length aad < 2 ^ 64) × (length payload < 2 ^ 64)
 CoveredFits (encrypted context body aad) = (length body < 2 ^ 64) × (length aad < 2 ^ 64)
 
--- what the structures of protected headers cover, by the bytes that are shown for these; none where
+-- what the structures of protected headers cover, by the bytes that are shown for these; none if
 -- one of them can't be written
 abbrev pub covered_by_sig : SignatureContext → ProtectedFields → Option ProtectedFields → List ℕ → List ℕ → Option Covered
 covered_by_sig context body signer aad payload =

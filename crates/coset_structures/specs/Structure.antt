@@ -45,7 +45,7 @@ abbrev pub encryption_structure : List ℕ → ProtectedFields → List ℕ → 
 encryption_structure context body aad = option_map (λ b. enc_structure context b aad) (shown body)
 
 -- what follows a structure's title and context: the byte strings of the body's protected header, of
--- the signer's where there is a signer, of the external data and of the payload
+-- the signer's if there is a signer, of the external data and of the payload
 abbrev pub behind_prefix : List ℕ → Option (List ℕ) → List ℕ → List ℕ → List ℕ
 behind_prefix body None aad payload = enc (bytes body) ++ (enc (bytes aad) ++ enc (bytes payload))
 behind_prefix body (Some b) aad payload = enc (bytes body) ++ (enc (bytes b) ++ (enc (bytes aad) ++ enc (bytes payload)))

@@ -284,7 +284,7 @@ fn write<A: Allocator>(out: &mut Vec<u8, A>, prefix: &[u8], parts: &[&[u8]])
     }
 }
 
-/// How long a structure is, where `usize` can hold it.
+/// How long a structure is, if `usize` can hold it.
 fn room(prefix: &[u8], parts: &[&[u8]]) -> Option<usize>
     ensures { MatchOption result (2 ^ 64 ≤ length (prefix.now ++ flat_map byte_string parts.now))
         (λ n. n ≡ length (prefix.now ++ flat_map byte_string parts.now)) }
