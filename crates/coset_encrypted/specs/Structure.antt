@@ -1,4 +1,4 @@
--- What the ciphertext of an encrypted message covers (RFC 9052, section 5.3); none where the
+-- What the ciphertext of an encrypted message covers (RFC 9052, section 5.3); none if the
 -- protected header can't be written.
 use Rattle.std.specs.Prelude.{ℕ, List, Option}
 use Rattle.coset_structures.specs.Contexts.{encryption_text}

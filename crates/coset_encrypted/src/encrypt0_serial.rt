@@ -10,6 +10,7 @@ ghost use Rattle.coset_encrypted.specs.Wrong.{WrongEncrypt0};
 
 use crate::encrypt0::CoseEncrypt0;
 use ciborium_value::Value;
+use cose_iana::CborTag;
 use coset_labels::tuples::three;
 use coset_labels::{
     AsCborValue, CborSerializable, CoseError, Limits, TaggedCborSerializable, ValueTryAs,
@@ -83,5 +84,5 @@ impl CborSerializable for CoseEncrypt0 {}
 impl TaggedCborSerializable for CoseEncrypt0 {
     ghost TAG = { 16 };
 
-    const TAG: u64 = 16;
+    const TAG: u64 = CborTag::CoseEncrypt0 as u64;
 }

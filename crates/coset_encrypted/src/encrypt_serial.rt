@@ -10,6 +10,7 @@ ghost use Rattle.coset_encrypted.specs.Wrong.{WrongEncrypt};
 
 use crate::encrypt::CoseEncrypt;
 use ciborium_value::Value;
+use cose_iana::CborTag;
 use coset_labels::tuples::four;
 use coset_labels::{
     AsCborValue, CborSerializable, CoseError, Limits, TaggedCborSerializable, ValueTryAs,
@@ -89,5 +90,5 @@ impl CborSerializable for CoseEncrypt {}
 impl TaggedCborSerializable for CoseEncrypt {
     ghost TAG = { 96 };
 
-    const TAG: u64 = 96;
+    const TAG: u64 = CborTag::CoseEncrypt as u64;
 }

@@ -1,4 +1,4 @@
--- What the tag of an authenticated message covers (RFC 9052, section 6.3); none where the protected
+-- What the tag of an authenticated message covers (RFC 9052, section 6.3); none if the protected
 -- header can't be written.
 use Rattle.std.specs.Prelude.{ℕ, List, Option}
 use Rattle.coset_message_parts.specs.Written.{content_bytes}

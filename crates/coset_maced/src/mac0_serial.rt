@@ -11,6 +11,7 @@ ghost use Rattle.coset_maced.specs.Wrong.{WrongMac0};
 
 use crate::mac0::CoseMac0;
 use ciborium_value::Value;
+use cose_iana::CborTag;
 use coset_labels::tuples::four;
 use coset_labels::{
     AsCborValue, CborSerializable, CoseError, Limits, TaggedCborSerializable, ValueTryAs,
@@ -110,5 +111,5 @@ impl CborSerializable for CoseMac0 {}
 impl TaggedCborSerializable for CoseMac0 {
     ghost TAG = { 17 };
 
-    const TAG: u64 = 17;
+    const TAG: u64 = CborTag::CoseMac0 as u64;
 }

@@ -11,6 +11,7 @@ ghost use Rattle.coset_maced.specs.Wrong.{WrongMac};
 
 use crate::mac::CoseMac;
 use ciborium_value::Value;
+use cose_iana::CborTag;
 use coset_labels::tuples::five;
 use coset_labels::{
     AsCborValue, CborSerializable, CoseError, Limits, TaggedCborSerializable, ValueTryAs,
@@ -116,5 +117,5 @@ impl CborSerializable for CoseMac {}
 impl TaggedCborSerializable for CoseMac {
     ghost TAG = { 97 };
 
-    const TAG: u64 = 97;
+    const TAG: u64 = CborTag::CoseMac as u64;
 }

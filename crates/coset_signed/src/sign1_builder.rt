@@ -103,7 +103,7 @@ impl CoseSign1Builder {
     /// As `create_signature`, with a signer that may fail.
     ///
     /// # Errors
-    /// `Caller` with the signer's error. `Cose` with what `create_signature` answers.
+    /// `Caller` with the signer's error. `Cose` with an error of `create_signature`.
     pub fn try_create_signature<E, S: FnOnce(&[u8]) -> Result<Vec<u8>, E>>(
         self,
         alloc: Global,
@@ -150,7 +150,7 @@ impl CoseSign1Builder {
     /// As `create_detached_signature`, with a signer that may fail. The message carries no payload.
     ///
     /// # Errors
-    /// `Caller` with the signer's error. `Cose` with what `create_detached_signature` answers.
+    /// `Caller` with the signer's error. `Cose` with an error of `create_detached_signature`.
     pub fn try_create_detached_signature<E, S: FnOnce(&[u8]) -> Result<Vec<u8>, E>>(
         self,
         alloc: Global,

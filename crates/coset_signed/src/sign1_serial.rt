@@ -11,6 +11,7 @@ ghost use Rattle.coset_signed.specs.Wrong.{WrongSign1};
 
 use crate::sign1::CoseSign1;
 use ciborium_value::Value;
+use cose_iana::CborTag;
 use coset_labels::tuples::four;
 use coset_labels::{
     AsCborValue, CborSerializable, CoseError, Limits, TaggedCborSerializable, ValueTryAs,
@@ -109,5 +110,5 @@ impl CborSerializable for CoseSign1 {}
 impl TaggedCborSerializable for CoseSign1 {
     ghost TAG = { 18 };
 
-    const TAG: u64 = 18;
+    const TAG: u64 = CborTag::CoseSign1 as u64;
 }

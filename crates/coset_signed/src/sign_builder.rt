@@ -203,7 +203,7 @@ impl CoseSignBuilder {
     /// As `add_created_signature`, with a signer that may fail.
     ///
     /// # Errors
-    /// `Caller` with the signer's error. `Cose` with what `add_created_signature` answers.
+    /// `Caller` with the signer's error. `Cose` with an error of `add_created_signature`.
     pub fn try_add_created_signature<E, S: FnOnce(&[u8]) -> Result<Vec<u8>, E>>(
         self,
         alloc: Global,
@@ -254,7 +254,7 @@ impl CoseSignBuilder {
     /// As `add_detached_signature`, with a signer that may fail. The message carries no payload.
     ///
     /// # Errors
-    /// `Caller` with the signer's error. `Cose` with what `add_detached_signature` answers.
+    /// `Caller` with the signer's error. `Cose` with an error of `add_detached_signature`.
     pub fn try_add_detached_signature<E, S: FnOnce(&[u8]) -> Result<Vec<u8>, E>>(
         self,
         alloc: Global,

@@ -16,6 +16,7 @@ ghost use Rattle.coset_signed.specs.Wrong.{Hides, IsNoSignature, WrongSignatureL
 use crate::sign::CoseSign;
 use ciborium_value::Value;
 use coset_headers::CoseSignature;
+use cose_iana::CborTag;
 use coset_labels::tuples::four;
 use coset_labels::{
     AsCborValue, CborSerializable, CoseError, Limits, TaggedCborSerializable, ValueTryAs,
@@ -116,7 +117,7 @@ impl CborSerializable for CoseSign {}
 impl TaggedCborSerializable for CoseSign {
     ghost TAG = { 98 };
 
-    const TAG: u64 = 98;
+    const TAG: u64 = CborTag::CoseSign as u64;
 }
 
 fn read_signatures(
