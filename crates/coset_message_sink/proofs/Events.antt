@@ -1,5 +1,5 @@
 -- The events of the parts of recipients and messages, one after another.
-use Rattle.std.proofs.Common.{◌≡◌, ◌≢◌, ℕ, ◌+◌, List, [], ◌∷◌, ◌++◌, length, map, refl, sym, ap, ◌∙◌, append_assoc, append-nil, arith}
+use Rattle.std.proofs.Common.{◌≡◌, ◌≢◌, ℕ, ◌+◌, List, [], ◌∷◌, ◌++◌, length, refl, sym, ap, ◌∙◌, append_assoc, append-nil, arith}
 use Rattle.std.specs.List.{flat_map}
 use Rattle.ciborium_value.specs.Tree as spec
 use Rattle.ciborium_value.specs.Tree.{Tree, Trees, no_trees, one_more, tree_count}
@@ -8,7 +8,6 @@ use Rattle.ciborium_traits.specs.Events as event
 use Rattle.ciborium_traits.specs.Events.{Event, events, events_all}
 use Rattle.coset_message_parts.specs.Fields.{PartsFields}
 use Rattle.coset_message_parts.specs.View.{parts_in}
-use Rattle.coset_recipients.specs.Fields.{RecipientFields}
 use Rattle.coset_recipients.specs.View.{recipient_view, recipients_view}
 use Rattle.coset_recipients.specs.Written.{whole}
 use Rattle.coset_recipients.specs.declared.recipient.CoseRecipient.{CoseRecipient, out-CoseRecipient}

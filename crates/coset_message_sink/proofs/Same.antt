@@ -1,5 +1,5 @@
 -- What is written straight from fields is what is written of them.
-use Rattle.std.proofs.Common.{◌≡◌, ℕ, List, [], ◌∷◌, ◌++◌, Option, Some, refl, ap, ◌∙◌}
+use Rattle.std.proofs.Common.{◌≡◌, ℕ, List, [], ◌∷◌, ◌++◌, Option, Some, ap, ◌∙◌}
 use Rattle.ciborium_value.specs.Tree.{Tree, bytes, array, Trees, no_trees, one_more}
 use Rattle.ciborium_value.specs.View.{trees}
 use Rattle.coset_labels.specs.Arrays.{all_written, array_of}
@@ -80,20 +80,25 @@ list_same rs t e r =
     ap array (recipients_same rs w.0 w.1 r) ∙ w.2
 
 -- ---- messages
+signed_last : (b : List ℕ) → AreLast (Some (bytes b) ∷ []) (bytes b ∷ [])
+signed_last b = last_more (Some (bytes b)) [] (bytes b) [] (some_same (bytes b)) none_last
+
 pub sign1_same : (m : Sign1Fields) (t : Tree) → sign1_tree m ≡ Some t → Sign1Received m → sign1_put m ≡ t
-sign1_same m t e r = whole_same m.protected m.unprotected m.payload _ _ t (last_more (Some (bytes m.signature)) [] (bytes m.signature) [] (some_same (bytes m.signature)) none_last) e r
+sign1_same m t e r = whole_same m.protected m.unprotected m.payload (Some (bytes m.signature) ∷ []) (bytes m.signature ∷ []) t (signed_last m.signature) e r
 
 pub sign_same : (m : SignFields) (t : Tree) → sign_tree m ≡ Some t → SignReceived m → sign_put m ≡ t
 sign_same m t e r =
-    whole_same m.protected m.unprotected m.payload _ _ t
-    (last_more (array_of signature_tree m.signatures) [] (array (signatures_put (signatures m.signatures))) [] (λ y f. signatures_same m.signatures y f r.1) none_last) e r.0
+    let o = array_of signature_tree m.signatures in
+    let x = array (signatures_put (signatures m.signatures)) in
+    whole_same m.protected m.unprotected m.payload (o ∷ []) (x ∷ []) t (last_more o [] x [] (λ y f. signatures_same m.signatures y f r.1) none_last) e r.0
 
 pub mac0_same : (m : Mac0Fields) (t : Tree) → mac0_tree m ≡ Some t → Mac0Received m → mac0_put m ≡ t
-mac0_same m t e r = whole_same m.protected m.unprotected m.payload _ _ t (last_more (Some (bytes m.tag)) [] (bytes m.tag) [] (some_same (bytes m.tag)) none_last) e r
+mac0_same m t e r = whole_same m.protected m.unprotected m.payload (Some (bytes m.tag) ∷ []) (bytes m.tag ∷ []) t (signed_last m.tag) e r
 
 pub mac_same : (m : MacFields) (t : Tree) → mac_tree m ≡ Some t → MacReceived m → mac_put m ≡ t
 mac_same m t e r =
-    let list : AreLast (list_tree m.recipients ∷ []) (array (recipients_put m.recipients) ∷ []) =
-    last_more (list_tree m.recipients) [] (array (recipients_put m.recipients)) [] (λ y f. list_same m.recipients y f r.1) none_last in
-    whole_same m.protected m.unprotected m.payload _ _ t
-    (last_more (Some (bytes m.tag)) (list_tree m.recipients ∷ []) (bytes m.tag) (array (recipients_put m.recipients) ∷ []) (some_same (bytes m.tag)) list) e r.0
+    let b = bytes m.tag in
+    let o = list_tree m.recipients in
+    let x = array (recipients_put m.recipients) in
+    whole_same m.protected m.unprotected m.payload (Some b ∷ o ∷ []) (b ∷ x ∷ []) t
+    (last_more (Some b) (o ∷ []) b (x ∷ []) (some_same b) (last_more o [] x [] (λ y f. list_same m.recipients y f r.1) none_last)) e r.0

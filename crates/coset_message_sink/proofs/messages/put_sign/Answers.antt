@@ -1,5 +1,5 @@
 use Rattle.std.proofs.Common.{refl, ap}
-use Rattle.ciborium_value.specs.Tree.{Tree, array}
+use Rattle.ciborium_value.specs.Tree.{array}
 use Rattle.ciborium_traits.specs.Events.{events}
 use Rattle.ciborium_traits.proofs.Joined.{of_err, stopped_as, stopped_then}
 use Rattle.coset_headers.specs.View.{signatures_view}
