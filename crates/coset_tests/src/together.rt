@@ -3,4 +3,5 @@
 
 mod memory;
 mod signature;
+mod straight;
 mod tokens;

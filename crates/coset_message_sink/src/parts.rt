@@ -1,0 +1,43 @@
+//! The parts that each message and each recipient begins with.
+ghost use Rattle.std.specs.Prelude.{option_map, OnOk, OnErr};
+ghost use Rattle.ciborium_traits.specs.Events.{events, AllAdded, Stopped};
+ghost use Rattle.coset_message_parts.specs.View.{parts_in};
+ghost use Rattle.coset_message_parts.specs.Written.{optional_tree};
+ghost use Rattle.coset_message_sink.specs.Put.{begun};
+
+use ciborium_traits::ser::Sink;
+use coset_headers::{Header, ProtectedHeader};
+use coset_sink::{put_header, put_protected};
+
+/// What is carried, or null if nothing is.
+fn put_content<S: Sink>(content: &Option<Vec<u8>>, to: &mut S) -> Result<(), S::Error>
+    ensures ok { OnOk result (AllAdded S.adds to.old
+        (events (optional_tree (option_map (λ v. v.items) content.now))) to.new) }
+    ensures err { OnErr result (Stopped S.adds S.refuses to.old
+        (events (optional_tree (option_map (λ v. v.items) content.now))) to.new) }
+{
+    match content {
+        Some(bytes) => to.bytes(bytes),
+        None => to.null(),
+    }
+}
+
+/// The beginning of an array of so many items, and the three that come first.
+#[inline(never)]
+pub(crate) fn begin<S: Sink>(
+    count: usize,
+    protected: &ProtectedHeader,
+    unprotected: &Header,
+    content: &Option<Vec<u8>>,
+    to: &mut S,
+) -> Result<(), S::Error>
+    ensures ok { OnOk result (AllAdded S.adds to.old
+        (begun count (parts_in protected.now unprotected.now content.now)) to.new) }
+    ensures err { OnErr result (Stopped S.adds S.refuses to.old
+        (begun count (parts_in protected.now unprotected.now content.now)) to.new) }
+{
+    to.array(count)?;
+    put_protected(protected, to)?;
+    put_header(unprotected, to)?;
+    put_content(content, to)
+}

@@ -1,0 +1,93 @@
+//! Writes recipients.
+ghost use Rattle.std.specs.Prelude.{◌≡◌, ◌≤◌, OnOk, OnErr};
+ghost use Rattle.ciborium_value.specs.Tree as spec;
+ghost use Rattle.ciborium_traits.specs.Events.{events, events_all, AllAdded, Stopped};
+ghost use Rattle.coset_recipients.specs.View.{recipient_view, recipients_view};
+ghost use Rattle.coset_message_sink.specs.Put.{recipient_put, recipients_put, recipient_begun};
+ghost use Rattle.coset_message_sink.specs.Put.{inner_begun, item_count};
+
+use crate::parts::begin;
+use ciborium_traits::ser::Sink;
+use coset_recipients::CoseRecipient;
+
+/// How many items a recipient has that has these recipients inside it.
+fn count_items(recipients: &[CoseRecipient]) -> usize
+    ensures { result ≡ item_count (recipients_put (recipients_view recipients.now)) }
+{
+    if recipients.is_empty() { 3 } else { 4 }
+}
+
+/// The beginning of the list of the recipients inside one, if there are any.
+fn begin_inner<S: Sink>(recipients: &[CoseRecipient], to: &mut S) -> Result<(), S::Error>
+    ensures ok { OnOk result (AllAdded S.adds to.old
+        (inner_begun (recipients_put (recipients_view recipients.now))) to.new) }
+    ensures err { OnErr result (Stopped S.adds S.refuses to.old
+        (inner_begun (recipients_put (recipients_view recipients.now))) to.new) }
+{
+    if recipients.is_empty() {
+        return Ok(());
+    }
+    to.array(recipients.len())
+}
+
+/// A recipient up to the recipients inside it.
+#[inline(never)]
+fn begin_recipient<S: Sink>(recipient: &CoseRecipient, to: &mut S) -> Result<(), S::Error>
+    ensures ok { OnOk result (AllAdded S.adds to.old
+        (recipient_begun (recipient_view recipient.now)) to.new) }
+    ensures err { OnErr result (Stopped S.adds S.refuses to.old
+        (recipient_begun (recipient_view recipient.now)) to.new) }
+{
+    begin(
+        count_items(&recipient.recipients),
+        &recipient.protected,
+        &recipient.unprotected,
+        &recipient.ciphertext,
+        to,
+    )?;
+    begin_inner(&recipient.recipients, to)
+}
+
+/// Writes a recipient, with those inside it. It has no fourth element if there are none (RFC 9052,
+/// section 5.1). A protected header is written as `coset_sink::put_protected` does.
+///
+/// # Errors
+/// The sink's; it took a beginning of the events then, and refused the next.
+#[cycle(put)]
+pub fn put_recipient<S: Sink>(recipient: &CoseRecipient, to: &mut S) -> Result<(), S::Error>
+    ensures ok { OnOk result (AllAdded S.adds to.old
+        (events (recipient_put (recipient_view recipient.now))) to.new) }
+    ensures err { OnErr result (Stopped S.adds S.refuses to.old
+        (events (recipient_put (recipient_view recipient.now))) to.new) }
+{
+    begin_recipient(recipient, to)?;
+    put_each(&recipient.recipients, to)
+}
+
+/// Recipients one after another.
+#[cycle(put)]
+fn put_each<S: Sink>(recipients: &[CoseRecipient], to: &mut S) -> Result<(), S::Error>
+    ensures ok { OnOk result (AllAdded S.adds to.old
+        (events_all (recipients_put (recipients_view recipients.now))) to.new) }
+    ensures err { OnErr result (Stopped S.adds S.refuses to.old
+        (events_all (recipients_put (recipients_view recipients.now))) to.new) }
+{
+    'recipients: for recipient in recipients {
+        put_recipient(recipient, to)?;
+    }
+    Ok(())
+}
+
+/// Writes a list of recipients, which may be empty.
+///
+/// # Errors
+/// The sink's; it took a beginning of the events then, and refused the next.
+pub fn put_recipients<S: Sink>(recipients: &[CoseRecipient], to: &mut S) -> Result<(), S::Error>
+    ensures ok { OnOk result (AllAdded S.adds to.old
+        (events (spec.array (recipients_put (recipients_view recipients.now)))) to.new) }
+    ensures err { OnErr result (Stopped S.adds S.refuses to.old
+        (events (spec.array (recipients_put (recipients_view recipients.now)))) to.new) }
+{
+    to.array(recipients.len())?;
+    put_each(recipients, to)
+}
