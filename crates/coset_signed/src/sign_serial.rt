@@ -15,8 +15,8 @@ ghost use Rattle.coset_signed.specs.Wrong.{Hides, IsNoSignature, WrongSignatureL
 
 use crate::sign::CoseSign;
 use ciborium_value::Value;
-use coset_headers::CoseSignature;
 use cose_iana::CborTag;
+use coset_headers::CoseSignature;
 use coset_labels::tuples::four;
 use coset_labels::{
     AsCborValue, CborSerializable, CoseError, Limits, TaggedCborSerializable, ValueTryAs,
