@@ -8,11 +8,14 @@ use Rattle.coset_headers.specs.Written.{shown}
 use Rattle.coset_headers.specs.declared.header.CoseSignature.{CoseSignature, out-CoseSignature, roll-out-CoseSignature, fold-roll-CoseSignature}
 use Rattle.coset_headers.specs.declared.header.Header.{Header}
 use Rattle.coset_headers.specs.declared.header.ProtectedHeader.{ProtectedHeader}
+use Rattle.coset_structures.specs.Contexts.{mac_text}
 use Rattle.coset_structures.specs.Structure.{structure, shown_signer}
+use Rattle.coset_structures.specs.declared.context.MacContext.TheVariants.{CoseMac, CoseMac0}
+use Rattle.coset_maced.specs.Fields.{Mac0Fields, MacFields}
 use Rattle.coset_maced.specs.PartsWritten.{content_bytes}
 use Rattle.coset_signed.specs.Fields.{Sign1Fields, SignFields, signer_of, signature_bytes}
 use Rattle.cose_gate_core.specs.Asked.{asked, first_no, folded_over}
-use Rattle.cose_gate_core.specs.Questions.{Subject, Question, questions, one_question, sign1, sign1_question, sign_question, signer_headers, or_nothing}
+use Rattle.cose_gate_core.specs.Questions.{Subject, Question, questions, one_question, sign1, mac0, mac, sign1_question, mac0_question, mac_question, sign_question, signer_headers, or_nothing}
 use Rattle.coset_maced.specs.RecipientFields.{no_recipients}
 use Rattle.coset_maced.specs.RecipientView.{recipients_view}
 use Rattle.cose_gate_core.specs.Lent.{subject_of, signer_of as lent_signer}
@@ -78,6 +81,16 @@ pub sign1_asks : (m : Sign1Fields) (aad : List ℕ) → IsReceived m.protected
     → questions (sign1 m) aad ≡ sign1_question m (structure (codes "Signature1") (received_bytes m.protected) None aad (content_bytes m.payload)) ∷ []
 sign1_asks m aad r =
     ap (λ o. or_nothing (option_map (λ covered. sign1_question m covered ∷ []) (option_and_then (λ b. option_map (λ s. structure (codes "Signature1") b s aad (content_bytes m.payload)) (shown_signer None)) o))) r
+
+pub mac0_asks : (m : Mac0Fields) (aad : List ℕ) → IsReceived m.protected
+    → questions (mac0 m) aad ≡ mac0_question m (structure (mac_text CoseMac0) (received_bytes m.protected) None aad (content_bytes m.payload)) ∷ []
+mac0_asks m aad r =
+    ap (λ o. or_nothing (option_map (λ covered. mac0_question m covered ∷ []) (option_map (λ b. structure (mac_text CoseMac0) b None aad (content_bytes m.payload)) o))) r
+
+pub mac_asks : (m : MacFields) (aad : List ℕ) → IsReceived m.protected
+    → questions (mac m) aad ≡ mac_question m (structure (mac_text CoseMac) (received_bytes m.protected) None aad (content_bytes m.payload)) ∷ []
+mac_asks m aad r =
+    ap (λ o. or_nothing (option_map (λ covered. mac_question m covered ∷ []) (option_map (λ b. structure (mac_text CoseMac) b None aad (content_bytes m.payload)) o))) r
 
 pub signature_asks : (m : SignFields) (s : SignatureFields) (aad : List ℕ) → IsReceived m.protected → IsReceived (signer_of s)
     → one_question m aad s ≡ sign_question m s (structure (codes "Signature") (received_bytes m.protected) (Some (received_bytes (signer_of s))) aad (content_bytes m.payload))

@@ -1,5 +1,5 @@
 -- Questions that are asked in order, up to the first no.
-use Rattle.std.proofs.Common.{◌≡◌, ◌≢◌, ℕ, ◌+◌, ◌<◌, suc, List, [], ◌∷◌, ◌++◌, map, drop, length, get_or, Option, Some, None, Bool, true, false, refl, sym, ap, ◌∙◌, append_assoc, append-nil, arith, codes, drop-cons, add-one}
+use Rattle.std.proofs.Common.{◌≡◌, ◌≢◌, ℕ, ◌+◌, ◌<◌, suc, List, [], ◌∷◌, ◌++◌, map, drop, length, get_or, Option, Some, None, Bool, true, false, cond, refl, sym, ap, ◌∙◌, append_assoc, append-nil, arith, codes, drop-cons, add-one}
 use Rattle.std.specs.Prelude.{option_map, option_and_then, Result, Ok, Err, OnErr, IsErrAnd}
 use Rattle.coset_headers.specs.Fields.{SignatureFields}
 use Rattle.coset_headers.specs.Written.{shown}
@@ -8,7 +8,7 @@ use Rattle.coset_maced.specs.PartsWritten.{content_bytes}
 use Rattle.coset_structures.specs.Structure.{structure}
 use Rattle.coset_signed.specs.Fields.{SignFields, signer_of}
 use Rattle.coset_signed.specs.Structure.{sign_covered}
-use Rattle.cose_gate_core.specs.Asked.{asked, first_no, folded_over, ToldFront}
+use Rattle.cose_gate_core.specs.Asked.{asked, first_no, folded_over, ToldPart}
 use Rattle.cose_gate_core.specs.Questions.{sign_question, sign_questions, one_question, or_nothing}
 use Rattle.cose_gate_core.specs.Received.{received_bytes, IsReceived, AreReceived}
 use Rattle.cose_gate_core.proofs.Reach.{folded_append}
@@ -26,9 +26,9 @@ pub err_is : {A E : Type 0} (r : Result A E) (x : E) → IsErrAnd r (λ e. e ≡
 err_is (Ok y) x p = absurd p
 err_is (Err e) x p = ap Err p
 
--- nothing was told of questions
-pub told_none : {T Q : Type 0} (decided : T → Q → T) (told told' : T) (all : List Q) → told' ≡ told → ToldFront decided told told' all
-told_none decided told told' all e = record { front = []; is_front = record { more = all; whole = refl }; tells = e }
+-- nothing was told of the one question
+pub told_none : {T Q : Type 0} (decided : T → Q → T) (allows : Q → Bool) (told told' : T) (all : List Q) (q : Q) → all ≡ q ∷ [] → told' ≡ told → ToldPart decided told told' (asked allows all)
+told_none decided allows told told' all q is e = record { front = []; next = q; more = cond (allows q) [] []; whole = ap (asked allows) is; tells = e }
 
 -- some questions were asked, the answer to each was yes, and the rest is still to be asked
 pub record Asking {T Q : Type 0} (decided : T → Q → T) (allows : Q → Bool) (told told' : T) (all rest : List Q) (count : ℕ) : Type 0 where
@@ -79,8 +79,8 @@ module _ {T Q : Type 0} (decided : T → Q → T) (allows : Q → Bool) (told to
   told_all count a = a.tells ∙ ap (folded_over decided told) (sym (a.whole ∙ append-nil a.front))
 
   -- it stopped before the next
-  pub told_front : (rest : List Q) (count : ℕ) → Asking decided allows told told' all rest count → (newer : T) → newer ≡ told' → ToldFront decided told newer (asked allows all)
-  told_front rest count a newer e = record { front = a.front; is_front = record { more = asked allows rest; whole = a.whole }; tells = e ∙ a.tells }
+  pub told_part : (q : Q) (rest : List Q) (count : ℕ) → Asking decided allows told told' all (q ∷ rest) count → (newer : T) → newer ≡ told' → ToldPart decided told newer (asked allows all)
+  told_part q rest count a newer e = record { front = a.front; next = q; more = cond (allows q) (asked allows rest) []; whole = a.whole; tells = e ∙ a.tells }
 
 -- one more of a list that is seen through a function
 pub rest_step : {A B : Type 0} (f : A → B) (xs : List A) (i : ℕ) (x : A) → i < length xs → x ≡ get_or xs i x → map f (drop i xs) ≡ f x ∷ map f (drop (i + 1) xs)

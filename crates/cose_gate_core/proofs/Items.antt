@@ -1,5 +1,5 @@
 -- One item: what is found of it, and what is after it.
-use Rattle.std.proofs.Common.{◌≡◌, ◌≢◌, ℕ, inl, inr, List, [], Option, None, Some, Bool, cond, refl, sym, ap, subst, ◌∙◌, take, drop, append-nil}
+use Rattle.std.proofs.Common.{◌≡◌, ◌≢◌, ℕ, inl, inr, List, [], Option, None, Some, Bool, cond, refl, sym, ap, subst, ◌∙◌, take, drop}
 use Rattle.std.specs.Prelude.{is_none}
 use Rattle.std.specs.Io.KnownBytes.{Appends}
 use Rattle.std.proofs.KnownBytes.{Appends-nil}
@@ -9,10 +9,10 @@ use Rattle.coset_labels.specs.Faults.{CoseFault, OrMemory, fault_of}
 use Rattle.coset_labels.specs.declared.error.CoseError.{CoseError}
 use Rattle.coset_labels.specs.declared.error.CoseError.TheVariants as code
 use Rattle.cose_gate_core.specs.Questions.{Question, MessageFields, tag_of, payload_of, questions, message_text}
-use Rattle.cose_gate_core.specs.Asked.{asked, first_no, folded_over, ToldFront}
+use Rattle.cose_gate_core.specs.Asked.{asked, first_no, folded_over, ToldPart}
 use Rattle.cose_gate_core.specs.Findings.{Reason, not_tagged, encrypted, other_tag, shape, detached, no_signature, judged, barred, excluded, Bounds, HasMessage, IsCarried, IsUnsigned, IsJudged, IsBarred, Finds}
 use Rattle.cose_gate_core.specs.Run.{IsVerdict, judged_by, written_of}
-use Rattle.cose_gate_core.specs.Passing.{IsRefused, WentThrough, Half, IsWriteFault, ItemFails}
+use Rattle.cose_gate_core.specs.Passing.{IsRefused, ItemRules, ItemSight, WentThrough, IsWriteFault, ItemFails}
 use Rattle.cose_gate_core.specs.declared.passing.ItemFault.{ItemFault}
 use Rattle.cose_gate_core.specs.declared.passing.ItemFault.TheVariants as fault
 use Rattle.cose_gate_core.specs.declared.report.Refusal.{Refusal}
@@ -36,13 +36,16 @@ is_unsigned limits u m h p s = (m, (u, refl, h), p, s)
 pub is_judged : (limits : Bounds) (u : Tree) (m : MessageFields) → HasMessage limits u m → IsCarried m → (IsUnsigned m → ⊥) → IsJudged limits (tag (tag_of m) u) m
 is_judged limits u m h p s = ((u, refl, h), p, s)
 
-module _ {T : Type 0} (limits : Bounds) (decided : T → Question → T) (allows : Question → Bool) (aad : List ℕ) where
-  barred_as : (b : List ℕ) (t : Tree) (told : T) (w : Option (List ℕ)) (r : Reason) (v : Refusal) → IsBarred limits t r
-      → IsVerdict limits allows aad t (barred r) (Refused v) → WentThrough limits decided allows aad b t told told w w (Refused v)
+module _ {T : Type 0} (rules : ItemRules T) where
+  abbrev seen : T → Option (List ℕ) → ItemSight T
+  seen told written = record { told = told; written = written }
+
+  barred_as : (b : List ℕ) (t : Tree) (told : T) (w : Option (List ℕ)) (r : Reason) (v : Refusal) → IsBarred rules.limits t r
+      → IsVerdict rules.limits rules.allows rules.aad t (barred r) (Refused v) → WentThrough rules b t (seen told w) (seen told w) (Refused v)
   barred_as b t told w r v is says = record { finding = barred r; finds = is; verdict = says; tells = refl; writes = Appends-nil w }
 
   -- a refusal before any question
-  pub taken_barred : (b : List ℕ) (t : Tree) (told : T) (w : Option (List ℕ)) (r : Refusal) → IsRefused limits b t r → WentThrough limits decided allows aad b t told told w w (Refused r)
+  pub taken_barred : (b : List ℕ) (t : Tree) (told : T) (w : Option (List ℕ)) (r : Refusal) → IsRefused rules.limits b t r → WentThrough rules b t (seen told w) (seen told w) (Refused r)
   taken_barred b t told w refusal.NotTagged is = barred_as b t told w not_tagged refusal.NotTagged is refl
   taken_barred b t told w (refusal.OtherTag n) is = barred_as b t told w (other_tag n) (refusal.OtherTag n) is refl
   taken_barred b t told w refusal.Encrypted is = barred_as b t told w encrypted refusal.Encrypted is refl
@@ -52,15 +55,15 @@ module _ {T : Type 0} (limits : Bounds) (decided : T → Question → T) (allows
   taken_barred b t told w (refusal.Judged n) is = absurd is
   taken_barred b t told w refusal.NotShortest (m, j, x) = record { finding = excluded m refusal.NotShortest; finds = (j, x); verdict = refl; tells = refl; writes = Appends-nil w }
 
-  written_no : (m : MessageFields) (i : ℕ) → Some i ≡ first_no allows (questions m aad) → written_of allows aad (judged m) ≡ []
+  written_no : (m : MessageFields) (i : ℕ) → Some i ≡ first_no rules.allows (questions m rules.aad) → written_of rules.allows rules.aad (judged m) ≡ []
   written_no m i e = ap (λ o. cond (is_none o) (message_text m) []) (sym e)
 
-  written_yes : (m : MessageFields) → None ≡ first_no allows (questions m aad) → written_of allows aad (judged m) ≡ message_text m
+  written_yes : (m : MessageFields) → None ≡ first_no rules.allows (questions m rules.aad) → written_of rules.allows rules.aad (judged m) ≡ message_text m
   written_yes m e = ap (λ o. cond (is_none o) (message_text m) []) (sym e)
 
   -- the judge said no
-  pub taken_no : (b : List ℕ) (t : Tree) (told told' : T) (w : Option (List ℕ)) (m : MessageFields) (i : ℕ) → Finds limits b t (judged m) → Some i ≡ first_no allows (questions m aad)
-      → told' ≡ folded_over decided told (asked allows (questions m aad)) → WentThrough limits decided allows aad b t told told' w w (Refused (refusal.Judged i))
+  pub taken_no : (b : List ℕ) (t : Tree) (told told' : T) (w : Option (List ℕ)) (m : MessageFields) (i : ℕ) → Finds rules.limits b t (judged m) → Some i ≡ first_no rules.allows (questions m rules.aad)
+      → told' ≡ folded_over rules.decided told (asked rules.allows (questions m rules.aad)) → WentThrough rules b t (seen told w) (seen told' w) (Refused (refusal.Judged i))
   taken_no b t told told' w m i is said tells = record {
     finding = judged m;
     finds = is;
@@ -70,8 +73,8 @@ module _ {T : Type 0} (limits : Bounds) (decided : T → Question → T) (allows
   }
 
   -- the judge said yes, and the text was written
-  pub taken_yes : (b : List ℕ) (t : Tree) (told told' : T) (w w' : Option (List ℕ)) (m : MessageFields) → Finds limits b t (judged m) → None ≡ first_no allows (questions m aad)
-      → told' ≡ folded_over decided told (asked allows (questions m aad)) → Appends w w' (message_text m) → WentThrough limits decided allows aad b t told told' w w' Passed
+  pub taken_yes : (b : List ℕ) (t : Tree) (told told' : T) (w w' : Option (List ℕ)) (m : MessageFields) → Finds rules.limits b t (judged m) → None ≡ first_no rules.allows (questions m rules.aad)
+      → told' ≡ folded_over rules.decided told (asked rules.allows (questions m rules.aad)) → Appends w w' (message_text m) → WentThrough rules b t (seen told w) (seen told' w') Passed
   taken_yes b t told told' w w' m is said tells writes = record {
     finding = judged m;
     finds = is;
@@ -81,18 +84,13 @@ module _ {T : Type 0} (limits : Bounds) (decided : T → Question → T) (allows
   }
 
   -- a beginning was asked, and nothing written
-  pub half_asked : (b : List ℕ) (t : Tree) (told told' : T) (m : MessageFields) → Finds limits b t (judged m) → ToldFront decided told told' (asked allows (questions m aad)) → Half limits decided allows aad b t told told'
-  half_asked b t told told' m is f = record {
-    message = m;
-    is = is;
-    asked = f.front;
-    asked_front = f.is_front;
-    tells = f.tells;
-  }
+  pub half_asked : (b : List ℕ) (t : Tree) (told told' : T) (w : Option (List ℕ)) (m : MessageFields) → Finds rules.limits b t (judged m)
+      → ToldPart rules.decided told told' (asked rules.allows (questions m rules.aad)) → ItemFails rules b t (seen told w) (seen told' w) fault.Memory
+  half_asked b t told told' w m is part = (refl, inr (record { message = m; is = is; part = part }))
 
   -- writing the text failed
-  pub half_written : (b : List ℕ) (t : Tree) (told told' : T) (w w' : Option (List ℕ)) (m : MessageFields) (f : ItemFault) → Finds limits b t (judged m) → None ≡ first_no allows (questions m aad)
-      → told' ≡ folded_over decided told (asked allows (questions m aad)) → IsWriteFault w w' (message_text m) f → ItemFails limits decided allows aad b t told told' w w' f
+  pub half_written : (b : List ℕ) (t : Tree) (told told' : T) (w w' : Option (List ℕ)) (m : MessageFields) (f : ItemFault) → Finds rules.limits b t (judged m) → None ≡ first_no rules.allows (questions m rules.aad)
+      → told' ≡ folded_over rules.decided told (asked rules.allows (questions m rules.aad)) → IsWriteFault w w' (message_text m) f → ItemFails rules b t (seen told w) (seen told' w') f
   half_written b t told told' w w' m fault.Write is said tells writes = record {
     message = m;
     is = is;
@@ -102,4 +100,4 @@ module _ {T : Type 0} (limits : Bounds) (decided : T → Question → T) (allows
     front_is = record { more = drop writes.0 (message_text m); whole = written_yes m said ∙ sym (take-append-drop writes.0 (message_text m)) };
     writes = writes.1;
   }
-  half_written b t told told' w w' m fault.Memory is said tells writes = (writes, inr (half_asked b t told told' m is (record { front = asked allows (questions m aad); is_front = record { more = []; whole = sym (append-nil (asked allows (questions m aad))) }; tells = tells })))
+  half_written b t told told' w w' m fault.Memory is said tells writes = absurd writes

@@ -24,7 +24,7 @@ use Rattle.cose_gate_core.specs.Asked.{first_no, folded_over, IsFront}
 use Rattle.cose_gate_core.specs.Findings.{judged}
 use Rattle.cose_gate_core.specs.Run.{Step, Steps, judged_by, has_passed, passes, asked_of, written_of, questions_of, output_of, entries_of, passed_count, refused_count, Course}
 use Rattle.cose_gate_core.specs.Outcome.{Rules, Sight, Made, IsFaultOf, IsReadFault, StandsIn, IsNoReaderFault, Answers}
-use Rattle.cose_gate_core.specs.Passing.{WentThrough, Half, HalfWritten, ItemFails, at_end, stopped_by}
+use Rattle.cose_gate_core.specs.Passing.{ItemRules, ItemSight, WentThrough, Half, HalfWritten, ItemFails, at_end, stopped_by}
 use Rattle.coset_labels.specs.Limits.{nesting_of}
 use Rattle.cose_gate_core.specs.Terms.{IsTaken}
 use Rattle.cose_gate_core.specs.declared.terms.Terms.{Terms}
@@ -37,6 +37,10 @@ whole_front xs = record { more = []; whole = sym (append-nil xs) }
 
 pub front_then : {A : Type 0} (xs ys all : List A) → all ≡ xs ++ ys → IsFront xs all
 front_then xs ys all e = record { more = ys; whole = e }
+
+-- it is not all, if more follows
+not_whole : {A : Type 0} (xs ys : List A) (y : A) → xs ≡ xs ++ y ∷ ys → ⊥
+not_whole xs ys y e = let l : length xs ≡ length xs + length (y ∷ ys) = ap length e ∙ length-append xs (y ∷ ys) in omega arith
 
 pub front_within : {A : Type 0} (xs part ys all : List A) → all ≡ xs ++ ys → IsFront part ys → IsFront (xs ++ part) all
 front_within xs part ys all e f = record { more = f.more; whole = e ∙ ap (λ z. xs ++ z) f.whole ∙ sym (append_assoc xs part f.more) }
@@ -150,6 +154,13 @@ nothing_read k l₁ l₂ p₁ p₂ v e t = go l₂ (subst (λ (l : Option (List 
         let some = reads_some k t.bytes v t.has in
         omega arith
 
+-- what an item goes by, and what is seen of it
+abbrev item_rules_of : {T S : Type 0} → Rules T S → ItemRules T
+item_rules_of rules = record { limits = rules.limits; decided = rules.decided; allows = rules.allows; aad = rules.aad }
+
+abbrev item_sight_of : {T S : Type 0} → Sight T S → ItemSight T
+item_sight_of sight = record { told = sight.told; written = sight.written }
+
 module _ {T S : Type 0} (rules : Rules T S) where
   written_then : (old new newer : Sight T S) (ss : List Step) (s : Step) → Appends old.written new.written (output_of rules.allows rules.aad ss)
       → Appends new.written newer.written (written_of rules.allows rules.aad s.finding) → Appends old.written newer.written (output_of rules.allows rules.aad (ss ++ s ∷ []))
@@ -167,7 +178,7 @@ module _ {T S : Type 0} (rules : Rules T S) where
   -- the item went through, and its entry was noted
   pub reached_step : (old new newer : Sight T S) (passed refused passed' refused' : ℕ) → Reached rules old new passed refused
       → (v : Tree) (t : Moves new.left newer.left new.offset newer.offset (λ (b : List ℕ). Reads b rules.limits.nesting v)) → (verdict : Verdict)
-      → WentThrough rules.limits rules.decided rules.allows rules.aad t.bytes v new.told newer.told new.written newer.written verdict
+      → WentThrough (item_rules_of rules) t.bytes v (item_sight_of new) (item_sight_of newer) verdict
       → (e : Entry) → e ≡ entry_at (passed + refused + 1) new.offset verdict → newer.state ≡ rules.folded new.state e
       → passed' ≡ passed + cond (has_passed verdict) 1 0 → refused' ≡ refused + cond (not (has_passed verdict)) 1 0
       → Reached rules old newer passed' refused'
@@ -269,7 +280,7 @@ module _ {T S : Type 0} (rules : Rules T S) where
           told = m.told ∙ ap (folded_over rules.decided old.told) (sym (append-nil (questions_of rules.allows rules.aad r.done)));
           state = m.state;
           texts = r.done;
-          texts_are = inl refl;
+          texts_are = inr (sym (append-nil r.done), refl);
           written = m.written;
           due = λ none. something_left old.left new.left r.taken.bytes k.more r.taken.taken k.is some;
           stands = λ one. absurd (one refl);
@@ -305,13 +316,14 @@ module _ {T S : Type 0} (rules : Rules T S) where
 
   -- Memory, if the judge was told a beginning of the questions about one more message
   memory_asking : {E : Type 0} (ends : E → Bool) (old new newer : Sight T S) (passed refused : ℕ) → Reached rules old new passed refused
-      → (v : Tree) (t : Moves new.left newer.left new.offset newer.offset (λ (b : List ℕ). Reads b rules.limits.nesting v)) → Half rules.limits rules.decided rules.allows rules.aad t.bytes v new.told newer.told
+      → (v : Tree) (t : Moves new.left newer.left new.offset newer.offset (λ (b : List ℕ). Reads b rules.limits.nesting v)) → Half (item_rules_of rules) t.bytes v (item_sight_of new) (item_sight_of newer)
       → newer.state ≡ new.state → newer.written ≡ new.written → Answers ends rules old newer (Err Memory)
   unfolding judged_step step_at
   memory_asking ends old new newer passed refused r v t h state writes =
       let s = judged_step (passed + refused + 1) new.offset t.bytes v h.message in
       let f = further rules old new newer passed refused r v t (judged h.message) (judged_by (first_no rules.allows (questions h.message rules.aad))) h.is refl in
       let w = left_after old newer (r.done ++ s ∷ []) f.taken f.steps (rest_of newer.left) (rest_known newer.left) in
+      let all : questions_of rules.allows rules.aad (s ∷ []) ≡ h.part.front ++ h.part.next ∷ h.part.more = questions_then rules [] s ∙ h.part.whole in
       record {
         input = w.input;
         is = w.is;
@@ -321,12 +333,13 @@ module _ {T S : Type 0} (rules : Rules T S) where
           one = omega arith;
           more = rest_of newer.left;
           course = w.course;
-          asked = h.asked;
-          asked_front = subst (λ (qs : List Question). IsFront h.asked qs) (sym (questions_then rules [] s)) h.asked_front;
-          told = h.tells ∙ ap (λ z. folded_over rules.decided z h.asked) r.made.told ∙ sym (folded_append rules.decided old.told (questions_of rules.allows rules.aad r.done) h.asked);
+          asked = h.part.front;
+          asked_front = front_then h.part.front (h.part.next ∷ h.part.more) (questions_of rules.allows rules.aad (s ∷ [])) all;
+          told = h.part.tells ∙ ap (λ z. folded_over rules.decided z h.part.front) r.made.told
+              ∙ sym (folded_append rules.decided old.told (questions_of rules.allows rules.aad r.done) h.part.front);
           state = state ∙ r.made.state;
           texts = r.done;
-          texts_are = inl refl;
+          texts_are = inl (refl, λ whole. not_whole h.part.front h.part.more h.part.next (whole ∙ all));
           written = subst (λ (z : Option (List ℕ)). Appends old.written z (output_of rules.allows rules.aad r.done)) (sym writes) r.made.written;
           due = λ none. cc;
           stands = λ one. w.stop;
@@ -337,7 +350,7 @@ module _ {T S : Type 0} (rules : Rules T S) where
 
   -- Write, in the text of one more message
   write_within : {E : Type 0} (ends : E → Bool) (old new newer : Sight T S) (passed refused : ℕ) → Reached rules old new passed refused
-      → (v : Tree) (t : Moves new.left newer.left new.offset newer.offset (λ (b : List ℕ). Reads b rules.limits.nesting v)) → HalfWritten rules.limits rules.decided rules.allows rules.aad t.bytes v new.told newer.told new.written newer.written
+      → (v : Tree) (t : Moves new.left newer.left new.offset newer.offset (λ (b : List ℕ). Reads b rules.limits.nesting v)) → HalfWritten (item_rules_of rules) t.bytes v (item_sight_of new) (item_sight_of newer)
       → newer.state ≡ new.state → Answers ends rules old newer (Err Write)
   unfolding judged_step step_at
   write_within ends old new newer passed refused r v t h state =
@@ -366,7 +379,7 @@ module _ {T S : Type 0} (rules : Rules T S) where
   -- the item failed
   pub answer_item : {E : Type 0} (ends : E → Bool) (old new newer : Sight T S) (passed refused : ℕ) → Reached rules old new passed refused
       → (v : Tree) (t : Moves new.left newer.left new.offset newer.offset (λ (b : List ℕ). Reads b rules.limits.nesting v)) → (f : ItemFault)
-      → ItemFails rules.limits rules.decided rules.allows rules.aad t.bytes v new.told newer.told new.written newer.written f → newer.state ≡ new.state → Answers ends rules old newer (Err (stopped_by f))
+      → ItemFails (item_rules_of rules) t.bytes v (item_sight_of new) (item_sight_of newer) f → newer.state ≡ new.state → Answers ends rules old newer (Err (stopped_by f))
   answer_item ends old new newer passed refused r v t fault.Write h state = write_within ends old new newer passed refused r v t h state
   answer_item ends old new newer passed refused r v t fault.Memory (writes, inl told) state =
       memory_between ends old new newer passed refused r told state writes (λ none. nothing_read rules.limits.nesting new.left newer.left new.offset newer.offset v none t)
@@ -376,7 +389,7 @@ module _ {T S : Type 0} (rules : Rules T S) where
   -- Memory, if the item went through and the report refused its entry
   pub answer_noting : {E : Type 0} (ends : E → Bool) (old new newer : Sight T S) (passed refused : ℕ) → Reached rules old new passed refused
       → (v : Tree) (t : Moves new.left newer.left new.offset newer.offset (λ (b : List ℕ). Reads b rules.limits.nesting v)) → (verdict : Verdict)
-      → WentThrough rules.limits rules.decided rules.allows rules.aad t.bytes v new.told newer.told new.written newer.written verdict → newer.state ≡ new.state → Answers ends rules old newer (Err Memory)
+      → WentThrough (item_rules_of rules) t.bytes v (item_sight_of new) (item_sight_of newer) verdict → newer.state ≡ new.state → Answers ends rules old newer (Err Memory)
   unfolding step_at
   answer_noting ends old new newer passed refused r v t verdict k state =
       let s = step_at new.offset t.bytes v k.finding (entry_at (passed + refused + 1) new.offset verdict) in

@@ -21,6 +21,15 @@ pub record IsFront {A : Type 0} (xs ys : List A) : Type 0 where
   pub more : List A
   pub whole : ys ≡ xs ++ more
 
+-- of these questions a beginning was told, and the next was not
+pub record ToldPart {T Q : Type 0} (decided : T → Q → T) (told told' : T)
+    (all : List Q) : Type 0 where
+  pub front : List Q
+  pub next : Q
+  pub more : List Q
+  pub whole : all ≡ front ++ next ∷ more
+  pub tells : told' ≡ folded_over decided told front
+
 -- of these questions a beginning was told
 pub record ToldFront {T Q : Type 0} (decided : T → Q → T) (told told' : T)
     (all : List Q) : Type 0 where

@@ -8,6 +8,7 @@ use Rattle.coset_labels.specs.Limits.{nesting_of, layers_of}
 use Rattle.coset_labels.specs.declared.limits.Limits.{Limits}
 use Rattle.cose_gate_core.specs.Findings.{Bounds, plain, only_exact}
 use Rattle.cose_gate_core.specs.Outcome.{Rules, Sight}
+use Rattle.cose_gate_core.specs.Passing.{ItemRules, ItemSight}
 use Rattle.cose_gate_core.specs.declared.report.Report.{Ghosts as Reports}
 use Rattle.cose_gate_core.specs.declared.judge.Judge.{Ghosts as Judges}
 
@@ -18,8 +19,8 @@ within limits = plain (nesting_of limits) (layers_of limits)
 abbrev pub exact_within : Limits → Bounds
 exact_within limits = only_exact (nesting_of limits) (layers_of limits)
 
--- what a call of the gate goes by; `P.Report` and `J.Judge` are the words that the bounds of its
--- report and its judge bring
+-- what a call of the gate goes by; `P.Report` and `J.Judge` hold the meaning of its report and its
+-- judge, which the bounds of `P` and `J` bring
 abbrev pub rules_by : {P J : Type 0} → Bounds → (p : Reports P) (j : Judges J) → J → List ℕ
     → Rules j.Told p.State
 rules_by limits p j judge aad = record {
@@ -41,3 +42,12 @@ sight_of r w p j decoder out report judge = record {
   offset = offset_of decoder;
   left = left_of r.left decoder;
 }
+
+-- what one item goes by, and what is seen of the writer and the judge
+abbrev pub item_rules : {J : Type 0} → Bounds → (j : Judges J) → J → List ℕ → ItemRules j.Told
+item_rules limits j judge aad =
+    record { limits = limits; decided = j.decided; allows = j.yes (j.who judge); aad = aad }
+
+abbrev pub item_sight : {W F J : Type 0} → (w : Writes W F) (j : Judges J) → W → J
+    → ItemSight j.Told
+item_sight w j out judge = record { told = j.told judge; written = w.written out }

@@ -4,6 +4,7 @@ pub mod Findings
 pub mod Lent
 pub mod Outcome
 pub mod Passing
+pub mod Put
 pub mod Questions
 pub mod Received
 pub mod Recorded

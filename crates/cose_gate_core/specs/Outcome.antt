@@ -56,7 +56,7 @@ IsFaultOf ends n stop more de.Memory = ⊥
 IsFaultOf ends n stop more de.TooLong = 2 ^ 64 ≤ stop + 4096
 
 -- what reading the next item gives: it was taken, or no byte was left, and the reader tells so
--- where it tells what is to come
+-- if it tells what is to come
 abbrev pub IsNext : Terms → Option (List ℕ) → Option (List ℕ) → ℕ → ℕ → Option (Value × Bool)
     → Type 0
 IsNext terms left left' at at' None = IfKnown left (λ b. (b ≡ []) × (left' ≡ Some [])) × (at' ≡ at)
@@ -64,7 +64,7 @@ IsNext terms left left' at at' (Some r) =
     Moves left left' at at' (λ b. IsTaken terms b (view r.0) r.1)
 
 -- what reading the next item ends with, at the offset at' then: a fault of the bytes that were to
--- come, where they are known, or being out of memory. Some of these bytes were taken, or none, but
+-- come, if they are known, or being out of memory. Some of these bytes were taken, or none, but
 -- at an end some were.
 abbrev pub IsReadFault : {E : Type 0} → (E → Bool) → ℕ → Option (List ℕ) → Option (List ℕ) → ℕ → ℕ
     → GateFault E → Type 0
@@ -103,7 +103,7 @@ pub record Whole {T S : Type 0} (rules : Rules T S) (old new : Sight T S) (input
   pub grown : new.offset ≡ old.offset + length input
   pub ended : IfKnown old.left (λ b. new.left ≡ Some [])
 
--- Decode: the steps go up to where the fault stands, and all of them were made. Of the bytes
+-- Decode: the steps go up to the place of the fault, and all of them were made. Of the bytes
 -- `more`, which begin there, some were taken, or none, but at an end some; the rest is left, but
 -- after a fault of the reader what is left is open.
 pub record IfDecodeFailed {T S E : Type 0} (ends : E → Bool) (rules : Rules T S)
@@ -138,10 +138,11 @@ pub record IfWriteFailed {T S : Type 0} (rules : Rules T S) (old new : Sight T S
   pub stands : new.offset + length more ≡ old.offset + length input
   pub behind : IfKnown new.left (λ b. b ≡ more)
 
--- Memory: `done` were made; of the questions of the next step a beginning was asked, and its text
--- was written whole or not at all. The offset is the one after its item then, and `more` is to
--- come. If there is no such step, an item was due: it was being read, or looked at, and some of the
--- bytes `more` were taken, the rest is left.
+-- Memory: `done` were made; of the questions of the next step a beginning was asked. If all were
+-- asked it was done whole but for its entry, so its text was written if it passes; if not, nothing
+-- of it was written. The offset is the one after its item then, and `more` is to come. If there is
+-- no such step, an item was due: it was being read, or looked at, and some of the bytes `more` were
+-- taken, the rest is left.
 pub record IfMemoryRefused {T S : Type 0} (rules : Rules T S) (old new : Sight T S)
     (input : List ℕ) : Type 0 where
   pub done : List Step
@@ -155,7 +156,7 @@ pub record IfMemoryRefused {T S : Type 0} (rules : Rules T S) (old new : Sight T
       ≡ folded_over rules.decided old.told (questions_of rules.allows rules.aad done ++ asked)
   pub state : new.state ≡ folded_over rules.folded old.state (entries_of done)
   pub texts : List Step
-  pub texts_are : (texts ≡ done)
+  pub texts_are : ((texts ≡ done) × (asked ≢ questions_of rules.allows rules.aad last))
       ⊎ ((texts ≡ done ++ last) × (asked ≡ questions_of rules.allows rules.aad last))
   pub written : Appends old.written new.written (output_of rules.allows rules.aad texts)
   pub due : last ≡ [] → IfKnown old.left (λ b. more ≢ [])

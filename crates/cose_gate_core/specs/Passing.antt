@@ -7,7 +7,7 @@ use Rattle.coset_labels.specs.Faults.{fault_of}
 use Rattle.ciborium.specs.declared.de.Error.{Error}
 use Rattle.ciborium.specs.declared.de.Error.TheVariants as de
 use Rattle.cose_gate_core.specs.Questions.{Question, MessageFields}
-use Rattle.cose_gate_core.specs.Asked.{folded_over, IsFront}
+use Rattle.cose_gate_core.specs.Asked.{folded_over, IsFront, ToldPart}
 use Rattle.cose_gate_core.specs.Findings.{not_tagged, encrypted, other_tag, detached, no_signature, Finding, judged, Bounds, IsJudged, IsBarred, IsMisshapen, Finds}
 use Rattle.cose_gate_core.specs.Run.{IsVerdict, asked_of, passes, written_of}
 use Rattle.cose_gate_core.specs.declared.report.Refusal.{Refusal}
@@ -35,50 +35,60 @@ abbrev pub IsTold : Bounds → List ℕ → MessageFields → Bool → Type 0
 IsTold limits b m through = MatchBool through (limits.excludes b m ≡ None)
     (limits.excludes b m ≡ Some refusal.NotShortest)
 
--- the item went through: what was found, told and written
-pub record WentThrough {T : Type 0} (limits : Bounds) (decided : T → Question → T)
-    (allows : Question → Bool) (aad : List ℕ) (bytes : List ℕ) (t : Tree)
-    (told told' : T) (written written' : Option (List ℕ)) (v : Verdict) : Type 0 where
-  pub finding : Finding
-  pub finds : Finds limits bytes t finding
-  pub verdict : IsVerdict limits allows aad t finding v
-  pub tells : told' ≡ folded_over decided told (asked_of allows aad finding)
-  pub writes : Appends written written' (written_of allows aad finding)
+-- what an item goes by: the limits, how a judge's state goes on, what the judge allows, and the
+-- external data
+pub record ItemRules (T : Type 0) : Type 0 where
+  pub limits : Bounds
+  pub decided : T → Question → T
+  pub allows : Question → Bool
+  pub aad : List ℕ
 
--- the item is a message, and the judge was told a beginning of the questions about it
-pub record Half {T : Type 0} (limits : Bounds) (decided : T → Question → T)
-    (allows : Question → Bool) (aad : List ℕ) (bytes : List ℕ) (t : Tree)
-    (told told' : T) : Type 0 where
+-- what the judge was told, and what was written
+pub record ItemSight (T : Type 0) : Type 0 where
+  pub told : T
+  pub written : Option (List ℕ)
+
+-- the item went through: what was found, told and written
+pub record WentThrough {T : Type 0} (rules : ItemRules T) (bytes : List ℕ) (t : Tree)
+    (old new : ItemSight T) (v : Verdict) : Type 0 where
+  pub finding : Finding
+  pub finds : Finds rules.limits bytes t finding
+  pub verdict : IsVerdict rules.limits rules.allows rules.aad t finding v
+  pub tells : new.told ≡ folded_over rules.decided old.told (asked_of rules.allows rules.aad finding)
+  pub writes : Appends old.written new.written (written_of rules.allows rules.aad finding)
+
+-- the item is a message, and the judge was told a beginning of the questions about it, but not all
+pub record Half {T : Type 0} (rules : ItemRules T) (bytes : List ℕ) (t : Tree)
+    (old new : ItemSight T) : Type 0 where
   pub message : MessageFields
-  pub is : Finds limits bytes t (judged message)
-  pub asked : List Question
-  pub asked_front : IsFront asked (asked_of allows aad (judged message))
-  pub tells : told' ≡ folded_over decided told asked
+  pub is : Finds rules.limits bytes t (judged message)
+  pub part : ToldPart rules.decided old.told new.told
+      (asked_of rules.allows rules.aad (judged message))
 
 -- the item is a message that passes, the judge was told all questions about it, and a beginning of
 -- its encoding was written
-pub record HalfWritten {T : Type 0} (limits : Bounds) (decided : T → Question → T)
-    (allows : Question → Bool) (aad : List ℕ) (bytes : List ℕ) (t : Tree)
-    (told told' : T) (written written' : Option (List ℕ)) : Type 0 where
+pub record HalfWritten {T : Type 0} (rules : ItemRules T) (bytes : List ℕ) (t : Tree)
+    (old new : ItemSight T) : Type 0 where
   pub message : MessageFields
-  pub is : Finds limits bytes t (judged message)
-  pub passed : passes allows aad (judged message) ≡ true
-  pub tells : told' ≡ folded_over decided told (asked_of allows aad (judged message))
+  pub is : Finds rules.limits bytes t (judged message)
+  pub passed : passes rules.allows rules.aad (judged message) ≡ true
+  pub tells : new.told ≡ folded_over rules.decided old.told
+      (asked_of rules.allows rules.aad (judged message))
   pub front : List ℕ
-  pub front_is : IsFront front (written_of allows aad (judged message))
-  pub writes : Appends written written' front
+  pub front_is : IsFront front (written_of rules.allows rules.aad (judged message))
+  pub writes : Appends old.written new.written front
 
-abbrev pub ItemFails : {T : Type 0} → Bounds → (T → Question → T) → (Question → Bool) → List ℕ
-    → List ℕ → Tree → T → T → Option (List ℕ) → Option (List ℕ) → ItemFault → Type 0
-ItemFails limits decided allows aad bytes t told told' written written' fault.Write =
-    HalfWritten limits decided allows aad bytes t told told' written written'
-ItemFails limits decided allows aad bytes t told told' written written' fault.Memory =
-    (written' ≡ written) × ((told' ≡ told) ⊎ Half limits decided allows aad bytes t told told')
+-- the item was stopped: in its text, or before that for being out of memory, with nothing written
+abbrev pub ItemFails : {T : Type 0} → ItemRules T → List ℕ → Tree → ItemSight T → ItemSight T
+    → ItemFault → Type 0
+ItemFails rules bytes t old new fault.Write = HalfWritten rules bytes t old new
+ItemFails rules bytes t old new fault.Memory =
+    (new.written ≡ old.written) × ((new.told ≡ old.told) ⊎ Half rules bytes t old new)
 
--- what a fault of writing a text leaves: a beginning of it, and for being out of memory nothing
+-- what a fault of writing a text leaves: a beginning of it. Writing takes no memory.
 abbrev pub IsWriteFault : Option (List ℕ) → Option (List ℕ) → List ℕ → ItemFault → Type 0
 IsWriteFault written written' text fault.Write = AppendsFront written written' text
-IsWriteFault written written' text fault.Memory = written' ≡ written
+IsWriteFault written written' text fault.Memory = ⊥
 
 -- how often the writer has failed
 abbrev pub item_failures : {T : Type 0} → Result T ItemFault → ℕ
@@ -95,7 +105,7 @@ at_end ends de.RecursionLimitExceeded = false
 at_end ends de.Memory = false
 at_end ends de.TooLong = false
 
--- what stops the gate where no item was read
+-- what stops the gate if no item was read
 abbrev pub fault_by : {E : Type 0} → Error E → GateFault E
 fault_by (de.Io e) = gating.Decode (de.Io e)
 fault_by (de.Syntax p) = gating.Decode (de.Syntax p)

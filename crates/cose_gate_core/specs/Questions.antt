@@ -14,7 +14,7 @@ use Rattle.coset_maced.specs.RecipientFields.{RecipientsFields, no_recipients}
 use Rattle.cose_gate_core.specs.declared.about.MessageKind.{MessageKind}
 use Rattle.cose_gate_core.specs.declared.about.MessageKind.TheVariants as kind
 
--- what a question is about: the message's headers, the signer's where there is a signer, and the
+-- what a question is about: the message's headers, the signer's if there is a signer, and the
 -- recipients
 pub record Subject : Type 0 where
   pub kind : MessageKind

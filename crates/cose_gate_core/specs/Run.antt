@@ -68,7 +68,7 @@ text_of (judged m) = message_text m
 text_of (barred r) = []
 text_of (excluded m r) = []
 
--- what is written of it: where it passes its canonical encoding
+-- what is written of it: its canonical encoding if it passes, else nothing
 abbrev pub written_of : (Question → Bool) → List ℕ → Finding → List ℕ
 written_of allows aad f = if passes allows aad f then text_of f else []
 

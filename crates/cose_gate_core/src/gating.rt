@@ -222,8 +222,9 @@ fn entry_of(counts: Counts, offset: usize, verdict: Verdict) -> Entry
 /// the reader failed: then all that was asked, noted and written are the first items. `Write` if
 /// the writer failed: a beginning of the encoding of a message was written after the output before
 /// it, and the reader is after that message. `Memory` if out of memory: whole encodings were
-/// written, and of the questions about the item at hand a beginning was asked; if there is no such
-/// item, some of the bytes after the last one were taken, or none.
+/// written, and of the questions about the item at hand a beginning was asked; once all are asked,
+/// its encoding is written if it passes, which takes no memory, and only its entry can be missing.
+/// If there is no such item, some of the bytes after the last one were taken, or none.
 pub fn gate_by<R: Read, W: Write, P: Report, J: Judge>(
     alloc: Global,
     terms: Terms,

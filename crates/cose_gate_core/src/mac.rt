@@ -5,11 +5,13 @@ ghost use Rattle.cose_gate_core.specs.Questions.{mac};
 use crate::about::{About, MessageKind};
 use crate::asking::ask_alone;
 use crate::judge::Judge;
-use crate::message::{Message, tagged};
+use crate::message::Message;
 use crate::terms::Terms;
 use ciborium::Value;
+use ciborium::ser::Sink;
 use coset_labels::{AsWritten, CoseError};
 use coset_maced::CoseMac;
+use coset_message_sink::put_tagged_mac;
 use coset_structures::MacContext;
 use std::alloc::{AllocError, Global};
 
@@ -20,8 +22,12 @@ impl Message for CoseMac {
 
     ghost message = { λ m. mac (mac_view m) };
 
-    fn read(alloc: Global, terms: Terms, content: Value) -> Result<CoseMac, CoseError> {
-        CoseMac::from_cbor_value_with(alloc, content, terms.limits)
+    fn empty(alloc: Global) -> CoseMac {
+        CoseMac::new(alloc)
+    }
+
+    fn read(&mut self, alloc: Global, terms: Terms, content: Value) -> Result<(), CoseError> {
+        self.fill(alloc, content, terms.limits)
     }
 
     fn is_as_written(content: &Value) -> bool {
@@ -52,7 +58,7 @@ impl Message for CoseMac {
         ask_alone(judge, &about, prefix, aad, &self.payload, &self.tag)
     }
 
-    fn into_tagged(self, alloc: Global) -> Result<Value, AllocError> {
-        tagged(alloc, self)
+    fn put<S: Sink>(&self, to: &mut S) -> Result<(), S::Error> {
+        put_tagged_mac(self, to)
     }
 }

@@ -1,12 +1,12 @@
 //! Messages of the kinds that are judged.
-ghost use Rattle.std.specs.Prelude.{◌≡◌, ◌≢◌, Some, None, MatchBool, MatchResult, IfOk, OnOk, OnErr, option_map};
-ghost use Rattle.ciborium_value.specs.Tree.{tag};
+ghost use Rattle.std.specs.Prelude.{◌≡◌, Some, None, MatchBool, MatchResult, IfOk, OnOk, OnErr};
+ghost use Rattle.ciborium_traits.specs.Events.{events, AllAdded, Stopped};
 ghost use Rattle.ciborium_value.specs.View.{view};
 ghost use Rattle.coset_labels.specs.Faults.{OrMemory};
-ghost use Rattle.coset_labels.specs.declared.error.CoseError.TheVariants.{Memory};
-ghost use Rattle.cose_gate_core.specs.Asked.{asked, first_no, folded_over, ToldFront};
+ghost use Rattle.cose_gate_core.specs.Asked.{asked, first_no, folded_over, ToldPart};
 ghost use Rattle.cose_gate_core.specs.Findings.{Bounds, HasMessage, WrongMessage, IsCarried, IsUnsigned};
-ghost use Rattle.cose_gate_core.specs.Questions.{MessageFields, kind_of, payload_of, questions, message_tree, tagged_tree};
+ghost use Rattle.cose_gate_core.specs.Put.{tagged_put};
+ghost use Rattle.cose_gate_core.specs.Questions.{MessageFields, kind_of, payload_of, questions, message_tree};
 ghost use Rattle.cose_gate_core.specs.Received.{IsReceivedMessage};
 ghost use Rattle.cose_gate_core.specs.Terms.{limits_of};
 ghost use Rattle.cose_gate_core.specs.declared.about.MessageKind.{MessageKind};
@@ -14,7 +14,8 @@ ghost use Rattle.cose_gate_core.specs.declared.about.MessageKind.{MessageKind};
 use crate::judge::Judge;
 use crate::terms::Terms;
 use ciborium::Value;
-use coset_labels::{CoseError, TaggedCborSerializable};
+use ciborium::ser::{Serialize, Sink};
+use coset_labels::CoseError;
 use std::alloc::{AllocError, Global};
 
 /// A message of a kind that is judged (RFC 9052, section 2).
@@ -25,14 +26,17 @@ pub trait Message: Drop + Sized {
     /// What it says.
     ghost message: { Self → MessageFields };
 
-    /// Reads the content of the kind's tag, within these limits.
+    /// One without any field.
+    fn empty(alloc: Global) -> Self;
+
+    /// Reads the content of the kind's tag into it, in place of its fields, within these limits.
     ///
     /// # Errors
     /// A fault that the content has as such a message, or `Memory`.
-    fn read(alloc: Global, terms: Terms, content: Value) -> Result<Self, CoseError>
+    fn read(&mut self, alloc: Global, terms: Terms, content: Value) -> Result<(), CoseError>
         ensures { MatchResult result
-            (λ m. (kind_of (message m) ≡ kind)
-            × HasMessage (limits_of terms) (view content) (message m))
+            (λ _. (kind_of (message self.new) ≡ kind)
+            × HasMessage (limits_of terms) (view content) (message self.new))
             (λ e. OrMemory (WrongMessage (limits_of terms) kind (view content)) e) };
 
     /// Whether the content of the tag is already the value that would be written of the message
@@ -55,7 +59,7 @@ pub trait Message: Drop + Sized {
     /// Asks about it as it was received, up to the first no. The index of that no, if there is one.
     ///
     /// # Errors
-    /// Where there is no memory. A beginning of the questions was asked then.
+    /// Only if out of memory. A beginning of the questions was asked then, but not all.
     fn ask<'a, J: Judge>(
         &'a self,
         aad: &'a [u8],
@@ -66,34 +70,32 @@ pub trait Message: Drop + Sized {
             (questions (message self.now) aad.now)) }
         ensures told { OnOk result (J.told judge.new ≡ folded_over J.decided (J.told judge.old)
             (asked (J.yes (J.who judge.old)) (questions (message self.now) aad.now))) }
-        ensures err { OnErr result (ToldFront J.decided (J.told judge.old) (J.told judge.new)
+        ensures err { OnErr result (ToldPart J.decided (J.told judge.old) (J.told judge.new)
             (asked (J.yes (J.who judge.old)) (questions (message self.now) aad.now))) }
         ensures who { J.who judge.new ≡ J.who judge.old };
 
-    /// The value that it is written as, with its tag.
+    /// Writes it with its tag, straight from its fields. That takes no memory.
     ///
     /// # Errors
-    /// Where there is no memory.
-    fn into_tagged(self, alloc: Global) -> Result<Value, AllocError>
-        requires { tagged_tree (message self) ≢ None }
-        ensures { IfOk result (λ v. tagged_tree (message self) ≡ Some (view v)) };
+    /// The sink's; it took a beginning of the events then, and refused the next.
+    fn put<S: Sink>(&self, to: &mut S) -> Result<(), S::Error>
+        ensures ok { OnOk result (AllAdded S.adds to.old
+            (events (tagged_put (message self.now))) to.new) }
+        ensures err { OnErr result (Stopped S.adds S.refuses to.old
+            (events (tagged_put (message self.now))) to.new) };
 }
 
-/// The fault of a call that fails for being out of memory alone.
-fn want_of_memory(_error: CoseError) -> AllocError
-    requires { _error ≡ Memory }
-{
-    AllocError
+/// A message, for calls that take what serializes. It is written with its tag.
+#[derive(Drop)]
+pub struct Written<'a, M> {
+    /// The message.
+    pub message: &'a M,
 }
 
-/// The value that a message is written as, with its tag.
-pub fn tagged<M: TaggedCborSerializable>(alloc: Global, message: M) -> Result<Value, AllocError>
-    requires { M.written (M.fields message) ≢ None }
-    ensures { IfOk result
-        (λ v. option_map (λ t. tag M.TAG t) (M.written (M.fields message)) ≡ Some (view v)) }
-{
-    match message.to_cbor_value(alloc) {
-        Ok(content) => Ok(Value::Tag(M::TAG, Box::new(alloc, content)?)),
-        Err(error) => Err(want_of_memory(error)),
+impl<M: Message> Serialize for Written<'_, M> {
+    ghost put = { λ w. tagged_put (M.message w.message.now) };
+
+    fn serialize<S: Sink>(&self, sink: &mut S) -> Result<(), S::Error> {
+        self.message.put(sink)
     }
 }

@@ -2,20 +2,22 @@
 ghost use Rattle.std.specs.Prelude.{◌≡◌, ◌≢◌, ℕ, ◌+◌, List, true, pos, Some, None};
 ghost use Rattle.std.specs.Prelude.{MatchBool, MatchOption, IfOk, IfErr, OnOk, OnErr};
 ghost use Rattle.std.specs.Io.KnownBytes.{Appends};
-ghost use Rattle.ciborium_value.specs.Encoding.{Fits};
+ghost use Rattle.ciborium_value.specs.Encoding.{Fits, enc};
 ghost use Rattle.ciborium_value.specs.Tree.{Tree, tag};
 ghost use Rattle.ciborium_value.specs.View.{view};
 ghost use Rattle.cose_iana.specs.Tags.{cbor_tags};
 ghost use Rattle.coset_labels.specs.declared.error.CoseError.TheVariants.{Memory};
+ghost use Rattle.cose_gate_core.specs.Calls.{item_rules, item_sight};
 ghost use Rattle.cose_gate_core.specs.Findings.{Bounds, judged, HasMessage, IsEncryptedTag, Finds};
 ghost use Rattle.cose_gate_core.specs.Passing.{IsRefused, IsTold, WentThrough, ItemFails, IsWriteFault, item_failures};
-ghost use Rattle.cose_gate_core.specs.Questions.{number_of, tag_of, message_tree, tagged_tree, message_text};
+ghost use Rattle.cose_gate_core.specs.Put.{tagged_put};
+ghost use Rattle.cose_gate_core.specs.Questions.{number_of, tag_of, message_tree, message_text};
 ghost use Rattle.cose_gate_core.specs.Received.{IsReceivedMessage};
 ghost use Rattle.cose_gate_core.specs.Terms.{limits_of, IsTaken};
 ghost use Rattle.cose_gate_core.specs.declared.report.Refusal.TheVariants.{Shape};
 
 use crate::judge::Judge;
-use crate::message::Message;
+use crate::message::{Message, Written};
 use crate::report::{Refusal, Verdict};
 use crate::terms::Terms;
 use ciborium::{Value, into_writer};
@@ -83,7 +85,7 @@ fn is_shortest<M: Message>(strict: bool, exact: bool, content: &Value) -> bool
 }
 
 /// Why a message that was read is not judged, if it isn't. One without a payload is detached,
-/// whether it has signatures or not; only one that would else be judged is spelled otherwise.
+/// whether it has signatures or not; `NotShortest` is said only of one that would else be judged.
 fn bar_of<M: Message>(message: &M, shortest: bool) -> Option<Refusal>
     ensures { (limits : Bounds) (b : List ℕ) (u : Tree)
         → HasMessage limits u (M.message message.now)
@@ -105,45 +107,42 @@ fn bar_of<M: Message>(message: &M, shortest: bool) -> Option<Refusal>
     None
 }
 
-/// Writes the canonical encoding of a message with its tag.
-fn write_message<M: Message, W: Write>(
-    alloc: Global,
-    message: M,
-    out: &mut W,
-) -> Result<(), ItemFault>
-    requires { tagged_tree (M.message message) ≢ None }
+/// Writes the canonical encoding of a message with its tag. That takes no memory.
+fn write_message<M: Message, W: Write>(message: &M, out: &mut W) -> Result<(), ItemFault>
     ensures ok { OnOk result (Appends (W.written out.old) (W.written out.new)
-        (message_text (M.message message))) }
+        (enc (tagged_put (M.message message.now)))) }
     ensures err { IfErr result (IsWriteFault (W.written out.old) (W.written out.new)
-        (message_text (M.message message))) }
+        (enc (tagged_put (M.message message.now)))) }
     ensures kept { W.handle out.new ≡ W.handle out.old }
     ensures failed { W.failed out.new ≡ W.failed out.old + item_failures result }
 {
-    let text = message.into_tagged(alloc)?;
-    match into_writer(&text, out) {
+    match into_writer(&Written { message }, out) {
         Ok(()) => Ok(()),
         Err(_) => Err(ItemFault::Write),
     }
 }
 
-/// Asks the judge about a message, and writes it if it has passed.
+/// Asks the judge about a message, and writes it if it has passed. After the last answer it takes
+/// no memory.
 fn pass_message<M: Message, W: Write, J: Judge>(
-    alloc: Global,
-    message: M,
+    message: &M,
     out: &mut W,
     aad: &[u8],
     judge: &mut J,
 ) -> Result<Verdict, ItemFault>
-    requires received { IsReceivedMessage (M.message message) }
-    requires text { tagged_tree (M.message message) ≢ None }
+    requires received { IsReceivedMessage (M.message message.now) }
+    requires text { message_text (M.message message.now)
+        ≡ enc (tagged_put (M.message message.now)) }
     ensures ok { (limits : Bounds) (bytes : List ℕ) (t : Tree)
-        → Finds limits bytes t (judged (M.message message))
-        → IfOk result (WentThrough limits J.decided (J.yes (J.who judge.old)) aad.now bytes t
-        (J.told judge.old) (J.told judge.new) (W.written out.old) (W.written out.new)) }
+        → Finds limits bytes t (judged (M.message message.now))
+        → IfOk result (WentThrough (item_rules limits J.Judge judge.old aad.now) bytes t
+        (item_sight W.Write J.Judge out.old judge.old)
+        (item_sight W.Write J.Judge out.new judge.new)) }
     ensures err { (limits : Bounds) (bytes : List ℕ) (t : Tree)
-        → Finds limits bytes t (judged (M.message message))
-        → IfErr result (ItemFails limits J.decided (J.yes (J.who judge.old)) aad.now bytes t
-        (J.told judge.old) (J.told judge.new) (W.written out.old) (W.written out.new)) }
+        → Finds limits bytes t (judged (M.message message.now))
+        → IfErr result (ItemFails (item_rules limits J.Judge judge.old aad.now) bytes t
+        (item_sight W.Write J.Judge out.old judge.old)
+        (item_sight W.Write J.Judge out.new judge.new)) }
     ensures who { J.who judge.new ≡ J.who judge.old }
     ensures kept { W.handle out.new ≡ W.handle out.old }
     ensures failed { W.failed out.new ≡ W.failed out.old + item_failures result }
@@ -151,7 +150,7 @@ fn pass_message<M: Message, W: Write, J: Judge>(
     match message.ask(aad, judge)? {
         Some(index) => Ok(Verdict::Refused(Refusal::Judged(index))),
         None => {
-            write_message(alloc, message, out)?;
+            write_message(message, out)?;
             Ok(Verdict::Passed)
         }
     }
@@ -169,25 +168,28 @@ fn pass_as<M: Message, W: Write, J: Judge>(
     judge: &mut J,
 ) -> Result<Verdict, ItemFault>
     ensures ok { (b : List ℕ) → IsTaken terms b (tag (number_of M.kind) (view content)) exact
-        → IfOk result (WentThrough (limits_of terms) J.decided (J.yes (J.who judge.old)) aad.now b
-        (tag (number_of M.kind) (view content)) (J.told judge.old) (J.told judge.new)
-        (W.written out.old) (W.written out.new)) }
+        → IfOk result (WentThrough (item_rules (limits_of terms) J.Judge judge.old aad.now)
+        b (tag (number_of M.kind) (view content))
+        (item_sight W.Write J.Judge out.old judge.old)
+        (item_sight W.Write J.Judge out.new judge.new)) }
     ensures err { (b : List ℕ) → IsTaken terms b (tag (number_of M.kind) (view content)) exact
-        → IfErr result (ItemFails (limits_of terms) J.decided (J.yes (J.who judge.old)) aad.now b
-        (tag (number_of M.kind) (view content)) (J.told judge.old) (J.told judge.new)
-        (W.written out.old) (W.written out.new)) }
+        → IfErr result (ItemFails (item_rules (limits_of terms) J.Judge judge.old aad.now)
+        b (tag (number_of M.kind) (view content))
+        (item_sight W.Write J.Judge out.old judge.old)
+        (item_sight W.Write J.Judge out.new judge.new)) }
     ensures who { J.who judge.new ≡ J.who judge.old }
     ensures kept { W.handle out.new ≡ W.handle out.old }
     ensures failed { W.failed out.new ≡ W.failed out.old + item_failures result }
 {
     let shortest = is_shortest::<M>(terms.strict, exact, &content);
-    let message = match M::read(alloc, terms, content) {
-        Ok(message) => message,
+    let mut message = M::empty(alloc);
+    match message.read(alloc, terms, content) {
+        Ok(()) => {}
         Err(error) => return Ok(Verdict::Refused(shape_refusal(error)?)),
-    };
+    }
     match bar_of(&message, shortest) {
         Some(refusal) => Ok(Verdict::Refused(refusal)),
-        None => pass_message(alloc, message, out, aad, judge),
+        None => pass_message(&message, out, aad, judge),
     }
 }
 
@@ -217,13 +219,13 @@ pub fn pass<W: Write, J: Judge>(
     judge: &mut J,
 ) -> Result<Verdict, ItemFault>
     ensures ok { (bytes : List ℕ) → IsTaken terms bytes (view value) exact
-        → IfOk result (WentThrough (limits_of terms) J.decided
-        (J.yes (J.who judge.old)) aad.now bytes (view value) (J.told judge.old) (J.told judge.new)
-        (W.written out.old) (W.written out.new)) }
+        → IfOk result (WentThrough (item_rules (limits_of terms) J.Judge judge.old aad.now)
+        bytes (view value) (item_sight W.Write J.Judge out.old judge.old)
+        (item_sight W.Write J.Judge out.new judge.new)) }
     ensures err { (bytes : List ℕ) → IsTaken terms bytes (view value) exact
-        → IfErr result (ItemFails (limits_of terms) J.decided
-        (J.yes (J.who judge.old)) aad.now bytes (view value) (J.told judge.old) (J.told judge.new)
-        (W.written out.old) (W.written out.new)) }
+        → IfErr result (ItemFails (item_rules (limits_of terms) J.Judge judge.old aad.now)
+        bytes (view value) (item_sight W.Write J.Judge out.old judge.old)
+        (item_sight W.Write J.Judge out.new judge.new)) }
     ensures who { J.who judge.new ≡ J.who judge.old }
     ensures kept { W.handle out.new ≡ W.handle out.old }
     ensures failed { W.failed out.new ≡ W.failed out.old + item_failures result }

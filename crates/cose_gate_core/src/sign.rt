@@ -9,12 +9,14 @@ ghost use Rattle.cose_gate_core.specs.Received.{IsReceived};
 use crate::about::{About, MessageKind};
 use crate::asking::{ask, received};
 use crate::judge::Judge;
-use crate::message::{Message, tagged};
+use crate::message::Message;
 use crate::terms::Terms;
 use ciborium::Value;
+use ciborium::ser::Sink;
 use coset_headers::CoseSignature;
 use coset_labels::{AsWritten, CoseError};
 use coset_message_parts::content_bytes;
+use coset_message_sink::put_tagged_sign;
 use coset_signed::CoseSign;
 use coset_structures::SignatureContext;
 use std::alloc::{AllocError, Global};
@@ -26,8 +28,12 @@ impl Message for CoseSign {
 
     ghost message = { λ m. sign (sign_view m) };
 
-    fn read(alloc: Global, terms: Terms, content: Value) -> Result<CoseSign, CoseError> {
-        CoseSign::from_cbor_value_with(alloc, content, terms.limits)
+    fn empty(alloc: Global) -> CoseSign {
+        CoseSign::new(alloc)
+    }
+
+    fn read(&mut self, alloc: Global, terms: Terms, content: Value) -> Result<(), CoseError> {
+        self.fill(alloc, content, terms.limits)
     }
 
     fn is_as_written(content: &Value) -> bool {
@@ -56,8 +62,8 @@ impl Message for CoseSign {
         Ok(None)
     }
 
-    fn into_tagged(self, alloc: Global) -> Result<Value, AllocError> {
-        tagged(alloc, self)
+    fn put<S: Sink>(&self, to: &mut S) -> Result<(), S::Error> {
+        put_tagged_sign(self, to)
     }
 }
 

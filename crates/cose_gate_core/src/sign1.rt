@@ -5,10 +5,12 @@ ghost use Rattle.cose_gate_core.specs.Questions.{sign1};
 use crate::about::{About, MessageKind};
 use crate::asking::ask_alone;
 use crate::judge::Judge;
-use crate::message::{Message, tagged};
+use crate::message::Message;
 use crate::terms::Terms;
 use ciborium::Value;
+use ciborium::ser::Sink;
 use coset_labels::{AsWritten, CoseError};
+use coset_message_sink::put_tagged_sign1;
 use coset_signed::CoseSign1;
 use coset_structures::SignatureContext;
 use std::alloc::{AllocError, Global};
@@ -20,8 +22,12 @@ impl Message for CoseSign1 {
 
     ghost message = { λ m. sign1 (sign1_view m) };
 
-    fn read(alloc: Global, terms: Terms, content: Value) -> Result<CoseSign1, CoseError> {
-        CoseSign1::from_cbor_value_with(alloc, content, terms.limits)
+    fn empty(alloc: Global) -> CoseSign1 {
+        CoseSign1::new(alloc)
+    }
+
+    fn read(&mut self, alloc: Global, terms: Terms, content: Value) -> Result<(), CoseError> {
+        self.fill(alloc, content, terms.limits)
     }
 
     fn is_as_written(content: &Value) -> bool {
@@ -47,7 +53,7 @@ impl Message for CoseSign1 {
         ask_alone(judge, &about, prefix, aad, &self.payload, &self.signature)
     }
 
-    fn into_tagged(self, alloc: Global) -> Result<Value, AllocError> {
-        tagged(alloc, self)
+    fn put<S: Sink>(&self, to: &mut S) -> Result<(), S::Error> {
+        put_tagged_sign1(self, to)
     }
 }

@@ -84,8 +84,18 @@ fn ends_at(rt: &impl Abort, answer: &Answer<End>, place: (usize, usize, usize)) 
     assert!(rt; PLACES.contains(&place), "{place:?}");
 }
 
+/// Where the item after so many items begins and ends; after the last one, where the input ends.
+fn item_after(noted: usize) -> (usize, usize) {
+    match noted {
+        0 => (0, 14),
+        1 => (14, 15),
+        2 => (15, 29),
+        _ => (29, 29),
+    }
+}
+
 /// All memory here is asked for by the run. So this holds also if one allocation is refused,
-/// whichever it is.
+/// whichever it is. Of the input no more was taken then than the item at hand.
 #[test]
 fn refused_memory_is_the_answer(rt: HostRuntime) {
     let alloc = rt.alloc();
@@ -93,16 +103,33 @@ fn refused_memory_is_the_answer(rt: HostRuntime) {
     let mut out = Mem::new(&mut memory[..]);
     let mut entries = Vec::new(alloc);
     let mut recorder = Recorder::new(alloc, None);
-    let answer = answered(alloc, INPUT, &mut out, &mut entries, &[], &mut recorder);
+    let mut input = INPUT;
+    let answer = answered(
+        alloc,
+        &mut input,
+        &mut out,
+        &mut entries,
+        &[],
+        &mut recorder,
+    );
+    let taken = INPUT.len().saturating_sub(input.len());
     let asked = recorder.asked();
     let written = out.as_written();
     ends_at(&rt, &answer, (asked.len(), written.len(), entries.len()));
     is_front(&rt, asked, written, &entries);
+    let (begin, end) = item_after(entries.len());
+    assert!(rt; begin <= taken && taken <= end, "{taken}");
 }
 
-/// A run over this input; the judge and the report are each refused memory once, after so many
-/// calls.
-fn refused(alloc: Global, input: &[u8], judge_calls: usize, report_calls: usize) -> Observed<End> {
+/// A run over this input, and how many bytes of it were taken; the judge and the report are each
+/// refused memory once, after so many calls.
+fn refused(
+    alloc: Global,
+    mut input: &[u8],
+    judge_calls: usize,
+    report_calls: usize,
+) -> (Observed<End>, usize) {
+    let length = input.len();
     let mut judge = Nth {
         inner: Recorder::new(alloc, None),
         calls: judge_calls,
@@ -112,20 +139,22 @@ fn refused(alloc: Global, input: &[u8], judge_calls: usize, report_calls: usize)
         calls: report_calls,
     };
     let mut out = Mem::new(Vec::new(alloc));
-    let answer = answered(alloc, input, &mut out, &mut report, &[], &mut judge);
-    Observed {
+    let answer = answered(alloc, &mut input, &mut out, &mut report, &[], &mut judge);
+    let seen = Observed {
         recorder: judge.inner,
         output: out.into_inner(),
         entries: report.inner,
         answer,
-    }
+    };
+    (seen, length.saturating_sub(input.len()))
 }
 
 /// A run over two messages with an integer between them comes so far, if there is no memory after
-/// so many calls.
+/// so many calls. Of the input the items up to the one at hand were taken.
 fn is_refused(rt: &impl Abort, alloc: Global, calls: (usize, usize), want: (usize, usize, usize)) {
-    let seen = refused(alloc, INPUT, calls.0, calls.1);
+    let (seen, taken) = refused(alloc, INPUT, calls.0, calls.1);
     assert_eq!(rt; (calls, reached(&seen)), (calls, want));
+    assert_eq!(rt; taken, item_after(want.2).1);
     ends_at(rt, &seen.answer, want);
     is_front(rt, seen.recorder.asked(), &seen.output, &seen.entries);
 }
@@ -177,7 +206,8 @@ fn is_first(asked: &Asked) -> bool {
 /// A run over it in which there is no memory to the judge after so many calls asks so many
 /// questions, the first at most, and writes nothing.
 fn is_left(rt: &impl Abort, alloc: Global, calls: usize, asked: usize) {
-    let seen = refused(alloc, TWO, calls, 3);
+    let (seen, taken) = refused(alloc, TWO, calls, 3);
+    assert_eq!(rt; taken, TWO.len());
     same(rt, &seen.answer, &Err(GateFault::Memory), "answer", &calls);
     same(rt, &reached(&seen), &(asked, 0, 0), "place", &calls);
     for question in seen.recorder.asked() {

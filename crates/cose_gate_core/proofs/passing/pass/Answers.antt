@@ -8,11 +8,11 @@ use Rattle.cose_gate_core.proofs.passing.pass.Goals as goal
 
 pub returns-in_default-clause-ok : goal.returns-in_default-clause-ok
 returns-in_default-clause-ok g c = λ b h.
-    taken_barred _ _ _ _ b _ _ _ NotTagged (λ n u is. (let no : false ≡ true = sym c.in_default.ensures.1 ∙ ap is_tag is in cc))
+    taken_barred _ b _ _ _ NotTagged (λ n u is. (let no : false ≡ true = sym c.in_default.ensures.1 ∙ ap is_tag is in cc))
 
 pub returns-in_default-number-clause-ok : goal.returns-in_default-number-clause-ok
 returns-in_default-number-clause-ok g c = λ b h.
-    taken_barred _ _ _ _ b _ _ _ Encrypted (c.in-Ok.number, view c.in-Ok.content.value, c.in-Ok.ensures, c.if-is_encrypted.ensures)
+    taken_barred _ b _ _ _ Encrypted (c.in-Ok.number, view c.in-Ok.content.value, c.in-Ok.ensures, c.if-is_encrypted.ensures)
 
 pub returns-clause-ok : goal.returns-clause-ok
 returns-clause-ok g c = λ b h.
@@ -21,4 +21,4 @@ returns-clause-ok g c = λ b h.
     let d : n ≢ 17 = search rules in
     let e : n ≢ 98 = search rules in
     let f : n ≢ 97 = search rules in
-    taken_barred _ _ _ _ b _ _ _ (OtherTag n) (view c.in-Ok.content.value, c.in-Ok.ensures, c.if-is_encrypted.ensures, no_message_tag n a d e f)
+    taken_barred _ b _ _ _ (OtherTag n) (view c.in-Ok.content.value, c.in-Ok.ensures, c.if-is_encrypted.ensures, no_message_tag n a d e f)

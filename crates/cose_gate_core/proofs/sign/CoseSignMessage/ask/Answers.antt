@@ -2,9 +2,9 @@ use Rattle.std.proofs.Common.{◌≡◌, ◌<◌, List, OnErr, length, get_or, t
 use Rattle.std.proofs.lemmas.List.{drop_all}
 use Rattle.coset_headers.specs.View.{signature_view}
 use Rattle.coset_signed.specs.View.{sign_view}
-use Rattle.cose_gate_core.specs.Asked.{asked, first_no, folded_over, ToldFront}
+use Rattle.cose_gate_core.specs.Asked.{asked, first_no, folded_over, ToldPart}
 use Rattle.cose_gate_core.specs.Questions.{Question, one_question}
-use Rattle.cose_gate_core.proofs.InOrder.{asking_start, asking_yes, asking_no, told_no, asking_done, told_all, told_front, on_err_is, rest_step, each_question}
+use Rattle.cose_gate_core.proofs.InOrder.{asking_start, asking_yes, asking_no, told_no, asking_done, told_all, told_part, on_err_is, rest_step, each_question}
 use Rattle.cose_gate_core.proofs.sign.CoseSignMessage.ask.Goals as goal
 
 pub loop-index-init : goal.loop-index-init
@@ -25,8 +25,12 @@ pub returns-in_err-ask_signature-clause-err : goal.returns-in_err-ask_signature-
 returns-in_err-ask_signature-clause-err g c =
     let j = g.J.Judge in
     let m = sign_view c.args.self.now in
-    let told = told_front j.decided (j.yes (j.who c.args.judge.now)) _ _ _ _ _ c.loop-index.invariant.asking (j.told c.ask_signature.new.judge) c.in_err-ask_signature.ensures.err in
-    subst (λ (qs : List Question). OnErr c.from_residual.result (ToldFront j.decided (j.told c.args.judge.now) (j.told c.ask_signature.new.judge) (asked (j.yes (j.who c.args.judge.now)) qs)))
+    let value = c.deref-signature-items.ensures.value in
+    let item = c.signature-item in
+    let h : c.loop-index.index < length c.args.self.now.signatures.items = rw value at c.loop-index-test.true in
+    let e : item.result ≡ get_or c.args.self.now.signatures.items c.loop-index.index item.result = rw (← value) item.is in
+    let told = told_part j.decided (j.yes (j.who c.args.judge.now)) _ _ _ _ _ _ (rw (rest_step signature_view _ _ item.result h e) at c.loop-index.invariant.asking) (j.told c.ask_signature.new.judge) c.in_err-ask_signature.ensures.err in
+    subst (λ (qs : List Question). OnErr c.from_residual.result (ToldPart j.decided (j.told c.args.judge.now) (j.told c.ask_signature.new.judge) (asked (j.yes (j.who c.args.judge.now)) qs)))
     (sym (each_question m c.args.aad.now c.requires.0 m.signatures c.requires.1)) (on_err_is c.from_residual.result told)
 
 pub returns-then-not-branch-clause-answer : goal.returns-then-not-branch-clause-answer

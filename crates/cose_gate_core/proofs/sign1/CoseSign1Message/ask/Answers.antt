@@ -10,7 +10,8 @@ use Rattle.cose_gate_core.proofs.InOrder.{on_err, told_none}
 use Rattle.cose_gate_core.proofs.sign1.CoseSign1Message.ask.Goals as goal
 
 pub returns-clause-err : goal.returns-clause-err
-returns-clause-err g c = on_err _ (told_none _ _ _ _) c.ask_alone.ensures.err
+returns-clause-err g c =
+    on_err _ (told_none _ (g.J.Judge.yes (g.J.Judge.who c.args.judge.now)) _ _ _ _ (sign1_asks (sign1_view c.args.self.now) c.args.aad.now c.requires)) c.ask_alone.ensures.err
 
 pub returns-clause-answer : goal.returns-clause-answer
 returns-clause-answer g c =
