@@ -42,7 +42,7 @@ import os, sys
 program, tests, mark, number = sys.argv[1], sys.argv[2], int(sys.argv[3]), int(sys.argv[4])
 text, mark = open(program, "rb").read(), mark.to_bytes(4, "little")
 if text.count(mark) != 2:
-    sys.exit(f"the number stands in {text.count(mark)} places, and not in the two that refuse")
+    sys.exit(f"the number is in {text.count(mark)} places, and not in the two that refuse")
 if os.path.exists(tests):
     os.remove(tests)
 with open(tests, "wb") as it:
