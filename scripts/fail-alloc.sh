@@ -10,6 +10,7 @@
 # `rt try --test --fail-alloc N` builds the tests anew for each N. Here they are built once, with a number that occurs nowhere else in
 # them, their program is kept when rt is done with it, and each N takes that number's place.
 set -u
+[ $# -gt 0 ] || { echo "usage: scripts/fail-alloc.sh CRATE[::MODULE].." >&2; exit 2; }
 ulimit -c 0
 top=$(cd "$(dirname "$0")/.." && pwd)
 room=$(mktemp -d)
