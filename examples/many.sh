@@ -98,7 +98,7 @@ status=0 items=0 offset=0 good=0 refused=0
 : > "$lines"
 for piece in "$work"/pieces/*.cbor; do
   if ! [ -s "$piece.status" ]; then
-    echo "many: no answer came of piece $(basename "$piece")" >&2
+    echo "many: no result came of piece $(basename "$piece")" >&2
     exit 6
   fi
   cat "$piece.passed" >> "$passed" || exit 4

@@ -1,5 +1,5 @@
-# arguments.sh: for the scripts cose-gate, cose-ask and cose-pass: what they find in arguments before a program is built. To be sourced, with
-# the top of the repository in $top.
+# arguments.sh: for the scripts cose-gate, cose-show, cose-ask and cose-pass: what they find in arguments before a program is built. To be
+# sourced, with the top of the repository in $top.
 
 # The name of a program, the commit of the sources, and the kit.
 say_version() {

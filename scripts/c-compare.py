@@ -1,5 +1,5 @@
 """c-compare.py compare TOP LIBRARY PROGRAM: the library's answers against those of the program, byte for byte, over the rows `run` of
-conformance_gate, and over 1,000 mutated sequences; the room that each needs; and that with all questions accepted all that the judge lets
+conformance_gate, and over 1,000 mutated sequences; the length of buffer that each needs; and that with all questions accepted all that the judge lets
 through passes. Status 1 where one differs. c-compare.py write TOP FOLDER: writes the 1,000 mutated sequences into files of the folder."""
 
 import random
@@ -47,7 +47,7 @@ gate = Gate(library)
 
 
 def by_library(keys, aad, input):
-    """Status, output and lines; and no room is told exactly where the room is shorter than the output."""
+    """Status, output and lines; and NO_ROOM exactly if the buffer is shorter than the output."""
     try:
         checked = gate.check(keys, aad, input)
         answer = (int(checked.some_refused), checked.passed, checked.lines)

@@ -22,7 +22,7 @@ made=$out/examples
 keys=$top/examples/keys.cbor
 
 has() { command -v "$1" > /dev/null 2>&1; }
-lacks() { echo "c-library.sh: no $1 here, so $2 is passed over"; }
+lacks() { echo "c-library.sh: no $1 here, so $2 is left out"; }
 wants() { [ "$what" = all ] || [ "$what" = "$1" ]; }
 fails() {
   echo "c-library.sh: $1" >&2
@@ -31,7 +31,7 @@ fails() {
 
 case $what in
   c | rust | go | python | compare | memory | all) ;;
-  *) fails "no word $what; the head of this script has them" ;;
+  *) fails "no such argument: $what; the head of this script has those that there are" ;;
 esac
 
 # Proves and builds the library, if a source has changed since.
@@ -96,7 +96,7 @@ for language in $languages; do
   input=$top/examples/mixed.cbor
   run_example "$language"
   [ "$(cat "$made/$language.status") $(tail -n 1 "$made/$language.err")" = "1 passed 4, refused 5" ] ||
-    fails "the example in $language answers $(cat "$made/$language.status"), $(tail -n 1 "$made/$language.err")"
+    fails "the example in $language returns $(cat "$made/$language.status"), $(tail -n 1 "$made/$language.err")"
   echo "c-library.sh: the example in $language: $(tail -n 1 "$made/$language.err")"
 done
 
@@ -131,7 +131,7 @@ if wants compare; then
         cmp -s "$made/program.$part" "$made/$language.$part" || fails "$language differs from the program in its $part, on $input"
       done
     done
-    echo "c-library.sh: $language answers as the program does, on $(ls "$top"/examples/*.cbor | wc -l) sequences"
+    echo "c-library.sh: $language does as the program does, on $(ls "$top"/examples/*.cbor | wc -l) sequences"
   done
   if has python3 && has gcc; then
     python3 "$top/scripts/c-compare.py" compare "$top" "$made/libcose_gate.so" "$program"

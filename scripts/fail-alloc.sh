@@ -10,6 +10,7 @@
 # `rt try --test --fail-alloc N` builds the tests anew for each N. Here they are built once, with a number that occurs nowhere else in
 # them, their program is kept when rt is done with it, and each N takes that number's place.
 set -u
+[ $# -gt 0 ] || { echo "usage: scripts/fail-alloc.sh CRATE[::MODULE].." >&2; exit 2; }
 ulimit -c 0
 top=$(cd "$(dirname "$0")/.." && pwd)
 room=$(mktemp -d)
@@ -42,7 +43,7 @@ import os, sys
 program, tests, mark, number = sys.argv[1], sys.argv[2], int(sys.argv[3]), int(sys.argv[4])
 text, mark = open(program, "rb").read(), mark.to_bytes(4, "little")
 if text.count(mark) != 2:
-    sys.exit(f"the number stands in {text.count(mark)} places, and not in the two that refuse")
+    sys.exit(f"the number is in {text.count(mark)} places, and not in the two that refuse")
 if os.path.exists(tests):
     os.remove(tests)
 with open(tests, "wb") as it:

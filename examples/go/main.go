@@ -42,7 +42,7 @@ func first(bytes []byte) *C.uint8_t {
 	return (*C.uint8_t)(unsafe.Pointer(&bytes[0]))
 }
 
-// call is one call, with this room.
+// call is one call, with buffers of these lengths.
 func call(keys, aad, input []byte, strict bool, passed, lines []byte) C.cose_gate_answer {
 	return C.cose_gate_check(
 		first(keys), C.size_t(len(keys)),

@@ -39,13 +39,13 @@ class KeysError(GateError):
 
 
 class StoppedError(GateError):
-    """The input is no CBOR, or memory was refused."""
+    """The input is not CBOR, or out of memory."""
 
     status = 4
 
 
 class NoRoomError(GateError):
-    """What would be written is longer than the room; `needed` is how long it is."""
+    """What would be written is longer than the buffer; `needed` is how long it is."""
 
     status = 5
 
@@ -77,7 +77,7 @@ class Question(NamedTuple):
 
 
 def texts_of(data, at, end):
-    """The texts from `at` to `end`, each behind its length in eight bytes, the lowest first."""
+    """The texts from `at` to `end`, each after its length in eight bytes, the lowest first."""
     while at < end:
         length = int.from_bytes(data[at : at + 8], "little")
         yield at + 8, at + 8 + length
@@ -108,7 +108,7 @@ class Gate:
         return call
 
     def check(self, keys, aad, input, strict=False, nesting=NESTING, layers=LAYERS, room=None):
-        """Checks a sequence of messages: bytes, bytes and bytes. Without `room` the output has the room that it needs."""
+        """Checks a sequence of messages: bytes, bytes and bytes. Without `room` the buffer is as long as it has to be."""
         return self._run(self._check, (keys, aad, input), room, nesting, layers, strict)
 
     def ask(self, aad, input, strict=False, nesting=NESTING, layers=LAYERS, room=None):
@@ -122,7 +122,7 @@ class Gate:
         return self._run(self._pass, (records, aad, input), room, nesting, layers, strict)
 
     def _run(self, call, inputs, room, *terms):
-        """A call with the room that it needs, or with just this room."""
+        """A call with a buffer as long as it has to be, or of just this length."""
         out_room = len(inputs[-1]) if room is None else room
         lines_room = 4096
         while True:
@@ -133,7 +133,7 @@ class Gate:
             is_longer = a.status == NoRoomError.status and room is None
             if not is_longer and a.lines <= lines_room:
                 return self._checked(a, out.raw[: a.length], lines.raw[: a.lines].decode())
-            # What is written, or told, is longer than the buffer: the answer names how long.
+            # What is written, or told, is longer than the buffer: the result says how long.
             out_room = max(out_room, a.length) if is_longer else out_room
             lines_room = max(lines_room, a.lines)
 

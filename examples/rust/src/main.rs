@@ -50,7 +50,7 @@ enum GateError {
     Keys { lines: Vec<u8> },
     /// The input is no CBOR from some place on, or memory was refused; `passed` is what passed before.
     Stopped { passed: Vec<u8>, lines: Vec<u8> },
-    /// What would be written is longer than the room, and so long.
+    /// What would be written is longer than the buffer, and so long.
     NoRoom { needed: usize },
 }
 
@@ -60,14 +60,14 @@ impl fmt::Display for GateError {
             GateError::Limits => write!(f, "the limits are out of range"),
             GateError::Keys { .. } => write!(f, "the bytes are no key set"),
             GateError::Stopped { .. } => write!(f, "the input is no CBOR, or memory was refused"),
-            GateError::NoRoom { needed } => write!(f, "{needed} bytes of room are needed"),
+            GateError::NoRoom { needed } => write!(f, "a buffer of {needed} bytes is needed"),
         }
     }
 }
 
 impl std::error::Error for GateError {}
 
-/// One call, with so much room. The answer, and what stands in the output and in the lines.
+/// One call, with buffers of these lengths. What it returns, and what is in the output and in the lines.
 fn call(keys: &[u8], aad: &[u8], input: &[u8], strict: bool, room: usize, lines_room: usize) -> (Answer, Vec<u8>, Vec<u8>) {
     let mut passed = vec![0; room];
     let mut lines = vec![0; lines_room];
@@ -94,7 +94,7 @@ fn call(keys: &[u8], aad: &[u8], input: &[u8], strict: bool, room: usize, lines_
     (answer, passed, lines)
 }
 
-/// Checks a sequence of messages within the usual limits, with this room.
+/// Checks a sequence of messages within the usual limits, with a buffer of this length.
 fn check_into(keys: &[u8], aad: &[u8], input: &[u8], strict: bool, room: usize) -> Result<Checked, GateError> {
     let (mut answer, mut passed, mut lines) = call(keys, aad, input, strict, room, 4096);
     if answer.lines > lines.len() {
