@@ -1,6 +1,6 @@
-//! `conformance_cbor`: reads rows from standard input, each a call with its arguments and the answer
-//! that is due, as `item 256 1818 -> 1818 taken 2`, and prints each row whose answer is another,
-//! and how many rows there were.
+//! `conformance_cbor`: reads rows from standard input, each a call with its arguments and the
+//! answer that is due, as `item 256 1818 -> 1818 taken 2`, and prints each row whose answer is
+//! another, and how many rows there were.
 #![tactic(auto)]
 
 mod accessors;

@@ -1,6 +1,6 @@
 //! Calls by their names.
 use crate::out::{NoAnswer, Out};
-use crate::{asking, cutting, gating, judging, program, showing, streaming, uses, words};
+use crate::{asking, buffers, cutting, gating, judging, program, showing, streaming, uses, words};
 
 /// What the call answers that the first word names.
 pub fn answer(to: &mut Out, row: &str) {
@@ -60,6 +60,16 @@ fn of_program(to: &mut Out, name: &str, row: &mut &str) {
         "why" => judging::why(to, row),
         "show" => showing::show(to, row),
         "pieces" => showing::pieces(to, row),
+        _ => of_buffers(to, name, row),
+    }
+}
+
+/// Calls over buffers.
+fn of_buffers(to: &mut Out, name: &str, row: &mut &str) {
+    match name {
+        "check-into" => buffers::check_into(to, row),
+        "ask-into" => buffers::ask_into(to, row),
+        "pass-into" => buffers::pass_into(to, row),
         _ => uses::answer(to, name, row),
     }
 }

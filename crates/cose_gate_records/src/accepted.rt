@@ -1,5 +1,6 @@
 //! A judge by the records of the questions that were accepted.
-ghost use Rattle.std.specs.Prelude.{◌≡◌, ◌++◌, ℕ, List, [], ◌∷◌, OnOk, OnErr, IfOk, MatchOption, flat_map, length};
+ghost use Rattle.std.specs.Prelude.{◌≡◌, ◌++◌, ℕ, List, [], ◌∷◌, OnOk, OnErr, IfOk};
+ghost use Rattle.std.specs.Prelude.{MatchOption, flat_map, length};
 ghost use Rattle.cose_gate_core.specs.Lent.{subject_of};
 ghost use Rattle.cose_gate_core.specs.Questions.{Subject};
 ghost use Rattle.cose_gate_records.specs.Framing.{framed};

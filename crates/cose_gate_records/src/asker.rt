@@ -36,7 +36,8 @@ impl Asker {
     /// The records of the questions, in order; `None` if they are lost, since there was no memory
     /// for one.
     pub fn records(&self) -> Option<&[u8]>
-        ensures records { MatchOption result (Unit {0}) (λ records. records.now ≡ told_by self.now) }
+        ensures records { MatchOption result (Unit {0})
+            (λ records. records.now ≡ told_by self.now) }
         ensures lost { is_none result ≡ is_lost self.now }
     {
         match &self.text {

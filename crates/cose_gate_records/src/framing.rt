@@ -1,5 +1,6 @@
 //! Bytes after their length: eight bytes, the lowest first.
-ghost use Rattle.std.specs.Prelude.{◌≡◌, ◌++◌, ℕ, List, MatchOption, IfOk, OnOk, OnErr, map, flat_map};
+ghost use Rattle.std.specs.Prelude.{◌≡◌, ◌++◌, ℕ, List, MatchOption, IfOk, OnOk, OnErr};
+ghost use Rattle.std.specs.Prelude.{map, flat_map};
 ghost use Rattle.std.specs.Ordering.{ordering_then};
 ghost use Rattle.cose_gate_records.specs.Framing.{eight, framed};
 ghost use Rattle.cose_gate_records.specs.Order.{bytes_cmp};

@@ -31,8 +31,8 @@ impl<'a> Ordered<'a> {
 
     /// Whether the key of the question that is held, with this signature, is one of these.
     pub(crate) fn is_among(&self, held: &Held, signature: &[u8]) -> bool
-        ensures { result ≡ list_any
-            (λ key. bytes_eq key.now (key_by held.now.front.items held.now.covered.items signature.now))
+        ensures { result ≡ list_any (λ key. bytes_eq key.now
+            (key_by held.now.front.items held.now.covered.items signature.now))
             self.now.received.items }
     {
         let places = self.places.as_slice();

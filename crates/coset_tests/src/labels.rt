@@ -1,5 +1,5 @@
-//! Tests of labels, errors and types with a tag: what no clause and no row of `conformance_cbor` says.
-//! Here are labels that are made by hand, and copies.
+//! Tests of labels, errors and types with a tag: what no clause and no row of `conformance_cbor`
+//! says. Here are labels that are made by hand, and copies.
 
 mod errors;
 mod tags;

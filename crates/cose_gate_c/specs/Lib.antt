@@ -1,2 +1,0 @@
-pub mod Library
-pub mod Lines
