@@ -28,8 +28,8 @@ abbrev pub closing : Option ℕ → List ℕ
 closing None = 255 ∷ []
 closing (Some n) = []
 
--- the list is a tag of such a message, the title of an array of four, the spellings of two items,
--- the title of a byte string of the length n, n bytes, the spelling of one item, and a break if the
+-- the list is a tag of such a message, the title of an array of four, the encodings of two items,
+-- the title of a byte string of the length n, n bytes, the encoding of one item, and a break if the
 -- array is open (RFC 8949, section 3)
 pub record Stated (b : List ℕ) (n : ℕ) : Type 0 where
   pub number : ℕ

@@ -1,4 +1,4 @@
--- What the streaming check answers, over the bytes that were to come.
+-- What the streaming check returns, over the bytes that were to come.
 use Rattle.std.specs.Prelude.{◌≡◌, ◌≢◌, ℕ, ◌+◌, ◌-◌, ◌^◌, ◌<◌, ◌≤◌, max, ◌⊎◌, List, ◌∷◌, ◌++◌, length, Option, None, Bool, false, IsTrue, Result, Ok, Err, is_none, if◌then◌else◌}
 use Rattle.ciborium_ll.specs.declared.hdr.Header.{Header}
 use Rattle.ciborium_ll.specs.declared.hdr.Header.TheVariants.{Simple, Tag, Bytes, Array, Break}
@@ -84,7 +84,7 @@ Tells ends D long fault.Memory = D refused
 abbrev pub IsLongFor : ℕ → ℕ → List ℕ → Type 0
 IsLongFor room at b = 2 ^ 64 ≤ at + length b + max 4096 room
 
--- what a fault says of the bytes that were to come, where they are known; D is over the place after
+-- what a fault says of the bytes that were to come, if they are known; D is over the place after
 -- them, and over them
 abbrev pub NamesWhy : {E : Type 0} → (E → Bool) → (ℕ → List ℕ → Why → Type 0) → ℕ → Seen
     → StreamFault E → Type 0
@@ -113,7 +113,7 @@ AreInPlace limits (one_more a (one_more b ts)) =
     IsProtected limits a × IsHeader limits b × AreStrings ts
 
 -- the bytes begin with a tag of such a message, an array of four, and these elements of it, each
--- right in its place; the tag and the array stand open round them
+-- right in its place; the tag and the array are open around them
 pub record RightUpTo (limits : Bounds) (b : List ℕ) (count : Option ℕ) (elements : Trees)
     (rest : List ℕ) : Type 0 where
   pub number : ℕ
@@ -126,7 +126,7 @@ pub record RightUpTo (limits : Bounds) (b : List ℕ) (count : Option ℕ) (elem
   pub fronts : Fronts items (limits.nesting - 2) elements rest
   pub in_place : AreInPlace limits elements
 
--- the bytes are right up to the payload, and a title of h stands in its place
+-- the bytes are right up to the payload, and a title of h is in its place
 pub record Opening (limits : Bounds) (b : List ℕ) (h : Header) : Type 0 where
   pub count : Option ℕ
   pub headers : Trees

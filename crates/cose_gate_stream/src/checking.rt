@@ -85,8 +85,8 @@ pub fn stream_check<R: Read, J: Judge>(
     ensures who { J.who judge.new ≡ J.who judge.old }
     ensures steady { Steady R.ends result (seen R.Read decoder.old) (seen R.Read decoder.new) }
 
-    // If such a message is in front, it is answered: no fault but being out of memory, the
-    // device's, or an offset that grows too long.
+    // If such a message is in front, the result is Ok or a fault of memory, of the reader, or of an
+    // offset that grows too long.
     ensures exactly { AnswersStated R.ends (length buffer.old) (seen R.Read decoder.old) result }
 {
     stream_check_with(alloc, Limits::default(), decoder, buffer, aad, judge)
@@ -123,8 +123,8 @@ pub fn stream_check_with<R: Read, J: Judge>(
     ensures who { J.who judge.new ≡ J.who judge.old }
     ensures steady { Steady R.ends result (seen R.Read decoder.old) (seen R.Read decoder.new) }
 
-    // If such a message is in front, it is answered: no fault but being out of memory, the
-    // device's, or an offset that grows too long.
+    // If such a message is in front, the result is Ok or a fault of memory, of the reader, or of an
+    // offset that grows too long.
     ensures exactly { AnswersStatedBy (plain (nesting_of limits) (layers_of limits)) R.ends
         (length buffer.old) (seen R.Read decoder.old) result }
 {

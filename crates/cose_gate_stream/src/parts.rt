@@ -22,7 +22,7 @@ use cose_gate_core::{Header, Limits, ProtectedHeader};
 use coset_labels::ValueTryAs;
 use std::alloc::Global;
 
-/// The levels that stand open round an element: the tag and the array.
+/// The levels that are open around an element: the tag and the array.
 const OPEN: usize = 2;
 
 /// The next element of the array, as a value. Its title is pulled and pushed back, so that a break

@@ -9,3 +9,4 @@ mod refused;
 mod runs;
 mod seen;
 mod texts;
+mod ways;

@@ -2,7 +2,7 @@
 use crate::checks::same;
 use crate::messages::MESSAGE;
 use crate::stream::checks::checked;
-use cose_gate::{End, Recorder, StreamFault};
+use cose_gate::{End, Limits, Recorder, StreamFault};
 use std::alloc::Global;
 use std::process::Abort;
 use test_tools::Nth;
@@ -18,17 +18,18 @@ fn judge(rt: &impl Abort, alloc: Global, message: &[u8], calls: usize) -> Nth<Re
     Nth { inner, calls }
 }
 
-/// The next message has this answer, and so many questions were asked then.
+/// The next message has this answer, within limits if there are some, and so many questions were
+/// asked then.
 fn is_answered(
     rt: &impl Abort,
     alloc: Global,
-    message: &[u8],
+    limits: Option<Limits>,
     calls: usize,
     want: (Answer, usize),
 ) {
     let mut buffer = [0; 1];
-    let mut judge = judge(rt, alloc, message, calls);
-    let (answer, _) = checked(alloc, None, message, &mut buffer, &[], &mut judge);
+    let mut judge = judge(rt, alloc, MESSAGE, calls);
+    let (answer, _) = checked(alloc, limits, MESSAGE, &mut buffer, &[], &mut judge);
     same(
         rt,
         &(answer, judge.inner.asked().len()),
@@ -41,11 +42,20 @@ fn is_answered(
 /// The judge has answered a question. It gets no memory at each of the next message's calls in
 /// turn: `begin`, six pieces of the structure in front of the payload, and two of the payload. What
 /// it was told stays.
+fn memory_is_the_answer(rt: &impl Abort, alloc: Global, limits: Option<Limits>) {
+    for calls in 0..9 {
+        let want = (Err(StreamFault::Memory), 1);
+        is_answered(rt, alloc, limits, calls, want);
+    }
+    is_answered(rt, alloc, limits, 9, (Ok(true), 2));
+}
+
 #[test]
 fn memory_refused_to_the_judge_is_the_answer(rt: HostRuntime) {
-    let alloc = rt.alloc();
-    for calls in 0..9 {
-        is_answered(&rt, alloc, MESSAGE, calls, (Err(StreamFault::Memory), 1));
-    }
-    is_answered(&rt, alloc, MESSAGE, 9, (Ok(true), 2));
+    memory_is_the_answer(&rt, rt.alloc(), None);
+}
+
+#[test]
+fn memory_refused_to_the_judge_is_the_answer_within_limits(rt: HostRuntime) {
+    memory_is_the_answer(&rt, rt.alloc(), Some(Limits::default()));
 }

@@ -2,7 +2,7 @@
 use crate::checks::same;
 use crate::messages::KEYS;
 use crate::stream::checks::checked;
-use cose_gate::{About, CborSerializable, CoseKeySet, HmacJudge, Judge, StreamFault};
+use cose_gate::{About, CborSerializable, CoseKeySet, HmacJudge, Judge, Limits, StreamFault};
 use std::alloc::{AllocError, Global};
 use std::io;
 use std::process::Abort;
@@ -49,13 +49,14 @@ impl<J: Judge> Judge for Counter<J> {
     }
 }
 
-/// Checks under that key a message with these bytes in front of a payload of that length, of which
-/// the structure has so many bytes. Its tag is one byte, and so is no whole HMAC. All memory is
-/// asked for by the keys and the check, so this holds whichever allocation is refused: nothing is
-/// decided then. It answers whether one was.
+/// Checks under that key, within limits if there are some, a message with these bytes in front of a
+/// payload of that length, of which the structure has so many bytes. Its tag is one byte, and so is
+/// no whole HMAC. All memory is asked for by the keys and the check, so this holds whichever
+/// allocation is refused: nothing is decided then. It returns whether one was.
 fn long(
     rt: &impl Abort,
     alloc: Global,
+    limits: Option<Limits>,
     front: &[u8],
     payload: usize,
     covered: usize,
@@ -74,7 +75,7 @@ fn long(
         back: &[0x41, 0xaa],
     };
     let mut buffer = [0; 64];
-    let (answer, _) = checked(alloc, None, made, &mut buffer, &[], &mut judge);
+    let (answer, _) = checked(alloc, limits, made, &mut buffer, &[], &mut judge);
     if answer == Err(StreamFault::Memory) {
         same(rt, &judge.decisions, &0, "decisions", &payload);
         return "memory was refused";
@@ -86,17 +87,25 @@ fn long(
 }
 
 // No growth of memory hangs on the payload. A test can't count growths, since `Global` counts none;
-// refusals stand for them. Each of the two tests runs as a process of its own, and
-// `scripts/fail-alloc.sh` counts how many allocations of each can be refused: as many of both.
+// refusals stand for them. Each of these tests runs as a process of its own, and
+// `scripts/fail-alloc.sh` counts how many allocations of each can be refused: as many of all.
 
 #[test]
 fn a_payload_of_no_bytes_grows_nothing(rt: HostRuntime) -> io::Result<()> {
     let front = [0xd1, 0x84, 0x43, 0xa1, 1, 5, 0xa0, 0x40];
-    println!(rt; "{}", long(&rt, rt.alloc(), &front, 0, 12))
+    println!(rt; "{}", long(&rt, rt.alloc(), None, &front, 0, 12))
 }
+
+/// A message in front of its payload of 100,000 bytes.
+const LONG: &[u8] = &[0xd1, 0x84, 0x43, 0xa1, 1, 5, 0xa0, 0x5a, 0, 1, 0x86, 0xa0];
 
 #[test]
 fn a_payload_of_100000_bytes_grows_nothing(rt: HostRuntime) -> io::Result<()> {
-    let front = [0xd1, 0x84, 0x43, 0xa1, 1, 5, 0xa0, 0x5a, 0, 1, 0x86, 0xa0];
-    println!(rt; "{}", long(&rt, rt.alloc(), &front, 100_000, 100_016))
+    println!(rt; "{}", long(&rt, rt.alloc(), None, LONG, 100_000, 100_016))
+}
+
+#[test]
+fn a_payload_of_100000_bytes_grows_nothing_within_limits(rt: HostRuntime) -> io::Result<()> {
+    let limits = Some(Limits::default());
+    println!(rt; "{}", long(&rt, rt.alloc(), limits, LONG, 100_000, 100_016))
 }
