@@ -103,7 +103,7 @@ fn why_not(
     first: &Asked,
 ) -> Result<String, Stop> {
     if first.kind != MessageKind::Mac0 {
-        return Ok(String::from_str(alloc, "the program judges COSE_Mac0 alone")?);
+        return Ok(String::from_str(alloc, "cose-gate judges only COSE_Mac0")?);
     }
     let message = match CoseMac0::from_tagged_slice(alloc, item) {
         Ok(message) => message,
