@@ -215,11 +215,7 @@ fn wrong_one(alloc: Global, name: &str, one: WrongOne<'_>) -> Result<Option<Wron
 }
 
 /// The recipients of a recipient, if it has four parts.
-fn own_recipients<'a>(
-    alloc: Global,
-    name: &str,
-    one: &'a [u8],
-) -> Result<Option<&'a [u8]>, Stop> {
+fn own_recipients<'a>(alloc: Global, name: &str, one: &'a [u8]) -> Result<Option<&'a [u8]>, Stop> {
     if name != "recipient" {
         return Ok(None);
     }

@@ -80,7 +80,9 @@ impl fmt::Display for Stop {
             Stop::Input => f.write_str("the input can't be read"),
             Stop::Output => f.write_str("the output can't be written"),
             Stop::NoFolder => f.write_str("the folder DIR can't be made"),
-            Stop::NotNew => f.write_str("DIR has a file of that name already, which is left as it is"),
+            Stop::NotNew => f.write_str(
+                "DIR has a file of that name already, which is left as it is",
+            ),
             Stop::Piece => f.write_str("a file in DIR can't be made or written"),
             Stop::Memory => f.write_str("out of memory"),
             Stop::Damaged(why, offset) => write!(f, "damaged at {offset}: {why}"),

@@ -234,7 +234,10 @@ fn say_spelling<P: fmt::Write>(spelling: Spelling, offset: usize, page: &mut P) 
         Spelling::Shortest => page.write_str("  strict: it is in canonical encoding\n"),
         Spelling::Excess(excess, at) => {
             let place = offset.saturating_add(at);
-            writeln!(page, "  strict: not in canonical encoding: {excess} at {place}")
+            writeln!(
+                page,
+                "  strict: not in canonical encoding: {excess} at {place}"
+            )
         }
         Spelling::Form(form, at) => {
             let place = offset.saturating_add(at);

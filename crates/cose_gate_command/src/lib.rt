@@ -1,0 +1,15 @@
+//! The command line of `cose-gate`: its arguments, its run, and what `--verbose` says more.
+#![tactic(auto)]
+
+mod arguments;
+mod counted;
+mod explained;
+mod key_file;
+mod more;
+mod program;
+mod verbose;
+
+pub use crate::arguments::{Arguments, arguments};
+pub use crate::key_file::KeyFile;
+pub use crate::program::{USAGE, program};
+pub use crate::verbose::run_verbose;
