@@ -10,7 +10,7 @@ ghost use Rattle.cose_gate_command.specs.Ends.{EndsBy};
 ghost use Rattle.cose_gate_program.specs.Program.{devices_of};
 
 use ciborium_ll::{Io, Read, Write};
-use cose_gate_command::{USAGE, arguments, program};
+use cose_gate_command::{USAGE, program, read_arguments};
 use cose_gate_program::Blocks;
 use std::alloc::Global;
 use std::io::{BufReader, BufWriter};
@@ -152,7 +152,7 @@ struct Content {
 
 /// What the file KEYS holds, if the arguments name one.
 fn read_keys(rt: &HostRuntime, all: &[String]) -> Result<Content, NotRun> {
-    match arguments(all) {
+    match read_arguments(all) {
         Some(asked) => read_file(rt, asked.keys),
         None => Ok(no_content("")),
     }

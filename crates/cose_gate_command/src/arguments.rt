@@ -21,7 +21,7 @@ pub struct Arguments<'a> {
 /// What the arguments after the program's name ask for: `--strict` and `--verbose`, in any order,
 /// then KEYS, and AADHEX if it is there; `None` if they are anything else. A file of such a name is
 /// `./--strict`.
-pub fn arguments(all: &[String]) -> Option<Arguments<'_>>
+pub fn read_arguments(all: &[String]) -> Option<Arguments<'_>>
     ensures { option_map arguments_view result ≡ spec.arguments (map string_bytes all.now) }
 {
     let mut strict = false;

@@ -9,7 +9,7 @@ mod more;
 mod program;
 mod verbose;
 
-pub use crate::arguments::{Arguments, arguments};
+pub use crate::arguments::{Arguments, read_arguments};
 pub use crate::key_file::KeyFile;
 pub use crate::program::{USAGE, program};
 pub use crate::verbose::run_verbose;

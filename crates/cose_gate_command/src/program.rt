@@ -4,7 +4,7 @@ ghost use Rattle.cose_gate_command.specs.Arguments as spec;
 ghost use Rattle.cose_gate_command.specs.Ends.{EndsBy};
 ghost use Rattle.cose_gate_program.specs.Program.{devices_of};
 
-use crate::arguments::arguments;
+use crate::arguments::read_arguments;
 use crate::key_file::KeyFile;
 use crate::verbose::run_verbose;
 use ciborium_ll::{Read, Write};
@@ -14,8 +14,8 @@ use std::alloc::Global;
 /// The line for other arguments.
 pub const USAGE: &str = "usage: cose-gate KEYS [AADHEX]\n";
 
-/// The program over the arguments after its name, if `keys` is what the file holds that `arguments`
-/// names, or `fault` says why it can't be read. If they aren't its arguments nothing is read, the
+/// The program over the arguments after its name, if `keys` is what the file holds that they name,
+/// or `fault` says why it can't be read. If they aren't its arguments nothing is read, the
 /// line on `err` is `USAGE`, and the status 2. Lines and statuses are else those of `run_with`.
 pub fn program<R: Read, W: Write, E: Write>(
     alloc: Global,
@@ -32,7 +32,7 @@ pub fn program<R: Read, W: Write, E: Write>(
     ensures kept { R.handle input.new ≡ R.handle input.old }
     ensures lent { W.handle out.new ≡ W.handle out.old }
 {
-    let Some(asked) = arguments(all) else {
+    let Some(asked) = read_arguments(all) else {
         let _ = err.write_all(USAGE.as_bytes());
         let _ = err.flush();
         return 2;

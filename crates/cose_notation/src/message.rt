@@ -300,21 +300,5 @@ fn show_one<P: fmt::Write>(
         Some(item) => show_bytes(alloc, look, last, item, 3, page)?,
         None => missing(last, 3, page)?,
     }
-    if name == "recipient" {
-        show_inner(alloc, look, &mut parts, page)?;
-    }
     show_more(alloc, look, &mut parts, 3, page)
-}
-
-/// The recipients of a recipient, if it has any.
-fn show_inner<P: fmt::Write>(
-    alloc: Global,
-    look: Look,
-    parts: &mut Members<'_>,
-    page: &mut P,
-) -> Result<(), NotWritten> {
-    match parts.next()? {
-        Some(item) => show_other(alloc, look, "recipients", item, 3, page),
-        None => Ok(()),
-    }
 }
