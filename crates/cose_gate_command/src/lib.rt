@@ -2,14 +2,14 @@
 #![tactic(auto)]
 
 mod arguments;
+mod command;
 mod counted;
 mod explained;
 mod key_file;
 mod more;
-mod program;
 mod verbose;
 
 pub use crate::arguments::{Arguments, read_arguments};
+pub use crate::command::{USAGE, program};
 pub use crate::key_file::KeyFile;
-pub use crate::program::{USAGE, program};
 pub use crate::verbose::run_verbose;

@@ -68,17 +68,17 @@ impl<'a, W: Write> Teller for Verbose<'a, W> {
 /// that begin with two spaces: of a refusal what it means, and why the judge said no; of a stop the
 /// number and the offset of the item, what is wrong with it, and what to do; of KEYS its name, and
 /// what is wrong with it. `file` tells of the file KEYS.
-pub fn run_verbose<R: Read, W: Write, E: Write>(
+pub fn run_verbose<'a, R: Read, W: Write, E: Write>(
     alloc: Global,
     terms: Terms,
-    file: KeyFile<'_>,
-    aad: Option<&str>,
+    file: KeyFile<'a>,
+    aad: Option<&'a str>,
     input: &mut R,
     out: &mut W,
-    err: &mut E,
+    err: &'a mut E,
 ) -> u8
     ensures ran { EndsWithin (limits_of terms) says_yes
-        (option_copied file.bytes) (option_copied aad.entry)
+        (option_copied file.entry.bytes) (option_copied aad.entry)
         (devices_of R.Read W.Write input.old out.old)
         (devices_of R.Read W.Write input.new out.new) result }
     ensures kept { R.handle input.new ≡ R.handle input.old }

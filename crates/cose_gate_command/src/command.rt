@@ -17,14 +17,14 @@ pub const USAGE: &str = "usage: cose-gate KEYS [AADHEX]\n";
 /// The program over the arguments after its name, if `keys` is what the file holds that they name,
 /// or `fault` says why it can't be read. If they aren't its arguments nothing is read, the
 /// line on `err` is `USAGE`, and the status 2. Lines and statuses are else those of `run_with`.
-pub fn program<R: Read, W: Write, E: Write>(
+pub fn program<'a, R: Read, W: Write, E: Write>(
     alloc: Global,
-    all: &[String],
-    keys: Option<&[u8]>,
-    fault: &str,
+    all: &'a [String],
+    keys: Option<&'a [u8]>,
+    fault: &'a str,
     input: &mut R,
     out: &mut W,
-    err: &mut E,
+    err: &'a mut E,
 ) -> u8
     ensures ran { EndsBy (spec.arguments (map string_bytes all.now)) (option_copied keys.entry)
         (devices_of R.Read W.Write input.old out.old)
