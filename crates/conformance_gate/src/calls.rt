@@ -54,6 +54,8 @@ fn of_program(to: &mut Out, name: &str, row: &mut &str) {
         "run-strict" => program::run_strict(to, row),
         "run-room" => program::run_in_room(to, row),
         "words" => program::arguments(to, row),
+        "command" => program::command(to, row),
+        "command-room" => program::command_in_room(to, row),
         "tag" => judging::tag(to, row),
         "judge" => judging::judge(to, row),
         "judge-prepared" => judging::prepared_judge(to, row),

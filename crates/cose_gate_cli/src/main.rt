@@ -1,10 +1,18 @@
-//! `cose-gate [--strict] KEYS [AADHEX]`: reads a CBOR sequence from standard input, and writes the
-//! messages whose tags are good under the keys of the file KEYS to standard output. AADHEX is the
-//! external data in hex. With `--strict` only messages in canonical encoding pass.
+//! `cose-gate [--strict] [--verbose] KEYS [AADHEX]`: reads a CBOR sequence from standard input, and
+//! writes the messages whose tags are good under the keys of the file KEYS to standard output.
+//! AADHEX is the external data in hex. With `--strict` only messages in canonical encoding pass;
+//! with `--verbose` standard error says more.
 #![tactic(auto)]
 
-use ciborium_ll::Io;
-use cose_gate_program::{Blocks, Limits, Terms, run_with, words};
+ghost use Rattle.std.specs.Prelude.{map, option_copied, string_bytes};
+ghost use Rattle.cose_gate_command.specs.Arguments as spec;
+ghost use Rattle.cose_gate_command.specs.Ends.{EndsBy};
+ghost use Rattle.cose_gate_program.specs.Program.{devices_of};
+
+use ciborium_ll::{Io, Read, Write};
+use cose_gate_command::{USAGE, program, read_arguments};
+use cose_gate_program::Blocks;
+use std::alloc::Global;
 use std::io::{BufReader, BufWriter};
 use std::process::ExitCode;
 use std::{env, fs, io};
@@ -14,20 +22,22 @@ const BLOCK: usize = 65536;
 
 /// What `-h` and `--help` answer. The script `cose-gate` answers the same.
 const HELP: &str = "\
-usage: cose-gate [--strict] KEYS [AADHEX] < INPUT > PASSED
+usage: cose-gate [--strict] [--verbose] KEYS [AADHEX] < INPUT > PASSED
 Reads a CBOR sequence, and writes the messages that pass, each in canonical encoding.
 What passes: a COSE_Mac0 in its tag 17, whose MAC is HMAC with SHA-256 under its first matching key.
 KEYS: a file with a COSE_KeySet. AADHEX: the external data in hex, empty if it is left out.
 With --strict a message that isn't in canonical encoding already is refused: NotShortest.
 On standard error: a line for each item, and at the end how many passed and were refused.
+With --verbose indented lines after these say why an item is refused, or the run stops.
 Status 0: no item was refused. 1: some were. 2: wrong arguments, or AADHEX is not hex.
-3: KEYS can't be read, or is no key set. 4: the input is no CBOR, or input, output or memory failed.
+3: KEYS can't be read, or isn't a key set. 4: the input isn't CBOR, input or output failed, or
+it is out of memory.
 ";
 
 /// Why the program doesn't come to its run.
 #[derive(Debug, Clone, Copy, PartialEq, Eq)]
 enum NotRun {
-    /// The words are not KEYS, or KEYS and AADHEX.
+    /// An argument isn't UTF-8.
     Usage,
     /// Out of memory.
     Memory,
@@ -36,7 +46,7 @@ enum NotRun {
 impl NotRun {
     fn line(self) -> &'static str {
         match self {
-            NotRun::Usage => "usage: cose-gate KEYS [AADHEX]\n",
+            NotRun::Usage => USAGE,
             NotRun::Memory => "stopped: memory\n",
         }
     }
@@ -59,17 +69,13 @@ fn main(rt: HostRuntime) -> ExitCode {
     }
 }
 
-/// Runs the program, and gives its status.
+/// Runs the program, and returns its status.
 fn start(rt: &HostRuntime) -> Result<u8, NotRun> {
-    let all = all_words(rt)?;
+    let all = all_arguments(rt)?;
     if asks_for_help(all.as_slice()) {
         return Ok(say_help(rt));
     }
-    let (strict, rest) = strictness(all.as_slice());
-    let Some((path, aad)) = words(rest) else {
-        return Err(NotRun::Usage);
-    };
-    let keys = read_file(rt, path)?;
+    let keys = read_keys(rt, all.as_slice())?;
     let Ok(input) = BufReader::with_capacity(rt.alloc(), BLOCK, rt.stdin()) else {
         return Err(NotRun::Memory);
     };
@@ -79,33 +85,38 @@ fn start(rt: &HostRuntime) -> Result<u8, NotRun> {
     let Ok(lines) = BufWriter::with_capacity(rt.alloc(), BLOCK, rt.stderr()) else {
         return Err(NotRun::Memory);
     };
-    Ok(run_with(
+    Ok(run(
         rt.alloc(),
-        Terms {
-            limits: Limits::default(),
-            strict,
-        },
-        keys.as_deref(),
-        aad,
+        all.as_slice(),
+        keys.bytes.as_deref(),
+        keys.fault,
         &mut Blocks::new(input),
         &mut Io::new(output),
         &mut Io::new(lines),
     ))
 }
 
-/// Whether the first word asks for a strict run, and the words after it. A file of such a name is
-/// `./--strict`.
-fn strictness(all: &[String]) -> (bool, &[String]) {
-    match all.split_first() {
-        Some((first, rest)) if first.as_str() == "--strict" => (true, rest),
-        _ => (false, all),
-    }
+/// The run that all arguments ask for, over what the file KEYS holds.
+fn run<R: Read, W: Write, E: Write>(
+    alloc: Global,
+    all: &[String],
+    keys: Option<&[u8]>,
+    fault: &str,
+    input: &mut R,
+    out: &mut W,
+    err: &mut E,
+) -> u8
+    ensures { EndsBy (spec.arguments (map string_bytes all.now)) (option_copied keys.entry)
+        (devices_of R.Read W.Write input.old out.old)
+        (devices_of R.Read W.Write input.new out.new) result }
+{
+    program(alloc, all, keys, fault, input, out, err)
 }
 
-/// Whether the one word asks for help. A file of such a name is `./-h`.
+/// Whether the one argument asks for help. A file of such a name is `./-h`.
 fn asks_for_help(all: &[String]) -> bool {
     match all {
-        [word] => matches!(word.as_str(), "-h" | "--help"),
+        [only] => matches!(only.as_str(), "-h" | "--help"),
         _ => false,
     }
 }
@@ -118,8 +129,8 @@ fn say_help(rt: &HostRuntime) -> u8 {
     }
 }
 
-/// The words after the program's name. One that isn't UTF-8 is a fault of the usage.
-fn all_words(rt: &HostRuntime) -> Result<Vec<String>, NotRun> {
+/// The arguments after the program's name. If one isn't UTF-8 the usage is wrong.
+fn all_arguments(rt: &HostRuntime) -> Result<Vec<String>, NotRun> {
     match env::args(rt) {
         Ok(all) => match all.skip(1).collect::<Vec<String>>(rt.alloc()) {
             Ok(all) => Ok(all),
@@ -132,13 +143,37 @@ fn all_words(rt: &HostRuntime) -> Result<Vec<String>, NotRun> {
     }
 }
 
-/// The bytes of a file; `None` if it can't be read.
-fn read_file(rt: &HostRuntime, path: &str) -> Result<Option<Vec<u8>>, NotRun> {
+/// The bytes of a file; none if it can't be read, and why.
+#[derive(Drop)]
+struct Content {
+    bytes: Option<Vec<u8>>,
+    fault: &'static str,
+}
+
+/// What the file KEYS holds, if the arguments name one.
+fn read_keys(rt: &HostRuntime, all: &[String]) -> Result<Content, NotRun> {
+    match read_arguments(all) {
+        Some(asked) => read_file(rt, asked.keys),
+        None => Ok(no_content("")),
+    }
+}
+
+fn no_content(fault: &'static str) -> Content {
+    Content { bytes: None, fault }
+}
+
+fn read_file(rt: &HostRuntime, path: &str) -> Result<Content, NotRun> {
     match fs::read(rt, path) {
-        Ok(bytes) => Ok(Some(bytes)),
+        Ok(bytes) => Ok(Content {
+            bytes: Some(bytes),
+            fault: "",
+        }),
         Err(error) => match error.kind() {
             io::ErrorKind::OutOfMemory => Err(NotRun::Memory),
-            _ => Ok(None),
+            io::ErrorKind::NotFound => Ok(no_content("no such file")),
+            io::ErrorKind::PermissionDenied => Ok(no_content("no permission")),
+            io::ErrorKind::IsADirectory => Ok(no_content("a folder")),
+            _ => Ok(no_content("it can't be read")),
         },
     }
 }

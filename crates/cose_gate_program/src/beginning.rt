@@ -11,12 +11,12 @@ use coset_labels::{CborSerializable, CoseError};
 use hex::FromHexError;
 use std::alloc::Global;
 
-/// Why the gate isn't run.
+/// Why the program isn't run.
 #[derive(Debug, Clone, Copy, PartialEq, Eq)]
-pub(crate) enum NotBegun {
+pub enum NotBegun {
     /// KEYS can't be read.
     NoFile,
-    /// AADHEX is no hex.
+    /// AADHEX is not hex.
     NotHex,
     /// KEYS holds no key set.
     NoKeys(CoseError),
@@ -24,16 +24,18 @@ pub(crate) enum NotBegun {
     Memory,
 }
 
-/// What the gate is run with.
+/// What the program is run with.
 #[derive(Drop)]
-pub(crate) struct Beginning {
-    pub(crate) keys: CoseKeySet,
-    pub(crate) aad: Vec<u8>,
+pub struct Beginning {
+    /// The key set that KEYS holds.
+    pub keys: CoseKeySet,
+    /// The external data.
+    pub aad: Vec<u8>,
 }
 
 impl NotBegun {
     /// The status of the program.
-    pub(crate) fn status(self) -> u8
+    pub fn status(self) -> u8
         ensures { result ≡ spec.status_of self }
     {
         match self {
@@ -69,12 +71,13 @@ impl From<CoseError> for NotBegun {
     }
 }
 
-/// Reads the external data, and then the key set. Without AADHEX the external data is empty.
-pub(crate) fn begin(
-    alloc: Global,
-    keys: Option<&[u8]>,
-    aad: Option<&str>,
-) -> Result<Beginning, NotBegun>
+/// Reads the external data from AADHEX, and then the key set from the bytes of KEYS, which are none
+/// if it can't be read. Without AADHEX the external data is empty.
+///
+/// # Errors
+/// `NoFile` if there are no bytes; `NotHex`; `NoKeys` if they are not a key set (RFC 9052, section
+/// 7); `Memory`. They are tested in this order.
+pub fn begin(alloc: Global, keys: Option<&[u8]>, aad: Option<&str>) -> Result<Beginning, NotBegun>
     ensures { Begins (option_copied keys.entry) (option_copied aad.entry) result }
 {
     match keys {

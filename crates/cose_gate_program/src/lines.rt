@@ -1,4 +1,5 @@
-//! The lines on standard error. A fault of what they are written to is ignored.
+//! What is told of a run, and the lines on standard error. A fault of what they are written to is
+//! ignored.
 ghost use Rattle.std.specs.Prelude.{◌≤◌};
 
 use crate::beginning::NotBegun;
@@ -60,13 +61,28 @@ impl<'a, W: Write> fmt::Write for Text<'a, W> {
     }
 }
 
-/// A report that writes a line for each item, and keeps nothing.
-#[derive(Drop)]
-pub(crate) struct Lines<'a, W> {
-    pub(crate) out: &'a mut W,
+/// Is told how a run of the program goes, as it goes. No clause speaks of what it does with that.
+pub trait Teller {
+    /// An item has passed, or was refused.
+    fn item(&mut self, entry: &Entry);
+
+    /// The whole input was gone through.
+    fn counts(&mut self, counts: Counts);
+
+    /// The run has stopped.
+    fn stopped(&mut self, fault: &GateFault<InputFault>);
+
+    /// The run doesn't begin.
+    fn not_begun(&mut self, why: NotBegun);
 }
 
-impl<'a, W: Write> Report for Lines<'a, W> {
+/// A report that hands each item on, and keeps nothing.
+#[derive(Drop)]
+pub(crate) struct Told<'a, T> {
+    pub(crate) teller: &'a mut T,
+}
+
+impl<'a, T: Teller> Report for Told<'a, T> {
     ghost State = { Unit {0} };
 
     ghost state = { λ _. tt };
@@ -74,8 +90,39 @@ impl<'a, W: Write> Report for Lines<'a, W> {
     ghost folded = { λ s _. s };
 
     fn note(&mut self, entry: &Entry) -> Result<(), AllocError> {
-        say_entry(*entry, self.out);
+        self.teller.item(entry);
         Ok(())
+    }
+}
+
+/// The lines that `run` tells of, on a writer.
+#[derive(Drop)]
+pub struct Lines<'a, W> {
+    out: &'a mut W,
+}
+
+impl<'a, W: Write> Lines<'a, W> {
+    /// Lines on this writer.
+    pub fn new(out: &'a mut W) -> Lines<'a, W> {
+        Lines { out }
+    }
+}
+
+impl<'a, W: Write> Teller for Lines<'a, W> {
+    fn item(&mut self, entry: &Entry) {
+        say_entry(*entry, self.out);
+    }
+
+    fn counts(&mut self, counts: Counts) {
+        say_counts(counts, self.out);
+    }
+
+    fn stopped(&mut self, fault: &GateFault<InputFault>) {
+        say_fault(fault, self.out);
+    }
+
+    fn not_begun(&mut self, why: NotBegun) {
+        say_not_begun(why, self.out);
     }
 }
 
@@ -109,7 +156,7 @@ fn name_of(refusal: Refusal) -> &'static str {
 }
 
 /// The last line, which counts the items. It is flushed, with those before it.
-pub(crate) fn say_counts<W: Write>(counts: Counts, out: &mut W) {
+fn say_counts<W: Write>(counts: Counts, out: &mut W) {
     let mut text = Text::new(out);
     let passed = counts.passed;
     let refused = counts.refused;
@@ -118,7 +165,7 @@ pub(crate) fn say_counts<W: Write>(counts: Counts, out: &mut W) {
 }
 
 /// The last line, which says what stopped the gate. It is flushed, with those before it.
-pub(crate) fn say_fault<W: Write>(fault: GateFault<InputFault>, out: &mut W) {
+fn say_fault<W: Write>(fault: &GateFault<InputFault>, out: &mut W) {
     let mut text = Text::new(out);
     let _ = match fault {
         GateFault::Decode(de::Error::Io(InputFault::Failed)) => {
@@ -132,7 +179,7 @@ pub(crate) fn say_fault<W: Write>(fault: GateFault<InputFault>, out: &mut W) {
 }
 
 /// The last line, which says why the gate isn't run. It is flushed.
-pub(crate) fn say_not_begun<W: Write>(why: NotBegun, out: &mut W) {
+fn say_not_begun<W: Write>(why: NotBegun, out: &mut W) {
     let mut text = Text::new(out);
     let _ = match why {
         NotBegun::NoFile => writeln!(text, "keys: cannot be read"),

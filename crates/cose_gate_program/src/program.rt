@@ -7,20 +7,20 @@ ghost use Rattle.cose_gate_program.specs.Program.{Ends, EndsWithin, EndsOver};
 
 use crate::beginning::{begin, read_keys};
 use crate::devices::{Input, InputFault, Output};
-use crate::lines::{Lines, say_counts, say_fault, say_not_begun};
+use crate::lines::{Lines, Teller, Told};
 use ciborium_ll::{Decoder, Read, Write};
 use cose_gate_hmac::HmacJudge;
 use cose_gate_hmac::gate_core::{Counts, GateFault, Judge, Limits, Terms, gate_by};
 use std::alloc::Global;
 
-/// The gate through devices with small faults, and a line for each item.
-fn gate_lines<R: Read, W: Write, E: Write, J: Judge>(
+/// The gate through devices with small faults, told item by item.
+fn gate_told<R: Read, W: Write, T: Teller, J: Judge>(
     alloc: Global,
     terms: Terms,
     aad: &[u8],
     input: &mut R,
     out: &mut W,
-    err: &mut E,
+    teller: &mut T,
     judge: &mut J,
 ) -> Result<Counts, GateFault<InputFault>>
     ensures ran { Gated (limits_of terms)
@@ -38,13 +38,13 @@ fn gate_lines<R: Read, W: Write, E: Write, J: Judge>(
 {
     let mut decoder = Decoder::from(Input { reader: input });
     let mut output = Output { writer: out };
-    let mut lines = Lines { out: err };
+    let mut report = Told { teller };
     gate_by(
         alloc,
         terms,
         &mut decoder,
         &mut output,
-        &mut lines,
+        &mut report,
         aad,
         judge,
     )
@@ -75,18 +75,39 @@ pub fn run_judged<R: Read, W: Write, E: Write, J: Judge>(
     ensures kept { R.handle input.new ≡ R.handle input.old }
     ensures lent { W.handle out.new ≡ W.handle out.old }
 {
-    let gated = gate_lines(alloc, terms, aad, input, out, err, judge);
+    run_told(alloc, terms, aad, input, out, &mut Lines::new(err), judge)
+}
+
+/// As `run_judged`, with what is told of the run in place of the lines.
+pub fn run_told<R: Read, W: Write, T: Teller, J: Judge>(
+    alloc: Global,
+    terms: Terms,
+    aad: &[u8],
+    input: &mut R,
+    out: &mut W,
+    teller: &mut T,
+    judge: &mut J,
+) -> u8
+    ensures ran { RanJudged (limits_of terms)
+        (hearing_of J.Judge judge.old judge.new) aad.now
+        (devices_of R.Read W.Write input.old out.old)
+        (devices_of R.Read W.Write input.new out.new) result }
+    ensures who { J.who judge.new ≡ J.who judge.old }
+    ensures kept { R.handle input.new ≡ R.handle input.old }
+    ensures lent { W.handle out.new ≡ W.handle out.old }
+{
+    let gated = gate_told(alloc, terms, aad, input, out, teller, judge);
     if out.flush().is_err() {
-        say_fault(GateFault::Write, err);
+        teller.stopped(&GateFault::Write);
         return 4;
     }
     match gated {
         Ok(counts) => {
-            say_counts(counts, err);
+            teller.counts(counts);
             if counts.refused == 0 { 0 } else { 1 }
         }
         Err(fault) => {
-            say_fault(fault, err);
+            teller.stopped(&fault);
             4
         }
     }
@@ -116,7 +137,7 @@ pub fn run_over<R: Read, W: Write, E: Write>(
             run_judged(alloc, terms, aad, input, out, err, &mut judge)
         }
         Err(why) => {
-            say_not_begun(why, err);
+            Lines::new(err).not_begun(why);
             why.status()
         }
     }
@@ -147,7 +168,7 @@ pub fn run_with<R: Read, W: Write, E: Write>(
             run_judged(alloc, terms, aad, input, out, err, &mut judge)
         }
         Err(why) => {
-            say_not_begun(why, err);
+            Lines::new(err).not_begun(why);
             why.status()
         }
     }

@@ -11,6 +11,9 @@ use coset_labels::TaggedCborSerializable;
 use coset_maced::CoseMac0;
 use std::alloc::Global;
 
+/// Why the judge says no to a message that is not a COSE_Mac0.
+pub const OTHER_KIND: &str = "cose-gate judges only COSE_Mac0";
+
 /// What the judge answers.
 #[derive(Drop)]
 pub enum Answer {
@@ -103,7 +106,7 @@ fn why_not(
     first: &Asked,
 ) -> Result<String, Stop> {
     if first.kind != MessageKind::Mac0 {
-        return Ok(String::from_str(alloc, "the program judges COSE_Mac0 alone")?);
+        return Ok(String::from_str(alloc, OTHER_KIND)?);
     }
     let message = match CoseMac0::from_tagged_slice(alloc, item) {
         Ok(message) => message,

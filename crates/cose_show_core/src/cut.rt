@@ -15,7 +15,7 @@ pub struct Share {
 /// Where a sequence may be cut. Heads alone are read, and no item is held.
 #[derive(Drop)]
 pub struct Cutter {
-    /// How many bytes a piece has at least, but for the last.
+    /// How many bytes a piece has at least, except the last.
     size: usize,
     ends: Ends,
     /// How many bytes went to the piece at hand.
@@ -28,7 +28,7 @@ pub struct Cutter {
 }
 
 impl Cutter {
-    /// Nothing was taken, and each piece but the last is to have this size at least.
+    /// Nothing was taken, and each piece except the last is to have this size at least.
     pub fn new(alloc: Global, size: usize) -> Cutter {
         Cutter {
             size,

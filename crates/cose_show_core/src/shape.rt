@@ -112,29 +112,64 @@ fn wrong_content(alloc: Global, name: &str, item: &[u8]) -> Result<Option<WrongP
     }
 }
 
+/// A signature or a recipient that is wrong: its number in its list, from 1, and what is wrong in it.
+#[derive(Clone, Copy)]
+struct WrongOne<'a> {
+    number: u64,
+    item: &'a [u8],
+    fault: CoseError,
+}
+
 /// The first signature or recipient of a list that is wrong.
 fn wrong_in_list(alloc: Global, name: &str, item: &[u8]) -> Result<Option<WrongPart>, Stop> {
-    let Some(mut list) = items(alloc, item) else {
-        return wrong_list(alloc, name, item);
+    if !is_array(alloc, item) {
+        return wrong_list(alloc, "", name, item);
+    }
+    match first_wrong(alloc, name, item)? {
+        Some(one) => wrong_one(alloc, name, one),
+        None => Ok(None),
+    }
+}
+
+fn is_array(alloc: Global, item: &[u8]) -> bool {
+    items(alloc, item).is_some()
+}
+
+fn first_wrong<'a>(
+    alloc: Global,
+    name: &str,
+    list: &'a [u8],
+) -> Result<Option<WrongOne<'a>>, Stop> {
+    let Some(mut list) = items(alloc, list) else {
+        return Ok(None);
     };
     for number in 1..u64::MAX {
-        let Some(one) = list.next()? else {
+        let Some(item) = list.next()? else {
             break;
         };
-        if let Some(fault) = fault_of(alloc, name, one)? {
-            return wrong_one(alloc, name, number, one, fault);
+        if let Some(fault) = fault_of(alloc, name, item)? {
+            return Ok(Some(WrongOne {
+                number,
+                item,
+                fault,
+            }));
         }
     }
     Ok(None)
 }
 
-/// A list that is no array.
-fn wrong_list(alloc: Global, name: &str, item: &[u8]) -> Result<Option<WrongPart>, Stop> {
+/// A list that is no array, after the names of what it is in.
+fn wrong_list(
+    alloc: Global,
+    prefix: &str,
+    name: &str,
+    item: &[u8],
+) -> Result<Option<WrongPart>, Stop> {
     match value_of(alloc, item)? {
         Some(value) => match value.try_as_array() {
             Ok(_) => Ok(None),
             Err(fault) => {
-                let name = format!(in alloc; "{name}s")?;
+                let name = format!(in alloc; "{prefix}{name}s")?;
                 named(alloc, name.as_str(), fault)
             }
         },
@@ -155,24 +190,57 @@ fn fault_of(alloc: Global, name: &str, one: &[u8]) -> Result<Option<CoseError>, 
     }
 }
 
-/// A signature or a recipient that is wrong: its header if that is, and else the whole.
-fn wrong_one(
-    alloc: Global,
-    name: &str,
-    number: u64,
-    one: &[u8],
-    fault: CoseError,
-) -> Result<Option<WrongPart>, Stop> {
+/// What is wrong in a signature or a recipient: a recipient that is in it if one is wrong, its
+/// header if that is, and else the whole.
+fn wrong_one(alloc: Global, name: &str, one: WrongOne<'_>) -> Result<Option<WrongPart>, Stop> {
+    let mut one = one;
+    let number = one.number;
+    let mut title = format!(in alloc; "{name} {number}")?;
+    for _ in 0..NESTING {
+        let Some(list) = own_recipients(alloc, name, one.item)? else {
+            break;
+        };
+        if !is_array(alloc, list) {
+            title.push_str(", ")?;
+            return wrong_list(alloc, title.as_str(), name, list);
+        }
+        let Some(inner) = first_wrong(alloc, name, list)? else {
+            break;
+        };
+        let number = inner.number;
+        write!(title, ", {name} {number}")?;
+        one = inner;
+    }
+    wrong_header_or_whole(alloc, title, one)
+}
+
+/// The recipients of a recipient, if it has four parts.
+fn own_recipients<'a>(alloc: Global, name: &str, one: &'a [u8]) -> Result<Option<&'a [u8]>, Stop> {
+    if name != "recipient" {
+        return Ok(None);
+    }
     let parts = parts_of(alloc, one)?;
+    match parts.as_slice() {
+        [_, _, _, list] => Ok(Some(*list)),
+        _ => Ok(None),
+    }
+}
+
+/// The header of a signature or a recipient with this title if it is wrong, and else the whole.
+fn wrong_header_or_whole(
+    alloc: Global,
+    title: String,
+    one: WrongOne<'_>,
+) -> Result<Option<WrongPart>, Stop> {
+    let parts = parts_of(alloc, one.item)?;
     if parts.len() == 3 || parts.len() == 4 {
-        let prefix = format!(in alloc; "{name} {number}, ")?;
+        let prefix = format!(in alloc; "{title}, ")?;
         let wrong = wrong_header(alloc, prefix.as_str(), &parts)?;
         if wrong.is_some() {
             return Ok(wrong);
         }
     }
-    let name = format!(in alloc; "{name} {number}")?;
-    named(alloc, name.as_str(), fault)
+    named(alloc, title.as_str(), one.fault)
 }
 
 /// What is wrong in the two headers that parts begin with.

@@ -7,9 +7,9 @@ use std::{fmt, io};
 /// Why the program ends early.
 #[derive(Debug, Clone, Copy, PartialEq, Eq)]
 pub enum Stop {
-    /// The words are none that it knows.
+    /// The arguments are none that it knows.
     Usage,
-    /// The external data is no hex.
+    /// The external data is not hex.
     NotHex,
     /// The file can't be opened.
     NoFile,
@@ -70,17 +70,19 @@ impl fmt::Display for Stop {
     fn fmt<W: fmt::Write>(&self, f: &mut fmt::Formatter<W>) -> fmt::Result {
         match self {
             Stop::Usage => f.write_str("usage"),
-            Stop::NotHex => f.write_str("the external data is no hex"),
+            Stop::NotHex => f.write_str("the external data is not hex"),
             Stop::NoFile => f.write_str("the file can't be opened"),
             Stop::NoKeyFile => f.write_str("KEYS can't be read"),
-            Stop::NoKeys(error) => write!(f, "KEYS is no key set: {error}"),
+            Stop::NoKeys(error) => write!(f, "KEYS is not a key set: {error}"),
             Stop::OneKey => {
-                f.write_str("KEYS is one key: a key set is an array of keys, also of one")
+                f.write_str("KEYS is one key: a key set is an array of keys, even of one")
             }
             Stop::Input => f.write_str("the input can't be read"),
             Stop::Output => f.write_str("the output can't be written"),
             Stop::NoFolder => f.write_str("the folder DIR can't be made"),
-            Stop::NotNew => f.write_str("DIR holds such a file already, which is left as it is"),
+            Stop::NotNew => f.write_str(
+                "DIR has a file of that name already, which is left as it is",
+            ),
             Stop::Piece => f.write_str("a file in DIR can't be made or written"),
             Stop::Memory => f.write_str("out of memory"),
             Stop::Damaged(why, offset) => write!(f, "damaged at {offset}: {why}"),

@@ -22,14 +22,14 @@ pub struct Ruling {
     written: Vec<u8>,
 }
 
-/// How the text of a message compares with its shortest one.
+/// How a message compares with its canonical encoding.
 #[derive(Debug, Clone, Copy, PartialEq, Eq)]
 pub enum Spelling {
-    /// It is that text.
+    /// It is that encoding.
     Shortest,
-    /// This stands first in it, here.
+    /// This comes first in it, here.
     Excess(Excess, usize),
-    /// This is the first difference, and it begins here. All in front of it is as in that text.
+    /// This is the first difference, and it begins here. All before it is as in that encoding.
     Form(Form, usize),
 }
 
@@ -53,7 +53,7 @@ impl Form {
             Form::Order => "order",
             Form::ListOfOne => "a list of one counter signature",
             Form::NoRecipients => "an empty list of recipients",
-            Form::Other => "another text",
+            Form::Other => "another encoding",
         }
     }
 }
@@ -99,7 +99,7 @@ impl Ruling {
         self.judge.asked()
     }
 
-    /// How a message that may pass is spelled; none of any other item.
+    /// How a message that may pass is encoded; none of any other item.
     ///
     /// # Errors
     /// `Memory`.
@@ -118,8 +118,8 @@ impl Ruling {
     }
 }
 
-/// What is first in a message that its canonical encoding hasn't: an excess, unless the two differ
-/// before it, from this place on.
+/// What comes first in a message that isn't in its canonical encoding: an excess, unless the two
+/// differ before it, from this place on.
 fn first_difference(alloc: Global, item: &[u8], place: usize) -> Result<Spelling, Fault> {
     match first_excess(alloc, item)? {
         Some((excess, at)) if at <= place => Ok(Spelling::Excess(excess, at)),
@@ -155,7 +155,7 @@ fn form_of(step: Step) -> Form {
     }
 }
 
-/// How many bytes two texts share in front.
+/// How many bytes two encodings share at their beginnings.
 fn first_other(a: &[u8], b: &[u8]) -> usize {
     a.iter().zip(b.iter()).take_while(|(x, y)| x == y).count()
 }
@@ -198,12 +198,12 @@ fn say_verdict<P: fmt::Write>(ruling: &Ruling, page: &mut P) -> fmt::Result {
     let asked = ruling.asked().len();
     match &ruling.verdict {
         Ok(Some(Verdict::Passed)) if asked == 1 => {
-            page.write_str("  gate: passes where the judge says yes to 1 question\n")
+            page.write_str("  gate: passes if the judge says yes to 1 question\n")
         }
         Ok(Some(Verdict::Passed)) => {
             writeln!(
                 page,
-                "  gate: passes where the judge says yes to {asked} questions"
+                "  gate: passes if the judge says yes to {asked} questions"
             )
         }
         Ok(Some(Verdict::Refused(refusal))) => writeln!(page, "  gate: refused: {refusal}"),
@@ -231,10 +231,13 @@ fn say_answer<P: fmt::Write>(answer: &Answer, page: &mut P) -> fmt::Result {
 
 fn say_spelling<P: fmt::Write>(spelling: Spelling, offset: usize, page: &mut P) -> fmt::Result {
     match spelling {
-        Spelling::Shortest => page.write_str("  strict: it is its shortest text\n"),
+        Spelling::Shortest => page.write_str("  strict: it is in canonical encoding\n"),
         Spelling::Excess(excess, at) => {
             let place = offset.saturating_add(at);
-            writeln!(page, "  strict: not its shortest text: {excess} at {place}")
+            writeln!(
+                page,
+                "  strict: not in canonical encoding: {excess} at {place}"
+            )
         }
         Spelling::Form(form, at) => {
             let place = offset.saturating_add(at);
@@ -244,12 +247,12 @@ fn say_spelling<P: fmt::Write>(spelling: Spelling, offset: usize, page: &mut P) 
 }
 
 fn say_form<P: fmt::Write>(form: Form, place: usize, page: &mut P) -> fmt::Result {
-    page.write_str("  strict: not its shortest text: ")?;
+    page.write_str("  strict: not in canonical encoding: ")?;
     match form {
         Form::Order => {
             writeln!(
                 page,
-                "a header's entries stand in another order, from {place} on"
+                "a header's entries are in another order, from {place} on"
             )
         }
         Form::ListOfOne => writeln!(page, "a list of one counter signature at {place}"),
@@ -259,7 +262,7 @@ fn say_form<P: fmt::Write>(form: Form, place: usize, page: &mut P) -> fmt::Resul
                 "a recipient with an empty list of recipients at {place}"
             )
         }
-        Form::Other => writeln!(page, "another text from {place} on"),
+        Form::Other => writeln!(page, "another encoding from {place} on"),
     }
 }
 

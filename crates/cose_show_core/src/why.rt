@@ -34,7 +34,7 @@ pub struct Question<'a> {
     pub aad_len: usize,
 }
 
-/// The first reason for which a judge by these keys says no, in words; none if it says yes.
+/// The first reason for which a judge by these keys says no, as a text; none if it says yes.
 ///
 /// # Errors
 /// `Memory`.
@@ -57,31 +57,49 @@ fn write_reason<P: fmt::Write>(
     question: Question<'_>,
     page: &mut P,
 ) -> Result<bool, fmt::Error> {
-    let protected = question.protected;
-    let unprotected = question.unprotected;
+    match secret_or_reason(book, question.protected, question.unprotected, page)? {
+        Some(secret) => {
+            let whole = hmac_sha256(secret, question.covered);
+            write_wrong_tag(&whole, question.tag, question.aad_len, page)
+        }
+        None => Ok(true),
+    }
+}
+
+/// The secret under which a judge by these keys verifies the tag of a COSE_Mac0 with these headers;
+/// none if it says no whatever the tag is, and then the first reason is written.
+///
+/// # Errors
+/// Those of `page`.
+pub fn secret_or_reason<'b, P: fmt::Write>(
+    book: &'b KeyBook<'_>,
+    protected: &ProtectedHeader,
+    unprotected: &Header,
+    page: &mut P,
+) -> Result<Option<&'b [u8]>, fmt::Error> {
     if !alg_is_hmac(protected) {
         write_other_alg(&protected.header.alg, &unprotected.alg, page)?;
-        return Ok(true);
+        return Ok(None);
     }
     if !crit_is_known(&protected.header) {
         write_crit("protected", &protected.header, page)?;
-        return Ok(true);
+        return Ok(None);
     }
     if !crit_is_known(unprotected) {
         write_crit("unprotected", unprotected, page)?;
-        return Ok(true);
+        return Ok(None);
     }
     let id = message_id(protected, unprotected);
     let Some(key) = book.find(id) else {
         write_no_key(book, id, page)?;
-        return Ok(true);
+        return Ok(None);
     };
     if fits(key, id) {
-        return write_wrong_tag(key, question, page);
+        return Ok(secret_of(key));
     }
     write_key_id(id, page)?;
     write_bar(key, page)?;
-    Ok(true)
+    Ok(None)
 }
 
 /// The algorithm of the protected header isn't HMAC 256/256.
@@ -100,7 +118,7 @@ fn write_other_alg<P: fmt::Write>(
             page.write_str("alg isn't in the protected header; in the unprotected one it is ")?;
             write_alg(alg, page)
         }
-        (None, None) => page.write_str("alg isn't in the protected header, nor in the other"),
+        (None, None) => page.write_str("alg is in neither header"),
     }
 }
 
@@ -250,18 +268,17 @@ fn write_bar<P: fmt::Write>(key: &CoseKey, page: &mut P) -> fmt::Result {
     page.write_str("has no MAC verify (10) among its key_ops")
 }
 
-/// The tag isn't the whole tag under the key. Whether there is anything to say.
-fn write_wrong_tag<P: fmt::Write>(
-    key: &CoseKey,
-    question: Question<'_>,
+/// Writes why a tag isn't the whole tag, if it isn't, and says whether it has.
+///
+/// # Errors
+/// Those of `page`.
+pub fn write_wrong_tag<P: fmt::Write>(
+    whole: &[u8; TAG],
+    tag: &[u8],
+    aad_len: usize,
     page: &mut P,
 ) -> Result<bool, fmt::Error> {
-    let Some(secret) = secret_of(key) else {
-        return Ok(false);
-    };
-    let tag = question.tag;
-    let whole = hmac_sha256(secret, question.covered);
-    if same_tag(&whole, tag) {
+    if same_tag(whole, tag) {
         return Ok(false);
     }
     let len = tag.len();
@@ -275,10 +292,10 @@ fn write_wrong_tag<P: fmt::Write>(
     } else if len != TAG {
         page.write_str("the tag has ")?;
         write_len(len, page)?;
-        page.write_str(" in place of 32")?;
+        page.write_str(", not 32")?;
     } else {
-        page.write_str("the tag isn't that of the first key that fits, with ")?;
-        write_len(question.aad_len, page)?;
+        page.write_str("the tag isn't that of the first matching key, with ")?;
+        write_len(aad_len, page)?;
         page.write_str(" of external data")?;
     }
     Ok(true)

@@ -1,7 +1,7 @@
 //! The arguments of the command line.
 use std::slice;
 
-/// The lines for words that it doesn't know.
+/// The lines for arguments that it doesn't know.
 pub const USAGE: &str =
     "usage: cose-show [--questions] [--strict] [--json] [--aad HEX] [--keys KEYS]
                  [--full] [--secrets] [FILE]
@@ -17,10 +17,10 @@ offset and length, what a COSE message or a key set holds, of any other item
 its diagnostic notation with encoding indicators, and what the gate says of
 its shape. Strings of more than 64 bytes are cut; secrets of keys are left out.
 
-  --keys KEYS  also what cose-gate answers about each message by the key set in
-               the file KEYS, and the first reason if it is no
+  --keys KEYS  also whether cose-gate's judge says yes to each message under the
+               key set in the file KEYS, and the first reason if it says no
   --questions  also the bytes that each signature or tag covers, in hex
-  --aad HEX    the external data of the questions, in hex; without it empty
+  --aad HEX    the external data, in hex; empty without it
   --strict     also whether a message that may pass is in canonical encoding,
                and the first place where it isn't
   --full       strings whole, and the diagnostic notation of messages too
@@ -28,11 +28,11 @@ its shape. Strings of more than 64 bytes are cut; secrets of keys are left out.
   --json       one JSON object a line for each item; strings are whole
   --cut SIZE DIR
                shows nothing: writes the items to files DIR/000001.cbor and so
-               on, whole items each, of at least SIZE bytes but for the last
+               on, whole items each, of at least SIZE bytes except the last
   -h, --help   this text
 
 Status 0, or 2 for unknown arguments, 3 if FILE or KEYS can't be opened or KEYS
-is no key set, 4 if the input is damaged or can't be read, or the output can't
+isn't a key set, 4 if the input is damaged or can't be read, or the output can't
 be written.
 ";
 
@@ -71,13 +71,13 @@ pub struct Options<'a> {
 /// The files that a sequence is cut into.
 #[derive(Debug, Clone, Copy, PartialEq, Eq)]
 pub struct Cut<'a> {
-    /// How many bytes each has at least, but for the last.
+    /// How many bytes each has at least, except the last.
     pub size: usize,
     /// Where they are written.
     pub folder: &'a str,
 }
 
-/// What the words ask for; none where one isn't known.
+/// What the arguments ask for; none if one isn't known.
 pub fn read_words(all: &[String]) -> Option<Words<'_>> {
     let mut options = Options {
         questions: false,
@@ -104,7 +104,7 @@ pub fn read_words(all: &[String]) -> Option<Words<'_>> {
     Some(Words::Run(options))
 }
 
-/// Takes a word, with those after it that belong to it; none if it isn't known.
+/// Takes an argument, with those after it that belong to it; none if it isn't known.
 fn read_word<'a>(
     word: &'a str,
     words: &mut slice::Iter<'a, String>,
@@ -126,7 +126,7 @@ fn read_word<'a>(
     Some(())
 }
 
-/// A size and a folder. An empty name is none: its files would stand in the root of the machine.
+/// A size and a folder. An empty name is none: its files would be in the root of the machine.
 fn read_cut<'a>(words: &mut slice::Iter<'a, String>) -> Option<Cut<'a>> {
     let size = words.next()?.as_str().parse::<usize>().ok()?;
     let folder = words.next()?.as_str();

@@ -1,12 +1,12 @@
 use Rattle.std.proofs.Common.{sym, ◌∙◌, refl, rules}
 use Rattle.std.proofs.lemmas.Bool.{true≢false}
 use Rattle.cose_gate_program.proofs.Runs.{ran_through, ran_stopped, ran_unflushed, none_refused, not_zero, flush_failed, flush_passed, is_flushed}
-use Rattle.cose_gate_program.proofs.program.run_judged.Goals as goal
+use Rattle.cose_gate_program.proofs.program.run_told.Goals as goal
 
 pub returns-then-is_err-clause-ran : goal.returns-then-is_err-clause-ran
 returns-then-is_err-clause-ran g c =
-    ran_unflushed _ _ _ _ _ _ _ c.gate_lines-gated.ensures.ran (is_flushed _ _ _ refl c.flush.ensures.same refl c.flush.ensures.failed)
-    c.gate_lines-gated.ensures.more
+    ran_unflushed _ _ _ _ _ _ _ c.gate_told-gated.ensures.ran (is_flushed _ _ _ refl c.flush.ensures.same refl c.flush.ensures.failed)
+    c.gate_told-gated.ensures.more
     (flush_failed _ _ _ (sym c.if-is_err.true ∙ c.is_err.ensures.value) c.flush.ensures.failed)
 
 pub returns-in-Err-clause-ran : goal.returns-in-Err-clause-ran

@@ -1,6 +1,6 @@
 use Rattle.std.proofs.Common.{rules, refl, sym, ◌∙◌}
 use Rattle.cose_gate_program.proofs.Runs.{gated, same_devices, no_title}
-use Rattle.cose_gate_program.proofs.program.gate_lines.Goals as goal
+use Rattle.cose_gate_program.proofs.program.gate_told.Goals as goal
 
 pub returns-clause-ran : goal.returns-clause-ran
 returns-clause-ran g c =

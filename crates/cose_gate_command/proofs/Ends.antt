@@ -1,0 +1,19 @@
+-- The limits if none are chosen.
+use Rattle.std.proofs.Common.{◌≡◌, ℕ, List, Option, Bool, ap, subst, ◌∙◌}
+use Rattle.cose_gate_core.specs.Findings.{Bounds, excluded_by}
+use Rattle.cose_gate_core.specs.Terms.{limits_by}
+use Rattle.cose_gate_hmac.specs.Judge.{says_yes}
+use Rattle.cose_gate_program.specs.Program.{Devices, EndsWithin}
+use Rattle.coset_labels.specs.Limits.{nesting, layers, nesting_of, layers_of}
+use Rattle.coset_labels.specs.declared.limits.Limits.{Limits}
+use Rattle.cose_gate_command.specs.Ends.{bounds_by}
+
+abbrev of : ℕ → ℕ → Bool → Bounds
+of n k strict = record { nesting = n; layers = k; excludes = λ bytes m. excluded_by strict bytes m }
+
+usually : (l : Limits) (strict : Bool) → (nesting_of l ≡ nesting) × (layers_of l ≡ layers) → limits_by l strict ≡ bounds_by strict
+usually l strict e = ap (λ (n : ℕ). of n (layers_of l) strict) e.0 ∙ ap (λ (k : ℕ). of nesting k strict) e.1
+
+pub by_default : (l : Limits) (strict : Bool) (keys aad : Option (List ℕ)) (old new : Devices) (status : ℕ) → (nesting_of l ≡ nesting) × (layers_of l ≡ layers)
+    → EndsWithin (limits_by l strict) says_yes keys aad old new status → EndsWithin (bounds_by strict) says_yes keys aad old new status
+by_default l strict keys aad old new status e w = subst (λ (o : Bounds). EndsWithin o says_yes keys aad old new status) (usually l strict e) w

@@ -1,0 +1,10 @@
+use Rattle.std.proofs.Common.{refl}
+use Rattle.cose_gate_program.proofs.Runs.{began, ended}
+use Rattle.cose_gate_command.proofs.verbose.run_verbose.Goals as goal
+
+pub returns-in-Ok-clause-ran : goal.returns-in-Ok-clause-ran
+returns-in-Ok-clause-ran g c =
+    began _ _ _ c.in-Ok.beginning _ _ _ _ _ c.in-Ok.ensures c.as_slice-aad.ensures.value c.prepared-judge.ensures c.run_told.ensures.ran.on
+
+pub returns-in-Err-clause-ran : goal.returns-in-Err-clause-ran
+returns-in-Err-clause-ran g c = ended _ _ _ _ _ _ _ _ c.in-Err.ensures c.status.ensures refl

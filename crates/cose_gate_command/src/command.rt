@@ -1,0 +1,54 @@
+//! The program by its arguments.
+ghost use Rattle.std.specs.Prelude.{◌≡◌, map, option_copied, string_bytes};
+ghost use Rattle.cose_gate_command.specs.Arguments as spec;
+ghost use Rattle.cose_gate_command.specs.Ends.{EndsBy};
+ghost use Rattle.cose_gate_program.specs.Program.{devices_of};
+
+use crate::arguments::read_arguments;
+use crate::key_file::KeyFile;
+use crate::verbose::run_verbose;
+use ciborium_ll::{Read, Write};
+use cose_gate_program::{Limits, Terms, run_with};
+use std::alloc::Global;
+
+/// The line for other arguments.
+pub const USAGE: &str = "usage: cose-gate KEYS [AADHEX]\n";
+
+/// The program over the arguments after its name, if `keys` is what the file holds that they name,
+/// or `fault` says why it can't be read. If they aren't its arguments nothing is read, the
+/// line on `err` is `USAGE`, and the status 2. Lines and statuses are else those of `run_with`.
+pub fn program<'a, R: Read, W: Write, E: Write>(
+    alloc: Global,
+    all: &'a [String],
+    keys: Option<&'a [u8]>,
+    fault: &'a str,
+    input: &mut R,
+    out: &mut W,
+    err: &'a mut E,
+) -> u8
+    ensures ran { EndsBy (spec.arguments (map string_bytes all.now)) (option_copied keys.entry)
+        (devices_of R.Read W.Write input.old out.old)
+        (devices_of R.Read W.Write input.new out.new) result }
+    ensures kept { R.handle input.new ≡ R.handle input.old }
+    ensures lent { W.handle out.new ≡ W.handle out.old }
+{
+    let Some(asked) = read_arguments(all) else {
+        let _ = err.write_all(USAGE.as_bytes());
+        let _ = err.flush();
+        return 2;
+    };
+    let terms = Terms {
+        limits: Limits::default(),
+        strict: asked.strict,
+    };
+    if asked.verbose {
+        let file = KeyFile {
+            name: asked.keys,
+            bytes: keys,
+            fault,
+        };
+        run_verbose(alloc, terms, file, asked.aad, input, out, err)
+    } else {
+        run_with(alloc, terms, keys, asked.aad, input, out, err)
+    }
+}

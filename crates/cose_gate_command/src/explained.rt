@@ -1,0 +1,133 @@
+//! A judge whose last no has its reason beside it.
+use cose_gate_core::{About, Judge, MessageKind};
+use cose_gate_hmac::CoseKeySet;
+use cose_hmac::HmacSha256;
+use cose_show_core::{KeyBook, OTHER_KIND, secret_or_reason, write_wrong_tag};
+use std::alloc::{AllocError, Global};
+use std::cell::RefCell;
+use std::fmt;
+
+/// Why the judge said no to the question at hand.
+#[derive(Drop)]
+pub(crate) struct Note {
+    /// The reason; empty if none is known.
+    pub(crate) reason: String,
+    /// Whether the question is about one signature of several.
+    pub(crate) is_of_signer: bool,
+}
+
+/// Why the judge by HMAC with these keys says no to the question at hand. If out of memory, no
+/// reason is known.
+#[derive(Drop)]
+pub(crate) struct Reasons<'a> {
+    book: Option<KeyBook<'a>>,
+    aad_len: usize,
+    /// The tag under the key of the message, of what was fed; none if the reason is known already.
+    mac: Option<HmacSha256>,
+    note: &'a RefCell<Note>,
+}
+
+impl<'a> Reasons<'a> {
+    /// The reasons of a judge by these keys, with so many bytes of external data, into this note.
+    pub(crate) fn new(
+        alloc: Global,
+        keys: &'a CoseKeySet,
+        aad_len: usize,
+        note: &'a RefCell<Note>,
+    ) -> Reasons<'a> {
+        Reasons {
+            book: KeyBook::new(alloc, keys).ok(),
+            aad_len,
+            mac: None,
+            note,
+        }
+    }
+
+    /// Begins a question, and notes the reason that it gives before its tag is known.
+    fn begin(&mut self, about: &About) {
+        self.mac = None;
+        if let Ok(mut guard) = self.note.try_borrow_mut() {
+            let note = &mut *guard;
+            note.reason.clear();
+            note.is_of_signer = about.signer.is_some();
+            if let Ok(Some(secret)) = begun(&self.book, about, &mut note.reason) {
+                self.mac = Some(HmacSha256::new(secret));
+            }
+        }
+    }
+
+    fn feed(&mut self, piece: &[u8]) {
+        if let Some(mac) = &mut self.mac {
+            mac.update(piece);
+        }
+    }
+
+    /// Notes what is wrong with the tag.
+    fn decide(&mut self, tag: &[u8]) {
+        if let Some(mac) = self.mac.take() {
+            if let Ok(mut guard) = self.note.try_borrow_mut() {
+                let note = &mut *guard;
+                let whole = mac.finalize();
+                let _ = write_wrong_tag(&whole, tag, self.aad_len, &mut note.reason);
+            }
+        }
+    }
+}
+
+/// The secret under which the tag is verified; none if the reason is known already, and written.
+fn begun<'b>(
+    book: &'b Option<KeyBook<'_>>,
+    about: &About,
+    reason: &mut String,
+) -> Result<Option<&'b [u8]>, fmt::Error> {
+    match (about.kind, book) {
+        (MessageKind::Mac0, Some(book)) => {
+            secret_or_reason(book, about.protected, about.unprotected, reason)
+        }
+        (MessageKind::Mac0, None) => Ok(None),
+        _ => {
+            fmt::Write::write_str(reason, OTHER_KIND)?;
+            Ok(None)
+        }
+    }
+}
+
+/// A judge, and the reasons of one that gives the same answers.
+#[derive(Drop)]
+pub(crate) struct Explained<'a, J> {
+    pub(crate) judge: J,
+    pub(crate) reasons: Reasons<'a>,
+}
+
+impl<'a, J: Judge> Judge for Explained<'a, J> {
+    ghost Who = { J.Who };
+
+    ghost Told = { J.Told };
+
+    ghost who = { λ e. J.who e.judge };
+
+    ghost told = { λ e. J.told e.judge };
+
+    ghost holds = { λ e subject bytes. J.holds e.judge subject bytes };
+
+    ghost pieces = { λ e. J.pieces e.judge };
+
+    ghost yes = { J.yes };
+
+    ghost decided = { J.decided };
+
+    fn begin(&mut self, about: &About) -> Result<(), AllocError> {
+        self.reasons.begin(about);
+        self.judge.begin(about)
+    }
+
+    fn feed(&mut self, piece: &[u8]) -> Result<(), AllocError> {
+        self.reasons.feed(piece);
+        self.judge.feed(piece)
+    }
+
+    fn decide(&mut self, signature: &[u8]) -> bool {
+        self.reasons.decide(signature);
+        self.judge.decide(signature)
+    }
+}

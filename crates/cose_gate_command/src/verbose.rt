@@ -1,0 +1,119 @@
+//! The run with `--verbose`.
+ghost use Rattle.std.specs.Prelude.{◌≡◌, option_copied};
+ghost use Rattle.cose_gate_core.specs.Terms.{limits_of};
+ghost use Rattle.cose_gate_hmac.specs.Judge.{says_yes};
+ghost use Rattle.cose_gate_program.specs.Program.{devices_of, EndsWithin};
+
+use crate::counted::Counted;
+use crate::explained::{Explained, Note, Reasons};
+use crate::key_file::{KeyFile, say_not_begun};
+use crate::more::{Text, say_refusal, say_stop};
+use ciborium_ll::{Read, Write};
+use cose_gate_core::{Counts, Entry, GateFault, Terms, Verdict};
+use cose_gate_hmac::HmacJudge;
+use cose_gate_program::{Beginning, InputFault, Lines, NotBegun, Teller, begin, run_told};
+use std::alloc::Global;
+use std::cell::{Cell, RefCell};
+
+/// The lines of the program, and after each what is said more.
+#[derive(Drop)]
+struct Verbose<'a, W> {
+    alloc: Global,
+    out: &'a mut W,
+    /// Why the judge said no last.
+    note: &'a RefCell<Note>,
+    /// How many bytes of the input were taken.
+    taken: &'a Cell<usize>,
+    /// How many items were done, and where the next one begins.
+    done: usize,
+    offset: usize,
+    file: KeyFile<'a>,
+    aad: Option<&'a str>,
+}
+
+impl<'a, W: Write> Teller for Verbose<'a, W> {
+    fn item(&mut self, entry: &Entry) {
+        self.done = entry.number;
+        self.offset = self.taken.get();
+        Lines::new(self.out).item(entry);
+        if let Verdict::Refused(refusal) = entry.verdict {
+            let mut text = Text { out: self.out };
+            if let Ok(note) = self.note.try_borrow() {
+                let _ = say_refusal(refusal, &note, &mut text);
+            }
+        }
+    }
+
+    fn counts(&mut self, counts: Counts) {
+        Lines::new(self.out).counts(counts);
+    }
+
+    fn stopped(&mut self, fault: &GateFault<InputFault>) {
+        let number = self.done.saturating_add(1);
+        let offset = self.offset;
+        Lines::new(self.out).stopped(fault);
+        let _ = say_stop(fault, number, offset, &mut Text { out: self.out });
+        let _ = self.out.flush();
+    }
+
+    fn not_begun(&mut self, why: NotBegun) {
+        let (alloc, file, aad) = (self.alloc, self.file, self.aad);
+        Lines::new(self.out).not_begun(why);
+        let _ = say_not_begun(alloc, why, file, aad, &mut Text { out: self.out });
+        let _ = self.out.flush();
+    }
+}
+
+/// As `run_with` of `cose_gate_program`, and after each line on `err` what is said more, in lines
+/// that begin with two spaces: of a refusal what it means, and why the judge said no; of a stop the
+/// number and the offset of the item, what is wrong with it, and what to do; of KEYS its name, and
+/// what is wrong with it. `file` tells of the file KEYS.
+pub fn run_verbose<'a, R: Read, W: Write, E: Write>(
+    alloc: Global,
+    terms: Terms,
+    file: KeyFile<'a>,
+    aad: Option<&'a str>,
+    input: &mut R,
+    out: &mut W,
+    err: &'a mut E,
+) -> u8
+    ensures ran { EndsWithin (limits_of terms) says_yes
+        (option_copied file.entry.bytes) (option_copied aad.entry)
+        (devices_of R.Read W.Write input.old out.old)
+        (devices_of R.Read W.Write input.new out.new) result }
+    ensures kept { R.handle input.new ≡ R.handle input.old }
+    ensures lent { W.handle out.new ≡ W.handle out.old }
+{
+    let note = RefCell::new(Note {
+        reason: String::new(alloc),
+        is_of_signer: false,
+    });
+    let taken = Cell::new(0);
+    let mut teller = Verbose {
+        alloc,
+        out: err,
+        note: &note,
+        taken: &taken,
+        done: 0,
+        offset: 0,
+        file,
+        aad,
+    };
+    match begin(alloc, file.bytes, aad) {
+        Ok(beginning) => {
+            let judge = HmacJudge::prepared(alloc, &beginning.keys);
+            let aad = beginning.aad.as_slice();
+            let reasons = Reasons::new(alloc, &beginning.keys, aad.len(), &note);
+            let mut judge = Explained { judge, reasons };
+            let mut input = Counted {
+                reader: input,
+                taken: &taken,
+            };
+            run_told(alloc, terms, aad, &mut input, out, &mut teller, &mut judge)
+        }
+        Err(why) => {
+            teller.not_begun(why);
+            why.status()
+        }
+    }
+}
