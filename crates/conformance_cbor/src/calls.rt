@@ -4,7 +4,7 @@ use crate::typed::{self, Route};
 use crate::{accessors, heads, items, labels, notation, orders, pieces, registries, shown, values};
 use cbor_diag::Style;
 
-/// The word in front. What is after it is left.
+/// The argument in front. What is after it is left.
 fn word<'a>(row: &mut &'a str) -> &'a str {
     match row.split_once(' ') {
         Some((word, rest)) => {
@@ -19,7 +19,7 @@ fn word<'a>(row: &mut &'a str) -> &'a str {
     }
 }
 
-/// What the call answers that the first word names.
+/// What the call returns that the first argument names.
 pub fn answer(to: &mut Out, row: &str) {
     let mut row = row;
     let call = word(&mut row);

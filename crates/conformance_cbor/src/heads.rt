@@ -99,7 +99,7 @@ fn head_of<P: StringKind>(to: &mut Out, header: Header) {
     }
 }
 
-/// The limit of pieces that a word is. `-` stands for none.
+/// The limit of pieces that an argument is. `-` stands for none.
 fn limit(to: &mut Out, word: &str) -> Option<usize> {
     if word == "-" {
         return None;

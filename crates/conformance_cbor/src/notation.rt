@@ -11,7 +11,7 @@ pub fn diagnostic(to: &mut Out, bytes: &[u8], limit: usize) {
     }
 }
 
-/// A value in diagnostic notation. A float stands by its bits in hex, so that its width is seen.
+/// A value in diagnostic notation. A float is its bits in hex, so that its width is seen.
 pub fn note(to: &mut Out, value: &Value) {
     match value {
         Value::Array(items) => {

@@ -127,7 +127,7 @@ impl Out {
         }
     }
 
-    /// The bytes of which a word is the hex. `-` stands for none.
+    /// The bytes of which an argument is the hex. `-` stands for none.
     pub fn bytes(&mut self, word: &str) -> Vec<u8> {
         if word == "-" {
             return Vec::new(self.alloc);
@@ -141,7 +141,7 @@ impl Out {
         }
     }
 
-    /// The number that a word is.
+    /// The number that an argument is.
     pub fn number<T: FromStr<Err = ParseIntError> + Default>(&mut self, word: &str) -> T {
         match word.parse::<T>() {
             Ok(number) => number,

@@ -47,7 +47,7 @@ fn tell_byte_string(to: &mut Out, segments: &mut Segments<'_, &[u8], Bytes>, roo
     let _again = tell_byte_segment(to, segments, room);
 }
 
-/// Whether there was a segment. It stands in brackets: its length, its pieces, and twice that there
+/// Whether there was a segment. It is in brackets: its length, its pieces, and twice that there
 /// are no more or why.
 fn tell_byte_segment(to: &mut Out, segments: &mut Segments<'_, &[u8], Bytes>, room: usize) -> bool {
     match segments.pull() {
@@ -79,7 +79,7 @@ fn tell_byte_pieces(to: &mut Out, segment: &mut Segment<'_, '_, &[u8], Bytes>, r
     to.text("] ");
 }
 
-/// Whether there was a piece that is not empty. It stands after a comma, with what is left of the
+/// Whether there was a piece that is not empty. It is after a comma, with what is left of the
 /// segment.
 fn tell_byte_piece(to: &mut Out, segment: &mut Segment<'_, '_, &[u8], Bytes>, room: usize) -> bool {
     let mut buffer = [0u8; 8];

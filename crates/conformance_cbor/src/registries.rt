@@ -9,7 +9,7 @@ use cose_iana::{
 };
 use std::fmt::Debug;
 
-/// The name of the registry's entry with the number that a word is, and the number again.
+/// The name of the registry's entry with the number that an argument is, and the number again.
 pub fn named(to: &mut Out, registry: &str, word: &str) {
     let number = to.number(word);
     entry(to, registry, Some(number));
@@ -126,7 +126,7 @@ fn tell_private(to: &mut Out, is_private: bool, bound: i64) {
     to.show(&bound);
 }
 
-/// The entry with the number that a word is.
+/// The entry with the number that an argument is.
 pub fn found<T: EnumI64>(to: &mut Out, word: &str) -> Option<T> {
     let entry = T::from_i64(to.number(word));
     if entry.is_none() {

@@ -4,7 +4,7 @@ use crate::{
     errors, exact, items, keys, limits, messages, parts, protected, structures, tags, widest,
 };
 
-/// The next word of a row, which has the others then.
+/// The next argument of a row, which has the others then.
 fn word<'a>(row: &mut &'a str) -> &'a str {
     match row.split_once(' ') {
         Some((word, rest)) => {
@@ -19,7 +19,7 @@ fn word<'a>(row: &mut &'a str) -> &'a str {
     }
 }
 
-/// What the call answers that the first word names.
+/// What the call returns that the first argument names.
 pub fn answer(to: &mut Out, row: &str) {
     let mut row = row;
     let call = word(&mut row);

@@ -68,8 +68,8 @@ where
     copied(to, read, copy);
 }
 
-/// What is written of a copy of what was read, and what is written of the value itself, where that
-/// is something else.
+/// What is written of a copy of what was read, and what is written of the value itself, if that is
+/// something else.
 pub fn copied<T, C>(to: &mut Out, read: Result<T, CoseError>, copy: C)
 where
     T: CborSerializable + PartialEq,

@@ -8,7 +8,7 @@ use coset::{
     CoseSignature, Header, Limits, ProtectedHeader,
 };
 
-/// The limits that two words are.
+/// The limits that two arguments are.
 pub fn limits(to: &mut Out, nesting: &str, layers: &str) -> Option<Limits> {
     let nesting = to.size(nesting);
     let layers = to.size(layers);

@@ -148,7 +148,7 @@ impl Out {
         }
     }
 
-    /// The bytes that a word is in hex. `-` has none.
+    /// The bytes that an argument is in hex. `-` has none.
     pub fn bytes(&mut self, word: &str) -> Vec<u8> {
         if word == "-" {
             return Vec::new(self.alloc);
@@ -162,7 +162,7 @@ impl Out {
         }
     }
 
-    /// The number that a word is.
+    /// The number that an argument is.
     pub fn number(&mut self, word: &str) -> i64 {
         match word.parse::<i64>() {
             Ok(number) => number,
@@ -173,7 +173,7 @@ impl Out {
         }
     }
 
-    /// The length or limit that a word is.
+    /// The length or limit that an argument is.
     pub fn size(&mut self, word: &str) -> usize {
         match word.parse::<usize>() {
             Ok(size) => size,

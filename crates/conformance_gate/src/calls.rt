@@ -2,7 +2,7 @@
 use crate::out::{NoAnswer, Out};
 use crate::{asking, buffers, cutting, gating, judging, program, showing, streaming, uses, words};
 
-/// What the call answers that the first word names.
+/// What the call returns that the first argument names.
 pub fn answer(to: &mut Out, row: &str) {
     let mut row = row;
     let name = words::word(to, &mut row);
@@ -14,7 +14,7 @@ pub fn answer(to: &mut Out, row: &str) {
     end(to, row);
 }
 
-/// What the call answers, with its input whole.
+/// What the call returns, with its input whole.
 pub fn uncut(to: &mut Out, row: &str) {
     let mut row = row;
     let name = words::word(to, &mut row);
@@ -22,7 +22,7 @@ pub fn uncut(to: &mut Out, row: &str) {
     end(to, row);
 }
 
-/// No call has words that are left.
+/// No call has arguments that are left.
 fn end(to: &mut Out, row: &str) {
     if !row.is_empty() {
         to.refuse(NoAnswer::NoCall);

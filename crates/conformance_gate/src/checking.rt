@@ -42,7 +42,7 @@ pub fn is_fed(to: &mut Out, row: &mut &str) {
     }
 }
 
-/// The program over these words: its status, its output, and its lines.
+/// The program with these arguments: its status, its output, and its lines.
 pub fn program(to: &mut Out, row: &mut &str) {
     let keys = words::optional(to, row);
     let input = words::bytes(to, row);

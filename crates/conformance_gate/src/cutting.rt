@@ -19,7 +19,7 @@ struct Stretch {
     answer: Out,
 }
 
-/// What a call answers whose argument at this place is cut to each number of bytes, up to the
+/// What a call returns whose argument at this place is cut to each number of bytes, up to the
 /// whole: equal answers in a row are told once, and the others are parted by ` / `.
 pub fn answers(to: &mut Out, row: &mut &str) {
     let place = words::number(to, row);
@@ -59,7 +59,7 @@ fn parted<'a>(to: &mut Out, place: usize, call: &'a str) -> Call<'a> {
     }
 }
 
-/// What the call answers whose argument is cut to so many bytes.
+/// What the call returns whose argument is cut to so many bytes.
 fn cut_to(to: &mut Out, call: &Call<'_>, count: usize) -> Out {
     let mut row = Out::new(to.alloc());
     row.text(call.before);
@@ -75,7 +75,7 @@ fn cut_to(to: &mut Out, call: &Call<'_>, count: usize) -> Out {
     answer
 }
 
-/// The first bytes of a word in hex.
+/// The first bytes of an argument in hex.
 fn front<'a>(to: &mut Out, word: &'a str, count: usize) -> &'a str {
     match word.get(..count.saturating_mul(2)) {
         Some("") => "-",

@@ -36,7 +36,7 @@ pub fn numbers(to: &mut Out, row: &mut &str) {
     to.hex(out.as_written());
 }
 
-/// So many heads and strings in their shortest heads, after bytes that stand in front.
+/// So many heads and strings in their shortest heads, after bytes in front of them.
 pub fn shortened(to: &mut Out, row: &mut &str) {
     let front = words::bytes(to, row);
     let count = words::number(to, row);

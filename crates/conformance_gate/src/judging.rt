@@ -8,7 +8,7 @@ use cose_show_core::{KeyBook, Question, reason};
 use coset_keys::CoseKeySet;
 use coset_labels::CborSerializable;
 
-/// The protected header that the next word is in hex, as received.
+/// The protected header that the next argument is in hex, as received.
 fn read_protected(to: &mut Out, row: &mut &str) -> ProtectedHeader {
     let bytes = words::bytes(to, row);
     match ProtectedHeader::from_cbor_bstr(to.alloc(), Value::Bytes(bytes)) {
@@ -20,7 +20,7 @@ fn read_protected(to: &mut Out, row: &mut &str) -> ProtectedHeader {
     }
 }
 
-/// The header that the next word is in hex.
+/// The header that the next argument is in hex.
 fn read_header(to: &mut Out, row: &mut &str) -> Header {
     let bytes = words::bytes(to, row);
     match Header::from_slice(to.alloc(), &bytes) {
@@ -32,7 +32,7 @@ fn read_header(to: &mut Out, row: &mut &str) -> Header {
     }
 }
 
-/// The key set that the next word is in hex.
+/// The key set that the next argument is in hex.
 pub fn read_keys(to: &mut Out, row: &mut &str) -> CoseKeySet {
     let bytes = words::bytes(to, row);
     match CoseKeySet::from_slice(to.alloc(), &bytes) {
@@ -66,7 +66,7 @@ struct Case {
     size: usize,
 }
 
-/// The case that the next words are.
+/// The case that the next arguments are.
 fn read_case(to: &mut Out, row: &mut &str) -> Case {
     Case {
         keys: read_keys(to, row),

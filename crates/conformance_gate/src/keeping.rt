@@ -6,7 +6,7 @@ use ciborium_value::Value;
 use cose_gate::{CoseError, Header, iana};
 use coset_labels::CborSerializable;
 
-/// A header with the algorithm HMAC 256/256 and the key id that the next word is.
+/// A header with the algorithm HMAC 256/256 and the key id that the next argument is.
 fn made(to: &mut Out, row: &mut &str) -> Header {
     let key_id = words::bytes(to, row);
     match callers::heading::plain_header(to.alloc(), iana::Algorithm::HMAC_256_256, &key_id) {
@@ -75,7 +75,7 @@ fn told(to: &mut Out, yes: Result<bool, CoseError>) {
     }
 }
 
-/// A key in its one spelling.
+/// A key in its canonical encoding.
 pub fn spelling(to: &mut Out, row: &mut &str) {
     let key = words::bytes(to, row);
     to.written(callers::keeping::spelling(to.alloc(), &key));

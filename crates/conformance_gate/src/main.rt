@@ -1,5 +1,5 @@
 //! `conformance_gate`: reads rows of a call and its answer from standard input, and prints each row
-//! whose call answers otherwise, and how many rows there were. README.md beside src/ says which
+//! whose call returns otherwise, and how many rows there were. README.md beside src/ says which
 //! calls there are.
 #![tactic(auto)]
 

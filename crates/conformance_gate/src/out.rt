@@ -63,7 +63,7 @@ impl Out {
         self.refuse(NoAnswer::NotRead(error));
     }
 
-    /// There is no answer if another one, on which this one rests, is none.
+    /// There is no answer if another one, on which this one depends, is none.
     pub fn refuse_as(&mut self, other: &Out) {
         if let Some(why) = other.fault {
             self.refuse(why);
@@ -83,7 +83,7 @@ impl Out {
         self.note(done);
     }
 
-    /// Appends a separator, where something stands before it.
+    /// Appends a separator, if something is before it.
     pub fn apart(&mut self, separator: &str) {
         if !self.text.is_empty() {
             self.text(separator);

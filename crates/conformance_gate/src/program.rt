@@ -4,7 +4,7 @@ use crate::words;
 use cose_gate::{Limits, Mem, Terms, Write};
 use std::alloc::Global;
 
-/// A run with these keys and this word of external data: its status, its output, and its lines.
+/// A run with these keys and this AADHEX: its status, its output, and its lines.
 pub fn run(to: &mut Out, row: &mut &str) {
     let keys = words::optional(to, row);
     let aad = aad_word(words::word(to, row));
@@ -108,7 +108,7 @@ fn commanded<W: Write, E: Write>(
     cose_gate_command::program(alloc, all, keys, "no such file", &mut reader, out, err)
 }
 
-/// The word AADHEX. `-` is the empty word, and `none` is no word.
+/// The argument AADHEX. `-` is the empty one, and `none` is none.
 fn aad_word(word: &str) -> Option<&str> {
     match word {
         "none" => None,
@@ -129,7 +129,7 @@ pub fn add_ended(to: &mut Out, status: u8, out: &[u8], err: &[u8]) {
     }
 }
 
-/// KEYS and AADHEX of the words of a command line.
+/// KEYS and AADHEX of the arguments of a command line.
 pub fn arguments(to: &mut Out, row: &mut &str) {
     let all = words::owned(to, row);
     match cose_gate::words(all.as_slice()) {

@@ -64,7 +64,7 @@ fn number(index: usize, findings: &mut Out) {
     findings.text(": ");
 }
 
-/// What a call answers, or why there is no answer.
+/// What a call returns, or why there is no answer.
 fn answer_of(alloc: Global, call: &str) -> Out {
     let mut answer = Out::new(alloc);
     calls::answer(&mut answer, call);

@@ -2,7 +2,7 @@
 use crate::out::{NoAnswer, Out};
 use crate::{checking, heads, items, keeping, relaying, signing};
 
-/// What the call with this name answers.
+/// What the call with this name returns.
 pub fn answer(to: &mut Out, name: &str, row: &mut &str) {
     match name {
         "first-head" => heads::first(to, row),

@@ -1,8 +1,8 @@
-//! Words of a row: arguments of a call, each taken from its front.
+//! Arguments of a row's call, each taken from the front of the row.
 use crate::out::{NoAnswer, Out};
 use cose_gate::Limits;
 
-/// The next word.
+/// The next argument.
 pub fn word<'a>(to: &mut Out, row: &mut &'a str) -> &'a str {
     if row.is_empty() {
         to.refuse(NoAnswer::NoCall);
@@ -16,14 +16,14 @@ pub fn word<'a>(to: &mut Out, row: &mut &'a str) -> &'a str {
     }
 }
 
-/// All words that are left.
+/// All arguments that are left.
 pub fn rest<'a>(row: &mut &'a str) -> &'a str {
     let rest = *row;
     *row = "";
     rest
 }
 
-/// The bytes that a word is in hex. `-` is none.
+/// The bytes that an argument is in hex. `-` is none.
 pub fn decoded(to: &mut Out, word: &str) -> Vec<u8> {
     if word == "-" {
         return Vec::new(to.alloc());
@@ -37,13 +37,13 @@ pub fn decoded(to: &mut Out, word: &str) -> Vec<u8> {
     }
 }
 
-/// The bytes that the next word is.
+/// The bytes that the next argument is.
 pub fn bytes(to: &mut Out, row: &mut &str) -> Vec<u8> {
     let word = word(to, row);
     decoded(to, word)
 }
 
-/// The bytes that the next word is. `none` is no bytes at all.
+/// The bytes that the next argument is. `none` is no bytes at all.
 pub fn optional(to: &mut Out, row: &mut &str) -> Option<Vec<u8>> {
     let word = word(to, row);
     if word == "none" {
@@ -52,7 +52,7 @@ pub fn optional(to: &mut Out, row: &mut &str) -> Option<Vec<u8>> {
     Some(decoded(to, word))
 }
 
-/// The bytes that the last word is, if there is one.
+/// The bytes that the last argument is, if there is one.
 pub fn last(to: &mut Out, row: &mut &str) -> Option<Vec<u8>> {
     if row.is_empty() {
         return None;
@@ -60,7 +60,7 @@ pub fn last(to: &mut Out, row: &mut &str) -> Option<Vec<u8>> {
     Some(bytes(to, row))
 }
 
-/// The number that a word is.
+/// The number that an argument is.
 pub fn parsed(to: &mut Out, word: &str) -> usize {
     match word.parse::<usize>() {
         Ok(number) => number,
@@ -71,13 +71,13 @@ pub fn parsed(to: &mut Out, word: &str) -> usize {
     }
 }
 
-/// The number that the next word is.
+/// The number that the next argument is.
 pub fn number(to: &mut Out, row: &mut &str) -> usize {
     let word = word(to, row);
     parsed(to, word)
 }
 
-/// The limits that the next two words are.
+/// The limits that the next two arguments are.
 pub fn limits(to: &mut Out, row: &mut &str) -> Limits {
     let nesting = number(to, row);
     let layers = number(to, row);
@@ -90,7 +90,7 @@ pub fn limits(to: &mut Out, row: &mut &str) -> Limits {
     }
 }
 
-/// All words that are left, as those of a command line.
+/// All arguments that are left, as those of a command line.
 pub fn owned(to: &mut Out, row: &mut &str) -> Vec<String> {
     let mut owned = Vec::new(to.alloc());
     for word in rest(row).split(' ') {

@@ -33,7 +33,7 @@ pub fn asks_for_help(all: &[String]) -> bool {
     }
 }
 
-/// The arguments `[--strict] [--lines] [AADHEX]`; `None` if they are others. Options may stand
+/// The arguments `[--strict] [--lines] [AADHEX]`; `None` if they are others. Options may be
 /// before and after AADHEX.
 pub fn ask_arguments(all: &[String]) -> Option<AskArguments<'_>> {
     let mut strict = false;
@@ -54,7 +54,7 @@ pub fn ask_arguments(all: &[String]) -> Option<AskArguments<'_>> {
     })
 }
 
-/// The arguments `[--strict] ACCEPTED [AADHEX]`; `None` if they are others. Options may stand
+/// The arguments `[--strict] ACCEPTED [AADHEX]`; `None` if they are others. Options may be
 /// anywhere.
 pub fn pass_arguments(all: &[String]) -> Option<PassArguments<'_>> {
     let mut strict = false;

@@ -32,7 +32,7 @@ pub record Call (T S E : Type 0) : Type 0 where
   pub old : Sight T S
   pub new : Sight T S
 
--- by the words that the bounds of its reader, writer, report and judge bring, within these limits
+-- by what the bounds of its reader, writer, report and judge bring, within these limits
 -- and over this external data
 abbrev pub call_of : {R E W F P J : Type 0} (r : Reads R E) (w : Writes W F) (p : Reports P)
     (j : Judges J) → Bounds → List ℕ
@@ -223,7 +223,7 @@ HoldsNoMemory (Decode e) = IsNoMemory e
 HoldsNoMemory Write = Unit {0}
 HoldsNoMemory Memory = Unit {0}
 
--- what a call of the gate promises, by the words that the bounds of its reader, writer, report and
+-- what a call of the gate promises, by what the bounds of its reader, writer, report and
 -- judge bring, within these limits and over this external data; by what it works on as the call
 -- begins and as it returns, and by what it returns
 pub record Gates {R E W F P J : Type 0}

@@ -72,7 +72,7 @@ pub fn gate_with<R: Read, W: Write, P: Report, J: Judge>(
 }
 
 /// As `gate`, and strict: a message passes only if its item is already what would be written for it
-/// (RFC 8949, section 4.2, with the fields of headers in fixed order). One that is spelled
+/// (RFC 8949, section 4.2, with the fields of headers in fixed order). One that is encoded
 /// otherwise is refused as `NotShortest`, and the judge isn't asked about it. So the output is the
 /// received bytes of the messages that pass, joined: the law `output_is_received`. No header may
 /// wait in the decoder. No copy of an item's bytes is kept.

@@ -20,7 +20,7 @@ use std::{env, fs, io};
 /// Bytes are read and written in blocks of this length, and lines too.
 const BLOCK: usize = 65536;
 
-/// What `-h` and `--help` answer. The script `cose-gate` answers the same.
+/// What `-h` and `--help` print. The script `cose-gate` prints the same.
 const HELP: &str = "\
 usage: cose-gate [--strict] [--verbose] KEYS [AADHEX] < INPUT > PASSED
 Reads a CBOR sequence, and writes the messages that pass, each in canonical encoding.

@@ -37,7 +37,7 @@ impl<'a> HmacJudge<'a> {
     }
 
     /// A judge by the keys of this set that sorts them by their ids, and hashes each once, for many
-    /// messages. Where memory for that is refused it is what `new` gives.
+    /// messages. If memory for that is refused, it is what `new` gives.
     pub fn prepared(alloc: Global, keys: &'a CoseKeySet) -> HmacJudge<'a>
         ensures { keys_of result ≡ key_set_view keys.now }
     {

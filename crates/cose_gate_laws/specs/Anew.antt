@@ -60,7 +60,7 @@ AreEntries limits allows aad (s ∷ ss) (e ∷ es) =
     × IsVerdict limits allows aad s.item.value s.finding e.verdict
     × AreEntries limits allows aad ss es
 
--- what else bars a message doesn't hang on how its item is spelled
+-- what else bars a message doesn't depend on how its item is encoded
 abbrev pub IgnoresSpelling : Bounds → Type 0
 IgnoresSpelling limits =
     (b c : List ℕ) (m : MessageFields) → limits.excludes b m ≡ limits.excludes c m

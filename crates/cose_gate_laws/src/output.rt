@@ -20,9 +20,9 @@ pub fn output_is_passed_messages()
 {}
 
 /// If no item that passes has in it an open array or map of more than 255 entries, an open string
-/// of 2^32 bytes or more, or a bignum spelled in 5 or 6 bytes, the output is never longer than the
-/// items that pass. Such a bignum is written as an integer of nine bytes, and may stand in seven or
-/// eight.
+/// of 2^32 bytes or more, or a bignum encoded in 5 or 6 bytes, the output is never longer than the
+/// items that pass. Such a bignum is written as an integer of nine bytes, and may be encoded in
+/// seven or eight.
 pub fn output_is_no_longer()
     ensures { (limits : Bounds) (allows : Question → Bool) (aad : List ℕ) (at : ℕ) (b : List ℕ)
         (ss : List Step) (rest : List ℕ) → Run limits allows aad at b ss rest → All (λ x. x < 256) b
@@ -32,8 +32,8 @@ pub fn output_is_no_longer()
 
 /// The output is a fixed point: of an input of fewer than 2^64 bytes, the run over the output goes
 /// through it to its end, writes the same, passes each message, and asks of it what was asked
-/// before, though the input spelled it otherwise. So wherever the output stands, and however long
-/// it is. The limits may be others, if they let through as it is written what the first let
+/// before, though the input encoded it otherwise. So wherever the output is, and however long it
+/// is. The limits may be others, if they let through as it is written what the first let
 /// through; the usual ones do so after themselves.
 pub fn output_is_fixed()
     ensures usual { Admits usual usual }

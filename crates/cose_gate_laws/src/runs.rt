@@ -50,8 +50,8 @@ pub fn refused_taken_out()
 {}
 
 /// Inputs with the same trees in the same order have the same questions, the same output and the
-/// same verdicts, wherever their items are and however they are spelled, and whatever is left after
-/// the items. What else bars a message must not depend on how its item is spelled; of the usual
+/// same verdicts, wherever their items are and however they are encoded, and whatever is left after
+/// the items. What else bars a message must not depend on how its item is encoded; of the usual
 /// limits that holds. Of a `Shape` it is open which of the value's faults it names.
 pub fn same_trees()
     ensures usual { IgnoresSpelling usual }

@@ -27,12 +27,12 @@ status_of NotHex = 2
 status_of (NoKeys e) = 3
 status_of Memory = 4
 
--- why the gate isn't run where AADHEX can't be read: it is no hex, but for being out of memory
+-- why the gate isn't run if AADHEX can't be read: it is no hex, but for being out of memory
 abbrev pub aad_fault : FromHexError → NotBegun
 aad_fault hex.OutOfMemory = Memory
 aad_fault _ = NotHex
 
--- why it isn't run where the key set can't be read
+-- why it isn't run if the key set can't be read
 abbrev pub key_set_fault : CoseError → NotBegun
 key_set_fault cose.Memory = Memory
 key_set_fault e = NoKeys e

@@ -22,7 +22,7 @@ use Rattle.cose_gate_hmac.specs.KeySets.Wrong.{WrongKeySet}
 use Rattle.cose_gate_program.specs.Beginning.{aad_of}
 use Rattle.cose_gate_program.specs.declared.devices.InputFault.{InputFault}
 
--- what the reader and the writer have given and taken: the bytes to come and those written, where
+-- what the reader and the writer have given and taken: the bytes to come and those written, if
 -- they are known, and how often each has failed
 pub record Devices : Type 0 where
   pub left : Option (List ℕ)
@@ -30,8 +30,7 @@ pub record Devices : Type 0 where
   pub read_failures : ℕ
   pub write_failures : ℕ
 
--- what is seen of a reader and a writer; `R.Read` and `W.Write` are the words that their bounds
--- bring
+-- what is seen of a reader and a writer; `R.Read` and `W.Write` are what their bounds bring
 abbrev pub devices_of : {R E W F : Type 0} (r : Reads R E) (w : Writes W F) → R → W → Devices
 devices_of r w input out = record {
   left = r.left input;
@@ -48,7 +47,7 @@ pub record Hearing (T : Type 0) : Type 0 where
   pub before : T
   pub after : T
 
--- what is seen of a judge; `J.Judge` is the word that its bound brings
+-- what is seen of a judge; `J.Judge` is what its bound brings
 abbrev pub hearing_of : {J : Type 0} (j : Judges J) → J → J → Hearing j.Told
 hearing_of j old new = record {
   allows = j.yes (j.who old);
@@ -96,8 +95,8 @@ pub record Torn (allows : Question → Bool) (aad : List ℕ) (left : Option (Li
   pub behind : IfKnown left (λ b. b ≡ more)
 
 -- why a run stopped after these steps, with `more` to come, and what was written of their output: a
--- torn text where the writer failed; all of it where the whole input was gone through and the flush
--- failed, where the reader failed, or no readable item comes; and where there was no memory, all or
+-- torn output if the writer failed; all of it if the whole input was gone through and the flush
+-- failed, if the reader failed, or no readable item comes; and if memory ran out, all or
 -- that before the last step. Then the reader is after that step's item. If each step was done, an
 -- item was to come, and the reader is in it; so it does if no readable item comes, but at an end.
 -- What is left after a reader that failed or ended is open.
@@ -160,7 +159,7 @@ pub record RanOn (limits : Bounds) (allows : Question → Bool) (aad : List ℕ)
   pub steady : status < 2
       → (new.read_failures ≡ old.read_failures) × (new.write_failures ≡ old.write_failures)
 
--- which questions were asked where a run stopped so: all about its steps. If out of memory, all
+-- which questions were asked if a run stopped so: all about its steps. If out of memory, all
 -- about those before the last, and some about the last; all about it if its text was written.
 abbrev pub IsAskedAt : {limits : Bounds} {old new : Devices} {more : List ℕ}
     (allows : Question → Bool) (aad : List ℕ) (steps : List Step) (front : List ℕ)
@@ -175,7 +174,7 @@ IsAskedAt allows aad steps front (memory done last parts one due behind texts) a
     IsFront (questions_of allows aad done) asked × IsFront asked (questions_of allows aad steps)
     × (front ≢ output_of allows aad done → asked ≡ questions_of allows aad steps)
 
--- which were asked in a run: all about its steps where it went through the whole input
+-- which were asked in a run: all about its steps if it went through the whole input
 abbrev pub IsAskedBy : {E : Type 0} (limits : Bounds) (allows : Question → Bool) (aad : List ℕ)
     (old new : Devices) (b : List ℕ) (steps : List Step) (r : Result Counts (GateFault E))
     → GatedOver limits allows aad old new b steps r → List Question → Type 0
@@ -220,7 +219,7 @@ pub record RanJudged {T : Type 0} (limits : Bounds) (hearing : Hearing T) (aad :
   pub asked : IsAskedIn limits hearing.allows aad old new on.ran.input on.ran.steps status
       on.ran.over heard.told.front
 
--- how the program ends: where KEYS holds a key set, and AADHEX is hex or absent, after a run with
+-- how the program ends: if KEYS holds a key set, and AADHEX is hex or absent, after a run with
 -- them; else nothing was read and nothing written. KEYS is tested before AADHEX, and AADHEX before
 -- what KEYS holds; memory for these may be refused before the run.
 pub data EndsWithin (limits : Bounds) (allows : List KeyFields → Question → Bool)
@@ -242,8 +241,8 @@ abbrev pub Ends : (List KeyFields → Question → Bool) → Option (List ℕ) �
     → Devices → Devices → ℕ → Type 0
 Ends allows keys aad old new status = EndsWithin usual allows keys aad old new status
 
--- how it ends where it is handed the bytes of KEYS, and the external data as bytes: where they hold
--- a key set after a run with it; else nothing was read and nothing written
+-- how it ends if it is handed the bytes of KEYS, and the external data as bytes: if they hold a key
+-- set, after a run with it; else nothing was read and nothing written
 abbrev pub EndsOver : Bounds → (List KeyFields → Question → Bool) → List ℕ → List ℕ
     → Devices → Devices → ℕ → Type 0
 EndsOver limits allows keys aad old new status =

@@ -2,8 +2,8 @@
 ghost use Rattle.std.specs.Prelude.{◌≡◌, map, option_map, option_copied, string_bytes};
 ghost use Rattle.cose_gate_program.specs.Words as spec;
 
-/// KEYS, and AADHEX if it is there, of the words after the program's name; `None` if these are no
-/// word, or more than two.
+/// KEYS, and AADHEX if it is there, of the arguments after the program's name; `None` if there is
+/// no argument, or more than two.
 pub fn words(all: &[String]) -> Option<(&str, Option<&str>)>
     ensures { option_map (λ w. (w.0.now, option_copied w.1)) result
         ≡ spec.words (map string_bytes all.now) }

@@ -1,4 +1,4 @@
-//! The program `cose-gate KEYS [AADHEX]` over any reader and writers: its words, and a run of the
+//! The program `cose-gate KEYS [AADHEX]` over any reader and writers: arguments, and a run of the
 //! gate with the judge by HMAC, or with any other. A user names `cose_gate`, which passes it on.
 #![tactic(auto)]
 

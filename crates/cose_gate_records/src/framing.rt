@@ -60,7 +60,7 @@ pub(crate) fn split(alloc: Global, bytes: &[u8]) -> Result<Option<Vec<&[u8]>>, A
     Ok(Some(pieces))
 }
 
-/// How the text stands to any text that begins with these bytes, where they tell; else what of it
+/// The order of the text and any text that begins with these bytes, if they tell; else what of it
 /// is after as many.
 pub(crate) fn order_to<'a>(text: &'a [u8], front: &[u8]) -> (Ordering, &'a [u8])
     ensures { (more : List ℕ) → bytes_cmp text.now (front.now ++ more)
@@ -70,7 +70,7 @@ pub(crate) fn order_to<'a>(text: &'a [u8], front: &[u8]) -> (Ordering, &'a [u8])
     (head.cmp(&front), rest)
 }
 
-/// How the text stands to any text that begins with the framed bytes, where they tell; else what of
+/// The order of the text and any text that begins with the framed bytes, if they tell; else what of
 /// it is after as many.
 pub(crate) fn order_to_framed<'a>(text: &'a [u8], piece: &[u8]) -> (Ordering, &'a [u8])
     ensures { (more : List ℕ) → bytes_cmp text.now (framed piece.now ++ more)

@@ -9,7 +9,7 @@ ghost use Rattle.cose_gate_records.specs.Order.{bytes_cmp};
 use crate::held::Held;
 use ciborium_ll::log::Log;
 
-/// Keys, each as the place where its bytes stand, and the history of how they were received.
+/// Keys, each as the place of its bytes, and the history of how they were received.
 #[derive(Drop)]
 pub(crate) struct Ordered<'a> {
     places: Vec<&'a [u8]>,

@@ -1,4 +1,4 @@
-//! What the judge of the program `cose-gate` answers.
+//! What the judge of the program `cose-gate` answers, and why.
 use crate::keys::KeyBook;
 use crate::stop::Stop;
 use crate::why::{Question, reason};
@@ -41,7 +41,7 @@ impl<'a> Asking<'a> {
         Ok(Asking { judge, book })
     }
 
-    /// What the judge answers about an item about which the gate asks this; none where it asks
+    /// What the judge answers about an item with this question of the gate; none if the gate asks
     /// nothing.
     ///
     /// # Errors

@@ -66,7 +66,7 @@ pub fn around(held: &[u8], at: usize) -> (&[u8], &[u8]) {
     (before, behind)
 }
 
-/// Shows the bytes around a place, of which those before it stand in front of a bar.
+/// Shows the bytes around a place, with a bar after those before it.
 fn show_around<P: fmt::Write>(held: &[u8], offset: usize, at: usize, page: &mut P) -> fmt::Result {
     let (before, behind) = around(held, at);
     let first = at.saturating_sub(before.len());

@@ -242,7 +242,7 @@ fn messages_are_built_and_decrypted(rt: HostRuntime) {
     );
 }
 
-/// What is met where a cipher fails that is handed a plaintext.
+/// What is met if a cipher fails that is handed a plaintext.
 fn encrypt0_fails(alloc: Global) -> Option<Met> {
     CoseEncrypt0Builder::new(alloc)
         .ciphertext(Vec::new(alloc))

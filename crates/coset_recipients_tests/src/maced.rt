@@ -151,7 +151,7 @@ fn a_signer_that_may_fail_is_handed_the_structure(rt: HostRuntime) {
     makes(&rt, alloc, built, "84634d4143404040");
 }
 
-/// What is met where this header can't be written and a signer fails.
+/// What is met if this header can't be written and a signer fails.
 fn mac_fails(alloc: Global, header: Header) -> Option<Met> {
     CoseMacBuilder::new(alloc)
         .protected(header)

@@ -1,6 +1,6 @@
-//! Each call that asks for memory, with memory enough and where it is refused: the answer is then
+//! Each call that asks for memory, with memory enough and if it is refused: the result is then
 //! `Memory`, and no cipher, signer or verifier was asked (`watched!`). All memory here is asked for
-//! in functions that answer `Memory` themselves, so `refused_memory_is_the_answer` also holds if
+//! in functions that return `Memory` themselves, so `refused_memory_is_the_answer` also holds if
 //! one allocation is refused, whichever it is.
 use crate::encrypted::{
     encrypt_is_decrypted, encrypt_is_given, encrypt0_is_decrypted, encrypt0_is_given,
@@ -73,7 +73,7 @@ fn are_written_back(alloc: Global) -> Result<bool, CoseError> {
     Ok(is_written_back && is_read_again)
 }
 
-/// What was met by a call whose closures fail only where there is no memory, or where a part is
+/// What was met by a call whose closures fail only if there is no memory, or if a part is
 /// missing that isn't.
 fn flat(answer: Result<bool, Met>) -> Result<bool, CoseError> {
     match answer {
@@ -83,7 +83,7 @@ fn flat(answer: Result<bool, Met>) -> Result<bool, CoseError> {
     }
 }
 
-/// What calls of recipients answer.
+/// What calls of recipients return.
 fn of_recipients(alloc: Global) -> [Result<bool, CoseError>; 3] {
     [
         are_written_back(alloc),
@@ -92,7 +92,7 @@ fn of_recipients(alloc: Global) -> [Result<bool, CoseError>; 3] {
     ]
 }
 
-/// What calls of encrypted messages answer.
+/// What calls of encrypted messages return.
 fn of_encrypted(alloc: Global) -> [Result<bool, CoseError>; 6] {
     [
         is_written_back::<CoseEncrypt0>(alloc, ENCRYPT0, 0),
@@ -104,7 +104,7 @@ fn of_encrypted(alloc: Global) -> [Result<bool, CoseError>; 6] {
     ]
 }
 
-/// What calls of authenticated messages answer.
+/// What calls of authenticated messages return.
 fn of_maced(alloc: Global) -> [Result<bool, CoseError>; 6] {
     [
         is_written_back::<CoseMac0>(alloc, MAC0, 0),
@@ -124,7 +124,7 @@ fn memory_is_enough(rt: HostRuntime) {
     same(&rt, &of_maced(alloc), &[Ok(true); 6], "authenticated");
 }
 
-/// Memory was enough for each call, or the answer is that it was refused.
+/// Memory was enough for each call, or the result is that it was refused.
 fn may_be_refused(rt: &impl Abort, answers: &[Result<bool, CoseError>]) {
     for answer in answers {
         assert!(rt;

@@ -37,7 +37,7 @@ fn sealed(
     Ok(built.build())
 }
 
-/// What a cipher is handed, also where no ciphertext is carried.
+/// What a cipher is handed, also if no ciphertext is carried.
 fn opened(
     alloc: Global,
     recipient: &CoseRecipient,

@@ -26,7 +26,7 @@ pub(crate) fn fails<T>(_first: &[u8], _second: &[u8]) -> Result<T, CoseError> {
     Err(ASKED)
 }
 
-/// What a verifier answers that is content or isn't.
+/// What a verifier returns that is content or isn't.
 pub(crate) fn content(is_content: bool) -> Result<(), CoseError> {
     if is_content { Ok(()) } else { Err(ASKED) }
 }
@@ -46,7 +46,7 @@ pub(crate) const LONG: &[u8] = &[7; 300];
 /// it hadn't asked.
 const UNTRUE: CoseError = CoseError::UnexpectedItem("a call", "another one");
 
-/// What a call answers, where its closure was asked exactly if the answer isn't the call's own
+/// What a call returns, if its closure was asked exactly if the result isn't the call's own
 /// fault, such as being out of memory.
 pub(crate) fn watch<T: Drop>(is_asked: bool, answer: Result<T, Met>) -> Result<T, Met> {
     if is_asked == matches!(answer, Err(Fault::Cose(_))) {
@@ -55,7 +55,7 @@ pub(crate) fn watch<T: Drop>(is_asked: bool, answer: Result<T, Met>) -> Result<T
     answer
 }
 
-/// What a call answers whose closure sets this flag: `watched!(asked, CALL)`.
+/// What a call returns whose closure sets this flag: `watched!(asked, CALL)`.
 macro_rules! watched {
     ($asked:ident, $call:expr) => {{
         let mut is_asked = false;
@@ -136,7 +136,7 @@ pub(crate) fn gives<E: Debug + Drop>(
     is_hex(rt, alloc, made.as_slice(), want);
 }
 
-/// The bytes that stand in this hex.
+/// The bytes of this hex.
 fn unhex(rt: &impl Abort, alloc: Global, text: &str) -> Vec<u8> {
     hex::decode(alloc, text).expect(rt, "no hex")
 }
@@ -165,7 +165,7 @@ pub(crate) trait Message: CborSerializable + PartialEq + Debug {
     /// What a cipher or a signer made: the ciphertext or the tag.
     fn made(&self) -> &[u8];
 
-    /// How many recipients there are, where there can be some.
+    /// How many recipients there are, if there can be some.
     fn count(&self) -> usize {
         0
     }
@@ -173,7 +173,7 @@ pub(crate) trait Message: CborSerializable + PartialEq + Debug {
 
 /// A message or a recipient that is decrypted.
 pub(crate) trait Encrypted: Message {
-    /// What a cipher is handed, also where no ciphertext is carried.
+    /// What a cipher is handed, also if no ciphertext is carried.
     fn opened(&self, alloc: Global, aad: &[u8]) -> Result<Vec<u8>, Met>;
 
     /// What a cipher is handed.
@@ -240,7 +240,7 @@ pub(crate) fn is_written_back<T: Message + TaggedCborSerializable>(
     Ok(is_same && is_tagged)
 }
 
-/// Whether it is the same where it is made a value, or bytes, and read again.
+/// Whether it is the same if it is made a value, or bytes, and read again.
 pub(crate) fn is_read_again<T: Message>(alloc: Global, message: &T) -> Result<bool, CoseError> {
     let value = message.copied(alloc)?.to_cbor_value(alloc)?;
     let bytes = T::from_cbor_value(alloc, value)?.to_vec(alloc)?;
@@ -281,14 +281,14 @@ pub(crate) fn decrypts<T: Encrypted + TaggedCborSerializable>(
     gives(rt, alloc, message.to_tagged_vec(alloc), bytes);
 }
 
-/// What a cipher is handed where a message is decrypted, and what was handed is decrypted again.
+/// What a cipher is handed if a message is decrypted, and what was handed is decrypted again.
 fn opened_again<T: Encrypted>(alloc: Global, mut message: T) -> Result<Vec<u8>, Met> {
     let opened = message.opened(alloc, b"aad")?;
     message.fill(opened);
     message.decrypted(alloc, b"aad")
 }
 
-/// Whether a cipher is handed `LONG` and then these where a message is decrypted, and what was
+/// Whether a cipher is handed `LONG` and then these if a message is decrypted, and what was
 /// handed is decrypted again.
 pub(crate) fn is_decrypted<T: Encrypted>(
     alloc: Global,

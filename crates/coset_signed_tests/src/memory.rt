@@ -1,6 +1,6 @@
-//! Each call that asks for memory, with memory enough and where it is refused: the answer is then
+//! Each call that asks for memory, with memory enough and if it is refused: the result is then
 //! `Memory`, and no signer and no verifier was asked (`watched!`). All memory here is asked for in
-//! functions that answer `Memory` themselves, so `refused_memory_is_the_answer` also holds if one
+//! functions that return `Memory` themselves, so `refused_memory_is_the_answer` also holds if one
 //! allocation is refused, whichever it is.
 use crate::sign::{
     sign_is_given, sign_is_given_elsewhere, sign_is_verified, sign_is_verified_elsewhere,
@@ -26,7 +26,7 @@ const SIGN: &[u8] = &[
     0x83, 0x40, 0xa0, 0x41, 2,
 ];
 
-/// What was met by a call whose closures fail only where there is no memory, or where a signature
+/// What was met by a call whose closures fail only if there is no memory, or if a signature
 /// isn't the wanted one.
 fn flat(answer: Result<bool, Met>) -> Result<bool, CoseError> {
     match answer {
@@ -36,7 +36,7 @@ fn flat(answer: Result<bool, Met>) -> Result<bool, CoseError> {
     }
 }
 
-/// What calls of messages with one signature answer.
+/// What calls of messages with one signature return.
 fn of_sign1(alloc: Global) -> [Result<bool, CoseError>; 5] {
     [
         is_written_back::<CoseSign1>(alloc, SIGN1),
@@ -47,7 +47,7 @@ fn of_sign1(alloc: Global) -> [Result<bool, CoseError>; 5] {
     ]
 }
 
-/// What calls of messages with several signatures answer.
+/// What calls of messages with several signatures return.
 fn of_sign(alloc: Global) -> [Result<bool, CoseError>; 5] {
     [
         is_written_back::<CoseSign>(alloc, SIGN),
@@ -65,7 +65,7 @@ fn memory_is_enough(rt: HostRuntime) {
     same(&rt, &of_sign(alloc), &[Ok(true); 5], "several signatures");
 }
 
-/// Memory was enough for each call, or the answer is that it was refused.
+/// Memory was enough for each call, or the result is that it was refused.
 fn may_be_refused(rt: &impl Abort, answers: &[Result<bool, CoseError>]) {
     for answer in answers {
         assert!(rt;

@@ -241,7 +241,7 @@ pub(crate) fn sign1_is_given_elsewhere(alloc: Global) -> Result<bool, Met> {
     Ok(built.build().signature.as_slice() == LONG)
 }
 
-/// What is met where a message is not verified, as an error of any kind.
+/// What is met if a message is not verified, as an error of any kind.
 fn any_error(alloc: Global, message: &CoseSign1) -> anyhow::Result<()> {
     message.verify_signature(alloc, &[], never)?;
     Ok(())

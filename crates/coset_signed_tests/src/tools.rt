@@ -82,7 +82,7 @@ pub(crate) const LONG: &[u8] = &[7; 300];
 /// it hadn't asked.
 const UNTRUE: CoseError = CoseError::UnexpectedItem("a call", "another one");
 
-/// What a call answers, where its closure was asked exactly if the answer isn't the call's own
+/// What a call returns, if its closure was asked exactly if the result isn't the call's own
 /// fault, such as being out of memory.
 pub(crate) fn watch<T: Drop>(is_asked: bool, answer: Result<T, Met>) -> Result<T, Met> {
     if is_asked == matches!(answer, Err(Fault::Cose(_))) {
@@ -91,7 +91,7 @@ pub(crate) fn watch<T: Drop>(is_asked: bool, answer: Result<T, Met>) -> Result<T
     answer
 }
 
-/// What a call answers whose closure sets this flag: `watched!(asked, CALL)`.
+/// What a call returns whose closure sets this flag: `watched!(asked, CALL)`.
 macro_rules! watched {
     ($asked:ident, $call:expr) => {{
         let mut is_asked = false;

@@ -31,7 +31,7 @@ fn reading(alloc: Global) -> anyhow::Result<Vec<u8>> {
     Ok(out.into_inner())
 }
 
-/// The sum of an array of numbers, without memory. There is none if other items stand, or the sum
+/// The sum of an array of numbers, without memory. There is none if it has other items, or the sum
 /// is too large.
 fn sum(bytes: &[u8]) -> Option<u64> {
     let mut decoder = Decoder::from(bytes);

@@ -2,7 +2,7 @@
 use cbor_diag::{Style, write_item};
 use std::test::Fail;
 
-/// What is at most 24 bytes long stands on one line.
+/// What is at most 24 bytes long is written on one line.
 #[test]
 fn lines(rt: HostRuntime) -> Result<(), Fail> {
     let hex = "d28443a10126a10442313158185818181818181818181818181818181818181818181818189f01a0ff";

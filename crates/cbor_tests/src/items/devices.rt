@@ -63,7 +63,7 @@ impl<'a> Read for Device<'a> {
     }
 }
 
-/// What reading an item answers. It takes all, and no request is large.
+/// What reading an item returns. It takes all, and no request is large.
 fn read_in_pieces(
     rt: &impl Abort,
     alloc: Global,

@@ -24,7 +24,7 @@ fn bytes(rt: &impl Abort, alloc: Global) -> Vec<u8> {
     bytes
 }
 
-/// What is in an array, a tag or a map, where it is one.
+/// What is in an array, a tag or a map, if it is one.
 fn inside(value: Value) -> Option<Value> {
     match value {
         Value::Array(mut items) => items.pop(),

@@ -61,7 +61,7 @@ fn open(rt: &impl Abort, alloc: Global, first: u8, body: &[u8]) -> Vec<u8> {
     text
 }
 
-/// What reading an item of all these bytes answers.
+/// What reading an item of all these bytes returns.
 fn read(alloc: Global, text: &[u8]) -> Result<Value, Error<End>> {
     from_decoder(alloc, &mut Decoder::from(text), RECURSION_LIMIT)
 }

@@ -21,7 +21,7 @@ impl<'a> io::Read for Broken<'a> {
     }
 }
 
-/// What a device of std answers in place of a byte.
+/// What a device of std returns in place of a byte.
 #[derive(Clone, Copy)]
 enum Trouble {
     Nothing,
@@ -104,7 +104,7 @@ fn a_reader_of_std_gives_bytes_and_an_end_or_a_failure(rt: HostRuntime) {
     meets(&rt, &mut decoder, false);
 }
 
-/// Writes to a slice with space for 3 bytes, what each answers, and what is written then.
+/// Writes to a slice with space for 3 bytes, what each returns, and what is written then.
 const WRITES: &[(&[u8], Result<(), Full>, &[u8])] = &[
     (&[1, 2], Ok(()), &[1, 2]),
     (&[3, 4], Err(Full), &[1, 2]),

@@ -18,7 +18,7 @@ fn stands(rt: &impl Abort, decoder: &Decoder<&[u8]>, offset: usize, is_waiting: 
     holds(rt, place == (offset, is_waiting), "where a decoder stands");
 }
 
-/// Reading a byte into a buffer that holds 7 answers this, and leaves this byte there.
+/// Reading a byte into a buffer that holds 7 returns this, and leaves this byte there.
 fn reads_a_byte(
     rt: &impl Abort,
     decoder: &mut Decoder<&[u8]>,

@@ -19,7 +19,7 @@ fn next<'s, 'r, R: Read, P: StringKind>(
     segment
 }
 
-/// Pulls of the segment, which has 2 bytes, answer a fault of the device.
+/// Pulls of the segment, which has 2 bytes, return a fault of the device.
 fn fails(rt: &impl Abort, segment: &mut Segment<'_, '_, Io<Broken<'_>>, Bytes>) {
     let mut buffer = [0u8; 4];
     for _ in 0..2 {
@@ -48,7 +48,7 @@ fn a_segment_that_is_dropped_leaves_its_bytes(rt: HostRuntime) {
     holds(&rt, is_byte, "the first byte that was left");
 }
 
-/// A pull of the only segment of a byte string, which has 1 byte, answers this.
+/// A pull of the only segment of a byte string, which has 1 byte, returns this.
 fn gives(
     rt: &impl Abort,
     segments: &mut Segments<'_, &[u8], Bytes>,
@@ -82,7 +82,7 @@ fn a_header_that_waits_is_the_first_of_a_string(rt: HostRuntime) {
 /// then.
 const SMALL: &[(usize, Option<&str>, usize)] = &[(3, Some(""), 1), (4, Some("a"), 0), (3, None, 0)];
 
-/// Pulls of the segment answer these. A buffer that is too small stays as it is.
+/// Pulls of the segment return these. A buffer that is too small stays as it is.
 fn gives_text(rt: &impl Abort, segment: &mut Segment<'_, '_, &[u8], Text>) {
     for (room, want, left) in SMALL {
         let mut buffer = [7u8; 8];
@@ -100,7 +100,7 @@ fn a_small_buffer_takes_no_character(rt: HostRuntime) {
     gives_text(&rt, &mut next(&rt, &mut segments, 1));
 }
 
-/// What a pull of a piece to a buffer of 4 bytes answers, and how many bytes are left then.
+/// What a pull of a piece to a buffer of 4 bytes returns, and how many bytes are left then.
 type Piece<T> = (Result<Option<T>, Error<End>>, usize);
 
 /// Pieces of a body of bytes.

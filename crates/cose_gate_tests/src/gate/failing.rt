@@ -120,12 +120,12 @@ fn torn(alloc: Global, way: Way, calls: usize) -> Observed<End> {
     }
 }
 
-/// The answer of a run that wrote so many bytes, and how far it came.
+/// The result of a run that wrote so many bytes, and how far it came.
 fn want_of(written: usize) -> (Answer<End>, (usize, usize, usize)) {
     match written {
         // the writer can't be flushed, and wasn't
         28 => (whole(2, 1), (2, 28, 3)),
-        // the first message was noted, and the value after it, once it stood there
+        // the first message was noted, and the value after it, once it was there
         14.. => (Err(GateFault::Write), (2, written, 2)),
         _ => (Err(GateFault::Write), (1, written, 0)),
     }

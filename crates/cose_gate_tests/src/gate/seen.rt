@@ -1,14 +1,14 @@
-//! What a run asks, writes, notes and answers, and the checks of it that tests share.
+//! What a run asks, writes, notes and returns, and the checks of it that tests share.
 use cose_gate::{
     Counts, Decoder, Entry, GateFault, Judge, Limits, Mem, Read, Recorder, Report, Write, gate,
     gate_strict, gate_strict_with, gate_with,
 };
 use std::alloc::Global;
 
-/// What a run answers.
+/// What a run returns.
 pub type Answer<E> = Result<Counts, GateFault<E>>;
 
-/// The answer of a run that went through its input.
+/// The result of a run that went through its input.
 pub fn whole<E>(passed: usize, refused: usize) -> Answer<E> {
     Ok(Counts { passed, refused })
 }
@@ -55,7 +55,7 @@ pub fn answered_by<R: Read + Drop, W: Write, P: Report, J: Judge>(
     }
 }
 
-/// The answer of a run over what this reader gives.
+/// The result of a run over what this reader gives.
 pub fn answered<R: Read + Drop, W: Write, P: Report, J: Judge>(
     alloc: Global,
     reader: R,

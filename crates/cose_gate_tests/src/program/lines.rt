@@ -144,7 +144,7 @@ fn a_fault_of_the_lines_is_passed_over(rt: HostRuntime) {
     assert_eq!(rt; out.as_written(), TAGGED);
 }
 
-/// `TAGGED` with its array open: it passes, but isn't spelled as it is written.
+/// `TAGGED` with its array open: it passes, but isn't encoded as it is written.
 const OPEN: &[u8] = &[
     0xd1, 0x9f, 0x43, 0xa1, 0x01, 0x05, 0xa0, 0x42, 0x68, 0x69, 0x58, 0x20, 0x81, 0x75, 0x9b, 0xe7,
     0xe4, 0x76, 0xdf, 0x66, 0xf2, 0x2e, 0x17, 0x4e, 0xd1, 0xa2, 0x5a, 0x0e, 0x0a, 0xb5, 0x49, 0x8e,
@@ -200,7 +200,7 @@ impl Run {
     }
 }
 
-/// These runs pass an open spelling if they aren't strict, and refuse it if they are; within two
+/// These runs pass an open encoding if they aren't strict, and refuse it if they are; within two
 /// levels no message is read.
 fn all_so(rt: &impl Abort, alloc: Global, takes_hex: bool) {
     let plain = Run {

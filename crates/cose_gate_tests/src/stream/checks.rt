@@ -6,7 +6,7 @@ use cose_gate::{Decoder, Judge, Limits, Read, StreamFault, stream_check, stream_
 use std::alloc::Global;
 use std::process::Abort;
 
-/// The answer of a check of what this reader gives, within limits if there are some, and how many
+/// The result of a check of what this reader gives, within limits if there are some, and how many
 /// bytes were taken. It has no clause but the space, so that a test that calls it carries none of
 /// `stream_check`'s.
 pub fn checked<R: Read + Drop, J: Judge>(

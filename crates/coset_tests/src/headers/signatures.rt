@@ -57,7 +57,7 @@ fn signatures_are_built(rt: HostRuntime) {
     let built = signature(&rt, alloc);
     is_copied(&rt, alloc, &built);
     differs_from_read(&rt, alloc, &built);
-    // one stands by itself, and two in a list
+    // one is by itself, and two are in a list
     writes(&rt, alloc, with_one(&rt, alloc).build(), "a1078340a040");
     let list = "a107828340a0408343a10126a104413143010203";
     writes(&rt, alloc, with_two(&rt, alloc).build(), list);

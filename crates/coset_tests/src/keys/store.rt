@@ -1,4 +1,4 @@
-//! A store that keeps one spelling of each key.
+//! A store that keeps the canonical encoding of each key.
 use crate::checks::{holds, of_hex};
 use coset::{CborOrdering, CborSerializable, CoseError, CoseKey};
 use std::alloc::Global;

@@ -164,7 +164,7 @@ fn is_built_context(alloc: Global) -> Result<bool, CoseError> {
     is_written(alloc, context(alloc)?, &want)
 }
 
-/// What calls that read, copy and write answer.
+/// What calls that read, copy and write return.
 fn of_bytes(alloc: Global) -> [Result<bool, CoseError>; 5] {
     [
         is_written_back::<Header>(alloc, HEADER),
@@ -175,7 +175,7 @@ fn of_bytes(alloc: Global) -> [Result<bool, CoseError>; 5] {
     ]
 }
 
-/// What calls of builders answer.
+/// What calls of builders return.
 fn of_builders(alloc: Global) -> [Result<bool, CoseError>; 4] {
     [
         is_built_header(alloc),
@@ -191,7 +191,7 @@ fn memory_is_enough(rt: HostRuntime) {
     assert_eq!(rt; of_builders(rt.alloc()), [Ok(true); 4]);
 }
 
-/// Memory was enough for each call, or the answer is that it was refused.
+/// Memory was enough for each call, or the result is that it was refused.
 fn may_be_refused(rt: &impl Abort, answers: &[Result<bool, CoseError>]) {
     for answer in answers {
         assert!(rt;
