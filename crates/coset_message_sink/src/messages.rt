@@ -12,8 +12,8 @@ use coset_maced::{CoseMac, CoseMac0};
 use coset_signed::{CoseSign, CoseSign1};
 use coset_sink::put_signatures;
 
-/// Writes a COSE_Sign1 without its tag (RFC 9052, section 4.2). A payload that is carried elsewhere is
-/// null. Protected headers are written as `coset_sink::put_protected` does.
+/// Writes a COSE_Sign1 without its tag (RFC 9052, section 4.2). A payload that is carried elsewhere
+/// is null. Protected headers are written as `coset_sink::put_protected` does.
 ///
 /// # Errors
 /// The sink's; it took a beginning of the events then, and refused the next.
@@ -33,8 +33,8 @@ pub fn put_sign1<S: Sink>(message: &CoseSign1, to: &mut S) -> Result<(), S::Erro
     to.bytes(&message.signature)
 }
 
-/// Writes a COSE_Mac0 without its tag (RFC 9052, section 6.2). A payload that is carried elsewhere is
-/// null. Protected headers are written as `coset_sink::put_protected` does.
+/// Writes a COSE_Mac0 without its tag (RFC 9052, section 6.2). A payload that is carried elsewhere
+/// is null. Protected headers are written as `coset_sink::put_protected` does.
 ///
 /// # Errors
 /// The sink's; it took a beginning of the events then, and refused the next.
@@ -54,8 +54,8 @@ pub fn put_mac0<S: Sink>(message: &CoseMac0, to: &mut S) -> Result<(), S::Error>
     to.bytes(&message.tag)
 }
 
-/// Writes a COSE_Sign without its tag (RFC 9052, section 4.1). A payload that is carried elsewhere is
-/// null. Protected headers are written as `coset_sink::put_protected` does.
+/// Writes a COSE_Sign without its tag (RFC 9052, section 4.1). A payload that is carried elsewhere
+/// is null. Protected headers are written as `coset_sink::put_protected` does.
 ///
 /// # Errors
 /// The sink's; it took a beginning of the events then, and refused the next.
@@ -75,8 +75,8 @@ pub fn put_sign<S: Sink>(message: &CoseSign, to: &mut S) -> Result<(), S::Error>
     put_signatures(&message.signatures, to)
 }
 
-/// Writes a COSE_Mac without its tag (RFC 9052, section 6.1). A payload that is carried elsewhere is
-/// null. Protected headers are written as `coset_sink::put_protected` does.
+/// Writes a COSE_Mac without its tag (RFC 9052, section 6.1). A payload that is carried elsewhere
+/// is null. Protected headers are written as `coset_sink::put_protected` does.
 ///
 /// # Errors
 /// The sink's; it took a beginning of the events then, and refused the next.

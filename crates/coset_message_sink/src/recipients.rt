@@ -10,7 +10,7 @@ use crate::parts::begin;
 use ciborium_traits::ser::Sink;
 use coset_recipients::CoseRecipient;
 
-/// How many items a recipient has that has these recipients inside it.
+/// How many items a recipient has, by the recipients inside it.
 fn count_items(recipients: &[CoseRecipient]) -> usize
     ensures { result ≡ item_count (recipients_put (recipients_view recipients.now)) }
 {
