@@ -1,9 +1,14 @@
 pub mod Again
+pub mod Agreed
 pub mod Checked
+pub mod Confused
 pub mod Encoded
+pub mod Faulted
 pub mod Further
 pub mod Ids
+pub mod Joined
 pub mod Keys
+pub mod Refilled
 pub mod Relay
 pub mod Sealed
 pub mod Spelled

@@ -1,11 +1,15 @@
 pub mod Asking
 pub mod Checking
+pub mod Faults
 pub mod Gatings
 pub mod Heads
+pub mod Held
 pub mod Items
 pub mod Judging
 pub mod Keeping
 pub mod Kinds
+pub mod Refilling
+pub mod Roads
 pub mod Sides
 pub mod Signing
 pub mod Tallies

@@ -1,11 +1,14 @@
-//! What a signature covers. `coset_base` is the one crate that it names.
-ghost use Rattle.std.specs.Prelude.{◌≡◌, ◌↔◌, IsTrue, IfOk};
+//! What signatures and tags cover. `coset_base` is the one crate that it names.
+ghost use Rattle.std.specs.Prelude.{◌≡◌, ◌↔◌, IsTrue, IfOk, false};
 ghost use Rattle.std.specs.Str.{bytes_eq};
 ghost use Rattle.coset_base.specs.View.{protected_view};
 ghost use Rattle.coset_base.specs.Written.{shown};
 
 use coset_base::laws::structures::one_structure;
-use coset_base::{CoseError, ProtectedHeader, SignatureContext, sig_structure_data};
+use coset_base::{
+    CoseError, EncryptionContext, MacContext, ProtectedHeader, SignatureContext,
+    enc_structure_data, mac_structure_data, sig_structure_data,
+};
 use std::alloc::Global;
 
 fn are_same(one: &Vec<u8>, other: &Vec<u8>) -> bool
@@ -37,4 +40,25 @@ pub fn stays_covered(
     let one = sig_structure_data(alloc, context, body, None, aad, payload)?;
     let two = sig_structure_data(alloc, other_context, other, None, aad, payload)?;
     Ok(are_same(&one, &two))
+}
+
+/// Whether what a tag covers is also what a ciphertext covers, of the same protected header and
+/// external data. It never is: so no bytes that a cipher was handed are good for a tag.
+///
+/// # Errors
+/// `DuplicateMapKey` if the protected header can't be encoded, or `Memory`.
+pub fn are_confused(
+    alloc: Global,
+    tag: MacContext,
+    cipher: EncryptionContext,
+    protected: &ProtectedHeader,
+    aad: &[u8],
+    payload: &[u8],
+) -> Result<bool, CoseError>
+    ensures { IfOk result (λ same. same ≡ false) }
+{
+    one_structure();
+    let tagged = mac_structure_data(alloc, tag, protected, aad, payload)?;
+    let sealed = enc_structure_data(alloc, cipher, protected, aad)?;
+    Ok(are_same(&tagged, &sealed))
 }

@@ -1,5 +1,5 @@
 //! Items read and written. `ciborium` is the one crate that it names.
-ghost use Rattle.std.specs.Prelude.{◌≡◌, ◌≢◌, ◌≤◌, ◌++◌, ◌∷◌, ℕ, List, [], length, Option, None};
+ghost use Rattle.std.specs.Prelude.{◌≡◌, ◌≢◌, ◌≤◌, ◌<◌, ◌^◌, ◌++◌, ◌∷◌, ℕ, List, [], length, Option, None};
 ghost use Rattle.std.specs.Prelude.{IfOk, IfErr, IfSome, IfNone, OnOk, OnErr, MatchOption};
 ghost use Rattle.std.specs.Prelude.{Some, IsTrue, false, pos, string_bytes, codes};
 ghost use Rattle.std.specs.BTreeMap.{get_by_text};
@@ -11,7 +11,8 @@ ghost use Rattle.ciborium.specs.View.{view, views};
 ghost use Rattle.ciborium.specs.Items.{nesting};
 ghost use Rattle.ciborium.specs.Typed.{ReadsAs};
 ghost use Rattle.ciborium.specs.Encoding.{enc};
-ghost use Rattle.callers.specs.Items.{NoValue, Fewer};
+ghost use Rattle.ciborium.specs.declared.value.Error.TheVariants.{Memory};
+ghost use Rattle.callers.specs.Items.{NoValue, NoneOfType, FrontOnly, Fewer, first_number};
 
 use ciborium::de::{self, Deserialize, Deserializer, Source};
 use ciborium::laws::one_spelling;
@@ -24,8 +25,16 @@ use std::alloc::{AllocError, Global};
 use std::collections::BTreeMap;
 
 /// The value that the whole input is an item of, or none if bytes follow the item.
+///
+/// # Errors
+/// The fault of the bytes, or `Semantic` if the item at the front is none of the type.
 pub fn read_whole<T: Deserialize>(alloc: Global, input: &[u8]) -> Result<Option<T>, de::Error<End>>
-    ensures { IfOk result (λ o. IfSome o (λ x. ReadsAs T.refusal T.takes nesting x input.now)) }
+    ensures some { IfOk result (λ o. IfSome o
+        (λ x. ReadsAs T.refusal T.takes nesting x input.now)) }
+    ensures none { IfOk result (λ o. IfNone o
+        (FrontOnly (λ x. ReadsAs T.refusal T.takes nesting x) input.now)) }
+    ensures err { IfErr result (λ e. (rest : List ℕ)
+        × NoneOfType T.grows T.refusal input.now rest e) }
 {
     let mut rest = input;
     let value = from_reader(alloc, &mut rest)?;
@@ -38,11 +47,15 @@ pub fn read_whole<T: Deserialize>(alloc: Global, input: &[u8]) -> Result<Option<
 
 /// The value whose one encoding the whole input is (RFC 8949, section 4.1), or none if the item is
 /// written in another way, or bytes follow it.
+///
+/// # Errors
+/// The fault of the bytes.
 pub fn read_encoded(alloc: Global, input: &[u8]) -> Result<Option<Value>, de::Error<End>>
     ensures some { IfOk result (λ o. IfSome o
         (λ v. Reads input.now nesting (view v) × (input.now ≡ enc (view v)))) }
     ensures none { IfOk result (λ o. IfNone o
         ((v : Tree) → Reads input.now nesting v → input.now ≢ enc v)) }
+    ensures err { IfErr result (λ e. (place : ℕ) × NoValue 0 input.now place e) }
 {
     let mut decoder = Decoder::from(input);
     let (value, is_exact) = de::from_decoder_strict(alloc, &mut decoder, de::RECURSION_LIMIT)?;
@@ -99,15 +112,17 @@ pub fn text_of<T: Serialize>(alloc: Global, value: &T) -> Result<Vec<u8>, AllocE
 /// # Errors
 /// Only if out of memory.
 pub fn named(alloc: Global, name: &str) -> Result<Value, Error>
-    ensures { IfOk result (λ v. view v
+    ensures ok { IfOk result (λ v. view v
         ≡ tree.map (tree.pair_more (tree.integer (pos 1)) (tree.text name.now) tree.no_pairs)) }
+    ensures err { IfErr result (λ e. e ≡ Memory) }
 {
     cbor!(alloc, {1u8 => name})
 }
 
-/// The number of an integer value that is 0 or more.
+/// The number of an integer value that is 0 or more; none if the value is no such integer.
 pub fn natural(value: &Value) -> Option<u64>
-    ensures { IfSome result (λ n. view value.now ≡ tree.integer (pos n)) }
+    ensures { MatchOption result ((n : ℕ) → n < 2 ^ 64 → view value.now ≢ tree.integer (pos n))
+        (λ n. view value.now ≡ tree.integer (pos n)) }
 {
     match value.as_integer() {
         Some(number) => u64::try_from(number).ok(),
@@ -124,8 +139,12 @@ pub fn text_or_back(value: Value) -> Result<String, Value>
 }
 
 /// A value made of a typed value.
+///
+/// # Errors
+/// Only if out of memory.
 pub fn value_of<T: Serialize>(alloc: Global, x: &T) -> Result<Value, Error>
-    ensures { IfOk result (λ v. view v ≡ T.put x.now) }
+    ensures ok { IfOk result (λ v. view v ≡ T.put x.now) }
+    ensures err { IfErr result (λ e. e ≡ Memory) }
 {
     Value::serialized(alloc, x)
 }
@@ -139,25 +158,45 @@ pub fn points_of(
     input: &mut &[u8],
     name: &str,
 ) -> Result<Option<u64>, de::Error<End>>
-    ensures { IfOk result (λ o. (front : List ℕ) × (points : _)
+    ensures ok { IfOk result (λ o. (front : List ℕ) × (points : _)
         × (input.old.now ≡ front ++ input.new.now)
         × ReadsAs ⟦<BTreeMap<String, u64> as Deserialize>⟧.refusal
         ⟦<BTreeMap<String, u64> as Deserialize>⟧.takes nesting points front
         × (o ≡ get_by_text points name.now)) }
+    ensures err { IfErr result (NoneOfType ⟦<BTreeMap<String, u64> as Deserialize>⟧.grows
+        ⟦<BTreeMap<String, u64> as Deserialize>⟧.refusal input.old.now input.new.now) }
 {
     let points: BTreeMap<String, u64> = from_reader(alloc, input)?;
     Ok(points.get(name).copied())
 }
 
-/// The first number of a list that is there in seconds, which tag 1 says (RFC 8949, section 3.4.2).
-pub fn first_time(alloc: Global, input: &mut &[u8]) -> Result<Option<u64>, de::Error<End>> {
-    let times: Vec<Option<Required<u64, 1>>> = from_reader(alloc, input)?;
+/// The first number that is there.
+fn first_there(times: &[Option<Required<u64, 1>>]) -> Option<u64>
+    ensures { result ≡ first_number times.now }
+{
     for time in times {
         if let Some(Required(seconds)) = time {
-            return Ok(Some(seconds));
+            return Some(*seconds);
         }
     }
-    Ok(None)
+    None
+}
+
+/// The first number of a list that is there in seconds, which tag 1 says (RFC 8949, section 3.4.2).
+///
+/// # Errors
+/// The fault of the bytes, or `Semantic` if the item is no such list.
+pub fn first_time(alloc: Global, input: &mut &[u8]) -> Result<Option<u64>, de::Error<End>>
+    ensures ok { IfOk result (λ o. (front : List ℕ) × (times : _)
+        × (input.old.now ≡ front ++ input.new.now)
+        × ReadsAs ⟦<Vec<Option<Required<u64, 1>>> as Deserialize>⟧.refusal
+        ⟦<Vec<Option<Required<u64, 1>>> as Deserialize>⟧.takes nesting times front
+        × (o ≡ first_number times.items)) }
+    ensures err { IfErr result (NoneOfType ⟦<Vec<Option<Required<u64, 1>>> as Deserialize>⟧.grows
+        ⟦<Vec<Option<Required<u64, 1>>> as Deserialize>⟧.refusal input.old.now input.new.now) }
+{
+    let times: Vec<Option<Required<u64, 1>>> = from_reader(alloc, input)?;
+    Ok(first_there(&times))
 }
 
 /// A pair of a text and a number, whatever tag stands around it.
@@ -165,9 +204,11 @@ pub fn first_time(alloc: Global, input: &mut &[u8]) -> Result<Option<u64>, de::E
 /// # Errors
 /// The fault of the bytes, or `Semantic` if the item is no such pair.
 pub fn labelled(alloc: Global, input: &mut &[u8]) -> Result<Captured<(String, u64)>, de::Error<End>>
-    ensures { IfOk result (λ c. (front : List ℕ) × (input.old.now ≡ front ++ input.new.now)
+    ensures ok { IfOk result (λ c. (front : List ℕ) × (input.old.now ≡ front ++ input.new.now)
         × ReadsAs ⟦<Captured<(String, u64)> as Deserialize>⟧.refusal
         ⟦<Captured<(String, u64)> as Deserialize>⟧.takes nesting c front) }
+    ensures err { IfErr result (NoneOfType ⟦<Captured<(String, u64)> as Deserialize>⟧.grows
+        ⟦<Captured<(String, u64)> as Deserialize>⟧.refusal input.old.now input.new.now) }
 {
     from_reader(alloc, input)
 }

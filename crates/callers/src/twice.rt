@@ -13,7 +13,7 @@ use cose_gate::{Counts, End, GateFault};
 use std::alloc::Global;
 
 /// A slice is bytes, fewer than 2^64.
-fn bytes_below(bytes: &[u8])
+pub(crate) fn bytes_below(bytes: &[u8])
     ensures few { length bytes.now < 2 ^ 64 }
     ensures low { All (λ x. x < 256) bytes.now }
 {

@@ -1,4 +1,4 @@
--- What the contract of `gate` says of each answer.
+-- What the contract of `gate` says of each result.
 use Rattle.std.specs.Prelude.{◌≡◌, ◌≢◌, ℕ, ◌+◌, ◌^◌, ◌<◌, ◌≤◌, ◌⊎◌, List, [], ◌∷◌, ◌++◌, length, Option, Some, None, Bool, true, IsTrue, Result, Ok, Err, if◌then◌else◌}
 use Rattle.std.specs.Io.KnownBytes.{Appends}
 use Rattle.ciborium_ll.specs.Reading.{Moves}
@@ -171,7 +171,7 @@ Outcome ends rules old new input (Err (Decode e)) = IfDecodeFailed ends rules ol
 Outcome ends rules old new input (Err Write) = IfWriteFailed rules old new input
 Outcome ends rules old new input (Err Memory) = IfMemoryRefused rules old new input
 
--- some bytes were there, those to come if these are known, and the answer has its outcome over them
+-- some bytes were there, those to come if these are known, and the result has its outcome over them
 pub record Answers {T S E : Type 0} (ends : E → Bool) (rules : Rules T S) (old new : Sight T S)
     (r : Result Counts (GateFault E)) : Type 0 where
   pub input : List ℕ

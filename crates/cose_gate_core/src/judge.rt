@@ -11,7 +11,7 @@ use std::alloc::AllocError;
 ///
 /// An implementation says in its meaning what it is (`who`, which never changes), which answer it
 /// gives to a question (`yes`), what it keeps of the questions (`told`, and `decided`, which adds
-/// one), and when it holds a begun question (`holds`). Its answer hangs on the question and on
+/// one), and when it holds a begun question (`holds`). Its answer depends on the question and on
 /// `who` alone.
 ///
 /// What the gate's clauses call asked is what was decided: that no question is begun or fed in

@@ -32,8 +32,7 @@ pub enum Refusal {
     /// The judge said no to the question with this index, counted from 0.
     #[error("Judged")]
     Judged(usize),
-    /// The item is spelled otherwise than the message would be written. Only a strict gate refuses
-    /// so.
+    /// The item isn't in canonical encoding. Only a strict gate refuses it for that.
     #[error("NotShortest")]
     NotShortest,
 }

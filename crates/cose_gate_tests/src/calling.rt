@@ -1,8 +1,11 @@
-//! Tests of `callers`, by its public names: a reader of std, values made by a macro, and relays of
-//! what a relay wrote.
+//! Tests of `callers`, by its public names: a reader of std, values made by a macro, relays of what
+//! a relay wrote, faults, and messages and structures of COSE.
+use cose_gate::Counts;
 
 mod asking;
 mod checking;
+mod cose;
+mod faults;
 mod items;
 mod twice;
 
@@ -18,3 +21,16 @@ const BOTH: &[u8] = &[
     0xd2, 0x84, 0x40, 0xa1, 0x04, 0x41, 0x11, 0x42, 0x68, 0x69, 0x41, 0x01, 0xd2, 0x84, 0x40, 0xa1,
     0x04, 0x41, 0x11, 0x42, 0x68, 0x69, 0x41, 0x01,
 ];
+
+/// The first message of the input.
+const ONE: &[u8] = &[
+    0xd2, 0x84, 0x40, 0xa1, 0x04, 0x41, 0x11, 0x42, 0x68, 0x69, 0x41, 0x01,
+];
+
+/// The id that the judge knows.
+const KNOWN: [&[u8]; 1] = [&[0x11]];
+
+/// So many passed, and so many were refused.
+fn counts(passed: usize, refused: usize) -> Counts {
+    Counts { passed, refused }
+}

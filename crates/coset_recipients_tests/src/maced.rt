@@ -1,12 +1,14 @@
 //! Authenticated messages by builders, and what their closures are handed. Expected bytes are
 //! written out by hand.
 use crate::tools::{
-    ASKED, LONG, MISSING, Maced, Message, Met, content, fails, give, gives, is_verified, join,
-    makes, meets_in_order, missing, owned, repeated, same, watched, with_algorithm,
+    ASKED, LONG, MISSING, Maced, Message, Met, content, fails, give, gives, is_refilled,
+    is_verified, join, makes, meets_in_order, missing, owned, repeated, same, watched,
+    with_algorithm,
 };
+use ciborium_value::Value;
 use coset_builders::HeaderBuilder;
 use coset_headers::Header;
-use coset_labels::{CoseError, Fault, TaggedCborSerializable, iana};
+use coset_labels::{CoseError, Fault, Limits, TaggedCborSerializable, iana};
 use coset_maced::{CoseMac, CoseMac0, CoseMac0Builder, CoseMacBuilder};
 use coset_recipients::CoseRecipient;
 use std::alloc::{AllocError, Global};
@@ -109,6 +111,27 @@ fn another_payload_is_covered(rt: HostRuntime) {
     gives(&rt, alloc, covered, "84644d41433043a10105410242686f");
     let covered = built_mac(&rt, alloc).covered(alloc, b"ho", &[]);
     gives(&rt, alloc, covered, "84634d414343a101054042686f");
+}
+
+#[test]
+fn messages_are_refilled(rt: HostRuntime) {
+    let alloc = rt.alloc();
+    is_refilled(
+        &rt,
+        alloc,
+        built_mac0(&rt, alloc),
+        &("8440a1044111f640", "8443a10105a1044111014101", "8440a0f640"),
+    );
+    is_refilled(
+        &rt,
+        alloc,
+        built_mac(&rt, alloc),
+        &(
+            "8540a1044111f640818340a0f6",
+            "8543a10105a1044111014101818340a0f6",
+            "8540a0f64080",
+        ),
+    );
 }
 
 /// What is built with a signer that gives what it is handed.
@@ -227,6 +250,10 @@ fn equal(tag: &[u8], data: &[u8], asked: &mut bool) -> Result<(), CoseError> {
 }
 
 impl Maced for CoseMac0 {
+    fn filled(&mut self, alloc: Global, value: Value) -> Result<(), CoseError> {
+        self.fill(alloc, value, Limits::default())
+    }
+
     fn verified_twice(&self, alloc: Global) -> Result<(), Met> {
         watched!(
             asked,
@@ -248,6 +275,10 @@ impl Maced for CoseMac0 {
 }
 
 impl Maced for CoseMac {
+    fn filled(&mut self, alloc: Global, value: Value) -> Result<(), CoseError> {
+        self.fill(alloc, value, Limits::default())
+    }
+
     fn verified_twice(&self, alloc: Global) -> Result<(), Met> {
         watched!(
             asked,

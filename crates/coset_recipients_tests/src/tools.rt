@@ -147,6 +147,23 @@ pub(crate) fn read<T: CborSerializable>(rt: &impl Abort, alloc: Global, text: &s
     T::from_slice(alloc, bytes.as_slice()).expect(rt, text)
 }
 
+/// The first bytes in hex, read into a message, leave nothing of what it was. The second ones have
+/// a number for a payload, and leave nothing at all: then it is written as the third.
+pub(crate) fn is_refilled<T: Maced>(
+    rt: &impl Abort,
+    alloc: Global,
+    mut message: T,
+    (good, bad, empty): &(&str, &str, &str),
+) {
+    let filled = message.filled(alloc, read(rt, alloc, good));
+    same(rt, &filled, &Ok(()), "a message");
+    copy_gives(rt, alloc, &message, good);
+    let filled = message.filled(alloc, read(rt, alloc, bad));
+    let want = Err(CoseError::UnexpectedItem("int", "bstr"));
+    same(rt, &filled, &want, "no message");
+    gives(rt, alloc, message.to_vec(alloc), empty);
+}
+
 /// A message or a recipient, as the tests see it.
 pub(crate) trait Message: CborSerializable + PartialEq + Debug {
     /// A copy.
@@ -182,6 +199,9 @@ pub(crate) trait Encrypted: Message {
 
 /// A message that is verified.
 pub(crate) trait Maced: Message {
+    /// Reads a value into it.
+    fn filled(&mut self, alloc: Global, value: Value) -> Result<(), CoseError>;
+
     /// What comes of a verifier that wants a tag which is what it covers, asked twice.
     fn verified_twice(&self, alloc: Global) -> Result<(), Met>;
 }

@@ -2,12 +2,13 @@
 use crate::sign1::sign1_repeated;
 use crate::tools::{
     LONG, MISMATCH, Message, Met, Row, UNFIT, echo, equal, es256, give, gives, is_elsewhere,
-    is_not_signed, is_verified, is_verified_elsewhere, never, repeated, same, verifies, watched,
-    writes, writes_untagged,
+    is_not_signed, is_refilled, is_verified, is_verified_elsewhere, never, repeated, same,
+    verifies, watched, writes, writes_untagged,
 };
+use ciborium_value::Value;
 use coset_builders::CoseSignatureBuilder;
 use coset_headers::{CoseSignature, Header};
-use coset_labels::{CoseError, Fault};
+use coset_labels::{CoseError, Fault, Limits};
 use coset_signed::{CoseSign, CoseSignBuilder};
 use std::alloc::{AllocError, Global};
 use std::process::Abort;
@@ -106,6 +107,10 @@ impl Message for CoseSign {
             return Err(Fault::Caller(UNFIT));
         }
         self.verify_signature(alloc, 0, &[], never)
+    }
+
+    fn filled(&mut self, alloc: Global, value: Value) -> Result<(), CoseError> {
+        self.fill(alloc, value, Limits::default())
     }
 }
 
@@ -225,6 +230,20 @@ fn built_elsewhere(rt: &impl Abort, alloc: Global) -> CoseSign {
         .add_detached_signature(alloc, signer(alloc), b"hi", &[], move |_data| bytes)
         .expect(rt, "a signature")
         .build()
+}
+
+#[test]
+fn a_message_by_several_is_refilled(rt: HostRuntime) {
+    is_refilled(
+        &rt,
+        rt.alloc(),
+        by_three(&rt, rt.alloc()),
+        &(
+            "8440a1044111f6818340a04101",
+            "8443a10126a104411101818340a04101",
+            "8440a0f680",
+        ),
+    );
 }
 
 #[test]

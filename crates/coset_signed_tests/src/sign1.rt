@@ -1,10 +1,11 @@
 //! Messages with one signature. Expected bytes and texts are written out by hand.
 use crate::tools::{
-    LONG, Message, Met, UNFIT, echo, equal, es256, give, gives, is_elsewhere, is_verified,
-    is_verified_elsewhere, never, repeated, same, watched, writes, writes_untagged,
+    LONG, Message, Met, UNFIT, echo, equal, es256, give, gives, is_elsewhere, is_refilled,
+    is_verified, is_verified_elsewhere, never, repeated, same, watched, writes, writes_untagged,
 };
+use ciborium_value::Value;
 use coset_headers::{CoseSignature, Header};
-use coset_labels::{CoseError, Fault};
+use coset_labels::{CoseError, Fault, Limits};
 use coset_signed::{CoseSign1, CoseSign1Builder};
 use std::alloc::{AllocError, Global};
 use std::process::Abort;
@@ -87,6 +88,10 @@ impl Message for CoseSign1 {
     fn refused(&self, alloc: Global) -> Result<(), Met> {
         self.verify_signature(alloc, &[], never)
     }
+
+    fn filled(&mut self, alloc: Global, value: Value) -> Result<(), CoseError> {
+        self.fill(alloc, value, Limits::default())
+    }
 }
 
 /// What the signature of `built` covers: 846a5369676e61747572653143a1012640426869.
@@ -118,6 +123,16 @@ fn a_message_is_signed_and_written(rt: HostRuntime) {
         rt.alloc(),
         built(&rt, rt.alloc()),
         &("8443a10126a042686943010203", "d28443a10126a042686943010203"),
+    );
+}
+
+#[test]
+fn a_message_is_refilled(rt: HostRuntime) {
+    is_refilled(
+        &rt,
+        rt.alloc(),
+        built(&rt, rt.alloc()),
+        &("8440a1044111f640", "8443a10126a1044111014101", "8440a0f640"),
     );
 }
 

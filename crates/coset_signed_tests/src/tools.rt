@@ -163,6 +163,9 @@ pub(crate) trait Message: CborSerializable + TaggedCborSerializable + PartialEq 
 
     /// What comes of the verifier `never` for the first signature.
     fn refused(&self, alloc: Global) -> Result<(), Met>;
+
+    /// Reads a value into it.
+    fn filled(&mut self, alloc: Global, value: Value) -> Result<(), CoseError>;
 }
 
 /// A copy of it is the same, and is written as these bytes in hex.
@@ -181,6 +184,29 @@ pub(crate) fn writes<T: Message>(rt: &impl Abort, alloc: Global, message: T, row
 /// The message is written as these bytes in hex.
 pub(crate) fn writes_untagged<T: Message>(rt: &impl Abort, alloc: Global, message: T, want: &str) {
     gives(rt, alloc, message.to_vec(alloc), want);
+}
+
+/// The value that these bytes in hex are.
+fn value_in(rt: &impl Abort, alloc: Global, text: &str) -> Value {
+    let bytes = hex::decode(alloc, text).expect(rt, "no hex");
+    Value::from_slice(alloc, bytes.as_slice()).expect(rt, text)
+}
+
+/// The first bytes in hex, read into a message, leave nothing of what it was. The second ones have
+/// a number for a payload, and leave nothing at all: then it is written as the third.
+pub(crate) fn is_refilled<T: Message>(
+    rt: &impl Abort,
+    alloc: Global,
+    mut message: T,
+    (good, bad, empty): &(&str, &str, &str),
+) {
+    let filled = message.filled(alloc, value_in(rt, alloc, good));
+    same(rt, &filled, &Ok(()), "a message");
+    is_copied(rt, alloc, &message, good);
+    let filled = message.filled(alloc, value_in(rt, alloc, bad));
+    let want = Err(CoseError::UnexpectedItem("int", "bstr or nil"));
+    same(rt, &filled, &want, "no message");
+    gives(rt, alloc, message.to_vec(alloc), empty);
 }
 
 /// A message with one signature, which covers a header that can't be written.

@@ -1,23 +1,10 @@
 //! What a relay wrote, relayed again.
-use crate::calling::{BOTH, INPUT};
+use crate::calling::{BOTH, INPUT, KNOWN, ONE, counts};
 use callers::gatings::Gating;
 use callers::judging::KeyIds;
 use callers::tally::Tally;
 use callers::twice::{relay_then_strictly, relay_twice, relay_wider, strictly_then_relay};
-use cose_gate::{Counts, Limits};
-
-/// The first message of the input.
-const ONE: &[u8] = &[
-    0xd2, 0x84, 0x40, 0xa1, 0x04, 0x41, 0x11, 0x42, 0x68, 0x69, 0x41, 0x01,
-];
-
-/// The id that the judge knows.
-const KNOWN: [&[u8]; 1] = [&[0x11]];
-
-/// So many passed, and so many were refused.
-fn counts(passed: usize, refused: usize) -> Counts {
-    Counts { passed, refused }
-}
+use cose_gate::Limits;
 
 #[test]
 fn a_relay_of_the_output_writes_the_same(rt: HostRuntime) {

@@ -1,0 +1,85 @@
+-- What the clauses of the gate say after a fault.
+use Rattle.std.proofs.Common.{◌≡◌, ℕ, ◌+◌, inl, inr, List, [], ◌∷◌, ◌++◌, length, Option, Some, Bool, zero-add, refl, sym, subst, ap, ◌∙◌, append_assoc, append-nil, arith}
+use Rattle.std.specs.Prelude.{Result, Ok, Err, ◌≢◌}
+use Rattle.std.specs.Io.KnownBytes.{Appends}
+use Rattle.cose_gate.specs.Anew.{AreEntries}
+use Rattle.cose_gate.specs.Asked.{folded_over}
+use Rattle.cose_gate.specs.Counts.{Counts}
+use Rattle.cose_gate.specs.Entry.{Entry}
+use Rattle.cose_gate.specs.Findings.{usual, IsJudged}
+use Rattle.cose_gate.specs.Front.{Reads}
+use Rattle.cose_gate.specs.Gate.{IfWrite, IfMemory, Noted, Torn, Refused}
+use Rattle.cose_gate.specs.GateFault.{GateFault}
+use Rattle.cose_gate.specs.GateFault.TheVariants as gating
+use Rattle.cose_gate.specs.Outcome.{Rules, Sight, Answers, writer_failures}
+use Rattle.cose_gate.specs.Questions.{MessageFields}
+use Rattle.cose_gate.specs.Reading.{IfKnown}
+use Rattle.cose_gate.specs.Run.{Step, output_of}
+use Rattle.cose_gate.specs.Stated.{IsSingle, Stated}
+use Rattle.cose_gate.specs.StreamFault.{StreamFault}
+use Rattle.cose_gate.specs.Streaming.{Answered, HoldsNoMemory, IsLongFor, Tells, Unstreamed}
+use Rattle.cose_gate.specs.Tree.{Tree}
+use Rattle.callers.specs.Faults as spec
+
+-- entries that are noted one after another stand one after another
+noted_all : (old es : List Entry) → folded_over (λ ns e. ns ++ e ∷ []) old es ≡ old ++ es
+noted_all old [] = sym (append-nil old)
+noted_all old (e ∷ es) = noted_all (old ++ e ∷ []) es ∙ append_assoc old (e ∷ []) es
+
+module _ {T : Type 0} (rules : Rules T (List Entry)) (old new : Sight T (List Entry)) (ss : List Step) where
+  pub noted : rules.folded ≡ (λ ns e. ns ++ e ∷ []) → rules.limits ≡ usual → Noted rules old new ss → spec.Noted rules.allows rules.aad ss old.state new.state
+  noted folds limits n = (
+    n.entries,
+    subst (λ l. AreEntries l rules.allows rules.aad ss n.entries) limits n.are,
+    n.state ∙ (ap (λ f. folded_over f old.state n.entries) folds ∙ noted_all old.state n.entries),
+  )
+
+module _ {T S : Type 0} (rules : Rules T S) (old new : Sight T S) (ss : List Step) where
+  pub torn : {E : Type 0} (ends : E → Bool) (r : Result Counts (GateFault E)) → Answers ends rules old new r → IfWrite r (Torn rules old new ss) → IfWrite r (spec.Torn rules.allows rules.aad ss old.written new.written)
+  torn ends (Ok counts) ran t = tt
+  torn ends (Err (gating.Decode e)) ran t = tt
+  torn ends (Err gating.Write) ran t = (t.done, t.last, t.behind, t.whole, t.text, t.front, t.written)
+  torn ends (Err gating.Memory) ran t = tt
+
+  pub whole : {E : Type 0} (ends : E → Bool) (r : Result Counts (GateFault E)) → Answers ends rules old new r → IfMemory r (Refused rules old new ss) → IfMemory r (spec.WholeTexts rules.allows rules.aad ss old.written new.written)
+  whole ends (Ok counts) ran t = tt
+  whole ends (Err (gating.Decode e)) ran t = tt
+  whole ends (Err gating.Write) ran t = tt
+  whole ends (Err gating.Memory) ran t = elim t.texts_are [
+    | inl is ↦ (
+      t.done,
+      t.last ++ t.behind,
+      t.whole,
+      subst (λ (z : List Step). Appends old.written new.written (output_of rules.allows rules.aad z)) is t.written,
+    )
+    | inr is ↦ (
+      t.done ++ t.last,
+      t.behind,
+      t.whole ∙ sym (append_assoc t.done t.last t.behind),
+      subst (λ (z : List Step). Appends old.written new.written (output_of rules.allows rules.aad z)) is.0 t.written,
+    )
+  ]
+
+-- a writer that counts no failure had none
+pub no_write : {E : Type 0} (r : Result Counts (GateFault E)) → 0 ≡ 0 + writer_failures r → r ≢ Err gating.Write
+no_write r none is = let h : 0 ≡ 0 + 1 = none ∙ ap (λ z. 0 + writer_failures z) is in absurd (let f : ⊥ = omega (arith, h) in f)
+
+-- what the streaming check says of bytes in hand, which begin at the place 0
+module _ {E : Type 0} (ends : E → Bool) (room : ℕ) (left : Option (List ℕ)) (place : ℕ) (input : List ℕ) where
+  pub why_here : (f : StreamFault E) → left ≡ Some input → place ≡ 0
+      → HoldsNoMemory f × IfKnown left (λ b. Tells ends (Unstreamed (place + length b) b) (IsLongFor room place b) f)
+      → Tells ends (Unstreamed (length input) input) (IsLongFor room 0 input) f
+  why_here f is start why =
+      let here = subst (λ (l : Option (List ℕ)). IfKnown l (λ b. Tells ends (Unstreamed (place + length b) b) (IsLongFor room place b) f)) is why.1 in
+      let from = subst (λ (n : ℕ). Tells ends (Unstreamed (n + length input) input) (IsLongFor room n input) f) start here in
+      subst (λ (n : ℕ). Tells ends (Unstreamed n input) (IsLongFor room 0 input) f) (zero-add (length input)) from
+
+  pub stated_here : (r : Result Bool (StreamFault E)) → left ≡ Some input → place ≡ 0
+      → IfKnown left (λ b. (item : Tree) (front rest : List ℕ) (message : MessageFields) (size : ℕ) → b ≡ front ++ rest
+      → Reads front usual.nesting item → IsJudged usual item message → IsSingle message → Stated front size → Answered ends (IsLongFor room place b) r)
+      → (item : Tree) (front rest : List ℕ) (message : MessageFields) (size : ℕ) → input ≡ front ++ rest → Reads front usual.nesting item
+      → IsJudged usual item message → IsSingle message → Stated front size → Answered ends (IsLongFor room 0 input) r
+  stated_here r is start answers item front rest message size whole reads judged single stated =
+      let here = subst (λ (l : Option (List ℕ)). IfKnown l (λ b. (item : Tree) (front rest : List ℕ) (message : MessageFields) (size : ℕ) → b ≡ front ++ rest
+      → Reads front usual.nesting item → IsJudged usual item message → IsSingle message → Stated front size → Answered ends (IsLongFor room place b) r)) is answers in
+      subst (λ (n : ℕ). Answered ends (IsLongFor room n input) r) start (here item front rest message size whole reads judged single stated)

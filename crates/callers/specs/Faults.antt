@@ -1,0 +1,29 @@
+-- What a fault of the gate leaves in a report and in a writer.
+use Rattle.std.specs.Prelude.{◌≡◌, ℕ, List, ◌∷◌, ◌++◌, Option, Bool}
+use Rattle.std.specs.Io.KnownBytes.{Appends}
+use Rattle.cose_gate.specs.Anew.{AreEntries}
+use Rattle.cose_gate.specs.Asked.{IsFront}
+use Rattle.cose_gate.specs.Entry.{Entry}
+use Rattle.cose_gate.specs.Findings.{usual}
+use Rattle.cose_gate.specs.Questions.{Question}
+use Rattle.cose_gate.specs.Run.{Step, text_of, output_of}
+
+-- an entry for each of these steps stands after the others
+abbrev pub Noted : (Question → Bool) → List ℕ → List Step → List Entry → List Entry → Type 0
+Noted allows aad ss old new =
+    (entries : List Entry) × AreEntries usual allows aad ss entries × (new ≡ old ++ entries)
+
+-- the output of the first steps was written, and then a beginning of the next message
+abbrev pub Torn : (Question → Bool) → List ℕ → List Step → Option (List ℕ) → Option (List ℕ)
+    → Type 0
+Torn allows aad ss old new =
+    (done : List Step) × (one : Step) × (more : List Step) × (ss ≡ done ++ one ∷ more)
+    × (text : List ℕ) × IsFront text (text_of one.finding)
+    × Appends old new (output_of allows aad done ++ text)
+
+-- the output of the first steps was written, and nothing of the others
+abbrev pub WholeTexts : (Question → Bool) → List ℕ → List Step → Option (List ℕ)
+    → Option (List ℕ) → Type 0
+WholeTexts allows aad ss old new =
+    (done : List Step) × (more : List Step) × (ss ≡ done ++ more)
+    × Appends old new (output_of allows aad done)
