@@ -1,4 +1,4 @@
--- What is asked and passed where the answers come from elsewhere.
+-- What is asked and passed if the answers come from elsewhere.
 use Rattle.std.specs.Prelude.{◌≡◌, ◌⊎◌, ◌<◌, ℕ, List, [], ◌++◌, flat_map, Some, Bool, true}
 use Rattle.std.specs.Io.KnownBytes.{Appends}
 use Rattle.cose_gate.specs.Asked.{IsFront}
@@ -56,7 +56,7 @@ IsPassed accepted aad input output counts =
     (keys : List (List ℕ)) × AreRecords accepted keys × IsPassedBy keys aad input output counts
 
 -- the program ran with a judge by key ids. What it wrote, its status, and the ids that the judge
--- was asked about belong to one course of steps; about all of them where the status is 0 or 1.
+-- was asked about belong to one course of steps; about all of them if the status is 0 or 1.
 pub record RanByIds (limits : Bounds) (ids : List (List ℕ)) (aad : List ℕ) (old new : Devices)
     (asked asked' : List (List ℕ)) (status : ℕ) : Type 0 where
   pub on : RanOn limits (allows ids) aad old new status
@@ -65,7 +65,7 @@ pub record RanByIds (limits : Bounds) (ids : List (List ℕ)) (aad : List ℕ) (
   pub told : asked' ≡ asked ++ key_ids_of front
   pub all : status < 2 → front ≡ questions_of (allows ids) aad on.ran.steps
 
--- how the program ends with the records that were accepted: where they are records after a run that
+-- how the program ends with the records that were accepted: if they are records, after a run that
 -- passes what they are of; else nothing was read and nothing written
 abbrev pub EndsAccepted : Bounds → List ℕ → List ℕ → Devices → Devices → ℕ → Type 0
 EndsAccepted limits accepted aad old new status =

@@ -31,7 +31,7 @@ pub record IsFedInFew (room : ℕ) (lengths b : List ℕ) : Type 0 where
   pub all : sum pieces ≡ n
   pub few : length pieces * room < n + room
 
--- the words say how to run; without them the status is that of a wrong call, and no device was
+-- the arguments say how to run; without them the status is that of a wrong call, and no device was
 -- touched
 abbrev pub EndsBy : Option (List ℕ × Option (List ℕ)) → Option (List ℕ) → Devices → Devices → ℕ
     → Type 0

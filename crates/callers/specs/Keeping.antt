@@ -1,4 +1,4 @@
--- The one spelling of a key, and keys that are kept by theirs.
+-- The canonical encoding of a key, and keys that are kept by theirs.
 use Rattle.std.specs.Prelude.{◌≡◌, ℕ, List, [], ◌∷◌, ◌++◌, map, Bool, Some, option_map, if◌then◌else◌}
 use Rattle.std.specs.List.{list_any}
 use Rattle.std.specs.Str.{bytes_eq}

@@ -138,8 +138,8 @@ pub fn run_accepted<R: Read, W: Write, E: Write>(
     }
 }
 
-/// The program under its words, gated so. With the statuses 2 and 3 nothing was read, and nothing
-/// was written.
+/// The program with these arguments, gated so. With the statuses 2 and 3 nothing was read, and
+/// nothing was written.
 pub fn run_gated<R: Read, W: Write, E: Write>(
     alloc: Global,
     gating: Gating,

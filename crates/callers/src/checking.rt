@@ -63,7 +63,7 @@ pub fn fed<R: Read, J: Judge>(
     stream_check_with(alloc, limits, decoder, buffer, aad, judge)
 }
 
-/// The program over words, if `keys` is what the file holds that the first of them names. Nothing
+/// The program with these arguments, if `keys` is what the file holds that the first names. Nothing
 /// is read if they are not KEYS, or KEYS and AADHEX.
 pub fn program<R: Read, W: Write, E: Write>(
     alloc: Global,

@@ -17,12 +17,11 @@ fn are_same(one: &Vec<u8>, other: &Vec<u8>) -> bool
     one.as_slice() == other.as_slice()
 }
 
-/// Whether what is signed stays the same where another context and another protected header stand
-/// in its place. It does exactly when the context is the same, and so are the bytes shown for the
-/// header.
+/// Whether what is signed stays the same under another context and another protected header. It
+/// does exactly if the context is the same, and so are the bytes shown for the header.
 ///
 /// # Errors
-/// `DuplicateMapKey` where a label is twice in a header that has to be encoded, or `Memory`.
+/// `DuplicateMapKey` if a label is twice in a header that has to be encoded, or `Memory`.
 pub fn stays_covered(
     alloc: Global,
     context: SignatureContext,

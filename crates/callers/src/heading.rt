@@ -40,7 +40,7 @@ pub fn plain_header(
     )
 }
 
-/// The header that the bytes are. It can be written: no label would stand twice.
+/// The header that the bytes are. It can be written: no label would be there twice.
 ///
 /// # Errors
 /// A fault of the bytes, or `Memory`.

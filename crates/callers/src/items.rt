@@ -199,7 +199,7 @@ pub fn first_time(alloc: Global, input: &mut &[u8]) -> Result<Option<u64>, de::E
     Ok(first_there(&times))
 }
 
-/// A pair of a text and a number, whatever tag stands around it.
+/// A pair of a text and a number, whatever tag is around it.
 ///
 /// # Errors
 /// The fault of the bytes, or `Semantic` if the item is no such pair.

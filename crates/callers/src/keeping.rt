@@ -1,4 +1,4 @@
-//! Keys kept in one spelling, and claims read. `coset` is the one crate that it names.
+//! Keys kept in their canonical encoding, and claims read. `coset` is the one crate that it names.
 ghost use Rattle.std.specs.Prelude.{◌≡◌, ◌↔◌, [], ℕ, List, IsTrue, IfOk, IfErr, OnErr, not, option_map, string_bytes};
 ghost use Rattle.std.specs.List.{list_any};
 ghost use Rattle.std.specs.Str.{bytes_eq};
@@ -29,7 +29,7 @@ fn ordered(alloc: Global, bytes: &[u8]) -> Result<CoseKey, CoseError>
     Ok(key)
 }
 
-/// The one spelling of the key that the bytes are.
+/// The canonical encoding of the key that the bytes are.
 ///
 /// # Errors
 /// A fault of the bytes, or `Memory`. Never that a label is twice in what was read.
@@ -70,7 +70,7 @@ fn is_among(kept: &[Vec<u8>], spelled: &[u8]) -> bool
     kept.iter().any(|one| one.as_slice() == spelled)
 }
 
-/// Keys, each kept once, as the bytes of its one spelling.
+/// Keys, each kept once, as its canonical encoding.
 #[derive(Drop)]
 pub struct KeyStore {
     kept: Vec<Vec<u8>>,
@@ -113,7 +113,7 @@ impl KeyStore {
     }
 }
 
-/// Whom the claims in the bytes are about, where they say so.
+/// Whom the claims in the bytes are about, if they say so.
 ///
 /// # Errors
 /// A fault of the bytes, or `Memory`.

@@ -1,5 +1,5 @@
 //! A relay that lets no output through twice. What was let through is kept outside of the judge,
-//! whose answers hang on the question alone, as the contract of the gate asks. `cose_gate` is the
+//! whose answers depend on the question alone, as the contract of the gate asks. `cose_gate` is the
 //! one crate that it names.
 ghost use Rattle.std.specs.Prelude.{◌≡◌, [], IfOk, OnErr, option_map};
 ghost use Rattle.std.specs.List.{list_any};
