@@ -1,5 +1,5 @@
 -- The facts of a call of the gate, from its answer by cases.
-use Rattle.std.proofs.Common.{◌≡◌, ℕ, ◌+◌, ◌<◌, ◌⊎◌, inl, inr, List, [], ◌∷◌, ◌++◌, length, map, Option, Some, Bool, not, cond, refl, sym, ap, subst, ◌∙◌, arith, append_assoc, append-nil}
+use Rattle.std.proofs.Common.{◌≡◌, ◌≢◌, ℕ, ◌+◌, ◌<◌, ◌⊎◌, inl, inr, List, [], ◌∷◌, ◌++◌, length, map, Option, Some, Bool, not, cond, refl, sym, ap, subst, ◌∙◌, arith, append_assoc, append-nil}
 use Rattle.std.specs.Prelude.{Result, Ok, Err, IfOk, IfErr, IsTrue}
 use Rattle.std.specs.Io.KnownBytes.{Appends}
 use Rattle.std.proofs.lemmas.Grind.{flat_map-append}
@@ -280,9 +280,10 @@ module _ {T S : Type 0} (rules : Rules T S) where
             written_by (o.done ++ o.last ∷ []) o.more o.course _ f o.written
         written_front (Err Memory) o = by_texts o.texts_are
           where
-            by_texts : (o.texts ≡ o.done) ⊎ ((o.texts ≡ o.done ++ o.last) × (o.asked ≡ questions_of rules.allows rules.aad o.last)) → WrittenFront rules old new ss
+            by_texts : ((o.texts ≡ o.done) × (o.asked ≢ questions_of rules.allows rules.aad o.last))
+                ⊎ ((o.texts ≡ o.done ++ o.last) × (o.asked ≡ questions_of rules.allows rules.aad o.last)) → WrittenFront rules old new ss
             by_texts (inl e) = written_by (o.done ++ o.last) o.more o.course (output_of rules.allows rules.aad o.texts)
-                (front_of _ _ (output_of rules.allows rules.aad o.last) (output_append o.done o.last ∙ ap (λ z. output_of rules.allows rules.aad z ++ output_of rules.allows rules.aad o.last) (sym e))) o.written
+                (front_of _ _ (output_of rules.allows rules.aad o.last) (output_append o.done o.last ∙ ap (λ z. output_of rules.allows rules.aad z ++ output_of rules.allows rules.aad o.last) (sym e.0))) o.written
             by_texts (inr e) = written_by (o.done ++ o.last) o.more o.course (output_of rules.allows rules.aad o.texts)
                 (front_of _ _ [] (ap (output_of rules.allows rules.aad) (sym e.0) ∙ sym (append-nil (output_of rules.allows rules.aad o.texts)))) o.written
 
@@ -356,7 +357,8 @@ module _ {T S : Type 0} (rules : Rules T S) where
             input : b ≡ bytes_of (s.front ++ s.behind) ++ o.more
             input = bytes_then (o.done ++ o.last) o.more o.course ∙ ap (λ z. z ++ o.more) (same_bytes (o.done ++ o.last) w.front w.twins ∙ ap bytes_of s.whole)
 
-            refused : (texts : List Step) → (texts ≡ s.front) ⊎ ((texts ≡ s.front ++ s.behind) × (o.asked ≡ questions_of rules.allows rules.aad s.behind))
+            refused : (texts : List Step)
+                → ((texts ≡ s.front) × (o.asked ≢ questions_of rules.allows rules.aad s.behind)) ⊎ ((texts ≡ s.front ++ s.behind) × (o.asked ≡ questions_of rules.allows rules.aad s.behind))
                 → Appends old.written new.written (output_of rules.allows rules.aad texts) → Refused rules old new ss
             refused texts are a = record {
               done = s.front;
@@ -377,8 +379,10 @@ module _ {T S : Type 0} (rules : Rules T S) where
               between = λ none. subst (λ (z : List ℕ). StandsIn old new z o.more (Unit {0})) input (o.between (pair_none o.last s.behind s.then none));
             }
 
-            by_texts : (o.texts ≡ o.done) ⊎ ((o.texts ≡ o.done ++ o.last) × (o.asked ≡ questions_of rules.allows rules.aad o.last)) → Refused rules old new ss
-            by_texts (inl e) = refused s.front (inl refl) (written_same _ _ (ap (output_of rules.allows rules.aad) e ∙ same_output o.done s.front s.first) o.written)
+            by_texts : ((o.texts ≡ o.done) × (o.asked ≢ questions_of rules.allows rules.aad o.last))
+                ⊎ ((o.texts ≡ o.done ++ o.last) × (o.asked ≡ questions_of rules.allows rules.aad o.last)) → Refused rules old new ss
+            by_texts (inl e) = refused s.front (inl (refl, λ all. e.1 (all ∙ sym (same_questions o.last s.behind s.then))))
+                (written_same _ _ (ap (output_of rules.allows rules.aad) e.0 ∙ same_output o.done s.front s.first) o.written)
             by_texts (inr e) = refused (s.front ++ s.behind) (inr (refl, e.1 ∙ same_questions o.last s.behind s.then))
                 (written_same _ _ (ap (output_of rules.allows rules.aad) e.0 ∙ same_output (o.done ++ o.last) w.front w.twins ∙ ap (output_of rules.allows rules.aad) s.whole) o.written)
 

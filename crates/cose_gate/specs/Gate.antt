@@ -112,9 +112,9 @@ pub record Torn {T S : Type 0} (rules : Rules T S) (old new : Sight T S)
   pub stands : new.offset ≡ last.item.offset + length last.item.bytes
 
 -- there was no memory at one item, or between items: what is before was done whole; of the item's
--- questions a beginning was asked; its text was written whole, and then all was asked about it, or
--- not at all; it wasn't noted. At an item the offset is the one after it; between items the gate is
--- in the bytes `more`, those to come after the last item that was done.
+-- questions a beginning was asked. If all were asked its text was written, if it passes; if not,
+-- nothing of it was. It wasn't noted. At an item the offset is the one after it; between items the
+-- gate is in the bytes `more`, those to come after the last item that was done.
 pub record Refused {T S : Type 0} (rules : Rules T S) (old new : Sight T S)
     (ss : List Step) : Type 0 where
   pub done : List Step
@@ -128,7 +128,7 @@ pub record Refused {T S : Type 0} (rules : Rules T S) (old new : Sight T S)
       ≡ folded_over rules.decided old.told (questions_of rules.allows rules.aad done ++ asked)
   pub noted : Noted rules old new done
   pub texts : List Step
-  pub texts_are : (texts ≡ done)
+  pub texts_are : ((texts ≡ done) × (asked ≢ questions_of rules.allows rules.aad last))
       ⊎ ((texts ≡ done ++ last) × (asked ≡ questions_of rules.allows rules.aad last))
   pub written : Appends old.written new.written (output_of rules.allows rules.aad texts)
   pub stands : (s : Step) → last ≡ s ∷ [] → new.offset ≡ s.item.offset + length s.item.bytes

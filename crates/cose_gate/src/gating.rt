@@ -31,8 +31,10 @@ use std::alloc::Global;
 /// the reader failed: all that was asked, noted and written are the first items then. `Write` if
 /// the writer failed: a beginning of the encoding of a message that passes was written after the
 /// output before it, and the reader is after that message. `Memory` if out of memory: whole
-/// encodings were written, and of the questions about the item at hand a beginning was asked; if
-/// there is no such item, some of the bytes after the last one were taken, or none.
+/// encodings were written, and of the questions about the item at hand a beginning was asked; once
+/// all are asked, its encoding is written if it passes, which takes no memory, and only its entry
+/// can be missing. If there is no such item, some of the bytes after the last one were taken, or
+/// none.
 pub fn gate<R: Read, W: Write, P: Report, J: Judge>(
     alloc: Global,
     decoder: &mut Decoder<R>,

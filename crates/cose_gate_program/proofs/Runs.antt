@@ -141,10 +141,10 @@ module _ {T S : Type 0} (by : Rules T S) (old new : Sight T S) where
 
   -- the texts of the steps, or of those before the last, if out of memory
   texts : (done last given : List Step) (asked : List Question)
-      → (given ≡ done) ⊎ ((given ≡ done ++ last) × (asked ≡ questions_of by.allows by.aad last))
+      → ((given ≡ done) × (asked ≢ questions_of by.allows by.aad last)) ⊎ ((given ≡ done ++ last) × (asked ≡ questions_of by.allows by.aad last))
       → (output_of by.allows by.aad given ≡ output_of by.allows by.aad done)
       ⊎ (output_of by.allows by.aad given ≡ output_of by.allows by.aad (done ++ last))
-  texts done last given asked (inl e) = inl (ap (output_of by.allows by.aad) e)
+  texts done last given asked (inl e) = inl (ap (output_of by.allows by.aad) e.0)
   texts done last given asked (inr e) = inr (ap (output_of by.allows by.aad) e.0)
 
   abbrev gated_over : (n n' f f' : ℕ) (b : List ℕ) (r : Result Counts (GateFault InputFault))
@@ -216,10 +216,10 @@ module _ {T S : Type 0} (by : Rules T S) (old new : Sight T S) where
 
   -- all were asked if the last one's text was written
   asked_all : (done last given : List Step) (asked : List Question)
-      → (given ≡ done) ⊎ ((given ≡ done ++ last) × (asked ≡ questions_of by.allows by.aad last))
+      → ((given ≡ done) × (asked ≢ questions_of by.allows by.aad last)) ⊎ ((given ≡ done ++ last) × (asked ≡ questions_of by.allows by.aad last))
       → output_of by.allows by.aad given ≢ output_of by.allows by.aad done
       → questions_of by.allows by.aad done ++ asked ≡ questions_of by.allows by.aad (done ++ last)
-  asked_all done last given asked (inl e) other = absurd (other (ap (output_of by.allows by.aad) e))
+  asked_all done last given asked (inl e) other = absurd (other (ap (output_of by.allows by.aad) e.0))
   asked_all done last given asked (inr e) other =
       ap (λ (qs : List Question). questions_of by.allows by.aad done ++ qs) e.1 ∙ sym (questions_then by.allows by.aad done last)
 
