@@ -1,5 +1,6 @@
 pub mod Forms
 pub mod Faults
+pub mod Far
 pub mod Fed
 pub mod Elements
 pub mod Lengths

@@ -84,6 +84,11 @@ Tells ends D long fault.Memory = D refused
 abbrev pub IsLongFor : ℕ → ℕ → List ℕ → Type 0
 IsLongFor room at b = 2 ^ 64 ≤ at + length b + max 4096 room
 
+-- `TooLong` comes only close to the end of what places can be: at most 4,096 bytes before 2^64, or
+-- at most `room` if that is more, the most that is asked for at a time
+abbrev pub IsFarFor : {E : Type 0} → ℕ → ℕ → StreamFault E → Type 0
+IsFarFor room at f = f ≡ fault.Decode de.TooLong → 2 ^ 64 ≤ at + max 4096 room
+
 -- what a fault says of the bytes that were to come, if they are known; D is over the place after
 -- them, and over them
 abbrev pub NamesWhy : {E : Type 0} → (E → Bool) → (ℕ → List ℕ → Why → Type 0) → ℕ → Seen

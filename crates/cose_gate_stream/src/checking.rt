@@ -1,10 +1,10 @@
 //! The streaming check.
 ghost use Rattle.std.specs.Prelude.{◌≡◌, ◌<◌, IfOk, IfErr, OnErr, length};
 ghost use Rattle.ciborium_ll.specs.Seen.{Takes};
-ghost use Rattle.ciborium_ll.specs.Views.{seen};
+ghost use Rattle.ciborium_ll.specs.Views.{offset_of, seen};
 ghost use Rattle.coset_labels.specs.Limits.{nesting_of, layers_of};
 ghost use Rattle.cose_gate_core.specs.Findings.{plain};
-ghost use Rattle.cose_gate_stream.specs.Streaming.{Checked, CheckedBy, Unstreamed, UnstreamedBy, NamesWhy, Steady, AnswersStated, AnswersStatedBy};
+ghost use Rattle.cose_gate_stream.specs.Streaming.{Checked, CheckedBy, Unstreamed, UnstreamedBy, IsFarFor, NamesWhy, Steady, AnswersStated, AnswersStatedBy};
 
 use crate::fault::StreamFault;
 use crate::feeding::{feed_front, feed_payload};
@@ -33,6 +33,7 @@ fn streamed<R: Read, J: Judge>(
         (seen R.Read decoder.old)) }
     ensures told { OnErr result (J.told judge.new ≡ J.told judge.old) }
     ensures who { J.who judge.new ≡ J.who judge.old }
+    ensures far { IfErr result (IsFarFor (length buffer.old) (offset_of decoder.new)) }
     ensures steady { Steady R.ends result (seen R.Read decoder.old) (seen R.Read decoder.new) }
 {
     let form = message_tag(decoder)?;
@@ -61,8 +62,9 @@ fn streamed<R: Read, J: Judge>(
 /// payload's place, after two headers. `Shape` with the fault of the first part that is wrong, also
 /// if what follows is damaged. If an item is readable, it has this fault as a message of its tag;
 /// of an open array that ends at another length, the fault may be one of a header. `Decode` if no
-/// item is readable, or the reader failed. `Memory`: after the tag of such a message and the title
-/// of an array of four. `Shape` comes after such a tag too.
+/// item is readable, or the reader failed, or `TooLong`: only if the offset is within 4,096 bytes
+/// of 2^64 then, or within the buffer's length if that is more. `Memory`: after the tag of such a
+/// message and the title of an array of four. `Shape` comes after such a tag too.
 pub fn stream_check<R: Read, J: Judge>(
     alloc: Global,
     decoder: &mut Decoder<R>,
@@ -84,6 +86,10 @@ pub fn stream_check<R: Read, J: Judge>(
     ensures told { OnErr result (J.told judge.new ≡ J.told judge.old) }
     ensures who { J.who judge.new ≡ J.who judge.old }
     ensures steady { Steady R.ends result (seen R.Read decoder.old) (seen R.Read decoder.new) }
+
+    // `TooLong` comes only if the offset is that near to 2^64, whether or not the reader tells its
+    // bytes.
+    ensures far { IfErr result (IsFarFor (length buffer.old) (offset_of decoder.new)) }
 
     // If such a message is in front, the result is Ok or a fault of memory, of the reader, or of an
     // offset that grows too long.
@@ -122,6 +128,10 @@ pub fn stream_check_with<R: Read, J: Judge>(
     ensures told { OnErr result (J.told judge.new ≡ J.told judge.old) }
     ensures who { J.who judge.new ≡ J.who judge.old }
     ensures steady { Steady R.ends result (seen R.Read decoder.old) (seen R.Read decoder.new) }
+
+    // `TooLong` comes only if the offset is that near to 2^64, whether or not the reader tells its
+    // bytes.
+    ensures far { IfErr result (IsFarFor (length buffer.old) (offset_of decoder.new)) }
 
     // If such a message is in front, the result is Ok or a fault of memory, of the reader, or of an
     // offset that grows too long.

@@ -1,12 +1,12 @@
 //! What is fed to the judge: the front of the structure, and the payload as it passes.
 ghost use Rattle.std.specs.Prelude.{◌≡◌, ◌<◌, ◌++◌, [], ℕ, List, None, IfErr, OnOk, length};
 ghost use Rattle.ciborium_ll.specs.Seen.{Takes};
-ghost use Rattle.ciborium_ll.specs.Views.{waiting_of, seen};
+ghost use Rattle.ciborium_ll.specs.Views.{offset_of, waiting_of, seen};
 ghost use Rattle.coset_structures.specs.Structure.{structure};
 ghost use Rattle.cose_gate_core.specs.Questions.{Subject};
 ghost use Rattle.cose_gate_stream.specs.ElementFaults.{ShortFault, Split};
 ghost use Rattle.cose_gate_stream.specs.Forms.{context_of};
-ghost use Rattle.cose_gate_stream.specs.Streaming.{NamesWhy, Steady};
+ghost use Rattle.cose_gate_stream.specs.Streaming.{IsFarFor, NamesWhy, Steady};
 
 use crate::fault::StreamFault;
 use crate::form::Form;
@@ -58,6 +58,7 @@ pub fn feed_payload<R: Read, J: Judge>(
         (seen R.Read decoder.old)) }
     ensures told { J.told judge.new ≡ J.told judge.old }
     ensures who { J.who judge.new ≡ J.who judge.old }
+    ensures far { IfErr result (IsFarFor (length buffer.old) (offset_of decoder.new)) }
     ensures steady { Steady R.ends result (seen R.Read decoder.old) (seen R.Read decoder.new) }
 {
     let room = buffer.len();

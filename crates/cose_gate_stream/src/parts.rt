@@ -1,7 +1,7 @@
 //! The elements of a message that are read as values.
 ghost use Rattle.std.specs.Prelude.{◌≢◌, ◌-◌, IfOk, IfErr, None};
 ghost use Rattle.ciborium_ll.specs.Seen.{Takes};
-ghost use Rattle.ciborium_ll.specs.Views.{seen};
+ghost use Rattle.ciborium_ll.specs.Views.{offset_of, seen};
 ghost use Rattle.ciborium_value.specs.Tree as spec;
 ghost use Rattle.ciborium_value.specs.View.{view};
 ghost use Rattle.ciborium.specs.Front.{Reads};
@@ -11,7 +11,7 @@ ghost use Rattle.coset_headers.specs.View.{header_view, protected_view};
 ghost use Rattle.coset_headers.specs.Wrong.{WrongProtected, WrongHeader};
 ghost use Rattle.cose_gate_stream.specs.ElementFaults.{PartFault, IsPart, WrongPart, NoneWrong, NoBytes};
 ghost use Rattle.cose_gate_stream.specs.Forms.{received_of};
-ghost use Rattle.cose_gate_stream.specs.Streaming.{NamesWhy, Steady};
+ghost use Rattle.cose_gate_stream.specs.Streaming.{IsFarFor, NamesWhy, Steady};
 
 use crate::fault::{StreamFault, not_four};
 use crate::titles::next_head;
@@ -36,6 +36,7 @@ fn part<R: Read>(
         (λ b. Reads b (nesting_of limits - 2) (view v))) }
     ensures err { IfErr result (NamesWhy R.ends (PartFault (nesting_of limits - 2) NoneWrong) 0
         (seen R.Read decoder.old)) }
+    ensures far { IfErr result (IsFarFor 0 (offset_of decoder.new)) }
     ensures steady { Steady R.ends result (seen R.Read decoder.old) (seen R.Read decoder.new) }
 {
     let header = next_head(decoder)?;
@@ -61,6 +62,7 @@ pub fn protected_part<R: Read>(
     ensures err { IfErr result (NamesWhy R.ends (PartFault (nesting_of limits - 2)
         (WrongPart (λ v e. WrongProtected (nesting_of limits) v (layers_of limits) e))) 0
         (seen R.Read decoder.old)) }
+    ensures far { IfErr result (IsFarFor 0 (offset_of decoder.new)) }
     ensures steady { Steady R.ends result (seen R.Read decoder.old) (seen R.Read decoder.new) }
 {
     let value = part(alloc, limits, decoder)?;
@@ -80,6 +82,7 @@ pub fn unprotected_part<R: Read>(
     ensures err { IfErr result (NamesWhy R.ends (PartFault (nesting_of limits - 2)
         (WrongPart (λ v e. WrongHeader (nesting_of limits) v (layers_of limits) e))) 0
         (seen R.Read decoder.old)) }
+    ensures far { IfErr result (IsFarFor 0 (offset_of decoder.new)) }
     ensures steady { Steady R.ends result (seen R.Read decoder.old) (seen R.Read decoder.new) }
 {
     let value = part(alloc, limits, decoder)?;
@@ -97,6 +100,7 @@ pub fn signature_part<R: Read>(
         (λ b. Reads b (nesting_of limits - 2) (spec.bytes s.items))) }
     ensures err { IfErr result (NamesWhy R.ends (PartFault (nesting_of limits - 2) NoBytes) 0
         (seen R.Read decoder.old)) }
+    ensures far { IfErr result (IsFarFor 0 (offset_of decoder.new)) }
     ensures steady { Steady R.ends result (seen R.Read decoder.old) (seen R.Read decoder.new) }
 {
     let value = part(alloc, limits, decoder)?;

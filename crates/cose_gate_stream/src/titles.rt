@@ -7,7 +7,7 @@ ghost use Rattle.ciborium_ll.specs.declared.hdr.Header.TheVariants.{Tag, Bytes, 
 ghost use Rattle.cose_gate_stream.specs.ElementFaults.{TitleFault, TagFault, FourFault, SizeFault, CloseFault, IsPayload, IsUnexpected};
 ghost use Rattle.cose_gate_stream.specs.Forms.{tag_number};
 ghost use Rattle.cose_gate_stream.specs.Stated.{IsFour, closing};
-ghost use Rattle.cose_gate_stream.specs.Streaming.{NamesWhy, Steady};
+ghost use Rattle.cose_gate_stream.specs.Streaming.{IsFarFor, NamesWhy, Steady};
 
 use crate::fault::{StreamFault, not_four, other_kind};
 use crate::form::{Form, form_of};
@@ -19,6 +19,7 @@ pub fn next_head<R: Read>(decoder: &mut Decoder<R>) -> Result<Header, StreamFaul
         (λ b. Title b h)) }
     ensures within { IfOk result (λ h. length (title_of h) ≤ offset_of decoder.new) }
     ensures err { IfErr result (NamesWhy R.ends TitleFault 0 (seen R.Read decoder.old)) }
+    ensures far { IfErr result (IsFarFor 0 (offset_of decoder.new)) }
     ensures steady { Steady R.ends result (seen R.Read decoder.old) (seen R.Read decoder.new) }
 {
     let header = decoder.pull()?;
@@ -30,6 +31,7 @@ pub fn message_tag<R: Read>(decoder: &mut Decoder<R>) -> Result<Form, StreamFaul
     ensures ok { IfOk result (λ form. Takes (seen R.Read decoder.old) (seen R.Read decoder.new)
         (λ b. Title b (Tag (tag_number form)))) }
     ensures err { IfErr result (NamesWhy R.ends TagFault 0 (seen R.Read decoder.old)) }
+    ensures far { IfErr result (IsFarFor 0 (offset_of decoder.new)) }
     ensures steady { Steady R.ends result (seen R.Read decoder.old) (seen R.Read decoder.new) }
 {
     let header = next_head(decoder)?;
@@ -70,6 +72,7 @@ pub fn four<R: Read>(decoder: &mut Decoder<R>) -> Result<Option<usize>, StreamFa
         (λ b. Title b (Array o))) }
     ensures is { IfOk result IsFour }
     ensures err { IfErr result (NamesWhy R.ends FourFault 0 (seen R.Read decoder.old)) }
+    ensures far { IfErr result (IsFarFor 0 (offset_of decoder.new)) }
     ensures steady { Steady R.ends result (seen R.Read decoder.old) (seen R.Read decoder.new) }
 {
     let header = next_head(decoder)?;
@@ -120,6 +123,7 @@ pub fn payload_size<R: Read>(
     ensures ok { IfOk result (λ n. Takes (seen R.Read decoder.old) (seen R.Read decoder.new)
         (λ b. Title b (Bytes (Some n)))) }
     ensures err { IfErr result (NamesWhy R.ends SizeFault 0 (seen R.Read decoder.old)) }
+    ensures far { IfErr result (IsFarFor 0 (offset_of decoder.new)) }
     ensures steady { Steady R.ends result (seen R.Read decoder.old) (seen R.Read decoder.new) }
 {
     let header = next_head(decoder)?;
@@ -141,6 +145,7 @@ pub fn close<R: Read>(
         (λ b. b ≡ closing count)) }
     ensures open { IfErr result (λ f. count ≡ None) }
     ensures err { IfErr result (NamesWhy R.ends CloseFault 0 (seen R.Read decoder.old)) }
+    ensures far { IfErr result (IsFarFor 0 (offset_of decoder.new)) }
     ensures steady { Steady R.ends result (seen R.Read decoder.old) (seen R.Read decoder.new) }
 {
     if count.is_some() {

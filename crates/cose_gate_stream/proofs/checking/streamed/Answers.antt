@@ -8,6 +8,7 @@ use Rattle.cose_gate_stream.proofs.Wrong.{first_tells, part_tells, protected_pla
 use Rattle.cose_gate_stream.proofs.Heads.{four_tells, size_tells}
 use Rattle.cose_gate_stream.proofs.Whole.{within_start, within_more, part_is, paid, paid_within, checked, received_is, subject_is, question_is, in_pieces, asked_as}
 use Rattle.cose_gate_core.specs.Findings.{plain}
+use Rattle.cose_gate_stream.proofs.Far.{far_more}
 use Rattle.cose_gate_stream.proofs.checking.streamed.Goals as goal
 
 pub returns-in_err-form-clause-err : goal.returns-in_err-form-clause-err
@@ -106,3 +107,38 @@ returns-clause-ok g c =
       asked_as g.J.Judge.decided _ _ _ _ _ (c.decide.ensures.told _ _ h) told q,
     ))
     paying c.in_ok-signature.ensures.ok c.in_ok-close.ensures.ok
+
+pub returns-in_err-form-clause-far : goal.returns-in_err-form-clause-far
+returns-in_err-form-clause-far g c =
+    let p = err_from_is_err_and c.from_residual.result c.from_residual.ensures.1 in
+    rw (p.1, p.2) (far_more 0 _ _ _ (omega arith) c.in_err-form.ensures.far)
+
+pub returns-in_err-count-clause-far : goal.returns-in_err-count-clause-far
+returns-in_err-count-clause-far g c =
+    let p = err_from_is_err_and c.from_residual-in_err-count.result c.from_residual-in_err-count.ensures.1 in
+    rw (p.1, p.2) (far_more 0 _ _ _ (omega arith) c.in_err-count.ensures.far)
+
+pub returns-in_err-protected-clause-far : goal.returns-in_err-protected-clause-far
+returns-in_err-protected-clause-far g c =
+    let p = err_from_is_err_and c.from_residual-in_err-protected.result c.from_residual-in_err-protected.ensures.1 in
+    rw (p.1, p.2) (far_more 0 _ _ _ (omega arith) c.in_err-protected.ensures.far)
+
+pub returns-in_err-unprotected-clause-far : goal.returns-in_err-unprotected-clause-far
+returns-in_err-unprotected-clause-far g c =
+    let p = err_from_is_err_and c.from_residual-in_err-unprotected.result c.from_residual-in_err-unprotected.ensures.1 in
+    rw (p.1, p.2) (far_more 0 _ _ _ (omega arith) c.in_err-unprotected.ensures.far)
+
+pub returns-in_err-size-clause-far : goal.returns-in_err-size-clause-far
+returns-in_err-size-clause-far g c =
+    let p = err_from_is_err_and c.from_residual-in_err-size.result c.from_residual-in_err-size.ensures.1 in
+    rw (p.1, p.2) (far_more 0 _ _ _ (omega arith) c.in_err-size.ensures.far)
+
+pub returns-in_err-signature-clause-far : goal.returns-in_err-signature-clause-far
+returns-in_err-signature-clause-far g c =
+    let p = err_from_is_err_and c.from_residual-in_err-signature.result c.from_residual-in_err-signature.ensures.1 in
+    rw (p.1, p.2) (far_more 0 _ _ _ (omega arith) c.in_err-signature.ensures.far)
+
+pub returns-in_err-close-clause-far : goal.returns-in_err-close-clause-far
+returns-in_err-close-clause-far g c =
+    let p = err_from_is_err_and c.from_residual-in_err-close.result c.from_residual-in_err-close.ensures.1 in
+    rw (p.1, p.2) (far_more 0 _ _ _ (omega arith) c.in_err-close.ensures.far)
