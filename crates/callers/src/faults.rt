@@ -113,8 +113,8 @@ pub fn relay_to<W: Write>(
 /// Whether the key id of the message in front is known, by the streaming check.
 ///
 /// # Errors
-/// Those of `stream_check`, each of which says what is wrong with the bytes; then the judge was told
-/// nothing. Of a message that states its length only `Memory`, or that offsets grow too long.
+/// Those of `stream_check`, each of which says what is wrong with the bytes. The judge was told
+/// nothing then. Of a message that states its length only `Memory`, or that offsets grow too long.
 pub fn is_from(
     alloc: Global,
     input: &[u8],

@@ -1,7 +1,7 @@
 //! Items read and written. `ciborium` is the one crate that it names.
-ghost use Rattle.std.specs.Prelude.{◌≡◌, ◌≢◌, ◌≤◌, ◌<◌, ◌^◌, ◌++◌, ◌∷◌, ℕ, List, [], length, Option, None};
+ghost use Rattle.std.specs.Prelude.{◌≡◌, ◌≢◌, ◌≤◌, ◌<◌, ◌^◌, ◌++◌, ◌∷◌, ℕ, List, [], length};
 ghost use Rattle.std.specs.Prelude.{IfOk, IfErr, IfSome, IfNone, OnOk, OnErr, MatchOption};
-ghost use Rattle.std.specs.Prelude.{Some, IsTrue, false, pos, string_bytes, codes};
+ghost use Rattle.std.specs.Prelude.{Option, None, Some, IsTrue, false, pos, string_bytes, codes};
 ghost use Rattle.std.specs.BTreeMap.{get_by_text};
 ghost use Rattle.ciborium.specs.Tree as tree;
 ghost use Rattle.ciborium.specs.Tree.{Tree};

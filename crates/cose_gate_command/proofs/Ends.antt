@@ -6,6 +6,7 @@ use Rattle.cose_gate_hmac.specs.Judge.{says_yes}
 use Rattle.cose_gate_program.specs.Program.{Devices, EndsWithin}
 use Rattle.coset_labels.specs.Limits.{nesting, layers, nesting_of, layers_of}
 use Rattle.coset_labels.specs.declared.limits.Limits.{Limits}
+use Rattle.cose_gate_program.proofs.Runs.{same_devices}
 use Rattle.cose_gate_command.specs.Ends.{bounds_by}
 
 abbrev of : ℕ → ℕ → Bool → Bounds
@@ -17,3 +18,10 @@ usually l strict e = ap (λ (n : ℕ). of n (layers_of l) strict) e.0 ∙ ap (λ
 pub by_default : (l : Limits) (strict : Bool) (keys aad : Option (List ℕ)) (old new : Devices) (status : ℕ) → (nesting_of l ≡ nesting) × (layers_of l ≡ layers)
     → EndsWithin (limits_by l strict) says_yes keys aad old new status → EndsWithin (bounds_by strict) says_yes keys aad old new status
 by_default l strict keys aad old new status e w = subst (λ (o : Bounds). EndsWithin o says_yes keys aad old new status) (usually l strict e) w
+
+-- a reader that was lent on is where it was left
+pub lent_on : (limits : Bounds) (keys aad : Option (List ℕ)) (old : Devices) (status : ℕ) (l l' w w' : Option (List ℕ)) (n n' f f' : ℕ) → l ≡ l' → w ≡ w' → n ≡ n' → f ≡ f'
+    → EndsWithin limits says_yes keys aad old (record { left = l; written = w; read_failures = n; write_failures = f }) status
+    → EndsWithin limits says_yes keys aad old (record { left = l'; written = w'; read_failures = n'; write_failures = f' }) status
+lent_on limits keys aad old status l l' w w' n n' f f' a b c d e =
+    subst (λ (x : Devices). EndsWithin limits says_yes keys aad old x status) (same_devices l l' w w' n n' f f' a b c d) e

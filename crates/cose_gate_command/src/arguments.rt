@@ -27,11 +27,14 @@ pub fn read_arguments(all: &[String]) -> Option<Arguments<'_>>
     let mut strict = false;
     let mut verbose = false;
     for at in 0..all.len() {
-        match all[at].as_str() {
-            "--strict" => strict = true,
-            "--verbose" => verbose = true,
-            _ => return of_files(strict, verbose, &all[at..]),
+        let argument = all[at].as_str();
+        let is_strict = argument == "--strict";
+        let is_verbose = argument == "--verbose";
+        if !is_strict && !is_verbose {
+            return of_files(strict, verbose, &all[at..]);
         }
+        strict = strict || is_strict;
+        verbose = verbose || is_verbose;
     }
     None
 }

@@ -24,7 +24,7 @@ pub fn program<'a, R: Read, W: Write, E: Write>(
     fault: &'a str,
     input: &mut R,
     out: &mut W,
-    err: &'a mut E,
+    err: &mut E,
 ) -> u8
     ensures ran { EndsBy (spec.arguments (map string_bytes all.now)) (option_copied keys.entry)
         (devices_of R.Read W.Write input.old out.old)

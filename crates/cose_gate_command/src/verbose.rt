@@ -17,21 +17,21 @@ use std::cell::{Cell, RefCell};
 
 /// The lines of the program, and after each what is said more.
 #[derive(Drop)]
-struct Verbose<'a, W> {
+struct Verbose<'o, 'n, 'f, 'd, W> {
     alloc: Global,
-    out: &'a mut W,
+    out: &'o mut W,
     /// Why the judge said no last.
-    note: &'a RefCell<Note>,
+    note: &'n RefCell<Note>,
     /// How many bytes of the input were taken.
-    taken: &'a Cell<usize>,
+    taken: &'n Cell<usize>,
     /// How many items were done, and where the next one begins.
     done: usize,
     offset: usize,
-    file: KeyFile<'a>,
-    aad: Option<&'a str>,
+    file: KeyFile<'f>,
+    aad: Option<&'d str>,
 }
 
-impl<'a, W: Write> Teller for Verbose<'a, W> {
+impl<'o, 'n, 'f, 'd, W: Write> Teller for Verbose<'o, 'n, 'f, 'd, W> {
     fn item(&mut self, entry: &Entry) {
         self.done = entry.number;
         self.offset = self.taken.get();
@@ -68,14 +68,14 @@ impl<'a, W: Write> Teller for Verbose<'a, W> {
 /// that begin with two spaces: of a refusal what it means, and why the judge said no; of a stop the
 /// number and the offset of the item, what is wrong with it, and what to do; of KEYS its name, and
 /// what is wrong with it. `file` tells of the file KEYS.
-pub fn run_verbose<'a, R: Read, W: Write, E: Write>(
+pub fn run_verbose<'f, 'd, R: Read, W: Write, E: Write>(
     alloc: Global,
     terms: Terms,
-    file: KeyFile<'a>,
-    aad: Option<&'a str>,
+    file: KeyFile<'f>,
+    aad: Option<&'d str>,
     input: &mut R,
     out: &mut W,
-    err: &'a mut E,
+    err: &mut E,
 ) -> u8
     ensures ran { EndsWithin (limits_of terms) says_yes
         (option_copied file.entry.bytes) (option_copied aad.entry)

@@ -1,5 +1,5 @@
-//! Messages read into ones that are there, structures, headers as items, and bytes at hand. Expected
-//! bytes are written out by hand.
+//! Messages read into ones that are there, structures, headers as items, and bytes at hand.
+//! Expected bytes are written out by hand.
 use crate::calling::ONE;
 use callers::covering::are_confused;
 use callers::held::{Tape, next_bytes};
