@@ -71,7 +71,7 @@ if [ -x "$program" ] && [ -z "$(changed $all)" ]; then
 fi
 mkdir -p "$crate/out"
 : > "$log"
-echo "$name_of_program: building the program. Its $(echo "$all" | wc -w) crates are proved first, unless they are already: some 70 CPU minutes the first time." >&2
+echo "$name_of_program: building the program. Its $(echo "$all" | wc -w) crates are proved first, unless they are already: some 70 to 90 CPU minutes the first time." >&2
 echo "$name_of_program: the log is $log" >&2
 # Once it is built the program is run, and rt ends with its status; that of help is 0.
 (cd "$crate" && exec rt run -- --help < /dev/null) >> "$log" 2>&1 &
