@@ -50,7 +50,7 @@ module _ {T S : Type 0} (rules : Rules T S) (old new : Sight T S) (ss : List Ste
       t.done,
       t.last ++ t.behind,
       t.whole,
-      subst (λ (z : List Step). Appends old.written new.written (output_of rules.allows rules.aad z)) is t.written,
+      subst (λ (z : List Step). Appends old.written new.written (output_of rules.allows rules.aad z)) is.0 t.written,
     )
     | inr is ↦ (
       t.done ++ t.last,
