@@ -6,13 +6,14 @@ use Rattle.ciborium_ll.specs.Views.{left_of, offset_of, waiting_of, reader_of}
 use Rattle.ciborium_ll.specs.declared.dec.Decoder.{Decoder}
 use Rattle.ciborium_ll.specs.declared.read.Read.{Ghosts as Reads}
 use Rattle.ciborium_ll.specs.declared.write.Write.{Ghosts as Writes}
-use Rattle.ciborium.specs.Reading.{IfEnd, IsNoMemory}
+use Rattle.ciborium.specs.Reading.{IfEnd, IsNoMemory, IsFar}
 use Rattle.ciborium.specs.declared.de.Error.TheVariants as de
 use Rattle.cose_gate_laws.specs.GateCore.Asked.{folded_over, IsFront}
 use Rattle.cose_gate_laws.specs.GateCore.Calls.{rules_by, sight_of}
 use Rattle.cose_gate_laws.specs.GateCore.Findings.{Bounds}
 use Rattle.cose_gate_laws.specs.GateCore.Outcome.{Rules, Sight, Answers, IsFaultOf, StandsIn}
-use Rattle.cose_gate_laws.specs.GateCore.Outcome.{IsNoReaderFault, reader_failures, writer_failures}
+use Rattle.cose_gate_laws.specs.GateCore.Outcome.{IsNoReaderFault, IfTooLong}
+use Rattle.cose_gate_laws.specs.GateCore.Outcome.{reader_failures, writer_failures}
 use Rattle.cose_gate_laws.specs.GateCore.Questions.{Question}
 use Rattle.cose_gate_laws.specs.GateCore.Run.{Step, Run, passes, text_of, questions_of, output_of}
 use Rattle.cose_gate_laws.specs.GateCore.Run.{passed_count, refused_count}
@@ -261,6 +262,7 @@ pub record Gates {R E W F P J : Type 0}
       → r.failed (reader_of decoder') ≡ r.failed (reader_of decoder)
       → offset_of decoder + 4096 < 2 ^ 64 → IsOk result
   pub no_memory_of_nothing : left_of r.left decoder ≡ Some [] → result ≢ Err Memory
+  pub far : IfErr result (IfTooLong (IsFar (offset_of decoder')))
   pub reader : r.failed (reader_of decoder')
       ≡ r.failed (reader_of decoder) + reader_failures r.ends result
   pub writer : w.failed out' ≡ w.failed out + writer_failures result

@@ -23,7 +23,7 @@ use Rattle.cose_gate_core.specs.Questions.{Question, MessageFields, questions}
 use Rattle.cose_gate_core.specs.Asked.{first_no, folded_over, IsFront}
 use Rattle.cose_gate_core.specs.Findings.{judged}
 use Rattle.cose_gate_core.specs.Run.{Step, Steps, judged_by, has_passed, passes, asked_of, written_of, questions_of, output_of, entries_of, passed_count, refused_count, Course}
-use Rattle.cose_gate_core.specs.Outcome.{Rules, Sight, Made, IsFaultOf, IsReadFault, StandsIn, IsNoReaderFault, Answers}
+use Rattle.cose_gate_core.specs.Outcome.{Rules, Sight, Made, IsFaultOf, IsReadFault, StandsIn, IsNoReaderFault, Answers, IfTooLong}
 use Rattle.cose_gate_core.specs.Passing.{ItemRules, ItemSight, WentThrough, Half, HalfWritten, ItemFails, at_end, stopped_by}
 use Rattle.coset_labels.specs.Limits.{nesting_of}
 use Rattle.cose_gate_core.specs.Terms.{IsTaken}
@@ -492,3 +492,18 @@ if_ok (Err e) f p = p
 abbrev pub read_of : (terms : Terms) (l l' : Option (List ℕ)) (p p' : ℕ) (v : Tree) (exact : Bool) → Moves l l' p p' (λ (b : List ℕ). IsTaken terms b v exact)
     → Moves l l' p p' (λ (b : List ℕ). Reads b (nesting_of terms.limits) v)
 read_of terms l l' p p' v exact t = record { bytes = t.bytes; has = t.has.0; taken = t.taken; grown = t.grown }
+
+-- offsets grow too long only near what they can be
+pub read_far : {E : Type 0} (ends : E → Bool) (n : ℕ) (l l' : Option (List ℕ)) (at at' : ℕ) (f : GateFault E) → IsReadFault ends n l l' at at' f → IfTooLong (IsFar at') f
+read_far ends n l l' at at' (Decode (de.Io e)) r = tt
+read_far ends n l l' at at' (Decode (de.Syntax p)) r = tt
+read_far ends n l l' at at' (Decode (de.Semantic o k)) r = tt
+read_far ends n l l' at at' (Decode de.RecursionLimitExceeded) r = tt
+read_far ends n l l' at at' (Decode de.Memory) r = tt
+read_far ends n l l' at at' (Decode de.TooLong) r = let taken : SomeTaken l l' at at' (de.TooLong {E}) = r.3 in taken.has
+read_far ends n l l' at at' Write r = tt
+read_far ends n l l' at at' Memory r = tt
+
+pub stopped_not_long : {E : Type 0} (P : Type 0) (fault : ItemFault) → IfTooLong P (stopped_by {E} fault)
+stopped_not_long P fault.Write = tt
+stopped_not_long P fault.Memory = tt

@@ -195,3 +195,14 @@ writer_failures (Ok counts) = 0
 writer_failures (Err (Decode e)) = 0
 writer_failures (Err Write) = 1
 writer_failures (Err Memory) = 0
+
+-- P holds if offsets grow too long
+abbrev pub IfTooLong : {E : Type 0} → Type 0 → GateFault E → Type 0
+IfTooLong P (Decode (de.Io e)) = Unit {0}
+IfTooLong P (Decode (de.Syntax p)) = Unit {0}
+IfTooLong P (Decode (de.Semantic o k)) = Unit {0}
+IfTooLong P (Decode de.RecursionLimitExceeded) = Unit {0}
+IfTooLong P (Decode de.Memory) = Unit {0}
+IfTooLong P (Decode de.TooLong) = P
+IfTooLong P Write = Unit {0}
+IfTooLong P Memory = Unit {0}

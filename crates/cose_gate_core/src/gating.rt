@@ -2,13 +2,13 @@
 ghost use Rattle.std.specs.Prelude.{◌≡◌, ◌≢◌, ◌+◌, ◌<◌, ◌^◌, [], Some, None, Ok, Err};
 ghost use Rattle.std.specs.Prelude.{IsOk, IfOk, IfErr, OnOk, true, not, if◌then◌else◌};
 ghost use Rattle.ciborium.specs.Damage.{Damage};
-ghost use Rattle.ciborium.specs.Reading.{NamesFault, Steady, TakesSome, IsNoMemory, IfEnd};
+ghost use Rattle.ciborium.specs.Reading.{NamesFault, Steady, TakesSome, IsNoMemory, IfEnd, IsFar};
 ghost use Rattle.ciborium_ll.specs.Seen.{Takes};
 ghost use Rattle.ciborium_ll.specs.Views.{left_of, offset_of, waiting_of, reader_of, seen};
 ghost use Rattle.ciborium_value.specs.View.{view};
 ghost use Rattle.coset_labels.specs.Limits.{nesting_of};
 ghost use Rattle.cose_gate_core.specs.Calls.{rules_by, sight_of};
-ghost use Rattle.cose_gate_core.specs.Outcome.{Answers, IsNext, IsReadFault};
+ghost use Rattle.cose_gate_core.specs.Outcome.{Answers, IsNext, IsReadFault, IfTooLong};
 ghost use Rattle.cose_gate_core.specs.Outcome.{reader_failures, writer_failures};
 ghost use Rattle.cose_gate_core.specs.Passing.{at_end};
 ghost use Rattle.cose_gate_core.specs.Run.{has_passed};
@@ -244,6 +244,7 @@ pub fn gate_by<R: Read, W: Write, P: Report, J: Judge>(
         → offset_of decoder.old + 4096 < 2 ^ 64 → IsOk result }
     ensures no_memory_of_nothing { left_of R.left decoder.old ≡ Some []
         → result ≢ Err Memory }
+    ensures far { IfErr result (IfTooLong (IsFar (offset_of decoder.new))) }
     ensures reader { R.failed (reader_of decoder.new)
         ≡ R.failed (reader_of decoder.old) + reader_failures R.ends result }
     ensures writer { W.failed out.new ≡ W.failed out.old + writer_failures result }
