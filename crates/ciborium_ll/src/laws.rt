@@ -5,7 +5,8 @@ ghost use Rattle.ciborium_ll.specs.Title.{FitsHeader, Title, title_of, IsCut, St
 ghost use Rattle.ciborium_ll.specs.Framing.{Frame, Any, joined};
 ghost use Rattle.ciborium_ll.specs.Stages.{Rest, Strays, EndsInside, stage_of};
 ghost use Rattle.ciborium_ll.specs.Pieces.{IsString, FitBytes};
-ghost use Rattle.ciborium_ll.specs.Copies.{Copies, CopiesHalt, Halt, paused, refused, ended, damaged};
+ghost use Rattle.ciborium_ll.specs.Copies.{Copies, CopiesHalt, Halt};
+ghost use Rattle.ciborium_ll.specs.Copies.{paused, refused, ended, damaged};
 ghost use Rattle.ciborium_ll.specs.declared.hdr.Header.{Header};
 ghost use Rattle.ciborium_ll.specs.declared.hdr.Header.TheVariants.{Bytes, Text};
 ghost use Rattle.ciborium_ll.specs.declared.stage.Stage.{Stage};
