@@ -113,9 +113,9 @@ impl CopyBody for Text {
 /// The buffer is any of at least 4 bytes; a body goes through it in pieces.
 ///
 /// # Errors
-/// At each, so many whole heads and strings were copied, and then a beginning of the next one.
-/// `Read` with an end if the bytes end before a head or body that is due, or in one; `Read` with
-/// `Syntax` and the place of a byte that begins no title, of a head that the open string can't
+/// Before it, whole heads and strings were copied, perhaps none, and then a beginning of the next
+/// one. `Read` with an end if the bytes end before a head or body that is due, or in one; `Read`
+/// with `Syntax` and the place of a byte that begins no title, of a head that the open string can't
 /// hold, or of a body that is no UTF-8; `TooLong` if the offset could pass `usize::MAX`. `Write`
 /// with the writer's fault, after a beginning of the head, piece or break that was due.
 pub fn recode<R: Read, W: Write>(
