@@ -1,4 +1,4 @@
--- What calls return that read a value within limits, and that write fields.
+-- What calls return that read a value within limits or write fields.
 use Rattle.std.specs.Prelude.{◌≡◌, ℕ, Option, Some, Result, MatchResult}
 use Rattle.ciborium_value.specs.Tree.{Tree}
 use Rattle.coset_labels.specs.Faults.{CoseFault, OrMemory, CantWrite}

@@ -73,8 +73,8 @@ fn are_written_back(alloc: Global) -> Result<bool, CoseError> {
     Ok(is_written_back && is_read_again)
 }
 
-/// What was met by a call whose closures fail only if there is no memory, or if a part is
-/// missing that isn't.
+/// What was met by a call whose closures fail only if out of memory, or if a part is missing, and
+/// none is.
 fn flat(answer: Result<bool, Met>) -> Result<bool, CoseError> {
     match answer {
         Ok(is_so) => Ok(is_so),

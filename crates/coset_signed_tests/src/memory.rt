@@ -26,8 +26,8 @@ const SIGN: &[u8] = &[
     0x83, 0x40, 0xa0, 0x41, 2,
 ];
 
-/// What was met by a call whose closures fail only if there is no memory, or if a signature
-/// isn't the wanted one.
+/// What was met by a call whose closures fail only if out of memory, or if a signature isn't the
+/// wanted one.
 fn flat(answer: Result<bool, Met>) -> Result<bool, CoseError> {
     match answer {
         Ok(is_so) => Ok(is_so),

@@ -78,8 +78,8 @@ pub(crate) type Row = (&'static str, &'static str);
 /// signer gives.
 pub(crate) const LONG: &[u8] = &[7; 300];
 
-/// The error of a call that asked and then met a fault of its own, or answered for a closure that
-/// it hadn't asked.
+/// The error of a call that asked and then met a fault of its own, or returned the result of a
+/// closure that it hadn't asked.
 const UNTRUE: CoseError = CoseError::UnexpectedItem("a call", "another one");
 
 /// What a call returns, if its closure was asked exactly if the result isn't the call's own
