@@ -116,7 +116,7 @@ static bytes each_room(int which, bytes given, bytes input, bool all) {
   return whole;
 }
 
-/* How many questions records show; each text of them lies within. */
+/* How many questions records show; each byte string in them lies within. */
 static size_t count_of(bytes records) {
   size_t count = 0, read = 0;
   cose_gate_text rest = {records.at, records.length};

@@ -126,7 +126,7 @@ def signatures(page):
 def part(page):
     """What is between a page's marker lines."""
     out, left_out = signatures(page)
-    more = f"\nLeft out: {left_out} methods whose one clause has no name, as setters and looks into a value.\n" if left_out else ""
+    more = f"\nLeft out: {left_out} methods whose one clause has no name, such as setters and accessors.\n" if left_out else ""
     return f"{BEGIN}\n\n```text\n" + "\n".join(out) + f"\n```\n{more}\n{END}"
 
 

@@ -77,7 +77,7 @@ class Question(NamedTuple):
 
 
 def texts_of(data, at, end):
-    """The texts from `at` to `end`, each after its length in eight bytes, the lowest first."""
+    """The byte strings from `at` to `end`, each after its length in eight bytes, the lowest first."""
     while at < end:
         length = int.from_bytes(data[at : at + 8], "little")
         yield at + 8, at + 8 + length
