@@ -90,7 +90,7 @@ static bytes exactly(int which, bytes given, bytes input, bytes *lines, uint32_t
   return out;
 }
 
-/* Room of some length beside what is needed. */
+/* A call with a buffer of this length, whether or not it is what is needed. */
 static void with_room(int which, bytes given, bytes input, size_t length, bytes whole, bytes lines, uint32_t status) {
   bytes out = room_of(length), some = room_of(length);
   memset(out.at, 0xaa, length);
