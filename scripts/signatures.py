@@ -4,7 +4,7 @@ source. With --check it writes nothing, and says each page that isn't current: s
 
 A page has the free functions, the types' own methods and the traits that its crate passes on from the crates named below. By these rules it
 leaves out: implementations of traits; laws; and of builders and types with many methods those with no clause or one without a name, as
-setters and looks into a value have. It says how many these are."""
+setters and accessors have. It says how many these are."""
 import pathlib
 import re
 import sys

@@ -62,7 +62,8 @@ def prose(file):
 
 
 bad, used = 0, set()
-for file in sorted({file for pattern in PAGES for file in TOP.glob(pattern)} - {pathlib.Path(__file__).resolve()}):
+files = {file for pattern in PAGES for file in TOP.glob(pattern) if file.is_file() and "target" not in file.parts}
+for file in sorted(files - {pathlib.Path(__file__).resolve()}):
     for number, line in prose(file):
         hit = f"{file.relative_to(TOP)}: {line.strip()}"
         for word, uses in WORDS.items():
