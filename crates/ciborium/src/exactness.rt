@@ -26,7 +26,7 @@ pub trait Exactness {
             → IsKept tag c (view whole.now) (flag self.old) (flag self.new) };
 }
 
-/// Whether they are, if it is asked.
+/// Keeps whether the bytes so far are canonical encoding.
 #[derive(Drop)]
 pub struct Asked(pub bool);
 
@@ -42,7 +42,7 @@ impl Exactness for Asked {
     }
 }
 
-/// Nothing, if it isn't asked.
+/// Keeps nothing: it isn't asked whether they are.
 #[derive(Drop)]
 pub struct Unasked;
 

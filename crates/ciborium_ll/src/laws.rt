@@ -66,8 +66,8 @@ pub fn rests_are_framed()
         → Frame Text IsUtf8 (title ++ b) bodies → Rest Text IsUtf8 (stage_of len) b bodies }
 {}
 
-/// If a stray head was met, or the bytes end inside an open string, then what is left of a string
-/// of that kind is not at their front.
+/// If a stray head was met, or the bytes end inside an open string, then they don't begin with the
+/// rest of a string of that kind.
 pub fn no_rest()
     ensures stray { (stage : Stage) (place p : ℕ) (a l b after : List ℕ) (bodies : List (List ℕ))
         → Strays Bytes Any stage place p a
