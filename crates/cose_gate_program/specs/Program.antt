@@ -222,7 +222,7 @@ pub record RanJudged {T : Type 0} (limits : Bounds) (hearing : Hearing T) (aad :
 
 -- how the program ends: if KEYS holds a key set, and AADHEX is hex or absent, after a run with
 -- them; else nothing was read and nothing written. KEYS is tested before AADHEX, and AADHEX before
--- what KEYS holds; it may be out of memory for these before the run.
+-- what KEYS holds; it may run out of memory for these before the run.
 pub data EndsWithin (limits : Bounds) (allows : List KeyFields → Question → Bool)
     (keys aad : Option (List ℕ)) (old new : Devices) (status : ℕ) : Type 0 where
   no_file : keys ≡ None → status ≡ 3 → new ≡ old → EndsWithin limits allows keys aad old new status

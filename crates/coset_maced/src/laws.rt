@@ -91,7 +91,7 @@ pub fn mac_fits(message: &CoseMac)
     recipients_fit(&message.recipients);
 }
 
-/// A message that was read from bytes is read again of the bytes that it is written as, the same,
+/// A message that was read from bytes is read again from the bytes that it is written as, the same,
 /// received bytes included. So is one that was read after its tag and is written with it.
 pub fn mac0_reads_again(message: &CoseMac0)
     ensures item { (b : List ℕ) (u : Tree)

@@ -111,7 +111,7 @@ pub fn sign_fits(message: &CoseSign)
     signatures_fit(&message.signatures);
 }
 
-/// A message that was read from bytes is read again of the bytes that it is written as, the same,
+/// A message that was read from bytes is read again from the bytes that it is written as, the same,
 /// received bytes included. So is one that was read after its tag and is written with it.
 pub fn sign1_reads_again(message: &CoseSign1)
     ensures item { (b : List ℕ) (u : Tree)
