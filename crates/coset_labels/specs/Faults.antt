@@ -9,7 +9,7 @@ use Rattle.coset_labels.specs.declared.error.CoseError.{CoseError}
 use Rattle.coset_labels.specs.declared.error.CoseError.TheVariants as code
 
 -- `undecodable` tells the damage of bytes that should have been one item. `misplaced` is such
--- damage with an offset if a reader names none; no call returns it
+-- damage with an offset that no reader names; no call returns it
 pub data CoseFault : Type 0 where
   undecodable : Fault → CoseFault
   too_long duplicate_key unencodable extraneous out_of_range unexpected : CoseFault
