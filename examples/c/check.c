@@ -18,7 +18,7 @@ static bytes room_of(size_t length) {
   return room;
 }
 
-/* The whole of a stream; NULL if it can't be read, or out of memory. */
+/* The whole of a stream; NULL if it can't be read, or memory ran out. */
 static bytes read_all(FILE *from) {
   bytes all = {malloc(1), 0};
   size_t room = 1;

@@ -23,7 +23,7 @@ var (
 	ErrLimits = errors.New("the limits are out of range")
 	// ErrKeys: the bytes are no key set.
 	ErrKeys = errors.New("the bytes are no key set")
-	// ErrStopped: the input is no CBOR from some place on, or out of memory. What passed before is in Checked.
+	// ErrStopped: the input is no CBOR from some place on, or memory ran out. What passed before is in Checked.
 	ErrStopped = errors.New("the input is no CBOR, or memory was refused")
 )
 

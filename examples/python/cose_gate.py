@@ -39,7 +39,7 @@ class KeysError(GateError):
 
 
 class StoppedError(GateError):
-    """The input is not CBOR, or out of memory."""
+    """The input is not CBOR, or memory ran out."""
 
     status = 4
 

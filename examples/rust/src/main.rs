@@ -48,7 +48,7 @@ enum GateError {
     Limits,
     /// The bytes are no key set.
     Keys { lines: Vec<u8> },
-    /// The input is no CBOR from some place on, or out of memory; `passed` is what passed before.
+    /// The input is no CBOR from some place on, or memory ran out; `passed` is what passed before.
     Stopped { passed: Vec<u8>, lines: Vec<u8> },
     /// What would be written is longer than the buffer, and so long.
     NoRoom { needed: usize },
