@@ -25,7 +25,7 @@ use Rattle.callers.specs.Asking.{always, IsAsked, IsAskedInPart, IsPassedBy, Are
 use Rattle.callers.specs.Judging.{allows}
 use Rattle.callers.proofs.Relay.{decided, told_all}
 
--- records that are told one after another stand one after another
+-- records that are told one after another are in that order
 told_records : (told : List ℕ) (qs : List Question)
     → folded_over (λ t q. t ++ record_of q) told qs ≡ told ++ flat_map record_of qs
 told_records told [] = sym (append-nil told)
@@ -175,7 +175,7 @@ untouched limits says keys aad old new status (after_run b d k a ks has r) more 
     absurd (between status more less
     (over_status limits (says ks) d old new r.ran.input r.ran.steps status r.ran.over))
 
--- where none is refused each passes
+-- if none is refused each passes
 all_pass : (p : Bool) (n : ℕ) → cond {A = ℕ} (not p) 1 0 + n ≡ 0 → (p ≡ true) × (n ≡ 0)
 all_pass true n e = let h : 0 + n ≡ 0 = e in (refl, omega (arith, h))
 all_pass false n e = let h : 1 + n ≡ 0 = e in absurd (let k : ⊥ = omega (arith, h) in k)

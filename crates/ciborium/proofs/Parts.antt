@@ -12,7 +12,7 @@ use Rattle.ciborium.specs.Front.{Fronts}
 use Rattle.ciborium.proofs.Once.{append_nil, regroup, first, split, once, no_break, head_kind, tree_kind, array_same, map_same}
 use Rattle.ciborium.proofs.ChildLemmas.{all_count, unflat_depth, flat_count}
 
--- the tree t stands at the front, whatever it means
+-- the tree t is at the front, whatever it means
 pub record Stands (b : List ℕ) (t : Tree) (rest : List ℕ) : Type 0 where
   pub spelling : List ℕ
   pub whole : b ≡ spelling ++ rest
@@ -64,7 +64,7 @@ simple_part b r rest n (simple m) s f =
     cc
 simple_part b r rest n t s f = absurd (let k : 6 ≡ tree_kind t = sym (kind_simple n) ∙ kind_at b r rest (Simple n) t s f in omega arith)
 
--- a tag and what it stands over
+-- a tag and what it is over
 pub record Tagged (n : ℕ) (t : Tree) (inside rest : List ℕ) : Type 0 where
   pub under : Tree
   pub is : t ≡ tag n under
@@ -123,7 +123,7 @@ record Children (Q : Trees → Type 0) (total : ℕ → ℕ) (o : Option ℕ) (l
   pub count : tree_count trees ≡ total length
   pub held : Held o length inner inside rest
 
--- one more child than `done` stands at `at`, if all of them are n and `behind` follows them
+-- one more child than `done` is at `at`, if all of them are n and `behind` follows them
 More : ℕ → ℕ → List ℕ → List ℕ → Type 0
 More done n at behind = (done < n) ⊎ (((done ≢ n) ⊎ ((r : List ℕ) → at ≢ 255 ∷ r)) × ((w : List ℕ) × (behind ≡ 255 ∷ w)))
 
@@ -237,7 +237,7 @@ module _ (P : Tree → Type 0) (Q : Trees → Type 0) (inherited : Inherited P Q
       let d : depth_all c.trees < limit = c.deep in
       next_child p.trees c.trees f.spelling at c.inner m.0 (limit - 1) p.spells c.spells (sym f.whole ∙ m.1) m.2 (omega arith) c.have
 
-  -- where an item stands, each child that is due stands too
+  -- if an item is there, each child that is due is there too
   pub child_there : (b inside at rest : List ℕ) (limit : ℕ) (h : Header) (done : Trees) (t : Tree) → Begins b h inside → Fronts inside (limit - 1) done at → Due h (tree_count done) at → Stands b t rest → depth t ≤ limit → P t
       → Standing P at (limit - 1)
   child_there b inside at rest limit (Array (Some n)) done t s fs due f d p = due_child (λ n. n) (Some n) limit inside at rest done (array_children b inside rest (Some n) limit t s f d p) fs due

@@ -248,7 +248,8 @@ abbrev pub BeginFails : {E : Type 0} → (E → Bool) → ℕ → List Frame →
 BeginFails ends limit fs h at old new e = (from : ℕ) (b : List ℕ) → from + length b ≡ old.offset → Rooted fs → Titled limit (opened fs) h at from old.offset b
     → Faults ends limit from b old.left new.offset e
 
--- the item after a title of h is read, and the flag tells whether its text is the shortest
+-- the item after a title of h is read, and the flag tells whether its bytes are its canonical
+-- encoding
 abbrev pub ReadExact : Header → ℕ → Tree → Bool → Bool → List ℕ → Type 0
 ReadExact h limit v w w' y = (title : List ℕ) → Title title h
     → Reads (title ++ y) limit v × (length (title ++ y) < 2 ^ 64 → Says w ((title ≡ title_of h) × IsEncoded h) → Says w' (title ++ y ≡ enc v))

@@ -216,8 +216,8 @@ fn take_title<R: Read, X: Exactness>(
     }
 }
 
-/// The value of a tag over its content. If the fold changes a byte string, its text was not the
-/// shortest.
+/// The value of a tag over its content. If the fold changes a byte string, its bytes were not
+/// canonical encoding.
 fn tag_value<E, X: Exactness>(
     alloc: Global,
     tag: u64,
@@ -629,7 +629,7 @@ fn begin<R: Read, X: Exactness>(
 }
 
 /// The item after the title of `header`, which begins at the place `at`. `exact` tells whether the
-/// text is the shortest so far, and stays false once it is not.
+/// bytes so far are canonical encoding, and stays false once they aren't.
 pub fn read_item<R: Read, X: Exactness>(
     alloc: Global,
     decoder: &mut Decoder<R>,

@@ -16,7 +16,7 @@ use std::alloc::Global;
 /// it.
 ///
 /// # Errors
-/// Those of `from_decoder`; `Semantic` with the type's fault if the item is none of it, and it was
+/// Those of `from_decoder`; `Semantic` with the type's fault if the item isn't of it, and it was
 /// taken then; `Memory` also for an item that was taken, if the type grows.
 pub fn typed_item<T: Deserialize, R: Read>(
     alloc: Global,

@@ -1,4 +1,4 @@
--- The facts of a call of the gate, from its answer by cases.
+-- The facts of a call of the gate, from its result by cases.
 use Rattle.std.proofs.Common.{◌≡◌, ◌≢◌, ℕ, ◌+◌, ◌<◌, ◌⊎◌, inl, inr, List, [], ◌∷◌, ◌++◌, length, map, Option, Some, Bool, not, cond, refl, sym, ap, subst, ◌∙◌, arith, append_assoc, append-nil}
 use Rattle.std.specs.Prelude.{Result, Ok, Err, IfOk, IfErr, IsTrue}
 use Rattle.std.specs.Io.KnownBytes.{Appends}
@@ -146,7 +146,7 @@ module _ {T S : Type 0} (rules : Rules T S) where
             → IsFaultOf ends rules.limits.nesting (old.offset + length b) more e → IsFaultOf ends rules.limits.nesting (old.offset + length b) rest e
         rest_at cs more e c u f = subst (λ (z : List ℕ). IsFaultOf ends rules.limits.nesting (old.offset + length b) z e) (sym (full cs more c u).1) f
 
-        -- at an end, where the offset stands
+        -- at an end, the place of the offset
         end_at : (cs : List Step) (more : List ℕ) (e : E) → Course rules.limits rules.allows rules.aad old.offset b cs more → IsUnreadableWithin rules.limits.nesting more
             → IfKnown old.left (λ a. IfEnd ends (old.offset + length b < new.offset + length more) (de.Io e)) → IsTrue (ends e) → old.offset + length b < new.offset + length rest
         end_at cs more e c u k t =

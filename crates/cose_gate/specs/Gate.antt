@@ -46,15 +46,16 @@ call_of r w p j limits aad decoder out report judge decoder' out' report' judge'
 }
 
 -- P holds of the bytes to come, if these are known, of the steps of the run over them, and of what
--- is left after its items. Of a step's entry it is open which of a shape's faults is named, and so
--- P holds of each way to say it.
+-- is left after its items. Of a step's entry it isn't said which of a shape's faults is named, and
+-- so P holds of each way to say it.
 abbrev pub OverRun : {T S : Type 0} → Rules T S → Sight T S
     → (List ℕ → List Step → List ℕ → Type 0) → Type 0
 OverRun rules old P =
     (b : List ℕ) (ss : List Step) (rest : List ℕ) → old.left ≡ Some b
     → Run rules.limits rules.allows rules.aad old.offset b ss rest → P b ss rest
 
--- the gate went through all items: neither device failed, memory was found, and offsets fit
+-- the gate went through all items: neither reader nor writer failed, memory was found, and offsets
+-- fit
 abbrev pub IfThrough : {E : Type 0} → (E → Bool) → Result Counts (GateFault E) → Type 0 → Type 0
 IfThrough ends (Ok counts) P = P
 IfThrough ends (Err (Decode (de.Io e))) P = IsTrue (ends e) → P
@@ -94,9 +95,8 @@ pub record WrittenFront {T S : Type 0} (rules : Rules T S) (old new : Sight T S)
   pub front : IsFront text (output_of rules.allows rules.aad ss)
   pub written : Appends old.written new.written text
 
--- the text of one message that passes is torn: what is before it was done whole, all was asked
--- about it, it wasn't noted, a beginning of its encoding was written, and the offset is the one
--- after its item
+-- one message that passes is torn: what is before it was done whole, all was asked about it, it
+-- wasn't noted, a beginning of its encoding was written, and the offset is the one after its item
 pub record Torn {T S : Type 0} (rules : Rules T S) (old new : Sight T S)
     (ss : List Step) : Type 0 where
   pub done : List Step
@@ -112,10 +112,10 @@ pub record Torn {T S : Type 0} (rules : Rules T S) (old new : Sight T S)
   pub written : Appends old.written new.written (output_of rules.allows rules.aad done ++ text)
   pub stands : new.offset ≡ last.item.offset + length last.item.bytes
 
--- there was no memory at one item, or between items: what is before was done whole; of the item's
--- questions a beginning was asked. If all were asked its text was written, if it passes; if not,
--- nothing of it was. It wasn't noted. At an item the offset is the one after it; between items the
--- gate is in the bytes `more`, those to come after the last item that was done.
+-- out of memory at one item, or between items: what is before was done whole; of the item's
+-- questions a beginning was asked. If all were asked its encoding was written, if it passes; if
+-- not, nothing of it was. It wasn't noted. At an item the offset is the one after it; between items
+-- the gate is in the bytes `more`, those to come after the last item that was done.
 pub record Refused {T S : Type 0} (rules : Rules T S) (old new : Sight T S)
     (ss : List Step) : Type 0 where
   pub done : List Step
@@ -210,11 +210,11 @@ abbrev pub WritesFront : {T S E : Type 0} → Call T S E → Result Counts (Gate
 WritesFront c r =
     OverRun c.rules c.old (λ b ss rest. IfErr r (λ fault. WrittenFront c.rules c.old c.new ss))
 
--- after Write: one text is torn
+-- after Write: one message is torn
 abbrev pub Tears : {T S E : Type 0} → Call T S E → Result Counts (GateFault E) → Type 0
 Tears c r = OverRun c.rules c.old (λ b ss rest. IfWrite r (Torn c.rules c.old c.new ss))
 
--- after Memory: whole texts were written
+-- after Memory: whole encodings were written
 abbrev pub WritesWhole : {T S E : Type 0} → Call T S E → Result Counts (GateFault E) → Type 0
 WritesWhole c r = OverRun c.rules c.old (λ b ss rest. IfMemory r (Refused c.rules c.old c.new ss))
 
@@ -233,8 +233,8 @@ pub record Gates {R E W F P J : Type 0}
     (decoder : Decoder R) (out : W) (report : P) (judge : J)
     (decoder' : Decoder R) (out' : W) (report' : P) (judge' : J)
     (result : Result Counts (GateFault E)) : Type 0 where
-  -- neither device fails, memory is found and offsets fit: the run's questions, its output, and an
-  -- entry for each item
+  -- neither reader nor writer fails, memory is found and offsets fit: the run's questions, its
+  -- output, and an entry for each item
   pub asked : AsksAll (call_of r w p j limits aad
       decoder out report judge decoder' out' report' judge') result
   pub written : WritesAll (call_of r w p j limits aad

@@ -1,4 +1,4 @@
--- What is answered, from how far the gate has come.
+-- What is returned, from how far the gate has come.
 use Rattle.std.proofs.Common.{◌≡◌, ◌≢◌, ◌⊎◌, inl, inr, ℕ, ◌+◌, ◌^◌, ◌<◌, ◌≤◌, List, [], ◌∷◌, ◌++◌, length, map, Option, None, Some, Bool, true, false, not, cond, refl, sym, ap, subst, ◌∙◌, arith, append_assoc, append-nil, length-append}
 use Rattle.std.specs.Prelude.{Result, Ok, Err, IfOk}
 use Rattle.std.specs.Io.KnownBytes.{Consumes, Appends}
@@ -80,7 +80,7 @@ record Partly (l l' : Option (List ℕ)) (p p' : ℕ) (P : Type 0) : Type 0 wher
   pub grown : p' ≡ p + length taken
   pub behind : P → IfKnown l (λ b. l' ≡ Some rest)
 
--- what is left is told where it was told what was to come
+-- what is left is told if it was told what was to come
 rest_told : (l l' : Option (List ℕ)) (b : List ℕ) → Consumes l l' b → IfKnown l (λ a. l' ≡ Some (rest_of l'))
 rest_told None l' b c = tt
 rest_told (Some a) None b c = absurd c
@@ -247,7 +247,7 @@ module _ {T S : Type 0} (rules : Rules T S) where
         };
       }
 
-  -- where the gate is in what was to come after the steps
+  -- the gate is in what was to come after the steps
   stands_in : (old new newer : Sight T S) (P : Type 0) (input b : List ℕ) → Consumes old.left new.left b → (k : Partly new.left newer.left new.offset newer.offset P)
       → new.offset + length k.more ≡ old.offset + length input → StandsIn old newer input k.more P
   stands_in old new newer P input b c k s = record {
@@ -348,7 +348,7 @@ module _ {T S : Type 0} (rules : Rules T S) where
         };
       }
 
-  -- Write, in the text of one more message
+  -- Write, in the encoding of one more message
   write_within : {E : Type 0} (ends : E → Bool) (old new newer : Sight T S) (passed refused : ℕ) → Reached rules old new passed refused
       → (v : Tree) (t : Moves new.left newer.left new.offset newer.offset (λ (b : List ℕ). Reads b rules.limits.nesting v)) → HalfWritten (item_rules_of rules) t.bytes v (item_sight_of new) (item_sight_of newer)
       → newer.state ≡ new.state → Answers ends rules old newer (Err Write)
@@ -419,8 +419,8 @@ module _ {T S : Type 0} (rules : Rules T S) where
         };
       }
 
--- where nothing is left, the fault is an end at once, a failure of the device, or an offset that
--- grows too large
+-- if nothing is left, the fault is an end at once, a failure of the reader, or an offset that grows
+-- too large
 pub nothing_fails : {E : Type 0} (ends : E → Bool) (k p p' : ℕ) (f : Error E) → FailsAt ends [] p p' (λ stop b f. Damage stop b k f) f → IsNoMemory f
     → p + 4096 < 2 ^ 64 → ((at_end ends f ≡ true) × (p' ≡ p)) ⊎ ((x : E) × (f ≡ de.Io x) × (ends x ≡ false))
 nothing_fails {E = E} ends k p p' (de.Io x) d m small = either (ends x) refl
@@ -460,7 +460,7 @@ pub same_entry : (n m o p : ℕ) (v : Verdict) → n ≡ m → o ≡ p → (let 
 unfolding entry_at
 same_entry n m o p v a b = rw (a, b) refl
 
--- where no byte is left at the call, none was taken
+-- if no byte is left at the call, none was taken
 pub nothing_taken : {T S : Type 0} (rules : Rules T S) (old new : Sight T S) (n : ℕ) {m : ℕ} → Reached rules old new n m → old.left ≡ Some [] → (new.left ≡ Some []) × (new.offset ≡ old.offset)
 nothing_taken rules old new n r e = go new.left r.taken.bytes (subst (λ (l : Option (List ℕ)). Consumes l new.left r.taken.bytes) e r.taken.taken) r.taken.grown
   where
@@ -474,7 +474,7 @@ nothing_taken rules old new n r e = go new.left r.taken.bytes (subst (λ (l : Op
         empty [] e = refl
         empty (x ∷ xs) e = absurd (omega arith)
 
--- neither an end at once nor a failure of the device is left
+-- neither an end at once nor a failure of the reader is left
 pub nothing_answer : {E : Type 0} {X : Type 0} (ends : E → Bool) (p p' : ℕ) (f : Error E) (failed failed' : ℕ) → ((at_end ends f ≡ true) × (p' ≡ p)) ⊎ ((x : E) × (f ≡ de.Io x) × (ends x ≡ false))
     → (at_end ends f ≡ true → p' ≡ p → ⊥) → failed' ≡ fault_failures ends f failed → failed' ≡ failed → X
 nothing_answer ends p p' f failed failed' (inl w) not told same = absurd (not w.0 w.1)
@@ -483,7 +483,7 @@ nothing_answer ends p p' f failed failed' (inr (x, is, e)) not told same =
     let one : cond (ends x) failed (failed + 1) ≡ failed + 1 = ap (λ b. cond b failed (failed + 1)) e in
     absurd (omega arith)
 
--- what is told of an answer
+-- what is told of a result
 pub if_ok : {A E : Type 0} {P Q : A → Type 0} (r : Result A E) → ((x : A) → P x → Q x) → IfOk r P → IfOk r Q
 if_ok (Ok x) f p = f x p
 if_ok (Err e) f p = p

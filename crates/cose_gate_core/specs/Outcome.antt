@@ -45,7 +45,7 @@ pub record Made {T S : Type 0} (rules : Rules T S) (old new : Sight T S)
   pub written : Appends old.written new.written (output_of rules.allows rules.aad ss)
 
 -- the fault of the bytes `more`, if no item of at most n levels begins; `stop` is the place after
--- them. A failure of the device says nothing of the bytes, and being out of memory is no such
+-- them. A failure of the reader says nothing of the bytes, and being out of memory is no such
 -- fault.
 abbrev pub IsFaultOf : {E : Type 0} → (E → Bool) → ℕ → ℕ → List ℕ → Error E → Type 0
 IsFaultOf ends n stop more (de.Io e) = IsTrue (ends e) → Damage stop more n end × (more ≢ [])
@@ -139,10 +139,10 @@ pub record IfWriteFailed {T S : Type 0} (rules : Rules T S) (old new : Sight T S
   pub behind : IfKnown new.left (λ b. b ≡ more)
 
 -- Memory: `done` were made; of the questions of the next step a beginning was asked. If all were
--- asked it was done whole but for its entry, so its text was written if it passes; if not, nothing
--- of it was written. The offset is the one after its item then, and `more` is to come. If there is
--- no such step, an item was due: it was being read, or looked at, and some of the bytes `more` were
--- taken, the rest is left.
+-- asked it was done whole but for its entry, so its encoding was written if it passes; if not,
+-- nothing of it was written. The offset is the one after its item then, and `more` is to come. If
+-- there is no such step, an item was due: it was being read, or looked at, and some of the bytes
+-- `more` were taken, the rest is left.
 pub record IfMemoryRefused {T S : Type 0} (rules : Rules T S) (old new : Sight T S)
     (input : List ℕ) : Type 0 where
   pub done : List Step

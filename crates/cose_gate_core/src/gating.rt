@@ -79,7 +79,7 @@ impl<E> From<ItemFault> for GateFault<E> {
     }
 }
 
-/// The report got no memory.
+/// The report is out of memory.
 impl<E> From<AllocError> for GateFault<E> {
     ghost use Rattle.std.specs.Prelude.{◌≡◌};
     ghost use Rattle.cose_gate_core.specs.declared.gating.GateFault.TheVariants as fault;

@@ -1,4 +1,4 @@
--- What an answer of std that moved some bytes was.
+-- What a result of std that moved some bytes was.
 use Rattle.std.proofs.Common.{◌≡◌, ◌<◌, ℕ, zero, suc, Result, Ok, Err, arith, refl}
 use Rattle.std.specs.declared.io.Error.{Error}
 use Rattle.cose_gate_program.specs.Faults.{read_length_of}

@@ -8,7 +8,7 @@ abbrev pub is_end : InputFault → Bool
 is_end fault.End = true
 is_end fault.Failed = false
 
--- how many bytes one read of std's reader moved: some; none is an end, or it failed
+-- how many bytes one read from std's reader moved: some; none is an end, or it failed
 abbrev pub read_length_of : Result ℕ Error → Result ℕ InputFault
 read_length_of (Ok zero) = Err fault.End
 read_length_of (Ok (suc n)) = Ok (suc n)
