@@ -18,7 +18,7 @@ use Rattle.ciborium.specs.declared.frames.Handed.TheVariants as handed
 use Rattle.ciborium.specs.declared.frames.Opened.{Opened}
 use Rattle.ciborium.specs.declared.frames.Opened.TheVariants as opens
 use Rattle.ciborium.specs.Damage.{Damage}
-use Rattle.ciborium.specs.Front.{Reads}
+use Rattle.ciborium.specs.Front.{Reads, HoldsOne}
 use Rattle.ciborium.specs.Reading.{IfKnown, FailsAt, Closes, IsLeaf, OpensOver, ReadsBehind}
 use Rattle.ciborium.specs.Exact.{Says, IsEncoded, encoded, LevelsExact, TitleExact, ItemExact}
 use Rattle.ciborium.specs.Levels.{Level, Within, Titled, Handing}
@@ -183,6 +183,10 @@ LeafPut h old new s s' = (v : Value) × Takes s s' (λ b. (limit : ℕ) → Read
 -- items that no items follow in, of the bytes y from the place `now` on, were put into it
 abbrev pub Fills : Frame → Frame → ℕ → Bool → Bool → List ℕ → Type 0
 Fills old new now w w' y = (k : Bool) (limit from : ℕ) (fs : List Frame) (b : List ℕ) → Stage k w limit (old ∷ fs) None from now b → Stage k w' limit (new ∷ fs) None from (now + length y) (b ++ y)
+
+-- the bytes y from the place `now` on were taken of it: no item ends before their end
+abbrev pub FillHolds : Frame → ℕ → List ℕ → Type 0
+FillHolds top now y = (limit from : ℕ) (fs : List Frame) (b : List ℕ) → Stage false false limit (top ∷ fs) None from now b → HoldsOne (b ++ y)
 
 -- it is whole after them
 abbrev pub FillEnds : Frame → Frame → ℕ → Bool → Bool → List ℕ → Type 0

@@ -18,7 +18,7 @@ use Rattle.ciborium_value.specs.Folding.{IsTooNegative}
 use Rattle.ciborium_ll.specs.Framing.{Frame, joined}
 use Rattle.ciborium.specs.Damage.{Fault, end, deep, syntax, semantic, Damage, IsFree, IsLevel}
 use Rattle.ciborium_ll.specs.Framing.{Opened}
-use Rattle.ciborium.specs.Front.{Reads, ReadsAll}
+use Rattle.ciborium.specs.Front.{Reads, ReadsAll, HoldsOne}
 
 abbrev pub lifted : {E : Type 0} → HeadError E → Error E
 lifted (below.Io e) = code.Io e
@@ -100,6 +100,15 @@ IfEnd ends P (code.Semantic o k) = Unit {0}
 IfEnd ends P code.RecursionLimitExceeded = Unit {0}
 IfEnd ends P code.Memory = Unit {0}
 IfEnd ends P code.TooLong = Unit {0}
+
+-- P holds if there was no memory
+abbrev pub IfMemory : {E : Type 0} → Type 0 → Error E → Type 0
+IfMemory P (code.Io e) = Unit {0}
+IfMemory P (code.Syntax p) = Unit {0}
+IfMemory P (code.Semantic o k) = Unit {0}
+IfMemory P code.RecursionLimitExceeded = Unit {0}
+IfMemory P code.Memory = P
+IfMemory P code.TooLong = Unit {0}
 
 -- at an end the place is the one at the call exactly when no byte was left
 abbrev pub EndPlace : List ℕ → ℕ → ℕ → Type 0
@@ -193,6 +202,10 @@ IsPart text h part.Other = (h ≢ Break) × ((o : Option ℕ) → h ≢ string_h
 -- the bytes after a title of h
 abbrev pub ReadsBehind : Header → ℕ → Tree → List ℕ → Type 0
 ReadsBehind h limit v inner = (title : List ℕ) → Title title h → Reads (title ++ inner) limit v
+
+-- with a title of h before them, no item ends before the end of these bytes
+abbrev pub OneBehind : Header → List ℕ → Type 0
+OneBehind h b = (title : List ℕ) → Title title h → HoldsOne (title ++ b)
 
 -- the children of an array or a map whose head has the length o, and their break
 abbrev pub ChildrenBehind : Option ℕ → ℕ → ℕ → Trees → List ℕ → Type 0
