@@ -184,7 +184,8 @@ LeafPut h old new s s' = (v : Value) × Takes s s' (λ b. (limit : ℕ) → Read
 abbrev pub Fills : Frame → Frame → ℕ → Bool → Bool → List ℕ → Type 0
 Fills old new now w w' y = (k : Bool) (limit from : ℕ) (fs : List Frame) (b : List ℕ) → Stage k w limit (old ∷ fs) None from now b → Stage k w' limit (new ∷ fs) None from (now + length y) (b ++ y)
 
--- the bytes y from the place `now` on were taken of it: no item ends before their end
+-- the bytes y were taken for it from the place `now` on: after those of the whole so far, no item
+-- ends before their end
 abbrev pub FillHolds : Frame → ℕ → List ℕ → Type 0
 FillHolds top now y = (limit from : ℕ) (fs : List Frame) (b : List ℕ) → Stage false false limit (top ∷ fs) None from now b → HoldsOne (b ++ y)
 

@@ -11,7 +11,7 @@ use Rattle.ciborium.specs.declared.de.Error.TheVariants as de
 use Rattle.ciborium.proofs.Excludes.{excludes}
 use Rattle.cose_gate_laws.specs.GateCore.Asked.{folded_over, IsFront}
 use Rattle.cose_gate_laws.specs.GateCore.Questions.{Question}
-use Rattle.cose_gate_laws.specs.GateCore.Outcome.{Rules, Sight, Made, IsFaultOf, StandsIn, IsNoReaderFault, Outcome, Answers}
+use Rattle.cose_gate_laws.specs.GateCore.Outcome.{Rules, Sight, Made, IsFaultOf, StandsIn, TakesOne, IsNoReaderFault, Outcome, Answers}
 use Rattle.cose_gate_laws.specs.GateCore.Run.{Step, Run, Course, asked_of, written_of, text_of, passes, questions_of, output_of, entries_of, passed_count, refused_count}
 use Rattle.cose_gate_laws.specs.GateCore.declared.gating.Counts.{Counts}
 use Rattle.cose_gate_laws.specs.GateCore.declared.gating.GateFault.{GateFault}
@@ -377,6 +377,7 @@ module _ {T S : Type 0} (rules : Rules T S) where
               more = o.more;
               come = is ∙ ap Some input;
               between = λ none. subst (λ (z : List ℕ). StandsIn old new z o.more (Unit {0})) input (o.between (pair_none o.last s.behind s.then none));
+              one_due = λ none. subst (λ (z : List ℕ). TakesOne old new z o.more) input (o.one_due (pair_none o.last s.behind s.then none));
             }
 
             by_texts : ((o.texts ≡ o.done) × (o.asked ≢ questions_of rules.allows rules.aad o.last))

@@ -11,7 +11,7 @@ use Rattle.ciborium.specs.declared.de.Error.TheVariants as de
 use Rattle.cose_gate_laws.specs.GateCore.Asked.{folded_over, IsFront}
 use Rattle.cose_gate_laws.specs.GateCore.Calls.{rules_by, sight_of}
 use Rattle.cose_gate_laws.specs.GateCore.Findings.{Bounds}
-use Rattle.cose_gate_laws.specs.GateCore.Outcome.{Rules, Sight, Answers, IsFaultOf, StandsIn}
+use Rattle.cose_gate_laws.specs.GateCore.Outcome.{Rules, Sight, Answers, IsFaultOf, StandsIn, TakesOne}
 use Rattle.cose_gate_laws.specs.GateCore.Outcome.{IsNoReaderFault, IfTooLong}
 use Rattle.cose_gate_laws.specs.GateCore.Outcome.{reader_failures, writer_failures}
 use Rattle.cose_gate_laws.specs.GateCore.Questions.{Question}
@@ -115,7 +115,8 @@ pub record Torn {T S : Type 0} (rules : Rules T S) (old new : Sight T S)
 -- out of memory at one item, or between items: what is before was done whole; of the item's
 -- questions a beginning was asked. If all were asked its encoding was written, if it passes; if
 -- not, nothing of it was. It wasn't noted. At an item the offset is the one after it; between items
--- the gate is in the bytes `more`, those to come after the last item that was done.
+-- the gate is in the bytes `more`, those to come after the last item that was done, and took none
+-- after the next item.
 pub record Refused {T S : Type 0} (rules : Rules T S) (old new : Sight T S)
     (ss : List Step) : Type 0 where
   pub done : List Step
@@ -136,6 +137,7 @@ pub record Refused {T S : Type 0} (rules : Rules T S) (old new : Sight T S)
   pub more : List ℕ
   pub come : old.left ≡ Some (bytes_of (done ++ last) ++ more)
   pub between : last ≡ [] → StandsIn old new (bytes_of (done ++ last) ++ more) more (Unit {0})
+  pub one_due : last ≡ [] → TakesOne old new (bytes_of (done ++ last) ++ more) more
 
 -- where the gate stops: Ok exactly when nothing is left after the items, with all bytes taken, and
 -- the reader tells that nothing is left; else with the fault of what is left. Of an item that is

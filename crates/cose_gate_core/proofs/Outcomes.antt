@@ -6,7 +6,9 @@ use Rattle.std.proofs.KnownBytes.{Appends-trans}
 use Rattle.std.proofs.lemmas.Grind.{flat_map-append}
 use Rattle.ciborium_ll.specs.Reading.{Moves, Starts, Stops}
 use Rattle.ciborium_value.specs.Tree.{Tree}
-use Rattle.ciborium.specs.Front.{Reads}
+use Rattle.ciborium_ll.proofs.Closings.{same_fronts}
+use Rattle.ciborium.specs.Front.{Reads, HoldsOne}
+use Rattle.ciborium.proofs.OneItem.{read_one}
 use Rattle.ciborium.specs.Items.{SequenceWithin}
 use Rattle.ciborium.specs.Damage.{end, deep, syntax, semantic, Damage}
 use Rattle.ciborium.specs.Reading.{IfKnown, IfEnd, FailsAt, IsNoMemory, IsFar, SomeTaken, fault_failures}
@@ -23,7 +25,7 @@ use Rattle.cose_gate_core.specs.Questions.{Question, MessageFields, questions}
 use Rattle.cose_gate_core.specs.Asked.{first_no, folded_over, IsFront}
 use Rattle.cose_gate_core.specs.Findings.{judged}
 use Rattle.cose_gate_core.specs.Run.{Step, Steps, judged_by, has_passed, passes, asked_of, written_of, questions_of, output_of, entries_of, passed_count, refused_count, Course}
-use Rattle.cose_gate_core.specs.Outcome.{Rules, Sight, Made, IsFaultOf, IsReadFault, StandsIn, IsNoReaderFault, Answers, IfTooLong}
+use Rattle.cose_gate_core.specs.Outcome.{Rules, Sight, Made, IsFaultOf, IsReadFault, StandsIn, TakesOne, IsNoReaderFault, Answers, IfTooLong}
 use Rattle.cose_gate_core.specs.Passing.{ItemRules, ItemSight, WentThrough, Half, HalfWritten, ItemFails, at_end, stopped_by}
 use Rattle.coset_labels.specs.Limits.{nesting_of}
 use Rattle.cose_gate_core.specs.Terms.{IsTaken}
@@ -258,11 +260,19 @@ module _ {T S : Type 0} (rules : Rules T S) where
     behind = λ is. known_before (newer.left ≡ Some k.rest) old.left new.left b c (k.behind is);
   }
 
+  -- what was taken of what was to come after the steps holds one item at most
+  takes_one : (old new newer : Sight T S) (input : List ℕ) (Q : List ℕ → Type 0) (t : Moves new.left newer.left new.offset newer.offset Q) → HoldsOne t.bytes
+      → new.offset + length (t.bytes ++ rest_of newer.left) ≡ old.offset + length input → TakesOne old newer input (t.bytes ++ rest_of newer.left)
+  takes_one old new newer input Q t one s taken rest is place =
+      let l : length taken ≡ length t.bytes = omega (arith, s, place, t.grown, ap length is, length-append taken rest, length-append t.bytes (rest_of newer.left)) in
+      subst HoldsOne (sym (same_fronts taken t.bytes rest (rest_of newer.left) l (sym is)).0) one
+
   -- Memory, if all steps so far are made
   memory_between : {E : Type 0} (ends : E → Bool) (old new newer : Sight T S) (passed refused : ℕ) → Reached rules old new passed refused
       → newer.told ≡ new.told → newer.state ≡ new.state → newer.written ≡ new.written → (new.left ≡ Some [] → ⊥)
-      → (Q : List ℕ → Type 0) → Moves new.left newer.left new.offset newer.offset Q → Answers ends rules old newer (Err Memory)
-  memory_between ends old new newer passed refused r told state writes some Q t =
+      → (Q : List ℕ → Type 0) → ((b : List ℕ) → Q b → HoldsOne b) → Moves new.left newer.left new.offset newer.offset Q → Answers ends rules old newer (Err Memory)
+  unfolding moved
+  memory_between ends old new newer passed refused r told state writes some Q one t =
       let k = moved new.left newer.left new.offset newer.offset (Unit {0}) Q t in
       let w = left_after old new r.done r.taken r.steps k.more k.is in
       let m = still old new newer r.done told state writes r.made in
@@ -286,6 +296,7 @@ module _ {T S : Type 0} (rules : Rules T S) where
           stands = λ one. absurd (one refl);
           behind = λ one. absurd (one refl);
           between = λ none. stands_in old new newer (Unit {0}) w.input r.taken.bytes r.taken.taken k w.stop;
+          one_due = λ none. takes_one old new newer w.input Q t (one t.bytes t.has) w.stop;
         };
       }
 
@@ -312,7 +323,7 @@ module _ {T S : Type 0} (rules : Rules T S) where
         };
       }
   answer_read ends old new newer passed refused r told state writes Write d some = absurd d
-  answer_read ends old new newer passed refused r told state writes Memory d some = memory_between ends old new newer passed refused r told state writes (λ none. some none refl) (λ _. Unit {0}) d
+  answer_read ends old new newer passed refused r told state writes Memory d some = memory_between ends old new newer passed refused r told state writes (λ none. some none refl) HoldsOne (λ b one. one) d
 
   -- Memory, if the judge was told a beginning of the questions about one more message
   memory_asking : {E : Type 0} (ends : E → Bool) (old new newer : Sight T S) (passed refused : ℕ) → Reached rules old new passed refused
@@ -345,6 +356,7 @@ module _ {T S : Type 0} (rules : Rules T S) where
           stands = λ one. w.stop;
           behind = λ one. w.behind;
           between = λ none. cc;
+          one_due = λ none. cc;
         };
       }
 
@@ -383,7 +395,7 @@ module _ {T S : Type 0} (rules : Rules T S) where
   answer_item ends old new newer passed refused r v t fault.Write h state = write_within ends old new newer passed refused r v t h state
   answer_item ends old new newer passed refused r v t fault.Memory (writes, inl told) state =
       memory_between ends old new newer passed refused r told state writes (λ none. nothing_read rules.limits.nesting new.left newer.left new.offset newer.offset v none t)
-      (λ (b : List ℕ). Reads b rules.limits.nesting v) t
+      (λ (b : List ℕ). Reads b rules.limits.nesting v) (λ b read. read_one b rules.limits.nesting v read) t
   answer_item ends old new newer passed refused r v t fault.Memory (writes, inr half) state = memory_asking ends old new newer passed refused r v t half state writes
 
   -- Memory, if the item went through and the report refused its entry
@@ -416,6 +428,7 @@ module _ {T S : Type 0} (rules : Rules T S) where
           stands = λ one. w.stop;
           behind = λ one. w.behind;
           between = λ none. cc;
+          one_due = λ none. cc;
         };
       }
 
