@@ -513,10 +513,10 @@ read_far ends n l l' at at' (Decode (de.Syntax p)) r = tt
 read_far ends n l l' at at' (Decode (de.Semantic o k)) r = tt
 read_far ends n l l' at at' (Decode de.RecursionLimitExceeded) r = tt
 read_far ends n l l' at at' (Decode de.Memory) r = tt
-read_far ends n l l' at at' (Decode de.TooLong) r = let taken : SomeTaken l l' at at' (de.TooLong {E}) = r.3 in taken.has
+read_far ends n l l' at at' (Decode de.TooLong) r = r.3.has
 read_far ends n l l' at at' Write r = tt
 read_far ends n l l' at at' Memory r = tt
 
-pub stopped_not_long : {E : Type 0} (P : Type 0) (fault : ItemFault) → IfTooLong P (stopped_by {E} fault)
-stopped_not_long P fault.Write = tt
-stopped_not_long P fault.Memory = tt
+pub stopped_not_long : (E P : Type 0) (fault : ItemFault) → IfTooLong P (stopped_by {E = E} fault)
+stopped_not_long E P fault.Write = tt
+stopped_not_long E P fault.Memory = tt

@@ -78,4 +78,4 @@ pub returns-in_err-value-clause-far : goal.returns-in_err-value-clause-far
 returns-in_err-value-clause-far g c = rw (err_is _ _ c.from_residual.ensures.1) (read_far g.R.Read.ends _ _ _ _ _ _ c.in_err-value.ensures.err)
 
 pub returns-in_err-verdict-clause-far : goal.returns-in_err-verdict-clause-far
-returns-in_err-verdict-clause-far g c = rw (err_is _ _ c.from_residual-in_err-verdict.ensures.1) (stopped_not_long _ _)
+returns-in_err-verdict-clause-far g c = rw (err_is _ _ c.from_residual-in_err-verdict.ensures.1) (stopped_not_long _ _ _)
