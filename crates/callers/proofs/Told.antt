@@ -43,7 +43,7 @@ here ends rules old new input r is a =
     let e : input ≡ a.input = subst (λ (l : Option (List ℕ)). IfKnown l (λ b. b ≡ a.input)) is a.is in
     subst (λ (i : List ℕ). Outcome ends rules old new i r) (sym e) a.outcome
 
--- what the gate goes by with a judge that tells what it is asked, and with one by records
+-- what the gate goes by with a judge that tells what it is asked, and with one that keeps nothing
 abbrev pub asking : {S : Type 0} → (S → Entry → S) → List ℕ → Rules (List ℕ) S
 asking folded aad = record {
   limits = usual;
@@ -53,12 +53,13 @@ asking folded aad = record {
   aad = aad;
 }
 
-abbrev pub passing : {S : Type 0} → (S → Entry → S) → List (List ℕ) → List ℕ → Rules (Unit {0}) S
-passing folded keys aad = record {
+abbrev pub passing : {S : Type 0} → (S → Entry → S) → (Question → Bool) → List ℕ
+    → Rules (Unit {0}) S
+passing folded yes aad = record {
   limits = usual;
   decided = λ t q. t;
   folded = folded;
-  allows = is_among keys;
+  allows = yes;
   aad = aad;
 }
 
@@ -106,14 +107,14 @@ module _ {S : Type 0} (folded : S → Entry → S) (aad input : List ℕ) (old n
     records = w.told ∙ told_records old.told (questions_of always aad w.done ++ w.asked);
   }
 
-module _ {S : Type 0} (folded : S → Entry → S) (keys : List (List ℕ)) (aad input : List ℕ)
+module _ {S : Type 0} (folded : S → Entry → S) (yes : Question → Bool) (aad input : List ℕ)
     (old new : Sight (Unit {0}) S) where
   pub passed_by : (output : List ℕ) (counts : Counts) → old.offset ≡ 0 → old.written ≡ Some []
-      → new.written ≡ Some output → Whole (passing folded keys aad) old new input counts
-      → IsPassedBy keys aad input output counts
+      → new.written ≡ Some output → Whole (passing folded yes aad) old new input counts
+      → IsPassedBy yes aad input output counts
   passed_by output counts start none out w = record {
     steps = w.steps;
-    course = subst (λ (n : ℕ). Course usual (is_among keys) aad n input w.steps []) start w.course;
+    course = subst (λ (n : ℕ). Course usual yes aad n input w.steps []) start w.course;
     output_is = written none out w.made.written;
     passed = w.passed;
     refused = w.refused;
@@ -126,7 +127,7 @@ module _ {S : Type 0} (folded : S → Entry → S) (keys : List (List ℕ)) (aad
 
 -- what passes by these records
 pub passed_of : (accepted aad input output : List ℕ) (keys : List (List ℕ)) (counts : Counts)
-    → AreRecords accepted keys → IsPassedBy keys aad input output counts
+    → AreRecords accepted keys → IsPassedBy (is_among keys) aad input output counts
     → IsPassed accepted aad input output counts
 passed_of accepted aad input output keys counts are p = (keys, are, p)
 

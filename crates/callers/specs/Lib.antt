@@ -1,5 +1,6 @@
 pub mod Asking
 pub mod Checking
+pub mod Choosing
 pub mod Faults
 pub mod Gatings
 pub mod Heads

@@ -4,6 +4,7 @@
 
 pub mod asking;
 pub mod checking;
+pub mod choosing;
 pub mod covering;
 pub mod covers;
 pub mod exact;
