@@ -19,7 +19,7 @@ pub enum InputFault {
 
 /// The bytes were not written.
 #[derive(Debug, Clone, Copy, PartialEq, Eq)]
-pub(crate) struct OutputFault;
+pub struct OutputFault;
 
 /// The input.
 #[derive(Drop)]
