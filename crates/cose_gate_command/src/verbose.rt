@@ -10,7 +10,7 @@ use crate::key_file::{KeyFile, say_not_begun};
 use crate::more::{Text, say_refusal, say_stop};
 use ciborium_ll::{Read, Write};
 use cose_gate_core::{Counts, Entry, GateFault, Terms, Verdict};
-use cose_gate_hmac::HmacJudge;
+use cose_gate_hmac::{CoseKeySet, HmacJudge};
 use cose_gate_program::{Beginning, InputFault, Lines, NotBegun, Teller, begin, run_told};
 use std::alloc::Global;
 use std::cell::{Cell, RefCell};
@@ -78,6 +78,20 @@ impl<'o, 'n, 'f, 'd, W: Write> Teller for Said<'o, 'n, 'f, 'd, W> {
     }
 }
 
+/// The reasons of a no under these keys, if they are asked for.
+fn asked_reasons<'a>(
+    is_asked: bool,
+    alloc: Global,
+    keys: &'a CoseKeySet,
+    aad_len: usize,
+    note: &'a RefCell<Note>,
+) -> Option<Reasons<'a>> {
+    if !is_asked {
+        return None;
+    }
+    Some(Reasons::new(alloc, keys, aad_len, note))
+}
+
 /// As `run_with` of `cose_gate_program`, and after each line on `err` what is said more, in lines
 /// that begin with two spaces: of a refusal what it means, and why the judge said no; of a stop the
 /// number and the offset of the item, what is wrong with it, and what to do; of KEYS its name, and
@@ -141,11 +155,7 @@ pub(crate) fn run_asked<'f, 'd, R: Read, W: Write, E: Write>(
         Ok(beginning) => {
             let judge = HmacJudge::prepared(alloc, &beginning.keys);
             let aad = beginning.aad.as_slice();
-            let reasons = if verbose {
-                Some(Reasons::new(alloc, &beginning.keys, aad.len(), &note))
-            } else {
-                None
-            };
+            let reasons = asked_reasons(verbose, alloc, &beginning.keys, aad.len(), &note);
             let mut judge = Explained { judge, reasons };
             let mut input = Counted {
                 reader: input,
