@@ -1,5 +1,6 @@
 pub mod Again
 pub mod Agreed
+pub mod Alike
 pub mod Checked
 pub mod Confused
 pub mod Encoded
@@ -8,8 +9,14 @@ pub mod Further
 pub mod Ids
 pub mod Joined
 pub mod Keys
+pub mod Noted
+pub mod Posed
+pub mod Recorded
+pub mod Records
 pub mod Refilled
 pub mod Relay
 pub mod Sealed
 pub mod Spelled
+pub mod Tagging
 pub mod Told
+pub mod Wrote

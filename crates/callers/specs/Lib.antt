@@ -1,3 +1,4 @@
+pub mod Alike
 pub mod Asking
 pub mod Checking
 pub mod Faults
@@ -8,9 +9,12 @@ pub mod Items
 pub mod Judging
 pub mod Keeping
 pub mod Kinds
+pub mod Noted
+pub mod Recording
 pub mod Refilling
 pub mod Roads
 pub mod Sides
 pub mod Signing
+pub mod Tagged
 pub mod Tallies
 pub mod Windows

@@ -2,10 +2,12 @@
 //! public surface can be reached, and that its contracts are of use.
 #![tactic(auto)]
 
+pub mod alike;
 pub mod asking;
 pub mod checking;
 pub mod covering;
 pub mod covers;
+pub mod detached;
 pub mod exact;
 pub mod faults;
 pub mod gatings;
@@ -16,14 +18,21 @@ pub mod items;
 pub mod judging;
 pub mod keeping;
 pub mod kinds;
+pub mod noted;
 pub mod once;
+pub mod prepared;
+pub mod recording;
+pub mod records;
 pub mod refilling;
 pub mod relaying;
+pub mod resumed;
 pub mod roads;
 pub mod sequels;
 pub mod signing;
 pub mod straight;
 pub mod structures;
+pub mod tagged;
 pub mod tally;
 pub mod twice;
+pub mod watched;
 pub mod wellformed;
