@@ -10,7 +10,6 @@ pub mod Ids
 pub mod Joined
 pub mod Keys
 pub mod Noted
-pub mod Posed
 pub mod Recorded
 pub mod Records
 pub mod Refilled

@@ -48,7 +48,8 @@ impl Serialize for Message<'_> {
 /// Only if out of memory.
 pub fn gate_text(alloc: Global, message: Message) -> Result<Vec<u8>, AllocError>
     ensures { IfOk result (λ out. (limits : Bounds) (t : Tree)
-        → IsMessage limits t (fields_of message) → out.items ≡ message_text (fields_of message)) }
+        → IsMessage limits t (fields_of message.entry)
+        → out.items ≡ message_text (fields_of message.entry)) }
 {
     read_is_put();
     let mut out = Mem::new(Vec::new(alloc));
