@@ -8,7 +8,7 @@
 # `parallel --sshlogin` names them (this one as localhost, not as `:`): KEYS and the pieces are copied there, and what is said of them comes
 # back; JOBS, if given, is for each machine. -c: does one run too, here, and says whether it wrote the same.
 #
-# The status is the gate's; it is 5 if the two runs differ, and 6 if the input can't be cut, or a piece gave no answer. COSE_GATE
+# The status is the gate's; it is 5 if the two runs differ, and 6 if the input can't be cut, or a piece gave no result. COSE_GATE
 # and COSE_SHOW name other programs than those of this repository; with -S the former is at the same absolute path on each machine.
 set -u
 top=$(cd "$(dirname "$(readlink -f "${BASH_SOURCE[0]}")")/.." && pwd)

@@ -30,7 +30,7 @@ enum {
   COSE_GATE_SOME_REFUSED = 1, /* some were; what passed is written */
   COSE_GATE_LIMITS = 2,       /* `nesting` or `layers` is out of range; nothing was read */
   COSE_GATE_KEYS = 3,         /* the bytes are not a key set, or not records; nothing was read */
-  COSE_GATE_STOPPED = 4,      /* an item can't be read, or out of memory. What passed before is written; nothing if memory ran out for the
+  COSE_GATE_STOPPED = 4,      /* an item can't be read, or memory ran out. What passed before is written; nothing if memory ran out for the
                                  output, the keys or the records */
   COSE_GATE_NO_ROOM = 5       /* the output is longer than its buffer, which stays as it was */
 };

@@ -1,6 +1,6 @@
 """c-compare.py compare TOP LIBRARY PROGRAM: the library's answers against those of the program, byte for byte, over the rows `run` of
 conformance_gate, and over 1,000 mutated sequences; the length of buffer that each needs; and that with all questions accepted all that the judge lets
-through passes. Status 1 where one differs. c-compare.py write TOP FOLDER: writes the 1,000 mutated sequences into files of the folder."""
+through passes. Status 1 if one differs. c-compare.py write TOP FOLDER: writes the 1,000 mutated sequences into files of the folder."""
 
 import random
 import subprocess

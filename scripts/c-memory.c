@@ -90,7 +90,7 @@ static bytes exactly(int which, bytes given, bytes input, bytes *lines, uint32_t
   return out;
 }
 
-/* Room of some length beside what is needed. */
+/* A call with a buffer of this length, whether or not it is what is needed. */
 static void with_room(int which, bytes given, bytes input, size_t length, bytes whole, bytes lines, uint32_t status) {
   bytes out = room_of(length), some = room_of(length);
   memset(out.at, 0xaa, length);
@@ -116,7 +116,7 @@ static bytes each_room(int which, bytes given, bytes input, bool all) {
   return whole;
 }
 
-/* How many questions records show; each text of them lies within. */
+/* How many questions records show; each byte string in them lies within. */
 static size_t count_of(bytes records) {
   size_t count = 0, read = 0;
   cose_gate_text rest = {records.at, records.length};

@@ -1,7 +1,7 @@
 #!/usr/bin/env bash
 # scripts/install.sh [--library] PREFIX: puts the programs cose-gate, cose-ask, cose-pass and cose-show into PREFIX/bin and their manual pages
 # into PREFIX/share/man/man1. With --library also the library for C: PREFIX/lib/libcose_gate.a, PREFIX/include/cose_gate.h and
-# PREFIX/lib/pkgconfig/cose_gate.pc, as in `cc check.c $(pkg-config --cflags --libs cose_gate)`. All are proved and built first if a source
+# PREFIX/lib/pkgconfig/cose_gate.pc, for `cc check.c $(pkg-config --cflags --libs cose_gate)`. All are proved and built first if a source
 # has changed; if that fails nothing is installed, and the status is 70.
 set -u
 top=$(cd "$(dirname "$(readlink -f "${BASH_SOURCE[0]}")")/.." && pwd)

@@ -20,7 +20,7 @@ def files(patterns):
 
 
 def lines(text):
-    """The lines of a text, without margins and blank lines."""
+    """The lines of a string, without margins and blank lines."""
     return [line.strip() for line in text.split("\n") if line.strip()]
 
 
@@ -53,12 +53,12 @@ def items(text):
 
 
 def code(text):
-    """A text without its comments."""
+    """A source without its comments."""
     return re.sub(r"//.*", "", text)
 
 
 def uses(name, body):
-    """Whether a text uses a name, or an operator such as ◌++◌."""
+    """Whether a source uses a name, or an operator such as ◌++◌."""
     if re.fullmatch(r"\w+", name):
         return re.search(rf"(?<!\w){name}(?!\w)", body) is not None
     return all(sign in body for sign in name.split("◌") if sign)

@@ -16,7 +16,7 @@ else
   echo "quotes.sh: python3 isn't there, so blocks of code and signatures are not compared" >&2
 fi
 
-# Whether a script and the file with its program's text HELP have the same help.
+# Whether a script and the file with its program's HELP have the same help.
 has_help() {
   script=$(awk '/<<.HELP.$/ { inside = 1; next } /^HELP$/ { inside = 0 } inside' "$1")
   program=$(awk '/^(pub )?const HELP/ { inside = 1; sub(/^.*"/, ""); if ($0 == "\\") next } /^";$/ { inside = 0 } inside' "$2")

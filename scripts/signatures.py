@@ -4,7 +4,7 @@ source. With --check it writes nothing, and says each page that isn't current: s
 
 A page has the free functions, the types' own methods and the traits that its crate passes on from the crates named below. By these rules it
 leaves out: implementations of traits; laws; and of builders and types with many methods those with no clause or one without a name, as
-setters and looks into a value have. It says how many these are."""
+setters and accessors have. It says how many these are."""
 import pathlib
 import re
 import sys
@@ -126,7 +126,7 @@ def signatures(page):
 def part(page):
     """What is between a page's marker lines."""
     out, left_out = signatures(page)
-    more = f"\nLeft out: {left_out} methods whose one clause has no name, as setters and looks into a value.\n" if left_out else ""
+    more = f"\nLeft out: {left_out} methods whose one clause has no name, such as setters and accessors.\n" if left_out else ""
     return f"{BEGIN}\n\n```text\n" + "\n".join(out) + f"\n```\n{more}\n{END}"
 
 

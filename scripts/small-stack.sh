@@ -1,10 +1,10 @@
 #!/usr/bin/env bash
 # small-stack.sh: how much stack the messages of worst-messages.py take, in which as much lies inside one another as the limits let through.
 # The programs cose-gate, cose-show and conformance_cose (which reads each message, copies it, compares both and writes the copy) and the
-# library for C are proved and built, by LLVM and by Rattle's own compiler. Each message must be answered as in 64 MiB of stack. As LLVM builds
-# them: by the first two and by the library's calls in 256 KiB, by the third in 1 MiB, and with the widest limits (4,096 levels, 64 layers)
+# library for C are proved and built, by LLVM and by Rattle's own compiler. With each message they must do the same as in 64 MiB of stack. As
+# LLVM builds them: the first two and the library's calls in 256 KiB, the third in 1 MiB, and with the widest limits (4,096 levels, 64 layers)
 # in 8 MiB. Rattle's own compiler gives each value a place of its own in a frame, so what it builds must do with 8 MiB, within the usual
-# limits. A table shows the least number of KiB that each answers in. Last an item of 100,000 levels is read in 256 KiB, unproved: a test of
+# limits. A table shows the least number of KiB in which each does so. Last an item of 100,000 levels is read in 256 KiB, unproved: a test of
 # cbor_tests. Status 1 if one of these fails, and 2 if something isn't built.
 set -u
 ulimit -c 0

@@ -22,7 +22,7 @@ def without_comments(text, mark):
 
 
 def imported(text, ghost):
-    """What the imports of a text bring in: of each name the paths that it may stand for, and of each module that has a name of its own."""
+    """What the imports of a source bring in: of each name the paths that it may stand for, and of each module that has a name of its own."""
     names, modules = {}, {}
     lead = r"^\s*(?:ghost use|pub ghost use) " if ghost else r"^(?:pub )?use "
     for path in re.findall(lead + r"Rattle\.([^;\n]+);?$", text, re.M):
@@ -109,7 +109,7 @@ def public_names(crate):
 
 
 def public_text(crate):
-    """Of each source of a crate its text, and the clauses and ghost members that are public."""
+    """Of each source of a crate all of it, and the clauses and ghost members that are public."""
     exported, modules = public_names(crate)
     for file in sorted((CRATES / crate / "src").rglob("*.rt")):
         text = without_comments(file.read_text(encoding="utf-8"), "//")

@@ -12,13 +12,13 @@ typedef struct bytes {
   size_t length;
 } bytes;
 
-/* Room for so many bytes. */
+/* A buffer of so many bytes. */
 static bytes room_of(size_t length) {
   bytes room = {malloc(length == 0 ? 1 : length), length};
   return room;
 }
 
-/* The whole of a stream; NULL if it can't be read, or out of memory. */
+/* The whole of a stream; NULL if it can't be read, or memory ran out. */
 static bytes read_all(FILE *from) {
   bytes all = {malloc(1), 0};
   size_t room = 1;
@@ -98,7 +98,7 @@ int main(int count, char **words) {
   int status = COSE_GATE_STOPPED;
   while (keys.at != NULL && input.at != NULL && out.at != NULL && lines.at != NULL) {
     cose_gate_answer answer = check(keys, aad, input, count == 4, out, lines);
-    /* What passes may be longer in its shortest form than as it came. Both rooms are then made as long as is needed. */
+    /* What passes may be longer in canonical encoding than as it came. Both buffers are then made as long as is needed. */
     if (answer.status == COSE_GATE_NO_ROOM) {
       free(out.at);
       out = room_of(answer.length);

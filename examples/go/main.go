@@ -23,7 +23,7 @@ var (
 	ErrLimits = errors.New("the limits are out of range")
 	// ErrKeys: the bytes are no key set.
 	ErrKeys = errors.New("the bytes are no key set")
-	// ErrStopped: the input is no CBOR from some place on, or memory was refused. What passed before stands in Checked.
+	// ErrStopped: the input is no CBOR from some place on, or memory ran out. What passed before is in Checked.
 	ErrStopped = errors.New("the input is no CBOR, or memory was refused")
 )
 
@@ -68,7 +68,7 @@ func Check(keys, aad, input []byte, strict bool) (Checked, error) {
 	lines := make([]byte, 4096)
 	answer := call(keys, aad, input, strict, passed, lines)
 	if answer.status == C.COSE_GATE_NO_ROOM || int(answer.lines) > len(lines) {
-		// What passes is longer in its shortest form than as it came, or the lines than was thought: the answer names how long.
+		// What passes is longer in canonical encoding than as it came, or the lines than was thought: the answer says how long.
 		passed = make([]byte, longer(len(passed), int(answer.length)))
 		lines = make([]byte, longer(len(lines), int(answer.lines)))
 		answer = call(keys, aad, input, strict, passed, lines)

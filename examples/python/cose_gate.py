@@ -39,7 +39,7 @@ class KeysError(GateError):
 
 
 class StoppedError(GateError):
-    """The input is not CBOR, or out of memory."""
+    """The input is not CBOR, or memory ran out."""
 
     status = 4
 
@@ -77,7 +77,7 @@ class Question(NamedTuple):
 
 
 def texts_of(data, at, end):
-    """The texts from `at` to `end`, each after its length in eight bytes, the lowest first."""
+    """The byte strings from `at` to `end`, each after its length in eight bytes, the lowest first."""
     while at < end:
         length = int.from_bytes(data[at : at + 8], "little")
         yield at + 8, at + 8 + length

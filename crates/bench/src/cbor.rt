@@ -48,7 +48,7 @@ fn decode(rt: &HostRuntime, bytes: &[u8], rounds: u32) -> io::Result<u8> {
 }
 
 /// Decodes the document once and writes it so many times. What is written has to be the document:
-/// the first text is compared with it.
+/// the first output is compared with it.
 fn encode(rt: &HostRuntime, bytes: &[u8], rounds: u32) -> io::Result<u8> {
     let mut decoder = Decoder::from(bytes);
     let Ok(value) = from_decoder(rt.alloc(), &mut decoder, RECURSION_LIMIT) else {

@@ -39,7 +39,7 @@ module _ (allows : Question → Bool) (aad : List ℕ) where
       let b = front old new at at' _ input m is in
       first decided told told' room lengths answer m.bytes b.0 input one law b.1 m.has ss rest run
 
-  -- where the first passes one has passed, and else one was refused
+  -- if the first passes one has passed, and else one was refused
   pub agreed : (ss : List Step) (answer : Bool) (passed refused : ℕ) → FirstPasses allows aad ss answer
       → passed ≡ passed_count allows aad ss → refused ≡ refused_count allows aad ss → MatchBool answer (0 < passed) (0 < refused)
   agreed ss true passed refused (s, more, whole, is) p r =

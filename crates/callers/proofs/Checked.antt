@@ -1,4 +1,4 @@
--- What the streaming check's answer says of one message.
+-- What the result of the streaming check says of one message.
 use Rattle.std.proofs.Common.{◌≡◌, ℕ, ◌+◌, ◌*◌, ◌<◌, List, [], ◌∷◌, length, Option, None, Some, Bool, true, false, refl, subst, ◌∙◌}
 use Rattle.std.specs.Prelude.{is_none, option_map, if◌then◌else◌, sum, Result, Ok, Err, IfOk}
 use Rattle.std.specs.Io.KnownBytes.{Consumes}
@@ -20,7 +20,7 @@ one_answer true = refl
 one_answer false = refl
 
 module _ (allows : Question → Bool) where
-  -- where there are questions, of this form, there is one
+  -- if there are questions, of this form, there is one
   one_asked : (f : List ℕ → Question) (o : Option (List ℕ)) → option_map (λ c. f c ∷ []) o ≡ Some (or_nothing (option_map (λ c. f c ∷ []) o))
       → (q : Question) × (option_map (λ c. f c ∷ []) o ≡ Some (q ∷ [])) × (is_none (first_no allows (or_nothing (option_map (λ c. f c ∷ []) o))) ≡ allows q)
   one_asked f None e = let h : None ≡ Some [] = e in cc
@@ -53,7 +53,7 @@ module _ (allows : Question → Bool) where
       few = few c.size c.pieces.pieces c.pieces.cut;
     }
 
--- what was taken of a decoder, where the answer is Ok
+-- what was taken from a decoder, if the result is Ok
 pub is_answered : {T E : Type 0} (r : Result Bool E) (ks ks' : List KeyFields) (l l' : Option (List ℕ)) (at at' : ℕ) (decided : T → Question → T)
     (aad : List ℕ) (told told' : T) (room : ℕ) (lengths : List ℕ) → ks' ≡ ks
     → ((t : Tree) (m : MessageFields) (aad : List ℕ) → IsJudged usual t m → all_questions m aad ≡ Some (questions m aad))

@@ -6,7 +6,7 @@ use Rattle.ciborium.specs.Meaning.{meaning}
 use Rattle.ciborium.specs.Spelling.{Spells}
 use Rattle.ciborium.specs.Tree.{Tree}
 
--- what was taken of a whole input stands at its front
+-- what was taken of a whole input is at its front
 pub front : (old new : Option (List ℕ)) (p q : ℕ) (P : List ℕ → Type 0) (input : List ℕ) (m : Moves old new p q P) → old ≡ Some input
     → (rest : List ℕ) × (input ≡ m.bytes ++ rest)
 front None new p q P input m e = let h : None ≡ Some input = e in cc

@@ -23,7 +23,7 @@ use Rattle.cose_gate.specs.Streaming.{Answered, HoldsNoMemory, IsFarFor, IsLongF
 use Rattle.cose_gate.specs.Tree.{Tree}
 use Rattle.callers.specs.Faults as spec
 
--- entries that are noted one after another stand one after another
+-- entries that are noted one after another are in that order
 noted_all : (old es : List Entry) → folded_over (λ ns e. ns ++ e ∷ []) old es ≡ old ++ es
 noted_all old [] = sym (append-nil old)
 noted_all old (e ∷ es) = noted_all (old ++ e ∷ []) es ∙ append_assoc old (e ∷ []) es

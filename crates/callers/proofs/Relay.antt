@@ -1,4 +1,4 @@
--- What the gate's answer says of a relay.
+-- What the gate's result says of a relay.
 use Rattle.std.proofs.Common.{◌≡◌, ℕ, ◌+◌, List, [], ◌∷◌, ◌++◌, length, Option, Some, Bool, refl, ap, subst, sym, ◌∙◌, append_assoc, append-nil, zero-add}
 use Rattle.std.proofs.lemmas.Grind.{flat_map-append}
 use Rattle.std.specs.Prelude.{Result, Ok, Err}
@@ -19,7 +19,7 @@ use Rattle.callers.specs.Tallies.{Tallied, tallied}
 abbrev pub decided : List (List ℕ) → Question → List (List ℕ)
 decided told q = told ++ key_id_of q.subject ∷ []
 
--- questions that are told one after another stand one after another
+-- questions that are told one after another are in that order
 pub told_all : (told : List (List ℕ)) (qs : List Question) → folded_over decided told qs ≡ told ++ key_ids_of qs
 told_all told [] = sym (append-nil told)
 told_all told (q ∷ qs) = told_all (told ++ key_id_of q.subject ∷ []) qs ∙ append_assoc told (key_id_of q.subject ∷ []) (key_ids_of qs)
@@ -94,7 +94,7 @@ module _ (ids : List (List ℕ)) (aad input : List ℕ) (old new : Sight (List (
       due = tt;
     }
 
--- the clauses of the gate, over a run of the input; its answer tells which sights are meant
+-- the clauses of the gate, over a run of the input; its result tells which sights are meant
 module _ (limits : Bounds) (ids : List (List ℕ)) (aad input : List ℕ) (old new : Sight (List (List ℕ)) Tallied) {E : Type 0} (ends : E → Bool) where
   abbrev the_call : Call (List (List ℕ)) Tallied E
   the_call = record { ends = ends; rules = by limits ids aad; old = old; new = new }

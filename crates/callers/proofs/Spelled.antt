@@ -20,7 +20,7 @@ use Rattle.coset.specs.Tree.{Tree}
 use Rattle.coset.specs.Written.{header_tree}
 use Rattle.callers.specs.Keeping.{IsOrdered}
 
--- where something is made of o, o has it
+-- if something is made of o, o has it
 pub mapped : {A B : Type 0} (f : A → B) (o : Option A) (y : B) → option_map f o ≡ Some y → (x : A) × (o ≡ Some x) × (f x ≡ y)
 mapped f None y e = let h : None ≡ Some y = e in cc
 mapped f (Some x) y e = let h : Some (f x) ≡ Some y = e in (x, refl, cc)
@@ -64,7 +64,7 @@ alike t s x y S e f law = (
   λ h. let q : Some x ≡ Some y = sym e ∙ (law.1 h ∙ f) in let i : x ≡ y = cc in (bytes_eq-Decides x y).1 i,
 )
 
--- an answer that is yes just where P holds
+-- a result that is yes exactly if P holds
 pub is_so : (b : Bool) (P : Type 0) → MatchBool b P (P → ⊥) → IsTrue b ↔ P
 is_so true P h = (λ _. h, λ _. refl)
 is_so false P h = (λ e. let no : false ≡ true = e in absurd (let f : ⊥ = cc in f), λ p. absurd (h p))

@@ -25,7 +25,7 @@ use Rattle.callers.specs.Asking.{always, IsAsked, IsAskedInPart, IsPassedBy, Are
 use Rattle.callers.specs.Judging.{allows}
 use Rattle.callers.proofs.Relay.{decided, told_all}
 
--- records that are told one after another stand one after another
+-- records that are told one after another are in that order
 told_records : (told : List ℕ) (qs : List Question)
     → folded_over (λ t q. t ++ record_of q) told qs ≡ told ++ flat_map record_of qs
 told_records told [] = sym (append-nil told)
@@ -43,7 +43,7 @@ here ends rules old new input r is a =
     let e : input ≡ a.input = subst (λ (l : Option (List ℕ)). IfKnown l (λ b. b ≡ a.input)) is a.is in
     subst (λ (i : List ℕ). Outcome ends rules old new i r) (sym e) a.outcome
 
--- what the gate goes by with a judge that tells what it is asked, and with one by records
+-- what the gate goes by with a judge that tells what it is asked, and with one that keeps nothing
 abbrev pub asking : {S : Type 0} → (S → Entry → S) → List ℕ → Rules (List ℕ) S
 asking folded aad = record {
   limits = usual;
@@ -53,12 +53,13 @@ asking folded aad = record {
   aad = aad;
 }
 
-abbrev pub passing : {S : Type 0} → (S → Entry → S) → List (List ℕ) → List ℕ → Rules (Unit {0}) S
-passing folded keys aad = record {
+abbrev pub passing : {S : Type 0} → (S → Entry → S) → (Question → Bool) → List ℕ
+    → Rules (Unit {0}) S
+passing folded yes aad = record {
   limits = usual;
   decided = λ t q. t;
   folded = folded;
-  allows = is_among keys;
+  allows = yes;
   aad = aad;
 }
 
@@ -106,14 +107,14 @@ module _ {S : Type 0} (folded : S → Entry → S) (aad input : List ℕ) (old n
     records = w.told ∙ told_records old.told (questions_of always aad w.done ++ w.asked);
   }
 
-module _ {S : Type 0} (folded : S → Entry → S) (keys : List (List ℕ)) (aad input : List ℕ)
+module _ {S : Type 0} (folded : S → Entry → S) (yes : Question → Bool) (aad input : List ℕ)
     (old new : Sight (Unit {0}) S) where
   pub passed_by : (output : List ℕ) (counts : Counts) → old.offset ≡ 0 → old.written ≡ Some []
-      → new.written ≡ Some output → Whole (passing folded keys aad) old new input counts
-      → IsPassedBy keys aad input output counts
+      → new.written ≡ Some output → Whole (passing folded yes aad) old new input counts
+      → IsPassedBy yes aad input output counts
   passed_by output counts start none out w = record {
     steps = w.steps;
-    course = subst (λ (n : ℕ). Course usual (is_among keys) aad n input w.steps []) start w.course;
+    course = subst (λ (n : ℕ). Course usual yes aad n input w.steps []) start w.course;
     output_is = written none out w.made.written;
     passed = w.passed;
     refused = w.refused;
@@ -126,7 +127,7 @@ module _ {S : Type 0} (folded : S → Entry → S) (keys : List (List ℕ)) (aad
 
 -- what passes by these records
 pub passed_of : (accepted aad input output : List ℕ) (keys : List (List ℕ)) (counts : Counts)
-    → AreRecords accepted keys → IsPassedBy keys aad input output counts
+    → AreRecords accepted keys → IsPassedBy (is_among keys) aad input output counts
     → IsPassed accepted aad input output counts
 passed_of accepted aad input output keys counts are p = (keys, are, p)
 
@@ -175,7 +176,7 @@ untouched limits says keys aad old new status (after_run b d k a ks has r) more 
     absurd (between status more less
     (over_status limits (says ks) d old new r.ran.input r.ran.steps status r.ran.over))
 
--- where none is refused each passes
+-- if none is refused each passes
 all_pass : (p : Bool) (n : ℕ) → cond {A = ℕ} (not p) 1 0 + n ≡ 0 → (p ≡ true) × (n ≡ 0)
 all_pass true n e = let h : 0 + n ≡ 0 = e in (refl, omega (arith, h))
 all_pass false n e = let h : 1 + n ≡ 0 = e in absurd (let k : ⊥ = omega (arith, h) in k)

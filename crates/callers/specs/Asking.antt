@@ -34,15 +34,14 @@ pub record IsAskedInPart (aad input told told' : List ℕ) : Type 0 where
   pub is_front : IsFront front (questions_of always aad steps)
   pub records : told' ≡ told ++ flat_map record_of front
 
--- the whole input was gone through, and what was written is the messages of which each question has
--- one of these keys
-pub record IsPassedBy (keys : List (List ℕ)) (aad input output : List ℕ) (counts : Counts)
+-- the whole input was gone through, and what was written is the messages with a yes to each question
+pub record IsPassedBy (yes : Question → Bool) (aad input output : List ℕ) (counts : Counts)
     : Type 0 where
   pub steps : List Step
-  pub course : Course usual (is_among keys) aad 0 input steps []
-  pub output_is : output ≡ output_of (is_among keys) aad steps
-  pub passed : counts.passed ≡ passed_count (is_among keys) aad steps
-  pub refused : counts.refused ≡ refused_count (is_among keys) aad steps
+  pub course : Course usual yes aad 0 input steps []
+  pub output_is : output ≡ output_of yes aad steps
+  pub passed : counts.passed ≡ passed_count yes aad steps
+  pub refused : counts.refused ≡ refused_count yes aad steps
 
 -- the bytes are records of these keys, one after another
 abbrev pub AreRecords : List ℕ → List (List ℕ) → Type 0
@@ -53,7 +52,8 @@ AreNoRecords accepted = (keys : List (List ℕ)) → AreRecords accepted keys �
 
 abbrev pub IsPassed : List ℕ → List ℕ → List ℕ → List ℕ → Counts → Type 0
 IsPassed accepted aad input output counts =
-    (keys : List (List ℕ)) × AreRecords accepted keys × IsPassedBy keys aad input output counts
+    (keys : List (List ℕ)) × AreRecords accepted keys
+    × IsPassedBy (is_among keys) aad input output counts
 
 -- the program ran with a judge by key ids. What it wrote, its status, and the ids that the judge
 -- was asked about belong to one course of steps; about all of them if the status is 0 or 1.

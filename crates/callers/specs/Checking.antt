@@ -31,8 +31,8 @@ pub record IsFedInFew (room : ℕ) (lengths b : List ℕ) : Type 0 where
   pub all : sum pieces ≡ n
   pub few : length pieces * room < n + room
 
--- the arguments say how to run; without them the status is that of a wrong call, and no device was
--- touched
+-- the arguments say how to run; without them the status is that of a wrong call, and nothing was
+-- read or written
 abbrev pub EndsBy : Option (List ℕ × Option (List ℕ)) → Option (List ℕ) → Devices → Devices → ℕ
     → Type 0
 EndsBy None keys old new status = (status ≡ 2) × (new ≡ old)

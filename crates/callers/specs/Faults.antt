@@ -8,7 +8,7 @@ use Rattle.cose_gate.specs.Findings.{usual}
 use Rattle.cose_gate.specs.Questions.{Question}
 use Rattle.cose_gate.specs.Run.{Step, text_of, output_of}
 
--- an entry for each of these steps stands after the others
+-- an entry for each of these steps is after the others
 abbrev pub Noted : (Question → Bool) → List ℕ → List Step → List Entry → List Entry → Type 0
 Noted allows aad ss old new =
     (entries : List Entry) × AreEntries usual allows aad ss entries × (new ≡ old ++ entries)

@@ -18,7 +18,7 @@ abbrev pub NoValue : ℕ → List ℕ → ℕ → Error End → Type 0
 NoValue at rest at' e = FailsAt (λ _. true) rest at at' (λ stop b f. Damage stop b nesting f) e
 
 -- why no value of a type is read at the front of the input, of which `rest` is left: no item is
--- there, or the type refuses the one that is, or there was no memory
+-- there, or the type refuses the one that is, or it is out of memory
 abbrev pub NoneOfType : Bool → (Tree → Option Kind) → List ℕ → List ℕ → Error End → Type 0
 NoneOfType grows refusal input rest e =
     IsUnread (λ _. true) grows refusal nesting (Some input) (Some rest) e

@@ -76,7 +76,7 @@ pub record Unchanged (once again : List ℕ) (first second : Counts) : Type 0 wh
   pub passed : second.passed ≡ first.passed
   pub refused : second.refused ≡ 0
 
--- of a fault of the bytes: no item was read of the next, and it is theirs
+-- after Decode no step is begun, and the fault is that of the bytes `more`
 abbrev pub IsDue : {E : Type 0} → (E → Bool) → ℕ → List ℕ → List Step → GateFault E → Type 0
 IsDue ends stop more last (Decode e) = (last ≡ []) × IsFaultOf ends usual.nesting stop more e
 IsDue ends stop more last Write = Unit {0}

@@ -1,6 +1,7 @@
 pub mod Alike
 pub mod Asking
 pub mod Checking
+pub mod Choosing
 pub mod Faults
 pub mod Gatings
 pub mod Heads

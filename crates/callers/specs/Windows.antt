@@ -19,7 +19,7 @@ pub record Admitted (seen : List (List ℕ)) (message : List ℕ) (seen' : List 
   pub answer : is_new ≡ not (has seen message)
   pub keeps : seen' ≡ (if is_new then seen ++ message ∷ [] else seen)
 
--- the whole input was relayed; its output is the answer, and is kept, if it was not there before
+-- the whole input was relayed; its output is the result, and is kept, if it was not there before
 pub record Once (ids : List (List ℕ)) (aad input : List ℕ) (old new : Sides)
     (seen seen' : List (List ℕ)) (answer : Option (List ℕ)) : Type 0 where
   pub output : List ℕ

@@ -4,6 +4,7 @@
 ghost use Rattle.std.specs.Prelude.{◌≡◌, ◌<◌, true, IfOk, IfErr, MatchOption, option_copied};
 ghost use Rattle.cose_gate.specs.HmacJudges.{says_yes};
 ghost use Rattle.cose_gate.specs.Program.{devices_of, EndsOver, EndsWithin};
+ghost use Rattle.cose_gate.specs.Records.{is_among};
 ghost use Rattle.cose_gate.specs.RecordsKept.{keys_of, told_by};
 ghost use Rattle.cose_gate.specs.Terms.{limits_by};
 ghost use Rattle.callers.specs.Asking.{IsAsked, IsAskedInPart, AreNoRecords, IsPassed, IsPassedBy};
@@ -51,7 +52,7 @@ fn pass_by(
     judge: Accepted,
 ) -> Result<(Vec<u8>, Counts), GateFault<End>>
     ensures { IfOk result
-        (λ r. IsPassedBy (keys_of judge.entry) aad.now input.now r.0.items r.1) }
+        (λ r. IsPassedBy (is_among (keys_of judge.entry)) aad.now input.now r.0.items r.1) }
 {
     let mut judge = judge;
     let mut decoder = Decoder::from(input);

@@ -21,7 +21,7 @@ fn are_same(one: &Vec<u8>, other: &Vec<u8>) -> bool
 /// does exactly if the context is the same, and so are the bytes shown for the header.
 ///
 /// # Errors
-/// `DuplicateMapKey` if a label is twice in a header that has to be encoded, or `Memory`.
+/// `DuplicateMapKey` if a label is repeated in a header that has to be encoded, or `Memory`.
 pub fn stays_covered(
     alloc: Global,
     context: SignatureContext,

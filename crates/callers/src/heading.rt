@@ -55,10 +55,10 @@ pub fn header_of(alloc: Global, bytes: &[u8]) -> Result<Header, CoseError>
     Header::from_slice(alloc, bytes)
 }
 
-/// The header that the bytes are, in its one shortest encoding, of which the same header is read.
+/// The canonical encoding of the header that the bytes are; the same header is read from it.
 ///
 /// # Errors
-/// A fault of the bytes, or `Memory`. Never that a label is twice in what was read.
+/// A fault of the bytes, or `Memory`. Never that a label is repeated in what was read.
 pub fn rewritten(alloc: Global, bytes: &[u8]) -> Result<Vec<u8>, CoseError>
     ensures ok { IfOk result (λ out. (h : HeaderFields)
         × HasItem (λ t f. HasHeader nesting t f layers) bytes.now h

@@ -1,5 +1,5 @@
-//! Bytes at hand: a reader that has all of its own, and a call that takes such ones at once.
-//! `ciborium_ll` is the one crate that it names.
+//! Bytes at hand: a reader that holds all of its bytes, and a call that takes bytes at hand at
+//! once. `ciborium_ll` is the one crate that it names.
 ghost use Rattle.std.specs.Prelude.{◌≡◌, ◌≤◌, ◌-◌, length, true, vec_len, IfOk, IfSome, OnErr};
 ghost use Rattle.std.specs.Io.KnownBytes.{Consumes};
 ghost use Rattle.ciborium_ll.specs.Views.{left_of};

@@ -93,7 +93,7 @@ pub fn two_values(alloc: Global, input: &[u8]) -> Result<(Value, Value), de::Err
     Ok((one, two))
 }
 
-/// The text of the item that a value is written as.
+/// The encoding of the item that a value is written as.
 ///
 /// # Errors
 /// Only if out of memory.
@@ -130,7 +130,7 @@ pub fn natural(value: &Value) -> Option<u64>
     }
 }
 
-/// The text of a value, or the value if it is none.
+/// The text of a text string, or the value if it is of another kind.
 pub fn text_or_back(value: Value) -> Result<String, Value>
     ensures ok { IfOk result (λ s. view value ≡ tree.text (string_bytes s)) }
     ensures err { IfErr result (λ back. view back ≡ view value) }

@@ -32,7 +32,7 @@ fn ordered(alloc: Global, bytes: &[u8]) -> Result<CoseKey, CoseError>
 /// The canonical encoding of the key that the bytes are.
 ///
 /// # Errors
-/// A fault of the bytes, or `Memory`. Never that a label is twice in what was read.
+/// A fault of the bytes, or `Memory`. Never that a label is repeated in what was read.
 pub fn spelling(alloc: Global, bytes: &[u8]) -> Result<Vec<u8>, CoseError>
     ensures ok { IfOk result (λ spelled. IsSpelling bytes.now spelled.items) }
     ensures err { IfErr result (OrMemory (WrongItem WrongKey bytes.now)) }

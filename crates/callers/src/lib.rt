@@ -5,6 +5,7 @@
 pub mod alike;
 pub mod asking;
 pub mod checking;
+pub mod choosing;
 pub mod covering;
 pub mod covers;
 pub mod detached;

@@ -61,7 +61,7 @@ fn key_answer<K: Key>(key: &K, signature: &[u8], covered: &[u8]) -> Result<(), R
 /// A message that is signed by the key.
 ///
 /// # Errors
-/// `Cose` if the header can't be written, or there is no memory.
+/// `Cose` if the header can't be written, or if out of memory.
 pub fn signed<K: Key>(
     alloc: Global,
     header: Header,
@@ -84,7 +84,7 @@ pub fn signed<K: Key>(
 /// it covers.
 ///
 /// # Errors
-/// `Caller` if it isn't. `Cose` if the protected header can't be written, or there is no memory.
+/// `Caller` if it isn't. `Cose` if the protected header can't be written, or if out of memory.
 pub fn verified<K: Key>(
     alloc: Global,
     message: &CoseSign1,
@@ -103,7 +103,7 @@ pub fn verified<K: Key>(
 ///
 /// # Errors
 /// `Caller` if it isn't, or the payload is carried elsewhere. `Cose` if the bytes are no such
-/// message, or there is no memory.
+/// message, or if out of memory.
 pub fn signed_payload<K: Key>(
     alloc: Global,
     bytes: &[u8],
@@ -124,7 +124,7 @@ pub fn signed_payload<K: Key>(
 ///
 /// # Errors
 /// `Caller` if it isn't, or the payload is carried elsewhere. `Cose` if the bytes are no such
-/// message, or there is no memory.
+/// message, or if out of memory.
 pub fn tagged_payload<K: Key>(
     alloc: Global,
     bytes: &[u8],

@@ -18,7 +18,8 @@ use std::alloc::Global;
 /// The encoding of a header, which spells the header's map (RFC 8949, section 3).
 ///
 /// # Errors
-/// `DuplicateMapKey` if a label is twice in the header, or `Memory`; so it is for the others here.
+/// `DuplicateMapKey` if a label is repeated in the header, or `Memory`; so it is for the others
+/// here.
 pub fn header_spelled(alloc: Global, header: &Header) -> Result<Vec<u8>, CoseError>
     ensures { IfOk result (λ out. (t : Tree)
         × (header_tree (header_view header.now) ≡ Some t) × Spells out.items t) }

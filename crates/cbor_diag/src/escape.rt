@@ -18,7 +18,7 @@ fn is_unsafe(c: char) -> bool {
 }
 
 /// Whether a character isn't seen: those that Unicode calls ignorable by default and `is_unsafe`
-/// hasn't, as the tags that can spell a hidden text.
+/// leaves out, such as the tags that can spell a hidden text.
 fn is_unseen(c: char) -> bool {
     matches!(
         c,

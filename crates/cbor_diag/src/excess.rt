@@ -5,8 +5,8 @@ use ciborium_ll::Header;
 use std::alloc::Global;
 use std::fmt;
 
-/// Why a text isn't the shortest one of its item. The width of a float is part of the item, so a
-/// float is none of these.
+/// Why bytes aren't the canonical encoding of their item. The width of a float is part of the item,
+/// so a float is none of these.
 #[derive(Debug, Clone, Copy, PartialEq, Eq)]
 pub enum Excess {
     /// A head with more bytes than its number needs.
@@ -19,7 +19,7 @@ pub enum Excess {
     OpenMap,
     /// The value undefined, which is read as null.
     Undefined,
-    /// A bignum whose number has a shorter text.
+    /// A bignum whose number has a shorter encoding.
     Bignum,
 }
 
@@ -36,7 +36,7 @@ impl fmt::Display for Excess {
     }
 }
 
-/// What comes first in the item at the front of the bytes that its canonical encoding hasn't, and
+/// What comes first in the item at the front of the bytes that isn't in its canonical encoding, and
 /// its place. What byte strings hold is not looked into.
 ///
 /// # Errors

@@ -114,7 +114,7 @@ struct Width {
     least: i32,
     /// All numbers are below this power of two.
     most: i32,
-    /// How many of the 52 bits after the exponent of a double it hasn't.
+    /// How many of the 52 bits after the exponent of a double it lacks.
     lost: u32,
 }
 

@@ -37,14 +37,14 @@ pub fn of_hex(rt: &impl Abort, alloc: Global, text: &str) -> Vec<u8> {
     hex::decode(alloc, text).expect(rt, "hex")
 }
 
-/// The text of a value in hex.
+/// The encoding of a value in hex.
 fn written<T: Serialize>(rt: &impl Abort, alloc: Global, value: &T) -> String {
     let mut out = Mem::new(Vec::new(alloc));
     into_writer(value, &mut out).expect(rt, "memory");
     hex::encode(alloc, out.as_written()).expect(rt, "memory")
 }
 
-/// The text of a value is this in hex.
+/// The encoding of a value is this in hex.
 pub fn is_written<T: Serialize>(rt: &impl Abort, alloc: Global, value: &T, want: &str, at: &str) {
     let text = written(rt, alloc, value);
     same(rt, &text.as_str(), &want, at);

@@ -1,5 +1,5 @@
-//! Tests of `ciborium_ll`: devices that fail in mid-stream, headers that wait, and writers that are
-//! full.
+//! Tests of `ciborium_ll`: readers and writers that fail in mid-stream, headers that wait, and
+//! writers that are full.
 
 mod devices;
 mod heads;

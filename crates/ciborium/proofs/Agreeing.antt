@@ -44,7 +44,7 @@ encoding_stands t rest f = record { spelling = enc t; whole = refl; spells = enc
 pub only_negative : (stop limit : ℕ) (rest : List ℕ) (t : Tree) (e : Fault) → Fits t → Assigned t → depth t ≤ limit → Damage stop (enc t ++ rest) limit e → e ≡ semantic kind.BigNegative
 only_negative stop limit rest t e f a low d = fault_negative stop (enc t ++ rest) limit e d t rest (encoding_stands t rest f) low a
 
--- some of n children stand there, and the next has the fault
+-- some of n children are there, and the next has the fault
 record Broken (stop limit : ℕ) (b : List ℕ) (n : ℕ) : Type 0 where
   done : Trees
   at : List ℕ

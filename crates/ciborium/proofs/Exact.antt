@@ -15,14 +15,14 @@ use Rattle.ciborium_ll.proofs.Framed.{frame_once}
 use Rattle.ciborium.proofs.Once.{append_nil, title_once, split, regroup}
 
 -- the frames that are left inside an open string
-record Closing (k : Option ℕ → Header) (P : List ℕ → Type 0) (rest : List ℕ) : Type 0 where
-  inner : List ℕ
-  behind : List ℕ
-  bodies : List (List ℕ)
-  frames : Frames k P inner bodies
-  is : rest ≡ inner ++ (255 ∷ behind)
+pub record Closing (k : Option ℕ → Header) (P : List ℕ → Type 0) (rest : List ℕ) : Type 0 where
+  pub inner : List ℕ
+  pub behind : List ℕ
+  pub bodies : List (List ℕ)
+  pub frames : Frames k P inner bodies
+  pub is : rest ≡ inner ++ (255 ∷ behind)
 
-begins_once : (b r s : List ℕ) (h j : Header) → Begins b h r → Begins b j s → h ≡ j
+pub begins_once : (b r s : List ℕ) (h j : Header) → Begins b h r → Begins b j s → h ≡ j
 begins_once b r s h j p q = (title_once p.title q.title r s h j p.is_title q.is_title (sym p.whole ∙ q.whole)).0
 
 pub title_not : (stop : ℕ) (b r : List ℕ) (h : Header) (e : Fault) → Begins b h r → TitleDamage stop b e → ⊥
@@ -60,7 +60,7 @@ module _ (k : Option ℕ → Header) (inj : (o p : Option ℕ) → k o ≡ k p �
       let v = split title b title s [] (j ++ 255 ∷ []) (inner ++ rest) w (k None) (k None) t p (append_nil title) (eb ∙ append_assoc s j (255 ∷ [])) e in
       walk inner j rest w xs ys fs gs (v.rests ∙ append_assoc j (255 ∷ []) w)
 
-  closing : (n : ℕ) (a rest b w : List ℕ) (xs ys : List (List ℕ)) → Opened k P n a xs → Frame k P b ys → a ++ rest ≡ b ++ w → Closing k P rest
+  pub closing : (n : ℕ) (a rest b w : List ℕ) (xs ys : List (List ℕ)) → Opened k P n a xs → Frame k P b ys → a ++ rest ≡ b ++ w → Closing k P rest
   closing _ _ rest b w _ ys (opened title inner xs t fs) g e = into title inner rest b w xs ys t fs g (sym (append_assoc title inner rest) ∙ e)
   closing _ _ rest b w _ ys (deeper n a title inner xs zs o t fs) g e =
       let c = closing n a (title ++ (inner ++ rest)) b w xs ys o g (ap (λ z. a ++ z) (sym (append_assoc title inner rest)) ∙ sym (append_assoc a (title ++ inner) rest) ∙ e) in

@@ -1,4 +1,4 @@
--- How the answer "exact so far" goes on, from title to title and from fold to fold.
+-- How the flag "exact so far" goes on, from title to title and from fold to fold.
 use Rattle.std.proofs.Common.{◌≡◌, ◌≢◌, ◌≤◌, ◌<◌, ℕ, pos, negsuc, suc, ◌-◌, ◌^◌, Bool, true, false, cond, List, [], ◌∷◌, ◌++◌, length, Some, None, refl, sym, ap, subst, ◌∙◌, arith, nat_eq, nat_lt, nat_le, ◌&&◌, ◌||◌, append_assoc}
 use Rattle.std.specs.Prelude.{MatchBool}
 use Rattle.std.proofs.lemmas.List.{append_cancel_left}
@@ -19,13 +19,13 @@ use Rattle.ciborium.proofs.ReadLemmas.{meanings_parts}
 use Rattle.ciborium.specs.Exact.{Sound, AllSound, Says, level_enc, levels_enc, AllFit}
 use Rattle.ciborium.specs.Levels.{Level, Begun, Within}
 
--- answers
+-- flags
 pub says_and : (w u : Bool) (P Q : Type 0) → Says w P → Says u Q → Says (w && u) (P × Q)
 says_and true true P Q p q = (p, q)
 says_and true false P Q p q = λ x. q x.1
 says_and false u P Q p q = λ x. p x.0
 
--- where it was true, the answer says whether Q, and else it stays false
+-- if it was true, the flag says whether Q, and else it stays false
 pub says_kept : (w w' : Bool) (P Q : Type 0) → Says w P → MatchBool w (Says w' Q) (w' ≡ false) → Says w' (P × Q)
 says_kept true true P Q p q = (p, q)
 says_kept true false P Q p q = λ x. q x.1

@@ -1,5 +1,5 @@
--- How the answer "encoded so far" goes on in a reader that keeps open levels, from title to title
--- and from fold to fold.
+-- How the flag "encoded so far" goes on in a reader that keeps open levels, from title to title and
+-- from fold to fold.
 use Rattle.std.proofs.Common.{◌≡◌, ◌≢◌, ◌<◌, ℕ, pos, negsuc, ◌^◌, Bool, List, [], ◌∷◌, ◌++◌, length, Some, None, refl, sym, ap, subst, inl, inr, ◌∙◌, ◌&&◌, append_assoc}
 use Rattle.std.proofs.lemmas.List.{append_cancel_left}
 use Rattle.std.specs.Option.{option_and_then}
@@ -122,7 +122,7 @@ leaf_exact w h limit v title inner l t r f p =
     says_as w ((title ≡ title_of h) × IsEncoded h) (title ++ inner ≡ enc v) (λ x. leaf_from h r.tree v title inner l t r.spells r.means x.0 x.1)
     (λ e. title_exact h limit v title inner t r f e) p
 
--- TURNS. A title is taken: `u` is the decoder's answer, `s` that of the header.
+-- TURNS. A title is taken: `u` is the decoder's flag, `s` that of the header.
 pub turn_titled : (w u s : Bool) (fs : List Level) (h : Header) (b title : List ℕ) → Says w (LevelsExact fs b) → Says u (title ≡ title_of h) → Says s (IsEncoded h)
     → Says (w && (u && s)) (TitleExact fs h b title)
 turn_titled w u s fs h b title p q r = says_as (w && (u && s)) (LevelsExact fs b × ((title ≡ title_of h) × IsEncoded h)) (TitleExact fs h b title)
@@ -159,7 +159,7 @@ pub turn_closed : (w : Bool) (fs : List Level) (f : Level) (v : Tree) (b : List 
 turn_closed w fs f v b s e p =
     says_as w (LevelsExact (f ∷ fs) b) (ItemExact fs v b) (λ x. (x.0.0, x.1 ∙ ap (λ z. levels_enc fs ++ z) e)) (λ x. ((x.0, s), x.1 ∙ ap (λ z. levels_enc fs ++ z) (sym e))) p
 
--- an open one ends, after its break: the answer was no, and stays so
+-- an open one ends, after its break: the flag was false, and stays so
 pub turn_array_broken : (w : Bool) (limit : ℕ) (fs : List Level) (vs : Trees) (b title inner : List ℕ) → Within limit fs b → AllFit fs → Title title (Array None) → tree_count vs < 2 ^ 64
     → Says w (LevelsExact (record { head = Array None; done = vs } ∷ fs) (b ++ (title ++ inner))) → Says w (ItemExact fs (array vs) (b ++ (title ++ (inner ++ 255 ∷ []))))
 turn_array_broken w limit fs vs b title inner within fit t few p =

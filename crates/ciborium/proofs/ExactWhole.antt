@@ -31,7 +31,7 @@ simple_not n e is =
     let f : simple_meaning 23 ≡ Some (simple 23) = subst (λ (z : ℕ). simple_meaning z ≡ Some (simple z)) is e in
     omega (arith, simple_one 22 23 f)
 
--- a tag that stands over its content is over what it means, or over a byte string
+-- a tag that stays over its content is over what it means, or over a byte string
 over : (n : ℕ) (u t : Tree) → tagged n u ≡ Some (tag n t) → (t ≡ u) ⊎ ((c : List ℕ) × (t ≡ bytes c))
 over n (integer i) t e = inl cc
 over n (text i) t e = inl cc

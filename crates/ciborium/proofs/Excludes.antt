@@ -1,4 +1,4 @@
--- The faults where an item stands. Damage and a front exclude each other: bytes that begin a
+-- The faults at the place of an item. Damage and a front exclude each other: bytes that begin a
 -- readable item have no fault there. An item with assigned simple values has no fault but a
 -- negative number that is too large.
 use Rattle.std.proofs.Common.{◌≡◌, ◌≤◌, ◌-◌, inl, inr, ℕ, List, ◌++◌, Option, None, Some, refl, sym, ap, subst, ◌∙◌, arith, append_assoc}
@@ -51,7 +51,7 @@ text_not stop b rest e (text x) d f =
     string_not Text text_same text_unbroken IsUtf8 stop f.spelling rest e f.spells.0 f.spells.1 (subst (λ (z : List ℕ). StringDamage Text IsUtf8 stop z e) f.whole d)
 text_not stop b rest e t d f = absurd (let w = string_begins Text IsUtf8 stop b e d in let k : 2 ≡ tree_kind t = sym (kind_1 w.0) ∙ kind_at b w.1 rest (Text w.0) t w.2 f in omega arith)
 
--- where an item of at most `limit` levels stands and has P, each fault there has R
+-- if an item of at most `limit` levels is there and has P, each fault there has R
 module _ (P : Tree → Type 0) (Q : Trees → Type 0) (inherited : Inherited P Q) (R : Fault → Type 0) (bare : (n : ℕ) → P (simple n) → simple_meaning n ≡ None → R (semantic kind.Simple))
     (negative : (x : List ℕ) → P (tag 3 (bytes x)) → fold_bytes 3 x ≡ None → R (semantic kind.BigNegative)) where
   unassigned_there : (b r rest : List ℕ) (n : ℕ) (t : Tree) → Begins b (Simple n) r → simple_meaning n ≡ None → Stands b t rest → P t → R (semantic kind.Simple)

@@ -31,7 +31,7 @@ fills_none f now w k limit from fs b s =
     stage_at k w limit (f ∷ fs) None from now (now + length {A = ℕ} []) b (b ++ []) z (append_nil b) s
 
 -- those that were read, up to the place where the next is due
-filled : (f g : Frame) (old mid : Seen) (u w : Bool) (t : Takes old mid (Fills f g old.offset u w)) (k : Bool) (limit from : ℕ) (fs : List Frame) (b : List ℕ) → Stage k u limit (f ∷ fs) None from old.offset b
+pub filled : (f g : Frame) (old mid : Seen) (u w : Bool) (t : Takes old mid (Fills f g old.offset u w)) (k : Bool) (limit from : ℕ) (fs : List Frame) (b : List ℕ) → Stage k u limit (f ∷ fs) None from old.offset b
     → Stage k w limit (g ∷ fs) None from mid.offset (b ++ t.bytes)
 filled f g old mid u w t k limit from fs b s =
     stage_at k w limit (g ∷ fs) None from (old.offset + length t.bytes) mid.offset (b ++ t.bytes) (b ++ t.bytes) (sym t.grown) refl (t.has k limit from fs b s)

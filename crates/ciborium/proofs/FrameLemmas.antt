@@ -243,7 +243,7 @@ pub entries_ends : (l : Entries) (o : Option (ℕ × Header)) (old new : Seen) �
 entries_ends l None old new (whole, t) = takes_as _ _ _ _ (Closes l.count (length l.entries.items)) (AskEnds (code.Entries l)) t (λ y c. entries_end l y whole c)
 entries_ends l (Some r) old new t = tt
 
--- where no part is left the flag stays
+-- if no part is left the flag stays
 pub part_same : (o : Option (ℕ × Header)) (w w' u : Bool) → MatchOption o (w' ≡ w) (λ r. w' ≡ (w && (u && encoded r.1))) → IfNone o (w' ≡ w)
 part_same None w w' u flag = flag
 part_same (Some r) w w' u flag = tt

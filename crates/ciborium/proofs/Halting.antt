@@ -5,7 +5,7 @@ use Rattle.ciborium_ll.specs.Reading.{Moves, Starts}
 use Rattle.ciborium_value.specs.Tree.{Tree}
 use Rattle.ciborium.specs.declared.de.Error.{Error}
 use Rattle.ciborium.specs.declared.de.Error.TheVariants as code
-use Rattle.ciborium.specs.Reading.{SomeTaken, IsFar, IsNotLong, IsFoldFault}
+use Rattle.ciborium.specs.Reading.{SomeTaken, IsFar, IsNotLong, IsNoMemory, IfMemory, IsFoldFault}
 use Rattle.ciborium.proofs.Taking.{takes_then}
 
 starts_then : (l m : Option (List ℕ)) (x y : List ℕ) → Consumes l m x → Starts m y → Starts l (x ++ y)
@@ -62,3 +62,33 @@ some_taken {E} {l₀} {l₁} {o₀} {o₁} {P} e n t = go e n
     go code.RecursionLimitExceeded n = was_taken t
     go code.Memory n = was_taken t
     go code.TooLong n = absurd n
+
+-- a fault that isn't of memory
+pub not_memory : {E : Type 0} (P : Type 0) (e : Error E) → IsNoMemory e → IfMemory P e
+not_memory P (code.Io e) n = tt
+not_memory P (code.Syntax p) n = tt
+not_memory P (code.Semantic o k) n = tt
+not_memory P code.RecursionLimitExceeded n = tt
+not_memory P code.Memory n = absurd n
+not_memory P code.TooLong n = tt
+
+pub memory_as : {E : Type 0} (P Q : Type 0) (e : Error E) → (P → Q) → IfMemory P e → IfMemory Q e
+memory_as P Q (code.Io e) f p = tt
+memory_as P Q (code.Syntax s) f p = tt
+memory_as P Q (code.Semantic o k) f p = tt
+memory_as P Q code.RecursionLimitExceeded f p = tt
+memory_as P Q code.Memory f p = f p
+memory_as P Q code.TooLong f p = tt
+
+-- no memory after what was taken
+pub memory_then : {E : Type 0} (l₀ l₁ l₂ : Option (List ℕ)) (o₀ o₁ o₂ : ℕ) (P Q S : List ℕ → Type 0) (e : Error E) → Moves l₀ l₁ o₀ o₁ P → ((x y : List ℕ) → P x → Q y → S (x ++ y))
+    → IfMemory (Moves l₁ l₂ o₁ o₂ Q) e → IfMemory (Moves l₀ l₂ o₀ o₂ S) e
+memory_then l₀ l₁ l₂ o₀ o₁ o₂ P Q S e t f m = memory_as _ _ e (λ q. takes_then l₀ l₁ l₂ o₀ o₁ o₂ P Q S t q f) m
+
+pub memory_of : {E : Type 0} (P : Type 0) (e : Error E) → P → IfMemory P e
+memory_of P (code.Io e) p = tt
+memory_of P (code.Syntax s) p = tt
+memory_of P (code.Semantic o k) p = tt
+memory_of P code.RecursionLimitExceeded p = tt
+memory_of P code.Memory p = p
+memory_of P code.TooLong p = tt

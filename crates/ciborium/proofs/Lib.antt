@@ -1,5 +1,7 @@
 pub mod Building
 pub mod Words
+pub mod OneItem
+pub mod OneTurns
 pub mod Once
 pub mod Taking
 pub mod Halting

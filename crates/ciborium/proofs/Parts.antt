@@ -12,7 +12,7 @@ use Rattle.ciborium.specs.Front.{Fronts}
 use Rattle.ciborium.proofs.Once.{append_nil, regroup, first, split, once, no_break, head_kind, tree_kind, array_same, map_same}
 use Rattle.ciborium.proofs.ChildLemmas.{all_count, unflat_depth, flat_count}
 
--- the tree t stands at the front, whatever it means
+-- the tree t is at the front, whatever it means
 pub record Stands (b : List ℕ) (t : Tree) (rest : List ℕ) : Type 0 where
   pub spelling : List ℕ
   pub whole : b ≡ spelling ++ rest
@@ -64,7 +64,7 @@ simple_part b r rest n (simple m) s f =
     cc
 simple_part b r rest n t s f = absurd (let k : 6 ≡ tree_kind t = sym (kind_simple n) ∙ kind_at b r rest (Simple n) t s f in omega arith)
 
--- a tag and what it stands over
+-- a tag and what it is over
 pub record Tagged (n : ℕ) (t : Tree) (inside rest : List ℕ) : Type 0 where
   pub under : Tree
   pub is : t ≡ tag n under
@@ -104,13 +104,15 @@ pub record Inherited (P : Tree → Type 0) (Q : Trees → Type 0) : Type 0 where
   pub of_tag : (n : ℕ) (t : Tree) → P (tag n t) → P t
   pub of_items : (t : Tree) (ts : Trees) → Q (one_more t ts) → P t × Q ts
 
--- an item of at most `limit` levels that is at `at`, and has P
-pub record Standing (P : Tree → Type 0) (at : List ℕ) (limit : ℕ) : Type 0 where
+-- an item of at most `limit` levels that is at `at`, and has P; if nothing follows it, nothing
+-- follows the item around it, after which comes `after`
+pub record Standing (P : Tree → Type 0) (at : List ℕ) (limit : ℕ) (after : List ℕ) : Type 0 where
   pub tree : Tree
   pub rest : List ℕ
   pub there : Stands at tree rest
   pub shallow : depth tree ≤ limit
   pub has : P tree
+  pub last : rest ≡ [] → after ≡ []
 
 -- the children of an array or a map whose title says o; `total` is how many a length stands for
 record Children (Q : Trees → Type 0) (total : ℕ → ℕ) (o : Option ℕ) (limit : ℕ) (inside rest : List ℕ) : Type 0 where
@@ -123,7 +125,7 @@ record Children (Q : Trees → Type 0) (total : ℕ → ℕ) (o : Option ℕ) (l
   pub count : tree_count trees ≡ total length
   pub held : Held o length inner inside rest
 
--- one more child than `done` stands at `at`, if all of them are n and `behind` follows them
+-- one more child than `done` is at `at`, if all of them are n and `behind` follows them
 More : ℕ → ℕ → List ℕ → List ℕ → Type 0
 More done n at behind = (done < n) ⊎ (((done ≢ n) ⊎ ((r : List ℕ) → at ≢ 255 ∷ r)) × ((w : List ℕ) × (behind ≡ 255 ∷ w)))
 
@@ -139,15 +141,15 @@ Wanted total (Some n) d at = d < total n
 Wanted total None d at = ((m : ℕ) → d ≢ total m) ⊎ ((r : List ℕ) → at ≢ 255 ∷ r)
 
 wanted_more : (total : ℕ → ℕ) (o : Option ℕ) (n m d : ℕ) (at inner inside rest : List ℕ) → m ≡ total n → Held o n inner inside rest → Wanted total o d at
-    → (behind : List ℕ) × (inside ≡ inner ++ behind) × More d m at behind
+    → (behind : List ℕ) × (inside ≡ inner ++ behind) × More d m at behind × (behind ≡ [] → rest ≡ [])
 unfolding More
 wanted_more total (Some k) n m d at inner inside rest c (inl (e, w)) l =
     let f : k ≡ n = cc in
-    (rest, w, inl (subst (λ (z : ℕ). d < z) (ap total f ∙ sym c) l))
+    (rest, w, inl (subst (λ (z : ℕ). d < z) (ap total f ∙ sym c) l), λ g. g)
 wanted_more total (Some k) n m d at inner inside rest c (inr (e, w)) l = absurd (cc)
 wanted_more total None n m d at inner inside rest c (inl (e, w)) l = absurd (cc)
-wanted_more total None n m d at inner inside rest c (inr (e, w)) (inl odd) = (255 ∷ rest, w, inr (inl (λ f. odd n (f ∙ c)), (rest, refl)))
-wanted_more total None n m d at inner inside rest c (inr (e, w)) (inr not) = (255 ∷ rest, w, inr (inr not, (rest, refl)))
+wanted_more total None n m d at inner inside rest c (inr (e, w)) (inl odd) = (255 ∷ rest, w, inr (inl (λ f. odd n (f ∙ c)), (rest, refl)), λ g. absurd (cc))
+wanted_more total None n m d at inner inside rest c (inr (e, w)) (inr not) = (255 ∷ rest, w, inr (inr not, (rest, refl)), λ g. absurd (cc))
 
 odd_no : (d m : ℕ) → d % 2 ≡ 1 → d ≢ 2 * m
 odd_no d m e f = omega arith
@@ -155,6 +157,10 @@ odd_no d m e f = omega arith
 map_wanted : (d : ℕ) (at : List ℕ) → (d % 2 ≡ 1) ⊎ ((r : List ℕ) → at ≢ 255 ∷ r) → ((m : ℕ) → d ≢ 2 * m) ⊎ ((r : List ℕ) → at ≢ 255 ∷ r)
 map_wanted d at (inl e) = inl (λ m. odd_no d m e)
 map_wanted d at (inr not) = inr not
+
+pub no_more : (a b : List ℕ) → a ++ b ≡ [] → b ≡ []
+no_more [] b e = e
+no_more (x ∷ xs) b e = absurd (let f : x ∷ (xs ++ b) ≡ [] = e in cc)
 
 -- which tags open a level
 bytes_kind : (t : Tree) → is_bytes t ≡ true → tree_kind t ≡ 1
@@ -207,7 +213,7 @@ module _ (P : Tree → Type 0) (Q : Trees → Type 0) (inherited : Inherited P Q
 
   -- what holds of all children holds of the one after those that were read
   next_child : (done ts : Trees) (a at inner behind : List ℕ) (limit : ℕ) → SpellsAll a done → SpellsAll inner ts → a ++ at ≡ inner ++ behind
-      → More (tree_count done) (tree_count ts) at behind → depth_all ts ≤ limit → Q ts → Standing P at limit
+      → More (tree_count done) (tree_count ts) at behind → depth_all ts ≤ limit → Q ts → Standing P at limit behind
   unfolding More
   next_child no_trees no_trees a at inner behind limit p q e (inl l) d m = absurd (omega arith)
   next_child no_trees no_trees a at inner behind limit p q e (inr (inl ne, w)) d m = absurd (ne refl)
@@ -218,6 +224,7 @@ module _ (P : Tree → Type 0) (Q : Trees → Type 0) (inherited : Inherited P Q
     there = record { spelling = q.0; whole = ap (λ z. z ++ at) (sym p) ∙ e ∙ regroup inner q.0 q.1 behind q.4; spells = q.2 };
     shallow = omega arith;
     has = (inherited.of_items t ts m).0;
+    last = no_more q.1 behind;
   }
   next_child (one_more x xs) no_trees a at inner behind limit p q e (inl l) d m = absurd (omega arith)
   next_child (one_more x xs) no_trees a at inner behind limit p q e (inr (not, (w, f))) d m =
@@ -229,17 +236,18 @@ module _ (P : Tree → Type 0) (Q : Trees → Type 0) (inherited : Inherited P Q
       next_child xs ts p.1 at q.1 behind limit p.3 q.3 e'' (fewer_more (tree_count xs) (tree_count ts) at behind more) (omega arith) (inherited.of_items t ts m).1
 
   due_child : (total : ℕ → ℕ) (o : Option ℕ) (limit : ℕ) (inside at rest : List ℕ) (done : Trees) → Children Q total o limit inside rest → Fronts inside (limit - 1) done at → Wanted total o (tree_count done) at
-      → Standing P at (limit - 1)
+      → Standing P at (limit - 1) rest
   due_child total o limit inside at rest done c f w =
       let p = f.reads in
       let n : tree_count p.trees ≡ tree_count done = all_count p.trees done p.means in
       let m = wanted_more total o c.length (tree_count c.trees) (tree_count p.trees) at c.inner inside rest c.count c.held (subst (λ (z : ℕ). Wanted total o z at) (sym n) w) in
       let d : depth_all c.trees < limit = c.deep in
-      next_child p.trees c.trees f.spelling at c.inner m.0 (limit - 1) p.spells c.spells (sym f.whole ∙ m.1) m.2 (omega arith) c.have
+      let w = next_child p.trees c.trees f.spelling at c.inner m.0 (limit - 1) p.spells c.spells (sym f.whole ∙ m.1) m.2 (omega arith) c.have in
+      record { tree = w.tree; rest = w.rest; there = w.there; shallow = w.shallow; has = w.has; last = λ e. m.3 (w.last e) }
 
-  -- where an item stands, each child that is due stands too
+  -- if an item is there, each child that is due is there too
   pub child_there : (b inside at rest : List ℕ) (limit : ℕ) (h : Header) (done : Trees) (t : Tree) → Begins b h inside → Fronts inside (limit - 1) done at → Due h (tree_count done) at → Stands b t rest → depth t ≤ limit → P t
-      → Standing P at (limit - 1)
+      → Standing P at (limit - 1) rest
   child_there b inside at rest limit (Array (Some n)) done t s fs due f d p = due_child (λ n. n) (Some n) limit inside at rest done (array_children b inside rest (Some n) limit t s f d p) fs due
   child_there b inside at rest limit (Array None) done t s fs due f d p = due_child (λ n. n) None limit inside at rest done (array_children b inside rest None limit t s f d p) fs (inr due)
   child_there b inside at rest limit (Map (Some n)) done t s fs due f d p = due_child (λ n. 2 * n) (Some n) limit inside at rest done (map_children b inside rest (Some n) limit t s f d p) fs due
@@ -248,19 +256,19 @@ module _ (P : Tree → Type 0) (Q : Trees → Type 0) (inherited : Inherited P Q
   child_there b inside at rest limit h done t s fs due f d p = absurd due
 
   -- a tag that opens a level is over an item of fewer
-  pub level_there : (b inside rest : List ℕ) (n limit : ℕ) (t : Tree) → Begins b (Tag n) inside → IsLevel n inside → Stands b t rest → depth t ≤ limit → P t → (0 < limit) × Standing P inside (limit - 1)
+  pub level_there : (b inside rest : List ℕ) (n limit : ℕ) (t : Tree) → Begins b (Tag n) inside → IsLevel n inside → Stands b t rest → depth t ≤ limit → P t → (0 < limit) × Standing P inside (limit - 1) rest
   level_there b inside rest n limit t s l f d p =
       let w = tag_parts b inside rest n t s f in
       let deep : suc (depth w.under) ≤ limit = level_deep n limit inside rest w.under l w.at (subst (λ (z : Tree). depth z ≤ limit) w.is d) in
-      (omega arith, record { tree = w.under; rest = rest; there = w.at; shallow = omega arith; has = inherited.of_tag n w.under (subst P w.is p) })
+      (omega arith, record { tree = w.under; rest = rest; there = w.at; shallow = omega arith; has = inherited.of_tag n w.under (subst P w.is p); last = λ e. e })
 
   -- a tag over a byte string
-  pub free_there : (b inside r rest : List ℕ) (n limit : ℕ) (o : Option ℕ) (t : Tree) → Begins b (Tag n) inside → Begins inside (Bytes o) r → Stands b t rest → P t → Standing P inside limit
+  pub free_there : (b inside r rest : List ℕ) (n limit : ℕ) (o : Option ℕ) (t : Tree) → Begins b (Tag n) inside → Begins inside (Bytes o) r → Stands b t rest → P t → Standing P inside limit rest
   free_there b inside r rest n limit o t s bs f p =
       let w = tag_parts b inside rest n t s f in
       let k : tree_kind w.under ≡ 1 = sym (kind_at inside r rest (Bytes o) w.under bs w.at) ∙ kind_bytes o in
       let none : depth w.under ≡ 0 = bytes_flat w.under k in
-      record { tree = w.under; rest = rest; there = w.at; shallow = omega arith; has = inherited.of_tag n w.under (subst P w.is p) }
+      record { tree = w.under; rest = rest; there = w.at; shallow = omega arith; has = inherited.of_tag n w.under (subst P w.is p); last = λ e. e }
 
   -- an array or a map that is there has a level
   pub array_deep : (b r rest : List ℕ) (o : Option ℕ) (limit : ℕ) (t : Tree) → Begins b (Array o) r → Stands b t rest → depth t ≤ limit → P t → 0 < limit

@@ -36,7 +36,7 @@ Behind limit h at old new u w fs read y = (k : Bool) (title : List ℕ) → Titl
 pub record Turn (limit : ℕ) (h : Header) (at : ℕ) (old new : Seen) (u w : Bool) (fs : List Frame) (read : Option Value) : Type 0 where
   pub taken : Takes old new (Behind limit h at old new u w fs read)
 
--- where the flag is not asked for, any serves
+-- if the flag is not asked for, any serves
 asks_as : (w w' : Bool) (limit : ℕ) (fs : List Frame) (from now : ℕ) (b : List ℕ) → Asks false w limit fs from now b → Asks false w' limit fs from now b
 asks_as w w' limit [] from now b p = p
 asks_as w w' limit (code.Whole at h ∷ fs) from now b p = (p.0, tt)

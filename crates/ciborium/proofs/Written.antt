@@ -1,4 +1,4 @@
--- What a sink of bytes wrote: the texts of the events that it took, one after another.
+-- What a sink of bytes wrote: the encodings of the events that it took, one after another.
 use Rattle.std.proofs.Common.{◌≡◌, ℕ, ◌+◌, List, [], ◌∷◌, ◌++◌, inl, inr, Option, None, Some, Result, Ok, Err, OnOk, OnErr, refl, sym, ap, subst, ◌∙◌, append_assoc, append-nil}
 use Rattle.std.specs.Io.KnownBytes.{Appends}
 use Rattle.std.proofs.KnownBytes.{Appends-trans}
@@ -12,7 +12,7 @@ use Rattle.ciborium_value.specs.Encoding.{enc, enc_all, enc_pairs}
 use Rattle.ciborium_typed.specs.Events.{Event, events, events_all, events_pairs, AllAdded, Stopped}
 use Rattle.ciborium.specs.Writing.{event_text, IsWritten, IsTorn}
 
--- the texts of events, one after another
+-- the encodings of events, one after another
 abbrev pub event_texts : List Event → List ℕ
 event_texts [] = []
 event_texts (e ∷ es) = event_text e ++ event_texts es
@@ -85,7 +85,7 @@ module _ {S W : Type 0} (of : S → W) (written : W → Option (List ℕ)) (hand
       let r = part_written (events t) s u p in
       (front_as (written (of s)) (written (of u)) (event_texts (events t)) (enc t) (texts_of t) r.0, r.1, r.2)
 
-  -- what an answer says of the writer
+  -- what a result says of the writer
   pub on_ok : {T E : Type 0} (r : Result T E) (t : Tree) (s u : S) → OnOk r (AllAdded Writes s (events t) u) → OnOk r (Appends (written (of s)) (written (of u)) (enc t))
   on_ok (Ok x) t s u p = (item_written t s u p).0
   on_ok (Err e) t s u p = tt

@@ -4,8 +4,8 @@ use Rattle.ciborium_value.specs.Tree.{Tree, Trees, no_trees, one_more, Pairs, no
 use Rattle.ciborium_traits.specs.declared.error.Error.{Error}
 use Rattle.ciborium_traits.specs.declared.error.Error.TheVariants.{Memory}
 
--- a part is after those of a list; the first error is handed on, and no other is returned but
--- being out of memory
+-- a part is after those of a list; the first error is handed on, and no other is returned but out
+-- of memory
 abbrev pub Adds : {L P : Type 0} → (L → List P) → Result L Error → Result P Error → Result L Error → Type 0
 Adds parts (Ok l) (Ok x) (Ok m) = parts m ≡ parts l ++ (x ∷ [])
 Adds parts (Ok l) (Ok x) (Err e) = e ≡ Memory

@@ -31,7 +31,7 @@ abbrev mutual
   PairsSound no_pairs = Unit {0}
   PairsSound (pair_more k v ps) = Sound k × Sound v × PairsSound ps
 
--- the answer says whether P
+-- the flag says whether P
 abbrev pub Says : Bool → Type 0 → Type 0
 Says answer P = MatchBool answer P (P → ⊥)
 
@@ -52,7 +52,7 @@ IsEncoded (Array None) = ⊥
 IsEncoded (Map (Some n)) = Unit {0}
 IsEncoded (Map None) = ⊥
 
--- the same as an answer
+-- the same as a flag
 abbrev pub encoded : Header → Bool
 encoded (Positive n) = true
 encoded (Negative n) = true

@@ -18,7 +18,7 @@ use Rattle.ciborium.specs.declared.frames.Handed.TheVariants as handed
 use Rattle.ciborium.specs.declared.frames.Opened.{Opened}
 use Rattle.ciborium.specs.declared.frames.Opened.TheVariants as opens
 use Rattle.ciborium.specs.Damage.{Damage}
-use Rattle.ciborium.specs.Front.{Reads}
+use Rattle.ciborium.specs.Front.{Reads, HoldsOne}
 use Rattle.ciborium.specs.Reading.{IfKnown, FailsAt, Closes, IsLeaf, OpensOver, ReadsBehind}
 use Rattle.ciborium.specs.Exact.{Says, IsEncoded, encoded, LevelsExact, TitleExact, ItemExact}
 use Rattle.ciborium.specs.Levels.{Level, Within, Titled, Handing}
@@ -184,6 +184,11 @@ LeafPut h old new s s' = (v : Value) × Takes s s' (λ b. (limit : ℕ) → Read
 abbrev pub Fills : Frame → Frame → ℕ → Bool → Bool → List ℕ → Type 0
 Fills old new now w w' y = (k : Bool) (limit from : ℕ) (fs : List Frame) (b : List ℕ) → Stage k w limit (old ∷ fs) None from now b → Stage k w' limit (new ∷ fs) None from (now + length y) (b ++ y)
 
+-- the bytes y were taken for it from the place `now` on: after those of the whole so far, no item
+-- ends before their end
+abbrev pub FillHolds : Frame → ℕ → List ℕ → Type 0
+FillHolds top now y = (limit from : ℕ) (fs : List Frame) (b : List ℕ) → Stage false false limit (top ∷ fs) None from now b → HoldsOne (b ++ y)
+
 -- it is whole after them
 abbrev pub FillEnds : Frame → Frame → ℕ → Bool → Bool → List ℕ → Type 0
 FillEnds old new now w w' y = (k : Bool) (limit from : ℕ) (fs : List Frame) (b : List ℕ) → Stage k w limit (old ∷ fs) None from now b → ClosedStage k w' limit (new ∷ fs) (b ++ y)
@@ -248,7 +253,8 @@ abbrev pub BeginFails : {E : Type 0} → (E → Bool) → ℕ → List Frame →
 BeginFails ends limit fs h at old new e = (from : ℕ) (b : List ℕ) → from + length b ≡ old.offset → Rooted fs → Titled limit (opened fs) h at from old.offset b
     → Faults ends limit from b old.left new.offset e
 
--- the item after a title of h is read, and the flag tells whether its text is the shortest
+-- the item after a title of h is read, and the flag tells whether its bytes are its canonical
+-- encoding
 abbrev pub ReadExact : Header → ℕ → Tree → Bool → Bool → List ℕ → Type 0
 ReadExact h limit v w w' y = (title : List ℕ) → Title title h
     → Reads (title ++ y) limit v × (length (title ++ y) < 2 ^ 64 → Says w ((title ≡ title_of h) × IsEncoded h) → Says w' (title ++ y ≡ enc v))

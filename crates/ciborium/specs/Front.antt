@@ -1,5 +1,5 @@
 -- The one readable item at the front of some bytes.
-use Rattle.std.specs.Prelude.{◌≡◌, ℕ, ◌≤◌, List, ◌++◌, Some}
+use Rattle.std.specs.Prelude.{◌≡◌, ℕ, ◌≤◌, List, [], ◌++◌, Some}
 use Rattle.ciborium_value.specs.Tree.{Tree, Trees, depth, depth_all}
 use Rattle.ciborium.specs.Spelling.{Spells, SpellsAll}
 use Rattle.ciborium.specs.Meaning.{meaning, meanings}
@@ -28,3 +28,7 @@ pub record Fronts (b : List ℕ) (limit : ℕ) (vs : Trees) (rest : List ℕ) : 
   pub spelling : List ℕ
   pub whole : b ≡ spelling ++ rest
   pub reads : ReadsAll spelling limit vs
+
+-- no item ends before the end of these bytes: they hold at most one
+abbrev pub HoldsOne : List ℕ → Type 0
+HoldsOne b = (t : Tree) (x y : List ℕ) → b ≡ x ++ y → Spells x t → y ≡ []

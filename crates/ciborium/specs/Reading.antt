@@ -18,7 +18,7 @@ use Rattle.ciborium_value.specs.Folding.{IsTooNegative}
 use Rattle.ciborium_ll.specs.Framing.{Frame, joined}
 use Rattle.ciborium.specs.Damage.{Fault, end, deep, syntax, semantic, Damage, IsFree, IsLevel}
 use Rattle.ciborium_ll.specs.Framing.{Opened}
-use Rattle.ciborium.specs.Front.{Reads, ReadsAll}
+use Rattle.ciborium.specs.Front.{Reads, ReadsAll, HoldsOne}
 
 abbrev pub lifted : {E : Type 0} → HeadError E → Error E
 lifted (below.Io e) = code.Io e
@@ -34,12 +34,12 @@ fault_failures ends code.RecursionLimitExceeded n = n
 fault_failures ends code.Memory n = n
 fault_failures ends code.TooLong n = n
 
--- how often the reader has failed after this answer
+-- how often the reader has failed after this result
 abbrev pub failures : {T E : Type 0} → (E → Bool) → Result T (Error E) → ℕ → ℕ
 failures ends (Ok x) n = n
 failures ends (Err e) n = fault_failures ends e n
 
--- every call on a decoder: a failure is counted exactly when the answer is one, the reader stays
+-- every call on a decoder: a failure is counted exactly when the result is one, the reader stays
 -- the same, and no header waits then
 pub record Steady {T E : Type 0} (ends : E → Bool) (answer : Result T (Error E)) (old new : Seen) : Type 0 where
   pub failed : new.failed ≡ failures ends answer old.failed
@@ -51,8 +51,8 @@ abbrev pub IsFar : ℕ → Type 0
 IsFar place = 2 ^ 64 ≤ place + 4096
 
 -- some of the bytes that were to come were taken, or none, and the place has grown by their count;
--- the rest of them is left, but after a fault of the reader what is left is open. `TooLong` comes
--- only where the place is far, whether the reader tells its bytes or not.
+-- the rest of them is left, but after a fault of the reader it isn't said what is left. `TooLong`
+-- comes only if the place is far, whether the reader tells its bytes or not.
 abbrev pub SomeTaken : {E : Type 0} → Option (List ℕ) → Option (List ℕ) → ℕ → ℕ → Error E → Type 0
 SomeTaken left left' place place' (code.Io e) = Stops left place place' (λ _. Unit {0})
 SomeTaken left left' place place' (code.Syntax p) = Moves left left' place place' (λ _. Unit {0})
@@ -100,6 +100,15 @@ IfEnd ends P (code.Semantic o k) = Unit {0}
 IfEnd ends P code.RecursionLimitExceeded = Unit {0}
 IfEnd ends P code.Memory = Unit {0}
 IfEnd ends P code.TooLong = Unit {0}
+
+-- P holds if there was no memory
+abbrev pub IfMemory : {E : Type 0} → Type 0 → Error E → Type 0
+IfMemory P (code.Io e) = Unit {0}
+IfMemory P (code.Syntax p) = Unit {0}
+IfMemory P (code.Semantic o k) = Unit {0}
+IfMemory P code.RecursionLimitExceeded = Unit {0}
+IfMemory P code.Memory = P
+IfMemory P code.TooLong = Unit {0}
 
 -- at an end the place is the one at the call exactly when no byte was left
 abbrev pub EndPlace : List ℕ → ℕ → ℕ → Type 0
@@ -194,6 +203,10 @@ IsPart text h part.Other = (h ≢ Break) × ((o : Option ℕ) → h ≢ string_h
 abbrev pub ReadsBehind : Header → ℕ → Tree → List ℕ → Type 0
 ReadsBehind h limit v inner = (title : List ℕ) → Title title h → Reads (title ++ inner) limit v
 
+-- with a title of h before them, no item ends before the end of these bytes
+abbrev pub OneBehind : Header → List ℕ → Type 0
+OneBehind h b = (title : List ℕ) → Title title h → HoldsOne (title ++ b)
+
 -- the children of an array or a map whose head has the length o, and their break
 abbrev pub ChildrenBehind : Option ℕ → ℕ → ℕ → Trees → List ℕ → Type 0
 ChildrenBehind (Some n) count limit vs inner = (n ≡ count) × ReadsAll inner limit vs
@@ -218,7 +231,7 @@ pub record IsNext (o : Option ℕ) (done : ℕ) (h : Header) : Type 0 where
 abbrev pub OpensOver : ℕ → Header → Type 0
 OpensOver n h = ((n ≢ 2) × (n ≢ 3)) ⊎ ((o : Option ℕ) → h ≢ Bytes o)
 
--- there was no memory, or the number is too negative
+-- out of memory, or the number is too negative
 abbrev pub IsFoldFault : {E : Type 0} → ℕ → Tree → Error E → Type 0
 IsFoldFault n t (code.Io e) = ⊥
 IsFoldFault n t (code.Syntax p) = ⊥

@@ -26,7 +26,7 @@ IsTypeFault grows why (code.Syntax p) = ⊥
 IsTypeFault grows why code.RecursionLimitExceeded = ⊥
 IsTypeFault grows why code.TooLong = ⊥
 
--- `b` is an item of at most `limit` levels, and x is taken of what it means
+-- `b` is an item of at most `limit` levels, and x is taken from what it means
 pub record ReadsAs {T : Type 0} (refusal : Tree → Option Kind) (takes : Tree → T → Type 0) (limit : ℕ) (x : T) (b : List ℕ) : Type 0 where
   pub item : Tree
   pub reads : Reads b limit item
@@ -45,7 +45,8 @@ abbrev pub Gives : Option (List ℕ) → Option (List ℕ) → (List ℕ → Typ
 Gives old new P = (b : List ℕ) × Consumes old new b × P b
 
 -- what a fault leaves of a reader: some of its bytes were taken, or none, and the rest of them is
--- left; after a fault of its own that is open. `TooLong` comes only after nearly 2^64 bytes.
+-- left; after a fault of its own it isn't said what is left. `TooLong` comes only after nearly 2^64
+-- bytes.
 abbrev pub LeavesRest : {E : Type 0} → Option (List ℕ) → Option (List ℕ) → Error E → Type 0
 LeavesRest old new (code.Io e) = Unit {0}
 LeavesRest old new (code.Syntax p) = Gives old new (λ _. Unit {0})

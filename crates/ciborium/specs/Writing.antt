@@ -28,8 +28,8 @@ event_text (tag n) = title_of (Tag n)
 event_text (array n) = title_of (Array (Some n))
 event_text (map n) = title_of (Map (Some n))
 
--- a writer took the whole text of an event; it was lent and comes back as itself, and it did not
--- fail
+-- a writer took the whole encoding of an event; it was lent and comes back as itself, and it did
+-- not fail
 abbrev pub IsWritten : {W : Type 0} → (W → Option (List ℕ)) → (W → List ℕ) → (W → ℕ) → W → Event → W → Type 0
 IsWritten written handle failed w e w2 = Appends (written w) (written w2) (event_text e) × (handle w2 ≡ handle w) × (failed w2 ≡ failed w)
 

@@ -40,7 +40,7 @@ pub fn no_items(alloc: Global) -> Result<Vec<Value>, Error>
 /// One more item.
 ///
 /// # Errors
-/// The first of the list's and the item's; `Memory` if both are there and there is no memory.
+/// The first of the list's and the item's; `Memory` if both are there and it is out of memory.
 pub fn with_item(
     items: Result<Vec<Value>, Error>,
     item: Result<Value, Error>,
@@ -81,7 +81,7 @@ pub fn no_entries(alloc: Global) -> Result<Vec<(Value, Value)>, Error>
 /// One more entry.
 ///
 /// # Errors
-/// The first of the entries', the key's and the value's; `Memory` if all are there and there is no
+/// The first of the entries', the key's and the value's; `Memory` if all are there and it is out of
 /// memory.
 pub fn with_entry(
     entries: Result<Vec<(Value, Value)>, Error>,

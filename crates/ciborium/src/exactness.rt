@@ -11,7 +11,7 @@ use crate::reader::{is_encoded, is_over};
 use crate::value::Value;
 use ciborium_ll::{Decoder, Header, Read};
 
-/// Whether the text is the shortest so far. Once it is not, it stays so.
+/// Whether the bytes so far are canonical encoding. Once they aren't, this stays so.
 pub trait Exactness {
     ghost flag: { Self → Bool };
 
@@ -19,14 +19,14 @@ pub trait Exactness {
     fn title<R: Read>(&mut self, decoder: &Decoder<R>, header: Header)
         ensures { flag self.new ≡ (flag self.old && (shortest_of decoder.now && encoded header)) };
 
-    /// Takes in what a tag over a content became: if the fold changed a byte string, the text was
-    /// not the shortest. `length` is that of the content, if it was one.
+    /// Takes in what a tag over a content became: if the fold changed a byte string, the bytes were
+    /// not canonical encoding. `length` is that of the content, if it was a byte string.
     fn fold(&mut self, whole: &Value, tag: u64, length: Option<usize>)
         ensures { (c : Tree) → IsLengthOf length c → tagged tag c ≡ Some (view whole.now)
             → IsKept tag c (view whole.now) (flag self.old) (flag self.new) };
 }
 
-/// The answer, if it is asked.
+/// Keeps whether the bytes so far are canonical encoding.
 #[derive(Drop)]
 pub struct Asked(pub bool);
 
@@ -42,7 +42,7 @@ impl Exactness for Asked {
     }
 }
 
-/// No answer: it isn't asked.
+/// Keeps nothing: it isn't asked whether they are.
 #[derive(Drop)]
 pub struct Unasked;
 

@@ -1,5 +1,5 @@
 //! Reads items over a list of the levels that are open.
-ghost use Rattle.std.specs.Prelude.{◌≡◌, ◌<◌, ◌≤◌, ◌+◌, ◌*◌, ◌∷◌, ◌++◌, ℕ, Bool, true};
+ghost use Rattle.std.specs.Prelude.{◌≡◌, ◌≢◌, ◌<◌, ◌≤◌, ◌+◌, ◌*◌, ◌∷◌, ◌++◌, ℕ, Bool, true};
 ghost use Rattle.std.specs.Prelude.{false, List, [], None, Some, reverse, length};
 ghost use Rattle.std.specs.Prelude.{IfOk, IfErr, OnOk, OnErr, IfSome, IfNone};
 ghost use Rattle.std.specs.Prelude.{MatchOption, MatchBool, ◌&&◌};
@@ -13,13 +13,14 @@ ghost use Rattle.ciborium.specs.Reading.{Steady, TakesSome, NamesFault, NamesFau
 ghost use Rattle.ciborium_value.specs.Folding.{tagged};
 ghost use Rattle.ciborium.specs.Reading.{IsNext, is_full, fault_failures, IsFoldFault, IsLeaf};
 ghost use Rattle.ciborium.specs.Reading.{IsNotLong, ReadsBehind};
+ghost use Rattle.ciborium.specs.Reading.{IsNoMemory, IfMemory, OneBehind};
 ghost use Rattle.ciborium.specs.Frames.{snoc, halves_of, HasHalf, IsStaged, IsClosed};
 ghost use Rattle.ciborium.specs.Frames.{Hands};
 ghost use Rattle.ciborium.specs.Exact.{encoded};
 ghost use Rattle.ciborium.specs.Frames.{IsKept, CloseGives, ReadExact, HandFails, AskEnds};
 ghost use Rattle.ciborium.specs.Frames.{AskGives, AskFails, Opening, Begins, BeginFails};
 ghost use Rattle.ciborium.specs.Frames.{Holds, in_hand, rank, room_of, Falls, listed, HalfIn};
-ghost use Rattle.ciborium.specs.Frames.{LeafPut, FillEnds, FillGives};
+ghost use Rattle.ciborium.specs.Frames.{LeafPut, FillEnds, FillGives, FillHolds};
 
 use crate::de::Error;
 use crate::exactness::Exactness;
@@ -119,6 +120,7 @@ fn hand<E, X: Exactness>(
     ensures err { IfErr result (HandFails (top.old ∷ reverse below.old.items) read.old) }
     ensures quiet { IfErr result (λ e. (ends : E → Bool) (n : ℕ) → fault_failures ends e n ≡ n) }
     ensures far { IfErr result IsNotLong }
+    ensures some { OnErr result (read.old ≢ None) }
 {
     let Some(value) = read.take() else {
         return Ok(Handed::Taken);
@@ -193,6 +195,7 @@ fn next_half<R: Read>(
     ensures due { OnErr result (list.now.half ≡ false
         → is_full list.now.count (length list.now.entries.items) ≡ false) }
     ensures stops { IfErr result (TakesSome (seen R.Read decoder.old) (seen R.Read decoder.new)) }
+    ensures memory { IfErr result IsNoMemory }
     ensures steady { Steady R.ends result (seen R.Read decoder.old) (seen R.Read decoder.new) }
 {
     if list.half {
@@ -216,8 +219,8 @@ fn take_title<R: Read, X: Exactness>(
     }
 }
 
-/// The value of a tag over its content. If the fold changes a byte string, its text was not the
-/// shortest.
+/// The value of a tag over its content. If the fold changes a byte string, its bytes were not
+/// canonical encoding.
 fn tag_value<E, X: Exactness>(
     alloc: Global,
     tag: u64,
@@ -254,6 +257,7 @@ fn ask<R: Read, X: Exactness>(
     ensures err { IfErr result (AskFails R.ends top.now
         (seen R.Read decoder.old) (seen R.Read decoder.new)) }
     ensures stops { IfErr result (TakesSome (seen R.Read decoder.old) (seen R.Read decoder.new)) }
+    ensures memory { IfErr result IsNoMemory }
     ensures steady { Steady R.ends result (seen R.Read decoder.old) (seen R.Read decoder.new) }
 {
     match top {
@@ -304,6 +308,8 @@ fn push_leaf<R: Read>(
         → NamesFaultBehind R.ends header at (λ stop b f. Damage stop b limit f)
         (seen R.Read decoder.old) (seen R.Read decoder.new) e) }
     ensures stops { IfErr result (TakesSome (seen R.Read decoder.old) (seen R.Read decoder.new)) }
+    ensures one { IfErr result (IfMemory (Takes (seen R.Read decoder.old)
+        (seen R.Read decoder.new) (OneBehind header))) }
     ensures steady { Steady R.ends result (seen R.Read decoder.old) (seen R.Read decoder.new) }
 {
     match header {
@@ -370,6 +376,8 @@ fn put_half_leaf<R: Read>(
         → NamesFaultBehind R.ends header at (λ stop b f. Damage stop b limit f)
         (seen R.Read decoder.old) (seen R.Read decoder.new) e) }
     ensures stops { IfErr result (TakesSome (seen R.Read decoder.old) (seen R.Read decoder.new)) }
+    ensures one { IfErr result (IfMemory (Takes (seen R.Read decoder.old)
+        (seen R.Read decoder.new) (OneBehind header))) }
     ensures steady { Steady R.ends result (seen R.Read decoder.old) (seen R.Read decoder.new) }
 {
     match header {
@@ -429,6 +437,8 @@ fn put_leaf<R: Read>(
         → NamesFaultBehind R.ends header at (λ stop b f. Damage stop b limit f)
         (seen R.Read decoder.old) (seen R.Read decoder.new) e) }
     ensures stops { IfErr result (TakesSome (seen R.Read decoder.old) (seen R.Read decoder.new)) }
+    ensures one { IfErr result (IfMemory (Takes (seen R.Read decoder.old)
+        (seen R.Read decoder.new) (OneBehind header))) }
     ensures steady { Steady R.ends result (seen R.Read decoder.old) (seen R.Read decoder.new) }
 {
     match top {
@@ -468,6 +478,8 @@ fn fill<R: Read, X: Exactness>(
     ensures err { IfErr result (AskFails R.ends top.old
         (seen R.Read decoder.old) (seen R.Read decoder.new)) }
     ensures stops { IfErr result (TakesSome (seen R.Read decoder.old) (seen R.Read decoder.new)) }
+    ensures one { IfErr result (IfMemory (Takes (seen R.Read decoder.old)
+        (seen R.Read decoder.new) (FillHolds top.old (offset_of decoder.old)))) }
     ensures steady { Steady R.ends result (seen R.Read decoder.old) (seen R.Read decoder.new) }
 {
     'parts: loop {
@@ -536,6 +548,8 @@ fn opening<R: Read, X: Exactness>(
     ensures err { IfErr result (NamesFaultBehind R.ends header at (λ stop b f. Damage stop b left f)
         (seen R.Read decoder.old) (seen R.Read decoder.new)) }
     ensures stops { IfErr result (TakesSome (seen R.Read decoder.old) (seen R.Read decoder.new)) }
+    ensures one { IfErr result (IfMemory (Takes (seen R.Read decoder.old)
+        (seen R.Read decoder.new) (OneBehind header))) }
     ensures steady { Steady R.ends result (seen R.Read decoder.old) (seen R.Read decoder.new) }
 {
     match header {
@@ -601,6 +615,8 @@ fn begin<R: Read, X: Exactness>(
     ensures err { IfErr result (BeginFails R.ends limit (top.old ∷ reverse below.old.items)
         title.1 title.0 (seen R.Read decoder.old) (seen R.Read decoder.new)) }
     ensures stops { IfErr result (TakesSome (seen R.Read decoder.old) (seen R.Read decoder.new)) }
+    ensures one { IfErr result (IfMemory (Takes (seen R.Read decoder.old)
+        (seen R.Read decoder.new) (OneBehind title.1))) }
     ensures steady { Steady R.ends result (seen R.Read decoder.old) (seen R.Read decoder.new) }
 {
     let left = limit.saturating_sub(below.len());
@@ -629,7 +645,7 @@ fn begin<R: Read, X: Exactness>(
 }
 
 /// The item after the title of `header`, which begins at the place `at`. `exact` tells whether the
-/// text is the shortest so far, and stays false once it is not.
+/// bytes so far are canonical encoding, and stays false once they aren't.
 pub fn read_item<R: Read, X: Exactness>(
     alloc: Global,
     decoder: &mut Decoder<R>,
@@ -645,6 +661,8 @@ pub fn read_item<R: Read, X: Exactness>(
     ensures err { IfErr result (NamesFaultBehind R.ends header at
         (λ stop b f. Damage stop b limit f) (seen R.Read decoder.old) (seen R.Read decoder.new)) }
     ensures stops { IfErr result (TakesSome (seen R.Read decoder.old) (seen R.Read decoder.new)) }
+    ensures one { IfErr result (IfMemory (Takes (seen R.Read decoder.old)
+        (seen R.Read decoder.new) (OneBehind header))) }
     ensures steady { Steady R.ends result (seen R.Read decoder.old) (seen R.Read decoder.new) }
 {
     let mut below: Vec<Frame> = Vec::new(alloc);

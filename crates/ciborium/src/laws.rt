@@ -206,15 +206,16 @@ pub fn written_fits<T: Serialize>(value: &T)
     }
 }
 
-/// A kept value is read of the bytes that it is written as, whatever follows them, if it nests no
-/// deeper than the limit. Whatever else is read of them is written alike, and leaves what follows.
+/// A kept value is read from the bytes that it is written as, whatever follows them, if it nests no
+/// deeper than the limit. Whatever else is read from them is written alike, and leaves what
+/// follows.
 pub fn written_is_read<T: RoundTrip>(value: &T)
     ensures read { T.kept value.now → (limit : ℕ) → depth (T.put value.now) ≤ limit
         → ReadsAs T.refusal T.takes limit value.now (enc (T.put value.now)) }
     ensures front { T.kept value.now → (limit : ℕ) (rest : List ℕ) → depth (T.put value.now) ≤ limit
         → Front (enc (T.put value.now) ++ rest) limit (T.put value.now) rest }
 
-    // The bytes have no fault, and the type refuses no item that is read of them.
+    // The bytes have no fault, and the type refuses no item that is read from them.
     ensures whole { T.kept value.now → (stop limit : ℕ) (rest : List ℕ) (e : Fault)
         → depth (T.put value.now) ≤ limit
         → Damage stop (enc (T.put value.now) ++ rest) limit e → ⊥ }
@@ -229,8 +230,8 @@ pub fn written_is_read<T: RoundTrip>(value: &T)
 }
 
 /// Values that are read at the front of one list of bytes are written alike, whatever the limits,
-/// and were read of the same bytes. A value that is read of an encoding is written as one that is
-/// taken of the folded tree.
+/// and were read from the same bytes. A value that is read from an encoding is written as one that
+/// is taken from the folded tree.
 pub fn readings_agree<T: RoundTrip>()
     ensures read { (n m : ℕ) (b : List ℕ) (x y : T) → ReadsAs T.refusal T.takes n x b
         → ReadsAs T.refusal T.takes m y b → T.put x ≡ T.put y }
@@ -241,7 +242,7 @@ pub fn readings_agree<T: RoundTrip>()
         → T.takes u x → ReadsAs T.refusal T.takes limit y (enc t) → T.put x ≡ T.put y }
 {}
 
-/// What a type takes of a folded value is what is read of the value's encoding, if it nests no
+/// What a type takes from a folded value is what is read from the value's encoding, if it nests no
 /// deeper than the limit.
 pub fn reading_takes<T: Deserialize>(value: &Value)
     ensures taken { (limit : ℕ) (u : Tree) (x : T) → depth (view value.now) ≤ limit

@@ -16,6 +16,7 @@ ghost use Rattle.ciborium.specs.Damage.{Damage, TitleDamage};
 ghost use Rattle.ciborium.specs.Reading.{NamesFault, NamesFaultBehind, Steady, TakesSome};
 ghost use Rattle.ciborium.specs.Reading.{ReadsBehind, TagDamage, is_full, IsLeaf, Closes};
 ghost use Rattle.ciborium.specs.Reading.{IsNext, OpensOver, IsFoldFault};
+ghost use Rattle.ciborium.specs.Reading.{IsNoMemory, IfMemory, OneBehind};
 
 use crate::de::Error;
 use crate::strings::{next_title, read_string, read_text};
@@ -58,6 +59,8 @@ pub fn read_leaf<R: Read>(
     ensures bytes { IfOk result (λ v. (o : Option ℕ) → header ≡ Bytes o
         → (x : List ℕ) × (view v ≡ bytes x)) }
     ensures stops { IfErr result (TakesSome (seen R.Read decoder.old) (seen R.Read decoder.new)) }
+    ensures one { IfErr result (IfMemory (Takes (seen R.Read decoder.old)
+        (seen R.Read decoder.new) (OneBehind header))) }
     ensures steady { Steady R.ends result (seen R.Read decoder.old) (seen R.Read decoder.new) }
 {
     match header {
@@ -178,6 +181,7 @@ pub fn next_part<R: Read>(
         (seen R.Read decoder.old) (seen R.Read decoder.new)) }
     ensures due { OnErr result (is_full count done ≡ false) }
     ensures stops { IfErr result (TakesSome (seen R.Read decoder.old) (seen R.Read decoder.new)) }
+    ensures memory { IfErr result IsNoMemory }
     ensures steady { Steady R.ends result (seen R.Read decoder.old) (seen R.Read decoder.new) }
 {
     if all_read(count, done) {
@@ -268,6 +272,7 @@ pub fn tagged_title<R: Read>(
     ensures err { IfErr result (NamesFault R.ends (TagDamage tag limit)
         (seen R.Read decoder.old) (seen R.Read decoder.new)) }
     ensures stops { IfErr result (TakesSome (seen R.Read decoder.old) (seen R.Read decoder.new)) }
+    ensures memory { IfErr result IsNoMemory }
     ensures steady { Steady R.ends result (seen R.Read decoder.old) (seen R.Read decoder.new) }
 {
     if is_plain(tag) {

@@ -114,8 +114,8 @@ impl<W: Write> Sink for Serializer<W> {
     }
 }
 
-/// Writes the one shortest definite text of the item that the value is written as (RFC 8949,
-/// section 4.1). A `Value` takes no memory.
+/// Writes the canonical encoding of the item that the value is written as (RFC 8949, section 4.1).
+/// A `Value` takes no memory.
 ///
 /// # Errors
 /// The writer's, as `Io`; a beginning of the encoding was written then.
@@ -133,7 +133,7 @@ pub fn into_writer<T: Serialize, W: Write>(value: &T, writer: &mut W) -> Result<
     Ok(())
 }
 
-/// The text of the item that a value is written as.
+/// Writes the item that a value is written as.
 fn write_item<T: Serialize, W: Write>(sink: &mut Serializer<W>, value: &T) -> Result<(), W::Error>
     ensures ok { OnOk result (Appends (W.written (writer_of (encoder_of sink.old)))
         (W.written (writer_of (encoder_of sink.new))) (enc (T.put value.now))) }

@@ -3,10 +3,10 @@ ghost use Rattle.std.specs.Prelude.{◌≡◌, Some, [], IfOk, IfErr, OnOk};
 ghost use Rattle.ciborium_ll.specs.Seen.{Takes};
 ghost use Rattle.ciborium_ll.specs.Views.{left_of, reader_of, seen};
 ghost use Rattle.ciborium_value.specs.View.{view};
-ghost use Rattle.ciborium.specs.Front.{Reads};
+ghost use Rattle.ciborium.specs.Front.{Reads, HoldsOne};
 ghost use Rattle.ciborium.specs.Damage.{Damage};
 ghost use Rattle.ciborium.specs.Reading.{NamesFault, Steady, TakesSome, IsNoMemory, IfEnd};
-ghost use Rattle.ciborium.specs.Reading.{fault_failures};
+ghost use Rattle.ciborium.specs.Reading.{IfMemory, fault_failures};
 ghost use Rattle.ciborium.specs.Typed.{refusing};
 
 use crate::de::{Error, from_decoder};
@@ -85,6 +85,8 @@ impl<R: Read> Source for Deserializer<R> {
             → IfErr result (IfEnd R.ends (left_of R.left (decoder_of self.new) ≡ Some [])) }
         ensures stops { IfErr result (TakesSome (seen R.Read (decoder_of self.old))
             (seen R.Read (decoder_of self.new))) }
+        ensures one { IfErr result (IfMemory (Takes (seen R.Read (decoder_of self.old))
+            (seen R.Read (decoder_of self.new)) HoldsOne)) }
         ensures steady { Steady R.ends result (seen R.Read (decoder_of self.old))
             (seen R.Read (decoder_of self.new)) }
         ensures limit { limit_of self.new ≡ limit_of self.old }

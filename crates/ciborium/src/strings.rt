@@ -15,6 +15,7 @@ ghost use Rattle.ciborium.specs.Damage.{TitleDamage, ChunkDamage, StringDamage};
 ghost use Rattle.ciborium.specs.Held.{IsEarned, IsEarnedSince, IsFitting, UnlessMemory};
 ghost use Rattle.ciborium.specs.Reading.{NamesFault, NamesFaultBehind, NamesShort};
 ghost use Rattle.ciborium.specs.Reading.{Steady, TakesSome, IsNoMemory, IfEnd};
+ghost use Rattle.ciborium.specs.Reading.{IfMemory, OneBehind};
 ghost use Rattle.ciborium.specs.Reading.{string_head, IsBody, StringBehind, ChunkBody, IsPart};
 
 use crate::de::Error;
@@ -91,6 +92,8 @@ fn fill_piece<R: Read>(
     ensures err { IfErr result (NamesShort R.ends size
         (seen R.Read decoder.old) (seen R.Read decoder.new)) }
     ensures stops { IfErr result (TakesSome (seen R.Read decoder.old) (seen R.Read decoder.new)) }
+    ensures one { IfErr result (IfMemory (Takes (seen R.Read decoder.old)
+        (seen R.Read decoder.new) (λ b. length b ≤ size))) }
     ensures steady { Steady R.ends result (seen R.Read decoder.old) (seen R.Read decoder.new) }
 {
     let at = into.len();
@@ -121,6 +124,8 @@ fn read_piece<R: Read>(
     ensures err { IfErr result (NamesShort R.ends size
         (seen R.Read decoder.old) (seen R.Read decoder.new)) }
     ensures stops { IfErr result (TakesSome (seen R.Read decoder.old) (seen R.Read decoder.new)) }
+    ensures one { IfErr result (IfMemory (Takes (seen R.Read decoder.old)
+        (seen R.Read decoder.new) (λ b. length b ≤ size))) }
     ensures steady { Steady R.ends result (seen R.Read decoder.old) (seen R.Read decoder.new) }
 {
     let room = into.capacity();
@@ -153,6 +158,8 @@ fn read_bytes<R: Read>(
     ensures err { IfErr result (NamesShort R.ends n
         (seen R.Read decoder.old) (seen R.Read decoder.new)) }
     ensures stops { IfErr result (TakesSome (seen R.Read decoder.old) (seen R.Read decoder.new)) }
+    ensures one { IfErr result (IfMemory (Takes (seen R.Read decoder.old)
+        (seen R.Read decoder.new) (λ b. length b ≤ n))) }
     ensures steady { Steady R.ends result (seen R.Read decoder.old) (seen R.Read decoder.new) }
 {
     let mut got = 0;
@@ -188,6 +195,8 @@ fn read_chunk<R: Read>(
         (ChunkDamage (string_head text) (IsBody text))
         (seen R.Read decoder.old) (seen R.Read decoder.new)) }
     ensures stops { IfErr result (TakesSome (seen R.Read decoder.old) (seen R.Read decoder.new)) }
+    ensures one { IfErr result (IfMemory (Takes (seen R.Read decoder.old)
+        (seen R.Read decoder.new) (λ b. length b ≤ n))) }
     ensures steady { Steady R.ends result (seen R.Read decoder.old) (seen R.Read decoder.new) }
 {
     let start = into.len();
@@ -258,6 +267,8 @@ pub fn read_string<R: Read>(
         (StringDamage (string_head text) (IsBody text))
         (seen R.Read decoder.old) (seen R.Read decoder.new)) }
     ensures stops { IfErr result (TakesSome (seen R.Read decoder.old) (seen R.Read decoder.new)) }
+    ensures one { IfErr result (IfMemory (Takes (seen R.Read decoder.old)
+        (seen R.Read decoder.new) (OneBehind (string_head text length)))) }
     ensures steady { Steady R.ends result (seen R.Read decoder.old) (seen R.Read decoder.new) }
 {
     let mut bytes = Vec::new(alloc);
@@ -290,6 +301,8 @@ fn read_open<R: Read>(
         (StringDamage (string_head text) (IsBody text))
         (seen R.Read decoder.old) (seen R.Read decoder.new)) }
     ensures stops { IfErr result (TakesSome (seen R.Read decoder.old) (seen R.Read decoder.new)) }
+    ensures one { IfErr result (IfMemory (Takes (seen R.Read decoder.old)
+        (seen R.Read decoder.new) (OneBehind (string_head text None)))) }
     ensures steady { Steady R.ends result (seen R.Read decoder.old) (seen R.Read decoder.new) }
 {
     let mut inner: usize = 0;
@@ -337,6 +350,8 @@ pub fn read_text<R: Read>(
     ensures err { IfErr result (NamesFaultBehind R.ends (Text length) at (StringDamage Text IsUtf8)
         (seen R.Read decoder.old) (seen R.Read decoder.new)) }
     ensures stops { IfErr result (TakesSome (seen R.Read decoder.old) (seen R.Read decoder.new)) }
+    ensures one { IfErr result (IfMemory (Takes (seen R.Read decoder.old)
+        (seen R.Read decoder.new) (OneBehind (Text length)))) }
     ensures steady { Steady R.ends result (seen R.Read decoder.old) (seen R.Read decoder.new) }
 {
     match length {
@@ -360,6 +375,8 @@ fn read_whole_text<R: Read>(
     ensures err { IfErr result (NamesFaultBehind R.ends (Text (Some n)) at
         (StringDamage Text IsUtf8) (seen R.Read decoder.old) (seen R.Read decoder.new)) }
     ensures stops { IfErr result (TakesSome (seen R.Read decoder.old) (seen R.Read decoder.new)) }
+    ensures one { IfErr result (IfMemory (Takes (seen R.Read decoder.old)
+        (seen R.Read decoder.new) (OneBehind (Text (Some n))))) }
     ensures steady { Steady R.ends result (seen R.Read decoder.old) (seen R.Read decoder.new) }
 {
     let mut bytes = Vec::new(alloc);
@@ -383,6 +400,8 @@ fn read_cut_text<R: Read>(
     ensures err { IfErr result (NamesFaultBehind R.ends (Text None) at (StringDamage Text IsUtf8)
         (seen R.Read decoder.old) (seen R.Read decoder.new)) }
     ensures stops { IfErr result (TakesSome (seen R.Read decoder.old) (seen R.Read decoder.new)) }
+    ensures one { IfErr result (IfMemory (Takes (seen R.Read decoder.old)
+        (seen R.Read decoder.new) (OneBehind (Text None)))) }
     ensures steady { Steady R.ends result (seen R.Read decoder.old) (seen R.Read decoder.new) }
 {
     let bytes = read_string(alloc, decoder, true, None, at)?;

@@ -3,7 +3,9 @@ ghost use Rattle.std.specs.Prelude.{◌≡◌, ◌⊎◌, Some, IfOk, IfErr, []}
 ghost use Rattle.ciborium_ll.specs.Seen.{Takes};
 ghost use Rattle.ciborium_ll.specs.Views.{left_of, seen};
 ghost use Rattle.ciborium.specs.Damage.{Damage};
+ghost use Rattle.ciborium.specs.Front.{HoldsOne};
 ghost use Rattle.ciborium.specs.Reading.{NamesFault, Steady, TakesSome, IsNoMemory, IfEnd};
+ghost use Rattle.ciborium.specs.Reading.{IfMemory};
 ghost use Rattle.ciborium.specs.Typed.{ReadsAs, IsRefused};
 
 use crate::de::{Error, from_decoder};
@@ -16,7 +18,7 @@ use std::alloc::Global;
 /// it.
 ///
 /// # Errors
-/// Those of `from_decoder`; `Semantic` with the type's fault if the item is none of it, and it was
+/// Those of `from_decoder`; `Semantic` with the type's fault if the item isn't of it, and it was
 /// taken then; `Memory` also for an item that was taken, if the type grows.
 pub fn typed_item<T: Deserialize, R: Read>(
     alloc: Global,
@@ -33,6 +35,8 @@ pub fn typed_item<T: Deserialize, R: Read>(
     ensures ended { left_of R.left decoder.old ≡ Some []
         → IfErr result (IfEnd R.ends (left_of R.left decoder.new ≡ Some [])) }
     ensures stops { IfErr result (TakesSome (seen R.Read decoder.old) (seen R.Read decoder.new)) }
+    ensures one { IfErr result (IfMemory (Takes (seen R.Read decoder.old)
+        (seen R.Read decoder.new) HoldsOne)) }
     ensures steady { Steady R.ends result (seen R.Read decoder.old) (seen R.Read decoder.new) }
 {
     let value = from_decoder(alloc, decoder, limit)?;

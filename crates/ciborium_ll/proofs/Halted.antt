@@ -18,7 +18,7 @@ use Rattle.ciborium_ll.proofs.Recoded.{Rest, starts, bytes_behind, text_behind, 
 abbrev pub Front : List ℕ → List ℕ → Type 0
 Front x y = (z : List ℕ) × (y ≡ x ++ z)
 
--- y is the copy of what begins so; after what was read stands u
+-- y is the copy of what begins so; after what was read comes u
 abbrev pub Goes : Halt → List ℕ → List ℕ → List ℕ → Type 0
 Goes paused u x y = Front x y
 Goes (ended rest) u x y = (u ≡ rest → ⊥) × Front x y

@@ -339,7 +339,7 @@ module _ (k : Option ℕ → Header) (P : List ℕ → Type 0) (kept : ℕ) wher
         wrote = append_assoc x (title_of (k (Some len))) z;
       })
 
-  -- where the body's head was refused
+  -- the body's head was refused
   pub head_refused : {E F : Type 0} (ends : E → Bool) (e : F) (len start : ℕ) (l l' : Option (List ℕ)) (i j : ℕ) (w m w' : Option (List ℕ)) (long : Type 0) (x : List ℕ)
       → Found len start i j l l' x → Appends w m x → AppendsFront m w' (title_of (k (Some len)))
       → Halts {E = E} {F = F} ends (OpenHalt k P kept) long i l l' i j w w' (Write e)
@@ -350,7 +350,7 @@ module _ (k : Option ℕ → Header) (P : List ℕ → Type 0) (kept : ℕ) wher
     q,
   )
 
-  -- where the break was refused
+  -- the break was refused
   pub break_refused : {E F : Type 0} (ends : E → Bool) (e : F) (stage : Stage) (l m l' : Option (List ℕ)) (i j j' : ℕ) (bodies : List (List ℕ)) (w m' w' : Option (List ℕ)) (long : Type 0)
       → Moves l m i j (λ f. Leads (Closing k P 1) (Rest k P stage) f bodies) → Moves m l' j j' (λ b. Rest k P stage b []) → Appends w m' (enc_pieces k bodies) → AppendsFront m' w' (255 ∷ [])
       → Halts {E = E} {F = F} ends (OpenHalt k P kept) long i l l' i j' w w' (Write e)
@@ -368,7 +368,7 @@ module _ (k : Option ℕ → Header) (P : List ℕ → Type 0) (kept : ℕ) wher
     q,
   )
 
-  -- where the string's own head was refused
+  -- the string's own head was refused
   pub title_refused : {E F : Type 0} (ends : E → Bool) (e : F) (len : Option ℕ) (l : Option (List ℕ)) (i : ℕ) (w w' : Option (List ℕ)) (long : Type 0)
       → AppendsFront w w' (title_of (k len)) → Halts {E = E} {F = F} ends (RestHalt k P kept len) long i l l i i w w' (Write e)
   title_refused ends e len l i w w' long q = (
@@ -457,7 +457,7 @@ pull_halts {E} F ends e l l' i j room w g = go e
     go TooLong f s = (omega (arith, f, g), stood s.bytes s.has (starts_taken l l' s.bytes s.taken) s.grown)
     go Waiting f s = f
 
--- where a head that is no string's was refused
+-- a head that is no string's was refused
 pub one_refused : {E F : Type 0} (ends : E → Bool) (e : F) (h : Header) (l l' : Option (List ℕ)) (i j : ℕ) (w w' : Option (List ℕ)) (long : Type 0)
     → Moves l l' i j (λ b. Title b h) → ((o : Option ℕ) → h ≢ Bytes o) → ((o : Option ℕ) → h ≢ Text o) → AppendsFront w w' (title_of h) → Halts {E = E} {F = F} ends CopyHalt long i l l' i j w w' (Write e)
 one_refused ends e h l l' i j w w' long t f g q = (

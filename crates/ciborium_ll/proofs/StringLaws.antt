@@ -50,7 +50,7 @@ module _ (k : Option ℕ → Header) (same : (o p : Option ℕ) → k o ≡ k p 
       let c : Closing k P (suc (n - 1)) w.rest w.more = subst (λ (m : ℕ). Closing k P m w.rest w.more) (sym (suc_of n some)) w.has in
       not_ended k same unbroken P (n - 1) last w.rest after w.more short c w.left
 
--- what is written of a value that has P, where its pieces have P
+-- what is written of a value that has P, if its pieces have P
 module _ (k : Option ℕ → Header) (P : List ℕ → Type 0) (Fit : List ℕ → ℕ → Type 0) (definite : (n : ℕ) → n < 2 ^ 64 → Title (title_of (k (Some n))) (k (Some n)))
     (open_head : Title (title_of (k None)) (k None)) (parts : (piece rest : List ℕ) → P (piece ++ rest) → Fit (piece ++ rest) (length piece) → P piece × P rest) where
   pieces_framed : (most : ℕ) (value : List ℕ) (pieces : List (List ℕ)) → length value < 2 ^ 64 → P value → Pieces Fit most value pieces → Frames k P (enc_pieces k pieces) pieces

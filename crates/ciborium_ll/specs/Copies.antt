@@ -56,7 +56,7 @@ pub record Makes (Q : List ℕ → List ℕ → Type 0) (left left' : Option (Li
 
 -- Where a copy halts, and why: the reader failed or the offset would grow too large; these bytes
 -- alone are left, too few for what is due; a fault that begins after so many bytes; the writer
--- refused this text.
+-- refused these bytes.
 pub data Halt : Type 0 where
   paused : Halt
   ended : List ℕ → Halt
@@ -125,7 +125,7 @@ pub record Strayed (k : Option ℕ → Header) (P : List ℕ → Type 0) (p : �
   pub read : b ≡ before ++ stray
   pub place_is : p ≡ length before
 
--- where the head of a body in it, or its break, was refused
+-- the writer refused the head of a body in it, or its break
 pub record HeadRefused (k : Option ℕ → Header) (P : List ℕ → Type 0) (last b x : List ℕ) : Type 0 where
   pub len : ℕ
   pub before : List ℕ
@@ -194,7 +194,7 @@ pub record CopiesHalt (n : ℕ) (h : Halt) (b x : List ℕ) : Type 0 where
   pub read : b ≡ whole ++ part
   pub wrote : x ≡ copies ++ text
 
--- such bytes were taken, and such a text written
+-- such bytes were taken, and such bytes written
 pub record Stopped (S : Halt → List ℕ → List ℕ → Type 0) (h : Halt) (left left' : Option (List ℕ)) (place place' : ℕ) (w w' : Option (List ℕ)) : Type 0 where
   pub bytes : List ℕ
   pub text : List ℕ
@@ -230,7 +230,7 @@ Halts ends S long start left left' place place' w w' (Read Waiting) = ⊥
 Halts ends S long start left left' place place' w w' (Write f) =
     (last : List ℕ) × (mid : Option (List ℕ)) × Stopped S (refused last) left left' place place' w mid × AppendsFront mid w' last
 
--- how often the reader and the writer have failed after this answer
+-- how often the reader and the writer have failed after this result
 abbrev pub reader_failures : {T E F : Type 0} → (E → Bool) → Result T (RecodeError E F) → ℕ → ℕ
 reader_failures ends (Ok x) n = n
 reader_failures ends (Err (Read e)) n = fault_failures ends e n
@@ -253,8 +253,8 @@ HaltedAt ends S room start old new =
 abbrev pub Halted : {E F : Type 0} → (E → Bool) → (Halt → List ℕ → List ℕ → Type 0) → ℕ → Sides → Sides → RecodeError E F → Type 0
 Halted ends S room old new = HaltedAt ends S room old.from.offset old new
 
--- every call: failures are counted exactly when the answer is one, both devices stay the same, and
--- no header waits if none did
+-- every call: a failure is counted exactly when the result is one, reader and writer stay the same,
+-- and no header waits if none did
 pub record CopySteady {T E F : Type 0} (ends : E → Bool) (answer : Result T (RecodeError E F)) (old new : Sides) : Type 0 where
   pub read_failed : new.from.failed ≡ reader_failures ends answer old.from.failed
   pub write_failed : new.to.failed ≡ writer_failures answer old.to.failed

@@ -122,7 +122,7 @@ FitsHeader (Float (Single n)) = n < 2 ^ 32
 FitsHeader (Float (Double n)) = n < 2 ^ 64
 FitsHeader Break = Unit {0}
 
--- the answer says whether b is the shortest title of h
+-- the flag says whether b is the shortest title of h
 abbrev pub IsShortest : Bool → List ℕ → Header → Type 0
 IsShortest answer b h = MatchBool answer (b ≡ title_of h) (b ≡ title_of h → ⊥)
 

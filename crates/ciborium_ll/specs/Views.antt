@@ -1,4 +1,4 @@
--- What a clause sees of a decoder, an encoder and the devices.
+-- What a clause sees of a decoder, an encoder, and readers and writers.
 use Rattle.std.specs.Prelude.{ℕ, ◌-◌, ◌/◌, ◌%◌, List, Bool, Option, length, take}
 use denote.MutBor.{MutBor}
 use Rattle.ciborium_ll.specs.Count.{total}

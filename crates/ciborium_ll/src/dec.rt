@@ -126,8 +126,8 @@ impl<R: Read> Decoder<R> {
     /// # Errors
     /// `Syntax` if the byte at the offset begins no title; that byte is taken. `Io` for a fault of
     /// the reader, an end of the bytes among them; `TooLong` if the offset could pass `usize::MAX`.
-    /// At both the offset stays, or it has grown by one, for the first byte of a title whose others
-    /// did not come.
+    /// With `Io` and `TooLong` the offset stays, or it has grown by one: then the first byte of a
+    /// title came, and the others did not.
     pub fn pull(&mut self) -> Result<Header, Error<R::Error>>
         ensures ok { IfOk result (λ h. Takes (seen R.Read self.old) (seen R.Read self.new)
             (λ b. Title b h)) }
@@ -159,7 +159,7 @@ impl<R: Read> Decoder<R> {
     /// # Errors
     /// `Waiting` exactly when a header waits, and `TooLong` exactly before a read whose end would
     /// pass `usize::MAX`; then nothing has changed. `Io` for a fault of the reader; an end comes
-    /// only if fewer bytes are left than the buffer holds. The offset stays at each of them.
+    /// only if fewer bytes are left than the buffer holds. The offset stays in each case.
     pub fn read_exact(&mut self, data: &mut [u8]) -> Result<(), Error<R::Error>>
         ensures ok { OnOk result (Consumes (left_of R.left self.old)
             (left_of R.left self.new) «data».new) }
@@ -187,7 +187,8 @@ impl<R: Read> Decoder<R> {
 
     /// Appends the next n bytes to a vector and takes them, if the reader has so many at hand, and
     /// says whether it did. After `Ok(false)` nothing has changed, and the bytes may still come by
-    /// `read_exact`; so it is while a header waits, and if the offset would pass `usize::MAX`.
+    /// `read_exact`. It returns `Ok(false)` also while a header waits, and if the offset would pass
+    /// `usize::MAX`.
     ///
     /// # Errors
     /// Out of memory; then no byte is taken, and the vector holds what it held.
@@ -246,7 +247,8 @@ impl<R: Read> Decoder<R> {
     /// header, the shortest (RFC 8949, section 4.1). True before the first title.
     ///
     /// A header that is pushed back and pulled again changes nothing, nor do bytes that are read.
-    /// After an error of `pull`, and after strings that are open, `recode` and items, it is open.
+    /// What it returns after an error of `pull`, and after open strings, `recode` and items, isn't
+    /// said.
     pub fn was_shortest(&self) -> bool
         ensures { result ≡ shortest_of self.now }
     {

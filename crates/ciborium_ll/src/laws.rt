@@ -5,7 +5,8 @@ ghost use Rattle.ciborium_ll.specs.Title.{FitsHeader, Title, title_of, IsCut, St
 ghost use Rattle.ciborium_ll.specs.Framing.{Frame, Any, joined};
 ghost use Rattle.ciborium_ll.specs.Stages.{Rest, Strays, EndsInside, stage_of};
 ghost use Rattle.ciborium_ll.specs.Pieces.{IsString, FitBytes};
-ghost use Rattle.ciborium_ll.specs.Copies.{Copies, CopiesHalt, Halt, paused, refused, ended, damaged};
+ghost use Rattle.ciborium_ll.specs.Copies.{Copies, CopiesHalt, Halt};
+ghost use Rattle.ciborium_ll.specs.Copies.{paused, refused, ended, damaged};
 ghost use Rattle.ciborium_ll.specs.declared.hdr.Header.{Header};
 ghost use Rattle.ciborium_ll.specs.declared.hdr.Header.TheVariants.{Bytes, Text};
 ghost use Rattle.ciborium_ll.specs.declared.stage.Stage.{Stage};
@@ -23,7 +24,8 @@ pub fn one_title()
         → (a ≡ b) × (h ≡ k) }
 {}
 
-/// Bytes that a title begins are not cut inside it, and do not begin badly.
+/// Bytes that begin with a title don't end inside it, and their first byte is one that begins
+/// titles.
 pub fn one_outcome()
     ensures cut { (b rest : List ℕ) (h : Header) → Title b h → IsCut (b ++ rest) → ⊥ }
     ensures bad { (b rest : List ℕ) (h : Header) → Title b h → StartsBad (b ++ rest) → ⊥ }
@@ -48,8 +50,8 @@ pub fn one_framing()
         → (a ≡ b) × (xs ≡ ys) }
 {}
 
-/// What may follow a head, with these bodies, is exactly what makes it a string with them. So what
-/// `Segments` reads after a head is one.
+/// What may follow a head, with these bodies, is exactly what makes it a string with them. So a
+/// head and what `Segments` reads after it are a string.
 pub fn rests_are_framed()
     ensures bytes { (len : Option ℕ) (title b : List ℕ) (bodies : List (List ℕ))
         → Title title (Bytes len)
@@ -65,7 +67,8 @@ pub fn rests_are_framed()
         → Frame Text IsUtf8 (title ++ b) bodies → Rest Text IsUtf8 (stage_of len) b bodies }
 {}
 
-/// If a stray head was met, or an end inside an open string, no string of that kind goes on.
+/// If a stray head was met, or the bytes end inside an open string, then they don't begin with the
+/// rest of a string of that kind.
 pub fn no_rest()
     ensures stray { (stage : Stage) (place p : ℕ) (a l b after : List ℕ) (bodies : List (List ℕ))
         → Strays Bytes Any stage place p a
@@ -81,8 +84,8 @@ pub fn no_rest()
         → Rest Text IsUtf8 stage b bodies → l ≡ b ++ after → ⊥ }
 {}
 
-/// What an encoder writes of a byte string or a text is one, each body of a text is UTF-8, and the
-/// bodies join to the value.
+/// What an encoder writes for a byte string or a text string is such a string, each body of a text
+/// string is UTF-8, and the bodies join to the value.
 pub fn strings_are_framed()
     ensures bytes { (limit : Option ℕ) (value xs : List ℕ) → length value < 2 ^ 64
         → IsString Bytes FitBytes limit value xs
@@ -107,9 +110,10 @@ pub fn copies_stay()
     ensures shorter { (n : ℕ) (a x : List ℕ) → Copies n a x → length x ≤ length a }
 {}
 
-/// If a copy halted, what is written is never longer than what was read, with the text that was
-/// refused after it too. It begins the copy of all that begins with what was read, and so does that
-/// text. The bytes ended, or a fault is there, only if so many heads and strings are not.
+/// If a copy halted, what is written is never longer than what was read, not even together with the
+/// bytes that the writer refused after it. If bytes begin with what was read, their copy begins
+/// with what is written, and then with the refused bytes. If the bytes ended, or a fault is there,
+/// they don't hold so many heads and strings.
 pub fn halted_copies()
     ensures shorter { (n : ℕ) (halt : Halt) (b x : List ℕ) → CopiesHalt n halt b x
         → length x ≤ length b }

@@ -1,4 +1,4 @@
--- What is taken of arrays and maps, and which of their refusals comes first.
+-- What is taken from arrays and maps, and which of their refusals comes first.
 use Rattle.std.specs.Prelude.{◌≡◌, ℕ, true, false, Option, Some, None, List, [], ◌∷◌, length, fold, ⊤, if◌then◌else◌, nat_eq}
 use Rattle.std.specs.Option.{option_or}
 use Rattle.std.specs.declared.cmp.Ordering.{Ordering}
@@ -14,7 +14,7 @@ abbrev pub first_refusal : (Tree → Option Kind) → Trees → Option Kind
 first_refusal refusal no_trees = None
 first_refusal refusal (one_more t ts) = option_or (refusal t) (first_refusal refusal ts)
 
--- the values are taken of the items, one of each
+-- the values are taken from the items, one from each
 abbrev pub EachTaken : {T : Type 0} → (Tree → T → Type 0) → Trees → List T → Type 0
 EachTaken takes no_trees [] = ⊤
 EachTaken takes no_trees (x ∷ xs) = ⊥
@@ -27,7 +27,7 @@ first_refusal_of_pairs of_key of_value no_pairs = None
 first_refusal_of_pairs of_key of_value (pair_more k v ps) =
     option_or (of_key k) (option_or (of_value v) (first_refusal_of_pairs of_key of_value ps))
 
--- keys and values are taken of the entries, one of each
+-- keys and values are taken from the entries, one of each from each entry
 abbrev pub EachPairTaken : {K V : Type 0} → (Tree → K → Type 0) → (Tree → V → Type 0) → Pairs → List (K × V) → Type 0
 EachPairTaken takes_key takes_value no_pairs [] = ⊤
 EachPairTaken takes_key takes_value no_pairs (e ∷ es) = ⊥
@@ -51,7 +51,7 @@ first_in_turn [] ts = None
 first_in_turn (refusal ∷ rs) no_trees = None
 first_in_turn (refusal ∷ rs) (one_more t ts) = option_or (refusal t) (first_in_turn rs ts)
 
--- the refusal of an array that has not so many items
+-- the refusal of an array that has another number of items
 abbrev pub other_length : ℕ → Trees → Option Kind
 other_length n ts = if nat_eq (tree_count ts) n then None else Some Length
 
@@ -71,7 +71,7 @@ optional_tree put (Some x) = put x
 abbrev pub optional_refusal : (Tree → Option Kind) → Tree → Option Kind
 optional_refusal refusal t = if is_null t then None else refusal t
 
--- no value is taken of null, and a value of any other item
+-- no value is taken from null, and a value from any other item
 abbrev pub OptionalTaken : {T : Type 0} → (Tree → T → Type 0) → Tree → Option T → Type 0
 OptionalTaken takes t None = is_null t ≡ true
 OptionalTaken takes t (Some x) = (is_null t ≡ false) × takes t x

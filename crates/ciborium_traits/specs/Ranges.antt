@@ -1,4 +1,4 @@
--- Whole numbers of a type, and why an item is none of it.
+-- Whole numbers of a type, and why an item is not one of them.
 use Rattle.std.specs.Prelude.{ℕ, ℤ, pos, negsuc, ◌-◌, ◌^◌, Bool, false, Option, Some, None, if◌then◌else◌, nat_lt}
 use Rattle.ciborium_value.specs.declared.kind.Kind.{Kind}
 use Rattle.ciborium_value.specs.declared.kind.Kind.TheVariants.{WrongType, Range}
@@ -25,6 +25,6 @@ abbrev pub integer_number : Tree → Option ℤ
 integer_number (integer i) = Some i
 integer_number _ = None
 
--- why an item is none of a type with these numbers, the tags around it ignored
+-- why an item is not of a type with these numbers, the tags around it ignored
 abbrev pub number_refusal : (ℤ → Bool) → Tree → Option Kind
 number_refusal fits t = within fits (integer_number (bare t))

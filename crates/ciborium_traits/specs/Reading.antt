@@ -11,7 +11,7 @@ abbrev pub bare : Tree → Tree
 bare (tag n t) = bare t
 bare t = t
 
--- an error says why a type does not take an item, or, of a type that grows, that there was no
+-- an error says why a type does not take an item, or, of a type that grows, that it is out of
 -- memory
 abbrev pub IsRefusal : Bool → Option Kind → Error → Type 0
 IsRefusal grows why (error.Kind k) = why ≡ Some k

@@ -43,17 +43,17 @@ pub trait Deserialize: Drop {
     /// Why an item isn't of this type; none if it is.
     ghost refusal: { Tree → Option KindOf };
 
-    /// This value is taken of the item.
+    /// This value is taken from the item.
     ghost takes: { Tree → Self → Type 0 };
 
-    /// Whether taking may need memory: a type that only moves what the item holds is never refused
-    /// any.
+    /// Whether taking may need memory: a type that only moves what the item holds never runs out of
+    /// it.
     ghost grows: { Bool };
 
     /// Takes the value, whose bignums are folded.
     ///
     /// # Errors
-    /// The value's fault if it is none of this type, or `Memory` if the type grows.
+    /// The value's fault if it isn't of this type, or `Memory` if the type grows.
     fn take(alloc: Global, value: Value) -> Result<Self, Error>
         ensures ok { IfOk result (λ x. (refusal (view value) ≡ None) × takes (view value) x) }
         ensures err { IfErr result (λ e. IsRefusal grows (refusal (view value)) e) };
@@ -61,7 +61,7 @@ pub trait Deserialize: Drop {
     /// Takes the next item of the source.
     ///
     /// # Errors
-    /// The source's, also if it gave an item that is none of this type.
+    /// The source's, also if it gave an item that isn't of this type.
     fn deserialize<S: Source>(alloc: Global, source: &mut S) -> Result<Self, S::Error>
         ensures ok { IfOk result (λ x. (t : Tree) × S.gives source.old t source.new
             × (refusal t ≡ None) × takes t x) }

@@ -6,7 +6,7 @@ use std::num::TryFromIntError;
 /// Why a value was not read as a type, or not made.
 #[derive(Debug, Clone, Copy, PartialEq, Eq, thiserror::Error)]
 pub enum Error {
-    /// The value is none of the type.
+    /// The value isn't of the type.
     #[error("{0:?}")]
     Kind(Kind),
     /// Out of memory.

@@ -40,7 +40,7 @@ impl<T: Deserialize> Deserialize for Vec<T> {
     }
 }
 
-/// The values that are taken of the items.
+/// The values that are taken from the items.
 fn take_items<T: Deserialize>(alloc: Global, items: Vec<Value>) -> Result<Vec<T>, Error>
     ensures ok { IfOk result (λ v. (first_refusal T.refusal (views items.items) ≡ None)
         × EachTaken T.takes (views items.items) v.items) }

@@ -43,7 +43,7 @@ impl<K: Deserialize + Ord, V: Deserialize> Deserialize for BTreeMap<K, V> {
     }
 }
 
-/// The map of the keys and values that are taken of the entries.
+/// The map of the keys and values that are taken from the entries.
 fn take_entries<K: Deserialize + Ord, V: Deserialize>(
     alloc: Global,
     entries: Vec<(Value, Value)>,

@@ -31,10 +31,10 @@ pub trait RoundTrip: Serialize + Deserialize {
     ghost kept: { Self → Type 0 };
 
     /// The item that a kept value is written as is folded and one of the type, and the value is
-    /// taken of it.
+    /// taken from it.
     ghost taken_back: { (x : Self) → kept x → IsTakenBack Self.Serialize Self.Deserialize x };
 
-    /// Values that are taken of one item are written as one item.
+    /// Values that are taken from one item are written as one item.
     ghost takes_one: { TakesOne Self.put Self.takes };
 }
 

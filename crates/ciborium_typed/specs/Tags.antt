@@ -1,4 +1,4 @@
--- Items with a tag around them, and what is taken of them.
+-- Items with a tag around them, and what is taken from them.
 use Rattle.std.specs.Prelude.{◌≡◌, ℕ, Option, Some, None, if◌then◌else◌, nat_eq}
 use Rattle.ciborium_value.specs.declared.kind.Kind.{Kind}
 use Rattle.ciborium_value.specs.declared.kind.Kind.TheVariants as kind
@@ -29,7 +29,7 @@ abbrev pub accepted_refusal : ℕ → (Tree → Option Kind) → Tree → Option
 accepted_refusal n refusal (tag m t) = if nat_eq m n then refusal t else Some kind.Tag
 accepted_refusal n refusal t = refusal t
 
--- a value is taken of an item inside the tag n, or of one with no tag
+-- a value is taken from an item inside the tag n, or from one with no tag
 abbrev pub AcceptedTaken : {V : Type 0} → ℕ → (Tree → V → Type 0) → Tree → V → Type 0
 AcceptedTaken n takes (tag m t) x = (m ≡ n) × takes t x
 AcceptedTaken n takes t x = takes t x

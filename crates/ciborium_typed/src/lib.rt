@@ -1,5 +1,5 @@
 //! Typed reading and writing of CBOR values (RFC 8949), without bytes: what a type puts into a
-//! sink, and what it takes of a value.
+//! sink, and what it takes from a value.
 #![tactic(auto)]
 
 mod bytes;

@@ -1,4 +1,4 @@
-//! Values made of typed values, and typed values taken of values.
+//! Values made of typed values, and typed values taken from values.
 ghost use Rattle.std.specs.Prelude.{◌≡◌, true, Some, None, IfOk, IfErr};
 ghost use Rattle.ciborium_value.specs.Folding.{fold};
 ghost use Rattle.ciborium_value.specs.Tree.{Tree};

@@ -22,9 +22,9 @@ enum Level {
     Entry(Vec<(Value, Value)>, Value, usize),
 }
 
-/// Builds values of what is written to it. Each event is taken, also after a whole item; only
-/// memory may be refused, and what was not whole is dropped then. Memory is taken for what has
-/// come, never by a claimed length.
+/// Builds values of what is written to it. Each event is taken, also after a whole item, unless it
+/// is out of memory; what was not whole is dropped then. Memory is taken for what has come, never
+/// by a claimed length.
 #[derive(Drop)]
 pub struct ValueSink {
     alloc: Global,

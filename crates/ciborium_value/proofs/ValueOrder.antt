@@ -30,7 +30,7 @@ map_texts a b x y h o g t e f r =
     let k = (λ i. head_cmp (sym p i) (sym q i)) ∙ sym g ∙ t in
     r ∙ sym ((λ i. text_cmp (p i) (q i)) ∙ ap (λ z. ordering_then z (each_cmp (view_pairs x.items) (view_pairs y.items))) k)
 
--- where the counted lengths are equal
+-- if the counted lengths are equal
 pub equal_lengths : (t s : Tree) (o : Ordering) (k l : ℕ) → Equal ≡ nat_cmp k l → k ≡ counted (enc t) → l ≡ counted (enc s) → o ≡ text_cmp t s → Sized t → Sized s → o ≡ canonical t s
 equal_lengths t s o k l e x y r f g =
     r ∙ sym (text_order t s f g) ∙ ap (λ z. ordering_then z (bytewise t s)) (e ∙ (λ i. nat_cmp (x i) (y i)))

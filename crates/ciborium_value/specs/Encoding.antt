@@ -1,5 +1,5 @@
--- The one shortest definite text of a tree (RFC 8949, section 4.1): shortest heads, definite
--- lengths, entries in their order, floats in their width.
+-- The canonical encoding of a tree (RFC 8949, section 4.1): shortest heads, definite lengths,
+-- entries in their order, floats in their width.
 use Rattle.std.specs.Prelude.{ℕ, ℤ, pos, negsuc, ◌^◌, ◌<◌, List, [], ◌++◌, length, All, Some}
 use Rattle.std.specs.Str.{IsUtf8}
 use Rattle.ciborium_ll.specs.declared.hdr.Header.{Header}

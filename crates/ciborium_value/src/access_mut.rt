@@ -76,9 +76,8 @@ impl Value {
     /// The number of a tag and its item, to be changed, or none for a value of another kind.
     ///
     /// What the two are at the call is proved. That a value of another kind stays as it was, and
-    /// that what is written through the two is in the tag afterwards, is tested alone: no
-    /// clause can say it of two parts of one value. `into_tag` is proved to give a value of another
-    /// kind back.
+    /// that what is written through the two is in the tag afterwards, is only tested: no clause can
+    /// say it of two parts of one value. `into_tag` is proved to give a value of another kind back.
     pub fn as_tag_mut(&mut self) -> Option<(&mut u64, &mut Value)>
         ensures { MatchOption result (is_tag (view self.old) ≡ false)
             (λ p. view self.old ≡ spec.tag p.0.now (view p.1.now)) }

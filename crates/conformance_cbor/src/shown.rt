@@ -1,5 +1,5 @@
-//! What is shown of an item: its notation from its heads, the members of a message, what isn't
-//! shortest in it, and where items end.
+//! What is shown of an item: its notation from its heads, the members of a message, what isn't in
+//! canonical encoding in it, and where items end.
 use crate::out::{CallError, Out};
 use cbor_diag::{Ends, Fault, NotWritten, Style, first_excess, write_item};
 use cose_notation::write_message;
@@ -37,7 +37,7 @@ pub fn members(to: &mut Out, bytes: &[u8]) {
     }
 }
 
-/// What comes first in an item that its canonical encoding hasn't, and where.
+/// What comes first in an item that isn't in its canonical encoding, and where.
 pub fn excess(to: &mut Out, bytes: &[u8]) {
     match first_excess(to.alloc(), bytes) {
         Ok(None) => to.text("none"),
@@ -50,7 +50,7 @@ pub fn excess(to: &mut Out, bytes: &[u8]) {
     }
 }
 
-/// If the items of a sequence end that comes in blocks of at most so many bytes, and at last how
+/// Where the items end of a sequence that comes in blocks of at most so many bytes, and at last how
 /// the last block leaves it.
 pub fn ends(to: &mut Out, bytes: &[u8], block: usize) {
     let mut ends = Ends::new(to.alloc());

@@ -8,7 +8,7 @@ const UNWRITTEN: u8 = 0xee;
 
 const NO_LINE: u8 = b'.';
 
-/// The limits that the next two words are, allowed or not, and whether the gate is strict.
+/// The limits that the next two arguments are, allowed or not, and whether the gate is strict.
 fn read_choice(to: &mut Out, row: &mut &str) -> Choice {
     Choice {
         nesting: words::number(to, row),
@@ -17,7 +17,7 @@ fn read_choice(to: &mut Out, row: &mut &str) -> Choice {
     }
 }
 
-/// A buffer of as many bytes as the next word says, each of them this one.
+/// A buffer of as many bytes as the next argument says, each of them this one.
 fn buffer(to: &mut Out, row: &mut &str, byte: u8) -> Vec<u8> {
     let len = words::number(to, row);
     match Vec::from_elem(to.alloc(), byte, len) {

@@ -76,7 +76,7 @@ pub fn run_strict_within(to: &mut Out, row: &mut &str) {
 }
 
 /// A run over this input with this external data, if the judge says no to the signature that may
-/// stand after them: its questions, its output, what was noted of each item, and how it ended.
+/// come after them: its questions, its output, what was noted of each item, and how it ended.
 fn run_by(to: &mut Out, way: Way, row: &mut &str) {
     let input = words::bytes(to, row);
     let aad = words::bytes(to, row);

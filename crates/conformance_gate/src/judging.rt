@@ -124,8 +124,8 @@ fn add_reason(to: &mut Out, keys: &CoseKeySet, question: Question<'_>) {
     }
 }
 
-/// The answers of one judge to questions about messages of these kinds with these tags, each a word
-/// as `Mac0:aa`.
+/// The answers of one judge to questions about messages of these kinds with these tags, each an
+/// argument such as `Mac0:aa`.
 fn add_answers(to: &mut Out, judge: &mut HmacJudge, case: &Case, asked: &str) {
     for word in asked.split(' ') {
         to.apart(" ");

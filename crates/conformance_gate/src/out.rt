@@ -70,7 +70,7 @@ impl Out {
         }
     }
 
-    /// Notes whether there was no memory.
+    /// Notes whether it was out of memory.
     pub fn note(&mut self, done: Result<(), AllocError>) {
         if done.is_err() {
             self.refuse(NoAnswer::Memory);

@@ -4,8 +4,8 @@ use crate::words;
 use cose_show_core::{Cutter, Options, Stop, Words, read_words, show_as};
 use std::io::BufReader;
 
-/// What is shown of an input with these words of a command line: the status, the text with a `|`
-/// for each line feed, and why it ended early.
+/// What is shown of an input with these arguments of a command line: the status, the text with a
+/// `|` for each line feed, and why it ended early.
 pub fn show(to: &mut Out, row: &mut &str) {
     let input = words::bytes(to, row);
     let all = words::owned(to, row);

@@ -48,7 +48,7 @@ impl<J: Judge> Judge for Pieces<J> {
     }
 }
 
-/// The answer of a check, within limits if there are some, and how many bytes were taken. It has no
+/// The result of a check, within limits if there are some, and how many bytes were taken. It has no
 /// clause but the space, so that its callers carry none of the check's.
 fn checked<J: Judge>(
     alloc: Global,
@@ -79,9 +79,9 @@ pub fn check_within(to: &mut Out, row: &mut &str) {
     check_by(to, Some(limits), row);
 }
 
-/// A check, within limits if there are some, if the judge says no to the signature that may stand
-/// after the other words: its answer, how many bytes were taken, the question, and the lengths of
-/// the pieces in which the covered bytes came; or its fault.
+/// A check, within limits if there are some, if the judge says no to the signature that may come
+/// after the other arguments: its result, how many bytes were taken, the question, and the lengths
+/// of the pieces in which the covered bytes came; or its fault.
 fn check_by(to: &mut Out, limits: Option<Limits>, row: &mut &str) {
     let room = words::number(to, row);
     let input = words::bytes(to, row);

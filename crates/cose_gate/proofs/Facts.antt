@@ -1,4 +1,4 @@
--- The facts of a call of the gate, from its answer by cases.
+-- The facts of a call of the gate, from its result by cases.
 use Rattle.std.proofs.Common.{◌≡◌, ◌≢◌, ℕ, ◌+◌, ◌<◌, ◌⊎◌, inl, inr, List, [], ◌∷◌, ◌++◌, length, map, Option, Some, Bool, not, cond, refl, sym, ap, subst, ◌∙◌, arith, append_assoc, append-nil}
 use Rattle.std.specs.Prelude.{Result, Ok, Err, IfOk, IfErr, IsTrue}
 use Rattle.std.specs.Io.KnownBytes.{Appends}
@@ -11,7 +11,7 @@ use Rattle.ciborium.specs.declared.de.Error.TheVariants as de
 use Rattle.ciborium.proofs.Excludes.{excludes}
 use Rattle.cose_gate_laws.specs.GateCore.Asked.{folded_over, IsFront}
 use Rattle.cose_gate_laws.specs.GateCore.Questions.{Question}
-use Rattle.cose_gate_laws.specs.GateCore.Outcome.{Rules, Sight, Made, IsFaultOf, StandsIn, IsNoReaderFault, Outcome, Answers}
+use Rattle.cose_gate_laws.specs.GateCore.Outcome.{Rules, Sight, Made, IsFaultOf, StandsIn, TakesOne, IsNoReaderFault, Outcome, Answers}
 use Rattle.cose_gate_laws.specs.GateCore.Run.{Step, Run, Course, asked_of, written_of, text_of, passes, questions_of, output_of, entries_of, passed_count, refused_count}
 use Rattle.cose_gate_laws.specs.GateCore.declared.gating.Counts.{Counts}
 use Rattle.cose_gate_laws.specs.GateCore.declared.gating.GateFault.{GateFault}
@@ -146,7 +146,7 @@ module _ {T S : Type 0} (rules : Rules T S) where
             → IsFaultOf ends rules.limits.nesting (old.offset + length b) more e → IsFaultOf ends rules.limits.nesting (old.offset + length b) rest e
         rest_at cs more e c u f = subst (λ (z : List ℕ). IsFaultOf ends rules.limits.nesting (old.offset + length b) z e) (sym (full cs more c u).1) f
 
-        -- at an end, where the offset stands
+        -- at an end, the place of the offset
         end_at : (cs : List Step) (more : List ℕ) (e : E) → Course rules.limits rules.allows rules.aad old.offset b cs more → IsUnreadableWithin rules.limits.nesting more
             → IfKnown old.left (λ a. IfEnd ends (old.offset + length b < new.offset + length more) (de.Io e)) → IsTrue (ends e) → old.offset + length b < new.offset + length rest
         end_at cs more e c u k t =
@@ -377,6 +377,7 @@ module _ {T S : Type 0} (rules : Rules T S) where
               more = o.more;
               come = is ∙ ap Some input;
               between = λ none. subst (λ (z : List ℕ). StandsIn old new z o.more (Unit {0})) input (o.between (pair_none o.last s.behind s.then none));
+              one_due = λ none. subst (λ (z : List ℕ). TakesOne old new z o.more) input (o.one_due (pair_none o.last s.behind s.then none));
             }
 
             by_texts : ((o.texts ≡ o.done) × (o.asked ≢ questions_of rules.allows rules.aad o.last))

@@ -6,13 +6,14 @@ use Rattle.ciborium_ll.specs.Views.{left_of, offset_of, waiting_of, reader_of}
 use Rattle.ciborium_ll.specs.declared.dec.Decoder.{Decoder}
 use Rattle.ciborium_ll.specs.declared.read.Read.{Ghosts as Reads}
 use Rattle.ciborium_ll.specs.declared.write.Write.{Ghosts as Writes}
-use Rattle.ciborium.specs.Reading.{IfEnd, IsNoMemory}
+use Rattle.ciborium.specs.Reading.{IfEnd, IsNoMemory, IsFar}
 use Rattle.ciborium.specs.declared.de.Error.TheVariants as de
 use Rattle.cose_gate_laws.specs.GateCore.Asked.{folded_over, IsFront}
 use Rattle.cose_gate_laws.specs.GateCore.Calls.{rules_by, sight_of}
 use Rattle.cose_gate_laws.specs.GateCore.Findings.{Bounds}
-use Rattle.cose_gate_laws.specs.GateCore.Outcome.{Rules, Sight, Answers, IsFaultOf, StandsIn}
-use Rattle.cose_gate_laws.specs.GateCore.Outcome.{IsNoReaderFault, reader_failures, writer_failures}
+use Rattle.cose_gate_laws.specs.GateCore.Outcome.{Rules, Sight, Answers, IsFaultOf, StandsIn, TakesOne}
+use Rattle.cose_gate_laws.specs.GateCore.Outcome.{IsNoReaderFault, IfTooLong}
+use Rattle.cose_gate_laws.specs.GateCore.Outcome.{reader_failures, writer_failures}
 use Rattle.cose_gate_laws.specs.GateCore.Questions.{Question}
 use Rattle.cose_gate_laws.specs.GateCore.Run.{Step, Run, passes, text_of, questions_of, output_of}
 use Rattle.cose_gate_laws.specs.GateCore.Run.{passed_count, refused_count}
@@ -45,15 +46,16 @@ call_of r w p j limits aad decoder out report judge decoder' out' report' judge'
 }
 
 -- P holds of the bytes to come, if these are known, of the steps of the run over them, and of what
--- is left after its items. Of a step's entry it is open which of a shape's faults is named, and so
--- P holds of each way to say it.
+-- is left after its items. Of a step's entry it isn't said which of a shape's faults is named, and
+-- so P holds of each way to say it.
 abbrev pub OverRun : {T S : Type 0} → Rules T S → Sight T S
     → (List ℕ → List Step → List ℕ → Type 0) → Type 0
 OverRun rules old P =
     (b : List ℕ) (ss : List Step) (rest : List ℕ) → old.left ≡ Some b
     → Run rules.limits rules.allows rules.aad old.offset b ss rest → P b ss rest
 
--- the gate went through all items: neither device failed, memory was found, and offsets fit
+-- the gate went through all items: neither reader nor writer failed, memory was found, and offsets
+-- fit
 abbrev pub IfThrough : {E : Type 0} → (E → Bool) → Result Counts (GateFault E) → Type 0 → Type 0
 IfThrough ends (Ok counts) P = P
 IfThrough ends (Err (Decode (de.Io e))) P = IsTrue (ends e) → P
@@ -93,9 +95,8 @@ pub record WrittenFront {T S : Type 0} (rules : Rules T S) (old new : Sight T S)
   pub front : IsFront text (output_of rules.allows rules.aad ss)
   pub written : Appends old.written new.written text
 
--- the text of one message that passes is torn: what is before it was done whole, all was asked
--- about it, it wasn't noted, a beginning of its encoding was written, and the offset is the one
--- after its item
+-- one message that passes is torn: what is before it was done whole, all was asked about it, it
+-- wasn't noted, a beginning of its encoding was written, and the offset is the one after its item
 pub record Torn {T S : Type 0} (rules : Rules T S) (old new : Sight T S)
     (ss : List Step) : Type 0 where
   pub done : List Step
@@ -111,10 +112,11 @@ pub record Torn {T S : Type 0} (rules : Rules T S) (old new : Sight T S)
   pub written : Appends old.written new.written (output_of rules.allows rules.aad done ++ text)
   pub stands : new.offset ≡ last.item.offset + length last.item.bytes
 
--- there was no memory at one item, or between items: what is before was done whole; of the item's
--- questions a beginning was asked. If all were asked its text was written, if it passes; if not,
--- nothing of it was. It wasn't noted. At an item the offset is the one after it; between items the
--- gate is in the bytes `more`, those to come after the last item that was done.
+-- out of memory at one item, or between items: what is before was done whole; of the item's
+-- questions a beginning was asked. If all were asked its encoding was written, if it passes; if
+-- not, nothing of it was. It wasn't noted. At an item the offset is the one after it; between items
+-- the gate is in the bytes `more`, those to come after the last item that was done, and took none
+-- after the next item.
 pub record Refused {T S : Type 0} (rules : Rules T S) (old new : Sight T S)
     (ss : List Step) : Type 0 where
   pub done : List Step
@@ -135,6 +137,7 @@ pub record Refused {T S : Type 0} (rules : Rules T S) (old new : Sight T S)
   pub more : List ℕ
   pub come : old.left ≡ Some (bytes_of (done ++ last) ++ more)
   pub between : last ≡ [] → StandsIn old new (bytes_of (done ++ last) ++ more) more (Unit {0})
+  pub one_due : last ≡ [] → TakesOne old new (bytes_of (done ++ last) ++ more) more
 
 -- where the gate stops: Ok exactly when nothing is left after the items, with all bytes taken, and
 -- the reader tells that nothing is left; else with the fault of what is left. Of an item that is
@@ -209,11 +212,11 @@ abbrev pub WritesFront : {T S E : Type 0} → Call T S E → Result Counts (Gate
 WritesFront c r =
     OverRun c.rules c.old (λ b ss rest. IfErr r (λ fault. WrittenFront c.rules c.old c.new ss))
 
--- after Write: one text is torn
+-- after Write: one message is torn
 abbrev pub Tears : {T S E : Type 0} → Call T S E → Result Counts (GateFault E) → Type 0
 Tears c r = OverRun c.rules c.old (λ b ss rest. IfWrite r (Torn c.rules c.old c.new ss))
 
--- after Memory: whole texts were written
+-- after Memory: whole encodings were written
 abbrev pub WritesWhole : {T S E : Type 0} → Call T S E → Result Counts (GateFault E) → Type 0
 WritesWhole c r = OverRun c.rules c.old (λ b ss rest. IfMemory r (Refused c.rules c.old c.new ss))
 
@@ -232,8 +235,8 @@ pub record Gates {R E W F P J : Type 0}
     (decoder : Decoder R) (out : W) (report : P) (judge : J)
     (decoder' : Decoder R) (out' : W) (report' : P) (judge' : J)
     (result : Result Counts (GateFault E)) : Type 0 where
-  -- neither device fails, memory is found and offsets fit: the run's questions, its output, and an
-  -- entry for each item
+  -- neither reader nor writer fails, memory is found and offsets fit: the run's questions, its
+  -- output, and an entry for each item
   pub asked : AsksAll (call_of r w p j limits aad
       decoder out report judge decoder' out' report' judge') result
   pub written : WritesAll (call_of r w p j limits aad
@@ -261,6 +264,7 @@ pub record Gates {R E W F P J : Type 0}
       → r.failed (reader_of decoder') ≡ r.failed (reader_of decoder)
       → offset_of decoder + 4096 < 2 ^ 64 → IsOk result
   pub no_memory_of_nothing : left_of r.left decoder ≡ Some [] → result ≢ Err Memory
+  pub far : IfErr result (IfTooLong (IsFar (offset_of decoder')))
   pub reader : r.failed (reader_of decoder')
       ≡ r.failed (reader_of decoder) + reader_failures r.ends result
   pub writer : w.failed out' ≡ w.failed out + writer_failures result

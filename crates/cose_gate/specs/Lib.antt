@@ -91,4 +91,7 @@ pub use Rattle.cose_gate_stream.specs.declared.fault.StreamFault
 pub use Rattle.cose_gate_records.specs.Framing as RecordFraming
 pub use Rattle.cose_gate_records.specs.Kept as RecordsKept
 pub use Rattle.cose_gate_records.specs.Records
+pub use Rattle.cose_gate_records.specs.KeyHeaders
+pub use Rattle.cose_gate_records.specs.Verifying
+pub use Rattle.cose_hmac.specs.Hmac
 pub use Rattle.cose_gate_laws.specs.GateCore.Terms

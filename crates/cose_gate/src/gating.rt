@@ -34,7 +34,7 @@ use std::alloc::Global;
 /// encodings were written, and of the questions about the item at hand a beginning was asked; once
 /// all are asked, its encoding is written if it passes, which takes no memory, and only its entry
 /// can be missing. If there is no such item, some of the bytes after the last one were taken, or
-/// none.
+/// none, but none after the item that was due.
 pub fn gate<R: Read, W: Write, P: Report, J: Judge>(
     alloc: Global,
     decoder: &mut Decoder<R>,

@@ -14,7 +14,9 @@ pub use cose_gate_laws::gate_core::{
     ProtectedHeader, Read, Recorder, Refusal, RegisteredLabel, RegisteredLabelWithPrivate, Report,
     SemanticKind, Silent, Terms, Verdict, Write, de,
 };
-pub use cose_gate_records::{Accepted, Asker, Nowhere};
+pub use cose_gate_records::{
+    Accepted, Asker, Nowhere, Verifier, VerifierJudge, has_algorithm, has_known_crit, key_id,
+};
 /// The kind of a message, under its short name.
 pub use cose_gate_laws::gate_core::MessageKind as Kind;
 pub use cose_gate_program::judge::HmacJudge;
@@ -22,7 +24,7 @@ pub use cose_gate_program::{
     Blocks, InputFault, NotBegun, Teller, run, run_judged, run_over, run_told, run_with, words,
 };
 pub use cose_gate_stream::{StreamFault, laws as stream_laws, stream_check, stream_check_with};
-pub use cose_hmac::hmac_sha256;
+pub use cose_hmac::{hmac_sha256, same_tag};
 pub use cose_iana as iana;
 pub use coset_keys::{CoseKey, CoseKeySet, KeyOperation};
 pub use coset_labels::{AsCborValue, CborSerializable, KeyType};

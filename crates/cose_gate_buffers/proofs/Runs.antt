@@ -1,4 +1,4 @@
--- What the calls answer, from what a run does.
+-- What the calls return, from what a run does.
 use Rattle.std.proofs.Common.{◌≡◌, ◌≢◌, ℕ, ◌<◌, ◌++◌, ◌⊎◌, inl, inr, List, [], length, flat_map, Option, Some, Bool, true, false, cond, nat_eq, refl, sym, ap, subst, ◌∙◌, arith}
 use Rattle.cose_gate_hmac.specs.GateCore.Reading.{IfKnown}
 use Rattle.coset_labels.specs.Limits.{AreLimits, nesting_of, layers_of}
@@ -44,14 +44,14 @@ run_status limits keys aad old new status e = elim e [
   ]
 ]
 
--- devices by their parts
+-- input and output by their parts
 abbrev devices : Option (List ℕ) → List ℕ → ℕ → Devices
 devices left written failures = record { left = left; written = Some written; read_failures = 0; write_failures = failures }
 
 same_devices : (left : Option (List ℕ)) (w w' : List ℕ) (f f' : ℕ) → w ≡ w' → f ≡ f' → devices left w f ≡ devices left w' f'
 same_devices left w w' f f' e h = ap (λ (z : List ℕ). devices left z f) e ∙ ap (λ (n : ℕ). devices left w' n) h
 
--- the run's text and status, if the output was empty before and no device failed
+-- the run's output and status, if the output was empty before and neither input nor output failed
 pub runs : (limits : Bounds) (keys aad input : List ℕ) (first : List ℕ) (f : ℕ) (left : Option (List ℕ)) (written text : List ℕ) (f' status : ℕ)
     → first ≡ [] → f ≡ 0 → text ≡ written → f' ≡ 0
     → EndsOver limits says_yes keys aad (devices (Some input) first f) (devices left written f') status
@@ -89,7 +89,8 @@ known left input b there is = subst (λ (o : Option (List ℕ)). IfKnown o (λ z
 four_is_more : (n : ℕ) → n < 2 → n ≡ 4 → ⊥
 four_is_more n few four = omega (arith, few, four)
 
--- no device failed, so the run stopped at an item that can't be read, or it is out of memory
+-- neither input nor output failed, so the run stopped at an item that can't be read, or for being
+-- out of memory
 rose_never : (n m : ℕ) → m ≡ n → n < m → ⊥
 rose_never n m same rose = omega (arith, same, rose)
 

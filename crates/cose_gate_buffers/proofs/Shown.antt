@@ -1,4 +1,4 @@
--- What stands in a buffer after a text was put into it.
+-- What is in a buffer after a text was put into it.
 use Rattle.std.proofs.Common.{rules, ◌≡◌, ◌⊎◌, inl, inr, ℕ, ◌<◌, ◌≤◌, ◌+◌, ◌-◌, ◌^◌, min, List, [], ◌++◌, length, take, drop, refl, sym, ap, ◌∙◌, arith, length-append, append_assoc}
 use Rattle.std.proofs.lemmas.Bool.{cases_lt}
 use Rattle.std.proofs.lemmas.List.{places, same_lists, take_all, drop_all, length-take, take-append-le, append-nil, take-take}
@@ -8,7 +8,7 @@ use Rattle.cose_gate_buffers.specs.Lines.{IsShown, counted, put}
 pub length-put : (buffer : List ℕ) (place : ℕ) (text : List ℕ) → length (put buffer place text) ≡ length buffer
 length-put buffer place text = grind (arith, places)
 
--- where the text before it fits
+-- if the text before it fits
 fits : (text piece buffer : List ℕ) → length text ≤ length buffer → take (length text) buffer ≡ text
     → take (length text + length piece) (put buffer (length text) piece) ≡ text ++ take (length buffer - length text) piece
 fits text piece buffer few front =
@@ -19,7 +19,7 @@ fits text piece buffer few front =
     = same_lists _ _ (grind (arith, places)) (λ k d h. grind (arith, places)) in
     ap (λ (z : List ℕ). take (n + length piece) z) whole ∙ (take-append-add text rest (length piece) ∙ ap (λ (z : List ℕ). text ++ z) tail)
 
--- where it doesn't, nothing changes
+-- if it doesn't, nothing changes
 past : (buffer piece : List ℕ) (place : ℕ) → length buffer ≤ place → put buffer place piece ≡ buffer
 past buffer piece place full =
     same_lists _ _ (length-put buffer place piece) (λ k d h. grind (arith, places))

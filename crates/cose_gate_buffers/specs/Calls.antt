@@ -1,4 +1,4 @@
--- What a call over buffers answers.
+-- What a call over buffers returns.
 use Rattle.std.specs.Prelude.{◌≡◌, ◌≢◌, ℕ, ◌<◌, ◌≤◌, ◌⊎◌, List, [], ◌++◌, length, drop, flat_map, Option, Some, Bool, true}
 use Rattle.coset_labels.specs.Limits.{AreLimits}
 use Rattle.cose_gate_hmac.specs.GateCore.Asked.{IsFront}
@@ -31,17 +31,17 @@ after left written =
 abbrev pub IsRunStatus : ℕ → Type 0
 IsRunStatus status = (status < 2) ⊎ (status ≡ 3) ⊎ (status ≡ 4)
 
--- the program's run wrote this text and ended with this status
+-- the program's run wrote this output and ended with this status
 pub record Runs (limits : Bounds) (keys aad input written : List ℕ) (status : ℕ) : Type 0 where
   pub left : Option (List ℕ)
   pub ends : EndsOver limits says_yes keys aad (before input) (after left written) status
   pub known : IsRunStatus status
 
--- there was no memory, and nothing is written
+-- out of memory, and nothing is written
 abbrev pub NoMemory : List ℕ → ℕ → Type 0
 NoMemory written status = (written ≡ []) × (status ≡ 4)
 
--- the text is in front of what was there, if it is no longer; else there is no space, and nothing
+-- the output is in front of what was there, if it is no longer; else there is no space, and nothing
 -- was written
 pub record Places (written : List ℕ) (status : ℕ) (old new : List ℕ) (answer : Answer) : Type 0 where
   pub length_is : answer.length ≡ length written
@@ -57,7 +57,7 @@ pub record Buffers : Type 0 where
 abbrev pub buffers : List ℕ → List ℕ → Buffers
 buffers out lines = record { out = out; lines = lines }
 
--- if the limits are some that a caller may choose, there is a text with its status, and it is
+-- if the limits are some that a caller may choose, there is an output with its status, and it is
 -- placed; else nothing was read, and neither buffer changed
 abbrev pub Answers : ℕ → ℕ → (List ℕ → ℕ → Type 0) → Buffers → Buffers → Answer → Type 0
 Answers nesting layers IsText old new answer =
@@ -75,8 +75,8 @@ abbrev pub Checks : ℕ → ℕ → Bool → List ℕ → List ℕ → List ℕ 
 Checks nesting layers strict keys aad input old new answer =
     Answers nesting layers (Checked (within nesting layers strict) keys aad input) old new answer
 
--- there was no memory: at the last step, or after all of them, with more to come. All questions
--- about the steps before it were told.
+-- out of memory: at the last step, or after all of them, with more to come. All questions about the
+-- steps before it were told.
 pub record ToldBefore (aad : List ℕ) (steps : List Step) (more : List ℕ) (front : List Question)
     : Type 0 where
   pub done : List Step
@@ -86,15 +86,15 @@ pub record ToldBefore (aad : List ℕ) (steps : List Step) (more : List ℕ) (fr
   pub due : last ≡ [] → more ≢ []
   pub all_before : IsFront (questions_of (λ _. true) aad done) front
 
--- how far questions are told where the run stopped: all that stand before an item that can't be
--- read, or all before the one where there was no memory
+-- how far questions are told if the run stopped: all before an item that can't be read, or all
+-- before the one at which it was out of memory
 abbrev pub ToldUpTo : ℕ → List ℕ → List ℕ → List Step → List ℕ → List Question → Type 0
 ToldUpTo nesting aad input steps more front =
     (IsUnreadable nesting input more × (front ≡ questions_of (λ _. true) aad steps))
     ⊎ ToldBefore aad steps more front
 
--- the text is the records of the questions that a judge is asked who always says yes, in order: all
--- of them if the run went to its end, and else a front of them, up to where it stopped
+-- the output is the records of the questions that a judge is asked who always says yes, in order:
+-- all of them if the run went to its end, and else a front of them, up to where it stopped
 pub record Tells (limits : Bounds) (aad input text : List ℕ) (status : ℕ) : Type 0 where
   pub steps : List Step
   pub more : List ℕ

@@ -22,7 +22,7 @@ abbrev pub put : List ℕ → ℕ → List ℕ → List ℕ
 put buffer place text =
     take place buffer ++ (take (length buffer - place) text ++ drop (place + length text) buffer)
 
--- the line that says that there was no memory
+-- the line that says that it is out of memory
 abbrev pub stopped : List ℕ
 stopped = codes "stopped: memory\n"
 

@@ -1,4 +1,4 @@
-//! The questions of a run, for a caller who checks signatures by himself.
+//! The questions of a run, for a caller who checks signatures with code of his own.
 ghost use Rattle.std.specs.Prelude.{◌≡◌, ℕ, List};
 ghost use Rattle.cose_gate_hmac.specs.GateCore.Terms.{limits_of};
 ghost use Rattle.cose_gate_buffers.specs.Calls.{Asks, Places, Told, buffers};
@@ -54,7 +54,7 @@ fn ask_within(
 /// `lines` takes the lines of a run in which every signature is good: it names each item that is
 /// refused for its form. With the statuses 0 and 1 all questions are told. With 4 they are those up
 /// to where the run stopped: all before an item that can't be read; if out of memory at an item,
-/// all before it, and some about it. If there is no memory for the records, there are none, and
+/// all before it, and some about it. If it is out of memory for the records, there are none, and
 /// `stopped: memory` replaces the whole last line.
 ///
 /// If the records are longer than `questions`, and only then, the status is 5: `questions` stays as

@@ -42,7 +42,7 @@ fn write_on(buffer: &mut [u8], tally: &mut Tally, text: &[u8])
     *tally = lines.and(text);
 }
 
-/// Writes that there was no memory, in place of the whole last line.
+/// Writes that it is out of memory, in place of the whole last line.
 fn write_stopped(buffer: &mut [u8], tally: &mut Tally)
     ensures shown { IsShown (all_of tally.old) buffer.old
         → IsShown (all_of tally.new) buffer.new }
@@ -79,7 +79,7 @@ impl<'a> Lines<'a> {
         write_on(self.buffer, &mut self.tally, text);
     }
 
-    /// Says that there was no memory, in place of the whole last line: what the run ended with
+    /// Says that it is out of memory, in place of the whole last line: what the run ended with
     /// counts no more.
     pub(crate) fn stopped_for_memory(&mut self)
         ensures said { said self.new ≡ lines_before self.old ++ stopped }

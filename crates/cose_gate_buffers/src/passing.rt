@@ -74,7 +74,7 @@ fn pass_within(
 /// Passes the messages all of whose questions are among the records `accepted`: some of those that
 /// `ask` told of this input, or of another, copied as they are, one after another, in any order.
 /// The external data and the choice are those of that call. A record counts for each question that
-/// it is the record of. `out`, `lines` and the answer are as of `check`.
+/// it is the record of. `out`, `lines` and the result are those of `check`.
 ///
 /// If `accepted` is no such records, the status is 3, and nothing is read.
 pub fn pass(

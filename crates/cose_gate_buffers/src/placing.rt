@@ -1,4 +1,4 @@
-//! A text in the caller's buffer, if it fits.
+//! An output in the caller's buffer, if it fits.
 ghost use Rattle.std.specs.Prelude.{◌≡◌, ◌≤◌, ◌<◌, ◌++◌, MatchBool, length, drop};
 
 use crate::answer::Answer;
@@ -6,7 +6,7 @@ use crate::answer::Answer;
 /// The status if the output has no space.
 const NO_ROOM: u32 = 5;
 
-/// Copies the text to the front, if it fits, and says whether it did.
+/// Copies the output to the front, if it fits, and says whether it did.
 fn fill(out: &mut [u8], text: &[u8]) -> bool
     ensures { MatchBool result
         ((length text.now ≤ length «out».old)

@@ -9,9 +9,9 @@ ghost use Rattle.cose_gate_command.specs.Arguments as spec;
 ghost use Rattle.cose_gate_command.specs.Ends.{EndsBy};
 ghost use Rattle.cose_gate_program.specs.Program.{devices_of};
 
-use ciborium_ll::{Io, Read, Write};
+use ciborium_ll::{Read, Write};
 use cose_gate_command::{USAGE, program, read_arguments};
-use cose_gate_program::Blocks;
+use cose_gate_program::{Blocks, OutBlocks};
 use std::alloc::Global;
 use std::io::{BufReader, BufWriter};
 use std::process::ExitCode;
@@ -19,6 +19,9 @@ use std::{env, fs, io};
 
 /// Bytes are read and written in blocks of this length, and lines too.
 const BLOCK: usize = 65536;
+
+/// How many bytes are held in front of the blocks that are written.
+const FRONT: usize = 4096;
 
 /// What `-h` and `--help` print. The script `cose-gate` prints the same.
 const HELP: &str = "\
@@ -79,10 +82,10 @@ fn start(rt: &HostRuntime) -> Result<u8, NotRun> {
     let Ok(input) = BufReader::with_capacity(rt.alloc(), BLOCK, rt.stdin()) else {
         return Err(NotRun::Memory);
     };
-    let Ok(output) = BufWriter::with_capacity(rt.alloc(), BLOCK, rt.stdout()) else {
+    let Ok(mut output) = in_blocks(rt.alloc(), rt.stdout()) else {
         return Err(NotRun::Memory);
     };
-    let Ok(lines) = BufWriter::with_capacity(rt.alloc(), BLOCK, rt.stderr()) else {
+    let Ok(mut lines) = in_blocks(rt.alloc(), rt.stderr()) else {
         return Err(NotRun::Memory);
     };
     Ok(run(
@@ -91,9 +94,23 @@ fn start(rt: &HostRuntime) -> Result<u8, NotRun> {
         keys.bytes.as_deref(),
         keys.fault,
         &mut Blocks::new(input),
-        &mut Io::new(output),
-        &mut Io::new(lines),
+        &mut output,
+        &mut lines,
     ))
+}
+
+/// A writer of std in blocks: a small one, which is filled at once, before a large one.
+fn in_blocks<W: io::Write + Drop>(
+    alloc: Global,
+    writer: W,
+) -> Result<OutBlocks<BufWriter<W>>, NotRun> {
+    let Ok(block) = Vec::with_capacity(alloc, FRONT) else {
+        return Err(NotRun::Memory);
+    };
+    match BufWriter::with_capacity(alloc, BLOCK, writer) {
+        Ok(blocks) => Ok(OutBlocks::new(block, blocks)),
+        Err(_) => Err(NotRun::Memory),
+    }
 }
 
 /// The run that all arguments ask for, over what the file KEYS holds.

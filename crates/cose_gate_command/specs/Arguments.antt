@@ -23,7 +23,7 @@ abbrev pub of_files : Bool → Bool → List (List ℕ) → Option Arguments
 of_files s v ws = option_map
     (λ w. record { strict = s; verbose = v; keys = w.0; aad = w.1 }) (words ws)
 
--- the same, after more options that these words may begin with
+-- the same, after more options that these arguments may begin with
 abbrev pub after_options : Bool → Bool → List (List ℕ) → Option Arguments
 after_options s v [] = None
 after_options s v (w ∷ ws) =

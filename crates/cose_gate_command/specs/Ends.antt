@@ -15,7 +15,7 @@ bounds_by strict = record {
 }
 
 -- the arguments say how the program is run, verbose or not, over what KEYS holds; without them its
--- status is that of wrong arguments, and no device was touched
+-- status is that of wrong arguments, and nothing was read or written
 abbrev pub EndsBy : Option Arguments → Option (List ℕ) → Devices → Devices → ℕ → Type 0
 EndsBy None keys old new status = (status ≡ 2) × (new ≡ old)
 EndsBy (Some a) keys old new status =

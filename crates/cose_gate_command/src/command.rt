@@ -6,9 +6,9 @@ ghost use Rattle.cose_gate_program.specs.Program.{devices_of};
 
 use crate::arguments::read_arguments;
 use crate::key_file::KeyFile;
-use crate::verbose::run_verbose;
+use crate::verbose::run_asked;
 use ciborium_ll::{Read, Write};
-use cose_gate_program::{Limits, Terms, run_with};
+use cose_gate_program::{Limits, Terms};
 use std::alloc::Global;
 
 /// The line for other arguments.
@@ -41,14 +41,19 @@ pub fn program<'a, R: Read, W: Write, E: Write>(
         limits: Limits::default(),
         strict: asked.strict,
     };
-    if asked.verbose {
-        let file = KeyFile {
-            name: asked.keys,
-            bytes: keys,
-            fault,
-        };
-        run_verbose(alloc, terms, file, asked.aad, input, out, err)
-    } else {
-        run_with(alloc, terms, keys, asked.aad, input, out, err)
-    }
+    let file = KeyFile {
+        name: asked.keys,
+        bytes: keys,
+        fault,
+    };
+    run_asked(
+        alloc,
+        terms,
+        asked.verbose,
+        file,
+        asked.aad,
+        input,
+        out,
+        err,
+    )
 }

@@ -4,7 +4,7 @@ ghost use Rattle.std.specs.Prelude.{◌≡◌, ◌∷◌};
 use ciborium_ll::Read;
 use std::cell::Cell;
 
-/// A reader, and how many bytes it has given, as far as they fit.
+/// A reader, and how many bytes it has given, modulo 2^64.
 #[derive(Drop)]
 pub(crate) struct Counted<'a, R> {
     pub(crate) reader: &'a mut R,
@@ -12,7 +12,7 @@ pub(crate) struct Counted<'a, R> {
 }
 
 fn add(taken: &Cell<usize>, n: usize) {
-    taken.set(taken.get().saturating_add(n));
+    taken.set(taken.get().wrapping_add(n));
 }
 
 impl<'a, R: Read> Read for Counted<'a, R> {

@@ -92,11 +92,11 @@ fn begun<'b>(
     }
 }
 
-/// A judge, and the reasons of one that gives the same answers.
+/// A judge, and if they are asked for the reasons of one that gives the same answers.
 #[derive(Drop)]
 pub(crate) struct Explained<'a, J> {
     pub(crate) judge: J,
-    pub(crate) reasons: Reasons<'a>,
+    pub(crate) reasons: Option<Reasons<'a>>,
 }
 
 impl<'a, J: Judge> Judge for Explained<'a, J> {
@@ -117,17 +117,23 @@ impl<'a, J: Judge> Judge for Explained<'a, J> {
     ghost decided = { J.decided };
 
     fn begin(&mut self, about: &About) -> Result<(), AllocError> {
-        self.reasons.begin(about);
+        if let Some(reasons) = &mut self.reasons {
+            reasons.begin(about);
+        }
         self.judge.begin(about)
     }
 
     fn feed(&mut self, piece: &[u8]) -> Result<(), AllocError> {
-        self.reasons.feed(piece);
+        if let Some(reasons) = &mut self.reasons {
+            reasons.feed(piece);
+        }
         self.judge.feed(piece)
     }
 
     fn decide(&mut self, signature: &[u8]) -> bool {
-        self.reasons.decide(signature);
+        if let Some(reasons) = &mut self.reasons {
+            reasons.decide(signature);
+        }
         self.judge.decide(signature)
     }
 }

@@ -40,7 +40,7 @@ pub(crate) fn say_not_begun<P: fmt::Write>(
     }
 }
 
-/// Why a text isn't bytes in hex.
+/// Why a string isn't bytes in hex.
 fn say_not_hex<P: fmt::Write>(alloc: Global, text: &str, page: &mut P) -> fmt::Result {
     match hex::decode(alloc, text) {
         Err(FromHexError::OddLength) => page.write_str("  AADHEX: an odd number of digits\n"),

@@ -1,4 +1,4 @@
-//! The run with `--verbose`.
+//! The run, with `--verbose` or without.
 ghost use Rattle.std.specs.Prelude.{◌≡◌, option_copied};
 ghost use Rattle.cose_gate_core.specs.Terms.{limits_of};
 ghost use Rattle.cose_gate_hmac.specs.Judge.{says_yes};
@@ -15,11 +15,12 @@ use cose_gate_program::{Beginning, InputFault, Lines, NotBegun, Teller, begin, r
 use std::alloc::Global;
 use std::cell::{Cell, RefCell};
 
-/// The lines of the program, and after each what is said more.
+/// The lines of the program, and if it is verbose after each what is said more.
 #[derive(Drop)]
-struct Verbose<'o, 'n, 'f, 'd, W> {
+struct Said<'o, 'n, 'f, 'd, W> {
     alloc: Global,
     out: &'o mut W,
+    verbose: bool,
     /// Why the judge said no last.
     note: &'n RefCell<Note>,
     /// How many bytes of the input were taken.
@@ -31,16 +32,25 @@ struct Verbose<'o, 'n, 'f, 'd, W> {
     aad: Option<&'d str>,
 }
 
-impl<'o, 'n, 'f, 'd, W: Write> Teller for Verbose<'o, 'n, 'f, 'd, W> {
-    fn item(&mut self, entry: &Entry) {
+impl<'o, 'n, 'f, 'd, W: Write> Said<'o, 'n, 'f, 'd, W> {
+    /// Says more of an item.
+    fn say_more(&mut self, entry: &Entry) {
         self.done = entry.number;
         self.offset = self.taken.get();
-        Lines::new(self.out).item(entry);
         if let Verdict::Refused(refusal) = entry.verdict {
             let mut text = Text { out: self.out };
             if let Ok(note) = self.note.try_borrow() {
                 let _ = say_refusal(refusal, &note, &mut text);
             }
+        }
+    }
+}
+
+impl<'o, 'n, 'f, 'd, W: Write> Teller for Said<'o, 'n, 'f, 'd, W> {
+    fn item(&mut self, entry: &Entry) {
+        Lines::new(self.out).item(entry);
+        if self.verbose {
+            self.say_more(entry);
         }
     }
 
@@ -52,15 +62,19 @@ impl<'o, 'n, 'f, 'd, W: Write> Teller for Verbose<'o, 'n, 'f, 'd, W> {
         let number = self.done.saturating_add(1);
         let offset = self.offset;
         Lines::new(self.out).stopped(fault);
-        let _ = say_stop(fault, number, offset, &mut Text { out: self.out });
-        let _ = self.out.flush();
+        if self.verbose {
+            let _ = say_stop(fault, number, offset, &mut Text { out: self.out });
+            let _ = self.out.flush();
+        }
     }
 
     fn not_begun(&mut self, why: NotBegun) {
         let (alloc, file, aad) = (self.alloc, self.file, self.aad);
         Lines::new(self.out).not_begun(why);
-        let _ = say_not_begun(alloc, why, file, aad, &mut Text { out: self.out });
-        let _ = self.out.flush();
+        if self.verbose {
+            let _ = say_not_begun(alloc, why, file, aad, &mut Text { out: self.out });
+            let _ = self.out.flush();
+        }
     }
 }
 
@@ -84,14 +98,38 @@ pub fn run_verbose<'f, 'd, R: Read, W: Write, E: Write>(
     ensures kept { R.handle input.new ≡ R.handle input.old }
     ensures lent { W.handle out.new ≡ W.handle out.old }
 {
+    run_asked(alloc, terms, true, file, aad, input, out, err)
+}
+
+/// As `run_verbose`, or as `run_with` if it isn't verbose. Both are one run over one type of reader,
+/// judge and teller: of two, the compiler would leave apart what it puts into one function else, and
+/// each message would take up to 6 % more instructions.
+pub(crate) fn run_asked<'f, 'd, R: Read, W: Write, E: Write>(
+    alloc: Global,
+    terms: Terms,
+    verbose: bool,
+    file: KeyFile<'f>,
+    aad: Option<&'d str>,
+    input: &mut R,
+    out: &mut W,
+    err: &mut E,
+) -> u8
+    ensures ran { EndsWithin (limits_of terms) says_yes
+        (option_copied file.entry.bytes) (option_copied aad.entry)
+        (devices_of R.Read W.Write input.old out.old)
+        (devices_of R.Read W.Write input.new out.new) result }
+    ensures kept { R.handle input.new ≡ R.handle input.old }
+    ensures lent { W.handle out.new ≡ W.handle out.old }
+{
     let note = RefCell::new(Note {
         reason: String::new(alloc),
         is_of_signer: false,
     });
     let taken = Cell::new(0);
-    let mut teller = Verbose {
+    let mut teller = Said {
         alloc,
         out: err,
+        verbose,
         note: &note,
         taken: &taken,
         done: 0,
@@ -103,7 +141,11 @@ pub fn run_verbose<'f, 'd, R: Read, W: Write, E: Write>(
         Ok(beginning) => {
             let judge = HmacJudge::prepared(alloc, &beginning.keys);
             let aad = beginning.aad.as_slice();
-            let reasons = Reasons::new(alloc, &beginning.keys, aad.len(), &note);
+            let reasons = if verbose {
+                Some(Reasons::new(alloc, &beginning.keys, aad.len(), &note))
+            } else {
+                None
+            };
             let mut judge = Explained { judge, reasons };
             let mut input = Counted {
                 reader: input,

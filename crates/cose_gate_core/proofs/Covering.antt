@@ -46,7 +46,7 @@ pub told_of : {T : Type 0} (decided : T → Question → T) (allows : Question �
 told_of decided allows told told' qs q p e f t =
     t ∙ ap (decided told) f ∙ sym (ap (λ z. folded_over decided told (asked allows z)) e ∙ ap (folded_over decided told) (one_asked (allows q) q))
 
--- under an answer
+-- of a result
 pub ok_first : {E : Type 0} (r : Result (Option ℕ) E) (allows : Question → Bool) (qs : List Question) (q p : Question) → qs ≡ q ∷ [] → p ≡ q
     → IfOk r (λ no. no ≡ first_no allows (p ∷ [])) → IfOk r (λ no. no ≡ first_no allows qs)
 ok_first (Ok first) allows qs q p e f n = first_of allows qs q p first e f n

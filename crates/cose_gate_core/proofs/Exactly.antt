@@ -32,7 +32,7 @@ same_text x y e =
 pub text_same : (x y : List ℕ) → x ≡ y → pointwise nat_eq x y ≡ true
 text_same x y e = ap (λ z. pointwise nat_eq z y) e ∙ nat_list_eq_equiv.refl y
 
--- the text of a message that is written as this tree
+-- the encoding of a message that is written as this tree
 text_is : (m : MessageFields) (v : Tree) → message_tree m ≡ Some v → message_text m ≡ enc (tag (tag_of m) v)
 text_is m v e = ap (λ o. or_nothing (option_map enc (option_map (λ t. tag (tag_of m) t) o))) e
 
@@ -49,7 +49,7 @@ tree_there (Some v) n = (v, refl)
 same_body : (n : ℕ) (u v : Tree) → tag n u ≡ tag n v → u ≡ v
 same_body n u v e = cc
 
--- an item that is the text of its message is spelled as its value is, and has the value that is
+-- an item that is the encoding of its message is spelled as its value is, and has the value that is
 -- written
 module _ (l : Bounds) (n : ℕ) (b : List ℕ) (u : Tree) (m : MessageFields) (has : HasMessage l u m) (reads : Reads b n (tag (tag_of m) u)) (fits : Fits u) where
   exact_text : b ≡ message_text m → (b ≡ enc (tag (tag_of m) u)) × (message_tree m ≡ Some u)

@@ -1,4 +1,4 @@
--- What is written of a header that was read fits heads where the value did, and is no longer.
+-- What is written of a header that was read fits heads if the value did, and is no longer.
 use Rattle.std.proofs.Common.{◌≡◌, ℕ, pos, ◌+◌, ◌^◌, ◌<◌, ◌≤◌, ◌⊎◌, inl, inr, List, [], ◌∷◌, ◌++◌, length, map, Bool, true, false, cond, Option, Some, None, refl, sym, ap, subst, ◌∙◌, arith, length-append}
 use Rattle.std.specs.Prelude.{◌||◌}
 use Rattle.ciborium_ll.specs.Title.{shortest}

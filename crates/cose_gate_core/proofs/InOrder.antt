@@ -21,7 +21,7 @@ pub on_err_is : {A E P : Type 0} (r : Result A E) → P → OnErr r P
 on_err_is (Ok x) p = tt
 on_err_is (Err e) p = p
 
--- an answer that is this fault
+-- a result that is this fault
 pub err_is : {A E : Type 0} (r : Result A E) (x : E) → IsErrAnd r (λ e. e ≡ x) → r ≡ Err x
 err_is (Ok y) x p = absurd p
 err_is (Err e) x p = ap Err p
@@ -87,7 +87,7 @@ pub rest_step : {A B : Type 0} (f : A → B) (xs : List A) (i : ℕ) (x : A) →
 rest_step f xs i x h e =
     ap (λ r. map f r) (drop-cons xs i x h ∙ ap (λ y. y ∷ drop (suc i) xs) (sym e) ∙ ap (λ k. x ∷ drop k xs) (sym (add-one i)))
 
--- where all protected headers have their received bytes, the questions are one of each signature
+-- if all protected headers have their received bytes, the questions are one of each signature
 next_and : {A Q : Type 0} (f : List A → Q) (a : Option (List A)) (b : Option (List Q)) (qs : List Q) → option_and_then (λ x. option_map (λ y. f x ∷ y) b) a ≢ None → or_nothing b ≡ qs
     → or_nothing (option_and_then (λ x. option_map (λ y. f x ∷ y) b) a) ≡ f (or_nothing a) ∷ qs
 next_and f None b qs n e = absurd (n refl)

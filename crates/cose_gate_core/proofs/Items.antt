@@ -72,7 +72,7 @@ module _ {T : Type 0} (rules : ItemRules T) where
     writes = subst (λ (x : List ℕ). Appends w w x) (sym (written_no m i said)) (Appends-nil w);
   }
 
-  -- the judge said yes, and the text was written
+  -- the judge said yes, and the encoding was written
   pub taken_yes : (b : List ℕ) (t : Tree) (told told' : T) (w w' : Option (List ℕ)) (m : MessageFields) → Finds rules.limits b t (judged m) → None ≡ first_no rules.allows (questions m rules.aad)
       → told' ≡ folded_over rules.decided told (asked rules.allows (questions m rules.aad)) → Appends w w' (message_text m) → WentThrough rules b t (seen told w) (seen told' w') Passed
   taken_yes b t told told' w w' m is said tells writes = record {
@@ -88,7 +88,7 @@ module _ {T : Type 0} (rules : ItemRules T) where
       → ToldPart rules.decided told told' (asked rules.allows (questions m rules.aad)) → ItemFails rules b t (seen told w) (seen told' w) fault.Memory
   half_asked b t told told' w m is part = (refl, inr (record { message = m; is = is; part = part }))
 
-  -- writing the text failed
+  -- writing failed
   pub half_written : (b : List ℕ) (t : Tree) (told told' : T) (w w' : Option (List ℕ)) (m : MessageFields) (f : ItemFault) → Finds rules.limits b t (judged m) → None ≡ first_no rules.allows (questions m rules.aad)
       → told' ≡ folded_over rules.decided told (asked rules.allows (questions m rules.aad)) → IsWriteFault w w' (message_text m) f → ItemFails rules b t (seen told w) (seen told' w') f
   half_written b t told told' w w' m fault.Write is said tells writes = record {

@@ -1,4 +1,4 @@
--- What is answered, from how far the gate has come.
+-- What is returned, from how far the gate has come.
 use Rattle.std.proofs.Common.{◌≡◌, ◌≢◌, ◌⊎◌, inl, inr, ℕ, ◌+◌, ◌^◌, ◌<◌, ◌≤◌, List, [], ◌∷◌, ◌++◌, length, map, Option, None, Some, Bool, true, false, not, cond, refl, sym, ap, subst, ◌∙◌, arith, append_assoc, append-nil, length-append}
 use Rattle.std.specs.Prelude.{Result, Ok, Err, IfOk}
 use Rattle.std.specs.Io.KnownBytes.{Consumes, Appends}
@@ -6,7 +6,9 @@ use Rattle.std.proofs.KnownBytes.{Appends-trans}
 use Rattle.std.proofs.lemmas.Grind.{flat_map-append}
 use Rattle.ciborium_ll.specs.Reading.{Moves, Starts, Stops}
 use Rattle.ciborium_value.specs.Tree.{Tree}
-use Rattle.ciborium.specs.Front.{Reads}
+use Rattle.ciborium_ll.proofs.Closings.{same_fronts}
+use Rattle.ciborium.specs.Front.{Reads, HoldsOne}
+use Rattle.ciborium.proofs.OneItem.{read_one}
 use Rattle.ciborium.specs.Items.{SequenceWithin}
 use Rattle.ciborium.specs.Damage.{end, deep, syntax, semantic, Damage}
 use Rattle.ciborium.specs.Reading.{IfKnown, IfEnd, FailsAt, IsNoMemory, IsFar, SomeTaken, fault_failures}
@@ -23,7 +25,7 @@ use Rattle.cose_gate_core.specs.Questions.{Question, MessageFields, questions}
 use Rattle.cose_gate_core.specs.Asked.{first_no, folded_over, IsFront}
 use Rattle.cose_gate_core.specs.Findings.{judged}
 use Rattle.cose_gate_core.specs.Run.{Step, Steps, judged_by, has_passed, passes, asked_of, written_of, questions_of, output_of, entries_of, passed_count, refused_count, Course}
-use Rattle.cose_gate_core.specs.Outcome.{Rules, Sight, Made, IsFaultOf, IsReadFault, StandsIn, IsNoReaderFault, Answers}
+use Rattle.cose_gate_core.specs.Outcome.{Rules, Sight, Made, IsFaultOf, IsReadFault, StandsIn, TakesOne, IsNoReaderFault, Answers, IfTooLong}
 use Rattle.cose_gate_core.specs.Passing.{ItemRules, ItemSight, WentThrough, Half, HalfWritten, ItemFails, at_end, stopped_by}
 use Rattle.coset_labels.specs.Limits.{nesting_of}
 use Rattle.cose_gate_core.specs.Terms.{IsTaken}
@@ -80,7 +82,7 @@ record Partly (l l' : Option (List ℕ)) (p p' : ℕ) (P : Type 0) : Type 0 wher
   pub grown : p' ≡ p + length taken
   pub behind : P → IfKnown l (λ b. l' ≡ Some rest)
 
--- what is left is told where it was told what was to come
+-- what is left is told if it was told what was to come
 rest_told : (l l' : Option (List ℕ)) (b : List ℕ) → Consumes l l' b → IfKnown l (λ a. l' ≡ Some (rest_of l'))
 rest_told None l' b c = tt
 rest_told (Some a) None b c = absurd c
@@ -247,7 +249,7 @@ module _ {T S : Type 0} (rules : Rules T S) where
         };
       }
 
-  -- where the gate is in what was to come after the steps
+  -- the gate is in what was to come after the steps
   stands_in : (old new newer : Sight T S) (P : Type 0) (input b : List ℕ) → Consumes old.left new.left b → (k : Partly new.left newer.left new.offset newer.offset P)
       → new.offset + length k.more ≡ old.offset + length input → StandsIn old newer input k.more P
   stands_in old new newer P input b c k s = record {
@@ -258,11 +260,19 @@ module _ {T S : Type 0} (rules : Rules T S) where
     behind = λ is. known_before (newer.left ≡ Some k.rest) old.left new.left b c (k.behind is);
   }
 
+  -- what was taken of what was to come after the steps holds one item at most
+  takes_one : (old new newer : Sight T S) (input : List ℕ) (Q : List ℕ → Type 0) (t : Moves new.left newer.left new.offset newer.offset Q) → HoldsOne t.bytes
+      → new.offset + length (t.bytes ++ rest_of newer.left) ≡ old.offset + length input → TakesOne old newer input (t.bytes ++ rest_of newer.left)
+  takes_one old new newer input Q t one s taken rest is place =
+      let l : length taken ≡ length t.bytes = omega (arith, s, place, t.grown, ap length is, length-append taken rest, length-append t.bytes (rest_of newer.left)) in
+      subst HoldsOne (sym (same_fronts taken t.bytes rest (rest_of newer.left) l (sym is)).0) one
+
   -- Memory, if all steps so far are made
   memory_between : {E : Type 0} (ends : E → Bool) (old new newer : Sight T S) (passed refused : ℕ) → Reached rules old new passed refused
       → newer.told ≡ new.told → newer.state ≡ new.state → newer.written ≡ new.written → (new.left ≡ Some [] → ⊥)
-      → (Q : List ℕ → Type 0) → Moves new.left newer.left new.offset newer.offset Q → Answers ends rules old newer (Err Memory)
-  memory_between ends old new newer passed refused r told state writes some Q t =
+      → (Q : List ℕ → Type 0) → ((b : List ℕ) → Q b → HoldsOne b) → Moves new.left newer.left new.offset newer.offset Q → Answers ends rules old newer (Err Memory)
+  unfolding moved
+  memory_between ends old new newer passed refused r told state writes some Q one t =
       let k = moved new.left newer.left new.offset newer.offset (Unit {0}) Q t in
       let w = left_after old new r.done r.taken r.steps k.more k.is in
       let m = still old new newer r.done told state writes r.made in
@@ -286,6 +296,7 @@ module _ {T S : Type 0} (rules : Rules T S) where
           stands = λ one. absurd (one refl);
           behind = λ one. absurd (one refl);
           between = λ none. stands_in old new newer (Unit {0}) w.input r.taken.bytes r.taken.taken k w.stop;
+          one_due = λ none. takes_one old new newer w.input Q t (one t.bytes t.has) w.stop;
         };
       }
 
@@ -312,7 +323,7 @@ module _ {T S : Type 0} (rules : Rules T S) where
         };
       }
   answer_read ends old new newer passed refused r told state writes Write d some = absurd d
-  answer_read ends old new newer passed refused r told state writes Memory d some = memory_between ends old new newer passed refused r told state writes (λ none. some none refl) (λ _. Unit {0}) d
+  answer_read ends old new newer passed refused r told state writes Memory d some = memory_between ends old new newer passed refused r told state writes (λ none. some none refl) HoldsOne (λ b one. one) d
 
   -- Memory, if the judge was told a beginning of the questions about one more message
   memory_asking : {E : Type 0} (ends : E → Bool) (old new newer : Sight T S) (passed refused : ℕ) → Reached rules old new passed refused
@@ -345,10 +356,11 @@ module _ {T S : Type 0} (rules : Rules T S) where
           stands = λ one. w.stop;
           behind = λ one. w.behind;
           between = λ none. cc;
+          one_due = λ none. cc;
         };
       }
 
-  -- Write, in the text of one more message
+  -- Write, in the encoding of one more message
   write_within : {E : Type 0} (ends : E → Bool) (old new newer : Sight T S) (passed refused : ℕ) → Reached rules old new passed refused
       → (v : Tree) (t : Moves new.left newer.left new.offset newer.offset (λ (b : List ℕ). Reads b rules.limits.nesting v)) → HalfWritten (item_rules_of rules) t.bytes v (item_sight_of new) (item_sight_of newer)
       → newer.state ≡ new.state → Answers ends rules old newer (Err Write)
@@ -383,7 +395,7 @@ module _ {T S : Type 0} (rules : Rules T S) where
   answer_item ends old new newer passed refused r v t fault.Write h state = write_within ends old new newer passed refused r v t h state
   answer_item ends old new newer passed refused r v t fault.Memory (writes, inl told) state =
       memory_between ends old new newer passed refused r told state writes (λ none. nothing_read rules.limits.nesting new.left newer.left new.offset newer.offset v none t)
-      (λ (b : List ℕ). Reads b rules.limits.nesting v) t
+      (λ (b : List ℕ). Reads b rules.limits.nesting v) (λ b read. read_one b rules.limits.nesting v read) t
   answer_item ends old new newer passed refused r v t fault.Memory (writes, inr half) state = memory_asking ends old new newer passed refused r v t half state writes
 
   -- Memory, if the item went through and the report refused its entry
@@ -416,11 +428,12 @@ module _ {T S : Type 0} (rules : Rules T S) where
           stands = λ one. w.stop;
           behind = λ one. w.behind;
           between = λ none. cc;
+          one_due = λ none. cc;
         };
       }
 
--- where nothing is left, the fault is an end at once, a failure of the device, or an offset that
--- grows too large
+-- if nothing is left, the fault is an end at once, a failure of the reader, or an offset that grows
+-- too large
 pub nothing_fails : {E : Type 0} (ends : E → Bool) (k p p' : ℕ) (f : Error E) → FailsAt ends [] p p' (λ stop b f. Damage stop b k f) f → IsNoMemory f
     → p + 4096 < 2 ^ 64 → ((at_end ends f ≡ true) × (p' ≡ p)) ⊎ ((x : E) × (f ≡ de.Io x) × (ends x ≡ false))
 nothing_fails {E = E} ends k p p' (de.Io x) d m small = either (ends x) refl
@@ -460,7 +473,7 @@ pub same_entry : (n m o p : ℕ) (v : Verdict) → n ≡ m → o ≡ p → (let 
 unfolding entry_at
 same_entry n m o p v a b = rw (a, b) refl
 
--- where no byte is left at the call, none was taken
+-- if no byte is left at the call, none was taken
 pub nothing_taken : {T S : Type 0} (rules : Rules T S) (old new : Sight T S) (n : ℕ) {m : ℕ} → Reached rules old new n m → old.left ≡ Some [] → (new.left ≡ Some []) × (new.offset ≡ old.offset)
 nothing_taken rules old new n r e = go new.left r.taken.bytes (subst (λ (l : Option (List ℕ)). Consumes l new.left r.taken.bytes) e r.taken.taken) r.taken.grown
   where
@@ -474,7 +487,7 @@ nothing_taken rules old new n r e = go new.left r.taken.bytes (subst (λ (l : Op
         empty [] e = refl
         empty (x ∷ xs) e = absurd (omega arith)
 
--- neither an end at once nor a failure of the device is left
+-- neither an end at once nor a failure of the reader is left
 pub nothing_answer : {E : Type 0} {X : Type 0} (ends : E → Bool) (p p' : ℕ) (f : Error E) (failed failed' : ℕ) → ((at_end ends f ≡ true) × (p' ≡ p)) ⊎ ((x : E) × (f ≡ de.Io x) × (ends x ≡ false))
     → (at_end ends f ≡ true → p' ≡ p → ⊥) → failed' ≡ fault_failures ends f failed → failed' ≡ failed → X
 nothing_answer ends p p' f failed failed' (inl w) not told same = absurd (not w.0 w.1)
@@ -483,7 +496,7 @@ nothing_answer ends p p' f failed failed' (inr (x, is, e)) not told same =
     let one : cond (ends x) failed (failed + 1) ≡ failed + 1 = ap (λ b. cond b failed (failed + 1)) e in
     absurd (omega arith)
 
--- what is told of an answer
+-- what is told of a result
 pub if_ok : {A E : Type 0} {P Q : A → Type 0} (r : Result A E) → ((x : A) → P x → Q x) → IfOk r P → IfOk r Q
 if_ok (Ok x) f p = f x p
 if_ok (Err e) f p = p
@@ -492,3 +505,18 @@ if_ok (Err e) f p = p
 abbrev pub read_of : (terms : Terms) (l l' : Option (List ℕ)) (p p' : ℕ) (v : Tree) (exact : Bool) → Moves l l' p p' (λ (b : List ℕ). IsTaken terms b v exact)
     → Moves l l' p p' (λ (b : List ℕ). Reads b (nesting_of terms.limits) v)
 read_of terms l l' p p' v exact t = record { bytes = t.bytes; has = t.has.0; taken = t.taken; grown = t.grown }
+
+-- offsets grow too long only near what they can be
+pub read_far : {E : Type 0} (ends : E → Bool) (n : ℕ) (l l' : Option (List ℕ)) (at at' : ℕ) (f : GateFault E) → IsReadFault ends n l l' at at' f → IfTooLong (IsFar at') f
+read_far ends n l l' at at' (Decode (de.Io e)) r = tt
+read_far ends n l l' at at' (Decode (de.Syntax p)) r = tt
+read_far ends n l l' at at' (Decode (de.Semantic o k)) r = tt
+read_far ends n l l' at at' (Decode de.RecursionLimitExceeded) r = tt
+read_far ends n l l' at at' (Decode de.Memory) r = tt
+read_far ends n l l' at at' (Decode de.TooLong) r = r.3.has
+read_far ends n l l' at at' Write r = tt
+read_far ends n l l' at at' Memory r = tt
+
+pub stopped_not_long : (E P : Type 0) (fault : ItemFault) → IfTooLong P (stopped_by {E = E} fault)
+stopped_not_long E P fault.Write = tt
+stopped_not_long E P fault.Memory = tt

@@ -140,7 +140,7 @@ module _ {T S : Type 0} (rules : Rules T S) where
       ∙ sym (folded_append rules.decided old (questions_of rules.allows rules.aad ss) (asked_of rules.allows rules.aad s.finding))
       ∙ ap (folded_over rules.decided old) (sym (questions_then ss s))
 
-  -- where the steps so far and one more item have come
+  -- how far the steps so far and one more item have come
   pub record Further (old newer : Sight T S) (done : List Step) (s : Step) : Type 0 where
     pub taken : Moves old.left newer.left old.offset newer.offset (λ (b : List ℕ). SequenceWithin rules.limits.nesting old.offset b (map (λ s. s.item) (done ++ s ∷ [])) [])
     pub steps : Steps rules.limits rules.allows rules.aad 1 (done ++ s ∷ [])

@@ -48,7 +48,7 @@ judged_asked l t m aad ((u, e, h), p, s) = has_questions l u m aad h
 pub message_tagged : (l : Bounds) (u : Tree) (m : MessageFields) → HasMessage l u m → tagged_tree m ≢ None
 message_tagged l u m h = map_some (λ t. tag (tag_of m) t) (message_tree m) (has_tree l u m h)
 
--- and its text is the one that is written straight from its fields
+-- and its encoding is the one that is written straight from its fields
 tree_is_put : (l : Bounds) (u : Tree) (m : MessageFields) → HasMessage l u m → message_tree m ≡ Some (message_put m)
 tree_is_put l u (sign1 m) h = sign1_is_put l.nesting m u l.layers h
 tree_is_put l u (mac0 m) h = mac0_is_put l.nesting m u l.layers h

@@ -4,6 +4,7 @@ use Rattle.std.specs.Io.KnownBytes.{Appends}
 use Rattle.ciborium_ll.specs.Reading.{Moves}
 use Rattle.ciborium_value.specs.declared.value.Value.{Value}
 use Rattle.ciborium_value.specs.View.{view}
+use Rattle.ciborium.specs.Front.{HoldsOne}
 use Rattle.ciborium.specs.Damage.{end, deep, syntax, semantic, Damage}
 use Rattle.ciborium.specs.Reading.{IfKnown, IfEnd, IsNoMemory, SomeTaken}
 use Rattle.ciborium.specs.declared.de.Error.{Error}
@@ -45,7 +46,7 @@ pub record Made {T S : Type 0} (rules : Rules T S) (old new : Sight T S)
   pub written : Appends old.written new.written (output_of rules.allows rules.aad ss)
 
 -- the fault of the bytes `more`, if no item of at most n levels begins; `stop` is the place after
--- them. A failure of the device says nothing of the bytes, and being out of memory is no such
+-- them. A failure of the reader says nothing of the bytes, and being out of memory is no such
 -- fault.
 abbrev pub IsFaultOf : {E : Type 0} → (E → Bool) → ℕ → ℕ → List ℕ → Error E → Type 0
 IsFaultOf ends n stop more (de.Io e) = IsTrue (ends e) → Damage stop more n end × (more ≢ [])
@@ -65,7 +66,7 @@ IsNext terms left left' at at' (Some r) =
 
 -- what reading the next item ends with, at the offset at' then: a fault of the bytes that were to
 -- come, if they are known, or being out of memory. Some of these bytes were taken, or none, but
--- at an end some were.
+-- at an end some were, and out of memory none after the item that was due.
 abbrev pub IsReadFault : {E : Type 0} → (E → Bool) → ℕ → Option (List ℕ) → Option (List ℕ) → ℕ → ℕ
     → GateFault E → Type 0
 IsReadFault ends n left left' at at' (Decode e) =
@@ -74,7 +75,7 @@ IsReadFault ends n left left' at at' (Decode e) =
     × IfKnown left (λ b. IfEnd ends (at < at') e)
     × SomeTaken left left' at at' e
 IsReadFault ends n left left' at at' Write = ⊥
-IsReadFault ends n left left' at at' Memory = Moves left left' at at' (λ _. Unit {0})
+IsReadFault ends n left left' at at' Memory = Moves left left' at at' HoldsOne
 
 -- the gate is in `more`, the last bytes of the input: some of them were taken, none or all as it
 -- may be, and the offset is as far before the end of the input as the rest of them is long. If P,
@@ -86,6 +87,12 @@ pub record StandsIn {T S : Type 0} (old new : Sight T S) (input more : List ℕ)
   pub whole : more ≡ taken ++ rest
   pub stands : new.offset + length rest ≡ old.offset + length input
   pub behind : P → IfKnown old.left (λ b. new.left ≡ Some rest)
+
+-- of the bytes `more`, the last ones of the input, no item ends before the last of those that were
+-- taken
+abbrev pub TakesOne : {T S : Type 0} → Sight T S → Sight T S → List ℕ → List ℕ → Type 0
+TakesOne old new input more = (taken rest : List ℕ) → more ≡ taken ++ rest
+    → new.offset + length rest ≡ old.offset + length input → HoldsOne taken
 
 -- a fault that isn't the reader's: it neither failed nor came to an end
 abbrev pub IsNoReaderFault : {E : Type 0} → Error E → Type 0
@@ -139,10 +146,10 @@ pub record IfWriteFailed {T S : Type 0} (rules : Rules T S) (old new : Sight T S
   pub behind : IfKnown new.left (λ b. b ≡ more)
 
 -- Memory: `done` were made; of the questions of the next step a beginning was asked. If all were
--- asked it was done whole but for its entry, so its text was written if it passes; if not, nothing
--- of it was written. The offset is the one after its item then, and `more` is to come. If there is
--- no such step, an item was due: it was being read, or looked at, and some of the bytes `more` were
--- taken, the rest is left.
+-- asked it was done whole but for its entry, so its encoding was written if it passes; if not,
+-- nothing of it was written. The offset is the one after its item then, and `more` is to come. If
+-- there is no such step, an item was due: it was being read, or looked at, and some of the bytes
+-- `more` were taken, but none after that item; the rest is left.
 pub record IfMemoryRefused {T S : Type 0} (rules : Rules T S) (old new : Sight T S)
     (input : List ℕ) : Type 0 where
   pub done : List Step
@@ -163,6 +170,7 @@ pub record IfMemoryRefused {T S : Type 0} (rules : Rules T S) (old new : Sight T
   pub stands : last ≢ [] → new.offset + length more ≡ old.offset + length input
   pub behind : last ≢ [] → IfKnown new.left (λ b. b ≡ more)
   pub between : last ≡ [] → StandsIn old new input more (Unit {0})
+  pub one_due : last ≡ [] → TakesOne old new input more
 
 abbrev pub Outcome : {T S E : Type 0} → (E → Bool) → Rules T S → Sight T S → Sight T S → List ℕ
     → Result Counts (GateFault E) → Type 0
@@ -195,3 +203,14 @@ writer_failures (Ok counts) = 0
 writer_failures (Err (Decode e)) = 0
 writer_failures (Err Write) = 1
 writer_failures (Err Memory) = 0
+
+-- P holds if offsets grow too long
+abbrev pub IfTooLong : {E : Type 0} → Type 0 → GateFault E → Type 0
+IfTooLong P (Decode (de.Io e)) = Unit {0}
+IfTooLong P (Decode (de.Syntax p)) = Unit {0}
+IfTooLong P (Decode (de.Semantic o k)) = Unit {0}
+IfTooLong P (Decode de.RecursionLimitExceeded) = Unit {0}
+IfTooLong P (Decode de.Memory) = Unit {0}
+IfTooLong P (Decode de.TooLong) = P
+IfTooLong P Write = Unit {0}
+IfTooLong P Memory = Unit {0}

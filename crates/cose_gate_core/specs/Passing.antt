@@ -78,14 +78,15 @@ pub record HalfWritten {T : Type 0} (rules : ItemRules T) (bytes : List ℕ) (t 
   pub front_is : IsFront front (written_of rules.allows rules.aad (judged message))
   pub writes : Appends old.written new.written front
 
--- the item was stopped: in its text, or before that for being out of memory, with nothing written
+-- the item was stopped: while it was written, or before that for being out of memory, with nothing
+-- written
 abbrev pub ItemFails : {T : Type 0} → ItemRules T → List ℕ → Tree → ItemSight T → ItemSight T
     → ItemFault → Type 0
 ItemFails rules bytes t old new fault.Write = HalfWritten rules bytes t old new
 ItemFails rules bytes t old new fault.Memory =
     (new.written ≡ old.written) × ((new.told ≡ old.told) ⊎ Half rules bytes t old new)
 
--- what a fault of writing a text leaves: a beginning of it. Writing takes no memory.
+-- what a fault of writing leaves: a beginning of the encoding. Writing takes no memory.
 abbrev pub IsWriteFault : Option (List ℕ) → Option (List ℕ) → List ℕ → ItemFault → Type 0
 IsWriteFault written written' text fault.Write = AppendsFront written written' text
 IsWriteFault written written' text fault.Memory = ⊥

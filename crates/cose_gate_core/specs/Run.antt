@@ -19,7 +19,7 @@ pub record Step : Type 0 where
   pub finding : Finding
   pub entry : Entry
 
--- the answers to a message's questions: passed if there is no no, else judged by the first
+-- the judge's answers to a message's questions: passed if there is no no, else judged by the first
 abbrev pub judged_by : Option ℕ → Verdict
 judged_by None = Passed
 judged_by (Some n) = Refused (refusal.Judged n)
@@ -28,8 +28,8 @@ abbrev pub has_passed : Verdict → Bool
 has_passed Passed = true
 has_passed (Refused r) = false
 
--- which verdict stands for what is found; of a shape's fault it is open which of the value's faults
--- is named
+-- which verdict stands for what is found; of a shape's fault it isn't said which of the value's
+-- faults is named
 abbrev pub IsVerdict : Bounds → (Question → Bool) → List ℕ → Tree → Finding → Verdict → Type 0
 IsVerdict limits allows aad t (judged m) v = v ≡ judged_by (first_no allows (questions m aad))
 IsVerdict limits allows aad t (barred not_tagged) v = v ≡ Refused refusal.NotTagged

@@ -19,7 +19,7 @@ limits_by chosen strict = record {
 abbrev pub limits_of : Terms → Bounds
 limits_of terms = limits_by terms.limits terms.strict
 
--- an item was read of these bytes, and if that is asked it is told whether they are the one
+-- an item was read from these bytes, and if that is asked it is told whether they are the one
 -- encoding of its value
 abbrev pub IsTaken : Terms → List ℕ → Tree → Bool → Type 0
 IsTaken terms b t exact =

@@ -2,13 +2,15 @@
 ghost use Rattle.std.specs.Prelude.{◌≡◌, ◌≢◌, ◌+◌, ◌<◌, ◌^◌, [], Some, None, Ok, Err};
 ghost use Rattle.std.specs.Prelude.{IsOk, IfOk, IfErr, OnOk, true, not, if◌then◌else◌};
 ghost use Rattle.ciborium.specs.Damage.{Damage};
+ghost use Rattle.ciborium.specs.Front.{HoldsOne};
 ghost use Rattle.ciborium.specs.Reading.{NamesFault, Steady, TakesSome, IsNoMemory, IfEnd};
+ghost use Rattle.ciborium.specs.Reading.{IfMemory, IsFar};
 ghost use Rattle.ciborium_ll.specs.Seen.{Takes};
 ghost use Rattle.ciborium_ll.specs.Views.{left_of, offset_of, waiting_of, reader_of, seen};
 ghost use Rattle.ciborium_value.specs.View.{view};
 ghost use Rattle.coset_labels.specs.Limits.{nesting_of};
 ghost use Rattle.cose_gate_core.specs.Calls.{rules_by, sight_of};
-ghost use Rattle.cose_gate_core.specs.Outcome.{Answers, IsNext, IsReadFault};
+ghost use Rattle.cose_gate_core.specs.Outcome.{Answers, IsNext, IsReadFault, IfTooLong};
 ghost use Rattle.cose_gate_core.specs.Outcome.{reader_failures, writer_failures};
 ghost use Rattle.cose_gate_core.specs.Passing.{at_end};
 ghost use Rattle.cose_gate_core.specs.Run.{has_passed};
@@ -79,7 +81,7 @@ impl<E> From<ItemFault> for GateFault<E> {
     }
 }
 
-/// The report got no memory.
+/// The report is out of memory.
 impl<E> From<AllocError> for GateFault<E> {
     ghost use Rattle.std.specs.Prelude.{◌≡◌};
     ghost use Rattle.cose_gate_core.specs.declared.gating.GateFault.TheVariants as fault;
@@ -119,6 +121,8 @@ fn read_item<R: Read>(
     ensures ended { left_of R.left decoder.old ≡ Some []
         → IfErr result (IfEnd R.ends (left_of R.left decoder.new ≡ Some [])) }
     ensures stops { IfErr result (TakesSome (seen R.Read decoder.old) (seen R.Read decoder.new)) }
+    ensures one { IfErr result (IfMemory (Takes (seen R.Read decoder.old)
+        (seen R.Read decoder.new) HoldsOne)) }
     ensures steady { Steady R.ends result (seen R.Read decoder.old) (seen R.Read decoder.new) }
     ensures fits { offset_of decoder.new < 2 ^ 64 }
 {
@@ -224,7 +228,8 @@ fn entry_of(counts: Counts, offset: usize, verdict: Verdict) -> Entry
 /// it, and the reader is after that message. `Memory` if out of memory: whole encodings were
 /// written, and of the questions about the item at hand a beginning was asked; once all are asked,
 /// its encoding is written if it passes, which takes no memory, and only its entry can be missing.
-/// If there is no such item, some of the bytes after the last one were taken, or none.
+/// If there is no such item, some of the bytes after the last one were taken, or none, but none
+/// after the item that was due.
 pub fn gate_by<R: Read, W: Write, P: Report, J: Judge>(
     alloc: Global,
     terms: Terms,
@@ -244,6 +249,7 @@ pub fn gate_by<R: Read, W: Write, P: Report, J: Judge>(
         → offset_of decoder.old + 4096 < 2 ^ 64 → IsOk result }
     ensures no_memory_of_nothing { left_of R.left decoder.old ≡ Some []
         → result ≢ Err Memory }
+    ensures far { IfErr result (IfTooLong (IsFar (offset_of decoder.new))) }
     ensures reader { R.failed (reader_of decoder.new)
         ≡ R.failed (reader_of decoder.old) + reader_failures R.ends result }
     ensures writer { W.failed out.new ≡ W.failed out.old + writer_failures result }

@@ -12,7 +12,7 @@ pub fn one_finding()
         → Finds limits b t g → f ≡ g }
 {}
 
-/// A message that was read has all its questions, and a text to be written.
+/// A message that was read has all its questions, and an encoding to be written.
 pub fn judged_can_be_written()
     ensures questions { (limits : Bounds) (t : Tree) (m : MessageFields) (aad : List ℕ)
         → IsJudged limits t m → all_questions m aad ≡ Some (questions m aad) }

@@ -37,7 +37,7 @@ impl<'a> HmacJudge<'a> {
     }
 
     /// A judge by the keys of this set that sorts them by their ids, and hashes each once, for many
-    /// messages. If memory for that is refused, it is what `new` gives.
+    /// messages. If it is out of memory for that, it is what `new` gives.
     pub fn prepared(alloc: Global, keys: &'a CoseKeySet) -> HmacJudge<'a>
         ensures { keys_of result ≡ key_set_view keys.now }
     {
@@ -47,7 +47,7 @@ impl<'a> HmacJudge<'a> {
         }
     }
 
-    /// The tag of a message, of no text yet.
+    /// The tag of a message, fed nothing yet.
     fn fresh_mac(&self, about: &About) -> Option<HmacSha256>
         ensures { Makes result (spec.secret_about (keys_of self.now) (subject_of about.now)) [] }
     {

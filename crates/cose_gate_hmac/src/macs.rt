@@ -1,4 +1,4 @@
-//! Tags of no text yet.
+//! Tags that were fed nothing yet.
 ghost use Rattle.std.specs.Prelude.{[], option_copied};
 ghost use Rattle.cose_gate_core.specs.HeaderView.{header_view, protected_view};
 ghost use Rattle.cose_gate_core.specs.Lent.{subject_of};
@@ -13,7 +13,7 @@ use crate::verdict::may_judge;
 use cose_gate_core::{About, Header, MessageKind, ProtectedHeader};
 use cose_hmac::HmacSha256;
 
-/// The tag under a secret, of no text yet.
+/// The tag under a secret, fed nothing yet.
 pub(crate) fn mac_under(secret: Option<&[u8]>) -> Option<HmacSha256>
     ensures { Makes result (option_copied secret.entry) [] }
 {
@@ -23,7 +23,7 @@ pub(crate) fn mac_under(secret: Option<&[u8]>) -> Option<HmacSha256>
     }
 }
 
-/// The tag of a COSE_Mac0 with these headers, of no text yet.
+/// The tag of a COSE_Mac0 with these headers, fed nothing yet.
 fn mac_for(
     index: &KeyIndex,
     protected: &ProtectedHeader,
@@ -41,7 +41,7 @@ fn mac_for(
     }
 }
 
-/// The tag of a message, of no text yet; none if it is no COSE_Mac0, or no key fits.
+/// The tag of a message, fed nothing yet; none if it is no COSE_Mac0, or no key fits.
 pub(crate) fn mac_about(index: &KeyIndex, about: &About) -> Option<HmacSha256>
     ensures { Makes result (spec.secret_about (key_set_view index.now.set.now)
         (subject_of about.now)) [] }

@@ -114,8 +114,8 @@ module _ (l : Bounds) (allows : Question → Bool) (aad : List ℕ) where
   asked_through f = cond (passes allows aad f) (asked_of allows aad f) []
 
 module _ (l k : Bounds) (allows : Question → Bool) (aad : List ℕ) where
-  -- what becomes of a step: nothing is written of it, or the text of a message that is found in
-  -- that text again
+  -- what becomes of a step: nothing is written of it, or the encoding of a message that is found in
+  -- that encoding again
   data Becomes (f : Finding) : Type 0 where
     nothing : passes allows aad f ≡ false → passed_of allows aad f ≡ [] → Becomes f
     message : (m : MessageFields) (t : Tree) → f ≡ judged m → passes allows aad (judged m) ≡ true → message_text m ≡ enc t → Reads (enc t) k.nesting t → Finds k (enc t) t (judged m) → Becomes f
@@ -135,7 +135,7 @@ module _ (l k : Bounds) (allows : Question → Bool) (aad : List ℕ) where
     becomes b t (barred q) h r low few = nothing refl refl
     becomes b t (excluded m q) h r low few = nothing refl refl
 
-    -- the step over the text of a message that passed
+    -- the step over the encoding of a message that passed
     abbrev again : MessageFields → Tree → Step
     again m t = record { item = item_at 0 (enc t) t; finding = judged m; entry = record { number = 0; offset = 0; verdict = Passed } }
 

@@ -57,7 +57,7 @@ module _ (limits : Bounds) (allows : Question → Bool) (aad : List ℕ) where
   one_step : (s r : Step) → s.item ≡ r.item → Sound s → Sound r → Equal s r
   one_step s r e a b = same_step s r (ap (λ (z : Item). z.value) e) a b (subst (λ (z : Item). Finds limits z.bytes z.value r.finding) (sym e) b.1)
 
-  -- where the further rule doesn't hang on the bytes, what is found doesn't
+  -- if the further rule doesn't hang on the bytes, what is found doesn't
   found_of : IgnoresSpelling limits → (b c : List ℕ) (t : Tree) (f : Finding) → Finds limits b t f → Finds limits c t f
   found_of i b c t (judged m) h = (h.0, i c b m ∙ h.1)
   found_of i b c t (barred r) h = h
@@ -91,8 +91,8 @@ module _ (limits : Bounds) (allows : Question → Bool) (aad : List ℕ) where
       let tail : map (λ s. s.item.value) ss ≡ map (λ s. s.item.value) rs = cc in
       alike_more s r ss rs (one_value i s r head a.0 b.0) (alike i ss rs tail a.1 b.1)
 
-  -- of two lists of items over one input, the first is a beginning where the second goes as far as
-  -- it can
+  -- of two lists of items over one input, the first is a beginning if the second goes as far as it
+  -- can
   pub record Parted (ss rs : List Step) : Type 0 where
     pub front : List Step
     pub behind : List Step
@@ -179,7 +179,7 @@ module _ (limits : Bounds) (allows : Question → Bool) (aad : List ℕ) where
       let i = items_once_within limits.nesting at b _ _ rest more p.items q.items in
       same_items ss rs i.0 1 at x.all y.all x.stand y.stand
 
-  -- where nothing is left after a, the items of b follow
+  -- if nothing is left after a, the items of b follow
   module _ (at : ℕ) (a b : List ℕ) (ss rs : List Step) (rest : List ℕ) (p : Run limits allows aad at a ss []) (q : Run limits allows aad at b rs rest) where
     here : Told limits allows aad 1 at a ss []
     here = run_told limits allows aad at a ss [] p

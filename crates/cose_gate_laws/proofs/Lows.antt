@@ -1,4 +1,4 @@
--- What is read of bytes holds bytes: each byte string in it is below 256 at each place, and where
+-- What is read from bytes holds bytes: each byte string in it is below 256 at each place, and if
 -- the bytes are few it fits heads.
 use Rattle.std.proofs.Common.{◌≡◌, ℕ, ◌^◌, ◌<◌, ◌≤◌, inl, inr, List, [], ◌∷◌, ◌++◌, length, take, Bool, true, false, cond, Option, Some, None, option_map, option_and_then, refl, sym, ap, subst, ◌∙◌, arith, append_assoc}
 use Rattle.std.specs.Prelude.{ℤ, All, nat_eq, nat_lt, nat_le, ◌||◌, ◌&&◌, pos, negsuc}

@@ -278,7 +278,7 @@ tagged_small n h i (tag m x) a one b f = other_tag n h i (tag m x) a b
 tagged_small n h i (simple x) a one b f = other_tag n h i (simple x) a b
 tagged_small n h i (float x) a one b f = other_tag n h i (float x) a b
 
--- where the folding of t is o
+-- the folding of t is o
 folded_tag : (n h i : ℕ) (t : Tree) (o : Option Tree) → meaning t ≡ o → length (shortest 6 n) ≤ h → 1 ≤ h → IsSmall o i → Low t → IsShortTag n t → IsSmall (option_and_then (tagged n) o) (h + i)
 folded_tag n h i t None e a one b low s = tt
 folded_tag n h i t (Some u) e a one b low s =

@@ -1,4 +1,4 @@
--- The steps of a run, wherever they stand.
+-- The steps of a run, wherever they are.
 use Rattle.std.proofs.Common.{◌≡◌, ℕ, ◌+◌, List, [], ◌∷◌, ◌++◌, length, map, Bool, refl, sym, ap, ◌∙◌, arith, append_assoc, length-append}
 use Rattle.ciborium.specs.Front.{Reads}
 use Rattle.ciborium.specs.Items.{SequenceWithin, IsUnreadableWithin, item_at}
@@ -53,7 +53,7 @@ placed_writes allows aad n at (s ∷ ss) = ap (λ z. written_of allows aad s.fin
 same_entry : (e : Entry) (n at : ℕ) (v : Verdict) → n ≡ e.number → at ≡ e.offset → v ≡ e.verdict → record { number = n; offset = at; verdict = v } ≡ e
 same_entry e n at v a b c = λ i. record { number = a i; offset = b i; verdict = c i }
 
--- steps that are where they stand: numbered from n on, from this offset on
+-- steps that are in their places: numbered from n on, from this offset on
 abbrev pub Stand : ℕ → ℕ → List Step → Type 0
 Stand n at [] = Unit {0}
 Stand n at (s ∷ ss) = (s.entry.number ≡ n) × (s.entry.offset ≡ at) × Stand (n + 1) (at + length s.item.bytes) ss
@@ -74,7 +74,7 @@ stand_same n at (s ∷ ss) h =
     ∙ ap (λ z. s.entry ∷ z) (stand_same (n + 1) (at + length s.item.bytes) ss h.2)
 
 module _ (limits : Bounds) (allows : Question → Bool) (aad : List ℕ) where
-  -- what is true of a step wherever it stands
+  -- what is true of a step wherever it is
   abbrev pub IsStep : Step → Type 0
   IsStep s = Reads s.item.bytes limits.nesting s.item.value × Finds limits s.item.bytes s.item.value s.finding × IsVerdict limits allows aad s.item.value s.finding s.entry.verdict
 

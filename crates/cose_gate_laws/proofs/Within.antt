@@ -144,7 +144,7 @@ module _ (limits : Bounds) (allows : Question → Bool) (aad : List ℕ) where
       let h = place_behind (at + length s.item.bytes) q.2.0 cs c more q.2.2 in
       omega arith
 
-  -- where no readable item begins in what was left, the run has no more steps
+  -- if no readable item begins in what was left, the run has no more steps
   pub unreadable_ends : (place : ℕ) (more rest : List ℕ) (ss : List Step) → IsUnreadableWithin limits.nesting more → SequenceWithin limits.nesting place more (map (λ s. s.item) ss) rest → (ss ≡ []) × (rest ≡ more)
   unreadable_ends place more rest [] u q = (refl, sym q)
   unreadable_ends place more rest (s ∷ ss) u q = absurd (u s.item.value q.2.0 (record { spelling = s.item.bytes; whole = q.2.1; reads = q.1 }))

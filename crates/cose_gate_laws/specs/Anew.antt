@@ -18,7 +18,7 @@ abbrev pub entry_behind : ℕ → ℕ → Entry → Entry
 entry_behind items bytes e =
     record { number = e.number + items; offset = e.offset + bytes; verdict = e.verdict }
 
--- the same verdict; of a shape's fault it is open which of the value's faults is named
+-- the same verdict; of a shape's fault it isn't said which of the value's faults is named
 abbrev pub SameVerdict : Verdict → Verdict → Type 0
 SameVerdict v w =
     (v ≡ w)
@@ -49,7 +49,7 @@ pub record EntriesBegin (es fs : List Entry) : Type 0 where
   pub same : SameEntries es front
 
 -- the entries of these steps: each has its item's number and offset, and a verdict that stands for
--- what is found of it; of a shape's fault it is open which of the value's faults is named
+-- what is found of it; of a shape's fault it isn't said which of the value's faults is named
 abbrev pub AreEntries : Bounds → (Question → Bool) → List ℕ → List Step → List Entry → Type 0
 AreEntries limits allows aad [] [] = Unit {0}
 AreEntries limits allows aad [] (e ∷ es) = ⊥

@@ -1,8 +1,8 @@
 -- Items whose canonical encoding is no longer than they are (RFC 8949, sections 3.2 and 4.1): in
 -- them no open array or map has more than 255 entries, no open string 2^32 bytes or more, and no
--- bignum is encoded in 5 or 6 bytes. An array of 256 entries has a length of three bytes, if an
--- open one has its head and a break; a bignum of 5 or 6 bytes is an integer of nine, and it is
--- encoded in seven or eight.
+-- bignum is encoded in 5 or 6 bytes. An array of 256 entries has a head of three bytes, while an
+-- open one needs two, its head and its break; a bignum of 5 or 6 bytes is an integer of nine, and
+-- it is encoded in seven or eight.
 use Rattle.std.specs.Prelude.{◌≡◌, ◌≢◌, ℕ, ◌^◌, ◌<◌, ◌≤◌, ◌⊎◌, List, [], ◌∷◌, ◌++◌, length, flat_map, Option, Some, None, Bool, true, if◌then◌else◌}
 use Rattle.std.specs.Str.{IsUtf8}
 use Rattle.ciborium_ll.specs.declared.hdr.Header.{Header}

@@ -10,7 +10,7 @@ ghost use Rattle.cose_gate_core.specs.Run.{Step, Course, Run, entries_of};
 ghost use Rattle.cose_gate_laws.specs.Anew.{SameEntries};
 
 /// Of every item exactly one thing is found: of a value whose numbers, texts and lengths a head can
-/// say, and so of what is read of bytes.
+/// say, and so of what is read from bytes.
 pub fn every_item_found()
     ensures fits { (limits : Bounds) (b : List ℕ) (t : Tree) → Fits t
         → (f : Finding) × Finds limits b t f × ((g : Finding) → Finds limits b t g → f ≡ g) }
@@ -27,8 +27,8 @@ pub fn shape_holds_no_memory()
 {}
 
 /// Every input has a run, whatever the judge. All its runs say the same of each item, but that of a
-/// `Shape` it is open which of the value's faults it names; that they ask and write the same is the
-/// law `one_run`. What was gone through at a fault can be gone on with, to a run.
+/// `Shape` it isn't said which of the value's faults it names; that they ask and write the same is
+/// the law `one_run`. What was gone through at a fault can be gone on with, to a run.
 pub fn every_input_run()
     ensures there { (limits : Bounds) (allows : Question → Bool) (aad : List ℕ) (at : ℕ)
         (b : List ℕ) → All (λ x. x < 256) b → (ss : List Step) × (rest : List ℕ)

@@ -7,7 +7,7 @@ ghost use Rattle.cose_gate_laws.specs.Anew.{bytes_of, entry_behind, IgnoresSpell
 ghost use Rattle.cose_gate_laws.specs.Runs.{BeginsRun, JoinsRuns, LeavesOut, SayTheSame};
 
 /// What was gone through at a fault is a beginning of the run: its items, its questions, its output
-/// and its entries. Of an entry's `Shape` it is open which of the value's faults it names.
+/// and its entries. Of an entry's `Shape` it isn't said which of the value's faults it names.
 pub fn course_begins_run()
     ensures { (limits : Bounds) (allows : Question → Bool) (aad : List ℕ) (at : ℕ)
         (b : List ℕ) (ss rs : List Step) (more rest : List ℕ)
@@ -52,7 +52,7 @@ pub fn refused_taken_out()
 /// Inputs with the same trees in the same order have the same questions, the same output and the
 /// same verdicts, wherever their items are and however they are encoded, and whatever is left after
 /// the items. What else bars a message must not depend on how its item is encoded; of the usual
-/// limits that holds. Of a `Shape` it is open which of the value's faults it names.
+/// limits that holds. Of a `Shape` it isn't said which of the value's faults it names.
 pub fn same_trees()
     ensures usual { IgnoresSpelling usual }
     ensures same { (limits : Bounds) (allows : Question → Bool) (aad : List ℕ) (at to : ℕ)

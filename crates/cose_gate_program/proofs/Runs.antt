@@ -1,4 +1,4 @@
--- The program's answers, from the gate's.
+-- The program's results, from the gate's.
 use Rattle.std.proofs.Common.{◌≡◌, ◌≢◌, ℕ, ◌+◌, ◌<◌, ◌≤◌, ◌⊎◌, inl, inr, List, [], ◌∷◌, ◌++◌, length, map, Option, None, Some, Bool, cond, false, true, nat_eq, refl, sym, ap, subst, ◌∙◌, arith, append-nil, append_assoc, length-append, zero-add}
 use Rattle.std.proofs.lemmas.Bool.Decides.{nat_tests}
 use Rattle.std.proofs.lemmas.Bool.{true≢false}
@@ -68,7 +68,7 @@ same_devices l l' w w' n n' f f' a b c d =
     ap (λ (z : Option (List ℕ)). devices z w n f) a ∙ ap (λ (z : Option (List ℕ)). devices l' z n f) b
     ∙ ap (λ (z : ℕ). devices l' w' z f) c ∙ ap (λ (z : ℕ). devices l' w' n' z) d
 
--- where no header waits, what is to come is what the reader has left
+-- if no header waits, what is to come is what the reader has left
 pub no_title : (l k : Option (List ℕ)) (waiting : Option Header) → k ≡ due l waiting → waiting ≡ None → k ≡ l
 no_title l k waiting is none = is ∙ ap (due l) none ∙ due_none l
 
@@ -139,7 +139,7 @@ module _ {T S : Type 0} (by : Rules T S) (old new : Sight T S) where
   steps_by b (Err gating.Write) w = w.done ++ w.last ∷ []
   steps_by b (Err gating.Memory) w = w.done ++ w.last
 
-  -- the texts of the steps, or of those before the last, if out of memory
+  -- the encodings of the steps, or of those before the last, if out of memory
   texts : (done last given : List Step) (asked : List Question)
       → ((given ≡ done) × (asked ≢ questions_of by.allows by.aad last)) ⊎ ((given ≡ done ++ last) × (asked ≡ questions_of by.allows by.aad last))
       → (output_of by.allows by.aad given ≡ output_of by.allows by.aad done)
@@ -214,7 +214,7 @@ module _ {T S : Type 0} (by : Rules T S) (old new : Sight T S) where
     all = λ whole. absurd (true≢false (sym whole));
   }
 
-  -- all were asked if the last one's text was written
+  -- all were asked if the last one's encoding was written
   asked_all : (done last given : List Step) (asked : List Question)
       → ((given ≡ done) × (asked ≢ questions_of by.allows by.aad last)) ⊎ ((given ≡ done ++ last) × (asked ≡ questions_of by.allows by.aad last))
       → output_of by.allows by.aad given ≢ output_of by.allows by.aad done
@@ -242,7 +242,7 @@ module _ {T S : Type 0} (by : Rules T S) (old new : Sight T S) where
     asked_all w.done w.last w.texts w.asked w.texts_are,
   )
 
-  -- the gate's answer over a decoder that began here; the devices are seen if they were lent from
+  -- the gate's result over a decoder that began here, by the input and the output that it was lent
   pub gated : (limits : Bounds) (before after : Devices) (n n' f f' : ℕ) (r : Result Counts (GateFault InputFault))
       → limits ≡ by.limits → old.offset ≡ 0 → before ≡ devices old.left old.written n f
       → after ≡ devices new.left new.written n' f' → Answers is_end by old new r
@@ -273,7 +273,7 @@ flushed (Some a) None c x q p = absurd p
 flushed (Some a) (Some b) None x q p = absurd q
 flushed (Some a) (Some b) (Some c) x q p = q ∙ p
 
--- a writer has failed no less often after an answer
+-- a writer has failed no less often after a result
 grows : {X F : Type 0} (answer : Result X F) (m n : ℕ) → n ≡ write_failures answer m → m ≤ n
 grows (Ok x) m n e = let h : n ≡ m = e in omega arith
 grows (Err x) m n e = let h : n ≡ m + 1 = e in omega arith
@@ -322,7 +322,7 @@ then_flushed limits allows aad old mid new b steps n flushes t = record {
 within_flushed : (old l l' : Option (List ℕ)) (more : List ℕ) → l' ≡ l → StandsWithin old l more → StandsWithin old l' more
 within_flushed old l l' more e = subst (λ (k : Option (List ℕ)). StandsWithin old k more) (sym e)
 
--- where the reader stands stays
+-- the place of the reader stays
 stands_flushed : (l l' : Option (List ℕ)) (more : List ℕ) → l' ≡ l → IfKnown l (λ b. b ≡ more) → IfKnown l' (λ b. b ≡ more)
 stands_flushed l l' more e = subst (λ (k : Option (List ℕ)). IfKnown k (λ b. b ≡ more)) (sym e)
 

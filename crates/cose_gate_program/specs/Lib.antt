@@ -1,6 +1,7 @@
 pub mod Beginning
 pub mod Faults
 pub mod InBlocks
+pub mod OutOfBlocks
 pub mod Program
 pub mod Words
 pub use Rattle.cose_gate_hmac.specs.Judge as HmacJudges

@@ -119,7 +119,7 @@ pub data Stops (limits : Bounds) (allows : Question → Bool) (aad : List ℕ) (
       → Stops limits allows aad old new steps more front
 
 -- b was gone through by these steps up to some place, and what was written is a beginning of their
--- output. A text is torn only if the writer failed.
+-- output. An encoding is torn only if the writer failed.
 pub record InPart (limits : Bounds) (allows : Question → Bool) (aad : List ℕ) (old new : Devices)
     (b : List ℕ) (steps : List Step) : Type 0 where
   pub more : List ℕ
@@ -150,7 +150,8 @@ pub record Ran (limits : Bounds) (allows : Question → Bool) (aad : List ℕ) (
   pub steps : List Step
   pub over : RanOver limits allows aad old new input steps status
 
--- the program ran. Of nothing it ends with 0 if no device failed, and with 0 or 1 only if none did.
+-- the program ran. Of nothing it ends with 0 if neither input nor output failed, and with 0 or 1
+-- only if neither did.
 pub record RanOn (limits : Bounds) (allows : Question → Bool) (aad : List ℕ) (old new : Devices)
     (status : ℕ) : Type 0 where
   pub ran : Ran limits allows aad old new status
@@ -159,8 +160,8 @@ pub record RanOn (limits : Bounds) (allows : Question → Bool) (aad : List ℕ)
   pub steady : status < 2
       → (new.read_failures ≡ old.read_failures) × (new.write_failures ≡ old.write_failures)
 
--- which questions were asked if a run stopped so: all about its steps. If out of memory, all
--- about those before the last, and some about the last; all about it if its text was written.
+-- which questions were asked if a run stopped so: all about its steps. If out of memory, all about
+-- those before the last, and some about the last; all about it if its encoding was written.
 abbrev pub IsAskedAt : {limits : Bounds} {old new : Devices} {more : List ℕ}
     (allows : Question → Bool) (aad : List ℕ) (steps : List Step) (front : List ℕ)
     → Stops limits allows aad old new steps more front → List Question → Type 0
@@ -221,7 +222,7 @@ pub record RanJudged {T : Type 0} (limits : Bounds) (hearing : Hearing T) (aad :
 
 -- how the program ends: if KEYS holds a key set, and AADHEX is hex or absent, after a run with
 -- them; else nothing was read and nothing written. KEYS is tested before AADHEX, and AADHEX before
--- what KEYS holds; memory for these may be refused before the run.
+-- what KEYS holds; it may run out of memory for these before the run.
 pub data EndsWithin (limits : Bounds) (allows : List KeyFields → Question → Bool)
     (keys aad : Option (List ℕ)) (old new : Devices) (status : ℕ) : Type 0 where
   no_file : keys ≡ None → status ≡ 3 → new ≡ old → EndsWithin limits allows keys aad old new status

@@ -73,7 +73,7 @@ impl<R: io::Read> Blocks<R> {
     }
 }
 
-/// How many bytes one read of std's reader moved: some; none at all is an end, or it failed.
+/// How many bytes one read from std's reader moved: some; none at all is an end, or it failed.
 fn read_length(answer: io::Result<usize>) -> Result<usize, InputFault>
     ensures { result ≡ read_length_of answer }
 {

@@ -1,5 +1,5 @@
-//! The input and the output with small faults: what a device's own fault holds isn't moved through
-//! each call.
+//! The input and the output with small faults: what std's own fault holds isn't moved through each
+//! call.
 ghost use Rattle.std.specs.Prelude.{◌≡◌, ◌∷◌};
 ghost use Rattle.cose_gate_program.specs.Faults.{is_end};
 
@@ -12,14 +12,14 @@ pub enum InputFault {
     /// They have ended.
     #[error("EndOfFile")]
     End,
-    /// The device failed.
+    /// The input failed.
     #[error("Failed")]
     Failed,
 }
 
 /// The bytes were not written.
 #[derive(Debug, Clone, Copy, PartialEq, Eq)]
-pub(crate) struct OutputFault;
+pub struct OutputFault;
 
 /// The input.
 #[derive(Drop)]

@@ -1,17 +1,22 @@
 //! What is told of a run, and the lines on standard error. A fault of what they are written to is
 //! ignored.
-ghost use Rattle.std.specs.Prelude.{◌≤◌};
+ghost use Rattle.std.specs.Prelude.{◌≤◌, length};
 
 use crate::beginning::NotBegun;
 use crate::devices::InputFault;
 use ciborium_ll::Write;
 use cose_gate_hmac::gate_core::{Counts, Entry, GateFault, Refusal, Report, Verdict, de};
+use itoa::write_digits;
 use std::alloc::AllocError;
 use std::fmt;
 use std::fmt::Write as _;
 
 /// How many bytes of a line are held back: a whole line, unless a number or a fault is long.
 const HELD: usize = 128;
+
+/// The bytes that the line of an item takes at most: 5 and 4 beside two numbers of at most 20, and an
+/// end of at most 23.
+const LINE: usize = 72;
 
 /// Text to a writer, in as few calls as hold it.
 #[derive(Drop)]
@@ -126,32 +131,41 @@ impl<'a, W: Write> Teller for Lines<'a, W> {
     }
 }
 
-/// The line of an item.
+/// The line of an item. It is put together from its end, so that a number is written where it stays.
 fn say_entry<W: Write>(entry: Entry, out: &mut W) {
-    let mut text = Text::new(out);
-    let number = entry.number;
-    let offset = entry.offset;
-    let _ = match entry.verdict {
-        Verdict::Passed => writeln!(text, "item {number} at {offset}: passed"),
-        Verdict::Refused(refusal) => {
-            let name = name_of(refusal);
-            writeln!(text, "item {number} at {offset}: refused: {name}")
-        }
-    };
-    let _ = text.pass_on();
+    let mut line = [0; LINE];
+    let ending = ending_of(entry.verdict).as_bytes();
+    let after = LINE - ending.len();
+    line[after..].copy_from_slice(ending);
+    let offset = write_digits(entry.offset as u64, &mut line, after);
+    line[offset - 4..offset].copy_from_slice(b" at ");
+    let number = write_digits(entry.number as u64, &mut line, offset - 4);
+    line[number - 5..number].copy_from_slice(b"item ");
+    let _ = out.write_all(&line[number - 5..]);
 }
 
-/// The name of a refusal, without what it holds.
-fn name_of(refusal: Refusal) -> &'static str {
+/// The end of the line of an item: the name of a refusal, without what it holds.
+fn ending_of(verdict: Verdict) -> &'static str
+    ensures { length result.now ≤ 23 }
+{
+    match verdict {
+        Verdict::Passed => ": passed\n",
+        Verdict::Refused(refusal) => refused_ending(refusal),
+    }
+}
+
+fn refused_ending(refusal: Refusal) -> &'static str
+    ensures { length result.now ≤ 23 }
+{
     match refusal {
-        Refusal::NotTagged => "NotTagged",
-        Refusal::OtherTag(_) => "OtherTag",
-        Refusal::Encrypted => "Encrypted",
-        Refusal::Shape(_) => "Shape",
-        Refusal::Detached => "Detached",
-        Refusal::NoSignature => "NoSignature",
-        Refusal::Judged(_) => "Judged",
-        Refusal::NotShortest => "NotShortest",
+        Refusal::NotTagged => ": refused: NotTagged\n",
+        Refusal::OtherTag(_) => ": refused: OtherTag\n",
+        Refusal::Encrypted => ": refused: Encrypted\n",
+        Refusal::Shape(_) => ": refused: Shape\n",
+        Refusal::Detached => ": refused: Detached\n",
+        Refusal::NoSignature => ": refused: NoSignature\n",
+        Refusal::Judged(_) => ": refused: Judged\n",
+        Refusal::NotShortest => ": refused: NotShortest\n",
     }
 }
 

@@ -13,7 +13,7 @@ use cose_gate_hmac::HmacJudge;
 use cose_gate_hmac::gate_core::{Counts, GateFault, Judge, Limits, Terms, gate_by};
 use std::alloc::Global;
 
-/// The gate through devices with small faults, told item by item.
+/// The gate over input and output with small faults, told item by item.
 fn gate_told<R: Read, W: Write, T: Teller, J: Judge>(
     alloc: Global,
     terms: Terms,

@@ -43,7 +43,7 @@ same_frames p q x y hp hq e =
 pub length-framed : (p : List ℕ) → length (framed p) ≡ 8 + length p
 length-framed p = length-append (eight (length p)) p ∙ ap (λ (n : ℕ). n + length p) (length-eight (length p))
 
--- where something is left that begins with no frame, the whole is no list of frames
+-- if something is left that begins with no frame, the whole is no list of frames
 pub no_frames : (done : List (List ℕ)) (bytes rest : List ℕ) → length bytes < 2 ^ 64 → 0 < length rest
     → ((p r : List ℕ) → rest ≡ framed p ++ r → ⊥) → bytes ≡ flat_map framed done ++ rest
     → (all : List (List ℕ)) → bytes ≡ flat_map framed all → ⊥
@@ -68,7 +68,7 @@ no_frames (d ∷ done) bytes rest h some none e (a ∷ all) e' =
     (omega (arith, l, h)) (omega (arith, k, h)) (sym one ∙ e') in
     no_frames done (flat_map framed done ++ rest) rest (omega (arith, l, h)) some none refl all w.1
 
--- bytes too few for a frame begin with none; nor do those after which fewer stand than their length
+-- bytes too few for a frame begin with none; nor do those after which fewer come than their length
 -- says
 pub too_few : (bytes p r : List ℕ) → length bytes < 8 → bytes ≡ framed p ++ r → ⊥
 too_few bytes p r h e =

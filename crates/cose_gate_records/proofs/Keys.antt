@@ -22,7 +22,7 @@ spelled : (t : Texts) (covered signature : List ℕ) → key_by (front_by t) cov
 spelled t covered signature = assoc_six (eight t.number) (framed t.protected) (framed t.unprotected) (framed t.signer_protected)
     (framed t.signer_unprotected) (framed t.recipients) (framed covered) (framed signature)
 
--- the texts that a number and such pieces are
+-- the parts that a number and such pieces are
 abbrev texts_by : ℕ → List (List ℕ) → Texts
 texts_by n ps = record {
   number = n;

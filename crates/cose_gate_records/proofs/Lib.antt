@@ -2,3 +2,4 @@ pub mod Asked
 pub mod Frames
 pub mod Keys
 pub mod Order
+pub mod Shown

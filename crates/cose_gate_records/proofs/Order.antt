@@ -1,4 +1,4 @@
--- How texts stand in order, piece by piece, and what a search by halves finds among texts in order.
+-- How lists of bytes are ordered, piece by piece, and what a search by halves finds among them.
 use Rattle.std.proofs.Common.{◌≡◌, ℕ, ◌<◌, ◌≤◌, List, [], ◌∷◌, ◌++◌, length, Bool, true, false, Result, Ok, Err, Ordering, Less, Equal, Greater, nat_cmp, is_eq, Bor, get_or, refl, sym, ap, subst, ◌∙◌, ⊎_elim, arith, append_assoc, append-nil}
 use Rattle.std.specs.Ordering.{is_ne, ordering_then}
 use Rattle.std.specs.Result.{is_ok}
@@ -92,11 +92,11 @@ told_by_signature key rest more last front covered signature o p q n eq tells eq
     ∙ (ap (bytes_cmp more) (sym (append-nil (framed signature)))
     ∙ (at_last [] ∙ ap (ordering_then q) (to_nothing last ∙ sym is))))))
 
--- texts are the same where neither stands before the other
+-- lists are the same if neither is before the other
 same_by_order : (a b : List ℕ) → bytes_eq a b ≡ is_eq (bytes_cmp a b)
 same_by_order = lists_ties nat_cmp (λ x y. grind (arith, nat_tests))
 
--- what a search by halves answers, of places in any order
+-- what a search by halves returns, of places in any order
 abbrev pub IsFound : List ℕ → List (Bor (List ℕ)) → Result ℕ ℕ → Type 0
 IsFound key places r = IsSearchInRange r (length places) × IsBinarySearchResult (λ p. bytes_cmp p.now key) places r
 

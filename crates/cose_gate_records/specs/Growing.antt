@@ -13,7 +13,7 @@ abbrev pub times : Refusals → ℕ
 times Never = 0
 times (AndThen count) = total count + 1
 
--- how often there was no memory, and whether it was
+-- how often it was out of memory, and whether it was
 abbrev pub failures_of : Growing → ℕ
 failures_of w = times w.refusals
 

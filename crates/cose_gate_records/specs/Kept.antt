@@ -16,7 +16,7 @@ IsHeld held subject covered = (held.front.items ≡ front_of subject) × (held.c
 abbrev pub pieces_of : Held → List ℕ
 pieces_of held = held.pieces.items
 
--- the records so far, whether or not memory was found for them
+-- the records so far, also if out of memory for one of them
 abbrev pub told_of : Text → List ℕ
 told_of (Whole text) = text.items
 told_of (Lost told) = told.items
@@ -24,7 +24,7 @@ told_of (Lost told) = told.items
 abbrev pub told_by : Asker → List ℕ
 told_by asker = told_of asker.text
 
--- whether the records are lost, since there was no memory for one
+-- whether the records are lost, since it was out of memory for one
 abbrev pub was_lost : Text → Bool
 was_lost (Whole text) = false
 was_lost (Lost told) = true

@@ -14,7 +14,7 @@ use cose_gate_core::{About, Judge};
 use std::alloc::{AllocError, Global};
 
 /// Says yes to the questions whose records were accepted, and no to any other. It takes no memory
-/// to answer. To be made takes it time as n log n of the records, and a question as log n.
+/// to answer. Making it takes time as n log n of the records, and a question as log n.
 #[derive(Drop)]
 pub struct Accepted<'a> {
     alloc: Global,

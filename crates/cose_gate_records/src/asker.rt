@@ -33,7 +33,7 @@ impl Asker {
         }
     }
 
-    /// The records of the questions, in order; `None` if they are lost, since there was no memory
+    /// The records of the questions, in order; `None` if they are lost, since it was out of memory
     /// for one.
     pub fn records(&self) -> Option<&[u8]>
         ensures records { MatchOption result (Unit {0})
@@ -46,7 +46,7 @@ impl Asker {
         }
     }
 
-    /// Whether the records are lost, since there was no memory for one.
+    /// Whether the records are lost, since it was out of memory for one.
     fn is_lost(&self) -> bool
         ensures { result ≡ is_lost self.now }
     {
@@ -71,7 +71,7 @@ impl Judge for Asker {
 
     ghost decided = { λ told q. told ++ record_of q };
 
-    /// Begins a question. If out of memory for a record before, it is refused for this one.
+    /// Begins a question. If it was out of memory for an earlier record, this fails too.
     fn begin(&mut self, about: &About) -> Result<(), AllocError>
         ensures holds { OnOk result (IsHeld self.new.held (subject_of about.now) []) }
         ensures pieces { OnOk result (pieces_of self.new.held ≡ []) }

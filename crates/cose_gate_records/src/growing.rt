@@ -1,4 +1,4 @@
-//! A text that grows.
+//! Bytes that grow.
 ghost use Rattle.std.specs.Prelude.{◌≡◌, ◌+◌, [], false};
 ghost use Rattle.cose_gate_records.specs.Growing.{text_of, times, failures_of, is_refused};
 
@@ -6,7 +6,7 @@ use ciborium_ll::Write;
 use ciborium_ll::count::Count;
 use std::alloc::{AllocError, Global};
 
-/// How often there was no memory.
+/// How often it was out of memory.
 #[derive(Drop)]
 pub(crate) enum Refusals {
     /// It never was.
@@ -15,7 +15,7 @@ pub(crate) enum Refusals {
     AndThen(Count),
 }
 
-/// A writer over memory that knows whether there was no memory to it.
+/// A writer over memory that knows whether it was out of memory.
 #[derive(Drop)]
 pub struct Growing {
     text: Vec<u8>,
@@ -41,7 +41,7 @@ impl Growing {
         &self.text
     }
 
-    /// Whether there was no memory.
+    /// Whether it was out of memory.
     pub fn is_refused(&self) -> bool
         ensures answer { result ≡ is_refused self.now }
         ensures never { result ≡ false → failures_of self.now ≡ 0 }

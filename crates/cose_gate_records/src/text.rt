@@ -30,7 +30,7 @@ impl Text {
     }
 }
 
-/// The text with the record of a question, if memory is found.
+/// These records with the record of a question, unless out of memory.
 fn with_record(text: Vec<u8>, held: &Held, signature: &[u8]) -> Text
     ensures { told_of result ≡ text.items
         ++ framed (key_by held.now.front.items held.now.covered.items signature.now) }

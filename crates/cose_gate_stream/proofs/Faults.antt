@@ -27,7 +27,7 @@ use Rattle.cose_gate_stream.specs.declared.fault.StreamFault.TheVariants as faul
 use Rattle.cose_gate_stream.specs.Streaming.{Why, damaged, untagged, tagged, shape, without_payload, without_length, refused, HoldsNoMemory, Tells, IsLongFor, fault_by, shape_by}
 use Rattle.cose_gate_stream.specs.ElementFaults.{TitleFault, PartFault, NoBreak, IsUnexpected, WrongPart, NoneWrong}
 
--- what a fault says where l was left and o was the offset
+-- what a fault says if l was left and o was the offset
 abbrev pub Names : {E : Type 0} → (E → Bool) → (ℕ → List ℕ → Why → Type 0) → ℕ → Option (List ℕ) → ℕ → StreamFault E → Type 0
 Names ends D room l o f = HoldsNoMemory f × IfKnown l (λ b. Tells ends (D (o + length b) b) (IsLongFor room o b) f)
 
@@ -123,7 +123,7 @@ title_tells None l₁ o₀ o₁ h Q t q = tt
 title_tells (Some b) None o₀ o₁ h Q t q = absurd t.taken
 title_tells (Some b) (Some rest) o₀ o₁ h Q t q = q b rest (record { title = t.bytes; is_title = t.has; whole = t.taken })
 
--- the same bytes, by another word for the fault
+-- the same bytes, by another name for the fault
 pub known_tells : {E : Type 0} (ends : E → Bool) (l : Option (List ℕ)) (o room room' : ℕ) (D D' : ℕ → List ℕ → Why → Type 0) (f : StreamFault E) → room ≤ room'
     → ((stop : ℕ) (b : List ℕ) (w : Why) → length b ≤ stop → D stop b w → D' stop b w) → Names ends D room l o f → Names ends D' room' l o f
 known_tells ends l o room room' D D' f le step n = (n.0, go l n.1)
@@ -168,7 +168,7 @@ part_item ends n W l₀ l₁ l₂ o₀ o₁ o₂ o₃ h e t not fits same place 
         (λ f d. let other : Damaged (o₀ + length b) b n f = subst (λ (z : List ℕ). Damaged (o₀ + length b) z n f) (sym t.taken) (damage_too h (title_of h) t.bytes rest (title_of_is h fits) t.has (o₀ + length b) long pushed n f refl (subst (λ (z : ℕ). Damage z pushed n f) stop d)) in (clean, other))
         tt (λ l. omega arith) there
 
--- the same by a number that is another word for it
+-- the same by a number that is another name for it
 pub part_as : {E : Type 0} (ends : E → Bool) (W : CoseFault → Tree → Type 0) (l : Option (List ℕ)) (o : ℕ) (f : StreamFault E) (n m : ℕ) → n ≡ m → Names ends (PartFault (n - 2) W) 0 l o f → Names ends (PartFault (m - 2) W) 0 l o f
 part_as ends W l o f n m e k = subst (λ (z : ℕ). Names ends (PartFault (z - 2) W) 0 l o f) e k
 

@@ -33,7 +33,7 @@ use Rattle.cose_gate_stream.proofs.Forms.{WrongForm, shaped, not_four_items, wro
 use Rattle.cose_gate_stream.proofs.Whole.{Within}
 use Rattle.cose_gate_stream.proofs.Elements.{Items, array_items, append, append_count, Enough, split_items, meanings_append, tag_means}
 
--- what follows the elements that are read, where an item is there
+-- what follows the elements that are read, if an item is there
 pub record Left (f : Form) (o : Option ℕ) (done : Trees) (rest : List ℕ) (t : Tree) : Type 0 where
   pub more : Trees
   pub means : Trees

@@ -64,7 +64,7 @@ HoldsNoMemory fault.Detached = Unit {0}
 HoldsNoMemory fault.Unsized = Unit {0}
 HoldsNoMemory fault.Memory = Unit {0}
 
--- what a fault tells: why, or that offsets grow too long; a failure of the device tells nothing of
+-- what a fault tells: why, or that offsets grow too long; a failure of the reader tells nothing of
 -- the bytes
 abbrev pub Tells : {E : Type 0} → (E → Bool) → (Why → Type 0) → Type 0 → StreamFault E → Type 0
 Tells ends D long (fault.Decode (de.Io e)) = IsTrue (ends e) → D (damaged end)
@@ -223,7 +223,7 @@ UnstreamedBy limits stop b refused = IsBegun b
 abbrev pub Unstreamed : ℕ → List ℕ → Why → Type 0
 Unstreamed stop b w = UnstreamedBy usual stop b w
 
--- how often the reader has failed after this answer
+-- how often the reader has failed after this result
 abbrev pub fault_failures : {E : Type 0} → (E → Bool) → StreamFault E → ℕ → ℕ
 fault_failures ends (fault.Decode (de.Io e)) n = if ends e then n else n + 1
 fault_failures ends (fault.Decode (de.Syntax p)) n = n
@@ -242,7 +242,7 @@ abbrev pub failures : {T E : Type 0} → (E → Bool) → Result T (StreamFault 
 failures ends (Ok x) n = n
 failures ends (Err e) n = fault_failures ends e n
 
--- every call on a decoder: a failure is counted exactly when the answer is one, the reader stays
+-- every call on a decoder: a failure is counted exactly when the result is one, the reader stays
 -- the same, and no header waits then
 pub record Steady {T E : Type 0} (ends : E → Bool) (answer : Result T (StreamFault E))
     (old new : Seen) : Type 0 where
@@ -250,7 +250,7 @@ pub record Steady {T E : Type 0} (ends : E → Bool) (answer : Result T (StreamF
   pub handle : new.handle ≡ old.handle
   pub waiting : new.waiting ≡ None
 
--- Ok, or a fault that says nothing of the bytes: being out of memory, a failure of the device,
+-- Ok, or a fault that says nothing of the bytes: being out of memory, a failure of the reader,
 -- offsets that grow too long
 abbrev pub Answered : {E : Type 0} → (E → Bool) → Type 0 → Result Bool (StreamFault E) → Type 0
 Answered ends long (Ok answer) = Unit {0}
@@ -267,7 +267,7 @@ Answered ends long (Err fault.Detached) = ⊥
 Answered ends long (Err fault.Unsized) = ⊥
 Answered ends long (Err fault.Memory) = Unit {0}
 
--- where a judged message of a stated length begins, nothing but Ok is due
+-- if a judged message of a stated length begins, nothing but Ok is due
 abbrev pub AnswersStatedBy : {E : Type 0} → Bounds → (E → Bool) → ℕ → Seen
     → Result Bool (StreamFault E) → Type 0
 AnswersStatedBy limits ends room old result =

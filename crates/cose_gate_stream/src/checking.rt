@@ -52,7 +52,8 @@ fn streamed<R: Read, J: Judge>(
 
 /// Checks one tagged COSE_Sign1 or COSE_Mac0 that carries its payload as a byte string of stated
 /// length: the payload passes through the buffer, piece by piece, and is never gathered. The judge
-/// is asked the same question as by `gate`, with this external data; the answer is the judge's.
+/// is asked the same question as by `gate`, with this external data; the result is the judge's
+/// answer.
 ///
 /// The whole message is read before the judge decides. After a fault the judge was told nothing;
 /// how much of the input was taken then is open.

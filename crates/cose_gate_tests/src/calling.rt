@@ -4,6 +4,7 @@ use cose_gate::Counts;
 
 mod asking;
 mod checking;
+mod choosing;
 mod cose;
 mod faults;
 mod items;

@@ -9,4 +9,5 @@ mod refused;
 mod runs;
 mod seen;
 mod texts;
+mod verifier;
 mod ways;

@@ -6,8 +6,8 @@ ghost use Rattle.cose_hmac.specs.View.{Holds};
 use crate::block::{block_key, padded_hash};
 use sha2::{Digest, Sha256};
 
-/// A tag in the making: its text is fed in pieces (RFC 2104, section 2). A clone of one of an empty
-/// text begins another under its key, without hashing the key again.
+/// A tag in the making: its text is fed in pieces (RFC 2104, section 2). A clone of one that was
+/// fed nothing begins another under its key, without hashing the key again.
 #[derive(Clone, Drop)]
 pub struct HmacSha256 {
     inner: Sha256,

@@ -1,15 +1,15 @@
 //! Registries of IANA for COSE: enums whose entries have the registered numbers.
 //!
-//! Each registry is an enum of its entries, with a number for each, which is nowhere else, and
-//! a table of all of them. Both directions read the enum's numbers: `as i64` is the number of an
-//! entry, and so is `to_i64`. It is proved once for every table that each direction undoes the
-//! other, that no number is twice, and that the entries are ordered by their numbers (`EnumI64`).
-//! The enums decide, also where a registry of IANA has another entry or number.
+//! Each registry is an enum of its entries, with a number for each, which is written nowhere else,
+//! and a table of all of them. Both directions read the enum's numbers: `as i64` is the number of
+//! an entry, and so is `to_i64`. It is proved once for every table that each direction undoes the
+//! other, that no number is repeated, and that the entries are ordered by their numbers
+//! (`EnumI64`). The enums decide, even if a registry of IANA has another entry or number.
 //!
 //! A new entry is its name with its number in the enum and its name in the table, both in the place
 //! of its number, since the numbers rise. No proof changes, except that the law of the order of an
-//! enum of one entry, once it has two, is written as that of the others. A check refuses a name
-//! that isn't in the table, a name in another place, and a number that is twice.
+//! enum of one entry, once it has two, is written like that of the others. A check refuses a name
+//! that isn't in the table, a name in another place, and a repeated number.
 #![tactic(auto)]
 
 mod algorithm;

@@ -54,7 +54,7 @@ pub fn keys_in(alloc: Global, item: &[u8]) -> Result<Option<Keys>, NotWritten> {
 }
 
 /// Whether the front of an item may hold secrets of keys: it is an array or a map, and in it a map
-/// has a label below 0. So it is if memory for the walk is refused.
+/// has a label below 0. It may also if out of memory for the walk.
 pub fn may_be_keys(alloc: Global, front: &[u8]) -> bool {
     if !matches!(header_of(front), Some(Header::Array(_) | Header::Map(_))) {
         return false;

@@ -47,7 +47,7 @@ pub enum Form {
 }
 
 impl Form {
-    /// Its word in JSON.
+    /// Its name in JSON.
     pub fn word(self) -> &'static str {
         match self {
             Form::Order => "order",

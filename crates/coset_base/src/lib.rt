@@ -18,5 +18,5 @@ pub use coset_labels::{
 };
 pub use coset_structures::{
     BytesTitle, EncryptionContext, MacContext, SignatureContext, bytes_title, enc_structure_data,
-    mac_structure_data, sig_structure_data,
+    enc_structure_in, mac_structure_data, mac_structure_in, sig_structure_data, sig_structure_in,
 };

@@ -19,8 +19,8 @@ use coset_labels::{
 };
 use std::alloc::Global;
 
-/// A header while it is built (RFC 9052, section 3.1), with one call for each field. Calls
-/// that append can be refused memory; the others take none.
+/// A header while it is built (RFC 9052, section 3.1), with one call for each field. Calls that
+/// append can run out of memory; the others take none.
 #[derive(Drop)]
 pub struct HeaderBuilder {
     header: Header,

@@ -27,7 +27,7 @@ others_core = facts.others_own is_core
 pub others_more : (es : List (Named × Tree)) (m : Named) (v : Tree) → is_core m ≡ false → others (es ++ (m, v) ∷ []) ≡ others es ++ (m, v) ∷ []
 others_more = facts.others_more is_core
 
--- a name without a field of its own stands at no field's number
+-- a name without a field of its own is at no field's number
 pub no_core : (m : Named) → is_core m ≡ false → NoneOfSeven (λ n. is_at n m)
 no_core m = none_of_seven (λ n. is_at n m)
 

@@ -1,5 +1,5 @@
 -- The value that stands for a time or for claims (RFC 8392, sections 2, 3 and 3.1). Claims are
--- written as they are: a name that is twice is written twice.
+-- written as they are: a repeated name is written twice.
 use Rattle.std.specs.Prelude.{ℕ, pos, List, [], ◌∷◌, ◌++◌, map, Option, Some, None}
 use Rattle.ciborium_value.specs.Tree.{Tree, integer, bytes, text, float, map as map_tree}
 use Rattle.ciborium_value.specs.View.{pairs}

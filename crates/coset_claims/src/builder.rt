@@ -15,7 +15,7 @@ use ciborium_value::Value;
 use coset_labels::{CoseError, iana};
 use std::alloc::Global;
 
-/// Claims while they are built (RFC 8392, section 3.1). Calls that append can be refused memory;
+/// Claims while they are built (RFC 8392, section 3.1). Calls that append can run out of memory;
 /// the others take none.
 #[derive(Drop)]
 pub struct ClaimsSetBuilder {

@@ -99,8 +99,8 @@ impl AsCborValue for Timestamp {
 }
 
 /// Claims are read from their map, its entries in their order: of each first its name, then whether
-/// that was there before, then its value. They are written in the order of their fields, and
-/// without a look for a name that is twice.
+/// that was there before, then its value. They are written in the order of their fields; a repeated
+/// name isn't looked for.
 impl AsCborValue for ClaimsSet {
     ghost Fields = { ClaimsFields };
 

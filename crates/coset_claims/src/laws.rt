@@ -112,7 +112,8 @@ pub fn claims_fit(claims: &ClaimsSet)
     rest_fits(&claims.rest);
 }
 
-/// Claims that were read from bytes are read again of the bytes that they are written as, the same.
+/// Claims that were read from bytes are read again from the bytes that they are written as, the
+/// same.
 pub fn claims_reads_again(claims: &ClaimsSet)
     ensures { (b : List ℕ) → HasItem HasClaims b (claims_view claims.now)
         → HasItem HasClaims (enc (claims_tree (claims_view claims.now))) (claims_view claims.now) }

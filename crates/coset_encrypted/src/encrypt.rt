@@ -62,7 +62,7 @@ impl CoseEncrypt {
     /// section 5.3).
     ///
     /// # Errors
-    /// `DuplicateMapKey` exactly when a label is twice in a protected header that has to be
+    /// `DuplicateMapKey` exactly when a label is repeated in a protected header that has to be
     /// encoded, or `Memory`.
     pub fn covered(&self, alloc: Global, aad: &[u8]) -> Result<Vec<u8>, CoseError>
         ensures { Writes (encrypt_covered (encrypt_view self.now) aad.now) (λ v. v.items) result }
@@ -76,7 +76,7 @@ impl CoseEncrypt {
     ///
     /// # Errors
     /// `Caller` with the cipher's error. `Cose`, before the cipher is asked, with `DuplicateMapKey`
-    /// exactly when a label is twice in a protected header that has to be encoded, or with
+    /// exactly when a label is repeated in a protected header that has to be encoded, or with
     /// `Memory`.
     pub fn decrypt<E, C: FnOnce(&[u8], &[u8]) -> Result<Vec<u8>, E>>(
         &self,

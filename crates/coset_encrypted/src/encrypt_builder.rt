@@ -96,8 +96,8 @@ impl CoseEncryptBuilder {
     /// external data.
     ///
     /// # Errors
-    /// Before the cipher is asked: `DuplicateMapKey` exactly when a label is twice in the protected
-    /// header, or `Memory`.
+    /// Before the cipher is asked: `DuplicateMapKey` exactly when a label is repeated in the
+    /// protected header, or `Memory`.
     pub fn create_ciphertext<C: FnOnce(&[u8], &[u8]) -> Vec<u8>>(
         self,
         alloc: Global,

@@ -100,8 +100,8 @@ pub fn encrypt_fits(message: &CoseEncrypt)
     recipients_fit(&message.recipients);
 }
 
-/// A message that was read from bytes is read again of the bytes that it is written as, the same,
-/// received bytes included. So is one that was read after its tag and is written with it.
+/// A message that was read from bytes is read again from the bytes that it is written as, the same,
+/// received bytes included. So is one that was read in its tag and is written in it.
 pub fn encrypt0_reads_again(message: &CoseEncrypt0)
     ensures item { (b : List ℕ) (u : Tree)
         → HasItem (λ t m. HasEncrypt0 nesting t m layers) b (encrypt0_view message.now)

@@ -33,7 +33,7 @@ others_core = facts.others_own is_core
 pub others_more : (es : List (LabelFields × Tree)) (m : LabelFields) (v : Tree) → is_core m ≡ false → others (es ++ (m, v) ∷ []) ≡ others es ++ (m, v) ∷ []
 others_more = facts.others_more is_core
 
--- a label without a field of its own stands at no field's number
+-- a label without a field of its own is at no field's number
 pub no_core : (m : LabelFields) → is_core m ≡ false → NoneOfSeven (λ n. is_at n m)
 no_core m = none_of_seven (λ n. is_at n m)
 

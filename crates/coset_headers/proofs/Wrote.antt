@@ -62,7 +62,7 @@ entries_again [] g = refl
 entries_again (e ∷ es) g =
     ap (option_and_then (λ m. option_map (λ xs. (m, e.1) ∷ xs) (entries (pairs (map entry_tree es))))) g.0 ∙ ap (option_map (λ xs. e ∷ xs)) (entries_again es g.1)
 
--- ---- where labels stand
+-- ---- where labels are
 skip_one : (c : Bool) (t : Tree) (m u o : Option Tree) → (m ≡ None → u ≡ o) → cond c (Some t) m ≡ None → cond c (Some t) u ≡ o
 skip_one true t m u o k h = let e : Some t ≡ None = h in cc
 skip_one false t m u o k h = k h

@@ -67,7 +67,7 @@ at n = map_entries.at (is_at n)
 abbrev pub IsIn : LabelFields → List (LabelFields × Tree) → Type 0
 IsIn = map_entries.IsIn
 
--- no label is twice
+-- no label is repeated
 abbrev pub Distinct : List (LabelFields × Tree) → Type 0
 Distinct = map_entries.Distinct
 

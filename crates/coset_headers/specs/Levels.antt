@@ -43,8 +43,9 @@ pub record Signed (n : ℕ) (t : Tree) (o : Open) (h : Header) (v : Tree) : Type
   pub sees : (w : Tree) → Sees o.seen (es ++ (label, w) ∷ [])
   pub known : Known n es (plain_of h) (signs_of h) o.layers
 
--- ---- the header that one inside it belongs to s is that one of the counter signatures v that
--- comes after those that are done, and before those that are left
+-- ---- the header that one inside it belongs to
+-- s is the one of the counter signatures v that comes after those that are done, and before those
+-- that are left
 pub data IsNext (n k : ℕ) (v s : Tree) (done : List CoseSignature) (left : List Value) : Type 0 where
   alone : (ts : Trees) → v ≡ array ts → IsBare ts → s ≡ array ts → done ≡ [] → left ≡ [] → IsNext n k v s done left
   listed : (before : List Tree) → v ≡ array (trees (before ++ s ∷ map view left)) → IsList (trees (before ++ s ∷ map view left))

@@ -1,6 +1,6 @@
 -- The value that stands for the fields of a header or a signature, and the bytes that structures
--- and messages show for a protected header (RFC 9052, sections 3 and 3.1). There is none if a
--- label is twice in a `rest` that is written.
+-- and messages show for a protected header (RFC 9052, sections 3 and 3.1). There is none if a label
+-- is repeated in a `rest` that is written.
 use Rattle.std.specs.Prelude.{ℕ, pos, List, [], ◌∷◌, ◌++◌, map, Bool, true, false, ◌||◌, ◌&&◌, if◌then◌else◌, Option, Some, None, option_map, option_and_then}
 use Rattle.std.specs.Ordering.{is_eq}
 use Rattle.ciborium_value.specs.Tree.{Tree, bytes, array, map as map_tree, Trees, no_trees, one_more}
@@ -39,7 +39,7 @@ entry_tree e = (label_tree e.0, e.1)
 abbrev pub tree_of : List (LabelFields × Tree) → Tree
 tree_of es = map_tree (pairs (map entry_tree es))
 
--- whether the label is among the entries, and whether one is twice
+-- whether the label is among the entries, and whether one is repeated
 abbrev pub stands : LabelFields → List (LabelFields × Tree) → Bool
 stands l [] = false
 stands l (e ∷ es) = is_eq (label_cmp l e.0) || stands l es

@@ -59,7 +59,7 @@ impl Header {
     }
 }
 
-/// Whether a label is twice.
+/// Whether a label is repeated.
 ///
 /// # Errors
 /// Only if out of memory.

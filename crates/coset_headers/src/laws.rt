@@ -62,7 +62,7 @@ pub fn read_can_be_written()
 {}
 
 /// What is written of a header or a signature that was read has its fields again, received bytes
-/// included. A protected one shows the very bytes that it was read of.
+/// included. A protected one shows the very bytes that it was read from.
 pub fn written_has_same()
     ensures header { (n k : ℕ) (t u : Tree) (h : HeaderFields) → HasHeader n t h k
         → header_tree h ≡ Some u → HasHeader n u h k }
@@ -122,7 +122,7 @@ pub fn written_signature_fits(signature: &CoseSignature, written: &[u8])
     let _len = written.len();
 }
 
-/// A header that was read from bytes is read again of the bytes that it is written as, the same,
+/// A header that was read from bytes is read again from the bytes that it is written as, the same,
 /// received bytes included.
 pub fn header_reads_again(header: &Header)
     ensures { (b : List ℕ) (u : Tree)

@@ -1,5 +1,5 @@
-//! The entries of a header that is being read: if each belongs, whether its label is new, and its
-//! value in its field.
+//! The entries of a header that is being read: whether each belongs, whether its label is new, and
+//! its value in its field.
 ghost use Rattle.std.specs.Prelude.{◌≡◌, ℕ, List, [], ◌∷◌, ◌++◌, map, false, MatchBool};
 ghost use Rattle.std.specs.Prelude.{MatchResult};
 ghost use Rattle.ciborium_value.specs.Tree.{Tree};
@@ -104,7 +104,7 @@ impl Header {
     /// its field; the others are compared, and `seen` holds those that are too many for that.
     ///
     /// # Errors
-    /// Only if there is no memory.
+    /// Only if out of memory.
     pub(crate) fn is_new(
         &self,
         alloc: Global,

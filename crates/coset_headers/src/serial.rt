@@ -264,7 +264,7 @@ impl ProtectedHeader {
     /// string for an empty header, and the encoded map for another.
     ///
     /// # Errors
-    /// `DuplicateMapKey` exactly when a label is twice in a header that has to be encoded, or
+    /// `DuplicateMapKey` exactly when a label is repeated in a header that has to be encoded, or
     /// `Memory`.
     pub fn cbor_bstr(self, alloc: Global) -> Result<Value, CoseError>
         ensures { MatchResult result

@@ -149,7 +149,8 @@ fn three_items(
 /// empty header, and the encoded map for another (RFC 9052, section 3).
 ///
 /// # Errors
-/// `DuplicateMapKey` exactly when a label is twice in a header that has to be encoded, or `Memory`.
+/// `DuplicateMapKey` exactly when a label is repeated in a header that has to be encoded, or
+/// `Memory`.
 pub fn show_protected(alloc: Global, protected: ProtectedHeader) -> Result<Vec<u8>, CoseError>
     ensures { MatchResult result (λ b. shown (protected_view protected) ≡ Some b.items)
         (λ e. CantWrite (shown (protected_view protected)) e) }

@@ -121,7 +121,7 @@ impl SuppPubInfoBuilder {
 }
 
 /// A context while it is built (RFC 9053, section 5.2, COSE_KDF_Context). The call that appends can
-/// be refused memory; the others take none.
+/// run out of memory; the others take none.
 #[derive(Drop)]
 pub struct CoseKdfContextBuilder {
     context: CoseKdfContext,

@@ -39,7 +39,7 @@ pub fn wrong_has_none()
         → WrongContext n t k e → HasContext n t c k → ⊥ }
 {}
 
-/// What was read is written as the very value that it was read of. So it can be written, and is
+/// What was read is written as the very value that it was read from. So it can be written, and is
 /// read again the same.
 pub fn read_is_written_back()
     ensures party { (t : Tree) (p : PartyFields) → HasParty t p → party_tree p ≡ t }
@@ -148,7 +148,7 @@ pub fn context_fits(context: &CoseKdfContext)
     private_fit(&context.supp_priv_info);
 }
 
-/// What a party brings, read from bytes, is read again of the bytes that it is written as, the
+/// What a party brings, read from bytes, is read again from the bytes that it is written as, the
 /// same.
 pub fn party_reads_again(info: &PartyInfo)
     ensures { (b : List ℕ) → HasItem HasParty b (party_view info.now)

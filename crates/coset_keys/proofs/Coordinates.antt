@@ -47,7 +47,7 @@ first_later n xs i d h e t =
     ∙ first_behind n (map entry_view (take i xs)) (entry_view (get_or xs i d) ∷ []) e
     ∙ ap (λ b. cond {A = Option Tree} b (Some (view (get_or xs i d).1)) None) t
 
--- where the entry there is x
+-- the entry there is x
 pub found_at : (n : LabelFields) (xs : List (Label × Value)) (i : ℕ) (d x : Label × Value) → i < length xs → first_at n (map entry_view (take i xs)) ≡ None → x ≡ get_or xs i d → is_eq (label_cmp (label_view x.0) n) ≡ true
     → Some (view x.1) ≡ first_at n (map entry_view xs)
 found_at n xs i d x h e q t = ap (λ z. Some (view z.1)) q ∙ first_found n xs i d h e (sym (ap (λ z. is_eq (label_cmp (label_view z.0) n)) q) ∙ t)

@@ -10,7 +10,7 @@ use Rattle.coset_keys.specs.Fields.{KeyFields, no_key}
 use Rattle.coset_keys.specs.Keys.{is_own, HasKeyOps, HasOperations, AreFields}
 use Rattle.coset_keys.specs.Parts.{Fills, fills_kty, fills_key_id, fills_alg, fills_key_ops, fills_base_iv, fills_param, Known}
 
--- a label without a field of its own stands at no field's number
+-- a label without a field of its own is at no field's number
 pub not_own : (m : LabelFields) → is_own m ≡ false → NoneOfFive (λ n. is_at n m)
 not_own m = none_of_five (λ n. is_at n m)
 

@@ -47,7 +47,7 @@ stands (b ∷ bs) after t all n q f =
     let w = first_of (λ n. n) (operation_of b) (operations_of (trees (bs ++ t ∷ after))) all f in
     subst (λ z. Contains z n) (sym w.whole) (contains_tail w.first w.rest n (stands bs after t w.rest n q w.others))
 
--- an operation that is in front stands twice
+-- an operation that is in front is repeated
 again_apart : (before after : List Tree) (t : Tree) (ns all : List Named) (n : Named) → operations_of (trees before) ≡ Some ns → operation_of t ≡ Some n → Contains ns n
     → operations_of (trees (before ++ t ∷ after)) ≡ Some all → IsDistinct (eq_by_cmp named_cmp) all → ⊥
 again_apart [] after t ns all n e q c f d = let h : Some [] ≡ Some ns = e in let s : ns ≡ [] = cc in contains_none n (subst (λ z. Contains z n) s c)

@@ -1,5 +1,5 @@
 -- The value that stands for the fields of a key or a set of keys (RFC 9052, section 7). There is
--- none if a label is twice in the `params` of a key.
+-- none if a label is repeated in the `params` of a key.
 use Rattle.std.specs.Prelude.{pos, List, [], ◌∷◌, ◌++◌, map, if◌then◌else◌, Option, Some, None}
 use Rattle.ciborium_value.specs.Tree.{Tree, array}
 use Rattle.ciborium_value.specs.View.{trees}

@@ -40,8 +40,8 @@ pub fn wrong_has_none()
         → HasKeySet t ks → ⊥ }
 {}
 
-/// A key that was read can be written, and of what is written the same key is read; so also if its
-/// `params` were put into another order. The same holds of sets.
+/// A key that was read can be written, and from what is written the same key is read; so also if
+/// its `params` were put into another order. The same holds of sets.
 pub fn written_is_read()
     ensures key { (t : Tree) (k : KeyFields) → HasKey t k
         → (u : Tree) × (key_tree k ≡ Some u) × HasKey u k }
@@ -124,7 +124,7 @@ pub fn key_set_fits(set: &CoseKeySet)
     keys_fit(&set.0);
 }
 
-/// A key that was read from bytes can be written, and of the bytes that it is written as the same
+/// A key that was read from bytes can be written, and from the bytes that it is written as the same
 /// key is read; so also if its `params` were put into another order.
 pub fn key_reads_again(key: &CoseKey)
     ensures same { (b : List ℕ) → HasItem HasKey b (key_view key.now)
@@ -138,7 +138,7 @@ pub fn key_reads_again(key: &CoseKey)
     key_fits(key);
 }
 
-/// A set of keys that was read from bytes can be written, and of the bytes that it is written as
+/// A set of keys that was read from bytes can be written, and from the bytes that it is written as
 /// the same set is read.
 pub fn key_set_reads_again(set: &CoseKeySet)
     ensures { (b : List ℕ) → HasItem HasKeySet b (key_set_view set.now)

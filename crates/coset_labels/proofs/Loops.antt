@@ -28,7 +28,7 @@ turned_by all xs (y ∷ ys) x e h =
     let same : x ≡ y = h.1 ∙ ap (λ z. get_or z (length xs) x) e ∙ get_at xs ys y x in
     (ys, e ∙ ap (λ z. xs ++ z ∷ ys) (sym same))
 
--- the item of a turn stands after those of the turns before it
+-- the item of a turn comes after those of the turns before it
 pub turned : {A : Type 0} (all xs : List A) (x : A) → ((after : List A) × (all ≡ xs ++ after)) → (length xs < length all) × (x ≡ get_or all (length xs) x) → (ys : List A) × (all ≡ xs ++ x ∷ ys)
 turned all xs x (after, e) h = turned_by all xs after x e h
 

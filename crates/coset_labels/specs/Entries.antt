@@ -1,5 +1,5 @@
 -- The entries of a map whose keys are labels, or names of a registry: what is at a number, and that
--- no key is twice. `read` says which key a value is.
+-- no key is repeated. `read` says which key a value is.
 use Rattle.std.specs.Prelude.{◌≡◌, ℕ, ℤ, pos, negsuc, ◌⊎◌, List, [], ◌∷◌, Bool, false, if◌then◌else◌, nat_eq, Option, Some, None, option_map, option_and_then}
 use Rattle.ciborium_value.specs.Tree.{Tree, Pairs, no_pairs, pair_more}
 use Rattle.coset_labels.specs.Fields.{LabelFields, number, words, Named, private_use, assigned, named}
@@ -34,7 +34,7 @@ module _ {K : Type 0} where
   IsIn m [] = ⊥
   IsIn m (e ∷ es) = (m ≡ e.0) ⊎ IsIn m es
 
-  -- no key is twice
+  -- no key is repeated
   abbrev pub Distinct : List (K × Tree) → Type 0
   Distinct [] = Unit {0}
   Distinct (e ∷ es) = (IsIn e.0 es → ⊥) × Distinct es

@@ -9,7 +9,7 @@ use Rattle.coset_labels.specs.declared.error.CoseError.{CoseError}
 use Rattle.coset_labels.specs.declared.error.CoseError.TheVariants as code
 
 -- `undecodable` tells the damage of bytes that should have been one item. `misplaced` is such
--- damage with an offset if a reader names none; no call returns it
+-- damage with an offset that no reader names; no call returns it
 pub data CoseFault : Type 0 where
   undecodable : Fault → CoseFault
   too_long duplicate_key unencodable extraneous out_of_range unexpected : CoseFault
@@ -36,7 +36,8 @@ fault_of code.UnregisteredIanaNonPrivateValue = unregistered_private
 fault_of code.Memory = no_memory
 fault_of code.TooManyLayers = too_many_layers
 
--- the error that a fault of reading one item becomes: each fault of a reader is an end of the bytes
+-- the error that a fault of reading one item becomes: every fault of a reader becomes an end of the
+-- bytes
 abbrev pub lifted : {T : Type 0} → Error T → CoseError
 lifted (de.Io e) = code.DecodeFailed (de.Io (record {}))
 lifted (de.Syntax p) = code.DecodeFailed (de.Syntax p)
@@ -51,10 +52,10 @@ unwritten (ser.Io e) = code.EncodeFailed
 unwritten (ser.Value k) = code.EncodeFailed
 unwritten ser.Memory = code.Memory
 
--- there was no memory, or the fault is wrong there
+-- out of memory, or the fault is wrong there
 abbrev pub OrMemory : (CoseFault → Type 0) → CoseError → Type 0
 OrMemory Wrong e = (e ≡ code.Memory) ⊎ Wrong (fault_of e)
 
--- there was no memory, or a label would be written twice and so there is nothing to write
+-- out of memory, or a label would be written twice and so there is nothing to write
 abbrev pub CantWrite : {A : Type 0} → Option A → CoseError → Type 0
 CantWrite o e = (e ≡ code.Memory) ⊎ ((e ≡ code.DuplicateMapKey) × (o ≡ None))

@@ -15,7 +15,7 @@ pub enum CoseError {
     /// Bytes that should have been one item are none.
     #[error("decode CBOR failure: {0}")]
     DecodeFailed(de::Error<EndOfFile>),
-    /// A label is twice in one map.
+    /// A label is repeated in one map.
     #[error("duplicate map key")]
     DuplicateMapKey,
     /// A value can't be written.
@@ -124,7 +124,7 @@ impl From<TryFromIntError> for CoseError {
 }
 
 /// Why a call that asks its caller's code failed: by that code's own error, or by a fault of COSE
-/// before it was asked. Its text is that of the error in it.
+/// before that code was asked. Its text is that of the error in it.
 #[derive(Debug, PartialEq, Eq, Drop, thiserror::Error)]
 #[error_bound(E: fmt::Display)]
 pub enum Fault<E> {

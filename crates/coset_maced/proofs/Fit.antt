@@ -1,4 +1,4 @@
--- What is written of a message fits heads where its parts do.
+-- What is written of a message fits heads if its parts do.
 use Rattle.std.proofs.Common.{◌≡◌, ℕ, List, [], ◌∷◌, Some, arith}
 use Rattle.ciborium_value.specs.Tree.{Tree, bytes}
 use Rattle.ciborium_value.specs.View.{trees}

@@ -91,8 +91,8 @@ pub fn mac_fits(message: &CoseMac)
     recipients_fit(&message.recipients);
 }
 
-/// A message that was read from bytes is read again of the bytes that it is written as, the same,
-/// received bytes included. So is one that was read after its tag and is written with it.
+/// A message that was read from bytes is read again from the bytes that it is written as, the same,
+/// received bytes included. So is one that was read in its tag and is written in it.
 pub fn mac0_reads_again(message: &CoseMac0)
     ensures item { (b : List ℕ) (u : Tree)
         → HasItem (λ t m. HasMac0 nesting t m layers) b (mac0_view message.now)

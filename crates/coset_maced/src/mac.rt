@@ -66,7 +66,7 @@ impl CoseMac {
     /// The bytes that the tag covers with this payload, the MAC_structure (RFC 9052, section 6.3).
     ///
     /// # Errors
-    /// `DuplicateMapKey` exactly when a label is twice in a protected header that has to be
+    /// `DuplicateMapKey` exactly when a label is repeated in a protected header that has to be
     /// encoded, or `Memory`.
     pub fn covered(&self, alloc: Global, payload: &[u8], aad: &[u8]) -> Result<Vec<u8>, CoseError>
         ensures { Writes (mac_covered_with (mac_view self.now) payload.now aad.now) (λ v. v.items)
@@ -92,7 +92,7 @@ impl CoseMac {
     ///
     /// # Errors
     /// `Caller` with the verifier's error. `Cose`, before the verifier is asked, with
-    /// `DuplicateMapKey` exactly when a label is twice in a protected header that has to be
+    /// `DuplicateMapKey` exactly when a label is repeated in a protected header that has to be
     /// encoded, or with `Memory`.
     pub fn verify_tag<E, V: FnOnce(&[u8], &[u8]) -> Result<(), E>>(
         &self,

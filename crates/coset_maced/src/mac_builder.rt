@@ -100,8 +100,8 @@ impl CoseMacBuilder {
     /// carried.
     ///
     /// # Errors
-    /// Before the signer is asked: `DuplicateMapKey` exactly when a label is twice in the protected
-    /// header, or `Memory`.
+    /// Before the signer is asked: `DuplicateMapKey` exactly when a label is repeated in the
+    /// protected header, or `Memory`.
     pub fn create_tag<S: FnOnce(&[u8]) -> Vec<u8>>(
         self,
         alloc: Global,

@@ -1,4 +1,4 @@
--- What is written of parts fits heads where the parts do.
+-- What is written of parts fits heads if the parts do.
 use Rattle.std.proofs.Common.{◌≡◌, ℕ, ◌+◌, ◌≤◌, List, [], ◌∷◌, ◌++◌, Option, Some, ap, subst, arith}
 use Rattle.ciborium_value.specs.Tree.{Tree, bytes, array, tree_count}
 use Rattle.ciborium_value.specs.View.{trees}

@@ -1,4 +1,4 @@
--- What calls return that read a value within limits, and that write fields.
+-- What calls return that read a value within limits or write fields.
 use Rattle.std.specs.Prelude.{◌≡◌, ℕ, Option, Some, Result, MatchResult}
 use Rattle.ciborium_value.specs.Tree.{Tree}
 use Rattle.coset_labels.specs.Faults.{CoseFault, OrMemory, CantWrite}
@@ -7,7 +7,7 @@ use Rattle.coset_labels.specs.declared.error.CoseError.{CoseError}
 use Rattle.coset_labels.specs.declared.limits.Limits.{Limits}
 
 -- the value t has the fields that f shows of what is returned; else the error is a fault that it
--- has, or out of memory
+-- has, or memory ran out
 abbrev pub ReadsWithin : {F V : Type 0} → Limits → (ℕ → Tree → F → ℕ → Type 0) → (ℕ → Tree → ℕ → CoseFault → Type 0) → Tree → (V → F) → Result V CoseError → Type 0
 ReadsWithin limits Has Wrong t f r =
     MatchResult r (λ v. Has (nesting_of limits) t (f v) (layers_of limits)) (λ e. OrMemory (Wrong (nesting_of limits) t (layers_of limits)) e)

@@ -105,7 +105,8 @@ pub fn fill_parts(
 /// The values of the three parts, in their order.
 ///
 /// # Errors
-/// `DuplicateMapKey` exactly when a label is twice in a header that has to be encoded, or `Memory`.
+/// `DuplicateMapKey` exactly when a label is repeated in a header that has to be encoded, or
+/// `Memory`.
 pub fn write_parts(alloc: Global, parts: Parts) -> Result<Vec<Value>, CoseError>
     ensures { Writes (parts_trees (parts_view parts)) (λ v. map view v.items) result }
 {

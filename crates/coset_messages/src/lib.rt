@@ -11,8 +11,9 @@ pub use coset_base::{
     CoseError, CoseSignature, CoseSignatureBuilder, EncryptionContext, EndOfFile, Fault, Header,
     HeaderBuilder, KeyType, Label, Limits, MacContext, ProtectedHeader, RegisteredLabel,
     RegisteredLabelWithPrivate, Result, SignatureContext, TaggedCborSerializable, ValueTryAs,
-    bytes_title, cbor_type_error, enc_structure_data, iana, mac_structure_data, read_to_value,
-    sig_structure_data, to_cbor_array, write_to_vec,
+    bytes_title, cbor_type_error, enc_structure_data, enc_structure_in, iana, mac_structure_data,
+    mac_structure_in, read_to_value, sig_structure_data, sig_structure_in, to_cbor_array,
+    write_to_vec,
 };
 pub use coset_encrypted::{CoseEncrypt, CoseEncrypt0, CoseEncrypt0Builder, CoseEncryptBuilder};
 pub use coset_maced::{

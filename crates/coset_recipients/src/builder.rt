@@ -103,8 +103,8 @@ impl CoseRecipientBuilder {
     /// and the external data. The context is one of recipients.
     ///
     /// # Errors
-    /// Before the cipher is asked: `DuplicateMapKey` exactly when a label is twice in the protected
-    /// header, or `Memory`.
+    /// Before the cipher is asked: `DuplicateMapKey` exactly when a label is repeated in the
+    /// protected header, or `Memory`.
     pub fn create_ciphertext<C: FnOnce(&[u8], &[u8]) -> Vec<u8>>(
         self,
         alloc: Global,

@@ -18,7 +18,7 @@ impl CoseRecipient {
     ///
     /// # Errors
     /// `Caller` with the cipher's error. `Cose`, before the cipher is asked, with `DuplicateMapKey`
-    /// exactly when a label is twice in a protected header that has to be encoded, or with
+    /// exactly when a label is repeated in a protected header that has to be encoded, or with
     /// `Memory`.
     pub fn decrypt<E, C: FnOnce(&[u8], &[u8]) -> Result<Vec<u8>, E>>(
         &self,

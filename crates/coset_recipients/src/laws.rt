@@ -111,8 +111,8 @@ pub fn recipients_fit(recipients: &[CoseRecipient])
     all_fit(recipients);
 }
 
-/// A recipient that was read from bytes is read again of the bytes that it is written as, the same,
-/// received bytes included.
+/// A recipient that was read from bytes is read again from the bytes that it is written as, the
+/// same, received bytes included.
 pub fn recipient_reads_again(recipient: &CoseRecipient)
     ensures { (b : List ℕ) (u : Tree)
         → HasItem (λ t r. HasRecipient nesting t r layers) b (recipient_view recipient.now)

@@ -85,7 +85,8 @@ fn take_parts(
 /// The array of the values that recipients stand for, which may be empty.
 ///
 /// # Errors
-/// `DuplicateMapKey` exactly when a label is twice in a header that has to be encoded, or `Memory`.
+/// `DuplicateMapKey` exactly when a label is repeated in a header that has to be encoded, or
+/// `Memory`.
 pub fn write_recipients(alloc: Global, recipients: Vec<CoseRecipient>) -> Result<Value, CoseError>
     ensures { Writes (list_tree (recipients_view recipients.items)) view result }
 {

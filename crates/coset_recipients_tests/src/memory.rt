@@ -22,20 +22,20 @@ const RECIPIENTS: &[u8] = &[
     10, 0x83, 0x40, 0xa0, 0xf6,
 ];
 
-/// A COSE_Encrypt0 after its tag.
+/// A COSE_Encrypt0 in its tag.
 const ENCRYPT0: &[u8] = &[0xd0, 0x83, 0x43, 0xa1, 1, 1, 0xa1, 5, 0x41, 5, 0x42, 7, 8];
 
-/// A COSE_Encrypt after its tag, with one recipient.
+/// A COSE_Encrypt in its tag, with one recipient.
 const ENCRYPT: &[u8] = &[
     0xd8, 96, 0x84, 0x43, 0xa1, 1, 1, 0xa0, 0x42, 7, 8, 0x81, 0x83, 0x40, 0xa0, 0xf6,
 ];
 
-/// A COSE_Mac0 after its tag.
+/// A COSE_Mac0 in its tag.
 const MAC0: &[u8] = &[
     0xd1, 0x84, 0x43, 0xa1, 1, 5, 0xa0, 0x42, 0x68, 0x69, 0x41, 0xaa,
 ];
 
-/// A COSE_Mac after its tag, with one recipient.
+/// A COSE_Mac in its tag, with one recipient.
 const MAC: &[u8] = &[
     0xd8, 97, 0x85, 0x43, 0xa1, 1, 5, 0xa0, 0x42, 0x68, 0x69, 0x41, 0xaa, 0x81, 0x83, 0x40, 0xa0,
     0xf6,
@@ -73,8 +73,8 @@ fn are_written_back(alloc: Global) -> Result<bool, CoseError> {
     Ok(is_written_back && is_read_again)
 }
 
-/// What was met by a call whose closures fail only if there is no memory, or if a part is
-/// missing that isn't.
+/// What was met by a call whose closures fail only if out of memory, or if a part is missing, and
+/// none is.
 fn flat(answer: Result<bool, Met>) -> Result<bool, CoseError> {
     match answer {
         Ok(is_so) => Ok(is_so),

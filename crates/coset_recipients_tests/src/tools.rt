@@ -42,12 +42,12 @@ fn joined(alloc: Global, first: &[u8], second: &[u8]) -> Result<Vec<u8>, CoseErr
 /// or what a closure gives.
 pub(crate) const LONG: &[u8] = &[7; 300];
 
-/// The error of a call that asked and then met a fault of its own, or answered for a closure that
-/// it hadn't asked.
+/// The error of a call that asked and then met a fault of its own, or returned the result of a
+/// closure that it hadn't asked.
 const UNTRUE: CoseError = CoseError::UnexpectedItem("a call", "another one");
 
-/// What a call returns, if its closure was asked exactly if the result isn't the call's own
-/// fault, such as being out of memory.
+/// What a call returns, after a check that its closure was asked exactly when the call met no
+/// fault of its own, such as being out of memory.
 pub(crate) fn watch<T: Drop>(is_asked: bool, answer: Result<T, Met>) -> Result<T, Met> {
     if is_asked == matches!(answer, Err(Fault::Cose(_))) {
         return Err(Fault::Caller(UNTRUE));
@@ -234,7 +234,7 @@ fn is_tagged_again<T: CborSerializable + TaggedCborSerializable>(
 }
 
 /// Whether a copy of a message with so many recipients is the same, and is written as these bytes
-/// where it was written without a tag and read again.
+/// after it was written without a tag and read again.
 fn is_copied_and_tagged<T: Message + TaggedCborSerializable>(
     alloc: Global,
     message: &T,
@@ -248,7 +248,7 @@ fn is_copied_and_tagged<T: Message + TaggedCborSerializable>(
 }
 
 /// Whether these bytes of a message with so many recipients are read, copied and written back, also
-/// where the copy was written without a tag and read again.
+/// after the copy was written without a tag and read again.
 pub(crate) fn is_written_back<T: Message + TaggedCborSerializable>(
     alloc: Global,
     bytes: &[u8],

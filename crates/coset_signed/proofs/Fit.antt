@@ -1,4 +1,4 @@
--- What is written of a message fits heads where its parts do.
+-- What is written of a message fits heads if its parts do.
 use Rattle.std.proofs.Common.{◌≡◌, ℕ, List, [], ◌∷◌, length, map, Some, subst, ◌∙◌, arith}
 use Rattle.std.proofs.lemmas.List.{length-map}
 use Rattle.ciborium_value.specs.Tree.{Tree, bytes, array, Trees, tree_count}

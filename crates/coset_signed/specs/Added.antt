@@ -1,5 +1,5 @@
--- What calls return that add a part which a closure gives: the closure is asked once at y, or at
--- the bytes of o, if it has any, and P holds of what it gave and of what is built.
+-- What calls return that add a part which a closure gives: the closure is asked once about y, or
+-- about the bytes of o, if it has any, and P holds of what it gave and of what is built.
 use Rattle.std.specs.Prelude.{Option, IsSomeAnd, Result, Ok, Err}
 use denote.Ref.{Bor}
 use Rattle.std.specs.Fn.{Once, FnOnceReturnsAt}

@@ -111,8 +111,8 @@ pub fn sign_fits(message: &CoseSign)
     signatures_fit(&message.signatures);
 }
 
-/// A message that was read from bytes is read again of the bytes that it is written as, the same,
-/// received bytes included. So is one that was read after its tag and is written with it.
+/// A message that was read from bytes is read again from the bytes that it is written as, the same,
+/// received bytes included. So is one that was read in its tag and is written in it.
 pub fn sign1_reads_again(message: &CoseSign1)
     ensures item { (b : List ℕ) (u : Tree)
         → HasItem (λ t m. HasSign1 nesting t m layers) b (sign1_view message.now)

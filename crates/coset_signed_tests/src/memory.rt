@@ -14,20 +14,20 @@ use coset_signed::{CoseSign, CoseSign1};
 use std::alloc::Global;
 use std::process::Abort;
 
-/// A COSE_Sign1 after its tag, with an algorithm, a key id and a label that has no name, and an IV.
+/// A COSE_Sign1 in its tag, with an algorithm, a key id and a label that has no name, and an IV.
 const SIGN1: &[u8] = &[
     0xd2, 0x84, 0x4b, 0xa3, 1, 0x26, 4, 0x42, 0x31, 0x31, 0x18, 100, 0x81, 0, 0xa1, 5, 0x41, 9,
     0x42, 0x68, 0x69, 0x43, 1, 2, 3,
 ];
 
-/// A COSE_Sign after its tag, with two signatures.
+/// A COSE_Sign in its tag, with two signatures.
 const SIGN: &[u8] = &[
     0xd8, 98, 0x84, 0x40, 0xa0, 0x42, 0x68, 0x69, 0x82, 0x83, 0x43, 0xa1, 1, 0x26, 0xa0, 0x41, 1,
     0x83, 0x40, 0xa0, 0x41, 2,
 ];
 
-/// What was met by a call whose closures fail only if there is no memory, or if a signature
-/// isn't the wanted one.
+/// What was met by a call whose closures fail only if out of memory, or if a signature isn't the
+/// wanted one.
 fn flat(answer: Result<bool, Met>) -> Result<bool, CoseError> {
     match answer {
         Ok(is_so) => Ok(is_so),

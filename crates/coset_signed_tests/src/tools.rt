@@ -78,12 +78,12 @@ pub(crate) type Row = (&'static str, &'static str);
 /// signer gives.
 pub(crate) const LONG: &[u8] = &[7; 300];
 
-/// The error of a call that asked and then met a fault of its own, or answered for a closure that
-/// it hadn't asked.
+/// The error of a call that asked and then met a fault of its own, or returned the result of a
+/// closure that it hadn't asked.
 const UNTRUE: CoseError = CoseError::UnexpectedItem("a call", "another one");
 
-/// What a call returns, if its closure was asked exactly if the result isn't the call's own
-/// fault, such as being out of memory.
+/// What a call returns, after a check that its closure was asked exactly when the call met no
+/// fault of its own, such as being out of memory.
 pub(crate) fn watch<T: Drop>(is_asked: bool, answer: Result<T, Met>) -> Result<T, Met> {
     if is_asked == matches!(answer, Err(Fault::Cose(_))) {
         return Err(Fault::Caller(UNTRUE));

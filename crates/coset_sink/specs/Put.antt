@@ -1,6 +1,6 @@
 -- What a header or a signature is written as straight from its fields, and the events of its parts.
 -- A protected header is its received bytes; one without any is the empty byte string, which stands
--- for an empty header alone. A label that is twice is written twice.
+-- for an empty header alone. A repeated label is written twice.
 use Rattle.std.specs.Prelude.{◌≡◌, ℕ, pos, List, [], ◌∷◌, ◌++◌, length, map as map_list, true, Some, None}
 use Rattle.ciborium_value.specs.Tree.{Tree, bytes, array, Trees, no_trees, one_more, tree_count}
 use Rattle.ciborium_value.specs.View.{pairs}

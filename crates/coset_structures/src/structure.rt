@@ -28,7 +28,8 @@ use std::borrow::CowSlice;
 /// payload. The payload is copied once, into the result.
 ///
 /// # Errors
-/// `DuplicateMapKey` exactly when a label is twice in a header that has to be encoded, or `Memory`.
+/// `DuplicateMapKey` exactly when a label is repeated in a header that has to be encoded, or
+/// `Memory`.
 pub fn sig_structure_data(
     alloc: Global,
     context: SignatureContext,
@@ -72,7 +73,8 @@ pub fn sig_structure_in<A: Allocator>(
 /// result.
 ///
 /// # Errors
-/// `DuplicateMapKey` exactly when a label is twice in a header that has to be encoded, or `Memory`.
+/// `DuplicateMapKey` exactly when a label is repeated in a header that has to be encoded, or
+/// `Memory`.
 pub fn mac_structure_data(
     alloc: Global,
     context: MacContext,
@@ -112,7 +114,8 @@ pub fn mac_structure_in<A: Allocator>(
 /// protected header and the external data.
 ///
 /// # Errors
-/// `DuplicateMapKey` exactly when a label is twice in a header that has to be encoded, or `Memory`.
+/// `DuplicateMapKey` exactly when a label is repeated in a header that has to be encoded, or
+/// `Memory`.
 pub fn enc_structure_data(
     alloc: Global,
     context: EncryptionContext,

@@ -39,7 +39,7 @@ pub trait Cipher {
 ///
 /// # Errors
 /// `Caller` if the cipher doesn't open it, or it carries no ciphertext. `Cose` if the bytes are no
-/// such message, or out of memory.
+/// such message, or memory ran out.
 pub fn opened<C: Cipher>(
     alloc: Global,
     bytes: &[u8],

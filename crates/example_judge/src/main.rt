@@ -5,11 +5,10 @@
 
 ghost use Rattle.std.specs.Prelude.{◌≡◌, ℕ, List};
 ghost use Rattle.std.specs.Str.{bytes_eq};
-ghost use Rattle.cose_gate.specs.HeaderView.{header_view};
-ghost use Rattle.example_judge.specs.Ids.{header_key_id};
+ghost use Rattle.cose_gate.specs.KeyHeaders.{key_id_of};
 
 use anyhow::Context;
-use cose_gate::{About, Decoder, Header, Judge, Log, Mem, gate};
+use cose_gate::{About, Decoder, Judge, Log, Mem, gate, key_id};
 use std::alloc::AllocError;
 use std::env;
 
@@ -31,13 +30,6 @@ impl<'a> KeyId<'a> {
     }
 }
 
-/// The key id of a header; none is an empty one.
-fn key_id(header: &Header) -> &[u8]
-    ensures { result.now ≡ header_key_id (header_view header.now) }
-{
-    header.key_id.as_slice()
-}
-
 impl Judge for KeyId<'_> {
     ghost Who = { List ℕ };
 
@@ -47,17 +39,16 @@ impl Judge for KeyId<'_> {
 
     ghost told = { λ _. tt };
 
-    ghost holds = { λ j subject _. j.is_found
-        ≡ bytes_eq (header_key_id subject.unprotected) j.id.now };
+    ghost holds = { λ j subject _. j.is_found ≡ bytes_eq (key_id_of subject) j.id.now };
 
     ghost pieces = { λ j. j.pieces.items };
 
-    ghost yes = { λ id q. bytes_eq (header_key_id q.subject.unprotected) id };
+    ghost yes = { λ id q. bytes_eq (key_id_of q.subject) id };
 
     ghost decided = { λ told _. told };
 
     fn begin(&mut self, about: &About) -> Result<(), AllocError> {
-        self.is_found = key_id(about.unprotected) == self.id;
+        self.is_found = key_id(about) == self.id;
         self.pieces = Log::new();
         Ok(())
     }

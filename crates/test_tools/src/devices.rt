@@ -4,7 +4,7 @@ use ciborium_ll::{Read, Write};
 use std::alloc::Global;
 use std::{fmt, io};
 
-/// A device failed.
+/// A reader or a writer failed.
 #[derive(Debug, Clone, Copy, PartialEq, Eq, Drop)]
 pub struct Broken;
 

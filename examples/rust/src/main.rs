@@ -48,7 +48,7 @@ enum GateError {
     Limits,
     /// The bytes are no key set.
     Keys { lines: Vec<u8> },
-    /// The input is no CBOR from some place on, or memory was refused; `passed` is what passed before.
+    /// The input is no CBOR from some place on, or memory ran out; `passed` is what passed before.
     Stopped { passed: Vec<u8>, lines: Vec<u8> },
     /// What would be written is longer than the buffer, and so long.
     NoRoom { needed: usize },
@@ -98,7 +98,7 @@ fn call(keys: &[u8], aad: &[u8], input: &[u8], strict: bool, room: usize, lines_
 fn check_into(keys: &[u8], aad: &[u8], input: &[u8], strict: bool, room: usize) -> Result<Checked, GateError> {
     let (mut answer, mut passed, mut lines) = call(keys, aad, input, strict, room, 4096);
     if answer.lines > lines.len() {
-        // The lines are longer than was thought; the answer names how long.
+        // The lines are longer than was thought; the answer says how long.
         (answer, passed, lines) = call(keys, aad, input, strict, room, answer.lines);
     }
     match answer.status {
@@ -119,7 +119,7 @@ fn check_into(keys: &[u8], aad: &[u8], input: &[u8], strict: bool, room: usize) 
 /// Checks a sequence of messages within the usual limits.
 fn check(keys: &[u8], aad: &[u8], input: &[u8], strict: bool) -> Result<Checked, GateError> {
     match check_into(keys, aad, input, strict, input.len()) {
-        // What passes is longer in its shortest form than as it came.
+        // What passes is longer in canonical encoding than as it came.
         Err(GateError::NoRoom { needed }) => check_into(keys, aad, input, strict, needed),
         answer => answer,
     }

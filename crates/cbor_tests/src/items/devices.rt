@@ -32,7 +32,7 @@ impl<'a> Read for Device<'a> {
     ghost use Rattle.std.specs.Prelude.{◌≡◌, Some};
     ghost use Rattle.ciborium_ll.specs.Count.{total};
 
-    /// Whether a device that gave no bytes ended.
+    /// Whether a reader that gave no bytes ended.
     type Error = bool;
 
     ghost left = { λ d. Some d.bytes.now };
@@ -111,7 +111,7 @@ fn claims_are_not_believed(rt: HostRuntime) {
 /// A tagged array of 14 bytes: 18([h'a10126', {}, 'hi', h'010203']).
 const MESSAGE: &str = "d28443a10126a042686943010203";
 
-/// A device that has a part of an item alone ends or fails.
+/// A reader that has only a part of an item ends or fails.
 fn stops(rt: &impl Abort, alloc: Global, part: &[u8], breaks: bool, at: &str) {
     let mut decoder = Decoder::from(Device::new(part, breaks));
     let fault = from_decoder(alloc, &mut decoder, RECURSION_LIMIT).err();

@@ -11,8 +11,8 @@ use ciborium::types::RoundTrip;
 use ciborium::{End, Mem, from_reader, into_writer};
 use std::alloc::Global;
 
-/// The value as it is written to memory and read back: one that is written alike, unless there is
-/// no memory.
+/// The value as it is written to memory and read back: one that is written alike, unless out of
+/// memory.
 fn again<T: RoundTrip>(alloc: Global, value: &T) -> Result<T, Error<End>>
     requires kept { T.kept value.now }
     requires shallow { depth (T.put value.now) ≤ nesting }

@@ -21,7 +21,7 @@ impl<'a> io::Read for Broken<'a> {
     }
 }
 
-/// What a device of std returns in place of a byte.
+/// What a reader or a writer of std returns in place of a byte.
 #[derive(Clone, Copy)]
 enum Trouble {
     Nothing,
@@ -39,7 +39,7 @@ impl Trouble {
     }
 }
 
-/// A device of std that moves a byte a call, but for its second call. Its flush fails.
+/// A reader and writer of std that moves a byte a call, but for its second call. Its flush fails.
 #[derive(Drop)]
 struct Troubled {
     calls: usize,

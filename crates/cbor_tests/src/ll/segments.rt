@@ -19,7 +19,7 @@ fn next<'s, 'r, R: Read, P: StringKind>(
     segment
 }
 
-/// Pulls of the segment, which has 2 bytes, return a fault of the device.
+/// Pulls of the segment, which has 2 bytes, return a fault of the reader.
 fn fails(rt: &impl Abort, segment: &mut Segment<'_, '_, Io<Broken<'_>>, Bytes>) {
     let mut buffer = [0u8; 4];
     for _ in 0..2 {

@@ -9,7 +9,7 @@ use std::alloc::Global;
 use std::fmt::Debug;
 use std::process::Abort;
 
-/// The value as it is written and read back: one that is written alike, unless there is no memory.
+/// The value as it is written and read back: one that is written alike, unless out of memory.
 fn again<T: RoundTrip>(alloc: Global, value: &T) -> Result<T, Error>
     requires { T.kept value.now }
     ensures same { IfOk result (λ x. T.put x ≡ T.put value.now) }

@@ -12,7 +12,7 @@ use Rattle.ciborium_value.specs.Tree.{Tree, opens_none}
 use Rattle.ciborium_traits.specs.Back.{TakenBackBy, TakesOne}
 use Rattle.ciborium_typed.specs.Tags.{tagged_tree, outer_tag, inside, required_refusal, accepted_refusal, AcceptedTaken}
 
--- a tag that opens a level is folded as it stands
+-- folding leaves a tag that opens a level as it is
 tag_kept : (n : ℕ) (t : Tree) → opens_none n t ≡ false → tagged n t ≡ Some (spec.tag n t)
 tag_kept n (spec.bytes b) e = at (nat_eq n 2 || nat_eq n 3) e
   where

@@ -56,7 +56,7 @@ same_long [] (y ∷ b) u v e = absurd (omega (arith, e))
 same_long (x ∷ a) [] u v e = absurd (omega (arith, e))
 same_long (x ∷ a) (y ∷ b) u v e = ap (ordering_then (nat_cmp x y)) (same_long a b u v (omega (arith, e))) ∙ assoc (nat_cmp x y) (bytes_cmp a b) (bytes_cmp u v)
 
--- what comes second counts where the numbers are equal
+-- what comes second counts if the numbers are equal
 pub where_equal : (n m : ℕ) (X Y S : Ordering) → (n ≡ m → X ≡ ordering_then Y S) → ordering_then (nat_cmp n m) X ≡ ordering_then (ordering_then (nat_cmp n m) Y) S
 where_equal n m X Y S f = at (nat_cmp n m) refl
   where

@@ -67,7 +67,7 @@ pub fn answered<R: Read + Drop, W: Write, P: Report, J: Judge>(
     answered_by(alloc, Way::Plain, reader, out, report, aad, judge)
 }
 
-/// What a run asked, wrote, noted and answered.
+/// What a run asked, wrote, noted and returned.
 #[derive(Drop)]
 pub struct Observed<E> {
     pub recorder: Recorder,

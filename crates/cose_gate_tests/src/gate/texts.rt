@@ -11,7 +11,7 @@ fn reads(rt: &impl Abort, alloc: Global, fault: &GateFault<Broken>, text: &str) 
     same(rt, &made.as_str(), &text, "text", &text);
 }
 
-/// Faults of decoding, and their texts. The device that failed is named by its own text.
+/// Faults of decoding, and their texts. A failure of the reader is named by the reader's own text.
 const DECODE: [(de::Error<Broken>, &str); 5] = [
     (de::Error::Io(Broken), "decode: Io(Broken)"),
     (de::Error::Syntax(14), "decode: Syntax(14)"),

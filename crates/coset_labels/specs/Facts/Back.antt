@@ -1,4 +1,4 @@
--- What was read of a value is written as that value: a label, a registered name, a name.
+-- What was read from a value is written as that value: a label, a registered name, a name.
 use Rattle.std.proofs.Common.{◌≡◌, ℤ, Bool, true, false, cond, Some, None, ap}
 use Rattle.ciborium_value.specs.Tree.{Tree, integer, bytes, text, array, map as map_tree, tag, simple, float}
 use Rattle.coset_labels.specs.Fields.{LabelFields, number, words, Named, private_use, assigned, named}

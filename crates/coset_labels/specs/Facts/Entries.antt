@@ -116,7 +116,7 @@ module _ {K : Type 0} (is : K → Bool) where
   at_none_step m x o s d h (inl t) = absurd (d (s t))
   at_none_step m x o s d h (inr f) = ap (λ b. cond b (Some x.1) o) f ∙ h
 
-  -- a key that stands nowhere is at nothing, if it is the only such key
+  -- nothing is at a key that no entry has, if it is the only such key
   pub at_none : (es : List (K × Tree)) (m : K) → ((k : K) → is k ≡ true → m ≡ k) → (IsIn m es → ⊥) → at is es ≡ None
   at_none [] m s d = refl
   at_none (x ∷ es) m s d = at_none_step m x (at is es) (s x.0) (λ q. d (inl q)) (at_none es m s (λ i. d (inr i))) (bool_cases (is x.0))

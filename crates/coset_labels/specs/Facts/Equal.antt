@@ -39,7 +39,7 @@ module _ {A B : Type 0} (E : A → A → Bool) (f : A → B) (e : (x y : A) → 
             w.1 (s, t),
       )
 
--- ---- what is seen as it stands
+-- ---- what is seen as it is
 module _ {A : Type 0} (E : A → A → Bool) (e : (x y : A) → IsTrue (E x y) ↔ (x ≡ y)) where
   pub plain_options : (x y : Option A) → IsTrue (option_eq E x y) ↔ (x ≡ y)
   plain_options None None = (λ h. refl, λ h. refl)

@@ -60,7 +60,7 @@ at_middle : {K : Type 0} (is : K → Bool) (es : List (K × Tree)) (m : K) (v : 
 at_middle is [] m v fs e h = ap (λ b. cond b (Some v) (at is fs)) e
 at_middle is (x ∷ es) m v fs e h = let c = cond_none (is x.0) x.1 (at is es) (at is (es ++ (m, v) ∷ fs)) h in c.1 ∙ at_middle is es m v fs e c.0
 
--- what is at a key in front stands there in the whole
+-- what is at a key in front is also at it in the whole
 front_step : (b : Bool) (x : Tree) (y z : Option Tree) (t : Tree) → (y ≡ Some t → z ≡ Some t) → cond b (Some x) y ≡ Some t → cond b (Some x) z ≡ Some t
 front_step true x y z t f e = e
 front_step false x y z t f e = f e

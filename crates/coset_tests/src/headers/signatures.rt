@@ -29,7 +29,7 @@ fn is_copied(rt: &impl Abort, alloc: Global, built: &CoseSignature) {
     writes(rt, alloc, copy, SIGNATURE);
 }
 
-/// What is read of those bytes differs from the signature, and is written as them.
+/// What is read from those bytes differs from the signature, and is written as them.
 fn differs_from_read(rt: &impl Abort, alloc: Global, built: &CoseSignature) {
     let bytes = of_hex(rt, alloc, SIGNATURE);
     let read = CoseSignature::from_slice(alloc, bytes.as_slice()).expect(rt, "a signature");

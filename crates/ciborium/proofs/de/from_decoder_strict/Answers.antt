@@ -4,7 +4,7 @@ use Rattle.std.proofs.lemmas.Result.{err_from_is_err_and}
 use Rattle.ciborium_ll.specs.Views.{seen, shortest_of}
 use Rattle.ciborium.proofs.ReadLemmas.{item_title_fails}
 use Rattle.ciborium.proofs.TurnLemmas.{exact_read, item_fails}
-use Rattle.ciborium.proofs.Halting.{some_then}
+use Rattle.ciborium.proofs.Halting.{some_then, not_memory, memory_then}
 use Rattle.ciborium.proofs.de.from_decoder_strict.Goals as goal
 
 pub returns-in_err-place-clause-err : goal.returns-in_err-place-clause-err
@@ -29,3 +29,13 @@ pub returns-in_err-value-clause-stops : goal.returns-in_err-value-clause-stops
 returns-in_err-value-clause-stops g c =
     let p = err_from_is_err_and c.from_residual-in_err-value.result c.from_residual-in_err-value.ensures.1 in
     rw (p.1, p.2) (some_then _ _ _ c.in_ok-place.ensures.ok c.in_err-value.ensures.stops)
+
+pub returns-in_err-place-clause-one : goal.returns-in_err-place-clause-one
+returns-in_err-place-clause-one g c =
+    let p = err_from_is_err_and c.from_residual.result c.from_residual.ensures.1 in
+    rw (p.1, p.2) (not_memory _ _ c.in_err-place.ensures.memory)
+
+pub returns-in_err-value-clause-one : goal.returns-in_err-value-clause-one
+returns-in_err-value-clause-one g c =
+    let p = err_from_is_err_and c.from_residual-in_err-value.result c.from_residual-in_err-value.ensures.1 in
+    rw (p.1, p.2) (memory_then _ _ _ _ _ _ _ _ _ _ c.in_ok-place.ensures.ok (λ x y t one. one x t) c.in_err-value.ensures.one)

@@ -3,7 +3,9 @@ use Rattle.std.proofs.lemmas.Result.{err_from_is_err_and}
 use Rattle.ciborium_ll.specs.Views.{seen}
 use Rattle.ciborium.proofs.Taking.{takes_as, takes_then}
 use Rattle.ciborium.proofs.BeginLemmas.{begin_fails, level_begun, plain_leaf, tagged_leaf, leaf_fails, leaf_folds}
-use Rattle.ciborium.proofs.Halting.{some_then, some_taken, fold_not_long}
+use Rattle.ciborium.proofs.Halting.{some_then, some_taken, fold_not_long, memory_then, memory_of}
+use Rattle.ciborium.proofs.OneItem.{reads_behind}
+use Rattle.ciborium.proofs.OneTurns.{opened_behind, leaf_behind}
 use Rattle.ciborium.proofs.frames.begin.Goals as goal
 
 pub returns-in_err-frame-clause-err : goal.returns-in_err-frame-clause-err
@@ -57,3 +59,20 @@ pub returns-in_err-whole-in-Some-clause-stops : goal.returns-in_err-whole-in-Som
 returns-in_err-whole-in-Some-clause-stops g c =
     let p = err_from_is_err_and c.from_residual-in_err-whole-in-Some.result c.from_residual-in_err-whole-in-Some.ensures.1 in
     rw (p.1, p.2) (some_then _ _ _ c.in_ok-frame.ensures.ok (some_taken _ (fold_not_long _ _ _ c.in_err-whole-in-Some.ensures.err) c.in_ok-value-in-Leaf.ensures.ok))
+
+pub returns-in_default-clause-one : goal.returns-in_default-clause-one
+returns-in_default-clause-one g c =
+    takes_as _ _ _ _ _ _ (rw c.in-Level.is at c.in_ok-frame.ensures.ok) (λ y i. opened_behind c.args.title.1 c.args.title.0 (seen g.R.Read c.args.decoder.now).offset c.saturating_sub-left.result (g.X.Exactness.flag c.args.exact.now) (g.X.Exactness.flag c.opening.new.exact) c.in-Level.frame y i)
+
+pub returns-in_err-value-in-Leaf-clause-one : goal.returns-in_err-value-in-Leaf-clause-one
+returns-in_err-value-in-Leaf-clause-one g c =
+    let p = err_from_is_err_and c.from_residual-in_err-value-in-Leaf.result c.from_residual-in_err-value-in-Leaf.ensures.1 in
+    rw (p.1, p.2)
+    (memory_then _ _ _ _ _ _ _ _ _ _ (rw c.in-Leaf.is at c.in_ok-frame.ensures.ok) (λ x y i one. leaf_behind c.args.title.1 c.in-Leaf.header c.args.title.0 (seen g.R.Read c.args.decoder.now).offset c.saturating_sub-left.result c.in-Leaf.at c.in-Leaf.tag (g.X.Exactness.flag c.args.exact.now) (g.X.Exactness.flag c.opening.new.exact) x y i one) c.in_err-value-in-Leaf.ensures.one)
+
+pub returns-in_err-whole-in-Some-clause-one : goal.returns-in_err-whole-in-Some-clause-one
+returns-in_err-whole-in-Some-clause-one g c =
+    let p = err_from_is_err_and c.from_residual-in_err-whole-in-Some.result c.from_residual-in_err-whole-in-Some.ensures.1 in
+    rw (p.1, p.2)
+    (memory_of _ _ (takes_then _ _ _ _ _ _ _ _ _ (rw (c.in-Leaf.is, c.in-Some.is) at c.in_ok-frame.ensures.ok) c.in_ok-value-in-Leaf.ensures.ok
+    (λ x y i s. leaf_behind c.args.title.1 c.in-Leaf.header c.args.title.0 (seen g.R.Read c.args.decoder.now).offset c.saturating_sub-left.result c.in-Leaf.at (Some c.in-Some.n) (g.X.Exactness.flag c.args.exact.now) (g.X.Exactness.flag c.opening.new.exact) x y i (reads_behind c.in-Leaf.header 0 _ y (s 0)))))

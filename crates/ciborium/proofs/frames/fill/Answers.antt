@@ -2,7 +2,8 @@ use Rattle.std.proofs.Common.{rules, refl, arith}
 use Rattle.std.proofs.lemmas.Result.{err_from_is_err_and}
 use Rattle.ciborium_ll.specs.Views.{seen}
 use Rattle.ciborium.proofs.Taking.{takes_none}
-use Rattle.ciborium.proofs.Halting.{some_then}
+use Rattle.ciborium.proofs.Halting.{some_then, not_memory}
+use Rattle.ciborium.proofs.OneTurns.{fills_one}
 use Rattle.ciborium.proofs.FillLemmas.{fills_none, fills_end, fills_give, fills_leaf, fills_fail, leaf_asked_fails, listed_in_hand}
 use Rattle.ciborium.proofs.frames.fill.Goals as goal
 
@@ -69,3 +70,15 @@ pub parts-smaller : goal.parts-smaller
 parts-smaller g c =
     let e = listed_in_hand c.parts.top (rw c.if-not-takes.false at c.takes.ensures).0 in
     omega (arith, e, rw c.in-Some.is at c.in_ok-part.ensures.moved, c.in_ok-put_leaf-in-Some.ensures.ok.1.grown, c.put_leaf.new.decoder.fits)
+
+pub returns-in_err-part-clause-one : goal.returns-in_err-part-clause-one
+returns-in_err-part-clause-one g c =
+    let p = err_from_is_err_and c.from_residual.result c.from_residual.ensures.1 in
+    rw (p.1, p.2) (not_memory _ _ c.in_err-part.ensures.memory)
+
+pub returns-in_err-put_leaf-in-Some-clause-one : goal.returns-in_err-put_leaf-in-Some-clause-one
+returns-in_err-put_leaf-in-Some-clause-one g c =
+    let p = err_from_is_err_and c.from_residual-in_err-put_leaf-in-Some.result c.from_residual-in_err-put_leaf-in-Some.ensures.1 in
+    rw (p.1, p.2)
+    (fills_one c.args.top.now c.parts.top c.in-Some.header c.in-Some.at (seen g.R.Read c.args.decoder.now) (seen g.R.Read c.parts.decoder) (seen g.R.Read c.ask.new.decoder) (seen g.R.Read c.put_leaf.new.decoder) (g.X.Exactness.flag c.args.exact.now) (g.X.Exactness.flag c.parts.exact) (g.X.Exactness.flag c.ask.new.exact) _
+    c.parts.invariant.taken (rw c.in-Some.is at c.in_ok-part.ensures.some) c.in_err-put_leaf-in-Some.ensures.one)

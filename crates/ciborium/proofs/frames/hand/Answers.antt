@@ -1,4 +1,4 @@
-use Rattle.std.proofs.Common.{refl, reverse, sym}
+use Rattle.std.proofs.Common.{◌≡◌, None, Some, refl, reverse, sym, ◌∙◌}
 use Rattle.std.proofs.lemmas.Result.{err_from_is_err_and}
 use Rattle.ciborium.proofs.FrameLemmas.{items_more, entries_more, tag_up, tag_folds}
 use Rattle.ciborium.proofs.Halting.{fold_not_long}
@@ -24,3 +24,16 @@ pub returns-in_err-whole-in-Tag-clause-far : goal.returns-in_err-whole-in-Tag-cl
 returns-in_err-whole-in-Tag-clause-far g c =
     let p = err_from_is_err_and c.from_residual-in_err-whole-in-Tag.result c.from_residual-in_err-whole-in-Tag.ensures.1 in
     rw (p.1, p.2) (fold_not_long _ _ _ c.in_err-whole-in-Tag.ensures.err)
+
+pub returns-in_default-push-clause-some : goal.returns-in_default-push-clause-some
+returns-in_default-push-clause-some g c = λ e. let f : Some c.in-Some.value ≡ None = sym c.in-Some.is ∙ c.take.ensures.value ∙ e in cc
+
+pub returns-in_err-put_half-in-Entries-clause-some : goal.returns-in_err-put_half-in-Entries-clause-some
+returns-in_err-put_half-in-Entries-clause-some g c =
+    let p = err_from_is_err_and c.from_residual.result c.from_residual.ensures.1 in
+    rw p.1 (λ e. let f : Some c.in-Some.value ≡ None = sym c.in-Some.is ∙ c.take.ensures.value ∙ e in cc)
+
+pub returns-in_err-whole-in-Tag-clause-some : goal.returns-in_err-whole-in-Tag-clause-some
+returns-in_err-whole-in-Tag-clause-some g c =
+    let p = err_from_is_err_and c.from_residual-in_err-whole-in-Tag.result c.from_residual-in_err-whole-in-Tag.ensures.1 in
+    rw p.1 (λ e. let f : Some c.in-Some.value ≡ None = sym c.in-Some.is ∙ c.take.ensures.value ∙ e in cc)

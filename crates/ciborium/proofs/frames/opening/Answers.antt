@@ -2,11 +2,12 @@ use Rattle.std.proofs.lemmas.Result.{err_from_is_err_and}
 use Rattle.ciborium_ll.specs.declared.hdr.Header.TheVariants.{Array, Map}
 use Rattle.ciborium_ll.specs.Title.{Title, IsShortest}
 use Rattle.ciborium_ll.specs.Views.{seen, shortest_of}
-use Rattle.ciborium.proofs.Taking.{takes_as}
+use Rattle.ciborium.proofs.Taking.{takes_as, takes_none}
 use Rattle.ciborium.specs.declared.de.Error.TheVariants.{RecursionLimitExceeded}
 use Rattle.ciborium.proofs.ReadLemmas.{deep_fails}
 use Rattle.ciborium.proofs.TagLemmas.{level_deep, tag_fails}
-use Rattle.ciborium.proofs.Halting.{was_taken}
+use Rattle.ciborium.proofs.Halting.{was_taken, not_memory}
+use Rattle.ciborium.proofs.OneItem.{none_behind}
 use Rattle.ciborium.proofs.frames.opening.Goals as goal
 
 pub returns-then-left-eq0-clause-err : goal.returns-then-left-eq0-clause-err
@@ -39,3 +40,14 @@ returns-then-is_leaf-clause-ok g c =
 
 pub returns-then-not-low-clause-stops : goal.returns-then-not-low-clause-stops
 returns-then-not-low-clause-stops g c = was_taken c.in_ok-place-in-Tag.ensures.ok
+
+pub returns-in_default-with_capacity-clause-one : goal.returns-in_default-with_capacity-clause-one
+returns-in_default-with_capacity-clause-one g c = takes_none _ _ _ (none_behind c.args.header)
+
+pub returns-in_default-with_capacity-2-clause-one : goal.returns-in_default-with_capacity-2-clause-one
+returns-in_default-with_capacity-2-clause-one g c = takes_none _ _ _ (none_behind c.args.header)
+
+pub returns-in_err-place-in-Tag-clause-one : goal.returns-in_err-place-in-Tag-clause-one
+returns-in_err-place-in-Tag-clause-one g c =
+    let p = err_from_is_err_and c.from_residual.result c.from_residual.ensures.1 in
+    rw (p.1, p.2) (not_memory _ _ c.in_err-place-in-Tag.ensures.memory)

@@ -2,7 +2,8 @@ use Rattle.std.proofs.Common.{rules, refl, reverse, ◌∷◌, arith}
 use Rattle.std.proofs.lemmas.Result.{err_from_is_err_and}
 use Rattle.ciborium_ll.specs.Views.{seen}
 use Rattle.ciborium.proofs.TurnLemmas.{turn_start, turn_staged, turn_taken, taken_none, turn_half, turn_ended, turn_closed, turn_begun, turn_done, done_some, turn_fails, begun_fails, turn_less}
-use Rattle.ciborium.proofs.Halting.{some_then, some_taken}
+use Rattle.ciborium.proofs.Halting.{some_then, some_taken, memory_of}
+use Rattle.ciborium.proofs.OneTurns.{turn_one, turn_fills, turn_begins}
 use Rattle.ciborium.proofs.frames.read_item.Goals as goal
 
 pub turns-init : goal.turns-init
@@ -103,3 +104,22 @@ pub returns-in_err-begin-in-Some-part-clause-stops : goal.returns-in_err-begin-i
 returns-in_err-begin-in-Some-part-clause-stops g c =
     let p = err_from_is_err_and c.from_residual-in_err-begin-in-Some-part.result c.from_residual-in_err-begin-in-Some-part.ensures.1 in
     rw (p.1, p.2) (some_then _ _ _ c.turns.invariant.turn.taken (some_then _ _ _ (rw c.in-Some-part.is at c.in_ok-part-in-Taken.ensures.some) c.in_err-begin-in-Some-part.ensures.stops))
+
+pub returns-in_err-hand-clause-one : goal.returns-in_err-hand-clause-one
+returns-in_err-hand-clause-one g c =
+    let p = err_from_is_err_and c.from_residual.result c.from_residual.ensures.1 in
+    rw (p.1, p.2) (memory_of _ _ (turn_one c.in_err-hand.ensures.some c.turns.invariant.turn))
+
+pub returns-in_err-part-in-Taken-clause-one : goal.returns-in_err-part-in-Taken-clause-one
+returns-in_err-part-in-Taken-clause-one g c =
+    let p = err_from_is_err_and c.from_residual-in_err-part-in-Taken.result c.from_residual-in_err-part-in-Taken.ensures.1 in
+    let t = turn_taken (c.hand.new.top ∷ reverse c.hand.new.below.items) c.hand.new.read (g.X.Exactness.flag c.hand.new.exact) c.turns.invariant.turn (rw c.in-Taken.is at c.in_ok-hand.ensures.ok) in
+    rw (p.1, p.2) (turn_fills (seen g.R.Read c.fill.new.decoder) _ t c.in_err-part-in-Taken.ensures.one)
+
+pub returns-in_err-begin-in-Some-part-clause-one : goal.returns-in_err-begin-in-Some-part-clause-one
+returns-in_err-begin-in-Some-part-clause-one g c =
+    let p = err_from_is_err_and c.from_residual-in_err-begin-in-Some-part.result c.from_residual-in_err-begin-in-Some-part.ensures.1 in
+    let t = turn_taken (c.hand.new.top ∷ reverse c.hand.new.below.items) c.hand.new.read (g.X.Exactness.flag c.hand.new.exact) c.turns.invariant.turn (rw c.in-Taken.is at c.in_ok-hand.ensures.ok) in
+    rw (p.1, p.2)
+    (turn_begins c.fill.new.top c.in-Some-part.title.0 c.in-Some-part.title.1 (seen g.R.Read c.fill.new.decoder) (seen g.R.Read c.begin.new.decoder) (g.X.Exactness.flag c.fill.new.exact) _ t
+    (rw c.in-Some-part.is at c.in_ok-part-in-Taken.ensures.some) c.in_err-begin-in-Some-part.ensures.one)

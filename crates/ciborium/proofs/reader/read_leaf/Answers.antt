@@ -42,3 +42,13 @@ returns-in_ok-bytes-in-Bytes-clause-ok g c = rw c.in-Bytes.is (takes_as _ _ _ _ 
 
 pub returns-in_ok-text-in-Text-clause-ok : goal.returns-in_ok-text-in-Text-clause-ok
 returns-in_ok-text-in-Text-clause-ok g c = rw c.in-Text.is (takes_as _ _ _ _ _ _ c.in_ok-text-in-Text.ensures.ok (λ x s limit. text_read _ limit _ _ x (view_text _) s))
+
+pub returns-in_err-bytes-in-Bytes-clause-one : goal.returns-in_err-bytes-in-Bytes-clause-one
+returns-in_err-bytes-in-Bytes-clause-one g c =
+    let p = err_from_is_err_and c.from_residual.result c.from_residual.ensures.1 in
+    rw (p.1, p.2) (rw c.in-Bytes.is c.in_err-bytes-in-Bytes.ensures.one)
+
+pub returns-in_err-text-in-Text-clause-one : goal.returns-in_err-text-in-Text-clause-one
+returns-in_err-text-in-Text-clause-one g c =
+    let p = err_from_is_err_and c.from_residual-in_err-text-in-Text.result c.from_residual-in_err-text-in-Text.ensures.1 in
+    rw (p.1, p.2) (rw c.in-Text.is c.in_err-text-in-Text.ensures.one)

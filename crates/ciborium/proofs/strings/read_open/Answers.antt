@@ -2,7 +2,8 @@ use Rattle.std.proofs.Common.{◌≡◌, ◌+◌, arith, rules, refl}
 use Rattle.std.proofs.lemmas.Result.{err_from_is_err_and}
 use Rattle.ciborium.proofs.Taking.{takes_none}
 use Rattle.ciborium.proofs.StringLemmas.{open_start, title_grows, step_done, step_less, step_more, step_chunk, chunk_earned, open_title_fails, open_chunk_fails, open_other_fails}
-use Rattle.ciborium.proofs.Halting.{some_then, both_taken}
+use Rattle.ciborium.proofs.Halting.{some_then, both_taken, not_memory}
+use Rattle.ciborium.proofs.OneItem.{open_memory}
 use Rattle.ciborium.proofs.strings.read_open.Goals as goal
 
 pub parts-init : goal.parts-init
@@ -53,3 +54,13 @@ returns-in_err-read_chunk-in-Chunk-clause-stops g c =
 
 pub returns-in-Other-clause-stops : goal.returns-in-Other-clause-stops
 returns-in-Other-clause-stops g c = both_taken c.parts.invariant.taken c.in_ok-place.ensures.ok
+
+pub returns-in_err-place-clause-one : goal.returns-in_err-place-clause-one
+returns-in_err-place-clause-one g c =
+    let p = err_from_is_err_and c.from_residual.result c.from_residual.ensures.1 in
+    rw (p.1, p.2) (not_memory _ _ c.in_err-place.ensures.memory)
+
+pub returns-in_err-read_chunk-in-Chunk-clause-one : goal.returns-in_err-read_chunk-in-Chunk-clause-one
+returns-in_err-read_chunk-in-Chunk-clause-one g c =
+    let p = err_from_is_err_and c.from_residual-in_err-read_chunk-in-Chunk.result c.from_residual-in_err-read_chunk-in-Chunk.ensures.1 in
+    rw (p.1, p.2) (open_memory _ _ _ _ _ _ _ _ _ _ _ _ _ _ c.parts.invariant.taken c.in_ok-place.ensures.ok c.in-Chunk.ensures c.in_err-read_chunk-in-Chunk.ensures.one)

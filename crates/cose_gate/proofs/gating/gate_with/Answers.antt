@@ -16,6 +16,7 @@ returns g c = record {
   no_memory = holds_none _ _ _ _ _ c.gate_by.ensures.ran;
   nothing = c.gate_by.ensures.nothing;
   no_memory_of_nothing = c.gate_by.ensures.no_memory_of_nothing;
+  far = c.gate_by.ensures.far;
   reader = c.gate_by.ensures.reader;
   writer = c.gate_by.ensures.writer;
   who = c.gate_by.ensures.who;

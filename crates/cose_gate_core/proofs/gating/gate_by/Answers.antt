@@ -2,7 +2,7 @@ use Rattle.std.proofs.Common.{refl, ap, ◌∙◌, arith, rules}
 use Rattle.std.specs.Prelude.{Err}
 use Rattle.cose_gate_core.proofs.InOrder.{err_is}
 use Rattle.cose_gate_core.proofs.Reach.{reached_start, item_grows}
-use Rattle.cose_gate_core.proofs.Outcomes.{reached_step, answer_read, answer_item, answer_noting, same_entry, nothing_taken, nothing_read, read_of}
+use Rattle.cose_gate_core.proofs.Outcomes.{reached_step, answer_read, answer_item, answer_noting, same_entry, nothing_taken, nothing_read, read_of, read_far, stopped_not_long}
 use Rattle.cose_gate_core.proofs.gating.gate_by.Goals as goal
 
 pub items-init : goal.items-init
@@ -73,3 +73,9 @@ returns-in_err-note-clause-no_memory_of_nothing g c = λ none same.
 
 pub next_item-requires : goal.next_item-requires
 next_item-requires g c = c.items.invariant.fresh
+
+pub returns-in_err-value-clause-far : goal.returns-in_err-value-clause-far
+returns-in_err-value-clause-far g c = rw (err_is _ _ c.from_residual.ensures.1) (read_far g.R.Read.ends _ _ _ _ _ _ c.in_err-value.ensures.err)
+
+pub returns-in_err-verdict-clause-far : goal.returns-in_err-verdict-clause-far
+returns-in_err-verdict-clause-far g c = rw (err_is _ _ c.from_residual-in_err-verdict.ensures.1) (stopped_not_long _ _ _)

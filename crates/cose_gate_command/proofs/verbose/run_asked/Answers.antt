@@ -1,7 +1,7 @@
 use Rattle.std.proofs.Common.{refl, rules}
 use Rattle.cose_gate_program.proofs.Runs.{began, ended}
 use Rattle.cose_gate_command.proofs.Ends.{lent_on}
-use Rattle.cose_gate_command.proofs.verbose.run_verbose.Goals as goal
+use Rattle.cose_gate_command.proofs.verbose.run_asked.Goals as goal
 
 pub returns-in-Ok-clause-ran : goal.returns-in-Ok-clause-ran
 returns-in-Ok-clause-ran g c =
