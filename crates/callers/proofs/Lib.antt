@@ -1,6 +1,5 @@
 pub mod Again
 pub mod Agreed
-pub mod Alike
 pub mod Checked
 pub mod Confused
 pub mod Encoded
@@ -9,9 +8,7 @@ pub mod Further
 pub mod Ids
 pub mod Joined
 pub mod Keys
-pub mod Noted
-pub mod Recorded
-pub mod Records
+pub mod NoMemoryNoted
 pub mod Refilled
 pub mod Relay
 pub mod Sealed

@@ -1,4 +1,3 @@
-pub mod Alike
 pub mod Asking
 pub mod Checking
 pub mod Choosing
@@ -11,7 +10,6 @@ pub mod Judging
 pub mod Keeping
 pub mod Kinds
 pub mod Noted
-pub mod Recording
 pub mod Refilling
 pub mod Roads
 pub mod Sides

@@ -2,7 +2,6 @@
 //! public surface can be reached, and that its contracts are of use.
 #![tactic(auto)]
 
-pub mod alike;
 pub mod asking;
 pub mod checking;
 pub mod choosing;
@@ -22,8 +21,6 @@ pub mod kinds;
 pub mod noted;
 pub mod once;
 pub mod prepared;
-pub mod recording;
-pub mod records;
 pub mod refilling;
 pub mod relaying;
 pub mod resumed;

@@ -3,7 +3,7 @@ use Rattle.std.specs.Prelude.{All}
 use Rattle.cose_gate.specs.Findings.{usual}
 use Rattle.callers.specs.Judging.{allows}
 use Rattle.callers.specs.Sides.{known_of}
-use Rattle.callers.proofs.Noted.{of_report}
+use Rattle.callers.proofs.NoMemoryNoted.{of_report}
 use Rattle.callers.proofs.noted.entries_of.Goals as goal
 
 pub returns : goal.returns

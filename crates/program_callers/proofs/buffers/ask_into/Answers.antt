@@ -1,6 +1,0 @@
-use Rattle.program_callers.proofs.InFront.{in_front, told}
-use Rattle.program_callers.proofs.buffers.ask_into.Goals as goal
-
-pub returns : goal.returns
-returns c =
-    in_front _ _ _ _ _ _ c.ask.result c.output_len.result (λ text status few is. told _ _ _ _ text status few is) c.ask.ensures c.output_len.ensures
