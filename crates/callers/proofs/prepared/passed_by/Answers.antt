@@ -5,6 +5,7 @@ use Rattle.callers.proofs.prepared.passed_by.Goals as goal
 
 pub returns-in-Ok : goal.returns-in-Ok
 returns-in-Ok g c = λ ss rest run.
-    wrote _ _ _ _ c.from-decoder.ensures.1 (rw (c.from-decoder.ensures.0, c.from-decoder.ensures.2) refl)
+    wrote _ _ _ _ _ _ _ _ c.from-decoder.ensures.1
     (ap (λ (v : Vec ℕ). Some v.items) c.new-out.ensures.inner ∙ ap Some c.new.ensures.items) (ap (λ (v : Vec ℕ). Some v.items) (sym c.into_inner.ensures))
-    c.in-Ok.ensures.written ss rest run
+    ss rest run
+    (c.in-Ok.ensures.written c.args.input.now ss rest (rw (c.from-decoder.ensures.0, c.from-decoder.ensures.2) refl))
