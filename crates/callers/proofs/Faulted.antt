@@ -1,6 +1,6 @@
 -- What the clauses of the gate say after a fault.
-use Rattle.std.proofs.Common.{◌≡◌, ℕ, ◌+◌, inl, inr, List, [], ◌∷◌, ◌++◌, length, Option, Some, Bool, zero-add, refl, sym, subst, ap, ◌∙◌, append_assoc, append-nil, arith}
-use Rattle.std.specs.Prelude.{Result, Ok, Err, ◌≢◌}
+use Rattle.std.proofs.Common.{◌≡◌, ℕ, ◌+◌, ◌^◌, ◌<◌, max, inl, inr, List, [], ◌∷◌, ◌++◌, length, Option, Some, Bool, zero-add, refl, sym, subst, ap, ◌∙◌, append_assoc, append-nil, arith}
+use Rattle.std.specs.Prelude.{Result, Ok, Err, IfErr, ◌≢◌}
 use Rattle.std.specs.Io.KnownBytes.{Appends}
 use Rattle.cose_gate.specs.Anew.{AreEntries}
 use Rattle.cose_gate.specs.Asked.{folded_over}
@@ -13,11 +13,13 @@ use Rattle.cose_gate.specs.GateFault.{GateFault}
 use Rattle.cose_gate.specs.GateFault.TheVariants as gating
 use Rattle.cose_gate.specs.Outcome.{Rules, Sight, Answers, writer_failures}
 use Rattle.cose_gate.specs.Questions.{MessageFields}
+use Rattle.cose_gate.specs.ReadError.TheVariants.{TooLong}
 use Rattle.cose_gate.specs.Reading.{IfKnown}
 use Rattle.cose_gate.specs.Run.{Step, output_of}
 use Rattle.cose_gate.specs.Stated.{IsSingle, Stated}
 use Rattle.cose_gate.specs.StreamFault.{StreamFault}
-use Rattle.cose_gate.specs.Streaming.{Answered, HoldsNoMemory, IsLongFor, Tells, Unstreamed}
+use Rattle.cose_gate.specs.StreamFault.TheVariants as streaming
+use Rattle.cose_gate.specs.Streaming.{Answered, HoldsNoMemory, IsFarFor, IsLongFor, Tells, Unstreamed}
 use Rattle.cose_gate.specs.Tree.{Tree}
 use Rattle.callers.specs.Faults as spec
 
@@ -83,3 +85,11 @@ module _ {E : Type 0} (ends : E → Bool) (room : ℕ) (left : Option (List ℕ)
       let here = subst (λ (l : Option (List ℕ)). IfKnown l (λ b. (item : Tree) (front rest : List ℕ) (message : MessageFields) (size : ℕ) → b ≡ front ++ rest
       → Reads front usual.nesting item → IsJudged usual item message → IsSingle message → Stated front size → Answered ends (IsLongFor room place b) r)) is answers in
       subst (λ (n : ℕ). Answered ends (IsLongFor room n input) r) start (here item front rest message size whole reads judged single stated)
+
+-- offsets may still grow
+pub never_long : {E : Type 0} (r : Result Bool (StreamFault E)) (room at : ℕ) → IfErr r (IsFarFor room at) → at + max 4096 room < 2 ^ 64 → r ≢ Err (streaming.Decode TooLong)
+never_long (Ok x) room at far few e = let h : Ok x ≡ Err (streaming.Decode TooLong) = e in cc
+never_long (Err f) room at far few e =
+    let h : Err f ≡ Err (streaming.Decode TooLong) = e in
+    let g : f ≡ streaming.Decode TooLong = cc in
+    absurd (let l = far g in let k : ⊥ = omega (arith, few, l) in k)

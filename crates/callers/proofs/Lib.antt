@@ -8,8 +8,11 @@ pub mod Further
 pub mod Ids
 pub mod Joined
 pub mod Keys
+pub mod NoMemoryNoted
 pub mod Refilled
 pub mod Relay
 pub mod Sealed
 pub mod Spelled
+pub mod Tagging
 pub mod Told
+pub mod Wrote

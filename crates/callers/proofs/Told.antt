@@ -55,11 +55,11 @@ asking folded aad = record {
 
 abbrev pub passing : {S : Type 0} → (S → Entry → S) → (Question → Bool) → List ℕ
     → Rules (Unit {0}) S
-passing folded yes aad = record {
+passing folded rule aad = record {
   limits = usual;
   decided = λ t q. t;
   folded = folded;
-  allows = yes;
+  allows = rule;
   aad = aad;
 }
 

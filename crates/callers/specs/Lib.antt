@@ -9,9 +9,11 @@ pub mod Items
 pub mod Judging
 pub mod Keeping
 pub mod Kinds
+pub mod Noted
 pub mod Refilling
 pub mod Roads
 pub mod Sides
 pub mod Signing
+pub mod Tagged
 pub mod Tallies
 pub mod Windows

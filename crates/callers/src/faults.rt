@@ -1,6 +1,6 @@
 //! What is known after a fault of the gate or of the streaming check. `cose_gate` is the one crate
 //! that it names.
-ghost use Rattle.std.specs.Prelude.{◌≡◌, ◌≢◌, ◌<◌, ◌+◌, ◌++◌, ℕ, List, [], true, length};
+ghost use Rattle.std.specs.Prelude.{◌≡◌, ◌≢◌, ◌<◌, ◌+◌, ◌^◌, ◌++◌, ℕ, List, [], true, length, max};
 ghost use Rattle.std.specs.Prelude.{IfOk, IfErr, IsOk, OnErr, Err};
 ghost use Rattle.std.specs.Io.KnownBytes.{Appends};
 ghost use Rattle.cose_gate.specs.Asked.{IsFront};
@@ -10,8 +10,10 @@ ghost use Rattle.cose_gate.specs.Gate.{HoldsNoMemory, IfWrite, IfMemory};
 ghost use Rattle.cose_gate.specs.GateFault.TheVariants as fault;
 ghost use Rattle.cose_gate.specs.Outcome.{writer_failures};
 ghost use Rattle.cose_gate.specs.Questions.{MessageFields};
+ghost use Rattle.cose_gate.specs.ReadError.TheVariants.{TooLong};
 ghost use Rattle.cose_gate.specs.Run.{Step, Run, output_of, passed_count, refused_count};
 ghost use Rattle.cose_gate.specs.Stated.{IsSingle, Stated};
+ghost use Rattle.cose_gate.specs.StreamFault.TheVariants.{Decode};
 ghost use Rattle.cose_gate.specs.Streaming.{Answered, IsLongFor, Tells, Unstreamed};
 ghost use Rattle.cose_gate.specs.Tree.{Tree};
 ghost use Rattle.callers.specs.Faults.{Noted, Torn, WholeTexts};
@@ -20,7 +22,8 @@ ghost use Rattle.callers.specs.Sides.{known_of, asked_of};
 
 use crate::judging::KeyIds;
 use cose_gate::{
-    Counts, Decoder, End, Entry, GateFault, Nowhere, Silent, StreamFault, Write, gate, stream_check,
+    Counts, Decoder, End, Entry, GateFault, Nowhere, Read, Silent, StreamFault, Write, gate,
+    stream_check,
 };
 use std::alloc::Global;
 
@@ -136,4 +139,24 @@ pub fn is_from(
         Ok(yes) => Ok(yes),
         Err(fault) => Err(fault),
     }
+}
+
+/// The streaming check of the message in front, and how far the decoder is after it.
+///
+/// # Errors
+/// Those of `stream_check`. It is never `TooLong` while offsets may still grow by 4,096, or by the
+/// length of the buffer if that is more.
+pub fn check_at<R: Read>(
+    alloc: Global,
+    decoder: &mut Decoder<R>,
+    buffer: &mut [u8],
+    aad: &[u8],
+    judge: &mut KeyIds,
+) -> (Result<bool, StreamFault<R::Error>>, usize)
+    requires { 0 < length buffer.old }
+    ensures { result.1 + max 4096 (length buffer.old) < 2 ^ 64
+        → result.0 ≢ Err (Decode TooLong) }
+{
+    let checked = stream_check(alloc, decoder, buffer, aad, judge);
+    (checked, decoder.offset())
 }

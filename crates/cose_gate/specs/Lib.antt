@@ -13,6 +13,7 @@ pub use Rattle.cose_gate_laws.specs.GateCore.declared.about.MessageKind
 pub use Rattle.cose_gate_laws.specs.GateCore.declared.gating.Counts
 pub use Rattle.cose_gate_laws.specs.GateCore.declared.gating.GateFault
 pub use Rattle.cose_gate_laws.specs.GateCore.declared.report.Entry
+pub use Rattle.cose_gate_laws.specs.GateCore.declared.report.Refusal
 pub use Rattle.cose_gate_laws.specs.GateCore.declared.report.Verdict
 pub use Rattle.cose_gate_laws.specs.Anew
 pub use Rattle.cose_gate_laws.specs.Fixed
@@ -76,6 +77,7 @@ pub use Rattle.coset_keys.specs.Written as KeysWritten
 pub use Rattle.coset_keys.specs.Wrong as WrongKeys
 pub use Rattle.coset_keys.specs.declared.key.CoseKey
 pub use Rattle.coset_keys.specs.declared.key.CoseKeySet
+pub use Rattle.cose_gate_program.specs.Beginning
 pub use Rattle.cose_gate_program.specs.HmacJudges
 pub use Rattle.cose_gate_program.specs.HmacKeys
 pub use Rattle.cose_gate_program.specs.HmacMessages

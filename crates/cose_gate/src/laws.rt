@@ -6,3 +6,4 @@ pub use cose_gate_laws::{
     output_is_no_longer, output_is_passed_messages, output_is_received, refused_taken_out,
     same_trees, shape_holds_no_memory, wider_limits_admit,
 };
+pub use cose_gate_records::laws::one_key;

@@ -1,0 +1,60 @@
+//! Messages that were read, written again in their tags straight from their fields, as a gate
+//! writes them. `coset_message_sink`, `coset_messages`, `cose_gate` and `ciborium` are the crates
+//! that it names.
+ghost use Rattle.std.specs.Prelude.{◌≡◌, IfOk};
+ghost use Rattle.ciborium_value.specs.Encoding.{enc};
+ghost use Rattle.ciborium_value.specs.Tree.{Tree};
+ghost use Rattle.cose_gate.specs.Findings.{Bounds, IsMessage};
+ghost use Rattle.cose_gate.specs.Questions.{message_text};
+ghost use Rattle.callers.specs.Tagged.{fields_of, tagged_put};
+
+use ciborium::ser::{Serialize, Sink};
+use ciborium::{Mem, into_writer};
+use coset_message_sink::laws::read_is_put;
+use coset_message_sink::{put_tagged_mac, put_tagged_mac0, put_tagged_sign, put_tagged_sign1};
+use coset_messages::{CoseMac, CoseMac0, CoseSign, CoseSign1};
+use std::alloc::{AllocError, Global};
+
+/// A message of one of the kinds that a gate passes.
+#[derive(Clone, Copy)]
+pub enum Message<'a> {
+    /// In tag 18.
+    Sign1(&'a CoseSign1),
+    /// In tag 17.
+    Mac0(&'a CoseMac0),
+    /// In tag 98.
+    Sign(&'a CoseSign),
+    /// In tag 97.
+    Mac(&'a CoseMac),
+}
+
+/// A message in its tag.
+impl Serialize for Message<'_> {
+    ghost put = { tagged_put };
+
+    fn serialize<S: Sink>(&self, sink: &mut S) -> Result<(), S::Error> {
+        match self {
+            Message::Sign1(message) => put_tagged_sign1(message, sink),
+            Message::Mac0(message) => put_tagged_mac0(message, sink),
+            Message::Sign(message) => put_tagged_sign(message, sink),
+            Message::Mac(message) => put_tagged_mac(message, sink),
+        }
+    }
+}
+
+/// What a gate writes of a message that was read, if the message passes.
+///
+/// # Errors
+/// Only if out of memory.
+pub fn gate_text(alloc: Global, message: Message) -> Result<Vec<u8>, AllocError>
+    ensures { IfOk result (λ out. (limits : Bounds) (t : Tree)
+        → IsMessage limits t (fields_of message.entry)
+        → out.items ≡ message_text (fields_of message.entry)) }
+{
+    read_is_put();
+    let mut out = Mem::new(Vec::new(alloc));
+    match into_writer(&message, &mut out) {
+        Ok(()) => Ok(out.into_inner()),
+        Err(_) => Err(AllocError),
+    }
+}

@@ -1,0 +1,74 @@
+//! The program's run, watched by a teller in place of lines. `cose_gate` is the one crate that it
+//! names.
+ghost use Rattle.std.specs.Prelude.{◌≡◌};
+ghost use Rattle.cose_gate.specs.Program.{devices_of};
+ghost use Rattle.cose_gate.specs.Terms.{limits_by};
+ghost use Rattle.callers.specs.Asking.{RanByIds};
+ghost use Rattle.callers.specs.Sides.{known_of, asked_of};
+
+use crate::gatings::Gating;
+use crate::judging::KeyIds;
+use cose_gate::{
+    Counts, Entry, GateFault, InputFault, NotBegun, Read, Teller, Terms, Write, run_told,
+};
+use std::alloc::Global;
+
+/// How far a run is, as a page that shows it would ask: the offset of the last item, and what the
+/// run came to.
+#[derive(Debug, Clone, Copy, PartialEq, Eq, Drop)]
+pub struct Progress {
+    /// Where the last item begins.
+    pub offset: usize,
+    /// How many items passed and were refused, if the run is over.
+    pub counts: Option<Counts>,
+    /// Whether the run stopped, or didn't begin.
+    pub stopped: bool,
+}
+
+impl Teller for Progress {
+    fn item(&mut self, entry: &Entry) {
+        self.offset = entry.offset;
+    }
+
+    fn counts(&mut self, counts: Counts) {
+        self.counts = Some(counts);
+    }
+
+    fn stopped(&mut self, _fault: &GateFault<InputFault>) {
+        self.stopped = true;
+    }
+
+    fn not_begun(&mut self, _why: NotBegun) {
+        self.stopped = true;
+    }
+}
+
+/// The program's run with a judge by key ids, gated so, and watched.
+pub fn run_watched<R: Read, W: Write>(
+    alloc: Global,
+    gating: Gating,
+    aad: &[u8],
+    input: &mut R,
+    out: &mut W,
+    progress: &mut Progress,
+    judge: &mut KeyIds,
+) -> u8
+    ensures ran { RanByIds (limits_by gating.limits gating.strict) (known_of judge.old) aad.now
+        (devices_of R.Read W.Write input.old out.old)
+        (devices_of R.Read W.Write input.new out.new)
+        (asked_of judge.old) (asked_of judge.new) result }
+    ensures known { known_of judge.new ≡ known_of judge.old }
+    ensures kept { R.handle input.new ≡ R.handle input.old }
+    ensures lent { W.handle out.new ≡ W.handle out.old }
+{
+    let Gating { limits, strict } = gating;
+    run_told(
+        alloc,
+        Terms { limits, strict },
+        aad,
+        input,
+        out,
+        progress,
+        judge,
+    )
+}
