@@ -1,5 +1,5 @@
-//! A judge from a check: tags under secrets that are chosen by their key ids. `cose_gate` is the one
-//! crate that it names.
+//! A judge from a check: tags under secrets that are chosen by their key ids. `cose_gate` is the
+//! one crate that it names.
 ghost use Rattle.std.specs.Prelude.{◌≡◌, IfOk, slice_get};
 ghost use Rattle.std.specs.Str.{bytes_eq};
 ghost use Rattle.cose_gate.specs.Hmac.{hmac};

@@ -115,9 +115,9 @@ pub fn run_verbose<'f, 'd, R: Read, W: Write, E: Write>(
     run_asked(alloc, terms, true, file, aad, input, out, err)
 }
 
-/// As `run_verbose`, or as `run_with` if it isn't verbose. Both are one run over one type of reader,
-/// judge and teller: of two, the compiler would leave apart what it puts into one function else, and
-/// each message would take up to 6 % more instructions.
+/// As `run_verbose`, or as `run_with` if it isn't verbose. Both are one run over one type of
+/// reader, judge and teller: with two runs the compiler would no longer put what both call into
+/// one function, and each message would take up to 6 % more instructions.
 pub(crate) fn run_asked<'f, 'd, R: Read, W: Write, E: Write>(
     alloc: Global,
     terms: Terms,

@@ -14,8 +14,8 @@ use std::fmt::Write as _;
 /// How many bytes of a line are held back: a whole line, unless a number or a fault is long.
 const HELD: usize = 128;
 
-/// The bytes that the line of an item takes at most: 5 and 4 beside two numbers of at most 20, and an
-/// end of at most 23.
+/// The bytes that the line of an item takes at most: 5 and 4 beside two numbers of at most 20, and
+/// an end of at most 23.
 const LINE: usize = 72;
 
 /// Text to a writer, in as few calls as hold it.
@@ -131,7 +131,8 @@ impl<'a, W: Write> Teller for Lines<'a, W> {
     }
 }
 
-/// The line of an item. It is put together from its end, so that a number is written where it stays.
+/// The line of an item. It is put together from its end, so that each number is written into its
+/// place.
 fn say_entry<W: Write>(entry: Entry, out: &mut W) {
     let mut line = [0; LINE];
     let ending = ending_of(entry.verdict).as_bytes();

@@ -23,8 +23,8 @@ pub struct OutBlocks<W> {
 }
 
 impl<W: io::Write> OutBlocks<W> {
-    /// The bytes to this writer, with no failure yet, and this block in front of it: as many are held
-    /// back as it has capacity for.
+    /// A writer to this one with no failure yet, and this block in front of it. It holds back as
+    /// many bytes as the block has capacity for.
     pub fn new(block: Vec<u8>, writer: W) -> OutBlocks<W>
         ensures writer { spec.out_blocks_writer result ≡ writer }
         ensures held { spec.out_blocks_held result ≡ block.items }
@@ -37,7 +37,8 @@ impl<W: io::Write> OutBlocks<W> {
         }
     }
 
-    /// Writes what is held back. What a failure leaves unwritten stays. A failure is not counted yet.
+    /// Writes what is held back. What a failure leaves unwritten stays. A failure is not counted
+    /// yet.
     fn pass_on(&mut self) -> Result<(), OutputFault>
         ensures empty { OnOk result (self.new.held.items ≡ []) }
         ensures bytes { Keeps (written_in_blocks W.contents self.old)
