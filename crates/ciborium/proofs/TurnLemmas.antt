@@ -207,6 +207,14 @@ exact_read h limit v u w s old mid new few flag t r =
       grown = omega (arith, t.grown, r.grown, length-append t.bytes r.bytes);
     }
 
+-- the same, told if it is asked (k)
+pub exact_by : (h : Header) (limit : ℕ) (v : Tree) (k u w s : Bool) (old mid new : Seen) → new.offset < 2 ^ 64 → w ≡ (k && (s && encoded h)) → Takes old mid (λ b. Title b h) → (k ≡ true → Takes old mid (λ b. Title b h × IsShortest s b h))
+    → Takes mid new (ReadExact h limit v w u) → Takes old new (λ b. Reads b limit v × (k ≡ true → Says (k && u) (b ≡ enc v)))
+exact_by h limit v true u w s old mid new few flag t t' r =
+    takes_as old.left new.left old.offset new.offset _ _ (exact_read h limit v u w s old mid new few flag (t' refl) r) (λ b p. (p.0, λ _. p.1))
+exact_by h limit v false u w s old mid new few flag t t' r =
+    takes_then old.left mid.left new.left old.offset mid.offset new.offset _ _ _ t (behind_read h limit v w u mid new r) (λ x y a b. (b x a, λ (e : false ≡ true). absurd (cc)))
+
 -- a fault after the title of an item is one of the item
 pub item_fails : {E : Type 0} (ends : E → Bool) (h : Header) (at limit : ℕ) (old mid new : Seen) (e : Error E) → at ≡ old.offset → Takes old mid (λ b. Title b h) → NamesFaultBehind ends h at (λ stop b f. Damage stop b limit f) mid new e
     → NamesFault ends (λ stop b f. Damage stop b limit f) old new e

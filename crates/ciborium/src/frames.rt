@@ -104,17 +104,17 @@ fn put_half<E>(list: &mut Entries, half: Value) -> Result<(), Error<E>>
 
 /// Hands a value, if one was read, to the innermost level. A tag is whole with it, and the level
 /// around it the innermost then.
-fn hand<E, X: Exactness>(
+fn hand<E>(
     alloc: Global,
     below: &mut Vec<Frame>,
     top: &mut Frame,
     read: &mut Option<Value>,
-    exact: &mut X,
+    exact: &mut Exactness,
 ) -> Result<Handed, Error<E>>
     requires staged { IsStaged (top.old ∷ reverse below.old.items) read.old }
     ensures ok { IfOk result (Hands (top.old ∷ reverse below.old.items)
         (top.new ∷ reverse below.new.items) read.old read.new
-        (X.flag exact.old) (X.flag exact.new)) }
+        exact.old.holds exact.new.holds) }
     ensures falls { IfOk result (Falls (rank below.old.items top.old read.old)
         (rank below.new.items top.new read.new)) }
     ensures err { IfErr result (HandFails (top.old ∷ reverse below.old.items) read.old) }
@@ -206,13 +206,9 @@ fn next_half<R: Read>(
 }
 
 /// Takes in the title that was read, if there was one.
-fn take_title<R: Read, X: Exactness>(
-    decoder: &Decoder<R>,
-    part: Option<(usize, Header)>,
-    exact: &mut X,
-)
-    ensures { MatchOption part (X.flag exact.new ≡ X.flag exact.old)
-        (λ r. X.flag exact.new ≡ (X.flag exact.old && (shortest_of decoder.now && encoded r.1))) }
+fn take_title<R: Read>(decoder: &Decoder<R>, part: Option<(usize, Header)>, exact: &mut Exactness)
+    ensures { MatchOption part (exact.new.holds ≡ exact.old.holds)
+        (λ r. exact.new.holds ≡ (exact.old.holds && (shortest_of decoder.now && encoded r.1))) }
 {
     if let Some((_, header)) = part {
         exact.title(decoder, header);
@@ -221,15 +217,15 @@ fn take_title<R: Read, X: Exactness>(
 
 /// The value of a tag over its content. If the fold changes a byte string, its bytes were not
 /// canonical encoding.
-fn tag_value<E, X: Exactness>(
+fn tag_value<E>(
     alloc: Global,
     tag: u64,
     content: Value,
-    exact: &mut X,
+    exact: &mut Exactness,
 ) -> Result<Value, Error<E>>
     ensures ok { IfOk result (λ v. tagged tag (view content) ≡ Some (view v)) }
     ensures kept { IfOk result (λ v. IsKept tag (view content) (view v)
-        (X.flag exact.old) (X.flag exact.new)) }
+        exact.old.holds exact.new.holds) }
     ensures err { IfErr result (IsFoldFault tag (view content)) }
 {
     let length = length_of(&content);
@@ -239,10 +235,10 @@ fn tag_value<E, X: Exactness>(
 }
 
 /// The next title in the innermost level; none if it is whole.
-fn ask<R: Read, X: Exactness>(
+fn ask<R: Read>(
     decoder: &mut Decoder<R>,
     top: &Frame,
-    exact: &mut X,
+    exact: &mut Exactness,
 ) -> Result<Option<(usize, Header)>, Error<R::Error>>
     requires fresh { waiting_of decoder.old ≡ None }
     ensures none { IfOk result (λ o. IfNone o
@@ -250,8 +246,8 @@ fn ask<R: Read, X: Exactness>(
     ensures some { IfOk result (λ o. IfSome o (λ r.
         Takes (seen R.Read decoder.old) (seen R.Read decoder.new)
         (AskGives top.now r.1 r.0 (offset_of decoder.old)
-        (X.flag exact.old) (X.flag exact.new)))) }
-    ensures same { IfOk result (λ o. IfNone o (X.flag exact.new ≡ X.flag exact.old)) }
+        exact.old.holds exact.new.holds))) }
+    ensures same { IfOk result (λ o. IfNone o (exact.new.holds ≡ exact.old.holds)) }
     ensures moved { IfOk result (λ o. IfSome o (λ _.
         offset_of decoder.old + 1 ≤ offset_of decoder.new + in_hand None top.now)) }
     ensures err { IfErr result (AskFails R.ends top.now
@@ -457,22 +453,22 @@ fn put_leaf<R: Read>(
 
 /// Reads items into the innermost level as long as no items follow in them. The title of the item
 /// after them; none if the level is whole.
-fn fill<R: Read, X: Exactness>(
+fn fill<R: Read>(
     alloc: Global,
     decoder: &mut Decoder<R>,
     top: &mut Frame,
-    exact: &mut X,
+    exact: &mut Exactness,
 ) -> Result<Option<(usize, Header)>, Error<R::Error>>
     requires fresh { waiting_of decoder.old ≡ None }
     requires half { HalfIn top.old }
     ensures none { IfOk result (λ o. IfNone o
         (Takes (seen R.Read decoder.old) (seen R.Read decoder.new)
         (FillEnds top.old top.new (offset_of decoder.old)
-        (X.flag exact.old) (X.flag exact.new)))) }
+        exact.old.holds exact.new.holds))) }
     ensures some { IfOk result (λ o. IfSome o (λ r.
         Takes (seen R.Read decoder.old) (seen R.Read decoder.new)
         (FillGives top.old top.new r.1 r.0 (offset_of decoder.old)
-        (X.flag exact.old) (X.flag exact.new)))) }
+        exact.old.holds exact.new.holds))) }
     ensures moved { IfOk result (λ o. IfSome o (λ _.
         offset_of decoder.old + 1 ≤ offset_of decoder.new + in_hand None top.old)) }
     ensures err { IfErr result (AskFails R.ends top.old
@@ -532,18 +528,18 @@ enum Opened {
 }
 
 /// What the item of a title opens, if so many levels are left.
-fn opening<R: Read, X: Exactness>(
+fn opening<R: Read>(
     alloc: Global,
     decoder: &mut Decoder<R>,
     top: &Frame,
     at: usize,
     header: Header,
     left: usize,
-    exact: &mut X,
+    exact: &mut Exactness,
 ) -> Result<Opened, Error<R::Error>>
     requires fresh { waiting_of decoder.old ≡ None }
     ensures ok { IfOk result (λ o. Takes (seen R.Read decoder.old) (seen R.Read decoder.new)
-        (Opening header at (offset_of decoder.old) left (X.flag exact.old) (X.flag exact.new) o)) }
+        (Opening header at (offset_of decoder.old) left exact.old.holds exact.new.holds o)) }
     ensures room { IfOk result (Holds (room_of top.now)) }
     ensures err { IfErr result (NamesFaultBehind R.ends header at (λ stop b f. Damage stop b left f)
         (seen R.Read decoder.old) (seen R.Read decoder.new)) }
@@ -595,7 +591,7 @@ fn opening<R: Read, X: Exactness>(
 }
 
 /// Begins the item of a title: opens its level, or reads its value.
-fn begin<R: Read, X: Exactness>(
+fn begin<R: Read>(
     alloc: Global,
     decoder: &mut Decoder<R>,
     below: &mut Vec<Frame>,
@@ -603,13 +599,13 @@ fn begin<R: Read, X: Exactness>(
     read: &mut Option<Value>,
     title: (usize, Header),
     limit: usize,
-    exact: &mut X,
+    exact: &mut Exactness,
 ) -> Result<(), Error<R::Error>>
     requires fresh { waiting_of decoder.old ≡ None }
     requires empty { read.old ≡ None }
     ensures ok { OnOk result (Takes (seen R.Read decoder.old) (seen R.Read decoder.new)
         (Begins (top.old ∷ reverse below.old.items) (top.new ∷ reverse below.new.items) limit
-        title.1 title.0 (offset_of decoder.old) read.new (X.flag exact.old) (X.flag exact.new))) }
+        title.1 title.0 (offset_of decoder.old) read.new exact.old.holds exact.new.holds)) }
     ensures rises { OnOk result (rank below.new.items top.new read.new + 4 * offset_of decoder.old
         ≤ 2 * length below.old.items + 2 + 4 * offset_of decoder.new) }
     ensures err { IfErr result (BeginFails R.ends limit (top.old ∷ reverse below.old.items)
@@ -646,18 +642,18 @@ fn begin<R: Read, X: Exactness>(
 
 /// The item after the title of `header`, which begins at the place `at`. `exact` tells whether the
 /// bytes so far are canonical encoding, and stays false once they aren't.
-pub fn read_item<R: Read, X: Exactness>(
+pub fn read_item<R: Read>(
     alloc: Global,
     decoder: &mut Decoder<R>,
     header: Header,
     at: usize,
     limit: usize,
-    exact: &mut X,
+    exact: &mut Exactness,
 ) -> Result<Value, Error<R::Error>>
     requires fresh { waiting_of decoder.old ≡ None }
     requires titled { (title : List ℕ) × Title title header }
     ensures ok { IfOk result (λ v. Takes (seen R.Read decoder.old) (seen R.Read decoder.new)
-        (ReadExact header limit (view v) (X.flag exact.old) (X.flag exact.new))) }
+        (ReadExact header limit (view v) exact.old.holds exact.new.holds)) }
     ensures err { IfErr result (NamesFaultBehind R.ends header at
         (λ stop b f. Damage stop b limit f) (seen R.Read decoder.old) (seen R.Read decoder.new)) }
     ensures stops { IfErr result (TakesSome (seen R.Read decoder.old) (seen R.Read decoder.new)) }

@@ -127,11 +127,7 @@ fn read_item<R: Read>(
     ensures fits { offset_of decoder.new < 2 ^ 64 }
 {
     let nesting = terms.limits.nesting();
-    if terms.strict {
-        return de::from_decoder_strict(alloc, decoder, nesting);
-    }
-    let value = de::from_decoder(alloc, decoder, nesting)?;
-    Ok((value, true))
+    de::from_decoder_by(alloc, decoder, nesting, terms.strict)
 }
 
 /// The next item, or `None` if no byte is left.

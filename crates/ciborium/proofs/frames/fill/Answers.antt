@@ -12,12 +12,12 @@ parts-init g c = record { taken = takes_none _ _ _ (fills_none c.args.top.now _ 
 
 pub returns-in-None-clause-none : goal.returns-in-None-clause-none
 returns-in-None-clause-none g c =
-    fills_end c.args.top.now c.parts.top (seen g.R.Read c.args.decoder.now) (seen g.R.Read c.parts.decoder) (seen g.R.Read c.ask.new.decoder) (g.X.Exactness.flag c.args.exact.now) (g.X.Exactness.flag c.parts.exact) (g.X.Exactness.flag c.ask.new.exact)
+    fills_end c.args.top.now c.parts.top (seen g.R.Read c.args.decoder.now) (seen g.R.Read c.parts.decoder) (seen g.R.Read c.ask.new.decoder) c.args.exact.now.holds c.parts.exact.holds c.ask.new.exact.holds
     (rw c.in-None.is at c.in_ok-part.ensures.same) c.parts.invariant.taken (rw c.in-None.is at c.in_ok-part.ensures.none)
 
 pub returns-then-not-takes-clause-some : goal.returns-then-not-takes-clause-some
 returns-then-not-takes-clause-some g c =
-    fills_give c.args.top.now c.parts.top c.in-Some.header c.in-Some.at (seen g.R.Read c.args.decoder.now) (seen g.R.Read c.parts.decoder) (seen g.R.Read c.ask.new.decoder) (g.X.Exactness.flag c.args.exact.now) (g.X.Exactness.flag c.parts.exact) (g.X.Exactness.flag c.ask.new.exact)
+    fills_give c.args.top.now c.parts.top c.in-Some.header c.in-Some.at (seen g.R.Read c.args.decoder.now) (seen g.R.Read c.parts.decoder) (seen g.R.Read c.ask.new.decoder) c.args.exact.now.holds c.parts.exact.holds c.ask.new.exact.holds
     c.parts.invariant.taken (rw c.in-Some.is at c.in_ok-part.ensures.some)
 
 pub returns-then-not-takes-clause-moved : goal.returns-then-not-takes-clause-moved
@@ -27,14 +27,14 @@ pub returns-in_err-part-clause-err : goal.returns-in_err-part-clause-err
 returns-in_err-part-clause-err g c =
     let p = err_from_is_err_and c.from_residual.result c.from_residual.ensures.1 in
     rw (p.1, p.2)
-    (fills_fail g.R.Read.ends c.args.top.now c.parts.top (seen g.R.Read c.args.decoder.now) (seen g.R.Read c.parts.decoder) (seen g.R.Read c.ask.new.decoder) (g.X.Exactness.flag c.args.exact.now) (g.X.Exactness.flag c.parts.exact) _ c.parts.invariant.taken c.in_err-part.ensures.err)
+    (fills_fail g.R.Read.ends c.args.top.now c.parts.top (seen g.R.Read c.args.decoder.now) (seen g.R.Read c.parts.decoder) (seen g.R.Read c.ask.new.decoder) c.args.exact.now.holds c.parts.exact.holds _ c.parts.invariant.taken c.in_err-part.ensures.err)
 
 pub returns-in_err-put_leaf-in-Some-clause-err : goal.returns-in_err-put_leaf-in-Some-clause-err
 returns-in_err-put_leaf-in-Some-clause-err g c =
     let p = err_from_is_err_and c.from_residual-in_err-put_leaf-in-Some.result c.from_residual-in_err-put_leaf-in-Some.ensures.1 in
     rw (p.1, p.2)
-    (fills_fail g.R.Read.ends c.args.top.now c.parts.top (seen g.R.Read c.args.decoder.now) (seen g.R.Read c.parts.decoder) (seen g.R.Read c.put_leaf.new.decoder) (g.X.Exactness.flag c.args.exact.now) (g.X.Exactness.flag c.parts.exact) _ c.parts.invariant.taken
-    (leaf_asked_fails g.R.Read.ends c.parts.top c.in-Some.header c.in-Some.at (seen g.R.Read c.parts.decoder) (seen g.R.Read c.ask.new.decoder) (seen g.R.Read c.put_leaf.new.decoder) (g.X.Exactness.flag c.parts.exact) (g.X.Exactness.flag c.ask.new.exact) _
+    (fills_fail g.R.Read.ends c.args.top.now c.parts.top (seen g.R.Read c.args.decoder.now) (seen g.R.Read c.parts.decoder) (seen g.R.Read c.put_leaf.new.decoder) c.args.exact.now.holds c.parts.exact.holds _ c.parts.invariant.taken
+    (leaf_asked_fails g.R.Read.ends c.parts.top c.in-Some.header c.in-Some.at (seen g.R.Read c.parts.decoder) (seen g.R.Read c.ask.new.decoder) (seen g.R.Read c.put_leaf.new.decoder) c.parts.exact.holds c.ask.new.exact.holds _
     (rw c.in-Some.is at c.in_ok-part.ensures.some) c.in_err-put_leaf-in-Some.ensures.err))
 
 pub returns-in_err-part-clause-stops : goal.returns-in_err-part-clause-stops
@@ -58,7 +58,7 @@ parts-preserved g c =
     let p = c.in_ok-put_leaf-in-Some.ensures.ok in
     record {
       taken = fills_leaf c.args.top.now c.parts.top c.put_leaf.new.top c.in-Some.header c.in-Some.at p.0 (seen g.R.Read c.args.decoder.now) (seen g.R.Read c.parts.decoder) (seen g.R.Read c.ask.new.decoder) (seen g.R.Read c.put_leaf.new.decoder)
-          (g.X.Exactness.flag c.args.exact.now) (g.X.Exactness.flag c.parts.exact) (g.X.Exactness.flag c.ask.new.exact) c.parts.invariant.taken (rw c.in-Some.is at c.in_ok-part.ensures.some) (rw c.if-not-takes.false at c.takes.ensures).1 p.1 p.2;
+          c.args.exact.now.holds c.parts.exact.holds c.ask.new.exact.holds c.parts.invariant.taken (rw c.in-Some.is at c.in_ok-part.ensures.some) (rw c.if-not-takes.false at c.takes.ensures).1 p.1 p.2;
       half = c.in_ok-put_leaf-in-Some.ensures.half;
       same = search rules;
       failed = search rules;
@@ -80,5 +80,5 @@ pub returns-in_err-put_leaf-in-Some-clause-one : goal.returns-in_err-put_leaf-in
 returns-in_err-put_leaf-in-Some-clause-one g c =
     let p = err_from_is_err_and c.from_residual-in_err-put_leaf-in-Some.result c.from_residual-in_err-put_leaf-in-Some.ensures.1 in
     rw (p.1, p.2)
-    (fills_one c.args.top.now c.parts.top c.in-Some.header c.in-Some.at (seen g.R.Read c.args.decoder.now) (seen g.R.Read c.parts.decoder) (seen g.R.Read c.ask.new.decoder) (seen g.R.Read c.put_leaf.new.decoder) (g.X.Exactness.flag c.args.exact.now) (g.X.Exactness.flag c.parts.exact) (g.X.Exactness.flag c.ask.new.exact) _
+    (fills_one c.args.top.now c.parts.top c.in-Some.header c.in-Some.at (seen g.R.Read c.args.decoder.now) (seen g.R.Read c.parts.decoder) (seen g.R.Read c.ask.new.decoder) (seen g.R.Read c.put_leaf.new.decoder) c.args.exact.now.holds c.parts.exact.holds c.ask.new.exact.holds _
     c.parts.invariant.taken (rw c.in-Some.is at c.in_ok-part.ensures.some) c.in_err-put_leaf-in-Some.ensures.one)

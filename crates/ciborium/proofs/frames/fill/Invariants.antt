@@ -6,7 +6,7 @@ use Rattle.ciborium.proofs.frames.fill.Given as goal
 
 abbrev pub invariant-parts : goal.invariant-parts
 invariant-parts g l = record {
-  taken : Takes (seen g.R.Read l.fn.decoder) (seen g.R.Read l.decoder) (Fills l.fn.top l.top (offset_of l.fn.decoder) (g.X.Exactness.flag l.fn.exact) (g.X.Exactness.flag l.exact));
+  taken : Takes (seen g.R.Read l.fn.decoder) (seen g.R.Read l.decoder) (Fills l.fn.top l.top (offset_of l.fn.decoder) l.fn.exact.holds l.exact.holds);
   half : HalfIn l.top;
   same : in_hand None l.top ≡ in_hand None l.fn.top;
   failed : g.R.Read.failed (reader_of l.decoder) ≡ g.R.Read.failed (reader_of l.fn.decoder);

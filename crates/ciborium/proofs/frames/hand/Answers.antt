@@ -11,11 +11,11 @@ returns-in_err-whole-in-Tag-clause-err g c =
 
 pub returns-in-Ok-clause-ok : goal.returns-in-Ok-clause-ok
 returns-in-Ok-clause-ok g c =
-    rw (sym c.take.ensures.value, c.in-Some.is, c.in-Items.is, c.take.ensures.after) (items_more (reverse c.args.below.now.items) c.in-Items.list (record { items = c.push.new.self; count = c.in-Items.list.count; room = c.in-Items.list.room }) c.in-Some.value (g.X.Exactness.flag c.args.exact.now) refl c.in-Ok.ensures.items)
+    rw (sym c.take.ensures.value, c.in-Some.is, c.in-Items.is, c.take.ensures.after) (items_more (reverse c.args.below.now.items) c.in-Items.list (record { items = c.push.new.self; count = c.in-Items.list.count; room = c.in-Items.list.room }) c.in-Some.value c.args.exact.now.holds refl c.in-Ok.ensures.items)
 
 pub returns-in_ok-put_half-in-Entries-clause-ok : goal.returns-in_ok-put_half-in-Entries-clause-ok
 returns-in_ok-put_half-in-Entries-clause-ok g c =
-    rw (sym c.take.ensures.value, c.in-Some.is, c.in-Entries.is, c.take.ensures.after) (entries_more (reverse c.args.below.now.items) c.in-Entries.list c.put_half.new.list c.in-Some.value (g.X.Exactness.flag c.args.exact.now) c.put_half.ensures.count c.in_ok-put_half-in-Entries.ensures.half c.in_ok-put_half-in-Entries.ensures.ok)
+    rw (sym c.take.ensures.value, c.in-Some.is, c.in-Entries.is, c.take.ensures.after) (entries_more (reverse c.args.below.now.items) c.in-Entries.list c.put_half.new.list c.in-Some.value c.args.exact.now.holds c.put_half.ensures.count c.in_ok-put_half-in-Entries.ensures.half c.in_ok-put_half-in-Entries.ensures.ok)
 
 pub returns-in-Some-pop-clause-ok : goal.returns-in-Some-pop-clause-ok
 returns-in-Some-pop-clause-ok g c = rw (sym c.take.ensures.value, c.in-Some.is, c.in-Tag.is) (tag_up _ _ _ _ c.in-Tag.field-1 c.in-Tag.field-3 c.in-Tag.field-2 _ _ _ _ c.in-Some-pop.ensures.items c.in_ok-whole-in-Tag.ensures.ok c.in_ok-whole-in-Tag.ensures.kept)

@@ -3,9 +3,9 @@ use Rattle.ciborium_value.specs.View.{view}
 use Rattle.std.proofs.lemmas.Result.{err_from_is_err_and}
 use Rattle.ciborium_ll.specs.Views.{seen, shortest_of}
 use Rattle.ciborium.proofs.ReadLemmas.{item_title_fails}
-use Rattle.ciborium.proofs.TurnLemmas.{exact_read, item_fails}
+use Rattle.ciborium.proofs.TurnLemmas.{exact_by, item_fails}
 use Rattle.ciborium.proofs.Halting.{some_then, not_memory, memory_then}
-use Rattle.ciborium.proofs.de.from_decoder_strict.Goals as goal
+use Rattle.ciborium.proofs.de.from_decoder_by.Goals as goal
 
 pub returns-in_err-place-clause-err : goal.returns-in_err-place-clause-err
 returns-in_err-place-clause-err g c =
@@ -21,9 +21,10 @@ returns-in_err-value-clause-err g c =
 
 pub returns-clause-ok : goal.returns-clause-ok
 returns-clause-ok g c =
-    exact_read c.in_ok-place.header c.args.limit (view c.in_ok-value.value) c.read_item.new.exact.0 c.is_shortest.result (shortest_of c.next_title.new.decoder)
+    rw c.holds_if.ensures
+    (exact_by c.in_ok-place.header c.args.limit (view c.in_ok-value.value) c.args.strict c.read_item.new.exact.holds c.title.new.self.holds (shortest_of c.next_title.new.decoder)
     (seen g.R.Read c.args.decoder.now) (seen g.R.Read c.next_title.new.decoder) (seen g.R.Read c.read_item.new.decoder)
-    (omega (arith, c.read_item.new.decoder.fits)) c.is_shortest.ensures (c.in_ok-place.ensures.shortest c.requires.fresh) c.in_ok-value.ensures.ok
+    (omega (arith, c.read_item.new.decoder.fits)) c.title.ensures c.in_ok-place.ensures.ok (λ e. c.in_ok-place.ensures.shortest (c.requires.fresh e)) c.in_ok-value.ensures.ok)
 
 pub returns-in_err-value-clause-stops : goal.returns-in_err-value-clause-stops
 returns-in_err-value-clause-stops g c =
