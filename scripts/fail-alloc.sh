@@ -6,7 +6,8 @@
 # if their subject was refused one. Of a crate or module with such tests these alone are run. Others may fail if their own preparation is
 # refused.
 # Each test is a process of its own, and its allocations are counted alone. Of each it tells how many allocations it makes (some are the
-# runtime's), and of how many the refusal was told or failed it. The status is 1 if a test that holds has failed.
+# runtime's), and of how many the refusal was told or failed it. Tests named `X_of_N_bytes_Y` with one X have to make as many allocations as
+# each other, since what they read takes no memory. The status is 1 if a test that holds has failed, or if such counts differ.
 # `rt try --test --fail-alloc N` builds the tests anew for each N. Here they are built once, with a number that occurs nowhere else in
 # them, their program is kept when rt is done with it, and each N takes that number's place.
 set -u
@@ -70,6 +71,17 @@ each() {
     fi
   done
   echo "  $1: $all allocations, $not told"
+  echo "$1 $all" >> "$room/counts"
+}
+
+# Compares the counts of tests whose names are the same up to how many bytes they read.
+compare() {
+  awk '{
+    name = $1
+    if (!sub(/_of_[a-z0-9]+_bytes_.*/, "_of_N_bytes", name)) next
+    if (name in first && first[name] != $2) { print "  " name ": " first[name] " allocations and " $2 ": THEY DIFFER"; differ = 1 }
+    if (!(name in first)) first[name] = $2
+  } END { exit differ }' "$room/counts" || status=1
 }
 
 status=0
@@ -84,5 +96,6 @@ for what in "$@"; do
   while read -r name; do
     each "$name"
   done < "$room/holding"
+  compare
 done
 exit $status
