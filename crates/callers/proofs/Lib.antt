@@ -1,5 +1,6 @@
 pub mod Again
 pub mod Agreed
+pub mod AtFront
 pub mod Checked
 pub mod Confused
 pub mod Encoded
@@ -9,10 +10,14 @@ pub mod Ids
 pub mod Joined
 pub mod Keys
 pub mod NoMemoryNoted
+pub mod Recorded
 pub mod Refilled
 pub mod Relay
+pub mod SameOutput
+pub mod SameRecords
 pub mod Sealed
 pub mod Spelled
+pub mod Stopped
 pub mod Tagging
 pub mod Told
 pub mod Wrote

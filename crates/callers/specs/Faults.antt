@@ -1,10 +1,11 @@
 -- What a fault of the gate leaves in a report and in a writer.
-use Rattle.std.specs.Prelude.{◌≡◌, ℕ, List, ◌∷◌, ◌++◌, Option, Bool}
+use Rattle.std.specs.Prelude.{◌≡◌, ℕ, List, ◌∷◌, ◌++◌, length, Option, Bool}
 use Rattle.std.specs.Io.KnownBytes.{Appends}
-use Rattle.cose_gate.specs.Anew.{AreEntries}
+use Rattle.cose_gate.specs.Anew.{bytes_of, AreEntries}
 use Rattle.cose_gate.specs.Asked.{IsFront}
 use Rattle.cose_gate.specs.Entry.{Entry}
 use Rattle.cose_gate.specs.Findings.{usual}
+use Rattle.cose_gate.specs.Front.{HoldsOne}
 use Rattle.cose_gate.specs.Questions.{Question}
 use Rattle.cose_gate.specs.Run.{Step, text_of, output_of}
 
@@ -27,3 +28,15 @@ abbrev pub WholeTexts : (Question → Bool) → List ℕ → List Step → Optio
 WholeTexts allows aad ss old new =
     (done : List Step) × (more : List Step) × (ss ≡ done ++ more)
     × Appends old new (output_of allows aad done)
+
+-- so many bytes of the input were taken: those of the items of the first steps, and then bytes in
+-- which no item ends before the last of them
+pub record Taken (ss : List Step) (input : List ℕ) (count : ℕ) : Type 0 where
+  pub done : List Step
+  pub more : List Step
+  pub whole : ss ≡ done ++ more
+  pub front : List ℕ
+  pub rest : List ℕ
+  pub is : input ≡ bytes_of done ++ (front ++ rest)
+  pub one : HoldsOne front
+  pub count_is : count ≡ length (bytes_of done ++ front)

@@ -1,7 +1,10 @@
+pub mod Algorithms
+pub mod Alike
 pub mod Asking
 pub mod Checking
 pub mod Choosing
 pub mod Faults
+pub mod Fronts
 pub mod Gatings
 pub mod Heads
 pub mod Held
@@ -10,6 +13,7 @@ pub mod Judging
 pub mod Keeping
 pub mod Kinds
 pub mod Noted
+pub mod Recording
 pub mod Refilling
 pub mod Roads
 pub mod Sides

@@ -16,7 +16,7 @@ ghost use Rattle.cose_gate.specs.Stated.{IsSingle, Stated};
 ghost use Rattle.cose_gate.specs.StreamFault.TheVariants.{Decode};
 ghost use Rattle.cose_gate.specs.Streaming.{Answered, IsLongFor, Tells, Unstreamed};
 ghost use Rattle.cose_gate.specs.Tree.{Tree};
-ghost use Rattle.callers.specs.Faults.{Noted, Torn, WholeTexts};
+ghost use Rattle.callers.specs.Faults.{Noted, Taken, Torn, WholeTexts};
 ghost use Rattle.callers.specs.Judging.{allows};
 ghost use Rattle.callers.specs.Sides.{known_of, asked_of};
 
@@ -50,6 +50,43 @@ pub fn count(
         Ok(counts) => Ok(counts),
         Err(fault) => Err(fault),
     }
+}
+
+/// As `count`, and how many bytes of the input were taken.
+///
+/// # Errors
+/// Those of `count`. If out of memory, whole items were taken, and of what follows them bytes in
+/// which at most one item ends, at their end.
+pub fn count_to(
+    alloc: Global,
+    input: &[u8],
+    aad: &[u8],
+    judge: &mut KeyIds,
+) -> (Result<Counts, GateFault<End>>, usize)
+    ensures { (ss : List Step) (rest : List ℕ)
+        → Run usual (allows (known_of judge.old)) aad.now 0 input.now ss rest
+        → IfMemory result.0 (Taken ss input.now result.1) }
+{
+    let mut decoder = Decoder::from(input);
+    let counted = gate(alloc, &mut decoder, &mut Nowhere, &mut Silent, aad, judge);
+    (counted, decoder.offset())
+}
+
+/// How many messages pass of what is to come, how many items are refused, and how far the decoder
+/// is after it.
+///
+/// # Errors
+/// Those of `gate`. It is never `TooLong` while offsets may still grow by 4,096.
+pub fn count_at<R: Read>(
+    alloc: Global,
+    decoder: &mut Decoder<R>,
+    aad: &[u8],
+    judge: &mut KeyIds,
+) -> (Result<Counts, GateFault<R::Error>>, usize)
+    ensures { result.1 + 4096 < 2 ^ 64 → result.0 ≢ Err (fault.Decode TooLong) }
+{
+    let gated = gate(alloc, decoder, &mut Nowhere, &mut Silent, aad, judge);
+    (gated, decoder.offset())
 }
 
 /// Notes what becomes of each item of the input, after what is noted already.

@@ -2,6 +2,8 @@
 //! public surface can be reached, and that its contracts are of use.
 #![tactic(auto)]
 
+pub mod algorithms;
+pub mod alike;
 pub mod asking;
 pub mod checking;
 pub mod choosing;
@@ -10,6 +12,7 @@ pub mod covers;
 pub mod detached;
 pub mod exact;
 pub mod faults;
+pub mod fronts;
 pub mod gatings;
 pub mod heading;
 pub mod heads;
@@ -21,6 +24,8 @@ pub mod kinds;
 pub mod noted;
 pub mod once;
 pub mod prepared;
+pub mod recording;
+pub mod records;
 pub mod refilling;
 pub mod relaying;
 pub mod resumed;

@@ -1,0 +1,6 @@
+use Rattle.callers.proofs.SameRecords.{told_alike}
+use Rattle.callers.proofs.records.ask_both.Goals as goal
+
+pub returns : goal.returns
+returns c =
+    told_alike c.one_spelling.ensures c.one_run.ensures _ _ _ _ _ _ _ _ c.in_ok-ask.ensures.ok c.in_ok-ask-2.ensures.ok
