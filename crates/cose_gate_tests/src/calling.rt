@@ -8,6 +8,7 @@ mod choosing;
 mod cose;
 mod faults;
 mod items;
+mod laws;
 mod twice;
 
 /// 18([h'', {4: h'11'}, 'hi', h'01']), and the same with wide and open heads,
