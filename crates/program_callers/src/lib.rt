@@ -1,0 +1,5 @@
+//! Callers of the program's parts, as a user writes them: its writer with a block in front of it.
+//! They show that the contracts are of use.
+#![tactic(auto)]
+
+pub mod writing;
