@@ -1,1 +1,2 @@
+pub mod InFront
 pub mod Written
