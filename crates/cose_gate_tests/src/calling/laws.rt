@@ -16,14 +16,14 @@ fn the_same_items_are_relayed_alike(rt: HostRuntime) {
     let alloc = rt.alloc();
     let mut judge = KeyIds::new(alloc, &KNOWN);
     let mut tally = Tally::new();
-    let (one, other) = relay_alike(
-        alloc, ONE, &INPUT[OPEN], b"", &mut judge, &mut tally,
-    ).expect(&rt, "no fault");
+    let (one, other) = relay_alike(alloc, ONE, &INPUT[OPEN], b"", &mut judge, &mut tally).expect(
+        &rt, "no fault",
+    );
     assert_eq!(rt; one.as_slice(), ONE);
     assert_eq!(rt; other.as_slice(), ONE);
-    let (all, others) = relay_without(
-        alloc, ONE, &[1], ONE, b"", &mut judge, &mut tally,
-    ).expect(&rt, "no fault");
+    let (all, others) = relay_without(alloc, ONE, &[1], ONE, b"", &mut judge, &mut tally).expect(
+        &rt, "no fault",
+    );
     assert_eq!(rt; all.as_slice(), BOTH);
     assert_eq!(rt; others.as_slice(), BOTH);
 }
@@ -43,7 +43,13 @@ fn questions_are_the_same_each_time(rt: HostRuntime) {
     let (mut first, mut second) = (KeyIds::new(alloc, &KNOWN), KeyIds::new(alloc, &KNOWN));
     let (mut small, mut large) = ([0; 1], [0; 64]);
     let twice = check_twice(
-        alloc, ONE, &mut small, &mut large, b"", &mut first, &mut second,
+        alloc,
+        ONE,
+        &mut small,
+        &mut large,
+        b"",
+        &mut first,
+        &mut second,
     );
     assert_eq!(rt; twice, Ok((true, true)));
     let (_, is_exact) = front_by(alloc, &[0x18, 1], true).expect(&rt, "an item");
