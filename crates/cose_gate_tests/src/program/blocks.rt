@@ -1,5 +1,6 @@
 //! A reader of std in blocks: what is read is the same as without blocks, whatever a block holds.
-use cose_gate::{Blocks, InputFault, Read};
+use cose_gate::{Blocks, InputFault, Read, Write};
+use cose_gate_program::OutBlocks;
 use std::alloc::Global;
 use std::io;
 use std::io::BufReader;
@@ -57,4 +58,14 @@ fn reads_over_blocks_ends_and_faults(rt: HostRuntime) {
         is_broken: true,
     };
     all_so(&rt, rt.alloc(), reader, &FAILS);
+}
+
+#[test]
+fn a_flush_reaches_the_writer(rt: HostRuntime) {
+    let alloc = rt.alloc();
+    let block = Vec::with_capacity(alloc, 16).expect(&rt, "memory");
+    let mut room = [0; 2];
+    let mut out = OutBlocks::new(block, room.as_mut_slice());
+    assert!(rt; out.write_all(b"abc").is_ok());
+    assert!(rt; out.flush().is_err());
 }
