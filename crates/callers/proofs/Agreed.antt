@@ -1,8 +1,7 @@
 -- The streaming check and the gate agree about the message in front.
-use Rattle.std.proofs.Common.{arith, ◌≡◌, ℕ, ◌+◌, ◌<◌, List, [], ◌∷◌, ◌++◌, Option, Some, None, Bool, true, false, cond, not, refl, sym, ap, subst, ◌∙◌}
+use Rattle.std.proofs.Common.{arith, ◌≡◌, ℕ, ◌+◌, ◌<◌, List, [], ◌∷◌, ◌++◌, Option, Some, Bool, true, false, cond, not, refl, sym, ap, subst, ◌∙◌}
 use Rattle.std.proofs.lemmas.List.Sums.{sum_by-cons}
 use Rattle.std.specs.Prelude.{MatchBool}
-use Rattle.ciborium.specs.Front.{Reads}
 use Rattle.ciborium.specs.HeadReading.{Moves}
 use Rattle.ciborium.specs.Spelling.{Spells}
 use Rattle.ciborium.specs.Tree.{Tree}

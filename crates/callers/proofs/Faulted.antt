@@ -1,5 +1,5 @@
 -- What the clauses of the gate say after a fault.
-use Rattle.std.proofs.Common.{◌≡◌, ℕ, ◌+◌, ◌^◌, ◌<◌, max, inl, inr, List, [], ◌∷◌, ◌++◌, length, Option, Some, Bool, zero-add, refl, sym, subst, ap, ◌∙◌, append_assoc, append-nil, arith}
+use Rattle.std.proofs.Common.{◌≡◌, ℕ, ◌+◌, ◌^◌, ◌<◌, max, inl, inr, List, [], ◌∷◌, ◌++◌, length, Option, Some, Bool, zero-add, sym, subst, ap, ◌∙◌, append_assoc, append-nil, arith}
 use Rattle.std.specs.Prelude.{Result, Ok, Err, IfErr, ◌≢◌}
 use Rattle.std.specs.Io.KnownBytes.{Appends}
 use Rattle.cose_gate.specs.Anew.{AreEntries}

@@ -13,6 +13,7 @@ pub mod NoMemoryNoted
 pub mod Recorded
 pub mod Refilled
 pub mod Relay
+pub mod Reported
 pub mod SameOutput
 pub mod SameRecords
 pub mod Sealed

@@ -4,13 +4,11 @@ use Rattle.std.proofs.lemmas.List.Elements.{All-nil, All-cons}
 use Rattle.std.specs.Prelude.{All, ◌≢◌}
 use Rattle.cose_gate.specs.Anew.{AreEntries}
 use Rattle.cose_gate.specs.Asked.{first_no}
-use Rattle.cose_gate.specs.CoseError.{CoseError}
 use Rattle.cose_gate.specs.CoseError.TheVariants.{Memory}
 use Rattle.cose_gate.specs.Entry.{Entry}
 use Rattle.cose_gate.specs.Faults.{CoseFault, no_memory, fault_of}
 use Rattle.cose_gate.specs.Findings.{Bounds, usual, Finding, judged, barred, excluded, not_tagged, encrypted, other_tag, shape, detached, no_signature, Finds, IsMisshapen}
 use Rattle.cose_gate.specs.Questions.{Question, questions}
-use Rattle.cose_gate.specs.Refusal.{Refusal}
 use Rattle.cose_gate.specs.Refusal.TheVariants as refusal
 use Rattle.cose_gate.specs.Run.{Step, Steps, Run, IsVerdict, judged_by}
 use Rattle.cose_gate.specs.Tree.{Tree}

@@ -1,5 +1,5 @@
 -- What is written straight from the fields of a message that was read.
-use Rattle.std.proofs.Common.{◌≡◌, ℕ, List, Option, Some, ap, sym}
+use Rattle.std.proofs.Common.{◌≡◌, ℕ, Option, Some, ap, sym}
 use Rattle.std.specs.Prelude.{option_map}
 use Rattle.ciborium_value.specs.Encoding.{enc}
 use Rattle.ciborium_value.specs.Tree.{Tree, tag}

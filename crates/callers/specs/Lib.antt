@@ -15,9 +15,11 @@ pub mod Kinds
 pub mod Noted
 pub mod Recording
 pub mod Refilling
+pub mod Reported
 pub mod Roads
 pub mod Sides
 pub mod Signing
 pub mod Tagged
 pub mod Tallies
+pub mod Watching
 pub mod Windows

@@ -2,8 +2,11 @@
 //! without one that is refused. And two checks of one message, which are fed the same payload.
 //! `cose_gate` and `ciborium` are the crates that it names.
 ghost use Rattle.std.specs.Prelude.{◌≡◌, ◌<◌, ◌++◌, ℕ, List, length, IfOk};
+ghost use Rattle.cose_gate.specs.Findings.{usual};
+ghost use Rattle.cose_gate.specs.Run.{Step, Run, output_of};
 ghost use Rattle.cose_gate.specs.Stated.{Stated};
 ghost use Rattle.callers.specs.Alike.{HaveSameItems, IsRefusedBetween, EndsFed};
+ghost use Rattle.callers.specs.Judging.{allows};
 ghost use Rattle.callers.specs.Sides.{known_of};
 
 use crate::checking::fed;
@@ -29,7 +32,13 @@ pub fn relay_alike(
     judge: &mut KeyIds,
     tally: &mut Tally,
 ) -> Result<(Vec<u8>, Vec<u8>), GateFault<End>>
-    ensures { HaveSameItems one.now other.now → IfOk result (λ r. r.1.items ≡ r.0.items) }
+    ensures alike { HaveSameItems one.now other.now → IfOk result (λ r. r.1.items ≡ r.0.items) }
+    ensures first { (ss : List Step) (rest : List ℕ)
+        → Run usual (allows (known_of judge.old)) aad.now 0 one.now ss rest
+        → IfOk result (λ r. r.0.items ≡ output_of (allows (known_of judge.old)) aad.now ss) }
+    ensures second { (ss : List Step) (rest : List ℕ)
+        → Run usual (allows (known_of judge.old)) aad.now 0 other.now ss rest
+        → IfOk result (λ r. r.1.items ≡ output_of (allows (known_of judge.old)) aad.now ss) }
 {
     bytes_below(one);
     bytes_below(other);
@@ -64,12 +73,15 @@ pub fn relay_without(
     judge: &mut KeyIds,
     tally: &mut Tally,
 ) -> Result<(Vec<u8>, Vec<u8>), GateFault<End>>
-    ensures { IsRefusedBetween (known_of judge.old) aad.now front.now item.now back.now
+    ensures alike { IsRefusedBetween (known_of judge.old) aad.now front.now item.now back.now
         → IfOk result (λ r. r.1.items ≡ r.0.items) }
+    ensures less { (ss : List Step) (rest : List ℕ)
+        → Run usual (allows (known_of judge.old)) aad.now 0 (front.now ++ back.now) ss rest
+        → IfOk result (λ r. r.1.items ≡ output_of (allows (known_of judge.old)) aad.now ss) }
 {
     refused_taken_out();
-    let behind = joined(alloc, item, back)?;
-    let whole = joined(alloc, front, &behind)?;
+    let rest = joined(alloc, item, back)?;
+    let whole = joined(alloc, front, &rest)?;
     let less = joined(alloc, front, back)?;
     let (all, _counts) = relay(alloc, &whole, aad, judge, tally)?;
     let (others, _counts) = relay(alloc, &less, aad, judge, tally)?;

@@ -1,7 +1,8 @@
 //! The gate and the program with judges whose answers come from elsewhere: the questions are told
 //! as records, and what passes is what some of these were accepted for. `cose_gate` is the one
 //! crate that it names.
-ghost use Rattle.std.specs.Prelude.{◌≡◌, ◌<◌, true, IfOk, IfErr, MatchOption, option_copied};
+ghost use Rattle.std.specs.Prelude.{◌≡◌, ◌<◌, true, IfOk, IfErr, MatchOption, option_copied, codes};
+ghost use Rattle.std.specs.Io.KnownBytes.{Appends};
 ghost use Rattle.cose_gate.specs.HmacJudges.{says_yes};
 ghost use Rattle.cose_gate.specs.Program.{devices_of, EndsOver, EndsWithin};
 ghost use Rattle.cose_gate.specs.Records.{is_among};
@@ -9,6 +10,7 @@ ghost use Rattle.cose_gate.specs.RecordsKept.{keys_of, told_by};
 ghost use Rattle.cose_gate.specs.Terms.{limits_by};
 ghost use Rattle.callers.specs.Asking.{IsAsked, IsAskedInPart, AreNoRecords, IsPassed, IsPassedBy};
 ghost use Rattle.callers.specs.Asking.{RanByIds, EndsAccepted, IsHandedOn};
+ghost use Rattle.callers.specs.Reported.{EndsWithCounts, NamesWrongKeys};
 ghost use Rattle.callers.specs.Sides.{known_of, asked_of};
 
 use crate::gatings::Gating;
@@ -104,6 +106,8 @@ pub fn run_by_ids<R: Read, W: Write, E: Write>(
         (devices_of R.Read W.Write input.old out.old)
         (devices_of R.Read W.Write input.new out.new)
         (asked_of judge.old) (asked_of judge.new) result }
+    ensures last { result < 2 → E.failed err.new ≡ E.failed err.old
+        → EndsWithCounts (E.written err.old) (E.written err.new) }
     ensures known { known_of judge.new ≡ known_of judge.old }
 {
     let Gating { limits, strict } = gating;
@@ -157,6 +161,8 @@ pub fn run_gated<R: Read, W: Write, E: Write>(
     ensures untouched { 1 < result → result < 4
         → devices_of R.Read W.Write input.new out.new
         ≡ devices_of R.Read W.Write input.old out.old }
+    ensures line { result ≡ 2 → E.failed err.new ≡ E.failed err.old
+        → Appends (E.written err.old) (E.written err.new) (codes "aad: not hex\n") }
 {
     let Gating { limits, strict } = gating;
     run_with(alloc, Terms { limits, strict }, keys, aad, input, out, err)
@@ -179,6 +185,8 @@ pub fn run_exact<R: Read, W: Write, E: Write>(
     ensures handed_on { result ≡ 0 → IsHandedOn
         (devices_of R.Read W.Write input.old out.old)
         (devices_of R.Read W.Write input.new out.new) }
+    ensures line { result ≡ 3 → E.failed err.new ≡ E.failed err.old
+        → NamesWrongKeys (E.written err.old) (E.written err.new) }
 {
     output_is_received();
     let terms = Terms {

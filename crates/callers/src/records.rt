@@ -3,12 +3,13 @@
 //! that it names.
 ghost use Rattle.std.specs.Prelude.{◌≡◌, ◌≢◌, ◌++◌, ℕ, List, IfOk, MatchBool, flat_map};
 ghost use Rattle.cose_gate.specs.Asked.{IsFront};
+ghost use Rattle.cose_gate.specs.Counts.{Counts};
 ghost use Rattle.cose_gate.specs.Findings.{usual};
 ghost use Rattle.cose_gate.specs.Questions.{Question};
 ghost use Rattle.cose_gate.specs.Records.{record_of};
 ghost use Rattle.cose_gate.specs.RecordsKept.{told_by};
 ghost use Rattle.cose_gate.specs.Run.{Step, Run, questions_of};
-ghost use Rattle.callers.specs.Asking.{always};
+ghost use Rattle.callers.specs.Asking.{always, IsAsked};
 ghost use Rattle.callers.specs.Recording.{AreOne};
 
 use crate::asking::ask;
@@ -29,9 +30,11 @@ pub fn ask_both(
     one: &mut Asker,
     other: &mut Asker,
 ) -> Result<(), GateFault<End>>
-    ensures { IfOk result (λ _. (records : List ℕ)
+    ensures alike { IfOk result (λ _. (records : List ℕ)
         × (told_by one.new ≡ told_by one.old ++ records)
         × (told_by other.new ≡ told_by other.old ++ records)) }
+    ensures asked { IfOk result (λ _. (counts : Counts)
+        × IsAsked aad.now input.now (told_by one.old) (told_by one.new) counts) }
 {
     one_spelling();
     one_run();

@@ -1,6 +1,6 @@
 //! The program's run, watched by a teller in place of lines. `cose_gate` is the one crate that it
 //! names.
-ghost use Rattle.std.specs.Prelude.{◌≡◌};
+ghost use Rattle.std.specs.Prelude.{◌≡◌, ◌<◌, true, is_some, IsTrue};
 ghost use Rattle.cose_gate.specs.Program.{devices_of};
 ghost use Rattle.cose_gate.specs.Terms.{limits_by};
 ghost use Rattle.callers.specs.Asking.{RanByIds};
@@ -8,9 +8,7 @@ ghost use Rattle.callers.specs.Sides.{known_of, asked_of};
 
 use crate::gatings::Gating;
 use crate::judging::KeyIds;
-use cose_gate::{
-    Counts, Entry, GateFault, InputFault, NotBegun, Read, Teller, Terms, Write, run_told,
-};
+use cose_gate::{Counts, Notice, Read, Teller, Terms, Write, run_told};
 use std::alloc::Global;
 
 /// How far a run is, as a page that shows it would ask: the offset of the last item, and what the
@@ -26,20 +24,21 @@ pub struct Progress {
 }
 
 impl Teller for Progress {
-    fn item(&mut self, entry: &Entry) {
-        self.offset = entry.offset;
-    }
+    ghost use Rattle.callers.specs.Watching.{progressed};
+    ghost use Rattle.callers.specs.declared.watched.Progress.{Progress};
 
-    fn counts(&mut self, counts: Counts) {
-        self.counts = Some(counts);
-    }
+    ghost State = { Progress };
 
-    fn stopped(&mut self, _fault: &GateFault<InputFault>) {
-        self.stopped = true;
-    }
+    ghost state = { λ p. p };
 
-    fn not_begun(&mut self, _why: NotBegun) {
-        self.stopped = true;
+    ghost folded = { progressed };
+
+    fn tell(&mut self, notice: &Notice) {
+        match notice {
+            Notice::Item(entry) => self.offset = entry.offset,
+            Notice::Counts(counts) => self.counts = Some(*counts),
+            Notice::Stopped(_) | Notice::NotBegun(_) => self.stopped = true,
+        }
     }
 }
 
@@ -57,6 +56,8 @@ pub fn run_watched<R: Read, W: Write>(
         (devices_of R.Read W.Write input.old out.old)
         (devices_of R.Read W.Write input.new out.new)
         (asked_of judge.old) (asked_of judge.new) result }
+    ensures done { result < 2 → IsTrue (is_some progress.new.counts) }
+    ensures stopped { result ≡ 4 → progress.new.stopped ≡ true }
     ensures known { known_of judge.new ≡ known_of judge.old }
     ensures kept { R.handle input.new ≡ R.handle input.old }
     ensures lent { W.handle out.new ≡ W.handle out.old }

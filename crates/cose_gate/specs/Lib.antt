@@ -83,8 +83,12 @@ pub use Rattle.cose_gate_program.specs.HmacKeys
 pub use Rattle.cose_gate_program.specs.HmacMessages
 pub use Rattle.cose_gate_program.specs.HmacSecrets
 pub use Rattle.cose_gate_program.specs.InBlocks
+pub use Rattle.cose_gate_program.specs.Lines
 pub use Rattle.cose_gate_program.specs.Program
+pub use Rattle.cose_gate_program.specs.Telling
 pub use Rattle.cose_gate_program.specs.Words
+pub use Rattle.cose_gate_program.specs.Writing
+pub use Rattle.cose_gate_program.specs.declared.telling.Notice
 pub use Rattle.cose_gate_stream.specs.Stated
 pub use Rattle.cose_gate_stream.specs.Streaming
 pub use Rattle.cose_gate_stream.specs.declared.fault.StreamFault

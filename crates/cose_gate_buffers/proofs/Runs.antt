@@ -9,11 +9,14 @@ use Rattle.cose_gate_hmac.specs.GateCore.Run.{Step, Course, questions_of}
 use Rattle.cose_gate_hmac.specs.GateCore.Terms.{limits_by}
 use Rattle.cose_gate_hmac.specs.GateCore.Questions.{Question}
 use Rattle.cose_gate_hmac.specs.Judge.{says_yes}
+use Rattle.cose_gate_program.specs.Telling.{OnTold, OverTold}
+use Rattle.cose_gate_program.specs.declared.telling.Notice.{Notice}
+use Rattle.cose_gate_buffers.specs.Lines.{AreLinesOf}
 use Rattle.cose_gate_program.specs.Program.{Devices, EndsOver, IsUnreadableBy, Stops, writer, flush, reader, no_item, memory, RanOver, RanOn, RanJudged, Hearing, IsAskedAt, IsAskedIn}
 use Rattle.cose_gate_records.specs.Framing.{framed}
 use Rattle.cose_gate_records.specs.Records.{record_of, is_among}
 use Rattle.cose_gate_records.proofs.Asked.{told_all}
-use Rattle.cose_gate_buffers.specs.Calls.{within, before, after, IsRunStatus, Runs, RunsBy, NoMemory, Passed, ToldUpTo, Tells, Places, Buffers, Answers}
+use Rattle.cose_gate_buffers.specs.Calls.{within, before, after, IsRunStatus, Runs, RunsBy, RanBy, Passed, ToldUpTo, Tells, Places, Buffers, Answers}
 use Rattle.cose_gate_buffers.specs.declared.answer.Answer.{Answer}
 
 below_two : (b : Bool) (n : ℕ) → n ≡ cond {A = ℕ} b 0 1 → n < 2
@@ -51,29 +54,36 @@ devices left written failures = record { left = left; written = Some written; re
 same_devices : (left : Option (List ℕ)) (w w' : List ℕ) (f f' : ℕ) → w ≡ w' → f ≡ f' → devices left w f ≡ devices left w' f'
 same_devices left w w' f f' e h = ap (λ (z : List ℕ). devices left z f) e ∙ ap (λ (n : ℕ). devices left w' n) h
 
--- the run's output and status, if the output was empty before and neither input nor output failed
-pub runs : (limits : Bounds) (keys aad input : List ℕ) (first : List ℕ) (f : ℕ) (left : Option (List ℕ)) (written text : List ℕ) (f' status : ℕ)
+-- the run's output, lines and status, if the output was empty before and neither input nor output failed
+pub runs : (limits : Bounds) (keys aad input lines : List ℕ) (count : ℕ) (first : List ℕ) (f : ℕ) (left : Option (List ℕ)) (written text : List ℕ) (f' status : ℕ)
     → first ≡ [] → f ≡ 0 → text ≡ written → f' ≡ 0
-    → EndsOver limits says_yes keys aad (devices (Some input) first f) (devices left written f') status
-    → Runs limits keys aad input text status
-runs limits keys aad input first f left written text f' status empty none same well e =
-    let e1 : EndsOver limits says_yes keys aad (before input) (devices left written f') status
-    = subst (λ (d : Devices). EndsOver limits says_yes keys aad d (devices left written f') status) (same_devices (Some input) first [] f 0 empty none) e in
-    let e2 : EndsOver limits says_yes keys aad (before input) (after left text) status
-    = subst (λ (d : Devices). EndsOver limits says_yes keys aad (before input) d status) (same_devices left written text f' 0 (sym same) well) e1 in
-    record { left = left; ends = e2; known = run_status limits keys aad (before input) (after left text) status e2 }
+    → OverTold limits says_yes keys aad (devices (Some input) first f) (devices left written f') status (AreLinesOf lines count)
+    → Runs limits keys aad input lines count text status
+runs limits keys aad input lines count first f left written text f' status empty none same well e =
+    let e1 : OverTold limits says_yes keys aad (before input) (devices left written f') status (AreLinesOf lines count)
+    = subst (λ (d : Devices). OverTold limits says_yes keys aad d (devices left written f') status (AreLinesOf lines count)) (same_devices (Some input) first [] f 0 empty none) e in
+    let e2 : OverTold limits says_yes keys aad (before input) (after left text) status (AreLinesOf lines count)
+    = subst (λ (d : Devices). OverTold limits says_yes keys aad (before input) d status (AreLinesOf lines count)) (same_devices left written text f' 0 (sym same) well) e1 in
+    record { left = left; told = e2; known = run_status limits keys aad (before input) (after left text) status e2.ends }
+
+-- and if memory ran out for the output
+pub runs_cut : (limits : Bounds) (keys aad input : List ℕ) (first : List ℕ) (f : ℕ) (new : Devices) (status : ℕ) (Holds : List Notice → Type 0)
+    → first ≡ [] → f ≡ 0 → OverTold limits says_yes keys aad (devices (Some input) first f) new status Holds
+    → OverTold limits says_yes keys aad (before input) new status Holds
+runs_cut limits keys aad input first f new status Holds empty none e =
+    subst (λ (d : Devices). OverTold limits says_yes keys aad d new status Holds) (same_devices (Some input) first [] f 0 empty none) e
 
 -- the same of a run with the judge by records
-pub runs_by : (limits : Bounds) (keys : List (List ℕ)) (aad input : List ℕ) (first : List ℕ) (f : ℕ) (left : Option (List ℕ)) (written text : List ℕ) (f' status : ℕ)
+pub runs_by : (limits : Bounds) (keys : List (List ℕ)) (aad input lines : List ℕ) (count : ℕ) (first : List ℕ) (f : ℕ) (left : Option (List ℕ)) (written text : List ℕ) (f' status : ℕ)
     → first ≡ [] → f ≡ 0 → text ≡ written → f' ≡ 0
-    → RanOn limits (is_among keys) aad (devices (Some input) first f) (devices left written f') status
-    → RunsBy limits keys aad input text status
-runs_by limits keys aad input first f left written text f' status empty none same well e =
-    let e1 : RanOn limits (is_among keys) aad (before input) (devices left written f') status
-    = subst (λ (d : Devices). RanOn limits (is_among keys) aad d (devices left written f') status) (same_devices (Some input) first [] f 0 empty none) e in
-    let e2 : RanOn limits (is_among keys) aad (before input) (after left text) status
-    = subst (λ (d : Devices). RanOn limits (is_among keys) aad (before input) d status) (same_devices left written text f' 0 (sym same) well) e1 in
-    record { left = left; ran = e2; known = ran_status limits (is_among keys) aad (before input) (after left text) status e2 }
+    → OnTold limits (is_among keys) aad (devices (Some input) first f) (devices left written f') status (AreLinesOf lines count)
+    → RunsBy limits keys aad input lines count text status
+runs_by limits keys aad input lines count first f left written text f' status empty none same well e =
+    let e1 : OnTold limits (is_among keys) aad (before input) (devices left written f') status (AreLinesOf lines count)
+    = subst (λ (d : Devices). OnTold limits (is_among keys) aad d (devices left written f') status (AreLinesOf lines count)) (same_devices (Some input) first [] f 0 empty none) e in
+    let e2 : OnTold limits (is_among keys) aad (before input) (after left text) status (AreLinesOf lines count)
+    = subst (λ (d : Devices). OnTold limits (is_among keys) aad (before input) d status (AreLinesOf lines count)) (same_devices left written text f' 0 (sym same) well) e1 in
+    record { left = left; ran = e2; known = ran_status limits (is_among keys) aad (before input) (after left text) status e2.on }
 
 -- the judge that says yes to all, and keeps each record
 abbrev asking : List ℕ → List ℕ → Hearing (List ℕ)
@@ -180,9 +190,6 @@ places_none status old new answer l s e = record {
 
 -- by the keys that were accepted, or it is out of memory
 pub passed : (limits : Bounds) (accepted : List ℕ) (keys : List (List ℕ)) (aad input lines : List ℕ) (count : ℕ) (written : List ℕ) (status : ℕ)
-    → accepted ≡ flat_map framed keys → RunsBy limits keys aad input written status ⊎ NoMemory written status
+    → accepted ≡ flat_map framed keys → RanBy limits keys aad input lines count written status
     → Passed limits accepted aad input lines count written status
-passed limits accepted keys aad input lines count written status e r = elim r [
-  | inl ran ↦ inl (keys, e, ran)
-  | inr none ↦ inr (inr none)
-]
+passed limits accepted keys aad input lines count written status e r = inl (keys, e, r)

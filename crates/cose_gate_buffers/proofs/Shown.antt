@@ -1,8 +1,8 @@
 -- What is in a buffer after a text was put into it.
-use Rattle.std.proofs.Common.{rules, ◌≡◌, ◌⊎◌, inl, inr, ℕ, ◌<◌, ◌≤◌, ◌+◌, ◌-◌, ◌^◌, min, List, [], ◌++◌, length, take, drop, refl, sym, ap, ◌∙◌, arith, length-append, append_assoc}
+use Rattle.std.proofs.Common.{◌≡◌, inl, inr, ℕ, ◌<◌, ◌≤◌, ◌+◌, ◌-◌, ◌^◌, min, List, ◌++◌, length, take, drop, sym, ap, ◌∙◌, arith, length-append}
 use Rattle.std.proofs.lemmas.Bool.{cases_lt}
-use Rattle.std.proofs.lemmas.List.{places, same_lists, take_all, drop_all, length-take, take-append-le, append-nil, take-take}
-use Rattle.std.proofs.Math.Seq.{take-append-add, take-append_seam}
+use Rattle.std.proofs.lemmas.List.{places, same_lists, take_all, length-take, take-append-le, take-take}
+use Rattle.std.proofs.Math.Seq.{take-append-add}
 use Rattle.cose_gate_buffers.specs.Lines.{IsShown, counted, put}
 
 pub length-put : (buffer : List ℕ) (place : ℕ) (text : List ℕ) → length (put buffer place text) ≡ length buffer
@@ -59,3 +59,7 @@ front_shown front text buffer is shown =
     let a : take (length front) buffer ≡ take (length front) (take (length text) buffer) = sym (take-take (length front) (length text) buffer few) in
     let b : take (length front) (take m text) ≡ take m (take (length front) text) = same_lists _ _ (grind (arith, places)) (λ k d h. grind (arith, places)) in
     a ∙ (ap (λ (z : List ℕ). take (length front) z) shown ∙ (b ∙ ap (λ (z : List ℕ). take m z) is))
+
+-- a text before another begins both
+pub begins_both : (text more : List ℕ) → take (length text) (text ++ more) ≡ text
+begins_both text more = take-append-le (length text) text more (omega arith) ∙ take_all (length text) text (omega arith)

@@ -6,10 +6,12 @@ use Rattle.cose_gate_hmac.specs.GateCore.Findings.{Bounds, excluded_by}
 use Rattle.cose_gate_hmac.specs.GateCore.Questions.{Question}
 use Rattle.cose_gate_hmac.specs.GateCore.Run.{Step, Course, questions_of}
 use Rattle.cose_gate_hmac.specs.Judge.{says_yes}
-use Rattle.cose_gate_program.specs.Program.{Devices, EndsOver, RanOn, IsUnreadable}
+use Rattle.cose_gate_program.specs.Program.{Devices, IsUnreadable}
+use Rattle.cose_gate_program.specs.Telling.{OnTold, OverTold}
+use Rattle.cose_gate_program.specs.declared.telling.Notice.{Notice}
 use Rattle.cose_gate_records.specs.Framing.{framed}
 use Rattle.cose_gate_records.specs.Records.{is_among, record_of}
-use Rattle.cose_gate_buffers.specs.Lines.{IsLone, no_records}
+use Rattle.cose_gate_buffers.specs.Lines.{AreLines, AreLinesOf, AreCut, no_records, stopped}
 use Rattle.cose_gate_buffers.specs.declared.answer.Answer.{Answer}
 
 -- so many levels and layers; a strict gate passes only what is already as it would be written
@@ -31,15 +33,26 @@ after left written =
 abbrev pub IsRunStatus : ℕ → Type 0
 IsRunStatus status = (status < 2) ⊎ (status ≡ 3) ⊎ (status ≡ 4)
 
--- the program's run wrote this output and ended with this status
-pub record Runs (limits : Bounds) (keys aad input written : List ℕ) (status : ℕ) : Type 0 where
+-- the program's run wrote this output and these lines, and ended with this status
+pub record Runs (limits : Bounds) (keys aad input lines : List ℕ) (count : ℕ) (written : List ℕ)
+    (status : ℕ) : Type 0 where
   pub left : Option (List ℕ)
-  pub ends : EndsOver limits says_yes keys aad (before input) (after left written) status
+  pub told : OverTold limits says_yes keys aad (before input) (after left written) status
+      (AreLinesOf lines count)
   pub known : IsRunStatus status
 
 -- out of memory, and nothing is written
 abbrev pub NoMemory : List ℕ → ℕ → Type 0
 NoMemory written status = (written ≡ []) × (status ≡ 4)
+
+-- some run over this input, and of what was told of it this holds
+pub record RunTold (limits : Bounds) (allows : Question → Bool) (aad input : List ℕ)
+    (Holds : List Notice → Type 0) : Type 0 where
+  pub old : Devices
+  pub new : Devices
+  pub status : ℕ
+  pub there : old.left ≡ Some input
+  pub run : OnTold limits allows aad old new status Holds
 
 -- the output is in front of what was there, if it is no longer; else there is no space, and nothing
 -- was written
@@ -66,14 +79,17 @@ Answers nesting layers IsText old new answer =
     ⊎ ((AreLimits nesting layers → ⊥) × (answer.status ≡ 2) × (answer.length ≡ 0)
     × (new.out ≡ old.out) × (answer.lines ≡ 0) × (new.lines ≡ old.lines))
 
--- the program's run over memory
-abbrev pub Checked : Bounds → List ℕ → List ℕ → List ℕ → List ℕ → ℕ → Type 0
-Checked limits keys aad input written status =
-    Runs limits keys aad input written status ⊎ NoMemory written status
+-- the program's run over memory: it wrote its output, or memory ran out for that
+abbrev pub Checked : Bounds → List ℕ → List ℕ → List ℕ → List ℕ → ℕ → List ℕ → ℕ → Type 0
+Checked limits keys aad input lines count written status =
+    Runs limits keys aad input lines count written status
+    ⊎ (NoMemory written status × ((new : Devices) × (ended : ℕ)
+    × OverTold limits says_yes keys aad (before input) new ended (AreCut lines count)))
 
 abbrev pub Checks : ℕ → ℕ → Bool → List ℕ → List ℕ → List ℕ → Buffers → Buffers → Answer → Type 0
 Checks nesting layers strict keys aad input old new answer =
-    Answers nesting layers (Checked (within nesting layers strict) keys aad input) old new answer
+    Answers nesting layers
+    (Checked (within nesting layers strict) keys aad input new.lines answer.lines) old new answer
 
 -- out of memory: at the last step, or after all of them, with more to come. All questions about the
 -- steps before it were told.
@@ -106,30 +122,41 @@ pub record Tells (limits : Bounds) (aad input text : List ℕ) (status : ℕ) : 
   pub stopped : status ≡ 4 → ToldUpTo limits.nesting aad input steps more front
   pub known : (status < 2) ⊎ (status ≡ 4)
 
-abbrev pub Told : Bounds → List ℕ → List ℕ → List ℕ → ℕ → Type 0
-Told limits aad input written status =
-    Tells limits aad input written status ⊎ NoMemory written status
+-- the lines are those of that run, or memory ran out for the records
+abbrev pub Told : Bounds → List ℕ → List ℕ → List ℕ → ℕ → List ℕ → ℕ → Type 0
+Told limits aad input lines count written status =
+    (Tells limits aad input written status
+    × RunTold limits (λ _. true) aad input (AreLinesOf lines count))
+    ⊎ (NoMemory written status × RunTold limits (λ _. true) aad input (AreCut lines count))
 
 abbrev pub Asks : ℕ → ℕ → Bool → List ℕ → List ℕ → Buffers → Buffers → Answer → Type 0
 Asks nesting layers strict aad input old new answer =
-    Answers nesting layers (Told (within nesting layers strict) aad input) old new answer
+    Answers nesting layers
+    (Told (within nesting layers strict) aad input new.lines answer.lines) old new answer
 
 -- the run with the judge that says yes if the key of a question is one of these
-pub record RunsBy (limits : Bounds) (keys : List (List ℕ)) (aad input written : List ℕ) (status : ℕ)
-    : Type 0 where
+pub record RunsBy (limits : Bounds) (keys : List (List ℕ)) (aad input lines : List ℕ) (count : ℕ)
+    (written : List ℕ) (status : ℕ) : Type 0 where
   pub left : Option (List ℕ)
-  pub ran : RanOn limits (is_among keys) aad (before input) (after left written) status
+  pub ran : OnTold limits (is_among keys) aad (before input) (after left written) status
+      (AreLinesOf lines count)
   pub known : (status < 2) ⊎ (status ≡ 4)
 
+-- that run, or memory ran out for its output
+abbrev pub RanBy : Bounds → List (List ℕ) → List ℕ → List ℕ → List ℕ → ℕ → List ℕ → ℕ → Type 0
+RanBy limits keys aad input lines count written status =
+    RunsBy limits keys aad input lines count written status
+    ⊎ (NoMemory written status × RunTold limits (is_among keys) aad input (AreCut lines count))
+
 -- if what was accepted is records, one after another, that run; else nothing was read, and the lines
--- are one that says so
+-- are one that says so. If memory ran out for the records, nothing was read either.
 abbrev pub Passed : Bounds → List ℕ → List ℕ → List ℕ → List ℕ → ℕ → List ℕ → ℕ → Type 0
 Passed limits accepted aad input lines count written status =
     ((keys : List (List ℕ)) × (accepted ≡ flat_map framed keys)
-    × RunsBy limits keys aad input written status)
+    × RanBy limits keys aad input lines count written status)
     ⊎ (((keys : List (List ℕ)) → accepted ≡ flat_map framed keys → ⊥) × (written ≡ []) × (status ≡ 3)
-    × IsLone no_records lines count)
-    ⊎ NoMemory written status
+    × AreLines no_records lines count)
+    ⊎ (NoMemory written status × AreLines stopped lines count)
 
 abbrev pub Passes : ℕ → ℕ → Bool → List ℕ → List ℕ → List ℕ → Buffers → Buffers → Answer → Type 0
 Passes nesting layers strict accepted aad input old new answer =

@@ -1,5 +1,7 @@
 -- Lines in a buffer, which may be too small for them.
-use Rattle.std.specs.Prelude.{◌≡◌, ℕ, ◌+◌, ◌-◌, ◌^◌, List, [], ◌∷◌, ◌++◌, length, take, drop, min, Option, None, Some, Bool, true, nat_eq, slice_get, codes}
+use Rattle.std.specs.Prelude.{◌≡◌, ℕ, ◌+◌, ◌-◌, ◌^◌, List, [], ◌∷◌, ◌++◌, length, take, drop, min, codes}
+use Rattle.cose_gate_program.specs.Lines.{lines_of}
+use Rattle.cose_gate_program.specs.declared.telling.Notice.{Notice}
 
 -- the text is in front of the buffer, as much of it as fits
 abbrev pub IsShown : List ℕ → List ℕ → Type 0
@@ -8,14 +10,6 @@ IsShown text buffer = take (length text) buffer ≡ take (length buffer) text
 -- how long a text is, up to the most that is counted
 abbrev pub counted : List ℕ → ℕ
 counted text = min (length text) (2 ^ 64 - 1)
-
--- whether the last line of a text has its line feed, or there is none
-abbrev pub ended_at : Option ℕ → Bool
-ended_at None = true
-ended_at (Some byte) = nat_eq byte 10
-
-abbrev pub has_ended : List ℕ → Bool
-has_ended text = ended_at (slice_get text (length text - 1))
 
 -- the buffer with a text from this place on, as much of it as fits
 abbrev pub put : List ℕ → ℕ → List ℕ → List ℕ
@@ -30,6 +24,27 @@ stopped = codes "stopped: memory\n"
 abbrev pub no_records : List ℕ
 no_records = codes "accepted: no records\n"
 
--- the lines in a buffer are this one alone, as much of it as fits, and so long are they in all
-abbrev pub IsLone : List ℕ → List ℕ → ℕ → Type 0
-IsLone line buffer count = IsShown line buffer × (count ≡ counted line)
+-- the lines are this text: as much of it as fits is in front of the buffer, and so long is all of it
+abbrev pub AreLines : List ℕ → List ℕ → ℕ → Type 0
+AreLines text buffer count = IsShown text buffer × (count ≡ counted text)
+
+-- the lines are those of these notices
+abbrev pub AreLinesOf : List ℕ → ℕ → List Notice → Type 0
+AreLinesOf buffer count notices = AreLines (lines_of notices) buffer count
+
+-- the same, and the last one begins here
+abbrev pub AreHeld : List ℕ → ℕ → ℕ → List Notice → Type 0
+AreHeld buffer last count notices = AreLinesOf buffer count notices
+    × ((done : List Notice) (notice : Notice) → notices ≡ done ++ notice ∷ []
+    → last ≡ counted (lines_of done))
+
+-- the lines of all but the last of these notices, and then that it is out of memory
+abbrev pub AreCut : List ℕ → ℕ → List Notice → Type 0
+AreCut buffer count notices = (done : List Notice) × (last : Notice)
+    × (notices ≡ done ++ last ∷ []) × AreLines (lines_of done ++ stopped) buffer count
+
+-- what lines in a buffer that is lent keep: all of their text, and where the last one begins
+pub record Said : Type 0 where
+  pub name : ℕ
+  pub text : List ℕ
+  pub last : ℕ

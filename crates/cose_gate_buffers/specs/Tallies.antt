@@ -1,17 +1,7 @@
--- What is seen of a tally of lines.
-use Rattle.std.specs.Prelude.{ℕ, List, [], ◌∷◌, if◌then◌else◌}
-use Rattle.cose_gate_buffers.specs.Lines.{has_ended}
+-- What is seen of a tally.
+use Rattle.std.specs.Prelude.{ℕ, List}
 use Rattle.cose_gate_buffers.specs.declared.tally.Tally.{Tally}
 
--- all lines, and those before the last
+-- all that was written
 abbrev pub all_of : Tally → List ℕ
 all_of t = t.all.items
-
-abbrev pub before_of : Tally → List ℕ
-before_of t = t.before.items
-
--- the lines before the last, after a text is added to all lines: if the last has ended, the text
--- begins the next
-abbrev pub before_after : List ℕ → List ℕ → List ℕ → List ℕ
-before_after before all [] = before
-before_after before all (x ∷ xs) = if has_ended all then all else before

@@ -5,9 +5,10 @@ ghost use Rattle.cose_gate_buffers.specs.Calls.{Asks, Places, Told, buffers};
 
 use crate::answer::{Answer, no_limits};
 use crate::choice::Choice;
-use crate::lines::Lines;
+use crate::lines::stop_for_memory;
 use crate::placing::{place, place_none};
-use cose_gate_program::{Terms, run_judged};
+use crate::running::run_with_judge;
+use cose_gate_program::Terms;
 use cose_gate_records::{Asker, Nowhere};
 use std::alloc::Global;
 
@@ -21,28 +22,24 @@ fn ask_within(
     lines: &mut [u8],
 ) -> Answer
     ensures { (written : List ℕ) × (status : ℕ)
-        × Told (limits_of terms) aad.now input.now written status
+        × Told (limits_of terms) aad.now input.now «lines».new result.lines written status
         × Places written status «questions».old «questions».new result }
 {
     let mut reader = input;
     let mut nowhere = Nowhere;
-    let mut told = Lines::new(lines);
     let mut asker = Asker::new(alloc);
-    let status = run_judged(
+    let ended = run_with_judge(
         alloc,
         terms,
         aad,
         &mut reader,
         &mut nowhere,
-        &mut told,
+        lines,
         &mut asker,
     );
     match asker.records() {
-        Some(records) => place(questions, records, status, told.length()),
-        None => {
-            told.stopped_for_memory();
-            place_none(questions, 4, told.length())
-        }
+        Some(records) => place(questions, records, ended.status, ended.end),
+        None => place_none(questions, 4, stop_for_memory(lines, ended.last)),
     }
 }
 

@@ -5,9 +5,10 @@ ghost use Rattle.cose_gate_buffers.specs.Calls.{Checked, Checks, Places, buffers
 
 use crate::answer::{Answer, no_limits};
 use crate::choice::Choice;
-use crate::lines::Lines;
+use crate::lines::stop_for_memory;
 use crate::placing::{place, place_none};
-use cose_gate_program::{Terms, run_over};
+use crate::running::run_with_keys;
+use cose_gate_program::Terms;
 use cose_gate_records::Growing;
 use std::alloc::Global;
 
@@ -22,18 +23,17 @@ fn check_within(
     lines: &mut [u8],
 ) -> Answer
     ensures { (written : List ℕ) × (status : ℕ)
-        × Checked (limits_of terms) keys.now aad.now input.now written status
+        × Checked (limits_of terms) keys.now aad.now input.now «lines».new result.lines
+        written status
         × Places written status «out».old «out».new result }
 {
     let mut reader = input;
     let mut output = Growing::new(alloc);
-    let mut told = Lines::new(lines);
-    let status = run_over(alloc, terms, keys, aad, &mut reader, &mut output, &mut told);
+    let ended = run_with_keys(alloc, terms, keys, aad, &mut reader, &mut output, lines);
     if output.is_refused() {
-        told.stopped_for_memory();
-        return place_none(out, 4, told.length());
+        return place_none(out, 4, stop_for_memory(lines, ended.last));
     }
-    place(out, output.as_written(), status, told.length())
+    place(out, output.as_written(), ended.status, ended.end)
 }
 
 /// Runs `cose-gate` over buffers: the gate over `input` with the judge by HMAC and the key set of

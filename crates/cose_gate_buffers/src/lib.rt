@@ -8,6 +8,7 @@ mod choice;
 mod lines;
 mod passing;
 mod placing;
+mod running;
 mod tally;
 
 pub use crate::answer::Answer;

@@ -1,14 +1,15 @@
 //! The messages whose questions were accepted.
-ghost use Rattle.std.specs.Prelude.{◌≡◌, ◌⊎◌, ℕ, List};
+ghost use Rattle.std.specs.Prelude.{◌≡◌, ℕ, List};
 ghost use Rattle.cose_gate_hmac.specs.GateCore.Terms.{limits_of};
 ghost use Rattle.cose_gate_records.specs.Kept.{keys_of};
-ghost use Rattle.cose_gate_buffers.specs.Calls.{NoMemory, Passed, Passes, Places, RunsBy, buffers};
+ghost use Rattle.cose_gate_buffers.specs.Calls.{Passed, Passes, Places, RanBy, buffers};
 
 use crate::answer::{Answer, no_limits};
 use crate::choice::Choice;
-use crate::lines::{Lines, STOPPED, lone_line};
+use crate::lines::{STOPPED, lone_line, stop_for_memory};
 use crate::placing::{place, place_none};
-use cose_gate_program::{Terms, run_judged};
+use crate::running::run_with_judge;
+use cose_gate_program::Terms;
 use cose_gate_records::{Accepted, Growing};
 use std::alloc::Global;
 
@@ -23,28 +24,26 @@ fn pass_by(
     lines: &mut [u8],
 ) -> Answer
     ensures { (written : List ℕ) × (status : ℕ)
-        × (RunsBy (limits_of terms) (keys_of judge.entry) aad.now input.now written status
-        ⊎ NoMemory written status)
+        × RanBy (limits_of terms) (keys_of judge.entry) aad.now input.now «lines».new result.lines
+        written status
         × Places written status «out».old «out».new result }
 {
     let mut judge = judge;
     let mut reader = input;
     let mut output = Growing::new(alloc);
-    let mut told = Lines::new(lines);
-    let status = run_judged(
+    let ended = run_with_judge(
         alloc,
         terms,
         aad,
         &mut reader,
         &mut output,
-        &mut told,
+        lines,
         &mut judge,
     );
     if output.is_refused() {
-        told.stopped_for_memory();
-        return place_none(out, 4, told.length());
+        return place_none(out, 4, stop_for_memory(lines, ended.last));
     }
-    place(out, output.as_written(), status, told.length())
+    place(out, output.as_written(), ended.status, ended.end)
 }
 
 /// Passes what was accepted, by these terms.

@@ -4,6 +4,8 @@ use Rattle.cose_gate_core.specs.Findings.{Bounds, excluded_by}
 use Rattle.cose_gate_core.specs.Terms.{limits_by}
 use Rattle.cose_gate_hmac.specs.Judge.{says_yes}
 use Rattle.cose_gate_program.specs.Program.{Devices, EndsWithin}
+use Rattle.cose_gate_program.specs.Telling.{EndsTold}
+use Rattle.cose_gate_program.specs.declared.telling.Notice.{Notice}
 use Rattle.coset_labels.specs.Limits.{nesting, layers, nesting_of, layers_of}
 use Rattle.coset_labels.specs.declared.limits.Limits.{Limits}
 use Rattle.cose_gate_program.proofs.Runs.{same_devices}
@@ -25,3 +27,16 @@ pub lent_on : (limits : Bounds) (keys aad : Option (List ℕ)) (old : Devices) (
     → EndsWithin limits says_yes keys aad old (record { left = l'; written = w'; read_failures = n'; write_failures = f' }) status
 lent_on limits keys aad old status l l' w w' n n' f f' a b c d e =
     subst (λ (x : Devices). EndsWithin limits says_yes keys aad old x status) (same_devices l l' w w' n n' f f' a b c d) e
+
+-- the same with what was told
+pub told_by_default : (l : Limits) (strict : Bool) (keys aad : Option (List ℕ)) (old new : Devices) (status : ℕ) (Holds : List Notice → Type 0)
+    → (nesting_of l ≡ nesting) × (layers_of l ≡ layers)
+    → EndsTold (limits_by l strict) says_yes keys aad old new status Holds → EndsTold (bounds_by strict) says_yes keys aad old new status Holds
+told_by_default l strict keys aad old new status Holds e w = subst (λ (o : Bounds). EndsTold o says_yes keys aad old new status Holds) (usually l strict e) w
+
+pub told_lent_on : (limits : Bounds) (keys aad : Option (List ℕ)) (old : Devices) (status : ℕ) (Holds : List Notice → Type 0) (l l' w w' : Option (List ℕ)) (n n' f f' : ℕ)
+    → l ≡ l' → w ≡ w' → n ≡ n' → f ≡ f'
+    → EndsTold limits says_yes keys aad old (record { left = l; written = w; read_failures = n; write_failures = f }) status Holds
+    → EndsTold limits says_yes keys aad old (record { left = l'; written = w'; read_failures = n'; write_failures = f' }) status Holds
+told_lent_on limits keys aad old status Holds l l' w w' n n' f f' a b c d e =
+    subst (λ (x : Devices). EndsTold limits says_yes keys aad old x status Holds) (same_devices l l' w w' n n' f f' a b c d) e

@@ -2,6 +2,7 @@
 ghost use Rattle.std.specs.Prelude.{◌≡◌, map, option_copied, string_bytes};
 ghost use Rattle.cose_gate_command.specs.Arguments as spec;
 ghost use Rattle.cose_gate_command.specs.Ends.{EndsBy};
+ghost use Rattle.cose_gate_command.specs.Telling.{Lines};
 ghost use Rattle.cose_gate_program.specs.Program.{devices_of};
 
 use crate::arguments::read_arguments;
@@ -29,6 +30,10 @@ pub fn program<'a, R: Read, W: Write, E: Write>(
     ensures ran { EndsBy (spec.arguments (map string_bytes all.now)) (option_copied keys.entry)
         (devices_of R.Read W.Write input.old out.old)
         (devices_of R.Read W.Write input.new out.new) result }
+    ensures lines { Lines E.Write (spec.arguments (map string_bytes all.now))
+        (option_copied keys.entry)
+        (devices_of R.Read W.Write input.old out.old)
+        (devices_of R.Read W.Write input.new out.new) result err.old err.new }
     ensures kept { R.handle input.new ≡ R.handle input.old }
     ensures lent { W.handle out.new ≡ W.handle out.old }
 {

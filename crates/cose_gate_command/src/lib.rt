@@ -7,6 +7,7 @@ mod counted;
 mod explained;
 mod key_file;
 mod more;
+mod said;
 mod verbose;
 
 pub use crate::arguments::{Arguments, read_arguments};

@@ -20,7 +20,7 @@ use Rattle.cose_gate_hmac.specs.GateCore.Questions.{Question}
 use Rattle.cose_gate_hmac.specs.GateCore.Asked.{IsFront, ToldFront, folded_over}
 use Rattle.cose_gate_hmac.specs.GateCore.Findings.{Bounds, usual, plain}
 use Rattle.cose_gate_hmac.specs.GateCore.Terms.{limits_by}
-use Rattle.cose_gate_hmac.specs.GateCore.Run.{Step, Course, asked_of, questions_of, output_of, refused_count}
+use Rattle.cose_gate_hmac.specs.GateCore.Run.{Step, Course, asked_of, questions_of, output_of, entries_of, refused_count}
 use Rattle.cose_gate_hmac.specs.GateCore.Outcome.{Rules, Sight, Outcome, Answers, IsFaultOf, StandsIn, IsNoReaderFault, reader_failures, writer_failures}
 use Rattle.cose_gate_hmac.specs.GateCore.declared.gating.Counts.{Counts}
 use Rattle.cose_gate_hmac.specs.GateCore.declared.gating.GateFault.{GateFault}
@@ -28,6 +28,8 @@ use Rattle.cose_gate_hmac.specs.GateCore.declared.gating.GateFault.TheVariants a
 use Rattle.cose_gate_hmac.specs.Judge.{says_yes}
 use Rattle.cose_gate_hmac.specs.KeySets.Keys.{HasKeySet}
 use Rattle.cose_gate_hmac.specs.KeySets.View.{key_set_view}
+use Rattle.cose_gate_program.specs.Telling.{items_of, done_of, why_of, done_by, EndsAs, GatedTold}
+use Rattle.cose_gate_program.specs.declared.telling.Notice.{Notice}
 use Rattle.cose_gate_program.specs.Beginning.{status_of, Begins, BeginsNot, IsNoKeySet}
 use Rattle.cose_gate_program.specs.declared.beginning.Beginning.{Beginning}
 use Rattle.cose_gate_program.specs.Faults.{is_end}
@@ -123,6 +125,35 @@ module _ (limits : Bounds) (allows : Question → Bool) (aad : List ℕ) (old ne
   asked_at de.RecursionLimitExceeded grown w stands = refl
   asked_at de.Memory grown w stands = refl
   asked_at de.TooLong grown w stands = refl
+
+  -- all steps were done then, and this is what stopped it
+  done_at : (e : Error InputFault)
+      → (grown : (let r : Result Counts (GateFault InputFault) = Err (gating.Decode e) in
+      new.read_failures ≡ old.read_failures + reader_failures is_end r))
+      → (w : IfKnown old.left (λ b. IsFaultOf is_end limits.nesting (length b) more e))
+      → (stands : IsNoReaderFault e → StandsWithin old.left new.left more)
+      → done_of steps (stops_at e grown w stands) ≡ steps
+  done_at (de.Io fault.End) grown w stands = refl
+  done_at (de.Io fault.Failed) grown w stands = refl
+  done_at (de.Syntax p) grown w stands = refl
+  done_at (de.Semantic o k) grown w stands = refl
+  done_at de.RecursionLimitExceeded grown w stands = refl
+  done_at de.Memory grown w stands = refl
+  done_at de.TooLong grown w stands = refl
+
+  why_at : (e : Error InputFault)
+      → (grown : (let r : Result Counts (GateFault InputFault) = Err (gating.Decode e) in
+      new.read_failures ≡ old.read_failures + reader_failures is_end r))
+      → (w : IfKnown old.left (λ b. IsFaultOf is_end limits.nesting (length b) more e))
+      → (stands : IsNoReaderFault e → StandsWithin old.left new.left more)
+      → gating.Decode e ≡ why_of (stops_at e grown w stands)
+  why_at (de.Io fault.End) grown w stands = refl
+  why_at (de.Io fault.Failed) grown w stands = refl
+  why_at (de.Syntax p) grown w stands = refl
+  why_at (de.Semantic o k) grown w stands = refl
+  why_at de.RecursionLimitExceeded grown w stands = refl
+  why_at de.Memory grown w stands = refl
+  why_at de.TooLong grown w stands = refl
 
 module _ {T S : Type 0} (by : Rules T S) (old new : Sight T S) where
   abbrev heard_by : Hearing T
@@ -242,32 +273,72 @@ module _ {T S : Type 0} (by : Rules T S) (old new : Sight T S) where
     asked_all w.done w.last w.texts w.asked w.texts_are,
   )
 
-  -- the gate's result over a decoder that began here, by the input and the output that it was lent
-  pub gated : (limits : Bounds) (before after : Devices) (n n' f f' : ℕ) (r : Result Counts (GateFault InputFault))
+  -- the steps whose items the report was told, and that the result says how the gate ended
+  abbrev done_over : (n n' f f' : ℕ) (b : List ℕ) (r : Result Counts (GateFault InputFault))
+      → (w : Outcome is_end by old new b r) → (z : old.offset ≡ 0) → (reads : n' ≡ n + reader_failures is_end r)
+      → (writes : f' ≡ f + writer_failures r) → List Step
+  done_over n n' f f' b r w z reads writes =
+      done_by by.limits by.allows by.aad (devices old.left old.written n f) (devices new.left new.written n' f') b (steps_by b r w) r
+      (gated_over n n' f f' b r w z reads writes)
+
+  told_items : (n n' f f' : ℕ) (b : List ℕ) (r : Result Counts (GateFault InputFault))
+      → (w : Outcome is_end by old new b r) → (z : old.offset ≡ 0) → (reads : n' ≡ n + reader_failures is_end r)
+      → (writes : f' ≡ f + writer_failures r)
+      → new.state ≡ folded_over by.folded old.state (entries_of (done_over n n' f f' b r w z reads writes))
+  told_items n n' f f' b (Ok counts) w z reads writes = w.made.state
+  told_items n n' f f' b (Err (gating.Decode e)) w z reads writes =
+      w.made.state ∙ ap (λ (ss : List Step). folded_over by.folded old.state (entries_of ss))
+      (sym (done_at by.limits by.allows by.aad (devices old.left old.written n f) (devices new.left new.written n' f') w.steps w.more e reads
+      (fault_at is_end by.limits.nesting old.offset w.more e old.left z w.fault)
+      (λ other. stands_within old new b w.more (IsNoReaderFault e) other w.stands)))
+  told_items n n' f f' b (Err gating.Write) w z reads writes = w.state
+  told_items n n' f f' b (Err gating.Memory) w z reads writes = w.state
+
+  ended_over : (n n' f f' : ℕ) (b : List ℕ) (r : Result Counts (GateFault InputFault))
+      → (w : Outcome is_end by old new b r) → (z : old.offset ≡ 0) → (reads : n' ≡ n + reader_failures is_end r)
+      → (writes : f' ≡ f + writer_failures r)
+      → EndsAs by.limits by.allows by.aad (devices old.left old.written n f) (devices new.left new.written n' f') b (steps_by b r w) r
+      (gated_over n n' f f' b r w z reads writes)
+  ended_over n n' f f' b (Ok counts) w z reads writes = w.passed
+  ended_over n n' f f' b (Err (gating.Decode e)) w z reads writes =
+      why_at by.limits by.allows by.aad (devices old.left old.written n f) (devices new.left new.written n' f') w.steps w.more e reads
+      (fault_at is_end by.limits.nesting old.offset w.more e old.left z w.fault)
+      (λ other. stands_within old new b w.more (IsNoReaderFault e) other w.stands)
+  ended_over n n' f f' b (Err gating.Write) w z reads writes = refl
+  ended_over n n' f f' b (Err gating.Memory) w z reads writes = refl
+
+  -- the gate's result over a decoder that began here, by the input and the output that it was lent, and
+  -- what its report was told
+  pub gated : (limits : Bounds) (before after : Devices) (n n' f f' : ℕ) (r : Result Counts (GateFault InputFault)) (Holds : List Notice → Type 0)
       → limits ≡ by.limits → old.offset ≡ 0 → before ≡ devices old.left old.written n f
       → after ≡ devices new.left new.written n' f' → Answers is_end by old new r
       → n' ≡ n + reader_failures is_end r → f' ≡ f + writer_failures r
-      → Gated limits heard_by by.aad before after r
-  gated limits before after n n' f f' r same z first last a reads writes =
-      let here : Gated by.limits heard_by by.aad (devices old.left old.written n f) (devices new.left new.written n' f') r = record {
-        input = a.input;
-        is = a.is;
-        steps = steps_by a.input r a.outcome;
-        over = gated_over n n' f f' a.input r a.outcome z reads writes;
-        heard = heard_over a.input r a.outcome;
-        asked = asked_over n n' f f' a.input r a.outcome z reads writes;
+      → ((ss : List Step) → new.state ≡ folded_over by.folded old.state (entries_of ss) → Holds (items_of ss))
+      → GatedTold limits heard_by by.aad before after r Holds
+  gated limits before after n n' f f' r Holds same z first last a reads writes told =
+      let here : GatedTold by.limits heard_by by.aad (devices old.left old.written n f) (devices new.left new.written n' f') r Holds = record {
+        gated = record {
+          input = a.input;
+          is = a.is;
+          steps = steps_by a.input r a.outcome;
+          over = gated_over n n' f f' a.input r a.outcome z reads writes;
+          heard = heard_over a.input r a.outcome;
+          asked = asked_over n n' f f' a.input r a.outcome z reads writes;
+        };
+        told = told (done_over n n' f f' a.input r a.outcome z reads writes) (told_items n n' f f' a.input r a.outcome z reads writes);
+        ended = ended_over n n' f f' a.input r a.outcome z reads writes;
       } in
-      let begun : Gated by.limits heard_by by.aad before (devices new.left new.written n' f') r
-      = subst (λ (d : Devices). Gated by.limits heard_by by.aad d (devices new.left new.written n' f') r) (sym first) here in
-      let there : Gated by.limits heard_by by.aad before after r
-      = subst (λ (d : Devices). Gated by.limits heard_by by.aad before d r) (sym last) begun in
-      subst (λ (o : Bounds). Gated o heard_by by.aad before after r) (sym same) there
+      let begun : GatedTold by.limits heard_by by.aad before (devices new.left new.written n' f') r Holds
+      = subst (λ (d : Devices). GatedTold by.limits heard_by by.aad d (devices new.left new.written n' f') r Holds) (sym first) here in
+      let there : GatedTold by.limits heard_by by.aad before after r Holds
+      = subst (λ (d : Devices). GatedTold by.limits heard_by by.aad before d r Holds) (sym last) begun in
+      subst (λ (o : Bounds). GatedTold o heard_by by.aad before after r Holds) (sym same) there
 
 pub not_zero : (n : ℕ) → n ≢ 0 → ◌≡◌ {A = ℕ} 1 (cond {A = ℕ} (nat_eq n 0) 0 1)
 not_zero n not = grind (arith, nat_tests)
 
 -- a flush adds nothing
-flushed : (a b c : Option (List ℕ)) (x : List ℕ) → Keeps b c → Appends a b x → Appends a c x
+pub flushed : (a b c : Option (List ℕ)) (x : List ℕ) → Keeps b c → Appends a b x → Appends a c x
 flushed None b c x q p = tt
 flushed (Some a) None c x q p = absurd p
 flushed (Some a) (Some b) None x q p = absurd q
@@ -282,7 +353,7 @@ grows (Err x) m n e = let h : n ≡ m + 1 = e in omega arith
 pub one_more : (a b c : ℕ) → a ≤ b → c ≡ b + 1 → c ≡ a → ⊥
 one_more a b c p q e = absurd (omega arith)
 
-risen : (a b c : ℕ) → a ≤ b → c ≡ b + 1 → a < c
+pub risen : (a b c : ℕ) → a ≤ b → c ≡ b + 1 → a < c
 risen a b c p q = omega (arith, p, q)
 
 -- the output was flushed
@@ -310,7 +381,7 @@ pub flush_passed : {X F : Type 0} (answer : Result X F) (m n : ℕ) → false �
 flush_passed (Ok x) m n is e = e
 flush_passed (Err x) m n is e = absurd (true≢false (sym is))
 
-then_flushed : (limits : Bounds) (allows : Question → Bool) (aad : List ℕ) (old mid new : Devices) (b : List ℕ) (steps : List Step) (n : ℕ)
+pub then_flushed : (limits : Bounds) (allows : Question → Bool) (aad : List ℕ) (old mid new : Devices) (b : List ℕ) (steps : List Step) (n : ℕ)
     → IsFlushed mid new → Through limits allows aad old mid b steps n → Through limits allows aad old new b steps n
 then_flushed limits allows aad old mid new b steps n flushes t = record {
   course = t.course;
@@ -319,22 +390,22 @@ then_flushed limits allows aad old mid new b steps n flushes t = record {
   ended = subst (λ (l : Option (List ℕ)). IfKnown old.left (λ b. l ≡ Some [])) (sym flushes.left) t.ended;
 }
 
-within_flushed : (old l l' : Option (List ℕ)) (more : List ℕ) → l' ≡ l → StandsWithin old l more → StandsWithin old l' more
+pub within_flushed : (old l l' : Option (List ℕ)) (more : List ℕ) → l' ≡ l → StandsWithin old l more → StandsWithin old l' more
 within_flushed old l l' more e = subst (λ (k : Option (List ℕ)). StandsWithin old k more) (sym e)
 
 -- the place of the reader stays
-stands_flushed : (l l' : Option (List ℕ)) (more : List ℕ) → l' ≡ l → IfKnown l (λ b. b ≡ more) → IfKnown l' (λ b. b ≡ more)
+pub stands_flushed : (l l' : Option (List ℕ)) (more : List ℕ) → l' ≡ l → IfKnown l (λ b. b ≡ more) → IfKnown l' (λ b. b ≡ more)
 stands_flushed l l' more e = subst (λ (k : Option (List ℕ)). IfKnown k (λ b. b ≡ more)) (sym e)
 
-more_often : (a b c : ℕ) → b ≤ c → a < b → a < c
+pub more_often : (a b c : ℕ) → b ≤ c → a < b → a < c
 more_often a b c grown rose = omega (arith, grown, rose)
 
-as_often : (a b c : ℕ) → c ≡ b → a < b → a < c
+pub as_often : (a b c : ℕ) → c ≡ b → a < b → a < c
 as_often a b c same rose = omega (arith, same, rose)
 
 module _ (limits : Bounds) (allows : Question → Bool) (aad : List ℕ) (old mid new : Devices) (steps : List Step) (more front : List ℕ)
     (flushes : IsFlushed mid new) where
-  torn_flushed : Torn allows aad mid.left steps more front → Torn allows aad new.left steps more front
+  abbrev pub torn_flushed : Torn allows aad mid.left steps more front → Torn allows aad new.left steps more front
   torn_flushed t = record {
     done = t.done;
     last = t.last;
@@ -357,7 +428,7 @@ module _ (limits : Bounds) (allows : Question → Bool) (aad : List ℕ) (old mi
   stops_flushed (memory done last parts one due behind texts) =
       memory done last parts one (λ none. ((due none).0, within_flushed old.left mid.left new.left more flushes.left (due none).1)) (λ some. stands_flushed mid.left new.left more flushes.left (behind some)) texts
 
-  asked_flushed : (s : Stops limits allows aad old mid steps more front) (asked : List Question)
+  pub asked_flushed : (s : Stops limits allows aad old mid steps more front) (asked : List Question)
       → IsAskedAt allows aad steps front s asked → IsAskedAt allows aad steps front (stops_flushed s) asked
   asked_flushed (writer rose torn) asked a = a
   asked_flushed (flush rose end all ended) asked a = a
@@ -365,13 +436,27 @@ module _ (limits : Bounds) (allows : Question → Bool) (aad : List ℕ) (old mi
   asked_flushed (no_item e why stands all) asked a = a
   asked_flushed (memory done last parts one due behind texts) asked a = a
 
+  pub done_flushed : (s : Stops limits allows aad old mid steps more front) → done_of steps (stops_flushed s) ≡ done_of steps s
+  done_flushed (writer rose torn) = refl
+  done_flushed (flush rose end all ended) = refl
+  done_flushed (reader rose all) = refl
+  done_flushed (no_item e why stands all) = refl
+  done_flushed (memory done last parts one due behind texts) = refl
+
+  pub why_flushed : (s : Stops limits allows aad old mid steps more front) → why_of (stops_flushed s) ≡ why_of s
+  why_flushed (writer rose torn) = refl
+  why_flushed (flush rose end all ended) = refl
+  why_flushed (reader rose all) = refl
+  why_flushed (no_item e why stands all) = refl
+  why_flushed (memory done last parts one due behind texts) = refl
+
 abbrev heard_then : {T : Type 0} {hearing : Hearing T} {aad : List ℕ} {steps : List Step} {P Q : Type 0} → Heard hearing aad steps P → (Q → P)
     → Heard hearing aad steps Q
 heard_then h then = record { told = h.told; all = λ q. h.all (then q) }
 
 module _ {T : Type 0} (limits : Bounds) (hearing : Hearing T) (aad : List ℕ) (old mid new : Devices) where
   -- the input was gone through, and the status is as many were refused
-  pub ran_through : (counts : Counts) (status : ℕ) {E : Type 0}
+  abbrev pub ran_through : (counts : Counts) (status : ℕ) {E : Type 0}
       → (let r : Result Counts (GateFault E) = Ok counts in Gated limits hearing aad old mid r)
       → status ≡ cond (nat_eq counts.refused 0) 0 1 → (old.left ≡ Some [] → counts.refused ≡ 0) → IsFlushed mid new
       → (new.read_failures ≡ old.read_failures) × (new.write_failures ≡ old.write_failures)
@@ -392,7 +477,7 @@ module _ {T : Type 0} (limits : Bounds) (hearing : Hearing T) (aad : List ℕ) (
   }
 
   -- it stopped
-  stopped : {E : Type 0} (r : Result Counts (GateFault E)) → (g : Gated limits hearing aad old mid r)
+  abbrev stopped : {E : Type 0} (r : Result Counts (GateFault E)) → (g : Gated limits hearing aad old mid r)
       → (part : InPart limits hearing.allows aad old new g.input g.steps)
       → IsAskedAt hearing.allows aad g.steps part.front part.stops g.heard.told.front
       → (old.left ≡ Some [] → new.read_failures ≡ old.read_failures → new.write_failures ≡ old.write_failures → ⊥)
@@ -418,7 +503,7 @@ module _ {T : Type 0} (limits : Bounds) (hearing : Hearing T) (aad : List ℕ) (
     stops = stops_flushed limits hearing.allows aad old mid new steps p.more p.front flushes p.stops;
   }
 
-  pub ran_stopped : {E : Type 0} (fault : GateFault E)
+  abbrev pub ran_stopped : {E : Type 0} (fault : GateFault E)
       → (let r : Result Counts (GateFault E) = Err fault in Gated limits hearing aad old mid r) → IsFlushed mid new
       → (old.left ≡ Some [] → new.read_failures ≡ old.read_failures → new.write_failures ≡ old.write_failures → ⊥)
       → RanJudged limits hearing aad old new 4
@@ -426,7 +511,7 @@ module _ {T : Type 0} (limits : Bounds) (hearing : Hearing T) (aad : List ℕ) (
       (asked_flushed limits hearing.allows aad old mid new g.steps g.over.more g.over.front flushes g.over.stops g.heard.told.front g.asked) some
 
   -- the flush failed
-  pub ran_unflushed : {E : Type 0} (r : Result Counts (GateFault E)) → Gated limits hearing aad old mid r → IsFlushed mid new
+  abbrev pub ran_unflushed : {E : Type 0} (r : Result Counts (GateFault E)) → Gated limits hearing aad old mid r → IsFlushed mid new
       → old.write_failures ≤ mid.write_failures → new.write_failures ≡ mid.write_failures + 1
       → RanJudged limits hearing aad old new 4
   ran_unflushed {E = E} (Ok counts) g flushes more once = stopped (Ok counts) g (record {
@@ -459,14 +544,14 @@ module _ {T : Type 0} (limits : Bounds) (hearing : Hearing T) (aad : List ℕ) (
       of t = t.refused_is ∙ empty g.steps t.course.sequence
 
 -- the gate isn't run
-pub ended : (limits : Bounds) (allows : List KeyFields → Question → Bool) (keys aad : Option (List ℕ)) (why : NotBegun) (old new : Devices) (status : ℕ) → BeginsNot keys aad why → status ≡ status_of why → new ≡ old → EndsWithin limits allows keys aad old new status
+abbrev pub ended : (limits : Bounds) (allows : List KeyFields → Question → Bool) (keys aad : Option (List ℕ)) (why : NotBegun) (old new : Devices) (status : ℕ) → BeginsNot keys aad why → status ≡ status_of why → new ≡ old → EndsWithin limits allows keys aad old new status
 ended limits allows keys aad NoFile old new status n st same = no_file n st same
 ended limits allows keys aad NotHex old new status n st same = not_hex n.0 n.1 n.2 st same
 ended limits allows keys aad (NoKeys e) old new status n st same = no_keys n.0 n.1 n.2 n.3 (fault_of e) n.4 st same
 ended limits allows keys aad Memory old new status n st same = no_memory n.0 n.1 st same
 
 -- the gate was run
-pub began : (limits : Bounds) (keys aad : Option (List ℕ)) (d : Beginning) (given : List ℕ)
+abbrev pub began : (limits : Bounds) (keys aad : Option (List ℕ)) (d : Beginning) (given : List ℕ)
     (ks : List KeyFields) (old new : Devices) (status : ℕ)
     → (let r : Result Beginning NotBegun = Ok d in Begins keys aad r) → given ≡ d.aad.items → ks ≡ key_set_view d.keys
     → RanOn limits (says_yes ks) given old new status → EndsWithin limits says_yes keys aad old new status
@@ -474,21 +559,21 @@ began limits keys aad d given ks old new status b e same r =
     after_run b.0 given b.1 (b.2 ∙ ap Some (sym e)) ks (subst (λ (k : List KeyFields). HasItem HasKeySet b.0 k) (sym same) b.3) r
 
 -- the bytes hold no key set, or it is out of memory
-pub over_none : (limits : Bounds) (allows : List KeyFields → Question → Bool) (keys aad : List ℕ) (why : NotBegun) (old new : Devices) (status : ℕ) → IsNoKeySet keys why → status ≡ status_of why → new ≡ old → EndsOver limits allows keys aad old new status
+abbrev pub over_none : (limits : Bounds) (allows : List KeyFields → Question → Bool) (keys aad : List ℕ) (why : NotBegun) (old new : Devices) (status : ℕ) → IsNoKeySet keys why → status ≡ status_of why → new ≡ old → EndsOver limits allows keys aad old new status
 over_none limits allows keys aad NoFile old new status n st same = absurd n
 over_none limits allows keys aad NotHex old new status n st same = absurd n
 over_none limits allows keys aad (NoKeys e) old new status n st same = inl (fault_of e, n, st, same)
 over_none limits allows keys aad Memory old new status n st same = inr (inl (st, same))
 
 -- the gate was run with the key set of the bytes
-pub over_run : (limits : Bounds) (keys aad : List ℕ) (ks held : List KeyFields) (old new : Devices) (status : ℕ)
+abbrev pub over_run : (limits : Bounds) (keys aad : List ℕ) (ks held : List KeyFields) (old new : Devices) (status : ℕ)
     → HasItem HasKeySet keys ks → held ≡ ks → RanOn limits (says_yes held) aad old new status
     → EndsOver limits says_yes keys aad old new status
 over_run limits keys aad ks held old new status h same r =
     inr (inr (held, subst (λ (k : List KeyFields). HasItem HasKeySet keys k) (sym same) h, r))
 
 -- the limits if none are chosen
-usually : (l : Limits) → (nesting_of l ≡ nesting) × (layers_of l ≡ layers) → limits_by l false ≡ usual
+pub usually : (l : Limits) → (nesting_of l ≡ nesting) × (layers_of l ≡ layers) → limits_by l false ≡ usual
 usually l e = ap (λ (n : ℕ). plain n (layers_of l)) e.0 ∙ ap (λ (k : ℕ). plain nesting k) e.1
 
 pub ends_usually : (l : Limits) (allows : List KeyFields → Question → Bool) (keys aad : Option (List ℕ)) (old new : Devices) (status : ℕ) → (nesting_of l ≡ nesting) × (layers_of l ≡ layers)

@@ -9,13 +9,15 @@ mod devices;
 mod lines;
 mod out_blocks;
 mod program;
+mod telling;
 
 pub use crate::arguments::words;
 pub use crate::beginning::{Beginning, NotBegun, begin};
 pub use crate::blocks::Blocks;
 pub use crate::devices::{InputFault, OutputFault};
-pub use crate::lines::{Lines, Teller};
+pub use crate::lines::{write_logged, write_notice};
 pub use crate::out_blocks::OutBlocks;
-pub use crate::program::{run, run_judged, run_over, run_told, run_with};
+pub use crate::program::{run, run_judged, run_over, run_over_told, run_told, run_with};
+pub use crate::telling::{Notice, Teller};
 pub use cose_gate_hmac as judge;
 pub use cose_gate_hmac::gate_core::{Limits, Terms};

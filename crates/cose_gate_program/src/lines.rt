@@ -1,139 +1,44 @@
-//! What is told of a run, and the lines on standard error. A fault of what they are written to is
-//! ignored.
-ghost use Rattle.std.specs.Prelude.{◌≤◌, length};
+//! The lines of a run. A fault of what they are written to is ignored.
+ghost use Rattle.std.specs.Prelude.{◌≡◌, ◌≤◌, ◌++◌, ◌∷◌, [], List, length};
+ghost use Rattle.std.specs.Fmt.{decimal};
+ghost use Rattle.cose_gate_program.specs.Lines as spec;
+ghost use Rattle.cose_gate_program.specs.Lines.{line_of};
+ghost use Rattle.ciborium_ll.specs.declared.log.Log.{Log};
+ghost use Rattle.cose_gate_program.specs.Writing.{Wrote, Spoke, Spoke-prop, Spoken};
 
 use crate::beginning::NotBegun;
 use crate::devices::InputFault;
+use crate::telling::{Notice, Teller};
 use ciborium_ll::Write;
-use cose_gate_hmac::gate_core::{Counts, Entry, GateFault, Refusal, Report, Verdict, de};
+use ciborium_ll::log::Log;
+use cose_gate_hmac::gate_core::{Counts, Entry, GateFault, Refusal, SemanticKind, Verdict, de};
+use coset_labels::CoseError;
 use itoa::write_digits;
-use std::alloc::AllocError;
-use std::fmt;
-use std::fmt::Write as _;
-
-/// How many bytes of a line are held back: a whole line, unless a number or a fault is long.
-const HELD: usize = 128;
 
 /// The bytes that the line of an item takes at most: 5 and 4 beside two numbers of at most 20, and
 /// an end of at most 23.
 const LINE: usize = 72;
 
-/// Text to a writer, in as few calls as hold it.
-#[derive(Drop)]
-struct Text<'a, W> {
-    out: &'a mut W,
-    held: [u8; HELD],
-    len: usize,
-    ghost within: { len ≤ 128 },
-}
+/// The bytes of a number at most.
+const DIGITS: usize = 20;
 
-impl<'a, W: Write> Text<'a, W> {
-    fn new(out: &'a mut W) -> Text<'a, W> {
-        Text {
-            out,
-            held: [0; HELD],
-            len: 0,
-        }
-    }
-
-    /// Writes what is held back.
-    fn pass_on(&mut self) -> fmt::Result {
-        let held = &self.held[..self.len];
-        self.len = 0;
-        self.out.write_all(held).map_err(|_| fmt::Error)
-    }
-
-    /// Writes what is held back, and flushes the writer.
-    fn flush(&mut self) {
-        let _ = self.pass_on();
-        let _ = self.out.flush();
-    }
-}
-
-impl<'a, W: Write> fmt::Write for Text<'a, W> {
-    fn write_str(&mut self, text: &str) -> fmt::Result {
-        let bytes = text.as_bytes();
-        if bytes.len() > HELD - self.len {
-            self.pass_on()?;
-        }
-        if bytes.len() > HELD - self.len {
-            return self.out.write_all(bytes).map_err(|_| fmt::Error);
-        }
-        let end = self.len + bytes.len();
-        self.held[self.len..end].copy_from_slice(bytes);
-        self.len = end;
-        Ok(())
-    }
-}
-
-/// Is told how a run of the program goes, as it goes. No clause speaks of what it does with that.
-pub trait Teller {
-    /// An item has passed, or was refused.
-    fn item(&mut self, entry: &Entry);
-
-    /// The whole input was gone through.
-    fn counts(&mut self, counts: Counts);
-
-    /// The run has stopped.
-    fn stopped(&mut self, fault: &GateFault<InputFault>);
-
-    /// The run doesn't begin.
-    fn not_begun(&mut self, why: NotBegun);
-}
-
-/// A report that hands each item on, and keeps nothing.
-#[derive(Drop)]
-pub(crate) struct Told<'a, T> {
-    pub(crate) teller: &'a mut T,
-}
-
-impl<'a, T: Teller> Report for Told<'a, T> {
-    ghost State = { Unit {0} };
-
-    ghost state = { λ _. tt };
-
-    ghost folded = { λ s _. s };
-
-    fn note(&mut self, entry: &Entry) -> Result<(), AllocError> {
-        self.teller.item(entry);
-        Ok(())
-    }
-}
-
-/// The lines that `run` tells of, on a writer.
-#[derive(Drop)]
-pub struct Lines<'a, W> {
-    out: &'a mut W,
-}
-
-impl<'a, W: Write> Lines<'a, W> {
-    /// Lines on this writer.
-    pub fn new(out: &'a mut W) -> Lines<'a, W> {
-        Lines { out }
-    }
-}
-
-impl<'a, W: Write> Teller for Lines<'a, W> {
-    fn item(&mut self, entry: &Entry) {
-        say_entry(*entry, self.out);
-    }
-
-    fn counts(&mut self, counts: Counts) {
-        say_counts(counts, self.out);
-    }
-
-    fn stopped(&mut self, fault: &GateFault<InputFault>) {
-        say_fault(fault, self.out);
-    }
-
-    fn not_begun(&mut self, why: NotBegun) {
-        say_not_begun(why, self.out);
+/// Writes the line of a notice. The last line of a run is flushed, with those before it.
+pub fn write_notice<W: Write>(notice: &Notice, out: &mut W)
+    ensures { Wrote W.Write out.old out.new (line_of notice.now) }
+{
+    match notice {
+        Notice::Item(entry) => write_entry(*entry, out),
+        Notice::Counts(counts) => write_counts(*counts, out),
+        Notice::Stopped(fault) => write_stopped(fault, out),
+        Notice::NotBegun(why) => write_not_begun(*why, out),
     }
 }
 
 /// The line of an item. It is put together from its end, so that each number is written into its
 /// place.
-fn say_entry<W: Write>(entry: Entry, out: &mut W) {
+fn write_entry<W: Write>(entry: Entry, out: &mut W)
+    ensures { Wrote W.Write out.old out.new (spec.entry_line entry) }
+{
     let mut line = [0; LINE];
     let ending = ending_of(entry.verdict).as_bytes();
     let after = LINE - ending.len();
@@ -142,12 +47,13 @@ fn say_entry<W: Write>(entry: Entry, out: &mut W) {
     line[offset - 4..offset].copy_from_slice(b" at ");
     let number = write_digits(entry.number as u64, &mut line, offset - 4);
     line[number - 5..number].copy_from_slice(b"item ");
-    let _ = out.write_all(&line[number - 5..]);
+    write(&line[number - 5..], out);
 }
 
 /// The end of the line of an item: the name of a refusal, without what it holds.
 fn ending_of(verdict: Verdict) -> &'static str
-    ensures { length result.now ≤ 23 }
+    ensures text { result.now ≡ spec.ending verdict }
+    ensures short { length result.now ≤ 23 }
 {
     match verdict {
         Verdict::Passed => ": passed\n",
@@ -156,7 +62,8 @@ fn ending_of(verdict: Verdict) -> &'static str
 }
 
 fn refused_ending(refusal: Refusal) -> &'static str
-    ensures { length result.now ≤ 23 }
+    ensures text { result.now ≡ spec.refused_ending refusal }
+    ensures short { length result.now ≤ 23 }
 {
     match refusal {
         Refusal::NotTagged => ": refused: NotTagged\n",
@@ -170,37 +77,215 @@ fn refused_ending(refusal: Refusal) -> &'static str
     }
 }
 
-/// The last line, which counts the items. It is flushed, with those before it.
-fn say_counts<W: Write>(counts: Counts, out: &mut W) {
-    let mut text = Text::new(out);
-    let passed = counts.passed;
-    let refused = counts.refused;
-    let _ = writeln!(text, "passed {passed}, refused {refused}");
-    text.flush();
+/// The last line, which counts the items.
+fn write_counts<W: Write>(counts: Counts, out: &mut W)
+    ensures { Wrote W.Write out.old out.new (spec.counts_line counts) }
+{
+    write(b"passed ", out);
+    write_number(counts.passed, out);
+    write(b", refused ", out);
+    write_number(counts.refused, out);
+    write_last(b"\n", out);
 }
 
-/// The last line, which says what stopped the gate. It is flushed, with those before it.
-fn say_fault<W: Write>(fault: &GateFault<InputFault>, out: &mut W) {
-    let mut text = Text::new(out);
-    let _ = match fault {
-        GateFault::Decode(de::Error::Io(InputFault::Failed)) => {
-            writeln!(text, "stopped: decode: Io")
-        }
-        GateFault::Decode(_) | GateFault::Write | GateFault::Memory => {
-            writeln!(text, "stopped: {fault}")
-        }
-    };
-    text.flush();
+/// The last line, which says what stopped the gate.
+fn write_stopped<W: Write>(fault: &GateFault<InputFault>, out: &mut W)
+    ensures { Wrote W.Write out.old out.new (spec.stopped_line fault.now) }
+{
+    write(b"stopped: ", out);
+    write_fault(fault, out);
+    write_last(b"\n", out);
 }
 
-/// The last line, which says why the gate isn't run. It is flushed.
-fn say_not_begun<W: Write>(why: NotBegun, out: &mut W) {
-    let mut text = Text::new(out);
-    let _ = match why {
-        NotBegun::NoFile => writeln!(text, "keys: cannot be read"),
-        NotBegun::NotHex => writeln!(text, "aad: not hex"),
-        NotBegun::NoKeys(error) => writeln!(text, "keys: {error}"),
-        NotBegun::Memory => writeln!(text, "stopped: memory"),
-    };
-    text.flush();
+/// What stopped the gate.
+fn write_fault<W: Write>(fault: &GateFault<InputFault>, out: &mut W)
+    ensures { Wrote W.Write out.old out.new (spec.fault_text fault.now) }
+{
+    match fault {
+        GateFault::Decode(error) => {
+            write(b"decode: ", out);
+            write_decode_fault(error, input_text(error).as_bytes(), out);
+        }
+        GateFault::Write => write(b"write", out),
+        GateFault::Memory => write(b"memory", out),
+    }
+}
+
+/// The text of a fault of the input.
+fn input_text(error: &de::Error<InputFault>) -> &'static str
+    ensures { result.now ≡ spec.input_text error.now }
+{
+    match error {
+        de::Error::Io(InputFault::Failed) => "Io",
+        _ => "Io(EndOfFile)",
+    }
+}
+
+/// The text of a fault of decoding, if that of a fault of the reader is `io`.
+fn write_decode_fault<E, W: Write>(error: &de::Error<E>, io: &[u8], out: &mut W)
+    ensures { Wrote W.Write out.old out.new (spec.decode_text io.now error.now) }
+{
+    match error {
+        de::Error::Io(_) => write(io, out),
+        de::Error::Syntax(offset) => {
+            write(b"Syntax(", out);
+            write_number(*offset, out);
+            write(b")", out);
+        }
+        de::Error::Semantic(_, kind) => {
+            write(b"Semantic(", out);
+            write(kind_text(*kind).as_bytes(), out);
+            write(b")", out);
+        }
+        de::Error::RecursionLimitExceeded => write(b"RecursionLimitExceeded", out),
+        de::Error::Memory => write(b"Memory", out),
+        de::Error::TooLong => write(b"TooLong", out),
+    }
+}
+
+fn kind_text(kind: SemanticKind) -> &'static str
+    ensures { result.now ≡ spec.kind_text kind }
+{
+    match kind {
+        SemanticKind::Simple => "Simple",
+        SemanticKind::Break => "Break",
+        SemanticKind::BigNegative => "BigNegative",
+        SemanticKind::WrongType => "WrongType",
+        SemanticKind::Range => "Range",
+        SemanticKind::Length => "Length",
+        SemanticKind::Tag => "Tag",
+    }
+}
+
+/// The one line if the gate isn't run.
+fn write_not_begun<W: Write>(why: NotBegun, out: &mut W)
+    ensures { Wrote W.Write out.old out.new (spec.not_begun_line why) }
+{
+    write_reason(why, out);
+    write_last(b"\n", out);
+}
+
+/// Why the gate isn't run.
+fn write_reason<W: Write>(why: NotBegun, out: &mut W)
+    ensures { Wrote W.Write out.old out.new (spec.reason_text why) }
+{
+    match why {
+        NotBegun::NoFile => write(b"keys: cannot be read", out),
+        NotBegun::NotHex => write(b"aad: not hex", out),
+        NotBegun::NoKeys(error) => {
+            write(b"keys: ", out);
+            write_cose_error(error, out);
+        }
+        NotBegun::Memory => write(b"stopped: memory", out),
+    }
+}
+
+/// What is wrong with a key set.
+fn write_cose_error<W: Write>(error: CoseError, out: &mut W)
+    ensures { Wrote W.Write out.old out.new (spec.cose_text error) }
+{
+    match error {
+        CoseError::DecodeFailed(error) => {
+            write(b"decode CBOR failure: ", out);
+            write_decode_fault(&error, b"Io(EndOfFile)", out);
+        }
+        CoseError::UnexpectedItem(got, expected) => {
+            write(b"got ", out);
+            write(got.as_bytes(), out);
+            write(b", expected ", out);
+            write(expected.as_bytes(), out);
+        }
+        _ => write(name_of(error).as_bytes(), out),
+    }
+}
+
+/// The text of an error that holds nothing.
+fn name_of(error: CoseError) -> &'static str
+    ensures { result.now ≡ spec.name_of error }
+{
+    match error {
+        CoseError::DuplicateMapKey => "duplicate map key",
+        CoseError::EncodeFailed => "encode CBOR failure",
+        CoseError::ExtraneousData => "extraneous data in CBOR input",
+        CoseError::OutOfRangeIntegerValue => "out of range integer value",
+        CoseError::UnregisteredIanaValue => "expected recognized IANA value",
+        CoseError::UnregisteredIanaNonPrivateValue => {
+            "expected value in IANA or private use range"
+        }
+        CoseError::Memory => "out of memory",
+        CoseError::TooManyLayers => "too many protected layers",
+        CoseError::DecodeFailed(_) | CoseError::UnexpectedItem(_, _) => "",
+    }
+}
+
+fn write_number<W: Write>(number: usize, out: &mut W)
+    ensures { Wrote W.Write out.old out.new (decimal number) }
+{
+    let mut digits = [0; DIGITS];
+    let from = write_digits(number as u64, &mut digits, DIGITS);
+    write(&digits[from..], out);
+}
+
+/// Writes a text.
+fn write<W: Write>(text: &[u8], out: &mut W)
+    ensures { Wrote W.Write out.old out.new text.now }
+{
+    let _ = out.write_all(text);
+}
+
+/// Writes the end of the last line, and flushes the writer.
+fn write_last<W: Write>(text: &[u8], out: &mut W)
+    ensures { Wrote W.Write out.old out.new text.now }
+{
+    write(text, out);
+    let _ = out.flush();
+}
+
+/// The lines that `run` tells of, on a writer.
+#[derive(Drop)]
+pub(crate) struct Lines<'a, W: Write> {
+    out: &'a mut W,
+    /// What was told, and what the writer was at first. It is in contracts alone.
+    told: &'a mut Log<Notice>,
+    begun: Log<W>,
+    ghost wrote: { Spoke W.Write begun out.now told.now } by { Spoke-prop W.Write _ _ _ },
+}
+
+impl<'a, W: Write> Lines<'a, W> {
+    /// Lines on this writer, with a log of what is told.
+    pub(crate) fn new(out: &'a mut W, told: &'a mut Log<Notice>) -> Lines<'a, W>
+        ensures begun { result.begun.items ≡ out.old ∷ [] }
+        ensures told { result.told.now.items ≡ [] }
+        ensures kept { result.out.ghost_name ≡ out.entry.ghost_name }
+    {
+        *told = Log::new();
+        let begun = Log::new().and(&*out);
+        Lines { out, told, begun }
+    }
+}
+
+/// Writes the line of a notice, and adds it to a log of what was told.
+pub fn write_logged<W: Write>(notice: &Notice, out: &mut W, told: &mut Log<Notice>)
+    ensures wrote { (begun : Log W) → Spoke W.Write begun out.old told.old
+        → Spoke W.Write begun out.new told.new }
+    ensures told { told.new.items ≡ told.old.items ++ notice.now ∷ [] }
+{
+    write_notice(notice, out);
+    *told = told.and(notice);
+}
+
+impl<'a, W: Write> Teller for Lines<'a, W> {
+    ghost State = { Spoken W };
+
+    ghost state = { λ l. record {
+      name = l.out.ghost_name;
+      begun = l.begun.items;
+      told = l.told.now.items;
+    } };
+
+    ghost folded = { λ s notice. record s { told = s.told ++ notice ∷ [] } };
+
+    fn tell(&mut self, notice: &Notice) {
+        write_logged(notice, self.out, self.told);
+    }
 }

@@ -1,13 +1,19 @@
 //! The program: the gate over one input, a line for each item, and one that says how it ended.
-ghost use Rattle.std.specs.Prelude.{◌≡◌, ◌≤◌, [], Some, IsOk, OnOk, option_copied};
+ghost use Rattle.std.specs.Prelude.{◌≡◌, ◌≤◌, ◌+◌, [], Some, IsOk, OnOk, option_copied};
+ghost use Rattle.cose_gate_hmac.specs.GateCore.Outcome.{writer_failures};
 ghost use Rattle.cose_gate_hmac.specs.GateCore.Terms.{limits_of};
 ghost use Rattle.cose_gate_hmac.specs.Judge.{says_yes};
-ghost use Rattle.cose_gate_program.specs.Program.{devices_of, hearing_of, Gated, RanJudged};
+ghost use Rattle.cose_gate_hmac.specs.GateCore.Findings.{usual};
+ghost use Rattle.cose_gate_program.specs.Program.{devices_of, hearing_of, RanJudged};
 ghost use Rattle.cose_gate_program.specs.Program.{Ends, EndsWithin, EndsOver};
+ghost use Rattle.cose_gate_program.specs.Telling.{GatedTold, RanTold, OverTold, EndsTold};
+ghost use Rattle.cose_gate_program.specs.Telling.{tells, writes};
 
 use crate::beginning::{begin, read_keys};
 use crate::devices::{Input, InputFault, Output};
-use crate::lines::{Lines, Teller, Told};
+use crate::lines::{Lines, write_notice};
+use crate::telling::{Notice, Teller, Told};
+use ciborium_ll::log::Log;
 use ciborium_ll::{Decoder, Read, Write};
 use cose_gate_hmac::HmacJudge;
 use cose_gate_hmac::gate_core::{Counts, GateFault, Judge, Limits, Terms, gate_by};
@@ -23,15 +29,17 @@ fn gate_told<R: Read, W: Write, T: Teller, J: Judge>(
     teller: &mut T,
     judge: &mut J,
 ) -> Result<Counts, GateFault<InputFault>>
-    ensures ran { Gated (limits_of terms)
+    ensures ran { GatedTold (limits_of terms)
         (hearing_of J.Judge judge.old judge.new) aad.now
         (devices_of R.Read W.Write input.old out.old)
-        (devices_of R.Read W.Write input.new out.new) result }
+        (devices_of R.Read W.Write input.new out.new) result
+        (tells T.Teller teller.old teller.new) }
     ensures nothing { R.left input.old ≡ Some [] → R.failed input.new ≡ R.failed input.old
         → IsOk result }
     ensures reader { OnOk result (R.failed input.new ≡ R.failed input.old) }
     ensures writer { OnOk result (W.failed out.new ≡ W.failed out.old) }
     ensures more { W.failed out.old ≤ W.failed out.new }
+    ensures failures { W.failed out.new ≡ W.failed out.old + writer_failures result }
     ensures who { J.who judge.new ≡ J.who judge.old }
     ensures kept { R.handle input.new ≡ R.handle input.old }
     ensures lent { W.handle out.new ≡ W.handle out.old }
@@ -71,11 +79,18 @@ pub fn run_judged<R: Read, W: Write, E: Write, J: Judge>(
         (hearing_of J.Judge judge.old judge.new) aad.now
         (devices_of R.Read W.Write input.old out.old)
         (devices_of R.Read W.Write input.new out.new) result }
+    ensures lines { RanTold (limits_of terms)
+        (hearing_of J.Judge judge.old judge.new) aad.now
+        (devices_of R.Read W.Write input.old out.old)
+        (devices_of R.Read W.Write input.new out.new) result
+        (writes E.Write err.old err.new) }
     ensures who { J.who judge.new ≡ J.who judge.old }
     ensures kept { R.handle input.new ≡ R.handle input.old }
     ensures lent { W.handle out.new ≡ W.handle out.old }
 {
-    run_told(alloc, terms, aad, input, out, &mut Lines::new(err), judge)
+    let mut told = Log::new();
+    let mut lines = Lines::new(err, &mut told);
+    run_told(alloc, terms, aad, input, out, &mut lines, judge)
 }
 
 /// As `run_judged`, with what is told of the run in place of the lines.
@@ -92,22 +107,27 @@ pub fn run_told<R: Read, W: Write, T: Teller, J: Judge>(
         (hearing_of J.Judge judge.old judge.new) aad.now
         (devices_of R.Read W.Write input.old out.old)
         (devices_of R.Read W.Write input.new out.new) result }
+    ensures told { RanTold (limits_of terms)
+        (hearing_of J.Judge judge.old judge.new) aad.now
+        (devices_of R.Read W.Write input.old out.old)
+        (devices_of R.Read W.Write input.new out.new) result
+        (tells T.Teller teller.old teller.new) }
     ensures who { J.who judge.new ≡ J.who judge.old }
     ensures kept { R.handle input.new ≡ R.handle input.old }
     ensures lent { W.handle out.new ≡ W.handle out.old }
 {
     let gated = gate_told(alloc, terms, aad, input, out, teller, judge);
     if out.flush().is_err() {
-        teller.stopped(&GateFault::Write);
+        teller.tell(&Notice::Stopped(GateFault::Write));
         return 4;
     }
     match gated {
         Ok(counts) => {
-            teller.counts(counts);
+            teller.tell(&Notice::Counts(counts));
             if counts.refused == 0 { 0 } else { 1 }
         }
         Err(fault) => {
-            teller.stopped(&fault);
+            teller.tell(&Notice::Stopped(fault));
             4
         }
     }
@@ -128,16 +148,45 @@ pub fn run_over<R: Read, W: Write, E: Write>(
     ensures ran { EndsOver (limits_of terms) says_yes keys.now aad.now
         (devices_of R.Read W.Write input.old out.old)
         (devices_of R.Read W.Write input.new out.new) result }
+    ensures lines { OverTold (limits_of terms) says_yes keys.now aad.now
+        (devices_of R.Read W.Write input.old out.old)
+        (devices_of R.Read W.Write input.new out.new) result
+        (writes E.Write err.old err.new) }
+    ensures kept { R.handle input.new ≡ R.handle input.old }
+    ensures lent { W.handle out.new ≡ W.handle out.old }
+{
+    let mut told = Log::new();
+    let mut lines = Lines::new(err, &mut told);
+    run_over_told(alloc, terms, keys, aad, input, out, &mut lines)
+}
+
+/// As `run_over`, with what is told of the run in place of the lines.
+pub fn run_over_told<R: Read, W: Write, T: Teller>(
+    alloc: Global,
+    terms: Terms,
+    keys: &[u8],
+    aad: &[u8],
+    input: &mut R,
+    out: &mut W,
+    teller: &mut T,
+) -> u8
+    ensures ran { EndsOver (limits_of terms) says_yes keys.now aad.now
+        (devices_of R.Read W.Write input.old out.old)
+        (devices_of R.Read W.Write input.new out.new) result }
+    ensures told { OverTold (limits_of terms) says_yes keys.now aad.now
+        (devices_of R.Read W.Write input.old out.old)
+        (devices_of R.Read W.Write input.new out.new) result
+        (tells T.Teller teller.old teller.new) }
     ensures kept { R.handle input.new ≡ R.handle input.old }
     ensures lent { W.handle out.new ≡ W.handle out.old }
 {
     match read_keys(alloc, keys) {
         Ok(set) => {
             let mut judge = HmacJudge::prepared(alloc, &set);
-            run_judged(alloc, terms, aad, input, out, err, &mut judge)
+            run_told(alloc, terms, aad, input, out, teller, &mut judge)
         }
         Err(why) => {
-            Lines::new(err).not_begun(why);
+            teller.tell(&Notice::NotBegun(why));
             why.status()
         }
     }
@@ -158,6 +207,11 @@ pub fn run_with<R: Read, W: Write, E: Write>(
         (option_copied keys.entry) (option_copied aad.entry)
         (devices_of R.Read W.Write input.old out.old)
         (devices_of R.Read W.Write input.new out.new) result }
+    ensures lines { EndsTold (limits_of terms) says_yes
+        (option_copied keys.entry) (option_copied aad.entry)
+        (devices_of R.Read W.Write input.old out.old)
+        (devices_of R.Read W.Write input.new out.new) result
+        (writes E.Write err.old err.new) }
     ensures kept { R.handle input.new ≡ R.handle input.old }
     ensures lent { W.handle out.new ≡ W.handle out.old }
 {
@@ -168,7 +222,7 @@ pub fn run_with<R: Read, W: Write, E: Write>(
             run_judged(alloc, terms, aad, input, out, err, &mut judge)
         }
         Err(why) => {
-            Lines::new(err).not_begun(why);
+            write_notice(&Notice::NotBegun(why), err);
             why.status()
         }
     }
@@ -199,6 +253,11 @@ pub fn run<R: Read, W: Write, E: Write>(
     ensures ran { Ends says_yes (option_copied keys.entry) (option_copied aad.entry)
         (devices_of R.Read W.Write input.old out.old)
         (devices_of R.Read W.Write input.new out.new) result }
+    ensures lines { EndsTold usual says_yes
+        (option_copied keys.entry) (option_copied aad.entry)
+        (devices_of R.Read W.Write input.old out.old)
+        (devices_of R.Read W.Write input.new out.new) result
+        (writes E.Write err.old err.new) }
     ensures kept { R.handle input.new ≡ R.handle input.old }
     ensures lent { W.handle out.new ≡ W.handle out.old }
 {

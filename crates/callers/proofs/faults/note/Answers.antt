@@ -1,4 +1,4 @@
-use Rattle.std.proofs.Common.{◌≡◌, ℕ, Some, ap, refl, sym, subst, rules, arith}
+use Rattle.std.proofs.Common.{ℕ, refl, sym, subst}
 use Rattle.cose_gate.specs.Findings.{usual}
 use Rattle.cose_gate.specs.Run.{Run}
 use Rattle.callers.specs.Judging.{allows}

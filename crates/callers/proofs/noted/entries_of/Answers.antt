@@ -1,5 +1,3 @@
-use Rattle.std.proofs.Common.{◌≡◌, List, sym, subst, ◌∙◌, ap}
-use Rattle.std.specs.Prelude.{All}
 use Rattle.cose_gate.specs.Findings.{usual}
 use Rattle.callers.specs.Judging.{allows}
 use Rattle.callers.specs.Sides.{known_of}

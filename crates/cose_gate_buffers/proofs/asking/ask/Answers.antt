@@ -5,7 +5,7 @@ use Rattle.cose_gate_buffers.proofs.Runs.{answers}
 use Rattle.cose_gate_buffers.proofs.asking.ask.Goals as goal
 
 pub returns-in-Some : goal.returns-in-Some
-returns-in-Some c = answers (limits_of c.in-Some.terms) _ _ _ (λ limits written status. Told limits c.args.aad.now c.args.input.now written status)
+returns-in-Some c = answers (limits_of c.in-Some.terms) _ _ _ (λ limits written status. Told limits c.args.aad.now c.args.input.now c.ask_within.new.lines c.ask_within.result.lines written status)
     _ _ _ c.in-Some.ensures c.ask_within.ensures
 
 pub returns-in-None : goal.returns-in-None

@@ -34,6 +34,6 @@ pub returns-in_default : goal.returns-in_default
 returns-in_default c = (
   [],
   4,
-  inr (inr (refl, refl)),
+  inr (inr ((refl, refl), (c.lone_line.ensures.shown, c.place_none.ensures.lines ∙ c.lone_line.ensures.counted))),
   places_none 4 _ _ _ c.place_none.ensures.length c.place_none.ensures.status c.place_none.ensures.same,
 )

@@ -1,7 +1,7 @@
 use Rattle.std.proofs.Common.{◌≤◌, length, decimal, arith, rules}
 use Rattle.std.proofs.lemmas.Fmt.{length-decimal-le}
 use Rattle.std.proofs.lemmas.Grind.{common_steps}
-use Rattle.cose_gate_program.proofs.lines.say_entry.Goals as goal
+use Rattle.cose_gate_program.proofs.lines.write_entry.Goals as goal
 
 pub write_digits-offset-requires : goal.write_digits-offset-requires
 write_digits-offset-requires g c =
