@@ -131,33 +131,41 @@ module _ (limits : Bounds) (aad input first told text : List ℕ) (old new : Dev
       → new.read_failures ≡ old.read_failures → new.write_failures ≡ old.write_failures
       → IsFront front (questions_of (λ _. true) aad steps) → (status < 2 → front ≡ questions_of (λ _. true) aad steps)
       → text ≡ flat_map record_of front → (over : RanOver limits (λ _. true) aad old new b steps status)
-      → IsAskedIn limits (λ _. true) aad old new b steps status over front → Tells limits aad input text status
-  tells_over b steps front here there reads writes is_front all is (inl t) asked = record {
-    steps = steps;
-    more = [];
-    course = course_to limits aad input b steps [] here t.1.course;
-    front = front;
-    is_front = is_front;
-    text_is = is;
-    whole = λ few. (refl, all few);
-    stopped = λ four. absurd (four_is_more status (below_two (nat_eq t.0 0) status t.2) four);
-    known = inl (below_two (nat_eq t.0 0) status t.2);
-  }
-  tells_over b steps front here there reads writes is_front all is (inr p) asked = record {
-    steps = steps;
-    more = p.0.more;
-    course = course_to limits aad input b steps p.0.more here p.0.course;
-    front = front;
-    is_front = is_front;
-    text_is = is;
-    whole = λ few. absurd (four_is_more status few p.1);
-    stopped = λ _. told_up_to limits aad old new steps p.0.more p.0.front front input there reads writes p.0.stops asked;
-    known = inr p.1;
-  }
+      → IsAskedIn limits (λ _. true) aad old new b steps status over front
+      → (t : Tells limits aad input text status) × (steps ≡ t.steps)
+  tells_over b steps front here there reads writes is_front all is (inl t) asked = (
+    record {
+      steps = steps;
+      more = [];
+      course = course_to limits aad input b steps [] here t.1.course;
+      front = front;
+      is_front = is_front;
+      text_is = is;
+      whole = λ few. (refl, all few);
+      stopped = λ four. absurd (four_is_more status (below_two (nat_eq t.0 0) status t.2) four);
+      known = inl (below_two (nat_eq t.0 0) status t.2);
+    },
+    refl,
+  )
+  tells_over b steps front here there reads writes is_front all is (inr p) asked = (
+    record {
+      steps = steps;
+      more = p.0.more;
+      course = course_to limits aad input b steps p.0.more here p.0.course;
+      front = front;
+      is_front = is_front;
+      text_is = is;
+      whole = λ few. absurd (four_is_more status few p.1);
+      stopped = λ _. told_up_to limits aad old new steps p.0.more p.0.front front input there reads writes p.0.stops asked;
+      known = inr p.1;
+    },
+    refl,
+  )
 
   -- what it was told
   pub tells : old.left ≡ Some input → new.read_failures ≡ old.read_failures → new.write_failures ≡ old.write_failures
-      → first ≡ [] → text ≡ told → RanJudged limits (asking first told) aad old new status → Tells limits aad input text status
+      → first ≡ [] → text ≡ told → (r : RanJudged limits (asking first told) aad old new status)
+      → (t : Tells limits aad input text status) × (r.on.ran.steps ≡ t.steps)
   tells there reads writes empty same r =
       let front : List Question = r.heard.told.front in
       let all : told ≡ first ++ flat_map record_of front = r.heard.told.tells ∙ told_all first front in

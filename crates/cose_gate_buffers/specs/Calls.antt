@@ -45,12 +45,11 @@ pub record Runs (limits : Bounds) (keys aad input lines : List ℕ) (count : ℕ
 abbrev pub NoMemory : List ℕ → ℕ → Type 0
 NoMemory written status = (written ≡ []) × (status ≡ 4)
 
--- some run over this input, and of what was told of it this holds
-pub record RunTold (limits : Bounds) (allows : Question → Bool) (aad input : List ℕ)
+-- some run over this input ended so, and of what was told of it this holds
+pub record RunTold (limits : Bounds) (allows : Question → Bool) (aad input : List ℕ) (status : ℕ)
     (Holds : List Notice → Type 0) : Type 0 where
   pub old : Devices
   pub new : Devices
-  pub status : ℕ
   pub there : old.left ≡ Some input
   pub run : OnTold limits allows aad old new status Holds
 
@@ -122,12 +121,19 @@ pub record Tells (limits : Bounds) (aad input text : List ℕ) (status : ℕ) : 
   pub stopped : status ≡ 4 → ToldUpTo limits.nesting aad input steps more front
   pub known : (status < 2) ⊎ (status ≡ 4)
 
--- the lines are those of that run, or memory ran out for the records
+-- the same, and the lines are those of that run
+pub record TellsIn (limits : Bounds) (aad input lines : List ℕ) (count : ℕ) (text : List ℕ)
+    (status : ℕ) : Type 0 where
+  pub tells : Tells limits aad input text status
+  pub run : RunTold limits (λ _. true) aad input status (AreLinesOf lines count)
+  pub one : run.run.on.ran.steps ≡ tells.steps
+
+-- that, or memory ran out for the records
 abbrev pub Told : Bounds → List ℕ → List ℕ → List ℕ → ℕ → List ℕ → ℕ → Type 0
 Told limits aad input lines count written status =
-    (Tells limits aad input written status
-    × RunTold limits (λ _. true) aad input (AreLinesOf lines count))
-    ⊎ (NoMemory written status × RunTold limits (λ _. true) aad input (AreCut lines count))
+    TellsIn limits aad input lines count written status
+    ⊎ (NoMemory written status × ((ended : ℕ)
+    × RunTold limits (λ _. true) aad input ended (AreCut lines count)))
 
 abbrev pub Asks : ℕ → ℕ → Bool → List ℕ → List ℕ → Buffers → Buffers → Answer → Type 0
 Asks nesting layers strict aad input old new answer =
@@ -146,7 +152,8 @@ pub record RunsBy (limits : Bounds) (keys : List (List ℕ)) (aad input lines : 
 abbrev pub RanBy : Bounds → List (List ℕ) → List ℕ → List ℕ → List ℕ → ℕ → List ℕ → ℕ → Type 0
 RanBy limits keys aad input lines count written status =
     RunsBy limits keys aad input lines count written status
-    ⊎ (NoMemory written status × RunTold limits (is_among keys) aad input (AreCut lines count))
+    ⊎ (NoMemory written status × ((ended : ℕ)
+    × RunTold limits (is_among keys) aad input ended (AreCut lines count)))
 
 -- if what was accepted is records, one after another, that run; else nothing was read, and the lines
 -- are one that says so. If memory ran out for the records, nothing was read either.

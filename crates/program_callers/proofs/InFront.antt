@@ -2,9 +2,9 @@
 use Rattle.std.proofs.Common.{arith, ◌≡◌, ℕ, ◌<◌, inl, inr, List, ◌++◌, length, drop, Option, Some, None, Bool, sym, ap, subst, ◌∙◌}
 use Rattle.std.proofs.lemmas.Bool.{cases_lt}
 use Rattle.std.specs.Prelude.{MatchOption, IfSome}
-use Rattle.cose_gate_buffers.specs.Calls.{Answers, Buffers, Checked, NoMemory, Passed, Places, Runs, Told, within}
+use Rattle.cose_gate_buffers.specs.Calls.{Answers, Buffers, Checked, NoMemory, Passed, Places, Runs, TellsIn, Told, within}
 use Rattle.cose_gate_buffers.specs.declared.answer.Answer.{Answer}
-use Rattle.program_callers.specs.Placed.{IsAccepted, IsIn, IsTold}
+use Rattle.program_callers.specs.Placed.{IsAccepted, IsIn}
 use Rattle.program_callers.specs.declared.buffers.Lengths.{Lengths}
 
 in_place : (IsOutput : List ℕ → ℕ → Type 0) (output : List ℕ) (status : ℕ) (old new : List ℕ) (answer : Answer) (n : ℕ)
@@ -51,7 +51,7 @@ module _ (nesting layers : ℕ) (strict : Bool) where
   checked keys aad input lines count output status few (inr m) = absurd (no_memory output status few m.0)
 
   pub told : (aad input lines : List ℕ) (count : ℕ) (output : List ℕ) (status : ℕ) → status < 2
-      → Told (within nesting layers strict) aad input lines count output status → IsTold nesting layers strict aad input lines count output status
+      → Told (within nesting layers strict) aad input lines count output status → TellsIn (within nesting layers strict) aad input lines count output status
   told aad input lines count output status few (inl r) = r
   told aad input lines count output status few (inr m) = absurd (no_memory output status few m.0)
 

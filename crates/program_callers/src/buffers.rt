@@ -1,9 +1,10 @@
 //! The calls over buffers, by a caller who wants the output and the lines of a run that went to its
 //! end. `cose_gate_buffers` is the one crate that it names.
 ghost use Rattle.std.specs.Prelude.{◌≡◌, ◌<◌, IfSome, MatchOption, None};
-ghost use Rattle.cose_gate_buffers.specs.Calls.{within, buffers, Asks, Checks, Passes, Runs};
+ghost use Rattle.cose_gate_buffers.specs.Calls.{within, buffers, Asks, Checks, Passes};
+ghost use Rattle.cose_gate_buffers.specs.Calls.{Runs, TellsIn};
 ghost use Rattle.cose_gate_buffers.specs.declared.answer.Answer.{Answer};
-ghost use Rattle.program_callers.specs.Placed.{IsAccepted, IsIn, IsTold};
+ghost use Rattle.program_callers.specs.Placed.{IsAccepted, IsIn};
 
 use cose_gate_buffers::{Answer, Choice, ask, check, pass};
 use std::alloc::Global;
@@ -64,8 +65,8 @@ pub fn ask_into(
     lines: &mut [u8],
 ) -> Option<Lengths>
     ensures some { IfSome result (λ n. IsIn
-        (IsTold choice.nesting choice.layers choice.strict aad.now input.now «lines».new n.lines)
-        «questions».old «questions».new n.out) }
+        (TellsIn (within choice.nesting choice.layers choice.strict) aad.now input.now
+        «lines».new n.lines) «questions».old «questions».new n.out) }
     ensures none { result ≡ None → (answer : Answer) × (1 < answer.status)
         × Asks choice.nesting choice.layers choice.strict aad.now input.now
         (buffers «questions».old «lines».old) (buffers «questions».new «lines».new) answer }

@@ -7,15 +7,15 @@ use Rattle.cose_gate_buffers.proofs.asking.ask_within.Goals as goal
 
 pub returns-in-Some : goal.returns-in-Some
 returns-in-Some c =
-    let run = c.run_with_judge-ended.ensures in (
+    let run = c.run_with_judge-ended.ensures in
+    let t = tells _ _ _ _ _ _ _ _ _ refl refl refl c.new-asker.ensures.told c.in-Some.ensures.records run.judged in (
       c.in-Some.records.now,
       c.run_with_judge-ended.result.status,
-      inl (
-        tells _ _ _ _ _ _ _ _ _ refl refl refl c.new-asker.ensures.told c.in-Some.ensures.records run.judged,
-        record {
+      inl (record {
+        tells = t.0;
+        run = record {
           old = _;
           new = _;
-          status = c.run_with_judge-ended.result.status;
           there = refl;
           run = record {
             on = run.judged.on;
@@ -23,8 +23,9 @@ returns-in-Some c =
             told = run.told;
             holds = (run.holds.0.0, c.place.ensures.lines ∙ run.holds.0.1);
           };
-        },
-      ),
+        };
+        one = t.1;
+      }),
       record { length_is = c.place.ensures.length; fits = c.place.ensures.fits; no_room = c.place.ensures.no_room },
     )
 
@@ -48,13 +49,15 @@ returns c =
       4,
       inr (
         (refl, refl),
-        record {
-          old = _;
-          new = _;
-          status = c.run_with_judge-ended.result.status;
-          there = refl;
-          run = record { on = run.judged.on; notices = run.notices; told = run.told; holds = cut };
-        },
+        (
+          c.run_with_judge-ended.result.status,
+          record {
+            old = _;
+            new = _;
+            there = refl;
+            run = record { on = run.judged.on; notices = run.notices; told = run.told; holds = cut };
+          },
+        ),
       ),
       places_none 4 _ _ _ c.place_none.ensures.length c.place_none.ensures.status c.place_none.ensures.same,
     )

@@ -25,13 +25,15 @@ returns-then-is_refused c =
       4,
       inr (
         (refl, refl),
-        record {
-          old = _;
-          new = _;
-          status = c.run_with_judge-ended.result.status;
-          there = refl;
-          run = record { on = run.judged.on; notices = run.notices; told = run.told; holds = cut };
-        },
+        (
+          c.run_with_judge-ended.result.status,
+          record {
+            old = _;
+            new = _;
+            there = refl;
+            run = record { on = run.judged.on; notices = run.notices; told = run.told; holds = cut };
+          },
+        ),
       ),
       places_none 4 _ _ _ c.place_none.ensures.length c.place_none.ensures.status c.place_none.ensures.same,
     )
