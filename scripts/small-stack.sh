@@ -2,10 +2,11 @@
 # small-stack.sh: how much stack the messages of worst-messages.py take, in which as much lies inside one another as the limits let through.
 # The programs cose-gate, cose-show and conformance_cose (which reads each message, copies it, compares both and writes the copy) and the
 # library for C are proved and built, by LLVM and by Rattle's own compiler. With each message they must do the same as in 64 MiB of stack. As
-# LLVM builds them: the first two and the library's calls in 256 KiB, the third in 1 MiB, and with the widest limits (4,096 levels, 64 layers)
-# in 8 MiB. Rattle's own compiler gives each value a place of its own in a frame, so what it builds must do with 8 MiB, within the usual
-# limits. A table shows the least number of KiB in which each does so. Last an item of 100,000 levels is read in 256 KiB, unproved: a test of
-# cbor_tests. Status 1 if one of these fails, and 2 if something isn't built.
+# LLVM builds them: the first two in 288 KiB, of which they use 256 before they read anything (`has_stack` of cose_gate_program), the
+# library's calls in 256 KiB, the third in 1 MiB, and with the widest limits (4,096 levels, 64 layers) in 8 MiB. Rattle's own compiler gives
+# each value a place of its own in a frame, so what it builds must do with 8 MiB, within the usual limits. A table shows the least number of
+# KiB in which each does so. Last an item of 100,000 levels is read in 256 KiB, unproved: a test of cbor_tests. Status 1 if one of these
+# fails, and 2 if something isn't built.
 set -u
 ulimit -c 0
 top=$(cd "$(dirname "$(readlink -f "${BASH_SOURCE[0]}")")/.." && pwd)
@@ -96,11 +97,11 @@ while read -r name said; do
   echo "$(call_of "$name") $(od -An -v -tx1 "$message" | tr -d ' \n')" > "$folder/row"
   line="| $name"
   for compiler in $compilers; do
-    within "$(limit_of "$compiler" 256)" "cose-gate ($compiler) on $name" "$message" "$folder/cose_gate_cli.$compiler" "$keys"
+    within "$(limit_of "$compiler" 288)" "cose-gate ($compiler) on $name" "$message" "$folder/cose_gate_cli.$compiler" "$keys"
     "$folder/cose_gate_cli.$compiler" "$keys" < "$message" 2>&1 > /dev/null | grep -q "^item 1 at 0: .*$said" || fails "$name: not $said"
   done
   for compiler in $compilers; do
-    within "$(limit_of "$compiler" 256)" "cose-show ($compiler) on $name" "$message" "$folder/cose_show.$compiler"
+    within "$(limit_of "$compiler" 288)" "cose-show ($compiler) on $name" "$message" "$folder/cose_show.$compiler"
   done
   for compiler in $compilers; do
     within "$(limit_of "$compiler" 1024)" "conformance_cose ($compiler) on $name" "$folder/row" "$folder/conformance_cose.$compiler"

@@ -5,7 +5,7 @@
 
 use ciborium_ll::{Io, Write};
 use cose_ask_core::{AskArguments, NotRun, ask_arguments, asks_for_help, read_aad, write_lines};
-use cose_gate_program::{Blocks, Limits, Terms, run_judged};
+use cose_gate_program::{Blocks, Limits, Terms, has_stack, run_judged};
 use cose_gate_records::{Asker, Nowhere};
 use std::io::{BufReader, BufWriter};
 use std::process::ExitCode;
@@ -56,6 +56,9 @@ fn say(rt: &HostRuntime, why: NotRun) {
 /// Runs the program, and returns its status.
 fn start(rt: &HostRuntime) -> Result<u8, NotRun> {
     let all = all_arguments(rt)?;
+    if !has_stack(all.len()) {
+        return Err(NotRun::Memory);
+    }
     if asks_for_help(all.as_slice()) {
         return say_help(rt);
     }

@@ -12,7 +12,7 @@ ghost use Rattle.cose_gate_program.specs.Program.{devices_of};
 
 use ciborium_ll::{Read, Write};
 use cose_gate_command::{USAGE, program, read_arguments};
-use cose_gate_program::{Blocks, OutBlocks};
+use cose_gate_program::{Blocks, OutBlocks, has_stack};
 use std::alloc::Global;
 use std::io::{BufReader, BufWriter};
 use std::process::ExitCode;
@@ -76,6 +76,9 @@ fn main(rt: HostRuntime) -> ExitCode {
 /// Runs the program, and returns its status.
 fn start(rt: &HostRuntime) -> Result<u8, NotRun> {
     let all = all_arguments(rt)?;
+    if !has_stack(all.len()) {
+        return Err(NotRun::Memory);
+    }
     if asks_for_help(all.as_slice()) {
         return Ok(say_help(rt));
     }

@@ -7,7 +7,7 @@ use ciborium_ll::Io;
 use cose_ask_core::{
     NotRun, PassArguments, asks_for_help, pass_arguments, read_aad, read_accepted,
 };
-use cose_gate_program::{Blocks, Limits, Terms, run_judged};
+use cose_gate_program::{Blocks, Limits, Terms, has_stack, run_judged};
 use cose_gate_records::Accepted;
 use std::io::{BufReader, BufWriter};
 use std::process::ExitCode;
@@ -61,6 +61,9 @@ fn say(rt: &HostRuntime, why: NotRun) {
 /// Runs the program, and returns its status.
 fn start(rt: &HostRuntime) -> Result<u8, NotRun> {
     let all = all_arguments(rt)?;
+    if !has_stack(all.len()) {
+        return Err(NotRun::Memory);
+    }
     if asks_for_help(all.as_slice()) {
         return say_help(rt);
     }
