@@ -22,4 +22,4 @@ pub use crate::program::{run, run_judged, run_over, run_over_told, run_told, run
 pub use crate::stack::has_stack;
 pub use crate::telling::{Notice, Teller};
 pub use cose_gate_hmac as judge;
-pub use cose_gate_hmac::gate_core::{Limits, Terms};
+pub use cose_gate_hmac::gate_core::{GateFault, Limits, Terms};
