@@ -64,7 +64,7 @@ def limits():
 
 
 def abi():
-    """The header declares the answer and the calls as the library exports them, in the same order."""
+    """The header declares what a call returns, and its parameters, as the library exports them, in the same order."""
     header = "include/cose_gate.h"
     c_types = {"u32": "uint32_t", "usize": "size_t", "bool": "bool"}
     answer = re.search(r"#\[repr\(C\)\].*?pub struct Answer \{(.*?)\n\}", text("crates/cose_gate_buffers/src/answer.rt"), re.S)[1]
