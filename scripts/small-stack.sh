@@ -123,6 +123,6 @@ done
 [ -z "$shows" ] || cat "$table"
 
 test="$crates/cbor_tests/out/cbor_tests_tests items::levels::many_levels_are_read"
-(ulimit -s 256 && exec env -i timeout 60 $test) < /dev/null || fails "100,000 levels are not read in 256 KiB: (ulimit -s 256; $test)"
+(ulimit -s 256 && exec env -i timeout 60 $test) < /dev/null > /dev/null 2>&1 || fails "100,000 levels are not read in 256 KiB: (ulimit -s 256; $test)"
 [ $bad = 1 ] || echo "small-stack.sh: $(wc -l < "$folder/said") messages of each limit: all within the stack that is promised"
 exit $bad
