@@ -162,7 +162,11 @@ users() {
   cd "$top/examples" && go_through "" && go_through .by-rattle && [ $bad = 0 ] && echo "$count rows"
 }
 stack() { bash "$top/scripts/small-stack.sh"; }
-heap() { sh "$top/scripts/capped.sh" "$CRATES/bench/out/bench" "$CRATES/cose_gate_cli/out/cose_gate_cli" "$CRATES/example_token/out/example_token"; }
+heap() {
+  local it programs=()
+  for it in bench cose_gate_cli example_token cose_ask_cli cose_pass_cli cose_show; do programs+=("$CRATES/$it/out/$it"); done
+  sh "$top/scripts/capped.sh" "${programs[@]}"
+}
 refused() { bash "$top/scripts/fail-alloc.sh"; }
 library() { bash "$top/scripts/c-library.sh" left c python compare memory; }
 
@@ -174,7 +178,8 @@ step() {
     grep 'left out' "$folder/$1.log" | sort -u
     echo "after-ci.sh: $1: $(tail -n 1 "$folder/$1.log"), $((SECONDS - from)) s"
   else
-    tail -n 40 "$folder/$1.log"
+    head -n 20 "$folder/$1.log"
+    tail -n +21 "$folder/$1.log" | tail -n 20
     echo "after-ci.sh: $1 FAILED; by hand: bash scripts/after-ci.sh $1"
   fi
   return $status

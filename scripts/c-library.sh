@@ -163,8 +163,11 @@ if wants memory || wants valgrind; then
   inputs+=("$scratch"/*)
 fi
 if wants memory; then
-  gcc -std=c11 -O1 -g -fsanitize=address,undefined -fno-sanitize-recover=all -I "$top/include" "$test" "$archive" "$libc" -o "$made/memory_asan"
-  "$made/memory_asan" "$keys" "${inputs[@]}"
+  if gcc -std=c11 -O1 -g -fsanitize=address,undefined -fno-sanitize-recover=all -I "$top/include" "$test" "$archive" "$libc" -o "$made/memory_asan"; then
+    "$made/memory_asan" "$keys" "${inputs[@]}"
+  else
+    lacks "gcc with ASan" "the test of memory under it"
+  fi
   gcc -std=c11 -O1 -g -DREFUSE -I "$top/include" "$test" "$archive" "$libc" -Wl,--wrap=malloc,--wrap=realloc,--wrap=free -o "$made/memory"
   "$made/memory" "$keys" "${inputs[@]}"
   from=$(date +%s%N)

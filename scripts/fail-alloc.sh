@@ -6,7 +6,8 @@
 #   `X_of_N_bytes_Y` with one X have to make as many allocations as each other, since what they read takes no memory.
 # - A program has to end with status 4, a line that says memory, and a front of its output, after which a string of --json may be ended; or
 #   else with the same status, output and lines, but for indented ones, which may say less. It runs as `rt ci` runs it, and as RUNS says.
-# Status 1 if something else happens, and 2 if something isn't there.
+# With REFUSE=N only the allocation N is refused, and what then is written is shown. Status 1 if something else happens, and 2 if something
+# isn't there.
 set -eu
 ulimit -c 0
 top=$(cd "$(dirname "$(readlink -f "${BASH_SOURCE[0]}")")/.." && pwd)
@@ -41,13 +42,15 @@ import subprocess
 import sys
 
 shim, top, crates, *wanted = sys.argv[1:]
-# How programs run beside how `rt ci` runs them, in data/ if they have it: their arguments, and their input if it isn't stdin.
+only = os.environ.get("REFUSE")
+# How programs run beside how `rt ci` runs them, in data/ if they have it: their arguments (ARGS are those of `rt ci`), and their input if it
+# isn't stdin.
 MIXED, KEYS = f"{top}/examples/mixed.cbor", f"{top}/examples/keys.cbor"
 RUNS = {
     "cose_gate_cli": [("--strict --verbose keys.cbor 01", None)],
     "cose_ask_cli": [("--strict 01", None), ("--lines 01", MIXED)],
     "cose_pass_cli": [("accepted 01", MIXED)],
-    "cose_show": [(f"--full --keys {KEYS} --aad 01", MIXED), (f"--json --questions --strict --keys {KEYS}", None), ("", KEYS), ("--json", KEYS)],
+    "cose_show": [(f"--full --keys {KEYS} --aad 01", MIXED), ("--json ARGS", None), ("", KEYS), ("--json", KEYS)],
 }
 bad = 0
 pool = concurrent.futures.ThreadPoolExecutor(os.cpu_count())
@@ -68,9 +71,11 @@ def each(words, holds, data=b"", at="/"):
     """Refuses it each of its allocations, says which of these runs don't hold, and returns how many allocations it makes."""
     status, out, err = run(words, 0, data, at)
     err, count = re.fullmatch(rb"(.*)\nallocations: (\d+)\n", err, re.S).groups()
-    for number, found in enumerate(pool.map(lambda number: run(words, number, data, at), range(1, int(count) + 1)), 1):
-        why = holds((status, out, err), found)
-        if why:
+    numbers = [int(only)] if only else range(1, int(count) + 1)
+    for number, found in zip(numbers, pool.map(lambda number: run(words, number, data, at), numbers)):
+        if only:
+            print(f"{' '.join(words)}: status {found[0]}\n{(found[1] + found[2]).decode(errors='replace')}")
+        if why := holds((status, out, err), found):
             fails(f"{' '.join(words).replace(crates + '/', '')}: allocation {number} of {int(count)} refused: {why}")
     return int(count)
 
@@ -107,9 +112,12 @@ def tests(crate, module):
 
 def programs(crate):
     at = f"{top}/crates/{crate}"
-    runs = [(" ".join(open(f"{at}/args").read().split()), None), *RUNS[crate]]
     files = f"{at}/data" if os.path.isdir(f"{at}/data") else at
-    return [each([f"{crates}/{crate}/out/{crate}", *words.split()], is_told, open(file or f"{at}/stdin", "rb").read(), files) for words, file in runs]
+    counts = []
+    for words, file in [("ARGS", None), *RUNS[crate]]:
+        words = words.replace("ARGS", open(f"{at}/args").read()).split()
+        counts.append(each([f"{crates}/{crate}/out/{crate}", *words], is_told, open(file or f"{at}/stdin", "rb").read(), files))
+    return counts
 
 
 if not wanted:

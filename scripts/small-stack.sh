@@ -14,6 +14,8 @@ top=$(cd "$(dirname "$(readlink -f "${BASH_SOURCE[0]}")")/.." && pwd)
 kit=${RT_KIT:-$(dirname "$(dirname "$(readlink -f "$(command -v rt)")")")}
 crates=${CRATES:-$top/crates}
 folder=$(mktemp -d) && trap 'rm -rf "$folder"' EXIT || exit 2
+# The KiB that are promised: to the four programs, to conformance_cose, to the library's calls, and within the widest limits.
+four=256 fifth=1024 library=256 widest=8192
 shows=${1-}
 bad=0
 fails() {
@@ -54,7 +56,7 @@ both() {
   local limit=$1 name=$2 said=$3 input=$4 program=$crates/$5/out/$5 ending
   shift 5
   for ending in "" .by-rattle; do
-    [ -z "$ending" ] || limit=8192
+    [ -z "$ending" ] || limit=$widest
     within "$limit" "$name" "$input" "$program$ending" "$@"
     [ -z "$said" ] || "$program$ending" "$@" < "$input" 2>&1 > /dev/null | grep -q "^item 1 at 0: .*$said" || fails "$name: not $said by $program$ending"
   done
@@ -95,12 +97,12 @@ while read -r name said; do
   message=$folder/usual/$name
   "$crates/cose_ask_cli/out/cose_ask_cli" < "$message" > "$folder/records" 2> /dev/null
   line="| $name"
-  both 256 "cose-gate on $name" "$said" "$message" cose_gate_cli "$keys"
-  both 256 "cose-show on $name" "" "$message" cose_show
-  both 256 "cose-ask on $name" "${said/Judged/passed}" "$message" cose_ask_cli
-  both 256 "cose-pass on $name" "${said/Judged/passed}" "$message" cose_pass_cli "$folder/records"
-  both 1024 "conformance_cose on $name" "" "$message.row" conformance_cose
-  calls 256 256 16
+  both $four "cose-gate on $name" "$said" "$message" cose_gate_cli "$keys"
+  both $four "cose-show on $name" "" "$message" cose_show
+  both $four "cose-ask on $name" "${said/Judged/passed}" "$message" cose_ask_cli
+  both $four "cose-pass on $name" "${said/Judged/passed}" "$message" cose_pass_cli "$folder/records"
+  both $fifth "conformance_cose on $name" "" "$message.row" conformance_cose
+  calls $library 256 16
   echo "$line |" >> "$table"
 done < "$folder/said"
 
@@ -111,13 +113,13 @@ python3 "$top/scripts/worst-messages.py" "$folder/widest" $limits > "$folder/sai
 while read -r name said; do
   message=$folder/widest/$name
   line="| $name"
-  calls 8192 4096 64
+  calls $widest 4096 64
   echo "$line |" >> "$table"
 done < "$folder/said"
 # conformance_cose reads the item itself within 256 levels
 for kind in sign1 mac0; do
   line="| $kind-protected: read, copied, compared, written"
-  within 8192 "conformance_cose on $kind-protected" "$folder/widest/$kind-protected.row" "$crates/conformance_cose/out/conformance_cose"
+  within $widest "conformance_cose on $kind-protected" "$folder/widest/$kind-protected.row" "$crates/conformance_cose/out/conformance_cose"
   echo "$line |" >> "$table"
 done
 [ -z "$shows" ] || cat "$table"
