@@ -185,14 +185,15 @@ step() {
   return $status
 }
 
-[ $# -gt 0 ] || set -- library stack heap refused users
+[ $# -gt 0 ] || set -- stack heap refused library users
+for name; do
+  case $name in stack | heap | refused | library | users) ;; *) echo "after-ci.sh: no such step: $name" >&2 && exit 2 ;; esac
+done
 bad=0 running=
 for name; do
-  case $name in
-    stack) continue ;;
-    library | heap | refused | users) step "$name" & running="$running $!" ;;
-    *) echo "after-ci.sh: no such step: $name; its head has those that there are" >&2 && exit 2 ;;
-  esac
+  [ "$name" = stack ] && continue
+  step "$name" &
+  running="$running $!"
 done
 for it in $running; do
   wait "$it" || bad=1
