@@ -3,8 +3,8 @@
 # one another as the limits let through, in the stack that is promised. It takes the proved programs that `rt ci` left in out/, by LLVM and
 # by Rattle's own compiler, and the archive of c-library.sh. CRATES is another folder of crates with such out/.
 # With each message cose-gate, cose-show, cose-ask, cose-pass (with all that cose-ask asks) and conformance_cose (which reads it, copies it,
-# compares both and writes the copy) must do the same as in 64 MiB of stack. As LLVM builds them: the first four and the library's calls in
-# 256 KiB, the fifth in 1 MiB, and with the widest limits (4,096 levels, 64 layers) in 8 MiB. Rattle's own compiler gives each value a place
+# compares both and writes the copy) must do the same as in 64 MiB of stack. As LLVM builds them: the first four in 288 KiB, of which they use
+# 256 before they read anything (`has_stack` of cose_gate_program), the library's calls in 256 KiB, the fifth in 1 MiB, and with the widest limits (4,096 levels, 64 layers) in 8 MiB. Rattle's own compiler gives each value a place
 # of its own in a frame, so what it builds must do with 8 MiB, within the usual limits. Last an item of 100,000 levels is read in 256 KiB: a
 # test of cbor_tests. With --least a table shows the least number of KiB in which each does so, in some minutes. Status 1 if one of these
 # fails, and 2 if something isn't there.
@@ -15,7 +15,7 @@ kit=${RT_KIT:-$(dirname "$(dirname "$(readlink -f "$(command -v rt)")")")}
 crates=${CRATES:-$top/crates}
 folder=$(mktemp -d) && trap 'rm -rf "$folder"' EXIT || exit 2
 # The KiB that are promised: to the four programs, to conformance_cose, to the library's calls, and within the widest limits.
-four=256 fifth=1024 library=256 widest=8192
+four=288 fifth=1024 library=256 widest=8192
 shows=${1-}
 bad=0
 fails() {
