@@ -4,10 +4,10 @@
 # by Rattle's own compiler, and the archive of c-library.sh. CRATES is another folder of crates with such out/.
 # With each message cose-gate, cose-show, cose-ask, cose-pass (with all that cose-ask asks) and conformance_cose (which reads it, copies it,
 # compares both and writes the copy) must do the same as in 64 MiB of stack. As LLVM builds them: the first four in 288 KiB, of which they use
-# 256 before they read anything (`has_stack` of cose_gate_program), the library's calls in 256 KiB, the fifth in 1 MiB, and with the widest limits (4,096 levels, 64 layers) in 8 MiB. Rattle's own compiler gives each value a place
-# of its own in a frame, so what it builds must do with 8 MiB, within the usual limits. Last an item of 100,000 levels is read in 256 KiB: a
-# test of cbor_tests. With --least a table shows the least number of KiB in which each does so, in some minutes. Status 1 if one of these
-# fails, and 2 if something isn't there.
+# 256 before they read anything (`has_stack` of cose_gate_program), the library's calls in 256 KiB, the fifth in 1 MiB, and with the widest
+# limits (4,096 levels, 64 layers) in 8 MiB. Rattle's own compiler gives each value a place of its own in a frame, so what it builds must do
+# with 8 MiB, within the usual limits. Last an item of 100,000 levels is read in 256 KiB: a test of cbor_tests. With --least a table shows
+# the least number of KiB in which each does so, in some minutes. Status 1 if one of these fails, and 2 if something isn't there.
 set -u
 ulimit -c 0
 top=$(cd "$(dirname "$(readlink -f "${BASH_SOURCE[0]}")")/.." && pwd)
