@@ -57,7 +57,7 @@ fn of_program(to: &mut Out, name: &str, row: &mut &str) {
         "command" => program::command(to, row),
         "command-room" => program::command_in_room(to, row),
         "ask-command" => program::ask_command(to, row),
-        "ask-command-room" => program::ask_command_in_room(to, row),
+        "ask-command-full" => program::ask_command_full(to, row),
         "pass-command" => program::pass_command(to, row),
         "tag" => judging::tag(to, row),
         "judge" => judging::judge(to, row),

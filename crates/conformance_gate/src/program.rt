@@ -5,7 +5,7 @@ use ciborium_ll::Io;
 use cose_ask_core::{NotRun, ask, ended, pass, pass_arguments};
 use cose_gate::{Limits, Mem, Terms, Write};
 use std::alloc::Global;
-use std::io::BufWriter;
+use std::io::{BufWriter, Cursor};
 use test_tools::Held;
 
 /// A run with these keys and this AADHEX: its status, its output, and its lines.
@@ -119,21 +119,19 @@ pub fn ask_command(to: &mut Out, row: &mut &str) {
     add_end(to, end, shown(&out), shown(&err));
 }
 
-/// The same, if the output has space for so many bytes, 64 at most, after a block of 256.
-pub fn ask_command_in_room(to: &mut Out, row: &mut &str) {
-    let room = words::number(to, row).min(64);
+/// The same, if the output takes four bytes, in blocks of 256.
+pub fn ask_command_full(to: &mut Out, row: &mut &str) {
     let input = words::bytes(to, row);
     let all = words::owned(to, row);
-    let mut memory = [0; 64];
     let mut err = shown_writer(to);
-    let Ok(out) = BufWriter::with_capacity(to.alloc(), 256, &mut memory[..room]) else {
+    let Ok(out) = BufWriter::with_capacity(to.alloc(), 256, Cursor::new([0; 4])) else {
         to.refuse(NoAnswer::Memory);
         return;
     };
     let mut out = Io::new(out);
     let end = ask(to.alloc(), &all, &mut input.as_slice(), &mut out, &mut err);
-    drop(out);
-    add_end(to, end, &memory[..room], shown(&err));
+    let (taken, _) = out.into_inner().into_parts();
+    add_end(to, end, &taken.into_inner(), shown(&err));
 }
 
 /// The program `cose-pass` by the arguments of a command line, over what the file ACCEPTED holds.
