@@ -16,8 +16,8 @@ impl<'a, W: Write> Ending<'a, W> {
     }
 
     /// Writes the last line, if that is how it ended, and hands all lines on.
-    pub(crate) fn end(self, is_so: bool) {
-        match self.last {
+    pub(crate) fn end(&mut self, is_so: bool) {
+        match self.last.take() {
             Some(last) if is_so => write_notice(&last, self.out),
             _ => {
                 let _ = self.out.flush();
