@@ -9,6 +9,7 @@
  *   The three functions are those of one allocator, and malloc and realloc align to each power of two up to 16 that divides the size.
  * Stack: with 256 levels and 16 layers each call was seen to take up to 179 KiB, on the worst messages of each shape that we could make; with
  *   the widest limits, 4,096 and 64, up to 6,157 KiB. What Rattle's own compiler builds takes up to 3,530 KiB and more (docs/TIMES.md, "Stack").
+ *   Under a limit of the address space, the first thread has to use that much once before any call (docs/LIBRARY.md).
  * Threads: any number of threads may call at once, each with buffers of its own. The library has no state, and starts no thread.
  * Signals and fork: not from a signal handler, and not in the forked child of a process with threads, as malloc isn't safe there.
  */

@@ -1,18 +1,21 @@
 #!/usr/bin/env bash
-# c-library.sh [c|rust|go|python|compare|memory|all]: proves and builds the static library cose_gate_c if a source of it has changed, and
-# then builds and runs what is asked, with the tools that are there; it says which are not.
+# c-library.sh [left] [c|rust|go|python|compare|memory|valgrind..]: proves and builds the static library cose_gate_c if a source of it has
+# changed, and then builds and runs what is asked, or all, with the tools that are there; it says which are not.
 #   c, rust, go, python   the example of that language on examples/mixed.cbor: status 1, four messages passed; of Python also es256.py
-#   compare               what each example gives against what the program gives, over examples/*.cbor; the library's shared object against
-#                         the program over the rows `run` of conformance_gate, and over 1,000 mutated sequences
-#   memory                the C test under ASan, under valgrind, and with each malloc refused in turn, over the worked examples and 1,000
-#                         mutated ones; archive and time to link
-#   all                   all of these (the default)
-# Status 1 if something differs. What it makes lies in crates/cose_gate_c/out; beside that `go` makes examples/go/lib, `rust`
-# examples/rust/Cargo.lock, `python` examples/python/__pycache__, and `compare` builds the program in its own out/.
+#   compare               what these examples, or all, give against what the program gives, over examples/*.cbor; the library's shared object
+#                         against the program over the rows `run` of conformance_gate, and over 1,000 mutated sequences
+#   memory                the C test under ASan, and with each malloc refused in turn, over the worked examples and 1,000 mutated ones; archive
+#                         and time to link
+#   valgrind              the same under valgrind
+# It is built over the libraries that `rt ci` or `rt check` left in out/, in 40 CPU seconds; if one of them is missing or older than its
+# sources, `rt lib` proves them all. With `left` that fails, and the program is the one that `rt ci` left; CRATES is then another folder of
+# crates with such out/. Status 1 if something differs. What it makes lies in crates/cose_gate_c/out; beside that `go` makes
+# examples/go/lib, `rust` examples/rust/Cargo.lock, and `compare` builds the program in its own out/.
 set -eu
+export PYTHONDONTWRITEBYTECODE=1
 top=$(cd "$(dirname "$(readlink -f "${BASH_SOURCE[0]}")")/.." && pwd)
-what=${1:-all}
-crate=$top/crates/cose_gate_c
+crates=${CRATES:-$top/crates}
+crate=$crates/cose_gate_c
 out=$crate/out
 archive=$out/libcose_gate_c.a
 # The kit's C code for memory is beside its rt.
@@ -21,25 +24,55 @@ libc=$kit/c/liblibc_c.a
 made=$out/examples
 keys=$top/examples/keys.cbor
 
-has() { command -v "$1" > /dev/null 2>&1; }
-lacks() { echo "c-library.sh: no $1 here, so $2 is left out"; }
-wants() { [ "$what" = all ] || [ "$what" = "$1" ]; }
 fails() {
   echo "c-library.sh: $1" >&2
   exit 1
 }
+left=
+what=
+for word; do
+  case $word in
+    left) left=yes ;;
+    c | rust | go | python | compare | memory | valgrind) what="$what $word " ;;
+    *) fails "no such argument: $word; the head of this script has those that there are" ;;
+  esac
+done
 
-case $what in
-  c | rust | go | python | compare | memory | all) ;;
-  *) fails "no such argument: $what; the head of this script has those that there are" ;;
-esac
+has() { command -v "$1" > /dev/null 2>&1; }
+lacks() { echo "c-library.sh: no $1 here, so $2 is left out"; }
+wants() { [ -z "$what" ] || case $what in *" $1 "*) ;; *) false ;; esac }
 
-# Proves and builds the library, if a source has changed since.
+# Proves and builds the library over those in out/, by the words that rt gives the compiler. Status 3 if one of them is not of its sources.
+build_over_left() {
+  python3 - "$kit" "$crate" "$archive" <<'END'
+import os
+import subprocess
+import sys
+
+kit, folder, archive = sys.argv[1:]
+sys.dont_write_bytecode = True
+sys.path.insert(0, f"{kit}/bin")
+import rtlib
+
+crate = rtlib.Crate(folder, os.path.dirname(os.path.dirname(folder)), {})
+for it in crate.below():
+    if not os.path.isdir(it.rlib) or os.path.getmtime(it.rlib) < max(map(os.path.getmtime, rtlib.files_of(it.folder))):
+        print(f"{it.rlib} is missing, or older than its sources")
+        sys.exit(3)
+words = [*crate.words(["--jobs", "1"], keeps=False), "--toolchain", f"{kit}/toolchain", "--backend", "llvm", "-o", archive]
+sys.exit(subprocess.run([rtlib.RATTLE, "build", *words], cwd=folder).returncode)
+END
+}
+build() {
+  local status=0
+  build_over_left || status=$?
+  if [ $status = 3 ] && [ -z "$left" ]; then (cd "$crate" && rt lib && [ -f "$archive" ]); else return $status; fi
+}
 mkdir -p "$made"
 is_old() {
-  [ ! -f "$archive" ] || [ -n "$(find "$top"/crates/*/src "$top"/crates/*/specs "$top"/crates/*/proofs "$top/crates.txt" -newer "$archive" -print -quit)" ]
+  [ ! -f "$archive" ] || [ -n "$(find "$crates"/*/src "$crates"/*/specs "$crates"/*/proofs "$crates/../crates.txt" -newer "$archive" -print -quit)" ]
 }
-if is_old && ! (cd "$crate" && rt lib && [ -f "$archive" ]) > "$out/lib.log" 2>&1; then
+if is_old && ! build > "$out/lib.log" 2>&1; then
   tail -n 20 "$out/lib.log" >&2
   echo "c-library.sh: the library was not built; the log is $out/lib.log" >&2
   exit 70
@@ -56,24 +89,18 @@ build_go() {
   cp "$archive" "$libc" "$top/examples/go/lib/"
   (cd "$top/examples/go" && go build -o "$made/check_go" .)
 }
-tool_of() {
-  case $1 in
-    c) echo gcc ;;
-    rust) echo cargo ;;
-    go) echo go ;;
-    python) echo python3 ;;
-  esac
-}
+declare -A tools=([c]=gcc [rust]=cargo [go]=go [python]=python3)
 
 # The languages that are wanted, and whose tools are there.
 languages=""
+case $what in *" c "* | *" rust "* | *" go "* | *" python "*) ;; *" compare "*) what="$what c  rust  go  python " ;; esac
 for language in c rust go python; do
-  wants "$language" || wants compare || continue
-  if has gcc && has "$(tool_of $language)"; then
+  wants "$language" || continue
+  if has gcc && has "${tools[$language]}"; then
     "build_$language"
     languages="$languages $language"
   else
-    lacks "gcc or $(tool_of $language)" "the example in $language"
+    lacks "gcc or ${tools[$language]}" "the example in $language"
   fi
 done
 
@@ -92,7 +119,6 @@ run_example() {
 }
 
 for language in $languages; do
-  wants "$language" || continue
   input=$top/examples/mixed.cbor
   run_example "$language"
   [ "$(cat "$made/$language.status") $(tail -n 1 "$made/$language.err")" = "1 passed 4, refused 5" ] ||
@@ -100,18 +126,9 @@ for language in $languages; do
   echo "c-library.sh: the example in $language: $(tail -n 1 "$made/$language.err")"
 done
 
-# A python3 that has both modules: Debian's, mostly.
-es256_python() {
-  local python
-  for python in python3 /usr/bin/python3; do
-    if "$python" -c 'import cbor2, cryptography' > /dev/null 2>&1; then
-      echo "$python"
-      return
-    fi
-  done
-}
-if wants python && has gcc && has python3; then
-  python=$(es256_python)
+if wants python && has gcc; then
+  # Debian's has both modules, mostly
+  python=$(for it in python3 /usr/bin/python3; do "$it" -c 'import cbor2, cryptography' 2> /dev/null && echo "$it" && break; done) || true
   if [ -n "$python" ]; then
     said=$("$python" "$top/examples/python/es256.py" "$made/libcose_gate.so") || fails "es256.py failed"
     echo "c-library.sh: es256.py: $(echo "$said" | tail -n 1)"
@@ -121,8 +138,8 @@ if wants python && has gcc && has python3; then
 fi
 
 if wants compare; then
-  bash "$top/scripts/proved.sh" cose-gate cose_gate_cli || exit
-  program=$top/crates/cose_gate_cli/out/cose_gate_cli
+  [ -n "$left" ] || bash "$top/scripts/proved.sh" cose-gate cose_gate_cli || exit
+  program=$crates/cose_gate_cli/out/cose_gate_cli
   for language in $languages; do
     for input in "$top"/examples/*.cbor; do
       ask program "$program" "$keys" 01
@@ -133,35 +150,33 @@ if wants compare; then
     done
     echo "c-library.sh: $language does as the program does, on $(ls "$top"/examples/*.cbor | wc -l) sequences"
   done
-  if has python3 && has gcc; then
-    python3 "$top/scripts/c-compare.py" compare "$top" "$made/libcose_gate.so" "$program"
-  fi
+  has gcc && build_python && python3 "$top/scripts/c-compare.py" compare "$top" "$made/libcose_gate.so" "$program"
 fi
 
-if wants memory && ! has gcc; then lacks gcc "the test of memory"; fi
-if wants memory && has gcc; then
+if wants memory || wants valgrind; then
+  has gcc || { lacks gcc "the test of memory"; exit; }
   test=$top/scripts/c-memory.c
   scratch=$(mktemp -d)
   trap 'rm -rf "$scratch"' EXIT
   inputs=("$top"/examples/mixed.cbor "$top"/examples/one.cbor "$top"/examples/cut.cbor)
-  if has python3; then
-    python3 "$top/scripts/c-compare.py" write "$top" "$scratch"
-    inputs+=("$scratch"/*)
+  python3 "$top/scripts/c-compare.py" write "$top" "$scratch"
+  inputs+=("$scratch"/*)
+fi
+if wants memory; then
+  if gcc -std=c11 -O1 -g -fsanitize=address,undefined -fno-sanitize-recover=all -I "$top/include" "$test" "$archive" "$libc" -o "$made/memory_asan"; then
+    "$made/memory_asan" "$keys" "${inputs[@]}"
   else
-    lacks python3 "what is mutated"
+    lacks "gcc with ASan" "the test of memory under it"
   fi
-  gcc -std=c11 -O1 -g -fsanitize=address,undefined -fno-sanitize-recover=all -I "$top/include" "$test" "$archive" "$libc" -o "$made/memory_asan"
-  "$made/memory_asan" "$keys" "${inputs[@]}"
   gcc -std=c11 -O1 -g -DREFUSE -I "$top/include" "$test" "$archive" "$libc" -Wl,--wrap=malloc,--wrap=realloc,--wrap=free -o "$made/memory"
   "$made/memory" "$keys" "${inputs[@]}"
-  if has valgrind; then
-    gcc -std=c11 -O1 -g -I "$top/include" "$test" "$archive" "$libc" -o "$made/memory_plain"
-    valgrind -q --error-exitcode=9 --leak-check=full --errors-for-leak-kinds=all "$made/memory_plain" "$keys" "${inputs[@]}"
-    echo "c-library.sh: valgrind finds nothing"
-  else
-    lacks valgrind "that run"
-  fi
   from=$(date +%s%N)
   build_c
   echo "c-library.sh: archive $(stat -c %s "$archive") bytes, program with it $(stat -c %s "$made/check_c"), built in $((($(date +%s%N) - from) / 1000000)) ms"
+fi
+if wants valgrind && ! has valgrind; then lacks valgrind "that run"; fi
+if wants valgrind && has valgrind; then
+  gcc -std=c11 -O1 -g -I "$top/include" "$test" "$archive" "$libc" -o "$made/memory_plain"
+  valgrind -q --error-exitcode=9 --leak-check=full --errors-for-leak-kinds=all "$made/memory_plain" "$keys" "${inputs[@]}"
+  echo "c-library.sh: valgrind finds nothing"
 fi

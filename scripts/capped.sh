@@ -1,12 +1,15 @@
 #!/bin/sh
-# capped.sh [BENCH [GATE [TOKEN]]]: how much memory the programs `bench`, `cose_gate_cli` and `example_token` take, each under the least
-# heap that a small input needs and little more. They are those that `rt run` leaves in `out/` of these crates, unless others are given.
+# capped.sh [BENCH [GATE [TOKEN [ASK [PASS [SHOW]]]]]]: how much memory the programs `bench`, `cose_gate_cli` and `example_token` take, each
+# under the least heap that a small input needs and little more, and how `cose_gate_cli`, `cose_ask_cli`, `cose_pass_cli` and `cose_show`
+# end when they run out of it. They are those that `rt run` leaves in `out/` of these crates, unless others are given.
 #
 # - Heads that claim more than follows them end as bytes that are cut off, and not as out-of-memory: under the least heap for an empty
 #   array or, 256 levels deep, for maps of one entry each.
 # - The gate reads 1,000,000 items under the least heap for 1,000 of them, and a message with 64 text labels under that for one with none.
 #   The streaming check reads a payload of 16 MiB under the least heap for one of 0 bytes.
 # - The gate holds a payload once. A program that makes the bytes that a tag covers holds it once more.
+# - The gate, `cose-ask`, `cose-pass` and `cose-show` end by themselves, and not by a signal, under each limit from the least for an empty
+#   input to what a whole run takes. What they write then are whole messages, the first ones, and all of them if the status isn't 4.
 #
 # With valgrind it also counts the bytes that `bench` asks of the heap: for claims at most 4,096 over those of the empty array or,
 # 256 levels deep, over those of as many open arrays, which claim nothing; for each further round of reading an integer or a short text at
@@ -16,7 +19,10 @@ here=$(cd "$(dirname "$0")/.." && pwd)
 bench=${1:-$here/crates/bench/out/bench}
 gate=${2:-$here/crates/cose_gate_cli/out/cose_gate_cli}
 token=${3:-$here/crates/example_token/out/example_token}
-for it in "$bench" "$gate" "$token"; do
+ask=${4:-$here/crates/cose_ask_cli/out/cose_ask_cli}
+pass=${5:-$here/crates/cose_pass_cli/out/cose_pass_cli}
+show=${6:-$here/crates/cose_show/out/cose_show}
+for it in "$bench" "$gate" "$token" "$ask" "$pass" "$show"; do
   [ -x "$it" ] || { echo "capped.sh: no $it; run 'rt run' in its crate first" >&2; exit 2; }
 done
 folder=$(mktemp -d) && trap 'rm -rf "$folder"' EXIT || exit 2
@@ -169,5 +175,56 @@ least 0 "$token" 0
   printf '\110\000\000\000\000\000\000\000\000'
 } | hex_of > "$folder/token"
 within "a token with a payload of 4 MiB" $((cap + 5 * 4096 + 2048)) 0 "$token" 0
+
+# how the programs end under each limit, 4 KiB apart, of two messages that pass and one of 20 KB in which as much lies inside one another as
+# the limits let through: reading that takes most stack, after the others have taken heap
+expected=
+STEP=4
+python3 "$here/scripts/worst-messages.py" "$folder/worst" > /dev/null || exit 2
+cat "$folder/message" "$folder/message" > "$folder/two"
+cat "$folder/two" "$folder/worst/mac-both" > "$folder/three"
+
+# How many bytes a command writes, without a limit, of each of these inputs.
+sizes() {
+  for it in message two three; do "$@" < "$folder/$it" 2> /dev/null | wc -c; done | tr '\n' ' '
+}
+
+# ends COMMAND..: under each limit it ends by itself, and its output is one of the fronts
+ends() {
+  fronts=" 0 $(sizes "$@")"
+  "$@" < "$folder/three" > "$folder/whole" 2> /dev/null
+  whole=$?
+  input=/dev/null
+  least 0 "$@"
+  kib=$high
+  input=$folder/three
+  least "$whole" "$@"
+  last=$cap runs=0 stopped=0
+  while [ "$kib" -le "$last" ]; do
+    (ulimit -v "$kib"; exec "$@") > "$folder/out" 2> "$folder/err" < "$input"
+    ended=$?
+    size=$(wc -c < "$folder/out")
+    head -c "$size" "$folder/whole" | cmp -s - "$folder/out" || ended="$ended, other output"
+    case $fronts in
+      *" $size "*) ;;
+      *) ended="$ended, $size bytes" ;;
+    esac
+    case "$ended $size" in
+      "4 "*) stopped=$((stopped + 1)) ;;
+      "$whole $(wc -c < "$folder/whole")") ;;
+      *)
+        echo "$1 under $kib KiB: status $ended: $(tail -n 1 "$folder/err")"
+        bad=1
+        ;;
+    esac
+    runs=$((runs + 1)) kib=$((kib + STEP))
+  done
+  echo "$(basename "$1"): $runs limits up to $last KiB, $stopped of them too low"
+}
+ends "$gate" "$folder/keys"
+ends "$ask"
+"$ask" < "$folder/three" > "$folder/accepted" 2> /dev/null
+ends "$pass" "$folder/accepted"
+ends "$show"
 
 [ $bad = 0 ] && echo 'capped.sh: all within' || { echo 'capped.sh: too much' >&2; exit 1; }

@@ -1,6 +1,6 @@
 #!/usr/bin/env python3
-"""Compares what is said in several places: the names of refusals, the statuses of the program and the library, and the limits. It names each
-place that says otherwise: status 1 if there is one."""
+"""Compares what is said in several places: the names of refusals, the statuses of the program and the library, the limits, and what C sees of
+the library. It names each place that says otherwise: status 1 if there is one."""
 import pathlib
 import re
 import sys
@@ -63,7 +63,36 @@ def limits():
          found("include/cose_gate.h", r"`nesting` is (\d+) to (\d+) and `layers` (\d+) to (\d+)"))
 
 
+def abi():
+    """The header declares what a call returns, and its parameters, as the library exports them, in the same order."""
+    header = "include/cose_gate.h"
+    c_types = {"u32": "uint32_t", "usize": "size_t", "bool": "bool"}
+    answer = re.search(r"#\[repr\(C\)\].*?pub struct Answer \{(.*?)\n\}", text("crates/cose_gate_buffers/src/answer.rt"), re.S)[1]
+    exported = [(c_types[of], name) for name, of in re.findall(r"^    pub (\w+): (\w+),$", answer, re.M)]
+    declared = re.search(r"typedef struct cose_gate_answer \{(.*?)\n\} cose_gate_answer;", text(header), re.S)[1]
+    same("the fields of an answer are", exported, header, re.findall(r"^  (\w+) (\w+);", declared, re.M))
+    names = [name for _, name in exported]
+    rust = "examples/rust/src/main.rs"
+    fields = re.search(r"^struct Answer \{(.*?)\n\}", text(rust), re.M | re.S)[1]
+    same("the fields of an answer are", names, rust, re.findall(r"^    (\w+): ", fields, re.M))
+    python = "examples/python/cose_gate.py"
+    same("the fields of an answer are", names, python, re.findall(r'\("(\w+)",', found(python, r"_fields_ = (.*?)$")[0]))
+    calls = found("crates/cose_gate_c/src/lib.rt", r'extern "C" fn (\w+)\((.*?)\n\) -> Answer')
+    same("the calls are", [name for name, _ in calls], header, found(header, r"^cose_gate_answer (\w+)\("))
+    for name, parameters in calls:
+        wanted = []
+        for one, of in re.findall(r"(\w+): (&mut \[u8\]|&\[u8\]|usize|bool),", parameters):
+            if of.endswith("[u8]"):
+                wanted += [("uint8_t *" if "mut" in of else "const uint8_t *", one), ("size_t", f"{one}_length")]
+            else:
+                wanted.append((c_types[of], one))
+        call = found(header, rf"^cose_gate_answer {name}\((.*?)\);")[0]
+        same(f"the arguments of {name} are", wanted, header,
+             [(of.strip(), one) for of, one in re.findall(r"((?:const )?uint8_t \*|size_t |bool )(\w+)", call)])
+
+
 refusals()
 statuses()
 limits()
+abi()
 sys.exit(status)

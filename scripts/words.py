@@ -21,7 +21,7 @@ WORDS = {
     ],
     "behind": [],
     "words?": [("of a language", r"in words|the words that"), ("of a machine", r"machine words")],
-    "rooms?": [("a name in a script", r"\$room")],
+    "rooms?": [],
     "(shortest|torn|canonical|encoded) texts?": [],
     "texts?": [
         ("of an error", r"texts? of (errors?|faults?|refusals|an error|its fault)|(error|fault|reader|its own|`)('s)? (own )?text"

@@ -1,7 +1,8 @@
 #!/usr/bin/env python3
 """worst-messages.py FOLDER [NESTING LAYERS]: writes messages in which as much lies inside one another as these limits let through (256 levels
-and 16 protected headers, if none are given), one to a file, and on standard output a line for each: its name, and what the program
-`cose-gate` says of it under examples/keys.cbor without external data (`passed`, `Judged` or `Shape`).
+and 16 protected headers, if none are given), one to a file NAME, and beside it NAME.row: a row of conformance_cose that reads it, copies it,
+compares both and writes the copy. On standard output there is a line for each: NAME, and what the program `cose-gate` says of it under
+examples/keys.cbor without external data (`passed`, `Judged` or `Shape`).
 
 A counter signature in an unprotected header costs two levels of CBOR and no protected header; one in a protected header begins again with
 all levels. So 16 protected headers of 127 counter signatures each, and 126 in the unprotected header of the message around them, are 2,031
@@ -59,6 +60,10 @@ def main(folder, nesting=256, layers=16):
     def write(name, content, said):
         with open(os.path.join(folder, name), "wb") as it:
             it.write(content)
+        kind = "mac0" if name.startswith("pass-") else name.split("-")[0]
+        row = f"{kind}-tagged {content.hex()}" if (nesting, layers) == (256, 16) else f"within {nesting} {layers} {kind} {content[1:].hex()}"
+        with open(os.path.join(folder, f"{name}.row"), "w") as it:
+            print(row, file=it)
         print(name, said)
 
     whole = (nesting - 1) // 2  # counter signatures of a header that is the whole item

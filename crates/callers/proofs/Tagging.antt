@@ -1,18 +1,15 @@
--- What is written straight from the fields of a message that was read.
+-- What is written straight from the fields of a message that is as received.
 use Rattle.std.proofs.Common.{◌≡◌, ℕ, Option, Some, ap, sym}
 use Rattle.std.specs.Prelude.{option_map}
 use Rattle.ciborium_value.specs.Encoding.{enc}
 use Rattle.ciborium_value.specs.Tree.{Tree, tag}
-use Rattle.cose_gate.specs.Findings.{Bounds, IsMessage}
 use Rattle.cose_gate.specs.Questions.{message_text, or_nothing}
-use Rattle.coset_message_sink.specs.Put.{sign1_put, mac0_put, sign_put, mac_put}
+use Rattle.coset_message_sink.specs.Put.{sign1_put, mac0_put, sign_put, mac_put, Sign1Received, Mac0Received, SignReceived, MacReceived}
 use Rattle.coset_messages.specs.MacedFields.{Mac0Fields, MacFields}
-use Rattle.coset_messages.specs.MacedShapes.{HasMac0, HasMac}
 use Rattle.coset_messages.specs.MacedWritten.{mac0_tree, mac_tree}
 use Rattle.coset_messages.specs.SignedFields.{Sign1Fields, SignFields}
-use Rattle.coset_messages.specs.SignedShapes.{HasSign1, HasSign}
 use Rattle.coset_messages.specs.SignedWritten.{sign1_tree, sign_tree}
-use Rattle.callers.specs.Tagged.{fields_of, tagged_put}
+use Rattle.callers.specs.Tagged.{fields_of, tagged_put, AsReceived}
 use Rattle.callers.specs.declared.tagged.Message.{Message}
 use Rattle.callers.specs.declared.tagged.Message.TheVariants.{Sign1, Mac0, Sign, Mac}
 
@@ -21,12 +18,12 @@ text_of : (n : ℕ) (o : Option Tree) (put : Tree) → o ≡ Some put
     → enc (tag n put) ≡ or_nothing (option_map enc (option_map (λ t. tag n t) o))
 text_of n o put e = sym (ap (λ (o : Option Tree). or_nothing (option_map enc (option_map (λ t. tag n t) o))) e)
 
-pub gate_text : ((n k : ℕ) (t : Tree) (m : Sign1Fields) → HasSign1 n t m k → sign1_tree m ≡ Some (sign1_put m))
-    → ((n k : ℕ) (t : Tree) (m : Mac0Fields) → HasMac0 n t m k → mac0_tree m ≡ Some (mac0_put m))
-    → ((n k : ℕ) (t : Tree) (m : SignFields) → HasSign n t m k → sign_tree m ≡ Some (sign_put m))
-    → ((n k : ℕ) (t : Tree) (m : MacFields) → HasMac n t m k → mac_tree m ≡ Some (mac_put m))
-    → (message : Message) (limits : Bounds) (t : Tree) → IsMessage limits t (fields_of message) → enc (tagged_put message) ≡ message_text (fields_of message)
-gate_text one two three four (Sign1 m) limits t is = text_of 18 _ _ (one limits.nesting limits.layers is.0 _ is.2)
-gate_text one two three four (Mac0 m) limits t is = text_of 17 _ _ (two limits.nesting limits.layers is.0 _ is.2)
-gate_text one two three four (Sign m) limits t is = text_of 98 _ _ (three limits.nesting limits.layers is.0 _ is.2)
-gate_text one two three four (Mac m) limits t is = text_of 97 _ _ (four limits.nesting limits.layers is.0 _ is.2)
+pub gate_text : ((m : Sign1Fields) → Sign1Received m → sign1_tree m ≡ Some (sign1_put m))
+    → ((m : Mac0Fields) → Mac0Received m → mac0_tree m ≡ Some (mac0_put m))
+    → ((m : SignFields) → SignReceived m → sign_tree m ≡ Some (sign_put m))
+    → ((m : MacFields) → MacReceived m → mac_tree m ≡ Some (mac_put m))
+    → (message : Message) → AsReceived message → enc (tagged_put message) ≡ message_text (fields_of message)
+gate_text one two three four (Sign1 m) r = text_of 18 _ _ (one _ r)
+gate_text one two three four (Mac0 m) r = text_of 17 _ _ (two _ r)
+gate_text one two three four (Sign m) r = text_of 98 _ _ (three _ r)
+gate_text one two three four (Mac m) r = text_of 97 _ _ (four _ r)

@@ -1,21 +1,24 @@
 //! Headers read into a place that is there, written straight from their fields, and signatures
 //! taken apart. `coset_base`, `coset_sink` and `ciborium` are the crates that it names.
-ghost use Rattle.std.specs.Prelude.{◌≡◌, ℕ, Some, IfOk, IfErr, option_map};
-ghost use Rattle.ciborium_value.specs.Tree.{Tree};
+ghost use Rattle.std.specs.Prelude.{◌≡◌, Some, IfOk, IfErr, option_map};
 ghost use Rattle.ciborium_value.specs.View.{view};
 ghost use Rattle.coset_base.specs.Encoding.{enc};
 ghost use Rattle.coset_base.specs.Faults.{OrMemory};
-ghost use Rattle.coset_base.specs.Fields.{signature};
+ghost use Rattle.coset_base.specs.Fields.{HeaderFields, signature};
 ghost use Rattle.coset_base.specs.Headers.{HasHeader, HasProtected};
-ghost use Rattle.coset_base.specs.LimitsView.{nesting_of, layers_of};
+ghost use Rattle.coset_base.specs.LimitsView.{nesting, nesting_of, layers, layers_of};
+ghost use Rattle.coset_base.specs.Reading.{HasItem, WrongItem};
 ghost use Rattle.coset_base.specs.View.{header_view, protected_view, signature_view};
 ghost use Rattle.coset_base.specs.Written.{header_tree};
 ghost use Rattle.coset_base.specs.Wrong.{WrongHeader, WrongProtected};
+ghost use Rattle.coset_sink.proofs.Received.{hdr_prop};
+ghost use Rattle.coset_sink.specs.Put.{HasReceived, header_put};
 
+use ciborium::ser::{Serialize, Sink};
 use ciborium::{Mem, Value, into_writer};
-use coset_base::{CoseError, CoseSignature, Header, Limits, ProtectedHeader};
-use coset_sink::WrittenHeader;
-use coset_sink::laws::read_is_put;
+use coset_base::{CborSerializable, CoseError, CoseSignature, Header, Limits, ProtectedHeader};
+use coset_sink::laws::{put_is_written, read_is_received};
+use coset_sink::put_header;
 use std::alloc::{AllocError, Global};
 
 /// The header that a value is within these limits, read into an empty one.
@@ -52,21 +55,52 @@ pub fn protected_filled(
     Ok(protected)
 }
 
-/// The one encoding of a header that was read, written straight from its fields.
+/// A header that is as received, for calls that take what serializes.
+#[derive(Drop)]
+struct Received<'a> {
+    header: &'a Header,
+    ghost received: { HasReceived (header_view header.now) } by { hdr_prop (header_view header.now) },
+}
+
+impl Serialize for Received<'_> {
+    ghost put = { λ r. header_put (header_view r.header.now) };
+
+    fn serialize<S: Sink>(&self, sink: &mut S) -> Result<(), S::Error> {
+        put_header(self.header, sink)
+    }
+}
+
+/// The one encoding of a header that is as received, written straight from its fields.
 ///
 /// # Errors
 /// Only when out of memory.
 pub fn written_straight(alloc: Global, header: &Header) -> Result<Vec<u8>, AllocError>
-    ensures { IfOk result (λ out. (n k : ℕ) (t : Tree)
-        → HasHeader n t (header_view header.now) k
-        → option_map enc (header_tree (header_view header.now)) ≡ Some out.items) }
+    requires { HasReceived (header_view header.now) }
+    ensures { IfOk result (λ out.
+        option_map enc (header_tree (header_view header.now)) ≡ Some out.items) }
 {
-    read_is_put();
+    put_is_written();
     let mut out = Mem::new(Vec::new(alloc));
-    match into_writer(&WrittenHeader { header }, &mut out) {
+    match into_writer(&Received { header }, &mut out) {
         Ok(()) => Ok(out.into_inner()),
         Err(_) => Err(AllocError),
     }
+}
+
+/// The one encoding of the header that the bytes are, written straight from its fields.
+///
+/// # Errors
+/// A fault of the bytes, or `Memory`.
+pub fn straight_of(alloc: Global, bytes: &[u8]) -> Result<Vec<u8>, CoseError>
+    ensures ok { IfOk result (λ out. (h : HeaderFields)
+        × HasItem (λ t f. HasHeader nesting t f layers) bytes.now h
+        × (option_map enc (header_tree h) ≡ Some out.items)) }
+    ensures err { IfErr result
+        (OrMemory (WrongItem (λ t e. WrongHeader nesting t layers e) bytes.now)) }
+{
+    read_is_received();
+    let header = Header::from_slice(alloc, bytes)?;
+    Ok(written_straight(alloc, &header)?)
 }
 
 /// The protected header, the unprotected one, and the bytes of a signature.

@@ -1,16 +1,14 @@
-//! Messages that were read, written again in their tags straight from their fields, as a gate
+//! Messages that are as received, written again in their tags straight from their fields, as a gate
 //! writes them. `coset_message_sink`, `coset_messages`, `cose_gate` and `ciborium` are the crates
 //! that it names.
 ghost use Rattle.std.specs.Prelude.{◌≡◌, IfOk};
 ghost use Rattle.ciborium_value.specs.Encoding.{enc};
-ghost use Rattle.ciborium_value.specs.Tree.{Tree};
-ghost use Rattle.cose_gate.specs.Findings.{Bounds, IsMessage};
 ghost use Rattle.cose_gate.specs.Questions.{message_text};
-ghost use Rattle.callers.specs.Tagged.{fields_of, tagged_put};
+ghost use Rattle.callers.specs.Tagged.{fields_of, tagged_put, AsReceived, as_received_prop};
 
 use ciborium::ser::{Serialize, Sink};
 use ciborium::{Mem, into_writer};
-use coset_message_sink::laws::read_is_put;
+use coset_message_sink::laws::put_is_written;
 use coset_message_sink::{put_tagged_mac, put_tagged_mac0, put_tagged_sign, put_tagged_sign1};
 use coset_messages::{CoseMac, CoseMac0, CoseSign, CoseSign1};
 use std::alloc::{AllocError, Global};
@@ -28,12 +26,18 @@ pub enum Message<'a> {
     Mac(&'a CoseMac),
 }
 
-/// A message in its tag.
-impl Serialize for Message<'_> {
-    ghost put = { tagged_put };
+/// A message that is as received, for calls that take what serializes. It is written in its tag.
+#[derive(Drop)]
+struct Received<'a> {
+    message: Message<'a>,
+    ghost received: { AsReceived message } by { as_received_prop message },
+}
+
+impl Serialize for Received<'_> {
+    ghost put = { λ r. tagged_put r.message };
 
     fn serialize<S: Sink>(&self, sink: &mut S) -> Result<(), S::Error> {
-        match self {
+        match self.message {
             Message::Sign1(message) => put_tagged_sign1(message, sink),
             Message::Mac0(message) => put_tagged_mac0(message, sink),
             Message::Sign(message) => put_tagged_sign(message, sink),
@@ -42,18 +46,17 @@ impl Serialize for Message<'_> {
     }
 }
 
-/// What a gate writes of a message that was read, if the message passes.
+/// What a gate writes of a message that is as received, if the message passes.
 ///
 /// # Errors
 /// Only if out of memory.
 pub fn gate_text(alloc: Global, message: Message) -> Result<Vec<u8>, AllocError>
-    ensures { IfOk result (λ out. (limits : Bounds) (t : Tree)
-        → IsMessage limits t (fields_of message.entry)
-        → out.items ≡ message_text (fields_of message.entry)) }
+    requires { AsReceived message }
+    ensures { IfOk result (λ out. out.items ≡ message_text (fields_of message.entry)) }
 {
-    read_is_put();
+    put_is_written();
     let mut out = Mem::new(Vec::new(alloc));
-    match into_writer(&message, &mut out) {
+    match into_writer(&Received { message }, &mut out) {
         Ok(()) => Ok(out.into_inner()),
         Err(_) => Err(AllocError),
     }

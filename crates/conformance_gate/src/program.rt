@@ -1,8 +1,12 @@
 //! Runs of the program over memory.
-use crate::out::Out;
+use crate::out::{NoAnswer, Out};
 use crate::words;
+use ciborium_ll::Io;
+use cose_ask_core::{NotRun, ask, ended, pass, pass_arguments};
 use cose_gate::{Limits, Mem, Terms, Write};
 use std::alloc::Global;
+use std::io::BufWriter;
+use test_tools::Held;
 
 /// A run with these keys and this AADHEX: its status, its output, and its lines.
 pub fn run(to: &mut Out, row: &mut &str) {
@@ -82,8 +86,8 @@ pub fn command(to: &mut Out, row: &mut &str) {
     let keys = words::optional(to, row);
     let input = words::bytes(to, row);
     let all = words::owned(to, row);
-    let mut out = Mem::new(Vec::new(to.alloc()));
-    let mut err = Mem::new(Vec::new(to.alloc()));
+    let mut out = shown_writer(to);
+    let mut err = shown_writer(to);
     let status = commanded(
         to.alloc(),
         &all,
@@ -92,7 +96,76 @@ pub fn command(to: &mut Out, row: &mut &str) {
         &mut out,
         &mut err,
     );
-    add_ended(to, status, out.as_written(), err.as_written());
+    add_ended(to, status, shown(&out), shown(&err));
+}
+
+/// A writer that shows what was flushed, and can always be flushed.
+fn shown_writer(to: &Out) -> Held {
+    Held::new(to.alloc(), usize::MAX)
+}
+
+/// What was flushed.
+fn shown(held: &Held) -> &[u8] {
+    held.bytes.get(..held.shown).unwrap_or(&[])
+}
+
+/// The program `cose-ask` by the arguments of a command line.
+pub fn ask_command(to: &mut Out, row: &mut &str) {
+    let input = words::bytes(to, row);
+    let all = words::owned(to, row);
+    let mut out = shown_writer(to);
+    let mut err = shown_writer(to);
+    let end = ask(to.alloc(), &all, &mut input.as_slice(), &mut out, &mut err);
+    add_end(to, end, shown(&out), shown(&err));
+}
+
+/// The same, if the output has space for so many bytes, 64 at most, after a block of 256.
+pub fn ask_command_in_room(to: &mut Out, row: &mut &str) {
+    let room = words::number(to, row).min(64);
+    let input = words::bytes(to, row);
+    let all = words::owned(to, row);
+    let mut memory = [0; 64];
+    let mut err = shown_writer(to);
+    let Ok(out) = BufWriter::with_capacity(to.alloc(), 256, &mut memory[..room]) else {
+        to.refuse(NoAnswer::Memory);
+        return;
+    };
+    let mut out = Io::new(out);
+    let end = ask(to.alloc(), &all, &mut input.as_slice(), &mut out, &mut err);
+    drop(out);
+    add_end(to, end, &memory[..room], shown(&err));
+}
+
+/// The program `cose-pass` by the arguments of a command line, over what the file ACCEPTED holds.
+pub fn pass_command(to: &mut Out, row: &mut &str) {
+    let accepted = words::optional(to, row);
+    let input = words::bytes(to, row);
+    let all = words::owned(to, row);
+    let mut out = shown_writer(to);
+    let mut err = shown_writer(to);
+    let end = match pass_arguments(&all) {
+        Some(arguments) => pass(
+            to.alloc(),
+            arguments,
+            accepted,
+            &mut input.as_slice(),
+            &mut out,
+            &mut err,
+        ),
+        None => Err(NotRun::Usage),
+    };
+    add_end(to, end, shown(&out), shown(&err));
+}
+
+/// Appends how a program ended, with the line of why it didn't run.
+fn add_end(to: &mut Out, end: Result<u8, NotRun>, out: &[u8], err: &[u8]) {
+    let mut line = Vec::new(to.alloc());
+    let status = ended(end, "usage", &mut line);
+    add_ended(to, status, out, err);
+    match std::str::from_utf8(&line) {
+        Ok(line) => to.lines(line),
+        Err(_) => to.hex(&line),
+    }
 }
 
 /// It has no clause, so that its callers carry none of the program's.

@@ -29,7 +29,7 @@ fn keys_of(to: &mut Out, options: Options<'_>) -> Option<Vec<u8>> {
 
 fn add_page(to: &mut Out, options: Options<'_>, keys: Option<&[u8]>, input: &[u8]) {
     let mut page = String::new(to.alloc());
-    match BufReader::new(to.alloc(), input) {
+    match BufReader::with_capacity(to.alloc(), 16, input) {
         Ok(input) => {
             let end = show_as(to.alloc(), options, keys, input, &mut page);
             add_ended(to, page.as_str(), end);

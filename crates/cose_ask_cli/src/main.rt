@@ -3,19 +3,16 @@
 //! external data in hex.
 #![tactic(auto)]
 
-use ciborium_ll::{Io, Write};
-use cose_ask_core::{AskArguments, NotRun, ask_arguments, asks_for_help, read_aad, write_lines};
-use cose_gate_program::{Blocks, Limits, Terms, run_judged};
-use cose_gate_records::{Asker, Nowhere};
-use std::io::{BufReader, BufWriter};
+use ciborium_ll::Io;
+use cose_ask_core::{
+    NotRun, ask, asks_for_help, ended, read_in_blocks, words_of, write_help, write_in_blocks,
+};
+use cose_gate_program::{Blocks, has_stack};
+use std::env;
 use std::process::ExitCode;
-use std::{env, io};
-
-/// Bytes are read and written in blocks of this length, and lines too.
-const BLOCK: usize = 65536;
 
 /// The line for other arguments.
-const USAGE: &str = "usage: cose-ask [--strict] [--lines] [AADHEX]";
+const USAGE: &str = "usage: cose-ask [--strict] [--lines] [AADHEX]\n";
 
 /// What `-h` and `--help` print. The script `cose-ask` prints the same.
 const HELP: &str = "\
@@ -36,103 +33,35 @@ hex. 4: the input is not CBOR, input or output failed, or out of memory.
 ";
 
 fn main(rt: HostRuntime) -> ExitCode {
-    match start(&rt) {
-        Ok(status) => ExitCode::from(status),
-        Err(why) => {
-            say(&rt, why);
-            ExitCode::from(why.status())
-        }
-    }
-}
-
-/// The line on standard error.
-fn say(rt: &HostRuntime, why: NotRun) {
-    let _ = match why {
-        NotRun::Usage => eprintln!(rt; "{}", USAGE),
-        _ => eprintln!(rt; "{why}"),
-    };
+    ExitCode::from(ended(start(&rt), USAGE, &mut rt.stderr()))
 }
 
 /// Runs the program, and returns its status.
 fn start(rt: &HostRuntime) -> Result<u8, NotRun> {
-    let all = all_arguments(rt)?;
-    if asks_for_help(all.as_slice()) {
-        return say_help(rt);
+    let words = words_of(rt.alloc(), env::args(rt))?;
+    if !has_stack(words.len()) {
+        return Err(NotRun::Memory);
     }
-    match ask_arguments(all.as_slice()) {
-        Some(arguments) => ask(rt, arguments),
-        None => Err(NotRun::Usage),
+    if asks_for_help(words.as_slice()) {
+        return write_help(HELP, &mut rt.stdout());
     }
+    run(rt, words.as_slice())
 }
 
-/// Writes the help to standard output.
-fn say_help(rt: &HostRuntime) -> Result<u8, NotRun> {
-    match io::Write::write_all(&mut rt.stdout(), HELP.as_bytes()) {
-        Ok(()) => Ok(0),
-        Err(_) => Err(NotRun::Output),
-    }
-}
-
-/// The arguments after the name of the program. If one isn't UTF-8 the usage is wrong.
-fn all_arguments(rt: &HostRuntime) -> Result<Vec<String>, NotRun> {
-    match env::args(rt) {
-        Ok(all) => match all.skip(1).collect::<Vec<String>>(rt.alloc()) {
-            Ok(all) => Ok(all),
-            Err(_) => Err(NotRun::Memory),
-        },
-        Err(error) => match error.kind() {
-            io::ErrorKind::OutOfMemory => Err(NotRun::Memory),
-            _ => Err(NotRun::Usage),
-        },
-    }
-}
-
-/// Runs the gate with a judge that says yes to each question and keeps its record, and writes the
-/// records.
-fn ask(rt: &HostRuntime, arguments: AskArguments<'_>) -> Result<u8, NotRun> {
+/// Runs it over the standard streams.
+fn run(rt: &HostRuntime, words: &[String]) -> Result<u8, NotRun> {
     let alloc = rt.alloc();
-    let aad = read_aad(alloc, arguments.aad)?;
-    let Ok(input) = BufReader::with_capacity(alloc, BLOCK, rt.stdin()) else {
-        return Err(NotRun::Memory);
-    };
-    let Ok(lines) = BufWriter::with_capacity(alloc, BLOCK, rt.stderr()) else {
-        return Err(NotRun::Memory);
-    };
-    let mut asker = Asker::new(alloc);
-    let status = run_judged(
+    let input = read_in_blocks(alloc, rt.stdin())?;
+    let mut output = write_in_blocks(alloc, rt.stdout())?;
+    let mut lines = write_in_blocks(alloc, rt.stderr())?;
+    let end = ask(
         alloc,
-        Terms {
-            limits: Limits::default(),
-            strict: arguments.strict,
-        },
-        aad.as_slice(),
+        words,
         &mut Blocks::new(input),
-        &mut Nowhere,
-        &mut Io::new(lines),
-        &mut asker,
+        &mut Io::new(&mut output),
+        &mut Io::new(&mut lines),
     );
-    match asker.records() {
-        Some(records) => {
-            write_questions(rt, arguments.lines, records)?;
-            Ok(status)
-        }
-        None => Err(NotRun::Memory),
-    }
-}
-
-/// Writes the records to standard output, as lines if that is asked.
-fn write_questions(rt: &HostRuntime, as_lines: bool, records: &[u8]) -> Result<(), NotRun> {
-    let Ok(output) = BufWriter::with_capacity(rt.alloc(), BLOCK, rt.stdout()) else {
-        return Err(NotRun::Memory);
-    };
-    let mut output = Io::new(output);
-    let written = if as_lines {
-        write_lines(records, &mut output)
-    } else {
-        output.write_all(records)
-    };
-    if written.is_err() || output.flush().is_err() {
-        return Err(NotRun::Output);
-    }
-    Ok(())
+    // What a flush that failed has left isn't written as the program ends.
+    let _ = (output.into_parts(), lines.into_parts());
+    end
 }

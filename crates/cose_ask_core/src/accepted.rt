@@ -133,6 +133,14 @@ mod tests {
     }
 
     #[test]
+    fn a_field_of_a_megabyte(rt: HostRuntime) {
+        let alloc = rt.alloc();
+        let field = Vec::from_elem(alloc, b'0', 1048577).expect(&rt, "memory");
+        let read = read_accepted(alloc, field);
+        assert_eq!(rt; read.err(), Some(NotRun::LineNotHex(1)));
+    }
+
+    #[test]
     fn files_without_lines(rt: HostRuntime) {
         let alloc = rt.alloc();
         for (file, count) in [

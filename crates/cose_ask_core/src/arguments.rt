@@ -25,14 +25,6 @@ pub struct PassArguments<'a> {
     pub aad: &'a str,
 }
 
-/// Whether the only argument asks for help. A file with such a name is `./-h`.
-pub fn asks_for_help(all: &[String]) -> bool {
-    match all {
-        [word] => matches!(word.as_str(), "-h" | "--help"),
-        _ => false,
-    }
-}
-
 /// The arguments `[--strict] [--lines] [AADHEX]`; `None` if they are others. Options may be
 /// before and after AADHEX.
 pub fn ask_arguments(all: &[String]) -> Option<AskArguments<'_>> {

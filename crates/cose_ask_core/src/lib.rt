@@ -1,18 +1,23 @@
-//! What the programs `cose-ask` and `cose-pass` share: their arguments, questions as lines of text,
-//! and the file of accepted records.
+//! What the programs `cose-gate`, `cose-ask` and `cose-pass` share, how they start and end, and the
+//! runs of the last two: their arguments, questions as lines of text, and the file of accepted
+//! records.
 #![tactic(auto)]
 
 mod accepted;
 mod arguments;
+mod asking;
+mod ending;
 mod framing;
 mod lines;
 mod not_run;
+mod passing;
 mod question;
+mod starting;
 
-pub use crate::accepted::read_accepted;
-pub use crate::arguments::{
-    AskArguments, PassArguments, ask_arguments, asks_for_help, pass_arguments, read_aad,
-};
-pub use crate::lines::write_lines;
+pub use crate::arguments::{PassArguments, pass_arguments};
+pub use crate::asking::ask;
 pub use crate::not_run::NotRun;
-pub use crate::question::{Question, read_question};
+pub use crate::passing::pass;
+pub use crate::starting::{
+    Content, asks_for_help, ended, read_in_blocks, words_of, write_help, write_in_blocks,
+};

@@ -1,5 +1,6 @@
 //! Questions as lines of text.
 use crate::framing::split_first;
+use crate::not_run::NotRun;
 use crate::question::{Question, read_question};
 use ciborium_ll::Write;
 
@@ -20,6 +21,30 @@ pub fn write_lines<W: Write>(records: &[u8], out: &mut W) -> Result<(), W::Error
         };
         write_line(&question, record, out)?;
         rest = more;
+    }
+    Ok(())
+}
+
+/// Writes the records, as lines if that is asked, and flushes the writer. `None` are records that
+/// are lost, since it was out of memory for one.
+///
+/// # Errors
+/// `Memory` and `Output`.
+pub(crate) fn write_questions<W: Write>(
+    as_lines: bool,
+    records: Option<&[u8]>,
+    out: &mut W,
+) -> Result<(), NotRun> {
+    let Some(records) = records else {
+        return Err(NotRun::Memory);
+    };
+    let written = if as_lines {
+        write_lines(records, out)
+    } else {
+        out.write_all(records)
+    };
+    if written.is_err() || out.flush().is_err() {
+        return Err(NotRun::Output);
     }
     Ok(())
 }
@@ -66,5 +91,34 @@ fn digit(value: u8) -> u8 {
         b'0'.wrapping_add(value)
     } else {
         b'a'.wrapping_add(value.wrapping_sub(10))
+    }
+}
+
+#[cfg(test)]
+mod tests {
+    use super::*;
+    use ciborium_ll::Mem;
+
+    #[test]
+    fn a_hundred_lines(rt: HostRuntime) {
+        let alloc = rt.alloc();
+        let mut record = [0; 72];
+        record[0] = 64;
+        record[8] = 17;
+        let mut records = Vec::new(alloc);
+        for _ in 0..100 {
+            records.extend_from_slice(&record).expect(&rt, "memory");
+        }
+        let mut out = Mem::new(Vec::new(alloc));
+        assert!(rt; write_questions(true, Some(&records), &mut out).is_ok());
+        let lines = out.as_written().iter().filter(|byte| **byte == b'\n');
+        assert_eq!(rt; lines.count(), 100);
+    }
+
+    #[test]
+    fn lost_records_are_told(rt: HostRuntime) {
+        let mut out = Mem::new(Vec::new(rt.alloc()));
+        let written = write_questions(false, None, &mut out);
+        assert_eq!(rt; written, Err(NotRun::Memory));
     }
 }

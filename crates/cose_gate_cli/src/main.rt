@@ -11,15 +11,14 @@ ghost use Rattle.cose_gate_command.specs.Telling.{Lines};
 ghost use Rattle.cose_gate_program.specs.Program.{devices_of};
 
 use ciborium_ll::{Read, Write};
+use cose_ask_core::{
+    Content, NotRun, asks_for_help, ended, read_in_blocks, words_of, write_help, write_in_blocks,
+};
 use cose_gate_command::{USAGE, program, read_arguments};
-use cose_gate_program::{Blocks, OutBlocks};
+use cose_gate_program::{Blocks, OutBlocks, has_stack};
 use std::alloc::Global;
-use std::io::{BufReader, BufWriter};
 use std::process::ExitCode;
-use std::{env, fs, io};
-
-/// Bytes are read and written in blocks of this length, and lines too.
-const BLOCK: usize = 65536;
+use std::{env, fs};
 
 /// How many bytes are held in front of the blocks that are written.
 const FRONT: usize = 4096;
@@ -38,78 +37,55 @@ Status 0: no item was refused. 1: some were. 2: wrong arguments, or AADHEX is no
 it is out of memory.
 ";
 
-/// Why the program doesn't come to its run.
-#[derive(Debug, Clone, Copy, PartialEq, Eq)]
-enum NotRun {
-    /// An argument isn't UTF-8.
-    Usage,
-    /// Out of memory.
-    Memory,
-}
-
-impl NotRun {
-    fn line(self) -> &'static str {
-        match self {
-            NotRun::Usage => USAGE,
-            NotRun::Memory => "stopped: memory\n",
-        }
-    }
-
-    fn status(self) -> u8 {
-        match self {
-            NotRun::Usage => 2,
-            NotRun::Memory => 4,
-        }
-    }
-}
-
 fn main(rt: HostRuntime) -> ExitCode {
-    match start(&rt) {
-        Ok(status) => ExitCode::from(status),
-        Err(why) => {
-            let _ = io::Write::write_all(&mut rt.stderr(), why.line().as_bytes());
-            ExitCode::from(why.status())
-        }
-    }
+    ExitCode::from(ended(start(&rt), USAGE, &mut rt.stderr()))
 }
 
 /// Runs the program, and returns its status.
 fn start(rt: &HostRuntime) -> Result<u8, NotRun> {
-    let all = all_arguments(rt)?;
-    if asks_for_help(all.as_slice()) {
-        return Ok(say_help(rt));
+    let words = words_of(rt.alloc(), env::args(rt))?;
+    if !has_stack(words.len()) {
+        return Err(NotRun::Memory);
     }
-    let keys = read_keys(rt, all.as_slice())?;
-    let Ok(input) = BufReader::with_capacity(rt.alloc(), BLOCK, rt.stdin()) else {
-        return Err(NotRun::Memory);
-    };
-    let Ok(mut output) = in_blocks(rt.alloc(), rt.stdout()) else {
-        return Err(NotRun::Memory);
-    };
-    let Ok(mut lines) = in_blocks(rt.alloc(), rt.stderr()) else {
-        return Err(NotRun::Memory);
-    };
-    Ok(run(
-        rt.alloc(),
-        all.as_slice(),
+    if asks_for_help(words.as_slice()) {
+        return write_help(HELP, &mut rt.stdout());
+    }
+    let keys = read_keys(rt, words.as_slice())?;
+    run_with(rt, words.as_slice(), keys)
+}
+
+/// What the file KEYS holds, if the arguments name one.
+fn read_keys(rt: &HostRuntime, words: &[String]) -> Result<Content, NotRun> {
+    match read_arguments(words) {
+        Some(asked) => Content::of_file(fs::read(rt, asked.keys)),
+        None => Ok(Content::none("")),
+    }
+}
+
+/// The run over the standard streams. Blocks that are written are filled from smaller ones.
+fn run_with(rt: &HostRuntime, words: &[String], keys: Content) -> Result<u8, NotRun> {
+    let alloc = rt.alloc();
+    let input = read_in_blocks(alloc, rt.stdin())?;
+    let mut output = write_in_blocks(alloc, rt.stdout())?;
+    let mut lines = write_in_blocks(alloc, rt.stderr())?;
+    let status = run(
+        alloc,
+        words,
         keys.bytes.as_deref(),
         keys.fault,
         &mut Blocks::new(input),
-        &mut output,
-        &mut lines,
-    ))
+        &mut OutBlocks::new(front(alloc)?, &mut output),
+        &mut OutBlocks::new(front(alloc)?, &mut lines),
+    );
+    // What a flush that failed has left isn't written as the program ends.
+    let _ = (output.into_parts(), lines.into_parts());
+    Ok(status)
 }
 
-/// A writer of std in blocks: a small one, which is filled at once, before a large one.
-fn in_blocks<W: io::Write + Drop>(
-    alloc: Global,
-    writer: W,
-) -> Result<OutBlocks<BufWriter<W>>, NotRun> {
-    let Ok(block) = Vec::with_capacity(alloc, FRONT) else {
-        return Err(NotRun::Memory);
-    };
-    match BufWriter::with_capacity(alloc, BLOCK, writer) {
-        Ok(blocks) => Ok(OutBlocks::new(block, blocks)),
+/// A block in front of larger ones.
+fn front(alloc: Global) -> Result<Vec<u8>, NotRun> {
+    match Vec::with_capacity(alloc, FRONT) {
+        Ok(front) => Ok(front),
         Err(_) => Err(NotRun::Memory),
     }
 }
@@ -133,69 +109,4 @@ fn run<R: Read, W: Write, E: Write>(
         (devices_of R.Read W.Write input.new out.new) result err.old err.new }
 {
     program(alloc, all, keys, fault, input, out, err)
-}
-
-/// Whether the one argument asks for help. A file of such a name is `./-h`.
-fn asks_for_help(all: &[String]) -> bool {
-    match all {
-        [only] => matches!(only.as_str(), "-h" | "--help"),
-        _ => false,
-    }
-}
-
-/// Writes the help to standard output, and gives the status.
-fn say_help(rt: &HostRuntime) -> u8 {
-    match io::Write::write_all(&mut rt.stdout(), HELP.as_bytes()) {
-        Ok(()) => 0,
-        Err(_) => 4,
-    }
-}
-
-/// The arguments after the program's name. If one isn't UTF-8 the usage is wrong.
-fn all_arguments(rt: &HostRuntime) -> Result<Vec<String>, NotRun> {
-    match env::args(rt) {
-        Ok(all) => match all.skip(1).collect::<Vec<String>>(rt.alloc()) {
-            Ok(all) => Ok(all),
-            Err(_) => Err(NotRun::Memory),
-        },
-        Err(error) => match error.kind() {
-            io::ErrorKind::OutOfMemory => Err(NotRun::Memory),
-            _ => Err(NotRun::Usage),
-        },
-    }
-}
-
-/// The bytes of a file; none if it can't be read, and why.
-#[derive(Drop)]
-struct Content {
-    bytes: Option<Vec<u8>>,
-    fault: &'static str,
-}
-
-/// What the file KEYS holds, if the arguments name one.
-fn read_keys(rt: &HostRuntime, all: &[String]) -> Result<Content, NotRun> {
-    match read_arguments(all) {
-        Some(asked) => read_file(rt, asked.keys),
-        None => Ok(no_content("")),
-    }
-}
-
-fn no_content(fault: &'static str) -> Content {
-    Content { bytes: None, fault }
-}
-
-fn read_file(rt: &HostRuntime, path: &str) -> Result<Content, NotRun> {
-    match fs::read(rt, path) {
-        Ok(bytes) => Ok(Content {
-            bytes: Some(bytes),
-            fault: "",
-        }),
-        Err(error) => match error.kind() {
-            io::ErrorKind::OutOfMemory => Err(NotRun::Memory),
-            io::ErrorKind::NotFound => Ok(no_content("no such file")),
-            io::ErrorKind::PermissionDenied => Ok(no_content("no permission")),
-            io::ErrorKind::IsADirectory => Ok(no_content("a folder")),
-            _ => Ok(no_content("it can't be read")),
-        },
-    }
 }

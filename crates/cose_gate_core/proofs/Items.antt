@@ -1,5 +1,5 @@
 -- One item: what is found of it, and what is after it.
-use Rattle.std.proofs.Common.{◌≡◌, ◌≢◌, ℕ, inl, inr, List, [], Option, None, Some, Bool, cond, refl, sym, ap, subst, ◌∙◌, take, drop}
+use Rattle.std.proofs.Common.{◌≡◌, ◌≢◌, ℕ, inl, inr, List, [], Option, None, Some, cond, refl, sym, ap, subst, ◌∙◌, take, drop}
 use Rattle.std.specs.Prelude.{is_none}
 use Rattle.std.specs.Io.KnownBytes.{Appends}
 use Rattle.std.proofs.KnownBytes.{Appends-nil}
@@ -8,7 +8,7 @@ use Rattle.ciborium_value.specs.Tree.{Tree, tag}
 use Rattle.coset_labels.specs.Faults.{CoseFault, OrMemory, fault_of}
 use Rattle.coset_labels.specs.declared.error.CoseError.{CoseError}
 use Rattle.coset_labels.specs.declared.error.CoseError.TheVariants as code
-use Rattle.cose_gate_core.specs.Questions.{Question, MessageFields, tag_of, payload_of, questions, message_text}
+use Rattle.cose_gate_core.specs.Questions.{MessageFields, tag_of, payload_of, questions, message_text}
 use Rattle.cose_gate_core.specs.Asked.{asked, first_no, folded_over, ToldPart}
 use Rattle.cose_gate_core.specs.Findings.{Reason, not_tagged, encrypted, other_tag, shape, detached, no_signature, judged, barred, excluded, Bounds, HasMessage, IsCarried, IsUnsigned, IsJudged, IsBarred, Finds}
 use Rattle.cose_gate_core.specs.Run.{IsVerdict, judged_by, written_of}

@@ -8,8 +8,8 @@ pub mod NoMemory
 pub mod Nothing
 pub mod Outcomes
 pub mod Reach
-pub mod Unique
 pub mod Rewritten
 pub mod TagNumbers
+pub mod Unique
 pub mod Widths
 pub mod Written

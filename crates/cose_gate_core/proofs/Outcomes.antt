@@ -4,7 +4,7 @@ use Rattle.std.specs.Prelude.{Result, Ok, Err, IfOk}
 use Rattle.std.specs.Io.KnownBytes.{Consumes, Appends}
 use Rattle.std.proofs.KnownBytes.{Appends-trans}
 use Rattle.std.proofs.lemmas.Grind.{flat_map-append}
-use Rattle.ciborium_ll.specs.Reading.{Moves, Starts, Stops}
+use Rattle.ciborium_ll.specs.Reading.{Moves, Starts}
 use Rattle.ciborium_value.specs.Tree.{Tree}
 use Rattle.ciborium_ll.proofs.Closings.{same_fronts}
 use Rattle.ciborium.specs.Front.{Reads, HoldsOne}
@@ -21,7 +21,7 @@ use Rattle.cose_gate_core.specs.declared.gating.GateFault.{GateFault}
 use Rattle.cose_gate_core.specs.declared.gating.GateFault.TheVariants.{Decode, Write, Memory}
 use Rattle.cose_gate_core.specs.declared.passing.ItemFault.{ItemFault}
 use Rattle.cose_gate_core.specs.declared.passing.ItemFault.TheVariants as fault
-use Rattle.cose_gate_core.specs.Questions.{Question, MessageFields, questions}
+use Rattle.cose_gate_core.specs.Questions.{MessageFields, questions}
 use Rattle.cose_gate_core.specs.Asked.{first_no, folded_over, IsFront}
 use Rattle.cose_gate_core.specs.Findings.{judged}
 use Rattle.cose_gate_core.specs.Run.{Step, Steps, judged_by, has_passed, passes, asked_of, written_of, questions_of, output_of, entries_of, passed_count, refused_count, Course}

@@ -15,8 +15,9 @@ use Rattle.coset_signed.specs.Structure.{sign1_covered, sign_covered}
 use Rattle.coset_signed.proofs.Writable.{sign1_some, sign1_covers, sign_some, sign_covers}
 use Rattle.coset_maced.proofs.Writable.{mac0_some, mac0_covers, mac_some, mac_covers}
 use Rattle.cose_gate_core.specs.Findings.{Bounds, HasMessage, IsJudged}
-use Rattle.coset_message_sink.proofs.Received.{sign1_is_put, mac0_is_put, sign_is_put, mac_is_put}
-use Rattle.cose_gate_core.specs.Put.{message_put, tagged_put}
+use Rattle.coset_message_sink.proofs.Received.{sign1_received, mac0_received, sign_received, mac_received}
+use Rattle.coset_message_sink.proofs.Same.{sign1_written, mac0_written, sign_written, mac_written}
+use Rattle.cose_gate_core.specs.Put.{message_put, tagged_put, AsReceived}
 use Rattle.cose_gate_core.specs.Questions.{MessageFields, sign1, mac0, sign, mac, sign1_question, mac0_question, mac_question, sign_questions, all_questions, questions, message_tree, tag_of, tagged_tree, message_text, or_nothing}
 use Rattle.cose_gate_core.specs.Received.{IsReceived, AreReceived, IsReceivedMessage}
 
@@ -48,15 +49,21 @@ judged_asked l t m aad ((u, e, h), p, s) = has_questions l u m aad h
 pub message_tagged : (l : Bounds) (u : Tree) (m : MessageFields) → HasMessage l u m → tagged_tree m ≢ None
 message_tagged l u m h = map_some (λ t. tag (tag_of m) t) (message_tree m) (has_tree l u m h)
 
--- and its encoding is the one that is written straight from its fields
-tree_is_put : (l : Bounds) (u : Tree) (m : MessageFields) → HasMessage l u m → message_tree m ≡ Some (message_put m)
-tree_is_put l u (sign1 m) h = sign1_is_put l.nesting m u l.layers h
-tree_is_put l u (mac0 m) h = mac0_is_put l.nesting m u l.layers h
-tree_is_put l u (sign m) h = sign_is_put l.nesting m u l.layers h
-tree_is_put l u (mac m) h = mac_is_put l.nesting m u l.layers h
+-- and is as received; so its encoding is the one that is written straight from its fields
+pub as_received : (l : Bounds) (u : Tree) (m : MessageFields) → HasMessage l u m → AsReceived m
+as_received l u (sign1 m) h = sign1_received l.nesting m u l.layers h
+as_received l u (mac0 m) h = mac0_received l.nesting m u l.layers h
+as_received l u (sign m) h = sign_received l.nesting m u l.layers h
+as_received l u (mac m) h = mac_received l.nesting m u l.layers h
 
-pub text_is_put : (l : Bounds) (u : Tree) (m : MessageFields) → HasMessage l u m → message_text m ≡ enc (tagged_put m)
-text_is_put l u m h = ap (λ o. or_nothing (option_map enc (option_map (λ t. tag (tag_of m) t) o))) (tree_is_put l u m h)
+tree_is_put : (m : MessageFields) → AsReceived m → message_tree m ≡ Some (message_put m)
+tree_is_put (sign1 m) r = sign1_written m r
+tree_is_put (mac0 m) r = mac0_written m r
+tree_is_put (sign m) r = sign_written m r
+tree_is_put (mac m) r = mac_written m r
+
+pub text_is_put : (m : MessageFields) → AsReceived m → message_text m ≡ enc (tagged_put m)
+text_is_put m r = ap (λ o. or_nothing (option_map enc (option_map (λ t. tag (tag_of m) t) o))) (tree_is_put m r)
 
 pub judged_questions : (l : Bounds) (t : Tree) (m : MessageFields) (aad : List ℕ) → IsJudged l t m → all_questions m aad ≡ Some (questions m aad)
 judged_questions l t m aad j = there (all_questions m aad) (judged_asked l t m aad j)

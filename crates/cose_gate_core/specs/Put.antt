@@ -1,7 +1,8 @@
 -- What a message is written as straight from its fields, and with its tag. Of one that was read it
 -- is what `message_tree` and `tagged_tree` give.
 use Rattle.ciborium_value.specs.Tree.{Tree, tag}
-use Rattle.coset_message_sink.specs.Put.{sign1_put, mac0_put, sign_put, mac_put}
+use Rattle.coset_message_sink.specs.Put.{sign1_put, mac0_put, sign_put, mac_put, Sign1Received, Mac0Received, SignReceived, MacReceived}
+use Rattle.coset_message_sink.proofs.Received.{sign1_prop, mac0_prop, sign_prop, mac_prop}
 use Rattle.cose_gate_core.specs.Questions.{MessageFields, sign1, mac0, sign, mac, tag_of}
 
 abbrev pub message_put : MessageFields → Tree
@@ -12,3 +13,17 @@ message_put (mac m) = mac_put m
 
 abbrev pub tagged_put : MessageFields → Tree
 tagged_put m = tag (tag_of m) (message_put m)
+
+-- it is as received, as each message that was read
+abbrev pub AsReceived : MessageFields → Type 0
+AsReceived (sign1 m) = Sign1Received m
+AsReceived (mac0 m) = Mac0Received m
+AsReceived (sign m) = SignReceived m
+AsReceived (mac m) = MacReceived m
+
+-- there is at most one proof of it, so a struct may keep it
+pub as_received_prop : (m : MessageFields) → IsProp (AsReceived m)
+as_received_prop (sign1 m) = sign1_prop m
+as_received_prop (mac0 m) = mac0_prop m
+as_received_prop (sign m) = sign_prop m
+as_received_prop (mac m) = mac_prop m

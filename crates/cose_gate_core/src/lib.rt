@@ -16,6 +16,7 @@ mod report;
 mod sign;
 mod sign1;
 mod terms;
+mod writing;
 
 pub use crate::about::{About, MessageKind};
 pub use crate::asking::received;

@@ -5,7 +5,7 @@ ghost use Rattle.ciborium_value.specs.View.{view};
 ghost use Rattle.coset_labels.specs.Faults.{OrMemory};
 ghost use Rattle.cose_gate_core.specs.Asked.{asked, first_no, folded_over, ToldPart};
 ghost use Rattle.cose_gate_core.specs.Findings.{Bounds, HasMessage, WrongMessage, IsCarried, IsUnsigned};
-ghost use Rattle.cose_gate_core.specs.Put.{tagged_put};
+ghost use Rattle.cose_gate_core.specs.Put.{tagged_put, AsReceived};
 ghost use Rattle.cose_gate_core.specs.Questions.{MessageFields, kind_of, payload_of, questions, message_tree};
 ghost use Rattle.cose_gate_core.specs.Received.{IsReceivedMessage};
 ghost use Rattle.cose_gate_core.specs.Terms.{limits_of};
@@ -14,7 +14,7 @@ ghost use Rattle.cose_gate_core.specs.declared.about.MessageKind.{MessageKind};
 use crate::judge::Judge;
 use crate::terms::Terms;
 use ciborium::Value;
-use ciborium::ser::{Serialize, Sink};
+use ciborium::ser::Sink;
 use coset_labels::CoseError;
 use std::alloc::{AllocError, Global};
 
@@ -79,23 +79,9 @@ pub trait Message: Drop + Sized {
     /// # Errors
     /// The sink's; it took a beginning of the events then, and refused the next.
     fn put<S: Sink>(&self, to: &mut S) -> Result<(), S::Error>
+        requires { AsReceived (message self.now) }
         ensures ok { OnOk result (AllAdded S.adds to.old
             (events (tagged_put (message self.now))) to.new) }
         ensures err { OnErr result (Stopped S.adds S.refuses to.old
             (events (tagged_put (message self.now))) to.new) };
-}
-
-/// A message, for calls that take what serializes. It is written with its tag.
-#[derive(Drop)]
-pub struct Written<'a, M> {
-    /// The message.
-    pub message: &'a M,
-}
-
-impl<M: Message> Serialize for Written<'_, M> {
-    ghost put = { λ w. tagged_put (M.message w.message.now) };
-
-    fn serialize<S: Sink>(&self, sink: &mut S) -> Result<(), S::Error> {
-        self.message.put(sink)
-    }
 }

@@ -10,16 +10,17 @@ ghost use Rattle.coset_labels.specs.declared.error.CoseError.TheVariants.{Memory
 ghost use Rattle.cose_gate_core.specs.Calls.{item_rules, item_sight};
 ghost use Rattle.cose_gate_core.specs.Findings.{Bounds, judged, HasMessage, IsEncryptedTag, Finds};
 ghost use Rattle.cose_gate_core.specs.Passing.{IsRefused, IsTold, WentThrough, ItemFails, IsWriteFault, item_failures};
-ghost use Rattle.cose_gate_core.specs.Put.{tagged_put};
-ghost use Rattle.cose_gate_core.specs.Questions.{number_of, tag_of, message_tree, message_text};
+ghost use Rattle.cose_gate_core.specs.Put.{tagged_put, AsReceived};
+ghost use Rattle.cose_gate_core.specs.Questions.{number_of, tag_of, message_tree};
 ghost use Rattle.cose_gate_core.specs.Received.{IsReceivedMessage};
 ghost use Rattle.cose_gate_core.specs.Terms.{limits_of, IsTaken};
 ghost use Rattle.cose_gate_core.specs.declared.report.Refusal.TheVariants.{Shape};
 
 use crate::judge::Judge;
-use crate::message::{Message, Written};
+use crate::message::Message;
 use crate::report::{Refusal, Verdict};
 use crate::terms::Terms;
+use crate::writing::Written;
 use ciborium::{Value, into_writer};
 use ciborium_ll::Write;
 use ciborium_value::laws::value_fits;
@@ -109,6 +110,7 @@ fn bar_of<M: Message>(message: &M, shortest: bool) -> Option<Refusal>
 
 /// Writes the canonical encoding of a message with its tag. That takes no memory.
 fn write_message<M: Message, W: Write>(message: &M, out: &mut W) -> Result<(), ItemFault>
+    requires { AsReceived (M.message message.now) }
     ensures ok { OnOk result (Appends (W.written out.old) (W.written out.new)
         (enc (tagged_put (M.message message.now)))) }
     ensures err { IfErr result (IsWriteFault (W.written out.old) (W.written out.new)
@@ -131,8 +133,7 @@ fn pass_message<M: Message, W: Write, J: Judge>(
     judge: &mut J,
 ) -> Result<Verdict, ItemFault>
     requires received { IsReceivedMessage (M.message message.now) }
-    requires text { message_text (M.message message.now)
-        ≡ enc (tagged_put (M.message message.now)) }
+    requires put { AsReceived (M.message message.now) }
     ensures ok { (limits : Bounds) (bytes : List ℕ) (t : Tree)
         → Finds limits bytes t (judged (M.message message.now))
         → IfOk result (WentThrough (item_rules limits J.Judge judge.old aad.now) bytes t

@@ -9,6 +9,7 @@ mod devices;
 mod lines;
 mod out_blocks;
 mod program;
+mod stack;
 mod telling;
 
 pub use crate::arguments::words;
@@ -18,6 +19,7 @@ pub use crate::devices::{InputFault, OutputFault};
 pub use crate::lines::{write_logged, write_notice};
 pub use crate::out_blocks::OutBlocks;
 pub use crate::program::{run, run_judged, run_over, run_over_told, run_told, run_with};
+pub use crate::stack::has_stack;
 pub use crate::telling::{Notice, Teller};
 pub use cose_gate_hmac as judge;
-pub use cose_gate_hmac::gate_core::{Limits, Terms};
+pub use cose_gate_hmac::gate_core::{GateFault, Limits, Terms};

@@ -1,6 +1,6 @@
 //! The output of the program and its lines in blocks: bytes that the block at hand has room for are
 //! put into it at once.
-ghost use Rattle.std.specs.Prelude.{◌≡◌, ◌≤◌, OnOk, OnErr, [], length, take, drop, vec_len};
+ghost use Rattle.std.specs.Prelude.{◌≡◌, ◌≤◌, OnOk, OnErr, IsOk, [], length, take, drop, vec_len};
 ghost use Rattle.std.specs.Io.KnownBytes.{Appends, Keeps};
 ghost use Rattle.ciborium_ll.specs.Count.{total};
 ghost use Rattle.ciborium_ll.specs.Device.{AppendsFront};
@@ -113,8 +113,10 @@ fn write_length(answer: io::Result<usize>) -> Result<usize, OutputFault>
     }
 }
 
-fn flush_answer(answer: io::Result<()>) -> Result<(), OutputFault> {
-    match answer {
+fn flush_answer(flushed: io::Result<()>) -> Result<(), OutputFault>
+    ensures { IsOk result → IsOk flushed }
+{
+    match flushed {
         Ok(()) => Ok(()),
         Err(_) => Err(OutputFault),
     }

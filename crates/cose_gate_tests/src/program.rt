@@ -4,4 +4,5 @@
 mod blocks;
 mod examples;
 mod lines;
+mod long;
 mod refused;

@@ -5,19 +5,15 @@
 
 use ciborium_ll::Io;
 use cose_ask_core::{
-    NotRun, PassArguments, asks_for_help, pass_arguments, read_aad, read_accepted,
+    Content, NotRun, PassArguments, asks_for_help, ended, pass, pass_arguments, read_in_blocks,
+    words_of, write_help, write_in_blocks,
 };
-use cose_gate_program::{Blocks, Limits, Terms, run_judged};
-use cose_gate_records::Accepted;
-use std::io::{BufReader, BufWriter};
+use cose_gate_program::{Blocks, has_stack};
 use std::process::ExitCode;
-use std::{env, fs, io};
-
-/// Bytes are read and written in blocks of this length, and lines too.
-const BLOCK: usize = 65536;
+use std::{env, fs};
 
 /// The line for other arguments.
-const USAGE: &str = "usage: cose-pass [--strict] ACCEPTED [AADHEX]";
+const USAGE: &str = "usage: cose-pass [--strict] ACCEPTED [AADHEX]\n";
 
 /// What `-h` and `--help` print. The script `cose-pass` prints the same.
 const HELP: &str = "\
@@ -41,104 +37,40 @@ input or output failed, or out of memory.
 ";
 
 fn main(rt: HostRuntime) -> ExitCode {
-    match start(&rt) {
-        Ok(status) => ExitCode::from(status),
-        Err(why) => {
-            say(&rt, why);
-            ExitCode::from(why.status())
-        }
-    }
-}
-
-/// The line on standard error.
-fn say(rt: &HostRuntime, why: NotRun) {
-    let _ = match why {
-        NotRun::Usage => eprintln!(rt; "{}", USAGE),
-        _ => eprintln!(rt; "{why}"),
-    };
+    ExitCode::from(ended(start(&rt), USAGE, &mut rt.stderr()))
 }
 
 /// Runs the program, and returns its status.
 fn start(rt: &HostRuntime) -> Result<u8, NotRun> {
-    let all = all_arguments(rt)?;
-    if asks_for_help(all.as_slice()) {
-        return say_help(rt);
+    let words = words_of(rt.alloc(), env::args(rt))?;
+    if !has_stack(words.len()) {
+        return Err(NotRun::Memory);
     }
-    match pass_arguments(all.as_slice()) {
-        Some(arguments) => pass(rt, arguments),
+    if asks_for_help(words.as_slice()) {
+        return write_help(HELP, &mut rt.stdout());
+    }
+    match pass_arguments(words.as_slice()) {
+        Some(arguments) => run(rt, arguments),
         None => Err(NotRun::Usage),
     }
 }
 
-/// Writes the help to standard output.
-fn say_help(rt: &HostRuntime) -> Result<u8, NotRun> {
-    match io::Write::write_all(&mut rt.stdout(), HELP.as_bytes()) {
-        Ok(()) => Ok(0),
-        Err(_) => Err(NotRun::Output),
-    }
-}
-
-/// The arguments after the name of the program. If one isn't UTF-8 the usage is wrong.
-fn all_arguments(rt: &HostRuntime) -> Result<Vec<String>, NotRun> {
-    match env::args(rt) {
-        Ok(all) => match all.skip(1).collect::<Vec<String>>(rt.alloc()) {
-            Ok(all) => Ok(all),
-            Err(_) => Err(NotRun::Memory),
-        },
-        Err(error) => match error.kind() {
-            io::ErrorKind::OutOfMemory => Err(NotRun::Memory),
-            _ => Err(NotRun::Usage),
-        },
-    }
-}
-
-/// The bytes of a file.
-fn read_file(rt: &HostRuntime, path: &str) -> Result<Vec<u8>, NotRun> {
-    match fs::read(rt, path) {
-        Ok(bytes) => Ok(bytes),
-        Err(error) => match error.kind() {
-            io::ErrorKind::OutOfMemory => Err(NotRun::Memory),
-            _ => Err(NotRun::NoFile),
-        },
-    }
-}
-
-/// Runs the gate with a judge that says yes to the questions whose records are in ACCEPTED.
-fn pass(rt: &HostRuntime, arguments: PassArguments<'_>) -> Result<u8, NotRun> {
+/// Runs it over the file ACCEPTED and the standard streams.
+fn run(rt: &HostRuntime, arguments: PassArguments<'_>) -> Result<u8, NotRun> {
     let alloc = rt.alloc();
-    let bytes = read_file(rt, arguments.accepted)?;
-    let aad = read_aad(alloc, arguments.aad)?;
-    let records = read_accepted(alloc, bytes)?;
-    match Accepted::new(alloc, records.as_slice()) {
-        Ok(Some(judge)) => run(rt, arguments.strict, aad.as_slice(), judge),
-        Ok(None) => Err(NotRun::NoRecords),
-        Err(_) => Err(NotRun::Memory),
-    }
-}
-
-/// Runs the gate with this judge.
-fn run(rt: &HostRuntime, strict: bool, aad: &[u8], judge: Accepted<'_>) -> Result<u8, NotRun> {
-    let alloc = rt.alloc();
-    let mut judge = judge;
-    let Ok(input) = BufReader::with_capacity(alloc, BLOCK, rt.stdin()) else {
-        return Err(NotRun::Memory);
-    };
-    let Ok(output) = BufWriter::with_capacity(alloc, BLOCK, rt.stdout()) else {
-        return Err(NotRun::Memory);
-    };
-    let Ok(lines) = BufWriter::with_capacity(alloc, BLOCK, rt.stderr()) else {
-        return Err(NotRun::Memory);
-    };
-    Ok(run_judged(
+    let accepted = Content::of_file(fs::read(rt, arguments.accepted))?;
+    let input = read_in_blocks(alloc, rt.stdin())?;
+    let mut output = write_in_blocks(alloc, rt.stdout())?;
+    let mut lines = write_in_blocks(alloc, rt.stderr())?;
+    let end = pass(
         alloc,
-        Terms {
-            limits: Limits::default(),
-            strict,
-        },
-        aad,
+        arguments,
+        accepted.bytes,
         &mut Blocks::new(input),
-        &mut Io::new(output),
-        &mut Io::new(lines),
-        &mut judge,
-    ))
+        &mut Io::new(&mut output),
+        &mut Io::new(&mut lines),
+    );
+    // What a flush that failed has left isn't written as the program ends.
+    let _ = (output.into_parts(), lines.into_parts());
+    end
 }

@@ -1,26 +1,22 @@
--- What was read has its received bytes, and so is written as it is read again.
-use Rattle.std.proofs.Common.{◌≡◌, ◌≢◌, ℕ, inl, inr, List, [], ◌∷◌, Option, Some, None, refl, sym, ap, subst}
-use Rattle.ciborium_value.specs.Tree.{Tree, array, Trees}
+-- What was read is as received.
+use Rattle.std.proofs.Common.{ℕ, zero, suc, ◌<◌, inl, inr, List, [], ◌∷◌, length, get_or, Option, sym, subst, arith}
+use Rattle.std.specs.Coded.{×_prop, Unit-prop}
+use Rattle.ciborium_value.specs.Tree.{Tree, Trees}
 use Rattle.coset_headers.specs.Fields.{HeaderFields, ProtectedFields, SignatureFields, signatures}
 use Rattle.coset_headers.specs.Headers.{HasSignatures}
 use Rattle.coset_sink.specs.Put.{AllReceived}
-use Rattle.coset_sink.proofs.Received.{prot_received, hdr_received, sig_received}
+use Rattle.coset_sink.proofs.Received.{prot_received, hdr_received, sig_received, prot_prop, hdr_prop, sigs_prop}
 use Rattle.coset_message_parts.specs.Fields.{parts}
 use Rattle.coset_message_parts.specs.Shapes.{HasParts, one_held, two_held}
 use Rattle.coset_recipients.specs.Fields.{RecipientFields, recipient, RecipientsFields, no_recipients, recipient_more}
 use Rattle.coset_recipients.specs.Shapes.{HasRecipient, HasRecipients, HasInner, HasList}
-use Rattle.coset_recipients.specs.Written.{recipient_tree, list_tree}
-use Rattle.coset_recipients.proofs.Writable.{recipient_some, list_some}
+use Rattle.coset_recipients.specs.View.{recipient_view, recipients_view}
+use Rattle.coset_recipients.specs.declared.recipient.CoseRecipient.{CoseRecipient}
 use Rattle.coset_signed.specs.Fields.{Sign1Fields, SignFields}
 use Rattle.coset_signed.specs.Shapes.{HasSign1, HasSign}
-use Rattle.coset_signed.specs.Written.{sign1_tree, sign_tree}
-use Rattle.coset_signed.proofs.Writable.{sign1_some, sign_some}
 use Rattle.coset_maced.specs.Fields.{Mac0Fields, MacFields}
 use Rattle.coset_maced.specs.Shapes.{HasMac0, HasMac}
-use Rattle.coset_maced.specs.Written.{mac0_tree, mac_tree}
-use Rattle.coset_maced.proofs.Writable.{mac0_some, mac_some}
-use Rattle.coset_message_sink.specs.Put.{recipient_put, recipients_put, sign1_put, sign_put, mac0_put, mac_put, PartsReceived, RecipientReceived, RecipientsReceived, Sign1Received, SignReceived, Mac0Received, MacReceived}
-use Rattle.coset_message_sink.proofs.Same.{recipient_same, list_same, sign1_same, sign_same, mac0_same, mac_same}
+use Rattle.coset_message_sink.specs.Put.{PartsReceived, RecipientReceived, RecipientsReceived, Sign1Received, SignReceived, Mac0Received, MacReceived}
 
 parts_received : (n : ℕ) (x y z : Tree) (p : ProtectedFields) (u : HeaderFields) (c : Option (List ℕ)) (k : ℕ) → HasParts n x y z (parts p u c) k → PartsReceived (parts p u c)
 parts_received n x y z p u c k h = (prot_received n p x k h.protected, hdr_received n u y k h.unprotected)
@@ -62,25 +58,32 @@ mac_received n m t k h =
     let w = two_held _ _ h.lasts h.hold in
     (parts_received n h.first h.second h.third m.protected m.unprotected m.payload k h.parts, list_received n m.recipients w.1 k w.4)
 
--- ---- so it is written as it is read again
-is_the : (o : Option Tree) (x : Tree) → o ≢ None → ((t : Tree) → o ≡ Some t → x ≡ t) → o ≡ Some x
-is_the None x n f = absurd (n refl)
-is_the (Some t) x n f = ap Some (sym (f t refl))
+-- ---- each recipient of a list that is as received
+pub received_at : (rs : List CoseRecipient) (i : ℕ) (d : CoseRecipient) → i < length rs → RecipientsReceived (recipients_view rs) → RecipientReceived (recipient_view (get_or rs i d))
+received_at [] i d p r = absurd (omega arith)
+received_at (s ∷ rs) zero d p r = r.0
+received_at (s ∷ rs) (suc i) d p r = received_at rs i d (omega arith) r.1
 
-pub recipient_is_put : (n : ℕ) (r : RecipientFields) (t : Tree) (k : ℕ) → HasRecipient n t r k → recipient_tree r ≡ Some (recipient_put r)
-recipient_is_put n r t k h = is_the (recipient_tree r) (recipient_put r) (recipient_some n r t k h) (λ u e. recipient_same r u e (recipient_received n r t k h))
+-- ---- being as received is a proposition, so a struct may keep it
+parts_prop : (p : ProtectedFields) (u : HeaderFields) (c : Option (List ℕ)) → IsProp (PartsReceived (parts p u c))
+parts_prop p u c = ×_prop (prot_prop p) (hdr_prop u)
 
-pub list_is_put : (n : ℕ) (rs : RecipientsFields) (t : Tree) (k : ℕ) → HasList n t rs k → list_tree rs ≡ Some (array (recipients_put rs))
-list_is_put n rs t k h = is_the (list_tree rs) (array (recipients_put rs)) (list_some n rs t k h) (λ u e. list_same rs u e (list_received n rs t k h))
+mutual
+  recipient_prop : (r : RecipientFields) → IsProp (RecipientReceived r)
+  recipient_prop (recipient p u c rs) = ×_prop (parts_prop p u c) (recipients_prop rs)
 
-pub sign1_is_put : (n : ℕ) (m : Sign1Fields) (t : Tree) (k : ℕ) → HasSign1 n t m k → sign1_tree m ≡ Some (sign1_put m)
-sign1_is_put n m t k h = is_the (sign1_tree m) (sign1_put m) (sign1_some n k t m h) (λ u e. sign1_same m u e (sign1_received n m t k h))
+  recipients_prop : (rs : RecipientsFields) → IsProp (RecipientsReceived rs)
+  recipients_prop no_recipients = Unit-prop
+  recipients_prop (recipient_more r rs) = ×_prop (recipient_prop r) (recipients_prop rs)
 
-pub sign_is_put : (n : ℕ) (m : SignFields) (t : Tree) (k : ℕ) → HasSign n t m k → sign_tree m ≡ Some (sign_put m)
-sign_is_put n m t k h = is_the (sign_tree m) (sign_put m) (sign_some n k t m h) (λ u e. sign_same m u e (sign_received n m t k h))
+pub sign1_prop : (m : Sign1Fields) → IsProp (Sign1Received m)
+sign1_prop m = parts_prop m.protected m.unprotected m.payload
 
-pub mac0_is_put : (n : ℕ) (m : Mac0Fields) (t : Tree) (k : ℕ) → HasMac0 n t m k → mac0_tree m ≡ Some (mac0_put m)
-mac0_is_put n m t k h = is_the (mac0_tree m) (mac0_put m) (mac0_some n m t k h) (λ u e. mac0_same m u e (mac0_received n m t k h))
+pub sign_prop : (m : SignFields) → IsProp (SignReceived m)
+sign_prop m = ×_prop (parts_prop m.protected m.unprotected m.payload) (sigs_prop (signatures m.signatures))
 
-pub mac_is_put : (n : ℕ) (m : MacFields) (t : Tree) (k : ℕ) → HasMac n t m k → mac_tree m ≡ Some (mac_put m)
-mac_is_put n m t k h = is_the (mac_tree m) (mac_put m) (mac_some n m t k h) (λ u e. mac_same m u e (mac_received n m t k h))
+pub mac0_prop : (m : Mac0Fields) → IsProp (Mac0Received m)
+mac0_prop m = parts_prop m.protected m.unprotected m.payload
+
+pub mac_prop : (m : MacFields) → IsProp (MacReceived m)
+mac_prop m = ×_prop (parts_prop m.protected m.unprotected m.payload) (recipients_prop m.recipients)

@@ -1,6 +1,5 @@
 -- What recipients and messages are written as straight from their fields (RFC 9052, sections 4.1,
--- 4.2, 5.1, 6.1 and 6.2), and the events of their parts. A protected header is its received bytes;
--- one without any is the empty byte string, which stands for an empty header alone.
+-- 4.2, 5.1, 6.1 and 6.2), and the events of their parts. Only what is as received is written so.
 use Rattle.std.specs.Prelude.{ℕ, List, [], ◌∷◌, ◌++◌}
 use Rattle.ciborium_value.specs.Tree.{Tree, bytes, array, Trees, no_trees, one_more, tree_count}
 use Rattle.ciborium_value.specs.View.{trees}
@@ -45,7 +44,7 @@ mac0_put m = whole_put (parts m.protected m.unprotected m.payload) (bytes m.tag 
 abbrev pub mac_put : MacFields → Tree
 mac_put m = whole_put (parts m.protected m.unprotected m.payload) (bytes m.tag ∷ array (recipients_put m.recipients) ∷ [])
 
--- each protected header inside has received bytes, or is empty
+-- each protected header inside has received bytes or is empty, and no label is in a `rest` twice
 abbrev pub PartsReceived : PartsFields → Type 0
 PartsReceived f = ProtectedReceived f.protected × HasReceived f.unprotected
 

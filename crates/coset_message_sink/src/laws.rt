@@ -1,6 +1,6 @@
 //! Laws of what is written straight from fields.
 ghost use Rattle.std.specs.Prelude.{◌≡◌, ℕ, Some};
-ghost use Rattle.ciborium_value.specs.Tree.{Tree, Trees, array};
+ghost use Rattle.ciborium_value.specs.Tree.{Tree, array};
 ghost use Rattle.coset_recipients.specs.Fields.{RecipientFields, RecipientsFields};
 ghost use Rattle.coset_recipients.specs.Shapes.{HasRecipient, HasList};
 ghost use Rattle.coset_recipients.specs.Written.{recipient_tree, list_tree};
@@ -16,24 +16,20 @@ ghost use Rattle.coset_message_sink.specs.Put.{RecipientReceived, RecipientsRece
 ghost use Rattle.coset_message_sink.specs.Put.{Sign1Received, SignReceived};
 ghost use Rattle.coset_message_sink.specs.Put.{Mac0Received, MacReceived};
 
-/// What is written straight from fields is what is written of them, if each protected header inside
-/// has its received bytes or is empty.
+/// What is written straight from fields that are as received is what `to_cbor_value` writes of
+/// them.
 pub fn put_is_written()
-    ensures recipient { (r : RecipientFields) (t : Tree) → recipient_tree r ≡ Some t
-        → RecipientReceived r → recipient_put r ≡ t }
-    ensures recipients { (rs : RecipientsFields) (t : Tree) → list_tree rs ≡ Some t
-        → RecipientsReceived rs → array (recipients_put rs) ≡ t }
-    ensures sign1 { (m : Sign1Fields) (t : Tree) → sign1_tree m ≡ Some t → Sign1Received m
-        → sign1_put m ≡ t }
-    ensures sign { (m : SignFields) (t : Tree) → sign_tree m ≡ Some t → SignReceived m
-        → sign_put m ≡ t }
-    ensures mac0 { (m : Mac0Fields) (t : Tree) → mac0_tree m ≡ Some t → Mac0Received m
-        → mac0_put m ≡ t }
-    ensures mac { (m : MacFields) (t : Tree) → mac_tree m ≡ Some t → MacReceived m
-        → mac_put m ≡ t }
+    ensures recipient { (r : RecipientFields) → RecipientReceived r
+        → recipient_tree r ≡ Some (recipient_put r) }
+    ensures recipients { (rs : RecipientsFields) → RecipientsReceived rs
+        → list_tree rs ≡ Some (array (recipients_put rs)) }
+    ensures sign1 { (m : Sign1Fields) → Sign1Received m → sign1_tree m ≡ Some (sign1_put m) }
+    ensures sign { (m : SignFields) → SignReceived m → sign_tree m ≡ Some (sign_put m) }
+    ensures mac0 { (m : Mac0Fields) → Mac0Received m → mac0_tree m ≡ Some (mac0_put m) }
+    ensures mac { (m : MacFields) → MacReceived m → mac_tree m ≡ Some (mac_put m) }
 {}
 
-/// What was read has its received bytes, as `put_is_written` asks.
+/// What was read is as received: the calls that write it straight from its fields may be made.
 pub fn read_is_received()
     ensures recipient { (n k : ℕ) (t : Tree) (r : RecipientFields) → HasRecipient n t r k
         → RecipientReceived r }

@@ -4,6 +4,8 @@ ghost use Rattle.ciborium_traits.specs.Events.{events, AllAdded, Stopped};
 ghost use Rattle.coset_signed.specs.View.{sign1_view, sign_view};
 ghost use Rattle.coset_maced.specs.View.{mac0_view, mac_view};
 ghost use Rattle.coset_message_sink.specs.Put.{sign1_put, mac0_put, sign_put, mac_put};
+ghost use Rattle.coset_message_sink.specs.Put.{Sign1Received, Mac0Received, SignReceived};
+ghost use Rattle.coset_message_sink.specs.Put.{MacReceived};
 
 use crate::parts::begin;
 use crate::recipients::put_recipients;
@@ -13,11 +15,12 @@ use coset_signed::{CoseSign, CoseSign1};
 use coset_sink::put_signatures;
 
 /// Writes a COSE_Sign1 without its tag (RFC 9052, section 4.2). A payload that is carried elsewhere
-/// is null. Protected headers are written as `coset_sink::put_protected` does.
+/// is null. The message is as received: so are its headers, as those of `coset_sink` say.
 ///
 /// # Errors
 /// The sink's; it took a beginning of the events then, and refused the next.
 pub fn put_sign1<S: Sink>(message: &CoseSign1, to: &mut S) -> Result<(), S::Error>
+    requires { Sign1Received (sign1_view message.now) }
     ensures ok { OnOk result (AllAdded S.adds to.old
         (events (sign1_put (sign1_view message.now))) to.new) }
     ensures err { OnErr result (Stopped S.adds S.refuses to.old
@@ -34,11 +37,12 @@ pub fn put_sign1<S: Sink>(message: &CoseSign1, to: &mut S) -> Result<(), S::Erro
 }
 
 /// Writes a COSE_Mac0 without its tag (RFC 9052, section 6.2). A payload that is carried elsewhere
-/// is null. Protected headers are written as `coset_sink::put_protected` does.
+/// is null. The message is as received: so are its headers, as those of `coset_sink` say.
 ///
 /// # Errors
 /// The sink's; it took a beginning of the events then, and refused the next.
 pub fn put_mac0<S: Sink>(message: &CoseMac0, to: &mut S) -> Result<(), S::Error>
+    requires { Mac0Received (mac0_view message.now) }
     ensures ok { OnOk result (AllAdded S.adds to.old
         (events (mac0_put (mac0_view message.now))) to.new) }
     ensures err { OnErr result (Stopped S.adds S.refuses to.old
@@ -55,11 +59,12 @@ pub fn put_mac0<S: Sink>(message: &CoseMac0, to: &mut S) -> Result<(), S::Error>
 }
 
 /// Writes a COSE_Sign without its tag (RFC 9052, section 4.1). A payload that is carried elsewhere
-/// is null. Protected headers are written as `coset_sink::put_protected` does.
+/// is null. The message is as received: so are its headers, as those of `coset_sink` say.
 ///
 /// # Errors
 /// The sink's; it took a beginning of the events then, and refused the next.
 pub fn put_sign<S: Sink>(message: &CoseSign, to: &mut S) -> Result<(), S::Error>
+    requires { SignReceived (sign_view message.now) }
     ensures ok { OnOk result (AllAdded S.adds to.old
         (events (sign_put (sign_view message.now))) to.new) }
     ensures err { OnErr result (Stopped S.adds S.refuses to.old
@@ -76,11 +81,12 @@ pub fn put_sign<S: Sink>(message: &CoseSign, to: &mut S) -> Result<(), S::Error>
 }
 
 /// Writes a COSE_Mac without its tag (RFC 9052, section 6.1). A payload that is carried elsewhere
-/// is null. Protected headers are written as `coset_sink::put_protected` does.
+/// is null. The message is as received: so are its headers, as those of `coset_sink` say.
 ///
 /// # Errors
 /// The sink's; it took a beginning of the events then, and refused the next.
 pub fn put_mac<S: Sink>(message: &CoseMac, to: &mut S) -> Result<(), S::Error>
+    requires { MacReceived (mac_view message.now) }
     ensures ok { OnOk result (AllAdded S.adds to.old
         (events (mac_put (mac_view message.now))) to.new) }
     ensures err { OnErr result (Stopped S.adds S.refuses to.old

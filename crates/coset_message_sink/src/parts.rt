@@ -3,7 +3,7 @@ ghost use Rattle.std.specs.Prelude.{option_map, OnOk, OnErr};
 ghost use Rattle.ciborium_traits.specs.Events.{events, AllAdded, Stopped};
 ghost use Rattle.coset_message_parts.specs.View.{parts_in};
 ghost use Rattle.coset_message_parts.specs.Written.{optional_tree};
-ghost use Rattle.coset_message_sink.specs.Put.{begun};
+ghost use Rattle.coset_message_sink.specs.Put.{begun, PartsReceived};
 
 use ciborium_traits::ser::Sink;
 use coset_headers::{Header, ProtectedHeader};
@@ -31,6 +31,7 @@ pub(crate) fn begin<S: Sink>(
     content: &Option<Vec<u8>>,
     to: &mut S,
 ) -> Result<(), S::Error>
+    requires { PartsReceived (parts_in protected.now unprotected.now content.now) }
     ensures ok { OnOk result (AllAdded S.adds to.old
         (begun count (parts_in protected.now unprotected.now content.now)) to.new) }
     ensures err { OnErr result (Stopped S.adds S.refuses to.old

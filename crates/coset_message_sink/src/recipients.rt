@@ -5,6 +5,7 @@ ghost use Rattle.ciborium_traits.specs.Events.{events, events_all, AllAdded, Sto
 ghost use Rattle.coset_recipients.specs.View.{recipient_view, recipients_view};
 ghost use Rattle.coset_message_sink.specs.Put.{recipient_put, recipients_put, recipient_begun};
 ghost use Rattle.coset_message_sink.specs.Put.{inner_begun, item_count};
+ghost use Rattle.coset_message_sink.specs.Put.{RecipientReceived, RecipientsReceived};
 
 use crate::parts::begin;
 use ciborium_traits::ser::Sink;
@@ -33,6 +34,7 @@ fn begin_inner<S: Sink>(recipients: &[CoseRecipient], to: &mut S) -> Result<(), 
 /// A recipient up to the recipients inside it.
 #[inline(never)]
 fn begin_recipient<S: Sink>(recipient: &CoseRecipient, to: &mut S) -> Result<(), S::Error>
+    requires { RecipientReceived (recipient_view recipient.now) }
     ensures ok { OnOk result (AllAdded S.adds to.old
         (recipient_begun (recipient_view recipient.now)) to.new) }
     ensures err { OnErr result (Stopped S.adds S.refuses to.old
@@ -49,12 +51,14 @@ fn begin_recipient<S: Sink>(recipient: &CoseRecipient, to: &mut S) -> Result<(),
 }
 
 /// Writes a recipient, with those inside it. It has no fourth element if there are none (RFC 9052,
-/// section 5.1). A protected header is written as `coset_sink::put_protected` does.
+/// section 5.1). It is as received: so are its headers, as those of `coset_sink` say, and so are
+/// those inside it.
 ///
 /// # Errors
 /// The sink's; it took a beginning of the events then, and refused the next.
 #[cycle(put)]
 pub fn put_recipient<S: Sink>(recipient: &CoseRecipient, to: &mut S) -> Result<(), S::Error>
+    requires { RecipientReceived (recipient_view recipient.now) }
     ensures ok { OnOk result (AllAdded S.adds to.old
         (events (recipient_put (recipient_view recipient.now))) to.new) }
     ensures err { OnErr result (Stopped S.adds S.refuses to.old
@@ -67,6 +71,7 @@ pub fn put_recipient<S: Sink>(recipient: &CoseRecipient, to: &mut S) -> Result<(
 /// Recipients one after another.
 #[cycle(put)]
 fn put_each<S: Sink>(recipients: &[CoseRecipient], to: &mut S) -> Result<(), S::Error>
+    requires { RecipientsReceived (recipients_view recipients.now) }
     ensures ok { OnOk result (AllAdded S.adds to.old
         (events_all (recipients_put (recipients_view recipients.now))) to.new) }
     ensures err { OnErr result (Stopped S.adds S.refuses to.old
@@ -78,11 +83,12 @@ fn put_each<S: Sink>(recipients: &[CoseRecipient], to: &mut S) -> Result<(), S::
     Ok(())
 }
 
-/// Writes a list of recipients, which may be empty.
+/// Writes a list of recipients that are as received. It may be empty.
 ///
 /// # Errors
 /// The sink's; it took a beginning of the events then, and refused the next.
 pub fn put_recipients<S: Sink>(recipients: &[CoseRecipient], to: &mut S) -> Result<(), S::Error>
+    requires { RecipientsReceived (recipients_view recipients.now) }
     ensures ok { OnOk result (AllAdded S.adds to.old
         (events (spec.array (recipients_put (recipients_view recipients.now)))) to.new) }
     ensures err { OnErr result (Stopped S.adds S.refuses to.old

@@ -5,6 +5,8 @@ ghost use Rattle.ciborium_traits.specs.Events.{events, AllAdded, Stopped};
 ghost use Rattle.coset_signed.specs.View.{sign1_view, sign_view};
 ghost use Rattle.coset_maced.specs.View.{mac0_view, mac_view};
 ghost use Rattle.coset_message_sink.specs.Put.{sign1_put, mac0_put, sign_put, mac_put};
+ghost use Rattle.coset_message_sink.specs.Put.{Sign1Received, Mac0Received, SignReceived};
+ghost use Rattle.coset_message_sink.specs.Put.{MacReceived};
 
 use crate::messages::{put_mac, put_mac0, put_sign, put_sign1};
 use ciborium_traits::ser::Sink;
@@ -17,6 +19,7 @@ use coset_signed::{CoseSign, CoseSign1};
 /// # Errors
 /// The sink's; it took a beginning of the events then, and refused the next.
 pub fn put_tagged_sign1<S: Sink>(message: &CoseSign1, to: &mut S) -> Result<(), S::Error>
+    requires { Sign1Received (sign1_view message.now) }
     ensures ok { OnOk result (AllAdded S.adds to.old
         (events (spec.tag 18 (sign1_put (sign1_view message.now)))) to.new) }
     ensures err { OnErr result (Stopped S.adds S.refuses to.old
@@ -31,6 +34,7 @@ pub fn put_tagged_sign1<S: Sink>(message: &CoseSign1, to: &mut S) -> Result<(), 
 /// # Errors
 /// The sink's; it took a beginning of the events then, and refused the next.
 pub fn put_tagged_mac0<S: Sink>(message: &CoseMac0, to: &mut S) -> Result<(), S::Error>
+    requires { Mac0Received (mac0_view message.now) }
     ensures ok { OnOk result (AllAdded S.adds to.old
         (events (spec.tag 17 (mac0_put (mac0_view message.now)))) to.new) }
     ensures err { OnErr result (Stopped S.adds S.refuses to.old
@@ -45,6 +49,7 @@ pub fn put_tagged_mac0<S: Sink>(message: &CoseMac0, to: &mut S) -> Result<(), S:
 /// # Errors
 /// The sink's; it took a beginning of the events then, and refused the next.
 pub fn put_tagged_sign<S: Sink>(message: &CoseSign, to: &mut S) -> Result<(), S::Error>
+    requires { SignReceived (sign_view message.now) }
     ensures ok { OnOk result (AllAdded S.adds to.old
         (events (spec.tag 98 (sign_put (sign_view message.now)))) to.new) }
     ensures err { OnErr result (Stopped S.adds S.refuses to.old
@@ -59,6 +64,7 @@ pub fn put_tagged_sign<S: Sink>(message: &CoseSign, to: &mut S) -> Result<(), S:
 /// # Errors
 /// The sink's; it took a beginning of the events then, and refused the next.
 pub fn put_tagged_mac<S: Sink>(message: &CoseMac, to: &mut S) -> Result<(), S::Error>
+    requires { MacReceived (mac_view message.now) }
     ensures ok { OnOk result (AllAdded S.adds to.old
         (events (spec.tag 97 (mac_put (mac_view message.now)))) to.new) }
     ensures err { OnErr result (Stopped S.adds S.refuses to.old

@@ -13,6 +13,8 @@ ghost use Rattle.coset_headers.specs.Fields.{plain_part};
 ghost use Rattle.coset_sink.specs.Put.{header_put, protected_put, signature_put};
 ghost use Rattle.coset_sink.specs.Put.{signatures_put, entry_count, entry_events};
 ghost use Rattle.coset_sink.specs.Put.{name_events, string_events, signs_begun, header_begun};
+ghost use Rattle.coset_sink.specs.Put.{HasReceived, ProtectedReceived, SignatureReceived};
+ghost use Rattle.coset_sink.specs.Put.{AllReceived};
 ghost use Rattle.coset_headers.specs.View.{header_view, protected_view, signature_view};
 ghost use Rattle.coset_headers.specs.View.{signatures_view, entry_view};
 ghost use Rattle.coset_headers.specs.Written.{name_entry, crit_entry, bytes_entry, is_unsigned};
@@ -256,12 +258,14 @@ fn begin_header<S: Sink>(header: &Header, to: &mut S) -> Result<(), S::Error>
     begin_counter(&header.counter_signatures, to)
 }
 
-/// Writes a header. A protected one inside is written as `put_protected` does.
+/// Writes a header that is as received: no label is in `rest` twice, and each protected header
+/// inside has its received bytes or is empty. Each that was read is so; `to_vec` writes another.
 ///
 /// # Errors
 /// The sink's; it took a beginning of the events then, and refused the next.
 #[cycle(put)]
 pub fn put_header<S: Sink>(header: &Header, to: &mut S) -> Result<(), S::Error>
+    requires { HasReceived (header_view header.now) }
     ensures ok { OnOk result (AllAdded S.adds to.old
         (events (header_put (header_view header.now))) to.new) }
     ensures err { OnErr result (Stopped S.adds S.refuses to.old
@@ -272,13 +276,14 @@ pub fn put_header<S: Sink>(header: &Header, to: &mut S) -> Result<(), S::Error>
     put_rest(&header.rest, to)
 }
 
-/// Writes the received bytes of a protected header, as a byte string; the empty one if there are
-/// none, which stands for an empty header alone (RFC 9052, section 3).
+/// Writes the received bytes of a protected header, as a byte string; of an empty header without
+/// any the empty one, which stands for it (RFC 9052, section 3).
 ///
 /// # Errors
 /// The sink's.
 #[inline(never)]
 pub fn put_protected<S: Sink>(protected: &ProtectedHeader, to: &mut S) -> Result<(), S::Error>
+    requires { ProtectedReceived (protected_view protected.now) }
     ensures ok { OnOk result (AllAdded S.adds to.old
         (events (protected_put (protected_view protected.now))) to.new) }
     ensures err { OnErr result (Stopped S.adds S.refuses to.old
@@ -290,12 +295,14 @@ pub fn put_protected<S: Sink>(protected: &ProtectedHeader, to: &mut S) -> Result
     }
 }
 
-/// Writes a signature. Protected headers in it are written as `put_protected` does.
+/// Writes a signature that is as received: so are its headers, as `put_protected` and `put_header`
+/// say.
 ///
 /// # Errors
 /// The sink's; it took a beginning of the events then, and refused the next.
 #[cycle(put)]
 pub fn put_signature<S: Sink>(signature: &CoseSignature, to: &mut S) -> Result<(), S::Error>
+    requires { SignatureReceived (signature_view signature.now) }
     ensures ok { OnOk result (AllAdded S.adds to.old
         (events (signature_put (signature_view signature.now))) to.new) }
     ensures err { OnErr result (Stopped S.adds S.refuses to.old
@@ -310,6 +317,7 @@ pub fn put_signature<S: Sink>(signature: &CoseSignature, to: &mut S) -> Result<(
 /// Signatures one after another.
 #[cycle(put)]
 fn put_each<S: Sink>(signatures: &[CoseSignature], to: &mut S) -> Result<(), S::Error>
+    requires { AllReceived (signatures_view signatures.now) }
     ensures ok { OnOk result (AllAdded S.adds to.old
         (events_all (signatures_put (signatures_view signatures.now))) to.new) }
     ensures err { OnErr result (Stopped S.adds S.refuses to.old
@@ -321,11 +329,12 @@ fn put_each<S: Sink>(signatures: &[CoseSignature], to: &mut S) -> Result<(), S::
     Ok(())
 }
 
-/// Writes a list of signatures.
+/// Writes a list of signatures that are as received, as `put_signature` says.
 ///
 /// # Errors
 /// The sink's; it took a beginning of the events then, and refused the next.
 pub fn put_signatures<S: Sink>(signatures: &[CoseSignature], to: &mut S) -> Result<(), S::Error>
+    requires { AllReceived (signatures_view signatures.now) }
     ensures ok { OnOk result (AllAdded S.adds to.old
         (events (spec.array (signatures_put (signatures_view signatures.now)))) to.new) }
     ensures err { OnErr result (Stopped S.adds S.refuses to.old

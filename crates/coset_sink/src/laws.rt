@@ -1,6 +1,6 @@
 //! Laws of what is written straight from fields.
-ghost use Rattle.std.specs.Prelude.{◌≡◌, ℕ, List, Some};
-ghost use Rattle.ciborium_value.specs.Tree.{Tree, Trees, bytes};
+ghost use Rattle.std.specs.Prelude.{◌≡◌, ℕ, Some, option_map};
+ghost use Rattle.ciborium_value.specs.Tree.{Tree, bytes};
 ghost use Rattle.coset_headers.specs.Fields.{HeaderFields, ProtectedFields, SignatureFields};
 ghost use Rattle.coset_headers.specs.Fields.{Signatures};
 ghost use Rattle.coset_headers.specs.Headers.{HasHeader, HasProtected, HasSignature};
@@ -10,20 +10,19 @@ ghost use Rattle.coset_sink.specs.Put.{header_put, protected_put, signature_put,
 ghost use Rattle.coset_sink.specs.Put.{HasReceived, ProtectedReceived, SignatureReceived};
 ghost use Rattle.coset_sink.specs.Put.{AllReceived};
 
-/// What is written straight from fields is what is written of them, if each protected header inside
-/// has its received bytes or is empty.
+/// What is written straight from fields that are as received is what `to_cbor_value` writes of
+/// them.
 pub fn put_is_written()
-    ensures header { (h : HeaderFields) (t : Tree) → header_tree h ≡ Some t → HasReceived h
-        → header_put h ≡ t }
-    ensures protected { (p : ProtectedFields) (b : List ℕ) → shown p ≡ Some b
-        → ProtectedReceived p → protected_put p ≡ bytes b }
-    ensures signature { (s : SignatureFields) (t : Tree) → signature_tree s ≡ Some t
-        → SignatureReceived s → signature_put s ≡ t }
-    ensures signatures { (ss : Signatures) (ts : Trees) → signature_trees ss ≡ Some ts
-        → AllReceived ss → signatures_put ss ≡ ts }
+    ensures header { (h : HeaderFields) → HasReceived h → header_tree h ≡ Some (header_put h) }
+    ensures protected { (p : ProtectedFields) → ProtectedReceived p
+        → option_map bytes (shown p) ≡ Some (protected_put p) }
+    ensures signature { (s : SignatureFields) → SignatureReceived s
+        → signature_tree s ≡ Some (signature_put s) }
+    ensures signatures { (ss : Signatures) → AllReceived ss
+        → signature_trees ss ≡ Some (signatures_put ss) }
 {}
 
-/// What was read has its received bytes, as `put_is_written` asks.
+/// What was read is as received: the calls that write it straight from its fields may be made.
 pub fn read_is_received()
     ensures header { (n k : ℕ) (t : Tree) (h : HeaderFields) → HasHeader n t h k
         → HasReceived h }

@@ -2,7 +2,6 @@
 //! out by hand. Here are headers.
 
 mod signatures;
-mod sinks;
 
 use crate::checks::{holds, owned, text, writes, written};
 use coset::cbor::value::{Integer, Value};

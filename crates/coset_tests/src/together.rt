@@ -3,5 +3,4 @@
 
 mod memory;
 mod signature;
-mod straight;
 mod tokens;

@@ -170,7 +170,8 @@ impl Write for FailAfter {
 /// fails.
 #[derive(Drop)]
 pub struct Held {
-    bytes: Vec<u8>,
+    /// What was taken.
+    pub bytes: Vec<u8>,
     /// How many bytes were shown.
     pub shown: usize,
     flushes: usize,

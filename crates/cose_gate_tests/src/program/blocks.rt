@@ -3,7 +3,7 @@ use cose_gate::{Blocks, InputFault, Read, Write};
 use cose_gate_program::OutBlocks;
 use std::alloc::Global;
 use std::io;
-use std::io::BufReader;
+use std::io::{BufReader, BufWriter};
 use std::process::Abort;
 use test_tools::OneByOne;
 
@@ -66,6 +66,17 @@ fn a_flush_reaches_the_writer(rt: HostRuntime) {
     let block = Vec::with_capacity(alloc, 16).expect(&rt, "memory");
     let mut room = [0; 2];
     let mut out = OutBlocks::new(block, room.as_mut_slice());
+    assert!(rt; out.write_all(b"abc").is_ok());
+    assert!(rt; out.flush().is_err());
+}
+
+#[test]
+fn a_flush_goes_through_both_blocks(rt: HostRuntime) {
+    let alloc = rt.alloc();
+    let block = Vec::with_capacity(alloc, 16).expect(&rt, "memory");
+    let mut room = [0; 2];
+    let blocks = BufWriter::with_capacity(alloc, 16, room.as_mut_slice());
+    let mut out = OutBlocks::new(block, blocks.expect(&rt, "memory"));
     assert!(rt; out.write_all(b"abc").is_ok());
     assert!(rt; out.flush().is_err());
 }

@@ -5,10 +5,10 @@ use Rattle.callers.proofs.Tagging.{gate_text}
 use Rattle.callers.proofs.tagged.gate_text.Goals as goal
 
 pub returns-in-Ok : goal.returns-in-Ok
-returns-in-Ok c = λ limits t is.
-    let laws = c.read_is_put.ensures in
+returns-in-Ok c =
+    let laws = c.put_is_written.ensures in
     let new : c.new-out.result.inner.items ≡ [] = (λ i. (c.new-out.ensures.inner i).items) ∙ c.new.ensures.items in
     (λ i. (c.into_inner.ensures i).items)
     ∙ (c.in-Ok.ensures.ok
     ∙ (ap (λ (z : List ℕ). z ++ enc (tagged_put c.args.message)) new
-    ∙ gate_text laws.sign1 laws.mac0 laws.sign laws.mac c.args.message limits t is))
+    ∙ gate_text laws.sign1 laws.mac0 laws.sign laws.mac c.args.message c.requires))

@@ -5,7 +5,7 @@ use Rattle.cose_gate_core.specs.Terms.{limits_of}
 use Rattle.cose_gate_core.specs.declared.report.Refusal.TheVariants.{Shape}
 use Rattle.cose_gate_core.proofs.Exactly.{found_as}
 use Rattle.cose_gate_core.proofs.Items.{not_memory, taken_barred}
-use Rattle.cose_gate_core.proofs.Written.{message_received, text_is_put}
+use Rattle.cose_gate_core.proofs.Written.{as_received, message_received}
 use Rattle.cose_gate_core.proofs.passing.pass_as.Goals as goal
 
 pub returns-in-Err-clause-ok : goal.returns-in-Err-clause-ok
@@ -18,8 +18,8 @@ returns-in-Err-clause-ok g c = λ b h.
 pub pass_message-requires-clause-received : goal.pass_message-requires-clause-received
 pass_message-requires-clause-received g c = message_received (limits_of c.args.terms) (view c.args.content) (g.M.Message.message c.read.new.self) c.in-Ok.ensures.1
 
-pub pass_message-requires-clause-text : goal.pass_message-requires-clause-text
-pass_message-requires-clause-text g c = text_is_put (limits_of c.args.terms) (view c.args.content) (g.M.Message.message c.read.new.self) c.in-Ok.ensures.1
+pub pass_message-requires-clause-put : goal.pass_message-requires-clause-put
+pass_message-requires-clause-put g c = as_received (limits_of c.args.terms) (view c.args.content) (g.M.Message.message c.read.new.self) c.in-Ok.ensures.1
 
 pub returns-in-Some-clause-ok : goal.returns-in-Some-clause-ok
 returns-in-Some-clause-ok g c = λ b h.

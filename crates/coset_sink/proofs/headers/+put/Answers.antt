@@ -1,12 +1,15 @@
-use Rattle.std.proofs.Common.{[], ◌∷◌, ◌++◌, ◌+◌, map, refl, arith}
+use Rattle.std.proofs.Common.{[], ◌∷◌, ◌++◌, ◌+◌, map, refl, sym, ap, subst, arith, rules}
+use denote.Param.Weighed.{at_most}
 use Rattle.ciborium_traits.specs.Events as event
 use Rattle.ciborium_traits.specs.Events.{events, events_all}
 use Rattle.ciborium_traits.proofs.Joined.{of_err, added_as, stopped_as, stopped_then, then_stopped, part_stopped, parts_more, parts_added}
-use Rattle.coset_sink.specs.Put.{entry_events, header_begun, header_put, protected_put, signatures_put}
-use Rattle.coset_headers.specs.View.{header_view, protected_view, signatures_view, entry_view}
+use Rattle.coset_sink.specs.Put.{SignatureReceived, entry_events, header_begun, header_put, protected_put, signatures_put}
+use Rattle.coset_headers.specs.View.{header_view, protected_view, signature_view, signatures_view, entry_view}
+use Rattle.coset_headers.specs.declared.header.CoseSignature.TheViews.{size-CoseSignature}
 use Rattle.coset_headers.specs.declared.header.CoseSignature.{out-CoseSignature}
 use Rattle.coset_headers.specs.declared.header.Header.{out-Header}
 use Rattle.coset_sink.proofs.Events.{ok_after, err_after, ok_one, err_one, put_joined, signature_joined, signature_item, signatures_flat}
+use Rattle.coset_sink.proofs.Received.{received_at}
 use Rattle.coset_sink.proofs.headers.+put.Goals as goal
 
 pub put_header-returns-in_err-begin_header-clause-err : goal.put_header-returns-in_err-begin_header-clause-err
@@ -98,3 +101,14 @@ pub put_each-returns-clause-ok : goal.put_each-returns-clause-ok
 put_each-returns-clause-ok g t c =
     added_as g.S.Sink.adds _ _ _ _ (signatures_flat c.args.signatures.now)
     (parts_added signature_item g.S.Sink.adds _ _ [] c.args.signatures.now c.signatures.signature-index (omega arith) c.signatures.invariant)
+
+pub put_each-put_signature-requires : goal.put_each-put_signature-requires
+put_each-put_signature-requires g t c κs within =
+    let ss = c.args.signatures.now in
+    let i = c.signatures.signature-index in
+    let is = c.signature-item.is in
+    let size = ap size-CoseSignature is in
+    let below = at_most size-CoseSignature ss i c.signature-item.result c.signatures-test.true in (
+      omega (arith, c.decreases, size, below),
+      (search rules, (search rules, subst (λ z. SignatureReceived (signature_view z)) (sym is) (received_at ss i _ c.signatures-test.true c.requires))),
+    )

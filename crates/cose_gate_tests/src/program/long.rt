@@ -1,0 +1,54 @@
+//! Output and records of many times what a first allocation holds.
+use crate::messages::{KEYS, MESSAGE, TAGGED};
+use cose_gate_buffers::{Choice, ask, check};
+use std::alloc::Global;
+use std::process::Abort;
+
+/// How many messages there are.
+const COUNT: usize = 2000;
+
+const CHOICE: Choice = Choice {
+    nesting: 256,
+    layers: 16,
+    strict: false,
+};
+
+/// A message, so many times.
+fn many(rt: &impl Abort, alloc: Global, message: &[u8]) -> Vec<u8> {
+    let mut all = Vec::new(alloc);
+    for _ in 0..COUNT {
+        all.extend_from_slice(message).expect(rt, "memory");
+    }
+    all
+}
+
+/// The status and the length of the output. It has no clause, so that its caller carries none.
+fn checked(alloc: Global, input: &[u8], out: &mut [u8]) -> (u32, usize) {
+    let answer = check(alloc, CHOICE, KEYS, &[1], input, out, &mut []);
+    (answer.status, answer.length)
+}
+
+/// The status and the length of the records.
+fn asked(alloc: Global, input: &[u8], questions: &mut [u8]) -> (u32, usize) {
+    let answer = ask(alloc, CHOICE, &[], input, questions, &mut []);
+    (answer.status, answer.length)
+}
+
+#[test]
+fn a_long_output_is_written(rt: HostRuntime) {
+    let input = many(&rt, rt.alloc(), TAGGED);
+    let mut out = Vec::from_elem(rt.alloc(), 0, input.len()).expect(&rt, "memory");
+    let answer = checked(rt.alloc(), &input, out.as_mut_slice());
+    assert_eq!(rt; answer, (0, input.len()));
+    assert!(rt; out == input);
+}
+
+/// A record of `MESSAGE` has 100 bytes.
+#[test]
+fn long_records_are_told(rt: HostRuntime) {
+    let input = many(&rt, rt.alloc(), MESSAGE);
+    let mut questions = Vec::from_elem(rt.alloc(), 0, 200000).expect(&rt, "memory");
+    let answer = asked(rt.alloc(), &input, questions.as_mut_slice());
+    assert_eq!(rt; answer, (0, 200000));
+    assert!(rt; questions[..100] == questions[199900..]);
+}

@@ -1,0 +1,202 @@
+#!/usr/bin/env bash
+# after-ci.sh [STEP..]: looks at what no contract sees, over the proved programs, tests and libraries that `rt ci` left in out/. .ci/run calls
+# it. The steps, or these alone, run side by side:
+#   stack     small-stack.sh: the messages that take most stack
+#   heap      capped.sh: memory that is held
+#   refused   fail-alloc.sh: each allocation refused
+#   library   c-library.sh: the archive, its examples in C and Python, what it gives against the program, memory. `stack` waits for it, and
+#             looks at its calls too
+#   users     the rows below: the programs as a user runs them
+# It says how long each took, what is left out for want of a tool, and of what fails how to run it by hand; status 1 if a step fails.
+# CRATES is another folder of crates with such out/.
+set -u
+ulimit -c 0
+top=$(cd "$(dirname "$(readlink -f "${BASH_SOURCE[0]}")")/.." && pwd)
+export CRATES=${CRATES:-$top/crates}
+folder=$(mktemp -d) && trap 'rm -rf "$folder"' EXIT || exit 2
+chmod 711 "$folder"
+export T=$folder/users nobody=
+[ "$(id -u)" != 0 ] || nobody="setpriv --reuid=65534 --regid=65534 --clear-groups"
+
+# The rows: the exit status, the file that the output equals, the last line of standard error, and a command, which runs in examples/. An empty
+# field isn't compared. $T is a folder of its own, and what is written to 4 goes into a pipe that nobody reads.
+rows() {
+  cat <<'END'
+# help, arguments, files
+0|||cose-gate --help | cmp - <(../cose-gate --help) && cose-gate -h | cmp - <(../cose-gate --help)
+0|||cose-ask --help | cmp - <(../cose-ask --help) && cose-ask -h | cmp - <(../cose-ask --help)
+0|||cose-pass --help | cmp - <(../cose-pass --help) && cose-pass -h | cmp - <(../cose-pass --help)
+0|||cose-show --json --help | cmp - <(../cose-show --help) && cose-show -h | cmp - <(../cose-show --help)
+2|/dev/null|usage: cose-gate KEYS [AADHEX]|cose-gate --strict
+2|/dev/null|usage: cose-gate KEYS [AADHEX]|cose-gate keys.cbor 01 02 < one.cbor
+2|/dev/null|usage: cose-gate KEYS [AADHEX]|cose-gate keys.cbor $'\xff' < one.cbor
+2|/dev/null|usage: cose-gate KEYS [AADHEX]|../cose-gate --strikt keys.cbor
+2|/dev/null|usage: cose-ask [--strict] [--lines] [AADHEX]|cose-ask --strikt < one.cbor
+2|/dev/null|usage: cose-ask [--strict] [--lines] [AADHEX]|cose-ask 01 02 < one.cbor
+2|/dev/null|usage: cose-ask [--strict] [--lines] [AADHEX]|cose-ask $'\xff' < one.cbor
+2|/dev/null|usage: cose-ask [--strict] [--lines] [AADHEX]|../cose-ask --strikt
+2|/dev/null|usage: cose-pass [--strict] ACCEPTED [AADHEX]|cose-pass
+2|/dev/null|usage: cose-pass [--strict] ACCEPTED [AADHEX]|cose-pass --strikt /dev/null < one.cbor
+2|/dev/null|usage: cose-pass [--strict] ACCEPTED [AADHEX]|cose-pass /dev/null $'\xff' < one.cbor
+2|/dev/null|usage: cose-pass [--strict] ACCEPTED [AADHEX]|../cose-pass
+2|/dev/null|       cose-show --cut SIZE DIR [FILE]|cose-show --strikt < one.cbor
+2|/dev/null|       cose-show --cut SIZE DIR [FILE]|cose-show $'\xff'
+2|/dev/null|       cose-show --cut SIZE DIR [FILE]|../cose-show --strikt
+2|/dev/null|aad: not hex|cose-gate keys.cbor 0 < one.cbor
+2|/dev/null|aad: not hex|cose-ask 0 < one.cbor
+2|/dev/null|aad: not hex|cose-pass /dev/null 0 < one.cbor
+2|/dev/null|cose-show: the external data is not hex|cose-show --aad 0 one.cbor
+3|/dev/null|keys: cannot be read|cose-gate nosuch 01 < one.cbor
+3|/dev/null|  nosuch: no such file|cose-gate --verbose nosuch 01 < one.cbor
+3|/dev/null|  nosuch: no such file|../cose-gate nosuch 01
+3|/dev/null|  .: a folder|cose-gate --verbose . 01 < one.cbor
+3|/dev/null|  $T/unreadable: no permission|$nobody cose-gate --verbose $T/unreadable 01 < one.cbor
+3|/dev/null|keys: got tag, expected array|cose-gate one.cbor 01 < one.cbor
+3|/dev/null|accepted: cannot be read|cose-pass nosuch 01 < one.cbor
+3|/dev/null|accepted: cannot be read|$nobody cose-pass $T/unreadable 01 < one.cbor
+3|/dev/null|  nosuch: no such file|../cose-pass nosuch 01
+3|/dev/null|accepted: no records|cose-pass <(printf '\1\0\0\0\0\0\0\0') 01 < one.cbor
+3|/dev/null|accepted: line 1: not hex|cose-pass one.cbor 01 < one.cbor
+3|/dev/null|accepted: line 2: no record|cose-pass <(printf '\n00\n') 01 < one.cbor
+3|/dev/null|cose-show: the file can't be opened|cose-show nosuch
+3|/dev/null|cose-show: the file can't be opened|$nobody cose-show $T/unreadable
+3|/dev/null|  nosuch: no such file|../cose-show nosuch
+3|/dev/null|cose-show: KEYS can't be read|cose-show --keys nosuch one.cbor
+# what passes, with each option
+0|one.cbor|passed 1, refused 0|cose-gate --strict keys.cbor 01 < one.cbor
+1|/dev/null|passed 0, refused 1|cose-gate keys.cbor < one.cbor
+1|../crates/cose_gate_cli/stdout|passed 4, refused 5|cose-gate --verbose keys.cbor 01 < mixed.cbor
+1|$T/strict|passed 2, refused 7|cose-gate --strict keys.cbor 01 < mixed.cbor
+1||passed 6, refused 3|cose-ask 01 < mixed.cbor > $T/records
+1||passed 4, refused 5|cose-ask --strict --lines 01 < mixed.cbor > $T/lines
+1||passed 6, refused 3|cose-pass $T/records 01 < mixed.cbor > $T/passed
+1|$T/passed|passed 6, refused 3|cose-pass <(cose-ask --lines 01 < mixed.cbor 2> /dev/null) 01 < mixed.cbor
+1||passed 4, refused 5|cose-pass --strict $T/records 01 < mixed.cbor > $T/passed.strict
+1|$T/passed.strict|passed 4, refused 5|cose-pass --strict $T/lines 01 < mixed.cbor
+1|/dev/null|passed 0, refused 1|cose-pass $T/records < one.cbor
+1|/dev/null|passed 0, refused 1|cose-pass /dev/null 01 < one.cbor
+0|||cose-show one.cbor < /dev/null | cmp - <(cose-show < one.cbor)
+0|||cose-show --keys keys.cbor --aad 01 one.cbor | grep -qx '  judge: yes'
+0|||! cose-show keys.cbor | grep -q 0001020304 && cose-show --secrets keys.cbor | grep -q 0001020304
+# more than a block of 64 KiB
+0|$T/many|passed 2000, refused 0|cose-gate keys.cbor 01 < $T/many
+0||passed 2000, refused 0|cose-ask --lines 01 < $T/many > $T/lines
+0|$T/many|passed 2000, refused 0|cose-pass $T/lines 01 < $T/many
+0||passed 2000, refused 0|cose-ask 01 < $T/many > $T/records
+0|$T/many|passed 2000, refused 0|cose-pass $T/records 01 < $T/many
+0|||[ "$(cose-show --json $T/many | wc -l)" = 2000 ]
+# what stops a run
+4|one.cbor|stopped: decode: Io(EndOfFile)|cose-gate keys.cbor 01 < cut.cbor
+4|one.cbor|  nothing after it is judged; cose-show --cut 1 DIR writes each item to its own file|cose-gate --verbose keys.cbor 01 < cut.cbor
+0||passed 1, refused 0|cose-ask 01 < one.cbor > $T/one.records
+4|$T/one.records|stopped: decode: Io(EndOfFile)|cose-ask 01 < cut.cbor
+4|one.cbor|stopped: decode: Io(EndOfFile)|cose-pass $T/one.records 01 < cut.cbor
+4||cose-show: damaged at 50: the input ends inside an item|cose-show cut.cbor
+4|/dev/null|stopped: decode: Io|cose-gate keys.cbor 01 < .
+4|/dev/null|stopped: decode: Io|cose-ask 01 < .
+4|/dev/null|stopped: decode: Io|cose-pass $T/one.records 01 < .
+4|/dev/null|cose-show: the input can't be read|cose-show .
+# a full disk, and a pipe that nobody reads
+4||stopped: write|cose-gate keys.cbor 01 < one.cbor > /dev/full
+4||stopped: write|cose-gate keys.cbor 01 < $T/many > /dev/full
+4||stopped: write|cose-ask 01 < one.cbor > /dev/full
+4||stopped: write|cose-ask --lines 01 < one.cbor > /dev/full
+4||stopped: write|cose-pass $T/one.records 01 < one.cbor > /dev/full
+4||cose-show: the output can't be written|cose-show one.cbor > /dev/full
+4||stopped: write|cose-gate keys.cbor 01 < one.cbor >&4
+4||stopped: write|cose-ask 01 < one.cbor >&4
+4||stopped: write|cose-pass $T/one.records 01 < one.cbor >&4
+4||cose-show: the output can't be written|cose-show one.cbor >&4
+4|||cose-gate --help > /dev/full
+4|||cose-ask --help > /dev/full
+4|||cose-pass --help > /dev/full
+4|||cose-show --help > /dev/full
+0|one.cbor||cose-gate keys.cbor 01 < one.cbor 2> /dev/full
+0|$T/one.records||cose-ask 01 < one.cbor 2> /dev/full
+0|one.cbor||cose-pass $T/one.records 01 < one.cbor 2> /dev/full
+0|one.cbor||cose-gate keys.cbor 01 < one.cbor 2>&4
+4|one.cbor||cose-gate keys.cbor 01 < cut.cbor 2> /dev/full
+4|||cose-show cut.cbor 2> /dev/full
+# files of whole items
+0|mixed.cbor||cose-show --cut 1 $T/cut mixed.cbor && [ "$(ls $T/cut | wc -l)" = 9 ] && cmp -n 48 $T/cut/000001.cbor one.cbor && cat $T/cut/*
+4||cose-show: DIR has a file of that name already, which is left as it is|cose-show --cut 1 $T/cut one.cbor
+0|mixed.cbor||cat $T/cut/*
+4|/dev/null|cose-show: the folder DIR can't be made|cose-show --cut 1 one.cbor mixed.cbor
+4|/dev/null|cose-show: a file in DIR can't be made or written|trap '' XFSZ; ulimit -f 1; cose-show --cut 100000 $T/full $T/many
+1|||COSE_GATE=$T/bin/cose-gate COSE_SHOW=$T/bin/cose-show ./many.sh -x -s 100 -c keys.cbor 01 mixed.cbor $T/joined $T/said
+# a live pipe: nothing yet
+END
+  if (command -v openssl && command -v xxd && python3 -c 'import cryptography') > /dev/null 2>&1; then
+    echo '0|||ASK=cose-ask PASS=cose-pass bash signatures/run.sh sh'
+  else
+    echo 'after-ci.sh: no openssl, xxd or python3-cryptography, so examples/signatures is left out' >&2
+  fi
+}
+
+# Goes through the rows with the programs of a compiler, whose names end so.
+go_through() {
+  local status output last command found line
+  rm -rf "$T" && mkdir -p "$T/bin" && mkfifo "$T/pipe" && exec 3<> "$T/pipe" 4> "$T/pipe" 3>&- || return
+  for it in gate:cose_gate_cli ask:cose_ask_cli pass:cose_pass_cli show:cose_show; do
+    install "$CRATES/${it#*:}/out/${it#*:}$1" "$T/bin/cose-${it%%:*}" || return
+  done
+  touch "$T/unreadable" && chmod 0 "$T/unreadable"
+  { head -c 48 mixed.cbor && tail -c 44 mixed.cbor; } > "$T/strict"
+  for _ in {1..2000}; do cat one.cbor; done > "$T/many"
+  while IFS='|' read -r status output last command; do
+    [ -n "$command" ] || continue
+    found=0
+    PATH=$T/bin:$PATH timeout 60 bash -o pipefail -c "$command" > "$T/out" 2> "$T/err" < /dev/null || found=$?
+    line=${last:+$(tail -n 1 "$T/err")} last=${last//\$T/$T}
+    count=$((count + 1))
+    [ "$found" = "$status" ] && [ "$line" = "$last" ] && { [ -z "$output" ] || cmp -s "$T/out" "${output//\$T/$T}"; } && continue
+    echo "after-ci.sh: status $found, to be $status${last:+; last line \`$line\`, to be \`$last\`}${output:+; output of $(wc -c < "$T/out") bytes, to be $output}:" \
+      "in examples/, cose-X being cose_X_cli$1 (cose_show$1): $command"
+    bad=1
+  done < <(rows)
+  exec 4>&-
+}
+
+users() {
+  local bad=0 count=0
+  cd "$top/examples" && go_through "" && go_through .by-rattle && [ $bad = 0 ] && echo "$count rows"
+}
+stack() { bash "$top/scripts/small-stack.sh"; }
+heap() {
+  local it programs=()
+  for it in bench cose_gate_cli example_token cose_ask_cli cose_pass_cli cose_show; do programs+=("$CRATES/$it/out/$it"); done
+  sh "$top/scripts/capped.sh" "${programs[@]}"
+}
+refused() { bash "$top/scripts/fail-alloc.sh"; }
+library() { bash "$top/scripts/c-library.sh" left c python compare memory; }
+
+# Runs a step, and says what became of it.
+step() {
+  local from=$SECONDS status=0
+  "$1" > "$folder/$1.log" 2>&1 || status=1
+  if [ $status = 0 ]; then
+    grep 'left out' "$folder/$1.log" | sort -u
+    echo "after-ci.sh: $1: $(tail -n 1 "$folder/$1.log"), $((SECONDS - from)) s"
+  else
+    head -n 20 "$folder/$1.log"
+    tail -n +21 "$folder/$1.log" | tail -n 20
+    echo "after-ci.sh: $1 FAILED; by hand: bash scripts/after-ci.sh $1"
+  fi
+  return $status
+}
+
+[ $# -gt 0 ] || set -- stack heap refused library users
+for name; do
+  case $name in stack | heap | refused | library | users) ;; *) echo "after-ci.sh: no such step: $name" >&2 && exit 2 ;; esac
+done
+bad=0 running=
+for name; do
+  [ "$name" = stack ] && continue
+  step "$name" &
+  running="$running $!"
+done
+for it in $running; do
+  wait "$it" || bad=1
+done
+[[ " $* " != *" stack "* ]] || step stack || bad=1
+exit $bad
