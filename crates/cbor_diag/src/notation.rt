@@ -368,7 +368,7 @@ impl<'h, 'a, W: fmt::Write> Notation<'h, 'a, W> {
         let on_one_line = !self.style.lines
             || self.flat > 0
             || self.indent >= DEEP
-            || is_short(self.alloc, rest);
+            || is_short(self.alloc, rest)?;
         let wide = head.wide();
         if is_open {
             self.out.write_str("_")?;
@@ -460,10 +460,14 @@ fn body_of(bytes: &[u8], step: Step, size: usize) -> &[u8] {
 }
 
 /// Whether the item that the bytes begin with is short.
-fn is_short(alloc: Global, bytes: &[u8]) -> bool {
+fn is_short(alloc: Global, bytes: &[u8]) -> Result<bool, NotWritten> {
     let front = bytes.get(..SHORT).unwrap_or(bytes);
     let mut walk = Walk::new(alloc);
-    walk.advance(front).is_ok()
+    match walk.advance(front) {
+        Ok(_) => Ok(true),
+        Err(fault) if fault.why == Why::Memory => Err(NotWritten::Memory),
+        Err(_) => Ok(false),
+    }
 }
 
 /// The number of a bignum's bytes (RFC 8949, section 3.4.3): tag 2 or 3 around a byte string of

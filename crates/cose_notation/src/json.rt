@@ -98,6 +98,8 @@ pub fn write_notation<P: fmt::Write>(
 ) -> Result<(), NotWritten> {
     page.write_str("\"")?;
     let written = write_shown(alloc, look, Style::line(), item, 0, &mut Quoted { page });
-    page.write_str("\"")?;
+    if matches!(written, Ok(()) | Err(NotWritten::Fault(_))) {
+        page.write_str("\"")?;
+    }
     written
 }
