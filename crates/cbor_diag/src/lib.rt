@@ -12,7 +12,7 @@ mod notation;
 mod walk;
 
 pub use crate::ends::Ends;
-pub use crate::escape::write_text;
+pub use crate::escape::{write_char, write_text};
 pub use crate::excess::{Excess, first_excess};
 pub use crate::float::whole_part;
 pub use crate::head::{Head, HeadFault, head_of};
