@@ -46,12 +46,16 @@ fn is_unseen(c: char) -> bool {
 pub fn write_text<W: fmt::Write>(text: &str, ascii: bool, out: &mut W) -> fmt::Result {
     out.write_str("\"")?;
     for c in text.chars() {
-        write_escaped(c, ascii, out)?;
+        write_char(c, ascii, out)?;
     }
     out.write_str("\"")
 }
 
-fn write_escaped<W: fmt::Write>(c: char, ascii: bool, out: &mut W) -> fmt::Result {
+/// Writes a character as `write_text` does.
+///
+/// # Errors
+/// Those of the writer.
+pub fn write_char<W: fmt::Write>(c: char, ascii: bool, out: &mut W) -> fmt::Result {
     match c {
         '"' => out.write_str("\\\""),
         '\\' => out.write_str("\\\\"),

@@ -21,6 +21,8 @@ pub enum Excess {
     Undefined,
     /// A bignum whose number has a shorter encoding.
     Bignum,
+    /// A bignum whose string is of open length.
+    OpenBignum,
 }
 
 impl fmt::Display for Excess {
@@ -32,6 +34,7 @@ impl fmt::Display for Excess {
             Excess::OpenMap => "an open map",
             Excess::Undefined => "undefined in place of null",
             Excess::Bignum => "a bignum with a shorter text",
+            Excess::OpenBignum => "a bignum in an indefinite-length string",
         })
     }
 }
@@ -75,8 +78,20 @@ fn excess_of(step: Step, bytes: &[u8]) -> Option<Excess> {
         Header::Array(None) => Some(Excess::OpenArray),
         Header::Map(None) => Some(Excess::OpenMap),
         Header::Simple(23) => Some(Excess::Undefined),
-        Header::Tag(2..=3) if folds(content(step, bytes)) => Some(Excess::Bignum),
+        Header::Tag(2..=3) => bignum_excess(content(step, bytes)),
         _ => None,
+    }
+}
+
+/// What keeps a tag 2 or 3 with this content from being as short as it can be.
+fn bignum_excess(content: &[u8]) -> Option<Excess> {
+    if content.first() == Some(&0x5f) {
+        return Some(Excess::OpenBignum);
+    }
+    if folds(content) {
+        Some(Excess::Bignum)
+    } else {
+        None
     }
 }
 

@@ -12,9 +12,11 @@ mod notation;
 mod walk;
 
 pub use crate::ends::Ends;
-pub use crate::escape::write_text;
+pub use crate::escape::{write_char, write_text};
 pub use crate::excess::{Excess, first_excess};
 pub use crate::float::whole_part;
 pub use crate::head::{Head, HeadFault, head_of};
-pub use crate::notation::{CUT, NotWritten, Style, front_text, write_hex, write_item};
+pub use crate::notation::{
+    CUT, NotWritten, Style, front_text, write_hex, write_item, write_item_without,
+};
 pub use crate::walk::{Event, Fault, LevelKind, Place, Step, Walk, Why, item_len};

@@ -2,9 +2,9 @@
 use crate::escape::write_text;
 use crate::float;
 use crate::head::{Head, head_of};
-use crate::walk::{Event, Fault, LevelKind, Place, Step, Walk};
+use crate::walk::{Event, Fault, LevelKind, Place, Step, Walk, Why};
 use ciborium_ll::Header;
-use std::alloc::{AllocError, Global};
+use std::alloc::{AllocError, AllocFailed, Global};
 use std::fmt;
 
 /// An array or a map whose encoding is at most so long is written on one line.
@@ -93,6 +93,15 @@ pub enum NotWritten {
     Memory,
 }
 
+impl From<Fault> for NotWritten {
+    fn from(fault: Fault) -> NotWritten {
+        match fault.why {
+            Why::Memory => NotWritten::Memory,
+            _ => NotWritten::Fault(fault),
+        }
+    }
+}
+
 impl From<fmt::Error> for NotWritten {
     fn from(_: fmt::Error) -> NotWritten {
         NotWritten::Output
@@ -105,12 +114,22 @@ impl From<AllocError> for NotWritten {
     }
 }
 
+impl<T: Drop> From<AllocFailed<T>> for NotWritten {
+    fn from(_: AllocFailed<T>) -> NotWritten {
+        NotWritten::Memory
+    }
+}
+
 /// The notation as it is written.
 #[derive(Drop)]
-struct Notation<'a, W> {
+struct Notation<'h, 'a, W> {
     alloc: Global,
     out: &'a mut W,
     style: Style,
+    /// Where items are to come that aren't shown.
+    hidden: &'h [usize],
+    /// How many levels are open in one that isn't shown.
+    unseen: usize,
     /// How many levels are written on several lines.
     indent: usize,
     /// How many levels are open since one began that is written on one line.
@@ -132,20 +151,35 @@ pub fn write_item<W: fmt::Write>(
     indent: usize,
     out: &mut W,
 ) -> Result<usize, NotWritten> {
+    write_item_without(alloc, bytes, &[], style, indent, out)
+}
+
+/// The same with `...` in place of the items that begin at these places, which rise.
+///
+/// # Errors
+/// Those of `write_item`.
+pub fn write_item_without<W: fmt::Write>(
+    alloc: Global,
+    bytes: &[u8],
+    hidden: &[usize],
+    style: Style,
+    indent: usize,
+    out: &mut W,
+) -> Result<usize, NotWritten> {
     let mut walk = Walk::new(alloc);
     let mut notation = Notation {
         alloc,
         out,
         style,
+        hidden,
+        unseen: 0,
         indent,
         flat: 0,
         shown: 0,
     };
     for _ in 0..u64::MAX {
-        match walk.step(bytes) {
-            Ok(step) => notation.tell(bytes, step)?,
-            Err(fault) => return Err(NotWritten::Fault(fault)),
-        }
+        let step = walk.step(bytes)?;
+        notation.tell(bytes, step)?;
         if walk.is_done() {
             break;
         }
@@ -153,11 +187,15 @@ pub fn write_item<W: fmt::Write>(
     Ok(walk.at())
 }
 
-impl<'a, W: fmt::Write> Notation<'a, W> {
+impl<'h, 'a, W: fmt::Write> Notation<'h, 'a, W> {
     /// Writes one step.
     fn tell(&mut self, bytes: &[u8], step: Step) -> Result<(), NotWritten> {
         if self.shown > 0 {
             self.shown = self.shown.saturating_sub(1);
+            return Ok(());
+        }
+        if self.unseen > 0 || self.hides(step) {
+            self.leave_out(step)?;
             return Ok(());
         }
         match step.event {
@@ -174,6 +212,34 @@ impl<'a, W: fmt::Write> Notation<'a, W> {
                 self.part(step.place)?;
                 self.begin(head_at(header, step), behind(bytes, step.at))?;
             }
+        }
+        Ok(())
+    }
+
+    /// Whether an item that isn't shown begins with this step.
+    fn hides(&mut self, step: Step) -> bool {
+        if matches!(step.event, Event::End(_)) {
+            return false;
+        }
+        for _ in 0..self.hidden.len() {
+            match self.hidden {
+                [first, rest @ ..] if *first < step.at => self.hidden = rest,
+                _ => break,
+            }
+        }
+        self.hidden.first() == Some(&step.at)
+    }
+
+    /// Goes over a step of an item that isn't shown.
+    fn leave_out(&mut self, step: Step) -> fmt::Result {
+        if self.unseen == 0 {
+            self.part(step.place)?;
+            self.out.write_str("...")?;
+        }
+        match step.event {
+            Event::Begin(_) => self.unseen = self.unseen.saturating_add(1),
+            Event::End(_) => self.unseen = self.unseen.saturating_sub(1),
+            _ => {}
         }
         Ok(())
     }
@@ -279,23 +345,30 @@ impl<'a, W: fmt::Write> Notation<'a, W> {
     }
 
     /// What begins an item with parts.
-    fn begin(&mut self, head: Head, rest: &[u8]) -> fmt::Result {
+    fn begin(&mut self, head: Head, rest: &[u8]) -> Result<(), NotWritten> {
         match head.header {
-            Header::Array(len) => self.begin_level("[", len.is_none(), head, rest),
-            Header::Map(len) => self.begin_level("{", len.is_none(), head, rest),
-            Header::Tag(number) => self.begin_tag(number, head, rest),
-            Header::Bytes(_) => self.begin_string("''_", rest),
-            Header::Text(_) => self.begin_string("\"\"_", rest),
-            _ => Ok(()),
+            Header::Array(len) => self.begin_level("[", len.is_none(), head, rest)?,
+            Header::Map(len) => self.begin_level("{", len.is_none(), head, rest)?,
+            Header::Tag(number) => self.begin_tag(number, head, rest)?,
+            Header::Bytes(_) => self.begin_string("''_", rest)?,
+            Header::Text(_) => self.begin_string("\"\"_", rest)?,
+            _ => {}
         }
+        Ok(())
     }
 
-    fn begin_level(&mut self, mark: &str, is_open: bool, head: Head, rest: &[u8]) -> fmt::Result {
+    fn begin_level(
+        &mut self,
+        mark: &str,
+        is_open: bool,
+        head: Head,
+        rest: &[u8],
+    ) -> Result<(), NotWritten> {
         self.out.write_str(mark)?;
         let on_one_line = !self.style.lines
             || self.flat > 0
             || self.indent >= DEEP
-            || is_short(self.alloc, rest);
+            || is_short(self.alloc, rest)?;
         let wide = head.wide();
         if is_open {
             self.out.write_str("_")?;
@@ -387,10 +460,14 @@ fn body_of(bytes: &[u8], step: Step, size: usize) -> &[u8] {
 }
 
 /// Whether the item that the bytes begin with is short.
-fn is_short(alloc: Global, bytes: &[u8]) -> bool {
+fn is_short(alloc: Global, bytes: &[u8]) -> Result<bool, NotWritten> {
     let front = bytes.get(..SHORT).unwrap_or(bytes);
     let mut walk = Walk::new(alloc);
-    walk.advance(front).is_ok()
+    match walk.advance(front) {
+        Ok(_) => Ok(true),
+        Err(fault) if fault.why == Why::Memory => Err(NotWritten::Memory),
+        Err(_) => Ok(false),
+    }
 }
 
 /// The number of a bignum's bytes (RFC 8949, section 3.4.3): tag 2 or 3 around a byte string of

@@ -2,7 +2,7 @@
 //! canonical encoding in it, and where items end.
 use crate::out::{CallError, Out};
 use cbor_diag::{Ends, Fault, NotWritten, Style, first_excess, write_item};
-use cose_notation::write_message;
+use cose_notation::{Look, write_message};
 
 /// The notation of an item from its heads. Of damaged bytes what is in front of the fault, and the
 /// fault.
@@ -27,9 +27,14 @@ fn note_fault(to: &mut Out, fault: Fault) {
     to.show(&fault.at);
 }
 
-/// The members of a message, as a JSON object has them. `-` of any other item.
+/// The members of a message, as a JSON object has them, without secrets of keys. `-` of any other
+/// item.
 pub fn members(to: &mut Out, bytes: &[u8]) {
-    if write_message(to.alloc(), bytes, to).is_err() {
+    let look = Look {
+        full: true,
+        secrets: false,
+    };
+    if write_message(to.alloc(), look, bytes, to).is_err() {
         to.refuse(CallError::Memory);
     }
     if to.is_empty() {

@@ -50,8 +50,10 @@ impl<'a> Reasons<'a> {
             let note = &mut *guard;
             note.reason.clear();
             note.is_of_signer = about.signer.is_some();
-            if let Ok(Some(secret)) = begun(&self.book, about, &mut note.reason) {
-                self.mac = Some(HmacSha256::new(secret));
+            match begun(&self.book, about, &mut note.reason) {
+                Ok(Some(secret)) => self.mac = Some(HmacSha256::new(secret)),
+                Ok(None) => {}
+                Err(_) => note.reason.clear(),
             }
         }
     }
@@ -68,7 +70,9 @@ impl<'a> Reasons<'a> {
             if let Ok(mut guard) = self.note.try_borrow_mut() {
                 let note = &mut *guard;
                 let whole = mac.finalize();
-                let _ = write_wrong_tag(&whole, tag, self.aad_len, &mut note.reason);
+                if write_wrong_tag(&whole, tag, self.aad_len, &mut note.reason).is_err() {
+                    note.reason.clear();
+                }
             }
         }
     }

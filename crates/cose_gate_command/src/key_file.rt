@@ -1,8 +1,7 @@
 //! What is said of KEYS.
 use cose_gate_program::NotBegun;
-use cose_show_core::{Stop, read_keys};
+use cose_show_core::{Stop, read_keys, write_char};
 use coset_labels::CoseError;
-use hex::FromHexError;
 use std::alloc::Global;
 use std::fmt;
 
@@ -27,32 +26,39 @@ pub(crate) fn say_not_begun<P: fmt::Write>(
 ) -> fmt::Result {
     match why {
         NotBegun::NoFile => {
-            let (name, fault) = (file.name, file.fault);
-            writeln!(page, "  {name}: {fault}")
+            say_name(file.name, page)?;
+            page.write_str(file.fault)?;
+            page.write_str("\n")
         }
-        NotBegun::NotHex => say_not_hex(alloc, aad.unwrap_or(""), page),
+        NotBegun::NotHex => say_not_hex(aad.unwrap_or(""), page),
         NotBegun::NoKeys(_) => {
-            let (name, bytes) = (file.name, file.bytes.unwrap_or(&[]));
-            write!(page, "  {name}: ")?;
-            say_no_keys(alloc, bytes, page)
+            say_name(file.name, page)?;
+            say_no_keys(alloc, file.bytes.unwrap_or(&[]), page)
         }
         NotBegun::Memory => Ok(()),
     }
 }
 
-/// Why a string isn't bytes in hex.
-fn say_not_hex<P: fmt::Write>(alloc: Global, text: &str, page: &mut P) -> fmt::Result {
-    match hex::decode(alloc, text) {
-        Err(FromHexError::OddLength) => page.write_str("  AADHEX: an odd number of digits\n"),
-        Err(FromHexError::InvalidHexCharacter { c, index }) => {
-            let place = index.saturating_add(1);
-            writeln!(
-                page,
-                "  AADHEX: character {place}, {c:?}, isn't a hex digit"
-            )
-        }
-        _ => Ok(()),
+/// The name of a file, escaped, so that it can't steer a terminal or look like another line.
+fn say_name<P: fmt::Write>(name: &str, page: &mut P) -> fmt::Result {
+    page.write_str("  ")?;
+    for c in name.chars() {
+        write_char(c, false, page)?;
     }
+    page.write_str(": ")
+}
+
+/// Why a string isn't bytes in hex: its first character that is no digit, or how many it has.
+fn say_not_hex<P: fmt::Write>(text: &str, page: &mut P) -> fmt::Result {
+    for (index, c) in text.chars().enumerate() {
+        if !c.is_ascii_hexdigit() {
+            let place = index.saturating_add(1);
+            write!(page, "  AADHEX: character {place}, '")?;
+            write_char(c, false, page)?;
+            return page.write_str("', isn't a hex digit\n");
+        }
+    }
+    page.write_str("  AADHEX: an odd number of digits\n")
 }
 
 /// What bytes are that aren't a key set, and what KEYS has to be.

@@ -1,10 +1,12 @@
 //! Headers and claims, with their registered names.
-use crate::line::{begin_line, write_len, write_string};
+use crate::key_labels::{KeyPart, key_label};
+use crate::line::{begin_line, write_len, write_not_shown, write_shown, write_string};
 use crate::look::Look;
 use crate::names::{algorithm, claim, content_format, parameter};
-use crate::parts::{Members, entries, integer, is_bytes, joined};
+use crate::parts::{Members, entries, integer, is_bytes, is_one_item, joined};
+use crate::secrets::{KeyMap, is_open, key_in};
 use crate::time::claim_time;
-use cbor_diag::{NotWritten, item_len, write_item};
+use cbor_diag::NotWritten;
 use std::alloc::Global;
 use std::fmt;
 
@@ -15,6 +17,51 @@ pub enum Labels {
     Headers,
     /// Those of claims.
     Claims,
+}
+
+/// A map of headers or claims, and the key that it may be.
+#[derive(Debug, Clone, Copy, PartialEq, Eq)]
+pub struct Scope {
+    /// What its labels are.
+    pub labels: Labels,
+    /// The key that it may be, unless secrets are shown.
+    key: Option<KeyMap>,
+}
+
+impl Scope {
+    /// That of this map.
+    ///
+    /// # Errors
+    /// `Memory`.
+    pub fn of(alloc: Global, look: Look, labels: Labels, map: &[u8]) -> Result<Scope, NotWritten> {
+        let key = if look.secrets {
+            None
+        } else {
+            key_in(alloc, map)?
+        };
+        Ok(Scope { labels, key })
+    }
+
+    /// Whether a value isn't shown. Label 1 of a header is the algorithm, so there it is only what
+    /// the registry has as a secret of the type of keys with that number.
+    ///
+    /// # Errors
+    /// `Memory`.
+    pub fn hides(
+        self,
+        alloc: Global,
+        label: Option<i64>,
+        value: &[u8],
+    ) -> Result<bool, NotWritten> {
+        let Some(key) = self.key else {
+            return Ok(false);
+        };
+        let known = key_label(key.kty, label);
+        match self.labels {
+            Labels::Headers => Ok(known.name.is_some() && known.part == KeyPart::Secret),
+            Labels::Claims => Ok(!is_open(alloc, known.part, value)?),
+        }
+    }
 }
 
 /// Shows a protected header: a byte string around a map, or an empty one (RFC 9052, section 3).
@@ -31,7 +78,7 @@ pub fn show_protected<P: fmt::Write>(
     if !is_bytes(item) {
         begin_line(level, page)?;
         page.write_str("protected, not bytes: ")?;
-        write_item(alloc, item, look.lines(), level, page)?;
+        write_shown(alloc, look, look.lines(), item, level, page)?;
         page.write_str("\n")?;
         return Ok(());
     }
@@ -48,15 +95,14 @@ fn show_protected_bytes<P: fmt::Write>(
 ) -> Result<(), NotWritten> {
     begin_line(level, page)?;
     page.write_str("protected, ")?;
-    if item_len(alloc, bytes) == Ok(bytes.len()) {
+    if is_one_item(alloc, bytes)? {
         write_len(bytes.len(), page)?;
         return show_entries(alloc, look, bytes, level, Labels::Headers, page);
     }
     if !bytes.is_empty() {
         page.write_str("not one item, ")?;
     }
-    write_string(look, bytes, page)?;
-    Ok(())
+    write_string(alloc, look, bytes, page)
 }
 
 /// Shows an unprotected header.
@@ -90,12 +136,13 @@ pub fn show_entries<P: fmt::Write>(
 ) -> Result<(), NotWritten> {
     let Some(mut parts) = entries(alloc, item) else {
         page.write_str(", not a map: ")?;
-        write_item(alloc, item, look.lines(), level, page)?;
+        write_shown(alloc, look, look.lines(), item, level, page)?;
         page.write_str("\n")?;
         return Ok(());
     };
+    let scope = Scope::of(alloc, look, labels, item)?;
     for number in 0..u64::MAX {
-        let shown = show_entry(alloc, look, &mut parts, level, labels, number == 0, page)?;
+        let shown = show_entry(alloc, look, &mut parts, level, scope, number == 0, page)?;
         if !shown {
             if number == 0 {
                 page.write_str(", empty\n")?;
@@ -112,7 +159,7 @@ fn show_entry<P: fmt::Write>(
     look: Look,
     parts: &mut Members<'_>,
     level: usize,
-    labels: Labels,
+    scope: Scope,
     first: bool,
     page: &mut P,
 ) -> Result<bool, NotWritten> {
@@ -127,13 +174,17 @@ fn show_entry<P: fmt::Write>(
     }
     let inner = level.saturating_add(1);
     begin_line(inner, page)?;
-    write_item(alloc, label, look.line(), 0, page)?;
+    write_shown(alloc, look, look.line(), label, 0, page)?;
     let number = integer(label);
-    if let Some(name) = name_of(labels, number) {
+    if let Some(name) = name_of(scope.labels, number) {
         write!(page, " {name}")?;
     }
     page.write_str(": ")?;
-    show_value(alloc, look, labels, number, value, inner, page)?;
+    if scope.hides(alloc, number, value)? {
+        write_not_shown(alloc, value, page)?;
+    } else {
+        show_value(alloc, look, scope.labels, number, value, inner, page)?;
+    }
     page.write_str("\n")?;
     Ok(true)
 }
@@ -160,12 +211,10 @@ fn show_value<P: fmt::Write>(
     match value_name(labels, label, integer(value)) {
         Some(name) => {
             write!(page, "{name} (")?;
-            write_item(alloc, value, look.line(), level, page)?;
+            write_shown(alloc, look, look.line(), value, level, page)?;
             page.write_str(")")?;
         }
-        None => {
-            write_item(alloc, value, look.lines(), level, page)?;
-        }
+        None => write_shown(alloc, look, look.lines(), value, level, page)?,
     }
     if let Some(time) = claim_time(labels, label, value) {
         write!(page, " ({time})")?;

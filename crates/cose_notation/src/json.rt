@@ -1,6 +1,10 @@
 //! Members of JSON objects (RFC 8259). They are written as they come, so that nothing is held
 //! beside the item.
-use cbor_diag::{NotWritten, Style, write_hex, write_item};
+use crate::line::write_shown;
+use crate::look::Look;
+use crate::parts::{is_bytes, joined};
+use crate::secrets::holds_secret;
+use cbor_diag::{NotWritten, Style, write_hex};
 use std::alloc::Global;
 use std::fmt;
 
@@ -45,30 +49,57 @@ pub fn write_word<P: fmt::Write>(name: &str, word: &str, page: &mut P) -> fmt::R
     page.write_str("\"")
 }
 
-/// Writes bytes in hex between quotes.
+/// Writes bytes in hex between quotes, or `...` if they may hold secrets of keys and those aren't
+/// shown.
 ///
 /// # Errors
-/// Those of the writer.
-pub fn write_hex_text<P: fmt::Write>(bytes: &[u8], page: &mut P) -> fmt::Result {
+/// `Output` and `Memory`.
+pub fn write_hex_text<P: fmt::Write>(
+    alloc: Global,
+    look: Look,
+    bytes: &[u8],
+    page: &mut P,
+) -> Result<(), NotWritten> {
     page.write_str("\"")?;
-    write_hex(bytes, page)?;
-    page.write_str("\"")
+    if !look.secrets && holds_secret(alloc, bytes)? {
+        page.write_str("...")?;
+    } else {
+        write_hex(bytes, page)?;
+    }
+    page.write_str("\"")?;
+    Ok(())
 }
 
-/// Writes the notation of an item between quotes; of a damaged one what is in front of the fault.
+/// Writes a member with the length of a byte string that isn't shown; nothing of another item.
+///
+/// # Errors
+/// `Output` and `Memory`.
+pub fn write_length<P: fmt::Write>(
+    alloc: Global,
+    item: &[u8],
+    page: &mut P,
+) -> Result<(), NotWritten> {
+    if is_bytes(item) {
+        let len = joined(alloc, item)?.len();
+        write!(page, ",\"length\":{len}")?;
+    }
+    Ok(())
+}
+
+/// Writes the notation of an item between quotes, as `write_shown` does on one line.
 ///
 /// # Errors
 /// `Output` and `Memory`; `Fault` once the text is ended.
 pub fn write_notation<P: fmt::Write>(
     alloc: Global,
+    look: Look,
     item: &[u8],
     page: &mut P,
 ) -> Result<(), NotWritten> {
     page.write_str("\"")?;
-    let written = write_item(alloc, item, Style::line(), 0, &mut Quoted { page });
-    page.write_str("\"")?;
-    match written {
-        Ok(_) => Ok(()),
-        Err(error) => Err(error),
+    let written = write_shown(alloc, look, Style::line(), item, 0, &mut Quoted { page });
+    if matches!(written, Ok(()) | Err(NotWritten::Fault(_))) {
+        page.write_str("\"")?;
     }
+    written
 }

@@ -1,5 +1,7 @@
 //! Labels of keys: their names, and whether their values may be shown.
 use crate::names::key_parameter;
+use crate::parts::{header_of, integer};
+use ciborium_ll::Header;
 use cose_iana::{
     AkpKeyParameter, Ec2KeyParameter, EnumI64, HssLmsKeyParameter, KeyType, OkpKeyParameter,
     RsaKeyParameter, SymmetricKeyParameter, WalnutDsaKeyParameter,
@@ -29,6 +31,46 @@ pub struct KeyLabel {
     pub name: Option<&'static str>,
     /// What its value is.
     pub part: KeyPart,
+}
+
+/// The label of an entry of a map.
+#[derive(Debug, Clone, Copy, PartialEq, Eq)]
+pub enum Label {
+    /// An integer; the lowest one in place of those below it.
+    Number(i64),
+    /// A bignum, which may be an integer in a longer encoding.
+    Bignum,
+    /// Anything else.
+    Other,
+}
+
+impl Label {
+    /// The label that an item is.
+    pub fn of(item: &[u8]) -> Label {
+        match (integer(item), header_of(item)) {
+            (Some(number), _) => Label::Number(number),
+            (None, Some(Header::Negative(_))) => Label::Number(i64::MIN),
+            (None, Some(Header::Tag(2..=3))) => Label::Bignum,
+            _ => Label::Other,
+        }
+    }
+
+    /// Its number, if it is an integer.
+    pub fn number(self) -> Option<i64> {
+        match self {
+            Label::Number(number) => Some(number),
+            _ => None,
+        }
+    }
+
+    /// Whether it may be below 0.
+    pub fn may_be_below_zero(self) -> bool {
+        match self {
+            Label::Number(number) => number < 0,
+            Label::Bignum => true,
+            Label::Other => false,
+        }
+    }
 }
 
 /// A label that has no name. Its value may be a secret.

@@ -1,13 +1,13 @@
 //! Keys and sets of keys (RFC 9052, section 7). What may be a secret is shown by its length alone,
 //! unless secrets are asked for.
 use crate::key_labels::{KeyPart, key_label};
-use crate::line::{begin_line, write_len};
+use crate::line::{begin_line, write_not_shown, write_shown};
 use crate::look::Look;
 use crate::names::{algorithm, curve, key_operation, key_type};
-use crate::parts::{Members, entries, header_of, integer, is_bytes, is_label, items, joined};
-use cbor_diag::{Event, NotWritten, Place, Step, Walk, Why, write_item};
-use ciborium_ll::Header;
-use cose_iana::{EnumI64, KeyType};
+use crate::parts::{Members, entries, integer, is_label, items};
+use crate::secrets::{is_key_set, is_open, key_in, type_in};
+use cbor_diag::NotWritten;
+use cose_iana::KeyType;
 use std::alloc::Global;
 use std::fmt;
 
@@ -30,120 +30,17 @@ impl Keys {
     }
 }
 
-/// Whether an item is a key, or an array with a key in it. A key is told by a type (label 1),
-/// beside which there is a label of its type (below 0), or, if the type is registered, a key id
-/// (label 2).
+/// Whether an item is a key, or an array with a key in it, as `key_in` says.
 ///
 /// # Errors
 /// `Memory`.
 pub fn keys_in(alloc: Global, item: &[u8]) -> Result<Option<Keys>, NotWritten> {
-    if is_key(alloc, item)? {
-        return Ok(Some(Keys::One));
-    }
-    let Some(mut list) = items(alloc, item) else {
-        return Ok(None);
-    };
-    for _ in 0..u64::MAX {
-        match list.next()? {
-            Some(one) if is_key(alloc, one)? => return Ok(Some(Keys::Set)),
-            Some(_) => {}
-            None => break,
-        }
-    }
-    Ok(None)
-}
-
-/// Whether the front of an item may hold secrets of keys: it is an array or a map, and in it a map
-/// has a label below 0. It may also if out of memory for the walk.
-pub fn may_be_keys(alloc: Global, front: &[u8]) -> bool {
-    if !matches!(header_of(front), Some(Header::Array(_) | Header::Map(_))) {
-        return false;
-    }
-    let mut walk = Walk::new(alloc);
-    for _ in 0..u64::MAX {
-        match walk.step(front) {
-            Ok(step) if is_label_below_zero(step) => return true,
-            Ok(_) => {}
-            Err(fault) => return fault.why == Why::Memory,
-        }
-        if walk.is_done() {
-            break;
-        }
-    }
-    false
-}
-
-fn is_label_below_zero(step: Step) -> bool {
-    match step.place {
-        Place::Key { .. } => matches!(step.event, Event::Leaf(Header::Negative(_))),
-        _ => false,
-    }
-}
-
-fn is_key(alloc: Global, item: &[u8]) -> Result<bool, NotWritten> {
-    let Some(kty) = kty_in(alloc, item)? else {
-        return Ok(false);
-    };
-    let Some(mut parts) = entries(alloc, item) else {
-        return Ok(false);
-    };
-    let registered = registered_type(kty).is_some();
-    for _ in 0..u64::MAX {
-        let Some(label) = parts.next()? else {
-            break;
-        };
-        let Some(value) = parts.next()? else {
-            break;
-        };
-        if is_of_key(registered, integer(label), value) {
-            return Ok(true);
-        }
-    }
-    Ok(false)
-}
-
-fn is_of_key(registered: bool, label: Option<i64>, value: &[u8]) -> bool {
-    match label {
-        Some(2) => registered && is_bytes(value),
-        Some(number) => number < 0,
-        None => false,
-    }
-}
-
-/// The value of label 1 in a map, if it is a number or a text.
-fn kty_in(alloc: Global, item: &[u8]) -> Result<Option<&[u8]>, NotWritten> {
-    let Some(mut parts) = entries(alloc, item) else {
-        return Ok(None);
-    };
-    for _ in 0..u64::MAX {
-        let Some(label) = parts.next()? else {
-            break;
-        };
-        let Some(value) = parts.next()? else {
-            break;
-        };
-        if integer(label) == Some(1) {
-            return Ok(if is_label(value) { Some(value) } else { None });
-        }
-    }
-    Ok(None)
-}
-
-/// The type of the key that a map is, if it has a registered one.
-///
-/// # Errors
-/// `Memory`.
-pub fn key_type_of(alloc: Global, item: &[u8]) -> Result<Option<KeyType>, NotWritten> {
-    match kty_in(alloc, item)? {
-        Some(value) => Ok(registered_type(value)),
-        None => Ok(None),
-    }
-}
-
-fn registered_type(value: &[u8]) -> Option<KeyType> {
-    match integer(value) {
-        Some(number) if number > 0 => KeyType::from_i64(number),
-        _ => None,
+    if key_in(alloc, item)?.is_some() {
+        Ok(Some(Keys::One))
+    } else if is_key_set(alloc, item)? {
+        Ok(Some(Keys::Set))
+    } else {
+        Ok(None)
     }
 }
 
@@ -205,7 +102,7 @@ fn show_key<P: fmt::Write>(
         page.write_str("\n")?;
         return Ok(());
     };
-    let kty = key_type_of(alloc, item)?;
+    let kty = type_in(alloc, item)?;
     for _ in 0..u64::MAX {
         let Some(label) = parts.next()? else {
             break;
@@ -245,37 +142,6 @@ fn show_entry<P: fmt::Write>(
     }
 }
 
-/// Whether a value is no secret. The type, the algorithm, the curve and the operations are numbers
-/// and texts.
-///
-/// # Errors
-/// `Memory`.
-pub fn is_open(alloc: Global, part: KeyPart, value: &[u8]) -> Result<bool, NotWritten> {
-    match part {
-        KeyPart::Type => Ok(is_label(value)),
-        KeyPart::Alg => Ok(is_label(value)),
-        KeyPart::Curve => Ok(is_label(value)),
-        KeyPart::Operations => are_labels(alloc, value),
-        KeyPart::Public => Ok(true),
-        KeyPart::Secret => Ok(false),
-    }
-}
-
-/// Whether an item is an array of numbers and texts.
-fn are_labels(alloc: Global, item: &[u8]) -> Result<bool, NotWritten> {
-    let Some(mut list) = items(alloc, item) else {
-        return Ok(false);
-    };
-    for _ in 0..u64::MAX {
-        match list.next()? {
-            Some(one) if !is_label(one) => return Ok(false),
-            Some(_) => {}
-            None => break,
-        }
-    }
-    Ok(true)
-}
-
 /// The registered name of a value.
 pub fn name_of(part: KeyPart, value: &[u8]) -> Option<&'static str> {
     let number = integer(value)?;
@@ -298,7 +164,7 @@ fn show_named<P: fmt::Write>(
     page: &mut P,
 ) -> Result<(), NotWritten> {
     write!(page, "{name} (")?;
-    write_item(alloc, value, look.line(), 0, page)?;
+    write_shown(alloc, look, look.line(), value, 0, page)?;
     page.write_str(")")?;
     Ok(())
 }
@@ -347,14 +213,8 @@ fn show_maybe<P: fmt::Write>(
     page: &mut P,
 ) -> Result<(), NotWritten> {
     if shown || look.secrets {
-        write_item(alloc, item, look.lines(), level, page)?;
-        return Ok(());
+        write_shown(alloc, look, look.lines(), item, level, page)
+    } else {
+        write_not_shown(alloc, item, page)
     }
-    if !is_bytes(item) {
-        page.write_str("not shown (--secrets shows it)")?;
-        return Ok(());
-    }
-    write_len(joined(alloc, item)?.len(), page)?;
-    page.write_str(", not shown (--secrets shows them)")?;
-    Ok(())
 }

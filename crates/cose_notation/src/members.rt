@@ -1,8 +1,9 @@
 //! A message as members of a JSON object.
-use crate::header::{Labels, name_of as label_name, value_name};
-use crate::json::{write_hex_text, write_name, write_notation, write_word};
+use crate::header::{Labels, Scope, name_of as label_name, value_name};
+use crate::json::{write_hex_text, write_length, write_name, write_notation, write_word};
+use crate::look::Look;
 use crate::message::{Form, Part, message_of, name_of};
-use crate::parts::{Members, entries, integer, is_bytes, is_null, items, joined};
+use crate::parts::{Members, entries, integer, is_bytes, is_null, is_one_item, items, joined};
 use crate::payload::has_claims;
 use crate::time::claim_time;
 use cbor_diag::NotWritten;
@@ -16,6 +17,7 @@ use std::fmt;
 /// `Output` and `Memory`.
 pub fn write_message<P: fmt::Write>(
     alloc: Global,
+    look: Look,
     item: &[u8],
     page: &mut P,
 ) -> Result<(), NotWritten> {
@@ -25,7 +27,7 @@ pub fn write_message<P: fmt::Write>(
     write_word("kind", form.name, page)?;
     write!(page, ",\"tag_number\":{tag}")?;
     match items(alloc, content) {
-        Some(mut parts) => write_parts(alloc, form, &mut parts, page),
+        Some(mut parts) => write_parts(alloc, look, form, &mut parts, page),
         None => Ok(()),
     }
 }
@@ -33,15 +35,16 @@ pub fn write_message<P: fmt::Write>(
 /// Writes the members of a message.
 fn write_parts<P: fmt::Write>(
     alloc: Global,
+    look: Look,
     form: Form,
     parts: &mut Members<'_>,
     page: &mut P,
 ) -> Result<(), NotWritten> {
-    write_headers(alloc, parts, page)?;
+    write_headers(alloc, look, parts, page)?;
     for part in form.parts {
         if let Some(item) = parts.next()? {
             write_name(name_of(*part), page)?;
-            write_part(alloc, *part, item, page)?;
+            write_part(alloc, look, *part, item, page)?;
         }
     }
     Ok(())
@@ -50,16 +53,17 @@ fn write_parts<P: fmt::Write>(
 /// Writes the two headers.
 fn write_headers<P: fmt::Write>(
     alloc: Global,
+    look: Look,
     parts: &mut Members<'_>,
     page: &mut P,
 ) -> Result<(), NotWritten> {
     if let Some(item) = parts.next()? {
         write_name("protected", page)?;
-        write_protected(alloc, item, page)?;
+        write_protected(alloc, look, item, page)?;
     }
     if let Some(item) = parts.next()? {
         write_name("unprotected", page)?;
-        write_entries(alloc, item, Labels::Headers, page)?;
+        write_entries(alloc, look, item, Labels::Headers, page)?;
     }
     Ok(())
 }
@@ -68,33 +72,37 @@ fn write_headers<P: fmt::Write>(
 /// notation of what is there.
 fn write_protected<P: fmt::Write>(
     alloc: Global,
+    look: Look,
     item: &[u8],
     page: &mut P,
 ) -> Result<(), NotWritten> {
     if !is_bytes(item) {
-        return write_notation(alloc, item, page);
+        return write_notation(alloc, look, item, page);
     }
     let bytes = joined(alloc, item)?;
     if bytes.is_empty() {
         page.write_str("[]")?;
         return Ok(());
     }
-    match cbor_diag::item_len(alloc, &bytes) {
-        Ok(len) if len == bytes.len() => write_entries(alloc, &bytes, Labels::Headers, page),
-        _ => write_notation(alloc, item, page),
+    if is_one_item(alloc, &bytes)? {
+        write_entries(alloc, look, &bytes, Labels::Headers, page)
+    } else {
+        write_notation(alloc, look, item, page)
     }
 }
 
 /// The entries of a map as a list; the notation of another item.
 fn write_entries<P: fmt::Write>(
     alloc: Global,
+    look: Look,
     item: &[u8],
     labels: Labels,
     page: &mut P,
 ) -> Result<(), NotWritten> {
     let Some(mut parts) = entries(alloc, item) else {
-        return write_notation(alloc, item, page);
+        return write_notation(alloc, look, item, page);
     };
+    let scope = Scope::of(alloc, look, labels, item)?;
     let mut mark = "[";
     for _ in 0..u64::MAX {
         let Some(label) = parts.next()? else {
@@ -104,7 +112,7 @@ fn write_entries<P: fmt::Write>(
             break;
         };
         page.write_str(mark)?;
-        write_entry(alloc, labels, label, value, page)?;
+        write_entry(alloc, look, scope, label, value, page)?;
         mark = ",";
     }
     page.write_str(if mark == "[" { "[]" } else { "]" })?;
@@ -114,23 +122,29 @@ fn write_entries<P: fmt::Write>(
 /// An entry, with the names that are registered.
 fn write_entry<P: fmt::Write>(
     alloc: Global,
-    labels: Labels,
+    look: Look,
+    scope: Scope,
     label: &[u8],
     value: &[u8],
     page: &mut P,
 ) -> Result<(), NotWritten> {
     page.write_str("{\"label\":")?;
-    write_notation(alloc, label, page)?;
+    write_notation(alloc, look, label, page)?;
     let number = integer(label);
-    if let Some(name) = label_name(labels, number) {
+    if let Some(name) = label_name(scope.labels, number) {
         write_word("name", name, page)?;
     }
+    if scope.hides(alloc, number, value)? {
+        write_length(alloc, value, page)?;
+        page.write_str("}")?;
+        return Ok(());
+    }
     write_name("value", page)?;
-    write_notation(alloc, value, page)?;
-    if let Some(name) = value_name(labels, number, integer(value)) {
+    write_notation(alloc, look, value, page)?;
+    if let Some(name) = value_name(scope.labels, number, integer(value)) {
         write_word("value_name", name, page)?;
     }
-    if let Some(time) = claim_time(labels, number, value) {
+    if let Some(time) = claim_time(scope.labels, number, value) {
         write!(page, ",\"time\":\"{time}\"")?;
     }
     page.write_str("}")?;
@@ -139,46 +153,52 @@ fn write_entry<P: fmt::Write>(
 
 fn write_part<P: fmt::Write>(
     alloc: Global,
+    look: Look,
     part: Part,
     item: &[u8],
     page: &mut P,
 ) -> Result<(), NotWritten> {
     match part {
-        Part::Payload => write_payload(alloc, item, page),
-        Part::Signatures => write_list(alloc, "signature", item, page),
-        Part::Recipients => write_list(alloc, "ciphertext", item, page),
-        _ => write_bytes(alloc, item, page),
+        Part::Payload => write_payload(alloc, look, item, page),
+        Part::Signatures => write_list(alloc, look, "signature", item, page),
+        Part::Recipients => write_list(alloc, look, "ciphertext", item, page),
+        _ => write_bytes(alloc, look, item, page),
     }
 }
 
 /// A byte string in hex, null if a part is detached, and the notation of another item.
-fn write_bytes<P: fmt::Write>(alloc: Global, item: &[u8], page: &mut P) -> Result<(), NotWritten> {
+fn write_bytes<P: fmt::Write>(
+    alloc: Global,
+    look: Look,
+    item: &[u8],
+    page: &mut P,
+) -> Result<(), NotWritten> {
     if is_null(item) {
         page.write_str("null")?;
         return Ok(());
     }
     if !is_bytes(item) {
-        return write_notation(alloc, item, page);
+        return write_notation(alloc, look, item, page);
     }
     let bytes = joined(alloc, item)?;
-    write_hex_text(&bytes, page)?;
-    Ok(())
+    write_hex_text(alloc, look, &bytes, page)
 }
 
 /// A payload, and its claims if it is a claims set.
 fn write_payload<P: fmt::Write>(
     alloc: Global,
+    look: Look,
     item: &[u8],
     page: &mut P,
 ) -> Result<(), NotWritten> {
-    write_bytes(alloc, item, page)?;
+    write_bytes(alloc, look, item, page)?;
     if !is_bytes(item) {
         return Ok(());
     }
     let bytes = joined(alloc, item)?;
     if has_claims(alloc, &bytes)? {
         write_name("claims", page)?;
-        write_entries(alloc, &bytes, Labels::Claims, page)?;
+        write_entries(alloc, look, &bytes, Labels::Claims, page)?;
     }
     Ok(())
 }
@@ -186,12 +206,13 @@ fn write_payload<P: fmt::Write>(
 /// Signatures or recipients, with the name of what each holds after its headers.
 fn write_list<P: fmt::Write>(
     alloc: Global,
+    look: Look,
     last: &str,
     item: &[u8],
     page: &mut P,
 ) -> Result<(), NotWritten> {
     let Some(mut list) = items(alloc, item) else {
-        return write_notation(alloc, item, page);
+        return write_notation(alloc, look, item, page);
     };
     let mut mark = "[";
     for _ in 0..u64::MAX {
@@ -199,7 +220,7 @@ fn write_list<P: fmt::Write>(
             break;
         };
         page.write_str(mark)?;
-        write_one(alloc, last, one, page)?;
+        write_one(alloc, look, last, one, page)?;
         mark = ",";
     }
     page.write_str(if mark == "[" { "[]" } else { "]" })?;
@@ -208,17 +229,18 @@ fn write_list<P: fmt::Write>(
 
 fn write_one<P: fmt::Write>(
     alloc: Global,
+    look: Look,
     last: &str,
     one: &[u8],
     page: &mut P,
 ) -> Result<(), NotWritten> {
     page.write_str("{\"notation\":")?;
-    write_notation(alloc, one, page)?;
+    write_notation(alloc, look, one, page)?;
     if let Some(mut parts) = items(alloc, one) {
-        write_headers(alloc, &mut parts, page)?;
+        write_headers(alloc, look, &mut parts, page)?;
         if let Some(item) = parts.next()? {
             write_name(last, page)?;
-            write_bytes(alloc, item, page)?;
+            write_bytes(alloc, look, item, page)?;
         }
     }
     page.write_str("}")?;

@@ -1,10 +1,10 @@
 //! What a COSE message holds (RFC 9052).
 use crate::header::{show_map, show_protected};
-use crate::line::{begin_line, write_string};
+use crate::line::{begin_line, write_shown, write_string};
 use crate::look::Look;
 use crate::parts::{Members, header_of, is_bytes, is_null, items, joined, tagged};
 use crate::payload::show_payload;
-use cbor_diag::{NotWritten, write_item};
+use cbor_diag::NotWritten;
 use ciborium_ll::Header;
 use std::alloc::Global;
 use std::fmt;
@@ -233,8 +233,7 @@ fn show_bytes<P: fmt::Write>(
     let bytes = joined(alloc, item)?;
     begin_line(level, page)?;
     write!(page, "{name}, ")?;
-    write_string(look, &bytes, page)?;
-    Ok(())
+    write_string(alloc, look, &bytes, page)
 }
 
 /// An item in its notation.
@@ -248,7 +247,7 @@ fn show_other<P: fmt::Write>(
 ) -> Result<(), NotWritten> {
     begin_line(level, page)?;
     write!(page, "{name}: ")?;
-    write_item(alloc, item, look.lines(), level, page)?;
+    write_shown(alloc, look, look.lines(), item, level, page)?;
     page.write_str("\n")?;
     Ok(())
 }

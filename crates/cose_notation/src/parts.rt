@@ -1,5 +1,5 @@
 //! The parts of an item, as slices of its bytes.
-use cbor_diag::{Event, NotWritten, Walk, Why, head_of, item_len};
+use cbor_diag::{Event, NotWritten, Place, Step, Walk, Why, head_of, item_len};
 use ciborium_ll::Header;
 use std::alloc::Global;
 
@@ -121,12 +121,62 @@ pub fn is_label(item: &[u8]) -> bool {
     }
 }
 
+/// Whether an item is an array of numbers and texts.
+///
+/// # Errors
+/// `Memory`.
+pub fn are_labels(alloc: Global, item: &[u8]) -> Result<bool, NotWritten> {
+    if !matches!(header_of(item), Some(Header::Array(_))) {
+        return Ok(false);
+    }
+    let mut walk = Walk::new(alloc);
+    for _ in 0..u64::MAX {
+        let step = match walk.step(item) {
+            Ok(step) => step,
+            Err(fault) if fault.why == Why::Memory => return Err(NotWritten::Memory),
+            Err(_) => return Ok(false),
+        };
+        if !is_of_labels(step) {
+            return Ok(false);
+        }
+        if walk.is_done() {
+            break;
+        }
+    }
+    Ok(true)
+}
+
+/// Whether an array of numbers and texts has such a step.
+fn is_of_labels(step: Step) -> bool {
+    match step.event {
+        Event::Begin(Header::Array(_)) => step.place == Place::Top,
+        Event::Begin(Header::Text(_)) => true,
+        Event::Body(Header::Text(_), _) => true,
+        Event::Leaf(Header::Positive(_) | Header::Negative(_)) => true,
+        Event::End(_) => true,
+        _ => false,
+    }
+}
+
+/// Whether bytes are one item.
+///
+/// # Errors
+/// `Memory`.
+pub fn is_one_item(alloc: Global, bytes: &[u8]) -> Result<bool, NotWritten> {
+    match item_len(alloc, bytes) {
+        Ok(len) => Ok(len == bytes.len()),
+        Err(fault) if fault.why == Why::Memory => Err(NotWritten::Memory),
+        Err(_) => Ok(false),
+    }
+}
+
 /// Whether an item is null.
 pub fn is_null(item: &[u8]) -> bool {
     matches!(header_of(item), Some(Header::Simple(22)))
 }
 
-/// The bytes of a string, its pieces joined.
+/// The bytes of a string, its pieces joined; of a damaged one those of the pieces in front of the
+/// fault.
 ///
 /// # Errors
 /// `Memory`.
@@ -136,7 +186,8 @@ pub fn joined(alloc: Global, item: &[u8]) -> Result<Vec<u8>, NotWritten> {
     for _ in 0..u64::MAX {
         let step = match walk.step(item) {
             Ok(step) => step,
-            Err(fault) => return Err(NotWritten::Fault(fault)),
+            Err(fault) if fault.why == Why::Memory => return Err(NotWritten::Memory),
+            Err(_) => break,
         };
         if let Event::Body(_, size) = step.event {
             let rest = behind(item, step.at.saturating_add(step.len));

@@ -1,10 +1,10 @@
 //! What a payload is.
 use crate::header::{Labels, show_entries};
-use crate::line::write_len;
+use crate::line::{write_content, write_len, write_shown};
 use crate::look::Look;
 use crate::names::claim;
-use crate::parts::{entries, integer, is_label};
-use cbor_diag::{CUT, NotWritten, front_text, item_len, write_hex, write_item, write_text};
+use crate::parts::{entries, integer, is_label, is_one_item};
+use cbor_diag::{CUT, NotWritten, front_text, write_text};
 use std::alloc::Global;
 use std::fmt;
 
@@ -21,7 +21,7 @@ pub fn show_payload<P: fmt::Write>(
     let len = payload.len();
     page.write_str("    payload, ")?;
     write_len(len, page)?;
-    let is_item = len > 0 && item_len(alloc, payload) == Ok(len);
+    let is_item = is_one_item(alloc, payload)?;
     if is_item && is_claims(alloc, payload)? {
         page.write_str(", claims")?;
         return show_entries(alloc, look, payload, 2, Labels::Claims, page);
@@ -34,10 +34,9 @@ pub fn show_payload<P: fmt::Write>(
     }
     if is_item {
         page.write_str(", CBOR: ")?;
-        write_item(alloc, payload, look.lines(), 2, page)?;
+        write_shown(alloc, look, look.lines(), payload, 2, page)?;
     } else if len > 0 {
-        page.write_str(", hex: ")?;
-        show_hex(look, payload, page)?;
+        write_content(alloc, look, ", hex: ", payload, page)?;
     }
     page.write_str("\n")?;
     Ok(())
@@ -51,16 +50,6 @@ fn show_text<P: fmt::Write>(look: Look, text: &str, page: &mut P) -> fmt::Result
     page.write_str("... (--full shows all)")
 }
 
-fn show_hex<P: fmt::Write>(look: Look, bytes: &[u8], page: &mut P) -> fmt::Result {
-    match bytes.get(..CUT) {
-        Some(front) if !look.full && bytes.len() > CUT => {
-            write_hex(front, page)?;
-            page.write_str("... (--full shows all)")
-        }
-        _ => write_hex(bytes, page),
-    }
-}
-
 /// A text can also be an item; one of a byte is hardly meant as one.
 fn show_as_item<P: fmt::Write>(
     alloc: Global,
@@ -71,7 +60,7 @@ fn show_as_item<P: fmt::Write>(
 ) -> Result<(), NotWritten> {
     if is_item && payload.len() > 1 {
         page.write_str("      also CBOR: ")?;
-        write_item(alloc, payload, look.line(), 0, page)?;
+        write_shown(alloc, look, look.line(), payload, 0, page)?;
         page.write_str("\n")?;
     }
     Ok(())
@@ -109,7 +98,7 @@ fn is_plain(c: char) -> bool {
 /// # Errors
 /// `Memory`.
 pub fn has_claims(alloc: Global, payload: &[u8]) -> Result<bool, NotWritten> {
-    if !payload.is_empty() && item_len(alloc, payload) == Ok(payload.len()) {
+    if is_one_item(alloc, payload)? {
         is_claims(alloc, payload)
     } else {
         Ok(false)

@@ -1,16 +1,16 @@
 //! What is shown of damaged input.
 use crate::source::Source;
 use crate::stop::Stop;
-use cbor_diag::{Fault, NotWritten, write_item};
-use cose_notation::{Look, begin_line, may_be_keys};
+use cbor_diag::{Fault, NotWritten};
+use cose_notation::{Look, begin_line, may_hold_secrets, write_shown};
 use std::alloc::Global;
 use std::{fmt, io};
 
 /// So many bytes are shown before the fault, and so many from it on.
 pub const AROUND: usize = 16;
 
-/// Shows what could be read of the item at hand, the fault, and the bytes around it. Of what may be
-/// keys only the fault is shown, unless secrets are asked for.
+/// Shows what could be read of the item at hand, the fault, and the bytes around it. Of an item that
+/// may hold secrets of keys only the fault is shown, unless they are asked for.
 ///
 /// # Errors
 /// `Damaged` if nothing else fails.
@@ -28,7 +28,7 @@ pub fn show_damage<R: io::Read + Drop, P: fmt::Write>(
     writeln!(page, "item {number} at {offset}, damaged")?;
     let place = offset.saturating_add(fault.at);
     let why = fault.why;
-    if !look.secrets && may_be_keys(alloc, held) {
+    if !look.secrets && may_hold_secrets(alloc, held, fault.at, AROUND)? {
         page.write_str("  not shown, as it may hold secrets of keys (--secrets shows it)\n")?;
         writeln!(page, "  fault at {place}: {why}")?;
         return Err(Stop::of_fault(fault, offset));
@@ -47,8 +47,8 @@ fn show_front<P: fmt::Write>(
     held: &[u8],
     page: &mut P,
 ) -> Result<(), Stop> {
-    match write_item(alloc, held, look.lines(), 1, page) {
-        Ok(_) => {}
+    match write_shown(alloc, look, look.lines(), held, 1, page) {
+        Ok(()) => {}
         Err(NotWritten::Fault(_)) => {}
         Err(NotWritten::Output) => return Err(Stop::Output),
         Err(NotWritten::Memory) => return Err(Stop::Memory),

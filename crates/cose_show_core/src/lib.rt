@@ -24,3 +24,4 @@ pub use crate::show::show_as;
 pub use crate::stop::Stop;
 pub use crate::why::{Question, reason, secret_or_reason, write_wrong_tag};
 pub use crate::words::{Cut, HELP, Options, USAGE, Words, read_words};
+pub use cbor_diag::write_char;

@@ -9,8 +9,8 @@ use crate::verdict::{Ruling, Spelling, rule};
 use cbor_diag::{Fault, NotWritten};
 use cose_gate_core::{Refusal, Verdict};
 use cose_notation::{
-    Look, keys_in, may_be_keys, write_hex_text, write_keys, write_keys_notation, write_message,
-    write_name, write_notation, write_word,
+    Look, keys_in, may_hold_secrets, write_hex_text, write_keys, write_message, write_name,
+    write_notation, write_word,
 };
 use std::alloc::Global;
 use std::{fmt, io};
@@ -46,25 +46,16 @@ fn write_content<P: fmt::Write>(
     item: &[u8],
     page: &mut P,
 ) -> Result<(), Stop> {
+    write_notation(alloc, look, item, page)?;
     match keys_in(alloc, item)? {
-        Some(keys) => {
-            if look.secrets {
-                write_notation(alloc, item, page)?;
-            } else {
-                write_keys_notation(alloc, keys, item, page)?;
-            }
-            write_keys(alloc, look.secrets, keys, item, page)?;
-        }
-        None => {
-            write_notation(alloc, item, page)?;
-            write_message(alloc, item, page)?;
-        }
+        Some(keys) => write_keys(alloc, look, keys, item, page)?,
+        None => write_message(alloc, look, item, page)?,
     }
     Ok(())
 }
 
-/// Writes what is read of a damaged item, and the fault. Of what may be keys only the fault is
-/// written, unless secrets are asked for.
+/// Writes what is read of a damaged item, and the fault. Of one that may hold secrets of keys only
+/// the fault is written, unless they are asked for.
 ///
 /// # Errors
 /// `Damaged` if nothing else fails.
@@ -80,37 +71,40 @@ pub fn write_damage<R: io::Read + Drop, P: fmt::Write>(
     let offset = source.offset();
     let held = source.held();
     write!(page, "{{\"number\":{number},\"offset\":{offset}")?;
-    if !look.secrets && may_be_keys(alloc, held) {
+    if !look.secrets && may_hold_secrets(alloc, held, fault.at, AROUND)? {
         let place = offset.saturating_add(fault.at);
         let why = fault.why;
         writeln!(page, ",\"fault\":\"{why}\",\"fault_offset\":{place}}}")?;
         return Err(Stop::of_fault(fault, offset));
     }
     write_name("notation", page)?;
-    match write_notation(alloc, held, page) {
+    match write_notation(alloc, look, held, page) {
         Err(NotWritten::Fault(_)) => {}
         written => written?,
     }
-    write_fault(fault, offset, held, page)?;
+    write_fault(alloc, look, fault, offset, held, page)?;
     Err(Stop::of_fault(fault, offset))
 }
 
 /// A fault, and the bytes before it and from it on.
 fn write_fault<P: fmt::Write>(
+    alloc: Global,
+    look: Look,
     fault: Fault,
     offset: usize,
     held: &[u8],
     page: &mut P,
-) -> fmt::Result {
+) -> Result<(), Stop> {
     let place = offset.saturating_add(fault.at);
     let why = fault.why;
     let (before, behind) = around(held, fault.at);
     write!(page, ",\"fault\":\"{why}\",\"fault_offset\":{place}")?;
     write_name("bytes_before", page)?;
-    write_hex_text(before, page)?;
+    write_hex_text(alloc, look, before, page)?;
     write_name("bytes_from", page)?;
-    write_hex_text(behind, page)?;
-    page.write_str("}\n")
+    write_hex_text(alloc, look, behind, page)?;
+    page.write_str("}\n")?;
+    Ok(())
 }
 
 /// What the gate says, and what else was asked for.
@@ -138,7 +132,7 @@ fn write_ruling<P: fmt::Write>(
         }
     }
     if request.questions {
-        write_questions(&ruling, page)?;
+        write_questions(alloc, request.look, &ruling, page)?;
     }
     Ok(())
 }
@@ -197,14 +191,20 @@ fn write_spelling<P: fmt::Write>(spelling: Spelling, offset: usize, page: &mut P
 }
 
 /// The covered bytes of each question, in hex.
-fn write_questions<P: fmt::Write>(ruling: &Ruling, page: &mut P) -> fmt::Result {
+fn write_questions<P: fmt::Write>(
+    alloc: Global,
+    look: Look,
+    ruling: &Ruling,
+    page: &mut P,
+) -> Result<(), Stop> {
     write_name("covered", page)?;
     page.write_str("[")?;
     for (index, question) in ruling.asked().iter().enumerate() {
         if index > 0 {
             page.write_str(",")?;
         }
-        write_hex_text(question.structure.as_slice(), page)?;
+        write_hex_text(alloc, look, question.structure.as_slice(), page)?;
     }
-    page.write_str("]")
+    page.write_str("]")?;
+    Ok(())
 }

@@ -1,9 +1,8 @@
 //! Which part of a message is wrong.
 use crate::stop::Stop;
-use cbor_diag::{Style, write_item};
 use ciborium_value::Value;
 use cose_gate_core::{CoseError, CoseRecipient, CoseSignature, Header, ProtectedHeader};
-use cose_notation::{Part, entries, is_bytes, items, joined, message_of};
+use cose_notation::{Look, Part, entries, is_bytes, items, joined, message_of, write_shown};
 use coset_labels::{CborSerializable, ValueTryAs, read_to_value};
 use std::alloc::Global;
 
@@ -312,6 +311,10 @@ fn labeled(
     fault: CoseError,
 ) -> Result<Option<WrongPart>, Stop> {
     name.push_str(", label ")?;
-    write_item(alloc, label, Style::line().shortened(), 0, &mut name)?;
+    let look = Look {
+        full: false,
+        secrets: false,
+    };
+    write_shown(alloc, look, look.line(), label, 0, &mut name)?;
     Ok(Some(WrongPart { name, fault }))
 }

@@ -7,8 +7,9 @@ use crate::source::{Found, Source};
 use crate::stop::Stop;
 use crate::verdict::show_verdict;
 use crate::words::Options;
-use cbor_diag::write_item;
-use cose_notation::{Look, begin_line, is_message, keys_in, show_keys, show_message, write_len};
+use cose_notation::{
+    Look, begin_line, is_message, keys_in, show_keys, show_message, write_len, write_shown,
+};
 use std::alloc::Global;
 use std::io::BufReader;
 use std::{fmt, io};
@@ -124,7 +125,7 @@ fn show_content<P: fmt::Write>(
     let may_show = look.secrets || keys.is_none();
     if may_show && (look.full || !is_shown_by_parts) {
         begin_line(1, page)?;
-        write_item(alloc, item, look.lines(), 1, page)?;
+        write_shown(alloc, look, look.lines(), item, 1, page)?;
         page.write_str("\n")?;
     }
     match keys {

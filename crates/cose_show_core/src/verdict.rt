@@ -8,7 +8,7 @@ use ciborium_ll::Header;
 use cose_gate_core::{
     Asked, Decoder, End, Entry, GateFault, Limits, Mem, Recorder, Refusal, Terms, Verdict, gate_by,
 };
-use cose_notation::write_bytes;
+use cose_notation::{Look, write_string};
 use std::alloc::Global;
 use std::fmt;
 
@@ -189,7 +189,7 @@ pub fn show_verdict<P: fmt::Write>(
         }
     }
     if request.questions {
-        show_questions(ruling.asked(), page)?;
+        show_questions(alloc, request.look, ruling.asked(), page)?;
     }
     Ok(())
 }
@@ -266,12 +266,21 @@ fn say_form<P: fmt::Write>(form: Form, place: usize, page: &mut P) -> fmt::Resul
     }
 }
 
-/// The bytes that each signature or tag covers.
-fn show_questions<P: fmt::Write>(asked: &[Asked], page: &mut P) -> fmt::Result {
+/// The bytes that each signature or tag covers, whole.
+fn show_questions<P: fmt::Write>(
+    alloc: Global,
+    look: Look,
+    asked: &[Asked],
+    page: &mut P,
+) -> Result<(), Stop> {
+    let whole = Look {
+        full: true,
+        secrets: look.secrets,
+    };
     for (index, question) in asked.iter().enumerate() {
         let number = index.saturating_add(1);
         write!(page, "  question {number} covers ")?;
-        write_bytes(question.structure.as_slice(), page)?;
+        write_string(alloc, whole, question.structure.as_slice(), page)?;
     }
     Ok(())
 }

@@ -268,7 +268,9 @@ fn write_bar<P: fmt::Write>(key: &CoseKey, page: &mut P) -> fmt::Result {
     page.write_str("has no MAC verify (10) among its key_ops")
 }
 
-/// Writes why a tag isn't the whole tag, if it isn't, and says whether it has.
+/// Writes why a tag isn't the whole tag, if it isn't, and says whether it has. Of a tag of another
+/// length than 32 bytes it says the length, whatever its bytes are, and of one of 32 bytes that it is
+/// another: whoever sends messages and sees the text must not learn how much of a tag is right.
 ///
 /// # Errors
 /// Those of `page`.
@@ -278,25 +280,17 @@ pub fn write_wrong_tag<P: fmt::Write>(
     aad_len: usize,
     page: &mut P,
 ) -> Result<bool, fmt::Error> {
+    if tag.len() != TAG {
+        page.write_str("the tag has ")?;
+        write_len(tag.len(), page)?;
+        page.write_str(", not 32")?;
+        return Ok(true);
+    }
     if same_tag(whole, tag) {
         return Ok(false);
     }
-    let len = tag.len();
-    let is_front = match whole.as_slice().get(..len) {
-        Some(front) => same_tag(front, tag),
-        None => false,
-    };
-    if is_front {
-        page.write_str("the tag is cut to ")?;
-        write_len(len, page)?;
-    } else if len != TAG {
-        page.write_str("the tag has ")?;
-        write_len(len, page)?;
-        page.write_str(", not 32")?;
-    } else {
-        page.write_str("the tag isn't that of the first matching key, with ")?;
-        write_len(aad_len, page)?;
-        page.write_str(" of external data")?;
-    }
+    page.write_str("the tag isn't that of the first matching key, with ")?;
+    write_len(aad_len, page)?;
+    page.write_str(" of external data")?;
     Ok(true)
 }
