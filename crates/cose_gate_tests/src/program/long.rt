@@ -50,5 +50,10 @@ fn long_records_are_told(rt: HostRuntime) {
     let mut questions = Vec::from_elem(rt.alloc(), 0, 200000).expect(&rt, "memory");
     let answer = asked(rt.alloc(), &input, questions.as_mut_slice());
     assert_eq!(rt; answer, (0, 200000));
-    assert!(rt; questions[..100] == questions[199900..]);
+    let records = questions.as_slice();
+    let is_same = match (records.get(..100), records.get(199900..)) {
+        (Some(first), Some(last)) => first == last,
+        _ => false,
+    };
+    assert!(rt; is_same);
 }
