@@ -4,4 +4,5 @@
 
 pub mod buffers;
 pub mod options;
+pub mod telling;
 pub mod writing;
