@@ -9,7 +9,8 @@
 #   The streaming check reads a payload of 16 MiB under the least heap for one of 0 bytes.
 # - The gate holds a payload once. A program that makes the bytes that a tag covers holds it once more.
 # - The gate, `cose-ask`, `cose-pass` and `cose-show` end by themselves, and not by a signal, under each limit from the least for an empty
-#   input to what a whole run takes. What they write then are whole messages, the first ones, and all of them if the status isn't 4.
+#   input to what a whole run takes. What they write then are whole messages, the first ones, and all of them if the status isn't 4; of
+#   `cose-show`, which writes as it goes, the beginning of a whole run's text.
 #
 # With valgrind it also counts the bytes that `bench` asks of the heap: for claims at most 4,096 over those of the empty array or,
 # 256 levels deep, over those of as many open arrays, which claim nothing; for each further round of reading an integer or a short text at
@@ -207,7 +208,7 @@ ends() {
     head -c "$size" "$folder/whole" | cmp -s - "$folder/out" || ended="$ended, other output"
     case $fronts in
       *" $size "*) ;;
-      *) ended="$ended, $size bytes" ;;
+      *) [ "$1" = "$show" ] || ended="$ended, $size bytes" ;;
     esac
     case "$ended $size" in
       "4 "*) stopped=$((stopped + 1)) ;;
