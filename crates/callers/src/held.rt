@@ -95,8 +95,11 @@ pub fn next_bytes<R: Read>(
     ensures err { OnErr result (decoder.new ≡ decoder.old) }
 {
     let mut bytes = Vec::new(alloc);
-    if decoder.append_held(n, &mut bytes)? {
-        return Ok(Some(bytes));
+    if let Some((front, _)) = decoder.held().split_at_checked(n) {
+        bytes.extend_from_slice(front)?;
+        if decoder.take(n) {
+            return Ok(Some(bytes));
+        }
     }
     bytes.resize(n, 0)?;
     match decoder.read_exact(&mut bytes) {

@@ -11,11 +11,11 @@ use Rattle.ciborium_value.specs.Folding.{tagged, fold_bytes, fold}
 use Rattle.ciborium_value.specs.Encoding.{enc, enc_all, enc_pairs, Fits, FitAll, FitPairs}
 use Rattle.ciborium.specs.Spelling.{Spells}
 use Rattle.ciborium.specs.Meaning.{meaning, meanings, pair_meanings, simple_meaning, Assigned, AllAssigned, PairsAssigned}
-use Rattle.ciborium.specs.Damage.{Fault, semantic, Damage, too_negative, in_child, in_tag, IsLevel}
+use Rattle.ciborium.specs.Damage.{Fault, semantic, Damage, too_negative, in_child, in_array, in_map, IsLevel}
 use Rattle.ciborium.specs.Front.{Front, Fronts}
 use Rattle.ciborium.proofs.Once.{once, first, regroup, tree_kind, head_kind, kind_0}
 use Rattle.ciborium.proofs.ReadLemmas.{meanings_made, all_none}
-use Rattle.ciborium.proofs.TagLemmas.{bytes_meant}
+use Rattle.ciborium.proofs.TagLemmas.{bytes_meant, in_tag}
 use Rattle.ciborium.proofs.Folded.{means_folding, assigned_simple}
 use Rattle.ciborium.proofs.Encoded.{enc_spells}
 use Rattle.ciborium.proofs.Parts.{Stands, level_deep}
@@ -150,10 +150,10 @@ module _ (stop : ℕ) where
     no_meaning (simple n) limit rest f a low e = absurd (let g : simple_meaning n ≡ Some (simple n) = assigned_simple n a in cc)
     no_meaning (array ts) limit rest f a low e =
         let r = no_meanings ts (limit - 1) rest f.1 a (omega arith) (map_none array (meanings ts) e) in
-        in_child (enc (array ts) ++ rest) (enc_all ts ++ rest) r.at limit (Array (Some (tree_count ts))) r.done (semantic kind.BigNegative) (begins_title (Array (Some (tree_count ts))) (enc_all ts) rest f.0) (omega arith) r.fronts r.few r.damage
+        in_child (enc (array ts) ++ rest) (enc_all ts ++ rest) r.at limit (Array (Some (tree_count ts))) r.done (semantic kind.BigNegative) (begins_title (Array (Some (tree_count ts))) (enc_all ts) rest f.0) (omega arith) r.fronts (in_array (tree_count ts) r.few) r.damage
     no_meaning (map ps) limit rest f a low e =
         let r = no_pair_meanings ps (limit - 1) rest f.1 a (omega arith) (map_none map (pair_meanings ps) e) in
-        in_child (enc (map ps) ++ rest) (enc_pairs ps ++ rest) r.at limit (Map (Some (pair_count ps))) r.done (semantic kind.BigNegative) (begins_title (Map (Some (pair_count ps))) (enc_pairs ps) rest f.0) (omega arith) r.fronts r.few r.damage
+        in_child (enc (map ps) ++ rest) (enc_pairs ps ++ rest) r.at limit (Map (Some (pair_count ps))) r.done (semantic kind.BigNegative) (begins_title (Map (Some (pair_count ps))) (enc_pairs ps) rest f.0) (omega arith) r.fronts (in_map (pair_count ps) r.few) r.damage
     no_meaning (tag n t) limit rest f a low e = tag_negative stop limit n t rest f low (λ l m. no_meaning t (limit - 1) rest f.1 a l m) e
 
     no_meanings : (ts : Trees) (limit : ℕ) (rest : List ℕ) → FitAll ts → AllAssigned ts → depth_all ts ≤ limit → meanings ts ≡ None → Broken stop limit (enc_all ts ++ rest) (tree_count ts)

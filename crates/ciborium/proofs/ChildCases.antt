@@ -6,7 +6,7 @@ use Rattle.ciborium_ll.specs.declared.hdr.Header.TheVariants.{Break, Array, Map}
 use Rattle.ciborium_value.specs.Tree.{Tree, Trees, no_trees, one_more, Pairs, no_pairs, pair_more, flat, tree_count}
 use Rattle.ciborium.specs.Damage.{Fault, Damage}
 use Rattle.ciborium.specs.Front.{ReadsAll, Front}
-use Rattle.ciborium.specs.Reading.{ChildrenBehind, is_full}
+use Rattle.ciborium.specs.Reading.{ChildrenAfterHead, is_full}
 use Rattle.ciborium.proofs.Words.{ChildDamage, FitsIn}
 use Rattle.ciborium_ll.proofs.Closings.{break_title}
 use Rattle.ciborium.proofs.Once.{first}
@@ -30,7 +30,7 @@ pub record ArrayFront (o : Option ℕ) (limit : ℕ) (b : List ℕ) : Type 0 whe
   pub values : Trees
   pub read : List ℕ
   pub rest : List ℕ
-  pub behind : ChildrenBehind o (tree_count values) limit values read
+  pub behind : ChildrenAfterHead o (tree_count values) limit values read
   pub whole : b ≡ read ++ rest
 
 pub data ArrayCase (stop : ℕ) (o : Option ℕ) (limit : ℕ) (b : List ℕ) : Type 0 where
@@ -44,7 +44,7 @@ pub record MapFront (o : Option ℕ) (limit : ℕ) (b : List ℕ) : Type 0 where
   pub counts : tree_count (flat values) ≡ 2 * count
   pub read : List ℕ
   pub rest : List ℕ
-  pub behind : ChildrenBehind o count limit (flat values) read
+  pub behind : ChildrenAfterHead o count limit (flat values) read
   pub whole : b ≡ read ++ rest
 
 pub data MapCase (stop : ℕ) (o : Option ℕ) (limit : ℕ) (b : List ℕ) : Type 0 where

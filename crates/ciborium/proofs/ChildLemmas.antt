@@ -13,11 +13,11 @@ use Rattle.ciborium_value.specs.Tree.{Tree, array, bytes, tag, Trees, no_trees, 
 use Rattle.ciborium.specs.Spelling.{SpellsAll, SpellsPairs}
 use Rattle.ciborium_value.specs.Tree as spec
 use Rattle.ciborium.specs.Meaning.{meaning, meanings, pair_meanings}
-use Rattle.ciborium.specs.Damage.{Fault, end, deep, syntax, semantic, Damage, TitleDamage, Due}
+use Rattle.ciborium.specs.Damage.{Fault, TitleDamage, cut_title, bad_title, Due, in_array, in_map, in_open_array, in_open_map, in_entry}
 use Rattle.ciborium.specs.Front.{ReadsAll}
 use Rattle.ciborium_ll.specs.Title.{Begins}
-use Rattle.ciborium.specs.Reading.{EndPlace, IsLong, FailsAt, FailsBehind, IfKnown, ReadsBehind, ChildrenBehind, is_full}
-use Rattle.ciborium.proofs.Words.{ChildDamage, FitsIn}
+use Rattle.ciborium.specs.Reading.{EndPlace, IsLong, FailsAt, FailsAfterTitle, IfKnown, ReadsAfterTitle, ChildrenAfterHead, is_full}
+use Rattle.ciborium.proofs.Words.{FitsIn}
 use Rattle.ciborium_ll.proofs.Closings.{break_title}
 use Rattle.ciborium.proofs.Once.{title_once}
 use Rattle.ciborium.proofs.Taking.{fails_as}
@@ -28,7 +28,7 @@ abbrev pub Begun : Header → (ℕ → List ℕ → Fault → Type 0) → ℕ �
 Begun h D stop b f = ((r : List ℕ) × Begins b h r) × D stop b f
 
 pub fails_begun : {E : Type 0} (ends : E → Bool) (l₀ l₁ : Option (List ℕ)) (o₀ o₁ o₂ : ℕ) (h : Header) (D : ℕ → List ℕ → Fault → Type 0) (e : Error E)
-    → Moves l₀ l₁ o₀ o₁ (λ (b : List ℕ). Title b h) → FailsBehind ends h o₀ o₁ l₁ o₂ D e → IfKnown l₀ (λ b. FailsAt ends b o₀ o₂ (Begun h D) e)
+    → Moves l₀ l₁ o₀ o₁ (λ (b : List ℕ). Title b h) → FailsAfterTitle ends h o₀ o₁ l₁ o₂ D e → IfKnown l₀ (λ b. FailsAt ends b o₀ o₂ (Begun h D) e)
 fails_begun ends None l₁ o₀ o₁ o₂ h D e t w = tt
 fails_begun ends (Some b) None o₀ o₁ o₂ h D e t w = absurd t.taken
 fails_begun ends (Some b) (Some rest) o₀ o₁ o₂ h D e t w =
@@ -36,32 +36,27 @@ fails_begun ends (Some b) (Some rest) o₀ o₁ o₂ h D e t w =
     (subst (λ (z : List ℕ). FailsAt ends z o₀ o₂ D e) (sym t.taken) (w t.bytes t.has (sym t.grown)))
 
 pub title_no_break : (stop : ℕ) (rest : List ℕ) (f : Fault) → TitleDamage stop rest f → (r : List ℕ) → rest ≢ 255 ∷ r
-title_no_break stop rest end d r e = not_cut (255 ∷ []) r Break break_title (subst IsCut e d)
-title_no_break stop rest deep d r e = d
-title_no_break stop rest (syntax p) d r e = not_bad (255 ∷ []) r Break break_title (subst StartsBad e d.0)
-title_no_break stop rest (semantic k) d r e = d
+title_no_break stop rest _ (cut_title c) r e = not_cut (255 ∷ []) r Break break_title (subst IsCut e c)
+title_no_break stop rest _ (bad_title p c _) r e = not_bad (255 ∷ []) r Break break_title (subst StartsBad e c)
 
 pub begun_no_break : (h : Header) (rest q : List ℕ) → Begins rest h q → h ≢ Break → (r : List ℕ) → rest ≢ 255 ∷ r
 begun_no_break h rest q s not r e = not (title_once s.title (255 ∷ []) q r h Break s.is_title break_title (sym s.whole ∙ e)).0
-
-child : (h : Header) (limit stop : ℕ) (x rest : List ℕ) (vs : Trees) (f : Fault) → ReadsAll x limit vs → Due h (tree_count vs) rest → Damage stop rest limit f → ChildDamage h limit stop (x ++ rest) f
-child h limit stop x rest vs f p due d = record { done = vs; rest = rest; fronts = record { spelling = x; whole = refl; reads = p }; due = due; damage = d }
 
 -- whether one more is due
 pub not_all : (n d : ℕ) → nat_eq n d ≡ false → d ≤ n → d < n
 not_all n d e l = grind (arith, nat_tests)
 
-pub array_due : (o : Option ℕ) (vs : Trees) (d : ℕ) (rest : List ℕ) → tree_count vs ≡ d → FitsIn o d → is_full o d ≡ false → (o ≡ None → (r : List ℕ) → rest ≢ 255 ∷ r) → Due (Array o) (tree_count vs) rest
-array_due (Some n) vs d rest c few full b = let l = not_all n d full few in omega arith
-array_due None vs d rest c few full b = b refl
+pub array_due : (o : Option ℕ) (vs : Trees) (d : ℕ) (rest : List ℕ) → tree_count vs ≡ d → FitsIn o d → is_full o d ≡ false → (o ≡ None → (r : List ℕ) → rest ≢ 255 ∷ r) → Due vs rest (Array o)
+array_due (Some n) vs d rest c few full b = let l = not_all n d full few in in_array n (omega arith)
+array_due None vs d rest c few full b = in_open_array (b refl)
 
-pub map_due : (o : Option ℕ) (vs : Trees) (d : ℕ) (rest : List ℕ) → tree_count vs ≡ 2 * d → FitsIn o d → is_full o d ≡ false → (o ≡ None → (r : List ℕ) → rest ≢ 255 ∷ r) → Due (Map o) (tree_count vs) rest
-map_due (Some n) vs d rest c few full b = let l = not_all n d full few in omega arith
-map_due None vs d rest c few full b = inr (b refl)
+pub map_due : (o : Option ℕ) (vs : Trees) (d : ℕ) (rest : List ℕ) → tree_count vs ≡ 2 * d → FitsIn o d → is_full o d ≡ false → (o ≡ None → (r : List ℕ) → rest ≢ 255 ∷ r) → Due vs rest (Map o)
+map_due (Some n) vs d rest c few full b = let l = not_all n d full few in in_map n (omega arith)
+map_due None vs d rest c few full b = in_open_map (b refl)
 
-pub value_due : (o : Option ℕ) (vs : Trees) (d : ℕ) (rest : List ℕ) → tree_count vs ≡ 2 * d + 1 → FitsIn o d → is_full o d ≡ false → Due (Map o) (tree_count vs) rest
-value_due (Some n) vs d rest c few full = let l = not_all n d full few in omega arith
-value_due None vs d rest c few full = inl (omega arith)
+pub value_due : (o : Option ℕ) (vs : Trees) (d : ℕ) (rest : List ℕ) → tree_count vs ≡ 2 * d + 1 → FitsIn o d → is_full o d ≡ false → Due vs rest (Map o)
+value_due (Some n) vs d rest c few full = let l = not_all n d full few in in_map n (omega arith)
+value_due None vs d rest c few full = in_entry (omega arith)
 
 pub fits_more : (o : Option ℕ) (d : ℕ) → FitsIn o d → is_full o d ≡ false → FitsIn o (d + 1)
 fits_more (Some n) d few full = let l = not_all n d full few in omega arith
@@ -75,11 +70,11 @@ fits_none None = tt
 all_is : (n d : ℕ) → nat_eq n d ≡ true → n ≡ d
 all_is n d e = grind (arith, nat_tests)
 
-pub children_full : (o : Option ℕ) (d limit : ℕ) (vs : Trees) (inner : List ℕ) → is_full o d ≡ true → ReadsAll inner limit vs → ChildrenBehind o d limit vs inner
+pub children_full : (o : Option ℕ) (d limit : ℕ) (vs : Trees) (inner : List ℕ) → is_full o d ≡ true → ReadsAll inner limit vs → ChildrenAfterHead o d limit vs inner
 children_full (Some n) d limit vs inner e p = (all_is n d e, p)
 children_full None d limit vs inner e p = absurd (false≢true e)
 
-pub children_closed : (o : Option ℕ) (d limit : ℕ) (vs : Trees) (x y : List ℕ) (h : Header) → (o ≡ None) × (h ≡ Break) → ReadsAll x limit vs → Title y h → ChildrenBehind o d limit vs (x ++ y)
+pub children_closed : (o : Option ℕ) (d limit : ℕ) (vs : Trees) (x y : List ℕ) (h : Header) → (o ≡ None) × (h ≡ Break) → ReadsAll x limit vs → Title y h → ChildrenAfterHead o d limit vs (x ++ y)
 children_closed (Some n) d limit vs x y h e p t = let f : Some n ≡ None = e.0 in cc
 children_closed None d limit vs x y h e p t = let s : Title y Break = subst (λ (z : Header). Title y z) e.1 t in (x, p, ap (λ z. x ++ z) s)
 
@@ -88,7 +83,15 @@ pub all_count : (ts vs : Trees) → meanings ts ≡ Some vs → tree_count ts �
 all_count no_trees vs e = let f : no_trees ≡ vs = cc in ap tree_count f
 all_count (one_more t ts) vs e = let w = meanings_parts t ts vs e in let h = all_count ts w.1 w.3 in let k : tree_count vs ≡ 1 + tree_count w.1 = ap tree_count w.4 in omega arith
 
-pub array_read : (o : Option ℕ) (d limit : ℕ) (v : Tree) (vs : Trees) (inner : List ℕ) → v ≡ array vs → tree_count vs ≡ d → 0 < limit → ChildrenBehind o d (limit - 1) vs inner → ReadsBehind (Array o) limit v inner
+none_trees : (ts : Trees) (b : List ℕ) → tree_count ts ≡ 0 → SpellsAll b ts → b ≡ []
+none_trees no_trees b e p = p
+none_trees (one_more t ts) b e p = let f : 1 + tree_count ts ≡ 0 = e in absurd (omega arith)
+
+-- no items take no bytes
+pub none_read : (b : List ℕ) (low : ℕ) (done : Trees) → done ≡ no_trees → ReadsAll b low done → b ≡ []
+none_read b low done e p = none_trees p.trees b (all_count p.trees done p.means ∙ ap tree_count e) p.spells
+
+pub array_read : (o : Option ℕ) (d limit : ℕ) (v : Tree) (vs : Trees) (inner : List ℕ) → v ≡ array vs → tree_count vs ≡ d → 0 < limit → ChildrenAfterHead o d (limit - 1) vs inner → ReadsAfterTitle (Array o) limit v inner
 array_read (Some n) d limit v vs inner e c l p title t = record {
   tree = array p.1.trees;
   spells = inl (title, inner, subst (λ (z : ℕ). Title title (Array (Some z))) (p.0 ∙ sym c ∙ sym (all_count p.1.trees vs p.1.means)) t, p.1.spells, refl);
@@ -144,7 +147,7 @@ pub flat_count : (qs : Pairs) → tree_count (flat qs) ≡ 2 * pair_count qs
 flat_count no_pairs = refl
 flat_count (pair_more k v qs) = let h = flat_count qs in omega arith
 
-pub map_read : (o : Option ℕ) (d limit : ℕ) (v : Tree) (ps : Pairs) (inner : List ℕ) → v ≡ spec.map ps → tree_count (flat ps) ≡ 2 * d → 0 < limit → ChildrenBehind o d (limit - 1) (flat ps) inner → ReadsBehind (Map o) limit v inner
+pub map_read : (o : Option ℕ) (d limit : ℕ) (v : Tree) (ps : Pairs) (inner : List ℕ) → v ≡ spec.map ps → tree_count (flat ps) ≡ 2 * d → 0 < limit → ChildrenAfterHead o d (limit - 1) (flat ps) inner → ReadsAfterTitle (Map o) limit v inner
 map_read (Some n) d limit v ps inner e c l p title t =
     let q = paired p.1.trees ps p.1.means in
     let count : n ≡ pair_count q.pairs = omega (arith, p.0, c, all_count p.1.trees (flat ps) p.1.means, ap tree_count q.flat_is, flat_count q.pairs) in

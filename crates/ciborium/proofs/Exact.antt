@@ -7,7 +7,7 @@ use Rattle.ciborium_ll.specs.declared.hdr.Header.TheVariants.{Break}
 use Rattle.ciborium_ll.specs.Title.{Title, IsCut, StartsBad}
 use Rattle.ciborium_ll.proofs.TitleLaws.{not_cut, not_bad}
 use Rattle.ciborium_ll.specs.Framing.{Frame, whole, cut, Frames, no_frames, frame_more}
-use Rattle.ciborium.specs.Damage.{Fault, end, deep, syntax, semantic, Never, TitleDamage, ChunkDamage, OtherDamage, StringDamage}
+use Rattle.ciborium.specs.Damage.{Fault, Never, TitleDamage, cut_title, bad_title, ChunkDamage, cut_body, bad_body, PartDamage, part_title, part_body, no_part, StringDamage}
 use Rattle.ciborium_ll.specs.Title.{Begins}
 use Rattle.ciborium_ll.specs.Framing.{Opened, opened, deeper}
 use Rattle.ciborium_ll.proofs.Closings.{break_title}
@@ -26,10 +26,8 @@ pub begins_once : (b r s : List ℕ) (h j : Header) → Begins b h r → Begins 
 begins_once b r s h j p q = (title_once p.title q.title r s h j p.is_title q.is_title (sym p.whole ∙ q.whole)).0
 
 pub title_not : (stop : ℕ) (b r : List ℕ) (h : Header) (e : Fault) → Begins b h r → TitleDamage stop b e → ⊥
-title_not stop b r h end s d = not_cut s.title r h s.is_title (subst IsCut s.whole d)
-title_not stop b r h deep s d = d
-title_not stop b r h (syntax p) s d = not_bad s.title r h s.is_title (subst StartsBad s.whole d.0)
-title_not stop b r h (semantic j) s d = d
+title_not stop b r h _ s (cut_title c) = not_cut s.title r h s.is_title (subst IsCut s.whole c)
+title_not stop b r h _ s (bad_title p c _) = not_bad s.title r h s.is_title (subst StartsBad s.whole c)
 
 module _ (k : Option ℕ → Header) (inj : (o p : Option ℕ) → k o ≡ k p → o ≡ p) (unbroken : (o : Option ℕ) → k o ≢ Break) (P : List ℕ → Type 0) where
   frame_begins : (b w : List ℕ) (ys : List (List ℕ)) → Frame k P b ys → (o : Option ℕ) × (r : List ℕ) × Begins (b ++ w) (k o) r
@@ -106,39 +104,27 @@ module _ (k : Option ℕ → Header) (inj : (o p : Option ℕ) → k o ≡ k p �
       go _ _ (frame_more a d ps qs f gs) e = inr (a, d ++ (255 ∷ c.behind), ps, f, e ∙ append_assoc a d (255 ∷ c.behind))
 
   chunk_not : (stop : ℕ) (b w : List ℕ) (e : Fault) (ys : List (List ℕ)) → Frame k P b ys → ChunkDamage k P stop (b ++ w) e → ⊥
-  chunk_not stop b w end ys f d = begins_no_short b w d.1 d.0 ys f d.2 d.3
-  chunk_not stop b w deep ys f d = d
-  chunk_not stop b w (syntax p) ys f d = begins_no_never b w d.1 d.0 ys f d.2 d.3
-  chunk_not stop b w (semantic j) ys f d = d
+  chunk_not stop b w _ ys f (cut_body n rest s l) = begins_no_short b w rest n ys f s l
+  chunk_not stop b w _ ys f (bad_body n p rest s never _) = begins_no_never b w rest n ys f s never
 
-  chunk_no_break : (stop : ℕ) (b r : List ℕ) (e : Fault) → Begins b Break r → ChunkDamage k P stop b e → ⊥
-  chunk_no_break stop b r end s d = unbroken (Some d.0) (begins_once b d.1 r (k (Some d.0)) Break d.2 s)
-  chunk_no_break stop b r deep s d = d
-  chunk_no_break stop b r (syntax p) s d = unbroken (Some d.0) (begins_once b d.1 r (k (Some d.0)) Break d.2 s)
-  chunk_no_break stop b r (semantic j) s d = d
+  -- no part of a string is damaged at its break
+  part_no_break : (stop : ℕ) (b r : List ℕ) (e : Fault) → Begins b Break r → PartDamage k P stop b e → ⊥
+  part_no_break stop b r _ s (part_title e d) = title_not stop b r Break e s d
+  part_no_break stop b r _ s (part_body _ (cut_body n rest t l)) = unbroken (Some n) (begins_once b rest r (k (Some n)) Break t s)
+  part_no_break stop b r _ s (part_body _ (bad_body n p rest t never _)) = unbroken (Some n) (begins_once b rest r (k (Some n)) Break t s)
+  part_no_break stop b r _ s (no_part h rest p t other _ _) = other (begins_once b rest r h Break t s)
 
-  other_no_break : (stop : ℕ) (b r : List ℕ) (e : Fault) → Begins b Break r → OtherDamage k stop b e → ⊥
-  other_no_break stop b r end s d = d
-  other_no_break stop b r deep s d = d
-  other_no_break stop b r (syntax p) s d = d.3 (begins_once b d.1 r d.0 Break d.2 s)
-  other_no_break stop b r (semantic j) s d = d
-
-  other_not : (stop : ℕ) (b r : List ℕ) (o : Option ℕ) (e : Fault) → Begins b (k o) r → OtherDamage k stop b e → ⊥
-  other_not stop b r o end s d = d
-  other_not stop b r o deep s d = d
-  other_not stop b r o (syntax p) s d = d.4 o (begins_once b d.1 r d.0 (k o) d.2 s)
-  other_not stop b r o (semantic j) s d = d
+  -- nor at a string
+  part_not : (stop : ℕ) (b w : List ℕ) (e : Fault) (ys : List (List ℕ)) → Frame k P b ys → PartDamage k P stop (b ++ w) e → ⊥
+  part_not stop b w _ ys f (part_title e d) = let m = frame_begins b w ys f in title_not stop (b ++ w) m.1 (k m.0) e m.2 d
+  part_not stop b w _ ys f (part_body e d) = chunk_not stop b w e ys f d
+  part_not stop b w _ ys f (no_part h rest p t _ other _) = let m = frame_begins b w ys f in other m.0 (begins_once (b ++ w) rest m.1 h (k m.0) t m.2)
 
   -- damage of a string excludes its frame
   pub string_not : (stop : ℕ) (b w : List ℕ) (e : Fault) (ys : List (List ℕ)) → Frame k P b ys → StringDamage k P stop (b ++ w) e → ⊥
   string_not stop b w e ys f (inl d) = chunk_not stop b w e ys f d
-  string_not stop b w e ys f (inr (rest, i, d)) = go d (closing_begins rest (closing i.opens i.read rest b w i.bodies ys i.is f (sym i.whole)))
+  string_not stop b w e ys f (inr (rest, i, d)) = go (closing_begins rest (closing i.opens i.read rest b w i.bodies ys i.is f (sym i.whole)))
     where
-      go : TitleDamage stop rest e ⊎ (ChunkDamage k P stop rest e ⊎ OtherDamage k stop rest e)
-          → ((r : List ℕ) × Begins rest Break r) ⊎ ((a u : List ℕ) × (ys : List (List ℕ)) × Frame k P a ys × (rest ≡ a ++ u)) → ⊥
-      go (inl d) (inl (r, s)) = title_not stop rest r Break e s d
-      go (inr (inl d)) (inl (r, s)) = chunk_no_break stop rest r e s d
-      go (inr (inr d)) (inl (r, s)) = other_no_break stop rest r e s d
-      go (inl d) (inr (a, u, zs, g, q)) = let m = frame_begins a u zs g in title_not stop (a ++ u) m.1 (k m.0) e m.2 (subst (λ (z : List ℕ). TitleDamage stop z e) q d)
-      go (inr (inl d)) (inr (a, u, zs, g, q)) = chunk_not stop a u e zs g (subst (λ (z : List ℕ). ChunkDamage k P stop z e) q d)
-      go (inr (inr d)) (inr (a, u, zs, g, q)) = let m = frame_begins a u zs g in other_not stop (a ++ u) m.1 m.0 e m.2 (subst (λ (z : List ℕ). OtherDamage k stop z e) q d)
+      go : ((r : List ℕ) × Begins rest Break r) ⊎ ((a u : List ℕ) × (ys : List (List ℕ)) × Frame k P a ys × (rest ≡ a ++ u)) → ⊥
+      go (inl (r, s)) = part_no_break stop rest r e s d
+      go (inr (a, u, zs, g, q)) = part_not stop a u e zs g (subst (λ (z : List ℕ). PartDamage k P stop z e) q d)

@@ -5,15 +5,14 @@ use Rattle.std.proofs.Common.{◌≡◌, ◌≤◌, ◌-◌, inl, inr, ℕ, List
 use Rattle.std.specs.Option.{option_map, option_and_then}
 use Rattle.std.specs.Str.{IsUtf8}
 use Rattle.ciborium_ll.specs.declared.hdr.Header.{Header}
-use Rattle.ciborium_ll.specs.declared.hdr.Header.TheVariants.{Simple, Tag, Break, Bytes, Text, Array, Map}
-use Rattle.ciborium_ll.specs.Title.{Begins, IsCut, StartsBad}
+use Rattle.ciborium_ll.specs.declared.hdr.Header.TheVariants.{Simple, Tag, Break, Bytes, Text}
+use Rattle.ciborium_ll.specs.Title.{Begins}
 use Rattle.ciborium_ll.specs.Framing.{joined, Frame, Any, Opened, opened, deeper, bytes_same, bytes_unbroken, text_same, text_unbroken}
-use Rattle.ciborium_ll.proofs.TitleLaws.{not_bad}
 use Rattle.ciborium_value.specs.declared.kind.Kind.TheVariants as kind
 use Rattle.ciborium_value.specs.Tree.{Tree, bytes, text, array, map, tag, simple, Trees, no_trees, one_more, Pairs, no_pairs, pair_more, flat, depth}
 use Rattle.ciborium_value.specs.Folding.{tagged, fold_bytes}
 use Rattle.ciborium.specs.Meaning.{meaning, meanings, pair_meanings, simple_meaning, Assigned, AllAssigned, PairsAssigned}
-use Rattle.ciborium.specs.Damage.{Fault, end, deep, syntax, semantic, Damage, in_title, in_bytes, in_text, unassigned, stray_break, too_negative, too_deep, in_child, in_tag, in_free, ChunkDamage, StringDamage, Opens}
+use Rattle.ciborium.specs.Damage.{Fault, semantic, Damage, in_title, in_bytes, in_text, unassigned, stray_break, too_negative, too_deep, in_child, in_free, ChunkDamage, cut_body, bad_body, StringDamage, Opens, level_array, level_map, level_tag}
 use Rattle.ciborium.specs.Front.{Front}
 use Rattle.ciborium.proofs.Once.{once, no_break, tree_kind, kind_0, kind_1}
 use Rattle.ciborium.proofs.Exact.{title_not, string_not}
@@ -30,12 +29,10 @@ module _ (k : Option ℕ → Header) (P : List ℕ → Type 0) where
       (w.0, record { title = w.1.title; is_title = w.1.is_title; whole = append_assoc a (title ++ inner) rest ∙ w.1.whole })
 
   chunk_begins : (stop : ℕ) (b : List ℕ) (e : Fault) → ChunkDamage k P stop b e → (o : Option ℕ) × (r : List ℕ) × Begins b (k o) r
-  chunk_begins stop b end d = (Some d.0, d.1, d.2)
-  chunk_begins stop b deep d = absurd d
-  chunk_begins stop b (syntax p) d = (Some d.0, d.1, d.2)
-  chunk_begins stop b (semantic j) d = absurd d
+  chunk_begins stop b _ (cut_body n rest s _) = (Some n, rest, s)
+  chunk_begins stop b _ (bad_body n p rest s _ _) = (Some n, rest, s)
 
-  string_begins : (stop : ℕ) (b : List ℕ) (e : Fault) → StringDamage k P stop b e → (o : Option ℕ) × (r : List ℕ) × Begins b (k o) r
+  pub string_begins : (stop : ℕ) (b : List ℕ) (e : Fault) → StringDamage k P stop b e → (o : Option ℕ) × (r : List ℕ) × Begins b (k o) r
   string_begins stop b e (inl d) = chunk_begins stop b e d
   string_begins stop b e (inr (rest, i, d)) =
       let w = opened_begins i.opens i.read rest i.bodies i.is in
@@ -67,20 +64,10 @@ module _ (P : Tree → Type 0) (Q : Trees → Type 0) (inherited : Inherited P Q
       let u : c.under ≡ bytes (joined bodies) = (once c.under (bytes (joined bodies)) c.at.spelling inner rest r c.at.spells (bodies, g, refl) (sym c.at.whole ∙ w)).0 in
       negative (joined bodies) (subst P (c.is ∙ ap (tag 3) u) p) e
 
-  deep_not : (b r rest : List ℕ) (h : Header) (t : Tree) → Begins b h r → Opens h r → Stands b t rest → depth t ≤ 0 → P t → ⊥
-  deep_not b r rest (Array o) t s l f d p = let q = array_deep P Q inherited b r rest o 0 t s f d p in omega arith
-  deep_not b r rest (Map o) t s l f d p = let q = map_deep P Q inherited b r rest o 0 t s f d p in omega arith
-  deep_not b r rest (Tag n) t s l f d p = let q = (level_there P Q inherited b r rest n 0 t s l f d p).0 in omega arith
-  deep_not b r rest h t s l f d p = l
-
-  cut_not : (stop : ℕ) (inside rest : List ℕ) (t : Tree) → Stands inside t rest → IsCut inside → ⊥
-  cut_not stop inside rest t f c = let h = stands_begins inside rest t f in title_not stop inside h.1 h.0 end h.2 c
-
-  bad_not : (inside rest : List ℕ) (t : Tree) → Stands inside t rest → StartsBad inside → ⊥
-  bad_not inside rest t f c =
-      let h = stands_begins inside rest t f in
-      let g = h.2 in
-      not_bad g.title h.1 h.0 g.is_title (subst StartsBad g.whole c)
+  deep_not : (b r rest : List ℕ) (h : Header) (t : Tree) → Begins b h r → Opens r h → Stands b t rest → depth t ≤ 0 → P t → ⊥
+  deep_not b r rest _ t s (level_array o) f d p = let q = array_deep P Q inherited b r rest o 0 t s f d p in omega arith
+  deep_not b r rest _ t s (level_map o) f d p = let q = map_deep P Q inherited b r rest o 0 t s f d p in omega arith
+  deep_not b r rest _ t s (level_tag n l) f d p = let q = (level_there P Q inherited b r rest n 0 t s l f d p).0 in omega arith
 
   pub fault_there : (stop : ℕ) (b : List ℕ) (limit : ℕ) (e : Fault) → Damage stop b limit e → (t : Tree) (rest : List ℕ) → Stands b t rest → depth t ≤ limit → P t → R e
   fault_there stop b limit e (in_title _ _ _ d) t rest f low p = let h = stands_begins b rest t f in absurd (title_not stop b h.1 h.0 e h.2 d)
@@ -93,18 +80,9 @@ module _ (P : Tree → Type 0) (Q : Trees → Type 0) (inherited : Inherited P Q
   fault_there stop b limit e (in_child _ inside at _ h done _ s l fs due d) t rest f low p =
       let w = child_there P Q inherited b inside at rest limit h done t s fs due f low p in
       fault_there stop at (limit - 1) e d w.tree w.rest w.there w.shallow w.has
-  fault_there stop b limit e (in_tag _ inside _ n _ s l lv d) t rest f low p =
-      let w = (level_there P Q inherited b inside rest n limit t s lv f low p).1 in
-      fault_there stop inside (limit - 1) e d w.tree w.rest w.there w.shallow w.has
-  fault_there stop b limit e (in_free _ inside _ n _ s (which, inl (o, r, bs)) d) t rest f low p =
-      let w = free_there P Q inherited b inside r rest n limit o t s bs f p in
+  fault_there stop b limit e (in_free _ inside _ n _ s _ d) t rest f low p =
+      let w = free_there P Q inherited b inside rest n limit t s f low p in
       fault_there stop inside limit e d w.tree w.rest w.there w.shallow w.has
-  fault_there stop b limit e (in_free _ inside _ n _ s (which, inr (inl c)) d) t rest f low p =
-      let w = tag_parts b inside rest n t s f in
-      absurd (cut_not stop inside rest w.under w.at c)
-  fault_there stop b limit e (in_free _ inside _ n _ s (which, inr (inr c)) d) t rest f low p =
-      let w = tag_parts b inside rest n t s f in
-      absurd (bad_not inside rest w.under w.at c)
 
 -- an item that means something
 abbrev Means : Tree → Type 0

@@ -12,8 +12,8 @@ use Rattle.ciborium.specs.declared.frames.Items.{Items}
 use Rattle.ciborium.specs.declared.frames.Entries.{Entries}
 use Rattle.ciborium.specs.Damage.{Damage}
 use Rattle.ciborium.specs.Levels.{Titled}
-use Rattle.ciborium.specs.Reading.{IsLeaf, NamesFaultBehind, ReadsBehind}
-use Rattle.ciborium.specs.Frames.{opened, listed, in_hand, Stage, InHand, ClosedStage, AskEnds, AskGives, AskFails, HasHalf, halves_of, snoc, LeafPut, Puts, Fills, FillEnds, FillGives}
+use Rattle.ciborium.specs.Reading.{IsLeaf, NamesFaultAfterTitle, ReadsAfterTitle}
+use Rattle.ciborium.specs.Frames.{opened, listed, in_hand, Stage, InHand, ClosedStage, AskEnds, AskGives, AskFails, HasHalf, halves_of, snoc, LeafPut, Puts, FillsFrame, FillEnds, FillGives}
 use Rattle.ciborium.proofs.Once.{append_nil}
 use Rattle.ciborium.proofs.Taking.{takes_then}
 use Rattle.ciborium.proofs.LevelLemmas.{titled_fails}
@@ -25,26 +25,26 @@ stage_at : (k w : Bool) (limit : ℕ) (fs : List Frame) (read : Option Value) (f
 stage_at k w limit fs read from n m b c e f s = subst (λ (z : List ℕ). Stage k w limit fs read from m z) f (subst (λ (z : ℕ). Stage k w limit fs read from z b) e s)
 
 -- none were read
-pub fills_none : (f : Frame) (now : ℕ) (w : Bool) → Fills f f now w w []
+pub fills_none : (f : Frame) (now : ℕ) (w : Bool) → FillsFrame f f now w w []
 fills_none f now w k limit from fs b s =
     let z : now ≡ now + length {A = ℕ} [] = omega arith in
     stage_at k w limit (f ∷ fs) None from now (now + length {A = ℕ} []) b (b ++ []) z (append_nil b) s
 
 -- those that were read, up to the place where the next is due
-pub filled : (f g : Frame) (old mid : Seen) (u w : Bool) (t : Takes old mid (Fills f g old.offset u w)) (k : Bool) (limit from : ℕ) (fs : List Frame) (b : List ℕ) → Stage k u limit (f ∷ fs) None from old.offset b
+pub filled : (f g : Frame) (old mid : Seen) (u w : Bool) (t : Takes old mid (FillsFrame f g old.offset u w)) (k : Bool) (limit from : ℕ) (fs : List Frame) (b : List ℕ) → Stage k u limit (f ∷ fs) None from old.offset b
     → Stage k w limit (g ∷ fs) None from mid.offset (b ++ t.bytes)
 filled f g old mid u w t k limit from fs b s =
     stage_at k w limit (g ∷ fs) None from (old.offset + length t.bytes) mid.offset (b ++ t.bytes) (b ++ t.bytes) (sym t.grown) refl (t.has k limit from fs b s)
 
 -- the level is whole
-pub fills_end : (f g : Frame) (old mid new : Seen) (u w w' : Bool) → w' ≡ w → Takes old mid (Fills f g old.offset u w) → Takes mid new (AskEnds g) → Takes old new (FillEnds f g old.offset u w')
+pub fills_end : (f g : Frame) (old mid new : Seen) (u w w' : Bool) → w' ≡ w → Takes old mid (FillsFrame f g old.offset u w) → Takes mid new (AskEnds g) → Takes old new (FillEnds f g old.offset u w')
 fills_end f g old mid new u w w' flag t a =
     subst (λ (z : Bool). Takes old new (FillEnds f g old.offset u z)) (sym flag)
-    (takes_then old.left mid.left new.left old.offset mid.offset new.offset (Fills f g old.offset u w) (AskEnds g) (FillEnds f g old.offset u w) t a
+    (takes_then old.left mid.left new.left old.offset mid.offset new.offset (FillsFrame f g old.offset u w) (AskEnds g) (FillEnds f g old.offset u w) t a
     (λ x y p q k limit from fs b s. subst (λ (z : List ℕ). ClosedStage k w limit (g ∷ fs) z) (append_assoc b x y) (q k w limit from (old.offset + length x) fs (b ++ x) (p k limit from fs b s))))
 
 -- the next title
-pub fills_give : (f g : Frame) (h : Header) (at : ℕ) (old mid new : Seen) (u w w' : Bool) → Takes old mid (Fills f g old.offset u w) → Takes mid new (AskGives g h at mid.offset w w') → Takes old new (FillGives f g h at old.offset u w')
+pub fills_give : (f g : Frame) (h : Header) (at : ℕ) (old mid new : Seen) (u w w' : Bool) → Takes old mid (FillsFrame f g old.offset u w) → Takes mid new (AskGives g h at mid.offset w w') → Takes old new (FillGives f g h at old.offset u w')
 fills_give f g h at old mid new u w w' t a = record {
   bytes = t.bytes ++ a.bytes;
   has = λ k limit from fs b s.
@@ -59,8 +59,8 @@ fills_give f g h at old mid new u w w' t a = record {
 }
 
 -- one more was read
-pub fills_leaf : (f g g' : Frame) (h : Header) (at : ℕ) (v : Value) (old mid mid' new : Seen) (u w w' : Bool) → Takes old mid (Fills f g old.offset u w) → Takes mid mid' (AskGives g h at mid.offset w w') → IsLeaf h
-    → Takes mid' new (λ b. (low : ℕ) → ReadsBehind h low (view v) b) → Puts g g' v → Takes old new (Fills f g' old.offset u w')
+pub fills_leaf : (f g g' : Frame) (h : Header) (at : ℕ) (v : Value) (old mid mid' new : Seen) (u w w' : Bool) → Takes old mid (FillsFrame f g old.offset u w) → Takes mid mid' (AskGives g h at mid.offset w w') → IsLeaf h
+    → Takes mid' new (λ b. (low : ℕ) → ReadsAfterTitle h low (view v) b) → Puts g g' v → Takes old new (FillsFrame f g' old.offset u w')
 fills_leaf f g g' h at v old mid mid' new u w w' t a leaf r puts = record {
   bytes = t.bytes ++ (a.bytes ++ r.bytes);
   has = λ k limit from fs b s.
@@ -76,14 +76,14 @@ fills_leaf f g g' h at v old mid mid' new u w w' t a leaf r puts = record {
 }
 
 -- a leaf is put into an array and into a map
-pub leaf_items : (h : Header) (l m : Items) (s s' : Seen) → m.count ≡ l.count → ((v : Value) × Takes s s' (λ b. (limit : ℕ) → ReadsBehind h limit (view v) b) × (m.items.items ≡ l.items.items ++ v ∷ [])) → LeafPut h (code.Items l) (code.Items m) s s'
+pub leaf_items : (h : Header) (l m : Items) (s s' : Seen) → m.count ≡ l.count → ((v : Value) × Takes s s' (λ b. (limit : ℕ) → ReadsAfterTitle h limit (view v) b) × (m.items.items ≡ l.items.items ++ v ∷ [])) → LeafPut h (code.Items l) (code.Items m) s s'
 leaf_items h l m s s' same p = (p.0, p.1, λ w fs. items_more fs l m p.0 w same p.2)
 
-pub leaf_entries : (h : Header) (l m : Entries) (s s' : Seen) → m.count ≡ l.count → HasHalf m → ((v : Value) × Takes s s' (λ b. (limit : ℕ) → ReadsBehind h limit (view v) b) × (halves_of m ≡ snoc (halves_of l) (view v))) → LeafPut h (code.Entries l) (code.Entries m) s s'
+pub leaf_entries : (h : Header) (l m : Entries) (s s' : Seen) → m.count ≡ l.count → HasHalf m → ((v : Value) × Takes s s' (λ b. (limit : ℕ) → ReadsAfterTitle h limit (view v) b) × (halves_of m ≡ snoc (halves_of l) (view v))) → LeafPut h (code.Entries l) (code.Entries m) s s'
 leaf_entries h l m s s' same half p = (p.0, p.1, λ w fs. entries_more fs l m p.0 w same half p.2)
 
 -- a fault after them is one of the level
-pub fills_fail : {E : Type 0} (ends : E → Bool) (f g : Frame) (old mid new : Seen) (u w : Bool) (e : Error E) → Takes old mid (Fills f g old.offset u w) → AskFails ends g mid new e → AskFails ends f old new e
+pub fills_fail : {E : Type 0} (ends : E → Bool) (f g : Frame) (old mid new : Seen) (u w : Bool) (e : Error E) → Takes old mid (FillsFrame f g old.offset u w) → AskFails ends g mid new e → AskFails ends f old new e
 fills_fail ends f g old mid new u w e t a limit from fs b off s =
     let q = filled f g old mid u w t false limit from fs b (unasked_as false u limit (f ∷ fs) None from old.offset b s) in
     let off' : from + length (b ++ t.bytes) ≡ mid.offset = omega (arith, off, t.grown, length-append b t.bytes) in
@@ -91,7 +91,7 @@ fills_fail ends f g old mid new u w e t a limit from fs b off s =
 
 -- a fault of the item whose title was taken
 pub leaf_asked_fails : {E : Type 0} (ends : E → Bool) (g : Frame) (h : Header) (at : ℕ) (mid mid' new : Seen) (w w' : Bool) (e : Error E) → Takes mid mid' (AskGives g h at mid.offset w w')
-    → ((low : ℕ) → NamesFaultBehind ends h at (λ stop b f. Damage stop b low f) mid' new e) → AskFails ends g mid new e
+    → ((low : ℕ) → NamesFaultAfterTitle ends h at (λ stop b f. Damage stop b low f) mid' new e) → AskFails ends g mid new e
 leaf_asked_fails ends g h at mid mid' new w w' e a r limit from fs b off s =
     let q = a.has false limit from fs b (unasked_as false w limit (g ∷ fs) None from mid.offset b s) in
     let t = subst (λ (z : ℕ). Titled limit (opened (g ∷ fs)) h at from z (b ++ a.bytes)) (sym a.grown) q.1.0 in

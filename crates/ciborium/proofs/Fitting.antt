@@ -1,26 +1,18 @@
 -- If each event of an item fits, the item does, and each simple value in it is false, true or null.
-use Rattle.std.proofs.Common.{◌≤◌, List, [], ◌∷◌, ◌++◌, arith}
+use Rattle.std.proofs.Common.{◌≤◌, List, [], ◌∷◌, ◌++◌, append-nil, arith}
 use Rattle.ciborium_value.specs.Tree as tree
 use Rattle.ciborium_value.specs.Tree.{Tree, Trees, no_trees, one_more, Pairs, no_pairs, pair_more}
 use Rattle.ciborium_value.specs.Encoding.{Fits, FitAll, FitPairs}
-use Rattle.ciborium_typed.specs.Events.{Event, events, events_all, events_pairs, AllAdded}
+use Rattle.ciborium_typed.specs.Events.{Event, events, events_all, events_pairs}
 use Rattle.ciborium.specs.Meaning.{Assigned, AllAssigned, PairsAssigned}
-use Rattle.ciborium.specs.Fitting.{FitsEvent}
+use Rattle.ciborium.specs.Fitting.{EachFits}
 
-abbrev Each : List Event → Type 0
-Each [] = Unit {0}
-Each (e ∷ es) = FitsEvent e × Each es
-
-each_added : {S : Type 0} (s t : S) (es : List Event) → AllAdded (λ (a : S) e (b : S). FitsEvent e) s es t → Each es
-each_added s t [] p = tt
-each_added s t (e ∷ es) (m, p, q) = (p, each_added m t es q)
-
-parted : (es fs : List Event) → Each (es ++ fs) → Each es × Each fs
+parted : (es fs : List Event) → EachFits (es ++ fs) → EachFits es × EachFits fs
 parted [] fs p = (tt, p)
 parted (e ∷ es) fs p = let q = parted es fs p.1 in ((p.0, q.0), q.1)
 
 mutual
-  fitting : (t : Tree) → Each (events t) → Fits t × Assigned t
+  fitting : (t : Tree) → EachFits (events t) → Fits t × Assigned t
   fitting (tree.integer i) p = (p.0, tt)
   fitting (tree.bytes b) p = (p.0, tt)
   fitting (tree.text b) p = (p.0, tt)
@@ -30,7 +22,7 @@ mutual
   fitting (tree.array ts) p = let q = fitting_all ts p.1 in ((p.0, q.0), q.1)
   fitting (tree.map ps) p = let q = fitting_pairs ps p.1 in ((p.0, q.0), q.1)
 
-  fitting_all : (ts : Trees) → Each (events_all ts) → FitAll ts × AllAssigned ts
+  fitting_all : (ts : Trees) → EachFits (events_all ts) → FitAll ts × AllAssigned ts
   fitting_all no_trees p = (tt, tt)
   fitting_all (one_more t ts) p =
       let q = parted (events t) (events_all ts) p in
@@ -38,7 +30,7 @@ mutual
       let b = fitting_all ts q.1 in
       ((a.0, b.0), (a.1, b.1))
 
-  fitting_pairs : (ps : Pairs) → Each (events_pairs ps) → FitPairs ps × PairsAssigned ps
+  fitting_pairs : (ps : Pairs) → EachFits (events_pairs ps) → FitPairs ps × PairsAssigned ps
   fitting_pairs no_pairs p = (tt, tt)
   fitting_pairs (pair_more k v ps) p =
       let q = parted (events k) (events v ++ events_pairs ps) p in
@@ -48,5 +40,5 @@ mutual
       let c = fitting_pairs ps r.1 in
       ((a.0, b.0, c.0), (a.1, b.1, c.1))
 
-pub added_fits : {S : Type 0} (s u : S) (t : Tree) → AllAdded (λ (a : S) e (b : S). FitsEvent e) s (events t) u → Fits t × Assigned t
-added_fits s u t p = fitting t (each_added s u (events t) p)
+pub item_fits : (t : Tree) → ((p es : List Event) → (EachFits (events t ++ es) → EachFits p) → EachFits es → EachFits p) → Fits t × Assigned t
+item_fits t p = fitting t (p (events t) [] (λ h. rw append-nil at h) tt)

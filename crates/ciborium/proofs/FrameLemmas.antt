@@ -1,8 +1,8 @@
 -- What the steps of the reader do to its frames.
-use Rattle.std.proofs.Common.{◌≡◌, ◌≢◌, ◌≤◌, ◌<◌, ◌+◌, ◌-◌, ◌*◌, ◌&&◌, inl, inr, ℕ, Bool, true, false, List, [], ◌∷◌, ◌++◌, length, Option, None, Some, zero, suc, get_or, set, refl, sym, ap, subst, ◌∙◌, arith, reverse}
+use Rattle.std.proofs.Common.{◌≡◌, ◌≢◌, ◌≤◌, ◌<◌, ◌+◌, ◌-◌, ◌*◌, ◌&&◌, ℕ, Bool, true, false, List, [], ◌∷◌, ◌++◌, length, Option, None, Some, zero, suc, get_or, set, refl, sym, ap, subst, ◌∙◌, arith, reverse}
 use Rattle.std.proofs.lemmas.List.{reverse-append}
 use Rattle.ciborium_ll.specs.declared.hdr.Header.{Header}
-use Rattle.ciborium_ll.specs.declared.hdr.Header.TheVariants.{Array, Map, Break}
+use Rattle.ciborium_ll.specs.declared.hdr.Header.TheVariants.{Array, Map}
 use Rattle.ciborium_ll.specs.Seen.{Seen, Takes}
 use Rattle.ciborium_ll.specs.Title.{Title, IsShortest}
 use Rattle.ciborium_value.specs.declared.value.Value.TheVariants as value
@@ -12,7 +12,7 @@ use Rattle.ciborium.proofs.ReaderLemmas.{closed}
 use Rattle.std.specs.Prelude.{IfSome, IfNone, MatchOption}
 use Rattle.ciborium.proofs.Taking.{takes_as}
 use Rattle.ciborium.proofs.Once.{append_nil}
-use Rattle.ciborium.proofs.ChildLemmas.{array_read, map_read, array_due, title_no_break, not_all}
+use Rattle.ciborium.proofs.ChildLemmas.{array_read, map_read, array_due, title_no_break, begun_no_break, not_all}
 use Rattle.ciborium_value.specs.declared.kind.Kind.TheVariants as kind
 use Rattle.ciborium_value.specs.declared.value.Value.{Value}
 use Rattle.ciborium_value.specs.Folding.{tagged}
@@ -25,43 +25,45 @@ use Rattle.ciborium.specs.declared.frames.Frame.TheVariants as code
 use Rattle.ciborium.specs.declared.frames.Items.{Items}
 use Rattle.ciborium.specs.declared.frames.Entries.{Entries}
 use Rattle.ciborium.specs.declared.frames.Handed.TheVariants as handed
-use Rattle.ciborium.specs.Damage.{semantic, Damage, in_title, TitleDamage, Due}
+use Rattle.ciborium.specs.Damage.{semantic, Damage, in_title, TitleDamage, Due, in_map, in_open_map, in_entry}
 use Rattle.ciborium.specs.Exact.{encoded, LevelsExact, ItemExact}
-use Rattle.ciborium.specs.Levels.{Level, Within, Fits, Stands, Handing}
+use Rattle.ciborium.specs.Levels.{Level, Within, Fits, of_array, of_map, of_open_array, of_open_map, Handing}
 use Rattle.ciborium.proofs.ToldLemmas.{told_handed, told_tag, told_array, told_map, told_titled}
 use Rattle.ciborium.specs.Reading.{IsFoldFault, Closes, IsNext, NamesFault, is_full}
 use Rattle.ciborium.proofs.Words.{FitsIn}
 use Rattle.ciborium.proofs.StringLemmas.{title_some}
-use Rattle.ciborium.specs.Frames.{in_hand, snoc, front, halves, halves_of, HasHalf, opened, Stage, Hands, HandFails, Faults, AskEnds, AskGives, AskFails, Told, InHand, IsFlagged, IsKept, CloseGives}
+use Rattle.ciborium.specs.Frames.{in_hand, snoc, front, halves, halves_of, HasHalf, opened, Stage, IsHandedOver, HandFails, Faults, AskEnds, AskGives, AskFails, IfAsked, InHand, IsFlagged, IsKept, CloseGives}
 use Rattle.ciborium.proofs.ReadLemmas.{snoc_count, pushed, pushed_pair, count_views, count_flat}
-use Rattle.ciborium.proofs.LevelLemmas.{level_more, level_whole, due_fails, tag_whole, negative_damage, array_more, map_more}
+use Rattle.ciborium.proofs.LevelLemmas.{begins, level_more, level_whole, due_fails, tag_whole, negative_damage, array_more, map_more}
 
 -- the frame that was pushed last is the innermost
 pub last_pushed : {A : Type 0} (xs ys : List A) (x : A) → ys ≡ xs ++ x ∷ [] → reverse ys ≡ x ∷ reverse xs
 last_pushed xs ys x e = ap reverse e ∙ reverse-append xs (x ∷ [])
 
 -- an array and a map with one item more
-pub items_more : (fs : List Frame) (l m : Items) (v : Value) (w : Bool) → m.count ≡ l.count → m.items.items ≡ l.items.items ++ v ∷ [] → Hands (code.Items l ∷ fs) (code.Items m ∷ fs) (Some v) None w w handed.Taken
+pub items_more : (fs : List Frame) (l m : Items) (v : Value) (w : Bool) → m.count ≡ l.count → m.items.items ≡ l.items.items ++ v ∷ [] → IsHandedOver (code.Items l ∷ fs) (code.Items m ∷ fs) (Some v) None w w handed.Taken
 items_more fs l m v w same e k limit from now b (r, p, q) =
     let more : views m.items.items ≡ snoc (views l.items.items) (view v) = sym (pushed view l.items.items m.items.items v e) in
     let count : tree_count (views m.items.items) ≡ tree_count (views l.items.items) + 1 = ap tree_count more ∙ snoc_count (views l.items.items) (view v) in
     let x = level_more limit _ _ (opened fs) (view v) b (ap Array same) more
-    (subst (λ (z : Option ℕ). Fits (Array z) (views m.items.items)) (sym same) (array_more l.count (views l.items.items) (views m.items.items) p.head count p.child)) p in
+    (subst (λ (z : Option ℕ). Fits (views m.items.items) (Array z)) (sym same)
+    (array_more l.count (views l.items.items) (views m.items.items) (p.title ++ []) count (p.child (p.title ++ []) [] (begins p.title [] p.head p.is_title)))) p in
     let y = told_handed k w (record { head = Array l.count; done = views l.items.items }) (record { head = Array m.count; done = views m.items.items }) (opened fs) (view v) b (ap Array same) more q in
     (refl, (r, (x, y)))
 
 pub entries_more : (fs : List Frame) (l m : Entries) (v : Value) (w : Bool) → m.count ≡ l.count → HasHalf m → halves_of m ≡ snoc (halves_of l) (view v)
-    → Hands (code.Entries l ∷ fs) (code.Entries m ∷ fs) (Some v) None w w handed.Taken
+    → IsHandedOver (code.Entries l ∷ fs) (code.Entries m ∷ fs) (Some v) None w w handed.Taken
 entries_more fs l m v w same half more k limit from now b (r, p, q) =
     let count : tree_count (halves_of m) ≡ tree_count (halves_of l) + 1 = ap tree_count more ∙ snoc_count (halves_of l) (view v) in
     let x = level_more limit _ _ (opened fs) (view v) b (ap Map same) more
-    (subst (λ (z : Option ℕ). Fits (Map z) (halves_of m)) (sym same) (map_more l.count (halves_of l) (halves_of m) p.head count p.child)) p in
+    (subst (λ (z : Option ℕ). Fits (halves_of m) (Map z)) (sym same)
+    (map_more l.count (halves_of l) (halves_of m) (p.title ++ []) count (p.child (p.title ++ []) [] (begins p.title [] p.head p.is_title)))) p in
     let y = told_handed k w (record { head = Map l.count; done = halves_of l }) (record { head = Map m.count; done = halves_of m }) (opened fs) (view v) b (ap Map same) more q in
     (refl, ((half, r.1), (x, y)))
 
 -- a tag is whole
 pub tag_up : (xs ys : List Frame) (x : Frame) (n at room : ℕ) (h : Header) (v u : Value) (w w' : Bool) → ys ≡ xs ++ x ∷ [] → tagged n (view v) ≡ Some (view u) → IsKept n (view v) (view u) w w'
-    → Hands (code.Tag n at h room ∷ reverse ys) (x ∷ reverse xs) (Some v) (Some u) w w' handed.Up
+    → IsHandedOver (code.Tag n at h room ∷ reverse ys) (x ∷ reverse xs) (Some v) (Some u) w w' handed.Up
 tag_up xs ys x n at room h v u w w' e f kept k limit from now b (r, p, q) =
     subst (λ (z : List Frame). Stage k w' limit z (Some u) from now b) (last_pushed xs ys x e)
     (r, tag_whole limit n _ (opened (reverse ys)) (view v) (view u) b refl refl p f, told_tag k w w' limit n (opened (reverse ys)) (view v) (view u) b p f kept q)
@@ -127,7 +129,7 @@ array_closed xs ys x l e k w limit from now b (p, y, r, within, ends, whole, tol
           (level_whole limit _ (opened (reverse ys)) (view (value.Array l.items)) p y within
           (λ inner q. array_read l.count (length l.items.items) (limit - length (opened (reverse ys))) (view (value.Array l.items)) (views l.items.items) (inner ++ y) (view_array l.items) (count_views view l.items.items) low
           (closed l.count (length l.items.items) (limit - length (opened (reverse ys)) - 1) (views l.items.items) inner y q ends))),
-      subst (λ (z : Tree). Told k w (length b) (ItemExact (opened (reverse ys)) z b)) (sym (view_array l.items))
+      subst (λ (z : Tree). IfAsked k w (length b) (ItemExact (opened (reverse ys)) z b)) (sym (view_array l.items))
           (told_array k w l.count limit (opened (reverse ys)) (views l.items.items) (length l.items.items) p y b (count_views view l.items.items) within ends whole told),
     )
 
@@ -135,7 +137,7 @@ pub map_closed : (xs ys : List Frame) (x : Frame) (l : Entries) → ys ≡ xs ++
 map_closed xs ys x l e k w limit from now b (p, y, r, within, ends, whole, told) =
     let low : 0 < limit - length (opened (reverse ys)) = omega (arith, within.4) in
     let within' = subst (λ (z : Bool). Within limit (record { head = Map l.count; done = halves z (flat (view_pairs l.entries.items)) } ∷ opened (reverse ys)) p) ends.0 within in
-    let told' = subst (λ (z : Bool). Told k w (length p) (LevelsExact (record { head = Map l.count; done = halves z (flat (view_pairs l.entries.items)) } ∷ opened (reverse ys)) p)) ends.0 told in
+    let told' = subst (λ (z : Bool). IfAsked k w (length p) (LevelsExact (record { head = Map l.count; done = halves z (flat (view_pairs l.entries.items)) } ∷ opened (reverse ys)) p)) ends.0 told in
     subst (λ (z : List Frame). Stage k w limit z (Some (value.Map l.entries)) from now b) (last_pushed xs ys x e) (
       r.1,
       subst (λ (z : List ℕ). Handing limit (opened (reverse ys)) (view (value.Map l.entries)) z) (sym whole)
@@ -143,7 +145,7 @@ map_closed xs ys x l e k w limit from now b (p, y, r, within, ends, whole, told)
           (λ inner q. map_read l.count (length l.entries.items) (limit - length (opened (reverse ys))) (view (value.Map l.entries)) (view_pairs l.entries.items) (inner ++ y) (view_map l.entries) (count_flat view_pair l.entries.items) low
           (closed l.count (length l.entries.items) (limit - length (opened (reverse ys)) - 1) (flat (view_pairs l.entries.items)) inner y
           (subst (λ (z : Bool). ReadsAll inner (limit - length (opened (reverse ys)) - 1) (halves z (flat (view_pairs l.entries.items)))) ends.0 q) ends.1))),
-      subst (λ (z : Tree). Told k w (length b) (ItemExact (opened (reverse ys)) z b)) (sym (view_map l.entries))
+      subst (λ (z : Tree). IfAsked k w (length b) (ItemExact (opened (reverse ys)) z b)) (sym (view_map l.entries))
           (told_map k w l.count limit (opened (reverse ys)) (view_pairs l.entries.items) (length l.entries.items) p y b (count_flat view_pair l.entries.items) within' ends.1 whole told'),
     )
 
@@ -151,9 +153,15 @@ map_closed xs ys x l e k w limit from now b (p, y, r, within, ends, whole, told)
 pub items_end : (l : Items) (n : ℕ) (y : List ℕ) → n ≡ length l.items.items → Closes l.count n y → AskEnds (code.Items l) y
 items_end l n y same c k w limit from now fs b (r, (within, told)) = (b, y, r, within, subst (λ (z : ℕ). Closes l.count z y) same c, refl, told)
 
-array_stands : (o : Option ℕ) (done : Trees) (d : ℕ) (h : Header) → tree_count done ≡ d → Fits (Array o) done → is_full o d ≡ false → (o ≡ None → h ≢ Break) → Stands (Array o) (tree_count done) h
-array_stands (Some n) done d h c fits full stays = let l = not_all n d full (omega arith) in omega arith
-array_stands None done d h c fits full stays = stays refl
+fits_in : (o : Option ℕ) (done : Trees) (d : ℕ) → tree_count done ≡ d → Fits done (Array o) → FitsIn o d
+fits_in _ done d c (of_array n l) = omega arith
+fits_in _ done d c of_open_array = tt
+
+items_due : (l : Items) (n : ℕ) (rest : List ℕ) → n ≡ length l.items.items → Fits (views l.items.items) (Array l.count) → is_full l.count n ≡ false → (l.count ≡ None → (r : List ℕ) → rest ≢ 255 ∷ r)
+    → Due (views l.items.items) rest (Array l.count)
+items_due l n rest same fits full stays =
+    let count = count_views view l.items.items ∙ sym same in
+    array_due l.count (views l.items.items) n rest count (fits_in l.count (views l.items.items) n count fits) full stays
 
 pub items_give : (l : Items) (n at now : ℕ) (h : Header) (y : List ℕ) (w w' : Bool) → n ≡ length l.items.items → at ≡ now → IsNext l.count n h → Title y h → IsFlagged w w' h y → AskGives (code.Items l) h at now w w' y
 items_give l n at now h y w w' same e next t flag k limit from fs b (r, (within, told)) = (
@@ -163,7 +171,7 @@ items_give l n at now h y w w' same e next t flag k limit from fs b (r, (within,
       before = b;
       title = y;
       within = within;
-      child = array_stands l.count (views l.items.items) n h (count_views view l.items.items ∙ sym same) within.5.fits next.due next.stays;
+      child = λ z r s. items_due l n z same within.5.fits next.due (λ none. begun_no_break h z r s (next.stays none));
       is_title = t;
       place = λ q. ap (λ z. z + length y) e;
       whole = refl;
@@ -172,33 +180,21 @@ items_give l n at now h y w w' same e next t flag k limit from fs b (r, (within,
   ),
 )
 
-fits_in : (o : Option ℕ) (done : Trees) (d : ℕ) → tree_count done ≡ d → Fits (Array o) done → FitsIn o d
-fits_in (Some n) done d c fits = omega arith
-fits_in None done d c fits = tt
-
 pub items_fail : {E : Type 0} (ends : E → Bool) (l : Items) (n : ℕ) (old new : Seen) (e : Error E) → n ≡ length l.items.items → is_full l.count n ≡ false → NamesFault ends TitleDamage old new e → AskFails ends (code.Items l) old new e
 items_fail ends l n old new e same full names limit from fs b off (r, (w, told)) =
-    let count = count_views view l.items.items ∙ sym same in
     due_fails ends limit (opened (code.Items l ∷ fs)) from old.offset new.offset old.left b TitleDamage e off w
-    (λ stop rest f d. (array_due l.count (views l.items.items) n rest count (fits_in l.count (views l.items.items) n count w.5.fits) full (λ none. title_no_break stop rest f d), in_title rest _ f d)) names
+    (λ stop rest f d. (items_due l n rest same w.5.fits full (λ none. title_no_break stop rest f d), in_title rest _ f d)) names
 
 -- what a map is asked
 pub entries_end : (l : Entries) (y : List ℕ) → l.half ≡ false → Closes l.count (length l.entries.items) y → AskEnds (code.Entries l) y
 entries_end l y nil c k w limit from now fs b (r, (within, told)) = (b, y, r, within, (nil, c), refl, told)
 
-map_stands : (o : Option ℕ) (es : List (Value × Value)) (half : Bool) (h : Header) → Fits (Map o) (halves half (flat (view_pairs es))) → (half ≡ true → 0 < length es) → (half ≡ false → IsNext o (length es) h)
-    → Stands (Map o) (tree_count (halves half (flat (view_pairs es)))) h
-map_stands (Some n) es false h fits some next = let c = count_flat view_pair es in let i = next refl in let l = not_all n (length es) i.due (omega arith) in omega arith
-map_stands (Some n) es true h fits some next = let c = half_count es (some refl) in omega arith
-map_stands None es false h fits some next = let i = next refl in inr (i.stays refl)
-map_stands None es true h fits some next = let c = half_count es (some refl) in inl (omega arith)
-
-map_is_due : (o : Option ℕ) (es : List (Value × Value)) (half : Bool) (rest : List ℕ) → Fits (Map o) (halves half (flat (view_pairs es))) → (half ≡ true → 0 < length es) → (half ≡ false → is_full o (length es) ≡ false)
-    → ((r : List ℕ) → rest ≢ 255 ∷ r) → Due (Map o) (tree_count (halves half (flat (view_pairs es)))) rest
-map_is_due (Some n) es false rest fits some full stays = let c = count_flat view_pair es in let i = full refl in let l = not_all n (length es) i (omega arith) in omega arith
-map_is_due (Some n) es true rest fits some full stays = let c = half_count es (some refl) in omega arith
-map_is_due None es false rest fits some full stays = inr stays
-map_is_due None es true rest fits some full stays = let c = half_count es (some refl) in inl (omega arith)
+map_is_due : (o : Option ℕ) (es : List (Value × Value)) (half : Bool) (rest : List ℕ) → Fits (halves half (flat (view_pairs es))) (Map o) → (half ≡ true → 0 < length es) → (half ≡ false → is_full o (length es) ≡ false)
+    → (half ≡ false → o ≡ None → (r : List ℕ) → rest ≢ 255 ∷ r) → Due (halves half (flat (view_pairs es))) rest (Map o)
+map_is_due _ es false rest (of_map n few) some full stays = let c = count_flat view_pair es in let i = full refl in let l = not_all n (length es) i (omega arith) in in_map n (omega arith)
+map_is_due _ es true rest (of_map n few) some full stays = let c = half_count es (some refl) in in_map n (omega arith)
+map_is_due _ es false rest of_open_map some full stays = in_open_map (stays refl refl)
+map_is_due _ es true rest of_open_map some full stays = let c = half_count es (some refl) in in_entry (omega arith)
 
 pub entries_give : (l : Entries) (at now : ℕ) (h : Header) (y : List ℕ) (w w' : Bool) → at ≡ now → (l.half ≡ false → IsNext l.count (length l.entries.items) h) → Title y h → IsFlagged w w' h y
     → AskGives (code.Entries l) h at now w w' y
@@ -209,7 +205,7 @@ entries_give l at now h y w w' e next t flag k limit from fs b (r, (within, told
       before = b;
       title = y;
       within = within;
-      child = map_stands l.count l.entries.items l.half h within.5.fits r.0 next;
+      child = λ z q s. map_is_due l.count l.entries.items l.half z within.5.fits r.0 (λ e. (next e).due) (λ e none. begun_no_break h z q s ((next e).stays none));
       is_title = t;
       place = λ q. ap (λ z. z + length y) e;
       whole = refl;
@@ -221,7 +217,7 @@ entries_give l at now h y w w' e next t flag k limit from fs b (r, (within, told
 pub entries_fail : {E : Type 0} (ends : E → Bool) (l : Entries) (old new : Seen) (e : Error E) → (l.half ≡ false → is_full l.count (length l.entries.items) ≡ false) → NamesFault ends TitleDamage old new e → AskFails ends (code.Entries l) old new e
 entries_fail ends l old new e full names limit from fs b off (r, (w, told)) =
     due_fails ends limit (opened (code.Entries l ∷ fs)) from old.offset new.offset old.left b TitleDamage e off w
-    (λ stop rest f d. (map_is_due l.count l.entries.items l.half rest w.5.fits r.0 full (title_no_break stop rest f d), in_title rest _ f d)) names
+    (λ stop rest f d. (map_is_due l.count l.entries.items l.half rest w.5.fits r.0 full (λ e none. title_no_break stop rest f d), in_title rest _ f d)) names
 
 pub items_part : (l : Items) (n : ℕ) (o : Option (ℕ × Header)) (old new : Seen) (w w' u : Bool) → n ≡ length l.items.items → IfSome o (λ r. Takes old new (λ b. Title b r.1 × IsShortest u b r.1)) → IfSome o (λ r. r.0 ≡ old.offset)
     → IfSome o (λ r. IsNext l.count n r.1) → MatchOption o (w' ≡ w) (λ r. w' ≡ (w && (u && encoded r.1))) → IfSome o (λ r. Takes old new (AskGives (code.Items l) r.1 r.0 old.offset w w'))

@@ -15,13 +15,13 @@ use Rattle.ciborium_value.specs.Tree.{Tree, integer, bytes, text, array, map, ta
 use Rattle.ciborium_value.specs.Folding.{tagged, fold_bytes, big_endian_from, without_zeros, IsTooNegative}
 use Rattle.ciborium.specs.Spelling.{Spells}
 use Rattle.ciborium.specs.Meaning.{meaning, simple_meaning}
-use Rattle.ciborium.specs.Damage.{Fault, end, deep, syntax, semantic, Damage, in_title, in_bytes, in_text, unassigned, stray_break, too_negative, too_deep, in_child, in_tag, in_free, IsLevel, Opens}
+use Rattle.ciborium.specs.Damage.{Fault, end, deep, syntax, semantic, Damage, in_title, in_bytes, in_text, unassigned, stray_break, too_negative, too_deep, in_child, in_free, TitleDamage, cut_title, bad_title, IsLevel, Opens, level_array, level_map, level_tag}
 use Rattle.ciborium.specs.Front.{Front}
-use Rattle.ciborium.specs.Reading.{ReadsBehind}
-use Rattle.ciborium.proofs.Words.{TaggedBehind}
+use Rattle.ciborium.specs.Reading.{ReadsAfterTitle}
+use Rattle.ciborium.proofs.Words.{TaggedAfterTitle}
 use Rattle.ciborium.proofs.StringLemmas.{title_some}
 use Rattle.ciborium.proofs.ChildLemmas.{array_read, map_read}
-use Rattle.ciborium.proofs.TagLemmas.{tag_read, tag_level, free_depth, bytes_meant}
+use Rattle.ciborium.proofs.TagLemmas.{tag_read, tag_level, free_depth, bytes_meant, title_free, bytes_free, in_tag}
 use Rattle.ciborium.proofs.StringCases.{PartCase, closes, of_kind, other, bytes_part, StringCase, string_front, string_fault, bytes_case, text_case, bytes_behind, shorter}
 use Rattle.ciborium.proofs.ChildCases.{ItemCase, readable, damaged, Decided, ArrayCase, array_front, array_fault, array_case, MapCase, map_front, map_fault, map_case}
 
@@ -63,7 +63,7 @@ leaf stop limit b rest h t v s spells low means =
     readable v rest (record { spelling = s.title; whole = s.whole; reads = record { tree = t; spells = spells; shallow = low; means = means } })
 
 -- an item after its title
-behind : (stop limit : ℕ) (b inside read rest : List ℕ) (h : Header) (v : Tree) → Begins b h inside → inside ≡ read ++ rest → ReadsBehind h limit v read → ItemCase stop limit b
+behind : (stop limit : ℕ) (b inside read rest : List ℕ) (h : Header) (v : Tree) → Begins b h inside → inside ≡ read ++ rest → ReadsAfterTitle h limit v read → ItemCase stop limit b
 behind stop limit b inside read rest h v s w p =
     readable v rest (record { spelling = s.title ++ read; whole = s.whole ∙ ap (λ z. s.title ++ z) w ∙ sym (append_assoc s.title read rest); reads = p s.title s.is_title })
 
@@ -85,7 +85,7 @@ text_item stop limit b (string_front f) =
 text_item stop limit b (string_fault e d) = damaged e (in_text b limit e d)
 
 -- at the limit 0 a header that opens a level is too deep
-no_level : (stop limit : ℕ) (b rest : List ℕ) (h : Header) → limit ≡ 0 → Begins b h rest → Opens h rest → ItemCase stop limit b
+no_level : (stop limit : ℕ) (b rest : List ℕ) (h : Header) → limit ≡ 0 → Begins b h rest → Opens rest h → ItemCase stop limit b
 no_level stop limit b rest h e s o = damaged deep (subst (λ (z : ℕ). Damage stop b z deep) (sym e) (too_deep b rest h s o))
 
 array_item : (stop limit : ℕ) (b inside : List ℕ) (o : Option ℕ) → Begins b (Array o) inside → 0 < limit → ArrayCase stop o (limit - 1) inside → ItemCase stop limit b
@@ -99,7 +99,7 @@ map_item stop limit b inside o s some (map_front f) =
 map_item stop limit b inside o s some (map_fault e d) = damaged e (in_child b inside d.rest limit (Map o) d.done e s some d.fronts d.due d.damage)
 
 -- the item after a tag is there
-content_case : (stop limit n : ℕ) (b inside read rest : List ℕ) (c : Tree) → Begins b (Tag n) inside → inside ≡ read ++ rest → TaggedBehind n limit c read → ItemCase stop limit b
+content_case : (stop limit n : ℕ) (b inside read rest : List ℕ) (c : Tree) → Begins b (Tag n) inside → inside ≡ read ++ rest → TaggedAfterTitle n limit c read → ItemCase stop limit b
 content_case stop limit n b inside read rest c s w p = by_fold (tagged n c) refl
   where
     negative : IsTooNegative n c → ItemCase stop limit b
@@ -128,7 +128,7 @@ module _ (stop n : ℕ) (decided : Decided stop n) (limit : ℕ) (b : List ℕ) 
       by_item some (damaged e d) = damaged e (in_tag b inside limit t e s some level d)
 
       by_limit : (limit ≡ 0) ⊎ (limit ≡ 0 → ⊥) → ItemCase stop limit b
-      by_limit (inl e) = no_level stop limit b inside (Tag t) e s level
+      by_limit (inl e) = no_level stop limit b inside (Tag t) e s (level_tag t level)
       by_limit (inr p) = let l = less (Tag t) inside s in by_item (omega arith) (decided (limit - 1) inside (omega arith) (omega arith) (inner (Tag t) inside s))
 
   free_case : (t : ℕ) (inside : List ℕ) → Begins b (Tag t) inside → (t ≡ 2) ⊎ (t ≡ 3) → ItemCase stop limit b
@@ -141,7 +141,7 @@ module _ (stop n : ℕ) (decided : Decided stop n) (limit : ℕ) (b : List ℕ) 
         shallow = free_depth t limit (joined f.bodies) which;
         means = refl;
       })
-      by_string o r u (string_fault e d) = damaged e (in_free b inside limit t e s (which, inl (o, r, u)) (in_bytes inside limit e d))
+      by_string o r u (string_fault e d) = damaged e (in_free b inside limit t e s (bytes_free t inside r o which u) (in_bytes inside limit e d))
 
       by_part : (h : Header) (r : List ℕ) → Begins inside h r → PartCase Bytes h → ItemCase stop limit b
       by_part h r u (closes e) = level_case t inside s (inr (h, r, u, λ o f. let g : Break ≡ Bytes o = sym e ∙ f in cc))
@@ -151,11 +151,14 @@ module _ (stop n : ℕ) (decided : Decided stop n) (limit : ℕ) (b : List ℕ) 
           by_string o r v (bytes_case stop inside r o v (omega arith) (inner (Tag t) inside s))
       by_part h r u (other p q) = level_case t inside s (inr (h, r, u, q))
 
+      by_damage : (e : Fault) → TitleDamage stop inside e → ItemCase stop limit b
+      by_damage e d = damaged e (in_free b inside limit t e s (title_free t stop inside e which d) (in_title inside limit e d))
+
       by_title : TitleCase inside → ItemCase stop limit b
-      by_title (is_cut c) = damaged end (in_free b inside limit t end s (which, inr (inl c)) (in_title inside limit end c))
+      by_title (is_cut c) = by_damage end (cut_title c)
       by_title (starts_bad c) =
           let l = less (Tag t) inside s in
-          damaged (syntax (stop - length inside)) (in_free b inside limit t (syntax (stop - length inside)) s (which, inr (inr c)) (in_title inside limit (syntax (stop - length inside)) (c, omega arith)))
+          by_damage (syntax (stop - length inside)) (bad_title (stop - length inside) c (omega arith))
       by_title (begins h r u) = by_part h r u (bytes_part h)
 
   tag_case : (t : ℕ) (inside : List ℕ) → Begins b (Tag t) inside → ItemCase stop limit b
@@ -170,13 +173,13 @@ module _ (stop n : ℕ) (decided : Decided stop n) (limit : ℕ) (b : List ℕ) 
       by_2 (inr p) = by_3 (cases_eq t 3) p
 
   list_case : (o : Option ℕ) (inside : List ℕ) → Begins b (Array o) inside → (limit ≡ 0) ⊎ (limit ≡ 0 → ⊥) → ItemCase stop limit b
-  list_case o inside s (inl e) = no_level stop limit b inside (Array o) e s tt
+  list_case o inside s (inl e) = no_level stop limit b inside (Array o) e s (level_array o)
   list_case o inside s (inr p) =
       let l = less (Array o) inside s in
       array_item stop limit b inside o s (omega arith) (array_case stop n decided o (limit - 1) inside (omega arith) (omega arith) (inner (Array o) inside s))
 
   pairs_case : (o : Option ℕ) (inside : List ℕ) → Begins b (Map o) inside → (limit ≡ 0) ⊎ (limit ≡ 0 → ⊥) → ItemCase stop limit b
-  pairs_case o inside s (inl e) = no_level stop limit b inside (Map o) e s tt
+  pairs_case o inside s (inl e) = no_level stop limit b inside (Map o) e s (level_map o)
   pairs_case o inside s (inr p) =
       let l = less (Map o) inside s in
       map_item stop limit b inside o s (omega arith) (map_case stop n decided o (limit - 1) inside (omega arith) (omega arith) (inner (Map o) inside s))
@@ -194,8 +197,8 @@ module _ (stop n : ℕ) (decided : Decided stop n) (limit : ℕ) (b : List ℕ) 
   head_case (Tag t) rest s = tag_case t rest s
 
   item_step : TitleCase b → ItemCase stop limit b
-  item_step (is_cut c) = damaged end (in_title b limit end c)
-  item_step (starts_bad c) = damaged (syntax (stop - length b)) (in_title b limit (syntax (stop - length b)) (c, omega arith))
+  item_step (is_cut c) = damaged end (in_title b limit end (cut_title c))
+  item_step (starts_bad c) = damaged (syntax (stop - length b)) (in_title b limit _ (bad_title (stop - length b) c (omega arith)))
   item_step (begins h rest s) = head_case h rest s
 
 decided_below : (n stop : ℕ) → Decided stop n

@@ -1,85 +1,35 @@
 -- Open levels: a fault in the innermost one is one of the whole, and an item that is whole is
 -- handed over.
-use Rattle.std.proofs.Common.{◌≡◌, ◌<◌, ◌+◌, ◌-◌, inl, inr, ℕ, Bool, List, [], ◌∷◌, ◌++◌, length, Option, None, Some, refl, sym, ap, subst, ◌∙◌, arith, append_assoc, length-append}
+use Rattle.std.proofs.Common.{◌≡◌, ◌<◌, ◌+◌, ◌-◌, ℕ, Bool, List, [], ◌∷◌, ◌++◌, length, Option, None, Some, refl, sym, ap, subst, ◌∙◌, arith, append_assoc, length-append}
 use Rattle.ciborium_ll.specs.declared.hdr.Header.{Header}
-use Rattle.ciborium_ll.specs.declared.hdr.Header.TheVariants.{Positive, Negative, Float, Simple, Tag, Break, Bytes, Text, Array, Map}
+use Rattle.ciborium_ll.specs.declared.hdr.Header.TheVariants.{Tag, Array, Map}
 use Rattle.ciborium_ll.specs.Title.{Title, Begins}
-use Rattle.ciborium_value.specs.Tree.{Tree, Trees, no_trees, one_more, tree_count}
+use Rattle.ciborium_value.specs.Tree.{Tree, Trees, no_trees, tree_count}
 use Rattle.ciborium.specs.declared.de.Error.{Error}
-use Rattle.ciborium.specs.Damage.{Fault, semantic, Damage, in_child, in_tag, too_negative, Due, IsLevel}
+use Rattle.ciborium.specs.Damage.{Fault, semantic, Damage, in_child, too_negative, Due, in_array, in_map, in_open_array, in_open_map, in_entry}
 use Rattle.ciborium.specs.Front.{Reads, ReadsAll}
-use Rattle.ciborium.specs.Reading.{OpensOver, IfKnown, FailsAt, FailsBehind, ReadsBehind}
+use Rattle.ciborium.specs.Reading.{IfKnown, FailsAt, FailsAfterTitle, ReadsAfterTitle}
 use Rattle.ciborium.proofs.Taking.{fails_over}
 use Rattle.ciborium.proofs.Once.{append_nil}
 use Rattle.ciborium.specs.Frames.{snoc}
 use Rattle.ciborium.proofs.ReadLemmas.{all_none, all_more}
-use Rattle.ciborium.proofs.ChildLemmas.{begun_no_break, all_count}
+use Rattle.ciborium.proofs.ChildLemmas.{none_read}
 use Rattle.ciborium_value.specs.declared.kind.Kind.TheVariants as kind
 use Rattle.ciborium_value.specs.Folding.{IsTooNegative, fold_bytes}
 use Rattle.ciborium_value.specs.Tree.{bytes}
 use Rattle.ciborium.proofs.TagLemmas.{tag_read, tag_level, bytes_meant}
-use Rattle.ciborium.specs.Spelling.{Spells, SpellsAll}
+use Rattle.ciborium.specs.Spelling.{Spells}
 use Rattle.ciborium_value.specs.Folding.{tagged}
-use Rattle.ciborium.specs.Levels.{Level, Stands, DueIn, IsChild, IsDue, Fits, Within, Titled, Handing}
+use Rattle.ciborium.specs.Levels.{Level, IsChild, IsDue, Fits, of_array, of_map, of_open_array, of_open_map, Within, Titled, Handing}
 
--- bytes that begin with the title of a child are due
-opens_level : (n : ℕ) (h : Header) (b : List ℕ) → OpensOver n h → (rest : List ℕ) → Begins b h rest → IsLevel n b
-opens_level n h b (inl plain) rest s = inl plain
-opens_level n h b (inr not) rest s = inr (h, rest, s, not)
-
-stands_due : (k : Header) (d : ℕ) (h : Header) (b rest : List ℕ) → Stands k d h → Begins b h rest → DueIn k d b
-stands_due (Positive n) d h b rest s t = absurd s
-stands_due (Negative n) d h b rest s t = absurd s
-stands_due (Float f) d h b rest s t = absurd s
-stands_due (Simple n) d h b rest s t = absurd s
-stands_due (Tag n) d h b rest s t = opens_level n h b s rest t
-stands_due Break d h b rest s t = absurd s
-stands_due (Bytes o) d h b rest s t = absurd s
-stands_due (Text o) d h b rest s t = absurd s
-stands_due (Array (Some n)) d h b rest s t = s
-stands_due (Array None) d h b rest s t = begun_no_break h b rest t s
-stands_due (Map (Some n)) d h b rest s t = s
-stands_due (Map None) d h b rest (inl odd) t = inl odd
-stands_due (Map None) d h b rest (inr not) t = inr (begun_no_break h b rest t not)
-
-pub child_due : (fs : List Level) (h : Header) (b rest : List ℕ) → IsChild fs h → Begins b h rest → IsDue fs b
-child_due [] h b rest c t = tt
-child_due (f ∷ fs) h b rest c t = stands_due f.head (tree_count f.done) h b rest c t
-
-none_trees : (ts : Trees) (b : List ℕ) → tree_count ts ≡ 0 → SpellsAll b ts → b ≡ []
-none_trees no_trees b e p = p
-none_trees (one_more t ts) b e p = let f : 1 + tree_count ts ≡ 0 = e in absurd (omega arith)
-
--- no items take no bytes
-pub none_read : (b : List ℕ) (low : ℕ) (done : Trees) → done ≡ no_trees → ReadsAll b low done → b ≡ []
-none_read b low done e p = none_trees p.trees b (all_count p.trees done p.means ∙ ap tree_count e) p.spells
-
-begins : (title more : List ℕ) (k : Header) → Title title k → Begins (title ++ more) k more
+pub begins : (title more : List ℕ) (k : Header) → Title title k → Begins (title ++ more) k more
 begins title more k t = record { title = title; is_title = t; whole = refl }
 
 -- a fault in a level is one of its item
-child_damage : (k : Header) (done : Trees) (stop limit : ℕ) (title inner rest : List ℕ) (f : Fault) → 0 < limit → Title title k → ReadsAll inner (limit - 1) done
-    → Due k (tree_count done) rest → Damage stop rest (limit - 1) f → Damage stop (title ++ (inner ++ rest)) limit f
-child_damage k done stop limit title inner rest f low t p due d =
+level_damage : (k : Header) (done : Trees) (stop limit : ℕ) (title inner rest : List ℕ) (f : Fault) → 0 < limit → Title title k → ReadsAll inner (limit - 1) done
+    → Due done rest k → Damage stop rest (limit - 1) f → Damage stop (title ++ (inner ++ rest)) limit f
+level_damage k done stop limit title inner rest f low t p due d =
     in_child (title ++ (inner ++ rest)) (inner ++ rest) rest limit k done f (begins title (inner ++ rest) k t) low (record { spelling = inner; whole = refl; reads = p }) due d
-
-tagged_damage : (n stop limit : ℕ) (title inner rest : List ℕ) (f : Fault) → 0 < limit → Title title (Tag n) → inner ≡ [] → IsLevel n rest → Damage stop rest (limit - 1) f
-    → Damage stop (title ++ (inner ++ rest)) limit f
-tagged_damage n stop limit title inner rest f low t e due d =
-    subst (λ (z : List ℕ). Damage stop (title ++ (z ++ rest)) limit f) (sym e) (in_tag (title ++ rest) rest limit n f (begins title rest (Tag n) t) low due d)
-
-level_damage : (k : Header) (done : Trees) (stop limit : ℕ) (title inner rest : List ℕ) (f : Fault) → 0 < limit → Title title k → ReadsAll inner (limit - 1) done → Fits k done
-    → DueIn k (tree_count done) rest → Damage stop rest (limit - 1) f → Damage stop (title ++ (inner ++ rest)) limit f
-level_damage (Positive n) done stop limit title inner rest f low t p fits due d = absurd due
-level_damage (Negative n) done stop limit title inner rest f low t p fits due d = absurd due
-level_damage (Float g) done stop limit title inner rest f low t p fits due d = absurd due
-level_damage (Simple n) done stop limit title inner rest f low t p fits due d = absurd due
-level_damage (Tag n) done stop limit title inner rest f low t p fits due d = tagged_damage n stop limit title inner rest f low t (none_read inner (limit - 1) done fits p) due d
-level_damage Break done stop limit title inner rest f low t p fits due d = absurd due
-level_damage (Bytes o) done stop limit title inner rest f low t p fits due d = absurd due
-level_damage (Text o) done stop limit title inner rest f low t p fits due d = absurd due
-level_damage (Array o) done stop limit title inner rest f low t p fits due d = child_damage (Array o) done stop limit title inner rest f low t p due d
-level_damage (Map o) done stop limit title inner rest f low t p fits due d = child_damage (Map o) done stop limit title inner rest f low t p due d
 
 pub joined_up : (x a b title inner rest : List ℕ) → x ≡ a ++ b → b ≡ title ++ inner → x ++ rest ≡ a ++ (title ++ (inner ++ rest))
 joined_up x a b title inner rest e f = ap (λ z. z ++ rest) (e ∙ ap (λ z. a ++ z) f) ∙ append_assoc a (title ++ inner) rest ∙ ap (λ z. a ++ z) (append_assoc title inner rest)
@@ -93,19 +43,19 @@ damaged limit (g ∷ gs) x rest stop f w due d =
     let p = w.5 in
     let low : 0 < limit - length gs = omega (arith, w.4) in
     let same : limit - length (g ∷ gs) ≡ limit - length gs - 1 = omega arith in
-    let inside = level_damage g.head g.done stop (limit - length gs) p.title p.inner rest f low p.is_title p.reads p.fits due (subst (λ (z : ℕ). Damage stop rest z f) same d) in
+    let inside = level_damage g.head g.done stop (limit - length gs) p.title p.inner rest f low p.is_title p.reads due (subst (λ (z : ℕ). Damage stop rest z f) same d) in
     subst (λ (z : List ℕ). Damage stop z limit f) (sym (joined_up x w.0 w.1 p.title p.inner rest w.6 p.whole))
-    (damaged limit gs w.0 (p.title ++ (p.inner ++ rest)) stop f w.2 (child_due gs g.head (p.title ++ (p.inner ++ rest)) (p.inner ++ rest) w.3 (begins p.title (p.inner ++ rest) g.head p.is_title)) inside)
+    (damaged limit gs w.0 (p.title ++ (p.inner ++ rest)) stop f w.2 (w.3 (p.title ++ (p.inner ++ rest)) (p.inner ++ rest) (begins p.title (p.inner ++ rest) g.head p.is_title)) inside)
 
 -- a fault after a title is one of the whole
 pub titled_fails : {E : Type 0} (ends : E → Bool) (limit : ℕ) (fs : List Level) (h : Header) (from at o o' : ℕ) (l : Option (List ℕ)) (b : List ℕ) (e : Error E) → from + length b ≡ o → Titled limit fs h at from o b
-    → FailsBehind ends h at o l o' (λ stop b f. Damage stop b (limit - length fs) f) e → IfKnown l (λ rest. FailsAt ends (b ++ rest) from o' (λ stop b f. Damage stop b limit f) e)
+    → FailsAfterTitle ends h at o l o' (λ stop b f. Damage stop b (limit - length fs) f) e → IfKnown l (λ rest. FailsAt ends (b ++ rest) from o' (λ stop b f. Damage stop b limit f) e)
 titled_fails ends limit fs h from at o o' None b e same t w = tt
 titled_fails ends limit fs h from at o o' (Some rest) b e same t w =
     let start : at ≡ from + length t.before = omega (arith, same, t.place same, ap length t.whole, length-append t.before t.title) in
     subst (λ (z : List ℕ). FailsAt ends z from o' (λ stop b f. Damage stop b limit f) e) (sym (ap (λ z. z ++ rest) t.whole ∙ append_assoc t.before t.title rest))
     (fails_over ends t.before (t.title ++ rest) from at o' (λ stop b f. Damage stop b (limit - length fs) f) (λ stop b f. Damage stop b limit f) e start
-    (λ stop f d. damaged limit fs t.before (t.title ++ rest) stop f t.within (child_due fs h (t.title ++ rest) rest t.child (begins t.title rest h t.is_title)) d)
+    (λ stop f d. damaged limit fs t.before (t.title ++ rest) stop f t.within (t.child (t.title ++ rest) rest (begins t.title rest h t.is_title)) d)
     (w t.title t.is_title (t.place same)))
 
 -- a fault if the next item is due is one of the whole
@@ -117,7 +67,7 @@ due_fails ends limit fs from o o' (Some rest) b D e same t due w =
     fails_over ends b rest from o o' D (λ stop b f. Damage stop b limit f) e (sym same) (λ stop f d. let q = due stop rest f d in damaged limit fs b rest stop f t q.0 q.1) w
 
 -- an item that opens no level
-pub titled_read : (limit : ℕ) (fs : List Level) (h : Header) (at from now : ℕ) (b y : List ℕ) (v : Tree) → Titled limit fs h at from now b → ReadsBehind h (limit - length fs) v y → Handing limit fs v (b ++ y)
+pub titled_read : (limit : ℕ) (fs : List Level) (h : Header) (at from now : ℕ) (b y : List ℕ) (v : Tree) → Titled limit fs h at from now b → ReadsAfterTitle h (limit - length fs) v y → Handing limit fs v (b ++ y)
 titled_read limit fs h at from now b y v t r = record {
   before = t.before;
   title = t.title;
@@ -131,7 +81,7 @@ titled_read limit fs h at from now b y v t r = record {
 }
 
 -- a level is opened
-pub level_opened : (limit : ℕ) (fs : List Level) (h : Header) (at from now : ℕ) (b : List ℕ) → Titled limit fs h at from now b → length fs < limit → Fits h no_trees
+pub level_opened : (limit : ℕ) (fs : List Level) (h : Header) (at from now : ℕ) (b : List ℕ) → Titled limit fs h at from now b → length fs < limit → Fits no_trees h
     → Within limit (record { head = h; done = no_trees } ∷ fs) b
 level_opened limit fs h at from now b t low fits = (
   t.before,
@@ -144,7 +94,7 @@ level_opened limit fs h at from now b t low fits = (
 )
 
 -- an item is handed to its level
-pub level_more : (limit : ℕ) (f g : Level) (fs : List Level) (v : Tree) (b : List ℕ) → g.head ≡ f.head → g.done ≡ snoc f.done v → Fits g.head g.done → Handing limit (f ∷ fs) v b → Within limit (g ∷ fs) b
+pub level_more : (limit : ℕ) (f g : Level) (fs : List Level) (v : Tree) (b : List ℕ) → g.head ≡ f.head → g.done ≡ snoc f.done v → Fits g.done g.head → Handing limit (f ∷ fs) v b → Within limit (g ∷ fs) b
 level_more limit f g fs v b same more fits p =
     let w = p.within in
     let q = w.5 in
@@ -168,7 +118,7 @@ level_more limit f g fs v b same more fits p =
 
 -- a level is whole
 pub level_whole : (limit : ℕ) (f : Level) (fs : List Level) (v : Tree) (b y : List ℕ) → Within limit (f ∷ fs) b
-    → ((inner : List ℕ) → ReadsAll inner (limit - length fs - 1) f.done → ReadsBehind f.head (limit - length fs) v (inner ++ y)) → Handing limit fs v (b ++ y)
+    → ((inner : List ℕ) → ReadsAll inner (limit - length fs - 1) f.done → ReadsAfterTitle f.head (limit - length fs) v (inner ++ y)) → Handing limit fs v (b ++ y)
 level_whole limit f fs v b y w r =
     let q = w.5 in record {
       before = w.0;
@@ -219,13 +169,14 @@ negative_damage limit n f fs c b rest stop is nil p (three, x, of, none) =
     let whole : b ≡ w.0 ++ (q.title ++ (p.title ++ p.rest)) = p.whole ∙ joined_up p.before w.0 w.1 q.title q.inner (p.title ++ p.rest) w.6 q.whole ∙ ap (λ z. w.0 ++ (q.title ++ (z ++ (p.title ++ p.rest)))) nothing in
     subst (λ (z : List ℕ). Damage stop z limit (semantic kind.BigNegative)) (sym (joined_up b w.0 (q.title ++ (p.title ++ p.rest)) q.title (p.title ++ p.rest) rest whole refl))
     (damaged limit fs w.0 (q.title ++ ((p.title ++ p.rest) ++ rest)) stop (semantic kind.BigNegative) w.2
-    (child_due fs f.head (q.title ++ ((p.title ++ p.rest) ++ rest)) ((p.title ++ p.rest) ++ rest) w.3 (begins q.title ((p.title ++ p.rest) ++ rest) f.head q.is_title)) d)
+    (w.3 (q.title ++ ((p.title ++ p.rest) ++ rest)) ((p.title ++ p.rest) ++ rest) (begins q.title ((p.title ++ p.rest) ++ rest) f.head q.is_title)) d)
 
 -- one item more
-pub array_more : (o : Option ℕ) (done more : Trees) (h : Header) → tree_count more ≡ tree_count done + 1 → Stands (Array o) (tree_count done) h → Fits (Array o) more
-array_more (Some n) done more h e s = omega arith
-array_more None done more h e s = tt
+pub array_more : (o : Option ℕ) (done more : Trees) (rest : List ℕ) → tree_count more ≡ tree_count done + 1 → Due done rest (Array o) → Fits more (Array o)
+array_more _ done more rest e (in_array n l) = of_array n (omega arith)
+array_more _ done more rest e (in_open_array _) = of_open_array
 
-pub map_more : (o : Option ℕ) (done more : Trees) (h : Header) → tree_count more ≡ tree_count done + 1 → Stands (Map o) (tree_count done) h → Fits (Map o) more
-map_more (Some n) done more h e s = omega arith
-map_more None done more h e s = tt
+pub map_more : (o : Option ℕ) (done more : Trees) (rest : List ℕ) → tree_count more ≡ tree_count done + 1 → Due done rest (Map o) → Fits more (Map o)
+map_more _ done more rest e (in_map n l) = of_map n (omega arith)
+map_more _ done more rest e (in_open_map _) = of_open_map
+map_more _ done more rest e (in_entry _) = of_open_map

@@ -5,6 +5,7 @@ pub mod OneTurns
 pub mod Once
 pub mod Taking
 pub mod Halting
+pub mod Passing
 pub mod Unread
 pub mod StringLemmas
 pub mod ReadLemmas
@@ -27,6 +28,7 @@ pub mod Folded
 pub mod Exact
 pub mod Parts
 pub mod Excludes
+pub mod FreeTags
 pub mod Encoded
 pub mod OtherDamage
 pub mod OtherTitles

@@ -12,9 +12,9 @@ use Rattle.ciborium.specs.declared.frames.Frame.TheVariants as code
 use Rattle.ciborium.specs.declared.frames.Opened.TheVariants as opens
 use Rattle.ciborium.specs.Front.{HoldsOne}
 use Rattle.ciborium.specs.Levels.{Titled}
-use Rattle.ciborium.specs.Reading.{OneBehind, IfMemory}
+use Rattle.ciborium.specs.Reading.{OneAfterTitle, IfMemory}
 use Rattle.ciborium.specs.Typed.{Gives}
-use Rattle.ciborium.specs.Frames.{opened, Stage, IsBegun, Opening, AskGives, Fills, FillGives, FillHolds}
+use Rattle.ciborium.specs.Frames.{opened, Stage, IsBegun, Opening, AskGives, FillsFrame, FillGives, FillHolds}
 use Rattle.ciborium.proofs.Taking.{takes_as, takes_then}
 use Rattle.ciborium.proofs.Halting.{memory_as}
 use Rattle.ciborium.proofs.OneItem.{title_one, none_behind, tag_one, titled_one, handing_one}
@@ -22,20 +22,20 @@ use Rattle.ciborium.proofs.FillLemmas.{filled}
 use Rattle.ciborium.proofs.TurnLemmas.{Turn, Behind, unasked_as, unasked}
 
 -- a level that was opened
-begun_behind : (f : Frame) (h : Header) (now : ℕ) (w w' : Bool) (y : List ℕ) → IsBegun f h now w w' y → OneBehind h y
+begun_behind : (f : Frame) (h : Header) (now : ℕ) (w w' : Bool) (y : List ℕ) → IsBegun f h now w w' y → OneAfterTitle h y
 begun_behind (code.Whole at j) h now w w' y i = absurd i
-begun_behind (code.Items l) h now w w' y i = subst (OneBehind h) (sym i.2) (none_behind h)
-begun_behind (code.Entries l) h now w w' y i = subst (OneBehind h) (sym i.3) (none_behind h)
+begun_behind (code.Items l) h now w w' y i = subst (OneAfterTitle h) (sym i.2) (none_behind h)
+begun_behind (code.Entries l) h now w w' y i = subst (OneAfterTitle h) (sym i.3) (none_behind h)
 begun_behind (code.Tag n at j room) h now w w' y i = λ title t. tag_one n title y (subst (Title title) i.0 t) (title_one y j i.2)
 
-pub opened_behind : (h : Header) (at now left : ℕ) (w w' : Bool) (f : Frame) (y : List ℕ) → Opening h at now left w w' (opens.Level f) y → OneBehind h y
+pub opened_behind : (h : Header) (at now left : ℕ) (w w' : Bool) (f : Frame) (y : List ℕ) → Opening h at now left w w' (opens.Level f) y → OneAfterTitle h y
 opened_behind h at now left w w' f y i = begun_behind f h now w w' y i.1
 
 -- a leaf, in its tag if it has one
-pub leaf_behind : (h j : Header) (at now left place : ℕ) (n : Option ℕ) (w w' : Bool) (x y : List ℕ) → Opening h at now left w w' (opens.Leaf n place j) x → OneBehind j y → OneBehind h (x ++ y)
+pub leaf_behind : (h j : Header) (at now left place : ℕ) (n : Option ℕ) (w w' : Bool) (x y : List ℕ) → Opening h at now left w w' (opens.Leaf n place j) x → OneAfterTitle j y → OneAfterTitle h (x ++ y)
 leaf_behind h j at now left place None w w' x y i one =
     let e : x ≡ [] = i.1.2 in
-    subst (λ (z : List ℕ). OneBehind h (z ++ y)) (sym e) (subst (λ (z : Header). OneBehind z y) i.1.0 one)
+    subst (λ (z : List ℕ). OneAfterTitle h (z ++ y)) (sym e) (subst (λ (z : Header). OneAfterTitle z y) i.1.0 one)
 leaf_behind h j at now left place (Some n) w w' x y i one = λ title t. tag_one n title (x ++ y) (subst (Title title) i.1.0 t) (one x i.1.2)
 
 -- a value that was not handed over
@@ -43,9 +43,9 @@ stage_one : (w : Bool) (limit : ℕ) (fs : List Frame) (read : Option Value) (fr
 stage_one w limit fs None from now b some s = absurd (some refl)
 stage_one w limit fs (Some v) from now b some s = handing_one limit (opened fs) (view v) b s.1
 
-pub turn_one : {limit : ℕ} {h : Header} {at : ℕ} {old new : Seen} {u w : Bool} {fs : List Frame} {read : Option Value} → read ≢ None → Turn limit h at old new u w fs read → Takes old new (OneBehind h)
+pub turn_one : {limit : ℕ} {h : Header} {at : ℕ} {old new : Seen} {u w : Bool} {fs : List Frame} {read : Option Value} → read ≢ None → Turn limit h at old new u w fs read → Takes old new (OneAfterTitle h)
 turn_one {limit} {h} {at} {old} {new} {u} {w} {fs} {read} some t =
-    takes_as old.left new.left old.offset new.offset (Behind limit h at old new u w fs read) (OneBehind h) t.taken
+    takes_as old.left new.left old.offset new.offset (Behind limit h at old new u w fs read) (OneAfterTitle h) t.taken
     (λ y b title i. stage_one w limit fs read at new.offset (title ++ y) some (b false title i tt))
 
 -- a title in hand after these bytes
@@ -53,11 +53,11 @@ abbrev Asked : Frame → Frame → Header → ℕ → ℕ → List ℕ → Type 
 Asked f g h at o x = (limit from : ℕ) (fs : List Frame) (b : List ℕ) → Stage false false limit (f ∷ fs) None from o b → (now : ℕ) × Titled limit (opened (g ∷ fs)) h at from now (b ++ x)
 
 -- a leaf that was not put into the innermost level
-pub fills_one : {E : Type 0} (f g : Frame) (h : Header) (at : ℕ) (old mid mid' new : Seen) (u w w' : Bool) (e : Error E) → Takes old mid (Fills f g old.offset u w) → Takes mid mid' (AskGives g h at mid.offset w w')
-    → IfMemory (Takes mid' new (OneBehind h)) e → IfMemory (Takes old new (FillHolds f old.offset)) e
+pub fills_one : {E : Type 0} (f g : Frame) (h : Header) (at : ℕ) (old mid mid' new : Seen) (u w w' : Bool) (e : Error E) → Takes old mid (FillsFrame f g old.offset u w) → Takes mid mid' (AskGives g h at mid.offset w w')
+    → IfMemory (Takes mid' new (OneAfterTitle h)) e → IfMemory (Takes old new (FillHolds f old.offset)) e
 fills_one f g h at old mid mid' new u w w' e t a m =
-    memory_as (Takes mid' new (OneBehind h)) (Takes old new (FillHolds f old.offset)) e (λ r.
-    takes_then old.left mid'.left new.left old.offset mid'.offset new.offset (Asked f g h at old.offset) (OneBehind h) (FillHolds f old.offset)
+    memory_as (Takes mid' new (OneAfterTitle h)) (Takes old new (FillHolds f old.offset)) e (λ r.
+    takes_then old.left mid'.left new.left old.offset mid'.offset new.offset (Asked f g h at old.offset) (OneAfterTitle h) (FillHolds f old.offset)
     (takes_then old.left mid.left mid'.left old.offset mid.offset mid'.offset (λ x. x ≡ t.bytes) (λ x. x ≡ a.bytes) (Asked f g h at old.offset)
     (record { bytes = t.bytes; has = refl; taken = t.taken; grown = t.grown }) (record { bytes = a.bytes; has = refl; taken = a.taken; grown = a.grown }) asked)
     r (λ x y p one limit from fs b s.
@@ -73,18 +73,18 @@ fills_one f g h at old mid mid' new u w w' e t a m =
 
 -- parts that were not read into the innermost level
 pub turn_fills : {E : Type 0} {limit : ℕ} {h : Header} {at : ℕ} {old mid : Seen} {u w : Bool} {top : Frame} {fs : List Frame} (new : Seen) (e : Error E) → Turn limit h at old mid u w (top ∷ fs) None
-    → IfMemory (Takes mid new (FillHolds top mid.offset)) e → IfMemory (Takes old new (OneBehind h)) e
+    → IfMemory (Takes mid new (FillHolds top mid.offset)) e → IfMemory (Takes old new (OneAfterTitle h)) e
 turn_fills {E} {limit} {h} {at} {old} {mid} {u} {w} {top} {fs} new e t m =
-    memory_as (Takes mid new (FillHolds top mid.offset)) (Takes old new (OneBehind h)) e (λ r.
-    takes_then old.left mid.left new.left old.offset mid.offset new.offset (Behind limit h at old mid u w (top ∷ fs) None) (FillHolds top mid.offset) (OneBehind h) t.taken r
+    memory_as (Takes mid new (FillHolds top mid.offset)) (Takes old new (OneAfterTitle h)) e (λ r.
+    takes_then old.left mid.left new.left old.offset mid.offset new.offset (Behind limit h at old mid u w (top ∷ fs) None) (FillHolds top mid.offset) (OneAfterTitle h) t.taken r
     (λ x y p q title i. subst HoldsOne (append_assoc title x y) (q limit at fs (title ++ x) (unasked w limit (top ∷ fs) None at mid.offset (title ++ x) (p false title i tt))))) m
 
 -- an item that was not begun
 pub turn_begins : {E : Type 0} {limit : ℕ} {h : Header} {at : ℕ} {old s₁ : Seen} {u w : Bool} {top : Frame} {fs : List Frame} (top' : Frame) (place : ℕ) (k : Header) (s₂ s₃ : Seen) (w₂ : Bool) (e : Error E) → Turn limit h at old s₁ u w (top ∷ fs) None
-    → Takes s₁ s₂ (FillGives top top' k place s₁.offset w w₂) → IfMemory (Takes s₂ s₃ (OneBehind k)) e → IfMemory (Takes old s₃ (OneBehind h)) e
+    → Takes s₁ s₂ (FillGives top top' k place s₁.offset w w₂) → IfMemory (Takes s₂ s₃ (OneAfterTitle k)) e → IfMemory (Takes old s₃ (OneAfterTitle h)) e
 turn_begins {E} {limit} {h} {at} {old} {s₁} {u} {w} {top} {fs} top' place k s₂ s₃ w₂ e t a m =
-    turn_fills s₃ e t (memory_as (Takes s₂ s₃ (OneBehind k)) (Takes s₁ s₃ (FillHolds top s₁.offset)) e (λ r.
-    takes_then s₁.left s₂.left s₃.left s₁.offset s₂.offset s₃.offset (FillGives top top' k place s₁.offset w w₂) (OneBehind k) (FillHolds top s₁.offset) a r
+    turn_fills s₃ e t (memory_as (Takes s₂ s₃ (OneAfterTitle k)) (Takes s₁ s₃ (FillHolds top s₁.offset)) e (λ r.
+    takes_then s₁.left s₂.left s₃.left s₁.offset s₂.offset s₃.offset (FillGives top top' k place s₁.offset w w₂) (OneAfterTitle k) (FillHolds top s₁.offset) a r
     (λ x y p one limit from fs b s.
     let q = p false limit from fs b (unasked_as false w limit (top ∷ fs) None from s₁.offset b s) in
     subst HoldsOne (append_assoc b x y) (titled_one limit (opened (top' ∷ fs)) k place from (s₁.offset + length x) (b ++ x) y q.1.0 one))) m)

@@ -7,7 +7,7 @@ use Rattle.ciborium_ll.specs.declared.hdr.Header.TheVariants.{Bytes, Text}
 use Rattle.ciborium_ll.specs.Title.{Title, Begins}
 use Rattle.ciborium_ll.specs.Framing.{Any, Opened, opened, deeper}
 use Rattle.ciborium_ll.proofs.Closings.{split_heads}
-use Rattle.ciborium.specs.Damage.{Fault, end, deep, syntax, semantic, Damage, in_title, in_bytes, in_text, unassigned, stray_break, too_negative, too_deep, in_child, in_tag, in_free, StringDamage}
+use Rattle.ciborium.specs.Damage.{Fault, end, deep, syntax, semantic, Damage, in_title, in_bytes, in_text, unassigned, stray_break, too_negative, too_deep, in_child, in_free, cut_body, bad_body, StringDamage}
 use Rattle.ciborium.proofs.Exact.{title_not}
 use Rattle.ciborium.specs.Damaged.{Damaged}
 
@@ -39,12 +39,10 @@ module _ (h : Header) (a b rest : List ℕ) (p : Title a h) (q : Title b h) (sto
 
   string_too : (k : Option ℕ → Header) (P : List ℕ → Type 0) (limit : ℕ) → ((f : Fault) → StringDamage k P stop (b ++ rest) f → Damage stop (b ++ rest) limit f)
       → (x : List ℕ) (f : Fault) → x ≡ a ++ rest → StringDamage k P stop x f → Damaged stop (b ++ rest) limit f
-  string_too k P limit make x end e (inl d) = make end (inl (d.0, d.1, other_begins x d.1 (k (Some d.0)) e d.2, d.3))
-  string_too k P limit make x deep e (inl d) = absurd d
-  string_too k P limit make x (syntax at) e (inl d) =
-      let s = stop - length (b ++ rest) in
-      (s, make (syntax s) (inl (d.0, d.1, other_begins x d.1 (k (Some d.0)) e d.2, d.3, omega (arith, fits))))
-  string_too k P limit make x (semantic j) e (inl d) = absurd d
+  string_too k P limit make x _ e (inl (cut_body n r s l)) = make end (inl (cut_body n r (other_begins x r (k (Some n)) e s) l))
+  string_too k P limit make x _ e (inl (bad_body n _ r s never _)) =
+      let p = stop - length (b ++ rest) in
+      (p, make (syntax p) (inl (bad_body n p r (other_begins x r (k (Some n)) e s) never (omega (arith, fits)))))
   string_too k P limit make x f e (inr (r, i, d)) =
       let w = opened_too k P i.opens i.read r i.bodies i.is (sym e ∙ i.whole) in
       damaged_by stop (b ++ rest) limit f (make f (inr (r, record { opens = i.opens; read = w.0; bodies = i.bodies; is = w.1; whole = w.2 }, d)))
@@ -58,5 +56,4 @@ module _ (h : Header) (a b rest : List ℕ) (p : Title a h) (q : Title b h) (sto
   damage_too x limit _ e (too_negative _ inside inner r _ bodies s g w m) = too_negative (b ++ rest) inside inner r limit bodies (other_begins x inside _ e s) g w m
   damage_too x _ _ e (too_deep _ r k s l) = too_deep (b ++ rest) r k (other_begins x r k e s) l
   damage_too x limit f e (in_child _ inside at _ k done _ s l fs due d) = damaged_by stop (b ++ rest) limit f (in_child (b ++ rest) inside at limit k done f (other_begins x inside k e s) l fs due d)
-  damage_too x limit f e (in_tag _ inside _ n _ s l lv d) = damaged_by stop (b ++ rest) limit f (in_tag (b ++ rest) inside limit n f (other_begins x inside _ e s) l lv d)
   damage_too x limit f e (in_free _ inside _ n _ s fr d) = damaged_by stop (b ++ rest) limit f (in_free (b ++ rest) inside limit n f (other_begins x inside _ e s) fr d)

@@ -7,10 +7,10 @@ use Rattle.ciborium_ll.specs.declared.hdr.Header.TheVariants.{Simple, Tag, Bytes
 use Rattle.ciborium_ll.specs.Title.{Title, Begins}
 use Rattle.ciborium_value.specs.Tree.{Tree, bytes, array, map, tag, simple, Trees, no_trees, one_more, Pairs, no_pairs, pair_more, flat, tree_count, pair_count, depth, depth_all, depth_pairs, opens_none, is_bytes}
 use Rattle.ciborium.specs.Spelling.{Around, Spells, SpellsAll, SpellsPairs}
-use Rattle.ciborium.specs.Damage.{Due, IsLevel}
+use Rattle.ciborium.specs.Damage.{Due, in_array, in_map, in_open_array, in_open_map, in_entry, under_tag, IsLevel}
 use Rattle.ciborium.specs.Front.{Fronts}
 use Rattle.ciborium.proofs.Once.{append_nil, regroup, first, split, once, no_break, head_kind, tree_kind, array_same, map_same}
-use Rattle.ciborium.proofs.ChildLemmas.{all_count, unflat_depth, flat_count}
+use Rattle.ciborium.proofs.ChildLemmas.{all_count, none_read, unflat_depth, flat_count}
 
 -- the tree t is at the front, whatever it means
 pub record Stands (b : List ℕ) (t : Tree) (rest : List ℕ) : Type 0 where
@@ -154,10 +154,6 @@ wanted_more total None n m d at inner inside rest c (inr (e, w)) (inr not) = (25
 odd_no : (d m : ℕ) → d % 2 ≡ 1 → d ≢ 2 * m
 odd_no d m e f = omega arith
 
-map_wanted : (d : ℕ) (at : List ℕ) → (d % 2 ≡ 1) ⊎ ((r : List ℕ) → at ≢ 255 ∷ r) → ((m : ℕ) → d ≢ 2 * m) ⊎ ((r : List ℕ) → at ≢ 255 ∷ r)
-map_wanted d at (inl e) = inl (λ m. odd_no d m e)
-map_wanted d at (inr not) = inr not
-
 pub no_more : (a b : List ℕ) → a ++ b ≡ [] → b ≡ []
 no_more [] b e = e
 no_more (x ∷ xs) b e = absurd (let f : x ∷ (xs ++ b) ≡ [] = e in cc)
@@ -195,6 +191,13 @@ level_deep n limit inside rest t l f d = go (opens_none n t) refl d
     go : (c : Bool) → opens_none n t ≡ c → cond c 0 (suc (depth t)) ≤ limit → suc (depth t) ≤ limit
     go true e d = absurd (level_not n inside rest t l e f)
     go false e d = d
+
+under_depth : (n limit : ℕ) (t : Tree) → depth (tag n t) ≤ limit → depth t ≤ limit
+under_depth n limit t d = go (opens_none n t) refl d
+  where
+    go : (c : Bool) → opens_none n t ≡ c → cond c 0 (suc (depth t)) ≤ limit → depth t ≤ limit
+    go true e d = let z = bytes_flat t (bytes_kind t (both (nat_eq n 2 || nat_eq n 3) (is_bytes t) e).1) in omega arith
+    go false e d = omega arith
 
 -- P goes from an item to those inside it
 module _ (P : Tree → Type 0) (Q : Trees → Type 0) (inherited : Inherited P Q) where
@@ -245,16 +248,6 @@ module _ (P : Tree → Type 0) (Q : Trees → Type 0) (inherited : Inherited P Q
       let w = next_child p.trees c.trees f.spelling at c.inner m.0 (limit - 1) p.spells c.spells (sym f.whole ∙ m.1) m.2 (omega arith) c.have in
       record { tree = w.tree; rest = w.rest; there = w.there; shallow = w.shallow; has = w.has; last = λ e. m.3 (w.last e) }
 
-  -- if an item is there, each child that is due is there too
-  pub child_there : (b inside at rest : List ℕ) (limit : ℕ) (h : Header) (done : Trees) (t : Tree) → Begins b h inside → Fronts inside (limit - 1) done at → Due h (tree_count done) at → Stands b t rest → depth t ≤ limit → P t
-      → Standing P at (limit - 1) rest
-  child_there b inside at rest limit (Array (Some n)) done t s fs due f d p = due_child (λ n. n) (Some n) limit inside at rest done (array_children b inside rest (Some n) limit t s f d p) fs due
-  child_there b inside at rest limit (Array None) done t s fs due f d p = due_child (λ n. n) None limit inside at rest done (array_children b inside rest None limit t s f d p) fs (inr due)
-  child_there b inside at rest limit (Map (Some n)) done t s fs due f d p = due_child (λ n. 2 * n) (Some n) limit inside at rest done (map_children b inside rest (Some n) limit t s f d p) fs due
-  child_there b inside at rest limit (Map None) done t s fs due f d p =
-      due_child (λ n. 2 * n) None limit inside at rest done (map_children b inside rest None limit t s f d p) fs (map_wanted (tree_count done) at due)
-  child_there b inside at rest limit h done t s fs due f d p = absurd due
-
   -- a tag that opens a level is over an item of fewer
   pub level_there : (b inside rest : List ℕ) (n limit : ℕ) (t : Tree) → Begins b (Tag n) inside → IsLevel n inside → Stands b t rest → depth t ≤ limit → P t → (0 < limit) × Standing P inside (limit - 1) rest
   level_there b inside rest n limit t s l f d p =
@@ -262,13 +255,24 @@ module _ (P : Tree → Type 0) (Q : Trees → Type 0) (inherited : Inherited P Q
       let deep : suc (depth w.under) ≤ limit = level_deep n limit inside rest w.under l w.at (subst (λ (z : Tree). depth z ≤ limit) w.is d) in
       (omega arith, record { tree = w.under; rest = rest; there = w.at; shallow = omega arith; has = inherited.of_tag n w.under (subst P w.is p); last = λ e. e })
 
-  -- a tag over a byte string
-  pub free_there : (b inside r rest : List ℕ) (n limit : ℕ) (o : Option ℕ) (t : Tree) → Begins b (Tag n) inside → Begins inside (Bytes o) r → Stands b t rest → P t → Standing P inside limit rest
-  free_there b inside r rest n limit o t s bs f p =
+  -- if an item is there, each child that is due is there too
+  pub child_there : (b inside at rest : List ℕ) (limit : ℕ) (h : Header) (done : Trees) (t : Tree) → Begins b h inside → Fronts inside (limit - 1) done at → Due done at h → Stands b t rest → depth t ≤ limit → P t
+      → Standing P at (limit - 1) rest
+  child_there b inside at rest limit _ done t s fs (in_array n l) f d p = due_child (λ n. n) (Some n) limit inside at rest done (array_children b inside rest (Some n) limit t s f d p) fs l
+  child_there b inside at rest limit _ done t s fs (in_map n l) f d p = due_child (λ n. 2 * n) (Some n) limit inside at rest done (map_children b inside rest (Some n) limit t s f d p) fs l
+  child_there b inside at rest limit _ done t s fs (in_open_array not) f d p = due_child (λ n. n) None limit inside at rest done (array_children b inside rest None limit t s f d p) fs (inr not)
+  child_there b inside at rest limit _ done t s fs (in_open_map not) f d p = due_child (λ n. 2 * n) None limit inside at rest done (map_children b inside rest None limit t s f d p) fs (inr not)
+  child_there b inside at rest limit _ done t s fs (in_entry odd) f d p =
+      due_child (λ n. 2 * n) None limit inside at rest done (map_children b inside rest None limit t s f d p) fs (inl (λ m. odd_no (tree_count done) m odd))
+  child_there b inside at rest limit _ done t s fs (under_tag n none l) f d p =
+      let same : inside ≡ at = fs.whole ∙ ap (λ z. z ++ at) (none_read fs.spelling (limit - 1) done none fs.reads) in
+      subst (λ (z : List ℕ). Standing P z (limit - 1) rest) same (level_there b inside rest n limit t s (subst (IsLevel n) (sym same) l) f d p).1
+
+  -- a tag that opens no level
+  pub free_there : (b inside rest : List ℕ) (n limit : ℕ) (t : Tree) → Begins b (Tag n) inside → Stands b t rest → depth t ≤ limit → P t → Standing P inside limit rest
+  free_there b inside rest n limit t s f d p =
       let w = tag_parts b inside rest n t s f in
-      let k : tree_kind w.under ≡ 1 = sym (kind_at inside r rest (Bytes o) w.under bs w.at) ∙ kind_bytes o in
-      let none : depth w.under ≡ 0 = bytes_flat w.under k in
-      record { tree = w.under; rest = rest; there = w.at; shallow = omega arith; has = inherited.of_tag n w.under (subst P w.is p); last = λ e. e }
+      record { tree = w.under; rest = rest; there = w.at; shallow = under_depth n limit w.under (subst (λ (z : Tree). depth z ≤ limit) w.is d); has = inherited.of_tag n w.under (subst P w.is p); last = λ e. e }
 
   -- an array or a map that is there has a level
   pub array_deep : (b r rest : List ℕ) (o : Option ℕ) (limit : ℕ) (t : Tree) → Begins b (Array o) r → Stands b t rest → depth t ≤ limit → P t → 0 < limit

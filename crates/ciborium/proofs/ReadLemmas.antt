@@ -15,19 +15,19 @@ use Rattle.ciborium_value.specs.View.{trees, pairs}
 use Rattle.ciborium.specs.Damage.{Fault, deep, semantic, Damage, in_title, unassigned, stray_break, too_deep, TitleDamage, Opens}
 use Rattle.ciborium.specs.Front.{Reads, ReadsAll}
 use Rattle.ciborium_ll.specs.Title.{Begins}
-use Rattle.ciborium.specs.Reading.{Fails, EndPlace, IsLong, FailsAt, FailsBehind, IfKnown, StringBehind, ReadsBehind}
+use Rattle.ciborium.specs.Reading.{Fails, EndPlace, IsLong, FailsAt, FailsAfterTitle, IfKnown, StringAfterHead, ReadsAfterTitle}
 use Rattle.ciborium.specs.Frames.{snoc}
 use Rattle.ciborium.proofs.Once.{append_nil}
-use Rattle.ciborium.proofs.Taking.{fails_as, behind_title, takes_then, takes_none}
+use Rattle.ciborium.proofs.Taking.{fails_as, known_as, behind_title, takes_then, takes_none}
 
 -- leaves
 pub leaf : (h : Header) (tree v : Tree) (l : Option (List ℕ)) (o : ℕ) → ((title : List ℕ) → Title title h → Spells title tree) → depth tree ≤ 0 → meaning tree ≡ Some v
-    → Moves l l o o (λ (b : List ℕ). (limit : ℕ) → ReadsBehind h limit v b)
+    → Moves l l o o (λ (b : List ℕ). (limit : ℕ) → ReadsAfterTitle h limit v b)
 leaf h tree v l o spells low means =
     takes_none l o _ (λ limit title t. record { tree = tree; spells = subst (λ (z : List ℕ). Spells z tree) (append_nil title) (spells title t); shallow = omega arith; means = means })
 
 -- strings
-pub bytes_read : (o : Option ℕ) (limit : ℕ) (v : Tree) (items inner : List ℕ) → v ≡ bytes items → StringBehind false o items inner → ReadsBehind (Bytes o) limit v inner
+pub bytes_read : (o : Option ℕ) (limit : ℕ) (v : Tree) (items inner : List ℕ) → v ≡ bytes items → StringAfterHead false o items inner → ReadsAfterTitle (Bytes o) limit v inner
 bytes_read o limit v items inner e s title t = record {
   tree = bytes items;
   spells = (s.bodies, s.frame title t, s.is);
@@ -35,7 +35,7 @@ bytes_read o limit v items inner e s title t = record {
   means = ap Some (sym e);
 }
 
-pub text_read : (o : Option ℕ) (limit : ℕ) (v : Tree) (items inner : List ℕ) → v ≡ text items → StringBehind true o items inner → ReadsBehind (Text o) limit v inner
+pub text_read : (o : Option ℕ) (limit : ℕ) (v : Tree) (items inner : List ℕ) → v ≡ text items → StringAfterHead true o items inner → ReadsAfterTitle (Text o) limit v inner
 text_read o limit v items inner e s title t = record {
   tree = text items;
   spells = (s.bodies, s.frame title t, s.is);
@@ -45,13 +45,13 @@ text_read o limit v items inner e s title t = record {
 
 -- faults after a title, by what they are
 pub behind_as : {E : Type 0} (ends : E → Bool) (h : Header) (at : ℕ) (l : Option (List ℕ)) (o o' : ℕ) (D D' : ℕ → List ℕ → Fault → Type 0) (e : Error E)
-    → ((stop : ℕ) (b : List ℕ) (f : Fault) → D stop b f → D' stop b f) → FailsBehind ends h at o l o' D e → FailsBehind ends h at o l o' D' e
+    → ((stop : ℕ) (b : List ℕ) (f : Fault) → D stop b f → D' stop b f) → FailsAfterTitle ends h at o l o' D e → FailsAfterTitle ends h at o l o' D' e
 behind_as ends h at None o o' D D' e step w title t g = tt
 behind_as ends h at (Some b) o o' D D' e step w title t g = fails_as ends _ _ _ _ _ _ e (λ q. q) (step (at + length (title ++ b)) (title ++ b)) (λ l. l) (w title t g)
 
 -- from the faults of what is after
 pub behind_rest : {E : Type 0} (ends : E → Bool) (h : Header) (at : ℕ) (l : Option (List ℕ)) (o o' : ℕ) (D D' : ℕ → List ℕ → Fault → Type 0) (e : Error E)
-    → ((stop : ℕ) (b rest : List ℕ) (f : Fault) → Begins b h rest → D stop rest f → D' stop b f) → IfKnown l (λ b. FailsAt ends b o o' D e) → FailsBehind ends h at o l o' D' e
+    → ((stop : ℕ) (b rest : List ℕ) (f : Fault) → Begins b h rest → D stop rest f → D' stop b f) → IfKnown l (λ b. FailsAt ends b o o' D e) → FailsAfterTitle ends h at o l o' D' e
 behind_rest ends h at l o o' D D' e step w = behind_title ends h at l o o' D' e (λ title t. go title t l w)
   where
     go : (title : List ℕ) → Title title h → (l : Option (List ℕ)) → IfKnown l (λ b. FailsAt ends b o o' D e) → IfKnown l (λ b. FailsAt ends b o o' (λ stop b f. D' stop (title ++ b) f) e)
@@ -60,20 +60,20 @@ behind_rest ends h at l o o' D D' e step w = behind_title ends h at l o o' D' e 
 
 -- a fault that is told by the title alone
 pub behind_now : {E : Type 0} (ends : E → Bool) (h : Header) (at : ℕ) (l : Option (List ℕ)) (o : ℕ) (D : ℕ → List ℕ → Fault → Type 0) (e : Error E) (f : Fault)
-    → ((stop : ℕ) (b rest : List ℕ) → Begins b h rest → D stop b f) → ((Q long : Type 0) (D : Fault → Type 0) → D f → Fails ends Q D long e) → FailsBehind ends h at o l o D e
+    → ((stop : ℕ) (b rest : List ℕ) → Begins b h rest → D stop b f) → ((Q long : Type 0) (D : Fault → Type 0) → D f → Fails ends Q D long e) → FailsAfterTitle ends h at o l o D e
 behind_now ends h at None o D e f step is title t g = tt
 behind_now ends h at (Some b) o D e f step is title t g = is (EndPlace (title ++ b) at o) (IsLong at (title ++ b)) (D (at + length (title ++ b)) (title ++ b)) (step (at + length (title ++ b)) (title ++ b) b (record { title = title; is_title = t; whole = refl }))
 
 pub simple_fails : {E : Type 0} (ends : E → Bool) (n limit at : ℕ) (l : Option (List ℕ)) (o : ℕ) → simple_meaning n ≡ None
-    → FailsBehind {E = E} ends (Simple n) at o l o (λ stop b f. Damage stop b limit f) (code.Semantic None kind.Simple)
+    → FailsAfterTitle {E = E} ends (Simple n) at o l o (λ stop b f. Damage stop b limit f) (code.Semantic None kind.Simple)
 simple_fails ends n limit at l o e = behind_now ends (Simple n) at l o (λ stop b f. Damage stop b limit f) (code.Semantic None kind.Simple) (semantic kind.Simple) (λ stop b rest s. unassigned b rest limit n s e) (λ Q long D d. (refl, d))
 
 pub break_fails : {E : Type 0} (ends : E → Bool) (limit at : ℕ) (l : Option (List ℕ)) (o : ℕ)
-    → FailsBehind {E = E} ends Break at o l o (λ stop b f. Damage stop b limit f) (code.Semantic None kind.Break)
+    → FailsAfterTitle {E = E} ends Break at o l o (λ stop b f. Damage stop b limit f) (code.Semantic None kind.Break)
 break_fails ends limit at l o = behind_now ends Break at l o (λ stop b f. Damage stop b limit f) (code.Semantic None kind.Break) (semantic kind.Break) (λ stop b rest s. stray_break b rest limit s) (λ Q long D d. (refl, d))
 
-pub deep_fails : {E : Type 0} (ends : E → Bool) (h : Header) (limit at : ℕ) (l : Option (List ℕ)) (o : ℕ) → limit ≡ 0 → ((rest : List ℕ) → Opens h rest)
-    → FailsBehind {E = E} ends h at o l o (λ stop b f. Damage stop b limit f) code.RecursionLimitExceeded
+pub deep_fails : {E : Type 0} (ends : E → Bool) (h : Header) (limit at : ℕ) (l : Option (List ℕ)) (o : ℕ) → limit ≡ 0 → ((rest : List ℕ) → Opens rest h)
+    → FailsAfterTitle {E = E} ends h at o l o (λ stop b f. Damage stop b limit f) code.RecursionLimitExceeded
 deep_fails ends h limit at l o e opens = behind_now ends h at l o (λ stop b f. Damage stop b limit f) code.RecursionLimitExceeded deep
     (λ stop b rest s. subst (λ (z : ℕ). Damage stop b z deep) (sym e) (too_deep b rest h s (opens rest))) (λ Q long D d. d)
 
@@ -120,13 +120,12 @@ all_more a b limit vs v p q = record {
 }
 
 pub item_read : (l₁ l₂ l₃ : Option (List ℕ)) (o₁ o₂ o₃ limit : ℕ) (v : Tree) (h : Header)
-    → Moves l₁ l₂ o₁ o₂ (λ (b : List ℕ). Title b h) → Moves l₂ l₃ o₂ o₃ (λ (b : List ℕ). ReadsBehind h limit v b) → Moves l₁ l₃ o₁ o₃ (λ (b : List ℕ). Reads b limit v)
+    → Moves l₁ l₂ o₁ o₂ (λ (b : List ℕ). Title b h) → Moves l₂ l₃ o₂ o₃ (λ (b : List ℕ). ReadsAfterTitle h limit v b) → Moves l₁ l₃ o₁ o₃ (λ (b : List ℕ). Reads b limit v)
 item_read l₁ l₂ l₃ o₁ o₂ o₃ limit v h t q = takes_then l₁ l₂ l₃ o₁ o₂ o₃ _ _ _ t q (λ x y a b. b x a)
 
 pub item_title_fails : {E : Type 0} (ends : E → Bool) (l : Option (List ℕ)) (o o' limit : ℕ) (e : Error E)
     → IfKnown l (λ b. FailsAt ends b o o' TitleDamage e) → IfKnown l (λ b. FailsAt ends b o o' (λ stop b f. Damage stop b limit f) e)
-item_title_fails ends None o o' limit e w = tt
-item_title_fails ends (Some b) o o' limit e w = fails_as ends (EndPlace b o o') (EndPlace b o o') (TitleDamage (o + length b) b) (λ f. Damage (o + length b) b limit f) (IsLong o b) (IsLong o b) e (λ q. q) (λ f d. in_title b limit f d) (λ l. l) w
+item_title_fails ends l o o' limit e w = known_as ends l o o' TitleDamage (λ stop b f. Damage stop b limit f) e (λ stop b f d. in_title b limit f d) w
 
 -- views of a list with one more
 views_more : (ts : List Tree) (t : Tree) → trees (ts ++ t ∷ []) ≡ snoc (trees ts) t

@@ -5,7 +5,7 @@ use Rattle.std.proofs.lemmas.List.{append_cancel_left}
 use Rattle.ciborium_value.specs.Encoding.{enc, Fits}
 use Rattle.ciborium_value.specs.Folding.{fold}
 use Rattle.ciborium_value.specs.Tree.{Tree, depth}
-use Rattle.ciborium.specs.Damage.{end, in_title}
+use Rattle.ciborium.specs.Damage.{end, in_title, cut_title}
 use Rattle.ciborium.specs.Meaning.{meaning, Assigned}
 use Rattle.ciborium.specs.Front.{Reads, Front}
 use Rattle.ciborium.specs.Items.{Item, Items, ItemsWithin, SequenceWithin, IsUnreadableWithin, nesting, item_at}
@@ -77,5 +77,5 @@ encoding_item_within n at t u fits assigned shallow e =
     let m = encoding_means t u fits assigned e in
     record {
       sequence = (refl, record { tree = t; spells = m.0; shallow = shallow; means = m.1 }, ([], append_nil (enc t), refl));
-      ends = λ v rest f. excludes 0 [] n end (in_title [] n end tt) v rest f;
+      ends = λ v rest f. excludes 0 [] n end (in_title [] n end (cut_title tt)) v rest f;
     }

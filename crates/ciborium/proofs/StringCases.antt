@@ -12,7 +12,7 @@ use Rattle.ciborium_ll.specs.declared.hdr.Header.TheVariants.{Positive, Negative
 use Rattle.ciborium_ll.specs.Title.{Title, Begins}
 use Rattle.ciborium_ll.proofs.Titled.{TitleCase, begins, is_cut, starts_bad, title_case}
 use Rattle.ciborium_ll.specs.Framing.{Frame, whole, cut, no_frames, Any, Opened, opened, Inside}
-use Rattle.ciborium.specs.Damage.{Fault, end, syntax, Never, ChunkDamage, StringDamage}
+use Rattle.ciborium.specs.Damage.{Fault, end, syntax, Never, cut_title, bad_title, ChunkDamage, cut_body, bad_body, part_title, part_body, no_part, StringDamage}
 use Rattle.ciborium.proofs.Once.{append_nil, head_kind, kind_0, kind_1}
 use Rattle.ciborium.proofs.StringLemmas.{opened_then, opened_more, closed, title_some}
 
@@ -76,14 +76,14 @@ module _ (k : Option ℕ → Header) (P : List ℕ → Type 0) where
         no l not =
             let never : Never P n rest = λ more len has.
             not (subst P (sym (append_nil (take n rest))) (subst (λ (z : List ℕ). P (take n rest ++ z)) (none (take n rest) more (length-take-le n rest l) len) has)) in
-            chunk_fault (syntax (stop - length b)) (n, rest, s, never, omega arith)
+            chunk_fault (syntax (stop - length b)) (bad_body n (stop - length b) rest s never (omega arith))
 
         by_body : n ≤ length rest → P (take n rest) ⊎ (P (take n rest) → ⊥) → ChunkCase k P stop b
         by_body l (inl has) = yes l has
         by_body l (inr not) = no l not
 
         by_length : (length rest < n) ⊎ (n ≤ length rest) → ChunkCase k P stop b
-        by_length (inl l) = chunk_fault end (n, rest, s, l)
+        by_length (inl l) = chunk_fault end (cut_body n rest s l)
         by_length (inr l) = by_body l (decides (take n rest))
 
     abbrev Again : ℕ → List ℕ → List ℕ → Type 0
@@ -96,7 +96,7 @@ module _ (k : Option ℕ → Header) (P : List ℕ → Type 0) where
         inside = record { opens = n; read = read; bodies = bodies; is = o; whole = w }
 
         after_chunk : ChunkCase k P stop rest → StringCase k P stop b
-        after_chunk (chunk_fault e d) = string_fault e (inr (rest, inside, inr (inl d)))
+        after_chunk (chunk_fault e d) = string_fault e (inr (rest, inside, part_body e d))
         after_chunk (chunk_front f) =
             again (read ++ f.read) f.rest n (bodies ++ f.bodies) (shorter rest f.read f.rest f.whole (frame_some f.read f.bodies f.frame)) (bytes_behind rest f.read f.rest f.whole low)
             (opened_then k P n read f.read bodies f.bodies o f.frame) (w ∙ ap (λ z. read ++ z) f.whole ∙ sym (append_assoc read f.read f.rest))
@@ -115,11 +115,11 @@ module _ (k : Option ℕ → Header) (P : List ℕ → Type 0) where
         by_part : (h : Header) (r : List ℕ) → Begins rest h r → PartCase k h → StringCase k P stop b
         by_part h r s (closes e) = let t : Title s.title Break = subst (λ (z : Header). Title s.title z) e s.is_title in after_close r (s.whole ∙ ap (λ z. z ++ r) t) (closed k P n read bodies o)
         by_part h r s (of_kind l e) = by_size h r s l e
-        by_part h r s (other p q) = string_fault (syntax (stop - length rest)) (inr (rest, inside, inr (inr (h, r, s, p, q, omega arith))))
+        by_part h r s (other p q) = string_fault (syntax (stop - length rest)) (inr (rest, inside, no_part h r (stop - length rest) s p q (omega arith)))
 
         by_title : TitleCase rest → StringCase k P stop b
-        by_title (is_cut c) = string_fault end (inr (rest, inside, inl c))
-        by_title (starts_bad c) = string_fault (syntax (stop - length rest)) (inr (rest, inside, inl (c, omega arith)))
+        by_title (is_cut c) = string_fault end (inr (rest, inside, part_title end (cut_title c)))
+        by_title (starts_bad c) = string_fault (syntax (stop - length rest)) (inr (rest, inside, part_title _ (bad_title (stop - length rest) c (omega arith))))
         by_title (begins h r s) = by_part h r s (parts h)
 
     open_case : (m stop n : ℕ) (b read rest : List ℕ) (bodies : List (List ℕ)) → length rest < m → length rest ≤ stop → All (λ x. x < 256) rest → Opened k P n read bodies → b ≡ read ++ rest → StringCase k P stop b

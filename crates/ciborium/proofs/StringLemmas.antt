@@ -12,13 +12,13 @@ use Rattle.ciborium_ll.specs.Title.{Title}
 use Rattle.ciborium.specs.declared.de.Error.{Error}
 use Rattle.ciborium.specs.declared.de.Error.TheVariants as code
 use Rattle.ciborium_ll.specs.Framing.{joined, Frame, whole, cut, Frames, no_frames, frame_more}
-use Rattle.ciborium.specs.Damage.{Fault, Never, TitleDamage, ChunkDamage, OtherDamage, StringDamage}
+use Rattle.ciborium.specs.Damage.{Fault, Never, TitleDamage, ChunkDamage, cut_body, bad_body, PartDamage, part_title, part_body, no_part, StringDamage}
 use Rattle.ciborium_ll.specs.Framing.{Opened, opened, deeper}
-use Rattle.ciborium.specs.Reading.{FailsAt, FailsBehind, IfKnown, string_head, IsBody, StringBehind, OpenBehind, ChunkBody}
+use Rattle.ciborium.specs.Reading.{Fails, FailsAt, FailsAfterTitle, EndPlace, IsLong, ShortBy, IfKnown, string_head, IsBody, StringAfterHead, OpenAfterHead, ChunkBody}
 use Rattle.ciborium.specs.Held.{IsEarned, IsEarnedSince}
 use Rattle.ciborium.proofs.Once.{append_nil}
 use Rattle.ciborium.proofs.ReadLemmas.{behind_as}
-use Rattle.ciborium.proofs.Taking.{fails_as, fails_behind, fails_titled, behind_title, takes_then}
+use Rattle.ciborium.proofs.Taking.{fails_as, known_as, fails_behind, fails_titled, behind_title, takes_then}
 
 pub joined_append : (xs ys : List (List ℕ)) → joined (xs ++ ys) ≡ joined xs ++ joined ys
 joined_append [] ys = refl
@@ -74,10 +74,10 @@ module _ (k : Option ℕ → Header) (P : List ℕ → Type 0) where
             (opened_then n a (title ++ inner ++ 255 ∷ []) xs zs o (cut _ inner title zs t fs refl)),
       )
 
-pub open_start : (text : Bool) (items : List ℕ) → items ≡ [] → OpenBehind text 1 items []
+pub open_start : (text : Bool) (items : List ℕ) → items ≡ [] → OpenAfterHead text 1 items []
 open_start text items e = record { bodies = []; begun = λ title t. opened title [] [] t no_frames; is = e }
 
-pub open_more : (text : Bool) (n : ℕ) (items x y : List ℕ) → OpenBehind text n items x → Title y (string_head text None) → OpenBehind text (n + 1) items (x ++ y)
+pub open_more : (text : Bool) (n : ℕ) (items x y : List ℕ) → OpenAfterHead text n items x → Title y (string_head text None) → OpenAfterHead text (n + 1) items (x ++ y)
 open_more text n items x y p t = record {
   bodies = p.bodies;
   begun = λ title u. opened_at (string_head text) (IsBody text) (n + 1) ((title ++ x) ++ y) (title ++ (x ++ y)) p.bodies p.bodies (append_assoc title x y) refl
@@ -89,8 +89,8 @@ chunk_frame : (text : Bool) (n : ℕ) (title body : List ℕ) → Title title (s
     → Frame (string_head text) (IsBody text) (title ++ body) (body ∷ [])
 chunk_frame text n title body t len has = whole _ body title (subst (λ (z : ℕ). Title title (string_head text (Some z))) (sym len) t) has refl
 
-pub open_chunk : (text : Bool) (n m : ℕ) (items items' x y z : List ℕ) → OpenBehind text n items x → Title y (string_head text (Some m)) → ChunkBody text m items items' z
-    → OpenBehind text n items' (x ++ (y ++ z))
+pub open_chunk : (text : Bool) (n m : ℕ) (items items' x y z : List ℕ) → OpenAfterHead text n items x → Title y (string_head text (Some m)) → ChunkBody text m items items' z
+    → OpenAfterHead text n items' (x ++ (y ++ z))
 open_chunk text n m items items' x y z p t c = record {
   bodies = p.bodies ++ (z ∷ []);
   begun = λ title u. opened_at (string_head text) (IsBody text) n ((title ++ x) ++ (y ++ z)) (title ++ (x ++ (y ++ z))) _ _ (append_assoc title x (y ++ z)) refl
@@ -98,7 +98,7 @@ open_chunk text n m items items' x y z p t c = record {
   is = c.is ∙ ap (λ w. w ++ z) p.is ∙ ap (λ w. joined p.bodies ++ w) (append_nil z) ∙ sym (joined_append p.bodies (z ∷ []));
 }
 
-pub open_less : (text : Bool) (n : ℕ) (items x y : List ℕ) → OpenBehind text n items x → Title y Break → n ≢ 1 → OpenBehind text (n - 1) items (x ++ y)
+pub open_less : (text : Bool) (n : ℕ) (items x y : List ℕ) → OpenAfterHead text n items x → Title y Break → n ≢ 1 → OpenAfterHead text (n - 1) items (x ++ y)
 open_less text n items x y p t not = record {
   bodies = p.bodies;
   begun = λ title u. opened_at (string_head text) (IsBody text) (n - 1) ((title ++ x) ++ 255 ∷ []) (title ++ (x ++ y)) p.bodies p.bodies
@@ -112,7 +112,7 @@ open_less text n items x y p t not = record {
     go title (inl w) = absurd (not w.0)
     go title (inr (m, e, l, o)) = let f : m ≡ n - 1 = omega arith in subst (λ (z : ℕ). Opened (string_head text) (IsBody text) z ((title ++ x) ++ 255 ∷ []) p.bodies) f o
 
-pub open_done : (text : Bool) (n : ℕ) (items x y : List ℕ) → OpenBehind text n items x → Title y Break → n ≡ 1 → StringBehind text None items (x ++ y)
+pub open_done : (text : Bool) (n : ℕ) (items x y : List ℕ) → OpenAfterHead text n items x → Title y Break → n ≡ 1 → StringAfterHead text None items (x ++ y)
 open_done text n items x y p t one = record {
   bodies = p.bodies;
   frame = λ title u. subst (λ (z : List ℕ). Frame (string_head text) (IsBody text) z p.bodies) (append_assoc title x (255 ∷ []) ∙ ap (λ z. title ++ (x ++ z)) (sym t))
@@ -126,66 +126,57 @@ open_done text n items x y p t one = record {
     go title (inl w) = w.1
     go title (inr (m, e, l, o)) = absurd (omega arith)
 
-pub chunk_done : (text : Bool) (n : ℕ) (old items body : List ℕ) → old ≡ [] → ChunkBody text n old items body → StringBehind text (Some n) items body
+pub chunk_done : (text : Bool) (n : ℕ) (old items body : List ℕ) → old ≡ [] → ChunkBody text n old items body → StringAfterHead text (Some n) items body
 chunk_done text n old items body e c = record {
   bodies = body ∷ [];
   frame = λ title t. chunk_frame text n title body t c.len c.has;
   is = c.is ∙ ap (λ z. z ++ body) e ∙ append_nil body;
 }
 
--- a place inside an open string
-abbrev PartDamage : Bool → ℕ → List ℕ → Fault → Type 0
-PartDamage text stop rest f = TitleDamage stop rest f ⊎ (ChunkDamage (string_head text) (IsBody text) stop rest f ⊎ OtherDamage (string_head text) stop rest f)
-
 -- a fault at a part of an open string is one of the string
 fails_part : {E : Type 0} (ends : E → Bool) (text : Bool) (n at : ℕ) (items : List ℕ) (l₀ l₁ : Option (List ℕ)) (o₀ o₁ o₂ : ℕ) (e : Error E)
-    → Moves l₀ l₁ o₀ o₁ (λ (b : List ℕ). OpenBehind text n items b) → IfKnown l₁ (λ b. FailsAt ends b o₁ o₂ (PartDamage text) e)
-    → FailsBehind ends (string_head text None) at o₀ l₀ o₂ (StringDamage (string_head text) (IsBody text)) e
+    → Moves l₀ l₁ o₀ o₁ (λ (b : List ℕ). OpenAfterHead text n items b) → IfKnown l₁ (λ b. FailsAt ends b o₁ o₂ (PartDamage (string_head text) (IsBody text)) e)
+    → FailsAfterTitle ends (string_head text None) at o₀ l₀ o₂ (StringDamage (string_head text) (IsBody text)) e
 fails_part ends text n at items l₀ l₁ o₀ o₁ o₂ e t w =
     behind_title ends (string_head text None) at l₀ o₀ o₂ (StringDamage (string_head text) (IsBody text)) e (λ title u.
-    fails_behind ends l₀ l₁ o₀ o₁ o₂ (λ b. OpenBehind text n items b) (PartDamage text) (λ stop b f. StringDamage (string_head text) (IsBody text) stop (title ++ b) f) e t
+    fails_behind ends l₀ l₁ o₀ o₁ o₂ (λ b. OpenAfterHead text n items b) (PartDamage (string_head text) (IsBody text)) (λ stop b f. StringDamage (string_head text) (IsBody text) stop (title ++ b) f) e t
     (λ stop x rest f p d. inr (rest, record { opens = n; read = title ++ x; bodies = p.bodies; is = p.begun title u; whole = sym (append_assoc title x rest) }, d)) w)
 
-known_as : {E : Type 0} (ends : E → Bool) (l : Option (List ℕ)) (o o' : ℕ) (D D' : ℕ → List ℕ → Fault → Type 0) (e : Error E)
-    → ((stop : ℕ) (b : List ℕ) (f : Fault) → D stop b f → D' stop b f) → IfKnown l (λ b. FailsAt ends b o o' D e) → IfKnown l (λ b. FailsAt ends b o o' D' e)
-known_as ends None o o' D D' e step w = tt
-known_as ends (Some b) o o' D D' e step w = fails_as ends _ _ _ _ _ _ e (λ q. q) (step (o + length b) b) (λ l. l) w
-
 pub open_title_fails : {E : Type 0} (ends : E → Bool) (text : Bool) (n at : ℕ) (items : List ℕ) (l₀ l₁ : Option (List ℕ)) (o₀ o₁ o₂ : ℕ) (e : Error E)
-    → Moves l₀ l₁ o₀ o₁ (λ (b : List ℕ). OpenBehind text n items b) → IfKnown l₁ (λ b. FailsAt ends b o₁ o₂ TitleDamage e)
-    → FailsBehind ends (string_head text None) at o₀ l₀ o₂ (StringDamage (string_head text) (IsBody text)) e
+    → Moves l₀ l₁ o₀ o₁ (λ (b : List ℕ). OpenAfterHead text n items b) → IfKnown l₁ (λ b. FailsAt ends b o₁ o₂ TitleDamage e)
+    → FailsAfterTitle ends (string_head text None) at o₀ l₀ o₂ (StringDamage (string_head text) (IsBody text)) e
 open_title_fails ends text n at items l₀ l₁ o₀ o₁ o₂ e t w =
-    fails_part ends text n at items l₀ l₁ o₀ o₁ o₂ e t (known_as ends l₁ o₁ o₂ TitleDamage (PartDamage text) e (λ stop b f d. inl d) w)
+    fails_part ends text n at items l₀ l₁ o₀ o₁ o₂ e t (known_as ends l₁ o₁ o₂ TitleDamage (PartDamage (string_head text) (IsBody text)) e (λ stop b f d. part_title f d) w)
 
 pub open_chunk_fails : {E : Type 0} (ends : E → Bool) (text : Bool) (n m at place : ℕ) (items : List ℕ) (l₀ l₁ l₂ : Option (List ℕ)) (o₀ o₁ o₂ o₃ : ℕ) (h : Header) (e : Error E)
-    → Moves l₀ l₁ o₀ o₁ (λ (b : List ℕ). OpenBehind text n items b) → Moves l₁ l₂ o₁ o₂ (λ (b : List ℕ). Title b h) → h ≡ string_head text (Some m) → place ≡ o₁
-    → FailsBehind ends (string_head text (Some m)) place o₂ l₂ o₃ (ChunkDamage (string_head text) (IsBody text)) e
-    → FailsBehind ends (string_head text None) at o₀ l₀ o₃ (StringDamage (string_head text) (IsBody text)) e
+    → Moves l₀ l₁ o₀ o₁ (λ (b : List ℕ). OpenAfterHead text n items b) → Moves l₁ l₂ o₁ o₂ (λ (b : List ℕ). Title b h) → h ≡ string_head text (Some m) → place ≡ o₁
+    → FailsAfterTitle ends (string_head text (Some m)) place o₂ l₂ o₃ (ChunkDamage (string_head text) (IsBody text)) e
+    → FailsAfterTitle ends (string_head text None) at o₀ l₀ o₃ (StringDamage (string_head text) (IsBody text)) e
 open_chunk_fails ends text n m at place items l₀ l₁ l₂ o₀ o₁ o₂ o₃ h e t u is same w =
-    fails_part ends text n at items l₀ l₁ o₀ o₁ o₃ e t (known_as ends l₁ o₁ o₃ (ChunkDamage (string_head text) (IsBody text)) (PartDamage text) e (λ stop b f d. inr (inl d))
+    fails_part ends text n at items l₀ l₁ o₀ o₁ o₃ e t (known_as ends l₁ o₁ o₃ (ChunkDamage (string_head text) (IsBody text)) (PartDamage (string_head text) (IsBody text)) e (λ stop b f d. part_body f d)
     (fails_titled ends l₁ l₂ o₁ o₂ o₃ (string_head text (Some m)) (ChunkDamage (string_head text) (IsBody text)) e
     (subst (λ (z : Header). Moves l₁ l₂ o₁ o₂ (λ (b : List ℕ). Title b z)) is u)
-    (subst (λ (z : ℕ). FailsBehind ends (string_head text (Some m)) z o₂ l₂ o₃ (ChunkDamage (string_head text) (IsBody text)) e) same w)))
+    (subst (λ (z : ℕ). FailsAfterTitle ends (string_head text (Some m)) z o₂ l₂ o₃ (ChunkDamage (string_head text) (IsBody text)) e) same w)))
 
 pub open_other_fails : {E : Type 0} (ends : E → Bool) (text : Bool) (n at place : ℕ) (items : List ℕ) (l₀ l₁ l₂ : Option (List ℕ)) (o₀ o₁ o₂ : ℕ) (h : Header)
-    → Moves l₀ l₁ o₀ o₁ (λ (b : List ℕ). OpenBehind text n items b) → Moves l₁ l₂ o₁ o₂ (λ (b : List ℕ). Title b h) → (h ≢ Break) × ((o : Option ℕ) → h ≢ string_head text o) → place ≡ o₁
-    → FailsBehind {E = E} ends (string_head text None) at o₀ l₀ o₂ (StringDamage (string_head text) (IsBody text)) (code.Syntax place)
+    → Moves l₀ l₁ o₀ o₁ (λ (b : List ℕ). OpenAfterHead text n items b) → Moves l₁ l₂ o₁ o₂ (λ (b : List ℕ). Title b h) → (h ≢ Break) × ((o : Option ℕ) → h ≢ string_head text o) → place ≡ o₁
+    → FailsAfterTitle {E = E} ends (string_head text None) at o₀ l₀ o₂ (StringDamage (string_head text) (IsBody text)) (code.Syntax place)
 open_other_fails ends text n at place items l₀ l₁ l₂ o₀ o₁ o₂ h t u other same =
     fails_part ends text n at items l₀ l₁ o₀ o₁ o₂ (code.Syntax place) t (go l₁ l₂ u)
   where
-    go : (l₁ l₂ : Option (List ℕ)) → Moves l₁ l₂ o₁ o₂ (λ (b : List ℕ). Title b h) → IfKnown l₁ (λ b. FailsAt ends b o₁ o₂ (PartDamage text) (code.Syntax place))
+    go : (l₁ l₂ : Option (List ℕ)) → Moves l₁ l₂ o₁ o₂ (λ (b : List ℕ). Title b h) → IfKnown l₁ (λ b. FailsAt ends b o₁ o₂ (PartDamage (string_head text) (IsBody text)) (code.Syntax place))
     go None l₂ u = tt
     go (Some b) None u = absurd u.taken
-    go (Some b) (Some rest) u = inr (inr (h, rest, record { title = u.bytes; is_title = u.has; whole = u.taken }, other.0, other.1, ap (λ z. z + length b) same))
+    go (Some b) (Some rest) u = no_part h rest place (record { title = u.bytes; is_title = u.has; whole = u.taken }) other.0 other.1 (ap (λ z. z + length b) same)
 
 -- a definite text that is no UTF-8
 pub utf8_fails : {E : Type 0} (ends : E → Bool) (n at : ℕ) (l l' : Option (List ℕ)) (o o' : ℕ) (old new : List ℕ) (bad : List ℕ)
     → Moves l l' o o' (λ (b : List ℕ). (length b ≡ n) × (new ≡ old ++ b)) → ((b : List ℕ) → new ≡ old ++ b → b ≡ bad) → (IsUtf8 bad → ⊥)
-    → FailsBehind {E = E} ends (Text (Some n)) at o l o' (ChunkDamage Text IsUtf8) (code.Syntax at)
+    → FailsAfterTitle {E = E} ends (Text (Some n)) at o l o' (ChunkDamage Text IsUtf8) (code.Syntax at)
 utf8_fails ends n at None l' o o' old new bad t same not title u g = tt
 utf8_fails ends n at (Some b) None o o' old new bad t same not title u g = absurd t.taken
 utf8_fails ends n at (Some b) (Some rest) o o' old new bad t same not title u g =
-    (n, b, record { title = title; is_title = u; whole = refl }, never, refl)
+    bad_body n at b (record { title = title; is_title = u; whole = refl }) never refl
   where
     front : take n b ≡ t.bytes
     front = ap (λ z. take z b) (sym t.has.0) ∙ ap (λ z. take (length t.bytes) z) t.taken ∙ take-append_seam t.bytes rest
@@ -228,26 +219,26 @@ title_some b all.Break t = some_cons _ _ _ t
 pub title_grows : (l₁ l₂ : Option (List ℕ)) (o₁ o₂ : ℕ) (h : Header) → Moves l₁ l₂ o₁ o₂ (λ (b : List ℕ). Title b h) → o₁ < o₂
 title_grows l₁ l₂ o₁ o₂ h t = let s = title_some t.bytes h t.has in let g = t.grown in omega arith
 
-pub step_done : (text : Bool) (n : ℕ) (items : List ℕ) (h : Header) (l₀ l₁ l₂ : Option (List ℕ)) (o₀ o₁ o₂ : ℕ) → Moves l₀ l₁ o₀ o₁ (λ (b : List ℕ). OpenBehind text n items b)
-    → Moves l₁ l₂ o₁ o₂ (λ (b : List ℕ). Title b h) → h ≡ Break → n ≡ 1 → Moves l₀ l₂ o₀ o₂ (λ (b : List ℕ). StringBehind text None items b)
+pub step_done : (text : Bool) (n : ℕ) (items : List ℕ) (h : Header) (l₀ l₁ l₂ : Option (List ℕ)) (o₀ o₁ o₂ : ℕ) → Moves l₀ l₁ o₀ o₁ (λ (b : List ℕ). OpenAfterHead text n items b)
+    → Moves l₁ l₂ o₁ o₂ (λ (b : List ℕ). Title b h) → h ≡ Break → n ≡ 1 → Moves l₀ l₂ o₀ o₂ (λ (b : List ℕ). StringAfterHead text None items b)
 step_done text n items h l₀ l₁ l₂ o₀ o₁ o₂ t u e one = takes_then l₀ l₁ l₂ o₀ o₁ o₂ _ _ _ t u (λ x y p q. open_done text n items x y p (subst (λ (z : Header). Title y z) e q) one)
 
-pub step_less : (text : Bool) (n m : ℕ) (items : List ℕ) (h : Header) (l₀ l₁ l₂ : Option (List ℕ)) (o₀ o₁ o₂ : ℕ) → Moves l₀ l₁ o₀ o₁ (λ (b : List ℕ). OpenBehind text n items b)
-    → Moves l₁ l₂ o₁ o₂ (λ (b : List ℕ). Title b h) → h ≡ Break → n ≢ 1 → n - 1 ≡ m → Moves l₀ l₂ o₀ o₂ (λ (b : List ℕ). OpenBehind text m items b)
+pub step_less : (text : Bool) (n m : ℕ) (items : List ℕ) (h : Header) (l₀ l₁ l₂ : Option (List ℕ)) (o₀ o₁ o₂ : ℕ) → Moves l₀ l₁ o₀ o₁ (λ (b : List ℕ). OpenAfterHead text n items b)
+    → Moves l₁ l₂ o₁ o₂ (λ (b : List ℕ). Title b h) → h ≡ Break → n ≢ 1 → n - 1 ≡ m → Moves l₀ l₂ o₀ o₂ (λ (b : List ℕ). OpenAfterHead text m items b)
 step_less text n m items h l₀ l₁ l₂ o₀ o₁ o₂ t u e not is = takes_then l₀ l₁ l₂ o₀ o₁ o₂ _ _ _ t u (λ x y p q.
-    subst (λ (k : ℕ). OpenBehind text k items (x ++ y)) is (open_less text n items x y p (subst (λ (z : Header). Title y z) e q) not))
+    subst (λ (k : ℕ). OpenAfterHead text k items (x ++ y)) is (open_less text n items x y p (subst (λ (z : Header). Title y z) e q) not))
 
-pub step_more : (text : Bool) (n : ℕ) (items : List ℕ) (h : Header) (l₀ l₁ l₂ : Option (List ℕ)) (o₀ o₁ o₂ : ℕ) → Moves l₀ l₁ o₀ o₁ (λ (b : List ℕ). OpenBehind text n items b)
-    → Moves l₁ l₂ o₁ o₂ (λ (b : List ℕ). Title b h) → h ≡ string_head text None → Moves l₀ l₂ o₀ o₂ (λ (b : List ℕ). OpenBehind text (n + 1) items b)
+pub step_more : (text : Bool) (n : ℕ) (items : List ℕ) (h : Header) (l₀ l₁ l₂ : Option (List ℕ)) (o₀ o₁ o₂ : ℕ) → Moves l₀ l₁ o₀ o₁ (λ (b : List ℕ). OpenAfterHead text n items b)
+    → Moves l₁ l₂ o₁ o₂ (λ (b : List ℕ). Title b h) → h ≡ string_head text None → Moves l₀ l₂ o₀ o₂ (λ (b : List ℕ). OpenAfterHead text (n + 1) items b)
 step_more text n items h l₀ l₁ l₂ o₀ o₁ o₂ t u e = takes_then l₀ l₁ l₂ o₀ o₁ o₂ _ _ _ t u (λ x y p q. open_more text n items x y p (subst (λ (z : Header). Title y z) e q))
 
-pub step_chunk : (text : Bool) (n m : ℕ) (items items' : List ℕ) (h : Header) (l₀ l₁ l₂ l₃ : Option (List ℕ)) (o₀ o₁ o₂ o₃ : ℕ) → Moves l₀ l₁ o₀ o₁ (λ (b : List ℕ). OpenBehind text n items b)
+pub step_chunk : (text : Bool) (n m : ℕ) (items items' : List ℕ) (h : Header) (l₀ l₁ l₂ l₃ : Option (List ℕ)) (o₀ o₁ o₂ o₃ : ℕ) → Moves l₀ l₁ o₀ o₁ (λ (b : List ℕ). OpenAfterHead text n items b)
     → Moves l₁ l₂ o₁ o₂ (λ (b : List ℕ). Title b h) → h ≡ string_head text (Some m) → Moves l₂ l₃ o₂ o₃ (λ (b : List ℕ). ChunkBody text m items items' b)
-    → Moves l₀ l₃ o₀ o₃ (λ (b : List ℕ). OpenBehind text n items' b)
+    → Moves l₀ l₃ o₀ o₃ (λ (b : List ℕ). OpenAfterHead text n items' b)
 step_chunk text n m items items' h l₀ l₁ l₂ l₃ o₀ o₁ o₂ o₃ t u e w =
     takes_then l₀ l₁ l₃ o₀ o₁ o₃ _ (λ z. (x y : List ℕ) × Title x h × ChunkBody text m items items' y × (z ≡ x ++ y)) _ t
     (takes_then l₁ l₂ l₃ o₁ o₂ o₃ _ _ _ u w (λ x y p q. (x, y, p, q, refl)))
-    (λ x z p q. subst (λ (r : List ℕ). OpenBehind text n items' (x ++ r)) (sym q.4) (open_chunk text n m items items' x q.0 q.1 p (subst (λ (r : Header). Title q.0 r) e q.2) q.3))
+    (λ x z p q. subst (λ (r : List ℕ). OpenAfterHead text n items' (x ++ r)) (sym q.4) (open_chunk text n m items items' x q.0 q.1 p (subst (λ (r : Header). Title q.0 r) e q.2) q.3))
 
 -- what is held after one more body
 pub chunk_earned : (text : Bool) (n : ℕ) (items items' : List ℕ) (l l' : Option (List ℕ)) (o o' capacity : ℕ)
@@ -260,7 +251,7 @@ utf8_no (Err x) P Q bad w v e f = w.0
 
 pub utf8_fails_at : {E : Type 0} (ends : E → Bool) (text : Bool) (n at start : ℕ) (l l' : Option (List ℕ)) (o o' : ℕ) (old new d : List ℕ) → text ≡ true
     → Moves l l' o o' (λ (b : List ℕ). (length b ≡ n) × (new ≡ old ++ b)) → start ≡ length old → d ≡ new → (IsUtf8 (take (length d - start) (drop start d)) → ⊥)
-    → FailsBehind {E = E} ends (string_head text (Some n)) at o l o' (ChunkDamage (string_head text) (IsBody text)) (code.Syntax at)
+    → FailsAfterTitle {E = E} ends (string_head text (Some n)) at o l o' (ChunkDamage (string_head text) (IsBody text)) (code.Syntax at)
 utf8_fails_at ends true n at start l l' o o' old new d is t same e not =
     utf8_fails ends n at l l' o o' old new (take (length d - start) (drop start d)) t go not
   where
@@ -272,17 +263,31 @@ utf8_fails_at ends true n at start l l' o o' old new d is t same e not =
         sym (ap (λ z. take z (drop start d)) len ∙ ap (take (length b)) h ∙ take-length b)
 utf8_fails_at ends false n at start l l' o o' old new d is t same e not = absurd (false≢true is)
 
--- a fault of a definite text is one of the string
-pub chunk_is : {E : Type 0} (ends : E → Bool) (n at : ℕ) (l : Option (List ℕ)) (o o' : ℕ) (e : Error E) → FailsBehind ends (Text (Some n)) at o l o' (ChunkDamage Text IsUtf8) e
-    → FailsBehind ends (Text (Some n)) at o l o' (StringDamage Text IsUtf8) e
-chunk_is ends n at l o o' e w = behind_as ends (Text (Some n)) at l o o' (ChunkDamage Text IsUtf8) (StringDamage Text IsUtf8) e (λ stop b f d. inl d) w
+-- fewer bytes than a head says
+past_title : (title b : List ℕ) (at o o' : ℕ) → 0 < length title → at + length title ≡ o → o ≤ o' → EndPlace (title ++ b) at o'
+past_title [] b at o o' some e l = absurd (omega arith)
+past_title (x ∷ xs) b at o o' some e l = omega arith
+
+short_body : (k : Option ℕ → Header) (P : List ℕ → Type 0) (n stop : ℕ) (title b : List ℕ) (f : Fault) → Title title (k (Some n)) → ShortBy n b f → ChunkDamage k P stop (title ++ b) f
+short_body k P n stop title b f t (is, l) = subst (λ (z : Fault). ChunkDamage k P stop (title ++ b) z) (sym is) (cut_body n b (record { title = title; is_title = t; whole = refl }) l)
+
+pub short_fails : {E : Type 0} (ends : E → Bool) (k : Option ℕ → Header) (P : List ℕ → Type 0) (n at : ℕ) (l : Option (List ℕ)) (o o' : ℕ) (e : Error E)
+    → IfKnown l (λ b. Fails ends (o ≤ o') (ShortBy n b) (IsLong o b) e) → FailsAfterTitle ends (k (Some n)) at o l o' (ChunkDamage k P) e
+short_fails ends k P n at None o o' e w title t g = tt
+short_fails ends k P n at (Some b) o o' e w title t g =
+    fails_as ends _ _ _ _ _ _ e (past_title title b at o o' (title_some title (k (Some n)) t) g) (λ f d. short_body k P n (at + length (title ++ b)) title b f t d) (λ l. omega (arith, length-append title b)) w
+
+-- a fault of a definite string is one of the string
+pub chunk_is : {E : Type 0} (ends : E → Bool) (k : Option ℕ → Header) (P : List ℕ → Type 0) (n at : ℕ) (l : Option (List ℕ)) (o o' : ℕ) (e : Error E) → FailsAfterTitle ends (k (Some n)) at o l o' (ChunkDamage k P) e
+    → FailsAfterTitle ends (k (Some n)) at o l o' (StringDamage k P) e
+chunk_is ends k P n at l o o' e w = behind_as ends (k (Some n)) at l o o' (ChunkDamage k P) (StringDamage k P) e (λ stop b f d. inl d) w
 
 -- a definite text
-pub whole_text : (n : ℕ) (items old new body : List ℕ) → old ≡ [] → items ≡ new → (length body ≡ n) × (new ≡ old ++ body) → IsUtf8 items → StringBehind true (Some n) items body
+pub whole_text : (n : ℕ) (items old new body : List ℕ) → old ≡ [] → items ≡ new → (length body ≡ n) × (new ≡ old ++ body) → IsUtf8 items → StringAfterHead true (Some n) items body
 whole_text n items old new body e f p u =
     let g : items ≡ body = f ∙ p.1 ∙ ap (λ z. z ++ body) e in
     chunk_done true n old items body e (record { has = subst IsUtf8 g u; len = p.0; is = f ∙ p.1 })
 
 pub whole_text_fails : {E : Type 0} (ends : E → Bool) (n at : ℕ) (l l' : Option (List ℕ)) (o o' : ℕ) (old new : List ℕ) → old ≡ []
-    → Moves l l' o o' (λ (b : List ℕ). (length b ≡ n) × (new ≡ old ++ b)) → (IsUtf8 new → ⊥) → FailsBehind {E = E} ends (Text (Some n)) at o l o' (StringDamage Text IsUtf8) (code.Syntax at)
-whole_text_fails ends n at l l' o o' old new e t not = chunk_is ends n at l o o' (code.Syntax at) (utf8_fails ends n at l l' o o' old new new t (λ b f. sym (f ∙ ap (λ z. z ++ b) e)) not)
+    → Moves l l' o o' (λ (b : List ℕ). (length b ≡ n) × (new ≡ old ++ b)) → (IsUtf8 new → ⊥) → FailsAfterTitle {E = E} ends (Text (Some n)) at o l o' (StringDamage Text IsUtf8) (code.Syntax at)
+whole_text_fails ends n at l l' o o' old new e t not = chunk_is ends Text IsUtf8 n at l o o' (code.Syntax at) (utf8_fails ends n at l l' o o' old new new t (λ b f. sym (f ∙ ap (λ z. z ++ b) e)) not)

@@ -1,5 +1,5 @@
 -- The item after a tag.
-use Rattle.std.proofs.Common.{◌≡◌, ◌≢◌, ◌≤◌, ◌<◌, ◌+◌, ◌-◌, ◌⊎◌, inl, inr, ℕ, suc, Bool, true, false, cond, List, ◌++◌, length, Option, None, Some, refl, sym, ap, subst, ◌∙◌, arith, nat_eq, nat_le, ◌&&◌, ℤ}
+use Rattle.std.proofs.Common.{◌≡◌, ◌≢◌, ◌≤◌, ◌<◌, ◌-◌, ◌⊎◌, inl, inr, ℕ, suc, Bool, true, false, cond, List, [], ◌++◌, Option, None, Some, refl, sym, ap, subst, ◌∙◌, arith, nat_eq, nat_le, ◌&&◌, ℤ}
 use Rattle.std.specs.Option.{option_map, option_and_then}
 use Rattle.ciborium_ll.specs.Reading.{Moves}
 use Rattle.ciborium_ll.specs.declared.hdr.Header.{Header}
@@ -8,21 +8,22 @@ use Rattle.ciborium_ll.specs.Title.{Title}
 use Rattle.ciborium.specs.declared.de.Error.{Error}
 use Rattle.ciborium.specs.declared.de.Error.TheVariants as code
 use Rattle.ciborium_value.specs.declared.kind.Kind.TheVariants as kind
-use Rattle.ciborium_value.specs.Tree.{Tree, integer, bytes, text, array, map, tag, simple, float, Trees, Pairs, depth, opens_none}
+use Rattle.ciborium_value.specs.Tree.{Tree, integer, bytes, text, array, map, tag, simple, float, Trees, no_trees, Pairs, depth, opens_none}
 use Rattle.ciborium.specs.Spelling.{Spells}
 use Rattle.ciborium.specs.Meaning.{meaning, meanings, pair_meanings}
 use Rattle.ciborium_value.specs.Folding.{tagged, fold_bytes}
-use Rattle.ciborium.specs.Damage.{Fault, end, deep, syntax, semantic, Damage, in_title, too_negative, too_deep, in_tag, in_free, TitleDamage, IsFree, IsLevel}
+use Rattle.ciborium.specs.Damage.{Fault, deep, Damage, in_title, too_negative, too_deep, in_child, in_free, TitleDamage, IsLevel, level_tag, under_tag}
 use Rattle.ciborium.specs.Front.{Reads}
 use Rattle.ciborium_ll.specs.Title.{Begins}
-use Rattle.ciborium.specs.Reading.{FailsAt, FailsBehind, IfKnown, ReadsBehind, TagDamage, OpensOver}
-use Rattle.ciborium.proofs.Words.{TaggedBehind}
+use Rattle.ciborium.specs.Reading.{FailsAt, FailsAfterTitle, IfKnown, ReadsAfterTitle, TagDamage, OpensOver}
+use Rattle.ciborium.proofs.Words.{TaggedAfterTitle}
 use Rattle.ciborium_value.specs.Folding.{IsTooNegative}
-use Rattle.ciborium.proofs.Taking.{fails_as}
-use Rattle.ciborium.proofs.ReadLemmas.{behind_rest}
+use Rattle.ciborium.proofs.Taking.{known_as}
+use Rattle.ciborium.proofs.Exact.{begins_once, title_not}
+use Rattle.ciborium.proofs.ReadLemmas.{behind_rest, all_none}
 use Rattle.ciborium.proofs.ChildLemmas.{Begun, fails_begun}
 
-pub tag_read : (n limit : ℕ) (c v : Tree) (inner : List ℕ) → TaggedBehind n limit c inner → tagged n c ≡ Some v → ReadsBehind (Tag n) limit v inner
+pub tag_read : (n limit : ℕ) (c v : Tree) (inner : List ℕ) → TaggedAfterTitle n limit c inner → tagged n c ≡ Some v → ReadsAfterTitle (Tag n) limit v inner
 tag_read n limit c v inner p e title t = record {
   tree = tag n p.tree;
   spells = (title, inner, t, p.spells, refl);
@@ -34,7 +35,7 @@ cond_below : (c : Bool) (a b n : ℕ) → a ≤ n → b ≤ n → cond c a b ≤
 cond_below true a b n p q = p
 cond_below false a b n p q = q
 
-pub tag_level : (n limit : ℕ) (v : Tree) (b : List ℕ) → 0 < limit → Reads b (limit - 1) v → TaggedBehind n limit v b
+pub tag_level : (n limit : ℕ) (v : Tree) (b : List ℕ) → 0 < limit → Reads b (limit - 1) v → TaggedAfterTitle n limit v b
 tag_level n limit v b l r = record {
   tree = r.tree;
   spells = r.spells;
@@ -46,11 +47,6 @@ pub free_depth : (n limit : ℕ) (x : List ℕ) → (n ≡ 2) ⊎ (n ≡ 3) → 
 free_depth n limit x (inl e) = subst (λ (z : ℕ). depth (tag z (bytes x)) ≤ limit) (sym e) (omega arith)
 free_depth n limit x (inr e) = subst (λ (z : ℕ). depth (tag z (bytes x)) ≤ limit) (sym e) (omega arith)
 
-known_as : {E : Type 0} (ends : E → Bool) (l : Option (List ℕ)) (o o' : ℕ) (D D' : ℕ → List ℕ → Fault → Type 0) (e : Error E)
-    → ((stop : ℕ) (b : List ℕ) (f : Fault) → D stop b f → D' stop b f) → IfKnown l (λ b. FailsAt ends b o o' D e) → IfKnown l (λ b. FailsAt ends b o o' D' e)
-known_as ends None o o' D D' e step w = tt
-known_as ends (Some b) o o' D D' e step w = fails_as ends _ _ _ _ _ _ e (λ q. q) (step (o + length b) b) (λ l. l) w
-
 -- any other tag
 pub plain_deep : {E : Type 0} (ends : E → Bool) (n limit : ℕ) (l : Option (List ℕ)) (o : ℕ) → (n ≢ 2) × (n ≢ 3) → limit ≡ 0 → IfKnown l (λ b. FailsAt {E = E} ends b o o (TagDamage n limit) code.RecursionLimitExceeded)
 plain_deep ends n limit None o p e = tt
@@ -60,22 +56,28 @@ pub plain_title : {E : Type 0} (ends : E → Bool) (n limit : ℕ) (l : Option (
 plain_title ends n limit l o o' e p low w = known_as ends l o o' TitleDamage (TagDamage n limit) e (λ stop b f d. inr (inr (inl p, low, in_title b (limit - 1) f d))) w
 
 -- a tag 2 or 3
-title_free : (n stop : ℕ) (b : List ℕ) (f : Fault) → (n ≡ 2) ⊎ (n ≡ 3) → TitleDamage stop b f → IsFree n b
-title_free n stop b end which d = (which, inr (inl d))
-title_free n stop b deep which d = absurd d
-title_free n stop b (syntax p) which d = (which, inr (inr d.0))
-title_free n stop b (semantic k) which d = absurd d
+bignum_free : (n : ℕ) → (n ≡ 2) ⊎ (n ≡ 3) → (n ≢ 2) × (n ≢ 3) → ⊥
+bignum_free n (inl e) not = not.0 e
+bignum_free n (inr e) not = not.1 e
+
+pub title_free : (n stop : ℕ) (b : List ℕ) (f : Fault) → (n ≡ 2) ⊎ (n ≡ 3) → TitleDamage stop b f → IsLevel n b → ⊥
+title_free n stop b f which d (inl not) = bignum_free n which not
+title_free n stop b f which d (inr (h, r, s, _)) = title_not stop b r h f s d
+
+pub bytes_free : (n : ℕ) (b r : List ℕ) (o : Option ℕ) → (n ≡ 2) ⊎ (n ≡ 3) → Begins b (Bytes o) r → IsLevel n b → ⊥
+bytes_free n b r o which s (inl not) = bignum_free n which not
+bytes_free n b r o which s (inr (h, q, t, not)) = not o (begins_once b q r h (Bytes o) t s)
 
 pub free_title : {E : Type 0} (ends : E → Bool) (n limit : ℕ) (l : Option (List ℕ)) (o o' : ℕ) (e : Error E) → (n ≡ 2) ⊎ (n ≡ 3) → IfKnown l (λ b. FailsAt ends b o o' TitleDamage e) → IfKnown l (λ b. FailsAt ends b o o' (TagDamage n limit) e)
 free_title ends n limit l o o' e which w = known_as ends l o o' TitleDamage (TagDamage n limit) e (λ stop b f d. inl (title_free n stop b f which d, in_title b limit f d)) w
 
 pub free_item : {E : Type 0} (ends : E → Bool) (n limit at : ℕ) (k : Option ℕ) (h : Header) (l₀ l₁ : Option (List ℕ)) (o₀ o₁ o₂ : ℕ) (e : Error E) → (n ≡ 2) ⊎ (n ≡ 3) → h ≡ Bytes k → Moves l₀ l₁ o₀ o₁ (λ (b : List ℕ). Title b h) → at ≡ o₀
-    → FailsBehind ends h at o₁ l₁ o₂ (λ stop b f. Damage stop b limit f) e → IfKnown l₀ (λ b. FailsAt ends b o₀ o₂ (TagDamage n limit) e)
+    → FailsAfterTitle ends h at o₁ l₁ o₂ (λ stop b f. Damage stop b limit f) e → IfKnown l₀ (λ b. FailsAt ends b o₀ o₂ (TagDamage n limit) e)
 free_item ends n limit at k h l₀ l₁ o₀ o₁ o₂ e which is t same w =
-    known_as ends l₀ o₀ o₂ (Begun h (λ stop b f. Damage stop b limit f)) (TagDamage n limit) e (λ stop b f d. inl ((which, inl (k, d.0.0, subst (λ (z : Header). Begins b z d.0.0) is d.0.1)), d.1))
-    (fails_begun ends l₀ l₁ o₀ o₁ o₂ h (λ stop b f. Damage stop b limit f) e t (subst (λ (z : ℕ). FailsBehind ends h z o₁ l₁ o₂ (λ stop b f. Damage stop b limit f) e) same w))
+    known_as ends l₀ o₀ o₂ (Begun h (λ stop b f. Damage stop b limit f)) (TagDamage n limit) e (λ stop b f d. inl (bytes_free n b d.0.0 k which (subst (λ (z : Header). Begins b z d.0.0) is d.0.1), d.1))
+    (fails_begun ends l₀ l₁ o₀ o₁ o₂ h (λ stop b f. Damage stop b limit f) e t (subst (λ (z : ℕ). FailsAfterTitle ends h z o₁ l₁ o₂ (λ stop b f. Damage stop b limit f) e) same w))
 
-opens_level : (n : ℕ) (h : Header) (b : List ℕ) → OpensOver n h → (rest : List ℕ) → Begins b h rest → IsLevel n b
+pub opens_level : (n : ℕ) (h : Header) (b : List ℕ) → OpensOver n h → (rest : List ℕ) → Begins b h rest → IsLevel n b
 opens_level n h b (inl plain) rest s = inl plain
 opens_level n h b (inr not) rest s = inr (h, rest, s, not)
 
@@ -86,18 +88,22 @@ level_deep ends n limit h (Some b) None o₀ o₁ over e t = absurd t.taken
 level_deep ends n limit h (Some b) (Some rest) o₀ o₁ over e t = inr (inl (opens_level n h b over rest (record { title = t.bytes; is_title = t.has; whole = t.taken }), e, refl))
 
 pub level_item : {E : Type 0} (ends : E → Bool) (n limit at : ℕ) (h : Header) (l₀ l₁ : Option (List ℕ)) (o₀ o₁ o₂ : ℕ) (e : Error E) → OpensOver n h → 0 < limit → Moves l₀ l₁ o₀ o₁ (λ (b : List ℕ). Title b h) → at ≡ o₀
-    → FailsBehind ends h at o₁ l₁ o₂ (λ stop b f. Damage stop b (limit - 1) f) e → IfKnown l₀ (λ b. FailsAt ends b o₀ o₂ (TagDamage n limit) e)
+    → FailsAfterTitle ends h at o₁ l₁ o₂ (λ stop b f. Damage stop b (limit - 1) f) e → IfKnown l₀ (λ b. FailsAt ends b o₀ o₂ (TagDamage n limit) e)
 level_item ends n limit at h l₀ l₁ o₀ o₁ o₂ e over low t same w =
     known_as ends l₀ o₀ o₂ (Begun h (λ stop b f. Damage stop b (limit - 1) f)) (TagDamage n limit) e (λ stop b f d. inr (inr (opens_level n h b over d.0.0 d.0.1, low, d.1)))
-    (fails_begun ends l₀ l₁ o₀ o₁ o₂ h (λ stop b f. Damage stop b (limit - 1) f) e t (subst (λ (z : ℕ). FailsBehind ends h z o₁ l₁ o₂ (λ stop b f. Damage stop b (limit - 1) f) e) same w))
+    (fails_begun ends l₀ l₁ o₀ o₁ o₂ h (λ stop b f. Damage stop b (limit - 1) f) e t (subst (λ (z : ℕ). FailsAfterTitle ends h z o₁ l₁ o₂ (λ stop b f. Damage stop b (limit - 1) f) e) same w))
+
+-- a fault of the item in a level is one of the tag
+pub in_tag : {stop : ℕ} (b inside : List ℕ) (limit n : ℕ) (e : Fault) → Begins b (Tag n) inside → 0 < limit → IsLevel n inside → Damage stop inside (limit - 1) e → Damage stop b limit e
+in_tag b inside limit n e s low lv d = in_child b inside inside limit (Tag n) no_trees e s low (record { spelling = []; whole = refl; reads = all_none (limit - 1) }) (under_tag n refl lv) d
 
 -- a fault after the tag is one of the item
 tag_damage : (n limit stop : ℕ) (b rest : List ℕ) (f : Fault) → Begins b (Tag n) rest → TagDamage n limit stop rest f → Damage stop b limit f
 tag_damage n limit stop b rest f s (inl (free, d)) = in_free b rest limit n f s free d
-tag_damage n limit stop b rest f s (inr (inl (lv, e, g))) = subst (λ (z : Fault). Damage stop b limit z) (sym g) (subst (λ (z : ℕ). Damage stop b z deep) (sym e) (too_deep b rest (Tag n) s lv))
+tag_damage n limit stop b rest f s (inr (inl (lv, e, g))) = subst (λ (z : Fault). Damage stop b limit z) (sym g) (subst (λ (z : ℕ). Damage stop b z deep) (sym e) (too_deep b rest (Tag n) s (level_tag n lv)))
 tag_damage n limit stop b rest f s (inr (inr (lv, low, d))) = in_tag b rest limit n f s low lv d
 
-pub tag_fails : {E : Type 0} (ends : E → Bool) (n at limit : ℕ) (l : Option (List ℕ)) (o o' : ℕ) (e : Error E) → IfKnown l (λ b. FailsAt ends b o o' (TagDamage n limit) e) → FailsBehind ends (Tag n) at o l o' (λ stop b f. Damage stop b limit f) e
+pub tag_fails : {E : Type 0} (ends : E → Bool) (n at limit : ℕ) (l : Option (List ℕ)) (o o' : ℕ) (e : Error E) → IfKnown l (λ b. FailsAt ends b o o' (TagDamage n limit) e) → FailsAfterTitle ends (Tag n) at o l o' (λ stop b f. Damage stop b limit f) e
 tag_fails ends n at limit l o o' e w = behind_rest ends (Tag n) at l o o' (TagDamage n limit) _ e (λ stop b rest f s d. tag_damage n limit stop b rest f s d) w
 
 -- only bytes mean bytes
@@ -154,8 +160,8 @@ bytes_meant (tag n t) x e = absurd (then_not n (meaning t) x e)
 bytes_meant (simple n) x e = absurd (cond_not (nat_eq n 23) (Some (simple 22)) (cond (nat_le 20 n && nat_le n 22) (Some (simple n)) None) (Some (bytes x)) (simple_no _ x) (cond_not _ _ _ _ (simple_no _ x) (none_no x)) e)
 bytes_meant (float f) x e = cc
 
-pub negative_fails : {E : Type 0} (ends : E → Bool) (n at limit : ℕ) (c : Tree) (l₀ l₁ : Option (List ℕ)) (o₀ o₁ : ℕ) → IsTooNegative n c → Moves l₀ l₁ o₀ o₁ (λ (b : List ℕ). TaggedBehind n limit c b)
-    → FailsBehind {E = E} ends (Tag n) at o₀ l₀ o₁ (λ stop b f. Damage stop b limit f) (code.Semantic None kind.BigNegative)
+pub negative_fails : {E : Type 0} (ends : E → Bool) (n at limit : ℕ) (c : Tree) (l₀ l₁ : Option (List ℕ)) (o₀ o₁ : ℕ) → IsTooNegative n c → Moves l₀ l₁ o₀ o₁ (λ (b : List ℕ). TaggedAfterTitle n limit c b)
+    → FailsAfterTitle {E = E} ends (Tag n) at o₀ l₀ o₁ (λ stop b f. Damage stop b limit f) (code.Semantic None kind.BigNegative)
 negative_fails ends n at limit c None l₁ o₀ o₁ w t title u g = tt
 negative_fails ends n at limit c (Some b) None o₀ o₁ w t title u g = absurd t.taken
 negative_fails ends n at limit c (Some b) (Some rest) o₀ o₁ (three, x, is, none) t title u g =
@@ -168,7 +174,7 @@ negative_fails ends n at limit c (Some b) (Some rest) o₀ o₁ (three, x, is, n
     )
 
 -- a bignum's tag over a byte string that was read
-pub tag_free : (n limit low : ℕ) (x : List ℕ) (c : Tree) (b : List ℕ) → (n ≡ 2) ⊎ (n ≡ 3) → c ≡ bytes x → Reads b low c → TaggedBehind n limit c b
+pub tag_free : (n limit low : ℕ) (x : List ℕ) (c : Tree) (b : List ℕ) → (n ≡ 2) ⊎ (n ≡ 3) → c ≡ bytes x → Reads b low c → TaggedAfterTitle n limit c b
 tag_free n limit low x c b which is r =
     let e : r.tree ≡ bytes x = bytes_meant r.tree x (r.means ∙ ap Some is) in record {
       tree = r.tree;

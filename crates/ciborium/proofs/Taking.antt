@@ -7,11 +7,11 @@ use Rattle.ciborium_ll.specs.Reading.{Moves, Tells, Ends, IsBadByte}
 use Rattle.ciborium_ll.specs.declared.hdr.Header.{Header}
 use Rattle.ciborium_ll.specs.declared.hdr.Error.{Error as HeadError}
 use Rattle.ciborium_ll.specs.declared.hdr.Error.TheVariants as below
-use Rattle.ciborium_ll.specs.Title.{Title, IsCut, StartsBad}
+use Rattle.ciborium_ll.specs.Title.{Title, StartsBad}
 use Rattle.ciborium.specs.declared.de.Error.{Error}
 use Rattle.ciborium.specs.declared.de.Error.TheVariants as code
-use Rattle.ciborium.specs.Damage.{Fault, end, deep, syntax, semantic, TitleDamage}
-use Rattle.ciborium.specs.Reading.{Fails, FailsAt, FailsBehind, EndPlace, IfKnown, lifted}
+use Rattle.ciborium.specs.Damage.{Fault, end, deep, syntax, semantic, TitleDamage, cut_title, bad_title}
+use Rattle.ciborium.specs.Reading.{Fails, FailsAt, FailsAfterTitle, EndPlace, IfKnown, lifted}
 
 pub takes_then : (l₀ l₁ l₂ : Option (List ℕ)) (o₀ o₁ o₂ : ℕ) (P Q S : List ℕ → Type 0) → Moves l₀ l₁ o₀ o₁ P → Moves l₁ l₂ o₁ o₂ Q
     → ((x y : List ℕ) → P x → Q y → S (x ++ y)) → Moves l₀ l₂ o₀ o₂ S
@@ -40,6 +40,12 @@ fails_as ends Q Q' D D' long long' (code.Semantic o k) q d l w = (w.0, d (semant
 fails_as ends Q Q' D D' long long' code.RecursionLimitExceeded q d l w = d deep w
 fails_as ends Q Q' D D' long long' code.Memory q d l w = tt
 fails_as ends Q Q' D D' long long' code.TooLong q d l w = l w
+
+-- the same bytes, by another name for their faults
+pub known_as : {E : Type 0} (ends : E → Bool) (l : Option (List ℕ)) (o o' : ℕ) (D D' : ℕ → List ℕ → Fault → Type 0) (e : Error E)
+    → ((stop : ℕ) (b : List ℕ) (f : Fault) → D stop b f → D' stop b f) → IfKnown l (λ b. FailsAt ends b o o' D e) → IfKnown l (λ b. FailsAt ends b o o' D' e)
+known_as ends None o o' D D' e step w = tt
+known_as ends (Some b) o o' D D' e step w = fails_as ends _ _ _ _ _ _ e (λ q. q) (step (o + length b) b) (λ l. l) w
 
 place_grown : (rest : List ℕ) (o₁ o₂ : ℕ) → EndPlace rest o₁ o₂ → o₁ ≤ o₂
 place_grown [] o₁ o₂ e = omega arith
@@ -70,7 +76,7 @@ fails_behind ends (Some b) (Some rest) o₀ o₁ o₂ P D D' e t step w =
 
 -- the same after a title that was taken
 pub fails_titled : {E : Type 0} (ends : E → Bool) (l₀ l₁ : Option (List ℕ)) (o₀ o₁ o₂ : ℕ) (h : Header) (D : ℕ → List ℕ → Fault → Type 0) (e : Error E)
-    → Moves l₀ l₁ o₀ o₁ (λ (b : List ℕ). Title b h) → FailsBehind ends h o₀ o₁ l₁ o₂ D e → IfKnown l₀ (λ b. FailsAt ends b o₀ o₂ D e)
+    → Moves l₀ l₁ o₀ o₁ (λ (b : List ℕ). Title b h) → FailsAfterTitle ends h o₀ o₁ l₁ o₂ D e → IfKnown l₀ (λ b. FailsAt ends b o₀ o₂ D e)
 fails_titled ends None l₁ o₀ o₁ o₂ h D e t w = tt
 fails_titled ends (Some b) None o₀ o₁ o₂ h D e t w = absurd t.taken
 fails_titled ends (Some b) (Some rest) o₀ o₁ o₂ h D e t w =
@@ -82,9 +88,9 @@ pub fails_pull : {E : Type 0} (ends : E → Bool) (l₀ l₁ : Option (List ℕ)
 fails_pull ends None l₁ o₀ o₁ e f i w = tt
 fails_pull ends (Some b) l₁ o₀ o₁ e f i w = subst (λ (z : Error _). FailsAt ends b o₀ o₁ TitleDamage z) (sym i) (go b l₁ e w)
   where
-    ended : (b : List ℕ) (l₁ : Option (List ℕ)) → Ends (Some b) l₁ o₀ o₁ → IsCut b × EndPlace b o₀ o₁
-    ended [] l₁ w = (w.0, omega arith)
-    ended (x ∷ xs) l₁ w = let k : o₁ ≡ o₀ + min 1 (length (x ∷ xs)) = w.1 in (w.0, omega arith)
+    ended : (b : List ℕ) (l₁ : Option (List ℕ)) → Ends (Some b) l₁ o₀ o₁ → TitleDamage (o₀ + length b) b end × EndPlace b o₀ o₁
+    ended [] l₁ w = (cut_title w.0, omega arith)
+    ended (x ∷ xs) l₁ w = let k : o₁ ≡ o₀ + min 1 (length (x ∷ xs)) = w.1 in (cut_title w.0, omega arith)
 
     bad : (b : List ℕ) (l₁ : Option (List ℕ)) → Moves (Some b) l₁ o₀ o₁ IsBadByte → StartsBad b
     bad b None t = absurd t.taken
@@ -92,13 +98,13 @@ fails_pull ends (Some b) l₁ o₀ o₁ e f i w = subst (λ (z : Error _). Fails
 
     go : (b : List ℕ) (l₁ : Option (List ℕ)) (e : HeadError _) → Tells ends (Ends (Some b) l₁ o₀ o₁) (λ p. (p ≡ o₀) × Moves (Some b) l₁ o₀ o₁ IsBadByte) (2 ^ 64 ≤ o₀ + 9) e → FailsAt ends b o₀ o₁ TitleDamage (lifted e)
     go b l₁ (below.Io e) w = λ t. ended b l₁ (w t)
-    go b l₁ (below.Syntax p) w = (bad b l₁ w.1, ap (λ z. z + length b) w.0)
+    go b l₁ (below.Syntax p) w = bad_title p (bad b l₁ w.1) (ap (λ z. z + length b) w.0)
     go b l₁ below.TooLong w = omega arith
     go b l₁ below.Waiting w = absurd w
 
 -- the faults after a title, from those of the whole with any such title in front
 pub behind_title : {E : Type 0} (ends : E → Bool) (h : Header) (at : ℕ) (l : Option (List ℕ)) (o o' : ℕ) (D : ℕ → List ℕ → Fault → Type 0) (e : Error E)
-    → ((title : List ℕ) → Title title h → IfKnown l (λ b. FailsAt ends b o o' (λ stop b f. D stop (title ++ b) f) e)) → FailsBehind ends h at o l o' D e
+    → ((title : List ℕ) → Title title h → IfKnown l (λ b. FailsAt ends b o o' (λ stop b f. D stop (title ++ b) f) e)) → FailsAfterTitle ends h at o l o' D e
 behind_title ends h at None o o' D e w title t g = tt
 behind_title ends h at (Some b) o o' D e w title t g =
     fails_over ends title b at o o' (λ stop b f. D stop (title ++ b) f) D e (sym g) (λ stop f d. d) (w title t)

@@ -9,17 +9,17 @@ use Rattle.ciborium_value.specs.Folding.{tagged}
 use Rattle.ciborium_value.specs.Tree.{Tree, Trees, Pairs, array, bytes, map, tag, no_trees, flat, tree_count}
 use Rattle.ciborium.specs.Exact.{Says, IsEncoded, encoded, LevelsExact, TitleExact, ItemExact, AllFit}
 use Rattle.ciborium.specs.Levels.{Level, Within, Titled, Handing}
-use Rattle.ciborium.specs.Reading.{IsLeaf, ReadsBehind, Closes}
-use Rattle.ciborium.specs.Frames.{snoc, Told, IsFlagged, IsKept, IsLengthOf, InHand}
+use Rattle.ciborium.specs.Reading.{IsLeaf, ReadsAfterTitle, Closes}
+use Rattle.ciborium.specs.Frames.{snoc, IfAsked, IsFlagged, IsKept, IsLengthOf, InHand}
 use Rattle.ciborium.proofs.Once.{append_nil}
-use Rattle.ciborium.proofs.ChildLemmas.{flat_count}
+use Rattle.ciborium.proofs.ChildLemmas.{none_read, flat_count}
 use Rattle.ciborium.proofs.ExactSound.{reads_sound, all_sound, title_fits, within_fits}
 use Rattle.std.specs.Prelude.{MatchOption, MatchBool}
 use Rattle.ciborium.proofs.ExactSteps.{says_and, bignum_stays}
 use Rattle.ciborium.proofs.ExactTurns.{plain_stays, turn_titled, turn_opened, turn_leaf, turn_handed, turn_closed, turn_array_broken, turn_map_broken, turn_folded, turn_bignum, leaf_exact, array_enc, map_enc}
-use Rattle.ciborium.proofs.LevelLemmas.{joined_up, none_read, tag_whole}
+use Rattle.ciborium.proofs.LevelLemmas.{joined_up, tag_whole}
 
-pub told_step : (k w w' : Bool) (n m : ℕ) (P Q : Type 0) → n ≤ m → (m < 2 ^ 64 → Says w P → Says w' Q) → Told k w n P → Told k w' m Q
+pub told_step : (k w w' : Bool) (n m : ℕ) (P Q : Type 0) → n ≤ m → (m < 2 ^ 64 → Says w P → Says w' Q) → IfAsked k w n P → IfAsked k w' m Q
 told_step false w w' n m P Q few step p = tt
 told_step true w w' n m P Q few step p = λ l. step l (p (omega arith))
 
@@ -52,21 +52,21 @@ flagged_titled : (w w' : Bool) (fs : List Level) (h : Header) (b y : List ℕ) �
 flagged_titled w w' fs h b y (u, s, e) p =
     subst (λ (z : Bool). Says z (TitleExact fs h b y)) (sym e) (turn_titled w u (encoded h) fs h b y p s (encoded_says h))
 
-pub told_titled : (k w w' : Bool) (fs : List Level) (h : Header) (b y : List ℕ) → IsFlagged w w' h y → Told k w (length b) (LevelsExact fs b) → Told k w' (length (b ++ y)) (TitleExact fs h b y)
+pub told_titled : (k w w' : Bool) (fs : List Level) (h : Header) (b y : List ℕ) → IsFlagged w w' h y → IfAsked k w (length b) (LevelsExact fs b) → IfAsked k w' (length (b ++ y)) (TitleExact fs h b y)
 told_titled k w w' fs h b y f p = told_step k w w' (length b) (length (b ++ y)) (LevelsExact fs b) (TitleExact fs h b y) (longer b y) (λ l q. flagged_titled w w' fs h b y f q) p
 
 -- a level is opened
 before_few : (limit : ℕ) (fs : List Level) (h : Header) (at from now : ℕ) (b : List ℕ) (t : Titled limit fs h at from now b) → length b < 2 ^ 64 → AllFit fs
 before_few limit fs h at from now b t l = within_fits limit fs t.before t.within (omega (arith, ap length t.whole, length-append t.before t.title))
 
-pub told_opened : (k w : Bool) (limit : ℕ) (fs : List Level) (h : Header) (at from now : ℕ) (b : List ℕ) → InHand k w limit fs h at from now b → Told k w (length b) (LevelsExact (record { head = h; done = no_trees } ∷ fs) b)
+pub told_opened : (k w : Bool) (limit : ℕ) (fs : List Level) (h : Header) (at from now : ℕ) (b : List ℕ) → InHand k w limit fs h at from now b → IfAsked k w (length b) (LevelsExact (record { head = h; done = no_trees } ∷ fs) b)
 told_opened k w limit fs h at from now b (t, p) =
     told_step k w w (length b) (length b) (TitleExact fs h t.before t.title) (LevelsExact (record { head = h; done = no_trees } ∷ fs) b) (omega arith)
     (λ l q. subst (λ (z : List ℕ). Says w (LevelsExact (record { head = h; done = no_trees } ∷ fs) z)) (sym t.whole)
     (turn_opened w limit fs h t.before t.title t.within (before_few limit fs h at from now b t l) t.is_title (title_fits h t.title t.is_title) q)) p
 
 -- an item is handed to its level
-pub told_handed : (k w : Bool) (f g : Level) (fs : List Level) (v : Tree) (b : List ℕ) → g.head ≡ f.head → g.done ≡ snoc f.done v → Told k w (length b) (ItemExact (f ∷ fs) v b) → Told k w (length b) (LevelsExact (g ∷ fs) b)
+pub told_handed : (k w : Bool) (f g : Level) (fs : List Level) (v : Tree) (b : List ℕ) → g.head ≡ f.head → g.done ≡ snoc f.done v → IfAsked k w (length b) (ItemExact (f ∷ fs) v b) → IfAsked k w (length b) (LevelsExact (g ∷ fs) b)
 told_handed k w f g fs v b same more p =
     told_step k w w (length b) (length b) (ItemExact (f ∷ fs) v b) (LevelsExact (g ∷ fs) b) (omega arith)
     (λ l q. subst (λ (z : Header). Says w (LevelsExact (record { head = z; done = g.done } ∷ fs) b)) (sym same)
@@ -74,7 +74,7 @@ told_handed k w f g fs v b same more p =
 
 -- an array and a map are closed
 pub told_array : (k w : Bool) (o : Option ℕ) (limit : ℕ) (fs : List Level) (vs : Trees) (d : ℕ) (p y b : List ℕ) → tree_count vs ≡ d → Within limit (record { head = Array o; done = vs } ∷ fs) p → Closes o d y → b ≡ p ++ y
-    → Told k w (length p) (LevelsExact (record { head = Array o; done = vs } ∷ fs) p) → Told k w (length b) (ItemExact fs (array vs) b)
+    → IfAsked k w (length p) (LevelsExact (record { head = Array o; done = vs } ∷ fs) p) → IfAsked k w (length b) (ItemExact fs (array vs) b)
 told_array k w (Some n) limit fs vs d p y b count within ends whole told =
     told_step k w w (length p) (length b) (LevelsExact (record { head = Array (Some n); done = vs } ∷ fs) p) (ItemExact fs (array vs) b) (omega (arith, ap length whole, length-append p y))
     (λ l q. subst (λ (z : List ℕ). Says w (ItemExact fs (array vs) z)) (append_nil p ∙ ap (λ z. p ++ z) (sym ends.1) ∙ sym whole)
@@ -91,7 +91,7 @@ told_array k w None limit fs vs d p y b count (x, z, within, child, low, begun, 
     (subst (λ (a : List ℕ). Says w (LevelsExact (record { head = Array None; done = vs } ∷ fs) a)) (is ∙ ap (λ a. x ++ a) begun.whole) q))) told
 
 pub told_map : (k w : Bool) (o : Option ℕ) (limit : ℕ) (fs : List Level) (ps : Pairs) (d : ℕ) (p y b : List ℕ) → tree_count (flat ps) ≡ 2 * d → Within limit (record { head = Map o; done = flat ps } ∷ fs) p → Closes o d y → b ≡ p ++ y
-    → Told k w (length p) (LevelsExact (record { head = Map o; done = flat ps } ∷ fs) p) → Told k w (length b) (ItemExact fs (map ps) b)
+    → IfAsked k w (length p) (LevelsExact (record { head = Map o; done = flat ps } ∷ fs) p) → IfAsked k w (length b) (ItemExact fs (map ps) b)
 told_map k w (Some n) limit fs ps d p y b count within ends whole told =
     told_step k w w (length p) (length b) (LevelsExact (record { head = Map (Some n); done = flat ps } ∷ fs) p) (ItemExact fs (map ps) b) (omega (arith, ap length whole, length-append p y))
     (λ l q. subst (λ (z : List ℕ). Says w (ItemExact fs (map ps) z)) (append_nil p ∙ ap (λ z. p ++ z) (sym ends.1) ∙ sym whole)
@@ -109,7 +109,7 @@ told_map k w None limit fs ps d p y b count (x, z, within, child, low, begun, is
 
 -- a tag is whole with its item
 pub told_tag : (k w w' : Bool) (limit n : ℕ) (fs : List Level) (c v : Tree) (b : List ℕ) → Handing limit (record { head = Tag n; done = no_trees } ∷ fs) c b → tagged n c ≡ Some v → IsKept n c v w w'
-    → Told k w (length b) (ItemExact (record { head = Tag n; done = no_trees } ∷ fs) c b) → Told k w' (length b) (ItemExact fs v b)
+    → IfAsked k w (length b) (ItemExact (record { head = Tag n; done = no_trees } ∷ fs) c b) → IfAsked k w' (length b) (ItemExact fs v b)
 told_tag k w w' limit n fs c v b p e kept told =
     told_step k w w' (length b) (length b) (ItemExact (record { head = Tag n; done = no_trees } ∷ fs) c b) (ItemExact fs v b) (omega arith)
     (λ l q.
@@ -130,7 +130,7 @@ told_tag k w w' limit n fs c v b p e kept told =
 behind_title : (limit : ℕ) (fs : List Level) (h : Header) (at from now : ℕ) (b y : List ℕ) (t : Titled limit fs h at from now b) → b ++ y ≡ t.before ++ (t.title ++ y)
 behind_title limit fs h at from now b y t = ap (λ z. z ++ y) t.whole ∙ append_assoc t.before t.title y
 
-pub told_leaf : (k w : Bool) (limit low : ℕ) (fs : List Level) (h : Header) (v : Tree) (at from now : ℕ) (b y : List ℕ) → InHand k w limit fs h at from now b → IsLeaf h → ReadsBehind h low v y → Told k w (length (b ++ y)) (ItemExact fs v (b ++ y))
+pub told_leaf : (k w : Bool) (limit low : ℕ) (fs : List Level) (h : Header) (v : Tree) (at from now : ℕ) (b y : List ℕ) → InHand k w limit fs h at from now b → IsLeaf h → ReadsAfterTitle h low v y → IfAsked k w (length (b ++ y)) (ItemExact fs v (b ++ y))
 told_leaf k w limit low fs h v at from now b y (t, p) leaf r =
     told_step k w w (length b) (length (b ++ y)) (TitleExact fs h t.before t.title) (ItemExact fs v (b ++ y)) (longer b y)
     (λ l q.
@@ -142,7 +142,7 @@ told_leaf k w limit low fs h v at from now b y (t, p) leaf r =
 
 -- a leaf after its tag
 pub told_tagged : (k w w₁ w' : Bool) (limit low : ℕ) (fs : List Level) (n : ℕ) (j : Header) (c v : Tree) (at from now : ℕ) (b x y : List ℕ) → InHand k w limit fs (Tag n) at from now b → IsLeaf j → Title x j
-    → IsFlagged w w₁ j x → ((deep : ℕ) → ReadsBehind j deep c y) → ReadsBehind (Tag n) low v (x ++ y) → tagged n c ≡ Some v → IsKept n c v w₁ w' → Told k w' (length (b ++ (x ++ y))) (ItemExact fs v (b ++ (x ++ y)))
+    → IsFlagged w w₁ j x → ((deep : ℕ) → ReadsAfterTitle j deep c y) → ReadsAfterTitle (Tag n) low v (x ++ y) → tagged n c ≡ Some v → IsKept n c v w₁ w' → IfAsked k w' (length (b ++ (x ++ y))) (ItemExact fs v (b ++ (x ++ y)))
 told_tagged k w w₁ w' limit low fs n j c v at from now b x y (t, p) leaf title (u, short, flag) r whole e kept =
     told_step k w w' (length b) (length (b ++ (x ++ y))) (TitleExact fs (Tag n) t.before t.title) (ItemExact fs v (b ++ (x ++ y))) (longer b (x ++ y))
     (λ l q.

@@ -14,19 +14,19 @@ use Rattle.ciborium.specs.declared.frames.Handed.TheVariants as handed
 use Rattle.ciborium.specs.Damage.{Damage}
 use Rattle.ciborium.specs.Front.{Reads}
 use Rattle.ciborium.specs.Levels.{Within, IsChild, Titled}
-use Rattle.ciborium.specs.Reading.{FailsAt, FailsBehind, IfKnown, ReadsBehind, NamesFault, NamesFaultBehind}
+use Rattle.ciborium.specs.Reading.{FailsAt, FailsAfterTitle, IfKnown, ReadsAfterTitle, NamesFault, NamesFaultAfterTitle}
 use Rattle.ciborium.specs.Exact.{Says, IsEncoded, encoded, TitleExact}
 use Rattle.ciborium_value.specs.Tree.{Tree}
 use Rattle.ciborium_value.specs.Encoding.{enc}
 use Rattle.ciborium.proofs.ExactSteps.{says_as, says_and}
 use Rattle.ciborium.proofs.ToldLemmas.{told_step, longer, encoded_says}
-use Rattle.ciborium.specs.Frames.{Told, InHand, Asks, CloseGives, ReadExact, in_hand, rank, opened, Stage, IsStaged, IsClosed, Hands, Faults, FillEnds, FillGives, Rooted, HalfIn, Begins, BeginFails}
+use Rattle.ciborium.specs.Frames.{IfAsked, InHand, Asks, CloseGives, ReadExact, in_hand, rank, opened, Stage, IsStaged, IsClosed, IsHandedOver, Faults, FillEnds, FillGives, EndsInWhole, HalfIn, BeginsItem, BeginFails}
 use Rattle.ciborium.proofs.Once.{append_nil}
 use Rattle.ciborium.proofs.Taking.{fails_titled, takes_as, takes_then, takes_none}
 
 -- what is known of the flag at the title of the whole
 abbrev pub Starts : Bool → Bool → Header → List ℕ → Type 0
-Starts k w h title = Told k w (length title) ((title ≡ title_of h) × IsEncoded h)
+Starts k w h title = IfAsked k w (length title) ((title ≡ title_of h) × IsEncoded h)
 
 -- what was taken after the title of h, which begins at the place `at`
 abbrev pub Behind : ℕ → Header → ℕ → Seen → Seen → Bool → Bool → List Frame → Option Value → List ℕ → Type 0
@@ -60,7 +60,7 @@ turn_start limit at h s u fs e = record {
         before = [];
         title = title;
         within = subst (λ (z : List Frame). Within limit (opened (reverse z)) []) (sym e) refl;
-        child = subst (λ (z : List Frame). IsChild (opened (reverse z)) h) (sym e) tt;
+        child = subst (λ (z : List Frame). IsChild (opened (reverse z)) h) (sym e) (λ b r s. tt);
         is_title = t;
         place = λ q. subst (λ (z : List ℕ). at + length z ≡ s.offset) (sym (append_nil title)) q;
         whole = sym (append_nil title);
@@ -81,7 +81,7 @@ turn_staged {limit} {h} {at} {old} {new} {u} {w} {fs} {read} t v = (limit, at, n
 
 -- the whole is read
 pub turn_done : {limit : ℕ} {h : Header} {at : ℕ} {old new : Seen} {u w : Bool} {fs : List Frame} {read : Option Value} (gs : List Frame) (read' : Option Value) (w' : Bool) (v : Value) → read' ≡ Some v → Turn limit h at old new u w fs read
-    → Hands fs gs read read' w w' handed.Done → Takes old new (ReadExact h limit (view v) u w')
+    → IsHandedOver fs gs read read' w w' handed.Done → Takes old new (ReadExact h limit (view v) u w')
 turn_done {limit} {h} {at} {old} {new} {u} {w} {fs} {read} gs read' w' v some t s = takes_as old.left new.left old.offset new.offset (Behind limit h at old new u w fs read) _ t.taken (λ y b title i.
     let q = s false limit at new.offset (title ++ y) (b false title i tt) in
     let e : Some v ≡ Some q.0 = sym some ∙ q.1 in
@@ -94,19 +94,19 @@ turn_done {limit} {h} {at} {old} {new} {u} {w} {fs} {read} gs read' w' v some t 
           subst (λ (z : Value). Says w' (title ++ y ≡ enc (view z))) j (p.3 l),
     ))
 
-pub done_some : (fs gs : List Frame) (read read' : Option Value) (w w' : Bool) → read' ≡ None → IsStaged fs read → Hands fs gs read read' w w' handed.Done → ⊥
+pub done_some : (fs gs : List Frame) (read read' : Option Value) (w w' : Bool) → read' ≡ None → IsStaged fs read → IsHandedOver fs gs read read' w w' handed.Done → ⊥
 done_some fs gs read read' w w' none (limit, from, now, b, p) s = let q = s false limit from now b (unasked_as false w limit fs read from now b p) in let e : None ≡ Some q.0 = sym none ∙ q.1 in cc
 
 -- a value was taken
-pub turn_taken : {limit : ℕ} {h : Header} {at : ℕ} {old new : Seen} {u w : Bool} {fs : List Frame} {read : Option Value} (gs : List Frame) (read' : Option Value) (w' : Bool) → Turn limit h at old new u w fs read → Hands fs gs read read' w w' handed.Taken → Turn limit h at old new u w' gs None
+pub turn_taken : {limit : ℕ} {h : Header} {at : ℕ} {old new : Seen} {u w : Bool} {fs : List Frame} {read : Option Value} (gs : List Frame) (read' : Option Value) (w' : Bool) → Turn limit h at old new u w fs read → IsHandedOver fs gs read read' w w' handed.Taken → Turn limit h at old new u w' gs None
 turn_taken {limit} {h} {at} {old} {new} {u} {w} {fs} {read} gs read' w' t s =
     record { taken = takes_as old.left new.left old.offset new.offset (Behind limit h at old new u w fs read) (Behind limit h at old new u w' gs None) t.taken (λ y b k title i f. (s k limit at new.offset (title ++ y) (b k title i f)).1) }
 
-pub taken_none : (fs gs : List Frame) (read read' : Option Value) (w w' : Bool) → IsStaged fs read → Hands fs gs read read' w w' handed.Taken → read' ≡ None
+pub taken_none : (fs gs : List Frame) (read read' : Option Value) (w w' : Bool) → IsStaged fs read → IsHandedOver fs gs read read' w w' handed.Taken → read' ≡ None
 taken_none fs gs read read' w w' (limit, from, now, b, p) s = (s false limit from now b (unasked_as false w limit fs read from now b p)).0
 
 -- half an entry is in a map
-rooted_half : (f : Frame) (fs : List Frame) → Rooted (f ∷ fs) → HalfIn f
+rooted_half : (f : Frame) (fs : List Frame) → EndsInWhole (f ∷ fs) → HalfIn f
 rooted_half (code.Whole at h) fs r = tt
 rooted_half (code.Items l) fs r = tt
 rooted_half (code.Entries l) fs r = r.0
@@ -129,7 +129,7 @@ turn_closed {limit} {h} {at} {old} {mid} {u} {w} {top} {fs} top' new gs v w' t a
 
 -- the item of a title is begun
 pub turn_begun : {limit : ℕ} {h : Header} {at : ℕ} {old s₁ : Seen} {u w : Bool} {top : Frame} {fs : List Frame} (top' : Frame) (place : ℕ) (j : Header) (s₂ s₃ : Seen) (gs : List Frame) (read : Option Value) (w₂ w₃ : Bool) → Turn limit h at old s₁ u w (top ∷ fs) None
-    → Takes s₁ s₂ (FillGives top top' j place s₁.offset w w₂) → Takes s₂ s₃ (Begins (top' ∷ fs) gs limit j place s₂.offset read w₂ w₃) → Turn limit h at old s₃ u w₃ gs read
+    → Takes s₁ s₂ (FillGives top top' j place s₁.offset w w₂) → Takes s₂ s₃ (BeginsItem (top' ∷ fs) gs limit j place s₂.offset read w₂ w₃) → Turn limit h at old s₃ u w₃ gs read
 turn_begun {limit} {h} {at} {old} {s₁} {u} {w} {top} {fs} top' place j s₂ s₃ gs read w₂ w₃ r a p = let t = r.taken in record {
   taken = record {
     bytes = t.bytes ++ (a.bytes ++ p.bytes);
@@ -157,7 +157,7 @@ known_fails ends limit at o title x None m e p f = tt
 known_fails ends limit at o title x (Some b) m e p f = fails_from ends limit at o title x b m e p f
 
 pub turn_fails : {E : Type 0} {limit : ℕ} {h : Header} {at : ℕ} {old mid : Seen} {u w : Bool} {fs : List Frame} {read : Option Value} (ends : E → Bool) (o : ℕ) (e : Error E) → Turn limit h at old mid u w fs read
-    → ((b : List ℕ) → at + length b ≡ mid.offset → Stage false false limit fs read at mid.offset b → Faults ends limit at b mid.left o e) → FailsBehind ends h at old.offset old.left o (λ stop b f. Damage stop b limit f) e
+    → ((b : List ℕ) → at + length b ≡ mid.offset → Stage false false limit fs read at mid.offset b → Faults ends limit at b mid.left o e) → FailsAfterTitle ends h at old.offset old.left o (λ stop b f. Damage stop b limit f) e
 turn_fails {E} {limit} {h} {at} {old} {mid} {u} {w} {fs} {read} ends o e r s title i place =
     let t = r.taken in
     let off : at + length (title ++ t.bytes) ≡ mid.offset = omega (arith, place, t.grown, length-append title t.bytes) in
@@ -165,7 +165,7 @@ turn_fails {E} {limit} {h} {at} {old} {mid} {u} {w} {fs} {read} ends o e r s tit
 
 -- a fault of the item whose title was taken
 pub begun_fails : {E : Type 0} {limit : ℕ} {h : Header} {at : ℕ} {old s₁ : Seen} {u w : Bool} {top : Frame} {fs : List Frame} (top' : Frame) (ends : E → Bool) (place : ℕ) (k : Header) (s₂ s₃ : Seen) (w₂ : Bool) (e : Error E) → Turn limit h at old s₁ u w (top ∷ fs) None
-    → Takes s₁ s₂ (FillGives top top' k place s₁.offset w w₂) → BeginFails ends limit (top' ∷ fs) k place s₂ s₃ e → FailsBehind ends h at old.offset old.left s₃.offset (λ stop b f. Damage stop b limit f) e
+    → Takes s₁ s₂ (FillGives top top' k place s₁.offset w w₂) → BeginFails ends limit (top' ∷ fs) k place s₂ s₃ e → FailsAfterTitle ends h at old.offset old.left s₃.offset (λ stop b f. Damage stop b limit f) e
 begun_fails {E} {limit} {h} {at} {old} {s₁} {u} {w} {top} {fs} top' ends place k s₂ s₃ w₂ e n a v title i g =
     let t = n.taken in
     let off : at + length ((title ++ t.bytes) ++ a.bytes) ≡ s₂.offset = omega (arith, g, t.grown, a.grown, length-append (title ++ t.bytes) a.bytes, length-append title t.bytes) in
@@ -189,7 +189,7 @@ turn_less xs ys zs x f g read read' read'' o₀ o₁ o₂ none low grown grown' 
     omega arith
 
 -- what is read is read, whatever the flag
-pub behind_read : (h : Header) (limit : ℕ) (v : Tree) (u w : Bool) (old new : Seen) → Takes old new (ReadExact h limit v u w) → Takes old new (λ (b : List ℕ). ReadsBehind h limit v b)
+pub behind_read : (h : Header) (limit : ℕ) (v : Tree) (u w : Bool) (old new : Seen) → Takes old new (ReadExact h limit v u w) → Takes old new (λ (b : List ℕ). ReadsAfterTitle h limit v b)
 behind_read h limit v u w old new t = takes_as old.left new.left old.offset new.offset (ReadExact h limit v u w) _ t (λ y b title i. (b title i).0)
 
 -- a title and its item, and whether both are the encoding
@@ -216,8 +216,8 @@ exact_by h limit v false u w s old mid new few flag t t' r =
     takes_then old.left mid.left new.left old.offset mid.offset new.offset _ _ _ t (behind_read h limit v w u mid new r) (λ x y a b. (b x a, λ (e : false ≡ true). absurd (cc)))
 
 -- a fault after the title of an item is one of the item
-pub item_fails : {E : Type 0} (ends : E → Bool) (h : Header) (at limit : ℕ) (old mid new : Seen) (e : Error E) → at ≡ old.offset → Takes old mid (λ b. Title b h) → NamesFaultBehind ends h at (λ stop b f. Damage stop b limit f) mid new e
+pub item_fails : {E : Type 0} (ends : E → Bool) (h : Header) (at limit : ℕ) (old mid new : Seen) (e : Error E) → at ≡ old.offset → Takes old mid (λ b. Title b h) → NamesFaultAfterTitle ends h at (λ stop b f. Damage stop b limit f) mid new e
     → NamesFault ends (λ stop b f. Damage stop b limit f) old new e
 item_fails ends h at limit old mid new e same t w =
     fails_titled ends old.left mid.left old.offset mid.offset new.offset h (λ stop b f. Damage stop b limit f) e t
-    (subst (λ (z : ℕ). FailsBehind ends h z mid.offset mid.left new.offset (λ stop b f. Damage stop b limit f) e) same w)
+    (subst (λ (z : ℕ). FailsAfterTitle ends h z mid.offset mid.left new.offset (λ stop b f. Damage stop b limit f) e) same w)

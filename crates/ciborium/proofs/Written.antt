@@ -1,19 +1,18 @@
 -- What a sink of bytes wrote: the encodings of the events that it took, one after another.
-use Rattle.std.proofs.Common.{◌≡◌, ℕ, ◌+◌, List, [], ◌∷◌, ◌++◌, inl, inr, Option, None, Some, Result, Ok, Err, OnOk, OnErr, refl, sym, ap, subst, ◌∙◌, append_assoc, append-nil}
+use Rattle.std.proofs.Common.{◌≡◌, ℕ, ◌+◌, List, [], ◌∷◌, ◌++◌, Option, None, Some, Result, Ok, Err, OnOk, OnErr, refl, sym, ap, subst, ◌∙◌, append_assoc, append-nil}
 use Rattle.std.specs.Io.KnownBytes.{Appends}
 use Rattle.std.proofs.KnownBytes.{Appends-trans}
 use Rattle.ciborium_ll.specs.Device.{AppendsFront, write_failures}
-use Rattle.ciborium_ll.proofs.Appending.{front_then, then_front, front_as, appends_as}
+use Rattle.ciborium_ll.proofs.Appending.{front_then, then_front}
 use Rattle.ciborium_ll.specs.Title.{title_of}
 use Rattle.ciborium_ll.specs.declared.hdr.Header.TheVariants.{Tag, Array, Map}
 use Rattle.ciborium_value.specs.Tree as tree
 use Rattle.ciborium_value.specs.Tree.{Tree, Trees, no_trees, one_more, Pairs, no_pairs, pair_more, tree_count, pair_count}
 use Rattle.ciborium_value.specs.Encoding.{enc, enc_all, enc_pairs}
-use Rattle.ciborium_typed.specs.Events.{Event, events, events_all, events_pairs, AllAdded, Stopped}
-use Rattle.ciborium.specs.Writing.{event_text, IsWritten, IsTorn}
+use Rattle.ciborium_typed.specs.Events.{Event, events, events_all, events_pairs, Puts, Stops}
+use Rattle.ciborium.specs.Writing.{event_text, IsWritten, IsTorn, IsDue}
 
--- the encodings of events, one after another
-abbrev pub event_texts : List Event → List ℕ
+abbrev event_texts : List Event → List ℕ
 event_texts [] = []
 event_texts (e ∷ es) = event_text e ++ event_texts es
 
@@ -50,55 +49,31 @@ nothing_more : (o : Option (List ℕ)) → Appends o o []
 nothing_more None = tt
 nothing_more (Some xs) = sym (append-nil xs)
 
--- a sink s over the writer `of s`
-module _ {S W : Type 0} (of : S → W) (written : W → Option (List ℕ)) (handle : W → List ℕ) (failed : W → ℕ) where
-  abbrev Writes : S → Event → S → Type 0
-  Writes s e t = IsWritten written handle failed (of s) e (of t)
+module _ {W : Type 0} (written : W → Option (List ℕ)) (handle : W → List ℕ) (failed : W → ℕ) where
+  abbrev Due : W × List ℕ → List Event → W → Type 0
+  Due p es w = IsDue written handle failed p.0 p.1 es w
 
-  abbrev Tears : S → Event → S → Type 0
-  Tears s e t = IsTorn written handle failed (of s) e (of t)
+  abbrev Torn : W × List ℕ → W → Type 0
+  Torn p w = IsTorn written handle failed p.0 p.1 w
 
-  all_written : (es : List Event) (s t : S) → AllAdded Writes s es t
-      → Appends (written (of s)) (written (of t)) (event_texts es) × (handle (of t) ≡ handle (of s)) × (failed (of t) ≡ failed (of s))
-  all_written [] s t p = subst (λ z. Appends (written (of s)) (written (of z)) [] × (handle (of z) ≡ handle (of s)) × (failed (of z) ≡ failed (of s))) (sym p) (nothing_more (written (of s)), refl, refl)
-  all_written (e ∷ es) s t (m, p, q) =
-      let r = all_written es m t q in
-      (Appends-trans (written (of s)) (written (of m)) (written (of t)) (event_text e) (event_texts es) p.0 r.0, r.1 ∙ p.1, r.2 ∙ p.2)
+  -- a part is written, and the rest are these events
+  due_from : (es : List Event) (start w : W) (part text : List ℕ) → part ++ event_texts es ≡ text → IsWritten written handle failed start part w → Due (start, text) es w
+  due_from [] start w part text q h = (subst (λ z. Appends (written start) (written w) z) (sym (append-nil part) ∙ q) h.0, h.1, h.2)
+  due_from (e ∷ es) start w part text q h = (
+    λ u g. due_from es start u (part ++ event_text e) text (append_assoc part (event_text e) (event_texts es) ∙ q)
+        (Appends-trans (written start) (written w) (written u) part (event_text e) h.0 g.0, g.1 ∙ h.1, g.2 ∙ h.2),
+    λ u g. (
+      subst (λ z. AppendsFront (written start) (written u) z) q
+          (then_front (written start) (written w) (written u) part (event_texts (e ∷ es)) h.0 (front_then (written w) (written u) (event_text e) (event_texts es) g.0)),
+      g.1 ∙ h.1,
+      g.2 ∙ ap (λ n. n + 1) h.2,
+    ),
+  )
 
-  part_written : (es : List Event) (s t : S) → Stopped Writes Tears s es t
-      → AppendsFront (written (of s)) (written (of t)) (event_texts es) × (handle (of t) ≡ handle (of s)) × (failed (of t) ≡ failed (of s) + 1)
-  part_written [] s t p = absurd p
-  part_written (e ∷ es) s t (inl p) = (front_then (written (of s)) (written (of t)) (event_text e) (event_texts es) p.0, p.1, p.2)
-  part_written (e ∷ es) s t (inr (m, p, q)) =
-      let r = part_written es m t q in
-      (then_front (written (of s)) (written (of m)) (written (of t)) (event_text e) (event_texts es) p.0 r.0, r.1 ∙ p.1, r.2 ∙ ap (λ n. n + 1) p.2)
+  begun : (t : Tree) (w : W) → Due (w, enc t) (events t ++ []) w
+  begun t w = due_from (events t ++ []) w w [] (enc t) (rw append-nil (texts_of t)) (nothing_more (written w), refl, refl)
 
-  item_written : (t : Tree) (s u : S) → AllAdded Writes s (events t) u
-      → Appends (written (of s)) (written (of u)) (enc t) × (handle (of u) ≡ handle (of s)) × (failed (of u) ≡ failed (of s))
-  item_written t s u p =
-      let r = all_written (events t) s u p in
-      (appends_as (written (of s)) (written (of u)) (event_texts (events t)) (enc t) (texts_of t) r.0, r.1, r.2)
-
-  item_torn : (t : Tree) (s u : S) → Stopped Writes Tears s (events t) u
-      → AppendsFront (written (of s)) (written (of u)) (enc t) × (handle (of u) ≡ handle (of s)) × (failed (of u) ≡ failed (of s) + 1)
-  item_torn t s u p =
-      let r = part_written (events t) s u p in
-      (front_as (written (of s)) (written (of u)) (event_texts (events t)) (enc t) (texts_of t) r.0, r.1, r.2)
-
-  -- what a result says of the writer
-  pub on_ok : {T E : Type 0} (r : Result T E) (t : Tree) (s u : S) → OnOk r (AllAdded Writes s (events t) u) → OnOk r (Appends (written (of s)) (written (of u)) (enc t))
-  on_ok (Ok x) t s u p = (item_written t s u p).0
-  on_ok (Err e) t s u p = tt
-
-  pub on_err : {T E : Type 0} (r : Result T E) (t : Tree) (s u : S) → OnErr r (Stopped Writes Tears s (events t) u) → OnErr r (AppendsFront (written (of s)) (written (of u)) (enc t))
-  on_err (Ok x) t s u p = tt
-  on_err (Err e) t s u p = (item_torn t s u p).0
-
-  pub as_lent : {T E : Type 0} (r : Result T E) (t : Tree) (s u : S) → OnOk r (AllAdded Writes s (events t) u) → OnErr r (Stopped Writes Tears s (events t) u) → handle (of u) ≡ handle (of s)
-  as_lent (Ok x) t s u p q = (item_written t s u p).1
-  as_lent (Err e) t s u p q = (item_torn t s u q).1
-
-  pub failures : {T E : Type 0} (r : Result T E) (t : Tree) (s u : S) → OnOk r (AllAdded Writes s (events t) u) → OnErr r (Stopped Writes Tears s (events t) u)
-      → failed (of u) ≡ write_failures r (failed (of s))
-  failures (Ok x) t s u p q = (item_written t s u p).2
-  failures (Err e) t s u p q = (item_torn t s u q).2
+  pub item_written : {T E : Type 0} (r : Result T E) (t : Tree) (w u : W) → OnOk r (Puts Due w (events t) u) → OnErr r (Stops Due Torn w (events t) u)
+      → OnOk r (Appends (written w) (written u) (enc t)) × OnErr r (AppendsFront (written w) (written u) (enc t)) × (handle u ≡ handle w) × (failed u ≡ write_failures r (failed w))
+  item_written (Ok x) t w u p q = let d = p (w, enc t) [] (begun t w) in (d.0, tt, d.1, d.2)
+  item_written (Err x) t w u p q = let d = q (w, enc t) [] (begun t w) in (tt, d.0, d.1, d.2)

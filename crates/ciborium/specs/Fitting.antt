@@ -1,5 +1,5 @@
 -- What each event of a written item keeps to.
-use Rattle.std.specs.Prelude.{◌^◌, ◌<◌, ◌≤◌, length, All}
+use Rattle.std.specs.Prelude.{◌^◌, ◌<◌, ◌≤◌, List, [], ◌∷◌, length, All}
 use Rattle.std.specs.Str.{IsUtf8}
 use Rattle.ciborium_ll.specs.Title.{FitsHeader}
 use Rattle.ciborium_ll.specs.declared.hdr.Header.TheVariants as head
@@ -17,3 +17,7 @@ FitsEvent (simple n) = (20 ≤ n) × (n ≤ 22)
 FitsEvent (tag n) = n < 2 ^ 64
 FitsEvent (array n) = n < 2 ^ 64
 FitsEvent (map n) = n < 2 ^ 64
+
+abbrev pub EachFits : List Event → Type 0
+EachFits [] = Unit {0}
+EachFits (e ∷ es) = FitsEvent e × EachFits es

@@ -19,7 +19,7 @@ use Rattle.ciborium.specs.declared.frames.Opened.{Opened}
 use Rattle.ciborium.specs.declared.frames.Opened.TheVariants as opens
 use Rattle.ciborium.specs.Damage.{Damage}
 use Rattle.ciborium.specs.Front.{Reads, HoldsOne}
-use Rattle.ciborium.specs.Reading.{IfKnown, FailsAt, Closes, IsLeaf, OpensOver, ReadsBehind}
+use Rattle.ciborium.specs.Reading.{IfKnown, FailsAt, Closes, IsLeaf, OpensOver, ReadsAfterTitle}
 use Rattle.ciborium.specs.Exact.{Says, IsEncoded, encoded, LevelsExact, TitleExact, ItemExact}
 use Rattle.ciborium.specs.Levels.{Level, Within, Titled, Handing}
 
@@ -58,18 +58,18 @@ opened [] = []
 opened (f ∷ fs) = put_level f (opened fs)
 
 -- the whole is the outermost frame, and no other one
-abbrev pub Rooted : List Frame → Type 0
-Rooted [] = ⊥
-Rooted (code.Whole at h ∷ fs) = fs ≡ []
-Rooted (code.Items l ∷ fs) = Rooted fs
-Rooted (code.Entries l ∷ fs) = HasHalf l × Rooted fs
-Rooted (code.Tag n at h room ∷ fs) = Rooted fs
+abbrev pub EndsInWhole : List Frame → Type 0
+EndsInWhole [] = ⊥
+EndsInWhole (code.Whole at h ∷ fs) = fs ≡ []
+EndsInWhole (code.Items l ∷ fs) = EndsInWhole fs
+EndsInWhole (code.Entries l ∷ fs) = HasHalf l × EndsInWhole fs
+EndsInWhole (code.Tag n at h room ∷ fs) = EndsInWhole fs
 
 -- What the flag w, whether the bytes are canonical so far, tells of n bytes if it is asked (k):
 -- whether P.
-abbrev pub Told : Bool → Bool → ℕ → Type 0 → Type 0
-Told false w n P = Unit {0}
-Told true w n P = n < 2 ^ 64 → Says w P
+abbrev pub IfAsked : Bool → Bool → ℕ → Type 0 → Type 0
+IfAsked false w n P = Unit {0}
+IfAsked true w n P = n < 2 ^ 64 → Says w P
 
 -- the flag goes from w to w' with the title y of h
 abbrev pub IsFlagged : Bool → Bool → Header → List ℕ → Type 0
@@ -87,21 +87,21 @@ IsLengthOf (Some n) c = (x : List ℕ) × (c ≡ bytes x) × (length x ≡ n)
 
 -- a title is in hand
 abbrev pub InHand : Bool → Bool → ℕ → List Level → Header → ℕ → ℕ → ℕ → List ℕ → Type 0
-InHand k w limit fs h at from now b = (t : Titled limit fs h at from now b) × Told k w (length b) (TitleExact fs h t.before t.title)
+InHand k w limit fs h at from now b = (t : Titled limit fs h at from now b) × IfAsked k w (length b) (TitleExact fs h t.before t.title)
 
 -- the innermost frame has a title in hand, or asks for its next part
 abbrev pub Asks : Bool → Bool → ℕ → List Frame → ℕ → ℕ → List ℕ → Type 0
 Asks k w limit [] from now b = ⊥
 Asks k w limit (code.Whole at h ∷ fs) from now b = InHand k w limit (opened (code.Whole at h ∷ fs)) h at from now b
-Asks k w limit (code.Items l ∷ fs) from now b = Within limit (opened (code.Items l ∷ fs)) b × Told k w (length b) (LevelsExact (opened (code.Items l ∷ fs)) b)
-Asks k w limit (code.Entries l ∷ fs) from now b = Within limit (opened (code.Entries l ∷ fs)) b × Told k w (length b) (LevelsExact (opened (code.Entries l ∷ fs)) b)
+Asks k w limit (code.Items l ∷ fs) from now b = Within limit (opened (code.Items l ∷ fs)) b × IfAsked k w (length b) (LevelsExact (opened (code.Items l ∷ fs)) b)
+Asks k w limit (code.Entries l ∷ fs) from now b = Within limit (opened (code.Entries l ∷ fs)) b × IfAsked k w (length b) (LevelsExact (opened (code.Entries l ∷ fs)) b)
 Asks k w limit (code.Tag n at h room ∷ fs) from now b = InHand k w limit (opened (code.Tag n at h room ∷ fs)) h at from now b
 
 -- the bytes of the whole up to the place `now`: of the frames, and of an item that is to be handed
 -- over
 abbrev pub Stage : Bool → Bool → ℕ → List Frame → Option Value → ℕ → ℕ → List ℕ → Type 0
-Stage k w limit fs None from now b = Rooted fs × Asks k w limit fs from now b
-Stage k w limit fs (Some v) from now b = Rooted fs × Handing limit (opened fs) (view v) b × Told k w (length b) (ItemExact (opened fs) (view v) b)
+Stage k w limit fs None from now b = EndsInWhole fs × Asks k w limit fs from now b
+Stage k w limit fs (Some v) from now b = EndsInWhole fs × Handing limit (opened fs) (view v) b × IfAsked k w (length b) (ItemExact (opened fs) (view v) b)
 
 -- there are such bytes
 abbrev pub IsStaged : List Frame → Option Value → Type 0
@@ -112,15 +112,15 @@ IsStaged fs read = (limit from now : ℕ) × (b : List ℕ) × Stage false false
 abbrev pub HandedStage : Bool → Bool → ℕ → List Frame → Option Value → ℕ → ℕ → List ℕ → Handed → Type 0
 HandedStage k w limit fs read from now b handed.Taken = (read ≡ None) × Stage k w limit fs None from now b
 HandedStage k w limit fs read from now b handed.Up = Stage k w limit fs read from now b
-HandedStage k w limit fs read from now b handed.Done = (v : Value) × (read ≡ Some v) × Reads b limit (view v) × Told k w (length b) (b ≡ enc (view v))
+HandedStage k w limit fs read from now b handed.Done = (v : Value) × (read ≡ Some v) × Reads b limit (view v) × IfAsked k w (length b) (b ≡ enc (view v))
 
 -- a fault of the whole, whose bytes so far are b
 abbrev pub Faults : {E : Type 0} → (E → Bool) → ℕ → ℕ → List ℕ → Option (List ℕ) → ℕ → Error E → Type 0
 Faults ends limit from b left place e = IfKnown left (λ rest. FailsAt ends (b ++ rest) from place (λ stop b f. Damage stop b limit f) e)
 
 -- a value is handed over
-abbrev pub Hands : List Frame → List Frame → Option Value → Option Value → Bool → Bool → Handed → Type 0
-Hands old new read read' w w' n = (k : Bool) (limit from now : ℕ) (b : List ℕ) → Stage k w limit old read from now b → HandedStage k w' limit new read' from now b n
+abbrev pub IsHandedOver : List Frame → List Frame → Option Value → Option Value → Bool → Bool → Handed → Type 0
+IsHandedOver old new read read' w w' n = (k : Bool) (limit from now : ℕ) (b : List ℕ) → Stage k w limit old read from now b → HandedStage k w' limit new read' from now b n
 
 abbrev pub HandFails : {E : Type 0} → List Frame → Option Value → Error E → Type 0
 HandFails fs read e = (ends : _ → Bool) (limit from : ℕ) (b : List ℕ) (left : Option (List ℕ)) (now : ℕ) → from + length b ≡ now
@@ -136,7 +136,7 @@ Ended (code.Tag n at h room ∷ fs) y = ⊥
 
 -- it is closed
 abbrev pub ClosedStage : Bool → Bool → ℕ → List Frame → List ℕ → Type 0
-ClosedStage k w limit fs b = (x y : List ℕ) × Rooted fs × Within limit (opened fs) x × Ended fs y × (b ≡ x ++ y) × Told k w (length x) (LevelsExact (opened fs) x)
+ClosedStage k w limit fs b = (x y : List ℕ) × EndsInWhole fs × Within limit (opened fs) x × Ended fs y × (b ≡ x ++ y) × IfAsked k w (length x) (LevelsExact (opened fs) x)
 
 abbrev pub IsClosed : List Frame → Type 0
 IsClosed fs = (limit : ℕ) × (b : List ℕ) × ClosedStage false false limit fs b
@@ -152,7 +152,7 @@ AskEnds top y = (k w : Bool) (limit from now : ℕ) (fs : List Frame) (b : List 
 -- its title has the header h and begins at the place `at`
 abbrev pub AskGives : Frame → Header → ℕ → ℕ → Bool → Bool → List ℕ → Type 0
 AskGives top h at now w w' y = (k : Bool) (limit from : ℕ) (fs : List Frame) (b : List ℕ) → Stage k w limit (top ∷ fs) None from now b
-    → Rooted (top ∷ fs) × InHand k w' limit (opened (top ∷ fs)) h at from (now + length y) (b ++ y)
+    → EndsInWhole (top ∷ fs) × InHand k w' limit (opened (top ∷ fs)) h at from (now + length y) (b ++ y)
 
 abbrev pub AskFails : {E : Type 0} → (E → Bool) → Frame → Seen → Seen → Error E → Type 0
 AskFails ends top old new e = (limit from : ℕ) (fs : List Frame) (b : List ℕ) → from + length b ≡ old.offset → Stage false false limit (top ∷ fs) None from old.offset b
@@ -174,15 +174,15 @@ HalfIn (code.Tag n at h room) = Unit {0}
 
 -- a value is put into it
 abbrev pub Puts : Frame → Frame → Value → Type 0
-Puts old new v = (w : Bool) (fs : List Frame) → Hands (old ∷ fs) (new ∷ fs) (Some v) None w w handed.Taken
+Puts old new v = (w : Bool) (fs : List Frame) → IsHandedOver (old ∷ fs) (new ∷ fs) (Some v) None w w handed.Taken
 
 -- an item whose title has the header h, and in which no items follow, is read and put into it
 abbrev pub LeafPut : Header → Frame → Frame → Seen → Seen → Type 0
-LeafPut h old new s s' = (v : Value) × Takes s s' (λ b. (limit : ℕ) → ReadsBehind h limit (view v) b) × Puts old new v
+LeafPut h old new s s' = (v : Value) × Takes s s' (λ b. (limit : ℕ) → ReadsAfterTitle h limit (view v) b) × Puts old new v
 
 -- items that no items follow in, of the bytes y from the place `now` on, were put into it
-abbrev pub Fills : Frame → Frame → ℕ → Bool → Bool → List ℕ → Type 0
-Fills old new now w w' y = (k : Bool) (limit from : ℕ) (fs : List Frame) (b : List ℕ) → Stage k w limit (old ∷ fs) None from now b → Stage k w' limit (new ∷ fs) None from (now + length y) (b ++ y)
+abbrev pub FillsFrame : Frame → Frame → ℕ → Bool → Bool → List ℕ → Type 0
+FillsFrame old new now w w' y = (k : Bool) (limit from : ℕ) (fs : List Frame) (b : List ℕ) → Stage k w limit (old ∷ fs) None from now b → Stage k w' limit (new ∷ fs) None from (now + length y) (b ++ y)
 
 -- the bytes y were taken for it from the place `now` on: after those of the whole so far, no item
 -- ends before their end
@@ -196,7 +196,7 @@ FillEnds old new now w w' y = (k : Bool) (limit from : ℕ) (fs : List Frame) (b
 -- the title after them has the header h and begins at the place `at`
 abbrev pub FillGives : Frame → Frame → Header → ℕ → ℕ → Bool → Bool → List ℕ → Type 0
 FillGives old new h at now w w' y = (k : Bool) (limit from : ℕ) (fs : List Frame) (b : List ℕ) → Stage k w limit (old ∷ fs) None from now b
-    → Rooted (new ∷ fs) × InHand k w' limit (opened (new ∷ fs)) h at from (now + length y) (b ++ y)
+    → EndsInWhole (new ∷ fs) × InHand k w' limit (opened (new ∷ fs)) h at from (now + length y) (b ++ y)
 
 -- a frame of an item with the header h that was opened, and y after its title, which ended at the
 -- place `now`
@@ -245,12 +245,12 @@ Holds room (opens.Level (code.Tag n at h inner)) = inner ≡ room
 Holds room (opens.Leaf n place h) = Unit {0}
 
 -- the item of a title is begun
-abbrev pub Begins : List Frame → List Frame → ℕ → Header → ℕ → ℕ → Option Value → Bool → Bool → List ℕ → Type 0
-Begins old new limit h at now read w w' y = (k : Bool) (from : ℕ) (b : List ℕ) → Rooted old → InHand k w limit (opened old) h at from now b
+abbrev pub BeginsItem : List Frame → List Frame → ℕ → Header → ℕ → ℕ → Option Value → Bool → Bool → List ℕ → Type 0
+BeginsItem old new limit h at now read w w' y = (k : Bool) (from : ℕ) (b : List ℕ) → EndsInWhole old → InHand k w limit (opened old) h at from now b
     → Stage k w' limit new read from (now + length y) (b ++ y)
 
 abbrev pub BeginFails : {E : Type 0} → (E → Bool) → ℕ → List Frame → Header → ℕ → Seen → Seen → Error E → Type 0
-BeginFails ends limit fs h at old new e = (from : ℕ) (b : List ℕ) → from + length b ≡ old.offset → Rooted fs → Titled limit (opened fs) h at from old.offset b
+BeginFails ends limit fs h at old new e = (from : ℕ) (b : List ℕ) → from + length b ≡ old.offset → EndsInWhole fs → Titled limit (opened fs) h at from old.offset b
     → Faults ends limit from b old.left new.offset e
 
 -- the item after a title of h is read, and the flag tells whether its bytes are its canonical

@@ -1,12 +1,12 @@
 -- What the contracts of the reader cite.
-use Rattle.std.specs.Prelude.{◌≡◌, ◌≢◌, ℕ, ◌+◌, ◌-◌, ◌^◌, ◌<◌, ◌≤◌, ◌⊎◌, nat_eq, List, [], ◌∷◌, ◌++◌, length, Option, Some, None, Bool, true, false, Result, Ok, Err, IsTrue, if◌then◌else◌}
+use Rattle.std.specs.Prelude.{◌≡◌, ◌≢◌, ℕ, ◌+◌, ◌-◌, ◌^◌, ◌<◌, ◌≤◌, ◌⊎◌, nat_eq, List, [], ◌∷◌, ◌++◌, length, Option, Some, None, Bool, true, false, Result, Ok, Err, IfErr, IsTrue, if◌then◌else◌}
 use Rattle.std.specs.Str.{IsUtf8}
 use Rattle.ciborium_ll.specs.declared.hdr.Header.{Header}
 use Rattle.ciborium_ll.specs.declared.hdr.Header.TheVariants.{Positive, Negative, Float, Simple, Tag, Break, Bytes, Text, Array, Map}
 use Rattle.ciborium_ll.specs.declared.hdr.Error.{Error as HeadError}
 use Rattle.ciborium_ll.specs.declared.hdr.Error.TheVariants as below
 use Rattle.ciborium_ll.specs.Reading.{Moves, Stops}
-use Rattle.ciborium_ll.specs.Seen.{Seen}
+use Rattle.ciborium_ll.specs.Seen.{Seen, Takes}
 use Rattle.ciborium_ll.specs.Title.{Title}
 use Rattle.ciborium_value.specs.declared.kind.Kind.TheVariants as kind
 use Rattle.ciborium.specs.declared.de.Error.{Error}
@@ -16,7 +16,7 @@ use Rattle.ciborium.specs.declared.strings.Part.TheVariants as part
 use Rattle.ciborium_value.specs.Tree.{Tree, Trees}
 use Rattle.ciborium_value.specs.Folding.{IsTooNegative}
 use Rattle.ciborium_ll.specs.Framing.{Frame, joined}
-use Rattle.ciborium.specs.Damage.{Fault, end, deep, syntax, semantic, Damage, IsFree, IsLevel}
+use Rattle.ciborium.specs.Damage.{Fault, end, deep, syntax, semantic, Damage, IsLevel}
 use Rattle.ciborium_ll.specs.Framing.{Opened}
 use Rattle.ciborium.specs.Front.{Reads, ReadsAll, HoldsOne}
 
@@ -110,6 +110,13 @@ IfMemory P code.RecursionLimitExceeded = Unit {0}
 IfMemory P code.Memory = P
 IfMemory P code.TooLong = Unit {0}
 
+-- what a call that reads an item, or a part of one, leaves: some bytes were taken if there is a
+-- fault, and of `Memory` those have P; the reader stays the same
+pub record Leaves {T E : Type 0} (ends : E → Bool) (P : List ℕ → Type 0) (answer : Result T (Error E)) (old new : Seen) : Type 0 where
+  pub stops : IfErr answer (TakesSome old new)
+  pub one : IfErr answer (IfMemory (Takes old new P))
+  pub steady : Steady ends answer old new
+
 -- at an end the place is the one at the call exactly when no byte was left
 abbrev pub EndPlace : List ℕ → ℕ → ℕ → Type 0
 EndPlace [] at at' = at' ≡ at
@@ -142,20 +149,17 @@ IsBody false b = Unit {0}
 IsBody true b = IsUtf8 b
 
 -- fewer than n bytes are left
-abbrev pub ShortBy : ℕ → ℕ → List ℕ → Fault → Type 0
-ShortBy n stop b end = length b < n
-ShortBy n stop b deep = ⊥
-ShortBy n stop b (syntax p) = ⊥
-ShortBy n stop b (semantic k) = ⊥
+abbrev pub ShortBy : ℕ → List ℕ → Fault → Type 0
+ShortBy n b f = (f ≡ end) × (length b < n)
 
 -- the bytes after the head of a string
-pub record StringBehind (text : Bool) (o : Option ℕ) (items inner : List ℕ) : Type 0 where
+pub record StringAfterHead (text : Bool) (o : Option ℕ) (items inner : List ℕ) : Type 0 where
   pub bodies : List (List ℕ)
   pub frame : (title : List ℕ) → Title title (string_head text o) → Frame (string_head text) (IsBody text) (title ++ inner) bodies
   pub is : items ≡ joined bodies
 
 -- the bytes after the head of an open string, in which n opens are due a break
-pub record OpenBehind (text : Bool) (n : ℕ) (items inner : List ℕ) : Type 0 where
+pub record OpenAfterHead (text : Bool) (n : ℕ) (items inner : List ℕ) : Type 0 where
   pub bodies : List (List ℕ)
   pub begun : (title : List ℕ) → Title title (string_head text None) → Opened (string_head text) (IsBody text) n (title ++ inner) bodies
   pub is : items ≡ joined bodies
@@ -166,18 +170,18 @@ pub record ChunkBody (text : Bool) (n : ℕ) (old new body : List ℕ) : Type 0 
   pub is : new ≡ old ++ body
 
 -- the faults after a title of h that begins at the place `at`
-abbrev pub FailsBehind : {E : Type 0} → (E → Bool) → Header → ℕ → ℕ → Option (List ℕ) → ℕ → (ℕ → List ℕ → Fault → Type 0) → Error E → Type 0
-FailsBehind ends h at place left place' D e =
+abbrev pub FailsAfterTitle : {E : Type 0} → (E → Bool) → Header → ℕ → ℕ → Option (List ℕ) → ℕ → (ℕ → List ℕ → Fault → Type 0) → Error E → Type 0
+FailsAfterTitle ends h at place left place' D e =
     (title : List ℕ) → Title title h → at + length title ≡ place → IfKnown left (λ rest. FailsAt ends (title ++ rest) at place' D e)
 
 -- an error names the fault of an item whose title, one of h, begins at the place `at`
-abbrev pub NamesFaultBehind : {E : Type 0} → (E → Bool) → Header → ℕ → (ℕ → List ℕ → Fault → Type 0) → Seen → Seen → Error E → Type 0
-NamesFaultBehind ends h at D old new e = FailsBehind ends h at old.offset old.left new.offset D e
+abbrev pub NamesFaultAfterTitle : {E : Type 0} → (E → Bool) → Header → ℕ → (ℕ → List ℕ → Fault → Type 0) → Seen → Seen → Error E → Type 0
+NamesFaultAfterTitle ends h at D old new e = FailsAfterTitle ends h at old.offset old.left new.offset D e
 
 -- an error if n bytes are due
 abbrev pub NamesShort : {E : Type 0} → (E → Bool) → ℕ → Seen → Seen → Error E → Type 0
 NamesShort ends n old new e =
-    IfKnown old.left (λ b. Fails ends (old.offset ≤ new.offset) (ShortBy n (old.offset + length b) b) (IsLong old.offset b) e)
+    IfKnown old.left (λ b. Fails ends (old.offset ≤ new.offset) (ShortBy n b) (IsLong old.offset b) e)
 
 -- a header that no items follow
 abbrev pub IsLeaf : Header → Type 0
@@ -200,17 +204,17 @@ IsPart text h (part.Chunk n) = h ≡ string_head text (Some n)
 IsPart text h part.Other = (h ≢ Break) × ((o : Option ℕ) → h ≢ string_head text o)
 
 -- the bytes after a title of h
-abbrev pub ReadsBehind : Header → ℕ → Tree → List ℕ → Type 0
-ReadsBehind h limit v inner = (title : List ℕ) → Title title h → Reads (title ++ inner) limit v
+abbrev pub ReadsAfterTitle : Header → ℕ → Tree → List ℕ → Type 0
+ReadsAfterTitle h limit v inner = (title : List ℕ) → Title title h → Reads (title ++ inner) limit v
 
 -- with a title of h before them, no item ends before the end of these bytes
-abbrev pub OneBehind : Header → List ℕ → Type 0
-OneBehind h b = (title : List ℕ) → Title title h → HoldsOne (title ++ b)
+abbrev pub OneAfterTitle : Header → List ℕ → Type 0
+OneAfterTitle h b = (title : List ℕ) → Title title h → HoldsOne (title ++ b)
 
 -- the children of an array or a map whose head has the length o, and their break
-abbrev pub ChildrenBehind : Option ℕ → ℕ → ℕ → Trees → List ℕ → Type 0
-ChildrenBehind (Some n) count limit vs inner = (n ≡ count) × ReadsAll inner limit vs
-ChildrenBehind None count limit vs inner = (body : List ℕ) × ReadsAll body limit vs × (inner ≡ body ++ 255 ∷ [])
+abbrev pub ChildrenAfterHead : Option ℕ → ℕ → ℕ → Trees → List ℕ → Type 0
+ChildrenAfterHead (Some n) count limit vs inner = (n ≡ count) × ReadsAll inner limit vs
+ChildrenAfterHead None count limit vs inner = (body : List ℕ) × ReadsAll body limit vs × (inner ≡ body ++ 255 ∷ [])
 
 -- as many children were read as a length says
 abbrev pub is_full : Option ℕ → ℕ → Bool
@@ -242,6 +246,6 @@ IsFoldFault n t code.TooLong = ⊥
 
 abbrev pub TagDamage : ℕ → ℕ → ℕ → List ℕ → Fault → Type 0
 TagDamage n limit stop b f =
-    (IsFree n b × Damage stop b limit f)
+    ((IsLevel n b → ⊥) × Damage stop b limit f)
     ⊎ ((IsLevel n b × (limit ≡ 0) × (f ≡ deep))
     ⊎ (IsLevel n b × (0 < limit) × Damage stop b (limit - 1) f))

@@ -1,6 +1,6 @@
 -- What the contracts of the writer cite: the bytes of each event that a sink is given of an item
 -- (RFC 8949, section 4.1).
-use Rattle.std.specs.Prelude.{◌≡◌, ℕ, ◌+◌, List, ◌++◌, length, Option, Some}
+use Rattle.std.specs.Prelude.{◌≡◌, ℕ, ◌+◌, List, [], ◌∷◌, ◌++◌, length, Option, Some}
 use Rattle.std.specs.Io.KnownBytes.{Appends}
 use Rattle.ciborium_ll.specs.Device.{AppendsFront}
 use Rattle.ciborium_ll.specs.Title.{title_of}
@@ -28,11 +28,18 @@ event_text (tag n) = title_of (Tag n)
 event_text (array n) = title_of (Array (Some n))
 event_text (map n) = title_of (Map (Some n))
 
--- a writer took the whole encoding of an event; it was lent and comes back as itself, and it did
--- not fail
-abbrev pub IsWritten : {W : Type 0} → (W → Option (List ℕ)) → (W → List ℕ) → (W → ℕ) → W → Event → W → Type 0
-IsWritten written handle failed w e w2 = Appends (written w) (written w2) (event_text e) × (handle w2 ≡ handle w) × (failed w2 ≡ failed w)
+-- a writer took a whole text; it was lent and comes back as itself, and it did not fail
+abbrev pub IsWritten : {W : Type 0} → (W → Option (List ℕ)) → (W → List ℕ) → (W → ℕ) → W → List ℕ → W → Type 0
+IsWritten written handle failed w whole w2 = Appends (written w) (written w2) whole × (handle w2 ≡ handle w) × (failed w2 ≡ failed w)
 
--- a writer failed and took a beginning of the encoding of an event
-abbrev pub IsTorn : {W : Type 0} → (W → Option (List ℕ)) → (W → List ℕ) → (W → ℕ) → W → Event → W → Type 0
-IsTorn written handle failed w e w2 = AppendsFront (written w) (written w2) (event_text e) × (handle w2 ≡ handle w) × (failed w2 ≡ failed w + 1)
+-- a writer failed and took a beginning of a text
+abbrev pub IsTorn : {W : Type 0} → (W → Option (List ℕ)) → (W → List ℕ) → (W → ℕ) → W → List ℕ → W → Type 0
+IsTorn written handle failed w whole w2 = AppendsFront (written w) (written w2) whole × (handle w2 ≡ handle w) × (failed w2 ≡ failed w + 1)
+
+-- once these events are written, one after another, the text is written since the start; if the
+-- writer fails at one of them, it has a beginning of the text
+abbrev pub IsDue : {W : Type 0} → (W → Option (List ℕ)) → (W → List ℕ) → (W → ℕ) → W → List ℕ → List Event → W → Type 0
+IsDue written handle failed start whole [] w = IsWritten written handle failed start whole w
+IsDue {W} written handle failed start whole (e ∷ es) w =
+    ((w2 : W) → IsWritten written handle failed w (event_text e) w2 → IsDue written handle failed start whole es w2)
+    × ((w2 : W) → IsTorn written handle failed w (event_text e) w2 → IsTorn written handle failed start whole w2)

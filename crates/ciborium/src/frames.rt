@@ -9,16 +9,16 @@ ghost use Rattle.ciborium_ll.specs.Views.{offset_of, waiting_of, seen, shortest_
 ghost use Rattle.ciborium_value.specs.View.{view};
 ghost use Rattle.ciborium.specs.declared.de.Error.TheVariants.{Memory};
 ghost use Rattle.ciborium.specs.Damage.{Damage, TitleDamage};
-ghost use Rattle.ciborium.specs.Reading.{Steady, TakesSome, NamesFault, NamesFaultBehind, Closes};
+ghost use Rattle.ciborium.specs.Reading.{Steady, TakesSome, NamesFault, NamesFaultAfterTitle, Closes};
 ghost use Rattle.ciborium_value.specs.Folding.{tagged};
 ghost use Rattle.ciborium.specs.Reading.{IsNext, is_full, fault_failures, IsFoldFault, IsLeaf};
-ghost use Rattle.ciborium.specs.Reading.{IsNotLong, ReadsBehind};
-ghost use Rattle.ciborium.specs.Reading.{IsNoMemory, IfMemory, OneBehind};
+ghost use Rattle.ciborium.specs.Reading.{IsNotLong, ReadsAfterTitle};
+ghost use Rattle.ciborium.specs.Reading.{IsNoMemory, Leaves, OneAfterTitle};
 ghost use Rattle.ciborium.specs.Frames.{snoc, halves_of, HasHalf, IsStaged, IsClosed};
-ghost use Rattle.ciborium.specs.Frames.{Hands};
+ghost use Rattle.ciborium.specs.Frames.{IsHandedOver};
 ghost use Rattle.ciborium.specs.Exact.{encoded};
 ghost use Rattle.ciborium.specs.Frames.{IsKept, CloseGives, ReadExact, HandFails, AskEnds};
-ghost use Rattle.ciborium.specs.Frames.{AskGives, AskFails, Opening, Begins, BeginFails};
+ghost use Rattle.ciborium.specs.Frames.{AskGives, AskFails, Opening, BeginsItem, BeginFails};
 ghost use Rattle.ciborium.specs.Frames.{Holds, in_hand, rank, room_of, Falls, listed, HalfIn};
 ghost use Rattle.ciborium.specs.Frames.{LeafPut, FillEnds, FillGives, FillHolds};
 
@@ -112,7 +112,7 @@ fn hand<E>(
     exact: &mut Exactness,
 ) -> Result<Handed, Error<E>>
     requires staged { IsStaged (top.old ∷ reverse below.old.items) read.old }
-    ensures ok { IfOk result (Hands (top.old ∷ reverse below.old.items)
+    ensures ok { IfOk result (IsHandedOver (top.old ∷ reverse below.old.items)
         (top.new ∷ reverse below.new.items) read.old read.new
         exact.old.holds exact.new.holds) }
     ensures falls { IfOk result (Falls (rank below.old.items top.old read.old)
@@ -297,16 +297,14 @@ fn push_leaf<R: Read>(
     requires leaf { IsLeaf header }
     ensures ok { OnOk result ((v : Value)
         × Takes (seen R.Read decoder.old) (seen R.Read decoder.new)
-        (λ b. (limit : ℕ) → ReadsBehind header limit (view v) b)
+        (λ b. (limit : ℕ) → ReadsAfterTitle header limit (view v) b)
         × (list.new.items.items ≡ list.old.items.items ++ v ∷ [])) }
     ensures count { list.new.count ≡ list.old.count }
     ensures err { IfErr result (λ e. (limit : ℕ)
-        → NamesFaultBehind R.ends header at (λ stop b f. Damage stop b limit f)
+        → NamesFaultAfterTitle R.ends header at (λ stop b f. Damage stop b limit f)
         (seen R.Read decoder.old) (seen R.Read decoder.new) e) }
-    ensures stops { IfErr result (TakesSome (seen R.Read decoder.old) (seen R.Read decoder.new)) }
-    ensures one { IfErr result (IfMemory (Takes (seen R.Read decoder.old)
-        (seen R.Read decoder.new) (OneBehind header))) }
-    ensures steady { Steady R.ends result (seen R.Read decoder.old) (seen R.Read decoder.new) }
+    ensures leaves { Leaves R.ends (OneAfterTitle header) result
+        (seen R.Read decoder.old) (seen R.Read decoder.new) }
 {
     match header {
         Header::Positive(n) => {
@@ -364,17 +362,15 @@ fn put_half_leaf<R: Read>(
     requires half { HasHalf list.old }
     ensures ok { OnOk result ((v : Value)
         × Takes (seen R.Read decoder.old) (seen R.Read decoder.new)
-        (λ b. (limit : ℕ) → ReadsBehind header limit (view v) b)
+        (λ b. (limit : ℕ) → ReadsAfterTitle header limit (view v) b)
         × (halves_of list.new ≡ snoc (halves_of list.old) (view v))) }
     ensures count { list.new.count ≡ list.old.count }
     ensures half { OnOk result (HasHalf list.new) }
     ensures err { IfErr result (λ e. (limit : ℕ)
-        → NamesFaultBehind R.ends header at (λ stop b f. Damage stop b limit f)
+        → NamesFaultAfterTitle R.ends header at (λ stop b f. Damage stop b limit f)
         (seen R.Read decoder.old) (seen R.Read decoder.new) e) }
-    ensures stops { IfErr result (TakesSome (seen R.Read decoder.old) (seen R.Read decoder.new)) }
-    ensures one { IfErr result (IfMemory (Takes (seen R.Read decoder.old)
-        (seen R.Read decoder.new) (OneBehind header))) }
-    ensures steady { Steady R.ends result (seen R.Read decoder.old) (seen R.Read decoder.new) }
+    ensures leaves { Leaves R.ends (OneAfterTitle header) result
+        (seen R.Read decoder.old) (seen R.Read decoder.new) }
 {
     match header {
         Header::Positive(n) => {
@@ -430,12 +426,10 @@ fn put_leaf<R: Read>(
     ensures half { OnOk result (HalfIn top.new) }
     ensures same { OnOk result (in_hand None top.new ≡ in_hand None top.old) }
     ensures err { IfErr result (λ e. (limit : ℕ)
-        → NamesFaultBehind R.ends header at (λ stop b f. Damage stop b limit f)
+        → NamesFaultAfterTitle R.ends header at (λ stop b f. Damage stop b limit f)
         (seen R.Read decoder.old) (seen R.Read decoder.new) e) }
-    ensures stops { IfErr result (TakesSome (seen R.Read decoder.old) (seen R.Read decoder.new)) }
-    ensures one { IfErr result (IfMemory (Takes (seen R.Read decoder.old)
-        (seen R.Read decoder.new) (OneBehind header))) }
-    ensures steady { Steady R.ends result (seen R.Read decoder.old) (seen R.Read decoder.new) }
+    ensures leaves { Leaves R.ends (OneAfterTitle header) result
+        (seen R.Read decoder.old) (seen R.Read decoder.new) }
 {
     match top {
         Frame::Items(list) => {
@@ -473,10 +467,8 @@ fn fill<R: Read>(
         offset_of decoder.old + 1 ≤ offset_of decoder.new + in_hand None top.old)) }
     ensures err { IfErr result (AskFails R.ends top.old
         (seen R.Read decoder.old) (seen R.Read decoder.new)) }
-    ensures stops { IfErr result (TakesSome (seen R.Read decoder.old) (seen R.Read decoder.new)) }
-    ensures one { IfErr result (IfMemory (Takes (seen R.Read decoder.old)
-        (seen R.Read decoder.new) (FillHolds top.old (offset_of decoder.old)))) }
-    ensures steady { Steady R.ends result (seen R.Read decoder.old) (seen R.Read decoder.new) }
+    ensures leaves { Leaves R.ends (FillHolds top.old (offset_of decoder.old)) result
+        (seen R.Read decoder.old) (seen R.Read decoder.new) }
 {
     'parts: loop {
         let part = ask(decoder, top, exact)?;
@@ -541,12 +533,10 @@ fn opening<R: Read>(
     ensures ok { IfOk result (λ o. Takes (seen R.Read decoder.old) (seen R.Read decoder.new)
         (Opening header at (offset_of decoder.old) left exact.old.holds exact.new.holds o)) }
     ensures room { IfOk result (Holds (room_of top.now)) }
-    ensures err { IfErr result (NamesFaultBehind R.ends header at (λ stop b f. Damage stop b left f)
+    ensures err { IfErr result (NamesFaultAfterTitle R.ends header at (λ stop b f. Damage stop b left f)
         (seen R.Read decoder.old) (seen R.Read decoder.new)) }
-    ensures stops { IfErr result (TakesSome (seen R.Read decoder.old) (seen R.Read decoder.new)) }
-    ensures one { IfErr result (IfMemory (Takes (seen R.Read decoder.old)
-        (seen R.Read decoder.new) (OneBehind header))) }
-    ensures steady { Steady R.ends result (seen R.Read decoder.old) (seen R.Read decoder.new) }
+    ensures leaves { Leaves R.ends (OneAfterTitle header) result
+        (seen R.Read decoder.old) (seen R.Read decoder.new) }
 {
     match header {
         Header::Array(count) => {
@@ -604,16 +594,14 @@ fn begin<R: Read>(
     requires fresh { waiting_of decoder.old ≡ None }
     requires empty { read.old ≡ None }
     ensures ok { OnOk result (Takes (seen R.Read decoder.old) (seen R.Read decoder.new)
-        (Begins (top.old ∷ reverse below.old.items) (top.new ∷ reverse below.new.items) limit
+        (BeginsItem (top.old ∷ reverse below.old.items) (top.new ∷ reverse below.new.items) limit
         title.1 title.0 (offset_of decoder.old) read.new exact.old.holds exact.new.holds)) }
     ensures rises { OnOk result (rank below.new.items top.new read.new + 4 * offset_of decoder.old
         ≤ 2 * length below.old.items + 2 + 4 * offset_of decoder.new) }
     ensures err { IfErr result (BeginFails R.ends limit (top.old ∷ reverse below.old.items)
         title.1 title.0 (seen R.Read decoder.old) (seen R.Read decoder.new)) }
-    ensures stops { IfErr result (TakesSome (seen R.Read decoder.old) (seen R.Read decoder.new)) }
-    ensures one { IfErr result (IfMemory (Takes (seen R.Read decoder.old)
-        (seen R.Read decoder.new) (OneBehind title.1))) }
-    ensures steady { Steady R.ends result (seen R.Read decoder.old) (seen R.Read decoder.new) }
+    ensures leaves { Leaves R.ends (OneAfterTitle title.1) result
+        (seen R.Read decoder.old) (seen R.Read decoder.new) }
 {
     let left = limit.saturating_sub(below.len());
     match opening(alloc, decoder, top, title.0, title.1, left, exact)? {
@@ -654,12 +642,10 @@ pub fn read_item<R: Read>(
     requires titled { (title : List ℕ) × Title title header }
     ensures ok { IfOk result (λ v. Takes (seen R.Read decoder.old) (seen R.Read decoder.new)
         (ReadExact header limit (view v) exact.old.holds exact.new.holds)) }
-    ensures err { IfErr result (NamesFaultBehind R.ends header at
+    ensures err { IfErr result (NamesFaultAfterTitle R.ends header at
         (λ stop b f. Damage stop b limit f) (seen R.Read decoder.old) (seen R.Read decoder.new)) }
-    ensures stops { IfErr result (TakesSome (seen R.Read decoder.old) (seen R.Read decoder.new)) }
-    ensures one { IfErr result (IfMemory (Takes (seen R.Read decoder.old)
-        (seen R.Read decoder.new) (OneBehind header))) }
-    ensures steady { Steady R.ends result (seen R.Read decoder.old) (seen R.Read decoder.new) }
+    ensures leaves { Leaves R.ends (OneAfterTitle header) result
+        (seen R.Read decoder.old) (seen R.Read decoder.new) }
 {
     let mut below: Vec<Frame> = Vec::new(alloc);
     let mut top = Frame::Whole(at, header);

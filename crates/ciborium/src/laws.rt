@@ -1,8 +1,9 @@
 //! Laws of the definitions.
 ghost use Rattle.std.specs.Prelude.{◌≡◌, ◌≢◌, ◌⊎◌, ℕ, ◌+◌, ◌<◌, ◌≤◌, List, []};
-ghost use Rattle.std.specs.Prelude.{◌∷◌, ◌++◌, length, Some, None, All};
+ghost use Rattle.std.specs.Prelude.{◌∷◌, ◌++◌, length, Option, Some, None, All};
 ghost use Rattle.ciborium_ll.specs.declared.hdr.Header.{Header};
-ghost use Rattle.ciborium_ll.specs.Title.{Title};
+ghost use Rattle.ciborium_ll.specs.declared.hdr.Header.TheVariants.{Bytes};
+ghost use Rattle.ciborium_ll.specs.Title.{Title, Begins, IsCut, StartsBad};
 ghost use Rattle.ciborium_value.specs.declared.kind.Kind.TheVariants.{BigNegative};
 ghost use Rattle.ciborium_value.specs.Encoding.{enc, Fits};
 ghost use Rattle.ciborium_value.specs.Folding.{fold};
@@ -10,11 +11,12 @@ ghost use Rattle.ciborium_value.specs.Tree.{Tree, depth};
 ghost use Rattle.ciborium_value.specs.View.{view};
 ghost use Rattle.ciborium.specs.Spelling.{Spells};
 ghost use Rattle.ciborium.specs.Meaning.{meaning, Assigned};
-ghost use Rattle.ciborium.specs.Damage.{Fault, semantic, Damage};
+ghost use Rattle.ciborium.specs.Damage.{Fault, semantic, Damage, IsLevel};
 ghost use Rattle.ciborium.specs.Damaged.{Damaged};
 ghost use Rattle.ciborium.specs.Front.{Front, Reads};
 ghost use Rattle.ciborium.specs.Items.{Item, ItemsWithin, item_at};
-ghost use Rattle.ciborium.specs.Fitting.{FitsEvent};
+ghost use Rattle.ciborium.specs.Fitting.{EachFits};
+ghost use Rattle.ciborium_traits.specs.Events.{Event};
 ghost use Rattle.ciborium.specs.Typed.{ReadsAs};
 
 use crate::value::{Integer, Value};
@@ -56,6 +58,14 @@ pub fn meanings_are_folded()
 pub fn damage_is_no_front()
     ensures { (stop limit : ℕ) (b rest : List ℕ) (e : Fault) (v : Tree) → Damage stop b limit e
         → Front b limit v rest → ⊥ }
+{}
+
+/// A tag that opens no level over damaged bytes is a bignum's, and these begin with the head of a
+/// byte string, with a cut one or with none.
+pub fn free_tags()
+    ensures { (stop limit n : ℕ) (b : List ℕ) (f : Fault) → Damage stop b limit f
+        → (IsLevel n b → ⊥) → ((n ≡ 2) ⊎ (n ≡ 3))
+        × (((o : Option ℕ) × (rest : List ℕ) × Begins b (Bytes o) rest) ⊎ (IsCut b ⊎ StartsBad b)) }
 {}
 
 /// The encoding of a tree whose parts fit spells that tree, and trees with one encoding are one. No
@@ -153,9 +163,11 @@ struct Watcher;
 impl Sink for Watcher {
     type Error = Infallible;
 
-    ghost adds = { λ s event t. FitsEvent event };
+    ghost Plan = { List Event };
 
-    ghost refuses = { λ s event t. ⊥ };
+    ghost due = { λ p es s. EachFits es → EachFits p };
+
+    ghost torn = { λ p s. ⊥ };
 
     fn integer(&mut self, _number: Integer) -> Result<(), Infallible> {
         Ok(())

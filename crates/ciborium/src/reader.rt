@@ -13,10 +13,10 @@ ghost use Rattle.ciborium.specs.Frames.{IsLengthOf, IsLow};
 ghost use Rattle.ciborium_value.specs.View.{view};
 ghost use Rattle.ciborium.specs.Meaning.{simple_meaning};
 ghost use Rattle.ciborium.specs.Damage.{Damage, TitleDamage};
-ghost use Rattle.ciborium.specs.Reading.{NamesFault, NamesFaultBehind, Steady, TakesSome};
-ghost use Rattle.ciborium.specs.Reading.{ReadsBehind, TagDamage, is_full, IsLeaf, Closes};
+ghost use Rattle.ciborium.specs.Reading.{NamesFault, NamesFaultAfterTitle, Steady, TakesSome};
+ghost use Rattle.ciborium.specs.Reading.{ReadsAfterTitle, TagDamage, is_full, IsLeaf, Closes};
 ghost use Rattle.ciborium.specs.Reading.{IsNext, OpensOver, IsFoldFault};
-ghost use Rattle.ciborium.specs.Reading.{IsNoMemory, IfMemory, OneBehind};
+ghost use Rattle.ciborium.specs.Reading.{IsNoMemory, Leaves, OneAfterTitle};
 
 use crate::de::Error;
 use crate::strings::{next_title, read_string, read_text};
@@ -52,16 +52,14 @@ pub fn read_leaf<R: Read>(
     requires fresh { waiting_of decoder.old ≡ None }
     requires leaf { IsLeaf header }
     ensures ok { IfOk result (λ v. Takes (seen R.Read decoder.old) (seen R.Read decoder.new)
-        (λ b. (limit : ℕ) → ReadsBehind header limit (view v) b)) }
+        (λ b. (limit : ℕ) → ReadsAfterTitle header limit (view v) b)) }
     ensures err { IfErr result (λ e. (limit : ℕ)
-        → NamesFaultBehind R.ends header at (λ stop b f. Damage stop b limit f)
+        → NamesFaultAfterTitle R.ends header at (λ stop b f. Damage stop b limit f)
         (seen R.Read decoder.old) (seen R.Read decoder.new) e) }
     ensures bytes { IfOk result (λ v. (o : Option ℕ) → header ≡ Bytes o
         → (x : List ℕ) × (view v ≡ bytes x)) }
-    ensures stops { IfErr result (TakesSome (seen R.Read decoder.old) (seen R.Read decoder.new)) }
-    ensures one { IfErr result (IfMemory (Takes (seen R.Read decoder.old)
-        (seen R.Read decoder.new) (OneBehind header))) }
-    ensures steady { Steady R.ends result (seen R.Read decoder.old) (seen R.Read decoder.new) }
+    ensures leaves { Leaves R.ends (OneAfterTitle header) result
+        (seen R.Read decoder.old) (seen R.Read decoder.new) }
 {
     match header {
         Header::Positive(n) => Ok(Value::Integer(Integer::from(n))),

@@ -1,5 +1,5 @@
 //! Writes items.
-ghost use Rattle.std.specs.Prelude.{◌≡◌, ◌++◌, OnOk, OnErr, IfErr};
+ghost use Rattle.std.specs.Prelude.{◌≡◌, ℕ, List, ◌++◌, OnOk, OnErr, IfErr};
 ghost use Rattle.std.specs.Io.KnownBytes.{Appends};
 ghost use Rattle.ciborium_ll.specs.Device.{AppendsFront, write_failures};
 ghost use Rattle.ciborium_ll.specs.Title.{title_of};
@@ -8,7 +8,7 @@ ghost use Rattle.ciborium_value.specs.Encoding.{enc};
 ghost use Rattle.ciborium_value.specs.View.{number_of};
 ghost use Rattle.ciborium_value.specs.Tree.{integer};
 ghost use Rattle.ciborium.specs.Streams.{encoder_of};
-ghost use Rattle.ciborium.specs.Writing.{IsIo, IsWritten, IsTorn};
+ghost use Rattle.ciborium.specs.Writing.{IsIo, IsDue, IsTorn};
 
 use crate::value::{Integer, Kind};
 use ciborium_ll::{Encoder, Float, Header, Write, simple};
@@ -61,11 +61,12 @@ impl<W> From<Encoder<W>> for Serializer<W> {
 impl<W: Write> Sink for Serializer<W> {
     type Error = W::Error;
 
-    ghost adds = { λ s event t. IsWritten W.written W.handle W.failed (writer_of (encoder_of s))
-        event (writer_of (encoder_of t)) };
+    ghost Plan = { W × List ℕ };
 
-    ghost refuses = { λ s event t. IsTorn W.written W.handle W.failed (writer_of (encoder_of s))
-        event (writer_of (encoder_of t)) };
+    ghost due = { λ p es s. IsDue W.written W.handle W.failed p.0 p.1 es
+        (writer_of (encoder_of s)) };
+
+    ghost torn = { λ p s. IsTorn W.written W.handle W.failed p.0 p.1 (writer_of (encoder_of s)) };
 
     fn integer(&mut self, number: Integer) -> Result<(), W::Error> {
         let n = i128::from(number);

@@ -1,5 +1,6 @@
 //! Reads titles and strings.
-ghost use Rattle.std.specs.Prelude.{◌≡◌, ◌≤◌, ◌<◌, ◌+◌, ◌++◌, ◌^◌, ℕ, None, Some, OnOk};
+ghost use Rattle.std.specs.Prelude.{◌≡◌, ◌≤◌, ◌<◌, ◌+◌, ◌++◌, ◌^◌, ℕ, None, Some, OnOk, OnErr};
+ghost use Rattle.std.specs.Prelude.{IsTrue, IsFalse};
 ghost use Rattle.std.specs.Prelude.{IfOk, IfErr, IfSome, IfNone, length, min, max, Bool, true, []};
 ghost use Rattle.std.specs.Prelude.{string_bytes};
 ghost use Rattle.std.specs.Str.{IsUtf8};
@@ -13,10 +14,10 @@ ghost use Rattle.ciborium_ll.specs.Views.{left_of, offset_of, waiting_of};
 ghost use Rattle.ciborium_ll.specs.Views.{reader_of, seen, shortest_of};
 ghost use Rattle.ciborium.specs.Damage.{TitleDamage, ChunkDamage, StringDamage};
 ghost use Rattle.ciborium.specs.Held.{IsEarned, IsEarnedSince, IsFitting, UnlessMemory};
-ghost use Rattle.ciborium.specs.Reading.{NamesFault, NamesFaultBehind, NamesShort};
+ghost use Rattle.ciborium.specs.Reading.{NamesFault, NamesFaultAfterTitle, NamesShort};
 ghost use Rattle.ciborium.specs.Reading.{Steady, TakesSome, IsNoMemory, IfEnd};
-ghost use Rattle.ciborium.specs.Reading.{IfMemory, OneBehind};
-ghost use Rattle.ciborium.specs.Reading.{string_head, IsBody, StringBehind, ChunkBody, IsPart};
+ghost use Rattle.ciborium.specs.Reading.{Leaves, OneAfterTitle};
+ghost use Rattle.ciborium.specs.Reading.{string_head, IsBody, StringAfterHead, ChunkBody, IsPart};
 
 use crate::de::Error;
 use ciborium_ll::{Decoder, Header, Read};
@@ -52,6 +53,9 @@ pub fn next_title<R: Read>(decoder: &mut Decoder<R>) -> Result<(usize, Header), 
 /// So many bytes are asked for at a time.
 const PIECE: usize = 4096;
 
+/// An open string takes room for so many bytes at least when its second body comes.
+const FEW: usize = 64;
+
 /// Makes space for the next piece of a string of which so many bytes have come and so many are to
 /// come. No length is believed: at most as much is reserved as is held, or one piece. A string that
 /// is alone in the buffer gets no more than its own size.
@@ -71,7 +75,7 @@ fn make_room(into: &mut Vec<u8>, got: usize, rest: usize) -> Result<(), AllocErr
     let more = if held == got {
         rest.min(held.max(PIECE))
     } else {
-        piece.max(held)
+        piece.max(held).max(FEW)
     };
     into.reserve_exact(more)
 }
@@ -91,10 +95,8 @@ fn fill_piece<R: Read>(
     ensures grows { offset_of decoder.old ≤ offset_of decoder.new }
     ensures err { IfErr result (NamesShort R.ends size
         (seen R.Read decoder.old) (seen R.Read decoder.new)) }
-    ensures stops { IfErr result (TakesSome (seen R.Read decoder.old) (seen R.Read decoder.new)) }
-    ensures one { IfErr result (IfMemory (Takes (seen R.Read decoder.old)
-        (seen R.Read decoder.new) (λ b. length b ≤ size))) }
-    ensures steady { Steady R.ends result (seen R.Read decoder.old) (seen R.Read decoder.new) }
+    ensures leaves { Leaves R.ends (λ b. length b ≤ size) result
+        (seen R.Read decoder.old) (seen R.Read decoder.new) }
 {
     let at = into.len();
     let Ok(()) = into.resize(at + size, 0) else {
@@ -106,6 +108,41 @@ fn fill_piece<R: Read>(
     }
     decoder.read_exact(&mut into[at..])?;
     Ok(())
+}
+
+/// Appends the next n bytes and takes them, if the reader has so many at hand, and says whether it
+/// did. After `Ok(false)` nothing has changed.
+///
+/// # Errors
+/// Out of memory. No byte is taken then.
+fn append_held<R: Read>(
+    decoder: &mut Decoder<R>,
+    n: usize,
+    into: &mut Vec<u8>,
+) -> Result<bool, AllocError>
+    ensures ok { IfOk result (λ done. IsTrue done
+        → Takes (seen R.Read decoder.old) (seen R.Read decoder.new)
+        (λ b. (length b ≡ n) × (into.new.items ≡ into.old.items ++ b))) }
+    ensures none { IfOk result (λ done. IsFalse done
+        → (decoder.new ≡ decoder.old) × (into.new.items ≡ into.old.items)) }
+    ensures err { OnErr result ((decoder.new ≡ decoder.old)
+        × (into.new.items ≡ into.old.items)) }
+    ensures fits { offset_of decoder.new < 2 ^ 64 }
+    ensures failed { R.failed (reader_of decoder.new) ≡ R.failed (reader_of decoder.old) }
+    ensures handle { R.handle (reader_of decoder.new) ≡ R.handle (reader_of decoder.old) }
+    ensures waiting { waiting_of decoder.new ≡ waiting_of decoder.old }
+    ensures same { shortest_of decoder.new ≡ shortest_of decoder.old }
+{
+    let Some((front, _)) = decoder.held().split_at_checked(n) else {
+        return Ok(false);
+    };
+    let len = into.len();
+    into.extend_from_slice(front)?;
+    if !decoder.take(n) {
+        into.truncate(len);
+        return Ok(false);
+    }
+    Ok(true)
 }
 
 /// The next bytes, so many, in one piece, in the capacity that there is for them. Those at hand are
@@ -123,13 +160,11 @@ fn read_piece<R: Read>(
     ensures grows { offset_of decoder.old ≤ offset_of decoder.new }
     ensures err { IfErr result (NamesShort R.ends size
         (seen R.Read decoder.old) (seen R.Read decoder.new)) }
-    ensures stops { IfErr result (TakesSome (seen R.Read decoder.old) (seen R.Read decoder.new)) }
-    ensures one { IfErr result (IfMemory (Takes (seen R.Read decoder.old)
-        (seen R.Read decoder.new) (λ b. length b ≤ size))) }
-    ensures steady { Steady R.ends result (seen R.Read decoder.old) (seen R.Read decoder.new) }
+    ensures leaves { Leaves R.ends (λ b. length b ≤ size) result
+        (seen R.Read decoder.old) (seen R.Read decoder.new) }
 {
     let room = into.capacity();
-    let Ok(is_appended) = decoder.append_held(size, into) else {
+    let Ok(is_appended) = append_held(decoder, size, into) else {
         return Err(Error::Memory);
     };
     if !is_appended {
@@ -157,10 +192,8 @@ fn read_bytes<R: Read>(
         (vec_capacity into.new ≤ max (vec_capacity into.old) n) }
     ensures err { IfErr result (NamesShort R.ends n
         (seen R.Read decoder.old) (seen R.Read decoder.new)) }
-    ensures stops { IfErr result (TakesSome (seen R.Read decoder.old) (seen R.Read decoder.new)) }
-    ensures one { IfErr result (IfMemory (Takes (seen R.Read decoder.old)
-        (seen R.Read decoder.new) (λ b. length b ≤ n))) }
-    ensures steady { Steady R.ends result (seen R.Read decoder.old) (seen R.Read decoder.new) }
+    ensures leaves { Leaves R.ends (λ b. length b ≤ n) result
+        (seen R.Read decoder.old) (seen R.Read decoder.new) }
 {
     let mut got = 0;
     'pieces: while got < n {
@@ -191,13 +224,11 @@ fn read_chunk<R: Read>(
         (offset_of decoder.old) (offset_of decoder.new) (vec_capacity into.new)) }
     ensures alone { into.old.items ≡ [] → UnlessMemory result
         (vec_capacity into.new ≤ max (vec_capacity into.old) n) }
-    ensures err { IfErr result (NamesFaultBehind R.ends (string_head text (Some n)) at
+    ensures err { IfErr result (NamesFaultAfterTitle R.ends (string_head text (Some n)) at
         (ChunkDamage (string_head text) (IsBody text))
         (seen R.Read decoder.old) (seen R.Read decoder.new)) }
-    ensures stops { IfErr result (TakesSome (seen R.Read decoder.old) (seen R.Read decoder.new)) }
-    ensures one { IfErr result (IfMemory (Takes (seen R.Read decoder.old)
-        (seen R.Read decoder.new) (λ b. length b ≤ n))) }
-    ensures steady { Steady R.ends result (seen R.Read decoder.old) (seen R.Read decoder.new) }
+    ensures leaves { Leaves R.ends (λ b. length b ≤ n) result
+        (seen R.Read decoder.old) (seen R.Read decoder.new) }
 {
     let start = into.len();
     read_bytes(decoder, n, into)?;
@@ -261,15 +292,13 @@ pub fn read_string<R: Read>(
 ) -> Result<Vec<u8>, Error<R::Error>>
     requires fresh { waiting_of decoder.old ≡ None }
     ensures ok { IfOk result (λ v. Takes (seen R.Read decoder.old) (seen R.Read decoder.new)
-        (λ b. StringBehind text length v.items b)) }
+        (λ b. StringAfterHead text length v.items b)) }
     ensures held { IfOk result (λ v. IsFitting length v.items (vec_capacity v)) }
-    ensures err { IfErr result (NamesFaultBehind R.ends (string_head text length) at
+    ensures err { IfErr result (NamesFaultAfterTitle R.ends (string_head text length) at
         (StringDamage (string_head text) (IsBody text))
         (seen R.Read decoder.old) (seen R.Read decoder.new)) }
-    ensures stops { IfErr result (TakesSome (seen R.Read decoder.old) (seen R.Read decoder.new)) }
-    ensures one { IfErr result (IfMemory (Takes (seen R.Read decoder.old)
-        (seen R.Read decoder.new) (OneBehind (string_head text length)))) }
-    ensures steady { Steady R.ends result (seen R.Read decoder.old) (seen R.Read decoder.new) }
+    ensures leaves { Leaves R.ends (OneAfterTitle (string_head text length)) result
+        (seen R.Read decoder.old) (seen R.Read decoder.new) }
 {
     let mut bytes = Vec::new(alloc);
     match length {
@@ -295,15 +324,13 @@ fn read_open<R: Read>(
     requires empty { into.old.items ≡ [] }
     requires earned { IsEarned 0 (vec_capacity into.old) }
     ensures ok { OnOk result (Takes (seen R.Read decoder.old) (seen R.Read decoder.new)
-        (λ b. StringBehind text None into.new.items b)) }
+        (λ b. StringAfterHead text None into.new.items b)) }
     ensures held { OnOk result (IsEarned (length into.new.items) (vec_capacity into.new)) }
-    ensures err { IfErr result (NamesFaultBehind R.ends (string_head text None) at
+    ensures err { IfErr result (NamesFaultAfterTitle R.ends (string_head text None) at
         (StringDamage (string_head text) (IsBody text))
         (seen R.Read decoder.old) (seen R.Read decoder.new)) }
-    ensures stops { IfErr result (TakesSome (seen R.Read decoder.old) (seen R.Read decoder.new)) }
-    ensures one { IfErr result (IfMemory (Takes (seen R.Read decoder.old)
-        (seen R.Read decoder.new) (OneBehind (string_head text None)))) }
-    ensures steady { Steady R.ends result (seen R.Read decoder.old) (seen R.Read decoder.new) }
+    ensures leaves { Leaves R.ends (OneAfterTitle (string_head text None)) result
+        (seen R.Read decoder.old) (seen R.Read decoder.new) }
 {
     let mut inner: usize = 0;
     'parts: loop {
@@ -345,14 +372,12 @@ pub fn read_text<R: Read>(
 ) -> Result<String, Error<R::Error>>
     requires fresh { waiting_of decoder.old ≡ None }
     ensures ok { IfOk result (λ v. Takes (seen R.Read decoder.old) (seen R.Read decoder.new)
-        (λ b. StringBehind true length (string_bytes v) b)) }
+        (λ b. StringAfterHead true length (string_bytes v) b)) }
     ensures held { IfOk result (λ v. IsFitting length (string_bytes v) (string_capacity v)) }
-    ensures err { IfErr result (NamesFaultBehind R.ends (Text length) at (StringDamage Text IsUtf8)
+    ensures err { IfErr result (NamesFaultAfterTitle R.ends (Text length) at (StringDamage Text IsUtf8)
         (seen R.Read decoder.old) (seen R.Read decoder.new)) }
-    ensures stops { IfErr result (TakesSome (seen R.Read decoder.old) (seen R.Read decoder.new)) }
-    ensures one { IfErr result (IfMemory (Takes (seen R.Read decoder.old)
-        (seen R.Read decoder.new) (OneBehind (Text length)))) }
-    ensures steady { Steady R.ends result (seen R.Read decoder.old) (seen R.Read decoder.new) }
+    ensures leaves { Leaves R.ends (OneAfterTitle (Text length)) result
+        (seen R.Read decoder.old) (seen R.Read decoder.new) }
 {
     match length {
         Some(n) => read_whole_text(alloc, decoder, n, at),
@@ -370,14 +395,12 @@ fn read_whole_text<R: Read>(
 ) -> Result<String, Error<R::Error>>
     requires fresh { waiting_of decoder.old ≡ None }
     ensures ok { IfOk result (λ v. Takes (seen R.Read decoder.old) (seen R.Read decoder.new)
-        (λ b. StringBehind true (Some n) (string_bytes v) b)) }
+        (λ b. StringAfterHead true (Some n) (string_bytes v) b)) }
     ensures held { IfOk result (λ v. string_capacity v ≤ n) }
-    ensures err { IfErr result (NamesFaultBehind R.ends (Text (Some n)) at
+    ensures err { IfErr result (NamesFaultAfterTitle R.ends (Text (Some n)) at
         (StringDamage Text IsUtf8) (seen R.Read decoder.old) (seen R.Read decoder.new)) }
-    ensures stops { IfErr result (TakesSome (seen R.Read decoder.old) (seen R.Read decoder.new)) }
-    ensures one { IfErr result (IfMemory (Takes (seen R.Read decoder.old)
-        (seen R.Read decoder.new) (OneBehind (Text (Some n))))) }
-    ensures steady { Steady R.ends result (seen R.Read decoder.old) (seen R.Read decoder.new) }
+    ensures leaves { Leaves R.ends (OneAfterTitle (Text (Some n))) result
+        (seen R.Read decoder.old) (seen R.Read decoder.new) }
 {
     let mut bytes = Vec::new(alloc);
     read_bytes(decoder, n, &mut bytes)?;
@@ -395,14 +418,12 @@ fn read_cut_text<R: Read>(
 ) -> Result<String, Error<R::Error>>
     requires fresh { waiting_of decoder.old ≡ None }
     ensures ok { IfOk result (λ v. Takes (seen R.Read decoder.old) (seen R.Read decoder.new)
-        (λ b. StringBehind true None (string_bytes v) b)) }
+        (λ b. StringAfterHead true None (string_bytes v) b)) }
     ensures held { IfOk result (λ v. IsEarned (length (string_bytes v)) (string_capacity v)) }
-    ensures err { IfErr result (NamesFaultBehind R.ends (Text None) at (StringDamage Text IsUtf8)
+    ensures err { IfErr result (NamesFaultAfterTitle R.ends (Text None) at (StringDamage Text IsUtf8)
         (seen R.Read decoder.old) (seen R.Read decoder.new)) }
-    ensures stops { IfErr result (TakesSome (seen R.Read decoder.old) (seen R.Read decoder.new)) }
-    ensures one { IfErr result (IfMemory (Takes (seen R.Read decoder.old)
-        (seen R.Read decoder.new) (OneBehind (Text None)))) }
-    ensures steady { Steady R.ends result (seen R.Read decoder.old) (seen R.Read decoder.new) }
+    ensures leaves { Leaves R.ends (OneAfterTitle (Text None)) result
+        (seen R.Read decoder.old) (seen R.Read decoder.new) }
 {
     let bytes = read_string(alloc, decoder, true, None, at)?;
     match text_of(bytes) {

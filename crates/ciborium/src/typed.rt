@@ -4,8 +4,8 @@ ghost use Rattle.ciborium_ll.specs.Seen.{Takes};
 ghost use Rattle.ciborium_ll.specs.Views.{left_of, seen};
 ghost use Rattle.ciborium.specs.Damage.{Damage};
 ghost use Rattle.ciborium.specs.Front.{HoldsOne};
-ghost use Rattle.ciborium.specs.Reading.{NamesFault, Steady, TakesSome, IsNoMemory, IfEnd};
-ghost use Rattle.ciborium.specs.Reading.{IfMemory};
+ghost use Rattle.ciborium.specs.Reading.{NamesFault, IsNoMemory, IfEnd};
+ghost use Rattle.ciborium.specs.Reading.{Leaves};
 ghost use Rattle.ciborium.specs.Typed.{ReadsAs, IsRefused};
 
 use crate::de::{Error, from_decoder};
@@ -34,10 +34,8 @@ pub fn typed_item<T: Deserialize, R: Read>(
     ensures nothing { left_of R.left decoder.old ≡ Some [] → IfErr result IsNoMemory }
     ensures ended { left_of R.left decoder.old ≡ Some []
         → IfErr result (IfEnd R.ends (left_of R.left decoder.new ≡ Some [])) }
-    ensures stops { IfErr result (TakesSome (seen R.Read decoder.old) (seen R.Read decoder.new)) }
-    ensures one { IfErr result (IfMemory (Takes (seen R.Read decoder.old)
-        (seen R.Read decoder.new) HoldsOne)) }
-    ensures steady { Steady R.ends result (seen R.Read decoder.old) (seen R.Read decoder.new) }
+    ensures leaves { Leaves R.ends HoldsOne result
+        (seen R.Read decoder.old) (seen R.Read decoder.new) }
 {
     let value = from_decoder(alloc, decoder, limit)?;
     match T::take(alloc, value) {

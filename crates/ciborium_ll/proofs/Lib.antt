@@ -1,4 +1,5 @@
 pub mod Appending
+pub mod Begun
 pub mod Closings
 pub mod Copying
 pub mod Empty

@@ -4,7 +4,8 @@ ghost use Rattle.std.specs.Prelude.{OnOk, OnErr, IsTrue, IsFalse};
 ghost use Rattle.std.specs.Prelude.{IfOk, IfErr, IfSome, IfNone};
 ghost use Rattle.std.specs.Prelude.{is_some, length, take, slice_index_or};
 ghost use Rattle.std.specs.Io.KnownBytes.{Consumes, Keeps, prepend_known};
-ghost use Rattle.ciborium_ll.specs.Device.{IsShort};
+ghost use Rattle.std.specs.Io.{StartsWith};
+ghost use Rattle.ciborium_ll.specs.Device.{IsShort, Drops};
 ghost use Rattle.ciborium_ll.specs.declared.hdr.Header.{Header};
 ghost use Rattle.ciborium_ll.specs.declared.hdr.Error.TheVariants.{TooLong, Waiting};
 ghost use Rattle.ciborium_ll.specs.Title.{Title, NumberAt, title_of, first_byte, bytes_after};
@@ -14,7 +15,6 @@ ghost use Rattle.ciborium_ll.specs.Reading.{Tells, RawFault, IfRefused, waiting_
 use crate::hdr::{Error, Float, Header};
 use crate::laws::header_fits;
 use crate::read::Read;
-use std::alloc::AllocError;
 
 /// Reads headers and bytes from a reader, and keeps the offset: how many bytes it has taken.
 ///
@@ -185,41 +185,40 @@ impl<R: Read> Decoder<R> {
         self.fill(data)
     }
 
-    /// Appends the next n bytes to a vector and takes them, if the reader has so many at hand, and
-    /// says whether it did. After `Ok(false)` nothing has changed, and the bytes may still come by
-    /// `read_exact`. It returns `Ok(false)` also while a header waits, and if the offset would pass
-    /// `usize::MAX`.
-    ///
-    /// # Errors
-    /// Out of memory; then no byte is taken, and the vector holds what it held.
-    pub fn append_held(&mut self, n: usize, into: &mut Vec<u8>) -> Result<bool, AllocError>
-        ensures ok { IfOk result (λ done. IsTrue done
-            → Takes (seen R.Read self.old) (seen R.Read self.new)
-            (λ b. (length b ≡ n) × (into.new.items ≡ into.old.items ++ b))) }
-        ensures none { IfOk result (λ done. IsFalse done
-            → (self.new ≡ self.old) × (into.new.items ≡ into.old.items)) }
-        ensures err { OnErr result ((self.new ≡ self.old)
-            × (into.new.items ≡ into.old.items)) }
+    /// The next bytes, as far as the reader has them at hand. There may be none, and there are none
+    /// while a header waits.
+    pub fn held(&self) -> &[u8]
+        ensures front { IfSome (left_of R.left self.now) (λ xs. StartsWith xs result.now) }
+        ensures waiting { waiting_of self.now ≢ None → result.now ≡ [] }
+    {
+        if self.is_waiting() {
+            return &[];
+        }
+        self.reader.held()
+    }
+
+    /// Takes the next n bytes, if `held` has so many, and says whether it did. After `false` nothing
+    /// has changed, and the bytes may still come by `read_exact`. It returns `false` also while a
+    /// header waits, and if the offset would pass `usize::MAX`.
+    pub fn take(&mut self, n: usize) -> bool
+        ensures taken { IsTrue result → Drops (left_of R.left self.old) (left_of R.left self.new) n }
+        ensures within { IsTrue result → IfSome (left_of R.left self.old) (λ xs. n ≤ length xs) }
+        ensures grown { IsTrue result → offset_of self.new ≡ offset_of self.old + n }
+        ensures none { IsFalse result → self.new ≡ self.old }
         ensures fits { offset_of self.new < 2 ^ 64 }
         ensures failed { R.failed (reader_of self.new) ≡ R.failed (reader_of self.old) }
         ensures handle { R.handle (reader_of self.new) ≡ R.handle (reader_of self.old) }
         ensures waiting { waiting_of self.new ≡ waiting_of self.old }
         ensures same { shortest_of self.new ≡ shortest_of self.old }
     {
-        if self.is_waiting() || usize::MAX - self.read < n {
-            return Ok(false);
+        if self.is_waiting() || usize::MAX - self.read < n || self.reader.held().len() < n {
+            return false;
         }
-        let Some((front, _)) = self.reader.held().split_at_checked(n) else {
-            return Ok(false);
-        };
-        let len = into.len();
-        into.extend_from_slice(front)?;
         if !self.reader.take(n) {
-            into.truncate(len);
-            return Ok(false);
+            return false;
         }
         self.read += n;
-        Ok(true)
+        true
     }
 
     /// Puts a header back; the next `pull` gives it. The offset goes back by its shortest title.

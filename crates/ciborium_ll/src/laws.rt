@@ -1,9 +1,10 @@
 //! Facts about values, for proofs. The calls do nothing at run time.
-ghost use Rattle.std.specs.Prelude.{◌≡◌, ◌≤◌, ◌<◌, ◌^◌, ◌++◌, ℕ, List, length, Option, Some};
+ghost use Rattle.std.specs.Prelude.{◌≡◌, ◌≤◌, ◌<◌, ◌^◌, ◌++◌, ◌∷◌, ℕ, List};
+ghost use Rattle.std.specs.Prelude.{length, Option, Some};
 ghost use Rattle.std.specs.Str.{IsUtf8, IsCharBoundary};
 ghost use Rattle.ciborium_ll.specs.Title.{FitsHeader, Title, title_of, IsCut, StartsBad};
 ghost use Rattle.ciborium_ll.specs.Framing.{Frame, Any, joined};
-ghost use Rattle.ciborium_ll.specs.Stages.{Rest, Strays, EndsInside, stage_of};
+ghost use Rattle.ciborium_ll.specs.Stages.{Rest, Steps, Reaches, Strays, EndsInside, stage_of};
 ghost use Rattle.ciborium_ll.specs.Pieces.{IsString, FitBytes};
 ghost use Rattle.ciborium_ll.specs.Copies.{Copies, CopiesHalt, Halt};
 ghost use Rattle.ciborium_ll.specs.Copies.{paused, refused, ended, damaged};
@@ -12,6 +13,7 @@ ghost use Rattle.ciborium_ll.specs.declared.hdr.Header.TheVariants.{Bytes, Text}
 ghost use Rattle.ciborium_ll.specs.declared.stage.Stage.{Stage};
 
 use crate::hdr::Header;
+use crate::kind::StringKind;
 
 /// Each number of a header is in its type's range.
 pub fn header_fits(header: Header)
@@ -67,6 +69,25 @@ pub fn rests_are_framed()
         → Frame Text IsUtf8 (title ++ b) bodies → Rest Text IsUtf8 (stage_of len) b bodies }
 {}
 
+/// After bytes that lead from one stage to another, what may come at the new stage is what may come
+/// at the old one, with the bodies in those bytes first. Nothing else that begins with them may.
+pub fn steps_lead<K: StringKind>()
+    ensures there { (old new : Stage) (front b : List ℕ) (bodies more : List (List ℕ))
+        → Steps K.titled K.allows old new front bodies → Rest K.titled K.allows new b more
+        → Rest K.titled K.allows old (front ++ b) (bodies ++ more) }
+    ensures back { (old new : Stage) (front l b after : List ℕ) (bodies all : List (List ℕ))
+        → Steps K.titled K.allows old new front bodies → Rest K.titled K.allows old b all
+        → front ++ l ≡ b ++ after
+        → (rest : List ℕ) × (more : List (List ℕ)) × Rest K.titled K.allows new rest more
+        × (b ≡ front ++ rest) × (l ≡ rest ++ after) × (all ≡ bodies ++ more) }
+    ensures due { (old new : Stage) (len : ℕ) (before front l b after : List ℕ)
+        (bodies all : List (List ℕ)) → Reaches K.titled K.allows old len new before front bodies
+        → Rest K.titled K.allows old b all → front ++ l ≡ b ++ after
+        → (body : List ℕ) × (rest : List ℕ) × (more : List (List ℕ)) × (length body ≡ len)
+        × K.allows body × Rest K.titled K.allows new rest more × (b ≡ front ++ (body ++ rest))
+        × (l ≡ (body ++ rest) ++ after) × (all ≡ bodies ++ body ∷ more) }
+{}
+
 /// If a stray head was met, or the bytes end inside an open string, then they don't begin with the
 /// rest of a string of that kind.
 pub fn no_rest()
@@ -113,7 +134,8 @@ pub fn copies_stay()
 /// If a copy halted, what is written is never longer than what was read, not even together with the
 /// bytes that the writer refused after it. If bytes begin with what was read, their copy begins
 /// with what is written, and then with the refused bytes. If the bytes ended, or a fault is there,
-/// they don't hold so many heads and strings.
+/// they don't hold so many heads and strings. What was written, with the refused bytes, and what was
+/// read, but for at most three bytes or what comes after the fault's place, begin a whole copy.
 pub fn halted_copies()
     ensures shorter { (n : ℕ) (halt : Halt) (b x : List ℕ) → CopiesHalt n halt b x
         → length x ≤ length b }
@@ -129,4 +151,16 @@ pub fn halted_copies()
         → b ++ rest ≡ c ++ v → ⊥ }
     ensures damaged { (n p : ℕ) (b x c y u v : List ℕ) → CopiesHalt n (damaged p) b x → Copies n c y
         → b ++ u ≡ c ++ v → ⊥ }
+    ensures paused_begun { (n : ℕ) (b x : List ℕ) → CopiesHalt n paused b x
+        → (a : List ℕ) × (held : List ℕ) × (c : List ℕ) × (y : List ℕ)
+        × (b ≡ a ++ held) × (length held ≤ 3) × Copies n (a ++ c) (x ++ y) }
+    ensures ended_begun { (n : ℕ) (rest b x : List ℕ) → CopiesHalt n (ended rest) b x
+        → (a : List ℕ) × (held : List ℕ) × (c : List ℕ) × (y : List ℕ)
+        × (b ≡ a ++ held) × (length held ≤ 3) × Copies n (a ++ c) (x ++ y) }
+    ensures refused_begun { (n : ℕ) (last b x : List ℕ) → CopiesHalt n (refused last) b x
+        → (a : List ℕ) × (held : List ℕ) × (c : List ℕ) × (y : List ℕ)
+        × (b ≡ a ++ held) × (length held ≤ 3) × Copies n (a ++ c) ((x ++ last) ++ y) }
+    ensures damaged_begun { (n p : ℕ) (b x : List ℕ) → CopiesHalt n (damaged p) b x
+        → (a : List ℕ) × (rest : List ℕ) × (c : List ℕ) × (y : List ℕ)
+        × (b ≡ a ++ rest) × (p ≤ length a) × Copies n (a ++ c) (x ++ y) }
 {}

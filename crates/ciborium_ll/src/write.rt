@@ -32,6 +32,19 @@ pub trait Write {
         ensures kept { handle self.new ≡ handle self.old }
         ensures failed { failed self.new ≡ write_failures result (failed self.old) };
 
+    /// Writes one byte.
+    ///
+    /// # Errors
+    /// Those of `write_all`.
+    fn write_byte(&mut self, byte: u8) -> Result<(), Self::Error>
+        ensures ok { OnOk result (Appends (written self.old) (written self.new) (byte ∷ [])) }
+        ensures err { OnErr result (AppendsFront (written self.old) (written self.new) (byte ∷ [])) }
+        ensures kept { handle self.new ≡ handle self.old }
+        ensures failed { failed self.new ≡ write_failures result (failed self.old) }
+    {
+        self.write_all(&[byte])
+    }
+
     /// Hands on what the writer holds back. What counts as written stays as it is.
     ///
     /// # Errors
@@ -53,6 +66,10 @@ impl<W: Write> Write for &mut W {
 
     fn write_all(&mut self, data: &[u8]) -> Result<(), W::Error> {
         (**self).write_all(data)
+    }
+
+    fn write_byte(&mut self, byte: u8) -> Result<(), W::Error> {
+        (**self).write_byte(byte)
     }
 
     fn flush(&mut self) -> Result<(), W::Error> {

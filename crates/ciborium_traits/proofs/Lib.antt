@@ -1,5 +1,6 @@
 pub mod Characters
 pub mod Items
-pub mod Joined
-pub mod Remaining
+pub mod Loops
+pub mod Opened
+pub mod Single
 pub mod Written

@@ -1,6 +1,6 @@
 -- What a sink is given of an item: an event for each leaf, and for a tag, an array or a map one for
 -- itself and then those of its parts, a key before its value.
-use Rattle.std.specs.Prelude.{◌≡◌, ℕ, ℤ, List, [], ◌∷◌, ◌++◌, ◌⊎◌, Bool, true, false}
+use Rattle.std.specs.Prelude.{ℕ, ℤ, List, [], ◌∷◌, ◌++◌, Bool, true, false}
 use Rattle.ciborium_ll.specs.declared.hdr.Float.{Float as FloatBits}
 use Rattle.ciborium_value.specs.Tree as tree
 use Rattle.ciborium_value.specs.Tree.{Tree, Trees, no_trees, one_more, Pairs, no_pairs, pair_more, tree_count, pair_count}
@@ -37,12 +37,10 @@ abbrev mutual
   events_pairs no_pairs = []
   events_pairs (pair_more k v ps) = events k ++ (events v ++ events_pairs ps)
 
--- a sink went from one state to another by taking these events, one after another
-abbrev pub AllAdded : {S : Type 0} → (S → Event → S → Type 0) → S → List Event → S → Type 0
-AllAdded adds s [] s2 = s2 ≡ s
-AllAdded {S} adds s (e ∷ es) s2 = (m : S) × adds s e m × AllAdded adds m es s2
+-- whatever was due after these events is due after the call
+abbrev pub Puts : {P S : Type 0} → (P → List Event → S → Type 0) → S → List Event → S → Type 0
+Puts {P} due s xs t = (p : P) (es : List Event) → due p (xs ++ es) s → due p es t
 
--- a sink took a beginning of these events, and refused the next
-abbrev pub Stopped : {S : Type 0} → (S → Event → S → Type 0) → (S → Event → S → Type 0) → S → List Event → S → Type 0
-Stopped adds refuses s [] s2 = ⊥
-Stopped {S} adds refuses s (e ∷ es) s2 = refuses s e s2 ⊎ ((m : S) × adds s e m × Stopped adds refuses m es s2)
+-- the sink stopped within what was due
+abbrev pub Stops : {P S : Type 0} → (P → List Event → S → Type 0) → (P → S → Type 0) → S → List Event → S → Type 0
+Stops {P} due torn s xs t = (p : P) (es : List Event) → due p (xs ++ es) s → torn p t

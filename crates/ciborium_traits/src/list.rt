@@ -16,6 +16,7 @@ use std::alloc::Global;
 impl<T: Serialize> Serialize for Vec<T> {
     ghost put = { λ v. spec.array (trees (map T.put v.items)) };
 
+    #[tactic(auto, using(crate::proofs::Written::trees_counted))]
     fn serialize<S: Sink>(&self, sink: &mut S) -> Result<(), S::Error> {
         sink.array(self.len())?;
         for item in self {

@@ -17,6 +17,7 @@ use std::collections::BTreeMap;
 impl<K: Serialize + Ord, V: Serialize> Serialize for BTreeMap<K, V> {
     ghost put = { λ m. spec.map (pairs (map (λ e. (K.put e.0, V.put e.1)) m.entries)) };
 
+    #[tactic(auto, using(crate::proofs::Written::pairs_counted, std::proofs::lemmas::Map::Iter::rest_more, std::proofs::lemmas::Map::Iter::rest_all))]
     fn serialize<S: Sink>(&self, sink: &mut S) -> Result<(), S::Error> {
         sink.map(self.len())?;
         'entries: for (key, value) in self {

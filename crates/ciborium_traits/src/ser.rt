@@ -1,8 +1,8 @@
 //! What values are written to, and what can be written.
-ghost use Rattle.std.specs.Prelude.{◌≡◌, ℕ, OnOk, OnErr};
+ghost use Rattle.std.specs.Prelude.{ℕ, List, [], ◌∷◌, OnOk, OnErr};
 ghost use Rattle.ciborium_value.specs.Tree.{Tree};
 ghost use Rattle.ciborium_value.specs.View.{number_of};
-ghost use Rattle.ciborium_traits.specs.Events.{Event, events, boolean_event, AllAdded, Stopped};
+ghost use Rattle.ciborium_traits.specs.Events.{Event, events, boolean_event, Puts, Stops};
 ghost use Rattle.ciborium_traits.specs.Events as event;
 
 use ciborium_ll::Float;
@@ -11,62 +11,65 @@ use ciborium_value::Integer;
 /// Takes items piece by piece: each call adds one event, a leaf or the beginning of a tag, an array
 /// or a map, whose parts follow it.
 ///
-/// An implementation says in its meaning what an event that was taken does to it (`adds`), and what
-/// a refused one may (`refuses`).
+/// An implementation says in its meaning what it is to come to (`Plan`), when these events are what
+/// it still has to take for that (`due`), and how it is left when it refused one of them (`torn`).
 pub trait Sink {
     /// Why an event was not taken.
     type Error;
 
-    /// It took the event and went from the one state to the other.
-    ghost adds: { Self → Event → Self → Type 0 };
+    /// What a sink is to come to.
+    ghost Plan: { Type 0 };
 
-    /// It refused the event and was left so.
-    ghost refuses: { Self → Event → Self → Type 0 };
+    /// If it takes these events, it comes to what was planned.
+    ghost due: { Plan → List Event → Self → Type 0 };
+
+    /// It stopped on the way to what was planned.
+    ghost torn: { Plan → Self → Type 0 };
 
     /// Adds an integer.
     fn integer(&mut self, number: Integer) -> Result<(), Self::Error>
-        ensures ok { OnOk result (adds self.old (event.integer (number_of number)) self.new) }
-        ensures err { OnErr result (refuses self.old (event.integer (number_of number)) self.new) };
+        ensures ok { OnOk result (Puts due self.old (event.integer (number_of number) ∷ []) self.new) }
+        ensures err { OnErr result (Stops due torn self.old (event.integer (number_of number) ∷ []) self.new) };
 
     /// Adds a byte string.
     fn bytes(&mut self, bytes: &[u8]) -> Result<(), Self::Error>
-        ensures ok { OnOk result (adds self.old (event.bytes bytes.now) self.new) }
-        ensures err { OnErr result (refuses self.old (event.bytes bytes.now) self.new) };
+        ensures ok { OnOk result (Puts due self.old (event.bytes bytes.now ∷ []) self.new) }
+        ensures err { OnErr result (Stops due torn self.old (event.bytes bytes.now ∷ []) self.new) };
 
     /// Adds a float by its width and bits.
     fn float(&mut self, float: Float) -> Result<(), Self::Error>
-        ensures ok { OnOk result (adds self.old (event.float float) self.new) }
-        ensures err { OnErr result (refuses self.old (event.float float) self.new) };
+        ensures ok { OnOk result (Puts due self.old (event.float float ∷ []) self.new) }
+        ensures err { OnErr result (Stops due torn self.old (event.float float ∷ []) self.new) };
 
     /// Adds a text string.
     fn text(&mut self, text: &str) -> Result<(), Self::Error>
-        ensures ok { OnOk result (adds self.old (event.text text.now) self.new) }
-        ensures err { OnErr result (refuses self.old (event.text text.now) self.new) };
+        ensures ok { OnOk result (Puts due self.old (event.text text.now ∷ []) self.new) }
+        ensures err { OnErr result (Stops due torn self.old (event.text text.now ∷ []) self.new) };
 
     /// Adds false or true.
     fn boolean(&mut self, value: bool) -> Result<(), Self::Error>
-        ensures ok { OnOk result (adds self.old (boolean_event value) self.new) }
-        ensures err { OnErr result (refuses self.old (boolean_event value) self.new) };
+        ensures ok { OnOk result (Puts due self.old (boolean_event value ∷ []) self.new) }
+        ensures err { OnErr result (Stops due torn self.old (boolean_event value ∷ []) self.new) };
 
     /// Adds null.
     fn null(&mut self) -> Result<(), Self::Error>
-        ensures ok { OnOk result (adds self.old (event.simple 22) self.new) }
-        ensures err { OnErr result (refuses self.old (event.simple 22) self.new) };
+        ensures ok { OnOk result (Puts due self.old (event.simple 22 ∷ []) self.new) }
+        ensures err { OnErr result (Stops due torn self.old (event.simple 22 ∷ []) self.new) };
 
     /// Begins a tag; one item follows.
     fn tag(&mut self, tag: u64) -> Result<(), Self::Error>
-        ensures ok { OnOk result (adds self.old (event.tag tag) self.new) }
-        ensures err { OnErr result (refuses self.old (event.tag tag) self.new) };
+        ensures ok { OnOk result (Puts due self.old (event.tag tag ∷ []) self.new) }
+        ensures err { OnErr result (Stops due torn self.old (event.tag tag ∷ []) self.new) };
 
     /// Begins an array; so many items follow.
     fn array(&mut self, len: usize) -> Result<(), Self::Error>
-        ensures ok { OnOk result (adds self.old (event.array len) self.new) }
-        ensures err { OnErr result (refuses self.old (event.array len) self.new) };
+        ensures ok { OnOk result (Puts due self.old (event.array len ∷ []) self.new) }
+        ensures err { OnErr result (Stops due torn self.old (event.array len ∷ []) self.new) };
 
     /// Begins a map; so many entries follow, of each the key and then the value.
     fn map(&mut self, len: usize) -> Result<(), Self::Error>
-        ensures ok { OnOk result (adds self.old (event.map len) self.new) }
-        ensures err { OnErr result (refuses self.old (event.map len) self.new) };
+        ensures ok { OnOk result (Puts due self.old (event.map len ∷ []) self.new) }
+        ensures err { OnErr result (Stops due torn self.old (event.map len ∷ []) self.new) };
 }
 
 /// A type whose values can be written.
@@ -79,7 +82,7 @@ pub trait Serialize {
     /// # Errors
     /// The sink's; it took a beginning of the value's events then, and refused the next.
     fn serialize<S: Sink>(&self, sink: &mut S) -> Result<(), S::Error>
-        ensures ok { OnOk result (AllAdded S.adds sink.old (events (put self.now)) sink.new) }
-        ensures err { OnErr result (Stopped S.adds S.refuses sink.old
+        ensures ok { OnOk result (Puts S.due sink.old (events (put self.now)) sink.new) }
+        ensures err { OnErr result (Stops S.due S.torn sink.old
             (events (put self.now)) sink.new) };
 }

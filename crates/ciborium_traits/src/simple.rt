@@ -15,6 +15,7 @@ use std::alloc::Global;
 impl Serialize for bool {
     ghost put = { bool_tree };
 
+    #[tactic(auto, using(crate::proofs::Opened::boolean_opened))]
     fn serialize<S: Sink>(&self, sink: &mut S) -> Result<(), S::Error> {
         sink.boolean(*self)
     }

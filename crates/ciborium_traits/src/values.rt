@@ -1,7 +1,7 @@
 //! Values as they are.
 ghost use Rattle.std.specs.Prelude.{◌≡◌, None, OnOk, OnErr, false};
 ghost use Rattle.ciborium_value.specs.View.{view};
-ghost use Rattle.ciborium_traits.specs.Events.{events, AllAdded, Stopped};
+ghost use Rattle.ciborium_traits.specs.Events.{events, Puts, Stops};
 
 use crate::de::Deserialize;
 use crate::error::Error;
@@ -10,9 +10,10 @@ use ciborium_value::{CanonicalValue, Value};
 use std::alloc::Global;
 
 /// Writes an item.
+#[tactic(auto, using(crate::proofs::Opened::array_opened, crate::proofs::Opened::map_opened, crate::proofs::Opened::tag_opened, crate::proofs::Opened::bool_opened))]
 fn write_value<S: Sink>(sink: &mut S, value: &Value) -> Result<(), S::Error>
-    ensures ok { OnOk result (AllAdded S.adds sink.old (events (view value.now)) sink.new) }
-    ensures err { OnErr result (Stopped S.adds S.refuses sink.old
+    ensures ok { OnOk result (Puts S.due sink.old (events (view value.now)) sink.new) }
+    ensures err { OnErr result (Stops S.due S.torn sink.old
         (events (view value.now)) sink.new) }
 {
     match value {

@@ -3,7 +3,7 @@ ghost use Rattle.std.specs.Prelude.{◌≡◌, pos, OnOk, OnErr, Some, option_ma
 ghost use Rattle.ciborium_value.specs.Numbers.{number_tree, fewest_bytes};
 ghost use Rattle.ciborium_value.specs.Tree as spec;
 ghost use Rattle.ciborium_value.specs.View.{view};
-ghost use Rattle.ciborium_traits.specs.Events.{events, AllAdded, Stopped};
+ghost use Rattle.ciborium_traits.specs.Events.{events, Puts, Stops};
 ghost use Rattle.ciborium_traits.specs.Ranges.{fits_unsigned, fits_signed, within};
 ghost use Rattle.ciborium_traits.specs.Wide.{wide_number, whole};
 
@@ -61,9 +61,9 @@ fn whole_number(value: Value) -> Option<Whole>
 
 /// Writes a tag over a byte string.
 fn put_tagged<S: Sink>(sink: &mut S, tag: u64, bytes: &[u8]) -> Result<(), S::Error>
-    ensures ok { OnOk result (AllAdded S.adds sink.old
+    ensures ok { OnOk result (Puts S.due sink.old
         (events (spec.tag tag (spec.bytes bytes.now))) sink.new) }
-    ensures err { OnErr result (Stopped S.adds S.refuses sink.old
+    ensures err { OnErr result (Stops S.due S.torn sink.old
         (events (spec.tag tag (spec.bytes bytes.now))) sink.new) }
 {
     sink.tag(tag)?;
@@ -72,9 +72,9 @@ fn put_tagged<S: Sink>(sink: &mut S, tag: u64, bytes: &[u8]) -> Result<(), S::Er
 
 /// Writes a tag over the fewest bytes of a number, the highest first.
 fn put_bignum<S: Sink>(sink: &mut S, tag: u64, n: u128) -> Result<(), S::Error>
-    ensures ok { OnOk result (AllAdded S.adds sink.old
+    ensures ok { OnOk result (Puts S.due sink.old
         (events (spec.tag tag (spec.bytes (fewest_bytes n)))) sink.new) }
-    ensures err { OnErr result (Stopped S.adds S.refuses sink.old
+    ensures err { OnErr result (Stops S.due S.torn sink.old
         (events (spec.tag tag (spec.bytes (fewest_bytes n)))) sink.new) }
 {
     put_tagged(sink, tag, stripped(&n.to_be_bytes()))
@@ -82,9 +82,9 @@ fn put_bignum<S: Sink>(sink: &mut S, tag: u64, n: u128) -> Result<(), S::Error>
 
 /// Writes an integer if its head can say the number, else a bignum (RFC 8949, section 3.4.3).
 fn put_whole<S: Sink>(sink: &mut S, number: Whole) -> Result<(), S::Error>
-    ensures ok { OnOk result (AllAdded S.adds sink.old
+    ensures ok { OnOk result (Puts S.due sink.old
         (events (number_tree (whole number))) sink.new) }
-    ensures err { OnErr result (Stopped S.adds S.refuses sink.old
+    ensures err { OnErr result (Stops S.due S.torn sink.old
         (events (number_tree (whole number))) sink.new) }
 {
     match number {

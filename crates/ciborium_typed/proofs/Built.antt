@@ -1,13 +1,14 @@
 -- What a sink that builds items holds after the events of a whole item: this item more.
 use Rattle.std.proofs.Common.{◌≡◌, ℕ, suc, ◌+◌, List, [], ◌∷◌, ◌++◌, length, map, refl, sym, ap, ◌∙◌, append_assoc, append-nil, arith}
+use Rattle.std.proofs.lemmas.List.Elements.{Contains-append_right}
 use Rattle.ciborium_value.specs.Tree as tree
 use Rattle.ciborium_value.specs.Tree.{Tree, Trees, no_trees, one_more, Pairs, no_pairs, pair_more, tree_count, pair_count}
 use Rattle.ciborium_value.specs.View.{trees, pairs, view}
 use Rattle.ciborium_value.specs.declared.value.Value.{Value}
 use Rattle.ciborium_traits.specs.Events as event
-use Rattle.ciborium_traits.specs.Events.{Event, events, events_all, events_pairs, AllAdded}
+use Rattle.ciborium_traits.specs.Events.{Event, events, events_all, events_pairs, Puts}
 use Rattle.ciborium_typed.specs.Stacks as stack
-use Rattle.ciborium_typed.specs.Stacks.{Stack, filled, added, begun, after, state_of}
+use Rattle.ciborium_typed.specs.Stacks.{Stack, filled, added, begun, emptied, after, state_of, Leads}
 use Rattle.ciborium_typed.specs.declared.value_sink.ValueSink.{ValueSink}
 
 abbrev after_all : Stack → List Event → Stack
@@ -93,18 +94,30 @@ mutual
       ∙ entries_built ps (qs ++ ((k, v) ∷ [])) s
       ∙ ap (λ z. added (tree.map (pairs z)) s) (append_assoc qs ((k, v) ∷ []) (entries_of ps))
 
-abbrev adds : ValueSink → Event → ValueSink → Type 0
-adds s e s2 = state_of s2 ≡ after (state_of s) e
+-- how a sink may be left on the way
+abbrev stops_of : Stack → List Event → List Stack
+stops_of s [] = []
+stops_of s (e ∷ es) = emptied s ∷ stops_of (after s e) es
 
-reached : (s s2 : ValueSink) (es : List Event) → AllAdded adds s es s2 → state_of s2 ≡ after_all (state_of s) es
-reached s s2 [] p = ap state_of p
-reached s s2 (e ∷ es) p = reached p.0 s2 es p.2 ∙ ap (λ z. after_all z es) p.1
+more_stops : (x : Stack) (stops : List Stack) (last : Stack) (es : List Event) (s : Stack) → Leads stops last es s → Leads (x ∷ stops) last es s
+more_stops x stops last [] s p = p
+more_stops x stops last (e ∷ es) s p = (Contains-append_right (x ∷ []) stops (emptied s) p.0, more_stops x stops last es (after s e) p.1)
 
-pub item_built : (t : Tree) (s s2 : ValueSink) → AllAdded adds s (events t) s2 → state_of s2 ≡ added t (state_of s)
-item_built t s s2 p = reached s s2 (events t) p ∙ built t (state_of s)
+leads : (es : List Event) (s : Stack) → Leads (stops_of s es) (after_all s es) es s
+leads [] s = refl
+leads (e ∷ es) s = ((0, omega arith, refl), more_stops (emptied s) (stops_of (after s e) es) (after_all (after s e) es) es (after s e) (leads es (after s e)))
+
+abbrev due : List Stack × Stack → List Event → ValueSink → Type 0
+due p es s = Leads p.0 p.1 es (state_of s)
+
+pub item_built : (t : Tree) (s s2 : ValueSink) → Puts due s (events t) s2 → state_of s2 ≡ added t (state_of s)
+item_built t s s2 p =
+    let es = events t in
+    let n = state_of s in
+    p (stops_of n es, after_all n es) [] (rw append-nil (leads es n)) ∙ built t n
 
 -- a sink that was given nothing and then a whole item holds this item alone
-pub only_item : (t : Tree) (s s2 : ValueSink) (vs : List Value) → state_of s ≡ ([], []) → AllAdded adds s (events t) s2 → map view vs ≡ (state_of s2).1 → map view vs ≡ t ∷ []
+pub only_item : (t : Tree) (s s2 : ValueSink) (vs : List Value) → state_of s ≡ ([], []) → Puts due s (events t) s2 → map view vs ≡ (state_of s2).1 → map view vs ≡ t ∷ []
 only_item t s s2 vs n p e =
     let f : state_of s2 ≡ ([], t ∷ []) = item_built t s s2 p ∙ ap (added t) n in
     e ∙ ap (λ (z : Stack). z.1) f

@@ -1,6 +1,6 @@
 -- What a sink that builds items has been given: whole items, and the tags, arrays and maps that are
 -- not full yet.
-use Rattle.std.specs.Prelude.{ℕ, zero, suc, List, [], ◌∷◌, ◌++◌, reverse}
+use Rattle.std.specs.Prelude.{◌≡◌, ℕ, zero, suc, List, [], ◌∷◌, ◌++◌, reverse, Contains}
 use Rattle.std.specs.Prelude as std
 use Rattle.ciborium_value.specs.Tree as tree
 use Rattle.ciborium_value.specs.Tree.{Tree, no_trees, no_pairs}
@@ -57,6 +57,11 @@ after s (event.map (suc n)) = begun (map [] n) s
 -- only the whole items are left
 abbrev pub emptied : Stack → Stack
 emptied s = ([], s.1)
+
+-- these events lead from a state to the last one, and a stop at any of them leaves one of the others
+abbrev pub Leads : List Stack → Stack → List Event → Stack → Type 0
+Leads stops last [] s = s ≡ last
+Leads stops last (e ∷ es) s = Contains stops (emptied s) × Leads stops last es (after s e)
 
 abbrev pub container_of : Level → Container
 container_of (level.Tag n) = tag n

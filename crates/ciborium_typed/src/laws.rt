@@ -9,7 +9,7 @@ ghost use Rattle.ciborium_typed.specs.declared.bytes.ByteBuf.{ByteBuf as ByteBuf
 ghost use Rattle.ciborium_typed.specs.declared.value_sink.ValueSink.{ValueSink as SinkOf};
 ghost use Rattle.ciborium_traits.specs.Back.{IsTakenBack};
 ghost use Rattle.ciborium_typed.specs.Compared.{Agree};
-ghost use Rattle.ciborium_traits.specs.Events.{events, AllAdded};
+ghost use Rattle.ciborium_traits.specs.Events.{events, Puts};
 ghost use Rattle.ciborium_typed.specs.Stacks.{state_of, added};
 
 use crate::bytes::ByteBuf;
@@ -31,7 +31,7 @@ pub fn byte_strings_are_taken_back()
 
 /// A value sink that took the events of an item has this item more, wherever it was awaited.
 pub fn items_are_built()
-    ensures { (t : Tree) (s s2 : SinkOf) → AllAdded ⟦<ValueSink as Sink>⟧.adds s (events t) s2
+    ensures { (t : Tree) (s s2 : SinkOf) → Puts ⟦<ValueSink as Sink>⟧.due s (events t) s2
         → state_of s2 ≡ added t (state_of s) }
 {}
 

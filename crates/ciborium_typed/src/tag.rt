@@ -4,7 +4,7 @@ ghost use Rattle.ciborium_value.specs.Tree as spec;
 ghost use Rattle.ciborium_value.specs.Kinds.{is_tag};
 ghost use Rattle.ciborium_value.specs.Tree.{Tree, opens_none};
 ghost use Rattle.ciborium_value.specs.View.{view};
-ghost use Rattle.ciborium_traits.specs.Events.{events, AllAdded, Stopped};
+ghost use Rattle.ciborium_traits.specs.Events.{events, Puts, Stops};
 ghost use Rattle.ciborium_typed.specs.Facts.Tags.{captured_back, required_back, accepted_back, captured_once, required_once, accepted_once};
 ghost use Rattle.ciborium_typed.specs.Tags.{tagged_tree, outer_tag, inside, required_refusal, accepted_refusal, AcceptedTaken};
 
@@ -179,9 +179,9 @@ fn serialize_tagged<V: Serialize, S: Sink>(
     value: &V,
     sink: &mut S,
 ) -> Result<(), S::Error>
-    ensures ok { OnOk result (AllAdded S.adds sink.old
+    ensures ok { OnOk result (Puts S.due sink.old
         (events (spec.tag tag (V.put value.now))) sink.new) }
-    ensures err { OnErr result (Stopped S.adds S.refuses sink.old
+    ensures err { OnErr result (Stops S.due S.torn sink.old
         (events (spec.tag tag (V.put value.now))) sink.new) }
 {
     sink.tag(tag)?;

@@ -1,7 +1,8 @@
 //! Values from what is written.
-ghost use Rattle.std.specs.Prelude.{◌≡◌, [], ◌∷◌, map, IfOk, OnOk, OnErr};
+ghost use Rattle.std.specs.Prelude.{◌≡◌, List, [], ◌∷◌, map, Contains, IfOk, OnOk, OnErr};
 ghost use Rattle.ciborium_value.specs.View.{view};
-ghost use Rattle.ciborium_typed.specs.Stacks.{state_of, added, begun, emptied, after, container_of};
+ghost use Rattle.ciborium_typed.specs.Stacks.{Stack, Leads, state_of, added, begun, emptied};
+ghost use Rattle.ciborium_typed.specs.Stacks.{container_of};
 
 use ciborium_ll::Float;
 use ciborium_traits::Sink;
@@ -123,9 +124,11 @@ impl ValueSink {
 impl Sink for ValueSink {
     type Error = AllocError;
 
-    ghost adds = { λ s e s2. state_of s2 ≡ after (state_of s) e };
+    ghost Plan = { List Stack × Stack };
 
-    ghost refuses = { λ s e s2. state_of s2 ≡ emptied (state_of s) };
+    ghost due = { λ p es s. Leads p.0 p.1 es (state_of s) };
+
+    ghost torn = { λ p s. Contains p.0 (state_of s) };
 
     fn integer(&mut self, number: Integer) -> Result<(), AllocError> {
         self.add(Value::Integer(number))

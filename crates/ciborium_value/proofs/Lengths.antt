@@ -5,7 +5,8 @@ use Rattle.ciborium_ll.specs.Title.{shortest}
 use Rattle.ciborium_value.specs.Tree.{tree_count, pair_count}
 use Rattle.ciborium_value.specs.Encoding.{enc, enc_all, enc_pairs}
 use Rattle.ciborium_value.specs.View.{view, views, view_pairs}
-use Rattle.ciborium_value.specs.Canonical.{counted, Sized, SizedAll, SizedPairs}
+use Rattle.ciborium_value.specs.Canonical.{counted}
+use Rattle.ciborium_value.specs.Facts.Heads.{Sized, SizedAll, SizedPairs}
 use Rattle.ciborium_value.specs.declared.value.Value.{Value}
 use Rattle.ciborium_value.specs.declared.value.Value.TheVariants as code
 use Rattle.ciborium_value.proofs.Views.{view_array, view_map}

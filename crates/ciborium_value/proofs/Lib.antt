@@ -4,6 +4,7 @@ pub mod Views
 pub mod Fitting
 pub mod Signs
 pub mod Wide
+pub mod HeadsTie
 pub mod TextOrder
 pub mod ValueOrder
 pub mod Lengths

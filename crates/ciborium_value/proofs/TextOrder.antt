@@ -1,7 +1,7 @@
 -- The order of encodings is that of the trees.
 use Rattle.std.proofs.Common.{◌≡◌, ℕ, pos, negsuc, ◌+◌, ◌*◌, ◌/◌, ◌%◌, ◌^◌, ◌<◌, ◌≤◌, List, [], ◌∷◌, ◌++◌, length, Bool, true, false, cond, nat_lt, refl, sym, ap, subst, ◌∙◌, arith, append_assoc, append-nil}
 use Rattle.std.proofs.lemmas.Bool.{ltb-true, ltb-false}
-use Rattle.std.proofs.lemmas.Cmp.{ranked, by_ranked}
+use Rattle.std.proofs.lemmas.Cmp.{ranked, by_ranked, tied_itself}
 use Rattle.std.proofs.lemmas.Nat.{mul-add-lt}
 use Rattle.std.proofs.Math.Nat.{div-div-eq-div-mul}
 use Rattle.std.specs.Int.{w16, w32, w64, to_be_bytes}
@@ -13,8 +13,12 @@ use Rattle.ciborium_ll.specs.Title.{shortest}
 use Rattle.ciborium_ll.specs.declared.hdr.Float.TheVariants.{Half, Single, Double}
 use Rattle.ciborium_value.specs.Tree.{Tree, integer, bytes, text, array, map, tag, simple, float, Trees, no_trees, one_more, Pairs, no_pairs, pair_more, tree_count, pair_count}
 use Rattle.ciborium_value.specs.Encoding.{enc, enc_all, enc_pairs, Fits, FitAll, FitPairs}
-use Rattle.ciborium_value.specs.Canonical.{place, number, text_cmp, all_cmp, each_cmp, Sized, SizedAll, SizedPairs, bytewise, canonical, canonical_cmp, counted}
-use Rattle.ciborium_value.specs.Facts.Orders.{bytes_cmp, assoc, then_equal, where_equal, apart, same_long, places}
+use Rattle.ciborium_value.specs.Order.{tree_cmp}
+use Rattle.ciborium_value.specs.Canonical.{bytewise, canonical, text_cmp, canonical_cmp}
+use Rattle.ciborium_value.specs.Facts.Heads.{place, number, heads_cmp, all_cmp, each_cmp, Sized, SizedAll, SizedPairs}
+use Rattle.ciborium_value.specs.Facts.Orders.{bytes_cmp, assoc, then_equal, then_tied, where_equal, apart, same_long, places}
+use Rattle.ciborium_value.specs.Facts.TreeTotal.{tree_total}
+use Rattle.ciborium_value.proofs.HeadsTie.{heads_tied}
 
 -- ---- numbers by their bytes, the highest first
 
@@ -239,7 +243,7 @@ head_is t s f g u v =
 -- ---- trees
 
 mutual
-  pub text_is : (t s : Tree) → Sized t → Sized s → (u v : List ℕ) → bytes_cmp (enc t ++ u) (enc s ++ v) ≡ ordering_then (text_cmp t s) (bytes_cmp u v)
+  pub text_is : (t s : Tree) → Sized t → Sized s → (u v : List ℕ) → bytes_cmp (enc t ++ u) (enc s ++ v) ≡ ordering_then (heads_cmp t s) (bytes_cmp u v)
   text_is (bytes a) (bytes b) f g u v =
       head_is (bytes a) (bytes b) f g u v ∙ where_equal (length a) (length b) _ (bytes_cmp a b) (bytes_cmp u v) (same_long a b u v)
   text_is (text a) (text b) f g u v =
@@ -249,7 +253,7 @@ mutual
   text_is (map ps) (map qs) f g u v =
       head_is (map ps) (map qs) f g u v ∙ where_equal (pair_count ps) (pair_count qs) _ (each_cmp ps qs) (bytes_cmp u v) (each_is ps qs f.1 g.1 u v)
   text_is (tag n t) (tag m s) f g u v =
-      head_is (tag n t) (tag m s) f g u v ∙ where_equal n m _ (text_cmp t s) (bytes_cmp u v) (λ e. text_is t s f.1 g.1 u v)
+      head_is (tag n t) (tag m s) f g u v ∙ where_equal n m _ (heads_cmp t s) (bytes_cmp u v) (λ e. text_is t s f.1 g.1 u v)
   text_is (integer i) (integer j) f g u v = head_is (integer i) (integer j) f g u v ∙ assoc (nat_cmp (place (integer i)) (place (integer j))) _ (bytes_cmp u v)
   text_is (simple n) (simple m) f g u v = head_is (simple n) (simple m) f g u v
   text_is (float w) (float x) f g u v = head_is (float w) (float x) f g u v ∙ assoc (nat_cmp (place (float w)) (place (float x))) _ (bytes_cmp u v)
@@ -265,8 +269,8 @@ mutual
   all_is (one_more t ts) (one_more s ss) f g u v e =
       (λ i. bytes_cmp (append_assoc (enc t) (enc_all ts) u i) (append_assoc (enc s) (enc_all ss) v i))
       ∙ text_is t s f.0 g.0 (enc_all ts ++ u) (enc_all ss ++ v)
-      ∙ ap (ordering_then (text_cmp t s)) (all_is ts ss f.1 g.1 u v (omega (arith, e)))
-      ∙ assoc (text_cmp t s) (all_cmp ts ss) (bytes_cmp u v)
+      ∙ ap (ordering_then (heads_cmp t s)) (all_is ts ss f.1 g.1 u v (omega (arith, e)))
+      ∙ assoc (heads_cmp t s) (all_cmp ts ss) (bytes_cmp u v)
 
   each_is : (ps qs : Pairs) → SizedPairs ps → SizedPairs qs → (u v : List ℕ) → pair_count ps ≡ pair_count qs → bytes_cmp (enc_pairs ps ++ u) (enc_pairs qs ++ v) ≡ ordering_then (each_cmp ps qs) (bytes_cmp u v)
   each_is no_pairs no_pairs f g u v e = refl
@@ -277,9 +281,9 @@ mutual
       let q = append_assoc (enc l) (enc y ++ enc_pairs qs) v ∙ ap (λ z. enc l ++ z) (append_assoc (enc y) (enc_pairs qs) v) in
       (λ i. bytes_cmp (p i) (q i))
       ∙ text_is k l f.0 g.0 _ _
-      ∙ ap (ordering_then (text_cmp k l)) (text_is x y f.1 g.1 _ _ ∙ ap (ordering_then (text_cmp x y)) (each_is ps qs f.2 g.2 u v (omega (arith, e))))
-      ∙ assoc (text_cmp k l) (text_cmp x y) (ordering_then (each_cmp ps qs) (bytes_cmp u v))
-      ∙ assoc (ordering_then (text_cmp k l) (text_cmp x y)) (each_cmp ps qs) (bytes_cmp u v)
+      ∙ ap (ordering_then (heads_cmp k l)) (text_is x y f.1 g.1 _ _ ∙ ap (ordering_then (heads_cmp x y)) (each_is ps qs f.2 g.2 u v (omega (arith, e))))
+      ∙ assoc (heads_cmp k l) (heads_cmp x y) (ordering_then (each_cmp ps qs) (bytes_cmp u v))
+      ∙ assoc (ordering_then (heads_cmp k l) (heads_cmp x y)) (each_cmp ps qs) (bytes_cmp u v)
 
 mutual
   pub fits_sized : (t : Tree) → Fits t → Sized t
@@ -300,9 +304,18 @@ mutual
   pairs_sized no_pairs f = f
   pairs_sized (pair_more k v ps) f = (fits_sized k f.0, fits_sized v f.1, pairs_sized ps f.2)
 
--- the order of encodings is that of the trees
+-- the order of encodings is that of heads and contents
+pub heads_order : (t s : Tree) → Sized t → Sized s → bytewise t s ≡ heads_cmp t s
+heads_order t s f g = (λ i. bytes_cmp (sym (append-nil (enc t)) i) (sym (append-nil (enc s)) i)) ∙ text_is t s f g [] [] ∙ then_equal (heads_cmp t s)
+
+-- an order that ties equal trees alone
+unbroken : (o : Ordering) (t s : Tree) → (o ≡ Equal → t ≡ s) → o ≡ ordering_then o (tree_cmp t s)
+unbroken Less t s h = refl
+unbroken Equal t s h = sym (ap (λ z. tree_cmp z s) (h refl) ∙ tied_itself tree_total s)
+unbroken Greater t s h = refl
+
 pub text_order : (t s : Tree) → Sized t → Sized s → bytewise t s ≡ text_cmp t s
-text_order t s f g = (λ i. bytes_cmp (sym (append-nil (enc t)) i) (sym (append-nil (enc s)) i)) ∙ text_is t s f g [] [] ∙ then_equal (text_cmp t s)
+text_order t s f g = unbroken (bytewise t s) t s (λ e. heads_tied t s (sym (heads_order t s f g) ∙ e))
 
 pub canonical_order : (t s : Tree) → Sized t → Sized s → canonical t s ≡ canonical_cmp t s
-canonical_order t s f g = ap (ordering_then (nat_cmp (counted (enc t)) (counted (enc s)))) (text_order t s f g)
+canonical_order t s f g = unbroken (canonical t s) t s (λ e. heads_tied t s (sym (heads_order t s f g) ∙ (then_tied _ (bytewise t s) e).1))

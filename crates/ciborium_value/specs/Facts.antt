@@ -3,7 +3,7 @@
 pub mod CanonicalHash
 pub mod Derived
 pub mod Orders
-pub mod TextTies
+pub mod Heads
 pub mod TextTotal
 pub mod Ties
 pub mod TreeTotal

@@ -8,7 +8,8 @@ ghost use Rattle.ciborium_value.specs.Encoding.{enc, Fits};
 ghost use Rattle.ciborium_value.specs.Folding.{fold};
 ghost use Rattle.ciborium_value.specs.Numbers.{IsWide, number_tree, tree_number};
 ghost use Rattle.ciborium_value.specs.Order.{tree_cmp};
-ghost use Rattle.ciborium_value.specs.Canonical.{bytewise, length_first, canonical, text_cmp, canonical_cmp, Sized};
+ghost use Rattle.ciborium_value.specs.Canonical.{bytewise, length_first, canonical, text_cmp, canonical_cmp};
+ghost use Rattle.ciborium_value.specs.Facts.Heads.{Sized, heads_cmp};
 ghost use Rattle.ciborium_value.specs.View.{view, number_of};
 
 use crate::canonical::CanonicalValue;
@@ -126,12 +127,14 @@ pub fn orders_are_total()
     ensures texts_tie { (t s : Tree) → text_cmp t s ≡ Equal → t ≡ s }
 {}
 
-/// The orders of trees by heads and contents are those of their encodings. While an encoding is
-/// shorter than 2^64 bytes, its counted length is its length.
+/// The orders of trees whose numbers heads can say are those of their encodings, and by heads and
+/// contents they are the same. Trees that fit are such. While an encoding is shorter than 2^64 bytes,
+/// its counted length is its length.
 pub fn orders_of_encodings()
     ensures sized { (t : Tree) → Fits t → Sized t }
     ensures bytes { (t s : Tree) → Sized t → Sized s → bytewise t s ≡ text_cmp t s }
     ensures counted { (t s : Tree) → Sized t → Sized s → canonical t s ≡ canonical_cmp t s }
+    ensures heads { (t s : Tree) → Sized t → Sized s → bytewise t s ≡ heads_cmp t s }
     ensures lengths { (t s : Tree) → length (enc t) < 2 ^ 64 → length (enc s) < 2 ^ 64
         → canonical t s ≡ length_first t s }
 {}

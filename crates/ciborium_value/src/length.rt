@@ -1,7 +1,8 @@
 //! The lengths of encodings, which are never made.
 ghost use Rattle.std.specs.Prelude.{◌≡◌};
-ghost use Rattle.ciborium_value.specs.Canonical.{counted, Sized, SizedAll, SizedPairs};
+ghost use Rattle.ciborium_value.specs.Canonical.{counted};
 ghost use Rattle.ciborium_value.specs.Encoding.{int_head, enc, enc_all, enc_pairs};
+ghost use Rattle.ciborium_value.specs.Facts.Heads.{Sized, SizedAll, SizedPairs};
 ghost use Rattle.ciborium_value.specs.View.{number_of, view, views, view_pairs};
 
 use crate::integer::Integer;

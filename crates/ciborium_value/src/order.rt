@@ -2,7 +2,8 @@
 ghost use Rattle.std.specs.Prelude.{◌≡◌};
 ghost use Rattle.std.specs.Ordering.{ordering_then};
 ghost use Rattle.ciborium_value.specs.Tree.{integer};
-ghost use Rattle.ciborium_value.specs.Canonical.{int_place, int_number, place, number, head_cmp, text_cmp, all_cmp, each_cmp, length_first, canonical, canonical_cmp};
+ghost use Rattle.ciborium_value.specs.Canonical.{length_first, canonical, canonical_cmp};
+ghost use Rattle.ciborium_value.specs.Facts.Heads.{int_place, int_number, place, number, head_cmp, heads_cmp, all_cmp, each_cmp};
 ghost use Rattle.ciborium_value.specs.View.{number_of, view, views, view_pairs};
 
 use crate::integer::Integer;
@@ -57,7 +58,7 @@ fn cmp_heads(a: &Value, b: &Value) -> Ordering
 /// The order of the encodings' bytes.
 #[cycle(texts)]
 fn cmp_texts(a: &Value, b: &Value) -> Ordering
-    ensures { result ≡ text_cmp (view a.now) (view b.now) }
+    ensures { result ≡ heads_cmp (view a.now) (view b.now) }
 {
     match cmp_heads(a, b) {
         Ordering::Equal => match a {
@@ -119,8 +120,8 @@ fn cmp_entries(a: &[(Value, Value)], b: &[(Value, Value)]) -> Ordering
 /// The order of the entries' keys, and then of their values.
 #[cycle(texts)]
 fn cmp_entry(a: &(Value, Value), b: &(Value, Value)) -> Ordering
-    ensures { result ≡ ordering_then (text_cmp (view a.now.0) (view b.now.0))
-        (text_cmp (view a.now.1) (view b.now.1)) }
+    ensures { result ≡ ordering_then (heads_cmp (view a.now.0) (view b.now.0))
+        (heads_cmp (view a.now.1) (view b.now.1)) }
 {
     match cmp_texts(&a.0, &b.0) {
         Ordering::Equal => cmp_texts(&a.1, &b.1),
@@ -132,8 +133,8 @@ fn cmp_entry(a: &(Value, Value), b: &(Value, Value)) -> Ordering
 /// then byte by byte (RFC 8949, section 4.2.3). Nothing is encoded and no memory is taken: one pass
 /// finds each length, and one more compares.
 pub fn cmp_value(v1: &Value, v2: &Value) -> Ordering
-    ensures by_trees { result ≡ canonical_cmp (view v1.now) (view v2.now) }
     ensures by_texts { result ≡ canonical (view v1.now) (view v2.now) }
+    ensures total { result ≡ canonical_cmp (view v1.now) (view v2.now) }
 {
     match encoded_len(v1).cmp(&encoded_len(v2)) {
         Ordering::Equal => cmp_texts(v1, v2),

@@ -5,7 +5,7 @@ use Rattle.ciborium_ll.specs.declared.hdr.Header.{Header}
 use Rattle.ciborium_ll.specs.declared.hdr.Header.TheVariants.{Bytes, Text}
 use Rattle.ciborium_ll.specs.Title.{Begins, StartsBad}
 use Rattle.ciborium_ll.specs.Framing.{Any, Opened, opened, deeper}
-use Rattle.ciborium.specs.Damage.{Fault, end, deep, syntax, semantic, Damage, in_title, in_bytes, in_text, unassigned, stray_break, too_negative, too_deep, in_child, in_tag, in_free, TitleDamage, ChunkDamage, StringDamage}
+use Rattle.ciborium.specs.Damage.{Fault, end, Damage, in_title, in_bytes, in_text, unassigned, stray_break, too_negative, too_deep, in_child, in_free, TitleDamage, cut_title, bad_title, ChunkDamage, cut_body, bad_body, StringDamage}
 use Rattle.ciborium.proofs.StringLemmas.{title_some}
 
 begins_some : (b : List ℕ) (h : Header) (r : List ℕ) → Begins b h r → b ≡ [] → ⊥
@@ -20,16 +20,12 @@ opened_some k P _ _ _ (opened title inner xs t fs) = let s = title_some title (k
 opened_some k P _ _ _ (deeper n b title inner xs ys o t fs) = let s = opened_some k P n b xs o in omega (arith, length-append b (title ++ inner))
 
 title_end : (stop : ℕ) (b : List ℕ) (f : Fault) → TitleDamage stop b f → b ≡ [] → f ≡ end
-title_end stop b end d e = refl
-title_end stop b deep d e = absurd d
-title_end stop b (syntax p) d e = absurd (subst StartsBad e d.0)
-title_end stop b (semantic k) d e = absurd d
+title_end stop b _ (cut_title c) e = refl
+title_end stop b _ (bad_title p c _) e = absurd (subst StartsBad e c)
 
 chunk_none : (k : Option ℕ → Header) (P : List ℕ → Type 0) (stop : ℕ) (b : List ℕ) (f : Fault) → ChunkDamage k P stop b f → b ≡ [] → ⊥
-chunk_none k P stop b end d e = begins_some b (k (Some d.0)) d.1 d.2 e
-chunk_none k P stop b deep d e = d
-chunk_none k P stop b (syntax p) d e = begins_some b (k (Some d.0)) d.1 d.2 e
-chunk_none k P stop b (semantic j) d e = d
+chunk_none k P stop b _ (cut_body n rest s _) e = begins_some b (k (Some n)) rest s e
+chunk_none k P stop b _ (bad_body n p rest s _ _) e = begins_some b (k (Some n)) rest s e
 
 string_none : (k : Option ℕ → Header) (P : List ℕ → Type 0) (stop : ℕ) (b : List ℕ) (f : Fault) → StringDamage k P stop b f → b ≡ [] → ⊥
 string_none k P stop b f (inl d) e = chunk_none k P stop b f d e
@@ -48,7 +44,6 @@ damage_end stop _ _ _ (stray_break b rest limit s) e = absurd (begins_some b _ r
 damage_end stop _ _ _ (too_negative b inside inner rest limit bodies s fr w n) e = absurd (begins_some b _ inside s e)
 damage_end stop _ _ _ (too_deep b rest h s o) e = absurd (begins_some b h rest s e)
 damage_end stop _ _ _ (in_child b inside rest limit h done f s l fs due d) e = absurd (begins_some b h inside s e)
-damage_end stop _ _ _ (in_tag b inside limit n f s l lev d) e = absurd (begins_some b _ inside s e)
 damage_end stop _ _ _ (in_free b inside limit n f s free d) e = absurd (begins_some b _ inside s e)
 
 pub empty_damage : (stop limit : ℕ) (f : Fault) → Damage stop [] limit f → f ≡ end

@@ -1,7 +1,6 @@
 -- The tags that the gate tells apart.
 use Rattle.std.proofs.Common.{◌≡◌, ◌≢◌, inl, inr, ℕ, List, [], ◌∷◌, Option, Some, None, Bool, true, false, cond, pos, refl, sym, ap, ◌∙◌, nat_eq}
 use Rattle.std.specs.Prelude.{MatchBool}
-use Rattle.cose_iana.specs.Registry.{number_of as registered_number}
 use Rattle.cose_iana.specs.Tags.{cbor_tags}
 use Rattle.cose_iana.specs.declared.tags.CborTag.TheVariants.{CoseEncrypt0, CoseEncrypt}
 use Rattle.cose_gate_core.specs.Questions.{number_of}
@@ -44,11 +43,11 @@ not_both n e (k, is) =
 
 -- the tags of encrypted messages in the registry
 encrypt0_number : cbor_tags.number CoseEncrypt0 ≡ pos 16
-unfolding cbor_tags registered_number
+unfolding cbor_tags
 encrypt0_number = refl
 
 encrypt_number : cbor_tags.number CoseEncrypt ≡ pos 96
-unfolding cbor_tags registered_number
+unfolding cbor_tags
 encrypt_number = refl
 
 pub encrypt0_is : (n : ℕ) → pos n ≡ cbor_tags.number CoseEncrypt0 → IsEncryptedTag n

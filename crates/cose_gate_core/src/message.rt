@@ -1,6 +1,6 @@
 //! Messages of the kinds that are judged.
 ghost use Rattle.std.specs.Prelude.{◌≡◌, Some, None, MatchBool, MatchResult, IfOk, OnOk, OnErr};
-ghost use Rattle.ciborium_traits.specs.Events.{events, AllAdded, Stopped};
+ghost use Rattle.ciborium_traits.specs.Events.{events, Puts, Stops};
 ghost use Rattle.ciborium_value.specs.View.{view};
 ghost use Rattle.coset_labels.specs.Faults.{OrMemory};
 ghost use Rattle.cose_gate_core.specs.Asked.{asked, first_no, folded_over, ToldPart};
@@ -80,8 +80,8 @@ pub trait Message: Drop + Sized {
     /// The sink's; it took a beginning of the events then, and refused the next.
     fn put<S: Sink>(&self, to: &mut S) -> Result<(), S::Error>
         requires { AsReceived (message self.now) }
-        ensures ok { OnOk result (AllAdded S.adds to.old
+        ensures ok { OnOk result (Puts S.due to.old
             (events (tagged_put (message self.now))) to.new) }
-        ensures err { OnErr result (Stopped S.adds S.refuses to.old
+        ensures err { OnErr result (Stops S.due S.torn to.old
             (events (tagged_put (message self.now))) to.new) };
 }

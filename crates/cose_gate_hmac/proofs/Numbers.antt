@@ -3,7 +3,7 @@ use Rattle.std.proofs.Common.{◌||◌, ◌⊎◌, ◌≡◌, ◌≢◌, ℤ, po
 use Rattle.std.proofs.lemmas.Bool.{cases_Bool}
 use Rattle.std.proofs.lemmas.Bool.Decides.{Decides-int_eq}
 use Rattle.std.specs.Ordering.{int_eq}
-use Rattle.cose_iana.specs.Registry.{Registry, number_of}
+use Rattle.cose_iana.specs.Registry.{Registry}
 use Rattle.cose_iana.specs.Algorithms.{algorithms}
 use Rattle.cose_iana.specs.Headers.{header_parameters}
 use Rattle.cose_iana.specs.Keys.{key_types, key_operations}
@@ -33,27 +33,27 @@ no_number r i x y n other = elim (cases_Bool (int_eq (r.number x) i)) [
 ]
 
 pub hmac_number : algorithms.number algorithm.HMAC_256_256 ≡ pos 5
-unfolding algorithms number_of
+unfolding algorithms
 hmac_number = refl
 
 pub symmetric_number : key_types.number key_type.Symmetric ≡ pos 4
-unfolding key_types number_of
+unfolding key_types
 symmetric_number = refl
 
 pub verify_number : key_operations.number operation.MacVerify ≡ pos 10
-unfolding key_operations number_of
+unfolding key_operations
 verify_number = refl
 
 alg_number : header_parameters.number parameter.Alg ≡ pos 1
-unfolding header_parameters number_of
+unfolding header_parameters
 alg_number = refl
 
 crit_number : header_parameters.number parameter.Crit ≡ pos 2
-unfolding header_parameters number_of
+unfolding header_parameters
 crit_number = refl
 
 kid_number : header_parameters.number parameter.Kid ≡ pos 4
-unfolding header_parameters number_of
+unfolding header_parameters
 kid_number = refl
 
 -- a name that is an entry, and whether it is that one

@@ -15,7 +15,8 @@ use Rattle.coset_labels.specs.Fields.{LabelFields, number, words, Named, private
 use Rattle.coset_labels.specs.Faults.{CoseFault, out_of_range, unexpected, unregistered, unregistered_private}
 use Rattle.coset_labels.specs.Kinds.{some_bytes, WrongBytes}
 use Rattle.coset_labels.specs.Labels.{is_i64, label_of, WrongLabel, registered_of, registered_number, WrongRegistered, named_of, named_number, WrongNamed}
-use Rattle.coset_labels.specs.Orders.{label_cmp, labels_same}
+use Rattle.coset_labels.specs.Orders.{label_cmp}
+use Rattle.coset_labels.specs.Facts.Orders.{labels_same}
 use Rattle.coset_headers.specs.Fields.{Plain}
 use Rattle.coset_headers.specs.Headers.{is_at, is_core, alg_of, parameter_of, parameters_of, crit_of, is_slash, format_of, HasContentType, IsIn}
 use Rattle.coset_headers.specs.Parts.{Fills, fills_alg, fills_crit, fills_content_type, fills_key_id, fills_iv, fills_partial_iv, fills_rest}

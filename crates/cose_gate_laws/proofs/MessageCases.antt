@@ -4,7 +4,7 @@ use Rattle.std.proofs.lemmas.Bool.{cases_eq}
 use Rattle.ciborium_value.specs.Tree.{Tree, integer, bytes, text, array, map as map_tree, tag, simple, float, Trees, no_trees, one_more, tree_count, is_bytes}
 use Rattle.ciborium_value.specs.View.{trees}
 use Rattle.coset_labels.specs.Faults.{CoseFault, unexpected}
-use Rattle.coset_labels.specs.Kinds.{is_array}
+use Rattle.ciborium_value.specs.Kinds.{is_array}
 use Rattle.coset_headers.specs.Fields.{HeaderFields, ProtectedFields, SignatureFields, signatures, Signatures, no_signatures, signature_more}
 use Rattle.coset_headers.specs.Headers.{HasSignatures}
 use Rattle.coset_headers.specs.Weight.{weight, weight_all}

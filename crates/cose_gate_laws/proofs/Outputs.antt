@@ -3,7 +3,7 @@ use Rattle.std.proofs.Common.{◌≡◌, ℕ, ◌+◌, ◌^◌, ◌<◌, ◌⊎�
 use Rattle.std.specs.Prelude.{All}
 use Rattle.ciborium_value.specs.Tree.{Tree}
 use Rattle.ciborium_value.specs.Encoding.{enc}
-use Rattle.ciborium.specs.Damage.{end, in_title}
+use Rattle.ciborium.specs.Damage.{end, in_title, cut_title}
 use Rattle.ciborium.specs.Front.{Reads}
 use Rattle.ciborium.specs.Items.{Item, ItemsWithin, SequenceWithin, item_at}
 use Rattle.ciborium.proofs.Excludes.{excludes}
@@ -79,4 +79,4 @@ module _ (l : Bounds) (allows : Question → Bool) (aad : List ℕ) where
       let t = run_told l allows aad at b ss rest r in
       let size = ap length t.whole in
       let o = output 0 ss t.all (before b (bytes_of ss) rest t.whole low) (omega (arith, size, few, length-append (bytes_of ss) rest)) in
-      (o.items, record { sequence = o.sequence; ends = λ v more f. excludes 0 [] l.nesting end (in_title [] l.nesting end tt) v more f }, o.are)
+      (o.items, record { sequence = o.sequence; ends = λ v more f. excludes 0 [] l.nesting end (in_title [] l.nesting end (cut_title tt)) v more f }, o.are)

@@ -12,7 +12,7 @@ use Rattle.ciborium.specs.declared.de.Error.{Error}
 use Rattle.ciborium.specs.declared.de.Error.TheVariants as de
 use Rattle.ciborium.specs.Damage.{Fault, end, deep, syntax, semantic, Damage, in_title, TitleDamage}
 use Rattle.ciborium.specs.Damaged.{Damaged}
-use Rattle.ciborium.specs.Reading.{Fails, FailsAt, EndPlace, IsLong, IfKnown, ReadsBehind, lifted}
+use Rattle.ciborium.specs.Reading.{Fails, FailsAt, EndPlace, IsLong, IfKnown, ReadsAfterTitle, lifted}
 use Rattle.ciborium.specs.Front.{Reads, Front}
 use Rattle.ciborium.proofs.ReadLemmas.{item_read}
 use Rattle.ciborium.proofs.ChildLemmas.{title_no_break, begun_no_break}
@@ -182,7 +182,7 @@ fresh_due (Some b) w e = ap (due (Some b)) e
 
 -- an item whose title was put back, as if it had not been
 pub put_back : (n : ℕ) (l₀ l₁ l₂ l₃ : Option (List ℕ)) (o₀ o₁ o₂ o₃ : ℕ) (h : Header) (v : Tree) → Moves l₀ l₁ o₀ o₁ (λ (b : List ℕ). Title b h) → l₁ ≡ l₂ → o₂ + length (title_of h) ≡ o₁
-    → Moves l₂ l₃ (o₂ + length (title_of h)) o₃ (ReadsBehind h n v) → Moves l₀ l₃ o₀ o₃ (λ (b : List ℕ). Reads b n v)
+    → Moves l₂ l₃ (o₂ + length (title_of h)) o₃ (ReadsAfterTitle h n v) → Moves l₀ l₃ o₀ o₃ (λ (b : List ℕ). Reads b n v)
 put_back n l₀ l₁ l₂ l₃ o₀ o₁ o₂ o₃ h v t e p r =
     item_read l₀ l₂ l₃ o₀ (o₂ + length (title_of h)) o₃ n v h (subst (λ (z : Option (List ℕ)). Moves l₀ z o₀ (o₂ + length (title_of h)) (λ (b : List ℕ). Title b h)) e (subst (λ (z : ℕ). Moves l₀ l₁ o₀ z (λ (b : List ℕ). Title b h)) (sym p) t)) r
 

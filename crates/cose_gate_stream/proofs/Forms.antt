@@ -6,7 +6,7 @@ use Rattle.coset_headers.specs.Fields.{HeaderFields, ProtectedFields, protected}
 use Rattle.coset_headers.specs.Headers.{HasProtected, HasHeader}
 use Rattle.coset_headers.specs.Written.{shown}
 use Rattle.coset_labels.specs.Faults.{CoseFault, unexpected}
-use Rattle.coset_labels.specs.Kinds.{is_array}
+use Rattle.ciborium_value.specs.Kinds.{is_array}
 use Rattle.cose_gate_core.specs.WrongParts.{WrongParts}
 use Rattle.cose_gate_core.specs.WrongParts as whole
 use Rattle.cose_gate_core.specs.WrongSigned.{WrongSign1}

@@ -7,13 +7,13 @@ use Rattle.ciborium_ll.specs.Reading.{Moves}
 use Rattle.ciborium_value.specs.Tree.{Tree, integer, bytes, text, array, map, tag, simple, float, Trees, no_trees, one_more, tree_count, is_bytes}
 use Rattle.ciborium.specs.Spelling.{Spells, SpellsAll}
 use Rattle.ciborium.specs.Meaning.{meaning, meanings}
-use Rattle.ciborium.specs.Damage.{in_title, in_tag}
+use Rattle.ciborium.specs.Damage.{in_title}
 use Rattle.ciborium.proofs.Once.{title_once, regroup}
 use Rattle.ciborium.proofs.OtherDamage.{damaged_by}
 use Rattle.ciborium.proofs.Parts.{Stands, tag_parts, kind_at, head_bytes}
 use Rattle.ciborium.proofs.ReadLemmas.{meanings_parts}
 use Rattle.ciborium.proofs.ChildLemmas.{all_count, title_no_break}
-use Rattle.ciborium.proofs.TagLemmas.{bytes_meant}
+use Rattle.ciborium.proofs.TagLemmas.{bytes_meant, in_tag}
 use Rattle.coset_labels.specs.Faults.{CoseFault, unexpected}
 use Rattle.cose_gate_core.specs.PartsWritten.{optional_tree}
 use Rattle.cose_gate_core.specs.WrongParts.{in_content}
@@ -151,7 +151,7 @@ module _ (limits : Bounds) (f : Form) (o : Option ℕ) (a b : Tree) (first : IsP
 
   size_fault : 2 ≤ limits.nesting → (stop : ℕ) (x rest : List ℕ) (w : Why) → Within limits f o (one_more a (one_more b no_trees)) x → SizeFault stop rest w → UnstreamedBy limits stop (x ++ rest) w
   size_fault least stop x rest (damaged e) w d =
-      damaged_by stop (x ++ rest) limits.nesting e (within_damage limits least stop f o (one_more a (one_more b no_trees)) x rest e w (four_due o 2 rest w.is_four (omega arith) (title_no_break stop rest e d)) (in_title rest (limits.nesting - 2) e d))
+      damaged_by stop (x ++ rest) limits.nesting e (within_damage limits least stop f o (one_more a (one_more b no_trees)) x rest e w (four_due o (one_more a (one_more b no_trees)) rest w.is_four (omega arith) (title_no_break stop rest e d)) (in_title rest (limits.nesting - 2) e d))
   size_fault least stop x rest untagged w d = absurd d
   size_fault least stop x rest (tagged n) w d = absurd d
   size_fault least stop x rest (shape e) w (is, d) = (

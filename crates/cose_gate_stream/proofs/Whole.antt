@@ -8,7 +8,7 @@ use Rattle.ciborium_ll.specs.Framing.{whole as whole_frame}
 use Rattle.ciborium_ll.specs.Reading.{Moves}
 use Rattle.ciborium_value.specs.Tree.{Tree, bytes, array, tag, Trees, no_trees, one_more, tree_count}
 use Rattle.ciborium.specs.Front.{Reads, ReadsAll}
-use Rattle.ciborium.specs.Reading.{ChildrenBehind}
+use Rattle.ciborium.specs.Reading.{ChildrenAfterHead}
 use Rattle.ciborium.proofs.Once.{append_nil}
 use Rattle.ciborium.proofs.Taking.{takes_then}
 use Rattle.ciborium.specs.Frames.{snoc}
@@ -117,7 +117,7 @@ module _ (limits : Bounds) where
       reads : ReadsAll w.inner ((limits.nesting - 1) - 1) vs
       reads = subst (λ (z : ℕ). ReadsAll w.inner z vs) (let e : limits.nesting - 2 ≡ (limits.nesting - 1) - 1 = omega arith in e) w.reads
 
-      children : (o : Option ℕ) → IsFour o → ChildrenBehind o 4 ((limits.nesting - 1) - 1) vs (w.inner ++ closing o)
+      children : (o : Option ℕ) → IsFour o → ChildrenAfterHead o 4 ((limits.nesting - 1) - 1) vs (w.inner ++ closing o)
       children None e = (w.inner, reads, refl)
       children (Some n) e = (e, subst (λ (z : List ℕ). ReadsAll z ((limits.nesting - 1) - 1) vs) (append_nil w.inner) reads)
 

@@ -12,11 +12,12 @@ use Rattle.ciborium.specs.Spelling.{SpellsAll}
 use Rattle.ciborium.specs.Meaning.{meaning, meanings}
 use Rattle.ciborium.specs.Front.{Front, ReadsAll}
 use Rattle.ciborium.specs.Reading.{IfKnown}
-use Rattle.ciborium.specs.Damage.{Fault, end, deep, syntax, semantic, Damage, in_title, in_bytes, in_tag, in_child, Due}
+use Rattle.ciborium.specs.Damage.{Fault, end, deep, syntax, semantic, Damage, in_title, in_bytes, cut_body, in_child, Due, in_array, in_open_array}
 use Rattle.ciborium.proofs.Once.{once, no_break, regroup}
 use Rattle.ciborium.proofs.OtherDamage.{damaged_by, damaged_as}
 use Rattle.ciborium.proofs.Parts.{Held, tag_parts}
 use Rattle.ciborium.proofs.ReadLemmas.{meanings_parts}
+use Rattle.ciborium.proofs.TagLemmas.{in_tag}
 use Rattle.ciborium.proofs.ChildLemmas.{all_count, title_no_break, begun_no_break}
 use Rattle.coset_labels.specs.Faults.{CoseFault, unexpected}
 use Rattle.coset_headers.specs.Wrong.{WrongProtected, WrongHeader}
@@ -46,9 +47,9 @@ pub record Left (f : Form) (o : Option ℕ) (done : Trees) (rest : List ℕ) (t 
   pub closed : o ≡ None → (r : List ℕ) × (behind ≡ 255 ∷ r)
   pub counted : (o ≡ None) ⊎ (tree_count (append done means) ≡ 4)
 
-pub four_due : (o : Option ℕ) (n : ℕ) (rest : List ℕ) → IsFour o → n < 4 → NoBreak rest → Due (Array o) n rest
-four_due None n rest f l not = not
-four_due (Some k) n rest f l not = omega arith
+pub four_due : (o : Option ℕ) (done : Trees) (rest : List ℕ) → IsFour o → tree_count done < 4 → NoBreak rest → Due done rest (Array o)
+four_due None done rest f l not = in_open_array not
+four_due (Some k) done rest f l not = in_array k (omega arith)
 
 pub four_or : (n : ℕ) → (n ≡ 4) ⊎ (n ≢ 4)
 four_or n = go (nat_eq n 4) refl
@@ -71,7 +72,7 @@ pub record Place (limits : Bounds) (f : Form) (done : Trees) (W : CoseFault → 
 short_fault : (k n stop : ℕ) (x rest : List ℕ) (w : Why) → Title x (Bytes (Some n)) → ShortFault n rest w → PartFault k NoneWrong stop (x ++ rest) w
 short_fault k n stop x rest (damaged end) t d =
     let s : Begins (x ++ rest) (Bytes (Some n)) rest = record { title = x; is_title = t; whole = refl } in
-    (begun_no_break (Bytes (Some n)) (x ++ rest) rest s (λ e. cc), in_bytes (x ++ rest) k end (inl (n, rest, s, d)))
+    (begun_no_break (Bytes (Some n)) (x ++ rest) rest s (λ e. cc), in_bytes (x ++ rest) k end (inl (cut_body n rest s d)))
 short_fault k n stop x rest (damaged deep) t d = absurd d
 short_fault k n stop x rest (damaged (syntax p)) t d = absurd d
 short_fault k n stop x rest (damaged (semantic s)) t d = absurd d
@@ -140,7 +141,7 @@ module _ (limits : Bounds) where
   }
 
   -- damage after the elements that are read
-  pub within_damage : 2 ≤ limits.nesting → (stop : ℕ) (f : Form) (o : Option ℕ) (done : Trees) (x rest : List ℕ) (e : Fault) → Within limits f o done x → Due (Array o) (tree_count done) rest
+  pub within_damage : 2 ≤ limits.nesting → (stop : ℕ) (f : Form) (o : Option ℕ) (done : Trees) (x rest : List ℕ) (e : Fault) → Within limits f o done x → Due done rest (Array o)
       → Damage stop rest (limits.nesting - 2) e → Damage stop (x ++ rest) limits.nesting e
   within_damage least stop f o done x rest e w due d =
       let n = limits.nesting in
@@ -256,7 +257,7 @@ module _ (limits : Bounds) where
   part_fault : 2 ≤ limits.nesting → (f : Form) (o : Option ℕ) (done : Trees) (W : CoseFault → Tree → Type 0) → tree_count done < 4 → Place limits f done W
       → (stop : ℕ) (x rest : List ℕ) (w : Why) → Within limits f o done x → PartFault (limits.nesting - 2) W stop rest w → UnstreamedBy limits stop (x ++ rest) w
   part_fault least f o done W few place stop x rest (damaged e) w d =
-      damaged_as stop rest (x ++ rest) (limits.nesting - 2) limits.nesting e (λ g b. within_damage least stop f o done x rest g w (four_due o (tree_count done) rest w.is_four few d.0) b) d.1
+      damaged_as stop rest (x ++ rest) (limits.nesting - 2) limits.nesting e (λ g b. within_damage least stop f o done x rest g w (four_due o done rest w.is_four few d.0) b) d.1
   part_fault least f o done W few place stop x rest untagged w d = absurd d
   part_fault least f o done W few place stop x rest (tagged n) w d = absurd d
   part_fault least f o done W few place stop x rest (shape e) w (inl (u, (r, b))) = (
@@ -318,7 +319,7 @@ module _ (limits : Bounds) where
   close_fault : 2 ≤ limits.nesting → (f : Form) (o : Option ℕ) (done : Trees) → AreInPlace limits done → o ≡ None → tree_count done ≡ 4 → (stop : ℕ) (x rest : List ℕ) (w : Why) → Within limits f o done x → CloseFault stop rest w
       → UnstreamedBy limits stop (x ++ rest) w
   close_fault least f o done right unsized four stop x rest (damaged e) w d =
-      damaged_by stop (x ++ rest) limits.nesting e (within_damage least stop f o done x rest e w (subst (λ (z : Option ℕ). Due (Array z) (tree_count done) rest) (sym unsized) (title_no_break stop rest e d)) (in_title rest (limits.nesting - 2) e d))
+      damaged_by stop (x ++ rest) limits.nesting e (within_damage least stop f o done x rest e w (subst (λ (z : Option ℕ). Due done rest (Array z)) (sym unsized) (in_open_array (title_no_break stop rest e d))) (in_title rest (limits.nesting - 2) e d))
   close_fault least f o done right unsized four stop x rest untagged w d = absurd d
   close_fault least f o done right unsized four stop x rest (tagged n) w d = absurd d
   close_fault least f o done right unsized four stop x rest (shape e) w (u, d) = (

@@ -1,7 +1,5 @@
--- Labels of keys of one type. The tables are in src/key_parameters.rt.
-use Rattle.std.specs.Prelude.{◌≡◌, refl}
-use Rattle.std.specs.Ordering.{int_cmp}
-use Rattle.std.specs.declared.cmp.Ordering.TheVariants.{Equal}
+-- Labels of keys of one type.
+use Rattle.std.specs.Prelude.{ℤ, List, [], ◌∷◌, refl}
 use Rattle.cose_iana.specs.declared.key_parameters.OkpKeyParameter.{OkpKeyParameter}
 use Rattle.cose_iana.specs.contracts.key_parameters.OkpKeyParameter.{enum as okp_key_parameters_enum}
 use Rattle.cose_iana.specs.declared.key_parameters.Ec2KeyParameter.{Ec2KeyParameter}
@@ -9,75 +7,76 @@ use Rattle.cose_iana.specs.contracts.key_parameters.Ec2KeyParameter.{enum as ec2
 use Rattle.cose_iana.specs.declared.key_parameters.RsaKeyParameter.{RsaKeyParameter}
 use Rattle.cose_iana.specs.contracts.key_parameters.RsaKeyParameter.{enum as rsa_key_parameters_enum}
 use Rattle.cose_iana.specs.declared.key_parameters.SymmetricKeyParameter.{SymmetricKeyParameter}
-use Rattle.cose_iana.specs.declared.key_parameters.SymmetricKeyParameter.TheVariants as symmetric_key_parameters_entry
 use Rattle.cose_iana.specs.contracts.key_parameters.SymmetricKeyParameter.{enum as symmetric_key_parameters_enum}
 use Rattle.cose_iana.specs.declared.key_parameters.HssLmsKeyParameter.{HssLmsKeyParameter}
-use Rattle.cose_iana.specs.declared.key_parameters.HssLmsKeyParameter.TheVariants as hss_lms_key_parameters_entry
 use Rattle.cose_iana.specs.contracts.key_parameters.HssLmsKeyParameter.{enum as hss_lms_key_parameters_enum}
 use Rattle.cose_iana.specs.declared.key_parameters.WalnutDsaKeyParameter.{WalnutDsaKeyParameter}
 use Rattle.cose_iana.specs.contracts.key_parameters.WalnutDsaKeyParameter.{enum as walnut_dsa_key_parameters_enum}
 use Rattle.cose_iana.specs.declared.key_parameters.AkpKeyParameter.{AkpKeyParameter}
 use Rattle.cose_iana.specs.contracts.key_parameters.AkpKeyParameter.{enum as akp_key_parameters_enum}
-use Rattle.cose_iana.specs.declared.key_parameters.TheConstants.{OKP_KEY_PARAMETERS, EC2_KEY_PARAMETERS, RSA_KEY_PARAMETERS, SYMMETRIC_KEY_PARAMETERS, HSS_LMS_KEY_PARAMETERS, WALNUT_DSA_KEY_PARAMETERS, AKP_KEY_PARAMETERS}
-use Rattle.cose_iana.specs.Registry.{Registry}
-use Rattle.cose_iana.specs.Table.{registry, InOrder, in_order}
+use Rattle.cose_iana.specs.Registry.{neg, Registry}
+use Rattle.cose_iana.specs.Listed.{registry}
 
 -- Labels of keys of the type OKP, from the registry "COSE Key Type Parameters" (RFC 9053, section
 -- 7.2).
-unfoldable pub okp_key_parameters : Registry OkpKeyParameter
-okp_key_parameters = registry okp_key_parameters_enum tt OKP_KEY_PARAMETERS.now refl
+abbrev pub registered_okp_key_parameters : List (OkpKeyParameter × ℤ)
+registered_okp_key_parameters =
+    (OkpKeyParameter.D, neg 4) ∷ (OkpKeyParameter.X, neg 2) ∷ (OkpKeyParameter.Crv, neg 1) ∷ []
 
-pub okp_key_parameters_in_order : InOrder okp_key_parameters_enum OKP_KEY_PARAMETERS.now okp_key_parameters
-unfolding okp_key_parameters
-okp_key_parameters_in_order = in_order okp_key_parameters_enum tt OKP_KEY_PARAMETERS.now refl
+unfoldable pub okp_key_parameters : Registry OkpKeyParameter
+okp_key_parameters = registry okp_key_parameters_enum tt registered_okp_key_parameters refl
 
 -- Labels of keys of the type EC2, from the registry "COSE Key Type Parameters" (RFC 9053, section
 -- 7.1.1).
-unfoldable pub ec2_key_parameters : Registry Ec2KeyParameter
-ec2_key_parameters = registry ec2_key_parameters_enum tt EC2_KEY_PARAMETERS.now refl
+abbrev pub registered_ec2_key_parameters : List (Ec2KeyParameter × ℤ)
+registered_ec2_key_parameters =
+    (Ec2KeyParameter.D, neg 4) ∷ (Ec2KeyParameter.Y, neg 3) ∷ (Ec2KeyParameter.X, neg 2) ∷
+    (Ec2KeyParameter.Crv, neg 1) ∷ []
 
-pub ec2_key_parameters_in_order : InOrder ec2_key_parameters_enum EC2_KEY_PARAMETERS.now ec2_key_parameters
-unfolding ec2_key_parameters
-ec2_key_parameters_in_order = in_order ec2_key_parameters_enum tt EC2_KEY_PARAMETERS.now refl
+unfoldable pub ec2_key_parameters : Registry Ec2KeyParameter
+ec2_key_parameters = registry ec2_key_parameters_enum tt registered_ec2_key_parameters refl
 
 -- Labels of keys of the type RSA, from the registry "COSE Key Type Parameters" (RFC 8230).
-unfoldable pub rsa_key_parameters : Registry RsaKeyParameter
-rsa_key_parameters = registry rsa_key_parameters_enum tt RSA_KEY_PARAMETERS.now refl
+abbrev pub registered_rsa_key_parameters : List (RsaKeyParameter × ℤ)
+registered_rsa_key_parameters =
+    (RsaKeyParameter.TI, neg 12) ∷ (RsaKeyParameter.DI, neg 11) ∷ (RsaKeyParameter.RI, neg 10) ∷
+    (RsaKeyParameter.Other, neg 9) ∷ (RsaKeyParameter.QInv, neg 8) ∷ (RsaKeyParameter.DQ, neg 7) ∷
+    (RsaKeyParameter.DP, neg 6) ∷ (RsaKeyParameter.Q, neg 5) ∷ (RsaKeyParameter.P, neg 4) ∷
+    (RsaKeyParameter.D, neg 3) ∷ (RsaKeyParameter.E, neg 2) ∷ (RsaKeyParameter.N, neg 1) ∷ []
 
-pub rsa_key_parameters_in_order : InOrder rsa_key_parameters_enum RSA_KEY_PARAMETERS.now rsa_key_parameters
-unfolding rsa_key_parameters
-rsa_key_parameters_in_order = in_order rsa_key_parameters_enum tt RSA_KEY_PARAMETERS.now refl
+unfoldable pub rsa_key_parameters : Registry RsaKeyParameter
+rsa_key_parameters = registry rsa_key_parameters_enum tt registered_rsa_key_parameters refl
 
 -- Labels of symmetric keys, from the registry "COSE Key Type Parameters" (RFC 9053, section 7.3).
-unfoldable pub symmetric_key_parameters : Registry SymmetricKeyParameter
-symmetric_key_parameters = registry symmetric_key_parameters_enum tt SYMMETRIC_KEY_PARAMETERS.now refl
+abbrev pub registered_symmetric_key_parameters : List (SymmetricKeyParameter × ℤ)
+registered_symmetric_key_parameters =
+    (SymmetricKeyParameter.K, neg 1) ∷ []
 
--- of one entry the order is that it equals itself
-pub symmetric_key_parameters_in_order : (x y : SymmetricKeyParameter) → Equal ≡ int_cmp (symmetric_key_parameters.number x) (symmetric_key_parameters.number y)
-unfolding symmetric_key_parameters
-symmetric_key_parameters_in_order symmetric_key_parameters_entry.K symmetric_key_parameters_entry.K = refl
+unfoldable pub symmetric_key_parameters : Registry SymmetricKeyParameter
+symmetric_key_parameters = registry symmetric_key_parameters_enum tt registered_symmetric_key_parameters refl
 
 -- Labels of keys of the type HSS-LMS, from the registry "COSE Key Type Parameters" (RFC 8778).
-unfoldable pub hss_lms_key_parameters : Registry HssLmsKeyParameter
-hss_lms_key_parameters = registry hss_lms_key_parameters_enum tt HSS_LMS_KEY_PARAMETERS.now refl
+abbrev pub registered_hss_lms_key_parameters : List (HssLmsKeyParameter × ℤ)
+registered_hss_lms_key_parameters =
+    (HssLmsKeyParameter.Pub, neg 1) ∷ []
 
--- of one entry the order is that it equals itself
-pub hss_lms_key_parameters_in_order : (x y : HssLmsKeyParameter) → Equal ≡ int_cmp (hss_lms_key_parameters.number x) (hss_lms_key_parameters.number y)
-unfolding hss_lms_key_parameters
-hss_lms_key_parameters_in_order hss_lms_key_parameters_entry.Pub hss_lms_key_parameters_entry.Pub = refl
+unfoldable pub hss_lms_key_parameters : Registry HssLmsKeyParameter
+hss_lms_key_parameters = registry hss_lms_key_parameters_enum tt registered_hss_lms_key_parameters refl
 
 -- Labels of keys of the type WalnutDSA, from the registry "COSE Key Type Parameters" (RFC 9021).
-unfoldable pub walnut_dsa_key_parameters : Registry WalnutDsaKeyParameter
-walnut_dsa_key_parameters = registry walnut_dsa_key_parameters_enum tt WALNUT_DSA_KEY_PARAMETERS.now refl
+abbrev pub registered_walnut_dsa_key_parameters : List (WalnutDsaKeyParameter × ℤ)
+registered_walnut_dsa_key_parameters =
+    (WalnutDsaKeyParameter.Matrix2, neg 6) ∷ (WalnutDsaKeyParameter.Permutation1, neg 5) ∷
+    (WalnutDsaKeyParameter.Matrix1, neg 4) ∷ (WalnutDsaKeyParameter.TValues, neg 3) ∷
+    (WalnutDsaKeyParameter.Q, neg 2) ∷ (WalnutDsaKeyParameter.N, neg 1) ∷ []
 
-pub walnut_dsa_key_parameters_in_order : InOrder walnut_dsa_key_parameters_enum WALNUT_DSA_KEY_PARAMETERS.now walnut_dsa_key_parameters
-unfolding walnut_dsa_key_parameters
-walnut_dsa_key_parameters_in_order = in_order walnut_dsa_key_parameters_enum tt WALNUT_DSA_KEY_PARAMETERS.now refl
+unfoldable pub walnut_dsa_key_parameters : Registry WalnutDsaKeyParameter
+walnut_dsa_key_parameters = registry walnut_dsa_key_parameters_enum tt registered_walnut_dsa_key_parameters refl
 
 -- Labels of keys of the type AKP, from the registry "COSE Key Type Parameters".
-unfoldable pub akp_key_parameters : Registry AkpKeyParameter
-akp_key_parameters = registry akp_key_parameters_enum tt AKP_KEY_PARAMETERS.now refl
+abbrev pub registered_akp_key_parameters : List (AkpKeyParameter × ℤ)
+registered_akp_key_parameters =
+    (AkpKeyParameter.Priv, neg 2) ∷ (AkpKeyParameter.Pub, neg 1) ∷ []
 
-pub akp_key_parameters_in_order : InOrder akp_key_parameters_enum AKP_KEY_PARAMETERS.now akp_key_parameters
-unfolding akp_key_parameters
-akp_key_parameters_in_order = in_order akp_key_parameters_enum tt AKP_KEY_PARAMETERS.now refl
+unfoldable pub akp_key_parameters : Registry AkpKeyParameter
+akp_key_parameters = registry akp_key_parameters_enum tt registered_akp_key_parameters refl

@@ -1,5 +1,6 @@
 pub mod Registry
-pub mod Table
+pub mod Facts
+pub mod Listed
 pub mod Headers
 pub mod Algorithms
 pub mod Keys
@@ -7,3 +8,4 @@ pub mod KeyParameters
 pub mod Tags
 pub mod Formats
 pub mod Claims
+pub mod Laws

@@ -1,6 +1,7 @@
 //! Algorithms.
 ghost use Rattle.cose_iana.specs.Registry.{is_private_use};
-ghost use Rattle.cose_iana.specs.Algorithms.{algorithms, algorithms_in_order, algorithms_not_private};
+ghost use Rattle.cose_iana.specs.Algorithms.{algorithms};
+ghost use Rattle.cose_iana.specs.Laws.{algorithms_in_order, algorithms_not_private};
 
 use crate::number::{EnumI64, WithPrivateRange, entry_with, rows};
 
@@ -179,7 +180,7 @@ pub enum Algorithm {
 }
 
 /// Each entry, by rising numbers.
-static ALGORITHMS: &[(i64, Algorithm)] = rows![Algorithm:
+static ALGORITHMS: &[(Algorithm, i64)] = rows![Algorithm:
     RS1, AesCtr128, AesCtr192, AesCtr256, AesCbc128, AesCbc192, AesCbc256, ESB512, ESB384, ESB320,
     ESB256, WalnutDSA, RS512, RS384, RS256, Ed448, ESP512, ESP384, ML_DSA_87, ML_DSA_65, ML_DSA_44,
     ES256K, HSS_LMS, SHAKE256, SHA_512, SHA_384, RSAES_OAEP_SHA_512, RSAES_OAEP_SHA_256,

@@ -1,6 +1,7 @@
 //! Names of claims.
 ghost use Rattle.cose_iana.specs.Registry.{is_private_use};
-ghost use Rattle.cose_iana.specs.Claims.{cwt_claim_names, cwt_claim_names_in_order, cwt_claim_names_not_private};
+ghost use Rattle.cose_iana.specs.Claims.{cwt_claim_names};
+ghost use Rattle.cose_iana.specs.Laws.{cwt_claim_names_in_order, cwt_claim_names_not_private};
 
 use crate::number::{EnumI64, WithPrivateRange, entry_with, rows};
 
@@ -153,7 +154,7 @@ pub enum CwtClaimName {
 }
 
 /// Each entry, by rising numbers.
-static CWT_CLAIM_NAMES: &[(i64, CwtClaimName)] = rows![CwtClaimName:
+static CWT_CLAIM_NAMES: &[(CwtClaimName, i64)] = rows![CwtClaimName:
     GlobalPlatformComponents, Hcert, EuphNonce, EatMaroePrefix, EatFido, Reserved, Iss, Sub, Aud,
     Exp, Nbf, Iat, Cti, Cnf, Scope, Nonce, AceProfile, CNonce, Exi, UEID, SUEIDs, HardwareOemid,
     HardwareModel, HardwareVersion, Uptime, OemAuthorizedBoot, DebugStatus, Location, EatProfile,

@@ -1,5 +1,6 @@
 //! Types of contents.
-ghost use Rattle.cose_iana.specs.Formats.{coap_content_formats, coap_content_formats_in_order};
+ghost use Rattle.cose_iana.specs.Formats.{coap_content_formats};
+ghost use Rattle.cose_iana.specs.Laws.{coap_content_formats_in_order};
 
 use crate::number::{EnumI64, entry_with, rows};
 
@@ -168,7 +169,7 @@ pub enum CoapContentFormat {
 }
 
 /// Each entry, by rising numbers.
-static COAP_CONTENT_FORMATS: &[(i64, CoapContentFormat)] = rows![CoapContentFormat:
+static COAP_CONTENT_FORMATS: &[(CoapContentFormat, i64)] = rows![CoapContentFormat:
     TextPlainUtf8, CoseEncrypt0, CoseMac0, CoseSign1, AceCbor, ImageGif, ImageJpeg, ImagePng,
     LinkFormat, Xml, OctetStream, Exi, Json, JsonPatchJson, MergePatchJson, Cbor, Cwt,
     MultipartCore, CborSeq, EdhocCborSeq, CidEdhocCborSeq, CoseEncrypt, CoseMac, CoseSign, CoseKey,

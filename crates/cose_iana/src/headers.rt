@@ -1,6 +1,7 @@
 //! Labels of headers.
 ghost use Rattle.cose_iana.specs.Registry.{is_private_use};
-ghost use Rattle.cose_iana.specs.Headers.{header_parameters, header_parameters_in_order, header_parameters_not_private, header_algorithm_parameters, header_algorithm_parameters_in_order};
+ghost use Rattle.cose_iana.specs.Headers.{header_parameters, header_algorithm_parameters};
+ghost use Rattle.cose_iana.specs.Laws.{header_parameters_in_order, header_parameters_not_private, header_algorithm_parameters_in_order};
 
 use crate::number::{EnumI64, WithPrivateRange, entry_with, rows};
 
@@ -57,7 +58,7 @@ pub enum HeaderParameter {
 }
 
 /// Each entry, by rising numbers.
-static HEADER_PARAMETERS: &[(i64, HeaderParameter)] = rows![HeaderParameter:
+static HEADER_PARAMETERS: &[(HeaderParameter, i64)] = rows![HeaderParameter:
     Reserved, Alg, Crit, ContentType, Kid, Iv, PartialIv, CounterSignature, CounterSignature0,
     KidContext, CounterSignatureV2, CounterSignature0V2, KeyCwt, KeyCwtClaimsSet, CwtClaims,
     ObjectContentType, X5Bag, X5Chain, X5T, X5U, CuphNonce, CuphOwnerPubKey,
@@ -129,7 +130,7 @@ pub enum HeaderAlgorithmParameter {
 }
 
 /// Each entry, by rising numbers.
-static HEADER_ALGORITHM_PARAMETERS: &[(i64, HeaderAlgorithmParameter)] =
+static HEADER_ALGORITHM_PARAMETERS: &[(HeaderAlgorithmParameter, i64)] =
     rows![HeaderAlgorithmParameter:
     X5ChainSender, X5USender, X5TSender, PartyVOther, PartyVNonce, PartyVIdentity, PartyUOther,
     PartyUNonce, PartyUIdentity, Salt, StaticKeyId, StaticKey, EphemeralKey,

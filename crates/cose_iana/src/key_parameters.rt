@@ -1,5 +1,6 @@
 //! Labels of keys of one type.
-ghost use Rattle.cose_iana.specs.KeyParameters.{okp_key_parameters, okp_key_parameters_in_order, ec2_key_parameters, ec2_key_parameters_in_order, rsa_key_parameters, rsa_key_parameters_in_order, symmetric_key_parameters, symmetric_key_parameters_in_order, hss_lms_key_parameters, hss_lms_key_parameters_in_order, walnut_dsa_key_parameters, walnut_dsa_key_parameters_in_order, akp_key_parameters, akp_key_parameters_in_order};
+ghost use Rattle.cose_iana.specs.KeyParameters.{okp_key_parameters, ec2_key_parameters, rsa_key_parameters, symmetric_key_parameters, hss_lms_key_parameters, walnut_dsa_key_parameters, akp_key_parameters};
+ghost use Rattle.cose_iana.specs.Laws.{okp_key_parameters_in_order, ec2_key_parameters_in_order, rsa_key_parameters_in_order, symmetric_key_parameters_in_order, hss_lms_key_parameters_in_order, walnut_dsa_key_parameters_in_order, akp_key_parameters_in_order};
 
 use crate::number::{EnumI64, entry_with, rows};
 
@@ -16,7 +17,7 @@ pub enum OkpKeyParameter {
 }
 
 /// Each entry, by rising numbers.
-static OKP_KEY_PARAMETERS: &[(i64, OkpKeyParameter)] = rows![OkpKeyParameter: D, X, Crv];
+static OKP_KEY_PARAMETERS: &[(OkpKeyParameter, i64)] = rows![OkpKeyParameter: D, X, Crv];
 
 impl EnumI64 for OkpKeyParameter {
     ghost number = { okp_key_parameters.number };
@@ -56,7 +57,7 @@ pub enum Ec2KeyParameter {
 }
 
 /// Each entry, by rising numbers.
-static EC2_KEY_PARAMETERS: &[(i64, Ec2KeyParameter)] = rows![Ec2KeyParameter: D, Y, X, Crv];
+static EC2_KEY_PARAMETERS: &[(Ec2KeyParameter, i64)] = rows![Ec2KeyParameter: D, Y, X, Crv];
 
 impl EnumI64 for Ec2KeyParameter {
     ghost number = { ec2_key_parameters.number };
@@ -111,7 +112,7 @@ pub enum RsaKeyParameter {
 }
 
 /// Each entry, by rising numbers.
-static RSA_KEY_PARAMETERS: &[(i64, RsaKeyParameter)] = rows![RsaKeyParameter:
+static RSA_KEY_PARAMETERS: &[(RsaKeyParameter, i64)] = rows![RsaKeyParameter:
     TI, DI, RI, Other, QInv, DQ, DP, Q, P, D, E, N,
 ];
 
@@ -146,7 +147,7 @@ pub enum SymmetricKeyParameter {
 }
 
 /// Each entry, by rising numbers.
-static SYMMETRIC_KEY_PARAMETERS: &[(i64, SymmetricKeyParameter)] = rows![SymmetricKeyParameter: K];
+static SYMMETRIC_KEY_PARAMETERS: &[(SymmetricKeyParameter, i64)] = rows![SymmetricKeyParameter: K];
 
 impl EnumI64 for SymmetricKeyParameter {
     ghost number = { symmetric_key_parameters.number };
@@ -179,7 +180,7 @@ pub enum HssLmsKeyParameter {
 }
 
 /// Each entry, by rising numbers.
-static HSS_LMS_KEY_PARAMETERS: &[(i64, HssLmsKeyParameter)] = rows![HssLmsKeyParameter: Pub];
+static HSS_LMS_KEY_PARAMETERS: &[(HssLmsKeyParameter, i64)] = rows![HssLmsKeyParameter: Pub];
 
 impl EnumI64 for HssLmsKeyParameter {
     ghost number = { hss_lms_key_parameters.number };
@@ -222,7 +223,7 @@ pub enum WalnutDsaKeyParameter {
 }
 
 /// Each entry, by rising numbers.
-static WALNUT_DSA_KEY_PARAMETERS: &[(i64, WalnutDsaKeyParameter)] = rows![WalnutDsaKeyParameter:
+static WALNUT_DSA_KEY_PARAMETERS: &[(WalnutDsaKeyParameter, i64)] = rows![WalnutDsaKeyParameter:
     Matrix2, Permutation1, Matrix1, TValues, Q, N,
 ];
 
@@ -259,7 +260,7 @@ pub enum AkpKeyParameter {
 }
 
 /// Each entry, by rising numbers.
-static AKP_KEY_PARAMETERS: &[(i64, AkpKeyParameter)] = rows![AkpKeyParameter: Priv, Pub];
+static AKP_KEY_PARAMETERS: &[(AkpKeyParameter, i64)] = rows![AkpKeyParameter: Priv, Pub];
 
 impl EnumI64 for AkpKeyParameter {
     ghost number = { akp_key_parameters.number };

@@ -1,6 +1,7 @@
 //! Labels, types, curves and operations of keys.
 ghost use Rattle.cose_iana.specs.Registry.{is_private_use};
-ghost use Rattle.cose_iana.specs.Keys.{key_parameters, key_parameters_in_order, key_types, key_types_in_order, elliptic_curves, elliptic_curves_in_order, elliptic_curves_not_private, key_operations, key_operations_in_order};
+ghost use Rattle.cose_iana.specs.Keys.{key_parameters, key_types, elliptic_curves, key_operations};
+ghost use Rattle.cose_iana.specs.Laws.{key_parameters_in_order, key_types_in_order, elliptic_curves_in_order, elliptic_curves_not_private, key_operations_in_order};
 
 use crate::number::{EnumI64, WithPrivateRange, entry_with, rows};
 
@@ -22,7 +23,7 @@ pub enum KeyParameter {
 }
 
 /// Each entry, by rising numbers.
-static KEY_PARAMETERS: &[(i64, KeyParameter)] = rows![KeyParameter:
+static KEY_PARAMETERS: &[(KeyParameter, i64)] = rows![KeyParameter:
     Reserved, Kty, Kid, Alg, KeyOps, BaseIv,
 ];
 
@@ -71,7 +72,7 @@ pub enum KeyType {
 }
 
 /// Each entry, by rising numbers.
-static KEY_TYPES: &[(i64, KeyType)] = rows![KeyType:
+static KEY_TYPES: &[(KeyType, i64)] = rows![KeyType:
     Reserved, OKP, EC2, RSA, Symmetric, HSS_LMS, WalnutDSA, AKP,
 ];
 
@@ -133,7 +134,7 @@ pub enum EllipticCurve {
 }
 
 /// Each entry, by rising numbers.
-static ELLIPTIC_CURVES: &[(i64, EllipticCurve)] = rows![EllipticCurve:
+static ELLIPTIC_CURVES: &[(EllipticCurve, i64)] = rows![EllipticCurve:
     Reserved, P_256, P_384, P_521, X25519, X448, Ed25519, Ed448, Secp256k1, BrainpoolP256R1,
     BrainpoolP320R1, BrainpoolP384R1, BrainpoolP512R1,
 ];
@@ -197,7 +198,7 @@ pub enum KeyOperation {
 }
 
 /// Each entry, by rising numbers.
-static KEY_OPERATIONS: &[(i64, KeyOperation)] = rows![KeyOperation:
+static KEY_OPERATIONS: &[(KeyOperation, i64)] = rows![KeyOperation:
     Sign, Verify, Encrypt, Decrypt, WrapKey, UnwrapKey, DeriveKey, DeriveBits, MacCreate,
     MacVerify,
 ];

@@ -1,7 +1,9 @@
 //! Entries and their numbers.
 ghost use Rattle.std.specs.Ordering.{int_cmp};
-ghost use Rattle.std.specs.Prelude.{◌≡◌, ℤ, Bool, true, false, Option, Some, MatchOption};
-ghost use Rattle.cose_iana.specs.Registry.{entry_of};
+ghost use Rattle.std.specs.Prelude.{◌≡◌, ℤ, Bool, true, false, Option, Some, MatchOption, IsTrue};
+ghost use Rattle.cose_iana.specs.Registry.{entry_of, rise};
+
+use std::cmp::Ordering;
 
 /// A registry: each entry has a number, each number of the registry is that of one entry, and the
 /// entries are ordered by their numbers.
@@ -52,18 +54,29 @@ pub trait WithPrivateRange: EnumI64 {
         → Self.is_registered i ≡ false };
 }
 
-/// The entry in the row with this number.
-#[tactic(auto, unfolding(crate::specs::Registry::entry_of))]
-pub(crate) fn entry_with<E: Copy>(table: &[(i64, E)], i: i64) -> Option<E>
+/// The entry in the row with this number, where the numbers rise.
+pub(crate) fn entry_with<E: Copy>(table: &[(E, i64)], i: i64) -> Option<E>
+    requires { IsTrue (rise table.now) }
     ensures { result ≡ entry_of table.now i }
 {
-    table.iter().find(|row| row.0 == i).map(|row| row.1)
+    let mut low = 0;
+    let mut high = table.len();
+    'halves: while low < high {
+        let middle = low + (high - low) / 2;
+        let row = &table[middle];
+        match row.1.cmp(&i) {
+            Ordering::Less => low = middle + 1,
+            Ordering::Equal => return Some(row.0),
+            Ordering::Greater => high = middle,
+        }
+    }
+    None
 }
 
-/// A row for each entry of an enum: its number, which the enum gives, and the entry.
+/// A row for each entry of an enum: the entry, and its number, which the enum gives.
 macro_rules! rows {
     ($registry:ident: $($entry:ident),* $(,)?) => {
-        &[$(($registry::$entry as i64, $registry::$entry)),*]
+        &[$(($registry::$entry, $registry::$entry as i64)),*]
     };
 }
 

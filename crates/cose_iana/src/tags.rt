@@ -1,5 +1,6 @@
 //! Tags.
-ghost use Rattle.cose_iana.specs.Tags.{cbor_tags, cbor_tags_in_order};
+ghost use Rattle.cose_iana.specs.Tags.{cbor_tags};
+ghost use Rattle.cose_iana.specs.Laws.{cbor_tags_in_order};
 
 use crate::number::{EnumI64, entry_with, rows};
 
@@ -25,7 +26,7 @@ pub enum CborTag {
 }
 
 /// Each entry, by rising numbers.
-static CBOR_TAGS: &[(i64, CborTag)] = rows![CborTag:
+static CBOR_TAGS: &[(CborTag, i64)] = rows![CborTag:
     CoseEncrypt0, CoseMac0, CoseSign1, CoseCountersignature, Cwt, CoseEncrypt, CoseMac, CoseSign,
 ];
 

@@ -8,7 +8,7 @@ use Rattle.coset_labels.specs.Facts.Wrong.{Splits, splits, again_not, no_named}
 use Rattle.coset_labels.specs.Facts.Wrong as wrong
 use Rattle.coset_labels.specs.Fields.{Named, assigned}
 use Rattle.coset_labels.specs.Faults.{CoseFault}
-use Rattle.coset_labels.specs.Kinds.{is_map, is_text}
+use Rattle.ciborium_value.specs.Kinds.{is_map, is_text}
 use Rattle.coset_claims.specs.Fields.{TimeFields, whole_seconds, ClaimsFields}
 use Rattle.coset_claims.specs.Claims.{is_at, name_of, text_of, time_of, bytes_of, entries, at, IsField, IsClaims, HasClaims}
 use Rattle.coset_claims.specs.Wrong.{WrongTime, WrongField, wrong_issuer, wrong_subject, wrong_audience, wrong_expiration_time, wrong_not_before, wrong_issued_at, wrong_cwt_id, WrongEntry, bad_name, name_again, bad_field, WrongClaims, no_map, at_entry}

@@ -8,7 +8,7 @@ use Rattle.coset_labels.specs.Facts.Entries.{distinct_snoc}
 use Rattle.coset_labels.specs.Facts.Walks.{at_fault, passed_on, entry_read}
 use Rattle.coset_labels.specs.Fields.{Named}
 use Rattle.coset_labels.specs.Faults.{CoseFault, OrMemory, fault_of, unexpected}
-use Rattle.coset_labels.specs.Kinds.{is_map}
+use Rattle.ciborium_value.specs.Kinds.{is_map}
 use Rattle.coset_labels.specs.declared.error.CoseError.{CoseError}
 use Rattle.coset_labels.specs.declared.seen_labels.SeenLabels.{SeenLabels}
 use Rattle.coset_claims.specs.Claims.{name_of, entries, IsClaims, HasClaims}

@@ -7,7 +7,7 @@ use Rattle.ciborium_value.specs.Tree.{Tree, integer, float, map as map_tree, Pai
 use Rattle.coset_labels.specs.Entries.{IsIn}
 use Rattle.coset_labels.specs.Faults.{CoseFault, duplicate_key, out_of_range, unexpected}
 use Rattle.coset_labels.specs.Fields.{Named, assigned}
-use Rattle.coset_labels.specs.Kinds.{is_map, is_text}
+use Rattle.ciborium_value.specs.Kinds.{is_map, is_text}
 use Rattle.coset_labels.specs.Labels.{is_i64, WrongNamed}
 use Rattle.coset_labels.specs.Walks as walks
 use Rattle.coset_claims.specs.Claims.{name_of}

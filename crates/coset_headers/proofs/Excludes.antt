@@ -8,7 +8,8 @@ use Rattle.ciborium.specs.Front.{Reads}
 use Rattle.ciborium.proofs.Excludes.{excludes}
 use Rattle.coset_labels.specs.Fields.{LabelFields, number, Named, named}
 use Rattle.coset_labels.specs.Faults.{CoseFault}
-use Rattle.coset_labels.specs.Kinds.{is_map, is_array, some_bytes}
+use Rattle.ciborium_value.specs.Kinds.{is_map, is_array}
+use Rattle.coset_labels.specs.Kinds.{some_bytes}
 use Rattle.coset_labels.specs.Labels.{label_of}
 use Rattle.coset_labels.specs.Reading.{NotReadable, damaged, goes_on}
 use Rattle.coset_headers.specs.Fields.{Plain, HeaderFields, header, ProtectedFields, protected, SignatureFields, signature, Signatures, no_signatures, signature_more, no_header}

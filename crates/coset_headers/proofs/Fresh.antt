@@ -2,7 +2,8 @@
 use Rattle.std.proofs.Common.{◌≡◌, ℕ, pos, cond, inl, inr, ◌⊎◌, ⊎_elim, ◌+◌, ◌<◌, ◌≤◌, zero, suc, List, [], ◌∷◌, ◌++◌, length, map, Bool, true, false, Option, Some, None, option_map, option_and_then, refl, sym, ap, subst, ◌∙◌, arith, append_assoc, append-nil, length-append, take, take_all, get_or, is_some, not, is_eq, vec_len, Vec, Global}
 use Rattle.std.specs.Prelude.{MatchBool, ◌==◌}
 use borrow.Author.Tests.{eqb-true}
-use Rattle.coset_labels.specs.Orders.{label_cmp, labels_same}
+use Rattle.coset_labels.specs.Orders.{label_cmp}
+use Rattle.coset_labels.specs.Facts.Orders.{labels_same}
 use Rattle.coset_headers.specs.declared.header.CoseSignature.{CoseSignature}
 use Rattle.std.proofs.lemmas.List.{length-map, map-append, take_more, take-append-le}
 use Rattle.ciborium_value.specs.declared.value.Value.{Value}

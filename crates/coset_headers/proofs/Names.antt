@@ -7,7 +7,7 @@ use Rattle.ciborium_value.specs.Tree.{Tree, array}
 use Rattle.ciborium_value.specs.View.{trees, view, views}
 use Rattle.ciborium_value.specs.declared.value.Value.{Value}
 use Rattle.coset_labels.specs.Faults.{OrMemory, fault_of, unexpected}
-use Rattle.coset_labels.specs.Kinds.{is_array}
+use Rattle.ciborium_value.specs.Kinds.{is_array}
 use Rattle.coset_labels.specs.Fields.{Named}
 use Rattle.coset_labels.specs.Labels.{WrongNamed}
 use Rattle.coset_labels.specs.declared.error.CoseError.{CoseError}

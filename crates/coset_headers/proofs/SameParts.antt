@@ -16,7 +16,7 @@ use Rattle.coset_labels.specs.Facts.Equal.{by_name}
 use Rattle.coset_labels.specs.Orders.{label_cmp}
 use Rattle.coset_labels.specs.View.{label_view, registered_view, named_view}
 use Rattle.coset_labels.specs.declared.label.Label.{Label}
-use Rattle.coset_headers.specs.Decided.{trees_decided}
+use Rattle.coset_headers.specs.Facts.Decided.{trees_decided}
 use Rattle.coset_headers.specs.Copies.{unsigned}
 use Rattle.coset_headers.specs.Fields.{plain_part, SignatureFields, signature, protected, header, Signatures}
 use Rattle.coset_headers.specs.Same.{same_name, same_tree, same_entry, same_plain, same_signature, same_signatures}

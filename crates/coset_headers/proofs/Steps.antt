@@ -11,7 +11,8 @@ use Rattle.coset_labels.specs.Fields.{LabelFields, number, Named, assigned, name
 use Rattle.coset_labels.specs.Facts.Walks.{at_fault}
 pub use Rattle.coset_labels.specs.Facts.Walks.{passed_on, views_count}
 use Rattle.coset_labels.specs.Faults.{CoseFault, OrMemory, fault_of, unexpected}
-use Rattle.coset_labels.specs.Kinds.{is_map, is_array, some_bytes}
+use Rattle.ciborium_value.specs.Kinds.{is_map, is_array}
+use Rattle.coset_labels.specs.Kinds.{some_bytes}
 use Rattle.coset_labels.specs.Labels.{is_i64, label_of, registered_of, WrongLabel}
 use Rattle.coset_labels.specs.Reading.{NotReadable}
 use Rattle.coset_labels.specs.declared.error.CoseError.{CoseError}

@@ -10,7 +10,8 @@ use Rattle.ciborium_value.specs.declared.value.Value.{Value}
 use Rattle.coset_labels.specs.Arrays.{all_written}
 use Rattle.coset_labels.specs.Faults.{CantWrite}
 use Rattle.coset_labels.specs.Fields.{LabelFields}
-use Rattle.coset_labels.specs.Orders.{label_cmp, labels_same}
+use Rattle.coset_labels.specs.Orders.{label_cmp}
+use Rattle.coset_labels.specs.Facts.Orders.{labels_same}
 use Rattle.coset_labels.specs.View.{label_view}
 use Rattle.coset_labels.specs.declared.error.CoseError.{CoseError}
 use Rattle.coset_labels.specs.declared.label.Label.{Label}

@@ -1,8 +1,8 @@
 pub mod Alone
 pub mod AsWritten
 pub mod Copies
-pub mod Decided
 pub mod Entries
+pub mod Facts
 pub mod Fields
 pub mod Headers
 pub mod Levels

@@ -13,7 +13,8 @@ use Rattle.ciborium_value.specs.View.{trees, pairs}
 use Rattle.ciborium.specs.Front.{Reads}
 use Rattle.coset_labels.specs.Fields.{LabelFields, number}
 use Rattle.coset_labels.specs.Faults.{CoseFault, duplicate_key, unexpected, too_many_layers}
-use Rattle.coset_labels.specs.Kinds.{is_map, is_array, WrongBytes}
+use Rattle.ciborium_value.specs.Kinds.{is_map, is_array}
+use Rattle.coset_labels.specs.Kinds.{WrongBytes}
 use Rattle.coset_labels.specs.Labels.{label_of, WrongLabel, WrongRegistered, WrongNamed}
 use Rattle.coset_labels.specs.Reading.{NotReadable}
 use Rattle.coset_headers.specs.Headers.{is_at, is_slash, entries, at, IsIn, IsBare, IsList, list_of_three}

@@ -3,7 +3,7 @@ ghost use Rattle.std.specs.Prelude.{◌≡◌};
 ghost use Rattle.std.specs.Cmp.{partial_equiv_from_equiv, on_equiv};
 ghost use Rattle.std.specs.Ordering.{on};
 ghost use Rattle.coset_headers.specs.Copies.{unsigned};
-ghost use Rattle.coset_headers.specs.Decided.{headers_equiv, protected_equiv, signature_equiv};
+ghost use Rattle.coset_headers.specs.Facts.Decided.{headers_equiv, protected_equiv, signature_equiv};
 ghost use Rattle.coset_headers.specs.Fields.{plain_part};
 ghost use Rattle.coset_headers.specs.Same.{same_plain, same_header, same_protected, same_signature};
 ghost use Rattle.coset_headers.specs.Same.{same_signatures};

@@ -7,7 +7,7 @@ ghost use Rattle.ciborium_value.specs.Tree as spec;
 ghost use Rattle.ciborium_value.specs.View.{view, views};
 ghost use Rattle.coset_labels.specs.Faults.{OrMemory, fault_of, unexpected};
 ghost use Rattle.coset_labels.specs.Fields.{named};
-ghost use Rattle.coset_labels.specs.Kinds.{is_array};
+ghost use Rattle.ciborium_value.specs.Kinds.{is_array};
 ghost use Rattle.coset_labels.specs.View.{registered_view, named_view};
 ghost use Rattle.coset_headers.specs.AsWritten.{is_bare};
 ghost use Rattle.coset_headers.specs.Headers.{is_slash, crit_of, HasContentType, IsContentType};

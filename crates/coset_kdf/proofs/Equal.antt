@@ -7,7 +7,7 @@ use Rattle.std.specs.Option.{option_eq}
 use Rattle.cose_iana.specs.Algorithms.{algorithm_number}
 use Rattle.coset_labels.specs.Facts.Equal.{both, options, lists, bytes_options, by_names}
 use Rattle.coset_labels.specs.View.{named_view}
-use Rattle.coset_headers.specs.Decided.{protected_decided}
+use Rattle.coset_headers.specs.Facts.Decided.{protected_decided}
 use Rattle.coset_headers.specs.View.{protected_view}
 use Rattle.coset_kdf.specs.Fields.{nonce_bytes, nonce_integer}
 use Rattle.coset_kdf.specs.View.{nonce_view, party_view, public_view, context_view}

@@ -8,7 +8,7 @@ use Rattle.ciborium_value.specs.Tree.{Tree, integer, bytes, text, array, map as 
 use Rattle.ciborium_value.specs.View.{trees}
 use Rattle.coset_labels.specs.Facts.Wrong.{no_named}
 use Rattle.coset_labels.specs.Faults.{CoseFault}
-use Rattle.coset_labels.specs.Kinds.{is_array}
+use Rattle.ciborium_value.specs.Kinds.{is_array}
 use Rattle.coset_labels.specs.Labels.{named_of}
 use Rattle.coset_headers.specs.Headers.{HasProtected, list_of_three}
 use Rattle.coset_headers.proofs.Excludes.{prot_not}

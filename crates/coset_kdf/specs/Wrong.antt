@@ -6,7 +6,7 @@ use Rattle.cose_iana.specs.Registry.{is_private_use}
 use Rattle.ciborium_value.specs.Tree.{Tree, integer, bytes, array, simple, Trees, one_more, tree_count, is_bytes}
 use Rattle.ciborium_value.specs.View.{trees}
 use Rattle.coset_labels.specs.Faults.{CoseFault, out_of_range, unexpected}
-use Rattle.coset_labels.specs.Kinds.{is_array}
+use Rattle.ciborium_value.specs.Kinds.{is_array}
 use Rattle.coset_labels.specs.Labels.{is_i64, WrongNamed}
 use Rattle.coset_headers.specs.Headers.{list_of_three}
 use Rattle.coset_headers.specs.Wrong.{WrongProtected}

@@ -14,7 +14,8 @@ use Rattle.coset_labels.specs.Facts.Entries.{NoneOfFive}
 use Rattle.coset_labels.specs.Fields.{LabelFields, number, Named}
 use Rattle.coset_labels.specs.Kinds.{some_bytes}
 use Rattle.coset_labels.specs.Labels.{label_of, label_tree, named_tree}
-use Rattle.coset_labels.specs.Orders.{label_cmp, label_total, labels_same, named_cmp}
+use Rattle.coset_labels.specs.Orders.{label_cmp, named_cmp}
+use Rattle.coset_labels.specs.Facts.Orders.{label_total, labels_same}
 use Rattle.coset_headers.specs.Headers.{is_at, alg_of, entries, at}
 use Rattle.coset_headers.specs.Written.{name_entry, bytes_entry, entry_tree, tree_of}
 use Rattle.coset_headers.proofs.Written.{once_only}

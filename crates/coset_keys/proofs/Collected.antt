@@ -15,7 +15,8 @@ use Rattle.ciborium_value.specs.Tree.{Tree}
 use Rattle.ciborium_value.specs.View.{trees, view, views}
 use Rattle.ciborium_value.specs.declared.value.Value.{Value}
 use Rattle.coset_labels.specs.Fields.{Named}
-use Rattle.coset_labels.specs.Orders.{named_cmp, named_total, named_tied, names_same}
+use Rattle.coset_labels.specs.Orders.{named_cmp}
+use Rattle.coset_labels.specs.Facts.Orders.{named_total, named_tied, names_same}
 use Rattle.coset_keys.specs.Keys.{operation_of, operations_of, Rises}
 use Rattle.coset_keys.proofs.Rising.{inserted_there, inserted_keeps, inserted_only}
 

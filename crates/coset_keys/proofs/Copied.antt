@@ -14,7 +14,8 @@ use Rattle.ciborium_value.specs.View.{view}
 use Rattle.ciborium_value.specs.declared.value.Value.{Value}
 use Rattle.coset_labels.specs.Fields.{Named}
 use Rattle.coset_labels.specs.Labels.{named_tree}
-use Rattle.coset_labels.specs.Orders.{named_cmp, named_total}
+use Rattle.coset_labels.specs.Orders.{named_cmp}
+use Rattle.coset_labels.specs.Facts.Orders.{named_total}
 use Rattle.coset_keys.proofs.Rising.{inserted_last, map_inserted, map_rises}
 
 pub op_pushed : {X : Type 0} (f : X → Named) (xs : List X) (x : X) (ys zs : List Value) (y : Value) → zs ≡ ys ++ y ∷ [] → map view ys ≡ map named_tree (map f xs) → Some (named_tree (f x)) ≡ Some (view y)

@@ -6,7 +6,8 @@ use Rattle.std.specs.Ordering.{on}
 use Rattle.cose_iana.specs.Algorithms.{algorithm_number}
 use Rattle.cose_iana.specs.Keys.{key_types, key_operations}
 use Rattle.coset_labels.specs.Facts.Equal.{both, options, lists, by_name, by_names, entry_lists}
-use Rattle.coset_labels.specs.Orders.{label_cmp, labels_same}
+use Rattle.coset_labels.specs.Orders.{label_cmp}
+use Rattle.coset_labels.specs.Facts.Orders.{labels_same}
 use Rattle.coset_labels.specs.View.{label_view, registered_view, named_view}
 use Rattle.coset_keys.specs.View.{key_view, key_set_view}
 use Rattle.coset_keys.specs.declared.key.CoseKey.{CoseKey}

@@ -14,9 +14,11 @@ use Rattle.coset_labels.specs.Facts.Wrong.{Splits, splits, again_not, no_label, 
 use Rattle.coset_labels.specs.Facts.Wrong as wrong
 use Rattle.coset_labels.specs.Faults.{CoseFault}
 use Rattle.coset_labels.specs.Fields.{LabelFields, Named}
-use Rattle.coset_labels.specs.Kinds.{is_map, is_array, some_bytes}
+use Rattle.ciborium_value.specs.Kinds.{is_map, is_array}
+use Rattle.coset_labels.specs.Kinds.{some_bytes}
 use Rattle.coset_labels.specs.Labels.{label_of}
-use Rattle.coset_labels.specs.Orders.{named_cmp, names_same}
+use Rattle.coset_labels.specs.Orders.{named_cmp}
+use Rattle.coset_labels.specs.Facts.Orders.{names_same}
 use Rattle.coset_headers.specs.Headers.{is_at, alg_of, entries, at}
 use Rattle.coset_keys.specs.Fields.{KeyFields, reserved}
 use Rattle.coset_keys.specs.Keys.{type_of, operation_of, operations_of, HasOperations, HasKeyOps, AreFields, HasKey, HaveKeys, HasKeySet}

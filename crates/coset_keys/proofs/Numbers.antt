@@ -3,34 +3,34 @@ use Rattle.std.proofs.Common.{◌≡◌, ◌≢◌, pos, Bool, true, false, refl
 use Rattle.std.specs.Prelude.{MatchBool}
 use Rattle.std.specs.Ordering.{eq_by_cmp}
 use Rattle.cose_iana.specs.Keys.{key_types}
-use Rattle.cose_iana.specs.Registry.{number_of}
 use Rattle.cose_iana.specs.declared.keys.KeyType.{KeyType}
 use Rattle.cose_iana.specs.declared.keys.KeyType.TheVariants as key_type
 use Rattle.coset_labels.specs.Fields.{assigned}
 use Rattle.coset_labels.specs.Names.{reserved_key_type}
-use Rattle.coset_labels.specs.Orders.{named_cmp, names_same}
+use Rattle.coset_labels.specs.Orders.{named_cmp}
+use Rattle.coset_labels.specs.Facts.Orders.{names_same}
 use Rattle.coset_labels.specs.View.{registered_view}
 use Rattle.coset_labels.specs.declared.registered.RegisteredLabel.{RegisteredLabel}
 use Rattle.coset_keys.specs.Fields.{reserved}
 
 pub reserved_number : key_types.number key_type.Reserved ≡ pos 0
-unfolding key_types number_of
+unfolding key_types
 reserved_number = refl
 
 pub okp_number : key_types.number key_type.OKP ≡ pos 1
-unfolding key_types number_of
+unfolding key_types
 okp_number = refl
 
 pub ec2_number : key_types.number key_type.EC2 ≡ pos 2
-unfolding key_types number_of
+unfolding key_types
 ec2_number = refl
 
 pub symmetric_number : key_types.number key_type.Symmetric ≡ pos 4
-unfolding key_types number_of
+unfolding key_types
 symmetric_number = refl
 
 pub akp_number : key_types.number key_type.AKP ≡ pos 7
-unfolding key_types number_of
+unfolding key_types
 akp_number = refl
 
 pub reserved_is : (t : RegisteredLabel KeyType) → t ≡ reserved_key_type → registered_view key_types.number t ≡ reserved

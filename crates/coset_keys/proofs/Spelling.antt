@@ -21,7 +21,8 @@ use Rattle.ciborium_value.proofs.OneEncoding.{enc_once}
 use Rattle.coset_labels.specs.Entries.{Distinct}
 use Rattle.coset_labels.specs.Fields.{LabelFields}
 use Rattle.coset_labels.specs.Labels.{label_tree}
-use Rattle.coset_labels.specs.Orders.{label_cmp, label_total, label_tied, labels_same}
+use Rattle.coset_labels.specs.Orders.{label_cmp}
+use Rattle.coset_labels.specs.Facts.Orders.{label_total, label_tied, labels_same}
 use Rattle.coset_labels.specs.declared.order.CborOrdering.{CborOrdering}
 use Rattle.coset_labels.specs.declared.order.CborOrdering.TheVariants as ordering
 use Rattle.coset_headers.specs.Written.{entry_tree, tree_of}

@@ -13,7 +13,7 @@ use Rattle.coset_labels.specs.Entries.{IsIn, IsField}
 use Rattle.coset_labels.specs.Facts.Walks.{passed_on, items_at, entry_read}
 use Rattle.coset_labels.specs.Faults.{OrMemory, fault_of, unexpected}
 use Rattle.coset_labels.specs.Fields.{LabelFields, number, Named}
-use Rattle.coset_labels.specs.Kinds.{is_map, is_array}
+use Rattle.ciborium_value.specs.Kinds.{is_map, is_array}
 use Rattle.coset_labels.specs.Labels.{label_of, WrongLabel, WrongRegistered}
 use Rattle.coset_labels.specs.Orders.{named_cmp}
 use Rattle.coset_labels.specs.declared.error.CoseError.{CoseError}

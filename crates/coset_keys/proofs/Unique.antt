@@ -4,7 +4,8 @@ use Rattle.std.specs.List.{Contains}
 use Rattle.ciborium_value.specs.Tree.{Tree, array, map as map_tree, Trees, no_trees, one_more}
 use Rattle.coset_labels.specs.Facts.Entries.{field_once}
 use Rattle.coset_labels.specs.Fields.{LabelFields, Named}
-use Rattle.coset_labels.specs.Orders.{named_cmp, named_total}
+use Rattle.coset_labels.specs.Orders.{named_cmp}
+use Rattle.coset_labels.specs.Facts.Orders.{named_total}
 use Rattle.coset_headers.specs.Headers.{entries, at}
 use Rattle.coset_keys.specs.Fields.{KeyFields}
 use Rattle.coset_keys.specs.Keys.{operations_of, HasOperations, HasKeyOps, AreFields, HasKey, HaveKeys, HasKeySet}

@@ -10,7 +10,8 @@ use Rattle.ciborium_value.specs.View.{trees}
 use Rattle.coset_labels.specs.Entries.{IsIn, IsField}
 use Rattle.coset_labels.specs.Fields.{LabelFields, number, Named}
 use Rattle.coset_labels.specs.Faults.{CoseFault, duplicate_key, unexpected}
-use Rattle.coset_labels.specs.Kinds.{is_map, is_array, WrongBytes}
+use Rattle.ciborium_value.specs.Kinds.{is_map, is_array}
+use Rattle.coset_labels.specs.Kinds.{WrongBytes}
 use Rattle.coset_labels.specs.Labels.{label_of, WrongLabel, WrongRegistered, WrongNamed}
 use Rattle.coset_labels.specs.Walks as walks
 use Rattle.coset_headers.specs.Headers.{entries, at}

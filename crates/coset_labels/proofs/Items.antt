@@ -12,7 +12,7 @@ use Rattle.ciborium.specs.Front.{Reads}
 use Rattle.ciborium.specs.Damage.{Fault, Damage, end, syntax, semantic, deep}
 use Rattle.ciborium.specs.Reading.{FailsAt, IfKnown}
 use Rattle.coset_labels.specs.Faults.{CoseFault, OrMemory, lifted, fault_of, unexpected}
-use Rattle.coset_labels.specs.Kinds.{is_tag}
+use Rattle.ciborium_value.specs.Kinds.{is_tag}
 use Rattle.coset_labels.specs.Limits.{nesting}
 use Rattle.coset_labels.specs.Reading.{NotReadable, damaged, goes_on, HasItem, WrongItem, inside, Tagged, WrongTagged, no_tag, other_tag, under_tag}
 use Rattle.coset_labels.specs.declared.error.CoseError.{CoseError}

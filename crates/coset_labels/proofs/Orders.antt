@@ -1,17 +1,33 @@
 -- The orders of labels and names are those of encodings.
-use Rattle.std.proofs.Common.{◌≡◌, ℕ, ◌^◌, ◌≤◌, List, [], ◌∷◌, length, ℤ, Bool, true, false, cond, nat_lt, Some, refl, sym, ap, ◌∙◌, arith, w16, w32, w64}
+use Rattle.std.proofs.Common.{◌≡◌, ℕ, ◌^◌, ◌≤◌, ◌<◌, pos, negsuc, List, [], ◌∷◌, length, ℤ, Bool, true, false, cond, nat_lt, Some, refl, sym, ap, ◌∙◌, arith, w16, w32, w64}
 use Rattle.std.specs.Int.{to_be_bytes}
 use Rattle.ciborium_ll.specs.Title.{shortest, first_byte, title_of}
 use Rattle.ciborium_ll.specs.declared.hdr.Header.TheVariants.{Text}
-use Rattle.std.specs.Ordering.{ordering_then, bool_cmp}
+use Rattle.std.specs.Ordering.{ordering_then, nat_cmp, bool_cmp}
 use Rattle.ciborium_value.specs.Canonical.{bytewise, text_cmp}
+use Rattle.ciborium_value.specs.Tree.{Tree, integer}
+use Rattle.ciborium_value.specs.Facts.Heads.{int_place, int_number, number, heads_cmp, Sized}
 use Rattle.ciborium_value.specs.Facts.Orders.{then_equal}
+use Rattle.ciborium_value.proofs.TextOrder.{heads_order, text_order}
 use Rattle.coset_labels.specs.Fields.{Named}
 use Rattle.coset_labels.specs.Labels.{named_tree}
 use Rattle.coset_labels.specs.Orders.{is_own_number, named_cmp}
 use Rattle.coset_labels.specs.View.{registered_view}
 use Rattle.coset_labels.specs.declared.registered.RegisteredLabel.{RegisteredLabel}
 use Rattle.coset_labels.specs.declared.registered.RegisteredLabel.TheVariants as registered
+
+-- the order by heads and contents, as the code finds it
+pub heads_text : (t s : Tree) → Sized t → Sized s → heads_cmp t s ≡ text_cmp t s
+heads_text t s f g = sym (heads_order t s f g) ∙ text_order t s f g
+
+pub int_sized : (i : ℤ) (n : ℕ) → n ≡ number (integer i) → n < 2 ^ 64 → Sized (integer i)
+int_sized (pos m) n e l = omega (arith, e, l)
+int_sized (negsuc m) n e l = omega (arith, e, l)
+
+pub integers_by_heads : (i j : ℤ) (a b n m : ℕ) → a ≡ int_place i → b ≡ int_place j → n ≡ int_number i → m ≡ int_number j → n < 2 ^ 64 → m < 2 ^ 64
+    → ordering_then (nat_cmp a b) (nat_cmp n m) ≡ text_cmp (integer i) (integer j)
+integers_by_heads i j a b n m e f g h k l =
+    (λ z. ordering_then (nat_cmp (e z) (f z)) (nat_cmp (g z) (h z))) ∙ heads_text (integer i) (integer j) (int_sized i n g k) (int_sized j m h l)
 
 none_own : {T : Type 0} (number_of : T → ℤ) (l : RegisteredLabel T) → is_own_number (registered_view number_of l) ≡ false
 none_own number_of (registered.Assigned x) = refl

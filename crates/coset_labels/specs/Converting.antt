@@ -4,7 +4,7 @@ use Rattle.ciborium_value.specs.Tree.{Tree, array}
 use Rattle.ciborium_value.specs.View.{views}
 use Rattle.ciborium_value.specs.declared.value.Value.{Value}
 use Rattle.coset_labels.specs.Faults.{fault_of, unexpected}
-use Rattle.coset_labels.specs.Kinds.{is_array}
+use Rattle.ciborium_value.specs.Kinds.{is_array}
 use Rattle.coset_labels.specs.declared.error.CoseError.{CoseError}
 
 -- the results are those of the items, in order; `R` tells which results an item may give

@@ -4,6 +4,7 @@ pub mod Back
 pub mod Entries
 pub mod Equal
 pub mod Meant
+pub mod Orders
 pub mod Pushed
 pub mod Sound
 pub mod Walks

@@ -5,7 +5,7 @@ use Rattle.ciborium.specs.Front.{Reads, Front}
 use Rattle.ciborium.specs.Damage.{Fault, Damage}
 use Rattle.ciborium.specs.Items.{nesting}
 use Rattle.coset_labels.specs.Faults.{CoseFault, undecodable, extraneous, unexpected}
-use Rattle.coset_labels.specs.Kinds.{is_tag}
+use Rattle.ciborium_value.specs.Kinds.{is_tag}
 
 -- bytes that are not one readable item: damaged, or going on after it
 pub data NotReadable (b : List ℕ) (limit : ℕ) : CoseFault → Type 0 where

@@ -5,7 +5,8 @@ ghost use Rattle.ciborium_value.specs.Tree.{Tree, is_bytes};
 ghost use Rattle.ciborium_value.specs.View.{view, views, view_pairs, number_of};
 ghost use Rattle.coset_labels.specs.Converting.{GivesAll, FailsFirst, Converts, CantConvert};
 ghost use Rattle.coset_labels.specs.Faults.{fault_of, unexpected};
-ghost use Rattle.coset_labels.specs.Kinds.{is_integer, is_text, is_map, is_array, is_tag, some_bytes, WrongBytes};
+ghost use Rattle.ciborium_value.specs.Kinds.{is_integer, is_text, is_map, is_array, is_tag};
+ghost use Rattle.coset_labels.specs.Kinds.{some_bytes, WrongBytes};
 ghost use Rattle.coset_labels.specs.declared.error.CoseError.TheVariants.{Memory};
 
 use crate::error::CoseError;

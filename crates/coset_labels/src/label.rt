@@ -7,7 +7,8 @@ ghost use Rattle.ciborium_value.specs.Encoding.{enc};
 ghost use Rattle.ciborium_value.specs.Tree.{integer, text};
 ghost use Rattle.coset_labels.specs.Fields.{LabelFields, number};
 ghost use Rattle.coset_labels.specs.Labels.{label_of, label_tree, WrongLabel};
-ghost use Rattle.coset_labels.specs.Orders.{label_cmp, label_length_first, label_total};
+ghost use Rattle.coset_labels.specs.Orders.{label_cmp, label_length_first};
+ghost use Rattle.coset_labels.specs.Facts.Orders.{label_total};
 ghost use Rattle.coset_labels.specs.View.{label_view};
 
 use crate::error::CoseError;

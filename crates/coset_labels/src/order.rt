@@ -1,7 +1,8 @@
 //! The orders of labels.
 ghost use Rattle.std.specs.Prelude.{◌≡◌};
 ghost use Rattle.ciborium_value.specs.Tree.{integer, text};
-ghost use Rattle.ciborium_value.specs.Canonical.{place, number, text_cmp};
+ghost use Rattle.ciborium_value.specs.Canonical.{text_cmp};
+ghost use Rattle.ciborium_value.specs.Facts.Heads.{place, number};
 
 use std::cmp::Ordering;
 

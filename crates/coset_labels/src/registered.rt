@@ -8,7 +8,8 @@ ghost use Rattle.ciborium_value.specs.Canonical.{text_cmp};
 ghost use Rattle.coset_labels.specs.Fields.{Named, private_use, assigned};
 ghost use Rattle.coset_labels.specs.Labels.{registered_of, named_of, named_tree, WrongRegistered};
 ghost use Rattle.coset_labels.specs.Labels.{WrongNamed};
-ghost use Rattle.coset_labels.specs.Orders.{is_own_number, named_cmp, named_total};
+ghost use Rattle.coset_labels.specs.Orders.{is_own_number, named_cmp};
+ghost use Rattle.coset_labels.specs.Facts.Orders.{named_total};
 ghost use Rattle.coset_labels.specs.Names.{name_view};
 ghost use Rattle.coset_labels.specs.View.{registered_view, named_view};
 

@@ -4,7 +4,7 @@ ghost use Rattle.std.specs.Prelude.{MatchBool, true, false};
 ghost use Rattle.std.specs.Ordering.{is_eq};
 ghost use Rattle.ciborium_value.specs.Tree.{Tree};
 ghost use Rattle.coset_labels.specs.Entries.{IsIn};
-ghost use Rattle.coset_labels.specs.Orders.{labels_same, names_same};
+ghost use Rattle.coset_labels.specs.Facts.Orders.{labels_same, names_same};
 ghost use Rattle.coset_labels.specs.SeenLabels.{Sees, Grows, Keeps, holds, has_seen};
 ghost use Rattle.coset_labels.specs.View.{label_view, named_view};
 ghost use Rattle.coset_labels.specs.declared.error.CoseError.TheVariants.{Memory};

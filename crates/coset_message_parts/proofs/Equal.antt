@@ -4,7 +4,7 @@ use Rattle.std.specs.Prelude.{IsTrue, ◌↔◌, ◌&&◌, nat_eq}
 use Rattle.std.specs.Cmp.Lexicographic.{pointwise}
 use Rattle.std.specs.Option.{option_eq}
 use Rattle.coset_labels.specs.Facts.Equal.{both, bytes_options}
-use Rattle.coset_headers.specs.Decided.{headers_decided, protected_decided}
+use Rattle.coset_headers.specs.Facts.Decided.{headers_decided, protected_decided}
 use Rattle.coset_headers.specs.Fields.{HeaderFields, ProtectedFields}
 use Rattle.coset_headers.specs.Same.{same_header, same_protected}
 use Rattle.coset_headers.specs.View.{header_view, protected_view}

@@ -9,7 +9,7 @@ use Rattle.ciborium_value.proofs.Views.{view_array}
 use Rattle.coset_labels.specs.Arrays.{all_written}
 use Rattle.coset_labels.specs.Facts.Walks.{passed_on, views_count}
 use Rattle.coset_labels.specs.Faults.{CoseFault, OrMemory, CantWrite, fault_of, unexpected}
-use Rattle.coset_labels.specs.Kinds.{is_array}
+use Rattle.ciborium_value.specs.Kinds.{is_array}
 use Rattle.coset_labels.specs.declared.error.CoseError.{CoseError}
 use Rattle.coset_headers.specs.Fields.{HeaderFields, ProtectedFields}
 use Rattle.coset_message_parts.specs.Fields.{parts}

@@ -3,7 +3,7 @@ use Rattle.std.specs.Prelude.{◌≡◌, ◌≢◌, ◌+◌, ◌⊎◌, ℕ, suc
 use Rattle.ciborium_value.specs.Tree.{Tree, array, simple, Trees, tree_count, is_bytes}
 use Rattle.ciborium_value.specs.View.{trees}
 use Rattle.coset_labels.specs.Faults.{CoseFault, unexpected}
-use Rattle.coset_labels.specs.Kinds.{is_array}
+use Rattle.ciborium_value.specs.Kinds.{is_array}
 use Rattle.coset_headers.specs.Wrong.{WrongHeader, WrongProtected}
 
 pub data WrongParts (n : ℕ) (first second third : Tree) (k : ℕ) : CoseFault → Type 0 where

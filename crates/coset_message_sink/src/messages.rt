@@ -1,6 +1,6 @@
 //! Writes messages.
 ghost use Rattle.std.specs.Prelude.{OnOk, OnErr};
-ghost use Rattle.ciborium_traits.specs.Events.{events, AllAdded, Stopped};
+ghost use Rattle.ciborium_traits.specs.Events.{events, Puts, Stops};
 ghost use Rattle.coset_signed.specs.View.{sign1_view, sign_view};
 ghost use Rattle.coset_maced.specs.View.{mac0_view, mac_view};
 ghost use Rattle.coset_message_sink.specs.Put.{sign1_put, mac0_put, sign_put, mac_put};
@@ -21,9 +21,9 @@ use coset_sink::put_signatures;
 /// The sink's; it took a beginning of the events then, and refused the next.
 pub fn put_sign1<S: Sink>(message: &CoseSign1, to: &mut S) -> Result<(), S::Error>
     requires { Sign1Received (sign1_view message.now) }
-    ensures ok { OnOk result (AllAdded S.adds to.old
+    ensures ok { OnOk result (Puts S.due to.old
         (events (sign1_put (sign1_view message.now))) to.new) }
-    ensures err { OnErr result (Stopped S.adds S.refuses to.old
+    ensures err { OnErr result (Stops S.due S.torn to.old
         (events (sign1_put (sign1_view message.now))) to.new) }
 {
     begin(
@@ -43,9 +43,9 @@ pub fn put_sign1<S: Sink>(message: &CoseSign1, to: &mut S) -> Result<(), S::Erro
 /// The sink's; it took a beginning of the events then, and refused the next.
 pub fn put_mac0<S: Sink>(message: &CoseMac0, to: &mut S) -> Result<(), S::Error>
     requires { Mac0Received (mac0_view message.now) }
-    ensures ok { OnOk result (AllAdded S.adds to.old
+    ensures ok { OnOk result (Puts S.due to.old
         (events (mac0_put (mac0_view message.now))) to.new) }
-    ensures err { OnErr result (Stopped S.adds S.refuses to.old
+    ensures err { OnErr result (Stops S.due S.torn to.old
         (events (mac0_put (mac0_view message.now))) to.new) }
 {
     begin(
@@ -65,9 +65,9 @@ pub fn put_mac0<S: Sink>(message: &CoseMac0, to: &mut S) -> Result<(), S::Error>
 /// The sink's; it took a beginning of the events then, and refused the next.
 pub fn put_sign<S: Sink>(message: &CoseSign, to: &mut S) -> Result<(), S::Error>
     requires { SignReceived (sign_view message.now) }
-    ensures ok { OnOk result (AllAdded S.adds to.old
+    ensures ok { OnOk result (Puts S.due to.old
         (events (sign_put (sign_view message.now))) to.new) }
-    ensures err { OnErr result (Stopped S.adds S.refuses to.old
+    ensures err { OnErr result (Stops S.due S.torn to.old
         (events (sign_put (sign_view message.now))) to.new) }
 {
     begin(
@@ -87,9 +87,9 @@ pub fn put_sign<S: Sink>(message: &CoseSign, to: &mut S) -> Result<(), S::Error>
 /// The sink's; it took a beginning of the events then, and refused the next.
 pub fn put_mac<S: Sink>(message: &CoseMac, to: &mut S) -> Result<(), S::Error>
     requires { MacReceived (mac_view message.now) }
-    ensures ok { OnOk result (AllAdded S.adds to.old
+    ensures ok { OnOk result (Puts S.due to.old
         (events (mac_put (mac_view message.now))) to.new) }
-    ensures err { OnErr result (Stopped S.adds S.refuses to.old
+    ensures err { OnErr result (Stops S.due S.torn to.old
         (events (mac_put (mac_view message.now))) to.new) }
 {
     begin(

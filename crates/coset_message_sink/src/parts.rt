@@ -1,6 +1,6 @@
 //! The parts that each message and each recipient begins with.
 ghost use Rattle.std.specs.Prelude.{option_map, OnOk, OnErr};
-ghost use Rattle.ciborium_traits.specs.Events.{events, AllAdded, Stopped};
+ghost use Rattle.ciborium_traits.specs.Events.{events, Puts, Stops};
 ghost use Rattle.coset_message_parts.specs.View.{parts_in};
 ghost use Rattle.coset_message_parts.specs.Written.{optional_tree};
 ghost use Rattle.coset_message_sink.specs.Put.{begun, PartsReceived};
@@ -11,9 +11,9 @@ use coset_sink::{put_header, put_protected};
 
 /// What is carried, or null if nothing is.
 fn put_content<S: Sink>(content: &Option<Vec<u8>>, to: &mut S) -> Result<(), S::Error>
-    ensures ok { OnOk result (AllAdded S.adds to.old
+    ensures ok { OnOk result (Puts S.due to.old
         (events (optional_tree (option_map (λ v. v.items) content.now))) to.new) }
-    ensures err { OnErr result (Stopped S.adds S.refuses to.old
+    ensures err { OnErr result (Stops S.due S.torn to.old
         (events (optional_tree (option_map (λ v. v.items) content.now))) to.new) }
 {
     match content {
@@ -32,9 +32,9 @@ pub(crate) fn begin<S: Sink>(
     to: &mut S,
 ) -> Result<(), S::Error>
     requires { PartsReceived (parts_in protected.now unprotected.now content.now) }
-    ensures ok { OnOk result (AllAdded S.adds to.old
+    ensures ok { OnOk result (Puts S.due to.old
         (begun count (parts_in protected.now unprotected.now content.now)) to.new) }
-    ensures err { OnErr result (Stopped S.adds S.refuses to.old
+    ensures err { OnErr result (Stops S.due S.torn to.old
         (begun count (parts_in protected.now unprotected.now content.now)) to.new) }
 {
     to.array(count)?;

@@ -1,7 +1,7 @@
 //! Writes recipients.
 ghost use Rattle.std.specs.Prelude.{◌≡◌, ◌≤◌, OnOk, OnErr};
 ghost use Rattle.ciborium_value.specs.Tree as spec;
-ghost use Rattle.ciborium_traits.specs.Events.{events, events_all, AllAdded, Stopped};
+ghost use Rattle.ciborium_traits.specs.Events.{events, events_all, Puts, Stops};
 ghost use Rattle.coset_recipients.specs.View.{recipient_view, recipients_view};
 ghost use Rattle.coset_message_sink.specs.Put.{recipient_put, recipients_put, recipient_begun};
 ghost use Rattle.coset_message_sink.specs.Put.{inner_begun, item_count};
@@ -19,10 +19,11 @@ fn count_items(recipients: &[CoseRecipient]) -> usize
 }
 
 /// The beginning of the list of the recipients inside one, if there are any.
+#[tactic(auto, using(crate::proofs::Events::inner_opened, coset_headers::proofs::Empty::full_by))]
 fn begin_inner<S: Sink>(recipients: &[CoseRecipient], to: &mut S) -> Result<(), S::Error>
-    ensures ok { OnOk result (AllAdded S.adds to.old
+    ensures ok { OnOk result (Puts S.due to.old
         (inner_begun (recipients_put (recipients_view recipients.now))) to.new) }
-    ensures err { OnErr result (Stopped S.adds S.refuses to.old
+    ensures err { OnErr result (Stops S.due S.torn to.old
         (inner_begun (recipients_put (recipients_view recipients.now))) to.new) }
 {
     if recipients.is_empty() {
@@ -32,12 +33,13 @@ fn begin_inner<S: Sink>(recipients: &[CoseRecipient], to: &mut S) -> Result<(), 
 }
 
 /// A recipient up to the recipients inside it.
+#[tactic(auto, using(crate::proofs::Events::begun_opened))]
 #[inline(never)]
 fn begin_recipient<S: Sink>(recipient: &CoseRecipient, to: &mut S) -> Result<(), S::Error>
     requires { RecipientReceived (recipient_view recipient.now) }
-    ensures ok { OnOk result (AllAdded S.adds to.old
+    ensures ok { OnOk result (Puts S.due to.old
         (recipient_begun (recipient_view recipient.now)) to.new) }
-    ensures err { OnErr result (Stopped S.adds S.refuses to.old
+    ensures err { OnErr result (Stops S.due S.torn to.old
         (recipient_begun (recipient_view recipient.now)) to.new) }
 {
     begin(
@@ -56,12 +58,13 @@ fn begin_recipient<S: Sink>(recipient: &CoseRecipient, to: &mut S) -> Result<(),
 ///
 /// # Errors
 /// The sink's; it took a beginning of the events then, and refused the next.
+#[tactic(auto, using(crate::proofs::Events::recipient_opened))]
 #[cycle(put)]
 pub fn put_recipient<S: Sink>(recipient: &CoseRecipient, to: &mut S) -> Result<(), S::Error>
     requires { RecipientReceived (recipient_view recipient.now) }
-    ensures ok { OnOk result (AllAdded S.adds to.old
+    ensures ok { OnOk result (Puts S.due to.old
         (events (recipient_put (recipient_view recipient.now))) to.new) }
-    ensures err { OnErr result (Stopped S.adds S.refuses to.old
+    ensures err { OnErr result (Stops S.due S.torn to.old
         (events (recipient_put (recipient_view recipient.now))) to.new) }
 {
     begin_recipient(recipient, to)?;
@@ -72,9 +75,9 @@ pub fn put_recipient<S: Sink>(recipient: &CoseRecipient, to: &mut S) -> Result<(
 #[cycle(put)]
 fn put_each<S: Sink>(recipients: &[CoseRecipient], to: &mut S) -> Result<(), S::Error>
     requires { RecipientsReceived (recipients_view recipients.now) }
-    ensures ok { OnOk result (AllAdded S.adds to.old
+    ensures ok { OnOk result (Puts S.due to.old
         (events_all (recipients_put (recipients_view recipients.now))) to.new) }
-    ensures err { OnErr result (Stopped S.adds S.refuses to.old
+    ensures err { OnErr result (Stops S.due S.torn to.old
         (events_all (recipients_put (recipients_view recipients.now))) to.new) }
 {
     'recipients: for recipient in recipients {
@@ -87,11 +90,12 @@ fn put_each<S: Sink>(recipients: &[CoseRecipient], to: &mut S) -> Result<(), S::
 ///
 /// # Errors
 /// The sink's; it took a beginning of the events then, and refused the next.
+#[tactic(auto, using(crate::proofs::Events::list_opened))]
 pub fn put_recipients<S: Sink>(recipients: &[CoseRecipient], to: &mut S) -> Result<(), S::Error>
     requires { RecipientsReceived (recipients_view recipients.now) }
-    ensures ok { OnOk result (AllAdded S.adds to.old
+    ensures ok { OnOk result (Puts S.due to.old
         (events (spec.array (recipients_put (recipients_view recipients.now)))) to.new) }
-    ensures err { OnErr result (Stopped S.adds S.refuses to.old
+    ensures err { OnErr result (Stops S.due S.torn to.old
         (events (spec.array (recipients_put (recipients_view recipients.now)))) to.new) }
 {
     to.array(recipients.len())?;

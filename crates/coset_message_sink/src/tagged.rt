@@ -1,7 +1,7 @@
 //! Writes messages with their tags.
 ghost use Rattle.std.specs.Prelude.{OnOk, OnErr};
 ghost use Rattle.ciborium_value.specs.Tree as spec;
-ghost use Rattle.ciborium_traits.specs.Events.{events, AllAdded, Stopped};
+ghost use Rattle.ciborium_traits.specs.Events.{events, Puts, Stops};
 ghost use Rattle.coset_signed.specs.View.{sign1_view, sign_view};
 ghost use Rattle.coset_maced.specs.View.{mac0_view, mac_view};
 ghost use Rattle.coset_message_sink.specs.Put.{sign1_put, mac0_put, sign_put, mac_put};
@@ -20,9 +20,9 @@ use coset_signed::{CoseSign, CoseSign1};
 /// The sink's; it took a beginning of the events then, and refused the next.
 pub fn put_tagged_sign1<S: Sink>(message: &CoseSign1, to: &mut S) -> Result<(), S::Error>
     requires { Sign1Received (sign1_view message.now) }
-    ensures ok { OnOk result (AllAdded S.adds to.old
+    ensures ok { OnOk result (Puts S.due to.old
         (events (spec.tag 18 (sign1_put (sign1_view message.now)))) to.new) }
-    ensures err { OnErr result (Stopped S.adds S.refuses to.old
+    ensures err { OnErr result (Stops S.due S.torn to.old
         (events (spec.tag 18 (sign1_put (sign1_view message.now)))) to.new) }
 {
     to.tag(CoseSign1::TAG)?;
@@ -35,9 +35,9 @@ pub fn put_tagged_sign1<S: Sink>(message: &CoseSign1, to: &mut S) -> Result<(), 
 /// The sink's; it took a beginning of the events then, and refused the next.
 pub fn put_tagged_mac0<S: Sink>(message: &CoseMac0, to: &mut S) -> Result<(), S::Error>
     requires { Mac0Received (mac0_view message.now) }
-    ensures ok { OnOk result (AllAdded S.adds to.old
+    ensures ok { OnOk result (Puts S.due to.old
         (events (spec.tag 17 (mac0_put (mac0_view message.now)))) to.new) }
-    ensures err { OnErr result (Stopped S.adds S.refuses to.old
+    ensures err { OnErr result (Stops S.due S.torn to.old
         (events (spec.tag 17 (mac0_put (mac0_view message.now)))) to.new) }
 {
     to.tag(CoseMac0::TAG)?;
@@ -50,9 +50,9 @@ pub fn put_tagged_mac0<S: Sink>(message: &CoseMac0, to: &mut S) -> Result<(), S:
 /// The sink's; it took a beginning of the events then, and refused the next.
 pub fn put_tagged_sign<S: Sink>(message: &CoseSign, to: &mut S) -> Result<(), S::Error>
     requires { SignReceived (sign_view message.now) }
-    ensures ok { OnOk result (AllAdded S.adds to.old
+    ensures ok { OnOk result (Puts S.due to.old
         (events (spec.tag 98 (sign_put (sign_view message.now)))) to.new) }
-    ensures err { OnErr result (Stopped S.adds S.refuses to.old
+    ensures err { OnErr result (Stops S.due S.torn to.old
         (events (spec.tag 98 (sign_put (sign_view message.now)))) to.new) }
 {
     to.tag(CoseSign::TAG)?;
@@ -65,9 +65,9 @@ pub fn put_tagged_sign<S: Sink>(message: &CoseSign, to: &mut S) -> Result<(), S:
 /// The sink's; it took a beginning of the events then, and refused the next.
 pub fn put_tagged_mac<S: Sink>(message: &CoseMac, to: &mut S) -> Result<(), S::Error>
     requires { MacReceived (mac_view message.now) }
-    ensures ok { OnOk result (AllAdded S.adds to.old
+    ensures ok { OnOk result (Puts S.due to.old
         (events (spec.tag 97 (mac_put (mac_view message.now)))) to.new) }
-    ensures err { OnErr result (Stopped S.adds S.refuses to.old
+    ensures err { OnErr result (Stops S.due S.torn to.old
         (events (spec.tag 97 (mac_put (mac_view message.now)))) to.new) }
 {
     to.tag(CoseMac::TAG)?;

@@ -8,7 +8,7 @@ use Rattle.ciborium_value.specs.declared.value.Value.{Value}
 use Rattle.coset_labels.proofs.Loops.{turned}
 use Rattle.coset_labels.specs.Facts.Walks.{passed_on}
 use Rattle.coset_labels.specs.Faults.{CoseFault, OrMemory, fault_of, unexpected}
-use Rattle.coset_labels.specs.Kinds.{is_array}
+use Rattle.ciborium_value.specs.Kinds.{is_array}
 use Rattle.coset_labels.specs.Walks.{WrongItems}
 use Rattle.coset_labels.specs.declared.error.CoseError.{CoseError}
 use Rattle.coset_headers.specs.Weight.{weight}

@@ -3,7 +3,7 @@ use Rattle.std.proofs.Common.{◌≡◌, ap}
 use Rattle.std.specs.Prelude.{IsTrue, ◌↔◌}
 use Rattle.std.specs.Cmp.Lexicographic.{bytes_decides}
 use Rattle.coset_labels.specs.Facts.Equal.{lists}
-use Rattle.coset_headers.specs.Decided.{signature_decided}
+use Rattle.coset_headers.specs.Facts.Decided.{signature_decided}
 use Rattle.coset_headers.specs.Same.{same_signature}
 use Rattle.coset_headers.specs.View.{header_view, protected_view, signature_view}
 use Rattle.coset_message_parts.proofs.Equal.{parts_and}

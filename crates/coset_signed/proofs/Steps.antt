@@ -3,7 +3,7 @@ use Rattle.std.proofs.Common.{◌≡◌, ◌≢◌, ℕ, inl, inr, false, sym, s
 use Rattle.ciborium_value.specs.Tree.{Tree, array, Trees}
 use Rattle.coset_labels.specs.Facts.Walks.{passed_on}
 use Rattle.coset_labels.specs.Faults.{OrMemory, fault_of, unexpected}
-use Rattle.coset_labels.specs.Kinds.{is_array}
+use Rattle.ciborium_value.specs.Kinds.{is_array}
 use Rattle.coset_labels.specs.Walks.{WrongItems}
 use Rattle.coset_labels.specs.declared.error.CoseError.{CoseError}
 use Rattle.coset_labels.specs.declared.error.CoseError.TheVariants as code

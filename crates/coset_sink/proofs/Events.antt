@@ -1,23 +1,19 @@
 -- The events of the parts of headers and signatures, one after another.
-use Rattle.std.proofs.Common.{◌≡◌, ◌≢◌, ℕ, ◌+◌, ◌<◌, ◌≤◌, pos, List, [], ◌∷◌, ◌++◌, length, map, cond, inl, Bool, true, false, Option, Some, None, is_some, option_map, vec_len, Vec, Global, length-append, Result, Ok, Err, OnOk, OnErr, refl, sym, ap, subst, ◌∙◌, append_assoc, append-nil, arith}
+use Rattle.std.proofs.Common.{◌≡◌, ◌≢◌, ℕ, ◌+◌, ◌<◌, ◌≤◌, pos, List, [], ◌∷◌, ◌++◌, length, map, cond, Bool, true, false, Option, Some, None, is_some, option_map, vec_len, Vec, Global, length-append, refl, sym, ap, subst, ◌∙◌, append_assoc, append-nil, arith}
 use Rattle.std.specs.Prelude.{not, ◌==◌}
 use borrow.Author.Tests.{eqb-true}
-use Rattle.std.specs.List.{flat_map}
 use Rattle.ciborium_value.specs.Tree as spec
 use Rattle.ciborium_value.specs.Tree.{Tree, Trees, no_trees, one_more, tree_count, pair_count}
-use Rattle.ciborium_value.specs.View.{trees, pairs, view}
+use Rattle.ciborium_value.specs.View.{trees, pairs}
 use Rattle.ciborium_traits.specs.Events as event
-use Rattle.ciborium_traits.specs.Events.{Event, events, events_all, AllAdded, Stopped}
-use Rattle.ciborium_traits.proofs.Joined.{added_then, then_stopped, added_as, stopped_as}
+use Rattle.ciborium_traits.specs.Events.{Event, events, events_all}
 use Rattle.ciborium_traits.proofs.Written.{pairs_counted}
 use Rattle.coset_labels.specs.Fields.{LabelFields, number, Named}
 use Rattle.coset_labels.specs.Labels.{label_tree, named_tree}
-use Rattle.coset_labels.specs.View.{label_view, registered_view, named_view}
+use Rattle.coset_labels.specs.View.{registered_view, named_view}
 use Rattle.cose_iana.specs.Algorithms.{algorithm_number}
 use Rattle.cose_iana.specs.Formats.{coap_content_formats}
 use Rattle.cose_iana.specs.Headers.{header_parameters}
-use Rattle.cose_iana.specs.declared.headers.HeaderParameter.{HeaderParameter}
-use Rattle.coset_labels.specs.declared.registered.RegisteredLabelWithPrivate.{RegisteredLabelWithPrivate}
 use Rattle.coset_labels.specs.declared.label.Label.{Label}
 use Rattle.ciborium_value.specs.declared.value.Value.{Value}
 use Rattle.coset_headers.specs.Fields.{Plain, plain_part, HeaderFields, header, Signatures, no_signatures, signature_more}
@@ -28,25 +24,6 @@ use Rattle.coset_headers.specs.declared.header.CoseSignature.{CoseSignature, out
 use Rattle.coset_headers.specs.declared.header.Header.{Header, out-Header}
 use Rattle.coset_headers.proofs.Alike.{header_is, signature_is}
 use Rattle.coset_headers.proofs.Wrote.{from2, from3, from4, from5, from6, from7}
-
--- ---- what a call made of the last events
-pub ok_after : {S T E : Type 0} (r : Result T E) (adds : S → Event → S → Type 0) (s m t : S) (xs ys whole : List Event) → xs ++ ys ≡ whole
-    → AllAdded adds s xs m → OnOk r (AllAdded adds m ys t) → OnOk r (AllAdded adds s whole t)
-ok_after (Ok v) adds s m t xs ys whole e p q = added_as adds s t (xs ++ ys) whole e (added_then adds s m t xs ys p q)
-ok_after (Err v) adds s m t xs ys whole e p q = tt
-
-pub err_after : {S T E : Type 0} (r : Result T E) (adds refuses : S → Event → S → Type 0) (s m t : S) (xs ys whole : List Event) → xs ++ ys ≡ whole
-    → AllAdded adds s xs m → OnErr r (Stopped adds refuses m ys t) → OnErr r (Stopped adds refuses s whole t)
-err_after (Ok v) adds refuses s m t xs ys whole e p q = tt
-err_after (Err v) adds refuses s m t xs ys whole e p q = stopped_as adds refuses s t (xs ++ ys) whole e (then_stopped adds refuses s m t xs ys p q)
-
-pub ok_one : {S T E : Type 0} (r : Result T E) (adds : S → Event → S → Type 0) (s t : S) (e : Event) → OnOk r (adds s e t) → OnOk r (AllAdded adds s (e ∷ []) t)
-ok_one (Ok v) adds s t e h = (t, h, refl)
-ok_one (Err v) adds s t e h = tt
-
-pub err_one : {S T E : Type 0} (r : Result T E) (adds refuses : S → Event → S → Type 0) (s t : S) (e : Event) → OnErr r (refuses s e t) → OnErr r (Stopped adds refuses s (e ∷ []) t)
-err_one (Ok v) adds refuses s t e h = tt
-err_one (Err v) adds refuses s t e h = inl h
 
 -- ---- entries
 pub entries_joined : (xs ys : List (LabelFields × Tree)) → entry_events (xs ++ ys) ≡ entry_events xs ++ entry_events ys
@@ -90,28 +67,7 @@ header_joined p ts =
     (entries_joined (signs_entry o) p.rest ∙ ap (λ z. z ++ entry_events p.rest) (sym (signs_joined ts))))))))) in
     ap (λ z. event.map (length w) ∷ z) parts ∙ ap (λ z. event.map z ∷ entry_events w) count
 
--- ---- the events of each item of a list
-abbrev pub name_item : {A : Type 0} → (A → Named) → A → List Event
-name_item f x = events (named_tree (f x))
-
-pub names_flat : {A : Type 0} (f : A → Named) (xs : List A) → flat_map (name_item f) xs ≡ events_all (trees (map named_tree (map f xs)))
-names_flat f [] = refl
-names_flat f (x ∷ xs) = ap (λ z. name_item f x ++ z) (names_flat f xs)
-
-abbrev pub entry_item : Label × Value → List Event
-entry_item e = events (label_tree (label_view e.0)) ++ events (view e.1)
-
-pub entries_flat : (es : List (Label × Value)) → flat_map entry_item es ≡ entry_events (map entry_view es)
-entries_flat [] = refl
-entries_flat (e ∷ es) = ap (λ z. entry_item e ++ z) (entries_flat es) ∙ append_assoc (events (label_tree (label_view e.0))) (events (view e.1)) (entry_events (map entry_view es))
-
-abbrev pub signature_item : CoseSignature → List Event
-signature_item s = events (signature_put (signature_view s))
-
-pub signatures_flat : (ss : List CoseSignature) → flat_map signature_item ss ≡ events_all (signatures_put (signatures_view ss))
-signatures_flat [] = refl
-signatures_flat (s ∷ ss) = ap (λ z. signature_item s ++ z) (signatures_flat ss)
-
+-- ---- lists of signatures
 pub signatures_counted : (ss : List CoseSignature) → tree_count (signatures_put (signatures_view ss)) ≡ length ss
 signatures_counted [] = refl
 signatures_counted (s ∷ ss) = let h : tree_count (signatures_put (signatures_view ss)) ≡ length ss = signatures_counted ss in omega arith
@@ -127,11 +83,6 @@ one_begun [] n e d l = absurd (d refl)
 one_begun (s ∷ []) n e d l = refl
 one_begun (s ∷ (u ∷ us)) n e d l = absurd (omega (arith, e, l))
 
-pub some_begun : (ss : List CoseSignature) → ss ≢ [] → (es : List Event) × ((event.integer (pos 7) ∷ []) ++ es ≡ signs_begun (signatures_put (signatures_view ss)))
-some_begun [] d = absurd (d refl)
-some_begun (s ∷ []) d = ([], refl)
-some_begun (s ∷ (u ∷ us)) d = (event.array (tree_count (signatures_put (signatures_view (s ∷ (u ∷ us))))) ∷ [], refl)
-
 pub signs_counted : (ss : Signatures) → length (signs_entry (bare_or_list (signatures_put ss))) ≡ cond (not (is_unsigned ss)) 1 0
 signs_counted no_signatures = refl
 signs_counted (signature_more s no_signatures) = refl
@@ -142,58 +93,45 @@ names_counted : {A : Type 0} (f : A → Named) (xs : List A) → tree_count (tre
 names_counted f [] = refl
 names_counted f (x ∷ xs) = let h : tree_count (trees (map named_tree (map f xs))) ≡ length xs = names_counted f xs in omega arith
 
-pub crit_joined : {A : Type 0} (f : A → Named) (xs : List A) → xs ≢ []
-    → event.integer (pos 2) ∷ (event.array (length xs) ∷ events_all (trees (map named_tree (map f xs)))) ≡ entry_events (crit_entry (map f xs))
-crit_joined f [] d = absurd (d refl)
-crit_joined f (x ∷ xs) d =
+pub crit_opened : {A : Type 0} (f : A → Named) (xs : List A) → xs ≢ []
+    → entry_events (crit_entry (map f xs)) ≡ event.integer (pos 2) ∷ (event.array (length xs) ∷ events_all (trees (map named_tree (map f xs))))
+crit_opened f [] d = absurd (d refl)
+crit_opened f (x ∷ xs) d =
     let ts = trees (map named_tree (map f (x ∷ xs))) in
-    ap (λ z. event.integer (pos 2) ∷ (event.array z ∷ events_all ts)) (sym (names_counted f (x ∷ xs))) ∙ sym (one_entry 2 (spec.array ts))
+    one_entry 2 (spec.array ts) ∙ ap (λ z. event.integer (pos 2) ∷ (event.array z ∷ events_all ts)) (names_counted f (x ∷ xs))
 
--- ---- the parts of a header and of a signature
-pub kinds_joined : (h : Header) (cs : List (RegisteredLabelWithPrivate HeaderParameter)) → cs ≡ (out-Header h).crit.items
-    → entry_events (name_entry 1 (option_map (named_view algorithm_number) (out-Header h).alg))
-    ++ (entry_events (crit_entry (map (named_view header_parameters.number) cs)) ++ entry_events (name_entry 3 (option_map (registered_view coap_content_formats.number) (out-Header h).content_type)))
-    ≡ name_events (plain_part (header_view h))
-kinds_joined h cs e =
-    let a = entry_events (name_entry 1 (option_map (named_view algorithm_number) (out-Header h).alg)) in
-    let c = entry_events (name_entry 3 (option_map (registered_view coap_content_formats.number) (out-Header h).content_type)) in
-    ap (λ z. a ++ (entry_events (crit_entry (map (named_view header_parameters.number) z)) ++ c)) e ∙ sym (ap (λ z. name_events (plain_part z)) (header_is h))
+-- ---- headers and signatures by their parts, as they are written
+pub kinds_opened : (h : Header) → name_events (plain_part (header_view h))
+    ≡ entry_events (name_entry 1 (option_map (named_view algorithm_number) (out-Header h).alg))
+    ++ (entry_events (crit_entry (map (named_view header_parameters.number) (out-Header h).crit.items)) ++ entry_events (name_entry 3 (option_map (registered_view coap_content_formats.number) (out-Header h).content_type)))
+kinds_opened h = ap (λ z. name_events (plain_part z)) (header_is h)
 
-pub strings_joined : (h : Header) (ks is qs : List ℕ) → ks ≡ (out-Header h).key_id.items → is ≡ (out-Header h).iv.items → qs ≡ (out-Header h).partial_iv.items
-    → entry_events (bytes_entry 4 ks) ++ (entry_events (bytes_entry 5 is) ++ entry_events (bytes_entry 6 qs)) ≡ string_events (plain_part (header_view h))
-strings_joined h ks is qs e f g =
-    (λ i. entry_events (bytes_entry 4 (e i)) ++ (entry_events (bytes_entry 5 (f i)) ++ entry_events (bytes_entry 6 (g i)))) ∙ sym (ap (λ z. string_events (plain_part z)) (header_is h))
+pub strings_opened : (h : Header) → string_events (plain_part (header_view h))
+    ≡ entry_events (bytes_entry 4 (out-Header h).key_id.items) ++ (entry_events (bytes_entry 5 (out-Header h).iv.items) ++ entry_events (bytes_entry 6 (out-Header h).partial_iv.items))
+strings_opened h = ap (λ z. string_events (plain_part z)) (header_is h)
 
 begun_of : (f : HeaderFields) (p : Plain) (ss : Signatures) → f ≡ header p ss
-    → event.map (entry_count f) ∷ (name_events (plain_part f) ++ (string_events (plain_part f) ++ signs_begun (signatures_put ss))) ≡ header_begun f
+    → header_begun f ≡ event.map (entry_count f) ∷ (name_events (plain_part f) ++ (string_events (plain_part f) ++ signs_begun (signatures_put ss)))
 begun_of f p ss e =
-    subst (λ z. event.map (entry_count z) ∷ (name_events (plain_part z) ++ (string_events (plain_part z) ++ signs_begun (signatures_put ss))) ≡ header_begun z) (sym e) refl
+    subst (λ z. header_begun z ≡ event.map (entry_count z) ∷ (name_events (plain_part z) ++ (string_events (plain_part z) ++ signs_begun (signatures_put ss)))) (sym e) refl
 
-pub begun_joined : (h : Header) (n : ℕ) (ss : List CoseSignature) → n ≡ entry_count (header_view h) → ss ≡ (out-Header h).counter_signatures.items
-    → event.map n ∷ (name_events (plain_part (header_view h)) ++ (string_events (plain_part (header_view h)) ++ signs_begun (signatures_put (signatures_view ss)))) ≡ header_begun (header_view h)
-begun_joined h n ss e q =
-    let f = header_view h in
-    ap (λ z. event.map z ∷ (name_events (plain_part f) ++ (string_events (plain_part f) ++ signs_begun (signatures_put (signatures_view ss))))) e
-    ∙ ap (λ z. event.map (entry_count f) ∷ (name_events (plain_part f) ++ (string_events (plain_part f) ++ signs_begun (signatures_put (signatures_view z))))) q
-    ∙ begun_of f _ _ (header_is h)
+pub begun_opened : (h : Header) → header_begun (header_view h)
+    ≡ event.map (entry_count (header_view h)) ∷ (name_events (plain_part (header_view h)) ++ (string_events (plain_part (header_view h)) ++ signs_begun (signatures_put (signatures_view (out-Header h).counter_signatures.items))))
+begun_opened h = begun_of (header_view h) _ _ (header_is h)
 
-put_of : (f : HeaderFields) (p : Plain) (ss : Signatures) → f ≡ header p ss → header_begun f ++ (events_all (signatures_put ss) ++ entry_events p.rest) ≡ events (header_put f)
-put_of f p ss e = subst (λ z. header_begun z ++ (events_all (signatures_put ss) ++ entry_events p.rest) ≡ events (header_put z)) (sym e) (header_joined p (signatures_put ss))
+put_of : (f : HeaderFields) (p : Plain) (ss : Signatures) → f ≡ header p ss → events (header_put f) ≡ header_begun f ++ (events_all (signatures_put ss) ++ entry_events p.rest)
+put_of f p ss e = subst (λ z. events (header_put z) ≡ header_begun z ++ (events_all (signatures_put ss) ++ entry_events p.rest)) (sym e) (sym (header_joined p (signatures_put ss)))
 
-pub put_joined : (h : Header) (ss : List CoseSignature) (rs : List (Label × Value)) → ss ≡ (out-Header h).counter_signatures.items → rs ≡ (out-Header h).rest.items
-    → header_begun (header_view h) ++ (events_all (signatures_put (signatures_view ss)) ++ entry_events (map entry_view rs)) ≡ events (header_put (header_view h))
-put_joined h ss rs e f =
-    (λ i. header_begun (header_view h) ++ (events_all (signatures_put (signatures_view (e i))) ++ entry_events (map entry_view (f i)))) ∙ put_of (header_view h) _ _ (header_is h)
+pub header_opened : (h : Header) → events (header_put (header_view h))
+    ≡ header_begun (header_view h) ++ (events_all (signatures_put (signatures_view (out-Header h).counter_signatures.items)) ++ entry_events (map entry_view (out-Header h).rest.items))
+header_opened h = put_of (header_view h) _ _ (header_is h)
 
-pub signature_joined : (s : CoseSignature) (c : List ℕ) → c ≡ (out-CoseSignature s).signature.items
-    → event.array 3 ∷ (events (protected_put (protected_view (out-CoseSignature s).protected)) ++ (events (header_put (header_view (out-CoseSignature s).unprotected)) ++ (event.bytes c ∷ [])))
-    ≡ events (signature_put (signature_view s))
-signature_joined s c e =
-    ap (λ z. event.array 3 ∷ (events (protected_put (protected_view (out-CoseSignature s).protected)) ++ (events (header_put (header_view (out-CoseSignature s).unprotected)) ++ (event.bytes z ∷ [])))) e
-    ∙ sym (ap (λ z. events (signature_put z)) (signature_is s))
+pub signature_opened : (s : CoseSignature) → events (signature_put (signature_view s))
+    ≡ event.array 3 ∷ (events (protected_put (protected_view (out-CoseSignature s).protected)) ++ (events (header_put (header_view (out-CoseSignature s).unprotected)) ++ (event.bytes (out-CoseSignature s).signature.items ∷ [])))
+signature_opened s = ap (λ z. events (signature_put z)) (signature_is s)
 
-pub list_joined : (ss : List CoseSignature) → event.array (length ss) ∷ events_all (signatures_put (signatures_view ss)) ≡ events (spec.array (signatures_put (signatures_view ss)))
-list_joined ss = ap (λ z. event.array z ∷ events_all (signatures_put (signatures_view ss))) (sym (signatures_counted ss))
+pub list_opened : (ss : List CoseSignature) → events (spec.array (signatures_put (signatures_view ss))) ≡ event.array (length ss) ∷ events_all (signatures_put (signatures_view ss))
+list_opened ss = ap (λ z. event.array z ∷ events_all (signatures_put (signatures_view ss))) (signatures_counted ss)
 
 -- ---- how many entries a header has
 not_true : (b : Bool) → (b ≡ true → ⊥) → b ≡ false

@@ -6,7 +6,7 @@ ghost use Rattle.cose_iana.specs.Formats.{coap_content_formats};
 ghost use Rattle.cose_iana.specs.Headers.{header_parameters};
 ghost use Rattle.ciborium_value.specs.Tree as spec;
 ghost use Rattle.ciborium_value.specs.View.{trees};
-ghost use Rattle.ciborium_traits.specs.Events.{events, events_all, AllAdded, Stopped};
+ghost use Rattle.ciborium_traits.specs.Events.{events, events_all, Puts, Stops};
 ghost use Rattle.coset_labels.specs.Labels.{label_tree, named_tree};
 ghost use Rattle.coset_labels.specs.View.{label_view, registered_view, named_view};
 ghost use Rattle.coset_headers.specs.Fields.{plain_part};
@@ -28,18 +28,18 @@ use coset_labels::{
 };
 
 fn put_number<S: Sink>(number: u64, to: &mut S) -> Result<(), S::Error>
-    ensures ok { OnOk result (AllAdded S.adds to.old
+    ensures ok { OnOk result (Puts S.due to.old
         (events (spec.integer (pos number))) to.new) }
-    ensures err { OnErr result (Stopped S.adds S.refuses to.old
+    ensures err { OnErr result (Stops S.due S.torn to.old
         (events (spec.integer (pos number))) to.new) }
 {
     to.integer(Integer::from(number))
 }
 
 fn put_label<S: Sink>(label: &Label, to: &mut S) -> Result<(), S::Error>
-    ensures ok { OnOk result (AllAdded S.adds to.old
+    ensures ok { OnOk result (Puts S.due to.old
         (events (label_tree (label_view label.now))) to.new) }
-    ensures err { OnErr result (Stopped S.adds S.refuses to.old
+    ensures err { OnErr result (Stops S.due S.torn to.old
         (events (label_tree (label_view label.now))) to.new) }
 {
     match label {
@@ -52,9 +52,9 @@ fn put_name<T: EnumI64, S: Sink>(
     name: &RegisteredLabelWithPrivate<T>,
     to: &mut S,
 ) -> Result<(), S::Error>
-    ensures ok { OnOk result (AllAdded S.adds to.old
+    ensures ok { OnOk result (Puts S.due to.old
         (events (named_tree (named_view T.number name.now))) to.new) }
-    ensures err { OnErr result (Stopped S.adds S.refuses to.old
+    ensures err { OnErr result (Stops S.due S.torn to.old
         (events (named_tree (named_view T.number name.now))) to.new) }
 {
     match name {
@@ -68,9 +68,9 @@ fn put_registered<T: EnumI64, S: Sink>(
     name: &RegisteredLabel<T>,
     to: &mut S,
 ) -> Result<(), S::Error>
-    ensures ok { OnOk result (AllAdded S.adds to.old
+    ensures ok { OnOk result (Puts S.due to.old
         (events (named_tree (registered_view T.number name.now))) to.new) }
-    ensures err { OnErr result (Stopped S.adds S.refuses to.old
+    ensures err { OnErr result (Stops S.due S.torn to.old
         (events (named_tree (registered_view T.number name.now))) to.new) }
 {
     match name {
@@ -80,9 +80,9 @@ fn put_registered<T: EnumI64, S: Sink>(
 }
 
 fn put_alg<S: Sink>(alg: &Option<Algorithm>, to: &mut S) -> Result<(), S::Error>
-    ensures ok { OnOk result (AllAdded S.adds to.old (entry_events
+    ensures ok { OnOk result (Puts S.due to.old (entry_events
         (name_entry 1 (option_map (named_view algorithm_number) alg.now))) to.new) }
-    ensures err { OnErr result (Stopped S.adds S.refuses to.old (entry_events
+    ensures err { OnErr result (Stops S.due S.torn to.old (entry_events
         (name_entry 1 (option_map (named_view algorithm_number) alg.now))) to.new) }
 {
     match alg {
@@ -99,9 +99,9 @@ fn put_names<S: Sink>(
     names: &[RegisteredLabelWithPrivate<iana::HeaderParameter>],
     to: &mut S,
 ) -> Result<(), S::Error>
-    ensures ok { OnOk result (AllAdded S.adds to.old (events_all
+    ensures ok { OnOk result (Puts S.due to.old (events_all
         (trees (map named_tree (map (named_view header_parameters.number) names.now)))) to.new) }
-    ensures err { OnErr result (Stopped S.adds S.refuses to.old (events_all
+    ensures err { OnErr result (Stops S.due S.torn to.old (events_all
         (trees (map named_tree (map (named_view header_parameters.number) names.now)))) to.new) }
 {
     'names: for name in names {
@@ -110,13 +110,14 @@ fn put_names<S: Sink>(
     Ok(())
 }
 
+#[tactic(auto, using(crate::proofs::Events::crit_opened, coset_headers::proofs::Empty::full_by))]
 fn put_crit<S: Sink>(
     crit: &[RegisteredLabelWithPrivate<iana::HeaderParameter>],
     to: &mut S,
 ) -> Result<(), S::Error>
-    ensures ok { OnOk result (AllAdded S.adds to.old (entry_events
+    ensures ok { OnOk result (Puts S.due to.old (entry_events
         (crit_entry (map (named_view header_parameters.number) crit.now))) to.new) }
-    ensures err { OnErr result (Stopped S.adds S.refuses to.old (entry_events
+    ensures err { OnErr result (Stops S.due S.torn to.old (entry_events
         (crit_entry (map (named_view header_parameters.number) crit.now))) to.new) }
 {
     if crit.is_empty() {
@@ -128,9 +129,9 @@ fn put_crit<S: Sink>(
 }
 
 fn put_content_type<S: Sink>(content_type: &Option<ContentType>, to: &mut S) -> Result<(), S::Error>
-    ensures ok { OnOk result (AllAdded S.adds to.old (entry_events (name_entry 3
+    ensures ok { OnOk result (Puts S.due to.old (entry_events (name_entry 3
         (option_map (registered_view coap_content_formats.number) content_type.now))) to.new) }
-    ensures err { OnErr result (Stopped S.adds S.refuses to.old (entry_events (name_entry 3
+    ensures err { OnErr result (Stops S.due S.torn to.old (entry_events (name_entry 3
         (option_map (registered_view coap_content_formats.number) content_type.now))) to.new) }
 {
     match content_type {
@@ -147,9 +148,9 @@ fn put_content_type<S: Sink>(content_type: &Option<ContentType>, to: &mut S) -> 
 /// # Errors
 /// The sink's; it took a beginning of the events then, and refused the next.
 pub fn put_bytes<S: Sink>(label: u64, bytes: &[u8], to: &mut S) -> Result<(), S::Error>
-    ensures ok { OnOk result (AllAdded S.adds to.old
+    ensures ok { OnOk result (Puts S.due to.old
         (entry_events (bytes_entry label bytes.now)) to.new) }
-    ensures err { OnErr result (Stopped S.adds S.refuses to.old
+    ensures err { OnErr result (Stops S.due S.torn to.old
         (entry_events (bytes_entry label bytes.now)) to.new) }
 {
     if bytes.is_empty() {
@@ -165,9 +166,9 @@ pub fn put_bytes<S: Sink>(label: u64, bytes: &[u8], to: &mut S) -> Result<(), S:
 /// The sink's; it took a beginning of the events then, and refused the next.
 #[inline(never)]
 pub fn put_rest<S: Sink>(rest: &[(Label, Value)], to: &mut S) -> Result<(), S::Error>
-    ensures ok { OnOk result (AllAdded S.adds to.old
+    ensures ok { OnOk result (Puts S.due to.old
         (entry_events (map entry_view rest.now)) to.new) }
-    ensures err { OnErr result (Stopped S.adds S.refuses to.old
+    ensures err { OnErr result (Stops S.due S.torn to.old
         (entry_events (map entry_view rest.now)) to.new) }
 {
     'entries: for entry in rest {
@@ -177,10 +178,11 @@ pub fn put_rest<S: Sink>(rest: &[(Label, Value)], to: &mut S) -> Result<(), S::E
     Ok(())
 }
 
+#[tactic(auto, using(crate::proofs::Events::kinds_opened))]
 fn put_kinds<S: Sink>(header: &Header, to: &mut S) -> Result<(), S::Error>
-    ensures ok { OnOk result (AllAdded S.adds to.old
+    ensures ok { OnOk result (Puts S.due to.old
         (name_events (plain_part (header_view header.now))) to.new) }
-    ensures err { OnErr result (Stopped S.adds S.refuses to.old
+    ensures err { OnErr result (Stops S.due S.torn to.old
         (name_events (plain_part (header_view header.now))) to.new) }
 {
     put_alg(&header.alg, to)?;
@@ -188,10 +190,11 @@ fn put_kinds<S: Sink>(header: &Header, to: &mut S) -> Result<(), S::Error>
     put_content_type(&header.content_type, to)
 }
 
+#[tactic(auto, using(crate::proofs::Events::strings_opened))]
 fn put_strings<S: Sink>(header: &Header, to: &mut S) -> Result<(), S::Error>
-    ensures ok { OnOk result (AllAdded S.adds to.old
+    ensures ok { OnOk result (Puts S.due to.old
         (string_events (plain_part (header_view header.now))) to.new) }
-    ensures err { OnErr result (Stopped S.adds S.refuses to.old
+    ensures err { OnErr result (Stops S.due S.torn to.old
         (string_events (plain_part (header_view header.now))) to.new) }
 {
     put_bytes(4, &header.key_id, to)?;
@@ -200,10 +203,11 @@ fn put_strings<S: Sink>(header: &Header, to: &mut S) -> Result<(), S::Error>
 }
 
 /// The label of counter signatures, and the beginning of their list if there are several.
+#[tactic(auto, using(crate::proofs::Events::several_begun, crate::proofs::Events::one_begun, coset_headers::proofs::Empty::full_by))]
 fn begin_counter<S: Sink>(signatures: &[CoseSignature], to: &mut S) -> Result<(), S::Error>
-    ensures ok { OnOk result (AllAdded S.adds to.old
+    ensures ok { OnOk result (Puts S.due to.old
         (signs_begun (signatures_put (signatures_view signatures.now))) to.new) }
-    ensures err { OnErr result (Stopped S.adds S.refuses to.old
+    ensures err { OnErr result (Stops S.due S.torn to.old
         (signs_begun (signatures_put (signatures_view signatures.now))) to.new) }
 {
     if signatures.is_empty() {
@@ -245,11 +249,12 @@ fn count_entries(header: &Header) -> usize
 }
 
 /// A header up to its counter signatures.
+#[tactic(auto, using(crate::proofs::Events::begun_opened))]
 #[inline(never)]
 fn begin_header<S: Sink>(header: &Header, to: &mut S) -> Result<(), S::Error>
-    ensures ok { OnOk result (AllAdded S.adds to.old
+    ensures ok { OnOk result (Puts S.due to.old
         (header_begun (header_view header.now)) to.new) }
-    ensures err { OnErr result (Stopped S.adds S.refuses to.old
+    ensures err { OnErr result (Stops S.due S.torn to.old
         (header_begun (header_view header.now)) to.new) }
 {
     to.map(count_entries(header))?;
@@ -263,12 +268,13 @@ fn begin_header<S: Sink>(header: &Header, to: &mut S) -> Result<(), S::Error>
 ///
 /// # Errors
 /// The sink's; it took a beginning of the events then, and refused the next.
+#[tactic(auto, using(crate::proofs::Events::header_opened))]
 #[cycle(put)]
 pub fn put_header<S: Sink>(header: &Header, to: &mut S) -> Result<(), S::Error>
     requires { HasReceived (header_view header.now) }
-    ensures ok { OnOk result (AllAdded S.adds to.old
+    ensures ok { OnOk result (Puts S.due to.old
         (events (header_put (header_view header.now))) to.new) }
-    ensures err { OnErr result (Stopped S.adds S.refuses to.old
+    ensures err { OnErr result (Stops S.due S.torn to.old
         (events (header_put (header_view header.now))) to.new) }
 {
     begin_header(header, to)?;
@@ -284,9 +290,9 @@ pub fn put_header<S: Sink>(header: &Header, to: &mut S) -> Result<(), S::Error>
 #[inline(never)]
 pub fn put_protected<S: Sink>(protected: &ProtectedHeader, to: &mut S) -> Result<(), S::Error>
     requires { ProtectedReceived (protected_view protected.now) }
-    ensures ok { OnOk result (AllAdded S.adds to.old
+    ensures ok { OnOk result (Puts S.due to.old
         (events (protected_put (protected_view protected.now))) to.new) }
-    ensures err { OnErr result (Stopped S.adds S.refuses to.old
+    ensures err { OnErr result (Stops S.due S.torn to.old
         (events (protected_put (protected_view protected.now))) to.new) }
 {
     match &protected.original_data {
@@ -300,12 +306,13 @@ pub fn put_protected<S: Sink>(protected: &ProtectedHeader, to: &mut S) -> Result
 ///
 /// # Errors
 /// The sink's; it took a beginning of the events then, and refused the next.
+#[tactic(auto, using(crate::proofs::Events::signature_opened))]
 #[cycle(put)]
 pub fn put_signature<S: Sink>(signature: &CoseSignature, to: &mut S) -> Result<(), S::Error>
     requires { SignatureReceived (signature_view signature.now) }
-    ensures ok { OnOk result (AllAdded S.adds to.old
+    ensures ok { OnOk result (Puts S.due to.old
         (events (signature_put (signature_view signature.now))) to.new) }
-    ensures err { OnErr result (Stopped S.adds S.refuses to.old
+    ensures err { OnErr result (Stops S.due S.torn to.old
         (events (signature_put (signature_view signature.now))) to.new) }
 {
     to.array(3)?;
@@ -318,9 +325,9 @@ pub fn put_signature<S: Sink>(signature: &CoseSignature, to: &mut S) -> Result<(
 #[cycle(put)]
 fn put_each<S: Sink>(signatures: &[CoseSignature], to: &mut S) -> Result<(), S::Error>
     requires { AllReceived (signatures_view signatures.now) }
-    ensures ok { OnOk result (AllAdded S.adds to.old
+    ensures ok { OnOk result (Puts S.due to.old
         (events_all (signatures_put (signatures_view signatures.now))) to.new) }
-    ensures err { OnErr result (Stopped S.adds S.refuses to.old
+    ensures err { OnErr result (Stops S.due S.torn to.old
         (events_all (signatures_put (signatures_view signatures.now))) to.new) }
 {
     'signatures: for signature in signatures {
@@ -333,11 +340,12 @@ fn put_each<S: Sink>(signatures: &[CoseSignature], to: &mut S) -> Result<(), S::
 ///
 /// # Errors
 /// The sink's; it took a beginning of the events then, and refused the next.
+#[tactic(auto, using(crate::proofs::Events::list_opened))]
 pub fn put_signatures<S: Sink>(signatures: &[CoseSignature], to: &mut S) -> Result<(), S::Error>
     requires { AllReceived (signatures_view signatures.now) }
-    ensures ok { OnOk result (AllAdded S.adds to.old
+    ensures ok { OnOk result (Puts S.due to.old
         (events (spec.array (signatures_put (signatures_view signatures.now)))) to.new) }
-    ensures err { OnErr result (Stopped S.adds S.refuses to.old
+    ensures err { OnErr result (Stops S.due S.torn to.old
         (events (spec.array (signatures_put (signatures_view signatures.now)))) to.new) }
 {
     to.array(signatures.len())?;

@@ -1,17 +1,13 @@
 -- Structures with the same bytes have the same parts.
 use Rattle.std.proofs.Common.{◌≡◌, ℕ, ◌+◌, ◌^◌, ◌<◌, List, [], ◌∷◌, length, true, false, cond, nat_eq, nat_lt, Option, Some, None, refl, sym, ap, ◌∙◌, arith, length-append}
 use Rattle.std.specs.Prelude.{◌↔◌, option_map, option_and_then}
-use Rattle.std.specs.Cmp.Lexicographic.{slice_cmp}
-use Rattle.std.specs.Ordering.{nat_cmp}
-use Rattle.std.proofs.lemmas.Cmp.{nat_list_cmp_total, tied_itself}
 use Rattle.ciborium_ll.specs.Title.{title_of}
 use Rattle.ciborium_ll.specs.declared.hdr.Header.TheVariants.{Bytes, Array}
 use Rattle.ciborium_value.specs.Tree.{Tree, bytes, text, array, Trees, no_trees, one_more, tree_count}
 use Rattle.ciborium_value.specs.View.{trees}
 use Rattle.ciborium_value.specs.Encoding.{enc, enc_all}
-use Rattle.ciborium_value.specs.Canonical.{Sized}
-use Rattle.ciborium_value.specs.Facts.TextTies.{text_tied}
-use Rattle.ciborium_value.proofs.TextOrder.{text_order}
+use Rattle.ciborium_value.specs.Facts.Heads.{Sized}
+use Rattle.ciborium_value.proofs.OneEncoding.{sized_once}
 use Rattle.coset_headers.specs.Fields.{ProtectedFields}
 use Rattle.coset_headers.specs.Written.{shown}
 use Rattle.coset_structures.specs.declared.context.SignatureContext.{SignatureContext}
@@ -112,9 +108,6 @@ sized (signed c b (Some s) a p) f = (omega arith, (signature_small c, (f.0, (f.1
 sized (maced c b a p) f = (omega arith, (mac_small c, (f.0, (f.1, (f.2, tt)))))
 sized (encrypted c b a) f = (omega arith, (encryption_small c, (f.0, (f.1, tt))))
 
-tree_once : (t s : Tree) → Sized t → Sized s → enc t ≡ enc s → t ≡ s
-tree_once t s f g e = text_tied t s (sym (text_order t s f g) ∙ ap (λ z. slice_cmp nat_cmp z (enc s)) e ∙ tied_itself nat_list_cmp_total (enc s))
-
 -- ---- the parts of an array
 parts_once : (x y : Covered) → tree_of x ≡ tree_of y → x ≡ y
 parts_once (signed c b None a p) (signed d k None m q) e =
@@ -160,7 +153,7 @@ parts_once (encrypted c b a) (encrypted d k m) e =
 
 pub one_structure : (x y : Covered) → CoveredFits x → CoveredFits y → (covered_bytes x ≡ covered_bytes y) ↔ (x ≡ y)
 one_structure x y f g = (
-  λ e. parts_once x y (tree_once (tree_of x) (tree_of y) (sized x f) (sized y g) (sym (is_tree x) ∙ e ∙ is_tree y)),
+  λ e. parts_once x y (sized_once (tree_of x) (tree_of y) (sized x f) (sized y g) (sym (is_tree x) ∙ e ∙ is_tree y)),
   λ e. ap covered_bytes e,
 )
 

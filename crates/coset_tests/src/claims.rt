@@ -55,7 +55,7 @@ fn expiring(alloc: Global, time: Float) -> ClaimsSet {
 }
 
 /// With one more claim of the profile.
-#[tactic(auto, unfolding(cose_iana::specs::Claims::cwt_claim_names, cose_iana::specs::Registry::number_of))]
+#[tactic(auto, unfolding(cose_iana::specs::Claims::cwt_claim_names))]
 fn with_profile(rt: &impl Abort, builder: ClaimsSetBuilder, profile: i64) -> ClaimsSetBuilder {
     builder
         .claim(

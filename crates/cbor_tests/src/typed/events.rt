@@ -33,9 +33,11 @@ impl Kept {
 impl Sink for Kept {
     type Error = AllocError;
 
-    ghost adds = { λ s e t. ⊤ };
+    ghost Plan = { ⊤ };
 
-    ghost refuses = { λ s e t. ⊤ };
+    ghost due = { λ p es s. ⊤ };
+
+    ghost torn = { λ p s. ⊤ };
 
     fn integer(&mut self, _number: Integer) -> Result<(), AllocError> {
         self.keep(Given::Leaf)

@@ -9,7 +9,8 @@ use Rattle.ciborium_value.specs.declared.value.Value.{Value}
 use Rattle.ciborium_value.specs.contracts.value.ValuePartialEq.TheImpl as value_equality
 use Rattle.ciborium_value.specs.Facts.Derived.{equal_is}
 use Rattle.coset_labels.specs.Fields.{Named}
-use Rattle.coset_labels.specs.Orders.{named_cmp, names_same}
+use Rattle.coset_labels.specs.Orders.{named_cmp}
+use Rattle.coset_labels.specs.Facts.Orders.{names_same}
 use Rattle.coset_labels.specs.View.{entry_view}
 
 pub both : {P Q : Type 0} (a b : Bool) → IsTrue a ↔ P → IsTrue b ↔ Q → IsTrue (a && b) ↔ (P × Q)

@@ -127,7 +127,7 @@ fn is_built_key(alloc: Global) -> Result<bool, CoseError> {
 }
 
 /// With one more claim.
-#[tactic(auto, unfolding(cose_iana::specs::Claims::cwt_claim_names, cose_iana::specs::Registry::number_of))]
+#[tactic(auto, unfolding(cose_iana::specs::Claims::cwt_claim_names))]
 fn with_claim(builder: ClaimsSetBuilder) -> Result<ClaimsSetBuilder, CoseError> {
     builder.claim(iana::CwtClaimName::Cnf, Value::Null)
 }

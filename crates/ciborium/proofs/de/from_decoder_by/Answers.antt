@@ -1,22 +1,19 @@
 use Rattle.std.proofs.Common.{arith}
 use Rattle.ciborium_value.specs.View.{view}
-use Rattle.std.proofs.lemmas.Result.{err_from_is_err_and}
 use Rattle.ciborium_ll.specs.Views.{seen, shortest_of}
 use Rattle.ciborium.proofs.ReadLemmas.{item_title_fails}
 use Rattle.ciborium.proofs.TurnLemmas.{exact_by, item_fails}
 use Rattle.ciborium.proofs.Halting.{some_then, not_memory, memory_then}
+use Rattle.ciborium.proofs.Passing.{passed_on}
 use Rattle.ciborium.proofs.de.from_decoder_by.Goals as goal
 
 pub returns-in_err-place-clause-err : goal.returns-in_err-place-clause-err
 returns-in_err-place-clause-err g c =
-    let p = err_from_is_err_and c.from_residual.result c.from_residual.ensures.1 in
-    rw (p.1, p.2) (item_title_fails g.R.Read.ends _ _ _ _ _ c.in_err-place.ensures.err)
+    passed_on _ _ c.from_residual.ensures.1 (item_title_fails g.R.Read.ends _ _ _ _ _ c.in_err-place.ensures.err)
 
 pub returns-in_err-value-clause-err : goal.returns-in_err-value-clause-err
 returns-in_err-value-clause-err g c =
-    let p = err_from_is_err_and c.from_residual-in_err-value.result c.from_residual-in_err-value.ensures.1 in
-    rw (p.1, p.2)
-    (item_fails g.R.Read.ends c.in_ok-place.header c.in_ok-place.place c.args.limit (seen g.R.Read c.args.decoder.now) (seen g.R.Read c.next_title.new.decoder) (seen g.R.Read c.read_item.new.decoder) _
+    passed_on _ _ c.from_residual-in_err-value.ensures.1 (item_fails g.R.Read.ends c.in_ok-place.header c.in_ok-place.place c.args.limit (seen g.R.Read c.args.decoder.now) (seen g.R.Read c.next_title.new.decoder) (seen g.R.Read c.read_item.new.decoder) _
     c.in_ok-place.ensures.at c.in_ok-place.ensures.ok c.in_err-value.ensures.err)
 
 pub returns-clause-ok : goal.returns-clause-ok
@@ -28,15 +25,12 @@ returns-clause-ok g c =
 
 pub returns-in_err-value-clause-stops : goal.returns-in_err-value-clause-stops
 returns-in_err-value-clause-stops g c =
-    let p = err_from_is_err_and c.from_residual-in_err-value.result c.from_residual-in_err-value.ensures.1 in
-    rw (p.1, p.2) (some_then _ _ _ c.in_ok-place.ensures.ok c.in_err-value.ensures.stops)
+    passed_on _ _ c.from_residual-in_err-value.ensures.1 (some_then _ _ _ c.in_ok-place.ensures.ok c.in_err-value.ensures.leaves.stops)
 
 pub returns-in_err-place-clause-one : goal.returns-in_err-place-clause-one
 returns-in_err-place-clause-one g c =
-    let p = err_from_is_err_and c.from_residual.result c.from_residual.ensures.1 in
-    rw (p.1, p.2) (not_memory _ _ c.in_err-place.ensures.memory)
+    passed_on _ _ c.from_residual.ensures.1 (not_memory _ _ c.in_err-place.ensures.memory)
 
 pub returns-in_err-value-clause-one : goal.returns-in_err-value-clause-one
 returns-in_err-value-clause-one g c =
-    let p = err_from_is_err_and c.from_residual-in_err-value.result c.from_residual-in_err-value.ensures.1 in
-    rw (p.1, p.2) (memory_then _ _ _ _ _ _ _ _ _ _ c.in_ok-place.ensures.ok (λ x y t one. one x t) c.in_err-value.ensures.one)
+    passed_on _ _ c.from_residual-in_err-value.ensures.1 (memory_then _ _ _ _ _ _ _ _ _ _ c.in_ok-place.ensures.ok (λ x y t one. one x t) c.in_err-value.ensures.leaves.one)

@@ -10,4 +10,4 @@ pub returns-clause-err : goal.returns-clause-err
 returns-clause-err g c = unread _ _ _ _ c.typed_item.result _ _ _ _ _ _ c.typed_item.ensures.err (search rules) (search rules) (search rules)
 
 pub returns-clause-one : goal.returns-clause-one
-returns-clause-one g c = given_one c.typed_item.result _ _ _ _ _ _ c.typed_item.ensures.one (search rules) (search rules)
+returns-clause-one g c = given_one c.typed_item.result _ _ _ _ _ _ c.typed_item.ensures.leaves.one (search rules) (search rules)

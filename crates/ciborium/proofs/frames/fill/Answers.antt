@@ -1,10 +1,10 @@
 use Rattle.std.proofs.Common.{rules, refl, arith}
-use Rattle.std.proofs.lemmas.Result.{err_from_is_err_and}
 use Rattle.ciborium_ll.specs.Views.{seen}
 use Rattle.ciborium.proofs.Taking.{takes_none}
 use Rattle.ciborium.proofs.Halting.{some_then, not_memory}
 use Rattle.ciborium.proofs.OneTurns.{fills_one}
 use Rattle.ciborium.proofs.FillLemmas.{fills_none, fills_end, fills_give, fills_leaf, fills_fail, leaf_asked_fails, listed_in_hand}
+use Rattle.ciborium.proofs.Passing.{passed_on}
 use Rattle.ciborium.proofs.frames.fill.Goals as goal
 
 pub parts-init : goal.parts-init
@@ -25,27 +25,21 @@ returns-then-not-takes-clause-moved g c = omega (arith, rw c.in-Some.is at c.in_
 
 pub returns-in_err-part-clause-err : goal.returns-in_err-part-clause-err
 returns-in_err-part-clause-err g c =
-    let p = err_from_is_err_and c.from_residual.result c.from_residual.ensures.1 in
-    rw (p.1, p.2)
-    (fills_fail g.R.Read.ends c.args.top.now c.parts.top (seen g.R.Read c.args.decoder.now) (seen g.R.Read c.parts.decoder) (seen g.R.Read c.ask.new.decoder) c.args.exact.now.holds c.parts.exact.holds _ c.parts.invariant.taken c.in_err-part.ensures.err)
+    passed_on _ _ c.from_residual.ensures.1 (fills_fail g.R.Read.ends c.args.top.now c.parts.top (seen g.R.Read c.args.decoder.now) (seen g.R.Read c.parts.decoder) (seen g.R.Read c.ask.new.decoder) c.args.exact.now.holds c.parts.exact.holds _ c.parts.invariant.taken c.in_err-part.ensures.err)
 
 pub returns-in_err-put_leaf-in-Some-clause-err : goal.returns-in_err-put_leaf-in-Some-clause-err
 returns-in_err-put_leaf-in-Some-clause-err g c =
-    let p = err_from_is_err_and c.from_residual-in_err-put_leaf-in-Some.result c.from_residual-in_err-put_leaf-in-Some.ensures.1 in
-    rw (p.1, p.2)
-    (fills_fail g.R.Read.ends c.args.top.now c.parts.top (seen g.R.Read c.args.decoder.now) (seen g.R.Read c.parts.decoder) (seen g.R.Read c.put_leaf.new.decoder) c.args.exact.now.holds c.parts.exact.holds _ c.parts.invariant.taken
+    passed_on _ _ c.from_residual-in_err-put_leaf-in-Some.ensures.1 (fills_fail g.R.Read.ends c.args.top.now c.parts.top (seen g.R.Read c.args.decoder.now) (seen g.R.Read c.parts.decoder) (seen g.R.Read c.put_leaf.new.decoder) c.args.exact.now.holds c.parts.exact.holds _ c.parts.invariant.taken
     (leaf_asked_fails g.R.Read.ends c.parts.top c.in-Some.header c.in-Some.at (seen g.R.Read c.parts.decoder) (seen g.R.Read c.ask.new.decoder) (seen g.R.Read c.put_leaf.new.decoder) c.parts.exact.holds c.ask.new.exact.holds _
     (rw c.in-Some.is at c.in_ok-part.ensures.some) c.in_err-put_leaf-in-Some.ensures.err))
 
-pub returns-in_err-part-clause-stops : goal.returns-in_err-part-clause-stops
-returns-in_err-part-clause-stops g c =
-    let p = err_from_is_err_and c.from_residual.result c.from_residual.ensures.1 in
-    rw (p.1, p.2) (some_then _ _ _ c.parts.invariant.taken c.in_err-part.ensures.stops)
+pub returns-in_err-part-clause-leaves : goal.returns-in_err-part-clause-leaves
+returns-in_err-part-clause-leaves g c =
+    record { stops = passed_on _ _ c.from_residual.ensures.1 (some_then _ _ _ c.parts.invariant.taken c.in_err-part.ensures.stops); one = passed_on _ _ c.from_residual.ensures.1 (not_memory _ _ c.in_err-part.ensures.memory); steady = search rules }
 
-pub returns-in_err-put_leaf-in-Some-clause-stops : goal.returns-in_err-put_leaf-in-Some-clause-stops
-returns-in_err-put_leaf-in-Some-clause-stops g c =
-    let p = err_from_is_err_and c.from_residual-in_err-put_leaf-in-Some.result c.from_residual-in_err-put_leaf-in-Some.ensures.1 in
-    rw (p.1, p.2) (some_then _ _ _ c.parts.invariant.taken (some_then _ _ _ (rw c.in-Some.is at c.in_ok-part.ensures.some) c.in_err-put_leaf-in-Some.ensures.stops))
+pub returns-in_err-put_leaf-in-Some-clause-leaves : goal.returns-in_err-put_leaf-in-Some-clause-leaves
+returns-in_err-put_leaf-in-Some-clause-leaves g c =
+    record { stops = passed_on _ _ c.from_residual-in_err-put_leaf-in-Some.ensures.1 (some_then _ _ _ c.parts.invariant.taken (some_then _ _ _ (rw c.in-Some.is at c.in_ok-part.ensures.some) c.in_err-put_leaf-in-Some.ensures.leaves.stops)); one = passed_on _ _ c.from_residual-in_err-put_leaf-in-Some.ensures.1 (fills_one c.args.top.now c.parts.top c.in-Some.header c.in-Some.at (seen g.R.Read c.args.decoder.now) (seen g.R.Read c.parts.decoder) (seen g.R.Read c.ask.new.decoder) (seen g.R.Read c.put_leaf.new.decoder) c.args.exact.now.holds c.parts.exact.holds c.ask.new.exact.holds _ c.parts.invariant.taken (rw c.in-Some.is at c.in_ok-part.ensures.some) c.in_err-put_leaf-in-Some.ensures.leaves.one); steady = search rules }
 
 pub put_leaf-requires-clause-list : goal.put_leaf-requires-clause-list
 put_leaf-requires-clause-list g c = (rw c.if-not-takes.false at c.takes.ensures).0
@@ -70,15 +64,3 @@ pub parts-smaller : goal.parts-smaller
 parts-smaller g c =
     let e = listed_in_hand c.parts.top (rw c.if-not-takes.false at c.takes.ensures).0 in
     omega (arith, e, rw c.in-Some.is at c.in_ok-part.ensures.moved, c.in_ok-put_leaf-in-Some.ensures.ok.1.grown, c.put_leaf.new.decoder.fits)
-
-pub returns-in_err-part-clause-one : goal.returns-in_err-part-clause-one
-returns-in_err-part-clause-one g c =
-    let p = err_from_is_err_and c.from_residual.result c.from_residual.ensures.1 in
-    rw (p.1, p.2) (not_memory _ _ c.in_err-part.ensures.memory)
-
-pub returns-in_err-put_leaf-in-Some-clause-one : goal.returns-in_err-put_leaf-in-Some-clause-one
-returns-in_err-put_leaf-in-Some-clause-one g c =
-    let p = err_from_is_err_and c.from_residual-in_err-put_leaf-in-Some.result c.from_residual-in_err-put_leaf-in-Some.ensures.1 in
-    rw (p.1, p.2)
-    (fills_one c.args.top.now c.parts.top c.in-Some.header c.in-Some.at (seen g.R.Read c.args.decoder.now) (seen g.R.Read c.parts.decoder) (seen g.R.Read c.ask.new.decoder) (seen g.R.Read c.put_leaf.new.decoder) c.args.exact.now.holds c.parts.exact.holds c.ask.new.exact.holds _
-    c.parts.invariant.taken (rw c.in-Some.is at c.in_ok-part.ensures.some) c.in_err-put_leaf-in-Some.ensures.one)

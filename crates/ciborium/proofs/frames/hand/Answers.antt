@@ -2,12 +2,12 @@ use Rattle.std.proofs.Common.{◌≡◌, None, Some, refl, reverse, sym, ◌∙�
 use Rattle.std.proofs.lemmas.Result.{err_from_is_err_and}
 use Rattle.ciborium.proofs.FrameLemmas.{items_more, entries_more, tag_up, tag_folds}
 use Rattle.ciborium.proofs.Halting.{fold_not_long}
+use Rattle.ciborium.proofs.Passing.{passed_on}
 use Rattle.ciborium.proofs.frames.hand.Goals as goal
 
 pub returns-in_err-whole-in-Tag-clause-err : goal.returns-in_err-whole-in-Tag-clause-err
 returns-in_err-whole-in-Tag-clause-err g c =
-    let p = err_from_is_err_and c.from_residual-in_err-whole-in-Tag.result c.from_residual-in_err-whole-in-Tag.ensures.1 in
-    rw (p.1, p.2) (rw (sym c.take.ensures.value, c.in-Some.is, c.in-Tag.is) (tag_folds (reverse c.args.below.now.items) _ c.in-Tag.field-1 c.in-Tag.field-3 c.in-Tag.field-2 _ _ c.in_err-whole-in-Tag.ensures.err))
+    passed_on _ _ c.from_residual-in_err-whole-in-Tag.ensures.1 (rw (sym c.take.ensures.value, c.in-Some.is, c.in-Tag.is) (tag_folds (reverse c.args.below.now.items) _ c.in-Tag.field-1 c.in-Tag.field-3 c.in-Tag.field-2 _ _ c.in_err-whole-in-Tag.ensures.err))
 
 pub returns-in-Ok-clause-ok : goal.returns-in-Ok-clause-ok
 returns-in-Ok-clause-ok g c =
@@ -22,8 +22,7 @@ returns-in-Some-pop-clause-ok g c = rw (sym c.take.ensures.value, c.in-Some.is, 
 
 pub returns-in_err-whole-in-Tag-clause-far : goal.returns-in_err-whole-in-Tag-clause-far
 returns-in_err-whole-in-Tag-clause-far g c =
-    let p = err_from_is_err_and c.from_residual-in_err-whole-in-Tag.result c.from_residual-in_err-whole-in-Tag.ensures.1 in
-    rw (p.1, p.2) (fold_not_long _ _ _ c.in_err-whole-in-Tag.ensures.err)
+    passed_on _ _ c.from_residual-in_err-whole-in-Tag.ensures.1 (fold_not_long _ _ _ c.in_err-whole-in-Tag.ensures.err)
 
 pub returns-in_default-push-clause-some : goal.returns-in_default-push-clause-some
 returns-in_default-push-clause-some g c = λ e. let f : Some c.in-Some.value ≡ None = sym c.in-Some.is ∙ c.take.ensures.value ∙ e in cc

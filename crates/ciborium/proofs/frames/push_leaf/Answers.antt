@@ -1,5 +1,4 @@
-use Rattle.std.proofs.Common.{false, true, arith, ap, sym, ◌∙◌, Some, pos, negsuc}
-use Rattle.std.proofs.lemmas.Result.{err_from_is_err_and}
+use Rattle.std.proofs.Common.{rules, false, true, arith, ap, sym, ◌∙◌, Some, pos, negsuc}
 use Rattle.ciborium_ll.specs.declared.hdr.Header.TheVariants.{Positive, Negative}
 use Rattle.ciborium_ll.specs.declared.hdr.Header.TheVariants as head
 use Rattle.ciborium_value.specs.declared.value.Value.TheVariants as value
@@ -10,6 +9,7 @@ use Rattle.ciborium.proofs.Taking.{takes_as, takes_none}
 use Rattle.ciborium.proofs.ReadLemmas.{leaf, bytes_read, text_read}
 use Rattle.ciborium.proofs.Steps.{bytes_fail, text_fail}
 use Rattle.ciborium.proofs.OneItem.{none_behind, reads_behind, string_behind}
+use Rattle.ciborium.proofs.Passing.{passed_on}
 use Rattle.ciborium.proofs.frames.push_leaf.Goals as goal
 
 pub returns-in-Ok-clause-ok : goal.returns-in-Ok-clause-ok
@@ -32,43 +32,45 @@ returns-in-Ok-push-3-clause-ok g c =
 
 pub returns-in_err-bytes-in-Bytes-clause-err : goal.returns-in_err-bytes-in-Bytes-clause-err
 returns-in_err-bytes-in-Bytes-clause-err g c =
-    let p = err_from_is_err_and c.from_residual.result c.from_residual.ensures.1 in
-    rw (p.1, p.2) (rw c.in-Bytes.is (λ limit. bytes_fail g.R.Read.ends c.in-Bytes.length _ limit _ _ _ _ c.in_err-bytes-in-Bytes.ensures.err))
+    passed_on _ _ c.from_residual.ensures.1 (rw c.in-Bytes.is (λ limit. bytes_fail g.R.Read.ends c.in-Bytes.length _ limit _ _ _ _ c.in_err-bytes-in-Bytes.ensures.err))
 
 pub returns-in_err-text-in-Text-clause-err : goal.returns-in_err-text-in-Text-clause-err
 returns-in_err-text-in-Text-clause-err g c =
-    let p = err_from_is_err_and c.from_residual-in_err-text-in-Text.result c.from_residual-in_err-text-in-Text.ensures.1 in
-    rw (p.1, p.2) (rw c.in-Text.is (λ limit. text_fail g.R.Read.ends c.in-Text.length _ limit _ _ _ _ c.in_err-text-in-Text.ensures.err))
+    passed_on _ _ c.from_residual-in_err-text-in-Text.ensures.1 (rw c.in-Text.is (λ limit. text_fail g.R.Read.ends c.in-Text.length _ limit _ _ _ _ c.in_err-text-in-Text.ensures.err))
 
 pub returns-in-Ok-push-4-clause-ok : goal.returns-in-Ok-push-4-clause-ok
 returns-in-Ok-push-4-clause-ok g c =
     rw c.in-Float.is
     (value.Float c.in-Float.f, leaf (head.Float c.in-Float.f) (spec.float c.in-Float.f) (view (value.Float c.in-Float.f)) _ _ (λ title t. t) (omega arith) (ap Some (sym (view_float _))), c.in-Ok-push-4.ensures.items)
 
-pub returns-in_default-push-clause-one : goal.returns-in_default-push-clause-one
-returns-in_default-push-clause-one g c = takes_none _ _ _ (none_behind c.args.header)
+pub returns-in_default-push-clause-leaves : goal.returns-in_default-push-clause-leaves
+returns-in_default-push-clause-leaves g c =
+    record { stops = search rules; one = takes_none _ _ _ (none_behind c.args.header); steady = search rules }
 
-pub returns-in_default-push-2-clause-one : goal.returns-in_default-push-2-clause-one
-returns-in_default-push-2-clause-one g c = takes_none _ _ _ (none_behind c.args.header)
+pub returns-in_default-push-2-clause-leaves : goal.returns-in_default-push-2-clause-leaves
+returns-in_default-push-2-clause-leaves g c =
+    record { stops = search rules; one = takes_none _ _ _ (none_behind c.args.header); steady = search rules }
 
-pub returns-in_default-push-3-clause-one : goal.returns-in_default-push-3-clause-one
-returns-in_default-push-3-clause-one g c = rw c.in-Bytes.is (takes_as _ _ _ _ _ _ c.in_ok-bytes-in-Bytes.ensures.ok (λ x s. string_behind false c.in-Bytes.length _ x s))
+pub returns-in_default-push-3-clause-leaves : goal.returns-in_default-push-3-clause-leaves
+returns-in_default-push-3-clause-leaves g c =
+    record { stops = search rules; one = rw c.in-Bytes.is (takes_as _ _ _ _ _ _ c.in_ok-bytes-in-Bytes.ensures.ok (λ x s. string_behind false c.in-Bytes.length _ x s)); steady = search rules }
 
-pub returns-in_default-push-4-clause-one : goal.returns-in_default-push-4-clause-one
-returns-in_default-push-4-clause-one g c = rw c.in-Text.is (takes_as _ _ _ _ _ _ c.in_ok-text-in-Text.ensures.ok (λ x s. string_behind true c.in-Text.length _ x s))
+pub returns-in_default-push-4-clause-leaves : goal.returns-in_default-push-4-clause-leaves
+returns-in_default-push-4-clause-leaves g c =
+    record { stops = search rules; one = rw c.in-Text.is (takes_as _ _ _ _ _ _ c.in_ok-text-in-Text.ensures.ok (λ x s. string_behind true c.in-Text.length _ x s)); steady = search rules }
 
-pub returns-in_err-bytes-in-Bytes-clause-one : goal.returns-in_err-bytes-in-Bytes-clause-one
-returns-in_err-bytes-in-Bytes-clause-one g c =
-    let p = err_from_is_err_and c.from_residual.result c.from_residual.ensures.1 in
-    rw (p.1, p.2) (rw c.in-Bytes.is c.in_err-bytes-in-Bytes.ensures.one)
+pub returns-in_err-bytes-in-Bytes-clause-leaves : goal.returns-in_err-bytes-in-Bytes-clause-leaves
+returns-in_err-bytes-in-Bytes-clause-leaves g c =
+    record { stops = search rules; one = passed_on _ _ c.from_residual.ensures.1 (rw c.in-Bytes.is c.in_err-bytes-in-Bytes.ensures.leaves.one); steady = search rules }
 
-pub returns-in_err-text-in-Text-clause-one : goal.returns-in_err-text-in-Text-clause-one
-returns-in_err-text-in-Text-clause-one g c =
-    let p = err_from_is_err_and c.from_residual-in_err-text-in-Text.result c.from_residual-in_err-text-in-Text.ensures.1 in
-    rw (p.1, p.2) (rw c.in-Text.is c.in_err-text-in-Text.ensures.one)
+pub returns-in_err-text-in-Text-clause-leaves : goal.returns-in_err-text-in-Text-clause-leaves
+returns-in_err-text-in-Text-clause-leaves g c =
+    record { stops = search rules; one = passed_on _ _ c.from_residual-in_err-text-in-Text.ensures.1 (rw c.in-Text.is c.in_err-text-in-Text.ensures.leaves.one); steady = search rules }
 
-pub returns-in_default-push-5-clause-one : goal.returns-in_default-push-5-clause-one
-returns-in_default-push-5-clause-one g c = takes_none _ _ _ (none_behind c.args.header)
+pub returns-in_default-push-5-clause-leaves : goal.returns-in_default-push-5-clause-leaves
+returns-in_default-push-5-clause-leaves g c =
+    record { stops = search rules; one = takes_none _ _ _ (none_behind c.args.header); steady = search rules }
 
-pub returns-in_default-push-6-clause-one : goal.returns-in_default-push-6-clause-one
-returns-in_default-push-6-clause-one g c = takes_as _ _ _ _ _ _ c.in_ok-leaf-in_default.ensures.ok (λ x s. reads_behind c.args.header 0 _ x (s 0))
+pub returns-in_default-push-6-clause-leaves : goal.returns-in_default-push-6-clause-leaves
+returns-in_default-push-6-clause-leaves g c =
+    record { stops = search rules; one = takes_as _ _ _ _ _ _ c.in_ok-leaf-in_default.ensures.ok (λ x s. reads_behind c.args.header 0 _ x (s 0)); steady = search rules }

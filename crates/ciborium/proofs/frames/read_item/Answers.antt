@@ -1,9 +1,9 @@
 use Rattle.std.proofs.Common.{rules, refl, reverse, ◌∷◌, arith}
-use Rattle.std.proofs.lemmas.Result.{err_from_is_err_and}
 use Rattle.ciborium_ll.specs.Views.{seen}
 use Rattle.ciborium.proofs.TurnLemmas.{turn_start, turn_staged, turn_taken, taken_none, turn_half, turn_ended, turn_closed, turn_begun, turn_done, done_some, turn_fails, begun_fails, turn_less}
 use Rattle.ciborium.proofs.Halting.{some_then, some_taken, memory_of}
 use Rattle.ciborium.proofs.OneTurns.{turn_one, turn_fills, turn_begins}
+use Rattle.ciborium.proofs.Passing.{passed_on}
 use Rattle.ciborium.proofs.frames.read_item.Goals as goal
 
 pub turns-init : goal.turns-init
@@ -14,9 +14,7 @@ hand-requires g c = record { staged = turn_staged c.turns.invariant.turn c.requi
 
 pub returns-in_err-hand-clause-err : goal.returns-in_err-hand-clause-err
 returns-in_err-hand-clause-err g c =
-    let p = err_from_is_err_and c.from_residual.result c.from_residual.ensures.1 in
-    rw (p.1, p.2)
-    (turn_fails g.R.Read.ends (seen g.R.Read c.turns.decoder).offset _ c.turns.invariant.turn
+    passed_on _ _ c.from_residual.ensures.1 (turn_fails g.R.Read.ends (seen g.R.Read c.turns.decoder).offset _ c.turns.invariant.turn
     (λ b off s. c.in_err-hand.ensures.err g.R.Read.ends c.args.limit c.args.at b (seen g.R.Read c.turns.decoder).left (seen g.R.Read c.turns.decoder).offset off s))
 
 pub returns-in-Some-clause-ok : goal.returns-in-Some-clause-ok
@@ -30,10 +28,8 @@ unreachable-requires g c =
 
 pub returns-in_err-part-in-Taken-clause-err : goal.returns-in_err-part-in-Taken-clause-err
 returns-in_err-part-in-Taken-clause-err g c =
-    let p = err_from_is_err_and c.from_residual-in_err-part-in-Taken.result c.from_residual-in_err-part-in-Taken.ensures.1 in
     let t = turn_taken (c.hand.new.top ∷ reverse c.hand.new.below.items) c.hand.new.read c.hand.new.exact.holds c.turns.invariant.turn (rw c.in-Taken.is at c.in_ok-hand.ensures.ok) in
-    rw (p.1, p.2)
-    (turn_fails g.R.Read.ends (seen g.R.Read c.fill.new.decoder).offset _ t
+    passed_on _ _ c.from_residual-in_err-part-in-Taken.ensures.1 (turn_fails g.R.Read.ends (seen g.R.Read c.fill.new.decoder).offset _ t
     (λ b off s. c.in_err-part-in-Taken.ensures.err c.args.limit c.args.at (reverse c.hand.new.below.items) b off s))
 
 pub fill-requires-clause-half : goal.fill-requires-clause-half
@@ -84,42 +80,20 @@ turns-smaller g c =
 
 pub returns-in_err-begin-in-Some-part-clause-err : goal.returns-in_err-begin-in-Some-part-clause-err
 returns-in_err-begin-in-Some-part-clause-err g c =
-    let p = err_from_is_err_and c.from_residual-in_err-begin-in-Some-part.result c.from_residual-in_err-begin-in-Some-part.ensures.1 in
     let t = turn_taken (c.hand.new.top ∷ reverse c.hand.new.below.items) c.hand.new.read c.hand.new.exact.holds c.turns.invariant.turn (rw c.in-Taken.is at c.in_ok-hand.ensures.ok) in
-    rw (p.1, p.2)
-    (begun_fails c.fill.new.top g.R.Read.ends c.in-Some-part.title.0 c.in-Some-part.title.1 (seen g.R.Read c.fill.new.decoder) (seen g.R.Read c.begin.new.decoder) c.fill.new.exact.holds _ t
+    passed_on _ _ c.from_residual-in_err-begin-in-Some-part.ensures.1 (begun_fails c.fill.new.top g.R.Read.ends c.in-Some-part.title.0 c.in-Some-part.title.1 (seen g.R.Read c.fill.new.decoder) (seen g.R.Read c.begin.new.decoder) c.fill.new.exact.holds _ t
     (rw c.in-Some-part.is at c.in_ok-part-in-Taken.ensures.some) c.in_err-begin-in-Some-part.ensures.err)
 
-pub returns-in_err-hand-clause-stops : goal.returns-in_err-hand-clause-stops
-returns-in_err-hand-clause-stops g c =
-    let p = err_from_is_err_and c.from_residual.result c.from_residual.ensures.1 in
-    rw (p.1, p.2) (some_taken _ c.in_err-hand.ensures.far c.turns.invariant.turn.taken)
+pub returns-in_err-hand-clause-leaves : goal.returns-in_err-hand-clause-leaves
+returns-in_err-hand-clause-leaves g c =
+    record { stops = passed_on _ _ c.from_residual.ensures.1 (some_taken _ c.in_err-hand.ensures.far c.turns.invariant.turn.taken); one = passed_on _ _ c.from_residual.ensures.1 (memory_of _ _ (turn_one c.in_err-hand.ensures.some c.turns.invariant.turn)); steady = search rules }
 
-pub returns-in_err-part-in-Taken-clause-stops : goal.returns-in_err-part-in-Taken-clause-stops
-returns-in_err-part-in-Taken-clause-stops g c =
-    let p = err_from_is_err_and c.from_residual-in_err-part-in-Taken.result c.from_residual-in_err-part-in-Taken.ensures.1 in
-    rw (p.1, p.2) (some_then _ _ _ c.turns.invariant.turn.taken c.in_err-part-in-Taken.ensures.stops)
-
-pub returns-in_err-begin-in-Some-part-clause-stops : goal.returns-in_err-begin-in-Some-part-clause-stops
-returns-in_err-begin-in-Some-part-clause-stops g c =
-    let p = err_from_is_err_and c.from_residual-in_err-begin-in-Some-part.result c.from_residual-in_err-begin-in-Some-part.ensures.1 in
-    rw (p.1, p.2) (some_then _ _ _ c.turns.invariant.turn.taken (some_then _ _ _ (rw c.in-Some-part.is at c.in_ok-part-in-Taken.ensures.some) c.in_err-begin-in-Some-part.ensures.stops))
-
-pub returns-in_err-hand-clause-one : goal.returns-in_err-hand-clause-one
-returns-in_err-hand-clause-one g c =
-    let p = err_from_is_err_and c.from_residual.result c.from_residual.ensures.1 in
-    rw (p.1, p.2) (memory_of _ _ (turn_one c.in_err-hand.ensures.some c.turns.invariant.turn))
-
-pub returns-in_err-part-in-Taken-clause-one : goal.returns-in_err-part-in-Taken-clause-one
-returns-in_err-part-in-Taken-clause-one g c =
-    let p = err_from_is_err_and c.from_residual-in_err-part-in-Taken.result c.from_residual-in_err-part-in-Taken.ensures.1 in
+pub returns-in_err-part-in-Taken-clause-leaves : goal.returns-in_err-part-in-Taken-clause-leaves
+returns-in_err-part-in-Taken-clause-leaves g c =
     let t = turn_taken (c.hand.new.top ∷ reverse c.hand.new.below.items) c.hand.new.read c.hand.new.exact.holds c.turns.invariant.turn (rw c.in-Taken.is at c.in_ok-hand.ensures.ok) in
-    rw (p.1, p.2) (turn_fills (seen g.R.Read c.fill.new.decoder) _ t c.in_err-part-in-Taken.ensures.one)
+    record { stops = passed_on _ _ c.from_residual-in_err-part-in-Taken.ensures.1 (some_then _ _ _ c.turns.invariant.turn.taken c.in_err-part-in-Taken.ensures.leaves.stops); one = passed_on _ _ c.from_residual-in_err-part-in-Taken.ensures.1 (turn_fills (seen g.R.Read c.fill.new.decoder) _ t c.in_err-part-in-Taken.ensures.leaves.one); steady = search rules }
 
-pub returns-in_err-begin-in-Some-part-clause-one : goal.returns-in_err-begin-in-Some-part-clause-one
-returns-in_err-begin-in-Some-part-clause-one g c =
-    let p = err_from_is_err_and c.from_residual-in_err-begin-in-Some-part.result c.from_residual-in_err-begin-in-Some-part.ensures.1 in
+pub returns-in_err-begin-in-Some-part-clause-leaves : goal.returns-in_err-begin-in-Some-part-clause-leaves
+returns-in_err-begin-in-Some-part-clause-leaves g c =
     let t = turn_taken (c.hand.new.top ∷ reverse c.hand.new.below.items) c.hand.new.read c.hand.new.exact.holds c.turns.invariant.turn (rw c.in-Taken.is at c.in_ok-hand.ensures.ok) in
-    rw (p.1, p.2)
-    (turn_begins c.fill.new.top c.in-Some-part.title.0 c.in-Some-part.title.1 (seen g.R.Read c.fill.new.decoder) (seen g.R.Read c.begin.new.decoder) c.fill.new.exact.holds _ t
-    (rw c.in-Some-part.is at c.in_ok-part-in-Taken.ensures.some) c.in_err-begin-in-Some-part.ensures.one)
+    record { stops = passed_on _ _ c.from_residual-in_err-begin-in-Some-part.ensures.1 (some_then _ _ _ c.turns.invariant.turn.taken (some_then _ _ _ (rw c.in-Some-part.is at c.in_ok-part-in-Taken.ensures.some) c.in_err-begin-in-Some-part.ensures.leaves.stops)); one = passed_on _ _ c.from_residual-in_err-begin-in-Some-part.ensures.1 (turn_begins c.fill.new.top c.in-Some-part.title.0 c.in-Some-part.title.1 (seen g.R.Read c.fill.new.decoder) (seen g.R.Read c.begin.new.decoder) c.fill.new.exact.holds _ t (rw c.in-Some-part.is at c.in_ok-part-in-Taken.ensures.some) c.in_err-begin-in-Some-part.ensures.leaves.one); steady = search rules }

@@ -1,5 +1,4 @@
-use Rattle.std.proofs.Common.{arith, ap, sym, ◌∙◌, Some, pos, negsuc}
-use Rattle.std.proofs.lemmas.Result.{err_from_is_err_and}
+use Rattle.std.proofs.Common.{rules, arith, ap, sym, ◌∙◌, Some, pos, negsuc}
 use Rattle.ciborium_ll.specs.declared.hdr.Header.TheVariants.{Positive, Negative, Simple}
 use Rattle.ciborium_ll.specs.declared.hdr.Header.TheVariants as head
 use Rattle.ciborium_value.specs.Tree as spec
@@ -7,6 +6,7 @@ use Rattle.ciborium_value.proofs.Views.{view_integer, view_float, view_bytes, vi
 use Rattle.ciborium.proofs.Taking.{takes_as}
 use Rattle.ciborium.proofs.ReadLemmas.{leaf, bytes_read, text_read, simple_fails, break_fails}
 use Rattle.ciborium.proofs.Steps.{bytes_fail, text_fail}
+use Rattle.ciborium.proofs.Passing.{passed_on}
 use Rattle.ciborium.proofs.reader.read_leaf.Goals as goal
 
 pub returns-in-Positive-clause-ok : goal.returns-in-Positive-clause-ok
@@ -29,13 +29,11 @@ returns-in-Break-clause-err g c limit = rw c.in-Break.is (break_fails g.R.Read.e
 
 pub returns-in_err-bytes-in-Bytes-clause-err : goal.returns-in_err-bytes-in-Bytes-clause-err
 returns-in_err-bytes-in-Bytes-clause-err g c =
-    let p = err_from_is_err_and c.from_residual.result c.from_residual.ensures.1 in
-    rw (p.1, p.2) (rw c.in-Bytes.is (λ limit. bytes_fail g.R.Read.ends c.in-Bytes.length _ limit _ _ _ _ c.in_err-bytes-in-Bytes.ensures.err))
+    passed_on _ _ c.from_residual.ensures.1 (rw c.in-Bytes.is (λ limit. bytes_fail g.R.Read.ends c.in-Bytes.length _ limit _ _ _ _ c.in_err-bytes-in-Bytes.ensures.err))
 
 pub returns-in_err-text-in-Text-clause-err : goal.returns-in_err-text-in-Text-clause-err
 returns-in_err-text-in-Text-clause-err g c =
-    let p = err_from_is_err_and c.from_residual-in_err-text-in-Text.result c.from_residual-in_err-text-in-Text.ensures.1 in
-    rw (p.1, p.2) (rw c.in-Text.is (λ limit. text_fail g.R.Read.ends c.in-Text.length _ limit _ _ _ _ c.in_err-text-in-Text.ensures.err))
+    passed_on _ _ c.from_residual-in_err-text-in-Text.ensures.1 (rw c.in-Text.is (λ limit. text_fail g.R.Read.ends c.in-Text.length _ limit _ _ _ _ c.in_err-text-in-Text.ensures.err))
 
 pub returns-in_ok-bytes-in-Bytes-clause-ok : goal.returns-in_ok-bytes-in-Bytes-clause-ok
 returns-in_ok-bytes-in-Bytes-clause-ok g c = rw c.in-Bytes.is (takes_as _ _ _ _ _ _ c.in_ok-bytes-in-Bytes.ensures.ok (λ x s limit. bytes_read _ limit _ _ x (view_bytes _) s))
@@ -43,12 +41,10 @@ returns-in_ok-bytes-in-Bytes-clause-ok g c = rw c.in-Bytes.is (takes_as _ _ _ _ 
 pub returns-in_ok-text-in-Text-clause-ok : goal.returns-in_ok-text-in-Text-clause-ok
 returns-in_ok-text-in-Text-clause-ok g c = rw c.in-Text.is (takes_as _ _ _ _ _ _ c.in_ok-text-in-Text.ensures.ok (λ x s limit. text_read _ limit _ _ x (view_text _) s))
 
-pub returns-in_err-bytes-in-Bytes-clause-one : goal.returns-in_err-bytes-in-Bytes-clause-one
-returns-in_err-bytes-in-Bytes-clause-one g c =
-    let p = err_from_is_err_and c.from_residual.result c.from_residual.ensures.1 in
-    rw (p.1, p.2) (rw c.in-Bytes.is c.in_err-bytes-in-Bytes.ensures.one)
+pub returns-in_err-bytes-in-Bytes-clause-leaves : goal.returns-in_err-bytes-in-Bytes-clause-leaves
+returns-in_err-bytes-in-Bytes-clause-leaves g c =
+    record { stops = search rules; one = passed_on _ _ c.from_residual.ensures.1 (rw c.in-Bytes.is c.in_err-bytes-in-Bytes.ensures.leaves.one); steady = search rules }
 
-pub returns-in_err-text-in-Text-clause-one : goal.returns-in_err-text-in-Text-clause-one
-returns-in_err-text-in-Text-clause-one g c =
-    let p = err_from_is_err_and c.from_residual-in_err-text-in-Text.result c.from_residual-in_err-text-in-Text.ensures.1 in
-    rw (p.1, p.2) (rw c.in-Text.is c.in_err-text-in-Text.ensures.one)
+pub returns-in_err-text-in-Text-clause-leaves : goal.returns-in_err-text-in-Text-clause-leaves
+returns-in_err-text-in-Text-clause-leaves g c =
+    record { stops = search rules; one = passed_on _ _ c.from_residual-in_err-text-in-Text.ensures.1 (rw c.in-Text.is c.in_err-text-in-Text.ensures.leaves.one); steady = search rules }

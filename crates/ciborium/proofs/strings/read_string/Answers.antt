@@ -1,8 +1,9 @@
-use Rattle.std.proofs.Common.{arith}
-use Rattle.std.proofs.lemmas.Result.{err_from_is_err_and}
+use Rattle.std.proofs.Common.{rules, arith}
+use Rattle.ciborium.specs.Reading.{string_head, IsBody}
 use Rattle.ciborium.proofs.Taking.{takes_as}
-use Rattle.ciborium.proofs.StringLemmas.{chunk_done}
+use Rattle.ciborium.proofs.StringLemmas.{chunk_done, chunk_is}
 use Rattle.ciborium.proofs.OneItem.{chunk_memory}
+use Rattle.ciborium.proofs.Passing.{passed_on}
 use Rattle.ciborium.proofs.strings.read_string.Goals as goal
 
 pub returns-in_ok-read_chunk-in-Some-clause-ok : goal.returns-in_ok-read_chunk-in-Some-clause-ok
@@ -13,7 +14,10 @@ pub returns-in_ok-read_chunk-in-Some-clause-held : goal.returns-in_ok-read_chunk
 returns-in_ok-read_chunk-in-Some-clause-held g c =
     rw c.in-Some.is (omega (arith, c.in_ok-read_chunk-in-Some.ensures.alone c.new-bytes.ensures.items, c.new-bytes.ensures.capacity))
 
-pub returns-in_err-read_chunk-in-Some-clause-one : goal.returns-in_err-read_chunk-in-Some-clause-one
-returns-in_err-read_chunk-in-Some-clause-one g c =
-    let p = err_from_is_err_and c.from_residual.result c.from_residual.ensures.1 in
-    rw (p.1, p.2) (rw c.in-Some.is (chunk_memory c.args.text _ _ _ _ _ _ c.in_err-read_chunk-in-Some.ensures.one))
+pub returns-in_err-read_chunk-in-Some-clause-leaves : goal.returns-in_err-read_chunk-in-Some-clause-leaves
+returns-in_err-read_chunk-in-Some-clause-leaves g c =
+    record { stops = search rules; one = passed_on _ _ c.from_residual.ensures.1 (rw c.in-Some.is (chunk_memory c.args.text _ _ _ _ _ _ c.in_err-read_chunk-in-Some.ensures.leaves.one)); steady = search rules }
+
+pub returns-in_err-read_chunk-in-Some-clause-err : goal.returns-in_err-read_chunk-in-Some-clause-err
+returns-in_err-read_chunk-in-Some-clause-err g c =
+    passed_on _ _ c.from_residual.ensures.1 (rw c.in-Some.is (chunk_is g.R.Read.ends (string_head c.args.text) (IsBody c.args.text) c.in-Some.n c.args.at _ _ _ _ c.in_err-read_chunk-in-Some.ensures.err))

@@ -1,9 +1,11 @@
-use Rattle.std.proofs.Common.{true}
-use Rattle.std.proofs.lemmas.Result.{err_from_is_err_and}
+use Rattle.std.proofs.Common.{rules, true}
+use Rattle.std.specs.Str.{IsUtf8}
+use Rattle.ciborium_ll.specs.declared.hdr.Header.TheVariants.{Text}
 use Rattle.ciborium.proofs.Taking.{takes_as}
-use Rattle.ciborium.proofs.StringLemmas.{whole_text, whole_text_fails}
+use Rattle.ciborium.proofs.StringLemmas.{whole_text, whole_text_fails, short_fails, chunk_is}
 use Rattle.ciborium.proofs.Halting.{was_taken}
 use Rattle.ciborium.proofs.OneItem.{chunk_memory}
+use Rattle.ciborium.proofs.Passing.{passed_on}
 use Rattle.ciborium.proofs.strings.read_whole_text.Goals as goal
 
 pub returns-in-Some-clause-ok : goal.returns-in-Some-clause-ok
@@ -14,10 +16,14 @@ pub returns-in-None-clause-err : goal.returns-in-None-clause-err
 returns-in-None-clause-err g c =
     whole_text_fails g.R.Read.ends _ _ _ _ _ _ _ _ c.new-bytes.ensures.items c.in_ok-read_bytes.ensures.ok c.in-None.ensures.none
 
-pub returns-in-None-clause-stops : goal.returns-in-None-clause-stops
-returns-in-None-clause-stops g c = was_taken c.in_ok-read_bytes.ensures.ok
+pub returns-in-None-clause-leaves : goal.returns-in-None-clause-leaves
+returns-in-None-clause-leaves g c =
+    record { stops = was_taken c.in_ok-read_bytes.ensures.ok; one = search rules; steady = search rules }
 
-pub returns-in_err-read_bytes-clause-one : goal.returns-in_err-read_bytes-clause-one
-returns-in_err-read_bytes-clause-one g c =
-    let p = err_from_is_err_and c.from_residual.result c.from_residual.ensures.1 in
-    rw (p.1, p.2) (chunk_memory true c.args.n _ _ _ _ _ c.in_err-read_bytes.ensures.one)
+pub returns-in_err-read_bytes-clause-leaves : goal.returns-in_err-read_bytes-clause-leaves
+returns-in_err-read_bytes-clause-leaves g c =
+    record { stops = search rules; one = passed_on _ _ c.from_residual.ensures.1 (chunk_memory true c.args.n _ _ _ _ _ c.in_err-read_bytes.ensures.leaves.one); steady = search rules }
+
+pub returns-in_err-read_bytes-clause-err : goal.returns-in_err-read_bytes-clause-err
+returns-in_err-read_bytes-clause-err g c =
+    passed_on _ _ c.from_residual.ensures.1 (chunk_is g.R.Read.ends Text IsUtf8 c.args.n c.args.at _ _ _ _ (short_fails g.R.Read.ends Text IsUtf8 c.args.n c.args.at _ _ _ _ c.in_err-read_bytes.ensures.err))

@@ -3,7 +3,7 @@ use Rattle.std.specs.Ordering.{eq_by_cmp}
 use Rattle.ciborium_value.specs.View.{view}
 use Rattle.ciborium_value.specs.Canonical.{canonical, canonical_cmp}
 use Rattle.ciborium_value.specs.Facts.Derived.{hashed_alike}
-use Rattle.ciborium_value.specs.Facts.TextTies.{canonical_same}
+use Rattle.ciborium_value.specs.Facts.TextTotal.{canonical_same}
 use Rattle.ciborium_value.proofs.TextOrder.{fits_sized, canonical_order}
 use Rattle.ciborium_value.proofs.laws.canonical_values_compare.Goals as goal
 

@@ -1,6 +1,5 @@
 use Rattle.std.proofs.lemmas.Cmp.{int_cmp_total}
-use Rattle.ciborium_value.specs.Facts.TextTies.{text_tied}
-use Rattle.ciborium_value.specs.Facts.TextTotal.{text_total, canonical_total}
+use Rattle.ciborium_value.specs.Facts.TextTotal.{text_total, canonical_total, text_tied}
 use Rattle.ciborium_value.specs.Facts.Ties.{tied}
 use Rattle.ciborium_value.specs.Facts.TreeTotal.{tree_total}
 use Rattle.ciborium_value.proofs.laws.orders_are_total.Goals as goal

@@ -1,7 +1,8 @@
 use Rattle.std.proofs.Common.{◌<◌, ◌^◌, ◌∙◌, ap, subst, arith}
 use Rattle.ciborium_value.specs.Encoding.{enc_all, enc_pairs}
 use Rattle.ciborium_value.specs.View.{views, view_pairs}
-use Rattle.ciborium_value.specs.Canonical.{counted, SizedAll, SizedPairs}
+use Rattle.ciborium_value.specs.Canonical.{counted}
+use Rattle.ciborium_value.specs.Facts.Heads.{SizedAll, SizedPairs}
 use Rattle.ciborium_value.proofs.Lengths.{array_len, map_len, array_sized, map_sized, step, entry_step}
 use Rattle.ciborium_value.proofs.length.+lengths.Goals as goal
 

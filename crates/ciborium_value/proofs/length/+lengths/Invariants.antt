@@ -1,6 +1,7 @@
 use Rattle.std.proofs.Common.{◌≡◌, ◌≤◌, ◌+◌, min, drop, take, length}
 use Rattle.ciborium_value.specs.Encoding.{enc_all, enc_pairs}
-use Rattle.ciborium_value.specs.Canonical.{counted, SizedAll, SizedPairs}
+use Rattle.ciborium_value.specs.Canonical.{counted}
+use Rattle.ciborium_value.specs.Facts.Heads.{SizedAll, SizedPairs}
 use Rattle.ciborium_value.specs.View.{views, view_pairs}
 use Rattle.ciborium_value.proofs.length.+lengths.Given as goal
 

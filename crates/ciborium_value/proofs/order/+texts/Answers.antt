@@ -1,6 +1,6 @@
 use Rattle.std.proofs.Common.{◌∙◌}
 use Rattle.ciborium_value.specs.View.{view_pairs}
-use Rattle.ciborium_value.specs.Canonical.{each_cmp}
+use Rattle.ciborium_value.specs.Facts.Heads.{each_cmp}
 use Rattle.ciborium_value.proofs.ValueOrder.{map_texts}
 use Rattle.ciborium_value.proofs.order.+texts.Goals as goal
 

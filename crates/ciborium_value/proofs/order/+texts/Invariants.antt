@@ -1,7 +1,7 @@
 use Rattle.std.proofs.Common.{◌≡◌, ◌+◌, ◌*◌}
 use Rattle.std.specs.Iterator.Adapters.{zip_first, zip_second}
 use Rattle.std.specs.Slice.Iter.{iter_rest}
-use Rattle.ciborium_value.specs.Canonical.{all_cmp, each_cmp}
+use Rattle.ciborium_value.specs.Facts.Heads.{all_cmp, each_cmp}
 use Rattle.ciborium_value.specs.View.{views, view_pairs}
 use Rattle.ciborium_value.proofs.order.+texts.Given as goal
 

@@ -1,4 +1,4 @@
-use Rattle.coset_headers.specs.Decided.{headers_decided}
+use Rattle.coset_headers.specs.Facts.Decided.{headers_decided}
 use Rattle.coset_headers.specs.View.{header_view}
 use Rattle.coset_headers.proofs.laws.headers_compare.Goals as goal
 

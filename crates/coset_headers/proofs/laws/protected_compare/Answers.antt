@@ -1,4 +1,4 @@
-use Rattle.coset_headers.specs.Decided.{protected_decided}
+use Rattle.coset_headers.specs.Facts.Decided.{protected_decided}
 use Rattle.coset_headers.specs.View.{protected_view}
 use Rattle.coset_headers.proofs.laws.protected_compare.Goals as goal
 

@@ -1,4 +1,4 @@
-use Rattle.coset_headers.specs.Decided.{signature_decided}
+use Rattle.coset_headers.specs.Facts.Decided.{signature_decided}
 use Rattle.coset_headers.specs.View.{signature_view}
 use Rattle.coset_headers.proofs.laws.signatures_compare.Goals as goal
 

@@ -1,5 +1,5 @@
 use Rattle.std.proofs.Common.{ap, sym, ◌∙◌, is_eq}
-use Rattle.coset_labels.specs.Orders.{labels_same}
+use Rattle.coset_labels.specs.Facts.Orders.{labels_same}
 use Rattle.coset_labels.specs.View.{label_view}
 use Rattle.coset_headers.proofs.Fresh.{among_here, among_more, differs}
 use Rattle.coset_headers.proofs.parts.is_among.Goals as goal

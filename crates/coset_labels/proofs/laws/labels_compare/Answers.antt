@@ -3,7 +3,8 @@ use Rattle.std.proofs.lemmas.Cmp.{tied_itself}
 use Rattle.ciborium_value.specs.Canonical.{bytewise}
 use Rattle.ciborium_value.specs.Facts.Orders.{then_tied}
 use Rattle.coset_labels.specs.Labels.{label_tree}
-use Rattle.coset_labels.specs.Orders.{label_length_first, length_first_total, labels_same, label_tied}
+use Rattle.coset_labels.specs.Orders.{label_length_first}
+use Rattle.coset_labels.specs.Facts.Orders.{length_first_total, labels_same, label_tied}
 use Rattle.coset_labels.specs.View.{label_view}
 use Rattle.coset_labels.proofs.laws.labels_compare.Goals as goal
 

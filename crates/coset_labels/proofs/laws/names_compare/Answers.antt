@@ -1,4 +1,4 @@
-use Rattle.coset_labels.specs.Orders.{names_same}
+use Rattle.coset_labels.specs.Facts.Orders.{names_same}
 use Rattle.coset_labels.specs.View.{named_view}
 use Rattle.coset_labels.proofs.Orders.{names_by}
 use Rattle.coset_labels.proofs.laws.names_compare.Goals as goal

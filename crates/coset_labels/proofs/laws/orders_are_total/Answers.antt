@@ -1,4 +1,4 @@
-use Rattle.coset_labels.specs.Orders.{label_total, length_first_total, named_total, label_tied, named_tied}
+use Rattle.coset_labels.specs.Facts.Orders.{label_total, length_first_total, named_total, label_tied, named_tied}
 use Rattle.coset_labels.proofs.laws.orders_are_total.Goals as goal
 
 pub returns : goal.returns

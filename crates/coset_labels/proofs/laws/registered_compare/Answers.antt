@@ -1,4 +1,4 @@
-use Rattle.coset_labels.specs.Orders.{names_same}
+use Rattle.coset_labels.specs.Facts.Orders.{names_same}
 use Rattle.coset_labels.specs.View.{registered_view}
 use Rattle.coset_labels.proofs.Orders.{registered_by}
 use Rattle.coset_labels.proofs.laws.registered_compare.Goals as goal

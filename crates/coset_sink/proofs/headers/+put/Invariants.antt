@@ -1,8 +1,11 @@
-use Rattle.std.proofs.Common.{take}
-use Rattle.std.specs.List.{flat_map}
-use Rattle.ciborium_traits.specs.Events.{AllAdded}
-use Rattle.coset_sink.proofs.Events.{signature_item}
+use Rattle.std.proofs.Common.{List, ◌++◌, drop}
+use Rattle.ciborium_traits.specs.Events.{Event, events_all}
+use Rattle.coset_sink.specs.Put.{signatures_put}
+use Rattle.coset_headers.specs.View.{signatures_view}
 use Rattle.coset_sink.proofs.headers.+put.Given as goal
 
 abbrev pub invariant-put_each-signatures : goal.invariant-put_each-signatures
-invariant-put_each-signatures g l = AllAdded g.S.Sink.adds l.fn.to (flat_map signature_item (take l.signature-index l.signatures)) l.to
+invariant-put_each-signatures g l =
+    let s = g.S.Sink in
+    (p : s.Plan) (es : List Event) → s.due p (events_all (signatures_put (signatures_view l.signatures)) ++ es) l.fn.to
+    → s.due p (events_all (signatures_put (signatures_view (drop l.signature-index l.signatures))) ++ es) l.to

@@ -1,8 +1,10 @@
-use Rattle.std.proofs.Common.{take}
-use Rattle.std.specs.List.{flat_map}
-use Rattle.ciborium_traits.specs.Events.{AllAdded}
-use Rattle.coset_sink.proofs.Events.{entry_item}
+use Rattle.std.proofs.Common.{List, ◌++◌, drop, map}
+use Rattle.ciborium_traits.specs.Events.{Event}
+use Rattle.coset_headers.specs.View.{entry_view}
+use Rattle.coset_sink.specs.Put.{entry_events}
 use Rattle.coset_sink.proofs.headers.put_rest.Given as goal
 
 abbrev pub invariant-entries : goal.invariant-entries
-invariant-entries g l = AllAdded g.S.Sink.adds l.fn.to (flat_map entry_item (take l.entry-index l.rest)) l.to
+invariant-entries g l =
+    let s = g.S.Sink in
+    (p : s.Plan) (es : List Event) → s.due p (entry_events (map entry_view l.rest) ++ es) l.fn.to → s.due p (entry_events (map entry_view (drop l.entry-index l.rest)) ++ es) l.to

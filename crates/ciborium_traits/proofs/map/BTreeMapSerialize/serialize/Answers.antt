@@ -1,32 +1,28 @@
-use Rattle.std.proofs.Common.{inl}
-use Rattle.std.proofs.lemmas.Map.Iter.{rest_more, rest_all}
+use Rattle.std.proofs.Common.{arith, List, map, ◌++◌, ap, append_assoc, sym, ◌∙◌}
+use Rattle.std.proofs.lemmas.Map.Iter.{rest_more}
 use Rattle.std.specs.Map.Iter.{deref_pair}
-use Rattle.ciborium_traits.proofs.Joined.{of_err}
-use Rattle.ciborium_traits.proofs.Written.{map_begun, map_not_begun, entry_added, key_stopped, value_stopped, map_ended}
+use Rattle.ciborium_value.specs.Tree as spec
+use Rattle.ciborium_value.specs.View.{pairs}
+use Rattle.ciborium_traits.specs.Events.{events, events_pairs}
+use Rattle.ciborium_traits.proofs.Loops.{stopped_in}
+use Rattle.ciborium_traits.proofs.Written.{pairs_counted}
 use Rattle.ciborium_traits.proofs.map.BTreeMapSerialize.serialize.Goals as goal
 
 pub returns-in_err-map-clause-err : goal.returns-in_err-map-clause-err
-returns-in_err-map-clause-err g c = of_err c.from_residual.result (inl (map_not_begun g.S.Sink.adds g.S.Sink.refuses g.K.Serialize.put g.V.Serialize.put c.args.self.now.entries _ _ c.len.result c.len.ensures.len c.in_err-map.ensures.err))
-
-pub entries-init : goal.entries-init
-entries-init g c =
-    map_begun g.S.Sink.adds g.S.Sink.refuses g.K.Serialize.put g.V.Serialize.put c.args.self.now.entries _ _ c.len.result _ c.len.ensures.len c.into_iter-key-iterator.ensures.into_iter_gives.0 c.in_ok-map.ensures.ok
-
-pub entries-preserved : goal.entries-preserved
-entries-preserved g c =
-    entry_added g.S.Sink.adds g.S.Sink.refuses g.K.Serialize.put g.V.Serialize.put c.args.self.now.entries _ _ _ _ _ c.next.new.self (c.in-Some.key.now, c.in-Some.value.now)
-    (rest_more deref_pair _ _ _ (c.in-Some.key, c.in-Some.value) c.in-Some.is c.next.ensures.steps) c.entries.invariant c.in_ok-serialize.ensures.ok c.in_ok-serialize-2.ensures.ok
+returns-in_err-map-clause-err g c =
+    let n = pairs_counted (λ e. (g.K.Serialize.put e.0, g.V.Serialize.put e.1)) c.args.self.now.entries in
+    grind (arith, n, c.len.ensures.len)
 
 pub returns-in_err-serialize-clause-err : goal.returns-in_err-serialize-clause-err
 returns-in_err-serialize-clause-err g c =
-    of_err c.from_residual-in_err-serialize.result (key_stopped g.S.Sink.adds g.S.Sink.refuses g.K.Serialize.put g.V.Serialize.put c.args.self.now.entries _ _ _ _ c.next.new.self (c.in-Some.key.now, c.in-Some.value.now)
-    (rest_more deref_pair _ _ _ (c.in-Some.key, c.in-Some.value) c.in-Some.is c.next.ensures.steps) c.entries.invariant c.in_err-serialize.ensures.err)
+    let e = rest_more deref_pair _ _ _ (c.in-Some.key, c.in-Some.value) c.in-Some.is c.next.ensures.steps in
+    stopped_in c.from_residual-in_err-serialize.result g.S.Sink.due g.S.Sink.torn _ _ _ (events (spec.map (pairs (map (λ e. (g.K.Serialize.put e.0, g.V.Serialize.put e.1)) c.args.self.now.entries)))) _ _ _ (ap (λ (z : List (g.row.K.Denot × g.row.V.Denot)). events_pairs (pairs (map (λ e. (g.K.Serialize.put e.0, g.V.Serialize.put e.1)) z))) e) c.entries.invariant c.in_err-serialize.ensures.err
 
 pub returns-in_err-serialize-2-clause-err : goal.returns-in_err-serialize-2-clause-err
 returns-in_err-serialize-2-clause-err g c =
-    of_err c.from_residual-in_err-serialize-2.result (value_stopped g.S.Sink.adds g.S.Sink.refuses g.K.Serialize.put g.V.Serialize.put c.args.self.now.entries _ _ _ _ _ c.next.new.self (c.in-Some.key.now, c.in-Some.value.now)
-    (rest_more deref_pair _ _ _ (c.in-Some.key, c.in-Some.value) c.in-Some.is c.next.ensures.steps) c.entries.invariant c.in_ok-serialize.ensures.ok c.in_err-serialize-2.ensures.err)
-
-pub returns-clause-ok : goal.returns-clause-ok
-returns-clause-ok g c =
-    map_ended g.S.Sink.adds g.S.Sink.refuses g.K.Serialize.put g.V.Serialize.put c.args.self.now.entries _ _ _ (rest_all deref_pair _ _ _ c.in-None.is c.next.ensures.steps) c.entries.invariant
+    let e = rest_more deref_pair _ _ _ (c.in-Some.key, c.in-Some.value) c.in-Some.is c.next.ensures.steps in
+    let key = events (g.K.Serialize.put c.in-Some.key.now) in
+    let value = events (g.V.Serialize.put c.in-Some.value.now) in
+    stopped_in c.from_residual-in_err-serialize-2.result g.S.Sink.due g.S.Sink.torn _ _ _ (events (spec.map (pairs (map (λ e. (g.K.Serialize.put e.0, g.V.Serialize.put e.1)) c.args.self.now.entries)))) _ (key ++ value) _
+    (ap (λ (z : List (g.row.K.Denot × g.row.V.Denot)). events_pairs (pairs (map (λ e. (g.K.Serialize.put e.0, g.V.Serialize.put e.1)) z))) e ∙ sym (append_assoc key value _)) c.entries.invariant
+    (λ p es h. c.in_err-serialize-2.ensures.err p es (c.in_ok-serialize.ensures.ok p (value ++ es) (rw append_assoc at h)))

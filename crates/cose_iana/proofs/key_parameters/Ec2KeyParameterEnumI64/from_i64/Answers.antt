@@ -1,12 +1,7 @@
 use Rattle.cose_iana.specs.KeyParameters.{ec2_key_parameters}
-use Rattle.cose_iana.specs.declared.key_parameters.TheConstants.{EC2_KEY_PARAMETERS}
-use Rattle.cose_iana.proofs.Found.{searched, found}
+use Rattle.cose_iana.proofs.Found.{entry, found}
 use Rattle.cose_iana.proofs.key_parameters.Ec2KeyParameterEnumI64.from_i64.Goals as goal
 
-pub returns-clause-entry : goal.returns-clause-entry
+pub returns : goal.returns
 unfolding ec2_key_parameters
-returns-clause-entry c = searched EC2_KEY_PARAMETERS.now _ _ c.ranges.i c.entry_with.ensures
-
-pub returns-clause-found : goal.returns-clause-found
-unfolding ec2_key_parameters
-returns-clause-found c = found ec2_key_parameters _ _ (searched EC2_KEY_PARAMETERS.now _ _ c.ranges.i c.entry_with.ensures)
+returns c = record { entry = entry ec2_key_parameters _ _ c.ranges.i c.entry_with.ensures; found = found ec2_key_parameters _ _ c.ranges.i c.entry_with.ensures }

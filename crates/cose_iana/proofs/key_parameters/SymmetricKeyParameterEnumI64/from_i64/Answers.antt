@@ -1,12 +1,7 @@
 use Rattle.cose_iana.specs.KeyParameters.{symmetric_key_parameters}
-use Rattle.cose_iana.specs.declared.key_parameters.TheConstants.{SYMMETRIC_KEY_PARAMETERS}
-use Rattle.cose_iana.proofs.Found.{searched, found}
+use Rattle.cose_iana.proofs.Found.{entry, found}
 use Rattle.cose_iana.proofs.key_parameters.SymmetricKeyParameterEnumI64.from_i64.Goals as goal
 
-pub returns-clause-entry : goal.returns-clause-entry
+pub returns : goal.returns
 unfolding symmetric_key_parameters
-returns-clause-entry c = searched SYMMETRIC_KEY_PARAMETERS.now _ _ c.ranges.i c.entry_with.ensures
-
-pub returns-clause-found : goal.returns-clause-found
-unfolding symmetric_key_parameters
-returns-clause-found c = found symmetric_key_parameters _ _ (searched SYMMETRIC_KEY_PARAMETERS.now _ _ c.ranges.i c.entry_with.ensures)
+returns c = record { entry = entry symmetric_key_parameters _ _ c.ranges.i c.entry_with.ensures; found = found symmetric_key_parameters _ _ c.ranges.i c.entry_with.ensures }
