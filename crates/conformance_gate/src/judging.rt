@@ -4,7 +4,7 @@ use crate::words;
 use ciborium_value::Value;
 use cose_gate::{About, Header, HmacJudge, Judge, MessageKind, ProtectedHeader};
 use cose_gate_hmac::is_good_tag;
-use cose_show_core::{KeyBook, Question, reason};
+use cose_reasons::{KeyBook, Question, reason};
 use coset_keys::CoseKeySet;
 use coset_labels::CborSerializable;
 

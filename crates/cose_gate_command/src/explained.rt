@@ -2,7 +2,7 @@
 use cose_gate_core::{About, Judge, MessageKind};
 use cose_gate_hmac::CoseKeySet;
 use cose_hmac::HmacSha256;
-use cose_show_core::{KeyBook, OTHER_KIND, secret_or_reason, write_wrong_tag};
+use cose_reasons::{KeyBook, OTHER_KIND, secret_or_reason, write_wrong_tag};
 use std::alloc::{AllocError, Global};
 use std::cell::RefCell;
 use std::fmt;

@@ -1,6 +1,6 @@
 //! What is said of KEYS.
 use cose_gate_program::NotBegun;
-use cose_show_core::{Stop, read_keys, write_char};
+use cose_reasons::{Stop, read_keys, write_char};
 use coset_labels::CoseError;
 use std::alloc::Global;
 use std::fmt;

@@ -1,18 +1,13 @@
 //! What the judge of the program `cose-gate` answers, and why.
-use crate::keys::KeyBook;
-use crate::stop::Stop;
-use crate::why::{Question, reason};
 use cose_gate_core::{
     Asked, CoseError, Decoder, Entry, GateFault, Limits, Mem, MessageKind, Refusal, Terms, Verdict,
     gate_by,
 };
 use cose_gate_hmac::{CoseKeySet, HmacJudge};
+use cose_reasons::{KeyBook, OTHER_KIND, Question, Stop, reason};
 use coset_labels::TaggedCborSerializable;
 use coset_maced::CoseMac0;
 use std::alloc::Global;
-
-/// Why the judge says no to a message that is not a COSE_Mac0.
-pub const OTHER_KIND: &str = "cose-gate judges only COSE_Mac0";
 
 /// What the judge answers.
 #[derive(Drop)]

@@ -1,6 +1,6 @@
 //! Pieces of whole items.
-use crate::stop::Stop;
 use cbor_diag::{Ends, Fault, Why};
+use cose_reasons::Stop;
 use std::alloc::Global;
 
 /// What of a block goes to the piece at hand.

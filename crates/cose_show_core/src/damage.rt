@@ -1,8 +1,8 @@
 //! What is shown of damaged input.
 use crate::source::Source;
-use crate::stop::Stop;
 use cbor_diag::{Fault, NotWritten};
 use cose_notation::{Look, begin_line, may_hold_secrets, write_shown};
+use cose_reasons::Stop;
 use std::alloc::Global;
 use std::{fmt, io};
 

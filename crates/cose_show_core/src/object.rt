@@ -4,7 +4,6 @@ use crate::damage::{AROUND, around};
 use crate::shape::wrong_part;
 use crate::show::Request;
 use crate::source::Source;
-use crate::stop::Stop;
 use crate::verdict::{Ruling, Spelling, rule};
 use cbor_diag::{Fault, NotWritten};
 use cose_gate_core::{Refusal, Verdict};
@@ -12,6 +11,7 @@ use cose_notation::{
     Look, keys_in, may_hold_secrets, write_hex_text, write_keys, write_message, write_name,
     write_notation, write_word,
 };
+use cose_reasons::Stop;
 use std::alloc::Global;
 use std::{fmt, io};
 

@@ -1,8 +1,8 @@
 //! Which part of a message is wrong.
-use crate::stop::Stop;
 use ciborium_value::Value;
 use cose_gate_core::{CoseError, CoseRecipient, CoseSignature, Header, ProtectedHeader};
 use cose_notation::{Look, Part, entries, is_bytes, items, joined, message_of, write_shown};
+use cose_reasons::Stop;
 use coset_labels::{CborSerializable, ValueTryAs, read_to_value};
 use std::alloc::Global;
 

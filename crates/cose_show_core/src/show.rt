@@ -1,15 +1,14 @@
 //! The items, one after another.
 use crate::asking::Asking;
 use crate::damage::show_damage;
-use crate::keys::read_keys;
 use crate::object::{write_damage, write_object};
 use crate::source::{Found, Source};
-use crate::stop::Stop;
 use crate::verdict::show_verdict;
 use crate::words::Options;
 use cose_notation::{
     Look, begin_line, is_message, keys_in, show_keys, show_message, write_len, write_shown,
 };
+use cose_reasons::{Stop, read_keys};
 use std::alloc::Global;
 use std::io::BufReader;
 use std::{fmt, io};

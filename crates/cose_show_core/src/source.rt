@@ -1,6 +1,6 @@
 //! The input, of which one item is held.
-use crate::stop::Stop;
 use cbor_diag::{Fault, Walk, Why};
+use cose_reasons::Stop;
 use std::alloc::Global;
 use std::io;
 use std::io::{BufRead, BufReader};

@@ -2,13 +2,13 @@
 use crate::asking::{Answer, Asking};
 use crate::shape::wrong_part;
 use crate::show::Request;
-use crate::stop::Stop;
 use cbor_diag::{Event, Excess, Fault, Place, Step, Walk, first_excess};
 use ciborium_ll::Header;
 use cose_gate_core::{
     Asked, Decoder, End, Entry, GateFault, Limits, Mem, Recorder, Refusal, Terms, Verdict, gate_by,
 };
 use cose_notation::{Look, write_string};
+use cose_reasons::Stop;
 use std::alloc::Global;
 use std::fmt;
 

@@ -13,6 +13,9 @@ use coset_keys::CoseKey;
 use std::alloc::Global;
 use std::fmt;
 
+/// Why the judge says no to a message that is not a COSE_Mac0.
+pub const OTHER_KIND: &str = "cose-gate judges only COSE_Mac0";
+
 /// So many ids of a set are named.
 const IDS: usize = 8;
 

@@ -1,0 +1,11 @@
+//! Why a program ends early, and why the judge of `cose-gate` says no, in words.
+#![tactic(auto)]
+
+mod keys;
+mod stop;
+mod why;
+
+pub use crate::keys::{KeyBook, read_keys};
+pub use crate::stop::Stop;
+pub use crate::why::{OTHER_KIND, Question, reason, secret_or_reason, write_wrong_tag};
+pub use cbor_diag::write_char;
