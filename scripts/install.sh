@@ -1,8 +1,9 @@
 #!/usr/bin/env bash
-# scripts/install.sh [--library] PREFIX: puts the programs cose-gate, cose-ask, cose-pass and cose-show into PREFIX/bin and their manual pages
-# into PREFIX/share/man/man1. With --library also the library for C: PREFIX/lib/libcose_gate.a, PREFIX/include/cose_gate.h and
-# PREFIX/lib/pkgconfig/cose_gate.pc, for `cc check.c $(pkg-config --cflags --libs cose_gate)`. All are proved and built first if a source
-# has changed; if that fails nothing is installed, and the status is 70.
+# scripts/install.sh [--library] PREFIX: puts the programs cose-gate, cose-ask, cose-pass and cose-show into PREFIX/bin, and the tools
+# cose-verify, cose-key and cose-make, in Python, into PREFIX/lib/cose-gate, with links in PREFIX/bin; their manual pages into
+# PREFIX/share/man/man1. With --library also the library for C: PREFIX/lib/libcose_gate.a, PREFIX/include/cose_gate.h and
+# PREFIX/lib/pkgconfig/cose_gate.pc, for `cc check.c $(pkg-config --cflags --libs cose_gate)`. Programs and library are proved and built
+# first if a source has changed; if that fails nothing is installed, and the status is 70.
 set -u
 top=$(cd "$(dirname "$(readlink -f "${BASH_SOURCE[0]}")")/.." && pwd)
 
@@ -50,6 +51,19 @@ for each in $programs; do
   put 755 "$top/crates/$crate/out/$crate" "$prefix/bin/$name"
   put 644 "$top/docs/$name.1" "$prefix/share/man/man1/$name.1"
 done
+for file in "$top"/tools/cose[-_]*; do
+  mode=755
+  [ -x "$file" ] || mode=644
+  put $mode "$file" "$prefix/lib/cose-gate/${file##*/}"
+done
+version=$(git -C "$top" log -1 --format='%cd, commit %h' --date=format:%Y.%m.%d 2> /dev/null || echo 'version unknown')
+echo "$version" > "$prefix/lib/cose-gate/version" || exit 1
+for name in cose-verify cose-key cose-make; do
+  ln -sf "../lib/cose-gate/$name" "$prefix/bin/$name" || exit 1
+  echo "install.sh: wrote $prefix/bin/$name"
+  put 644 "$top/docs/$name.1" "$prefix/share/man/man1/$name.1"
+done
+/usr/bin/python3 -c 'import cryptography' 2> /dev/null || echo "install.sh: cose-verify, cose-key and cose-make need Debian's python3-cryptography"
 if [ -n "$library" ]; then
   # One archive: the library, and the kit's C code for memory that it is linked with.
   made=$(mktemp -d)

@@ -1,7 +1,8 @@
 #!/usr/bin/env bash
 # scripts/package.sh FOLDER: makes cose-gate_VERSION_amd64.deb and cose-gate_VERSION_amd64.tar.gz in FOLDER: the programs cose-gate, cose-ask,
-# cose-pass and cose-show as they were proved and built, their manual pages, LICENSE and NOTICE. They are proved and built first if a source has changed; if
-# that fails nothing is made, and the status is 70. VERSION is the day of the last commit. The same commit gives the same bytes.
+# cose-pass and cose-show as they were proved and built, the tools cose-verify, cose-key and cose-make, their manual pages, LICENSE and
+# NOTICE. The programs are proved and built first if a source has changed; if that fails nothing is made, and the status is 70. VERSION is the
+# day of the last commit. The same commit gives the same bytes.
 set -eu
 top=$(cd "$(dirname "$(readlink -f "${BASH_SOURCE[0]}")")/.." && pwd)
 if [ $# -ne 1 ] || [ -z "$1" ] || [ "${1#-}" != "$1" ]; then
@@ -25,12 +26,23 @@ chmod 755 "$tree"
 put() {
   install -D -m "$1" "$2" "$tree/$name/$3"
 }
-for each in $programs; do
-  program=${each%%:*}
-  crate=${each#*:}
-  put 755 "$top/crates/$crate/out/$crate" "usr/bin/cose-$program"
+page() {
   mkdir -p "$tree/$name/usr/share/man/man1"
-  gzip -9 -n < "$top/docs/cose-$program.1" > "$tree/$name/usr/share/man/man1/cose-$program.1.gz"
+  gzip -9 -n < "$top/docs/$1.1" > "$tree/$name/usr/share/man/man1/$1.1.gz"
+}
+for each in $programs; do
+  crate=${each#*:}
+  put 755 "$top/crates/$crate/out/$crate" "usr/bin/cose-${each%%:*}"
+  page "cose-${each%%:*}"
+done
+for file in "$top"/tools/cose[-_]*; do
+  put "$([ -x "$file" ] && echo 755 || echo 644)" "$file" "usr/lib/cose-gate/${file##*/}"
+done
+git -C "$top" log -1 --format="$version, commit %h" > "$tree/$name/usr/lib/cose-gate/version"
+chmod 644 "$tree/$name/usr/lib/cose-gate/version"
+for it in cose-verify cose-key cose-make; do
+  ln -s "../lib/cose-gate/$it" "$tree/$name/usr/bin/$it"
+  page $it
 done
 put 644 "$top/LICENSE" usr/share/doc/cose-gate/copyright
 put 644 "$top/NOTICE" usr/share/doc/cose-gate/NOTICE
@@ -48,12 +60,15 @@ Version: $version
 Architecture: amd64
 Maintainer: Pitchhour maintainers <pitchhour@localhost>
 Depends: libc6
+Recommends: python3-cryptography
 Section: utils
 Priority: optional
 Description: let through the COSE messages of a CBOR sequence that are good
- cose-gate checks the HMAC of each COSE_Mac0; cose-ask and cose-pass let any
- program check signatures; cose-show shows what a sequence holds. The library
- that the first three run is proved for every input.
+ cose-gate checks the HMAC of each COSE_Mac0; cose-verify checks signatures,
+ MACs and the claims of tokens; cose-ask and cose-pass let any program check
+ signatures; cose-show shows what a sequence holds; cose-key and cose-make make
+ keys and messages. The library that cose-gate, cose-ask and cose-pass run is
+ proved for every input; cose-verify, cose-key and cose-make, in Python, are not.
 CONTROL
   find "$tree/$name" -exec touch -h -d "@$time" {} +
   SOURCE_DATE_EPOCH=$time dpkg-deb --root-owner-group -Zxz --build "$tree/$name" "$folder/$name.deb" > /dev/null

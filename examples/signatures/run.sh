@@ -1,14 +1,9 @@
 #!/usr/bin/env bash
-# run.sh sh|py: makes keys and signed messages in a folder of its own, checks the signatures with es256.sh or es256.py, and compares what
-# passes with what should. ASK and PASS are other programs than cose-ask and cose-pass at the top, if they are set.
+# run.sh: makes keys and signed messages in a folder of its own, checks the signatures with es256.sh, and compares what passes with what
+# should. ASK and PASS are other programs than cose-ask and cose-pass at the top, if they are set.
 set -u
 here=$(cd "$(dirname "$(readlink -f "${BASH_SOURCE[0]}")")" && pwd)
 top=$here/../..
-case ${1-} in
-  sh) check=(bash "$here/es256.sh") ;;
-  py) check=(python3 "$here/es256.py") ;;
-  *) echo "usage: run.sh sh|py" >&2; exit 2 ;;
-esac
 # The programs are built first, so that what a build says is not among their lines.
 if [ -z "${ASK-}" ]; then
   bash "$top/scripts/proved.sh" cose-ask cose_ask_cli || exit
@@ -30,7 +25,7 @@ fail() {
 python3 "$here/make.py" . || fail "no messages were made"
 "$ASK" --lines < signed.cbor > lines 2> asked
 [ $? -eq 1 ] || fail "cose-ask: another status: $(cat asked)"
-"${check[@]}" keys < lines > accepted || fail "the check failed"
+bash "$here/es256.sh" keys < lines > accepted || fail "the check failed"
 "$PASS" accepted < signed.cbor > passed.cbor 2> told
 [ $? -eq 1 ] || fail "cose-pass: another status: $(cat told)"
 cat told

@@ -1,0 +1,517 @@
+"""Tests of cose-verify, cose-key and cose-make, over the programs in PATH: `bash tools/test.sh` runs them over those that are proved.
+
+Messages are made here by cbor2 and python3-cryptography alone, so that what the tools make and read is compared with other code."""
+
+import hashlib
+import hmac
+import json
+import os
+import re
+import shutil
+import subprocess
+import sys
+import tempfile
+import unittest
+
+import cbor2
+from cryptography.hazmat.primitives import hashes, serialization
+from cryptography.hazmat.primitives.asymmetric import ec, ed448, ed25519, padding, rsa, utils
+
+HERE = os.path.dirname(os.path.abspath(__file__))
+VERIFY = os.path.join(HERE, "cose-verify")
+h = bytes.fromhex
+NOW = 1_700_000_000
+
+
+def run(tool, *arguments, data=b"", status=None):
+    """The output of a tool, its lines and its status."""
+    done = subprocess.run([os.path.join(HERE, tool), *arguments], input=data, capture_output=True)
+    told = done.stderr.decode()
+    assert status is None or done.returncode == status, (tool, arguments, done.returncode, told)
+    return done.stdout, told, done.returncode
+
+
+def pem(key):
+    return key.public_key().public_bytes(serialization.Encoding.PEM, serialization.PublicFormat.SubjectPublicKeyInfo)
+
+
+def private_pem(key):
+    return key.private_bytes(serialization.Encoding.PEM, serialization.PrivateFormat.PKCS8, serialization.NoEncryption())
+
+
+def ecdsa(key, hash, high=False, der=False, other_size=None):
+    size = other_size or (key.curve.key_size + 7) // 8
+
+    def sign(covered):
+        signature = key.sign(covered, ec.ECDSA(hash))
+        r, s = utils.decode_dss_signature(signature)
+        if high and s < N256 // 2:
+            s = N256 - s
+        return signature if der else r.to_bytes(size, "big") + s.to_bytes(size, "big")
+    return sign
+
+
+N256 = 0xFFFFFFFF00000000FFFFFFFFFFFFFFFFBCE6FAADA7179E84F3B9CAC2FC632551
+P256, OTHER, P384, P521, K1 = (ec.generate_private_key(c()) for c in (ec.SECP256R1, ec.SECP256R1, ec.SECP384R1, ec.SECP521R1, ec.SECP256K1))
+ED, ED448 = ed25519.Ed25519PrivateKey.generate(), ed448.Ed448PrivateKey.generate()
+RSA, SHORT = rsa.generate_private_key(65537, 2048), rsa.generate_private_key(65537, 1024)
+SECRET = bytes(range(32))
+ES256 = ecdsa(P256, hashes.SHA256())
+
+
+def pss(key, hash):
+    return lambda covered: key.sign(covered, padding.PSS(padding.MGF1(hash), hash.digest_size), hash)
+
+
+def pkcs(key, hash):
+    return lambda covered: key.sign(covered, padding.PKCS1v15(), hash)
+
+
+def tag(number, value):
+    return cbor2.dumps(cbor2.CBORTag(number, value))
+
+
+def sign1(protected, unprotected, payload=b"hi", sign=ES256, aad=b"", raw=None):
+    raw = raw if raw is not None else cbor2.dumps(protected) if protected else b""
+    return tag(18, [raw, unprotected, payload, sign(cbor2.dumps(["Signature1", raw, aad, payload]))])
+
+
+def mac0(protected, unprotected, payload=b"hi", secret=SECRET, name="sha256", length=None):
+    raw = cbor2.dumps(protected)
+    whole = hmac.new(secret, cbor2.dumps(["MAC0", raw, b"", payload]), name).digest()
+    return tag(17, [raw, unprotected, payload, whole[:length]])
+
+
+def signed(signers, payload=b"hi", body=b""):
+    made = []
+    for protected, unprotected, sign in signers:
+        raw = cbor2.dumps(protected)
+        made.append([raw, unprotected, sign(cbor2.dumps(["Signature", body, raw, b"", payload]))])
+    return tag(98, [body, {}, payload, made])
+
+
+def claims(**more):
+    return cbor2.dumps({1: "me", **{int(k[1:]): v for k, v in more.items()}})
+
+
+def flipped(message):
+    return message[:-1] + bytes([message[-1] ^ 1])
+
+
+KID = {4: b"dev1"}
+GOOD = sign1({1: -7}, KID)
+
+
+class Tools(unittest.TestCase):
+    @classmethod
+    def setUpClass(cls):
+        cls.folder = tempfile.mkdtemp()
+        cls.keys = os.path.join(cls.folder, "keys")
+        os.mkdir(cls.keys)
+        for name, key in (("dev1", P256), ("hex:3131", OTHER), ("p384", P384), ("p521", P521), ("k1", K1), ("hex:6564", ED), ("ed448", ED448),
+                          ("rsa", RSA), ("short", SHORT)):
+            cls.put(os.path.join("keys", name + ".pem"), pem(key))
+
+    @classmethod
+    def tearDownClass(cls):
+        shutil.rmtree(cls.folder)
+
+    @classmethod
+    def put(cls, name, data):
+        path = os.path.join(cls.folder, name)
+        with open(path, "wb") as file:
+            file.write(data)
+        return path
+
+    def verify(self, data, *arguments, keys=None, status=None):
+        return run("cose-verify", "--keys", keys or self.keys, *arguments, data=data, status=status)
+
+    def refused(self, rows, *arguments, good=GOOD, keys=None):
+        """Of rows of a name, a reason and a message, with a good one before each and at the end, only the good ones pass; the lines say why."""
+        data = b"".join(good + message for _, _, message in rows) + good
+        out, told, status = self.verify(data, *arguments, keys=keys)
+        self.assertEqual((out, status), (good * (len(rows) + 1), 1), told)
+        place = 0
+        for number, (name, reason, message) in enumerate(rows):
+            with self.subTest(reason=reason, message=message[:60]):
+                place += len(good) + len(message)
+                said = told.split(f"item {2 * number + 2} at ")[1].split("\nitem")[0]
+                self.assertRegex(said, rf"^{place - len(message)}: refused: {name}\n  .*{reason}")
+
+    def passes(self, data, *arguments, keys=None, as_bytes=None):
+        out, told, status = self.verify(data, *arguments, keys=keys)
+        self.assertEqual((out, status), (data if as_bytes is None else as_bytes, 0), told)
+
+    # What passes.
+
+    def test_each_algorithm(self):
+        good = []
+        for number, kid, sign in (
+            (-7, b"dev1", ES256), (-9, b"dev1", ES256),
+            (-35, b"p384", ecdsa(P384, hashes.SHA384())), (-51, b"p384", ecdsa(P384, hashes.SHA384())),
+            (-36, b"p521", ecdsa(P521, hashes.SHA512())), (-52, b"p521", ecdsa(P521, hashes.SHA512())), (-47, b"k1", ecdsa(K1, hashes.SHA256())),
+            (-8, b"ed", ED.sign), (-19, b"ed", ED.sign), (-8, b"ed448", ED448.sign), (-53, b"ed448", ED448.sign),
+            (-37, b"rsa", pss(RSA, hashes.SHA256())), (-38, b"rsa", pss(RSA, hashes.SHA384())), (-39, b"rsa", pss(RSA, hashes.SHA512())),
+            (-257, b"rsa", pkcs(RSA, hashes.SHA256())), (-258, b"rsa", pkcs(RSA, hashes.SHA384())), (-259, b"rsa", pkcs(RSA, hashes.SHA512())),
+        ):
+            good.append(sign1({1: number}, {4: kid}, sign=sign))
+        self.passes(b"".join(good))
+        self.assertEqual(self.verify(b"".join(map(flipped, good)), status=1)[0], b"")
+
+    def test_header_layouts(self):
+        layouts = [
+            ({1: -7}, KID), ({1: -7, 4: b"dev1"}, {}), ({4: b"dev1", 1: -7}, {}), ({1: -7, 3: 0}, KID), ({1: -7, 16: "application/cwt"}, KID),
+            ({1: -7}, {4: b"dev1", 33: b"cert"}), ({1: -7, 2: [1, 4], 4: b"dev1"}, {}), ({1: -7, "room": 7}, {4: b"dev1", "x": [1, {2: 3}]}),
+        ]
+        self.passes(b"".join(sign1(protected, unprotected) for protected, unprotected in layouts))
+
+    def test_rfc_9052_c_2_1(self):
+        keys = self.put("wg.json", json.dumps({"keys": [{"kty": "EC", "crv": "P-256", "kid": "11", "alg": "ES256",
+            "x": "usWxHK2PmfnHKwXPS54m0kTcGJ90UiglWiGahtagnv8", "y": "IBOL-C3BttVivg-lSreASjpkttcsz-1rb7btKLv8EX4"}]}).encode())
+        self.passes(h("d28443a10126a10442313154546869732069732074686520636f6e74656e742e58408eb33e4ca31d1c465ab05aac34cc6b23d58fef5c083106c4"
+                      "d25a91aef0b0117e2af9a291aa32e14ab834dc56ed2a223444547e01f11d3b0916e5a4c345cacb36"), keys=keys)
+
+    def test_rfc_8392_a_3_and_a_4(self):
+        keys = self.put("rfc8392.cbor", cbor2.dumps([
+            {1: 2, 2: b"AsymmetricECDSA256", 3: -7, -1: 1, -2: h("143329cce7868e416927599cf65a34f3ce2ffda55a7eca69ed8919a394d42f0f"),
+             -3: h("60f7f1a780d8a783bfb7a2dd6b2796e8128dbbcef9d3d168db9529971a36e7b9")},
+            {1: 4, 2: b"Symmetric256", 3: 4, -1: h("403697de87af64611c1d32a05dab0fe1fcb715a86ab435f1ec99192d79569388")}]))
+        payload = ("5850a70175636f61703a2f2f61732e6578616d706c652e636f6d02656572696b77037818636f61703a2f2f6c696768742e6578616d706c652e636f6d"
+                   "041a5612aeb0051a5610d9f0061a5610d9f007420b71")
+        a3 = h("d28443a10126a104524173796d6d65747269634543445341323536" + payload + "58405427c1ff28d23fbad1f29c4c7c6a555e601d6fa29f9179bc3d7438"
+               "bacaca5acd08c8d4d4f96131680c429a01f85951ecee743a52b9b63632c57209120e1c9e30")
+        a4 = h("d18443a10104a1044c53796d6d6574726963323536" + payload + "48093101ef6d789200")
+        self.passes(a3 + a4, "--now", "1443944944", keys=keys)
+        self.passes(a3 + a4, "--now", "2015-10-05T17:09:03Z", "--aud", "coap://light.example.com", "--iss", "coap://as.example.com", keys=keys)
+        self.passes(h("d83d") + a3 + h("d9d9f7d83d") + a4 + h("d9d9f7") + a3, "--now", "1443944944", keys=keys, as_bytes=a3 + a4 + a3)
+        for reason, *arguments in (
+            ("expired 2015-10-05T17:09:04Z", "1444064944"), ("not before 2015-10-04T07:49:04Z", "1443944943"),
+            ("for another receiver, 'coap://light", "1443944944", "--aud", "x"), ("no claim room", "1443944944", "--need", "room"),
+        ):
+            out, told, status = self.verify(a3, "--now", *arguments, keys=keys)
+            self.assertEqual((out, status), (b"", 1))
+            self.assertIn(reason, told)
+        self.passes(a3, "--now", "1444064950", "--leeway", "10", keys=keys)
+
+    def test_several_signers(self):
+        two = signed([({1: -7}, KID, ecdsa(P256, hashes.SHA256())), ({1: -8}, {4: b"ed"}, ED.sign)])
+        one_bad = signed([({1: -7}, KID, ES256), ({1: -8}, {4: b"ed"}, lambda covered: bytes(64))])
+        self.passes(two + GOOD + two)
+        self.refused([("Judged", "signature 2 of 2: EdDSA under hex:6564.pem, 6564 \\(\"ed\"\\): the signature isn't good", one_bad)])
+        out, told, _ = self.verify(one_bad + two + one_bad + GOOD + two, status=1)
+        self.assertEqual(out, two + GOOD + two, told)
+
+    def test_macs(self):
+        keys = self.put("macs", cbor2.dumps([{1: 4, 2: b"m", -1: SECRET}, {1: 4, 2: b"w", 3: 4, -1: SECRET}]))
+        good = mac0({1: 5}, {4: b"m"})
+        others = mac0({1: 6}, {4: b"m"}, name="sha384") + mac0({1: 7}, {4: b"m"}, name="sha512") + mac0({1: 4}, {4: b"w"}, length=8)
+        self.passes(good + others, keys=keys)
+        self.refused([
+            ("Judged", "64 bits are taken only", mac0({1: 4}, {4: b"m"}, length=8)),
+            ("Judged", "the tag isn't good", mac0({1: 5}, {4: b"m"}, length=8)),
+            ("Judged", "the tag isn't good", mac0({1: 5}, {4: b"m"}, length=0)),
+            ("Judged", "it is for HS256/64 alone", mac0({1: 5}, {4: b"w"})),
+        ], good=good, keys=keys)
+
+    def test_one_pem_is_for_every_key_id(self):
+        alone = self.put("alone.pem", pem(P256))
+        self.passes(GOOD + sign1({1: -7}, {}) + sign1({1: -7}, {4: b"else"}), keys=alone)
+
+    def test_names_of_files(self):
+        for name in ("ed", "BEEF", "3131"):
+            told = self.verify(GOOD, keys=folder_of(self.folder, name, P256), status=3)[1]
+            self.assertIn(f"{name}.pem may be for the key id {name.lower()} in hex or for the text {name}", told)
+        for name, kid in (("hex:ed", b"\xed"), ("hex:6564", b"ed"), ("dev", b"dev"), ("eda", b"eda"), ("\u00e9", "\u00e9".encode())):
+            self.passes(sign1({1: -7}, {4: kid}), keys=folder_of(self.folder, name, P256))
+        self.assertIn("hex:x: not hex", self.verify(GOOD, keys=folder_of(self.folder, "hex:x", P256), status=3)[1])
+
+    def test_two_keys_of_one_kid(self):
+        both = self.put("both", cbor2.dumps([to_cose(OTHER, b"dev1"), to_cose(P256, b"dev1")]))
+        self.passes(GOOD + sign1({1: -7}, KID, sign=ecdsa(OTHER, hashes.SHA256())), keys=both)
+
+    def test_high_s_passes(self):
+        self.passes(sign1({1: -7}, KID, sign=ecdsa(P256, hashes.SHA256(), high=True)))
+
+    def test_canonical_encoding(self):
+        long = b"\xd8\x12" + GOOD[1:]
+        self.passes(long, as_bytes=GOOD)
+        self.refused([("NotShortest", "", long)], "--strict")
+
+    # Wrong inputs.
+
+    def test_wrong_messages(self):
+        self.refused([("Judged", *row) for row in (
+            ('no key for 6e6f6e65 \\("none"\\)', sign1({1: -7}, {4: b"none"})),
+            ("no key without a key id", sign1({1: -7}, {})),
+            ("no key for 1b5b316d$", sign1({1: -7}, {4: b"\x1b[1m"})),
+            ("no key for (6b){32}\\.\\.$", sign1({1: -7}, {4: b"k" * 900})),
+            ("the signature isn't good", flipped(GOOD)),
+            ("the signature isn't good", GOOD.replace(b"hi", b"ho")),
+            ("the signature isn't good", sign1({1: -7}, KID, aad=b"\1")),
+            ("the signature isn't good", sign1({1: -7}, {4: b"11"})),
+            ("the signature isn't good", sign1({1: -7}, KID, sign=lambda covered: bytes(64))),
+            ("the signature isn't good", sign1({1: -7}, KID, sign=lambda covered: b"\xff" * 64)),
+            ("it is EC P-384, and ES256 takes EC P-256", sign1({1: -7}, {4: b"p384"}, sign=ecdsa(P384, hashes.SHA256()))),
+            ("it is EC P-256, and ES384 takes EC P-384", sign1({1: -35}, KID, sign=ecdsa(P256, hashes.SHA384()))),
+            ("it is EC secp256k1, and ES256 takes EC P-256", sign1({1: -7}, {4: b"k1"}, sign=ecdsa(K1, hashes.SHA256()))),
+            ("it is OKP Ed448, and Ed25519 takes OKP Ed25519", sign1({1: -19}, {4: b"ed448"}, sign=ED448.sign)),
+            ("it is OKP Ed25519, and ES256 takes EC P-256", sign1({1: -7}, {4: b"ed"}, sign=ED.sign)),
+            ("it has 1024 bits", sign1({1: -37}, {4: b"short"}, sign=pss(SHORT, hashes.SHA256()))),
+            ("the signature isn't good", sign1({1: -37}, {4: b"rsa"}, sign=pkcs(RSA, hashes.SHA256()))),
+            ("has (6\\d|7[0-2]) bytes, it looks like DER", sign1({1: -7}, KID, sign=ecdsa(P256, hashes.SHA256(), der=True))),
+            ("has 63 bytes.*; ES256 has r and s in 32", sign1({1: -7}, KID, sign=lambda covered: ES256(covered)[:63])),
+            ("has 0 bytes", sign1({1: -7}, KID, sign=lambda covered: b"")),
+            ("has 66 bytes", sign1({1: -7}, KID, sign=ecdsa(P256, hashes.SHA256(), other_size=33))),
+            ("the signature isn't good", sign1({1: -8}, {4: b"ed"}, sign=lambda covered: ED.sign(covered)[:63])),
+            ("the protected header names no algorithm, nor does", sign1({}, KID)),
+            ("the protected header names no algorithm, only the unprotected", sign1({}, {1: -7, 4: b"dev1"})),
+            ("the label 1 is in both headers", sign1({1: -7}, {1: -8, 4: b"dev1"})),
+            ("the label 4 is in both headers", sign1({1: -7, 4: b"dev1"}, {4: b"11"})),
+            ("critical: the label 'room'", sign1({1: -7, 2: ["room"], "room": 7}, KID)),
+            ("critical: the label 3,", sign1({1: -7, 2: [3], 3: 0}, KID)),
+            ("crit names the label 4, which isn't in the protected", sign1({1: -7, 2: [4]}, KID)),
+            ("crit is in the unprotected header", sign1({1: -7}, {2: [1], 4: b"dev1"})),
+            ("HS256 isn't known here for a COSE_Sign1", sign1({1: 5}, KID)),
+            ("the algorithm -65535 isn't known", sign1({1: -65535}, KID)),
+            ("ES256 isn't known here for a COSE_Mac0", mac0({1: -7}, KID)),
+            ("it is EC P-256, and HS256 takes oct", mac0({1: 5}, KID, secret=pem(P256))),
+            ("a COSE_Mac: its key", tag(97, [cbor2.dumps({1: 5}), {}, b"hi", bytes(32), [[b"", {1: -6, 4: b"dev1"}, b""]]])),
+            ("a COSE_Mac: its key", tag(97, [h("a10126"), KID, b"hi", ES256(cbor2.dumps(["MAC", h("a10126"), b"", b"hi"])), [[b"", {}, b""]]])),
+            ("critical: the label 'room'", signed([({1: -7}, KID, ES256)], body=cbor2.dumps({2: ["room"], "room": 1}))),
+            ("critical: the label 'room'", signed([({1: -7, 2: ["room"], "room": 1}, KID, ES256)])),
+        )])
+
+    def test_malformed_messages(self):
+        self.refused([
+            ("NotTagged", "no tag says", cbor2.dumps(b"hi")),
+            ("NotTagged", "no tag says", GOOD[1:]),
+            ("OtherTag", "--now takes it off", b"\xd8\x3d" + GOOD),
+            ("OtherTag", "tag 1\\b", tag(1, 5)),
+            ("Encrypted", "COSE_Encrypt", tag(16, [b"", {}, b"x"])),
+            ("Detached", "payload", tag(18, [b"", {}, None, b"x"])),
+            ("Shape", "", tag(18, [b"", {}, b"x"])),
+            ("Shape", "", tag(18, [h("a201260126"), {}, b"x", b"y"])),
+            ("NoSignature", "", tag(98, [b"", {}, b"x", []])),
+        ])
+
+    def test_wrong_tokens(self):
+        def token(payload):
+            return sign1({1: -7}, KID, payload=payload)
+        good = token(claims(_4=NOW + 60))
+        self.refused([("Judged", reason, token(payload)) for reason, payload in (
+            ("expired 2023-11-14T22:13:20Z, and it is 2023-11-14T22:13:20Z", claims(_4=NOW)),
+            ("expired", claims(_4=-1)), ("expired -inf", claims(_4=float("-inf"))),
+            ("not before", claims(_5=NOW + 1)), ("not before", claims(_5=NOW + 0.5)), ("not before", claims(_5=1 << 63)),
+            ("exp isn't a number", claims(_4="2033")), ("exp isn't a number", claims(_4=True)), ("exp isn't a number", claims(_4=None)),
+            ("exp isn't a number", claims(_4=float("nan"))), ("exp isn't a number", cbor2.dumps({4: cbor2.CBORTag(1, NOW + 60)})),
+            ("isn't a claims set", b"hi"), ("isn't a claims set", cbor2.dumps([1])), ("isn't a claims set", b""),
+            ("bytes after the item", claims(_4=NOW + 60) + b"\0"), ("the key 4 twice", h("a2041a7fffffff0401")),
+            ("isn't a claims set", cbor2.dumps({b"x": 1})), ("a number, a text nor bytes", h("a1f401")),
+            ("the item is cut off", claims(_4=NOW + 60)[:-1]), ("more than 64 levels", h("a16178" + "81" * 100 + "00")),
+        )], "--now", str(NOW), good=good)
+        self.passes(token(claims(_4=NOW + 0.5, _5=NOW)) + token(claims()), "--now", str(NOW))
+        self.assertIn("no claim exp", self.verify(token(claims()), "--now", str(NOW), "--need", "exp", status=1)[1])
+        self.passes(token(cbor2.dumps({3: ["a", "b"]})), "--now", str(NOW), "--aud", "b")
+        self.assertIn("another issuer, 'me'", self.verify(token(claims()), "--now", "--iss", "you", status=1)[1])
+
+    def test_damage(self):
+        """What can't be read ends the run, and nothing after it passes; what comes before does."""
+        faults = {"d284": "Semantic|Type|Io|Syntax", "f8ff": "Semantic", "ff": "Break", "62ffff": "Syntax", "1c": "Syntax"}
+        for damage, reason in faults.items():
+            with self.subTest(damage=damage):
+                out, told, status = self.verify(GOOD + h(damage) + GOOD, status=4)
+                self.assertEqual(out, GOOD)
+                self.assertRegex(told, rf"item 1 at 0: passed\nstopped: decode: .*({reason}).*\n  item 2 at {len(GOOD)}: ")
+        for length in range(1, len(GOOD), 16):
+            out, told, status = self.verify(GOOD + GOOD[:length], status=4)
+            self.assertEqual(out, GOOD)
+            self.assertIn("stopped: decode: Io(EndOfFile)", told)
+        tagged = b"\xd8\x3d" + sign1({1: -7}, KID, claims(_4=NOW + 60))
+        out, told, _ = self.verify(tagged + tagged[:-1], "--now", str(NOW), status=4)
+        self.assertEqual(out, tagged[2:])
+        self.assertIn(f"item 2 at {len(tagged)}: the input ends inside the item", told)
+
+    def test_arguments_and_keys(self):
+        for status, words, *arguments in (
+            (2, "required: --keys"), (2, "unrecognized", "--keys", self.keys, "file"), (2, "invalid", "--keys", self.keys, "--aad", "xx"),
+            (2, "less than 0", "--keys", self.keys, "--now", "--leeway", "-1"),
+            (2, "are for --now", "--keys", self.keys, "--aud", "x"), (2, "invalid seconds value", "--keys", self.keys, "--now", "tomorrow"),
+            (3, "No such file", "--keys", "nosuch"), (3, "no key in it", "--keys", self.put("text", b"hello")),
+            (3, "no key in it", "--keys", self.put("empty", b"")), (3, "no key in it", "--keys", self.put("none.json", b'{"keys": []}')),
+            (3, "not a good key", "--keys", self.put("bad.pem", b"-----BEGIN PUBLIC KEY-----\nAAAA\n-----END PUBLIC KEY-----\n")),
+            (3, "openssl x509", "--keys", self.put("cert.pem", b"-----BEGIN CERTIFICATE-----\nAAAA\n-----END CERTIFICATE-----\n")),
+            (3, "not a good key", "--keys", self.put("point", cbor2.dumps([{1: 2, -1: 1, -2: bytes(32), -3: bytes(32)}]))),
+            (3, "isn't for signatures", "--keys", self.put("x25519", cbor2.dumps([{1: 1, -1: 4, -2: bytes(32)}]))),
+            (3, "its use is 'enc'", "--keys", self.put("enc", b'{"kty":"oct","k":"AAAA","use":"enc"}')),
+            (3, "without padding", "--keys", self.put("pad", b'{"kty":"oct","k":"AAA="}')),
+            (3, "several keys in one PEM", "--keys", self.put("two.pem", pem(P256) + pem(OTHER))),
+            (3, "neither to sign nor to verify", "--keys", self.put("wrap", cbor2.dumps({**to_cose(P256, b"x"), 4: [5]}))),
+            (3, "an alg that is neither", "--keys", self.put("alg", cbor2.dumps({**to_cose(P256, b"x"), 3: [-7]}))),
+            (3, "'k' is there twice", "--keys", self.put("twice", b'{"kty":"oct","k":"AAAA","k":"AAAB"}')),
+            (3, "isn't that of the public", "--keys", self.put("halves", cbor2.dumps({**to_cose(P256, b"x"), -4: bytes(31) + b"\1"}))),
+        ):
+            with self.subTest(words=words):
+                self.assertIn(words, run("cose-verify", *arguments, status=status)[1])
+        some = self.put("some", cbor2.dumps([{1: 99}, to_cose(P256, b"dev1")]))
+        self.assertIn("some: key 1: the kty 99", self.verify(GOOD, keys=some, status=0)[1])
+        limited = self.put("limited", cbor2.dumps([{**to_cose(P256, b"dev1"), 4: [1]}, {**to_cose(P256, b"dev1"), 3: -9}]))
+        self.assertRegex(self.verify(GOOD, keys=limited, status=1)[1], "its operations don't have this one; .*it is for ESP256 alone")
+        self.assertEqual(self.verify(b"", status=0)[1], "passed 0, refused 0\n")
+
+    def test_help_and_version(self):
+        for tool in ("cose-verify", "cose-key", "cose-make"):
+            self.assertTrue(run(tool, "--help", status=0)[0].startswith(b"usage: " + tool.encode()))
+            self.assertRegex(run(tool, "--version", status=0)[0].decode(), rf"^{tool} \(.*, python3 .*, cryptography .*\)\n$")
+            with open("/dev/full", "wb") as full:
+                self.assertEqual(subprocess.run([os.path.join(HERE, tool), "--help"], stdout=full, stderr=full).returncode, 4)
+        self.assertIn(b"-7 ES256", run("cose-verify", "--help-algorithms", status=0)[0])
+
+    def test_full_disk(self):
+        """A message that can't be written ends the run; a line that can't be doesn't matter."""
+        for full, status in ((">", 4), ("2>", 0)):
+            command = f'exec "$0" --keys "$1" {full} /dev/full'
+            done = subprocess.run(["bash", "-c", command, VERIFY, self.keys], input=GOOD, capture_output=True)
+            self.assertEqual((done.returncode, done.stdout), (status, GOOD if status == 0 else b""), done.stderr)
+
+    def test_programs_that_are_not_there(self):
+        done = subprocess.run([VERIFY, "--keys", self.keys], input=GOOD, capture_output=True, env={"PATH": "/nonexistent"})
+        self.assertEqual((done.returncode, done.stdout), (70, b""))
+        self.put("cryptography.py", b"raise ImportError")
+        for tool in ("cose-verify", "cose-key", "cose-make"):
+            done = subprocess.run([os.path.join(HERE, tool)], capture_output=True, env={"PYTHONPATH": self.folder})
+            self.assertEqual((done.returncode, done.stderr.count(b"\n")), (70, 1))
+
+    def test_closed_streams(self):
+        for closed in ("<&-", ">&-", "2>&-"):
+            command = f'exec "$0" "$@" {closed}'
+            done = subprocess.run(["bash", "-c", command, VERIFY, "--keys", self.keys], input=GOOD, capture_output=True)
+            self.assertEqual((done.returncode, done.stdout), (4, b""), closed)
+
+    def test_blocks(self):
+        """More than a block, with items across its ends, and the same lines as of cose-pass with all records."""
+        items = [GOOD, flipped(GOOD), sign1({1: -7}, KID, payload=bytes(3000)), cbor2.dumps(b"x" * 5000)]
+        data = b"".join(items[n % 4] for n in range(1600)) + sign1({1: -7}, KID, payload=bytes(3 << 20)) + GOOD
+        out, told, _ = self.verify(data, status=1)
+        accepted, _, _ = run_program("cose-ask", "--lines", data=data)
+        kept = self.put("kept", b"".join(line for line in accepted.splitlines(True) if flipped(GOOD)[-64:].hex().encode() not in line))
+        wanted, lines, _ = run_program("cose-pass", kept, data=data)
+        self.assertTrue(out == wanted)
+        self.assertEqual(re.sub("\n  .*", "", told), lines.decode())
+
+    def test_live(self):
+        """A message is written while the sender waits."""
+        process = subprocess.Popen([VERIFY, "--keys", self.keys], stdin=subprocess.PIPE, stdout=subprocess.PIPE,
+                                   stderr=subprocess.DEVNULL)
+        for _ in range(3):
+            os.write(process.stdin.fileno(), GOOD + GOOD[:40])
+            self.assertEqual(os.read(process.stdout.fileno(), 1 << 16), GOOD)
+            os.write(process.stdin.fileno(), GOOD[40:])
+            self.assertEqual(os.read(process.stdout.fileno(), 1 << 16), GOOD)
+        process.stdin.close()
+        self.assertEqual(process.wait(), 0)
+        process.stdout.close()
+
+    # cose-key and cose-make.
+
+    def test_make_and_verify(self):
+        for algorithm in "ES256 ES384 ES512 ES256K ESP256 EdDSA Ed25519 Ed448 PS256 RS512 HS256 HS384 HS512 HS256/64".split():
+            with self.subTest(algorithm=algorithm):
+                private = os.path.join(self.folder, algorithm.replace("/", "_") + ".key")
+                run("cose-key", "--new", algorithm, "--kid", "dev9", "-o", private, status=0)
+                self.assertEqual(os.stat(private).st_mode & 0o777, 0o600)
+                keys = self.put("made", run("cose-key", private)[0])
+                layouts = [(), ("--tag61",), ("--protected", '{"4": "hex:64657639"}'), ("--protected", '{"3": 60}'),
+                           ("--unprotected", '{"33": "hex:0102", "x": [1.5, true, null]}')]
+                cwt = ("--cwt", '{"iss": "me", "exp": "+1h", "cti": "hex:07"}')
+                for arguments in layouts if algorithm in ("ES256", "HS256") else layouts[:1]:
+                    made = run("cose-make", "--key", private, *cwt, *arguments, status=0)[0]
+                    self.passes(made, "--now", "--strict", keys=keys, as_bytes=made[2:] if "--tag61" in arguments else made)
+        self.assertEqual(run("cose-key", "--new", "ES256", "-o", private, status=4)[0], b"")
+
+    def test_what_is_made(self):
+        secret = self.put("secret", b"00" * 31 + b"01\n")
+        key, keys = os.path.join(self.folder, "no.kid"), os.path.join(self.folder, "new.keys")
+        run("cose-key", "hex:" + secret, "-o", key, status=0)
+        made = run("cose-make", "--key", key, "--kid", "01", "--payload", "-", "--aad", "01", data=b"hello", status=0)[0]
+        message = cbor2.loads(made)
+        self.assertEqual((message.tag, message.value[:3]), (17, [h("a10105"), {4: b"01"}, b"hello"]))
+        covered = cbor2.dumps(["MAC0", h("a10105"), b"\1", b"hello"])
+        self.assertEqual(message.value[3], hmac.new(bytes(31) + b"\1", covered, "sha256").digest())
+        run("cose-key", "hex:" + secret, "--kid", "hex:3031", "--alg", "HS256", "-o", keys, status=0)
+        out, told, status = run_program("cose-gate", keys, "01", data=made)
+        self.assertEqual((out, status), (made, 0), told)
+        private = self.put("dev1.private", private_pem(P256))
+        given = {"iss": "a", "sub": "b", "aud": ["c", "d"], "exp": "2026-11-27T21:44:19Z", "nbf": 1.9, "iat": 0, "cti": "id",
+                 "-70000": {"1": "hex:ff"}, "scope": "read"}
+        wanted = {1: "a", 2: "b", 3: ["c", "d"], 4: 1795815859, 5: 1, 6: 0, 7: b"id", -70000: {1: b"\xff"}, "scope": "read"}
+        token = run("cose-make", "--key", private, "--kid", "dev1", "--cwt", json.dumps(given), status=0)[0]
+        self.assertEqual(cbor2.loads(cbor2.loads(token).value[2]), wanted)
+        self.passes(token)
+
+    def test_wrong_makes(self):
+        private, public = self.put("w.private", private_pem(P256)), self.put("w.pem", pem(P256))
+        mine, cwt = ("--key", private), ("--key", private, "--cwt")
+        for status, words, *arguments in (
+            (2, "required: --key"), (2, "one of the arguments --cwt --payload", *mine), (2, "invalid", *cwt, "{}", "--aad", "x"),
+            (3, "a public key", "--key", public, "--cwt", "{}"), (3, "No such file", "--key", "nosuch", "--cwt", "{}"),
+            (3, "not JSON", *cwt, "{"), (3, "not a JSON object", *cwt, "[]"),
+            (3, "there twice", *cwt, '{"iss": "a", "iss": "b"}'), (3, "there twice", *cwt, '{"iss": "a", "1": "b"}'),
+            (3, "isn't like +1h", *cwt, '{"exp": "soon"}'), (3, "not a time", *cwt, '{"exp": true}'), (3, "iss: not a text", *cwt, '{"iss": 5}'),
+            (3, "not hex", *cwt, '{"cti": "hex:0"}'), (3, "isn't for it", *cwt, "{}", "--alg", "ES384"),
+            (3, "isn't for it", *cwt, "{}", "--alg", "HS256/64"), (3, "not one of", *cwt, "{}", "--alg", "none"),
+            (3, "label 4 is in both", *cwt, "{}", "--kid", "a", "--protected", '{"4": "hex:00"}'), (4, "nosuch: No such file", *mine, "--payload", "nosuch"),
+        ):
+            with self.subTest(words=words):
+                out, told, _ = run("cose-make", *arguments, status=status)
+                self.assertEqual(out, b"")
+                self.assertIn(words, told)
+
+    def test_keys(self):
+        private = self.put("k.private", private_pem(P256))
+        made = run("cose-key", private, "--kid", "dev1", status=0)[0]
+        self.assertEqual(cbor2.loads(made), [to_cose(P256, b"dev1")])
+        self.assertEqual(run("cose-key", private, "--kid", "dev1", "--pem", status=0)[0], pem(P256))
+        whole = os.path.join(self.folder, "whole")
+        run("cose-key", private, "--kid", "dev1", "--alg", "ES256", "--private", "-o", whole, status=0)
+        with open(whole, "rb") as file:
+            self.assertEqual(cbor2.load(file), [{**to_cose(P256, b"dev1"), 3: -7, -4: P256.private_numbers().private_value.to_bytes(32, "big")}])
+        jwks = self.put("set.json", json.dumps({"keys": [
+            {"kty": "oct", "kid": "a", "k": "c2VjcmV0IHNlY3JldCBzZWNyZXQ", "alg": "HS256"},
+            {"kty": "OKP", "crv": "Ed25519", "x": "11qYAYKxCrfVS_7TyWQHOg7hcvPapiMlrwIaaPcHURo",
+             "d": "nWGxne_9WmC6hEr0kuwsxERJxWl7MmkZcDusAxyuf2A", "kid": "b", "key_ops": ["sign"]},
+            {"kty": "EC", "crv": "P-999", "x": "AA", "y": "AA"},
+        ]}).encode())
+        public = h("d75a980182b10ab7d54bfed3c964073a0ee172f3daa62325af021a68f707511a")
+        entries = [{1: 4, 2: b"a", 3: 5, -1: b"secret secret secret"}, {1: 1, 2: b"b", 4: [2], -1: 6, -2: public}]
+        made, told, _ = run("cose-key", jwks, whole, status=0)
+        self.assertEqual(cbor2.loads(made), [*entries, {**to_cose(P256, b"dev1"), 3: -7}])
+        self.assertIn("key 3: the curve 'P-999'", told)
+        self.assertEqual(run("cose-key", folder_of(self.folder, "dev1", P256), status=0)[0], cbor2.dumps([to_cose(P256, b"dev1")]))
+        with open(os.path.join(self.folder, "shown"), "wb") as file:
+            done = subprocess.run([os.path.join(HERE, "cose-key"), jwks], stdout=file, stderr=subprocess.PIPE)
+        self.assertEqual((done.returncode, os.stat(file.name).st_size), (3, 0))
+        self.assertIn("2 keys have", run("cose-key", whole, whole, status=0)[1])
+        self.assertIn("can be guessed", run("cose-key", "hex:-", data=b"0102", status=0)[1])
+
+
+def folder_of(folder, name, key):
+    made = tempfile.mkdtemp(dir=folder)
+    with open(os.path.join(made, name + ".pem"), "wb") as file:
+        file.write(pem(key))
+    return made
+
+
+def to_cose(key, kid):
+    public = key.public_key().public_numbers()
+    return {1: 2, 2: kid, -1: 1, -2: public.x.to_bytes(32, "big"), -3: public.y.to_bytes(32, "big")}
+
+
+def run_program(name, *arguments, data=b""):
+    done = subprocess.run([name, *arguments], input=data, capture_output=True)
+    return done.stdout, done.stderr, done.returncode
+
+
+if __name__ == "__main__":
+    result = unittest.main(exit=False).result
+    print(f"{result.testsRun} tests", file=sys.stderr)
+    sys.exit(not result.wasSuccessful())
