@@ -4,9 +4,11 @@
 #   stack     small-stack.sh: the messages that take most stack
 #   heap      capped.sh: memory that is held
 #   refused   fail-alloc.sh: each allocation refused
+#   time      instructions.py: instructions of a message, of a wrong tag, and by the number of parts
 #   library   c-library.sh: the archive, its examples in C and Python, what it gives against the program, memory. `stack` waits for it, and
 #             looks at its calls too
 #   users     the rows below: the programs as a user runs them
+#   tools     tools/test.sh: cose-verify, cose-key and cose-make, over the programs
 # It says how long each took, what is left out for want of a tool, and of what fails how to run it by hand; status 1 if a step fails.
 # CRATES is another folder of crates with such out/.
 set -u
@@ -127,7 +129,7 @@ rows() {
 # a live pipe: nothing yet
 END
   if (command -v openssl && command -v xxd && python3 -c 'import cryptography') > /dev/null 2>&1; then
-    echo '0|||ASK=cose-ask PASS=cose-pass bash signatures/run.sh sh'
+    echo '0|||ASK=cose-ask PASS=cose-pass bash signatures/run.sh'
   else
     echo 'after-ci.sh: no openssl, xxd or python3-cryptography, so examples/signatures is left out' >&2
   fi
@@ -167,13 +169,15 @@ heap() {
   for it in bench cose_gate_cli example_token cose_ask_cli cose_pass_cli cose_show; do programs+=("$CRATES/$it/out/$it"); done
   sh "$top/scripts/capped.sh" "${programs[@]}"
 }
+time_taken() { python3 "$top/scripts/instructions.py"; }
 refused() { bash "$top/scripts/fail-alloc.sh"; }
+tools() { bash "$top/tools/test.sh"; }
 library() { bash "$top/scripts/c-library.sh" left c python compare memory; }
 
 # Runs a step, and says what became of it.
 step() {
   local from=$SECONDS status=0
-  "$1" > "$folder/$1.log" 2>&1 || status=1
+  case $1 in time) time_taken ;; *) "$1" ;; esac > "$folder/$1.log" 2>&1 || status=1
   if [ $status = 0 ]; then
     grep 'left out' "$folder/$1.log" | sort -u
     echo "after-ci.sh: $1: $(tail -n 1 "$folder/$1.log"), $((SECONDS - from)) s"
@@ -185,9 +189,9 @@ step() {
   return $status
 }
 
-[ $# -gt 0 ] || set -- stack heap refused library users
+[ $# -gt 0 ] || set -- stack heap refused time library users tools
 for name; do
-  case $name in stack | heap | refused | library | users) ;; *) echo "after-ci.sh: no such step: $name" >&2 && exit 2 ;; esac
+  case $name in stack | heap | refused | time | library | users | tools) ;; *) echo "after-ci.sh: no such step: $name" >&2 && exit 2 ;; esac
 done
 bad=0 running=
 for name; do

@@ -9,7 +9,7 @@ import re
 import sys
 
 TOP = pathlib.Path(__file__).resolve().parent.parent
-PAGES = ["*.md", "docs/*.md", "docs/*.1", "crates/*/README.md", "crates/*/CALLING.md", "include/*.h", "cose-*", "scripts/*"] + \
+PAGES = ["*.md", "docs/*.md", "docs/*.1", "crates/*/README.md", "crates/*/CALLING.md", "include/*.h", "cose-*", "scripts/*", "tools/*"] + \
         ["examples/**/*." + kind for kind in ("md", "sh", "py", "c", "go", "rs")]
 TABLE = r"MAINTAINING.md: \| (if|after|argument|buffer|encoding|is|returns|out of|input or|ignored|CPU)[^|]* \|"
 # Each word, and its uses that stay: the reason, and what a line has then, with its page's name in front.
@@ -29,7 +29,7 @@ WORDS = {
         ("lines or a file of them", r"lines? of text|as text|is text|text has no|text or as|(claims|day\)), text, CBOR|JSON text"),
         ("what RFC 2104 calls so", r"cose_hmac"),
         ("a text string", r"(^README|ciborium|cbor_diag|coset_labels|cose_show|conformance_c|example_types|DECI|DEFI|DIFF|SCALE|TIMES"
-                          r"|PORT|CHANGELOG|capped).*\btexts?\b"),
+                          r"|PORT|CHANGELOG|capped|TOKENS|tools/|docs/cose-(key|make|verify)).*\btexts?\b"),
     ],
     "stands?|stood": [("stands for something", r"stands? for|stands?$")],
     "answer(s|ed|ing)?": [
