@@ -374,7 +374,8 @@ class Tools(unittest.TestCase):
             self.assertEqual((done.returncode, done.stdout), (status, GOOD if status == 0 else b""), done.stderr)
 
     def test_programs_that_are_not_there(self):
-        done = subprocess.run([VERIFY, "--keys", self.keys], input=GOOD, capture_output=True, env={"PATH": "/nonexistent"})
+        alone = shutil.copytree(HERE, os.path.join(self.folder, "alone", "tools"))  # far from the programs of a checkout
+        done = subprocess.run([f"{alone}/cose-verify", "--keys", self.keys], input=GOOD, capture_output=True, env={"PATH": "/nonexistent"})
         self.assertEqual((done.returncode, done.stdout), (70, b""))
         self.put("cryptography.py", b"raise ImportError")
         for tool in ("cose-verify", "cose-key", "cose-make"):
