@@ -1,17 +1,39 @@
 #!/usr/bin/env bash
 # many.sh: gates a CBOR sequence in pieces side by side, and joins what is said of them to what one run says. docs/SCALE.md tells more.
-#
-#   examples/many.sh [-s SIZE] [-j JOBS] [-x] [-S LOGINS] [-c] KEYS AADHEX INPUT PASSED LINES
-#
-# PASSED gets the messages that pass, LINES the lines of the gate. SIZE: how many bytes a piece has at least (without it 64 MB). JOBS: how
-# many gates run at a time (as many as there are processors). -x: by xargs, even if GNU parallel is there. -S: on these machines, as
-# `parallel --sshlogin` names them (this one as localhost, not as `:`): KEYS and the pieces are copied there, and what is said of them comes
-# back; JOBS, if given, is for each machine. -c: does one run too, here, and says whether it wrote the same.
-#
-# The status is the gate's; it is 5 if the two runs differ, and 6 if the input can't be cut, or a piece gave no result. COSE_GATE
-# and COSE_SHOW name other programs than those of this repository; with -S the former is at the same absolute path on each machine.
+# COSE_GATE and COSE_SHOW name other programs than those of this repository; with -S the former is at the same absolute path on each machine.
 set -u
 top=$(cd "$(dirname "$(readlink -f "${BASH_SOURCE[0]}")")/.." && pwd)
+usage="usage: examples/many.sh [--try] [-s SIZE] [-j JOBS] [-x] [-S LOGINS] [-c] KEYS AADHEX INPUT PASSED LINES"
+
+help() {
+  cat <<HELP
+$usage
+Gates the CBOR sequence INPUT in pieces side by side. PASSED gets the messages
+that pass, and LINES the lines of the gate, as one run writes them.
+  --try      with programs that are not proved, built in two minutes
+  -s SIZE    a piece has at least SIZE bytes, 67108864 if it is left out
+  -j JOBS    so many gates at a time, else as many as there are processors; with
+             -S on each machine
+  -x         by xargs, even if GNU parallel is there
+  -S LOGINS  on these machines, as parallel --sshlogin names them (this one is
+             localhost): KEYS and the pieces are copied there
+  -c         one run too, here, and whether it wrote the same
+  -h, --help this text
+The status is the gate's, or 5 if the two runs differ, and 6 if INPUT can't be
+cut or a piece gave no result.
+HELP
+}
+
+case ${1-} in
+  -h | --help)
+    help
+    exit
+    ;;
+  --try)
+    shift
+    COSE_GATE=$(bash "$top/scripts/try.sh" --path cose-gate) && COSE_SHOW=$(bash "$top/scripts/try.sh" --path cose-show) || exit
+    ;;
+esac
 size=67108864 jobs=$(nproc) compare=no by=xargs logins=
 command -v parallel > /dev/null && by=parallel
 while getopts s:j:xS:c letter; do
@@ -21,12 +43,12 @@ while getopts s:j:xS:c letter; do
     x) by=xargs ;;
     S) logins=$OPTARG ;;
     c) compare=yes ;;
-    *) exit 2 ;;
+    *) echo "$usage" >&2 && exit 2 ;;
   esac
 done
 shift $((OPTIND - 1))
 if [ $# -ne 5 ]; then
-  echo "usage: examples/many.sh [-s SIZE] [-j JOBS] [-x] [-S LOGINS] [-c] KEYS AADHEX INPUT PASSED LINES" >&2
+  echo "$usage" >&2
   exit 2
 fi
 if [ -n "$logins" ] && [ $by = xargs ]; then

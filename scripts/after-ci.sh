@@ -9,6 +9,7 @@
 #             looks at its calls too
 #   users     the rows below: the programs as a user runs them
 #   tools     tools/test.sh: cose-verify, cose-key and cose-make, over the programs
+#   try       try.sh: cose-gate built unproved
 # It says how long each took, what is left out for want of a tool, and of what fails how to run it by hand; status 1 if a step fails.
 # CRATES is another folder of crates with such out/.
 set -u
@@ -172,6 +173,11 @@ heap() {
 time_taken() { python3 "$top/scripts/instructions.py"; }
 refused() { bash "$top/scripts/fail-alloc.sh"; }
 tools() { bash "$top/tools/test.sh"; }
+try() {
+  local status=0
+  cd "$top/examples" && bash "$top/scripts/try.sh" cose-gate keys.cbor 01 < mixed.cbor > "$folder/tried" || status=$?
+  [ $status = 1 ] && cmp "$folder/tried" "$top/crates/cose_gate_cli/stdout" && echo "the same as the proved program"
+}
 library() { bash "$top/scripts/c-library.sh" left c python compare memory; }
 
 # Runs a step, and says what became of it.
@@ -189,9 +195,9 @@ step() {
   return $status
 }
 
-[ $# -gt 0 ] || set -- stack heap refused time library users tools
+[ $# -gt 0 ] || set -- stack heap refused time library users tools try
 for name; do
-  case $name in stack | heap | refused | time | library | users | tools) ;; *) echo "after-ci.sh: no such step: $name" >&2 && exit 2 ;; esac
+  case $name in stack | heap | refused | time | library | users | tools | try) ;; *) echo "after-ci.sh: no such step: $name" >&2 && exit 2 ;; esac
 done
 bad=0 running=
 for name; do

@@ -27,9 +27,16 @@ needs_file() {
   exit 3
 }
 
-# Ends with status 2 and the program's own line if this isn't bytes in hex.
+# Ends with status 2 and the program's own line if this isn't bytes in hex, and with what it may have been meant for.
 needs_hex() {
   [[ $1 =~ ^([0-9a-fA-F][0-9a-fA-F])*$ ]] && return
   echo "aad: not hex" >&2
+  is_option "$1" && echo "  $1: options come before the other arguments" >&2
+  is_input "$1"
   exit 2
+}
+
+# Says so if this is a file: one in the place of AADHEX or after it.
+is_input() {
+  [ -f "$1" ] && echo "  $1: the input is read from standard input, as in < $1" >&2
 }

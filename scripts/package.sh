@@ -1,8 +1,8 @@
 #!/usr/bin/env bash
 # scripts/package.sh FOLDER: makes cose-gate_VERSION_amd64.deb and cose-gate_VERSION_amd64.tar.gz in FOLDER: the programs cose-gate, cose-ask,
-# cose-pass and cose-show as they were proved and built, the tools cose-verify, cose-key and cose-make, their manual pages, LICENSE and
-# NOTICE. The programs are proved and built first if a source has changed; if that fails nothing is made, and the status is 70. VERSION is the
-# day of the last commit. The same commit gives the same bytes.
+# cose-pass and cose-show as they were proved and built, the tools cose-verify, cose-key and cose-make, their manual pages, README, LICENSE
+# and NOTICE. The programs are proved and built first if a source has changed; if that fails nothing is made, and the status is 70. VERSION is
+# the day of the last commit. The same commit gives the same bytes.
 set -eu
 top=$(cd "$(dirname "$(readlink -f "${BASH_SOURCE[0]}")")/.." && pwd)
 if [ $# -ne 1 ] || [ -z "$1" ] || [ "${1#-}" != "$1" ]; then
@@ -46,12 +46,15 @@ for it in cose-verify cose-key cose-make; do
 done
 put 644 "$top/LICENSE" usr/share/doc/cose-gate/copyright
 put 644 "$top/NOTICE" usr/share/doc/cose-gate/NOTICE
+put 644 "$top/README.md" usr/share/doc/cose-gate/README.md
 find "$tree/$name" -type d -exec chmod 755 {} +
 find "$tree/$name/usr/share" -type f -exec chmod 644 {} +
 
 tar -C "$tree/$name" --sort=name --mtime="@$time" --owner=0 --group=0 --numeric-owner -cf - usr | gzip -9 -n > "$folder/$name.tar.gz"
 echo "package.sh: wrote $folder/$name.tar.gz"
 
+# The newest version of the C library whose functions a program calls.
+libc=$(cat "$tree/$name"/usr/bin/cose-{gate,ask,pass,show} | grep -aoE 'GLIBC_2\.[0-9]+' | sort -uV | tail -n 1)
 if command -v dpkg-deb > /dev/null; then
   mkdir "$tree/$name/DEBIAN"
   cat > "$tree/$name/DEBIAN/control" <<CONTROL
@@ -59,7 +62,7 @@ Package: cose-gate
 Version: $version
 Architecture: amd64
 Maintainer: Pitchhour maintainers <pitchhour@localhost>
-Depends: libc6
+Depends: libc6 (>= ${libc#GLIBC_})
 Recommends: python3-cryptography
 Section: utils
 Priority: optional

@@ -5,7 +5,8 @@
 # It knows no critical labels and no other headers: the protected header has to be exactly {1: -7} or {1: -8}, the unprotected one exactly
 # {4: KID} with a key id of 1 to 23 bytes. Each other message is left out, and so refused.
 set -u
-[ $# -eq 1 ] && [ -d "$1" ] || { echo "usage: es256.sh KEYS < LINES > ACCEPTED" >&2; exit 2; }
+[ $# -eq 1 ] || { echo "usage: es256.sh KEYS < LINES > ACCEPTED" >&2; exit 2; }
+[ -d "$1" ] || { echo "es256.sh: $1: no such folder" >&2; exit 2; }
 work=$(mktemp -d) || exit
 trap 'rm -rf "$work"' EXIT
 

@@ -1,9 +1,13 @@
 #!/usr/bin/env bash
-# run.sh: makes keys and signed messages in a folder of its own, checks the signatures with es256.sh, and compares what passes with what
-# should. ASK and PASS are other programs than cose-ask and cose-pass at the top, if they are set.
+# run.sh [--try]: makes keys and signed messages in a folder of its own, checks the signatures with es256.sh, and compares what passes with
+# what should. With --try the programs are built unproved, in two minutes (scripts/try.sh). ASK and PASS are other programs than cose-ask and
+# cose-pass at the top, if they are set.
 set -u
 here=$(cd "$(dirname "$(readlink -f "${BASH_SOURCE[0]}")")" && pwd)
 top=$here/../..
+if [ "${1-}" = --try ]; then
+  ASK=$(bash "$top/scripts/try.sh" --path cose-ask) && PASS=$(bash "$top/scripts/try.sh" --path cose-pass) || exit
+fi
 # The programs are built first, so that what a build says is not among their lines.
 if [ -z "${ASK-}" ]; then
   bash "$top/scripts/proved.sh" cose-ask cose_ask_cli || exit
