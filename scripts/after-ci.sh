@@ -134,6 +134,18 @@ END
   else
     echo 'after-ci.sh: no openssl, xxd or python3-cryptography, so examples/signatures is left out' >&2
   fi
+  if /usr/bin/python3 -c 'import distributed' 2> /dev/null; then
+    echo '4||stopped: decode: Io(EndOfFile)|cat mixed.cbor cut.cbor > $T/torn; COSE_GATE=cose-gate COSE_SHOW=cose-show python/dask_gate.py' \
+      '--size 100 keys.cbor 01 $T/torn $T/joined $T/said 2> /dev/null; status=$?; cose-gate keys.cbor 01 < $T/torn > $T/one 2> $T/told;' \
+      'cmp $T/one $T/joined && cmp $T/told $T/said || exit; tail -n 1 $T/said >&2; exit $status'
+  else
+    echo 'after-ci.sh: no python3-distributed, so examples/python/dask_gate.py is left out' >&2
+  fi
+  if command -v systemd-analyze > /dev/null; then
+    echo '0|||mkdir $T/units && cp service/* $T/units && sed -i "s#/usr/bin/#$T/bin/#" $T/units/* && ! systemd-analyze verify $T/units/* 2>&1 | grep cose-gate'
+  else
+    echo 'after-ci.sh: no systemd-analyze, so examples/service is left out' >&2
+  fi
 }
 
 # Goes through the rows with the programs of a compiler, whose names end so.
