@@ -32,7 +32,6 @@ def refusals():
     same("the refusals are", sorted(variants), report, sorted(order))
     same("the names of refusals are", sorted(order), "crates/cose_gate_program/src/lines.rt",
          sorted(found("crates/cose_gate_program/src/lines.rt", r'^        Refusal::\w+(?:\(_\))? => ": refused: (\w+)\\n"')))
-    same("the refusals are", order, "README.md", found("README.md", r"^\| `(\w+)` \| (?:has|is|was|does)"))
     same("the refusals are", order, "docs/cose-gate.1", found("docs/cose-gate.1", r"^\.TP\n\.B ([A-Z]\w+)$"))
 
 
