@@ -20,7 +20,7 @@ WORDS = {
         ("what a name in a table may be", r"where KIND is"),
     ],
     "behind": [],
-    "words?": [("of a language", r"in words|the words that"), ("of a machine", r"machine words")],
+    "words?": [("of a language", r"in words|the words that")],
     "rooms?": [],
     "(shortest|torn|canonical|encoded) texts?": [],
     "texts?": [
