@@ -1,21 +1,14 @@
 #!/usr/bin/env python3
-"""Writes the public signatures into each crates/*/CALLING.md, between its two marker lines, each with its clauses as they are in the
-source. With --check it writes nothing, and says each page that isn't current: status 1 if there is one.
-
-A page has the free functions, the types' own methods and the traits that its crate passes on from the crates named below. By these rules it
-leaves out: implementations of traits; laws; and of builders and types with many methods those with no clause or one without a name, as
-setters and accessors have. It says how many these are."""
+"""signatures.py CRATE [NAME..]: prints the public calls of a crate that has a CALLING.md, each with its clauses as they are in the source: the
+free functions, the types' own methods and the traits that it passes on from the crates named below. With NAME, of a function or a type, only
+these. Implementations of traits and laws are left out."""
 import pathlib
 import re
 import sys
 
 CRATES = pathlib.Path(__file__).resolve().parent.parent / "crates"
-BEGIN = "<!-- The signatures, written by scripts/signatures.py -->"
-END = "<!-- The end of the signatures -->"
-# A type has many methods above this number.
-MANY = 8
 
-# Of each page: the crates below whose public items it tells of.
+# Of each crate: those below whose public items it passes on.
 PAGES = {
     "ciborium_ll": ["ciborium_ll"],
     "ciborium": ["ciborium", "ciborium_value", "ciborium_traits", "ciborium_typed"],
@@ -88,8 +81,8 @@ def owner_of(head):
     return re.search(r"\w+", re.sub(r"^(trait|impl(<[^{]*?>)?) (?=\w)", "", head))[0] if head else ""
 
 
-def signatures(page):
-    """The lines of a page's part, and how many methods are left out."""
+def signatures(page, wanted):
+    """The lines of a crate's calls; of all, if none is wanted by its name."""
     names, _ = passed_on(page)
     root = (CRATES / page / "src/lib.rt").read_text(encoding="utf-8")
     found, below = {}, set()
@@ -105,51 +98,30 @@ def signatures(page):
             for head, at in blocks(text):
                 one, clauses = function(text, at)
                 name = owner_of(head) or re.match(r"fn (\w+)", one)[1]
-                # (if two crates have a function of one name, the page's own passes on the upper one)
+                # (if two crates have a function of one name, the crate's own passes on the upper one)
                 if name in names - (below if not head else set()) or not head and file.stem in modules:
                     found.setdefault(head, []).append((one, clauses))
         below.update(re.match(r"fn (\w+)", it[0])[1] for it in found.get("", []))
-    out, left_out = [], 0
+    out = []
     for head, methods in sorted(found.items(), key=lambda it: (owner_of(it[0]), it[0])):
-        has_many = head and (owner_of(head).endswith("Builder") or len(methods) > MANY)
-        shown = [it for it in methods if not has_many or len(it[1]) > 1 or it[1] and it[1][0][1]]
-        left_out += len(methods) - len(shown)
+        shown = [it for it in methods if not wanted or wanted & {owner_of(head), re.match(r"fn (\w+)", it[0])[1]}]
         margin = "  " if head else ""
         if head and shown:
             out.append(head)
         for one, clauses in shown:
             out.append(margin + one)
             out += [f"{margin}  {kind}{clause and ' '}{clause}: {body}" for kind, clause, body in clauses]
-    return out, left_out
+    return out
 
 
-def part(page):
-    """What is between a page's marker lines."""
-    out, left_out = signatures(page)
-    more = f"\nLeft out: {left_out} methods whose one clause has no name, such as setters and accessors.\n" if left_out else ""
-    return f"{BEGIN}\n\n```text\n" + "\n".join(out) + f"\n```\n{more}\n{END}"
-
-
-def main():
-    status = 0
-    for page in PAGES:
-        file = CRATES / page / "CALLING.md"
-        old = file.read_text(encoding="utf-8")
-        if old.count(BEGIN) != 1 or old.count(END) != 1:
-            print(f"{file.relative_to(CRATES.parent)}: its two marker lines are not there once each")
-            status = 1
-            continue
-        new = old[: old.index(BEGIN)] + part(page) + old[old.index(END) + len(END):]
-        if new == old:
-            continue
-        if sys.argv[1:] == ["--check"]:
-            print(f"{file.relative_to(CRATES.parent)}: its signatures are not those of the sources: run scripts/signatures.py")
-            status = 1
-        else:
-            file.write_text(new, encoding="utf-8")
-            print(f"{file.relative_to(CRATES.parent)}: written")
-    return status
+def main(page="", *wanted):
+    if page not in PAGES:
+        print(f"usage: scripts/signatures.py CRATE [NAME..], and CRATE is one of {', '.join(PAGES)}", file=sys.stderr)
+        return 2
+    lines = signatures(page, set(wanted))
+    print("\n".join(lines))
+    return 0 if lines else 1
 
 
 if __name__ == "__main__":
-    sys.exit(main())
+    sys.exit(main(*sys.argv[1:]))
