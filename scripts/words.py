@@ -38,9 +38,7 @@ WORDS = {
         ("of a goal, as Rattle calls it", r"a goal|the answers of|an answer$"),
         ("the struct of the library", r"answer says|library's answers"),
     ],
-    "memory (is|was|may be) refused|refused? memory|refuses memory|memory refused": [
-        ("by a test", r"tests: memory|tests of memory|fail-alloc"),
-    ],
+    "memory (is|was|may be) refused|refused? memory|refuses memory|memory refused": [],
     "devices? (that )?fails?|failing devices?|failed devices?": [],
     "pass(ed|es)? over": [],
     "(minutes|seconds) of (a )?processor": [],
