@@ -9,7 +9,8 @@ ghost use Rattle.ciborium_ll.specs.Views.{offset_of, waiting_of, seen, shortest_
 ghost use Rattle.ciborium_value.specs.View.{view};
 ghost use Rattle.ciborium.specs.declared.de.Error.TheVariants.{Memory};
 ghost use Rattle.ciborium.specs.Damage.{Damage, TitleDamage};
-ghost use Rattle.ciborium.specs.Reading.{Steady, TakesSome, NamesFault, NamesFaultAfterTitle, Closes};
+ghost use Rattle.ciborium.specs.Reading.{Steady, TakesSome, NamesFault, NamesFaultAfterTitle};
+ghost use Rattle.ciborium.specs.Reading.{Closes};
 ghost use Rattle.ciborium_value.specs.Folding.{tagged};
 ghost use Rattle.ciborium.specs.Reading.{IsNext, is_full, fault_failures, IsFoldFault, IsLeaf};
 ghost use Rattle.ciborium.specs.Reading.{IsNotLong, ReadsAfterTitle};
@@ -533,8 +534,8 @@ fn opening<R: Read>(
     ensures ok { IfOk result (λ o. Takes (seen R.Read decoder.old) (seen R.Read decoder.new)
         (Opening header at (offset_of decoder.old) left exact.old.holds exact.new.holds o)) }
     ensures room { IfOk result (Holds (room_of top.now)) }
-    ensures err { IfErr result (NamesFaultAfterTitle R.ends header at (λ stop b f. Damage stop b left f)
-        (seen R.Read decoder.old) (seen R.Read decoder.new)) }
+    ensures err { IfErr result (NamesFaultAfterTitle R.ends header at
+        (λ stop b f. Damage stop b left f) (seen R.Read decoder.old) (seen R.Read decoder.new)) }
     ensures leaves { Leaves R.ends (OneAfterTitle header) result
         (seen R.Read decoder.old) (seen R.Read decoder.new) }
 {

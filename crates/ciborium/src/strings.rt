@@ -374,8 +374,8 @@ pub fn read_text<R: Read>(
     ensures ok { IfOk result (λ v. Takes (seen R.Read decoder.old) (seen R.Read decoder.new)
         (λ b. StringAfterHead true length (string_bytes v) b)) }
     ensures held { IfOk result (λ v. IsFitting length (string_bytes v) (string_capacity v)) }
-    ensures err { IfErr result (NamesFaultAfterTitle R.ends (Text length) at (StringDamage Text IsUtf8)
-        (seen R.Read decoder.old) (seen R.Read decoder.new)) }
+    ensures err { IfErr result (NamesFaultAfterTitle R.ends (Text length) at
+        (StringDamage Text IsUtf8) (seen R.Read decoder.old) (seen R.Read decoder.new)) }
     ensures leaves { Leaves R.ends (OneAfterTitle (Text length)) result
         (seen R.Read decoder.old) (seen R.Read decoder.new) }
 {
@@ -420,8 +420,8 @@ fn read_cut_text<R: Read>(
     ensures ok { IfOk result (λ v. Takes (seen R.Read decoder.old) (seen R.Read decoder.new)
         (λ b. StringAfterHead true None (string_bytes v) b)) }
     ensures held { IfOk result (λ v. IsEarned (length (string_bytes v)) (string_capacity v)) }
-    ensures err { IfErr result (NamesFaultAfterTitle R.ends (Text None) at (StringDamage Text IsUtf8)
-        (seen R.Read decoder.old) (seen R.Read decoder.new)) }
+    ensures err { IfErr result (NamesFaultAfterTitle R.ends (Text None) at
+        (StringDamage Text IsUtf8) (seen R.Read decoder.old) (seen R.Read decoder.new)) }
     ensures leaves { Leaves R.ends (OneAfterTitle (Text None)) result
         (seen R.Read decoder.old) (seen R.Read decoder.new) }
 {

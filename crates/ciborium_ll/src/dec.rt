@@ -197,11 +197,12 @@ impl<R: Read> Decoder<R> {
         self.reader.held()
     }
 
-    /// Takes the next n bytes, if `held` has so many, and says whether it did. After `false` nothing
-    /// has changed, and the bytes may still come by `read_exact`. It returns `false` also while a
-    /// header waits, and if the offset would pass `usize::MAX`.
+    /// Takes the next n bytes, if `held` has so many, and says whether it did. After `false`
+    /// nothing has changed, and the bytes may still come by `read_exact`. It returns `false` also
+    /// while a header waits, and if the offset would pass `usize::MAX`.
     pub fn take(&mut self, n: usize) -> bool
-        ensures taken { IsTrue result → Drops (left_of R.left self.old) (left_of R.left self.new) n }
+        ensures taken { IsTrue result
+            → Drops (left_of R.left self.old) (left_of R.left self.new) n }
         ensures within { IsTrue result → IfSome (left_of R.left self.old) (λ xs. n ≤ length xs) }
         ensures grown { IsTrue result → offset_of self.new ≡ offset_of self.old + n }
         ensures none { IsFalse result → self.new ≡ self.old }
