@@ -1,14 +1,14 @@
 use Rattle.std.proofs.Common.{◌≡◌, ◌-◌, ◌^◌, None}
 use Rattle.ciborium_ll.specs.Seen.{Takes}
 use Rattle.ciborium_ll.specs.Views.{offset_of, waiting_of, reader_of, seen}
-use Rattle.ciborium.specs.Frames.{HalfIn, in_hand, FillsFrame}
-use Rattle.ciborium.proofs.frames.fill.Given as goal
+use Rattle.ciborium.specs.declared.frames.Frame.TheVariants as code
+use Rattle.ciborium.specs.Frames.{FillsFrame, HasHalf}
+use Rattle.ciborium.proofs.frames.fill_entries.Given as goal
 
 abbrev pub invariant-parts : goal.invariant-parts
 invariant-parts g l = record {
-  taken : Takes (seen g.R.Read l.fn.decoder) (seen g.R.Read l.decoder) (FillsFrame l.fn.top l.top (offset_of l.fn.decoder) l.fn.exact.holds l.exact.holds);
-  half : HalfIn l.top;
-  same : in_hand None l.top ≡ in_hand None l.fn.top;
+  taken : Takes (seen g.R.Read l.fn.decoder) (seen g.R.Read l.decoder) (FillsFrame (code.Entries l.fn.list) (code.Entries l.list) (offset_of l.fn.decoder) l.fn.exact.holds l.exact.holds);
+  half : HasHalf l.list;
   failed : g.R.Read.failed (reader_of l.decoder) ≡ g.R.Read.failed (reader_of l.fn.decoder);
   kept : g.R.Read.handle (reader_of l.decoder) ≡ g.R.Read.handle (reader_of l.fn.decoder);
   fresh : waiting_of l.decoder ≡ None;
