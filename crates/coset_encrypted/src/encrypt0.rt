@@ -6,10 +6,10 @@ ghost use Rattle.coset_encrypted.specs.Fields.{no_encrypt0};
 ghost use Rattle.coset_encrypted.specs.Structure.{encrypt0_covered};
 ghost use Rattle.coset_encrypted.specs.View.{encrypt0_view};
 
+use coset_base::{EncryptionContext, enc_structure_data};
 use coset_headers::{Header, ProtectedHeader};
 use coset_labels::{CoseError, Fault, clone_bytes};
 use coset_message_parts::content_bytes;
-use coset_structures::{EncryptionContext, enc_structure_data};
 use std::alloc::{AllocError, Global};
 
 /// A message that is encrypted under a key that its receiver knows (RFC 9052, section 5.2).

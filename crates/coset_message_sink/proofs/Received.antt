@@ -4,8 +4,8 @@ use Rattle.std.specs.Coded.{×_prop, Unit-prop}
 use Rattle.ciborium_value.specs.Tree.{Tree, Trees}
 use Rattle.coset_headers.specs.Fields.{HeaderFields, ProtectedFields, SignatureFields, signatures}
 use Rattle.coset_headers.specs.Headers.{HasSignatures}
-use Rattle.coset_sink.specs.Put.{AllReceived}
-use Rattle.coset_sink.proofs.Received.{prot_received, hdr_received, sig_received, prot_prop, hdr_prop, sigs_prop}
+use Rattle.coset_base.specs.Put.{AllReceived}
+use Rattle.coset_base.proofs.Received.{prot_received, hdr_received, sig_received, prot_prop, hdr_prop, sigs_prop}
 use Rattle.coset_message_parts.specs.Fields.{parts}
 use Rattle.coset_message_parts.specs.Shapes.{HasParts, one_held, two_held}
 use Rattle.coset_recipients.specs.Fields.{RecipientFields, recipient, RecipientsFields, no_recipients, recipient_more}

@@ -5,8 +5,8 @@ use Rattle.ciborium_value.specs.View.{trees}
 use Rattle.coset_labels.specs.Arrays.{all_written, array_of}
 use Rattle.coset_headers.specs.Fields.{HeaderFields, ProtectedFields, SignatureFields, signatures}
 use Rattle.coset_headers.specs.Written.{header_tree, signature_tree}
-use Rattle.coset_sink.specs.Put.{header_put, signature_put, signatures_put, AllReceived}
-use Rattle.coset_sink.proofs.Received.{prot_shown, hdr_written, sig_written}
+use Rattle.coset_base.specs.Put.{header_put, signature_put, signatures_put, AllReceived}
+use Rattle.coset_base.proofs.Received.{prot_shown, hdr_written, sig_written}
 use Rattle.coset_message_parts.specs.Fields.{parts}
 use Rattle.coset_message_parts.specs.Written.{optional_tree, parts_trees, whole_tree}
 use Rattle.coset_recipients.specs.Fields.{RecipientFields, recipient, RecipientsFields, no_recipients, recipient_more}

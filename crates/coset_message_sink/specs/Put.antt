@@ -6,7 +6,7 @@ use Rattle.ciborium_value.specs.View.{trees}
 use Rattle.ciborium_traits.specs.Events as event
 use Rattle.ciborium_traits.specs.Events.{Event, events_all}
 use Rattle.coset_headers.specs.Fields.{signatures}
-use Rattle.coset_sink.specs.Put.{protected_put, header_put, signatures_put, ProtectedReceived, HasReceived, AllReceived}
+use Rattle.coset_base.specs.Put.{protected_put, header_put, signatures_put, ProtectedReceived, HasReceived, AllReceived}
 use Rattle.coset_message_parts.specs.Fields.{PartsFields, parts}
 use Rattle.coset_message_parts.specs.Written.{optional_tree}
 use Rattle.coset_recipients.specs.Fields.{RecipientFields, recipient, RecipientsFields, no_recipients, recipient_more}

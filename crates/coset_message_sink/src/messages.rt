@@ -10,9 +10,9 @@ ghost use Rattle.coset_message_sink.specs.Put.{MacReceived};
 use crate::parts::begin;
 use crate::recipients::put_recipients;
 use ciborium_traits::ser::Sink;
+use coset_base::put_signatures;
 use coset_maced::{CoseMac, CoseMac0};
 use coset_signed::{CoseSign, CoseSign1};
-use coset_sink::put_signatures;
 
 /// Writes a COSE_Sign1 without its tag (RFC 9052, section 4.2). A payload that is carried elsewhere
 /// is null. The message is as received: so are its headers, as those of `coset_sink` say.

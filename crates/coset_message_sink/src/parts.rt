@@ -6,8 +6,8 @@ ghost use Rattle.coset_message_parts.specs.Written.{optional_tree};
 ghost use Rattle.coset_message_sink.specs.Put.{begun, PartsReceived};
 
 use ciborium_traits::ser::Sink;
+use coset_base::{put_header, put_protected};
 use coset_headers::{Header, ProtectedHeader};
-use coset_sink::{put_header, put_protected};
 
 /// What is carried, or null if nothing is.
 fn put_content<S: Sink>(content: &Option<Vec<u8>>, to: &mut S) -> Result<(), S::Error>

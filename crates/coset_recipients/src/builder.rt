@@ -11,9 +11,9 @@ ghost use Rattle.coset_recipients.specs.Structure.{IsRecipientContext, recipient
 ghost use Rattle.coset_recipients.specs.View.{recipient_view};
 
 use crate::recipient::CoseRecipient;
+use coset_base::{EncryptionContext, enc_structure_data};
 use coset_headers::{Header, ProtectedHeader};
 use coset_labels::{CoseError, Fault};
-use coset_structures::{EncryptionContext, enc_structure_data};
 use std::alloc::Global;
 
 /// A COSE_recipient (RFC 9052, section 5.1) while it is built. Plain setters take no memory.

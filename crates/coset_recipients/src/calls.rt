@@ -6,9 +6,9 @@ ghost use Rattle.coset_recipients.specs.Structure.{IsRecipientContext, recipient
 ghost use Rattle.coset_recipients.specs.View.{opened};
 
 use crate::recipient::CoseRecipient;
+use coset_base::{EncryptionContext, enc_structure_data};
 use coset_labels::Fault;
 use coset_message_parts::content_bytes;
-use coset_structures::{EncryptionContext, enc_structure_data};
 use std::alloc::Global;
 
 impl CoseRecipient {

@@ -6,7 +6,7 @@ ghost use Rattle.ciborium_value.specs.Tree.{Tree, Trees, tree_count};
 ghost use Rattle.coset_labels.specs.Faults.{CoseFault};
 ghost use Rattle.coset_labels.specs.Limits.{nesting, layers};
 ghost use Rattle.coset_labels.specs.Reading.{HasItem};
-ghost use Rattle.coset_structures.specs.declared.context.EncryptionContext.{EncryptionContext};
+ghost use Rattle.coset_base.specs.declared.context.EncryptionContext.{EncryptionContext};
 ghost use Rattle.coset_recipients.specs.Fields.{RecipientFields, RecipientsFields};
 ghost use Rattle.coset_recipients.specs.Shapes.{HasRecipient, HasList};
 ghost use Rattle.coset_recipients.specs.Short.{RecipientShort, RecipientsShort};

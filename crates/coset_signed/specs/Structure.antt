@@ -2,7 +2,7 @@
 -- header can't be written.
 use Rattle.std.specs.Prelude.{ℕ, List, Option, Some, None, codes}
 use Rattle.coset_headers.specs.Fields.{SignatureFields}
-use Rattle.coset_structures.specs.Structure.{sig_structure}
+use Rattle.coset_base.specs.Structure.{sig_structure}
 use Rattle.coset_message_parts.specs.Written.{content_bytes}
 use Rattle.coset_signed.specs.Fields.{Sign1Fields, SignFields, signer_of}
 

@@ -9,10 +9,10 @@ ghost use Rattle.coset_signed.specs.Fields.{no_sign, signature_bytes};
 ghost use Rattle.coset_signed.specs.Structure.{sign_covered, sign_covered_with};
 ghost use Rattle.coset_signed.specs.View.{sign_view};
 
+use coset_base::{SignatureContext, sig_structure_data};
 use coset_headers::{CoseSignature, Header, ProtectedHeader};
 use coset_labels::{CoseError, Fault, clone_bytes};
 use coset_message_parts::content_bytes;
-use coset_structures::{SignatureContext, sig_structure_data};
 use std::alloc::{AllocError, Global};
 
 /// A message with signatures, a COSE_Sign (RFC 9052, section 4.1).

@@ -6,7 +6,7 @@ use Rattle.coset_message_parts.specs.View.{parts_in}
 use Rattle.coset_recipients.specs.View.{recipients_view}
 use Rattle.coset_message_sink.specs.Put.{begun, recipients_put}
 use Rattle.coset_message_sink.proofs.Events.{both_last}
-use Rattle.coset_sink.proofs.Left.{begins, goes_on, ends_torn, is_torn}
+use Rattle.coset_base.proofs.Left.{begins, goes_on, ends_torn, is_torn}
 use Rattle.coset_message_sink.proofs.messages.put_mac.Goals as goal
 
 pub returns-in_err-begin-clause-err : goal.returns-in_err-begin-clause-err

@@ -3,7 +3,7 @@ use Rattle.ciborium_traits.specs.Events as event
 use Rattle.coset_message_parts.specs.View.{parts_in}
 use Rattle.coset_message_sink.specs.Put.{begun}
 use Rattle.coset_message_sink.proofs.Events.{bytes_last}
-use Rattle.coset_sink.proofs.Left.{begins, goes_on, ends_torn, is_torn}
+use Rattle.coset_base.proofs.Left.{begins, goes_on, ends_torn, is_torn}
 use Rattle.coset_message_sink.proofs.messages.put_mac0.Goals as goal
 
 pub returns-in_err-begin-clause-err : goal.returns-in_err-begin-clause-err

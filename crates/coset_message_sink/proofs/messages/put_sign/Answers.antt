@@ -4,8 +4,8 @@ use Rattle.coset_headers.specs.View.{signatures_view}
 use Rattle.coset_message_parts.specs.View.{parts_in}
 use Rattle.coset_message_sink.specs.Put.{begun}
 use Rattle.coset_message_sink.proofs.Events.{item_last}
-use Rattle.coset_sink.specs.Put.{signatures_put}
-use Rattle.coset_sink.proofs.Left.{begins, goes_on, ends_torn, is_torn}
+use Rattle.coset_base.specs.Put.{signatures_put}
+use Rattle.coset_base.proofs.Left.{begins, goes_on, ends_torn, is_torn}
 use Rattle.coset_message_sink.proofs.messages.put_sign.Goals as goal
 
 pub returns-in_err-begin-clause-err : goal.returns-in_err-begin-clause-err

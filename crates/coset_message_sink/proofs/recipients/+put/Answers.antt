@@ -7,7 +7,7 @@ use Rattle.coset_recipients.specs.declared.recipient.CoseRecipient.TheViews.{siz
 use Rattle.coset_message_sink.specs.Put.{RecipientReceived, recipients_put, recipient_begun}
 use Rattle.coset_message_sink.proofs.Events.{recipient_opened}
 use Rattle.coset_message_sink.proofs.Received.{received_at}
-use Rattle.coset_sink.proofs.Left.{begins, goes_on, ends, ends_torn, is_torn}
+use Rattle.coset_base.proofs.Left.{begins, goes_on, ends, ends_torn, is_torn}
 use Rattle.coset_message_sink.proofs.recipients.+put.Goals as goal
 
 pub put_recipient-returns-in_err-begin_recipient-clause-err : goal.put_recipient-returns-in_err-begin_recipient-clause-err

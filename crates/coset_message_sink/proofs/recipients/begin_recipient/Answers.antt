@@ -4,7 +4,7 @@ use Rattle.coset_recipients.specs.View.{recipients_view}
 use Rattle.coset_recipients.specs.declared.recipient.CoseRecipient.{out-CoseRecipient}
 use Rattle.coset_message_sink.specs.Put.{begun, inner_begun, item_count, recipients_put}
 use Rattle.coset_message_sink.proofs.Events.{begun_opened}
-use Rattle.coset_sink.proofs.Left.{begins, goes_on, ends, ends_torn, is_torn}
+use Rattle.coset_base.proofs.Left.{begins, goes_on, ends, ends_torn, is_torn}
 use Rattle.coset_message_sink.proofs.recipients.begin_recipient.Goals as goal
 
 pub returns-in_err-begin-clause-err : goal.returns-in_err-begin-clause-err
