@@ -14,7 +14,7 @@ use crate::about::About;
 use crate::judge::Judge;
 use coset_base::bytes_title;
 use coset_headers::ProtectedHeader;
-use coset_message_parts::content_bytes;
+use coset_recipients::content_bytes;
 use std::alloc::AllocError;
 
 /// The bytes of a protected header that were received; none of a header that was not.

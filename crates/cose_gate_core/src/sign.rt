@@ -16,8 +16,8 @@ use ciborium::ser::Sink;
 use coset_base::SignatureContext;
 use coset_headers::CoseSignature;
 use coset_labels::{AsWritten, CoseError};
-use coset_message_parts::content_bytes;
 use coset_message_sink::put_tagged_sign;
+use coset_recipients::content_bytes;
 use coset_signed::CoseSign;
 use std::alloc::{AllocError, Global};
 

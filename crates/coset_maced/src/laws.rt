@@ -17,9 +17,9 @@ ghost use Rattle.coset_maced.specs.Wrong.{WrongMac0, WrongMac};
 use crate::mac::CoseMac;
 use crate::mac0::CoseMac0;
 use coset_labels::laws::bytes_fit;
-pub use coset_message_parts::laws as parts;
-use coset_message_parts::laws::parts_fit;
 pub use coset_recipients::laws as recipients;
+pub use coset_recipients::laws::parts;
+use coset_recipients::laws::parts::parts_fit;
 use coset_recipients::laws::recipients_fit;
 
 /// A value has the fields of at most one message of each kind.

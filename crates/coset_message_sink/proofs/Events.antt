@@ -4,12 +4,12 @@ use Rattle.ciborium_value.specs.Tree as spec
 use Rattle.ciborium_value.specs.Tree.{Tree, Trees, no_trees, one_more, tree_count}
 use Rattle.ciborium_traits.specs.Events as event
 use Rattle.ciborium_traits.specs.Events.{events, events_all}
-use Rattle.coset_message_parts.specs.Fields.{PartsFields}
-use Rattle.coset_message_parts.specs.View.{parts_in}
+use Rattle.coset_recipients.specs.PartsFields.{PartsFields}
+use Rattle.coset_recipients.specs.PartsView.{parts_in}
 use Rattle.coset_recipients.specs.View.{recipient_view, recipients_view}
 use Rattle.coset_recipients.specs.Written.{whole}
 use Rattle.coset_recipients.specs.declared.recipient.CoseRecipient.{CoseRecipient, out-CoseRecipient}
-use Rattle.coset_recipients.proofs.Parts.{recipient_out}
+use Rattle.coset_recipients.proofs.RecipientParts.{recipient_out}
 use Rattle.coset_message_sink.specs.Put.{parts_put, whole_put, recipient_put, recipients_put, begun, inner_begun, item_count, recipient_begun}
 
 -- ---- the last item is bytes, any item, or both

@@ -6,8 +6,8 @@ use Rattle.coset_headers.specs.Fields.{HeaderFields, ProtectedFields, SignatureF
 use Rattle.coset_headers.specs.Headers.{HasSignatures}
 use Rattle.coset_base.specs.Put.{AllReceived}
 use Rattle.coset_base.proofs.Received.{prot_received, hdr_received, sig_received, prot_prop, hdr_prop, sigs_prop}
-use Rattle.coset_message_parts.specs.Fields.{parts}
-use Rattle.coset_message_parts.specs.Shapes.{HasParts, one_held, two_held}
+use Rattle.coset_recipients.specs.PartsFields.{parts}
+use Rattle.coset_recipients.specs.PartShapes.{HasParts, one_held, two_held}
 use Rattle.coset_recipients.specs.Fields.{RecipientFields, recipient, RecipientsFields, no_recipients, recipient_more}
 use Rattle.coset_recipients.specs.Shapes.{HasRecipient, HasRecipients, HasInner, HasList}
 use Rattle.coset_recipients.specs.View.{recipient_view, recipients_view}

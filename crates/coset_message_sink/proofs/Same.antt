@@ -7,8 +7,8 @@ use Rattle.coset_headers.specs.Fields.{HeaderFields, ProtectedFields, SignatureF
 use Rattle.coset_headers.specs.Written.{header_tree, signature_tree}
 use Rattle.coset_base.specs.Put.{header_put, signature_put, signatures_put, AllReceived}
 use Rattle.coset_base.proofs.Received.{prot_shown, hdr_written, sig_written}
-use Rattle.coset_message_parts.specs.Fields.{parts}
-use Rattle.coset_message_parts.specs.Written.{optional_tree, parts_trees, whole_tree}
+use Rattle.coset_recipients.specs.PartsFields.{parts}
+use Rattle.coset_recipients.specs.PartsWritten.{optional_tree, parts_trees, whole_tree}
 use Rattle.coset_recipients.specs.Fields.{RecipientFields, recipient, RecipientsFields, no_recipients, recipient_more}
 use Rattle.coset_recipients.specs.Written.{whole, recipient_tree, recipients_trees, list_tree}
 use Rattle.coset_signed.specs.Fields.{Sign1Fields, SignFields}

@@ -7,8 +7,8 @@ use Rattle.ciborium_traits.specs.Events as event
 use Rattle.ciborium_traits.specs.Events.{Event, events_all}
 use Rattle.coset_headers.specs.Fields.{signatures}
 use Rattle.coset_base.specs.Put.{protected_put, header_put, signatures_put, ProtectedReceived, HasReceived, AllReceived}
-use Rattle.coset_message_parts.specs.Fields.{PartsFields, parts}
-use Rattle.coset_message_parts.specs.Written.{optional_tree}
+use Rattle.coset_recipients.specs.PartsFields.{PartsFields, parts}
+use Rattle.coset_recipients.specs.PartsWritten.{optional_tree}
 use Rattle.coset_recipients.specs.Fields.{RecipientFields, recipient, RecipientsFields, no_recipients, recipient_more}
 use Rattle.coset_recipients.specs.Written.{whole}
 use Rattle.coset_signed.specs.Fields.{Sign1Fields, SignFields}

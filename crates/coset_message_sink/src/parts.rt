@@ -1,8 +1,8 @@
 //! The parts that each message and each recipient begins with.
 ghost use Rattle.std.specs.Prelude.{option_map, OnOk, OnErr};
 ghost use Rattle.ciborium_traits.specs.Events.{events, Puts, Stops};
-ghost use Rattle.coset_message_parts.specs.View.{parts_in};
-ghost use Rattle.coset_message_parts.specs.Written.{optional_tree};
+ghost use Rattle.coset_recipients.specs.PartsView.{parts_in};
+ghost use Rattle.coset_recipients.specs.PartsWritten.{optional_tree};
 ghost use Rattle.coset_message_sink.specs.Put.{begun, PartsReceived};
 
 use ciborium_traits::ser::Sink;

@@ -2,7 +2,7 @@
 ghost use Rattle.std.specs.Prelude.{◌≡◌, Some, MatchResult};
 ghost use Rattle.coset_labels.specs.declared.error.CoseError.TheVariants.{Memory};
 ghost use Rattle.coset_headers.specs.View.{header_view};
-ghost use Rattle.coset_message_parts.specs.Calls.{TakesPairWhere, BuiltPairWhere, MadePairWhere};
+ghost use Rattle.coset_recipients.specs.Calls.{TakesPairWhere, BuiltPairWhere, MadePairWhere};
 ghost use Rattle.coset_recipients.specs.Builders.{no_recipient, recipient_so_far};
 ghost use Rattle.coset_recipients.specs.Builders.{with_protected, with_unprotected};
 ghost use Rattle.coset_recipients.specs.Builders.{with_ciphertext, with_one_more};

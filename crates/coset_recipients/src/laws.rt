@@ -15,8 +15,10 @@ ghost use Rattle.coset_recipients.specs.View.{recipient_view, recipients_view, o
 ghost use Rattle.coset_recipients.specs.Written.{recipient_tree, recipients_trees, list_tree};
 ghost use Rattle.coset_recipients.specs.Wrong.{WrongRecipient, WrongList};
 
+pub mod parts;
+
+use crate::laws::parts::parts_fit;
 use crate::recipient::CoseRecipient;
-use coset_message_parts::laws::parts_fit;
 
 /// The fields of a recipient are those of its parts.
 pub fn recipient_opened(recipient: &CoseRecipient)

@@ -26,7 +26,7 @@ use crate::sign1::CoseSign1;
 use coset_headers::CoseSignature;
 use coset_headers::laws::signature_fits;
 use coset_labels::laws::bytes_fit;
-use coset_message_parts::laws::parts_fit;
+use coset_recipients::laws::parts::parts_fit;
 
 /// A value has the fields of at most one message.
 pub fn one_message()

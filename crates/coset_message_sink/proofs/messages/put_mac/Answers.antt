@@ -2,7 +2,7 @@ use Rattle.std.proofs.Common.{[], ◌∷◌}
 use Rattle.ciborium_value.specs.Tree.{array}
 use Rattle.ciborium_traits.specs.Events as event
 use Rattle.ciborium_traits.specs.Events.{events}
-use Rattle.coset_message_parts.specs.View.{parts_in}
+use Rattle.coset_recipients.specs.PartsView.{parts_in}
 use Rattle.coset_recipients.specs.View.{recipients_view}
 use Rattle.coset_message_sink.specs.Put.{begun, recipients_put}
 use Rattle.coset_message_sink.proofs.Events.{both_last}

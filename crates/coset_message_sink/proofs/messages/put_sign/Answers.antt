@@ -1,7 +1,7 @@
 use Rattle.ciborium_value.specs.Tree.{array}
 use Rattle.ciborium_traits.specs.Events.{events}
 use Rattle.coset_headers.specs.View.{signatures_view}
-use Rattle.coset_message_parts.specs.View.{parts_in}
+use Rattle.coset_recipients.specs.PartsView.{parts_in}
 use Rattle.coset_message_sink.specs.Put.{begun}
 use Rattle.coset_message_sink.proofs.Events.{item_last}
 use Rattle.coset_base.specs.Put.{signatures_put}

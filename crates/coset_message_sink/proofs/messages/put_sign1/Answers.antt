@@ -1,6 +1,6 @@
 use Rattle.std.proofs.Common.{[], ◌∷◌}
 use Rattle.ciborium_traits.specs.Events as event
-use Rattle.coset_message_parts.specs.View.{parts_in}
+use Rattle.coset_recipients.specs.PartsView.{parts_in}
 use Rattle.coset_message_sink.specs.Put.{begun}
 use Rattle.coset_message_sink.proofs.Events.{bytes_last}
 use Rattle.coset_base.proofs.Left.{begins, goes_on, ends_torn, is_torn}

@@ -1,5 +1,5 @@
 use Rattle.std.proofs.Common.{ap, ◌∙◌}
-use Rattle.coset_message_parts.specs.View.{parts_in}
+use Rattle.coset_recipients.specs.PartsView.{parts_in}
 use Rattle.coset_recipients.specs.View.{recipients_view}
 use Rattle.coset_recipients.specs.declared.recipient.CoseRecipient.{out-CoseRecipient}
 use Rattle.coset_message_sink.specs.Put.{begun, inner_begun, item_count, recipients_put}

@@ -12,10 +12,10 @@ use Rattle.coset_labels.specs.Faults.{CoseFault, OrMemory, CantWrite, fault_of, 
 use Rattle.ciborium_value.specs.Kinds.{is_array}
 use Rattle.coset_labels.specs.declared.error.CoseError.{CoseError}
 use Rattle.coset_headers.specs.Fields.{HeaderFields, ProtectedFields}
-use Rattle.coset_message_parts.specs.Fields.{parts}
-use Rattle.coset_message_parts.specs.Shapes.{HasParts, HoldOf, HasWhole}
-use Rattle.coset_message_parts.specs.Written.{parts_trees, whole_tree}
-use Rattle.coset_message_parts.specs.Wrong.{WrongParts, IsNoBytes, how_many, AnyWrong, WrongWhole, no_array, not_as_many, in_parts, in_lasts}
+use Rattle.coset_recipients.specs.PartsFields.{parts}
+use Rattle.coset_recipients.specs.PartShapes.{HasParts, HoldOf, HasWhole}
+use Rattle.coset_recipients.specs.PartsWritten.{parts_trees, whole_tree}
+use Rattle.coset_recipients.specs.WrongParts.{WrongParts, IsNoBytes, how_many, AnyWrong, WrongWhole, no_array, not_as_many, in_parts, in_lasts}
 
 -- ---- reading
 pub no_bytes : (t : Tree) (e : CoseError) → (fault_of e ≡ unexpected) × (is_bytes t ≡ false) → OrMemory (IsNoBytes t) e

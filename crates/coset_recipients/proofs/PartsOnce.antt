@@ -7,11 +7,11 @@ use Rattle.ciborium_value.specs.Kinds.{is_array}
 use Rattle.coset_headers.specs.Fields.{HeaderFields, ProtectedFields}
 use Rattle.coset_headers.proofs.Excludes.{header_not, prot_not}
 use Rattle.coset_headers.proofs.Unique.{hdr_once, prot_once}
-use Rattle.coset_message_parts.specs.Fields.{parts}
-use Rattle.coset_message_parts.specs.Shapes.{HasParts, HoldOf, HasWhole}
-use Rattle.coset_message_parts.specs.Written.{optional_tree}
-use Rattle.coset_message_parts.specs.Wrong.{WrongParts, in_protected, in_unprotected, in_content, IsNoBytes, how_many, AnyWrong, WrongWhole, no_array, not_as_many, in_parts, in_lasts}
-use Rattle.coset_message_parts.proofs.Stands.{array_same}
+use Rattle.coset_recipients.specs.PartsFields.{parts}
+use Rattle.coset_recipients.specs.PartShapes.{HasParts, HoldOf, HasWhole}
+use Rattle.coset_recipients.specs.PartsWritten.{optional_tree}
+use Rattle.coset_recipients.specs.WrongParts.{WrongParts, in_protected, in_unprotected, in_content, IsNoBytes, how_many, AnyWrong, WrongWhole, no_array, not_as_many, in_parts, in_lasts}
+use Rattle.coset_recipients.proofs.PartsStands.{array_same}
 
 -- ---- the parts
 optional_once : (c d : Option (List ℕ)) → optional_tree c ≡ optional_tree d → c ≡ d

@@ -9,11 +9,11 @@ use Rattle.coset_headers.specs.Fields.{HeaderFields, ProtectedFields, protected}
 use Rattle.coset_headers.specs.Headers.{HasProtected}
 use Rattle.coset_headers.specs.Written.{header_tree, shown}
 use Rattle.coset_headers.proofs.Stands.{hdr_stands, first_same, and_left, and_right, both_true}
-use Rattle.coset_message_parts.specs.Fields.{parts}
-use Rattle.coset_message_parts.specs.Shapes.{HasParts, HasWhole}
-use Rattle.coset_message_parts.specs.Written.{optional_tree, parts_trees, whole_tree}
-use Rattle.coset_message_parts.proofs.Again.{parts_split}
-use Rattle.coset_message_parts.proofs.Kept.{whole_wrote}
+use Rattle.coset_recipients.specs.PartsFields.{parts}
+use Rattle.coset_recipients.specs.PartShapes.{HasParts, HasWhole}
+use Rattle.coset_recipients.specs.PartsWritten.{optional_tree, parts_trees, whole_tree}
+use Rattle.coset_recipients.proofs.PartsAgain.{parts_split}
+use Rattle.coset_recipients.proofs.PartsKept.{whole_wrote}
 
 shown_is : (n : ℕ) (p : ProtectedFields) (x : Tree) (k : ℕ) → HasProtected n x p k → (b : List ℕ) × (shown p ≡ Some b) × (bytes b ≡ x)
 shown_is n (protected None g) x k a = let f : None ≡ Some a.0 = a.2 in absurd (let g : ⊥ = cc in g)

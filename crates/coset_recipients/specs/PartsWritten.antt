@@ -5,7 +5,7 @@ use Rattle.ciborium_value.specs.Tree.{Tree, bytes, array, simple}
 use Rattle.ciborium_value.specs.View.{trees}
 use Rattle.coset_labels.specs.Arrays.{all_written}
 use Rattle.coset_headers.specs.Written.{header_tree, shown}
-use Rattle.coset_message_parts.specs.Fields.{PartsFields}
+use Rattle.coset_recipients.specs.PartsFields.{PartsFields}
 
 -- bytes, or null for what is not there
 abbrev pub optional_tree : Option (List ℕ) → Tree

@@ -1,12 +1,12 @@
-//! Laws of the definitions.
+//! Laws of parts.
 ghost use Rattle.std.specs.Prelude.{◌≡◌, ◌↔◌, List, IsTrue, Some, option_map};
 ghost use Rattle.ciborium_value.specs.Encoding.{Fits, FitAll};
 ghost use Rattle.ciborium_value.specs.Tree.{Tree};
 ghost use Rattle.ciborium_value.specs.View.{trees};
 ghost use Rattle.coset_headers.specs.View.{header_view, protected_view};
-ghost use Rattle.coset_message_parts.specs.Short.{PartsShort};
-ghost use Rattle.coset_message_parts.specs.View.{parts_in, parts_view};
-ghost use Rattle.coset_message_parts.specs.Written.{optional_tree, parts_trees};
+ghost use Rattle.coset_recipients.specs.PartsShort.{PartsShort};
+ghost use Rattle.coset_recipients.specs.PartsView.{parts_in, parts_view};
+ghost use Rattle.coset_recipients.specs.PartsWritten.{optional_tree, parts_trees};
 
 use crate::parts::Parts;
 use coset_headers::laws::{header_fits, protected_fits};

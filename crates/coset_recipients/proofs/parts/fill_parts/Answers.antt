@@ -1,6 +1,6 @@
 use Rattle.std.proofs.lemmas.Result.{err_from_is_err_and}
-use Rattle.coset_message_parts.proofs.Read.{parts_content, parts_unprotected, parts_protected}
-use Rattle.coset_message_parts.proofs.parts.fill_parts.Goals as goal
+use Rattle.coset_recipients.proofs.PartsRead.{parts_content, parts_unprotected, parts_protected}
+use Rattle.coset_recipients.proofs.parts.fill_parts.Goals as goal
 
 pub returns-in_err-content-clause-read : goal.returns-in_err-content-clause-read
 returns-in_err-content-clause-read c =

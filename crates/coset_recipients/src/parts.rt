@@ -3,12 +3,12 @@ ghost use Rattle.std.specs.Prelude.{◌≡◌, MatchResult, OnErr, map, option_m
 ghost use Rattle.ciborium_value.specs.View.{view};
 ghost use Rattle.coset_labels.specs.Faults.{OrMemory};
 ghost use Rattle.coset_labels.specs.Limits.{nesting_of, layers_of};
-ghost use Rattle.coset_message_parts.specs.Fields.{no_parts};
-ghost use Rattle.coset_message_parts.specs.Results.{Writes};
-ghost use Rattle.coset_message_parts.specs.Shapes.{HasParts};
-ghost use Rattle.coset_message_parts.specs.View.{parts_in, parts_view};
-ghost use Rattle.coset_message_parts.specs.Wrong.{WrongParts};
-ghost use Rattle.coset_message_parts.specs.Written.{optional_tree, parts_trees, content_bytes};
+ghost use Rattle.coset_recipients.specs.PartsFields.{no_parts};
+ghost use Rattle.coset_recipients.specs.Results.{Writes};
+ghost use Rattle.coset_recipients.specs.PartShapes.{HasParts};
+ghost use Rattle.coset_recipients.specs.PartsView.{parts_in, parts_view};
+ghost use Rattle.coset_recipients.specs.WrongParts.{WrongParts};
+ghost use Rattle.coset_recipients.specs.PartsWritten.{optional_tree, parts_trees, content_bytes};
 
 use ciborium_value::Value;
 use coset_headers::{Header, ProtectedHeader};

@@ -5,9 +5,9 @@ use Rattle.coset_headers.specs.Fields.{HeaderFields, ProtectedFields}
 use Rattle.coset_headers.specs.Headers.{HasProtected}
 use Rattle.coset_headers.specs.Written.{header_tree, shown}
 use Rattle.coset_headers.proofs.Again.{prot_again, hdr_again}
-use Rattle.coset_message_parts.specs.Fields.{parts}
-use Rattle.coset_message_parts.specs.Shapes.{HasParts}
-use Rattle.coset_message_parts.specs.Written.{optional_tree, parts_trees}
+use Rattle.coset_recipients.specs.PartsFields.{parts}
+use Rattle.coset_recipients.specs.PartShapes.{HasParts}
+use Rattle.coset_recipients.specs.PartsWritten.{optional_tree, parts_trees}
 
 pub map_made : {A B : Type 0} (f : A → B) (o : Option A) (y : B) → option_map f o ≡ Some y → (x : A) × (o ≡ Some x) × (f x ≡ y)
 map_made f None y e = let h : None ≡ Some y = e in cc

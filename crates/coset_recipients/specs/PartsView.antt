@@ -4,8 +4,8 @@ use Rattle.std.specs.Global.{Vec}
 use Rattle.coset_headers.specs.View.{header_view, protected_view}
 use Rattle.coset_headers.specs.declared.header.Header.{Header}
 use Rattle.coset_headers.specs.declared.header.ProtectedHeader.{ProtectedHeader}
-use Rattle.coset_message_parts.specs.Fields.{PartsFields, parts}
-use Rattle.coset_message_parts.specs.declared.parts.Parts.{Parts}
+use Rattle.coset_recipients.specs.PartsFields.{PartsFields, parts}
+use Rattle.coset_recipients.specs.declared.parts.Parts.{Parts}
 
 -- of three places
 abbrev pub parts_in : ProtectedHeader → Header → Option (Vec ℕ) → PartsFields

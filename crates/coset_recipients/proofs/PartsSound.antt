@@ -10,10 +10,10 @@ use Rattle.coset_labels.specs.Limits.{nesting}
 use Rattle.coset_labels.specs.Reading.{HasItem, Tagged}
 use Rattle.coset_headers.specs.Fields.{HeaderFields, ProtectedFields}
 use Rattle.coset_headers.proofs.Sound.{Sound, SoundAll, array_inside, array_sound, all_none, all_more, all_parts, bytes_sound, hdr_sound, reads_sound, sound_reads}
-use Rattle.coset_message_parts.specs.Fields.{parts}
-use Rattle.coset_message_parts.specs.Shapes.{HasParts}
-use Rattle.coset_message_parts.specs.Written.{optional_tree, parts_trees}
-use Rattle.coset_message_parts.proofs.Again.{parts_split}
+use Rattle.coset_recipients.specs.PartsFields.{parts}
+use Rattle.coset_recipients.specs.PartShapes.{HasParts}
+use Rattle.coset_recipients.specs.PartsWritten.{optional_tree, parts_trees}
+use Rattle.coset_recipients.proofs.PartsAgain.{parts_split}
 
 -- ---- lists of trees
 pub appended : (d : ℕ) (xs ys : List Tree) → SoundAll d (trees xs) → SoundAll d (trees ys) → SoundAll d (trees (xs ++ ys))

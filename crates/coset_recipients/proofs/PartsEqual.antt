@@ -8,9 +8,9 @@ use Rattle.coset_headers.specs.Facts.Decided.{headers_decided, protected_decided
 use Rattle.coset_headers.specs.Fields.{HeaderFields, ProtectedFields}
 use Rattle.coset_headers.specs.Same.{same_header, same_protected}
 use Rattle.coset_headers.specs.View.{header_view, protected_view}
-use Rattle.coset_message_parts.specs.View.{parts_view}
-use Rattle.coset_message_parts.specs.declared.parts.Parts.{Parts}
-use Rattle.coset_message_parts.specs.contracts.parts.PartsPartialEq.TheImpl as equality
+use Rattle.coset_recipients.specs.PartsView.{parts_view}
+use Rattle.coset_recipients.specs.declared.parts.Parts.{Parts}
+use Rattle.coset_recipients.specs.contracts.parts.PartsPartialEq.TheImpl as equality
 
 -- the parts, and what is after them
 pub parts_and : {A Q : Type 0} (f : A → List ℕ) (p q : ProtectedFields) (u v : HeaderFields) (c d : Option A) (b : Bool) → IsTrue b ↔ Q

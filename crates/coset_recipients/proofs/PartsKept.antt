@@ -11,14 +11,14 @@ use Rattle.coset_labels.specs.Reading.{HasItem, Tagged}
 use Rattle.coset_headers.specs.Fields.{HeaderFields, ProtectedFields}
 use Rattle.coset_headers.proofs.Sound.{Sound, SoundAll, all_none, all_more, all_parts, bytes_sound, reads_sound, sound_reads}
 use Rattle.coset_headers.proofs.Writable.{some_is, map_some, and_some}
-use Rattle.coset_message_parts.specs.Fields.{parts}
-use Rattle.coset_message_parts.specs.Shapes.{HoldOf, HasWhole}
-use Rattle.coset_message_parts.specs.Short.{PartsShort}
-use Rattle.coset_message_parts.specs.Written.{optional_tree, parts_trees, whole_tree}
-use Rattle.coset_message_parts.proofs.Again.{map_made, and_made, parts_made}
-use Rattle.coset_message_parts.proofs.Fit.{whole_fit}
-use Rattle.coset_message_parts.proofs.Sound.{whole_sound, item_again, tagged_again}
-use Rattle.coset_message_parts.proofs.Writable.{parts_some}
+use Rattle.coset_recipients.specs.PartsFields.{parts}
+use Rattle.coset_recipients.specs.PartShapes.{HoldOf, HasWhole}
+use Rattle.coset_recipients.specs.PartsShort.{PartsShort}
+use Rattle.coset_recipients.specs.PartsWritten.{optional_tree, parts_trees, whole_tree}
+use Rattle.coset_recipients.proofs.PartsAgain.{map_made, and_made, parts_made}
+use Rattle.coset_recipients.proofs.PartsFit.{whole_fit}
+use Rattle.coset_recipients.proofs.PartsSound.{whole_sound, item_again, tagged_again}
+use Rattle.coset_recipients.proofs.PartsWritable.{parts_some}
 
 -- what is written, o, of an item of which P holds
 pub record Kept (P : Tree → Type 0) (o : Option Tree) : Type 0 where

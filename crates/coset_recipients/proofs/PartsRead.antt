@@ -5,7 +5,7 @@ use Rattle.coset_labels.specs.Faults.{OrMemory, fault_of, unexpected}
 use Rattle.coset_labels.specs.declared.error.CoseError.{CoseError}
 use Rattle.coset_headers.specs.Wrong.{WrongHeader, WrongProtected}
 use Rattle.coset_labels.specs.Facts.Walks.{passed_on}
-use Rattle.coset_message_parts.specs.Wrong.{WrongParts, in_protected, in_unprotected, in_content}
+use Rattle.coset_recipients.specs.WrongParts.{WrongParts, in_protected, in_unprotected, in_content}
 
 pub parts_content : (n : ℕ) (a b c : Tree) (k : ℕ) (e : CoseError) → (fault_of e ≡ unexpected) × (is_bytes c ≡ false) × (c ≢ simple 22) → OrMemory (WrongParts n a b c k) e
 parts_content n a b c k e p = inr (subst (WrongParts n a b c k) (sym p.0) (in_content p.1 p.2))

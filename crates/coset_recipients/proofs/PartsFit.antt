@@ -7,11 +7,11 @@ use Rattle.coset_headers.specs.Fields.{HeaderFields, ProtectedFields}
 use Rattle.coset_headers.specs.Short.{IsShort, ShowsShort}
 use Rattle.coset_headers.specs.Written.{header_tree, shown}
 use Rattle.coset_headers.proofs.Fit.{prot_short, hdr_short}
-use Rattle.coset_message_parts.specs.Fields.{parts}
-use Rattle.coset_message_parts.specs.Shapes.{HasParts}
-use Rattle.coset_message_parts.specs.Short.{PartsShort}
-use Rattle.coset_message_parts.specs.Written.{optional_tree, parts_trees}
-use Rattle.coset_message_parts.proofs.Again.{parts_split}
+use Rattle.coset_recipients.specs.PartsFields.{parts}
+use Rattle.coset_recipients.specs.PartShapes.{HasParts}
+use Rattle.coset_recipients.specs.PartsShort.{PartsShort}
+use Rattle.coset_recipients.specs.PartsWritten.{optional_tree, parts_trees}
+use Rattle.coset_recipients.proofs.PartsAgain.{parts_split}
 
 fit_appended : (xs ys : List Tree) → FitAll (trees xs) → FitAll (trees ys) → FitAll (trees (xs ++ ys))
 fit_appended [] ys a b = b

@@ -6,8 +6,8 @@ use Rattle.std.proofs.Common.{refl}
 use Rattle.ciborium_value.specs.Tree.{Tree, array}
 use Rattle.ciborium_value.specs.View.{trees}
 use Rattle.coset_headers.specs.Headers.{HasHeader, HasProtected}
-pub use Rattle.coset_message_parts.specs.Fields.{PartsFields, parts}
-use Rattle.coset_message_parts.specs.Written.{optional_tree}
+pub use Rattle.coset_recipients.specs.PartsFields.{PartsFields, parts}
+use Rattle.coset_recipients.specs.PartsWritten.{optional_tree}
 
 pub record HasParts (n : ℕ) (first second third : Tree) (f : PartsFields) (k : ℕ) : Type 0 where
   pub protected : HasProtected n first f.protected k
