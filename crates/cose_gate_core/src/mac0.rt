@@ -11,8 +11,7 @@ use ciborium::Value;
 use ciborium::ser::Sink;
 use coset_base::MacContext;
 use coset_labels::{AsWritten, CoseError};
-use coset_maced::CoseMac0;
-use coset_message_sink::put_tagged_mac0;
+use coset_maced::{CoseMac0, put_tagged_mac0};
 use std::alloc::{AllocError, Global};
 
 impl Message for CoseMac0 {

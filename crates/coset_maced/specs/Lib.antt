@@ -1,6 +1,7 @@
 pub mod AsWritten
 pub mod Builders
 pub mod Fields
+pub mod Put
 pub mod Shapes
 pub mod Short
 pub mod Structure

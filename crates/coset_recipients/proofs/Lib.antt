@@ -1,6 +1,7 @@
 pub mod Again
 pub mod Copied
 pub mod Equal
+pub mod Events
 pub mod Excludes
 pub mod Fit
 pub mod Kept
@@ -14,6 +15,8 @@ pub mod PartsSound
 pub mod PartsStands
 pub mod PartsSteps
 pub mod PartsWritable
+pub mod PutWritten
+pub mod Received
 pub mod RecipientParts
 pub mod Sound
 pub mod Standing

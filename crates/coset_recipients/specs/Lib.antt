@@ -8,6 +8,7 @@ pub mod PartsFields
 pub mod PartsShort
 pub mod PartsView
 pub mod PartsWritten
+pub mod Put
 pub mod Results
 pub mod Shapes
 pub mod Short
