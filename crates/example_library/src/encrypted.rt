@@ -1,7 +1,5 @@
 //! An encrypted message opened by a cipher of one's own. `coset_messages` is the one crate that it
 //! names.
-#![tactic(auto)]
-
 ghost use Rattle.std.specs.Prelude.{◌≡◌, ℕ, List, IfOk, IsSomeAnd};
 ghost use Rattle.coset_messages.specs.EncryptedFields.{Encrypt0Fields};
 ghost use Rattle.coset_messages.specs.EncryptedShapes.{HasEncrypt0};

@@ -1,6 +1,4 @@
-//! Headers made and read. `coset_base` is the one crate that it names.
-#![tactic(auto)]
-
+//! Headers made and read. `coset_base` is the one crate that this names.
 ghost use Rattle.std.specs.Prelude.{◌≡◌, IfOk, IfErr};
 ghost use Rattle.coset_base.specs.Faults.{OrMemory};
 ghost use Rattle.coset_base.specs.Fields.{HeaderFields, header, no_plain, no_signatures};
