@@ -29,7 +29,7 @@ pub use Rattle.coset_labels.specs.Faults
 pub use Rattle.coset_headers.specs.Fields
 pub use Rattle.coset_labels.specs.Fields as LabelFields
 pub use Rattle.coset_headers.specs.Headers
-pub use Rattle.coset_structures.specs.Structure
+pub use Rattle.coset_base.specs.Structure
 pub use Rattle.coset_labels.specs.Kinds
 pub use Rattle.coset_labels.specs.Labels
 pub use Rattle.coset_labels.specs.Limits as CodeLimits
