@@ -78,10 +78,10 @@ pub use Rattle.coset_keys.specs.Wrong as WrongKeys
 pub use Rattle.coset_keys.specs.declared.key.CoseKey
 pub use Rattle.coset_keys.specs.declared.key.CoseKeySet
 pub use Rattle.cose_gate_program.specs.Beginning
-pub use Rattle.cose_gate_program.specs.HmacJudges
-pub use Rattle.cose_gate_program.specs.HmacKeys
-pub use Rattle.cose_gate_program.specs.HmacMessages
-pub use Rattle.cose_gate_program.specs.HmacSecrets
+pub use Rattle.cose_gate_program.specs.Judge as HmacJudges
+pub use Rattle.cose_gate_program.specs.Keys as HmacKeys
+pub use Rattle.cose_gate_program.specs.Messages as HmacMessages
+pub use Rattle.cose_gate_program.specs.Secrets as HmacSecrets
 pub use Rattle.cose_gate_program.specs.InBlocks
 pub use Rattle.cose_gate_program.specs.Lines
 pub use Rattle.cose_gate_program.specs.Program

@@ -19,10 +19,9 @@ pub use cose_gate_records::{
 };
 /// The kind of a message, under its short name.
 pub use cose_gate_core::MessageKind as Kind;
-pub use cose_gate_program::judge::HmacJudge;
 pub use cose_gate_program::{
-    Blocks, InputFault, NotBegun, Notice, Teller, run, run_judged, run_over, run_over_told,
-    run_told, run_with, words, write_notice,
+    Blocks, HmacJudge, InputFault, NotBegun, Notice, Teller, run, run_judged, run_over,
+    run_over_told, run_told, run_with, words, write_notice,
 };
 pub use cose_gate_stream::{StreamFault, laws as stream_laws, stream_check, stream_check_with};
 pub use cose_hmac::{hmac_sha256, same_tag};

@@ -1,14 +1,14 @@
 -- What the calls return, from what a run does.
 use Rattle.std.proofs.Common.{◌≡◌, ◌≢◌, ℕ, ◌<◌, ◌++◌, ◌⊎◌, inl, inr, List, [], length, flat_map, Option, Some, Bool, true, false, cond, nat_eq, refl, sym, ap, subst, ◌∙◌, arith}
-use Rattle.cose_gate_hmac.specs.GateCore.Reading.{IfKnown}
+use Rattle.cose_gate_core.specs.Reading.{IfKnown}
 use Rattle.coset_labels.specs.Limits.{AreLimits, nesting_of, layers_of}
 use Rattle.coset_labels.specs.declared.limits.Limits.{Limits}
-use Rattle.cose_gate_hmac.specs.GateCore.Findings.{Bounds}
-use Rattle.cose_gate_hmac.specs.GateCore.Asked.{IsFront}
-use Rattle.cose_gate_hmac.specs.GateCore.Run.{Step, Course, questions_of}
-use Rattle.cose_gate_hmac.specs.GateCore.Terms.{limits_by}
-use Rattle.cose_gate_hmac.specs.GateCore.Questions.{Question}
-use Rattle.cose_gate_hmac.specs.Judge.{says_yes}
+use Rattle.cose_gate_core.specs.Findings.{Bounds}
+use Rattle.cose_gate_core.specs.Asked.{IsFront}
+use Rattle.cose_gate_core.specs.Run.{Step, Course, questions_of}
+use Rattle.cose_gate_core.specs.Terms.{limits_by}
+use Rattle.cose_gate_core.specs.Questions.{Question}
+use Rattle.cose_gate_program.specs.Judge.{says_yes}
 use Rattle.cose_gate_program.specs.Telling.{OnTold, OverTold}
 use Rattle.cose_gate_program.specs.declared.telling.Notice.{Notice}
 use Rattle.cose_gate_buffers.specs.Lines.{AreLinesOf}

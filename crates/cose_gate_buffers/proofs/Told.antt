@@ -1,11 +1,11 @@
 -- What the lines in a buffer are, as they were told.
 use Rattle.std.proofs.Common.{◌≡◌, ℕ, inl, inr, List, [], ◌∷◌, ◌++◌, Bool, refl, sym, ap, ◌∙◌, append-nil, append_assoc}
 use Rattle.std.proofs.lemmas.Grind.{flat_map-append}
-use Rattle.cose_gate_hmac.specs.GateCore.Asked.{folded_over}
-use Rattle.cose_gate_hmac.specs.GateCore.Findings.{Bounds}
-use Rattle.cose_gate_hmac.specs.GateCore.Questions.{Question}
-use Rattle.cose_gate_hmac.specs.GateCore.Run.{Step, passed_count, refused_count}
-use Rattle.cose_gate_hmac.specs.KeySets.Fields.{KeyFields}
+use Rattle.cose_gate_core.specs.Asked.{folded_over}
+use Rattle.cose_gate_core.specs.Findings.{Bounds}
+use Rattle.cose_gate_core.specs.Questions.{Question}
+use Rattle.cose_gate_core.specs.Run.{Step, passed_count, refused_count}
+use Rattle.coset_keys.specs.Fields.{KeyFields}
 use Rattle.cose_gate_program.specs.Lines.{line_of, lines_of}
 use Rattle.cose_gate_program.specs.Program.{Devices, RanOver, RanOn, EndsOver}
 use Rattle.cose_gate_program.specs.Telling.{items_of, done_of, IsToldIn, IsToldOn, IsToldOver}

@@ -1,11 +1,11 @@
 -- What a call over buffers returns.
 use Rattle.std.specs.Prelude.{◌≡◌, ◌≢◌, ℕ, ◌<◌, ◌≤◌, ◌⊎◌, List, [], ◌++◌, length, drop, flat_map, Option, Some, Bool, true}
 use Rattle.coset_labels.specs.Limits.{AreLimits}
-use Rattle.cose_gate_hmac.specs.GateCore.Asked.{IsFront}
-use Rattle.cose_gate_hmac.specs.GateCore.Findings.{Bounds, excluded_by}
-use Rattle.cose_gate_hmac.specs.GateCore.Questions.{Question}
-use Rattle.cose_gate_hmac.specs.GateCore.Run.{Step, Course, questions_of}
-use Rattle.cose_gate_hmac.specs.Judge.{says_yes}
+use Rattle.cose_gate_core.specs.Asked.{IsFront}
+use Rattle.cose_gate_core.specs.Findings.{Bounds, excluded_by}
+use Rattle.cose_gate_core.specs.Questions.{Question}
+use Rattle.cose_gate_core.specs.Run.{Step, Course, questions_of}
+use Rattle.cose_gate_program.specs.Judge.{says_yes}
 use Rattle.cose_gate_program.specs.Program.{Devices, IsUnreadable}
 use Rattle.cose_gate_program.specs.Telling.{OnTold, OverTold}
 use Rattle.cose_gate_program.specs.declared.telling.Notice.{Notice}

@@ -1,6 +1,6 @@
 //! The questions of a run, for a caller who checks signatures with code of his own.
 ghost use Rattle.std.specs.Prelude.{◌≡◌, ℕ, List};
-ghost use Rattle.cose_gate_hmac.specs.GateCore.Terms.{limits_of};
+ghost use Rattle.cose_gate_core.specs.Terms.{limits_of};
 ghost use Rattle.cose_gate_buffers.specs.Calls.{Asks, Places, Told, buffers};
 
 use crate::answer::{Answer, no_limits};

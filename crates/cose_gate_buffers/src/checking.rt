@@ -1,6 +1,6 @@
 //! The program's run over buffers.
 ghost use Rattle.std.specs.Prelude.{◌≡◌, ℕ, List};
-ghost use Rattle.cose_gate_hmac.specs.GateCore.Terms.{limits_of};
+ghost use Rattle.cose_gate_core.specs.Terms.{limits_of};
 ghost use Rattle.cose_gate_buffers.specs.Calls.{Checked, Checks, Places, buffers};
 
 use crate::answer::{Answer, no_limits};

@@ -1,7 +1,7 @@
 //! What a caller chooses.
 ghost use Rattle.std.specs.Prelude.{◌≡◌, MatchOption};
 ghost use Rattle.coset_labels.specs.Limits.{AreLimits};
-ghost use Rattle.cose_gate_hmac.specs.GateCore.Terms.{limits_of};
+ghost use Rattle.cose_gate_core.specs.Terms.{limits_of};
 ghost use Rattle.cose_gate_buffers.specs.Calls.{within};
 
 use cose_gate_program::{Limits, Terms};

@@ -1,6 +1,6 @@
 //! The messages whose questions were accepted.
 ghost use Rattle.std.specs.Prelude.{◌≡◌, ℕ, List};
-ghost use Rattle.cose_gate_hmac.specs.GateCore.Terms.{limits_of};
+ghost use Rattle.cose_gate_core.specs.Terms.{limits_of};
 ghost use Rattle.cose_gate_records.specs.Kept.{keys_of};
 ghost use Rattle.cose_gate_buffers.specs.Calls.{Passed, Passes, Places, RanBy, buffers};
 

@@ -1,13 +1,13 @@
 //! The program's run with its lines in a buffer.
-ghost use Rattle.cose_gate_hmac.specs.GateCore.Terms.{limits_of};
-ghost use Rattle.cose_gate_hmac.specs.Judge.{says_yes};
+ghost use Rattle.cose_gate_core.specs.Terms.{limits_of};
+ghost use Rattle.cose_gate_program.specs.Judge.{says_yes};
 ghost use Rattle.cose_gate_program.specs.Program.{devices_of, hearing_of};
 ghost use Rattle.cose_gate_program.specs.Telling.{OverTold, RanTold};
 ghost use Rattle.cose_gate_buffers.specs.Lines.{AreHeld};
 
 use crate::lines::Lines;
 use ciborium_ll::{Read, Write};
-use cose_gate_hmac::gate_core::Judge;
+use cose_gate_core::Judge;
 use cose_gate_program::{Terms, run_over_told, run_told};
 use std::alloc::Global;
 

@@ -1,6 +1,6 @@
 //! A judge whose last no has its reason beside it.
 use cose_gate_core::{About, Judge, MessageKind};
-use cose_gate_hmac::CoseKeySet;
+use cose_gate_program::CoseKeySet;
 use cose_hmac::HmacSha256;
 use cose_reasons::{KeyBook, OTHER_KIND, secret_or_reason, write_wrong_tag};
 use std::alloc::{AllocError, Global};

@@ -5,7 +5,7 @@ use cbor_diag::{CUT, front_text, write_hex, write_text};
 use cose_gate_core::{
     Algorithm, Header, ProtectedHeader, RegisteredLabel, RegisteredLabelWithPrivate,
 };
-use cose_gate_hmac::{alg_is_hmac, crit_is_known, fits, message_id, secret_of};
+use cose_gate_program::{alg_is_hmac, crit_is_known, fits, message_id, secret_of};
 use cose_hmac::{hmac_sha256, same_tag};
 use cose_iana::EnumI64;
 use cose_notation::{algorithm, key_type, parameter, write_len};

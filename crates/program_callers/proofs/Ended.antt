@@ -1,10 +1,10 @@
 -- What was told last of a run.
 use Rattle.std.proofs.Common.{◌≡◌, ℕ, ◌<◌, inl, inr, List, [], ◌∷◌, ◌++◌, Bool, true, refl, ap, ◌∙◌, arith}
-use Rattle.cose_gate_hmac.specs.GateCore.Asked.{folded_over}
-use Rattle.cose_gate_hmac.specs.GateCore.Findings.{Bounds}
-use Rattle.cose_gate_hmac.specs.GateCore.Questions.{Question}
-use Rattle.cose_gate_hmac.specs.GateCore.Run.{Step}
-use Rattle.cose_gate_hmac.specs.KeySets.Fields.{KeyFields}
+use Rattle.cose_gate_core.specs.Asked.{folded_over}
+use Rattle.cose_gate_core.specs.Findings.{Bounds}
+use Rattle.cose_gate_core.specs.Questions.{Question}
+use Rattle.cose_gate_core.specs.Run.{Step}
+use Rattle.coset_keys.specs.Fields.{KeyFields}
 use Rattle.cose_gate_program.specs.Program.{Devices, RanOver, EndsOver}
 use Rattle.cose_gate_program.specs.Telling.{items_of, IsToldIn, IsToldOver}
 use Rattle.cose_gate_program.specs.declared.telling.Notice.{Notice}

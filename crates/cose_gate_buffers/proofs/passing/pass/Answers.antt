@@ -1,5 +1,5 @@
 use Rattle.std.proofs.Common.{inr, refl}
-use Rattle.cose_gate_hmac.specs.GateCore.Terms.{limits_of}
+use Rattle.cose_gate_core.specs.Terms.{limits_of}
 use Rattle.cose_gate_buffers.specs.Calls.{Passed}
 use Rattle.cose_gate_buffers.proofs.Runs.{answers}
 use Rattle.cose_gate_buffers.proofs.passing.pass.Goals as goal
