@@ -1,12 +1,12 @@
 //! The calls over buffers, by a caller who wants the output and the lines of a run that went to its
-//! end. `cose_gate_buffers` is the one crate that it names.
+//! end. `cose_gate_records` is the one crate that it names.
 ghost use Rattle.std.specs.Prelude.{◌≡◌, ◌<◌, IfSome, MatchOption, None};
-ghost use Rattle.cose_gate_buffers.specs.Calls.{within, buffers, Asks, Checks, Passes};
-ghost use Rattle.cose_gate_buffers.specs.Calls.{Runs, TellsIn};
-ghost use Rattle.cose_gate_buffers.specs.declared.answer.Answer.{Answer};
+ghost use Rattle.cose_gate_records.specs.Calls.{within, buffers, Asks, Checks, Passes};
+ghost use Rattle.cose_gate_records.specs.Calls.{Runs, TellsIn};
+ghost use Rattle.cose_gate_records.specs.declared.answer.Answer.{Answer};
 ghost use Rattle.program_callers.specs.Placed.{IsAccepted, IsIn};
 
-use cose_gate_buffers::{Answer, Choice, ask, check, pass};
+use cose_gate_records::{Answer, Choice, ask, check, pass};
 use std::alloc::Global;
 
 /// How long the output and the lines are.
