@@ -1,5 +1,5 @@
-use Rattle.program_callers.proofs.Ended.{over_counts}
-use Rattle.program_callers.proofs.telling.run_counted.Goals as goal
+use Rattle.callers.proofs.Ended.{over_counts}
+use Rattle.callers.proofs.telling.run_counted.Goals as goal
 
 pub returns : goal.returns
 returns g c = λ few.

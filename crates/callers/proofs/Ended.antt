@@ -1,15 +1,15 @@
 -- What was told last of a run.
 use Rattle.std.proofs.Common.{◌≡◌, ℕ, ◌<◌, inl, inr, List, [], ◌∷◌, ◌++◌, Bool, true, refl, ap, ◌∙◌, arith}
-use Rattle.cose_gate_core.specs.Asked.{folded_over}
-use Rattle.cose_gate_core.specs.Findings.{Bounds}
-use Rattle.cose_gate_core.specs.Questions.{Question}
-use Rattle.cose_gate_core.specs.Run.{Step}
-use Rattle.coset_keys.specs.Fields.{KeyFields}
+use Rattle.cose_gate.specs.Asked.{folded_over}
+use Rattle.cose_gate.specs.Findings.{Bounds}
+use Rattle.cose_gate.specs.Questions.{Question}
+use Rattle.cose_gate.specs.Run.{Step}
+use Rattle.cose_gate.specs.KeyFields.{KeyFields}
 use Rattle.cose_gate_program.specs.Program.{Devices, RanOver, EndsOver}
 use Rattle.cose_gate_program.specs.Telling.{items_of, IsToldIn, IsToldOver}
 use Rattle.cose_gate_program.specs.declared.telling.Notice.{Notice}
 use Rattle.cose_gate_program.specs.declared.telling.Notice.TheVariants.{Counts}
-use Rattle.program_callers.specs.Counting.{is_counts}
+use Rattle.callers.specs.Counting.{is_counts}
 
 abbrev counts : Bool → Notice → Bool
 counts c notice = is_counts notice

@@ -4,8 +4,8 @@ use Rattle.std.proofs.lemmas.Bool.{cases_lt}
 use Rattle.std.specs.Prelude.{MatchOption, IfSome}
 use Rattle.cose_gate_records.specs.Calls.{Answers, Buffers, Checked, NoMemory, Passed, Places, Runs, TellsIn, Told, within}
 use Rattle.cose_gate_records.specs.declared.answer.Answer.{Answer}
-use Rattle.program_callers.specs.Placed.{IsAccepted, IsIn}
-use Rattle.program_callers.specs.declared.buffers.Lengths.{Lengths}
+use Rattle.callers.specs.Placed.{IsAccepted, IsIn}
+use Rattle.callers.specs.declared.buffers.Lengths.{Lengths}
 
 in_place : (IsOutput : List ℕ → ℕ → Type 0) (output : List ℕ) (status : ℕ) (old new : List ℕ) (answer : Answer) (n : ℕ)
     → IsOutput output status → Places output status old new answer → answer.status < 2 → n ≡ answer.length → IsIn IsOutput old new n

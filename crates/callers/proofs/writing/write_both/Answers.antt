@@ -1,6 +1,6 @@
 use Rattle.std.proofs.KnownBytes.{Appends-trans, Appends-kept}
-use Rattle.program_callers.proofs.Written.{front_of_first, front_of_second, front_of_all, on_err}
-use Rattle.program_callers.proofs.writing.write_both.Goals as goal
+use Rattle.callers.proofs.Written.{front_of_first, front_of_second, front_of_all, on_err}
+use Rattle.callers.proofs.writing.write_both.Goals as goal
 
 pub returns-in_err-write_all-clause-err : goal.returns-in_err-write_all-clause-err
 returns-in_err-write_all-clause-err g c =

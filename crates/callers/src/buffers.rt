@@ -4,7 +4,7 @@ ghost use Rattle.std.specs.Prelude.{◌≡◌, ◌<◌, IfSome, MatchOption, Non
 ghost use Rattle.cose_gate_records.specs.Calls.{within, buffers, Asks, Checks, Passes};
 ghost use Rattle.cose_gate_records.specs.Calls.{Runs, TellsIn};
 ghost use Rattle.cose_gate_records.specs.declared.answer.Answer.{Answer};
-ghost use Rattle.program_callers.specs.Placed.{IsAccepted, IsIn};
+ghost use Rattle.callers.specs.Placed.{IsAccepted, IsIn};
 
 use cose_gate_records::{Answer, Choice, ask, check, pass};
 use std::alloc::Global;

@@ -16,7 +16,7 @@ pub struct Counted {
 
 impl Teller for Counted {
     ghost use Rattle.std.specs.Prelude.{Bool};
-    ghost use Rattle.program_callers.specs.Counting.{is_counts};
+    ghost use Rattle.callers.specs.Counting.{is_counts};
 
     ghost State = { Bool };
 

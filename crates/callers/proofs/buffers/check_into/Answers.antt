@@ -1,5 +1,5 @@
-use Rattle.program_callers.proofs.InFront.{in_front, none_for, checked}
-use Rattle.program_callers.proofs.buffers.check_into.Goals as goal
+use Rattle.callers.proofs.InFront.{in_front, none_for, checked}
+use Rattle.callers.proofs.buffers.check_into.Goals as goal
 
 pub returns-clause-some : goal.returns-clause-some
 returns-clause-some c =
