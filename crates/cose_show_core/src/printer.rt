@@ -3,14 +3,14 @@ use std::{fmt, io};
 
 /// Text to a writer of bytes.
 #[derive(Drop)]
-pub struct Page<W> {
+pub struct Printer<W> {
     out: W,
 }
 
-impl<W: io::Write + Drop> Page<W> {
-    /// A page over a writer.
-    pub fn new(out: W) -> Page<W> {
-        Page { out }
+impl<W: io::Write + Drop> Printer<W> {
+    /// A printer over a writer.
+    pub fn new(out: W) -> Printer<W> {
+        Printer { out }
     }
 
     /// Hands on what is kept.
@@ -19,7 +19,7 @@ impl<W: io::Write + Drop> Page<W> {
     }
 }
 
-impl<W: io::Write + Drop> fmt::Write for Page<W> {
+impl<W: io::Write + Drop> fmt::Write for Printer<W> {
     fn write_str(&mut self, text: &str) -> fmt::Result {
         match self.out.write_all(text.as_bytes()) {
             Ok(()) => Ok(()),
