@@ -66,7 +66,7 @@ def abi():
     """The header declares what a call returns, and its parameters, as the library exports them, in the same order."""
     header = "include/cose_gate.h"
     c_types = {"u32": "uint32_t", "usize": "size_t", "bool": "bool"}
-    answer = re.search(r"#\[repr\(C\)\].*?pub struct Answer \{(.*?)\n\}", text("crates/cose_gate_buffers/src/answer.rt"), re.S)[1]
+    answer = re.search(r"#\[repr\(C\)\].*?pub struct Answer \{(.*?)\n\}", text("crates/cose_gate_records/src/answer.rt"), re.S)[1]
     exported = [(c_types[of], name) for name, of in re.findall(r"^    pub (\w+): (\w+),$", answer, re.M)]
     declared = re.search(r"typedef struct cose_gate_answer \{(.*?)\n\} cose_gate_answer;", text(header), re.S)[1]
     same("the fields of an answer are", exported, header, re.findall(r"^  (\w+) (\w+);", declared, re.M))

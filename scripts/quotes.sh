@@ -2,7 +2,6 @@
 # quotes.sh: says what the pages and the help quote otherwise than it is. Status 1 if there is anything.
 # - The blocks of Rattle on the pages are whole parts of the crate callers, of an example or of a test (scripts/quotes.py).
 # - The scripts cose-gate, cose-show, cose-ask and cose-pass have the help of their programs.
-# - The clauses of the crate copied_clauses are those of the functions that it copies.
 # - What is said in several places is said in all of them (scripts/places.py).
 cd "$(dirname "$0")/.." || exit 2
 status=0
@@ -25,12 +24,5 @@ has_help cose-gate crates/cose_gate_cli/src/main.rt
 has_help cose-show crates/cose_show_core/src/words.rt
 has_help cose-ask crates/cose_ask_cli/src/main.rt
 has_help cose-pass crates/cose_pass_cli/src/main.rt
-
-# The clauses between a function's line and its body.
-clauses() {
-  awk -v name="fn $1(" 'index($0, name) { inside = 1; next } inside && /^ *[{]$/ { exit } inside' "$2" | sed 's/^ *//; s/one[.]now/self.now/g'
-}
-copied=$(clauses cmp_canonical crates/copied_clauses/src/labels.rt)
-[ -n "$copied" ] && [ "$copied" = "$(clauses cmp_canonical crates/coset_labels/src/label.rt)" ] || { echo "copied_clauses: cmp_canonical has other clauses than Label::cmp_canonical"; status=1; }
 
 exit $status

@@ -12,10 +12,10 @@ CRATES = pathlib.Path(__file__).resolve().parent.parent / "crates"
 PAGES = {
     "ciborium_ll": ["ciborium_ll"],
     "ciborium": ["ciborium", "ciborium_value", "ciborium_traits", "ciborium_typed"],
-    "coset_base": ["coset_labels", "coset_headers", "coset_structures", "coset_builders"],
+    "coset_base": ["coset_labels", "coset_headers", "coset_base"],
     "coset_messages": ["coset_signed", "coset_maced", "coset_encrypted", "coset_recipients"],
     "coset": ["coset_keys", "coset_claims", "coset_kdf"],
-    "cose_gate": ["cose_gate", "cose_gate_core", "cose_gate_stream", "cose_gate_hmac", "cose_gate_program",
+    "cose_gate": ["cose_gate", "cose_gate_core", "cose_gate_stream", "cose_gate_program",
                   "cose_gate_records", "cose_hmac"],
 }
 

@@ -18,7 +18,7 @@ import sys
 ROOT = pathlib.Path(__file__).resolve().parent.parent
 CRATES = ROOT / "crates"
 # Code of users of the libraries: what they say of themselves is no promise of a library.
-LEFT_OUT = {"callers", "program_callers", "copied_clauses", *(it.name for it in CRATES.glob("example_*"))}
+LEFT_OUT = {"callers", *(it.name for it in CRATES.glob("example_*"))}
 WORD = re.compile(r"[^\W\d][\w']*(?:\.[^\W\d][\w']*)*")
 HEAD = re.compile(r"(?:abbrev|unfoldable|pub|data|record|mutual|syntax)\b|[^\W\d][\w'-]* : ")
 DEFINED = re.compile(r"(?:abbrev|unfoldable|(?:pub )?(?:data|record|syntax))\b|mutual\n\s+(?:pub )?(?:data|record)\b")

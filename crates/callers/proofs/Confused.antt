@@ -5,9 +5,9 @@ use Rattle.std.specs.Prelude.{option_map}
 use Rattle.std.specs.Str.{bytes_eq}
 use Rattle.coset_base.specs.Contexts.{mac_text, encryption_text}
 use Rattle.coset_base.specs.Covered.{Covered, maced, encrypted, covered_bytes, CoveredFits, covered_by_mac, covered_by_enc}
-use Rattle.coset_base.specs.EncryptionContext.{EncryptionContext}
+use Rattle.coset_base.specs.declared.context.EncryptionContext.{EncryptionContext}
 use Rattle.coset_base.specs.Fields.{ProtectedFields}
-use Rattle.coset_base.specs.MacContext.{MacContext}
+use Rattle.coset_base.specs.declared.context.MacContext.{MacContext}
 use Rattle.coset_base.specs.Structure.{mac_structure, encryption_structure}
 use Rattle.coset_base.specs.Written.{shown}
 use Rattle.callers.proofs.Spelled.{mapped}

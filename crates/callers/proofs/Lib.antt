@@ -4,9 +4,11 @@ pub mod AtFront
 pub mod Checked
 pub mod Confused
 pub mod Encoded
+pub mod Ended
 pub mod Faulted
 pub mod Further
 pub mod Ids
+pub mod InFront
 pub mod Joined
 pub mod Keys
 pub mod NoMemoryNoted
@@ -21,4 +23,5 @@ pub mod Spelled
 pub mod Stopped
 pub mod Tagging
 pub mod Told
+pub mod Written
 pub mod Wrote

@@ -6,7 +6,7 @@ use Rattle.std.specs.Str.{bytes_eq}
 use Rattle.coset_base.specs.Contexts.{signature_text}
 use Rattle.coset_base.specs.Covered.{Covered, signed, covered_bytes, CoveredFits, covered_by_sig}
 use Rattle.coset_base.specs.Fields.{ProtectedFields}
-use Rattle.coset_base.specs.SignatureContext.{SignatureContext}
+use Rattle.coset_base.specs.declared.context.SignatureContext.{SignatureContext}
 use Rattle.coset_base.specs.Structure.{sig_structure}
 use Rattle.coset_base.specs.Written.{shown}
 use Rattle.callers.proofs.Spelled.{mapped}

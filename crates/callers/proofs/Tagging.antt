@@ -4,7 +4,8 @@ use Rattle.std.specs.Prelude.{option_map}
 use Rattle.ciborium_value.specs.Encoding.{enc}
 use Rattle.ciborium_value.specs.Tree.{Tree, tag}
 use Rattle.cose_gate.specs.Questions.{message_text, or_nothing}
-use Rattle.coset_message_sink.specs.Put.{sign1_put, mac0_put, sign_put, mac_put, Sign1Received, Mac0Received, SignReceived, MacReceived}
+use Rattle.coset_signed.specs.Put.{sign1_put, sign_put, Sign1Received, SignReceived}
+use Rattle.coset_maced.specs.Put.{mac0_put, mac_put, Mac0Received, MacReceived}
 use Rattle.coset_messages.specs.MacedFields.{Mac0Fields, MacFields}
 use Rattle.coset_messages.specs.MacedWritten.{mac0_tree, mac_tree}
 use Rattle.coset_messages.specs.SignedFields.{Sign1Fields, SignFields}

@@ -3,6 +3,7 @@ pub mod Alike
 pub mod Asking
 pub mod Checking
 pub mod Choosing
+pub mod Counting
 pub mod Faults
 pub mod Fronts
 pub mod Gatings
@@ -13,6 +14,7 @@ pub mod Judging
 pub mod Keeping
 pub mod Kinds
 pub mod Noted
+pub mod Placed
 pub mod Recording
 pub mod Refilling
 pub mod Reported

@@ -1,8 +1,10 @@
 -- The fields of a message of any kind, and what is written straight from them.
 use Rattle.ciborium_value.specs.Tree.{Tree, tag}
 use Rattle.cose_gate.specs.Questions.{MessageFields, sign1, mac0, sign, mac}
-use Rattle.coset_message_sink.proofs.Received.{sign1_prop, mac0_prop, sign_prop, mac_prop}
-use Rattle.coset_message_sink.specs.Put.{sign1_put, mac0_put, sign_put, mac_put, Sign1Received, Mac0Received, SignReceived, MacReceived}
+use Rattle.coset_signed.proofs.Received.{sign1_prop, sign_prop}
+use Rattle.coset_maced.proofs.Received.{mac0_prop, mac_prop}
+use Rattle.coset_signed.specs.Put.{sign1_put, sign_put, Sign1Received, SignReceived}
+use Rattle.coset_maced.specs.Put.{mac0_put, mac_put, Mac0Received, MacReceived}
 use Rattle.coset_messages.specs.MacedView.{mac0_view, mac_view}
 use Rattle.coset_messages.specs.SignedView.{sign1_view, sign_view}
 use Rattle.callers.specs.declared.tagged.Message.{Message}

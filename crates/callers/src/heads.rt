@@ -1,5 +1,6 @@
 //! A walk over heads. `ciborium_ll` is the one crate that it names.
-ghost use Rattle.std.specs.Prelude.{◌≡◌, ◌≢◌, ◌++◌, ◌<◌, ◌^◌, ℕ, List, length, IfOk, IfErr, OnOk, flat_map, [], ◌∷◌, Some};
+ghost use Rattle.std.specs.Prelude.{◌≡◌, ◌≢◌, ◌++◌, ◌<◌, ◌^◌, ℕ, List, length, IfOk, IfErr, OnOk};
+ghost use Rattle.std.specs.Prelude.{flat_map, [], ◌∷◌, Some};
 ghost use Rattle.std.specs.Io.KnownBytes.{Appends};
 ghost use Rattle.ciborium_ll.specs.Title.{Begins, title_of};
 ghost use Rattle.ciborium_ll.specs.Copies.{Copies};

@@ -1,5 +1,6 @@
 //! Keys kept in their canonical encoding, and claims read. `coset` is the one crate that it names.
-ghost use Rattle.std.specs.Prelude.{◌≡◌, ◌↔◌, [], ℕ, List, IsTrue, IfOk, IfErr, OnErr, not, option_map, string_bytes};
+ghost use Rattle.std.specs.Prelude.{◌≡◌, ◌↔◌, [], ℕ, List, IsTrue, IfOk, IfErr, OnErr, not};
+ghost use Rattle.std.specs.Prelude.{option_map, string_bytes};
 ghost use Rattle.std.specs.List.{list_any};
 ghost use Rattle.std.specs.Str.{bytes_eq};
 ghost use Rattle.coset.specs.Claims.{HasClaims};

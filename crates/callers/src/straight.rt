@@ -1,5 +1,5 @@
 //! Headers read into a place that is there, written straight from their fields, and signatures
-//! taken apart. `coset_base`, `coset_sink` and `ciborium` are the crates that it names.
+//! taken apart. `coset_base` and `ciborium` are the crates that it names.
 ghost use Rattle.std.specs.Prelude.{◌≡◌, Some, IfOk, IfErr, option_map};
 ghost use Rattle.ciborium_value.specs.View.{view};
 ghost use Rattle.coset_base.specs.Encoding.{enc};
@@ -11,14 +11,15 @@ ghost use Rattle.coset_base.specs.Reading.{HasItem, WrongItem};
 ghost use Rattle.coset_base.specs.View.{header_view, protected_view, signature_view};
 ghost use Rattle.coset_base.specs.Written.{header_tree};
 ghost use Rattle.coset_base.specs.Wrong.{WrongHeader, WrongProtected};
-ghost use Rattle.coset_sink.proofs.Received.{hdr_prop};
-ghost use Rattle.coset_sink.specs.Put.{HasReceived, header_put};
+ghost use Rattle.coset_base.proofs.Received.{hdr_prop};
+ghost use Rattle.coset_base.specs.Put.{HasReceived, header_put};
 
 use ciborium::ser::{Serialize, Sink};
 use ciborium::{Mem, Value, into_writer};
-use coset_base::{CborSerializable, CoseError, CoseSignature, Header, Limits, ProtectedHeader};
-use coset_sink::laws::{put_is_written, read_is_received};
-use coset_sink::put_header;
+use coset_base::laws::sink::{put_is_written, read_is_received};
+use coset_base::{
+    CborSerializable, CoseError, CoseSignature, Header, Limits, ProtectedHeader, put_header,
+};
 use std::alloc::{AllocError, Global};
 
 /// The header that a value is within these limits, read into an empty one.

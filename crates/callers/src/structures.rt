@@ -1,5 +1,5 @@
 //! What signatures, tags and ciphertexts cover: put together in memory of the caller's, and without
-//! the payload. `coset_base` and `coset_structures` are the crates that it names.
+//! the payload. `coset_base` is the one crate that it names.
 ghost use Rattle.std.specs.Prelude.{◌≡◌, ◌++◌, ℕ, List, None, Some, length, option_map, Option};
 ghost use Rattle.std.specs.Prelude.{IfOk, OnOk, MatchResult};
 ghost use Rattle.coset_base.specs.Contexts.{signature_text, mac_text, encryption_text};
@@ -13,8 +13,8 @@ ghost use Rattle.callers.specs.Signing.{SaysCovered};
 
 use coset_base::{
     CoseError, EncryptionContext, MacContext, ProtectedHeader, SignatureContext, bytes_title,
+    enc_structure_in, mac_structure_in, sig_structure_in,
 };
-use coset_structures::{enc_structure_in, mac_structure_in, sig_structure_in};
 use std::alloc::{AllocError, Allocator, Global};
 
 /// Whether the bytes are the covered ones.

@@ -1,6 +1,6 @@
 //! Messages that are as received, written again in their tags straight from their fields, as a gate
-//! writes them. `coset_message_sink`, `coset_messages`, `cose_gate` and `ciborium` are the crates
-//! that it names.
+//! writes them. `coset_signed`, `coset_maced`, `coset_messages`, `cose_gate` and `ciborium` are the
+//! crates that it names.
 ghost use Rattle.std.specs.Prelude.{◌≡◌, IfOk};
 ghost use Rattle.ciborium_value.specs.Encoding.{enc};
 ghost use Rattle.cose_gate.specs.Questions.{message_text};
@@ -8,9 +8,10 @@ ghost use Rattle.callers.specs.Tagged.{fields_of, tagged_put, AsReceived, as_rec
 
 use ciborium::ser::{Serialize, Sink};
 use ciborium::{Mem, into_writer};
-use coset_message_sink::laws::put_is_written;
-use coset_message_sink::{put_tagged_mac, put_tagged_mac0, put_tagged_sign, put_tagged_sign1};
+use coset_maced::{put_tagged_mac, put_tagged_mac0};
+use coset_messages::laws::{maced, signed};
 use coset_messages::{CoseMac, CoseMac0, CoseSign, CoseSign1};
+use coset_signed::{put_tagged_sign, put_tagged_sign1};
 use std::alloc::{AllocError, Global};
 
 /// A message of one of the kinds that a gate passes.
@@ -54,7 +55,8 @@ pub fn gate_text(alloc: Global, message: Message) -> Result<Vec<u8>, AllocError>
     requires { AsReceived message }
     ensures { IfOk result (λ out. out.items ≡ message_text (fields_of message.entry)) }
 {
-    put_is_written();
+    signed::put_is_written();
+    maced::put_is_written();
     let mut out = Mem::new(Vec::new(alloc));
     match into_writer(&Received { message }, &mut out) {
         Ok(()) => Ok(out.into_inner()),

@@ -1,4 +1,5 @@
 //! Text between quotes.
+use crate::page::Page;
 use std::fmt;
 
 /// Whether a character could forge what is shown: a control, a mark of direction, or a break of the
@@ -40,38 +41,31 @@ fn is_unseen(c: char) -> bool {
 /// Writes a text between quotes. Quotes, backslashes, control characters, marks of direction,
 /// breaks of the line and characters that aren't seen are escaped as in JSON; with `ascii` each
 /// character past U+007E too.
-///
-/// # Errors
-/// Those of the writer.
-pub fn write_text<W: fmt::Write>(text: &str, ascii: bool, out: &mut W) -> fmt::Result {
-    out.write_str("\"")?;
+pub fn write_text<W: fmt::Write>(text: &str, ascii: bool, page: &mut Page<'_, W>) {
+    page.write_str("\"");
     for c in text.chars() {
-        write_char(c, ascii, out)?;
+        write_char(c, ascii, page);
     }
-    out.write_str("\"")
+    page.write_str("\"");
 }
 
 /// Writes a character as `write_text` does.
-///
-/// # Errors
-/// Those of the writer.
-pub fn write_char<W: fmt::Write>(c: char, ascii: bool, out: &mut W) -> fmt::Result {
+pub fn write_char<W: fmt::Write>(c: char, ascii: bool, page: &mut Page<'_, W>) {
     match c {
-        '"' => out.write_str("\\\""),
-        '\\' => out.write_str("\\\\"),
-        '\n' => out.write_str("\\n"),
-        '\r' => out.write_str("\\r"),
-        '\t' => out.write_str("\\t"),
-        _ if is_unsafe(c) || is_unseen(c) || (ascii && c > '~') => write_units(c, out),
-        _ => out.write_char(c),
+        '"' => page.write_str("\\\""),
+        '\\' => page.write_str("\\\\"),
+        '\n' => page.write_str("\\n"),
+        '\r' => page.write_str("\\r"),
+        '\t' => page.write_str("\\t"),
+        _ if is_unsafe(c) || is_unseen(c) || (ascii && c > '~') => write_units(c, page),
+        _ => page.write_char(c),
     }
 }
 
 /// Writes a character by its UTF-16 units.
-fn write_units<W: fmt::Write>(c: char, out: &mut W) -> fmt::Result {
+fn write_units<W: fmt::Write>(c: char, page: &mut Page<'_, W>) {
     let mut units = [0u16; 2];
     for unit in c.encode_utf16(&mut units).iter() {
-        write!(out, "\\u{:04x}", *unit)?;
+        write!(page, "\\u{:04x}", *unit);
     }
-    Ok(())
 }

@@ -1,6 +1,8 @@
 //! Floats as text. Their bits are taken apart, and put together as a number of 64 bits, exactly.
+use crate::page::Page;
 use ciborium_ll::Float;
-use std::alloc::{AllocError, Global};
+use std::alloc::Global;
+use std::fmt;
 
 /// A float taken apart.
 #[derive(Debug, Clone, Copy, PartialEq, Eq)]
@@ -165,80 +167,86 @@ fn scaled(count: u64, power: i32) -> f64 {
     value
 }
 
-/// The text of a float: its shortest decimal, with a point, in the form of RFC 8949, Appendix A.
-pub fn text_of(alloc: Global, float: Float) -> Result<String, AllocError> {
+/// Writes a float: its shortest decimal, with a point, in the form of RFC 8949, Appendix A.
+pub fn write_float<W: fmt::Write>(alloc: Global, float: Float, page: &mut Page<'_, W>) {
     let parts = parts_of(float);
     let sign = if parts.negative { "-" } else { "" };
     match parts.size {
-        Size::Infinite => format!(in alloc; "{sign}Infinity"),
-        Size::NoNumber(fraction) => no_number(alloc, float, parts.negative, fraction),
-        Size::Finite(count, power) => finite(alloc, sign, scaled(count, power)),
+        Size::Infinite => write!(page, "{sign}Infinity"),
+        Size::NoNumber(fraction) => write_no_number(float, parts.negative, fraction, page),
+        Size::Finite(count, power) => write_finite(alloc, sign, scaled(count, power), page),
     }
 }
 
 /// A NaN that isn't the usual one has its bits after it, in a comment.
-fn no_number(
-    alloc: Global,
+fn write_no_number<W: fmt::Write>(
     float: Float,
     negative: bool,
     fraction: u64,
-) -> Result<String, AllocError> {
+    page: &mut Page<'_, W>,
+) {
     if !negative && fraction == top(51) {
-        return String::from_str(alloc, "NaN");
+        page.write_str("NaN");
+        return;
     }
     match float {
-        Float::Half(bits) => format!(in alloc; "NaN /{bits:04x}/"),
-        Float::Single(bits) => format!(in alloc; "NaN /{bits:08x}/"),
-        Float::Double(bits) => format!(in alloc; "NaN /{bits:016x}/"),
+        Float::Half(bits) => write!(page, "NaN /{bits:04x}/"),
+        Float::Single(bits) => write!(page, "NaN /{bits:08x}/"),
+        Float::Double(bits) => write!(page, "NaN /{bits:016x}/"),
     }
 }
 
-fn finite(alloc: Global, sign: &str, value: f64) -> Result<String, AllocError> {
-    let scientific = format!(in alloc; "{value:e}")?;
+fn write_finite<W: fmt::Write>(alloc: Global, sign: &str, value: f64, page: &mut Page<'_, W>) {
+    let Some(scientific) = page.kept(format!(in alloc; "{value:e}")) else {
+        return;
+    };
+    page.write_str(sign);
     let Some((digits, exponent)) = scientific.as_str().split_once('e') else {
-        return format!(in alloc; "{sign}{scientific}");
+        page.write_str(scientific.as_str());
+        return;
     };
     let exponent = exponent.parse::<i32>().unwrap_or(0);
     let (front, back) = digits.split_once('.').unwrap_or((digits, ""));
-    let digits = format!(in alloc; "{front}{back}")?;
-    laid_out(alloc, sign, digits.as_str(), exponent)
+    if let Some(digits) = page.kept(format!(in alloc; "{front}{back}")) {
+        write_digits(digits.as_str(), exponent, page);
+    }
 }
 
 /// Digits with the point after the first of them, times ten to this power.
-fn laid_out(alloc: Global, sign: &str, digits: &str, exponent: i32) -> Result<String, AllocError> {
+fn write_digits<W: fmt::Write>(digits: &str, exponent: i32, page: &mut Page<'_, W>) {
     if exponent < -6 || exponent > 20 {
         let (front, back) = digits.split_at_checked(1).unwrap_or((digits, ""));
         let back = if back.is_empty() { "0" } else { back };
         let mark = if exponent < 0 { "" } else { "+" };
-        return format!(in alloc; "{sign}{front}.{back}e{mark}{exponent}");
+        write!(page, "{front}.{back}e{mark}{exponent}");
+    } else if exponent < 0 {
+        page.write_str("0.");
+        write_zeros(exponent.unsigned_abs().saturating_sub(1), page);
+        page.write_str(digits);
+    } else {
+        write_whole(digits, exponent.unsigned_abs(), page);
     }
-    if exponent < 0 {
-        let zeros = exponent.unsigned_abs().saturating_sub(1);
-        let mut text = format!(in alloc; "{sign}0.")?;
-        push_zeros(&mut text, zeros)?;
-        text.push_str(digits)?;
-        return Ok(text);
-    }
-    whole(alloc, sign, digits, exponent.unsigned_abs())
 }
 
 /// Digits with so many of them and one more in front of the point.
-fn whole(alloc: Global, sign: &str, digits: &str, exponent: u32) -> Result<String, AllocError> {
+fn write_whole<W: fmt::Write>(digits: &str, exponent: u32, page: &mut Page<'_, W>) {
     let point = usize::try_from(exponent).unwrap_or(0).saturating_add(1);
-    if let Some((front, back)) = digits.split_at_checked(point) {
-        let back = if back.is_empty() { "0" } else { back };
-        return format!(in alloc; "{sign}{front}.{back}");
+    match digits.split_at_checked(point) {
+        Some((front, back)) => {
+            let back = if back.is_empty() { "0" } else { back };
+            write!(page, "{front}.{back}");
+        }
+        None => {
+            page.write_str(digits);
+            let missing = point.saturating_sub(digits.len());
+            write_zeros(u32::try_from(missing).unwrap_or(0), page);
+            page.write_str(".0");
+        }
     }
-    let mut text = format!(in alloc; "{sign}{digits}")?;
-    let missing = point.saturating_sub(digits.len());
-    push_zeros(&mut text, u32::try_from(missing).unwrap_or(0))?;
-    text.push_str(".0")?;
-    Ok(text)
 }
 
-fn push_zeros(text: &mut String, count: u32) -> Result<(), AllocError> {
+fn write_zeros<W: fmt::Write>(count: u32, page: &mut Page<'_, W>) {
     for _ in 0..count {
-        text.push_str("0")?;
+        page.write_str("0");
     }
-    Ok(())
 }

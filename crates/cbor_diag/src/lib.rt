@@ -9,6 +9,7 @@ mod excess;
 mod float;
 mod head;
 mod notation;
+mod page;
 mod walk;
 
 pub use crate::ends::Ends;
@@ -19,4 +20,5 @@ pub use crate::head::{Head, HeadFault, head_of};
 pub use crate::notation::{
     CUT, NotWritten, Style, front_text, write_hex, write_item, write_item_without,
 };
+pub use crate::page::Page;
 pub use crate::walk::{Event, Fault, LevelKind, Place, Step, Walk, Why, item_len};

@@ -1,7 +1,8 @@
 //! The notation.
 use crate::escape::write_text;
-use crate::float;
+use crate::float::{wide, write_float};
 use crate::head::{Head, head_of};
+use crate::page::Page;
 use crate::walk::{Event, Fault, LevelKind, Place, Step, Walk, Why};
 use ciborium_ll::Header;
 use std::alloc::{AllocError, AllocFailed, Global};
@@ -102,12 +103,6 @@ impl From<Fault> for NotWritten {
     }
 }
 
-impl From<fmt::Error> for NotWritten {
-    fn from(_: fmt::Error) -> NotWritten {
-        NotWritten::Output
-    }
-}
-
 impl From<AllocError> for NotWritten {
     fn from(_: AllocError) -> NotWritten {
         NotWritten::Memory
@@ -122,9 +117,9 @@ impl<T: Drop> From<AllocFailed<T>> for NotWritten {
 
 /// The notation as it is written.
 #[derive(Drop)]
-struct Notation<'h, 'a, W> {
+struct Notation<'h, 'a, 'p, W> {
     alloc: Global,
-    out: &'a mut W,
+    page: &'a mut Page<'p, W>,
     style: Style,
     /// Where items are to come that aren't shown.
     hidden: &'h [usize],
@@ -143,15 +138,15 @@ struct Notation<'h, 'a, W> {
 ///
 /// # Errors
 /// `Fault` if the bytes begin no item, with the notation of what is in front of the fault written;
-/// `Output` and `Memory`.
+/// `Output` and `Memory`, also those that the page has noted.
 pub fn write_item<W: fmt::Write>(
     alloc: Global,
     bytes: &[u8],
     style: Style,
     indent: usize,
-    out: &mut W,
+    page: &mut Page<'_, W>,
 ) -> Result<usize, NotWritten> {
-    write_item_without(alloc, bytes, &[], style, indent, out)
+    write_item_without(alloc, bytes, &[], style, indent, page)
 }
 
 /// The same with `...` in place of the items that begin at these places, which rise.
@@ -164,12 +159,12 @@ pub fn write_item_without<W: fmt::Write>(
     hidden: &[usize],
     style: Style,
     indent: usize,
-    out: &mut W,
+    page: &mut Page<'_, W>,
 ) -> Result<usize, NotWritten> {
     let mut walk = Walk::new(alloc);
     let mut notation = Notation {
         alloc,
-        out,
+        page,
         style,
         hidden,
         unseen: 0,
@@ -179,7 +174,8 @@ pub fn write_item_without<W: fmt::Write>(
     };
     for _ in 0..u64::MAX {
         let step = walk.step(bytes)?;
-        notation.tell(bytes, step)?;
+        notation.tell(bytes, step);
+        notation.page.end()?;
         if walk.is_done() {
             break;
         }
@@ -187,33 +183,32 @@ pub fn write_item_without<W: fmt::Write>(
     Ok(walk.at())
 }
 
-impl<'h, 'a, W: fmt::Write> Notation<'h, 'a, W> {
+impl<'h, 'a, 'p, W: fmt::Write> Notation<'h, 'a, 'p, W> {
     /// Writes one step.
-    fn tell(&mut self, bytes: &[u8], step: Step) -> Result<(), NotWritten> {
+    fn tell(&mut self, bytes: &[u8], step: Step) {
         if self.shown > 0 {
             self.shown = self.shown.saturating_sub(1);
-            return Ok(());
+            return;
         }
         if self.unseen > 0 || self.hides(step) {
-            self.leave_out(step)?;
-            return Ok(());
+            self.leave_out(step);
+            return;
         }
         match step.event {
-            Event::End(kind) => self.end(kind)?,
+            Event::End(kind) => self.end(kind),
             Event::Leaf(header) => {
-                self.part(step.place)?;
-                self.leaf(head_at(header, step))?;
+                self.part(step.place);
+                self.leaf(head_at(header, step));
             }
             Event::Body(header, size) => {
-                self.part(step.place)?;
-                self.body(head_at(header, step), body_of(bytes, step, size))?;
+                self.part(step.place);
+                self.body(head_at(header, step), body_of(bytes, step, size));
             }
             Event::Begin(header) => {
-                self.part(step.place)?;
-                self.begin(head_at(header, step), behind(bytes, step.at))?;
+                self.part(step.place);
+                self.begin(head_at(header, step), behind(bytes, step.at));
             }
         }
-        Ok(())
     }
 
     /// Whether an item that isn't shown begins with this step.
@@ -231,212 +226,216 @@ impl<'h, 'a, W: fmt::Write> Notation<'h, 'a, W> {
     }
 
     /// Goes over a step of an item that isn't shown.
-    fn leave_out(&mut self, step: Step) -> fmt::Result {
+    fn leave_out(&mut self, step: Step) {
         if self.unseen == 0 {
-            self.part(step.place)?;
-            self.out.write_str("...")?;
+            self.part(step.place);
+            self.page.write_str("...");
         }
         match step.event {
             Event::Begin(_) => self.unseen = self.unseen.saturating_add(1),
             Event::End(_) => self.unseen = self.unseen.saturating_sub(1),
             _ => {}
         }
-        Ok(())
     }
 
     /// What is between an item and the one before it.
-    fn part(&mut self, place: Place) -> fmt::Result {
+    fn part(&mut self, place: Place) {
         match place {
-            Place::Top => Ok(()),
-            Place::Content => Ok(()),
-            Place::Value => self.out.write_str(": "),
+            Place::Top => {}
+            Place::Content => {}
+            Place::Value => self.page.write_str(": "),
             Place::Element { first } => self.next(first),
             Place::Key { first } => self.next(first),
-            Place::Chunk { first: true } => Ok(()),
-            Place::Chunk { first: false } => self.out.write_str(", "),
+            Place::Chunk { first: true } => {}
+            Place::Chunk { first: false } => self.page.write_str(", "),
         }
     }
 
-    fn next(&mut self, first: bool) -> fmt::Result {
+    fn next(&mut self, first: bool) {
         let on_one_line = self.flat > 0;
         if !first {
-            self.out.write_str(",")?;
+            self.page.write_str(",");
         }
         if !on_one_line {
-            return self.line();
-        }
-        if first {
-            Ok(())
-        } else {
-            self.out.write_str(" ")
+            self.line();
+        } else if !first {
+            self.page.write_str(" ");
         }
     }
 
     /// A new line.
-    fn line(&mut self) -> fmt::Result {
-        self.out.write_str("\n")?;
+    fn line(&mut self) {
+        self.page.write_str("\n");
         for _ in 0..self.indent {
-            self.out.write_str("  ")?;
+            self.page.write_str("  ");
         }
-        Ok(())
     }
 
-    fn indicator(&mut self, width: Option<u8>) -> fmt::Result {
+    fn indicator(&mut self, width: Option<u8>) {
         match width {
-            Some(width) if self.style.widths => write!(self.out, "_{width}"),
-            _ => Ok(()),
+            Some(width) if self.style.widths => write!(self.page, "_{width}"),
+            _ => {}
         }
     }
 
-    fn leaf(&mut self, head: Head) -> Result<(), NotWritten> {
+    fn leaf(&mut self, head: Head) {
         match head.header {
-            Header::Positive(n) => write!(self.out, "{n}")?,
+            Header::Positive(n) => write!(self.page, "{n}"),
             Header::Negative(n) => {
                 let size = u128::from(n).wrapping_add(1);
-                write!(self.out, "-{size}")?;
+                write!(self.page, "-{size}");
             }
-            Header::Simple(20) => self.out.write_str("false")?,
-            Header::Simple(21) => self.out.write_str("true")?,
-            Header::Simple(22) => self.out.write_str("null")?,
-            Header::Simple(23) => self.out.write_str("undefined")?,
-            Header::Simple(n) => write!(self.out, "simple({n})")?,
+            Header::Simple(20) => self.page.write_str("false"),
+            Header::Simple(21) => self.page.write_str("true"),
+            Header::Simple(22) => self.page.write_str("null"),
+            Header::Simple(23) => self.page.write_str("undefined"),
+            Header::Simple(n) => write!(self.page, "simple({n})"),
             Header::Float(float) => {
-                let text = float::text_of(self.alloc, float)?;
-                self.out.write_str(text.as_str())?;
-                self.indicator(float::wide(float))?;
-                return Ok(());
+                write_float(self.alloc, float, self.page);
+                self.indicator(wide(float));
+                return;
             }
-            _ => return Ok(()),
+            _ => return,
         }
-        self.indicator(head.wide())?;
-        Ok(())
+        self.indicator(head.wide());
     }
 
     /// A string of stated length.
-    fn body(&mut self, head: Head, body: &[u8]) -> fmt::Result {
+    fn body(&mut self, head: Head, body: &[u8]) {
         if self.style.cut && body.len() > CUT {
-            return self.cut_body(head, body);
+            self.cut_body(head, body);
+            return;
         }
         match head.header {
             Header::Text(_) => match str::from_utf8(body) {
-                Ok(text) => write_text(text, self.style.ascii, self.out)?,
-                Err(_) => self.bytes(body)?,
+                Ok(text) => write_text(text, self.style.ascii, self.page),
+                Err(_) => self.bytes(body),
             },
-            _ => self.bytes(body)?,
+            _ => self.bytes(body),
         }
-        self.indicator(head.wide())
+        self.indicator(head.wide());
     }
 
     /// The front of a long string, and its length.
-    fn cut_body(&mut self, head: Head, body: &[u8]) -> fmt::Result {
+    fn cut_body(&mut self, head: Head, body: &[u8]) {
         match head.header {
-            Header::Text(_) => write_text(front_text(body), self.style.ascii, self.out)?,
-            _ => self.bytes(body.get(..CUT).unwrap_or(body))?,
+            Header::Text(_) => write_text(front_text(body), self.style.ascii, self.page),
+            _ => self.bytes(body.get(..CUT).unwrap_or(body)),
         }
-        self.indicator(head.wide())?;
+        self.indicator(head.wide());
         let len = body.len();
-        write!(self.out, "... /{len} bytes, --full shows all/")
+        write!(self.page, "... /{len} bytes, --full shows all/");
     }
 
-    fn bytes(&mut self, body: &[u8]) -> fmt::Result {
-        self.out.write_str("h'")?;
-        write_hex(body, self.out)?;
-        self.out.write_str("'")
+    fn bytes(&mut self, body: &[u8]) {
+        self.page.write_str("h'");
+        write_hex(body, self.page);
+        self.page.write_str("'");
     }
 
     /// What begins an item with parts.
-    fn begin(&mut self, head: Head, rest: &[u8]) -> Result<(), NotWritten> {
+    fn begin(&mut self, head: Head, rest: &[u8]) {
         match head.header {
-            Header::Array(len) => self.begin_level("[", len.is_none(), head, rest)?,
-            Header::Map(len) => self.begin_level("{", len.is_none(), head, rest)?,
-            Header::Tag(number) => self.begin_tag(number, head, rest)?,
-            Header::Bytes(_) => self.begin_string("''_", rest)?,
-            Header::Text(_) => self.begin_string("\"\"_", rest)?,
+            Header::Array(len) => self.begin_level("[", len.is_none(), head, rest),
+            Header::Map(len) => self.begin_level("{", len.is_none(), head, rest),
+            Header::Tag(number) => self.begin_tag(number, head, rest),
+            Header::Bytes(_) => self.begin_string("''_", rest),
+            Header::Text(_) => self.begin_string("\"\"_", rest),
             _ => {}
         }
-        Ok(())
     }
 
-    fn begin_level(
-        &mut self,
-        mark: &str,
-        is_open: bool,
-        head: Head,
-        rest: &[u8],
-    ) -> Result<(), NotWritten> {
-        self.out.write_str(mark)?;
+    fn begin_level(&mut self, mark: &str, is_open: bool, head: Head, rest: &[u8]) {
+        self.page.write_str(mark);
         let on_one_line = !self.style.lines
             || self.flat > 0
             || self.indent >= DEEP
-            || is_short(self.alloc, rest)?;
+            || self.is_short(rest);
         let wide = head.wide();
         if is_open {
-            self.out.write_str("_")?;
+            self.page.write_str("_");
         } else {
-            self.indicator(wide)?;
+            self.indicator(wide);
         }
         if on_one_line {
             self.flat = self.flat.saturating_add(1);
             if is_open || (wide.is_some() && self.style.widths) {
-                self.out.write_str(" ")?;
+                self.page.write_str(" ");
             }
         } else {
             self.indent = self.indent.saturating_add(1);
         }
-        Ok(())
     }
 
-    fn begin_tag(&mut self, number: u64, head: Head, rest: &[u8]) -> fmt::Result {
+    /// Whether the item that the bytes begin with is short.
+    fn is_short(&mut self, bytes: &[u8]) -> bool {
+        let front = bytes.get(..SHORT).unwrap_or(bytes);
+        let mut walk = Walk::new(self.alloc);
+        match walk.advance(front) {
+            Ok(_) => true,
+            Err(fault) => {
+                if fault.why == Why::Memory {
+                    self.page.note(NotWritten::Memory);
+                }
+                false
+            }
+        }
+    }
+
+    fn begin_tag(&mut self, number: u64, head: Head, rest: &[u8]) {
         if self.style.bignums {
             if let Some(count) = bignum(number, head, rest) {
                 self.shown = 2;
-                return self.number(number, count);
+                self.number(number, count);
+                return;
             }
         }
-        write!(self.out, "{number}")?;
-        self.indicator(head.wide())?;
+        write!(self.page, "{number}");
+        self.indicator(head.wide());
         if self.flat > 0 {
             self.flat = self.flat.saturating_add(1);
         }
-        self.out.write_str("(")
+        self.page.write_str("(");
     }
 
     /// The number that a bignum is.
-    fn number(&mut self, tag: u64, count: u128) -> fmt::Result {
+    fn number(&mut self, tag: u64, count: u128) {
         if tag == 2 {
-            return write!(self.out, "{count}");
+            write!(self.page, "{count}");
+            return;
         }
         match count.checked_add(1) {
-            Some(size) => write!(self.out, "-{size}"),
+            Some(size) => write!(self.page, "-{size}"),
             None => self
-                .out
+                .page
                 .write_str("-340282366920938463463374607431768211456"),
         }
     }
 
     /// An open string; one without pieces has a form of its own.
-    fn begin_string(&mut self, empty: &str, rest: &[u8]) -> fmt::Result {
+    fn begin_string(&mut self, empty: &str, rest: &[u8]) {
         if matches!(rest, [_, 0xff, ..]) {
             self.shown = 1;
-            return self.out.write_str(empty);
+            self.page.write_str(empty);
+            return;
         }
         self.flat = self.flat.saturating_add(1);
-        self.out.write_str("(_ ")
+        self.page.write_str("(_ ");
     }
 
     /// What ends an item with parts.
-    fn end(&mut self, kind: LevelKind) -> fmt::Result {
+    fn end(&mut self, kind: LevelKind) {
         let on_one_line = self.flat > 0;
         self.flat = self.flat.saturating_sub(1);
         if !on_one_line && kind != LevelKind::Tag {
             self.indent = self.indent.saturating_sub(1);
-            self.line()?;
+            self.line();
         }
-        self.out.write_str(match kind {
+        self.page.write_str(match kind {
             LevelKind::Array => "]",
             LevelKind::Map => "}",
             _ => ")",
-        })
+        });
     }
 }
 
@@ -457,17 +456,6 @@ fn behind(bytes: &[u8], at: usize) -> &[u8] {
 fn body_of(bytes: &[u8], step: Step, size: usize) -> &[u8] {
     let rest = behind(bytes, step.at.saturating_add(step.len));
     rest.get(..size).unwrap_or(rest)
-}
-
-/// Whether the item that the bytes begin with is short.
-fn is_short(alloc: Global, bytes: &[u8]) -> Result<bool, NotWritten> {
-    let front = bytes.get(..SHORT).unwrap_or(bytes);
-    let mut walk = Walk::new(alloc);
-    match walk.advance(front) {
-        Ok(_) => Ok(true),
-        Err(fault) if fault.why == Why::Memory => Err(NotWritten::Memory),
-        Err(_) => Ok(false),
-    }
 }
 
 /// The number of a bignum's bytes (RFC 8949, section 3.4.3): tag 2 or 3 around a byte string of
@@ -510,12 +498,8 @@ pub fn front_text(body: &[u8]) -> &str {
 }
 
 /// Writes bytes as hex digits.
-///
-/// # Errors
-/// Those of the writer.
-pub fn write_hex<W: fmt::Write>(bytes: &[u8], out: &mut W) -> fmt::Result {
+pub fn write_hex<W: fmt::Write>(bytes: &[u8], page: &mut Page<'_, W>) {
     for byte in bytes {
-        write!(out, "{byte:02x}")?;
+        write!(page, "{byte:02x}");
     }
-    Ok(())
 }

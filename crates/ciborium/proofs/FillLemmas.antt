@@ -1,5 +1,5 @@
 -- Items that are read into the innermost level.
-use Rattle.std.proofs.Common.{◌≡◌, ◌+◌, ◌-◌, ℕ, Bool, true, false, List, [], ◌∷◌, ◌++◌, length, Option, None, Some, refl, sym, subst, ◌∙◌, arith, append_assoc, length-append}
+use Rattle.std.proofs.Common.{◌≡◌, ◌+◌, ◌-◌, ℕ, Bool, false, List, [], ◌∷◌, ◌++◌, length, Option, None, Some, refl, sym, subst, ◌∙◌, arith, append_assoc, length-append}
 use Rattle.std.proofs.KnownBytes.{Consumes-trans}
 use Rattle.ciborium_ll.specs.Seen.{Seen, Takes}
 use Rattle.ciborium_ll.specs.declared.hdr.Header.{Header}
@@ -13,7 +13,7 @@ use Rattle.ciborium.specs.declared.frames.Entries.{Entries}
 use Rattle.ciborium.specs.Damage.{Damage}
 use Rattle.ciborium.specs.Levels.{Titled}
 use Rattle.ciborium.specs.Reading.{IsLeaf, NamesFaultAfterTitle, ReadsAfterTitle}
-use Rattle.ciborium.specs.Frames.{opened, listed, in_hand, Stage, InHand, ClosedStage, AskEnds, AskGives, AskFails, HasHalf, halves_of, snoc, LeafPut, Puts, FillsFrame, FillEnds, FillGives}
+use Rattle.ciborium.specs.Frames.{opened, Stage, InHand, ClosedStage, AskEnds, AskGives, AskFails, HasHalf, halves_of, snoc, LeafPut, Puts, FillsFrame, FillEnds, FillGives}
 use Rattle.ciborium.proofs.Once.{append_nil}
 use Rattle.ciborium.proofs.Taking.{takes_then}
 use Rattle.ciborium.proofs.LevelLemmas.{titled_fails}
@@ -98,10 +98,3 @@ leaf_asked_fails ends g h at mid mid' new w w' e a r limit from fs b off s =
     let off' : from + length (b ++ a.bytes) ≡ mid'.offset = omega (arith, off, a.grown, length-append b a.bytes) in
     known_fails ends limit from new.offset b a.bytes mid.left mid'.left e a.taken
     (titled_fails ends limit (opened (g ∷ fs)) h from at mid'.offset new.offset mid'.left (b ++ a.bytes) e off' t (r (limit - length (opened (g ∷ fs)))))
-
--- no title is in hand in an array and a map
-pub listed_in_hand : (f : Frame) → listed f ≡ true → in_hand None f ≡ 0
-listed_in_hand (code.Whole at h) e = let g : false ≡ true = e in cc
-listed_in_hand (code.Items l) e = refl
-listed_in_hand (code.Entries l) e = refl
-listed_in_hand (code.Tag n at h room) e = let g : false ≡ true = e in cc

@@ -9,7 +9,6 @@ use Rattle.ciborium_value.specs.declared.value.Value.TheVariants as value
 use Rattle.ciborium_value.proofs.Views.{view_array, view_map}
 use Rattle.ciborium.specs.Front.{ReadsAll}
 use Rattle.ciborium.proofs.ReaderLemmas.{closed}
-use Rattle.std.specs.Prelude.{IfSome, IfNone, MatchOption}
 use Rattle.ciborium.proofs.Taking.{takes_as}
 use Rattle.ciborium.proofs.Once.{append_nil}
 use Rattle.ciborium.proofs.ChildLemmas.{array_read, map_read, array_due, title_no_break, begun_no_break, not_all}
@@ -32,7 +31,7 @@ use Rattle.ciborium.proofs.ToldLemmas.{told_handed, told_tag, told_array, told_m
 use Rattle.ciborium.specs.Reading.{IsFoldFault, Closes, IsNext, NamesFault, is_full}
 use Rattle.ciborium.proofs.Words.{FitsIn}
 use Rattle.ciborium.proofs.StringLemmas.{title_some}
-use Rattle.ciborium.specs.Frames.{in_hand, snoc, front, halves, halves_of, HasHalf, opened, Stage, IsHandedOver, HandFails, Faults, AskEnds, AskGives, AskFails, IfAsked, InHand, IsFlagged, IsKept, CloseGives}
+use Rattle.ciborium.specs.Frames.{snoc, front, halves, halves_of, HasHalf, opened, Stage, IsHandedOver, HandFails, Faults, AskEnds, AskGives, AskFails, IfAsked, InHand, IsFlagged, IsKept, CloseGives}
 use Rattle.ciborium.proofs.ReadLemmas.{snoc_count, pushed, pushed_pair, count_views, count_flat}
 use Rattle.ciborium.proofs.LevelLemmas.{begins, level_more, level_whole, due_fails, tag_whole, negative_damage, array_more, map_more}
 
@@ -219,30 +218,25 @@ entries_fail ends l old new e full names limit from fs b off (r, (w, told)) =
     due_fails ends limit (opened (code.Entries l ∷ fs)) from old.offset new.offset old.left b TitleDamage e off w
     (λ stop rest f d. (map_is_due l.count l.entries.items l.half rest w.5.fits r.0 full (λ e none. title_no_break stop rest f d), in_title rest _ f d)) names
 
-pub items_part : (l : Items) (n : ℕ) (o : Option (ℕ × Header)) (old new : Seen) (w w' u : Bool) → n ≡ length l.items.items → IfSome o (λ r. Takes old new (λ b. Title b r.1 × IsShortest u b r.1)) → IfSome o (λ r. r.0 ≡ old.offset)
-    → IfSome o (λ r. IsNext l.count n r.1) → MatchOption o (w' ≡ w) (λ r. w' ≡ (w && (u && encoded r.1))) → IfSome o (λ r. Takes old new (AskGives (code.Items l) r.1 r.0 old.offset w w'))
-items_part l n None old new w w' u same t at next flag = tt
-items_part l n (Some r) old new w w' u same t at next flag =
-    takes_as _ _ _ _ (λ b. Title b r.1 × IsShortest u b r.1) (AskGives (code.Items l) r.1 r.0 old.offset w w') t (λ y q. items_give l n r.0 old.offset r.1 y w w' same at next q.0 (u, q.1, flag))
+pub items_asked : (l : Items) (n : ℕ) (h : Header) (old new : Seen) (w w' u : Bool) → n ≡ length l.items.items → Takes old new (λ b. Title b h × IsShortest u b h) → IsNext l.count n h
+    → w' ≡ (w && (u && encoded h)) → Takes old new (AskGives (code.Items l) h old.offset old.offset w w')
+items_asked l n h old new w w' u same t next flag =
+    takes_as _ _ _ _ (λ b. Title b h × IsShortest u b h) (AskGives (code.Items l) h old.offset old.offset w w') t (λ y q. items_give l n old.offset old.offset h y w w' same refl next q.0 (u, q.1, flag))
 
-pub entries_part : (l : Entries) (o : Option (ℕ × Header)) (old new : Seen) (w w' u : Bool) → IfSome o (λ r. Takes old new (λ b. Title b r.1 × IsShortest u b r.1)) → IfSome o (λ r. r.0 ≡ old.offset)
-    → IfSome o (λ r. l.half ≡ false → IsNext l.count (length l.entries.items) r.1) → MatchOption o (w' ≡ w) (λ r. w' ≡ (w && (u && encoded r.1))) → IfSome o (λ r. Takes old new (AskGives (code.Entries l) r.1 r.0 old.offset w w'))
-entries_part l None old new w w' u t at next flag = tt
-entries_part l (Some r) old new w w' u t at next flag =
-    takes_as _ _ _ _ (λ b. Title b r.1 × IsShortest u b r.1) (AskGives (code.Entries l) r.1 r.0 old.offset w w') t (λ y q. entries_give l r.0 old.offset r.1 y w w' at next q.0 (u, q.1, flag))
+pub entries_asked : (l : Entries) (h : Header) (old new : Seen) (w w' u : Bool) → Takes old new (λ b. Title b h × IsShortest u b h) → (l.half ≡ false → IsNext l.count (length l.entries.items) h)
+    → w' ≡ (w && (u && encoded h)) → Takes old new (AskGives (code.Entries l) h old.offset old.offset w w')
+entries_asked l h old new w w' u t next flag =
+    takes_as _ _ _ _ (λ b. Title b h × IsShortest u b h) (AskGives (code.Entries l) h old.offset old.offset w w') t (λ y q. entries_give l old.offset old.offset h y w w' refl next q.0 (u, q.1, flag))
 
-pub items_ends : (l : Items) (n : ℕ) (o : Option (ℕ × Header)) (old new : Seen) → n ≡ length l.items.items → IfNone o (Takes old new (Closes l.count n)) → IfNone o (Takes old new (AskEnds (code.Items l)))
-items_ends l n None old new same t = takes_as _ _ _ _ (Closes l.count n) (AskEnds (code.Items l)) t (λ y c. items_end l n y same c)
-items_ends l n (Some r) old new same t = tt
+pub items_ended : (l : Items) (n : ℕ) (old new : Seen) → n ≡ length l.items.items → Takes old new (Closes l.count n) → Takes old new (AskEnds (code.Items l))
+items_ended l n old new same t = takes_as _ _ _ _ (Closes l.count n) (AskEnds (code.Items l)) t (λ y c. items_end l n y same c)
 
-pub entries_ends : (l : Entries) (o : Option (ℕ × Header)) (old new : Seen) → IfNone o ((l.half ≡ false) × Takes old new (Closes l.count (length l.entries.items))) → IfNone o (Takes old new (AskEnds (code.Entries l)))
-entries_ends l None old new (whole, t) = takes_as _ _ _ _ (Closes l.count (length l.entries.items)) (AskEnds (code.Entries l)) t (λ y c. entries_end l y whole c)
-entries_ends l (Some r) old new t = tt
+pub entries_ended : (l : Entries) (old new : Seen) → (l.half ≡ false) × Takes old new (Closes l.count (length l.entries.items)) → Takes old new (AskEnds (code.Entries l))
+entries_ended l old new (whole, t) = takes_as _ _ _ _ (Closes l.count (length l.entries.items)) (AskEnds (code.Entries l)) t (λ y c. entries_end l y whole c)
 
--- if no part is left the flag stays
-pub part_same : (o : Option (ℕ × Header)) (w w' u : Bool) → MatchOption o (w' ≡ w) (λ r. w' ≡ (w && (u && encoded r.1))) → IfNone o (w' ≡ w)
-part_same None w w' u flag = flag
-part_same (Some r) w w' u flag = tt
+-- a head that was taken moves the place
+pub head_moves : (old new : Seen) (h : Header) (u : Bool) → Takes old new (λ b. Title b h × IsShortest u b h) → old.offset + 1 ≤ new.offset
+head_moves old new h u t = omega (arith, t.grown, title_some t.bytes h t.has.0)
 
 -- a title in hand that is not begun
 in_hand_still : (k w : Bool) (limit : ℕ) (fs : List Level) (h : Header) (at from now : ℕ) (b : List ℕ) → InHand k w limit fs h at from now b → InHand k w limit fs h at from (now + length {A = ℕ} []) (b ++ [])
@@ -255,8 +249,3 @@ tag_gives n room h at now w k limit from fs b (r, i) = (r, in_hand_still k w lim
 
 pub whole_gives : (h : Header) (at now : ℕ) (w : Bool) → AskGives (code.Whole at h) h at now w w []
 whole_gives h at now w k limit from fs b (r, i) = (r, in_hand_still k w limit (opened (code.Whole at h ∷ fs)) h at from now b i)
-
--- a title that was taken moves the place
-pub part_moves : (top : Frame) (o : Option (ℕ × Header)) (old new : Seen) (u : Bool) → IfSome o (λ r. Takes old new (λ b. Title b r.1 × IsShortest u b r.1)) → IfSome o (λ r. old.offset + 1 ≤ new.offset + in_hand None top)
-part_moves top None old new u t = tt
-part_moves top (Some r) old new u t = omega (arith, t.grown, title_some t.bytes r.1 t.has.0)

@@ -8,6 +8,7 @@ pub mod Halting
 pub mod Passing
 pub mod Unread
 pub mod StringLemmas
+pub mod ReadHeads
 pub mod ReadLemmas
 pub mod ReaderLemmas
 pub mod ChildLemmas

@@ -158,13 +158,6 @@ abbrev pub AskFails : {E : Type 0} → (E → Bool) → Frame → Seen → Seen 
 AskFails ends top old new e = (limit from : ℕ) (fs : List Frame) (b : List ℕ) → from + length b ≡ old.offset → Stage false false limit (top ∷ fs) None from old.offset b
     → Faults ends limit from b old.left new.offset e
 
--- the innermost frame is an array or a map
-abbrev pub listed : Frame → Bool
-listed (code.Whole at h) = false
-listed (code.Items l) = true
-listed (code.Entries l) = true
-listed (code.Tag n at h room) = false
-
 -- half an entry is in it if it is a map
 abbrev pub HalfIn : Frame → Type 0
 HalfIn (code.Whole at h) = Unit {0}

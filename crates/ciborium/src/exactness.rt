@@ -1,6 +1,6 @@
 //! Whether the bytes so far are canonical encoding, if that is asked.
 ghost use Rattle.std.specs.Prelude.{◌≡◌, ◌&&◌, Some};
-ghost use Rattle.ciborium_ll.specs.Views.{shortest_of};
+ghost use Rattle.ciborium_ll.specs.Views.{shortest_of, last_head};
 ghost use Rattle.ciborium_value.specs.Folding.{tagged};
 ghost use Rattle.ciborium_value.specs.Tree.{Tree};
 ghost use Rattle.ciborium_value.specs.View.{view};
@@ -26,6 +26,16 @@ impl Exactness {
     {
         if self.holds {
             self.holds = is_shortest(decoder, header);
+        }
+    }
+
+    /// Takes in the head that was read.
+    pub fn head<R: Read>(&mut self, decoder: &Decoder<R>)
+        ensures { self.new.holds
+            ≡ (self.old.holds && (shortest_of decoder.now && encoded (last_head decoder.now))) }
+    {
+        if self.holds {
+            self.holds = is_shortest(decoder, decoder.head());
         }
     }
 

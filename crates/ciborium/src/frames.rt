@@ -2,14 +2,16 @@
 ghost use Rattle.std.specs.Prelude.{◌≡◌, ◌≢◌, ◌<◌, ◌≤◌, ◌+◌, ◌*◌, ◌∷◌, ◌++◌, ℕ, Bool, true};
 ghost use Rattle.std.specs.Prelude.{false, List, [], None, Some, reverse, length};
 ghost use Rattle.std.specs.Prelude.{IfOk, IfErr, OnOk, OnErr, IfSome, IfNone};
-ghost use Rattle.std.specs.Prelude.{MatchOption, MatchBool, ◌&&◌};
+ghost use Rattle.std.specs.Prelude.{MatchOption, MatchBool, IsTrue, IsFalse};
 ghost use Rattle.ciborium_ll.specs.Seen.{Takes};
 ghost use Rattle.ciborium_ll.specs.Title.{Title, IsShortest};
-ghost use Rattle.ciborium_ll.specs.Views.{offset_of, waiting_of, seen, shortest_of};
+ghost use Rattle.ciborium_ll.specs.Views.{offset_of, waiting_of, seen, shortest_of, last_head};
 ghost use Rattle.ciborium_value.specs.View.{view};
 ghost use Rattle.ciborium.specs.declared.de.Error.TheVariants.{Memory};
+ghost use Rattle.ciborium.specs.declared.frames.Frame.TheVariants as code;
 ghost use Rattle.ciborium.specs.Damage.{Damage, TitleDamage};
-ghost use Rattle.ciborium.specs.Reading.{Steady, TakesSome, NamesFault, NamesFaultAfterTitle, Closes};
+ghost use Rattle.ciborium.specs.Reading.{Steady, TakesSome, NamesFault, NamesFaultAfterTitle};
+ghost use Rattle.ciborium.specs.Reading.{Closes};
 ghost use Rattle.ciborium_value.specs.Folding.{tagged};
 ghost use Rattle.ciborium.specs.Reading.{IsNext, is_full, fault_failures, IsFoldFault, IsLeaf};
 ghost use Rattle.ciborium.specs.Reading.{IsNotLong, ReadsAfterTitle};
@@ -19,16 +21,16 @@ ghost use Rattle.ciborium.specs.Frames.{IsHandedOver};
 ghost use Rattle.ciborium.specs.Exact.{encoded};
 ghost use Rattle.ciborium.specs.Frames.{IsKept, CloseGives, ReadExact, HandFails, AskEnds};
 ghost use Rattle.ciborium.specs.Frames.{AskGives, AskFails, Opening, BeginsItem, BeginFails};
-ghost use Rattle.ciborium.specs.Frames.{Holds, in_hand, rank, room_of, Falls, listed, HalfIn};
+ghost use Rattle.ciborium.specs.Frames.{Holds, in_hand, rank, room_of, Falls, HalfIn};
 ghost use Rattle.ciborium.specs.Frames.{LeafPut, FillEnds, FillGives, FillHolds};
 
 use crate::de::Error;
 use crate::exactness::Exactness;
 use crate::reader::{
-    ROOM, folded, is_leaf, is_low, length_of, next_part, read_leaf, reserved, room_left,
-    tagged_title,
+    ROOM, folded, is_leaf, is_leaf_head, is_low, length_of, next_part, read_leaf, reserved,
+    room_left, tagged_title,
 };
-use crate::strings::{next_title, read_string, read_text};
+use crate::strings::{next_head, read_string, read_text};
 use crate::value::{Integer, Value};
 use ciborium_ll::{Decoder, Header, Read};
 use std::alloc::Global;
@@ -175,21 +177,18 @@ fn close(below: &mut Vec<Frame>, top: &mut Frame) -> Value
     }
 }
 
-/// The title of the next key, or of the value that is due.
-fn next_half<R: Read>(
-    decoder: &mut Decoder<R>,
-    list: &Entries,
-) -> Result<Option<(usize, Header)>, Error<R::Error>>
+/// Takes the next key's head, or that of the value that is due; there is none if the map is whole.
+fn next_half<R: Read>(decoder: &mut Decoder<R>, list: &Entries) -> Result<bool, Error<R::Error>>
     requires fresh { waiting_of decoder.old ≡ None }
-    ensures none { IfOk result (λ o. IfNone o ((list.now.half ≡ false)
+    ensures none { IfOk result (λ more. IsFalse more → (list.now.half ≡ false)
         × Takes (seen R.Read decoder.old) (seen R.Read decoder.new)
-        (Closes list.now.count (length list.now.entries.items)))) }
-    ensures some { IfOk result (λ o. IfSome o (λ r.
-        Takes (seen R.Read decoder.old) (seen R.Read decoder.new)
-        (λ b. Title b r.1 × IsShortest (shortest_of decoder.new) b r.1))) }
-    ensures at { IfOk result (λ o. IfSome o (λ r. r.0 ≡ offset_of decoder.old)) }
-    ensures next { IfOk result (λ o. IfSome o (λ r. list.now.half ≡ false
-        → IsNext list.now.count (length list.now.entries.items) r.1)) }
+        (Closes list.now.count (length list.now.entries.items))) }
+    ensures some { IfOk result (λ more. IsTrue more
+        → Takes (seen R.Read decoder.old) (seen R.Read decoder.new)
+        (λ b. Title b (last_head decoder.new)
+        × IsShortest (shortest_of decoder.new) b (last_head decoder.new))) }
+    ensures next { list.now.half ≡ false → IfOk result (λ more. IsTrue more
+        → IsNext list.now.count (length list.now.entries.items) (last_head decoder.new)) }
     ensures err { IfErr result (NamesFault R.ends TitleDamage
         (seen R.Read decoder.old) (seen R.Read decoder.new)) }
     ensures due { OnErr result (list.now.half ≡ false
@@ -199,20 +198,10 @@ fn next_half<R: Read>(
     ensures steady { Steady R.ends result (seen R.Read decoder.old) (seen R.Read decoder.new) }
 {
     if list.half {
-        let title = next_title(decoder)?;
-        return Ok(Some(title));
+        next_head(decoder)?;
+        return Ok(true);
     }
     next_part(decoder, list.count, list.entries.len())
-}
-
-/// Takes in the title that was read, if there was one.
-fn take_title<R: Read>(decoder: &Decoder<R>, part: Option<(usize, Header)>, exact: &mut Exactness)
-    ensures { MatchOption part (exact.new.holds ≡ exact.old.holds)
-        (λ r. exact.new.holds ≡ (exact.old.holds && (shortest_of decoder.now && encoded r.1))) }
-{
-    if let Some((_, header)) = part {
-        exact.title(decoder, header);
-    }
 }
 
 /// The value of a tag over its content. If the fold changes a byte string, its bytes were not
@@ -234,112 +223,69 @@ fn tag_value<E>(
     Ok(whole)
 }
 
-/// The next title in the innermost level; none if it is whole.
-fn ask<R: Read>(
-    decoder: &mut Decoder<R>,
-    top: &Frame,
-    exact: &mut Exactness,
-) -> Result<Option<(usize, Header)>, Error<R::Error>>
-    requires fresh { waiting_of decoder.old ≡ None }
-    ensures none { IfOk result (λ o. IfNone o
-        (Takes (seen R.Read decoder.old) (seen R.Read decoder.new) (AskEnds top.now))) }
-    ensures some { IfOk result (λ o. IfSome o (λ r.
-        Takes (seen R.Read decoder.old) (seen R.Read decoder.new)
-        (AskGives top.now r.1 r.0 (offset_of decoder.old)
-        exact.old.holds exact.new.holds))) }
-    ensures same { IfOk result (λ o. IfNone o (exact.new.holds ≡ exact.old.holds)) }
-    ensures moved { IfOk result (λ o. IfSome o (λ _.
-        offset_of decoder.old + 1 ≤ offset_of decoder.new + in_hand None top.now)) }
-    ensures err { IfErr result (AskFails R.ends top.now
-        (seen R.Read decoder.old) (seen R.Read decoder.new)) }
-    ensures stops { IfErr result (TakesSome (seen R.Read decoder.old) (seen R.Read decoder.new)) }
-    ensures memory { IfErr result IsNoMemory }
-    ensures steady { Steady R.ends result (seen R.Read decoder.old) (seen R.Read decoder.new) }
-{
-    match top {
-        Frame::Whole(at, header) => Ok(Some((*at, *header))),
-        Frame::Items(list) => {
-            let part = next_part(decoder, list.count, list.items.len())?;
-            take_title(decoder, part, exact);
-            Ok(part)
-        }
-        Frame::Entries(list) => {
-            let part = next_half(decoder, list)?;
-            take_title(decoder, part, exact);
-            Ok(part)
-        }
-        Frame::Tag(_, at, header, _) => Ok(Some((*at, *header))),
-    }
-}
-
-/// Whether the item of a title can be read into the level: an array or a map, and no items follow
-/// in it.
-fn takes(top: &Frame, header: Header) -> bool
-    ensures { MatchBool result ((listed top.now ≡ true) × IsLeaf header) (Unit {0}) }
-{
-    match top {
-        Frame::Items(_) => is_leaf(header),
-        Frame::Entries(_) => is_leaf(header),
-        Frame::Whole(_, _) => false,
-        Frame::Tag(_, _, _, _) => false,
-    }
-}
-
 /// Reads the item after a title, in which no items follow, into an array.
 fn push_leaf<R: Read>(
     alloc: Global,
     decoder: &mut Decoder<R>,
     list: &mut Items,
-    header: Header,
     at: usize,
 ) -> Result<(), Error<R::Error>>
     requires fresh { waiting_of decoder.old ≡ None }
-    requires leaf { IsLeaf header }
+    requires leaf { IsLeaf (last_head decoder.old) }
     ensures ok { OnOk result ((v : Value)
         × Takes (seen R.Read decoder.old) (seen R.Read decoder.new)
-        (λ b. (limit : ℕ) → ReadsAfterTitle header limit (view v) b)
+        (λ b. (limit : ℕ) → ReadsAfterTitle (last_head decoder.old) limit (view v) b)
         × (list.new.items.items ≡ list.old.items.items ++ v ∷ [])) }
     ensures count { list.new.count ≡ list.old.count }
     ensures err { IfErr result (λ e. (limit : ℕ)
-        → NamesFaultAfterTitle R.ends header at (λ stop b f. Damage stop b limit f)
+        → NamesFaultAfterTitle R.ends (last_head decoder.old) at (λ stop b f. Damage stop b limit f)
         (seen R.Read decoder.old) (seen R.Read decoder.new) e) }
-    ensures leaves { Leaves R.ends (OneAfterTitle header) result
+    ensures leaves { Leaves R.ends (OneAfterTitle (last_head decoder.old)) result
         (seen R.Read decoder.old) (seen R.Read decoder.new) }
 {
-    match header {
-        Header::Positive(n) => {
-            let Ok(()) = list.items.push(Value::Integer(Integer::from(n))) else {
+    match decoder.major() {
+        0 => {
+            let Ok(()) = list
+                .items
+                .push(Value::Integer(Integer::from(decoder.head_number())))
+            else {
                 return Err(Error::Memory);
             };
             Ok(())
         }
-        Header::Negative(n) => {
-            let Ok(()) = list.items.push(Value::Integer(Integer::negative(n))) else {
+        1 => {
+            let Ok(()) = list
+                .items
+                .push(Value::Integer(Integer::negative(decoder.head_number())))
+            else {
                 return Err(Error::Memory);
             };
             Ok(())
         }
-        Header::Bytes(length) => {
+        2 => {
+            let length = decoder.head_length();
             let bytes = read_string(alloc, decoder, false, length, at)?;
             let Ok(()) = list.items.push(Value::Bytes(bytes)) else {
                 return Err(Error::Memory);
             };
             Ok(())
         }
-        Header::Text(length) => {
+        3 => {
+            let length = decoder.head_length();
             let text = read_text(alloc, decoder, length, at)?;
             let Ok(()) = list.items.push(Value::Text(text)) else {
                 return Err(Error::Memory);
             };
             Ok(())
         }
-        Header::Float(f) => {
-            let Ok(()) = list.items.push(Value::Float(f)) else {
-                return Err(Error::Memory);
-            };
-            Ok(())
-        }
         _ => {
+            let header = decoder.head();
+            if let Header::Float(f) = header {
+                let Ok(()) = list.items.push(Value::Float(f)) else {
+                    return Err(Error::Memory);
+                };
+                return Ok(());
+            }
             let leaf = read_leaf(alloc, decoder, header, at)?;
             let Ok(()) = list.items.push(leaf) else {
                 return Err(Error::Memory);
@@ -354,45 +300,52 @@ fn put_half_leaf<R: Read>(
     alloc: Global,
     decoder: &mut Decoder<R>,
     list: &mut Entries,
-    header: Header,
     at: usize,
 ) -> Result<(), Error<R::Error>>
     requires fresh { waiting_of decoder.old ≡ None }
-    requires leaf { IsLeaf header }
+    requires leaf { IsLeaf (last_head decoder.old) }
     requires half { HasHalf list.old }
     ensures ok { OnOk result ((v : Value)
         × Takes (seen R.Read decoder.old) (seen R.Read decoder.new)
-        (λ b. (limit : ℕ) → ReadsAfterTitle header limit (view v) b)
+        (λ b. (limit : ℕ) → ReadsAfterTitle (last_head decoder.old) limit (view v) b)
         × (halves_of list.new ≡ snoc (halves_of list.old) (view v))) }
     ensures count { list.new.count ≡ list.old.count }
     ensures half { OnOk result (HasHalf list.new) }
     ensures err { IfErr result (λ e. (limit : ℕ)
-        → NamesFaultAfterTitle R.ends header at (λ stop b f. Damage stop b limit f)
+        → NamesFaultAfterTitle R.ends (last_head decoder.old) at (λ stop b f. Damage stop b limit f)
         (seen R.Read decoder.old) (seen R.Read decoder.new) e) }
-    ensures leaves { Leaves R.ends (OneAfterTitle header) result
+    ensures leaves { Leaves R.ends (OneAfterTitle (last_head decoder.old)) result
         (seen R.Read decoder.old) (seen R.Read decoder.new) }
 {
-    match header {
-        Header::Positive(n) => {
-            let Ok(()) = put_half::<R::Error>(list, Value::Integer(Integer::from(n))) else {
+    match decoder.major() {
+        0 => {
+            let Ok(()) = put_half::<R::Error>(
+                list,
+                Value::Integer(Integer::from(decoder.head_number())),
+            ) else {
                 return Err(Error::Memory);
             };
             Ok(())
         }
-        Header::Negative(n) => {
-            let Ok(()) = put_half::<R::Error>(list, Value::Integer(Integer::negative(n))) else {
+        1 => {
+            let Ok(()) = put_half::<R::Error>(
+                list,
+                Value::Integer(Integer::negative(decoder.head_number())),
+            ) else {
                 return Err(Error::Memory);
             };
             Ok(())
         }
-        Header::Bytes(length) => {
+        2 => {
+            let length = decoder.head_length();
             let bytes = read_string(alloc, decoder, false, length, at)?;
             let Ok(()) = put_half::<R::Error>(list, Value::Bytes(bytes)) else {
                 return Err(Error::Memory);
             };
             Ok(())
         }
-        Header::Text(length) => {
+        3 => {
+            let length = decoder.head_length();
             let text = read_text(alloc, decoder, length, at)?;
             let Ok(()) = put_half::<R::Error>(list, Value::Text(text)) else {
                 return Err(Error::Memory);
@@ -400,6 +353,7 @@ fn put_half_leaf<R: Read>(
             Ok(())
         }
         _ => {
+            let header = decoder.head();
             let leaf = read_leaf(alloc, decoder, header, at)?;
             let Ok(()) = put_half::<R::Error>(list, leaf) else {
                 return Err(Error::Memory);
@@ -409,39 +363,80 @@ fn put_half_leaf<R: Read>(
     }
 }
 
-/// Reads the item after a title, in which no items follow, into an array or a map.
-fn put_leaf<R: Read>(
+/// Reads items into an array as long as no items follow in them. The title of the item after them;
+/// none if it is whole.
+fn fill_items<R: Read>(
     alloc: Global,
     decoder: &mut Decoder<R>,
-    top: &mut Frame,
-    header: Header,
-    at: usize,
-) -> Result<(), Error<R::Error>>
+    list: &mut Items,
+    exact: &mut Exactness,
+) -> Result<Option<(usize, Header)>, Error<R::Error>>
     requires fresh { waiting_of decoder.old ≡ None }
-    requires leaf { IsLeaf header }
-    requires list { listed top.old ≡ true }
-    requires half { HalfIn top.old }
-    ensures ok { OnOk result (LeafPut header top.old top.new
+    ensures none { IfOk result (λ o. IfNone o
+        (Takes (seen R.Read decoder.old) (seen R.Read decoder.new)
+        (FillEnds (code.Items list.old) (code.Items list.new) (offset_of decoder.old)
+        exact.old.holds exact.new.holds))) }
+    ensures some { IfOk result (λ o. IfSome o (λ r.
+        Takes (seen R.Read decoder.old) (seen R.Read decoder.new)
+        (FillGives (code.Items list.old) (code.Items list.new) r.1 r.0 (offset_of decoder.old)
+        exact.old.holds exact.new.holds))) }
+    ensures moved { IfOk result (λ o. IfSome o (λ _.
+        offset_of decoder.old + 1 ≤ offset_of decoder.new)) }
+    ensures err { IfErr result (AskFails R.ends (code.Items list.old)
         (seen R.Read decoder.old) (seen R.Read decoder.new)) }
-    ensures half { OnOk result (HalfIn top.new) }
-    ensures same { OnOk result (in_hand None top.new ≡ in_hand None top.old) }
-    ensures err { IfErr result (λ e. (limit : ℕ)
-        → NamesFaultAfterTitle R.ends header at (λ stop b f. Damage stop b limit f)
-        (seen R.Read decoder.old) (seen R.Read decoder.new) e) }
-    ensures leaves { Leaves R.ends (OneAfterTitle header) result
+    ensures leaves { Leaves R.ends (FillHolds (code.Items list.old) (offset_of decoder.old)) result
         (seen R.Read decoder.old) (seen R.Read decoder.new) }
 {
-    match top {
-        Frame::Items(list) => {
-            push_leaf(alloc, decoder, list, header, at)?;
-            Ok(())
+    'parts: loop {
+        let at = decoder.offset();
+        let more = next_part(decoder, list.count, list.items.len())?;
+        if !more {
+            return Ok(None);
         }
-        Frame::Entries(list) => {
-            put_half_leaf(alloc, decoder, list, header, at)?;
-            Ok(())
+        exact.head(decoder);
+        if !is_leaf_head(decoder) {
+            return Ok(Some((at, decoder.head())));
         }
-        Frame::Whole(_, _) => unreachable!(),
-        Frame::Tag(_, _, _, _) => unreachable!(),
+        push_leaf(alloc, decoder, list, at)?;
+    }
+}
+
+/// Reads items into a map as long as no items follow in them. The title of the item after them;
+/// none if it is whole.
+fn fill_entries<R: Read>(
+    alloc: Global,
+    decoder: &mut Decoder<R>,
+    list: &mut Entries,
+    exact: &mut Exactness,
+) -> Result<Option<(usize, Header)>, Error<R::Error>>
+    requires fresh { waiting_of decoder.old ≡ None }
+    requires half { HasHalf list.old }
+    ensures none { IfOk result (λ o. IfNone o
+        (Takes (seen R.Read decoder.old) (seen R.Read decoder.new)
+        (FillEnds (code.Entries list.old) (code.Entries list.new) (offset_of decoder.old)
+        exact.old.holds exact.new.holds))) }
+    ensures some { IfOk result (λ o. IfSome o (λ r.
+        Takes (seen R.Read decoder.old) (seen R.Read decoder.new)
+        (FillGives (code.Entries list.old) (code.Entries list.new) r.1 r.0 (offset_of decoder.old)
+        exact.old.holds exact.new.holds))) }
+    ensures moved { IfOk result (λ o. IfSome o (λ _.
+        offset_of decoder.old + 1 ≤ offset_of decoder.new)) }
+    ensures err { IfErr result (AskFails R.ends (code.Entries list.old)
+        (seen R.Read decoder.old) (seen R.Read decoder.new)) }
+    ensures leaves { Leaves R.ends (FillHolds (code.Entries list.old) (offset_of decoder.old)) result
+        (seen R.Read decoder.old) (seen R.Read decoder.new) }
+{
+    'parts: loop {
+        let at = decoder.offset();
+        let more = next_half(decoder, list)?;
+        if !more {
+            return Ok(None);
+        }
+        exact.head(decoder);
+        if !is_leaf_head(decoder) {
+            return Ok(Some((at, decoder.head())));
+        }
+        put_half_leaf(alloc, decoder, list, at)?;
     }
 }
 
@@ -470,17 +465,11 @@ fn fill<R: Read>(
     ensures leaves { Leaves R.ends (FillHolds top.old (offset_of decoder.old)) result
         (seen R.Read decoder.old) (seen R.Read decoder.new) }
 {
-    'parts: loop {
-        let part = ask(decoder, top, exact)?;
-        match part {
-            None => return Ok(None),
-            Some((at, header)) => {
-                if !takes(top, header) {
-                    return Ok(Some((at, header)));
-                }
-                put_leaf(alloc, decoder, top, header, at)?;
-            }
-        }
+    match top {
+        Frame::Whole(at, header) => Ok(Some((*at, *header))),
+        Frame::Items(list) => fill_items(alloc, decoder, list, exact),
+        Frame::Entries(list) => fill_entries(alloc, decoder, list, exact),
+        Frame::Tag(_, at, header, _) => Ok(Some((*at, *header))),
     }
 }
 
@@ -533,8 +522,8 @@ fn opening<R: Read>(
     ensures ok { IfOk result (λ o. Takes (seen R.Read decoder.old) (seen R.Read decoder.new)
         (Opening header at (offset_of decoder.old) left exact.old.holds exact.new.holds o)) }
     ensures room { IfOk result (Holds (room_of top.now)) }
-    ensures err { IfErr result (NamesFaultAfterTitle R.ends header at (λ stop b f. Damage stop b left f)
-        (seen R.Read decoder.old) (seen R.Read decoder.new)) }
+    ensures err { IfErr result (NamesFaultAfterTitle R.ends header at
+        (λ stop b f. Damage stop b left f) (seen R.Read decoder.old) (seen R.Read decoder.new)) }
     ensures leaves { Leaves R.ends (OneAfterTitle header) result
         (seen R.Read decoder.old) (seen R.Read decoder.new) }
 {

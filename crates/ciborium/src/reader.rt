@@ -1,10 +1,10 @@
 //! Reads values.
 ghost use Rattle.std.specs.Prelude.{◌≡◌, ◌≢◌, ◌⊎◌, ℕ, List, None, Some};
 ghost use Rattle.std.specs.Prelude.{Option, true, false, length, min, ◌-◌, ◌*◌, ◌&&◌};
-ghost use Rattle.std.specs.Prelude.{IfOk, IfErr, OnErr, IfSome, IfNone, MatchOption, MatchBool};
+ghost use Rattle.std.specs.Prelude.{IfOk, IfErr, OnErr, IsTrue, IsFalse, MatchOption, MatchBool};
 ghost use Rattle.ciborium_ll.specs.Seen.{Takes};
 ghost use Rattle.ciborium_ll.specs.Title.{Title, IsShortest};
-ghost use Rattle.ciborium_ll.specs.Views.{offset_of, waiting_of, seen, shortest_of};
+ghost use Rattle.ciborium_ll.specs.Views.{offset_of, waiting_of, seen, shortest_of, last_head};
 ghost use Rattle.ciborium_ll.specs.declared.hdr.Header.TheVariants.{Bytes, Break};
 ghost use Rattle.ciborium_value.specs.Folding.{tagged};
 ghost use Rattle.ciborium_value.specs.Tree.{bytes, tag};
@@ -19,7 +19,7 @@ ghost use Rattle.ciborium.specs.Reading.{IsNext, OpensOver, IsFoldFault};
 ghost use Rattle.ciborium.specs.Reading.{IsNoMemory, Leaves, OneAfterTitle};
 
 use crate::de::Error;
-use crate::strings::{next_title, read_string, read_text};
+use crate::strings::{next_head, next_title, read_string, read_text};
 use crate::value::{Integer, Kind, Value};
 use ciborium_ll::{Decoder, Header, Read, simple, tag};
 use ciborium_value::fold_tag;
@@ -153,28 +153,29 @@ fn all_read(count: Option<usize>, done: usize) -> bool
     }
 }
 
-/// Whether the header closes an open array or map.
-fn closes(count: Option<usize>, header: Header) -> bool
-    ensures { MatchBool result ((count ≡ None) × (header ≡ Break)) (count ≡ None → header ≢ Break) }
+/// Whether the head that was read closes an open array or map.
+fn closes<R: Read>(decoder: &Decoder<R>, count: Option<usize>) -> bool
+    ensures { MatchBool result ((count ≡ None) × (last_head decoder.now ≡ Break))
+        (count ≡ None → last_head decoder.now ≢ Break) }
 {
-    count.is_none() && header.is_break()
+    count.is_none() && decoder.head().is_break()
 }
 
-/// The next title in an array or a map whose head has that length, and its place; none if all parts
+/// Takes the next head in an array or a map whose head has that length; there is none if all parts
 /// were read.
 pub fn next_part<R: Read>(
     decoder: &mut Decoder<R>,
     count: Option<usize>,
     done: usize,
-) -> Result<Option<(usize, Header)>, Error<R::Error>>
+) -> Result<bool, Error<R::Error>>
     requires fresh { waiting_of decoder.old ≡ None }
-    ensures none { IfOk result (λ o. IfNone o
-        (Takes (seen R.Read decoder.old) (seen R.Read decoder.new) (Closes count done))) }
-    ensures some { IfOk result (λ o. IfSome o (λ r.
-        Takes (seen R.Read decoder.old) (seen R.Read decoder.new)
-        (λ b. Title b r.1 × IsShortest (shortest_of decoder.new) b r.1))) }
-    ensures at { IfOk result (λ o. IfSome o (λ r. r.0 ≡ offset_of decoder.old)) }
-    ensures next { IfOk result (λ o. IfSome o (λ r. IsNext count done r.1)) }
+    ensures none { IfOk result (λ more. IsFalse more
+        → Takes (seen R.Read decoder.old) (seen R.Read decoder.new) (Closes count done)) }
+    ensures some { IfOk result (λ more. IsTrue more
+        → Takes (seen R.Read decoder.old) (seen R.Read decoder.new)
+        (λ b. Title b (last_head decoder.new)
+        × IsShortest (shortest_of decoder.new) b (last_head decoder.new))) }
+    ensures next { IfOk result (λ more. IsTrue more → IsNext count done (last_head decoder.new)) }
     ensures err { IfErr result (NamesFault R.ends TitleDamage
         (seen R.Read decoder.old) (seen R.Read decoder.new)) }
     ensures due { OnErr result (is_full count done ≡ false) }
@@ -183,13 +184,10 @@ pub fn next_part<R: Read>(
     ensures steady { Steady R.ends result (seen R.Read decoder.old) (seen R.Read decoder.new) }
 {
     if all_read(count, done) {
-        return Ok(None);
+        return Ok(false);
     }
-    let (at, header) = next_title(decoder)?;
-    if closes(count, header) {
-        return Ok(None);
-    }
-    Ok(Some((at, header)))
+    next_head(decoder)?;
+    Ok(!closes(decoder, count))
 }
 
 /// How many parts space is reserved for, of those that a head claims.
@@ -247,6 +245,13 @@ pub fn is_low(left: usize, tag: u64, header: Header) -> bool
         return left > 0;
     }
     true
+}
+
+/// Whether no items follow in the item of the head that was read.
+pub fn is_leaf_head<R: Read>(decoder: &Decoder<R>) -> bool
+    ensures { MatchBool result (IsLeaf (last_head decoder.now)) (IsLeaf (last_head decoder.now) → ⊥) }
+{
+    !matches!(decoder.major(), 4 | 5 | 6)
 }
 
 /// Whether no items follow in the item of a title.

@@ -11,7 +11,7 @@ ghost use Rattle.ciborium_ll.specs.declared.hdr.Header.{Header};
 ghost use Rattle.ciborium_ll.specs.declared.hdr.Header.TheVariants.{Text};
 ghost use Rattle.ciborium_ll.specs.Seen.{Takes};
 ghost use Rattle.ciborium_ll.specs.Views.{left_of, offset_of, waiting_of};
-ghost use Rattle.ciborium_ll.specs.Views.{reader_of, seen, shortest_of};
+ghost use Rattle.ciborium_ll.specs.Views.{reader_of, seen, shortest_of, last_head};
 ghost use Rattle.ciborium.specs.Damage.{TitleDamage, ChunkDamage, StringDamage};
 ghost use Rattle.ciborium.specs.Held.{IsEarned, IsEarnedSince, IsFitting, UnlessMemory};
 ghost use Rattle.ciborium.specs.Reading.{NamesFault, NamesFaultAfterTitle, NamesShort};
@@ -48,6 +48,25 @@ pub fn next_title<R: Read>(decoder: &mut Decoder<R>) -> Result<(usize, Header), 
     let at = decoder.offset();
     let header = decoder.pull()?;
     Ok((at, header))
+}
+
+/// Takes the next head, and leaves what it says in the decoder.
+pub fn next_head<R: Read>(decoder: &mut Decoder<R>) -> Result<(), Error<R::Error>>
+    requires fresh { waiting_of decoder.old ≡ None }
+    ensures ok { OnOk result (Takes (seen R.Read decoder.old) (seen R.Read decoder.new)
+        (λ b. Title b (last_head decoder.new)
+        × IsShortest (shortest_of decoder.new) b (last_head decoder.new))) }
+    ensures memory { IfErr result IsNoMemory }
+    ensures err { IfErr result (NamesFault R.ends TitleDamage
+        (seen R.Read decoder.old) (seen R.Read decoder.new)) }
+    ensures stops { IfErr result (TakesSome (seen R.Read decoder.old) (seen R.Read decoder.new)) }
+    ensures steady { Steady R.ends result (seen R.Read decoder.old) (seen R.Read decoder.new) }
+{
+    if decoder.take_head() {
+        return Ok(());
+    }
+    decoder.pull_head()?;
+    Ok(())
 }
 
 /// So many bytes are asked for at a time.
@@ -374,8 +393,8 @@ pub fn read_text<R: Read>(
     ensures ok { IfOk result (λ v. Takes (seen R.Read decoder.old) (seen R.Read decoder.new)
         (λ b. StringAfterHead true length (string_bytes v) b)) }
     ensures held { IfOk result (λ v. IsFitting length (string_bytes v) (string_capacity v)) }
-    ensures err { IfErr result (NamesFaultAfterTitle R.ends (Text length) at (StringDamage Text IsUtf8)
-        (seen R.Read decoder.old) (seen R.Read decoder.new)) }
+    ensures err { IfErr result (NamesFaultAfterTitle R.ends (Text length) at
+        (StringDamage Text IsUtf8) (seen R.Read decoder.old) (seen R.Read decoder.new)) }
     ensures leaves { Leaves R.ends (OneAfterTitle (Text length)) result
         (seen R.Read decoder.old) (seen R.Read decoder.new) }
 {
@@ -420,8 +439,8 @@ fn read_cut_text<R: Read>(
     ensures ok { IfOk result (λ v. Takes (seen R.Read decoder.old) (seen R.Read decoder.new)
         (λ b. StringAfterHead true None (string_bytes v) b)) }
     ensures held { IfOk result (λ v. IsEarned (length (string_bytes v)) (string_capacity v)) }
-    ensures err { IfErr result (NamesFaultAfterTitle R.ends (Text None) at (StringDamage Text IsUtf8)
-        (seen R.Read decoder.old) (seen R.Read decoder.new)) }
+    ensures err { IfErr result (NamesFaultAfterTitle R.ends (Text None) at
+        (StringDamage Text IsUtf8) (seen R.Read decoder.old) (seen R.Read decoder.new)) }
     ensures leaves { Leaves R.ends (OneAfterTitle (Text None)) result
         (seen R.Read decoder.old) (seen R.Read decoder.new) }
 {

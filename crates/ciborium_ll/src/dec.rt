@@ -9,7 +9,8 @@ ghost use Rattle.ciborium_ll.specs.Device.{IsShort, Drops};
 ghost use Rattle.ciborium_ll.specs.declared.hdr.Header.{Header};
 ghost use Rattle.ciborium_ll.specs.declared.hdr.Error.TheVariants.{TooLong, Waiting};
 ghost use Rattle.ciborium_ll.specs.Title.{Title, NumberAt, title_of, first_byte, bytes_after};
-ghost use Rattle.ciborium_ll.specs.Title.{IsBadFirst, IsShortest, needs_width};
+ghost use Rattle.ciborium_ll.specs.Title.{IsBadFirst, IsShortest, needs_width, header_by};
+ghost use Rattle.ciborium_ll.specs.Title.{last_kind};
 ghost use Rattle.ciborium_ll.specs.Reading.{Tells, RawFault, IfRefused, waiting_title, place};
 
 use crate::hdr::{Error, Float, Header};
@@ -53,7 +54,8 @@ impl<R> From<R> for Decoder<R> {
 impl<R: Read> Decoder<R> {
     ghost use Rattle.ciborium_ll.specs.Seen.{Takes, Steady, TitleTells, TitleStops, ReadTells};
     ghost use Rattle.ciborium_ll.specs.Views.{left_of, offset_of, waiting_of, shortest_of};
-    ghost use Rattle.ciborium_ll.specs.Views.{reader_of, seen, raw};
+    ghost use Rattle.ciborium_ll.specs.Views.{reader_of, seen, raw, last_head, last_major};
+    ghost use Rattle.ciborium_ll.specs.Views.{last_number, last_length};
 
     fn fill(&mut self, data: &mut [u8]) -> Result<(), Error<R::Error>>
         requires { self.old.waiting ≡ None }
@@ -151,7 +153,88 @@ impl<R: Read> Decoder<R> {
             header_fits(header);
             return Ok(header);
         }
-        self.pull_title()
+        self.pull_head()?;
+        Ok(self.head())
+    }
+
+    /// Takes the next head as `pull` does, while no header waits, and leaves what it says to be
+    /// asked: by `head`, or by `major`, `head_number` and `head_length`.
+    ///
+    /// # Errors
+    /// Those of `pull`.
+    pub fn pull_head(&mut self) -> Result<(), Error<R::Error>>
+        requires fresh { waiting_of self.old ≡ None }
+        ensures ok { OnOk result (Takes (seen R.Read self.old) (seen R.Read self.new)
+            (λ b. Title b (last_head self.new)
+            × IsShortest (shortest_of self.new) b (last_head self.new))) }
+        ensures fault { IfErr result (TitleTells R.ends (seen R.Read self.old)
+            (seen R.Read self.new)) }
+        ensures stops { IfErr result (TitleStops (seen R.Read self.old) (seen R.Read self.new)) }
+        ensures grows { offset_of self.old ≤ offset_of self.new }
+        ensures fits { offset_of self.new < 2 ^ 64 }
+        ensures steady { Steady R.ends result (seen R.Read self.old) (seen R.Read self.new) }
+        ensures fresh { waiting_of self.new ≡ None }
+    {
+        if self.take_head() {
+            return Ok(());
+        }
+        self.read_head()
+    }
+
+    /// Takes the next head, if nine bytes are at hand and it has a number, and says whether it did.
+    /// After `false` nothing has changed, and `pull_head` still takes it.
+    pub fn take_head(&mut self) -> bool
+        requires fresh { waiting_of self.old ≡ None }
+        ensures taken { IsTrue result → Takes (seen R.Read self.old) (seen R.Read self.new)
+            (λ b. Title b (last_head self.new)
+            × IsShortest (shortest_of self.new) b (last_head self.new)) }
+        ensures none { IsFalse result → self.new ≡ self.old }
+        ensures fits { offset_of self.new < 2 ^ 64 }
+        ensures failed { R.failed (reader_of self.new) ≡ R.failed (reader_of self.old) }
+        ensures handle { R.handle (reader_of self.new) ≡ R.handle (reader_of self.old) }
+        ensures fresh { waiting_of self.new ≡ None }
+    {
+        self.take_held()
+    }
+
+    /// The major type of the head that was read last (RFC 8949, section 3.1).
+    pub fn major(&self) -> u8
+        ensures { result ≡ last_major self.now }
+    {
+        self.first / 32
+    }
+
+    /// The number of the head that was read last, if it has one.
+    pub fn head_number(&self) -> u64
+        ensures { result ≡ last_number self.now }
+    {
+        self.number
+    }
+
+    /// The length that the head that was read last says, if it says one; none if that is open.
+    pub fn head_length(&self) -> Option<usize>
+        ensures { result ≡ last_length self.now }
+    {
+        if self.first % 32 == 31 {
+            return None;
+        }
+        Some(self.number as usize)
+    }
+
+    /// The header of the head that was read last.
+    pub fn head(&self) -> Header
+        ensures { result ≡ last_head self.now }
+    {
+        match self.first / 32 {
+            0 => Header::Positive(self.number),
+            1 => Header::Negative(self.number),
+            2 => Header::Bytes(self.head_length()),
+            3 => Header::Text(self.head_length()),
+            4 => Header::Array(self.head_length()),
+            5 => Header::Map(self.head_length()),
+            6 => Header::Tag(self.number),
+            _ => last_kind(self.first % 32, self.number),
+        }
     }
 
     /// Fills the buffer with the next bytes, and takes them.
@@ -197,11 +280,12 @@ impl<R: Read> Decoder<R> {
         self.reader.held()
     }
 
-    /// Takes the next n bytes, if `held` has so many, and says whether it did. After `false` nothing
-    /// has changed, and the bytes may still come by `read_exact`. It returns `false` also while a
-    /// header waits, and if the offset would pass `usize::MAX`.
+    /// Takes the next n bytes, if `held` has so many, and says whether it did. After `false`
+    /// nothing has changed, and the bytes may still come by `read_exact`. It returns `false` also
+    /// while a header waits, and if the offset would pass `usize::MAX`.
     pub fn take(&mut self, n: usize) -> bool
-        ensures taken { IsTrue result → Drops (left_of R.left self.old) (left_of R.left self.new) n }
+        ensures taken { IsTrue result
+            → Drops (left_of R.left self.old) (left_of R.left self.new) n }
         ensures within { IsTrue result → IfSome (left_of R.left self.old) (λ xs. n ≤ length xs) }
         ensures grown { IsTrue result → offset_of self.new ≡ offset_of self.old + n }
         ensures none { IsFalse result → self.new ≡ self.old }
@@ -271,87 +355,68 @@ impl<R: Read> Decoder<R> {
         }
     }
 
-    fn pull_title(&mut self) -> Result<Header, Error<R::Error>>
+    fn take_held(&mut self) -> bool
         requires { self.old.waiting ≡ None }
-        ensures ok { IfOk result (λ h. Takes (raw R.Read self.old) (raw R.Read self.new)
-            (λ b. Title b h)) }
-        ensures fault { IfErr result (TitleTells R.ends (raw R.Read self.old)
-            (raw R.Read self.new)) }
-        ensures stops { IfErr result (TitleStops (raw R.Read self.old) (raw R.Read self.new)) }
-        ensures grows { self.old.read ≤ self.new.read }
-        ensures steady { Steady R.ends result (raw R.Read self.old) (raw R.Read self.new) }
-        ensures fresh { self.new.waiting ≡ None }
-        ensures shortest { IfOk result (λ h. Takes (raw R.Read self.old) (raw R.Read self.new)
-            (λ b. Title b h × IsShortest (shortest_of self.new) b h)) }
-    {
-        match self.held_title() {
-            Some(header) => Ok(header),
-            None => self.read_title(),
-        }
-    }
-
-    /// The next title, if nine bytes are at hand and it has a number; it is taken then.
-    fn held_title(&mut self) -> Option<Header>
-        requires { self.old.waiting ≡ None }
-        ensures some { IfSome result (λ h. Takes (raw R.Read self.old) (raw R.Read self.new)
-            (λ b. Title b h × IsShortest (shortest_of self.new) b h)) }
-        ensures none { IfNone result (self.new ≡ self.old) }
+        ensures taken { IsTrue result → Takes (raw R.Read self.old) (raw R.Read self.new)
+            (λ b. Title b (last_head self.new)
+            × IsShortest (shortest_of self.new) b (last_head self.new)) }
+        ensures none { IsFalse result → self.new ≡ self.old }
         ensures failed { R.failed self.new.reader ≡ R.failed self.old.reader }
         ensures handle { R.handle self.new.reader ≡ R.handle self.old.reader }
         ensures fresh { self.new.waiting ≡ None }
     {
         if self.read > usize::MAX - 9 {
-            return None;
+            return false;
         }
         let [first, a, b, c, d, e, f, g, h, ..] = self.reader.held() else {
-            return None;
+            return false;
         };
         let first = *first;
         let next = [*a, *b, *c, *d, *e, *f, *g, *h];
         let info = first % 32;
         if info > 27 {
-            return None;
+            return false;
         }
         let (number, size) = number_at_hand(info, next);
         if !self.reader.take(1 + size) {
-            return None;
+            return false;
         }
         self.read += 1 + size;
         self.first = first;
         self.number = number;
-        Some(with_number(first / 32, info, number))
+        numbered_head(first / 32, info, number);
+        true
     }
 
-    fn read_title(&mut self) -> Result<Header, Error<R::Error>>
+    fn read_head(&mut self) -> Result<(), Error<R::Error>>
         requires { self.old.waiting ≡ None }
-        ensures ok { IfOk result (λ h. Takes (raw R.Read self.old) (raw R.Read self.new)
-            (λ b. Title b h)) }
+        ensures ok { OnOk result (Takes (raw R.Read self.old) (raw R.Read self.new)
+            (λ b. Title b (last_head self.new)
+            × IsShortest (shortest_of self.new) b (last_head self.new))) }
         ensures fault { IfErr result (TitleTells R.ends (raw R.Read self.old)
             (raw R.Read self.new)) }
         ensures stops { IfErr result (TitleStops (raw R.Read self.old) (raw R.Read self.new)) }
         ensures grows { self.old.read ≤ self.new.read }
         ensures steady { Steady R.ends result (raw R.Read self.old) (raw R.Read self.new) }
         ensures fresh { self.new.waiting ≡ None }
-        ensures shortest { IfOk result (λ h. Takes (raw R.Read self.old) (raw R.Read self.new)
-            (λ b. Title b h × IsShortest (shortest_of self.new) b h)) }
     {
         let start = self.read;
         let mut first = [0; 1];
         self.fill(&mut first)?;
         let [first] = first;
-        let major = first / 32;
         let info = first % 32;
         if info > 27 {
             self.first = first;
-            return match without_number(major, info) {
-                Some(header) => Ok(header),
-                None => Err(Error::Syntax(start)),
-            };
+            if !is_head(first / 32, info, self.number) {
+                return Err(Error::Syntax(start));
+            }
+            return Ok(());
         }
         let n = self.number(info)?;
         self.first = first;
         self.number = n;
-        Ok(with_number(major, info, n))
+        numbered_head(first / 32, info, n);
+        Ok(())
     }
 }
 
@@ -372,50 +437,47 @@ fn number_at_hand(info: u8, next: [u8; 8]) -> (u64, usize)
     }
 }
 
-/// The header of a title with no number, if there is one.
-fn without_number(major: u8, info: u8) -> Option<Header>
+/// Whether a first byte whose information says no number is a head. The number isn't read.
+fn is_head(major: u8, info: u8, n: u64) -> bool
     requires major { major < 8 }
     requires info { (28 ≤ info) × (info < 32) }
-    ensures some { IfSome result (λ h. Title (first_byte major info ∷ []) h) }
-    ensures shortest { IfSome result (λ h. first_byte major info ∷ [] ≡ title_of h) }
-    ensures none { IfNone result (IsBadFirst (first_byte major info)) }
+    ensures head { IsTrue result → Title (first_byte major info ∷ []) (header_by major info n) }
+    ensures shortest { IsTrue result
+        → first_byte major info ∷ [] ≡ title_of (header_by major info n) }
+    ensures none { IsFalse result → IsBadFirst (first_byte major info) }
 {
     if info < 31 {
-        return None;
+        return false;
     }
     match major {
-        2 => Some(Header::Bytes(None)),
-        3 => Some(Header::Text(None)),
-        4 => Some(Header::Array(None)),
-        5 => Some(Header::Map(None)),
-        7 => Some(Header::Break),
-        _ => None,
+        0 => false,
+        1 => false,
+        6 => false,
+        _ => true,
     }
 }
 
-/// The header of a title with a number.
-fn with_number(major: u8, info: u8, n: u64) -> Header
+/// What a head with a number is.
+fn numbered_head(major: u8, info: u8, n: u64)
     requires major { major < 8 }
     requires info { info < 28 }
     requires number { (bytes : List ℕ) × NumberAt info bytes n }
     ensures title { (bytes : List ℕ) → NumberAt info bytes n
-        → Title (first_byte major info ∷ bytes) result }
+        → Title (first_byte major info ∷ bytes) (header_by major info n) }
     ensures shortest { (bytes : List ℕ) → NumberAt info bytes n
-        → IsShortest (needs_width major info n) (first_byte major info ∷ bytes) result }
+        → IsShortest (needs_width major info n) (first_byte major info ∷ bytes)
+        (header_by major info n) }
+{}
+
+/// The header of a head of major type 7.
+fn last_kind(info: u8, n: u64) -> Header
+    ensures { result ≡ last_kind info n }
 {
-    match major {
-        0 => Header::Positive(n),
-        1 => Header::Negative(n),
-        2 => Header::Bytes(Some(n as usize)),
-        3 => Header::Text(Some(n as usize)),
-        4 => Header::Array(Some(n as usize)),
-        5 => Header::Map(Some(n as usize)),
-        6 => Header::Tag(n),
-        _ => match info {
-            25 => Header::Float(Float::Half(n as u16)),
-            26 => Header::Float(Float::Single(n as u32)),
-            27 => Header::Float(Float::Double(n)),
-            _ => Header::Simple(n as u8),
-        },
+    match info {
+        25 => Header::Float(Float::Half((n % 65_536) as u16)),
+        26 => Header::Float(Float::Single((n % 4_294_967_296) as u32)),
+        27 => Header::Float(Float::Double(n)),
+        31 => Header::Break,
+        _ => Header::Simple((n % 256) as u8),
     }
 }

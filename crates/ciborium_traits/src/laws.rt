@@ -1,5 +1,6 @@
 //! Facts about what is written and taken, for proofs. The calls change nothing.
-ghost use Rattle.std.specs.Prelude.{◌≡◌, ◌<◌, ◌^◌, ℕ, ℤ, Bool, false, FitsSigned, All, None, Some, String};
+ghost use Rattle.std.specs.Prelude.{◌≡◌, ◌<◌, ◌^◌, ℕ, ℤ, Bool, false, FitsSigned, All, None, Some};
+ghost use Rattle.std.specs.Prelude.{String};
 ghost use Rattle.std.specs.Int.{w8, w16, w32, w64, w128};
 ghost use Rattle.std.specs.Char.{IsScalar};
 ghost use Rattle.std.specs.Global.{Global};

@@ -3,7 +3,8 @@ ghost use Rattle.std.specs.Prelude.{◌≡◌, None, List, IfOk, IfErr, map, tru
 ghost use Rattle.ciborium_value.specs.Tree as spec;
 ghost use Rattle.ciborium_value.specs.Tree.{Pairs};
 ghost use Rattle.ciborium_value.specs.View.{pairs, view_pairs};
-ghost use Rattle.ciborium_traits.specs.Lists.{first_refusal_of_pairs, map_refusal, EachPairTaken, inserted};
+ghost use Rattle.ciborium_traits.specs.Lists.{first_refusal_of_pairs, map_refusal, EachPairTaken};
+ghost use Rattle.ciborium_traits.specs.Lists.{inserted};
 ghost use Rattle.ciborium_traits.specs.Reading.{bare, IsRefusal};
 
 use crate::de::Deserialize;

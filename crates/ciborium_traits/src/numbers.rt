@@ -4,7 +4,8 @@ ghost use Rattle.ciborium_value.specs.Tree.{integer as integer_tree};
 ghost use Rattle.ciborium_value.specs.View.{view, number_of};
 ghost use Rattle.ciborium_value.specs.declared.kind.Kind.TheVariants as kind;
 ghost use Rattle.ciborium_traits.specs.declared.error.Error.TheVariants as error;
-ghost use Rattle.ciborium_traits.specs.Ranges.{fits_unsigned, fits_signed, integer_number, number_refusal};
+ghost use Rattle.ciborium_traits.specs.Ranges.{fits_unsigned, fits_signed, integer_number};
+ghost use Rattle.ciborium_traits.specs.Ranges.{number_refusal};
 ghost use Rattle.ciborium_traits.specs.Reading.{bare};
 
 use crate::de::Deserialize;

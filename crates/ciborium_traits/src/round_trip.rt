@@ -1,5 +1,6 @@
 //! What is written and read back.
-ghost use Rattle.std.specs.Prelude.{◌≡◌, ◌<◌, ◌^◌, pos, false, FitsSigned, All, MatchOption, Some, refl, ⊤, string_bytes};
+ghost use Rattle.std.specs.Prelude.{◌≡◌, ◌<◌, ◌^◌, pos, false, FitsSigned, All, MatchOption, Some};
+ghost use Rattle.std.specs.Prelude.{refl, ⊤, string_bytes};
 ghost use Rattle.std.proofs.Common.{sym, ◌∙◌};
 ghost use Rattle.std.specs.BTreeMap.{IsOrdered};
 ghost use Rattle.std.specs.Char.{IsScalar};
@@ -13,11 +14,15 @@ ghost use Rattle.ciborium_traits.specs.Reading.{bare};
 ghost use Rattle.ciborium_traits.specs.Facts.Keys.{tied_canonical, tied_character, tied_value};
 ghost use Rattle.ciborium_traits.specs.Facts.Lists.{option_kept, list_kept};
 ghost use Rattle.ciborium_traits.specs.Facts.Maps.{map_kept, map_once};
-ghost use Rattle.ciborium_traits.specs.Facts.Numbers.{unsigned_back, signed_back, wide_once, tied_unsigned, tied_signed};
-ghost use Rattle.ciborium_traits.specs.Facts.Numbers.{unsigned_kept, signed_kept_8, signed_kept_16, signed_kept_32, signed_kept_64};
+ghost use Rattle.ciborium_traits.specs.Facts.Numbers.{unsigned_back, signed_back, wide_once};
+ghost use Rattle.ciborium_traits.specs.Facts.Numbers.{tied_unsigned, tied_signed};
+ghost use Rattle.ciborium_traits.specs.Facts.Numbers.{unsigned_kept, signed_kept_8, signed_kept_16};
+ghost use Rattle.ciborium_traits.specs.Facts.Numbers.{signed_kept_32, signed_kept_64};
 ghost use Rattle.ciborium_traits.specs.Facts.Once.{option_once, list_once};
-ghost use Rattle.ciborium_traits.specs.Facts.Texts.{bool_kept, character_kept, tied_bool, tied_text};
-ghost use Rattle.ciborium_traits.specs.Facts.Tuples.{one_back, two_back, three_back, four_back, one_once, two_once, three_once, four_once};
+ghost use Rattle.ciborium_traits.specs.Facts.Texts.{bool_kept, character_kept, tied_bool};
+ghost use Rattle.ciborium_traits.specs.Facts.Texts.{tied_text};
+ghost use Rattle.ciborium_traits.specs.Facts.Tuples.{one_back, two_back, three_back, four_back};
+ghost use Rattle.ciborium_traits.specs.Facts.Tuples.{one_once, two_once, three_once, four_once};
 
 use crate::de::Deserialize;
 use crate::ser::Serialize;

@@ -28,13 +28,16 @@ pub trait Sink {
 
     /// Adds an integer.
     fn integer(&mut self, number: Integer) -> Result<(), Self::Error>
-        ensures ok { OnOk result (Puts due self.old (event.integer (number_of number) ∷ []) self.new) }
-        ensures err { OnErr result (Stops due torn self.old (event.integer (number_of number) ∷ []) self.new) };
+        ensures ok { OnOk result
+            (Puts due self.old (event.integer (number_of number) ∷ []) self.new) }
+        ensures err { OnErr result
+            (Stops due torn self.old (event.integer (number_of number) ∷ []) self.new) };
 
     /// Adds a byte string.
     fn bytes(&mut self, bytes: &[u8]) -> Result<(), Self::Error>
         ensures ok { OnOk result (Puts due self.old (event.bytes bytes.now ∷ []) self.new) }
-        ensures err { OnErr result (Stops due torn self.old (event.bytes bytes.now ∷ []) self.new) };
+        ensures err { OnErr result
+            (Stops due torn self.old (event.bytes bytes.now ∷ []) self.new) };
 
     /// Adds a float by its width and bits.
     fn float(&mut self, float: Float) -> Result<(), Self::Error>

@@ -5,8 +5,10 @@ ghost use Rattle.ciborium_value.specs.Kinds.{is_tag};
 ghost use Rattle.ciborium_value.specs.Tree.{Tree, opens_none};
 ghost use Rattle.ciborium_value.specs.View.{view};
 ghost use Rattle.ciborium_traits.specs.Events.{events, Puts, Stops};
-ghost use Rattle.ciborium_typed.specs.Facts.Tags.{captured_back, required_back, accepted_back, captured_once, required_once, accepted_once};
-ghost use Rattle.ciborium_typed.specs.Tags.{tagged_tree, outer_tag, inside, required_refusal, accepted_refusal, AcceptedTaken};
+ghost use Rattle.ciborium_typed.specs.Facts.Tags.{captured_back, required_back, accepted_back};
+ghost use Rattle.ciborium_typed.specs.Facts.Tags.{captured_once, required_once, accepted_once};
+ghost use Rattle.ciborium_typed.specs.Tags.{tagged_tree, outer_tag, inside, required_refusal};
+ghost use Rattle.ciborium_typed.specs.Tags.{accepted_refusal, AcceptedTaken};
 
 use ciborium_traits::{Deserialize, Error, RoundTrip, Serialize, Sink};
 use ciborium_value::{Kind, Value};

@@ -2,7 +2,8 @@
 ghost use Rattle.std.specs.Prelude.{◌≡◌, MatchOption, MatchResult, string_bytes, false};
 ghost use Rattle.ciborium_value.specs.Tree as spec;
 ghost use Rattle.ciborium_value.specs.Tree.{is_bytes};
-ghost use Rattle.ciborium_value.specs.Kinds.{is_integer, is_float, is_text, is_bool, is_null, is_tag, is_array, is_map};
+ghost use Rattle.ciborium_value.specs.Kinds.{is_integer, is_float, is_text, is_bool, is_null};
+ghost use Rattle.ciborium_value.specs.Kinds.{is_tag, is_array, is_map};
 
 use crate::integer::Integer;
 use crate::value::Value;

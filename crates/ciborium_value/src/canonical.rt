@@ -1,6 +1,7 @@
 //! Values in the order of their encodings.
 ghost use Rattle.std.specs.Prelude.{refl};
-ghost use Rattle.std.specs.Cmp.{partial_equiv_from_equiv, on_equiv, eq_by_cmp_equiv, on_total, partial_order_from_agreeing_total};
+ghost use Rattle.std.specs.Cmp.{partial_equiv_from_equiv, on_equiv, eq_by_cmp_equiv, on_total};
+ghost use Rattle.std.specs.Cmp.{partial_order_from_agreeing_total};
 ghost use Rattle.std.specs.Ordering.{on, eq_by_cmp, as_partial_cmp};
 ghost use Rattle.ciborium_value.specs.Canonical.{canonical_cmp};
 ghost use Rattle.ciborium_value.specs.View.{view};

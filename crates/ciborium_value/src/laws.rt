@@ -1,5 +1,6 @@
 //! Facts about values, for proofs. The calls change nothing.
-ghost use Rattle.std.specs.Prelude.{◌≡◌, ◌↔◌, ◌++◌, ◌<◌, ◌^◌, IsTrue, ℕ, ℤ, List, Some, length, All};
+ghost use Rattle.std.specs.Prelude.{◌≡◌, ◌↔◌, ◌++◌, ◌<◌, ◌^◌, IsTrue, ℕ, ℤ, List, Some, length};
+ghost use Rattle.std.specs.Prelude.{All};
 ghost use Rattle.std.specs.Cmp.{IsTotalOrder};
 ghost use Rattle.std.specs.Ordering.{int_cmp};
 ghost use Rattle.std.specs.declared.cmp.Ordering.TheVariants.{Equal};
@@ -8,7 +9,8 @@ ghost use Rattle.ciborium_value.specs.Encoding.{enc, Fits};
 ghost use Rattle.ciborium_value.specs.Folding.{fold};
 ghost use Rattle.ciborium_value.specs.Numbers.{IsWide, number_tree, tree_number};
 ghost use Rattle.ciborium_value.specs.Order.{tree_cmp};
-ghost use Rattle.ciborium_value.specs.Canonical.{bytewise, length_first, canonical, text_cmp, canonical_cmp};
+ghost use Rattle.ciborium_value.specs.Canonical.{bytewise, length_first, canonical, text_cmp};
+ghost use Rattle.ciborium_value.specs.Canonical.{canonical_cmp};
 ghost use Rattle.ciborium_value.specs.Facts.Heads.{Sized, heads_cmp};
 ghost use Rattle.ciborium_value.specs.View.{view, number_of};
 
@@ -128,8 +130,8 @@ pub fn orders_are_total()
 {}
 
 /// The orders of trees whose numbers heads can say are those of their encodings, and by heads and
-/// contents they are the same. Trees that fit are such. While an encoding is shorter than 2^64 bytes,
-/// its counted length is its length.
+/// contents they are the same. Trees that fit are such. While an encoding is shorter than 2^64
+/// bytes, its counted length is its length.
 pub fn orders_of_encodings()
     ensures sized { (t : Tree) → Fits t → Sized t }
     ensures bytes { (t s : Tree) → Sized t → Sized s → bytewise t s ≡ text_cmp t s }

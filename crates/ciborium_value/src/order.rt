@@ -3,7 +3,8 @@ ghost use Rattle.std.specs.Prelude.{◌≡◌};
 ghost use Rattle.std.specs.Ordering.{ordering_then};
 ghost use Rattle.ciborium_value.specs.Tree.{integer};
 ghost use Rattle.ciborium_value.specs.Canonical.{length_first, canonical, canonical_cmp};
-ghost use Rattle.ciborium_value.specs.Facts.Heads.{int_place, int_number, place, number, head_cmp, heads_cmp, all_cmp, each_cmp};
+ghost use Rattle.ciborium_value.specs.Facts.Heads.{int_place, int_number, place, number, head_cmp};
+ghost use Rattle.ciborium_value.specs.Facts.Heads.{heads_cmp, all_cmp, each_cmp};
 ghost use Rattle.ciborium_value.specs.View.{number_of, view, views, view_pairs};
 
 use crate::integer::Integer;

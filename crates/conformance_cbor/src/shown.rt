@@ -1,13 +1,15 @@
 //! What is shown of an item: its notation from its heads, the members of a message, what isn't in
 //! canonical encoding in it, and where items end.
 use crate::out::{CallError, Out};
-use cbor_diag::{Ends, Fault, NotWritten, Style, first_excess, write_item};
+use cbor_diag::{Ends, Fault, NotWritten, Page, Style, first_excess, write_item};
 use cose_notation::{Look, write_message};
 
 /// The notation of an item from its heads. Of damaged bytes what is in front of the fault, and the
 /// fault.
 pub fn noted(to: &mut Out, bytes: &[u8], style: Style) {
-    match write_item(to.alloc(), bytes, style, 0, to) {
+    let alloc = to.alloc();
+    let mut page = Page::new(to);
+    match write_item(alloc, bytes, style, 0, &mut page) {
         Ok(len) => {
             if len != bytes.len() {
                 to.refuse(CallError::NotItem);
@@ -34,7 +36,10 @@ pub fn members(to: &mut Out, bytes: &[u8]) {
         full: true,
         secrets: false,
     };
-    if write_message(to.alloc(), look, bytes, to).is_err() {
+    let alloc = to.alloc();
+    let mut page = Page::new(to);
+    write_message(alloc, look, bytes, &mut page);
+    if page.has_failed() {
         to.refuse(CallError::Memory);
     }
     if to.is_empty() {

@@ -9,7 +9,7 @@ use coset::{
     PartyInfo, ProtectedHeader, SuppPubInfo, TaggedCborSerializable, ValueTryAs,
 };
 use coset_labels::tuples::three;
-use coset_message_parts::{Parts, read_parts};
+use coset_recipients::{Parts, read_parts};
 use std::alloc::{AllocError, Global};
 
 /// What an item is read as, or none after the text of its error.

@@ -1,7 +1,7 @@
 //! Calls over buffers of so many bytes: those that `cose_gate_c` exports to C.
 use crate::out::{NoAnswer, Out};
 use crate::words;
-use cose_gate_buffers::{Answer, Choice, ask, check, pass};
+use cose_gate_records::{Answer, Choice, ask, check, pass};
 
 /// What each byte of an output is before a call, and each byte of the lines.
 const UNWRITTEN: u8 = 0xee;

@@ -3,7 +3,7 @@ use crate::out::{NoAnswer, Out};
 use crate::words;
 use ciborium_value::Value;
 use cose_gate::{About, Header, HmacJudge, Judge, MessageKind, ProtectedHeader};
-use cose_gate_hmac::is_good_tag;
+use cose_gate_program::is_good_tag;
 use cose_reasons::{KeyBook, Question, reason};
 use coset_keys::CoseKeySet;
 use coset_labels::CborSerializable;

@@ -9,16 +9,16 @@ use Rattle.ciborium.specs.Reading.{IfKnown, IfEnd}
 use Rattle.ciborium.specs.declared.de.Error.{Error}
 use Rattle.ciborium.specs.declared.de.Error.TheVariants as de
 use Rattle.ciborium.proofs.Excludes.{excludes}
-use Rattle.cose_gate_laws.specs.GateCore.Asked.{folded_over, IsFront}
-use Rattle.cose_gate_laws.specs.GateCore.Questions.{Question}
-use Rattle.cose_gate_laws.specs.GateCore.Outcome.{Rules, Sight, Made, IsFaultOf, StandsIn, TakesOne, IsNoReaderFault, Outcome, Answers}
-use Rattle.cose_gate_laws.specs.GateCore.Run.{Step, Run, Course, asked_of, written_of, text_of, passes, questions_of, output_of, entries_of, passed_count, refused_count}
-use Rattle.cose_gate_laws.specs.GateCore.declared.gating.Counts.{Counts}
-use Rattle.cose_gate_laws.specs.GateCore.declared.gating.GateFault.{GateFault}
-use Rattle.cose_gate_laws.specs.GateCore.declared.gating.GateFault.TheVariants.{Decode, Write, Memory}
-use Rattle.cose_gate_laws.specs.Anew.{bytes_of}
-use Rattle.cose_gate_laws.proofs.Placed.{told}
-use Rattle.cose_gate_laws.proofs.Within.{Twin, Twins, Within, Split, course_within, unreadable_ends, nothing_unreadable, twins_questions, twins_output, twins_entries, twins_count, twins_split, place_behind}
+use Rattle.cose_gate_core.specs.Asked.{folded_over, IsFront}
+use Rattle.cose_gate_core.specs.Questions.{Question}
+use Rattle.cose_gate_core.specs.Outcome.{Rules, Sight, Made, IsFaultOf, StandsIn, TakesOne, IsNoReaderFault, Outcome, Answers}
+use Rattle.cose_gate_core.specs.Run.{Step, Run, Course, asked_of, written_of, text_of, passes, questions_of, output_of, entries_of, passed_count, refused_count}
+use Rattle.cose_gate_core.specs.declared.gating.Counts.{Counts}
+use Rattle.cose_gate_core.specs.declared.gating.GateFault.{GateFault}
+use Rattle.cose_gate_core.specs.declared.gating.GateFault.TheVariants.{Decode, Write, Memory}
+use Rattle.cose_gate_core.specs.Anew.{bytes_of}
+use Rattle.cose_gate_core.proofs.Placed.{told}
+use Rattle.cose_gate_core.proofs.Within.{Twin, Twins, Within, Split, course_within, unreadable_ends, nothing_unreadable, twins_questions, twins_output, twins_entries, twins_count, twins_split, place_behind}
 use Rattle.cose_gate.specs.Gate.{Call, IfThrough, IfWrite, IfMemory, StopsAt, Noted, AskedFront, NotedFront, WrittenFront, Torn, Refused, AsksAll, WritesAll, NotesAll, CountsAll, Stops, AsksFront, NotesFront, WritesFront, Tears, WritesWhole, HoldsNoMemory}
 
 damaged : (n stop : ℕ) (more : List ℕ) (f : Fault) → Damage stop more n f → IsUnreadableWithin n more

@@ -6,12 +6,12 @@ use Rattle.ciborium_ll.specs.declared.read.Read.{Ghosts as Reads}
 use Rattle.ciborium_ll.specs.declared.write.Write.{Ghosts as Writes}
 use Rattle.coset_labels.specs.Limits.{nesting, layers, nesting_of, layers_of}
 use Rattle.coset_labels.specs.declared.limits.Limits.{Limits}
-use Rattle.cose_gate_laws.specs.GateCore.Calls.{within, exact_within}
-use Rattle.cose_gate_laws.specs.GateCore.Findings.{Bounds, plain, only_exact, usual, usual_exact}
-use Rattle.cose_gate_laws.specs.GateCore.declared.gating.Counts.{Counts}
-use Rattle.cose_gate_laws.specs.GateCore.declared.gating.GateFault.{GateFault}
-use Rattle.cose_gate_laws.specs.GateCore.declared.report.Report.{Ghosts as Reports}
-use Rattle.cose_gate_laws.specs.GateCore.declared.judge.Judge.{Ghosts as Judges}
+use Rattle.cose_gate_core.specs.Calls.{within, exact_within}
+use Rattle.cose_gate_core.specs.Findings.{Bounds, plain, only_exact, usual, usual_exact}
+use Rattle.cose_gate_core.specs.declared.gating.Counts.{Counts}
+use Rattle.cose_gate_core.specs.declared.gating.GateFault.{GateFault}
+use Rattle.cose_gate_core.specs.declared.report.Report.{Ghosts as Reports}
+use Rattle.cose_gate_core.specs.declared.judge.Judge.{Ghosts as Judges}
 use Rattle.cose_gate.specs.Gate.{Gates}
 
 module _ {R E W F P J : Type 0} {r : Reads R E} {w : Writes W F} {p : Reports P} {j : Judges J} {aad : List ℕ}

@@ -8,22 +8,22 @@ use Rattle.ciborium_ll.specs.declared.read.Read.{Ghosts as Reads}
 use Rattle.ciborium_ll.specs.declared.write.Write.{Ghosts as Writes}
 use Rattle.ciborium.specs.Reading.{IfEnd, IsNoMemory, IsFar}
 use Rattle.ciborium.specs.declared.de.Error.TheVariants as de
-use Rattle.cose_gate_laws.specs.GateCore.Asked.{folded_over, IsFront}
-use Rattle.cose_gate_laws.specs.GateCore.Calls.{rules_by, sight_of}
-use Rattle.cose_gate_laws.specs.GateCore.Findings.{Bounds}
-use Rattle.cose_gate_laws.specs.GateCore.Outcome.{Rules, Sight, Answers, IsFaultOf, StandsIn, TakesOne}
-use Rattle.cose_gate_laws.specs.GateCore.Outcome.{IsNoReaderFault, IfTooLong}
-use Rattle.cose_gate_laws.specs.GateCore.Outcome.{reader_failures, writer_failures}
-use Rattle.cose_gate_laws.specs.GateCore.Questions.{Question}
-use Rattle.cose_gate_laws.specs.GateCore.Run.{Step, Run, passes, text_of, questions_of, output_of}
-use Rattle.cose_gate_laws.specs.GateCore.Run.{passed_count, refused_count}
-use Rattle.cose_gate_laws.specs.GateCore.declared.report.Entry.{Entry}
-use Rattle.cose_gate_laws.specs.GateCore.declared.gating.Counts.{Counts}
-use Rattle.cose_gate_laws.specs.GateCore.declared.gating.GateFault.{GateFault}
-use Rattle.cose_gate_laws.specs.GateCore.declared.gating.GateFault.TheVariants.{Decode, Write, Memory}
-use Rattle.cose_gate_laws.specs.GateCore.declared.report.Report.{Ghosts as Reports}
-use Rattle.cose_gate_laws.specs.GateCore.declared.judge.Judge.{Ghosts as Judges}
-use Rattle.cose_gate_laws.specs.Anew.{bytes_of, AreEntries}
+use Rattle.cose_gate_core.specs.Asked.{folded_over, IsFront}
+use Rattle.cose_gate_core.specs.Calls.{rules_by, sight_of}
+use Rattle.cose_gate_core.specs.Findings.{Bounds}
+use Rattle.cose_gate_core.specs.Outcome.{Rules, Sight, Answers, IsFaultOf, StandsIn, TakesOne}
+use Rattle.cose_gate_core.specs.Outcome.{IsNoReaderFault, IfTooLong}
+use Rattle.cose_gate_core.specs.Outcome.{reader_failures, writer_failures}
+use Rattle.cose_gate_core.specs.Questions.{Question}
+use Rattle.cose_gate_core.specs.Run.{Step, Run, passes, text_of, questions_of, output_of}
+use Rattle.cose_gate_core.specs.Run.{passed_count, refused_count}
+use Rattle.cose_gate_core.specs.declared.report.Entry.{Entry}
+use Rattle.cose_gate_core.specs.declared.gating.Counts.{Counts}
+use Rattle.cose_gate_core.specs.declared.gating.GateFault.{GateFault}
+use Rattle.cose_gate_core.specs.declared.gating.GateFault.TheVariants.{Decode, Write, Memory}
+use Rattle.cose_gate_core.specs.declared.report.Report.{Ghosts as Reports}
+use Rattle.cose_gate_core.specs.declared.judge.Judge.{Ghosts as Judges}
+use Rattle.cose_gate_core.specs.Anew.{bytes_of, AreEntries}
 
 -- a call of the gate: which faults are an end, what it goes by, and what is seen as it begins and
 -- as it returns

@@ -1,12 +1,12 @@
 //! The gate.
 ghost use Rattle.std.specs.Prelude.{◌≡◌, None};
 ghost use Rattle.ciborium_ll.specs.Views.{waiting_of};
-ghost use Rattle.cose_gate_laws.specs.GateCore.Calls.{within, exact_within};
-ghost use Rattle.cose_gate_laws.specs.GateCore.Findings.{usual, usual_exact};
+ghost use Rattle.cose_gate_core.specs.Calls.{within, exact_within};
+ghost use Rattle.cose_gate_core.specs.Findings.{usual, usual_exact};
 ghost use Rattle.cose_gate.specs.Gate.{Gates};
 
 use ciborium_ll::{Decoder, Read, Write};
-use cose_gate_laws::gate_core::{Counts, GateFault, Judge, Limits, Report, Terms, gate_by};
+use cose_gate_core::{Counts, GateFault, Judge, Limits, Report, Terms, gate_by};
 use std::alloc::Global;
 
 /// Asks the judge about each tagged COSE_Sign1, COSE_Mac0, COSE_Sign and COSE_Mac of a CBOR

@@ -8,7 +8,7 @@ mod gating;
 pub mod laws;
 
 pub use crate::gating::{gate, gate_strict, gate_strict_with, gate_with};
-pub use cose_gate_laws::gate_core::{
+pub use cose_gate_core::{
     About, Algorithm, Asked, ContentType, CoseError, CoseRecipient, CoseSignature, Counts, Decoder,
     End, Entry, Full, GateFault, Header, Io, IoFault, Judge, Label, Limits, Log, Mem, MessageKind,
     ProtectedHeader, Read, Recorder, Refusal, RegisteredLabel, RegisteredLabelWithPrivate, Report,
@@ -18,11 +18,10 @@ pub use cose_gate_records::{
     Accepted, Asker, Nowhere, Verifier, VerifierJudge, has_algorithm, has_known_crit, key_id,
 };
 /// The kind of a message, under its short name.
-pub use cose_gate_laws::gate_core::MessageKind as Kind;
-pub use cose_gate_program::judge::HmacJudge;
+pub use cose_gate_core::MessageKind as Kind;
 pub use cose_gate_program::{
-    Blocks, InputFault, NotBegun, Notice, Teller, run, run_judged, run_over, run_over_told,
-    run_told, run_with, words, write_notice,
+    Blocks, HmacJudge, InputFault, NotBegun, Notice, Teller, run, run_judged, run_over,
+    run_over_told, run_told, run_with, words, write_notice,
 };
 pub use cose_gate_stream::{StreamFault, laws as stream_laws, stream_check, stream_check_with};
 pub use cose_hmac::{hmac_sha256, same_tag};

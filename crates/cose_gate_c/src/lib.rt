@@ -1,14 +1,14 @@
 //! The gate for C, and for languages that call C: over buffers that the caller owns. Each function
-//! calls that of `cose_gate_buffers`. `include/cose_gate.h` declares them.
+//! calls that of `cose_gate_records`. `include/cose_gate.h` declares them.
 #![tactic(auto)]
 
 ghost use Rattle.std.specs.Prelude.{◌≡◌};
-ghost use Rattle.cose_gate_buffers.specs.Calls.{Asks, Checks, Passes, buffers};
+ghost use Rattle.cose_gate_records.specs.Calls.{Asks, Checks, Passes, buffers};
 
-use cose_gate_buffers::{Answer, Choice, ask, check, pass};
+use cose_gate_records::{Answer, Choice, ask, check, pass};
 use std::alloc::Global;
 
-/// `check` of `cose_gate_buffers`: the run of `cose-gate` over `input`.
+/// `check` of `cose_gate_records`: the run of `cose-gate` over `input`.
 #[unsafe(no_mangle)]
 pub extern "C" fn cose_gate_check(
     alloc: Global,
@@ -32,7 +32,7 @@ pub extern "C" fn cose_gate_check(
     check(alloc, choice, keys, aad, input, out, lines)
 }
 
-/// `ask` of `cose_gate_buffers`: the records of the questions of `input`.
+/// `ask` of `cose_gate_records`: the records of the questions of `input`.
 #[unsafe(no_mangle)]
 pub extern "C" fn cose_gate_ask(
     alloc: Global,
@@ -55,7 +55,7 @@ pub extern "C" fn cose_gate_ask(
     ask(alloc, choice, aad, input, questions, lines)
 }
 
-/// `pass` of `cose_gate_buffers`: the messages of `input` all of whose questions are among the
+/// `pass` of `cose_gate_records`: the messages of `input` all of whose questions are among the
 /// records `accepted`.
 #[unsafe(no_mangle)]
 pub extern "C" fn cose_gate_pass(

@@ -2,7 +2,7 @@
 use Rattle.std.proofs.Common.{◌≡◌, ℕ, List, Option, Bool, ap, subst, ◌∙◌}
 use Rattle.cose_gate_core.specs.Findings.{Bounds, excluded_by}
 use Rattle.cose_gate_core.specs.Terms.{limits_by}
-use Rattle.cose_gate_hmac.specs.Judge.{says_yes}
+use Rattle.cose_gate_program.specs.Judge.{says_yes}
 use Rattle.cose_gate_program.specs.Program.{Devices, EndsWithin}
 use Rattle.cose_gate_program.specs.Telling.{EndsTold}
 use Rattle.cose_gate_program.specs.declared.telling.Notice.{Notice}

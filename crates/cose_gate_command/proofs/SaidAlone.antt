@@ -1,7 +1,7 @@
 -- What was said, as it was told.
 use Rattle.std.proofs.Common.{◌≡◌, List, [], ◌∷◌, ◌++◌, Bool, false, sym, ap, subst, ◌∙◌, append-nil, append_assoc}
 use Rattle.ciborium_ll.specs.declared.write.Write.{Ghosts as Writes}
-use Rattle.cose_gate_hmac.specs.GateCore.Asked.{folded_over}
+use Rattle.cose_gate_core.specs.Asked.{folded_over}
 use Rattle.cose_gate_program.specs.Lines.{lines_of}
 use Rattle.cose_gate_program.specs.Writing.{Wrote, WroteSince}
 use Rattle.cose_gate_program.specs.declared.telling.Notice.{Notice}

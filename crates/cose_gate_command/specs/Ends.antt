@@ -1,7 +1,7 @@
 -- How the program ends by its arguments.
 use Rattle.std.specs.Prelude.{◌≡◌, ℕ, List, Option, None, Some, Bool}
 use Rattle.cose_gate_core.specs.Findings.{Bounds, excluded_by}
-use Rattle.cose_gate_hmac.specs.Judge.{says_yes}
+use Rattle.cose_gate_program.specs.Judge.{says_yes}
 use Rattle.cose_gate_program.specs.Program.{Devices, EndsWithin}
 use Rattle.coset_labels.specs.Limits.{nesting, layers}
 use Rattle.cose_gate_command.specs.Arguments.{Arguments}

@@ -1,7 +1,7 @@
 -- What is told of a run of the command line.
 use Rattle.std.specs.Prelude.{◌≡◌, ℕ, List, Option, None, Some, Bool, false, codes}
 use Rattle.ciborium_ll.specs.declared.write.Write.{Ghosts as Writes}
-use Rattle.cose_gate_hmac.specs.Judge.{says_yes}
+use Rattle.cose_gate_program.specs.Judge.{says_yes}
 use Rattle.cose_gate_program.specs.Program.{Devices}
 use Rattle.cose_gate_program.specs.Telling.{EndsTold, writes}
 use Rattle.cose_gate_program.specs.Writing.{Wrote}

@@ -1,11 +1,10 @@
 //! A judge whose last no has its reason beside it.
 use cose_gate_core::{About, Judge, MessageKind};
-use cose_gate_hmac::CoseKeySet;
+use cose_gate_program::CoseKeySet;
 use cose_hmac::HmacSha256;
-use cose_reasons::{KeyBook, OTHER_KIND, secret_or_reason, write_wrong_tag};
+use cose_reasons::{KeyBook, OTHER_KIND, Page, secret_or_reason, write_wrong_tag};
 use std::alloc::{AllocError, Global};
 use std::cell::RefCell;
-use std::fmt;
 
 /// Why the judge said no to the question at hand.
 #[derive(Drop)]
@@ -50,10 +49,12 @@ impl<'a> Reasons<'a> {
             let note = &mut *guard;
             note.reason.clear();
             note.is_of_signer = about.signer.is_some();
-            match begun(&self.book, about, &mut note.reason) {
-                Ok(Some(secret)) => self.mac = Some(HmacSha256::new(secret)),
-                Ok(None) => {}
-                Err(_) => note.reason.clear(),
+            let mut page = Page::new(&mut note.reason);
+            let secret = begun(&self.book, about, &mut page);
+            if page.has_failed() {
+                note.reason.clear();
+            } else if let Some(secret) = secret {
+                self.mac = Some(HmacSha256::new(secret));
             }
         }
     }
@@ -70,7 +71,9 @@ impl<'a> Reasons<'a> {
             if let Ok(mut guard) = self.note.try_borrow_mut() {
                 let note = &mut *guard;
                 let whole = mac.finalize();
-                if write_wrong_tag(&whole, tag, self.aad_len, &mut note.reason).is_err() {
+                let mut page = Page::new(&mut note.reason);
+                write_wrong_tag(&whole, tag, self.aad_len, &mut page);
+                if page.has_failed() {
                     note.reason.clear();
                 }
             }
@@ -82,16 +85,16 @@ impl<'a> Reasons<'a> {
 fn begun<'b>(
     book: &'b Option<KeyBook<'_>>,
     about: &About,
-    reason: &mut String,
-) -> Result<Option<&'b [u8]>, fmt::Error> {
+    page: &mut Page<'_, String>,
+) -> Option<&'b [u8]> {
     match (about.kind, book) {
         (MessageKind::Mac0, Some(book)) => {
-            secret_or_reason(book, about.protected, about.unprotected, reason)
+            secret_or_reason(book, about.protected, about.unprotected, page)
         }
-        (MessageKind::Mac0, None) => Ok(None),
+        (MessageKind::Mac0, None) => None,
         _ => {
-            fmt::Write::write_str(reason, OTHER_KIND)?;
-            Ok(None)
+            page.write_str(OTHER_KIND);
+            None
         }
     }
 }

@@ -1,6 +1,6 @@
 //! What is said of KEYS.
 use cose_gate_program::NotBegun;
-use cose_reasons::{Stop, read_keys, write_char};
+use cose_reasons::{Page, Stop, read_keys, write_char};
 use coset_labels::CoseError;
 use std::alloc::Global;
 use std::fmt;
@@ -22,49 +22,50 @@ pub(crate) fn say_not_begun<P: fmt::Write>(
     why: NotBegun,
     file: KeyFile<'_>,
     aad: Option<&str>,
-    page: &mut P,
-) -> fmt::Result {
+    page: &mut Page<'_, P>,
+) {
     match why {
         NotBegun::NoFile => {
-            say_name(file.name, page)?;
-            page.write_str(file.fault)?;
-            page.write_str("\n")
+            say_name(file.name, page);
+            page.write_str(file.fault);
+            page.write_str("\n");
         }
         NotBegun::NotHex => say_not_hex(aad.unwrap_or(""), page),
         NotBegun::NoKeys(_) => {
-            say_name(file.name, page)?;
-            say_no_keys(alloc, file.bytes.unwrap_or(&[]), page)
+            say_name(file.name, page);
+            say_no_keys(alloc, file.bytes.unwrap_or(&[]), page);
         }
-        NotBegun::Memory => Ok(()),
+        NotBegun::Memory => {}
     }
 }
 
 /// The name of a file, escaped, so that it can't steer a terminal or look like another line.
-fn say_name<P: fmt::Write>(name: &str, page: &mut P) -> fmt::Result {
-    page.write_str("  ")?;
+fn say_name<P: fmt::Write>(name: &str, page: &mut Page<'_, P>) {
+    page.write_str("  ");
     for c in name.chars() {
-        write_char(c, false, page)?;
+        write_char(c, false, page);
     }
-    page.write_str(": ")
+    page.write_str(": ");
 }
 
 /// Why a string isn't bytes in hex: its first character that is no digit, or how many it has.
-fn say_not_hex<P: fmt::Write>(text: &str, page: &mut P) -> fmt::Result {
+fn say_not_hex<P: fmt::Write>(text: &str, page: &mut Page<'_, P>) {
     for (index, c) in text.chars().enumerate() {
         if !c.is_ascii_hexdigit() {
             let place = index.saturating_add(1);
-            write!(page, "  AADHEX: character {place}, '")?;
-            write_char(c, false, page)?;
-            return page.write_str("', isn't a hex digit\n");
+            write!(page, "  AADHEX: character {place}, '");
+            write_char(c, false, page);
+            page.write_str("', isn't a hex digit\n");
+            return;
         }
     }
-    page.write_str("  AADHEX: an odd number of digits\n")
+    page.write_str("  AADHEX: an odd number of digits\n");
 }
 
 /// What bytes are that aren't a key set, and what KEYS has to be.
-fn say_no_keys<P: fmt::Write>(alloc: Global, bytes: &[u8], page: &mut P) -> fmt::Result {
-    page.write_str(what_is(alloc, bytes))?;
-    page.write_str("\n  KEYS has to be a COSE_KeySet (RFC 9052, section 7), in binary\n")
+fn say_no_keys<P: fmt::Write>(alloc: Global, bytes: &[u8], page: &mut Page<'_, P>) {
+    page.write_str(what_is(alloc, bytes));
+    page.write_str("\n  KEYS has to be a COSE_KeySet (RFC 9052, section 7), in binary\n");
 }
 
 fn what_is(alloc: Global, bytes: &[u8]) -> &'static str {

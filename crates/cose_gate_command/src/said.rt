@@ -9,6 +9,7 @@ use ciborium_ll::Write;
 use ciborium_ll::log::Log;
 use cose_gate_core::{Entry, GateFault, Verdict};
 use cose_gate_program::{InputFault, NotBegun, Notice, Teller, write_logged};
+use cose_reasons::Page;
 use std::alloc::Global;
 use std::cell::{Cell, RefCell};
 
@@ -116,7 +117,8 @@ impl<'o, 'n, 'f, 'd, W: Write> Said<'o, 'n, 'f, 'd, W> {
             aad,
             ..
         } = *self.sources;
-        let _ = say_not_begun(alloc, why, file, aad, &mut Text { out: self.out });
+        let mut text = Text { out: self.out };
+        say_not_begun(alloc, why, file, aad, &mut Page::new(&mut text));
         let _ = self.out.flush();
     }
 

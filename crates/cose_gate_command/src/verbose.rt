@@ -1,7 +1,7 @@
 //! The run, with `--verbose` or without.
 ghost use Rattle.std.specs.Prelude.{◌≡◌, false, option_copied};
 ghost use Rattle.cose_gate_core.specs.Terms.{limits_of};
-ghost use Rattle.cose_gate_hmac.specs.Judge.{says_yes};
+ghost use Rattle.cose_gate_program.specs.Judge.{says_yes};
 ghost use Rattle.cose_gate_program.specs.Program.{devices_of, EndsWithin};
 ghost use Rattle.cose_gate_program.specs.Telling.{EndsTold, writes};
 
@@ -12,8 +12,9 @@ use crate::said::{Said, Sources};
 use ciborium_ll::log::Log;
 use ciborium_ll::{Read, Write};
 use cose_gate_core::Terms;
-use cose_gate_hmac::{CoseKeySet, HmacJudge};
-use cose_gate_program::{Beginning, NotBegun, Notice, Teller, begin, run_told};
+use cose_gate_program::{
+    Beginning, CoseKeySet, HmacJudge, NotBegun, Notice, Teller, begin, run_told,
+};
 use std::alloc::Global;
 use std::cell::{Cell, RefCell};
 

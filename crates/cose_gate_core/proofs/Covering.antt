@@ -8,9 +8,9 @@ use Rattle.coset_headers.specs.Written.{shown}
 use Rattle.coset_headers.specs.declared.header.CoseSignature.{CoseSignature, out-CoseSignature, roll-out-CoseSignature, fold-roll-CoseSignature}
 use Rattle.coset_headers.specs.declared.header.Header.{Header}
 use Rattle.coset_headers.specs.declared.header.ProtectedHeader.{ProtectedHeader}
-use Rattle.coset_structures.specs.Contexts.{mac_text}
-use Rattle.coset_structures.specs.Structure.{structure, shown_signer}
-use Rattle.coset_structures.specs.declared.context.MacContext.TheVariants.{CoseMac, CoseMac0}
+use Rattle.coset_base.specs.Contexts.{mac_text}
+use Rattle.coset_base.specs.Structure.{structure, shown_signer}
+use Rattle.coset_base.specs.declared.context.MacContext.TheVariants.{CoseMac, CoseMac0}
 use Rattle.coset_maced.specs.Fields.{Mac0Fields, MacFields}
 use Rattle.coset_maced.specs.PartsWritten.{content_bytes}
 use Rattle.coset_signed.specs.Fields.{Sign1Fields, SignFields, signer_of, signature_bytes}

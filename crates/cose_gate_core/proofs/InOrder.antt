@@ -5,7 +5,7 @@ use Rattle.coset_headers.specs.Fields.{SignatureFields}
 use Rattle.coset_headers.specs.Written.{shown}
 use Rattle.coset_headers.proofs.Writable.{some_is, map_some, and_some}
 use Rattle.coset_maced.specs.PartsWritten.{content_bytes}
-use Rattle.coset_structures.specs.Structure.{structure}
+use Rattle.coset_base.specs.Structure.{structure}
 use Rattle.coset_signed.specs.Fields.{SignFields, signer_of}
 use Rattle.coset_signed.specs.Structure.{sign_covered}
 use Rattle.cose_gate_core.specs.Asked.{asked, first_no, folded_over, ToldPart}

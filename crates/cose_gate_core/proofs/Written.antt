@@ -15,8 +15,10 @@ use Rattle.coset_signed.specs.Structure.{sign1_covered, sign_covered}
 use Rattle.coset_signed.proofs.Writable.{sign1_some, sign1_covers, sign_some, sign_covers}
 use Rattle.coset_maced.proofs.Writable.{mac0_some, mac0_covers, mac_some, mac_covers}
 use Rattle.cose_gate_core.specs.Findings.{Bounds, HasMessage, IsJudged}
-use Rattle.coset_message_sink.proofs.Received.{sign1_received, mac0_received, sign_received, mac_received}
-use Rattle.coset_message_sink.proofs.Same.{sign1_written, mac0_written, sign_written, mac_written}
+use Rattle.coset_signed.proofs.Received.{sign1_received, sign_received}
+use Rattle.coset_maced.proofs.Received.{mac0_received, mac_received}
+use Rattle.coset_signed.proofs.PutWritten.{sign1_written, sign_written}
+use Rattle.coset_maced.proofs.PutWritten.{mac0_written, mac_written}
 use Rattle.cose_gate_core.specs.Put.{message_put, tagged_put, AsReceived}
 use Rattle.cose_gate_core.specs.Questions.{MessageFields, sign1, mac0, sign, mac, sign1_question, mac0_question, mac_question, sign_questions, all_questions, questions, message_tree, tag_of, tagged_tree, message_text, or_nothing}
 use Rattle.cose_gate_core.specs.Received.{IsReceived, AreReceived, IsReceivedMessage}

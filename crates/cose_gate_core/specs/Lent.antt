@@ -7,7 +7,7 @@ use Rattle.coset_headers.specs.declared.header.Header.{Header}
 use Rattle.coset_headers.specs.declared.header.ProtectedHeader.{ProtectedHeader}
 use Rattle.coset_maced.specs.RecipientView.{recipients_view}
 use Rattle.cose_gate_core.specs.declared.about.About.{About}
-use Rattle.coset_structures.specs.Structure.{behind_prefix}
+use Rattle.coset_base.specs.Structure.{behind_prefix}
 use Rattle.cose_gate_core.specs.Questions.{Subject, Question}
 use Rattle.cose_gate_core.specs.Received.{received_bytes}
 

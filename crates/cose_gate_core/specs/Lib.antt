@@ -1,14 +1,19 @@
+pub mod Anew
 pub mod Asked
 pub mod Calls
 pub mod Findings
+pub mod Fixed
 pub mod Lent
+pub mod Narrow
 pub mod Outcome
+pub mod Output
 pub mod Passing
 pub mod Put
 pub mod Questions
 pub mod Received
 pub mod Recorded
 pub mod Run
+pub mod Runs
 pub mod Terms
 pub use Rattle.ciborium_ll.specs.Fault as DeviceFault
 pub use Rattle.ciborium_ll.specs.Framing
@@ -29,7 +34,7 @@ pub use Rattle.coset_labels.specs.Faults
 pub use Rattle.coset_headers.specs.Fields
 pub use Rattle.coset_labels.specs.Fields as LabelFields
 pub use Rattle.coset_headers.specs.Headers
-pub use Rattle.coset_structures.specs.Structure
+pub use Rattle.coset_base.specs.Structure
 pub use Rattle.coset_labels.specs.Kinds
 pub use Rattle.coset_labels.specs.Labels
 pub use Rattle.coset_labels.specs.Limits as CodeLimits

@@ -1,8 +1,10 @@
 -- What a message is written as straight from its fields, and with its tag. Of one that was read it
 -- is what `message_tree` and `tagged_tree` give.
 use Rattle.ciborium_value.specs.Tree.{Tree, tag}
-use Rattle.coset_message_sink.specs.Put.{sign1_put, mac0_put, sign_put, mac_put, Sign1Received, Mac0Received, SignReceived, MacReceived}
-use Rattle.coset_message_sink.proofs.Received.{sign1_prop, mac0_prop, sign_prop, mac_prop}
+use Rattle.coset_signed.specs.Put.{sign1_put, sign_put, Sign1Received, SignReceived}
+use Rattle.coset_maced.specs.Put.{mac0_put, mac_put, Mac0Received, MacReceived}
+use Rattle.coset_signed.proofs.Received.{sign1_prop, sign_prop}
+use Rattle.coset_maced.proofs.Received.{mac0_prop, mac_prop}
 use Rattle.cose_gate_core.specs.Questions.{MessageFields, sign1, mac0, sign, mac, tag_of}
 
 abbrev pub message_put : MessageFields → Tree

@@ -4,7 +4,7 @@ ghost use Rattle.std.specs.Prelude.{◌≡◌, ◌++◌, ℕ, List, OnOk, OnErr,
 ghost use Rattle.std.specs.List.{flat_map};
 ghost use Rattle.coset_headers.specs.View.{protected_view};
 ghost use Rattle.coset_maced.specs.PartsWritten.{content_bytes};
-ghost use Rattle.coset_structures.specs.Structure.{byte_string};
+ghost use Rattle.coset_base.specs.Structure.{byte_string};
 ghost use Rattle.cose_gate_core.specs.Lent.{subject_of, asked_alone};
 ghost use Rattle.cose_gate_core.specs.Questions.{Question, Subject};
 ghost use Rattle.cose_gate_core.specs.Received.{received_bytes};
@@ -12,9 +12,9 @@ ghost use Rattle.cose_gate_core.specs.Asked.{first_no};
 
 use crate::about::About;
 use crate::judge::Judge;
+use coset_base::bytes_title;
 use coset_headers::ProtectedHeader;
-use coset_message_parts::content_bytes;
-use coset_structures::bytes_title;
+use coset_recipients::content_bytes;
 use std::alloc::AllocError;
 
 /// The bytes of a protected header that were received; none of a header that was not.

@@ -6,6 +6,13 @@ ghost use Rattle.cose_gate_core.specs.Questions.{Question, MessageFields, all_qu
 ghost use Rattle.cose_gate_core.specs.Findings.{Bounds, Finding, IsJudged, Finds};
 ghost use Rattle.cose_gate_core.specs.Run.{Step, Run, questions_of, output_of};
 
+pub use crate::findings::{every_input_run, every_item_found, shape_holds_no_memory};
+pub use crate::output::{
+    output_is_fixed, output_is_no_longer, output_is_passed_messages, output_is_received,
+    wider_limits_admit,
+};
+pub use crate::runs::{course_begins_run, joined_runs, refused_taken_out, same_trees};
+
 /// What is found of an item is one.
 pub fn one_finding()
     ensures { (limits : Bounds) (b : List ℕ) (t : Tree) (f g : Finding) → Finds limits b t f

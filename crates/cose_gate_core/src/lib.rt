@@ -1,18 +1,21 @@
-//! The gate itself, the judge's trait, and what a judge is asked (RFC 8742, RFC 9052). A user names
-//! `cose_gate`, which passes it on.
+//! The gate itself, the judge's trait, and what a judge is asked (RFC 8742, RFC 9052); laws of runs,
+//! whatever the judge. A user names `cose_gate`, which passes it on.
 #![tactic(auto)]
 
 mod about;
 mod asking;
+mod findings;
 mod gating;
 mod judge;
 pub mod laws;
 mod mac;
 mod mac0;
 mod message;
+mod output;
 mod passing;
 mod recorder;
 mod report;
+mod runs;
 mod sign;
 mod sign1;
 mod terms;

@@ -9,10 +9,9 @@ use crate::message::Message;
 use crate::terms::Terms;
 use ciborium::Value;
 use ciborium::ser::Sink;
+use coset_base::MacContext;
 use coset_labels::{AsWritten, CoseError};
-use coset_maced::CoseMac0;
-use coset_message_sink::put_tagged_mac0;
-use coset_structures::MacContext;
+use coset_maced::{CoseMac0, put_tagged_mac0};
 use std::alloc::{AllocError, Global};
 
 impl Message for CoseMac0 {

@@ -13,12 +13,11 @@ use crate::message::Message;
 use crate::terms::Terms;
 use ciborium::Value;
 use ciborium::ser::Sink;
+use coset_base::SignatureContext;
 use coset_headers::CoseSignature;
 use coset_labels::{AsWritten, CoseError};
-use coset_message_parts::content_bytes;
-use coset_message_sink::put_tagged_sign;
-use coset_signed::CoseSign;
-use coset_structures::SignatureContext;
+use coset_recipients::content_bytes;
+use coset_signed::{CoseSign, put_tagged_sign};
 use std::alloc::{AllocError, Global};
 
 impl Message for CoseSign {

@@ -9,10 +9,9 @@ use crate::message::Message;
 use crate::terms::Terms;
 use ciborium::Value;
 use ciborium::ser::Sink;
+use coset_base::SignatureContext;
 use coset_labels::{AsWritten, CoseError};
-use coset_message_sink::put_tagged_sign1;
-use coset_signed::CoseSign1;
-use coset_structures::SignatureContext;
+use coset_signed::{CoseSign1, put_tagged_sign1};
 use std::alloc::{AllocError, Global};
 
 impl Message for CoseSign1 {

@@ -5,7 +5,7 @@ use Rattle.coset_labels.specs.Faults.{OrMemory, fault_of}
 use Rattle.coset_labels.specs.Reading.{WrongItem}
 use Rattle.coset_labels.specs.declared.error.CoseError.{CoseError}
 use Rattle.coset_labels.specs.declared.error.CoseError.TheVariants as cose
-use Rattle.cose_gate_hmac.specs.KeySets.Wrong.{WrongKeySet}
+use Rattle.coset_keys.specs.Wrong.{WrongKeySet}
 use Rattle.cose_gate_program.specs.Beginning.{aad_of, key_set_fault, IsNoAad, IsNoKeySet, BeginsNot}
 use Rattle.cose_gate_program.specs.declared.beginning.NotBegun.{NotBegun}
 use Rattle.cose_gate_program.specs.declared.beginning.NotBegun.TheVariants.{NoFile, NotHex, NoKeys, Memory}

@@ -15,19 +15,19 @@ use Rattle.ciborium.specs.declared.de.Error.{Error}
 use Rattle.ciborium.specs.declared.de.Error.TheVariants as de
 use Rattle.ciborium.proofs.ChildCases.{front_some}
 use Rattle.ciborium_value.specs.Tree.{Tree}
-use Rattle.cose_gate_hmac.specs.KeySets.Fields.{KeyFields}
-use Rattle.cose_gate_hmac.specs.GateCore.Questions.{Question}
-use Rattle.cose_gate_hmac.specs.GateCore.Asked.{IsFront, ToldFront, folded_over}
-use Rattle.cose_gate_hmac.specs.GateCore.Findings.{Bounds, usual, plain}
-use Rattle.cose_gate_hmac.specs.GateCore.Terms.{limits_by}
-use Rattle.cose_gate_hmac.specs.GateCore.Run.{Step, Course, asked_of, questions_of, output_of, entries_of, refused_count}
-use Rattle.cose_gate_hmac.specs.GateCore.Outcome.{Rules, Sight, Outcome, Answers, IsFaultOf, StandsIn, IsNoReaderFault, reader_failures, writer_failures}
-use Rattle.cose_gate_hmac.specs.GateCore.declared.gating.Counts.{Counts}
-use Rattle.cose_gate_hmac.specs.GateCore.declared.gating.GateFault.{GateFault}
-use Rattle.cose_gate_hmac.specs.GateCore.declared.gating.GateFault.TheVariants as gating
-use Rattle.cose_gate_hmac.specs.Judge.{says_yes}
-use Rattle.cose_gate_hmac.specs.KeySets.Keys.{HasKeySet}
-use Rattle.cose_gate_hmac.specs.KeySets.View.{key_set_view}
+use Rattle.coset_keys.specs.Fields.{KeyFields}
+use Rattle.cose_gate_core.specs.Questions.{Question}
+use Rattle.cose_gate_core.specs.Asked.{IsFront, ToldFront, folded_over}
+use Rattle.cose_gate_core.specs.Findings.{Bounds, usual, plain}
+use Rattle.cose_gate_core.specs.Terms.{limits_by}
+use Rattle.cose_gate_core.specs.Run.{Step, Course, asked_of, questions_of, output_of, entries_of, refused_count}
+use Rattle.cose_gate_core.specs.Outcome.{Rules, Sight, Outcome, Answers, IsFaultOf, StandsIn, IsNoReaderFault, reader_failures, writer_failures}
+use Rattle.cose_gate_core.specs.declared.gating.Counts.{Counts}
+use Rattle.cose_gate_core.specs.declared.gating.GateFault.{GateFault}
+use Rattle.cose_gate_core.specs.declared.gating.GateFault.TheVariants as gating
+use Rattle.cose_gate_program.specs.Judge.{says_yes}
+use Rattle.coset_keys.specs.Keys.{HasKeySet}
+use Rattle.coset_keys.specs.View.{key_set_view}
 use Rattle.cose_gate_program.specs.Telling.{items_of, done_of, why_of, done_by, EndsAs, GatedTold}
 use Rattle.cose_gate_program.specs.declared.telling.Notice.{Notice}
 use Rattle.cose_gate_program.specs.Beginning.{status_of, Begins, BeginsNot, IsNoKeySet}

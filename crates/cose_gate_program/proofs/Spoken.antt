@@ -1,7 +1,7 @@
 -- What lines on a writer wrote, as they were told.
 use Rattle.std.proofs.Common.{◌≡◌, ℕ, List, [], ◌∷◌, ◌++◌, sym, ap, subst, ◌∙◌, append-nil, append_assoc}
 use Rattle.ciborium_ll.specs.declared.write.Write.{Ghosts as Writes}
-use Rattle.cose_gate_hmac.specs.GateCore.Asked.{folded_over}
+use Rattle.cose_gate_core.specs.Asked.{folded_over}
 use Rattle.cose_gate_program.specs.Lines.{line_of, lines_of}
 use Rattle.cose_gate_program.specs.Writing.{Wrote, WroteSince, Spoken}
 use Rattle.cose_gate_program.specs.declared.telling.Notice.{Notice}

@@ -4,20 +4,20 @@ use Rattle.std.specs.Prelude.{Result, Ok, Err}
 use Rattle.coset_labels.specs.Limits.{nesting, layers, nesting_of, layers_of}
 use Rattle.coset_labels.specs.Reading.{HasItem}
 use Rattle.coset_labels.specs.declared.limits.Limits.{Limits}
-use Rattle.cose_gate_hmac.specs.GateCore.Asked.{folded_over}
-use Rattle.cose_gate_hmac.specs.GateCore.Findings.{Bounds, usual}
-use Rattle.cose_gate_hmac.specs.GateCore.Outcome.{writer_failures}
-use Rattle.cose_gate_hmac.specs.GateCore.Questions.{Question}
-use Rattle.cose_gate_hmac.specs.GateCore.Run.{Step, passed_count, refused_count}
-use Rattle.cose_gate_hmac.specs.GateCore.Terms.{limits_by}
-use Rattle.cose_gate_hmac.specs.GateCore.declared.gating.Counts.{Counts as Count}
-use Rattle.cose_gate_hmac.specs.GateCore.declared.gating.GateFault.{GateFault}
-use Rattle.cose_gate_hmac.specs.GateCore.declared.gating.GateFault.TheVariants as gating
-use Rattle.cose_gate_hmac.specs.GateCore.declared.report.Entry.{Entry}
-use Rattle.cose_gate_hmac.specs.Judge.{says_yes}
-use Rattle.cose_gate_hmac.specs.KeySets.Fields.{KeyFields}
-use Rattle.cose_gate_hmac.specs.KeySets.Keys.{HasKeySet}
-use Rattle.cose_gate_hmac.specs.KeySets.View.{key_set_view}
+use Rattle.cose_gate_core.specs.Asked.{folded_over}
+use Rattle.cose_gate_core.specs.Findings.{Bounds, usual}
+use Rattle.cose_gate_core.specs.Outcome.{writer_failures}
+use Rattle.cose_gate_core.specs.Questions.{Question}
+use Rattle.cose_gate_core.specs.Run.{Step, passed_count, refused_count}
+use Rattle.cose_gate_core.specs.Terms.{limits_by}
+use Rattle.cose_gate_core.specs.declared.gating.Counts.{Counts as Count}
+use Rattle.cose_gate_core.specs.declared.gating.GateFault.{GateFault}
+use Rattle.cose_gate_core.specs.declared.gating.GateFault.TheVariants as gating
+use Rattle.cose_gate_core.specs.declared.report.Entry.{Entry}
+use Rattle.cose_gate_program.specs.Judge.{says_yes}
+use Rattle.coset_keys.specs.Fields.{KeyFields}
+use Rattle.coset_keys.specs.Keys.{HasKeySet}
+use Rattle.coset_keys.specs.View.{key_set_view}
 use Rattle.cose_gate_program.specs.Beginning.{status_of, Begins, BeginsNot, IsNoKeySet}
 use Rattle.cose_gate_program.specs.Heard.{Heard}
 use Rattle.cose_gate_program.specs.Program.{Devices, Hearing, RanOn}

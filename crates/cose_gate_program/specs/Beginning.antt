@@ -8,9 +8,9 @@ use Rattle.coset_labels.specs.Faults.{fault_of}
 use Rattle.coset_labels.specs.Reading.{HasItem, WrongItem}
 use Rattle.coset_labels.specs.declared.error.CoseError.{CoseError}
 use Rattle.coset_labels.specs.declared.error.CoseError.TheVariants as cose
-use Rattle.cose_gate_hmac.specs.KeySets.Keys.{HasKeySet}
-use Rattle.cose_gate_hmac.specs.KeySets.View.{key_set_view}
-use Rattle.cose_gate_hmac.specs.KeySets.Wrong.{WrongKeySet}
+use Rattle.coset_keys.specs.Keys.{HasKeySet}
+use Rattle.coset_keys.specs.View.{key_set_view}
+use Rattle.coset_keys.specs.Wrong.{WrongKeySet}
 use Rattle.cose_gate_program.specs.declared.beginning.Beginning.{Beginning}
 use Rattle.cose_gate_program.specs.declared.beginning.NotBegun.{NotBegun}
 use Rattle.cose_gate_program.specs.declared.beginning.NotBegun.TheVariants.{NoFile, NotHex, NoKeys, Memory}

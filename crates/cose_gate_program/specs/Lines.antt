@@ -7,14 +7,14 @@ use Rattle.ciborium_value.specs.declared.kind.Kind.{Kind}
 use Rattle.ciborium_value.specs.declared.kind.Kind.TheVariants as kind
 use Rattle.coset_labels.specs.declared.error.CoseError.{CoseError}
 use Rattle.coset_labels.specs.declared.error.CoseError.TheVariants as code
-use Rattle.cose_gate_hmac.specs.GateCore.declared.gating.Counts.{Counts}
-use Rattle.cose_gate_hmac.specs.GateCore.declared.gating.GateFault.{GateFault}
-use Rattle.cose_gate_hmac.specs.GateCore.declared.gating.GateFault.TheVariants as gating
-use Rattle.cose_gate_hmac.specs.GateCore.declared.report.Entry.{Entry}
-use Rattle.cose_gate_hmac.specs.GateCore.declared.report.Verdict.{Verdict}
-use Rattle.cose_gate_hmac.specs.GateCore.declared.report.Verdict.TheVariants.{Passed, Refused}
-use Rattle.cose_gate_hmac.specs.GateCore.declared.report.Refusal.{Refusal}
-use Rattle.cose_gate_hmac.specs.GateCore.declared.report.Refusal.TheVariants as refusal
+use Rattle.cose_gate_core.specs.declared.gating.Counts.{Counts}
+use Rattle.cose_gate_core.specs.declared.gating.GateFault.{GateFault}
+use Rattle.cose_gate_core.specs.declared.gating.GateFault.TheVariants as gating
+use Rattle.cose_gate_core.specs.declared.report.Entry.{Entry}
+use Rattle.cose_gate_core.specs.declared.report.Verdict.{Verdict}
+use Rattle.cose_gate_core.specs.declared.report.Verdict.TheVariants.{Passed, Refused}
+use Rattle.cose_gate_core.specs.declared.report.Refusal.{Refusal}
+use Rattle.cose_gate_core.specs.declared.report.Refusal.TheVariants as refusal
 use Rattle.cose_gate_program.specs.declared.beginning.NotBegun.{NotBegun}
 use Rattle.cose_gate_program.specs.declared.beginning.NotBegun.TheVariants as unbegun
 use Rattle.cose_gate_program.specs.declared.devices.InputFault.{InputFault}

@@ -6,19 +6,19 @@ use Rattle.ciborium_ll.specs.declared.read.Read.{Ghosts as Reads}
 use Rattle.ciborium_ll.specs.declared.write.Write.{Ghosts as Writes}
 use Rattle.ciborium.specs.Reading.{IfKnown}
 use Rattle.ciborium.specs.declared.de.Error.{Error}
-use Rattle.cose_gate_hmac.specs.GateCore.Questions.{Question}
-use Rattle.cose_gate_hmac.specs.GateCore.Asked.{IsFront, ToldFront}
-use Rattle.cose_gate_hmac.specs.GateCore.Findings.{Bounds, usual}
-use Rattle.cose_gate_hmac.specs.GateCore.Outcome.{IsFaultOf, IsNoReaderFault}
-use Rattle.cose_gate_hmac.specs.GateCore.Run.{Step, Course, questions_of, output_of, written_of, passes, refused_count}
-use Rattle.cose_gate_hmac.specs.GateCore.declared.gating.Counts.{Counts}
-use Rattle.cose_gate_hmac.specs.GateCore.declared.gating.GateFault.{GateFault}
-use Rattle.cose_gate_hmac.specs.GateCore.declared.judge.Judge.{Ghosts as Judges}
+use Rattle.cose_gate_core.specs.Questions.{Question}
+use Rattle.cose_gate_core.specs.Asked.{IsFront, ToldFront}
+use Rattle.cose_gate_core.specs.Findings.{Bounds, usual}
+use Rattle.cose_gate_core.specs.Outcome.{IsFaultOf, IsNoReaderFault}
+use Rattle.cose_gate_core.specs.Run.{Step, Course, questions_of, output_of, written_of, passes, refused_count}
+use Rattle.cose_gate_core.specs.declared.gating.Counts.{Counts}
+use Rattle.cose_gate_core.specs.declared.gating.GateFault.{GateFault}
+use Rattle.cose_gate_core.specs.declared.judge.Judge.{Ghosts as Judges}
 use Rattle.coset_labels.specs.Faults.{CoseFault}
 use Rattle.coset_labels.specs.Reading.{HasItem, WrongItem}
-use Rattle.cose_gate_hmac.specs.KeySets.Fields.{KeyFields}
-use Rattle.cose_gate_hmac.specs.KeySets.Keys.{HasKeySet}
-use Rattle.cose_gate_hmac.specs.KeySets.Wrong.{WrongKeySet}
+use Rattle.coset_keys.specs.Fields.{KeyFields}
+use Rattle.coset_keys.specs.Keys.{HasKeySet}
+use Rattle.coset_keys.specs.Wrong.{WrongKeySet}
 use Rattle.cose_gate_program.specs.Beginning.{aad_of}
 use Rattle.cose_gate_program.specs.declared.devices.InputFault.{InputFault}
 

@@ -5,14 +5,14 @@ use Rattle.ciborium_ll.specs.declared.write.Write.{Ghosts as Writes}
 use Rattle.ciborium.specs.declared.de.Error.TheVariants as de
 use Rattle.coset_labels.specs.Faults.{fault_of}
 use Rattle.coset_labels.specs.declared.error.CoseError.{CoseError}
-use Rattle.cose_gate_hmac.specs.GateCore.Asked.{folded_over}
-use Rattle.cose_gate_hmac.specs.GateCore.Findings.{Bounds}
-use Rattle.cose_gate_hmac.specs.GateCore.Questions.{Question}
-use Rattle.cose_gate_hmac.specs.GateCore.Run.{Step, entries_of, passed_count, refused_count}
-use Rattle.cose_gate_hmac.specs.GateCore.declared.gating.Counts.{Counts as Count}
-use Rattle.cose_gate_hmac.specs.GateCore.declared.gating.GateFault.{GateFault}
-use Rattle.cose_gate_hmac.specs.GateCore.declared.gating.GateFault.TheVariants as gating
-use Rattle.cose_gate_hmac.specs.KeySets.Fields.{KeyFields}
+use Rattle.cose_gate_core.specs.Asked.{folded_over}
+use Rattle.cose_gate_core.specs.Findings.{Bounds}
+use Rattle.cose_gate_core.specs.Questions.{Question}
+use Rattle.cose_gate_core.specs.Run.{Step, entries_of, passed_count, refused_count}
+use Rattle.cose_gate_core.specs.declared.gating.Counts.{Counts as Count}
+use Rattle.cose_gate_core.specs.declared.gating.GateFault.{GateFault}
+use Rattle.cose_gate_core.specs.declared.gating.GateFault.TheVariants as gating
+use Rattle.coset_keys.specs.Fields.{KeyFields}
 use Rattle.cose_gate_program.specs.Lines.{lines_of}
 use Rattle.cose_gate_program.specs.Program.{Devices, Hearing, GatedOver, Gated, Stops, writer, flush, reader, no_item, memory, RanOver, RanOn, RanJudged, EndsWithin, no_file, not_hex, no_keys, no_memory, after_run, EndsOver}
 use Rattle.cose_gate_program.specs.Writing.{Wrote}

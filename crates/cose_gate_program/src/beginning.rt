@@ -1,12 +1,12 @@
 //! What a run begins with: a key set, and external data.
 ghost use Rattle.std.specs.Prelude.{◌≡◌, MatchResult, Some, option_copied};
 ghost use Rattle.coset_labels.specs.Reading.{HasItem};
-ghost use Rattle.cose_gate_hmac.specs.KeySets.Keys.{HasKeySet};
-ghost use Rattle.cose_gate_hmac.specs.KeySets.View.{key_set_view};
+ghost use Rattle.coset_keys.specs.Keys.{HasKeySet};
+ghost use Rattle.coset_keys.specs.View.{key_set_view};
 ghost use Rattle.cose_gate_program.specs.Beginning as spec;
 ghost use Rattle.cose_gate_program.specs.Beginning.{aad_of, Begins, IsNoAad, IsNoKeySet};
 
-use cose_gate_hmac::CoseKeySet;
+use coset_keys::CoseKeySet;
 use coset_labels::{CborSerializable, CoseError};
 use hex::FromHexError;
 use std::alloc::Global;

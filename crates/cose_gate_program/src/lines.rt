@@ -11,7 +11,7 @@ use crate::devices::InputFault;
 use crate::telling::{Notice, Teller};
 use ciborium_ll::Write;
 use ciborium_ll::log::Log;
-use cose_gate_hmac::gate_core::{Counts, Entry, GateFault, Refusal, SemanticKind, Verdict, de};
+use cose_gate_core::{Counts, Entry, GateFault, Refusal, SemanticKind, Verdict, de};
 use coset_labels::CoseError;
 use itoa::write_digits;
 

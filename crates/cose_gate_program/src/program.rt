@@ -1,9 +1,9 @@
 //! The program: the gate over one input, a line for each item, and one that says how it ended.
 ghost use Rattle.std.specs.Prelude.{◌≡◌, ◌≤◌, ◌+◌, [], Some, IsOk, OnOk, option_copied};
-ghost use Rattle.cose_gate_hmac.specs.GateCore.Outcome.{writer_failures};
-ghost use Rattle.cose_gate_hmac.specs.GateCore.Terms.{limits_of};
-ghost use Rattle.cose_gate_hmac.specs.Judge.{says_yes};
-ghost use Rattle.cose_gate_hmac.specs.GateCore.Findings.{usual};
+ghost use Rattle.cose_gate_core.specs.Outcome.{writer_failures};
+ghost use Rattle.cose_gate_core.specs.Terms.{limits_of};
+ghost use Rattle.cose_gate_program.specs.Judge.{says_yes};
+ghost use Rattle.cose_gate_core.specs.Findings.{usual};
 ghost use Rattle.cose_gate_program.specs.Program.{devices_of, hearing_of, RanJudged};
 ghost use Rattle.cose_gate_program.specs.Program.{Ends, EndsWithin, EndsOver};
 ghost use Rattle.cose_gate_program.specs.Telling.{GatedTold, RanTold, OverTold, EndsTold};
@@ -11,12 +11,12 @@ ghost use Rattle.cose_gate_program.specs.Telling.{tells, writes};
 
 use crate::beginning::{begin, read_keys};
 use crate::devices::{Input, InputFault, Output};
+use crate::judge::HmacJudge;
 use crate::lines::{Lines, write_notice};
 use crate::telling::{Notice, Teller, Told};
 use ciborium_ll::log::Log;
 use ciborium_ll::{Decoder, Read, Write};
-use cose_gate_hmac::HmacJudge;
-use cose_gate_hmac::gate_core::{Counts, GateFault, Judge, Limits, Terms, gate_by};
+use cose_gate_core::{Counts, GateFault, Judge, Limits, Terms, gate_by};
 use std::alloc::Global;
 
 /// The gate over input and output with small faults, told item by item.

@@ -6,7 +6,7 @@ ghost use Rattle.cose_gate_program.specs.declared.telling.Notice.TheVariants.{It
 
 use crate::beginning::NotBegun;
 use crate::devices::InputFault;
-use cose_gate_hmac::gate_core::{Counts, Entry, GateFault, Report};
+use cose_gate_core::{Counts, Entry, GateFault, Report};
 use std::alloc::AllocError;
 
 /// What is told of a run: each item, and at last one of the others.

@@ -2,4 +2,7 @@ pub mod Asked
 pub mod Frames
 pub mod Keys
 pub mod Order
+pub mod Put
+pub mod Runs
 pub mod Shown
+pub mod Told

@@ -1,7 +1,11 @@
+pub mod Calls
 pub mod Framing
 pub mod Growing
-pub mod KeyHeaders
 pub mod Kept
+pub mod KeyHeaders
+pub mod Lines
 pub mod Order
 pub mod Records
+pub mod Tallies
 pub mod Verifying
+pub mod Views

@@ -1,25 +1,40 @@
 //! Judges whose answers come from elsewhere: one that tells each question as a record, and one that
-//! says yes to the questions whose records it was handed.
+//! says yes to the questions whose records it was handed. And the gate over buffers that the caller
+//! owns: three calls, which `cose_gate_c` exports to C.
 #![tactic(auto)]
 
 mod accepted;
+mod answer;
 mod asker;
+mod asking;
+mod checking;
+mod choice;
 mod framing;
 mod front;
 mod growing;
 mod headers;
 mod held;
 pub mod laws;
+mod lines;
 mod nowhere;
 mod ordered;
+mod passing;
+mod placing;
+mod running;
+mod tally;
 mod text;
 mod verifier;
 mod verifying;
 
 pub use crate::accepted::Accepted;
+pub use crate::answer::Answer;
 pub use crate::asker::Asker;
+pub use crate::asking::ask;
+pub use crate::checking::check;
+pub use crate::choice::Choice;
 pub use crate::growing::Growing;
 pub use crate::headers::{has_algorithm, has_known_crit, key_id};
 pub use crate::nowhere::Nowhere;
+pub use crate::passing::pass;
 pub use crate::verifier::Verifier;
 pub use crate::verifying::VerifierJudge;

@@ -12,7 +12,7 @@ use Rattle.cose_gate_core.specs.WrongParts as whole
 use Rattle.cose_gate_core.specs.WrongSigned.{WrongSign1}
 use Rattle.cose_gate_core.specs.WrongMaced.{WrongMac0, no_array0, in_parts0, in_tag0}
 use Rattle.cose_gate_core.specs.WrongMaced as maced
-use Rattle.coset_structures.specs.Structure.{structure}
+use Rattle.coset_base.specs.Structure.{structure}
 use Rattle.cose_gate_core.specs.Questions.{Question, questions, alone}
 use Rattle.cose_gate_core.specs.Findings.{Bounds, IsMisshapen, IsJudged, WrongMessage}
 use Rattle.cose_gate_stream.specs.declared.form.Form.{Form}

@@ -2,9 +2,9 @@
 -- one tag, and nobody else to ask about (RFC 9052, sections 2, 4.2 and 6.2).
 use Rattle.std.specs.Prelude.{ℕ, List, Option, Some}
 use Rattle.coset_headers.specs.Fields.{HeaderFields, ProtectedFields, protected}
-use Rattle.coset_structures.specs.Contexts.{signature_text, mac_text}
-use Rattle.coset_structures.specs.declared.context.SignatureContext.TheVariants.{CoseSign1}
-use Rattle.coset_structures.specs.declared.context.MacContext.TheVariants.{CoseMac0}
+use Rattle.coset_base.specs.Contexts.{signature_text, mac_text}
+use Rattle.coset_base.specs.declared.context.SignatureContext.TheVariants.{CoseSign1}
+use Rattle.coset_base.specs.declared.context.MacContext.TheVariants.{CoseMac0}
 use Rattle.cose_gate_core.specs.Questions.{MessageFields, sign1, mac0, number_of}
 use Rattle.cose_gate_core.specs.declared.about.MessageKind.{MessageKind}
 use Rattle.cose_gate_core.specs.declared.about.MessageKind.TheVariants as kind

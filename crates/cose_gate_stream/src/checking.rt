@@ -4,7 +4,9 @@ ghost use Rattle.ciborium_ll.specs.Seen.{Takes};
 ghost use Rattle.ciborium_ll.specs.Views.{offset_of, seen};
 ghost use Rattle.coset_labels.specs.Limits.{nesting_of, layers_of};
 ghost use Rattle.cose_gate_core.specs.Findings.{plain};
-ghost use Rattle.cose_gate_stream.specs.Streaming.{Checked, CheckedBy, Unstreamed, UnstreamedBy, IsFarFor, NamesWhy, Steady, AnswersStated, AnswersStatedBy};
+ghost use Rattle.cose_gate_stream.specs.Streaming.{Checked, CheckedBy, Unstreamed, UnstreamedBy};
+ghost use Rattle.cose_gate_stream.specs.Streaming.{IsFarFor, NamesWhy, Steady, AnswersStated};
+ghost use Rattle.cose_gate_stream.specs.Streaming.{AnswersStatedBy};
 
 use crate::fault::StreamFault;
 use crate::feeding::{feed_front, feed_payload};

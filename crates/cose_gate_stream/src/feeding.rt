@@ -2,7 +2,7 @@
 ghost use Rattle.std.specs.Prelude.{◌≡◌, ◌<◌, ◌++◌, [], ℕ, List, None, IfErr, OnOk, length};
 ghost use Rattle.ciborium_ll.specs.Seen.{Takes};
 ghost use Rattle.ciborium_ll.specs.Views.{offset_of, waiting_of, seen};
-ghost use Rattle.coset_structures.specs.Structure.{structure};
+ghost use Rattle.coset_base.specs.Structure.{structure};
 ghost use Rattle.cose_gate_core.specs.Questions.{Subject};
 ghost use Rattle.cose_gate_stream.specs.ElementFaults.{ShortFault, Split};
 ghost use Rattle.cose_gate_stream.specs.Forms.{context_of};
@@ -12,7 +12,7 @@ use crate::fault::StreamFault;
 use crate::form::Form;
 use ciborium_ll::{Decoder, Read};
 use cose_gate_core::Judge;
-use coset_structures::bytes_title;
+use coset_base::bytes_title;
 use std::alloc::AllocError;
 
 /// Feeds what is in front of the payload's bytes in the structure (RFC 9052, sections 4.4 and 6.3).

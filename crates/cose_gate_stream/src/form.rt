@@ -1,14 +1,14 @@
 //! Which message it is.
 ghost use Rattle.std.specs.Prelude.{◌≡◌, ◌++◌, ℕ, List, None, MatchOption};
-ghost use Rattle.coset_structures.specs.Structure.{structure, behind_prefix};
+ghost use Rattle.coset_base.specs.Structure.{structure, behind_prefix};
 ghost use Rattle.cose_gate_stream.specs.Forms.{tag_number, kind_of, context_of};
 ghost use Rattle.cose_gate_stream.specs.Stated.{IsSingleTag};
 
 use cose_gate_core::MessageKind;
+use coset_base::{MacContext, SignatureContext};
 use coset_labels::TaggedCborSerializable;
 use coset_maced::CoseMac0;
 use coset_signed::CoseSign1;
-use coset_structures::{MacContext, SignatureContext};
 
 /// A message with one signature or one tag, and nobody else to ask about.
 #[derive(Debug, Clone, Copy, PartialEq, Eq)]

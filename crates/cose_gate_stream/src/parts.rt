@@ -9,7 +9,8 @@ ghost use Rattle.coset_labels.specs.Limits.{nesting_of, layers_of};
 ghost use Rattle.coset_headers.specs.Headers.{HasProtected, HasHeader};
 ghost use Rattle.coset_headers.specs.View.{header_view, protected_view};
 ghost use Rattle.coset_headers.specs.Wrong.{WrongProtected, WrongHeader};
-ghost use Rattle.cose_gate_stream.specs.ElementFaults.{PartFault, IsPart, WrongPart, NoneWrong, NoBytes};
+ghost use Rattle.cose_gate_stream.specs.ElementFaults.{PartFault, IsPart, WrongPart, NoneWrong};
+ghost use Rattle.cose_gate_stream.specs.ElementFaults.{NoBytes};
 ghost use Rattle.cose_gate_stream.specs.Forms.{received_of};
 ghost use Rattle.cose_gate_stream.specs.Streaming.{IsFarFor, NamesWhy, Steady};
 

@@ -1,10 +1,12 @@
 //! The titles of a message, one after another.
-ghost use Rattle.std.specs.Prelude.{◌≡◌, ◌≢◌, ◌≤◌, ℕ, Option, IfOk, IfErr, OnOk, MatchOption, None, Some, length};
+ghost use Rattle.std.specs.Prelude.{◌≡◌, ◌≢◌, ◌≤◌, ℕ, Option, IfOk, IfErr, OnOk, MatchOption, None};
+ghost use Rattle.std.specs.Prelude.{Some, length};
 ghost use Rattle.ciborium_ll.specs.Seen.{Takes};
 ghost use Rattle.ciborium_ll.specs.Title.{Title, title_of};
 ghost use Rattle.ciborium_ll.specs.Views.{offset_of, waiting_of, seen};
 ghost use Rattle.ciborium_ll.specs.declared.hdr.Header.TheVariants.{Tag, Bytes, Array};
-ghost use Rattle.cose_gate_stream.specs.ElementFaults.{TitleFault, TagFault, FourFault, SizeFault, CloseFault, IsPayload, IsUnexpected};
+ghost use Rattle.cose_gate_stream.specs.ElementFaults.{TitleFault, TagFault, FourFault, SizeFault};
+ghost use Rattle.cose_gate_stream.specs.ElementFaults.{CloseFault, IsPayload, IsUnexpected};
 ghost use Rattle.cose_gate_stream.specs.Forms.{tag_number};
 ghost use Rattle.cose_gate_stream.specs.Stated.{IsFour, closing};
 ghost use Rattle.cose_gate_stream.specs.Streaming.{IsFarFor, NamesWhy, Steady};

@@ -1,7 +1,8 @@
 //! Labels of headers.
 ghost use Rattle.cose_iana.specs.Registry.{is_private_use};
 ghost use Rattle.cose_iana.specs.Headers.{header_parameters, header_algorithm_parameters};
-ghost use Rattle.cose_iana.specs.Laws.{header_parameters_in_order, header_parameters_not_private, header_algorithm_parameters_in_order};
+ghost use Rattle.cose_iana.specs.Laws.{header_parameters_in_order, header_parameters_not_private};
+ghost use Rattle.cose_iana.specs.Laws.{header_algorithm_parameters_in_order};
 
 use crate::number::{EnumI64, WithPrivateRange, entry_with, rows};
 

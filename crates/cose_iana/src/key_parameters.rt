@@ -1,6 +1,14 @@
 //! Labels of keys of one type.
-ghost use Rattle.cose_iana.specs.KeyParameters.{okp_key_parameters, ec2_key_parameters, rsa_key_parameters, symmetric_key_parameters, hss_lms_key_parameters, walnut_dsa_key_parameters, akp_key_parameters};
-ghost use Rattle.cose_iana.specs.Laws.{okp_key_parameters_in_order, ec2_key_parameters_in_order, rsa_key_parameters_in_order, symmetric_key_parameters_in_order, hss_lms_key_parameters_in_order, walnut_dsa_key_parameters_in_order, akp_key_parameters_in_order};
+ghost use Rattle.cose_iana.specs.KeyParameters.{okp_key_parameters, ec2_key_parameters};
+ghost use Rattle.cose_iana.specs.KeyParameters.{rsa_key_parameters, symmetric_key_parameters};
+ghost use Rattle.cose_iana.specs.KeyParameters.{hss_lms_key_parameters, walnut_dsa_key_parameters};
+ghost use Rattle.cose_iana.specs.KeyParameters.{akp_key_parameters};
+ghost use Rattle.cose_iana.specs.Laws.{okp_key_parameters_in_order, ec2_key_parameters_in_order};
+ghost use Rattle.cose_iana.specs.Laws.{rsa_key_parameters_in_order};
+ghost use Rattle.cose_iana.specs.Laws.{symmetric_key_parameters_in_order};
+ghost use Rattle.cose_iana.specs.Laws.{hss_lms_key_parameters_in_order};
+ghost use Rattle.cose_iana.specs.Laws.{walnut_dsa_key_parameters_in_order};
+ghost use Rattle.cose_iana.specs.Laws.{akp_key_parameters_in_order};
 
 use crate::number::{EnumI64, entry_with, rows};
 

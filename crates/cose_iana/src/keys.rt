@@ -1,7 +1,9 @@
 //! Labels, types, curves and operations of keys.
 ghost use Rattle.cose_iana.specs.Registry.{is_private_use};
 ghost use Rattle.cose_iana.specs.Keys.{key_parameters, key_types, elliptic_curves, key_operations};
-ghost use Rattle.cose_iana.specs.Laws.{key_parameters_in_order, key_types_in_order, elliptic_curves_in_order, elliptic_curves_not_private, key_operations_in_order};
+ghost use Rattle.cose_iana.specs.Laws.{key_parameters_in_order, key_types_in_order};
+ghost use Rattle.cose_iana.specs.Laws.{elliptic_curves_in_order, elliptic_curves_not_private};
+ghost use Rattle.cose_iana.specs.Laws.{key_operations_in_order};
 
 use crate::number::{EnumI64, WithPrivateRange, entry_with, rows};
 

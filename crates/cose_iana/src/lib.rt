@@ -1,7 +1,7 @@
 //! Registries of IANA for COSE: enums whose entries have the registered numbers.
 //!
-//! Each registry is an enum of its entries, with a number for each, and a table of all of them. Both
-//! directions read the enum's numbers: `as i64` is the number of an entry, and so is `to_i64`.
+//! Each registry is an enum of its entries, with a number for each, and a table of all of them.
+//! Both directions read the enum's numbers: `as i64` is the number of an entry, and so is `to_i64`.
 //! `specs/` has each registry once more, as a list of names and numbers to read beside the page of
 //! IANA, and enum and table are proved equal to it. It is proved once for every list that each
 //! direction undoes the other, that no number is repeated, and that the entries are ordered by
@@ -9,10 +9,10 @@
 //! number.
 //!
 //! A new entry is its name with its number in the enum and in the list, and its name in the table,
-//! each in the place of its number, since the numbers rise. No proof changes, except that the law of
-//! the order of an enum of one entry, once it has two, is written like that of the others. A check
-//! refuses a name that isn't in all three, a name in another place, a repeated number, and a number
-//! that isn't that of the list.
+//! each in the place of its number, since the numbers rise. No proof changes, except that the law
+//! of the order of an enum of one entry, once it has two, is written like that of the others. A
+//! check refuses a name that isn't in all three, a name in another place, a repeated number, and a
+//! number that isn't that of the list.
 #![tactic(auto)]
 
 mod algorithm;

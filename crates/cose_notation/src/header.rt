@@ -6,7 +6,7 @@ use crate::names::{algorithm, claim, content_format, parameter};
 use crate::parts::{Members, entries, integer, is_bytes, is_one_item, joined};
 use crate::secrets::{KeyMap, is_open, key_in};
 use crate::time::claim_time;
-use cbor_diag::NotWritten;
+use cbor_diag::{NotWritten, Page};
 use std::alloc::Global;
 use std::fmt;
 
@@ -65,25 +65,23 @@ impl Scope {
 }
 
 /// Shows a protected header: a byte string around a map, or an empty one (RFC 9052, section 3).
-///
-/// # Errors
-/// `Output` and `Memory`.
 pub fn show_protected<P: fmt::Write>(
     alloc: Global,
     look: Look,
     item: &[u8],
     level: usize,
-    page: &mut P,
-) -> Result<(), NotWritten> {
+    page: &mut Page<'_, P>,
+) {
     if !is_bytes(item) {
-        begin_line(level, page)?;
-        page.write_str("protected, not bytes: ")?;
-        write_shown(alloc, look, look.lines(), item, level, page)?;
-        page.write_str("\n")?;
-        return Ok(());
+        begin_line(level, page);
+        page.write_str("protected, not bytes: ");
+        write_shown(alloc, look, look.lines(), item, level, page);
+        page.write_str("\n");
+        return;
     }
-    let bytes = joined(alloc, item)?;
-    show_protected_bytes(alloc, look, &bytes, level, page)
+    if let Some(bytes) = page.kept(joined(alloc, item)) {
+        show_protected_bytes(alloc, look, &bytes, level, page);
+    }
 }
 
 fn show_protected_bytes<P: fmt::Write>(
@@ -91,66 +89,62 @@ fn show_protected_bytes<P: fmt::Write>(
     look: Look,
     bytes: &[u8],
     level: usize,
-    page: &mut P,
-) -> Result<(), NotWritten> {
-    begin_line(level, page)?;
-    page.write_str("protected, ")?;
-    if is_one_item(alloc, bytes)? {
-        write_len(bytes.len(), page)?;
-        return show_entries(alloc, look, bytes, level, Labels::Headers, page);
+    page: &mut Page<'_, P>,
+) {
+    begin_line(level, page);
+    page.write_str("protected, ");
+    if page.kept(is_one_item(alloc, bytes)).unwrap_or(false) {
+        write_len(bytes.len(), page);
+        show_entries(alloc, look, bytes, level, Labels::Headers, page);
+        return;
     }
     if !bytes.is_empty() {
-        page.write_str("not one item, ")?;
+        page.write_str("not one item, ");
     }
-    write_string(alloc, look, bytes, page)
+    write_string(alloc, look, bytes, page);
 }
 
 /// Shows an unprotected header.
-///
-/// # Errors
-/// `Output` and `Memory`.
 pub fn show_map<P: fmt::Write>(
     alloc: Global,
     look: Look,
     name: &str,
     item: &[u8],
     level: usize,
-    page: &mut P,
-) -> Result<(), NotWritten> {
-    begin_line(level, page)?;
-    page.write_str(name)?;
-    show_entries(alloc, look, item, level, Labels::Headers, page)
+    page: &mut Page<'_, P>,
+) {
+    begin_line(level, page);
+    page.write_str(name);
+    show_entries(alloc, look, item, level, Labels::Headers, page);
 }
 
 /// Shows the entries of a map, a line each, after what is in the line at hand.
-///
-/// # Errors
-/// `Output` and `Memory`.
 pub fn show_entries<P: fmt::Write>(
     alloc: Global,
     look: Look,
     item: &[u8],
     level: usize,
     labels: Labels,
-    page: &mut P,
-) -> Result<(), NotWritten> {
+    page: &mut Page<'_, P>,
+) {
     let Some(mut parts) = entries(alloc, item) else {
-        page.write_str(", not a map: ")?;
-        write_shown(alloc, look, look.lines(), item, level, page)?;
-        page.write_str("\n")?;
-        return Ok(());
+        page.write_str(", not a map: ");
+        write_shown(alloc, look, look.lines(), item, level, page);
+        page.write_str("\n");
+        return;
     };
-    let scope = Scope::of(alloc, look, labels, item)?;
+    let Some(scope) = page.kept(Scope::of(alloc, look, labels, item)) else {
+        return;
+    };
     for number in 0..u64::MAX {
-        let shown = show_entry(alloc, look, &mut parts, level, scope, number == 0, page)?;
+        let shown = show_entry(alloc, look, &mut parts, level, scope, number == 0, page);
         if !shown {
             if number == 0 {
-                page.write_str(", empty\n")?;
+                page.write_str(", empty\n");
             }
             break;
         }
     }
-    Ok(())
 }
 
 /// Shows the next entry, if there is one.
@@ -161,32 +155,32 @@ fn show_entry<P: fmt::Write>(
     level: usize,
     scope: Scope,
     first: bool,
-    page: &mut P,
-) -> Result<bool, NotWritten> {
-    let Some(label) = parts.next()? else {
-        return Ok(false);
+    page: &mut Page<'_, P>,
+) -> bool {
+    let Some(label) = parts.next_on(page) else {
+        return false;
     };
-    let Some(value) = parts.next()? else {
-        return Ok(false);
+    let Some(value) = parts.next_on(page) else {
+        return false;
     };
     if first {
-        page.write_str("\n")?;
+        page.write_str("\n");
     }
     let inner = level.saturating_add(1);
-    begin_line(inner, page)?;
-    write_shown(alloc, look, look.line(), label, 0, page)?;
+    begin_line(inner, page);
+    write_shown(alloc, look, look.line(), label, 0, page);
     let number = integer(label);
     if let Some(name) = name_of(scope.labels, number) {
-        write!(page, " {name}")?;
+        write!(page, " {name}");
     }
-    page.write_str(": ")?;
-    if scope.hides(alloc, number, value)? {
-        write_not_shown(alloc, value, page)?;
+    page.write_str(": ");
+    if page.kept(scope.hides(alloc, number, value)).unwrap_or(true) {
+        write_not_shown(alloc, value, page);
     } else {
-        show_value(alloc, look, scope.labels, number, value, inner, page)?;
+        show_value(alloc, look, scope.labels, number, value, inner, page);
     }
-    page.write_str("\n")?;
-    Ok(true)
+    page.write_str("\n");
+    true
 }
 
 /// The registered name of a label.
@@ -206,20 +200,19 @@ fn show_value<P: fmt::Write>(
     label: Option<i64>,
     value: &[u8],
     level: usize,
-    page: &mut P,
-) -> Result<(), NotWritten> {
+    page: &mut Page<'_, P>,
+) {
     match value_name(labels, label, integer(value)) {
         Some(name) => {
-            write!(page, "{name} (")?;
-            write_shown(alloc, look, look.line(), value, level, page)?;
-            page.write_str(")")?;
+            write!(page, "{name} (");
+            write_shown(alloc, look, look.line(), value, level, page);
+            page.write_str(")");
         }
-        None => write_shown(alloc, look, look.lines(), value, level, page)?,
+        None => write_shown(alloc, look, look.lines(), value, level, page),
     }
     if let Some(time) = claim_time(labels, label, value) {
-        write!(page, " ({time})")?;
+        write!(page, " ({time})");
     }
-    Ok(())
 }
 
 /// The registered name of a value, if its label has a registry.

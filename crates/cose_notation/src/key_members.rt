@@ -3,75 +3,75 @@ use crate::json::{write_length, write_name, write_notation, write_word};
 use crate::key_labels::{KeyLabel, KeyPart, key_label};
 use crate::keys::{Keys, name_of, operation_name};
 use crate::look::Look;
-use crate::parts::{entries, integer, is_label, items};
+use crate::parts::{Members, entries, integer, is_label, items};
 use crate::secrets::{is_open, type_in};
-use cbor_diag::NotWritten;
+use cbor_diag::Page;
 use cose_iana::KeyType;
 use std::alloc::Global;
 use std::fmt;
 
 /// Writes the members of keys: `kind`, and `keys`, a list of lists of entries. What may be a secret
 /// has a `length` in place of a `value`, unless secrets are asked for.
-///
-/// # Errors
-/// `Output` and `Memory`.
 pub fn write_keys<P: fmt::Write>(
     alloc: Global,
     look: Look,
     keys: Keys,
     item: &[u8],
-    page: &mut P,
-) -> Result<(), NotWritten> {
-    write_word("kind", keys.name(), page)?;
-    write_name("keys", page)?;
-    page.write_str("[")?;
+    page: &mut Page<'_, P>,
+) {
+    write_word("kind", keys.name(), page);
+    write_name("keys", page);
+    page.write_str("[");
     match keys {
-        Keys::One => write_key(alloc, look, item, page)?,
+        Keys::One => write_key(alloc, look, item, page),
         Keys::Set => {
-            let Some(mut list) = items(alloc, item) else {
-                return Ok(());
-            };
-            let mut mark = "";
-            for _ in 0..u64::MAX {
-                let Some(one) = list.next()? else {
-                    break;
-                };
-                page.write_str(mark)?;
-                write_key(alloc, look, one, page)?;
-                mark = ",";
+            if let Some(mut list) = items(alloc, item) {
+                write_list(alloc, look, &mut list, page);
             }
         }
     }
-    page.write_str("]")?;
-    Ok(())
+    page.write_str("]");
+}
+
+fn write_list<P: fmt::Write>(
+    alloc: Global,
+    look: Look,
+    list: &mut Members<'_>,
+    page: &mut Page<'_, P>,
+) {
+    let mut mark = "";
+    for _ in 0..u64::MAX {
+        let Some(one) = list.next_on(page) else {
+            break;
+        };
+        page.write_str(mark);
+        write_key(alloc, look, one, page);
+        mark = ",";
+    }
 }
 
 /// A key as the list of its entries; null in place of another item.
-fn write_key<P: fmt::Write>(
-    alloc: Global,
-    look: Look,
-    item: &[u8],
-    page: &mut P,
-) -> Result<(), NotWritten> {
+fn write_key<P: fmt::Write>(alloc: Global, look: Look, item: &[u8], page: &mut Page<'_, P>) {
     let Some(mut parts) = entries(alloc, item) else {
-        page.write_str("null")?;
-        return Ok(());
+        page.write_str("null");
+        return;
     };
-    let kty = type_in(alloc, item)?;
+    let Some(kty) = page.kept(type_in(alloc, item)) else {
+        return;
+    };
     let mut mark = "[";
     for _ in 0..u64::MAX {
-        let Some(label) = parts.next()? else {
+        let Some(label) = parts.next_on(page) else {
             break;
         };
-        let Some(value) = parts.next()? else {
+        let Some(value) = parts.next_on(page) else {
             break;
         };
-        page.write_str(mark)?;
-        write_entry(alloc, look, kty, label, value, page)?;
+        page.write_str(mark);
+        write_entry(alloc, look, kty, label, value, page);
         mark = ",";
     }
-    page.write_str(if mark == "[" { "[]" } else { "]" })?;
-    Ok(())
+    page.write_str(if mark == "[" { "[]" } else { "]" });
 }
 
 fn write_entry<P: fmt::Write>(
@@ -80,21 +80,20 @@ fn write_entry<P: fmt::Write>(
     kty: Option<KeyType>,
     label: &[u8],
     value: &[u8],
-    page: &mut P,
-) -> Result<(), NotWritten> {
+    page: &mut Page<'_, P>,
+) {
     let known = key_label(kty, integer(label));
-    page.write_str("{\"label\":")?;
+    page.write_str("{\"label\":");
     if look.secrets || is_label(label) {
-        write_notation(alloc, look, label, page)?;
+        write_notation(alloc, look, label, page);
     } else {
-        page.write_str("null")?;
+        page.write_str("null");
     }
     if let Some(name) = known.name {
-        write_word("name", name, page)?;
+        write_word("name", name, page);
     }
-    write_value(alloc, look, known, value, page)?;
-    page.write_str("}")?;
-    Ok(())
+    write_value(alloc, look, known, value, page);
+    page.write_str("}");
 }
 
 fn write_value<P: fmt::Write>(
@@ -102,44 +101,43 @@ fn write_value<P: fmt::Write>(
     look: Look,
     known: KeyLabel,
     value: &[u8],
-    page: &mut P,
-) -> Result<(), NotWritten> {
-    if !look.secrets && !is_open(alloc, known.part, value)? {
-        return write_length(alloc, value, page);
+    page: &mut Page<'_, P>,
+) {
+    if !look.secrets
+        && !page
+            .kept(is_open(alloc, known.part, value))
+            .unwrap_or(false)
+    {
+        write_length(alloc, value, page);
+        return;
     }
-    write_name("value", page)?;
-    write_notation(alloc, look, value, page)?;
+    write_name("value", page);
+    write_notation(alloc, look, value, page);
     if let Some(name) = name_of(known.part, value) {
-        write_word("value_name", name, page)?;
+        write_word("value_name", name, page);
     }
     if known.part == KeyPart::Operations {
-        write_operations(alloc, value, page)?;
+        write_operations(alloc, value, page);
     }
-    Ok(())
 }
 
 /// The names of operations, null in place of one that has none.
-fn write_operations<P: fmt::Write>(
-    alloc: Global,
-    value: &[u8],
-    page: &mut P,
-) -> Result<(), NotWritten> {
+fn write_operations<P: fmt::Write>(alloc: Global, value: &[u8], page: &mut Page<'_, P>) {
     let Some(mut list) = items(alloc, value) else {
-        return Ok(());
+        return;
     };
-    write_name("value_names", page)?;
+    write_name("value_names", page);
     let mut mark = "[";
     for _ in 0..u64::MAX {
-        let Some(one) = list.next()? else {
+        let Some(one) = list.next_on(page) else {
             break;
         };
-        page.write_str(mark)?;
+        page.write_str(mark);
         match operation_name(one) {
-            Some(name) => write!(page, "\"{name}\"")?,
-            None => page.write_str("null")?,
+            Some(name) => write!(page, "\"{name}\""),
+            None => page.write_str("null"),
         }
         mark = ",";
     }
-    page.write_str(if mark == "[" { "[]" } else { "]" })?;
-    Ok(())
+    page.write_str(if mark == "[" { "[]" } else { "]" });
 }

@@ -6,7 +6,7 @@ use crate::look::Look;
 use crate::names::{algorithm, curve, key_operation, key_type};
 use crate::parts::{Members, entries, integer, is_label, items};
 use crate::secrets::{is_key_set, is_open, key_in, type_in};
-use cbor_diag::NotWritten;
+use cbor_diag::{NotWritten, Page};
 use cose_iana::KeyType;
 use std::alloc::Global;
 use std::fmt;
@@ -45,26 +45,23 @@ pub fn keys_in(alloc: Global, item: &[u8]) -> Result<Option<Keys>, NotWritten> {
 }
 
 /// Shows keys, an entry a line.
-///
-/// # Errors
-/// `Output` and `Memory`.
 pub fn show_keys<P: fmt::Write>(
     alloc: Global,
     look: Look,
     keys: Keys,
     item: &[u8],
-    page: &mut P,
-) -> Result<(), NotWritten> {
+    page: &mut Page<'_, P>,
+) {
     match keys {
         Keys::One => {
-            page.write_str("  COSE_Key (a key set is an array of these)\n")?;
+            page.write_str("  COSE_Key (a key set is an array of these)\n");
             show_key(alloc, look, item, 2, page)
         }
         Keys::Set => {
-            page.write_str("  COSE_KeySet\n")?;
+            page.write_str("  COSE_KeySet\n");
             match items(alloc, item) {
                 Some(mut list) => show_list(alloc, look, &mut list, page),
-                None => Ok(()),
+                None => {}
             }
         }
     }
@@ -74,18 +71,17 @@ fn show_list<P: fmt::Write>(
     alloc: Global,
     look: Look,
     list: &mut Members<'_>,
-    page: &mut P,
-) -> Result<(), NotWritten> {
+    page: &mut Page<'_, P>,
+) {
     for number in 1..u64::MAX {
-        match list.next()? {
+        match list.next_on(page) {
             Some(one) => {
-                writeln!(page, "    key {number}")?;
-                show_key(alloc, look, one, 3, page)?;
+                writeln!(page, "    key {number}");
+                show_key(alloc, look, one, 3, page);
             }
             None => break,
         }
     }
-    Ok(())
 }
 
 fn show_key<P: fmt::Write>(
@@ -93,28 +89,29 @@ fn show_key<P: fmt::Write>(
     look: Look,
     item: &[u8],
     level: usize,
-    page: &mut P,
-) -> Result<(), NotWritten> {
+    page: &mut Page<'_, P>,
+) {
     let Some(mut parts) = entries(alloc, item) else {
-        begin_line(level, page)?;
-        page.write_str("not a map: ")?;
-        show_maybe(alloc, look, false, item, level, page)?;
-        page.write_str("\n")?;
-        return Ok(());
+        begin_line(level, page);
+        page.write_str("not a map: ");
+        show_maybe(alloc, look, false, item, level, page);
+        page.write_str("\n");
+        return;
     };
-    let kty = type_in(alloc, item)?;
+    let Some(kty) = page.kept(type_in(alloc, item)) else {
+        return;
+    };
     for _ in 0..u64::MAX {
-        let Some(label) = parts.next()? else {
+        let Some(label) = parts.next_on(page) else {
             break;
         };
-        let Some(value) = parts.next()? else {
+        let Some(value) = parts.next_on(page) else {
             break;
         };
-        begin_line(level, page)?;
-        show_entry(alloc, look, kty, label, value, level, page)?;
-        page.write_str("\n")?;
+        begin_line(level, page);
+        show_entry(alloc, look, kty, label, value, level, page);
+        page.write_str("\n");
     }
-    Ok(())
 }
 
 fn show_entry<P: fmt::Write>(
@@ -124,17 +121,21 @@ fn show_entry<P: fmt::Write>(
     label: &[u8],
     value: &[u8],
     level: usize,
-    page: &mut P,
-) -> Result<(), NotWritten> {
+    page: &mut Page<'_, P>,
+) {
     let known = key_label(kty, integer(label));
-    show_maybe(alloc, look, is_label(label), label, level, page)?;
+    show_maybe(alloc, look, is_label(label), label, level, page);
     if let Some(name) = known.name {
-        write!(page, " {name}")?;
+        write!(page, " {name}");
     }
-    page.write_str(": ")?;
-    let shown = look.secrets || is_open(alloc, known.part, value)?;
+    page.write_str(": ");
+    let shown = look.secrets
+        || page
+            .kept(is_open(alloc, known.part, value))
+            .unwrap_or(false);
     if shown && known.part == KeyPart::Operations {
-        return show_operations(alloc, look, value, level, page);
+        show_operations(alloc, look, value, level, page);
+        return;
     }
     match name_of(known.part, value) {
         Some(name) => show_named(alloc, look, name, value, page),
@@ -161,12 +162,11 @@ fn show_named<P: fmt::Write>(
     look: Look,
     name: &'static str,
     value: &[u8],
-    page: &mut P,
-) -> Result<(), NotWritten> {
-    write!(page, "{name} (")?;
-    write_shown(alloc, look, look.line(), value, 0, page)?;
-    page.write_str(")")?;
-    Ok(())
+    page: &mut Page<'_, P>,
+) {
+    write!(page, "{name} (");
+    write_shown(alloc, look, look.line(), value, 0, page);
+    page.write_str(")");
 }
 
 /// The operations that a key is for, by name.
@@ -175,27 +175,27 @@ fn show_operations<P: fmt::Write>(
     look: Look,
     value: &[u8],
     level: usize,
-    page: &mut P,
-) -> Result<(), NotWritten> {
+    page: &mut Page<'_, P>,
+) {
     let Some(mut list) = items(alloc, value) else {
-        return show_maybe(alloc, look, true, value, level, page);
+        show_maybe(alloc, look, true, value, level, page);
+        return;
     };
     let mut mark = "";
     for _ in 0..u64::MAX {
-        let Some(one) = list.next()? else {
+        let Some(one) = list.next_on(page) else {
             break;
         };
-        page.write_str(mark)?;
+        page.write_str(mark);
         mark = ", ";
         match operation_name(one) {
-            Some(name) => show_named(alloc, look, name, one, page)?,
-            None => show_maybe(alloc, look, true, one, level, page)?,
+            Some(name) => show_named(alloc, look, name, one, page),
+            None => show_maybe(alloc, look, true, one, level, page),
         }
     }
     if mark.is_empty() {
-        page.write_str("none")?;
+        page.write_str("none");
     }
-    Ok(())
 }
 
 /// The registered name of an operation.
@@ -210,11 +210,11 @@ fn show_maybe<P: fmt::Write>(
     shown: bool,
     item: &[u8],
     level: usize,
-    page: &mut P,
-) -> Result<(), NotWritten> {
+    page: &mut Page<'_, P>,
+) {
     if shown || look.secrets {
-        write_shown(alloc, look, look.lines(), item, level, page)
+        write_shown(alloc, look, look.lines(), item, level, page);
     } else {
-        write_not_shown(alloc, item, page)
+        write_not_shown(alloc, item, page);
     }
 }

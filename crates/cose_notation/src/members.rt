@@ -6,29 +6,26 @@ use crate::message::{Form, Part, message_of, name_of};
 use crate::parts::{Members, entries, integer, is_bytes, is_null, is_one_item, items, joined};
 use crate::payload::has_claims;
 use crate::time::claim_time;
-use cbor_diag::NotWritten;
+use cbor_diag::Page;
 use std::alloc::Global;
 use std::fmt;
 
 /// Writes the members of a message after others: its kind, its headers with the registered names,
 /// and its parts. Of another item there are none.
-///
-/// # Errors
-/// `Output` and `Memory`.
 pub fn write_message<P: fmt::Write>(
     alloc: Global,
     look: Look,
     item: &[u8],
-    page: &mut P,
-) -> Result<(), NotWritten> {
+    page: &mut Page<'_, P>,
+) {
     let Some((form, tag, content)) = message_of(item) else {
-        return Ok(());
+        return;
     };
-    write_word("kind", form.name, page)?;
-    write!(page, ",\"tag_number\":{tag}")?;
+    write_word("kind", form.name, page);
+    write!(page, ",\"tag_number\":{tag}");
     match items(alloc, content) {
         Some(mut parts) => write_parts(alloc, look, form, &mut parts, page),
-        None => Ok(()),
+        None => {}
     }
 }
 
@@ -38,16 +35,15 @@ fn write_parts<P: fmt::Write>(
     look: Look,
     form: Form,
     parts: &mut Members<'_>,
-    page: &mut P,
-) -> Result<(), NotWritten> {
-    write_headers(alloc, look, parts, page)?;
+    page: &mut Page<'_, P>,
+) {
+    write_headers(alloc, look, parts, page);
     for part in form.parts {
-        if let Some(item) = parts.next()? {
-            write_name(name_of(*part), page)?;
-            write_part(alloc, look, *part, item, page)?;
+        if let Some(item) = parts.next_on(page) {
+            write_name(name_of(*part), page);
+            write_part(alloc, look, *part, item, page);
         }
     }
-    Ok(())
 }
 
 /// Writes the two headers.
@@ -55,39 +51,36 @@ fn write_headers<P: fmt::Write>(
     alloc: Global,
     look: Look,
     parts: &mut Members<'_>,
-    page: &mut P,
-) -> Result<(), NotWritten> {
-    if let Some(item) = parts.next()? {
-        write_name("protected", page)?;
-        write_protected(alloc, look, item, page)?;
+    page: &mut Page<'_, P>,
+) {
+    if let Some(item) = parts.next_on(page) {
+        write_name("protected", page);
+        write_protected(alloc, look, item, page);
     }
-    if let Some(item) = parts.next()? {
-        write_name("unprotected", page)?;
-        write_entries(alloc, look, item, Labels::Headers, page)?;
+    if let Some(item) = parts.next_on(page) {
+        write_name("unprotected", page);
+        write_entries(alloc, look, item, Labels::Headers, page);
     }
-    Ok(())
 }
 
 /// A protected header: the entries of the map that it holds, none if it is empty, and else the
 /// notation of what is there.
-fn write_protected<P: fmt::Write>(
-    alloc: Global,
-    look: Look,
-    item: &[u8],
-    page: &mut P,
-) -> Result<(), NotWritten> {
+fn write_protected<P: fmt::Write>(alloc: Global, look: Look, item: &[u8], page: &mut Page<'_, P>) {
     if !is_bytes(item) {
-        return write_notation(alloc, look, item, page);
+        write_notation(alloc, look, item, page);
+        return;
     }
-    let bytes = joined(alloc, item)?;
+    let Some(bytes) = page.kept(joined(alloc, item)) else {
+        return;
+    };
     if bytes.is_empty() {
-        page.write_str("[]")?;
-        return Ok(());
+        page.write_str("[]");
+        return;
     }
-    if is_one_item(alloc, &bytes)? {
-        write_entries(alloc, look, &bytes, Labels::Headers, page)
+    if page.kept(is_one_item(alloc, &bytes)).unwrap_or(false) {
+        write_entries(alloc, look, &bytes, Labels::Headers, page);
     } else {
-        write_notation(alloc, look, item, page)
+        write_notation(alloc, look, item, page);
     }
 }
 
@@ -97,26 +90,28 @@ fn write_entries<P: fmt::Write>(
     look: Look,
     item: &[u8],
     labels: Labels,
-    page: &mut P,
-) -> Result<(), NotWritten> {
+    page: &mut Page<'_, P>,
+) {
     let Some(mut parts) = entries(alloc, item) else {
-        return write_notation(alloc, look, item, page);
+        write_notation(alloc, look, item, page);
+        return;
     };
-    let scope = Scope::of(alloc, look, labels, item)?;
+    let Some(scope) = page.kept(Scope::of(alloc, look, labels, item)) else {
+        return;
+    };
     let mut mark = "[";
     for _ in 0..u64::MAX {
-        let Some(label) = parts.next()? else {
+        let Some(label) = parts.next_on(page) else {
             break;
         };
-        let Some(value) = parts.next()? else {
+        let Some(value) = parts.next_on(page) else {
             break;
         };
-        page.write_str(mark)?;
-        write_entry(alloc, look, scope, label, value, page)?;
+        page.write_str(mark);
+        write_entry(alloc, look, scope, label, value, page);
         mark = ",";
     }
-    page.write_str(if mark == "[" { "[]" } else { "]" })?;
-    Ok(())
+    page.write_str(if mark == "[" { "[]" } else { "]" });
 }
 
 /// An entry, with the names that are registered.
@@ -126,29 +121,28 @@ fn write_entry<P: fmt::Write>(
     scope: Scope,
     label: &[u8],
     value: &[u8],
-    page: &mut P,
-) -> Result<(), NotWritten> {
-    page.write_str("{\"label\":")?;
-    write_notation(alloc, look, label, page)?;
+    page: &mut Page<'_, P>,
+) {
+    page.write_str("{\"label\":");
+    write_notation(alloc, look, label, page);
     let number = integer(label);
     if let Some(name) = label_name(scope.labels, number) {
-        write_word("name", name, page)?;
+        write_word("name", name, page);
     }
-    if scope.hides(alloc, number, value)? {
-        write_length(alloc, value, page)?;
-        page.write_str("}")?;
-        return Ok(());
+    if page.kept(scope.hides(alloc, number, value)).unwrap_or(true) {
+        write_length(alloc, value, page);
+        page.write_str("}");
+        return;
     }
-    write_name("value", page)?;
-    write_notation(alloc, look, value, page)?;
+    write_name("value", page);
+    write_notation(alloc, look, value, page);
     if let Some(name) = value_name(scope.labels, number, integer(value)) {
-        write_word("value_name", name, page)?;
+        write_word("value_name", name, page);
     }
     if let Some(time) = claim_time(scope.labels, number, value) {
-        write!(page, ",\"time\":\"{time}\"")?;
+        write!(page, ",\"time\":\"{time}\"");
     }
-    page.write_str("}")?;
-    Ok(())
+    page.write_str("}");
 }
 
 fn write_part<P: fmt::Write>(
@@ -156,8 +150,8 @@ fn write_part<P: fmt::Write>(
     look: Look,
     part: Part,
     item: &[u8],
-    page: &mut P,
-) -> Result<(), NotWritten> {
+    page: &mut Page<'_, P>,
+) {
     match part {
         Part::Payload => write_payload(alloc, look, item, page),
         Part::Signatures => write_list(alloc, look, "signature", item, page),
@@ -167,40 +161,33 @@ fn write_part<P: fmt::Write>(
 }
 
 /// A byte string in hex, null if a part is detached, and the notation of another item.
-fn write_bytes<P: fmt::Write>(
-    alloc: Global,
-    look: Look,
-    item: &[u8],
-    page: &mut P,
-) -> Result<(), NotWritten> {
+fn write_bytes<P: fmt::Write>(alloc: Global, look: Look, item: &[u8], page: &mut Page<'_, P>) {
     if is_null(item) {
-        page.write_str("null")?;
-        return Ok(());
+        page.write_str("null");
+        return;
     }
     if !is_bytes(item) {
-        return write_notation(alloc, look, item, page);
+        write_notation(alloc, look, item, page);
+        return;
     }
-    let bytes = joined(alloc, item)?;
-    write_hex_text(alloc, look, &bytes, page)
+    if let Some(bytes) = page.kept(joined(alloc, item)) {
+        write_hex_text(alloc, look, &bytes, page);
+    }
 }
 
 /// A payload, and its claims if it is a claims set.
-fn write_payload<P: fmt::Write>(
-    alloc: Global,
-    look: Look,
-    item: &[u8],
-    page: &mut P,
-) -> Result<(), NotWritten> {
-    write_bytes(alloc, look, item, page)?;
+fn write_payload<P: fmt::Write>(alloc: Global, look: Look, item: &[u8], page: &mut Page<'_, P>) {
+    write_bytes(alloc, look, item, page);
     if !is_bytes(item) {
-        return Ok(());
+        return;
     }
-    let bytes = joined(alloc, item)?;
-    if has_claims(alloc, &bytes)? {
-        write_name("claims", page)?;
-        write_entries(alloc, look, &bytes, Labels::Claims, page)?;
+    let Some(bytes) = page.kept(joined(alloc, item)) else {
+        return;
+    };
+    if page.kept(has_claims(alloc, &bytes)).unwrap_or(false) {
+        write_name("claims", page);
+        write_entries(alloc, look, &bytes, Labels::Claims, page);
     }
-    Ok(())
 }
 
 /// Signatures or recipients, with the name of what each holds after its headers.
@@ -209,22 +196,22 @@ fn write_list<P: fmt::Write>(
     look: Look,
     last: &str,
     item: &[u8],
-    page: &mut P,
-) -> Result<(), NotWritten> {
+    page: &mut Page<'_, P>,
+) {
     let Some(mut list) = items(alloc, item) else {
-        return write_notation(alloc, look, item, page);
+        write_notation(alloc, look, item, page);
+        return;
     };
     let mut mark = "[";
     for _ in 0..u64::MAX {
-        let Some(one) = list.next()? else {
+        let Some(one) = list.next_on(page) else {
             break;
         };
-        page.write_str(mark)?;
-        write_one(alloc, look, last, one, page)?;
+        page.write_str(mark);
+        write_one(alloc, look, last, one, page);
         mark = ",";
     }
-    page.write_str(if mark == "[" { "[]" } else { "]" })?;
-    Ok(())
+    page.write_str(if mark == "[" { "[]" } else { "]" });
 }
 
 fn write_one<P: fmt::Write>(
@@ -232,17 +219,16 @@ fn write_one<P: fmt::Write>(
     look: Look,
     last: &str,
     one: &[u8],
-    page: &mut P,
-) -> Result<(), NotWritten> {
-    page.write_str("{\"notation\":")?;
-    write_notation(alloc, look, one, page)?;
+    page: &mut Page<'_, P>,
+) {
+    page.write_str("{\"notation\":");
+    write_notation(alloc, look, one, page);
     if let Some(mut parts) = items(alloc, one) {
-        write_headers(alloc, look, &mut parts, page)?;
-        if let Some(item) = parts.next()? {
-            write_name(last, page)?;
-            write_bytes(alloc, look, item, page)?;
+        write_headers(alloc, look, &mut parts, page);
+        if let Some(item) = parts.next_on(page) {
+            write_name(last, page);
+            write_bytes(alloc, look, item, page);
         }
     }
-    page.write_str("}")?;
-    Ok(())
+    page.write_str("}");
 }

@@ -4,7 +4,7 @@ use crate::line::{begin_line, write_shown, write_string};
 use crate::look::Look;
 use crate::parts::{Members, header_of, is_bytes, is_null, items, joined, tagged};
 use crate::payload::show_payload;
-use cbor_diag::NotWritten;
+use cbor_diag::Page;
 use ciborium_ll::Header;
 use std::alloc::Global;
 use std::fmt;
@@ -100,26 +100,15 @@ pub fn is_message(item: &[u8]) -> bool {
 }
 
 /// Shows the parts of the message that an item is, and nothing of another item.
-///
-/// # Errors
-/// `Output` and `Memory`.
-pub fn show_message<P: fmt::Write>(
-    alloc: Global,
-    look: Look,
-    item: &[u8],
-    page: &mut P,
-) -> Result<(), NotWritten> {
+pub fn show_message<P: fmt::Write>(alloc: Global, look: Look, item: &[u8], page: &mut Page<'_, P>) {
     let Some((form, tag, content)) = message_of(item) else {
-        return Ok(());
+        return;
     };
     let name = form.name;
-    writeln!(page, "  {name}, tag {tag}")?;
+    writeln!(page, "  {name}, tag {tag}");
     match items(alloc, content) {
         Some(mut parts) => show_parts(alloc, look, form, &mut parts, page),
-        None => {
-            page.write_str("    not an array\n")?;
-            Ok(())
-        }
+        None => page.write_str("    not an array\n"),
     }
 }
 
@@ -128,19 +117,19 @@ fn show_parts<P: fmt::Write>(
     look: Look,
     form: Form,
     parts: &mut Members<'_>,
-    page: &mut P,
-) -> Result<(), NotWritten> {
-    show_headers(alloc, look, parts, 2, page)?;
+    page: &mut Page<'_, P>,
+) {
+    show_headers(alloc, look, parts, 2, page);
     for part in form.parts {
-        match parts.next()? {
-            Some(item) => show_part(alloc, look, *part, item, page)?,
+        match parts.next_on(page) {
+            Some(item) => show_part(alloc, look, *part, item, page),
             None => {
                 let name = name_of(*part);
-                writeln!(page, "    {name}: missing")?;
+                writeln!(page, "    {name}: missing");
             }
         }
     }
-    show_more(alloc, look, parts, 2, page)
+    show_more(alloc, look, parts, 2, page);
 }
 
 /// Items that have no place in the message.
@@ -149,15 +138,14 @@ fn show_more<P: fmt::Write>(
     look: Look,
     parts: &mut Members<'_>,
     level: usize,
-    page: &mut P,
-) -> Result<(), NotWritten> {
+    page: &mut Page<'_, P>,
+) {
     for _ in 0..u64::MAX {
-        match parts.next()? {
-            Some(item) => show_other(alloc, look, "more", item, level, page)?,
+        match parts.next_on(page) {
+            Some(item) => show_other(alloc, look, "more", item, level, page),
             None => break,
         }
     }
-    Ok(())
 }
 
 /// The two headers.
@@ -166,22 +154,21 @@ fn show_headers<P: fmt::Write>(
     look: Look,
     parts: &mut Members<'_>,
     level: usize,
-    page: &mut P,
-) -> Result<(), NotWritten> {
-    match parts.next()? {
-        Some(item) => show_protected(alloc, look, item, level, page)?,
-        None => missing("protected", level, page)?,
+    page: &mut Page<'_, P>,
+) {
+    match parts.next_on(page) {
+        Some(item) => show_protected(alloc, look, item, level, page),
+        None => missing("protected", level, page),
     }
-    match parts.next()? {
-        Some(item) => show_map(alloc, look, "unprotected", item, level, page)?,
-        None => missing("unprotected", level, page)?,
+    match parts.next_on(page) {
+        Some(item) => show_map(alloc, look, "unprotected", item, level, page),
+        None => missing("unprotected", level, page),
     }
-    Ok(())
 }
 
-fn missing<P: fmt::Write>(name: &str, level: usize, page: &mut P) -> fmt::Result {
-    begin_line(level, page)?;
-    writeln!(page, "{name}: missing")
+fn missing<P: fmt::Write>(name: &str, level: usize, page: &mut Page<'_, P>) {
+    begin_line(level, page);
+    writeln!(page, "{name}: missing");
 }
 
 /// The name of a part.
@@ -201,21 +188,21 @@ fn show_part<P: fmt::Write>(
     look: Look,
     part: Part,
     item: &[u8],
-    page: &mut P,
-) -> Result<(), NotWritten> {
+    page: &mut Page<'_, P>,
+) {
     let name = name_of(part);
     match part {
-        Part::Payload if is_null(item) => page.write_str("    payload: detached\n")?,
-        Part::Ciphertext if is_null(item) => page.write_str("    ciphertext: detached\n")?,
+        Part::Payload if is_null(item) => page.write_str("    payload: detached\n"),
+        Part::Ciphertext if is_null(item) => page.write_str("    ciphertext: detached\n"),
         Part::Payload if is_bytes(item) => {
-            let payload = joined(alloc, item)?;
-            show_payload(alloc, look, &payload, page)?;
+            if let Some(payload) = page.kept(joined(alloc, item)) {
+                show_payload(alloc, look, &payload, page);
+            }
         }
-        Part::Signatures => show_list(alloc, look, "signature", item, page)?,
-        Part::Recipients => show_list(alloc, look, "recipient", item, page)?,
-        _ => show_bytes(alloc, look, name, item, 2, page)?,
+        Part::Signatures => show_list(alloc, look, "signature", item, page),
+        Part::Recipients => show_list(alloc, look, "recipient", item, page),
+        _ => show_bytes(alloc, look, name, item, 2, page),
     }
-    Ok(())
 }
 
 /// A byte string in hex.
@@ -225,15 +212,17 @@ fn show_bytes<P: fmt::Write>(
     name: &str,
     item: &[u8],
     level: usize,
-    page: &mut P,
-) -> Result<(), NotWritten> {
+    page: &mut Page<'_, P>,
+) {
     if !is_bytes(item) {
-        return show_other(alloc, look, name, item, level, page);
+        show_other(alloc, look, name, item, level, page);
+        return;
     }
-    let bytes = joined(alloc, item)?;
-    begin_line(level, page)?;
-    write!(page, "{name}, ")?;
-    write_string(alloc, look, &bytes, page)
+    if let Some(bytes) = page.kept(joined(alloc, item)) {
+        begin_line(level, page);
+        write!(page, "{name}, ");
+        write_string(alloc, look, &bytes, page);
+    }
 }
 
 /// An item in its notation.
@@ -243,13 +232,12 @@ fn show_other<P: fmt::Write>(
     name: &str,
     item: &[u8],
     level: usize,
-    page: &mut P,
-) -> Result<(), NotWritten> {
-    begin_line(level, page)?;
-    write!(page, "{name}: ")?;
-    write_shown(alloc, look, look.lines(), item, level, page)?;
-    page.write_str("\n")?;
-    Ok(())
+    page: &mut Page<'_, P>,
+) {
+    begin_line(level, page);
+    write!(page, "{name}: ");
+    write_shown(alloc, look, look.lines(), item, level, page);
+    page.write_str("\n");
 }
 
 /// Signatures or recipients: arrays of a protected header, an unprotected one, and bytes.
@@ -258,25 +246,25 @@ fn show_list<P: fmt::Write>(
     look: Look,
     name: &str,
     item: &[u8],
-    page: &mut P,
-) -> Result<(), NotWritten> {
+    page: &mut Page<'_, P>,
+) {
     let Some(mut list) = items(alloc, item) else {
-        return show_other(alloc, look, name, item, 2, page);
+        show_other(alloc, look, name, item, 2, page);
+        return;
     };
     for number in 1..u64::MAX {
-        match list.next()? {
+        match list.next_on(page) {
             Some(one) => {
-                writeln!(page, "    {name} {number}")?;
-                show_one(alloc, look, name, one, page)?;
+                writeln!(page, "    {name} {number}");
+                show_one(alloc, look, name, one, page);
             }
             None if number == 1 => {
-                writeln!(page, "    no {name}")?;
+                writeln!(page, "    no {name}");
                 break;
             }
             None => break,
         }
     }
-    Ok(())
 }
 
 fn show_one<P: fmt::Write>(
@@ -284,20 +272,21 @@ fn show_one<P: fmt::Write>(
     look: Look,
     name: &str,
     one: &[u8],
-    page: &mut P,
-) -> Result<(), NotWritten> {
+    page: &mut Page<'_, P>,
+) {
     let Some(mut parts) = items(alloc, one) else {
-        return show_other(alloc, look, "not an array", one, 3, page);
+        show_other(alloc, look, "not an array", one, 3, page);
+        return;
     };
-    show_headers(alloc, look, &mut parts, 3, page)?;
+    show_headers(alloc, look, &mut parts, 3, page);
     let last = if name == "recipient" {
         "ciphertext"
     } else {
         name
     };
-    match parts.next()? {
-        Some(item) => show_bytes(alloc, look, last, item, 3, page)?,
-        None => missing(last, 3, page)?,
+    match parts.next_on(page) {
+        Some(item) => show_bytes(alloc, look, last, item, 3, page),
+        None => missing(last, 3, page),
     }
-    show_more(alloc, look, &mut parts, 3, page)
+    show_more(alloc, look, &mut parts, 3, page);
 }

@@ -1,7 +1,8 @@
 //! The parts of an item, as slices of its bytes.
-use cbor_diag::{Event, NotWritten, Place, Step, Walk, Why, head_of, item_len};
+use cbor_diag::{Event, NotWritten, Page, Place, Step, Walk, Why, head_of, item_len};
 use ciborium_ll::Header;
 use std::alloc::Global;
+use std::fmt;
 
 /// The items of an array, or the keys and values of a map, one after another.
 #[derive(Drop)]
@@ -37,6 +38,13 @@ impl<'a> Members<'a> {
             }
             None => Ok(None),
         }
+    }
+}
+
+impl<'a> Members<'a> {
+    /// The next one; none once the page has failed, as it does if memory is out.
+    pub fn next_on<P: fmt::Write>(&mut self, page: &mut Page<'_, P>) -> Option<&'a [u8]> {
+        page.kept(self.next()).flatten()
     }
 }
 

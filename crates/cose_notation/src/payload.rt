@@ -4,50 +4,49 @@ use crate::line::{write_content, write_len, write_shown};
 use crate::look::Look;
 use crate::names::claim;
 use crate::parts::{entries, integer, is_label, is_one_item};
-use cbor_diag::{CUT, NotWritten, front_text, write_text};
+use cbor_diag::{CUT, NotWritten, Page, front_text, write_text};
 use std::alloc::Global;
 use std::fmt;
 
 /// Shows a payload: its length, and what it is as claims, a text, an item or bytes.
-///
-/// # Errors
-/// `Output` and `Memory`.
 pub fn show_payload<P: fmt::Write>(
     alloc: Global,
     look: Look,
     payload: &[u8],
-    page: &mut P,
-) -> Result<(), NotWritten> {
+    page: &mut Page<'_, P>,
+) {
     let len = payload.len();
-    page.write_str("    payload, ")?;
-    write_len(len, page)?;
-    let is_item = is_one_item(alloc, payload)?;
-    if is_item && is_claims(alloc, payload)? {
-        page.write_str(", claims")?;
-        return show_entries(alloc, look, payload, 2, Labels::Claims, page);
+    page.write_str("    payload, ");
+    write_len(len, page);
+    let is_item = page.kept(is_one_item(alloc, payload)).unwrap_or(false);
+    if is_item && page.kept(is_claims(alloc, payload)).unwrap_or(false) {
+        page.write_str(", claims");
+        show_entries(alloc, look, payload, 2, Labels::Claims, page);
+        return;
     }
     if let Some(text) = plain_text(payload) {
-        page.write_str(", text: ")?;
-        show_text(look, text, page)?;
-        page.write_str("\n")?;
-        return show_as_item(alloc, look, payload, is_item, page);
+        page.write_str(", text: ");
+        show_text(look, text, page);
+        page.write_str("\n");
+        show_as_item(alloc, look, payload, is_item, page);
+        return;
     }
     if is_item {
-        page.write_str(", CBOR: ")?;
-        write_shown(alloc, look, look.lines(), payload, 2, page)?;
+        page.write_str(", CBOR: ");
+        write_shown(alloc, look, look.lines(), payload, 2, page);
     } else if len > 0 {
-        write_content(alloc, look, ", hex: ", payload, page)?;
+        write_content(alloc, look, ", hex: ", payload, page);
     }
-    page.write_str("\n")?;
-    Ok(())
+    page.write_str("\n");
 }
 
-fn show_text<P: fmt::Write>(look: Look, text: &str, page: &mut P) -> fmt::Result {
+fn show_text<P: fmt::Write>(look: Look, text: &str, page: &mut Page<'_, P>) {
     if look.full || text.len() <= CUT {
-        return write_text(text, false, page);
+        write_text(text, false, page);
+        return;
     }
-    write_text(front_text(text.as_bytes()), false, page)?;
-    page.write_str("... (--full shows all)")
+    write_text(front_text(text.as_bytes()), false, page);
+    page.write_str("... (--full shows all)");
 }
 
 /// A text can also be an item; one of a byte is hardly meant as one.
@@ -56,14 +55,13 @@ fn show_as_item<P: fmt::Write>(
     look: Look,
     payload: &[u8],
     is_item: bool,
-    page: &mut P,
-) -> Result<(), NotWritten> {
+    page: &mut Page<'_, P>,
+) {
     if is_item && payload.len() > 1 {
-        page.write_str("      also CBOR: ")?;
-        write_shown(alloc, look, look.line(), payload, 0, page)?;
-        page.write_str("\n")?;
+        page.write_str("      also CBOR: ");
+        write_shown(alloc, look, look.line(), payload, 0, page);
+        page.write_str("\n");
     }
-    Ok(())
 }
 
 /// The text that bytes are, if it has no control characters but those between lines and words.

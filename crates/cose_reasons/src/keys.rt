@@ -1,6 +1,6 @@
 //! The keys of a judge, by their ids.
 use crate::stop::Stop;
-use cose_gate_hmac::{CoseKeySet, fits};
+use cose_gate_program::{CoseKeySet, fits};
 use cose_notation::{Keys, keys_in};
 use coset_keys::CoseKey;
 use coset_labels::{CborSerializable, CoseError};

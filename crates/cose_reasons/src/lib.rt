@@ -8,4 +8,4 @@ mod why;
 pub use crate::keys::{KeyBook, read_keys};
 pub use crate::stop::Stop;
 pub use crate::why::{OTHER_KIND, Question, reason, secret_or_reason, write_wrong_tag};
-pub use cbor_diag::write_char;
+pub use cbor_diag::{Page, write_char};

@@ -90,12 +90,6 @@ impl fmt::Display for Stop {
     }
 }
 
-impl From<fmt::Error> for Stop {
-    fn from(_: fmt::Error) -> Stop {
-        Stop::Output
-    }
-}
-
 impl From<AllocError> for Stop {
     fn from(_: AllocError) -> Stop {
         Stop::Memory

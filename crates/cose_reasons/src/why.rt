@@ -1,11 +1,11 @@
 //! Why the judge of the program `cose-gate` says no to a COSE_Mac0.
 use crate::keys::KeyBook;
 use crate::stop::Stop;
-use cbor_diag::{CUT, front_text, write_hex, write_text};
+use cbor_diag::{CUT, Page, front_text, write_hex, write_text};
 use cose_gate_core::{
     Algorithm, Header, ProtectedHeader, RegisteredLabel, RegisteredLabelWithPrivate,
 };
-use cose_gate_hmac::{alg_is_hmac, crit_is_known, fits, message_id, secret_of};
+use cose_gate_program::{alg_is_hmac, crit_is_known, fits, message_id, secret_of};
 use cose_hmac::{hmac_sha256, same_tag};
 use cose_iana::EnumI64;
 use cose_notation::{algorithm, key_type, parameter, write_len};
@@ -47,89 +47,87 @@ pub fn reason(
     question: Question<'_>,
 ) -> Result<Option<String>, Stop> {
     let mut text = String::new(alloc);
-    match write_reason(book, question, &mut text) {
-        Ok(true) => Ok(Some(text)),
-        Ok(false) => Ok(None),
-        Err(_) => Err(Stop::Memory),
+    let mut page = Page::new(&mut text);
+    let is_no = write_reason(book, question, &mut page);
+    if page.has_failed() {
+        return Err(Stop::Memory);
     }
+    Ok(if is_no { Some(text) } else { None })
 }
 
 /// Writes the first reason, if there is one, in the order in which the judge decides.
 fn write_reason<P: fmt::Write>(
     book: &KeyBook<'_>,
     question: Question<'_>,
-    page: &mut P,
-) -> Result<bool, fmt::Error> {
-    match secret_or_reason(book, question.protected, question.unprotected, page)? {
+    page: &mut Page<'_, P>,
+) -> bool {
+    match secret_or_reason(book, question.protected, question.unprotected, page) {
         Some(secret) => {
             let whole = hmac_sha256(secret, question.covered);
             write_wrong_tag(&whole, question.tag, question.aad_len, page)
         }
-        None => Ok(true),
+        None => true,
     }
 }
 
 /// The secret under which a judge by these keys verifies the tag of a COSE_Mac0 with these headers;
 /// none if it says no whatever the tag is, and then the first reason is written.
-///
-/// # Errors
-/// Those of `page`.
 pub fn secret_or_reason<'b, P: fmt::Write>(
     book: &'b KeyBook<'_>,
     protected: &ProtectedHeader,
     unprotected: &Header,
-    page: &mut P,
-) -> Result<Option<&'b [u8]>, fmt::Error> {
+    page: &mut Page<'_, P>,
+) -> Option<&'b [u8]> {
     if !alg_is_hmac(protected) {
-        write_other_alg(&protected.header.alg, &unprotected.alg, page)?;
-        return Ok(None);
+        write_other_alg(&protected.header.alg, &unprotected.alg, page);
+        return None;
     }
     if !crit_is_known(&protected.header) {
-        write_crit("protected", &protected.header, page)?;
-        return Ok(None);
+        write_crit("protected", &protected.header, page);
+        return None;
     }
     if !crit_is_known(unprotected) {
-        write_crit("unprotected", unprotected, page)?;
-        return Ok(None);
+        write_crit("unprotected", unprotected, page);
+        return None;
     }
     let id = message_id(protected, unprotected);
     let Some(key) = book.find(id) else {
-        write_no_key(book, id, page)?;
-        return Ok(None);
+        write_no_key(book, id, page);
+        return None;
     };
     if fits(key, id) {
-        return Ok(secret_of(key));
+        return secret_of(key);
     }
-    write_key_id(id, page)?;
-    write_bar(key, page)?;
-    Ok(None)
+    write_key_id(id, page);
+    write_bar(key, page);
+    None
 }
 
 /// The algorithm of the protected header isn't HMAC 256/256.
 fn write_other_alg<P: fmt::Write>(
     protected: &Option<Algorithm>,
     unprotected: &Option<Algorithm>,
-    page: &mut P,
-) -> fmt::Result {
+    page: &mut Page<'_, P>,
+) {
     match (protected, unprotected) {
         (Some(alg), _) => {
-            page.write_str("alg in the protected header is ")?;
-            write_alg(alg, page)?;
-            page.write_str(", not HMAC 256/256 (5)")
+            page.write_str("alg in the protected header is ");
+            write_alg(alg, page);
+            page.write_str(", not HMAC 256/256 (5)");
         }
         (None, Some(alg)) => {
-            page.write_str("alg isn't in the protected header; in the unprotected one it is ")?;
-            write_alg(alg, page)
+            page.write_str("alg isn't in the protected header; in the unprotected one it is ");
+            write_alg(alg, page);
         }
         (None, None) => page.write_str("alg is in neither header"),
     }
 }
 
-fn write_alg<P: fmt::Write>(alg: &Algorithm, page: &mut P) -> fmt::Result {
+fn write_alg<P: fmt::Write>(alg: &Algorithm, page: &mut Page<'_, P>) {
     match alg {
         RegisteredLabelWithPrivate::Assigned(entry) => {
             let number = (*entry).to_i64();
-            write_named(algorithm(number), number, page)
+            write_named(algorithm(number), number, page);
         }
         RegisteredLabelWithPrivate::PrivateUse(number) => write!(page, "{number}"),
         RegisteredLabelWithPrivate::Text(text) => write_front(text.as_str(), page),
@@ -137,11 +135,7 @@ fn write_alg<P: fmt::Write>(alg: &Algorithm, page: &mut P) -> fmt::Result {
 }
 
 /// A number, in front of which its registered name is.
-fn write_named<P: fmt::Write>(
-    name: Option<&'static str>,
-    number: i64,
-    page: &mut P,
-) -> fmt::Result {
+fn write_named<P: fmt::Write>(name: Option<&'static str>, number: i64, page: &mut Page<'_, P>) {
     match name {
         Some(name) => write!(page, "{name} ({number})"),
         None => write!(page, "{number}"),
@@ -149,37 +143,38 @@ fn write_named<P: fmt::Write>(
 }
 
 /// A text, of which no more than 64 bytes are shown.
-fn write_front<P: fmt::Write>(text: &str, page: &mut P) -> fmt::Result {
+fn write_front<P: fmt::Write>(text: &str, page: &mut Page<'_, P>) {
     if text.len() <= CUT {
-        return write_text(text, false, page);
+        write_text(text, false, page);
+        return;
     }
-    write_text(front_text(text.as_bytes()), false, page)?;
-    page.write_str("...")
+    write_text(front_text(text.as_bytes()), false, page);
+    page.write_str("...");
 }
 
 /// A critical label isn't known.
-fn write_crit<P: fmt::Write>(name: &str, header: &Header, page: &mut P) -> fmt::Result {
-    write!(page, "crit of the {name} header has the label ")?;
+fn write_crit<P: fmt::Write>(name: &str, header: &Header, page: &mut Page<'_, P>) {
+    write!(page, "crit of the {name} header has the label ");
     for label in &header.crit {
         match label {
             RegisteredLabelWithPrivate::Assigned(entry) => {
                 let number = (*entry).to_i64();
                 if !is_known(number) {
-                    write_named(parameter(number), number, page)?;
+                    write_named(parameter(number), number, page);
                     break;
                 }
             }
             RegisteredLabelWithPrivate::PrivateUse(number) => {
-                write!(page, "{number}")?;
+                write!(page, "{number}");
                 break;
             }
             RegisteredLabelWithPrivate::Text(text) => {
-                write_front(text.as_str(), page)?;
+                write_front(text.as_str(), page);
                 break;
             }
         }
     }
-    page.write_str(", which isn't known")
+    page.write_str(", which isn't known");
 }
 
 /// Whether this is the label of alg, crit or kid.
@@ -188,112 +183,116 @@ fn is_known(number: i64) -> bool {
 }
 
 /// No key has the id of the message.
-fn write_no_key<P: fmt::Write>(book: &KeyBook<'_>, id: &[u8], page: &mut P) -> fmt::Result {
+fn write_no_key<P: fmt::Write>(book: &KeyBook<'_>, id: &[u8], page: &mut Page<'_, P>) {
     if id.is_empty() {
-        page.write_str("the message has no key id, and no key of the set is without one")?;
+        page.write_str("the message has no key id, and no key of the set is without one");
     } else {
-        page.write_str("no key of the set has the id ")?;
-        write_id(id, page)?;
+        page.write_str("no key of the set has the id ");
+        write_id(id, page);
     }
     let count = book.ids().len();
     if count == 0 {
-        return page.write_str("; the set is empty");
+        page.write_str("; the set is empty");
     }
     let mut shown = 0usize;
     for entry in book.ids().iter() {
         if shown == IDS {
             break;
         }
-        page.write_str(if shown == 0 { "; its ids are " } else { ", " })?;
+        page.write_str(if shown == 0 { "; its ids are " } else { ", " });
         let other = entry.0;
-        write_id(other, page)?;
+        write_id(other, page);
         shown = shown.saturating_add(1);
     }
     if count > IDS {
         let more = count.saturating_sub(IDS);
-        write!(page, " and {more} more")?;
+        write!(page, " and {more} more");
     }
-    Ok(())
 }
 
 /// A key id, of which no more than 64 bytes are shown.
-fn write_id<P: fmt::Write>(id: &[u8], page: &mut P) -> fmt::Result {
+fn write_id<P: fmt::Write>(id: &[u8], page: &mut Page<'_, P>) {
     if id.is_empty() {
-        return page.write_str("(none)");
+        page.write_str("(none)");
+        return;
     }
-    page.write_str("h'")?;
+    page.write_str("h'");
     match id.get(..CUT) {
         Some(front) if id.len() > CUT => {
-            write_hex(front, page)?;
-            page.write_str("'...")
+            write_hex(front, page);
+            page.write_str("'...");
         }
         _ => {
-            write_hex(id, page)?;
-            page.write_str("'")
+            write_hex(id, page);
+            page.write_str("'");
         }
     }
 }
 
-fn write_key_id<P: fmt::Write>(id: &[u8], page: &mut P) -> fmt::Result {
+fn write_key_id<P: fmt::Write>(id: &[u8], page: &mut Page<'_, P>) {
     if id.is_empty() {
-        return page.write_str("the key without an id ");
+        page.write_str("the key without an id ");
+        return;
     }
-    page.write_str("the key with the id ")?;
-    write_id(id, page)?;
-    page.write_str(" ")
+    page.write_str("the key with the id ");
+    write_id(id, page);
+    page.write_str(" ");
 }
 
 /// Why a key doesn't fit that has the id.
-fn write_bar<P: fmt::Write>(key: &CoseKey, page: &mut P) -> fmt::Result {
+fn write_bar<P: fmt::Write>(key: &CoseKey, page: &mut Page<'_, P>) {
     match &key.kty {
-        RegisteredLabel::Assigned(cose_iana::KeyType::Symmetric) => {}
+        RegisteredLabel::Assigned(cose_iana::KeyType::Symmetric) => write_bar_of_secret(key, page),
         RegisteredLabel::Assigned(entry) => {
             let number = (*entry).to_i64();
-            page.write_str("isn't symmetric: its kty is ")?;
-            return write_named(key_type(number), number, page);
+            page.write_str("isn't symmetric: its kty is ");
+            write_named(key_type(number), number, page);
         }
         RegisteredLabel::Text(text) => {
-            page.write_str("isn't symmetric: its kty is ")?;
-            return write_front(text.as_str(), page);
+            page.write_str("isn't symmetric: its kty is ");
+            write_front(text.as_str(), page);
         }
     }
+}
+
+/// Why a symmetric key doesn't fit.
+fn write_bar_of_secret<P: fmt::Write>(key: &CoseKey, page: &mut Page<'_, P>) {
     if secret_of(key).is_none() {
-        return page.write_str("has no secret (k)");
+        page.write_str("has no secret (k)");
+        return;
     }
     match &key.alg {
         None => {}
         Some(RegisteredLabelWithPrivate::Assigned(cose_iana::Algorithm::HMAC_256_256)) => {}
         Some(alg) => {
-            page.write_str("has another alg: ")?;
-            return write_alg(alg, page);
+            page.write_str("has another alg: ");
+            write_alg(alg, page);
+            return;
         }
     }
-    page.write_str("has no MAC verify (10) among its key_ops")
+    page.write_str("has no MAC verify (10) among its key_ops");
 }
 
 /// Writes why a tag isn't the whole tag, if it isn't, and says whether it has. Of a tag of another
 /// length than 32 bytes it says the length, whatever its bytes are, and of one of 32 bytes that it is
 /// another: whoever sends messages and sees the text must not learn how much of a tag is right.
-///
-/// # Errors
-/// Those of `page`.
 pub fn write_wrong_tag<P: fmt::Write>(
     whole: &[u8; TAG],
     tag: &[u8],
     aad_len: usize,
-    page: &mut P,
-) -> Result<bool, fmt::Error> {
+    page: &mut Page<'_, P>,
+) -> bool {
     if tag.len() != TAG {
-        page.write_str("the tag has ")?;
-        write_len(tag.len(), page)?;
-        page.write_str(", not 32")?;
-        return Ok(true);
+        page.write_str("the tag has ");
+        write_len(tag.len(), page);
+        page.write_str(", not 32");
+        return true;
     }
     if same_tag(whole, tag) {
-        return Ok(false);
+        return false;
     }
-    page.write_str("the tag isn't that of the first matching key, with ")?;
-    write_len(aad_len, page)?;
-    page.write_str(" of external data")?;
-    Ok(true)
+    page.write_str("the tag isn't that of the first matching key, with ");
+    write_len(aad_len, page);
+    page.write_str(" of external data");
+    true
 }

@@ -1,5 +1,5 @@
-//! What is read, and the page that is written.
-use cose_show_core::{Options, Page, Stop, show_as};
+//! What is read, and what is written.
+use cose_show_core::{Options, Printer, Stop, show_as};
 use std::alloc::Global;
 use std::fs::{self, File, Files};
 use std::io::{self, BufReader, BufWriter};
@@ -49,9 +49,9 @@ pub fn show_on<I: io::Read + Drop, O: io::Write + Drop>(
     input: BufReader<I>,
     mut output: BufWriter<O>,
 ) -> Result<(), Stop> {
-    let mut page = Page::new(&mut output);
-    let shown = show_as(alloc, options, keys, input, &mut page);
-    let flushed = page.flush();
+    let mut printer = Printer::new(&mut output);
+    let shown = show_as(alloc, options, keys, input, &mut printer);
+    let flushed = printer.flush();
     let _ = output.into_parts();
     match flushed {
         Ok(()) => shown,

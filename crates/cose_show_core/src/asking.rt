@@ -3,7 +3,7 @@ use cose_gate_core::{
     Asked, CoseError, Decoder, Entry, GateFault, Limits, Mem, MessageKind, Refusal, Terms, Verdict,
     gate_by,
 };
-use cose_gate_hmac::{CoseKeySet, HmacJudge};
+use cose_gate_program::{CoseKeySet, HmacJudge};
 use cose_reasons::{KeyBook, OTHER_KIND, Question, Stop, reason};
 use coset_labels::TaggedCborSerializable;
 use coset_maced::CoseMac0;

@@ -1,6 +1,6 @@
 //! What is shown of damaged input.
 use crate::source::Source;
-use cbor_diag::{Fault, NotWritten};
+use cbor_diag::{Fault, Page};
 use cose_notation::{Look, begin_line, may_hold_secrets, write_shown};
 use cose_reasons::Stop;
 use std::alloc::Global;
@@ -20,41 +20,27 @@ pub fn show_damage<R: io::Read + Drop, P: fmt::Write>(
     number: u64,
     fault: Fault,
     source: &mut Source<R>,
-    page: &mut P,
+    page: &mut Page<'_, P>,
 ) -> Result<(), Stop> {
     source.hold(fault.at.saturating_add(AROUND))?;
     let offset = source.offset();
     let held = source.held();
-    writeln!(page, "item {number} at {offset}, damaged")?;
+    writeln!(page, "item {number} at {offset}, damaged");
     let place = offset.saturating_add(fault.at);
     let why = fault.why;
     if !look.secrets && may_hold_secrets(alloc, held, fault.at, AROUND)? {
-        page.write_str("  not shown, as it may hold secrets of keys (--secrets shows it)\n")?;
-        writeln!(page, "  fault at {place}: {why}")?;
+        page.write_str("  not shown, as it may hold secrets of keys (--secrets shows it)\n");
+        writeln!(page, "  fault at {place}: {why}");
+        page.end()?;
         return Err(Stop::of_fault(fault, offset));
     }
-    begin_line(1, page)?;
-    show_front(alloc, look, held, page)?;
-    writeln!(page, "\n  fault at {place}: {why}")?;
-    show_around(held, offset, fault.at, page)?;
+    begin_line(1, page);
+    write_shown(alloc, look, look.lines(), held, 1, page);
+    page.write_str("...");
+    writeln!(page, "\n  fault at {place}: {why}");
+    show_around(held, offset, fault.at, page);
+    page.end()?;
     Err(Stop::of_fault(fault, offset))
-}
-
-/// The notation up to the fault.
-fn show_front<P: fmt::Write>(
-    alloc: Global,
-    look: Look,
-    held: &[u8],
-    page: &mut P,
-) -> Result<(), Stop> {
-    match write_shown(alloc, look, look.lines(), held, 1, page) {
-        Ok(()) => {}
-        Err(NotWritten::Fault(_)) => {}
-        Err(NotWritten::Output) => return Err(Stop::Output),
-        Err(NotWritten::Memory) => return Err(Stop::Memory),
-    }
-    page.write_str("...")?;
-    Ok(())
 }
 
 /// The bytes before a place, and those from it on.
@@ -67,16 +53,16 @@ pub fn around(held: &[u8], at: usize) -> (&[u8], &[u8]) {
 }
 
 /// Shows the bytes around a place, with a bar after those before it.
-fn show_around<P: fmt::Write>(held: &[u8], offset: usize, at: usize, page: &mut P) -> fmt::Result {
+fn show_around<P: fmt::Write>(held: &[u8], offset: usize, at: usize, page: &mut Page<'_, P>) {
     let (before, behind) = around(held, at);
     let first = at.saturating_sub(before.len());
-    write!(page, "  bytes from {}:", offset.saturating_add(first))?;
+    write!(page, "  bytes from {}:", offset.saturating_add(first));
     for byte in before {
-        write!(page, " {byte:02x}")?;
+        write!(page, " {byte:02x}");
     }
-    page.write_str(" |")?;
+    page.write_str(" |");
     for byte in behind {
-        write!(page, " {byte:02x}")?;
+        write!(page, " {byte:02x}");
     }
-    page.write_str("\n")
+    page.write_str("\n");
 }

@@ -6,7 +6,7 @@ mod asking;
 mod cut;
 mod damage;
 mod object;
-mod page;
+mod printer;
 mod shape;
 mod show;
 mod source;
@@ -14,7 +14,7 @@ mod verdict;
 mod words;
 
 pub use crate::cut::{Cutter, Share};
-pub use crate::page::Page;
+pub use crate::printer::Printer;
 pub use crate::show::show_as;
 pub use crate::words::{Cut, HELP, Options, USAGE, Words, read_words};
 pub use cose_reasons::Stop;

@@ -5,7 +5,7 @@ use crate::shape::wrong_part;
 use crate::show::Request;
 use crate::source::Source;
 use crate::verdict::{Ruling, Spelling, rule};
-use cbor_diag::{Fault, NotWritten};
+use cbor_diag::{Fault, Page};
 use cose_gate_core::{Refusal, Verdict};
 use cose_notation::{
     Look, keys_in, may_hold_secrets, write_hex_text, write_keys, write_message, write_name,
@@ -26,32 +26,27 @@ pub fn write_object<P: fmt::Write>(
     number: u64,
     offset: usize,
     item: &[u8],
-    page: &mut P,
+    page: &mut Page<'_, P>,
 ) -> Result<(), Stop> {
     let len = item.len();
     write!(
         page,
         "{{\"number\":{number},\"offset\":{offset},\"length\":{len},\"notation\":"
-    )?;
-    write_content(alloc, request.look, item, page)?;
+    );
+    write_content(alloc, request.look, item, page);
+    page.end()?;
     write_ruling(alloc, request, asking, offset, item, page)?;
-    page.write_str("}\n")?;
-    Ok(())
+    page.write_str("}\n");
+    Ok(page.end()?)
 }
 
 /// The notation, and the members of keys or of a message.
-fn write_content<P: fmt::Write>(
-    alloc: Global,
-    look: Look,
-    item: &[u8],
-    page: &mut P,
-) -> Result<(), Stop> {
-    write_notation(alloc, look, item, page)?;
-    match keys_in(alloc, item)? {
-        Some(keys) => write_keys(alloc, look, keys, item, page)?,
-        None => write_message(alloc, look, item, page)?,
+fn write_content<P: fmt::Write>(alloc: Global, look: Look, item: &[u8], page: &mut Page<'_, P>) {
+    write_notation(alloc, look, item, page);
+    match page.kept(keys_in(alloc, item)).flatten() {
+        Some(keys) => write_keys(alloc, look, keys, item, page),
+        None => write_message(alloc, look, item, page),
     }
-    Ok(())
 }
 
 /// Writes what is read of a damaged item, and the fault. Of one that may hold secrets of keys only
@@ -65,24 +60,23 @@ pub fn write_damage<R: io::Read + Drop, P: fmt::Write>(
     number: u64,
     fault: Fault,
     source: &mut Source<R>,
-    page: &mut P,
+    page: &mut Page<'_, P>,
 ) -> Result<(), Stop> {
     source.hold(fault.at.saturating_add(AROUND))?;
     let offset = source.offset();
     let held = source.held();
-    write!(page, "{{\"number\":{number},\"offset\":{offset}")?;
+    write!(page, "{{\"number\":{number},\"offset\":{offset}");
     if !look.secrets && may_hold_secrets(alloc, held, fault.at, AROUND)? {
         let place = offset.saturating_add(fault.at);
         let why = fault.why;
-        writeln!(page, ",\"fault\":\"{why}\",\"fault_offset\":{place}}}")?;
+        writeln!(page, ",\"fault\":\"{why}\",\"fault_offset\":{place}}}");
+        page.end()?;
         return Err(Stop::of_fault(fault, offset));
     }
-    write_name("notation", page)?;
-    match write_notation(alloc, look, held, page) {
-        Err(NotWritten::Fault(_)) => {}
-        written => written?,
-    }
-    write_fault(alloc, look, fault, offset, held, page)?;
+    write_name("notation", page);
+    write_notation(alloc, look, held, page);
+    write_fault(alloc, look, fault, offset, held, page);
+    page.end()?;
     Err(Stop::of_fault(fault, offset))
 }
 
@@ -93,18 +87,17 @@ fn write_fault<P: fmt::Write>(
     fault: Fault,
     offset: usize,
     held: &[u8],
-    page: &mut P,
-) -> Result<(), Stop> {
+    page: &mut Page<'_, P>,
+) {
     let place = offset.saturating_add(fault.at);
     let why = fault.why;
     let (before, behind) = around(held, fault.at);
-    write!(page, ",\"fault\":\"{why}\",\"fault_offset\":{place}")?;
-    write_name("bytes_before", page)?;
-    write_hex_text(alloc, look, before, page)?;
-    write_name("bytes_from", page)?;
-    write_hex_text(alloc, look, behind, page)?;
-    page.write_str("}\n")?;
-    Ok(())
+    write!(page, ",\"fault\":\"{why}\",\"fault_offset\":{place}");
+    write_name("bytes_before", page);
+    write_hex_text(alloc, look, before, page);
+    write_name("bytes_from", page);
+    write_hex_text(alloc, look, behind, page);
+    page.write_str("}\n");
 }
 
 /// What the gate says, and what else was asked for.
@@ -114,62 +107,66 @@ fn write_ruling<P: fmt::Write>(
     asking: &mut Option<Asking<'_>>,
     offset: usize,
     item: &[u8],
-    page: &mut P,
+    page: &mut Page<'_, P>,
 ) -> Result<(), Stop> {
     let ruling = rule(alloc, request.aad, item)?;
-    write_verdict(&ruling, page)?;
+    write_verdict(&ruling, page);
     if let Ok(Some(Verdict::Refused(Refusal::Shape(_)))) = &ruling.verdict {
         write_wrong_part(alloc, item, page)?;
     }
     if let Some(asking) = asking {
         if let Some(answer) = asking.answer(alloc, request.aad, item, ruling.asked())? {
-            write_answer(&answer, page)?;
+            write_answer(&answer, page);
         }
     }
     if request.strict {
         if let Some(spelling) = ruling.spelling(alloc, item)? {
-            write_spelling(spelling, offset, page)?;
+            write_spelling(spelling, offset, page);
         }
     }
     if request.questions {
-        write_questions(alloc, request.look, &ruling, page)?;
+        write_questions(alloc, request.look, &ruling, page);
     }
     Ok(())
 }
 
-fn write_verdict<P: fmt::Write>(ruling: &Ruling, page: &mut P) -> fmt::Result {
+fn write_verdict<P: fmt::Write>(ruling: &Ruling, page: &mut Page<'_, P>) {
     match &ruling.verdict {
         Ok(Some(Verdict::Passed)) => write!(page, ",\"gate\":\"passes if judged good\""),
         Ok(Some(Verdict::Refused(refusal))) => {
             write!(page, ",\"gate\":\"refused\",\"why\":\"{refusal}\"")
         }
-        Ok(None) => Ok(()),
+        Ok(None) => {}
         Err(fault) => write!(page, ",\"gate\":\"stops\",\"why\":\"{fault}\""),
     }
 }
 
 /// The part that is wrong, and what is wrong in it.
-fn write_wrong_part<P: fmt::Write>(alloc: Global, item: &[u8], page: &mut P) -> Result<(), Stop> {
+fn write_wrong_part<P: fmt::Write>(
+    alloc: Global,
+    item: &[u8],
+    page: &mut Page<'_, P>,
+) -> Result<(), Stop> {
     if let Some(wrong) = wrong_part(alloc, item)? {
         let fault = wrong.fault;
-        write_word("part", wrong.name.as_str(), page)?;
-        write!(page, ",\"part_fault\":\"{fault}\"")?;
+        write_word("part", wrong.name.as_str(), page);
+        write!(page, ",\"part_fault\":\"{fault}\"");
     }
     Ok(())
 }
 
 /// What the judge answers.
-fn write_answer<P: fmt::Write>(answer: &Answer, page: &mut P) -> fmt::Result {
+fn write_answer<P: fmt::Write>(answer: &Answer, page: &mut Page<'_, P>) {
     match answer {
         Answer::Yes => write_word("judge", "yes", page),
         Answer::No(why) => {
-            write_word("judge", "no", page)?;
-            write_word("reason", why.as_str(), page)
+            write_word("judge", "no", page);
+            write_word("reason", why.as_str(), page);
         }
     }
 }
 
-fn write_spelling<P: fmt::Write>(spelling: Spelling, offset: usize, page: &mut P) -> fmt::Result {
+fn write_spelling<P: fmt::Write>(spelling: Spelling, offset: usize, page: &mut Page<'_, P>) {
     match spelling {
         Spelling::Shortest => page.write_str(",\"shortest\":true"),
         Spelling::Excess(excess, at) => {
@@ -177,7 +174,7 @@ fn write_spelling<P: fmt::Write>(spelling: Spelling, offset: usize, page: &mut P
             write!(
                 page,
                 ",\"shortest\":false,\"excess\":\"{excess}\",\"excess_offset\":{place}"
-            )
+            );
         }
         Spelling::Form(form, at) => {
             let place = offset.saturating_add(at);
@@ -185,7 +182,7 @@ fn write_spelling<P: fmt::Write>(spelling: Spelling, offset: usize, page: &mut P
             write!(
                 page,
                 ",\"shortest\":false,\"excess\":\"{word}\",\"excess_offset\":{place}"
-            )
+            );
         }
     }
 }
@@ -195,16 +192,15 @@ fn write_questions<P: fmt::Write>(
     alloc: Global,
     look: Look,
     ruling: &Ruling,
-    page: &mut P,
-) -> Result<(), Stop> {
-    write_name("covered", page)?;
-    page.write_str("[")?;
+    page: &mut Page<'_, P>,
+) {
+    write_name("covered", page);
+    page.write_str("[");
     for (index, question) in ruling.asked().iter().enumerate() {
         if index > 0 {
-            page.write_str(",")?;
+            page.write_str(",");
         }
-        write_hex_text(alloc, look, question.structure.as_slice(), page)?;
+        write_hex_text(alloc, look, question.structure.as_slice(), page);
     }
-    page.write_str("]")?;
-    Ok(())
+    page.write_str("]");
 }

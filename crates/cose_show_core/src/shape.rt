@@ -1,4 +1,5 @@
 //! Which part of a message is wrong.
+use cbor_diag::Page;
 use ciborium_value::Value;
 use cose_gate_core::{CoseError, CoseRecipient, CoseSignature, Header, ProtectedHeader};
 use cose_notation::{Look, Part, entries, is_bytes, items, joined, message_of, write_shown};
@@ -315,6 +316,10 @@ fn labeled(
         full: false,
         secrets: false,
     };
-    write_shown(alloc, look, look.line(), label, 0, &mut name)?;
+    let mut page = Page::new(&mut name);
+    write_shown(alloc, look, look.line(), label, 0, &mut page);
+    if page.has_failed() {
+        return Err(Stop::Memory);
+    }
     Ok(Some(WrongPart { name, fault }))
 }

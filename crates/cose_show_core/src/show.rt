@@ -5,6 +5,7 @@ use crate::object::{write_damage, write_object};
 use crate::source::{Found, Source};
 use crate::verdict::show_verdict;
 use crate::words::Options;
+use cbor_diag::Page;
 use cose_notation::{
     Look, begin_line, is_message, keys_in, show_keys, show_message, write_len, write_shown,
 };
@@ -39,7 +40,7 @@ pub fn show_as<R: io::Read + Drop, P: fmt::Write>(
     options: Options<'_>,
     keys: Option<&[u8]>,
     input: BufReader<R>,
-    page: &mut P,
+    out: &mut P,
 ) -> Result<(), Stop> {
     let aad = match hex::decode(alloc, options.aad) {
         Ok(aad) => aad,
@@ -57,12 +58,13 @@ pub fn show_as<R: io::Read + Drop, P: fmt::Write>(
         aad: aad.as_slice(),
     };
     let mut source = Source::new(alloc, input);
+    let mut page = Page::new(out);
     let Some(bytes) = keys else {
-        return show(alloc, request, &mut None, &mut source, page);
+        return show(alloc, request, &mut None, &mut source, &mut page);
     };
     let set = read_keys(alloc, bytes)?;
     let mut asking = Some(Asking::new(alloc, &set)?);
-    show(alloc, request, &mut asking, &mut source, page)
+    show(alloc, request, &mut asking, &mut source, &mut page)
 }
 
 fn show<R: io::Read + Drop, P: fmt::Write>(
@@ -70,7 +72,7 @@ fn show<R: io::Read + Drop, P: fmt::Write>(
     request: Request<'_>,
     asking: &mut Option<Asking<'_>>,
     source: &mut Source<R>,
-    page: &mut P,
+    page: &mut Page<'_, P>,
 ) -> Result<(), Stop> {
     for number in 1..u64::MAX {
         match source.find()? {
@@ -100,36 +102,33 @@ fn show_item<P: fmt::Write>(
     number: u64,
     offset: usize,
     item: &[u8],
-    page: &mut P,
+    page: &mut Page<'_, P>,
 ) -> Result<(), Stop> {
     if request.json {
         return write_object(alloc, request, asking, number, offset, item, page);
     }
-    write!(page, "item {number} at {offset}, ")?;
-    write_len(item.len(), page)?;
-    page.write_str("\n")?;
-    show_content(alloc, request.look, item, page)?;
+    write!(page, "item {number} at {offset}, ");
+    write_len(item.len(), page);
+    page.write_str("\n");
+    show_content(alloc, request.look, item, page);
+    page.end()?;
     show_verdict(alloc, request, asking, offset, item, page)
 }
 
 /// Shows what an item holds: keys, the parts of a message, or its notation.
-fn show_content<P: fmt::Write>(
-    alloc: Global,
-    look: Look,
-    item: &[u8],
-    page: &mut P,
-) -> Result<(), Stop> {
-    let keys = keys_in(alloc, item)?;
+fn show_content<P: fmt::Write>(alloc: Global, look: Look, item: &[u8], page: &mut Page<'_, P>) {
+    let Some(keys) = page.kept(keys_in(alloc, item)) else {
+        return;
+    };
     let is_shown_by_parts = keys.is_some() || is_message(item);
     let may_show = look.secrets || keys.is_none();
     if may_show && (look.full || !is_shown_by_parts) {
-        begin_line(1, page)?;
-        write_shown(alloc, look, look.lines(), item, 1, page)?;
-        page.write_str("\n")?;
+        begin_line(1, page);
+        write_shown(alloc, look, look.lines(), item, 1, page);
+        page.write_str("\n");
     }
     match keys {
-        Some(keys) => show_keys(alloc, look, keys, item, page)?,
-        None => show_message(alloc, look, item, page)?,
+        Some(keys) => show_keys(alloc, look, keys, item, page),
+        None => show_message(alloc, look, item, page),
     }
-    Ok(())
 }

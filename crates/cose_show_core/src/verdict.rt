@@ -2,7 +2,7 @@
 use crate::asking::{Answer, Asking};
 use crate::shape::wrong_part;
 use crate::show::Request;
-use cbor_diag::{Event, Excess, Fault, Place, Step, Walk, first_excess};
+use cbor_diag::{Event, Excess, Fault, Page, Place, Step, Walk, first_excess};
 use ciborium_ll::Header;
 use cose_gate_core::{
     Asked, Decoder, End, Entry, GateFault, Limits, Mem, Recorder, Refusal, Terms, Verdict, gate_by,
@@ -171,30 +171,30 @@ pub fn show_verdict<P: fmt::Write>(
     asking: &mut Option<Asking<'_>>,
     offset: usize,
     item: &[u8],
-    page: &mut P,
+    page: &mut Page<'_, P>,
 ) -> Result<(), Stop> {
     let ruling = rule(alloc, request.aad, item)?;
-    say_verdict(&ruling, page)?;
+    say_verdict(&ruling, page);
     if let Ok(Some(Verdict::Refused(Refusal::Shape(_)))) = &ruling.verdict {
         say_wrong_part(alloc, item, page)?;
     }
     if let Some(asking) = asking {
         if let Some(answer) = asking.answer(alloc, request.aad, item, ruling.asked())? {
-            say_answer(&answer, page)?;
+            say_answer(&answer, page);
         }
     }
     if request.strict {
         if let Some(spelling) = ruling.spelling(alloc, item)? {
-            say_spelling(spelling, offset, page)?;
+            say_spelling(spelling, offset, page);
         }
     }
     if request.questions {
-        show_questions(alloc, request.look, ruling.asked(), page)?;
+        show_questions(alloc, request.look, ruling.asked(), page);
     }
-    Ok(())
+    Ok(page.end()?)
 }
 
-fn say_verdict<P: fmt::Write>(ruling: &Ruling, page: &mut P) -> fmt::Result {
+fn say_verdict<P: fmt::Write>(ruling: &Ruling, page: &mut Page<'_, P>) {
     let asked = ruling.asked().len();
     match &ruling.verdict {
         Ok(Some(Verdict::Passed)) if asked == 1 => {
@@ -204,32 +204,36 @@ fn say_verdict<P: fmt::Write>(ruling: &Ruling, page: &mut P) -> fmt::Result {
             writeln!(
                 page,
                 "  gate: passes if the judge says yes to {asked} questions"
-            )
+            );
         }
         Ok(Some(Verdict::Refused(refusal))) => writeln!(page, "  gate: refused: {refusal}"),
-        Ok(None) => Ok(()),
+        Ok(None) => {}
         Err(fault) => writeln!(page, "  gate: stops at this item: {fault}"),
     }
 }
 
 /// The part that is wrong, and what is wrong in it.
-fn say_wrong_part<P: fmt::Write>(alloc: Global, item: &[u8], page: &mut P) -> Result<(), Stop> {
+fn say_wrong_part<P: fmt::Write>(
+    alloc: Global,
+    item: &[u8],
+    page: &mut Page<'_, P>,
+) -> Result<(), Stop> {
     if let Some(wrong) = wrong_part(alloc, item)? {
         let (name, fault) = (wrong.name, wrong.fault);
-        writeln!(page, "    {name}: {fault}")?;
+        writeln!(page, "    {name}: {fault}");
     }
     Ok(())
 }
 
 /// What the judge answers.
-fn say_answer<P: fmt::Write>(answer: &Answer, page: &mut P) -> fmt::Result {
+fn say_answer<P: fmt::Write>(answer: &Answer, page: &mut Page<'_, P>) {
     match answer {
         Answer::Yes => page.write_str("  judge: yes\n"),
         Answer::No(why) => writeln!(page, "  judge: no: {why}"),
     }
 }
 
-fn say_spelling<P: fmt::Write>(spelling: Spelling, offset: usize, page: &mut P) -> fmt::Result {
+fn say_spelling<P: fmt::Write>(spelling: Spelling, offset: usize, page: &mut Page<'_, P>) {
     match spelling {
         Spelling::Shortest => page.write_str("  strict: it is in canonical encoding\n"),
         Spelling::Excess(excess, at) => {
@@ -237,30 +241,30 @@ fn say_spelling<P: fmt::Write>(spelling: Spelling, offset: usize, page: &mut P) 
             writeln!(
                 page,
                 "  strict: not in canonical encoding: {excess} at {place}"
-            )
+            );
         }
         Spelling::Form(form, at) => {
             let place = offset.saturating_add(at);
-            say_form(form, place, page)
+            say_form(form, place, page);
         }
     }
 }
 
-fn say_form<P: fmt::Write>(form: Form, place: usize, page: &mut P) -> fmt::Result {
-    page.write_str("  strict: not in canonical encoding: ")?;
+fn say_form<P: fmt::Write>(form: Form, place: usize, page: &mut Page<'_, P>) {
+    page.write_str("  strict: not in canonical encoding: ");
     match form {
         Form::Order => {
             writeln!(
                 page,
                 "a header's entries are in another order, from {place} on"
-            )
+            );
         }
         Form::ListOfOne => writeln!(page, "a list of one counter signature at {place}"),
         Form::NoRecipients => {
             writeln!(
                 page,
                 "a recipient with an empty list of recipients at {place}"
-            )
+            );
         }
         Form::Other => writeln!(page, "another encoding from {place} on"),
     }
@@ -271,16 +275,15 @@ fn show_questions<P: fmt::Write>(
     alloc: Global,
     look: Look,
     asked: &[Asked],
-    page: &mut P,
-) -> Result<(), Stop> {
+    page: &mut Page<'_, P>,
+) {
     let whole = Look {
         full: true,
         secrets: look.secrets,
     };
     for (index, question) in asked.iter().enumerate() {
         let number = index.saturating_add(1);
-        write!(page, "  question {number} covers ")?;
-        write_string(alloc, whole, question.structure.as_slice(), page)?;
+        write!(page, "  question {number} covers ");
+        write_string(alloc, whole, question.structure.as_slice(), page);
     }
-    Ok(())
 }

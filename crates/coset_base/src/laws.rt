@@ -1,4 +1,7 @@
-//! Laws of the definitions, those of labels, headers and structures.
+//! Laws of the definitions: those of labels, headers and structures, and of what is written straight
+//! from fields.
+pub mod sink;
+pub mod structures;
+
 pub use coset_headers::laws as headers;
 pub use coset_labels::laws as labels;
-pub use coset_structures::laws as structures;

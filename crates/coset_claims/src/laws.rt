@@ -1,5 +1,6 @@
 //! Laws of the definitions.
-ghost use Rattle.std.specs.Prelude.{◌≡◌, ◌↔◌, ◌+◌, ◌^◌, ◌<◌, IsTrue, ℕ, List, length, map, option_map, string_bytes};
+ghost use Rattle.std.specs.Prelude.{◌≡◌, ◌↔◌, ◌+◌, ◌^◌, ◌<◌, IsTrue, ℕ, List, length, map};
+ghost use Rattle.std.specs.Prelude.{option_map, string_bytes};
 ghost use Rattle.ciborium_value.specs.Tree.{Tree, bytes, text};
 ghost use Rattle.ciborium_value.specs.Encoding.{enc, Fits, FitPairs};
 ghost use Rattle.ciborium_value.specs.View.{pairs};

@@ -4,7 +4,7 @@ use Rattle.std.specs.Prelude.{IsTrue, ◌↔◌}
 use Rattle.coset_labels.specs.Facts.Equal.{both, bytes_options}
 use Rattle.coset_headers.specs.Facts.Decided.{headers_decided, protected_decided}
 use Rattle.coset_headers.specs.View.{header_view, protected_view}
-use Rattle.coset_message_parts.proofs.Equal.{parts_and}
+use Rattle.coset_recipients.proofs.PartsEqual.{parts_and}
 use Rattle.coset_recipients.proofs.Equal.{all_equal}
 use Rattle.coset_encrypted.specs.View.{encrypt0_view, encrypt_view}
 use Rattle.coset_encrypted.specs.declared.encrypt.CoseEncrypt.{CoseEncrypt}

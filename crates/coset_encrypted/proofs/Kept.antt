@@ -1,7 +1,7 @@
 -- What is written of a message that was read has its fields again, nests no deeper, and is read
 -- again.
 use Rattle.std.proofs.Common.{ℕ, [], ◌∷◌}
-use Rattle.coset_message_parts.proofs.Kept.{Kept, whole_kept}
+use Rattle.coset_recipients.proofs.PartsKept.{Kept, whole_kept}
 use Rattle.coset_recipients.specs.Written.{list_tree}
 use Rattle.coset_recipients.proofs.Kept.{list_kept}
 use Rattle.coset_encrypted.specs.Fields.{Encrypt0Fields, EncryptFields}

@@ -1,9 +1,9 @@
 -- What was read can be written, and what its ciphertext covers is there.
 use Rattle.std.proofs.Common.{◌≢◌, ℕ, List, None}
 use Rattle.ciborium_value.specs.Tree.{Tree}
-use Rattle.coset_structures.specs.Contexts.{encryption_text}
-use Rattle.coset_structures.specs.declared.context.EncryptionContext.TheVariants.{CoseEncrypt, CoseEncrypt0}
-use Rattle.coset_structures.proofs.Writable.{enc_data_some}
+use Rattle.coset_base.specs.Contexts.{encryption_text}
+use Rattle.coset_base.specs.declared.context.EncryptionContext.TheVariants.{CoseEncrypt, CoseEncrypt0}
+use Rattle.coset_base.proofs.Writable.{enc_data_some}
 use Rattle.coset_headers.proofs.Writable.{prot_some}
 use Rattle.coset_encrypted.specs.Fields.{Encrypt0Fields, EncryptFields}
 use Rattle.coset_encrypted.specs.Shapes.{HasEncrypt0, HasEncrypt}

@@ -2,8 +2,8 @@
 -- limit `n` and the layers `k` are those of headers.
 use Rattle.std.specs.Prelude.{ℕ, [], ◌∷◌}
 use Rattle.ciborium_value.specs.Tree.{Tree}
-use Rattle.coset_message_parts.specs.Fields.{parts}
-use Rattle.coset_message_parts.specs.Shapes.{HasWhole}
+use Rattle.coset_recipients.specs.PartsFields.{parts}
+use Rattle.coset_recipients.specs.PartShapes.{HasWhole}
 use Rattle.coset_recipients.specs.Shapes.{HasList}
 use Rattle.coset_encrypted.specs.Fields.{Encrypt0Fields, EncryptFields}
 

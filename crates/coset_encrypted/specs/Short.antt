@@ -1,6 +1,6 @@
 -- Messages in which each protected header that has no received bytes is encoded in fewer bytes than
 -- a head can say.
-use Rattle.coset_message_parts.specs.Short.{PartsShort}
+use Rattle.coset_recipients.specs.PartsShort.{PartsShort}
 use Rattle.coset_recipients.specs.Short.{RecipientsShort}
 use Rattle.coset_encrypted.specs.Fields.{Encrypt0Fields, EncryptFields}
 

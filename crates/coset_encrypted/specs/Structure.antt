@@ -1,9 +1,9 @@
 -- What the ciphertext of an encrypted message covers (RFC 9052, section 5.3); none if the
 -- protected header can't be written.
 use Rattle.std.specs.Prelude.{ℕ, List, Option}
-use Rattle.coset_structures.specs.Contexts.{encryption_text}
-use Rattle.coset_structures.specs.Structure.{encryption_structure}
-use Rattle.coset_structures.specs.declared.context.EncryptionContext.TheVariants.{CoseEncrypt, CoseEncrypt0}
+use Rattle.coset_base.specs.Contexts.{encryption_text}
+use Rattle.coset_base.specs.Structure.{encryption_structure}
+use Rattle.coset_base.specs.declared.context.EncryptionContext.TheVariants.{CoseEncrypt, CoseEncrypt0}
 use Rattle.coset_encrypted.specs.Fields.{Encrypt0Fields, EncryptFields}
 
 abbrev pub encrypt0_covered : Encrypt0Fields → List ℕ → Option (List ℕ)

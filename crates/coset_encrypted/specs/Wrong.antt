@@ -3,7 +3,7 @@
 use Rattle.std.specs.Prelude.{ℕ, [], ◌∷◌}
 use Rattle.ciborium_value.specs.Tree.{Tree}
 use Rattle.coset_labels.specs.Faults.{CoseFault}
-use Rattle.coset_message_parts.specs.Wrong.{WrongWhole}
+use Rattle.coset_recipients.specs.WrongParts.{WrongWhole}
 use Rattle.coset_recipients.specs.Wrong.{WrongList}
 
 -- no array, one of another length, or one of its parts

@@ -1,16 +1,15 @@
 //! The COSE_Encrypt message.
 ghost use Rattle.std.specs.Prelude.{◌≡◌, IsSome, IfSome, IfNone, IsSomeAnd, IfOk, MatchOption};
-ghost use Rattle.coset_message_parts.specs.Calls.{TakesPairWhere, AnswersWhere, AnswersMissing};
-ghost use Rattle.coset_message_parts.specs.Results.{Writes};
+ghost use Rattle.coset_recipients.specs.Calls.{TakesPairWhere, AnswersWhere, AnswersMissing};
+ghost use Rattle.coset_recipients.specs.Results.{Writes};
 ghost use Rattle.coset_encrypted.specs.Fields.{no_encrypt};
 ghost use Rattle.coset_encrypted.specs.Structure.{encrypt_covered};
 ghost use Rattle.coset_encrypted.specs.View.{encrypt_view};
 
+use coset_base::{EncryptionContext, enc_structure_data};
 use coset_headers::{Header, ProtectedHeader};
 use coset_labels::{CoseError, Fault, clone_bytes};
-use coset_message_parts::content_bytes;
-use coset_recipients::{CoseRecipient, clone_recipients};
-use coset_structures::{EncryptionContext, enc_structure_data};
+use coset_recipients::{CoseRecipient, clone_recipients, content_bytes};
 use std::alloc::{AllocError, Global};
 
 /// A message that is encrypted under a key that its recipients find (RFC 9052, section 5.1).

@@ -2,7 +2,7 @@
 ghost use Rattle.std.specs.Prelude.{◌≡◌, Some, None};
 ghost use Rattle.coset_headers.specs.Fields.{protected};
 ghost use Rattle.coset_headers.specs.View.{header_view};
-ghost use Rattle.coset_message_parts.specs.Calls.{TakesPairWhere, BuiltPairWhere, MadePairWhere};
+ghost use Rattle.coset_recipients.specs.Calls.{TakesPairWhere, BuiltPairWhere, MadePairWhere};
 ghost use Rattle.coset_encrypted.specs.Builders.{encrypt0_so_far, encrypt0_ciphertext};
 ghost use Rattle.coset_encrypted.specs.Fields.{no_encrypt0};
 ghost use Rattle.coset_encrypted.specs.Structure.{encrypt0_covered};

@@ -1,7 +1,7 @@
 //! COSE_Encrypt0 messages as values and bytes.
 ghost use Rattle.ciborium_value.specs.View.{view};
 ghost use Rattle.coset_labels.specs.Limits.{nesting, layers};
-ghost use Rattle.coset_message_parts.specs.Results.{ReadsWithin};
+ghost use Rattle.coset_recipients.specs.Results.{ReadsWithin};
 ghost use Rattle.coset_encrypted.specs.Fields.{Encrypt0Fields};
 ghost use Rattle.coset_encrypted.specs.Shapes.{HasEncrypt0};
 ghost use Rattle.coset_encrypted.specs.View.{encrypt0_view};
@@ -15,7 +15,7 @@ use coset_labels::tuples::three;
 use coset_labels::{
     AsCborValue, CborSerializable, CoseError, Limits, TaggedCborSerializable, ValueTryAs,
 };
-use coset_message_parts::{Parts, read_parts, write_parts};
+use coset_recipients::{Parts, read_parts, write_parts};
 use std::alloc::Global;
 
 /// The elements are read from the last to the first.

@@ -3,7 +3,7 @@ ghost use Rattle.std.specs.Prelude.{◌≡◌, Some, None, MatchResult};
 ghost use Rattle.coset_labels.specs.declared.error.CoseError.TheVariants.{Memory};
 ghost use Rattle.coset_headers.specs.Fields.{protected};
 ghost use Rattle.coset_headers.specs.View.{header_view};
-ghost use Rattle.coset_message_parts.specs.Calls.{TakesPairWhere, BuiltPairWhere, MadePairWhere};
+ghost use Rattle.coset_recipients.specs.Calls.{TakesPairWhere, BuiltPairWhere, MadePairWhere};
 ghost use Rattle.coset_recipients.specs.Builders.{recipients_and};
 ghost use Rattle.coset_recipients.specs.View.{recipient_view};
 ghost use Rattle.coset_encrypted.specs.Builders.{encrypt_so_far, encrypt_ciphertext};

@@ -1,7 +1,7 @@
 //! COSE_Encrypt messages as values and bytes.
 ghost use Rattle.ciborium_value.specs.View.{view};
 ghost use Rattle.coset_labels.specs.Limits.{nesting, layers};
-ghost use Rattle.coset_message_parts.specs.Results.{ReadsWithin};
+ghost use Rattle.coset_recipients.specs.Results.{ReadsWithin};
 ghost use Rattle.coset_encrypted.specs.Fields.{EncryptFields};
 ghost use Rattle.coset_encrypted.specs.Shapes.{HasEncrypt};
 ghost use Rattle.coset_encrypted.specs.View.{encrypt_view};
@@ -15,8 +15,7 @@ use coset_labels::tuples::four;
 use coset_labels::{
     AsCborValue, CborSerializable, CoseError, Limits, TaggedCborSerializable, ValueTryAs,
 };
-use coset_message_parts::{Parts, read_parts, write_parts};
-use coset_recipients::{read_recipients, write_recipients};
+use coset_recipients::{Parts, read_parts, read_recipients, write_parts, write_recipients};
 use std::alloc::Global;
 
 /// The elements are read from the last to the first, and the recipients from the first to the last.

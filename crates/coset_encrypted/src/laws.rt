@@ -16,7 +16,7 @@ ghost use Rattle.coset_encrypted.specs.Wrong.{WrongEncrypt0, WrongEncrypt};
 
 use crate::encrypt::CoseEncrypt;
 use crate::encrypt0::CoseEncrypt0;
-use coset_message_parts::laws::parts_fit;
+use coset_recipients::laws::parts::parts_fit;
 use coset_recipients::laws::recipients_fit;
 
 /// A value has the fields of at most one message of each kind.

@@ -1,5 +1,6 @@
 //! Laws of the definitions.
-ghost use Rattle.std.specs.Prelude.{◌≡◌, ◌↔◌, ◌+◌, ◌^◌, ◌<◌, IsTrue, ℕ, List, Some, length, map, option_map};
+ghost use Rattle.std.specs.Prelude.{◌≡◌, ◌↔◌, ◌+◌, ◌^◌, ◌<◌, IsTrue, ℕ, List, Some, length, map};
+ghost use Rattle.std.specs.Prelude.{option_map};
 ghost use Rattle.ciborium_value.specs.Tree.{Tree, bytes};
 ghost use Rattle.ciborium_value.specs.Encoding.{enc, Fits, FitAll};
 ghost use Rattle.ciborium_value.specs.View.{trees};
@@ -11,7 +12,8 @@ ghost use Rattle.coset_headers.specs.Written.{shown};
 ghost use Rattle.coset_kdf.specs.Contexts.{HasContext, HasParty, HasPublic};
 ghost use Rattle.coset_kdf.specs.Fields.{ContextFields, PartyFields, PublicFields};
 ghost use Rattle.coset_kdf.specs.View.{context_view, nonce_view, party_view, public_view};
-ghost use Rattle.coset_kdf.specs.Written.{bytes_or_nil_tree, context_tree, nonce_tree, party_tree, public_tree};
+ghost use Rattle.coset_kdf.specs.Written.{bytes_or_nil_tree, context_tree, nonce_tree, party_tree};
+ghost use Rattle.coset_kdf.specs.Written.{public_tree};
 ghost use Rattle.coset_kdf.specs.Wrong.{WrongContext, WrongParty, WrongPublic};
 
 use crate::context::{CoseKdfContext, Nonce, PartyInfo, SuppPubInfo};

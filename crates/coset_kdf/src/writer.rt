@@ -5,7 +5,8 @@ ghost use Rattle.ciborium_value.specs.View.{view};
 ghost use Rattle.coset_labels.specs.Faults.{CantWrite};
 ghost use Rattle.coset_labels.specs.declared.error.CoseError.TheVariants.{Memory};
 ghost use Rattle.coset_kdf.specs.View.{context_view, nonce_view, party_view, public_view};
-ghost use Rattle.coset_kdf.specs.Written.{bytes_or_nil_tree, context_tree, nonce_tree, party_tree, public_tree};
+ghost use Rattle.coset_kdf.specs.Written.{bytes_or_nil_tree, context_tree, nonce_tree, party_tree};
+ghost use Rattle.coset_kdf.specs.Written.{public_tree};
 
 use crate::context::{CoseKdfContext, Nonce, PartyInfo, SuppPubInfo};
 use ciborium_value::{Integer, Value};

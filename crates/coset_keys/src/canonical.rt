@@ -2,7 +2,8 @@
 ghost use Rattle.std.specs.Prelude.{◌≡◌, map, MatchResult};
 ghost use Rattle.coset_labels.specs.View.{label_view};
 ghost use Rattle.coset_labels.specs.declared.error.CoseError.TheVariants.{Memory};
-ghost use Rattle.coset_labels.specs.declared.order.CborOrdering.TheVariants.{Lexicographic, LengthFirstLexicographic};
+ghost use Rattle.coset_labels.specs.declared.order.CborOrdering.TheVariants.{Lexicographic};
+ghost use Rattle.coset_labels.specs.declared.order.CborOrdering.TheVariants.{LengthFirstLexicographic};
 ghost use Rattle.coset_headers.specs.View.{entry_view};
 ghost use Rattle.coset_keys.specs.Sorted.{Canonicalized, Sorts, encoded_cmp};
 ghost use Rattle.coset_keys.specs.View.{key_view};

@@ -7,7 +7,8 @@ ghost use Rattle.coset_labels.specs.Fields.{LabelFields};
 ghost use Rattle.coset_keys.specs.Keys.{HasKey, HaveKeys, HasKeySet};
 ghost use Rattle.coset_keys.specs.Parts.{HasEntries, KnownIn, Added};
 ghost use Rattle.coset_keys.specs.View.{key_view, key_set_view};
-ghost use Rattle.coset_keys.specs.Wrong.{WrongKey, WrongEntries, WrongEntry, WrongKeys, WrongKeySet};
+ghost use Rattle.coset_keys.specs.Wrong.{WrongKey, WrongEntries, WrongEntry, WrongKeys};
+ghost use Rattle.coset_keys.specs.Wrong.{WrongKeySet};
 
 use crate::key::{CoseKey, CoseKeySet};
 use ciborium_value::Value;

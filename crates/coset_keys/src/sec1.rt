@@ -1,11 +1,13 @@
 //! Points of keys over elliptic curves as octet strings (SEC 1, section 2.3.3).
-ghost use Rattle.std.specs.Prelude.{◌≡◌, ◌≢◌, pos, ◌⊎◌, ◌∷◌, ◌++◌, map, option_map, option_copied, IfOk, MatchBool, MatchOption, MatchResult};
+ghost use Rattle.std.specs.Prelude.{◌≡◌, ◌≢◌, pos, ◌⊎◌, ◌∷◌, ◌++◌, map, option_map, option_copied};
+ghost use Rattle.std.specs.Prelude.{IfOk, MatchBool, MatchOption, MatchResult};
 ghost use Rattle.ciborium_value.specs.View.{view};
 ghost use Rattle.coset_labels.specs.Fields.{assigned};
 ghost use Rattle.coset_labels.specs.View.{label_view};
 ghost use Rattle.coset_headers.specs.View.{entry_view};
 ghost use Rattle.coset_keys.specs.Points as spec;
-ghost use Rattle.coset_keys.specs.Points.{IsSec1, HasPoint, WrongPoint, WrongCoordinates, first_at, sign_byte, x_tree, y_tree};
+ghost use Rattle.coset_keys.specs.Points.{IsSec1, HasPoint, WrongPoint, WrongCoordinates, first_at};
+ghost use Rattle.coset_keys.specs.Points.{sign_byte, x_tree, y_tree};
 ghost use Rattle.coset_keys.specs.View.{key_view, point_view};
 ghost use Rattle.coset_keys.specs.declared.sec1.ToSec1OctetStringError.TheVariants as code;
 

@@ -1,5 +1,6 @@
 //! Values of CBOR taken by kind.
-ghost use Rattle.std.specs.Prelude.{◌≡◌, ◌≢◌, ◌⊎◌, MatchResult, MatchOption, Some, false, string_bytes};
+ghost use Rattle.std.specs.Prelude.{◌≡◌, ◌≢◌, ◌⊎◌, MatchResult, MatchOption, Some, false};
+ghost use Rattle.std.specs.Prelude.{string_bytes};
 ghost use Rattle.ciborium_value.specs.Tree as spec;
 ghost use Rattle.ciborium_value.specs.Tree.{Tree, is_bytes};
 ghost use Rattle.ciborium_value.specs.View.{view, views, view_pairs, number_of};

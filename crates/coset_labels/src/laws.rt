@@ -9,7 +9,8 @@ ghost use Rattle.ciborium_value.specs.Canonical.{bytewise};
 ghost use Rattle.coset_labels.specs.Labels.{label_tree, named_tree};
 ghost use Rattle.coset_labels.specs.Fields.{LabelFields, Named};
 ghost use Rattle.coset_labels.specs.Limits.{nesting_of, layers_of};
-ghost use Rattle.coset_labels.specs.Orders.{label_cmp, label_length_first, is_own_number, named_cmp};
+ghost use Rattle.coset_labels.specs.Orders.{label_cmp, label_length_first, is_own_number};
+ghost use Rattle.coset_labels.specs.Orders.{named_cmp};
 ghost use Rattle.coset_labels.specs.View.{label_view, registered_view, named_view};
 
 pub use crate::alike::{

@@ -4,7 +4,7 @@ use Rattle.std.specs.Prelude.{IsTrue, ◌↔◌}
 use Rattle.std.specs.Cmp.Lexicographic.{bytes_decides}
 use Rattle.coset_labels.specs.Facts.Equal.{both}
 use Rattle.coset_headers.specs.View.{header_view, protected_view}
-use Rattle.coset_message_parts.proofs.Equal.{parts_and}
+use Rattle.coset_recipients.proofs.PartsEqual.{parts_and}
 use Rattle.coset_recipients.proofs.Equal.{all_equal}
 use Rattle.coset_maced.specs.View.{mac0_view, mac_view}
 use Rattle.coset_maced.specs.declared.mac.CoseMac.{CoseMac}

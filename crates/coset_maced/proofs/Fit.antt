@@ -3,12 +3,12 @@ use Rattle.std.proofs.Common.{◌≡◌, ℕ, List, [], ◌∷◌, Some, arith}
 use Rattle.ciborium_value.specs.Tree.{Tree, bytes}
 use Rattle.ciborium_value.specs.View.{trees}
 use Rattle.ciborium_value.specs.Encoding.{Fits, FitAll}
-use Rattle.coset_message_parts.specs.Fields.{parts}
-use Rattle.coset_message_parts.specs.Short.{PartsShort}
-use Rattle.coset_message_parts.specs.Written.{parts_trees}
-use Rattle.coset_message_parts.proofs.Fit.{parts_short}
-use Rattle.coset_message_parts.proofs.Kept.{some_fits, whole_fits}
-use Rattle.coset_message_parts.specs.Shapes.{two_held}
+use Rattle.coset_recipients.specs.PartsFields.{parts}
+use Rattle.coset_recipients.specs.PartsShort.{PartsShort}
+use Rattle.coset_recipients.specs.PartsWritten.{parts_trees}
+use Rattle.coset_recipients.proofs.PartsFit.{parts_short}
+use Rattle.coset_recipients.proofs.PartsKept.{some_fits, whole_fits}
+use Rattle.coset_recipients.specs.PartShapes.{two_held}
 use Rattle.coset_recipients.specs.Short.{RecipientsShort}
 use Rattle.coset_recipients.specs.Written.{list_tree}
 use Rattle.coset_recipients.proofs.Fit.{recipients_short}

@@ -2,7 +2,7 @@
 -- again.
 use Rattle.std.proofs.Common.{ℕ, [], ◌∷◌, Some}
 use Rattle.ciborium_value.specs.Tree.{bytes}
-use Rattle.coset_message_parts.proofs.Kept.{Kept, bytes_kept, whole_kept}
+use Rattle.coset_recipients.proofs.PartsKept.{Kept, bytes_kept, whole_kept}
 use Rattle.coset_recipients.specs.Written.{list_tree}
 use Rattle.coset_recipients.proofs.Kept.{list_kept}
 use Rattle.coset_maced.specs.Fields.{Mac0Fields, MacFields}

@@ -1,6 +1,8 @@
 pub mod Equal
 pub mod Fit
 pub mod Kept
+pub mod PutWritten
+pub mod Received
 pub mod Standing
 pub mod Stands
 pub mod Unique

@@ -5,10 +5,10 @@ use Rattle.ciborium_value.specs.Tree.{Tree, bytes, array}
 use Rattle.ciborium_value.specs.View.{trees}
 use Rattle.coset_labels.specs.Arrays.{all_written}
 use Rattle.coset_headers.specs.AsWritten.{header_stands, signature_stands}
-use Rattle.coset_message_parts.proofs.Again.{map_made}
-use Rattle.coset_message_parts.specs.Shapes.{one_held, two_held}
-use Rattle.coset_message_parts.proofs.Once.{in_array}
-use Rattle.coset_message_parts.proofs.Stands.{and_true, whole_stands}
+use Rattle.coset_recipients.proofs.PartsAgain.{map_made}
+use Rattle.coset_recipients.specs.PartShapes.{one_held, two_held}
+use Rattle.coset_recipients.proofs.PartsOnce.{in_array}
+use Rattle.coset_recipients.proofs.PartsStands.{and_true, whole_stands}
 use Rattle.coset_recipients.specs.Fields.{RecipientsFields}
 use Rattle.coset_recipients.specs.Shapes.{HasList}
 use Rattle.coset_recipients.specs.Written.{recipients_trees, list_tree}

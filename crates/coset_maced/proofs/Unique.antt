@@ -2,7 +2,7 @@
 use Rattle.std.proofs.Common.{◌≡◌, ℕ}
 use Rattle.ciborium_value.specs.Tree.{Tree}
 use Rattle.coset_labels.specs.Faults.{CoseFault}
-use Rattle.coset_message_parts.proofs.Once.{bytes_not, bytes_once, whole_once, whole_not}
+use Rattle.coset_recipients.proofs.PartsOnce.{bytes_not, bytes_once, whole_once, whole_not}
 use Rattle.coset_recipients.proofs.Excludes.{list_not}
 use Rattle.coset_recipients.proofs.Unique.{list_once}
 use Rattle.coset_maced.specs.Fields.{Mac0Fields, MacFields}

@@ -1,9 +1,9 @@
 -- What was read can be written, and what its tag covers is there.
 use Rattle.std.proofs.Common.{◌≢◌, ℕ, List, None}
 use Rattle.ciborium_value.specs.Tree.{Tree}
-use Rattle.coset_structures.specs.Contexts.{mac_text}
-use Rattle.coset_structures.specs.declared.context.MacContext.TheVariants.{CoseMac, CoseMac0}
-use Rattle.coset_structures.proofs.Writable.{mac_data_some}
+use Rattle.coset_base.specs.Contexts.{mac_text}
+use Rattle.coset_base.specs.declared.context.MacContext.TheVariants.{CoseMac, CoseMac0}
+use Rattle.coset_base.proofs.Writable.{mac_data_some}
 use Rattle.coset_headers.proofs.Writable.{prot_some}
 use Rattle.coset_maced.specs.Fields.{Mac0Fields, MacFields}
 use Rattle.coset_maced.specs.Shapes.{HasMac0, HasMac}

@@ -1,17 +1,18 @@
 pub mod AsWritten
 pub mod Builders
 pub mod Fields
+pub mod Put
 pub mod Shapes
 pub mod Short
 pub mod Structure
 pub mod View
 pub mod Written
 pub mod Wrong
-pub use Rattle.coset_message_parts.specs.Shapes as PartShapes
-pub use Rattle.coset_message_parts.specs.Short as PartsShort
-pub use Rattle.coset_message_parts.specs.Written as PartsWritten
-pub use Rattle.coset_message_parts.specs.Wrong as WrongParts
-pub use Rattle.coset_message_parts.specs.Calls
+pub use Rattle.coset_recipients.specs.PartShapes
+pub use Rattle.coset_recipients.specs.PartsShort
+pub use Rattle.coset_recipients.specs.PartsWritten
+pub use Rattle.coset_recipients.specs.WrongParts
+pub use Rattle.coset_recipients.specs.Calls
 pub use Rattle.coset_recipients.specs.Builders as RecipientBuilders
 pub use Rattle.coset_recipients.specs.Fields as RecipientFields
 pub use Rattle.coset_recipients.specs.Shapes as RecipientShapes

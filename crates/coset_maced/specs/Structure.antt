@@ -1,10 +1,10 @@
 -- What the tag of an authenticated message covers (RFC 9052, section 6.3); none if the protected
 -- header can't be written.
 use Rattle.std.specs.Prelude.{ℕ, List, Option}
-use Rattle.coset_message_parts.specs.Written.{content_bytes}
-use Rattle.coset_structures.specs.Contexts.{mac_text}
-use Rattle.coset_structures.specs.Structure.{mac_structure}
-use Rattle.coset_structures.specs.declared.context.MacContext.TheVariants.{CoseMac, CoseMac0}
+use Rattle.coset_recipients.specs.PartsWritten.{content_bytes}
+use Rattle.coset_base.specs.Contexts.{mac_text}
+use Rattle.coset_base.specs.Structure.{mac_structure}
+use Rattle.coset_base.specs.declared.context.MacContext.TheVariants.{CoseMac, CoseMac0}
 use Rattle.coset_maced.specs.Fields.{Mac0Fields, MacFields}
 
 -- with this payload, and with the message's own; one that is carried elsewhere counts as empty

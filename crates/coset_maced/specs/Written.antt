@@ -2,8 +2,8 @@
 -- 6.2). There is none if a header can't be written.
 use Rattle.std.specs.Prelude.{[], ◌∷◌, Option, Some}
 use Rattle.ciborium_value.specs.Tree.{Tree, bytes}
-use Rattle.coset_message_parts.specs.Fields.{parts}
-use Rattle.coset_message_parts.specs.Written.{whole_tree}
+use Rattle.coset_recipients.specs.PartsFields.{parts}
+use Rattle.coset_recipients.specs.PartsWritten.{whole_tree}
 use Rattle.coset_recipients.specs.Written.{list_tree}
 use Rattle.coset_maced.specs.Fields.{Mac0Fields, MacFields}
 

@@ -6,8 +6,8 @@ use Rattle.ciborium_value.specs.Tree.{Tree, array, Trees, tree_count, is_bytes}
 use Rattle.ciborium_value.specs.View.{trees}
 use Rattle.coset_labels.specs.Faults.{CoseFault, unexpected}
 use Rattle.ciborium_value.specs.Kinds.{is_array}
-use Rattle.coset_message_parts.specs.Wrong.{WrongParts, IsNoBytes, WrongWhole}
-use Rattle.coset_message_parts.specs.Wrong as whole
+use Rattle.coset_recipients.specs.WrongParts.{WrongParts, IsNoBytes, WrongWhole}
+use Rattle.coset_recipients.specs.WrongParts as whole
 use Rattle.coset_recipients.specs.Wrong.{WrongList}
 
 -- no array, one of another length, one of its parts, or no tag

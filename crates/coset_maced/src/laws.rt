@@ -13,13 +13,14 @@ ghost use Rattle.coset_maced.specs.Structure.{mac0_covered_with, mac_covered_wit
 ghost use Rattle.coset_maced.specs.View.{mac0_view, mac_view};
 ghost use Rattle.coset_maced.specs.Written.{mac0_tree, mac_tree};
 ghost use Rattle.coset_maced.specs.Wrong.{WrongMac0, WrongMac};
+ghost use Rattle.coset_maced.specs.Put.{mac0_put, mac_put, Mac0Received, MacReceived};
 
 use crate::mac::CoseMac;
 use crate::mac0::CoseMac0;
 use coset_labels::laws::bytes_fit;
-pub use coset_message_parts::laws as parts;
-use coset_message_parts::laws::parts_fit;
 pub use coset_recipients::laws as recipients;
+pub use coset_recipients::laws::parts;
+use coset_recipients::laws::parts::parts_fit;
 use coset_recipients::laws::recipients_fit;
 
 /// A value has the fields of at most one message of each kind.
@@ -135,4 +136,25 @@ pub fn mac0_compare(a: &CoseMac0, b: &CoseMac0)
 pub fn mac_compare(a: &CoseMac, b: &CoseMac)
     ensures { IsTrue (⟦<CoseMac as std::cmp::PartialEq>⟧.eq a.now b.now)
         ↔ (mac_view a.now ≡ mac_view b.now) }
+{}
+
+/// What is written straight from fields that are as received is what `to_cbor_value` writes of
+/// them.
+pub fn put_is_written()
+    ensures mac0 { (m : Mac0Fields) → Mac0Received m → mac0_tree m ≡ Some (mac0_put m) }
+    ensures mac { (m : MacFields) → MacReceived m → mac_tree m ≡ Some (mac_put m) }
+{}
+
+/// What was read is as received: the calls that write it straight from its fields may be made.
+pub fn read_is_received()
+    ensures mac0 { (n k : ℕ) (t : Tree) (m : Mac0Fields) → HasMac0 n t m k → Mac0Received m }
+    ensures mac { (n k : ℕ) (t : Tree) (m : MacFields) → HasMac n t m k → MacReceived m }
+{}
+
+/// So what was read is written straight from its fields as the one value that is written of it.
+pub fn read_is_put()
+    ensures mac0 { (n k : ℕ) (t : Tree) (m : Mac0Fields) → HasMac0 n t m k
+        → mac0_tree m ≡ Some (mac0_put m) }
+    ensures mac { (n k : ℕ) (t : Tree) (m : MacFields) → HasMac n t m k
+        → mac_tree m ≡ Some (mac_put m) }
 {}

@@ -1,16 +1,15 @@
 //! The COSE_Mac message.
 ghost use Rattle.std.specs.Prelude.{◌≡◌, IsSome, IfSome, IfNone, IsSomeAnd, IfOk, MatchOption};
-ghost use Rattle.coset_message_parts.specs.Calls.{TakesPairWhere, AnswersWhere, AnswersMissing};
-ghost use Rattle.coset_message_parts.specs.Results.{Writes};
+ghost use Rattle.coset_recipients.specs.Calls.{TakesPairWhere, AnswersWhere, AnswersMissing};
+ghost use Rattle.coset_recipients.specs.Results.{Writes};
 ghost use Rattle.coset_maced.specs.Fields.{no_mac};
 ghost use Rattle.coset_maced.specs.Structure.{mac_covered, mac_covered_with};
 ghost use Rattle.coset_maced.specs.View.{mac_view};
 
+use coset_base::{MacContext, mac_structure_data};
 use coset_headers::{Header, ProtectedHeader};
 use coset_labels::{CoseError, Fault, clone_bytes};
-use coset_message_parts::content_bytes;
-use coset_recipients::{CoseRecipient, clone_recipients};
-use coset_structures::{MacContext, mac_structure_data};
+use coset_recipients::{CoseRecipient, clone_recipients, content_bytes};
 use std::alloc::{AllocError, Global};
 
 /// A message with a tag under a key that its recipients find (RFC 9052, section 6.1).

@@ -1,15 +1,15 @@
 //! The COSE_Mac0 message.
 ghost use Rattle.std.specs.Prelude.{◌≡◌, IsSome, IfSome, IfNone, IsSomeAnd, IfOk, MatchOption};
-ghost use Rattle.coset_message_parts.specs.Calls.{TakesPairWhere, AnswersWhere, AnswersMissing};
-ghost use Rattle.coset_message_parts.specs.Results.{Writes};
+ghost use Rattle.coset_recipients.specs.Calls.{TakesPairWhere, AnswersWhere, AnswersMissing};
+ghost use Rattle.coset_recipients.specs.Results.{Writes};
 ghost use Rattle.coset_maced.specs.Fields.{no_mac0};
 ghost use Rattle.coset_maced.specs.Structure.{mac0_covered, mac0_covered_with};
 ghost use Rattle.coset_maced.specs.View.{mac0_view};
 
+use coset_base::{MacContext, mac_structure_data};
 use coset_headers::{Header, ProtectedHeader};
 use coset_labels::{CoseError, Fault, clone_bytes};
-use coset_message_parts::content_bytes;
-use coset_structures::{MacContext, mac_structure_data};
+use coset_recipients::content_bytes;
 use std::alloc::{AllocError, Global};
 
 /// A message with a tag under a key that its receiver knows (RFC 9052, section 6.2).

@@ -2,7 +2,7 @@
 ghost use Rattle.std.specs.Prelude.{◌≡◌, Some, None, IsSome};
 ghost use Rattle.coset_headers.specs.Fields.{protected};
 ghost use Rattle.coset_headers.specs.View.{header_view};
-ghost use Rattle.coset_message_parts.specs.Calls.{TakesWhere, BuiltWhere, MadeWhere};
+ghost use Rattle.coset_recipients.specs.Calls.{TakesWhere, BuiltWhere, MadeWhere};
 ghost use Rattle.coset_maced.specs.Builders.{mac0_so_far, mac0_tag};
 ghost use Rattle.coset_maced.specs.Fields.{no_mac0};
 ghost use Rattle.coset_maced.specs.Structure.{mac0_covered};

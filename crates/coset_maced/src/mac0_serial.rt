@@ -2,7 +2,7 @@
 ghost use Rattle.std.specs.Prelude.{◌≡◌, OnErr};
 ghost use Rattle.ciborium_value.specs.View.{view};
 ghost use Rattle.coset_labels.specs.Limits.{nesting, layers};
-ghost use Rattle.coset_message_parts.specs.Results.{ReadsWithin};
+ghost use Rattle.coset_recipients.specs.Results.{ReadsWithin};
 ghost use Rattle.coset_maced.specs.Fields.{Mac0Fields, no_mac0};
 ghost use Rattle.coset_maced.specs.Shapes.{HasMac0};
 ghost use Rattle.coset_maced.specs.View.{mac0_view};
@@ -16,7 +16,7 @@ use coset_labels::tuples::four;
 use coset_labels::{
     AsCborValue, CborSerializable, CoseError, Limits, TaggedCborSerializable, ValueTryAs,
 };
-use coset_message_parts::{Parts, fill_parts, write_parts};
+use coset_recipients::{Parts, fill_parts, write_parts};
 use std::alloc::Global;
 
 /// The elements are read from the last to the first.

@@ -3,7 +3,7 @@ ghost use Rattle.std.specs.Prelude.{◌≡◌, Some, None, IsSome, MatchResult};
 ghost use Rattle.coset_labels.specs.declared.error.CoseError.TheVariants.{Memory};
 ghost use Rattle.coset_headers.specs.Fields.{protected};
 ghost use Rattle.coset_headers.specs.View.{header_view};
-ghost use Rattle.coset_message_parts.specs.Calls.{TakesWhere, BuiltWhere, MadeWhere};
+ghost use Rattle.coset_recipients.specs.Calls.{TakesWhere, BuiltWhere, MadeWhere};
 ghost use Rattle.coset_recipients.specs.Builders.{recipients_and};
 ghost use Rattle.coset_recipients.specs.View.{recipient_view};
 ghost use Rattle.coset_maced.specs.Builders.{mac_so_far, mac_tag};

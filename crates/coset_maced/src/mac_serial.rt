@@ -2,7 +2,7 @@
 ghost use Rattle.std.specs.Prelude.{◌≡◌, OnErr};
 ghost use Rattle.ciborium_value.specs.View.{view};
 ghost use Rattle.coset_labels.specs.Limits.{nesting, layers};
-ghost use Rattle.coset_message_parts.specs.Results.{ReadsWithin};
+ghost use Rattle.coset_recipients.specs.Results.{ReadsWithin};
 ghost use Rattle.coset_maced.specs.Fields.{MacFields, no_mac};
 ghost use Rattle.coset_maced.specs.Shapes.{HasMac};
 ghost use Rattle.coset_maced.specs.View.{mac_view};
@@ -16,8 +16,7 @@ use coset_labels::tuples::five;
 use coset_labels::{
     AsCborValue, CborSerializable, CoseError, Limits, TaggedCborSerializable, ValueTryAs,
 };
-use coset_message_parts::{Parts, fill_parts, write_parts};
-use coset_recipients::{read_recipients, write_recipients};
+use coset_recipients::{Parts, fill_parts, read_recipients, write_parts, write_recipients};
 use std::alloc::Global;
 
 /// The elements are read from the last to the first, and the recipients from the first to the last.

@@ -5,8 +5,8 @@ pub use Rattle.coset_base.specs.Encoding
 pub use Rattle.coset_base.specs.Tree
 pub use Rattle.coset_base.specs.ValueView
 pub use Rattle.coset_base.specs.Builders
-pub use Rattle.coset_base.specs.HeaderBuilder
-pub use Rattle.coset_base.specs.CoseSignatureBuilder
+pub use Rattle.coset_base.specs.declared.header_builder.HeaderBuilder
+pub use Rattle.coset_base.specs.declared.signature_builder.CoseSignatureBuilder
 pub use Rattle.coset_base.specs.Alone
 pub use Rattle.coset_base.specs.Contexts
 pub use Rattle.coset_base.specs.Covered
@@ -18,9 +18,9 @@ pub use Rattle.coset_base.specs.Titles
 pub use Rattle.coset_base.specs.View
 pub use Rattle.coset_base.specs.Written
 pub use Rattle.coset_base.specs.Wrong
-pub use Rattle.coset_base.specs.EncryptionContext
-pub use Rattle.coset_base.specs.MacContext
-pub use Rattle.coset_base.specs.SignatureContext
+pub use Rattle.coset_base.specs.declared.context.EncryptionContext
+pub use Rattle.coset_base.specs.declared.context.MacContext
+pub use Rattle.coset_base.specs.declared.context.SignatureContext
 pub use Rattle.coset_base.specs.CoseSignature
 pub use Rattle.coset_base.specs.Header
 pub use Rattle.coset_base.specs.ProtectedHeader

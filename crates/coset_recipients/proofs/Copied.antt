@@ -8,7 +8,7 @@ use Rattle.coset_recipients.specs.Copies.{without_recipients}
 use Rattle.coset_recipients.specs.Fields.{RecipientFields, no_recipients, recipient_more}
 use Rattle.coset_recipients.specs.View.{recipient_view, recipients_view, opened}
 use Rattle.coset_recipients.specs.declared.recipient.CoseRecipient.{CoseRecipient, out-CoseRecipient, roll-CoseRecipient}
-use Rattle.coset_recipients.proofs.Parts.{recipient_out, recipient_copied}
+use Rattle.coset_recipients.proofs.RecipientParts.{recipient_out, recipient_copied}
 
 -- ---- a recipient
 recipients_none : (xs : List CoseRecipient) → recipients_view xs ≡ no_recipients → map recipient_view xs ≡ []

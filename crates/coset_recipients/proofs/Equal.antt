@@ -6,7 +6,7 @@ use Rattle.std.specs.Option.{option_eq}
 use Rattle.coset_labels.specs.Facts.Equal.{both}
 use Rattle.coset_headers.specs.Same.{same_header, same_protected}
 use Rattle.coset_headers.specs.View.{header_view, protected_view}
-use Rattle.coset_message_parts.proofs.Equal.{parts_and}
+use Rattle.coset_recipients.proofs.PartsEqual.{parts_and}
 use Rattle.coset_recipients.specs.Fields.{recipient, no_recipients, recipient_more}
 use Rattle.coset_recipients.specs.View.{recipient_view, recipients_view, fields_of}
 use Rattle.coset_recipients.specs.declared.recipient.CoseRecipient.{CoseRecipient, out-CoseRecipient, roll-CoseRecipient}
@@ -16,7 +16,7 @@ use Rattle.coset_recipients.specs.declared.recipient.CoseRecipient.TheOpen.{Cose
 use Rattle.coset_recipients.specs.declared.recipient.CoseRecipient.TheViews.{out-roll-CoseRecipient}
 use Rattle.coset_recipients.specs.contracts.recipient.CoseRecipientPartialEq.TheImpl as equality
 use Rattle.coset_recipients.specs.contracts.recipient.CoseRecipientPartialEq.TheImpl.Laws as laws
-use Rattle.coset_recipients.proofs.Parts.{recipient_roll, recipient_out}
+use Rattle.coset_recipients.proofs.RecipientParts.{recipient_roll, recipient_out}
 use denote.Hole.Compared.{compared_is}
 use denote.Hole.Carrier as carrier
 

@@ -4,7 +4,7 @@ use Rattle.ciborium_value.specs.Tree.{Tree, array, Trees, no_trees, one_more, tr
 use Rattle.ciborium_value.specs.View.{trees}
 use Rattle.coset_labels.specs.Faults.{CoseFault}
 use Rattle.ciborium_value.specs.Kinds.{is_array}
-use Rattle.coset_message_parts.proofs.Once.{in_array, parts_moved, parts_not}
+use Rattle.coset_recipients.proofs.PartsOnce.{in_array, parts_moved, parts_not}
 use Rattle.coset_recipients.specs.Fields.{RecipientFields, recipient, RecipientsFields, no_recipients, recipient_more}
 use Rattle.coset_recipients.specs.Shapes.{three_or_four, HasRecipient, HasRecipients, HasInner, HasList}
 use Rattle.coset_recipients.specs.Wrong.{WrongRecipient, no_array, not_three_or_four, in_parts, in_fourth, WrongList, no_list, in_list}

@@ -7,11 +7,11 @@ use Rattle.ciborium_value.specs.Encoding.{Fits, FitAll}
 use Rattle.coset_headers.specs.View.{header_view, protected_view}
 use Rattle.coset_headers.proofs.Again.{trees_parts}
 use Rattle.coset_headers.proofs.Fit.{Each}
-use Rattle.coset_message_parts.specs.Fields.{parts}
-use Rattle.coset_message_parts.specs.Short.{PartsShort}
-use Rattle.coset_message_parts.specs.Written.{parts_trees}
-use Rattle.coset_message_parts.proofs.Again.{map_made}
-use Rattle.coset_message_parts.proofs.Fit.{whole_fit, parts_short}
+use Rattle.coset_recipients.specs.PartsFields.{parts}
+use Rattle.coset_recipients.specs.PartsShort.{PartsShort}
+use Rattle.coset_recipients.specs.PartsWritten.{parts_trees}
+use Rattle.coset_recipients.proofs.PartsAgain.{map_made}
+use Rattle.coset_recipients.proofs.PartsFit.{whole_fit, parts_short}
 use Rattle.coset_recipients.specs.Fields.{RecipientFields, recipient, RecipientsFields, no_recipients, recipient_more}
 use Rattle.coset_recipients.specs.Shapes.{HasRecipient, HasRecipients, HasInner}
 use Rattle.coset_recipients.specs.Short.{RecipientShort, RecipientsShort}
@@ -19,7 +19,7 @@ use Rattle.coset_recipients.specs.View.{recipient_view, recipients_view}
 use Rattle.coset_recipients.specs.Written.{fourth, recipient_tree, recipients_trees, list_tree}
 use Rattle.coset_recipients.specs.declared.recipient.CoseRecipient.{CoseRecipient, out-CoseRecipient}
 use Rattle.coset_recipients.proofs.Again.{wrote_of}
-use Rattle.coset_recipients.proofs.Parts.{recipient_out}
+use Rattle.coset_recipients.proofs.RecipientParts.{recipient_out}
 
 -- ---- one recipient
 fourth_fits : (ts : Trees) → FitAll ts → tree_count ts < 2 ^ 64 → FitAll (trees (fourth ts))

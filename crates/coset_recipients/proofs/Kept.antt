@@ -1,7 +1,7 @@
 -- What is written of a list of recipients that was read has them again, nests no deeper, and is
 -- read again.
 use Rattle.std.proofs.Common.{ℕ}
-use Rattle.coset_message_parts.proofs.Kept.{Kept}
+use Rattle.coset_recipients.proofs.PartsKept.{Kept}
 use Rattle.coset_recipients.specs.Fields.{RecipientsFields}
 use Rattle.coset_recipients.specs.Shapes.{HasList}
 use Rattle.coset_recipients.specs.Written.{list_tree}

@@ -4,10 +4,10 @@ use Rattle.ciborium_value.specs.Tree.{Tree, array, Trees, no_trees, one_more}
 use Rattle.ciborium_value.specs.View.{trees}
 use Rattle.coset_headers.proofs.Again.{trees_parts}
 use Rattle.coset_headers.proofs.Sound.{Sound, SoundAll, array_inside, array_sound, all_none, all_more, all_parts}
-use Rattle.coset_message_parts.specs.Fields.{parts}
-use Rattle.coset_message_parts.specs.Written.{parts_trees}
-use Rattle.coset_message_parts.proofs.Again.{map_made}
-use Rattle.coset_message_parts.proofs.Sound.{whole_sound, one_sound, only}
+use Rattle.coset_recipients.specs.PartsFields.{parts}
+use Rattle.coset_recipients.specs.PartsWritten.{parts_trees}
+use Rattle.coset_recipients.proofs.PartsAgain.{map_made}
+use Rattle.coset_recipients.proofs.PartsSound.{whole_sound, one_sound, only}
 use Rattle.coset_recipients.specs.Fields.{RecipientFields, recipient, RecipientsFields, no_recipients, recipient_more}
 use Rattle.coset_recipients.specs.Shapes.{optional_list, HasRecipient, HasRecipients, HasInner, HasList}
 use Rattle.coset_recipients.specs.Written.{fourth, recipient_tree, recipients_trees, list_tree}

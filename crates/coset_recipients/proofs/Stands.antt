@@ -7,10 +7,10 @@ use Rattle.coset_headers.specs.AsWritten.{header_stands}
 use Rattle.coset_headers.specs.Fields.{HeaderFields, ProtectedFields}
 use Rattle.coset_headers.proofs.Again.{trees_parts}
 use Rattle.coset_headers.proofs.Stands.{and_left, and_right, both_true, first_same, not_none, some_same}
-use Rattle.coset_message_parts.specs.Fields.{parts}
-use Rattle.coset_message_parts.specs.Written.{parts_trees}
-use Rattle.coset_message_parts.proofs.Again.{map_made, and_made}
-use Rattle.coset_message_parts.proofs.Stands.{parts_stand, parts_are}
+use Rattle.coset_recipients.specs.PartsFields.{parts}
+use Rattle.coset_recipients.specs.PartsWritten.{parts_trees}
+use Rattle.coset_recipients.proofs.PartsAgain.{map_made, and_made}
+use Rattle.coset_recipients.proofs.PartsStands.{parts_stand, parts_are}
 use Rattle.coset_recipients.specs.AsWritten.{is_filled, recipient_stands, fourth_stands, list_stands, recipients_stand}
 use Rattle.coset_recipients.specs.Fields.{RecipientFields, recipient, RecipientsFields, no_recipients, recipient_more}
 use Rattle.coset_recipients.specs.Shapes.{optional_list, three_or_four, HasRecipient, HasRecipients, HasInner}

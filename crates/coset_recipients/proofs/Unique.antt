@@ -2,7 +2,7 @@
 use Rattle.std.proofs.Common.{◌≡◌, ℕ, inl, inr, Option, Some, None, refl, sym, ap, subst, ◌∙◌}
 use Rattle.ciborium_value.specs.Tree.{Tree, array, Trees, no_trees, one_more}
 use Rattle.ciborium_value.specs.View.{trees}
-use Rattle.coset_message_parts.proofs.Once.{parts_once, parts_moved}
+use Rattle.coset_recipients.proofs.PartsOnce.{parts_once, parts_moved}
 use Rattle.coset_recipients.specs.Fields.{RecipientFields, recipient, RecipientsFields, no_recipients, recipient_more}
 use Rattle.coset_recipients.specs.Shapes.{optional_list, three_or_four, HasRecipient, HasRecipients, HasInner, HasList}
 

@@ -1,13 +1,13 @@
 -- What was read can be written.
 use Rattle.std.proofs.Common.{◌≢◌, ℕ, inl, inr, List, Option, None, sym, subst}
 use Rattle.ciborium_value.specs.Tree.{Tree, array, Trees, no_trees, one_more}
-use Rattle.coset_structures.specs.Contexts.{encryption_text}
-use Rattle.coset_structures.specs.declared.context.EncryptionContext.{EncryptionContext}
+use Rattle.coset_base.specs.Contexts.{encryption_text}
+use Rattle.coset_base.specs.declared.context.EncryptionContext.{EncryptionContext}
 use Rattle.coset_headers.proofs.Writable.{some_is, map_some, and_some, prot_some}
-use Rattle.coset_structures.proofs.Writable.{enc_data_some}
-use Rattle.coset_message_parts.specs.Fields.{parts}
-use Rattle.coset_message_parts.specs.Written.{parts_trees}
-use Rattle.coset_message_parts.proofs.Writable.{parts_some}
+use Rattle.coset_base.proofs.Writable.{enc_data_some}
+use Rattle.coset_recipients.specs.PartsFields.{parts}
+use Rattle.coset_recipients.specs.PartsWritten.{parts_trees}
+use Rattle.coset_recipients.proofs.PartsWritable.{parts_some}
 use Rattle.coset_recipients.specs.Fields.{RecipientFields, recipient, RecipientsFields, no_recipients, recipient_more}
 use Rattle.coset_recipients.specs.Shapes.{HasRecipient, HasRecipients, HasInner, HasList}
 use Rattle.coset_recipients.specs.Structure.{recipient_structure}

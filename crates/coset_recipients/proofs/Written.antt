@@ -12,15 +12,15 @@ use Rattle.coset_labels.specs.Faults.{CantWrite}
 use Rattle.coset_labels.specs.declared.error.CoseError.{CoseError}
 use Rattle.coset_labels.proofs.Arrays.{written_none, written_pushed}
 use Rattle.coset_headers.specs.View.{header_view, protected_view}
-use Rattle.coset_message_parts.specs.Fields.{parts}
-use Rattle.coset_message_parts.specs.Written.{parts_trees}
+use Rattle.coset_recipients.specs.PartsFields.{parts}
+use Rattle.coset_recipients.specs.PartsWritten.{parts_trees}
 use Rattle.coset_recipients.specs.Fields.{RecipientFields, recipients}
 use Rattle.coset_recipients.specs.View.{recipient_view, recipients_view}
 use Rattle.coset_recipients.specs.Walks.{parts_of}
 use Rattle.coset_recipients.specs.Written.{fourth, whole, recipient_tree, recipients_trees, list_tree}
 use Rattle.coset_recipients.specs.declared.recipient.CoseRecipient.{CoseRecipient, out-CoseRecipient, roll-CoseRecipient}
 use Rattle.coset_recipients.specs.declared.recipient.CoseRecipient.TheViews.{out-roll-CoseRecipient}
-use Rattle.coset_recipients.proofs.Parts.{recipient_out}
+use Rattle.coset_recipients.proofs.RecipientParts.{recipient_out}
 
 -- ---- lists
 pub recipient_list : (rs : List RecipientFields) → recipients_trees (recipients rs) ≡ option_map trees (all_written recipient_tree rs)

@@ -1,7 +1,15 @@
 pub mod AsWritten
 pub mod Builders
+pub mod Calls
 pub mod Copies
 pub mod Fields
+pub mod PartShapes
+pub mod PartsFields
+pub mod PartsShort
+pub mod PartsView
+pub mod PartsWritten
+pub mod Put
+pub mod Results
 pub mod Shapes
 pub mod Short
 pub mod Structure
@@ -9,3 +17,4 @@ pub mod View
 pub mod Walks
 pub mod Written
 pub mod Wrong
+pub mod WrongParts

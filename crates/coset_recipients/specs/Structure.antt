@@ -1,9 +1,9 @@
 -- What the ciphertext of a recipient covers (RFC 9052, section 5.3).
 use Rattle.std.specs.Prelude.{ℕ, List, Option}
-use Rattle.coset_structures.specs.Contexts.{encryption_text}
-use Rattle.coset_structures.specs.Structure.{encryption_structure}
-use Rattle.coset_structures.specs.declared.context.EncryptionContext.{EncryptionContext}
-use Rattle.coset_structures.specs.declared.context.EncryptionContext.TheVariants as context
+use Rattle.coset_base.specs.Contexts.{encryption_text}
+use Rattle.coset_base.specs.Structure.{encryption_structure}
+use Rattle.coset_base.specs.declared.context.EncryptionContext.{EncryptionContext}
+use Rattle.coset_base.specs.declared.context.EncryptionContext.TheVariants as context
 use Rattle.coset_recipients.specs.Fields.{RecipientFields, recipient}
 
 -- the context is one of recipients

@@ -3,10 +3,10 @@ use Rattle.std.specs.Prelude.{◌≡◌, ℕ, List, [], ◌∷◌, ◌++◌, Opt
 use Rattle.ciborium_value.specs.Tree.{Tree}
 use Rattle.coset_labels.specs.Faults.{CoseFault, unexpected}
 use Rattle.coset_headers.specs.View.{header_view, protected_view}
-use Rattle.coset_message_parts.specs.Fields.{parts}
-use Rattle.coset_message_parts.specs.Shapes.{HasParts}
-use Rattle.coset_message_parts.specs.Written.{parts_trees}
-use Rattle.coset_message_parts.specs.Wrong.{WrongParts}
+use Rattle.coset_recipients.specs.PartsFields.{parts}
+use Rattle.coset_recipients.specs.PartShapes.{HasParts}
+use Rattle.coset_recipients.specs.PartsWritten.{parts_trees}
+use Rattle.coset_recipients.specs.WrongParts.{WrongParts}
 use Rattle.coset_recipients.specs.Fields.{RecipientFields, recipient, RecipientsFields}
 use Rattle.coset_recipients.specs.View.{recipient_view}
 use Rattle.coset_recipients.specs.declared.recipient.CoseRecipient.{CoseRecipient, out-CoseRecipient}

@@ -5,7 +5,7 @@ use Rattle.ciborium_value.specs.Tree.{Tree, array, Trees, tree_count}
 use Rattle.ciborium_value.specs.View.{trees}
 use Rattle.coset_labels.specs.Faults.{CoseFault, unexpected}
 use Rattle.ciborium_value.specs.Kinds.{is_array}
-use Rattle.coset_message_parts.specs.Wrong.{WrongParts}
+use Rattle.coset_recipients.specs.WrongParts.{WrongParts}
 use Rattle.coset_recipients.specs.Shapes.{three_or_four}
 
 mutual

@@ -2,7 +2,7 @@
 ghost use Rattle.std.specs.Prelude.{◌≡◌, Some, MatchResult};
 ghost use Rattle.coset_labels.specs.declared.error.CoseError.TheVariants.{Memory};
 ghost use Rattle.coset_headers.specs.View.{header_view};
-ghost use Rattle.coset_message_parts.specs.Calls.{TakesPairWhere, BuiltPairWhere, MadePairWhere};
+ghost use Rattle.coset_recipients.specs.Calls.{TakesPairWhere, BuiltPairWhere, MadePairWhere};
 ghost use Rattle.coset_recipients.specs.Builders.{no_recipient, recipient_so_far};
 ghost use Rattle.coset_recipients.specs.Builders.{with_protected, with_unprotected};
 ghost use Rattle.coset_recipients.specs.Builders.{with_ciphertext, with_one_more};
@@ -11,9 +11,9 @@ ghost use Rattle.coset_recipients.specs.Structure.{IsRecipientContext, recipient
 ghost use Rattle.coset_recipients.specs.View.{recipient_view};
 
 use crate::recipient::CoseRecipient;
+use coset_base::{EncryptionContext, enc_structure_data};
 use coset_headers::{Header, ProtectedHeader};
 use coset_labels::{CoseError, Fault};
-use coset_structures::{EncryptionContext, enc_structure_data};
 use std::alloc::Global;
 
 /// A COSE_recipient (RFC 9052, section 5.1) while it is built. Plain setters take no memory.

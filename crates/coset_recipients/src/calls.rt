@@ -1,14 +1,14 @@
 //! Calls that decrypt what a recipient carries.
 ghost use Rattle.std.specs.Prelude.{IsSome, IfSome, IfNone, IsSomeAnd, MatchOption};
-ghost use Rattle.coset_message_parts.specs.Calls.{TakesPairWhere, AnswersWhere, AnswersMissing};
+ghost use Rattle.coset_recipients.specs.Calls.{TakesPairWhere, AnswersWhere, AnswersMissing};
 ghost use Rattle.coset_recipients.specs.Fields.{ciphertext_of};
 ghost use Rattle.coset_recipients.specs.Structure.{IsRecipientContext, recipient_structure};
 ghost use Rattle.coset_recipients.specs.View.{opened};
 
+use crate::parts::content_bytes;
 use crate::recipient::CoseRecipient;
+use coset_base::{EncryptionContext, enc_structure_data};
 use coset_labels::Fault;
-use coset_message_parts::content_bytes;
-use coset_structures::{EncryptionContext, enc_structure_data};
 use std::alloc::Global;
 
 impl CoseRecipient {

@@ -2,11 +2,11 @@
 ghost use Rattle.std.specs.Prelude.{◌≡◌, ◌≢◌, ◌↔◌, ◌^◌, ◌<◌, ℕ, List, IsTrue, None, Some};
 ghost use Rattle.ciborium.specs.Front.{Reads};
 ghost use Rattle.ciborium_value.specs.Encoding.{enc, Fits, FitAll};
-ghost use Rattle.ciborium_value.specs.Tree.{Tree, Trees, tree_count};
+ghost use Rattle.ciborium_value.specs.Tree.{Tree, Trees, tree_count, array};
 ghost use Rattle.coset_labels.specs.Faults.{CoseFault};
 ghost use Rattle.coset_labels.specs.Limits.{nesting, layers};
 ghost use Rattle.coset_labels.specs.Reading.{HasItem};
-ghost use Rattle.coset_structures.specs.declared.context.EncryptionContext.{EncryptionContext};
+ghost use Rattle.coset_base.specs.declared.context.EncryptionContext.{EncryptionContext};
 ghost use Rattle.coset_recipients.specs.Fields.{RecipientFields, RecipientsFields};
 ghost use Rattle.coset_recipients.specs.Shapes.{HasRecipient, HasList};
 ghost use Rattle.coset_recipients.specs.Short.{RecipientShort, RecipientsShort};
@@ -14,9 +14,13 @@ ghost use Rattle.coset_recipients.specs.Structure.{recipient_structure};
 ghost use Rattle.coset_recipients.specs.View.{recipient_view, recipients_view, opened};
 ghost use Rattle.coset_recipients.specs.Written.{recipient_tree, recipients_trees, list_tree};
 ghost use Rattle.coset_recipients.specs.Wrong.{WrongRecipient, WrongList};
+ghost use Rattle.coset_recipients.specs.Put.{recipient_put, recipients_put, RecipientReceived};
+ghost use Rattle.coset_recipients.specs.Put.{RecipientsReceived};
 
+pub mod parts;
+
+use crate::laws::parts::parts_fit;
 use crate::recipient::CoseRecipient;
-use coset_message_parts::laws::parts_fit;
 
 /// The fields of a recipient are those of its parts.
 pub fn recipient_opened(recipient: &CoseRecipient)
@@ -129,4 +133,29 @@ pub fn recipient_reads_again(recipient: &CoseRecipient)
 pub fn recipient_compare(a: &CoseRecipient, b: &CoseRecipient)
     ensures { IsTrue (⟦<CoseRecipient as std::cmp::PartialEq>⟧.eq a.now b.now)
         ↔ (recipient_view a.now ≡ recipient_view b.now) }
+{}
+
+/// What is written straight from fields that are as received is what `to_cbor_value` writes of
+/// them.
+pub fn put_is_written()
+    ensures recipient { (r : RecipientFields) → RecipientReceived r
+        → recipient_tree r ≡ Some (recipient_put r) }
+    ensures recipients { (rs : RecipientsFields) → RecipientsReceived rs
+        → list_tree rs ≡ Some (array (recipients_put rs)) }
+{}
+
+/// What was read is as received: the calls that write it straight from its fields may be made.
+pub fn read_is_received()
+    ensures recipient { (n k : ℕ) (t : Tree) (r : RecipientFields) → HasRecipient n t r k
+        → RecipientReceived r }
+    ensures recipients { (n k : ℕ) (t : Tree) (rs : RecipientsFields) → HasList n t rs k
+        → RecipientsReceived rs }
+{}
+
+/// So what was read is written straight from its fields as the one value that is written of it.
+pub fn read_is_put()
+    ensures recipient { (n k : ℕ) (t : Tree) (r : RecipientFields) → HasRecipient n t r k
+        → recipient_tree r ≡ Some (recipient_put r) }
+    ensures recipients { (n k : ℕ) (t : Tree) (rs : RecipientsFields) → HasList n t rs k
+        → list_tree rs ≡ Some (array (recipients_put rs)) }
 {}

@@ -4,17 +4,17 @@ ghost use Rattle.std.specs.Prelude.{MatchOption, MatchResult, OnErr};
 ghost use Rattle.ciborium_value.specs.View.{view};
 ghost use Rattle.coset_labels.specs.Faults.{OrMemory};
 ghost use Rattle.coset_labels.specs.Limits.{nesting_of, layers_of};
-ghost use Rattle.coset_message_parts.specs.Results.{ReadsWithin};
+ghost use Rattle.coset_recipients.specs.Results.{ReadsWithin};
 ghost use Rattle.coset_recipients.specs.Shapes.{HasRecipient, HasList};
 ghost use Rattle.coset_recipients.specs.View.{recipient_view, recipients_view};
 ghost use Rattle.coset_recipients.specs.Walks.{Pushes, HasThree, WrongThree};
 ghost use Rattle.coset_recipients.specs.Wrong.{WrongRecipient, WrongList};
 
+use crate::parts::read_parts;
 use crate::recipient::CoseRecipient;
 use ciborium_value::Value;
 use coset_labels::tuples::three;
 use coset_labels::{CoseError, Limits, ValueTryAs};
-use coset_message_parts::read_parts;
 use std::alloc::Global;
 
 /// Reads a recipient, its elements from the last to the first.

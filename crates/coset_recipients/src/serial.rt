@@ -1,7 +1,7 @@
 //! Recipients as values and bytes.
 ghost use Rattle.ciborium_value.specs.View.{view};
 ghost use Rattle.coset_labels.specs.Limits.{nesting, layers};
-ghost use Rattle.coset_message_parts.specs.Results.{ReadsWithin};
+ghost use Rattle.coset_recipients.specs.Results.{ReadsWithin};
 ghost use Rattle.coset_recipients.specs.Fields.{RecipientFields};
 ghost use Rattle.coset_recipients.specs.Shapes.{HasRecipient};
 ghost use Rattle.coset_recipients.specs.View.{recipient_view};

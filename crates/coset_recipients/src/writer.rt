@@ -2,16 +2,16 @@
 ghost use Rattle.std.specs.Prelude.{◌≡◌, Some, MatchResult, option_map};
 ghost use Rattle.ciborium_value.specs.View.{view, views};
 ghost use Rattle.coset_labels.specs.Faults.{CantWrite};
-ghost use Rattle.coset_message_parts.specs.Results.{Writes};
+ghost use Rattle.coset_recipients.specs.Results.{Writes};
 ghost use Rattle.coset_recipients.specs.View.{recipient_view, recipients_view};
 ghost use Rattle.coset_recipients.specs.Walks.{parts_of};
 ghost use Rattle.coset_recipients.specs.Written.{whole, recipient_tree, recipients_trees};
 ghost use Rattle.coset_recipients.specs.Written.{list_tree};
 
+use crate::parts::{Parts, write_parts};
 use crate::recipient::CoseRecipient;
 use ciborium_value::Value;
 use coset_labels::CoseError;
-use coset_message_parts::{Parts, write_parts};
 use std::alloc::Global;
 use std::mem;
 

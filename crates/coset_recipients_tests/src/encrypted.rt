@@ -4,7 +4,7 @@ use crate::tools::{
     ASKED, Encrypted, LONG, MISSING, Message, Met, decrypts, fails, give, gives, is_decrypted,
     join, makes, meets_in_order, missing, owned, read, repeated, same, watched, with_algorithm,
 };
-use coset_builders::HeaderBuilder;
+use coset_base::HeaderBuilder;
 use coset_encrypted::{CoseEncrypt, CoseEncrypt0, CoseEncrypt0Builder, CoseEncryptBuilder};
 use coset_labels::{CoseError, Fault, iana};
 use coset_recipients::CoseRecipient;

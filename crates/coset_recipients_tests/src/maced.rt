@@ -6,7 +6,7 @@ use crate::tools::{
     with_algorithm,
 };
 use ciborium_value::Value;
-use coset_builders::HeaderBuilder;
+use coset_base::HeaderBuilder;
 use coset_headers::Header;
 use coset_labels::{CoseError, Fault, Limits, TaggedCborSerializable, iana};
 use coset_maced::{CoseMac, CoseMac0, CoseMac0Builder, CoseMacBuilder};

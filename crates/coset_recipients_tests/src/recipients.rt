@@ -7,10 +7,9 @@ use crate::tools::{
     makes, meets_in_order, missing, owned, repeated, watched, with_algorithm,
 };
 use crate::{encrypted, maced};
-use coset_builders::HeaderBuilder;
+use coset_base::{EncryptionContext, HeaderBuilder};
 use coset_labels::{CoseError, Fault, iana};
 use coset_recipients::{CoseRecipient, CoseRecipientBuilder};
-use coset_structures::EncryptionContext;
 use std::alloc::{AllocError, Global};
 use std::process::Abort;
 

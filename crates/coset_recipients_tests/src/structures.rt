@@ -5,12 +5,12 @@
 //! or one of its like that takes memory of this allocator for a copy of the payload, or for a
 //! second vector, beside the one that it returns, is a borrow error: the allocator is moved into
 //! that one. A body that copies the received bytes is refused by the clause `lent` of `show`.
-use coset_headers::{Header, ProtectedHeader};
-use coset_labels::CoseError;
-use coset_structures::{
+use coset_base::{
     EncryptionContext, MacContext, SignatureContext, enc_structure_in, mac_structure_in,
     sig_structure_in,
 };
+use coset_headers::{Header, ProtectedHeader};
+use coset_labels::CoseError;
 use linked_list_allocator::LocalHeap;
 use std::alloc::{AllocError, Global};
 

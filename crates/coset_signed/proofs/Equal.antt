@@ -6,7 +6,7 @@ use Rattle.coset_labels.specs.Facts.Equal.{lists}
 use Rattle.coset_headers.specs.Facts.Decided.{signature_decided}
 use Rattle.coset_headers.specs.Same.{same_signature}
 use Rattle.coset_headers.specs.View.{header_view, protected_view, signature_view}
-use Rattle.coset_message_parts.proofs.Equal.{parts_and}
+use Rattle.coset_recipients.proofs.PartsEqual.{parts_and}
 use Rattle.coset_signed.specs.View.{sign1_view, sign_view}
 use Rattle.coset_signed.specs.declared.sign.CoseSign.{CoseSign}
 use Rattle.coset_signed.specs.declared.sign1.CoseSign1.{CoseSign1}

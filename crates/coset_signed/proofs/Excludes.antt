@@ -7,7 +7,7 @@ use Rattle.ciborium_value.specs.Kinds.{is_array}
 use Rattle.coset_headers.specs.Fields.{SignatureFields, signatures, Signatures, no_signatures, signature_more}
 use Rattle.coset_headers.specs.Headers.{HasSignature, HasSignatures}
 use Rattle.coset_headers.proofs.Excludes.{sig_not}
-use Rattle.coset_message_parts.proofs.Once.{bytes_not, whole_not}
+use Rattle.coset_recipients.proofs.PartsOnce.{bytes_not, whole_not}
 use Rattle.coset_signed.specs.Fields.{Sign1Fields, SignFields}
 use Rattle.coset_signed.specs.Shapes.{IsSignatureList, HasSign1, HasSign}
 use Rattle.coset_signed.specs.Wrong.{IsNoSignature, whatever, WrongSignatureList, no_list, in_list, WrongSign1, WrongSign}

@@ -12,13 +12,13 @@ use Rattle.coset_headers.specs.View.{signature_view, signatures_view}
 use Rattle.coset_headers.specs.Written.{signature_tree}
 use Rattle.coset_headers.specs.declared.header.CoseSignature.{CoseSignature}
 use Rattle.coset_headers.proofs.Fit.{Each, SignatureFits, sig_short}
-use Rattle.coset_message_parts.specs.Fields.{parts}
-use Rattle.coset_message_parts.specs.Short.{PartsShort}
-use Rattle.coset_message_parts.specs.Written.{parts_trees}
-use Rattle.coset_message_parts.proofs.Again.{map_made}
-use Rattle.coset_message_parts.proofs.Fit.{parts_short}
-use Rattle.coset_message_parts.proofs.Kept.{more_wrote, none_wrote, some_fits, wrote_count, whole_fits}
-use Rattle.coset_message_parts.specs.Shapes.{one_held}
+use Rattle.coset_recipients.specs.PartsFields.{parts}
+use Rattle.coset_recipients.specs.PartsShort.{PartsShort}
+use Rattle.coset_recipients.specs.PartsWritten.{parts_trees}
+use Rattle.coset_recipients.proofs.PartsAgain.{map_made}
+use Rattle.coset_recipients.proofs.PartsFit.{parts_short}
+use Rattle.coset_recipients.proofs.PartsKept.{more_wrote, none_wrote, some_fits, wrote_count, whole_fits}
+use Rattle.coset_recipients.specs.PartShapes.{one_held}
 use Rattle.coset_signed.specs.Fields.{Sign1Fields, SignFields}
 use Rattle.coset_signed.specs.Shapes.{HasSign1, HasSign}
 use Rattle.coset_signed.specs.Short.{Sign1Short, SignShort}

@@ -10,8 +10,8 @@ use Rattle.coset_headers.specs.Written.{signature_tree}
 use Rattle.coset_headers.proofs.Again.{sig_again}
 use Rattle.coset_headers.proofs.Sound.{SoundAll, Sound, array_inside, array_sound, all_none, all_more, all_parts, sig_sound}
 use Rattle.coset_headers.proofs.Writable.{some_is, map_some, and_some, sig_some}
-use Rattle.coset_message_parts.proofs.Again.{map_made}
-use Rattle.coset_message_parts.proofs.Kept.{Kept, bytes_kept, whole_kept, more_wrote, none_wrote}
+use Rattle.coset_recipients.proofs.PartsAgain.{map_made}
+use Rattle.coset_recipients.proofs.PartsKept.{Kept, bytes_kept, whole_kept, more_wrote, none_wrote}
 use Rattle.coset_signed.specs.Fields.{Sign1Fields, SignFields}
 use Rattle.coset_signed.specs.Shapes.{IsSignatureList, HasSign1, HasSign}
 use Rattle.coset_signed.specs.Written.{sign1_tree, sign_tree}

@@ -2,6 +2,8 @@ pub mod Equal
 pub mod Excludes
 pub mod Fit
 pub mod Kept
+pub mod PutWritten
+pub mod Received
 pub mod Standing
 pub mod Stands
 pub mod Steps

@@ -9,10 +9,10 @@ use Rattle.coset_headers.specs.Fields.{SignatureFields, signatures}
 use Rattle.coset_headers.specs.Written.{signature_tree, signature_trees}
 use Rattle.coset_headers.proofs.Stands.{sigs_stand}
 use Rattle.coset_headers.proofs.Written.{signature_list}
-use Rattle.coset_message_parts.proofs.Again.{map_made}
-use Rattle.coset_message_parts.specs.Shapes.{one_held}
-use Rattle.coset_message_parts.proofs.Once.{in_array}
-use Rattle.coset_message_parts.proofs.Stands.{and_true, whole_stands}
+use Rattle.coset_recipients.proofs.PartsAgain.{map_made}
+use Rattle.coset_recipients.specs.PartShapes.{one_held}
+use Rattle.coset_recipients.proofs.PartsOnce.{in_array}
+use Rattle.coset_recipients.proofs.PartsStands.{and_true, whole_stands}
 use Rattle.coset_signed.specs.AsWritten.{sign_stands, list_stands}
 use Rattle.coset_signed.specs.Fields.{Sign1Fields, SignFields}
 use Rattle.coset_signed.specs.Shapes.{IsSignatureList, HasSign1, HasSign}

@@ -4,7 +4,7 @@ use Rattle.ciborium_value.specs.Tree.{Tree, array}
 use Rattle.coset_headers.specs.Fields.{SignatureFields, signatures, no_signatures, signature_more}
 use Rattle.coset_headers.specs.Headers.{HasSignatures}
 use Rattle.coset_headers.proofs.Unique.{sigs_once}
-use Rattle.coset_message_parts.proofs.Once.{bytes_once, whole_once}
+use Rattle.coset_recipients.proofs.PartsOnce.{bytes_once, whole_once}
 use Rattle.coset_signed.specs.Fields.{Sign1Fields, SignFields}
 use Rattle.coset_signed.specs.Shapes.{IsSignatureList, HasSign1, HasSign}
 

@@ -6,7 +6,7 @@ use Rattle.coset_headers.specs.Fields.{SignatureFields, signature}
 use Rattle.coset_headers.specs.Headers.{HasSignature}
 use Rattle.coset_headers.specs.Written.{shown}
 use Rattle.coset_headers.proofs.Writable.{prot_some}
-use Rattle.coset_structures.proofs.Writable.{sig_data_some, no_signer_some, signer_is_some}
+use Rattle.coset_base.proofs.Writable.{sig_data_some, no_signer_some, signer_is_some}
 use Rattle.coset_signed.specs.Fields.{Sign1Fields, SignFields, signer_of}
 use Rattle.coset_signed.specs.Shapes.{HasSign1, HasSign}
 use Rattle.coset_signed.specs.Structure.{sign1_covered_with, sign_covered_with}

@@ -2,6 +2,7 @@ pub mod Added
 pub mod AsWritten
 pub mod Builders
 pub mod Fields
+pub mod Put
 pub mod Shapes
 pub mod Short
 pub mod Structure

@@ -4,8 +4,8 @@ use Rattle.std.specs.Prelude.{◌≡◌, ℕ, List, [], ◌∷◌}
 use Rattle.ciborium_value.specs.Tree.{Tree, bytes, array, Trees}
 use Rattle.coset_headers.specs.Fields.{SignatureFields, signatures}
 use Rattle.coset_headers.specs.Headers.{HasSignatures}
-use Rattle.coset_message_parts.specs.Fields.{parts}
-use Rattle.coset_message_parts.specs.Shapes.{HasWhole}
+use Rattle.coset_recipients.specs.PartsFields.{parts}
+use Rattle.coset_recipients.specs.PartShapes.{HasWhole}
 use Rattle.coset_signed.specs.Fields.{Sign1Fields, SignFields}
 
 -- signatures, one after another

@@ -2,7 +2,7 @@
 -- a head can say.
 use Rattle.coset_headers.specs.Fields.{signatures}
 use Rattle.coset_headers.specs.Short.{AllShort}
-use Rattle.coset_message_parts.specs.Short.{PartsShort}
+use Rattle.coset_recipients.specs.PartsShort.{PartsShort}
 use Rattle.coset_signed.specs.Fields.{Sign1Fields, SignFields}
 
 abbrev pub Sign1Short : Sign1Fields → Type 0

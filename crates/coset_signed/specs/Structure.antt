@@ -2,8 +2,8 @@
 -- header can't be written.
 use Rattle.std.specs.Prelude.{ℕ, List, Option, Some, None, codes}
 use Rattle.coset_headers.specs.Fields.{SignatureFields}
-use Rattle.coset_structures.specs.Structure.{sig_structure}
-use Rattle.coset_message_parts.specs.Written.{content_bytes}
+use Rattle.coset_base.specs.Structure.{sig_structure}
+use Rattle.coset_recipients.specs.PartsWritten.{content_bytes}
 use Rattle.coset_signed.specs.Fields.{Sign1Fields, SignFields, signer_of}
 
 -- what the signature of a COSE_Sign1 covers with this payload, and with the message's own; one that

@@ -4,8 +4,8 @@ use Rattle.std.specs.Prelude.{[], ◌∷◌, Option, Some}
 use Rattle.ciborium_value.specs.Tree.{Tree, bytes}
 use Rattle.coset_labels.specs.Arrays.{array_of}
 use Rattle.coset_headers.specs.Written.{signature_tree}
-use Rattle.coset_message_parts.specs.Fields.{parts}
-use Rattle.coset_message_parts.specs.Written.{whole_tree}
+use Rattle.coset_recipients.specs.PartsFields.{parts}
+use Rattle.coset_recipients.specs.PartsWritten.{whole_tree}
 use Rattle.coset_signed.specs.Fields.{Sign1Fields, SignFields}
 
 abbrev pub sign1_tree : Sign1Fields → Option Tree

@@ -8,8 +8,8 @@ use Rattle.coset_labels.specs.Walks.{WrongItems}
 use Rattle.coset_labels.specs.declared.error.CoseError.{CoseError}
 use Rattle.coset_labels.specs.declared.error.CoseError.TheVariants as code
 use Rattle.coset_headers.specs.Wrong.{WrongSignature}
-use Rattle.coset_message_parts.specs.Wrong.{WrongWhole}
-pub use Rattle.coset_message_parts.specs.Wrong.{IsNoBytes}
+use Rattle.coset_recipients.specs.WrongParts.{WrongWhole}
+pub use Rattle.coset_recipients.specs.WrongParts.{IsNoBytes}
 
 -- a value that is wrong as a signature, whatever is wrong in it, is an unexpected item in a list of
 -- signatures

@@ -20,13 +20,14 @@ ghost use Rattle.coset_signed.specs.Structure.{sign1_covered_with, sign_covered_
 ghost use Rattle.coset_signed.specs.View.{sign1_view, sign_view};
 ghost use Rattle.coset_signed.specs.Written.{sign1_tree, sign_tree};
 ghost use Rattle.coset_signed.specs.Wrong.{WrongSign1, WrongSign};
+ghost use Rattle.coset_signed.specs.Put.{sign1_put, sign_put, Sign1Received, SignReceived};
 
 use crate::sign::CoseSign;
 use crate::sign1::CoseSign1;
 use coset_headers::CoseSignature;
 use coset_headers::laws::signature_fits;
 use coset_labels::laws::bytes_fit;
-use coset_message_parts::laws::parts_fit;
+use coset_recipients::laws::parts::parts_fit;
 
 /// A value has the fields of at most one message.
 pub fn one_message()
@@ -155,4 +156,26 @@ pub fn sign1_compare(a: &CoseSign1, b: &CoseSign1)
 pub fn sign_compare(a: &CoseSign, b: &CoseSign)
     ensures { IsTrue (⟦<CoseSign as std::cmp::PartialEq>⟧.eq a.now b.now)
         ↔ (sign_view a.now ≡ sign_view b.now) }
+{}
+
+/// What is written straight from fields that are as received is what `to_cbor_value` writes of
+/// them.
+pub fn put_is_written()
+    ensures sign1 { (m : Sign1Fields) → Sign1Received m → sign1_tree m ≡ Some (sign1_put m) }
+    ensures sign { (m : SignFields) → SignReceived m → sign_tree m ≡ Some (sign_put m) }
+{}
+
+/// What was read is as received: the calls that write it straight from its fields may be made.
+pub fn read_is_received()
+    ensures sign1 { (n k : ℕ) (t : Tree) (m : Sign1Fields) → HasSign1 n t m k
+        → Sign1Received m }
+    ensures sign { (n k : ℕ) (t : Tree) (m : SignFields) → HasSign n t m k → SignReceived m }
+{}
+
+/// So what was read is written straight from its fields as the one value that is written of it.
+pub fn read_is_put()
+    ensures sign1 { (n k : ℕ) (t : Tree) (m : Sign1Fields) → HasSign1 n t m k
+        → sign1_tree m ≡ Some (sign1_put m) }
+    ensures sign { (n k : ℕ) (t : Tree) (m : SignFields) → HasSign n t m k
+        → sign_tree m ≡ Some (sign_put m) }
 {}

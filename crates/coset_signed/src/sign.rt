@@ -3,16 +3,16 @@ ghost use Rattle.std.specs.Prelude.{◌≡◌, ◌<◌, None, IfOk, IfSome, IsSo
 ghost use Rattle.std.specs.Prelude.{length, map};
 ghost use Rattle.std.specs.List.{slice_get};
 ghost use Rattle.coset_headers.specs.View.{signature_view};
-ghost use Rattle.coset_message_parts.specs.Calls.{TakesPairWhere, AnswersWhere};
-ghost use Rattle.coset_message_parts.specs.Results.{Writes};
+ghost use Rattle.coset_recipients.specs.Calls.{TakesPairWhere, AnswersWhere};
+ghost use Rattle.coset_recipients.specs.Results.{Writes};
 ghost use Rattle.coset_signed.specs.Fields.{no_sign, signature_bytes};
 ghost use Rattle.coset_signed.specs.Structure.{sign_covered, sign_covered_with};
 ghost use Rattle.coset_signed.specs.View.{sign_view};
 
+use coset_base::{SignatureContext, sig_structure_data};
 use coset_headers::{CoseSignature, Header, ProtectedHeader};
 use coset_labels::{CoseError, Fault, clone_bytes};
-use coset_message_parts::content_bytes;
-use coset_structures::{SignatureContext, sig_structure_data};
+use coset_recipients::content_bytes;
 use std::alloc::{AllocError, Global};
 
 /// A message with signatures, a COSE_Sign (RFC 9052, section 4.1).

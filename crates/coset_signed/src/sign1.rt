@@ -1,15 +1,15 @@
 //! Messages with one signature.
 ghost use Rattle.std.specs.Prelude.{◌≡◌, None, IfOk};
-ghost use Rattle.coset_message_parts.specs.Calls.{TakesPairWhere, AnswersWhere};
-ghost use Rattle.coset_message_parts.specs.Results.{Writes};
+ghost use Rattle.coset_recipients.specs.Calls.{TakesPairWhere, AnswersWhere};
+ghost use Rattle.coset_recipients.specs.Results.{Writes};
 ghost use Rattle.coset_signed.specs.Fields.{no_sign1};
 ghost use Rattle.coset_signed.specs.Structure.{sign1_covered, sign1_covered_with};
 ghost use Rattle.coset_signed.specs.View.{sign1_view};
 
+use coset_base::{SignatureContext, sig_structure_data};
 use coset_headers::{Header, ProtectedHeader};
 use coset_labels::{CoseError, Fault, clone_bytes};
-use coset_message_parts::content_bytes;
-use coset_structures::{SignatureContext, sig_structure_data};
+use coset_recipients::content_bytes;
 use std::alloc::{AllocError, Global};
 
 /// A message with one signature, a COSE_Sign1 (RFC 9052, section 4.2).

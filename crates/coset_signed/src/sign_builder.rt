@@ -4,7 +4,7 @@ ghost use Rattle.std.specs.Fn.{FnOnceTakesAt};
 ghost use Rattle.coset_headers.specs.Fields.{protected};
 ghost use Rattle.coset_headers.specs.View.{header_view, signature_view};
 ghost use Rattle.coset_labels.specs.declared.error.CoseError.TheVariants.{Memory};
-ghost use Rattle.coset_message_parts.specs.Calls.{TakesWhere};
+ghost use Rattle.coset_recipients.specs.Calls.{TakesWhere};
 ghost use Rattle.coset_signed.specs.Added.{AddsAt, TriesToAddAt, AddsWhere, TriesToAddWhere};
 ghost use Rattle.coset_signed.specs.Builders.{sign_so_far};
 ghost use Rattle.coset_signed.specs.Fields.{no_sign, signed_by, also_signed};

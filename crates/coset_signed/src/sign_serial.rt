@@ -6,7 +6,7 @@ ghost use Rattle.coset_labels.specs.Limits.{nesting, layers, nesting_of, layers_
 ghost use Rattle.coset_labels.specs.Walks.{WrongItems};
 ghost use Rattle.coset_headers.specs.Headers.{HasSignature, HasSignatures};
 ghost use Rattle.coset_headers.specs.View.{signature_view, signatures_view};
-ghost use Rattle.coset_message_parts.specs.Results.{ReadsWithin};
+ghost use Rattle.coset_recipients.specs.Results.{ReadsWithin};
 ghost use Rattle.coset_signed.specs.Fields.{SignFields, no_sign};
 ghost use Rattle.coset_signed.specs.Shapes.{IsSignatureList, HasSign};
 ghost use Rattle.coset_signed.specs.View.{sign_view};
@@ -22,7 +22,7 @@ use coset_labels::{
     AsCborValue, CborSerializable, CoseError, Limits, TaggedCborSerializable, ValueTryAs,
     to_cbor_array,
 };
-use coset_message_parts::{Parts, fill_parts, write_parts};
+use coset_recipients::{Parts, fill_parts, write_parts};
 use std::alloc::Global;
 
 /// The elements are read from the last to the first, and the signatures from the first to the last.

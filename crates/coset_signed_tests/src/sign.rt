@@ -6,7 +6,7 @@ use crate::tools::{
     verifies, watched, writes, writes_untagged,
 };
 use ciborium_value::Value;
-use coset_builders::CoseSignatureBuilder;
+use coset_base::CoseSignatureBuilder;
 use coset_headers::{CoseSignature, Header};
 use coset_labels::{CoseError, Fault, Limits};
 use coset_signed::{CoseSign, CoseSignBuilder};

@@ -1,6 +1,6 @@
 //! What the tests share.
 use ciborium_value::Value;
-use coset_builders::HeaderBuilder;
+use coset_base::HeaderBuilder;
 use coset_headers::{CoseSignature, Header};
 use coset_labels::{CborSerializable, CoseError, Fault, TaggedCborSerializable, iana};
 use std::alloc::{AllocError, Global};

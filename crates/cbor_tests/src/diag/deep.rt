@@ -1,6 +1,6 @@
 //! Items of many levels: reading and writing them are loops, so that they need no stack. A test
 //! reads one item, since unproved and with its checks that takes twenty seconds, and a test has 60.
-use cbor_diag::{Fault, NotWritten, Style, Why, item_len, write_item};
+use cbor_diag::{Fault, NotWritten, Page, Style, Why, item_len, write_item};
 use std::alloc::{AllocError, Global};
 use std::process::Abort;
 use std::test::Fail;
@@ -74,7 +74,7 @@ fn are_written(
     let bytes = nested(alloc, levels, times, 0)?;
     assert_eq!(rt; bytes.len(), WRITTEN + 1);
     let mut text = String::new(alloc);
-    let answer = write_item(alloc, &bytes, Style::full(), 0, &mut text);
+    let answer = write_item(alloc, &bytes, Style::full(), 0, &mut Page::new(&mut text));
     assert!(rt; text.len() > WRITTEN);
     assert!(rt; text.len() < 5 * WRITTEN);
     Ok(answer)

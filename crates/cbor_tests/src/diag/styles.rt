@@ -1,5 +1,5 @@
 //! Lines.
-use cbor_diag::{Style, write_item};
+use cbor_diag::{Page, Style, write_item};
 use std::test::Fail;
 
 /// What is at most 24 bytes long is written on one line.
@@ -14,7 +14,8 @@ fn lines(rt: HostRuntime) -> Result<(), Fail> {
 ])";
     let bytes = hex::decode(rt.alloc(), hex)?;
     let mut text = String::new(rt.alloc());
-    write_item(rt.alloc(), &bytes, Style::full(), 0, &mut text)?;
+    let mut page = Page::new(&mut text);
+    write_item(rt.alloc(), &bytes, Style::full(), 0, &mut page)?;
     assert_eq!(rt; text.as_str(), want);
     Ok(())
 }

@@ -1,6 +1,6 @@
 //! Output and records of many times what a first allocation holds.
 use crate::messages::{KEYS, MESSAGE, TAGGED};
-use cose_gate_buffers::{Choice, ask, check};
+use cose_gate_records::{Choice, ask, check};
 use std::alloc::Global;
 use std::process::Abort;
 

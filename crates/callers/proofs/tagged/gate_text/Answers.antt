@@ -6,9 +6,10 @@ use Rattle.callers.proofs.tagged.gate_text.Goals as goal
 
 pub returns-in-Ok : goal.returns-in-Ok
 returns-in-Ok c =
-    let laws = c.put_is_written.ensures in
+    let signed = c.put_is_written.ensures in
+    let maced = c.put_is_written-2.ensures in
     let new : c.new-out.result.inner.items ≡ [] = (λ i. (c.new-out.ensures.inner i).items) ∙ c.new.ensures.items in
     (λ i. (c.into_inner.ensures i).items)
     ∙ (c.in-Ok.ensures.ok
     ∙ (ap (λ (z : List ℕ). z ++ enc (tagged_put c.args.message)) new
-    ∙ gate_text laws.sign1 laws.mac0 laws.sign laws.mac c.args.message c.requires))
+    ∙ gate_text signed.sign1 maced.mac0 signed.sign maced.mac c.args.message c.requires))

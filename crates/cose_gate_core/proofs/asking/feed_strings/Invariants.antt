@@ -1,6 +1,6 @@
 use Rattle.std.proofs.Common.{◌≡◌, ℕ, List, ◌++◌, drop}
 use Rattle.std.specs.List.{flat_map}
-use Rattle.coset_structures.specs.Structure.{byte_string}
+use Rattle.coset_base.specs.Structure.{byte_string}
 use Rattle.cose_gate_core.specs.Questions.{Subject}
 use Rattle.cose_gate_core.proofs.asking.feed_strings.Given as goal
 

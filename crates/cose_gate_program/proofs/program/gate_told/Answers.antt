@@ -1,5 +1,5 @@
 use Rattle.std.proofs.Common.{rules, refl, sym, ◌∙◌}
-use Rattle.cose_gate_hmac.specs.GateCore.Run.{entries_of}
+use Rattle.cose_gate_core.specs.Run.{entries_of}
 use Rattle.cose_gate_program.proofs.Runs.{gated, same_devices, no_title}
 use Rattle.cose_gate_program.proofs.Tellings.{heard_by, heard_state}
 use Rattle.cose_gate_program.proofs.program.gate_told.Goals as goal

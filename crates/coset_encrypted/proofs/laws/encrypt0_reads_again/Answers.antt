@@ -1,5 +1,5 @@
 use Rattle.std.proofs.Common.{refl, arith}
-use Rattle.coset_message_parts.proofs.Kept.{kept_item, kept_tagged}
+use Rattle.coset_recipients.proofs.PartsKept.{kept_item, kept_tagged}
 use Rattle.coset_encrypted.specs.Shapes.{HasEncrypt0}
 use Rattle.coset_encrypted.specs.View.{encrypt0_view}
 use Rattle.coset_encrypted.proofs.Kept.{encrypt0_kept}

@@ -1,4 +1,4 @@
-use Rattle.coset_message_parts.proofs.Kept.{kept_reads}
+use Rattle.coset_recipients.proofs.PartsKept.{kept_reads}
 use Rattle.coset_encrypted.specs.Shapes.{HasEncrypt0, HasEncrypt}
 use Rattle.coset_encrypted.proofs.Kept.{encrypt0_kept, encrypt_kept}
 use Rattle.coset_encrypted.proofs.laws.written_reads_same.Goals as goal

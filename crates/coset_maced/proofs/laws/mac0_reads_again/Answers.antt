@@ -1,5 +1,5 @@
 use Rattle.std.proofs.Common.{refl, arith}
-use Rattle.coset_message_parts.proofs.Kept.{kept_item, kept_tagged}
+use Rattle.coset_recipients.proofs.PartsKept.{kept_item, kept_tagged}
 use Rattle.coset_maced.specs.Shapes.{HasMac0}
 use Rattle.coset_maced.specs.View.{mac0_view}
 use Rattle.coset_maced.proofs.Kept.{mac0_kept}

@@ -1,4 +1,4 @@
-use Rattle.coset_message_parts.proofs.Kept.{kept_reads}
+use Rattle.coset_recipients.proofs.PartsKept.{kept_reads}
 use Rattle.coset_maced.specs.Shapes.{HasMac0, HasMac}
 use Rattle.coset_maced.proofs.Kept.{mac0_kept, mac_kept}
 use Rattle.coset_maced.proofs.laws.written_reads_same.Goals as goal

@@ -1,5 +1,5 @@
 use Rattle.std.proofs.Common.{refl, arith}
-use Rattle.coset_message_parts.proofs.Kept.{kept_item, kept_tagged}
+use Rattle.coset_recipients.proofs.PartsKept.{kept_item, kept_tagged}
 use Rattle.coset_signed.specs.Shapes.{HasSign1}
 use Rattle.coset_signed.specs.View.{sign1_view}
 use Rattle.coset_signed.proofs.Kept.{sign1_kept}

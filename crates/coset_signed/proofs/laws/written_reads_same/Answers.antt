@@ -1,4 +1,4 @@
-use Rattle.coset_message_parts.proofs.Kept.{kept_reads}
+use Rattle.coset_recipients.proofs.PartsKept.{kept_reads}
 use Rattle.coset_signed.specs.Shapes.{HasSign1, HasSign}
 use Rattle.coset_signed.proofs.Kept.{sign1_kept, sign_kept}
 use Rattle.coset_signed.proofs.laws.written_reads_same.Goals as goal

@@ -2,7 +2,7 @@ use Rattle.std.proofs.Common.{◌++◌, None, refl, sym, ap, ◌∙◌}
 use Rattle.coset_headers.specs.View.{protected_view}
 use Rattle.coset_maced.specs.PartsWritten.{content_bytes}
 use Rattle.coset_signed.specs.View.{sign1_view}
-use Rattle.coset_structures.specs.Structure.{behind_prefix}
+use Rattle.coset_base.specs.Structure.{behind_prefix}
 use Rattle.cose_gate_core.specs.Lent.{signer_of as lent_signer}
 use Rattle.cose_gate_core.specs.Received.{received_bytes}
 use Rattle.cose_gate_core.proofs.Covering.{same_question, subject_is, ok_first, ok_told, sign1_asks}

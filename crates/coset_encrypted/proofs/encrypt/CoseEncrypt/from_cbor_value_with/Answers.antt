@@ -1,7 +1,7 @@
 use Rattle.std.proofs.Common.{inl, inr, [], ◌∷◌, refl, ap}
 use Rattle.std.proofs.lemmas.Result.{err_from_is_err_and}
 use Rattle.ciborium_value.specs.View.{views}
-use Rattle.coset_message_parts.proofs.Steps.{whole_kind, whole_count, whole_parts, whole_lasts, whole_has}
+use Rattle.coset_recipients.proofs.PartsSteps.{whole_kind, whole_count, whole_parts, whole_lasts, whole_has}
 use Rattle.coset_encrypted.proofs.encrypt.CoseEncrypt.from_cbor_value_with.Goals as goal
 
 pub returns-in_err-items : goal.returns-in_err-items

@@ -1,6 +1,6 @@
 use Rattle.std.proofs.Common.{[], refl, sym, append-nil}
 use Rattle.std.proofs.lemmas.Result.{err_from_is_err_and}
-use Rattle.coset_message_parts.proofs.Steps.{whole_cant, whole_written}
+use Rattle.coset_recipients.proofs.PartsSteps.{whole_cant, whole_written}
 use Rattle.coset_encrypted.specs.View.{encrypt0_view}
 use Rattle.coset_encrypted.proofs.encrypt0_serial.CoseEncrypt0AsCborValue.to_cbor_value.Goals as goal
 

@@ -1,5 +1,5 @@
 use Rattle.std.proofs.Common.{ap}
-use Rattle.coset_recipients.proofs.Parts.{recipients_last}
+use Rattle.coset_recipients.proofs.RecipientParts.{recipients_last}
 use Rattle.coset_encrypted.specs.View.{encrypt_view}
 use Rattle.coset_encrypted.proofs.encrypt_builder.CoseEncryptBuilder.add_recipient.Goals as goal
 

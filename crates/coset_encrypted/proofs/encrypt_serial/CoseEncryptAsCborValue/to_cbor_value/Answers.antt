@@ -1,7 +1,7 @@
 use Rattle.std.proofs.Common.{[], ◌∷◌, refl, ap}
 use Rattle.std.proofs.lemmas.Result.{err_from_is_err_and}
 use Rattle.coset_labels.specs.Arrays.{all_written}
-use Rattle.coset_message_parts.proofs.Steps.{whole_cant, lasts_cant, cant_inside, whole_written}
+use Rattle.coset_recipients.proofs.PartsSteps.{whole_cant, lasts_cant, cant_inside, whole_written}
 use Rattle.coset_recipients.specs.Written.{list_tree}
 use Rattle.coset_encrypted.specs.View.{encrypt_view}
 use Rattle.coset_encrypted.proofs.encrypt_serial.CoseEncryptAsCborValue.to_cbor_value.Goals as goal

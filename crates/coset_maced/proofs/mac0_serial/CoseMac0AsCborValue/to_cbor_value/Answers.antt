@@ -3,7 +3,7 @@ use Rattle.std.proofs.lemmas.Result.{err_from_is_err_and}
 use Rattle.ciborium_value.specs.Tree.{bytes}
 use Rattle.ciborium_value.specs.declared.value.Value.TheVariants as code
 use Rattle.ciborium_value.proofs.Views.{view_bytes}
-use Rattle.coset_message_parts.proofs.Steps.{whole_cant, whole_written}
+use Rattle.coset_recipients.proofs.PartsSteps.{whole_cant, whole_written}
 use Rattle.coset_maced.specs.View.{mac0_view}
 use Rattle.coset_maced.proofs.mac0_serial.CoseMac0AsCborValue.to_cbor_value.Goals as goal
 

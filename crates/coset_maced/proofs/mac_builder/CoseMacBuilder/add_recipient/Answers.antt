@@ -1,5 +1,5 @@
 use Rattle.std.proofs.Common.{ap}
-use Rattle.coset_recipients.proofs.Parts.{recipients_last}
+use Rattle.coset_recipients.proofs.RecipientParts.{recipients_last}
 use Rattle.coset_maced.specs.View.{mac_view}
 use Rattle.coset_maced.proofs.mac_builder.CoseMacBuilder.add_recipient.Goals as goal
 

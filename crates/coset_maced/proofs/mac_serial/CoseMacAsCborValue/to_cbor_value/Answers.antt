@@ -5,7 +5,7 @@ use Rattle.ciborium_value.specs.View.{view}
 use Rattle.ciborium_value.specs.declared.value.Value.TheVariants as code
 use Rattle.ciborium_value.proofs.Views.{view_bytes}
 use Rattle.coset_labels.specs.Arrays.{all_written}
-use Rattle.coset_message_parts.proofs.Steps.{whole_cant, lasts_cant, cant_inside, whole_written, pushed_twice}
+use Rattle.coset_recipients.proofs.PartsSteps.{whole_cant, lasts_cant, cant_inside, whole_written, pushed_twice}
 use Rattle.coset_recipients.specs.Written.{list_tree}
 use Rattle.coset_maced.specs.View.{mac_view}
 use Rattle.coset_maced.proofs.mac_serial.CoseMacAsCborValue.to_cbor_value.Goals as goal

@@ -1,7 +1,7 @@
 use Rattle.std.proofs.Common.{ap, option_map}
 use Rattle.coset_headers.specs.View.{header_view, protected_view}
 use Rattle.coset_recipients.specs.Fields.{recipient}
-use Rattle.coset_recipients.proofs.Parts.{recipients_last}
+use Rattle.coset_recipients.proofs.RecipientParts.{recipients_last}
 use Rattle.coset_recipients.proofs.builder.CoseRecipientBuilder.add_recipient.Goals as goal
 
 pub returns : goal.returns

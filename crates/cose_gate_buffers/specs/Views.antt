@@ -1,8 +1,0 @@
--- What is seen of lines in a buffer.
-use Rattle.std.specs.Prelude.{ℕ, List}
-use Rattle.cose_gate_buffers.specs.Tallies.{all_of}
-use Rattle.cose_gate_buffers.specs.declared.lines.Lines.{Lines}
-
--- all that was written
-abbrev pub said : Lines → List ℕ
-said l = all_of l.tally

@@ -1,0 +1,42 @@
+-- What runs have in common.
+use Rattle.std.specs.Prelude.{◌≡◌, ℕ, List, ◌∷◌, ◌++◌, length, map, Bool, false}
+use Rattle.cose_gate_core.specs.Questions.{Question}
+use Rattle.cose_gate_core.specs.Asked.{IsFront}
+use Rattle.cose_gate_core.specs.Run.{Step, asked_of, passes, questions_of, output_of, entries_of}
+use Rattle.cose_gate_core.specs.Anew.{entry_behind, SameEntries, SameVerdicts, EntriesBegin}
+
+-- the steps ss are a beginning of the steps rs: their items, questions, output and entries
+pub record BeginsRun (allows : Question → Bool) (aad : List ℕ) (ss rs : List Step) : Type 0 where
+  pub items : IsFront (map (λ s. s.item) ss) (map (λ s. s.item) rs)
+  pub questions : IsFront (questions_of allows aad ss) (questions_of allows aad rs)
+  pub output : IsFront (output_of allows aad ss) (output_of allows aad rs)
+  pub entries : EntriesBegin (entries_of ss) (entries_of rs)
+
+-- the steps ts say what ss say, and then what rs say so many bytes further on; what is left after
+-- ts is what is left after rs
+pub record JoinsRuns (allows : Question → Bool) (aad : List ℕ) (bytes : ℕ) (ss rs ts : List Step)
+    (rest more : List ℕ) : Type 0 where
+  pub questions : questions_of allows aad ts
+      ≡ questions_of allows aad ss ++ questions_of allows aad rs
+  pub output : output_of allows aad ts ≡ output_of allows aad ss ++ output_of allows aad rs
+  pub entries : SameEntries (entries_of ts)
+      (entries_of ss ++ map (entry_behind (length ss) bytes) (entries_of rs))
+  pub rest_is : more ≡ rest
+
+-- the steps ts say what xs and ys say; of xs, s and ys the questions are those of each, and if s
+-- doesn't pass the output is that of ts; what is left is the same
+pub record LeavesOut (allows : Question → Bool) (aad : List ℕ) (xs : List Step) (s : Step)
+    (ys ts : List Step) (rest more : List ℕ) : Type 0 where
+  pub questions : questions_of allows aad (xs ++ s ∷ ys) ≡ questions_of allows aad xs
+      ++ (asked_of allows aad s.finding ++ questions_of allows aad ys)
+  pub others : questions_of allows aad ts
+      ≡ questions_of allows aad xs ++ questions_of allows aad ys
+  pub output : passes allows aad s.finding ≡ false
+      → output_of allows aad ts ≡ output_of allows aad (xs ++ s ∷ ys)
+  pub rest_is : more ≡ rest
+
+-- the steps say the same: their questions, output and verdicts
+pub record SayTheSame (allows : Question → Bool) (aad : List ℕ) (ss rs : List Step) : Type 0 where
+  pub questions : questions_of allows aad ss ≡ questions_of allows aad rs
+  pub output : output_of allows aad ss ≡ output_of allows aad rs
+  pub verdicts : SameVerdicts (entries_of ss) (entries_of rs)

@@ -1,0 +1,63 @@
+//! Laws of runs.
+ghost use Rattle.std.specs.Prelude.{◌≡◌, ℕ, List, [], ◌∷◌, ◌++◌, length, map, Bool};
+ghost use Rattle.cose_gate_core.specs.Questions.{Question};
+ghost use Rattle.cose_gate_core.specs.Findings.{Bounds, usual};
+ghost use Rattle.cose_gate_core.specs.Run.{Step, Course, Run, entries_of};
+ghost use Rattle.cose_gate_core.specs.Anew.{bytes_of, entry_behind, IgnoresSpelling};
+ghost use Rattle.cose_gate_core.specs.Runs.{BeginsRun, JoinsRuns, LeavesOut, SayTheSame};
+
+/// What was gone through at a fault is a beginning of the run: its items, its questions, its output
+/// and its entries. Of an entry's `Shape` it isn't said which of the value's faults it names.
+pub fn course_begins_run()
+    ensures { (limits : Bounds) (allows : Question → Bool) (aad : List ℕ) (at : ℕ)
+        (b : List ℕ) (ss rs : List Step) (more rest : List ℕ)
+        → Course limits allows aad at b ss more → Run limits allows aad at b rs rest
+        → BeginsRun allows aad ss rs }
+{}
+
+/// If nothing is left after the items of `a`, the run of `a` and then `b` is that of `a` and then
+/// that of `b`: its questions, its output and what is left. The entries of `b` are as many items
+/// and bytes further on as `a` has.
+pub fn joined_runs()
+    ensures there { (limits : Bounds) (allows : Question → Bool) (aad : List ℕ) (at : ℕ)
+        (a b : List ℕ) (ss rs : List Step) (rest : List ℕ) → Run limits allows aad at a ss []
+        → Run limits allows aad at b rs rest → (ts : List Step)
+        × Run limits allows aad at (a ++ b) ts rest
+        × (entries_of ts
+        ≡ entries_of ss ++ map (entry_behind (length ss) (length a)) (entries_of rs)) }
+    ensures joined { (limits : Bounds) (allows : Question → Bool) (aad : List ℕ) (at : ℕ)
+        (a b : List ℕ) (ss rs ts : List Step) (rest more : List ℕ)
+        → Run limits allows aad at a ss [] → Run limits allows aad at b rs rest
+        → Run limits allows aad at (a ++ b) ts more
+        → JoinsRuns allows aad (length a) ss rs ts rest more }
+{}
+
+/// An input is the bytes of its items and then what is left. If a refused item is taken out of it,
+/// the questions for the others, the output and what is left stay.
+pub fn refused_taken_out()
+    ensures whole { (limits : Bounds) (allows : Question → Bool) (aad : List ℕ) (at : ℕ)
+        (b : List ℕ) (ss : List Step) (rest : List ℕ) → Run limits allows aad at b ss rest
+        → b ≡ bytes_of ss ++ rest }
+    ensures there { (limits : Bounds) (allows : Question → Bool) (aad : List ℕ) (at : ℕ)
+        (b : List ℕ) (xs : List Step) (s : Step) (ys : List Step) (rest : List ℕ)
+        → Run limits allows aad at b (xs ++ s ∷ ys) rest
+        → (ts : List Step) × Run limits allows aad at (bytes_of (xs ++ ys) ++ rest) ts rest }
+    ensures left_out { (limits : Bounds) (allows : Question → Bool) (aad : List ℕ) (at : ℕ)
+        (b : List ℕ) (xs : List Step) (s : Step) (ys ts : List Step) (rest more : List ℕ)
+        → Run limits allows aad at b (xs ++ s ∷ ys) rest
+        → Run limits allows aad at (bytes_of (xs ++ ys) ++ rest) ts more
+        → LeavesOut allows aad xs s ys ts rest more }
+{}
+
+/// Inputs with the same trees in the same order have the same questions, the same output and the
+/// same verdicts, wherever their items are and however they are encoded, and whatever is left after
+/// the items. What else bars a message must not depend on how its item is encoded; of the usual
+/// limits that holds. Of a `Shape` it isn't said which of the value's faults it names.
+pub fn same_trees()
+    ensures usual { IgnoresSpelling usual }
+    ensures same { (limits : Bounds) (allows : Question → Bool) (aad : List ℕ) (at to : ℕ)
+        (a b : List ℕ) (ss rs : List Step) (rest more : List ℕ) → IgnoresSpelling limits
+        → Run limits allows aad at a ss rest → Run limits allows aad to b rs more
+        → map (λ s. s.item.value) ss ≡ map (λ s. s.item.value) rs
+        → SayTheSame allows aad ss rs }
+{}

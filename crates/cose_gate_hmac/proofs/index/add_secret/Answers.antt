@@ -1,5 +1,0 @@
-use Rattle.cose_gate_hmac.proofs.Added.{entered}
-use Rattle.cose_gate_hmac.proofs.index.add_secret.Goals as goal
-
-pub returns-in-Ok : goal.returns-in-Ok
-returns-in-Ok c = entered c.args.by_id.now c.insert.new.self c.args.id.now c.args.secret.now c.new.result _ c.new.ensures c.contains_key.ensures c.if-contains_key.false c.in-Ok.ensures.updates

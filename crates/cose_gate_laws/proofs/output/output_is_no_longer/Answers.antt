@@ -1,5 +1,0 @@
-use Rattle.cose_gate_laws.proofs.Shorter.{output_less}
-use Rattle.cose_gate_laws.proofs.output.output_is_no_longer.Goals as goal
-
-pub returns : goal.returns
-returns c = output_less

@@ -1,5 +1,0 @@
-use Rattle.cose_gate_laws.proofs.Outputs.{output_items}
-use Rattle.cose_gate_laws.proofs.output.output_is_passed_messages.Goals as goal
-
-pub returns : goal.returns
-returns c = output_items

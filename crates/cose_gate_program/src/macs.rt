@@ -1,0 +1,53 @@
+//! Tags that were fed nothing yet.
+ghost use Rattle.std.specs.Prelude.{[], option_copied};
+ghost use Rattle.cose_gate_core.specs.HeaderView.{header_view, protected_view};
+ghost use Rattle.cose_gate_core.specs.Lent.{subject_of};
+ghost use Rattle.coset_keys.specs.View.{key_set_view};
+ghost use Rattle.cose_gate_program.specs.Judge as spec;
+ghost use Rattle.cose_gate_program.specs.Judge.{Makes};
+ghost use Rattle.cose_gate_program.specs.Judging as judging;
+
+use crate::index::KeyIndex;
+use crate::messages::message_id;
+use crate::verdict::may_judge;
+use cose_gate_core::{About, Header, MessageKind, ProtectedHeader};
+use cose_hmac::HmacSha256;
+
+/// The tag under a secret, fed nothing yet.
+pub(crate) fn mac_under(secret: Option<&[u8]>) -> Option<HmacSha256>
+    ensures { Makes result (option_copied secret.entry) [] }
+{
+    match secret {
+        Some(secret) => Some(HmacSha256::new(secret)),
+        None => None,
+    }
+}
+
+/// The tag of a COSE_Mac0 with these headers, fed nothing yet.
+fn mac_for(
+    index: &KeyIndex,
+    protected: &ProtectedHeader,
+    unprotected: &Header,
+) -> Option<HmacSha256>
+    ensures { Makes result (judging.secret_for (key_set_view index.now.set.now)
+        (protected_view protected.now) (header_view unprotected.now)) [] }
+{
+    if !may_judge(protected, unprotected) {
+        return None;
+    }
+    match index.find(message_id(protected, unprotected)) {
+        Some(prepared) => Some(prepared.mac()),
+        None => None,
+    }
+}
+
+/// The tag of a message, fed nothing yet; none if it is no COSE_Mac0, or no key fits.
+pub(crate) fn mac_about(index: &KeyIndex, about: &About) -> Option<HmacSha256>
+    ensures { Makes result (spec.secret_about (key_set_view index.now.set.now)
+        (subject_of about.now)) [] }
+{
+    match about.kind {
+        MessageKind::Mac0 => mac_for(index, about.protected, about.unprotected),
+        MessageKind::Sign1 | MessageKind::Sign | MessageKind::Mac => None,
+    }
+}

@@ -1,0 +1,96 @@
+//! The messages whose questions were accepted.
+ghost use Rattle.std.specs.Prelude.{◌≡◌, ℕ, List};
+ghost use Rattle.cose_gate_core.specs.Terms.{limits_of};
+ghost use Rattle.cose_gate_records.specs.Kept.{keys_of};
+ghost use Rattle.cose_gate_records.specs.Calls.{Passed, Passes, Places, RanBy, buffers};
+
+use crate::accepted::Accepted;
+use crate::answer::{Answer, no_limits};
+use crate::choice::Choice;
+use crate::growing::Growing;
+use crate::lines::{STOPPED, lone_line, stop_for_memory};
+use crate::placing::{place, place_none};
+use crate::running::run_with_judge;
+use cose_gate_program::Terms;
+use std::alloc::Global;
+
+/// Passes what this judge accepts.
+fn pass_by(
+    alloc: Global,
+    terms: Terms,
+    judge: Accepted,
+    aad: &[u8],
+    input: &[u8],
+    out: &mut [u8],
+    lines: &mut [u8],
+) -> Answer
+    ensures { (written : List ℕ) × (status : ℕ)
+        × RanBy (limits_of terms) (keys_of judge.entry) aad.now input.now «lines».new result.lines
+        written status
+        × Places written status «out».old «out».new result }
+{
+    let mut judge = judge;
+    let mut reader = input;
+    let mut output = Growing::new(alloc);
+    let ended = run_with_judge(
+        alloc,
+        terms,
+        aad,
+        &mut reader,
+        &mut output,
+        lines,
+        &mut judge,
+    );
+    if output.is_refused() {
+        return place_none(out, 4, stop_for_memory(lines, ended.last));
+    }
+    place(out, output.as_written(), ended.status, ended.end)
+}
+
+/// Passes what was accepted, by these terms.
+fn pass_within(
+    alloc: Global,
+    terms: Terms,
+    accepted: &[u8],
+    aad: &[u8],
+    input: &[u8],
+    out: &mut [u8],
+    lines: &mut [u8],
+) -> Answer
+    ensures { (written : List ℕ) × (status : ℕ)
+        × Passed (limits_of terms) accepted.now aad.now input.now «lines».new result.lines
+        written status
+        × Places written status «out».old «out».new result }
+{
+    let Ok(judge) = Accepted::new(alloc, accepted) else {
+        return place_none(out, 4, lone_line(lines, STOPPED));
+    };
+    match judge {
+        Some(judge) => pass_by(alloc, terms, judge, aad, input, out, lines),
+        None => place_none(out, 3, lone_line(lines, b"accepted: no records\n")),
+    }
+}
+
+/// Passes the messages all of whose questions are among the records `accepted`: some of those that
+/// `ask` told of this input, or of another, copied as they are, one after another, in any order.
+/// The external data and the choice are those of that call. A record counts for each question that
+/// it is the record of. `out`, `lines` and the result are those of `check`.
+///
+/// If `accepted` is no such records, the status is 3, and nothing is read.
+pub fn pass(
+    alloc: Global,
+    choice: Choice,
+    accepted: &[u8],
+    aad: &[u8],
+    input: &[u8],
+    out: &mut [u8],
+    lines: &mut [u8],
+) -> Answer
+    ensures { Passes choice.nesting choice.layers choice.strict accepted.now aad.now input.now
+        (buffers «out».old «lines».old) (buffers «out».new «lines».new) result }
+{
+    match choice.terms() {
+        Some(terms) => pass_within(alloc, terms, accepted, aad, input, out, lines),
+        None => no_limits(),
+    }
+}

@@ -1,0 +1,68 @@
+//! The program's run with its lines in a buffer.
+ghost use Rattle.cose_gate_core.specs.Terms.{limits_of};
+ghost use Rattle.cose_gate_program.specs.Judge.{says_yes};
+ghost use Rattle.cose_gate_program.specs.Program.{devices_of, hearing_of};
+ghost use Rattle.cose_gate_program.specs.Telling.{OverTold, RanTold};
+ghost use Rattle.cose_gate_records.specs.Lines.{AreHeld};
+
+use crate::lines::Lines;
+use ciborium_ll::{Read, Write};
+use cose_gate_core::Judge;
+use cose_gate_program::{Terms, run_over_told, run_told};
+use std::alloc::Global;
+
+/// How a run ended: its status, where its last line begins, and where all lines end.
+#[derive(Debug, Clone, Copy, PartialEq, Eq)]
+pub(crate) struct Ended {
+    pub(crate) status: u8,
+    pub(crate) last: usize,
+    pub(crate) end: usize,
+}
+
+/// The run under the key set of these bytes.
+pub(crate) fn run_with_keys<R: Read, W: Write>(
+    alloc: Global,
+    terms: Terms,
+    keys: &[u8],
+    aad: &[u8],
+    input: &mut R,
+    out: &mut W,
+    lines: &mut [u8],
+) -> Ended
+    ensures { OverTold (limits_of terms) says_yes keys.now aad.now
+        (devices_of R.Read W.Write input.old out.old)
+        (devices_of R.Read W.Write input.new out.new) result.status
+        (AreHeld «lines».new result.last result.end) }
+{
+    let mut told = Lines::new(lines);
+    let status = run_over_told(alloc, terms, keys, aad, input, out, &mut told);
+    Ended {
+        status,
+        last: told.last(),
+        end: told.end(),
+    }
+}
+
+/// The run with this judge.
+pub(crate) fn run_with_judge<R: Read, W: Write, J: Judge>(
+    alloc: Global,
+    terms: Terms,
+    aad: &[u8],
+    input: &mut R,
+    out: &mut W,
+    lines: &mut [u8],
+    judge: &mut J,
+) -> Ended
+    ensures { RanTold (limits_of terms) (hearing_of J.Judge judge.old judge.new) aad.now
+        (devices_of R.Read W.Write input.old out.old)
+        (devices_of R.Read W.Write input.new out.new) result.status
+        (AreHeld «lines».new result.last result.end) }
+{
+    let mut told = Lines::new(lines);
+    let status = run_told(alloc, terms, aad, input, out, &mut told, judge);
+    Ended {
+        status,
+        last: told.last(),
+        end: told.end(),
+    }
+}

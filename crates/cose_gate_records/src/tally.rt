@@ -1,0 +1,48 @@
+//! How long a text is.
+ghost use Rattle.std.specs.Prelude.{◌≡◌, ◌++◌, []};
+ghost use Rattle.cose_gate_records.specs.Lines.{counted};
+
+use ciborium_ll::log::Log;
+
+/// How long all is that was written. What it is is in contracts alone.
+#[derive(Drop)]
+pub(crate) struct Tally {
+    pub(crate) end: usize,
+    all: Log<u8>,
+    ghost end_is: { end ≡ counted all.items },
+}
+
+impl Tally {
+    ghost use Rattle.cose_gate_records.specs.Tallies.{all_of};
+
+    /// Nothing yet.
+    pub(crate) fn new() -> Tally
+        ensures { all_of result ≡ [] }
+    {
+        Tally {
+            end: 0,
+            all: Log::new(),
+        }
+    }
+
+    /// A text more.
+    pub(crate) fn and(self, text: &[u8]) -> Tally
+        ensures { all_of result ≡ all_of self ++ text.now }
+    {
+        Tally {
+            end: self.end.saturating_add(text.len()),
+            all: logged(self.all, text),
+        }
+    }
+}
+
+/// The history with these bytes after it. It does nothing at run time.
+fn logged(told: Log<u8>, text: &[u8]) -> Log<u8>
+    ensures { result.items ≡ told.items ++ text.now }
+{
+    let mut told = told;
+    for byte in text {
+        told = told.and(byte);
+    }
+    told
+}

@@ -1,0 +1,44 @@
+//! Laws of what is written straight from fields.
+ghost use Rattle.std.specs.Prelude.{◌≡◌, ℕ, Some, option_map};
+ghost use Rattle.ciborium_value.specs.Tree.{Tree, bytes};
+ghost use Rattle.coset_headers.specs.Fields.{HeaderFields, ProtectedFields, SignatureFields};
+ghost use Rattle.coset_headers.specs.Fields.{Signatures};
+ghost use Rattle.coset_headers.specs.Headers.{HasHeader, HasProtected, HasSignature};
+ghost use Rattle.coset_headers.specs.Written.{header_tree, shown, signature_tree};
+ghost use Rattle.coset_headers.specs.Written.{signature_trees};
+ghost use Rattle.coset_base.specs.Put.{header_put, protected_put, signature_put, signatures_put};
+ghost use Rattle.coset_base.specs.Put.{HasReceived, ProtectedReceived, SignatureReceived};
+ghost use Rattle.coset_base.specs.Put.{AllReceived};
+
+/// What is written straight from fields that are as received is what `to_cbor_value` writes of
+/// them.
+pub fn put_is_written()
+    ensures header { (h : HeaderFields) → HasReceived h → header_tree h ≡ Some (header_put h) }
+    ensures protected { (p : ProtectedFields) → ProtectedReceived p
+        → option_map bytes (shown p) ≡ Some (protected_put p) }
+    ensures signature { (s : SignatureFields) → SignatureReceived s
+        → signature_tree s ≡ Some (signature_put s) }
+    ensures signatures { (ss : Signatures) → AllReceived ss
+        → signature_trees ss ≡ Some (signatures_put ss) }
+{}
+
+/// What was read is as received: the calls that write it straight from its fields may be made.
+pub fn read_is_received()
+    ensures header { (n k : ℕ) (t : Tree) (h : HeaderFields) → HasHeader n t h k
+        → HasReceived h }
+    ensures protected { (n k : ℕ) (t : Tree) (p : ProtectedFields) → HasProtected n t p k
+        → ProtectedReceived p }
+    ensures signature { (n k : ℕ) (t : Tree) (s : SignatureFields) → HasSignature n t s k
+        → SignatureReceived s }
+{}
+
+/// So what was read is written straight from its fields as the one value that is written of it, and
+/// a protected header as it was read.
+pub fn read_is_put()
+    ensures header { (n k : ℕ) (t : Tree) (h : HeaderFields) → HasHeader n t h k
+        → header_tree h ≡ Some (header_put h) }
+    ensures protected { (n k : ℕ) (t : Tree) (p : ProtectedFields) → HasProtected n t p k
+        → protected_put p ≡ t }
+    ensures signature { (n k : ℕ) (t : Tree) (s : SignatureFields) → HasSignature n t s k
+        → signature_tree s ≡ Some (signature_put s) }
+{}

@@ -1,0 +1,145 @@
+//! The parts that each message and each recipient begins with.
+ghost use Rattle.std.specs.Prelude.{◌≡◌, MatchResult, OnErr, map, option_map};
+ghost use Rattle.ciborium_value.specs.View.{view};
+ghost use Rattle.coset_labels.specs.Faults.{OrMemory};
+ghost use Rattle.coset_labels.specs.Limits.{nesting_of, layers_of};
+ghost use Rattle.coset_recipients.specs.PartsFields.{no_parts};
+ghost use Rattle.coset_recipients.specs.Results.{Writes};
+ghost use Rattle.coset_recipients.specs.PartShapes.{HasParts};
+ghost use Rattle.coset_recipients.specs.PartsView.{parts_in, parts_view};
+ghost use Rattle.coset_recipients.specs.WrongParts.{WrongParts};
+ghost use Rattle.coset_recipients.specs.PartsWritten.{optional_tree, parts_trees, content_bytes};
+
+use ciborium_value::Value;
+use coset_headers::{Header, ProtectedHeader};
+use coset_labels::{AsCborValue, CoseError, Limits, ValueTryAs};
+use std::alloc::Global;
+
+/// The headers of a message or a recipient, and what it carries: a payload or a ciphertext, or
+/// nothing.
+#[derive(Debug, PartialEq, Eq, Drop)]
+pub struct Parts {
+    /// The protected header.
+    pub protected: ProtectedHeader,
+    /// The unprotected header.
+    pub unprotected: Header,
+    /// What is carried; `None` if it is carried elsewhere.
+    pub content: Option<Vec<u8>>,
+}
+
+/// Reads the three parts from the last to the first, within these limits. `want` names what the
+/// content should have been, for the text of its error. No byte string is copied.
+///
+/// # Errors
+/// A fault that one of the parts has, or `Memory`.
+pub fn read_parts(
+    alloc: Global,
+    protected: Value,
+    unprotected: Value,
+    content: Value,
+    limits: Limits,
+    want: &'static str,
+) -> Result<Parts, CoseError>
+    ensures { MatchResult result
+        (λ p. HasParts (nesting_of limits) (view protected) (view unprotected) (view content)
+        (parts_view p) (layers_of limits))
+        (λ e. OrMemory
+        (WrongParts (nesting_of limits) (view protected) (view unprotected) (view content)
+        (layers_of limits)) e) }
+{
+    let mut parts = Parts {
+        protected: ProtectedHeader::new(alloc),
+        unprotected: Header::new(alloc),
+        content: None,
+    };
+    fill_parts(
+        alloc,
+        protected,
+        unprotected,
+        content,
+        limits,
+        want,
+        &mut parts.protected,
+        &mut parts.unprotected,
+        &mut parts.content,
+    )?;
+    Ok(parts)
+}
+
+/// Reads the three parts into their places, which are empty, as `read_parts` does. After an error
+/// they are empty again.
+///
+/// # Errors
+/// Those of `read_parts`.
+pub fn fill_parts(
+    alloc: Global,
+    protected: Value,
+    unprotected: Value,
+    content: Value,
+    limits: Limits,
+    want: &'static str,
+    into_protected: &mut ProtectedHeader,
+    into_unprotected: &mut Header,
+    into_content: &mut Option<Vec<u8>>,
+) -> Result<(), CoseError>
+    requires empty { parts_in into_protected.old into_unprotected.old into_content.old ≡ no_parts }
+    ensures read { MatchResult result
+        (λ _. HasParts (nesting_of limits) (view protected) (view unprotected) (view content)
+        (parts_in into_protected.new into_unprotected.new into_content.new) (layers_of limits))
+        (λ e. OrMemory
+        (WrongParts (nesting_of limits) (view protected) (view unprotected) (view content)
+        (layers_of limits)) e) }
+    ensures err { OnErr result
+        (parts_in into_protected.new into_unprotected.new into_content.new ≡ no_parts) }
+{
+    let content = content.try_as_bytes_or_nil(want)?;
+    into_unprotected.fill(alloc, unprotected, limits)?;
+    if let Err(error) = into_protected.fill_bstr(alloc, protected, limits) {
+        *into_unprotected = Header::new(alloc);
+        return Err(error);
+    }
+    *into_content = content;
+    Ok(())
+}
+
+/// The values of the three parts, in their order.
+///
+/// # Errors
+/// `DuplicateMapKey` exactly when a label is repeated in a header that has to be encoded, or
+/// `Memory`.
+pub fn write_parts(alloc: Global, parts: Parts) -> Result<Vec<Value>, CoseError>
+    ensures { Writes (parts_trees (parts_view parts)) (λ v. map view v.items) result }
+{
+    let Parts {
+        protected,
+        unprotected,
+        content,
+    } = parts;
+    let protected = protected.cbor_bstr(alloc)?;
+    let unprotected = unprotected.to_cbor_value(alloc)?;
+    let mut values = Vec::new(alloc);
+    values.push(protected)?;
+    values.push(unprotected)?;
+    values.push(optional_value(content))?;
+    Ok(values)
+}
+
+/// The value of bytes, or null if there are none.
+pub fn optional_value(bytes: Option<Vec<u8>>) -> Value
+    ensures { view result ≡ optional_tree (option_map (λ v. v.items) bytes) }
+{
+    match bytes {
+        Some(bytes) => Value::Bytes(bytes),
+        None => Value::Null,
+    }
+}
+
+/// What is carried; empty if it is carried elsewhere.
+pub fn content_bytes(content: &Option<Vec<u8>>) -> &[u8]
+    ensures { result.now ≡ content_bytes (option_map (λ v. v.items) content.now) }
+{
+    match content {
+        Some(content) => content.as_slice(),
+        None => &[],
+    }
+}

@@ -1,2 +1,0 @@
-pub mod OneStructure
-pub mod Writable

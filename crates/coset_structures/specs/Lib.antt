@@ -1,4 +1,0 @@
-pub mod Contexts
-pub mod Covered
-pub mod Structure
-pub mod Titles
