@@ -12,6 +12,41 @@ pub fn first(to: &mut Out, row: &mut &str) {
     }
 }
 
+/// The first head, by the call that gives none.
+pub fn asked(to: &mut Out, row: &mut &str) {
+    let input = words::bytes(to, row);
+    match callers::heads::head_asked(&input) {
+        Ok(head) => to.debug(&head),
+        Err(error) => to.debug(&error),
+    }
+}
+
+/// The number at the front.
+pub fn number(to: &mut Out, row: &mut &str) {
+    let input = words::bytes(to, row);
+    match callers::heads::first_number(&input) {
+        Ok(number) => to.debug(&number),
+        Err(error) => to.debug(&error),
+    }
+}
+
+/// The length of the byte string at the front.
+pub fn string_len(to: &mut Out, row: &mut &str) {
+    let input = words::bytes(to, row);
+    match callers::heads::string_len(&input) {
+        Ok(len) => to.debug(&len),
+        Err(error) => to.debug(&error),
+    }
+}
+
+/// The bytes and the end of a line.
+pub fn line(to: &mut Out, row: &mut &str) {
+    let mut out = Mem::new(words::bytes(to, row));
+    let done = callers::heads::end_line(&mut out);
+    to.note(done);
+    to.hex(out.as_written());
+}
+
 /// The length that the first head, of an array, states.
 pub fn array_len(to: &mut Out, row: &mut &str) {
     let input = words::bytes(to, row);

@@ -6,6 +6,10 @@ use crate::{checking, heads, items, keeping, relaying, signing};
 pub fn answer(to: &mut Out, name: &str, row: &mut &str) {
     match name {
         "first-head" => heads::first(to, row),
+        "head-asked" => heads::asked(to, row),
+        "first-number" => heads::number(to, row),
+        "string-len" => heads::string_len(to, row),
+        "line" => heads::line(to, row),
         "array-len" => heads::array_len(to, row),
         "numbers" => heads::numbers(to, row),
         "shortened" => heads::shortened(to, row),
