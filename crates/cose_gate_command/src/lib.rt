@@ -13,4 +13,3 @@ mod verbose;
 pub use crate::arguments::{Arguments, read_arguments};
 pub use crate::command::{USAGE, program};
 pub use crate::key_file::KeyFile;
-pub use crate::verbose::run_verbose;

@@ -32,32 +32,12 @@ fn asked_reasons<'a>(
     Some(Reasons::new(alloc, keys, aad_len, note))
 }
 
-/// As `run_with` of `cose_gate_program`, and after each line on `err` what is said more, in lines
-/// that begin with two spaces: of a refusal what it means, and why the judge said no; of a stop the
-/// number and the offset of the item, what is wrong with it, and what to do; of KEYS its name, and
-/// what is wrong with it. `file` tells of the file KEYS.
-pub fn run_verbose<'f, 'd, R: Read, W: Write, E: Write>(
-    alloc: Global,
-    terms: Terms,
-    file: KeyFile<'f>,
-    aad: Option<&'d str>,
-    input: &mut R,
-    out: &mut W,
-    err: &mut E,
-) -> u8
-    ensures ran { EndsWithin (limits_of terms) says_yes
-        (option_copied file.entry.bytes) (option_copied aad.entry)
-        (devices_of R.Read W.Write input.old out.old)
-        (devices_of R.Read W.Write input.new out.new) result }
-    ensures kept { R.handle input.new ≡ R.handle input.old }
-    ensures lent { W.handle out.new ≡ W.handle out.old }
-{
-    run_asked(alloc, terms, true, file, aad, input, out, err)
-}
-
-/// As `run_verbose`, or as `run_with` if it isn't verbose. Both are one run over one type of
-/// reader, judge and teller: with two runs the compiler would no longer put what both call into
-/// one function, and each message would take up to 6 % more instructions.
+/// As `run_with` of `cose_gate_program`; if it is verbose, after each line on `err` what is said
+/// more, in lines that begin with two spaces: of a refusal what it means, and why the judge said
+/// no; of a stop the number and the offset of the item, what is wrong with it, and what to do; of
+/// KEYS its name, and what is wrong with it. `file` tells of the file KEYS. Both are one run over
+/// one type of reader, judge and teller: with two runs the compiler would no longer put what both
+/// call into one function, and each message would take up to 6 % more instructions.
 pub(crate) fn run_asked<'f, 'd, R: Read, W: Write, E: Write>(
     alloc: Global,
     terms: Terms,

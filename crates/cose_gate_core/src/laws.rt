@@ -2,7 +2,8 @@
 ghost use Rattle.std.specs.Prelude.{◌≡◌, ℕ, List, Bool, Some, option_map};
 ghost use Rattle.ciborium_value.specs.Encoding.{enc};
 ghost use Rattle.ciborium_value.specs.Tree.{Tree};
-ghost use Rattle.cose_gate_core.specs.Questions.{Question, MessageFields, all_questions, questions, tagged_tree, message_text};
+ghost use Rattle.cose_gate_core.specs.Questions.{Question, MessageFields, all_questions, questions};
+ghost use Rattle.cose_gate_core.specs.Questions.{tagged_tree, message_text};
 ghost use Rattle.cose_gate_core.specs.Findings.{Bounds, Finding, IsJudged, Finds};
 ghost use Rattle.cose_gate_core.specs.Run.{Step, Run, questions_of, output_of};
 

@@ -1,5 +1,5 @@
-//! The gate itself, the judge's trait, and what a judge is asked (RFC 8742, RFC 9052); laws of runs,
-//! whatever the judge. A user names `cose_gate`, which passes it on.
+//! The gate itself, the judge's trait, and what a judge is asked (RFC 8742, RFC 9052); laws of
+//! runs, whatever the judge. A user names `cose_gate`, which passes it on.
 #![tactic(auto)]
 
 mod about;

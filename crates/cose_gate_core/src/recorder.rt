@@ -1,6 +1,7 @@
 //! A judge that records its questions.
 ghost use Rattle.std.specs.Prelude.{◌≡◌, ℕ, List, [], ◌∷◌, ◌++◌, OnOk, OnErr, length, map, Option};
-ghost use Rattle.cose_gate_core.specs.Recorded.{AskedFields, asked_view, kept_of, front_of, is_other, bytes_of};
+ghost use Rattle.cose_gate_core.specs.Recorded.{AskedFields, asked_view, kept_of, front_of};
+ghost use Rattle.cose_gate_core.specs.Recorded.{is_other, bytes_of};
 
 use crate::about::{About, MessageKind};
 use crate::judge::Judge;

@@ -274,8 +274,8 @@ fn write_bar_of_secret<P: fmt::Write>(key: &CoseKey, page: &mut Page<'_, P>) {
 }
 
 /// Writes why a tag isn't the whole tag, if it isn't, and says whether it has. Of a tag of another
-/// length than 32 bytes it says the length, whatever its bytes are, and of one of 32 bytes that it is
-/// another: whoever sends messages and sees the text must not learn how much of a tag is right.
+/// length than 32 bytes it says the length, whatever its bytes are, and of one of 32 bytes that it
+/// is another: whoever sends messages and sees the text must not learn how much of a tag is right.
 pub fn write_wrong_tag<P: fmt::Write>(
     whole: &[u8; TAG],
     tag: &[u8],

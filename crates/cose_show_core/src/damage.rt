@@ -9,8 +9,8 @@ use std::{fmt, io};
 /// So many bytes are shown before the fault, and so many from it on.
 pub const AROUND: usize = 16;
 
-/// Shows what could be read of the item at hand, the fault, and the bytes around it. Of an item that
-/// may hold secrets of keys only the fault is shown, unless they are asked for.
+/// Shows what could be read of the item at hand, the fault, and the bytes around it. Of an item
+/// that may hold secrets of keys only the fault is shown, unless they are asked for.
 ///
 /// # Errors
 /// `Damaged` if nothing else fails.

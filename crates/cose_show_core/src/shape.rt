@@ -112,7 +112,8 @@ fn wrong_content(alloc: Global, name: &str, item: &[u8]) -> Result<Option<WrongP
     }
 }
 
-/// A signature or a recipient that is wrong: its number in its list, from 1, and what is wrong in it.
+/// A signature or a recipient that is wrong: its number in its list, from 1, and what is wrong in
+/// it.
 #[derive(Clone, Copy)]
 struct WrongOne<'a> {
     number: u64,

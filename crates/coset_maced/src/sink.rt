@@ -1,5 +1,5 @@
-//! Writes messages with a tag straight from their fields, without their tags and with them (RFC 9052,
-//! sections 6.1 and 6.2). What is written is as received.
+//! Writes messages with a tag straight from their fields, without their tags and with them (RFC
+//! 9052, sections 6.1 and 6.2). What is written is as received.
 ghost use Rattle.std.specs.Prelude.{OnOk, OnErr};
 ghost use Rattle.ciborium_traits.specs.Events.{events, Puts, Stops};
 ghost use Rattle.coset_maced.specs.View.{mac0_view, mac_view};
