@@ -5,7 +5,7 @@ use cose_show_core::{Cutter, Options, Stop, Words, read_words, show_as};
 use std::io::BufReader;
 
 /// What is shown of an input with these arguments of a command line: the status, the text with a
-/// `|` for each line feed, and why it ended early.
+/// `|` for each line feed, and why it ended early. Of the help, or the version, the first line.
 pub fn show(to: &mut Out, row: &mut &str) {
     let input = words::bytes(to, row);
     let all = words::owned(to, row);
@@ -14,7 +14,7 @@ pub fn show(to: &mut Out, row: &mut &str) {
             let keys = keys_of(to, options);
             add_page(to, options, keys.as_deref(), input.as_slice());
         }
-        Some(Words::Help) => to.text("help"),
+        Some(Words::Text(text)) => to.text(text.lines().next().unwrap_or_default()),
         None => to.text("usage"),
     }
 }

@@ -5,7 +5,8 @@
 
 use ciborium_ll::Io;
 use cose_ask_core::{
-    NotRun, ask, asks_for_help, ended, read_in_blocks, words_of, write_help, write_in_blocks,
+    NotRun, ask, asks_for_help, asks_for_version, ended, read_in_blocks, words_of, write_help,
+    write_in_blocks,
 };
 use cose_gate_program::{Blocks, has_stack};
 use std::env;
@@ -13,6 +14,9 @@ use std::process::ExitCode;
 
 /// The line for other arguments.
 const USAGE: &str = "usage: cose-ask [--strict] [--lines] [AADHEX]\n";
+
+/// What `--version` prints.
+const VERSION: &str = "cose-ask 0.8\n";
 
 /// What `-h` and `--help` print. The script `cose-ask` prints the same.
 const HELP: &str = "\
@@ -44,6 +48,9 @@ fn start(rt: &HostRuntime) -> Result<u8, NotRun> {
     }
     if asks_for_help(words.as_slice()) {
         return write_help(HELP, &mut rt.stdout());
+    }
+    if asks_for_version(words.as_slice()) {
+        return write_help(VERSION, &mut rt.stdout());
     }
     run(rt, words.as_slice())
 }

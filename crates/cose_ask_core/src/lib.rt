@@ -19,5 +19,6 @@ pub use crate::asking::ask;
 pub use crate::not_run::NotRun;
 pub use crate::passing::pass;
 pub use crate::starting::{
-    Content, asks_for_help, ended, read_in_blocks, words_of, write_help, write_in_blocks,
+    Content, asks_for_help, asks_for_version, ended, read_in_blocks, words_of, write_help,
+    write_in_blocks,
 };

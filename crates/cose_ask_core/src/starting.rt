@@ -32,6 +32,14 @@ pub fn asks_for_help(words: &[String]) -> bool {
     }
 }
 
+/// Whether the only argument asks for the version.
+pub fn asks_for_version(words: &[String]) -> bool {
+    match words {
+        [word] => word.as_str() == "--version",
+        _ => false,
+    }
+}
+
 /// A reader in blocks.
 ///
 /// # Errors
@@ -60,7 +68,7 @@ pub fn write_in_blocks<W: io::Write + Drop>(
     }
 }
 
-/// Writes the help, and returns the status.
+/// Writes the help, or the version, and returns the status.
 ///
 /// # Errors
 /// `Output`.
@@ -175,6 +183,7 @@ mod tests {
             let found = words_of(alloc, Ok(args)).expect(&rt, "words");
             assert!(rt; found == words(&rt, alloc, &all[1..]));
             assert_eq!(rt; asks_for_help(&found), is_help);
+            assert!(rt; !asks_for_version(&found));
         }
         for (kind, why) in [
             (io::ErrorKind::InvalidData, NotRun::Usage),
@@ -183,6 +192,8 @@ mod tests {
             let found = words_of(alloc, Err(io::Error::from(kind)));
             assert_eq!(rt; found.err(), Some(why));
         }
+        assert!(rt; asks_for_version(&words(&rt, alloc, &["--version"])));
+        assert!(rt; !asks_for_version(&words(&rt, alloc, &["--version", "it"])));
         let mut page = Vec::new(alloc);
         assert_eq!(rt; write_help("help", &mut page), Ok(0));
         assert_eq!(rt; page.as_slice(), b"help".as_slice());

@@ -12,7 +12,8 @@ ghost use Rattle.cose_gate_program.specs.Program.{devices_of};
 
 use ciborium_ll::{Read, Write};
 use cose_ask_core::{
-    Content, NotRun, asks_for_help, ended, read_in_blocks, words_of, write_help, write_in_blocks,
+    Content, NotRun, asks_for_help, asks_for_version, ended, read_in_blocks, words_of, write_help,
+    write_in_blocks,
 };
 use cose_gate_command::{USAGE, program, read_arguments};
 use cose_gate_program::{Blocks, OutBlocks, has_stack};
@@ -22,6 +23,9 @@ use std::{env, fs};
 
 /// How many bytes are held in front of the blocks that are written.
 const FRONT: usize = 4096;
+
+/// What `--version` prints.
+const VERSION: &str = "cose-gate 0.8\n";
 
 /// What `-h` and `--help` print. The script `cose-gate` prints the same.
 const HELP: &str = "\
@@ -49,6 +53,9 @@ fn start(rt: &HostRuntime) -> Result<u8, NotRun> {
     }
     if asks_for_help(words.as_slice()) {
         return write_help(HELP, &mut rt.stdout());
+    }
+    if asks_for_version(words.as_slice()) {
+        return write_help(VERSION, &mut rt.stdout());
     }
     let keys = read_keys(rt, words.as_slice())?;
     run_with(rt, words.as_slice(), keys)

@@ -13,6 +13,6 @@ use Rattle.cose_gate_command.specs.Ends.{bounds_by}
 abbrev pub Lines : {E F : Type 0} (w : Writes E F) → Option Arguments → Option (List ℕ)
     → Devices → Devices → ℕ → E → E → Type 0
 Lines w None keys old new status err err' =
-    Wrote w err err' (codes "usage: cose-gate KEYS [AADHEX]\n")
+    Wrote w err err' (codes "usage: cose-gate [--strict] [--verbose] KEYS [AADHEX] < INPUT > PASSED\n")
 Lines w (Some a) keys old new status err err' = a.verbose ≡ false
     → EndsTold (bounds_by a.strict) says_yes keys a.aad old new status (writes w err err')

@@ -13,7 +13,7 @@ use cose_gate_program::{Limits, Terms};
 use std::alloc::Global;
 
 /// The line for other arguments.
-pub const USAGE: &str = "usage: cose-gate KEYS [AADHEX]\n";
+pub const USAGE: &str = "usage: cose-gate [--strict] [--verbose] KEYS [AADHEX] < INPUT > PASSED\n";
 
 /// The program over the arguments after its name, if `keys` is what the file holds that they name,
 /// or `fault` says why it can't be read. If they aren't its arguments nothing is read, the

@@ -5,8 +5,8 @@
 
 use ciborium_ll::Io;
 use cose_ask_core::{
-    Content, NotRun, PassArguments, asks_for_help, ended, pass, pass_arguments, read_in_blocks,
-    words_of, write_help, write_in_blocks,
+    Content, NotRun, PassArguments, asks_for_help, asks_for_version, ended, pass, pass_arguments,
+    read_in_blocks, words_of, write_help, write_in_blocks,
 };
 use cose_gate_program::{Blocks, has_stack};
 use std::process::ExitCode;
@@ -14,6 +14,9 @@ use std::{env, fs};
 
 /// The line for other arguments.
 const USAGE: &str = "usage: cose-pass [--strict] ACCEPTED [AADHEX]\n";
+
+/// What `--version` prints.
+const VERSION: &str = "cose-pass 0.8\n";
 
 /// What `-h` and `--help` print. The script `cose-pass` prints the same.
 const HELP: &str = "\
@@ -48,6 +51,9 @@ fn start(rt: &HostRuntime) -> Result<u8, NotRun> {
     }
     if asks_for_help(words.as_slice()) {
         return write_help(HELP, &mut rt.stdout());
+    }
+    if asks_for_version(words.as_slice()) {
+        return write_help(VERSION, &mut rt.stdout());
     }
     match pass_arguments(words.as_slice()) {
         Some(arguments) => run(rt, arguments),

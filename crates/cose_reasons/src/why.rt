@@ -14,7 +14,7 @@ use std::alloc::Global;
 use std::fmt;
 
 /// Why the judge says no to a message that is not a COSE_Mac0.
-pub const OTHER_KIND: &str = "cose-gate judges only COSE_Mac0";
+pub const OTHER_KIND: &str = "cose-gate judges only COSE_Mac0: see cose-verify(1)";
 
 /// So many ids of a set are named.
 const IDS: usize = 8;

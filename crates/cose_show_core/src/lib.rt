@@ -16,5 +16,5 @@ mod words;
 pub use crate::cut::{Cutter, Share};
 pub use crate::printer::Printer;
 pub use crate::show::show_as;
-pub use crate::words::{Cut, HELP, Options, USAGE, Words, read_words};
+pub use crate::words::{Cut, Options, USAGE, Words, read_words};
 pub use cose_reasons::Stop;

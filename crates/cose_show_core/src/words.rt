@@ -7,8 +7,11 @@ pub const USAGE: &str =
                  [--full] [--secrets] [FILE]
        cose-show --cut SIZE DIR [FILE]";
 
+/// What `--version` writes.
+const VERSION: &str = "cose-show 0.8\n";
+
 /// What `--help` writes.
-pub const HELP: &str = "usage: cose-show [--questions] [--strict] [--json] [--aad HEX] [--keys KEYS]
+const HELP: &str = "usage: cose-show [--questions] [--strict] [--json] [--aad HEX] [--keys KEYS]
                  [--full] [--secrets] [FILE]
        cose-show --cut SIZE DIR [FILE]
 
@@ -39,8 +42,8 @@ be written.
 /// What is asked for.
 #[derive(Debug, Clone, Copy, PartialEq, Eq)]
 pub enum Words<'a> {
-    /// The help.
-    Help,
+    /// A text: the help, or the version.
+    Text(&'static str),
     /// The items, or files of them.
     Run(Options<'a>),
 }
@@ -96,8 +99,9 @@ pub fn read_words(all: &[String]) -> Option<Words<'_>> {
             break;
         };
         match word.as_str() {
-            "-h" => return Some(Words::Help),
-            "--help" => return Some(Words::Help),
+            "-h" => return Some(Words::Text(HELP)),
+            "--help" => return Some(Words::Text(HELP)),
+            "--version" => return Some(Words::Text(VERSION)),
             word => read_word(word, &mut words, &mut options)?,
         }
     }
