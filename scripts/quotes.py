@@ -10,7 +10,7 @@ import re
 import sys
 
 TOP = pathlib.Path(__file__).resolve().parent.parent
-PAGES = ["crates/*/CALLING.md", "docs/PORTING.md", "docs/TOKENS.md"]
+PAGES = ["crates/*/CALLING.md", "crates/*/MESSAGES.md", "docs/PORTING.md", "docs/TOKENS.md"]
 SOURCES = ["crates/callers/src/*.rt", "crates/example_*/src/*.rt", "crates/cose_gate_tests/src/program/*.rt",
            "crates/coset_tests/src/together/*.rt"]
 

@@ -9,7 +9,7 @@ import re
 import sys
 
 TOP = pathlib.Path(__file__).resolve().parent.parent
-PAGES = ["*.md", "docs/*.md", "docs/*.1", "crates/*/README.md", "crates/*/CALLING.md", "include/*.h", "cose-*", "scripts/*", "tools/*"] + \
+PAGES = ["*.md", "docs/*.md", "docs/*.1", "crates/*/README.md", "crates/*/CALLING.md", "crates/*/MESSAGES.md", "include/*.h", "cose-*", "scripts/*", "tools/*"] + \
         ["examples/**/*." + kind for kind in ("md", "sh", "py", "c", "go", "rs")]
 TABLE = r"MAINTAINING.md: \| (if|after|argument|buffer|encoding|is|returns|out of|input or|ignored|CPU)[^|]* \|"
 # Each word, and its uses that stay: the reason, and what a line has then, with its page's name in front.

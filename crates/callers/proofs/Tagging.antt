@@ -6,10 +6,10 @@ use Rattle.ciborium_value.specs.Tree.{Tree, tag}
 use Rattle.cose_gate.specs.Questions.{message_text, or_nothing}
 use Rattle.coset_signed.specs.Put.{sign1_put, sign_put, Sign1Received, SignReceived}
 use Rattle.coset_maced.specs.Put.{mac0_put, mac_put, Mac0Received, MacReceived}
-use Rattle.coset_messages.specs.MacedFields.{Mac0Fields, MacFields}
-use Rattle.coset_messages.specs.MacedWritten.{mac0_tree, mac_tree}
-use Rattle.coset_messages.specs.SignedFields.{Sign1Fields, SignFields}
-use Rattle.coset_messages.specs.SignedWritten.{sign1_tree, sign_tree}
+use Rattle.coset.specs.MacedFields.{Mac0Fields, MacFields}
+use Rattle.coset.specs.MacedWritten.{mac0_tree, mac_tree}
+use Rattle.coset.specs.SignedFields.{Sign1Fields, SignFields}
+use Rattle.coset.specs.SignedWritten.{sign1_tree, sign_tree}
 use Rattle.callers.specs.Tagged.{fields_of, tagged_put, AsReceived}
 use Rattle.callers.specs.declared.tagged.Message.{Message}
 use Rattle.callers.specs.declared.tagged.Message.TheVariants.{Sign1, Mac0, Sign, Mac}

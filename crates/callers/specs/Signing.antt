@@ -1,9 +1,9 @@
 -- What is said about a signature or a tag.
 use Rattle.std.specs.Prelude.{◌≡◌, ◌↔◌, ℕ, List, Option, Some, Bool, IsTrue, IsSomeAnd, Result, Ok, Err}
-use Rattle.coset_messages.specs.CallerFault.{Fault}
-use Rattle.coset_messages.specs.CallerFault.TheVariants as fault
-use Rattle.coset_messages.specs.CoseError.{CoseError}
-use Rattle.coset_messages.specs.Faults.{CantWrite}
+use Rattle.coset.specs.CallerFault.{Fault}
+use Rattle.coset.specs.CallerFault.TheVariants as fault
+use Rattle.coset.specs.CoseError.{CoseError}
+use Rattle.coset.specs.Faults.{CantWrite}
 use Rattle.callers.specs.declared.signing.Refused.{Refused}
 
 -- the covered bytes are there, and over them it is good

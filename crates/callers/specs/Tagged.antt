@@ -5,8 +5,8 @@ use Rattle.coset_signed.proofs.Received.{sign1_prop, sign_prop}
 use Rattle.coset_maced.proofs.Received.{mac0_prop, mac_prop}
 use Rattle.coset_signed.specs.Put.{sign1_put, sign_put, Sign1Received, SignReceived}
 use Rattle.coset_maced.specs.Put.{mac0_put, mac_put, Mac0Received, MacReceived}
-use Rattle.coset_messages.specs.MacedView.{mac0_view, mac_view}
-use Rattle.coset_messages.specs.SignedView.{sign1_view, sign_view}
+use Rattle.coset.specs.MacedView.{mac0_view, mac_view}
+use Rattle.coset.specs.SignedView.{sign1_view, sign_view}
 use Rattle.callers.specs.declared.tagged.Message.{Message}
 use Rattle.callers.specs.declared.tagged.Message.TheVariants.{Sign1, Mac0, Sign, Mac}
 

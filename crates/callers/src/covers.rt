@@ -1,17 +1,17 @@
-//! Which bytes a message covers. `coset_messages` is the one crate that it names.
+//! Which bytes a message covers. `coset` is the one crate that it names.
 ghost use Rattle.std.specs.Prelude.{◌≡◌, ℕ, List, Option, Some, MatchResult};
-ghost use Rattle.coset_messages.specs.EncryptedStructure.{encrypt0_covered, encrypt_covered};
-ghost use Rattle.coset_messages.specs.EncryptedView.{encrypt0_view, encrypt_view};
-ghost use Rattle.coset_messages.specs.Faults.{CantWrite};
-ghost use Rattle.coset_messages.specs.MacedStructure.{mac0_covered, mac_covered};
-ghost use Rattle.coset_messages.specs.MacedStructure.{mac0_covered_with, mac_covered_with};
-ghost use Rattle.coset_messages.specs.MacedView.{mac0_view, mac_view};
-ghost use Rattle.coset_messages.specs.SignedStructure.{sign1_covered_with, sign_covered_with};
-ghost use Rattle.coset_messages.specs.SignedView.{sign1_view, sign_view};
-ghost use Rattle.coset_messages.specs.View.{signature_view};
+ghost use Rattle.coset.specs.EncryptedStructure.{encrypt0_covered, encrypt_covered};
+ghost use Rattle.coset.specs.EncryptedView.{encrypt0_view, encrypt_view};
+ghost use Rattle.coset.specs.Faults.{CantWrite};
+ghost use Rattle.coset.specs.MacedStructure.{mac0_covered, mac_covered};
+ghost use Rattle.coset.specs.MacedStructure.{mac0_covered_with, mac_covered_with};
+ghost use Rattle.coset.specs.MacedView.{mac0_view, mac_view};
+ghost use Rattle.coset.specs.SignedStructure.{sign1_covered_with, sign_covered_with};
+ghost use Rattle.coset.specs.SignedView.{sign1_view, sign_view};
+ghost use Rattle.coset.specs.View.{signature_view};
 ghost use Rattle.callers.specs.Signing.{SaysCovered};
 
-use coset_messages::{
+use coset::{
     CoseEncrypt, CoseEncrypt0, CoseError, CoseMac, CoseMac0, CoseSign, CoseSign1, CoseSignature,
 };
 use std::alloc::Global;

@@ -1,16 +1,16 @@
 //! Messages whose payload is carried elsewhere, which the gate refuses, put to a judge of the gate
-//! with that payload. `cose_gate` and `coset_messages` are the crates that it names.
+//! with that payload. `cose_gate` and `coset` are the crates that it names.
 ghost use Rattle.std.specs.Prelude.{◌≡◌, ℕ, List, Some, IfOk};
 ghost use Rattle.cose_gate.specs.Lent.{subject_of};
 ghost use Rattle.cose_gate.specs.Questions.{mac0_question, mac_question, sign_question};
-ghost use Rattle.coset_messages.specs.MacedStructure.{mac0_covered_with, mac_covered_with};
-ghost use Rattle.coset_messages.specs.MacedView.{mac0_view, mac_view};
-ghost use Rattle.coset_messages.specs.SignedStructure.{sign_covered_with};
-ghost use Rattle.coset_messages.specs.SignedView.{sign_view};
-ghost use Rattle.coset_messages.specs.View.{signature_view};
+ghost use Rattle.coset.specs.MacedStructure.{mac0_covered_with, mac_covered_with};
+ghost use Rattle.coset.specs.MacedView.{mac0_view, mac_view};
+ghost use Rattle.coset.specs.SignedStructure.{sign_covered_with};
+ghost use Rattle.coset.specs.SignedView.{sign_view};
+ghost use Rattle.coset.specs.View.{signature_view};
 
 use cose_gate::{About, Judge, MessageKind};
-use coset_messages::{CoseError, CoseMac, CoseMac0, CoseSign, CoseSignature};
+use coset::{CoseError, CoseMac, CoseMac0, CoseSign, CoseSignature};
 use std::alloc::{AllocError, Global};
 
 /// Puts a question to a judge: what it is about, the covered bytes, and the signature or tag.

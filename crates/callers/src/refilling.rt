@@ -12,7 +12,7 @@ ghost use Rattle.coset.specs.ValueView.{view};
 ghost use Rattle.callers.specs.Refilling.{Refilled};
 
 use coset::cbor::Value;
-use coset::laws::messages::{maced, signed};
+use coset::laws::{maced, signed};
 use coset::{CoseError, CoseMac, CoseMac0, CoseSign, CoseSign1, Limits};
 use std::alloc::{AllocError, Global};
 

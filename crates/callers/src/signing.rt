@@ -1,21 +1,21 @@
-//! Messages signed, tagged and verified. It names `coset_messages`, and `cose_hmac` for a key of
+//! Messages signed, tagged and verified. It names `coset`, and `cose_hmac` for a key of
 //! its own.
 ghost use Rattle.std.specs.Prelude.{◌≡◌, ◌↔◌, ℕ, List, None, Some, IsTrue, IfOk, MatchResult};
-ghost use Rattle.coset_messages.specs.Fields.{protected};
-ghost use Rattle.coset_messages.specs.LimitsView.{nesting, layers};
-ghost use Rattle.coset_messages.specs.MacedFields.{Mac0Fields};
-ghost use Rattle.coset_messages.specs.MacedShapes.{HasMac0};
-ghost use Rattle.coset_messages.specs.MacedStructure.{mac0_covered_with};
-ghost use Rattle.coset_messages.specs.Reading.{HasItem, Tagged};
-ghost use Rattle.coset_messages.specs.SignedFields.{Sign1Fields};
-ghost use Rattle.coset_messages.specs.SignedShapes.{HasSign1};
-ghost use Rattle.coset_messages.specs.SignedStructure.{sign1_covered};
-ghost use Rattle.coset_messages.specs.SignedView.{sign1_view};
-ghost use Rattle.coset_messages.specs.View.{header_view};
+ghost use Rattle.coset.specs.Fields.{protected};
+ghost use Rattle.coset.specs.LimitsView.{nesting, layers};
+ghost use Rattle.coset.specs.MacedFields.{Mac0Fields};
+ghost use Rattle.coset.specs.MacedShapes.{HasMac0};
+ghost use Rattle.coset.specs.MacedStructure.{mac0_covered_with};
+ghost use Rattle.coset.specs.Reading.{HasItem, Tagged};
+ghost use Rattle.coset.specs.SignedFields.{Sign1Fields};
+ghost use Rattle.coset.specs.SignedShapes.{HasSign1};
+ghost use Rattle.coset.specs.SignedStructure.{sign1_covered};
+ghost use Rattle.coset.specs.SignedView.{sign1_view};
+ghost use Rattle.coset.specs.View.{header_view};
 ghost use Rattle.callers.specs.Signing.{IsGood, Verified};
 
 use cose_hmac::{hmac_sha256, same_tag};
-use coset_messages::{
+use coset::{
     CoseMac0, CoseSign1, CoseSign1Builder, Fault, Header, TaggedCborSerializable,
 };
 use std::alloc::{AllocError, Global};

@@ -1,5 +1,5 @@
 //! Messages that are as received, written again in their tags straight from their fields, as a gate
-//! writes them. `coset_signed`, `coset_maced`, `coset_messages`, `cose_gate` and `ciborium` are the
+//! writes them. `coset_signed`, `coset_maced`, `coset`, `cose_gate` and `ciborium` are the
 //! crates that it names.
 ghost use Rattle.std.specs.Prelude.{◌≡◌, IfOk};
 ghost use Rattle.ciborium_value.specs.Encoding.{enc};
@@ -9,8 +9,8 @@ ghost use Rattle.callers.specs.Tagged.{fields_of, tagged_put, AsReceived, as_rec
 use ciborium::ser::{Serialize, Sink};
 use ciborium::{Mem, into_writer};
 use coset_maced::{put_tagged_mac, put_tagged_mac0};
-use coset_messages::laws::{maced, signed};
-use coset_messages::{CoseMac, CoseMac0, CoseSign, CoseSign1};
+use coset::laws::{maced, signed};
+use coset::{CoseMac, CoseMac0, CoseSign, CoseSign1};
 use coset_signed::{put_tagged_sign, put_tagged_sign1};
 use std::alloc::{AllocError, Global};
 

@@ -1,100 +1,100 @@
-pub use Rattle.coset_messages.specs.Damage
-pub use Rattle.coset_messages.specs.Front
-pub use Rattle.coset_messages.specs.Canonical
-pub use Rattle.coset_messages.specs.Encoding
-pub use Rattle.coset_messages.specs.Tree
-pub use Rattle.coset_messages.specs.ValueView
-pub use Rattle.coset_messages.specs.Builders
-pub use Rattle.coset_messages.specs.HeaderBuilder
-pub use Rattle.coset_messages.specs.CoseSignatureBuilder
-pub use Rattle.coset_messages.specs.Alone
-pub use Rattle.coset_messages.specs.Contexts
-pub use Rattle.coset_messages.specs.Covered
-pub use Rattle.coset_messages.specs.Fields
-pub use Rattle.coset_messages.specs.Headers
-pub use Rattle.coset_messages.specs.Short
-pub use Rattle.coset_messages.specs.Structure
-pub use Rattle.coset_messages.specs.Titles
-pub use Rattle.coset_messages.specs.View
-pub use Rattle.coset_messages.specs.Written
-pub use Rattle.coset_messages.specs.Wrong
-pub use Rattle.coset_messages.specs.EncryptionContext
-pub use Rattle.coset_messages.specs.MacContext
-pub use Rattle.coset_messages.specs.SignatureContext
-pub use Rattle.coset_messages.specs.CoseSignature
-pub use Rattle.coset_messages.specs.Header
-pub use Rattle.coset_messages.specs.ProtectedHeader
-pub use Rattle.coset_messages.specs.Arrays
-pub use Rattle.coset_messages.specs.Converting
-pub use Rattle.coset_messages.specs.Faults
-pub use Rattle.coset_messages.specs.LabelFields
-pub use Rattle.coset_messages.specs.Kinds
-pub use Rattle.coset_messages.specs.Labels
-pub use Rattle.coset_messages.specs.LimitsView
-pub use Rattle.coset_messages.specs.Names
-pub use Rattle.coset_messages.specs.Orders
-pub use Rattle.coset_messages.specs.Reading
-pub use Rattle.coset_messages.specs.Told
-pub use Rattle.coset_messages.specs.LabelView
-pub use Rattle.coset_messages.specs.CoseError
-pub use Rattle.coset_messages.specs.EndOfFile
-pub use Rattle.coset_messages.specs.CallerFault
-pub use Rattle.coset_messages.specs.Label
-pub use Rattle.coset_messages.specs.Limits
-pub use Rattle.coset_messages.specs.RegisteredLabel
-pub use Rattle.coset_messages.specs.RegisteredLabelWithPrivate
-pub use Rattle.coset_messages.specs.Calls
-pub use Rattle.coset_messages.specs.PartShapes
-pub use Rattle.coset_messages.specs.PartsShort
-pub use Rattle.coset_messages.specs.PartsWritten
-pub use Rattle.coset_messages.specs.WrongParts
-pub use Rattle.coset_messages.specs.RecipientBuilders
-pub use Rattle.coset_messages.specs.RecipientFields
-pub use Rattle.coset_messages.specs.RecipientShapes
-pub use Rattle.coset_messages.specs.RecipientShort
-pub use Rattle.coset_messages.specs.RecipientStructure
-pub use Rattle.coset_messages.specs.RecipientView
-pub use Rattle.coset_messages.specs.RecipientWritten
-pub use Rattle.coset_messages.specs.WrongRecipient
-pub use Rattle.coset_messages.specs.CoseRecipient
-pub use Rattle.coset_messages.specs.CoseRecipientBuilder
-pub use Rattle.coset_messages.specs.Added
-pub use Rattle.coset_messages.specs.SignedFields
-pub use Rattle.coset_messages.specs.SignedShapes
-pub use Rattle.coset_messages.specs.SignedShort
-pub use Rattle.coset_messages.specs.SignedStructure
-pub use Rattle.coset_messages.specs.SignedBuilders
-pub use Rattle.coset_messages.specs.SignedView
-pub use Rattle.coset_messages.specs.SignedWritten
-pub use Rattle.coset_messages.specs.WrongSigned
-pub use Rattle.coset_messages.specs.CoseSign1
-pub use Rattle.coset_messages.specs.CoseSign1Builder
-pub use Rattle.coset_messages.specs.CoseSign
-pub use Rattle.coset_messages.specs.CoseSignBuilder
-pub use Rattle.coset_messages.specs.MacedBuilders
-pub use Rattle.coset_messages.specs.MacedFields
-pub use Rattle.coset_messages.specs.MacedShapes
-pub use Rattle.coset_messages.specs.MacedShort
-pub use Rattle.coset_messages.specs.MacedStructure
-pub use Rattle.coset_messages.specs.MacedView
-pub use Rattle.coset_messages.specs.MacedWritten
-pub use Rattle.coset_messages.specs.WrongMaced
-pub use Rattle.coset_messages.specs.CoseMac0
-pub use Rattle.coset_messages.specs.CoseMac0Builder
-pub use Rattle.coset_messages.specs.CoseMac
-pub use Rattle.coset_messages.specs.CoseMacBuilder
-pub use Rattle.coset_messages.specs.EncryptedBuilders
-pub use Rattle.coset_messages.specs.EncryptedFields
-pub use Rattle.coset_messages.specs.EncryptedShapes
-pub use Rattle.coset_messages.specs.EncryptedShort
-pub use Rattle.coset_messages.specs.EncryptedStructure
-pub use Rattle.coset_messages.specs.EncryptedView
-pub use Rattle.coset_messages.specs.EncryptedWritten
-pub use Rattle.coset_messages.specs.WrongEncrypted
-pub use Rattle.coset_messages.specs.CoseEncrypt0
-pub use Rattle.coset_messages.specs.CoseEncrypt0Builder
-pub use Rattle.coset_messages.specs.CoseEncrypt
-pub use Rattle.coset_messages.specs.CoseEncryptBuilder
+pub use Rattle.coset_base.specs.Damage
+pub use Rattle.coset_base.specs.Front
+pub use Rattle.coset_base.specs.Canonical
+pub use Rattle.coset_base.specs.Encoding
+pub use Rattle.coset_base.specs.Tree
+pub use Rattle.coset_base.specs.ValueView
+pub use Rattle.coset_base.specs.Builders
+pub use Rattle.coset_base.specs.declared.header_builder.HeaderBuilder
+pub use Rattle.coset_base.specs.declared.signature_builder.CoseSignatureBuilder
+pub use Rattle.coset_base.specs.Alone
+pub use Rattle.coset_base.specs.Contexts
+pub use Rattle.coset_base.specs.Covered
+pub use Rattle.coset_base.specs.Fields
+pub use Rattle.coset_base.specs.Headers
+pub use Rattle.coset_base.specs.Short
+pub use Rattle.coset_base.specs.Structure
+pub use Rattle.coset_base.specs.Titles
+pub use Rattle.coset_base.specs.View
+pub use Rattle.coset_base.specs.Written
+pub use Rattle.coset_base.specs.Wrong
+pub use Rattle.coset_base.specs.declared.context.EncryptionContext
+pub use Rattle.coset_base.specs.declared.context.MacContext
+pub use Rattle.coset_base.specs.declared.context.SignatureContext
+pub use Rattle.coset_base.specs.CoseSignature
+pub use Rattle.coset_base.specs.Header
+pub use Rattle.coset_base.specs.ProtectedHeader
+pub use Rattle.coset_base.specs.Arrays
+pub use Rattle.coset_base.specs.Converting
+pub use Rattle.coset_base.specs.Faults
+pub use Rattle.coset_base.specs.LabelFields
+pub use Rattle.coset_base.specs.Kinds
+pub use Rattle.coset_base.specs.Labels
+pub use Rattle.coset_base.specs.LimitsView
+pub use Rattle.coset_base.specs.Names
+pub use Rattle.coset_base.specs.Orders
+pub use Rattle.coset_base.specs.Reading
+pub use Rattle.coset_base.specs.Told
+pub use Rattle.coset_base.specs.LabelView
+pub use Rattle.coset_base.specs.CoseError
+pub use Rattle.coset_base.specs.EndOfFile
+pub use Rattle.coset_base.specs.CallerFault
+pub use Rattle.coset_base.specs.Label
+pub use Rattle.coset_base.specs.Limits
+pub use Rattle.coset_base.specs.RegisteredLabel
+pub use Rattle.coset_base.specs.RegisteredLabelWithPrivate
+pub use Rattle.coset_maced.specs.Calls
+pub use Rattle.coset_maced.specs.PartShapes
+pub use Rattle.coset_maced.specs.PartsShort
+pub use Rattle.coset_maced.specs.PartsWritten
+pub use Rattle.coset_maced.specs.WrongParts
+pub use Rattle.coset_maced.specs.RecipientBuilders
+pub use Rattle.coset_maced.specs.RecipientFields
+pub use Rattle.coset_maced.specs.RecipientShapes
+pub use Rattle.coset_maced.specs.RecipientShort
+pub use Rattle.coset_maced.specs.RecipientStructure
+pub use Rattle.coset_maced.specs.RecipientView
+pub use Rattle.coset_maced.specs.RecipientWritten
+pub use Rattle.coset_maced.specs.WrongRecipient
+pub use Rattle.coset_maced.specs.CoseRecipient
+pub use Rattle.coset_maced.specs.CoseRecipientBuilder
+pub use Rattle.coset_signed.specs.Added
+pub use Rattle.coset_signed.specs.Fields as SignedFields
+pub use Rattle.coset_signed.specs.Shapes as SignedShapes
+pub use Rattle.coset_signed.specs.Short as SignedShort
+pub use Rattle.coset_signed.specs.Structure as SignedStructure
+pub use Rattle.coset_signed.specs.Builders as SignedBuilders
+pub use Rattle.coset_signed.specs.View as SignedView
+pub use Rattle.coset_signed.specs.Written as SignedWritten
+pub use Rattle.coset_signed.specs.Wrong as WrongSigned
+pub use Rattle.coset_signed.specs.declared.sign1.CoseSign1
+pub use Rattle.coset_signed.specs.declared.sign1_builder.CoseSign1Builder
+pub use Rattle.coset_signed.specs.declared.sign.CoseSign
+pub use Rattle.coset_signed.specs.declared.sign_builder.CoseSignBuilder
+pub use Rattle.coset_maced.specs.Builders as MacedBuilders
+pub use Rattle.coset_maced.specs.Fields as MacedFields
+pub use Rattle.coset_maced.specs.Shapes as MacedShapes
+pub use Rattle.coset_maced.specs.Short as MacedShort
+pub use Rattle.coset_maced.specs.Structure as MacedStructure
+pub use Rattle.coset_maced.specs.View as MacedView
+pub use Rattle.coset_maced.specs.Written as MacedWritten
+pub use Rattle.coset_maced.specs.Wrong as WrongMaced
+pub use Rattle.coset_maced.specs.declared.mac0.CoseMac0
+pub use Rattle.coset_maced.specs.declared.mac0_builder.CoseMac0Builder
+pub use Rattle.coset_maced.specs.declared.mac.CoseMac
+pub use Rattle.coset_maced.specs.declared.mac_builder.CoseMacBuilder
+pub use Rattle.coset_encrypted.specs.Builders as EncryptedBuilders
+pub use Rattle.coset_encrypted.specs.Fields as EncryptedFields
+pub use Rattle.coset_encrypted.specs.Shapes as EncryptedShapes
+pub use Rattle.coset_encrypted.specs.Short as EncryptedShort
+pub use Rattle.coset_encrypted.specs.Structure as EncryptedStructure
+pub use Rattle.coset_encrypted.specs.View as EncryptedView
+pub use Rattle.coset_encrypted.specs.Written as EncryptedWritten
+pub use Rattle.coset_encrypted.specs.Wrong as WrongEncrypted
+pub use Rattle.coset_encrypted.specs.declared.encrypt0.CoseEncrypt0
+pub use Rattle.coset_encrypted.specs.declared.encrypt0_builder.CoseEncrypt0Builder
+pub use Rattle.coset_encrypted.specs.declared.encrypt.CoseEncrypt
+pub use Rattle.coset_encrypted.specs.declared.encrypt_builder.CoseEncryptBuilder
 pub use Rattle.coset_keys.specs.Builders as KeyBuilders
 pub use Rattle.coset_keys.specs.Fields as KeyFields
 pub use Rattle.coset_keys.specs.Keys

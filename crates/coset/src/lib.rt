@@ -17,14 +17,17 @@ pub use coset_keys::{
     CoseKey, CoseKeyBuilder, CoseKeySet, KeyOperation, MlDsaVariant, ParseSec1OctetStringError,
     ToSec1OctetStringError,
 };
-pub use coset_messages::{
+pub use coset_base::{
     Algorithm, AsCborValue, AsWritten, BytesTitle, CborOrdering, CborSerializable, ContentType,
-    CoseEncrypt, CoseEncrypt0, CoseEncrypt0Builder, CoseEncryptBuilder, CoseError, CoseMac,
-    CoseMac0, CoseMac0Builder, CoseMacBuilder, CoseRecipient, CoseRecipientBuilder, CoseSign,
-    CoseSign1, CoseSign1Builder, CoseSignBuilder, CoseSignature, CoseSignatureBuilder,
-    EncryptionContext, EndOfFile, Fault, Header, HeaderBuilder, KeyType, Label, Limits, MacContext,
-    ProtectedHeader, RegisteredLabel, RegisteredLabelWithPrivate, Result, SignatureContext,
-    TaggedCborSerializable, ValueTryAs, bytes_title, cbor_type_error, enc_structure_data,
-    enc_structure_in, iana, mac_structure_data, mac_structure_in, read_to_value,
-    sig_structure_data, sig_structure_in, to_cbor_array, write_to_vec,
+    CoseError, CoseSignature, CoseSignatureBuilder, EncryptionContext, EndOfFile, Fault, Header,
+    HeaderBuilder, KeyType, Label, Limits, MacContext, ProtectedHeader, RegisteredLabel,
+    RegisteredLabelWithPrivate, Result, SignatureContext, TaggedCborSerializable, ValueTryAs,
+    bytes_title, cbor_type_error, enc_structure_data, enc_structure_in, iana, mac_structure_data,
+    mac_structure_in, read_to_value, sig_structure_data, sig_structure_in, to_cbor_array,
+    write_to_vec,
 };
+pub use coset_encrypted::{CoseEncrypt, CoseEncrypt0, CoseEncrypt0Builder, CoseEncryptBuilder};
+pub use coset_maced::{
+    CoseMac, CoseMac0, CoseMac0Builder, CoseMacBuilder, CoseRecipient, CoseRecipientBuilder,
+};
+pub use coset_signed::{CoseSign, CoseSign1, CoseSign1Builder, CoseSignBuilder};

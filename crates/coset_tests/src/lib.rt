@@ -1,6 +1,6 @@
 //! Tests of COSE, by the public names of `coset`: values by builders, large values, copies, and
-//! messages, keys and claims together. `coset_signed_tests` and `coset_recipients_tests` test the
-//! messages.
+//! messages, keys and claims together; and of the messages, by the crates that have them: what
+//! signers, verifiers and ciphers are handed, what is met first, and refused memory.
 #![tactic(auto)]
 
 #[cfg(test)]
@@ -15,5 +15,9 @@ mod kdf;
 mod keys;
 #[cfg(test)]
 mod labels;
+#[cfg(test)]
+mod recipients;
+#[cfg(test)]
+mod signed;
 #[cfg(test)]
 mod together;

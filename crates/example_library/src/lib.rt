@@ -1,5 +1,5 @@
 //! Types of one's own, read and written, over `ciborium`; headers, over `coset_base`; and a message
-//! opened by a cipher of one's own, over `coset_messages`.
+//! opened by a cipher of one's own, over `coset`.
 #![tactic(auto)]
 
 pub mod encrypted;

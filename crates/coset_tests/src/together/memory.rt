@@ -2,6 +2,7 @@
 //! memory that is refused: they return `Memory` then. All memory is asked for in functions that
 //! return `Memory` themselves, so `refused_memory_is_the_answer` also holds if one allocation is
 //! refused, whichever it is.
+use crate::checks::may_be_refused;
 use coset::cbor::Value;
 use coset::cwt::{ClaimsSet, ClaimsSetBuilder};
 use coset::{
@@ -189,16 +190,6 @@ fn of_builders(alloc: Global) -> [Result<bool, CoseError>; 4] {
 fn memory_is_enough(rt: HostRuntime) {
     assert_eq!(rt; of_bytes(rt.alloc()), [Ok(true); 5]);
     assert_eq!(rt; of_builders(rt.alloc()), [Ok(true); 4]);
-}
-
-/// Memory was enough for each call, or the result is that it was refused.
-fn may_be_refused(rt: &impl Abort, answers: &[Result<bool, CoseError>]) {
-    for answer in answers {
-        assert!(rt;
-            matches!(answer, Ok(true) | Err(CoseError::Memory)),
-            "{answers:?}"
-        );
-    }
 }
 
 #[test]

@@ -1,7 +1,8 @@
 //! Messages with one signature. Expected bytes and texts are written out by hand.
-use crate::tools::{
-    LONG, Message, Met, UNFIT, echo, equal, es256, give, gives, is_elsewhere, is_refilled,
-    is_verified, is_verified_elsewhere, never, repeated, same, watched, writes, writes_untagged,
+use crate::checks::{LONG, Met, give, gives, same, watched};
+use crate::signed::tools::{
+    Message, UNFIT, echo, equal, es256, is_elsewhere, is_refilled, is_verified,
+    is_verified_elsewhere, never, repeated, writes, writes_untagged,
 };
 use ciborium_value::Value;
 use coset_headers::{CoseSignature, Header};

@@ -1,9 +1,9 @@
 //! Authenticated messages by builders, and what their closures are handed. Expected bytes are
 //! written out by hand.
-use crate::tools::{
-    ASKED, LONG, MISSING, Maced, Message, Met, content, fails, give, gives, is_refilled,
-    is_verified, join, makes, meets_in_order, missing, owned, repeated, same, watched,
-    with_algorithm,
+use crate::checks::{LONG, Met, give, gives, owned, same, watched};
+use crate::recipients::tools::{
+    ASKED, MISSING, Maced, Message, content, fails, is_refilled, is_verified, join, makes,
+    meets_in_order, missing, repeated, with_algorithm,
 };
 use ciborium_value::Value;
 use coset_base::HeaderBuilder;

@@ -1,9 +1,9 @@
 //! Messages with several signatures. Expected bytes and texts are written out by hand.
-use crate::sign1::sign1_repeated;
-use crate::tools::{
-    LONG, MISMATCH, Message, Met, Row, UNFIT, echo, equal, es256, give, gives, is_elsewhere,
-    is_not_signed, is_refilled, is_verified, is_verified_elsewhere, never, repeated, same,
-    verifies, watched, writes, writes_untagged,
+use crate::checks::{LONG, Met, give, gives, same, watched};
+use crate::signed::sign1::sign1_repeated;
+use crate::signed::tools::{
+    MISMATCH, Message, Row, UNFIT, echo, equal, es256, is_elsewhere, is_not_signed, is_refilled,
+    is_verified, is_verified_elsewhere, never, repeated, verifies, writes, writes_untagged,
 };
 use ciborium_value::Value;
 use coset_base::CoseSignatureBuilder;

@@ -2,13 +2,14 @@
 //! `Memory`, and no signer and no verifier was asked (`watched!`). All memory here is asked for in
 //! functions that return `Memory` themselves, so `refused_memory_is_the_answer` also holds if one
 //! allocation is refused, whichever it is.
-use crate::sign::{
+use crate::checks::{Met, flat, may_be_refused, same};
+use crate::signed::sign::{
     sign_is_given, sign_is_given_elsewhere, sign_is_verified, sign_is_verified_elsewhere,
 };
-use crate::sign1::{
+use crate::signed::sign1::{
     sign1_is_given, sign1_is_given_elsewhere, sign1_is_verified, sign1_is_verified_elsewhere,
 };
-use crate::tools::{Met, is_written_back, same};
+use crate::signed::tools::is_written_back;
 use coset_labels::{CoseError, Fault};
 use coset_signed::{CoseSign, CoseSign1};
 use std::alloc::Global;
@@ -25,16 +26,6 @@ const SIGN: &[u8] = &[
     0xd8, 98, 0x84, 0x40, 0xa0, 0x42, 0x68, 0x69, 0x82, 0x83, 0x43, 0xa1, 1, 0x26, 0xa0, 0x41, 1,
     0x83, 0x40, 0xa0, 0x41, 2,
 ];
-
-/// What was met by a call whose closures fail only if out of memory, or if a signature isn't the
-/// wanted one.
-fn flat(answer: Result<bool, Met>) -> Result<bool, CoseError> {
-    match answer {
-        Ok(is_so) => Ok(is_so),
-        Err(Fault::Caller(error)) => Err(error),
-        Err(Fault::Cose(error)) => Err(error),
-    }
-}
 
 /// What calls of messages with one signature return.
 fn of_sign1(alloc: Global) -> [Result<bool, CoseError>; 5] {
@@ -63,16 +54,6 @@ fn memory_is_enough(rt: HostRuntime) {
     let alloc = rt.alloc();
     same(&rt, &of_sign1(alloc), &[Ok(true); 5], "one signature");
     same(&rt, &of_sign(alloc), &[Ok(true); 5], "several signatures");
-}
-
-/// Memory was enough for each call, or the result is that it was refused.
-fn may_be_refused(rt: &impl Abort, answers: &[Result<bool, CoseError>]) {
-    for answer in answers {
-        assert!(rt;
-            matches!(answer, Ok(true) | Err(CoseError::Memory)),
-            "{answers:?}"
-        );
-    }
 }
 
 #[test]

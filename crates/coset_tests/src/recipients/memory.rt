@@ -2,12 +2,13 @@
 //! `Memory`, and no cipher, signer or verifier was asked (`watched!`). All memory here is asked for
 //! in functions that return `Memory` themselves, so `refused_memory_is_the_answer` also holds if
 //! one allocation is refused, whichever it is.
-use crate::encrypted::{
+use crate::checks::{Met, flat, may_be_refused, same};
+use crate::recipients::encrypted::{
     encrypt_is_decrypted, encrypt_is_given, encrypt0_is_decrypted, encrypt0_is_given,
 };
-use crate::maced::{mac_is_given, mac_is_verified, mac0_is_given, mac0_is_verified};
-use crate::recipients::{recipient_is_decrypted, recipient_is_given};
-use crate::tools::{Met, is_read_again, is_written_back, same};
+use crate::recipients::maced::{mac_is_given, mac_is_verified, mac0_is_given, mac0_is_verified};
+use crate::recipients::parties::{recipient_is_decrypted, recipient_is_given};
+use crate::recipients::tools::{is_read_again, is_written_back};
 use ciborium_value::Value;
 use coset_encrypted::{CoseEncrypt, CoseEncrypt0};
 use coset_labels::{CborSerializable, CoseError, Fault, Limits};
@@ -73,16 +74,6 @@ fn are_written_back(alloc: Global) -> Result<bool, CoseError> {
     Ok(is_written_back && is_read_again)
 }
 
-/// What was met by a call whose closures fail only if out of memory, or if a part is missing, and
-/// none is.
-fn flat(answer: Result<bool, Met>) -> Result<bool, CoseError> {
-    match answer {
-        Ok(is_so) => Ok(is_so),
-        Err(Fault::Caller(error)) => Err(error),
-        Err(Fault::Cose(error)) => Err(error),
-    }
-}
-
 /// What calls of recipients return.
 fn of_recipients(alloc: Global) -> [Result<bool, CoseError>; 3] {
     [
@@ -122,16 +113,6 @@ fn memory_is_enough(rt: HostRuntime) {
     same(&rt, &of_recipients(alloc), &[Ok(true); 3], "recipients");
     same(&rt, &of_encrypted(alloc), &[Ok(true); 6], "encrypted");
     same(&rt, &of_maced(alloc), &[Ok(true); 6], "authenticated");
-}
-
-/// Memory was enough for each call, or the result is that it was refused.
-fn may_be_refused(rt: &impl Abort, answers: &[Result<bool, CoseError>]) {
-    for answer in answers {
-        assert!(rt;
-            matches!(answer, Ok(true) | Err(CoseError::Memory)),
-            "{answers:?}"
-        );
-    }
 }
 
 #[test]

@@ -2,11 +2,12 @@
 //! hand.
 ghost use Rattle.coset_recipients.specs.Structure.{IsRecipientContext};
 
-use crate::tools::{
-    Encrypted, LONG, MISSING, Message, Met, copy_gives, fails, give, gives, is_decrypted, join,
-    makes, meets_in_order, missing, owned, repeated, watched, with_algorithm,
+use crate::checks::{LONG, Met, give, gives, owned, watched};
+use crate::recipients::tools::{
+    Encrypted, MISSING, Message, copy_gives, fails, is_decrypted, join, makes, meets_in_order,
+    missing, repeated, with_algorithm,
 };
-use crate::{encrypted, maced};
+use crate::recipients::{encrypted, maced};
 use coset_base::{EncryptionContext, HeaderBuilder};
 use coset_labels::{CoseError, Fault, iana};
 use coset_recipients::{CoseRecipient, CoseRecipientBuilder};

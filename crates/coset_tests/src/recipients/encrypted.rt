@@ -1,8 +1,9 @@
 //! Encrypted messages by builders, and what their ciphers are handed. Expected bytes are written
 //! out by hand.
-use crate::tools::{
-    ASKED, Encrypted, LONG, MISSING, Message, Met, decrypts, fails, give, gives, is_decrypted,
-    join, makes, meets_in_order, missing, owned, read, repeated, same, watched, with_algorithm,
+use crate::checks::{LONG, Met, give, gives, owned, same, watched};
+use crate::recipients::tools::{
+    ASKED, Encrypted, MISSING, Message, decrypts, fails, is_decrypted, join, makes, meets_in_order,
+    missing, read, repeated, with_algorithm,
 };
 use coset_base::HeaderBuilder;
 use coset_encrypted::{CoseEncrypt, CoseEncrypt0, CoseEncrypt0Builder, CoseEncryptBuilder};

@@ -1,4 +1,5 @@
 //! What the tests share.
+use crate::checks::{Met, gives, is_hex, same};
 use ciborium_value::Value;
 use coset_base::HeaderBuilder;
 use coset_headers::{CoseSignature, Header};
@@ -6,9 +7,6 @@ use coset_labels::{CborSerializable, CoseError, Fault, TaggedCborSerializable, i
 use std::alloc::{AllocError, Global};
 use std::fmt::Debug;
 use std::process::Abort;
-
-/// What a call meets that asks a closure of the tests.
-pub(crate) type Met = Fault<CoseError>;
 
 /// The error of a verifier that wants another signature or structure.
 pub(crate) const MISMATCH: CoseError = CoseError::UnexpectedItem("a signature", "another one");
@@ -49,70 +47,13 @@ pub(crate) fn repeated(rt: &impl Abort, alloc: Global) -> Header {
         .build()
 }
 
-/// Both are the same.
-pub(crate) fn same<T: PartialEq + Debug>(rt: &impl Abort, got: &T, want: &T, what: &str) {
-    assert_eq!(rt; *got, *want, "{what}");
-}
-
-/// These bytes are the ones in hex.
-pub(crate) fn is_hex(rt: &impl Abort, alloc: Global, bytes: &[u8], want: &str) {
-    let text = hex::encode(alloc, bytes).expect(rt, "no memory");
-    same(rt, &text.as_str(), &want, "bytes");
-}
-
-/// What was made are these bytes in hex.
-pub(crate) fn gives<E: Debug + Drop>(
-    rt: &impl Abort,
-    alloc: Global,
-    made: Result<Vec<u8>, E>,
-    want: &str,
-) {
-    let made = made.expect(rt, "bytes");
-    is_hex(rt, alloc, made.as_slice(), want);
-}
-
 /// Two texts of bytes in hex.
 pub(crate) type Row = (&'static str, &'static str);
-
-/// 300 bytes: a payload, so that a signer which gives what it is handed gives more, or what a
-/// signer gives.
-pub(crate) const LONG: &[u8] = &[7; 300];
-
-/// The error of a call that asked and then met a fault of its own, or returned the result of a
-/// closure that it hadn't asked.
-const UNTRUE: CoseError = CoseError::UnexpectedItem("a call", "another one");
-
-/// What a call returns, after a check that its closure was asked exactly when the call met no
-/// fault of its own, such as being out of memory.
-pub(crate) fn watch<T: Drop>(is_asked: bool, answer: Result<T, Met>) -> Result<T, Met> {
-    if is_asked == matches!(answer, Err(Fault::Cose(_))) {
-        return Err(Fault::Caller(UNTRUE));
-    }
-    answer
-}
-
-/// What a call returns whose closure sets this flag: `watched!(asked, CALL)`.
-macro_rules! watched {
-    ($asked:ident, $call:expr) => {{
-        let mut is_asked = false;
-        let $asked = &mut is_asked;
-        let answer = $call;
-        $crate::tools::watch(is_asked, answer)
-    }};
-}
-
-pub(crate) use watched;
 
 /// A signer that gives what it is handed, and tells that it was asked.
 pub(crate) fn echo(alloc: Global, data: &[u8], asked: &mut bool) -> Result<Vec<u8>, CoseError> {
     *asked = true;
     Ok(data.to_vec(alloc)?)
-}
-
-/// A signer that gives these bytes, and tells that it was asked.
-pub(crate) fn give(made: Vec<u8>, asked: &mut bool) -> Vec<u8> {
-    *asked = true;
-    made
 }
 
 /// A signed message, as the tests see it. If it has one signature, that is the one at 0.

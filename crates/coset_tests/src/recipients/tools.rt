@@ -1,4 +1,5 @@
 //! What the tests share.
+use crate::checks::{LONG, Met, gives, is_hex, same};
 use ciborium_value::Value;
 use coset_base::HeaderBuilder;
 use coset_headers::Header;
@@ -6,9 +7,6 @@ use coset_labels::{CborSerializable, CoseError, Fault, TaggedCborSerializable, i
 use std::alloc::{AllocError, Global};
 use std::fmt::Debug;
 use std::process::Abort;
-
-/// What a call meets that asks a closure of the tests.
-pub(crate) type Met = Fault<CoseError>;
 
 /// The error of a part that is missing.
 pub(crate) const MISSING: CoseError = CoseError::UnexpectedItem("nothing", "a part");
@@ -38,35 +36,6 @@ fn joined(alloc: Global, first: &[u8], second: &[u8]) -> Result<Vec<u8>, CoseErr
     Ok(all)
 }
 
-/// 300 bytes: a plaintext or a payload, so that a closure which gives what it is handed gives more,
-/// or what a closure gives.
-pub(crate) const LONG: &[u8] = &[7; 300];
-
-/// The error of a call that asked and then met a fault of its own, or returned the result of a
-/// closure that it hadn't asked.
-const UNTRUE: CoseError = CoseError::UnexpectedItem("a call", "another one");
-
-/// What a call returns, after a check that its closure was asked exactly when the call met no
-/// fault of its own, such as being out of memory.
-pub(crate) fn watch<T: Drop>(is_asked: bool, answer: Result<T, Met>) -> Result<T, Met> {
-    if is_asked == matches!(answer, Err(Fault::Cose(_))) {
-        return Err(Fault::Caller(UNTRUE));
-    }
-    answer
-}
-
-/// What a call returns whose closure sets this flag: `watched!(asked, CALL)`.
-macro_rules! watched {
-    ($asked:ident, $call:expr) => {{
-        let mut is_asked = false;
-        let $asked = &mut is_asked;
-        let answer = $call;
-        $crate::tools::watch(is_asked, answer)
-    }};
-}
-
-pub(crate) use watched;
-
 /// Two byte strings, one after the other: what a closure was handed, which tells that it was asked.
 pub(crate) fn join(
     alloc: Global,
@@ -78,20 +47,9 @@ pub(crate) fn join(
     joined(alloc, first, second)
 }
 
-/// A closure that gives these bytes, and tells that it was asked.
-pub(crate) fn give(made: Vec<u8>, asked: &mut bool) -> Vec<u8> {
-    *asked = true;
-    made
-}
-
 /// A header with this algorithm.
 pub(crate) fn with_algorithm(alloc: Global, alg: iana::Algorithm) -> Header {
     HeaderBuilder::new(alloc).algorithm(alg).build()
-}
-
-/// These bytes in memory of their own.
-pub(crate) fn owned(rt: &impl Abort, alloc: Global, bytes: &[u8]) -> Vec<u8> {
-    bytes.to_vec(alloc).expect(rt, "no memory")
 }
 
 /// A header that can't be written.
@@ -112,28 +70,6 @@ pub(crate) fn in_order() -> (Option<Met>, Option<Met>, Option<Met>) {
         Some(Fault::Cose(CoseError::DuplicateMapKey)),
         Some(Fault::Caller(ASKED)),
     )
-}
-
-/// Both are the same.
-pub(crate) fn same<T: PartialEq + Debug>(rt: &impl Abort, got: &T, want: &T, what: &str) {
-    assert_eq!(rt; *got, *want, "{what}");
-}
-
-/// These bytes are the ones in hex.
-pub(crate) fn is_hex(rt: &impl Abort, alloc: Global, bytes: &[u8], want: &str) {
-    let text = hex::encode(alloc, bytes).expect(rt, "no memory");
-    same(rt, &text.as_str(), &want, "bytes");
-}
-
-/// What was made are these bytes in hex.
-pub(crate) fn gives<E: Debug + Drop>(
-    rt: &impl Abort,
-    alloc: Global,
-    made: Result<Vec<u8>, E>,
-    want: &str,
-) {
-    let made = made.expect(rt, want);
-    is_hex(rt, alloc, made.as_slice(), want);
 }
 
 /// The bytes of this hex.

@@ -1,6 +1,6 @@
 //! A firmware manifest: a message with one signature, which covers an image that is carried
 //! elsewhere.
-use crate::tools::same;
+use crate::checks::same;
 use coset_base::HeaderBuilder;
 use coset_labels::{Fault, TaggedCborSerializable, iana};
 use coset_signed::{CoseSign1, CoseSign1Builder};
