@@ -2,7 +2,7 @@
 use crate::out::{NoAnswer, Out};
 use crate::words;
 use ciborium_ll::Io;
-use cose_ask_core::{NotRun, ask, ended, pass, pass_arguments};
+use cose_gate_command::{NotRun, ask, ended, pass, pass_arguments};
 use cose_gate::{Limits, Mem, Terms, Write};
 use std::alloc::Global;
 use std::io::{BufWriter, Cursor};

@@ -11,11 +11,10 @@ ghost use Rattle.cose_gate_command.specs.Telling.{Lines};
 ghost use Rattle.cose_gate_program.specs.Program.{devices_of};
 
 use ciborium_ll::{Read, Write};
-use cose_ask_core::{
-    Content, NotRun, asks_for_help, asks_for_version, ended, read_in_blocks, words_of, write_help,
-    write_in_blocks,
+use cose_gate_command::{
+    Content, NotRun, USAGE, asks_for_help, asks_for_version, ended, program, read_arguments,
+    read_in_blocks, words_of, write_help, write_in_blocks,
 };
-use cose_gate_command::{USAGE, program, read_arguments};
 use cose_gate_program::{Blocks, OutBlocks, has_stack};
 use std::alloc::Global;
 use std::process::ExitCode;

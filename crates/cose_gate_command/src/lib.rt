@@ -1,15 +1,35 @@
-//! The command line of `cose-gate`: its arguments, its run, and what `--verbose` says more.
+//! The command lines of `cose-gate`, `cose-ask` and `cose-pass`: how a program starts and ends, its
+//! arguments and its run; what `--verbose` says more; questions as lines of text, and the file of
+//! accepted records.
 #![tactic(auto)]
 
+mod accepted;
 mod arguments;
+mod asking;
 mod command;
 mod counted;
+mod ending;
 mod explained;
+mod framing;
 mod key_file;
+mod lines;
 mod more;
+mod not_run;
+mod pass_arguments;
+mod passing;
+mod question;
 mod said;
+mod starting;
 mod verbose;
 
 pub use crate::arguments::{Arguments, read_arguments};
+pub use crate::asking::ask;
 pub use crate::command::{USAGE, program};
 pub use crate::key_file::KeyFile;
+pub use crate::not_run::NotRun;
+pub use crate::pass_arguments::{PassArguments, pass_arguments};
+pub use crate::passing::pass;
+pub use crate::starting::{
+    Content, asks_for_help, asks_for_version, ended, read_in_blocks, words_of, write_help,
+    write_in_blocks,
+};

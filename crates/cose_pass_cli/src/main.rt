@@ -4,7 +4,7 @@
 #![tactic(auto)]
 
 use ciborium_ll::Io;
-use cose_ask_core::{
+use cose_gate_command::{
     Content, NotRun, PassArguments, asks_for_help, asks_for_version, ended, pass, pass_arguments,
     read_in_blocks, words_of, write_help, write_in_blocks,
 };

@@ -1,5 +1,5 @@
 //! The run of `cose-ask`.
-use crate::arguments::{ask_arguments, read_aad};
+use crate::pass_arguments::{ask_arguments, read_aad};
 use crate::ending::Ending;
 use crate::lines::write_questions;
 use crate::not_run::NotRun;

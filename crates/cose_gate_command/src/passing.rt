@@ -1,6 +1,6 @@
 //! The run of `cose-pass`.
 use crate::accepted::read_accepted;
-use crate::arguments::{PassArguments, read_aad};
+use crate::pass_arguments::{PassArguments, read_aad};
 use crate::not_run::NotRun;
 use ciborium_ll::{Read, Write};
 use cose_gate_program::{Limits, Terms, run_judged};

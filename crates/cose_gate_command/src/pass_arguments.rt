@@ -1,4 +1,4 @@
-//! The arguments of the command line.
+//! The arguments of `cose-ask` and `cose-pass`.
 use crate::not_run::NotRun;
 use hex::FromHexError;
 use std::alloc::Global;
