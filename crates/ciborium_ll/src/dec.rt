@@ -1,6 +1,6 @@
 //! Reads heads and bytes.
 ghost use Rattle.std.specs.Prelude.{◌≡◌, ◌≢◌, ◌<◌, ◌≤◌, ◌+◌, ◌^◌, ◌∷◌, ◌++◌, [], ℕ, List, ⊤};
-ghost use Rattle.std.specs.Prelude.{OnOk, OnErr, IsTrue, IsFalse};
+ghost use Rattle.std.specs.Prelude.{◌/◌, ◌%◌, OnOk, OnErr, IsTrue, IsFalse};
 ghost use Rattle.std.specs.Prelude.{IfOk, IfErr, IfSome, IfNone};
 ghost use Rattle.std.specs.Prelude.{is_some, length, take, slice_index_or};
 ghost use Rattle.std.specs.Io.KnownBytes.{Consumes, Keeps, prepend_known};
@@ -181,8 +181,8 @@ impl<R: Read> Decoder<R> {
         self.read_head()
     }
 
-    /// Takes the next head, if nine bytes are at hand and it has a number, and says whether it did.
-    /// After `false` nothing has changed, and `pull_head` still takes it.
+    /// Takes the next head, if nine bytes are at hand, or it is one byte and that is at hand, and
+    /// says whether it did. After `false` nothing has changed, and `pull_head` still takes it.
     pub fn take_head(&mut self) -> bool
         requires fresh { waiting_of self.old ≡ None }
         ensures taken { IsTrue result → Takes (seen R.Read self.old) (seen R.Read self.new)
@@ -368,16 +368,26 @@ impl<R: Read> Decoder<R> {
         if self.read > usize::MAX - 9 {
             return false;
         }
-        let [first, a, b, c, d, e, f, g, h, ..] = self.reader.held() else {
+        let held = self.reader.held();
+        let [first, ..] = held else {
             return false;
         };
         let first = *first;
-        let next = [*a, *b, *c, *d, *e, *f, *g, *h];
         let info = first % 32;
+        if info == 31 {
+            return is_head(first / 32, info, self.number) && self.take_byte(first, self.number);
+        }
+        if info < 24 {
+            numbered_head(first / 32, info, u64::from(info));
+            return self.take_byte(first, u64::from(info));
+        }
+        let [_, a, b, c, d, e, f, g, h, ..] = held else {
+            return false;
+        };
         if info > 27 {
             return false;
         }
-        let (number, size) = number_at_hand(info, next);
+        let (number, size) = number_at_hand(info, [*a, *b, *c, *d, *e, *f, *g, *h]);
         if !self.reader.take(1 + size) {
             return false;
         }
@@ -385,6 +395,32 @@ impl<R: Read> Decoder<R> {
         self.first = first;
         self.number = number;
         numbered_head(first / 32, info, number);
+        true
+    }
+
+    /// Takes a head of this one byte, which is at hand.
+    fn take_byte(&mut self, first: u8, value: u64) -> bool
+        requires fresh { self.old.waiting ≡ None }
+        requires room { self.old.read + 1 < 2 ^ 64 }
+        requires hand { IfSome (R.left self.old.reader) (λ xs. StartsWith xs (first ∷ [])) }
+        requires some { 1 ≤ R.at_hand self.old.reader }
+        requires title { Title (first ∷ []) (header_by (first / 32) (first % 32) value) }
+        requires shortest { IsShortest (needs_width (first / 32) (first % 32) value) (first ∷ [])
+            (header_by (first / 32) (first % 32) value) }
+        ensures taken { IsTrue result → Takes (raw R.Read self.old) (raw R.Read self.new)
+            (λ b. Title b (last_head self.new)
+            × IsShortest (shortest_of self.new) b (last_head self.new)) }
+        ensures none { IsFalse result → self.new ≡ self.old }
+        ensures failed { R.failed self.new.reader ≡ R.failed self.old.reader }
+        ensures handle { R.handle self.new.reader ≡ R.handle self.old.reader }
+        ensures fresh { self.new.waiting ≡ None }
+    {
+        if !self.reader.take(1) {
+            return false;
+        }
+        self.read += 1;
+        self.first = first;
+        self.number = value;
         true
     }
 
