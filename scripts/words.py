@@ -1,6 +1,6 @@
 #!/usr/bin/env python3
-"""words.py [--all]: searches the pages for the words that docs/MAINTAINING.md, "How pages are written", sets aside. It names each hit for
-which no use below is a reason: status 1 if there is one, or a use without a hit. With --all it prints each hit with its reason.
+"""words.py [--all]: searches the pages for the words of the list below. It names each hit for which no use there is a reason, with what to
+write instead: status 1 if there is one, or a use without a hit. With --all it prints each hit with its reason.
 
 It reads prose: of pages what is no code, of other files the comments. A use is found by what is beside the word, or in which page it is. So
 it can't tell a condition from a place, or an encoding from a text string, if the same words are beside it: read what --all prints."""
@@ -11,37 +11,36 @@ import sys
 TOP = pathlib.Path(__file__).resolve().parent.parent
 PAGES = ["*.md", "docs/*.md", "docs/*.1", "crates/*/README.md", "crates/*/CALLING.md", "crates/*/MESSAGES.md", "include/*.h", "cose-*", "scripts/*", "tools/*"] + \
         ["examples/**/*." + kind for kind in ("md", "sh", "py", "c", "go", "rs")]
-TABLE = r"MAINTAINING.md: \| (if|after|argument|buffer|encoding|is|returns|out of|input or|ignored|CPU)[^|]* \|"
-# Each word, and its uses that stay: the reason, and what a line has then, with its page's name in front.
+# Each word, what to write instead, and its uses that stay: the reason, and what a line has then, with its page's name in front.
 WORDS = {
-    "where": [
+    "where": ("if, when", [
         ("a place", r"(say|says|find|finds|knows|of|from|to|place|is|was|and|folder,|in `|\(|\| |`:) ?where\b"
                     r"|where (everything|your crate|its head)|`, where a copy"),
         ("what a name in a table may be", r"where KIND is"),
-    ],
-    "behind": [],
-    "words?": [("of a language", r"in words|the words that")],
-    "rooms?": [],
-    "(shortest|torn|canonical|encoded) texts?": [],
-    "texts?": [
+    ]),
+    "behind": ("after, inside, in its tag", []),
+    "words?": ("argument", [("of a language", r"in words|the words that")]),
+    "rooms?": ("buffer, memory", []),
+    "(shortest|torn|canonical|encoded) texts?": ("encoding, output", []),
+    "texts?": ("encoding, output", [
         ("of an error", r"texts? of (errors?|faults?|refusals|an error|its fault)|(error|fault|reader|its own|`)('s)? (own )?text"
                         r"|those texts|has (a )?texts?( \(|,| and)|(its|without its) texts?|texts in `|that `.* put into"),
         ("lines or a file of them", r"lines? of text|as text|is text|text has no|text or as|(claims|day\)), text, CBOR|JSON text"),
         ("what RFC 2104 calls so", r"cose_hmac"),
         ("a text string", r"(^README|ciborium|cbor_diag|coset_labels|cose_show|conformance_c|example_library|DECI|DEFI|DIFF|SCALE|TIMES"
                           r"|PORT|CHANGELOG|capped|TOKENS|tools/|docs/cose-(key|make|verify)).*\btexts?\b"),
-    ],
-    "stands?|stood": [("stands for something", r"stands? for|stands?$")],
-    "answer(s|ed|ing)?": [
+    ]),
+    "stands?|stood": ("is, are", [("stands for something", r"stands? for|stands?$")]),
+    "answer(s|ed|ing)?": ("returns", [
         ("of a judge", r"judge|/cose_gate|/example_judge|answer is yes|/cose_show|last answer|its answer, how|with its answer"),
         ("of a row", r"/conformance_|\brows?\b|expected answer|take the answer|answers that are due"),
         ("of a goal, as Rattle calls it", r"a goal|the answers of|an answer$"),
         ("the struct of the library", r"answer says|library's answers"),
-    ],
-    "memory (is|was|may be) refused|refused? memory|refuses memory|memory refused": [],
-    "devices? (that )?fails?|failing devices?|failed devices?": [],
-    "pass(ed|es)? over": [],
-    "(minutes|seconds) of (a )?processor": [],
+    ]),
+    "memory (is|was|may be) refused|refused? memory|refuses memory|memory refused": ("out of memory", []),
+    "devices? (that )?fails?|failing devices?|failed devices?": ("input or output fails", []),
+    "pass(ed|es)? over": ("ignored", []),
+    "(minutes|seconds) of (a )?processor": ("CPU minutes", []),
 }
 
 
@@ -64,15 +63,14 @@ files = {file for pattern in PAGES for file in TOP.glob(pattern) if file.is_file
 for file in sorted(files - {pathlib.Path(__file__).resolve()}):
     for number, line in prose(file):
         hit = f"{file.relative_to(TOP)}: {line.strip()}"
-        for word, uses in WORDS.items():
+        for word, (instead, uses) in WORDS.items():
             if re.search(rf"\b({word})\b", line, re.I):
-                uses = [("the list itself", TABLE)] + uses
                 reason = next((reason for reason, use in uses if re.search(use, hit, re.I)), None)
                 used.add((word, reason))
                 bad += reason is None
                 if reason is None or "--all" in sys.argv:
-                    print(f"{file.relative_to(TOP)}:{number}: {reason or 'NO REASON'}: {line.strip()[:150]}")
-for word, reason in [(word, reason) for word, uses in WORDS.items() for reason, _ in uses if (word, reason) not in used]:
+                    print(f"{file.relative_to(TOP)}:{number}: {reason or 'WRITE ' + instead}: {line.strip()[:150]}")
+for word, reason in [(word, reason) for word, (_, uses) in WORDS.items() for reason, _ in uses if (word, reason) not in used]:
     bad += 1
     print(f"no hit of {word} is {reason}: take it off the list")
 sys.exit(bad > 0)
