@@ -15,7 +15,7 @@ PAGES = {
     "coset_base": ["coset_labels", "coset_headers", "coset_base"],
     "coset": ["coset_signed", "coset_maced", "coset_encrypted", "coset_recipients", "coset_keys",
               "coset_claims", "coset_kdf"],
-    "cose_gate": ["cose_gate", "cose_gate_core", "cose_gate_stream", "cose_gate_program",
+    "cose_gate": ["cose_gate", "cose_gate_core", "cose_gate_program",
                   "cose_gate_records", "cose_hmac"],
 }
 

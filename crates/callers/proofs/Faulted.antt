@@ -17,8 +17,8 @@ use Rattle.cose_gate.specs.ReadError.TheVariants.{TooLong}
 use Rattle.cose_gate.specs.Reading.{IfKnown}
 use Rattle.cose_gate.specs.Run.{Step, output_of}
 use Rattle.cose_gate.specs.Stated.{IsSingle, Stated}
-use Rattle.cose_gate.specs.StreamFault.{StreamFault}
-use Rattle.cose_gate.specs.StreamFault.TheVariants as streaming
+use Rattle.cose_gate.specs.declared.fault.StreamFault.{StreamFault}
+use Rattle.cose_gate.specs.declared.fault.StreamFault.TheVariants as streaming
 use Rattle.cose_gate.specs.Streaming.{Answered, HoldsNoMemory, IsFarFor, IsLongFor, Tells, Unstreamed}
 use Rattle.cose_gate.specs.Tree.{Tree}
 use Rattle.callers.specs.Faults as spec

@@ -13,7 +13,7 @@ ghost use Rattle.cose_gate.specs.Questions.{MessageFields};
 ghost use Rattle.cose_gate.specs.ReadError.TheVariants.{TooLong};
 ghost use Rattle.cose_gate.specs.Run.{Step, Run, output_of, passed_count, refused_count};
 ghost use Rattle.cose_gate.specs.Stated.{IsSingle, Stated};
-ghost use Rattle.cose_gate.specs.StreamFault.TheVariants.{Decode};
+ghost use Rattle.cose_gate.specs.declared.fault.StreamFault.TheVariants.{Decode};
 ghost use Rattle.cose_gate.specs.Streaming.{Answered, IsLongFor, Tells, Unstreamed};
 ghost use Rattle.cose_gate.specs.Tree.{Tree};
 ghost use Rattle.callers.specs.Faults.{Noted, Taken, Torn, WholeTexts};

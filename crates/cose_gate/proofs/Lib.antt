@@ -1,2 +1,14 @@
 pub mod Facts
 pub mod Usual
+pub mod Forms
+pub mod Faults
+pub mod Far
+pub mod Fed
+pub mod Elements
+pub mod Lengths
+pub mod Pieces
+pub mod Whole
+pub mod Wrong
+pub mod Meant
+pub mod Heads
+pub mod Exactly

@@ -1,4 +1,8 @@
+pub mod ElementFaults
+pub mod Forms
 pub mod Gate
+pub mod Stated
+pub mod Streaming
 pub use Rattle.cose_gate_core.specs.Asked
 pub use Rattle.cose_gate_core.specs.Calls
 pub use Rattle.cose_gate_core.specs.Findings
@@ -89,9 +93,6 @@ pub use Rattle.cose_gate_program.specs.Telling
 pub use Rattle.cose_gate_program.specs.Words
 pub use Rattle.cose_gate_program.specs.Writing
 pub use Rattle.cose_gate_program.specs.declared.telling.Notice
-pub use Rattle.cose_gate_stream.specs.Stated
-pub use Rattle.cose_gate_stream.specs.Streaming
-pub use Rattle.cose_gate_stream.specs.declared.fault.StreamFault
 pub use Rattle.cose_gate_records.specs.Framing as RecordFraming
 pub use Rattle.cose_gate_records.specs.Kept as RecordsKept
 pub use Rattle.cose_gate_records.specs.Records

@@ -1,12 +1,22 @@
 //! The gate: a CBOR sequence goes in, a judge is asked about each message with a signature or a tag
-//! in it, and those that passed come out, each as its canonical encoding (RFC 8742, RFC 9052).
+//! in it, and those that passed come out, each as its canonical encoding (RFC 8742, RFC 9052). And
+//! one message checked while its payload passes through the caller's buffer (`stream_check`).
 //!
 //! A user names this crate alone: what is in the crates below it is here under the same names.
 #![tactic(auto)]
 
+mod checking;
+mod fault;
+mod feeding;
+mod form;
 mod gating;
 pub mod laws;
+mod parts;
+pub mod stream_laws;
+mod titles;
 
+pub use crate::checking::{stream_check, stream_check_with};
+pub use crate::fault::StreamFault;
 pub use crate::gating::{gate, gate_strict, gate_strict_with, gate_with};
 pub use cose_gate_core::{
     About, Algorithm, Asked, ContentType, CoseError, CoseRecipient, CoseSignature, Counts, Decoder,
@@ -23,7 +33,6 @@ pub use cose_gate_program::{
     Blocks, HmacJudge, InputFault, NotBegun, Notice, Teller, run, run_judged, run_over,
     run_over_told, run_told, run_with, words, write_notice,
 };
-pub use cose_gate_stream::{StreamFault, laws as stream_laws, stream_check, stream_check_with};
 pub use cose_hmac::{hmac_sha256, same_tag};
 pub use cose_iana as iana;
 pub use coset_keys::{CoseKey, CoseKeySet, KeyOperation};

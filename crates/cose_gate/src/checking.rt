@@ -1,0 +1,145 @@
+//! The streaming check.
+ghost use Rattle.std.specs.Prelude.{◌≡◌, ◌<◌, IfOk, IfErr, OnErr, length};
+ghost use Rattle.ciborium_ll.specs.Seen.{Takes};
+ghost use Rattle.ciborium_ll.specs.Views.{offset_of, seen};
+ghost use Rattle.coset_labels.specs.Limits.{nesting_of, layers_of};
+ghost use Rattle.cose_gate_core.specs.Findings.{plain};
+ghost use Rattle.cose_gate.specs.Streaming.{Checked, CheckedBy, Unstreamed, UnstreamedBy};
+ghost use Rattle.cose_gate.specs.Streaming.{IsFarFor, NamesWhy, Steady, AnswersStated};
+ghost use Rattle.cose_gate.specs.Streaming.{AnswersStatedBy};
+
+use crate::fault::StreamFault;
+use crate::feeding::{feed_front, feed_payload};
+use crate::parts::{protected_part, signature_part, unprotected_part};
+use crate::titles::{close, four, message_tag, payload_size};
+use ciborium_ll::{Decoder, Read};
+use cose_gate_core::{About, Judge, Limits, received};
+use std::alloc::Global;
+
+/// Reads the parts, and asks.
+fn streamed<R: Read, J: Judge>(
+    alloc: Global,
+    limits: Limits,
+    decoder: &mut Decoder<R>,
+    buffer: &mut [u8],
+    aad: &[u8],
+    judge: &mut J,
+) -> Result<bool, StreamFault<R::Error>>
+    requires room { 0 < length buffer.old }
+    ensures ok { IfOk result (λ yes. Takes (seen R.Read decoder.old) (seen R.Read decoder.new)
+        (CheckedBy (plain (nesting_of limits) (layers_of limits)) J.decided
+        (J.yes (J.who judge.old)) aad.now (J.told judge.old) (J.told judge.new)
+        (length buffer.old) (J.pieces judge.new) yes)) }
+    ensures err { IfErr result (NamesWhy R.ends
+        (UnstreamedBy (plain (nesting_of limits) (layers_of limits))) (length buffer.old)
+        (seen R.Read decoder.old)) }
+    ensures told { OnErr result (J.told judge.new ≡ J.told judge.old) }
+    ensures who { J.who judge.new ≡ J.who judge.old }
+    ensures far { IfErr result (IsFarFor (length buffer.old) (offset_of decoder.new)) }
+    ensures steady { Steady R.ends result (seen R.Read decoder.old) (seen R.Read decoder.new) }
+{
+    let form = message_tag(decoder)?;
+    let count = four(decoder)?;
+    let protected = protected_part(alloc, limits, decoder)?;
+    let unprotected = unprotected_part(alloc, limits, decoder)?;
+    let size = payload_size(decoder, form)?;
+    let about = About::alone(form.kind(), &protected, &unprotected);
+    judge.begin(&about)?;
+    feed_front(form, received(&protected), aad, size, judge)?;
+    feed_payload(decoder, buffer, size, judge)?;
+    let signature = signature_part(alloc, limits, decoder)?;
+    close(decoder, count)?;
+    Ok(judge.decide(&signature))
+}
+
+/// Checks one tagged COSE_Sign1 or COSE_Mac0 that carries its payload as a byte string of stated
+/// length: the payload passes through the buffer, piece by piece, and is never gathered. The judge
+/// is asked the same question as by `gate`, with this external data; the result is the judge's
+/// answer.
+///
+/// The whole message is read before the judge decides. After a fault the judge was told nothing;
+/// how much of the input was taken then is open.
+///
+/// # Errors
+/// `NotTagged` and `OtherTag` by the first title. `Detached` and `Unsized` by the title in the
+/// payload's place, after two headers. `Shape` with the fault of the first part that is wrong, also
+/// if what follows is damaged. If an item is readable, it has this fault as a message of its tag;
+/// of an open array that ends at another length, the fault may be one of a header. `Decode` if no
+/// item is readable, or the reader failed, or `TooLong`: only if the offset is within 4,096 bytes
+/// of 2^64 then, or within the buffer's length if that is more. `Memory`: after the tag of such a
+/// message and the title of an array of four. `Shape` comes after such a tag too.
+pub fn stream_check<R: Read, J: Judge>(
+    alloc: Global,
+    decoder: &mut Decoder<R>,
+    buffer: &mut [u8],
+    aad: &[u8],
+    judge: &mut J,
+) -> Result<bool, StreamFault<R::Error>>
+    requires room { 0 < length buffer.old }
+
+    // A judged message of a stated length was taken whole; the answer is the judge's to its
+    // questions, and it was told of them alone.
+    ensures ok { IfOk result (λ yes. Takes (seen R.Read decoder.old) (seen R.Read decoder.new)
+        (Checked J.decided (J.yes (J.who judge.old)) aad.now (J.told judge.old) (J.told judge.new)
+        (length buffer.old) (J.pieces judge.new) yes)) }
+
+    // Each fault says what is true of the bytes, and the judge was told nothing.
+    ensures err { IfErr result (NamesWhy R.ends Unstreamed (length buffer.old)
+        (seen R.Read decoder.old)) }
+    ensures told { OnErr result (J.told judge.new ≡ J.told judge.old) }
+    ensures who { J.who judge.new ≡ J.who judge.old }
+    ensures steady { Steady R.ends result (seen R.Read decoder.old) (seen R.Read decoder.new) }
+
+    // `TooLong` comes only if the offset is that near to 2^64, whether or not the reader tells its
+    // bytes.
+    ensures far { IfErr result (IsFarFor (length buffer.old) (offset_of decoder.new)) }
+
+    // If such a message is in front, the result is Ok or a fault of memory, of the reader, or of an
+    // offset that grows too long.
+    ensures exactly { AnswersStated R.ends (length buffer.old) (seen R.Read decoder.old) result }
+{
+    stream_check_with(alloc, Limits::default(), decoder, buffer, aad, judge)
+}
+
+/// As `stream_check`, within these limits: the message, and anew the headers in its protected
+/// bytes, nest no deeper than `limits.nesting()` levels, and no more than `limits.layers()`
+/// protected headers lie inside one another. One whose headers go beyond is no message: `Shape`.
+///
+/// # Errors
+/// Those of `stream_check`.
+pub fn stream_check_with<R: Read, J: Judge>(
+    alloc: Global,
+    limits: Limits,
+    decoder: &mut Decoder<R>,
+    buffer: &mut [u8],
+    aad: &[u8],
+    judge: &mut J,
+) -> Result<bool, StreamFault<R::Error>>
+    requires room { 0 < length buffer.old }
+
+    // A judged message of a stated length was taken whole; the answer is the judge's to its
+    // questions, and it was told of them alone.
+    ensures ok { IfOk result (λ yes. Takes (seen R.Read decoder.old) (seen R.Read decoder.new)
+        (CheckedBy (plain (nesting_of limits) (layers_of limits)) J.decided
+        (J.yes (J.who judge.old)) aad.now (J.told judge.old) (J.told judge.new)
+        (length buffer.old) (J.pieces judge.new) yes)) }
+
+    // Each fault says what is true of the bytes, and the judge was told nothing.
+    ensures err { IfErr result (NamesWhy R.ends
+        (UnstreamedBy (plain (nesting_of limits) (layers_of limits))) (length buffer.old)
+        (seen R.Read decoder.old)) }
+    ensures told { OnErr result (J.told judge.new ≡ J.told judge.old) }
+    ensures who { J.who judge.new ≡ J.who judge.old }
+    ensures steady { Steady R.ends result (seen R.Read decoder.old) (seen R.Read decoder.new) }
+
+    // `TooLong` comes only if the offset is that near to 2^64, whether or not the reader tells its
+    // bytes.
+    ensures far { IfErr result (IsFarFor (length buffer.old) (offset_of decoder.new)) }
+
+    // If such a message is in front, the result is Ok or a fault of memory, of the reader, or of an
+    // offset that grows too long.
+    ensures exactly { AnswersStatedBy (plain (nesting_of limits) (layers_of limits)) R.ends
+        (length buffer.old) (seen R.Read decoder.old) result }
+{
+    streamed(alloc, limits, decoder, buffer, aad, judge)
+}

@@ -1,0 +1,73 @@
+//! What is fed to the judge: the front of the structure, and the payload as it passes.
+ghost use Rattle.std.specs.Prelude.{◌≡◌, ◌<◌, ◌++◌, [], ℕ, List, None, IfErr, OnOk, length};
+ghost use Rattle.ciborium_ll.specs.Seen.{Takes};
+ghost use Rattle.ciborium_ll.specs.Views.{offset_of, waiting_of, seen};
+ghost use Rattle.coset_base.specs.Structure.{structure};
+ghost use Rattle.cose_gate_core.specs.Questions.{Subject};
+ghost use Rattle.cose_gate.specs.ElementFaults.{ShortFault, Split};
+ghost use Rattle.cose_gate.specs.Forms.{context_of};
+ghost use Rattle.cose_gate.specs.Streaming.{IsFarFor, NamesWhy, Steady};
+
+use crate::fault::StreamFault;
+use crate::form::Form;
+use ciborium_ll::{Decoder, Read};
+use cose_gate_core::Judge;
+use coset_base::bytes_title;
+use std::alloc::AllocError;
+
+/// Feeds what is in front of the payload's bytes in the structure (RFC 9052, sections 4.4 and 6.3).
+/// The length of each byte string is written anew, by its shortest title.
+pub fn feed_front<J: Judge>(
+    form: Form,
+    protected: &[u8],
+    aad: &[u8],
+    size: usize,
+    judge: &mut J,
+) -> Result<(), AllocError>
+    ensures ok { OnOk result ((front : List ℕ)
+        × ((subject : Subject) → J.holds judge.old subject [] → J.holds judge.new subject front)
+        × ((payload : List ℕ) → length payload ≡ size
+        → structure (context_of form) protected.now None aad.now payload ≡ front ++ payload)) }
+    ensures told { J.told judge.new ≡ J.told judge.old }
+    ensures who { J.who judge.new ≡ J.who judge.old }
+{
+    judge.feed(form.prefix())?;
+    judge.feed(bytes_title(protected.len()).as_slice())?;
+    judge.feed(protected)?;
+    judge.feed(bytes_title(aad.len()).as_slice())?;
+    judge.feed(aad)?;
+    judge.feed(bytes_title(size).as_slice())?;
+    Ok(())
+}
+
+/// Feeds the bytes of the payload, as many at a time as the buffer holds.
+pub fn feed_payload<R: Read, J: Judge>(
+    decoder: &mut Decoder<R>,
+    buffer: &mut [u8],
+    size: usize,
+    judge: &mut J,
+) -> Result<(), StreamFault<R::Error>>
+    requires fresh { waiting_of decoder.old ≡ None }
+    requires room { 0 < length buffer.old }
+    ensures ok { OnOk result (Takes (seen R.Read decoder.old) (seen R.Read decoder.new)
+        (λ b. (length b ≡ size) × ((subject : Subject) (bytes : List ℕ)
+        → J.holds judge.old subject bytes → J.holds judge.new subject (bytes ++ b)))) }
+    ensures pieces { OnOk result (Split size (length buffer.old) (J.pieces judge.old)
+        (J.pieces judge.new)) }
+    ensures err { IfErr result (NamesWhy R.ends (λ stop b. ShortFault size b) (length buffer.old)
+        (seen R.Read decoder.old)) }
+    ensures told { J.told judge.new ≡ J.told judge.old }
+    ensures who { J.who judge.new ≡ J.who judge.old }
+    ensures far { IfErr result (IsFarFor (length buffer.old) (offset_of decoder.new)) }
+    ensures steady { Steady R.ends result (seen R.Read decoder.old) (seen R.Read decoder.new) }
+{
+    let room = buffer.len();
+    let mut due = size;
+    'pieces: while due > 0 {
+        let count = due.min(room);
+        decoder.read_exact(&mut buffer[..count])?;
+        judge.feed(&buffer[..count])?;
+        due -= count;
+    }
+    Ok(())
+}

@@ -1,4 +1,0 @@
-pub mod ElementFaults
-pub mod Forms
-pub mod Stated
-pub mod Streaming
