@@ -145,7 +145,7 @@ mod tests {
     }
 
     #[test]
-    fn ends(rt: HostRuntime) {
+    fn each_end_has_its_status_and_line(rt: HostRuntime) {
         for (end, status, line) in [
             (Ok(0), 0, ""),
             (Ok(1), 1, ""),
@@ -170,7 +170,7 @@ mod tests {
     }
 
     #[test]
-    fn words_and_help(rt: HostRuntime) {
+    fn help_is_asked_for_alone(rt: HostRuntime) {
         let alloc = rt.alloc();
         for (all, is_help) in [
             (["it"].as_slice(), false),
@@ -202,7 +202,7 @@ mod tests {
     }
 
     #[test]
-    fn files(rt: HostRuntime) {
+    fn a_file_that_fails_has_a_reason(rt: HostRuntime) {
         let bytes = [7].to_vec(rt.alloc()).expect(&rt, "memory");
         let content = Content::of_file(Ok(bytes)).expect(&rt, "bytes");
         assert_eq!(rt; content.bytes.as_deref(), Some([7].as_slice()));

@@ -127,7 +127,7 @@ mod tests {
     }
 
     #[test]
-    fn statuses(rt: HostRuntime) {
+    fn each_stop_has_its_status(rt: HostRuntime) {
         for (stop, status) in [
             (Stop::Usage, 2),
             (Stop::NotHex, 2),

@@ -4,7 +4,7 @@ use std::test::Fail;
 
 /// What is at most 24 bytes long is written on one line.
 #[test]
-fn lines(rt: HostRuntime) -> Result<(), Fail> {
+fn a_short_item_is_on_one_line(rt: HostRuntime) -> Result<(), Fail> {
     let hex = "d28443a10126a10442313158185818181818181818181818181818181818181818181818189f01a0ff";
     let want = "18([
   h'a10126',

@@ -97,7 +97,7 @@ fn item_after(noted: usize) -> (usize, usize) {
 /// All memory here is asked for by the run. So this holds also if one allocation is refused,
 /// whichever it is. Of the input no more was taken then than the item at hand.
 #[test]
-fn refused_memory_is_the_answer(rt: HostRuntime) {
+fn refused_memory_ends_the_run(rt: HostRuntime) {
     let alloc = rt.alloc();
     let mut memory = [0u8; 28];
     let mut out = Mem::new(&mut memory[..]);

@@ -1,7 +1,7 @@
 //! Each call that asks for memory, with memory enough and if it is refused: the result is then
 //! `Memory`, and no cipher, signer or verifier was asked (`watched!`). All memory here is asked for
-//! in functions that return `Memory` themselves, so `refused_memory_is_the_answer` also holds if
-//! one allocation is refused, whichever it is.
+//! in functions that return `Memory` themselves, so `refused_memory_is_the_answer_of_recipients`
+//! also holds if one allocation is refused, whichever it is.
 use crate::checks::{Met, flat, may_be_refused, same};
 use crate::recipients::encrypted::{
     encrypt_is_decrypted, encrypt_is_given, encrypt0_is_decrypted, encrypt0_is_given,
@@ -116,7 +116,7 @@ fn memory_is_enough(rt: HostRuntime) {
 }
 
 #[test]
-fn refused_memory_is_the_answer(rt: HostRuntime) {
+fn refused_memory_is_the_answer_of_recipients(rt: HostRuntime) {
     let alloc = rt.alloc();
     may_be_refused(&rt, &of_recipients(alloc));
     may_be_refused(&rt, &of_encrypted(alloc));

@@ -1,7 +1,7 @@
 //! Each call that asks for memory, with memory enough and if it is refused: the result is then
 //! `Memory`, and no signer and no verifier was asked (`watched!`). All memory here is asked for in
-//! functions that return `Memory` themselves, so `refused_memory_is_the_answer` also holds if one
-//! allocation is refused, whichever it is.
+//! functions that return `Memory` themselves, so `refused_memory_is_the_answer_of_signed_messages`
+//! also holds if one allocation is refused, whichever it is.
 use crate::checks::{Met, flat, may_be_refused, same};
 use crate::signed::sign::{
     sign_is_given, sign_is_given_elsewhere, sign_is_verified, sign_is_verified_elsewhere,
@@ -57,7 +57,7 @@ fn memory_is_enough(rt: HostRuntime) {
 }
 
 #[test]
-fn refused_memory_is_the_answer(rt: HostRuntime) {
+fn refused_memory_is_the_answer_of_signed_messages(rt: HostRuntime) {
     let alloc = rt.alloc();
     may_be_refused(&rt, &of_sign1(alloc));
     may_be_refused(&rt, &of_sign(alloc));

@@ -1,7 +1,7 @@
 //! Calls of headers, keys, claims and contexts that ask for memory, with memory enough and with
 //! memory that is refused: they return `Memory` then. All memory is asked for in functions that
-//! return `Memory` themselves, so `refused_memory_is_the_answer` also holds if one allocation is
-//! refused, whichever it is.
+//! return `Memory` themselves, so `refused_memory_is_the_answer_of_keys_and_claims` also holds if
+//! one allocation is refused, whichever it is.
 use crate::checks::may_be_refused;
 use coset::cbor::Value;
 use coset::cwt::{ClaimsSet, ClaimsSetBuilder};
@@ -193,7 +193,7 @@ fn memory_is_enough(rt: HostRuntime) {
 }
 
 #[test]
-fn refused_memory_is_the_answer(rt: HostRuntime) {
+fn refused_memory_is_the_answer_of_keys_and_claims(rt: HostRuntime) {
     may_be_refused(&rt, &of_bytes(rt.alloc()));
     may_be_refused(&rt, &of_builders(rt.alloc()));
 }

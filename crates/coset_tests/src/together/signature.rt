@@ -61,7 +61,7 @@ fn is_signed(rt: &impl Abort, alloc: Global, message: &CoseSign1, aad: &[u8], is
 }
 
 #[test]
-fn signature(rt: HostRuntime) {
+fn a_signature_covers_no_unprotected_header(rt: HostRuntime) {
     let alloc = rt.alloc();
     let payload = owned(&rt, alloc, b"This is the content");
     let bytes = sent(&rt, alloc, payload);

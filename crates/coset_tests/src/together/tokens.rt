@@ -111,7 +111,7 @@ fn is_refused(
 }
 
 #[test]
-fn cwt(rt: HostRuntime) {
+fn a_token_is_refused_for_each_fault(rt: HostRuntime) {
     let alloc = rt.alloc();
     let payload = written(&rt, alloc, claims(&rt, alloc));
     let token = sent(&rt, alloc, payload);
