@@ -35,6 +35,7 @@ rows() {
 2|/dev/null|usage: cose-gate [--strict] [--verbose] KEYS [AADHEX] < INPUT > PASSED|cose-gate keys.cbor 01 02 < one.cbor
 2|/dev/null|usage: cose-gate [--strict] [--verbose] KEYS [AADHEX] < INPUT > PASSED|cose-gate keys.cbor $'\xff' < one.cbor
 2|/dev/null|usage: cose-gate [--strict] [--verbose] KEYS [AADHEX] < INPUT > PASSED|../cose-gate --strikt keys.cbor
+2|/dev/null|usage: cose-gate [--strict] [--verbose] KEYS [AADHEX] < INPUT > PASSED|cose-gate keys.cbor --strikt < one.cbor
 2|/dev/null|usage: cose-ask [--strict] [--lines] [AADHEX]|cose-ask --strikt < one.cbor
 2|/dev/null|usage: cose-ask [--strict] [--lines] [AADHEX]|cose-ask 01 02 < one.cbor
 2|/dev/null|usage: cose-ask [--strict] [--lines] [AADHEX]|cose-ask $'\xff' < one.cbor
@@ -71,6 +72,7 @@ rows() {
 1|/dev/null|passed 0, refused 1|cose-gate keys.cbor < one.cbor
 1|../crates/cose_gate_cli/stdout|passed 4, refused 5|cose-gate --verbose keys.cbor 01 < mixed.cbor
 1|$T/strict|passed 2, refused 7|cose-gate --strict keys.cbor 01 < mixed.cbor
+1|$T/strict|passed 2, refused 7|cose-gate keys.cbor 01 --strict < mixed.cbor
 1||passed 6, refused 3|cose-ask 01 < mixed.cbor > $T/records
 1||passed 4, refused 5|cose-ask --strict --lines 01 < mixed.cbor > $T/lines
 1||passed 6, refused 3|cose-pass $T/records 01 < mixed.cbor > $T/passed

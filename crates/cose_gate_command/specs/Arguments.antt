@@ -1,5 +1,5 @@
 -- The arguments of the command line: cose-gate [--strict] [--verbose] KEYS [AADHEX].
-use Rattle.std.specs.Prelude.{◌≡◌, ℕ, List, [], ◌∷◌, Option, None, option_map, option_copied, Bool, true, false, if◌then◌else◌, bytes_eq, codes}
+use Rattle.std.specs.Prelude.{◌&&◌, ◌||◌, ℕ, List, [], ◌∷◌, Option, None, option_map, option_copied, Bool, true, false, if◌then◌else◌, not, nat_eq, bytes_eq, codes, filter}
 use Rattle.cose_gate_program.specs.Words.{words}
 use Rattle.cose_gate_command.specs.declared.arguments.Arguments.{Arguments as Held}
 
@@ -18,18 +18,31 @@ arguments_view a = record {
   aad = option_copied a.aad;
 }
 
--- KEYS, and AADHEX if it is there, after these options
+-- a word that begins with a hyphen is an option
+abbrev pub is_option : List ℕ → Bool
+is_option [] = false
+is_option (c ∷ cs) = nat_eq c 45
+
+abbrev pub has : List ℕ → List (List ℕ) → Bool
+has word [] = false
+has word (w ∷ ws) = bytes_eq w word || has word ws
+
+-- no option has another name
+abbrev pub are_known : List (List ℕ) → Bool
+are_known [] = true
+are_known (w ∷ ws) =
+    (not (is_option w) || (bytes_eq w (codes "--strict") || bytes_eq w (codes "--verbose")))
+    && are_known ws
+
+-- KEYS, and AADHEX if it is there, with these options
 abbrev pub of_files : Bool → Bool → List (List ℕ) → Option Arguments
 of_files s v ws = option_map
     (λ w. record { strict = s; verbose = v; keys = w.0; aad = w.1 }) (words ws)
 
--- the same, after more options that these arguments may begin with
-abbrev pub after_options : Bool → Bool → List (List ℕ) → Option Arguments
-after_options s v [] = None
-after_options s v (w ∷ ws) =
-    if bytes_eq w (codes "--strict") then after_options true v ws
-    else if bytes_eq w (codes "--verbose") then after_options s true ws
-    else of_files s v (w ∷ ws)
-
+-- the options, anywhere, and the other words
 abbrev pub arguments : List (List ℕ) → Option Arguments
-arguments ws = after_options false false ws
+arguments ws =
+    if are_known ws
+    then of_files (has (codes "--strict") ws) (has (codes "--verbose") ws)
+    (filter (λ w. not (is_option w)) ws)
+    else None

@@ -1,4 +1,5 @@
 pub mod Arguments
 pub mod Ends
+pub mod Options
 pub mod Saying
 pub mod Telling

@@ -1,9 +1,9 @@
 //! The arguments of the command line.
-ghost use Rattle.std.specs.Prelude.{◌≡◌, map, option_map, string_bytes};
+ghost use Rattle.std.specs.Prelude.{◌≡◌, ℕ, List, ◌∷◌, None, if◌then◌else◌};
+ghost use Rattle.std.specs.Prelude.{map, option_map, string_bytes};
 ghost use Rattle.cose_gate_command.specs.Arguments as spec;
 ghost use Rattle.cose_gate_command.specs.Arguments.{arguments_view};
-
-use cose_gate_program::words;
+ghost use Rattle.cose_gate_command.specs.Options.{after};
 
 /// What the arguments ask for.
 #[derive(Debug, Clone, Copy, PartialEq, Eq)]
@@ -18,39 +18,62 @@ pub struct Arguments<'a> {
     pub aad: Option<&'a str>,
 }
 
-/// What the arguments after the program's name ask for: `--strict` and `--verbose`, in any order,
-/// then KEYS, and AADHEX if it is there; `None` if they are anything else. A file of such a name is
+/// What the arguments after the program's name ask for: `--strict` and `--verbose`, anywhere, KEYS,
+/// and AADHEX if it is there; `None` if they are anything else. A file of such a name is
 /// `./--strict`.
 pub fn read_arguments(all: &[String]) -> Option<Arguments<'_>>
     ensures { option_map arguments_view result ≡ spec.arguments (map string_bytes all.now) }
 {
-    let mut strict = false;
-    let mut verbose = false;
-    for at in 0..all.len() {
-        let argument = all[at].as_str();
-        let is_strict = argument == "--strict";
-        let is_verbose = argument == "--verbose";
-        if !is_strict && !is_verbose {
-            return of_files(strict, verbose, &all[at..]);
+    let mut words = Words {
+        strict: false,
+        verbose: false,
+        files: None,
+    };
+    for word in all {
+        if !words.take(word.as_str()) {
+            return None;
         }
-        strict = strict || is_strict;
-        verbose = verbose || is_verbose;
     }
-    None
+    let (keys, aad) = words.files?;
+    Some(Arguments {
+        strict: words.strict,
+        verbose: words.verbose,
+        keys,
+        aad,
+    })
 }
 
-/// The arguments after the options.
-fn of_files(strict: bool, verbose: bool, rest: &[String]) -> Option<Arguments<'_>>
-    ensures { option_map arguments_view result
-        ≡ spec.of_files strict verbose (map string_bytes rest.now) }
-{
-    match words(rest) {
-        Some((keys, aad)) => Some(Arguments {
-            strict,
-            verbose,
-            keys,
-            aad,
-        }),
-        None => None,
+/// The words so far: the options, and KEYS, and AADHEX after it.
+#[derive(Drop)]
+struct Words<'a> {
+    strict: bool,
+    verbose: bool,
+    files: Option<(&'a str, Option<&'a str>)>,
+}
+
+impl<'a> Words<'a> {
+    /// Takes the next word, if it fits.
+    fn take(&mut self, word: &'a str) -> bool
+        ensures { (ws : List (List ℕ)) → after self.old (word.now ∷ ws)
+            ≡ (if result then after self.new ws else None) }
+    {
+        match word {
+            "--strict" => self.strict = true,
+            "--verbose" => self.verbose = true,
+            word if is_option(word) => return false,
+            word => match self.files {
+                None => self.files = Some((word, None)),
+                Some((keys, None)) => self.files = Some((keys, Some(word))),
+                Some((_, Some(_))) => return false,
+            },
+        }
+        true
     }
+}
+
+/// Whether a word is an option: it begins with a hyphen.
+fn is_option(word: &str) -> bool
+    ensures { result ≡ spec.is_option word.now }
+{
+    matches!(word.as_bytes(), [b'-', ..])
 }

@@ -1,0 +1,18 @@
+-- What the arguments are after some of their words.
+use Rattle.std.specs.Prelude.{ℕ, List, [], ◌∷◌, ◌++◌, Option, Some, None, if◌then◌else◌, ◌||◌, not, codes, filter, option_copied, option_map}
+use Rattle.cose_gate_command.specs.Arguments.{Arguments, is_option, has, are_known, of_files}
+use Rattle.cose_gate_command.specs.declared.arguments.Words.{Words}
+
+abbrev pub files_of : Option (List ℕ × Option (List ℕ)) → List (List ℕ)
+files_of None = []
+files_of (Some (keys, None)) = keys ∷ []
+files_of (Some (keys, Some aad)) = keys ∷ aad ∷ []
+
+-- the arguments if these words follow
+abbrev pub after : Words → List (List ℕ) → Option Arguments
+after d ws =
+    if are_known ws
+    then of_files (d.strict || has (codes "--strict") ws) (d.verbose || has (codes "--verbose") ws)
+    (files_of (option_map (λ f. (f.0.now, option_copied f.1)) d.files)
+    ++ filter (λ w. not (is_option w)) ws)
+    else None
