@@ -423,8 +423,8 @@ fn fill_entries<R: Read>(
         offset_of decoder.old + 1 ≤ offset_of decoder.new)) }
     ensures err { IfErr result (AskFails R.ends (code.Entries list.old)
         (seen R.Read decoder.old) (seen R.Read decoder.new)) }
-    ensures leaves { Leaves R.ends (FillHolds (code.Entries list.old) (offset_of decoder.old)) result
-        (seen R.Read decoder.old) (seen R.Read decoder.new) }
+    ensures leaves { Leaves R.ends (FillHolds (code.Entries list.old) (offset_of decoder.old))
+        result (seen R.Read decoder.old) (seen R.Read decoder.new) }
 {
     'parts: loop {
         let at = decoder.offset();

@@ -249,7 +249,8 @@ pub fn is_low(left: usize, tag: u64, header: Header) -> bool
 
 /// Whether no items follow in the item of the head that was read.
 pub fn is_leaf_head<R: Read>(decoder: &Decoder<R>) -> bool
-    ensures { MatchBool result (IsLeaf (last_head decoder.now)) (IsLeaf (last_head decoder.now) → ⊥) }
+    ensures { MatchBool result (IsLeaf (last_head decoder.now))
+        (IsLeaf (last_head decoder.now) → ⊥) }
 {
     !matches!(decoder.major(), 4 | 5 | 6)
 }
