@@ -69,7 +69,7 @@ fn is_among(entries: &[(Label, Value)], label: &Label) -> bool
         (IsIn (label_view label.now) (map entry_view entries.now) → ⊥) }
 {
     'entries: for entry in entries {
-        if entry.0.cmp(label).is_eq() {
+        if entry.0 == *label {
             return true;
         }
     }

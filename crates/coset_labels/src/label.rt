@@ -92,8 +92,17 @@ impl PartialEq for Label {
     ghost laws = { partial_equiv_from_equiv (on_equiv label_view (eq_by_cmp_equiv label_total)) };
 
     fn eq(&self, other: &Label) -> bool {
-        self.cmp(other).is_eq()
+        match (self, other) {
+            (Label::Int(a), Label::Int(b)) => is_same(*a, *b),
+            _ => self.cmp(other).is_eq(),
+        }
     }
+}
+
+fn is_same(a: i64, b: i64) -> bool
+    ensures { result ≡ eq_by_cmp label_cmp (number a) (number b) }
+{
+    a == b
 }
 
 impl Eq for Label {
