@@ -1,10 +1,10 @@
 //! Headers read into a place that is there, written straight from their fields, and signatures
 //! taken apart. `coset_base` and `ciborium` are the crates that it names.
-ghost use Rattle.std.specs.Prelude.{◌≡◌, Some, IfOk, IfErr, option_map};
+ghost use Rattle.std.specs.Prelude.{◌≡◌, ℕ, List, Some, IfOk, IfErr, option_map};
 ghost use Rattle.ciborium_value.specs.View.{view};
 ghost use Rattle.coset_base.specs.Encoding.{enc};
 ghost use Rattle.coset_base.specs.Faults.{OrMemory};
-ghost use Rattle.coset_base.specs.Fields.{HeaderFields, signature};
+ghost use Rattle.coset_base.specs.Fields.{HeaderFields, ProtectedFields, signature};
 ghost use Rattle.coset_base.specs.Headers.{HasHeader, HasProtected};
 ghost use Rattle.coset_base.specs.LimitsView.{nesting, nesting_of, layers, layers_of};
 ghost use Rattle.coset_base.specs.Reading.{HasItem, WrongItem};
@@ -102,6 +102,16 @@ pub fn straight_of(alloc: Global, bytes: &[u8]) -> Result<Vec<u8>, CoseError>
     read_is_received();
     let header = Header::from_slice(alloc, bytes)?;
     Ok(written_straight(alloc, &header)?)
+}
+
+/// A signature with other bytes, under its headers.
+pub fn signed_anew(signed: CoseSignature, bytes: Vec<u8>) -> CoseSignature
+    ensures { (p : ProtectedFields) × (u : HeaderFields) × (c : List ℕ)
+        × (signature_view signed ≡ signature p u c)
+        × (signature_view result ≡ signature p u bytes.items) }
+{
+    let (protected, unprotected, _) = signed.into_parts();
+    CoseSignature::from_parts(protected, unprotected, bytes)
 }
 
 /// The protected header, the unprotected one, and the bytes of a signature.

@@ -1,6 +1,6 @@
 //! Headers and signatures as they are in memory.
 ghost use Rattle.std.specs.Prelude.{◌≡◌, []};
-ghost use Rattle.coset_headers.specs.Fields.{signature};
+ghost use Rattle.coset_headers.specs.Fields as fields;
 ghost use Rattle.coset_headers.specs.View.{header_view, protected_view, signature_view};
 
 use ciborium_value::Value;
@@ -89,10 +89,26 @@ impl Drop for CoseSignature {
 }
 
 impl CoseSignature {
+    /// A signature of its parts, as `into_parts` gives them.
+    pub fn from_parts(
+        protected: ProtectedHeader,
+        unprotected: Header,
+        signature: Vec<u8>,
+    ) -> CoseSignature
+        ensures { signature_view result ≡ fields.signature (protected_view protected)
+            (header_view unprotected) signature.items }
+    {
+        CoseSignature {
+            protected,
+            unprotected,
+            signature,
+        }
+    }
+
     /// The protected header, the unprotected one, and the signature.
     pub fn into_parts(self) -> (ProtectedHeader, Header, Vec<u8>)
         ensures { signature_view self
-            ≡ signature (protected_view result.0) (header_view result.1) result.2.items }
+            ≡ fields.signature (protected_view result.0) (header_view result.1) result.2.items }
     {
         let CoseSignature {
             protected,
