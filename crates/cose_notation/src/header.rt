@@ -4,6 +4,7 @@ use crate::line::{begin_line, write_len, write_not_shown, write_shown, write_str
 use crate::look::Look;
 use crate::names::{algorithm, claim, content_format, parameter};
 use crate::parts::{Members, entries, integer, is_bytes, is_one_item, joined};
+use crate::payload::{plain_text, show_text};
 use crate::secrets::{KeyMap, is_open, key_in};
 use crate::time::claim_time;
 use cbor_diag::{NotWritten, Page};
@@ -212,6 +213,29 @@ fn show_value<P: fmt::Write>(
     }
     if let Some(time) = claim_time(labels, label, value) {
         write!(page, " ({time})");
+    }
+    if labels == Labels::Headers && label == Some(4) {
+        show_id_text(alloc, look, value, page);
+    }
+}
+
+/// The text that a key id is, if it is one.
+pub(crate) fn show_id_text<P: fmt::Write>(
+    alloc: Global,
+    look: Look,
+    id: &[u8],
+    page: &mut Page<'_, P>,
+) {
+    if !is_bytes(id) {
+        return;
+    }
+    let Some(bytes) = page.kept(joined(alloc, id)) else {
+        return;
+    };
+    if let Some(text) = plain_text(&bytes) {
+        page.write_str(" (");
+        show_text(look, text, page);
+        page.write_str(")");
     }
 }
 

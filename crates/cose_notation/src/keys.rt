@@ -1,5 +1,6 @@
 //! Keys and sets of keys (RFC 9052, section 7). What may be a secret is shown by its length alone,
 //! unless secrets are asked for.
+use crate::header::show_id_text;
 use crate::key_labels::{KeyPart, key_label};
 use crate::line::{begin_line, write_not_shown, write_shown};
 use crate::look::Look;
@@ -140,6 +141,9 @@ fn show_entry<P: fmt::Write>(
     match name_of(known.part, value) {
         Some(name) => show_named(alloc, look, name, value, page),
         None => show_maybe(alloc, look, shown, value, level, page),
+    }
+    if shown && integer(label) == Some(2) {
+        show_id_text(alloc, look, value, page);
     }
 }
 

@@ -40,7 +40,7 @@ pub fn show_payload<P: fmt::Write>(
     page.write_str("\n");
 }
 
-fn show_text<P: fmt::Write>(look: Look, text: &str, page: &mut Page<'_, P>) {
+pub(crate) fn show_text<P: fmt::Write>(look: Look, text: &str, page: &mut Page<'_, P>) {
     if look.full || text.len() <= CUT {
         write_text(text, false, page);
         return;
@@ -65,7 +65,7 @@ fn show_as_item<P: fmt::Write>(
 }
 
 /// The text that bytes are, if it has no control characters but those between lines and words.
-fn plain_text(bytes: &[u8]) -> Option<&str> {
+pub(crate) fn plain_text(bytes: &[u8]) -> Option<&str> {
     if bytes.is_empty() {
         return None;
     }

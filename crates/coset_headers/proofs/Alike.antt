@@ -2,13 +2,9 @@
 use Rattle.std.proofs.Common.{◌≡◌, List, [], ◌∷◌, ◌++◌, map, Option, option_map, refl, sym, ap, ◌∙◌, ◌+◌, ◌<◌, ℕ, length, set, get_or, take, append_assoc}
 use Rattle.std.proofs.lemmas.List.{map-append, take_more}
 use Rattle.std.proofs.Math.Seq.{get_or-append_seam}
-use Rattle.cose_iana.specs.Algorithms.{algorithm_number}
-use Rattle.cose_iana.specs.Formats.{coap_content_formats}
-use Rattle.cose_iana.specs.Headers.{header_parameters}
-use Rattle.coset_labels.specs.View.{registered_view, named_view}
 use Rattle.coset_headers.specs.Copies.{unsigned_header, unsigned}
 use Rattle.coset_headers.specs.Fields.{SignatureFields, HeaderFields, header, ProtectedFields, protected, signature, no_signatures, signature_more, signatures}
-use Rattle.coset_headers.specs.View.{header_view, protected_view, signature_view, signatures_view, entry_view, plain_parts, signature_step, header_step, protected_step}
+use Rattle.coset_headers.specs.View.{header_view, protected_view, signature_view, signatures_view, plain_parts, signature_step, header_step, protected_step}
 use Rattle.coset_headers.specs.declared.header.Header.{Header, out-Header, roll-Header, roll-out-Header, out-roll-Header, fold-roll-Header}
 use Rattle.coset_headers.specs.declared.header.ProtectedHeader.{ProtectedHeader, out-ProtectedHeader, roll-ProtectedHeader, roll-out-ProtectedHeader, fold-roll-ProtectedHeader}
 use Rattle.coset_headers.specs.declared.header.CoseSignature.{CoseSignature, out-CoseSignature, roll-CoseSignature, roll-out-CoseSignature, out-roll-CoseSignature, fold-roll-CoseSignature}
@@ -41,17 +37,8 @@ pub signature_is : (s : CoseSignature) → signature_view s ≡ signature (prote
 signature_is s = ap signature_view (sym (roll-out-CoseSignature s)) ∙ signature_of (out-CoseSignature s)
 
 -- a header of copies, without counter signatures
-pub plain_copied : (x : Header-F CoseSignature Header ProtectedHeader) (h : Header)
-    → option_map (named_view algorithm_number) x.alg ≡ option_map (named_view algorithm_number) (out-Header h).alg
-    → map (named_view header_parameters.number) x.crit.items ≡ map (named_view header_parameters.number) (out-Header h).crit.items
-    → option_map (registered_view coap_content_formats.number) x.content_type ≡ option_map (registered_view coap_content_formats.number) (out-Header h).content_type
-    → x.key_id.items ≡ (out-Header h).key_id.items → x.iv.items ≡ (out-Header h).iv.items → x.partial_iv.items ≡ (out-Header h).partial_iv.items
-    → x.counter_signatures.items ≡ [] → map entry_view x.rest.items ≡ map entry_view (out-Header h).rest.items
-    → header_view (roll-Header x) ≡ unsigned_header (header_view h)
-plain_copied x h a b k c d e g f =
-    header_of x
-    ∙ (λ i. header (record { alg = a i; crit = b i; content_type = k i; key_id = c i; iv = d i; partial_iv = e i; rest = f i }) (signatures_view (g i)))
-    ∙ sym (ap unsigned_header (header_is h))
+pub plain_copied : (x : Header-F CoseSignature Header ProtectedHeader) (h : Header) → plain_parts x ≡ plain_parts (out-Header h) → x.counter_signatures.items ≡ [] → header_view (roll-Header x) ≡ unsigned_header (header_view h)
+plain_copied x h e g = header_of x ∙ (λ i. header (e i) (signatures_view (g i))) ∙ sym (ap unsigned_header (header_is h))
 
 none_viewed : (ss : List CoseSignature) → signatures_view ss ≡ no_signatures → map signature_view ss ≡ []
 none_viewed [] e = refl

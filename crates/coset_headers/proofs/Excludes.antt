@@ -13,11 +13,14 @@ use Rattle.coset_labels.specs.Kinds.{some_bytes}
 use Rattle.coset_labels.specs.Labels.{label_of}
 use Rattle.coset_labels.specs.Reading.{NotReadable, damaged, goes_on}
 use Rattle.coset_headers.specs.Fields.{Plain, HeaderFields, header, ProtectedFields, protected, SignatureFields, signature, Signatures, no_signatures, signature_more, no_header}
-use Rattle.coset_headers.specs.Headers.{is_at, alg_of, parameter_of, parameters_of, crit_of, IsContentType, HasContentType, entries, at, Distinct, IsField, IsPlain, IsBare, IsList, list_of_three, HasHeader, HasProtected, HasSignature, HasSigned, HasSignatures}
+use Rattle.coset_headers.specs.Headers.{is_at, alg_of, parameter_of, parameters_of, crit_of, IsContentType, HasContentType, entries, at, others, Distinct, IsField, IsPlain, IsBare, IsList, list_of_three, HasHeader, HasProtected, HasSignature, HasSigned, HasSignatures}
 use Rattle.coset_headers.specs.Wrong.{WrongCrit, no_crit_list, empty_crit, bad_crit, WrongContentType, no_content_type, empty_text, white_space, no_one_slash, WrongField, wrong_alg, wrong_crit, wrong_content_type, wrong_key_id, wrong_iv, wrong_partial_iv, NoSignature, WrongHeader, no_map, at_entry, WrongEntry, bad_label, label_again, bad_field, two_ivs, bad_signatures, WrongSigned, no_list, no_first, in_bare, in_list, WrongSignature, no_array, not_three, in_protected, in_unprotected, no_bytes, WrongProtected, no_string, too_deep, unreadable, inside}
 use Rattle.coset_labels.specs.Facts.Entries.{label_only}
 use Rattle.coset_labels.specs.Facts.Wrong.{Splits, splits, at_front, snoc_front, again_not, no_label, no_named, no_registered, no_string_there}
 use Rattle.coset_labels.specs.Facts.Wrong as wrong
+use Rattle.coset_headers.specs.Written.{bytes_value}
+use Rattle.coset_headers.proofs.Entered.{FieldsOf, fields_of, values_at}
+use Rattle.coset_headers.proofs.Fielded.{bytes_are}
 use Rattle.coset_headers.proofs.Unique.{reads_once}
 
 no_more : (o : Option (List Named)) (p : Option Named) → p ≡ None → option_and_then (λ n. option_map (λ ns. n ∷ ns) o) p ≡ None
@@ -67,28 +70,20 @@ module _ (es all : List (LabelFields × Tree)) (l v : Tree) (s : Splits label_of
   field_not : {A : Type 0} (f : Tree → Option A) (absent : A) (n : ℕ) (m : LabelFields) (x : A) → label_of l ≡ Some m → is_at n m ≡ true → IsField f absent (at n all) x → f v ≡ None → ⊥
   field_not f absent n m x q t = wrong.field_not label_of es all l v s d f absent (is_at n) m x q t (label_only n m t)
 
-  value_not : (m : LabelFields) (e : CoseFault) (p : Plain) → label_of l ≡ Some m → WrongField v m e → IsPlain all p → ⊥
-  value_not m e p q (wrong_alg _ w) a = field_not alg_of None 1 (number (pos 1)) p.alg q refl a.alg (ap (option_map Some) (no_named _ is_private_use v e w))
-  value_not m e p q (wrong_crit _ w) a = field_not crit_of [] 2 (number (pos 2)) p.crit q refl a.crit (no_crit v e w)
-  value_not m e p q (wrong_content_type _ w) a = no_type v e p.content_type w (subst (λ o. HasContentType o p.content_type) (there_at 3 (number (pos 3)) q refl) a.content_type)
-  value_not m e p q (wrong_key_id _ w) a = field_not some_bytes [] 4 (number (pos 4)) p.key_id q refl a.key_id (no_string_there v e w)
-  value_not m e p q (wrong_iv _ w) a = field_not some_bytes [] 5 (number (pos 5)) p.iv q refl a.iv (no_string_there v e w)
-  value_not m e p q (wrong_partial_iv _ w) a = field_not some_bytes [] 6 (number (pos 6)) p.partial_iv q refl a.partial_iv (no_string_there v e w)
+  value_not : (m : LabelFields) (e : CoseFault) (p : Plain) → label_of l ≡ Some m → WrongField v m e → FieldsOf (values_at 6 1 all) (others all) p → ⊥
+  value_not m e p q (wrong_alg _ w) a = field_not alg_of None 1 (number (pos 1)) _ q refl a.0 (ap (option_map Some) (no_named _ is_private_use v e w))
+  value_not m e p q (wrong_crit _ w) a = field_not crit_of [] 2 (number (pos 2)) _ q refl a.1 (no_crit v e w)
+  value_not m e p q (wrong_content_type _ w) a = no_type v e p.content_type w (subst (λ o. HasContentType o p.content_type) (there_at 3 (number (pos 3)) q refl) a.2)
+  value_not m e p q (wrong_key_id _ w) a = field_not some_bytes [] 4 (number (pos 4)) _ q refl a.3 (no_string_there v e w)
+  value_not m e p q (wrong_iv _ w) a = field_not some_bytes [] 5 (number (pos 5)) _ q refl a.4 (no_string_there v e w)
+  value_not m e p q (wrong_partial_iv _ w) a = field_not some_bytes [] 6 (number (pos 6)) _ q refl a.5 (no_string_there v e w)
 
-some_full : (t : Tree) (x : List ℕ) → some_bytes t ≡ Some x → x ≡ [] → ⊥
-some_full (bytes []) x e q = let h : None ≡ Some x = e in cc
-some_full (bytes (y ∷ ys)) x e q = let h : Some (y ∷ ys) ≡ Some x = e in let k : y ∷ ys ≡ x = cc in let z : y ∷ ys ≡ [] = k ∙ q in cc
-some_full (integer i) x e q = let h : None ≡ Some x = e in cc
-some_full (text b) x e q = let h : None ≡ Some x = e in cc
-some_full (array ts) x e q = let h : None ≡ Some x = e in cc
-some_full (map_tree ps) x e q = let h : None ≡ Some x = e in cc
-some_full (tag n t) x e q = let h : None ≡ Some x = e in cc
-some_full (simple n) x e q = let h : None ≡ Some x = e in cc
-some_full (float f) x e q = let h : None ≡ Some x = e in cc
+some_full : (x : List ℕ) (t : Tree) → x ≡ [] → bytes_value x ≡ Some t → ⊥
+some_full x t q e = let h : None ≡ Some t = sym (ap bytes_value q) ∙ e in cc
 
-one_only : (p q : List ℕ) → (p ≡ []) ⊎ (q ≡ []) → (p ≡ [] → ⊥) → (q ≡ [] → ⊥) → ⊥
-one_only p q (inl e) f g = f e
-one_only p q (inr e) f g = g e
+one_only : {A B : Type 0} → A ⊎ B → (A → ⊥) → (B → ⊥) → ⊥
+one_only (inl a) f g = f a
+one_only (inr b) f g = g b
 
 ivs_not : (es all : List (LabelFields × Tree)) (l v b c : Tree) (m : LabelFields) (p : Plain) → Splits label_of l v es all → label_of l ≡ Some m → at 5 (es ++ (m, v) ∷ []) ≡ Some b → at 6 (es ++ (m, v) ∷ []) ≡ Some c → IsPlain all p → ⊥
 ivs_not es all l v b c m p s q x y a =
@@ -97,7 +92,8 @@ ivs_not es all l v b c m p s q x y a =
     let parts : (es ++ (m, v) ∷ []) ++ s.behind ≡ all = sym (snoc_front es s.behind (m, v)) ∙ ap (λ z. es ++ (z, v) ∷ s.behind) (sym same) ∙ sym s.whole in
     let five : at 5 all ≡ Some b = ap (at 5) (sym parts) ∙ at_front (is_at 5) (es ++ (m, v) ∷ []) s.behind b x in
     let six : at 6 all ≡ Some c = ap (at 6) (sym parts) ∙ at_front (is_at 6) (es ++ (m, v) ∷ []) s.behind c y in
-    one_only p.iv p.partial_iv a.one_iv (some_full b p.iv (subst (λ o. IsField some_bytes [] o p.iv) five a.iv)) (some_full c p.partial_iv (subst (λ o. IsField some_bytes [] o p.partial_iv) six a.partial_iv))
+    let u = fields_of all p a in
+    one_only u.6 (λ e. some_full _ b e (bytes_are (at 5 all) _ u.4 ∙ five)) (λ e. some_full _ c e (bytes_are (at 6 all) _ u.5 ∙ six))
 
 -- ---- bytes that are no item, and lists
 pub unreadable_not : (n : ℕ) (b : List ℕ) (e : CoseFault) (v : Tree) → NotReadable b n e → Reads b n v → ⊥
@@ -142,10 +138,6 @@ signs_by n t no_signatures k w = let e : Some t ≡ None = w in cc
 signs_by n t (signature_more s ss) k (ts, q, inl (b, r, w)) = let e : Some t ≡ Some (array ts) = q in record { list = ts; is = cc; kind = inl (b, (s, w)) }
 signs_by n t (signature_more s ss) k (ts, q, inr (b, w)) = let e : Some t ≡ Some (array ts) = q in record { list = ts; is = cc; kind = inr (b, (signature_more s ss, w)) }
 
-by_kind : {A B : Type 0} → A ⊎ B → (A → ⊥) → (B → ⊥) → ⊥
-by_kind (inl a) f g = f a
-by_kind (inr b) f g = g b
-
 mutual
   pub header_not : (n : ℕ) (t : Tree) (k : ℕ) (e : CoseFault) → WrongHeader n t k e → (h : HeaderFields) → HasHeader n t h k → ⊥
   header_not n t k e (no_map _ _ x) (header p ss) a = let c : true ≡ false = sym (ap is_map a.2) ∙ x in cc
@@ -158,7 +150,7 @@ mutual
       → (all : List (LabelFields × Tree)) (p : Plain) (ss : Signatures) → Splits label_of l v es all → Distinct all → IsPlain all p → HasSigned n (at 7 all) ss k → ⊥
   entry_not n es l v k e (bad_label _ _ _ _ _ w) all p ss s d a g = let x : Some s.key ≡ None = sym s.is ∙ no_label l e w in cc
   entry_not n es l v k e (label_again _ _ _ _ m q i) all p ss s d a g = again_not label_of es all l v s d m q i
-  entry_not n es l v k e (bad_field _ _ _ _ m _ q _ w) all p ss s d a g = value_not es all l v s d m e p q w a
+  entry_not n es l v k e (bad_field _ _ _ _ m _ q _ w) all p ss s d a g = value_not es all l v s d m e p q w (fields_of all p a)
   entry_not n es l v k e (two_ivs _ _ _ b c _ m q _ x y) all p ss s d a g = ivs_not es all l v b c m p s q x y a
   entry_not n es l v k e (bad_signatures _ _ _ _ m _ q _ r w) all p ss s d a g =
       signed_not n v k e w (signs_by n v ss k (subst (λ o. HasSigned n o ss k) (there_at es all l v s d 7 m q r) g))
@@ -167,13 +159,13 @@ mutual
   signed_not n t k e (no_list _ _ x) a = let c : true ≡ false = sym (ap is_array a.is) ∙ x in cc
   signed_not n t k e (no_first ts _ x) a =
       let h : array ts ≡ array a.list = a.is in let q : ts ≡ a.list = cc in
-      by_kind a.kind (λ y. first_not ts a.list q x y.0) (λ y. first_not_list ts a.list q x y.0)
+      one_only a.kind (λ y. first_not ts a.list q x y.0) (λ y. first_not_list ts a.list q x y.0)
   signed_not n t k e (in_bare ts _ _ b w) a =
       let h : array ts ≡ array a.list = a.is in let q : a.list ≡ ts = cc in
-      by_kind a.kind (λ y. sig_not n (array ts) k e w y.1.0 (subst (λ z. HasSignature n (array z) y.1.0 k) q y.1.1)) (λ y. bare_no_list ts b (subst IsList q y.0))
+      one_only a.kind (λ y. sig_not n (array ts) k e w y.1.0 (subst (λ z. HasSignature n (array z) y.1.0 k) q y.1.1)) (λ y. bare_no_list ts b (subst IsList q y.0))
   signed_not n t k e (in_list before after u _ _ b w) a =
       let h : array (trees (before ++ u ∷ after)) ≡ array a.list = a.is in let q : a.list ≡ trees (before ++ u ∷ after) = cc in
-      by_kind a.kind (λ y. bare_no_list (trees (before ++ u ∷ after)) (subst IsBare q y.0) b)
+      one_only a.kind (λ y. bare_no_list (trees (before ++ u ∷ after)) (subst IsBare q y.0) b)
       (λ y. let z = sigs_at n k before after u y.1.0 (subst (λ z. HasSignatures n z y.1.0 k) q y.1.1) in sig_not n u k e w z.0 z.1)
 
   pub sig_not : (n : ℕ) (t : Tree) (k : ℕ) (e : CoseFault) → WrongSignature n t k e → (s : SignatureFields) → HasSignature n t s k → ⊥

@@ -1,11 +1,8 @@
 -- What is written of a header fits heads if its parts do.
-use Rattle.std.proofs.Common.{◌≡◌, ℕ, ◌+◌, ◌^◌, ◌<◌, ◌≤◌, inl, inr, List, [], ◌∷◌, ◌++◌, length, map, Bool, true, false, cond, Option, Some, None, option_map, refl, sym, ap, subst, ◌∙◌, arith, length-append}
+use Rattle.std.proofs.Common.{◌≡◌, ℕ, ◌+◌, ◌^◌, ◌<◌, ◌≤◌, inl, inr, List, [], ◌∷◌, ◌++◌, length, map, Bool, true, false, cond, Option, Some, None, option_map, refl, sym, ap, subst, ◌∙◌, arith, suc, take, get_or}
 use Rattle.std.specs.Prelude.{All}
-use Rattle.std.proofs.Common.{take, get_or}
 use Rattle.std.proofs.lemmas.List.{take_more}
 use Rattle.cose_iana.specs.declared.headers.HeaderParameter.{HeaderParameter}
-use Rattle.cose_iana.specs.Algorithms.{algorithm_number}
-use Rattle.cose_iana.specs.Formats.{coap_content_formats}
 use Rattle.cose_iana.specs.Headers.{header_parameters}
 use Rattle.ciborium_value.specs.Tree.{Tree, bytes, array, Trees, no_trees, one_more, tree_count, pair_count}
 use Rattle.ciborium_value.specs.View.{trees, pairs, view}
@@ -14,46 +11,71 @@ use Rattle.ciborium_value.proofs.EncodedBytes.{enc_low}
 use Rattle.ciborium_value.specs.declared.value.Value.{Value}
 use Rattle.coset_labels.specs.Fields.{LabelFields, Named}
 use Rattle.coset_labels.specs.Labels.{label_tree, named_tree}
-use Rattle.coset_labels.specs.View.{label_view, registered_view, named_view}
+use Rattle.coset_labels.specs.View.{label_view, named_view}
 use Rattle.coset_labels.specs.declared.registered.RegisteredLabelWithPrivate.{RegisteredLabelWithPrivate}
 use Rattle.coset_labels.specs.declared.label.Label.{Label}
-use Rattle.coset_headers.specs.Entries.{AllFit}
+use Rattle.coset_headers.specs.Entries.{AllFit, ValueFits, ValuesFit}
 use Rattle.coset_headers.specs.Fields.{Plain, HeaderFields, header, protected, ProtectedFields, SignatureFields, signature, Signatures, no_signatures, signature_more}
 use Rattle.coset_headers.specs.Headers.{at, HasHeader, HasProtected, HasSignature, HasSigned, HasSignatures}
+use Rattle.coset_headers.specs.Parts.{plain_of, signs_of}
 use Rattle.coset_headers.specs.Short.{IsShort, ShowsShort, SignatureShort, AllShort}
-use Rattle.coset_headers.specs.View.{header_view, protected_view, signature_view, signatures_view, entry_view, signature_step, header_step, protected_step}
-use Rattle.coset_headers.specs.Written.{name_entry, crit_entry, bytes_entry, signs_entry, written_entries, entry_tree, bare_or_list, header_tree, shown, signature_tree, signature_trees, is_empty}
+use Rattle.coset_headers.specs.View.{header_view, protected_view, signature_view, signatures_view, entry_view}
+use Rattle.coset_headers.specs.Written.{entry_of, crit_value, bytes_value, values_of, entries_from, written_entries, entry_tree, bare_or_list, header_tree, shown, signature_tree, signature_trees, is_empty}
 use Rattle.coset_headers.specs.declared.header.Header.{Header, out-Header}
-use Rattle.coset_headers.specs.declared.header.ProtectedHeader.{ProtectedHeader, out-ProtectedHeader, roll-out-ProtectedHeader, fold-roll-ProtectedHeader}
-use Rattle.coset_headers.specs.declared.header.CoseSignature.{CoseSignature, out-CoseSignature, roll-out-CoseSignature, fold-roll-CoseSignature}
+use Rattle.coset_headers.specs.declared.header.ProtectedHeader.{ProtectedHeader, out-ProtectedHeader}
+use Rattle.coset_headers.specs.declared.header.CoseSignature.{CoseSignature, out-CoseSignature}
 use Rattle.coset_headers.proofs.Again.{header_parts, signature_parts, trees_parts}
-use Rattle.coset_headers.proofs.Alike.{header_is}
-use Rattle.coset_headers.proofs.Wrote.{from2, from3, from4, from5, from6, from7}
+use Rattle.coset_headers.proofs.Alike.{header_is, protected_is, signature_is}
 
 -- ---- entries
-name_fit : (k : ℕ) (o : Option Named) → k < 2 ^ 64 → ((m : Named) → o ≡ Some m → Fits (named_tree m)) → AllFit (name_entry k o)
-name_fit k None l f = tt
-name_fit k (Some m) l f = (l, f m refl, tt)
+abbrev pub Each : {A : Type 0} → (A → Type 0) → List A → Type 0
+Each P [] = Unit {0}
+Each P (x ∷ xs) = P x × Each P xs
+
+pub name_fits : (o : Option Named) → ((m : Named) → o ≡ Some m → Fits (named_tree m)) → ValueFits (option_map named_tree o)
+name_fits None f = tt
+name_fits (Some m) f = f m refl
 
 names_count : (ms : List Named) → tree_count (trees (map named_tree ms)) ≡ length ms
 names_count [] = refl
 names_count (m ∷ ms) = let h = names_count ms in omega (arith, h)
 
-crit_fit : (ms : List Named) → FitAll (trees (map named_tree ms)) → length ms < 2 ^ 64 → AllFit (crit_entry ms)
-crit_fit [] f l = tt
-crit_fit (m ∷ ms) f l = let h = names_count (m ∷ ms) in (omega arith, (omega (arith, h, l), f), tt)
+list_fits : (ms : List Named) → FitAll (trees (map named_tree ms)) → length ms < 2 ^ 64 → ValueFits (crit_value ms)
+list_fits [] f l = tt
+list_fits (m ∷ ms) f l = let h = names_count (m ∷ ms) in (omega (arith, h, l), f)
 
-string_fit : (k : ℕ) (b : List ℕ) → k < 2 ^ 64 → Fits (bytes b) → AllFit (bytes_entry k b)
-string_fit k [] l f = tt
-string_fit k (x ∷ xs) l f = (l, f, tt)
+map_long : {A B : Type 0} (f : A → B) (xs : List A) → length (map f xs) ≡ length xs
+map_long f [] = refl
+map_long f (x ∷ xs) = let h = map_long f xs in omega (arith, h)
 
-signs_fit : (o : Option Tree) → ((t : Tree) → o ≡ Some t → Fits t) → AllFit (signs_entry o)
-signs_fit None f = tt
-signs_fit (Some t) f = (omega arith, f t refl, tt)
+-- the slices are those of the header
+pub crit_fits : {A : Type 0} (f : A → Named) (xs ys : List A) → xs ≡ ys → FitAll (trees (map named_tree (map f xs))) → length xs < 2 ^ 64 → ValueFits (crit_value (map f ys))
+crit_fits f xs ys e c l = let h = map_long f xs in subst (λ z. ValueFits (crit_value (map f z))) e (list_fits (map f xs) c (omega (arith, h, l)))
 
-fit_append : (xs ys : List (LabelFields × Tree)) → AllFit xs → AllFit ys → AllFit (xs ++ ys)
-fit_append [] ys a b = b
-fit_append (x ∷ xs) ys a b = (a.0, a.1, fit_append xs ys a.2 b)
+pub rest_fits : (rs : List (Label × Value)) (h : Header) → rs ≡ (out-Header h).rest.items → AllFit (map entry_view rs) → AllFit (plain_of h).rest
+rest_fits rs h e a = subst (λ z. AllFit (map entry_view z)) e a
+
+pub rest_long : (rs : List (Label × Value)) (h : Header) → rs ≡ (out-Header h).rest.items → length rs + 8 < 2 ^ 64 → length (plain_of h).rest + 8 < 2 ^ 64
+rest_long rs h e l = let a = map_long entry_view (out-Header h).rest.items in let b = ap length e in omega (arith, a, b, l)
+
+pub string_fits : (xs ys : List ℕ) → xs ≡ ys → Fits (bytes xs) → ValueFits (bytes_value ys)
+string_fits [] ys e f = subst (λ z. ValueFits (bytes_value z)) e tt
+string_fits (x ∷ xs) ys e f = subst (λ z. ValueFits (bytes_value z)) e f
+
+bare_fits : (ts : Trees) → FitAll ts → tree_count ts < 2 ^ 64 → ValueFits (bare_or_list ts)
+bare_fits no_trees f l = tt
+bare_fits (one_more t no_trees) f l = f.0
+bare_fits (one_more t (one_more u us)) f l = (l, f)
+
+fit_from : (n : ℕ) (os : List (Option Tree)) (es : List (LabelFields × Tree)) → n + length os ≤ 8 → ValuesFit os → AllFit es → AllFit (entries_from n os es)
+fit_from n [] es l f a = a
+fit_from n (None ∷ os) es l f a = fit_from (suc n) os es (omega (arith, l)) f.1 a
+fit_from n (Some t ∷ os) es l f a = (omega (arith, l), f.0, fit_from (suc n) os es (omega (arith, l)) f.1 a)
+
+short_from : (n : ℕ) (os : List (Option Tree)) (es : List (LabelFields × Tree)) → length (entries_from n os es) ≤ length os + length es
+short_from n [] es = omega arith
+short_from n (None ∷ os) es = let h = short_from (suc n) os es in omega (arith, h)
+short_from n (Some t ∷ os) es = let h = short_from (suc n) os es in omega (arith, h)
 
 pairs_fit : (es : List (LabelFields × Tree)) → AllFit es → FitPairs (pairs (map entry_tree es))
 pairs_fit [] a = tt
@@ -63,97 +85,29 @@ pairs_count : (es : List (LabelFields × Tree)) → pair_count (pairs (map entry
 pairs_count [] = refl
 pairs_count (e ∷ es) = let h = pairs_count es in omega (arith, h)
 
-short_name : (k : ℕ) (o : Option Named) → length (name_entry k o) ≤ 1
-short_name k None = omega arith
-short_name k (Some m) = omega arith
-
-short_crit : (ms : List Named) → length (crit_entry ms) ≤ 1
-short_crit [] = omega arith
-short_crit (m ∷ ms) = omega arith
-
-short_string : (k : ℕ) (b : List ℕ) → length (bytes_entry k b) ≤ 1
-short_string k [] = omega arith
-short_string k (x ∷ xs) = omega arith
-
-short_signs : (o : Option Tree) → length (signs_entry o) ≤ 1
-short_signs None = omega arith
-short_signs (Some t) = omega arith
-
-one_before : (xs ys : List (LabelFields × Tree)) (n m : ℕ) → length xs ≤ 1 → length ys ≤ n → n + 1 ≤ m → length (xs ++ ys) ≤ m
-one_before xs ys n m a b c = let h = length-append xs ys in omega (arith, h, a, b, c)
-
-short_entries : (p : Plain) (o : Option Tree) (n : ℕ) → length p.rest ≤ n → length (written_entries p o) ≤ n + 7
-short_entries p o n l =
-    one_before (name_entry 1 p.alg) (from2 p o) (n + 6) (n + 7) (short_name 1 p.alg)
-    (one_before (crit_entry p.crit) (from3 p o) (n + 5) (n + 6) (short_crit p.crit)
-    (one_before (name_entry 3 p.content_type) (from4 p o) (n + 4) (n + 5) (short_name 3 p.content_type)
-    (one_before (bytes_entry 4 p.key_id) (from5 p o) (n + 3) (n + 4) (short_string 4 p.key_id)
-    (one_before (bytes_entry 5 p.iv) (from6 p o) (n + 2) (n + 3) (short_string 5 p.iv)
-    (one_before (bytes_entry 6 p.partial_iv) (from7 p o) (n + 1) (n + 2) (short_string 6 p.partial_iv)
-    (one_before (signs_entry o) p.rest n (n + 1) (short_signs o) l (omega arith)) (omega arith)) (omega arith)) (omega arith)) (omega arith)) (omega arith)) (omega arith)
-
-bare_fit : (ts : Trees) (t : Tree) → FitAll ts → tree_count ts < 2 ^ 64 → bare_or_list ts ≡ Some t → Fits t
-bare_fit no_trees t f l e = let h : None ≡ Some t = e in absurd (let g : ⊥ = cc in g)
-bare_fit (one_more u no_trees) t f l e = let h : u ≡ t = (let k : Some u ≡ Some t = e in cc) in subst Fits h f.0
-bare_fit (one_more u (one_more v vs)) t f l e = let h : array (one_more u (one_more v vs)) ≡ t = (let k : Some (array (one_more u (one_more v vs))) ≡ Some t = e in cc) in subst Fits h (l, f)
-
-fields_fit : (p : Plain) (ss : Signatures) (u : Tree) → ((m : Named) → p.alg ≡ Some m → Fits (named_tree m)) → FitAll (trees (map named_tree p.crit)) → length p.crit < 2 ^ 64
-    → ((m : Named) → p.content_type ≡ Some m → Fits (named_tree m)) → Fits (bytes p.key_id) → Fits (bytes p.iv) → Fits (bytes p.partial_iv) → AllFit p.rest → length p.rest + 8 < 2 ^ 64
+fields_fit : (p : Plain) (ss : Signatures) (u : Tree) → ValuesFit (values_of p) → AllFit p.rest → length p.rest + 8 < 2 ^ 64
     → ((ts : Trees) → signature_trees ss ≡ Some ts → FitAll ts) → ((ts : Trees) → signature_trees ss ≡ Some ts → tree_count ts < 2 ^ 64) → header_tree (header p ss) ≡ Some u → Fits u
-fields_fit p ss u a c l t k i q r n s m e =
+fields_fit p ss u v r n s m e =
     let w = header_parts p (signature_trees ss) u e in
     let o = bare_or_list w.0 in
     let es = written_entries p o in
-    let all : AllFit es =
-    fit_append (name_entry 1 p.alg) (from2 p o) (name_fit 1 p.alg (omega arith) a)
-    (fit_append (crit_entry p.crit) (from3 p o) (crit_fit p.crit c l)
-    (fit_append (name_entry 3 p.content_type) (from4 p o) (name_fit 3 p.content_type (omega arith) t)
-    (fit_append (bytes_entry 4 p.key_id) (from5 p o) (string_fit 4 p.key_id (omega arith) k)
-    (fit_append (bytes_entry 5 p.iv) (from6 p o) (string_fit 5 p.iv (omega arith) i)
-    (fit_append (bytes_entry 6 p.partial_iv) (from7 p o) (string_fit 6 p.partial_iv (omega arith) q)
-    (fit_append (signs_entry o) p.rest (signs_fit o (λ x g. bare_fit w.0 x (s w.0 w.1) (m w.0 w.1) g)) r)))))) in
-    let few = short_entries p o (length p.rest) (omega arith) in
+    let signs : AllFit (entry_of 7 o ++ p.rest) = fit_from 7 (o ∷ []) p.rest (omega arith) (bare_fits w.0 (s w.0 w.1) (m w.0 w.1), tt) r in
+    let all : AllFit es = fit_from 1 (values_of p) (entry_of 7 o ++ p.rest) (omega arith) v signs in
+    let few = short_from 1 (values_of p ++ o ∷ []) p.rest in
     let count = pairs_count es in
     subst Fits w.2 (omega (arith, few, count, n), pairs_fit es all)
 
-map_long : {A B : Type 0} (f : A → B) (xs : List A) → length (map f xs) ≡ length xs
-map_long f [] = refl
-map_long f (x ∷ xs) = let h = map_long f xs in omega (arith, h)
-
--- the slices are those of the header
-pub header_fit : (h : Header) (u : Tree) (cs : List (RegisteredLabelWithPrivate HeaderParameter)) (ks is qs : List ℕ) (rs : List (Label × Value)) (ss : List CoseSignature)
-    → cs ≡ (out-Header h).crit.items → ks ≡ (out-Header h).key_id.items → is ≡ (out-Header h).iv.items → qs ≡ (out-Header h).partial_iv.items → rs ≡ (out-Header h).rest.items → ss ≡ (out-Header h).counter_signatures.items
-    → ((m : Named) → option_map (named_view algorithm_number) (out-Header h).alg ≡ Some m → Fits (named_tree m))
-    → FitAll (trees (map named_tree (map (named_view header_parameters.number) cs))) → length cs < 2 ^ 64
-    → ((m : Named) → option_map (registered_view coap_content_formats.number) (out-Header h).content_type ≡ Some m → Fits (named_tree m))
-    → Fits (bytes ks) → Fits (bytes is) → Fits (bytes qs) → AllFit (map entry_view rs) → length rs + 8 < 2 ^ 64
+pub header_fit : (h : Header) (u : Tree) (ss : List CoseSignature) → ss ≡ (out-Header h).counter_signatures.items
+    → ValuesFit (values_of (plain_of h)) → AllFit (plain_of h).rest → length (plain_of h).rest + 8 < 2 ^ 64
     → ((ts : Trees) → signature_trees (signatures_view ss) ≡ Some ts → AllShort (signatures_view ss) → FitAll ts)
     → ((ts : Trees) → signature_trees (signatures_view ss) ≡ Some ts → tree_count ts < 2 ^ 64)
     → header_tree (header_view h) ≡ Some u → IsShort (header_view h) → Fits u
-header_fit h u cs ks is qs rs ss e1 e2 e3 e4 e5 e6 a c l t k i q r n s m e short =
+header_fit h u ss es v r n s m e short =
     let same = header_is h in
-    let o = out-Header h in
-    let lc = map_long (named_view header_parameters.number) o.crit.items in
-    let lr = map_long entry_view o.rest.items in
-    let lc' = ap length e1 in
-    let lr' = ap length e5 in
-    let all : AllShort (signatures_view o.counter_signatures.items) = subst IsShort same short in
-    let s' = subst (λ z. (ts : Trees) → signature_trees (signatures_view z) ≡ Some ts → AllShort (signatures_view z) → FitAll ts) e6 s in
-    let m' = subst (λ z. (ts : Trees) → signature_trees (signatures_view z) ≡ Some ts → tree_count ts < 2 ^ 64) e6 m in
-    fields_fit (record {
-      alg = option_map (named_view algorithm_number) o.alg;
-      crit = map (named_view header_parameters.number) o.crit.items;
-      content_type = option_map (registered_view coap_content_formats.number) o.content_type;
-      key_id = o.key_id.items;
-      iv = o.iv.items;
-      partial_iv = o.partial_iv.items;
-      rest = map entry_view o.rest.items;
-    }) (signatures_view o.counter_signatures.items) u a
-    (subst (λ z. FitAll (trees (map named_tree (map (named_view header_parameters.number) z)))) e1 c)
-    (omega (arith, lc, lc', l)) t
-    (subst (λ z. Fits (bytes z)) e2 k) (subst (λ z. Fits (bytes z)) e3 i) (subst (λ z. Fits (bytes z)) e4 q)
-    (subst (λ z. AllFit (map entry_view z)) e5 r) (omega (arith, lr, lr', n))
-    (λ ts g. s' ts g all) m' (sym (ap header_tree same) ∙ e)
+    let all : AllShort (signs_of h) = subst IsShort same short in
+    let s' = subst (λ z. (ts : Trees) → signature_trees (signatures_view z) ≡ Some ts → AllShort (signatures_view z) → FitAll ts) es s in
+    let m' = subst (λ z. (ts : Trees) → signature_trees (signatures_view z) ≡ Some ts → tree_count ts < 2 ^ 64) es m in
+    fields_fit (plain_of h) (signs_of h) u v r n (λ ts g. s' ts g all) m' (sym (ap header_tree same) ∙ e)
 
 -- ---- protected headers and signatures
 abbrev AreBytes : List ℕ → Type 0
@@ -173,9 +127,6 @@ signature_fit p h c d u f g q k e s =
     let w = signature_parts (shown p) (header_tree h) c u e in
     subst Fits w.4 (omega arith, (f w.0 w.2 s.0, (g w.1 w.3 s.1, (subst (λ z. Fits (bytes z)) q k, tt))))
 
-protected_is : (p : ProtectedHeader) → protected_view p ≡ protected (option_map (λ v. v.items) (out-ProtectedHeader p).original_data) (header_view (out-ProtectedHeader p).header)
-protected_is p = ap protected_view (sym (roll-out-ProtectedHeader p)) ∙ fold-roll-ProtectedHeader SignatureFields HeaderFields ProtectedFields signature_step header_step protected_step (out-ProtectedHeader p)
-
 pub unsent_fit : (p : ProtectedHeader) (b : List ℕ) → (out-ProtectedHeader p).original_data ≡ None
     → ((u : Tree) → header_tree (header_view (out-ProtectedHeader p).header) ≡ Some u → IsShort (header_view (out-ProtectedHeader p).header) → Fits u)
     → shown (protected_view p) ≡ Some b → ShowsShort (protected_view p) → Fits (bytes b)
@@ -183,9 +134,6 @@ unsent_fit p b e f g s =
     let h = header_view (out-ProtectedHeader p).header in
     let same : protected_view p ≡ protected None h = protected_is p ∙ ap (λ z. protected (option_map (λ v. v.items) z) h) e in
     protected_fit h b f (sym (ap shown same) ∙ g) (subst ShowsShort same s)
-
-signature_is : (s : CoseSignature) → signature_view s ≡ signature (protected_view (out-CoseSignature s).protected) (header_view (out-CoseSignature s).unprotected) (out-CoseSignature s).signature.items
-signature_is s = ap signature_view (sym (roll-out-CoseSignature s)) ∙ fold-roll-CoseSignature SignatureFields HeaderFields ProtectedFields signature_step header_step protected_step (out-CoseSignature s)
 
 pub signature_fit_by : (s : CoseSignature) (d : List ℕ) (u : Tree) → ((b : List ℕ) → shown (protected_view (out-CoseSignature s).protected) ≡ Some b → ShowsShort (protected_view (out-CoseSignature s).protected) → Fits (bytes b))
     → ((v : Tree) → header_tree (header_view (out-CoseSignature s).unprotected) ≡ Some v → IsShort (header_view (out-CoseSignature s).unprotected) → Fits v)
@@ -195,10 +143,6 @@ signature_fit_by s d u f g q k e h =
     signature_fit (protected_view (out-CoseSignature s).protected) (header_view (out-CoseSignature s).unprotected) (out-CoseSignature s).signature.items d u f g q k (sym (ap signature_tree same) ∙ e) (subst SignatureShort same h)
 
 -- ---- counter signatures
-abbrev pub Each : {A : Type 0} → (A → Type 0) → List A → Type 0
-Each P [] = Unit {0}
-Each P (x ∷ xs) = P x × Each P xs
-
 abbrev pub SignatureFits : CoseSignature → Type 0
 SignatureFits s = (u : Tree) → signature_tree (signature_view s) ≡ Some u → SignatureShort (signature_view s) → Fits u
 

@@ -1,27 +1,26 @@
 -- Whether the label of an entry is new, by the fields that the entries before gave.
-use Rattle.std.proofs.Common.{◌≡◌, ℕ, pos, cond, inl, inr, ◌⊎◌, ⊎_elim, ◌+◌, ◌<◌, ◌≤◌, zero, suc, List, [], ◌∷◌, ◌++◌, length, map, Bool, true, false, Option, Some, None, option_map, option_and_then, refl, sym, ap, subst, ◌∙◌, arith, append_assoc, append-nil, length-append, take, take_all, get_or, is_some, not, is_eq, vec_len, Vec, Global}
-use Rattle.std.specs.Prelude.{MatchBool, ◌==◌}
-use borrow.Author.Tests.{eqb-true}
+use Rattle.std.proofs.Common.{◌≡◌, ℕ, pos, cond, inl, inr, ◌⊎◌, ⊎_elim, ◌+◌, ◌<◌, ◌≤◌, zero, suc, List, [], ◌∷◌, ◌++◌, length, map, Bool, true, false, Option, Some, None, refl, sym, ap, subst, ◌∙◌, arith, append_assoc, append-nil, length-append, take, take_all, get_or, is_some, not, is_eq}
+use Rattle.std.specs.Prelude.{MatchBool}
 use Rattle.coset_labels.specs.Orders.{label_cmp}
 use Rattle.coset_labels.specs.Facts.Orders.{labels_same}
-use Rattle.coset_headers.specs.declared.header.CoseSignature.{CoseSignature}
 use Rattle.std.proofs.lemmas.List.{length-map, map-append, take_more, take-append-le}
 use Rattle.ciborium_value.specs.declared.value.Value.{Value}
-use Rattle.ciborium_value.specs.Tree.{Tree, integer, bytes, text, array, map as map_tree, tag, simple, float, no_trees, one_more}
+use Rattle.ciborium_value.specs.Tree.{Tree}
 use Rattle.coset_labels.specs.Facts.Entries.{label_only, in_front, in_snoc}
-use Rattle.coset_labels.specs.Fields.{LabelFields, number, Named}
-use Rattle.coset_labels.specs.Kinds.{some_bytes}
+use Rattle.coset_labels.specs.Fields.{LabelFields, number}
 use Rattle.coset_labels.specs.View.{label_view}
 use Rattle.coset_labels.specs.declared.label.Label.{Label}
 use Rattle.coset_labels.specs.declared.seen_labels.SeenLabels.{SeenLabels}
 use Rattle.coset_headers.specs.Fields.{Plain, header, no_plain, no_header, Signatures, no_signatures, signature_more}
-use Rattle.coset_headers.specs.Headers.{is_at, is_core, alg_of, crit_of, parameter_of, parameters_of, at, IsIn, others, IsField, HasContentType, IsPlain, HasSigned}
+use Rattle.coset_headers.specs.Headers.{is_at, is_core, at, IsIn, others, IsPlain, HasSigned}
 use Rattle.coset_headers.specs.Parts.{plain_of, signs_of, SeesLabels, Sees, SeesMany, IsFresh, Known}
-use Rattle.coset_headers.specs.View.{header_view, entry_view, signatures_view}
-use Rattle.coset_headers.specs.Written.{is_absent, is_nil, is_unsigned}
+use Rattle.coset_headers.specs.View.{header_view, entry_view}
+use Rattle.coset_headers.specs.Written.{values_of, is_unsigned}
 use Rattle.coset_headers.specs.declared.header.Header.{Header}
 use Rattle.coset_headers.proofs.Alike.{header_is}
-use Rattle.coset_headers.proofs.Entered.{cond_none, bool_cases, none_plain, others_core, others_more}
+use Rattle.coset_headers.proofs.Entered.{cond_none, bool_cases, alike, none_plain, others_core, others_more, values_at, values_read}
+use Rattle.coset_headers.proofs.Unset.{twice_not}
+use Rattle.coset_headers.proofs.Wrote.{value_at}
 
 -- ---- at the beginning
 pub sees_none : (s : SeenLabels Label) → SeesLabels s [] → Sees s []
@@ -56,76 +55,21 @@ fresh_true es m s b i a c g e o = subst (IsFresh m es s) (sym e) (none_in i es m
 fresh_false : (es : List (LabelFields × Tree)) (m : LabelFields) (s : SeenLabels Label) (b : Bool) (i : ℕ) (t : Tree) → is_at i m ≡ true → b ≡ false → at i es ≡ Some t → IsFresh m es s b
 fresh_false es m s b i t a e o = subst (IsFresh m es s) (sym e) (some_in i es m t a o)
 
-fresh_by : {A : Type 0} (f : Tree → Option A) (absent : A) (test : A → Bool) (i : ℕ) (es : List (LabelFields × Tree)) (m : LabelFields) (s : SeenLabels Label) (b : Bool) (x : A) (o : Option Tree)
-    → is_at i m ≡ true → is_core m ≡ true → Sees s es → at i es ≡ o → IsField f absent o x → test absent ≡ true → ((t : Tree) (y : A) → f t ≡ Some y → test y ≡ false) → b ≡ test x → IsFresh m es s b
-fresh_by f absent test i es m s b x None a c g q w t h e = fresh_true es m s b i a c g (e ∙ ap test w ∙ t) q
-fresh_by f absent test i es m s b x (Some t) a c g q w r h e = fresh_false es m s b i t a (e ∙ h t x w) q
-
-alg_set : (o : Option Named) (y : Option Named) → option_map Some o ≡ Some y → is_absent y ≡ false
-alg_set None y e = let h : None ≡ Some y = e in cc
-alg_set (Some a) y e = let h : Some (Some a) ≡ Some y = e in let k : Some a ≡ y = cc in ap is_absent (sym k)
-
-crit_step : (o : Option Named) (w : Option (List Named)) (y : List Named) → option_and_then (λ n. option_map (λ ns. n ∷ ns) w) o ≡ Some y → is_nil y ≡ false
-crit_step None w y e = let h : None ≡ Some y = e in cc
-crit_step (Some n) None y e = let h : None ≡ Some y = e in cc
-crit_step (Some n) (Some ns) y e = let h : Some (n ∷ ns) ≡ Some y = e in let k : n ∷ ns ≡ y = cc in ap is_nil (sym k)
-
-crit_set : (t : Tree) (y : List Named) → crit_of t ≡ Some y → is_nil y ≡ false
-crit_set (array (one_more t ts)) y e = crit_step (parameter_of t) (parameters_of ts) y e
-crit_set (array no_trees) y e = let h : None ≡ Some y = e in cc
-crit_set (integer i) y e = let h : None ≡ Some y = e in cc
-crit_set (bytes b) y e = let h : None ≡ Some y = e in cc
-crit_set (text b) y e = let h : None ≡ Some y = e in cc
-crit_set (map_tree ps) y e = let h : None ≡ Some y = e in cc
-crit_set (tag n t) y e = let h : None ≡ Some y = e in cc
-crit_set (simple n) y e = let h : None ≡ Some y = e in cc
-crit_set (float f) y e = let h : None ≡ Some y = e in cc
-
-bytes_set : (t : Tree) (y : List ℕ) → some_bytes t ≡ Some y → is_nil y ≡ false
-bytes_set (bytes (x ∷ xs)) y e = let h : Some (x ∷ xs) ≡ Some y = e in let k : x ∷ xs ≡ y = cc in ap is_nil (sym k)
-bytes_set (bytes []) y e = let h : None ≡ Some y = e in cc
-bytes_set (array ts) y e = let h : None ≡ Some y = e in cc
-bytes_set (integer i) y e = let h : None ≡ Some y = e in cc
-bytes_set (text b) y e = let h : None ≡ Some y = e in cc
-bytes_set (map_tree ps) y e = let h : None ≡ Some y = e in cc
-bytes_set (tag n t) y e = let h : None ≡ Some y = e in cc
-bytes_set (simple n) y e = let h : None ≡ Some y = e in cc
-bytes_set (float f) y e = let h : None ≡ Some y = e in cc
-
-content_by : (es : List (LabelFields × Tree)) (s : SeenLabels Label) (b : Bool) (x : Option Named) (o : Option Tree)
-    → Sees s es → at 3 es ≡ o → HasContentType o x → b ≡ is_absent x → IsFresh (number (pos 3)) es s b
-content_by es s b x None g q w e = fresh_true es (number (pos 3)) s b 3 refl refl g (e ∙ ap is_absent w) q
-content_by es s b x (Some t) g q w e = fresh_false es (number (pos 3)) s b 3 t refl (e ∙ ap is_absent w.3) q
-
-signs_by : (n k : ℕ) (es : List (LabelFields × Tree)) (s : SeenLabels Label) (b : Bool) (ss : Signatures)
-    → Sees s es → HasSigned n (at 7 es) ss k → b ≡ is_unsigned ss → IsFresh (number (pos 7)) es s b
-signs_by n k es s b no_signatures g w e = fresh_true es (number (pos 7)) s b 7 refl refl g e w
-signs_by n k es s b (signature_more x ss) g w e = fresh_false es (number (pos 7)) s b 7 (array w.0) refl e w.1
+signs_test : (n k : ℕ) (o : Option Tree) (ss : Signatures) → HasSigned n o ss k → is_unsigned ss ≡ not (is_some o)
+signs_test n k o no_signatures w = ap (λ z. not (is_some z)) (sym w)
+signs_test n k o (signature_more x ss) w = ap (λ z. not (is_some z)) (sym w.1)
 
 module _ (n k : ℕ) (es : List (LabelFields × Tree)) (p : Plain) (ss : Signatures) (m : LabelFields) (s : SeenLabels Label) (b : Bool) (w : Known n es p ss k) (g : Sees s es) where
-  at_number : (i : ℕ) → m ≡ number (pos i) → IsFresh (number (pos i)) es s b → IsFresh m es s b
-  at_number i q f = subst (λ z. IsFresh z es s b) (sym q) f
+  fresh_value : (i : ℕ) (o : Option Tree) → m ≡ number (pos i) → is_core (number (pos i)) ≡ true → at i es ≡ o → b ≡ not (is_some o) → IsFresh m es s b
+  fresh_value i None q c r e = fresh_true es m s b i (ap (is_at i) q ∙ alike i i refl) (ap is_core q ∙ c) g e r
+  fresh_value i (Some t) q c r e = fresh_false es m s b i t (ap (is_at i) q ∙ alike i i refl) e r
 
-  pub fresh_alg : m ≡ number (pos 1) → b ≡ is_absent p.alg → IsFresh m es s b
-  fresh_alg q e = at_number 1 q (fresh_by alg_of None is_absent 1 es (number (pos 1)) s b p.alg (at 1 es) refl refl g refl w.plain.alg refl (λ t y h. alg_set _ y h) e)
-
-  pub fresh_crit : m ≡ number (pos 2) → b ≡ is_nil p.crit → IsFresh m es s b
-  fresh_crit q e = at_number 2 q (fresh_by crit_of [] is_nil 2 es (number (pos 2)) s b p.crit (at 2 es) refl refl g refl w.plain.crit refl crit_set e)
-
-  pub fresh_content_type : m ≡ number (pos 3) → b ≡ is_absent p.content_type → IsFresh m es s b
-  fresh_content_type q e = at_number 3 q (content_by es s b p.content_type (at 3 es) g refl w.plain.content_type e)
-
-  pub fresh_key_id : m ≡ number (pos 4) → b ≡ is_nil p.key_id → IsFresh m es s b
-  fresh_key_id q e = at_number 4 q (fresh_by some_bytes [] is_nil 4 es (number (pos 4)) s b p.key_id (at 4 es) refl refl g refl w.plain.key_id refl bytes_set e)
-
-  pub fresh_iv : m ≡ number (pos 5) → b ≡ is_nil p.iv → IsFresh m es s b
-  fresh_iv q e = at_number 5 q (fresh_by some_bytes [] is_nil 5 es (number (pos 5)) s b p.iv (at 5 es) refl refl g refl w.plain.iv refl bytes_set e)
-
-  pub fresh_partial_iv : m ≡ number (pos 6) → b ≡ is_nil p.partial_iv → IsFresh m es s b
-  fresh_partial_iv q e = at_number 6 q (fresh_by some_bytes [] is_nil 6 es (number (pos 6)) s b p.partial_iv (at 6 es) refl refl g refl w.plain.partial_iv refl bytes_set e)
+  -- the values of the fields are those of the entries
+  pub fresh_field : (i : ℕ) → m ≡ number (pos i) → is_core (number (pos i)) ≡ true → value_at i 1 (values_at 6 1 es) ≡ at i es → is_some (value_at i 1 (values_of p)) ≡ not b → IsFresh m es s b
+  fresh_field i q c r e = fresh_value i (value_at i 1 (values_of p)) q c (sym r ∙ ap (value_at i 1) (sym (values_read es p w.plain))) (twice_not b ∙ ap not (sym e))
 
   pub fresh_signs : m ≡ number (pos 7) → b ≡ is_unsigned ss → IsFresh m es s b
-  fresh_signs q e = at_number 7 q (signs_by n k es s b ss g w.signed e)
+  fresh_signs q e = fresh_value 7 (at 7 es) q refl refl (e ∙ signs_test n k (at 7 es) ss w.signed)
 
 -- ---- a label without one
 others_by : (x : LabelFields × Tree) (es : List (LabelFields × Tree)) (b : Bool) → is_core x.0 ≡ b → others (x ∷ es) ≡ cond b (others es) (x ∷ others es)
@@ -235,28 +179,3 @@ differs l m e q = let h : is_eq (label_cmp l m) ≡ true = (labels_same l m).1 q
 
 pub front_long : (es : List (Label × Value)) → 64 ≤ length es → 64 ≤ length (map entry_view es)
 front_long es h = let e = length-map es entry_view in omega (arith, e, h)
-
--- ---- what a field is tested by
-pub none_absent : {A : Type 0} (f : A → Named) (o : Option A) (b : Bool) → is_some o ≡ not b → b ≡ is_absent (option_map f o)
-none_absent f None true e = refl
-none_absent f None false e = let h : false ≡ true = e in cc
-none_absent f (Some x) true e = let h : true ≡ false = e in cc
-none_absent f (Some x) false e = refl
-
-not_true : (b : Bool) → (b ≡ true → ⊥) → b ≡ false
-not_true true h = absurd (h refl)
-not_true false h = refl
-
-nil_count : (xs : List ℕ) → (length xs == 0) ≡ is_nil xs
-nil_count [] = refl
-nil_count (x ∷ xs) = not_true (length (x ∷ xs) == 0) (λ h. let e : length (x ∷ xs) ≡ 0 = eqb-true (length (x ∷ xs)) 0 h in absurd (omega (arith, e)))
-
-pub nil_items : (v : Vec ℕ Global) (b : Bool) → b ≡ (vec_len v == 0) → b ≡ is_nil v.items
-nil_items v b e = e ∙ ap (λ n. n == 0) v.ok.0 ∙ nil_count v.items
-
-unsigned_count : (ss : List CoseSignature) → (length ss == 0) ≡ is_unsigned (signatures_view ss)
-unsigned_count [] = refl
-unsigned_count (s ∷ ss) = not_true (length (s ∷ ss) == 0) (λ h. let e : length (s ∷ ss) ≡ 0 = eqb-true (length (s ∷ ss)) 0 h in absurd (omega (arith, e)))
-
-pub nil_signs : (v : Vec CoseSignature Global) (b : Bool) → b ≡ (vec_len v == 0) → b ≡ is_unsigned (signatures_view v.items)
-nil_signs v b e = e ∙ ap (λ n. n == 0) v.ok.0 ∙ unsigned_count v.items

@@ -12,7 +12,6 @@ pub mod Names
 pub mod Nested
 pub mod Pushed
 pub mod Ranked
-pub mod Restored
 pub mod SameParts
 pub mod Signed
 pub mod Small

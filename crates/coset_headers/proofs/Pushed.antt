@@ -1,5 +1,5 @@
 -- Entries that are appended to a map.
-use Rattle.std.proofs.Common.{◌≡◌, ◌≢◌, pos, inl, inr, false, cond, Vec, Global, List, [], ◌∷◌, ◌++◌, map, Some, None, option_map, refl, sym, ap, ◌∙◌, append-nil}
+use Rattle.std.proofs.Common.{◌≡◌, ◌≢◌, ℕ, pos, inl, inr, false, cond, Vec, Global, List, [], ◌∷◌, ◌++◌, map, Some, None, option_map, refl, sym, ap, ◌∙◌, append-nil}
 use Rattle.std.proofs.lemmas.List.{map-append}
 use Rattle.ciborium_value.specs.Tree.{Tree, integer, array, map as map_tree, Trees}
 use Rattle.ciborium_value.specs.View.{trees, pairs, view, view_pair}
@@ -10,7 +10,7 @@ use Rattle.coset_labels.specs.Facts.Pushed.{back_one}
 use Rattle.coset_labels.specs.Facts.Pushed as pushed
 use Rattle.coset_labels.specs.Arrays.{all_written, array_of}
 use Rattle.coset_labels.specs.Faults.{CantWrite}
-use Rattle.coset_labels.specs.Fields.{Named}
+use Rattle.coset_labels.specs.Fields.{LabelFields, Named}
 use Rattle.coset_labels.specs.Labels.{label_tree, named_tree}
 use Rattle.coset_labels.specs.View.{label_view}
 use Rattle.coset_labels.specs.declared.error.CoseError.{CoseError}
@@ -18,7 +18,8 @@ use Rattle.coset_labels.specs.declared.error.CoseError.TheVariants.{Memory}
 use Rattle.coset_labels.specs.declared.label.Label.{Label}
 use Rattle.coset_headers.specs.Fields.{Plain}
 use Rattle.coset_headers.specs.View.{entry_view}
-use Rattle.coset_headers.specs.Written.{name_entry, crit_entry, bytes_entry, signs_entry, bare_or_list, written_entries, entry_tree, tree_of, header_of, twice}
+use Rattle.coset_headers.specs.Written.{entry_of, values_of, crit_entry, bare_or_list, written_entries, entry_tree, tree_of, header_of, twice}
+use Rattle.coset_headers.proofs.Wrote.{value_at}
 
 names_written : (ns : List Named) → all_written (λ f. Some (named_tree f)) ns ≡ Some (map named_tree ns)
 names_written [] = refl
@@ -57,19 +58,21 @@ pub rest_pushed : (start old new : List (Value × Value)) (xs : List (Label × V
 rest_pushed = pushed.rest_pushed label_tree label_view
 
 -- ---- all entries in their order
+abbrev pub piece : Plain → ℕ → List (LabelFields × Tree)
+piece p n = entry_of n (value_at n 1 (values_of p))
+
 pub map_done : (p : Plain) (ts : Trees) (v : Vec (Value × Value) Global) (l0 l1 l2 l3 l4 l5 l6 l7 : List (Tree × Tree)) → twice p.rest ≡ false → l0 ≡ []
-    → l1 ≡ l0 ++ map entry_tree (name_entry 1 p.alg) → l2 ≡ l1 ++ map entry_tree (crit_entry p.crit) → l3 ≡ l2 ++ map entry_tree (name_entry 3 p.content_type)
-    → l4 ≡ l3 ++ map entry_tree (bytes_entry 4 p.key_id) → l5 ≡ l4 ++ map entry_tree (bytes_entry 5 p.iv) → l6 ≡ l5 ++ map entry_tree (bytes_entry 6 p.partial_iv)
-    → l7 ≡ l6 ++ map entry_tree (signs_entry (bare_or_list ts)) → map view_pair v.items ≡ l7 ++ map entry_tree p.rest
+    → l1 ≡ l0 ++ map entry_tree (piece p 1) → l2 ≡ l1 ++ map entry_tree (piece p 2) → l3 ≡ l2 ++ map entry_tree (piece p 3) → l4 ≡ l3 ++ map entry_tree (piece p 4)
+    → l5 ≡ l4 ++ map entry_tree (piece p 5) → l6 ≡ l5 ++ map entry_tree (piece p 6) → l7 ≡ l6 ++ map entry_tree (entry_of 7 (bare_or_list ts)) → map view_pair v.items ≡ l7 ++ map entry_tree p.rest
     → header_of p ts ≡ Some (view (code.Map v))
 map_done p ts v l0 l1 l2 l3 l4 l5 l6 l7 t e0 e1 e2 e3 e4 e5 e6 e7 e8 =
     let z = map view_pair v.items in
-    let s7 = back_one entry_tree l6 l7 z (signs_entry (bare_or_list ts)) p.rest e8 e7 in
-    let s6 = back_one entry_tree l5 l6 z (bytes_entry 6 p.partial_iv) _ s7 e6 in
-    let s5 = back_one entry_tree l4 l5 z (bytes_entry 5 p.iv) _ s6 e5 in
-    let s4 = back_one entry_tree l3 l4 z (bytes_entry 4 p.key_id) _ s5 e4 in
-    let s3 = back_one entry_tree l2 l3 z (name_entry 3 p.content_type) _ s4 e3 in
-    let s2 = back_one entry_tree l1 l2 z (crit_entry p.crit) _ s3 e2 in
-    let s1 = back_one entry_tree l0 l1 z (name_entry 1 p.alg) _ s2 e1 in
+    let s7 = back_one entry_tree l6 l7 z (entry_of 7 (bare_or_list ts)) p.rest e8 e7 in
+    let s6 = back_one entry_tree l5 l6 z (piece p 6) _ s7 e6 in
+    let s5 = back_one entry_tree l4 l5 z (piece p 5) _ s6 e5 in
+    let s4 = back_one entry_tree l3 l4 z (piece p 4) _ s5 e4 in
+    let s3 = back_one entry_tree l2 l3 z (piece p 3) _ s4 e3 in
+    let s2 = back_one entry_tree l1 l2 z (piece p 2) _ s3 e2 in
+    let s1 = back_one entry_tree l0 l1 z (piece p 1) _ s2 e1 in
     let whole : map view_pair v.items ≡ map entry_tree (written_entries p (bare_or_list ts)) = s1 ∙ ap (λ y. y ++ map entry_tree (written_entries p (bare_or_list ts))) e0 in
     ap (λ b. cond b None (Some (tree_of (written_entries p (bare_or_list ts))))) t ∙ ap Some (ap (λ y. map_tree (pairs y)) (sym whole) ∙ sym (view_map v))

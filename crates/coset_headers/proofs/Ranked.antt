@@ -9,28 +9,13 @@ use Rattle.coset_labels.specs.Fields.{LabelFields, number, words}
 use Rattle.coset_labels.specs.Labels.{label_tree}
 use Rattle.coset_headers.specs.AsWritten.{place_of}
 use Rattle.coset_headers.specs.Headers.{is_at, is_core, at, Distinct, others}
-use Rattle.coset_headers.proofs.Entered.{is_at_is, bool_cases, at_none}
-use Rattle.coset_headers.proofs.Fielded.{field, gather, same_append}
-use Rattle.coset_headers.proofs.Wrote.{NoneCore, others_none}
+use Rattle.coset_headers.specs.Written.{entry_of}
+use Rattle.coset_headers.proofs.Entered.{is_at_is, bool_cases, at_none, less, unlike, alike, core_range, core_at, gather}
+use Rattle.coset_headers.proofs.Wrote.{NoneCore, others_none, others_all}
 
 -- ---- the place of a label
 abbrev pub rank : LabelFields → ℕ
 rank l = place_of (label_tree l)
-
-less : (a b : ℕ) → a < b → nat_lt a b ≡ true
-less a b h = grind (arith, nat_tests)
-
-unlike : (a b : ℕ) → a < b → nat_eq b a ≡ false
-unlike a b h = grind (arith, nat_tests)
-
-same : (a b : ℕ) → a ≡ b → nat_eq a b ≡ true
-same a b h = grind (arith, nat_tests)
-
-pub core_range : (n : ℕ) → is_core (number (pos n)) ≡ (nat_lt 0 n && nat_lt n 8)
-core_range n = grind (arith, nat_tests)
-
-core_at : (n : ℕ) → 0 < n → n < 8 → is_core (number (pos n)) ≡ true
-core_at n a b = core_range n ∙ ap (λ z. z && nat_lt n 8) (less 0 n a) ∙ less n 8 b
 
 rank_of : (n : ℕ) → 0 < n → n < 8 → rank (number (pos n)) ≡ n
 rank_of n a b = ap (λ z. cond (z && nat_lt n 8) n 8) (less 0 n a) ∙ ap (λ z. cond z n 8) (less n 8 b)
@@ -71,7 +56,7 @@ pub rank_at : (n : ℕ) (l : LabelFields) → rank l ≡ n → n < 8 → is_at n
 rank_at n l e h = go (ranked l)
   where
     go : IsRanked l → is_at n l ≡ true
-    go (inl (m, q, a, b)) = let f : rank l ≡ m = ap rank q ∙ rank_of m a b in ap (is_at n) q ∙ same n m (sym e ∙ f)
+    go (inl (m, q, a, b)) = let f : rank l ≡ m = ap rank q ∙ rank_of m a b in ap (is_at n) q ∙ alike n m (sym e ∙ f)
     go (inr (_, f)) = absurd (omega (arith, e, f, h))
 
 -- ---- entries in order
@@ -90,16 +75,16 @@ none_sorted r (e ∷ es) h g =
     let f : rank e.0 ≡ 8 = core_rank e.0 g.0 in
     (omega (arith, h, f), none_sorted (rank e.0) es (omega (arith, f)) g.1)
 
-field_sorted : (n r : ℕ) (o : Option Tree) (ys : List (LabelFields × Tree)) → 0 < n → n < 8 → r ≤ n → Sorted n ys → Sorted r (field n o ++ ys)
-field_sorted n r None ys a b h s = weaken r n ys h s
-field_sorted n r (Some v) ys a b h s =
+entry_sorted : (n r : ℕ) (o : Option Tree) (ys : List (LabelFields × Tree)) → 0 < n → n < 8 → r ≤ n → Sorted n ys → Sorted r (entry_of n o ++ ys)
+entry_sorted n r None ys a b h s = weaken r n ys h s
+entry_sorted n r (Some v) ys a b h s =
     let f : rank (number (pos n)) ≡ n = rank_of n a b in
     (omega (arith, h, f), subst (λ z. Sorted z ys) (sym f) s)
 
 pub gather_sorted : (f n r : ℕ) (es : List (LabelFields × Tree)) → n + f ≡ 8 → 0 < n → r ≤ n → Sorted r (gather f n es)
 gather_sorted zero n r es e a h = none_sorted r (others es) (omega (arith, e, h)) (others_none es)
 gather_sorted (suc f) n r es e a h =
-    field_sorted n r (at n es) (gather f (suc n) es) a (omega (arith, e)) h
+    entry_sorted n r (at n es) (gather f (suc n) es) a (omega (arith, e)) h
     (gather_sorted f (suc n) n es (omega (arith, e)) (omega arith) (omega arith))
 
 -- ---- entries in order are as they are gathered
@@ -109,10 +94,6 @@ sorted_none r (e ∷ es) h s =
     let g = s.0 in
     let k : 8 ≤ rank e.0 = omega (arith, g, h) in
     (none_core e.0 k, sorted_none (rank e.0) es k s.1)
-
-others_all : (es : List (LabelFields × Tree)) → NoneCore es → others es ≡ es
-others_all [] g = refl
-others_all (e ∷ es) g = ap (λ b. cond b (others es) (e ∷ others es)) g.0 ∙ ap (λ z. e ∷ z) (others_all es g.1)
 
 none_step : (n : ℕ) (e : LabelFields × Tree) (es : List (LabelFields × Tree)) → 0 < n → n < 8 → n < rank e.0 → at n es ≡ None → (is_at n e.0 ≡ true) ⊎ (is_at n e.0 ≡ false) → at n (e ∷ es) ≡ None
 none_step n e es a b k h (inl t) = let q : rank e.0 ≡ n = at_rank n e.0 t a b in absurd (omega (arith, k, q))
@@ -142,8 +123,7 @@ bump n (e ∷ es) b s q = (go (bool_cases (nat_eq (rank e.0) n)), s.1)
 gather_drop : (f n k : ℕ) (e : LabelFields × Tree) (es : List (LabelFields × Tree)) → e.0 ≡ number (pos k) → 0 < k → k < 8 → k < n → gather f n (e ∷ es) ≡ gather f n es
 gather_drop zero n k e es q a b h = ap (λ z. cond z (others es) (e ∷ others es)) (ap is_core q ∙ core_at k a b)
 gather_drop (suc f) n k e es q a b h =
-    same_append (field n (at n (e ∷ es))) (field n (at n es)) _ _ (ap (field n) (ap (λ z. cond z (Some e.1) (at n es)) (ap (is_at n) q ∙ unlike k n h)))
-    (gather_drop f (suc n) k e es q a b (omega (arith, h)))
+    λ i. entry_of n (ap (λ z. cond z (Some e.1) (at n es)) (ap (is_at n) q ∙ unlike n k (λ x. omega (arith, h, x))) i) ++ gather_drop f (suc n) k e es q a b (omega (arith, h)) i
 
 head_is : (n : ℕ) (e : LabelFields × Tree) (es : List (LabelFields × Tree)) → is_at n e.0 ≡ true → at n (e ∷ es) ≡ Some e.1
 head_is n e es t = ap (λ z. cond z (Some e.1) (at n es)) t
@@ -154,18 +134,17 @@ gathered_step : (f n : ℕ) (x : LabelFields × Tree) (xs : List (LabelFields ×
 gathered_step f n x xs e a s d k (inl t) =
     let b : n < 8 = omega (arith, e) in
     let r : rank x.0 ≡ n = eqb-true (rank x.0) n t in
-    let i : is_at n x.0 ≡ true = rank_at n x.0 r b in
-    let q : x.0 ≡ number (pos n) = is_at_is n x.0 i in
-    let none : at n xs ≡ None = at_none n xs x.0 i d.0 in
+    let here : is_at n x.0 ≡ true = rank_at n x.0 r b in
+    let q : x.0 ≡ number (pos n) = is_at_is n x.0 here in
+    let none : at n xs ≡ None = at_none n xs x.0 here d.0 in
     let rest : Sorted (suc n) xs = bump n xs b (subst (λ z. Sorted z xs) r s.1) none in
-    same_append (field n (at n (x ∷ xs))) ((number (pos n), x.1) ∷ []) _ _ (ap (field n) (head_is n x xs i))
-    (gather_drop f (suc n) n x xs q a b (omega arith) ∙ k xs rest d.1)
+    (λ i. entry_of n (head_is n x xs here i) ++ (gather_drop f (suc n) n x xs q a b (omega arith) ∙ k xs rest d.1) i)
     ∙ ap (λ z. (z, x.1) ∷ xs) (sym q)
 gathered_step f n x xs e a s d k (inr u) =
     let b : n < 8 = omega (arith, e) in
     let g : suc n ≤ rank x.0 = above n (rank x.0) s.0 u in
     let none : at n (x ∷ xs) ≡ None = none_before n (suc n) (x ∷ xs) a b (omega arith) (g, s.1) in
-    ap (λ z. field n z ++ gather f (suc n) (x ∷ xs)) none ∙ k (x ∷ xs) (g, s.1) d
+    ap (λ z. entry_of n z ++ gather f (suc n) (x ∷ xs)) none ∙ k (x ∷ xs) (g, s.1) d
 
 pub sorted_gathered : (f n : ℕ) (es : List (LabelFields × Tree)) → n + f ≡ 8 → 0 < n → Sorted n es → Distinct es → gather f n es ≡ es
 sorted_gathered zero n es e a s d = others_all es (sorted_none n es (omega (arith, e)) s)

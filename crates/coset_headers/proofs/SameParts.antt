@@ -1,5 +1,5 @@
 -- Equality by parts is that of what the parts say.
-use Rattle.std.proofs.Common.{◌≡◌, List, [], ◌∷◌, length, map, Bool, true, false, Option, Some, None, option_map, refl, sym, ap, ◌∙◌, arith}
+use Rattle.std.proofs.Common.{◌≡◌, ℕ, zero, suc, List, [], ◌∷◌, length, map, Bool, true, false, Option, Some, None, option_map, refl, sym, ap, ◌∙◌, arith}
 use Rattle.std.specs.Prelude.{◌&&◌, nat_eq}
 use Rattle.std.specs.Bool.{one_answer}
 use Rattle.std.specs.Cmp.Lexicographic.{pointwise}
@@ -49,30 +49,25 @@ entries_on [] (y ∷ ys) = refl
 entries_on (x ∷ xs) [] = refl
 entries_on (x ∷ xs) (y ∷ ys) = λ i. (is_eq (label_cmp (label_view x.0) (label_view y.0)) && values_on x.1 y.1 i) && entries_on xs ys i
 
--- the parts of two headers as they are compared, up to each
-module _ (h g : Header) where
-  abbrev pub to_crit : Bool
-  to_crit =
-      option_eq (by_name (named_view algorithm_number)) (out-Header h).alg (out-Header g).alg
-      && pointwise (by_name (named_view header_parameters.number)) (out-Header h).crit.items (out-Header g).crit.items
+-- the tests of all fields, and their conjunction up to each
+abbrev pub tests : Header → Header → List Bool
+tests h g = option_eq (by_name (named_view algorithm_number)) (out-Header h).alg (out-Header g).alg
+    ∷ pointwise (by_name (named_view header_parameters.number)) (out-Header h).crit.items (out-Header g).crit.items
+    ∷ option_eq (by_name (registered_view coap_content_formats.number)) (out-Header h).content_type (out-Header g).content_type
+    ∷ pointwise nat_eq (out-Header h).key_id.items (out-Header g).key_id.items
+    ∷ pointwise nat_eq (out-Header h).iv.items (out-Header g).iv.items
+    ∷ pointwise nat_eq (out-Header h).partial_iv.items (out-Header g).partial_iv.items
+    ∷ pointwise entry_eq (out-Header h).rest.items (out-Header g).rest.items ∷ []
 
-  abbrev pub to_content_type : Bool
-  to_content_type =
-      to_crit && option_eq (by_name (registered_view coap_content_formats.number)) (out-Header h).content_type (out-Header g).content_type
+abbrev pub all_from : Bool → ℕ → List Bool → Bool
+all_from b zero ts = b
+all_from b (suc n) [] = b
+all_from b (suc n) (t ∷ ts) = all_from (b && t) n ts
 
-  abbrev pub to_key_id : Bool
-  to_key_id = to_content_type && pointwise nat_eq (out-Header h).key_id.items (out-Header g).key_id.items
+abbrev pub upto : ℕ → Header → Header → Bool
+upto n h g = all_from true n (tests h g)
 
-  abbrev pub to_iv : Bool
-  to_iv = to_key_id && pointwise nat_eq (out-Header h).iv.items (out-Header g).iv.items
-
-  abbrev pub to_partial_iv : Bool
-  to_partial_iv = to_iv && pointwise nat_eq (out-Header h).partial_iv.items (out-Header g).partial_iv.items
-
-  abbrev pub to_rest : Bool
-  to_rest = to_partial_iv && pointwise entry_eq (out-Header h).rest.items (out-Header g).rest.items
-
-pub plain_by : (h g : Header) (r : Bool) → r ≡ to_rest h g → r ≡ same_plain (plain_part (header_view h)) (plain_part (header_view g))
+pub plain_by : (h g : Header) (r : Bool) → r ≡ upto 7 h g → r ≡ same_plain (plain_part (header_view h)) (plain_part (header_view g))
 plain_by h g r e =
     e ∙ (λ i.
     options_on same_name (named_view algorithm_number) (out-Header h).alg (out-Header g).alg i

@@ -1,5 +1,5 @@
 -- What is written in fewer than 2^64 bytes holds no protected header that is encoded in more.
-use Rattle.std.proofs.Common.{◌≡◌, ℕ, pos, ◌^◌, ◌<◌, ◌≤◌, List, [], ◌∷◌, ◌++◌, length, map, Bool, true, false, cond, ◌&&◌, Option, Some, None, option_map, refl, sym, subst, ◌∙◌, arith, length-append}
+use Rattle.std.proofs.Common.{◌≡◌, ℕ, suc, pos, ◌^◌, ◌<◌, ◌≤◌, List, [], ◌∷◌, ◌++◌, length, map, Bool, true, false, cond, ◌&&◌, Option, Some, None, option_map, refl, sym, subst, ◌∙◌, arith, length-append}
 use Rattle.ciborium_ll.specs.declared.hdr.Header.TheVariants.{Bytes, Array, Map}
 use Rattle.ciborium_ll.specs.Title.{title_of}
 use Rattle.ciborium_value.specs.Tree.{Tree, bytes, array, Trees, no_trees, one_more, tree_count, pair_count}
@@ -10,9 +10,8 @@ use Rattle.coset_labels.specs.Labels.{label_tree}
 use Rattle.coset_headers.specs.Fields.{Plain, HeaderFields, header, protected, ProtectedFields, SignatureFields, signature, Signatures, no_signatures, signature_more}
 use Rattle.coset_headers.specs.Headers.{list_of_three}
 use Rattle.coset_headers.specs.Short.{IsShort, ShowsShort, SignatureShort, AllShort}
-use Rattle.coset_headers.specs.Written.{name_entry, crit_entry, bytes_entry, signs_entry, written_entries, entry_tree, tree_of, bare_or_list, header_tree, shown, signature_tree, signature_trees, is_absent, is_nil, is_unsigned, is_empty}
+use Rattle.coset_headers.specs.Written.{entry_of, values_of, entries_from, written_entries, entry_tree, tree_of, bare_or_list, header_tree, shown, signature_tree, signature_trees, is_nil, all_absent, is_empty}
 use Rattle.coset_headers.proofs.Again.{header_parts, signature_parts, trees_parts}
-use Rattle.coset_headers.proofs.Wrote.{from2, from3, from4, from5, from6, from7}
 
 -- ---- lengths
 abbrev entries_enc : List (LabelFields × Tree) → List ℕ
@@ -24,12 +23,14 @@ follows xs ys = let h = length-append xs ys in omega (arith, h)
 leads : (xs ys : List ℕ) → length xs ≤ length (xs ++ ys)
 leads xs ys = let h = length-append xs ys in omega (arith, h)
 
-later : (xs ys : List (LabelFields × Tree)) → length (entries_enc ys) ≤ length (entries_enc (xs ++ ys))
-later [] ys = omega arith
-later (x ∷ xs) ys =
-    let h = later xs ys in
-    let a = follows (enc x.1) (entries_enc (xs ++ ys)) in
-    let b = follows (enc (label_tree x.0)) (enc x.1 ++ entries_enc (xs ++ ys)) in
+later : (n : ℕ) (os : List (Option Tree)) (es : List (LabelFields × Tree)) → length (entries_enc es) ≤ length (entries_enc (entries_from n os es))
+later n [] es = omega arith
+later n (None ∷ os) es = later (suc n) os es
+later n (Some t ∷ os) es =
+    let zs = entries_from (suc n) os es in
+    let h = later (suc n) os es in
+    let a = follows (enc t) (entries_enc zs) in
+    let b = follows (enc (label_tree (number (pos n)))) (enc t ++ entries_enc zs) in
     omega (arith, h, a, b)
 
 entry_first : (l : LabelFields) (t : Tree) (es : List (LabelFields × Tree)) → length (enc t) ≤ length (entries_enc ((l, t) ∷ es))
@@ -38,7 +39,7 @@ entry_first l t es =
     let b = follows (enc (label_tree l)) (enc t ++ entries_enc es) in
     omega (arith, a, b)
 
-signs_within : (ts : Trees) (es : List (LabelFields × Tree)) → length (enc_all ts) ≤ length (entries_enc (signs_entry (bare_or_list ts) ++ es))
+signs_within : (ts : Trees) (es : List (LabelFields × Tree)) → length (enc_all ts) ≤ length (entries_enc (entry_of 7 (bare_or_list ts) ++ es))
 signs_within no_trees es = omega arith
 signs_within (one_more t no_trees) es =
     let a = length-append (enc t) [] in
@@ -54,31 +55,21 @@ within_header : (p : Plain) (ts : Trees) → length (enc_all ts) ≤ length (enc
 within_header p ts =
     let o = bare_or_list ts in
     let es = written_entries p o in
-    let h7 = signs_within ts p.rest in
-    let h6 = later (bytes_entry 6 p.partial_iv) (from7 p o) in
-    let h5 = later (bytes_entry 5 p.iv) (from6 p o) in
-    let h4 = later (bytes_entry 4 p.key_id) (from5 p o) in
-    let h3 = later (name_entry 3 p.content_type) (from4 p o) in
-    let h2 = later (crit_entry p.crit) (from3 p o) in
-    let h1 = later (name_entry 1 p.alg) (from2 p o) in
-    let h0 = follows (title_of (Map (Some (pair_count (pairs (map entry_tree es)))))) (entries_enc es) in
-    omega (arith, h7, h6, h5, h4, h3, h2, h1, h0)
+    let signs = signs_within ts p.rest in
+    let others = later 1 (values_of p) (entry_of 7 o ++ p.rest) in
+    let head = follows (title_of (Map (Some (pair_count (pairs (map entry_tree es)))))) (entries_enc es) in
+    omega (arith, signs, others, head)
 
 -- ---- a header without fields
-seventh : (a b c d e f g h : Bool) → (a && (b && (c && (d && (e && (f && (g && h))))))) ≡ true → g ≡ true
-seventh false b c d e f g h q = let k : false ≡ true = q in absurd (let m : ⊥ = cc in m)
-seventh true false c d e f g h q = let k : false ≡ true = q in absurd (let m : ⊥ = cc in m)
-seventh true true false d e f g h q = let k : false ≡ true = q in absurd (let m : ⊥ = cc in m)
-seventh true true true false e f g h q = let k : false ≡ true = q in absurd (let m : ⊥ = cc in m)
-seventh true true true true false f g h q = let k : false ≡ true = q in absurd (let m : ⊥ = cc in m)
-seventh true true true true true false g h q = let k : false ≡ true = q in absurd (let m : ⊥ = cc in m)
-seventh true true true true true true false h q = let k : false ≡ true = q in absurd (let m : ⊥ = cc in m)
-seventh true true true true true true true h q = refl
+second : (a b c : Bool) → (a && (b && c)) ≡ true → b ≡ true
+second a true c q = refl
+second true false c q = q
+second false false c q = q
 
 empty_short : (p : Plain) (ss : Signatures) → is_empty (header p ss) ≡ true → AllShort ss
 empty_short p no_signatures e = tt
 empty_short p (signature_more s ss) e =
-    let k : false ≡ true = seventh (is_absent p.alg) (is_nil p.crit) (is_absent p.content_type) (is_nil p.key_id) (is_nil p.iv) (is_nil p.partial_iv) false (is_nil p.rest) e in
+    let k : false ≡ true = second (all_absent (values_of p)) false (is_nil p.rest) e in
     absurd (let m : ⊥ = cc in m)
 
 held_small : (h : HeaderFields) (b : List ℕ) → ((u : Tree) → header_tree h ≡ Some u → length (enc u) < 2 ^ 64 → IsShort h) → shown (protected None h) ≡ Some b → length b < 2 ^ 64 → IsShort h

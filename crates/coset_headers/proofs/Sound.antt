@@ -1,6 +1,6 @@
 -- What is written of a header that was read is read again: it nests no deeper, its bignums stay
 -- folded, and its simple values are those that a value can have.
-use Rattle.std.proofs.Common.{◌≡◌, ℕ, ◌≤◌, ◌-◌, ◌⊎◌, inl, inr, List, [], ◌∷◌, map, Option, Some, None, refl, sym, ap, subst, ◌∙◌, arith}
+use Rattle.std.proofs.Common.{◌≡◌, ℕ, zero, suc, ◌≤◌, ◌-◌, ◌⊎◌, inl, inr, List, [], ◌∷◌, ◌++◌, map, Option, Some, None, refl, sym, ap, subst, ◌∙◌, arith}
 use Rattle.ciborium_value.specs.Tree.{Tree, bytes, array, Trees, no_trees, one_more, Pairs}
 use Rattle.ciborium_value.specs.View.{trees, pairs}
 use Rattle.coset_labels.specs.Fields.{LabelFields, Named}
@@ -8,11 +8,10 @@ use Rattle.coset_labels.specs.Labels.{label_of, label_tree, named_tree}
 use Rattle.coset_labels.specs.Facts.Sound as sound
 pub use Rattle.coset_labels.specs.Facts.Sound.{folds_all, Sound, SoundAll, SoundPairs, AllSound, deeper, array_inside, map_inside, array_sound, map_sound, all_none, all_more, all_parts, bytes_sound, label_sound, named_sound, names_sound, kept_sound, sound_append, reads_sound, sound_reads}
 use Rattle.coset_headers.specs.Fields.{Plain, HeaderFields, header, SignatureFields, signature, Signatures, no_signatures, signature_more}
-use Rattle.coset_headers.specs.Headers.{is_at, is_core, crit_of, entries, at, others, IsField, list_of_three, HasHeader, HasSignature, HasSigned, HasSignatures}
-use Rattle.coset_headers.specs.Written.{name_entry, crit_entry, bytes_entry, signs_entry, written_entries, entry_tree, bare_or_list, header_tree, shown, signature_tree, signature_trees}
+use Rattle.coset_headers.specs.Headers.{is_at, is_core, entries, at, others, IsPlain, list_of_three, HasHeader, HasSignature, HasSigned, HasSignatures}
+use Rattle.coset_headers.specs.Written.{name_entry, bytes_entry, entry_of, entries_from, written_entries, entry_tree, bare_or_list, header_tree, shown, signature_tree, signature_trees}
 use Rattle.coset_headers.proofs.Again.{header_parts, signature_parts, trees_parts}
-use Rattle.coset_headers.proofs.Restored.{crit_items}
-use Rattle.coset_headers.proofs.Wrote.{from2, from3, from4, from5, from6, from7}
+use Rattle.coset_headers.proofs.Entered.{values_at, fields_are}
 
 -- ---- entries
 pub entries_sound : (d : ℕ) (ps : Pairs) (es : List (LabelFields × Tree)) → entries ps ≡ Some es → SoundPairs d ps → AllSound d es
@@ -35,29 +34,18 @@ pub string_sound : (d k : ℕ) (b : List ℕ) → AllSound d (bytes_entry k b)
 string_sound d k [] = tt
 string_sound d k (x ∷ xs) = (bytes_sound d (x ∷ xs), tt)
 
--- a list of labels was one level already
-pub crit_sound : (d : ℕ) (o : Option Tree) (ms : List Named) → IsField crit_of [] o ms → ((t : Tree) → o ≡ Some t → Sound d t) → AllSound d (crit_entry ms)
-crit_sound d o [] h s = tt
-crit_sound d None (m ∷ ms) h s = let k : m ∷ ms ≡ [] = h in absurd (let f : ⊥ = cc in f)
-crit_sound d (Some t) (m ∷ ms) h s =
-    let w = crit_items t (m ∷ ms) h in
-    let l = (array_inside d (one_more w.0 w.1) (subst (Sound d) w.2 (s t refl))).0 in
-    (array_sound d (trees (map named_tree (m ∷ ms))) l (names_sound (d - 1) (m ∷ ms)), tt)
+entry_sound : (d n : ℕ) (o : Option Tree) → ((t : Tree) → o ≡ Some t → Sound d t) → AllSound d (entry_of n o)
+entry_sound d n None s = tt
+entry_sound d n (Some t) s = (s t refl, tt)
 
-pub signs_sound : (d : ℕ) (o : Option Tree) → ((t : Tree) → o ≡ Some t → Sound d t) → AllSound d (signs_entry o)
-signs_sound d None s = tt
-signs_sound d (Some t) s = (s t refl, tt)
+-- the values are those that were read, but for the counter signatures
+read_sound : (d f n : ℕ) (es zs : List (LabelFields × Tree)) → AllSound d es → AllSound d zs → AllSound d (entries_from n (values_at f n es) zs)
+read_sound d zero n es zs s r = r
+read_sound d (suc f) n es zs s r = sound_append d (entry_of n (at n es)) _ (entry_sound d n (at n es) (λ t e. at_sound d n es t s e)) (read_sound d f (suc n) es zs s r)
 
-pub wrote_sound : (d : ℕ) (es : List (LabelFields × Tree)) (p : Plain) (o : Option Tree) → AllSound d es → IsField crit_of [] (at 2 es) p.crit → p.rest ≡ others es → ((t : Tree) → o ≡ Some t → Sound d t)
-    → AllSound d (written_entries p o)
-wrote_sound d es p o s c r f =
-    sound_append d (name_entry 1 p.alg) (from2 p o) (name_sound d 1 p.alg)
-    (sound_append d (crit_entry p.crit) (from3 p o) (crit_sound d (at 2 es) p.crit c (λ t e. at_sound d 2 es t s e))
-    (sound_append d (name_entry 3 p.content_type) (from4 p o) (name_sound d 3 p.content_type)
-    (sound_append d (bytes_entry 4 p.key_id) (from5 p o) (string_sound d 4 p.key_id)
-    (sound_append d (bytes_entry 5 p.iv) (from6 p o) (string_sound d 5 p.iv)
-    (sound_append d (bytes_entry 6 p.partial_iv) (from7 p o) (string_sound d 6 p.partial_iv)
-    (sound_append d (signs_entry o) p.rest (signs_sound d o f) (subst (AllSound d) (sym r) (others_sound d es s))))))))
+wrote_sound : (d : ℕ) (es : List (LabelFields × Tree)) (p : Plain) (o : Option Tree) → AllSound d es → IsPlain es p → ((t : Tree) → o ≡ Some t → Sound d t) → AllSound d (written_entries p o)
+wrote_sound d es p o s w f =
+    subst (AllSound d) (sym (fields_are es p o w)) (read_sound d 6 1 es (entry_of 7 o ++ others es) s (sound_append d (entry_of 7 o) (others es) (entry_sound d 7 o f) (others_sound d es s)))
 
 -- one counter signature is written by itself, so that it nests no deeper than in a list
 pub one_or_list : (d : ℕ) (v : Tree) (vs : Trees) (x : Tree) → Sound d v → ((1 ≤ d) × SoundAll (d - 1) (one_more v vs)) ⊎ (vs ≡ no_trees) → bare_or_list (one_more v vs) ≡ Some x → Sound d x
@@ -77,7 +65,7 @@ mutual
       let m = map_inside d a.0 (subst (Sound d) a.2 s) in
       let all = entries_sound (d - 1) a.0 a.1 a.3 m.1 in
       let signs = signed_sound n ss (at 7 a.1) w.0 k (d - 1) a.6 w.1 (λ c q. at_sound (d - 1) 7 a.1 c all q) in
-      subst (Sound d) w.2 (map_sound d _ m.0 (sound_pairs (d - 1) (written_entries p (bare_or_list w.0)) (wrote_sound (d - 1) a.1 p (bare_or_list w.0) all a.5.crit a.5.rest signs)))
+      subst (Sound d) w.2 (map_sound d _ m.0 (sound_pairs (d - 1) (written_entries p (bare_or_list w.0)) (wrote_sound (d - 1) a.1 p (bare_or_list w.0) all a.5 signs)))
 
   pub sig_sound : (n : ℕ) (s : SignatureFields) (t u : Tree) (k d : ℕ) → HasSignature n t s k → signature_tree s ≡ Some u → Sound d t → Sound d u
   sig_sound n (signature p h c) t u k d a e s =

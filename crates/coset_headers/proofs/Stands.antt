@@ -13,8 +13,8 @@ use Rattle.coset_headers.specs.Fields.{Plain, HeaderFields, header, ProtectedFie
 use Rattle.coset_headers.specs.Headers.{is_at, entries, at, Distinct, IsBare, IsList, list_of_three, HasHeader, HasSignature, HasSigned, HasSignatures}
 use Rattle.coset_headers.specs.Written.{twice, entry_tree, tree_of, written_entries, bare_or_list, header_of, header_tree, shown, signature_tree, signature_trees}
 use Rattle.coset_headers.proofs.Again.{signature_parts, trees_parts}
-use Rattle.coset_headers.proofs.Entered.{bool_cases, at_none}
-use Rattle.coset_headers.proofs.Fielded.{entries_are, gather, fields_are}
+use Rattle.coset_headers.proofs.Entered.{bool_cases, at_none, gather, fields_are}
+use Rattle.coset_headers.proofs.Fielded.{entries_are}
 use Rattle.coset_headers.proofs.Ranked.{rank, Sorted, at_rank, rank_at, gather_sorted, sorted_gathered}
 use Rattle.coset_headers.proofs.Writable.{distinct_others, signed_some}
 use Rattle.coset_headers.proofs.Written.{once_only}
@@ -131,7 +131,7 @@ header_to n k p ss t ts a made s h =
     let once : twice p.rest ≡ false = ap twice a.5.rest ∙ once_only _ (distinct_others es a.4) in
     let w = (entries_by ps es 1 a.3 a.4).0 (sym (ap header_stands a.2) ∙ h) in
     let same : written_entries p (bare_or_list ts) ≡ es =
-    ap (written_entries p) (s.0 w.1) ∙ fields_are es p a.5 ∙ sorted_gathered 7 1 es refl (omega arith) w.0 a.4 in
+    ap (written_entries p) (s.0 w.1) ∙ fields_are es p (at 7 es) a.5 ∙ sorted_gathered 7 1 es refl (omega arith) w.0 a.4 in
     header_is p ts (signature_trees ss) made once ∙ ap Some (ap tree_of same ∙ ap map_tree (entries_are ps es a.3) ∙ sym a.2)
 
 header_from : (n k : ℕ) (p : Plain) (ss : Signatures) (t : Tree) (ts : Trees) → (a : HasHeader n t (header p ss) k) → signature_trees ss ≡ Some ts → SignedAs (at 7 a.1) ts → header_tree (header p ss) ≡ Some t → header_stands t ≡ true
@@ -146,7 +146,7 @@ header_from n k p ss t ts a made s h =
     let tree : tree_of (written_entries p o) ≡ map_tree ps = some_same _ _ (sym (header_is p ts (signature_trees ss) made once) ∙ h ∙ ap Some a.2) in
     let same : written_entries p o ≡ es = read_written ps es (written_entries p o) a.3 (wrote_labels p o core labels) tree in
     let bare : o ≡ at 7 es = sym (wrote_at p o core) ∙ ap (at 7) same in
-    let gathered : gather 7 1 es ≡ es = sym (fields_are es p a.5) ∙ ap (written_entries p) (sym bare) ∙ same in
+    let gathered : gather 7 1 es ≡ es = sym (fields_are es p (at 7 es) a.5) ∙ ap (written_entries p) (sym bare) ∙ same in
     ap header_stands a.2 ∙ (entries_by ps es 1 a.3 a.4).1 (subst (Sorted 1) gathered (gather_sorted 7 1 1 es refl (omega arith) (omega arith)), s.1 bare)
 
 -- ---- signatures

@@ -22,12 +22,12 @@ use Rattle.coset_labels.specs.declared.seen_labels.SeenLabels.{SeenLabels}
 use Rattle.coset_headers.specs.AsWritten.{is_bare}
 use Rattle.coset_headers.specs.Fields.{Plain, header, no_plain, no_header, SignatureFields, signatures, Signatures, no_signatures, signature_more}
 use Rattle.coset_headers.specs.Headers.{is_at, at, IsIn, IsPlain, IsBare, IsList, list_of_three, HasSignature, HasSigned, HasSignatures}
-use Rattle.coset_headers.specs.Parts.{plain_of, signs_of, Sees, Known, Added, Filled}
-use Rattle.coset_headers.specs.Walks.{WrongFill, field_wrong, iv_second, partial_iv_second, WrongInside, is_unreadable, is_wrong}
+use Rattle.coset_headers.specs.Parts.{plain_of, signs_of, Sees, Known, Added, Filled, WrongFill, field_wrong, iv_second, partial_iv_second}
+use Rattle.coset_headers.specs.Walks.{WrongInside, is_unreadable, is_wrong}
 use Rattle.coset_headers.specs.Wrong.{WrongField, WrongHeader, no_map, WrongEntry, bad_label, bad_field, two_ivs, WrongSigned, no_list, no_first, NoSignature, WrongSignature, in_protected, in_unprotected, WrongProtected, no_string, too_deep, unreadable, inside}
 use Rattle.coset_headers.specs.declared.header.Header.{Header}
-use Rattle.coset_headers.proofs.Entered.{is_at_is, at_old, at_new, at_none, distinct_snoc, there, filled_plain, signed_plain, none_plain}
-use Rattle.coset_headers.proofs.Unique.{plain_once, signed_once}
+use Rattle.coset_headers.proofs.Entered.{is_at_is, at_old, at_new, at_none, distinct_snoc, there, fields_of, plain_once, filled_plain, signed_plain, none_plain}
+use Rattle.coset_headers.proofs.Unique.{signed_once}
 
 -- ---- a header
 pub header_kind : (n : ℕ) (t : Tree) (k : ℕ) (e : CoseError) → (fault_of e ≡ unexpected) × (is_map t ≡ false) → OrMemory (WrongHeader n t k) e
@@ -41,11 +41,11 @@ pub entry_filled : (n : ℕ) (es : List (LabelFields × Tree)) (l v : Tree) (k :
     → Known n es p ss k → label_of l ≡ Some m → (IsIn m es → ⊥) → WrongFill m v p e → WrongEntry n es l v k e
 entry_filled n es l v k m p ss e w q d (field_wrong x) = bad_field es l v k m e q d x
 entry_filled n es l v k m p ss e w q d (iv_second b i f x y) =
-    let c = there some_bytes [] (at 6 es) p.partial_iv w.plain.partial_iv x in
+    let c = there some_bytes [] (at 6 es) _ (fields_of es p w.plain).5 x in
     let s : is_at 5 m ≡ true = ap (is_at 5) i in let t : is_at 6 m ≡ false = ap (is_at 6) i in
     subst (WrongEntry n es l v k) (sym y) (two_ivs es l v v c.0 k m q d (at_new 5 es m v s (at_none 5 es m s d)) (at_old 6 es m v t ∙ c.1))
 entry_filled n es l v k m p ss e w q d (partial_iv_second b i f x y) =
-    let c = there some_bytes [] (at 5 es) p.iv w.plain.iv x in
+    let c = there some_bytes [] (at 5 es) _ (fields_of es p w.plain).4 x in
     let s : is_at 6 m ≡ true = ap (is_at 6) i in let t : is_at 5 m ≡ false = ap (is_at 5) i in
     subst (WrongEntry n es l v k) (sym y) (two_ivs es l v c.0 v k m q d (at_old 5 es m v t ∙ c.1) (at_new 6 es m v s (at_none 6 es m s d)))
 

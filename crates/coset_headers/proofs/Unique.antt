@@ -4,30 +4,10 @@ use Rattle.ciborium_value.specs.Tree.{Tree, bytes, array, map as map_tree, Trees
 use Rattle.ciborium.specs.Front.{Reads}
 use Rattle.ciborium.specs.Meaning.{meaning}
 use Rattle.ciborium.proofs.Once.{once}
-pub use Rattle.coset_labels.specs.Facts.Entries.{field_once}
-use Rattle.coset_labels.specs.Fields.{LabelFields, Named}
-use Rattle.coset_headers.specs.Fields.{Plain, HeaderFields, header, ProtectedFields, protected, SignatureFields, signature, Signatures, no_signatures, signature_more}
-use Rattle.coset_headers.specs.Headers.{entries, at, HasContentType, IsPlain, IsBare, IsList, HasHeader, HasProtected, HasSignature, HasSigned, HasSignatures}
+use Rattle.coset_headers.specs.Fields.{HeaderFields, header, ProtectedFields, protected, SignatureFields, signature, Signatures, no_signatures, signature_more}
+use Rattle.coset_headers.specs.Headers.{entries, at, IsPlain, IsBare, IsList, HasHeader, HasProtected, HasSignature, HasSigned, HasSignatures}
 use Rattle.coset_headers.specs.Walks.{Inside}
-
-content_type_once : (o : Option Tree) (x y : Option Named) → HasContentType o x → HasContentType o y → x ≡ y
-content_type_once None x y a b = a ∙ sym b
-content_type_once (Some t) x y a b =
-    let e : Some a.0 ≡ Some b.0 = sym a.1 ∙ b.1 in
-    a.3 ∙ e ∙ sym b.3
-
-pub plain_same : (p q : Plain) → p.alg ≡ q.alg → p.crit ≡ q.crit → p.content_type ≡ q.content_type → p.key_id ≡ q.key_id → p.iv ≡ q.iv → p.partial_iv ≡ q.partial_iv → p.rest ≡ q.rest → p ≡ q
-plain_same p q a b k c d e f = λ i. record { alg = a i; crit = b i; content_type = k i; key_id = c i; iv = d i; partial_iv = e i; rest = f i }
-
-pub plain_once : (es : List (LabelFields × Tree)) (p q : Plain) → IsPlain es p → IsPlain es q → p ≡ q
-plain_once es p q a b = plain_same p q
-    (field_once _ _ _ _ _ a.alg b.alg)
-    (field_once _ _ _ _ _ a.crit b.crit)
-    (content_type_once (at 3 es) p.content_type q.content_type a.content_type b.content_type)
-    (field_once _ _ _ _ _ a.key_id b.key_id)
-    (field_once _ _ _ _ _ a.iv b.iv)
-    (field_once _ _ _ _ _ a.partial_iv b.partial_iv)
-    (a.rest ∙ sym b.rest)
+use Rattle.coset_headers.proofs.Entered.{plain_once}
 
 pub reads_once : (a b u w : List ℕ) (limit : ℕ) (x y : Tree) → Reads a limit x → Reads b limit y → a ++ u ≡ b ++ w → (x ≡ y) × (a ≡ b)
 reads_once a b u w limit x y p q e =

@@ -1,5 +1,5 @@
 -- The entries of a header as they are written.
-use Rattle.std.specs.Prelude.{◌≡◌, List, [], ◌∷◌, ◌++◌, map}
+use Rattle.std.specs.Prelude.{◌≡◌, List, [], ◌∷◌, ◌++◌, map, Option, Some, None}
 use Rattle.ciborium_value.specs.Tree.{Tree}
 use Rattle.ciborium_value.specs.Encoding.{Fits}
 use Rattle.ciborium_value.specs.View.{view_pair}
@@ -16,3 +16,12 @@ Appends old new es = map view_pair new ≡ map view_pair old ++ map entry_tree e
 abbrev pub AllFit : List (LabelFields × Tree) → Type 0
 AllFit [] = Unit {0}
 AllFit (e ∷ es) = Fits (label_tree e.0) × Fits e.1 × AllFit es
+
+-- and so do these values
+abbrev pub ValueFits : Option Tree → Type 0
+ValueFits None = Unit {0}
+ValueFits (Some t) = Fits t
+
+abbrev pub ValuesFit : List (Option Tree) → Type 0
+ValuesFit [] = Unit {0}
+ValuesFit (o ∷ os) = ValueFits o × ValuesFit os

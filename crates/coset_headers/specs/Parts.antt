@@ -1,8 +1,10 @@
--- The fields that the entries of a header that are read so far have given.
-use Rattle.std.specs.Prelude.{◌≡◌, ℕ, pos, ◌≤◌, ◌⊎◌, List, [], ◌∷◌, ◌++◌, length, Bool, false, MatchBool, Some}
+-- The fields that the entries of a header that are read so far have given, and the faults of the
+-- next.
+use Rattle.std.specs.Prelude.{◌≡◌, ◌≢◌, ℕ, pos, ◌≤◌, ◌⊎◌, List, [], ◌∷◌, ◌++◌, length, Bool, false, MatchBool, Some}
 use Rattle.std.specs.Ordering.{on}
 use Rattle.ciborium_value.specs.Tree.{Tree}
 use Rattle.coset_labels.specs.Fields.{LabelFields, number, Named}
+use Rattle.coset_labels.specs.Faults.{CoseFault, unexpected}
 use Rattle.coset_labels.specs.Kinds.{some_bytes}
 use Rattle.coset_labels.specs.Labels.{label_of}
 use Rattle.coset_labels.specs.Orders.{label_cmp}
@@ -14,6 +16,7 @@ use Rattle.coset_labels.specs.declared.seen_labels.SeenLabels.{SeenLabels}
 use Rattle.coset_headers.specs.Fields.{Plain, Signatures}
 use Rattle.coset_headers.specs.Headers.{is_core, alg_of, crit_of, HasContentType, at, others, IsIn, Distinct, IsPlain, HasSigned}
 use Rattle.coset_headers.specs.View.{plain_parts, signatures_view}
+use Rattle.coset_headers.specs.Wrong.{WrongField}
 use Rattle.coset_headers.specs.declared.header.Header.{Header, out-Header}
 
 -- the labels of these entries, and no others, were seen
@@ -71,3 +74,11 @@ pub data Fills (l : LabelFields) (v : Tree) (p q : Plain) : Type 0 where
 pub record Filled (l : LabelFields) (v : Tree) (old new : Header) : Type 0 where
   pub fields : Fills l v (plain_of old) (plain_of new)
   pub signs : signs_of new ≡ signs_of old
+
+-- the value of a label but 7, if the fields p are set
+pub data WrongFill (l : LabelFields) (v : Tree) (p : Plain) (e : CoseFault) : Type 0 where
+  field_wrong : WrongField v l e → WrongFill l v p e
+  iv_second : (b : List ℕ) → l ≡ number (pos 5) → some_bytes v ≡ Some b → p.partial_iv ≢ []
+      → e ≡ unexpected → WrongFill l v p e
+  partial_iv_second : (b : List ℕ) → l ≡ number (pos 6) → some_bytes v ≡ Some b → p.iv ≢ []
+      → e ≡ unexpected → WrongFill l v p e

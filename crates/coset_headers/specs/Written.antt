@@ -1,7 +1,7 @@
 -- The value that stands for the fields of a header or a signature, and the bytes that structures
 -- and messages show for a protected header (RFC 9052, sections 3 and 3.1). There is none if a label
 -- is repeated in a `rest` that is written.
-use Rattle.std.specs.Prelude.{ℕ, pos, List, [], ◌∷◌, ◌++◌, map, Bool, true, false, ◌||◌, ◌&&◌, if◌then◌else◌, Option, Some, None, option_map, option_and_then}
+use Rattle.std.specs.Prelude.{ℕ, suc, pos, List, [], ◌∷◌, ◌++◌, map, Bool, true, false, ◌||◌, ◌&&◌, if◌then◌else◌, not, Option, Some, None, is_some, option_map, option_and_then}
 use Rattle.std.specs.Ordering.{is_eq}
 use Rattle.ciborium_value.specs.Tree.{Tree, bytes, array, map as map_tree, Trees, no_trees, one_more}
 use Rattle.ciborium_value.specs.View.{trees, pairs}
@@ -12,26 +12,44 @@ use Rattle.coset_labels.specs.Orders.{label_cmp}
 use Rattle.coset_headers.specs.Fields.{Plain, HeaderFields, header, ProtectedFields, protected, SignatureFields, signature, Signatures, no_signatures, signature_more}
 use Rattle.coset_headers.specs.Headers.{list_of_three}
 
+-- the entry with the label n, if there is a value for it
+abbrev pub entry_of : ℕ → Option Tree → List (LabelFields × Tree)
+entry_of n None = []
+entry_of n (Some t) = (number (pos n), t) ∷ []
+
+-- the values of fields; an empty one has none
+abbrev pub crit_value : List Named → Option Tree
+crit_value [] = None
+crit_value (m ∷ ms) = Some (array (trees (map named_tree (m ∷ ms))))
+
+abbrev pub bytes_value : List ℕ → Option Tree
+bytes_value [] = None
+bytes_value (x ∷ xs) = Some (bytes (x ∷ xs))
+
+-- the values at the labels 1 to 6
+abbrev pub values_of : Plain → List (Option Tree)
+values_of p = option_map named_tree p.alg ∷ crit_value p.crit ∷ option_map named_tree p.content_type ∷ bytes_value p.key_id
+    ∷ bytes_value p.iv ∷ bytes_value p.partial_iv ∷ []
+
+-- the entries of values whose labels count up from n, and then the entries es
+abbrev pub entries_from : ℕ → List (Option Tree) → List (LabelFields × Tree) → List (LabelFields × Tree)
+entries_from n [] es = es
+entries_from n (o ∷ os) es = entry_of n o ++ entries_from (suc n) os es
+
+-- the entries in their fixed order, those of empty fields left away; o is the value of the counter
+-- signatures
+abbrev pub written_entries : Plain → Option Tree → List (LabelFields × Tree)
+written_entries p o = entries_from 1 (values_of p ++ o ∷ []) p.rest
+
+-- the entry of one field alone
 abbrev pub name_entry : ℕ → Option Named → List (LabelFields × Tree)
-name_entry n None = []
-name_entry n (Some m) = (number (pos n), named_tree m) ∷ []
+name_entry n o = entry_of n (option_map named_tree o)
 
 abbrev pub crit_entry : List Named → List (LabelFields × Tree)
-crit_entry [] = []
-crit_entry (m ∷ ms) = (number (pos 2), array (trees (map named_tree (m ∷ ms)))) ∷ []
+crit_entry ms = entry_of 2 (crit_value ms)
 
 abbrev pub bytes_entry : ℕ → List ℕ → List (LabelFields × Tree)
-bytes_entry n [] = []
-bytes_entry n (x ∷ xs) = (number (pos n), bytes (x ∷ xs)) ∷ []
-
-abbrev pub signs_entry : Option Tree → List (LabelFields × Tree)
-signs_entry None = []
-signs_entry (Some t) = (number (pos 7), t) ∷ []
-
--- the entries in their fixed order, those of empty fields left away
-abbrev pub written_entries : Plain → Option Tree → List (LabelFields × Tree)
-written_entries p o = name_entry 1 p.alg ++ (crit_entry p.crit ++ (name_entry 3 p.content_type ++ (bytes_entry 4 p.key_id
-    ++ (bytes_entry 5 p.iv ++ (bytes_entry 6 p.partial_iv ++ (signs_entry o ++ p.rest))))))
+bytes_entry n b = entry_of n (bytes_value b)
 
 abbrev pub entry_tree : LabelFields × Tree → Tree × Tree
 entry_tree e = (label_tree e.0, e.1)
@@ -57,10 +75,6 @@ bare_or_list (one_more t (one_more u us)) = Some (array (one_more t (one_more u 
 abbrev pub header_of : Plain → Trees → Option Tree
 header_of p ts = if twice p.rest then None else Some (tree_of (written_entries p (bare_or_list ts)))
 
-abbrev pub is_absent : Option Named → Bool
-is_absent None = true
-is_absent (Some n) = false
-
 abbrev pub is_nil : {A : Type 0} → List A → Bool
 is_nil [] = true
 is_nil (x ∷ xs) = false
@@ -69,10 +83,13 @@ abbrev pub is_unsigned : Signatures → Bool
 is_unsigned no_signatures = true
 is_unsigned (signature_more s ss) = false
 
+abbrev pub all_absent : List (Option Tree) → Bool
+all_absent [] = true
+all_absent (o ∷ os) = not (is_some o) && all_absent os
+
 -- no field is set
 abbrev pub is_empty : HeaderFields → Bool
-is_empty (header p ss) = is_absent p.alg && (is_nil p.crit && (is_absent p.content_type && (is_nil p.key_id
-    && (is_nil p.iv && (is_nil p.partial_iv && (is_unsigned ss && is_nil p.rest))))))
+is_empty (header p ss) = all_absent (values_of p) && (is_unsigned ss && is_nil p.rest)
 
 abbrev mutual
   pub header_tree : HeaderFields → Option Tree

@@ -3,16 +3,15 @@ ghost use Rattle.std.specs.Prelude.{◌≡◌, ◌++◌, IfOk, map, option_map};
 ghost use Rattle.cose_iana.specs.Formats.{coap_content_formats};
 ghost use Rattle.cose_iana.specs.Headers.{header_parameters};
 ghost use Rattle.coset_labels.specs.View.{registered_view, named_view};
-ghost use Rattle.coset_headers.specs.Copies.{PushesPlain, unsigned_header};
+ghost use Rattle.coset_headers.specs.Copies.{PushesPlain};
 ghost use Rattle.coset_headers.specs.View.{header_view, protected_view, signature_view};
 
 use crate::header::{CoseSignature, Header, ProtectedHeader};
-use coset_labels::{
-    ContentType, RegisteredLabelWithPrivate, clone_bytes, clone_entries, clone_key, iana,
-};
+use coset_labels::{ContentType, RegisteredLabelWithPrivate, clone_bytes, iana};
 use std::alloc::{AllocError, Global};
 
-fn clone_content_type(
+/// A copy of the type of the content.
+pub(crate) fn clone_content_type(
     alloc: Global,
     content_type: &Option<ContentType>,
 ) -> Result<Option<ContentType>, AllocError>
@@ -25,7 +24,8 @@ fn clone_content_type(
     }
 }
 
-fn clone_crit(
+/// A copy of the labels that have to be understood.
+pub(crate) fn clone_crit(
     alloc: Global,
     crit: &[RegisteredLabelWithPrivate<iana::HeaderParameter>],
 ) -> Result<Vec<RegisteredLabelWithPrivate<iana::HeaderParameter>>, AllocError>
@@ -39,22 +39,6 @@ fn clone_crit(
     Ok(copies)
 }
 
-/// A copy of a header but for its counter signatures, of which it has none.
-fn clone_plain(alloc: Global, header: &Header) -> Result<Header, AllocError>
-    ensures { IfOk result (λ copy. header_view copy ≡ unsigned_header (header_view header.now)) }
-{
-    Ok(Header {
-        alg: clone_key(alloc, &header.alg)?,
-        crit: clone_crit(alloc, &header.crit)?,
-        content_type: clone_content_type(alloc, &header.content_type)?,
-        key_id: header.key_id.as_slice().to_vec(alloc)?,
-        iv: header.iv.as_slice().to_vec(alloc)?,
-        partial_iv: header.partial_iv.as_slice().to_vec(alloc)?,
-        counter_signatures: Vec::new(alloc),
-        rest: clone_entries(alloc, &header.rest)?,
-    })
-}
-
 /// Appends a copy of a signature but for the counter signatures in its headers, which have none.
 #[inline(never)]
 fn push_plain(
@@ -65,8 +49,8 @@ fn push_plain(
     ensures { IfOk result (λ _. PushesPlain signature.now copies.old.items copies.new.items) }
 {
     let original_data = clone_bytes(alloc, &signature.protected.original_data)?;
-    let header = clone_plain(alloc, &signature.protected.header)?;
-    let unprotected = clone_plain(alloc, &signature.unprotected)?;
+    let header = signature.protected.header.clone_plain(alloc)?;
+    let unprotected = signature.unprotected.clone_plain(alloc)?;
     let bytes = signature.signature.as_slice().to_vec(alloc)?;
     copies.push(CoseSignature {
         protected: ProtectedHeader {
@@ -116,7 +100,7 @@ impl Header {
     pub fn clone(&self, alloc: Global) -> Result<Header, AllocError>
         ensures { IfOk result (λ copy. header_view copy ≡ header_view self.now) }
     {
-        let mut copy = clone_plain(alloc, self)?;
+        let mut copy = self.clone_plain(alloc)?;
         copy_signatures(
             alloc,
             &self.counter_signatures,

@@ -1,19 +1,16 @@
 //! Writes the entries of a header in their fixed order (RFC 9052, section 3.1).
-ghost use Rattle.std.specs.Prelude.{◌≡◌, Some, map, option_map, MatchResult};
+ghost use Rattle.std.specs.Prelude.{◌≡◌, map, option_map, MatchResult};
 ghost use Rattle.cose_iana.specs.Algorithms.{algorithm_number};
 ghost use Rattle.cose_iana.specs.Formats.{coap_content_formats};
 ghost use Rattle.cose_iana.specs.Headers.{header_parameters};
 ghost use Rattle.ciborium_value.specs.View.{view, views};
-ghost use Rattle.coset_labels.specs.Faults.{CantWrite};
 ghost use Rattle.coset_labels.specs.View.{registered_view, named_view};
 ghost use Rattle.coset_labels.specs.declared.error.CoseError.TheVariants.{Memory};
 ghost use Rattle.coset_headers.specs.Entries.{Appends};
-ghost use Rattle.coset_headers.specs.Fields.{plain_part};
-ghost use Rattle.coset_headers.specs.View.{entry_view, header_view};
-ghost use Rattle.coset_headers.specs.Written.{name_entry, crit_entry, bytes_entry, signs_entry};
-ghost use Rattle.coset_headers.specs.Written.{bare_or_list, header_of, twice};
+ghost use Rattle.coset_headers.specs.View.{entry_view};
+ghost use Rattle.coset_headers.specs.Written.{name_entry, crit_entry, bytes_entry, entry_of};
+ghost use Rattle.coset_headers.specs.Written.{bare_or_list, twice};
 
-use crate::header::Header;
 use ciborium_value::{Integer, Value};
 use coset_labels::{
     Algorithm, AsCborValue, ContentType, CoseError, Label, RegisteredLabelWithPrivate, SeenLabels,
@@ -22,42 +19,6 @@ use coset_labels::{
 use std::alloc::Global;
 
 type Entries = Vec<(Value, Value)>;
-
-impl Header {
-    /// The map of its fields and of these values of counter signatures. Its own counter signatures
-    /// are ignored.
-    pub(crate) fn write(self, alloc: Global, signatures: Vec<Value>) -> Result<Value, CoseError>
-        ensures { MatchResult result
-            (λ v. header_of (plain_part (header_view self)) (views signatures.items)
-            ≡ Some (view v))
-            (λ e. CantWrite (header_of (plain_part (header_view self)) (views signatures.items))
-            e) }
-    {
-        if repeats(alloc, &self.rest)? {
-            return Err(CoseError::DuplicateMapKey);
-        }
-        let Header {
-            alg,
-            crit,
-            content_type,
-            key_id,
-            iv,
-            partial_iv,
-            counter_signatures: _,
-            rest,
-        } = self;
-        let mut entries = Vec::new(alloc);
-        push_alg(alloc, &mut entries, alg)?;
-        push_crit(alloc, &mut entries, crit)?;
-        push_content_type(alloc, &mut entries, content_type)?;
-        push_bytes(&mut entries, 4, key_id)?;
-        push_bytes(&mut entries, 5, iv)?;
-        push_bytes(&mut entries, 6, partial_iv)?;
-        push_signatures(&mut entries, signatures)?;
-        push_rest(alloc, &mut entries, rest)?;
-        Ok(Value::Map(entries))
-    }
-}
 
 /// Whether a label is repeated.
 ///
@@ -76,7 +37,12 @@ pub fn repeats(alloc: Global, entries: &[(Label, Value)]) -> Result<bool, CoseEr
     Ok(false)
 }
 
-fn push_alg(alloc: Global, entries: &mut Entries, alg: Option<Algorithm>) -> Result<(), CoseError>
+/// Appends the entry of the algorithm, or none.
+pub(crate) fn push_alg(
+    alloc: Global,
+    entries: &mut Entries,
+    alg: Option<Algorithm>,
+) -> Result<(), CoseError>
     ensures { MatchResult result (λ _. Appends entries.old.items entries.new.items
         (name_entry 1 (option_map (named_view algorithm_number) alg)))
         (λ e. e ≡ Memory) }
@@ -88,7 +54,8 @@ fn push_alg(alloc: Global, entries: &mut Entries, alg: Option<Algorithm>) -> Res
     Ok(())
 }
 
-fn push_crit(
+/// Appends the entry of the labels that have to be understood, or none.
+pub(crate) fn push_crit(
     alloc: Global,
     entries: &mut Entries,
     crit: Vec<RegisteredLabelWithPrivate<iana::HeaderParameter>>,
@@ -105,7 +72,8 @@ fn push_crit(
     Ok(())
 }
 
-fn push_content_type(
+/// Appends the entry of the type of the content, or none.
+pub(crate) fn push_content_type(
     alloc: Global,
     entries: &mut Entries,
     content_type: Option<ContentType>,
@@ -137,10 +105,13 @@ pub fn push_bytes(entries: &mut Entries, label: u64, bytes: Vec<u8>) -> Result<(
 }
 
 /// One counter signature is by itself, and several are in a list.
-fn push_signatures(entries: &mut Entries, signatures: Vec<Value>) -> Result<(), CoseError>
+pub(crate) fn push_signatures(
+    entries: &mut Entries,
+    signatures: Vec<Value>,
+) -> Result<(), CoseError>
     ensures { MatchResult result
         (λ _. Appends entries.old.items entries.new.items
-        (signs_entry (bare_or_list (views signatures.items))))
+        (entry_of 7 (bare_or_list (views signatures.items))))
         (λ e. e ≡ Memory) }
 {
     if let Some(signatures) = one_or_list(signatures) {

@@ -5,8 +5,7 @@ ghost use Rattle.std.specs.Ordering.{on};
 ghost use Rattle.coset_headers.specs.Copies.{unsigned};
 ghost use Rattle.coset_headers.specs.Facts.Decided.{headers_equiv, protected_equiv};
 ghost use Rattle.coset_headers.specs.Facts.Decided.{signature_equiv};
-ghost use Rattle.coset_headers.specs.Fields.{plain_part};
-ghost use Rattle.coset_headers.specs.Same.{same_plain, same_header, same_protected, same_signature};
+ghost use Rattle.coset_headers.specs.Same.{same_header, same_protected, same_signature};
 ghost use Rattle.coset_headers.specs.Same.{same_signatures};
 ghost use Rattle.coset_headers.specs.View.{header_view, protected_view, signature_view};
 ghost use Rattle.coset_headers.specs.View.{signatures_view};
@@ -58,24 +57,10 @@ impl Eq for CoseSignature {
     ghost laws = { on_equiv signature_view signature_equiv };
 }
 
-/// Whether all fields but the counter signatures are equal.
-fn same_plain(a: &Header, b: &Header) -> bool
-    ensures { result
-        ≡ same_plain (plain_part (header_view a.now)) (plain_part (header_view b.now)) }
-{
-    a.alg == b.alg
-        && a.crit == b.crit
-        && a.content_type == b.content_type
-        && a.key_id == b.key_id
-        && a.iv == b.iv
-        && a.partial_iv == b.partial_iv
-        && a.rest == b.rest
-}
-
 fn same_header(a: &Header, b: &Header) -> bool
     ensures { result ≡ same_header (header_view a.now) (header_view b.now) }
 {
-    same_plain(a, b) && same_signatures(&a.counter_signatures, &b.counter_signatures)
+    a.same_plain(b) && same_signatures(&a.counter_signatures, &b.counter_signatures)
 }
 
 fn same_protected(a: &ProtectedHeader, b: &ProtectedHeader) -> bool
@@ -99,8 +84,8 @@ fn same_fields(a: &CoseSignature, b: &CoseSignature) -> bool
         ≡ same_signature (unsigned (signature_view a.now)) (unsigned (signature_view b.now)) }
 {
     a.protected.original_data == b.protected.original_data
-        && same_plain(&a.protected.header, &b.protected.header)
-        && same_plain(&a.unprotected, &b.unprotected)
+        && a.protected.header.same_plain(&b.protected.header)
+        && a.unprotected.same_plain(&b.unprotected)
         && a.signature == b.signature
 }
 

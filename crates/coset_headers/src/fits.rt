@@ -22,7 +22,8 @@ use ciborium_value::laws::value_fits;
 use coset_labels::laws::{bytes_fit, label_fits, name_fits, registered_fits};
 use coset_labels::{Algorithm, ContentType, Label, RegisteredLabelWithPrivate, iana};
 
-fn alg_fits(alg: &Option<Algorithm>)
+/// The algorithm fits a head.
+pub(crate) fn alg_fits(alg: &Option<Algorithm>)
     ensures { (m : Named) → option_map (named_view algorithm_number) alg.now ≡ Some m
         → Fits (named_tree m) }
 {
@@ -31,7 +32,8 @@ fn alg_fits(alg: &Option<Algorithm>)
     }
 }
 
-fn content_type_fits(content_type: &Option<ContentType>)
+/// The type of the content fits a head.
+pub(crate) fn content_type_fits(content_type: &Option<ContentType>)
     ensures { (m : Named)
         → option_map (registered_view coap_content_formats.number) content_type.now ≡ Some m
         → Fits (named_tree m) }
@@ -41,7 +43,8 @@ fn content_type_fits(content_type: &Option<ContentType>)
     }
 }
 
-fn crit_fits(crit: &[RegisteredLabelWithPrivate<iana::HeaderParameter>])
+/// The labels that have to be understood fit heads.
+pub(crate) fn crit_fits(crit: &[RegisteredLabelWithPrivate<iana::HeaderParameter>])
     ensures fits { FitAll
         (trees (map named_tree (map (named_view header_parameters.number) crit.now))) }
     ensures count { length crit.now < 2 ^ 64 }
@@ -52,7 +55,8 @@ fn crit_fits(crit: &[RegisteredLabelWithPrivate<iana::HeaderParameter>])
     }
 }
 
-fn rest_fits(rest: &[(Label, Value)])
+/// The other entries fit heads.
+pub(crate) fn rest_fits(rest: &[(Label, Value)])
     ensures fits { AllFit (map entry_view rest.now) }
     ensures count { length rest.now + 8 < 2 ^ 64 }
 {
@@ -70,13 +74,7 @@ pub fn header_fits(header: &Header)
     ensures { (u : Tree) → header_tree (header_view header.now) ≡ Some u
         → IsShort (header_view header.now) → Fits u }
 {
-    alg_fits(&header.alg);
-    crit_fits(&header.crit);
-    content_type_fits(&header.content_type);
-    bytes_fit(&header.key_id);
-    bytes_fit(&header.iv);
-    bytes_fit(&header.partial_iv);
-    rest_fits(&header.rest);
+    header.fields_fit();
     signatures_fit(&header.counter_signatures);
 }
 

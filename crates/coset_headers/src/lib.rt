@@ -5,6 +5,7 @@ mod as_written;
 mod copies;
 mod entries;
 mod equal;
+mod fields;
 mod fits;
 mod header;
 pub mod laws;

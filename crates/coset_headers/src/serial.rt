@@ -21,22 +21,6 @@ use coset_labels::{AsCborValue, CborSerializable, CoseError, Limits};
 use std::alloc::Global;
 
 impl Header {
-    /// A header with no field. It takes no memory.
-    pub fn new(alloc: Global) -> Header
-        ensures { header_view result ≡ no_header }
-    {
-        Header {
-            alg: None,
-            crit: Vec::new(alloc),
-            content_type: None,
-            key_id: Vec::new(alloc),
-            iv: Vec::new(alloc),
-            partial_iv: Vec::new(alloc),
-            counter_signatures: Vec::new(alloc),
-            rest: Vec::new(alloc),
-        }
-    }
-
     /// As `from_cbor_value`, within these limits.
     ///
     /// # Errors

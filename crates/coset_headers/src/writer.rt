@@ -9,7 +9,7 @@ ghost use Rattle.coset_headers.specs.Headers.{list_of_three};
 ghost use Rattle.coset_headers.specs.View.{header_view, protected_view, signature_view};
 ghost use Rattle.coset_headers.specs.View.{signatures_view};
 ghost use Rattle.coset_headers.specs.Written.{header_of, header_tree, shown, signature_tree};
-ghost use Rattle.coset_headers.specs.Written.{signature_trees, is_empty, is_unsigned};
+ghost use Rattle.coset_headers.specs.Written.{signature_trees, is_unsigned};
 
 use crate::header::{CoseSignature, Header, ProtectedHeader};
 use ciborium_value::Value;
@@ -17,37 +17,8 @@ use coset_labels::{CoseError, write_to_vec};
 use std::alloc::Global;
 use std::mem;
 
-impl Header {
-    /// Whether no field is set.
-    pub fn is_empty(&self) -> bool
-        ensures { result ≡ is_empty (header_view self.now) }
-    {
-        if self.alg.is_some() {
-            return false;
-        }
-        if !self.crit.is_empty() {
-            return false;
-        }
-        if self.content_type.is_some() {
-            return false;
-        }
-        if !self.key_id.is_empty() {
-            return false;
-        }
-        if !self.iv.is_empty() {
-            return false;
-        }
-        if !self.partial_iv.is_empty() {
-            return false;
-        }
-        if !is_unsigned(&self.counter_signatures) {
-            return false;
-        }
-        self.rest.is_empty()
-    }
-}
-
-fn is_unsigned(signatures: &[CoseSignature]) -> bool
+/// Whether there are no counter signatures.
+pub(crate) fn is_unsigned(signatures: &[CoseSignature]) -> bool
     ensures { result ≡ is_unsigned (signatures_view signatures.now) }
 {
     signatures.is_empty()

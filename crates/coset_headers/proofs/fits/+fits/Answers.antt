@@ -4,9 +4,8 @@ use Rattle.coset_headers.proofs.fits.+fits.Goals as goal
 
 pub header_fits-returns : goal.header_fits-returns
 header_fits-returns t c = λ u.
-    header_fit c.args.header.now u _ _ _ _ _ _ c.deref.ensures.value c.deref-2.ensures.value c.deref-3.ensures.value c.deref-4.ensures.value c.deref-5.ensures.value c.deref-6.ensures.value
-    c.alg_fits.ensures c.crit_fits.ensures.fits c.crit_fits.ensures.count c.content_type_fits.ensures c.bytes_fit.ensures c.bytes_fit-2.ensures c.bytes_fit-3.ensures
-    c.rest_fits.ensures.fits c.rest_fits.ensures.count c.signatures_fit.ensures.fits c.signatures_fit.ensures.count
+    header_fit c.args.header.now u _ c.deref.ensures.value c.fields_fit.ensures.values c.fields_fit.ensures.rest c.fields_fit.ensures.count
+    c.signatures_fit.ensures.fits c.signatures_fit.ensures.count
 
 pub protected_fits-returns-in-None : goal.protected_fits-returns-in-None
 protected_fits-returns-in-None t c = λ b. unsent_fit c.args.protected.now b c.in-None.is c.header_fits.ensures

@@ -1,38 +1,34 @@
-use Rattle.std.proofs.Common.{ap, sym, subst, ◌∙◌, map}
-use Rattle.cose_iana.specs.Algorithms.{algorithm_number}
-use Rattle.cose_iana.specs.Formats.{coap_content_formats}
-use Rattle.cose_iana.specs.Headers.{header_parameters}
+use Rattle.std.proofs.Common.{ap, sym, subst, ◌∙◌, map, refl}
 use Rattle.coset_labels.proofs.Items.{match_map}
-use Rattle.coset_labels.specs.View.{label_view, registered_view, named_view}
+use Rattle.coset_labels.specs.View.{label_view}
 use Rattle.coset_headers.specs.Parts.{SeesMany}
 use Rattle.coset_headers.specs.View.{entry_view}
 use Rattle.coset_headers.specs.declared.header.Header.{out-Header}
-use Rattle.coset_headers.proofs.Fresh.{fresh_alg, fresh_crit, fresh_content_type, fresh_key_id, fresh_iv, fresh_partial_iv, fresh_signs, fresh_other, none_absent, nil_items, nil_signs}
-use Rattle.coset_headers.proofs.Unset.{nil_is}
+use Rattle.coset_headers.proofs.Fresh.{fresh_field, fresh_signs, fresh_other}
+use Rattle.coset_headers.proofs.Unset.{name_set, crit_set, bytes_set, none_signed}
 use Rattle.coset_headers.proofs.header.Header.is_new.Goals as goal
 
 pub returns-in-Alg : goal.returns-in-Alg
-returns-in-Alg c = λ n k es w g. fresh_alg n k es _ _ _ _ _ w g (rw c.in-Alg.is at c.requires) (none_absent (named_view algorithm_number) (out-Header c.args.self.now).alg _ c.is_none.ensures)
+returns-in-Alg c = λ n k es w g. fresh_field n k es _ _ _ _ _ w g 1 (rw c.in-Alg.is at c.requires) refl refl (name_set _ _ ∙ c.is_none.ensures)
 
 pub returns-in-Crit : goal.returns-in-Crit
-returns-in-Crit c = λ n k es w g. fresh_crit n k es _ _ _ _ _ w g (rw c.in-Crit.is at c.requires) (nil_is (named_view header_parameters.number) (out-Header c.args.self.now).crit _ c.is_empty.ensures)
+returns-in-Crit c = λ n k es w g. fresh_field n k es _ _ _ _ _ w g 2 (rw c.in-Crit.is at c.requires) refl refl (crit_set _ (out-Header c.args.self.now).crit _ c.is_empty.ensures)
 
 pub returns-in-ContentType : goal.returns-in-ContentType
-returns-in-ContentType c = λ n k es w g.
-    fresh_content_type n k es _ _ _ _ _ w g (rw c.in-ContentType.is at c.requires) (none_absent (registered_view coap_content_formats.number) (out-Header c.args.self.now).content_type _ c.is_none-in-ContentType.ensures)
+returns-in-ContentType c = λ n k es w g. fresh_field n k es _ _ _ _ _ w g 3 (rw c.in-ContentType.is at c.requires) refl refl (name_set _ _ ∙ c.is_none-in-ContentType.ensures)
 
 pub returns-in-KeyId : goal.returns-in-KeyId
-returns-in-KeyId c = λ n k es w g. fresh_key_id n k es _ _ _ _ _ w g (rw c.in-KeyId.is at c.requires) (nil_items (out-Header c.args.self.now).key_id _ c.is_empty-in-KeyId.ensures)
+returns-in-KeyId c = λ n k es w g. fresh_field n k es _ _ _ _ _ w g 4 (rw c.in-KeyId.is at c.requires) refl refl (bytes_set (out-Header c.args.self.now).key_id _ c.is_empty-in-KeyId.ensures)
 
 pub returns-in-Iv : goal.returns-in-Iv
-returns-in-Iv c = λ n k es w g. fresh_iv n k es _ _ _ _ _ w g (rw c.in-Iv.is at c.requires) (nil_items (out-Header c.args.self.now).iv _ c.is_empty-in-Iv.ensures)
+returns-in-Iv c = λ n k es w g. fresh_field n k es _ _ _ _ _ w g 5 (rw c.in-Iv.is at c.requires) refl refl (bytes_set (out-Header c.args.self.now).iv _ c.is_empty-in-Iv.ensures)
 
 pub returns-in-PartialIv : goal.returns-in-PartialIv
-returns-in-PartialIv c = λ n k es w g. fresh_partial_iv n k es _ _ _ _ _ w g (rw c.in-PartialIv.is at c.requires) (nil_items (out-Header c.args.self.now).partial_iv _ c.is_empty-in-PartialIv.ensures)
+returns-in-PartialIv c = λ n k es w g. fresh_field n k es _ _ _ _ _ w g 6 (rw c.in-PartialIv.is at c.requires) refl refl (bytes_set (out-Header c.args.self.now).partial_iv _ c.is_empty-in-PartialIv.ensures)
 
 pub returns-in-CounterSignatures : goal.returns-in-CounterSignatures
 returns-in-CounterSignatures c = λ n k es w g.
-    fresh_signs n k es _ _ _ _ _ w g (rw c.in-CounterSignatures.is at c.requires) (nil_signs (out-Header c.args.self.now).counter_signatures _ c.is_empty-in-CounterSignatures.ensures)
+    fresh_signs n k es _ _ _ _ _ w g (rw c.in-CounterSignatures.is at c.requires) (none_signed (out-Header c.args.self.now).counter_signatures _ c.is_empty-in-CounterSignatures.ensures)
 
 pub returns-in-Rest : goal.returns-in-Rest
 returns-in-Rest c = λ n k es w g.

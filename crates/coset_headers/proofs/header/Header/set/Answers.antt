@@ -4,8 +4,7 @@ use Rattle.cose_iana.specs.Algorithms.{is_algorithm}
 use Rattle.cose_iana.specs.Registry.{is_private_use}
 use Rattle.ciborium_value.specs.View.{view}
 use Rattle.coset_labels.specs.Labels.{WrongNamed}
-use Rattle.coset_headers.specs.Parts.{plain_of, fills_alg, fills_crit, fills_content_type, fills_key_id, fills_iv, fills_partial_iv}
-use Rattle.coset_headers.specs.Walks.{iv_second, partial_iv_second}
+use Rattle.coset_headers.specs.Parts.{plain_of, iv_second, partial_iv_second, fills_alg, fills_crit, fills_content_type, fills_key_id, fills_iv, fills_partial_iv}
 use Rattle.coset_headers.specs.Wrong.{WrongCrit, WrongContentType, wrong_alg, wrong_crit, wrong_content_type, wrong_key_id, wrong_iv, wrong_partial_iv}
 use Rattle.coset_headers.specs.declared.header.Header.{out-Header}
 use Rattle.coset_headers.proofs.Alike.{plain_rolled, signs_rolled}

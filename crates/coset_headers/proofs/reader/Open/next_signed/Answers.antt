@@ -4,8 +4,7 @@ use Rattle.ciborium_value.specs.View.{view, view_pairs}
 use Rattle.coset_labels.specs.Faults.{OrMemory, fault_of}
 use Rattle.coset_labels.specs.declared.error.CoseError.TheVariants.{DuplicateMapKey}
 use Rattle.coset_labels.specs.View.{label_view}
-use Rattle.coset_headers.specs.Parts.{plain_of}
-use Rattle.coset_headers.specs.Walks.{WrongFill}
+use Rattle.coset_headers.specs.Parts.{plain_of, WrongFill}
 use Rattle.coset_headers.specs.Weight.{weight_pairs}
 use Rattle.coset_headers.specs.Wrong.{WrongHeader, WrongEntry, label_again}
 use Rattle.coset_headers.proofs.Empty.{none_left}
