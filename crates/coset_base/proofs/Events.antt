@@ -1,5 +1,5 @@
 -- The events of the parts of headers and signatures, one after another.
-use Rattle.std.proofs.Common.{◌≡◌, ◌≢◌, ℕ, ◌+◌, ◌<◌, ◌≤◌, pos, List, [], ◌∷◌, ◌++◌, length, map, cond, Bool, true, false, Option, Some, None, is_some, option_map, vec_len, Vec, Global, length-append, refl, sym, ap, subst, ◌∙◌, append_assoc, append-nil, arith}
+use Rattle.std.proofs.Common.{◌≡◌, ◌≢◌, ℕ, suc, ◌+◌, ◌<◌, ◌≤◌, pos, List, [], ◌∷◌, ◌++◌, length, map, cond, Bool, true, false, Option, Some, None, is_some, option_map, vec_len, Vec, Global, length-append, refl, sym, ap, subst, ◌∙◌, append_assoc, append-nil, arith}
 use Rattle.std.specs.Prelude.{not, ◌==◌}
 use borrow.Author.Tests.{eqb-true}
 use Rattle.ciborium_value.specs.Tree as spec
@@ -19,11 +19,10 @@ use Rattle.ciborium_value.specs.declared.value.Value.{Value}
 use Rattle.coset_headers.specs.Fields.{Plain, plain_part, HeaderFields, header, Signatures, no_signatures, signature_more}
 use Rattle.coset_base.specs.Put.{entry_events, signs_begun, name_events, string_events, entry_count, header_begun, header_put, protected_put, signature_put, signatures_put}
 use Rattle.coset_headers.specs.View.{header_view, protected_view, entry_view, signature_view, signatures_view, plain_parts}
-use Rattle.coset_headers.specs.Written.{name_entry, crit_entry, bytes_entry, signs_entry, written_entries, entry_tree, tree_of, bare_or_list, is_nil, is_unsigned}
+use Rattle.coset_headers.specs.Written.{entry_of, entries_from, values_of, name_entry, crit_entry, bytes_entry, written_entries, entry_tree, tree_of, bare_or_list, is_nil, is_unsigned}
 use Rattle.coset_headers.specs.declared.header.CoseSignature.{CoseSignature, out-CoseSignature}
 use Rattle.coset_headers.specs.declared.header.Header.{Header, out-Header}
 use Rattle.coset_headers.proofs.Alike.{header_is, signature_is}
-use Rattle.coset_headers.proofs.Wrote.{from2, from3, from4, from5, from6, from7}
 
 -- ---- entries
 pub entries_joined : (xs ys : List (LabelFields × Tree)) → entry_events (xs ++ ys) ≡ entry_events xs ++ entry_events ys
@@ -36,13 +35,19 @@ entries_joined (x ∷ xs) ys =
 pub one_entry : (k : ℕ) (t : Tree) → entry_events ((number (pos k), t) ∷ []) ≡ event.integer (pos k) ∷ events t
 one_entry k t = ap (λ z. event.integer (pos k) ∷ z) (append-nil (events t))
 
-pub signs_joined : (ts : Trees) → signs_begun ts ++ events_all ts ≡ entry_events (signs_entry (bare_or_list ts))
+pub signs_joined : (ts : Trees) → signs_begun ts ++ events_all ts ≡ entry_events (entry_of 7 (bare_or_list ts))
 signs_joined no_trees = refl
 signs_joined (one_more t no_trees) = refl
 signs_joined (one_more t (one_more u us)) = sym (one_entry 7 (spec.array (one_more t (one_more u us))))
 
-joined_then : (xs ys : List (LabelFields × Tree)) (es : List Event) → entry_events ys ≡ es → entry_events (xs ++ ys) ≡ entry_events xs ++ es
-joined_then xs ys es e = entries_joined xs ys ∙ ap (λ z. entry_events xs ++ z) e
+-- the events of values whose labels count up from n, and then these
+abbrev from : ℕ → List (Option Tree) → List Event → List Event
+from n [] es = es
+from n (o ∷ os) es = entry_events (entry_of n o) ++ from (suc n) os es
+
+joined_from : (n : ℕ) (os : List (Option Tree)) (es : List (LabelFields × Tree)) → entry_events (entries_from n os es) ≡ from n os (entry_events es)
+joined_from n [] es = refl
+joined_from n (o ∷ os) es = entries_joined (entry_of n o) (entries_from (suc n) os es) ∙ ap (λ z. entry_events (entry_of n o) ++ z) (joined_from (suc n) os es)
 
 regrouped : (a b c d e f g h r : List Event) → ((a ++ (b ++ c)) ++ ((d ++ (e ++ f)) ++ g)) ++ (h ++ r) ≡ a ++ (b ++ (c ++ (d ++ (e ++ (f ++ ((g ++ h) ++ r))))))
 regrouped a b c d e f g h r = simp append_assoc
@@ -58,13 +63,7 @@ header_joined p ts =
     let parts : (name_events p ++ (string_events p ++ signs_begun ts)) ++ (events_all ts ++ entry_events p.rest) ≡ entry_events w =
     regrouped (entry_events (name_entry 1 p.alg)) (entry_events (crit_entry p.crit)) (entry_events (name_entry 3 p.content_type)) (entry_events (bytes_entry 4 p.key_id)) (entry_events (bytes_entry 5 p.iv))
     (entry_events (bytes_entry 6 p.partial_iv)) (signs_begun ts) (events_all ts) (entry_events p.rest)
-    ∙ sym (joined_then (name_entry 1 p.alg) (from2 p o) _
-    (joined_then (crit_entry p.crit) (from3 p o) _
-    (joined_then (name_entry 3 p.content_type) (from4 p o) _
-    (joined_then (bytes_entry 4 p.key_id) (from5 p o) _
-    (joined_then (bytes_entry 5 p.iv) (from6 p o) _
-    (joined_then (bytes_entry 6 p.partial_iv) (from7 p o) _
-    (entries_joined (signs_entry o) p.rest ∙ ap (λ z. z ++ entry_events p.rest) (sym (signs_joined ts))))))))) in
+    ∙ sym (joined_from 1 (values_of p ++ o ∷ []) p.rest ∙ ap (λ z. from 1 (values_of p) (z ++ entry_events p.rest)) (sym (signs_joined ts))) in
     ap (λ z. event.map (length w) ∷ z) parts ∙ ap (λ z. event.map z ∷ entry_events w) count
 
 -- ---- lists of signatures
@@ -83,7 +82,7 @@ one_begun [] n e d l = absurd (d refl)
 one_begun (s ∷ []) n e d l = refl
 one_begun (s ∷ (u ∷ us)) n e d l = absurd (omega (arith, e, l))
 
-pub signs_counted : (ss : Signatures) → length (signs_entry (bare_or_list (signatures_put ss))) ≡ cond (not (is_unsigned ss)) 1 0
+pub signs_counted : (ss : Signatures) → length (entry_of 7 (bare_or_list (signatures_put ss))) ≡ cond (not (is_unsigned ss)) 1 0
 signs_counted no_signatures = refl
 signs_counted (signature_more s no_signatures) = refl
 signs_counted (signature_more s (signature_more u us)) = refl
@@ -164,7 +163,7 @@ pub bytes_counted : (k : ℕ) (v : Vec ℕ Global) (b : Bool) (n : ℕ) → n �
 bytes_counted k v b n e q = e ∙ ap (λ z. cond (not z) 1 0) (nil_vec v b q) ∙ bytes_length k v.items
 
 pub several_counted : (xs ss : List CoseSignature) (b : Bool) (n : ℕ) → n ≡ cond b 1 0 → b ≡ not (is_unsigned (signatures_view xs)) → xs ≡ ss
-    → n ≡ length (signs_entry (bare_or_list (signatures_put (signatures_view ss))))
+    → n ≡ length (entry_of 7 (bare_or_list (signatures_put (signatures_view ss))))
 several_counted xs ss b n e q f = e ∙ ap (λ z. cond z 1 0) (q ∙ ap (λ z. not (is_unsigned (signatures_view z))) f) ∙ sym (signs_counted (signatures_view ss))
 
 map_long : {A B : Type 0} (f : A → B) (xs : List A) → length (map f xs) ≡ length xs
@@ -174,20 +173,24 @@ map_long f (x ∷ xs) = let h : length (map f xs) ≡ length xs = map_long f xs 
 pub rest_counted : (xs es : List (Label × Value)) (n : ℕ) → n ≡ length xs → xs ≡ es → n ≡ length (map entry_view es)
 rest_counted xs es n e f = e ∙ ap length f ∙ sym (map_long entry_view es)
 
+abbrev sizes : ℕ → List (Option Tree) → ℕ
+sizes n [] = 0
+sizes n (o ∷ os) = length (entry_of n o) + sizes (suc n) os
+
+long_from : (n : ℕ) (os : List (Option Tree)) (es : List (LabelFields × Tree)) → length (entries_from n os es) ≡ sizes n os + length es
+long_from n [] es = omega arith
+long_from n (o ∷ os) es = let h = long_from (suc n) os es in let k = length-append (entry_of n o) (entries_from (suc n) os es) in omega (arith, h, k)
+
 pub entries_counted : (h : Header) (a b c d e f g n : ℕ) → a ≡ length (name_entry 1 (plain_parts (out-Header h)).alg) → b ≡ length (crit_entry (plain_parts (out-Header h)).crit)
     → c ≡ length (name_entry 3 (plain_parts (out-Header h)).content_type) → d ≡ length (bytes_entry 4 (plain_parts (out-Header h)).key_id) → e ≡ length (bytes_entry 5 (plain_parts (out-Header h)).iv)
-    → f ≡ length (bytes_entry 6 (plain_parts (out-Header h)).partial_iv) → g ≡ length (signs_entry (bare_or_list (signatures_put (signatures_view (out-Header h).counter_signatures.items))))
+    → f ≡ length (bytes_entry 6 (plain_parts (out-Header h)).partial_iv) → g ≡ length (entry_of 7 (bare_or_list (signatures_put (signatures_view (out-Header h).counter_signatures.items))))
     → n ≡ length (plain_parts (out-Header h)).rest → a + b + c + d + e + f + g + n ≡ entry_count (header_view h)
 entries_counted h a b c d e f g n ea eb ec ed ee ef eg en = total (plain_parts (out-Header h)) (bare_or_list (signatures_put (signatures_view (out-Header h).counter_signatures.items))) ea eb ec ed ee ef eg en ∙ sym (ap entry_count (header_is h))
   where
     total : (p : Plain) (o : Option Tree) → a ≡ length (name_entry 1 p.alg) → b ≡ length (crit_entry p.crit) → c ≡ length (name_entry 3 p.content_type) → d ≡ length (bytes_entry 4 p.key_id)
-        → e ≡ length (bytes_entry 5 p.iv) → f ≡ length (bytes_entry 6 p.partial_iv) → g ≡ length (signs_entry o) → n ≡ length p.rest → a + b + c + d + e + f + g + n ≡ length (written_entries p o)
+        → e ≡ length (bytes_entry 5 p.iv) → f ≡ length (bytes_entry 6 p.partial_iv) → g ≡ length (entry_of 7 o) → n ≡ length p.rest → a + b + c + d + e + f + g + n ≡ length (written_entries p o)
     total p o ea eb ec ed ee ef eg en =
-        let h1 = length-append (name_entry 1 p.alg) (from2 p o) in
-        let h2 = length-append (crit_entry p.crit) (from3 p o) in
-        let h3 = length-append (name_entry 3 p.content_type) (from4 p o) in
-        let h4 = length-append (bytes_entry 4 p.key_id) (from5 p o) in
-        let h5 = length-append (bytes_entry 5 p.iv) (from6 p o) in
-        let h6 = length-append (bytes_entry 6 p.partial_iv) (from7 p o) in
-        let h7 = length-append (signs_entry o) p.rest in
-        omega (arith, h1, h2, h3, h4, h5, h6, h7, ea, eb, ec, ed, ee, ef, eg, en)
+        let h : length (written_entries p o)
+        ≡ (length (name_entry 1 p.alg) + (length (crit_entry p.crit) + (length (name_entry 3 p.content_type) + (length (bytes_entry 4 p.key_id) + (length (bytes_entry 5 p.iv) + (length (bytes_entry 6 p.partial_iv)
+        + (length (entry_of 7 o) + 0))))))) + length p.rest = long_from 1 (values_of p ++ o ∷ []) p.rest in
+        omega (arith, h, ea, eb, ec, ed, ee, ef, eg, en)
