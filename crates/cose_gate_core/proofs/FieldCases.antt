@@ -19,8 +19,7 @@ use Rattle.coset_labels.specs.Orders.{label_cmp}
 use Rattle.coset_labels.specs.Facts.Orders.{labels_same}
 use Rattle.coset_headers.specs.Fields.{Plain}
 use Rattle.coset_headers.specs.Headers.{is_at, is_core, alg_of, parameter_of, parameters_of, crit_of, is_slash, format_of, HasContentType, IsIn}
-use Rattle.coset_headers.specs.Parts.{Fills, fills_alg, fills_crit, fills_content_type, fills_key_id, fills_iv, fills_partial_iv, fills_rest}
-use Rattle.coset_headers.specs.Walks.{WrongFill, field_wrong, iv_second, partial_iv_second}
+use Rattle.coset_headers.specs.Parts.{Fills, fills_alg, fills_crit, fills_content_type, fills_key_id, fills_iv, fills_partial_iv, fills_rest, WrongFill, field_wrong, iv_second, partial_iv_second}
 use Rattle.coset_headers.specs.Wrong.{WrongCrit, no_crit_list, empty_crit, bad_crit, WrongContentType, no_content_type, empty_text, white_space, no_one_slash, WrongField, wrong_alg, wrong_crit, wrong_content_type, wrong_key_id, wrong_iv, wrong_partial_iv}
 use Rattle.coset_headers.proofs.Entered.{is_at_is, bool_cases}
 use Rattle.coset_headers.proofs.Steps.{text_is}

@@ -9,10 +9,10 @@ use Rattle.coset_labels.specs.Fields.{LabelFields, number}
 use Rattle.coset_labels.specs.Labels.{label_tree}
 use Rattle.coset_headers.specs.Fields.{Plain, HeaderFields, header, SignatureFields, signature, Signatures, no_signatures, signature_more}
 use Rattle.coset_headers.specs.Headers.{is_at, is_core, at, IsIn, Distinct, others, IsPlain, list_of_three, HasHeader, HasSignature, HasSigned, HasSignatures}
-use Rattle.coset_headers.specs.Written.{written_entries, entry_tree, bare_or_list, header_tree, shown, signature_tree, signature_trees}
+use Rattle.coset_headers.specs.Written.{entry_of, written_entries, entry_tree, bare_or_list, header_tree, shown, signature_tree, signature_trees}
 use Rattle.coset_headers.proofs.Again.{header_parts, signature_parts, trees_parts, prot_again}
-use Rattle.coset_headers.proofs.Entered.{is_at_is, at_none, bool_cases, no_core}
-use Rattle.coset_headers.proofs.Fielded.{field, entries_are, alg_is, crit_is, type_is, bytes_are, signs_are}
+use Rattle.coset_headers.proofs.Entered.{is_at_is, at_none, bool_cases, no_core, fields_are}
+use Rattle.coset_headers.proofs.Fielded.{entries_are}
 use Rattle.coset_headers.proofs.Sound.{none_more}
 
 -- u, which is written for t, fits heads if t does, and is no longer
@@ -59,11 +59,10 @@ no_some x e = cc
 -- the entries that are written: those of the labels 1 to 6 as they were read, the signatures, and
 -- the others
 abbrev in_order : List (LabelFields × Tree) → Option Tree → List (LabelFields × Tree)
-in_order es o = field 1 (at 1 es) ++ (field 2 (at 2 es) ++ (field 3 (at 3 es) ++ (field 4 (at 4 es) ++ (field 5 (at 5 es) ++ (field 6 (at 6 es) ++ (field 7 o ++ others es))))))
+in_order es o = entry_of 1 (at 1 es) ++ (entry_of 2 (at 2 es) ++ (entry_of 3 (at 3 es) ++ (entry_of 4 (at 4 es) ++ (entry_of 5 (at 5 es) ++ (entry_of 6 (at 6 es) ++ (entry_of 7 o ++ others es))))))
 
 written_is : (es : List (LabelFields × Tree)) (p : Plain) (o : Option Tree) → IsPlain es p → written_entries p o ≡ in_order es o
-written_is es p o h = λ i. alg_is (at 1 es) p.alg h.alg i ++ (crit_is (at 2 es) p.crit h.crit i ++ (type_is (at 3 es) p.content_type h.content_type i ++ (bytes_are 4 (at 4 es) p.key_id h.key_id i
-    ++ (bytes_are 5 (at 5 es) p.iv h.iv i ++ (bytes_are 6 (at 6 es) p.partial_iv h.partial_iv i ++ (signs_are o i ++ h.rest i))))))
+written_is = fields_are
 
 -- ---- the place of a label
 data Place : LabelFields → Type 0 where
@@ -104,25 +103,25 @@ module _ (size_of : LabelFields × Tree → ℕ) where
   sum_append (x ∷ xs) ys = let h = sum_append xs ys in omega (arith, h)
 
   abbrev part : ℕ → Option Tree → ℕ
-  part n o = sum (field n o)
+  part n o = sum (entry_of n o)
 
   abbrev total : List (LabelFields × Tree) → Option Tree → ℕ
   total es o = part 1 (at 1 es) + (part 2 (at 2 es) + (part 3 (at 3 es) + (part 4 (at 4 es) + (part 5 (at 5 es) + (part 6 (at 6 es) + (part 7 o + sum (others es)))))))
 
   total_order : (es : List (LabelFields × Tree)) (o : Option Tree) → sum (in_order es o) ≡ total es o
   total_order es o =
-      let g7 = sum_append (field 7 o) (others es) in
-      let t7 = field 7 o ++ others es in
-      let g6 = sum_append (field 6 (at 6 es)) t7 in
-      let t6 = field 6 (at 6 es) ++ t7 in
-      let g5 = sum_append (field 5 (at 5 es)) t6 in
-      let t5 = field 5 (at 5 es) ++ t6 in
-      let g4 = sum_append (field 4 (at 4 es)) t5 in
-      let t4 = field 4 (at 4 es) ++ t5 in
-      let g3 = sum_append (field 3 (at 3 es)) t4 in
-      let t3 = field 3 (at 3 es) ++ t4 in
-      let g2 = sum_append (field 2 (at 2 es)) t3 in
-      let g1 = sum_append (field 1 (at 1 es)) (field 2 (at 2 es) ++ t3) in
+      let g7 = sum_append (entry_of 7 o) (others es) in
+      let t7 = entry_of 7 o ++ others es in
+      let g6 = sum_append (entry_of 6 (at 6 es)) t7 in
+      let t6 = entry_of 6 (at 6 es) ++ t7 in
+      let g5 = sum_append (entry_of 5 (at 5 es)) t6 in
+      let t5 = entry_of 5 (at 5 es) ++ t6 in
+      let g4 = sum_append (entry_of 4 (at 4 es)) t5 in
+      let t4 = entry_of 4 (at 4 es) ++ t5 in
+      let g3 = sum_append (entry_of 3 (at 3 es)) t4 in
+      let t3 = entry_of 3 (at 3 es) ++ t4 in
+      let g2 = sum_append (entry_of 2 (at 2 es)) t3 in
+      let g1 = sum_append (entry_of 1 (at 1 es)) (entry_of 2 (at 2 es) ++ t3) in
       omega (arith, g1, g2, g3, g4, g5, g6, g7)
 
   -- the part of a label that is in front
@@ -202,25 +201,25 @@ at_fit : (n : ℕ) (es : List (LabelFields × Tree)) (t : Tree) → EntriesFit e
 at_fit n [] t s e = absurd (no_some t e)
 at_fit n (x ∷ es) t s e = first_fit (is_at n x.0) x.1 t (at n es) s.1 (λ h. at_fit n es t s.2 h) e
 
-field_fit : (n : ℕ) (o : Option Tree) → n < 2 ^ 64 → ((t : Tree) → o ≡ Some t → Fits t) → EntriesFit (field n o)
+field_fit : (n : ℕ) (o : Option Tree) → n < 2 ^ 64 → ((t : Tree) → o ≡ Some t → Fits t) → EntriesFit (entry_of n o)
 field_fit n None l f = tt
 field_fit n (Some t) l f = (l, f t refl, tt)
 
 order_fit : (es : List (LabelFields × Tree)) (o : Option Tree) → EntriesFit es → ((t : Tree) → o ≡ Some t → Fits t) → EntriesFit (in_order es o)
 order_fit es o f g =
-    let t7 = field 7 o ++ others es in
-    let t6 = field 6 (at 6 es) ++ t7 in
-    let t5 = field 5 (at 5 es) ++ t6 in
-    let t4 = field 4 (at 4 es) ++ t5 in
-    let t3 = field 3 (at 3 es) ++ t4 in
-    let t2 = field 2 (at 2 es) ++ t3 in
-    fit_append (field 1 (at 1 es)) t2 (field_fit 1 (at 1 es) (omega arith) (λ t e. at_fit 1 es t f e))
-    (fit_append (field 2 (at 2 es)) t3 (field_fit 2 (at 2 es) (omega arith) (λ t e. at_fit 2 es t f e))
-    (fit_append (field 3 (at 3 es)) t4 (field_fit 3 (at 3 es) (omega arith) (λ t e. at_fit 3 es t f e))
-    (fit_append (field 4 (at 4 es)) t5 (field_fit 4 (at 4 es) (omega arith) (λ t e. at_fit 4 es t f e))
-    (fit_append (field 5 (at 5 es)) t6 (field_fit 5 (at 5 es) (omega arith) (λ t e. at_fit 5 es t f e))
-    (fit_append (field 6 (at 6 es)) t7 (field_fit 6 (at 6 es) (omega arith) (λ t e. at_fit 6 es t f e))
-    (fit_append (field 7 o) (others es) (field_fit 7 o (omega arith) g) (others_fit es f)))))))
+    let t7 = entry_of 7 o ++ others es in
+    let t6 = entry_of 6 (at 6 es) ++ t7 in
+    let t5 = entry_of 5 (at 5 es) ++ t6 in
+    let t4 = entry_of 4 (at 4 es) ++ t5 in
+    let t3 = entry_of 3 (at 3 es) ++ t4 in
+    let t2 = entry_of 2 (at 2 es) ++ t3 in
+    fit_append (entry_of 1 (at 1 es)) t2 (field_fit 1 (at 1 es) (omega arith) (λ t e. at_fit 1 es t f e))
+    (fit_append (entry_of 2 (at 2 es)) t3 (field_fit 2 (at 2 es) (omega arith) (λ t e. at_fit 2 es t f e))
+    (fit_append (entry_of 3 (at 3 es)) t4 (field_fit 3 (at 3 es) (omega arith) (λ t e. at_fit 3 es t f e))
+    (fit_append (entry_of 4 (at 4 es)) t5 (field_fit 4 (at 4 es) (omega arith) (λ t e. at_fit 4 es t f e))
+    (fit_append (entry_of 5 (at 5 es)) t6 (field_fit 5 (at 5 es) (omega arith) (λ t e. at_fit 5 es t f e))
+    (fit_append (entry_of 6 (at 6 es)) t7 (field_fit 6 (at 6 es) (omega arith) (λ t e. at_fit 6 es t f e))
+    (fit_append (entry_of 7 o) (others es) (field_fit 7 o (omega arith) g) (others_fit es f)))))))
 
 -- ---- a map
 -- the value at 7 and what is written for it

@@ -5,27 +5,18 @@ use Rattle.std.specs.List.{list_all}
 use Rattle.std.proofs.lemmas.Bool.{true≢false}
 use Rattle.std.proofs.lemmas.List.Folds.{list_all-map}
 use Rattle.cose_iana.specs.Algorithms.{algorithm_number}
-use Rattle.cose_iana.specs.Formats.{coap_content_formats}
 use Rattle.cose_iana.specs.Headers.{header_parameters}
 use Rattle.cose_iana.specs.declared.headers.HeaderParameter.{HeaderParameter}
-use Rattle.coset_labels.specs.View.{registered_view, named_view}
+use Rattle.coset_labels.specs.View.{named_view}
 use Rattle.coset_labels.specs.declared.registered.RegisteredLabelWithPrivate.{RegisteredLabelWithPrivate}
 use Rattle.cose_gate_core.specs.Fields.{SignatureFields, HeaderFields, header, ProtectedFields, protected}
-use Rattle.cose_gate_core.specs.HeaderView.{header_view, protected_view, signatures_view, entry_view, signature_step, header_step, protected_step}
+use Rattle.cose_gate_core.specs.HeaderView.{header_view, protected_view, signatures_view, plain_parts, signature_step, header_step, protected_step}
 use Rattle.cose_gate_core.specs.Header.{Header, out-Header, roll-out-Header, fold-roll-Header}
 use Rattle.cose_gate_core.specs.ProtectedHeader.{ProtectedHeader, out-ProtectedHeader, roll-out-ProtectedHeader, fold-roll-ProtectedHeader}
 use Rattle.cose_gate_program.specs.Messages.{plain, header_in, crit_is_known, alg_is_hmac, first_id, message_id}
 use Rattle.cose_gate_program.specs.Names.{is_understood, is_some_hmac}
 
-header_is : (h : Header) → header_view h ≡ header (record {
-  alg = option_map (named_view algorithm_number) (out-Header h).alg;
-  crit = map (named_view header_parameters.number) (out-Header h).crit.items;
-  content_type = option_map (registered_view coap_content_formats.number) (out-Header h).content_type;
-  key_id = (out-Header h).key_id.items;
-  iv = (out-Header h).iv.items;
-  partial_iv = (out-Header h).partial_iv.items;
-  rest = map entry_view (out-Header h).rest.items;
-}) (signatures_view (out-Header h).counter_signatures.items)
+header_is : (h : Header) → header_view h ≡ header (plain_parts (out-Header h)) (signatures_view (out-Header h).counter_signatures.items)
 header_is h = ap header_view (sym (roll-out-Header h)) ∙ fold-roll-Header SignatureFields HeaderFields ProtectedFields signature_step header_step protected_step (out-Header h)
 
 protected_is : (p : ProtectedHeader) → protected_view p ≡ protected (option_map (λ v. v.items) (out-ProtectedHeader p).original_data) (header_view (out-ProtectedHeader p).header)

@@ -13,23 +13,7 @@ use Rattle.cose_gate_core.specs.HeaderView.{header_view, protected_view, signatu
 use Rattle.cose_gate_core.specs.Header.{Header, out-Header, roll-out-Header, fold-roll-Header}
 use Rattle.cose_gate_core.specs.ProtectedHeader.{ProtectedHeader, out-ProtectedHeader, roll-out-ProtectedHeader, fold-roll-ProtectedHeader}
 use Rattle.cose_gate_records.specs.KeyHeaders as spec
-
-header_is : (h : Header) → header_view h ≡ header (record {
-  alg = option_map (named_view algorithm_number) (out-Header h).alg;
-  crit = map (named_view header_parameters.number) (out-Header h).crit.items;
-  content_type = option_map (registered_view coap_content_formats.number) (out-Header h).content_type;
-  key_id = (out-Header h).key_id.items;
-  iv = (out-Header h).iv.items;
-  partial_iv = (out-Header h).partial_iv.items;
-  rest = map entry_view (out-Header h).rest.items;
-}) (signatures_view (out-Header h).counter_signatures.items)
-header_is h = ap header_view (sym (roll-out-Header h))
-    ∙ fold-roll-Header SignatureFields HeaderFields ProtectedFields signature_step header_step protected_step (out-Header h)
-
-protected_is : (p : ProtectedHeader) → protected_view p
-    ≡ protected (option_map (λ v. v.items) (out-ProtectedHeader p).original_data) (header_view (out-ProtectedHeader p).header)
-protected_is p = ap protected_view (sym (roll-out-ProtectedHeader p))
-    ∙ fold-roll-ProtectedHeader SignatureFields HeaderFields ProtectedFields signature_step header_step protected_step (out-ProtectedHeader p)
+use Rattle.coset_headers.proofs.Alike.{header_is, protected_is}
 
 pub id_is : (h : Header) → spec.id_of (header_view h) ≡ (out-Header h).key_id.items
 id_is h = ap spec.id_of (header_is h)
